@@ -1,0 +1,99 @@
+-- What a list of entries says of the threads that live, and which lists are the log of a kernel.
+use Rattle.std.specs.Prelude.{◌≡◌, ℕ, ◌+◌, ◌<◌, ◌≤◌, ℤ, pos, ◌==◌, ◌&&◌, not, List, [], ◌∷◌, ◌++◌, length, take, map, filter, Option, Some, None, slice_get, slice_index, Contains, if◌then◌else◌, ◌%◌, ◌^◌}
+use mathlib.Core.Option.{some}
+use lib.ListN.{get_elem?}
+use mir.Val.{SFits}
+use mir.Syntax.{w32}
+use Rattle.nv_calls.specs.Calls.{Request, Response, Entry}
+
+-- 220 is clone
+abbrev pub made : ℕ → ℤ → Option ℕ
+made nr (pos n) = if nr == 220 && not (n == 0) then Some n else None
+made nr ret = None
+
+-- the tid of the thread that a positive answer to clone makes
+abbrev pub child_of : Entry → Option ℕ
+child_of e = made e.call.nr e.reply.ret
+
+abbrev pub with_child : List ℕ → Option ℕ → List ℕ
+with_child live None = live
+with_child live (Some child) = live ++ child ∷ []
+
+-- the live threads after one more entry: exit_group (94) ends all, exit (93) its own thread
+abbrev pub live_next : List ℕ → Entry → List ℕ
+live_next live e =
+    if e.call.nr == 94 then []
+    else if e.call.nr == 93 then filter (λ t. not (t == e.call.tid)) live
+    else with_child live (child_of e)
+
+abbrev pub live_from : List ℕ → List Entry → List ℕ
+live_from live [] = live
+live_from live (e ∷ es) = live_from (live_next live e) es
+
+-- the live threads after a log, which begins with thread 100 alone
+abbrev pub live_after : List Entry → List ℕ
+live_after log = live_from (100 ∷ []) log
+
+abbrev pub IsNew : List ℕ → Option ℕ → Type 0
+IsNew live None = Unit {0}
+IsNew live (Some child) = (length live < 8) × (Contains live child → ⊥)
+
+-- the numbers of an entry are in their ranges
+pub record InRange (e : Entry) : Type 0 where
+  pub stamp : e.stamp < 2 ^ 32
+  pub tid : e.call.tid < 2 ^ 32
+  pub nr : e.call.nr < 2 ^ 32
+  pub six : length e.call.args ≡ 6
+  pub args : (i x : ℕ) → get_elem? e.call.args i ≡ some x → x < 2 ^ 32
+  pub ret : SFits w32 e.reply.ret
+  pub short : length e.call.payload + length e.reply.payload ≤ 4096
+
+-- an entry that may stand behind n others, after which these threads live
+pub record MayFollow (n : ℕ) (live : List ℕ) (e : Entry) : Type 0 where
+  pub stamp : e.stamp ≡ n
+  pub room : n < 131072
+  pub lives : Contains live e.call.tid
+  pub new : IsNew live (child_of e)
+  -- until clone is served
+  pub child : child_of e ≡ None
+  pub range : InRange e
+
+-- each entry may stand where it stands
+abbrev pub IsLawful : List Entry → Type 0
+IsLawful log = (i : ℕ) (e : Entry) → slice_get log i ≡ Some e → MayFollow i (live_after (take i log)) e
+
+-- how a kernel goes on from its start: what it answers, and what stands on its console, after calls
+pub record Start : Type 0 where
+  pub replies : List Request → Request → Response
+  pub console : List Request → List ℕ
+
+abbrev pub call_of : Entry → Request
+call_of e = e.call
+
+abbrev pub calls_of : List Entry → List Request
+calls_of log = map call_of log
+
+-- the entry that a call becomes behind a log
+abbrev pub served : Start → List Entry → Request → Entry
+served start log c = record { stamp = length log; call = c; reply = start.replies (calls_of log) c }
+
+-- each entry is what its call becomes behind the entries before it
+abbrev pub IsLegal : Start → List Entry → Type 0
+IsLegal start log = (i : ℕ) (e : Entry) → slice_get log i ≡ Some e → e ≡ served start (take i log) e.call
+
+abbrev pub output_of : Start → List Entry → List ℕ
+output_of start log = start.console (calls_of log)
+
+-- the exit status, where no thread lives
+abbrev pub last_arg : List Entry → ℕ
+last_arg [] = 0
+last_arg (e ∷ []) = slice_index e.call.args 0
+last_arg (e ∷ f ∷ es) = last_arg (f ∷ es)
+
+abbrev pub ended_after : List Entry → Option ℕ
+ended_after log = if length (live_after log) == 0 then Some (last_arg log % 256) else None
+
+-- two starts answer and print alike; as a fact with at most one proof, for ghost fields
+pub record SameStart (a b : Start) : Type 0 where
+  pub replies : (cs : List Request) (c : Request) → a.replies cs c ≡ b.replies cs c
+  pub console : (cs : List Request) → a.console cs ≡ b.console cs

@@ -1,0 +1,63 @@
+// Bytes with room that was taken in advance.
+ghost use Rattle.std.specs.Prelude.{◌≡◌, ◌≤◌, [], ℕ, length, take, IfOk};
+
+use std::alloc::{AllocError, Global};
+use std::marker::Model;
+
+/// A list of bytes, and room for a number of them that was taken when it was made.
+#[derive(Drop)]
+pub struct Bytes {
+    held: Vec<u8>,
+    len: usize,
+}
+
+impl Model for Bytes {
+    ghost use Rattle.std.specs.Prelude.{◌≤◌, take, length, vec_len};
+    ghost use Rattle.nv_calls.specs.Held.{Held};
+
+    ghost Value = { Held };
+
+    ghost view = { λ b. record { bytes = take b.len b.held.items; room = vec_len b.held } };
+
+    ghost invariant = { λ b. b.len ≤ vec_len b.held };
+}
+
+impl Bytes {
+    /// An empty list with this room.
+    pub fn make(alloc: Global, room: u32) -> Result<Bytes, AllocError>
+        ensures { IfOk result (λ b. b ≡ record { bytes = []; room = room }) }
+    {
+        let held = vec![in alloc; 0u8; room as usize]?;
+        Ok(Bytes { held, len: 0 })
+    }
+
+    /// Holds these bytes from now on, and takes no memory.
+    pub fn set(&mut self, bytes: &[u8])
+        requires { length bytes.now ≤ self.old.room }
+        ensures { self.new ≡ record { bytes = bytes.now; room = self.old.room } }
+    {
+        self.len = bytes.len();
+        copy_front(&mut self.held, bytes);
+    }
+
+    /// How many bytes it can hold.
+    pub fn room(&self) -> usize
+        ensures { result ≡ self.now.room }
+    {
+        self.held.len()
+    }
+
+    /// The bytes that it holds.
+    pub fn as_slice(&self) -> &[u8]
+        ensures { result.now ≡ self.now.bytes }
+    {
+        &self.held[..self.len]
+    }
+}
+
+fn copy_front(out: &mut [u8], bytes: &[u8])
+    requires { length bytes.now ≤ length out.old }
+    ensures { take (length bytes.now) out.new ≡ bytes.now }
+{
+    out[..bytes.len()].copy_from_slice(bytes);
+}
