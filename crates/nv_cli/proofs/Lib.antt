@@ -1,2 +1,3 @@
 mod Leading
 mod Living
+mod Texts

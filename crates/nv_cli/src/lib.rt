@@ -3,6 +3,7 @@
 
 mod fate;
 mod prepare;
+mod report;
 mod run;
 mod words;
 
