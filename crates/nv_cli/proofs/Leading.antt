@@ -1,17 +1,17 @@
 -- How a run goes on by one turn.
-use Rattle.std.proofs.Common.{◌≡◌, ℕ, ◌+◌, ◌≤◌, ◌==◌, zero, suc, List, Bool, true, false, Option, None, Some, if◌then◌else◌, length, refl, sym, ap, ◌∙◌, arith}
+use Rattle.std.proofs.Common.{◌≡◌, ℕ, ◌+◌, ◌≤◌, zero, suc, List, true, false, Option, None, Some, if◌then◌else◌, length, refl, ap, ◌∙◌, arith}
 use Rattle.std.proofs.lemmas.Bool.Decides.{nat_tests}
 use Rattle.std.proofs.lemmas.Grind.{common_steps}
 use Rattle.nv_calls.specs.Calls.{Request, Entry}
-use Rattle.nv_calls.specs.Logs.{Start, served}
+use Rattle.nv_calls.specs.Logs.{Start}
 use Rattle.nv_guest.specs.Machine.{Machine, Paused, advance}
-use Rattle.nv_guest.specs.Calls.{call_at, answered}
+use Rattle.nv_guest.specs.Calls.{call_at}
 use Rattle.nv_guest.specs.declared.outcome.Came.TheVariants.{Asked}
 use Rattle.nv_guest.specs.declared.outcome.Came.TheVariants as came
 use Rattle.nv_guest.specs.declared.outcome.FaultKind.{FaultKind}
 use Rattle.nv_guest.specs.declared.outcome.FaultKind.TheVariants.{Calls}
-use Rattle.nv_cli.specs.Sequence.{Account, account_at, lead, turn, last_turn, after_call, is_cut, ended_by, logged}
-use Rattle.nv_cli.specs.declared.fate.Fate.TheVariants.{Exited, Fault, Memory}
+use Rattle.nv_cli.specs.Sequence.{account_at, lead, turn, last_turn, after_call, is_cut, ended_by, logged}
+use Rattle.nv_cli.specs.declared.fate.Fate.TheVariants.{Fault, Memory}
 
 -- the cut is not before this length
 abbrev pub IsNotBefore : Option ℕ → ℕ → Type 0

@@ -1,3 +1,4 @@
 mod Leading
 mod Living
 mod Texts
+mod Statuses

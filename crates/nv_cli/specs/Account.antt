@@ -1,6 +1,5 @@
 -- A whole run of one version.
-use Rattle.std.specs.Prelude.{◌≡◌, ℕ, List, [], Option, length}
-use Rattle.nv_calls.specs.Logs.{Start}
+use Rattle.std.specs.Prelude.{◌≡◌, ℕ, [], Option, length}
 use Rattle.nv_guest.specs.Machine.{Machine}
 use Rattle.nv_kernel.specs.Serving.{start_of_script}
 use Rattle.nv_cli.specs.Sequence.{Account, lead, cut_of}

@@ -140,3 +140,9 @@ pub record Answers (words : List (List ℕ)) (source : Source) (before : Option 
   pub outcome : Outcome
   pub can_be : CanBe words source outcome
   pub says : Says (text_of outcome) (status_of outcome) before faults status after later_faults
+
+-- the guest ran, and its report was written, or the write failed
+pub record Ran (machine : Machine) (before : Option (List ℕ)) (faults : ℕ) (status : ℕ) (after : Option (List ℕ)) (later_faults : ℕ) : Type 0 where
+  pub account : Account
+  pub is_run : IsRunOf machine account
+  pub says : Says (text_of (Reported account)) (fate_status account.fate) before faults status after later_faults

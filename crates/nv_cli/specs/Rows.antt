@@ -1,6 +1,5 @@
 -- What each status of the monitor shows.
-use Rattle.std.specs.Prelude.{◌≡◌, ◌⊎◌, ℕ, List, ◌++◌, Option, Some, codes}
-use Rattle.nv_outside.specs.Counts.{Rose}
+use Rattle.std.specs.Prelude.{◌≡◌, ◌⊎◌, ℕ, List, ◌++◌, Option, Some}
 use Rattle.nv_outside.specs.Told.{Grows}
 use Rattle.nv_cli.specs.Words.{Plan, plan_of}
 use Rattle.nv_cli.specs.Sequence.{Account}

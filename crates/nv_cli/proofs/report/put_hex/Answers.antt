@@ -1,9 +1,6 @@
-use Rattle.std.proofs.Common.{get_or, ◌/◌, ◌++◌, ◌∷◌, [], ap, ◌∙◌, sym, refl, codes, length}
-use Rattle.std.specs.Int.{w32, to_be_bytes}
-use Rattle.std.specs.List.{flat_map}
-use Rattle.nv_outside.specs.Writing.{puts-is, puts-then, puts-failed, puts-stopped}
-use Rattle.nv_calls.specs.Calls.{entry}
-use Rattle.nv_cli.specs.Report.{number_text, hex_digit, hex_pair, hex_text, call_text, result_text, event_text, payload_text, fate_text, tail_text}
+use Rattle.std.proofs.Common.{get_or, ◌/◌, ◌∷◌, [], ap}
+use Rattle.nv_outside.specs.Writing.{puts-is, puts-stopped}
+use Rattle.nv_cli.specs.Report.{hex_digit, hex_pair}
 use Rattle.nv_cli.proofs.report.put_hex.Goals as goal
 
 pub returns-in-Failed : goal.returns-in-Failed

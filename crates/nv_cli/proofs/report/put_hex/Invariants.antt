@@ -2,8 +2,7 @@ use Rattle.std.proofs.Common.{take}
 use Rattle.std.specs.List.{flat_map}
 use Rattle.nv_outside.specs.Sink.{Puts}
 use Rattle.nv_outside.specs.declared.sink.Put.TheVariants.{Whole}
-use Rattle.nv_calls.specs.Calls.{entry}
-use Rattle.nv_cli.specs.Report.{number_text, hex_pair, event_text}
+use Rattle.nv_cli.specs.Report.{hex_pair}
 use Rattle.nv_cli.proofs.report.put_hex.Given as goal
 
 abbrev pub invariant-loop-byte : goal.invariant-loop-byte

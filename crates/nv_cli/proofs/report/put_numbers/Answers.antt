@@ -1,7 +1,6 @@
-use Rattle.std.proofs.Common.{◌++◌, ◌∷◌, [], ap, ◌∙◌, sym, refl}
-use Rattle.nv_outside.specs.Writing.{puts-is, puts-then, puts-failed, puts-stopped}
-use Rattle.nv_calls.specs.Calls.{entry}
-use Rattle.nv_cli.specs.Report.{number_text, hex_pair, hex_text, event_text, payload_text, fate_text, tail_text}
+use Rattle.std.proofs.Common.{◌++◌, ◌∷◌, [], ap, ◌∙◌}
+use Rattle.nv_outside.specs.Writing.{puts-is, puts-stopped}
+use Rattle.nv_cli.specs.Report.{number_text}
 use Rattle.nv_cli.proofs.report.put_numbers.Goals as goal
 
 pub returns-in-Failed : goal.returns-in-Failed

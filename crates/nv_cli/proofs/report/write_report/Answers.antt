@@ -1,4 +1,4 @@
-use Rattle.std.proofs.Common.{◌++◌, List, ℕ, ap, ◌∙◌, sym, codes, length}
+use Rattle.std.proofs.Common.{◌++◌, ap, ◌∙◌, sym, codes, length}
 use Rattle.std.proofs.lemmas.List.{length-map}
 use Rattle.std.specs.List.{flat_map}
 use Rattle.nv_outside.specs.Writing.{puts-is, puts-then, puts-failed}

@@ -1,4 +1,4 @@
-use Rattle.std.proofs.Common.{◌≡◌, ℕ, ◌+◌, ◌-◌, List, None, Some, suc, length, refl, ap, sym, subst, true, ◌∙◌, arith}
+use Rattle.std.proofs.Common.{◌≡◌, ◌+◌, ◌-◌, List, None, Some, suc, length, refl, ap, sym, subst, true, ◌∙◌, arith}
 use Rattle.std.proofs.lemmas.List.{length-map}
 use Rattle.std.specs.Prelude.{Contains}
 use Rattle.nv_calls.specs.Calls.{Entry, entry}
@@ -6,7 +6,7 @@ use Rattle.nv_calls.specs.Logs.{Start, live_after, served}
 use Rattle.nv_guest.specs.Calls.{call_at, answered}
 use Rattle.nv_guest.specs.Guest.{machine_of}
 use Rattle.nv_guest.specs.declared.outcome.FaultKind.TheVariants.{Calls}
-use Rattle.nv_cli.specs.Sequence.{Account, account_at, lead, is_cut, logged}
+use Rattle.nv_cli.specs.Sequence.{account_at, is_cut, logged}
 use Rattle.nv_cli.specs.declared.fate.Fate.TheVariants.{Fault, Memory, Exited}
 use Rattle.nv_cli.specs.declared.run.TheConstants.{BUDGET, MOST_EVENTS}
 use Rattle.nv_cli.proofs.Leading.{not_cut, not_before, is_cut_here, ends-by_fault, ends-by_room, ends-by_memory, goes, length-logged, same_lead, IsNotBefore}
