@@ -1,6 +1,6 @@
 -- An instruction that a word is read as fits: it has a word.
 use Rattle.std.proofs.Common.{◌≡◌, true, ℕ, ◌+◌, ◌*◌, ◌/◌, ◌%◌, ◌^◌, ◌<◌, Option, Some, None, refl, ap, subst, sym, ◌∙◌, arith}
-use Rattle.std.specs.Prelude.{ℤ, pos, ◌≤ℤ◌, ◌<ℤ◌}
+use Rattle.std.specs.Prelude.{pos, ◌≤ℤ◌, ◌<ℤ◌}
 use Rattle.std.specs.Option.{option_map}
 use Rattle.std.proofs.lemmas.Int.{ints}
 use Rattle.std.proofs.lemmas.Bool.Decides.{nat_tests}
@@ -11,7 +11,7 @@ use Rattle.nv_isa.specs.declared.op.Insn.{Insn}
 use Rattle.nv_isa.specs.Table.{Row, row, table, row_of, belongs, signed, insn_of, decoded}
 use Rattle.nv_isa.specs.Spelling.{low, InBits, FitsForm, Fits}
 use Rattle.nv_isa.proofs.Signs.{low-signed_13, low-signed_21, low-signed_32}
-use Rattle.nv_isa.proofs.Inverse.{found, all_own, op_of_row}
+use Rattle.nv_isa.proofs.Inverse.{found, all_own}
 
 in_bits_12 : (n : ℕ) → n < 2 ^ 12 → InBits 12 (signed 12 n)
 in_bits_12 n h = record { least = grind (arith, ints, nat_tests); most = grind (arith, ints, nat_tests) }

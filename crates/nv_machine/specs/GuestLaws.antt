@@ -10,7 +10,7 @@ use Rattle.nv_memory.specs.declared.region.Width.TheVariants.{Four}
 use Rattle.nv_memory.specs.declared.region.Right.TheVariants.{Read, Write, Execute}
 use Rattle.nv_memory.specs.Bytes.{byte_count}
 use Rattle.nv_memory.specs.Regions.{holds}
-use Rattle.nv_memory.specs.Image.{Image, loaded}
+use Rattle.nv_memory.specs.Image.{loaded}
 use Rattle.nv_machine.specs.declared.outcome.Stepped.{Stepped}
 use Rattle.nv_machine.specs.declared.outcome.Stepped.TheVariants.{On}
 use Rattle.nv_machine.specs.declared.outcome.Stepped.TheVariants as ends
