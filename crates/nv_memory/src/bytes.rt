@@ -74,6 +74,15 @@ pub fn clear(bytes: &mut [u8], from: usize, to: usize)
     }
 }
 
+// The bytes from the address on.
+#[tactic(auto, using(crate::proofs::Loops::part_is_bytes))]
+pub fn part(bytes: &[u8], at: usize, size: usize) -> &[u8]
+    requires { at + size ≤ length bytes.now }
+    ensures { result.now ≡ bytes_at bytes.now at size }
+{
+    &bytes[at..at + size]
+}
+
 // Reads the bytes from the address on.
 #[tactic(auto, using(crate::proofs::Loops::bytes_read))]
 pub fn read_all(bytes: &[u8], at: usize, out: &mut [u8])

@@ -1,11 +1,11 @@
 // The memory of a guest.
-ghost use Rattle.std.specs.Prelude.{◌≡◌, ℕ, ◌+◌, ◌<◌, length, Ok, Err, IfOk, IsTrue, replicate};
+ghost use Rattle.std.specs.Prelude.{◌≡◌, ℕ, ◌+◌, ◌<◌, length, Ok, Err, IfOk, IfErr, is_ok, IsTrue, replicate};
 ghost use Rattle.std.specs.List.{list_any};
-ghost use Rattle.nv_memory.specs.Bytes.{put, little_bytes, byte_count};
+ghost use Rattle.nv_memory.specs.Bytes.{bytes_at, put, little_bytes, byte_count};
 ghost use Rattle.nv_memory.specs.Regions.{holds, AreRegions, has_range, set_end, end_of};
 ghost use Rattle.nv_memory.specs.Image.{loaded, allowed, stored, copied, cut};
 
-use crate::bytes::{clear, count, read, read_all, write, write_all};
+use crate::bytes::{clear, count, part, read, read_all, write, write_all};
 use crate::ranges::{end_at, is_held, move_end};
 use crate::region::{Access, Region, Right, Width};
 use std::alloc::{AllocError, Global};
@@ -84,6 +84,22 @@ impl Memory {
         } else {
             Err(Access(address))
         }
+    }
+
+    /// Lends the bytes at the address.
+    #[tactic(auto, using(crate::proofs::Bounds::held_is_inside, crate::proofs::Loops::part_is_bytes))]
+    pub fn bytes(&self, address: u32, length: u32) -> Result<&[u8], Access>
+        ensures held { is_ok result ≡ holds self.now.regions address length Right.Read }
+        ensures ok { IfOk result (λ bytes. bytes.now ≡ bytes_at self.now.bytes address length) }
+        ensures err { IfErr result (λ refusal. refusal ≡ record { 0 = address }) }
+    {
+        if !is_held(&self.regions, address, length as usize, Right::Read) {
+            return Err(Access(address));
+        }
+        if length == 0 {
+            return Ok(&[]);
+        }
+        Ok(part(&self.bytes, address as usize, length as usize))
     }
 
     /// Copies the bytes at the address.
