@@ -1,5 +1,4 @@
 pub mod Behaviours
+pub mod Kept
 pub mod Threads
-pub mod Owns
-pub mod Stands
 pub mod ThreadLaws
