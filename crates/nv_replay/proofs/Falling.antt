@@ -4,12 +4,12 @@ use Rattle.std.specs.Prelude.{slice_get, option_map, nat_le}
 use Rattle.std.proofs.lemmas.Option.{slice_get_past}
 use Rattle.nv_calls.specs.Calls.{Request, Response, Entry, is_same}
 use Rattle.nv_threads.specs.Behaviours.{Behaviour, IsProcess}
-use Rattle.nv_threads.specs.declared.words.Want.TheVariants.{Only, Any}
-use Rattle.nv_threads.specs.declared.words.Came.{Came}
-use Rattle.nv_threads.specs.declared.words.Came.TheVariants.{Asked, Fault}
+use Rattle.nv_threads.specs.declared.turns.Want.TheVariants.{Only, Any}
+use Rattle.nv_threads.specs.declared.turns.Came.{Came}
+use Rattle.nv_threads.specs.declared.turns.Came.TheVariants.{Asked, Fault}
 use Rattle.nv_replay.specs.declared.fate.Fate.{Fate}
 use Rattle.nv_replay.specs.declared.fate.Fate.TheVariants.{Exited, Fault as Faulted, Memory}
-use Rattle.nv_threads.specs.declared.words.FaultKind.TheVariants.{Calls}
+use Rattle.nv_guest.specs.declared.outcome.FaultKind.TheVariants.{Calls}
 use Rattle.nv_calls.specs.Logs.{Start, served}
 use Rattle.nv_replay.specs.Lead.{Leader, is_cut, logged, led, unless_ended, next_call}
 use Rattle.nv_replay.specs.Permits.{Permit, Give, Drop, No}

@@ -2,11 +2,11 @@
 use Rattle.std.proofs.Common.{◌≡◌, ◌∙◌, sym, ap, subst, refl, ℕ, ◌+◌, Bool, true, false, List, [], ◌∷◌, ◌++◌, length, Option, Some, None, cond}
 use Rattle.std.specs.Prelude.{nat_le}
 use Rattle.nv_threads.specs.Behaviours.{Behaviour, IsProcess}
-use Rattle.nv_threads.specs.declared.words.Want.TheVariants.{Any}
-use Rattle.nv_threads.specs.declared.words.Came.{Came}
-use Rattle.nv_threads.specs.declared.words.Came.TheVariants.{Asked, Fault}
-use Rattle.nv_threads.specs.declared.words.FaultKind.{FaultKind}
-use Rattle.nv_threads.specs.declared.words.FaultKind.TheVariants.{Calls}
+use Rattle.nv_threads.specs.declared.turns.Want.TheVariants.{Any}
+use Rattle.nv_threads.specs.declared.turns.Came.{Came}
+use Rattle.nv_threads.specs.declared.turns.Came.TheVariants.{Asked, Fault}
+use Rattle.nv_guest.specs.declared.outcome.FaultKind.{FaultKind}
+use Rattle.nv_guest.specs.declared.outcome.FaultKind.TheVariants.{Calls}
 use Rattle.nv_replay.specs.declared.fate.Fate.{Fate}
 use Rattle.nv_replay.specs.declared.fate.Fate.TheVariants.{Exited, Fault as Faulted, Memory}
 use Rattle.nv_calls.specs.Calls.{Entry}

@@ -6,9 +6,9 @@ use Rattle.nv_calls.specs.Calls.{Request, Response, Entry, is_same}
 use Rattle.nv_calls.specs.Logs.{MayFollow, IsLawful, live_next, live_from, live_after, child_of, made, with_child}
 use Rattle.nv_calls.specs.SameLaws.{same_is}
 use Rattle.nv_threads.specs.Behaviours.{Behaviour, IsProcess, event_of}
-use Rattle.nv_threads.specs.declared.words.Want.TheVariants.{Only, Any}
-use Rattle.nv_threads.specs.declared.words.Came.{Came}
-use Rattle.nv_threads.specs.declared.words.Came.TheVariants.{Asked, Fault}
+use Rattle.nv_threads.specs.declared.turns.Want.TheVariants.{Only, Any}
+use Rattle.nv_threads.specs.declared.turns.Came.{Came}
+use Rattle.nv_threads.specs.declared.turns.Came.TheVariants.{Asked, Fault}
 use Rattle.nv_replay.specs.declared.fate.Fate.{Fate}
 use Rattle.nv_replay.specs.declared.fate.Fate.TheVariants.{Exited}
 use Rattle.nv_replay.specs.declared.verdict.Verdict.{Verdict}

@@ -3,9 +3,9 @@ use Rattle.std.specs.Prelude.{◌≡◌, ◌≢◌, ◌⊎◌, ℕ, ◌+◌, ◌
 use Rattle.nv_calls.specs.Calls.{Request, Response, Entry, is_same}
 use Rattle.nv_calls.specs.Logs.{live_after}
 use Rattle.nv_threads.specs.Behaviours.{Behaviour}
-use Rattle.nv_threads.specs.declared.words.Want.TheVariants.{Only}
-use Rattle.nv_threads.specs.declared.words.Came.{Came}
-use Rattle.nv_threads.specs.declared.words.Came.TheVariants.{Asked, Fault}
+use Rattle.nv_threads.specs.declared.turns.Want.TheVariants.{Only}
+use Rattle.nv_threads.specs.declared.turns.Came.{Came}
+use Rattle.nv_threads.specs.declared.turns.Came.TheVariants.{Asked, Fault}
 use Rattle.nv_replay.specs.declared.fate.Fate.{Fate}
 use Rattle.nv_replay.specs.declared.fate.Fate.TheVariants.{Exited, Fault as Faulted, Refused}
 use Rattle.nv_replay.specs.declared.verdict.Verdict.{Verdict}

@@ -3,10 +3,10 @@ use Rattle.std.specs.Prelude.{◌≡◌, ℕ, ◌+◌, Bool, true, false, ◌==�
 use Rattle.nv_calls.specs.Calls.{Request, Response, Entry}
 use Rattle.nv_calls.specs.Logs.{Start, served}
 use Rattle.nv_threads.specs.Behaviours.{Behaviour}
-use Rattle.nv_threads.specs.declared.words.FaultKind.TheVariants.{Calls}
-use Rattle.nv_threads.specs.declared.words.Want.TheVariants.{Any}
-use Rattle.nv_threads.specs.declared.words.Came.{Came}
-use Rattle.nv_threads.specs.declared.words.Came.TheVariants.{Asked, Fault}
+use Rattle.nv_guest.specs.declared.outcome.FaultKind.TheVariants.{Calls}
+use Rattle.nv_threads.specs.declared.turns.Want.TheVariants.{Any}
+use Rattle.nv_threads.specs.declared.turns.Came.{Came}
+use Rattle.nv_threads.specs.declared.turns.Came.TheVariants.{Asked, Fault}
 use Rattle.nv_replay.specs.declared.fate.Fate.{Fate}
 use Rattle.nv_replay.specs.declared.fate.Fate.TheVariants.{Exited, Fault as Faulted, Memory}
 use Rattle.nv_replay.specs.Settling.{stage}

@@ -2,10 +2,10 @@
 use Rattle.std.specs.Prelude.{◌≡◌, ℕ, ◌+◌, Bool, nat_le, List, [], Option, Some, None, option_map, if◌then◌else◌}
 use Rattle.nv_calls.specs.Calls.{Entry}
 use Rattle.nv_threads.specs.Behaviours.{Behaviour, IsStarted}
-use Rattle.nv_threads.specs.declared.words.FaultKind.TheVariants.{Calls}
-use Rattle.nv_threads.specs.declared.words.Want.TheVariants.{Any}
-use Rattle.nv_threads.specs.declared.words.Came.{Came}
-use Rattle.nv_threads.specs.declared.words.Came.TheVariants.{Asked, Fault}
+use Rattle.nv_guest.specs.declared.outcome.FaultKind.TheVariants.{Calls}
+use Rattle.nv_threads.specs.declared.turns.Want.TheVariants.{Any}
+use Rattle.nv_threads.specs.declared.turns.Came.{Came}
+use Rattle.nv_threads.specs.declared.turns.Came.TheVariants.{Asked, Fault}
 use Rattle.nv_replay.specs.declared.version.Led.{Led}
 use Rattle.nv_replay.specs.declared.version.Led.TheVariants.{Asked as Asks, Dropped}
 use Rattle.nv_replay.specs.declared.fate.Fate.{Fate}

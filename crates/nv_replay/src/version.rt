@@ -4,7 +4,7 @@ ghost use Rattle.nv_calls.specs.Calls.{request, entry};
 ghost use Rattle.nv_calls.specs.Shapes.{IsShaped};
 ghost use Rattle.nv_threads.specs.Behaviours.{IsStarted};
 ghost use Rattle.nv_threads.specs.Threads.{threads};
-ghost use Rattle.nv_threads.specs.declared.words.Came.{Came};
+ghost use Rattle.nv_threads.specs.declared.turns.Came.{Came};
 ghost use Rattle.nv_replay.specs.Follow.{Told, verdict_on, decided, met, consumed, fresh, no_rules};
 ghost use Rattle.nv_replay.specs.Versions.{Running, IsFresh, IsFollowing, IsLeading, LedTo, asking_next, asking_by, answered_by, standing_of};
 

@@ -5,10 +5,10 @@ use Rattle.std.proofs.lemmas.Bool.Decides.{nat_tests}
 use Rattle.nv_calls.specs.Calls.{Entry}
 use Rattle.nv_calls.specs.Logs.{Start, served, IsLawful, IsLegal}
 use Rattle.nv_threads.specs.Behaviours.{Behaviour, IsProcess, IsStarted}
-use Rattle.nv_threads.specs.declared.words.Want.TheVariants.{Any}
-use Rattle.nv_threads.specs.declared.words.Came.{Came}
-use Rattle.nv_threads.specs.declared.words.Came.TheVariants.{Asked, Fault as Faults}
-use Rattle.nv_threads.specs.declared.words.FaultKind.TheVariants.{Calls}
+use Rattle.nv_threads.specs.declared.turns.Want.TheVariants.{Any}
+use Rattle.nv_threads.specs.declared.turns.Came.{Came}
+use Rattle.nv_threads.specs.declared.turns.Came.TheVariants.{Asked, Fault as Faults}
+use Rattle.nv_guest.specs.declared.outcome.FaultKind.TheVariants.{Calls}
 use Rattle.nv_replay.specs.declared.fate.Fate.{Fate}
 use Rattle.nv_replay.specs.declared.standing.Standing.{Standing}
 use Rattle.nv_replay.specs.declared.fate.Fate.TheVariants.{Fault as Faulted, Memory}

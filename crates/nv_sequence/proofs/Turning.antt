@@ -6,8 +6,8 @@ use Rattle.nv_calls.specs.Calls.{Request, Response, Entry, entry}
 use Rattle.nv_calls.specs.declared.calls.Event.{Event}
 use Rattle.nv_calls.specs.Logs.{Start, served, IsLawful, MayFollow, live_after, live_from, live_next, child_of}
 use Rattle.nv_threads.specs.Behaviours.{Behaviour, IsProcess}
-use Rattle.nv_threads.specs.declared.words.Want.TheVariants.{Any}
-use Rattle.nv_threads.specs.declared.words.Came.TheVariants.{Asked}
+use Rattle.nv_threads.specs.declared.turns.Want.TheVariants.{Any}
+use Rattle.nv_threads.specs.declared.turns.Came.TheVariants.{Asked}
 use Rattle.nv_replay.specs.declared.fate.Fate.{Fate}
 use Rattle.nv_replay.specs.declared.fate.Fate.TheVariants.{Memory, Exited}
 use Rattle.nv_replay.specs.Follow.{Follower, IsInStep}

@@ -1,0 +1,13 @@
+use Rattle.std.proofs.Common.{◌++◌, ◌∷◌, [], ap, ◌∙◌, sym, refl, codes, length}
+use Rattle.std.specs.Int.{w32, to_be_bytes}
+use Rattle.std.specs.List.{flat_map}
+use Rattle.nv_outside.specs.Writing.{puts-is, puts-then, puts-failed, puts-stopped}
+use Rattle.nv_calls.specs.Calls.{entry}
+use Rattle.nv_cli.specs.Report.{number_text, hex_pair, hex_text, call_text, result_text, event_text, payload_text, fate_text, tail_text}
+use Rattle.nv_cli.proofs.report.put_call.Goals as goal
+
+pub returns-in-Whole : goal.returns-in-Whole
+returns-in-Whole g c = puts-then c.in-Whole.ensures c.put_numbers-in-Whole.ensures
+
+pub returns-in-Failed : goal.returns-in-Failed
+returns-in-Failed g c = puts-failed (flat_map number_text c.args.event.now.call.args) c.in-Failed.ensures

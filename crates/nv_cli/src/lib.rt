@@ -1,0 +1,11 @@
+//! The monitor's top call: it reads a command line, runs what it asks for and writes what it came to.
+#![tactic(auto)]
+
+mod fate;
+mod prepare;
+mod report;
+mod run;
+mod words;
+
+pub use fate::Fate;
+pub use prepare::{Cause, Place, Refusal};
