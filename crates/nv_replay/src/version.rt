@@ -99,7 +99,6 @@ impl Version {
     fn meet(&mut self, tid: u32, event: &Event) -> Followed
         requires following { IsFollowing self.old }
         requires pending { threads.pending self.old.at.process tid ≡ true }
-        requires lives { Contains (threads.live self.old.at.process) tid }
         requires below { self.old.at.seen < 131072 }
         ensures new { self.new ≡ record self.old { at = met threads no_rules (entry event.now) self.old.at self.old.at.process (Came.Asked tid) } }
         ensures told { Told (Verdict.Refuse 0) result self.old.at self.new.at }
@@ -190,8 +189,7 @@ impl Version {
 
     /// The call of this thread that waits for its answer.
     pub fn pending(&self, tid: u32) -> &Call
-        requires pending { threads.pending self.now.at.process tid ≡ true }
-        requires lives { Contains (threads.live self.now.at.process) tid }
+        requires { threads.pending self.now.at.process tid ≡ true }
         ensures call { request result.now ≡ threads.call self.now.at.process tid }
         ensures shaped { IsShaped (request result.now) }
     {
