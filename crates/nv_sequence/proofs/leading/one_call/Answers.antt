@@ -8,11 +8,6 @@ use Rattle.nv_sequence.specs.Turns.{TookTurn}
 use Rattle.nv_sequence.proofs.Turning.{waits, turn_dropped, turn_refused, turn_served}
 use Rattle.nv_sequence.proofs.leading.one_call.Goals as goal
 
-pub pending-requires-clause-lives : goal.pending-requires-clause-lives
-pending-requires-clause-lives g c =
-    let w = waits threads thread_laws (g.K.SyscallKernel.start c.args.kernel.now) c.args.most c.args.version.now (g.K.SyscallKernel.log c.args.kernel.now) c.lead.new.self c.in-Asked.tid c.requires.leading c.requires.seen c.requires.in_step c.lead.ensures.new c.in-Asked.ensures.told.0 in
-    w.lives
-
 pub returns-in-Dropped-clause-turn : goal.returns-in-Dropped-clause-turn
 returns-in-Dropped-clause-turn g c =
     turn_dropped threads thread_laws (g.K.SyscallKernel.start c.args.kernel.now) c.args.most c.args.version.now (g.K.SyscallKernel.log c.args.kernel.now) c.lead.new.self c.requires.leading c.requires.seen c.requires.in_step c.lead.ensures.new c.in-Dropped.ensures.told.0
