@@ -1,5 +1,5 @@
 -- Going on, one instruction after another.
-use Rattle.std.proofs.Common.{◌≡◌, ◌∙◌, sym, ap, subst, refl, ℕ, zero, suc, ◌+◌, ◌-◌, ◌<◌, Option, Some, None, cond, arith}
+use Rattle.std.proofs.Common.{◌≡◌, ◌∙◌, sym, ap, refl, ℕ, suc, ◌-◌, ◌<◌, Option, Some, None, cond, arith}
 use Rattle.std.specs.Option.{is_some}
 use Rattle.nv_calls.specs.Calls.{Request}
 use Rattle.nv_guest.specs.Machine.{Machine, guest_step}

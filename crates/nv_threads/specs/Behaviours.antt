@@ -5,7 +5,7 @@ use Rattle.nv_calls.specs.Logs.{child_of, live_next}
 use Rattle.nv_threads.specs.declared.turns.Want.{Want}
 use Rattle.nv_threads.specs.declared.turns.Want.TheVariants.{Any, Only}
 use Rattle.nv_threads.specs.declared.turns.Came.{Came}
-use Rattle.nv_threads.specs.declared.turns.Came.TheVariants.{Asked, Fault}
+use Rattle.nv_threads.specs.declared.turns.Came.TheVariants.{Asked}
 
 pub record Behaviour (P : Type 0) : Type 0 where
   -- what its turns come to, and the process at that point

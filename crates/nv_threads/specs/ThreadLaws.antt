@@ -1,16 +1,15 @@
 -- A process of one thread keeps the laws of a process.
-use Rattle.std.proofs.Common.{◌≡◌, ◌≢◌, ◌∙◌, sym, ap, subst, refl, ℕ, zero, suc, ◌+◌, ◌-◌, ◌<◌, ◌≤◌, Bool, true, false, List, [], ◌∷◌, Option, Some, None, cond, arith}
-use Rattle.std.specs.Prelude.{Contains, filter, not, ◌==◌, ◌||◌, ◌&&◌, is_some, length}
-use Rattle.std.proofs.lemmas.Bool.Decides.{nat_tests}
-use Rattle.nv_calls.specs.Calls.{Request, Response, Entry}
+use Rattle.std.proofs.Common.{◌≡◌, ◌∙◌, sym, ap, subst, refl, ℕ, zero, suc, ◌+◌, ◌-◌, ◌<◌, ◌≤◌, Bool, true, false, [], ◌∷◌, Option, Some, None, cond, arith}
+use Rattle.std.specs.Prelude.{Contains, filter, not, ◌==◌, ◌||◌, ◌&&◌, is_some}
+use Rattle.nv_calls.specs.Calls.{Request, Response}
 use Rattle.nv_calls.specs.Logs.{child_of, live_next, with_child}
 use Rattle.nv_guest.specs.Machine.{Machine, guest_step}
 use Rattle.nv_guest.specs.declared.outcome.Stepped.{Stepped}
 use Rattle.nv_guest.specs.declared.outcome.Stepped.TheVariants.{On, Call, Fault as Faults}
-use Rattle.nv_threads.specs.Behaviours.{Behaviour, IsProcess, event_of}
-use Rattle.nv_threads.specs.Threads.{Proc, threads, advanced, unless_came, stepped, instruction, call_or, ends, end_by, live_by}
+use Rattle.nv_threads.specs.Behaviours.{IsProcess, event_of}
+use Rattle.nv_threads.specs.Threads.{Proc, threads, advanced, unless_came, stepped, instruction, call_or, live_by}
 use Rattle.nv_threads.specs.declared.turns.Came.{Came}
-use Rattle.nv_threads.specs.declared.turns.Came.TheVariants.{Asked, Fault}
+use Rattle.nv_threads.specs.declared.turns.Came.TheVariants.{Asked}
 use Rattle.nv_threads.specs.declared.turns.Want.{Want}
 use Rattle.nv_threads.specs.declared.turns.Want.TheVariants.{Any, Only}
 

@@ -1,6 +1,6 @@
 -- A process of one thread, 100.
 use Rattle.std.specs.Prelude.{ℕ, zero, suc, ◌+◌, ◌-◌, ◌%◌, Bool, true, false, ◌==◌, ◌||◌, ◌&&◌, List, [], ◌∷◌, Option, Some, None, is_some, slice_index, if◌then◌else◌}
-use Rattle.nv_calls.specs.Calls.{Request, Response}
+use Rattle.nv_calls.specs.Calls.{Request}
 use Rattle.nv_guest.specs.Machine.{Machine, guest_step}
 use Rattle.nv_guest.specs.Calls.{call_at, answered}
 use Rattle.nv_guest.specs.declared.outcome.FaultKind.TheVariants.{Budget}

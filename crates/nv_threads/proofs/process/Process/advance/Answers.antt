@@ -1,4 +1,4 @@
-use Rattle.std.proofs.Common.{◌≡◌, ◌∙◌, sym, ap, refl, ℕ, ◌-◌, ◌<◌, None, arith}
+use Rattle.std.proofs.Common.{◌≡◌, ◌∙◌, sym, ap, refl, ◌<◌, None, arith}
 use Rattle.nv_threads.specs.Threads.{Proc}
 use Rattle.nv_threads.proofs.Going.{goes_further, comes_out, runs_out, came_is, stays}
 use Rattle.nv_threads.proofs.process.Process.advance.Goals as goal

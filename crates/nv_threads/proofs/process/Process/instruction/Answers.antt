@@ -1,5 +1,4 @@
-use Rattle.std.proofs.Common.{◌≡◌, ◌∙◌, sym, ap, ◌-◌, ◌+◌, Some, arith}
-use Rattle.nv_threads.specs.Threads.{Proc}
+use Rattle.std.proofs.Common.{◌≡◌, ◌-◌, ◌+◌, arith}
 use Rattle.nv_threads.proofs.Going.{goes_on, calls, faults}
 use Rattle.nv_threads.proofs.process.Process.instruction.Goals as goal
 
