@@ -12,7 +12,7 @@ use Rattle.nv_calls.specs.LogLaws.{lawful_range}
 use Rattle.nv_words.specs.Spell.{IsWhole, spell}
 use Rattle.nv_words.specs.Begins.{Begins}
 use Rattle.nv_room.proofs.Spells.{shorter}
-use Rattle.nv_words.proofs.Whole.{spell_whole}
+use Rattle.nv_words.specs.SpellLaws.{spell_whole}
 
 pub last_event : (h : List Event) (old : List Entry) (e : Entry) (x : Event) (n : ℕ) → map entry h ≡ old ++ e ∷ [] → length old ≡ n → x ≡ get_or h n x → entry x ≡ e
 last_event h old e x n is long at = let l : length h ≡ n + 1 = sym (length-map h entry) ∙ ap length is ∙ length-append old (e ∷ []) ∙ ap (λ (z : ℕ). z + 1) long in

@@ -8,7 +8,7 @@ use Rattle.nv_calls.specs.Calls.{Entry}
 use Rattle.nv_calls.specs.Logs.{IsLawful}
 use Rattle.nv_calls.specs.LogLaws.{lawful_range, lawful_few}
 use Rattle.nv_words.specs.Spell.{spell, IsWhole}
-use Rattle.nv_words.proofs.Whole.{spell_whole}
+use Rattle.nv_words.specs.SpellLaws.{spell_whole}
 use Rattle.nv_room.specs.Room.{Log}
 use Rattle.nv_room.proofs.Lists.{there}
 
