@@ -1,4 +1,1 @@
-mod Leading
-mod Living
-mod Texts
-mod Statuses
+mod Loading

@@ -1,7 +1,4 @@
-pub mod Sequence
-pub mod Account
-pub mod Report
 pub mod Words
 pub mod Prepared
-pub mod Outcome
-pub mod Rows
+pub mod Account
+pub mod Refusals

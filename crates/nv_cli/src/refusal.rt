@@ -1,0 +1,45 @@
+// Why a run doesn't start.
+ghost use Rattle.std.specs.Prelude.{◌≡◌};
+ghost use Rattle.nv_cli.specs.declared.refusal.Refusal.TheVariants.{Memory};
+
+use std::alloc::{AllocError, AllocFailed};
+
+/// A file of the reading order: the script, or the version with this number.
+#[derive(Clone, Copy, Debug, PartialEq, Eq)]
+pub enum Place {
+    Script,
+    Version(u32),
+}
+
+/// Why a file is refused.
+#[derive(Clone, Copy, Debug, PartialEq, Eq)]
+pub enum Cause {
+    Long,
+    Unbuilt,
+    Short,
+    NoRoom(u32),
+}
+
+/// Why a run doesn't start.
+#[derive(Clone, Copy, Debug, PartialEq, Eq)]
+pub enum Refusal {
+    Memory,
+    Unreadable(Place),
+    Input(Place, Cause),
+}
+
+impl From<AllocError> for Refusal {
+    ghost from_gives = { λ _ refusal. refusal ≡ Memory };
+
+    fn from(_: AllocError) -> Self {
+        Refusal::Memory
+    }
+}
+
+impl<T: Drop> From<AllocFailed<T>> for Refusal {
+    ghost from_gives = { λ _ refusal. refusal ≡ Memory };
+
+    fn from(_: AllocFailed<T>) -> Self {
+        Refusal::Memory
+    }
+}
