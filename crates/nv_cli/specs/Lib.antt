@@ -2,3 +2,5 @@ pub mod Words
 pub mod Prepared
 pub mod Account
 pub mod Refusals
+pub mod Outcome
+pub mod Rows
