@@ -1,4 +1,2 @@
-pub mod Regions
 pub mod Going
-pub mod Rooms
 pub mod Shaped
