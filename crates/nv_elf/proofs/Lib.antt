@@ -1,3 +1,4 @@
 pub mod Bounds
-pub mod Tables
+pub mod Headers
 pub mod Faults
+pub mod Writing

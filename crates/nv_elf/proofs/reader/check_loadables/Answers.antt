@@ -1,6 +1,6 @@
 use Rattle.std.proofs.Common.{sym, ◌∙◌}
 use Rattle.nv_elf.specs.Elf.{is_outside}
-use Rattle.nv_elf.proofs.Tables.{none-placed}
+use Rattle.nv_elf.proofs.Headers.{none-placed}
 use Rattle.nv_elf.proofs.reader.check_loadables.Goals as goal
 
 pub returns-clause-inside : goal.returns-clause-inside

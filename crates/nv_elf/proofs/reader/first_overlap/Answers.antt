@@ -1,6 +1,6 @@
 use Rattle.std.proofs.Common.{◌∙◌, ◌+◌, arith, length-drop}
 use Rattle.std.proofs.lemmas.List.{take_rest}
-use Rattle.nv_elf.proofs.Tables.{overlap-found, overlap-later}
+use Rattle.nv_elf.proofs.Headers.{overlap-found, overlap-later}
 use Rattle.nv_elf.proofs.reader.first_overlap.Goals as goal
 
 pub returns-in-Some-clause-places : goal.returns-in-Some-clause-places

@@ -1,5 +1,5 @@
 use Rattle.std.proofs.Common.{◌++◌, ◌∷◌, [], ap, add-one, ◌∙◌, sym, ◌≡◌}
-use Rattle.nv_elf.proofs.Tables.{headers-push}
+use Rattle.nv_elf.proofs.Headers.{headers-push}
 use Rattle.nv_elf.proofs.reader.headers.Goals as goal
 
 pub loop-i-preserved : goal.loop-i-preserved
