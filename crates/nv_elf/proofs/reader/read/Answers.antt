@@ -1,6 +1,7 @@
 use Rattle.std.proofs.Common.{◌≡◌, sym, ◌∙◌, ap, refl, inr, filter, length}
 use Rattle.std.proofs.lemmas.Result.{err_from_is_err_and}
 use Rattle.nv_elf.specs.Elf.{headers_of, loadables_of, is_loadable, range_in, Accepted}
+use Rattle.nv_elf.specs.Sound.{is_program-accepted}
 use Rattle.nv_elf.proofs.Faults.{refused-file, refused-table, refused-loadables, accepted}
 use Rattle.nv_elf.proofs.reader.read.Goals as goal
 
@@ -36,3 +37,6 @@ returns-clause-program c =
     let none = rw (c.u32_at-entry.ensures, c.deref-4.ensures.value ∙ listed) at c.in_ok-check_loadables.ensures.fault in
     accepted c.args.bytes.now c.in_ok-check_file.ensures.fault table none
     ∙ ap Accepted (rw (c.u32_at-entry.ensures, c.in_ok-segments.ensures, c.deref-5.ensures.value ∙ listed) refl)
+
+pub returns-clause-sound : goal.returns-clause-sound
+returns-clause-sound c = is_program-accepted c.args.bytes.now _ (returns-clause-program c)
