@@ -1,2 +1,4 @@
 pub mod Going
 pub mod Shaped
+pub mod Strings
+pub mod Placed

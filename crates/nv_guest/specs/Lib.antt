@@ -1,3 +1,5 @@
 pub mod Machine
 pub mod Guest
 pub mod Calls
+pub mod Block
+pub mod Load
