@@ -3,6 +3,7 @@
 
 mod block;
 mod guest;
+mod load;
 mod outcome;
 
 pub use guest::Guest;
