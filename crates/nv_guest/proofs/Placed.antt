@@ -89,9 +89,11 @@ lie : (size limit heap : ℕ) (ranges : List Range) (i : ℕ) → limit ≤ size
 lie size limit heap [] i le below a b none =
     (record { ordered = le; inside = omega arith }, (inr below, tt), (record { ordered = omega arith; inside = omega arith }, tt, tt))
 lie size limit heap (r ∷ rs) i le below a b none =
-    let parts = none-first (option_map (λ k. (i, i + 1 + k)) (position_from (λ y. shares (range_extent r) (range_extent y)) 0 rs)) (overlap_from range_extent (i + 1) rs) none in
-    (record { ordered = omega arith; inside = omega (arith, a.0) }, apart_from r rs 0 (data_region limit size) (data_region heap heap) (none-mapped _ _ parts.0) a.0 b.0,
-    lie size limit heap rs (i + 1) le below a.1 b.1 parts.1)
+    let parts = none-first (option_map (λ k. (i, i + 1 + k)) (position_from (λ y. shares (range_extent r) (range_extent y)) 0 rs)) (overlap_from range_extent (i + 1) rs) none in (
+      record { ordered = omega arith; inside = omega (arith, a.0) },
+      apart_from r rs 0 (data_region limit size) (data_region heap heap) (none-mapped _ _ parts.0) a.0 b.0,
+      lie size limit heap rs (i + 1) le below a.1 b.1 parts.1,
+    )
 
 -- the regions lie in the memory, apart from one another
 pub regions_lie : (p : Image) (size : ℕ) → IsMemorySize size → IsPlaced p → first_beyond p.ranges (size - 65536) 0 ≡ None → AreRegions size (regions_of p.ranges size)

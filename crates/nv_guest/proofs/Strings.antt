@@ -70,9 +70,9 @@ pub four_parts : (bytes : List ℕ) (p q r s : ℕ) (a b c d : List ℕ) → q �
     → put (put (put (put bytes p a) q b) r c) s d ≡ put bytes p (a ++ (b ++ (c ++ d)))
 four_parts bytes p q r s a b c d e f g =
     rw (g, f, e) (
-      sym (put_append (put (put bytes p a) (p + length a) b) (p + length a + length b) c d)
-      ∙ sym (put_append (put bytes p a) (p + length a) b (c ++ d))
-      ∙ sym (put_append bytes p a (b ++ (c ++ d))))
+    sym (put_append (put (put bytes p a) (p + length a) b) (p + length a + length b) c d)
+    ∙ sym (put_append (put bytes p a) (p + length a) b (c ++ d))
+    ∙ sym (put_append bytes p a (b ++ (c ++ d))))
 
 -- words that are written behind others
 pub words-append : (ms ns : List ℕ) → words (ms ++ ns) ≡ words ms ++ words ns

@@ -5,6 +5,8 @@ mod block;
 mod guest;
 mod load;
 mod outcome;
+#[cfg(test)]
+mod tests;
 
 pub use guest::Guest;
 pub use outcome::{Asked, Came, GuestFault};
