@@ -1,6 +1,6 @@
 // The registers of a thread.
-ghost use Rattle.std.specs.Prelude.{◌≡◌, ◌%◌, ◌<◌, slice_index, replicate};
-ghost use Rattle.nv_machine.specs.Registers.{written};
+ghost use Rattle.std.specs.Prelude.{◌≡◌, ◌%◌, ◌<◌, slice_index};
+ghost use Rattle.nv_machine.specs.Registers.{fresh, written};
 
 use std::marker::Model;
 
@@ -27,7 +27,7 @@ impl Regs {
     /// All registers are 0.
     pub fn new(pc: u32) -> Regs
         requires { pc % 4 ≡ 0 }
-        ensures { result ≡ record { x = replicate 32 0; pc = pc } }
+        ensures { result ≡ fresh pc }
     {
         Regs { x: [0; 32], pc }
     }
