@@ -1,0 +1,11 @@
+//! A room that threads run: one publishes, the others read.
+#![tactic(auto)]
+
+mod calls;
+mod running;
+
+#[cfg(test)]
+mod tests;
+
+pub use calls::{exit_group, getuid};
+pub use running::{Script, run};
