@@ -20,6 +20,7 @@ use std::thread::{Threads, join, yield_now};
 
 /// What the lead publishes: getuid again and again, and exit_group last, so many events in all. No
 /// thread is idle for more than `most` turns.
+#[derive(Drop)]
 pub struct Script {
     pub getuid: Call,
     pub exit: Call,
