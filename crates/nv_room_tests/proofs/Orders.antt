@@ -21,7 +21,10 @@ at_value (x ∷ xs) (suc i) a d e = at_value xs i a d e
 module _ {K : Type 0} {G : Ghosts K} where
   -- readers in order are all seats
   pub all_seats : (room : Room K G) (rs : List (Reader K G)) → InOrder room rs → length rs + 1 ≡ room.stations → AllSeats room rs
-  all_seats room rs h long = (record {
-    table = λ i r f. let m = h i r f in (m.0.0, (let s = m.1 in omega arith), m.0.1);
-    apart = λ i j r q f g e. let a = (h i r f).1 in let b = (h j q g).1 in omega arith;
-  }, long)
+  all_seats room rs h long = (
+    record {
+      table = λ i r f. let m = h i r f in (m.0.0, (let s = m.1 in omega arith), m.0.1);
+      apart = λ i j r q f g e. let a = (h i r f).1 in let b = (h j q g).1 in omega arith;
+    },
+    long,
+  )

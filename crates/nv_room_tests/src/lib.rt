@@ -3,9 +3,8 @@
 
 mod calls;
 mod running;
-
 #[cfg(test)]
 mod tests;
 
-pub use calls::{exit_group, getuid};
-pub use running::{Script, run};
+pub use calls::{exit_group, getuid, write};
+pub use running::{Script, run, serve_all};

@@ -9,8 +9,7 @@ ghost use Rattle.nv_room.specs.Seats.{IsOfRoom, IsLeadOf, IsFresh, FreshReaders,
 ghost use Rattle.nv_room_tests.specs.Going.{GoesOn};
 ghost use Rattle.nv_room_tests.specs.Backs.{InOrder};
 
-use crate::calls::{EXIT_GROUP, GETUID};
-use nv_calls::{Call, Event, SyscallKernel};
+use nv_calls::{Call, Event, SyscallKernel, same};
 use nv_ring::{Placed, Polled, advance, place, poll, publish};
 use nv_room::{Ended, Lead, Reader, Room};
 use nv_words::EventBuf;
@@ -18,24 +17,31 @@ use std::alloc::{AllocError, Global};
 use std::thread;
 use std::thread::{Threads, join, yield_now};
 
-/// What the lead publishes: getuid again and again, and exit_group last, so many events in all. No
-/// thread is idle for more than `most` turns.
+/// What the lead publishes: one call again and again, and another last, so many events in all. No thread
+/// is idle for more than `most` turns.
 #[derive(Drop)]
 pub struct Script {
-    pub getuid: Call,
-    pub exit: Call,
+    pub call: Call,
+    pub last: Call,
     pub events: u32,
     pub most: u32,
 }
 
 /// Runs the script with one lead and `versions - 1` readers, and gives what ended.
-pub fn run<R: Threads + Sync, K: SyscallKernel>(rt: &R, alloc: Global, kernel: K, script: &Script, versions: u32, places: u32) -> Result<Ended<K>, AllocError>
+pub fn run<R: Threads + Sync, K: SyscallKernel>(
+    rt: &R,
+    alloc: Global,
+    kernel: K,
+    script: &Script,
+    versions: u32,
+    places: u32,
+) -> Result<Ended<K>, AllocError>
     requires versions { (0 < versions) × (versions ≤ 8) }
     requires places { (2 ≤ places) × (places ≤ 1024) }
     requires empty { K.log kernel ≡ [] }
-    requires shaped { IsShaped (request script.now.getuid) × IsShaped (request script.now.exit) }
-    requires first { (script.now.getuid.tid ≡ 100) × (script.now.exit.tid ≡ 100) }
-    requires goes_on { GoesOn (request script.now.getuid) }
+    requires shaped { IsShaped (request script.now.call) × IsShaped (request script.now.last) }
+    requires first { (script.now.call.tid ≡ 100) × (script.now.last.tid ≡ 100) }
+    requires goes_on { GoesOn (request script.now.call) }
     requires few { script.now.events ≤ 131072 }
     ensures start { IfOk result (λ e. K.start e.kernel ≡ K.start kernel) }
     ensures legal { IfOk result (λ e. IsLegal (K.start kernel) (K.log e.kernel)) }
@@ -46,8 +52,8 @@ pub fn run<R: Threads + Sync, K: SyscallKernel>(rt: &R, alloc: Global, kernel: K
     let shared = &room;
     let write = move || -> Lead<K>
         requires of { IsLeadOf shared.now lead × (due_of lead ≡ false) × ((lead_view lead).wrote ≡ []) }
-        requires shaped { IsShaped (request script.now.getuid) × IsShaped (request script.now.exit) }
-        requires lives { Contains (live_after (K.log (kernel_of lead))) 100 × (script.now.getuid.tid ≡ 100) × (script.now.exit.tid ≡ 100) × GoesOn (request script.now.getuid) }
+        requires shaped { IsShaped (request script.now.call) × IsShaped (request script.now.last) }
+        requires lives { Contains (live_after (K.log (kernel_of lead))) 100 × (script.now.call.tid ≡ 100) × (script.now.last.tid ≡ 100) × GoesOn (request script.now.call) }
         ensures { IsLeadOf shared.entry.now result × (due_of result ≡ false) }
     { lead_all(shared, lead, script) };
     let read = move || -> Result<Vec<Reader<K>>, AllocError>
@@ -64,19 +70,19 @@ pub fn lead_all<K: SyscallKernel>(room: &Room<K>, mut lead: Lead<K>, script: &Sc
     requires of { IsLeadOf room.now lead }
     requires none_due { due_of lead ≡ false }
     requires none_wrote { (lead_view lead).wrote ≡ [] }
-    requires shaped { IsShaped (request script.now.getuid) × IsShaped (request script.now.exit) }
-    requires first { (script.now.getuid.tid ≡ 100) × (script.now.exit.tid ≡ 100) }
+    requires shaped { IsShaped (request script.now.call) × IsShaped (request script.now.last) }
+    requires first { (script.now.call.tid ≡ 100) × (script.now.last.tid ≡ 100) }
     requires lives { Contains (live_after (K.log (kernel_of lead))) 100 }
-    requires goes_on { GoesOn (request script.now.getuid) }
+    requires goes_on { GoesOn (request script.now.call) }
     ensures of { IsLeadOf room.now result }
     ensures due { due_of result ≡ false }
 {
     for _event in 1..script.events {
-        if !publish_one(room, &mut lead, &script.getuid, script.most) {
+        if !publish_one(room, &mut lead, &script.call, script.most) {
             return lead;
         }
     }
-    publish_one(room, &mut lead, &script.exit, script.most);
+    publish_one(room, &mut lead, &script.last, script.most);
     lead
 }
 
@@ -108,7 +114,13 @@ fn publish_one<K: SyscallKernel>(room: &Room<K>, lead: &mut Lead<K>, call: &Call
 }
 
 // Each reader reads the whole script on a thread of its own.
-fn read_each<R: Threads + Sync, K: SyscallKernel>(rt: &R, alloc: Global, room: &Room<K>, readers: Vec<Reader<K>>, script: &Script) -> Result<Vec<Reader<K>>, AllocError>
+fn read_each<R: Threads + Sync, K: SyscallKernel>(
+    rt: &R,
+    alloc: Global,
+    room: &Room<K>,
+    readers: Vec<Reader<K>>,
+    script: &Script,
+) -> Result<Vec<Reader<K>>, AllocError>
     requires fresh { FreshReaders room.now readers.items }
     requires few { script.now.events ≤ 131072 }
     ensures order { IfOk result (λ rs. InOrder room.now rs.items) }
@@ -123,7 +135,12 @@ fn read_each<R: Threads + Sync, K: SyscallKernel>(rt: &R, alloc: Global, room: &
 }
 
 /// Reads the script, up to an event that isn't the script's, or `most` idle turns.
-pub fn read_all<K: SyscallKernel>(alloc: Global, room: &Room<K>, mut reader: Reader<K>, script: &Script) -> Reader<K>
+pub fn read_all<K: SyscallKernel>(
+    alloc: Global,
+    room: &Room<K>,
+    mut reader: Reader<K>,
+    script: &Script,
+) -> Reader<K>
     requires of { IsOfRoom room.now reader }
     requires none_read { (view reader).read ≡ [] }
     requires few { script.now.events ≤ 131072 }
@@ -137,7 +154,7 @@ pub fn read_all<K: SyscallKernel>(alloc: Global, room: &Room<K>, mut reader: Rea
         if !wait_for_event(room, &mut reader, &mut buf, script.most) {
             return reader;
         }
-        if !is_scripted(buf.event(), event, script.events) {
+        if !is_scripted(script, buf.event(), event) {
             return reader;
         }
         advance(&mut reader, room);
@@ -146,7 +163,12 @@ pub fn read_all<K: SyscallKernel>(alloc: Global, room: &Room<K>, mut reader: Rea
 }
 
 // Polls until there is an event, at most so many times.
-fn wait_for_event<K: SyscallKernel>(room: &Room<K>, reader: &mut Reader<K>, buf: &mut EventBuf, most: u32) -> bool
+fn wait_for_event<K: SyscallKernel>(
+    room: &Room<K>,
+    reader: &mut Reader<K>,
+    buf: &mut EventBuf,
+    most: u32,
+) -> bool
     requires of { IsOfRoom room.now reader.old }
     requires none_read { (view reader.old).read ≡ [] }
     ensures of { IsOfRoom room.now reader.new }
@@ -163,15 +185,34 @@ fn wait_for_event<K: SyscallKernel>(room: &Room<K>, reader: &mut Reader<K>, buf:
 }
 
 // Whether the event is the script's at this place.
-fn is_scripted(event: &Event, place: u32, events: u32) -> bool
-    requires { place < events }
+fn is_scripted(script: &Script, event: &Event, place: u32) -> bool
+    requires { place < script.now.events }
 {
-    let nr = if place + 1 == events { EXIT_GROUP } else { GETUID };
-    event.stamp == place
-        && event.call.tid == 100
-        && event.call.nr == nr
-        && event.call.args == [0; 6]
-        && !event.call.bad
-        && event.call.payload.as_slice().is_empty()
-        && event.reply.payload.as_slice().is_empty()
+    let call = if place == script.events - 1 {
+        &script.last
+    } else {
+        &script.call
+    };
+    event.stamp == place && same(call, event)
+}
+
+/// The script's calls on a kernel that is in no room.
+pub fn serve_all<K: SyscallKernel>(mut kernel: K, script: &Script) -> K
+    requires empty { K.log kernel ≡ [] }
+    requires shaped { IsShaped (request script.now.call) × IsShaped (request script.now.last) }
+    requires first { (script.now.call.tid ≡ 100) × (script.now.last.tid ≡ 100) }
+    requires goes_on { GoesOn (request script.now.call) }
+    requires few { script.now.events ≤ 131072 }
+    ensures start { K.start result ≡ K.start kernel }
+{
+    for _event in 1..script.events {
+        if kernel.reserve(&script.call).is_err() {
+            return kernel;
+        }
+        kernel.serve(&script.call);
+    }
+    if kernel.reserve(&script.last).is_ok() {
+        kernel.serve(&script.last);
+    }
+    kernel
 }

@@ -13,8 +13,8 @@ fn all_see_all<R: Threads + Sync + Abort>(rt: &R, alloc: Global, versions: u32, 
     requires places { (2 ≤ places) × (places ≤ 1024) }
 {
     let script = Script {
-        getuid: getuid(alloc).expect(rt, "memory"),
-        exit: exit_group(alloc).expect(rt, "memory"),
+        call: getuid(alloc).expect(rt, "memory"),
+        last: exit_group(alloc).expect(rt, "memory"),
         events: 100,
         most: 10_000_000,
     };
