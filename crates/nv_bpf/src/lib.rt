@@ -3,8 +3,11 @@
 
 mod action;
 mod filter;
+mod lines;
 mod op;
+mod reading;
 
 pub use action::{Action, Arithmetic, Comparison, Operand, Register, decode};
 pub use filter::{Filter, verify};
 pub use op::{FilterFault, MOST_OPS, Op};
+pub use reading::read;
