@@ -1,5 +1,5 @@
 -- The text of a filter, as `tcpdump -ddd` prints it: the count, then a line with code, jt, jf and k for each instruction.
-use Rattle.std.specs.Prelude.{ℕ, zero, suc, List, [], ◌∷◌, ◌++◌, Option, Some, None, Result, Ok, Err, if◌then◌else◌, ◌==◌, nat_lt, nat_le, ◌+◌, length, flat_map, option_and_then}
+use Rattle.std.specs.Prelude.{ℕ, zero, suc, List, [], ◌∷◌, ◌++◌, Option, Some, None, Result, Ok, Err, if◌then◌else◌, ◌==◌, nat_lt, nat_le, ◌+◌, ◌^◌, ◌<◌, length, flat_map, option_and_then}
 use Rattle.nv_bytes.specs.Texts.{number_of, decimal_of}
 use Rattle.nv_bpf.specs.declared.op.Op.{Op}
 use Rattle.nv_bpf.specs.declared.op.FilterFault.{FilterFault}
@@ -76,3 +76,10 @@ op_text op = ended_number op.code 32 ++ (ended_number op.jt 32 ++ (ended_number 
 -- the text of a filter: each line ends with a newline, and no number has a leading zero
 unfoldable pub text_of : List Op → List ℕ
 text_of ops = ended_number (length ops) 10 ++ flat_map op_text ops
+
+-- each field is in its range
+pub record FitsFields (op : Op) : Type 0 where
+  pub code : op.code < 2 ^ 16
+  pub jt : op.jt < 2 ^ 8
+  pub jf : op.jf < 2 ^ 8
+  pub k : op.k < 2 ^ 32

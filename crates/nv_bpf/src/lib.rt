@@ -6,8 +6,10 @@ mod filter;
 mod lines;
 mod op;
 mod reading;
+mod writing;
 
 pub use action::{Action, Arithmetic, Comparison, Operand, Register, decode};
 pub use filter::{Filter, verify};
 pub use op::{FilterFault, MOST_OPS, Op};
 pub use reading::read;
+pub use writing::write;
