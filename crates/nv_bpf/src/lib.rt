@@ -6,6 +6,8 @@ mod filter;
 mod lines;
 mod op;
 mod reading;
+#[cfg(test)]
+mod tests;
 mod writing;
 
 pub use action::{Action, Arithmetic, Comparison, Operand, Register, decode};
