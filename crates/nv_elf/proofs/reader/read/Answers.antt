@@ -1,6 +1,8 @@
-use Rattle.std.proofs.Common.{◌≡◌, sym, ◌∙◌, ap, refl, inr, filter, length}
+use Rattle.std.proofs.Common.{◌≡◌, sym, ◌∙◌, ap, refl, inr, filter, length, arith}
 use Rattle.std.proofs.lemmas.Result.{err_from_is_err_and}
-use Rattle.nv_elf.specs.Elf.{headers_of, loadables_of, is_loadable, range_in, Accepted}
+use Rattle.nv_elf.specs.Elf.{headers_of, loadables_of, is_loadable, range_in, range_of, Accepted}
+use Rattle.std.proofs.lemmas.List.{length-map}
+use Rattle.nv_elf.specs.ReadBack.{program-few}
 use Rattle.nv_elf.specs.Sound.{is_program-accepted}
 use Rattle.nv_elf.proofs.Faults.{refused-file, refused-table, refused-loadables, accepted}
 use Rattle.nv_elf.proofs.reader.read.Goals as goal
@@ -40,3 +42,9 @@ returns-clause-program c =
 
 pub returns-clause-sound : goal.returns-clause-sound
 returns-clause-sound c = is_program-accepted c.args.bytes.now _ (returns-clause-program c)
+
+pub returns-clause-few : goal.returns-clause-few
+returns-clause-few c =
+    let segments = c.in_ok-segments.segments in
+    let few = program-few _ (returns-clause-sound c) in
+    omega (arith, few, length-map segments.items range_of, segments.ok.0)
