@@ -33,8 +33,11 @@ const LINKED: [&[u8]; 11] = [
 ];
 
 // What each byte of HELLO's headers makes of the file, once it is 00 or FF. `.` is an accepted file, O is Outside(0).
-const ZEROED: &[u8; 84] = b"MMMMCCH.........K.A.H.....E.E.............H.E.......E.........E.........E...E.......";
-const FILLED: &[u8; 84] = b"MMMMCCH.........KKAAHHHHEEEEHHHH....F.....HHHH......EEEEOOOOEEEE....OOOO............";
+const ZEROED: &[u8; 84] =
+    b"MMMMCCH.........K.A.H.....E.E.............H.E.......E.........E.........E...E.......";
+
+const FILLED: &[u8; 84] =
+    b"MMMMCCH.........KKAAHHHHEEEEHHHH....F.....HHHH......EEEEOOOOEEEE....OOOO............";
 
 fn file_of(alloc: Global, lines: &[&[u8]]) -> Result<Vec<u8>, Fail> {
     let mut file = Vec::new(alloc);
@@ -69,7 +72,13 @@ fn cut_files(rt: HostRuntime) -> Result<(), Fail> {
     let alloc = rt.alloc();
     let file = file_of(alloc, &HELLO)?;
     for (end, _) in file.iter().enumerate() {
-        let want = if end < 52 { b'S' } else if end < 84 { b'H' } else { b'O' };
+        let want = if end < 52 {
+            b'S'
+        } else if end < 84 {
+            b'H'
+        } else {
+            b'O'
+        };
         assert!(rt; answer(alloc, &file[..end]) == want, "cut to {end} bytes");
     }
     Ok(())
@@ -88,16 +97,27 @@ fn damaged(rt: &impl Abort, alloc: Global, place: usize, byte: u8) -> Result<u8,
 fn damaged_headers(rt: HostRuntime) -> Result<(), Fail> {
     let alloc = rt.alloc();
     for (place, want) in ZEROED.iter().enumerate() {
-        assert!(rt; damaged(&rt, alloc, place, 0)? == *want, "byte {place} made 00");
+        assert!(rt;
+            damaged(&rt, alloc, place, 0)? == *want,
+            "byte {place} made 00"
+        );
     }
     for (place, want) in FILLED.iter().enumerate() {
-        assert!(rt; damaged(&rt, alloc, place, 0xff)? == *want, "byte {place} made FF");
+        assert!(rt;
+            damaged(&rt, alloc, place, 0xff)? == *want,
+            "byte {place} made FF"
+        );
     }
     Ok(())
 }
 
 // What a changed field of four bytes makes of the file.
-fn changed_fault(rt: &impl Abort, alloc: Global, place: usize, value: u32) -> Result<Option<ElfFault>, Fail> {
+fn changed_fault(
+    rt: &impl Abort,
+    alloc: Global,
+    place: usize,
+    value: u32,
+) -> Result<Option<ElfFault>, Fail> {
     let mut file = file_of(alloc, &HELLO)?;
     let len = file.len();
     assert!(rt; place < 84 && len == 123);
@@ -127,7 +147,10 @@ fn damaged_fields(rt: HostRuntime) -> Result<(), Fail> {
         (20, 2, Some(ElfFault::Header)),
     ];
     for (place, value, want) in table {
-        assert!(rt; changed_fault(&rt, alloc, place, value)? == want, "{value} at {place}");
+        assert!(rt;
+            changed_fault(&rt, alloc, place, value)? == want,
+            "{value} at {place}"
+        );
     }
     Ok(())
 }
