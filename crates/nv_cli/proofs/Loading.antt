@@ -1,26 +1,24 @@
 -- Versions that were loaded one after another.
-use Rattle.std.proofs.Common.{◌≡◌, ◌≢◌, ◌∙◌, sym, ap, subst, refl, ℕ, zero, suc, ◌+◌, ◌<◌, ◌≤◌, Bool, true, false, List, [], ◌∷◌, ◌++◌, length, take, map, Option, Some, arith, if◌then◌else◌}
-use Rattle.std.specs.Prelude.{slice_get, nat_lt, get_or}
+use Rattle.std.proofs.Common.{◌≡◌, ◌≢◌, sym, ap, subst, refl, ℕ, zero, suc, ◌+◌, ◌<◌, ◌≤◌, Bool, true, false, List, [], ◌∷◌, ◌++◌, length, take, map, Some, arith}
+use Rattle.std.specs.Prelude.{slice_get, get_or}
 use Rattle.std.proofs.lemmas.Option.{same_Some, slice_get_within}
 use Rattle.std.proofs.lemmas.Bool.Decides.{nat_tests}
 use Rattle.nv_outside.specs.Told.{Told, Untold, Missing, Content}
-use Rattle.nv_guest.specs.Machine.{Machine}
+use Rattle.nv_machine.specs.Guest.{Machine}
 use Rattle.nv_threads.specs.Behaviours.{Behaviour}
 use Rattle.nv_threads.specs.Threads.{Proc, threads}
 use Rattle.nv_replay.specs.Versions.{Running, IsFresh, process_of}
 use Rattle.nv_sequence.specs.Accounts.{AreFresh}
 use Rattle.nv_cli.specs.Account.{begun}
-use Rattle.nv_cli.specs.Prepared.{VersionOf, Faulty, Loads, Prepared, Unknown, Refused, Ready, behind, checked, version_then, versions_from, ComesTo, IsVersionTold, AreVersionsTold, is_long, version_of}
-use Rattle.nv_outside.specs.Counts.{Rose}
+use Rattle.nv_cli.specs.Prepared.{Loads, Prepared, Unknown, Refused, Ready, behind, version_then, versions_from, ComesTo, IsVersionTold, AreVersionsTold, is_long, version_of}
 use Rattle.nv_cli.specs.Words.{Plan}
-use Rattle.nv_cli.specs.Prepared.{script_then, IsScriptTold, IsReached, prepared, is_script}
+use Rattle.nv_cli.specs.Prepared.{script_then, IsScriptTold, IsReached, is_script}
 use Rattle.nv_cli.specs.Refusals.{HasLoaded, AreLoaded, IsFault, VersionRefused, VersionsRefused, IsVersionReached, IsReadOf, Refuses}
 use Rattle.nv_cli.specs.declared.refusal.Refusal.{Refusal}
 use Rattle.nv_cli.specs.declared.refusal.Refusal.TheVariants.{Memory, Unreadable, Input}
 use Rattle.nv_cli.specs.declared.refusal.Place.{Place}
 use Rattle.nv_cli.specs.declared.refusal.Place.TheVariants.{Script, Version}
 use Rattle.nv_cli.specs.declared.refusal.Cause.{Cause}
-use Rattle.nv_cli.specs.declared.refusal.Cause.TheVariants.{Long}
 
 pub fresh_more : {P : Type 0} (g : Behaviour P) (i n : ℕ) (rs : List (Running P)) (r : Running P) → AreFresh g i rs → n ≡ i + length rs → IsFresh g n r → AreFresh g i (rs ++ r ∷ [])
 fresh_more g i n [] r all e h = (subst (λ (z : ℕ). IsFresh g z r) (omega (arith, e)) h, tt)
@@ -111,14 +109,14 @@ next_refused vs holds (n ∷ names) i zero name cause all at there h =
     let e : n ≡ name = same_Some n name at in
     let z : i + 0 ≡ i = omega arith in
     subst (λ (x : ℕ). ComesTo (version_then i (versions_from holds (i + 1) names) (holds n)) (Refused (Version x) cause)) (sym z)
-      (subst (λ (x : List ℕ). ComesTo (version_then i (versions_from holds (i + 1) names) (holds x)) (Refused (Version i) cause)) (sym e)
-      (refused_told i (versions_from holds (i + 1) names) (holds name) cause there h))
+    (subst (λ (x : List ℕ). ComesTo (version_then i (versions_from holds (i + 1) names) (holds x)) (Refused (Version i) cause)) (sym e)
+    (refused_told i (versions_from holds (i + 1) names) (holds name) cause there h))
 next_refused [] holds (n ∷ names) i (suc k) name cause all at there h = absurd all
 next_refused (v ∷ vs) holds (n ∷ names) i (suc k) name cause all at there h =
     let rest = next_refused vs holds names (i + 1) k name cause all.1 at there h in
     let z : i + suc k ≡ i + 1 + k = omega arith in
     subst (λ (x : ℕ). ComesTo (version_then i (versions_from holds (i + 1) names) (holds n)) (Refused (Version x) cause)) (sym z)
-      (by_told i (versions_from holds (i + 1) names) _ v (holds n) all.0 (put_refused all.0.machine (versions_from holds (i + 1) names) (i + 1 + k) cause rest))
+    (by_told i (versions_from holds (i + 1) names) _ v (holds n) all.0 (put_refused all.0.machine (versions_from holds (i + 1) names) (i + 1 + k) cause rest))
 
 pub take_next : {X : Type 0} (xs : List X) (k : ℕ) (x : X) → slice_get xs k ≡ Some x → take (k + 1) xs ≡ take k xs ++ x ∷ []
 take_next [] k x h = cc
@@ -133,8 +131,7 @@ versions_refused (Unreadable place) vs holds names k name told f0 f f' t0 t t' a
     (subst (λ (z : Place). IsVersionReached z holds names) (sym h.0) (slice_get_within names k name at, all_told vs holds (take k names) all), omega (arith, fs, h.1))
 versions_refused (Input place cause) vs holds names k name told f0 f f' t0 t t' all at is fs ts h =
     let there = subst (λ (z : Told). z ≢ Missing) is h.1 in
-    let fault = subst (λ (z : Told). (content : List ℕ) → z ≡ Content content → IsFault (is_long content) (version_of content) cause) is h.3 in
-    (
+    let fault = subst (λ (z : Told). (content : List ℕ) → z ≡ Content content → IsFault (is_long content) (version_of content) cause) is h.3 in (
       subst (λ (z : Place). IsVersionReached z holds names) (sym h.0) (slice_get_within names k name at, all_told vs holds (take k names) all),
       subst (λ (z : Place). ComesTo (versions_from holds 0 names) (Refused z cause)) (sym h.0) (subst (λ (n : ℕ). ComesTo (versions_from holds 0 names) (Refused (Version n) cause)) (omega arith) (next_refused vs holds names 0 k name cause all at there fault)),
       λ e. let long = h.2 e in omega (arith, ts, long),

@@ -1,5 +1,5 @@
 -- What the statuses of refused and of unreadable files show.
-use Rattle.std.proofs.Common.{◌≡◌, ◌⊎◌, inl, inr, ⊎_elim, ℕ, List, Bool, true, false, if◌then◌else◌, Option, [], ◌∷◌, map, ap, refl, arith}
+use Rattle.std.proofs.Common.{◌≡◌, inl, inr, ⊎_elim, ℕ, List, Bool, true, false, if◌then◌else◌, Option, [], ◌∷◌, map, ap, refl, arith}
 use Rattle.std.specs.Prelude.{◌||◌}
 use Rattle.nv_outside.specs.Told.{Grows}
 use Rattle.nv_outside.specs.declared.sink.Put.{Put}

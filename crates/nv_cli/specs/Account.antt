@@ -1,7 +1,7 @@
 -- A whole run.
 use Rattle.std.specs.Prelude.{◌≡◌, ℕ, List, map, if◌then◌else◌}
 use Rattle.std.specs.List.{list_any}
-use Rattle.nv_guest.specs.Machine.{Machine}
+use Rattle.nv_machine.specs.Guest.{Machine}
 use Rattle.nv_kernel.specs.Serving.{start_of_script}
 use Rattle.nv_threads.specs.Threads.{Proc, threads, started}
 use Rattle.nv_replay.specs.declared.standing.Standing.{Standing}

@@ -7,7 +7,13 @@ use Rattle.nv_outside.specs.Told.{Told}
 use Rattle.nv_outside.specs.Sink.{Puts}
 use Rattle.nv_outside.specs.declared.sink.Put.{Put}
 use Rattle.nv_outside.specs.declared.sink.Put.TheVariants.{Whole, Failed}
-use Rattle.nv_guest.specs.Machine.{Machine}
+use Rattle.nv_elf.specs.declared.program.ElfFault.{ElfFault}
+use Rattle.nv_elf.specs.declared.program.ElfFault.TheVariants.{Short, Magic, Class, Kind, Flags, Header, Interpreted, Outside, Overlap, Entry}
+use Rattle.nv_elf.specs.declared.program.ElfFault.TheVariants as elf
+use Rattle.nv_machine.specs.Guest.{Machine}
+use Rattle.nv_guest.specs.declared.outcome.GuestFault.{GuestFault}
+use Rattle.nv_guest.specs.declared.outcome.GuestFault.TheVariants.{NoRoom, Arguments}
+use Rattle.nv_guest.specs.declared.outcome.GuestFault.TheVariants as guest
 use Rattle.nv_cli.specs.Words.{Plan, plan_of}
 use Rattle.nv_calls.specs.Logs.{output_of}
 use Rattle.nv_kernel.specs.Serving.{start_of_script}
@@ -20,7 +26,7 @@ use Rattle.nv_cli.specs.declared.refusal.Refusal.TheVariants as refusal
 use Rattle.nv_cli.specs.declared.refusal.Place.{Place}
 use Rattle.nv_cli.specs.declared.refusal.Place.TheVariants.{Script, Version}
 use Rattle.nv_cli.specs.declared.refusal.Cause.{Cause}
-use Rattle.nv_cli.specs.declared.refusal.Cause.TheVariants.{Long, Unbuilt, Short, NoRoom}
+use Rattle.nv_cli.specs.declared.refusal.Cause.TheVariants.{Long, Unbuilt, Elf, Guest}
 
 -- The words are refused; memory is wanted before the run starts; a file can't be read; a file is refused; or a run has its account.
 pub data Outcome : Type 0 where
@@ -30,11 +36,30 @@ pub data Outcome : Type 0 where
   NotAccepted : List ℕ → Cause → Outcome
   Reported : Account → Outcome
 
+abbrev pub elf_text : ElfFault → List ℕ
+elf_text Short = codes "short"
+elf_text Magic = codes "magic"
+elf_text Class = codes "class"
+elf_text Kind = codes "type"
+elf_text elf.Machine = codes "machine"
+elf_text Flags = codes "flags"
+elf_text Header = codes "header"
+elf_text Interpreted = codes "interpreted"
+elf_text (Outside i) = codes "outside " ++ decimal i
+elf_text (Overlap i j) = codes "overlap " ++ (decimal i ++ (codes " " ++ decimal j))
+elf_text Entry = codes "entry"
+elf_text elf.Memory = codes "memory"
+
+abbrev pub guest_text : GuestFault → List ℕ
+guest_text (NoRoom i) = codes "no room " ++ decimal i
+guest_text Arguments = codes "arguments"
+guest_text guest.Memory = codes "memory"
+
 abbrev pub cause_text : Cause → List ℕ
 cause_text Long = codes "long"
 cause_text Unbuilt = codes "unbuilt"
-cause_text Short = codes "short"
-cause_text (NoRoom n) = codes "no room " ++ decimal n
+cause_text (Elf fault) = elf_text fault
+cause_text (Guest fault) = guest_text fault
 
 -- what is written
 abbrev pub text_of : Outcome → List ℕ

@@ -1,20 +1,18 @@
 -- What the files of a run come to, as far as the source tells them.
-use Rattle.std.specs.Prelude.{◌≡◌, ◌≢◌, ◌≤◌, ◌<◌, ◌+◌, ◌-◌, ◌^◌, ℕ, List, [], ◌∷◌, ◌++◌, Bool, true, false, ◌||◌, if◌then◌else◌, min, nat_lt, length, take, codes}
+use Rattle.std.specs.Prelude.{◌≡◌, ◌≤◌, ◌<◌, ◌+◌, ◌-◌, ◌^◌, ℕ, List, [], ◌∷◌, ◌++◌, Bool, true, false, ◌||◌, if◌then◌else◌, min, nat_lt, length, take, codes}
 use Rattle.std.specs.Str.{bytes_eq}
-use Rattle.nv_outside.specs.Counts.{Rose}
 use Rattle.nv_outside.specs.Told.{Told, Untold, Missing, Content}
 use Rattle.nv_elf.specs.Elf.{ElfOf, elf_of}
 use Rattle.nv_elf.specs.Elf as elf
-use Rattle.nv_elf.specs.declared.program.ElfFault.{ElfFault}
-use Rattle.nv_elf.specs.declared.program.ElfFault.TheVariants as elf_fault
-use Rattle.nv_guest.specs.Machine.{Machine}
+use Rattle.nv_machine.specs.Guest.{Machine}
+use Rattle.nv_guest.specs.declared.outcome.GuestFault.TheVariants.{NoRoom, Arguments}
 use Rattle.nv_guest.specs.Load.{Loaded, loaded}
 use Rattle.nv_guest.specs.Load as load
 use Rattle.nv_cli.specs.Words.{Plan}
 use Rattle.nv_cli.specs.declared.refusal.Place.{Place}
 use Rattle.nv_cli.specs.declared.refusal.Place.TheVariants.{Script, Version}
 use Rattle.nv_cli.specs.declared.refusal.Cause.{Cause}
-use Rattle.nv_cli.specs.declared.refusal.Cause.TheVariants.{Long, Unbuilt, Short, NoRoom}
+use Rattle.nv_cli.specs.declared.refusal.Cause.TheVariants.{Long, Unbuilt, Elf, Guest}
 
 -- the machine that a version file loads, or why it is refused
 pub data VersionOf : Type 0 where
@@ -22,19 +20,15 @@ pub data VersionOf : Type 0 where
   Loads : Machine → VersionOf
 
 abbrev pub of_loaded : Loaded → VersionOf
-of_loaded (load.NoRoomFor n) = Faulty (NoRoom n)
+of_loaded (load.NoRoomFor n) = Faulty (Guest (NoRoom n))
+of_loaded load.NoRoomForArguments = Faulty (Guest Arguments)
 of_loaded (load.Ready machine) = Loads machine
 
-abbrev pub cause_of : ElfFault → Cause
-cause_of elf_fault.Short = Short
-cause_of elf_fault.Unbuilt = Unbuilt
-cause_of elf_fault.Memory = Unbuilt
-
 abbrev pub of_elf : ElfOf → VersionOf
-of_elf (elf.Refused fault) = Faulty (cause_of fault)
-of_elf (elf.Accepted image) = of_loaded (loaded image 1048576)
+of_elf (elf.Refused fault) = Faulty (Elf fault)
+of_elf (elf.Accepted image) = of_loaded (loaded image [] 1048576)
 
--- what a version file comes to; a guest has 1048576 bytes
+-- what a version file comes to; a guest has 1048576 bytes, and no argument behind its name
 unfoldable pub version_of : List ℕ → VersionOf
 version_of bytes = of_elf (elf_of bytes)
 

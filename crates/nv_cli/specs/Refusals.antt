@@ -3,7 +3,7 @@ use Rattle.std.specs.Prelude.{◌≡◌, ◌≢◌, ◌≤◌, ◌<◌, ℕ, Lis
 use Rattle.nv_outside.specs.Counts.{Rose}
 use Rattle.nv_outside.specs.Told.{Told, Missing, Content}
 use Rattle.nv_cli.specs.Words.{Plan}
-use Rattle.nv_guest.specs.Machine.{Machine}
+use Rattle.nv_machine.specs.Guest.{Machine}
 use Rattle.nv_threads.specs.Threads.{Proc, threads}
 use Rattle.nv_replay.specs.Versions.{Running, process_of}
 use Rattle.nv_sequence.specs.Accounts.{AreFresh}

@@ -59,14 +59,13 @@ fn load(alloc: Global, bytes: &[u8], place: Place) -> Result<Guest, Refusal>
 {
     let program = match nv_elf::read(alloc, bytes) {
         Ok(program) => program,
-        Err(ElfFault::Short) => return Err(Refusal::Input(place, Cause::Short)),
-        Err(ElfFault::Unbuilt) => return Err(Refusal::Input(place, Cause::Unbuilt)),
         Err(ElfFault::Memory) => return Err(Refusal::Memory),
+        Err(fault) => return Err(Refusal::Input(place, Cause::Elf(fault))),
     };
-    match Guest::make(alloc, &program, MEMORY) {
+    match Guest::make(alloc, &program, &[], MEMORY) {
         Ok(guest) => Ok(guest),
-        Err(GuestFault::NoRoom(number)) => Err(Refusal::Input(place, Cause::NoRoom(number))),
         Err(GuestFault::Memory) => Err(Refusal::Memory),
+        Err(fault) => Err(Refusal::Input(place, Cause::Guest(fault))),
     }
 }
 

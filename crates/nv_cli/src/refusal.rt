@@ -2,6 +2,8 @@
 ghost use Rattle.std.specs.Prelude.{◌≡◌};
 ghost use Rattle.nv_cli.specs.declared.refusal.Refusal.TheVariants.{Memory};
 
+use nv_elf::ElfFault;
+use nv_guest::GuestFault;
 use std::alloc::{AllocError, AllocFailed};
 
 /// A file of the reading order: the script, or the version with this number.
@@ -14,10 +16,14 @@ pub enum Place {
 /// Why a file is refused.
 #[derive(Clone, Copy, Debug, PartialEq, Eq)]
 pub enum Cause {
+    /// More than 4,194,304 bytes.
     Long,
+    /// A script of a form that isn't read so far.
     Unbuilt,
-    Short,
-    NoRoom(u32),
+    /// A version that is no file of a program.
+    Elf(ElfFault),
+    /// A version whose program has no room in a guest.
+    Guest(GuestFault),
 }
 
 /// Why a run doesn't start.

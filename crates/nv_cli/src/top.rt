@@ -3,7 +3,7 @@ ghost use Rattle.std.specs.Prelude.{◌≡◌, ◌≢◌, ◌≤◌, ◌⊎◌, 
 ghost use Rattle.std.specs.List.{concat, list_any};
 ghost use Rattle.nv_outside.specs.Counts.{Rose};
 ghost use Rattle.nv_outside.specs.Sink.{Puts};
-ghost use Rattle.nv_guest.specs.Machine.{Machine};
+ghost use Rattle.nv_machine.specs.Guest.{Machine};
 ghost use Rattle.nv_threads.specs.Threads.{threads};
 ghost use Rattle.nv_replay.specs.Follow.{is_exited};
 ghost use Rattle.nv_replay.specs.Lead.{is_memory};
@@ -14,13 +14,15 @@ ghost use Rattle.nv_cli.specs.Words.{Plan, plan_of, texts};
 ghost use Rattle.nv_cli.specs.Prepared.{prepared, Ready, Refused};
 ghost use Rattle.nv_cli.specs.declared.refusal.Place.{Place};
 ghost use Rattle.nv_cli.specs.declared.refusal.Cause.{Cause};
-ghost use Rattle.nv_cli.specs.Outcome.{Says, Answers, Ran, Usage, ended_with, name_of, cause_text, outcome_of, status_of, text_of, source_of};
+ghost use Rattle.nv_cli.specs.Outcome.{Says, Answers, Ran, Usage, ended_with, name_of, elf_text, guest_text, cause_text, outcome_of, status_of, text_of, source_of};
 ghost use Rattle.nv_cli.specs.Rows.{IsReport, Reports, WantsMemory, Refuses, FailsToRead, FailsToWrite};
 
 use crate::prepare::prepare;
 use crate::refusal::{Cause, Place, Refusal};
 use crate::words::run_of;
 use itoa::Buffer;
+use nv_elf::ElfFault;
+use nv_guest::GuestFault;
 use nv_kernel::ScriptKernel;
 use nv_outside::{Files, Gate, Put, Sink, put_all, put_pieces};
 use nv_replay::{Fate, Version};
@@ -116,18 +118,69 @@ fn put_line<S: Sink>(sink: &mut S, line: &[u8], line_status: u8) -> u8
     ended(put, line_status)
 }
 
-fn put_cause<S: Sink>(sink: &mut S, cause: Cause) -> Put
-    ensures { Puts (S.told sink.old) (S.faults sink.old) (cause_text cause ++ codes "\n") result (S.told sink.new) (S.faults sink.new) }
+fn put_elf_fault<S: Sink>(sink: &mut S, fault: ElfFault) -> Put
+    ensures { Puts (S.told sink.old) (S.faults sink.old) (elf_text fault) result (S.told sink.new) (S.faults sink.new) }
+{
+    let mut first = Buffer::new();
+    let mut second = Buffer::new();
+    match fault {
+        ElfFault::Short => put_all(sink, b"short"),
+        ElfFault::Magic => put_all(sink, b"magic"),
+        ElfFault::Class => put_all(sink, b"class"),
+        ElfFault::Kind => put_all(sink, b"type"),
+        ElfFault::Machine => put_all(sink, b"machine"),
+        ElfFault::Flags => put_all(sink, b"flags"),
+        ElfFault::Header => put_all(sink, b"header"),
+        ElfFault::Interpreted => put_all(sink, b"interpreted"),
+        ElfFault::Outside(index) => put_pieces(
+            sink,
+            &[b"outside ", first.format(index).as_bytes()],
+        ),
+        ElfFault::Overlap(lower, higher) => put_pieces(
+            sink,
+            &[
+                b"overlap ",
+                first.format(lower).as_bytes(),
+                b" ",
+                second.format(higher).as_bytes(),
+            ],
+        ),
+        ElfFault::Entry => put_all(sink, b"entry"),
+        ElfFault::Memory => put_all(sink, b"memory"),
+    }
+}
+
+fn put_guest_fault<S: Sink>(sink: &mut S, fault: GuestFault) -> Put
+    ensures { Puts (S.told sink.old) (S.faults sink.old) (guest_text fault) result (S.told sink.new) (S.faults sink.new) }
 {
     let mut buffer = Buffer::new();
-    match cause {
-        Cause::Long => put_all(sink, b"long\n"),
-        Cause::Unbuilt => put_all(sink, b"unbuilt\n"),
-        Cause::Short => put_all(sink, b"short\n"),
-        Cause::NoRoom(number) => put_pieces(
+    match fault {
+        GuestFault::NoRoom(index) => put_pieces(
             sink,
-            &[b"no room ", buffer.format(number).as_bytes(), b"\n"],
+            &[b"no room ", buffer.format(index).as_bytes()],
         ),
+        GuestFault::Arguments => put_all(sink, b"arguments"),
+        GuestFault::Memory => put_all(sink, b"memory"),
+    }
+}
+
+fn put_cause<S: Sink>(sink: &mut S, cause: Cause) -> Put
+    ensures { Puts (S.told sink.old) (S.faults sink.old) (cause_text cause) result (S.told sink.new) (S.faults sink.new) }
+{
+    match cause {
+        Cause::Long => put_all(sink, b"long"),
+        Cause::Unbuilt => put_all(sink, b"unbuilt"),
+        Cause::Elf(fault) => put_elf_fault(sink, fault),
+        Cause::Guest(fault) => put_guest_fault(sink, fault),
+    }
+}
+
+fn put_cause_line<S: Sink>(sink: &mut S, cause: Cause) -> Put
+    ensures { Puts (S.told sink.old) (S.faults sink.old) (cause_text cause ++ codes "\n") result (S.told sink.new) (S.faults sink.new) }
+{
+    match put_cause(sink, cause) {
+        Put::Whole => put_all(sink, b"\n"),
+        Put::Failed => Put::Failed,
     }
 }
 
@@ -138,7 +191,7 @@ fn put_input<S: Sink>(sink: &mut S, name: &str, cause: Cause) -> Put
         (S.told sink.new) (S.faults sink.new) }
 {
     match put_pieces(sink, &[b"varan: input ", name.as_bytes(), b": "]) {
-        Put::Whole => put_cause(sink, cause),
+        Put::Whole => put_cause_line(sink, cause),
         Put::Failed => Put::Failed,
     }
 }
@@ -148,7 +201,9 @@ fn name<'a>(place: Place, script: &'a str, versions: &'a [String]) -> &'a str
 {
     match place {
         Place::Script => script,
-        Place::Version(index) => versions.get(index as usize).map_or("", |name| name.as_str()),
+        Place::Version(index) => versions
+            .get(index as usize)
+            .map_or("", |name| name.as_str()),
     }
 }
 

@@ -38,7 +38,7 @@ fn are_versions(words: &[String]) -> bool
 pub fn run_of(words: &[String]) -> Option<Run<'_>>
     ensures plan { MatchOption result (plan_of (texts words.now) ≡ None)
         (λ run. (plan_of (texts words.now) ≡ Some (record { script = run.script.now; versions = texts run.versions.now }))
-            × (length run.versions.now ≤ 8)) }
+        × (length run.versions.now ≤ 8)) }
 {
     let [_, command, option, script, versions @ ..] = words else {
         return None;

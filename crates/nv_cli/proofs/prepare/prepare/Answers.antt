@@ -1,10 +1,10 @@
-use Rattle.std.proofs.Common.{◌≡◌, ◌∙◌, sym, ap, subst, ℕ, List, length, true, arith}
+use Rattle.std.proofs.Common.{◌≡◌, ◌∙◌, sym, ap, subst, ℕ, List, true, arith}
 use Rattle.std.proofs.lemmas.List.{length-map}
 use Rattle.std.specs.Prelude.{string_bytes}
 use Rattle.nv_outside.specs.Told.{Told}
-use Rattle.nv_cli.specs.Words.{Plan, texts}
+use Rattle.nv_cli.specs.Words.{texts}
 use Rattle.nv_cli.specs.Prepared.{Ready, versions_from, is_script}
-use Rattle.nv_cli.specs.Refusals.{AreLoaded, VersionsRefused}
+use Rattle.nv_cli.specs.Refusals.{AreLoaded}
 use Rattle.nv_cli.proofs.Loading.{all_ready, script_accepted, run_refused_by, length-loaded}
 use Rattle.nv_cli.proofs.prepare.prepare.Goals as goal
 
@@ -31,4 +31,4 @@ returns-clause-refused g c =
     let same : g.F.Files.holds c.read_file.new.files ≡ holds = λ j name. c.in_ok-bytes.ensures.same name j in
     let accepted : is_script c.in_ok-bytes.bytes.items ≡ true = ap is_script (sym c.deref.ensures.value) ∙ sym c.accepts_script.ensures ∙ c.if-not-accepts_script.false in
     run_refused_by c.in-Err.refusal holds (g.F.Files.holds c.read_file.new.files) (record { script = c.args.script.now; versions = names }) c.in_ok-bytes.bytes.items _ _ _ _ _ _
-      same c.in_ok-bytes.ensures.bytes accepted c.in_ok-bytes.ensures.faults c.in_ok-bytes.ensures.taken c.in-Err.ensures.refused
+    same c.in_ok-bytes.ensures.bytes accepted c.in_ok-bytes.ensures.faults c.in_ok-bytes.ensures.taken c.in-Err.ensures.refused

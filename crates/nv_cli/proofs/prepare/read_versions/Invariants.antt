@@ -1,4 +1,4 @@
-use Rattle.std.proofs.Common.{◌≡◌, ◌≤◌, ℕ, List, length, take}
+use Rattle.std.proofs.Common.{◌≡◌, ◌≤◌, ℕ, List, take}
 use Rattle.nv_threads.specs.Threads.{threads}
 use Rattle.nv_sequence.specs.Accounts.{AreFresh}
 use Rattle.nv_cli.specs.Words.{texts}

@@ -1,5 +1,4 @@
-use Rattle.std.proofs.Common.{◌≡◌, ◌∙◌, ap, sym, subst, ℕ, List, map}
-use Rattle.nv_guest.specs.Machine.{Machine}
+use Rattle.std.proofs.Common.{◌∙◌, ap, subst, List, map}
 use Rattle.nv_kernel.specs.Serving.{start_of_script}
 use Rattle.nv_threads.specs.Threads.{Proc, threads}
 use Rattle.nv_replay.specs.Follow.{no_rules}
