@@ -1,5 +1,5 @@
 -- Where the regions of a loaded program lie.
-use Rattle.std.proofs.Common.{◌≡◌, ℕ, suc, zero, ◌+◌, ◌-◌, ◌*◌, ◌/◌, ◌%◌, ◌<◌, ◌≤◌, Bool, true, false, ◌&&◌, ◌||◌, ◌==◌, nat_lt, nat_le, cond, List, [], ◌∷◌, ◌++◌, Option, Some, None, option_map, is_none, ◌⊎◌, inl, inr, length, map, max, refl, sym, ap, ◌∙◌, subst, arith, All}
+use Rattle.std.proofs.Common.{◌≡◌, ℕ, ◌+◌, ◌-◌, ◌%◌, ◌≤◌, Bool, true, false, ◌&&◌, ◌==◌, nat_lt, nat_le, cond, List, [], ◌∷◌, ◌++◌, Option, Some, None, option_map, is_none, inl, inr, length, map, refl, arith, All}
 use Rattle.std.specs.Prelude.{IsTrue}
 use Rattle.std.specs.Option.{option_or}
 use Rattle.std.specs.List.{AllByRecursion, list_any, position_from}
@@ -7,10 +7,10 @@ use Rattle.std.proofs.lemmas.Bool.{and_parts, cases_Bool, or_left, or_right, eqb
 use Rattle.std.proofs.lemmas.Bool.Decides.{nat_tests}
 use Rattle.std.proofs.lemmas.List.Elements.{All-from_recursion}
 use Rattle.nv_elf.specs.Elf.{Range, Image, range_of, range_extent, shares, overlap_from, is_entry}
-use Rattle.nv_elf.specs.Written.{is_program, is_sound}
+use Rattle.nv_elf.specs.Written.{is_program}
 use Rattle.nv_elf.specs.declared.program.Segment.{Segment}
 use Rattle.nv_memory.specs.declared.region.Region.{Region}
-use Rattle.nv_memory.specs.Regions.{Apart, IsWithin, AreRegions, has_range}
+use Rattle.nv_memory.specs.Regions.{Apart, AreRegions, has_range}
 use Rattle.nv_guest.specs.Load.{first_beyond, highest, heap_start, region_of, data_region, regions_of, IsMemorySize}
 
 -- what the loader uses of a program
@@ -132,13 +132,3 @@ all_lie (s ∷ ss) others =
 
 pub segments_lie : (segments : List Segment) (size : ℕ) → All (λ s. IsTrue (list_any (has_range s.address (length s.bytes.items)) (regions_of (map range_of segments) size))) segments
 segments_lie segments size = All-from_recursion _ segments (all_lie segments (data_region (size - 65536) size ∷ data_region (heap_start (map range_of segments)) (heap_start (map range_of segments)) ∷ []))
-
-behind : (p : Region → Bool) (front back : List Region) → list_any p back ≡ true → list_any p (front ++ back) ≡ true
-behind p [] back h = h
-behind p (r ∷ rs) back h = or_right _ _ (behind p rs back h)
-
--- the top of the memory lies in the stack
-pub top_lies : (ranges : List Range) (size a : ℕ) → a ≤ size → size - a ≤ 65536 → IsTrue (list_any (has_range a (size - a)) (regions_of ranges size))
-top_lies ranges size a le small =
-    let here : has_range a (size - a) (data_region (size - 65536) size) ≡ true = grind (arith, nat_tests) in
-    behind (has_range a (size - a)) (map region_of ranges) _ (or_left _ _ here)

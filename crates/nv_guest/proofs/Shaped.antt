@@ -1,5 +1,5 @@
 -- A write that the guest asks for has the form of a call.
-use Rattle.std.proofs.Common.{◌≡◌, ℕ, zero, suc, ◌+◌, List, [], ◌∷◌, Bool, true, false, not, if◌then◌else◌, length, refl, ap, arith}
+use Rattle.std.proofs.Common.{◌≡◌, ℕ, zero, suc, ◌+◌, List, [], Bool, true, false, not, if◌then◌else◌, length, refl, arith}
 use Rattle.nv_calls.specs.Shapes.{IsShaped}
 use Rattle.nv_memory.specs.Bytes.{bytes_at}
 use Rattle.nv_machine.specs.Guest.{Machine}

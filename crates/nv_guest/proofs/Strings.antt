@@ -3,10 +3,9 @@ use Rattle.std.proofs.Common.{◌≡◌, ℕ, suc, zero, ◌+◌, ◌*◌, ◌<�
 use Rattle.std.specs.Prelude.{map}
 use Rattle.nv_memory.specs.Bytes.{put, little_bytes}
 use Rattle.nv_memory.specs.BytesLaws.{put_append}
-use Rattle.std.proofs.Common.{Vec, Global, Option, Some, None, nat_le, vec_len, cond}
+use Rattle.std.proofs.Common.{Vec, Global, Some, None, nat_le, vec_len, cond}
 use Rattle.std.proofs.lemmas.Bool.Decides.{nat_tests}
 use Rattle.std.proofs.lemmas.Grind.{common_steps}
-use Rattle.std.specs.List.{flat_map}
 use Rattle.std.proofs.Common.{replicate}
 use Rattle.nv_guest.specs.Block.{strings, addresses, words, stack_words, all_arguments}
 use Rattle.nv_guest.specs.Load.{texts_of}

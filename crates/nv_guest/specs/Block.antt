@@ -1,5 +1,5 @@
 -- The argument block at the top of a guest's memory: RISC-V ELF psABI and System V ABI, the initial process stack.
-use Rattle.std.specs.Prelude.{ℕ, ◌+◌, ◌-◌, ◌*◌, ◌/◌, Bool, nat_le, List, [], ◌∷◌, ◌++◌, length, codes}
+use Rattle.std.specs.Prelude.{ℕ, ◌+◌, ◌-◌, ◌*◌, ◌/◌, List, [], ◌∷◌, ◌++◌, length, codes}
 use Rattle.std.specs.List.{flat_map}
 use Rattle.nv_memory.specs.Bytes.{put, little_bytes}
 

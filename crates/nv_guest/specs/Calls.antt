@@ -1,5 +1,5 @@
 -- Calls as the machine makes them, in Linux's convention for RISC-V (syscall(2)): number in a7, arguments in a0 to a5, result in a0.
-use Rattle.std.specs.Prelude.{ℕ, ◌+◌, min, List, [], ◌∷◌, Bool, false, not, ◌||◌, ℤ, if◌then◌else◌, ◌==◌}
+use Rattle.std.specs.Prelude.{ℕ, ◌+◌, min, [], ◌∷◌, Bool, false, not, ◌||◌, ℤ, if◌then◌else◌, ◌==◌}
 use Rattle.std.specs.Int.{w32, cast_unsigned}
 use Rattle.nv_calls.specs.Calls.{Request}
 use Rattle.nv_memory.specs.declared.region.Right.TheVariants.{Read}

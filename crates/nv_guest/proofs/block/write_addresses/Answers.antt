@@ -1,7 +1,7 @@
 use Rattle.std.proofs.Common.{◌≡◌, ◌+◌, ◌*◌, ◌∙◌, sym, ap, length, drop, arith}
 use Rattle.nv_memory.specs.Image.{Image}
 use Rattle.nv_memory.specs.RegionsLaws.{part_of}
-use Rattle.nv_guest.specs.Block.{strings, words, addresses}
+use Rattle.nv_guest.specs.Block.{strings}
 use Rattle.nv_guest.specs.Load.{texts_of}
 use Rattle.nv_memory.specs.Bytes.{put, little_bytes}
 use Rattle.nv_guest.proofs.Strings.{size_after, addresses_after, length-items}

@@ -1,4 +1,4 @@
-use Rattle.std.proofs.Common.{◌≡◌, ◌+◌, ◌*◌, ◌≤◌, length, drop, map}
+use Rattle.std.proofs.Common.{◌≡◌, ◌+◌, ◌*◌, length, drop, map}
 use Rattle.nv_memory.specs.Bytes.{put}
 use Rattle.nv_guest.specs.Block.{strings, addresses, words}
 use Rattle.nv_guest.proofs.block.write_addresses.Given as goal

@@ -1,4 +1,4 @@
-use Rattle.std.proofs.Common.{◌≡◌, ℕ, ◌+◌, ◌∙◌, ◌++◌, ◌∷◌, [], List, length, drop, map, arith, sym, ap, refl, Vec, Global}
+use Rattle.std.proofs.Common.{◌≡◌, ℕ, ◌+◌, ◌∙◌, ◌++◌, ◌∷◌, [], length, drop, map, arith, sym, ap, Vec, Global}
 use Rattle.nv_guest.specs.Block.{strings}
 use Rattle.nv_memory.specs.Image.{Image}
 use Rattle.nv_memory.specs.Bytes.{put}

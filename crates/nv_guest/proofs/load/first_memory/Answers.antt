@@ -1,4 +1,4 @@
-use Rattle.std.proofs.Common.{◌≡◌, ◌-◌, List, All, None, ap, sym, subst, ◌∙◌, map, length}
+use Rattle.std.proofs.Common.{◌≡◌, ◌-◌, List, All, ap, sym, subst, ◌∙◌, map, length}
 use Rattle.std.specs.Prelude.{IsTrue}
 use Rattle.std.specs.List.{list_any}
 use Rattle.nv_elf.specs.Elf.{range_of, image_of}
