@@ -16,7 +16,8 @@ returns-in-Failed g c =
 pub returns-in-Whole-put_result : goal.returns-in-Whole-put_result
 returns-in-Whole-put_result g c =
     let end = puts-is (ap (λ call. payload_text call c.as_slice-in-Whole-put_result.result.now ++ codes "\n") c.as_slice.ensures.bytes
-    ∙ ap (λ reply. payload_text c.args.event.now.call.payload.bytes reply ++ codes "\n") c.as_slice-in-Whole-put_result.ensures.bytes) c.put_end.ensures in
+    ∙ ap (λ reply. payload_text c.args.event.now.call.payload.bytes reply ++ codes "\n") c.as_slice-in-Whole-put_result.ensures.bytes)
+        c.put_end.ensures in
     puts-then c.in-Whole.ensures (puts-then c.in-Whole-put_result.ensures end)
 
 pub returns-in-Failed-put_result : goal.returns-in-Failed-put_result

@@ -10,4 +10,5 @@ use Rattle.nv_report.proofs.events.put_events.Goals as goal
 pub returns-in-Failed : goal.returns-in-Failed
 returns-in-Failed g c =
     let item = puts-is (ap (λ (event : Event). event_text (entry event)) c.event-item.is) c.in-Failed.ensures in
-    puts-stopped (λ event. event_text (entry event)) c.args.log.now c.loop-event.event-index c.event-item.result c.loop-event-test.true c.loop-event.invariant item
+    puts-stopped (λ event. event_text (entry event)) c.args.log.now c.loop-event.event-index c.event-item.result c.loop-event-test.true
+        c.loop-event.invariant item

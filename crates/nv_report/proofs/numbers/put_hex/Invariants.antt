@@ -8,4 +8,5 @@ use Rattle.nv_report.proofs.numbers.put_hex.Given as goal
 
 abbrev pub invariant-loop-byte : goal.invariant-loop-byte
 invariant-loop-byte g l =
-    Puts (g.S.Sink.told l.fn.sink) (g.S.Sink.faults l.fn.sink) (flat_map hex_pair (take l.byte-index l.bytes)) Whole (g.S.Sink.told l.sink) (g.S.Sink.faults l.sink)
+    Puts (g.S.Sink.told l.fn.sink) (g.S.Sink.faults l.fn.sink) (flat_map hex_pair (take l.byte-index l.bytes)) Whole (g.S.Sink.told l.sink)
+        (g.S.Sink.faults l.sink)

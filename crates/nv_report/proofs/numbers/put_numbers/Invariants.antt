@@ -8,4 +8,5 @@ use Rattle.nv_report.proofs.numbers.put_numbers.Given as goal
 
 abbrev pub invariant-loop-number : goal.invariant-loop-number
 invariant-loop-number g l =
-    Puts (g.S.Sink.told l.fn.sink) (g.S.Sink.faults l.fn.sink) (flat_map number_text (take l.number-index l.numbers)) Whole (g.S.Sink.told l.sink) (g.S.Sink.faults l.sink)
+    Puts (g.S.Sink.told l.fn.sink) (g.S.Sink.faults l.fn.sink) (flat_map number_text (take l.number-index l.numbers)) Whole
+        (g.S.Sink.told l.sink) (g.S.Sink.faults l.sink)

@@ -8,4 +8,5 @@ pub returns-in-Whole : goal.returns-in-Whole
 returns-in-Whole g c = puts-is (ap led_text (sym c.in-Some.ensures.cases.0)) (puts-then c.in-Whole.ensures c.put_more_spans.ensures)
 
 pub returns-in-Failed : goal.returns-in-Failed
-returns-in-Failed g c = puts-is (ap led_text (sym c.in-Some.ensures.cases.0)) (puts-failed (flat_map next_span_text c.in-Some.others.now) c.in-Failed.ensures)
+returns-in-Failed g c = puts-is (ap led_text (sym c.in-Some.ensures.cases.0))
+    (puts-failed (flat_map next_span_text c.in-Some.others.now) c.in-Failed.ensures)
