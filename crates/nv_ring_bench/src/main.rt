@@ -17,7 +17,7 @@ const SMALL_EVENTS: u32 = 100_000;
 const LARGE_EVENTS: u32 = 10_000;
 
 fn main(rt: HostRuntime) -> io::Result<()> {
-    let words = env::args(&rt)?.collect(rt.alloc())?;
+    let words: Vec<String> = env::args(&rt)?.collect(rt.alloc())?;
     let name = match words.get(1) {
         Some(name) => name.as_str(),
         None => "ring-6-1",
@@ -28,9 +28,9 @@ fn main(rt: HostRuntime) -> io::Result<()> {
 
 // Runs what the name says, and gives how many events were seen in all.
 fn measure<R: Threads + Sync>(rt: &R, alloc: Global, name: &str) -> Result<u64, AllocError> {
-    let mut events = 0;
+    let mut events: u64 = 0;
     for _round in 0..ROUNDS {
-        events += match name {
+        let seen = match name {
             "ring-6-0" => ring::run_room(rt, alloc, 0, SMALL_EVENTS, 1)?,
             "ring-6-1" => ring::run_room(rt, alloc, 0, SMALL_EVENTS, 2)?,
             "ring-6-2" => ring::run_room(rt, alloc, 0, SMALL_EVENTS, 3)?,
@@ -42,7 +42,8 @@ fn measure<R: Threads + Sync>(rt: &R, alloc: Global, name: &str) -> Result<u64, 
             "rtrb-6" => queue::run(rt, alloc, 6, SMALL_EVENTS)?,
             "rtrb-518" => queue::run(rt, alloc, 518, LARGE_EVENTS)?,
             _ => 0,
-        } as u64;
+        };
+        events = events.saturating_add(seen);
     }
     Ok(events)
 }

@@ -9,7 +9,7 @@ use std::thread::{Threads, join, yield_now};
 const PLACES: u32 = 64;
 
 /// How many events' words came through.
-pub fn run<R: Threads>(rt: &R, alloc: Global, words: u32, events: u32) -> Result<u32, AllocError>
+pub fn run<R: Threads>(rt: &R, alloc: Global, words: u32, events: u32) -> Result<u64, AllocError>
     requires words { words ≤ 518 }
     requires events { events ≤ 131072 }
 {
@@ -20,7 +20,7 @@ pub fn run<R: Threads>(rt: &R, alloc: Global, words: u32, events: u32) -> Result
         move || push_all(producer, count),
         move || pop_all(consumer, count),
     );
-    Ok(came.checked_div(words).unwrap_or(0))
+    Ok(came.checked_div(words).unwrap_or(0) as u64)
 }
 
 fn push_all(mut producer: Producer<u64, Global>, count: u32) {

@@ -22,7 +22,7 @@ pub fn run_room<R: Threads + Sync>(
     bytes: u32,
     events: u32,
     versions: u32,
-) -> Result<u32, AllocError>
+) -> Result<u64, AllocError>
     requires bytes { bytes ≤ 4096 }
     requires events { events ≤ 131072 }
     requires versions { (0 < versions) × (versions ≤ 8) }
@@ -37,19 +37,19 @@ pub fn run_room<R: Threads + Sync>(
         PLACES,
     )?;
     Ok(match ended.seen.last() {
-        Some(seen) => *seen,
+        Some(seen) => *seen as u64,
         None => 0,
     })
 }
 
 /// The same calls on the kernel alone.
-pub fn run_kernel(alloc: Global, bytes: u32, events: u32) -> Result<u32, AllocError>
+pub fn run_kernel(alloc: Global, bytes: u32, events: u32) -> Result<u64, AllocError>
     requires bytes { bytes ≤ 4096 }
     requires events { events ≤ 131072 }
 {
     let script = script(alloc, bytes, events)?;
     let kernel = serve_all(ScriptKernel::make(alloc), &script);
-    Ok(kernel.history().len() as u32)
+    Ok(kernel.history().len() as u64)
 }
 
 fn script(alloc: Global, bytes: u32, events: u32) -> Result<Script, AllocError>
