@@ -1,0 +1,4 @@
+pub mod Regions
+pub mod Going
+pub mod Rooms
+pub mod Shaped

@@ -1,0 +1,3 @@
+pub mod Sixes
+pub mod Keeping
+pub mod Printing
