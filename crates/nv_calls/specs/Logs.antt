@@ -4,6 +4,7 @@ use mathlib.Core.Option.{some}
 use lib.ListN.{get_elem?}
 use mir.Val.{SFits}
 use mir.Syntax.{w32}
+use Rattle.nv_calls.specs.Held.{AreBytes}
 use Rattle.nv_calls.specs.Calls.{Request, Response, Entry}
 
 -- 220 is clone
@@ -46,6 +47,8 @@ pub record InRange (e : Entry) : Type 0 where
   pub six : length e.call.args ≡ 6
   pub args : (i x : ℕ) → get_elem? e.call.args i ≡ some x → x < 2 ^ 32
   pub ret : SFits w32 e.reply.ret
+  pub call_bytes : AreBytes e.call.payload
+  pub reply_bytes : AreBytes e.reply.payload
   pub short : length e.call.payload + length e.reply.payload ≤ 4096
 
 -- an entry that may stand behind n others, after which these threads live

@@ -1,5 +1,6 @@
 // Bytes with room that was taken in advance.
 ghost use Rattle.std.specs.Prelude.{◌≡◌, ◌≤◌, [], ℕ, length, take, IfOk};
+ghost use Rattle.nv_calls.specs.Held.{AreBytes};
 
 use std::alloc::{AllocError, Global};
 use std::marker::Model;
@@ -49,9 +50,11 @@ impl Bytes {
 
     /// The bytes that it holds.
     pub fn as_slice(&self) -> &[u8]
-        ensures { result.now ≡ self.now.bytes }
+        ensures bytes { result.now ≡ self.now.bytes }
+        ensures below { AreBytes self.now.bytes }
     {
-        &self.held[..self.len]
+        let held = self.held.as_slice();
+        first(held, self.len)
     }
 }
 
@@ -60,4 +63,12 @@ fn copy_front(out: &mut [u8], bytes: &[u8])
     ensures { take (length bytes.now) out.new ≡ bytes.now }
 {
     out[..bytes.len()].copy_from_slice(bytes);
+}
+
+fn first(held: &[u8], len: usize) -> &[u8]
+    requires { len ≤ length held.now }
+    ensures bytes { result.now ≡ take len held.now }
+    ensures below { AreBytes result.now }
+{
+    &held[..len]
 }

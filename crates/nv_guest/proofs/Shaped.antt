@@ -24,5 +24,5 @@ write_is_shaped g tid = record {
   plain = (tt, (refl, (tt, (refl, (refl, (refl, tt))))));
   bad = λ _. refl;
   payload = length-part (may_read g.regions.items (slice_index g.registers 11) (count_in (machine_of g))) (count_in (machine_of g)) (slice_index g.registers 11) g.memory.items
-    (λ readable some. let fits = readable-within g.regions.items (slice_index g.registers 11) (count_in (machine_of g)) _ g.within some readable in omega (arith, fits, length-memory g));
+      (λ readable some. let fits = readable-within g.regions.items (slice_index g.registers 11) (count_in (machine_of g)) _ g.within some readable in omega (arith, fits, length-memory g));
 }

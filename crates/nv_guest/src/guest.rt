@@ -1,5 +1,5 @@
 // A guest with one thread.
-ghost use Rattle.std.specs.Prelude.{◌≡◌, ◌≢◌, ◌≤◌, ◌<◌, ◌-◌, ◌^◌, ◌+◌, All, vec_len, length, take, drop};
+ghost use Rattle.std.specs.Prelude.{◌≡◌, ◌≢◌, ◌≤◌, ◌<◌, ◌-◌, ◌^◌, ◌+◌, ℕ, All, vec_len, length, take, drop};
 
 use crate::decode::{Op, decode, destination, immediate, source, upper};
 use crate::region::{Region, is_executable, is_readable};
@@ -102,6 +102,7 @@ impl Guest {
         ensures paused { advance (budget - self.old.count) (machine_of self.old)
             ≡ record { came = result; left = budget - self.new.count; machine = machine_of self.new } }
         ensures count { self.new.count ≤ budget }
+        ensures thread { (tid : ℕ) → result ≡ Came.Asked tid → tid ≡ 100 }
     {
         while self.count < budget {
             self.count += 1;

@@ -1,0 +1,4 @@
+mod Leading
+mod Living
+mod Texts
+mod Statuses

@@ -1,0 +1,148 @@
+-- What a call of the monitor may come to, and what is then written.
+use Rattle.std.specs.Prelude.{◌≡◌, ℕ, List, [], ◌∷◌, ◌++◌, Option, None, Some, map, string_bytes, codes}
+use Rattle.std.specs.List.{concat}
+use Rattle.std.specs.Fmt.{decimal}
+use Rattle.std.specs.Prelude.{String}
+use Rattle.std.specs.Global.{Global}
+use Rattle.nv_outside.specs.Counts.{Rose}
+use Rattle.nv_outside.specs.Told.{Told}
+use Rattle.nv_outside.specs.Sink.{Puts}
+use Rattle.nv_outside.specs.declared.sink.Put.{Put}
+use Rattle.nv_outside.specs.declared.sink.Put.TheVariants.{Whole, Failed}
+use Rattle.nv_guest.specs.Machine.{Machine}
+use Rattle.nv_cli.specs.Words.{Plan, plan_of}
+use Rattle.nv_cli.specs.Sequence.{Account}
+use Rattle.nv_cli.specs.Account.{IsRunOf}
+use Rattle.nv_cli.specs.Report.{report_text}
+use Rattle.nv_cli.specs.Prepared.{prepared, Ready, Refused, ComesTo, IsReached, TookLong}
+use Rattle.nv_cli.specs.declared.fate.Fate.{Fate}
+use Rattle.nv_cli.specs.declared.fate.Fate.TheVariants as fate
+use Rattle.nv_cli.specs.declared.prepare.Refusal.{Refusal}
+use Rattle.nv_cli.specs.declared.prepare.Refusal.TheVariants as refusal
+use Rattle.nv_cli.specs.declared.prepare.Place.{Place}
+use Rattle.nv_cli.specs.declared.prepare.Place.TheVariants.{Script, Version}
+use Rattle.nv_cli.specs.declared.prepare.Cause.{Cause}
+use Rattle.nv_cli.specs.declared.prepare.Cause.TheVariants.{Long, Unbuilt, Short, NoRoom}
+
+-- The words are refused; memory is wanted before the run starts; a file can't be read; a file is refused; or a run has its account.
+pub data Outcome : Type 0 where
+  Usage : Outcome
+  NoMemory : Outcome
+  NotRead : List ℕ → Outcome
+  NotAccepted : List ℕ → Cause → Outcome
+  Reported : Account → Outcome
+
+abbrev pub cause_text : Cause → List ℕ
+cause_text Long = codes "long"
+cause_text Unbuilt = codes "unbuilt"
+cause_text Short = codes "short"
+cause_text (NoRoom n) = codes "no room " ++ decimal n
+
+-- what is written
+abbrev pub text_of : Outcome → List ℕ
+text_of Usage = codes "varan: usage\n"
+text_of NoMemory = codes "varan: memory\n"
+text_of (NotRead name) = concat (codes "varan: read " ∷ name ∷ codes "\n" ∷ [])
+text_of (NotAccepted name cause) = concat (codes "varan: input " ∷ name ∷ codes ": " ∷ []) ++ (cause_text cause ++ codes "\n")
+text_of (Reported account) = report_text account
+
+-- a version that exited, that broke, or that wanted memory
+abbrev pub fate_status : Fate → ℕ
+fate_status (fate.Exited code) = 0
+fate_status (fate.Fault kind tid pc) = 1
+fate_status fate.Memory = 7
+
+abbrev pub status_of : Outcome → ℕ
+status_of Usage = 2
+status_of NoMemory = 3
+status_of (NotRead name) = 5
+status_of (NotAccepted name cause) = 4
+status_of (Reported account) = fate_status account.fate
+
+-- a write fault takes the place of the other statuses
+abbrev pub ended_with : Put → ℕ → ℕ
+ended_with Whole status = status
+ended_with Failed status = 6
+
+abbrev pub name_of : Place → Plan → List ℕ
+name_of Script plan = plan.script
+name_of Version plan = plan.version
+
+abbrev pub outcome_of : Refusal → Plan → Outcome
+outcome_of refusal.Memory plan = NoMemory
+outcome_of (refusal.Unreadable place) plan = NotRead (name_of place plan)
+outcome_of (refusal.Input place cause) plan = NotAccepted (name_of place plan) cause
+
+-- The file source of a call: what it tells of each name, and its counts before the call and after it.
+pub record Source : Type 0 where
+  pub holds : List ℕ → Told
+  pub faults : ℕ
+  pub later_faults : ℕ
+  pub taken : ℕ
+  pub later_taken : ℕ
+
+abbrev pub source_of : {X : Type 0} → (X → List ℕ → Told) → (X → ℕ) → (X → ℕ) → X → X → Source
+source_of holds faults taken before after = record {
+  holds = holds before;
+  faults = faults before;
+  later_faults = faults after;
+  taken = taken before;
+  later_taken = taken after;
+}
+
+-- the words of a command line
+abbrev pub texts : List (String Global) → List (List ℕ)
+texts words = map (λ word. string_bytes word) words
+
+-- A read failed, of a file in the reading order whose forerunners are accepted where they are told.
+pub record CannotRead (words : List (List ℕ)) (source : Source) (name : List ℕ) : Type 0 where
+  pub plan : Plan
+  pub asked : plan_of words ≡ Some plan
+  pub place : Place
+  pub name_is : name ≡ name_of place plan
+  pub reached : IsReached place (source.holds plan.script)
+  pub rose : Rose source.faults source.later_faults
+
+-- Where the files are told, the first that is refused is this one, for this cause. Too long is only what more bytes were taken of.
+pub record IsRefused (words : List (List ℕ)) (source : Source) (name : List ℕ) (cause : Cause) : Type 0 where
+  pub plan : Plan
+  pub asked : plan_of words ≡ Some plan
+  pub place : Place
+  pub name_is : name ≡ name_of place plan
+  pub reached : IsReached place (source.holds plan.script)
+  pub told : ComesTo (prepared source.holds plan) (Refused place cause)
+  pub long : cause ≡ Long → TookLong source.taken source.later_taken
+
+-- The account is that of the plain sequential monitor over the files; where they are told, they are accepted and come to this machine.
+pub record IsReported (words : List (List ℕ)) (source : Source) (account : Account) : Type 0 where
+  pub plan : Plan
+  pub asked : plan_of words ≡ Some plan
+  pub machine : Machine
+  pub told : ComesTo (prepared source.holds plan) (Ready machine)
+  pub is_run : IsRunOf machine account
+
+-- the outcomes that a call may have, over these words and this source
+abbrev pub CanBe : List (List ℕ) → Source → Outcome → Type 0
+CanBe words source Usage = plan_of words ≡ None
+CanBe words source NoMemory = (plan : Plan) × (plan_of words ≡ Some plan)
+CanBe words source (NotRead name) = CannotRead words source name
+CanBe words source (NotAccepted name cause) = IsRefused words source name cause
+CanBe words source (Reported account) = IsReported words source account
+
+-- a text was written with this status, or the write failed
+pub record Says (text : List ℕ) (text_status : ℕ) (before : Option (List ℕ)) (faults : ℕ) (status : ℕ) (after : Option (List ℕ)) (later_faults : ℕ) : Type 0 where
+  pub put : Put
+  pub ends : status ≡ ended_with put text_status
+  pub written : Puts before faults text put after later_faults
+
+-- a call came to one of its outcomes, and said so
+pub record Answers (words : List (List ℕ)) (source : Source) (before : Option (List ℕ)) (faults : ℕ) (status : ℕ) (after : Option (List ℕ)) (later_faults : ℕ) : Type 0 where
+  pub outcome : Outcome
+  pub can_be : CanBe words source outcome
+  pub says : Says (text_of outcome) (status_of outcome) before faults status after later_faults
+
+-- the guest ran, and its report was written, or the write failed
+pub record Ran (machine : Machine) (before : Option (List ℕ)) (faults : ℕ) (status : ℕ) (after : Option (List ℕ)) (later_faults : ℕ) : Type 0 where
+  pub account : Account
+  pub is_run : IsRunOf machine account
+  pub says : Says (text_of (Reported account)) (fate_status account.fate) before faults status after later_faults

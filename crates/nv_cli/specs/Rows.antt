@@ -1,0 +1,43 @@
+-- What each status of the monitor shows.
+use Rattle.std.specs.Prelude.{◌≡◌, ◌⊎◌, ℕ, List, ◌++◌, Option, Some}
+use Rattle.nv_outside.specs.Told.{Grows}
+use Rattle.nv_cli.specs.Words.{Plan, plan_of}
+use Rattle.nv_cli.specs.Sequence.{Account}
+use Rattle.nv_cli.specs.Outcome.{Source, Outcome, NoMemory, NotRead, NotAccepted, Reported, CanBe, IsReported, IsRefused, CannotRead, text_of, fate_status}
+use Rattle.nv_cli.specs.declared.prepare.Cause.{Cause}
+
+-- 0, 1 and 7 are the statuses of a run
+abbrev pub IsReport : ℕ → Type 0
+IsReport status = (status ≡ 0) ⊎ ((status ≡ 1) ⊎ (status ≡ 7))
+
+-- What was written is the report of the account of the plain sequential monitor, and the status is that of the version's fate.
+pub record Reports (words : List (List ℕ)) (source : Source) (status : ℕ) (before after : Option (List ℕ)) : Type 0 where
+  pub account : Account
+  pub is_account : IsReported words source account
+  pub status_is : status ≡ fate_status account.fate
+  pub written : Grows before (text_of (Reported account)) after
+
+-- the words are accepted, and what was written says that memory was wanted
+pub record WantsMemory (words : List (List ℕ)) (before after : Option (List ℕ)) : Type 0 where
+  pub plan : Plan
+  pub asked : plan_of words ≡ Some plan
+  pub written : Grows before (text_of NoMemory) after
+
+-- a file is refused, and what was written names it and its cause
+pub record Refuses (words : List (List ℕ)) (source : Source) (before after : Option (List ℕ)) : Type 0 where
+  pub name : List ℕ
+  pub cause : Cause
+  pub is_refused : IsRefused words source name cause
+  pub written : Grows before (text_of (NotAccepted name cause)) after
+
+-- a file can't be read, and what was written names it
+pub record FailsToRead (words : List (List ℕ)) (source : Source) (before after : Option (List ℕ)) : Type 0 where
+  pub name : List ℕ
+  pub cannot : CannotRead words source name
+  pub written : Grows before (text_of (NotRead name)) after
+
+-- what was written is a front of what one of the outcomes writes
+pub record FailsToWrite (words : List (List ℕ)) (source : Source) (before after : Option (List ℕ)) : Type 0 where
+  pub outcome : Outcome
+  pub can_be : CanBe words source outcome
+  pub front : (written : List ℕ) × (rest : List ℕ) × (text_of outcome ≡ written ++ rest) × Grows before written after
