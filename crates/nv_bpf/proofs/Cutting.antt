@@ -1,6 +1,6 @@
 -- Texts cut at a byte.
-use Rattle.std.proofs.Common.{◌≡◌, ℕ, ◌+◌, ◌-◌, ◌<◌, ◌≤◌, ◌==◌, nat_lt, Bool, true, false, cond, inl, inr, Option, Some, None, List, [], ◌∷◌, length, take, drop, unwrap_or, refl, sym, ap, ◌∙◌, subst, arith, suc, add-one, length-drop}
-use Rattle.std.specs.List.{slice_split, position_or_len, before_first, after_first, onto_first}
+use Rattle.std.proofs.Common.{◌≡◌, ℕ, ◌+◌, ◌-◌, ◌<◌, ◌≤◌, ◌==◌, nat_lt, Bool, true, false, cond, inl, inr, Some, None, List, [], ◌∷◌, length, take, drop, unwrap_or, refl, sym, ap, ◌∙◌, subst, arith, suc, length-drop}
+use Rattle.std.specs.List.{slice_split, position_or_len, onto_first}
 use Rattle.std.proofs.lemmas.Bool.Decides.{nat_tests}
 use Rattle.std.proofs.lemmas.Bool.{cases_lt}
 use Rattle.std.proofs.lemmas.List.Splits.{slice_split_first, slice_split-cons_no}

@@ -1,10 +1,10 @@
 -- Instructions read from the fields of lines, and from lines.
-use Rattle.std.proofs.Common.{◌≡◌, ℕ, zero, suc, ◌+◌, ◌-◌, ◌<◌, ◌≤◌, List, [], ◌∷◌, ◌++◌, Option, Some, None, Result, Ok, Err, length, refl, sym, ap, ◌∙◌, arith, MatchOption, Bor, append_assoc, append-nil}
+use Rattle.std.proofs.Common.{◌≡◌, ℕ, zero, suc, ◌+◌, ◌-◌, ◌<◌, List, [], ◌∷◌, ◌++◌, Option, Some, None, Result, Ok, Err, length, refl, sym, ap, ◌∙◌, arith, MatchOption, Bor, append_assoc}
 use Rattle.std.proofs.lemmas.Option.{same_Some}
 use Rattle.nv_bpf.specs.declared.op.Op.{Op}
 use Rattle.nv_bpf.specs.declared.op.FilterFault.{FilterFault}
 use Rattle.nv_bpf.specs.declared.op.FilterFault.TheVariants as fault
-use Rattle.nv_bpf.specs.Lines.{fields, lines, parts}
+use Rattle.nv_bpf.specs.Lines.{fields, lines}
 use Rattle.nv_bpf.specs.Texts.{op_of_fields, op_of, ops_of, put_first, with_line, count_of, ops_behind, ops_of_lines, ops_of_text}
 use Rattle.nv_bytes.specs.Texts.{number_of}
 use Rattle.nv_bpf.proofs.Cutting.{some_part, some_line}

@@ -1,17 +1,15 @@
 -- The text of a filter is read back as that filter.
-use Rattle.std.proofs.Common.{◌≡◌, ℕ, ◌+◌, ◌<◌, ◌≤◌, ◌^◌, ◌==◌, nat_lt, Bool, true, false, List, [], ◌∷◌, ◌++◌, Option, Some, None, Result, Ok, Err, length, map, flat_map, refl, sym, ap, ◌∙◌, arith, append_assoc, lit<}
-use Rattle.std.specs.List.{All, slice_split}
+use Rattle.std.proofs.Common.{◌≡◌, ℕ, ◌+◌, ◌<◌, ◌≤◌, ◌^◌, ◌==◌, false, List, [], ◌∷◌, ◌++◌, Some, None, Ok, length, map, flat_map, refl, ap, ◌∙◌, arith, append_assoc, lit<}
+use Rattle.std.specs.List.{All}
 use Rattle.std.proofs.lemmas.Bool.Decides.{nat_tests}
 use Rattle.std.proofs.lemmas.List.Elements.{All-cons, All-append, All-head, All-tail}
 use Rattle.std.proofs.lemmas.List.Splits.{slice_split_at, slice_split_none}
-use Rattle.nv_bytes.specs.Texts.{decimal_of, number_of}
+use Rattle.nv_bytes.specs.Texts.{decimal_of}
 use Rattle.nv_bpf.specs.declared.op.Op.{Op}
-use Rattle.nv_bpf.specs.declared.op.FilterFault.{FilterFault}
-use Rattle.nv_bpf.specs.declared.op.FilterFault.TheVariants as fault
-use Rattle.nv_bpf.specs.Lines.{fields, lines, parts}
-use Rattle.nv_bpf.specs.Verified.{list_fault, verified, ops_or}
+use Rattle.nv_bpf.specs.Lines.{fields, lines}
+use Rattle.nv_bpf.specs.Verified.{list_fault, ops_or}
 use Rattle.nv_bpf.specs.FilterLaws.{list_fault-none}
-use Rattle.nv_bpf.specs.Texts.{field, op_with, op_of_fields, op_of, ops_of, put_first, with_line, count_of, ops_behind, ops_of_lines, ops_of_text, filter_with, filter_of, ended_number, op_text, text_of, FitsFields}
+use Rattle.nv_bpf.specs.Texts.{op_of_fields, op_of, ops_of, put_first, with_line, count_of, ops_behind, ops_of_lines, ops_of_text, filter_with, filter_of, op_text, text_of, FitsFields}
 use Rattle.nv_bpf.proofs.Cutting.{lines-more}
 use Rattle.nv_bpf.proofs.Digits.{decimal-lacks, number_of-decimal, field-decimal}
 

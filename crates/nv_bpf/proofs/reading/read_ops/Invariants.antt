@@ -1,4 +1,4 @@
-use Rattle.std.proofs.Common.{◌≡◌, ◌+◌, ◌-◌, ◌≤◌}
+use Rattle.std.proofs.Common.{◌≡◌, ◌+◌, ◌-◌}
 use Rattle.nv_bpf.specs.Lines.{lines}
 use Rattle.nv_bpf.specs.Texts.{ops_of}
 use Rattle.nv_bpf.proofs.OpTexts.{with_front}

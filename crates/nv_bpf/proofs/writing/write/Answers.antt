@@ -1,4 +1,4 @@
-use Rattle.std.proofs.Common.{◌≡◌, ◌+◌, ◌++◌, ◌∷◌, [], Ok, length, take, flat_map, sym, ap, ◌∙◌, arith, lit<, subst, List, append-nil}
+use Rattle.std.proofs.Common.{◌≡◌, ◌+◌, ◌++◌, ◌∷◌, [], length, take, flat_map, sym, ap, ◌∙◌, arith, lit<, subst, List, append-nil}
 use Rattle.std.specs.List.{All}
 use Rattle.std.proofs.lemmas.List.{take_more, take_all, flat_map_more}
 use Rattle.std.proofs.lemmas.List.Elements.{All-more, All-nil}
