@@ -7,6 +7,12 @@ pub const HELLO: [u32; 9] = [
     0x00000073,
 ];
 
+/// A program that writes the three bytes behind it twice and exits with 0.
+pub const HELLO_TWICE: [u32; 11] = [
+    0x000105b7, 0x02c58593, 0x00100513, 0x00300613, 0x04000893, 0x00000073, 0x00100513, 0x00000073,
+    0x00000513, 0x05e00893, 0x00000073,
+];
+
 /// A program that exits with what a0 holds, which is 0 at the start.
 pub const EXIT: [u32; 2] = [0x05e00893, 0x00000073];
 
