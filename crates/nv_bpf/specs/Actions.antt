@@ -1,13 +1,9 @@
 -- The codes of classic BPF instructions that a filter may have, and what each does (McCanne and Jacobson 1993, section 3).
 use Rattle.std.specs.Prelude.{ℕ, List, [], ◌∷◌, Option, ◌==◌}
 use Rattle.std.specs.Map.{lookup}
-use Rattle.nv_bpf.specs.declared.action.Register.{Register}
 use Rattle.nv_bpf.specs.declared.action.Register.TheVariants.{Accumulator, Index}
-use Rattle.nv_bpf.specs.declared.action.Operand.{Operand}
 use Rattle.nv_bpf.specs.declared.action.Operand.TheVariants as operand
-use Rattle.nv_bpf.specs.declared.action.Arithmetic.{Arithmetic}
 use Rattle.nv_bpf.specs.declared.action.Arithmetic.TheVariants.{Add, Subtract, Multiply, Divide, Or, And, ShiftLeft, ShiftRight}
-use Rattle.nv_bpf.specs.declared.action.Comparison.{Comparison}
 use Rattle.nv_bpf.specs.declared.action.Comparison.TheVariants.{Equal, Greater, AtLeast, CommonBit}
 use Rattle.nv_bpf.specs.declared.action.Action.{Action}
 use Rattle.nv_bpf.specs.declared.action.Action.TheVariants.{LoadWord, Load, LoadScratch, LoadLength, Store, Compute, Negate, Jump, Branch, ReturnConstant, ReturnAccumulator, Copy}

@@ -3,8 +3,15 @@
 
 mod action;
 mod filter;
+mod lines;
 mod op;
+mod reading;
+#[cfg(test)]
+mod tests;
+mod writing;
 
 pub use action::{Action, Arithmetic, Comparison, Operand, Register, decode};
 pub use filter::{Filter, verify};
 pub use op::{FilterFault, MOST_OPS, Op};
+pub use reading::read;
+pub use writing::write;

@@ -32,8 +32,8 @@ number-parsed {E = E} text (Err x) e h =
 pub ascii-digits : (text : List ℕ) → list_all is_ascii_digit text ≡ true → IsAscii text
 ascii-digits text e k =
     elim (nat_lt k (length text)) as (λ v. nat_lt k (length text) ≡ v → get_or text k 0 < 128) [
-        true ↦ λ below. let digit = digit_at text k (own.to text e) (ltb-true k (length text) below) in omega (arith, digit)
-        | false ↦ λ past. rw (get_or_past text k 0 (omega (arith, ltb-false k (length text) past))) (lit< tt)
+      | true ↦ λ below. let digit = digit_at text k (own.to text e) (ltb-true k (length text) below) in omega (arith, digit)
+      | false ↦ λ past. rw (get_or_past text k 0 (omega (arith, ltb-false k (length text) past))) (lit< tt)
     ] refl
 
 pub length-decimal_step : (n : ℕ) → 10 ≤ n → n < 2 ^ 64 → length (decimal n) ≡ length (decimal (n / 10)) + 1

@@ -27,16 +27,16 @@ unhexed-cons a b text =
 -- a pair with a byte
 pair-read : (a b byte : ℕ) (text : List ℕ) → pair_of a b ≡ Some byte → unhexed (a ∷ b ∷ text) ≡ option_map (λ more. byte ∷ more) (unhexed text)
 pair-read a b byte text e = unhexed-cons a b text ∙ go (is_ascii_hexdigit a && is_ascii_hexdigit b) (16 * digit_value a + digit_value b) e where
-    go : (both : Bool) (value : ℕ) → cond both (Some value) None ≡ Some byte → cond both (option_map (λ more. value ∷ more) (unhexed text)) None ≡ option_map (λ more. byte ∷ more) (unhexed text)
-    go true value h = let same : value ≡ byte = cc in rw same refl
-    go false value h = cc
+  go : (both : Bool) (value : ℕ) → cond both (Some value) None ≡ Some byte → cond both (option_map (λ more. value ∷ more) (unhexed text)) None ≡ option_map (λ more. byte ∷ more) (unhexed text)
+  go true value h = let same : value ≡ byte = cc in rw same refl
+  go false value h = cc
 
 -- a pair without a byte
 pair-refused : (a b : ℕ) (text : List ℕ) → pair_of a b ≡ None → unhexed (a ∷ b ∷ text) ≡ None
 pair-refused a b text e = unhexed-cons a b text ∙ go (is_ascii_hexdigit a && is_ascii_hexdigit b) (16 * digit_value a + digit_value b) e where
-    go : (both : Bool) (value : ℕ) → cond both (Some value) None ≡ None → cond both (option_map (λ more. value ∷ more) (unhexed text)) None ≡ None
-    go true value h = cc
-    go false value h = refl
+  go : (both : Bool) (value : ℕ) → cond both (Some value) None ≡ None → cond both (option_map (λ more. value ∷ more) (unhexed text)) None ≡ None
+  go true value h = cc
+  go false value h = refl
 
 joined : (front : List ℕ) (byte : ℕ) (more : Option (List ℕ)) → option_map (λ m. (front ++ byte ∷ []) ++ m) more ≡ option_map (λ m. front ++ m) (option_map (λ m. byte ∷ m) more)
 joined front byte None = refl

@@ -1,23 +1,31 @@
 -- What the statuses of refused and of unreadable files show.
-use Rattle.std.proofs.Common.{◌≡◌, ℕ, List, Option, refl, arith}
+use Rattle.std.proofs.Common.{◌≡◌, inl, inr, ⊎_elim, ℕ, List, Bool, true, false, if◌then◌else◌, Option, [], ◌∷◌, map, ap, refl, arith}
+use Rattle.std.specs.Prelude.{◌||◌}
 use Rattle.nv_outside.specs.Told.{Grows}
 use Rattle.nv_outside.specs.declared.sink.Put.{Put}
 use Rattle.nv_outside.specs.declared.sink.Put.TheVariants.{Whole, Failed}
-use Rattle.nv_cli.specs.Outcome.{Source, Outcome, Usage, NoMemory, NotRead, NotAccepted, Reported, CanBe, Answers, text_of, status_of, fate_status, ended_with}
-use Rattle.nv_cli.specs.Rows.{Refuses, FailsToRead}
-use Rattle.nv_cli.specs.declared.fate.Fate.{Fate}
-use Rattle.nv_cli.specs.declared.fate.Fate.TheVariants as fate
+use Rattle.std.specs.List.{list_any}
+use Rattle.nv_replay.specs.declared.standing.Standing.{Standing}
+use Rattle.nv_replay.specs.Follow.{is_exited}
+use Rattle.nv_replay.specs.Lead.{is_memory}
+use Rattle.nv_cli.specs.Account.{run_status}
+use Rattle.nv_cli.specs.Outcome.{Source, Outcome, Usage, NoMemory, NotRead, NotAccepted, Reported, CanBe, Answers, text_of, status_of, ended_with}
+use Rattle.nv_cli.specs.Rows.{IsReport, Refuses, FailsToRead}
 
--- no run has the status of a file's refusal, nor that of a read fault
-not_four : (f : Fate) (n : ℕ) → n ≡ fate_status f → n ≡ 4 → ⊥
-not_four (fate.Exited code) n is four = omega arith
-not_four (fate.Fault kind tid pc) n is four = omega arith
-not_four fate.Memory n is four = omega arith
+-- a run has one of three statuses
+one_of : (exited memory : Bool) (n : ℕ) → n ≡ (if exited then 0 else (if memory then 7 else 1)) → IsReport n
+one_of true memory n is = inl is
+one_of false true n is = inr (inr is)
+one_of false false n is = inr (inl is)
 
-not_five : (f : Fate) (n : ℕ) → n ≡ fate_status f → n ≡ 5 → ⊥
-not_five (fate.Exited code) n is five = omega arith
-not_five (fate.Fault kind tid pc) n is five = omega arith
-not_five fate.Memory n is five = omega arith
+pub is_report : (lines : List Standing) (n : ℕ) → n ≡ run_status lines → IsReport n
+is_report lines n is = one_of (list_any (λ line. is_exited line.fate) lines) (list_any (λ line. is_memory line.fate) lines) n is
+
+not_four : (n : ℕ) → IsReport n → n ≡ 4 → ⊥
+not_four n r four = ⊎_elim (λ is. omega arith) (λ r. ⊎_elim (λ is. omega arith) (λ is. omega arith) r) r
+
+not_five : (n : ℕ) → IsReport n → n ≡ 5 → ⊥
+not_five n r five = ⊎_elim (λ is. omega arith) (λ r. ⊎_elim (λ is. omega arith) (λ is. omega arith) r) r
 
 module _ (words : List (List ℕ)) (source : Source) (before after : Option (List ℕ)) (n : ℕ) where
   refused : (outcome : Outcome) (put : Put) → CanBe words source outcome → n ≡ ended_with put (status_of outcome)
@@ -26,7 +34,7 @@ module _ (words : List (List ℕ)) (source : Source) (before after : Option (Lis
   refused Usage Whole can ends whole four = absurd (omega arith)
   refused NoMemory Whole can ends whole four = absurd (omega arith)
   refused (NotRead name) Whole can ends whole four = absurd (omega arith)
-  refused (Reported account) Whole can ends whole four = absurd (not_four account.fate n ends four)
+  refused (Reported account) Whole can ends whole four = absurd (not_four n (is_report account.lines n ends) four)
   refused outcome Failed can ends whole four = absurd (omega arith)
 
   unread : (outcome : Outcome) (put : Put) → CanBe words source outcome → n ≡ ended_with put (status_of outcome)
@@ -35,7 +43,7 @@ module _ (words : List (List ℕ)) (source : Source) (before after : Option (Lis
   unread Usage Whole can ends whole five = absurd (omega arith)
   unread NoMemory Whole can ends whole five = absurd (omega arith)
   unread (NotAccepted name cause) Whole can ends whole five = absurd (omega arith)
-  unread (Reported account) Whole can ends whole five = absurd (not_five account.fate n ends five)
+  unread (Reported account) Whole can ends whole five = absurd (not_five n (is_report account.lines n ends) five)
   unread outcome Failed can ends whole five = absurd (omega arith)
 
 module _ {words : List (List ℕ)} {source : Source} {before after : Option (List ℕ)} {n faults later : ℕ} where
@@ -44,3 +52,8 @@ module _ {words : List (List ℕ)} {source : Source} {before after : Option (Lis
 
   pub unread-by : Answers words source before faults n after later → n ≡ 5 → FailsToRead words source before after
   unread-by a five = unread words source before after n a.outcome a.says.put a.can_be a.says.ends a.says.written.whole five
+
+-- some element passes, of what is seen of a list
+pub any-map : {X Y : Type 0} (p : Y → Bool) (f : X → Y) (xs : List X) → list_any p (map f xs) ≡ list_any (λ x. p (f x)) xs
+any-map p f [] = refl
+any-map p f (x ∷ xs) = ap (λ z. p (f x) || z) (any-map p f xs)

@@ -2,14 +2,11 @@
 #![tactic(auto)]
 
 mod calm;
-mod fate;
 mod prepare;
-mod report;
-mod run;
+mod refusal;
 mod top;
 mod words;
 
 pub use calm::varan_calmly;
-pub use fate::Fate;
-pub use prepare::{Cause, Place, Refusal};
+pub use refusal::{Cause, Place, Refusal};
 pub use top::varan;

@@ -1,26 +1,31 @@
 // The top call.
-ghost use Rattle.std.specs.Prelude.{◌≡◌, ◌≢◌, ◌⊎◌, ◌++◌, ◌∷◌, [], Some, None, codes};
-ghost use Rattle.std.specs.List.{concat};
+ghost use Rattle.std.specs.Prelude.{◌≡◌, ◌≢◌, ◌≤◌, ◌⊎◌, ◌++◌, ◌∷◌, [], List, Some, None, IsTrue, ◌↔◌, codes, length, map};
+ghost use Rattle.std.specs.List.{concat, list_any};
 ghost use Rattle.nv_outside.specs.Counts.{Rose};
 ghost use Rattle.nv_outside.specs.Sink.{Puts};
-ghost use Rattle.nv_guest.specs.Guest.{machine_of};
-ghost use Rattle.nv_guest.specs.Machine.{Machine};
-ghost use Rattle.nv_cli.specs.Words.{Plan, plan_of};
-ghost use Rattle.nv_cli.specs.Account.{IsRunOf};
+ghost use Rattle.nv_machine.specs.Guest.{Machine};
+ghost use Rattle.nv_threads.specs.Threads.{threads};
+ghost use Rattle.nv_replay.specs.Follow.{is_exited};
+ghost use Rattle.nv_replay.specs.Lead.{is_memory};
+ghost use Rattle.nv_replay.specs.Versions.{standing_of, process_of};
+ghost use Rattle.nv_sequence.specs.Accounts.{AreFresh};
+ghost use Rattle.nv_cli.specs.Account.{begun, run_status};
+ghost use Rattle.nv_cli.specs.Words.{Plan, plan_of, texts};
 ghost use Rattle.nv_cli.specs.Prepared.{prepared, Ready, Refused};
-ghost use Rattle.nv_cli.specs.declared.prepare.Place.{Place};
-ghost use Rattle.nv_cli.specs.declared.prepare.Cause.{Cause};
-ghost use Rattle.nv_cli.specs.Outcome.{Says, Answers, Ran, Usage, ended_with, fate_status, name_of, cause_text, outcome_of, status_of, text_of, texts, source_of};
+ghost use Rattle.nv_cli.specs.declared.refusal.Place.{Place};
+ghost use Rattle.nv_cli.specs.declared.refusal.Cause.{Cause};
+ghost use Rattle.nv_cli.specs.Outcome.{Says, Answers, Ran, Usage, ended_with, name_of, elf_text, guest_text, cause_text, outcome_of, status_of, text_of, source_of};
 ghost use Rattle.nv_cli.specs.Rows.{IsReport, Reports, WantsMemory, Refuses, FailsToRead, FailsToWrite};
 
-use crate::Fate;
-use crate::prepare::{Cause, Loaded, Place, Refusal, prepare};
-use crate::report::write_report;
-use crate::run::lead;
-use crate::words::{Run, run_of};
+use crate::prepare::prepare;
+use crate::refusal::{Cause, Place, Refusal};
+use crate::words::run_of;
 use itoa::Buffer;
+use nv_elf::ElfFault;
+use nv_guest::GuestFault;
 use nv_kernel::ScriptKernel;
 use nv_outside::{Files, Gate, Put, Sink, put_all, put_pieces};
+use nv_replay::{Fate, Version};
 use std::alloc::Global;
 
 const USAGE: u8 = 2;
@@ -35,6 +40,8 @@ const WRITE_FAULT: u8 = 6;
 
 const STARVED: u8 = 7;
 
+const MOST_EVENTS: u32 = 65_536;
+
 fn ended(put: Put, status: u8) -> u8
     ensures { result ≡ ended_with put status }
 {
@@ -44,26 +51,64 @@ fn ended(put: Put, status: u8) -> u8
     }
 }
 
-fn status(fate: Fate) -> u8
-    ensures { result ≡ fate_status fate }
+fn has_exited(version: &Version) -> bool
+    ensures { result ≡ is_exited (standing_of version.now).fate }
 {
-    match fate {
-        Fate::Exited(_) => 0,
-        Fate::Fault { .. } => 1,
-        Fate::Memory => STARVED,
+    matches!(version.standing().fate, Some(Fate::Exited(_)))
+}
+
+fn wanted_memory(version: &Version) -> bool
+    ensures { result ≡ is_memory (standing_of version.now).fate }
+{
+    matches!(version.standing().fate, Some(Fate::Memory))
+}
+
+fn any_exited(versions: &[Version]) -> bool
+    ensures { result ≡ list_any (λ version. is_exited (standing_of version).fate) versions.now }
+{
+    versions.iter().any(|version| has_exited(version))
+}
+
+fn any_wanted_memory(versions: &[Version]) -> bool
+    ensures { result ≡ list_any (λ version. is_memory (standing_of version).fate) versions.now }
+{
+    versions.iter().any(|version| wanted_memory(version))
+}
+
+fn exited(versions: &[Version]) -> bool
+    ensures { result ≡ list_any (λ line. is_exited line.fate) (map standing_of versions.now) }
+{
+    any_exited(versions)
+}
+
+fn starved(versions: &[Version]) -> bool
+    ensures { result ≡ list_any (λ line. is_memory line.fate) (map standing_of versions.now) }
+{
+    any_wanted_memory(versions)
+}
+
+fn status(versions: &[Version]) -> u8
+    ensures { result ≡ run_status (map standing_of versions.now) }
+{
+    if exited(versions) {
+        0
+    } else if starved(versions) {
+        STARVED
+    } else {
+        1
     }
 }
 
-// Runs a guest and writes its report.
-fn run_guest<S: Sink>(alloc: Global, mut loaded: Loaded, sink: &mut S) -> u8
-    requires fresh { loaded.guest.count ≡ 0 }
-    requires room { loaded.call.payload.room ≡ 4096 }
-    ensures { Ran (machine_of loaded.guest) (S.told sink.old) (S.faults sink.old) result (S.told sink.new) (S.faults sink.new) }
+// Runs the versions and writes the report.
+fn run_versions<S: Sink>(alloc: Global, versions: Vec<Version>, sink: &mut S) -> u8
+    requires fresh { AreFresh threads 0 versions.items }
+    requires few { length versions.items ≤ 8 }
+    ensures { (machines : List Machine) → map process_of versions.items ≡ map begun machines
+        → Ran machines (S.told sink.old) (S.faults sink.old) result (S.told sink.new) (S.faults sink.new) }
 {
-    let mut kernel = ScriptKernel::make(alloc);
-    let fate = lead(&mut loaded.guest, &mut kernel, &mut loaded.call);
-    let put = write_report(sink, &kernel, fate);
-    ended(put, status(fate))
+    let account = nv_sequence::run(versions, ScriptKernel::make(alloc), MOST_EVENTS);
+    let put = nv_report::write(sink, &account);
+    ended(put, status(&account.versions))
 }
 
 fn put_line<S: Sink>(sink: &mut S, line: &[u8], line_status: u8) -> u8
@@ -73,18 +118,69 @@ fn put_line<S: Sink>(sink: &mut S, line: &[u8], line_status: u8) -> u8
     ended(put, line_status)
 }
 
-fn put_cause<S: Sink>(sink: &mut S, cause: Cause) -> Put
-    ensures { Puts (S.told sink.old) (S.faults sink.old) (cause_text cause ++ codes "\n") result (S.told sink.new) (S.faults sink.new) }
+fn put_elf_fault<S: Sink>(sink: &mut S, fault: ElfFault) -> Put
+    ensures { Puts (S.told sink.old) (S.faults sink.old) (elf_text fault) result (S.told sink.new) (S.faults sink.new) }
+{
+    let mut first = Buffer::new();
+    let mut second = Buffer::new();
+    match fault {
+        ElfFault::Short => put_all(sink, b"short"),
+        ElfFault::Magic => put_all(sink, b"magic"),
+        ElfFault::Class => put_all(sink, b"class"),
+        ElfFault::Kind => put_all(sink, b"type"),
+        ElfFault::Machine => put_all(sink, b"machine"),
+        ElfFault::Flags => put_all(sink, b"flags"),
+        ElfFault::Header => put_all(sink, b"header"),
+        ElfFault::Interpreted => put_all(sink, b"interpreted"),
+        ElfFault::Outside(index) => put_pieces(
+            sink,
+            &[b"outside ", first.format(index).as_bytes()],
+        ),
+        ElfFault::Overlap(lower, higher) => put_pieces(
+            sink,
+            &[
+                b"overlap ",
+                first.format(lower).as_bytes(),
+                b" ",
+                second.format(higher).as_bytes(),
+            ],
+        ),
+        ElfFault::Entry => put_all(sink, b"entry"),
+        ElfFault::Memory => put_all(sink, b"memory"),
+    }
+}
+
+fn put_guest_fault<S: Sink>(sink: &mut S, fault: GuestFault) -> Put
+    ensures { Puts (S.told sink.old) (S.faults sink.old) (guest_text fault) result (S.told sink.new) (S.faults sink.new) }
 {
     let mut buffer = Buffer::new();
-    match cause {
-        Cause::Long => put_all(sink, b"long\n"),
-        Cause::Unbuilt => put_all(sink, b"unbuilt\n"),
-        Cause::Short => put_all(sink, b"short\n"),
-        Cause::NoRoom(number) => put_pieces(
+    match fault {
+        GuestFault::NoRoom(index) => put_pieces(
             sink,
-            &[b"no room ", buffer.format(number).as_bytes(), b"\n"],
+            &[b"no room ", buffer.format(index).as_bytes()],
         ),
+        GuestFault::Arguments => put_all(sink, b"arguments"),
+        GuestFault::Memory => put_all(sink, b"memory"),
+    }
+}
+
+fn put_cause<S: Sink>(sink: &mut S, cause: Cause) -> Put
+    ensures { Puts (S.told sink.old) (S.faults sink.old) (cause_text cause) result (S.told sink.new) (S.faults sink.new) }
+{
+    match cause {
+        Cause::Long => put_all(sink, b"long"),
+        Cause::Unbuilt => put_all(sink, b"unbuilt"),
+        Cause::Elf(fault) => put_elf_fault(sink, fault),
+        Cause::Guest(fault) => put_guest_fault(sink, fault),
+    }
+}
+
+fn put_cause_line<S: Sink>(sink: &mut S, cause: Cause) -> Put
+    ensures { Puts (S.told sink.old) (S.faults sink.old) (cause_text cause ++ codes "\n") result (S.told sink.new) (S.faults sink.new) }
+{
+    match put_cause(sink, cause) {
+        Put::Whole => put_all(sink, b"\n"),
+        Put::Failed => Put::Failed,
     }
 }
 
@@ -95,24 +191,26 @@ fn put_input<S: Sink>(sink: &mut S, name: &str, cause: Cause) -> Put
         (S.told sink.new) (S.faults sink.new) }
 {
     match put_pieces(sink, &[b"varan: input ", name.as_bytes(), b": "]) {
-        Put::Whole => put_cause(sink, cause),
+        Put::Whole => put_cause_line(sink, cause),
         Put::Failed => Put::Failed,
     }
 }
 
-fn name<'a>(place: Place, script: &'a str, version: &'a str) -> &'a str
-    ensures { result.now ≡ name_of place (record { script = script.now; version = version.now }) }
+fn name<'a>(place: Place, script: &'a str, versions: &'a [String]) -> &'a str
+    ensures { result.now ≡ name_of place (record { script = script.now; versions = texts versions.now }) }
 {
     match place {
         Place::Script => script,
-        Place::Version => version,
+        Place::Version(index) => versions
+            .get(index as usize)
+            .map_or("", |name| name.as_str()),
     }
 }
 
 // Says why a run didn't start.
-fn refuse<S: Sink>(sink: &mut S, refusal: Refusal, script: &str, version: &str) -> u8
-    ensures { Says (text_of (outcome_of refusal (record { script = script.now; version = version.now })))
-        (status_of (outcome_of refusal (record { script = script.now; version = version.now })))
+fn refuse<S: Sink>(sink: &mut S, refusal: Refusal, script: &str, versions: &[String]) -> u8
+    ensures { Says (text_of (outcome_of refusal (record { script = script.now; versions = texts versions.now })))
+        (status_of (outcome_of refusal (record { script = script.now; versions = texts versions.now })))
         (S.told sink.old) (S.faults sink.old) result (S.told sink.new) (S.faults sink.new) }
 {
     match refusal {
@@ -122,14 +220,14 @@ fn refuse<S: Sink>(sink: &mut S, refusal: Refusal, script: &str, version: &str) 
                 sink,
                 &[
                     b"varan: read ",
-                    name(place, script, version).as_bytes(),
+                    name(place, script, versions).as_bytes(),
                     b"\n",
                 ],
             );
             ended(put, READ_FAULT)
         }
         Refusal::Input(place, cause) => {
-            let put = put_input(sink, name(place, script, version), cause);
+            let put = put_input(sink, name(place, script, versions), cause);
             ended(put, INPUT)
         }
     }
@@ -143,9 +241,9 @@ fn answer<F: Files, S: Sink>(alloc: Global, words: &[String], files: &mut F, sin
     let Some(run) = run_of(words) else {
         return put_line(sink, b"varan: usage\n", USAGE);
     };
-    match prepare(alloc, files, run.script, run.version) {
-        Ok(loaded) => run_guest(alloc, loaded, sink),
-        Err(refusal) => refuse(sink, refusal, run.script, run.version),
+    match prepare(alloc, files, run.script, run.versions) {
+        Ok(versions) => run_versions(alloc, versions, sink),
+        Err(refusal) => refuse(sink, refusal, run.script, run.versions),
     }
 }
 
@@ -184,8 +282,8 @@ pub fn varan<F: Files, S: Sink, G: Gate>(
         → FailsToWrite (texts words.now.items) (source_of F.holds F.faults F.taken files.old files.new) (S.told sink.old) (S.told sink.new) }
 
     // Where no fault came, files that are accepted give a report, or memory is wanted.
-    ensures complete { (plan : Plan) (machine : Machine) → plan_of (texts words.now.items) ≡ Some plan
-        → prepared (F.holds files.old) plan ≡ Ready machine
+    ensures complete { (plan : Plan) (machines : List Machine) → plan_of (texts words.now.items) ≡ Some plan
+        → prepared (F.holds files.old) plan ≡ Ready machines
         → (Rose (F.faults files.old) (F.faults files.new) → ⊥) → (Rose (S.faults sink.old) (S.faults sink.new) → ⊥)
         → IsReport result ⊎ (result ≡ 3) }
 {

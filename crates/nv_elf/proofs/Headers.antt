@@ -38,6 +38,6 @@ overlap-later xs i d inside is = sym (overlap-at xs i d None inside is)
 pub none-placed : (p : ProgramHeader → Bool) (i : ℕ) (xs : List ProgramHeader) → position_from p i xs ≡ None → All (λ x. p x ≡ false) xs
 none-placed p i [] e = All-nil (λ x. p x ≡ false)
 none-placed p i (x ∷ xs) e = step (p x) refl e (none-placed p (i + 1) xs) where
-    step : (passes : Bool) → p x ≡ passes → cond passes (Some i) (position_from p (i + 1) xs) ≡ None → (position_from p (i + 1) xs ≡ None → All (λ y. p y ≡ false) xs) → All (λ y. p y ≡ false) (x ∷ xs)
-    step true here h rest = cc
-    step false here h rest = All-cons (λ y. p y ≡ false) x xs here (rest h)
+  step : (passes : Bool) → p x ≡ passes → cond passes (Some i) (position_from p (i + 1) xs) ≡ None → (position_from p (i + 1) xs ≡ None → All (λ y. p y ≡ false) xs) → All (λ y. p y ≡ false) (x ∷ xs)
+  step true here h rest = cc
+  step false here h rest = All-cons (λ y. p y ≡ false) x xs here (rest h)

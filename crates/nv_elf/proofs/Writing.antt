@@ -34,5 +34,5 @@ file-pushed p =
     let header : List ℕ = file_header p.entry (length p.ranges) in
     let table : List ℕ = table_from (contents_at (length p.ranges)) p.ranges in
     let place : length (header ++ table) ≡ contents_at (length p.ranges) =
-        omega (arith, length-append header table, length-file_header p.entry (length p.ranges), length-table_from (contents_at (length p.ranges)) p.ranges) in
+    omega (arith, length-append header table, length-file_header p.entry (length p.ranges), length-table_from (contents_at (length p.ranges)) p.ranges) in
     ap (λ n. (header ++ table) ++ contents_from n p.ranges) place ∙ append_assoc header table (contents_from (contents_at (length p.ranges)) p.ranges)

@@ -95,9 +95,9 @@ table-sound b count is few size at inside =
     let most : nat_le count 64 ≡ true = grind (arith, nat_tests) in
     let within : nat_le (52 + 32 * count) (length b) ≡ true = grind (arith, nat_tests) in
     rw (is, size, at, most, within) (either (count == 0)) where
-        either : (x : Bool) → (x || true) ≡ true
-        either true = refl
-        either false = refl
+      either : (x : Bool) → (x || true) ≡ true
+      either true = refl
+      either false = refl
 
 table-none : (place : ℕ) (ranges : List Range) → list_all is_sound ranges ≡ true → length ranges ≤ 16 → table_fault (headers_for place ranges) (headers_for place ranges) ≡ None
 unfolding table_fault
@@ -110,11 +110,11 @@ loadables-none : (len place : ℕ) (p : Image) → is_program p ≡ true → end
 unfolding loadables_fault
 loadables-none len place p sound inside =
     rw (
-        none-outside len 0 place p.ranges (program-sound p sound) inside,
-        overlap-same 0 place p.ranges,
-        program-apart p sound,
-        entry-same p.entry place p.ranges,
-        program-entry p sound,
+      none-outside len 0 place p.ranges (program-sound p sound) inside,
+      overlap-same 0 place p.ranges,
+      program-apart p sound,
+      entry-same p.entry place p.ranges,
+      program-entry p sound,
     ) refl
 
 -- a file with these headers and bytes is read as the program
@@ -124,13 +124,13 @@ unfolding elf_of
 read-as p b place sound file headers entry ranges inside =
     let loadables : loadables_of b ≡ headers_for place p.ranges = ap (filter is_loadable) headers ∙ filter-headers_for place p.ranges (program-sound p sound) in
     rw (
-        file,
-        headers,
-        filter-headers_for place p.ranges (program-sound p sound),
-        table-none place p.ranges (program-sound p sound) (program-few p sound),
-        entry,
-        loadables-none (length b) place p sound inside,
-        ranges,
+      file,
+      headers,
+      filter-headers_for place p.ranges (program-sound p sound),
+      table-none place p.ranges (program-sound p sound) (program-few p sound),
+      entry,
+      loadables-none (length b) place p sound inside,
+      ranges,
     ) refl
 
 pub elf_of-file_of : (p : Image) → is_program p ≡ true → p.entry < 2 ^ 32 → bytes_in p.ranges ≤ 1_073_741_824 → elf_of (file_of p) ≡ Accepted p
@@ -152,17 +152,17 @@ elf_of-file_of p sound entry small =
     let at = table-first p.entry count (table ++ contents) in
     let number = count-first p.entry count (table ++ contents) (omega arith) in
     let file : file_fault (header ++ (table ++ contents)) ≡ None = fault-none (header ++ (table ++ contents)) (omega arith)
-        (magic-first p.entry count (table ++ contents))
-        (class-first p.entry count (table ++ contents))
-        (type-first p.entry count (table ++ contents))
-        (machine-first p.entry count (table ++ contents))
-        (flags-first p.entry count (table ++ contents))
-        (versions-first p.entry count (table ++ contents))
-        (table-sound (header ++ (table ++ contents)) count number few (size-first p.entry count (table ++ contents)) at (omega arith)) in
+    (magic-first p.entry count (table ++ contents))
+    (class-first p.entry count (table ++ contents))
+    (type-first p.entry count (table ++ contents))
+    (machine-first p.entry count (table ++ contents))
+    (flags-first p.entry count (table ++ contents))
+    (versions-first p.entry count (table ++ contents))
+    (table-sound (header ++ (table ++ contents)) count number few (size-first p.entry count (table ++ contents)) at (omega arith)) in
     let headers : headers_of (header ++ (table ++ contents)) ≡ headers_for place p.ranges = rw (at, number) (rw header_len at (headers-read header contents place p.ranges (omega arith) all)) in
     let joined : header ++ (table ++ contents) ≡ (header ++ table) ++ contents = sym (append_assoc header table contents) in
     let ranges : map (range_in (header ++ (table ++ contents))) (headers_for place p.ranges) ≡ p.ranges =
-        rw joined (ranges-read (header ++ table) place p.ranges (omega (arith, length-append header table))) in
+    rw joined (ranges-read (header ++ table) place p.ranges (omega (arith, length-append header table))) in
     read-as p (header ++ (table ++ contents)) place sound file headers (entry-first p.entry count (table ++ contents) (omega arith)) ranges (omega arith)
 
 -- a written file has a few thousand bytes more than its program at most, and so offsets of 32 bits

@@ -27,10 +27,10 @@ answer-accepted (Some fault) image p e = cc
 loadable-all : (headers : List ProgramHeader) → list_all is_loadable (filter is_loadable headers) ≡ true
 loadable-all [] = refl
 loadable-all (h ∷ headers) = step (is_loadable h) refl (loadable-all headers) where
-    step : (passes : Bool) → is_loadable h ≡ passes → list_all is_loadable (filter is_loadable headers) ≡ true
-        → list_all is_loadable (cond passes (h ∷ filter is_loadable headers) (filter is_loadable headers)) ≡ true
-    step true e rest = and_from (is_loadable h) (list_all is_loadable (filter is_loadable headers)) e rest
-    step false e rest = rest
+  step : (passes : Bool) → is_loadable h ≡ passes → list_all is_loadable (filter is_loadable headers) ≡ true
+      → list_all is_loadable (cond passes (h ∷ filter is_loadable headers) (filter is_loadable headers)) ≡ true
+  step true e rest = and_from (is_loadable h) (list_all is_loadable (filter is_loadable headers)) e rest
+  step false e rest = rest
 
 range-sound : (b : List ℕ) (h : ProgramHeader) → is_loadable h ≡ true → is_outside (length b) h ≡ false → is_sound (range_in b h) ≡ true
 unfolding is_outside
@@ -46,10 +46,10 @@ ranges-sound b i [] loadable inside = refl
 ranges-sound b i (h ∷ headers) loadable inside =
     let parts = and_parts (is_loadable h) (list_all is_loadable headers) loadable in
     step (is_outside (length b) h) refl inside parts.0 (ranges-sound b (i + 1) headers parts.1) where
-        step : (outside : Bool) → is_outside (length b) h ≡ outside → cond outside (Some i) (position_from (is_outside (length b)) (i + 1) headers) ≡ None → is_loadable h ≡ true
-            → (position_from (is_outside (length b)) (i + 1) headers ≡ None → list_all is_sound (map (range_in b) headers) ≡ true) → list_all is_sound (map (range_in b) (h ∷ headers)) ≡ true
-        step true e none loads rest = cc
-        step false e none loads rest = and_from _ _ (range-sound b h loads e) (rest none)
+      step : (outside : Bool) → is_outside (length b) h ≡ outside → cond outside (Some i) (position_from (is_outside (length b)) (i + 1) headers) ≡ None → is_loadable h ≡ true
+          → (position_from (is_outside (length b)) (i + 1) headers ≡ None → list_all is_sound (map (range_in b) headers) ≡ true) → list_all is_sound (map (range_in b) (h ∷ headers)) ≡ true
+      step true e none loads rest = cc
+      step false e none loads rest = and_from _ _ (range-sound b h loads e) (rest none)
 
 place-kept : (b : List ℕ) (x : Extent) (i : ℕ) (headers : List ProgramHeader) →
     position_from (λ y. shares x (range_extent y)) i (map (range_in b) headers) ≡ position_from (λ y. shares x (extent_of y)) i headers
@@ -76,9 +76,9 @@ loadables-kept len entry headers e =
     let outside = none-first (option_map _ (position_from (is_outside len) 0 headers)) _ e in
     let apart = none-first (overlap_fault (overlap_from extent_of 0 headers)) _ outside.1 in
     (none-mapped _ _ outside.0, none-mapped _ _ apart.0, held (is_entry extent_of entry headers) Entry apart.1) where
-        held : (x : Bool) (fault : ElfFault) → cond x None (Some fault) ≡ None → x ≡ true
-        held true fault h = refl
-        held false fault h = cc
+      held : (x : Bool) (fault : ElfFault) → cond x None (Some fault) ≡ None → x ≡ true
+      held true fault h = refl
+      held false fault h = cc
 
 image-program : (b : List ℕ) → fault_of b ≡ None → is_program (image_in b) ≡ true
 unfolding is_program

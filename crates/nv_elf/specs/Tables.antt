@@ -104,16 +104,16 @@ header-read front rest offset r fits sound =
     let bytes = sound-bytes r sound in
     let end = sound-end r sound in
     let at : (place : ℕ) → field_at 4 (front ++ (program_header offset r ++ rest)) (length front + place) ≡ field_at 4 (program_header offset r ++ rest) place =
-        λ place. field_at-append 4 front (program_header offset r ++ rest) place in
+    λ place. field_at-append 4 front (program_header offset r ++ rest) place in
     let first : field_at 4 (front ++ (program_header offset r ++ rest)) (length front) ≡ 1 =
-        ap (field_at 4 (front ++ (program_header offset r ++ rest))) (omega arith) ∙ at 0 ∙ kind-first offset r rest in
+    ap (field_at 4 (front ++ (program_header offset r ++ rest))) (omega arith) ∙ at 0 ∙ kind-first offset r rest in
     rw (
-        first,
-        at 4 ∙ offset-first offset r rest (omega arith),
-        at 8 ∙ address-first offset r rest (omega arith),
-        at 16 ∙ file_size-first offset r rest (omega arith),
-        at 20 ∙ memory_size-first offset r rest (omega arith),
-        at 24 ∙ flags-first offset r rest (rights r.read r.write r.execute).0,
+      first,
+      at 4 ∙ offset-first offset r rest (omega arith),
+      at 8 ∙ address-first offset r rest (omega arith),
+      at 16 ∙ file_size-first offset r rest (omega arith),
+      at 20 ∙ memory_size-first offset r rest (omega arith),
+      at 24 ∙ flags-first offset r rest (rights r.read r.write r.execute).0,
     ) refl
 
 -- the table of program headers reads back
@@ -132,8 +132,8 @@ headers-read front rest place (r ∷ ranges) fits sound =
     let further : length front + 32 ≡ length (front ++ header) = sym (length-append front header ∙ ap (λ n. length front + n) (length-program_header offset r)) in
     let here : header_at (front ++ (header ++ more)) (length front) ≡ header_for offset r = header-read front more offset r (omega arith) parts.0 in
     let rest_read : headers_from (front ++ (header ++ more)) (length front + 32) (length ranges) ≡ headers_for (behind place r) ranges =
-        rw (later, further) (headers-read (front ++ header) rest (behind place r) ranges (omega arith) parts.1) in
-    ap (λ b. headers_from b (length front) (length (r ∷ ranges))) whole 
+    rw (later, further) (headers-read (front ++ header) rest (behind place r) ranges (omega arith) parts.1) in
+    ap (λ b. headers_from b (length front) (length (r ∷ ranges))) whole
     ∙ ap (λ h. h ∷ headers_from (front ++ (header ++ more)) (length front + 32) (length ranges)) here ∙ ap (λ hs. header_for offset r ∷ hs) rest_read
 
 -- the bytes of the ranges read back
@@ -148,11 +148,11 @@ ranges-read front place (r ∷ ranges) behind_front =
     let long : length (front ++ zeros) ≡ place + padding place = omega (arith, length-append front zeros, length-replicate {A = ℕ} (padding place) 0) in
     let longer : length ((front ++ zeros) ++ r.bytes) ≡ behind place r = omega (arith, length-append (front ++ zeros) r.bytes) in
     let bytes : take (length r.bytes) (drop (place + padding place) ((front ++ zeros) ++ (r.bytes ++ more))) ≡ r.bytes =
-        ap (take (length r.bytes)) (drop_at (front ++ zeros) (r.bytes ++ more) (place + padding place) long) ∙ take_at r.bytes more (length r.bytes) refl in
+    ap (take (length r.bytes)) (drop_at (front ++ zeros) (r.bytes ++ more) (place + padding place) long) ∙ take_at r.bytes more (length r.bytes) refl in
     let flags = rights r.read r.write r.execute in
     let here : range_in ((front ++ zeros) ++ (r.bytes ++ more)) (header_for (place + padding place) r) ≡ r = rw (bytes, flags.1, flags.2, flags.3) refl in
     let later : map (range_in ((front ++ zeros) ++ (r.bytes ++ more))) (headers_for (behind place r) ranges) ≡ ranges =
-        rw passed (ranges-read ((front ++ zeros) ++ r.bytes) (behind place r) ranges longer) in
+    rw passed (ranges-read ((front ++ zeros) ++ r.bytes) (behind place r) ranges longer) in
     ap (λ b. map (range_in b) (headers_for place (r ∷ ranges))) padded
     ∙ ap (λ x. x ∷ map (range_in ((front ++ zeros) ++ (r.bytes ++ more))) (headers_for (behind place r) ranges)) here ∙ ap (λ xs. r ∷ xs) later
 

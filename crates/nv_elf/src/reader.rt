@@ -1,5 +1,5 @@
 // The reader of version files.
-ghost use Rattle.std.specs.Prelude.{◌≡◌, ◌≤◌, ◌<◌, ◌+◌, ◌*◌, ◌⊎◌, Some, None, IsTrue, IfSome, IfOk, IfErr, OnOk, MatchResult, All, length, filter, map, false};
+ghost use Rattle.std.specs.Prelude.{◌≡◌, ◌≤◌, ◌<◌, ◌+◌, ◌*◌, ◌⊎◌, Some, None, IsTrue, IfSome, IfOk, IfErr, OnOk, MatchResult, All, length, filter, map, false, vec_len};
 ghost use Rattle.std.specs.List.{list_any, position_from};
 ghost use Rattle.nv_elf.specs.Elf.{file_fault, table_fault, loadables_fault, has_magic, has_class, has_versions, has_table, headers_from, headers_of, is_loadable, is_interpreted, is_outside, extent_of, shares, holds_entry, overlap_from, is_entry, range_in, range_of, elf_of, image_of, Accepted, Refused};
 ghost use Rattle.nv_elf.specs.Written.{is_program};
@@ -11,11 +11,17 @@ use nv_bytes::{u16_at, u32_at};
 use std::alloc::{AllocError, Global};
 
 const HEADER_LENGTH: usize = 52;
+
 const EXECUTABLE: u16 = 2;
+
 const RISC_V: u16 = 243;
+
 const REFUSED_FLAGS: u32 = 0xf;
+
 const MOST_HEADERS: usize = 64;
+
 const MOST_LOADABLES: usize = 16;
+
 const PROGRAM_HEADER_LENGTH: usize = 32;
 
 fn has_table(bytes: &[u8]) -> bool
@@ -26,7 +32,9 @@ fn has_table(bytes: &[u8]) -> bool
     let count = usize::from(u16_at(bytes, 44));
     let size = usize::from(u16_at(bytes, 42));
     count <= MOST_HEADERS
-        && (count == 0 || (size == PROGRAM_HEADER_LENGTH && start + PROGRAM_HEADER_LENGTH * count <= bytes.len()))
+        && (count == 0
+            || (size == PROGRAM_HEADER_LENGTH
+                && start + PROGRAM_HEADER_LENGTH * count <= bytes.len()))
 }
 
 fn has_magic(bytes: &[u8]) -> bool
@@ -82,7 +90,12 @@ fn check_file(bytes: &[u8]) -> Result<(), ElfFault>
 }
 
 // The program headers from a place on, this many.
-fn headers(alloc: Global, bytes: &[u8], start: usize, count: usize) -> Result<Vec<ProgramHeader>, AllocError>
+fn headers(
+    alloc: Global,
+    bytes: &[u8],
+    start: usize,
+    count: usize,
+) -> Result<Vec<ProgramHeader>, AllocError>
     requires { start + 32 * count ≤ length bytes.now }
     ensures { IfOk result (λ headers. headers.items ≡ headers_from bytes.now start count) }
 {
@@ -99,14 +112,22 @@ fn program_headers(alloc: Global, bytes: &[u8]) -> Result<Vec<ProgramHeader>, Al
     ensures { IfOk result (λ headers. headers.items ≡ headers_of bytes.now) }
 {
     let count = usize::from(u16_at(bytes, 44));
-    let start = if count == 0 { 0 } else { u32_at(bytes, 28) as usize };
+    let start = if count == 0 {
+        0
+    } else {
+        u32_at(bytes, 28) as usize
+    };
     headers(alloc, bytes, start, count)
 }
 
 fn loadables(alloc: Global, headers: &[ProgramHeader]) -> Result<Vec<ProgramHeader>, AllocError>
     ensures { IfOk result (λ loadables. loadables.items ≡ filter is_loadable headers.now) }
 {
-    headers.iter().copied().filter(|header| header.is_loadable()).collect(alloc)
+    headers
+        .iter()
+        .copied()
+        .filter(|header| header.is_loadable())
+        .collect(alloc)
 }
 
 fn has_interpreted(headers: &[ProgramHeader]) -> bool
@@ -188,7 +209,11 @@ fn check_loadables(loadables: &[ProgramHeader], len: usize, entry: u32) -> Resul
     Ok(())
 }
 
-fn segments(alloc: Global, bytes: &[u8], loadables: &[ProgramHeader]) -> Result<Vec<Segment>, AllocError>
+fn segments(
+    alloc: Global,
+    bytes: &[u8],
+    loadables: &[ProgramHeader],
+) -> Result<Vec<Segment>, AllocError>
     requires { All (λ header. is_outside (length bytes.now) header ≡ false) loadables.now }
     ensures { IfOk result (λ segments. map range_of segments.items ≡ map (range_in bytes.now) loadables.now) }
 {
@@ -202,6 +227,8 @@ fn segments(alloc: Global, bytes: &[u8], loadables: &[ProgramHeader]) -> Result<
 /// Reads a version file.
 pub fn read(alloc: Global, bytes: &[u8]) -> Result<Program, ElfFault>
     ensures program { IfOk result (λ program. elf_of bytes.now ≡ Accepted (image_of program)) }
+
+    ensures few { IfOk result (λ program. vec_len program.segments ≤ 16) }
 
     ensures sound { IfOk result (λ program. IsTrue (is_program (image_of program))) }
 

@@ -8,8 +8,11 @@ use crate::{Program, Segment};
 use std::alloc::{AllocError, Global};
 
 const IDENT: [u8; 16] = [0x7f, b'E', b'L', b'F', 1, 1, 1, 0, 0, 0, 0, 0, 0, 0, 0, 0];
+
 const FILE_HEADER_LENGTH: usize = 52;
+
 const PROGRAM_HEADER_LENGTH: usize = 32;
+
 const ALIGNMENT: usize = 4;
 
 fn push_half(out: &mut Vec<u8>, value: u16) -> Result<(), AllocError>
@@ -47,7 +50,9 @@ fn push_file_header(out: &mut Vec<u8>, entry: u32, count: u16) -> Result<(), All
 fn flags(segment: &Segment) -> u32
     ensures { result ≡ flags_of (range_of segment.now) }
 {
-    (if segment.read { 4 } else { 0 }) + (if segment.write { 2 } else { 0 }) + (if segment.execute { 1 } else { 0 })
+    (if segment.read { 4 } else { 0 })
+        + (if segment.write { 2 } else { 0 })
+        + (if segment.execute { 1 } else { 0 })
 }
 
 fn push_program_header(out: &mut Vec<u8>, segment: &Segment, offset: u32) -> Result<(), AllocError>
@@ -115,7 +120,11 @@ pub fn write(alloc: Global, program: &Program) -> Result<Vec<u8>, AllocError>
     let mut out = Vec::new(alloc);
     let count = program.segments.len();
     push_file_header(&mut out, program.entry, count as u16)?;
-    push_table(&mut out, &program.segments, FILE_HEADER_LENGTH + PROGRAM_HEADER_LENGTH * count)?;
+    push_table(
+        &mut out,
+        &program.segments,
+        FILE_HEADER_LENGTH + PROGRAM_HEADER_LENGTH * count,
+    )?;
     push_contents(&mut out, &program.segments)?;
     Ok(out)
 }

@@ -123,7 +123,7 @@ lies_on r regions [] h = tt
 lies_on r regions (s ∷ ss) h = (or_right _ _ h.0, lies_on r regions ss h.1)
 
 in_own : (s : Segment) → has_range s.address (length s.bytes.items) (region_of (range_of s)) ≡ true
-in_own s = let fits : length s.bytes.items ≤ s.size = omega (arith, s.bytes_fit) in grind (arith, nat_tests)
+in_own s = let fits : length s.bytes.items ≤ s.size = omega (arith, s.fits) in grind (arith, nat_tests)
 
 all_lie : (segments : List Segment) (others : List Region) → AllByRecursion (LiesIn (map region_of (map range_of segments) ++ others)) segments
 all_lie [] others = tt

@@ -28,7 +28,8 @@ take_front_of [] more (suc n) h = absurd (omega arith)
 take_front_of (d ∷ log) more (suc n) h = ap (λ x. d ∷ x) (take_front_of log more n (omega arith))
 
 module _ {P : Type 0} (g : Behaviour P) (laws : IsProcess g) (judge : Judge) (log more : List Entry) where
-  same_next : (s : Follower P) (o : Option Entry) (f : Option Fate) → slice_get log s.seen ≡ o → (on_next g judge log s o f ≡ s) ⊎ (on_next g judge log s o f ≡ on_next g judge (log ++ more) s (slice_get (log ++ more) s.seen) f)
+  same_next : (s : Follower P) (o : Option Entry) (f : Option Fate) → slice_get log s.seen ≡ o
+      → (on_next g judge log s o f ≡ s) ⊎ (on_next g judge log s o f ≡ on_next g judge (log ++ more) s (slice_get (log ++ more) s.seen) f)
   same_next s o (Some f) h = inl refl
   same_next s None None h = inl refl
   same_next s (Some e) None h = let k : slice_get (log ++ more) s.seen ≡ Some e = get_front log more s.seen e h in inr (rw k refl)
@@ -38,10 +39,14 @@ module _ {P : Type 0} (g : Behaviour P) (laws : IsProcess g) (judge : Judge) (lo
   next_same s = same_next s (slice_get log s.seen) s.fate refl
 
   extend_by : (n : ℕ) (s t : Follower P) → stage (next g judge log) n s ≡ t → Reaches (next g judge (log ++ more)) s t
-  extend_by zero s t h = subst (λ (x : Follower P). Reaches (next g judge (log ++ more)) s x) (sym (stage_zero (next g judge log) s) ∙ h) (reach_here (next g judge (log ++ more)) s)
+  extend_by zero s t h = subst (λ (x : Follower P). Reaches (next g judge (log ++ more)) s x) (sym (stage_zero (next g judge log) s) ∙ h)
+      (reach_here (next g judge (log ++ more)) s)
   extend_by (suc n) s t h = elim (next_same s) [
-    | inl e ↦ subst (λ (x : Follower P). Reaches (next g judge (log ++ more)) s x) (sym (stage_rests (next g judge log) (suc n) s e) ∙ h) (reach_here (next g judge (log ++ more)) s)
-    | inr e ↦ reach_first (next g judge (log ++ more)) s t (subst (λ (x : Follower P). Reaches (next g judge (log ++ more)) x t) e (extend_by n (next g judge log s) t (sym (stage_one (next g judge log) n s) ∙ h)))
+    | inl e ↦ subst (λ (x : Follower P). Reaches (next g judge (log ++ more)) s x) (sym (stage_rests (next g judge log) (suc n) s e) ∙ h)
+        (reach_here (next g judge (log ++ more)) s)
+    | inr e ↦ reach_first (next g judge (log ++ more)) s t
+        (subst (λ (x : Follower P). Reaches (next g judge (log ++ more)) x t) e
+        (extend_by n (next g judge log s) t (sym (stage_one (next g judge log) n s) ∙ h)))
   ]
 
   -- what follow comes to is reached, and rests
@@ -55,7 +60,8 @@ module _ {P : Type 0} (g : Behaviour P) (laws : IsProcess g) (judge : Judge) (lo
 module _ {P : Type 0} (g : Behaviour P) (laws : IsProcess g) (judge : Judge) (log : List Entry) where
   pub follow_rests : (s : Follower P) → next g judge log (follow g judge log s) ≡ follow g judge log s
   unfolding follow size
-  follow_rests s = at_rest (next g judge log) (size g (length log)) (follow_falls g laws judge log) (length log + g.calls_left s.process + 1) s (bound g laws judge log s s.fate refl)
+  follow_rests s = at_rest (next g judge log) (size g (length log)) (follow_falls g laws judge log)
+      (length log + g.calls_left s.process + 1) s (bound g laws judge log s s.fate refl)
 
 reach_by : {S : Type 0} (step : S → S) (n : ℕ) (s t u : S) → stage step n s ≡ t → Reaches step t u → Reaches step s u
 reach_by {S} step zero s t u h q = subst (λ (x : S). Reaches step x u) (sym (sym (stage_zero step s) ∙ h)) q
@@ -65,11 +71,13 @@ pub reach_all : {S : Type 0} (step : S → S) (s t u : S) → Reaches step s t �
 reach_all step s t u r q = reach_by step r.steps s t u r.is q
 
 -- following on
-pub follow_on : {P : Type 0} (g : Behaviour P) (laws : IsProcess g) (judge : Judge) (log more : List Entry) (s : Follower P) → follow g judge (log ++ more) (follow g judge log s) ≡ follow g judge (log ++ more) s
+pub follow_on : {P : Type 0} (g : Behaviour P) (laws : IsProcess g) (judge : Judge) (log more : List Entry) (s : Follower P)
+    → follow g judge (log ++ more) (follow g judge log s) ≡ follow g judge (log ++ more) s
 follow_on g laws judge log more s =
     let f = follow g judge log s in
     follow_is g laws judge (log ++ more) s (follow g judge (log ++ more) f)
-    (reach_all (next g judge (log ++ more)) s f (follow g judge (log ++ more) f) (extended g laws judge log more s) (follow_reached g laws judge (log ++ more) [] f))
+    (reach_all (next g judge (log ++ more)) s f (follow g judge (log ++ more) f) (extended g laws judge log more s)
+        (follow_reached g laws judge (log ++ more) [] f))
     (follow_rests g laws judge (log ++ more) f)
 
 -- in step with the log is in step with the longer one
@@ -82,7 +90,11 @@ in_step_on g log more s i = record {
 }
 
 module _ {P : Type 0} (g : Behaviour P) (replies : Start) (most : ℕ) (cut : Option ℕ) where
-  if_grows : (s : Leader P) (p : P) (t : ℕ) (b d : Bool) → (more : List Entry) × ((cond b (record s { process = p; fate = Some (Faulted Calls t (g.pc p t)) }) (cond d (record s { process = p; fate = Some Memory }) (logged g replies most cut s (g.answered p t (served replies s.log (g.call p t)).reply) (served replies s.log (g.call p t))))).log ≡ s.log ++ more)
+  if_grows : (s : Leader P) (p : P) (t : ℕ) (b d : Bool)
+      → (more : List Entry) × ((cond b (record s { process = p; fate = Some (Faulted Calls t (g.pc p t)) })
+      (cond d (record s { process = p; fate = Some Memory })
+      (logged g replies most cut s (g.answered p t (served replies s.log (g.call p t)).reply)
+      (served replies s.log (g.call p t))))).log ≡ s.log ++ more)
   if_grows s p t true d = ([], sym (append-nil s.log))
   if_grows s p t false true = ([], sym (append-nil s.log))
   if_grows s p t false false = (served replies s.log (g.call p t) ∷ [], refl)

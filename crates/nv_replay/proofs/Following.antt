@@ -23,13 +23,17 @@ module _ {P : Type 0} (g : Behaviour P) (judge : Judge) (e : Entry) (s : Followe
   unfolding met
   met_again q p (Fault kind tid pc) = refl
   met_again q p (Asked t) =
-      ap (λ x. cond (is_same (g.call p t) e.call) (consumed g s (g.answered p t e.reply)) x) (judged_again q p t (refusal_by judge e (g.call p t)) (permit_by judge e (g.call p t)))
+      ap (λ x. cond (is_same (g.call p t) e.call) (consumed g s (g.answered p t e.reply)) x)
+          (judged_again q p t (refusal_by judge e (g.call p t)) (permit_by judge e (g.call p t)))
 
-  pub decided_fault : (k : FaultKind) (t pc : ℕ) → g.came s.process (Only e.call.tid) ≡ Fault k t pc → decided g judge e s ≡ record s { process = g.after s.process (Only e.call.tid); fate = Some (Faulted k t pc) }
+  pub decided_fault : (k : FaultKind) (t pc : ℕ) → g.came s.process (Only e.call.tid) ≡ Fault k t pc
+      → decided g judge e s ≡ record s { process = g.after s.process (Only e.call.tid); fate = Some (Faulted k t pc) }
   unfolding decided met
   decided_fault k t pc h = rw h refl
 
-  pub decided_asked : (t : ℕ) → g.came s.process (Only e.call.tid) ≡ Asked t → decided g judge e s ≡ met g judge e (record s { process = g.after s.process (Only e.call.tid) }) (g.after s.process (Only e.call.tid)) (Asked t)
+  pub decided_asked : (t : ℕ) → g.came s.process (Only e.call.tid) ≡ Asked t
+      → decided g judge e s ≡ met g judge e (record s { process = g.after s.process (Only e.call.tid) })
+      (g.after s.process (Only e.call.tid)) (Asked t)
   unfolding decided
   decided_asked t h = rw h (sym (met_again (g.after s.process (Only e.call.tid)) (g.after s.process (Only e.call.tid)) (Asked t)))
 
@@ -37,7 +41,8 @@ module _ {P : Type 0} (g : Behaviour P) (judge : Judge) (e : Entry) (s : Followe
   unfolding met
   met_same p t h = rw h refl
 
-  pub met_other : (p : P) (t : ℕ) → is_same (g.call p t) e.call ≡ false → met g judge e s p (Asked t) ≡ judged g s p t (refusal_by judge e (g.call p t)) (permit_by judge e (g.call p t))
+  pub met_other : (p : P) (t : ℕ) → is_same (g.call p t) e.call ≡ false
+      → met g judge e s p (Asked t) ≡ judged g s p t (refusal_by judge e (g.call p t)) (permit_by judge e (g.call p t))
   unfolding met
   met_other p t h = rw h refl
 

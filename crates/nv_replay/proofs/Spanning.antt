@@ -12,7 +12,8 @@ grown_at (y ∷ z ∷ zs) (suc k) x h e = ap (λ l. y ∷ l) (grown_at (z ∷ zs
 
 grown_by : (xs : List (ℕ × ℕ)) (n : ℕ) → EndBy n xs → (i : ℕ) (x : ℕ × ℕ) → slice_get (grown xs) i ≡ Some x → x.1 ≤ n + 1
 grown_by [] n f i x h = cc
-grown_by (y ∷ []) n f zero x h = let e : (y.0, y.1 + 1) ≡ x = cc in let P : ℕ × ℕ → Type 0 = λ z. z.1 ≤ n + 1 in subst P e (omega (arith, f.each 0 y refl))
+grown_by (y ∷ []) n f zero x h = let e : (y.0, y.1 + 1) ≡ x = cc in let P : ℕ × ℕ
+    → Type 0 = λ z. z.1 ≤ n + 1 in subst P e (omega (arith, f.each 0 y refl))
 grown_by (y ∷ []) n f (suc i) x h = cc
 grown_by (y ∷ z ∷ zs) n f zero x h = omega (arith, f.each 0 x h)
 grown_by (y ∷ z ∷ zs) n f (suc i) x h = grown_by (z ∷ zs) n (record { each = λ j t k. f.each (suc j) t k }) i x h

@@ -46,7 +46,9 @@ quiet_live live e h =
 -- what the rules answer or pass moves no thread
 pass_quiet : (c : Request) (e : Entry) (v : Verdict) → permit c e v ≡ Drop → is_of_threads e.call.nr ≡ false
 pass_quiet c e Allow h = elim (constant_of c) as (λ o. given o ≡ Drop → is_of_threads e.call.nr ≡ false) [ None ↦ λ k. cc | Some x ↦ λ k. cc ] h
-pass_quiet c e (Errno k) h = elim (nat_le k 4095 && not (is_of_threads c.nr)) as (λ b. cond b (Give (record { ret = pos 0 -ℤ pos k; payload = [] })) No ≡ Drop → is_of_threads e.call.nr ≡ false) [ true ↦ λ q. cc | false ↦ λ q. cc ] h
+pass_quiet c e (Errno k) h = elim (nat_le k 4095 && not (is_of_threads c.nr)) as
+    (λ b. cond b (Give (record { ret = pos 0 -ℤ pos k; payload = [] })) No ≡ Drop
+    → is_of_threads e.call.nr ≡ false) [ true ↦ λ q. cc | false ↦ λ q. cc ] h
 pass_quiet c e Skip h = elim (is_of_threads e.call.nr) as (λ b. cond b No Drop ≡ Drop → b ≡ false) [ true ↦ λ q. cc | false ↦ λ q. refl ] h
 pass_quiet c e (Refuse v) h = cc
 
@@ -83,11 +85,13 @@ errno_quiet false true x r h = cc
 give_quiet : (c : Request) (e : Entry) (v : Verdict) (r : Response) → permit c e v ≡ Give r → is_of_threads c.nr ≡ false
 give_quiet c e Allow r h = constant_quiet c (is_of_threads c.nr) r refl h
 give_quiet c e (Errno k) r h = errno_quiet (nat_le k 4095) (is_of_threads c.nr) (record { ret = pos 0 -ℤ pos k; payload = [] }) r h
-give_quiet c e Skip r h = elim (is_of_threads e.call.nr) as (λ b. cond b No Drop ≡ Give r → is_of_threads c.nr ≡ false) [ true ↦ λ q. cc | false ↦ λ q. cc ] h
+give_quiet c e Skip r h = elim (is_of_threads e.call.nr) as (λ b. cond b No Drop ≡ Give r
+    → is_of_threads c.nr ≡ false) [ true ↦ λ q. cc | false ↦ λ q. cc ] h
 give_quiet c e (Refuse v) r h = cc
 
 -- one more event of a log
-pub live_more : (live : List ℕ) (log : List Entry) (i : ℕ) (e : Entry) → slice_get log i ≡ Some e → live_from live (take (i + 1) log) ≡ live_next (live_from live (take i log)) e
+pub live_more : (live : List ℕ) (log : List Entry) (i : ℕ) (e : Entry) → slice_get log i ≡ Some e
+    → live_from live (take (i + 1) log) ≡ live_next (live_from live (take i log)) e
 live_more live [] i e h = cc
 live_more live (d ∷ log) zero e h = let k : d ≡ e = cc in rw k refl
 live_more live (d ∷ log) (suc i) e h = let k : suc i + 1 ≡ suc (i + 1) = omega arith in rw k (live_more (live_next live d) log i e h)
@@ -106,16 +110,21 @@ module _ {P : Type 0} (g : Behaviour P) (laws : IsProcess g) (judge : Judge) whe
   still_on p q None h l e = h
   still_on p q (Some s) h l e = absurd (laws.ended p (sym l ∙ laws.lives q s h) e)
 
-  given_live : (p : P) (t n : ℕ) (r : Response) → g.pending p t ≡ true → Contains (g.live p) t → is_of_threads (g.call p t).nr ≡ false → g.live (g.answered p t r) ≡ g.live p
+  given_live : (p : P) (t n : ℕ) (r : Response) → g.pending p t ≡ true → Contains (g.live p) t → is_of_threads (g.call p t).nr ≡ false
+      → g.live (g.answered p t r) ≡ g.live p
   given_live p t n r h k q =
       laws.live_answer p t n r h k (quiet_child (event_of g p t r n) q) ∙ quiet_live (g.live p) (event_of g p t r n) q
 
-  pub same_live : (p : P) (t : ℕ) (e : Entry) → g.pending p t ≡ true → Contains (g.live p) t → g.call p t ≡ e.call → child_of e ≡ None → g.live (g.answered p t e.reply) ≡ live_next (g.live p) e
+  pub same_live : (p : P) (t : ℕ) (e : Entry) → g.pending p t ≡ true → Contains (g.live p) t → g.call p t ≡ e.call → child_of e ≡ None
+      → g.live (g.answered p t e.reply) ≡ live_next (g.live p) e
   same_live p t e h k c n =
       let ev : event_of g p t e.reply e.stamp ≡ e = λ i. record { stamp = e.stamp; call = c i; reply = e.reply } in
       laws.live_answer p t e.stamp e.reply h k (ap child_of ev ∙ n) ∙ ap (live_next (g.live p)) ev
 
-  judged_by : (log : List Entry) (e : Entry) (s : Follower P) (p : P) (t : ℕ) (f : Fate) (o : Permit) → slice_get log s.seen ≡ Some e → IsInStep g log s → s.fate ≡ None → g.live p ≡ g.live s.process → g.pending p t ≡ true → Contains (g.live p) t → (o ≡ Drop → is_of_threads e.call.nr ≡ false) → ((r : Response) → o ≡ Give r → is_of_threads (g.call p t).nr ≡ false) → is_exited (Some f) ≡ false → IsInStep g log (judged g s p t f o)
+  judged_by : (log : List Entry) (e : Entry) (s : Follower P) (p : P) (t : ℕ) (f : Fate) (o : Permit) → slice_get log s.seen ≡ Some e
+      → IsInStep g log s → s.fate ≡ None → g.live p ≡ g.live s.process → g.pending p t ≡ true → Contains (g.live p) t
+      → (o ≡ Drop → is_of_threads e.call.nr ≡ false) → ((r : Response) → o ≡ Give r → is_of_threads (g.call p t).nr ≡ false)
+      → is_exited (Some f) ≡ false → IsInStep g log (judged g s p t f o)
   unfolding judged
   judged_by log e s p t f (Give r) h i n l q c a b x =
       let k = given_live p t 0 r q c (b r refl) ∙ l in record {
@@ -137,22 +146,35 @@ module _ {P : Type 0} (g : Behaviour P) (laws : IsProcess g) (judge : Judge) whe
     exited = λ m. let z : false ≡ true = sym x ∙ m in cc;
   }
 
-  judged_in_step : (log : List Entry) (e : Entry) (s : Follower P) (p : P) (t : ℕ) (f : Fate) (v : Verdict) → slice_get log s.seen ≡ Some e → IsInStep g log s → s.fate ≡ None → g.live p ≡ g.live s.process → g.pending p t ≡ true → Contains (g.live p) t → is_exited (Some f) ≡ false → IsInStep g log (judged g s p t f (permit (g.call p t) e v))
-  judged_in_step log e s p t f v h i n l q c x = judged_by log e s p t f (permit (g.call p t) e v) h i n l q c (pass_quiet (g.call p t) e v) (give_quiet (g.call p t) e v) x
+  judged_in_step : (log : List Entry) (e : Entry) (s : Follower P) (p : P) (t : ℕ) (f : Fate) (v : Verdict) → slice_get log s.seen ≡ Some e
+      → IsInStep g log s → s.fate ≡ None → g.live p ≡ g.live s.process → g.pending p t ≡ true → Contains (g.live p) t
+      → is_exited (Some f) ≡ false → IsInStep g log (judged g s p t f (permit (g.call p t) e v))
+  judged_in_step log e s p t f v h i n l q c x = judged_by log e s p t f (permit (g.call p t) e v) h i n l q c (pass_quiet (g.call p t) e v)
+      (give_quiet (g.call p t) e v) x
 
-  consumed_in_step : (log : List Entry) (e : Entry) (s : Follower P) (p : P) (t : ℕ) → slice_get log s.seen ≡ Some e → IsInStep g log s → s.fate ≡ None → g.live p ≡ g.live s.process → g.pending p t ≡ true → Contains (g.live p) t → g.call p t ≡ e.call → child_of e ≡ None → IsInStep g log (consumed g s (g.answered p t e.reply))
+  consumed_in_step : (log : List Entry) (e : Entry) (s : Follower P) (p : P) (t : ℕ) → slice_get log s.seen ≡ Some e → IsInStep g log s
+      → s.fate ≡ None → g.live p ≡ g.live s.process → g.pending p t ≡ true → Contains (g.live p) t → g.call p t ≡ e.call → child_of e ≡ None
+      → IsInStep g log (consumed g s (g.answered p t e.reply))
   consumed_in_step log e s p t h i n l q c k m = record {
     within = omega (arith, within log s.seen e h);
     live = λ u. same_live p t e q c k m ∙ (ap (λ x. live_next x e) (l ∙ i.live n) ∙ sym (live_more (100 ∷ []) log s.seen e h));
     on = λ u. none_back (g.ended (g.answered p t e.reply)) u;
-    exited = λ u. let x = exited_some (g.ended (g.answered p t e.reply)) u in sym (same_live p t e q c k m ∙ (ap (λ x. live_next x e) (l ∙ i.live n) ∙ sym (live_more (100 ∷ []) log s.seen e h))) ∙ laws.lives (g.answered p t e.reply) x.0 x.1;
+    exited = λ u. let x = exited_some (g.ended (g.answered p t e.reply)) u in sym
+        (same_live p t e q c k m ∙ (ap (λ x. live_next x e) (l ∙ i.live n) ∙ sym (live_more (100 ∷ []) log s.seen e h))) ∙ laws.lives
+        (g.answered p t e.reply) x.0 x.1;
   }
 
-  either_in_step : (log : List Entry) (e : Entry) (s : Follower P) (p : P) (u : ℕ) (b : Bool) → is_same (g.call p u) e.call ≡ b → slice_get log s.seen ≡ Some e → IsInStep g log s → s.fate ≡ None → g.live p ≡ g.live s.process → g.pending p u ≡ true → Contains (g.live p) u → child_of e ≡ None → IsInStep g log (cond b (consumed g s (g.answered p u e.reply)) (judged g s p u (refusal_by judge e (g.call p u)) (permit_by judge e (g.call p u))))
+  either_in_step : (log : List Entry) (e : Entry) (s : Follower P) (p : P) (u : ℕ) (b : Bool) → is_same (g.call p u) e.call ≡ b
+      → slice_get log s.seen ≡ Some e → IsInStep g log s → s.fate ≡ None → g.live p ≡ g.live s.process → g.pending p u ≡ true
+      → Contains (g.live p) u → child_of e ≡ None → IsInStep g log
+      (cond b (consumed g s (g.answered p u e.reply)) (judged g s p u (refusal_by judge e (g.call p u)) (permit_by judge e (g.call p u))))
   either_in_step log e s p u true b h i n l q c ch = consumed_in_step log e s p u h i n l q c (same_is (g.call p u) e.call b) ch
-  either_in_step log e s p u false b h i n l q c ch = judged_in_step log e s p u (refusal_by judge e (g.call p u)) (verdict_of (judge (g.call p u) e)) h i n l q c refl
+  either_in_step log e s p u false b h i n l q c ch = judged_in_step log e s p u (refusal_by judge e (g.call p u))
+      (verdict_of (judge (g.call p u) e)) h i n l q c refl
 
-  met_in_step : (log : List Entry) (e : Entry) (s : Follower P) (came : Came) → came ≡ g.came s.process (Only e.call.tid) → slice_get log s.seen ≡ Some e → IsInStep g log s → s.fate ≡ None → Contains (g.live s.process) e.call.tid → child_of e ≡ None → IsInStep g log (met g judge e s (g.after s.process (Only e.call.tid)) came)
+  met_in_step : (log : List Entry) (e : Entry) (s : Follower P) (came : Came) → came ≡ g.came s.process (Only e.call.tid)
+      → slice_get log s.seen ≡ Some e → IsInStep g log s → s.fate ≡ None → Contains (g.live s.process) e.call.tid → child_of e ≡ None
+      → IsInStep g log (met g judge e s (g.after s.process (Only e.call.tid)) came)
   unfolding met
   met_in_step log e s (Fault kind tid pc) k h i n here ch = record { within = i.within; live = λ m. cc; on = λ m. cc; exited = λ m. cc }
   met_in_step log e s (Asked u) k h i n here ch =
@@ -163,7 +185,8 @@ module _ {P : Type 0} (g : Behaviour P) (laws : IsProcess g) (judge : Judge) whe
       let c : Contains (g.live p) u = rw (l, ue) here in
       either_in_step log e s p u (is_same (g.call p u) e.call) refl h i n l q c ch
 
-  pub decided_in_step : (log : List Entry) (e : Entry) (s : Follower P) → IsLawful log → slice_get log s.seen ≡ Some e → IsInStep g log s → s.fate ≡ None → IsInStep g log (decided g judge e s)
+  pub decided_in_step : (log : List Entry) (e : Entry) (s : Follower P) → IsLawful log → slice_get log s.seen ≡ Some e → IsInStep g log s
+      → s.fate ≡ None → IsInStep g log (decided g judge e s)
   unfolding decided
   decided_in_step log e s law h i n =
       let may = law s.seen e h in

@@ -28,11 +28,14 @@ module _ {P : Type 0} (g : Behaviour P) (laws : IsProcess g) (judge : Judge) (lo
   unfolding next
   next_is e s h n = rw (h, n) refl
 
-  pub goes_on : (start now new : Running P) (e : Entry) → IsLawful log → slice_get log now.at.seen ≡ Some e → now.at.fate ≡ None → Goes g judge log start now → new ≡ record now { at = decided g judge e now.at } → Goes g judge log start new
+  pub goes_on : (start now new : Running P) (e : Entry) → IsLawful log → slice_get log now.at.seen ≡ Some e → now.at.fate ≡ None
+      → Goes g judge log start now → new ≡ record now { at = decided g judge e now.at } → Goes g judge log start new
   goes_on start now new e law h n o k =
-      let r : Reaches (next g judge log) start.at (decided g judge e now.at) = subst (λ x. Reaches (next g judge log) start.at x) (next_is e now.at h n) (reach_on (next g judge log) start.at now.at o.reach) in
+      let r : Reaches (next g judge log) start.at (decided g judge e now.at) = subst (λ x. Reaches (next g judge log) start.at x)
+          (next_is e now.at h n) (reach_on (next g judge log) start.at now.at o.reach) in
       let at : new.at ≡ decided g judge e now.at = ap (λ (x : Running P). x.at) k in
-      let q : record now { at = decided g judge e now.at } ≡ record start { at = decided g judge e now.at } = ap (λ (x : Running P). record x { at = decided g judge e now.at }) o.rest in
+      let q : record now { at = decided g judge e now.at } ≡ record start { at = decided g judge e now.at } = ap
+          (λ (x : Running P). record x { at = decided g judge e now.at }) o.rest in
       let P' : Running P → Type 0 = λ x. Goes g judge log start x in
       subst P' (sym k) (record { reach = r; rest = q; in_step = decided_in_step g laws judge log e now.at law h o.in_step n })
 
@@ -55,9 +58,11 @@ module _ {P : Type 0} (g : Behaviour P) (laws : IsProcess g) (judge : Judge) (lo
   -- what rests and was reached is the whole
   pub follow_is : (s t : Follower P) → Reaches (next g judge log) s t → next g judge log t ≡ t → t ≡ follow g judge log s
   unfolding follow size
-  follow_is s t r h = sym (reached (next g judge log) (size g (length log)) (follow_falls g laws judge log) (length log + g.calls_left s.process + 1) s (bound s s.fate refl) r.steps t r.is h)
+  follow_is s t r h = sym (reached (next g judge log) (size g (length log)) (follow_falls g laws judge log)
+      (length log + g.calls_left s.process + 1) s (bound s s.fate refl) r.steps t r.is h)
 
-  pub whole : (start now : Running P) → Goes g judge log start now → (length log ≤ now.at.seen) ⊎ (now.at.fate ≢ None) → now ≡ record start { at = follow g judge log start.at }
+  pub whole : (start now : Running P) → Goes g judge log start now → (length log ≤ now.at.seen) ⊎ (now.at.fate ≢ None)
+      → now ≡ record start { at = follow g judge log start.at }
   whole start now o h = o.rest ∙ ap (λ (x : Follower P). record start { at = x }) (follow_is start.at now.at o.reach (rests now.at h))
 
 pub get_map : (xs : List Event) (i : ℕ) (d : Event) → i < length xs → d ≡ get_or xs i d → slice_get (map entry xs) i ≡ Some (entry d)
@@ -69,7 +74,8 @@ pub length_map : (xs : List Event) → length (map entry xs) ≡ length xs
 length_map [] = refl
 length_map (x ∷ xs) = ap suc (length_map xs)
 
-pub at_next : (xs : List Event) (n m s : ℕ) (d : Event) → n ≡ s → n < length xs → m ≡ s → d ≡ get_or xs m d → slice_get (map entry xs) s ≡ Some (entry d)
+pub at_next : (xs : List Event) (n m s : ℕ) (d : Event) → n ≡ s → n < length xs → m ≡ s → d ≡ get_or xs m d
+    → slice_get (map entry xs) s ≡ Some (entry d)
 at_next xs n m s d p q r e = let k : m ≡ n = r ∙ sym p in rw (← r) (get_map xs m d (rw k q) e)
 
 pub none_from : (o f : Option Fate) → is_some o ≡ false → o ≡ f → f ≡ None

@@ -14,7 +14,8 @@ abbrev pub field : List ℕ → List ℕ
 field name = name ++ replicate (65 - length name) 0
 
 unfoldable pub names : List ℕ
-names = field (codes "Linux") ++ field (codes "varan") ++ field (codes "5.15.0") ++ field (codes "#1") ++ field (codes "riscv32") ++ field (codes "(none)")
+names = field (codes "Linux") ++ field (codes "varan") ++ field (codes "5.15.0") ++ field (codes "#1") ++ field (codes "riscv32") ++ field
+    (codes "(none)")
 
 -- uname
 abbrev pub system : Request → Option Response

@@ -52,7 +52,8 @@ module _ {P : Type 0} (g : Behaviour P) (judges : ℕ → Judge) (start : Start)
   -- the versions from number i on, behind the log of those before; over where one of those has exited
   unfoldable pub sequence_from : List P → ℕ → List Entry → Bool → Account
   sequence_from [] i log over = record { log = log; lines = [] }
-  sequence_from (p ∷ ps) i log over = turn i p (λ l o. sequence_from ps (i + 1) l o) log over (follow g (judges i) log (fresh p)) (leads over (follow g (judges i) log (fresh p)))
+  sequence_from (p ∷ ps) i log over = turn i p (λ l o. sequence_from ps (i + 1) l o) log over (follow g (judges i) log (fresh p))
+      (leads over (follow g (judges i) log (fresh p)))
 
   abbrev pub sequence : List P → Account
   sequence ps = sequence_from ps 0 [] false

@@ -61,7 +61,8 @@ module _ {P : Type 0} (g : Behaviour P) (most : ℕ) (r : Running P) where
 abbrev pub answered_by : {P : Type 0} → Behaviour P → Entry → Running P → Running P
 answered_by g e r =
     record r {
-      at = record r.at { process = g.answered r.at.process e.call.tid e.reply; seen = r.at.seen + 1; fate = option_map Exited (g.ended (g.answered r.at.process e.call.tid e.reply)) };
+      at = record r.at { process = g.answered r.at.process e.call.tid e.reply; seen = r.at.seen + 1; fate = option_map Exited
+          (g.ended (g.answered r.at.process e.call.tid e.reply)) };
       led = grown r.led;
       asked = None;
     }

@@ -1,5 +1,5 @@
 -- A run of a filter goes as its definition says, and stays within it.
-use Rattle.std.proofs.Common.{◌≡◌, ◌≢◌, ℕ, zero, suc, ◌+◌, ◌-◌, ◌/◌, ◌%◌, ◌<◌, ◌≤◌, ◌⊎◌, inl, inr, Bool, true, false, nat_lt, nat_le, nat_eq, ◌&&◌, List, [], ◌∷◌, Option, Some, None, length, drop, get_or, refl, sym, ap, ◌∙◌, arith, if◌then◌else◌, option_map, option_and_then}
+use Rattle.std.proofs.Common.{◌≡◌, ℕ, zero, suc, ◌+◌, ◌-◌, ◌<◌, ◌≤◌, ◌⊎◌, inl, inr, Bool, true, false, nat_lt, ◌&&◌, List, [], ◌∷◌, Option, Some, None, length, drop, refl, sym, ap, ◌∙◌, arith, if◌then◌else◌, option_map, option_and_then}
 use Rattle.std.proofs.lemmas.Bool.Decides.{nat_tests}
 use Rattle.std.proofs.lemmas.List.{at_drop_more, drop-drop}
 use Rattle.std.proofs.lemmas.Bool.{cases_lt}
@@ -12,7 +12,7 @@ use Rattle.nv_bpf.specs.declared.action.Action.TheVariants.{LoadWord, Load, Load
 use Rattle.nv_bpf.specs.Actions.{action_of}
 use Rattle.nv_bpf.specs.Verified.{unless, action_fault, fault_by, op_fault, list_fault, is_return, ends_in_return}
 use Rattle.nv_bpf.specs.FilterLaws.{list_fault-none, list_fault-op}
-use Rattle.nv_rules.specs.Values.{State, Outcome, Ends, Goes, goes_with, ends_without, computed, operand_of, holds, acted, stepped, gone_on, returned_from, start, returned}
+use Rattle.nv_rules.specs.Values.{State, Outcome, Ends, Goes, ends_without, computed, operand_of, holds, acted, stepped, gone_on, returned_from}
 use Rattle.nv_rules.specs.Machines.{IsUsable, IsKnown, IsSound}
 
 unless-none : (b : Bool) (f : FilterFault) → unless b f ≡ None → b ≡ true

@@ -6,6 +6,8 @@ mod machine;
 mod outcome;
 mod pair;
 mod running;
+#[cfg(test)]
+mod tests;
 
 pub use judging::verdict;
 pub use outcome::Verdict;

@@ -24,7 +24,8 @@ use Rattle.nv_sequence.specs.Alone.{alone, IsSurvivor, SurvivorsAgree}
 use Rattle.nv_sequence.proofs.Survivor.{survives}
 
 -- the cuts that an account tells are cuts of its lines
-at_place : (front : List Standing) (line : Standing) (lines : List Standing) → cuts_of (front ++ line ∷ lines) (length front) ≡ cut_of line.fate line.seen
+at_place : (front : List Standing) (line : Standing) (lines : List Standing)
+    → cuts_of (front ++ line ∷ lines) (length front) ≡ cut_of line.fate line.seen
 at_place [] line lines = refl
 at_place (x ∷ front) line lines = at_place front line lines
 
@@ -34,13 +35,17 @@ cuts_behind front (line ∷ lines) =
     let one : length (front ++ line ∷ []) ≡ length front + 1 = length-append front (line ∷ []) in
     let all : (front ++ line ∷ []) ++ lines ≡ front ++ line ∷ lines = append_assoc front (line ∷ []) lines in
     let A : ℕ → List Standing → Type 0 = λ i whole. AreCuts i lines (cuts_of whole) in
-    (at_place front line lines, subst (λ (i : ℕ). A i (front ++ line ∷ lines)) one (subst (λ (x : List Standing). A (length (front ++ line ∷ [])) x) all (cuts_behind (front ++ line ∷ []) lines)))
+    (at_place front line lines, subst (λ (i : ℕ). A i (front ++ line ∷ lines)) one
+        (subst (λ (x : List Standing). A (length (front ++ line ∷ [])) x) all (cuts_behind (front ++ line ∷ []) lines)))
 
 pub cuts_are : (lines : List Standing) → AreCuts 0 lines (cuts_of lines)
 cuts_are lines = cuts_behind [] lines
 
 module _ {P : Type 0} (g : Behaviour P) (replies : Start) (most : ℕ) (cut : Option ℕ) where
-  short_if : (s : Leader P) (p : P) (t : ℕ) (b d : Bool) → nat_le most (length s.log) ≡ b → length s.log ≤ most → length (cond b (record s { process = p; fate = Some (Faulted Calls t (g.pc p t)) }) (cond d (record s { process = p; fate = Some Memory }) (logged g replies most cut s (g.answered p t (served replies s.log (g.call p t)).reply) (served replies s.log (g.call p t))))).log ≤ most
+  short_if : (s : Leader P) (p : P) (t : ℕ) (b d : Bool) → nat_le most (length s.log) ≡ b → length s.log ≤ most
+      → length (cond b (record s { process = p; fate = Some (Faulted Calls t (g.pc p t)) })
+      (cond d (record s { process = p; fate = Some Memory })
+      (logged g replies most cut s (g.answered p t (served replies s.log (g.call p t)).reply) (served replies s.log (g.call p t))))).log ≤ most
   short_if s p t true d m h = h
   short_if s p t false true m h = h
   short_if s p t false false m h =
@@ -69,15 +74,19 @@ module _ {P : Type 0} (g : Behaviour P) (replies : Start) (most : ℕ) (cut : Op
   lead_short s h = short_stage (g.calls_left s.process + 1) s h
 
 module _ {P : Type 0} (g : Behaviour P) (judges : ℕ → Judge) (replies : Start) (most : ℕ) (cuts : ℕ → Option ℕ) where
-  turn_short : (p : P) (ps : List P) (i : ℕ) (log : List Entry) (over b : Bool) (f : Follower P) → ((i : ℕ) (log : List Entry) (over : Bool) → length log ≤ most → length (sequence_from g judges replies most cuts ps i log over).log ≤ most) → length log ≤ most
+  turn_short : (p : P) (ps : List P) (i : ℕ) (log : List Entry) (over b : Bool) (f : Follower P)
+      → ((i : ℕ) (log : List Entry) (over : Bool) → length log ≤ most
+      → length (sequence_from g judges replies most cuts ps i log over).log ≤ most) → length log ≤ most
       → length (turn g judges replies most cuts i p (λ l o. sequence_from g judges replies most cuts ps (i + 1) l o) log over f b).log ≤ most
   turn_short p ps i log over false f ih h = ih (i + 1) log over h
   turn_short p ps i log over true f ih h = ih (i + 1) _ _ (lead_short g replies most (cuts i) _ h)
 
-  pub sequence_short : (ps : List P) (i : ℕ) (log : List Entry) (over : Bool) → length log ≤ most → length (sequence_from g judges replies most cuts ps i log over).log ≤ most
+  pub sequence_short : (ps : List P) (i : ℕ) (log : List Entry) (over : Bool) → length log ≤ most
+      → length (sequence_from g judges replies most cuts ps i log over).log ≤ most
   unfolding sequence_from
   sequence_short [] i log over h = h
-  sequence_short (p ∷ ps) i log over h = turn_short p ps i log over (leads over (follow g (judges i) log (fresh p))) (follow g (judges i) log (fresh p)) (sequence_short ps) h
+  sequence_short (p ∷ ps) i log over h = turn_short p ps i log over (leads over (follow g (judges i) log (fresh p)))
+      (follow g (judges i) log (fresh p)) (sequence_short ps) h
 
 module _ {P : Type 0} (g : Behaviour P) (laws : IsProcess g) (replies : Start) (most : ℕ) where
   empty_follow : (judge : Judge) (p : P) → follow g judge [] (fresh p) ≡ fresh p
@@ -88,7 +97,9 @@ module _ {P : Type 0} (g : Behaviour P) (laws : IsProcess g) (replies : Start) (
   alone_leads : (p : P) → (alone g replies most p).log ≡ (lead g replies most None (record { process = p; log = []; fate = None })).log
   unfolding sequence_from
   alone_leads p =
-      let T : Follower P → Type 0 = λ f. (turn g (λ i c e. 0) replies most (λ i. None) 0 p (λ l o. sequence_from g (λ i c e. 0) replies most (λ i. None) [] (0 + 1) l o) [] false f (leads false f)).log ≡ (lead g replies most None (record { process = p; log = []; fate = None })).log in
+      let T : Follower P → Type 0 = λ f. (turn g (λ i c e. 0) replies most (λ i. None) 0 p
+          (λ l o. sequence_from g (λ i c e. 0) replies most (λ i. None) [] (0 + 1) l o) [] false f (leads false f)).log ≡ (lead g replies
+          most None (record { process = p; log = []; fate = None })).log in
       subst T (sym (empty_follow (λ c e. 0) p)) refl
 
   started_at : (rs : List (Running P)) (i k : ℕ) (p : P) → AreFresh g i rs → slice_get (map process_of rs) k ≡ Some p → IsStarted g p
@@ -105,5 +116,6 @@ module _ {P : Type 0} (g : Behaviour P) (laws : IsProcess g) (replies : Start) (
       let el : log ≡ a.log = ap (λ (x : Account). x.log) e in
       let at : slice_get a.lines k ≡ Some line = sym (ap (λ (x : Account). slice_get x.lines k) e) ∙ h' in
       let short = sequence_short g judges replies most (cuts_of lines) (map process_of rs) 0 [] false (omega arith) in
-      let same = survives g laws judges replies most (cuts_of lines) (map process_of rs) k p h started 0 [] false line at s.exited s.rewrites (subst IsLawful el law) (subst (IsLegal replies) el legal) short in
+      let same = survives g laws judges replies most (cuts_of lines) (map process_of rs) k p h started 0 [] false line at s.exited
+          s.rewrites (subst IsLawful el law) (subst (IsLegal replies) el legal) short in
       alone_leads p ∙ (same ∙ sym el)

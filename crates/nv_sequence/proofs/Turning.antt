@@ -49,7 +49,8 @@ module _ {P : Type 0} (g : Behaviour P) (laws : IsProcess g) (replies : Start) (
     pub seen : n.at.seen ≡ length log
     pub room : length log < most
 
-  waits_at : (t : ℕ) → r.at.fate ≡ None → r.at.seen ≡ length log → IsInStep g log r.at → g.came r.at.process Any ≡ Asked t → nat_le most r.at.seen ≡ false → Waits (record r { at = record r.at { process = g.after r.at.process Any }; asked = Some t }) t
+  waits_at : (t : ℕ) → r.at.fate ≡ None → r.at.seen ≡ length log → IsInStep g log r.at → g.came r.at.process Any ≡ Asked t
+      → nat_le most r.at.seen ≡ false → Waits (record r { at = record r.at { process = g.after r.at.process Any }; asked = Some t }) t
   waits_at t f s i c m =
       let l : g.live (g.after r.at.process Any) ≡ g.live r.at.process = laws.live_after r.at.process Any in
       let all : take r.at.seen log ≡ log = rw s (take_all log) in record {
@@ -60,13 +61,15 @@ module _ {P : Type 0} (g : Behaviour P) (laws : IsProcess g) (replies : Start) (
         room = grind (arith, nat_tests);
       }
 
-  pub waits : (n : Running P) (t : ℕ) → IsLeading r → r.at.seen ≡ length log → IsInStep g log r.at → n ≡ asking_next g most r → n.asked ≡ Some t → Waits n t
+  pub waits : (n : Running P) (t : ℕ) → IsLeading r → r.at.seen ≡ length log → IsInStep g log r.at → n ≡ asking_next g most r
+      → n.asked ≡ Some t → Waits n t
   waits n t d s i h k =
       let a = asking_cases g most r n t d.none_asked h k in
       subst (λ (x : Running P). Waits x t) (sym a.new) (waits_at t d.on s i a.came a.room)
 
   -- it ended by a fault
-  pub turn_dropped : (n : Running P) → IsLeading r → r.at.seen ≡ length log → IsInStep g log r.at → n ≡ asking_next g most r → n.asked ≡ None → TookTurn g replies most r n log log
+  pub turn_dropped : (n : Running P) → IsLeading r → r.at.seen ≡ length log → IsInStep g log r.at → n ≡ asking_next g most r
+      → n.asked ≡ None → TookTurn g replies most r n log log
   turn_dropped n d s i h k =
       let e = ending_cases g most r n d.none_asked h k in record {
         step = λ c q. lead_dropped g replies most c r log n s d.none_asked d.on h k;
@@ -76,13 +79,16 @@ module _ {P : Type 0} (g : Behaviour P) (laws : IsProcess g) (replies : Start) (
           index = ap (λ (x : Running P). x.index) e.rest;
           rewrites = ap (λ (x : Running P). x.at.rewrites) e.rest;
           seen = ap (λ (x : Running P). x.at.seen) e.rest ∙ s;
-          span = λ from q. ap (λ (x : Running P). x.led) e.rest ∙ (q ∙ ap (λ (m : ℕ). (from, m) ∷ []) (sym (ap (λ (x : Running P). x.at.seen) e.rest)));
-          in_step = record { within = rw (ap (λ (x : Running P). x.at.seen) e.rest) i.within; live = λ z. absurd (e.ended z); on = λ z. absurd (e.ended z); exited = λ z. let y : false ≡ true = sym e.dead ∙ z in cc };
+          span = λ from q. ap (λ (x : Running P). x.led) e.rest ∙
+              (q ∙ ap (λ (m : ℕ). (from, m) ∷ []) (sym (ap (λ (x : Running P). x.at.seen) e.rest)));
+          in_step = record { within = rw (ap (λ (x : Running P). x.at.seen) e.rest) i.within; live = λ z. absurd (e.ended z); on = λ z.
+              absurd (e.ended z); exited = λ z. let y : false ≡ true = sym e.dead ∙ z in cc };
           asked = λ z. k;
         };
       }
 
-  refused_at : (n : Running P) (t : ℕ) → IsLeading r → r.at.seen ≡ length log → IsInStep g log r.at → AskedFor g most r n t → TookTurn g replies most r (record n { at = record n.at { fate = Some Memory } }) log log
+  refused_at : (n : Running P) (t : ℕ) → IsLeading r → r.at.seen ≡ length log → IsInStep g log r.at → AskedFor g most r n t
+      → TookTurn g replies most r (record n { at = record n.at { fate = Some Memory } }) log log
   refused_at n t d s i a =
       let seen : n.at.seen ≡ r.at.seen = ap (λ (x : Running P). x.at.seen) a.new in record {
         step = λ c q. lead_refused g replies most c r log n t s d.on a q;
@@ -99,14 +105,17 @@ module _ {P : Type 0} (g : Behaviour P) (laws : IsProcess g) (replies : Start) (
       }
 
   -- memory was refused
-  pub turn_refused : (n m : Running P) (t : ℕ) → IsLeading r → r.at.seen ≡ length log → IsInStep g log r.at → n ≡ asking_next g most r → n.asked ≡ Some t → m ≡ record n { at = record n.at { fate = Some Memory } } → TookTurn g replies most r m log log
+  pub turn_refused : (n m : Running P) (t : ℕ) → IsLeading r → r.at.seen ≡ length log → IsInStep g log r.at → n ≡ asking_next g most r
+      → n.asked ≡ Some t → m ≡ record n { at = record n.at { fate = Some Memory } } → TookTurn g replies most r m log log
   turn_refused n m t d s i h k q =
       let a = asking_cases g most r n t d.none_asked h k in
       let T : Running P → Type 0 = λ x. TookTurn g replies most r x log log in
       subst T (sym q) (refused_at n t d s i a)
 
   -- the event that the call has become
-  served_at : (n : Running P) (t : ℕ) (e : Entry) → e ≡ served replies log (g.call n.at.process t) → IsLeading r → r.at.seen ≡ length log → IsInStep g log r.at → AskedFor g most r n t → Waits n t → IsLawful (log ++ e ∷ []) → TookTurn g replies most r (answered_by g e n) log (log ++ e ∷ [])
+  served_at : (n : Running P) (t : ℕ) (e : Entry) → e ≡ served replies log (g.call n.at.process t) → IsLeading r → r.at.seen ≡ length log
+      → IsInStep g log r.at → AskedFor g most r n t → Waits n t → IsLawful (log ++ e ∷ [])
+      → TookTurn g replies most r (answered_by g e n) log (log ++ e ∷ [])
   served_at n t e ee d s i a w law =
       let seen : n.at.seen ≡ r.at.seen = ap (λ (x : Running P). x.at.seen) a.new in
       let led : n.led ≡ r.led = ap (λ (x : Running P). x.led) a.new in
@@ -114,14 +123,20 @@ module _ {P : Type 0} (g : Behaviour P) (laws : IsProcess g) (replies : Start) (
       let tid : e.call.tid ≡ t = ap (λ (x : Entry). x.call.tid) ee ∙ laws.own n.at.process t in
       let call : g.call n.at.process t ≡ e.call = sym (ap (λ (x : Entry). x.call) ee) in
       let may = law (length log) e (get_last log e) in
-      let live : g.live (g.answered n.at.process t e.reply) ≡ live_after (log ++ e ∷ []) = same_live g laws (λ c x. 0) n.at.process t e w.pending w.lives call may.child ∙ (ap (λ x. live_next x e) w.live ∙ sym (live_last (100 ∷ []) log e)) in
+      let live : g.live (g.answered n.at.process t e.reply) ≡ live_after (log ++ e ∷ []) = same_live g laws (λ c x. 0) n.at.process t e
+          w.pending w.lives call may.child ∙ (ap (λ x. live_next x e) w.live ∙ sym (live_last (100 ∷ []) log e)) in
       let all : take (n.at.seen + 1) (log ++ e ∷ []) ≡ log ++ e ∷ [] = rw (seen, s, ← one) (take_all (log ++ e ∷ [])) in
-      let P' : ℕ → Type 0 = λ u. IsInStep g (log ++ e ∷ []) (record n.at { process = g.answered n.at.process u e.reply; seen = n.at.seen + 1; fate = option_map Exited (g.ended (g.answered n.at.process u e.reply)) }) in
-      let in_step : P' t = record { within = omega (arith, one, seen, s); live = λ z. live ∙ ap live_after (sym all); on = λ z. none_back (g.ended (g.answered n.at.process t e.reply)) z; exited = λ z. let x = exited_some (g.ended (g.answered n.at.process t e.reply)) z in ap live_after all ∙ (sym live ∙ laws.lives (g.answered n.at.process t e.reply) x.0 x.1) } in
+      let P' : ℕ → Type 0 = λ u. IsInStep g (log ++ e ∷ [])
+          (record n.at { process = g.answered n.at.process u e.reply; seen = n.at.seen + 1; fate = option_map Exited
+          (g.ended (g.answered n.at.process u e.reply)) }) in
+      let in_step : P' t = record { within = omega (arith, one, seen, s); live = λ z. live ∙ ap live_after (sym all); on = λ z. none_back
+          (g.ended (g.answered n.at.process t e.reply)) z; exited = λ z. let x = exited_some (g.ended (g.answered n.at.process t e.reply)) z
+          in ap live_after all ∙ (sym live ∙ laws.lives (g.answered n.at.process t e.reply) x.0 x.1) } in
       record {
         step = λ c q.
             let T : Entry → Type 0 = λ x. leader_of (answered_by g x n) (log ++ x ∷ []) ≡ next_call g replies most c (leader_of r log) in
-            subst T (sym ee) (lead_served g replies most c r log n t laws s d.on a (q ∙ not_memory (g.ended (g.answered n.at.process e.call.tid e.reply))));
+            subst T (sym ee) (lead_served g replies most c r log n t laws s d.on a
+                (q ∙ not_memory (g.ended (g.answered n.at.process e.call.tid e.reply))));
         same = λ z. let y : false ≡ true = sym (not_memory (g.ended (g.answered n.at.process e.call.tid e.reply))) ∙ z in cc;
         grew = λ z. one;
         on = record {
@@ -135,7 +150,9 @@ module _ {P : Type 0} (g : Behaviour P) (laws : IsProcess g) (replies : Start) (
       }
 
   -- the call was served
-  pub turn_served : (n m : Running P) (t : ℕ) (new_log : List Entry) → IsLeading r → r.at.seen ≡ length log → IsInStep g log r.at → n ≡ asking_next g most r → n.asked ≡ Some t → new_log ≡ log ++ served replies log (g.call n.at.process t) ∷ [] → m ≡ answered_by g (served replies log (g.call n.at.process t)) n → IsLawful new_log → TookTurn g replies most r m log new_log
+  pub turn_served : (n m : Running P) (t : ℕ) (new_log : List Entry) → IsLeading r → r.at.seen ≡ length log → IsInStep g log r.at
+      → n ≡ asking_next g most r → n.asked ≡ Some t → new_log ≡ log ++ served replies log (g.call n.at.process t) ∷ []
+      → m ≡ answered_by g (served replies log (g.call n.at.process t)) n → IsLawful new_log → TookTurn g replies most r m log new_log
   turn_served n m t new_log d s i h k l q law =
       let a = asking_cases g most r n t d.none_asked h k in
       let w = waits n t d s i h k in
@@ -148,7 +165,8 @@ some_same : {X : Type 0} (a b : X) → Some a ≡ Some b → a ≡ b
 some_same a b h = cc
 
 -- the last event of a kernel's history
-pub event_is : (xs : List Event) (log : List Entry) (e : Entry) (i : ℕ) (d : Event) → map entry xs ≡ log ++ e ∷ [] → i ≡ length log → d ≡ get_or xs i d → entry d ≡ e
+pub event_is : (xs : List Event) (log : List Entry) (e : Entry) (i : ℕ) (d : Event) → map entry xs ≡ log ++ e ∷ [] → i ≡ length log
+    → d ≡ get_or xs i d → entry d ≡ e
 event_is xs log e i d h k q =
     let one : length (log ++ e ∷ []) ≡ length log + 1 = length-append log (e ∷ []) in
     let l : length xs ≡ length log + 1 = sym (length_map xs) ∙ (ap length h ∙ one) in

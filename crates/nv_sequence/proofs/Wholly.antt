@@ -55,7 +55,8 @@ module _ {P : Type 0} (g : Behaviour P) (laws : IsProcess g) (replies : Start) (
     pub led : LedOn g start now first log
     pub span : now.led ≡ (length first, now.at.seen) ∷ []
 
-  pub led_here : (start : Running P) (first : List Entry) → IsLeading start → start.at.seen ≡ length first → start.led ≡ (length first, length first) ∷ [] → IsInStep g first start.at → LedSo start start first first true
+  pub led_here : (start : Running P) (first : List Entry) → IsLeading start → start.at.seen ≡ length first
+      → start.led ≡ (length first, length first) ∷ [] → IsInStep g first start.at → LedSo start start first first true
   led_here start first d s p i = record {
     is_on = rw (d.on) refl;
     reach = λ c h. reach_here (next_call g replies most c) (leader_of start first);
@@ -71,9 +72,11 @@ module _ {P : Type 0} (g : Behaviour P) (laws : IsProcess g) (replies : Start) (
   span_is o x h k = cc
 
   pub leading_now : (start now : Running P) (first log : List Entry) → LedSo start now first log true → IsLeading now
-  leading_now start now first log s = let n = on_is_none now.at.fate s.is_on in record { on = n; led = span_is now.led _ s.span; none_asked = s.led.asked n }
+  leading_now start now first log s = let n = on_is_none now.at.fate s.is_on in record
+      { on = n; led = span_is now.led _ s.span; none_asked = s.led.asked n }
 
-  ended_now : (c : Option ℕ) (f f' : Option Fate) (n n' : ℕ) (b : Bool) → is_memory f' ≡ b → f ≡ None → (is_memory f' ≡ true → n' ≡ n) → c ≡ cut_of f' n' → Suits c f n × (is_cut c n ≡ is_memory f')
+  ended_now : (c : Option ℕ) (f f' : Option Fate) (n n' : ℕ) (b : Bool) → is_memory f' ≡ b → f ≡ None → (is_memory f' ≡ true → n' ≡ n)
+      → c ≡ cut_of f' n' → Suits c f n × (is_cut c n ≡ is_memory f')
   ended_now c f f' n n' true m e same k =
       let q : n' ≡ n = same m in
       let k' : c ≡ cut_of f' n = k ∙ ap (cut_of f') q in
@@ -81,19 +84,22 @@ module _ {P : Type 0} (g : Behaviour P) (laws : IsProcess g) (replies : Start) (
   ended_now c f f' n n' false m e same k =
       (record { below = λ j h. rw k (cut_elsewhere f' j n' m); end = λ h. let z = rw e at h in cc }, rw (k, m) (cut_elsewhere f' n n' m))
 
-  suits_now : (c : Option ℕ) (f f' : Option Fate) (n n' : ℕ) → f ≡ None → (f' ≡ None → n' ≡ n + 1) → (is_memory f' ≡ true → n' ≡ n) → Suits c f' n' → Suits c f n × (is_cut c n ≡ is_memory f')
+  suits_now : (c : Option ℕ) (f f' : Option Fate) (n n' : ℕ) → f ≡ None → (f' ≡ None → n' ≡ n + 1) → (is_memory f' ≡ true → n' ≡ n)
+      → Suits c f' n' → Suits c f n × (is_cut c n ≡ is_memory f')
   suits_now c f None n n' e grew same s =
       let m : n' ≡ n + 1 = grew refl in
       (record { below = λ k h. s.below k (omega arith); end = λ h. let z = rw e at h in cc }, s.below n (omega arith))
   suits_now c f (Some x) n n' e grew same s = ended_now c f (Some x) n n' (is_memory (Some x)) refl e same (s.end refl)
 
-  pub led_on : (start now new : Running P) (first log new_log : List Entry) (on : Bool) → LedSo start now first log true → TookTurn g replies most now new log new_log → on ≡ is_on new.at.fate → LedSo start new first new_log on
+  pub led_on : (start now new : Running P) (first log new_log : List Entry) (on : Bool) → LedSo start now first log true
+      → TookTurn g replies most now new log new_log → on ≡ is_on new.at.fate → LedSo start new first new_log on
   led_on start now new first log new_log on s t o =
       let n = on_is_none now.at.fate s.is_on in record {
         is_on = o;
         reach = λ c h.
             let a = suits_now c now.at.fate new.at.fate (length log) (length new_log) n t.grew t.same h in
-            subst (λ (x : Leader P). Reaches (next_call g replies most c) (leader_of start first) x) (sym (t.step c a.1)) (reach_on (next_call g replies most c) (leader_of start first) (leader_of now log) (s.reach c a.0));
+            subst (λ (x : Leader P). Reaches (next_call g replies most c) (leader_of start first) x) (sym (t.step c a.1))
+                (reach_on (next_call g replies most c) (leader_of start first) (leader_of now log) (s.reach c a.0));
         led = record {
           index = t.on.index ∙ s.led.index;
           rewrites = t.on.rewrites ∙ s.led.rewrites;
@@ -116,17 +122,22 @@ module _ {P : Type 0} (g : Behaviour P) (laws : IsProcess g) (replies : Start) (
 
   pub lead_is : (c : Option ℕ) (s t : Leader P) → Reaches (next_call g replies most c) s t → is_on t.fate ≡ false → t ≡ lead g replies most c s
   unfolding lead next_call
-  lead_is c s t r h = sym (reached (next_call g replies most c) (lead_size g) (lead_falls g laws replies most c) (g.calls_left s.process + 1) s (bound s s.fate refl) r.steps t r.is (rests_by c t t.fate h))
+  lead_is c s t r h = sym (reached (next_call g replies most c) (lead_size g) (lead_falls g laws replies most c)
+      (g.calls_left s.process + 1) s (bound s s.fate refl) r.steps t r.is (rests_by c t t.fate h))
 
   pub led_whole : (start now : Running P) (first log : List Entry) → LedSo start now first log false → HasLed g replies most start now first log
   led_whole start now first log s = record {
-    whole = lead_is (cut_of now.at.fate (length log)) (leader_of start first) (leader_of now log) (s.reach (cut_of now.at.fate (length log)) (suits_end now.at.fate (length log))) (sym s.is_on);
+    whole = lead_is (cut_of now.at.fate (length log)) (leader_of start first) (leader_of now log)
+        (s.reach (cut_of now.at.fate (length log)) (suits_end now.at.fate (length log))) (sym s.is_on);
     on = s.led;
     ended = sym s.is_on;
   }
 
-  pub turn_falls : (start now new : Running P) (first log new_log : List Entry) → LedSo start now first log true → TookTurn g replies most now new log new_log → lead_size g (leader_of new new_log) < lead_size g (leader_of now log)
+  pub turn_falls : (start now new : Running P) (first log new_log : List Entry) → LedSo start now first log true
+      → TookTurn g replies most now new log new_log → lead_size g (leader_of new new_log) < lead_size g (leader_of now log)
   turn_falls start now new first log new_log s t =
       let n = on_is_none now.at.fate s.is_on in
-      let a = suits_now (cut_of new.at.fate (length new_log)) now.at.fate new.at.fate (length log) (length new_log) n t.grew t.same (suits_end new.at.fate (length new_log)) in
-      rw (t.step (cut_of new.at.fate (length new_log)) a.1) (next_call_falls g laws replies most (cut_of new.at.fate (length new_log)) (leader_of now log) n)
+      let a = suits_now (cut_of new.at.fate (length new_log)) now.at.fate new.at.fate (length log) (length new_log) n t.grew t.same
+          (suits_end new.at.fate (length new_log)) in
+      rw (t.step (cut_of new.at.fate (length new_log)) a.1)
+          (next_call_falls g laws replies most (cut_of new.at.fate (length new_log)) (leader_of now log) n)

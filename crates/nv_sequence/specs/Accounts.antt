@@ -25,7 +25,8 @@ with_span r n = record r { led = (n, n) ∷ [] }
 
 -- a version has led, or was passed over
 abbrev pub TurnDone : {P : Type 0} → Behaviour P → Start → ℕ → Bool → Running P → Running P → List Entry → List Entry → Bool → Bool → Type 0
-TurnDone g start most over old new log new_log result true = HasLed g start most (with_span old (length log)) new log new_log × (result ≡ is_exited new.at.fate)
+TurnDone g start most over old new log new_log result true = HasLed g start most (with_span old (length log)) new log new_log ×
+    (result ≡ is_exited new.at.fate)
 TurnDone g start most over old new log new_log result false = (new ≡ old) × (new_log ≡ log) × (result ≡ over)
 
 -- a log that begins with another

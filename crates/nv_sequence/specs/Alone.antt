@@ -22,4 +22,5 @@ HasNoClone log = (i : ℕ) (e : Entry) → slice_get log i ≡ Some e → e.call
 -- the log of each survivor alone is the log, and so is its output (output_of)
 abbrev pub SurvivorsAgree : {P : Type 0} → Behaviour P → Start → ℕ → List P → List Standing → List Entry → Type 0
 SurvivorsAgree {P} g start most processes lines log =
-    (k : ℕ) (p : P) (line : Standing) → slice_get processes k ≡ Some p → slice_get lines k ≡ Some line → IsSurvivor line → HasNoClone log → (alone g start most p).log ≡ log
+    (k : ℕ) (p : P) (line : Standing) → slice_get processes k ≡ Some p → slice_get lines k ≡ Some line → IsSurvivor line → HasNoClone log
+        → (alone g start most p).log ≡ log

@@ -14,7 +14,8 @@ use Rattle.nv_threads.specs.declared.turns.Came.{Came}
 use Rattle.nv_threads.specs.declared.turns.Came.TheVariants.{Asked, Fault}
 
 -- an instruction, by how the step ended
-pub goes_on : (p : Proc) (m : Machine) (n : ℕ) → guest_step p.machine ≡ (On, m) → p.left - 1 ≡ n → instruction p ≡ (None, record p { machine = m; left = n })
+pub goes_on : (p : Proc) (m : Machine) (n : ℕ) → guest_step p.machine ≡ (On, m) → p.left - 1 ≡ n
+    → instruction p ≡ (None, record p { machine = m; left = n })
 unfolding instruction
 goes_on p m n e l = rw (e, l) refl
 
@@ -66,7 +67,8 @@ none_waits None a b h = refl
 none_waits (Some c) a b h = cc
 
 -- where going on came to an end
-pub came_is : (p q : Proc) (w : Want) (came : Came) → p.call ≡ None → advanced p.left p ≡ (came, q) → (came ≡ threads.came p w) × (q ≡ threads.after p w)
+pub came_is : (p q : Proc) (w : Want) (came : Came) → p.call ≡ None → advanced p.left p ≡ (came, q)
+    → (came ≡ threads.came p w) × (q ≡ threads.after p w)
 unfolding threads
 came_is p q w came n e = (
   sym (none_waits p.call (Asked 100) (advanced p.left p).0 n ∙ ap (λ (x : Came × Proc). x.0) e),

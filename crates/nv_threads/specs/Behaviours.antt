@@ -41,7 +41,8 @@ pub record IsProcess {P : Type 0} (g : Behaviour P) : Type 0 where
   pub falls : (p : P) (t : ℕ) (r : Response) → g.pending p t ≡ true → g.calls_left (g.answered p t r) < g.calls_left p
   -- the live threads change as a history says
   pub live_after : (p : P) (w : Want) → g.live (g.after p w) ≡ g.live p
-  pub live_answer : (p : P) (t n : ℕ) (r : Response) → g.pending p t ≡ true → Contains (g.live p) t → child_of (event_of g p t r n) ≡ None → g.live (g.answered p t r) ≡ live_next (g.live p) (event_of g p t r n)
+  pub live_answer : (p : P) (t n : ℕ) (r : Response) → g.pending p t ≡ true → Contains (g.live p) t → child_of (event_of g p t r n) ≡ None
+      → g.live (g.answered p t r) ≡ live_next (g.live p) (event_of g p t r n)
   pub ended : (p : P) → g.live p ≡ [] → g.ended p ≡ None → ⊥
   pub lives : (p : P) (s : ℕ) → g.ended p ≡ Some s → g.live p ≡ []
   -- one thread alone is 100, and whichever is wanted
@@ -49,7 +50,8 @@ pub record IsProcess {P : Type 0} (g : Behaviour P) : Type 0 where
   pub alone : (p : P) → g.is_alone p ≡ true → g.came p Any ≡ g.came p (Only 100)
   pub alone_after : (p : P) → g.is_alone p ≡ true → g.after p Any ≡ g.after p (Only 100)
   pub stays_alone : (p : P) (w : Want) → g.is_alone p ≡ true → g.is_alone (g.after p w) ≡ true
-  pub alone_answer : (p : P) (t n : ℕ) (r : Response) → g.is_alone p ≡ true → child_of (event_of g p t r n) ≡ None → g.is_alone (g.answered p t r) ≡ true
+  pub alone_answer : (p : P) (t n : ℕ) (r : Response) → g.is_alone p ≡ true → child_of (event_of g p t r n) ≡ None
+      → g.is_alone (g.answered p t r) ≡ true
 
 -- a process as it was made: thread 100 alone lives, and it has made no call
 pub record IsStarted {P : Type 0} (g : Behaviour P) (p : P) : Type 0 where

@@ -43,7 +43,8 @@ asked_by m n (Some c) e w t h = let z : 100 ≡ t = cc in (sym z, rw (sym z) ref
 asked_by m n None e w t h = let a = (comes n (proc m n None e) refl refl).asked t h in (a.0, rw (a.1, a.0) refl)
 
 again_by : (m : Machine) (n : ℕ) (o : Option Request) (e : Option ℕ) (w : Want) (t : ℕ) → threads.came (proc m n o e) w ≡ Asked t
-    → (threads.came (threads.after (proc m n o e) w) w ≡ Asked t) × (threads.after (threads.after (proc m n o e) w) w ≡ threads.after (proc m n o e) w)
+    → (threads.came (threads.after (proc m n o e) w) w ≡ Asked t) ×
+        (threads.after (threads.after (proc m n o e) w) w ≡ threads.after (proc m n o e) w)
 unfolding threads
 again_by m n (Some c) e w t h = (h, refl)
 again_by m n None e w t h = let a = (comes n (proc m n None e) refl refl).asked t h in (rw a.1 (ap Asked (sym a.0)), rw a.1 refl)
@@ -100,7 +101,8 @@ answer_by (Some s) t true false x m h k = refl
 answer_by None t false false x m h k = rw h refl
 answer_by (Some s) t false false x m h k = rw h refl
 
-live_answer : (p : Proc) (t n : ℕ) (r : Response) → threads.pending p t ≡ true → Contains (threads.live p) t → child_of (event_of threads p t r n) ≡ None
+live_answer : (p : Proc) (t n : ℕ) (r : Response) → threads.pending p t ≡ true → Contains (threads.live p) t
+    → child_of (event_of threads p t r n) ≡ None
     → threads.live (threads.answered p t r) ≡ live_next (threads.live p) (event_of threads p t r n)
 unfolding threads
 live_answer p t n r h k c = answer_by p.end t ((call_or p.call).nr == 93) ((call_or p.call).nr == 94) _ _ c (sym (lives_by p.end t k))
@@ -142,7 +144,8 @@ thread_laws = record {
 pub threads_keeps : (p : Proc) (w : Want) → threads.calls_left (threads.after p w) ≤ threads.calls_left p
 threads_keeps p w = thread_laws.keeps p w
 
-pub threads_falls : (p : Proc) (t : ℕ) (r : Response) → threads.pending p t ≡ true → threads.calls_left (threads.answered p t r) < threads.calls_left p
+pub threads_falls : (p : Proc) (t : ℕ) (r : Response) → threads.pending p t ≡ true
+    → threads.calls_left (threads.answered p t r) < threads.calls_left p
 threads_falls p t r h = thread_laws.falls p t r h
 
 pub threads_asked : (p : Proc) (w : Want) (t : ℕ) → threads.came p w ≡ Asked t → threads.pending (threads.after p w) t ≡ true

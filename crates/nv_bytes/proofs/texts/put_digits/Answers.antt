@@ -25,10 +25,10 @@ loop-rest-preserved c =
     let same : l.place - 1 + 1 ≡ l.place = omega arith in
     let kept = length-set l.out l.place (48 + l.rest % 10) in
     record {
-        text = rw same (digit-written c.args.value l.rest l.place l.out l.invariant.text (omega arith) (omega arith) (omega arith));
-        room = omega arith;
-        inside = omega arith;
-        all = kept ∙ l.invariant.all;
+      text = rw same (digit-written c.args.value l.rest l.place l.out l.invariant.text (omega arith) (omega arith) (omega arith));
+      room = omega arith;
+      inside = omega arith;
+      all = kept ∙ l.invariant.all;
     }
 
 pub returns : goal.returns

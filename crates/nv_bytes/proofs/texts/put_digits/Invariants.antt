@@ -8,7 +8,7 @@ invariant-loop-rest l = record {
   text : decimal_of l.value ≡ decimal_of l.rest ++ drop (l.place + 1) l.out;
   room : length (decimal_of l.rest) ≡ l.place + 1;
   inside : l.place < length l.out;
-  all : length l.out ≡ length (decimal_of l.value)
+  all : length l.out ≡ length (decimal_of l.value);
 }
 
 abbrev pub decreases-loop-rest : goal.decreases-loop-rest

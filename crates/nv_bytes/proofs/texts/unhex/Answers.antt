@@ -17,6 +17,6 @@ pub returns : goal.returns
 returns c =
     let ends = rest-ends c.loop-rest.bytes.items c.loop-rest.rest.now c.in_default.len_below in
     elim c.if-is_empty.branch [
-        then-is_empty w ↦ rw w.result-is (sym (rw (sym c.is_empty.ensures ∙ w.if-is_empty.true) at ends) ∙ c.loop-rest.invariant)
-        | else-is_empty w ↦ rw w.result-is (sym (rw (sym c.is_empty.ensures ∙ w.if-is_empty.false) at ends) ∙ c.loop-rest.invariant)
+      | then-is_empty w ↦ rw w.result-is (sym (rw (sym c.is_empty.ensures ∙ w.if-is_empty.true) at ends) ∙ c.loop-rest.invariant)
+      | else-is_empty w ↦ rw w.result-is (sym (rw (sym c.is_empty.ensures ∙ w.if-is_empty.false) at ends) ∙ c.loop-rest.invariant)
     ]

@@ -6,7 +6,7 @@ use Rattle.nv_cli.proofs.top.put_input.Goals as goal
 pub returns-in-Whole : goal.returns-in-Whole
 returns-in-Whole g c =
     let head = puts-is (ap (λ name. codes "varan: input " ++ (name ++ codes ": ")) c.as_bytes.ensures.value) c.in-Whole.ensures in
-    puts-then head c.put_cause.ensures
+    puts-then head c.put_cause_line.ensures
 
 pub returns-in-Failed : goal.returns-in-Failed
 returns-in-Failed g c =

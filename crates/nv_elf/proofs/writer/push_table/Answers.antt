@@ -27,6 +27,6 @@ loop-segment-preserved c =
     let end = end-at l.place c.args.segments.now l.segment-index s c.loop-segment-test.true c.segment-item.is in
     let next = c.len-place.ensures ∙ s.bytes.ok.0 in
     record {
-        table = rw (c.in_ok-push_program_header.ensures, c.padding-place.ensures.value, next, append_assoc l.out.items) (ap (λ xs. l.out.items ++ xs) (sym table) ∙ l.invariant.table);
-        end = rw (c.padding-place.ensures.value, next) (sym end ∙ l.invariant.end);
+      table = rw (c.in_ok-push_program_header.ensures, c.padding-place.ensures.value, next, append_assoc l.out.items) (ap (λ xs. l.out.items ++ xs) (sym table) ∙ l.invariant.table);
+      end = rw (c.padding-place.ensures.value, next) (sym end ∙ l.invariant.end);
     }

@@ -7,5 +7,5 @@ use Rattle.nv_elf.proofs.writer.push_table.Given as goal
 abbrev pub invariant-loop-segment : goal.invariant-loop-segment
 invariant-loop-segment l = record {
   table : l.out.items ++ table_from l.place (map range_of (drop l.segment-index l.segments)) ≡ l.initial.out.items ++ table_from l.initial.place (map range_of l.segments);
-  end : end_from l.place (map range_of (drop l.segment-index l.segments)) ≡ end_from l.initial.place (map range_of l.segments)
+  end : end_from l.place (map range_of (drop l.segment-index l.segments)) ≡ end_from l.initial.place (map range_of l.segments);
 }

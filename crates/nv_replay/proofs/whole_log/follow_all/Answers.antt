@@ -20,13 +20,16 @@ follow-told-requires-clause-below c = (c.requires.lawful _ _ c.in-Some.ensures.n
 pub follow-told-requires-clause-lives : goal.follow-told-requires-clause-lives
 follow-told-requires-clause-lives c =
     let next = c.in-Some.ensures.next in
-    subst (λ (x : List ℕ). Contains x c.in-Some.event.now.call.tid) (sym (c.loop-event.invariant.in_step.live next.on)) (c.requires.lawful _ _ next.at).lives
+    subst (λ (x : List ℕ). Contains x c.in-Some.event.now.call.tid) (sym (c.loop-event.invariant.in_step.live next.on))
+        (c.requires.lawful _ _ next.at).lives
 
 pub loop-event-smaller : goal.loop-event-smaller
 loop-event-smaller c =
     let next = c.in-Some.ensures.next in
-    let below : c.loop-event.version.at.seen < length c.args.log.now = rw (← length_map c.args.log.now) (within (map entry c.args.log.now) _ _ next.at) in
-    rw (c.follow-told.ensures.new) (decided_falls threads thread_laws no_rules (length c.args.log.now) (entry c.in-Some.event.now) c.loop-event.version.at below next.on)
+    let below : c.loop-event.version.at.seen < length c.args.log.now = rw (← length_map c.args.log.now)
+        (within (map entry c.args.log.now) _ _ next.at) in
+    rw (c.follow-told.ensures.new) (decided_falls threads thread_laws no_rules (length c.args.log.now) (entry c.in-Some.event.now)
+        c.loop-event.version.at below next.on)
 
 pub loop-event-preserved : goal.loop-event-preserved
 loop-event-preserved c =

@@ -1,5 +1,4 @@
-use Rattle.std.proofs.Common.{length}
-use Rattle.nv_rules.specs.Pairs.{pair_words, call_words}
+use Rattle.nv_rules.specs.Pairs.{pair_words}
 use Rattle.nv_rules.proofs.Laying.{put_mid-behind}
 use Rattle.nv_rules.proofs.pair.pair_of.Goals as goal
 

@@ -1,7 +1,6 @@
-use Rattle.std.proofs.Common.{◌≡◌, ◌+◌, ◌<◌, Some, length, drop, sym, ap, ◌∙◌, arith, unwrap_or}
-use Rattle.nv_bpf.specs.Verified.{list_fault}
+use Rattle.std.proofs.Common.{◌≡◌, ◌+◌, ◌<◌, Some, length, sym, ap, ◌∙◌, arith, unwrap_or}
 use Rattle.nv_bpf.specs.FilterLaws.{list_fault-none}
-use Rattle.nv_rules.specs.Values.{returned, returned_from, start, stepped, Goes, Ends}
+use Rattle.nv_rules.specs.Values.{returned, returned_from, stepped, Goes}
 use Rattle.nv_rules.specs.Machines.{state_of, outcome_of}
 use Rattle.nv_rules.proofs.Steps.{IsSound-op, stepped-within, returned_from-ends, returned_from-goes}
 use Rattle.nv_rules.proofs.running.value.Goals as goal

@@ -1,4 +1,4 @@
-use Rattle.std.proofs.Common.{◌≡◌, ◌<◌, ◌-◌, length, drop}
+use Rattle.std.proofs.Common.{◌≡◌, ◌<◌, ◌-◌, drop}
 use Rattle.nv_rules.specs.Values.{returned, returned_from}
 use Rattle.nv_rules.specs.Machines.{state_of}
 use Rattle.nv_rules.proofs.running.value.Given as goal

@@ -22,14 +22,16 @@ pub follow_all-requires-clause-lawful : goal.follow_all-requires-clause-lawful
 follow_all-requires-clause-lawful g t c = subst IsLawful (sym c.history.ensures.log) c.history.ensures.lawful
 
 pub follow_all-requires-then-is_follower-clause-lawful : goal.follow_all-requires-then-is_follower-clause-lawful
-follow_all-requires-then-is_follower-clause-lawful g t c = subst IsLawful (sym c.history-then-is_follower.ensures.log) c.history-then-is_follower.ensures.lawful
+follow_all-requires-then-is_follower-clause-lawful g t c = subst IsLawful (sym c.history-then-is_follower.ensures.log)
+    c.history-then-is_follower.ensures.lawful
 
 pub follow_all-requires-then-is_follower-clause-in_step : goal.follow_all-requires-then-is_follower-clause-in_step
 follow_all-requires-then-is_follower-clause-in_step g t c =
     let start = g.K.SyscallKernel.start c.args.kernel.now in
     let log = g.K.SyscallKernel.log c.args.kernel.now in
     let fresh = first_fresh _ _ _ _ c.in-Some.ensures.cases.0 c.requires.fresh in
-    let f = followed threads thread_laws judges start c.args.most c.args.first c.in-Some.version.now c.follow_all.new.version (map entry c.history.result.now) log
+    let f = followed threads thread_laws judges start c.args.most c.args.first c.in-Some.version.now c.follow_all.new.version
+        (map entry c.history.result.now) log
         fresh c.follow_all.ensures.new c.history.ensures.log c.follow_all.ensures.done in
     none_in_step threads thread_laws judges start c.args.most c.args.first c.in-Some.version.now c.follow_all.new.version c.take_turn-over.new.version
         (map entry c.history.result.now) log (g.K.SyscallKernel.log c.take_turn-over.new.kernel) (g.K.SyscallKernel.log c.run_from.new.kernel)
@@ -45,7 +47,8 @@ returns-then-is_follower-clause-account g t c cuts k =
     let log2 = g.K.SyscallKernel.log c.run_from.new.kernel in
     let lines = map standing_of c.run_from.new.versions in
     let fresh = first_fresh _ _ _ _ c.in-Some.ensures.cases.0 c.requires.fresh in
-    let f = followed threads thread_laws judges start c.args.most c.args.first c.in-Some.version.now c.follow_all.new.version (map entry c.history.result.now) log
+    let f = followed threads thread_laws judges start c.args.most c.args.first c.in-Some.version.now c.follow_all.new.version
+        (map entry c.history.result.now) log
         fresh c.follow_all.ensures.new c.history.ensures.log c.follow_all.ensures.done in
     let Told : Start → Type 0 = λ s. record { log = log2; lines = lines }
         ≡ sequence_from threads judges s c.args.most cuts (map process_of c.in-Some.others.now) (c.args.first + 1) log1 c.take_turn-over.result in
@@ -53,19 +56,24 @@ returns-then-is_follower-clause-account g t c cuts k =
         c.follow_all.new.version c.take_turn-over.new.version c.follow_all-then-is_follower.new.version log log1 log2
         (map entry c.history-then-is_follower.result.now) c.args.over c.take_turn-over.result lines
         c.in-Some.ensures.cases.0 f c.take_turn-over.ensures.turn (c.if-is_follower.ensures.0 refl) c.follow_all-then-is_follower.ensures.new
-        c.history-then-is_follower.ensures.log c.run_from.ensures.grows (subst Told c.take_turn-over.ensures.start (c.run_from.ensures.account cuts k.1))
+        c.history-then-is_follower.ensures.log c.run_from.ensures.grows
+            (subst Told c.take_turn-over.ensures.start (c.run_from.ensures.account cuts k.1))
 
 pub returns-then-is_follower-clause-settled : goal.returns-then-is_follower-clause-settled
 returns-then-is_follower-clause-settled g t c =
     let start = g.K.SyscallKernel.start c.args.kernel.now in
     let log = g.K.SyscallKernel.log c.args.kernel.now in
     let fresh = first_fresh _ _ _ _ c.in-Some.ensures.cases.0 c.requires.fresh in
-    let f = followed threads thread_laws judges start c.args.most c.args.first c.in-Some.version.now c.follow_all.new.version (map entry c.history.result.now) log
+    let f = followed threads thread_laws judges start c.args.most c.args.first c.in-Some.version.now c.follow_all.new.version
+        (map entry c.history.result.now) log
         fresh c.follow_all.ensures.new c.history.ensures.log c.follow_all.ensures.done in (
-      passed_settled threads thread_laws judges start c.args.most c.args.first c.in-Some.version.now c.follow_all.new.version c.take_turn-over.new.version
-        c.follow_all-then-is_follower.new.version log (g.K.SyscallKernel.log c.take_turn-over.new.kernel) (g.K.SyscallKernel.log c.run_from.new.kernel)
+      passed_settled threads thread_laws judges start c.args.most c.args.first c.in-Some.version.now c.follow_all.new.version
+          c.take_turn-over.new.version
+        c.follow_all-then-is_follower.new.version log (g.K.SyscallKernel.log c.take_turn-over.new.kernel)
+            (g.K.SyscallKernel.log c.run_from.new.kernel)
         (map entry c.history-then-is_follower.result.now) c.args.over c.take_turn-over.result
-        f c.take_turn-over.ensures.turn (c.if-is_follower.ensures.0 refl) c.follow_all-then-is_follower.ensures.new c.history-then-is_follower.ensures.log
+        f c.take_turn-over.ensures.turn (c.if-is_follower.ensures.0 refl) c.follow_all-then-is_follower.ensures.new
+            c.history-then-is_follower.ensures.log
         c.follow_all-then-is_follower.ensures.in_step c.follow_all-then-is_follower.ensures.done c.requires.over c.run_from.ensures.stands,
       c.run_from.ensures.settled,
     )
@@ -75,9 +83,11 @@ returns-else-is_follower-clause-settled g t c =
     let start = g.K.SyscallKernel.start c.args.kernel.now in
     let log = g.K.SyscallKernel.log c.args.kernel.now in
     let fresh = first_fresh _ _ _ _ c.in-Some.ensures.cases.0 c.requires.fresh in
-    let f = followed threads thread_laws judges start c.args.most c.args.first c.in-Some.version.now c.follow_all.new.version (map entry c.history.result.now) log
+    let f = followed threads thread_laws judges start c.args.most c.args.first c.in-Some.version.now c.follow_all.new.version
+        (map entry c.history.result.now) log
         fresh c.follow_all.ensures.new c.history.ensures.log c.follow_all.ensures.done in (
-      led_settled threads thread_laws judges start c.args.most c.args.first c.in-Some.version.now c.follow_all.new.version c.take_turn-over.new.version
+      led_settled threads thread_laws judges start c.args.most c.args.first c.in-Some.version.now c.follow_all.new.version
+          c.take_turn-over.new.version
         log (g.K.SyscallKernel.log c.take_turn-over.new.kernel) c.args.over c.take_turn-over.result
         f c.take_turn-over.ensures.turn (λ n. let z : false ≡ true = c.if-is_follower.ensures.1 n in cc),
       c.run_from.ensures.settled,
@@ -91,7 +101,8 @@ returns-else-is_follower-clause-account g t c cuts k =
     let log2 = g.K.SyscallKernel.log c.run_from.new.kernel in
     let lines = map standing_of c.run_from.new.versions in
     let fresh = first_fresh _ _ _ _ c.in-Some.ensures.cases.0 c.requires.fresh in
-    let f = followed threads thread_laws judges start c.args.most c.args.first c.in-Some.version.now c.follow_all.new.version (map entry c.history.result.now) log
+    let f = followed threads thread_laws judges start c.args.most c.args.first c.in-Some.version.now c.follow_all.new.version
+        (map entry c.history.result.now) log
         fresh c.follow_all.ensures.new c.history.ensures.log c.follow_all.ensures.done in
     let Told : Start → Type 0 = λ s. record { log = log2; lines = lines }
         ≡ sequence_from threads judges s c.args.most cuts (map process_of c.in-Some.others.now) (c.args.first + 1) log1 c.take_turn-over.result in
@@ -102,7 +113,8 @@ returns-else-is_follower-clause-account g t c cuts k =
 
 pub returns-else-is_follower-clause-grows : goal.returns-else-is_follower-clause-grows
 returns-else-is_follower-clause-grows g t c =
-    longer_again _ _ _ (turn_grows threads thread_laws judges (g.K.SyscallKernel.start c.args.kernel.now) c.args.most c.args.over c.follow_all.new.version
+    longer_again _ _ _ (turn_grows threads thread_laws judges (g.K.SyscallKernel.start c.args.kernel.now) c.args.most c.args.over
+        c.follow_all.new.version
         c.take_turn-over.new.version _ _ c.take_turn-over.result _ c.take_turn-over.ensures.turn) c.run_from.ensures.grows
 
 pub returns-in_default-clause-account : goal.returns-in_default-clause-account

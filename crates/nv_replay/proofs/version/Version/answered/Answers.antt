@@ -12,7 +12,8 @@ fewer p q t r e h = rw e (threads_falls p t r h)
 pub invariant_of-self : goal.invariant_of-self
 invariant_of-self c =
     let seen : c.self.inside.standing.seen ≡ c.args.self.now.at.seen = ap (λ (r : Running Proc). r.at.seen) c.self.view_is in
-    let pending : threads.pending c.self.inside.process c.args.event.now.call.tid ≡ true = rw (ap (λ (r : Running Proc). r.at.process) c.self.view_is) c.requires.pending in
+    let pending : threads.pending c.self.inside.process c.args.event.now.call.tid ≡ true = rw
+        (ap (λ (r : Running Proc). r.at.process) c.self.view_is) c.requires.pending in
     let kept = c.self.invariant in
     record {
       few_seen = omega (arith, seen, c.requires.below);

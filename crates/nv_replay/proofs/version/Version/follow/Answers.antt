@@ -11,10 +11,18 @@ pub returns-in-Fault-clause-new : goal.returns-in-Fault-clause-new
 returns-in-Fault-clause-new c =
     let on : Running Proc → Running Proc = λ r. record r { at = decided threads no_rules (entry c.args.event.now) r.at } in
     let i = c.in-Fault.ensures in
-    c.end.ensures.new ∙ (rw i.after (ap (λ (x : Follower Proc). record { index = c.self.inside.index; at = x; led = c.self.inside.standing.led; asked = c.self.inside.asked }) (sym (decided_fault threads _ (entry c.args.event.now) (record { process = c.self.inside.process; seen = c.self.inside.standing.seen; rewrites = c.self.inside.standing.rewrites; fate = c.self.inside.standing.fate }) _ _ _ (sym i.came)))) ∙ ap on c.self.view_is)
+    c.end.ensures.new ∙ (rw i.after (ap (λ (x : Follower Proc). record
+        { index = c.self.inside.index; at = x; led = c.self.inside.standing.led; asked = c.self.inside.asked })
+        (sym (decided_fault threads _ (entry c.args.event.now)
+        (record { process = c.self.inside.process; seen = c.self.inside.standing.seen; rewrites = c.self.inside.standing.rewrites; fate =
+        c.self.inside.standing.fate }) _ _ _ (sym i.came)))) ∙ ap on c.self.view_is)
 
 pub returns-in-Asked-clause-new : goal.returns-in-Asked-clause-new
 returns-in-Asked-clause-new c =
     let on : Running Proc → Running Proc = λ r. record r { at = decided threads no_rules (entry c.args.event.now) r.at } in
     let i = c.in-Asked.ensures in
-    c.meet.ensures.new ∙ (rw i.after (ap (λ (x : Follower Proc). record { index = c.self.inside.index; at = x; led = c.self.inside.standing.led; asked = c.self.inside.asked }) (sym (decided_asked threads _ (entry c.args.event.now) (record { process = c.self.inside.process; seen = c.self.inside.standing.seen; rewrites = c.self.inside.standing.rewrites; fate = c.self.inside.standing.fate }) _ (sym i.came)))) ∙ ap on c.self.view_is)
+    c.meet.ensures.new ∙ (rw i.after (ap (λ (x : Follower Proc). record
+        { index = c.self.inside.index; at = x; led = c.self.inside.standing.led; asked = c.self.inside.asked })
+        (sym (decided_asked threads _ (entry c.args.event.now)
+        (record { process = c.self.inside.process; seen = c.self.inside.standing.seen; rewrites = c.self.inside.standing.rewrites; fate =
+        c.self.inside.standing.fate }) _ (sym i.came)))) ∙ ap on c.self.view_is)

@@ -1,9 +1,0 @@
-use Rattle.std.proofs.Common.{◌++◌, ◌∷◌, [], ap, ◌∙◌}
-use Rattle.nv_outside.specs.Writing.{puts-is, puts-stopped}
-use Rattle.nv_cli.specs.Report.{number_text}
-use Rattle.nv_cli.proofs.report.put_numbers.Goals as goal
-
-pub returns-in-Failed : goal.returns-in-Failed
-returns-in-Failed g c =
-    let piece = puts-is (ap (λ t. t ++ 32 ∷ []) (c.as_bytes.ensures.value ∙ c.format.ensures.text)) c.in-Failed.ensures in
-    puts-stopped number_text c.args.numbers.now c.loop-number.number-index 0 c.loop-number-test.true c.loop-number.invariant piece

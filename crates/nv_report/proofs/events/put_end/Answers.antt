@@ -1,0 +1,12 @@
+use Rattle.std.proofs.Common.{◌++◌, ◌∷◌, [], ap, ◌∙◌, sym, refl, codes, length}
+use Rattle.std.specs.Int.{w32, to_be_bytes}
+use Rattle.std.specs.List.{flat_map}
+use Rattle.nv_outside.specs.Writing.{puts-is, puts-then, puts-failed, puts-stopped}
+use Rattle.nv_calls.specs.Calls.{entry}
+use Rattle.nv_report.proofs.events.put_end.Goals as goal
+
+pub returns-in-Whole : goal.returns-in-Whole
+returns-in-Whole g c = puts-then c.in-Whole.ensures c.put_all.ensures
+
+pub returns-in-Failed : goal.returns-in-Failed
+returns-in-Failed g c = puts-failed (codes "\n") c.in-Failed.ensures

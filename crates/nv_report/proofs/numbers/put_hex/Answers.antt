@@ -1,0 +1,13 @@
+use Rattle.std.proofs.Common.{get_or, ◌/◌, ◌++◌, ◌∷◌, [], ap, ◌∙◌, sym, refl, codes, length}
+use Rattle.std.specs.Int.{w32, to_be_bytes}
+use Rattle.std.specs.List.{flat_map}
+use Rattle.nv_outside.specs.Writing.{puts-is, puts-then, puts-failed, puts-stopped}
+use Rattle.nv_calls.specs.Calls.{entry}
+use Rattle.nv_report.specs.Numbers.{hex_digit, hex_pair}
+use Rattle.nv_report.proofs.numbers.put_hex.Goals as goal
+
+pub returns-in-Failed : goal.returns-in-Failed
+returns-in-Failed g c =
+    let piece = puts-is (ap (λ d. d ∷ c.digit-in-loop-byte.result ∷ []) c.digit.ensures) c.in-Failed.ensures in
+    let pair = puts-is (ap (λ d. hex_digit (get_or c.args.bytes.now c.loop-byte.byte-index 0 / 16) ∷ d ∷ []) c.digit-in-loop-byte.ensures) piece in
+    puts-stopped hex_pair c.args.bytes.now c.loop-byte.byte-index 0 c.loop-byte-test.true c.loop-byte.invariant pair

@@ -1,0 +1,10 @@
+use Rattle.std.proofs.Common.{◌++◌, ◌∷◌, [], ap, ◌∙◌, sym, refl}
+use Rattle.nv_outside.specs.Writing.{puts-is, puts-then, puts-failed, puts-stopped}
+use Rattle.nv_calls.specs.Calls.{entry}
+use Rattle.nv_report.specs.Numbers.{number_text}
+use Rattle.nv_report.proofs.numbers.put_numbers.Goals as goal
+
+pub returns-in-Failed : goal.returns-in-Failed
+returns-in-Failed g c =
+    let piece = puts-is (ap (λ t. t ++ 32 ∷ []) (c.as_bytes.ensures.value ∙ c.format.ensures.text)) c.in-Failed.ensures in
+    puts-stopped number_text c.args.numbers.now c.loop-number.number-index 0 c.loop-number-test.true c.loop-number.invariant piece

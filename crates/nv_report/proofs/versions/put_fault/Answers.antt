@@ -1,0 +1,15 @@
+use Rattle.std.proofs.Common.{◌++◌, ◌∷◌, [], List, ℕ, ap, ◌∙◌, sym, refl, codes, length, map}
+use Rattle.std.specs.Int.{w32, to_be_bytes}
+use Rattle.std.specs.List.{flat_map}
+use Rattle.nv_outside.specs.Writing.{puts-is, puts-then, puts-failed}
+use Rattle.nv_calls.specs.Calls.{entry}
+use Rattle.nv_calls.specs.declared.calls.Event.{Event}
+use Rattle.nv_report.specs.Numbers.{hex_text}
+use Rattle.nv_report.proofs.Texts.{flat_map-events}
+use Rattle.nv_report.proofs.versions.put_fault.Goals as goal
+
+pub returns-in-Whole : goal.returns-in-Whole
+returns-in-Whole g c = puts-then c.in-Whole.ensures (puts-is (ap hex_text c.to_be_bytes.ensures) c.put_hex.ensures)
+
+pub returns-in-Failed : goal.returns-in-Failed
+returns-in-Failed g c = puts-failed (hex_text (to_be_bytes w32 c.args.pc)) c.in-Failed.ensures

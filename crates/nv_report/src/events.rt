@@ -1,0 +1,93 @@
+// The log.
+ghost use Rattle.std.specs.Prelude.{◌≡◌, ◌++◌, codes};
+ghost use Rattle.std.specs.List.{flat_map};
+ghost use Rattle.nv_outside.specs.Sink.{Puts};
+ghost use Rattle.nv_calls.specs.Calls.{entry};
+ghost use Rattle.nv_report.specs.Numbers.{hex_text};
+ghost use Rattle.nv_report.specs.Events.{call_text, result_text, payload_text, event_text};
+
+use crate::numbers::{put_hex, put_numbers};
+use itoa::Buffer;
+use nv_calls::{Event, Reply};
+use nv_outside::{Put, Sink, put_all, put_pieces};
+
+// Each event on a line.
+pub fn put_events<S: Sink>(sink: &mut S, log: &[Event]) -> Put
+    ensures { Puts (S.told sink.old) (S.faults sink.old) (flat_map (λ event. event_text (entry event)) log.now) result (S.told sink.new) (S.faults sink.new) }
+{
+    for event in log {
+        match put_event(sink, event) {
+            Put::Whole => {}
+            Put::Failed => return Put::Failed,
+        }
+    }
+    Put::Whole
+}
+
+fn put_event<S: Sink>(sink: &mut S, event: &Event) -> Put
+    ensures { Puts (S.told sink.old) (S.faults sink.old) (event_text (entry event.now)) result (S.told sink.new) (S.faults sink.new) }
+{
+    match put_call(sink, event) {
+        Put::Whole => {}
+        Put::Failed => return Put::Failed,
+    }
+    match put_result(sink, &event.reply) {
+        Put::Whole => put_end(
+            sink,
+            event.call.payload.as_slice(),
+            event.reply.payload.as_slice(),
+        ),
+        Put::Failed => Put::Failed,
+    }
+}
+
+// Stamp, thread, number and arguments.
+fn put_call<S: Sink>(sink: &mut S, event: &Event) -> Put
+    ensures { Puts (S.told sink.old) (S.faults sink.old) (call_text (entry event.now)) result (S.told sink.new) (S.faults sink.new) }
+{
+    match put_numbers(sink, &[event.stamp, event.call.tid, event.call.nr]) {
+        Put::Whole => put_numbers(sink, &event.call.args),
+        Put::Failed => Put::Failed,
+    }
+}
+
+fn put_result<S: Sink>(sink: &mut S, reply: &Reply) -> Put
+    ensures { Puts (S.told sink.old) (S.faults sink.old) (result_text reply.now.ret) result (S.told sink.new) (S.faults sink.new) }
+{
+    let mut buffer = Buffer::new();
+    put_pieces(sink, &[b"= ", buffer.format(reply.ret).as_bytes(), b" :"])
+}
+
+fn put_end<S: Sink>(sink: &mut S, call: &[u8], reply: &[u8]) -> Put
+    ensures { Puts (S.told sink.old) (S.faults sink.old) (payload_text call.now reply.now ++ codes "\n") result (S.told sink.new) (S.faults sink.new) }
+{
+    match put_payload(sink, call, reply) {
+        Put::Whole => put_all(sink, b"\n"),
+        Put::Failed => Put::Failed,
+    }
+}
+
+// The bytes of a call and of its reply, behind a space where there are any.
+fn put_payload<S: Sink>(sink: &mut S, call: &[u8], reply: &[u8]) -> Put
+    ensures { Puts (S.told sink.old) (S.faults sink.old) (payload_text call.now reply.now) result (S.told sink.new) (S.faults sink.new) }
+{
+    if call.is_empty() && reply.is_empty() {
+        Put::Whole
+    } else {
+        put_bytes(sink, call, reply)
+    }
+}
+
+// A space, and the bytes of a call and of its reply.
+fn put_bytes<S: Sink>(sink: &mut S, call: &[u8], reply: &[u8]) -> Put
+    ensures { Puts (S.told sink.old) (S.faults sink.old) (codes " " ++ (hex_text call.now ++ hex_text reply.now)) result (S.told sink.new) (S.faults sink.new) }
+{
+    match put_all(sink, b" ") {
+        Put::Whole => {}
+        Put::Failed => return Put::Failed,
+    }
+    match put_hex(sink, call) {
+        Put::Whole => put_hex(sink, reply),
+        Put::Failed => Put::Failed,
+    }
+}

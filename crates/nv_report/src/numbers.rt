@@ -1,0 +1,46 @@
+// Numbers, in decimal and as hexadecimal digits.
+ghost use Rattle.std.specs.Prelude.{◌≡◌, ◌<◌};
+ghost use Rattle.std.specs.List.{flat_map};
+ghost use Rattle.nv_outside.specs.Sink.{Puts};
+ghost use Rattle.nv_report.specs.Numbers.{number_text, hex_digit, hex_text};
+
+use itoa::Buffer;
+use nv_outside::{Put, Sink, put_all, put_pieces};
+
+// Each number with a space behind it.
+pub fn put_numbers<S: Sink>(sink: &mut S, numbers: &[u32]) -> Put
+    ensures { Puts (S.told sink.old) (S.faults sink.old) (flat_map number_text numbers.now) result (S.told sink.new) (S.faults sink.new) }
+{
+    for number in numbers {
+        let mut buffer = Buffer::new();
+        match put_pieces(sink, &[buffer.format(*number).as_bytes(), b" "]) {
+            Put::Whole => {}
+            Put::Failed => return Put::Failed,
+        }
+    }
+    Put::Whole
+}
+
+// Each byte as two hexadecimal digits.
+pub fn put_hex<S: Sink>(sink: &mut S, bytes: &[u8]) -> Put
+    ensures { Puts (S.told sink.old) (S.faults sink.old) (hex_text bytes.now) result (S.told sink.new) (S.faults sink.new) }
+{
+    for byte in bytes {
+        match put_all(sink, &[digit(*byte / 16), digit(*byte % 16)]) {
+            Put::Whole => {}
+            Put::Failed => return Put::Failed,
+        }
+    }
+    Put::Whole
+}
+
+fn digit(value: u8) -> u8
+    requires { value < 16 }
+    ensures { result ≡ hex_digit value }
+{
+    if value < 10 {
+        b'0' + value
+    } else {
+        b'a' + (value - 10)
+    }
+}
