@@ -1,3 +1,2 @@
-mod Leading
-mod Living
-mod Texts
+mod Loading
+mod Statuses

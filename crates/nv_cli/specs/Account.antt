@@ -1,14 +1,28 @@
--- A whole run of one version.
-use Rattle.std.specs.Prelude.{◌≡◌, ℕ, List, [], Option, length}
-use Rattle.nv_calls.specs.Logs.{Start}
-use Rattle.nv_guest.specs.Machine.{Machine}
+-- A whole run.
+use Rattle.std.specs.Prelude.{◌≡◌, ℕ, List, map, if◌then◌else◌}
+use Rattle.std.specs.List.{list_any}
+use Rattle.nv_machine.specs.Guest.{Machine}
 use Rattle.nv_kernel.specs.Serving.{start_of_script}
-use Rattle.nv_cli.specs.Sequence.{Account, lead, cut_of}
+use Rattle.nv_threads.specs.Threads.{Proc, threads, started}
+use Rattle.nv_replay.specs.declared.standing.Standing.{Standing}
+use Rattle.nv_replay.specs.Follow.{is_exited, no_rules}
+use Rattle.nv_replay.specs.Lead.{is_memory}
+use Rattle.nv_replay.specs.Sequence.{Account, sequence, cuts_of}
+use Rattle.nv_sequence.specs.Accounts.{AreSettled}
+use Rattle.nv_sequence.specs.Alone.{SurvivorsAgree}
 
--- the run of a machine alone from the empty log, with 65536 events and 10000000 instructions
-abbrev pub run_alone : Machine → Option ℕ → Account
-run_alone machine cut = lead start_of_script 65536 cut 10000000 machine []
+-- a version has 10000000 instructions
+abbrev pub begun : Machine → Proc
+begun machine = started machine 10000000
 
--- a run whose cut is the one that its account names
-abbrev pub IsRunOf : Machine → Account → Type 0
-IsRunOf machine account = run_alone machine (cut_of account.fate (length account.log)) ≡ account
+-- The account is that of the plain sequential monitor over these machines, with at most 65536 events and with the cuts that it tells.
+-- Each version has one fate and at most one span, and one that exited without a rewrite would come to this log alone.
+pub record IsRunOf (machines : List Machine) (account : Account) : Type 0 where
+  pub is_account : account ≡ sequence threads (λ i. no_rules) start_of_script 65536 (cuts_of account.lines) (map begun machines)
+  pub settled : AreSettled account.lines
+  pub survivor : SurvivorsAgree threads start_of_script 65536 (map begun machines) account.lines account.log
+
+-- 0 where a version exited; else 7 where one wanted memory; else 1
+abbrev pub run_status : List Standing → ℕ
+run_status lines = if list_any (λ line. is_exited line.fate) lines then 0
+    else (if list_any (λ line. is_memory line.fate) lines then 7 else 1)

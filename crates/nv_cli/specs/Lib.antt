@@ -1,7 +1,6 @@
-pub mod Sequence
-pub mod Account
-pub mod Report
 pub mod Words
 pub mod Prepared
+pub mod Account
+pub mod Refusals
 pub mod Outcome
 pub mod Rows

@@ -1,28 +1,32 @@
 -- What a call of the monitor may come to, and what is then written.
-use Rattle.std.specs.Prelude.{◌≡◌, ℕ, List, [], ◌∷◌, ◌++◌, Option, None, Some, map, string_bytes, codes}
+use Rattle.std.specs.Prelude.{◌≡◌, ℕ, List, [], ◌∷◌, ◌++◌, Option, None, Some, codes, slice_get, unwrap_or}
 use Rattle.std.specs.List.{concat}
 use Rattle.std.specs.Fmt.{decimal}
-use Rattle.std.specs.Prelude.{String}
-use Rattle.std.specs.Global.{Global}
 use Rattle.nv_outside.specs.Counts.{Rose}
 use Rattle.nv_outside.specs.Told.{Told}
 use Rattle.nv_outside.specs.Sink.{Puts}
 use Rattle.nv_outside.specs.declared.sink.Put.{Put}
 use Rattle.nv_outside.specs.declared.sink.Put.TheVariants.{Whole, Failed}
-use Rattle.nv_guest.specs.Machine.{Machine}
+use Rattle.nv_elf.specs.declared.program.ElfFault.{ElfFault}
+use Rattle.nv_elf.specs.declared.program.ElfFault.TheVariants.{Short, Magic, Class, Kind, Flags, Header, Interpreted, Outside, Overlap, Entry}
+use Rattle.nv_elf.specs.declared.program.ElfFault.TheVariants as elf
+use Rattle.nv_machine.specs.Guest.{Machine}
+use Rattle.nv_guest.specs.declared.outcome.GuestFault.{GuestFault}
+use Rattle.nv_guest.specs.declared.outcome.GuestFault.TheVariants.{NoRoom, Arguments}
+use Rattle.nv_guest.specs.declared.outcome.GuestFault.TheVariants as guest
 use Rattle.nv_cli.specs.Words.{Plan, plan_of}
-use Rattle.nv_cli.specs.Sequence.{Account}
-use Rattle.nv_cli.specs.Account.{IsRunOf}
-use Rattle.nv_cli.specs.Report.{report_text}
+use Rattle.nv_calls.specs.Logs.{output_of}
+use Rattle.nv_kernel.specs.Serving.{start_of_script}
+use Rattle.nv_replay.specs.Sequence.{Account}
+use Rattle.nv_report.specs.Report.{report_text}
+use Rattle.nv_cli.specs.Account.{IsRunOf, run_status}
 use Rattle.nv_cli.specs.Prepared.{prepared, Ready, Refused, ComesTo, IsReached, TookLong}
-use Rattle.nv_cli.specs.declared.fate.Fate.{Fate}
-use Rattle.nv_cli.specs.declared.fate.Fate.TheVariants as fate
-use Rattle.nv_cli.specs.declared.prepare.Refusal.{Refusal}
-use Rattle.nv_cli.specs.declared.prepare.Refusal.TheVariants as refusal
-use Rattle.nv_cli.specs.declared.prepare.Place.{Place}
-use Rattle.nv_cli.specs.declared.prepare.Place.TheVariants.{Script, Version}
-use Rattle.nv_cli.specs.declared.prepare.Cause.{Cause}
-use Rattle.nv_cli.specs.declared.prepare.Cause.TheVariants.{Long, Unbuilt, Short, NoRoom}
+use Rattle.nv_cli.specs.declared.refusal.Refusal.{Refusal}
+use Rattle.nv_cli.specs.declared.refusal.Refusal.TheVariants as refusal
+use Rattle.nv_cli.specs.declared.refusal.Place.{Place}
+use Rattle.nv_cli.specs.declared.refusal.Place.TheVariants.{Script, Version}
+use Rattle.nv_cli.specs.declared.refusal.Cause.{Cause}
+use Rattle.nv_cli.specs.declared.refusal.Cause.TheVariants.{Long, Unbuilt, Elf, Guest}
 
 -- The words are refused; memory is wanted before the run starts; a file can't be read; a file is refused; or a run has its account.
 pub data Outcome : Type 0 where
@@ -32,11 +36,30 @@ pub data Outcome : Type 0 where
   NotAccepted : List ℕ → Cause → Outcome
   Reported : Account → Outcome
 
+abbrev pub elf_text : ElfFault → List ℕ
+elf_text Short = codes "short"
+elf_text Magic = codes "magic"
+elf_text Class = codes "class"
+elf_text Kind = codes "type"
+elf_text elf.Machine = codes "machine"
+elf_text Flags = codes "flags"
+elf_text Header = codes "header"
+elf_text Interpreted = codes "interpreted"
+elf_text (Outside i) = codes "outside " ++ decimal i
+elf_text (Overlap i j) = codes "overlap " ++ (decimal i ++ (codes " " ++ decimal j))
+elf_text Entry = codes "entry"
+elf_text elf.Memory = codes "memory"
+
+abbrev pub guest_text : GuestFault → List ℕ
+guest_text (NoRoom i) = codes "no room " ++ decimal i
+guest_text Arguments = codes "arguments"
+guest_text guest.Memory = codes "memory"
+
 abbrev pub cause_text : Cause → List ℕ
 cause_text Long = codes "long"
 cause_text Unbuilt = codes "unbuilt"
-cause_text Short = codes "short"
-cause_text (NoRoom n) = codes "no room " ++ decimal n
+cause_text (Elf fault) = elf_text fault
+cause_text (Guest fault) = guest_text fault
 
 -- what is written
 abbrev pub text_of : Outcome → List ℕ
@@ -44,20 +67,14 @@ text_of Usage = codes "varan: usage\n"
 text_of NoMemory = codes "varan: memory\n"
 text_of (NotRead name) = concat (codes "varan: read " ∷ name ∷ codes "\n" ∷ [])
 text_of (NotAccepted name cause) = concat (codes "varan: input " ∷ name ∷ codes ": " ∷ []) ++ (cause_text cause ++ codes "\n")
-text_of (Reported account) = report_text account
-
--- a version that exited, that broke, or that wanted memory
-abbrev pub fate_status : Fate → ℕ
-fate_status (fate.Exited code) = 0
-fate_status (fate.Fault kind tid pc) = 1
-fate_status fate.Memory = 7
+text_of (Reported account) = report_text (output_of start_of_script account.log) account
 
 abbrev pub status_of : Outcome → ℕ
 status_of Usage = 2
 status_of NoMemory = 3
 status_of (NotRead name) = 5
 status_of (NotAccepted name cause) = 4
-status_of (Reported account) = fate_status account.fate
+status_of (Reported account) = run_status account.lines
 
 -- a write fault takes the place of the other statuses
 abbrev pub ended_with : Put → ℕ → ℕ
@@ -66,7 +83,7 @@ ended_with Failed status = 6
 
 abbrev pub name_of : Place → Plan → List ℕ
 name_of Script plan = plan.script
-name_of Version plan = plan.version
+name_of (Version i) plan = unwrap_or (slice_get plan.versions i) []
 
 abbrev pub outcome_of : Refusal → Plan → Outcome
 outcome_of refusal.Memory plan = NoMemory
@@ -90,17 +107,13 @@ source_of holds faults taken before after = record {
   later_taken = taken after;
 }
 
--- the words of a command line
-abbrev pub texts : List (String Global) → List (List ℕ)
-texts words = map (λ word. string_bytes word) words
-
 -- A read failed, of a file in the reading order whose forerunners are accepted where they are told.
 pub record CannotRead (words : List (List ℕ)) (source : Source) (name : List ℕ) : Type 0 where
   pub plan : Plan
   pub asked : plan_of words ≡ Some plan
   pub place : Place
   pub name_is : name ≡ name_of place plan
-  pub reached : IsReached place (source.holds plan.script)
+  pub reached : IsReached place source.holds plan
   pub rose : Rose source.faults source.later_faults
 
 -- Where the files are told, the first that is refused is this one, for this cause. Too long is only what more bytes were taken of.
@@ -109,17 +122,17 @@ pub record IsRefused (words : List (List ℕ)) (source : Source) (name : List �
   pub asked : plan_of words ≡ Some plan
   pub place : Place
   pub name_is : name ≡ name_of place plan
-  pub reached : IsReached place (source.holds plan.script)
+  pub reached : IsReached place source.holds plan
   pub told : ComesTo (prepared source.holds plan) (Refused place cause)
   pub long : cause ≡ Long → TookLong source.taken source.later_taken
 
--- The account is that of the plain sequential monitor over the files; where they are told, they are accepted and come to this machine.
+-- The account is that of the plain sequential monitor over the files; where they are told, they are accepted and come to these machines.
 pub record IsReported (words : List (List ℕ)) (source : Source) (account : Account) : Type 0 where
   pub plan : Plan
   pub asked : plan_of words ≡ Some plan
-  pub machine : Machine
-  pub told : ComesTo (prepared source.holds plan) (Ready machine)
-  pub is_run : IsRunOf machine account
+  pub machines : List Machine
+  pub told : ComesTo (prepared source.holds plan) (Ready machines)
+  pub is_run : IsRunOf machines account
 
 -- the outcomes that a call may have, over these words and this source
 abbrev pub CanBe : List (List ℕ) → Source → Outcome → Type 0
@@ -140,3 +153,9 @@ pub record Answers (words : List (List ℕ)) (source : Source) (before : Option 
   pub outcome : Outcome
   pub can_be : CanBe words source outcome
   pub says : Says (text_of outcome) (status_of outcome) before faults status after later_faults
+
+-- the versions ran, and their report was written, or the write failed
+pub record Ran (machines : List Machine) (before : Option (List ℕ)) (faults : ℕ) (status : ℕ) (after : Option (List ℕ)) (later_faults : ℕ) : Type 0 where
+  pub account : Account
+  pub is_run : IsRunOf machines account
+  pub says : Says (text_of (Reported account)) (run_status account.lines) before faults status after later_faults

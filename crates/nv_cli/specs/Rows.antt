@@ -1,21 +1,21 @@
 -- What each status of the monitor shows.
-use Rattle.std.specs.Prelude.{◌≡◌, ◌⊎◌, ℕ, List, ◌++◌, Option, Some, codes}
-use Rattle.nv_outside.specs.Counts.{Rose}
+use Rattle.std.specs.Prelude.{◌≡◌, ◌⊎◌, ℕ, List, ◌++◌, Option, Some}
 use Rattle.nv_outside.specs.Told.{Grows}
 use Rattle.nv_cli.specs.Words.{Plan, plan_of}
-use Rattle.nv_cli.specs.Sequence.{Account}
-use Rattle.nv_cli.specs.Outcome.{Source, Outcome, NoMemory, NotRead, NotAccepted, Reported, CanBe, IsReported, IsRefused, CannotRead, text_of, fate_status}
-use Rattle.nv_cli.specs.declared.prepare.Cause.{Cause}
+use Rattle.nv_replay.specs.Sequence.{Account}
+use Rattle.nv_cli.specs.Account.{run_status}
+use Rattle.nv_cli.specs.Outcome.{Source, Outcome, NoMemory, NotRead, NotAccepted, Reported, CanBe, IsReported, IsRefused, CannotRead, text_of}
+use Rattle.nv_cli.specs.declared.refusal.Cause.{Cause}
 
 -- 0, 1 and 7 are the statuses of a run
 abbrev pub IsReport : ℕ → Type 0
 IsReport status = (status ≡ 0) ⊎ ((status ≡ 1) ⊎ (status ≡ 7))
 
--- What was written is the report of the account of the plain sequential monitor, and the status is that of the version's fate.
+-- What was written is the report of the account of the plain sequential monitor, and the status is that of the versions' fates.
 pub record Reports (words : List (List ℕ)) (source : Source) (status : ℕ) (before after : Option (List ℕ)) : Type 0 where
   pub account : Account
   pub is_account : IsReported words source account
-  pub status_is : status ≡ fate_status account.fate
+  pub status_is : status ≡ run_status account.lines
   pub written : Grows before (text_of (Reported account)) after
 
 -- the words are accepted, and what was written says that memory was wanted

@@ -1,11 +1,12 @@
 //! The monitor's top call: it reads a command line, runs what it asks for and writes what it came to.
 #![tactic(auto)]
 
-mod fate;
+mod calm;
 mod prepare;
-mod report;
-mod run;
+mod refusal;
+mod top;
 mod words;
 
-pub use fate::Fate;
-pub use prepare::{Cause, Place, Refusal};
+pub use calm::varan_calmly;
+pub use refusal::{Cause, Place, Refusal};
+pub use top::varan;

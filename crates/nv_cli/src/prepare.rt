@@ -1,59 +1,27 @@
 // How the files of a run are read and loaded.
-ghost use Rattle.std.specs.Prelude.{◌≡◌, ◌≤◌, List, ℕ, IfOk, IfErr, length};
+ghost use Rattle.std.specs.Prelude.{◌≡◌, ◌≤◌, ◌<◌, List, ℕ, [], IfOk, IfErr, length, map};
 ghost use Rattle.nv_guest.specs.Guest.{machine_of};
-ghost use Rattle.nv_cli.specs.declared.prepare.Refusal.TheVariants.{Memory};
-ghost use Rattle.nv_cli.specs.Prepared.{ReadRefused, IsReadOf, Refuses, IsVersionRefusal, ComesTo, is_script, prepared, Ready, version_of};
+ghost use Rattle.nv_threads.specs.Threads.{threads};
+ghost use Rattle.nv_replay.specs.Versions.{IsFresh, process_of};
+ghost use Rattle.nv_sequence.specs.Accounts.{AreFresh};
+ghost use Rattle.nv_cli.specs.Account.{begun};
+ghost use Rattle.nv_cli.specs.Words.{texts};
+ghost use Rattle.nv_cli.specs.Prepared.{ComesTo, is_script, prepared, Ready, Loads, version_of};
+ghost use Rattle.nv_cli.specs.Refusals.{ReadRefused, IsReadOf, Refuses, IsVersionRefusal, VersionRefused, VersionsRefused, HasLoaded, AreLoaded, IsPrepared};
 
-use nv_calls::{Bytes, Call};
+use crate::refusal::{Cause, Place, Refusal};
 use nv_elf::ElfFault;
 use nv_guest::{Guest, GuestFault};
 use nv_outside::{Files, Got};
-use std::alloc::{AllocError, Global};
+use nv_replay::Version;
+use nv_threads::Process;
+use std::alloc::Global;
 
 const MOST_BYTES: u32 = 4_194_304;
 
 const MEMORY: u32 = 1_048_576;
 
-const PAYLOAD: u32 = 4096;
-
-/// A file of the reading order.
-#[derive(Clone, Copy, Debug, PartialEq, Eq)]
-pub enum Place {
-    Script,
-    Version,
-}
-
-/// Why a file is refused.
-#[derive(Clone, Copy, Debug, PartialEq, Eq)]
-pub enum Cause {
-    Long,
-    Unbuilt,
-    Short,
-    NoRoom(u32),
-}
-
-/// Why a run doesn't start.
-#[derive(Clone, Copy, Debug, PartialEq, Eq)]
-pub enum Refusal {
-    Memory,
-    Unreadable(Place),
-    Input(Place, Cause),
-}
-
-impl From<AllocError> for Refusal {
-    ghost from_gives = { λ _ refusal. refusal ≡ Memory };
-
-    fn from(_: AllocError) -> Self {
-        Refusal::Memory
-    }
-}
-
-/// A guest that is ready to run, and the memory for its calls.
-#[derive(Drop)]
-pub struct Loaded {
-    pub guest: Guest,
-    pub call: Call,
-}
+const BUDGET: u32 = 10_000_000;
 
 // Reads a whole file.
 fn read_file<F: Files>(
@@ -84,62 +52,96 @@ fn accepts_script(bytes: &[u8]) -> bool
 
 // Loads a version file.
 #[tactic(auto, unfolding(crate::specs::Prepared::version_of))]
-fn load(alloc: Global, bytes: &[u8]) -> Result<Guest, Refusal>
+fn load(alloc: Global, bytes: &[u8], place: Place) -> Result<Guest, Refusal>
     requires { length bytes.now ≤ MOST_BYTES }
-    ensures guest { IfOk result (λ guest. version_of bytes.now ≡ Ready (machine_of guest)) }
-    ensures fresh { IfOk result (λ guest. guest.count ≡ 0) }
-    ensures refused { IfErr result (λ refusal. IsVersionRefusal refusal bytes.now) }
+    ensures guest { IfOk result (λ guest. version_of bytes.now ≡ Loads (machine_of guest)) }
+    ensures refused { IfErr result (λ refusal. IsVersionRefusal refusal place bytes.now) }
 {
     let program = match nv_elf::read(alloc, bytes) {
         Ok(program) => program,
-        Err(ElfFault::Short) => return Err(Refusal::Input(Place::Version, Cause::Short)),
-        Err(ElfFault::Unbuilt) => return Err(Refusal::Input(Place::Version, Cause::Unbuilt)),
         Err(ElfFault::Memory) => return Err(Refusal::Memory),
+        Err(fault) => return Err(Refusal::Input(place, Cause::Elf(fault))),
     };
-    match Guest::make(alloc, &program, MEMORY) {
+    match Guest::make(alloc, &program, &[], MEMORY) {
         Ok(guest) => Ok(guest),
-        Err(GuestFault::NoRoom(number)) => Err(Refusal::Input(
-            Place::Version,
-            Cause::NoRoom(number),
-        )),
         Err(GuestFault::Memory) => Err(Refusal::Memory),
+        Err(fault) => Err(Refusal::Input(place, Cause::Guest(fault))),
     }
 }
 
-// A call with room for what one call hands in.
-fn blank_call(alloc: Global) -> Result<Call, AllocError>
-    ensures { IfOk result (λ call. call.payload.room ≡ PAYLOAD) }
+// The version with this number, of a guest that hasn't run.
+fn version(alloc: Global, index: u32, guest: Guest) -> Result<Version, Refusal>
+    ensures fresh { IfOk result (IsFresh threads index) }
+    ensures process { IfOk result (λ version. version.at.process ≡ begun (machine_of guest)) }
+    ensures refused { IfErr result (λ refusal. refusal ≡ Refusal.Memory) }
 {
-    let payload = Bytes::make(alloc, PAYLOAD)?;
-    Ok(Call {
-        tid: 0,
-        nr: 0,
-        args: [0; 6],
-        bad: false,
-        payload,
-    })
+    let process = Process::make(alloc, guest, BUDGET)?;
+    let version = Version::make(alloc, index, process)?;
+    Ok(version)
 }
 
-/// Reads the script and then the version, and loads it. Each file is checked before the next is read.
+// Reads one version file, loads it and makes the version with this number.
+fn read_version<F: Files>(
+    alloc: Global,
+    files: &mut F,
+    name: &str,
+    index: u32,
+) -> Result<Version, Refusal>
+    ensures version { IfOk result (λ version. HasLoaded version (F.holds files.old name.now)) }
+    ensures fresh { IfOk result (IsFresh threads index) }
+    ensures refused { IfErr result (λ refusal. VersionRefused refusal (Place.Version index) (F.holds files.old name.now)
+        (F.faults files.old) (F.faults files.new) (F.taken files.old) (F.taken files.new)) }
+    ensures same { (name : List ℕ) → F.holds files.new name ≡ F.holds files.old name }
+    ensures faults { F.faults files.old ≤ F.faults files.new }
+    ensures taken { F.taken files.old ≤ F.taken files.new }
+{
+    let place = Place::Version(index);
+    let bytes = read_file(alloc, files, name, place)?;
+    let guest = load(alloc, &bytes, place)?;
+    let version = version(alloc, index, guest)?;
+    Ok(version)
+}
+
+// Reads and loads the versions in order, each before the next is read.
+fn read_versions<F: Files>(
+    alloc: Global,
+    files: &mut F,
+    names: &[String],
+) -> Result<Vec<Version>, Refusal>
+    requires { length names.now ≤ 8 }
+    ensures loaded { IfOk result (λ versions. AreLoaded versions.items (F.holds files.old) (texts names.now)) }
+    ensures fresh { IfOk result (λ versions. AreFresh threads 0 versions.items) }
+    ensures refused { IfErr result (λ refusal. VersionsRefused refusal (F.holds files.old) (texts names.now)
+        (F.faults files.old) (F.faults files.new) (F.taken files.old) (F.taken files.new)) }
+{
+    let mut versions = Vec::new(alloc);
+    for index in 0..names.len() {
+        match read_version(alloc, files, names[index].as_str(), index as u32) {
+            Ok(version) => versions.push(version)?,
+            Err(refusal) => return Err(refusal),
+        }
+    }
+    Ok(versions)
+}
+
+/// Reads the script and then the versions in order, and loads them. Each file is checked before the next is read.
 pub fn prepare<F: Files>(
     alloc: Global,
     files: &mut F,
     script: &str,
-    version: &str,
-) -> Result<Loaded, Refusal>
-    ensures guest { IfOk result (λ loaded. ComesTo (prepared (F.holds files.old) (record { script = script.now; version = version.now }))
-        (Ready (machine_of loaded.guest))) }
-    ensures fresh { IfOk result (λ loaded. loaded.guest.count ≡ 0) }
-    ensures room { IfOk result (λ loaded. loaded.call.payload.room ≡ PAYLOAD) }
-    ensures refused { IfErr result (λ refusal. Refuses refusal (F.holds files.old) (record { script = script.now; version = version.now })
+    versions: &[String],
+) -> Result<Vec<Version>, Refusal>
+    requires { length versions.now ≤ 8 }
+    ensures versions { IfOk result (λ ready. IsPrepared ready.items (F.holds files.old) (record { script = script.now; versions = texts versions.now })) }
+    ensures refused { IfErr result (λ refusal. Refuses refusal (F.holds files.old) (record { script = script.now; versions = texts versions.now })
         (F.faults files.old) (F.faults files.new) (F.taken files.old) (F.taken files.new)) }
 {
     let bytes = read_file(alloc, files, script, Place::Script)?;
     if !accepts_script(&bytes) {
         return Err(Refusal::Input(Place::Script, Cause::Unbuilt));
     }
-    let bytes = read_file(alloc, files, version, Place::Version)?;
-    let guest = load(alloc, &bytes)?;
-    let call = blank_call(alloc)?;
-    Ok(Loaded { guest, call })
+    match read_versions(alloc, files, versions) {
+        Ok(versions) => Ok(versions),
+        Err(refusal) => Err(refusal),
+    }
 }

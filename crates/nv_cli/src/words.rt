@@ -1,36 +1,55 @@
 // The words of a command line.
-ghost use Rattle.std.specs.Prelude.{◌≡◌, None, Some, MatchOption};
-ghost use Rattle.nv_cli.specs.Words.{plan_of, is_option};
-ghost use Rattle.nv_cli.specs.Outcome.{texts};
+ghost use Rattle.std.specs.Prelude.{◌≡◌, ◌≤◌, None, Some, MatchOption, length, string_bytes};
+ghost use Rattle.std.specs.List.{list_all};
+ghost use Rattle.nv_cli.specs.Words.{plan_of, is_name, are_versions, texts};
 
 /// The files that `run` names.
 #[derive(Clone, Copy)]
 pub struct Run<'a> {
     pub script: &'a str,
-    pub version: &'a str,
+    pub versions: &'a [String],
 }
 
-fn begins_with_dash(word: &str) -> bool
-    ensures { result ≡ is_option word.now }
+fn is_name(word: &str) -> bool
+    ensures { result ≡ is_name word.now }
 {
-    matches!(word.as_bytes(), [b'-', ..])
+    !matches!(word.as_bytes(), [b'-', ..])
 }
 
-/// The words of `run`: the name, `run`, `--script`, the script and one version.
+fn are_named(words: &[String]) -> bool
+    ensures { result ≡ list_all (λ word. is_name (string_bytes word)) words.now }
+{
+    words.iter().all(|word| is_name(word.as_str()))
+}
+
+fn are_names(words: &[String]) -> bool
+    ensures { result ≡ list_all is_name (texts words.now) }
+{
+    are_named(words)
+}
+
+fn are_versions(words: &[String]) -> bool
+    ensures { result ≡ are_versions (texts words.now) }
+{
+    1 <= words.len() && words.len() <= 8 && are_names(words)
+}
+
+/// The words of `run`: the name, `run`, `--script`, the script and one to eight versions.
 pub fn run_of(words: &[String]) -> Option<Run<'_>>
-    ensures { MatchOption result (plan_of (texts words.now) ≡ None)
-        (λ run. plan_of (texts words.now) ≡ Some (record { script = run.script.now; version = run.version.now })) }
+    ensures plan { MatchOption result (plan_of (texts words.now) ≡ None)
+        (λ run. (plan_of (texts words.now) ≡ Some (record { script = run.script.now; versions = texts run.versions.now }))
+        × (length run.versions.now ≤ 8)) }
 {
-    let [_, command, option, script, version] = words else {
+    let [_, command, option, script, versions @ ..] = words else {
         return None;
     };
-    let (script, version) = (script.as_str(), version.as_str());
+    let script = script.as_str();
     if command.as_str() == "run"
         && option.as_str() == "--script"
-        && !begins_with_dash(script)
-        && !begins_with_dash(version)
+        && is_name(script)
+        && are_versions(versions)
     {
-        Some(Run { script, version })
+        Some(Run { script, versions })
     } else {
         None
     }

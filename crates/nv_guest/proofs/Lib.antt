@@ -1,4 +1,4 @@
-pub mod Regions
 pub mod Going
-pub mod Rooms
 pub mod Shaped
+pub mod Strings
+pub mod Placed

@@ -1,6 +1,5 @@
-pub mod Memory
-pub mod Instructions
 pub mod Machine
 pub mod Guest
 pub mod Calls
+pub mod Block
 pub mod Load

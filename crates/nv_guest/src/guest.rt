@@ -1,137 +1,93 @@
 // A guest with one thread.
-ghost use Rattle.std.specs.Prelude.{◌≡◌, ◌≢◌, ◌≤◌, ◌<◌, ◌-◌, ◌^◌, ◌+◌, ℕ, All, vec_len, length, take, drop};
+ghost use Rattle.std.specs.Prelude.{◌≡◌, ◌≢◌, ◌≤◌, ◌<◌, ◌-◌, ℕ};
 
-use crate::decode::{Op, decode, destination, immediate, source, upper};
-use crate::region::{Region, is_executable, is_readable};
-use crate::{Asked, Came, FaultKind, Stepped};
-use nv_calls::{Bytes, Call};
-use nv_elf::word;
+use crate::outcome::{Asked, Came};
+use nv_calls::Call;
+use nv_machine::{FaultKind, Regs, Stepped, step};
+use nv_memory::Memory;
 
 const THREAD: u32 = 100;
 
 const MOST_BYTES: u32 = 4096;
 
-// Replaces the list by a part of the memory.
-fn copy_bytes(target: &mut Bytes, memory: &[u8], from: usize, count: usize)
-    requires part { from + count ≤ length memory.now }
-    requires room { count ≤ target.old.room }
-    ensures { target.new ≡ record { bytes = take count (drop from memory.now); room = target.old.room } }
-{
-    target.set(&memory[from..from + count]);
-}
-
-/// A machine with its memory, and how many instructions it has run.
+/// A machine with its memory.
 #[derive(Drop)]
 pub struct Guest {
-    pub registers: [u32; 32],
-    pub pc: u32,
-    pub memory: Vec<u8>,
-    pub regions: Vec<Region>,
+    pub(crate) regs: Regs,
+    pub(crate) memory: Memory,
+    /// How many instructions it has run.
     pub count: u32,
-    ghost small: { vec_len memory < 2 ^ 32 },
-    ghost within: { All (λ region. region.end ≤ vec_len memory) regions.items },
 }
 
 impl Guest {
     ghost use Rattle.nv_guest.specs.Guest.{machine_of};
-    ghost use Rattle.nv_guest.specs.Machine.{guest_step, advance, fetched, effect, written};
-    ghost use Rattle.nv_guest.specs.Instructions.{op_of};
+    ghost use Rattle.nv_guest.specs.Machine.{advance};
     ghost use Rattle.nv_guest.specs.Calls.{call_at, answered, write_call, other_call};
     ghost use Rattle.nv_calls.specs.Calls.{request};
     ghost use Rattle.nv_calls.specs.Shapes.{IsShaped};
+    ghost use Rattle.nv_machine.specs.Guest.{guest_step};
 
-    // The word at the pc, where its four bytes may be executed.
-    fn fetch(&self) -> Option<u32>
-        ensures { result ≡ fetched (machine_of self.now) }
-    {
-        if is_executable(&self.regions, self.pc) {
-            Some(word(&self.memory, self.pc as usize))
-        } else {
-            None
-        }
-    }
-
-    // A register is written, and the pc grows by 4.
-    fn write(&mut self, register: usize, value: u32)
-        requires { register < 32 }
-        ensures machine { machine_of self.new ≡ written (machine_of self.old) register value }
+    /// One instruction of the thread. After a call and after a fault nothing has changed.
+    pub fn step(&mut self, _tid: u32) -> Stepped
+        ensures machine { guest_step (machine_of self.old) ≡ (result, (machine_of self.new)) }
+        ensures kept { result ≢ Stepped.On → (machine_of self.new) ≡ (machine_of self.old) }
         ensures count { self.new.count ≡ self.old.count }
     {
-        if register != 0 {
-            self.registers[register] = value;
-        }
-        self.pc = self.pc.wrapping_add(4);
-    }
-
-    // What the word at the pc does.
-    fn execute(&mut self, word: u32) -> Stepped
-        ensures machine { effect (op_of word) (machine_of self.old) word ≡ (result, machine_of self.new) }
-        ensures kept { result ≢ Stepped.On → machine_of self.new ≡ machine_of self.old }
-        ensures count { self.new.count ≡ self.old.count }
-    {
-        match decode(word) {
-            None => Stepped::Fault(FaultKind::Illegal),
-            Some(Op::Lui) => {
-                self.write(destination(word), upper(word));
-                Stepped::On
-            }
-            Some(Op::Addi) => {
-                let sum = self.registers[source(word)].wrapping_add(immediate(word));
-                self.write(destination(word), sum);
-                Stepped::On
-            }
-            Some(Op::Ecall) => Stepped::Call,
-        }
-    }
-
-    /// One instruction. After a call and after a fault nothing has changed.
-    pub fn step(&mut self) -> Stepped
-        ensures machine { guest_step (machine_of self.old) ≡ (result, machine_of self.new) }
-        ensures kept { result ≢ Stepped.On → machine_of self.new ≡ machine_of self.old }
-        ensures count { self.new.count ≡ self.old.count }
-    {
-        match self.fetch() {
-            Some(word) => self.execute(word),
-            None => Stepped::Fault(FaultKind::Fetch),
-        }
+        step(&mut self.regs, &mut self.memory)
     }
 
     /// Goes on to the next call or fault, of at most so many instructions in all.
     pub fn go(&mut self, budget: u32) -> Came
         requires { self.old.count ≤ budget }
         ensures paused { advance (budget - self.old.count) (machine_of self.old)
-            ≡ record { came = result; left = budget - self.new.count; machine = machine_of self.new } }
+            ≡ record { came = result; left = budget - self.new.count; machine = (machine_of self.new) } }
         ensures count { self.new.count ≤ budget }
         ensures thread { (tid : ℕ) → result ≡ Came.Asked tid → tid ≡ 100 }
     {
         while self.count < budget {
             self.count += 1;
-            match self.step() {
+            match self.step(THREAD) {
                 Stepped::On => {}
                 Stepped::Call => return Came::Asked(THREAD),
-                Stepped::Fault(kind) => {
-                    return Came::Fault {
-                        kind,
-                        tid: THREAD,
-                        pc: self.pc,
-                    };
-                }
+                Stepped::Fault(kind) => return self.fault(kind),
             }
         }
+        self.fault(FaultKind::Budget)
+    }
+
+    // The fault of this kind, at the pc.
+    fn fault(&self, kind: FaultKind) -> Came
+        ensures { result ≡ Came.Fault kind 100 (machine_of self.now).regs.pc }
+    {
         Came::Fault {
-            kind: FaultKind::Budget,
+            kind,
             tid: THREAD,
-            pc: self.pc,
+            pc: self.regs.pc,
         }
     }
 
+    /// The address of the thread's next instruction; at a call that of its ECALL.
     pub fn pc(&self, _tid: u32) -> u32
-        ensures { result ≡ (machine_of self.now).pc }
+        ensures { result ≡ (machine_of self.now).regs.pc }
     {
-        self.pc
+        self.regs.pc
     }
 
-    /// The call that the machine is at.
+    /// The registers of the thread.
+    pub fn regs(&self, _tid: u32) -> &Regs
+        ensures { result.now ≡ (machine_of self.now).regs }
+    {
+        &self.regs
+    }
+
+    /// The memory of all threads.
+    pub fn memory(&self) -> &Memory
+        ensures { result.now ≡ (machine_of self.now).memory }
+    {
+        &self.memory
+    }
+
+    /// The call that the thread is at.
     pub fn call_of(&self, tid: u32, call: &mut Call) -> Asked
         requires { MOST_BYTES ≤ call.old.payload.room }
         ensures logged { result ≡ Asked.Logged }
@@ -140,13 +96,13 @@ impl Guest {
         ensures room { call.new.payload.room ≡ call.old.payload.room }
     {
         call.tid = tid;
-        call.nr = self.registers[17];
+        call.nr = self.regs.get(17);
         call.bad = false;
         call.args = [0; 6];
         call.payload.set(&[]);
         match call.nr {
             64 => self.write_call(call),
-            93 | 94 => call.args[0] = self.registers[10],
+            93 | 94 => call.args[0] = self.regs.get(10),
             _ => {}
         }
         Asked::Logged
@@ -159,28 +115,20 @@ impl Guest {
         ensures call { request call.new ≡ write_call (machine_of self.now) call.old.tid }
         ensures room { call.new.payload.room ≡ call.old.payload.room }
     {
-        call.args = [self.registers[10], 0, self.registers[12], 0, 0, 0];
-        let address = self.registers[11];
-        let count = self.registers[12].min(MOST_BYTES);
-        if is_readable(&self.regions, address, count) {
-            if count > 0 {
-                copy_bytes(
-                    &mut call.payload,
-                    &self.memory,
-                    address as usize,
-                    count as usize,
-                );
-            }
-        } else {
-            call.bad = true;
+        let (address, count) = (self.regs.get(11), self.regs.get(12));
+        call.args = [self.regs.get(10), 0, count, 0, 0, 0];
+        match self.memory.bytes(address, count.min(MOST_BYTES)) {
+            Ok(bytes) => call.payload.set(bytes),
+            Err(_) => call.bad = true,
         }
     }
 
     /// Puts the result into a0 and goes past the call.
     pub fn answer(&mut self, _tid: u32, ret: i32, _payload: &[u8])
-        ensures machine { machine_of self.new ≡ answered (machine_of self.old) ret }
+        ensures machine { (machine_of self.new) ≡ answered (machine_of self.old) ret }
         ensures count { self.new.count ≡ self.old.count }
     {
-        self.write(10, ret.cast_unsigned());
+        self.regs.set(10, ret.cast_unsigned());
+        self.regs.pc = self.regs.pc.wrapping_add(4);
     }
 }

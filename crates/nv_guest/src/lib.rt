@@ -1,12 +1,12 @@
 //! A guest: a machine with its memory, as a version file loads it, and the calls that it makes.
 #![tactic(auto)]
 
-mod decode;
+mod block;
 mod guest;
 mod load;
 mod outcome;
-mod region;
+#[cfg(test)]
+mod tests;
 
 pub use guest::Guest;
-pub use outcome::{Asked, Came, FaultKind, GuestFault, Stepped};
-pub use region::Region;
+pub use outcome::{Asked, Came, GuestFault};

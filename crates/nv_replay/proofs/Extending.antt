@@ -9,7 +9,7 @@ use Rattle.nv_threads.specs.declared.turns.Came.{Came}
 use Rattle.nv_threads.specs.declared.turns.Came.TheVariants.{Asked, Fault}
 use Rattle.nv_replay.specs.declared.fate.Fate.{Fate}
 use Rattle.nv_replay.specs.declared.fate.Fate.TheVariants.{Fault as Faulted, Memory}
-use Rattle.nv_guest.specs.declared.outcome.FaultKind.TheVariants.{Calls}
+use Rattle.nv_machine.specs.declared.outcome.FaultKind.TheVariants.{Calls}
 use Rattle.nv_replay.specs.Settling.{stage}
 use Rattle.nv_replay.specs.Follow.{Follower, Judge, next, on_next, follow, IsInStep}
 use Rattle.nv_replay.specs.Lead.{Leader, is_cut, led, logged, unless_ended, next_call, lead}

@@ -8,7 +8,7 @@ use Rattle.nv_threads.specs.declared.turns.Came.{Came}
 use Rattle.nv_threads.specs.declared.turns.Came.TheVariants.{Asked, Fault}
 use Rattle.nv_replay.specs.declared.fate.Fate.{Fate}
 use Rattle.nv_replay.specs.declared.fate.Fate.TheVariants.{Exited, Fault as Faulted, Memory}
-use Rattle.nv_guest.specs.declared.outcome.FaultKind.TheVariants.{Calls}
+use Rattle.nv_machine.specs.declared.outcome.FaultKind.TheVariants.{Calls}
 use Rattle.nv_calls.specs.Logs.{Start, served}
 use Rattle.nv_replay.specs.Lead.{Leader, is_cut, logged, led, unless_ended, next_call}
 use Rattle.nv_replay.specs.Permits.{Permit, Give, Drop, No}

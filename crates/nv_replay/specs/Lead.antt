@@ -3,7 +3,7 @@ use Rattle.std.specs.Prelude.{ℕ, ◌+◌, Bool, true, false, ◌==◌, nat_le,
 use Rattle.nv_calls.specs.Calls.{Entry}
 use Rattle.nv_calls.specs.Logs.{Start, served}
 use Rattle.nv_threads.specs.Behaviours.{Behaviour}
-use Rattle.nv_guest.specs.declared.outcome.FaultKind.TheVariants.{Calls}
+use Rattle.nv_machine.specs.declared.outcome.FaultKind.TheVariants.{Calls}
 use Rattle.nv_threads.specs.declared.turns.Want.TheVariants.{Any}
 use Rattle.nv_threads.specs.declared.turns.Came.{Came}
 use Rattle.nv_threads.specs.declared.turns.Came.TheVariants.{Asked, Fault}

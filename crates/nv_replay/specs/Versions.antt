@@ -2,7 +2,7 @@
 use Rattle.std.specs.Prelude.{◌≡◌, ℕ, ◌+◌, nat_le, List, [], Option, Some, None, option_map, if◌then◌else◌}
 use Rattle.nv_calls.specs.Calls.{Entry}
 use Rattle.nv_threads.specs.Behaviours.{Behaviour, IsStarted}
-use Rattle.nv_guest.specs.declared.outcome.FaultKind.TheVariants.{Calls}
+use Rattle.nv_machine.specs.declared.outcome.FaultKind.TheVariants.{Calls}
 use Rattle.nv_threads.specs.declared.turns.Want.TheVariants.{Any}
 use Rattle.nv_threads.specs.declared.turns.Came.{Came}
 use Rattle.nv_threads.specs.declared.turns.Came.TheVariants.{Asked, Fault}

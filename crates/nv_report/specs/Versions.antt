@@ -3,8 +3,8 @@ use Rattle.std.specs.Prelude.{ℕ, ◌+◌, List, [], ◌∷◌, ◌++◌, Optio
 use Rattle.std.specs.Fmt.{decimal}
 use Rattle.std.specs.Int.{w32, to_be_bytes}
 use Rattle.std.specs.List.{flat_map, concat}
-use Rattle.nv_guest.specs.declared.outcome.FaultKind.{FaultKind}
-use Rattle.nv_guest.specs.declared.outcome.FaultKind.TheVariants.{Illegal, Fetch, Budget, Calls}
+use Rattle.nv_machine.specs.declared.outcome.FaultKind.{FaultKind}
+use Rattle.nv_machine.specs.declared.outcome.FaultKind.TheVariants.{Illegal, Misaligned, Fetch, Load, Store, Breakpoint, Budget, Deadlock, Calls}
 use Rattle.nv_replay.specs.declared.fate.Fate.{Fate}
 use Rattle.nv_replay.specs.declared.fate.Fate.TheVariants.{Exited, Fault, Refused, Memory}
 use Rattle.nv_replay.specs.declared.standing.Standing.{Standing}
@@ -12,8 +12,13 @@ use Rattle.nv_report.specs.Numbers.{hex_text}
 
 abbrev pub kind_text : FaultKind → List ℕ
 kind_text Illegal = codes "illegal"
+kind_text Misaligned = codes "misaligned"
 kind_text Fetch = codes "fetch"
+kind_text Load = codes "load"
+kind_text Store = codes "store"
+kind_text Breakpoint = codes "breakpoint"
 kind_text Budget = codes "budget"
+kind_text Deadlock = codes "deadlock"
 kind_text Calls = codes "calls"
 
 abbrev pub fault_text : FaultKind → ℕ → List ℕ

@@ -103,8 +103,13 @@ fn name_of(kind: FaultKind) -> &'static [u8]
 {
     match kind {
         FaultKind::Illegal => b"illegal",
+        FaultKind::Misaligned => b"misaligned",
         FaultKind::Fetch => b"fetch",
+        FaultKind::Load => b"load",
+        FaultKind::Store => b"store",
+        FaultKind::Breakpoint => b"breakpoint",
         FaultKind::Budget => b"budget",
+        FaultKind::Deadlock => b"deadlock",
         FaultKind::Calls => b"calls",
     }
 }

@@ -2,12 +2,12 @@
 use Rattle.std.proofs.Common.{◌≡◌, ◌∙◌, sym, ap, refl, ℕ, suc, ◌-◌, ◌<◌, Option, Some, None, cond, arith}
 use Rattle.std.specs.Option.{is_some}
 use Rattle.nv_calls.specs.Calls.{Request}
-use Rattle.nv_guest.specs.Machine.{Machine, guest_step}
+use Rattle.nv_machine.specs.Guest.{Machine, guest_step}
 use Rattle.nv_guest.specs.Calls.{call_at}
-use Rattle.nv_guest.specs.declared.outcome.FaultKind.{FaultKind}
-use Rattle.nv_guest.specs.declared.outcome.FaultKind.TheVariants.{Budget}
-use Rattle.nv_guest.specs.declared.outcome.Stepped.{Stepped}
-use Rattle.nv_guest.specs.declared.outcome.Stepped.TheVariants.{On, Call, Fault as Faults}
+use Rattle.nv_machine.specs.declared.outcome.FaultKind.{FaultKind}
+use Rattle.nv_machine.specs.declared.outcome.FaultKind.TheVariants.{Budget}
+use Rattle.nv_machine.specs.declared.outcome.Stepped.{Stepped}
+use Rattle.nv_machine.specs.declared.outcome.Stepped.TheVariants.{On, Call, Fault as Faults}
 use Rattle.nv_threads.specs.Threads.{Proc, threads, advanced, unless_came, stepped, instruction}
 use Rattle.nv_threads.specs.declared.turns.Want.{Want}
 use Rattle.nv_threads.specs.declared.turns.Came.{Came}
@@ -25,7 +25,7 @@ unfolding instruction
 calls p m n e l = rw (e, l) refl
 
 pub faults : (p : Proc) (m : Machine) (n : ℕ) (kind : FaultKind) → guest_step p.machine ≡ (Faults kind, m) → p.left - 1 ≡ n
-    → instruction p ≡ (Some (Fault kind 100 m.pc), record p { machine = m; left = n })
+    → instruction p ≡ (Some (Fault kind 100 m.regs.pc), record p { machine = m; left = n })
 unfolding instruction
 faults p m n kind e l = rw (e, l) refl
 
@@ -58,7 +58,7 @@ comes_out p q came h e =
     let n : p.left ≡ suc (p.left - 1) = omega arith in
     more_by p (p.left - 1) n ∙ ap (unless_came (advanced (p.left - 1))) e
 
-pub runs_out : (p : Proc) → p.left ≡ 0 → advanced p.left p ≡ (Fault Budget 100 p.machine.pc, p)
+pub runs_out : (p : Proc) → p.left ≡ 0 → advanced p.left p ≡ (Fault Budget 100 p.machine.regs.pc, p)
 unfolding advanced
 runs_out p h = rw h refl
 

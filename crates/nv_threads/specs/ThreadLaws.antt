@@ -3,9 +3,9 @@ use Rattle.std.proofs.Common.{◌≡◌, ◌∙◌, sym, ap, subst, refl, ℕ, z
 use Rattle.std.specs.Prelude.{Contains, filter, not, ◌==◌, ◌||◌, ◌&&◌, is_some}
 use Rattle.nv_calls.specs.Calls.{Request, Response}
 use Rattle.nv_calls.specs.Logs.{child_of, live_next, with_child}
-use Rattle.nv_guest.specs.Machine.{Machine, guest_step}
-use Rattle.nv_guest.specs.declared.outcome.Stepped.{Stepped}
-use Rattle.nv_guest.specs.declared.outcome.Stepped.TheVariants.{On, Call, Fault as Faults}
+use Rattle.nv_machine.specs.Guest.{Machine, guest_step}
+use Rattle.nv_machine.specs.declared.outcome.Stepped.{Stepped}
+use Rattle.nv_machine.specs.declared.outcome.Stepped.TheVariants.{On, Call, Fault as Faults}
 use Rattle.nv_threads.specs.Behaviours.{IsProcess, event_of}
 use Rattle.nv_threads.specs.Threads.{Proc, threads, advanced, unless_came, stepped, instruction, call_or, live_by}
 use Rattle.nv_threads.specs.declared.turns.Came.{Came}

@@ -1,11 +1,11 @@
 -- A process of one thread, 100.
 use Rattle.std.specs.Prelude.{ℕ, zero, suc, ◌+◌, ◌-◌, ◌%◌, Bool, true, false, ◌==◌, ◌||◌, ◌&&◌, List, [], ◌∷◌, Option, Some, None, is_some, slice_index, if◌then◌else◌}
 use Rattle.nv_calls.specs.Calls.{Request}
-use Rattle.nv_guest.specs.Machine.{Machine, guest_step}
+use Rattle.nv_machine.specs.Guest.{Machine, guest_step}
 use Rattle.nv_guest.specs.Calls.{call_at, answered}
-use Rattle.nv_guest.specs.declared.outcome.FaultKind.TheVariants.{Budget}
-use Rattle.nv_guest.specs.declared.outcome.Stepped.{Stepped}
-use Rattle.nv_guest.specs.declared.outcome.Stepped.TheVariants.{On, Call, Fault as Faults}
+use Rattle.nv_machine.specs.declared.outcome.FaultKind.TheVariants.{Budget}
+use Rattle.nv_machine.specs.declared.outcome.Stepped.{Stepped}
+use Rattle.nv_machine.specs.declared.outcome.Stepped.TheVariants.{On, Call, Fault as Faults}
 use Rattle.nv_threads.specs.Behaviours.{Behaviour}
 use Rattle.nv_threads.specs.declared.turns.Came.{Came}
 use Rattle.nv_threads.specs.declared.turns.Came.TheVariants.{Asked, Fault}
@@ -25,7 +25,7 @@ started m budget = record { machine = m; left = budget; call = None; end = None 
 abbrev pub stepped : Stepped × Machine → Proc → Option Came × Proc
 stepped (On, m) p = (None, record p { machine = m })
 stepped (Call, m) p = (Some (Asked 100), record p { machine = m; call = Some (call_at m 100) })
-stepped (Faults kind, m) p = (Some (Fault kind 100 m.pc), record p { machine = m })
+stepped (Faults kind, m) p = (Some (Fault kind 100 m.regs.pc), record p { machine = m })
 
 -- one instruction
 unfoldable pub instruction : Proc → Option Came × Proc
@@ -37,7 +37,7 @@ unless_came go_on (Some came, p) = (came, p)
 
 -- the first call or fault, with so many instructions left
 unfoldable pub advanced : ℕ → Proc → Came × Proc
-advanced zero p = (Fault Budget 100 p.machine.pc, p)
+advanced zero p = (Fault Budget 100 p.machine.regs.pc, p)
 advanced (suc left) p = unless_came (advanced left) (instruction p)
 
 abbrev pub no_call : Request
@@ -64,7 +64,7 @@ threads = record {
   after = λ p w. if is_some p.call then p else (advanced p.left p).1;
   pending = λ p t. is_some p.call && (t == 100);
   call = λ p t. record (call_or p.call) { tid = t };
-  pc = λ p t. p.machine.pc;
+  pc = λ p t. p.machine.regs.pc;
   answered = λ p t r. record { machine = answered p.machine r.ret; left = p.left; call = None; end = end_by (call_or p.call) p.end };
   live = λ p. live_by p.end;
   ended = λ p. p.end;

@@ -9,7 +9,8 @@ ghost use Rattle.nv_threads.specs.Threads.{threads, started, instruction};
 
 use crate::{Came, FaultKind, Want};
 use nv_calls::{Bytes, Call};
-use nv_guest::{Guest, Stepped};
+use nv_guest::Guest;
+use nv_machine::Stepped;
 use std::alloc::{AllocError, Global};
 use std::marker::Model;
 
@@ -96,7 +97,7 @@ impl Process {
         ensures { instruction self.old ≡ (result, self.new) }
     {
         self.count += 1;
-        match self.guest.step() {
+        match self.guest.step(THREAD) {
             Stepped::On => None,
             Stepped::Call => Some(self.ask()),
             Stepped::Fault(kind) => Some(Came::Fault {

@@ -1,5 +1,5 @@
 // What is asked of a process, and what it comes to.
-use nv_guest::FaultKind;
+use nv_machine::FaultKind;
 
 /// Whose call is wanted.
 #[derive(Clone, Copy, Debug, PartialEq, Eq)]

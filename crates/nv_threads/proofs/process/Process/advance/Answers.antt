@@ -32,7 +32,7 @@ pub returns-clause-came : goal.returns-clause-came
 returns-clause-came c =
     let left : c.loop-self.self.left ≡ 0 = omega (arith, ap (λ (p : Proc). p.left) c.self-in-loop-self.view_is, c.loop-self-test.false) in
     let none : c.args.self.now.call ≡ None = ap (λ (p : Proc). p.call) (sym c.self.view_is) ∙ rw c.if-self.false refl in
-    let at : c.pc.result ≡ c.loop-self.self.machine.pc = c.pc.ensures ∙ ap (λ (p : Proc). p.machine.pc) c.self-2.view_is in
+    let at : c.pc.result ≡ c.loop-self.self.machine.regs.pc = c.pc.ensures ∙ ap (λ (p : Proc). p.machine.regs.pc) c.self-2.view_is in
     rw at (came_is _ _ c.args.want _ none (sym c.loop-self.invariant.0 ∙ runs_out _ left)).0
 
 pub returns-clause-after : goal.returns-clause-after

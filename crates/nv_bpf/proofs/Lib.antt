@@ -1,0 +1,4 @@
+pub mod Cutting
+pub mod OpTexts
+pub mod Digits
+pub mod ReadBack

@@ -1,0 +1,17 @@
+use Rattle.std.proofs.Common.{subst, List, String}
+use Rattle.std.specs.Global.{Global}
+use Rattle.nv_cli.specs.Words.{texts}
+use Rattle.nv_cli.specs.Outcome.{source_of}
+use Rattle.nv_cli.specs.Rows.{Refuses, FailsToRead}
+use Rattle.nv_cli.proofs.Statuses.{refuses-by, unread-by}
+use Rattle.nv_cli.proofs.top.varan.Goals as goal
+
+pub returns-clause-input : goal.returns-clause-input
+returns-clause-input g c = λ four.
+    subst (λ (words : List (String Global)). Refuses (texts words) (source_of g.F.Files.holds g.F.Files.faults g.F.Files.taken c.args.files.now c.answer.new.files) (g.S.Sink.told c.args.sink.now) (g.S.Sink.told c.answer.new.sink))
+    c.deref.ensures.value (refuses-by c.answer.ensures four)
+
+pub returns-clause-read : goal.returns-clause-read
+returns-clause-read g c = λ five.
+    subst (λ (words : List (String Global)). FailsToRead (texts words) (source_of g.F.Files.holds g.F.Files.faults g.F.Files.taken c.args.files.now c.answer.new.files) (g.S.Sink.told c.args.sink.now) (g.S.Sink.told c.answer.new.sink))
+    c.deref.ensures.value (unread-by c.answer.ensures five)

@@ -1,0 +1,51 @@
+// Why a run doesn't start.
+ghost use Rattle.std.specs.Prelude.{◌≡◌};
+ghost use Rattle.nv_cli.specs.declared.refusal.Refusal.TheVariants.{Memory};
+
+use nv_elf::ElfFault;
+use nv_guest::GuestFault;
+use std::alloc::{AllocError, AllocFailed};
+
+/// A file of the reading order: the script, or the version with this number.
+#[derive(Clone, Copy, Debug, PartialEq, Eq)]
+pub enum Place {
+    Script,
+    Version(u32),
+}
+
+/// Why a file is refused.
+#[derive(Clone, Copy, Debug, PartialEq, Eq)]
+pub enum Cause {
+    /// More than 4,194,304 bytes.
+    Long,
+    /// A script of a form that isn't read so far.
+    Unbuilt,
+    /// A version that is no file of a program.
+    Elf(ElfFault),
+    /// A version whose program has no room in a guest.
+    Guest(GuestFault),
+}
+
+/// Why a run doesn't start.
+#[derive(Clone, Copy, Debug, PartialEq, Eq)]
+pub enum Refusal {
+    Memory,
+    Unreadable(Place),
+    Input(Place, Cause),
+}
+
+impl From<AllocError> for Refusal {
+    ghost from_gives = { λ _ refusal. refusal ≡ Memory };
+
+    fn from(_: AllocError) -> Self {
+        Refusal::Memory
+    }
+}
+
+impl<T: Drop> From<AllocFailed<T>> for Refusal {
+    ghost from_gives = { λ _ refusal. refusal ≡ Memory };
+
+    fn from(_: AllocFailed<T>) -> Self {
+        Refusal::Memory
+    }
+}

@@ -1,0 +1,291 @@
+// The top call.
+ghost use Rattle.std.specs.Prelude.{◌≡◌, ◌≢◌, ◌≤◌, ◌⊎◌, ◌++◌, ◌∷◌, [], List, Some, None, IsTrue, ◌↔◌, codes, length, map};
+ghost use Rattle.std.specs.List.{concat, list_any};
+ghost use Rattle.nv_outside.specs.Counts.{Rose};
+ghost use Rattle.nv_outside.specs.Sink.{Puts};
+ghost use Rattle.nv_machine.specs.Guest.{Machine};
+ghost use Rattle.nv_threads.specs.Threads.{threads};
+ghost use Rattle.nv_replay.specs.Follow.{is_exited};
+ghost use Rattle.nv_replay.specs.Lead.{is_memory};
+ghost use Rattle.nv_replay.specs.Versions.{standing_of, process_of};
+ghost use Rattle.nv_sequence.specs.Accounts.{AreFresh};
+ghost use Rattle.nv_cli.specs.Account.{begun, run_status};
+ghost use Rattle.nv_cli.specs.Words.{Plan, plan_of, texts};
+ghost use Rattle.nv_cli.specs.Prepared.{prepared, Ready, Refused};
+ghost use Rattle.nv_cli.specs.declared.refusal.Place.{Place};
+ghost use Rattle.nv_cli.specs.declared.refusal.Cause.{Cause};
+ghost use Rattle.nv_cli.specs.Outcome.{Says, Answers, Ran, Usage, ended_with, name_of, elf_text, guest_text, cause_text, outcome_of, status_of, text_of, source_of};
+ghost use Rattle.nv_cli.specs.Rows.{IsReport, Reports, WantsMemory, Refuses, FailsToRead, FailsToWrite};
+
+use crate::prepare::prepare;
+use crate::refusal::{Cause, Place, Refusal};
+use crate::words::run_of;
+use itoa::Buffer;
+use nv_elf::ElfFault;
+use nv_guest::GuestFault;
+use nv_kernel::ScriptKernel;
+use nv_outside::{Files, Gate, Put, Sink, put_all, put_pieces};
+use nv_replay::{Fate, Version};
+use std::alloc::Global;
+
+const USAGE: u8 = 2;
+
+const MEMORY: u8 = 3;
+
+const INPUT: u8 = 4;
+
+const READ_FAULT: u8 = 5;
+
+const WRITE_FAULT: u8 = 6;
+
+const STARVED: u8 = 7;
+
+const MOST_EVENTS: u32 = 65_536;
+
+fn ended(put: Put, status: u8) -> u8
+    ensures { result ≡ ended_with put status }
+{
+    match put {
+        Put::Whole => status,
+        Put::Failed => WRITE_FAULT,
+    }
+}
+
+fn has_exited(version: &Version) -> bool
+    ensures { result ≡ is_exited (standing_of version.now).fate }
+{
+    matches!(version.standing().fate, Some(Fate::Exited(_)))
+}
+
+fn wanted_memory(version: &Version) -> bool
+    ensures { result ≡ is_memory (standing_of version.now).fate }
+{
+    matches!(version.standing().fate, Some(Fate::Memory))
+}
+
+fn any_exited(versions: &[Version]) -> bool
+    ensures { result ≡ list_any (λ version. is_exited (standing_of version).fate) versions.now }
+{
+    versions.iter().any(|version| has_exited(version))
+}
+
+fn any_wanted_memory(versions: &[Version]) -> bool
+    ensures { result ≡ list_any (λ version. is_memory (standing_of version).fate) versions.now }
+{
+    versions.iter().any(|version| wanted_memory(version))
+}
+
+fn exited(versions: &[Version]) -> bool
+    ensures { result ≡ list_any (λ line. is_exited line.fate) (map standing_of versions.now) }
+{
+    any_exited(versions)
+}
+
+fn starved(versions: &[Version]) -> bool
+    ensures { result ≡ list_any (λ line. is_memory line.fate) (map standing_of versions.now) }
+{
+    any_wanted_memory(versions)
+}
+
+fn status(versions: &[Version]) -> u8
+    ensures { result ≡ run_status (map standing_of versions.now) }
+{
+    if exited(versions) {
+        0
+    } else if starved(versions) {
+        STARVED
+    } else {
+        1
+    }
+}
+
+// Runs the versions and writes the report.
+fn run_versions<S: Sink>(alloc: Global, versions: Vec<Version>, sink: &mut S) -> u8
+    requires fresh { AreFresh threads 0 versions.items }
+    requires few { length versions.items ≤ 8 }
+    ensures { (machines : List Machine) → map process_of versions.items ≡ map begun machines
+        → Ran machines (S.told sink.old) (S.faults sink.old) result (S.told sink.new) (S.faults sink.new) }
+{
+    let account = nv_sequence::run(versions, ScriptKernel::make(alloc), MOST_EVENTS);
+    let put = nv_report::write(sink, &account);
+    ended(put, status(&account.versions))
+}
+
+fn put_line<S: Sink>(sink: &mut S, line: &[u8], line_status: u8) -> u8
+    ensures { Says line.now line_status (S.told sink.old) (S.faults sink.old) result (S.told sink.new) (S.faults sink.new) }
+{
+    let put = put_all(sink, line);
+    ended(put, line_status)
+}
+
+fn put_elf_fault<S: Sink>(sink: &mut S, fault: ElfFault) -> Put
+    ensures { Puts (S.told sink.old) (S.faults sink.old) (elf_text fault) result (S.told sink.new) (S.faults sink.new) }
+{
+    let mut first = Buffer::new();
+    let mut second = Buffer::new();
+    match fault {
+        ElfFault::Short => put_all(sink, b"short"),
+        ElfFault::Magic => put_all(sink, b"magic"),
+        ElfFault::Class => put_all(sink, b"class"),
+        ElfFault::Kind => put_all(sink, b"type"),
+        ElfFault::Machine => put_all(sink, b"machine"),
+        ElfFault::Flags => put_all(sink, b"flags"),
+        ElfFault::Header => put_all(sink, b"header"),
+        ElfFault::Interpreted => put_all(sink, b"interpreted"),
+        ElfFault::Outside(index) => put_pieces(
+            sink,
+            &[b"outside ", first.format(index).as_bytes()],
+        ),
+        ElfFault::Overlap(lower, higher) => put_pieces(
+            sink,
+            &[
+                b"overlap ",
+                first.format(lower).as_bytes(),
+                b" ",
+                second.format(higher).as_bytes(),
+            ],
+        ),
+        ElfFault::Entry => put_all(sink, b"entry"),
+        ElfFault::Memory => put_all(sink, b"memory"),
+    }
+}
+
+fn put_guest_fault<S: Sink>(sink: &mut S, fault: GuestFault) -> Put
+    ensures { Puts (S.told sink.old) (S.faults sink.old) (guest_text fault) result (S.told sink.new) (S.faults sink.new) }
+{
+    let mut buffer = Buffer::new();
+    match fault {
+        GuestFault::NoRoom(index) => put_pieces(
+            sink,
+            &[b"no room ", buffer.format(index).as_bytes()],
+        ),
+        GuestFault::Arguments => put_all(sink, b"arguments"),
+        GuestFault::Memory => put_all(sink, b"memory"),
+    }
+}
+
+fn put_cause<S: Sink>(sink: &mut S, cause: Cause) -> Put
+    ensures { Puts (S.told sink.old) (S.faults sink.old) (cause_text cause) result (S.told sink.new) (S.faults sink.new) }
+{
+    match cause {
+        Cause::Long => put_all(sink, b"long"),
+        Cause::Unbuilt => put_all(sink, b"unbuilt"),
+        Cause::Elf(fault) => put_elf_fault(sink, fault),
+        Cause::Guest(fault) => put_guest_fault(sink, fault),
+    }
+}
+
+fn put_cause_line<S: Sink>(sink: &mut S, cause: Cause) -> Put
+    ensures { Puts (S.told sink.old) (S.faults sink.old) (cause_text cause ++ codes "\n") result (S.told sink.new) (S.faults sink.new) }
+{
+    match put_cause(sink, cause) {
+        Put::Whole => put_all(sink, b"\n"),
+        Put::Failed => Put::Failed,
+    }
+}
+
+// Says which file is refused, and why.
+fn put_input<S: Sink>(sink: &mut S, name: &str, cause: Cause) -> Put
+    ensures { Puts (S.told sink.old) (S.faults sink.old)
+        (concat (codes "varan: input " ∷ name.now ∷ codes ": " ∷ []) ++ (cause_text cause ++ codes "\n")) result
+        (S.told sink.new) (S.faults sink.new) }
+{
+    match put_pieces(sink, &[b"varan: input ", name.as_bytes(), b": "]) {
+        Put::Whole => put_cause_line(sink, cause),
+        Put::Failed => Put::Failed,
+    }
+}
+
+fn name<'a>(place: Place, script: &'a str, versions: &'a [String]) -> &'a str
+    ensures { result.now ≡ name_of place (record { script = script.now; versions = texts versions.now }) }
+{
+    match place {
+        Place::Script => script,
+        Place::Version(index) => versions
+            .get(index as usize)
+            .map_or("", |name| name.as_str()),
+    }
+}
+
+// Says why a run didn't start.
+fn refuse<S: Sink>(sink: &mut S, refusal: Refusal, script: &str, versions: &[String]) -> u8
+    ensures { Says (text_of (outcome_of refusal (record { script = script.now; versions = texts versions.now })))
+        (status_of (outcome_of refusal (record { script = script.now; versions = texts versions.now })))
+        (S.told sink.old) (S.faults sink.old) result (S.told sink.new) (S.faults sink.new) }
+{
+    match refusal {
+        Refusal::Memory => put_line(sink, b"varan: memory\n", MEMORY),
+        Refusal::Unreadable(place) => {
+            let put = put_pieces(
+                sink,
+                &[
+                    b"varan: read ",
+                    name(place, script, versions).as_bytes(),
+                    b"\n",
+                ],
+            );
+            ended(put, READ_FAULT)
+        }
+        Refusal::Input(place, cause) => {
+            let put = put_input(sink, name(place, script, versions), cause);
+            ended(put, INPUT)
+        }
+    }
+}
+
+// Does what the words ask for, and says what it came to.
+fn answer<F: Files, S: Sink>(alloc: Global, words: &[String], files: &mut F, sink: &mut S) -> u8
+    ensures { Answers (texts words.now) (source_of F.holds F.faults F.taken files.old files.new)
+        (S.told sink.old) (S.faults sink.old) result (S.told sink.new) (S.faults sink.new) }
+{
+    let Some(run) = run_of(words) else {
+        return put_line(sink, b"varan: usage\n", USAGE);
+    };
+    match prepare(alloc, files, run.script, run.versions) {
+        Ok(versions) => run_versions(alloc, versions, sink),
+        Err(refusal) => refuse(sink, refusal, run.script, run.versions),
+    }
+}
+
+/// The monitor: it reads the words of a command line, does what they ask for and answers the status of the process.
+pub fn varan<F: Files, S: Sink, G: Gate>(
+    alloc: Global,
+    words: &Vec<String>,
+    files: &mut F,
+    sink: &mut S,
+    _gate: &G,
+) -> u8
+    // With the statuses 0, 1 and 7 the bytes written are the report of the plain sequential monitor over these words and files.
+    ensures report { IsReport result
+        → Reports (texts words.now.items) (source_of F.holds F.faults F.taken files.old files.new) result (S.told sink.old) (S.told sink.new) }
+
+    // Words that are refused are answered by the line of usage, unless it can't be written; no others are.
+    ensures usage { plan_of (texts words.now.items) ≡ None
+        → Says (text_of Usage) 2 (S.told sink.old) (S.faults sink.old) result (S.told sink.new) (S.faults sink.new) }
+    ensures usage_only { result ≡ 2 → plan_of (texts words.now.items) ≡ None }
+
+    // Want of memory is free, for words that are accepted, and is said.
+    ensures memory { result ≡ 3 → WantsMemory (texts words.now.items) (S.told sink.old) (S.told sink.new) }
+
+    // A refused file: only where the contents say so, and there exactly, unless a read failed or the line couldn't be written.
+    ensures input { result ≡ 4
+        → Refuses (texts words.now.items) (source_of F.holds F.faults F.taken files.old files.new) (S.told sink.old) (S.told sink.new) }
+    ensures refused { (plan : Plan) (place : Place) (cause : Cause) → plan_of (texts words.now.items) ≡ Some plan
+        → prepared (F.holds files.old) plan ≡ Refused place cause → (Rose (F.faults files.old) (F.faults files.new) → ⊥)
+        → (result ≡ 4) ⊎ ((result ≡ 6) ⊎ (result ≡ 3)) }
+
+    // Faults come only where their counts rose.
+    ensures read { result ≡ 5
+        → FailsToRead (texts words.now.items) (source_of F.holds F.faults F.taken files.old files.new) (S.told sink.old) (S.told sink.new) }
+    ensures write { result ≡ 6 → Rose (S.faults sink.old) (S.faults sink.new) }
+    ensures front { result ≡ 6
+        → FailsToWrite (texts words.now.items) (source_of F.holds F.faults F.taken files.old files.new) (S.told sink.old) (S.told sink.new) }
+
+    // Where no fault came, files that are accepted give a report, or memory is wanted.
+    ensures complete { (plan : Plan) (machines : List Machine) → plan_of (texts words.now.items) ≡ Some plan
+        → prepared (F.holds files.old) plan ≡ Ready machines
+        → (Rose (F.faults files.old) (F.faults files.new) → ⊥) → (Rose (S.faults sink.old) (S.faults sink.new) → ⊥)
+        → IsReport result ⊎ (result ≡ 3) }
+{
+    answer(alloc, words, files, sink)
+}

@@ -1,0 +1,88 @@
+use crate::{Asked, Came, Guest, GuestFault};
+use nv_calls::{Bytes, Call};
+use nv_machine::FaultKind;
+use nv_memory::{Right, Width};
+use std::alloc::{AllocError, Global};
+use std::test::Fail;
+
+// An ELF file with one segment at 0x10000, which may be read and executed: `li a7, 94` and `ecall` (GNU as).
+static FILE: [u8; 96] = [
+    0x7f, 0x45, 0x4c, 0x46, 0x01, 0x01, 0x01, 0x00, 0x00, 0x00, 0x00, 0x00, 0x00, 0x00, 0x00, 0x00,
+    0x02, 0x00, 0xf3, 0x00, 0x01, 0x00, 0x00, 0x00, 0x00, 0x00, 0x01, 0x00, 0x34, 0x00, 0x00, 0x00,
+    0x00, 0x00, 0x00, 0x00, 0x00, 0x00, 0x00, 0x00, 0x34, 0x00, 0x20, 0x00, 0x01, 0x00, 0x00, 0x00,
+    0x00, 0x00, 0x00, 0x00, 0x01, 0x00, 0x00, 0x00, 0x54, 0x00, 0x00, 0x00, 0x00, 0x00, 0x01, 0x00,
+    0x00, 0x00, 0x01, 0x00, 0x0c, 0x00, 0x00, 0x00, 0x0c, 0x00, 0x00, 0x00, 0x05, 0x00, 0x00, 0x00,
+    0x04, 0x00, 0x00, 0x00, 0xb7, 0x08, 0x00, 0x00, 0x93, 0x88, 0xe8, 0x05, 0x73, 0x00, 0x00, 0x00,
+];
+
+fn text(alloc: Global, bytes: &[u8]) -> Result<Vec<u8>, AllocError> {
+    bytes.to_vec(alloc)
+}
+
+fn zeros(alloc: Global, count: usize) -> Result<Vec<u8>, AllocError> {
+    vec![in alloc; 0; count]
+}
+
+// The words and strings of the argument block, in a memory that ends at 0x40000.
+#[test]
+fn argument_block(rt: HostRuntime) -> Result<(), Fail> {
+    let alloc = rt.alloc();
+    let program = nv_elf::read(alloc, &FILE)?;
+    let arguments = vec![in alloc; text(alloc, b"ab")?, text(alloc, b"c")?]?;
+    let guest = Guest::make(alloc, &program, &arguments, 0x40000)?;
+    assert_eq!(rt; guest.pc(100), 0x10000);
+    assert_eq!(rt; guest.regs(100).get(2), 0x3ffd0);
+    assert_eq!(rt; guest.regs(100).get(17), 0);
+    let mut block = [0; 48];
+    assert_eq!(rt; guest.memory().copy_in(0x3ffd0, &mut block), Ok(()));
+    assert_eq!(rt;
+        block,
+        *b"\x03\0\0\0\xf5\xff\x03\0\xfb\xff\x03\0\xfe\xff\x03\0\0\0\0\0\0\0\0\0\0\0\0\0\0\0\0\0\0\0\0\0\0guest\0ab\0c\0"
+    );
+    assert_eq!(rt; guest.memory().load(0x10008, Width::Four), Ok(0x73));
+    assert!(rt; !guest.memory().holds(0x10000, 1, Right::Write));
+    assert!(rt; guest.memory().holds(0x30000, 0x10000, Right::Write));
+    assert!(rt; !guest.memory().holds(0x2fffc, 8, Right::Write));
+    Ok(())
+}
+
+#[test]
+fn one_call(rt: HostRuntime) -> Result<(), Fail> {
+    let alloc = rt.alloc();
+    let program = nv_elf::read(alloc, &FILE)?;
+    let mut guest = Guest::make(alloc, &program, &[], 0x40000)?;
+    assert_eq!(rt; guest.go(10), Came::Asked(100));
+    assert_eq!(rt; guest.pc(100), 0x10008);
+    let mut call = Call {
+        tid: 0,
+        nr: 0,
+        args: [1; 6],
+        bad: true,
+        payload: Bytes::make(alloc, 4096)?,
+    };
+    assert_eq!(rt; guest.call_of(100, &mut call), Asked::Logged);
+    assert_eq!(rt; call.nr, 94);
+    assert_eq!(rt; call.args, [0; 6]);
+    assert!(rt; !call.bad);
+    guest.answer(100, -38, &[]);
+    assert_eq!(rt; guest.regs(100).get(10), 0xffff_ffda);
+    let fetch = Came::Fault {
+        kind: FaultKind::Fetch,
+        tid: 100,
+        pc: 0x1000c,
+    };
+    assert_eq!(rt; guest.go(10), fetch);
+    Ok(())
+}
+
+#[test]
+fn programs_without_room(rt: HostRuntime) -> Result<(), Fail> {
+    let alloc = rt.alloc();
+    let program = nv_elf::read(alloc, &FILE)?;
+    let low = Guest::make(alloc, &program, &[], 0x20000).err();
+    assert_eq!(rt; low, Some(GuestFault::NoRoom(0)));
+    let long = vec![in alloc; zeros(alloc, 65536)?]?;
+    let many = Guest::make(alloc, &program, &long, 0x40000).err();
+    assert_eq!(rt; many, Some(GuestFault::Arguments));
+    Ok(())
+}

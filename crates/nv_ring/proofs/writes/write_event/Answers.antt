@@ -1,0 +1,105 @@
+use Rattle.std.proofs.Common.{arith, sym, ap, subst, ◌∙◌, ◌≡◌, ◌<◌, ◌≤◌, ◌+◌, ◌++◌, ◌∷◌, [], ℕ, List, length, map, get_or, Some}
+use Rattle.std.specs.Prelude.{slice_get}
+use Rattle.std.proofs.lemmas.Option.{same_Some}
+use Rattle.nv_calls.specs.Calls.{Entry, entry}
+use Rattle.nv_calls.specs.Logs.{InRange, IsLawful}
+use Rattle.nv_words.specs.Spell.{spell, bit}
+use Rattle.nv_words.specs.SpellLaws.{spell_whole}
+use Rattle.nv_room.specs.Seats.{lead_view, kernel_of}
+use Rattle.nv_ring.proofs.Events.{entry_at, last_spelt, one_more, as_long, take_len}
+use Rattle.nv_ring.proofs.writes.write_event.Goals as goal
+
+pub count-words-requires : goal.count-words-requires
+count-words-requires g c =
+    let l = c.args.lead.now in
+    let log : List Entry = g.K.SyscallKernel.log (kernel_of l) in
+    let long : length log ≡ l.seen + 1 = l.longer ∙ ap (λ b. l.seen + bit b) c.requires.due in
+    let at : c.seen-at.result ≡ l.seen = sym c.seen-at.ensures.count ∙ l.seen_is in
+    let law : IsLawful log = subst IsLawful (ap g.K.SyscallKernel.log c.kernel.ensures) c.history.ensures.lawful in
+    let here = entry_at c.history.result.now log c.seen-at.result c.index-history-at.result (c.history.ensures.log ∙ ap g.K.SyscallKernel.log c.kernel.ensures) (omega arith) c.index-history-at.is in
+    (law c.seen-at.result (entry c.index-history-at.result) here).range.short
+
+pub word-next-requires : goal.word-next-requires
+word-next-requires g c =
+    let l = c.args.lead.now in
+    let log : List Entry = g.K.SyscallKernel.log (kernel_of l) in
+    let i = c.loop-i.invariant in
+    let long : length log ≡ l.seen + 1 = l.longer ∙ ap (λ b. l.seen + bit b) c.requires.due in
+    let at : c.seen-at.result ≡ l.seen = sym c.seen-at.ensures.count ∙ l.seen_is in
+    let law : IsLawful log = subst IsLawful (ap g.K.SyscallKernel.log c.kernel.ensures) c.history.ensures.lawful in
+    let near : c.seen-at.result < length log = omega arith in
+    let first = entry_at c.history.result.now log c.seen-at.result c.index-history-at.result (c.history.ensures.log ∙ ap g.K.SyscallKernel.log c.kernel.ensures) near c.index-history-at.is in
+    let again = entry_at c.history-in-loop-i.result.now log c.seen-at.result c.index-history-at-in-loop-i.result (c.history-in-loop-i.ensures.log ∙ ap g.K.SyscallKernel.log (c.kernel-in-loop-i.ensures ∙ i.kernel)) near c.index-history-at-in-loop-i.is in
+    let same : entry c.index-history-at.result ≡ entry c.index-history-at-in-loop-i.result = same_Some _ _ (sym first ∙ again) in
+    let range : InRange (entry c.index-history-at-in-loop-i.result) = (law c.seen-at.result _ again).range in
+    let words : c.count-words.result ≡ length (spell (entry c.index-history-at-in-loop-i.result)) = c.count-words.ensures ∙ ap (λ (z : Entry). length (spell z)) same in
+    let t = c.loop-i-test.true in
+    record { payload = range.short; ret = range.ret; below = omega arith }
+
+pub write_word-requires-clause-next : goal.write_word-requires-clause-next
+write_word-requires-clause-next g c κs within =
+    let l = c.args.lead.now in
+    let log : List Entry = g.K.SyscallKernel.log (kernel_of l) in
+    let i = c.loop-i.invariant in
+    let long : length log ≡ l.seen + 1 = l.longer ∙ ap (λ b. l.seen + bit b) c.requires.due in
+    let at : c.seen-at.result ≡ l.seen = sym c.seen-at.ensures.count ∙ l.seen_is in
+    let near : c.seen-at.result < length log = omega arith in
+    let first = entry_at c.history.result.now log c.seen-at.result c.index-history-at.result (c.history.ensures.log ∙ ap g.K.SyscallKernel.log c.kernel.ensures) near c.index-history-at.is in
+    let t = c.loop-i-test.true in
+    let words : c.count-words.result ≡ length (spell (entry c.index-history-at.result)) = c.count-words.ensures in
+    as_long (lead_view c.loop-i.lead).wrote c.loop-i.i (spell (entry c.index-history-at.result)) (i.wrote _ first) (omega arith)
+
+pub write_word-requires-clause-small : goal.write_word-requires-clause-small
+write_word-requires-clause-small g c κs within =
+    let l = c.args.lead.now in
+    let log : List Entry = g.K.SyscallKernel.log (kernel_of l) in
+    let long : length log ≡ l.seen + 1 = l.longer ∙ ap (λ b. l.seen + bit b) c.requires.due in
+    let at : c.seen-at.result ≡ l.seen = sym c.seen-at.ensures.count ∙ l.seen_is in
+    let law : IsLawful log = subst IsLawful (ap g.K.SyscallKernel.log c.kernel.ensures) c.history.ensures.lawful in
+    let first = entry_at c.history.result.now log c.seen-at.result c.index-history-at.result (c.history.ensures.log ∙ ap g.K.SyscallKernel.log c.kernel.ensures) (omega arith) c.index-history-at.is in
+    let short : length (spell (entry c.index-history-at.result)) ≤ 518 = (spell_whole _ (law c.seen-at.result _ first).range).1 in
+    let words : c.count-words.result ≡ length (spell (entry c.index-history-at.result)) = c.count-words.ensures in
+    let t = c.loop-i-test.true in
+    omega arith
+
+pub loop-i-preserved : goal.loop-i-preserved
+loop-i-preserved g c =
+    let l = c.args.lead.now in
+    let log : List Entry = g.K.SyscallKernel.log (kernel_of l) in
+    let i = c.loop-i.invariant in
+    let w = c.write_word.ensures in
+    let long : length log ≡ l.seen + 1 = l.longer ∙ ap (λ b. l.seen + bit b) c.requires.due in
+    let at : c.seen-at.result ≡ l.seen = sym c.seen-at.ensures.count ∙ l.seen_is in
+    let near : c.seen-at.result < length log = omega arith in
+    let first = entry_at c.history.result.now log c.seen-at.result c.index-history-at.result (c.history.ensures.log ∙ ap g.K.SyscallKernel.log c.kernel.ensures) near c.index-history-at.is in
+    let again = entry_at c.history-in-loop-i.result.now log c.seen-at.result c.index-history-at-in-loop-i.result (c.history-in-loop-i.ensures.log ∙ ap g.K.SyscallKernel.log (c.kernel-in-loop-i.ensures ∙ i.kernel)) near c.index-history-at-in-loop-i.is in
+    let t = c.loop-i-test.true in
+    record {
+      of = w.of;
+      same = (w.same.0 ∙ i.same.0, w.same.1 ∙ i.same.1, w.same.2 ∙ i.same.2);
+      due = w.due ∙ i.due;
+      kernel = w.kernel ∙ i.kernel;
+      seen = ap (λ v. v.seen) w.view ∙ i.seen;
+      floors = ap (λ v. v.floors) w.view ∙ i.floors;
+      wrote = λ e is.
+          let one : entry c.index-history-at.result ≡ e = same_Some _ _ (sym first ∙ is) in
+          let two : entry c.index-history-at-in-loop-i.result ≡ e = same_Some _ _ (sym again ∙ is) in
+          let words : c.count-words.result ≡ length (spell e) = c.count-words.ensures ∙ ap (λ (z : Entry). length (spell z)) one in
+          ap (λ v. v.wrote) w.view ∙ one_more _ c.loop-i.i c.word-next.result (spell e) (i.wrote e is) (omega arith) (c.word-next.ensures ∙ ap (λ (z : Entry). get_or (spell z) c.loop-i.i 0) two);
+    }
+
+pub returns-clause-whole : goal.returns-clause-whole
+returns-clause-whole g c =
+    let l = c.args.lead.now in
+    let log : List Entry = g.K.SyscallKernel.log (kernel_of l) in
+    let i = c.loop-i.invariant in
+    let long : length log ≡ l.seen + 1 = l.longer ∙ ap (λ b. l.seen + bit b) c.requires.due in
+    let at : c.seen-at.result ≡ l.seen = sym c.seen-at.ensures.count ∙ l.seen_is in
+    let first = entry_at c.history.result.now log c.seen-at.result c.index-history-at.result (c.history.ensures.log ∙ ap g.K.SyscallKernel.log c.kernel.ensures) (omega arith) c.index-history-at.is in
+    let e : Entry = entry c.index-history-at.result in
+    let here : slice_get log l.seen ≡ Some e = ap (λ (z : ℕ). slice_get log z) (sym at) ∙ first in
+    let t = c.loop-i-test.false in
+    let top = c.loop-i.auto.i-end in
+    let words : c.count-words.result ≡ length (spell e) = c.count-words.ensures in
+    let whole : (lead_view c.loop-i.lead).wrote ≡ spell e = i.wrote e first ∙ take_len (spell e) c.loop-i.i (omega arith) in
+    (i.due, ap (λ k. map spell (g.K.SyscallKernel.log k)) i.kernel ∙ last_spelt log l.seen e long here ∙ (λ j. (l.history ∙ sym i.seen) j ++ sym whole j ∷ []))

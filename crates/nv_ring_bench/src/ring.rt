@@ -1,0 +1,70 @@
+//! Events through a room.
+ghost use Rattle.std.specs.Prelude.{◌≡◌, ◌<◌, ◌≤◌, IfOk};
+ghost use Rattle.nv_calls.specs.Calls.{request};
+ghost use Rattle.nv_calls.specs.Shapes.{IsShaped};
+ghost use Rattle.nv_room_tests.specs.Going.{GoesOn};
+
+use nv_calls::SyscallKernel;
+use nv_kernel::ScriptKernel;
+use nv_room_tests::{Script, exit_group, serve_all, write};
+use std::alloc::{AllocError, Global};
+use std::thread::Threads;
+
+// How many events a room holds, and how many turns a thread may be idle.
+const PLACES: u32 = 64;
+
+const IDLE: u32 = 4_000_000_000;
+
+/// How many events the last station of a room saw, of writes of so many bytes.
+pub fn run_room<R: Threads + Sync>(
+    rt: &R,
+    alloc: Global,
+    bytes: u32,
+    events: u32,
+    versions: u32,
+) -> Result<u64, AllocError>
+    requires bytes { bytes ≤ 4096 }
+    requires events { events ≤ 131072 }
+    requires versions { (0 < versions) × (versions ≤ 8) }
+{
+    let script = script(alloc, bytes, events)?;
+    let ended = nv_room_tests::run(
+        rt,
+        alloc,
+        ScriptKernel::make(alloc),
+        &script,
+        versions,
+        PLACES,
+    )?;
+    Ok(match ended.seen.last() {
+        Some(seen) => *seen as u64,
+        None => 0,
+    })
+}
+
+/// The same calls on the kernel alone.
+pub fn run_kernel(alloc: Global, bytes: u32, events: u32) -> Result<u64, AllocError>
+    requires bytes { bytes ≤ 4096 }
+    requires events { events ≤ 131072 }
+{
+    let script = script(alloc, bytes, events)?;
+    let kernel = serve_all(ScriptKernel::make(alloc), &script);
+    Ok(kernel.history().len() as u64)
+}
+
+fn script(alloc: Global, bytes: u32, events: u32) -> Result<Script, AllocError>
+    requires { bytes ≤ 4096 }
+    ensures events { IfOk result (λ s. s.events ≡ events) }
+    ensures shaped { IfOk result (λ s. IsShaped (request s.call) × IsShaped (request s.last)) }
+    ensures first { IfOk result (λ s. (s.call.tid ≡ 100) × (s.last.tid ≡ 100)) }
+    ensures goes_on { IfOk result (λ s. GoesOn (request s.call)) }
+{
+    let call = write(alloc, bytes)?;
+    let last = exit_group(alloc)?;
+    Ok(Script {
+        call,
+        last,
+        events,
+        most: IDLE,
+    })
+}

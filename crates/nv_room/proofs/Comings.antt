@@ -1,0 +1,188 @@
+-- How the room opens, how readers' seats are cut off the first, and how seats come back to one.
+use Rattle.std.proofs.Common.{◌≡◌, ℕ, zero, suc, ◌+◌, ◌*◌, ◌<◌, ◌≤◌, ◌≢◌, ◌⊎◌, List, [], ◌∷◌, ◌++◌, map, length, get_or, set, replicate, sym, refl, ap, ◌∙◌, subst, inl, inr, ⊎_elim, le_refl, zero-le, arith}
+use mathlib.Core.Path.{Path}
+use mathlib.Core.List.{map-append}
+use mathlib.Core.Option.{some, some-injective, some-ne-none}
+use lib.ListN.{get_elem?}
+use lib.Seq.{map-set}
+use Rattle.atomic_table.specs.Table.{State, Splits, Joins, opening}
+use Rattle.atomic_table.proofs.Lists.{at_map, at_set}
+use Rattle.nv_calls.specs.LogLaws.{lawful_none}
+use Rattle.nv_room.specs.declared.view.View.{View}
+use Rattle.nv_room.specs.declared.view.Plan.{Plan}
+use Rattle.nv_room.specs.declared.view.Past.{Past}
+use Rattle.nv_room.specs.declared.view.Role.{Role}
+use Rattle.nv_room.specs.declared.view.Role.TheVariants.{Reader, Lead, Spent}
+use Rattle.nv_room.specs.Room.{cursor, Told, Carries, Knows, Tag, tag, station_of, Has, Live, Out, Clash, Apart, Rule, first}
+use Rattle.nv_room.specs.Steps.{opened, reader_of, joined, spent}
+use Rattle.nv_room.proofs.Lists.{at_end}
+use Rattle.nv_room.proofs.Looks.{in_role}
+
+flip : (a b : Tag) → Clash a b → Clash b a
+flip a b c = (c.1, c.0, ⊎_elim (λ e. inl (sym e)) (λ e. inr (⊎_elim (λ q. inr q) (λ q. inl q) e)) c.2)
+
+one_at : {A : Type 0} (a : A) (j : ℕ) (b : A) → get_elem? (a ∷ []) j ≡ some b → (j ≡ 0) × (a ≡ b)
+one_at a zero b e = (refl, some-injective a b e)
+one_at a (suc j) b e = absurd (some-ne-none b (sym e))
+
+pub zero_at : (n j : ℕ) → get_or (replicate {A = ℕ} n 0) j 0 ≡ 0
+zero_at zero j = refl
+zero_at (suc n) zero = refl
+zero_at (suc n) (suc j) = zero_at n j
+
+spent_left : (x y : Tag) → (x ≡ (Spent, 0, 0, [])) → ¬ Clash x y
+spent_left x y e c = subst (λ (z : Tag). Live z.0) e c.0
+
+-- the seat id takes back the seat other
+module _ (ts : List Tag) (id other s m u k : ℕ) (es gs : List ℕ) (a b : Role) (live : Live a) (live' : Live b) (at : get_elem? ts id ≡ some (a, s, m, es)) (at' : get_elem? ts other ≡ some (b, u, k, gs)) (old : Apart ts) where
+  abbrev js : List Tag
+  js = set (set ts id (a, s, m, es ++ u ∷ [])) other (Spent, 0, 0, [])
+
+  abbrev At : ℕ → Tag → Type 0
+  At j x = ((j ≡ id) × (Path Tag (a, s, m, es ++ u ∷ []) x)) ⊎ ((j ≢ id) × (get_elem? ts j ≡ some x))
+
+  -- no clash is with the spent seat
+  unspent : (j : ℕ) (x y : Tag) → get_elem? js j ≡ some x → Clash x y → (j ≢ other) × At j x
+  unspent j x y e c = ⊎_elim (λ (q : (j ≡ other) × (Path Tag (Spent, 0, 0, []) x)). absurd (spent_left x y (λ i. sym q.1 i) c))
+      (λ (q : (j ≢ other) × (get_elem? (set ts id (a, s, m, es ++ u ∷ [])) j ≡ some x)). (q.0, at_set ts id j (a, s, m, es ++ u ∷ []) x q.1)) (at_set (set ts id (a, s, m, es ++ u ∷ [])) other j (Spent, 0, 0, []) x e)
+
+  back : (h : ℕ) (y : Tag) → h ≢ other → get_elem? ts h ≡ some y → Clash (a, s, m, es ++ u ∷ []) y → id ≡ h
+  back h y ne f c = let here = λ (d : (s ≡ y.1) ⊎ (Out s m es y.1 ⊎ Out y.1 y.2 y.3 s)). old id h (a, s, m, es) y at f (live, c.1, d) in
+      ⊎_elim (λ e. here (inl e)) (λ e. ⊎_elim
+      (λ (o : Out s m (es ++ u ∷ []) y.1). ⊎_elim (λ (l : m ≤ y.1). here (inr (inl (o.0, inl l)))) (λ (g : Has (es ++ u ∷ []) y.1). ⊎_elim (λ (q : get_elem? es g.0 ≡ some y.1). here (inr (inl (o.0, inr (g.0, q)))))
+      (λ (q : (g.0 ≡ length es) × (u ≡ y.1)). absurd (ne (old h other y (b, u, k, gs) f at' (c.1, live', inl (sym q.1))))) (at_end es u y.1 g.0 g.1)) o.1)
+      (λ (o : Out y.1 y.2 y.3 s). here (inr (inr o))) e) c.2
+
+  pub apart_join : Apart js
+  apart_join j h x y e f c = let p = unspent j x y e c in let q = unspent h y x f (flip x y c) in ⊎_elim
+      (λ (l : (j ≡ id) × (Path Tag (a, s, m, es ++ u ∷ []) x)). ⊎_elim (λ (r : (h ≡ id) × (Path Tag (a, s, m, es ++ u ∷ []) y)). l.0 ∙ sym r.0)
+      (λ (r : (h ≢ id) × (get_elem? ts h ≡ some y)). l.0 ∙ back h y q.0 r.1 (subst (λ (z : Tag). Clash z y) (λ i. sym l.1 i) c)) q.1)
+      (λ (l : (j ≢ id) × (get_elem? ts j ≡ some x)). ⊎_elim
+      (λ (r : (h ≡ id) × (Path Tag (a, s, m, es ++ u ∷ []) y)). sym (r.0 ∙ back j x p.0 l.1 (flip x (a, s, m, es ++ u ∷ []) (subst (λ (z : Tag). Clash x z) (λ i. sym r.1 i) c))))
+      (λ (r : (h ≢ id) × (get_elem? ts h ≡ some y)). old j h x y l.1 r.1 c) q.1) p.1
+
+-- station 0's seat id makes the station m
+module _ (ts : List Tag) (id m k : ℕ) (es : List ℕ) (a b : Role) (live : Live a) (pos : 0 < m) (none : es ≡ []) (at : get_elem? ts id ≡ some (a, 0, m, es)) (old : Apart ts) where
+  abbrev us : List Tag
+  us = set ts id (a, 0, m + 1, es)
+
+  empty : (t : ℕ) → ¬ Has es t
+  empty t h = some-ne-none t (sym h.1 ∙ ap (λ (z : List ℕ). get_elem? z h.0) none)
+
+  -- with one station more it clashes with no more
+  less : (y : Tag) → Clash (a, 0, m + 1, es) y → Clash (a, 0, m, es) y
+  less y c = (c.0, c.1, ⊎_elim (λ e. inl e) (λ e. inr (⊎_elim (λ (o : Out 0 (m + 1) es y.1). inl (o.0, ⊎_elim (λ (l : m + 1 ≤ y.1). inl (omega arith)) (λ h. inr h) o.1)) (λ o. inr o) e)) c.2)
+
+  -- the new seat and one that was there
+  mixed : (h : ℕ) (y : Tag) → get_elem? us h ≡ some y → ¬ Clash (b, m, k, []) y
+  mixed h y f c = let mine : ¬ Clash (b, m, k, []) (a, 0, m + 1, es) = λ d. ⊎_elim (λ (e : m ≡ 0). omega arith)
+      (λ e. ⊎_elim (λ (o : Out m k [] 0). let z = o.0 in omega arith) (λ (o : Out 0 (m + 1) es m). ⊎_elim (λ (l : m + 1 ≤ m). omega arith) (λ g. empty m g) o.1) e) d.2 in
+      ⊎_elim (λ (q : (h ≡ id) × (Path Tag (a, 0, m + 1, es) y)). mine (subst (λ (z : Tag). Clash (b, m, k, []) z) (λ i. sym q.1 i) c))
+      (λ (q : (h ≢ id) × (get_elem? ts h ≡ some y)). let same = λ (d : (0 ≡ y.1) ⊎ (Out 0 m es y.1 ⊎ Out y.1 y.2 y.3 0)). q.0 (sym (old id h (a, 0, m, es) y at q.1 (live, c.1, d))) in
+      ⊎_elim (λ (e : m ≡ y.1). same (inr (inl (refl, inl (let e' : y.1 ≡ m = sym e in subst (λ (z : ℕ). m ≤ z) e (le_refl m))))))
+      (λ e. ⊎_elim (λ (o : Out m k [] y.1). let z = o.0 in omega arith) (λ (o : Out y.1 y.2 y.3 m). same (inl (sym o.0))) e) c.2) (at_set ts id h (a, 0, m + 1, es) y f)
+
+  both : (j h : ℕ) (x y : Tag) → get_elem? us j ≡ some x → get_elem? us h ≡ some y → Clash x y → j ≡ h
+  both j h x y e f c = ⊎_elim
+      (λ (p : (j ≡ id) × (Path Tag (a, 0, m + 1, es) x)). ⊎_elim (λ (q : (h ≡ id) × (Path Tag (a, 0, m + 1, es) y)). p.0 ∙ sym q.0)
+      (λ (q : (h ≢ id) × (get_elem? ts h ≡ some y)). p.0 ∙ old id h (a, 0, m, es) y at q.1 (less y (subst (λ (z : Tag). Clash z y) (λ i. sym p.1 i) c))) (at_set ts id h (a, 0, m + 1, es) y f))
+      (λ (p : (j ≢ id) × (get_elem? ts j ≡ some x)). ⊎_elim (λ (q : (h ≡ id) × (Path Tag (a, 0, m + 1, es) y)).
+      sym (q.0 ∙ old id j (a, 0, m, es) x at p.1 (less x (flip x (a, 0, m + 1, es) (subst (λ (z : Tag). Clash x z) (λ i. sym q.1 i) c)))))
+      (λ (q : (h ≢ id) × (get_elem? ts h ≡ some y)). old j h x y p.1 q.1 c) (at_set ts id h (a, 0, m + 1, es) y f))
+      (at_set ts id j (a, 0, m + 1, es) x e)
+
+  pub apart_split : Apart (us ++ (b, m, k, []) ∷ [])
+  apart_split j h x y e f c = ⊎_elim
+      (λ (e' : get_elem? us j ≡ some x). ⊎_elim (λ (f' : get_elem? us h ≡ some y). both j h x y e' f' c) (λ (f' : (h ≡ length us) × (Path Tag (b, m, k, []) y)). absurd (mixed j x e' (flip x (b, m, k, []) (subst (λ (z : Tag). Clash x z) (λ i. sym f'.1 i) c)))) (at_end us (b, m, k, []) y h f))
+      (λ (e' : (j ≡ length us) × (Path Tag (b, m, k, []) x)). ⊎_elim (λ (f' : get_elem? us h ≡ some y). absurd (mixed h y f' (subst (λ (z : Tag). Clash z y) (λ i. sym e'.1 i) c))) (λ (f' : (h ≡ length us) × (Path Tag (b, m, k, []) y)). e'.0 ∙ sym f'.0) (at_end us (b, m, k, []) y h f))
+      (at_end us (b, m, k, []) x j e)
+
+module _ {T : Type 0} (p : Plan T) where
+  abbrev St : Type 0
+  St = State Unit (View T)
+
+  -- the lead cuts off the seat of the station that it makes next
+  pub splits : (id : ℕ) (v : View T) → v.role ≡ Lead → 0 < v.made → v.made < p.stations → v.ended ≡ [] → v.seen ≡ [] → v.wrote ≡ [] → Splits (Rule p) id v (opened v) (reader_of v)
+  splits id v role pos near ended seen wrote s r at = let n : ℕ = p.stations in let c : ℕ = p.places in let t = p.start in let ir = in_role p s r id v at Lead role in let kn = r.each_seat id v at in let pl = r.places in
+      let vs : List (View T) = set s.views id (opened v) in let m : ℕ = v.made in let es : List ℕ = map station_of v.ended in
+      let carried = subst (Carries t c v.start v.places) role kn.carries in
+      let none : length v.seen ≡ 0 = ap (length {A = List ℕ}) seen in let short : length v.seen ≡ length r.log = ir.seen_is_log in let mine_is : v.station ≡ 0 = ir.is_holder ∙ r.station_0_holds in let held : r.holder ≡ 0 = r.station_0_holds in let low : cursor s.words m ≤ length r.log = pl.cursor_at_most_head m near in let zero_cursor : cursor s.words m ≡ length v.seen = omega arith in
+      let mine : Knows n c r.holder t s.words r.log (opened v) = record { seen_is_prefix = kn.seen_is_prefix; read_begins_next = kn.read_begins_next; floor_at_most_cursor = kn.floor_at_most_cursor; head_seen_at_most_head = kn.head_seen_at_most_head; in_role = kn.in_role; carries = kn.carries; ended_is_prefix = kn.ended_is_prefix } in
+      let cut : Knows n c r.holder t s.words r.log (reader_of v) = record { seen_is_prefix = kn.seen_is_prefix; read_begins_next = kn.read_begins_next; floor_at_most_cursor = kn.floor_at_most_cursor; head_seen_at_most_head = kn.head_seen_at_most_head; in_role = record { not_holder = omega arith; station_is_made = near; wrote_nothing = wrote; cursor_is_length = zero_cursor }; carries = carried; ended_is_prefix = kn.ended_is_prefix } in
+      let empty : es ≡ [] = ap (map station_of) ended in
+      let e₁ : map tag vs ≡ set (map tag s.views) id (Lead, 0, m + 1, es) = map-set tag s.views id (opened v) ∙ (λ i. set (map tag s.views) id (role i, mine_is i, m + 1, es)) in
+      let path : map tag (vs ++ reader_of v ∷ []) ≡ set (map tag s.views) id (Lead, 0, m + 1, es) ++ (Reader, m, m, []) ∷ [] = map-append tag vs (reader_of v ∷ []) ∙ (λ i. e₁ i ++ (Reader, m, m, empty i) ∷ []) in record {
+        log = r.log;
+        events = r.events;
+        log_is_spelt = r.log_is_spelt;
+        log_is_lawful = r.log_is_lawful;
+        holder = r.holder;
+        station_0_holds = r.station_0_holds;
+        places = r.places;
+        one_seat_a_station = subst Apart (sym path) (apart_split (map tag s.views) id m m es Lead Reader tt pos empty (at_map tag s.views id v at ∙ (λ i. some (role i, mine_is i, m, es))) r.one_seat_a_station);
+        each_seat = λ j u e. ⊎_elim (λ (e' : get_elem? vs j ≡ some u). ⊎_elim (λ (y : (j ≡ id) × (opened v ≡ u)). subst (Knows n c r.holder t s.words r.log) y.1 mine) (λ (y : (j ≢ id) × (get_elem? s.views j ≡ some u)). r.each_seat j u y.1) (at_set s.views id j (opened v) u e'))
+            (λ (e' : (j ≡ length vs) × (reader_of v ≡ u)). subst (Knows n c r.holder t s.words r.log) e'.1 cut) (at_end vs (reader_of v) u j e);
+      }
+
+  -- a seat takes back the seat w
+  pub joins : (id : ℕ) (v : View T) (other : ℕ) (w : View T) → Live v.role → Live w.role → Joins (Rule p) id v other w (joined v w) spent
+  joins id v other w live live' s r at two at' = let n : ℕ = p.stations in let c : ℕ = p.places in let t = p.start in let kn = r.each_seat id v at in
+      let there' : get_elem? s.views other ≡ some w = ⊎_elim (λ (q : (other ≡ id) × (joined v w ≡ w)). absurd (two q.0)) (λ (q : (other ≢ id) × (get_elem? s.views other ≡ some w)). q.1) (at_set s.views id other (joined v w) w at') in
+      let kw = r.each_seat other w there' in
+      let vs : List (View T) = set s.views id (joined v w) in let es : List ℕ = map station_of v.ended in let gs : List ℕ = map station_of w.ended in let ts : List Tag = map tag s.views in
+      let x : Past = record { station = w.station; seen = w.seen; read = w.read } in
+      let mine : Knows n c r.holder t s.words r.log (joined v w) = record {
+        seen_is_prefix = kn.seen_is_prefix;
+        read_begins_next = kn.read_begins_next;
+        floor_at_most_cursor = kn.floor_at_most_cursor;
+        head_seen_at_most_head = kn.head_seen_at_most_head;
+        in_role = kn.in_role;
+        carries = kn.carries;
+        ended_is_prefix = λ i y e. ⊎_elim (λ (q : get_elem? v.ended i ≡ some y). kn.ended_is_prefix i y q) (λ (q : (i ≡ length v.ended) × (x ≡ y)). subst (Told r.log) q.1 (kw.seen_is_prefix, kw.read_begins_next)) (at_end v.ended x y i e);
+      } in
+      let over : Knows n c r.holder t s.words r.log spent = record { seen_is_prefix = λ i y e. absurd (some-ne-none y (sym e)); read_begins_next = λ i y e. absurd (some-ne-none y (sym e)); floor_at_most_cursor = λ z l. zero-le; head_seen_at_most_head = zero-le; in_role = tt; carries = tt; ended_is_prefix = λ i y e. absurd (some-ne-none y (sym e)) } in
+      let e₁ : map tag vs ≡ set ts id (v.role, v.station, v.made, es ++ w.station ∷ []) = map-set tag s.views id (joined v w) ∙ (λ k. set ts id (v.role, v.station, v.made, map-append station_of v.ended (x ∷ []) k)) in
+      let path : map tag (set vs other spent) ≡ set (set ts id (v.role, v.station, v.made, es ++ w.station ∷ [])) other (Spent, 0, 0, []) = map-set tag vs other spent ∙ (λ k. set (e₁ k) other (Spent, 0, 0, [])) in record {
+        log = r.log;
+        events = r.events;
+        log_is_spelt = r.log_is_spelt;
+        log_is_lawful = r.log_is_lawful;
+        holder = r.holder;
+        station_0_holds = r.station_0_holds;
+        places = r.places;
+        one_seat_a_station = subst Apart (sym path) (apart_join ts id other v.station v.made w.station w.made es gs v.role w.role live live' (at_map tag s.views id v at) (at_map tag s.views other w there') r.one_seat_a_station);
+        each_seat = λ j u e. ⊎_elim (λ (y : (j ≡ other) × (spent ≡ u)). subst (Knows n c r.holder t s.words r.log) y.1 over)
+            (λ (y : (j ≢ other) × (get_elem? vs j ≡ some u)). ⊎_elim (λ (z : (j ≡ id) × (joined v w ≡ u)). subst (Knows n c r.holder t s.words r.log) z.1 mine) (λ (z : (j ≢ id) × (get_elem? s.views j ≡ some u)). r.each_seat j u z.1) (at_set s.views id j (joined v w) u y.1))
+            (at_set vs other j spent u e);
+      }
+
+  -- the room opens
+  pub opens : (ws : List ℕ) → 0 < p.places → length ws ≡ p.places * 518 + (p.stations + 2) → ((i : ℕ) → get_or ws i 0 ≡ 0) → Rule p (opening ws [] (first p))
+  opens ws pos wide zeros = record {
+    log = [];
+    events = [];
+    log_is_spelt = refl;
+    log_is_lawful = lawful_none;
+    holder = 0;
+    station_0_holds = refl;
+    places = record {
+      some_place = pos;
+      words_are_all = wide;
+      head_is_length = zeros 1;
+      cursor_at_most_head = λ s l. let z = zeros (s + 2) in omega arith;
+      head_in_window = λ s a l. omega arith;
+      unread_stands = λ i s e a l le f. absurd (some-ne-none e (sym f));
+      event_is_whole = λ i e f. absurd (some-ne-none e (sym f));
+      log_is_short = omega arith;
+    };
+    one_seat_a_station = λ j k a b e f c. (one_at (tag (first p)) j a e).0 ∙ sym (one_at (tag (first p)) k b f).0;
+    each_seat = λ j v e. subst (Knows p.stations p.places 0 p.start ws []) (one_at (first p) j v e).1 record {
+      seen_is_prefix = λ i y f. absurd (some-ne-none y (sym f));
+      read_begins_next = λ i y f. absurd (some-ne-none y (sym f));
+      floor_at_most_cursor = λ s l. let z = zero_at p.stations s in omega arith;
+      head_seen_at_most_head = omega arith;
+      in_role = record { is_holder = refl; seen_is_log = refl; wrote_is_short = omega arith; wrote_stands = λ i x f. absurd (some-ne-none x (sym f)); writes_in_window = λ q. absurd (omega arith) };
+      carries = (refl, refl);
+      ended_is_prefix = λ i x f. absurd (some-ne-none x (sym f));
+    };
+  }

@@ -1,0 +1,103 @@
+//! What the seats and the room tell, and the kernel's calls through the lead.
+ghost use Rattle.std.specs.Prelude.{◌≡◌, ◌+◌, ◌<◌, ◌≤◌, ◌++◌, [], ◌∷◌, true, false, length, OnOk, Contains};
+ghost use Rattle.nv_calls.specs.Calls.{request};
+ghost use Rattle.nv_calls.specs.Logs.{served, live_after, IsLawful};
+ghost use Rattle.nv_calls.specs.Shapes.{IsShaped};
+ghost use Rattle.nv_room.specs.Seats.{view, lead_view, station_of_reader, station_of_lead, stations_of, places_of, kernel_of, due_of, SameLead};
+
+use crate::room::{Lead, Reader, Room};
+use nv_calls::{Call, SyscallKernel};
+use std::alloc::AllocError;
+
+impl<K: SyscallKernel> Lead<K> {
+    pub fn kernel(&self) -> &K
+        ensures { result.now ≡ kernel_of self.now }
+    {
+        &self.kernel
+    }
+
+    /// How many events are published.
+    pub fn seen(&self) -> u32
+        ensures count { length (lead_view self.now).seen ≡ result }
+        ensures small { result ≤ 131072 }
+    {
+        self.seen
+    }
+
+    pub fn station(&self) -> u32
+        ensures { result ≡ station_of_lead self.now }
+    {
+        self.station
+    }
+
+    /// The kernel's.
+    pub fn reserve(&mut self, call: &Call) -> Result<(), AllocError>
+        requires shaped { IsShaped (request call.now) }
+        ensures same { SameLead self.old self.new }
+        ensures view { lead_view self.new ≡ lead_view self.old }
+        ensures due { due_of self.new ≡ due_of self.old }
+        ensures log { K.log (kernel_of self.new) ≡ K.log (kernel_of self.old) }
+        ensures start { K.start (kernel_of self.new) ≡ K.start (kernel_of self.old) }
+        ensures ready { OnOk result (K.is_ready (kernel_of self.new) (request call.now)) }
+    {
+        self.kernel.reserve(call)
+    }
+
+    /// The kernel's. The event that it appends is due to be published.
+    pub fn serve(&mut self, call: &Call)
+        requires none_due { due_of self.old ≡ false }
+        requires ready { K.is_ready (kernel_of self.old) (request call.now) }
+        requires shaped { IsShaped (request call.now) }
+        requires lives { Contains (live_after (K.log (kernel_of self.old))) call.now.tid }
+        requires room { length (K.log (kernel_of self.old)) < 131072 }
+        ensures same { SameLead self.old self.new }
+        ensures view { lead_view self.new ≡ lead_view self.old }
+        ensures due { due_of self.new ≡ true }
+        ensures log { K.log (kernel_of self.new) ≡ K.log (kernel_of self.old) ++ served (K.start (kernel_of self.old)) (K.log (kernel_of self.old)) (request call.now) ∷ [] }
+        ensures start { K.start (kernel_of self.new) ≡ K.start (kernel_of self.old) }
+    {
+        self.kernel.serve(call);
+        self.due = true;
+    }
+
+    // The kernel's history is lawful.
+    pub(crate) fn tell_lawful(&self)
+        ensures { IsLawful (K.log self.now.kernel) }
+    {
+        let _log = self.kernel.history();
+    }
+}
+
+impl<K: SyscallKernel> Reader<K> {
+    /// How many events it has seen.
+    pub fn seen(&self) -> u32
+        ensures count { length (view self.now).seen ≡ result }
+        ensures small { result ≤ 131072 }
+    {
+        self.seen
+    }
+
+    pub fn station(&self) -> u32
+        ensures { result ≡ station_of_reader self.now }
+    {
+        self.station
+    }
+}
+
+impl<K: SyscallKernel> Room<K> {
+    pub fn stations(&self) -> u32
+        ensures value { result ≡ stations_of self.now }
+        ensures few { result ≤ 8 }
+    {
+        self.stations
+    }
+
+    /// How many events the room holds at once.
+    pub fn places(&self) -> u32
+        ensures value { result ≡ places_of self.now }
+        ensures least { 2 ≤ result }
+        ensures most { result ≤ 1024 }
+    {
+        self.places
+    }
+}

@@ -1,0 +1,28 @@
+-- A thread that makes calls that do not end it lives on.
+use Rattle.std.proofs.Common.{◌≡◌, ◌∙◌, sym, ap, subst, refl, ℕ, zero, suc, ◌+◌, ◌<◌, ◌≤◌, Bool, true, false, List, [], ◌∷◌, ◌++◌, length, Option, Some, None, arith, cond}
+use Rattle.std.specs.Prelude.{◌==◌, not, filter, Contains}
+use Rattle.std.proofs.lemmas.List.Elements.{Contains-append_left}
+use Rattle.std.proofs.lemmas.Bool.Decides.{nat_tests}
+use Rattle.nv_calls.specs.Calls.{Request, Entry}
+use Rattle.nv_calls.specs.Logs.{Start, served, child_of, with_child, live_after, live_next}
+use Rattle.nv_calls.specs.LogLaws.{live_more}
+use Rattle.nv_room_tests.specs.Going.{GoesOn}
+
+still : (live : List ℕ) (x : ℕ) (child : Option ℕ) → Contains live x → Contains (with_child live child) x
+still live x None h = h
+still live x (Some c) h = Contains-append_left live (c ∷ []) x h
+
+by_test : (b94 b93 : Bool) (live : List ℕ) (t x : ℕ) (child : Option ℕ) → b94 ≡ false → b93 ≡ false → Contains live x → Contains (cond b94 [] (cond b93 (filter (λ u. not (u == t)) live) (with_child live child))) x
+by_test true b93 live t x child a b h = cc
+by_test false true live t x child a b h = cc
+by_test false false live t x child a b h = still live x child h
+
+no_test : (n k : ℕ) → (n ≡ k → ⊥) → (n == k) ≡ false
+no_test n k h = grind (arith, nat_tests)
+
+pub lives_on : (log : List Entry) (e : Entry) (x : ℕ) → GoesOn e.call → Contains (live_after log) x → Contains (live_after (log ++ e ∷ [])) x
+lives_on log e x g h = subst (λ (z : List ℕ). Contains z x) (sym (live_more log e))
+    (by_test (e.call.nr == 94) (e.call.nr == 93) (live_after log) e.call.tid x (child_of e) (no_test e.call.nr 94 g.0) (no_test e.call.nr 93 g.1) h)
+
+pub first_lives : (log : List Entry) (x : ℕ) → log ≡ [] → x ≡ 100 → Contains (live_after log) x
+first_lives log x e is = subst (λ (z : List Entry). Contains (live_after z) x) (sym e) (zero, omega arith, sym is)

@@ -1,0 +1,64 @@
+//! Calls of the first thread, by Linux's numbers for RISC-V.
+ghost use Rattle.std.specs.Prelude.{◌≡◌, ◌≢◌, ◌≤◌, IfOk};
+ghost use Rattle.nv_calls.specs.Calls.{request};
+ghost use Rattle.nv_calls.specs.Shapes.{IsShaped};
+ghost use Rattle.nv_room_tests.specs.Going.{GoesOn};
+
+use nv_calls::{Bytes, Call};
+use std::alloc::{AllocError, Global};
+
+const WRITE: u32 = 64;
+
+const GETUID: u32 = 174;
+
+const EXIT_GROUP: u32 = 94;
+
+pub fn getuid(alloc: Global) -> Result<Call, AllocError>
+    ensures shaped { IfOk result (λ c. IsShaped (request c)) }
+    ensures first { IfOk result (λ c. c.tid ≡ 100) }
+    ensures goes_on { IfOk result (λ c. GoesOn (request c)) }
+{
+    call(alloc, GETUID)
+}
+
+pub fn exit_group(alloc: Global) -> Result<Call, AllocError>
+    ensures shaped { IfOk result (λ c. IsShaped (request c)) }
+    ensures first { IfOk result (λ c. c.tid ≡ 100) }
+{
+    call(alloc, EXIT_GROUP)
+}
+
+fn call(alloc: Global, nr: u32) -> Result<Call, AllocError>
+    requires { nr ≢ 64 }
+    ensures shaped { IfOk result (λ c. IsShaped (request c)) }
+    ensures first { IfOk result (λ c. c.tid ≡ 100) }
+    ensures nr { IfOk result (λ c. c.nr ≡ nr) }
+{
+    let payload = Bytes::make(alloc, 0)?;
+    Ok(Call {
+        tid: 100,
+        nr,
+        args: [0; 6],
+        bad: false,
+        payload,
+    })
+}
+
+/// Writes so many zeros to the console.
+pub fn write(alloc: Global, bytes: u32) -> Result<Call, AllocError>
+    requires { bytes ≤ 4096 }
+    ensures shaped { IfOk result (λ c. IsShaped (request c)) }
+    ensures first { IfOk result (λ c. c.tid ≡ 100) }
+    ensures goes_on { IfOk result (λ c. GoesOn (request c)) }
+{
+    let zeros = vec![in alloc; 0u8; bytes as usize]?;
+    let mut payload = Bytes::make(alloc, bytes)?;
+    payload.set(&zeros);
+    Ok(Call {
+        tid: 100,
+        nr: WRITE,
+        args: [1, 0, bytes, 0, 0, 0],
+        bad: false,
+        payload,
+    })
+}

@@ -1,0 +1,51 @@
+ghost use Rattle.std.specs.Prelude.{◌<◌, ◌≤◌};
+
+use crate::calls::{exit_group, getuid};
+use crate::running::{Script, run};
+use nv_kernel::ScriptKernel;
+use std::alloc::Global;
+use std::process::Abort;
+use std::thread::Threads;
+
+// One lead publishes 99 getuid calls and exit_group, and each reader has the 100 events.
+fn all_see_all<R: Threads + Sync + Abort>(rt: &R, alloc: Global, versions: u32, places: u32)
+    requires versions { (0 < versions) × (versions ≤ 8) }
+    requires places { (2 ≤ places) × (places ≤ 1024) }
+{
+    let script = Script {
+        call: getuid(alloc).expect(rt, "memory"),
+        last: exit_group(alloc).expect(rt, "memory"),
+        events: 100,
+        most: 10_000_000,
+    };
+    let kernel = ScriptKernel::make(alloc);
+    let ended = run(rt, alloc, kernel, &script, versions, places).expect(rt, "memory");
+    assert_eq!(rt; ended.seen.len(), versions as usize);
+    for seen in ended.seen.iter() {
+        assert_eq!(rt; *seen, 100);
+    }
+}
+
+#[test]
+fn one_reader(rt: HostRuntime) {
+    all_see_all(&rt, rt.alloc(), 2, 2);
+    all_see_all(&rt, rt.alloc(), 2, 1024);
+}
+
+#[test]
+fn two_readers(rt: HostRuntime) {
+    all_see_all(&rt, rt.alloc(), 3, 2);
+    all_see_all(&rt, rt.alloc(), 3, 1024);
+}
+
+#[test]
+fn four_readers(rt: HostRuntime) {
+    all_see_all(&rt, rt.alloc(), 5, 2);
+    all_see_all(&rt, rt.alloc(), 5, 1024);
+}
+
+#[test]
+fn seven_readers(rt: HostRuntime) {
+    all_see_all(&rt, rt.alloc(), 8, 2);
+    all_see_all(&rt, rt.alloc(), 8, 1024);
+}

@@ -1,9 +1,0 @@
-//! Worked runs of several versions.
-#![tactic(auto)]
-
-mod fixture;
-
-pub use fixture::{Refused, program, report, version};
-
-#[cfg(test)]
-mod tests;

@@ -1,0 +1,89 @@
+-- Lines, words and operands of a text.
+use Rattle.std.specs.Prelude.{ℕ, Bool, false, not, ◌&&◌, ◌||◌, List, [], ◌∷◌, Option, Some, None, if◌then◌else◌, ◌==◌, nat_le, ◌-◌, length, take, drop, map}
+use Rattle.std.specs.List.{list_all, onto_first, slice_split, prefix_len, suffix_len}
+
+abbrev pub is_newline : ℕ → Bool
+is_newline b = b == 10
+
+abbrev pub is_not_newline : ℕ → Bool
+is_not_newline b = not (is_newline b)
+
+-- the lines of a text, whose last newline may be missing
+unfoldable pub lines : List ℕ → List (List ℕ)
+lines [] = []
+lines (b ∷ bs) = if is_newline b then [] ∷ lines bs else onto_first b (lines bs)
+
+-- a space or a tab
+abbrev pub is_blank : ℕ → Bool
+is_blank b = (b == 32) || (b == 9)
+
+abbrev pub is_not_blank : ℕ → Bool
+is_not_blank b = not (is_blank b)
+
+abbrev pub trim_start : List ℕ → List ℕ
+trim_start text = drop (prefix_len is_blank text) text
+
+abbrev pub trim_end : List ℕ → List ℕ
+trim_end text = take (length text - suffix_len is_blank text) text
+
+-- the text without its blanks at both ends
+unfoldable pub trim : List ℕ → List ℕ
+trim text = trim_end (trim_start text)
+
+abbrev pub is_comma : ℕ → Bool
+is_comma b = b == 44
+
+abbrev pub is_not_comma : ℕ → Bool
+is_not_comma b = not (is_comma b)
+
+abbrev pub operands_of : List ℕ → List (List ℕ)
+operands_of [] = []
+operands_of (b ∷ bs) = map trim (slice_split is_comma (b ∷ bs))
+
+-- the operands of a statement, which commas separate
+unfoldable pub operands : List ℕ → List (List ℕ)
+operands rest = operands_of (trim rest)
+
+abbrev pub is_letter : ℕ → Bool
+is_letter b = (nat_le 65 b && nat_le b 90) || ((nat_le 97 b && nat_le b 122) || (b == 95))
+
+abbrev pub is_digit : ℕ → Bool
+is_digit b = nat_le 48 b && nat_le b 57
+
+abbrev pub is_name_byte : ℕ → Bool
+is_name_byte b = is_letter b || is_digit b
+
+abbrev pub begins_name : List ℕ → Bool
+begins_name [] = false
+begins_name (b ∷ bs) = is_letter b
+
+-- letters, digits and `_`, not beginning with a digit
+unfoldable pub is_name : List ℕ → Bool
+is_name text = begins_name text && list_all is_name_byte text
+
+-- a line without its comment: its label, its first word and the rest
+pub record Parts : Type 0 where
+  pub label : Option (List ℕ)
+  pub word : List ℕ
+  pub rest : List ℕ
+
+-- the bytes at the front that pass, and those from the first on that doesn't
+abbrev pub front : (ℕ → Bool) → List ℕ → List ℕ
+front p text = take (prefix_len p text) text
+
+abbrev pub behind : (ℕ → Bool) → List ℕ → List ℕ
+behind p text = drop (prefix_len p text) text
+
+abbrev pub line_with : Option (List ℕ) → List ℕ → Parts
+line_with label text = record { label = label; word = front is_not_blank text; rest = trim_start (behind is_not_blank text) }
+
+-- a text that begins with a name, which a colon follows or not
+abbrev pub after_name : List ℕ → List ℕ → List ℕ → Parts
+after_name text name [] = line_with None text
+after_name text name (b ∷ bs) = if is_name name && (b == 58) then line_with (Some name) (trim bs) else line_with None text
+
+unfoldable pub parted : List ℕ → Parts
+parted text = after_name text (front is_name_byte text) (behind is_name_byte text)
+
+unfoldable pub line_of : List ℕ → Parts
+line_of text = parted (trim text)
