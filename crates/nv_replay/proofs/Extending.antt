@@ -1,5 +1,5 @@
 -- To follow a log and then the longer log is to follow the longer log; to lead is to append.
-use Rattle.std.proofs.Common.{◌≡◌, ◌≢◌, ◌∙◌, sym, ap, subst, refl, ℕ, zero, suc, ◌+◌, ◌<◌, ◌≤◌, ◌⊎◌, inl, inr, Bool, true, false, List, [], ◌∷◌, ◌++◌, length, take, Option, Some, None, arith, append_assoc, append-nil, length-append, cond}
+use Rattle.std.proofs.Common.{◌≡◌, ◌∙◌, sym, ap, subst, refl, ℕ, zero, suc, ◌+◌, ◌≤◌, ◌⊎◌, inl, inr, Bool, true, false, List, [], ◌∷◌, ◌++◌, length, take, Option, Some, None, arith, append_assoc, append-nil, length-append, cond}
 use Rattle.std.specs.Prelude.{slice_get, nat_le}
 use Rattle.nv_calls.specs.Calls.{Entry}
 use Rattle.nv_calls.specs.Logs.{Start, served, live_after}
@@ -11,10 +11,10 @@ use Rattle.nv_replay.specs.declared.fate.Fate.{Fate}
 use Rattle.nv_replay.specs.declared.fate.Fate.TheVariants.{Fault as Faulted, Memory}
 use Rattle.nv_machine.specs.declared.outcome.FaultKind.TheVariants.{Calls}
 use Rattle.nv_replay.specs.Settling.{stage}
-use Rattle.nv_replay.specs.Follow.{Follower, Judge, decided, next, on_next, follow, IsInStep}
+use Rattle.nv_replay.specs.Follow.{Follower, Judge, next, on_next, follow, IsInStep}
 use Rattle.nv_replay.specs.Lead.{Leader, is_cut, led, logged, unless_ended, next_call, lead}
-use Rattle.nv_replay.proofs.Settled.{Reaches, reach_here, reach_on, reach_first, reached, at_rest, stage_zero, stage_one, stage_rests, Falls}
-use Rattle.nv_replay.proofs.Falling.{size, follow_falls, within}
+use Rattle.nv_replay.proofs.Settled.{Reaches, reach_here, reach_first, at_rest, stage_zero, stage_one, stage_rests}
+use Rattle.nv_replay.proofs.Falling.{size, follow_falls}
 use Rattle.nv_replay.proofs.Wholes.{follow_is, bound}
 
 pub get_front : (log more : List Entry) (i : ℕ) (e : Entry) → slice_get log i ≡ Some e → slice_get (log ++ more) i ≡ Some e
@@ -77,7 +77,7 @@ follow_on g laws judge log more s =
     let f = follow g judge log s in
     follow_is g laws judge (log ++ more) s (follow g judge (log ++ more) f)
     (reach_all (next g judge (log ++ more)) s f (follow g judge (log ++ more) f) (extended g laws judge log more s)
-        (follow_reached g laws judge (log ++ more) [] f))
+    (follow_reached g laws judge (log ++ more) [] f))
     (follow_rests g laws judge (log ++ more) f)
 
 -- in step with the log is in step with the longer one

@@ -1,8 +1,7 @@
 -- Each decision leaves fewer events, fewer calls, or a fate.
-use Rattle.std.proofs.Common.{◌≡◌, ◌∙◌, sym, ap, subst, refl, ℕ, zero, suc, ◌+◌, ◌-◌, ◌<◌, ◌≤◌, ◌⊎◌, inl, inr, Bool, true, false, List, [], ◌∷◌, length, Option, Some, None, cond, arith}
+use Rattle.std.proofs.Common.{◌≡◌, sym, subst, refl, ℕ, zero, suc, ◌+◌, ◌-◌, ◌<◌, ◌≤◌, ◌⊎◌, inl, inr, Bool, true, false, List, [], ◌∷◌, length, Option, Some, None, cond, arith}
 use Rattle.std.specs.Prelude.{slice_get, option_map, nat_le}
-use Rattle.std.proofs.lemmas.Option.{slice_get_past}
-use Rattle.nv_calls.specs.Calls.{Request, Response, Entry, is_same}
+use Rattle.nv_calls.specs.Calls.{Response, Entry, is_same}
 use Rattle.nv_threads.specs.Behaviours.{Behaviour, IsProcess}
 use Rattle.nv_threads.specs.declared.turns.Want.TheVariants.{Only, Any}
 use Rattle.nv_threads.specs.declared.turns.Came.{Came}
@@ -52,8 +51,8 @@ module _ {P : Type 0} (g : Behaviour P) (laws : IsProcess g) (judge : Judge) whe
   met_falls n e s p (Fault kind tid pc) l f h k = rw f (omega arith)
   met_falls n e s p (Asked t) l f h k =
       elim (is_same (g.call p t) e.call) as (λ b. size g n
-          (cond b (consumed g s (g.answered p t e.reply))
-          (judged g s p t (refusal_by judge e (g.call p t)) (permit_by judge e (g.call p t)))) < size g n s) [
+      (cond b (consumed g s (g.answered p t e.reply))
+      (judged g s p t (refusal_by judge e (g.call p t)) (permit_by judge e (g.call p t)))) < size g n s) [
         | true ↦ consumed_falls n s p t e.reply l f (h t refl) k
         | false ↦ judged_falls n s p t _ _ l f (h t refl) k
       ]

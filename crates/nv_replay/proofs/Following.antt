@@ -1,14 +1,14 @@
 -- One decision, by what the guest came to.
-use Rattle.std.proofs.Common.{◌≡◌, ◌∙◌, sym, ap, subst, refl, ℕ, ◌+◌, Bool, true, false, Option, Some, None, cond}
-use Rattle.nv_calls.specs.Calls.{Request, Response, Entry, is_same}
+use Rattle.std.proofs.Common.{◌≡◌, sym, ap, refl, ℕ, true, false, Some, cond}
+use Rattle.nv_calls.specs.Calls.{Entry, is_same}
 use Rattle.nv_threads.specs.Behaviours.{Behaviour}
 use Rattle.nv_threads.specs.declared.turns.Want.TheVariants.{Only}
 use Rattle.nv_threads.specs.declared.turns.Came.{Came}
 use Rattle.nv_threads.specs.declared.turns.Came.TheVariants.{Asked, Fault}
 use Rattle.nv_machine.specs.declared.outcome.FaultKind.{FaultKind}
 use Rattle.nv_replay.specs.declared.fate.Fate.{Fate}
-use Rattle.nv_replay.specs.declared.fate.Fate.TheVariants.{Exited, Fault as Faulted, Refused}
-use Rattle.nv_replay.specs.Permits.{Permit, Give, Drop, No, permit, verdict_of}
+use Rattle.nv_replay.specs.declared.fate.Fate.TheVariants.{Fault as Faulted, Refused}
+use Rattle.nv_replay.specs.Permits.{Permit, Give, Drop, No}
 use Rattle.nv_replay.specs.Follow.{Follower, Judge, decided, met, judged, consumed, permit_by, refusal_by, no_rules}
 
 module _ {P : Type 0} (g : Behaviour P) (judge : Judge) (e : Entry) (s : Follower P) where
@@ -24,7 +24,7 @@ module _ {P : Type 0} (g : Behaviour P) (judge : Judge) (e : Entry) (s : Followe
   met_again q p (Fault kind tid pc) = refl
   met_again q p (Asked t) =
       ap (λ x. cond (is_same (g.call p t) e.call) (consumed g s (g.answered p t e.reply)) x)
-          (judged_again q p t (refusal_by judge e (g.call p t)) (permit_by judge e (g.call p t)))
+      (judged_again q p t (refusal_by judge e (g.call p t)) (permit_by judge e (g.call p t)))
 
   pub decided_fault : (k : FaultKind) (t pc : ℕ) → g.came s.process (Only e.call.tid) ≡ Fault k t pc
       → decided g judge e s ≡ record s { process = g.after s.process (Only e.call.tid); fate = Some (Faulted k t pc) }

@@ -1,5 +1,5 @@
 -- A leader's next call, by what the guest came to.
-use Rattle.std.proofs.Common.{◌≡◌, ◌∙◌, sym, ap, subst, refl, ℕ, ◌+◌, Bool, true, false, List, [], ◌∷◌, ◌++◌, length, Option, Some, None, cond}
+use Rattle.std.proofs.Common.{◌≡◌, ◌∙◌, sym, ap, subst, refl, ℕ, Bool, true, false, List, [], ◌∷◌, ◌++◌, length, Option, Some, None, cond}
 use Rattle.std.specs.Prelude.{nat_le}
 use Rattle.nv_threads.specs.Behaviours.{Behaviour, IsProcess}
 use Rattle.nv_threads.specs.declared.turns.Want.TheVariants.{Any}
@@ -7,12 +7,11 @@ use Rattle.nv_threads.specs.declared.turns.Came.{Came}
 use Rattle.nv_threads.specs.declared.turns.Came.TheVariants.{Asked, Fault}
 use Rattle.nv_machine.specs.declared.outcome.FaultKind.{FaultKind}
 use Rattle.nv_machine.specs.declared.outcome.FaultKind.TheVariants.{Calls}
-use Rattle.nv_replay.specs.declared.fate.Fate.{Fate}
-use Rattle.nv_replay.specs.declared.fate.Fate.TheVariants.{Exited, Fault as Faulted, Memory}
+use Rattle.nv_replay.specs.declared.fate.Fate.TheVariants.{Fault as Faulted, Memory}
 use Rattle.nv_calls.specs.Calls.{Entry}
 use Rattle.nv_calls.specs.Logs.{Start, served}
 use Rattle.nv_replay.specs.Follow.{is_exited}
-use Rattle.nv_replay.specs.Lead.{Leader, is_cut, is_memory, logged, next_call, led, unless_ended}
+use Rattle.nv_replay.specs.Lead.{is_cut, is_memory, logged, next_call}
 use Rattle.nv_replay.specs.Versions.{Running, asking_by, asking_next, answered_by, leader_of}
 
 module _ {P : Type 0} (g : Behaviour P) (most : ℕ) (r : Running P) where
@@ -22,14 +21,23 @@ module _ {P : Type 0} (g : Behaviour P) (most : ℕ) (r : Running P) where
     pub new : n ≡ record r { at = record r.at { process = g.after r.at.process Any }; asked = Some t }
 
   asked_if : (n : Running P) (t u : ℕ) (b : Bool) → nat_le most r.at.seen ≡ b → g.came r.at.process Any ≡ Asked u → r.asked ≡ None
-      → n ≡ cond b (record r { at = record r.at { process = g.after r.at.process Any; fate = Some
-      (Faulted Calls u (g.pc (g.after r.at.process Any) u)) } })
+      → n ≡ cond b (record r {
+        at = record r.at {
+          process = g.after r.at.process Any;
+          fate = Some
+              (Faulted Calls u (g.pc (g.after r.at.process Any) u));
+        };
+      })
       (record r { at = record r.at { process = g.after r.at.process Any }; asked = Some u }) → n.asked ≡ Some t → AskedFor n t
   asked_if n t u true m c a h k = cc
   asked_if n t u false m c a h k =
       let e : u ≡ t = cc in
-      record { came = c ∙ ap Asked e; room = m; new = h ∙ ap
-          (λ (x : ℕ). record r { at = record r.at { process = g.after r.at.process Any }; asked = Some x }) e }
+      record {
+        came = c ∙ ap Asked e;
+        room = m;
+        new = h ∙ ap
+            (λ (x : ℕ). record r { at = record r.at { process = g.after r.at.process Any }; asked = Some x }) e;
+      }
 
   asked_by : (n : Running P) (t : ℕ) (came : Came) → g.came r.at.process Any ≡ came → r.asked ≡ None
       → n ≡ asking_by g most r (g.after r.at.process Any) came → n.asked ≡ Some t → AskedFor n t
@@ -60,8 +68,13 @@ module _ {P : Type 0} (g : Behaviour P) (most : ℕ) (r : Running P) where
   ended_at n m e a b d x = subst EndedBy (sym e) (record { rest = a; fault = b; ended = d; dead = x })
 
   ended_if : (n : Running P) (u : ℕ) (b : Bool) → r.asked ≡ None
-      → n ≡ cond b (record r { at = record r.at { process = g.after r.at.process Any; fate = Some
-      (Faulted Calls u (g.pc (g.after r.at.process Any) u)) } })
+      → n ≡ cond b (record r {
+        at = record r.at {
+          process = g.after r.at.process Any;
+          fate = Some
+              (Faulted Calls u (g.pc (g.after r.at.process Any) u));
+        };
+      })
       (record r { at = record r.at { process = g.after r.at.process Any }; asked = Some u }) → n.asked ≡ None → EndedBy n
   ended_if n u true a h k = ended_at n _ h refl refl (λ z. cc) refl
   ended_if n u false a h k = let z : n.asked ≡ Some u = ap (λ (y : Running P). y.asked) h in cc
@@ -84,10 +97,10 @@ module _ {P : Type 0} (g : Behaviour P) (most : ℕ) (r : Running P) where
 module _ {P : Type 0} (g : Behaviour P) (replies : Start) (most : ℕ) (c : Option ℕ) (r : Running P) (log : List Entry) where
   pub led_if : (t : ℕ) (b d : Bool) → nat_le most (length log) ≡ b → is_cut c (length log) ≡ d → g.came r.at.process Any ≡ Asked t → r.at.fate ≡ None
       → next_call g replies most c (leader_of r log) ≡ cond b
-          (record { process = g.after r.at.process Any; log = log; fate = Some (Faulted Calls t (g.pc (g.after r.at.process Any) t)) })
-          (cond d (record { process = g.after r.at.process Any; log = log; fate = Some Memory })
-          (logged g replies most c (leader_of r log) (g.answered (g.after r.at.process Any) t
-          (served replies log (g.call (g.after r.at.process Any) t)).reply) (served replies log (g.call (g.after r.at.process Any) t))))
+      (record { process = g.after r.at.process Any; log = log; fate = Some (Faulted Calls t (g.pc (g.after r.at.process Any) t)) })
+      (cond d (record { process = g.after r.at.process Any; log = log; fate = Some Memory })
+      (logged g replies most c (leader_of r log) (g.answered (g.after r.at.process Any) t
+      (served replies log (g.call (g.after r.at.process Any) t)).reply) (served replies log (g.call (g.after r.at.process Any) t))))
   unfolding next_call
   led_if t b d m k h f = rw (f, h, m, k) refl
 

@@ -1,5 +1,5 @@
 -- A span that grows by one event.
-use Rattle.std.proofs.Common.{◌≡◌, ap, subst, refl, ℕ, zero, suc, ◌+◌, ◌-◌, ◌<◌, ◌≤◌, List, [], ◌∷◌, length, get_or, set, Some, arith}
+use Rattle.std.proofs.Common.{◌≡◌, ap, subst, refl, ℕ, zero, suc, ◌+◌, ◌≤◌, List, [], ◌∷◌, length, get_or, set, Some, arith}
 use Rattle.std.specs.Prelude.{slice_get}
 use Rattle.nv_replay.specs.Spans.{grown, EndBy}
 

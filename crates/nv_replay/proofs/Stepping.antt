@@ -1,12 +1,12 @@
 -- A decision keeps a follower in step with a lawful log.
-use Rattle.std.proofs.Common.{◌≡◌, ◌∙◌, sym, ap, subst, refl, ℕ, zero, suc, ◌+◌, ◌-◌, ◌<◌, ◌≤◌, ◌⊎◌, inl, inr, Bool, true, false, List, [], ◌∷◌, ◌++◌, length, take, Option, Some, None, cond, arith}
+use Rattle.std.proofs.Common.{◌≡◌, ◌∙◌, sym, ap, subst, refl, ℕ, zero, suc, ◌+◌, ◌⊎◌, inl, inr, Bool, true, false, List, [], ◌∷◌, take, Option, Some, None, cond, arith}
 use Rattle.std.specs.Prelude.{slice_get, option_map, Contains, ℤ, pos, ◌||◌, ◌&&◌, not, ◌==◌, nat_le, ◌-ℤ◌}
 use Rattle.std.proofs.lemmas.Bool.Decides.{nat_tests}
 use Rattle.nv_calls.specs.Calls.{Request, Response, Entry, is_same}
-use Rattle.nv_calls.specs.Logs.{MayFollow, IsLawful, live_next, live_from, live_after, child_of, made, with_child}
+use Rattle.nv_calls.specs.Logs.{IsLawful, live_next, live_from, live_after, child_of, made}
 use Rattle.nv_calls.specs.SameLaws.{same_is}
 use Rattle.nv_threads.specs.Behaviours.{Behaviour, IsProcess, event_of}
-use Rattle.nv_threads.specs.declared.turns.Want.TheVariants.{Only, Any}
+use Rattle.nv_threads.specs.declared.turns.Want.TheVariants.{Only}
 use Rattle.nv_threads.specs.declared.turns.Came.{Came}
 use Rattle.nv_threads.specs.declared.turns.Came.TheVariants.{Asked, Fault}
 use Rattle.nv_replay.specs.declared.fate.Fate.{Fate}

@@ -1,9 +1,9 @@
 -- Who follows without a rewrite does what it would do alone.
-use Rattle.std.proofs.Common.{◌≡◌, ◌∙◌, sym, ap, subst, refl, ℕ, zero, suc, ◌+◌, ◌<◌, ◌≤◌, ◌⊎◌, inl, inr, Bool, true, false, List, [], ◌∷◌, ◌++◌, length, take, map, Option, Some, None, arith, cond}
+use Rattle.std.proofs.Common.{◌≡◌, ◌∙◌, sym, ap, subst, refl, ℕ, zero, suc, ◌+◌, ◌≤◌, ◌⊎◌, inl, inr, Bool, true, false, List, [], ◌∷◌, ◌++◌, length, take, Option, Some, None, arith, cond}
 use Rattle.std.specs.Prelude.{slice_get, Contains, nat_le, option_map}
 use Rattle.std.proofs.lemmas.Bool.Decides.{nat_tests}
-use Rattle.nv_calls.specs.Calls.{Request, Response, Entry, is_same}
-use Rattle.nv_calls.specs.Logs.{Start, served, IsLawful, IsLegal, MayFollow, live_after, child_of}
+use Rattle.nv_calls.specs.Calls.{Entry, is_same}
+use Rattle.nv_calls.specs.Logs.{Start, served, IsLawful, IsLegal, child_of}
 use Rattle.nv_calls.specs.SameLaws.{same_is}
 use Rattle.nv_threads.specs.Behaviours.{Behaviour, IsProcess, event_of}
 use Rattle.nv_threads.specs.declared.turns.Want.TheVariants.{Any, Only}
@@ -13,13 +13,12 @@ use Rattle.nv_replay.specs.declared.fate.Fate.{Fate}
 use Rattle.nv_replay.specs.declared.fate.Fate.TheVariants.{Exited, Fault as Faulted, Refused, Memory}
 use Rattle.nv_replay.specs.Settling.{stage}
 use Rattle.nv_replay.specs.Permits.{Permit, Give, Drop, No}
-use Rattle.nv_replay.specs.Follow.{Follower, Judge, decided, met, judged, consumed, permit_by, refusal_by, next, on_next, follow, IsInStep}
-use Rattle.nv_replay.specs.Lead.{Leader, is_cut, led, logged, unless_ended, next_call, lead}
-use Rattle.nv_replay.specs.Versions.{Running, leader_of}
-use Rattle.nv_replay.proofs.Settled.{Reaches, reach_here, reach_on, reach_first, stage_zero, stage_one, stage_rests}
+use Rattle.nv_replay.specs.Follow.{Follower, Judge, decided, met, judged, consumed, permit_by, refusal_by, next, on_next, IsInStep}
+use Rattle.nv_replay.specs.Lead.{Leader, next_call}
+use Rattle.nv_replay.specs.Versions.{Running}
+use Rattle.nv_replay.proofs.Settled.{Reaches, reach_here, reach_first, stage_zero, stage_one, stage_rests}
 use Rattle.nv_replay.proofs.Falling.{within}
 use Rattle.nv_replay.proofs.Stepping.{decided_in_step}
-use Rattle.nv_replay.proofs.Wholes.{next_is}
 use Rattle.nv_replay.proofs.Leading.{led_if}
 
 -- no fault, no refusal
@@ -67,19 +66,27 @@ module _ {P : Type 0} (g : Behaviour P) (laws : IsProcess g) (judge : Judge) (re
       let t : e.call.tid ≡ 100 = laws.sole s.process e.call.tid al lives in
       let c' : g.came s.process Any ≡ Asked u = laws.alone s.process al ∙ (ap (λ x. g.came s.process (Only x)) (sym t) ∙ c) in
       let a : g.after s.process Any ≡ g.after s.process (Only e.call.tid) = laws.alone_after s.process al ∙ ap
-          (λ x. g.after s.process (Only x)) (sym t) in
+      (λ x. g.after s.process (Only x)) (sym t) in
       let l : length (take s.seen log) ≡ s.seen = length_take log s.seen i.within in
       let m : nat_le most (length (take s.seen log)) ≡ false = rw l (let w = within log s.seen e h in let y = pl.short in grind (arith, nat_tests)) in
       let call : g.call (g.after s.process (Only e.call.tid)) u ≡ e.call = same_is _ _ sm in
       let ev : served replies (take s.seen log) (g.call (g.after s.process Any) u) ≡ e = rw (a, call) (sym (pl.legal s.seen e h)) in
       let one : take (s.seen + 1) log ≡ take s.seen log ++ e ∷ [] = take_one log s.seen e h in
       let r : Running P = record { index = 0; at = s; led = []; asked = None } in
-      let F : P → Entry → Leader P = λ p x. record { process = g.answered p u x.reply; log = take s.seen log ++ x ∷ []; fate = option_map
-          Exited (g.ended (g.answered p u x.reply)) } in
+      let F : P → Entry → Leader P = λ p x. record {
+        process = g.answered p u x.reply;
+        log = take s.seen log ++ x ∷ [];
+        fate = option_map
+            Exited (g.ended (g.answered p u x.reply));
+      } in
       led_if g replies most None r (take s.seen log) u false false m refl c' n ∙
-          (ap (λ x. F (g.after s.process Any) x) ev ∙ (ap (λ p. F p e) a ∙ ap
-          (λ (x : List Entry). record { process = g.answered (g.after s.process (Only e.call.tid)) u e.reply; log = x; fate = option_map
-          Exited (g.ended (g.answered (g.after s.process (Only e.call.tid)) u e.reply)) }) (sym one)))
+      (ap (λ x. F (g.after s.process Any) x) ev ∙ (ap (λ p. F p e) a ∙ ap
+      (λ (x : List Entry). record {
+        process = g.answered (g.after s.process (Only e.call.tid)) u e.reply;
+        log = x;
+        fate = option_map
+            Exited (g.ended (g.answered (g.after s.process (Only e.call.tid)) u e.reply));
+      }) (sym one)))
 
   judged_not : (s : Follower P) (p : P) (t : ℕ) (f : Fate) (o : Permit) → is_well (Some f) ≡ false → IsTrueTo (judged g s p t f o) → ⊥
   unfolding judged
@@ -91,12 +98,12 @@ module _ {P : Type 0} (g : Behaviour P) (laws : IsProcess g) (judge : Judge) (re
       → IsPlainLog → slice_get log s.seen ≡ Some e → IsInStep g log s → s.fate ≡ None → g.is_alone s.process ≡ true
       → g.came s.process (Only e.call.tid) ≡ Asked u
       → IsTrueTo (cond b (consumed g s (g.answered (g.after s.process (Only e.call.tid)) u e.reply))
-          (judged g s (g.after s.process (Only e.call.tid)) u (refusal_by judge e (g.call (g.after s.process (Only e.call.tid)) u))
-          (permit_by judge e (g.call (g.after s.process (Only e.call.tid)) u))))
+      (judged g s (g.after s.process (Only e.call.tid)) u (refusal_by judge e (g.call (g.after s.process (Only e.call.tid)) u))
+      (permit_by judge e (g.call (g.after s.process (Only e.call.tid)) u))))
       → next_call g replies most None (copied s) ≡ copied
-          (cond b (consumed g s (g.answered (g.after s.process (Only e.call.tid)) u e.reply))
-          (judged g s (g.after s.process (Only e.call.tid)) u (refusal_by judge e (g.call (g.after s.process (Only e.call.tid)) u))
-          (permit_by judge e (g.call (g.after s.process (Only e.call.tid)) u))))
+      (cond b (consumed g s (g.answered (g.after s.process (Only e.call.tid)) u e.reply))
+      (judged g s (g.after s.process (Only e.call.tid)) u (refusal_by judge e (g.call (g.after s.process (Only e.call.tid)) u))
+      (permit_by judge e (g.call (g.after s.process (Only e.call.tid)) u))))
   same_copied s e u true b pl h i n al c w = consumed_copied s e u pl h i n al c b
   same_copied s e u false b pl h i n al c w = absurd (judged_not s (g.after s.process (Only e.call.tid)) u _ _ refl w)
 
@@ -180,7 +187,7 @@ module _ {P : Type 0} (g : Behaviour P) (laws : IsProcess g) (judge : Judge) (re
   same_alone : (s : Follower P) (e : Entry) (p : P) (u : ℕ) (b : Bool) → is_same (g.call p u) e.call ≡ b → g.is_alone p ≡ true → child_of e ≡ None
       → IsTrueTo (cond b (consumed g s (g.answered p u e.reply)) (judged g s p u (refusal_by judge e (g.call p u)) (permit_by judge e (g.call p u))))
       → g.is_alone (cond b (consumed g s (g.answered p u e.reply))
-          (judged g s p u (refusal_by judge e (g.call p u)) (permit_by judge e (g.call p u)))).process ≡ true
+      (judged g s p u (refusal_by judge e (g.call p u)) (permit_by judge e (g.call p u)))).process ≡ true
   same_alone s e p u true b al k w = answered_alone s e p u al (same_is _ _ b) k
   same_alone s e p u false b al k w = absurd (judged_not s p u _ _ refl w)
 
@@ -205,10 +212,10 @@ module _ {P : Type 0} (g : Behaviour P) (laws : IsProcess g) (judge : Judge) (re
         (sym (stage_rests (next g judge log) (suc n) s e) ∙ h) (reach_here (next_call g replies most None) (copied s))
     | inr (e, k, none, q) ↦
         let h' : stage (next g judge log) n (decided g judge e s) ≡ t = ap (stage (next g judge log) n) (sym q) ∙
-            (sym (stage_one (next g judge log) n s) ∙ h) in
+        (sym (stage_one (next g judge log) n s) ∙ h) in
         let w' = true_before n (decided g judge e s) t h' w in
         let go = copies n (decided g judge e s) t h' w pl (decided_in_step g laws judge log e s pl.lawful k i none)
-            (decided_alone s e al (pl.lawful s.seen e k).child w') in
+        (decided_alone s e al (pl.lawful s.seen e k).child w') in
         reach_first (next_call g replies most None) (copied s) (copied t)
-            (subst (λ (x : Leader P). Reaches (next_call g replies most None) x (copied t)) (sym (decided_copied s e pl k i none al w')) go)
+        (subst (λ (x : Leader P). Reaches (next_call g replies most None) x (copied t)) (sym (decided_copied s e pl k i none al w')) go)
   ]

@@ -8,11 +8,10 @@ use Rattle.nv_calls.specs.declared.calls.Event.{Event}
 use Rattle.nv_calls.specs.Logs.{IsLawful}
 use Rattle.nv_threads.specs.Behaviours.{Behaviour, IsProcess}
 use Rattle.nv_replay.specs.declared.fate.Fate.{Fate}
-use Rattle.nv_replay.specs.Settling.{stage}
 use Rattle.nv_replay.specs.Follow.{Follower, Judge, decided, next, on_next, follow, IsInStep}
 use Rattle.nv_replay.specs.Versions.{Running}
-use Rattle.nv_replay.proofs.Settled.{Reaches, reach_here, reach_on, reached, Falls}
-use Rattle.nv_replay.proofs.Falling.{size, one_if_on, follow_falls, decided_falls, within}
+use Rattle.nv_replay.proofs.Settled.{Reaches, reach_here, reach_on, reached}
+use Rattle.nv_replay.proofs.Falling.{size, follow_falls}
 use Rattle.nv_replay.proofs.Stepping.{decided_in_step}
 
 pub record Goes {P : Type 0} (g : Behaviour P) (judge : Judge) (log : List Entry) (start now : Running P) : Type 0 where
@@ -32,10 +31,10 @@ module _ {P : Type 0} (g : Behaviour P) (laws : IsProcess g) (judge : Judge) (lo
       → Goes g judge log start now → new ≡ record now { at = decided g judge e now.at } → Goes g judge log start new
   goes_on start now new e law h n o k =
       let r : Reaches (next g judge log) start.at (decided g judge e now.at) = subst (λ x. Reaches (next g judge log) start.at x)
-          (next_is e now.at h n) (reach_on (next g judge log) start.at now.at o.reach) in
+      (next_is e now.at h n) (reach_on (next g judge log) start.at now.at o.reach) in
       let at : new.at ≡ decided g judge e now.at = ap (λ (x : Running P). x.at) k in
       let q : record now { at = decided g judge e now.at } ≡ record start { at = decided g judge e now.at } = ap
-          (λ (x : Running P). record x { at = decided g judge e now.at }) o.rest in
+      (λ (x : Running P). record x { at = decided g judge e now.at }) o.rest in
       let P' : Running P → Type 0 = λ x. Goes g judge log start x in
       subst P' (sym k) (record { reach = r; rest = q; in_step = decided_in_step g laws judge log e now.at law h o.in_step n })
 

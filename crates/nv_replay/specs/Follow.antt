@@ -1,6 +1,6 @@
 -- A version follows a log: for each event it comes to the call of that thread, which is the event's or is judged.
 use Rattle.std.specs.Prelude.{◌≡◌, ◌≢◌, ◌⊎◌, ℕ, ◌+◌, ◌≤◌, take, Bool, true, false, List, [], length, Option, Some, None, option_map, slice_get, if◌then◌else◌}
-use Rattle.nv_calls.specs.Calls.{Request, Response, Entry, is_same}
+use Rattle.nv_calls.specs.Calls.{Request, Entry, is_same}
 use Rattle.nv_calls.specs.Logs.{live_after}
 use Rattle.nv_threads.specs.Behaviours.{Behaviour}
 use Rattle.nv_threads.specs.declared.turns.Want.TheVariants.{Only}

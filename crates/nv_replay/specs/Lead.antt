@@ -1,6 +1,6 @@
 -- A version leads: each call that it comes to is served and logged behind those before.
-use Rattle.std.specs.Prelude.{◌≡◌, ℕ, ◌+◌, Bool, true, false, ◌==◌, nat_le, List, [], ◌∷◌, ◌++◌, length, Option, Some, None, option_map, if◌then◌else◌}
-use Rattle.nv_calls.specs.Calls.{Request, Response, Entry}
+use Rattle.std.specs.Prelude.{ℕ, ◌+◌, Bool, true, false, ◌==◌, nat_le, List, [], ◌∷◌, ◌++◌, length, Option, Some, None, option_map, if◌then◌else◌}
+use Rattle.nv_calls.specs.Calls.{Entry}
 use Rattle.nv_calls.specs.Logs.{Start, served}
 use Rattle.nv_threads.specs.Behaviours.{Behaviour}
 use Rattle.nv_machine.specs.declared.outcome.FaultKind.TheVariants.{Calls}

@@ -1,11 +1,10 @@
 -- The whole monitor, one version after another.
-use Rattle.std.specs.Prelude.{◌≡◌, ℕ, zero, suc, ◌+◌, Bool, true, false, ◌==◌, ◌&&◌, not, List, [], ◌∷◌, length, Option, Some, None, if◌then◌else◌}
-use Rattle.nv_calls.specs.Calls.{Request, Response, Entry}
+use Rattle.std.specs.Prelude.{ℕ, zero, suc, ◌+◌, Bool, true, false, ◌&&◌, not, List, [], ◌∷◌, length, Option, Some, None}
+use Rattle.nv_calls.specs.Calls.{Entry}
 use Rattle.nv_calls.specs.Logs.{Start}
 use Rattle.nv_threads.specs.Behaviours.{Behaviour}
 use Rattle.nv_replay.specs.declared.fate.Fate.{Fate}
 use Rattle.nv_replay.specs.declared.standing.Standing.{Standing}
-use Rattle.nv_replay.specs.declared.fate.Fate.TheVariants.{Exited, Fault as Faulted, Refused, Memory}
 use Rattle.nv_replay.specs.Follow.{Follower, Judge, fresh, follow, is_exited}
 use Rattle.nv_replay.specs.Lead.{Leader, lead, cut_of}
 

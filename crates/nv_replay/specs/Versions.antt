@@ -1,5 +1,5 @@
 -- A version as callers see it.
-use Rattle.std.specs.Prelude.{◌≡◌, ℕ, ◌+◌, Bool, nat_le, List, [], Option, Some, None, option_map, if◌then◌else◌}
+use Rattle.std.specs.Prelude.{◌≡◌, ℕ, ◌+◌, nat_le, List, [], Option, Some, None, option_map, if◌then◌else◌}
 use Rattle.nv_calls.specs.Calls.{Entry}
 use Rattle.nv_threads.specs.Behaviours.{Behaviour, IsStarted}
 use Rattle.nv_machine.specs.declared.outcome.FaultKind.TheVariants.{Calls}
@@ -8,8 +8,7 @@ use Rattle.nv_threads.specs.declared.turns.Came.{Came}
 use Rattle.nv_threads.specs.declared.turns.Came.TheVariants.{Asked, Fault}
 use Rattle.nv_replay.specs.declared.version.Led.{Led}
 use Rattle.nv_replay.specs.declared.version.Led.TheVariants.{Asked as Asks, Dropped}
-use Rattle.nv_replay.specs.declared.fate.Fate.{Fate}
-use Rattle.nv_replay.specs.declared.fate.Fate.TheVariants.{Exited, Fault as Faulted, Memory}
+use Rattle.nv_replay.specs.declared.fate.Fate.TheVariants.{Exited, Fault as Faulted}
 use Rattle.nv_replay.specs.declared.standing.Standing.{Standing}
 use Rattle.nv_replay.specs.Spans.{grown}
 use Rattle.nv_replay.specs.Follow.{Follower, fresh}
@@ -61,8 +60,12 @@ module _ {P : Type 0} (g : Behaviour P) (most : ℕ) (r : Running P) where
 abbrev pub answered_by : {P : Type 0} → Behaviour P → Entry → Running P → Running P
 answered_by g e r =
     record r {
-      at = record r.at { process = g.answered r.at.process e.call.tid e.reply; seen = r.at.seen + 1; fate = option_map Exited
-          (g.ended (g.answered r.at.process e.call.tid e.reply)) };
+      at = record r.at {
+        process = g.answered r.at.process e.call.tid e.reply;
+        seen = r.at.seen + 1;
+        fate = option_map Exited
+            (g.ended (g.answered r.at.process e.call.tid e.reply));
+      };
       led = grown r.led;
       asked = None;
     }

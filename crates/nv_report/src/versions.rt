@@ -217,5 +217,8 @@ fn put_rewrites<S: Sink>(sink: &mut S, rewrites: u32) -> Put
     ensures { Puts (S.told sink.old) (S.faults sink.old) (rewrites_text rewrites) result (S.told sink.new) (S.faults sink.new) }
 {
     let mut buffer = Buffer::new();
-    put_pieces(sink, &[b" rewrites ", buffer.format(rewrites).as_bytes(), b"\n"])
+    put_pieces(
+        sink,
+        &[b" rewrites ", buffer.format(rewrites).as_bytes(), b"\n"],
+    )
 }

@@ -17,7 +17,7 @@ use nv_replay::{Account, Version};
 pub fn write<S: Sink, K: SyscallKernel>(sink: &mut S, account: &Account<K>) -> Put
     ensures { Puts (S.told sink.old) (S.faults sink.old)
         (report_text (output_of (K.start account.now.kernel) (K.log account.now.kernel))
-            (record { log = K.log account.now.kernel; lines = map standing_of account.now.versions.items }))
+        (record { log = K.log account.now.kernel; lines = map standing_of account.now.versions.items }))
         result (S.told sink.new) (S.faults sink.new) }
 {
     let events = account.kernel.history();
@@ -65,5 +65,8 @@ fn put_count<S: Sink>(sink: &mut S, versions: usize) -> Put
     ensures { Puts (S.told sink.old) (S.faults sink.old) (count_text versions) result (S.told sink.new) (S.faults sink.new) }
 {
     let mut buffer = Buffer::new();
-    put_pieces(sink, &[b"fates ", buffer.format(versions).as_bytes(), b"\n"])
+    put_pieces(
+        sink,
+        &[b"fates ", buffer.format(versions).as_bytes(), b"\n"],
+    )
 }

@@ -8,11 +8,11 @@ use Rattle.nv_replay.specs.declared.fate.Fate.{Fate}
 use Rattle.nv_replay.specs.declared.standing.Standing.{Standing}
 use Rattle.nv_replay.specs.Follow.{Follower, Judge, follow, fresh, IsInStep, is_exited}
 use Rattle.nv_replay.specs.Lead.{Leader, lead, cut_of}
-use Rattle.nv_replay.specs.Sequence.{Account, leads, is_on, follower_line, leader_line, turn, sequence_from}
+use Rattle.nv_replay.specs.Sequence.{leads, is_on, follower_line, leader_line, sequence_from}
 use Rattle.nv_replay.specs.Versions.{Running, IsFresh, leader_of, standing_of, process_of}
 use Rattle.nv_replay.proofs.Extending.{follow_on, in_step_on, lead_grows}
-use Rattle.nv_sequence.specs.Turns.{LedOn, HasLed}
-use Rattle.nv_sequence.specs.Accounts.{IsLonger, AreFresh, TurnDone, with_span}
+use Rattle.nv_sequence.specs.Turns.{HasLed}
+use Rattle.nv_sequence.specs.Accounts.{IsLonger, TurnDone, with_span}
 
 pub on_none : (over : Bool) (f : Option Fate) → (not over && is_on f) ≡ true → f ≡ None
 on_none true f h = cc
@@ -25,12 +25,12 @@ module _ {P : Type 0} (g : Behaviour P) (laws : IsProcess g) (judges : ℕ → J
       → leads over (follow g (judges i) log (fresh p)) ≡ false → IsLonger log log'
       → record { log = log'; lines = ls } ≡ sequence_from g judges replies most cuts ps (i + 1) log over
       → record { log = log'; lines = follower_line (follow g (judges i) log' (follow g (judges i) log (fresh p))) ∷ ls } ≡ sequence_from g
-          judges replies most cuts (p ∷ ps) i log over
+      judges replies most cuts (p ∷ ps) i log over
   unfolding sequence_from
   passed cuts p ps i log log' over ls h m r =
       let e : follow g (judges i) log' (follow g (judges i) log (fresh p)) ≡ follow g (judges i) log' (fresh p) =
       subst (λ (x : List Entry). follow g (judges i) x (follow g (judges i) log (fresh p)) ≡ follow g (judges i) x (fresh p)) (sym m.1)
-          (follow_on g laws (judges i) log m.0 (fresh p)) in
+      (follow_on g laws (judges i) log m.0 (fresh p)) in
       rw (h, e, ← r) refl
 
   -- a version that led
@@ -45,15 +45,15 @@ module _ {P : Type 0} (g : Behaviour P) (laws : IsProcess g) (judges : ℕ → J
       let f : Follower P = follow g (judges i) log (fresh p) in
       let none : f.fate ≡ None = on_none over f.fate h in
       let l0 : leader_of start log ≡ record { process = f.process; log = log; fate = None } = ap
-          (λ (x : Follower P). record { process = x.process; log = log; fate = x.fate }) a ∙ ap
-          (λ (x : Option Fate). record { process = f.process; log = log; fate = x }) none in
+      (λ (x : Follower P). record { process = x.process; log = log; fate = x.fate }) a ∙ ap
+      (λ (x : Option Fate). record { process = f.process; log = log; fate = x }) none in
       let k : cuts i ≡ cut_of n.at.fate (length log1) = c ∙ ap (cut_of n.at.fate) d.on.seen in
       let l : lead g replies most (cuts i) (record { process = f.process; log = log; fate = None }) ≡ leader_of n log1 = rw (k, ← l0) (sym d.whole) in
       let span : n.led ≡ (f.seen, length log1) ∷ [] = d.on.span (length log) (b ∙ ap (λ (m : ℕ). (length log, m) ∷ []) (sym s)) ∙
-          (ap (λ (m : ℕ). (m, n.at.seen) ∷ []) (sym s ∙ ap (λ (x : Follower P). x.seen) a) ∙ ap (λ (m : ℕ). (f.seen, m) ∷ []) d.on.seen) in
+      (ap (λ (m : ℕ). (m, n.at.seen) ∷ []) (sym s ∙ ap (λ (x : Follower P). x.seen) a) ∙ ap (λ (m : ℕ). (f.seen, m) ∷ []) d.on.seen) in
       let rewrites : n.at.rewrites ≡ f.rewrites = d.on.rewrites ∙ ap (λ (x : Follower P). x.rewrites) a in
       let line : standing_of n ≡ leader_line f (leader_of n log1) = λ j. record
-          { seen = d.on.seen j; led = span j; rewrites = rewrites j; fate = n.at.fate } in
+      { seen = d.on.seen j; led = span j; rewrites = rewrites j; fate = n.at.fate } in
       rw (h, l, line, ← r) refl
 
   -- the log grows
@@ -120,16 +120,16 @@ module _ {P : Type 0} (g : Behaviour P) (laws : IsProcess g) (judges : ℕ → J
   pub led_account : (cuts : ℕ → Option ℕ) (r : Running P) (rs vs : List (Running P)) (i : ℕ) (v1 v2 : Running P)
       (log log1 log2 : List Entry) (over over1 : Bool) (ls : List Standing)
       → vs ≡ r ∷ rs → Followed1 i r v1 log → TurnDone g replies most over v1 v2 log log1 over1 (leads over v1.at) → (v2.led ≡ [] → ⊥)
-          → cuts i ≡ cut_of v2.at.fate v2.at.seen
+      → cuts i ≡ cut_of v2.at.fate v2.at.seen
       → record { log = log2; lines = ls } ≡ sequence_from g judges replies most cuts (map process_of rs) (i + 1) log1 over1
       → record { log = log2; lines = standing_of v2 ∷ ls } ≡ sequence_from g judges replies most cuts (map process_of vs) i log over
   led_account cuts r rs vs i v1 v2 log log1 log2 over over1 ls e f d n c q =
       let t = led_turn over v1 v2 log log1 over1 (leads over v1.at) f.led n d in
       let h : leads over (follow g (judges i) log (fresh r.at.process)) ≡ true = sym (leads_same over v1.at _ f.at) ∙ t.0 in
       let q' : record { log = log2; lines = ls } ≡ sequence_from g judges replies most cuts (map process_of rs) (i + 1) log1
-          (is_exited v2.at.fate) = q ∙ ap (λ (b : Bool). sequence_from g judges replies most cuts (map process_of rs) (i + 1) log1 b) t.2 in
+      (is_exited v2.at.fate) = q ∙ ap (λ (b : Bool). sequence_from g judges replies most cuts (map process_of rs) (i + 1) log1 b) t.2 in
       rw e (took g laws judges replies most cuts r.at.process (map process_of rs) i log log1 log2 over ls (with_span v1 (length log)) v2
-          f.at refl (seen_if over v1 log f.seen t.0) h t.1 c q')
+      f.at refl (seen_if over v1 log f.seen t.0) h t.1 c q')
 
   pub passed_account : (cuts : ℕ → Option ℕ) (r : Running P) (rs vs : List (Running P)) (i : ℕ) (v1 v2 v3 : Running P)
       (log log1 log2 log3 : List Entry) (over over1 : Bool) (ls : List Standing)
@@ -142,17 +142,21 @@ module _ {P : Type 0} (g : Behaviour P) (laws : IsProcess g) (judges : ℕ → J
       let h : leads over (follow g (judges i) log (fresh r.at.process)) ≡ false = sym (leads_same over v1.at _ f.at) ∙ t.0 in
       let m' : IsLonger log log2 = subst (λ (x : List Entry). IsLonger x log2) t.2 m in
       let q' : record { log = log2; lines = ls } ≡ sequence_from g judges replies most cuts (map process_of rs) (i + 1) log over = q ∙
-          (ap (λ (b : Bool). sequence_from g judges replies most cuts (map process_of rs) (i + 1) log1 b) t.3 ∙ ap
-          (λ (x : List Entry). sequence_from g judges replies most cuts (map process_of rs) (i + 1) x over) t.2) in
+      (ap (λ (b : Bool). sequence_from g judges replies most cuts (map process_of rs) (i + 1) log1 b) t.3 ∙ ap
+      (λ (x : List Entry). sequence_from g judges replies most cuts (map process_of rs) (i + 1) x over) t.2) in
       let v3' : v3 ≡ record v1 { at = follow g (judges i) log2 (follow g (judges i) log (fresh r.at.process)) } =
       w ∙ (ap (λ (x : Running P). record x { at = follow g (judges x.index) log3 x.at }) t.1 ∙
-          (ap (λ (y : ℕ). record v1 { at = follow g (judges y) log3 v1.at }) f.index ∙
-          (ap (λ (y : List Entry). record v1 { at = follow g (judges i) y v1.at }) k ∙ ap
-          (λ (y : Follower P). record v1 { at = follow g (judges i) log2 y }) f.at))) in
+      (ap (λ (y : ℕ). record v1 { at = follow g (judges y) log3 v1.at }) f.index ∙
+      (ap (λ (y : List Entry). record v1 { at = follow g (judges i) y v1.at }) k ∙ ap
+      (λ (y : Follower P). record v1 { at = follow g (judges i) log2 y }) f.at))) in
       let line : standing_of v3 ≡ follower_line (follow g (judges i) log2 (follow g (judges i) log (fresh r.at.process))) = ap standing_of
-          v3' ∙ ap (λ (y : List (ℕ × ℕ)). record { seen = (follow g (judges i) log2 (follow g (judges i) log (fresh r.at.process))).seen;
-          led = y; rewrites = (follow g (judges i) log2 (follow g (judges i) log (fresh r.at.process))).rewrites; fate =
-          (follow g (judges i) log2 (follow g (judges i) log (fresh r.at.process))).fate }) f.led in
+      v3' ∙ ap (λ (y : List (ℕ × ℕ)). record {
+        seen = (follow g (judges i) log2 (follow g (judges i) log (fresh r.at.process))).seen;
+        led = y;
+        rewrites = (follow g (judges i) log2 (follow g (judges i) log (fresh r.at.process))).rewrites;
+        fate =
+            (follow g (judges i) log2 (follow g (judges i) log (fresh r.at.process))).fate;
+      }) f.led in
       rw (e, line) (passed g laws judges replies most cuts r.at.process (map process_of rs) i log log2 over ls h m' q')
 
   -- a version that was passed over is in step with the longer log

@@ -1,18 +1,16 @@
 -- Each version has a fate.
-use Rattle.std.proofs.Common.{◌≡◌, inr, ◌∙◌, sym, ap, subst, refl, ℕ, ◌+◌, ◌<◌, ◌≤◌, Bool, true, false, List, [], ◌∷◌, ◌++◌, length, take, Option, Some, None, arith}
+use Rattle.std.proofs.Common.{◌≡◌, inr, ◌∙◌, sym, ap, refl, ℕ, Bool, true, false, List, [], length, take, Option, Some, None, arith}
 use Rattle.std.specs.Prelude.{not, ◌&&◌}
 use Rattle.nv_calls.specs.Calls.{Entry}
 use Rattle.nv_calls.specs.Logs.{Start, live_after}
 use Rattle.nv_threads.specs.Behaviours.{Behaviour, IsProcess}
 use Rattle.nv_replay.specs.declared.fate.Fate.{Fate}
-use Rattle.nv_replay.specs.Settling.{stage}
-use Rattle.nv_replay.specs.Follow.{Follower, Judge, follow, fresh, next, on_next, IsInStep, is_exited}
+use Rattle.nv_replay.specs.Follow.{Follower, Judge, follow, next, IsInStep}
 use Rattle.nv_replay.specs.Sequence.{leads, is_on}
 use Rattle.nv_replay.specs.Versions.{Running, standing_of}
 use Rattle.nv_replay.proofs.Settled.{stage_rests}
 use Rattle.nv_replay.proofs.Wholes.{rests}
-use Rattle.nv_sequence.specs.Turns.{LedOn, HasLed}
-use Rattle.nv_sequence.specs.Accounts.{TurnDone, with_span, IsSettled}
+use Rattle.nv_sequence.specs.Accounts.{TurnDone, IsSettled}
 use Rattle.nv_sequence.proofs.Turning.{take_all}
 use Rattle.nv_sequence.proofs.Assembling.{Followed1, led_turn, led_span, passed_turn, seen_if}
 
@@ -76,11 +74,11 @@ module _ {P : Type 0} (g : Behaviour P) (laws : IsProcess g) (judges : ℕ → J
   passed_fated : (i : ℕ) (r v1 v2 v3 : Running P) (log log1 log2 log3 : List Entry) (over over1 : Bool)
       → Followed1 g laws judges replies most i r v1 log → TurnDone g replies most over v1 v2 log log1 over1 (leads over v1.at) → v2.led ≡ []
       → v3 ≡ record v2 { at = follow g (judges v2.index) log3 v2.at } → log3 ≡ log2 → IsInStep g log3 v3.at
-          → (v3.at.fate ≡ None → v3.at.seen ≡ length log3)
+      → (v3.at.fate ≡ None → v3.at.seen ≡ length log3)
       → (over ≡ true → live_after log ≡ []) → (over1 ≡ true → log2 ≡ log1) → is_on v3.at.fate ≡ false
   passed_fated i r v1 v2 v3 log log1 log2 log3 over over1 f d n w k s q dead stand =
       let t = passed_turn g laws judges replies most over v1 v2 log log1 over1 (leads over v1.at)
-          (seen_if g laws judges replies most over v1 log f.seen) n d in
+      (seen_if g laws judges replies most over v1 log f.seen) n d in
       by_over over over refl v1 v2 v3 log log1 log2 log3 over1 (judges v2.index) t.0 t.1 t.2 t.3 w k s q dead stand
 
   -- a version that was passed over has its fate and no span
@@ -88,7 +86,7 @@ module _ {P : Type 0} (g : Behaviour P) (laws : IsProcess g) (judges : ℕ → J
       → Followed1 g laws judges replies most i r v1 log
       → TurnDone g replies most over v1 v2 log log1 over1 (leads over v1.at) → v2.led ≡ []
       → v3 ≡ record v2 { at = follow g (judges v2.index) log3 v2.at } → log3 ≡ log2 → IsInStep g log3 v3.at
-          → (v3.at.fate ≡ None → v3.at.seen ≡ length log3)
+      → (v3.at.fate ≡ None → v3.at.seen ≡ length log3)
       → (over ≡ true → live_after log ≡ []) → (over1 ≡ true → log2 ≡ log1) → IsSettled (standing_of v3)
   passed_settled i r v1 v2 v3 log log1 log2 log3 over over1 f d n w k s q dead stand =
       let none : v3.led ≡ [] = ap (λ (x : Running P). x.led) w ∙ n in record {

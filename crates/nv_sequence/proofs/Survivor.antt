@@ -1,7 +1,6 @@
 -- The survivor's clause, over the definitions.
-use Rattle.std.proofs.Common.{◌≡◌, ◌∙◌, sym, ap, subst, refl, ℕ, zero, suc, ◌+◌, ◌<◌, ◌≤◌, ◌⊎◌, inl, inr, Bool, true, false, List, [], ◌∷◌, ◌++◌, length, take, Option, Some, None, arith, append-nil, append_assoc}
-use Rattle.std.specs.Prelude.{slice_get, Contains, not, ◌&&◌, nat_le}
-use Rattle.std.proofs.lemmas.Option.{slice_get-get_or, slice_get_past}
+use Rattle.std.proofs.Common.{◌≡◌, ◌∙◌, sym, ap, subst, refl, ℕ, zero, suc, ◌+◌, ◌<◌, ◌≤◌, inl, inr, Bool, true, false, List, [], ◌∷◌, ◌++◌, length, take, Option, Some, None, arith}
+use Rattle.std.specs.Prelude.{slice_get, Contains, nat_le}
 use Rattle.std.proofs.lemmas.Bool.{cases_lt}
 use Rattle.nv_calls.specs.Calls.{Entry}
 use Rattle.nv_calls.specs.Logs.{Start, IsLawful, IsLegal, MayFollow, live_after}
@@ -88,7 +87,7 @@ module _ {P : Type 0} (g : Behaviour P) (laws : IsProcess g) (replies : Start) (
       → Reaches (next_call g replies most None) (next_call g replies most c s) t → Reaches (next_call g replies most None) s t
   uncut_on c n s t true m h w r =
       let e : next_call g replies most c s ≡ t = sym (stage_rests (next_call g replies most c) n (next_call g replies most c s)
-          (memory_rests c (next_call g replies most c s) m)) ∙ h in
+      (memory_rests c (next_call g replies most c s) m)) ∙ h in
       let z : true ≡ false = sym m ∙ (ap (λ (x : Leader P). is_memory x.fate) e ∙ w) in cc
   uncut_on c n s t false m h w r = reach_first (next_call g replies most None) s t
       (subst (λ (x : Leader P). Reaches (next_call g replies most None) x t) (uncut c s m) r)
@@ -132,13 +131,13 @@ module _ {P : Type 0} (g : Behaviour P) (laws : IsProcess g) (judge : Judge) (re
   follower_alone p so pl w x =
       let r = follow_reached g laws judge log [] (fresh p) in
       let i : IsInStep g log (follow g judge log (fresh p)) = subst (λ (y : Follower P). IsInStep g log y) r.is
-          (stage_in_step r.steps (fresh p) pl.lawful (fresh_in_step g laws replies most log p so)) in
+      (stage_in_step r.steps (fresh p) pl.lawful (fresh_in_step g laws replies most log p so)) in
       let go = copies g laws judge replies most log r.steps (fresh p) (follow g judge log (fresh p)) r.is w pl
-          (fresh_in_step g laws replies most log p so) so.alone in
+      (fresh_in_step g laws replies most log p so) so.alone in
       let e = lead_is g laws replies most None (record { process = p; log = []; fate = None })
-          (copied g laws judge replies most log (follow g judge log (fresh p))) go (exited_well (follow g judge log (fresh p)).fate x) in
+      (copied g laws judge replies most log (follow g judge log (fresh p))) go (exited_well (follow g judge log (fresh p)).fate x) in
       let a : take (follow g judge log (fresh p)).seen log ≡ log = ap (λ (n : ℕ). take n log)
-          (exited_all (follow g judge log (fresh p)) pl.lawful i x) ∙ take_all log in
+      (exited_all (follow g judge log (fresh p)) pl.lawful i x) ∙ take_all log in
       ap (λ (y : Leader P). y.log) (sym e) ∙ a
 
   -- a leader that followed without a rewrite, and exited
@@ -147,27 +146,27 @@ module _ {P : Type 0} (g : Behaviour P) (laws : IsProcess g) (judge : Judge) (re
       → (follow g judge log0 (fresh p)).fate ≡ None → (follow g judge log0 (fresh p)).seen ≡ length log0
       → is_exited (lead g replies most c (record { process = (follow g judge log0 (fresh p)).process; log = log0; fate = None })).fate ≡ true
       → (lead g replies most None (record { process = p; log = []; fate = None })).log ≡ (lead g replies most c
-          (record { process = (follow g judge log0 (fresh p)).process; log = log0; fate = None })).log
+      (record { process = (follow g judge log0 (fresh p)).process; log = log0; fate = None })).log
   leader_alone p log0 more c k so pl w n s x =
       let f : Follower P = follow g judge log0 (fresh p) in
       let l : Leader P = lead g replies most c (record { process = f.process; log = log0; fate = None }) in
       let r : Reaches (next g judge log) (fresh p) f = subst (λ (y : List Entry). Reaches (next g judge y) (fresh p) f) (sym k)
-          (extended g laws judge log0 more (fresh p)) in
+      (extended g laws judge log0 more (fresh p)) in
       let front : take f.seen log ≡ log0 = ap (λ (m : ℕ). take m log) s ∙
-          (ap (λ (y : List Entry). take (length log0) y) k ∙ (take_front_of log0 more (length log0) (omega arith) ∙ take_all log0)) in
+      (ap (λ (y : List Entry). take (length log0) y) k ∙ (take_front_of log0 more (length log0) (omega arith) ∙ take_all log0)) in
       let at : copied g laws judge replies most log f ≡ record { process = f.process; log = log0; fate = None } = λ j. record
-          { process = f.process; log = front j; fate = n j } in
+      { process = f.process; log = front j; fate = n j } in
       let true_to : IsTrueTo f = record { rewrites = w; well = rw n refl } in
       let go = copies g laws judge replies most log r.steps (fresh p) f r.is true_to pl (fresh_in_step g laws replies most log p so) so.alone in
       let go' : Reaches (next_call g replies most None) (record { process = p; log = []; fate = None })
-          (record { process = f.process; log = log0; fate = None }) = subst
-          (λ (y : Leader P). Reaches (next_call g replies most None) (record { process = p; log = []; fate = None }) y) at go in
+      (record { process = f.process; log = log0; fate = None }) = subst
+      (λ (y : Leader P). Reaches (next_call g replies most None) (record { process = p; log = []; fate = None }) y) at go in
       let on = lead_reached g laws replies most c (record { process = f.process; log = log0; fate = None }) in
       let on' : Reaches (next_call g replies most None) (record { process = f.process; log = log0; fate = None }) l = uncut_reach g laws
-          replies most c on.steps (record { process = f.process; log = log0; fate = None }) l on.is (exited_no_memory l.fate x) in
+      replies most c on.steps (record { process = f.process; log = log0; fate = None }) l on.is (exited_no_memory l.fate x) in
       let e = lead_is g laws replies most None (record { process = p; log = []; fate = None }) l
-          (reach_all (next_call g replies most None) (record { process = p; log = []; fate = None })
-          (record { process = f.process; log = log0; fate = None }) l go' on') (exited_well l.fate x) in
+      (reach_all (next_call g replies most None) (record { process = p; log = []; fate = None })
+      (record { process = f.process; log = log0; fate = None }) l go' on') (exited_well l.fate x) in
       ap (λ (y : Leader P). y.log) (sym e)
 
 pub lawful_front : (log more : List Entry) → IsLawful (log ++ more) → IsLawful log
@@ -212,7 +211,7 @@ module _ {P : Type 0} (g : Behaviour P) (laws : IsProcess g) (judges : ℕ → J
 
   head : (p : P) (ps : List P) (i : ℕ) (log : List Entry) (over b : Bool) → leads over (follow g (judges i) log (fresh p)) ≡ b → IsStarted g p
       → Survives (turn g judges replies most cuts i p (λ l o. sequence_from g judges replies most cuts ps (i + 1) l o) log over
-          (follow g (judges i) log (fresh p)) b) p 0
+      (follow g (judges i) log (fresh p)) b) p 0
   head p ps i log over false e so line h x w law legal short =
       let L : List Entry = (sequence_from g judges replies most cuts ps (i + 1) log over).log in
       let F : Follower P = follow g (judges i) L (fresh p) in
@@ -220,7 +219,7 @@ module _ {P : Type 0} (g : Behaviour P) (laws : IsProcess g) (judges : ℕ → J
       let x' : is_exited F.fate ≡ true = ap (λ (y : Standing). is_exited y.fate) at ∙ x in
       let w' : F.rewrites ≡ 0 = ap (λ (y : Standing). y.rewrites) at ∙ w in
       follower_alone g laws (judges i) replies most L p so (record { lawful = law; legal = legal; short = short })
-          (record { rewrites = w'; well = exited_is_well F.fate x' }) x'
+      (record { rewrites = w'; well = exited_is_well F.fate x' }) x'
   head p ps i log over true e so line h x w law legal short =
       let f : Follower P = follow g (judges i) log (fresh p) in
       let l : Leader P = lead g replies most (cuts i) (record { process = f.process; log = log; fate = None }) in
@@ -235,12 +234,12 @@ module _ {P : Type 0} (g : Behaviour P) (laws : IsProcess g) (judges : ℕ → J
       let n : f.fate ≡ None = on_none over f.fate e in
       let s : f.seen ≡ length log = follow_done g laws (judges i) replies most log (fresh p) law0 (fresh_in_step g laws replies most log p so) n in
       leader_alone g laws (judges i) replies most L p log m.0 (cuts i) k so (record { lawful = law; legal = legal; short = short }) w' n s
-          x' ∙ sym same
+      x' ∙ sym same
 
   tail : (q p : P) (ps : List P) (i k : ℕ) (log : List Entry) (over b : Bool)
       → ((i : ℕ) (log : List Entry) (over : Bool) → Survives (sequence_from g judges replies most cuts ps i log over) p k)
       → Survives (turn g judges replies most cuts i q (λ l o. sequence_from g judges replies most cuts ps (i + 1) l o) log over
-          (follow g (judges i) log (fresh q)) b) p (suc k)
+      (follow g (judges i) log (fresh q)) b) p (suc k)
   tail q p ps i k log over false ih line h x w law legal short = ih (i + 1) log over line h x w law legal short
   tail q p ps i k log over true ih line h x w law legal short = ih (i + 1) _ _ line h x w law legal short
 
@@ -251,6 +250,6 @@ module _ {P : Type 0} (g : Behaviour P) (laws : IsProcess g) (judges : ℕ → J
   survives (q ∷ ps) zero p h so i log over =
       let e : q ≡ p = cc in
       subst (λ (y : P). Survives (turn g judges replies most cuts i q (λ l o. sequence_from g judges replies most cuts ps (i + 1) l o) log
-          over (follow g (judges i) log (fresh q)) (leads over (follow g (judges i) log (fresh q)))) y 0) e
-          (head q ps i log over (leads over (follow g (judges i) log (fresh q))) refl (subst (λ (y : P). IsStarted g y) (sym e) so))
+      over (follow g (judges i) log (fresh q)) (leads over (follow g (judges i) log (fresh q)))) y 0) e
+      (head q ps i log over (leads over (follow g (judges i) log (fresh q))) refl (subst (λ (y : P). IsStarted g y) (sym e) so))
   survives (q ∷ ps) (suc k) p h so i log over = tail q p ps i k log over (leads over (follow g (judges i) log (fresh q))) (survives ps k p h so)

@@ -1,6 +1,6 @@
 -- The survivor's clause on the account of a run.
 use Rattle.std.proofs.Common.{◌≡◌, ◌∙◌, sym, ap, subst, refl, ℕ, zero, suc, ◌+◌, ◌<◌, ◌≤◌, Bool, true, false, inl, List, [], ◌∷◌, ◌++◌, length, map, Option, Some, None, arith, cond, length-append, append_assoc}
-use Rattle.std.specs.Prelude.{slice_get, ◌==◌, nat_le}
+use Rattle.std.specs.Prelude.{slice_get, nat_le}
 use Rattle.std.proofs.lemmas.Bool.Decides.{nat_tests}
 use Rattle.nv_calls.specs.Calls.{Entry}
 use Rattle.nv_calls.specs.Logs.{Start, served, IsLawful, IsLegal}
@@ -20,7 +20,7 @@ use Rattle.nv_replay.specs.Versions.{Running, process_of}
 use Rattle.nv_replay.proofs.Settled.{stage_rests}
 use Rattle.nv_replay.proofs.Wholes.{rests}
 use Rattle.nv_sequence.specs.Accounts.{AreFresh, AreCuts}
-use Rattle.nv_sequence.specs.Alone.{alone, IsSurvivor, SurvivorsAgree}
+use Rattle.nv_sequence.specs.Alone.{alone, SurvivorsAgree}
 use Rattle.nv_sequence.proofs.Survivor.{survives}
 
 -- the cuts that an account tells are cuts of its lines
@@ -34,9 +34,11 @@ cuts_behind front [] = tt
 cuts_behind front (line ∷ lines) =
     let one : length (front ++ line ∷ []) ≡ length front + 1 = length-append front (line ∷ []) in
     let all : (front ++ line ∷ []) ++ lines ≡ front ++ line ∷ lines = append_assoc front (line ∷ []) lines in
-    let A : ℕ → List Standing → Type 0 = λ i whole. AreCuts i lines (cuts_of whole) in
-    (at_place front line lines, subst (λ (i : ℕ). A i (front ++ line ∷ lines)) one
-        (subst (λ (x : List Standing). A (length (front ++ line ∷ [])) x) all (cuts_behind (front ++ line ∷ []) lines)))
+    let A : ℕ → List Standing → Type 0 = λ i whole. AreCuts i lines (cuts_of whole) in (
+      at_place front line lines,
+      subst (λ (i : ℕ). A i (front ++ line ∷ lines)) one
+          (subst (λ (x : List Standing). A (length (front ++ line ∷ [])) x) all (cuts_behind (front ++ line ∷ []) lines)),
+    )
 
 pub cuts_are : (lines : List Standing) → AreCuts 0 lines (cuts_of lines)
 cuts_are lines = cuts_behind [] lines
@@ -98,8 +100,8 @@ module _ {P : Type 0} (g : Behaviour P) (laws : IsProcess g) (replies : Start) (
   unfolding sequence_from
   alone_leads p =
       let T : Follower P → Type 0 = λ f. (turn g (λ i c e. 0) replies most (λ i. None) 0 p
-          (λ l o. sequence_from g (λ i c e. 0) replies most (λ i. None) [] (0 + 1) l o) [] false f (leads false f)).log ≡ (lead g replies
-          most None (record { process = p; log = []; fate = None })).log in
+      (λ l o. sequence_from g (λ i c e. 0) replies most (λ i. None) [] (0 + 1) l o) [] false f (leads false f)).log ≡ (lead g replies
+      most None (record { process = p; log = []; fate = None })).log in
       subst T (sym (empty_follow (λ c e. 0) p)) refl
 
   started_at : (rs : List (Running P)) (i k : ℕ) (p : P) → AreFresh g i rs → slice_get (map process_of rs) k ≡ Some p → IsStarted g p
@@ -117,5 +119,5 @@ module _ {P : Type 0} (g : Behaviour P) (laws : IsProcess g) (replies : Start) (
       let at : slice_get a.lines k ≡ Some line = sym (ap (λ (x : Account). slice_get x.lines k) e) ∙ h' in
       let short = sequence_short g judges replies most (cuts_of lines) (map process_of rs) 0 [] false (omega arith) in
       let same = survives g laws judges replies most (cuts_of lines) (map process_of rs) k p h started 0 [] false line at s.exited
-          s.rewrites (subst IsLawful el law) (subst (IsLegal replies) el legal) short in
+      s.rewrites (subst IsLawful el law) (subst (IsLegal replies) el legal) short in
       alone_leads p ∙ (same ∙ sym el)

@@ -1,23 +1,22 @@
 -- A leader's turn, by how it ended.
-use Rattle.std.proofs.Common.{◌≡◌, ◌∙◌, sym, ap, subst, refl, ℕ, zero, suc, ◌+◌, ◌<◌, ◌≤◌, Bool, true, false, List, [], ◌∷◌, ◌++◌, length, take, map, get_or, Option, Some, None, arith, length-append}
+use Rattle.std.proofs.Common.{◌≡◌, ◌∙◌, sym, ap, subst, refl, ℕ, ◌+◌, ◌<◌, true, false, List, [], ◌∷◌, ◌++◌, length, take, map, get_or, Option, Some, None, arith, length-append}
 use Rattle.std.specs.Prelude.{slice_get, Contains, nat_le, option_map}
 use Rattle.std.proofs.lemmas.Bool.Decides.{nat_tests}
-use Rattle.nv_calls.specs.Calls.{Request, Response, Entry, entry}
+use Rattle.nv_calls.specs.Calls.{Entry, entry}
 use Rattle.nv_calls.specs.declared.calls.Event.{Event}
-use Rattle.nv_calls.specs.Logs.{Start, served, IsLawful, MayFollow, live_after, live_from, live_next, child_of}
+use Rattle.nv_calls.specs.Logs.{Start, served, IsLawful, live_after, live_from, live_next}
 use Rattle.nv_threads.specs.Behaviours.{Behaviour, IsProcess}
 use Rattle.nv_threads.specs.declared.turns.Want.TheVariants.{Any}
 use Rattle.nv_threads.specs.declared.turns.Came.TheVariants.{Asked}
-use Rattle.nv_replay.specs.declared.fate.Fate.{Fate}
 use Rattle.nv_replay.specs.declared.fate.Fate.TheVariants.{Memory, Exited}
-use Rattle.nv_replay.specs.Follow.{Follower, IsInStep}
-use Rattle.nv_replay.specs.Lead.{Leader, is_cut, is_memory, next_call}
+use Rattle.nv_replay.specs.Follow.{IsInStep}
+use Rattle.nv_replay.specs.Lead.{is_memory, next_call}
 use Rattle.nv_replay.specs.Versions.{Running, IsLeading, asking_next, answered_by, leader_of}
 use Rattle.nv_replay.specs.Spans.{grown}
-use Rattle.nv_replay.proofs.Leading.{AskedFor, EndedBy, asking_cases, ending_cases, lead_dropped, lead_refused, lead_served}
-use Rattle.nv_replay.proofs.Stepping.{still_on, same_live, none_back, exited_some}
+use Rattle.nv_replay.proofs.Leading.{AskedFor, asking_cases, ending_cases, lead_dropped, lead_refused, lead_served}
+use Rattle.nv_replay.proofs.Stepping.{same_live, none_back, exited_some}
 use Rattle.nv_replay.proofs.Wholes.{get_map, length_map}
-use Rattle.nv_sequence.specs.Turns.{LedOn, TookTurn}
+use Rattle.nv_sequence.specs.Turns.{TookTurn}
 
 -- the event behind a log
 pub get_last : (log : List Entry) (e : Entry) → slice_get (log ++ e ∷ []) (length log) ≡ Some e
@@ -81,8 +80,13 @@ module _ {P : Type 0} (g : Behaviour P) (laws : IsProcess g) (replies : Start) (
           seen = ap (λ (x : Running P). x.at.seen) e.rest ∙ s;
           span = λ from q. ap (λ (x : Running P). x.led) e.rest ∙
               (q ∙ ap (λ (m : ℕ). (from, m) ∷ []) (sym (ap (λ (x : Running P). x.at.seen) e.rest)));
-          in_step = record { within = rw (ap (λ (x : Running P). x.at.seen) e.rest) i.within; live = λ z. absurd (e.ended z); on = λ z.
-              absurd (e.ended z); exited = λ z. let y : false ≡ true = sym e.dead ∙ z in cc };
+          in_step = record {
+            within = rw (ap (λ (x : Running P). x.at.seen) e.rest) i.within;
+            live = λ z. absurd (e.ended z);
+            on = λ z.
+                absurd (e.ended z);
+            exited = λ z. let y : false ≡ true = sym e.dead ∙ z in cc;
+          };
           asked = λ z. k;
         };
       }
@@ -124,19 +128,28 @@ module _ {P : Type 0} (g : Behaviour P) (laws : IsProcess g) (replies : Start) (
       let call : g.call n.at.process t ≡ e.call = sym (ap (λ (x : Entry). x.call) ee) in
       let may = law (length log) e (get_last log e) in
       let live : g.live (g.answered n.at.process t e.reply) ≡ live_after (log ++ e ∷ []) = same_live g laws (λ c x. 0) n.at.process t e
-          w.pending w.lives call may.child ∙ (ap (λ x. live_next x e) w.live ∙ sym (live_last (100 ∷ []) log e)) in
+      w.pending w.lives call may.child ∙ (ap (λ x. live_next x e) w.live ∙ sym (live_last (100 ∷ []) log e)) in
       let all : take (n.at.seen + 1) (log ++ e ∷ []) ≡ log ++ e ∷ [] = rw (seen, s, ← one) (take_all (log ++ e ∷ [])) in
       let P' : ℕ → Type 0 = λ u. IsInStep g (log ++ e ∷ [])
-          (record n.at { process = g.answered n.at.process u e.reply; seen = n.at.seen + 1; fate = option_map Exited
-          (g.ended (g.answered n.at.process u e.reply)) }) in
-      let in_step : P' t = record { within = omega (arith, one, seen, s); live = λ z. live ∙ ap live_after (sym all); on = λ z. none_back
-          (g.ended (g.answered n.at.process t e.reply)) z; exited = λ z. let x = exited_some (g.ended (g.answered n.at.process t e.reply)) z
-          in ap live_after all ∙ (sym live ∙ laws.lives (g.answered n.at.process t e.reply) x.0 x.1) } in
+      (record n.at {
+        process = g.answered n.at.process u e.reply;
+        seen = n.at.seen + 1;
+        fate = option_map Exited
+            (g.ended (g.answered n.at.process u e.reply));
+      }) in
+      let in_step : P' t = record {
+        within = omega (arith, one, seen, s);
+        live = λ z. live ∙ ap live_after (sym all);
+        on = λ z. none_back
+            (g.ended (g.answered n.at.process t e.reply)) z;
+        exited = λ z. let x = exited_some (g.ended (g.answered n.at.process t e.reply)) z
+            in ap live_after all ∙ (sym live ∙ laws.lives (g.answered n.at.process t e.reply) x.0 x.1);
+      } in
       record {
         step = λ c q.
             let T : Entry → Type 0 = λ x. leader_of (answered_by g x n) (log ++ x ∷ []) ≡ next_call g replies most c (leader_of r log) in
             subst T (sym ee) (lead_served g replies most c r log n t laws s d.on a
-                (q ∙ not_memory (g.ended (g.answered n.at.process e.call.tid e.reply))));
+            (q ∙ not_memory (g.ended (g.answered n.at.process e.call.tid e.reply))));
         same = λ z. let y : false ≡ true = sym (not_memory (g.ended (g.answered n.at.process e.call.tid e.reply))) ∙ z in cc;
         grew = λ z. one;
         on = record {

@@ -1,19 +1,17 @@
 -- A leader's turns together.
-use Rattle.std.proofs.Common.{◌≡◌, ◌≢◌, ◌∙◌, sym, ap, subst, refl, ℕ, zero, suc, ◌+◌, ◌<◌, ◌≤◌, Bool, true, false, List, [], ◌∷◌, length, Option, Some, None, arith}
-use Rattle.std.specs.Prelude.{◌==◌}
+use Rattle.std.proofs.Common.{◌≡◌, ◌∙◌, sym, ap, subst, refl, ℕ, ◌+◌, ◌<◌, ◌≤◌, Bool, true, false, List, [], ◌∷◌, length, Option, Some, None, arith}
 use Rattle.std.proofs.lemmas.Bool.Decides.{nat_tests}
 use Rattle.nv_calls.specs.Calls.{Entry}
 use Rattle.nv_calls.specs.Logs.{Start}
 use Rattle.nv_threads.specs.Behaviours.{Behaviour, IsProcess}
 use Rattle.nv_replay.specs.declared.fate.Fate.{Fate}
 use Rattle.nv_replay.specs.declared.fate.Fate.TheVariants.{Exited, Fault, Refused, Memory}
-use Rattle.nv_replay.specs.Settling.{stage}
-use Rattle.nv_replay.specs.Follow.{Follower, IsInStep}
+use Rattle.nv_replay.specs.Follow.{IsInStep}
 use Rattle.nv_replay.specs.Lead.{Leader, is_cut, is_memory, cut_of, next_call, unless_ended, lead}
 use Rattle.nv_replay.specs.Sequence.{is_on}
 use Rattle.nv_replay.specs.Versions.{Running, IsLeading, leader_of}
-use Rattle.nv_replay.proofs.Settled.{Reaches, reach_here, reach_on, reached, Falls}
-use Rattle.nv_replay.proofs.Falling.{lead_size, lead_falls, next_call_falls, one_if_on}
+use Rattle.nv_replay.proofs.Settled.{Reaches, reach_here, reach_on, reached}
+use Rattle.nv_replay.proofs.Falling.{lead_size, lead_falls, next_call_falls}
 use Rattle.nv_sequence.specs.Turns.{LedOn, TookTurn, HasLed}
 
 -- a cut at which a leader with this end and this log can have come so far
@@ -99,7 +97,7 @@ module _ {P : Type 0} (g : Behaviour P) (laws : IsProcess g) (replies : Start) (
         reach = λ c h.
             let a = suits_now c now.at.fate new.at.fate (length log) (length new_log) n t.grew t.same h in
             subst (λ (x : Leader P). Reaches (next_call g replies most c) (leader_of start first) x) (sym (t.step c a.1))
-                (reach_on (next_call g replies most c) (leader_of start first) (leader_of now log) (s.reach c a.0));
+            (reach_on (next_call g replies most c) (leader_of start first) (leader_of now log) (s.reach c a.0));
         led = record {
           index = t.on.index ∙ s.led.index;
           rewrites = t.on.rewrites ∙ s.led.rewrites;
@@ -138,6 +136,6 @@ module _ {P : Type 0} (g : Behaviour P) (laws : IsProcess g) (replies : Start) (
   turn_falls start now new first log new_log s t =
       let n = on_is_none now.at.fate s.is_on in
       let a = suits_now (cut_of new.at.fate (length new_log)) now.at.fate new.at.fate (length log) (length new_log) n t.grew t.same
-          (suits_end new.at.fate (length new_log)) in
+      (suits_end new.at.fate (length new_log)) in
       rw (t.step (cut_of new.at.fate (length new_log)) a.1)
-          (next_call_falls g laws replies most (cut_of new.at.fate (length new_log)) (leader_of now log) n)
+      (next_call_falls g laws replies most (cut_of new.at.fate (length new_log)) (leader_of now log) n)

@@ -1,5 +1,5 @@
 -- A version that exited without a rewrite, and the same version alone.
-use Rattle.std.specs.Prelude.{◌≡◌, ◌≢◌, ℕ, true, List, [], ◌∷◌, Option, Some, None, slice_get}
+use Rattle.std.specs.Prelude.{◌≡◌, ◌≢◌, ℕ, true, List, [], ◌∷◌, Some, None, slice_get}
 use Rattle.nv_calls.specs.Calls.{Entry}
 use Rattle.nv_calls.specs.Logs.{Start}
 use Rattle.nv_threads.specs.Behaviours.{Behaviour}
@@ -23,4 +23,4 @@ HasNoClone log = (i : ℕ) (e : Entry) → slice_get log i ≡ Some e → e.call
 abbrev pub SurvivorsAgree : {P : Type 0} → Behaviour P → Start → ℕ → List P → List Standing → List Entry → Type 0
 SurvivorsAgree {P} g start most processes lines log =
     (k : ℕ) (p : P) (line : Standing) → slice_get processes k ≡ Some p → slice_get lines k ≡ Some line → IsSurvivor line → HasNoClone log
-        → (alone g start most p).log ≡ log
+    → (alone g start most p).log ≡ log

@@ -1,10 +1,10 @@
 -- A leader before and after it has served one call or ended.
-use Rattle.std.specs.Prelude.{◌≡◌, ℕ, ◌+◌, true, false, List, [], ◌∷◌, length, Option, Some, None}
+use Rattle.std.specs.Prelude.{◌≡◌, ℕ, ◌+◌, true, false, List, [], ◌∷◌, length, Option, None}
 use Rattle.nv_calls.specs.Calls.{Entry}
 use Rattle.nv_calls.specs.Logs.{Start}
 use Rattle.nv_threads.specs.Behaviours.{Behaviour}
-use Rattle.nv_replay.specs.Follow.{Follower, IsInStep}
-use Rattle.nv_replay.specs.Lead.{Leader, is_cut, is_memory, cut_of, next_call, lead}
+use Rattle.nv_replay.specs.Follow.{IsInStep}
+use Rattle.nv_replay.specs.Lead.{is_cut, is_memory, cut_of, next_call, lead}
 use Rattle.nv_replay.specs.Sequence.{is_on}
 use Rattle.nv_replay.specs.Versions.{Running, leader_of}
 

@@ -58,7 +58,7 @@ fn run_from<K: SyscallKernel>(
     requires over { over ≡ true → live_after (K.log kernel.old) ≡ [] }
     ensures account { (cuts : ℕ → Option ℕ) → AreCuts first (map standing_of versions.new) cuts →
         record { log = K.log kernel.new; lines = map standing_of versions.new }
-            ≡ sequence_from threads (λ i. no_rules) (K.start kernel.old) most cuts (map process_of versions.old) first (K.log kernel.old) over }
+        ≡ sequence_from threads (λ i. no_rules) (K.start kernel.old) most cuts (map process_of versions.old) first (K.log kernel.old) over }
     ensures start { K.start kernel.new ≡ K.start kernel.old }
     ensures stands { over ≡ true → K.log kernel.new ≡ K.log kernel.old }
     ensures settled { AreSettled (map standing_of versions.new) }

@@ -1,4 +1,4 @@
-use Rattle.std.proofs.Common.{◌≡◌, sym, subst, ◌<◌, ℕ, List, map, length}
+use Rattle.std.proofs.Common.{sym, subst, ◌<◌, ℕ, List, map, length}
 use Rattle.std.specs.Prelude.{Contains}
 use Rattle.nv_calls.specs.Calls.{entry}
 use Rattle.nv_threads.specs.Threads.{threads}
@@ -21,21 +21,21 @@ pub follow-told-requires-clause-lives : goal.follow-told-requires-clause-lives
 follow-told-requires-clause-lives c =
     let next = c.in-Some.ensures.next in
     subst (λ (x : List ℕ). Contains x c.in-Some.event.now.call.tid) (sym (c.loop-event.invariant.in_step.live next.on))
-        (c.requires.lawful _ _ next.at).lives
+    (c.requires.lawful _ _ next.at).lives
 
 pub loop-event-smaller : goal.loop-event-smaller
 loop-event-smaller c =
     let next = c.in-Some.ensures.next in
     let below : c.loop-event.version.at.seen < length c.args.log.now = rw (← length_map c.args.log.now)
-        (within (map entry c.args.log.now) _ _ next.at) in
+    (within (map entry c.args.log.now) _ _ next.at) in
     rw (c.follow-told.ensures.new) (decided_falls threads thread_laws no_rules (length c.args.log.now) (entry c.in-Some.event.now)
-        c.loop-event.version.at below next.on)
+    c.loop-event.version.at below next.on)
 
 pub loop-event-preserved : goal.loop-event-preserved
 loop-event-preserved c =
     let next = c.in-Some.ensures.next in
     goes_on threads thread_laws no_rules _ c.args.version.now c.loop-event.version c.follow-told.new.self (entry c.in-Some.event.now)
-        c.requires.lawful next.at next.on c.loop-event.invariant c.follow-told.ensures.new
+    c.requires.lawful next.at next.on c.loop-event.invariant c.follow-told.ensures.new
 
 pub returns-clause-new : goal.returns-clause-new
 returns-clause-new c = whole threads thread_laws _ _ c.args.version.now c.loop-event.version c.loop-event.invariant c.in_default.ensures.rests

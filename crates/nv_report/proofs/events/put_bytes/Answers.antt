@@ -1,8 +1,5 @@
-use Rattle.std.proofs.Common.{◌++◌, ◌∷◌, [], ap, ◌∙◌, sym, refl, codes, length}
-use Rattle.std.specs.Int.{w32, to_be_bytes}
-use Rattle.std.specs.List.{flat_map}
-use Rattle.nv_outside.specs.Writing.{puts-is, puts-then, puts-failed, puts-stopped}
-use Rattle.nv_calls.specs.Calls.{entry}
+use Rattle.std.proofs.Common.{◌++◌}
+use Rattle.nv_outside.specs.Writing.{puts-then, puts-failed}
 use Rattle.nv_report.specs.Numbers.{hex_text}
 use Rattle.nv_report.proofs.events.put_bytes.Goals as goal
 

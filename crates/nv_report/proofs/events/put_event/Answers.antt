@@ -1,11 +1,7 @@
-use Rattle.std.proofs.Common.{◌++◌, ◌∷◌, [], List, ℕ, ap, ◌∙◌, sym, refl, codes, length, map}
-use Rattle.std.specs.Int.{w32, to_be_bytes}
-use Rattle.std.specs.List.{flat_map}
+use Rattle.std.proofs.Common.{◌++◌, ap, ◌∙◌, codes}
 use Rattle.nv_outside.specs.Writing.{puts-is, puts-then, puts-failed}
 use Rattle.nv_calls.specs.Calls.{entry}
-use Rattle.nv_calls.specs.declared.calls.Event.{Event}
 use Rattle.nv_report.specs.Events.{result_text, payload_text}
-use Rattle.nv_report.proofs.Texts.{flat_map-events}
 use Rattle.nv_report.proofs.events.put_event.Goals as goal
 
 pub returns-in-Failed : goal.returns-in-Failed
@@ -17,7 +13,7 @@ pub returns-in-Whole-put_result : goal.returns-in-Whole-put_result
 returns-in-Whole-put_result g c =
     let end = puts-is (ap (λ call. payload_text call c.as_slice-in-Whole-put_result.result.now ++ codes "\n") c.as_slice.ensures.bytes
     ∙ ap (λ reply. payload_text c.args.event.now.call.payload.bytes reply ++ codes "\n") c.as_slice-in-Whole-put_result.ensures.bytes)
-        c.put_end.ensures in
+    c.put_end.ensures in
     puts-then c.in-Whole.ensures (puts-then c.in-Whole-put_result.ensures end)
 
 pub returns-in-Failed-put_result : goal.returns-in-Failed-put_result

@@ -1,7 +1,5 @@
-use Rattle.std.proofs.Common.{◌++◌, ◌∷◌, [], ap, ◌∙◌, sym, refl, codes, length}
-use Rattle.std.specs.Int.{w32, to_be_bytes}
-use Rattle.std.specs.List.{flat_map}
-use Rattle.nv_outside.specs.Writing.{puts-is, puts-then, puts-failed, puts-stopped}
+use Rattle.std.proofs.Common.{ap}
+use Rattle.nv_outside.specs.Writing.{puts-is, puts-stopped}
 use Rattle.nv_calls.specs.Calls.{entry}
 use Rattle.nv_calls.specs.declared.calls.Event.{Event}
 use Rattle.nv_report.specs.Events.{event_text}
@@ -11,4 +9,4 @@ pub returns-in-Failed : goal.returns-in-Failed
 returns-in-Failed g c =
     let item = puts-is (ap (λ (event : Event). event_text (entry event)) c.event-item.is) c.in-Failed.ensures in
     puts-stopped (λ event. event_text (entry event)) c.args.log.now c.loop-event.event-index c.event-item.result c.loop-event-test.true
-        c.loop-event.invariant item
+    c.loop-event.invariant item

@@ -9,4 +9,4 @@ use Rattle.nv_report.proofs.events.put_events.Given as goal
 abbrev pub invariant-loop-event : goal.invariant-loop-event
 invariant-loop-event g l =
     Puts (g.S.Sink.told l.fn.sink) (g.S.Sink.faults l.fn.sink) (flat_map (λ event. event_text (entry event)) (take l.event-index l.log))
-        Whole (g.S.Sink.told l.sink) (g.S.Sink.faults l.sink)
+    Whole (g.S.Sink.told l.sink) (g.S.Sink.faults l.sink)

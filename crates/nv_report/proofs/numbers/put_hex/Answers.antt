@@ -1,8 +1,5 @@
-use Rattle.std.proofs.Common.{get_or, ◌/◌, ◌++◌, ◌∷◌, [], ap, ◌∙◌, sym, refl, codes, length}
-use Rattle.std.specs.Int.{w32, to_be_bytes}
-use Rattle.std.specs.List.{flat_map}
-use Rattle.nv_outside.specs.Writing.{puts-is, puts-then, puts-failed, puts-stopped}
-use Rattle.nv_calls.specs.Calls.{entry}
+use Rattle.std.proofs.Common.{get_or, ◌/◌, ◌∷◌, [], ap}
+use Rattle.nv_outside.specs.Writing.{puts-is, puts-stopped}
 use Rattle.nv_report.specs.Numbers.{hex_digit, hex_pair}
 use Rattle.nv_report.proofs.numbers.put_hex.Goals as goal
 

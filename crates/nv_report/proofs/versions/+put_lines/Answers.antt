@@ -14,4 +14,4 @@ pub returns-in-Failed : goal.returns-in-Failed
 returns-in-Failed g t c =
     puts-is (ap (λ (vs : List (Running Proc)). lines_text c.args.first (map standing_of vs)) (sym c.in-Some.ensures.cases.0))
     (puts-failed (lines_text (c.args.first + 1) (map standing_of c.in-Some.others.now))
-        (puts-is (ap (line_text c.args.first) c.standing.ensures) c.in-Failed.ensures))
+    (puts-is (ap (line_text c.args.first) c.standing.ensures) c.in-Failed.ensures))

@@ -1,11 +1,7 @@
-use Rattle.std.proofs.Common.{◌++◌, ◌∷◌, [], List, ℕ, ap, ◌∙◌, sym, refl, codes, length, map}
+use Rattle.std.proofs.Common.{ap}
 use Rattle.std.specs.Int.{w32, to_be_bytes}
-use Rattle.std.specs.List.{flat_map}
 use Rattle.nv_outside.specs.Writing.{puts-is, puts-then, puts-failed}
-use Rattle.nv_calls.specs.Calls.{entry}
-use Rattle.nv_calls.specs.declared.calls.Event.{Event}
 use Rattle.nv_report.specs.Numbers.{hex_text}
-use Rattle.nv_report.proofs.Texts.{flat_map-events}
 use Rattle.nv_report.proofs.versions.put_fault.Goals as goal
 
 pub returns-in-Whole : goal.returns-in-Whole

@@ -13,4 +13,4 @@ returns-in-Whole-put_led g c =
 pub returns-in-Failed-put_led : goal.returns-in-Failed-put_led
 returns-in-Failed-put_led g c =
     puts-then c.in-Whole.ensures (puts-failed (rewrites_text c.args.standing.now.rewrites)
-        (puts-is (ap led_text c.as_slice.ensures) c.in-Failed-put_led.ensures))
+    (puts-is (ap led_text c.as_slice.ensures) c.in-Failed-put_led.ensures))

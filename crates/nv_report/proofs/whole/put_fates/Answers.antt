@@ -12,4 +12,4 @@ returns-in-Whole g c = puts-then (puts-is (ap count_text (sym (length-map c.args
 pub returns-in-Failed : goal.returns-in-Failed
 returns-in-Failed g c =
     puts-failed (lines_text 0 (map standing_of c.args.versions.now))
-        (puts-is (ap count_text (sym (length-map c.args.versions.now standing_of))) c.in-Failed.ensures)
+    (puts-is (ap count_text (sym (length-map c.args.versions.now standing_of))) c.in-Failed.ensures)

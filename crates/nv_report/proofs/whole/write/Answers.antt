@@ -1,4 +1,4 @@
-use Rattle.std.proofs.Common.{◌++◌, List, ℕ, map, ap, ◌∙◌, sym, length}
+use Rattle.std.proofs.Common.{◌++◌, List, map, ap, ◌∙◌, sym, length}
 use Rattle.std.proofs.lemmas.List.{length-map}
 use Rattle.std.specs.List.{flat_map}
 use Rattle.nv_outside.specs.Writing.{puts-is, puts-then, puts-failed}
@@ -17,7 +17,7 @@ returns-in-Failed g c =
     let output = output_of (g.K.SyscallKernel.start c.args.account.now.kernel) log in
     let n = sym (length-map c.history-events.result.now entry) ∙ ap length c.history-events.ensures.log in
     let head = puts-is (ap (λ text. head_text text (length c.history-events.result.now)) c.output.ensures ∙ ap (head_text output) n)
-        c.in-Failed.ensures in
+    c.in-Failed.ensures in
     puts-failed (flat_map event_text log ++ fates_text (map standing_of c.args.account.now.versions.items)) head
 
 pub returns-in-Whole-put_events : goal.returns-in-Whole-put_events
@@ -26,9 +26,9 @@ returns-in-Whole-put_events g c =
     let output = output_of (g.K.SyscallKernel.start c.args.account.now.kernel) log in
     let n = sym (length-map c.history-events.result.now entry) ∙ ap length c.history-events.ensures.log in
     let head = puts-is (ap (λ text. head_text text (length c.history-events.result.now)) c.output.ensures ∙ ap (head_text output) n)
-        c.in-Whole.ensures in
+    c.in-Whole.ensures in
     let events = puts-is (flat_map-events c.history-events.result.now ∙ ap (flat_map event_text) c.history-events.ensures.log)
-        c.in-Whole-put_events.ensures in
+    c.in-Whole-put_events.ensures in
     let fates = puts-is (ap (λ (vs : List (Running Proc)). fates_text (map standing_of vs)) c.deref.ensures.value) c.put_fates.ensures in
     puts-then head (puts-then events fates)
 
@@ -38,7 +38,7 @@ returns-in-Failed-put_events g c =
     let output = output_of (g.K.SyscallKernel.start c.args.account.now.kernel) log in
     let n = sym (length-map c.history-events.result.now entry) ∙ ap length c.history-events.ensures.log in
     let head = puts-is (ap (λ text. head_text text (length c.history-events.result.now)) c.output.ensures ∙ ap (head_text output) n)
-        c.in-Whole.ensures in
+    c.in-Whole.ensures in
     let events = puts-is (flat_map-events c.history-events.result.now ∙ ap (flat_map event_text) c.history-events.ensures.log)
-        c.in-Failed-put_events.ensures in
+    c.in-Failed-put_events.ensures in
     puts-then head (puts-failed (fates_text (map standing_of c.args.account.now.versions.items)) events)

@@ -9,7 +9,7 @@ use Rattle.nv_sequence.proofs.leading.lead_all.Given as goal
 abbrev pub invariant-loop-on : goal.invariant-loop-on
 invariant-loop-on g l =
     LedSo threads thread_laws (g.K.SyscallKernel.start l.initial.kernel) l.most l.initial.version l.version
-        (g.K.SyscallKernel.log l.initial.kernel) (g.K.SyscallKernel.log l.kernel) l.on
+    (g.K.SyscallKernel.log l.initial.kernel) (g.K.SyscallKernel.log l.kernel) l.on
     × (g.K.SyscallKernel.start l.kernel ≡ g.K.SyscallKernel.start l.initial.kernel)
 
 abbrev pub decreases-loop-on : goal.decreases-loop-on

@@ -1,5 +1,4 @@
-use Rattle.std.proofs.Common.{◌≡◌, sym, subst, map}
-use Rattle.nv_calls.specs.Calls.{Entry}
+use Rattle.std.proofs.Common.{subst, map}
 use Rattle.nv_calls.specs.Logs.{Start, IsLegal}
 use Rattle.nv_threads.specs.Threads.{threads}
 use Rattle.nv_threads.specs.ThreadLaws.{thread_laws}
@@ -21,4 +20,4 @@ returns-clause-survivor g c =
     let told = c.run_from.ensures.account (cuts_of lines) (cuts_are lines) in
     let legal = subst (λ (s : Start). IsLegal s (g.K.SyscallKernel.log c.run_from.new.kernel)) c.run_from.ensures.start c.history-log.ensures.legal in
     survivors threads thread_laws (g.K.SyscallKernel.start c.args.kernel.now) c.args.most (λ i. no_rules) c.args.versions.now lines
-        (g.K.SyscallKernel.log c.run_from.new.kernel) c.requires.fresh (rw c.requires.empty at told) c.history-log.ensures.lawful legal
+    (g.K.SyscallKernel.log c.run_from.new.kernel) c.requires.fresh (rw c.requires.empty at told) c.history-log.ensures.lawful legal

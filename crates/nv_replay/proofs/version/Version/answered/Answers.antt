@@ -1,4 +1,4 @@
-use Rattle.std.proofs.Common.{◌≡◌, ◌+◌, ◌<◌, ◌≤◌, ℕ, ap, arith, true}
+use Rattle.std.proofs.Common.{◌≡◌, ◌<◌, ℕ, ap, arith, true}
 use Rattle.nv_calls.specs.Calls.{Response}
 use Rattle.nv_threads.specs.Threads.{threads, Proc}
 use Rattle.nv_threads.specs.ThreadLaws.{threads_falls}
@@ -13,7 +13,7 @@ pub invariant_of-self : goal.invariant_of-self
 invariant_of-self c =
     let seen : c.self.inside.standing.seen ≡ c.args.self.now.at.seen = ap (λ (r : Running Proc). r.at.seen) c.self.view_is in
     let pending : threads.pending c.self.inside.process c.args.event.now.call.tid ≡ true = rw
-        (ap (λ (r : Running Proc). r.at.process) c.self.view_is) c.requires.pending in
+    (ap (λ (r : Running Proc). r.at.process) c.self.view_is) c.requires.pending in
     let kept = c.self.invariant in
     record {
       few_seen = omega (arith, seen, c.requires.below);
