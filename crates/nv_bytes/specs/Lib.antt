@@ -1,0 +1,4 @@
+pub mod Fields
+pub mod FieldLaws
+
+pub mod Texts

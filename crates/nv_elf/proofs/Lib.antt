@@ -1,0 +1,4 @@
+pub mod Bounds
+pub mod Headers
+pub mod Faults
+pub mod Writing

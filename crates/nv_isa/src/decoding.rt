@@ -1,0 +1,216 @@
+// Reads a word as an instruction: the operation by opcode, funct3 and funct7, then the fields by the form.
+ghost use Rattle.std.specs.Prelude.{◌≡◌, ℕ, ◌/◌, ◌%◌, ◌^◌, ◌<◌, ◌*◌, ◌+◌, ℤ, IfSome};
+ghost use Rattle.std.specs.Option.{option_map};
+ghost use Rattle.nv_isa.specs.Table.{decoded, insn_of, row_of, immediate, signed};
+ghost use Rattle.nv_isa.specs.Fields.{named, key_of};
+ghost use Rattle.nv_isa.specs.Spelling.{Fits, FitsForm, HasSmallRegisters};
+
+use crate::op::{Form, Insn, Op};
+
+/// The instruction that the word spells. `None`: it belongs to no row of the table.
+pub fn decode(word: u32) -> Option<Insn>
+    ensures row { result ≡ decoded word }
+    ensures fits { IfSome result Fits }
+    ensures registers { IfSome result HasSmallRegisters }
+{
+    let (op, form) = key(word & 127, word >> 12 & 7, word >> 25, word)?;
+    Some(insn(op, form, word))
+}
+
+#[tactic(auto, unfolding(crate::specs::Fields::named, crate::specs::Table::table, crate::specs::Table::row))]
+fn branch(funct3: u32) -> Option<(Op, Form)>
+    ensures { (funct7 word : ℕ) → option_map key_of (named 0x63 funct3 funct7 word) ≡ result }
+{
+    match funct3 {
+        0 => Some((Op::Beq, Form::Branch)),
+        1 => Some((Op::Bne, Form::Branch)),
+        4 => Some((Op::Blt, Form::Branch)),
+        5 => Some((Op::Bge, Form::Branch)),
+        6 => Some((Op::Bltu, Form::Branch)),
+        7 => Some((Op::Bgeu, Form::Branch)),
+        _ => None,
+    }
+}
+
+#[tactic(auto, unfolding(crate::specs::Fields::named, crate::specs::Table::table, crate::specs::Table::row))]
+fn load(funct3: u32) -> Option<(Op, Form)>
+    ensures { (funct7 word : ℕ) → option_map key_of (named 0x03 funct3 funct7 word) ≡ result }
+{
+    match funct3 {
+        0 => Some((Op::Lb, Form::Immediate)),
+        1 => Some((Op::Lh, Form::Immediate)),
+        2 => Some((Op::Lw, Form::Immediate)),
+        4 => Some((Op::Lbu, Form::Immediate)),
+        5 => Some((Op::Lhu, Form::Immediate)),
+        _ => None,
+    }
+}
+
+#[tactic(auto, unfolding(crate::specs::Fields::named, crate::specs::Table::table, crate::specs::Table::row))]
+fn store(funct3: u32) -> Option<(Op, Form)>
+    ensures { (funct7 word : ℕ) → option_map key_of (named 0x23 funct3 funct7 word) ≡ result }
+{
+    match funct3 {
+        0 => Some((Op::Sb, Form::Store)),
+        1 => Some((Op::Sh, Form::Store)),
+        2 => Some((Op::Sw, Form::Store)),
+        _ => None,
+    }
+}
+
+#[tactic(auto, unfolding(crate::specs::Fields::named, crate::specs::Table::table, crate::specs::Table::row))]
+fn with_immediate(funct3: u32, funct7: u32) -> Option<(Op, Form)>
+    ensures { (word : ℕ) → option_map key_of (named 0x13 funct3 funct7 word) ≡ result }
+{
+    match (funct3, funct7) {
+        (0, _) => Some((Op::Addi, Form::Immediate)),
+        (1, 0) => Some((Op::Slli, Form::Shift)),
+        (2, _) => Some((Op::Slti, Form::Immediate)),
+        (3, _) => Some((Op::Sltiu, Form::Immediate)),
+        (4, _) => Some((Op::Xori, Form::Immediate)),
+        (5, 0) => Some((Op::Srli, Form::Shift)),
+        (5, 32) => Some((Op::Srai, Form::Shift)),
+        (6, _) => Some((Op::Ori, Form::Immediate)),
+        (7, _) => Some((Op::Andi, Form::Immediate)),
+        _ => None,
+    }
+}
+
+#[tactic(auto, unfolding(crate::specs::Fields::named, crate::specs::Table::table, crate::specs::Table::row))]
+fn between_registers(funct3: u32, funct7: u32) -> Option<(Op, Form)>
+    ensures { (word : ℕ) → option_map key_of (named 0x33 funct3 funct7 word) ≡ result }
+{
+    match (funct3, funct7) {
+        (0, 0) => Some((Op::Add, Form::Register)),
+        (0, 32) => Some((Op::Sub, Form::Register)),
+        (1, 0) => Some((Op::Sll, Form::Register)),
+        (2, 0) => Some((Op::Slt, Form::Register)),
+        (3, 0) => Some((Op::Sltu, Form::Register)),
+        (4, 0) => Some((Op::Xor, Form::Register)),
+        (5, 0) => Some((Op::Srl, Form::Register)),
+        (5, 32) => Some((Op::Sra, Form::Register)),
+        (6, 0) => Some((Op::Or, Form::Register)),
+        (7, 0) => Some((Op::And, Form::Register)),
+        _ => None,
+    }
+}
+
+#[tactic(auto, unfolding(crate::specs::Fields::named, crate::specs::Table::table, crate::specs::Table::row))]
+fn system(word: u32) -> Option<(Op, Form)>
+    ensures { (funct3 funct7 : ℕ) → option_map key_of (named 0x73 funct3 funct7 word) ≡ result }
+{
+    match word {
+        0x0000_0073 => Some((Op::Ecall, Form::Whole)),
+        0x0010_0073 => Some((Op::Ebreak, Form::Whole)),
+        _ => None,
+    }
+}
+
+#[tactic(auto, unfolding(crate::specs::Fields::named, crate::specs::Table::table, crate::specs::Table::row))]
+fn key(opcode: u32, funct3: u32, funct7: u32, word: u32) -> Option<(Op, Form)>
+    ensures { option_map key_of (named opcode funct3 funct7 word) ≡ result }
+{
+    match opcode {
+        0x37 => Some((Op::Lui, Form::Upper)),
+        0x17 => Some((Op::Auipc, Form::Upper)),
+        0x6f => Some((Op::Jal, Form::Jump)),
+        0x67 if funct3 == 0 => Some((Op::Jalr, Form::Immediate)),
+        0x63 => branch(funct3),
+        0x03 => load(funct3),
+        0x23 => store(funct3),
+        0x13 => with_immediate(funct3, funct7),
+        0x33 => between_registers(funct3, funct7),
+        0x0f if funct3 == 0 => Some((Op::Fence, Form::Immediate)),
+        0x73 => system(word),
+        _ => None,
+    }
+}
+
+fn signed_12(bits: u32) -> i32
+    requires { bits < 2 ^ 12 }
+    ensures { result ≡ signed 12 bits }
+{
+    bits as i32 - ((bits >> 11) as i32) * 4096
+}
+
+fn signed_13(bits: u32) -> i32
+    requires { bits < 2 ^ 13 }
+    ensures { result ≡ signed 13 bits }
+{
+    bits as i32 - ((bits >> 12) as i32) * 8192
+}
+
+fn signed_21(bits: u32) -> i32
+    requires { bits < 2 ^ 21 }
+    ensures { result ≡ signed 21 bits }
+{
+    bits as i32 - ((bits >> 20) as i32) * 2_097_152
+}
+
+fn immediate(form: Form, word: u32) -> i32
+    ensures { result ≡ immediate form word }
+{
+    match form {
+        Form::Register | Form::Whole => 0,
+        Form::Immediate => signed_12(word >> 20),
+        Form::Shift => (word >> 20 & 31) as i32,
+        Form::Store => signed_12((word >> 25) * 32 + (word >> 7 & 31)),
+        Form::Branch => {
+            let high = (word >> 31) * 4096 + (word >> 7 & 1) * 2048;
+            signed_13(high + (word >> 25 & 63) * 32 + (word >> 8 & 15) * 2)
+        }
+        Form::Upper => ((word >> 12) * 4096).cast_signed(),
+        Form::Jump => {
+            let high = (word >> 31) * 1_048_576 + (word >> 12 & 255) * 4096;
+            signed_21(high + (word >> 20 & 1) * 2048 + (word >> 21 & 1023) * 2)
+        }
+    }
+}
+
+#[tactic(auto, unfolding(crate::specs::Table::insn_of))]
+fn insn(op: Op, form: Form, word: u32) -> Insn
+    ensures fields { result ≡ insn_of op form word }
+    ensures registers { HasSmallRegisters result }
+{
+    let imm = immediate(form, word);
+    let rd = (word >> 7 & 31) as u8;
+    let rs1 = (word >> 15 & 31) as u8;
+    let rs2 = (word >> 20 & 31) as u8;
+    match form {
+        Form::Register => Insn {
+            op,
+            rd,
+            rs1,
+            rs2,
+            imm,
+        },
+        Form::Immediate | Form::Shift => Insn {
+            op,
+            rd,
+            rs1,
+            rs2: 0,
+            imm,
+        },
+        Form::Store | Form::Branch => Insn {
+            op,
+            rd: 0,
+            rs1,
+            rs2,
+            imm,
+        },
+        Form::Upper | Form::Jump => Insn {
+            op,
+            rd,
+            rs1: 0,
+            rs2: 0,
+            imm,
+        },
+        Form::Whole => Insn {
+            op,
+            rd: 0,
+            rs1: 0,
+            rs2: 0,
+            imm,
+        },
+    }
+}

@@ -1,0 +1,15 @@
+//! The instructions of RV32I: the table of the RISC-V Unprivileged ISA manual (chapter 24, "RV32/64G Instruction Set
+//! Listings"), by which a word is read as an instruction and an instruction written as a word.
+#![tactic(auto)]
+
+mod decoding;
+mod encoding;
+mod laws;
+mod op;
+#[cfg(test)]
+mod tests;
+
+pub use decoding::decode;
+pub use encoding::encode;
+pub use laws::rows_are_apart;
+pub use op::{Form, Insn, Op};

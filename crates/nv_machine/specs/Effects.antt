@@ -1,0 +1,61 @@
+-- What the operations compute, on numbers of 32 bits: the RISC-V Unprivileged ISA manual (20191213), sections 2.4 to 2.6.
+use Rattle.std.specs.Prelude.{Bool, false, not, ℕ, ◌+◌, ◌-◌, ◌*◌, ◌/◌, ◌%◌, ◌^◌, nat_lt, nat_le, ◌==◌, if◌then◌else◌, int_lt, bit_and, bit_or, bit_xor}
+use Rattle.std.specs.Int.{w32, cast_signed, cast_unsigned, int_shr}
+use Rattle.nv_isa.specs.declared.op.Op.{Op}
+use Rattle.nv_isa.specs.declared.op.Op.TheVariants.{Addi, Slti, Sltiu, Xori, Ori, Andi, Slli, Srli, Srai, Add, Sub, Sll, Slt, Sltu, Xor, Srl, Sra, Or, And, Beq, Bne, Blt, Bge, Bltu, Bgeu}
+
+-- modulo 2^32
+abbrev pub sum : ℕ → ℕ → ℕ
+sum a b = (a + b) % 2 ^ 32
+
+-- modulo 2^32
+abbrev pub difference : ℕ → ℕ → ℕ
+difference a b = (a + (2 ^ 32 - b)) % 2 ^ 32
+
+-- both as signed numbers
+abbrev pub is_below_signed : ℕ → ℕ → Bool
+is_below_signed a b = int_lt (cast_signed w32 a) (cast_signed w32 b)
+
+abbrev pub as_number : Bool → ℕ
+as_number b = if b then 1 else 0
+
+-- the number shifted down, with copies of its sign above
+abbrev pub shifted_copies : ℕ → ℕ → ℕ
+shifted_copies a by = cast_unsigned w32 (int_shr (cast_signed w32 a) by)
+
+-- what an operation on two numbers gives; the second is an immediate or a register
+abbrev pub computed : Op → ℕ → ℕ → ℕ
+computed Addi a b = sum a b
+computed Add a b = sum a b
+computed Sub a b = difference a b
+computed Slti a b = as_number (is_below_signed a b)
+computed Slt a b = as_number (is_below_signed a b)
+computed Sltiu a b = as_number (nat_lt a b)
+computed Sltu a b = as_number (nat_lt a b)
+computed Xori a b = bit_xor a b
+computed Xor a b = bit_xor a b
+computed Ori a b = bit_or a b
+computed Or a b = bit_or a b
+computed Andi a b = bit_and a b
+computed And a b = bit_and a b
+computed Slli a b = a * 2 ^ (b % 32) % 2 ^ 32
+computed Sll a b = a * 2 ^ (b % 32) % 2 ^ 32
+computed Srli a b = a / 2 ^ (b % 32)
+computed Srl a b = a / 2 ^ (b % 32)
+computed Srai a b = shifted_copies a (b % 32)
+computed Sra a b = shifted_copies a (b % 32)
+computed _ a b = 0
+
+-- whether the branch is taken
+abbrev pub is_taken : Op → ℕ → ℕ → Bool
+is_taken Beq a b = a == b
+is_taken Bne a b = not (a == b)
+is_taken Blt a b = is_below_signed a b
+is_taken Bge a b = not (is_below_signed a b)
+is_taken Bltu a b = nat_lt a b
+is_taken Bgeu a b = nat_le b a
+is_taken _ a b = false
+
+-- a number of k bits, with copies of its top bit above
+abbrev pub sign_extended : ℕ → ℕ → ℕ
+sign_extended k n = if nat_lt n (2 ^ (k - 1)) then n else sum n (2 ^ 32 - 2 ^ k)

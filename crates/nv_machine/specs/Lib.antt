@@ -1,0 +1,4 @@
+pub mod Registers
+pub mod Effects
+pub mod Guest
+pub mod GuestLaws

@@ -1,0 +1,5 @@
+pub mod Bytes
+pub mod Regions
+pub mod Image
+pub mod BytesLaws
+pub mod RegionsLaws

@@ -1,0 +1,112 @@
+-- To follow a log and then the longer log is to follow the longer log; to lead is to append.
+use Rattle.std.proofs.Common.{◌≡◌, ◌≢◌, ◌∙◌, sym, ap, subst, refl, ℕ, zero, suc, ◌+◌, ◌<◌, ◌≤◌, ◌⊎◌, inl, inr, Bool, true, false, List, [], ◌∷◌, ◌++◌, length, take, Option, Some, None, arith, append_assoc, append-nil, length-append, cond}
+use Rattle.std.specs.Prelude.{slice_get, nat_le}
+use Rattle.nv_calls.specs.Calls.{Entry}
+use Rattle.nv_calls.specs.Logs.{Start, served, live_after}
+use Rattle.nv_threads.specs.Behaviours.{Behaviour, IsProcess}
+use Rattle.nv_threads.specs.declared.turns.Want.TheVariants.{Any}
+use Rattle.nv_threads.specs.declared.turns.Came.{Came}
+use Rattle.nv_threads.specs.declared.turns.Came.TheVariants.{Asked, Fault}
+use Rattle.nv_replay.specs.declared.fate.Fate.{Fate}
+use Rattle.nv_replay.specs.declared.fate.Fate.TheVariants.{Fault as Faulted, Memory}
+use Rattle.nv_guest.specs.declared.outcome.FaultKind.TheVariants.{Calls}
+use Rattle.nv_replay.specs.Settling.{stage}
+use Rattle.nv_replay.specs.Follow.{Follower, Judge, decided, next, on_next, follow, IsInStep}
+use Rattle.nv_replay.specs.Lead.{Leader, is_cut, led, logged, unless_ended, next_call, lead}
+use Rattle.nv_replay.proofs.Settled.{Reaches, reach_here, reach_on, reach_first, reached, at_rest, stage_zero, stage_one, stage_rests, Falls}
+use Rattle.nv_replay.proofs.Falling.{size, follow_falls, within}
+use Rattle.nv_replay.proofs.Wholes.{follow_is, bound}
+
+pub get_front : (log more : List Entry) (i : ℕ) (e : Entry) → slice_get log i ≡ Some e → slice_get (log ++ more) i ≡ Some e
+get_front [] more i e h = cc
+get_front (d ∷ log) more zero e h = h
+get_front (d ∷ log) more (suc i) e h = get_front log more i e h
+
+pub take_front_of : (log more : List Entry) (n : ℕ) → n ≤ length log → take n (log ++ more) ≡ take n log
+take_front_of log more zero h = refl
+take_front_of [] more (suc n) h = absurd (omega arith)
+take_front_of (d ∷ log) more (suc n) h = ap (λ x. d ∷ x) (take_front_of log more n (omega arith))
+
+module _ {P : Type 0} (g : Behaviour P) (laws : IsProcess g) (judge : Judge) (log more : List Entry) where
+  same_next : (s : Follower P) (o : Option Entry) (f : Option Fate) → slice_get log s.seen ≡ o → (on_next g judge log s o f ≡ s) ⊎ (on_next g judge log s o f ≡ on_next g judge (log ++ more) s (slice_get (log ++ more) s.seen) f)
+  same_next s o (Some f) h = inl refl
+  same_next s None None h = inl refl
+  same_next s (Some e) None h = let k : slice_get (log ++ more) s.seen ≡ Some e = get_front log more s.seen e h in inr (rw k refl)
+
+  next_same : (s : Follower P) → (next g judge log s ≡ s) ⊎ (next g judge log s ≡ next g judge (log ++ more) s)
+  unfolding next
+  next_same s = same_next s (slice_get log s.seen) s.fate refl
+
+  extend_by : (n : ℕ) (s t : Follower P) → stage (next g judge log) n s ≡ t → Reaches (next g judge (log ++ more)) s t
+  extend_by zero s t h = subst (λ (x : Follower P). Reaches (next g judge (log ++ more)) s x) (sym (stage_zero (next g judge log) s) ∙ h) (reach_here (next g judge (log ++ more)) s)
+  extend_by (suc n) s t h = elim (next_same s) [
+    | inl e ↦ subst (λ (x : Follower P). Reaches (next g judge (log ++ more)) s x) (sym (stage_rests (next g judge log) (suc n) s e) ∙ h) (reach_here (next g judge (log ++ more)) s)
+    | inr e ↦ reach_first (next g judge (log ++ more)) s t (subst (λ (x : Follower P). Reaches (next g judge (log ++ more)) x t) e (extend_by n (next g judge log s) t (sym (stage_one (next g judge log) n s) ∙ h)))
+  ]
+
+  -- what follow comes to is reached, and rests
+  pub follow_reached : (s : Follower P) → Reaches (next g judge log) s (follow g judge log s)
+  unfolding follow
+  follow_reached s = record { steps = length log + g.calls_left s.process + 1; is = refl }
+
+  pub extended : (s : Follower P) → Reaches (next g judge (log ++ more)) s (follow g judge log s)
+  extended s = let r = follow_reached s in extend_by r.steps s (follow g judge log s) r.is
+
+module _ {P : Type 0} (g : Behaviour P) (laws : IsProcess g) (judge : Judge) (log : List Entry) where
+  pub follow_rests : (s : Follower P) → next g judge log (follow g judge log s) ≡ follow g judge log s
+  unfolding follow size
+  follow_rests s = at_rest (next g judge log) (size g (length log)) (follow_falls g laws judge log) (length log + g.calls_left s.process + 1) s (bound g laws judge log s s.fate refl)
+
+reach_by : {S : Type 0} (step : S → S) (n : ℕ) (s t u : S) → stage step n s ≡ t → Reaches step t u → Reaches step s u
+reach_by {S} step zero s t u h q = subst (λ (x : S). Reaches step x u) (sym (sym (stage_zero step s) ∙ h)) q
+reach_by step (suc n) s t u h q = reach_first step s u (reach_by step n (step s) t u (sym (stage_one step n s) ∙ h) q)
+
+pub reach_all : {S : Type 0} (step : S → S) (s t u : S) → Reaches step s t → Reaches step t u → Reaches step s u
+reach_all step s t u r q = reach_by step r.steps s t u r.is q
+
+-- following on
+pub follow_on : {P : Type 0} (g : Behaviour P) (laws : IsProcess g) (judge : Judge) (log more : List Entry) (s : Follower P) → follow g judge (log ++ more) (follow g judge log s) ≡ follow g judge (log ++ more) s
+follow_on g laws judge log more s =
+    let f = follow g judge log s in
+    follow_is g laws judge (log ++ more) s (follow g judge (log ++ more) f)
+    (reach_all (next g judge (log ++ more)) s f (follow g judge (log ++ more) f) (extended g laws judge log more s) (follow_reached g laws judge (log ++ more) [] f))
+    (follow_rests g laws judge (log ++ more) f)
+
+-- in step with the log is in step with the longer one
+pub in_step_on : {P : Type 0} (g : Behaviour P) (log more : List Entry) (s : Follower P) → IsInStep g log s → IsInStep g (log ++ more) s
+in_step_on g log more s i = record {
+  within = omega (arith, i.within, length-append log more);
+  live = λ z. i.live z ∙ ap live_after (sym (take_front_of log more s.seen i.within));
+  on = i.on;
+  exited = λ z. ap live_after (take_front_of log more s.seen i.within) ∙ i.exited z;
+}
+
+module _ {P : Type 0} (g : Behaviour P) (replies : Start) (most : ℕ) (cut : Option ℕ) where
+  if_grows : (s : Leader P) (p : P) (t : ℕ) (b d : Bool) → (more : List Entry) × ((cond b (record s { process = p; fate = Some (Faulted Calls t (g.pc p t)) }) (cond d (record s { process = p; fate = Some Memory }) (logged g replies most cut s (g.answered p t (served replies s.log (g.call p t)).reply) (served replies s.log (g.call p t))))).log ≡ s.log ++ more)
+  if_grows s p t true d = ([], sym (append-nil s.log))
+  if_grows s p t false true = ([], sym (append-nil s.log))
+  if_grows s p t false false = (served replies s.log (g.call p t) ∷ [], refl)
+
+  led_grows : (s : Leader P) (p : P) (came : Came) → (more : List Entry) × ((led g replies most cut s p came).log ≡ s.log ++ more)
+  led_grows s p (Fault k t pc) = ([], sym (append-nil s.log))
+  led_grows s p (Asked t) = if_grows s p t (nat_le most (length s.log)) (is_cut cut (length s.log))
+
+  ended_grows : (s : Leader P) (f : Option Fate) → (more : List Entry) × ((unless_ended g replies most cut s f).log ≡ s.log ++ more)
+  ended_grows s (Some f) = ([], sym (append-nil s.log))
+  ended_grows s None = led_grows s (g.after s.process Any) (g.came s.process Any)
+
+  next_grows : (s : Leader P) → (more : List Entry) × ((next_call g replies most cut s).log ≡ s.log ++ more)
+  unfolding next_call
+  next_grows s = ended_grows s s.fate
+
+  stage_grows : (n : ℕ) (s : Leader P) → (more : List Entry) × ((stage (next_call g replies most cut) n s).log ≡ s.log ++ more)
+  unfolding stage
+  stage_grows zero s = ([], sym (append-nil s.log))
+  stage_grows (suc n) s =
+      let a = next_grows s in
+      let b = stage_grows n (next_call g replies most cut s) in
+      (a.0 ++ b.0, b.1 ∙ (ap (λ x. x ++ b.0) a.1 ∙ append_assoc s.log a.0 b.0))
+
+  pub lead_grows : (s : Leader P) → (more : List Entry) × ((lead g replies most cut s).log ≡ s.log ++ more)
+  unfolding lead
+  lead_grows s = stage_grows (g.calls_left s.process + 1) s

@@ -1,0 +1,48 @@
+-- One decision, by what the guest came to.
+use Rattle.std.proofs.Common.{◌≡◌, ◌∙◌, sym, ap, subst, refl, ℕ, ◌+◌, Bool, true, false, Option, Some, None, cond}
+use Rattle.nv_calls.specs.Calls.{Request, Response, Entry, is_same}
+use Rattle.nv_threads.specs.Behaviours.{Behaviour}
+use Rattle.nv_threads.specs.declared.turns.Want.TheVariants.{Only}
+use Rattle.nv_threads.specs.declared.turns.Came.{Came}
+use Rattle.nv_threads.specs.declared.turns.Came.TheVariants.{Asked, Fault}
+use Rattle.nv_guest.specs.declared.outcome.FaultKind.{FaultKind}
+use Rattle.nv_replay.specs.declared.fate.Fate.{Fate}
+use Rattle.nv_replay.specs.declared.fate.Fate.TheVariants.{Exited, Fault as Faulted, Refused}
+use Rattle.nv_replay.specs.Permits.{Permit, Give, Drop, No, permit, verdict_of}
+use Rattle.nv_replay.specs.Follow.{Follower, Judge, decided, met, judged, consumed, permit_by, refusal_by, no_rules}
+
+module _ {P : Type 0} (g : Behaviour P) (judge : Judge) (e : Entry) (s : Follower P) where
+  judged_again : (q p : P) (t : ℕ) (f : Fate) (o : Permit) → judged g (record s { process = q }) p t f o ≡ judged g s p t f o
+  unfolding judged
+  judged_again q p t f (Give r) = refl
+  judged_again q p t f Drop = refl
+  judged_again q p t f No = refl
+
+  -- the process before is of no account
+  pub met_again : (q p : P) (came : Came) → met g judge e (record s { process = q }) p came ≡ met g judge e s p came
+  unfolding met
+  met_again q p (Fault kind tid pc) = refl
+  met_again q p (Asked t) =
+      ap (λ x. cond (is_same (g.call p t) e.call) (consumed g s (g.answered p t e.reply)) x) (judged_again q p t (refusal_by judge e (g.call p t)) (permit_by judge e (g.call p t)))
+
+  pub decided_fault : (k : FaultKind) (t pc : ℕ) → g.came s.process (Only e.call.tid) ≡ Fault k t pc → decided g judge e s ≡ record s { process = g.after s.process (Only e.call.tid); fate = Some (Faulted k t pc) }
+  unfolding decided met
+  decided_fault k t pc h = rw h refl
+
+  pub decided_asked : (t : ℕ) → g.came s.process (Only e.call.tid) ≡ Asked t → decided g judge e s ≡ met g judge e (record s { process = g.after s.process (Only e.call.tid) }) (g.after s.process (Only e.call.tid)) (Asked t)
+  unfolding decided
+  decided_asked t h = rw h (sym (met_again (g.after s.process (Only e.call.tid)) (g.after s.process (Only e.call.tid)) (Asked t)))
+
+  pub met_same : (p : P) (t : ℕ) → is_same (g.call p t) e.call ≡ true → met g judge e s p (Asked t) ≡ consumed g s (g.answered p t e.reply)
+  unfolding met
+  met_same p t h = rw h refl
+
+  pub met_other : (p : P) (t : ℕ) → is_same (g.call p t) e.call ≡ false → met g judge e s p (Asked t) ≡ judged g s p t (refusal_by judge e (g.call p t)) (permit_by judge e (g.call p t))
+  unfolding met
+  met_other p t h = rw h refl
+
+-- without rules another call than the event's is refused
+pub met_refused : {P : Type 0} (g : Behaviour P) (e : Entry) (s : Follower P) (p : P) (t : ℕ) → is_same (g.call p t) e.call ≡ false
+    → met g no_rules e s p (Asked t) ≡ record s { process = p; fate = Some (Refused (g.call p t).tid (g.call p t).nr e.stamp 0) }
+unfolding judged
+met_refused g e s p t h = met_other g no_rules e s p t h

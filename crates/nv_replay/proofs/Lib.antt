@@ -1,0 +1,9 @@
+pub mod Settled
+pub mod Following
+pub mod Leading
+pub mod Falling
+pub mod Stepping
+pub mod Wholes
+pub mod Extending
+pub mod Surviving
+pub mod Spanning

@@ -1,0 +1,38 @@
+use Rattle.std.proofs.Common.{◌≡◌, sym, subst, ◌<◌, ℕ, List, map, length}
+use Rattle.std.specs.Prelude.{Contains}
+use Rattle.nv_calls.specs.Calls.{entry}
+use Rattle.nv_threads.specs.Threads.{threads}
+use Rattle.nv_threads.specs.ThreadLaws.{thread_laws}
+use Rattle.nv_replay.specs.Follow.{no_rules}
+use Rattle.nv_replay.proofs.Falling.{decided_falls, within}
+use Rattle.nv_replay.proofs.Wholes.{goes_here, goes_on, whole, length_map}
+use Rattle.nv_replay.proofs.whole_log.follow_all.Goals as goal
+
+pub loop-event-init : goal.loop-event-init
+loop-event-init c = goes_here threads thread_laws _ _ _ c.requires.in_step
+
+pub follow-told-requires-clause-stamp : goal.follow-told-requires-clause-stamp
+follow-told-requires-clause-stamp c = (c.requires.lawful _ _ c.in-Some.ensures.next.at).stamp
+
+pub follow-told-requires-clause-below : goal.follow-told-requires-clause-below
+follow-told-requires-clause-below c = (c.requires.lawful _ _ c.in-Some.ensures.next.at).room
+
+pub follow-told-requires-clause-lives : goal.follow-told-requires-clause-lives
+follow-told-requires-clause-lives c =
+    let next = c.in-Some.ensures.next in
+    subst (λ (x : List ℕ). Contains x c.in-Some.event.now.call.tid) (sym (c.loop-event.invariant.in_step.live next.on)) (c.requires.lawful _ _ next.at).lives
+
+pub loop-event-smaller : goal.loop-event-smaller
+loop-event-smaller c =
+    let next = c.in-Some.ensures.next in
+    let below : c.loop-event.version.at.seen < length c.args.log.now = rw (← length_map c.args.log.now) (within (map entry c.args.log.now) _ _ next.at) in
+    rw (c.follow-told.ensures.new) (decided_falls threads thread_laws no_rules (length c.args.log.now) (entry c.in-Some.event.now) c.loop-event.version.at below next.on)
+
+pub loop-event-preserved : goal.loop-event-preserved
+loop-event-preserved c =
+    let next = c.in-Some.ensures.next in
+    goes_on threads thread_laws no_rules _ c.args.version.now c.loop-event.version c.follow-told.new.self (entry c.in-Some.event.now)
+        c.requires.lawful next.at next.on c.loop-event.invariant c.follow-told.ensures.new
+
+pub returns-clause-new : goal.returns-clause-new
+returns-clause-new c = whole threads thread_laws _ _ c.args.version.now c.loop-event.version c.loop-event.invariant c.in_default.ensures.rests

@@ -1,0 +1,9 @@
+-- What always holds of a version's numbers.
+use Rattle.std.specs.Prelude.{ℕ, ◌+◌, ◌≤◌, List}
+use Rattle.nv_replay.specs.Spans.{EndBy}
+
+-- of the events seen, the rewrites with the calls that are left, and the parts that it led
+pub record IsKept (seen calls : ℕ) (led : List (ℕ × ℕ)) : Type 0 where
+  pub few_seen : seen ≤ 131072
+  pub few_calls : calls ≤ seen + 1000000008
+  pub in_spans : EndBy seen led

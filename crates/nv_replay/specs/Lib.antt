@@ -1,0 +1,9 @@
+pub mod Settling
+pub mod Constants
+pub mod Permits
+pub mod Follow
+pub mod Lead
+pub mod Spans
+pub mod Kept
+pub mod Versions
+pub mod Sequence

@@ -1,0 +1,58 @@
+-- The whole monitor, one version after another.
+use Rattle.std.specs.Prelude.{◌≡◌, ℕ, zero, suc, ◌+◌, Bool, true, false, ◌==◌, ◌&&◌, not, List, [], ◌∷◌, length, Option, Some, None, if◌then◌else◌}
+use Rattle.nv_calls.specs.Calls.{Request, Response, Entry}
+use Rattle.nv_calls.specs.Logs.{Start}
+use Rattle.nv_threads.specs.Behaviours.{Behaviour}
+use Rattle.nv_replay.specs.declared.fate.Fate.{Fate}
+use Rattle.nv_replay.specs.declared.standing.Standing.{Standing}
+use Rattle.nv_replay.specs.declared.fate.Fate.TheVariants.{Exited, Fault as Faulted, Refused, Memory}
+use Rattle.nv_replay.specs.Follow.{Follower, Judge, fresh, follow, is_exited}
+use Rattle.nv_replay.specs.Lead.{Leader, lead, cut_of}
+
+-- the log, and what there is to tell of each version
+pub record Account : Type 0 where
+  pub log : List Entry
+  pub lines : List Standing
+
+-- a version that came to its fate as a follower
+abbrev pub follower_line : {P : Type 0} → Follower P → Standing
+follower_line f = record { fate = f.fate; seen = f.seen; led = []; rewrites = f.rewrites }
+
+-- a version that followed this far and then led
+abbrev pub leader_line : {P : Type 0} → Follower P → Leader P → Standing
+leader_line f l = record { fate = l.fate; seen = length l.log; led = (f.seen, length l.log) ∷ []; rewrites = f.rewrites }
+
+abbrev pub is_on : Option Fate → Bool
+is_on None = true
+is_on (Some fate) = false
+
+-- whether a version that followed the whole log leads on
+abbrev pub leads : {P : Type 0} → Bool → Follower P → Bool
+leads over f = not over && is_on f.fate
+
+-- the cuts that an account tells: where a version wanted memory, and at which length of the log
+abbrev pub cuts_of : List Standing → ℕ → Option ℕ
+cuts_of [] i = None
+cuts_of (line ∷ lines) zero = cut_of line.fate line.seen
+cuts_of (line ∷ lines) (suc i) = cuts_of lines i
+
+module _ {P : Type 0} (g : Behaviour P) (judges : ℕ → Judge) (start : Start) (most : ℕ) (cuts : ℕ → Option ℕ) where
+  -- the versions behind go on from what the leader leaves
+  abbrev pub before_leader : Follower P → Leader P → (List Entry → Bool → Account) → Account
+  before_leader f l others = record { log = (others l.log (is_exited l.fate)).log; lines = leader_line f l ∷ (others l.log (is_exited l.fate)).lines }
+
+  abbrev pub before_follower : ℕ → P → Account → Account
+  before_follower i p a = record { log = a.log; lines = follower_line (follow g (judges i) a.log (fresh p)) ∷ a.lines }
+
+  -- version i, once it has followed the log so far: it leads, or follows the whole log in the end
+  abbrev pub turn : ℕ → P → (List Entry → Bool → Account) → List Entry → Bool → Follower P → Bool → Account
+  turn i p others log over f true = before_leader f (lead g start most (cuts i) (record { process = f.process; log = log; fate = None })) others
+  turn i p others log over f false = before_follower i p (others log over)
+
+  -- the versions from number i on, behind the log of those before; over where one of those has exited
+  unfoldable pub sequence_from : List P → ℕ → List Entry → Bool → Account
+  sequence_from [] i log over = record { log = log; lines = [] }
+  sequence_from (p ∷ ps) i log over = turn i p (λ l o. sequence_from ps (i + 1) l o) log over (follow g (judges i) log (fresh p)) (leads over (follow g (judges i) log (fresh p)))
+
+  abbrev pub sequence : List P → Account
+  sequence ps = sequence_from ps 0 [] false

@@ -1,0 +1,18 @@
+//! One version: how it follows the log of another version, and how it leads.
+#![tactic(auto)]
+
+mod account;
+mod fate;
+mod spans;
+mod standing;
+mod verdict;
+mod version;
+mod whole_log;
+
+pub use account::Account;
+pub use fate::Fate;
+pub use spans::Spans;
+pub use standing::Standing;
+pub use verdict::Verdict;
+pub use version::{Followed, Led, Version};
+pub use whole_log::follow_all;

@@ -1,0 +1,61 @@
+// The parts of a log that a version has led.
+ghost use Rattle.std.specs.Prelude.{◌≡◌, [], ◌∷◌, IfOk};
+ghost use Rattle.nv_replay.specs.Spans.{grown, EndBy};
+
+use std::alloc::{AllocError, Global};
+use std::marker::Model;
+
+/// The parts of a log that a version has led: each covers the events from its first number to below its second.
+#[derive(Drop)]
+pub struct Spans {
+    held: Vec<(u32, u32)>,
+}
+
+impl Model for Spans {
+    ghost use Rattle.std.specs.Prelude.{◌≤◌, ℕ, List, vec_capacity};
+
+    ghost Value = { List (ℕ × ℕ) };
+
+    ghost view = { λ s. s.held.items };
+
+    ghost invariant = { λ s. 1 ≤ vec_capacity s.held };
+}
+
+impl Spans {
+    /// None yet, with memory for one.
+    pub fn make(alloc: Global) -> Result<Spans, AllocError>
+        ensures { IfOk result (λ s. s ≡ []) }
+    {
+        let held = Vec::with_capacity(alloc, 1)?;
+        Ok(Spans { held })
+    }
+
+    /// The first begins at this event.
+    pub fn begin(&mut self, at: u32)
+        requires { self.old ≡ [] }
+        ensures { self.new ≡ (at, at) ∷ [] }
+    {
+        match self.held.push((at, at)) {
+            Ok(()) => {}
+            Err(_) => unreachable!(),
+        }
+    }
+
+    /// The last one has one event more.
+    pub fn grow(&mut self)
+        requires { EndBy 131071 self.old }
+        ensures { self.new ≡ grown self.old }
+    {
+        let count = self.held.len();
+        if count > 0 {
+            self.held[count - 1].1 += 1;
+        }
+    }
+
+    /// In order.
+    pub fn as_slice(&self) -> &[(u32, u32)]
+        ensures { result.now ≡ self.now }
+    {
+        self.held.as_slice()
+    }
+}

@@ -1,0 +1,4 @@
+pub mod Pairs
+pub mod Values
+pub mod Machines
+pub mod Verdicts

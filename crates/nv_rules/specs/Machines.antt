@@ -1,0 +1,32 @@
+-- The code's machine as the definitions see it.
+use Rattle.std.specs.Prelude.{ℕ, ◌<◌, ◌/◌, Option, Some, None}
+use Rattle.nv_bpf.specs.declared.op.Op.{Op}
+use Rattle.nv_bpf.specs.declared.action.Action.{Action}
+use Rattle.nv_bpf.specs.declared.action.Action.TheVariants.{LoadWord, LoadScratch, Store}
+use Rattle.nv_bpf.specs.Actions.{action_of}
+use Rattle.nv_rules.specs.declared.machine.Machine.{Machine}
+use Rattle.nv_rules.specs.declared.machine.Step.{Step}
+use Rattle.nv_rules.specs.declared.machine.Step.TheVariants.{Return, Forward}
+use Rattle.nv_rules.specs.Values.{State, Outcome, Ends, Goes}
+
+abbrev pub state_of : Machine → State
+state_of m = record { accumulator = m.accumulator; index = m.index; scratch = m.scratch }
+
+abbrev pub outcome_of : Step → Machine → Outcome
+outcome_of (Return value) m = Ends value
+outcome_of (Forward n) m = Goes n (state_of m)
+
+-- the places that an instruction reads or writes are there
+abbrev pub IsUsable : Action → ℕ → Type 0
+IsUsable LoadWord k = k / 4 < 33
+IsUsable (LoadScratch r) k = k < 16
+IsUsable (Store r) k = k < 16
+IsUsable _ k = Unit {0}
+
+abbrev pub IsKnown : Option Action → ℕ → Type 0
+IsKnown None k = ⊥
+IsKnown (Some a) k = IsUsable a k
+
+-- the instruction has an action, and its places are there
+abbrev pub IsSound : Op → Type 0
+IsSound op = IsKnown (action_of op.code) op.k

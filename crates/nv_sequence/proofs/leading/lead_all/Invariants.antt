@@ -1,0 +1,15 @@
+use Rattle.std.proofs.Common.{◌≡◌}
+use Rattle.nv_threads.specs.Threads.{threads}
+use Rattle.nv_threads.specs.ThreadLaws.{thread_laws}
+use Rattle.nv_replay.specs.Versions.{leader_of}
+use Rattle.nv_replay.proofs.Falling.{lead_size}
+use Rattle.nv_sequence.proofs.Wholly.{LedSo}
+use Rattle.nv_sequence.proofs.leading.lead_all.Given as goal
+
+abbrev pub invariant-loop-on : goal.invariant-loop-on
+invariant-loop-on g l =
+    LedSo threads thread_laws (g.K.SyscallKernel.start l.initial.kernel) l.most l.initial.version l.version (g.K.SyscallKernel.log l.initial.kernel) (g.K.SyscallKernel.log l.kernel) l.on
+    × (g.K.SyscallKernel.start l.kernel ≡ g.K.SyscallKernel.start l.initial.kernel)
+
+abbrev pub decreases-loop-on : goal.decreases-loop-on
+decreases-loop-on g l = lead_size threads (leader_of l.version (g.K.SyscallKernel.log l.kernel))

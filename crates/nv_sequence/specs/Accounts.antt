@@ -1,0 +1,42 @@
+-- What a run begins with and what its account is.
+use Rattle.std.specs.Prelude.{◌≡◌, ℕ, ◌+◌, ◌≤◌, Bool, true, false, List, [], ◌∷◌, ◌++◌, length, Option, Some, None}
+use Rattle.nv_calls.specs.Calls.{Entry}
+use Rattle.nv_calls.specs.Logs.{Start}
+use Rattle.nv_threads.specs.Behaviours.{Behaviour}
+use Rattle.nv_replay.specs.Follow.{is_exited}
+use Rattle.nv_replay.specs.Lead.{cut_of}
+use Rattle.nv_replay.specs.declared.standing.Standing.{Standing}
+use Rattle.nv_replay.specs.Sequence.{is_on}
+use Rattle.nv_replay.specs.Versions.{Running, IsFresh}
+use Rattle.nv_sequence.specs.Turns.{HasLed}
+
+-- versions as they were made, with the numbers from this one on
+abbrev pub AreFresh : {P : Type 0} → Behaviour P → ℕ → List (Running P) → Type 0
+AreFresh g i [] = Unit {0}
+AreFresh g i (r ∷ rs) = IsFresh g i r × AreFresh g (i + 1) rs
+
+-- the cuts are those that the lines tell
+abbrev pub AreCuts : ℕ → List Standing → (ℕ → Option ℕ) → Type 0
+AreCuts i [] cuts = Unit {0}
+AreCuts i (line ∷ lines) cuts = (cuts i ≡ cut_of line.fate line.seen) × AreCuts (i + 1) lines cuts
+
+abbrev pub with_span : {P : Type 0} → Running P → ℕ → Running P
+with_span r n = record r { led = (n, n) ∷ [] }
+
+-- a version has led, or was passed over
+abbrev pub TurnDone : {P : Type 0} → Behaviour P → Start → ℕ → Bool → Running P → Running P → List Entry → List Entry → Bool → Bool → Type 0
+TurnDone g start most over old new log new_log result true = HasLed g start most (with_span old (length log)) new log new_log × (result ≡ is_exited new.at.fate)
+TurnDone g start most over old new log new_log result false = (new ≡ old) × (new_log ≡ log) × (result ≡ over)
+
+-- a log that begins with another
+abbrev pub IsLonger : List Entry → List Entry → Type 0
+IsLonger log new = (more : List Entry) × (new ≡ log ++ more)
+
+-- a version has a fate, and has led at most one part of the log
+pub record IsSettled (line : Standing) : Type 0 where
+  pub fated : is_on line.fate ≡ false
+  pub span : length line.led ≤ 1
+
+abbrev pub AreSettled : List Standing → Type 0
+AreSettled [] = Unit {0}
+AreSettled (line ∷ lines) = IsSettled line × AreSettled lines

@@ -1,0 +1,4 @@
+pub mod Behaviours
+pub mod Kept
+pub mod Threads
+pub mod ThreadLaws
