@@ -3,8 +3,8 @@ use Rattle.std.proofs.Common.{◌≡◌, ℕ, zero, suc, ◌+◌, ◌<◌, List,
 use Rattle.std.specs.Prelude.{slice_get}
 use Rattle.std.proofs.lemmas.List.{length-map, take_more}
 use Rattle.std.proofs.lemmas.Option.{same_Some}
-use Rattle.atomic_table.proofs.Lists.{at_index, at_last, at_map}
-use mathlib.Core.Option.{some, some-injective}
+use Rattle.atomic_table.proofs.Lists.{at_index, at_map}
+use mathlib.Core.Option.{some}
 use lib.ListN.{get_elem?}
 use Rattle.nv_calls.specs.Calls.{Entry, entry}
 use Rattle.nv_calls.specs.declared.calls.Event.{Event}
@@ -12,7 +12,7 @@ use Rattle.nv_calls.specs.LogLaws.{slice_some}
 use Rattle.nv_words.specs.Spell.{IsWhole, spell}
 use Rattle.nv_words.specs.Begins.{Begins}
 use Rattle.nv_words.specs.SpellLaws.{spell_whole}
-use Rattle.nv_room.proofs.Spells.{shorter}
+use Rattle.nv_words.specs.SpellLaws.{shorter}
 
 pub take_len : {A : Type 0} (xs : List A) (n : ℕ) → n ≡ length xs → take n xs ≡ xs
 take_len {A} xs n h = subst (λ (k : ℕ). take k xs ≡ xs) (sym h) (all xs)
@@ -27,10 +27,6 @@ entry_at history log n x is near at =
     let long : length history ≡ length log = sym (length-map history entry) ∙ ap (λ (z : List Entry). length z) is in
     let here : get_elem? history n ≡ some x = at_index history n x (omega arith) at in
     slice_some log n (entry x) (ap (λ (z : List Entry). get_elem? z n) (sym is) ∙ at_map entry history n x here)
-
--- the events that are published, where none is due
-pub all_spelt : (log : List Entry) (n : ℕ) (seen : List (List ℕ)) → take n (map spell log) ≡ seen → length log ≡ n → map spell log ≡ seen
-all_spelt log n seen is long = sym (take_len (map spell log) n (sym (length-map log spell ∙ long))) ∙ is
 
 -- all but the last, and the last
 pub last_spelt : (log : List Entry) (n : ℕ) (e : Entry) → length log ≡ n + 1 → slice_get log n ≡ Some e → map spell log ≡ take n (map spell log) ++ spell e ∷ []
@@ -48,11 +44,3 @@ one_more wrote i w s is l at = (λ k. is k ++ at k ∷ []) ∙ sym (take_more s 
 
 pub as_long : (wrote : List ℕ) (i : ℕ) (s : List ℕ) → wrote ≡ take i s → i < length s → i ≡ length wrote
 as_long wrote i s is l = sym (ap length is ∙ length-take i s ∙ (omega arith))
-
-pub map_more : {A B : Type 0} (f : A → B) (xs : List A) (x : A) → map f (xs ++ x ∷ []) ≡ map f xs ++ f x ∷ []
-map_more f [] x = refl
-map_more f (y ∷ ys) x = ap (λ z. f y ∷ z) (map_more f ys x)
-
--- two lists with one more each
-pub same_last : {A : Type 0} (xs ys : List A) (x y : A) → xs ≡ ys → xs ++ x ∷ [] ≡ ys ++ y ∷ [] → x ≡ y
-same_last {A} xs ys x y e h = some-injective x y (sym (at_last xs x (length ys) (ap (λ (z : List A). length z) e)) ∙ ap (λ (z : List A). get_elem? z (length ys)) h ∙ at_last ys y (length ys) refl)

@@ -17,8 +17,9 @@ use Rattle.std.specs.List.{take-map}
 use Rattle.nv_words.specs.Begins.{Prefix}
 use Rattle.nv_room.specs.Room.{Log, cursor, spot, Places, InRole, Carries, tag, Live, Rule}
 use Rattle.nv_room.specs.Steps.{head_seen, looked_head, word_seen, read_word, one_on, advanced, cursor_seen, looked_cursor, Tells}
-use Rattle.nv_room.proofs.Lists.{at_below, there, at_end, set_or, prefix_length, prefix_take}
-use Rattle.nv_room.proofs.Spells.{whole_same, shorter}
+use Rattle.nv_room.proofs.Lists.{at_below, there, at_end, set_or, prefix_take}
+use Rattle.nv_words.specs.SpellLaws.{prefix_length}
+use Rattle.nv_words.specs.SpellLaws.{whole_same, shorter}
 use Rattle.nv_room.proofs.Stays.{Own, looked, moved}
 
 -- after a write of the cursor of i

@@ -1,10 +1,10 @@
 -- A thread that makes calls that do not end it lives on.
-use Rattle.std.proofs.Common.{◌≡◌, ◌∙◌, sym, ap, subst, refl, ℕ, zero, suc, ◌+◌, ◌<◌, ◌≤◌, Bool, true, false, List, [], ◌∷◌, ◌++◌, length, Option, Some, None, arith, cond}
+use Rattle.std.proofs.Common.{◌≡◌, sym, subst, ℕ, zero, Bool, true, false, List, [], ◌∷◌, ◌++◌, Option, Some, None, arith, cond}
 use Rattle.std.specs.Prelude.{◌==◌, not, filter, Contains}
 use Rattle.std.proofs.lemmas.List.Elements.{Contains-append_left}
 use Rattle.std.proofs.lemmas.Bool.Decides.{nat_tests}
-use Rattle.nv_calls.specs.Calls.{Request, Entry}
-use Rattle.nv_calls.specs.Logs.{Start, served, child_of, with_child, live_after, live_next}
+use Rattle.nv_calls.specs.Calls.{Entry}
+use Rattle.nv_calls.specs.Logs.{child_of, with_child, live_after}
 use Rattle.nv_calls.specs.LogLaws.{live_more}
 use Rattle.nv_room_tests.specs.Going.{GoesOn}
 

@@ -1,11 +1,11 @@
 -- Readers in the order of their stations.
-use Rattle.std.proofs.Common.{◌≡◌, ℕ, zero, suc, ◌+◌, ◌<◌, List, [], ◌∷◌, length, get_or, sym, ap, ◌∙◌, arith}
+use Rattle.std.proofs.Common.{◌≡◌, ℕ, zero, suc, ◌+◌, ◌<◌, List, [], ◌∷◌, length, get_or, sym, arith}
 use mathlib.Core.Option.{some, some-injective, some-ne-none}
 use lib.ListN.{get_elem?}
 use Rattle.nv_calls.specs.declared.kernel.SyscallKernel.{Ghosts}
 use Rattle.nv_room.specs.declared.room.Room.{Room}
 use Rattle.nv_room.specs.declared.room.Reader.{Reader}
-use Rattle.nv_room.specs.Seats.{IsOfRoom, FreshReaders, AllSeats, view, station_of_reader}
+use Rattle.nv_room.specs.Seats.{AllSeats}
 use Rattle.nv_room_tests.specs.Backs.{InOrder}
 
 pub at_below : {A : Type 0} (l : List A) (i : ℕ) (a : A) → get_elem? l i ≡ some a → i < length l

@@ -1,5 +1,5 @@
 -- An event has one spelling, different events have different spellings, and none begins another.
-use Rattle.std.proofs.Common.{◌≡◌, ℕ, zero, suc, ◌+◌, ◌*◌, ◌/◌, ◌%◌, ◌-◌, ◌<◌, ◌≤◌, Bool, true, false, List, [], ◌∷◌, ◌++◌, map, length, take, drop, get_or, subst, sym, ap, ◌∙◌, refl, arith, rules, length-append}
+use Rattle.std.proofs.Common.{◌≡◌, ℕ, zero, suc, ◌+◌, ◌*◌, ◌/◌, ◌%◌, ◌-◌, ◌<◌, ◌≤◌, Bool, true, false, List, [], ◌∷◌, ◌++◌, map, length, take, drop, get_or, subst, sym, ap, ◌∙◌, refl, arith, rules, lt_of_not-le, length-append}
 use Rattle.std.specs.Prelude.{◌==◌}
 use Rattle.std.specs.List.{range_with_len, flat_map}
 use Rattle.std.specs.Int.{cast_signed}
@@ -11,6 +11,8 @@ use Rattle.std.proofs.lemmas.Nat.{le_bytes_8}
 use mir.Val.{of_z}
 use mir.Syntax.{w32}
 use Rattle.std.proofs.Math.Facts.{Fits-of_z}
+use mathlib.Core.Logic.{dite}
+use native.Mathlib.Decide.{dec_le}
 use mathlib.Core.Option.{some, some-injective, some-ne-none}
 use lib.ListN.{get_elem?}
 use Rattle.byteorder.specs.Endian.{little_from, little_bytes}
@@ -215,12 +217,21 @@ prefix_get (x ∷ xs) [] i h l = absurd (some-ne-none x (sym (h 0 x refl)))
 prefix_get (x ∷ xs) (y ∷ ys) zero h l = sym (some-injective y x (h 0 x refl))
 prefix_get (x ∷ xs) (y ∷ ys) (suc i) h l = prefix_get xs ys i (λ k z f. h (suc k) z f) (omega arith)
 
+-- whole words that begin whole words are those
+pub whole_same : (words all : List ℕ) → Prefix words all → IsWhole words → IsWhole all → words ≡ all
+whole_same words all p w u =
+    let fifth = prefix_get words all 5 p (omega arith) in
+    prefix_same words all (w.1 ∙ ap (λ (z : ℕ). 6 + payload_words z) fifth ∙ sym u.1) p
+
+-- words that aren't whole are fewer than the whole words that they begin
+pub shorter : (words all : List ℕ) → Prefix words all → IsWhole all → ¬ IsWhole words → length words < length all
+shorter words all p u part = dite (dec_le (length all) (length words))
+    (λ le. let ge = prefix_length words all p in let same : length words ≡ length all = omega arith in absurd (part (subst IsWhole (sym (prefix_same words all same p)) u)))
+    (λ not. lt_of_not-le not)
+
 -- whole words that begin a spelling are that spelling
 pub whole_is : (words : List ℕ) (e : Entry) → InRange e → IsWhole words → Prefix words (spell e) → words ≡ spell e
-whole_is words e ok w p =
-    let other = (spell_whole e ok).0 in
-    let fifth = prefix_get words (spell e) 5 p (omega arith) in
-    prefix_same words (spell e) (w.1 ∙ ap (λ (z : ℕ). 6 + payload_words z) fifth ∙ sym other.1) p
+whole_is words e ok w p = whole_same words (spell e) p w (spell_whole e ok).0
 
 -- no spelling begins another event's
 pub spell_alone : (e f : Entry) → InRange e → InRange f → Prefix (spell e) (spell f) → e ≡ f

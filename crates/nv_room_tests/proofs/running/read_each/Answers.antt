@@ -1,7 +1,5 @@
-use Rattle.std.proofs.Common.{rules, ◌≡◌, ◌∙◌, ◌<◌, ◌+◌, ℕ, length, arith, sym, ap, subst, get_or}
+use Rattle.std.proofs.Common.{rules, ◌≡◌, ◌∙◌, length, arith, sym, ap, subst, get_or}
 use Rattle.nv_room.specs.Seats.{IsOfRoom, station_of_reader}
-use mathlib.Core.Option.{some}
-use lib.ListN.{get_elem?}
 use Rattle.atomic_table.proofs.Lists.{at_index}
 use Rattle.nv_room_tests.proofs.Orders.{at_below, at_value}
 use Rattle.nv_room_tests.proofs.running.read_each.Goals as goal

@@ -1,4 +1,4 @@
-use Rattle.std.proofs.Common.{rules, ◌≡◌, ◌∙◌, ◌+◌, ℕ, length, arith, sym, ap, subst}
+use Rattle.std.proofs.Common.{◌≡◌, length, arith, subst}
 use Rattle.std.specs.Prelude.{IfOk}
 use Rattle.nv_room_tests.specs.Backs.{InOrder}
 use Rattle.nv_room_tests.proofs.Orders.{all_seats}

@@ -1,4 +1,4 @@
-use Rattle.std.proofs.Common.{rules, refl, arith, sym, ap, ◌∙◌, subst, ◌≡◌, ◌+◌, ℕ, List, [], ◌∷◌, ◌++◌, length, length-append}
+use Rattle.std.proofs.Common.{refl, arith, sym, ap, ◌∙◌, subst, ◌≡◌, List, [], ◌∷◌, ◌++◌, length, length-append}
 use Rattle.std.specs.Prelude.{Contains}
 use Rattle.nv_calls.specs.Calls.{Entry, request}
 use Rattle.nv_calls.specs.Logs.{served, live_after}
