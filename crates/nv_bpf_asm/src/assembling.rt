@@ -1,5 +1,5 @@
 // The assembler of rule texts.
-ghost use Rattle.std.specs.Prelude.{◌≡◌, ◌≢◌, Ok, Err, option_map, IfOk, IfErr};
+ghost use Rattle.std.specs.Prelude.{◌≡◌, ◌≢◌, Ok, Err, ◌++◌, option_map, option_to_list, IfOk, IfErr, OnOk};
 ghost use Rattle.nv_text.specs.Lines.{lines};
 ghost use Rattle.nv_text.specs.Names.{defined};
 ghost use Rattle.nv_text.specs.Parts.{parts_of};
@@ -73,6 +73,16 @@ fn line_number(line: usize) -> u32
     u32::try_from(line).unwrap_or(u32::MAX).saturating_add(1)
 }
 
+fn push_op(ops: &mut Vec<Op>, op: Option<Op>) -> Result<(), AllocError>
+    ensures { OnOk result (ops.new.items ≡ ops.old.items ++ option_to_list op) }
+{
+    if let Some(op) = op {
+        ops.push(op)?;
+    }
+    Ok(())
+}
+
+// The instructions of a text, or the first fault of its lines.
 fn ops_of(alloc: Global, names: &Names<Label>, text: &[u8]) -> Result<Vec<Op>, RuleFault>
     ensures ops { IfOk result (λ ops. ops_of (defined names.now) 0 0 (lines text.now) ≡ Ok ops.items) }
     ensures fault { IfErr result (λ fault. fault ≢ RuleFault.Memory → ops_of (defined names.now) 0 0 (lines text.now) ≡ Err fault) }
@@ -84,11 +94,11 @@ fn ops_of(alloc: Global, names: &Names<Label>, text: &[u8]) -> Result<Vec<Op>, R
     while !rest.is_empty() {
         let (first, behind) = split_line(rest);
         let parts = line_parts(first);
-        match op_of_parts(alloc, names, line, place, parts)? {
+        let op = match op_of_parts(alloc, names, line, place, parts)? {
+            Ok(op) => op,
             Err(cause) => return Err(RuleFault::Line(line_number(line), cause)),
-            Ok(None) => (),
-            Ok(Some(op)) => ops.push(op)?,
-        }
+        };
+        push_op(&mut ops, op)?;
         place += word_count(parts.word);
         line += 1;
         rest = behind;

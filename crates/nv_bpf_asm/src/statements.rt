@@ -200,7 +200,13 @@ fn formed<'a>(form: Form, operands: &[&'a [u8]]) -> Option<Statement<'a>>
         },
         [operand] => of_one(form, operand),
         [value, holds, fails] => match form {
-            Form::Branch(by_constant, by_index) => branch(by_constant, by_index, value, holds, fails),
+            Form::Branch(by_constant, by_index) => branch(
+                by_constant,
+                by_index,
+                value,
+                holds,
+                fails,
+            ),
             _ => None,
         },
         _ => None,
@@ -209,7 +215,11 @@ fn formed<'a>(form: Form, operands: &[&'a [u8]]) -> Option<Statement<'a>>
 
 /// The statement of a word and what stands behind it.
 #[tactic(auto, unfolding(crate::specs::Statements::statement))]
-pub fn statement_of<'a>(alloc: Global, word: &[u8], rest: &'a [u8]) -> Result<Result<Statement<'a>, RuleCause>, AllocError>
+pub fn statement_of<'a>(
+    alloc: Global,
+    word: &[u8],
+    rest: &'a [u8],
+) -> Result<Result<Statement<'a>, RuleCause>, AllocError>
     ensures { IfOk result (λ stated. result_view stated ≡ statement word.now rest.now) }
 {
     let Some(form) = form_of(word) else {

@@ -67,7 +67,12 @@ fn branch_op(
     ensures { result ≡ branch_op place code k holds fails }
 {
     match (holds, fails) {
-        (Some(holds), Some(fails)) => branch_by(code, k, near_way(place, holds), near_way(place, fails)),
+        (Some(holds), Some(fails)) => branch_by(
+            code,
+            k,
+            near_way(place, holds),
+            near_way(place, fails),
+        ),
         _ => Err(RuleCause::Label),
     }
 }
