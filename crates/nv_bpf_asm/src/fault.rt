@@ -1,0 +1,47 @@
+// Why a rule text is no filter.
+ghost use Rattle.std.specs.Prelude.{◌≡◌};
+ghost use Rattle.nv_bpf_asm.specs.declared.fault.RuleFault.TheVariants.{Memory};
+
+use nv_bpf::FilterFault;
+use std::alloc::{AllocError, AllocFailed};
+
+/// Why a line of a rule text has no instruction.
+#[derive(Clone, Copy, Debug, PartialEq, Eq)]
+pub enum RuleCause {
+    /// A label that is defined on an earlier line.
+    Twice,
+    /// No such instruction.
+    Word,
+    /// Operands that the instruction doesn't take.
+    Operand,
+    /// A label that isn't defined.
+    Label,
+    /// A target that isn't after the jump, or is too far behind it.
+    Far,
+}
+
+/// Why a rule text is no filter.
+#[derive(Clone, Copy, Debug, PartialEq, Eq)]
+pub enum RuleFault {
+    /// The first faulty line, counted from 1, and its first cause.
+    Line(u32, RuleCause),
+    /// The fault of the instructions.
+    Filter(FilterFault),
+    Memory,
+}
+
+impl From<AllocError> for RuleFault {
+    ghost from_gives = { λ _ fault. fault ≡ Memory };
+
+    fn from(_: AllocError) -> Self {
+        RuleFault::Memory
+    }
+}
+
+impl<T: Drop> From<AllocFailed<T>> for RuleFault {
+    ghost from_gives = { λ _ fault. fault ≡ Memory };
+
+    fn from(_: AllocFailed<T>) -> Self {
+        RuleFault::Memory
+    }
+}

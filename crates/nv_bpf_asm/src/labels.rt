@@ -1,0 +1,55 @@
+// The labels of a rule text.
+ghost use Rattle.std.specs.Prelude.{◌≡◌, ◌≤◌, ℕ, List, length, IfOk};
+ghost use Rattle.std.specs.List.{prefix_len};
+ghost use Rattle.nv_text.specs.Lines.{lines};
+ghost use Rattle.nv_text.specs.Names.{defined};
+ghost use Rattle.nv_text.specs.Parts.{parts_of};
+ghost use Rattle.nv_bpf_asm.specs.Assembled.{is_not_comment, line_parts, word_count, labels};
+
+use crate::label::Label;
+use nv_text::{Line, Names, line_of, split_line};
+use std::alloc::{AllocError, Global};
+
+// How many bytes stand before the comment.
+fn comment_place(line: &[u8]) -> usize
+    ensures count { result ≡ prefix_len is_not_comment line.now }
+    ensures inside { result ≤ length line.now }
+{
+    line.iter().take_while(|byte| **byte != b';').count()
+}
+
+/// The parts of a line, without its comment.
+#[tactic(auto, unfolding(crate::specs::Assembled::line_parts))]
+pub fn line_parts(line: &[u8]) -> Line<'_>
+    ensures { parts_of result ≡ line_parts line.now }
+{
+    line_of(&line[..comment_place(line)])
+}
+
+/// How many instructions a line with this first word has.
+pub fn word_count(word: &[u8]) -> usize
+    ensures { result ≡ word_count word.now }
+{
+    if word.is_empty() { 0 } else { 1 }
+}
+
+/// What each label of a text is first defined as.
+pub fn labels<'a>(alloc: Global, text: &'a [u8]) -> Result<Names<'a, Label>, AllocError>
+    ensures { IfOk result (λ names. (name : List ℕ) → defined names name ≡ defined (labels 0 0 (lines text.now)) name) }
+{
+    let mut names = Names::new(alloc);
+    let mut rest = text;
+    let mut line = 0usize;
+    let mut place = 0usize;
+    while !rest.is_empty() {
+        let (first, behind) = split_line(rest);
+        let parts = line_parts(first);
+        if let Some(name) = parts.label {
+            names.define(name, Label { line, place })?;
+        }
+        place += word_count(parts.word);
+        line += 1;
+        rest = behind;
+    }
+    Ok(names)
+}

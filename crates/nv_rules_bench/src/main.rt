@@ -1,0 +1,62 @@
+//! Values of a filter whose every instruction runs, for a script that takes the time.
+//! The two arguments say how many instructions it has and how many values are asked for.
+#![tactic(auto)]
+
+use nv_bpf::{Filter, FilterFault, Op, verify};
+use nv_rules::{Pair, value};
+use std::alloc::{AllocError, Global};
+use std::{env, io};
+
+// Loads the version's index, adds 1 again and again, and returns the sum.
+fn adding_filter(alloc: Global, count: u32) -> Result<Result<Filter, FilterFault>, AllocError> {
+    let mut ops = Vec::new(alloc);
+    ops.push(Op {
+        code: 0x20,
+        jt: 0,
+        jf: 0,
+        k: 128,
+    })?;
+    for _ in 0..count.saturating_sub(2) {
+        ops.push(Op {
+            code: 0x04,
+            jt: 0,
+            jf: 0,
+            k: 1,
+        })?;
+    }
+    ops.push(Op {
+        code: 0x16,
+        jt: 0,
+        jf: 0,
+        k: 0,
+    })?;
+    Ok(verify(ops))
+}
+
+// The sum of the values for the versions below a number.
+fn sum_of_values(filter: &Filter, versions: u32) -> u32 {
+    let mut pair = Pair { words: [0; 33] };
+    let mut sum = 0u32;
+    for version in 0..versions {
+        pair.words[32] = version;
+        sum = sum.wrapping_add(value(filter, &pair));
+    }
+    sum
+}
+
+fn number(word: Option<&String>, default: u32) -> u32 {
+    match word {
+        Some(word) => word.as_str().parse().unwrap_or(default),
+        None => default,
+    }
+}
+
+fn main(rt: HostRuntime) -> io::Result<()> {
+    let words: Vec<String> = env::args(&rt)?.collect(rt.alloc())?;
+    let count = number(words.get(1), 10);
+    let versions = number(words.get(2), 1000);
+    match adding_filter(rt.alloc(), count)? {
+        Ok(filter) => println!(rt; "{count} {versions} {}", sum_of_values(&filter, versions)),
+        Err(fault) => println!(rt; "{fault:?}"),
+    }
+}
