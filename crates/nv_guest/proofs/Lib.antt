@@ -1,4 +1,3 @@
-pub mod Going
 pub mod Shaped
 pub mod Strings
 pub mod Placed

@@ -1,4 +1,3 @@
-pub mod Machine
 pub mod Guest
 pub mod Calls
 pub mod Block

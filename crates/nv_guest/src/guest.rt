@@ -1,12 +1,10 @@
 // A guest with one thread.
-ghost use Rattle.std.specs.Prelude.{◌≡◌, ◌≢◌, ◌≤◌, ◌<◌, ◌-◌, ℕ};
+ghost use Rattle.std.specs.Prelude.{◌≡◌, ◌≢◌, ◌≤◌};
 
-use crate::outcome::{Asked, Came};
+use crate::outcome::Asked;
 use nv_calls::Call;
-use nv_machine::{FaultKind, Regs, Stepped, step};
+use nv_machine::{Regs, Stepped, step};
 use nv_memory::Memory;
-
-const THREAD: u32 = 100;
 
 const MOST_BYTES: u32 = 4096;
 
@@ -15,13 +13,10 @@ const MOST_BYTES: u32 = 4096;
 pub struct Guest {
     pub(crate) regs: Regs,
     pub(crate) memory: Memory,
-    /// How many instructions it has run.
-    pub count: u32,
 }
 
 impl Guest {
     ghost use Rattle.nv_guest.specs.Guest.{machine_of};
-    ghost use Rattle.nv_guest.specs.Machine.{advance};
     ghost use Rattle.nv_guest.specs.Calls.{call_at, answered, write_call, other_call};
     ghost use Rattle.nv_calls.specs.Calls.{request};
     ghost use Rattle.nv_calls.specs.Shapes.{IsShaped};
@@ -31,39 +26,8 @@ impl Guest {
     pub fn step(&mut self, _tid: u32) -> Stepped
         ensures machine { guest_step (machine_of self.old) ≡ (result, (machine_of self.new)) }
         ensures kept { result ≢ Stepped.On → (machine_of self.new) ≡ (machine_of self.old) }
-        ensures count { self.new.count ≡ self.old.count }
     {
         step(&mut self.regs, &mut self.memory)
-    }
-
-    /// Goes on to the next call or fault, of at most so many instructions in all.
-    pub fn go(&mut self, budget: u32) -> Came
-        requires { self.old.count ≤ budget }
-        ensures paused { advance (budget - self.old.count) (machine_of self.old)
-            ≡ record { came = result; left = budget - self.new.count; machine = (machine_of self.new) } }
-        ensures count { self.new.count ≤ budget }
-        ensures thread { (tid : ℕ) → result ≡ Came.Asked tid → tid ≡ 100 }
-    {
-        while self.count < budget {
-            self.count += 1;
-            match self.step(THREAD) {
-                Stepped::On => {}
-                Stepped::Call => return Came::Asked(THREAD),
-                Stepped::Fault(kind) => return self.fault(kind),
-            }
-        }
-        self.fault(FaultKind::Budget)
-    }
-
-    // The fault of this kind, at the pc.
-    fn fault(&self, kind: FaultKind) -> Came
-        ensures { result ≡ Came.Fault kind 100 (machine_of self.now).regs.pc }
-    {
-        Came::Fault {
-            kind,
-            tid: THREAD,
-            pc: self.regs.pc,
-        }
     }
 
     /// The address of the thread's next instruction; at a call that of its ECALL.
@@ -126,7 +90,6 @@ impl Guest {
     /// Puts the result into a0 and goes past the call.
     pub fn answer(&mut self, _tid: u32, ret: i32, _payload: &[u8])
         ensures machine { (machine_of self.new) ≡ answered (machine_of self.old) ret }
-        ensures count { self.new.count ≡ self.old.count }
     {
         self.regs.set(10, ret.cast_unsigned());
         self.regs.pc = self.regs.pc.wrapping_add(4);

@@ -9,4 +9,4 @@ mod outcome;
 mod tests;
 
 pub use guest::Guest;
-pub use outcome::{Asked, Came, GuestFault};
+pub use outcome::{Asked, GuestFault};

@@ -1,6 +1,6 @@
-use crate::{Asked, Came, Guest, GuestFault};
+use crate::{Asked, Guest, GuestFault};
 use nv_calls::{Bytes, Call};
-use nv_machine::FaultKind;
+use nv_machine::{FaultKind, Stepped};
 use nv_memory::{Right, Width};
 use std::alloc::{AllocError, Global};
 use std::test::Fail;
@@ -51,7 +51,9 @@ fn one_call(rt: HostRuntime) -> Result<(), Fail> {
     let alloc = rt.alloc();
     let program = nv_elf::read(alloc, &FILE)?;
     let mut guest = Guest::make(alloc, &program, &[], 0x40000)?;
-    assert_eq!(rt; guest.go(10), Came::Asked(100));
+    assert_eq!(rt; guest.step(100), Stepped::On);
+    assert_eq!(rt; guest.step(100), Stepped::On);
+    assert_eq!(rt; guest.step(100), Stepped::Call);
     assert_eq!(rt; guest.pc(100), 0x10008);
     let mut call = Call {
         tid: 0,
@@ -66,12 +68,8 @@ fn one_call(rt: HostRuntime) -> Result<(), Fail> {
     assert!(rt; !call.bad);
     guest.answer(100, -38, &[]);
     assert_eq!(rt; guest.regs(100).get(10), 0xffff_ffda);
-    let fetch = Came::Fault {
-        kind: FaultKind::Fetch,
-        tid: 100,
-        pc: 0x1000c,
-    };
-    assert_eq!(rt; guest.go(10), fetch);
+    assert_eq!(rt; guest.step(100), Stepped::Fault(FaultKind::Fetch));
+    assert_eq!(rt; guest.pc(100), 0x1000c);
     Ok(())
 }
 
