@@ -30,19 +30,19 @@ equal a b e = (bytes_eq-Decides a b).0 e
 -- a name that is known stays as it is
 pub known-kept : {D : Type 0} (names : List (List ℕ × D)) (name : List ℕ) (d : D) → is_some (defined names name) ≡ true → (other : List ℕ) → defined names other ≡ knowing names name d other
 known-kept {D = D} names name d some other = step (bytes_eq other name) refl where
-    step : (same : Bool) → bytes_eq other name ≡ same → defined names other ≡ option_or (defined names other) (cond same (Some d) None)
-    step true e = or-some (defined names other) (Some d) (ap (λ n. is_some (defined names n)) (equal other name e) ∙ some)
-    step false e = or-none (defined names other)
+  step : (same : Bool) → bytes_eq other name ≡ same → defined names other ≡ option_or (defined names other) (cond same (Some d) None)
+  step true e = or-some (defined names other) (Some d) (ap (λ n. is_some (defined names n)) (equal other name e) ∙ some)
+  step false e = or-none (defined names other)
 
 -- a name that isn't known gets its definition
 pub known-added : {D : Type 0} (names now : List (List ℕ × D)) (name : List ℕ) (d : D) → defined names name ≡ None
     → ((other : List ℕ) → defined now other ≡ cond (bytes_eq name other) (Some d) (defined names other)) → (other : List ℕ) → defined now other ≡ knowing names name d other
 known-added {D = D} names now name d absent is other = is other ∙ step (bytes_eq name other) (bytes_eq other name) refl refl where
-    step : (x y : Bool) → bytes_eq name other ≡ x → bytes_eq other name ≡ y → cond x (Some d) (defined names other) ≡ option_or (defined names other) (cond y (Some d) None)
-    step true true e f = let none : defined names other ≡ None = ap (defined names) (sym (equal name other e)) ∙ absent in rw none refl
-    step true false e f = let same = (bytes_eq-Decides other name).1 (sym (equal name other e)) in cc
-    step false true e f = let same = (bytes_eq-Decides name other).1 (sym (equal other name f)) in cc
-    step false false e f = or-none (defined names other)
+  step : (x y : Bool) → bytes_eq name other ≡ x → bytes_eq other name ≡ y → cond x (Some d) (defined names other) ≡ option_or (defined names other) (cond y (Some d) None)
+  step true true e f = let none : defined names other ≡ None = ap (defined names) (sym (equal name other e)) ∙ absent in rw none refl
+  step true false e f = let same = (bytes_eq-Decides other name).1 (sym (equal name other e)) in cc
+  step false true e f = let same = (bytes_eq-Decides name other).1 (sym (equal other name f)) in cc
+  step false false e f = or-none (defined names other)
 
 pub none-from_test : {D : Type 0} (x : Option D) → is_some x ≡ false → x ≡ None
 none-from_test None e = refl
@@ -57,6 +57,6 @@ known-inserted {D = D} old new names name d view absent updates other =
     known-added names (named new) name d
     (ap (λ ds. defined ds name) (sym view) ∙ sym (lookup-named old name) ∙ none-from_test _ absent)
     (λ o. sym (lookup-named new o) ∙ updates (record { ref_ptr = (0, 0); now = o })
-        ∙ ap (λ t. cond t (Some d) (lookup (λ key. is_eq (slice_cmp nat_cmp o key.now)) old)) (is_eq-slice_cmp name o)
-        ∙ ap (λ found. cond (bytes_eq name o) (Some d) found) (lookup-named old o ∙ ap (λ ds. defined ds o) view))
+    ∙ ap (λ t. cond t (Some d) (lookup (λ key. is_eq (slice_cmp nat_cmp o key.now)) old)) (is_eq-slice_cmp name o)
+    ∙ ap (λ found. cond (bytes_eq name o) (Some d) found) (lookup-named old o ∙ ap (λ ds. defined ds o) view))
     other

@@ -44,7 +44,7 @@ asked_by m n None e w t h = let a = (comes n (proc m n None e) refl refl).asked 
 
 again_by : (m : Machine) (n : ℕ) (o : Option Request) (e : Option ℕ) (w : Want) (t : ℕ) → threads.came (proc m n o e) w ≡ Asked t
     → (threads.came (threads.after (proc m n o e) w) w ≡ Asked t) ×
-        (threads.after (threads.after (proc m n o e) w) w ≡ threads.after (proc m n o e) w)
+    (threads.after (threads.after (proc m n o e) w) w ≡ threads.after (proc m n o e) w)
 unfolding threads
 again_by m n (Some c) e w t h = (h, refl)
 again_by m n None e w t h = let a = (comes n (proc m n None e) refl refl).asked t h in (rw a.1 (ap Asked (sym a.0)), rw a.1 refl)

@@ -17,7 +17,7 @@ pub returns-in-empty : goal.returns-in-empty
 returns-in-empty c =
     pushed c.loop-pieces.pieces.items _ _ _ c.in_ok-push.ensures.items c.trim.ensures
     ∙ pieces-last (map shown c.loop-pieces.pieces.items) c.loop-pieces.rest.now c.split_at.result.0.now c.split_at.result.1.now c.piece_len.result
-        c.piece_len.ensures.count c.split_at.ensures.front c.split_at.ensures.back c.in-empty.len_below
+    c.piece_len.ensures.count c.split_at.ensures.front c.split_at.ensures.back c.in-empty.len_below
     ∙ c.loop-pieces.invariant
 
 pub loop-pieces-preserved : goal.loop-pieces-preserved
@@ -25,5 +25,5 @@ loop-pieces-preserved c =
     ap (λ xs. xs ++ map trim (slice_split is_comma (take (length c.split_at.result.1.now - 1) (drop 1 c.split_at.result.1.now))))
     (pushed c.loop-pieces.pieces.items _ _ _ c.in_ok-push.ensures.items c.trim.ensures)
     ∙ pieces-more (map shown c.loop-pieces.pieces.items) c.loop-pieces.rest.now c.split_at.result.0.now c.split_at.result.1.now _ c.piece_len.result
-        c.piece_len.ensures.count c.split_at.ensures.front c.split_at.ensures.back c.in-len1-up.len_at_least (take_rest c.split_at.result.1.now 1)
+    c.piece_len.ensures.count c.split_at.ensures.front c.split_at.ensures.back c.in-len1-up.len_at_least (take_rest c.split_at.result.1.now 1)
     ∙ c.loop-pieces.invariant

@@ -7,7 +7,7 @@ use Rattle.nv_text.proofs.words.trim_end.Given as goal
 abbrev pub invariant-loop-end : goal.invariant-loop-end
 invariant-loop-end l = record {
   inside : l.end ≤ length l.text;
-  blanks : l.end + suffix_len is_blank l.text ≡ length l.text + suffix_len is_blank (take l.end l.text)
+  blanks : l.end + suffix_len is_blank l.text ≡ length l.text + suffix_len is_blank (take l.end l.text);
 }
 
 abbrev pub decreases-loop-end : goal.decreases-loop-end
