@@ -9,7 +9,7 @@ use Rattle.nv_replay.specs.declared.standing.Standing.{Standing}
 use Rattle.nv_replay.specs.Follow.{is_exited}
 use Rattle.nv_replay.specs.Lead.{is_memory}
 use Rattle.nv_cli.specs.Account.{run_status}
-use Rattle.nv_cli.specs.Outcome.{Source, Outcome, Usage, NoMemory, NotRead, NotAccepted, Reported, CanBe, Answers, text_of, status_of, ended_with}
+use Rattle.nv_cli.specs.Outcome.{Source, Outcome, Usage, NoMemory, NotRead, NotAccepted, Reported, Made, CanBe, Answers, text_of, status_of, ended_with}
 use Rattle.nv_cli.specs.Rows.{IsReport, Refuses, FailsToRead}
 
 -- a run has one of three statuses
@@ -35,6 +35,7 @@ module _ (words : List (List ℕ)) (source : Source) (before after : Option (Lis
   refused NoMemory Whole can ends whole four = absurd (omega arith)
   refused (NotRead name) Whole can ends whole four = absurd (omega arith)
   refused (Reported account) Whole can ends whole four = absurd (not_four n (is_report account.lines n ends) four)
+  refused (Made text) Whole can ends whole four = absurd (omega arith)
   refused outcome Failed can ends whole four = absurd (omega arith)
 
   unread : (outcome : Outcome) (put : Put) → CanBe words source outcome → n ≡ ended_with put (status_of outcome)
@@ -44,6 +45,7 @@ module _ (words : List (List ℕ)) (source : Source) (before after : Option (Lis
   unread NoMemory Whole can ends whole five = absurd (omega arith)
   unread (NotAccepted name cause) Whole can ends whole five = absurd (omega arith)
   unread (Reported account) Whole can ends whole five = absurd (not_five n (is_report account.lines n ends) five)
+  unread (Made text) Whole can ends whole five = absurd (omega arith)
   unread outcome Failed can ends whole five = absurd (omega arith)
 
 module _ {words : List (List ℕ)} {source : Source} {before after : Option (List ℕ)} {n faults later : ℕ} where

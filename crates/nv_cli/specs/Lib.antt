@@ -1,5 +1,7 @@
 pub mod Words
 pub mod Prepared
+pub mod Made
+pub mod Unmade
 pub mod Account
 pub mod Refusals
 pub mod Outcome

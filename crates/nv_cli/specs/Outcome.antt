@@ -1,5 +1,5 @@
 -- What a call of the monitor may come to, and what is then written.
-use Rattle.std.specs.Prelude.{◌≡◌, ℕ, List, [], ◌∷◌, ◌++◌, Option, None, Some, codes, slice_get, unwrap_or}
+use Rattle.std.specs.Prelude.{◌≡◌, ◌⊎◌, ℕ, List, [], ◌∷◌, ◌++◌, Ok, Err, Option, None, Some, codes, slice_get, unwrap_or}
 use Rattle.std.specs.List.{concat}
 use Rattle.std.specs.Fmt.{decimal}
 use Rattle.nv_outside.specs.Counts.{Rose}
@@ -14,7 +14,16 @@ use Rattle.nv_machine.specs.Guest.{Machine}
 use Rattle.nv_guest.specs.declared.outcome.GuestFault.{GuestFault}
 use Rattle.nv_guest.specs.declared.outcome.GuestFault.TheVariants.{NoRoom, Arguments}
 use Rattle.nv_guest.specs.declared.outcome.GuestFault.TheVariants as guest
-use Rattle.nv_cli.specs.Words.{Plan, plan_of}
+use Rattle.nv_bpf.specs.declared.op.FilterFault.{FilterFault}
+use Rattle.nv_bpf.specs.declared.op.FilterFault.TheVariants.{Line, Empty, TooLong, Count, Code, Jump, Scratch, Zero, Shift, NoReturn}
+use Rattle.nv_bpf.specs.declared.op.FilterFault.TheVariants as filter
+use Rattle.nv_bpf_asm.specs.declared.fault.RuleCause.{RuleCause}
+use Rattle.nv_bpf_asm.specs.declared.fault.RuleCause.TheVariants.{Twice, Word, Operand, Label, Far}
+use Rattle.nv_bpf_asm.specs.declared.fault.RuleFault.{RuleFault}
+use Rattle.nv_bpf_asm.specs.declared.fault.RuleFault.TheVariants as rule
+use Rattle.nv_outside.specs.Told.{Content}
+use Rattle.nv_cli.specs.Made.{made_of}
+use Rattle.nv_cli.specs.Words.{Plan, Job, Command, Run, Use, command_of}
 use Rattle.nv_calls.specs.Logs.{output_of}
 use Rattle.nv_kernel.specs.Serving.{start_of_script}
 use Rattle.nv_replay.specs.Sequence.{Account}
@@ -26,15 +35,16 @@ use Rattle.nv_cli.specs.declared.refusal.Refusal.TheVariants as refusal
 use Rattle.nv_cli.specs.declared.refusal.Place.{Place}
 use Rattle.nv_cli.specs.declared.refusal.Place.TheVariants.{Script, Version}
 use Rattle.nv_cli.specs.declared.refusal.Cause.{Cause}
-use Rattle.nv_cli.specs.declared.refusal.Cause.TheVariants.{Long, Unbuilt, Elf, Guest}
+use Rattle.nv_cli.specs.declared.refusal.Cause.TheVariants.{Long, Unbuilt, Elf, Guest, Filter, Rules}
 
--- The words are refused; memory is wanted before the run starts; a file can't be read; a file is refused; or a run has its account.
+-- The words are refused; memory is wanted before the run starts; a file can't be read; a file is refused; a run has its account; or a command over one file has made its text.
 pub data Outcome : Type 0 where
   Usage : Outcome
   NoMemory : Outcome
   NotRead : List ℕ → Outcome
   NotAccepted : List ℕ → Cause → Outcome
   Reported : Account → Outcome
+  Made : List ℕ → Outcome
 
 abbrev pub elf_text : ElfFault → List ℕ
 elf_text Short = codes "short"
@@ -55,11 +65,42 @@ guest_text (NoRoom i) = codes "no room " ++ decimal i
 guest_text Arguments = codes "arguments"
 guest_text guest.Memory = codes "memory"
 
+abbrev pub line_text : ℕ → List ℕ
+line_text n = codes "line " ++ decimal n
+
+abbrev pub filter_text : FilterFault → List ℕ
+filter_text (Line n) = line_text n
+filter_text Empty = codes "empty"
+filter_text TooLong = codes "too long"
+filter_text Count = codes "count"
+filter_text (Code i) = codes "code " ++ decimal i
+filter_text (Jump i) = codes "jump " ++ decimal i
+filter_text (Scratch i) = codes "scratch " ++ decimal i
+filter_text (filter.Offset i) = codes "offset " ++ decimal i
+filter_text (Zero i) = codes "zero " ++ decimal i
+filter_text (Shift i) = codes "shift " ++ decimal i
+filter_text NoReturn = codes "no return"
+filter_text filter.Memory = codes "memory"
+
+abbrev pub rule_word : RuleCause → List ℕ
+rule_word Twice = codes " twice"
+rule_word Word = codes " word"
+rule_word Operand = codes " operand"
+rule_word Label = codes " label"
+rule_word Far = codes " far"
+
+abbrev pub rules_text : RuleFault → List ℕ
+rules_text (rule.Line n cause) = line_text n ++ rule_word cause
+rules_text (rule.Filter fault) = filter_text fault
+rules_text rule.Memory = codes "memory"
+
 abbrev pub cause_text : Cause → List ℕ
 cause_text Long = codes "long"
 cause_text Unbuilt = codes "unbuilt"
 cause_text (Elf fault) = elf_text fault
 cause_text (Guest fault) = guest_text fault
+cause_text (Filter fault) = filter_text fault
+cause_text (Rules fault) = rules_text fault
 
 -- what is written
 abbrev pub text_of : Outcome → List ℕ
@@ -68,6 +109,7 @@ text_of NoMemory = codes "varan: memory\n"
 text_of (NotRead name) = concat (codes "varan: read " ∷ name ∷ codes "\n" ∷ [])
 text_of (NotAccepted name cause) = concat (codes "varan: input " ∷ name ∷ codes ": " ∷ []) ++ (cause_text cause ++ codes "\n")
 text_of (Reported account) = report_text (output_of start_of_script account.log) account
+text_of (Made text) = text
 
 abbrev pub status_of : Outcome → ℕ
 status_of Usage = 2
@@ -75,6 +117,7 @@ status_of NoMemory = 3
 status_of (NotRead name) = 5
 status_of (NotAccepted name cause) = 4
 status_of (Reported account) = run_status account.lines
+status_of (Made text) = 0
 
 -- a write fault takes the place of the other statuses
 abbrev pub ended_with : Put → ℕ → ℕ
@@ -110,7 +153,7 @@ source_of holds faults taken before after = record {
 -- A read failed, of a file in the reading order whose forerunners are accepted where they are told.
 pub record CannotRead (words : List (List ℕ)) (source : Source) (name : List ℕ) : Type 0 where
   pub plan : Plan
-  pub asked : plan_of words ≡ Some plan
+  pub asked : command_of words ≡ Some (Run plan)
   pub place : Place
   pub name_is : name ≡ name_of place plan
   pub reached : IsReached place source.holds plan
@@ -119,7 +162,7 @@ pub record CannotRead (words : List (List ℕ)) (source : Source) (name : List �
 -- Where the files are told, the first that is refused is this one, for this cause. Too long is only what more bytes were taken of.
 pub record IsRefused (words : List (List ℕ)) (source : Source) (name : List ℕ) (cause : Cause) : Type 0 where
   pub plan : Plan
-  pub asked : plan_of words ≡ Some plan
+  pub asked : command_of words ≡ Some (Run plan)
   pub place : Place
   pub name_is : name ≡ name_of place plan
   pub reached : IsReached place source.holds plan
@@ -129,18 +172,40 @@ pub record IsRefused (words : List (List ℕ)) (source : Source) (name : List �
 -- The account is that of the plain sequential monitor over the files; where they are told, they are accepted and come to these machines.
 pub record IsReported (words : List (List ℕ)) (source : Source) (account : Account) : Type 0 where
   pub plan : Plan
-  pub asked : plan_of words ≡ Some plan
+  pub asked : command_of words ≡ Some (Run plan)
   pub machines : List Machine
   pub told : ComesTo (prepared source.holds plan) (Ready machines)
   pub is_run : IsRunOf machines account
 
+-- The one file of a command couldn't be read.
+pub record CannotReadFile (words : List (List ℕ)) (source : Source) (name : List ℕ) : Type 0 where
+  pub job : Job
+  pub asked : command_of words ≡ Some (Use job)
+  pub name_is : name ≡ job.file
+  pub rose : Rose source.faults source.later_faults
+
+-- Where it is told, the one file of a command is refused for this cause. Too long is only what more bytes were taken of.
+pub record IsFileRefused (words : List (List ℕ)) (source : Source) (name : List ℕ) (cause : Cause) : Type 0 where
+  pub job : Job
+  pub asked : command_of words ≡ Some (Use job)
+  pub name_is : name ≡ job.file
+  pub told : (content : List ℕ) → source.holds job.file ≡ Content content → made_of job.tool content ≡ Err cause
+  pub long : cause ≡ Long → TookLong source.taken source.later_taken
+
+-- The text is what the command makes of its file, where it is told.
+pub record IsMade (words : List (List ℕ)) (source : Source) (text : List ℕ) : Type 0 where
+  pub job : Job
+  pub asked : command_of words ≡ Some (Use job)
+  pub told : (content : List ℕ) → source.holds job.file ≡ Content content → made_of job.tool content ≡ Ok text
+
 -- the outcomes that a call may have, over these words and this source
 abbrev pub CanBe : List (List ℕ) → Source → Outcome → Type 0
-CanBe words source Usage = plan_of words ≡ None
-CanBe words source NoMemory = (plan : Plan) × (plan_of words ≡ Some plan)
-CanBe words source (NotRead name) = CannotRead words source name
-CanBe words source (NotAccepted name cause) = IsRefused words source name cause
+CanBe words source Usage = command_of words ≡ None
+CanBe words source NoMemory = (command : Command) × (command_of words ≡ Some command)
+CanBe words source (NotRead name) = CannotRead words source name ⊎ CannotReadFile words source name
+CanBe words source (NotAccepted name cause) = IsRefused words source name cause ⊎ IsFileRefused words source name cause
 CanBe words source (Reported account) = IsReported words source account
+CanBe words source (Made text) = IsMade words source text
 
 -- a text was written with this status, or the write failed
 pub record Says (text : List ℕ) (text_status : ℕ) (before : Option (List ℕ)) (faults : ℕ) (status : ℕ) (after : Option (List ℕ)) (later_faults : ℕ) : Type 0 where

@@ -1,10 +1,10 @@
 -- What each status of the monitor shows.
 use Rattle.std.specs.Prelude.{◌≡◌, ◌⊎◌, ℕ, List, ◌++◌, Option, Some}
 use Rattle.nv_outside.specs.Told.{Grows}
-use Rattle.nv_cli.specs.Words.{Plan, plan_of}
+use Rattle.nv_cli.specs.Words.{Command, command_of}
 use Rattle.nv_replay.specs.Sequence.{Account}
 use Rattle.nv_cli.specs.Account.{run_status}
-use Rattle.nv_cli.specs.Outcome.{Source, Outcome, NoMemory, NotRead, NotAccepted, Reported, CanBe, IsReported, IsRefused, CannotRead, text_of}
+use Rattle.nv_cli.specs.Outcome.{Source, Outcome, NoMemory, NotRead, NotAccepted, Reported, Made, CanBe, IsReported, IsMade, text_of}
 use Rattle.nv_cli.specs.declared.refusal.Cause.{Cause}
 
 -- 0, 1 and 7 are the statuses of a run
@@ -18,23 +18,29 @@ pub record Reports (words : List (List ℕ)) (source : Source) (status : ℕ) (b
   pub status_is : status ≡ run_status account.lines
   pub written : Grows before (text_of (Reported account)) after
 
+-- What was written is what a command over one file makes of it.
+pub record Makes (words : List (List ℕ)) (source : Source) (before after : Option (List ℕ)) : Type 0 where
+  pub text : List ℕ
+  pub is_made : IsMade words source text
+  pub written : Grows before text after
+
 -- the words are accepted, and what was written says that memory was wanted
 pub record WantsMemory (words : List (List ℕ)) (before after : Option (List ℕ)) : Type 0 where
-  pub plan : Plan
-  pub asked : plan_of words ≡ Some plan
+  pub command : Command
+  pub asked : command_of words ≡ Some command
   pub written : Grows before (text_of NoMemory) after
 
 -- a file is refused, and what was written names it and its cause
 pub record Refuses (words : List (List ℕ)) (source : Source) (before after : Option (List ℕ)) : Type 0 where
   pub name : List ℕ
   pub cause : Cause
-  pub is_refused : IsRefused words source name cause
+  pub is_refused : CanBe words source (NotAccepted name cause)
   pub written : Grows before (text_of (NotAccepted name cause)) after
 
 -- a file can't be read, and what was written names it
 pub record FailsToRead (words : List (List ℕ)) (source : Source) (before after : Option (List ℕ)) : Type 0 where
   pub name : List ℕ
-  pub cannot : CannotRead words source name
+  pub cannot : CanBe words source (NotRead name)
   pub written : Grows before (text_of (NotRead name)) after
 
 -- what was written is a front of what one of the outcomes writes

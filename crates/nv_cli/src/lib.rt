@@ -4,9 +4,11 @@
 mod calm;
 mod prepare;
 mod refusal;
+mod tools;
 mod top;
 mod words;
 
 pub use calm::varan_calmly;
 pub use refusal::{Cause, Place, Refusal};
 pub use top::varan;
+pub use words::Tool;

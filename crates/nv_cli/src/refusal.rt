@@ -2,6 +2,8 @@
 ghost use Rattle.std.specs.Prelude.{◌≡◌};
 ghost use Rattle.nv_cli.specs.declared.refusal.Refusal.TheVariants.{Memory};
 
+use nv_bpf::FilterFault;
+use nv_bpf_asm::RuleFault;
 use nv_elf::ElfFault;
 use nv_guest::GuestFault;
 use std::alloc::{AllocError, AllocFailed};
@@ -24,6 +26,10 @@ pub enum Cause {
     Elf(ElfFault),
     /// A version whose program has no room in a guest.
     Guest(GuestFault),
+    /// A rule file that is no filter.
+    Filter(FilterFault),
+    /// A rule text that is no filter.
+    Rules(RuleFault),
 }
 
 /// Why a run doesn't start.

@@ -1,7 +1,9 @@
 // The top call.
-ghost use Rattle.std.specs.Prelude.{◌≡◌, ◌≢◌, ◌≤◌, ◌⊎◌, ◌++◌, ◌∷◌, [], List, Some, None, IsTrue, ◌↔◌, codes, length, map};
+ghost use Rattle.std.specs.Prelude.{◌≡◌, ◌≢◌, ◌≤◌, ◌⊎◌, ◌++◌, ◌∷◌, [], List, ℕ, Some, None, Ok, Err, IsTrue, ◌↔◌, codes, length, map};
+ghost use Rattle.std.specs.Fmt.{decimal};
 ghost use Rattle.std.specs.List.{concat, list_any};
 ghost use Rattle.nv_outside.specs.Counts.{Rose};
+ghost use Rattle.nv_outside.specs.Told.{Content};
 ghost use Rattle.nv_outside.specs.Sink.{Puts};
 ghost use Rattle.nv_machine.specs.Guest.{Machine};
 ghost use Rattle.nv_threads.specs.Threads.{threads};
@@ -10,17 +12,21 @@ ghost use Rattle.nv_replay.specs.Lead.{is_memory};
 ghost use Rattle.nv_replay.specs.Versions.{standing_of, process_of};
 ghost use Rattle.nv_sequence.specs.Accounts.{AreFresh};
 ghost use Rattle.nv_cli.specs.Account.{begun, run_status};
-ghost use Rattle.nv_cli.specs.Words.{Plan, plan_of, texts};
+ghost use Rattle.nv_cli.specs.Words.{Plan, Job, Run, Use, command_of, texts};
+ghost use Rattle.nv_cli.specs.Made.{made_of};
 ghost use Rattle.nv_cli.specs.Prepared.{prepared, Ready, Refused};
 ghost use Rattle.nv_cli.specs.declared.refusal.Place.{Place};
 ghost use Rattle.nv_cli.specs.declared.refusal.Cause.{Cause};
-ghost use Rattle.nv_cli.specs.Outcome.{Says, Answers, Ran, Usage, ended_with, name_of, elf_text, guest_text, cause_text, outcome_of, status_of, text_of, source_of};
-ghost use Rattle.nv_cli.specs.Rows.{IsReport, Reports, WantsMemory, Refuses, FailsToRead, FailsToWrite};
+ghost use Rattle.nv_cli.specs.Outcome.{Says, Answers, Ran, Usage, ended_with, name_of, elf_text, guest_text, filter_text, line_text, rule_word, rules_text, cause_text, outcome_of, status_of, text_of, source_of};
+ghost use Rattle.nv_cli.specs.Rows.{IsReport, Reports, Makes, WantsMemory, Refuses, FailsToRead, FailsToWrite};
 
 use crate::prepare::prepare;
 use crate::refusal::{Cause, Place, Refusal};
-use crate::words::run_of;
+use crate::tools::{Unmade, make};
+use crate::words::{Tool, job_of, run_of};
 use itoa::Buffer;
+use nv_bpf::FilterFault;
+use nv_bpf_asm::{RuleCause, RuleFault};
 use nv_elf::ElfFault;
 use nv_guest::GuestFault;
 use nv_kernel::ScriptKernel;
@@ -164,6 +170,64 @@ fn put_guest_fault<S: Sink>(sink: &mut S, fault: GuestFault) -> Put
     }
 }
 
+// A word and a number.
+fn put_place<S: Sink>(sink: &mut S, word: &[u8], place: u32) -> Put
+    ensures { Puts (S.told sink.old) (S.faults sink.old) (word.now ++ decimal place) result (S.told sink.new) (S.faults sink.new) }
+{
+    let mut buffer = Buffer::new();
+    put_pieces(sink, &[word, buffer.format(place).as_bytes()])
+}
+
+fn put_filter_fault<S: Sink>(sink: &mut S, fault: FilterFault) -> Put
+    ensures { Puts (S.told sink.old) (S.faults sink.old) (filter_text fault) result (S.told sink.new) (S.faults sink.new) }
+{
+    match fault {
+        FilterFault::Line(line) => put_place(sink, b"line ", line),
+        FilterFault::Empty => put_all(sink, b"empty"),
+        FilterFault::TooLong => put_all(sink, b"too long"),
+        FilterFault::Count => put_all(sink, b"count"),
+        FilterFault::Code(index) => put_place(sink, b"code ", index),
+        FilterFault::Jump(index) => put_place(sink, b"jump ", index),
+        FilterFault::Scratch(index) => put_place(sink, b"scratch ", index),
+        FilterFault::Offset(index) => put_place(sink, b"offset ", index),
+        FilterFault::Zero(index) => put_place(sink, b"zero ", index),
+        FilterFault::Shift(index) => put_place(sink, b"shift ", index),
+        FilterFault::NoReturn => put_all(sink, b"no return"),
+        FilterFault::Memory => put_all(sink, b"memory"),
+    }
+}
+
+fn word_of(cause: RuleCause) -> &'static [u8]
+    ensures { result.now ≡ rule_word cause }
+{
+    match cause {
+        RuleCause::Twice => b" twice",
+        RuleCause::Word => b" word",
+        RuleCause::Operand => b" operand",
+        RuleCause::Label => b" label",
+        RuleCause::Far => b" far",
+    }
+}
+
+fn put_rule_line<S: Sink>(sink: &mut S, line: u32, cause: RuleCause) -> Put
+    ensures { Puts (S.told sink.old) (S.faults sink.old) (line_text line ++ rule_word cause) result (S.told sink.new) (S.faults sink.new) }
+{
+    match put_place(sink, b"line ", line) {
+        Put::Whole => put_all(sink, word_of(cause)),
+        Put::Failed => Put::Failed,
+    }
+}
+
+fn put_rule_fault<S: Sink>(sink: &mut S, fault: RuleFault) -> Put
+    ensures { Puts (S.told sink.old) (S.faults sink.old) (rules_text fault) result (S.told sink.new) (S.faults sink.new) }
+{
+    match fault {
+        RuleFault::Line(line, cause) => put_rule_line(sink, line, cause),
+        RuleFault::Filter(fault) => put_filter_fault(sink, fault),
+        RuleFault::Memory => put_all(sink, b"memory"),
+    }
+}
+
 fn put_cause<S: Sink>(sink: &mut S, cause: Cause) -> Put
     ensures { Puts (S.told sink.old) (S.faults sink.old) (cause_text cause) result (S.told sink.new) (S.faults sink.new) }
 {
@@ -172,6 +236,8 @@ fn put_cause<S: Sink>(sink: &mut S, cause: Cause) -> Put
         Cause::Unbuilt => put_all(sink, b"unbuilt"),
         Cause::Elf(fault) => put_elf_fault(sink, fault),
         Cause::Guest(fault) => put_guest_fault(sink, fault),
+        Cause::Filter(fault) => put_filter_fault(sink, fault),
+        Cause::Rules(fault) => put_rule_fault(sink, fault),
     }
 }
 
@@ -233,17 +299,46 @@ fn refuse<S: Sink>(sink: &mut S, refusal: Refusal, script: &str, versions: &[Str
     }
 }
 
+// Does the command over one file, and says what it came to.
+fn run_job<F: Files, S: Sink>(
+    alloc: Global,
+    files: &mut F,
+    sink: &mut S,
+    tool: Tool,
+    file: &str,
+) -> u8
+    ensures { (words : List (List ℕ)) → command_of words ≡ Some (Use (record { tool = tool; file = file.now }))
+        → Answers words (source_of F.holds F.faults F.taken files.old files.new)
+            (S.told sink.old) (S.faults sink.old) result (S.told sink.new) (S.faults sink.new) }
+{
+    match make(alloc, files, tool, file) {
+        Ok(text) => put_line(sink, &text, 0),
+        Err(Unmade::Memory) => put_line(sink, b"varan: memory\n", MEMORY),
+        Err(Unmade::Unreadable) => {
+            let put = put_pieces(sink, &[b"varan: read ", file.as_bytes(), b"\n"]);
+            ended(put, READ_FAULT)
+        }
+        Err(Unmade::Refused(cause)) => {
+            let put = put_input(sink, file, cause);
+            ended(put, INPUT)
+        }
+    }
+}
+
 // Does what the words ask for, and says what it came to.
 fn answer<F: Files, S: Sink>(alloc: Global, words: &[String], files: &mut F, sink: &mut S) -> u8
     ensures { Answers (texts words.now) (source_of F.holds F.faults F.taken files.old files.new)
         (S.told sink.old) (S.faults sink.old) result (S.told sink.new) (S.faults sink.new) }
 {
-    let Some(run) = run_of(words) else {
-        return put_line(sink, b"varan: usage\n", USAGE);
-    };
-    match prepare(alloc, files, run.script, run.versions) {
-        Ok(versions) => run_versions(alloc, versions, sink),
-        Err(refusal) => refuse(sink, refusal, run.script, run.versions),
+    if let Some(run) = run_of(words) {
+        return match prepare(alloc, files, run.script, run.versions) {
+            Ok(versions) => run_versions(alloc, versions, sink),
+            Err(refusal) => refuse(sink, refusal, run.script, run.versions),
+        };
+    }
+    match job_of(words) {
+        Some(job) => run_job(alloc, files, sink, job.tool, job.file),
+        None => put_line(sink, b"varan: usage\n", USAGE),
     }
 }
 
@@ -255,14 +350,17 @@ pub fn varan<F: Files, S: Sink, G: Gate>(
     sink: &mut S,
     _gate: &G,
 ) -> u8
-    // With the statuses 0, 1 and 7 the bytes written are the report of the plain sequential monitor over these words and files.
-    ensures report { IsReport result
+    // With the statuses 0, 1 and 7 a run writes the report of the plain sequential monitor over these words and files,
+    // and a command over one file, which ends with 0, writes what it makes of it.
+    ensures report { (plan : Plan) → command_of (texts words.now.items) ≡ Some (Run plan) → IsReport result
         → Reports (texts words.now.items) (source_of F.holds F.faults F.taken files.old files.new) result (S.told sink.old) (S.told sink.new) }
+    ensures made { (job : Job) → command_of (texts words.now.items) ≡ Some (Use job) → IsReport result
+        → (result ≡ 0) × Makes (texts words.now.items) (source_of F.holds F.faults F.taken files.old files.new) (S.told sink.old) (S.told sink.new) }
 
     // Words that are refused are answered by the line of usage, unless it can't be written; no others are.
-    ensures usage { plan_of (texts words.now.items) ≡ None
+    ensures usage { command_of (texts words.now.items) ≡ None
         → Says (text_of Usage) 2 (S.told sink.old) (S.faults sink.old) result (S.told sink.new) (S.faults sink.new) }
-    ensures usage_only { result ≡ 2 → plan_of (texts words.now.items) ≡ None }
+    ensures usage_only { result ≡ 2 → command_of (texts words.now.items) ≡ None }
 
     // Want of memory is free, for words that are accepted, and is said.
     ensures memory { result ≡ 3 → WantsMemory (texts words.now.items) (S.told sink.old) (S.told sink.new) }
@@ -270,8 +368,11 @@ pub fn varan<F: Files, S: Sink, G: Gate>(
     // A refused file: only where the contents say so, and there exactly, unless a read failed or the line couldn't be written.
     ensures input { result ≡ 4
         → Refuses (texts words.now.items) (source_of F.holds F.faults F.taken files.old files.new) (S.told sink.old) (S.told sink.new) }
-    ensures refused { (plan : Plan) (place : Place) (cause : Cause) → plan_of (texts words.now.items) ≡ Some plan
+    ensures refused { (plan : Plan) (place : Place) (cause : Cause) → command_of (texts words.now.items) ≡ Some (Run plan)
         → prepared (F.holds files.old) plan ≡ Refused place cause → (Rose (F.faults files.old) (F.faults files.new) → ⊥)
+        → (result ≡ 4) ⊎ ((result ≡ 6) ⊎ (result ≡ 3)) }
+    ensures file_refused { (job : Job) (content : List ℕ) (cause : Cause) → command_of (texts words.now.items) ≡ Some (Use job)
+        → F.holds files.old job.file ≡ Content content → made_of job.tool content ≡ Err cause → (Rose (F.faults files.old) (F.faults files.new) → ⊥)
         → (result ≡ 4) ⊎ ((result ≡ 6) ⊎ (result ≡ 3)) }
 
     // Faults come only where their counts rose.
@@ -281,11 +382,15 @@ pub fn varan<F: Files, S: Sink, G: Gate>(
     ensures front { result ≡ 6
         → FailsToWrite (texts words.now.items) (source_of F.holds F.faults F.taken files.old files.new) (S.told sink.old) (S.told sink.new) }
 
-    // Where no fault came, files that are accepted give a report, or memory is wanted.
-    ensures complete { (plan : Plan) (machines : List Machine) → plan_of (texts words.now.items) ≡ Some plan
+    // Where no fault came, files that are accepted give their output, or memory is wanted.
+    ensures complete { (plan : Plan) (machines : List Machine) → command_of (texts words.now.items) ≡ Some (Run plan)
         → prepared (F.holds files.old) plan ≡ Ready machines
         → (Rose (F.faults files.old) (F.faults files.new) → ⊥) → (Rose (S.faults sink.old) (S.faults sink.new) → ⊥)
         → IsReport result ⊎ (result ≡ 3) }
+    ensures file_complete { (job : Job) (content text : List ℕ) → command_of (texts words.now.items) ≡ Some (Use job)
+        → F.holds files.old job.file ≡ Content content → made_of job.tool content ≡ Ok text
+        → (Rose (F.faults files.old) (F.faults files.new) → ⊥) → (Rose (S.faults sink.old) (S.faults sink.new) → ⊥)
+        → (result ≡ 0) ⊎ (result ≡ 3) }
 {
     answer(alloc, words, files, sink)
 }

@@ -1,7 +1,7 @@
 // The words of a command line.
 ghost use Rattle.std.specs.Prelude.{◌≡◌, ◌≤◌, None, Some, MatchOption, length, string_bytes};
 ghost use Rattle.std.specs.List.{list_all};
-ghost use Rattle.nv_cli.specs.Words.{plan_of, is_name, are_versions, texts};
+ghost use Rattle.nv_cli.specs.Words.{plan_of, job_of, is_name, are_versions, texts};
 
 /// The files that `run` names.
 #[derive(Clone, Copy)]
@@ -52,5 +52,43 @@ pub fn run_of(words: &[String]) -> Option<Run<'_>>
         Some(Run { script, versions })
     } else {
         None
+    }
+}
+
+/// What is done with the one file that a command names.
+#[derive(Clone, Copy, Debug, PartialEq, Eq)]
+pub enum Tool {
+    /// `rules FILE`: the filter text is checked.
+    CheckRules,
+    /// `rules --asm FILE`: the rule text becomes a filter text.
+    AssembleRules,
+}
+
+/// A command over one file.
+#[derive(Clone, Copy)]
+pub struct Job<'a> {
+    pub tool: Tool,
+    pub file: &'a str,
+}
+
+/// The words of `rules`: the name, `rules`, perhaps `--asm`, and one file.
+pub fn job_of(words: &[String]) -> Option<Job<'_>>
+    ensures { MatchOption result (job_of (texts words.now) ≡ None)
+        (λ job. job_of (texts words.now) ≡ Some (record { tool = job.tool; file = job.file.now })) }
+{
+    match words {
+        [_, command, file] if command.as_str() == "rules" && is_name(file.as_str()) => Some(Job {
+            tool: Tool::CheckRules,
+            file: file.as_str(),
+        }),
+        [_, command, option, file]
+            if command.as_str() == "rules" && option.as_str() == "--asm" && is_name(file.as_str()) =>
+        {
+            Some(Job {
+                tool: Tool::AssembleRules,
+                file: file.as_str(),
+            })
+        }
+        _ => None,
     }
 }

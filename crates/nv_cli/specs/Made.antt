@@ -1,0 +1,34 @@
+-- What the commands over one file make of its content.
+use Rattle.std.specs.Prelude.{ℕ, List, ◌++◌, if◌then◌else◌, length, codes, Result, Ok, Err}
+use Rattle.std.specs.Fmt.{decimal}
+use Rattle.nv_bpf.specs.declared.op.Op.{Op}
+use Rattle.nv_bpf.specs.declared.op.FilterFault.{FilterFault}
+use Rattle.nv_bpf.specs.Texts.{filter_of, text_of}
+use Rattle.nv_bpf_asm.specs.declared.fault.RuleFault.{RuleFault}
+use Rattle.nv_bpf_asm.specs.Assembled.{assembled}
+use Rattle.nv_cli.specs.Prepared.{is_long}
+use Rattle.nv_cli.specs.declared.words.Tool.{Tool}
+use Rattle.nv_cli.specs.declared.words.Tool.TheVariants.{CheckRules, AssembleRules}
+use Rattle.nv_cli.specs.declared.refusal.Cause.{Cause}
+use Rattle.nv_cli.specs.declared.refusal.Cause.TheVariants.{Long, Filter, Rules}
+
+-- an accepted filter, by the number of its instructions
+abbrev pub accepted_text : ℕ → List ℕ
+accepted_text n = codes "ok " ++ (decimal n ++ codes "\n")
+
+abbrev pub of_filter : Result (List Op) FilterFault → Result (List ℕ) Cause
+of_filter (Ok ops) = Ok (accepted_text (length ops))
+of_filter (Err fault) = Err (Filter fault)
+
+abbrev pub of_rules : Result (List Op) RuleFault → Result (List ℕ) Cause
+of_rules (Ok ops) = Ok (text_of ops)
+of_rules (Err fault) = Err (Rules fault)
+
+-- a filter has at most 4096 instructions
+abbrev pub used : Tool → List ℕ → Result (List ℕ) Cause
+used CheckRules bytes = of_filter (filter_of 4096 bytes)
+used AssembleRules bytes = of_rules (assembled 4096 bytes)
+
+-- what is written of a file with this content, or why it is refused
+unfoldable pub made_of : Tool → List ℕ → Result (List ℕ) Cause
+made_of tool bytes = if is_long bytes then Err Long else used tool bytes
