@@ -3,6 +3,7 @@ use std::alloc::{AllocError, Global};
 
 mod alone;
 mod refusals;
+mod rules;
 mod several;
 
 const SCRIPT: &[u8] = b"varan-script 1\n";
