@@ -2,7 +2,7 @@
 """Times the guest machine beside a plain C interpreter of the same design.
 
 Builds crates/nv_machine_loops with `rt run` and bench/machine_loops.c with `gcc -O2`, runs both in turn on three guests and
-prints the medians of their processor times and the ratios. Both must print the same.
+prints the medians of their processor times and the ratios, of the medians and of the best runs. Both must print the same.
 """
 import os
 import resource
@@ -31,7 +31,7 @@ def main():
         plain = os.path.join(room, "machine_loops")
         subprocess.run(["gcc", "-O2", "-o", plain, os.path.join(TOP, "bench", "machine_loops.c")], check=True)
         print(f"{STEPS} instructions, the median of {runs} runs, load {os.getloadavg()[0]:.1f}")
-        print("guest    proved machine     C, gcc -O2        ratio")
+        print("guest    proved machine     C, gcc -O2        ratio  best")
         for guest in ("count", "memory", "calls"):
             ours, theirs = [], []
             for _ in range(runs):
@@ -41,7 +41,7 @@ def main():
                 theirs.append(took)
                 assert wrote == same, (wrote, same)
             a, b = statistics.median(ours), statistics.median(theirs)
-            print(f"{guest:8} {a:.3f} s {STEPS / a / 1e6:4.0f} M/s  {b:.3f} s {STEPS / b / 1e6:4.0f} M/s  {b / a:.2f}")
+            print(f"{guest:8} {a:.3f} s {STEPS / a / 1e6:4.0f} M/s  {b:.3f} s {STEPS / b / 1e6:4.0f} M/s  {b / a:.2f}   {min(theirs) / min(ours):.2f}")
 
 
 if __name__ == "__main__":
