@@ -1,5 +1,5 @@
 -- Words found in a table.
-use Rattle.std.proofs.Common.{◌≡◌, ℕ, ◌+◌, ◌<◌, ◌≤◌, Bool, true, false, List, [], ◌∷◌, Option, Some, None, if◌then◌else◌, length, map, drop, get_or, bytes_eq, refl, sym, ap, ◌∙◌, Bor}
+use Rattle.std.proofs.Common.{◌≡◌, ℕ, ◌+◌, ◌<◌, ◌≤◌, true, false, List, Option, Some, None, if◌then◌else◌, length, map, drop, get_or, bytes_eq, ap, ◌∙◌, Bor}
 use Rattle.std.proofs.lemmas.List.{at_drop_more, at_drop_all}
 use Rattle.nv_text.specs.Names.{defined}
 use Rattle.nv_bpf_asm.specs.declared.forms.Form.{Form}

@@ -1,5 +1,5 @@
 -- What a label is first defined as, over the labels before and those behind.
-use Rattle.std.proofs.Common.{◌≡◌, ℕ, ◌+◌, ◌<◌, ◌≤◌, Bool, true, false, List, [], ◌∷◌, Option, Some, None, if◌then◌else◌, length, bytes_eq, option_map, refl, sym, ap, ◌∙◌, arith, lit≤}
+use Rattle.std.proofs.Common.{◌≡◌, ℕ, ◌+◌, ◌≤◌, Bool, true, false, List, [], ◌∷◌, Option, Some, None, if◌then◌else◌, length, bytes_eq, refl, sym, ap, ◌∙◌, arith, lit≤}
 use Rattle.std.specs.Option.{option_or}
 use Rattle.nv_text.specs.Lines.{lines}
 use Rattle.nv_text.specs.Names.{defined, defining, knowing}

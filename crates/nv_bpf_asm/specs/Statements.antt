@@ -1,5 +1,5 @@
 -- What the instruction of a line of a rule text says.
-use Rattle.std.specs.Prelude.{ℕ, Bool, ◌&&◌, List, [], ◌∷◌, Option, Some, None, Result, Ok, Err, if◌then◌else◌, ◌==◌, nat_eq, nat_le, ◌+◌, ◌-◌, length, take, drop, slice_index, bytes_eq, codes, option_map, option_and_then}
+use Rattle.std.specs.Prelude.{ℕ, ◌&&◌, List, [], ◌∷◌, Option, Some, None, Result, Err, if◌then◌else◌, ◌==◌, nat_eq, nat_le, ◌+◌, ◌-◌, length, take, drop, slice_index, bytes_eq, codes, option_map, option_and_then}
 use Rattle.std.specs.Option.{option_or, ok_or}
 use Rattle.std.specs.List.{starts_with}
 use Rattle.nv_bytes.specs.Texts.{number_of}

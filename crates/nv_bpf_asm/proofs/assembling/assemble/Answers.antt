@@ -1,4 +1,4 @@
-use Rattle.std.proofs.Common.{◌≡◌, Ok, Err, sym, ap, ◌∙◌}
+use Rattle.std.proofs.Common.{Err, sym, ap, ◌∙◌}
 use Rattle.std.proofs.lemmas.Result.{err_from_is_err_and}
 use Rattle.nv_text.specs.Lines.{lines}
 use Rattle.nv_text.specs.Names.{defined}

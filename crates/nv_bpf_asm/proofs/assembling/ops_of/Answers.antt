@@ -1,9 +1,9 @@
-use Rattle.std.proofs.Common.{◌≡◌, ◌+◌, ◌++◌, Ok, Err, length, sym, ap, ◌∙◌, arith, append-nil}
+use Rattle.std.proofs.Common.{◌≡◌, ◌+◌, Ok, Err, length, sym, ap, ◌∙◌, arith, append-nil}
 use Rattle.std.proofs.lemmas.Bool.Decides.{nat_tests}
 use Rattle.nv_text.specs.Lines.{lines, Parts}
 use Rattle.nv_text.specs.Names.{defined}
 use Rattle.nv_bpf_asm.specs.declared.fault.RuleFault.TheVariants as fault
-use Rattle.nv_bpf_asm.specs.Assembled.{ops_of, op_of_parts, with_line, line_parts, count, word_count}
+use Rattle.nv_bpf_asm.specs.Assembled.{ops_of, op_of_parts, count, word_count}
 use Rattle.nv_bpf_asm.proofs.Naming.{word_count-le}
 use Rattle.nv_bpf_asm.proofs.Gathering.{with_front, with_front-none, with_front-line, ops_of-line, ops_of-none}
 use Rattle.nv_bpf_asm.proofs.assembling.ops_of.Goals as goal

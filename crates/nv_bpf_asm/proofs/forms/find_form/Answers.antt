@@ -1,4 +1,4 @@
-use Rattle.std.proofs.Common.{◌≡◌, ℕ, List, [], Bor, true, false, bytes_eq, get_or, sym, ap, ◌∙◌}
+use Rattle.std.proofs.Common.{ℕ, List, [], Bor, bytes_eq, sym, ap, ◌∙◌}
 use Rattle.nv_bpf_asm.specs.declared.forms.Form.{Form}
 use Rattle.nv_bpf_asm.specs.declared.forms.Form.TheVariants.{Alone}
 use Rattle.nv_bpf_asm.proofs.Finding.{first_of-here, first_of-later, first_of-past}

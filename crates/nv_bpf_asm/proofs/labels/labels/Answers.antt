@@ -1,9 +1,9 @@
-use Rattle.std.proofs.Common.{◌≡◌, ℕ, ◌+◌, ◌≤◌, List, length, option_map, sym, ap, ◌∙◌, refl, arith}
+use Rattle.std.proofs.Common.{◌≡◌, ℕ, ◌+◌, List, length, option_map, sym, ap, ◌∙◌, arith}
 use Rattle.std.proofs.lemmas.Bool.Decides.{nat_tests}
 use Rattle.nv_text.specs.Lines.{lines, Parts}
-use Rattle.nv_text.specs.Names.{defined, defining}
+use Rattle.nv_text.specs.Names.{defining}
 use Rattle.nv_bpf_asm.specs.declared.label.Label.{Label}
-use Rattle.nv_bpf_asm.specs.Assembled.{labels, line_parts, count, word_count}
+use Rattle.nv_bpf_asm.specs.Assembled.{labels, count, word_count}
 use Rattle.nv_bpf_asm.proofs.Naming.{found, found-defined, labels-line, labels-none, word_count-le, found-none, found-all}
 use Rattle.nv_bpf_asm.proofs.labels.labels.Goals as goal
 use Rattle.nv_bpf_asm.proofs.labels.labels.Goals.{in-Some+in_ok-define, in_default}

@@ -1,4 +1,4 @@
-use Rattle.std.proofs.Common.{◌≡◌, List, Option, Some, None, if◌then◌else◌, true, length, drop, nat_eq, sym, ap, ◌∙◌}
+use Rattle.std.proofs.Common.{Some, None, if◌then◌else◌, length, drop, sym, ap, ◌∙◌}
 use Rattle.std.proofs.lemmas.List.{take_rest}
 use Rattle.nv_bpf_asm.proofs.statements.behind.Goals as goal
 
