@@ -309,7 +309,7 @@ fn run_job<F: Files, S: Sink>(
 ) -> u8
     ensures { (words : List (List ℕ)) → command_of words ≡ Some (Use (record { tool = tool; file = file.now }))
         → Answers words (source_of F.holds F.faults F.taken files.old files.new)
-            (S.told sink.old) (S.faults sink.old) result (S.told sink.new) (S.faults sink.new) }
+        (S.told sink.old) (S.faults sink.old) result (S.told sink.new) (S.faults sink.new) }
 {
     match make(alloc, files, tool, file) {
         Ok(text) => put_line(sink, &text, 0),

@@ -82,8 +82,9 @@ pub fn job_of(words: &[String]) -> Option<Job<'_>>
             file: file.as_str(),
         }),
         [_, command, option, file]
-            if command.as_str() == "rules" && option.as_str() == "--asm" && is_name(file.as_str()) =>
-        {
+            if command.as_str() == "rules"
+                && option.as_str() == "--asm"
+                && is_name(file.as_str()) => {
             Some(Job {
                 tool: Tool::AssembleRules,
                 file: file.as_str(),

@@ -30,11 +30,11 @@ returns-in-Err-Unreadable g c = λ words asked. record {
 pub returns-in-Err-Refused : goal.returns-in-Err-Refused
 returns-in-Err-Refused g c = λ words asked.
     let why = refused_by _ _ _ _ _ _ _ c.in-Err-Refused.ensures.unmade c.in-Err-Refused.cause c.in-Err-Refused.field-0-is in record {
-  outcome = NotAccepted c.args.file.now c.in-Err-Refused.cause;
-  can_be = inr (record { job = _; asked = asked; name_is = refl; told = why.0; long = why.1 });
-  says = record {
-    put = c.put_input-put.result;
-    ends = c.ended-in-Err-Refused.ensures;
-    written = c.put_input-put.ensures;
-  };
-}
+      outcome = NotAccepted c.args.file.now c.in-Err-Refused.cause;
+      can_be = inr (record { job = _; asked = asked; name_is = refl; told = why.0; long = why.1 });
+      says = record {
+        put = c.put_input-put.result;
+        ends = c.ended-in-Err-Refused.ensures;
+        written = c.put_input-put.ensures;
+      };
+    }
