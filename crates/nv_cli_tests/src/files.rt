@@ -32,7 +32,7 @@ pub fn image(alloc: Global, words: &[u32], tail: &[u8]) -> Result<Vec<u8>, Alloc
         code.extend_from_slice(&word.to_le_bytes())?;
     }
     code.extend_from_slice(tail)?;
-    let size = (code.len() as u32).to_le_bytes();
+    let size = u32::try_from(code.len()).unwrap_or(u32::MAX).to_le_bytes();
     let mut file = Vec::new(alloc);
     file.extend_from_slice(&HEAD)?;
     file.extend_from_slice(&size)?;

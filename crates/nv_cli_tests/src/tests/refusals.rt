@@ -5,6 +5,7 @@ use std::test::Fail;
 #[test]
 fn refused_files(rt: HostRuntime) -> Result<(), Fail> {
     let hello = image(rt.alloc(), &HELLO, b"hi\n")?;
+    assert_eq!(rt; hello.len(), 123);
     let mut high = hello.clone()?;
     set(&mut high, 26, 0x0f);
     set(&mut high, 62, 0x0f);
