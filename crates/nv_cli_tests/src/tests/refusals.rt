@@ -5,7 +5,8 @@ use std::test::Fail;
 #[test]
 fn refused_files(rt: HostRuntime) -> Result<(), Fail> {
     let hello = image(rt.alloc(), &HELLO, b"hi\n")?;
-    assert_eq!(rt; hello.len(), 123);
+    let mut short = hello.clone()?;
+    short.truncate(51);
     let mut high = hello.clone()?;
     set(&mut high, 26, 0x0f);
     set(&mut high, 62, 0x0f);
@@ -25,7 +26,7 @@ fn refused_files(rt: HostRuntime) -> Result<(), Fail> {
     set(&mut kind, 16, 3);
     let cases: [(&[u8], &[u8], &[u8]); 13] = [
         (SCRIPT, &high, b"varan: input v: no room 0\n"),
-        (SCRIPT, &hello.as_slice()[..51], b"varan: input v: short\n"),
+        (SCRIPT, &short, b"varan: input v: short\n"),
         (SCRIPT, &machine, b"varan: input v: machine\n"),
         (SCRIPT, &flags, b"varan: input v: flags\n"),
         (SCRIPT, &outside, b"varan: input v: outside 0\n"),
