@@ -35,34 +35,22 @@ pub fn immediate(form: Form, word: u32) -> i32
         Form::Shift => (word >> 20 & 31) as i32,
         Form::Store => signed_12((word >> 25) * 32 + (word >> 7 & 31)),
         Form::Branch => {
-            let high = (word >> 31) * 4096 + (word >> 7 & 1) * 2048;
-            signed_13(high + (word >> 25 & 63) * 32 + (word >> 8 & 15) * 2)
+            let low = (word >> 7 & 1) * 2048 + (word >> 25 & 63) * 32 + (word >> 8 & 15) * 2;
+            low as i32 - (word >> 31) as i32 * 4096
         }
         Form::Upper => ((word >> 12) * 4096).cast_signed(),
         Form::Jump => {
-            let high = (word >> 31) * 1_048_576 + (word >> 12 & 255) * 4096;
-            signed_21(high + (word >> 20 & 1) * 2048 + (word >> 21 & 1023) * 2)
+            let high = (word >> 12 & 255) * 4096 + (word >> 20 & 1) * 2048;
+            let low = high + (word >> 21 & 1023) * 2;
+            low as i32 - (word >> 31) as i32 * 1_048_576
         }
     }
 }
 
+// In the form that is compiled into one shift.
 fn signed_12(bits: u32) -> i32
     requires { bits < 2 ^ 12 }
     ensures { result ≡ signed 12 bits }
 {
-    bits as i32 - ((bits >> 11) as i32) * 4096
-}
-
-fn signed_13(bits: u32) -> i32
-    requires { bits < 2 ^ 13 }
-    ensures { result ≡ signed 13 bits }
-{
-    bits as i32 - ((bits >> 12) as i32) * 8192
-}
-
-fn signed_21(bits: u32) -> i32
-    requires { bits < 2 ^ 21 }
-    ensures { result ≡ signed 21 bits }
-{
-    bits as i32 - ((bits >> 20) as i32) * 2_097_152
+    ((bits + 2048) % 4096) as i32 - 2048
 }
