@@ -65,6 +65,7 @@ impl<'a> Draft<'a> {
         }
     }
 
+    #[tactic(auto, unfolding(crate::specs::Scripts::with_argument))]
     fn add_argument(
         &mut self,
         alloc: Global,
@@ -190,7 +191,7 @@ impl<'a> Draft<'a> {
 
     /// The script, with the defaults of what no line says.
     pub fn finish(self) -> Script
-        ensures { setup_of result ≡ finished self }
+        ensures { setup_of result ≡ finished self.entry }
     {
         let Draft {
             arguments,

@@ -119,12 +119,10 @@ fn read_file(alloc: Global, text: &[u8]) -> Result<Option<Entry<'_>>, AllocError
     let Some(rest) = rest else {
         return Ok(file_with(name, Some(Vec::new(alloc))));
     };
-    let (hex, rest) = split_field(rest);
-    if rest.is_some() {
-        return Ok(None);
+    match split_field(rest) {
+        (hex, None) => Ok(file_with(name, unhex(alloc, hex)?)),
+        (_, Some(_)) => Ok(None),
     }
-    let content = unhex(alloc, hex)?;
-    Ok(file_with(name, content))
 }
 
 fn clock_entry<'a>(clock: Clock) -> Result<Entry<'a>, ScriptCause>
@@ -158,16 +156,18 @@ fn clock_with<'a>(
 fn read_clock<'a>(text: &[u8]) -> Result<Entry<'a>, ScriptCause>
     ensures { result_view result ≡ clock_of (fields text.now) }
 {
-    let (seconds, Some(rest)) = split_field(text) else {
+    let (seconds, rest) = split_field(text);
+    let Some(rest) = rest else {
         return Err(ScriptCause::Shape);
     };
-    let (nanos, Some(rest)) = split_field(rest) else {
+    let (nanos, rest) = split_field(rest);
+    let Some(rest) = rest else {
         return Err(ScriptCause::Shape);
     };
-    let (step, None) = split_field(rest) else {
-        return Err(ScriptCause::Shape);
-    };
-    clock_with(number(seconds), number(nanos), number(step))
+    match split_field(rest) {
+        (step, None) => clock_with(number(seconds), number(nanos), number(step)),
+        (_, Some(_)) => Err(ScriptCause::Shape),
+    }
 }
 
 fn read_seed<'a>(text: &[u8]) -> Option<Entry<'a>>

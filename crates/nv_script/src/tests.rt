@@ -71,3 +71,31 @@ fn script_faults(rt: HostRuntime) {
         }
     }
 }
+
+fn script_of(rt: &HostRuntime, text: &[u8]) -> Result<Script, Fail> {
+    match read(rt.alloc(), text) {
+        Ok(script) => Ok(script),
+        Err(fault) => panic!(rt; "{fault}"),
+    }
+}
+
+// A line of each kind, comments and empty lines between, without a last newline.
+#[test]
+fn whole_script(rt: HostRuntime) -> Result<(), Fail> {
+    let text = b"varan-script 1\n# first\narg one word\n\nline a\rb\nline \ninput 00fF\nfile f 61626364\nfile g\nfile h \narg ~\nclock 5 999999999 1000000000\nrandom 4294967295\ninput ";
+    let script = script_of(&rt, text)?;
+    assert_eq!(&rt; script.arguments.len(), 2);
+    assert_eq!(&rt; script.arguments[0].as_slice(), b"one word".as_slice());
+    assert_eq!(&rt; script.arguments[1].as_slice(), b"~".as_slice());
+    assert_eq!(&rt; script.input.as_slice(), b"a\rb\n\n\x00\xff".as_slice());
+    assert_eq!(&rt; script.files.len(), 3);
+    assert_eq!(&rt; script.files[0].0.as_slice(), b"f".as_slice());
+    assert_eq!(&rt; script.files[0].1.as_slice(), b"abcd".as_slice());
+    assert_eq!(&rt; script.files[2].0.as_slice(), b"h".as_slice());
+    assert_eq!(&rt; script.files[2].1.len(), 0);
+    assert_eq!(&rt; script.seconds, 5);
+    assert_eq!(&rt; script.nanos, 999_999_999);
+    assert_eq!(&rt; script.step, 1_000_000_000);
+    assert_eq!(&rt; script.seed, 4_294_967_295);
+    Ok(())
+}
