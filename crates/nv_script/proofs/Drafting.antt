@@ -2,7 +2,6 @@
 use Rattle.std.proofs.Common.{◌≡◌, ℕ, ◌+◌, Bool, if◌then◌else◌, List, [], ◌∷◌, Result, length, refl, sym, ap, ◌∙◌, arith, Ok}
 use Rattle.nv_text.specs.Lines.{lines}
 use Rattle.nv_script.specs.declared.fault.ScriptCause.{ScriptCause}
-use Rattle.nv_script.specs.declared.fault.ScriptFault.{ScriptFault}
 use Rattle.nv_script.specs.Scripts.{Draft, blank, with_line, onward, drafted, finished_result, no_form, is_first, script_of_lines, script_of}
 
 -- the step of a loop over the lines

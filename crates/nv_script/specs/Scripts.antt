@@ -1,5 +1,5 @@
 -- What a script means: what a run begins with, or the first faulty line with its first cause.
-use Rattle.std.specs.Prelude.{ℕ, Bool, true, not, ◌&&◌, List, [], ◌∷◌, ◌++◌, Option, Some, None, is_some, unwrap_or, Result, Ok, Err, if◌then◌else◌, nat_lt, nat_le, ◌+◌, ◌-◌, ◌^◌, min, length, map, bytes_eq, codes}
+use Rattle.std.specs.Prelude.{ℕ, Bool, true, not, ◌&&◌, List, [], ◌∷◌, ◌++◌, Option, Some, None, is_some, unwrap_or, Result, Ok, Err, if◌then◌else◌, nat_lt, nat_le, ◌+◌, ◌-◌, ◌^◌, min, length, bytes_eq, codes}
 use Rattle.std.specs.List.{list_all, list_any}
 use Rattle.nv_text.specs.Lines.{lines}
 use Rattle.nv_script.specs.declared.entry.Clock.{Clock}
@@ -7,7 +7,7 @@ use Rattle.nv_script.specs.declared.fault.ScriptCause.{ScriptCause}
 use Rattle.nv_script.specs.declared.fault.ScriptCause.TheVariants.{Form, Twice, Long}
 use Rattle.nv_script.specs.declared.fault.ScriptFault.{ScriptFault}
 use Rattle.nv_script.specs.declared.fault.ScriptFault.TheVariants.{Line}
-use Rattle.nv_script.specs.Entries.{Entry, Nothing, Argument, Input, File, Time, Seed, is_argument, is_file_name, clock_fits, entry_of}
+use Rattle.nv_script.specs.Entries.{Entry, Nothing, Argument, Input, File, Time, Seed, is_argument, is_file_name, entry_of}
 
 -- a file's name and its content
 abbrev pub Named : Type 0

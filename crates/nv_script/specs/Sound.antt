@@ -1,7 +1,7 @@
 -- Every script that a text says keeps to the limits.
-use Rattle.std.proofs.Common.{◌≡◌, ℕ, ◌+◌, ◌^◌, ◌<◌, ◌≤◌, Bool, true, false, not, cond, ◌&&◌, ◌||◌, nat_lt, nat_le, List, [], ◌∷◌, ◌++◌, Option, Some, None, is_some, unwrap_or, option_map, Result, Ok, Err, codes, length, sym, ap, refl, ◌∙◌, arith, length-append, subst, bytes_eq}
+use Rattle.std.proofs.Common.{◌≡◌, ℕ, ◌+◌, ◌^◌, ◌<◌, ◌≤◌, Bool, true, false, not, cond, ◌&&◌, nat_lt, nat_le, List, [], ◌∷◌, ◌++◌, Option, Some, None, is_some, unwrap_or, option_map, Result, Ok, Err, codes, length, sym, ap, refl, ◌∙◌, arith, length-append, subst, bytes_eq}
 use Rattle.std.specs.Char.{is_ascii_digit}
-use Rattle.std.specs.List.{list_all, list_any}
+use Rattle.std.specs.List.{list_all}
 use Rattle.std.specs.Str.Parse.{digits_value}
 use Rattle.std.proofs.lemmas.Bool.{and_parts, and_from, or_parts}
 use Rattle.std.proofs.lemmas.Bool.Decides.{nat_tests}
@@ -11,12 +11,12 @@ use Rattle.nv_bytes.specs.Texts.{number_of, unhexed}
 use Rattle.nv_text.specs.Lines.{lines}
 use Rattle.nv_script.specs.declared.entry.Clock.{Clock}
 use Rattle.nv_script.specs.declared.fault.ScriptCause.{ScriptCause}
-use Rattle.nv_script.specs.declared.fault.ScriptCause.TheVariants.{Shape, Range, Twice, Long}
+use Rattle.nv_script.specs.declared.fault.ScriptCause.TheVariants.{Range, Twice, Long}
 use Rattle.nv_script.specs.declared.fault.ScriptFault.{ScriptFault}
 use Rattle.nv_script.specs.declared.kind.Kind.{Kind}
 use Rattle.nv_script.specs.declared.kind.Kind.TheVariants as kind
 use Rattle.nv_script.specs.Entries.{Entry, Nothing, Argument, Input, File, Time, Seed, argument, is_argument, is_file_name, is_passed_over, clock_fits, clock_entry, clock_with, clock_of, file_with, file_of, fields, shaped, entry_by, entry_with, entry_of, kind_of, word_of, rest_of}
-use Rattle.nv_script.specs.Scripts.{Named, Setup, Draft, blank, has_name, with_argument, with_file, with_clock, with_seed, with_entry, with_result, with_line, onward, drafted, no_clock, setup_with, finished, finished_result, is_first, no_form, script_of_lines, script_of, is_file, are_distinct, are_files, is_script}
+use Rattle.nv_script.specs.Scripts.{Named, Setup, Draft, blank, has_name, with_argument, with_file, with_clock, with_seed, with_entry, with_result, with_line, onward, drafted, no_clock, finished, finished_result, is_first, no_form, script_of_lines, script_of, is_file, are_distinct, are_files, is_script}
 
 -- ---- the parts of the two tests
 

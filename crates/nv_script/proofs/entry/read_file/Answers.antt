@@ -1,4 +1,4 @@
-use Rattle.std.proofs.Common.{◌≡◌, ◌∷◌, sym, ap, ◌∙◌}
+use Rattle.std.proofs.Common.{◌∷◌, sym, ap, ◌∙◌}
 use Rattle.nv_script.specs.Entries.{file_of}
 use Rattle.nv_script.proofs.Cutting.{file_of-three}
 use Rattle.nv_script.proofs.entry.read_file.Goals as goal

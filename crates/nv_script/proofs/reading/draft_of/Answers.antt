@@ -1,7 +1,6 @@
 use Rattle.std.proofs.Common.{◌≡◌, Ok, Err, length, inr, sym, ap, ◌∙◌, arith}
 use Rattle.std.proofs.lemmas.Bool.Decides.{nat_tests}
 use Rattle.nv_script.specs.declared.fault.ScriptFault.TheVariants as fault
-use Rattle.nv_script.specs.Scripts.{drafted}
 use Rattle.nv_script.specs.Views.{became}
 use Rattle.nv_script.proofs.Drafting.{drafted-line, drafted-none}
 use Rattle.nv_script.proofs.reading.draft_of.Goals as goal
