@@ -1,3 +1,4 @@
 pub mod Shaped
 pub mod Strings
 pub mod Placed
+pub mod Walks

@@ -2,3 +2,5 @@ pub mod Guest
 pub mod Calls
 pub mod Block
 pub mod Load
+pub mod Paths
+pub mod Vectors

@@ -5,8 +5,10 @@ mod block;
 mod guest;
 mod load;
 mod outcome;
+mod paths;
 #[cfg(test)]
 mod tests;
+mod vectors;
 
 pub use guest::Guest;
 pub use outcome::{Asked, GuestFault};
