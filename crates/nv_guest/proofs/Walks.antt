@@ -2,10 +2,11 @@
 use Rattle.std.proofs.Common.{◌≡◌, ℕ, zero, suc, ◌+◌, ◌-◌, ◌<◌, ◌≤◌, Bool, true, false, List, [], ◌∷◌, ◌++◌, Option, Some, None, option_map, if◌then◌else◌, ◌==◌, length, take, set, refl, sym, ap, ◌∙◌, arith, append_assoc, append-nil, add_assoc}
 use Rattle.std.proofs.lemmas.List.{take_more_set}
 use Rattle.nv_memory.specs.declared.region.Right.{Right}
+use Rattle.nv_memory.specs.Bytes.{bytes_at}
 use Rattle.nv_memory.specs.Image.{Image}
 use Rattle.nv_guest.specs.declared.vectors.Part.{Part}
 use Rattle.nv_guest.specs.Paths.{byte_at, path_with, path_at}
-use Rattle.nv_guest.specs.Vectors.{usable_at, parts_with, parts_at, capacity}
+use Rattle.nv_guest.specs.Vectors.{usable_at, parts_with, parts_at, capacity, joined}
 
 path-here : (memory : Image) (most at : ℕ) → 0 < most → path_at most memory at ≡ path_with (byte_at memory at) (path_at (most - 1) memory (at + 1))
 unfolding path_at
@@ -87,3 +88,10 @@ pub capacity-more : (before now : ℕ) (part : Part) (parts : Option (List Part)
     → option_map (λ later. before + capacity later) (option_map (λ later. part ∷ later) parts) ≡ option_map (λ later. now + capacity later) parts
 capacity-more before now part None e = refl
 capacity-more before now part (Some parts) e = ap Some (sym (add_assoc before part.size (capacity parts)) ∙ ap (λ n. n + capacity parts) (sym e))
+
+-- bytes read before a part and those behind it
+pub joined-more : (memory : Image) (before now : List ℕ) (part : Part) (parts : Option (List Part)) → now ≡ before ++ bytes_at memory.bytes part.address part.size
+    → option_map (λ later. before ++ joined memory later) (option_map (λ later. part ∷ later) parts) ≡ option_map (λ later. now ++ joined memory later) parts
+joined-more memory before now part None e = refl
+joined-more memory before now part (Some parts) e =
+    ap Some (sym (append_assoc before (bytes_at memory.bytes part.address part.size) (joined memory parts)) ∙ ap (λ front. front ++ joined memory parts) (sym e))

@@ -28,9 +28,9 @@ loop-i-preserved c =
     let more : (l.left == 0) ≡ false = grind (arith, nat_tests) in
     record {
       room = sym (ap (option_map (λ parts. (c.args.most - l.left) + capacity parts))
-             (parts-more c.args.memory.now Write (c.args.count - l._i) (c.args.count - (l._i + 1)) l.left (l.left - part.size) l.at (l.at + 8) part (omega arith) (omega arith) more (sym c.in_ok-part.ensures.part) refl refl)
-             ∙ capacity-more (c.args.most - l.left) (c.args.most - (l.left - part.size)) part (parts_at c.args.memory.now Write (c.args.count - (l._i + 1)) (l.left - part.size) (l.at + 8)) (omega arith))
-             ∙ l.invariant.room;
+          (parts-more c.args.memory.now Write (c.args.count - l._i) (c.args.count - (l._i + 1)) l.left (l.left - part.size) l.at (l.at + 8) part (omega arith) (omega arith) more (sym c.in_ok-part.ensures.part) refl refl)
+          ∙ capacity-more (c.args.most - l.left) (c.args.most - (l.left - part.size)) part (parts_at c.args.memory.now Write (c.args.count - (l._i + 1)) (l.left - part.size) (l.at + 8)) (omega arith))
+          ∙ l.invariant.room;
       few = omega arith;
       place = omega arith;
     }
