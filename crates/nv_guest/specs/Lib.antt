@@ -4,3 +4,4 @@ pub mod Block
 pub mod Load
 pub mod Paths
 pub mod Vectors
+pub mod Answers

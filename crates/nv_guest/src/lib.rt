@@ -1,6 +1,7 @@
 //! A guest: a machine with its memory, as a version file loads it, and the calls that it makes.
 #![tactic(auto)]
 
+mod answers;
 mod block;
 mod guest;
 mod load;

@@ -15,9 +15,9 @@ pub struct Part {
     pub size: u32,
 }
 
-// The vector at an address, where it may be read.
+/// The vector at an address, where it may be read.
 #[tactic(auto, unfolding(crate::specs::Vectors::vector_at))]
-fn vector_at(memory: &Memory, at: usize) -> Option<Part>
+pub fn vector_at(memory: &Memory, at: usize) -> Option<Part>
     ensures { result ≡ vector_at memory.now at }
 {
     let address = u32::try_from(at).ok()?;

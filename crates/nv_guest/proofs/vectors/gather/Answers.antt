@@ -42,11 +42,11 @@ loop-i-preserved c =
     let size : length c.copy_part.new.out ≡ part.size = ap length c.copy_part.ensures ∙ length-bytes_at memory.bytes part.address part.size in
     record {
       bytes = sym (ap (option_map (λ parts. take l.filled l.out ++ joined memory parts))
-              (parts-more memory Read (c.args.count - l._i) (c.args.count - (l._i + 1)) (length c.args.out.now - l.filled) (length c.args.out.now - (l.filled + part.size)) l.at (l.at + 8) part
-              (omega arith) (omega arith) left (ap (λ n. usable_at memory Read (n - l.filled) l.at) (sym all) ∙ sym c.in_ok-part.ensures.part) (omega arith) refl)
-              ∙ joined-more memory (take l.filled l.out) _ part (parts_at memory Read (c.args.count - (l._i + 1)) (length c.args.out.now - (l.filled + part.size)) (l.at + 8))
-              (take-put_mid l.filled _ l.out c.copy_part.new.out (l.filled + part.size) (omega arith) (omega arith) ∙ ap (λ bytes. take l.filled l.out ++ bytes) c.copy_part.ensures))
-              ∙ l.invariant.bytes;
+          (parts-more memory Read (c.args.count - l._i) (c.args.count - (l._i + 1)) (length c.args.out.now - l.filled) (length c.args.out.now - (l.filled + part.size)) l.at (l.at + 8) part
+          (omega arith) (omega arith) left (ap (λ n. usable_at memory Read (n - l.filled) l.at) (sym all) ∙ sym c.in_ok-part.ensures.part) (omega arith) refl)
+          ∙ joined-more memory (take l.filled l.out) _ part (parts_at memory Read (c.args.count - (l._i + 1)) (length c.args.out.now - (l.filled + part.size)) (l.at + 8))
+          (take-put_mid l.filled _ l.out c.copy_part.new.out (l.filled + part.size) (omega arith) (omega arith) ∙ ap (λ bytes. take l.filled l.out ++ bytes) c.copy_part.ensures))
+          ∙ l.invariant.bytes;
       inside = omega arith;
       place = omega arith;
     }
