@@ -58,7 +58,7 @@ take-least size n bytes e =
     elim (cases_lt size (length bytes)) [
       | inl below ↦ (let same : n ≡ size = omega arith in (ap (λ k. take k bytes) same, ap (λ k. drop k bytes) same))
       | inr past ↦ (let same : n ≡ length bytes = omega arith in
-        (ap (λ k. take k bytes) same ∙ take_all (length bytes) bytes (omega arith) ∙ sym (take_all size bytes past), ap (λ k. drop k bytes) same ∙ drop_all (length bytes) bytes (omega arith) ∙ sym (drop_all size bytes past)))
+          (ap (λ k. take k bytes) same ∙ take_all (length bytes) bytes (omega arith) ∙ sym (take_all size bytes past), ap (λ k. drop k bytes) same ∙ drop_all (length bytes) bytes (omega arith) ∙ sym (drop_all size bytes past)))
     ]
 
 pub scattered-more : (memory : Image) (parts : List Part) (bytes front behind : List ℕ) (i n : ℕ) (d : Part) → i < length parts → n ≡ min (get_or parts i d).size (length bytes) → front ≡ take n bytes → behind ≡ drop n bytes

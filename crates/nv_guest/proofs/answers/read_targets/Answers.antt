@@ -29,8 +29,8 @@ loop-i-preserved c =
     let left : (l.left == 0) ≡ false = grind (arith, nat_tests) in
     record {
       parts = targets-more c.args.memory.now l.targets l.i (c.args.count - l.i) (c.args.count - (l.i + 1)) l.left (l.left - part.size) l.at (l.at + 8) part
-              (omega arith) (omega arith) (omega arith) left (sym c.in-Some.ensures) refl refl
-              ∙ l.invariant.parts;
+          (omega arith) (omega arith) (omega arith) left (sym c.in-Some.ensures) refl refl
+          ∙ l.invariant.parts;
       place = omega arith;
     }
 
