@@ -1,5 +1,5 @@
 -- The steps of the walks along paths and vectors.
-use Rattle.std.proofs.Common.{◌≡◌, ℕ, zero, suc, ◌+◌, ◌-◌, ◌<◌, ◌≤◌, Bool, true, false, List, [], ◌∷◌, ◌++◌, Option, Some, None, option_map, if◌then◌else◌, ◌==◌, length, take, set, refl, sym, ap, ◌∙◌, arith, append_assoc, append-nil, add_assoc}
+use Rattle.std.proofs.Common.{◌≡◌, ℕ, zero, suc, ◌+◌, ◌-◌, ◌<◌, true, false, List, [], ◌∷◌, ◌++◌, Option, Some, None, option_map, if◌then◌else◌, ◌==◌, length, take, set, refl, sym, ap, ◌∙◌, arith, append_assoc, append-nil, add_assoc}
 use Rattle.std.proofs.lemmas.List.{take_more_set}
 use Rattle.nv_memory.specs.declared.region.Right.{Right}
 use Rattle.nv_memory.specs.Bytes.{bytes_at}

@@ -1,4 +1,4 @@
-use Rattle.std.proofs.Common.{◌≡◌, ◌++◌, ◌+◌, ◌-◌, ◌*◌, ◌≤◌, take}
+use Rattle.std.proofs.Common.{◌≡◌, ◌++◌, ◌+◌, ◌-◌, ◌*◌, take}
 use Rattle.nv_guest.specs.Answers.{targets_at}
 use Rattle.nv_guest.proofs.answers.read_targets.Given as goal
 

@@ -1,5 +1,4 @@
-use Rattle.std.proofs.Common.{◌+◌, drop, sym, ap, ◌∙◌, arith}
-use Rattle.nv_guest.specs.declared.vectors.Part.{Part}
+use Rattle.std.proofs.Common.{◌+◌, drop, sym, ap, ◌∙◌}
 use Rattle.nv_guest.specs.Answers.{scattered}
 use Rattle.nv_guest.proofs.Answering.{scattered-more, scattered-all}
 use Rattle.nv_guest.proofs.answers.scatter.Goals as goal

@@ -1,8 +1,7 @@
-use Rattle.std.proofs.Common.{◌≡◌, ◌+◌, ◌-◌, ◌<◌, ◌==◌, ◌++◌, true, false, Some, length, take, option_map, refl, sym, ap, ◌∙◌, arith, append-nil}
+use Rattle.std.proofs.Common.{◌≡◌, ◌+◌, ◌-◌, ◌<◌, ◌==◌, ◌++◌, false, Some, length, take, option_map, refl, sym, ap, ◌∙◌, arith, append-nil}
 use Rattle.std.proofs.lemmas.Bool.Decides.{nat_tests}
 use Rattle.std.proofs.lemmas.Slice.{take-put_mid}
 use Rattle.nv_memory.specs.declared.region.Right.TheVariants.{Read}
-use Rattle.nv_memory.specs.Bytes.{bytes_at}
 use Rattle.nv_guest.specs.Vectors.{usable_at, parts_at, joined}
 use Rattle.nv_guest.proofs.Shaped.{length-bytes_at}
 use Rattle.nv_guest.proofs.Walks.{parts-full, parts-all, parts-refused, parts-more, joined-more}
