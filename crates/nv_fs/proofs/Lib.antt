@@ -1,3 +1,6 @@
 pub mod Least
 pub mod Lengths
 pub mod Signed
+pub mod Places
+pub mod Piped
+pub mod Firsts

@@ -3,10 +3,15 @@
 
 mod closing;
 mod disk;
+mod ends;
 mod errors;
 mod finding;
 mod open_file;
+mod opening;
+mod reading;
+mod resolving;
 mod seeking;
 mod tables;
+mod writing;
 
 pub use disk::FileSystem;
