@@ -4,3 +4,4 @@ pub mod Signed
 pub mod Places
 pub mod Piped
 pub mod Firsts
+pub mod Rows

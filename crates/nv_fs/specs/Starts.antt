@@ -1,5 +1,5 @@
 -- The state that a run begins with.
-use Rattle.std.specs.Prelude.{ℕ, Bool, true, false, not, List, [], ◌∷◌, ◌++◌, replicate, map, Option, Some, None}
+use Rattle.std.specs.Prelude.{ℕ, Bool, true, false, not, List, [], ◌∷◌, replicate, Option, Some, None}
 use Rattle.std.specs.Global.{Vec}
 use Rattle.nv_fs.specs.declared.open_file.OpenFile.{OpenFile}
 use Rattle.nv_fs.specs.declared.open_file.Target.{Target}
@@ -21,11 +21,12 @@ first_descriptors = Some 0 ∷ Some 1 ∷ Some 1 ∷ replicate 61 None
 abbrev pub first_opens : List OpenFile
 first_opens = standard Input true ∷ standard Console false ∷ []
 
-abbrev pub first_state : List ℕ → List (Vec ℕ × Vec ℕ) → State
+-- what a run begins with, from the input and the files
+abbrev pub first_state : List ℕ → List Inode → State
 first_state input files = record {
   descriptors = first_descriptors;
   opens = first_opens;
-  files = map inode_from files;
+  files = files;
   pipes = [];
   input = input;
   console = [];

@@ -85,7 +85,7 @@ impl FileSystem {
         input: &Vec<u8>,
         files: &Vec<(Vec<u8>, Vec<u8>)>,
     ) -> Result<FileSystem, AllocError>
-        ensures { IfOk result (λ made. made.state ≡ first_state input.now.items files.now.items) }
+        ensures { IfOk result (λ made. made.state ≡ first_state input.now.items (map inode_from files.now.items)) }
     {
         let input = Vec::from_slice(alloc, input.as_slice())?;
         let files = stored(alloc, files.as_slice())?;

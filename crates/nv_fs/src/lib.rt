@@ -12,6 +12,8 @@ mod reading;
 mod resolving;
 mod seeking;
 mod tables;
+#[cfg(test)]
+mod tests;
 mod writing;
 
 pub use disk::FileSystem;
