@@ -31,7 +31,6 @@ pipe_room xs k v l =
     let l' : k < length (set xs k v) = subst (λ (n : ℕ). k < n) (sym (length-set xs k v)) l in
     sym (get_or-map capacity_of (set xs k v) k v 0 l' ∙ ap capacity_of (get_or-set_same xs k v v l))
 
-
 pub file_is : (a : Inside) (d : Disk) (i : ℕ) (f : MemoryFile) → disk_of a ≡ d → i < length a.files.items → f ≡ get_or a.files.items i f → inode_of f ≡ file_at d.state i
 file_is a d i f view l h =
     ap inode_of h ∙ sym (get_or-map inode_of a.files.items i f _ l) ∙ ap (λ (e : Disk). file_at e.state i) view
@@ -45,7 +44,7 @@ pub content_changed : (a : Inside) (d : Disk) (i : ℕ) (f : MemoryFile) (v : Ve
     → state_of (record a { files = with_item a.files i (record { name = f.name; bytes = v }) }) ≡ with_content d.state i bytes
 content_changed a d i f v bytes view l h e =
     file_changed a d i f (record { name = f.name; bytes = v }) (record { name = (file_at d.state i).name; bytes = bytes }) view
-        (λ j. record { name = (file_is a d i f view l h j).name; bytes = e j })
+    (λ j. record { name = (file_is a d i f view l h j).name; bytes = e j })
 
 pub content_same : (s : State) (i : ℕ) → with_content s i (bytes_of s i) ≡ s
 content_same s i = ap (λ (z : List Inode). record s { files = z }) (set-get_or s.files i _)
@@ -79,4 +78,4 @@ pub name_dropped : (a : Inside) (d : Disk) (i : ℕ) (f g : MemoryFile) → disk
     → state_of (record a { files = with_item a.files i g }) ≡ unlinked d.state i
 name_dropped a d i f g view l h e =
     file_changed a d i f g (record { name = None; bytes = bytes_of d.state i }) view
-        (ap inode_of e ∙ (λ j. record { name = None; bytes = (file_is a d i f view l h j).bytes }))
+    (ap inode_of e ∙ (λ j. record { name = None; bytes = (file_is a d i f view l h j).bytes }))

@@ -9,3 +9,4 @@ pub mod Stored
 pub mod Rooms
 pub mod Starts
 pub mod Views
+pub mod FewLaws

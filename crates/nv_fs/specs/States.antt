@@ -101,25 +101,36 @@ moved_to s i o offset = record s { opens = slice_set s.opens i (record o { offse
 -- errno(3)
 abbrev pub ENOENT : ℤ
 ENOENT = negsuc 1
+
 abbrev pub EBADF : ℤ
 EBADF = negsuc 8
+
 abbrev pub EAGAIN : ℤ
 EAGAIN = negsuc 10
+
 abbrev pub EEXIST : ℤ
 EEXIST = negsuc 16
+
 abbrev pub ENOTDIR : ℤ
 ENOTDIR = negsuc 19
+
 abbrev pub EINVAL : ℤ
 EINVAL = negsuc 21
+
 abbrev pub EMFILE : ℤ
 EMFILE = negsuc 23
+
 abbrev pub EFBIG : ℤ
 EFBIG = negsuc 26
+
 abbrev pub ENOSPC : ℤ
 ENOSPC = negsuc 27
+
 abbrev pub ESPIPE : ℤ
 ESPIPE = negsuc 28
+
 abbrev pub EPIPE : ℤ
 EPIPE = negsuc 31
+
 abbrev pub ENAMETOOLONG : ℤ
 ENAMETOOLONG = negsuc 35

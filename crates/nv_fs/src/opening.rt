@@ -189,11 +189,10 @@ impl FileSystem {
     }
 
     /// Memory for `open_at` with these arguments.
-    pub fn reserve_path(&mut self, dir: i32, path: &[u8], flags: u32) -> Result<(), AllocError>
+    pub fn reserve_path(&mut self, _dir: i32, path: &[u8], _flags: u32) -> Result<(), AllocError>
         ensures state { self.new.state ≡ self.old.state }
         ensures ready { OnOk result (CanOpen self.new path.now) }
     {
-        let _ = (dir, flags);
         self.opens.reserve(1)?;
         self.files.reserve(1)?;
         self.name.clear();

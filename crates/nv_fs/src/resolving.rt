@@ -50,9 +50,7 @@ fn before_slash(name: &[u8]) -> usize
     ensures is { result ≡ position_or_len (λ b. b == 47) name.now }
     ensures inside { result ≤ length name.now }
 {
-    name.iter()
-        .position(|b| *b == SLASH)
-        .unwrap_or(name.len())
+    name.iter().position(|b| *b == SLASH).unwrap_or(name.len())
 }
 
 fn first_part(name: &[u8]) -> &[u8]
@@ -117,7 +115,7 @@ impl FileSystem {
 
     fn name_of<'a>(&self, name: &'a [u8]) -> Result<&'a [u8], i32>
         ensures is { MatchResult result (λ found. name_of self.now.state name.now ≡ Named found.now) (λ error. name_of self.now.state name.now ≡ Refused error) }
-    ensures short { IfOk result (λ found. length found.now ≤ length name.now) }
+        ensures short { IfOk result (λ found. length found.now ≤ length name.now) }
     {
         if has_slash(name) {
             return Err(if self.file_of(first_part(name)).is_some() {
@@ -132,7 +130,7 @@ impl FileSystem {
     /// The name in a path, or why it is refused.
     pub(crate) fn resolve<'a>(&self, dir: i32, path: &'a [u8]) -> Result<&'a [u8], i32>
         ensures is { MatchResult result (λ found. resolved self.now.state dir path.now ≡ Named found.now) (λ error. resolved self.now.state dir path.now ≡ Refused error) }
-    ensures short { IfOk result (λ found. length found.now ≤ length path.now) }
+        ensures short { IfOk result (λ found. length found.now ≤ length path.now) }
     {
         if path.len() >= LONG {
             return Err(ENAMETOOLONG);

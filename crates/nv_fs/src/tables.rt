@@ -123,7 +123,10 @@ impl FileSystem {
         requires { number < length self.old.state.opens }
         ensures { self.new.state ≡ moved_to self.old.state number description offset }
     {
-        self.opens[number] = OpenFile { offset, ..description };
+        self.opens[number] = OpenFile {
+            offset,
+            ..description
+        };
     }
 
     /// Whether the file has a name.

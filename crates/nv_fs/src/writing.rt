@@ -189,12 +189,7 @@ impl FileSystem {
         }
     }
 
-    fn reserve_file(
-        &mut self,
-        description: OpenFile,
-        i: usize,
-        n: usize,
-    ) -> Result<(), AllocError>
+    fn reserve_file(&mut self, description: OpenFile, i: usize, n: usize) -> Result<(), AllocError>
         ensures state { self.new.state ≡ self.old.state }
         ensures ok { OnOk result (i < length self.old.state.files → grown 1048576 (start_of self.old.state description i) n ≤ slice_index self.new.room.contents i) }
     {

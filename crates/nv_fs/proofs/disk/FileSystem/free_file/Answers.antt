@@ -9,7 +9,7 @@ pub loop-i-init : goal.loop-i-init
 unfolding free_file
 loop-i-init c =
     let n : length c.as_slice-i-end.result.now - 0 ≡ length c.args.self.now.state.files =
-        (let e = ap length (c.as_slice-i-end.ensures.value) in let f : length c.self.inside.files.items ≡ length c.args.self.now.state.files = length_of c.self.inside c.args.self.now c.self.view_is in omega arith) in
+    (let e = ap length (c.as_slice-i-end.ensures.value) in let f : length c.self.inside.files.items ≡ length c.args.self.now.state.files = length_of c.self.inside c.args.self.now c.self.view_is in omega arith) in
     ap (λ (z : ℕ). least_free (is_kept c.args.self.now.state) z 0) n
 
 pub loop-i-preserved : goal.loop-i-preserved

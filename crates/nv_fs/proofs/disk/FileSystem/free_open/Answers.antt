@@ -7,7 +7,7 @@ pub loop-i-init : goal.loop-i-init
 unfolding free_open
 loop-i-init c =
     let n : length c.as_slice-i-end.result.now - 0 ≡ length c.args.self.now.state.opens =
-        (let e = ap length (c.as_slice-i-end.ensures.value) in let f : length c.self.inside.opens.items ≡ length c.args.self.now.state.opens = ap (λ z. length z.state.opens) c.self.view_is in omega arith) in
+    (let e = ap length (c.as_slice-i-end.ensures.value) in let f : length c.self.inside.opens.items ≡ length c.args.self.now.state.opens = ap (λ z. length z.state.opens) c.self.view_is in omega arith) in
     ap (λ (z : ℕ). least_free (is_shared c.args.self.now.state) z 0) n
 
 pub loop-i-preserved : goal.loop-i-preserved

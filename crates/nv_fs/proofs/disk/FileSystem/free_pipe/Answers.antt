@@ -9,7 +9,7 @@ pub loop-k-init : goal.loop-k-init
 unfolding free_pipe
 loop-k-init c =
     let n : length c.as_slice-k-end.result.now - 0 ≡ length c.args.self.now.state.pipes =
-        (let e = ap length (c.as_slice-k-end.ensures.value) in let f : length c.self.inside.pipes.items ≡ length c.args.self.now.state.pipes = length_of c.self.inside c.args.self.now c.self.view_is in omega arith) in
+    (let e = ap length (c.as_slice-k-end.ensures.value) in let f : length c.self.inside.pipes.items ≡ length c.args.self.now.state.pipes = length_of c.self.inside c.args.self.now c.self.view_is in omega arith) in
     ap (λ (z : ℕ). least_free (is_pipe c.args.self.now.state) z 0) n
 
 pub loop-k-preserved : goal.loop-k-preserved
