@@ -18,7 +18,7 @@ by_test false x y n p q = q
 pub pipe_few : (s : State) (k n : ℕ) → length (read_pipe s k n).payload ≤ n
 pipe_few s k n =
     by_test (n == 0) (only s (pos 0)) _ n (omega arith)
-        (by_test (length (pipe_at s k) == 0) _ (hand_out (with_pipe s k (drop n (pipe_at s k))) (take n (pipe_at s k))) n (omega arith) (take_few n (pipe_at s k)))
+    (by_test (length (pipe_at s k) == 0) _ (hand_out (with_pipe s k (drop n (pipe_at s k))) (take n (pipe_at s k))) n (omega arith) (take_few n (pipe_at s k)))
 
 pub target_few : (s : State) (number : ℕ) (o : OpenFile) (t : Target) (n : ℕ) → length (read_target s number o t n).payload ≤ n
 target_few s number o Input n = take_few n s.input
