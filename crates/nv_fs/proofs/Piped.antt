@@ -1,9 +1,9 @@
 -- A write into a pipe that has a reading end and room.
-use Rattle.std.proofs.Common.{◌≡◌, ◌∙◌, sym, ap, ℕ, ◌+◌, ◌≤◌, List, [], ◌++◌, Bool, true, false, cond, not, pos, length, arith}
+use Rattle.std.proofs.Common.{◌≡◌, ◌∙◌, ℕ, ◌+◌, ◌≤◌, List, [], ◌++◌, true, not, pos, length}
 use Rattle.std.specs.Prelude.{nat_lt}
 use Rattle.std.proofs.lemmas.Bool.{cond-false, le-ltb, not_from_true}
 use Rattle.nv_fs.specs.declared.open_file.Target.TheVariants.{Reader}
-use Rattle.nv_fs.specs.States.{State, Answer, answer, only, has_open, EPIPE, EAGAIN}
+use Rattle.nv_fs.specs.States.{State, answer, has_open}
 use Rattle.nv_fs.specs.Fetched.{pipe_at, with_pipe}
 use Rattle.nv_fs.specs.Stored.{write_pipe}
 

@@ -1,6 +1,6 @@
 -- The definitions, computed on two worked runs of calls.
-use Rattle.std.proofs.Common.{◌≡◌, refl, ℕ, ℤ, pos, negsuc, true, List, [], ◌∷◌, Some, None}
-use Rattle.nv_fs.specs.States.{State, Inode, Answer, open_of, has_open, is_shared, is_kept, is_pipe, free_open, install}
+use Rattle.std.proofs.Common.{◌≡◌, refl, ℕ, ℤ, pos, negsuc, List, [], ◌∷◌, Some}
+use Rattle.nv_fs.specs.States.{State, Answer, open_of, has_open, is_shared, is_kept, is_pipe, free_open, install}
 use Rattle.nv_fs.specs.Starts.{first_state, first_descriptors}
 use Rattle.nv_fs.specs.Closes.{close_of, dup_of, free_descriptor}
 use Rattle.nv_fs.specs.Names.{file_of, resolved}

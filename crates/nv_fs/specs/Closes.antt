@@ -1,5 +1,5 @@
 -- close(2), dup(2) and dup3(2).
-use Rattle.std.specs.Prelude.{ℕ, ℤ, pos, Bool, not, ◌||◌, ◌==◌, nat_lt, List, [], Option, Some, None, is_none, slice_set, if◌then◌else◌}
+use Rattle.std.specs.Prelude.{ℕ, pos, not, ◌||◌, ◌==◌, nat_lt, [], Option, Some, None, is_none, slice_set, if◌then◌else◌}
 use Rattle.std.specs.List.{position_from}
 use Rattle.nv_fs.specs.declared.open_file.OpenFile.{OpenFile}
 use Rattle.nv_fs.specs.States.{State, Answer, answer, only, open_of, EBADF, EINVAL, EMFILE}

@@ -1,5 +1,5 @@
 -- pipe(2), pipe(7).
-use Rattle.std.specs.Prelude.{ℕ, ℤ, pos, ◌+◌, ◌-◌, Bool, true, false, not, ◌==◌, nat_lt, bit_and, List, [], ◌++◌, length, drop, Option, Some, None, is_none, slice_set, option_map, if◌then◌else◌}
+use Rattle.std.specs.Prelude.{ℕ, pos, ◌+◌, Bool, true, false, not, ◌==◌, bit_and, [], ◌++◌, length, drop, Option, Some, None, is_none, option_map, if◌then◌else◌}
 use Rattle.std.specs.List.{position_from}
 use Rattle.std.specs.Int.{to_le_bytes, w32}
 use Rattle.nv_fs.specs.declared.open_file.OpenFile.{OpenFile}

@@ -1,8 +1,8 @@
 -- read(2).
-use Rattle.std.specs.Prelude.{ℕ, ℤ, pos, ◌+◌, min, Bool, ◌==◌, List, [], Option, Some, None, take, drop, length, slice_set, slice_index_or, if◌then◌else◌}
+use Rattle.std.specs.Prelude.{ℕ, pos, ◌+◌, min, ◌==◌, List, [], Option, Some, None, take, drop, length, slice_set, slice_index_or, if◌then◌else◌}
 use Rattle.nv_fs.specs.declared.open_file.OpenFile.{OpenFile}
 use Rattle.nv_fs.specs.declared.open_file.Target.{Target}
-use Rattle.nv_fs.specs.declared.open_file.Target.TheVariants.{Input, Console, File, Reader, Writer}
+use Rattle.nv_fs.specs.declared.open_file.Target.TheVariants.{Input, File, Reader, Writer}
 use Rattle.nv_fs.specs.States.{State, Answer, answer, only, open_of, has_open, moved_to, EBADF, EAGAIN}
 use Rattle.nv_fs.specs.Seeks.{bytes_of}
 

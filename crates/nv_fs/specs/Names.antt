@@ -1,5 +1,5 @@
 -- How a path names a file of the flat directory `/` (path_resolution(7)).
-use Rattle.std.specs.Prelude.{ℕ, ℤ, pos, negsuc, Bool, true, false, ◌&&◌, ◌||◌, not, ◌==◌, nat_le, List, [], ◌∷◌, length, drop, Option, Some, None, is_some, if◌then◌else◌}
+use Rattle.std.specs.Prelude.{ℕ, ℤ, pos, negsuc, Bool, false, ◌&&◌, ◌||◌, not, ◌==◌, nat_le, List, [], ◌∷◌, length, drop, Option, Some, None, is_some, if◌then◌else◌}
 use Rattle.std.specs.Str.{bytes_eq}
 use Rattle.std.specs.List.{position_from, position_or_len, list_any, before_first}
 use Rattle.nv_fs.specs.States.{State, is_open, ENOENT, EBADF, ENOTDIR, EINVAL, ENAMETOOLONG}

@@ -1,5 +1,5 @@
 -- openat(2) and unlinkat(2).
-use Rattle.std.specs.Prelude.{ℕ, ℤ, pos, ◌-◌, ◌%◌, Bool, true, false, ◌&&◌, not, ◌==◌, nat_lt, nat_le, bit_and, List, [], length, Option, Some, None, slice_set, if◌then◌else◌}
+use Rattle.std.specs.Prelude.{ℕ, ℤ, pos, ◌%◌, Bool, ◌&&◌, not, ◌==◌, nat_le, bit_and, List, [], length, Option, Some, None, slice_set, if◌then◌else◌}
 use Rattle.nv_fs.specs.declared.open_file.OpenFile.{OpenFile}
 use Rattle.nv_fs.specs.declared.open_file.Target.TheVariants.{File}
 use Rattle.nv_fs.specs.States.{State, file_at, Answer, answer, only, install, is_kept, least_free, with_at, ENOENT, EEXIST, EINVAL, EMFILE, ENOSPC}

@@ -2,7 +2,7 @@
 use Rattle.std.specs.Prelude.{ℕ, ◌+◌, ◌-◌, min, ◌≤◌, ◌<◌, nat_le, List, length, Option, Some, None, slice_index, if◌then◌else◌}
 use Rattle.nv_fs.specs.declared.open_file.OpenFile.{OpenFile}
 use Rattle.nv_fs.specs.declared.open_file.Target.{Target}
-use Rattle.nv_fs.specs.declared.open_file.Target.TheVariants.{Input, Console, File, Reader, Writer}
+use Rattle.nv_fs.specs.declared.open_file.Target.TheVariants.{Console, File, Writer}
 use Rattle.nv_fs.specs.States.{State, open_of}
 use Rattle.nv_fs.specs.Fetched.{pipe_at}
 use Rattle.nv_fs.specs.Stored.{start_of}

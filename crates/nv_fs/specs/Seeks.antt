@@ -1,9 +1,9 @@
 -- _llseek(2).
-use Rattle.std.specs.Prelude.{◌≡◌, ℕ, ℤ, pos, ◌+◌, ◌-◌, ◌*◌, min, Bool, ◌==◌, nat_lt, List, [], Option, Some, None, length, if◌then◌else◌}
+use Rattle.std.specs.Prelude.{◌≡◌, ℕ, pos, ◌+◌, ◌-◌, ◌*◌, min, ◌==◌, nat_lt, List, Option, Some, None, length, if◌then◌else◌}
 use Rattle.std.specs.Int.{to_le_bytes, w64}
 use Rattle.nv_fs.specs.declared.open_file.OpenFile.{OpenFile}
 use Rattle.nv_fs.specs.declared.open_file.Target.{Target}
-use Rattle.nv_fs.specs.declared.open_file.Target.TheVariants.{Input, Console, File, Reader, Writer}
+use Rattle.nv_fs.specs.declared.open_file.Target.TheVariants.{File}
 use Rattle.nv_fs.specs.States.{State, file_at, Answer, answer, only, open_of, moved_to, EBADF, EINVAL, ESPIPE}
 
 -- the bytes of a file

@@ -1,8 +1,8 @@
 -- write(2).
-use Rattle.std.specs.Prelude.{ℕ, ℤ, pos, ◌+◌, ◌-◌, min, Bool, not, ◌==◌, nat_le, nat_lt, List, [], ◌++◌, Option, Some, None, take, drop, replicate, length, slice_set, if◌then◌else◌}
+use Rattle.std.specs.Prelude.{ℕ, pos, ◌+◌, ◌-◌, not, ◌==◌, nat_le, nat_lt, List, [], ◌++◌, Option, Some, None, take, drop, replicate, length, slice_set, if◌then◌else◌}
 use Rattle.nv_fs.specs.declared.open_file.OpenFile.{OpenFile}
 use Rattle.nv_fs.specs.declared.open_file.Target.{Target}
-use Rattle.nv_fs.specs.declared.open_file.Target.TheVariants.{Input, Console, File, Reader, Writer}
+use Rattle.nv_fs.specs.declared.open_file.Target.TheVariants.{Console, File, Reader, Writer}
 use Rattle.nv_fs.specs.States.{State, file_at, Answer, answer, only, open_of, has_open, moved_to, EBADF, EAGAIN, EFBIG, ENOSPC, EPIPE}
 use Rattle.nv_fs.specs.Seeks.{bytes_of}
 use Rattle.nv_fs.specs.Fetched.{pipe_at, with_pipe}

@@ -1,5 +1,5 @@
 -- What calls see of the tables.
-use Rattle.std.specs.Prelude.{ℕ, List, map, drop, Option, option_map, vec_capacity}
+use Rattle.std.specs.Prelude.{ℕ, List, map, drop, option_map, vec_capacity}
 use Rattle.std.specs.Global.{Vec}
 use Rattle.nv_fs.specs.declared.disk.MemoryFile.{MemoryFile}
 use Rattle.nv_fs.specs.declared.disk.FileSystem.TheInside.{Inside}

@@ -33,7 +33,7 @@ pub struct FileSystem {
 }
 
 impl Model for FileSystem {
-    ghost use Rattle.std.specs.Prelude.{◌≤◌, drop, vec_len, map};
+    ghost use Rattle.std.specs.Prelude.{◌≤◌, vec_len, map};
     ghost use Rattle.nv_fs.specs.Rooms.{Disk};
 
     ghost Value = { Disk };

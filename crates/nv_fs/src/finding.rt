@@ -1,7 +1,7 @@
 // Which descriptors, open files, files and pipes are in use.
 ghost use Rattle.std.specs.Prelude.{◌≡◌, ◌<◌, ◌≤◌, length, is_none, IfSome, slice_index_or, None};
 ghost use Rattle.std.specs.List.{position_from, list_any};
-ghost use Rattle.nv_fs.specs.States.{numbered, open_of, opens_to, has_open, is_number, is_shared, is_kept, is_pipe, least_free, free_open};
+ghost use Rattle.nv_fs.specs.States.{numbered, open_of, opens_to, has_open, is_number, is_shared, is_kept, is_pipe, free_open};
 ghost use Rattle.nv_fs.specs.Closes.{free_descriptor};
 ghost use Rattle.nv_fs.specs.Opened.{free_file};
 ghost use Rattle.nv_fs.specs.Ends.{free_pipe};

@@ -1,10 +1,9 @@
 // openat and unlinkat.
-ghost use Rattle.std.specs.Prelude.{◌≡◌, ◌+◌, ◌≤◌, ◌<◌, [], None, length, OnOk, vec_len, vec_capacity};
+ghost use Rattle.std.specs.Prelude.{◌≡◌, ◌+◌, ◌≤◌, ◌<◌, [], None, length, OnOk, vec_capacity};
 ghost use Rattle.nv_fs.specs.States.{answer, with_at};
-ghost use Rattle.nv_fs.specs.Opened.{open_at_of, unlink_at_of, opened, has_flag, truncated, with_file, create, is_refused, open_file, open_at_descriptor, open_unless, unlinked, unlink_file};
+ghost use Rattle.nv_fs.specs.Opened.{open_at_of, unlink_at_of, opened, has_flag, truncated, with_file, create, is_refused, open_file, open_at_descriptor, open_unless, unlinked};
 ghost use Rattle.nv_fs.specs.Stored.{with_content};
 ghost use Rattle.nv_fs.specs.Rooms.{CanOpen, HasOpens};
-ghost use Rattle.nv_fs.specs.Views.{inode_of};
 
 use crate::disk::{FileSystem, MemoryFile};
 use crate::errors::{EEXIST, EINVAL, EMFILE, ENOENT, ENOSPC};

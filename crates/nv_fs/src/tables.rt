@@ -1,9 +1,9 @@
 // What the calls read of the tables, and how they change them.
-ghost use Rattle.std.specs.Prelude.{◌≡◌, ◌+◌, ◌-◌, ◌<◌, ◌≤◌, ◌++◌, ◌∷◌, [], length, take, drop, min, max, is_some, slice_set, slice_index, vec_len, vec_capacity, OnOk};
+ghost use Rattle.std.specs.Prelude.{◌≡◌, ◌+◌, ◌<◌, ◌≤◌, ◌++◌, [], length, take, drop, min, max, is_some, vec_len, vec_capacity, OnOk};
 ghost use Rattle.nv_fs.specs.States.{install, moved_to, file_at, with_at};
 ghost use Rattle.nv_fs.specs.Closes.{with_descriptor};
 ghost use Rattle.nv_fs.specs.Seeks.{bytes_of};
-ghost use Rattle.nv_fs.specs.Fetched.{pipe_at, with_pipe};
+ghost use Rattle.nv_fs.specs.Fetched.{pipe_at};
 ghost use Rattle.nv_fs.specs.Rooms.{HasOpens};
 
 use crate::disk::FileSystem;

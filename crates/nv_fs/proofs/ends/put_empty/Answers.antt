@@ -1,5 +1,4 @@
-use Rattle.std.proofs.Common.{rules, ◌≡◌, ◌∙◌, sym, ap, refl, ℕ, ◌<◌, ◌≤◌, ◌+◌, ◌++◌, List, [], map, length, drop, set, Some, arith, subst}
-use Rattle.std.proofs.lemmas.List.{map-set, length-map}
+use Rattle.std.proofs.Common.{◌∙◌, sym, ap, ◌<◌, [], map, length, set, arith}
 use Rattle.std.proofs.lemmas.Bool.{cond-true, lt-ltb}
 use Rattle.nv_fs.specs.Views.{items_of}
 use Rattle.nv_fs.proofs.Places.{map_with_at}

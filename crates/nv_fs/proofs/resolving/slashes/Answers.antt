@@ -1,8 +1,7 @@
-use Rattle.std.proofs.Common.{◌≡◌, ◌==◌, ◌≤◌, not, ℕ, sym, subst, ap, ◌∙◌, length, rules, tests, unwrap_or}
+use Rattle.std.proofs.Common.{◌==◌, ◌≤◌, not, ℕ, sym, subst, ap, ◌∙◌, length, rules, tests, unwrap_or}
 use Rattle.std.proofs.lemmas.Iterator.{YieldsList-from_slice}
 use Rattle.std.proofs.lemmas.Iterator.Search.{position_from_yields_List}
 use Rattle.std.proofs.lemmas.List.Sums.{prefix_len-le-length}
-use Rattle.std.specs.List.{position_or_len}
 use Rattle.nv_fs.proofs.Firsts.{unwrap_or-place}
 use Rattle.nv_fs.proofs.resolving.slashes.Goals as goal
 

@@ -1,4 +1,4 @@
-use Rattle.std.proofs.Common.{rules, ◌≡◌, ◌∙◌, sym, ap, refl, ℕ, ◌<◌, ◌≤◌, ◌+◌, ◌++◌, List, [], map, length, drop, set, Some, arith, subst}
+use Rattle.std.proofs.Common.{◌∙◌, ap, List}
 use Rattle.nv_fs.specs.States.{Inode}
 use Rattle.nv_fs.specs.Names.{file_of, is_named}
 use Rattle.nv_fs.specs.Rooms.{Disk}

@@ -1,4 +1,4 @@
-use Rattle.std.proofs.Common.{rules, ◌≡◌, ◌∙◌, sym, ap, ℕ, ◌<◌, ◌≤◌, ◌+◌, ◌++◌, List, [], length, drop, pos, to_z, w32, arith, subst}
+use Rattle.std.proofs.Common.{◌∙◌, ap, ℕ, ◌<◌, ◌++◌, List, length, arith}
 use Rattle.nv_fs.proofs.Places.{pipe_is, pipe_changed}
 use Rattle.nv_fs.proofs.disk.FileSystem.fill.Goals as goal
 

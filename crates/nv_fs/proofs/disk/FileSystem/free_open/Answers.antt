@@ -1,6 +1,6 @@
-use Rattle.std.proofs.Common.{rules, ◌≡◌, ◌∙◌, sym, ap, ℕ, ◌-◌, ◌<◌, Bool, true, false, length, arith}
+use Rattle.std.proofs.Common.{rules, ◌≡◌, ◌∙◌, sym, ap, ℕ, ◌-◌, true, length, arith}
 use Rattle.nv_fs.specs.States.{least_free, is_shared, free_open}
-use Rattle.nv_fs.proofs.Least.{least_step, least_here, least_past}
+use Rattle.nv_fs.proofs.Least.{least_step}
 use Rattle.nv_fs.proofs.disk.FileSystem.free_open.Goals as goal
 
 pub loop-i-init : goal.loop-i-init

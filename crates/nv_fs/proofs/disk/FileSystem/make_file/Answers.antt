@@ -1,4 +1,4 @@
-use Rattle.std.proofs.Common.{rules, ◌≡◌, ◌∙◌, sym, ap, refl, ℕ, ◌<◌, ◌≤◌, ◌+◌, ◌++◌, List, [], map, length, drop, set, Some, arith, subst}
+use Rattle.std.proofs.Common.{[], Some}
 use Rattle.nv_fs.proofs.Places.{file_put}
 use Rattle.nv_fs.proofs.disk.FileSystem.make_file.Goals as goal
 

@@ -1,4 +1,4 @@
-use Rattle.std.proofs.Common.{rules, ◌≡◌, ◌∙◌, sym, ap, refl, ℕ, ◌<◌, ◌≤◌, ◌+◌, ◌++◌, List, [], map, length, drop, set, Some, arith, subst}
+use Rattle.std.proofs.Common.{arith}
 use Rattle.nv_fs.proofs.disk.FileSystem.open_at.Goals as goal
 
 pub open_named-requires : goal.open_named-requires

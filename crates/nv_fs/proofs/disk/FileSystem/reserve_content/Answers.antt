@@ -1,4 +1,4 @@
-use Rattle.std.proofs.Common.{rules, ◌≡◌, ◌∙◌, sym, ap, ℕ, ◌<◌, ◌≤◌, ◌+◌, ◌++◌, List, [], length, drop, pos, to_z, w32, arith, subst}
+use Rattle.std.proofs.Common.{◌∙◌, ap, ℕ, ◌<◌, ◌≤◌, length, arith, subst}
 use Rattle.std.specs.Prelude.{map, set, vec_capacity, slice_index}
 use Rattle.nv_fs.specs.Views.{content_room}
 use Rattle.std.proofs.lemmas.Result.{on_ok_weaker}

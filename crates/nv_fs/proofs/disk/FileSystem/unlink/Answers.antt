@@ -1,4 +1,4 @@
-use Rattle.std.proofs.Common.{rules, ◌≡◌, ◌∙◌, sym, ap, refl, ℕ, ◌<◌, ◌≤◌, ◌+◌, ◌++◌, List, [], map, length, drop, set, Some, arith, subst}
+use Rattle.std.proofs.Common.{ap, ◌<◌, length, arith}
 use Rattle.nv_fs.proofs.Places.{name_dropped}
 use Rattle.nv_fs.proofs.disk.FileSystem.unlink.Goals as goal
 
