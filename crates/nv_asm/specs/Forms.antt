@@ -10,6 +10,36 @@ use Rattle.nv_asm.specs.declared.forms.Shape.TheVariants.{Registers, Immediate, 
 use Rattle.nv_asm.specs.declared.forms.Kind.{Kind}
 use Rattle.nv_asm.specs.declared.forms.Kind.TheVariants.{Plain, Bytes, Words, Ascii}
 
+abbrev pub same_form : Form → Form → Bool
+same_form form.Register form.Register = true
+same_form form.Immediate form.Immediate = true
+same_form form.Shift form.Shift = true
+same_form form.Store form.Store = true
+same_form form.Branch form.Branch = true
+same_form form.Upper form.Upper = true
+same_form form.Jump form.Jump = true
+same_form form.Whole form.Whole = true
+same_form _ _ = false
+
+-- the form of the operation's words
+abbrev pub has_form : Form → Op → Bool
+has_form f o = same_form (row o).form f
+
+-- the operands of a shape are those of its operation
+abbrev pub is_lawful_shape : Shape → Bool
+is_lawful_shape (Registers o) = has_form form.Register o
+is_lawful_shape (Immediate o) = has_form form.Immediate o
+is_lawful_shape (Shift o) = has_form form.Shift o
+is_lawful_shape (Load o) = has_form form.Immediate o
+is_lawful_shape (Store o) = has_form form.Store o
+is_lawful_shape (Branch o) = has_form form.Branch o
+is_lawful_shape (Upper o) = has_form form.Upper o
+is_lawful_shape _ = true
+
+abbrev pub is_lawful : Kind → Bool
+is_lawful (Plain s) = is_lawful_shape s
+is_lawful _ = true
+
 unfoldable pub kinds : List (List ℕ × Kind)
 kinds =
     (codes "add", Plain (Registers op.Add)) ∷ (codes "sub", Plain (Registers op.Sub)) ∷ (codes "sll", Plain (Registers op.Sll)) ∷ (codes "slt", Plain (Registers op.Slt)) ∷ (codes "sltu", Plain (Registers op.Sltu)) ∷

@@ -44,6 +44,9 @@ signed (b ∷ digits) = if b == 45 then option_map (λ n. neg_ℤ (pos n)) (magn
 unfoldable pub literal : List ℕ → Option ℤ
 literal text = signed text
 
+abbrev pub is_number : List ℕ → Bool
+is_number text = is_some (literal text)
+
 abbrev pub within : ℤ → ℤ → ℤ → Option ℤ
 within least most z = if int_le least z && int_le z most then Some z else None
 

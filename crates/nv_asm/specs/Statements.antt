@@ -15,7 +15,7 @@ use Rattle.nv_asm.specs.declared.forms.Shape.{Shape}
 use Rattle.nv_asm.specs.declared.forms.Shape.TheVariants as shape
 use Rattle.nv_asm.specs.declared.forms.Kind.{Kind}
 use Rattle.nv_asm.specs.declared.forms.Kind.TheVariants as kind
-use Rattle.nv_asm.specs.Numbers.{register, literal, number, number_of_8_bits, number_of_12_bits, number_of_32_bits}
+use Rattle.nv_asm.specs.Numbers.{register, is_number, number, number_of_8_bits, number_of_12_bits, number_of_32_bits}
 use Rattle.nv_asm.specs.Forms.{kinds}
 use Rattle.nv_asm.specs.Strings.{string}
 
@@ -222,9 +222,6 @@ formed s (a ∷ b ∷ c ∷ []) = of_three s a b c
 formed s _ = None
 
 -- ---- words and bytes
-
-abbrev pub is_number : List ℕ → Bool
-is_number text = is_some (literal text)
 
 -- whether a number that was read is in its range
 abbrev pub is_within : Option (Option ℤ) → Bool

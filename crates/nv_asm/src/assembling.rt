@@ -1,0 +1,108 @@
+// The assembler.
+ghost use Rattle.std.specs.Prelude.{◌≡◌, ◌≢◌, ◌≤◌, ◌<◌, ◌+◌, ◌%◌, Ok, Err, IsTrue, IfOk, IfErr, OnOk, vec_len, length};
+ghost use Rattle.nv_text.specs.Lines.{lines};
+ghost use Rattle.nv_text.specs.Names.{defined};
+ghost use Rattle.nv_elf.specs.Elf.{image_of};
+ghost use Rattle.nv_elf.specs.Written.{is_program, bytes_in};
+ghost use Rattle.nv_asm.specs.declared.place.Section.TheVariants as section;
+ghost use Rattle.nv_asm.specs.Places.{placed, start};
+ghost use Rattle.nv_asm.specs.Assembled.{first_cause, section_bytes, entry_of, line_number, text_base, text_range, data_ranges, assembled};
+ghost use Rattle.nv_asm.specs.Known.{known, HasRoom};
+ghost use Rattle.nv_asm.specs.Programs.{program_view};
+
+use crate::fault::{AsmCause, AsmFault};
+use crate::labels::{START, labels};
+use crate::laying::{TEXT_BASE, data_base, entry_past, laid};
+use crate::place::{Label, Section};
+use crate::placed::placed_line;
+use nv_elf::{Program, Segment};
+use nv_text::{Names, split_line};
+use std::alloc::{AllocError, Global};
+
+// The sections' bytes, and the address to begin at.
+#[derive(Drop)]
+struct Laid {
+    text: Vec<u8>,
+    data: Vec<u8>,
+    entry: u128,
+}
+
+// The number of a line, counted from 1.
+fn line_number(line: usize) -> u32
+    ensures { result ≡ line_number line }
+{
+    u32::try_from(line).unwrap_or(u32::MAX).saturating_add(1)
+}
+
+// The second pass: the bytes of a text's lines, or its first fault.
+fn lay(alloc: Global, names: &Names<Label>, text_len: u128, text: &[u8]) -> Result<Laid, AsmFault>
+    requires { HasRoom names.now text_len }
+{
+    let mut laid_text = Vec::new(alloc);
+    let mut laid_data = Vec::new(alloc);
+    let mut entry = u128::from(TEXT_BASE);
+    let mut rest = text;
+    let mut line = 0usize;
+    let mut reached = START;
+    while !rest.is_empty() {
+        let (first, behind) = split_line(rest);
+        let placed = placed_line(alloc, line, reached, first)?;
+        let bytes = match laid(alloc, names, text_len, &placed)? {
+            Ok(bytes) => bytes,
+            Err(cause) => return Err(AsmFault::Line(line_number(line), cause)),
+        };
+        match reached.section {
+            Section::Text => laid_text.extend_from_slice(&bytes)?,
+            Section::Data => laid_data.extend_from_slice(&bytes)?,
+        }
+        entry = entry_past(names, text_len, entry, &placed);
+        reached = placed.after();
+        line += 1;
+        rest = behind;
+    }
+    Ok(Laid {
+        text: laid_text,
+        data: laid_data,
+        entry,
+    })
+}
+
+fn segment(address: u32, write: bool, bytes: Vec<u8>) -> Segment {
+    Segment {
+        address,
+        size: bytes.len() as u32,
+        read: true,
+        write,
+        execute: !write,
+        bytes,
+    }
+}
+
+fn program(alloc: Global, text_len: u128, laid: Laid) -> Result<Program, AllocError> {
+    let mut segments = Vec::new(alloc);
+    segments.push(segment(TEXT_BASE, false, laid.text))?;
+    if !laid.data.is_empty() {
+        segments.push(segment(data_base(text_len) as u32, true, laid.data))?;
+    }
+    Ok(Program {
+        entry: laid.entry as u32,
+        segments,
+    })
+}
+
+/// Assembles a text.
+pub fn assemble(alloc: Global, text: &[u8]) -> Result<Program, AsmFault>
+    // want of memory is the one free answer
+    ensures meaning { result ≢ Err AsmFault.Memory → program_view result ≡ assembled text.now }
+    // what `nv_elf::write` requires
+    ensures sound { IfOk result (λ program. IsTrue (is_program (image_of program))) }
+    ensures small { IfOk result (λ program. bytes_in (image_of program).ranges ≤ 1048576) }
+{
+    let (names, text_len) = labels(alloc, text)?;
+    let laid = lay(alloc, &names, text_len, text)?;
+    if text_len < 4 {
+        return Err(AsmFault::Line(1, AsmCause::Range));
+    }
+    let program = program(alloc, text_len, laid)?;
+    Ok(program)
+}
