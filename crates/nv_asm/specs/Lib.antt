@@ -4,7 +4,6 @@ pub mod Forms
 pub mod Strings
 pub mod Statements
 pub mod Views
-pub mod Wheres
 pub mod Places
 pub mod Lines
 pub mod Assembled

@@ -10,7 +10,8 @@ use Rattle.nv_asm.specs.declared.place.Section.TheVariants as section
 use Rattle.nv_asm.specs.declared.place.Place.{Place}
 use Rattle.nv_asm.specs.declared.place.Label.{Label}
 use Rattle.nv_asm.specs.declared.place.Reached.{Reached}
-use Rattle.nv_asm.specs.Strings.{Outside, comment_place}
+use Rattle.nv_asm.specs.declared.strings.Where.TheVariants.{Outside}
+use Rattle.nv_asm.specs.Strings.{comment_place}
 use Rattle.nv_asm.specs.Statements.{Code, Fixed, Branch, Jump, Load, Statement, Blank, Text, Data, Bytes, Zero, Words, Entry, Instruction, OffInstruction, OffData, OffWords, statement}
 
 -- how many bytes the current section has

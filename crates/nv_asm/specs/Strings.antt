@@ -1,5 +1,9 @@
 -- Texts in quotes, and comments, which begin outside of them.
 use Rattle.std.specs.Prelude.{ℕ, Bool, true, false, List, [], ◌∷◌, Option, Some, None, if◌then◌else◌, ◌==◌, ◌+◌, option_map}
+use Rattle.nv_asm.specs.declared.strings.Mark.{Mark}
+use Rattle.nv_asm.specs.declared.strings.Mark.TheVariants.{Stands, Escapes, Ends, Wrong}
+use Rattle.nv_asm.specs.declared.strings.Where.{Where}
+use Rattle.nv_asm.specs.declared.strings.Where.TheVariants.{Outside, Inside, Escaped}
 
 -- what a byte behind a backslash stands for
 abbrev pub escape : ℕ → Option ℕ
@@ -10,17 +14,11 @@ abbrev pub at_end : List ℕ → Option (List ℕ)
 at_end [] = Some []
 at_end (b ∷ bs) = None
 
--- what a byte is, behind the opening quote or behind a backslash
-pub data Mark : Type 0 where
-  Stands : ℕ → Mark
-  Escapes : Mark
-  Ends : Mark
-  Wrong : Mark
-
 abbrev pub escaped_mark : Option ℕ → Mark
 escaped_mark (Some c) = Stands c
 escaped_mark None = Wrong
 
+-- what a byte is, behind the opening quote or behind a backslash
 abbrev pub mark : Bool → ℕ → Mark
 mark false b = if b == 92 then Escapes else (if b == 34 then Ends else Stands b)
 mark true b = escaped_mark (escape b)
@@ -39,12 +37,6 @@ quoted escaped (b ∷ bs) = elim (mark escaped b) [
 abbrev pub string : List ℕ → Option (List ℕ)
 string [] = None
 string (b ∷ bs) = if b == 34 then quoted false bs else None
-
--- where a byte of a line stands: outside quotes, inside, or inside behind a backslash
-pub data Where : Type 0 where
-  Outside : Where
-  Inside : Where
-  Escaped : Where
 
 -- where the next byte stands, if this one begins no comment
 abbrev pub next : Where → ℕ → Option Where

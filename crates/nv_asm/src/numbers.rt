@@ -1,13 +1,13 @@
 // Registers and numbers.
-ghost use Rattle.std.specs.Prelude.{◌≡◌, ℕ, ℤ, pos, ◌≤ℤ◌, ◌<ℤ◌, neg_ℤ, ◌≤◌, ◌<◌, ◌^◌, map, true, length, option_map, OnOk, is_some};
+ghost use Rattle.std.specs.Prelude.{◌≡◌, ℕ, ℤ, pos, ◌≤ℤ◌, ◌<ℤ◌, neg_ℤ, ◌≤◌, ◌<◌, ◌^◌, map, true, length, option_map, IfSome, is_some};
 ghost use Rattle.std.specs.List.{list_all};
 ghost use Rattle.std.specs.Str.{IsAscii};
 ghost use Rattle.std.specs.Str.Parse.{digits_value, IsNumeral};
 ghost use Rattle.nv_text.specs.Names.{defined};
 ghost use Rattle.nv_text.specs.Lines.{is_digit};
 ghost use Rattle.std.specs.Char.{is_ascii_digit, is_ascii_hexdigit};
-ghost use Rattle.nv_asm.specs.Numbers.{registers, register, numbered, decimal, hexadecimal, magnitude, signed, literal, number, is_number};
-ghost use Rattle.nv_asm.specs.Small.{small, small_signed, IsDigits};
+ghost use Rattle.nv_asm.specs.Numbers.{registers, register, numbered, decimal, hexadecimal, magnitude, signed, literal, number, number_of_32_bits, is_number};
+ghost use Rattle.nv_asm.specs.Small.{small, small_signed, with_sign, IsDigits};
 
 /// A register's number.
 #[derive(Clone, Copy, Debug, PartialEq, Eq)]
@@ -65,7 +65,8 @@ fn find(table: &[(&str, u8)], word: &[u8]) -> Option<u8>
 
 #[tactic(auto, unfolding(crate::specs::Numbers::registers))]
 fn named(word: &[u8]) -> Option<u8>
-    ensures { result ≡ defined registers word.now }
+    ensures value { result ≡ defined registers word.now }
+    ensures small { IfSome result (λ number. number < 32) }
 {
     find(&REGISTERS, word)
 }
@@ -78,7 +79,8 @@ fn is_digit(byte: u8) -> bool
 
 // x0 to x31.
 fn numbered(text: &[u8]) -> Option<u8>
-    ensures { result ≡ numbered text.now }
+    ensures value { result ≡ numbered text.now }
+    ensures small { IfSome result (λ number. number < 32) }
 {
     match text {
         [b'x', unit] if is_digit(*unit) => Some(*unit - b'0'),
@@ -156,7 +158,9 @@ fn magnitude(text: &[u8]) -> Option<Option<u32>>
     }
 }
 
-fn signed(negative: bool, size: Option<u32>) -> Option<i64> {
+fn signed(negative: bool, size: Option<u32>) -> Option<i64>
+    ensures { result ≡ option_map (with_sign negative) size }
+{
     match size {
         None => None,
         Some(size) if negative => Some(-i64::from(size)),
@@ -182,14 +186,28 @@ pub fn is_number(text: &[u8]) -> bool
     literal(text).is_some()
 }
 
-/// A number: what is none is `None`, and what is off its range `Some(None)`.
-pub fn number(least: i64, most: i64, text: &[u8]) -> Option<Option<i64>>
-    requires least { neg_ℤ (pos 4294967295) ≤ℤ least }
-    requires most { most ≤ℤ pos 4294967295 }
-    ensures { result ≡ number least most text.now }
+/// A number in a range of 32 bits: what is none is `None`, and what is off its range `Some(None)`.
+#[tactic(auto, unfolding(crate::specs::Numbers::number))]
+pub fn number(least: i32, most: i32, text: &[u8]) -> Option<Option<i32>>
+    ensures value { result ≡ number least most text.now }
+    ensures within { IfSome result (λ read. IfSome read (λ value. (least ≤ℤ value) × (value ≤ℤ most))) }
 {
     match literal(text)? {
-        Some(value) if least <= value && value <= most => Some(Some(value)),
+        Some(value) if i64::from(least) <= value && value <= i64::from(most) => {
+            Some(Some(value as i32))
+        }
+        _ => Some(None),
+    }
+}
+
+/// A number of 32 bits, with a sign or without.
+#[tactic(auto, unfolding(crate::specs::Numbers::number))]
+pub fn number_of_32_bits(text: &[u8]) -> Option<Option<i64>>
+    ensures value { result ≡ number_of_32_bits text.now }
+    ensures within { IfSome result (λ read. IfSome read (λ value. (neg_ℤ (pos 2147483648) ≤ℤ value) × (value ≤ℤ pos 4294967295))) }
+{
+    match literal(text)? {
+        Some(value) if value >= -2_147_483_648 && value <= 4_294_967_295 => Some(Some(value)),
         _ => Some(None),
     }
 }

@@ -1,5 +1,5 @@
 // The statements of assembler texts.
-ghost use Rattle.std.specs.Prelude.{◌≡◌, ◌≤◌, ◌<◌, ◌^◌, ℕ, ℤ, pos, neg_ℤ, ◌≤ℤ◌, IsTrue, [], ◌∷◌, map, length, option_map, option_and_then, IfOk};
+ghost use Rattle.std.specs.Prelude.{◌≡◌, ◌≤◌, ◌<◌, ◌^◌, ℕ, ℤ, pos, neg_ℤ, ◌≤ℤ◌, IsTrue, [], ◌∷◌, map, length, option_map, option_and_then, IfOk, IfSome};
 ghost use Rattle.std.specs.List.{list_all, prefix_len};
 ghost use Rattle.std.specs.Int.{w32, cast_unsigned};
 ghost use Rattle.nv_isa.specs.Spelling.{encoded, Fits};
@@ -12,28 +12,24 @@ ghost use Rattle.nv_asm.specs.Views.{view, word_view, words_view, result_view, t
 use crate::code::{Branch, Code, Insns, Statement, Word};
 use crate::fault::AsmCause;
 use crate::forms::{Kind, Shape, kind_of};
-use crate::numbers::{Register, is_number, number, register_of};
+use crate::numbers::{Register, is_number, number, number_of_32_bits, register_of};
 use crate::strings::string;
 use nv_isa::{Insn, Op, encode};
 use nv_text::{is_name, operands};
 use std::alloc::{AllocError, Global};
 
-fn number_of_8_bits(text: &[u8]) -> Option<Option<i64>>
-    ensures { result ≡ number_of_8_bits text.now }
+fn number_of_8_bits(text: &[u8]) -> Option<Option<i32>>
+    ensures value { result ≡ number_of_8_bits text.now }
+    ensures within { IfSome result (λ read. IfSome read (λ value. (neg_ℤ (pos 128) ≤ℤ value) × (value ≤ℤ pos 255))) }
 {
     number(-128, 255, text)
 }
 
-fn number_of_12_bits(text: &[u8]) -> Option<Option<i64>>
-    ensures { result ≡ number_of_12_bits text.now }
+fn number_of_12_bits(text: &[u8]) -> Option<Option<i32>>
+    ensures value { result ≡ number_of_12_bits text.now }
+    ensures within { IfSome result (λ read. IfSome read (λ value. (neg_ℤ (pos 2048) ≤ℤ value) × (value ≤ℤ pos 2047))) }
 {
     number(-2048, 2047, text)
-}
-
-fn number_of_32_bits(text: &[u8]) -> Option<Option<i64>>
-    ensures { result ≡ number_of_32_bits text.now }
-{
-    number(-2_147_483_648, 4_294_967_295, text)
 }
 
 fn single<'a>(insn: Insn) -> Statement<'a>
@@ -111,8 +107,9 @@ fn base_register(text: &[u8]) -> Option<Register>
 }
 
 // The number of `imm(rs1)`.
-fn displacement(text: &[u8]) -> Option<Option<i64>>
-    ensures { result ≡ displacement text.now }
+fn displacement(text: &[u8]) -> Option<Option<i32>>
+    ensures value { result ≡ displacement text.now }
+    ensures within { IfSome result (λ read. IfSome read (λ value. (neg_ℤ (pos 2048) ≤ℤ value) × (value ≤ℤ pos 2047))) }
 {
     number_of_12_bits(&text[..open_place(text)])
 }
@@ -149,7 +146,7 @@ fn immediate<'a>(op: Op, rd: &[u8], rs1: &[u8], value: &[u8]) -> Option<Statemen
         rd: rd.number,
         rs1: rs1.number,
         rs2: 0,
-        imm: value as i32,
+        imm: value,
     }))
 }
 
@@ -168,7 +165,7 @@ fn shift<'a>(op: Op, rd: &[u8], rs1: &[u8], amount: &[u8]) -> Option<Statement<'
         rd: rd.number,
         rs1: rs1.number,
         rs2: 0,
-        imm: amount as i32,
+        imm: amount,
     }))
 }
 
@@ -187,7 +184,7 @@ fn load<'a>(op: Op, rd: &[u8], from: &[u8]) -> Option<Statement<'a>>
         rd: rd.number,
         rs1: rs1.number,
         rs2: 0,
-        imm: value as i32,
+        imm: value,
     }))
 }
 
@@ -206,7 +203,7 @@ fn store<'a>(op: Op, rs2: &[u8], to: &[u8]) -> Option<Statement<'a>>
         rd: 0,
         rs1: rs1.number,
         rs2: rs2.number,
-        imm: value as i32,
+        imm: value,
     }))
 }
 

@@ -1,11 +1,13 @@
 use Rattle.std.proofs.Common.{ℕ, List, [], Bor, bytes_eq, sym, ap, ◌∙◌}
 use Rattle.nv_asm.specs.declared.forms.Kind.{Kind}
-use Rattle.nv_asm.specs.declared.forms.Kind.TheVariants.{Bytes}
+use Rattle.nv_asm.specs.declared.forms.Kind.TheVariants.{Plain}
+use Rattle.nv_asm.specs.declared.forms.Shape.TheVariants.{Registers}
+use Rattle.nv_isa.specs.declared.op.Op.TheVariants.{Lui}
 use Rattle.nv_asm.proofs.Finding.{first_of-here, first_of-later, first_of-past}
 use Rattle.nv_asm.proofs.forms.find.Goals as goal
 
 abbrev none_given : Bor (List ℕ) × Kind
-none_given = (record { ref_ptr = (0, 0); now = [] }, Bytes)
+none_given = (record { ref_ptr = (0, 0); now = [] }, Plain (Registers Lui))
 
 pub returns-then-eq : goal.returns-then-eq
 returns-then-eq c =

@@ -1,0 +1,27 @@
+-- What is gathered of a list, item by item.
+use Rattle.std.proofs.Common.{◌≡◌, ℕ, ◌+◌, ◌<◌, ◌≤◌, Bool, true, false, ◌||◌, List, [], ◌∷◌, ◌++◌, length, drop, get_or, refl, ap, sym, ◌∙◌, append_assoc, append-nil}
+use Rattle.std.proofs.lemmas.List.{at_drop_more, at_drop_all}
+
+abbrev pub Gathers : {X A : Type 0} → (List X → List A) → (X → List A) → Type 0
+Gathers {X = X} g h = (x : X) (xs : List X) → g (x ∷ xs) ≡ h x ++ g xs
+
+pub rest-more : {X A : Type 0} (g : List X → List A) (h : X → List A) → Gathers g h → (front more : List A) (xs : List X) (i : ℕ) (d : X) → i < length xs
+    → more ≡ h (get_or xs i d) → (front ++ more) ++ g (drop (i + 1) xs) ≡ front ++ g (drop i xs)
+rest-more g h step front more xs i d inside e =
+    append_assoc front more (g (drop (i + 1) xs)) ∙ ap (λ m. front ++ (m ++ g (drop (i + 1) xs))) e
+    ∙ ap (λ r. front ++ r) (sym (at_drop_more g xs i d inside ∙ step (get_or xs i d) (drop (i + 1) xs)))
+
+pub rest-end : {X A : Type 0} (g : List X → List A) → g [] ≡ [] → (front : List A) (xs : List X) (i : ℕ) → length xs ≤ i → front ≡ front ++ g (drop i xs)
+rest-end g none front xs i past = sym (ap (λ r. front ++ r) (at_drop_all g xs i past ∙ none) ∙ append-nil front)
+
+abbrev pub Tests : {X : Type 0} → (List X → Bool) → (X → Bool) → Type 0
+Tests {X = X} g h = (x : X) (xs : List X) → g (x ∷ xs) ≡ (h x || g xs)
+
+pub test-here : {X : Type 0} (g : List X → Bool) (h : X → Bool) → Tests g h → (xs : List X) (i : ℕ) (d : X) → i < length xs → h (get_or xs i d) ≡ true → g (drop i xs) ≡ true
+test-here g h step xs i d inside e = at_drop_more g xs i d inside ∙ step (get_or xs i d) (drop (i + 1) xs) ∙ ap (λ b. b || g (drop (i + 1) xs)) e
+
+pub test-later : {X : Type 0} (g : List X → Bool) (h : X → Bool) → Tests g h → (xs : List X) (i : ℕ) (d : X) → i < length xs → h (get_or xs i d) ≡ false → g (drop i xs) ≡ g (drop (i + 1) xs)
+test-later g h step xs i d inside e = at_drop_more g xs i d inside ∙ step (get_or xs i d) (drop (i + 1) xs) ∙ ap (λ b. b || g (drop (i + 1) xs)) e
+
+pub test-end : {X : Type 0} (g : List X → Bool) → g [] ≡ false → (xs : List X) (i : ℕ) → length xs ≤ i → g (drop i xs) ≡ false
+test-end g none xs i past = at_drop_all g xs i past ∙ none
