@@ -2,7 +2,8 @@
 use Rattle.std.proofs.Common.{◌≡◌, ℕ, ◌+◌, ◌*◌, ◌%◌, ◌^◌, ◌<◌, Bool, true, false, IsTrue, refl, sym, ap, subst, ◌∙◌, arith}
 use Rattle.std.specs.Prelude.{ℤ, pos, neg_ℤ, ◌≤ℤ◌, ◌<ℤ◌}
 use Rattle.std.specs.Int.{w32, cast_signed, cast_unsigned}
-use Rattle.std.proofs.lemmas.Int.{ints, of_z-to_z}
+use Rattle.std.proofs.lemmas.Int.{ints, of_z-to_z, to_z-of_z}
+use Rattle.std.specs.Int.RustNames.{FitsSigned}
 use Rattle.nv_isa.specs.declared.op.Op.{Op}
 use Rattle.nv_isa.specs.declared.op.Op.TheVariants as op
 use Rattle.nv_isa.specs.declared.op.Form.{Form}
@@ -66,5 +67,9 @@ pub fits-addi : (d a : ℕ) (z : ℤ) → d < 32 → a < 32 → neg_ℤ (pos 204
 unfolding row
 fits-addi d a z hd ha least most = record { registers = (hd, ha, refl); immediate = in_12_bits z least most }
 
--- for the code
-pub ruleset fitting = (fits-register, fits-immediate, fits-shift, fits-store, fits-upper, fits-branch, fits-jump, fits-lui, fits-addi)
+-- an immediate as a program has it
+pub fits-cast : (o : Op) (d a b : ℕ) (z : ℤ) → FitsSigned w32 z → Fits (insn o d a b z) → Fits (insn o d a b (cast_signed w32 (cast_unsigned w32 z)))
+fits-cast o d a b z f x = subst (λ y. Fits (insn o d a b y)) (sym (to_z-of_z w32 z f)) x
+
+pub fits-as : (o : Op) (d a b : ℕ) (y z : ℤ) → FitsSigned w32 y → y ≡ z → Fits (insn o d a b z) → Fits (insn o d a b (cast_signed w32 (cast_unsigned w32 y)))
+fits-as o d a b y z f e x = fits-cast o d a b y f (subst (λ y. Fits (insn o d a b y)) (sym e) x)

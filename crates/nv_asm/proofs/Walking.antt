@@ -1,6 +1,8 @@
 -- What is gathered of a list, item by item.
-use Rattle.std.proofs.Common.{◌≡◌, ℕ, ◌+◌, ◌<◌, ◌≤◌, Bool, true, false, ◌||◌, List, [], ◌∷◌, ◌++◌, length, drop, get_or, refl, ap, sym, ◌∙◌, append_assoc, append-nil}
+use Rattle.std.proofs.Common.{◌≡◌, ℕ, ◌+◌, ◌<◌, ◌≤◌, Bool, true, false, ◌&&◌, ◌||◌, Bor, List, [], ◌∷◌, ◌++◌, length, drop, get_or, refl, ap, sym, ◌∙◌, append_assoc, append-nil}
+use Rattle.std.specs.List.{list_all}
 use Rattle.std.proofs.lemmas.List.{at_drop_more, at_drop_all}
+use Rattle.nv_asm.specs.Views.{texts}
 
 abbrev pub Gathers : {X A : Type 0} → (List X → List A) → (X → List A) → Type 0
 Gathers {X = X} g h = (x : X) (xs : List X) → g (x ∷ xs) ≡ h x ++ g xs
@@ -25,3 +27,18 @@ test-later g h step xs i d inside e = at_drop_more g xs i d inside ∙ step (get
 
 pub test-end : {X : Type 0} (g : List X → Bool) → g [] ≡ false → (xs : List X) (i : ℕ) → length xs ≤ i → g (drop i xs) ≡ false
 test-end g none xs i past = at_drop_all g xs i past ∙ none
+
+abbrev pub none_given : Bor (List ℕ)
+none_given = record { ref_ptr = (0, 0); now = [] }
+
+abbrev all_from : (List ℕ → Bool) → List (Bor (List ℕ)) → Bool
+all_from p xs = list_all p (texts xs)
+
+pub all-not : (p : List ℕ → Bool) (xs : List (Bor (List ℕ))) (i : ℕ) → i < length xs → p (get_or xs i none_given).now ≡ false → all_from p (drop i xs) ≡ false
+all-not p xs i inside e = at_drop_more (all_from p) xs i none_given inside ∙ ap (λ b. b && all_from p (drop (i + 1) xs)) e
+
+pub all-later : (p : List ℕ → Bool) (xs : List (Bor (List ℕ))) (i : ℕ) → i < length xs → p (get_or xs i none_given).now ≡ true → all_from p (drop i xs) ≡ all_from p (drop (i + 1) xs)
+all-later p xs i inside e = at_drop_more (all_from p) xs i none_given inside ∙ ap (λ b. b && all_from p (drop (i + 1) xs)) e
+
+pub all-end : (p : List ℕ → Bool) (xs : List (Bor (List ℕ))) (i : ℕ) → length xs ≤ i → all_from p (drop i xs) ≡ true
+all-end p xs i past = at_drop_all (all_from p) xs i past

@@ -39,30 +39,44 @@ fn single<'a>(insn: Insn) -> Statement<'a>
     Statement::Instruction(Code::Fixed(Insns::One(encode(&insn))))
 }
 
+// The upper 20 bits of a number, with a carry from the low 12.
+fn upper(value: u32) -> u32
+    ensures value { result ≡ upper_of value }
+    ensures small { result < 2 ^ 20 }
+{
+    ((u64::from(value) + 0x800) / 4096 % 1_048_576) as u32
+}
+
+// The low 12 bits of a number, with their sign.
+fn lower(value: u32) -> i32
+    ensures value { result ≡ lower_of value }
+    ensures within { (neg_ℤ (pos 2048) ≤ℤ result) × (result ≤ℤ pos 2047) }
+{
+    let low = (value % 4096) as i32;
+    if low < 2048 { low } else { low - 4096 }
+}
+
 /// The words that load a number of 32 bits into a register.
 #[tactic(auto, unfolding(crate::specs::Statements::loading))]
 pub fn loading(rd: u8, value: u32) -> Insns
     requires { rd < 32 }
     ensures { words_view result ≡ loading rd value }
 {
-    let upper = ((u64::from(value) + 0x800) / 4096 % 1_048_576) as u32;
-    let low = (value % 4096) as i32;
-    let lower = if low < 2048 { low } else { low - 4096 };
     let high = Insn {
         op: Op::Lui,
         rd,
         rs1: 0,
         rs2: 0,
-        imm: (4096 * upper).cast_signed(),
+        imm: (4096 * upper(value)).cast_signed(),
     };
-    let rest = Insn {
+    let low = Insn {
         op: Op::Addi,
         rd,
         rs1: rd,
         rs2: 0,
-        imm: lower,
+        imm: lower(value),
     };
-    Insns::Two(encode(&high), encode(&rest))
+    Insns::Two(encode(&high), encode(&low))
 }
 
 fn name(text: &[u8]) -> Option<&[u8]>
@@ -440,25 +454,45 @@ pub fn word_of(text: &[u8]) -> Word<'_>
 fn are_numbers(operands: &[&[u8]]) -> bool
     ensures { result ≡ list_all is_number (texts operands.now) }
 {
-    operands.iter().all(|operand| is_number(operand))
+    for operand in operands {
+        if !is_number(operand) {
+            return false;
+        }
+    }
+    true
 }
 
 fn are_bytes(operands: &[&[u8]]) -> bool
     ensures { result ≡ list_all is_byte (texts operands.now) }
 {
-    operands.iter().all(|operand| is_byte(operand))
+    for operand in operands {
+        if !is_byte(operand) {
+            return false;
+        }
+    }
+    true
 }
 
 fn are_items(operands: &[&[u8]]) -> bool
     ensures { result ≡ list_all is_item (texts operands.now) }
 {
-    operands.iter().all(|operand| is_item(operand))
+    for operand in operands {
+        if !is_item(operand) {
+            return false;
+        }
+    }
+    true
 }
 
 fn are_words(operands: &[&[u8]]) -> bool
     ensures { result ≡ list_all is_word (texts operands.now) }
 {
-    operands.iter().all(|operand| is_word(operand))
+    for operand in operands {
+        if !is_word(operand) {
+            return false;
+        }
+    }
+    true
 }
 
 fn byte_list(alloc: Global, operands: &[&[u8]]) -> Result<Vec<u8>, AllocError>
