@@ -5,3 +5,6 @@ pub mod Fitting
 pub mod Quoting
 pub mod Walking
 pub mod Signs
+pub mod Sizes
+pub mod Passing
+pub mod Faultless

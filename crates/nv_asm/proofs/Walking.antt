@@ -1,5 +1,5 @@
 -- What is gathered of a list, item by item.
-use Rattle.std.proofs.Common.{◌≡◌, ℕ, ◌+◌, ◌<◌, ◌≤◌, Bool, true, false, ◌&&◌, ◌||◌, Bor, List, [], ◌∷◌, ◌++◌, length, drop, get_or, refl, ap, sym, ◌∙◌, append_assoc, append-nil}
+use Rattle.std.proofs.Common.{◌≡◌, ℕ, ◌+◌, ◌<◌, ◌≤◌, Bool, true, false, ◌&&◌, ◌||◌, Bor, List, [], ◌∷◌, ◌++◌, length, map, drop, get_or, refl, ap, sym, ◌∙◌, append_assoc, append-nil, arith}
 use Rattle.std.specs.List.{list_all}
 use Rattle.std.proofs.lemmas.List.{at_drop_more, at_drop_all}
 use Rattle.nv_asm.specs.Views.{texts}
@@ -42,3 +42,7 @@ all-later p xs i inside e = at_drop_more (all_from p) xs i none_given inside ∙
 
 pub all-end : (p : List ℕ → Bool) (xs : List (Bor (List ℕ))) (i : ℕ) → length xs ≤ i → all_from p (drop i xs) ≡ true
 all-end p xs i past = at_drop_all (all_from p) xs i past
+
+pub length-texts : {A : Type 0} (f : List ℕ → A) (xs : List (Bor (List ℕ))) → length (map f (texts xs)) ≡ length xs
+length-texts f [] = refl
+length-texts f (x ∷ xs) = omega (arith, length-texts f xs)

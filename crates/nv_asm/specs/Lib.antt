@@ -3,6 +3,7 @@ pub mod Small
 pub mod Forms
 pub mod Strings
 pub mod Statements
+pub mod Bounds
 pub mod Views
 pub mod Places
 pub mod Lines

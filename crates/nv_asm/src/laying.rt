@@ -1,17 +1,20 @@
 // The bytes of lines, or why they are faulty.
-ghost use Rattle.std.specs.Prelude.{◌≡◌, ◌≤◌, ◌<◌, ◌+◌, ◌++◌, ◌^◌, ℕ, IsTrue, Ok, map, replicate, option_map, IfOk, OnOk, length};
+ghost use Rattle.std.specs.Prelude.{◌≡◌, ◌≤◌, ◌<◌, ◌+◌, ◌-◌, ℤ, pos, neg_ℤ, ◌≤ℤ◌, IfSome, ◌++◌, ◌^◌, ℕ, IsTrue, Ok, map, replicate, option_map, IfOk, OnOk, length};
 ghost use Rattle.std.specs.List.{list_any};
 ghost use Rattle.std.specs.Int.{w32, to_le_bytes};
 ghost use Rattle.nv_text.specs.Names.{defined};
-ghost use Rattle.nv_asm.specs.Statements.{word_of};
+ghost use Rattle.nv_isa.specs.declared.op.Op.TheVariants as op;
+ghost use Rattle.nv_isa.specs.Spelling.{encoded, low};
+ghost use Rattle.nv_asm.specs.Statements.{insn, word_of};
 ghost use Rattle.nv_asm.specs.Views.{view, code_view, word_view, words_view, texts};
 ghost use Rattle.nv_asm.specs.Places.{stated};
 ghost use Rattle.nv_asm.specs.Lines.{placed_view, laid_view, IsSmall};
 ghost use Rattle.nv_asm.specs.Assembled.{data_base, address, address_of, is_undefined, is_entry, is_entry_place, word_lacks, code_lacks, lacks, distance, word_value, code_words, le_words, content, is_twice, is_long, padding, laid_by, laid, entry_past};
 ghost use Rattle.nv_asm.specs.Known.{known, HasRoom};
 
-use crate::code::{Code, Insns, Statement, Word};
+use crate::code::{Branch, Code, Insns, Statement, Word};
 use crate::fault::AsmCause;
+use crate::numbers::Register;
 use crate::place::{Label, Place, Reached, Section};
 use crate::placed::Placed;
 use crate::statements::{loading, word_of};
@@ -135,10 +138,13 @@ fn lacks(names: &Names<Label>, text_len: u128, statement: &Statement<'_>) -> boo
 // The distance of a branch or a jump, where it is even and in its range.
 #[tactic(auto, unfolding(crate::specs::Assembled::distance))]
 fn distance(most: u128, at: u128, target: u128) -> Option<i32>
+    requires least { 2 ≤ most }
     requires most { most < 2 ^ 30 }
     requires at { at < 2 ^ 122 }
     requires target { target < 2 ^ 122 }
-    ensures { result ≡ distance most at target }
+    ensures value { result ≡ distance most at target }
+    ensures within { IfSome result (λ z. (neg_ℤ (pos most) ≤ℤ z) × (z ≤ℤ pos (most - 2))) }
+    ensures even { IfSome result (λ z. low 1 z ≡ 0) }
 {
     if at > target + most || target + 2 > at + most || (at + target) % 2 != 0 {
         return None;
@@ -150,20 +156,28 @@ fn distance(most: u128, at: u128, target: u128) -> Option<i32>
     }
 }
 
-fn branch_word(op: Op, rs1: u8, rs2: u8, imm: i32) -> u32 {
+fn branch_word(branch: Branch<'_>, imm: i32) -> u32
+    requires within { (neg_ℤ (pos 4096) ≤ℤ imm) × (imm ≤ℤ pos 4094) }
+    requires even { low 1 imm ≡ 0 }
+    ensures { result ≡ encoded (insn branch.entry.op 0 branch.entry.rs1 branch.entry.rs2 imm) }
+{
     encode(&Insn {
-        op,
+        op: branch.op,
         rd: 0,
-        rs1,
-        rs2,
+        rs1: branch.rs1,
+        rs2: branch.rs2,
         imm,
     })
 }
 
-fn jump_word(rd: u8, imm: i32) -> u32 {
+fn jump_word(rd: Register, imm: i32) -> u32
+    requires within { (neg_ℤ (pos 1048576) ≤ℤ imm) × (imm ≤ℤ pos 1048574) }
+    requires even { low 1 imm ≡ 0 }
+    ensures { result ≡ encoded (insn op.Jal rd.number 0 0 imm) }
+{
     encode(&Insn {
         op: Op::Jal,
-        rd,
+        rd: rd.number,
         rs1: 0,
         rs2: 0,
         imm,
@@ -180,11 +194,11 @@ fn code_words(names: &Names<Label>, text_len: u128, at: u128, code: Code<'_>) ->
         Code::Fixed(insns) => Some(insns),
         Code::Branch(branch) => {
             let imm = distance(4096, at, address_of(names, text_len, branch.target))?;
-            Some(Insns::One(branch_word(branch.op, branch.rs1, branch.rs2, imm)))
+            Some(Insns::One(branch_word(branch, imm)))
         }
         Code::Jump(rd, target) => {
-            let imm = distance(MOST_BYTES, at, address_of(names, text_len, target))?;
-            Some(Insns::One(jump_word(rd.number, imm)))
+            let imm = distance(1_048_576, at, address_of(names, text_len, target))?;
+            Some(Insns::One(jump_word(rd, imm)))
         }
         Code::Load(rd, target) => {
             let value = (address_of(names, text_len, target) % 4_294_967_296) as u32;

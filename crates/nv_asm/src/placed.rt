@@ -2,7 +2,8 @@
 ghost use Rattle.std.specs.Prelude.{◌≡◌, ◌≤◌, ◌<◌, ◌+◌, ◌*◌, ◌^◌, length, IfOk};
 ghost use Rattle.nv_text.specs.Parts.{parts_of};
 ghost use Rattle.nv_asm.specs.Statements.{statement};
-ghost use Rattle.nv_asm.specs.Places.{here, filled, among_data, in_section, size, code_size, begin, past, place, after, line_parts, placed_parts, placed_line};
+ghost use Rattle.nv_asm.specs.Places.{here, filled, among_data, in_section, size, code_size, begin, past, stated, counted, place, after, line_parts, placed_parts, placed_line};
+ghost use Rattle.nv_asm.specs.Bounds.{most_of};
 ghost use Rattle.nv_asm.specs.Views.{view, code_view, result_view};
 ghost use Rattle.nv_asm.specs.Lines.{placed_view, IsSmall};
 
@@ -52,7 +53,8 @@ fn filled(section: Section, len: u128, reached: Reached) -> Reached
 }
 
 fn among_data(statement: Statement<'_>) -> Result<Statement<'_>, AsmCause>
-    ensures { result_view result ≡ among_data (view statement.entry) }
+    ensures value { result_view result ≡ among_data (view statement.entry) }
+    ensures small { size (counted (result_view result)) ≤ size (view statement.entry) }
 {
     match statement {
         Statement::Instruction(_) | Statement::OffInstruction => Err(AsmCause::Operand),
@@ -65,7 +67,8 @@ fn in_section<'a>(
     section: Section,
     read: Result<Statement<'a>, AsmCause>,
 ) -> Result<Statement<'a>, AsmCause>
-    ensures { result_view result ≡ in_section section (result_view read.entry) }
+    ensures value { result_view result ≡ in_section section (result_view read.entry) }
+    ensures small { size (counted (result_view result)) ≤ size (counted (result_view read.entry)) }
 {
     match (section, read) {
         (Section::Data, Ok(statement)) => among_data(statement),
@@ -185,7 +188,8 @@ pub fn placed_line<'a>(
     before: Reached,
     text: &'a [u8],
 ) -> Result<Placed<'a>, AllocError>
-    ensures { IfOk result (λ placed. placed_view placed ≡ placed_line line before text.now) }
+    ensures value { IfOk result (λ placed. placed_view placed ≡ placed_line line before text.now) }
+    ensures small { IfOk result (λ placed. size (stated (placed_view placed)) ≤ most_of (length text.now)) }
 {
     let parts = line_parts(text);
     let read = in_section(

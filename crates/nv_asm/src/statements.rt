@@ -1,5 +1,5 @@
 // The statements of assembler texts.
-ghost use Rattle.std.specs.Prelude.{◌≡◌, ◌≤◌, ◌<◌, ◌^◌, ℕ, ℤ, pos, neg_ℤ, ◌≤ℤ◌, IsTrue, [], ◌∷◌, map, length, option_map, option_and_then, IfOk, IfSome};
+ghost use Rattle.std.specs.Prelude.{◌≡◌, ◌≤◌, ◌<◌, ◌+◌, ◌*◌, ◌^◌, ℕ, ℤ, pos, neg_ℤ, ◌≤ℤ◌, IsTrue, [], ◌∷◌, map, length, option_map, option_and_then, IfOk, IfSome};
 ghost use Rattle.std.specs.List.{list_all, prefix_len};
 ghost use Rattle.std.specs.Int.{w32, cast_unsigned};
 ghost use Rattle.nv_isa.specs.Spelling.{encoded, Fits};
@@ -7,6 +7,8 @@ ghost use Rattle.nv_isa.specs.declared.op.Form.TheVariants as form;
 ghost use Rattle.nv_asm.specs.Numbers.{is_number, number_of_8_bits, number_of_12_bits, number_of_32_bits};
 ghost use Rattle.nv_asm.specs.Forms.{has_form, is_lawful, is_lawful_shape};
 ghost use Rattle.nv_asm.specs.Statements.{closed, enclosed, is_not_open, base_register, displacement, name, upper_of, lower_of, loading, registers_of, immediate_of, shift_of, load_of, store_of, branch_of, jump_and_link_of, upper_number_of, load_number_of, load_address_of, move_of, jump_of, zeros_of, entry_of, of_none, of_one, of_two, of_three, formed, single, is_byte, byte_of, bytes_of, is_item, is_word, word_of, words_of, read_of, statement};
+ghost use Rattle.nv_asm.specs.Places.{size, counted};
+ghost use Rattle.nv_asm.specs.Bounds.{most_of};
 ghost use Rattle.nv_asm.specs.Views.{view, word_view, words_view, result_view, texts};
 
 use crate::code::{Branch, Code, Insns, Statement, Word};
@@ -131,7 +133,8 @@ fn displacement(text: &[u8]) -> Option<Option<i32>>
 #[tactic(auto, unfolding(crate::specs::Statements::registers_of))]
 fn registers<'a>(op: Op, rd: &[u8], rs1: &[u8], rs2: &[u8]) -> Option<Statement<'a>>
     requires { IsTrue (has_form form.Register op) }
-    ensures { option_map view result ≡ registers_of op rd.now rs1.now rs2.now }
+    ensures value { option_map view result ≡ registers_of op rd.now rs1.now rs2.now }
+    ensures small { IfSome result (λ s. size (view s) ≤ 1048576) }
 {
     let rd = register_of(rd)?;
     let rs1 = register_of(rs1)?;
@@ -148,7 +151,8 @@ fn registers<'a>(op: Op, rd: &[u8], rs1: &[u8], rs2: &[u8]) -> Option<Statement<
 #[tactic(auto, unfolding(crate::specs::Statements::immediate_of))]
 fn immediate<'a>(op: Op, rd: &[u8], rs1: &[u8], value: &[u8]) -> Option<Statement<'a>>
     requires { IsTrue (has_form form.Immediate op) }
-    ensures { option_map view result ≡ immediate_of op rd.now rs1.now value.now }
+    ensures value { option_map view result ≡ immediate_of op rd.now rs1.now value.now }
+    ensures small { IfSome result (λ s. size (view s) ≤ 1048576) }
 {
     let rd = register_of(rd)?;
     let rs1 = register_of(rs1)?;
@@ -167,7 +171,8 @@ fn immediate<'a>(op: Op, rd: &[u8], rs1: &[u8], value: &[u8]) -> Option<Statemen
 #[tactic(auto, unfolding(crate::specs::Statements::shift_of))]
 fn shift<'a>(op: Op, rd: &[u8], rs1: &[u8], amount: &[u8]) -> Option<Statement<'a>>
     requires { IsTrue (has_form form.Shift op) }
-    ensures { option_map view result ≡ shift_of op rd.now rs1.now amount.now }
+    ensures value { option_map view result ≡ shift_of op rd.now rs1.now amount.now }
+    ensures small { IfSome result (λ s. size (view s) ≤ 1048576) }
 {
     let rd = register_of(rd)?;
     let rs1 = register_of(rs1)?;
@@ -186,7 +191,8 @@ fn shift<'a>(op: Op, rd: &[u8], rs1: &[u8], amount: &[u8]) -> Option<Statement<'
 #[tactic(auto, unfolding(crate::specs::Statements::load_of))]
 fn load<'a>(op: Op, rd: &[u8], from: &[u8]) -> Option<Statement<'a>>
     requires { IsTrue (has_form form.Immediate op) }
-    ensures { option_map view result ≡ load_of op rd.now from.now }
+    ensures value { option_map view result ≡ load_of op rd.now from.now }
+    ensures small { IfSome result (λ s. size (view s) ≤ 1048576) }
 {
     let rd = register_of(rd)?;
     let rs1 = base_register(from)?;
@@ -205,7 +211,8 @@ fn load<'a>(op: Op, rd: &[u8], from: &[u8]) -> Option<Statement<'a>>
 #[tactic(auto, unfolding(crate::specs::Statements::store_of))]
 fn store<'a>(op: Op, rs2: &[u8], to: &[u8]) -> Option<Statement<'a>>
     requires { IsTrue (has_form form.Store op) }
-    ensures { option_map view result ≡ store_of op rs2.now to.now }
+    ensures value { option_map view result ≡ store_of op rs2.now to.now }
+    ensures small { IfSome result (λ s. size (view s) ≤ 1048576) }
 {
     let rs2 = register_of(rs2)?;
     let rs1 = base_register(to)?;
@@ -224,7 +231,8 @@ fn store<'a>(op: Op, rs2: &[u8], to: &[u8]) -> Option<Statement<'a>>
 #[tactic(auto, unfolding(crate::specs::Statements::branch_of))]
 fn branch<'a>(op: Op, rs1: &[u8], rs2: &[u8], target: &'a [u8]) -> Option<Statement<'a>>
     requires { IsTrue (has_form form.Branch op) }
-    ensures { option_map view result ≡ branch_of op rs1.now rs2.now target.now }
+    ensures value { option_map view result ≡ branch_of op rs1.now rs2.now target.now }
+    ensures small { IfSome result (λ s. size (view s) ≤ 1048576) }
 {
     let rs1 = register_of(rs1)?;
     let rs2 = register_of(rs2)?;
@@ -239,7 +247,8 @@ fn branch<'a>(op: Op, rs1: &[u8], rs2: &[u8], target: &'a [u8]) -> Option<Statem
 
 #[tactic(auto, unfolding(crate::specs::Statements::jump_and_link_of))]
 fn jump_and_link<'a>(rd: &[u8], target: &'a [u8]) -> Option<Statement<'a>>
-    ensures { option_map view result ≡ jump_and_link_of rd.now target.now }
+    ensures value { option_map view result ≡ jump_and_link_of rd.now target.now }
+    ensures small { IfSome result (λ s. size (view s) ≤ 1048576) }
 {
     let rd = register_of(rd)?;
     let target = name(target)?;
@@ -249,7 +258,8 @@ fn jump_and_link<'a>(rd: &[u8], target: &'a [u8]) -> Option<Statement<'a>>
 #[tactic(auto, unfolding(crate::specs::Statements::upper_number_of))]
 fn upper_number<'a>(op: Op, rd: &[u8], value: &[u8]) -> Option<Statement<'a>>
     requires { IsTrue (has_form form.Upper op) }
-    ensures { option_map view result ≡ upper_number_of op rd.now value.now }
+    ensures value { option_map view result ≡ upper_number_of op rd.now value.now }
+    ensures small { IfSome result (λ s. size (view s) ≤ 1048576) }
 {
     let rd = register_of(rd)?;
     let Some(value) = number(0, 0xf_ffff, value)? else {
@@ -279,7 +289,8 @@ fn low_word(value: i64) -> u32
 
 #[tactic(auto, unfolding(crate::specs::Statements::load_number_of))]
 fn load_number<'a>(rd: &[u8], value: &[u8]) -> Option<Statement<'a>>
-    ensures { option_map view result ≡ load_number_of rd.now value.now }
+    ensures value { option_map view result ≡ load_number_of rd.now value.now }
+    ensures small { IfSome result (λ s. size (view s) ≤ 1048576) }
 {
     let rd = register_of(rd)?;
     let Some(value) = number_of_32_bits(value)? else {
@@ -293,7 +304,8 @@ fn load_number<'a>(rd: &[u8], value: &[u8]) -> Option<Statement<'a>>
 
 #[tactic(auto, unfolding(crate::specs::Statements::load_address_of))]
 fn load_address<'a>(rd: &[u8], target: &'a [u8]) -> Option<Statement<'a>>
-    ensures { option_map view result ≡ load_address_of rd.now target.now }
+    ensures value { option_map view result ≡ load_address_of rd.now target.now }
+    ensures small { IfSome result (λ s. size (view s) ≤ 1048576) }
 {
     let rd = register_of(rd)?;
     let target = name(target)?;
@@ -302,7 +314,8 @@ fn load_address<'a>(rd: &[u8], target: &'a [u8]) -> Option<Statement<'a>>
 
 #[tactic(auto, unfolding(crate::specs::Statements::move_of))]
 fn move_register<'a>(rd: &[u8], rs: &[u8]) -> Option<Statement<'a>>
-    ensures { option_map view result ≡ move_of rd.now rs.now }
+    ensures value { option_map view result ≡ move_of rd.now rs.now }
+    ensures small { IfSome result (λ s. size (view s) ≤ 1048576) }
 {
     let rd = register_of(rd)?;
     let rs1 = register_of(rs)?;
@@ -317,7 +330,8 @@ fn move_register<'a>(rd: &[u8], rs: &[u8]) -> Option<Statement<'a>>
 
 #[tactic(auto, unfolding(crate::specs::Statements::jump_of))]
 fn jump(target: &[u8]) -> Option<Statement<'_>>
-    ensures { option_map view result ≡ jump_of target.now }
+    ensures value { option_map view result ≡ jump_of target.now }
+    ensures small { IfSome result (λ s. size (view s) ≤ 1048576) }
 {
     let target = name(target)?;
     Some(Statement::Instruction(Code::Jump(
@@ -328,7 +342,8 @@ fn jump(target: &[u8]) -> Option<Statement<'_>>
 
 #[tactic(auto, unfolding(crate::specs::Statements::zeros_of))]
 fn zeros<'a>(count: &[u8]) -> Option<Statement<'a>>
-    ensures { option_map view result ≡ zeros_of count.now }
+    ensures value { option_map view result ≡ zeros_of count.now }
+    ensures small { IfSome result (λ s. size (view s) ≤ 1048576) }
 {
     match number(0, 1_048_576, count)? {
         None => Some(Statement::OffData),
@@ -338,13 +353,15 @@ fn zeros<'a>(count: &[u8]) -> Option<Statement<'a>>
 
 #[tactic(auto, unfolding(crate::specs::Statements::entry_of))]
 fn entry(target: &[u8]) -> Option<Statement<'_>>
-    ensures { option_map view result ≡ entry_of target.now }
+    ensures value { option_map view result ≡ entry_of target.now }
+    ensures small { IfSome result (λ s. size (view s) ≤ 1048576) }
 {
     Some(Statement::Entry(name(target)?))
 }
 
 fn of_none<'a>(shape: Shape) -> Option<Statement<'a>>
-    ensures { option_map view result ≡ of_none shape }
+    ensures value { option_map view result ≡ of_none shape }
+    ensures small { IfSome result (λ s. size (view s) ≤ 1048576) }
 {
     match shape {
         Shape::Alone(word) => Some(Statement::Instruction(Code::Fixed(Insns::One(word)))),
@@ -355,7 +372,8 @@ fn of_none<'a>(shape: Shape) -> Option<Statement<'a>>
 }
 
 fn of_one(shape: Shape, a: &[u8]) -> Option<Statement<'_>>
-    ensures { option_map view result ≡ of_one shape a.now }
+    ensures value { option_map view result ≡ of_one shape a.now }
+    ensures small { IfSome result (λ s. size (view s) ≤ 1048576) }
 {
     match shape {
         Shape::Jump => jump(a),
@@ -367,7 +385,8 @@ fn of_one(shape: Shape, a: &[u8]) -> Option<Statement<'_>>
 
 fn of_two<'a>(shape: Shape, a: &[u8], b: &'a [u8]) -> Option<Statement<'a>>
     requires { IsTrue (is_lawful_shape shape) }
-    ensures { option_map view result ≡ of_two shape a.now b.now }
+    ensures value { option_map view result ≡ of_two shape a.now b.now }
+    ensures small { IfSome result (λ s. size (view s) ≤ 1048576) }
 {
     match shape {
         Shape::Load(op) => load(op, a, b),
@@ -383,7 +402,8 @@ fn of_two<'a>(shape: Shape, a: &[u8], b: &'a [u8]) -> Option<Statement<'a>>
 
 fn of_three<'a>(shape: Shape, a: &[u8], b: &[u8], c: &'a [u8]) -> Option<Statement<'a>>
     requires { IsTrue (is_lawful_shape shape) }
-    ensures { option_map view result ≡ of_three shape a.now b.now c.now }
+    ensures value { option_map view result ≡ of_three shape a.now b.now c.now }
+    ensures small { IfSome result (λ s. size (view s) ≤ 1048576) }
 {
     match shape {
         Shape::Registers(op) => registers(op, a, b, c),
@@ -398,7 +418,8 @@ fn of_three<'a>(shape: Shape, a: &[u8], b: &[u8], c: &'a [u8]) -> Option<Stateme
 #[tactic(auto, unfolding(crate::specs::Statements::formed))]
 fn formed<'a>(shape: Shape, operands: &[&'a [u8]]) -> Option<Statement<'a>>
     requires { IsTrue (is_lawful_shape shape) }
-    ensures { option_map view result ≡ formed shape (texts operands.now) }
+    ensures value { option_map view result ≡ formed shape (texts operands.now) }
+    ensures small { IfSome result (λ s. size (view s) ≤ 1048576) }
 {
     match operands {
         [] => of_none(shape),
@@ -496,7 +517,8 @@ fn are_words(operands: &[&[u8]]) -> bool
 }
 
 fn byte_list(alloc: Global, operands: &[&[u8]]) -> Result<Vec<u8>, AllocError>
-    ensures { IfOk result (λ bytes. bytes.items ≡ map byte_of (texts operands.now)) }
+    ensures value { IfOk result (λ bytes. bytes.items ≡ map byte_of (texts operands.now)) }
+    ensures len { IfOk result (λ bytes. length bytes.items ≡ length operands.now) }
 {
     let mut bytes = Vec::new(alloc);
     for operand in operands {
@@ -508,7 +530,8 @@ fn byte_list(alloc: Global, operands: &[&[u8]]) -> Result<Vec<u8>, AllocError>
 // The statement of `.byte`.
 #[tactic(auto, unfolding(crate::specs::Statements::bytes_of))]
 fn bytes<'a>(alloc: Global, operands: &[&[u8]]) -> Result<Option<Statement<'a>>, AllocError>
-    ensures { IfOk result (λ found. option_map view found ≡ bytes_of (texts operands.now)) }
+    ensures value { IfOk result (λ found. option_map view found ≡ bytes_of (texts operands.now)) }
+    ensures small { IfOk result (λ found. IfSome found (λ s. size (view s) ≤ length operands.now)) }
 {
     if operands.is_empty() || !are_numbers(operands) {
         return Ok(None);
@@ -522,7 +545,8 @@ fn bytes<'a>(alloc: Global, operands: &[&[u8]]) -> Result<Option<Statement<'a>>,
 // The statement of `.word`.
 #[tactic(auto, unfolding(crate::specs::Statements::words_of))]
 fn words(operands: Vec<&[u8]>) -> Option<Statement<'_>>
-    ensures { option_map view result ≡ words_of (texts operands.entry.items) }
+    ensures value { option_map view result ≡ words_of (texts operands.entry.items) }
+    ensures small { IfSome result (λ s. size (view s) ≤ 4 * length operands.entry.items) }
 {
     if operands.is_empty() || !are_items(&operands) {
         return None;
@@ -536,7 +560,8 @@ fn words(operands: Vec<&[u8]>) -> Option<Statement<'_>>
 // The statement of a kind, where its operands are of its form.
 fn read<'a>(alloc: Global, kind: Kind, rest: &'a [u8]) -> Result<Option<Statement<'a>>, AllocError>
     requires { IsTrue (is_lawful kind) }
-    ensures { IfOk result (λ found. option_map view found ≡ read_of kind rest.now) }
+    ensures value { IfOk result (λ found. option_map view found ≡ read_of kind rest.now) }
+    ensures small { IfOk result (λ found. IfSome found (λ s. size (view s) ≤ most_of (length rest.now))) }
 {
     match kind {
         Kind::Plain(shape) => {
@@ -562,7 +587,8 @@ pub fn statement_of<'a>(
     word: &[u8],
     rest: &'a [u8],
 ) -> Result<Result<Statement<'a>, AsmCause>, AllocError>
-    ensures { IfOk result (λ stated. result_view stated ≡ statement word.now rest.now) }
+    ensures value { IfOk result (λ stated. result_view stated ≡ statement word.now rest.now) }
+    ensures small { IfOk result (λ stated. size (counted (result_view stated)) ≤ most_of (length rest.now)) }
 {
     if word.is_empty() {
         return Ok(Ok(Statement::Blank));

@@ -1,7 +1,7 @@
-use Rattle.std.proofs.Common.{ℕ, List, [], ◌∷◌, ◌++◌, Bor, map, drop, ◌+◌, ap, refl, sym, ◌∙◌}
+use Rattle.std.proofs.Common.{ℕ, List, [], ◌∷◌, ◌++◌, Bor, length, map, drop, ◌+◌, ap, refl, sym, ◌∙◌}
 use Rattle.nv_asm.specs.Statements.{byte_of}
 use Rattle.nv_asm.specs.Views.{texts}
-use Rattle.nv_asm.proofs.Walking.{rest-more, rest-end, none_given}
+use Rattle.nv_asm.proofs.Walking.{rest-more, rest-end, none_given, length-texts}
 use Rattle.nv_asm.proofs.statements.byte_list.Goals as goal
 
 abbrev bytes : List (Bor (List ℕ)) → List ℕ
@@ -19,5 +19,8 @@ loop-operand-preserved c =
     ∙ rest-more bytes one (λ x xs. refl) c.loop-operand.bytes.items _ c.args.operands.now c.loop-operand.operand-index none_given c.loop-operand-test.true (ap (λ b. b ∷ []) c.byte_of.ensures)
     ∙ c.loop-operand.invariant
 
-pub returns : goal.returns
-returns c = rest-end bytes refl c.loop-operand.bytes.items c.args.operands.now c.loop-operand.operand-index c.loop-operand-test.false ∙ c.loop-operand.invariant
+pub returns-clause-value : goal.returns-clause-value
+returns-clause-value c = rest-end bytes refl c.loop-operand.bytes.items c.args.operands.now c.loop-operand.operand-index c.loop-operand-test.false ∙ c.loop-operand.invariant
+
+pub returns-clause-len : goal.returns-clause-len
+returns-clause-len c = ap length (returns-clause-value c) ∙ length-texts byte_of c.args.operands.now
