@@ -1,13 +1,14 @@
 -- How many bytes a line can have at most.
-use Rattle.std.proofs.Common.{◌≡◌, ℕ, ◌+◌, ◌≤◌, Bool, true, false, if◌then◌else◌, List, [], ◌∷◌, length, take, drop, Option, Some, None, option_map, IfSome, ap, refl, sym, ◌∙◌, arith, length-drop, length-take}
+use Rattle.std.proofs.Common.{◌≡◌, ℕ, ◌+◌, ◌≤◌, Bool, true, false, if◌then◌else◌, List, [], ◌∷◌, length, map, take, drop, Option, Some, None, option_map, IfSome, Result, Ok, Err, IfOk, Bor, ap, refl, sym, ◌∙◌, arith, length-drop, length-take}
 use Rattle.std.specs.List.{slice_split, onto_first, prefix_len}
-use Rattle.std.proofs.lemmas.List.{length-map}
 use Rattle.nv_text.specs.Lines.{is_comma, is_name_byte, trim, operands, operands_of, Parts, behind, front, line_with, after_name, parted, line_of}
 use Rattle.nv_asm.specs.declared.strings.Mark.{Mark}
 use Rattle.nv_asm.specs.declared.strings.Mark.TheVariants.{Stands, Escapes, Ends, Wrong}
 use Rattle.nv_asm.specs.declared.strings.Where.TheVariants.{Outside}
 use Rattle.nv_asm.specs.Strings.{quoted, string, mark, at_end, comment_place}
-use Rattle.nv_asm.specs.Places.{line_parts}
+use Rattle.nv_asm.specs.declared.code.Statement.{Statement}
+use Rattle.nv_asm.specs.Places.{line_parts, size}
+use Rattle.nv_asm.specs.Views.{view, texts}
 
 abbrev pub Shorter : ℕ → Option (List ℕ) → Type 0
 Shorter most o = IfSome o (λ bs. length bs ≤ most)
@@ -61,9 +62,13 @@ trim-le : (bs : List ℕ) → length (trim bs) ≤ length bs
 unfolding trim
 trim-le bs = omega (arith, length-take {A = ℕ}, length-drop {A = ℕ})
 
+length-trimmed : (xs : List (List ℕ)) → length (map trim xs) ≡ length xs
+length-trimmed [] = refl
+length-trimmed (x ∷ xs) = omega (arith, length-trimmed xs)
+
 operands_of-le : (bs : List ℕ) → length (operands_of bs) ≤ length bs + 1
 operands_of-le [] = omega arith
-operands_of-le (b ∷ bs) = omega (arith, length-map {f = trim} (slice_split is_comma (b ∷ bs)), split-le (b ∷ bs))
+operands_of-le (b ∷ bs) = omega (arith, length-trimmed (slice_split is_comma (b ∷ bs)), split-le (b ∷ bs))
 
 pub operands-le : (rest : List ℕ) → length (operands rest) ≤ length rest + 1
 unfolding operands
@@ -88,3 +93,20 @@ line_of-le text = let t = trim text in let cut = after_name-le t (front is_name_
 pub line_parts-le : (line : List ℕ) → length (line_parts line).rest ≤ length line
 unfolding line_parts
 line_parts-le line = omega (arith, line_of-le (take (comment_place Outside line) line), length-take (comment_place Outside line) line)
+
+-- ---- the code's statements
+
+pub widen-some : (o : Option Statement) (a b : ℕ) → a ≤ b → IfSome o (λ s. size (view s) ≤ a) → IfSome o (λ s. size (view s) ≤ b)
+widen-some None a b le h = tt
+widen-some (Some s) a b le h = omega arith
+
+pub widen-ok : {E : Type 0} (r : Result (Option Statement) E) (a b : ℕ) → a ≤ b → IfOk r (λ o. IfSome o (λ s. size (view s) ≤ a)) → IfOk r (λ o. IfSome o (λ s. size (view s) ≤ b))
+widen-ok (Ok o) a b le h = widen-some o a b le h
+widen-ok (Err e) a b le h = tt
+
+length-texts : (xs : List (Bor (List ℕ))) → length (texts xs) ≡ length xs
+length-texts [] = refl
+length-texts (x ∷ xs) = omega (arith, length-texts xs)
+
+pub operands-few : (xs : List (Bor (List ℕ))) (rest : List ℕ) → texts xs ≡ operands rest → length xs ≤ length rest + 1
+operands-few xs rest e = omega (arith, length-texts xs, ap length e, operands-le rest)

@@ -1,5 +1,5 @@
 // The assembler.
-ghost use Rattle.std.specs.Prelude.{◌≡◌, ◌≢◌, ◌≤◌, ◌<◌, ◌+◌, ◌%◌, Ok, Err, IsTrue, IfOk, IfErr, OnOk, vec_len, length};
+ghost use Rattle.std.specs.Prelude.{◌≡◌, ◌≢◌, ◌≤◌, ◌<◌, ◌+◌, ◌%◌, Some, Ok, Err, IsTrue, IfOk, IfErr, OnOk, vec_len, length};
 ghost use Rattle.nv_text.specs.Lines.{lines};
 ghost use Rattle.nv_text.specs.Names.{defined};
 ghost use Rattle.nv_elf.specs.Elf.{image_of};
@@ -8,7 +8,7 @@ ghost use Rattle.nv_asm.specs.declared.place.Section.TheVariants as section;
 ghost use Rattle.nv_asm.specs.Places.{placed, start};
 ghost use Rattle.nv_asm.specs.Assembled.{first_cause, section_bytes, entry_of, line_number, text_base, text_range, data_ranges, assembled};
 ghost use Rattle.nv_asm.specs.Known.{known, HasRoom};
-ghost use Rattle.nv_asm.specs.Programs.{program_view};
+ghost use Rattle.nv_asm.specs.Programs.{program_view, fault_of, IsLaidText};
 
 use crate::fault::{AsmCause, AsmFault};
 use crate::labels::{START, labels};
@@ -37,6 +37,8 @@ fn line_number(line: usize) -> u32
 // The second pass: the bytes of a text's lines, or its first fault.
 fn lay(alloc: Global, names: &Names<Label>, text_len: u128, text: &[u8]) -> Result<Laid, AsmFault>
     requires { HasRoom names.now text_len }
+    ensures laid { IfOk result (λ l. IsLaidText (known names.now text_len) (placed 0 start (lines text.now)) l.text.items l.data.items l.entry) }
+    ensures fault { IfErr result (λ fault. fault ≢ AsmFault.Memory → fault_of (first_cause (known names.now text_len) (placed 0 start (lines text.now))) ≡ Some fault) }
 {
     let mut laid_text = Vec::new(alloc);
     let mut laid_data = Vec::new(alloc);
