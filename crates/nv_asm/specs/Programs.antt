@@ -1,13 +1,14 @@
 -- The code's programs as the definitions see them.
-use Rattle.std.specs.Prelude.{◌≡◌, ℕ, ◌+◌, ◌-◌, ◌%◌, ◌≤◌, List, length, Option, None, option_map, Result, Ok, Err}
+use Rattle.std.specs.Prelude.{◌≡◌, ℕ, ◌+◌, ◌-◌, ◌%◌, ◌≤◌, List, ◌++◌, length, Option, None, option_map, Result, Ok, Err}
 use Rattle.nv_elf.specs.declared.program.Program.{Program}
 use Rattle.nv_elf.specs.Elf.{Image, image_of}
 use Rattle.nv_asm.specs.declared.fault.AsmCause.{AsmCause}
 use Rattle.nv_asm.specs.declared.fault.AsmFault.{AsmFault}
 use Rattle.nv_asm.specs.declared.fault.AsmFault.TheVariants as fault
+use Rattle.nv_asm.specs.declared.place.Reached.{Reached}
 use Rattle.nv_asm.specs.declared.place.Section.TheVariants as section
-use Rattle.nv_asm.specs.Places.{Placed, ended, start}
-use Rattle.nv_asm.specs.Assembled.{Whole, text_base, first_cause, line_number, section_bytes, entry_of}
+use Rattle.nv_asm.specs.Places.{Placed, stated, after, ended, start}
+use Rattle.nv_asm.specs.Assembled.{Whole, laid, laid_in, entry_past, text_base, first_cause, line_number, section_bytes, entry_of}
 
 abbrev pub program_view : Result Program AsmFault → Result Image AsmFault
 program_view (Ok p) = Ok (image_of p)
@@ -31,3 +32,12 @@ pub record IsLaidText (w : Whole) (ps : List Placed) (text contents : List ℕ) 
   pub short : length text + length contents ≤ 1048576
   pub entry_is : entry_of w text_base ps ≡ entry
   pub entry_at : IsEntryAt w.text_len entry
+
+-- a line adds its bytes to its section
+pub record AddsLine (w : Whole) (p : Placed) (before : Reached) (text text' contents contents' : List ℕ) (entry entry' : ℕ) (reached : Reached) : Type 0 where
+  pub bytes : List ℕ
+  pub laid_is : laid w p ≡ Ok bytes
+  pub text_is : text' ≡ text ++ laid_in section.Text before.section bytes
+  pub contents_is : contents' ≡ contents ++ laid_in section.Data before.section bytes
+  pub entry_is : entry' ≡ entry_past w entry (stated p)
+  pub reached_is : reached ≡ after p

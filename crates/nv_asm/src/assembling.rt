@@ -1,19 +1,19 @@
 // The assembler.
-ghost use Rattle.std.specs.Prelude.{◌≡◌, ◌≢◌, ◌≤◌, ◌<◌, ◌+◌, ◌%◌, Some, Ok, Err, IsTrue, IfOk, IfErr, OnOk, vec_len, length};
+ghost use Rattle.std.specs.Prelude.{◌≡◌, ◌≢◌, ◌≤◌, ◌<◌, ◌+◌, ◌++◌, ◌%◌, Some, Ok, Err, IsTrue, IfOk, IfErr, OnOk, vec_len, length};
 ghost use Rattle.nv_text.specs.Lines.{lines};
 ghost use Rattle.nv_text.specs.Names.{defined};
 ghost use Rattle.nv_elf.specs.Elf.{image_of};
 ghost use Rattle.nv_elf.specs.Written.{is_program, bytes_in};
 ghost use Rattle.nv_asm.specs.declared.place.Section.TheVariants as section;
-ghost use Rattle.nv_asm.specs.Places.{placed, start};
-ghost use Rattle.nv_asm.specs.Assembled.{first_cause, section_bytes, entry_of, line_number, text_base, text_range, data_ranges, assembled};
+ghost use Rattle.nv_asm.specs.Places.{placed, placed_line, start};
+ghost use Rattle.nv_asm.specs.Assembled.{laid, laid_in, first_cause, section_bytes, entry_of, line_number, text_base, text_range, data_ranges, assembled};
 ghost use Rattle.nv_asm.specs.Known.{known, HasRoom};
-ghost use Rattle.nv_asm.specs.Programs.{program_view, fault_of, IsLaidText};
+ghost use Rattle.nv_asm.specs.Programs.{program_view, fault_of, IsLaidText, AddsLine};
 
 use crate::fault::{AsmCause, AsmFault};
 use crate::labels::{START, labels};
 use crate::laying::{TEXT_BASE, data_base, entry_past, laid};
-use crate::place::{Label, Section};
+use crate::place::{Label, Reached, Section};
 use crate::placed::placed_line;
 use nv_elf::{Program, Segment};
 use nv_text::{Names, split_line};
@@ -34,39 +34,69 @@ fn line_number(line: usize) -> u32
     u32::try_from(line).unwrap_or(u32::MAX).saturating_add(1)
 }
 
+impl Laid {
+    fn append(&mut self, into: Section, bytes: &[u8]) -> Result<(), AllocError>
+        ensures text { OnOk result (self.new.text.items ≡ self.old.text.items ++ laid_in section.Text into bytes.now) }
+        ensures contents { OnOk result (self.new.data.items ≡ self.old.data.items ++ laid_in section.Data into bytes.now) }
+        ensures entry { self.new.entry ≡ self.old.entry }
+    {
+        match into {
+            Section::Text => self.text.extend_from_slice(bytes),
+            Section::Data => self.data.extend_from_slice(bytes),
+        }
+    }
+}
+
+// Adds the bytes of a line, and tells how far the text has come behind it; or the first cause that it is faulty.
+fn lay_line(
+    alloc: Global,
+    names: &Names<Label>,
+    text_len: u128,
+    line: usize,
+    reached: Reached,
+    text: &[u8],
+    out: &mut Laid,
+) -> Result<Result<Reached, AsmCause>, AllocError>
+    requires room { HasRoom names.now text_len }
+    requires short { reached.text_len + reached.data_len ≤ 1048576 }
+    ensures ok { IfOk result (λ found. IfOk found (λ after. AddsLine (known names.now text_len) (placed_line line reached text.now) reached out.old.text.items out.new.text.items out.old.data.items out.new.data.items out.old.entry out.new.entry after)) }
+    ensures err { IfOk result (λ found. IfErr found (λ cause. laid (known names.now text_len) (placed_line line reached text.now) ≡ Err cause)) }
+{
+    let placed = placed_line(alloc, line, reached, text)?;
+    match laid(alloc, names, text_len, &placed)? {
+        Err(cause) => Ok(Err(cause)),
+        Ok(bytes) => {
+            out.append(reached.section, &bytes)?;
+            out.entry = entry_past(names, text_len, out.entry, &placed);
+            Ok(Ok(placed.after()))
+        }
+    }
+}
+
 // The second pass: the bytes of a text's lines, or its first fault.
 fn lay(alloc: Global, names: &Names<Label>, text_len: u128, text: &[u8]) -> Result<Laid, AsmFault>
     requires { HasRoom names.now text_len }
     ensures laid { IfOk result (λ l. IsLaidText (known names.now text_len) (placed 0 start (lines text.now)) l.text.items l.data.items l.entry) }
     ensures fault { IfErr result (λ fault. fault ≢ AsmFault.Memory → fault_of (first_cause (known names.now text_len) (placed 0 start (lines text.now))) ≡ Some fault) }
 {
-    let mut laid_text = Vec::new(alloc);
-    let mut laid_data = Vec::new(alloc);
-    let mut entry = u128::from(TEXT_BASE);
+    let mut out = Laid {
+        text: Vec::new(alloc),
+        data: Vec::new(alloc),
+        entry: u128::from(TEXT_BASE),
+    };
     let mut rest = text;
     let mut line = 0usize;
     let mut reached = START;
     while !rest.is_empty() {
         let (first, behind) = split_line(rest);
-        let placed = placed_line(alloc, line, reached, first)?;
-        let bytes = match laid(alloc, names, text_len, &placed)? {
-            Ok(bytes) => bytes,
+        reached = match lay_line(alloc, names, text_len, line, reached, first, &mut out)? {
+            Ok(after) => after,
             Err(cause) => return Err(AsmFault::Line(line_number(line), cause)),
         };
-        match reached.section {
-            Section::Text => laid_text.extend_from_slice(&bytes)?,
-            Section::Data => laid_data.extend_from_slice(&bytes)?,
-        }
-        entry = entry_past(names, text_len, entry, &placed);
-        reached = placed.after();
         line += 1;
         rest = behind;
     }
-    Ok(Laid {
-        text: laid_text,
-        data: laid_data,
-        entry,
-    })
+    Ok(out)
 }
 
 fn segment(address: u32, write: bool, bytes: Vec<u8>) -> Segment {
