@@ -1,14 +1,13 @@
 // The assembler.
-ghost use Rattle.std.specs.Prelude.{◌≡◌, ◌≢◌, ◌≤◌, ◌<◌, ◌+◌, ◌++◌, ◌%◌, Some, Ok, Err, IsTrue, IfOk, IfErr, OnOk, vec_len, length};
+ghost use Rattle.std.specs.Prelude.{◌≡◌, ◌^◌, ◌∷◌, true, not, ◌≢◌, ◌≤◌, ◌<◌, ◌+◌, ◌++◌, ◌%◌, Some, Ok, Err, IsTrue, IfOk, IfErr, OnOk, vec_len, length};
 ghost use Rattle.nv_text.specs.Lines.{lines};
 ghost use Rattle.nv_text.specs.Names.{defined};
-ghost use Rattle.nv_elf.specs.Elf.{image_of};
-ghost use Rattle.nv_elf.specs.Written.{is_program, bytes_in};
+ghost use Rattle.nv_elf.specs.Elf.{range_of, image_of};
 ghost use Rattle.nv_asm.specs.declared.place.Section.TheVariants as section;
 ghost use Rattle.nv_asm.specs.Places.{placed, placed_line, start};
 ghost use Rattle.nv_asm.specs.Assembled.{laid, laid_in, first_cause, section_bytes, entry_of, line_number, text_base, text_range, data_ranges, assembled};
 ghost use Rattle.nv_asm.specs.Known.{known, HasRoom};
-ghost use Rattle.nv_asm.specs.Programs.{program_view, fault_of, IsLaidText, AddsLine};
+ghost use Rattle.nv_asm.specs.Programs.{program_view, fault_of, IsLaidText, AddsLine, IsEntryAt};
 
 use crate::fault::{AsmCause, AsmFault};
 use crate::labels::{START, labels};
@@ -99,7 +98,11 @@ fn lay(alloc: Global, names: &Names<Label>, text_len: u128, text: &[u8]) -> Resu
     Ok(out)
 }
 
-fn segment(address: u32, write: bool, bytes: Vec<u8>) -> Segment {
+fn segment(address: u32, write: bool, bytes: Vec<u8>) -> Segment
+    requires low { address < 2 ^ 31 }
+    requires short { length bytes.items ≤ 1048576 }
+    ensures { range_of result ≡ record { address = address; size = length bytes.items; read = true; write = write; execute = not write; bytes = bytes.items } }
+{
     Segment {
         address,
         size: bytes.len() as u32,
@@ -110,14 +113,24 @@ fn segment(address: u32, write: bool, bytes: Vec<u8>) -> Segment {
     }
 }
 
-fn program(alloc: Global, text_len: u128, laid: Laid) -> Result<Program, AllocError> {
+fn program(alloc: Global, text_len: u128, laid: Laid) -> Result<Program, AllocError>
+    requires entry { IsEntryAt text_len laid.entry }
+    requires text_len { length laid.text.items ≡ text_len }
+    requires short { length laid.text.items + length laid.data.items ≤ 1048576 }
+    ensures { IfOk result (λ program. image_of program ≡ record { entry = laid.entry; ranges = text_range laid.text.items ∷ data_ranges text_len laid.data.items }) }
+{
+    let Laid {
+        text: code,
+        data: contents,
+        entry,
+    } = laid;
     let mut segments = Vec::new(alloc);
-    segments.push(segment(TEXT_BASE, false, laid.text))?;
-    if !laid.data.is_empty() {
-        segments.push(segment(data_base(text_len) as u32, true, laid.data))?;
+    segments.push(segment(TEXT_BASE, false, code))?;
+    if !contents.is_empty() {
+        segments.push(segment(data_base(text_len) as u32, true, contents))?;
     }
     Ok(Program {
-        entry: laid.entry as u32,
+        entry: entry as u32,
         segments,
     })
 }
@@ -125,10 +138,7 @@ fn program(alloc: Global, text_len: u128, laid: Laid) -> Result<Program, AllocEr
 /// Assembles a text.
 pub fn assemble(alloc: Global, text: &[u8]) -> Result<Program, AsmFault>
     // want of memory is the one free answer
-    ensures meaning { result ≢ Err AsmFault.Memory → program_view result ≡ assembled text.now }
-    // what `nv_elf::write` requires
-    ensures sound { IfOk result (λ program. IsTrue (is_program (image_of program))) }
-    ensures small { IfOk result (λ program. bytes_in (image_of program).ranges ≤ 1048576) }
+    ensures { result ≢ Err AsmFault.Memory → program_view result ≡ assembled text.now }
 {
     let (names, text_len) = labels(alloc, text)?;
     let laid = lay(alloc, &names, text_len, text)?;
