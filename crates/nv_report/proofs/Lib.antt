@@ -1,1 +1,3 @@
 pub mod Texts
+mod Fractions
+mod Objects

@@ -2,8 +2,12 @@
 #![tactic(auto)]
 
 mod events;
+mod form;
+mod items;
 mod numbers;
+mod values;
 mod versions;
 mod whole;
 
+pub use form::json;
 pub use whole::write;

@@ -90,7 +90,7 @@ fn put_fault_name<S: Sink>(sink: &mut S, kind: FaultKind, tid: u32) -> Put
         sink,
         &[
             b"fault ",
-            name_of(kind),
+            name_of(kind).as_bytes(),
             b" ",
             buffer.format(tid).as_bytes(),
             b" ",
@@ -98,19 +98,19 @@ fn put_fault_name<S: Sink>(sink: &mut S, kind: FaultKind, tid: u32) -> Put
     )
 }
 
-fn name_of(kind: FaultKind) -> &'static [u8]
+pub fn name_of(kind: FaultKind) -> &'static str
     ensures { result.now ≡ kind_text kind }
 {
     match kind {
-        FaultKind::Illegal => b"illegal",
-        FaultKind::Misaligned => b"misaligned",
-        FaultKind::Fetch => b"fetch",
-        FaultKind::Load => b"load",
-        FaultKind::Store => b"store",
-        FaultKind::Breakpoint => b"breakpoint",
-        FaultKind::Budget => b"budget",
-        FaultKind::Deadlock => b"deadlock",
-        FaultKind::Calls => b"calls",
+        FaultKind::Illegal => "illegal",
+        FaultKind::Misaligned => "misaligned",
+        FaultKind::Fetch => "fetch",
+        FaultKind::Load => "load",
+        FaultKind::Store => "store",
+        FaultKind::Breakpoint => "breakpoint",
+        FaultKind::Budget => "budget",
+        FaultKind::Deadlock => "deadlock",
+        FaultKind::Calls => "calls",
     }
 }
 

@@ -1,0 +1,3 @@
+mod Apps
+mod Matches
+mod Lines

@@ -1,0 +1,31 @@
+-- What `clap` matches, from what it says of its answer.
+use Rattle.std.proofs.Common.{◌≡◌, ◌⊎◌, inl, inr, ap, sym, List, [], ◌∷◌, None, Some, true, refl}
+use Rattle.clap.specs.Kinds.{Kinds, IsAmong}
+use Rattle.clap.specs.Walk.{Row, Text}
+use Rattle.clap.specs.Simple.{App, is_simple, matches_of}
+use Rattle.clap.specs.Faults.{fault_of, is_simple_and_free, is_free_app}
+use Rattle.clap.specs.Simple.{built}
+use Rattle.clap.proofs.WalkLemmas.{both}
+use Rattle.clap.specs.declared.error.kind.ErrorKind.{ErrorKind}
+use Rattle.clap.specs.declared.error.kind.ErrorKind.TheVariants.{OutOfMemory}
+use Rattle.nv_command.specs.Faults.{line_fault}
+use Rattle.nv_command.specs.Words.{rows_of_line, unless_faulty}
+use Rattle.nv_command.specs.declared.asked.LineFault.{LineFault}
+use Rattle.nv_command.specs.declared.asked.LineFault.TheVariants.{Usage, Memory}
+
+pub simple : (app : App) → is_simple_and_free app ≡ true → is_simple app ≡ true
+simple app h = (both (is_simple app) (is_free_app (built app)) h).0
+
+pub taken : (app : App) (words : List Text) (rows : List Row) → fault_of app words ≡ [] → rows ≡ matches_of app words → rows_of_line app words ≡ Some rows
+unfolding rows_of_line
+taken app words rows free is = rw free (ap Some (sym is))
+
+among : (kinds : Kinds) (kind : ErrorKind) (rows : List Row) → IsAmong kind kinds → unless_faulty kinds rows ≡ None
+among [] kind rows h = absurd h
+among (k ∷ ks) kind rows h = refl
+
+pub refused : (app : App) (words : List Text) (kind : ErrorKind) (fault : LineFault) → fault ≡ line_fault kind
+    → (kind ≡ OutOfMemory) ⊎ IsAmong kind (fault_of app words) → fault ≡ Usage → rows_of_line app words ≡ None
+unfolding rows_of_line
+refused app words kind fault is (inl memory) usage = let m : line_fault kind ≡ Memory = ap line_fault memory in cc
+refused app words kind fault is (inr h) usage = among (fault_of app words) kind (matches_of app words) h

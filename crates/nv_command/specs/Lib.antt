@@ -1,0 +1,4 @@
+pub mod Faults
+pub mod Simple
+pub mod Words
+pub mod Seen

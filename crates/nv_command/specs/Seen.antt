@@ -1,0 +1,38 @@
+-- What a caller sees of a line that was read.
+use Rattle.std.specs.Prelude.{◌≡◌, List, None, map, IsSome}
+use Rattle.std.specs.Borrow.{Bor}
+use Rattle.clap.specs.Walk.{Text}
+use Rattle.nv_command.specs.Words.{Limits, Plan, Job as FileJob, Command as Line, Runs, Uses, command_of, name_in}
+use Rattle.nv_command.specs.declared.limits.Limits.{Limits as Held}
+use Rattle.nv_command.specs.declared.asked.Run.{Run}
+use Rattle.nv_command.specs.declared.parts.Parts.{Parts}
+use Rattle.nv_command.specs.declared.asked.Job.{Job}
+use Rattle.nv_command.specs.declared.asked.Command.{Command}
+use Rattle.nv_command.specs.declared.asked.Command.TheVariants as command
+use Rattle.nv_command.specs.declared.asked.LineFault.{LineFault}
+use Rattle.nv_command.specs.declared.asked.LineFault.TheVariants.{Usage, Memory}
+
+abbrev pub limits_view : Held → Limits
+limits_view held = record { ring = held.ring; memory = held.memory; budget = held.budget; calls = held.calls; threads = held.threads }
+
+-- the texts behind references
+abbrev pub names_view : List (Bor Text) → List Text
+names_view names = map (λ name. name.now) names
+
+abbrev pub plan_view : Run → Plan
+plan_view run = record { script = run.script.now; versions = names_view run.versions.items; limits = limits_view run.limits; json = run.json }
+
+abbrev pub parts_view : Parts → Plan
+parts_view parts = record { script = parts.script.now; versions = names_view parts.names.now; limits = limits_view parts.limits; json = parts.json }
+
+abbrev pub job_view : Job → FileJob
+job_view job = record { tool = job.tool; file = job.file.now }
+
+abbrev pub command_view : Command → Line
+command_view (command.Run run) = Runs (plan_view run)
+command_view (command.Use job) = Uses (job_view job)
+
+-- the words are refused; or they name a command, and memory ran out while its words were read
+abbrev pub IsRefused : LineFault → List Text → Type 0
+IsRefused Usage words = command_of words ≡ None
+IsRefused Memory words = IsSome (name_in words)

@@ -1,0 +1,46 @@
+-- The commands, as `clap` sees them.
+use Rattle.std.specs.Prelude.{List, [], ◌∷◌, true, Some, codes}
+use Rattle.clap.specs.Walk.{Rule, Text}
+use Rattle.clap.specs.Simple.{App, new_rule, new_shape}
+use Rattle.clap.specs.declared.builder.action.ArgAction.TheVariants.{SetTrue, Append}
+
+-- `--name VALUE` or `--name=VALUE`, at most once
+abbrev pub option_rule : Text → Rule
+option_rule name = record (new_rule name) { long = Some name }
+
+-- `--name`, at most once
+abbrev pub flag_rule : Text → Rule
+flag_rule name = record (new_rule name) { long = Some name; action = Some SetTrue }
+
+-- one word that is neither an option nor its value
+abbrev pub file_rule : Text → Rule
+file_rule name = record (new_rule name) { required = true }
+
+-- one or more of them
+abbrev pub files_rule : Text → Rule
+files_rule name = record (new_rule name) { required = true; action = Some Append }
+
+abbrev pub required : Rule → Rule
+required rule = record rule { required = true }
+
+-- a command that has these arguments, and no help of its own
+abbrev pub simple_app : Text → List Rule → App
+simple_app name rules = record { top = record (new_shape name) { rules = rules; disable_help_flag = true }; subs = [] }
+
+abbrev pub run_app : App
+run_app = simple_app (codes "run")
+    (required (option_rule (codes "script"))
+    ∷ option_rule (codes "ring")
+    ∷ option_rule (codes "memory")
+    ∷ option_rule (codes "budget")
+    ∷ option_rule (codes "calls")
+    ∷ option_rule (codes "threads")
+    ∷ flag_rule (codes "json")
+    ∷ files_rule (codes "version")
+    ∷ [])
+
+abbrev pub rules_app : App
+rules_app = simple_app (codes "rules") (flag_rule (codes "asm") ∷ file_rule (codes "file") ∷ [])
+
+abbrev pub asm_app : App
+asm_app = simple_app (codes "asm") (file_rule (codes "file") ∷ [])

@@ -1,0 +1,143 @@
+-- What the words of a command line ask for: the words of each command have `clap`'s meaning of a simple command.
+use Rattle.std.specs.Prelude.{ℕ, List, [], ◌∷◌, Bool, ◌&&◌, ◌==◌, ◌%◌, false, nat_le, if◌then◌else◌, Option, None, Some, option_map, option_and_then, length, map, string_bytes, codes, String}
+use Rattle.std.specs.Global.{Global}
+use Rattle.std.specs.Str.{bytes_eq}
+use Rattle.std.specs.Option.{option_map_or}
+use Rattle.clap.specs.Walk.{Row, Text, all_of, first_of}
+use Rattle.clap.specs.Simple.{App, matches_of}
+use Rattle.clap.specs.Kinds.{Kinds}
+use Rattle.clap.specs.Faults.{fault_of}
+use Rattle.nv_bytes.specs.Texts.{number_of}
+use Rattle.nv_command.specs.Simple.{run_app, rules_app, asm_app}
+use Rattle.nv_command.specs.declared.asked.Tool.{Tool}
+use Rattle.nv_command.specs.declared.asked.Tool.TheVariants.{CheckRules, AssembleRules, Assemble}
+
+-- the words of a command line
+abbrev pub texts : List (String Global) → List Text
+texts words = map (λ word. string_bytes word) words
+
+-- the matches, where there is no fault
+abbrev pub unless_faulty : Kinds → List Row → Option (List Row)
+unless_faulty [] rows = Some rows
+unless_faulty (kind ∷ kinds) rows = None
+
+-- what `clap` matches of these words, where it takes them
+unfoldable pub rows_of_line : App → List Text → Option (List Row)
+rows_of_line app words = unless_faulty (fault_of app words) (matches_of app words)
+
+-- the option's number, from the least to the most that it may be; the usual one where the option isn't given
+abbrev pub number_within : ℕ → ℕ → ℕ → Option Text → Option ℕ
+number_within usual least most None = Some usual
+number_within usual least most (Some text) = option_and_then (λ n. if nat_le least n && nat_le n most then Some n else None) (number_of text)
+
+-- whole pages of 4096 bytes
+abbrev pub in_pages : ℕ → Option ℕ
+in_pages n = if n % 4096 == 0 then Some n else None
+
+unfoldable pub ring_of : List Row → Option ℕ
+ring_of rows = number_within 256 2 1024 (first_of (codes "ring") rows)
+
+unfoldable pub memory_of : List Row → Option ℕ
+memory_of rows = option_and_then in_pages (number_within 1048576 131072 16777216 (first_of (codes "memory") rows))
+
+unfoldable pub budget_of : List Row → Option ℕ
+budget_of rows = number_within 10000000 1 1000000000 (first_of (codes "budget") rows)
+
+unfoldable pub calls_of : List Row → Option ℕ
+calls_of rows = number_within 65536 1 131072 (first_of (codes "calls") rows)
+
+unfoldable pub threads_of : List Row → Option ℕ
+threads_of rows = number_within 8 1 8 (first_of (codes "threads") rows)
+
+-- the limits of a run: places of the ring, bytes of a guest, instructions of a version, events of the log, threads of the host
+pub record Limits : Type 0 where
+  pub ring : ℕ
+  pub memory : ℕ
+  pub budget : ℕ
+  pub calls : ℕ
+  pub threads : ℕ
+
+unfoldable pub limits_of : List Row → Option Limits
+limits_of rows =
+    option_and_then (λ ring. option_and_then (λ memory. option_and_then (λ budget. option_and_then (λ calls. option_map (λ threads.
+    record { ring = ring; memory = memory; budget = budget; calls = calls; threads = threads })
+    (threads_of rows)) (calls_of rows)) (budget_of rows)) (memory_of rows)) (ring_of rows)
+
+-- at most eight versions
+unfoldable pub versions_of : List Row → Option (List Text)
+versions_of rows = option_and_then (λ names. if nat_le (length names) 8 then Some names else None) (all_of (codes "version") rows)
+
+-- the flag stands on the line
+abbrev pub is_set : Text → List Row → Bool
+is_set name rows = option_map_or (λ text. bytes_eq text (codes "true")) (first_of name rows) false
+
+-- what a run is asked for
+pub record Plan : Type 0 where
+  pub script : List ℕ
+  pub versions : List (List ℕ)
+  pub limits : Limits
+  pub json : Bool
+
+unfoldable pub plan_of : List Row → Option Plan
+plan_of rows =
+    option_and_then (λ script. option_and_then (λ versions. option_map (λ limits.
+    record { script = script; versions = versions; limits = limits; json = is_set (codes "json") rows })
+    (limits_of rows)) (versions_of rows)) (first_of (codes "script") rows)
+
+-- a command over one file
+pub record Job : Type 0 where
+  pub tool : Tool
+  pub file : List ℕ
+
+unfoldable pub rules_job_of : List Row → Option Job
+rules_job_of rows = option_map (λ file. record { tool = if is_set (codes "asm") rows then AssembleRules else CheckRules; file = file })
+    (first_of (codes "file") rows)
+
+unfoldable pub asm_job_of : List Row → Option Job
+asm_job_of rows = option_map (λ file. record { tool = Assemble; file = file }) (first_of (codes "file") rows)
+
+pub data Command : Type 0 where
+  Runs : Plan → Command
+  Uses : Job → Command
+
+-- the names of the commands
+pub data Name : Type 0 where
+  NamesRun : Name
+  NamesRules : Name
+  NamesAsm : Name
+
+abbrev pub name_of : Text → Option Name
+name_of word =
+    if bytes_eq word (codes "run") then Some NamesRun
+    else (if bytes_eq word (codes "rules") then Some NamesRules else (if bytes_eq word (codes "asm") then Some NamesAsm else None))
+
+-- the words of `run`, from its name on
+unfoldable pub run_line : List Text → Option Plan
+run_line words = option_and_then plan_of (rows_of_line run_app words)
+
+-- the words of `rules`
+unfoldable pub rules_line : List Text → Option Job
+rules_line words = option_and_then rules_job_of (rows_of_line rules_app words)
+
+-- the words of `asm`
+unfoldable pub asm_line : List Text → Option Job
+asm_line words = option_and_then asm_job_of (rows_of_line asm_app words)
+
+-- what the words from the command's name on ask for
+abbrev pub asked_by : List Text → Name → Option Command
+asked_by words NamesRun = option_map Runs (run_line words)
+asked_by words NamesRules = option_map Uses (rules_line words)
+asked_by words NamesAsm = option_map Uses (asm_line words)
+
+-- the second word names the command, the first one the program
+abbrev pub name_in : List Text → Option Name
+name_in (program ∷ word ∷ words) = name_of word
+name_in _ = None
+
+abbrev pub behind_program : List Text → List Text
+behind_program [] = []
+behind_program (program ∷ words) = words
+
+-- what the words ask for, if they are accepted
+unfoldable pub command_of : List Text → Option Command
+command_of words = option_and_then (asked_by (behind_program words)) (name_in words)

@@ -1,0 +1,22 @@
+// The limits that a run's options set.
+ghost use Rattle.std.specs.Prelude.{◌≡◌, ◌≤◌, ◌%◌};
+
+/// The limits of a run.
+#[derive(Clone, Copy, Debug, PartialEq, Eq)]
+pub struct Limits {
+    /// Places of the ring of events.
+    pub ring: u32,
+    /// Bytes of a guest's memory.
+    pub memory: u32,
+    /// Instructions of a version.
+    pub budget: u32,
+    /// Events of the log.
+    pub calls: u32,
+    /// Threads of the host.
+    pub threads: u32,
+    ghost ring_fits: { (2 ≤ ring) × (ring ≤ 1024) },
+    ghost memory_fits: { (131072 ≤ memory) × (memory ≤ 16777216) × (memory % 4096 ≡ 0) },
+    ghost budget_fits: { (1 ≤ budget) × (budget ≤ 1000000000) },
+    ghost calls_fit: { (1 ≤ calls) × (calls ≤ 131072) },
+    ghost threads_fit: { (1 ≤ threads) × (threads ≤ 8) },
+}

@@ -1,0 +1,88 @@
+// The commands of `clap`.
+ghost use Rattle.std.specs.Prelude.{◌≡◌, [], false, IfOk};
+ghost use Rattle.clap.specs.Walk.{rule_of};
+ghost use Rattle.clap.specs.Simple.{app_of, with_rule};
+ghost use Rattle.nv_command.specs.Simple.{option_rule, flag_rule, file_rule, files_rule, required, simple_app, run_app, rules_app, asm_app};
+
+use clap::{Arg, ArgAction, Command};
+use std::alloc::{AllocError, Global};
+
+fn option<'a>(alloc: Global, name: &'a str) -> Arg<'a>
+    ensures rule { rule_of result ≡ option_rule name.entry.now }
+    ensures local { result.global ≡ false }
+{
+    Arg::new(alloc, name).long(name)
+}
+
+fn flag<'a>(alloc: Global, name: &'a str) -> Arg<'a>
+    ensures rule { rule_of result ≡ flag_rule name.entry.now }
+    ensures local { result.global ≡ false }
+{
+    Arg::new(alloc, name).long(name).action(ArgAction::SetTrue)
+}
+
+fn file<'a>(alloc: Global, name: &'a str) -> Arg<'a>
+    ensures rule { rule_of result ≡ file_rule name.entry.now }
+    ensures local { result.global ≡ false }
+{
+    Arg::new(alloc, name).required(true)
+}
+
+fn files<'a>(alloc: Global, name: &'a str) -> Arg<'a>
+    ensures rule { rule_of result ≡ files_rule name.entry.now }
+    ensures local { result.global ≡ false }
+{
+    Arg::new(alloc, name)
+        .required(true)
+        .action(ArgAction::Append)
+}
+
+fn needed<'a>(alloc: Global, name: &'a str) -> Arg<'a>
+    ensures rule { rule_of result ≡ required (option_rule name.entry.now) }
+    ensures local { result.global ≡ false }
+{
+    option(alloc, name).required(true)
+}
+
+fn named<'a>(alloc: Global, name: &'a str) -> Command<'a>
+    ensures { app_of result ≡ simple_app name.entry.now [] }
+{
+    Command::new(alloc, name).disable_help_flag(true)
+}
+
+// The command with one argument more.
+fn add<'a>(command: Command<'a>, argument: Arg<'a>) -> Result<Command<'a>, AllocError>
+    requires { argument.global ≡ false }
+    ensures { IfOk result (λ more. app_of more ≡ with_rule (app_of command.entry) (rule_of argument.entry)) }
+{
+    command.arg(argument)
+}
+
+/// The options and files of `run`.
+pub fn run_command<'a>(alloc: Global) -> Result<Command<'a>, AllocError>
+    ensures { IfOk result (λ command. app_of command ≡ run_app) }
+{
+    let script = add(named(alloc, "run"), needed(alloc, "script"))?;
+    let ring = add(script, option(alloc, "ring"))?;
+    let memory = add(ring, option(alloc, "memory"))?;
+    let budget = add(memory, option(alloc, "budget"))?;
+    let calls = add(budget, option(alloc, "calls"))?;
+    let threads = add(calls, option(alloc, "threads"))?;
+    let json = add(threads, flag(alloc, "json"))?;
+    add(json, files(alloc, "version"))
+}
+
+/// The flag and the file of `rules`.
+pub fn rules_command<'a>(alloc: Global) -> Result<Command<'a>, AllocError>
+    ensures { IfOk result (λ command. app_of command ≡ rules_app) }
+{
+    let asm = add(named(alloc, "rules"), flag(alloc, "asm"))?;
+    add(asm, file(alloc, "file"))
+}
+
+/// The file of `asm`.
+pub fn asm_command<'a>(alloc: Global) -> Result<Command<'a>, AllocError>
+    ensures { IfOk result (λ command. app_of command ≡ asm_app) }
+{
+    add(named(alloc, "asm"), file(alloc, "file"))
+}

@@ -1,0 +1,318 @@
+use crate::{Command, Limits, LineFault, Tool, read};
+use std::alloc::{AllocError, Global};
+use std::test::Fail;
+
+fn words_of(alloc: Global, words: &[&str]) -> Result<Vec<String>, AllocError> {
+    let mut owned = Vec::new(alloc);
+    for word in words {
+        owned.push(String::from_str(alloc, word)?)?;
+    }
+    Ok(owned)
+}
+
+fn are(names: &[&str], expected: &[&str]) -> bool {
+    for (name, other) in names.iter().zip(expected) {
+        if *name != *other {
+            return false;
+        }
+    }
+    names.len() == expected.len()
+}
+
+// Whether the words ask for a run of this script and of these versions, as JSON or not.
+fn is_run(
+    alloc: Global,
+    words: &[&str],
+    script: &str,
+    versions: &[&str],
+    json: bool,
+) -> Result<bool, AllocError> {
+    let words = words_of(alloc, words)?;
+    match read(alloc, &words) {
+        Ok(Command::Run(run)) => Ok(
+            run.script == script && are(&run.versions, versions) && run.json == json,
+        ),
+        _ => Ok(false),
+    }
+}
+
+fn is_usage(alloc: Global, words: &[&str]) -> Result<bool, AllocError> {
+    let words = words_of(alloc, words)?;
+    match read(alloc, &words) {
+        Err(LineFault::Usage) => Ok(true),
+        _ => Ok(false),
+    }
+}
+
+// The limits of a run with one option more.
+fn limits_with(alloc: Global, option: &str, value: &str) -> Result<Option<Limits>, AllocError> {
+    let words = words_of(
+        alloc,
+        &["varan", "run", "--script", "s", option, value, "v"],
+    )?;
+    match read(alloc, &words) {
+        Ok(Command::Run(run)) => Ok(Some(run.limits)),
+        _ => Ok(None),
+    }
+}
+
+#[test]
+fn usual_limits(rt: HostRuntime) -> Result<(), Fail> {
+    let words = words_of(rt.alloc(), &["varan", "run", "--script", "s", "v"])?;
+    let Ok(Command::Run(run)) = read(rt.alloc(), &words) else {
+        panic!(rt; "refused");
+    };
+    assert_eq!(rt; run.limits.ring, 256);
+    assert_eq!(rt; run.limits.memory, 1_048_576);
+    assert_eq!(rt; run.limits.budget, 10_000_000);
+    assert_eq!(rt; run.limits.calls, 65_536);
+    assert_eq!(rt; run.limits.threads, 8);
+    Ok(())
+}
+
+#[test]
+fn accepted_runs(rt: HostRuntime) -> Result<(), Fail> {
+    let cases: [(&[&str], &str, &[&str], bool); 16] = [
+        (&["varan", "run", "v", "--script", "s"], "s", &["v"], false),
+        (
+            &["varan", "run", "--script=s", "--", "v"],
+            "s",
+            &["v"],
+            false,
+        ),
+        (
+            &["", "run", "--json", "v", "--script=s", "w"],
+            "s",
+            &["v", "w"],
+            true,
+        ),
+        (
+            &["varan", "run", "a", "--script", "b", "c", "--json", "d"],
+            "b",
+            &["a", "c", "d"],
+            true,
+        ),
+        (&["varan", "run", "--script=", "v"], "", &["v"], false),
+        (&["varan", "run", "--script", "", "v"], "", &["v"], false),
+        (&["varan", "run", "--script", "s", ""], "s", &[""], false),
+        (&["varan", "run", "--script", "-", "-"], "-", &["-"], false),
+        (
+            &["varan", "run", "--script=-s", "--", "-v", "--json"],
+            "-s",
+            &["-v", "--json"],
+            false,
+        ),
+        (
+            &["varan", "run", "--script=--", "--", "--", "--"],
+            "--",
+            &["--", "--"],
+            false,
+        ),
+        (
+            &["varan", "run", "--script=a=b", "c=d"],
+            "a=b",
+            &["c=d"],
+            false,
+        ),
+        (
+            &["varan", "run", "--script", "run", "rules"],
+            "run",
+            &["rules"],
+            false,
+        ),
+        (
+            &["varan", "run", "--script", "s", "help"],
+            "s",
+            &["help"],
+            false,
+        ),
+        (
+            &["varan", "run", "--script", "ß", "\u{1f600}"],
+            "ß",
+            &["\u{1f600}"],
+            false,
+        ),
+        (
+            &["varan", "run", "--script", "s", " v", "v v"],
+            "s",
+            &[" v", "v v"],
+            false,
+        ),
+        (
+            &[
+                "varan", "run", "1", "2", "3", "4", "--script", "s", "5", "6", "7", "8",
+            ],
+            "s",
+            &["1", "2", "3", "4", "5", "6", "7", "8"],
+            false,
+        ),
+    ];
+    for (words, script, versions, json) in cases {
+        assert!(rt; is_run(rt.alloc(), words, script, versions, json)?);
+    }
+    Ok(())
+}
+
+#[test]
+fn refused_lines(rt: HostRuntime) -> Result<(), Fail> {
+    let lines: [&[&str]; 40] = [
+        &[],
+        &["varan"],
+        &["varan", ""],
+        &["varan", "walk", "--script", "s", "v"],
+        &["varan", "Run", "--script", "s", "v"],
+        &["varan", "help"],
+        &["varan", "--help"],
+        &["varan", "--script", "s", "run", "v"],
+        &["varan", "run"],
+        &["varan", "run", "--script", "s"],
+        &["varan", "run", "v"],
+        &["varan", "run", "--script"],
+        &["varan", "run", "v", "--script"],
+        &["varan", "run", "--script", "--", "s", "v"],
+        &["varan", "run", "--script", "--json", "v"],
+        &["varan", "run", "--", "--script", "s", "v"],
+        &["varan", "run", "--script", "-s", "v"],
+        &["varan", "run", "--script", "s", "-v"],
+        &[
+            "varan", "run", "--script", "s", "v", "--", "1", "2", "3", "4", "5", "6", "7", "8",
+        ],
+        &["varan", "run", "--script", "s", "--script", "s", "v"],
+        &["varan", "run", "--script=s", "--script=s", "v"],
+        &["varan", "run", "--script", "s", "--json", "--json", "v"],
+        &["varan", "run", "--script", "s", "--json=true", "v"],
+        &["varan", "run", "--script", "s", "--json=", "v"],
+        &[
+            "varan", "run", "--script", "s", "--ring", "2", "--ring", "2", "v",
+        ],
+        &[
+            "varan", "run", "--script", "s", "--ring", "2", "--ring=2", "v",
+        ],
+        &["varan", "run", "--script", "s", "--ring=", "v"],
+        &["varan", "run", "--script", "s", "v", "--ring"],
+        &["varan", "run", "--scrip", "s", "v"],
+        &["varan", "run", "--SCRIPT", "s", "v"],
+        &["varan", "run", "-script", "s", "v"],
+        &["varan", "run", "--script", "s", "--rules", "r", "v"],
+        &["varan", "run", "--script", "s", "--version", "v"],
+        &["varan", "run", "--script", "s", "--help", "v"],
+        &["varan", "run", "--script", "s", "-h", "v"],
+        &["varan", "run", "--script", "s", "-V", "v"],
+        &["varan", "run", "--script", "s", "--=v", "v"],
+        &["varan", "run", "--script", "s", "---", "v"],
+        &[
+            "varan", "run", "--script", "s", "1", "2", "3", "4", "5", "6", "7", "8", "9",
+        ],
+        &["varan", "run", "--script", "s", "-\u{e9}", "v"],
+    ];
+    for words in lines {
+        assert!(rt; is_usage(rt.alloc(), words)?);
+    }
+    Ok(())
+}
+
+#[test]
+fn numbers(rt: HostRuntime) -> Result<(), Fail> {
+    let accepted = [
+        ("--ring", "2"),
+        ("--ring", "1024"),
+        ("--ring", "0000000000000000000002"),
+        ("--memory", "131072"),
+        ("--memory", "135168"),
+        ("--memory", "16777216"),
+        ("--budget", "1"),
+        ("--budget", "1000000000"),
+        ("--calls", "1"),
+        ("--calls", "131072"),
+        ("--threads", "1"),
+        ("--threads", "8"),
+    ];
+    for (option, value) in accepted {
+        let limits = limits_with(rt.alloc(), option, value)?.expect(&rt, option);
+        let number = match option {
+            "--ring" => limits.ring,
+            "--memory" => limits.memory,
+            "--budget" => limits.budget,
+            "--calls" => limits.calls,
+            _ => limits.threads,
+        };
+        assert_eq!(rt; Some(number), nv_bytes::number(value.as_bytes()));
+    }
+    let refused = [
+        ("--ring", "1"),
+        ("--ring", "1025"),
+        ("--ring", "-2"),
+        ("--ring", "+2"),
+        ("--ring", " 2"),
+        ("--ring", "2 "),
+        ("--ring", "0x2"),
+        ("--ring", "2.0"),
+        ("--ring", ""),
+        ("--ring", "two"),
+        ("--ring", "\u{662}"),
+        ("--memory", "126976"),
+        ("--memory", "131071"),
+        ("--memory", "131073"),
+        ("--memory", "16777217"),
+        ("--memory", "16781312"),
+        ("--budget", "0"),
+        ("--budget", "1000000001"),
+        ("--calls", "0"),
+        ("--calls", "131073"),
+        ("--calls", "4294967296"),
+        ("--calls", "4294967297"),
+        ("--calls", "18446744073709551617"),
+        ("--threads", "0"),
+        ("--threads", "9"),
+    ];
+    for (option, value) in refused {
+        assert!(rt; limits_with(rt.alloc(), option, value)?.is_none());
+    }
+    Ok(())
+}
+
+#[test]
+fn files_of_tools(rt: HostRuntime) -> Result<(), Fail> {
+    let accepted: [(&[&str], Tool, &str); 8] = [
+        (&["varan", "asm", "a"], Tool::Assemble, "a"),
+        (&["varan", "asm", "--", "-a"], Tool::Assemble, "-a"),
+        (&["varan", "rules", "r"], Tool::CheckRules, "r"),
+        (&["varan", "rules", "--asm", "r"], Tool::AssembleRules, "r"),
+        (&["varan", "rules", "r", "--asm"], Tool::AssembleRules, "r"),
+        (
+            &["varan", "rules", "--", "--asm"],
+            Tool::CheckRules,
+            "--asm",
+        ),
+        (
+            &["varan", "rules", "--asm", "--", "-r"],
+            Tool::AssembleRules,
+            "-r",
+        ),
+        (&["varan", "rules", ""], Tool::CheckRules, ""),
+    ];
+    for (words, tool, file) in accepted {
+        let words = words_of(rt.alloc(), words)?;
+        let Ok(Command::Use(job)) = read(rt.alloc(), &words) else {
+            panic!(rt; "refused");
+        };
+        assert!(rt; job.tool == tool && job.file == file);
+    }
+    let refused: [&[&str]; 11] = [
+        &["varan", "asm"],
+        &["varan", "asm", "--asm", "a"],
+        &["varan", "asm", "a", "b"],
+        &["varan", "rules"],
+        &["varan", "rules", "--asm"],
+        &["varan", "rules", "--asm", "--asm", "r"],
+        &["varan", "rules", "--asm=r", "r"],
+        &["varan", "rules", "r", "r"],
+        &["varan", "rules", "-r"],
+        &["varan", "rules", "--script", "s", "r"],
+        &["varan", "rules", "--help", "r"],
+    ];
+    for words in refused {
+        assert!(rt; is_usage(rt.alloc(), words)?);
+    }
+    Ok(())
+}

@@ -1,0 +1,207 @@
+use crate::{alone, pair};
+use nv_calls::{Event, SyscallKernel};
+use nv_kernel::ScriptKernel;
+use nv_replay::{Account, Fate, Standing};
+use serde_json::Value;
+use std::alloc::Global;
+use std::test::Fail;
+
+// Writes the three bytes at 0x10024 and exits with 0.
+const HELLO: [u32; 10] = [
+    0x000105b7, 0x02458593, 0x00100513, 0x00300613, 0x04000893, 0x00000073, 0x00000513, 0x05e00893,
+    0x00000073, 0x000a6968,
+];
+
+// The same, and then loads from address 0.
+const BREAKS: [u32; 10] = [
+    0x000105b7, 0x02458593, 0x00100513, 0x00300613, 0x04000893, 0x00000073, 0x00002503, 0x05e00893,
+    0x00000073, 0x000a6968,
+];
+
+// Makes call 174, which isn't served, and exits.
+const OTHER: [u32; 5] = [0x0ae00893, 0x00000073, 0x00000513, 0x05e00893, 0x00000073];
+
+const EXIT: [u32; 2] = [0x05e00893, 0x00000073];
+
+const EXIT_WITH_SEVEN: [u32; 3] = [0x00700513, 0x05e00893, 0x00000073];
+
+fn number(value: &Value, name: &str) -> Option<i64> {
+    value.get(name)?.as_i64()
+}
+
+fn text<'a>(value: &'a Value, name: &str) -> Option<&'a str> {
+    value.get(name)?.as_str()
+}
+
+fn bytes(alloc: Global, value: &Value, name: &str) -> Option<Vec<u8>> {
+    hex::decode(alloc, text(value, name)?).ok()
+}
+
+fn word(alloc: Global, value: &Value, name: &str) -> Option<u32> {
+    let bytes = bytes(alloc, value, name)?;
+    match bytes.as_slice() {
+        [a, b, c, d] => Some(u32::from_be_bytes([*a, *b, *c, *d])),
+        _ => None,
+    }
+}
+
+fn has(value: &Value, name: &str, expected: u32) -> bool {
+    number(value, name) == Some(i64::from(expected))
+}
+
+fn has_args(value: &Value, args: &[u32; 6]) -> Option<bool> {
+    let items = value.get("args")?.as_array()?;
+    for (item, argument) in items.iter().zip(args) {
+        if item.as_u64()? != u64::from(*argument) {
+            return Some(false);
+        }
+    }
+    Some(items.len() == 6)
+}
+
+fn is_event(alloc: Global, value: &Value, event: &Event) -> Option<bool> {
+    let mut payload = event.call.payload.as_slice().to_vec(alloc).ok()?;
+    payload
+        .extend_from_slice(event.reply.payload.as_slice())
+        .ok()?;
+    let bytes = bytes(alloc, value, "payload")?;
+    Some(
+        has_args(value, &event.call.args)?
+            && bytes.as_slice() == payload.as_slice()
+            && has(value, "nr", event.call.nr)
+            && has(value, "stamp", event.stamp)
+            && has(value, "tid", event.call.tid)
+            && number(value, "ret")? == i64::from(event.reply.ret),
+    )
+}
+
+fn is_fate(alloc: Global, value: &Value, fate: Fate) -> Option<bool> {
+    let name = text(value, "fate")?;
+    match fate {
+        Fate::Exited(code) => Some(name == "exited" && has(value, "code", u32::from(code))),
+        Fate::Fault { tid, pc, .. } => {
+            Some(name == "fault" && has(value, "tid", tid) && word(alloc, value, "pc")? == pc)
+        }
+        Fate::Refused {
+            tid,
+            nr,
+            stamp,
+            verdict,
+        } => Some(
+            name == "refused"
+                && has(value, "tid", tid)
+                && has(value, "nr", nr)
+                && has(value, "stamp", stamp)
+                && word(alloc, value, "verdict")? == verdict,
+        ),
+        Fate::Memory => Some(name == "memory"),
+    }
+}
+
+fn has_led(value: &Value, spans: &[(u32, u32)]) -> Option<bool> {
+    let items = value.get("led")?.as_array()?;
+    for (item, span) in items.iter().zip(spans) {
+        let [first, behind] = item.as_array()?.as_slice() else {
+            return None;
+        };
+        if first.as_u64()? != u64::from(span.0) || behind.as_u64()? != u64::from(span.1) {
+            return Some(false);
+        }
+    }
+    Some(items.len() == spans.len())
+}
+
+fn is_version(alloc: Global, value: &Value, standing: &Standing) -> Option<bool> {
+    Some(
+        is_fate(alloc, value, standing.fate?)?
+            && has_led(value, standing.led.as_slice())?
+            && has(value, "rewrites", standing.rewrites)
+            && has(value, "seen", standing.seen),
+    )
+}
+
+// Whether the text, read back, is the account.
+fn is_account(alloc: Global, text: &str, account: &Account<ScriptKernel>) -> Option<bool> {
+    let value = Value::from_str(alloc, text).ok()?;
+    let events = value.get("log")?.as_array()?;
+    let log = account.kernel.history();
+    for (item, event) in events.iter().zip(log) {
+        if !is_event(alloc, item, event)? {
+            return Some(false);
+        }
+    }
+    let fates = value.get("fates")?.as_array()?;
+    for (item, version) in fates.iter().zip(&account.versions) {
+        if !is_version(alloc, item, version.standing())? {
+            return Some(false);
+        }
+    }
+    let output = bytes(alloc, &value, "output")?;
+    Some(
+        events.len() == log.len()
+            && fates.len() == account.versions.len()
+            && output.as_slice() == account.kernel.output(),
+    )
+}
+
+#[test]
+fn json_texts(rt: HostRuntime) -> Result<(), Fail> {
+    let cases: [(&[u32], &str); 3] = [
+        (
+            &EXIT,
+            "{\"fates\":[{\"code\":0,\"fate\":\"exited\",\"led\":[[0,1]],\"rewrites\":0,\"seen\":1}],\"log\":[{\"args\":[0,0,0,0,0,0],\"nr\":94,\"payload\":\"\",\"ret\":0,\"stamp\":0,\"tid\":100}],\"output\":\"\"}",
+        ),
+        (
+            &HELLO,
+            "{\"fates\":[{\"code\":0,\"fate\":\"exited\",\"led\":[[0,2]],\"rewrites\":0,\"seen\":2}],\"log\":[{\"args\":[1,0,3,0,0,0],\"nr\":64,\"payload\":\"68690a\",\"ret\":3,\"stamp\":0,\"tid\":100},{\"args\":[0,0,0,0,0,0],\"nr\":94,\"payload\":\"\",\"ret\":0,\"stamp\":1,\"tid\":100}],\"output\":\"68690a\"}",
+        ),
+        (
+            &[0x00002503],
+            "{\"fates\":[{\"fate\":\"fault\",\"kind\":\"load\",\"led\":[[0,0]],\"pc\":\"00010000\",\"rewrites\":0,\"seen\":0,\"tid\":100}],\"log\":[],\"output\":\"\"}",
+        ),
+    ];
+    for (words, expected) in cases {
+        let account = alone(rt.alloc(), words).expect(&rt, "a run");
+        let text = nv_report::json(rt.alloc(), &account)?;
+        assert_eq!(rt; text.as_str(), expected);
+    }
+    Ok(())
+}
+
+#[test]
+fn json_of_a_follower(rt: HostRuntime) -> Result<(), Fail> {
+    let account = pair(rt.alloc(), &EXIT, &OTHER).expect(&rt, "a run");
+    let text = nv_report::json(rt.alloc(), &account)?;
+    let expected =
+        "{\"fates\":[{\"code\":0,\"fate\":\"exited\",\"led\":[[0,1]],\"rewrites\":0,\"seen\":1},{\"fate\":\"refused\",\"led\":[],\"nr\":174,\"rewrites\":0,\"seen\":0,\"stamp\":0,\"tid\":100,\"verdict\":\"00000000\"}],\"log\":[{\"args\":[0,0,0,0,0,0],\"nr\":94,\"payload\":\"\",\"ret\":0,\"stamp\":0,\"tid\":100}],\"output\":\"\"}";
+    assert_eq!(rt; text.as_str(), expected);
+    Ok(())
+}
+
+#[test]
+fn json_reads_back(rt: HostRuntime) -> Result<(), Fail> {
+    let runs: [(&[u32], &[u32]); 6] = [
+        (&HELLO, &HELLO),
+        (&BREAKS, &HELLO),
+        (&HELLO, &EXIT),
+        (&OTHER, &OTHER),
+        (&EXIT_WITH_SEVEN, &EXIT),
+        (&[0x0000006f], &BREAKS),
+    ];
+    for (first, second) in runs {
+        let account = pair(rt.alloc(), first, second).expect(&rt, "a run");
+        let text = nv_report::json(rt.alloc(), &account)?;
+        assert!(rt; is_account(rt.alloc(), text.as_str(), &account) == Some(true));
+    }
+    Ok(())
+}
+
+// The text of another run is not the account's.
+#[test]
+fn json_tells_runs_apart(rt: HostRuntime) -> Result<(), Fail> {
+    let account = alone(rt.alloc(), &EXIT).expect(&rt, "a run");
+    let other = alone(rt.alloc(), &EXIT_WITH_SEVEN).expect(&rt, "a run");
+    let text = nv_report::json(rt.alloc(), &other)?;
+    assert!(rt; is_account(rt.alloc(), text.as_str(), &account) == Some(false));
+    Ok(())
+}
