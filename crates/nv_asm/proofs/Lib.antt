@@ -8,3 +8,4 @@ pub mod Signs
 pub mod Sizes
 pub mod Passing
 pub mod Faultless
+pub mod Ending

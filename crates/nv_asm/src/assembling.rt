@@ -3,6 +3,7 @@ ghost use Rattle.std.specs.Prelude.{◌≡◌, ◌^◌, ◌∷◌, true, not, �
 ghost use Rattle.nv_text.specs.Lines.{lines};
 ghost use Rattle.nv_text.specs.Names.{defined};
 ghost use Rattle.nv_elf.specs.Elf.{range_of, image_of};
+ghost use Rattle.nv_elf.specs.Written.{is_program, bytes_in};
 ghost use Rattle.nv_asm.specs.declared.place.Section.TheVariants as section;
 ghost use Rattle.nv_asm.specs.Places.{placed, placed_line, start};
 ghost use Rattle.nv_asm.specs.Assembled.{laid, laid_in, first_cause, section_bytes, entry_of, line_number, text_base, text_range, data_ranges, assembled};
@@ -138,7 +139,10 @@ fn program(alloc: Global, text_len: u128, laid: Laid) -> Result<Program, AllocEr
 /// Assembles a text.
 pub fn assemble(alloc: Global, text: &[u8]) -> Result<Program, AsmFault>
     // want of memory is the one free answer
-    ensures { result ≢ Err AsmFault.Memory → program_view result ≡ assembled text.now }
+    ensures program { result ≢ Err AsmFault.Memory → program_view result ≡ assembled text.now }
+    // so `nv_elf::write` takes it
+    ensures sound { IfOk result (λ program. IsTrue (is_program (image_of program))) }
+    ensures small { IfOk result (λ program. bytes_in (image_of program).ranges ≤ 1048576) }
 {
     let (names, text_len) = labels(alloc, text)?;
     let laid = lay(alloc, &names, text_len, text)?;
