@@ -1,8 +1,7 @@
 -- The meaning computes: small texts against answers from outside.
-use Rattle.std.specs.Prelude.{◌≡◌, refl, ℕ, List, [], ◌∷◌, ◌++◌, codes, Ok, Err, true, false, length}
+use Rattle.std.specs.Prelude.{◌≡◌, refl, [], ◌∷◌, Ok, Err}
 use Rattle.nv_isa.specs.Table.{row}
 use Rattle.nv_isa.specs.Spelling.{encoded}
-use Rattle.nv_elf.specs.Elf.{Range, Image}
 use Rattle.nv_text.specs.Lines.{lines, trim, operands, is_name, parted, line_of}
 use Rattle.nv_text.specs.Names.{defined, definitions, first_fault}
 use Rattle.nv_asm.specs.declared.fault.AsmCause.TheVariants as cause

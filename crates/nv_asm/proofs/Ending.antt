@@ -1,5 +1,5 @@
 -- What a text comes to: its first fault, or its program.
-use Rattle.std.proofs.Common.{◌≡◌, ℕ, ◌+◌, ◌%◌, ◌<◌, ◌≤◌, ◌^◌, ◌&&◌, ◌==◌, Bool, true, false, nat_lt, nat_le, is_none, List, [], ◌∷◌, length, Option, Some, None, Result, Ok, Err, refl, sym, ap, subst, ◌∙◌, arith}
+use Rattle.std.proofs.Common.{◌≡◌, ℕ, ◌+◌, ◌%◌, ◌<◌, ◌≤◌, ◌^◌, ◌&&◌, ◌==◌, true, false, nat_lt, nat_le, is_none, List, [], ◌∷◌, length, Option, Some, None, Ok, Err, refl, sym, ap, ◌∙◌, arith}
 use Rattle.std.specs.List.{list_all}
 use Rattle.std.proofs.lemmas.Bool.{and_from}
 use Rattle.std.proofs.lemmas.Bool.Decides.{nat_tests}
@@ -14,7 +14,7 @@ use Rattle.nv_asm.specs.declared.fault.AsmFault.TheVariants as fault
 use Rattle.nv_asm.specs.declared.place.Label.{Label}
 use Rattle.nv_asm.specs.declared.place.Section.TheVariants as section
 use Rattle.nv_asm.specs.Places.{Placed, placed, start}
-use Rattle.nv_asm.specs.Assembled.{Whole, whole_of, first_cause, meaning, meaning_by, program, text_base, data_base, text_range, data_ranges, section_bytes, entry_of, assembled}
+use Rattle.nv_asm.specs.Assembled.{Whole, whole_of, first_cause, meaning, meaning_by, program, text_base, data_base, text_range, data_ranges, section_bytes, assembled}
 use Rattle.nv_asm.specs.Known.{known}
 use Rattle.nv_asm.specs.Programs.{fault_of, IsLaidText, IsEntryAt}
 

@@ -1,7 +1,6 @@
 -- What the second pass knows of a line that isn't faulty, and of the lines that remain.
-use Rattle.std.proofs.Common.{◌≡◌, ℕ, ◌+◌, ◌*◌, ◌-◌, ◌%◌, ◌<◌, ◌≤◌, Bool, true, false, not, if◌then◌else◌, List, [], ◌∷◌, ◌++◌, length, map, Option, Some, None, option_map, Result, Ok, Err, IfSome, unwrap_or, refl, sym, ap, subst, ◌∙◌, arith, append_assoc, length-append, replicate}
+use Rattle.std.proofs.Common.{◌≡◌, ℕ, ◌+◌, ◌*◌, ◌-◌, ◌≤◌, Bool, true, false, not, if◌then◌else◌, List, [], ◌∷◌, ◌++◌, length, map, Option, Some, None, option_map, Result, Ok, Err, unwrap_or, refl, sym, ap, subst, ◌∙◌, arith, append_assoc, length-append, replicate}
 use Rattle.std.specs.Prelude.{ℤ}
-use Rattle.std.specs.List.{flat_map}
 use Rattle.std.specs.Int.{w32, to_le_bytes}
 use Rattle.std.proofs.lemmas.List.{length-replicate}
 use Rattle.std.proofs.lemmas.Bool.Decides.{nat_tests}
@@ -13,10 +12,10 @@ use Rattle.nv_asm.specs.declared.place.Section.{Section}
 use Rattle.nv_asm.specs.declared.place.Section.TheVariants as section
 use Rattle.nv_asm.specs.declared.place.Reached.{Reached}
 use Rattle.nv_asm.specs.declared.place.Label.{Label}
-use Rattle.nv_asm.specs.Statements.{Word, Code, Fixed, Branch, Jump, Load, Statement, Blank, Text, Data, Bytes, Zero, Words, Entry, Instruction, OffInstruction, OffData, OffWords, insn, loading}
+use Rattle.nv_asm.specs.Statements.{Word, Code, Fixed, Branch, Jump, Load, Statement, Blank, Text, Data, Bytes, Zero, Words, Entry, Instruction, OffInstruction, OffData, OffWords, loading}
 use Rattle.nv_asm.specs.Programs.{IsEntryAt}
 use Rattle.nv_asm.proofs.Passing.{before-is}
-use Rattle.nv_asm.specs.Places.{Placed, here, begin, size, code_size, past, counted, stated, place, after, placed, placed_line, ended}
+use Rattle.nv_asm.specs.Places.{Placed, here, begin, size, code_size, past, counted, stated, place, after, placed, placed_line}
 use Rattle.nv_asm.specs.Assembled.{Whole, base, address, address_of, is_entry, is_entry_place, distance, word_value, code_words, le_words, lacks, content, is_twice, is_long, padding, padded, laid_by, laid, cause_of, bytes_of, laid_in, section_bytes, entry_past, entry_of}
 
 -- a line that isn't faulty

@@ -1,5 +1,5 @@
 -- Words found in a table.
-use Rattle.std.proofs.Common.{◌≡◌, ℕ, ◌+◌, ◌<◌, ◌≤◌, Bool, true, false, ◌&&◌, IsTrue, IfSome, refl, sym, subst, nat_lt, List, [], ◌∷◌, Option, Some, None, if◌then◌else◌, length, map, drop, get_or, bytes_eq, ap, ◌∙◌, Bor}
+use Rattle.std.proofs.Common.{◌≡◌, ℕ, ◌+◌, ◌<◌, ◌≤◌, Bool, true, false, ◌&&◌, IsTrue, IfSome, refl, nat_lt, List, [], ◌∷◌, Option, Some, None, if◌then◌else◌, length, map, drop, get_or, bytes_eq, ap, ◌∙◌, Bor}
 use Rattle.std.proofs.lemmas.List.{at_drop_more, at_drop_all}
 use Rattle.std.specs.List.{list_all}
 use borrow.Author.Tests.{ltb-true}

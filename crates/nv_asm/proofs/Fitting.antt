@@ -1,6 +1,6 @@
 -- Instructions that have a word.
-use Rattle.std.proofs.Common.{◌≡◌, ℕ, ◌+◌, ◌*◌, ◌%◌, ◌^◌, ◌<◌, Bool, true, false, IsTrue, refl, sym, ap, subst, ◌∙◌, arith}
-use Rattle.std.specs.Prelude.{ℤ, pos, neg_ℤ, ◌≤ℤ◌, ◌<ℤ◌}
+use Rattle.std.proofs.Common.{◌≡◌, ℕ, ◌*◌, ◌%◌, ◌^◌, ◌<◌, true, IsTrue, refl, sym, ap, subst, ◌∙◌, arith}
+use Rattle.std.specs.Prelude.{ℤ, pos, neg_ℤ, ◌≤ℤ◌}
 use Rattle.std.specs.Int.{w32, cast_signed, cast_unsigned}
 use Rattle.std.proofs.lemmas.Int.{ints, of_z-to_z, to_z-of_z}
 use Rattle.std.specs.Int.RustNames.{FitsSigned}
@@ -12,7 +12,7 @@ use Rattle.nv_isa.specs.declared.op.Insn.{Insn}
 use Rattle.nv_isa.specs.Table.{row}
 use Rattle.nv_isa.specs.Spelling.{low, InBits, FitsForm, Fits}
 use Rattle.nv_asm.specs.Forms.{same_form, has_form}
-use Rattle.nv_asm.specs.Statements.{insn, lower_of, upper_of}
+use Rattle.nv_asm.specs.Statements.{insn}
 
 same-form : (f g : Form) → same_form f g ≡ true → f ≡ g
 same-form Register Register e = refl

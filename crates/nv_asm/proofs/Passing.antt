@@ -1,5 +1,5 @@
 -- A pass over the lines of a text: what is gathered so far, and what remains.
-use Rattle.std.proofs.Common.{◌≡◌, ℕ, ◌+◌, ◌*◌, ◌^◌, ◌<◌, ◌≤◌, Bool, true, false, List, [], ◌∷◌, ◌++◌, Option, Some, None, if◌then◌else◌, IfSome, length, map, bytes_eq, refl, sym, ap, ◌∙◌, arith, lit≤}
+use Rattle.std.proofs.Common.{◌≡◌, ℕ, ◌+◌, ◌*◌, ◌^◌, ◌<◌, ◌≤◌, Bool, true, false, List, [], ◌∷◌, Option, Some, None, if◌then◌else◌, IfSome, length, map, bytes_eq, refl, sym, ap, ◌∙◌, arith}
 use Rattle.std.specs.Option.{option_or}
 use Rattle.std.specs.List.{onto_first}
 use Rattle.nv_text.specs.Lines.{lines, is_newline}
@@ -9,10 +9,10 @@ use Rattle.nv_asm.specs.declared.place.Reached.{Reached}
 use Rattle.nv_asm.specs.declared.place.Section.{Section}
 use Rattle.nv_asm.specs.declared.place.Section.TheVariants as section
 use Rattle.nv_asm.specs.Statements.{Statement, Blank, Text, Data, Bytes, Zero, Words, Entry, Instruction, OffInstruction, OffData, OffWords}
-use Rattle.nv_asm.specs.Places.{Placed, here, begin, size, past, stated, place, after, placed, placed_line, ended, marked}
+use Rattle.nv_asm.specs.Places.{Placed, begin, size, past, stated, place, after, placed, placed_line, ended, marked}
 use Rattle.nv_asm.specs.Bounds.{most_of}
 use Rattle.nv_asm.specs.Lines.{IsSmall}
-use Rattle.nv_asm.specs.Known.{found, IsBelow}
+use Rattle.nv_asm.specs.Known.{found}
 
 -- ---- names
 

@@ -16,7 +16,7 @@ use Rattle.nv_asm.specs.declared.place.Section.TheVariants as section
 use Rattle.nv_asm.specs.declared.place.Place.{Place}
 use Rattle.nv_asm.specs.declared.place.Label.{Label}
 use Rattle.nv_asm.specs.declared.place.Reached.{Reached}
-use Rattle.nv_asm.specs.Statements.{Word, Value, Address, Code, Fixed, Branch, Jump, Load, Statement, Blank, Text, Data, Bytes, Zero, Words, Entry, Instruction, OffInstruction, OffData, OffWords, insn, loading}
+use Rattle.nv_asm.specs.Statements.{Word, Value, Address, Code, Fixed, Branch, Jump, Load, Statement, Bytes, Zero, Words, Entry, Instruction, OffInstruction, OffData, OffWords, insn, loading}
 use Rattle.nv_asm.specs.Places.{here, Placed, stated, place, after, placed, start, ended, marked, begin}
 
 -- what a line needs of all others: where each label is first defined, and how long the text section is

@@ -2,7 +2,6 @@
 use Rattle.std.specs.Prelude.{ℕ, ◌+◌, ◌*◌, List, [], ◌∷◌, length, take, Option, Result, Ok, Err}
 use Rattle.std.specs.Int.{next_multiple_of}
 use Rattle.nv_text.specs.Lines.{Parts, line_of}
-use Rattle.nv_text.specs.Names.{definitions}
 use Rattle.nv_asm.specs.declared.fault.AsmCause.{AsmCause}
 use Rattle.nv_asm.specs.declared.fault.AsmCause.TheVariants as cause
 use Rattle.nv_asm.specs.declared.place.Section.{Section}
@@ -12,7 +11,7 @@ use Rattle.nv_asm.specs.declared.place.Label.{Label}
 use Rattle.nv_asm.specs.declared.place.Reached.{Reached}
 use Rattle.nv_asm.specs.declared.strings.Where.TheVariants.{Outside}
 use Rattle.nv_asm.specs.Strings.{comment_place}
-use Rattle.nv_asm.specs.Statements.{Code, Fixed, Branch, Jump, Load, Statement, Blank, Text, Data, Bytes, Zero, Words, Entry, Instruction, OffInstruction, OffData, OffWords, statement}
+use Rattle.nv_asm.specs.Statements.{Code, Fixed, Branch, Jump, Load, Statement, Blank, Text, Data, Bytes, Zero, Words, Instruction, OffInstruction, statement}
 
 -- how many bytes the current section has
 abbrev pub here_by : Section → Reached → ℕ

@@ -1,5 +1,5 @@
 -- Numbers as the code has them.
-use Rattle.std.specs.Prelude.{◌≡◌, Bool, ℕ, ◌<◌, ◌^◌, Option, Some, None, if◌then◌else◌, ◌&&◌, nat_lt, List, length, slice_index, ℤ, pos, neg_ℤ, int_le}
+use Rattle.std.specs.Prelude.{◌≡◌, Bool, ℕ, ◌^◌, Option, Some, None, if◌then◌else◌, ◌&&◌, nat_lt, List, slice_index, ℤ, pos, neg_ℤ, int_le}
 use Rattle.std.specs.Str.{IsAscii}
 use Rattle.std.specs.Str.Parse.{IsNumeral}
 

@@ -1,8 +1,8 @@
-use Rattle.std.proofs.Common.{◌≡◌, ℕ, ◌≤◌, Ok, Err, true, ap, sym, subst, ◌∙◌}
+use Rattle.std.proofs.Common.{◌≡◌, ◌≤◌, Ok, Err, true, ap, sym, subst, ◌∙◌}
 use Rattle.std.proofs.lemmas.Result.{err_from_is_err_and}
 use Rattle.nv_elf.specs.Elf.{Image}
 use Rattle.nv_elf.specs.Written.{is_program, bytes_in}
-use Rattle.nv_asm.proofs.Ending.{IsKnown, image, assembled-fault, assembled-short, assembled-program, image-program, image-small}
+use Rattle.nv_asm.proofs.Ending.{IsKnown, assembled-fault, assembled-short, assembled-program, image-program, image-small}
 use Rattle.nv_asm.proofs.assembling.assemble.Goals as goal
 
 pub returns-in_err-laid-clause-program : goal.returns-in_err-laid-clause-program

@@ -1,17 +1,16 @@
-use Rattle.std.proofs.Common.{◌≡◌, ℕ, ◌+◌, ◌++◌, ◌≤◌, List, length, Option, Some, None, Ok, Err, ap, refl, subst, sym, ◌∙◌, arith, append_assoc, append-nil, length-append}
+use Rattle.std.proofs.Common.{◌≡◌, ◌+◌, ◌++◌, length, Some, ap, refl, subst, sym, ◌∙◌, arith, append-nil, length-append}
 use Rattle.std.proofs.lemmas.Bool.Decides.{nat_tests}
 use Rattle.nv_text.specs.Lines.{lines}
 use Rattle.nv_text.specs.Names.{first_fault, or_later}
 use Rattle.nv_asm.specs.declared.place.Reached.{Reached}
-use Rattle.nv_asm.specs.declared.place.Section.{Section}
 use Rattle.nv_asm.specs.declared.place.Section.TheVariants as section
-use Rattle.nv_asm.specs.Places.{Placed, placed, placed_line, after, start, ended, stated}
-use Rattle.nv_asm.specs.Assembled.{Whole, laid, laid_in, cause_of, bytes_of, section_bytes, entry_past, entry_of, text_base}
+use Rattle.nv_asm.specs.Places.{Placed, placed, placed_line, after, start, ended}
+use Rattle.nv_asm.specs.Assembled.{laid_in, cause_of, section_bytes, entry_of}
 use Rattle.nv_asm.specs.Known.{known}
-use Rattle.nv_asm.specs.Programs.{IsEntryAt, AddsLine, IsLaidText, fault_of}
+use Rattle.nv_asm.specs.Programs.{IsEntryAt, fault_of}
 use Rattle.nv_asm.specs.declared.fault.AsmFault.TheVariants as fault
-use Rattle.nv_asm.proofs.Passing.{ended-line, ended-none, before-is}
-use Rattle.nv_asm.proofs.Faultless.{bytes-more, causes, causes-line, causes-none, bytes-line, bytes-none, entry-line, entry-none, entry-kept, short-line, grows-line}
+use Rattle.nv_asm.proofs.Passing.{ended-line, ended-none}
+use Rattle.nv_asm.proofs.Faultless.{bytes-more, causes, causes-line, causes-none, bytes-none, entry-line, entry-none, entry-kept, short-line, grows-line}
 use Rattle.nv_asm.proofs.assembling.lay.Goals as goal
 
 pub loop-rest-init : goal.loop-rest-init

@@ -1,7 +1,6 @@
-use Rattle.std.proofs.Common.{◌≡◌, ℕ, ◌+◌, ◌^◌, ◌<◌, ◌≤◌, List, IfSome, length, map}
+use Rattle.std.proofs.Common.{◌≡◌, ℕ, ◌+◌, ◌^◌, ◌≤◌, List, length, map}
 use Rattle.nv_text.specs.Lines.{lines}
 use Rattle.nv_text.specs.Names.{defined, definitions}
-use Rattle.nv_asm.specs.declared.place.Label.{Label}
 use Rattle.nv_asm.specs.Places.{placed, ended, start, marked}
 use Rattle.nv_asm.specs.Known.{found, IsBelow}
 use Rattle.nv_asm.proofs.Passing.{weight}

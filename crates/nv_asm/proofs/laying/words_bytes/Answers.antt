@@ -1,4 +1,4 @@
-use Rattle.std.proofs.Common.{ℕ, List, ◌++◌, ◌+◌, Bor, map, drop, ap, refl, sym, ◌∙◌}
+use Rattle.std.proofs.Common.{ℕ, List, ◌++◌, ◌+◌, Bor, map, drop, ap, refl, ◌∙◌}
 use Rattle.std.specs.Int.{w32, to_le_bytes}
 use Rattle.nv_asm.specs.Statements.{word_of}
 use Rattle.nv_asm.specs.Views.{texts}

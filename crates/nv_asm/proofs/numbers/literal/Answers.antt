@@ -1,4 +1,4 @@
-use Rattle.std.proofs.Common.{rules, Some, sym, ap, ◌∙◌, drop, option_map}
+use Rattle.std.proofs.Common.{rules, Some, sym, ap, ◌∙◌, option_map}
 use Rattle.std.proofs.lemmas.List.{take_rest}
 use Rattle.nv_asm.specs.Numbers.{magnitude}
 use Rattle.nv_asm.specs.Small.{small}

@@ -1,4 +1,4 @@
-use Rattle.std.proofs.Common.{ℕ, List, [], ◌∷◌, ◌++◌, Bor, length, map, drop, ◌+◌, ap, refl, sym, ◌∙◌}
+use Rattle.std.proofs.Common.{ℕ, List, [], ◌∷◌, ◌++◌, Bor, length, map, drop, ◌+◌, ap, refl, ◌∙◌}
 use Rattle.nv_asm.specs.Statements.{byte_of}
 use Rattle.nv_asm.specs.Views.{texts}
 use Rattle.nv_asm.proofs.Walking.{rest-more, rest-end, none_given, length-texts}

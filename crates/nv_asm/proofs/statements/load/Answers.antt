@@ -1,5 +1,4 @@
 use Rattle.std.proofs.Common.{rules}
-use Rattle.std.proofs.lemmas.Int.{ints}
 use Rattle.nv_asm.proofs.Fitting.{fits-cast, fits-immediate}
 use Rattle.nv_asm.proofs.statements.load.Goals as goal
 

@@ -1,4 +1,4 @@
-use Rattle.std.proofs.Common.{◌≡◌, ℕ, ◌*◌, ◌≤◌, List, Option, Some, option_map, length, ap, sym, subst, ◌∙◌, arith}
+use Rattle.std.proofs.Common.{◌≡◌, ◌*◌, ◌≤◌, Some, option_map, length, ap, sym, subst, ◌∙◌, arith}
 use Rattle.nv_asm.specs.Strings.{string}
 use Rattle.nv_asm.specs.Bounds.{most_of}
 use Rattle.nv_asm.proofs.Sizes.{Shorter, string-shorter, widen-some, widen-ok, operands-few}

@@ -1,4 +1,4 @@
-use Rattle.std.proofs.Common.{◌≡◌, ℕ, List, [], ◌++◌, Option, Some, None, option_map, true, false, drop, ◌+◌, ap, sym, refl, ◌∙◌, arith, append-nil}
+use Rattle.std.proofs.Common.{◌≡◌, ℕ, List, [], ◌++◌, Option, Some, None, option_map, false, ◌+◌, ap, sym, refl, ◌∙◌, arith, append-nil}
 use Rattle.nv_asm.specs.Strings.{quoted}
 use Rattle.nv_asm.proofs.Quoting.{quoted-stands, quoted-escapes, quoted-ends, quoted-wrong, quoted-none, at_end-none, at_end-some}
 use Rattle.nv_asm.proofs.strings.quoted.Goals as goal
