@@ -87,4 +87,3 @@ reads_long = refl
 pub reads_memory : assembled (108 ∷ 119 ∷ 32 ∷ 116 ∷ 48 ∷ 44 ∷ 32 ∷ 45 ∷ 52 ∷ 40 ∷ 115 ∷ 112 ∷ 41 ∷ 10 ∷ 115 ∷ 119 ∷ 32 ∷ 115 ∷ 49 ∷ 49 ∷ 44 ∷ 32 ∷ 48 ∷ 120 ∷ 55 ∷ 102 ∷ 102 ∷ 40 ∷ 116 ∷ 54 ∷ 41 ∷ 10 ∷ 106 ∷ 97 ∷ 108 ∷ 114 ∷ 32 ∷ 114 ∷ 97 ∷ 44 ∷ 32 ∷ 48 ∷ 40 ∷ 97 ∷ 48 ∷ 41 ∷ 10 ∷ 115 ∷ 114 ∷ 97 ∷ 105 ∷ 32 ∷ 120 ∷ 49 ∷ 44 ∷ 120 ∷ 50 ∷ 44 ∷ 51 ∷ 49 ∷ 10 ∷ 108 ∷ 117 ∷ 105 ∷ 32 ∷ 116 ∷ 48 ∷ 44 ∷ 32 ∷ 48 ∷ 120 ∷ 70 ∷ 70 ∷ 70 ∷ 70 ∷ 70 ∷ 10 ∷ 102 ∷ 101 ∷ 110 ∷ 99 ∷ 101 ∷ 10 ∷ 115 ∷ 117 ∷ 98 ∷ 32 ∷ 97 ∷ 48 ∷ 44 ∷ 97 ∷ 49 ∷ 44 ∷ 97 ∷ 50 ∷ 10 ∷ 98 ∷ 103 ∷ 101 ∷ 117 ∷ 32 ∷ 97 ∷ 48 ∷ 44 ∷ 97 ∷ 49 ∷ 44 ∷ 113 ∷ 10 ∷ 113 ∷ 58 ∷ 106 ∷ 97 ∷ 108 ∷ 32 ∷ 114 ∷ 97 ∷ 44 ∷ 32 ∷ 113 ∷ []) ≡ Ok (record { entry = 65536; ranges = text_range (131 ∷ 34 ∷ 193 ∷ 255 ∷ 163 ∷ 175 ∷ 191 ∷ 127 ∷ 231 ∷ 0 ∷ 5 ∷ 0 ∷ 147 ∷ 80 ∷ 241 ∷ 65 ∷ 183 ∷ 242 ∷ 255 ∷ 255 ∷ 15 ∷ 0 ∷ 240 ∷ 15 ∷ 51 ∷ 133 ∷ 197 ∷ 64 ∷ 99 ∷ 114 ∷ 181 ∷ 0 ∷ 239 ∷ 0 ∷ 0 ∷ 0 ∷ []) ∷ data_ranges 36 ([]) })
 unfolding lines trim operands is_name parted line_of defined definitions first_fault registers register literal number kinds quoted comment_place loading registers_of immediate_of shift_of load_of store_of branch_of jump_and_link_of upper_number_of load_number_of load_address_of move_of jump_of zeros_of entry_of formed bytes_of word_of words_of statement line_parts placed_line placed ended address address_of lacks distance content laid section_bytes program_entry meaning assembled encoded row
 reads_memory = refl
-

@@ -137,7 +137,7 @@ image-program n entry text (b ∷ bs) long some short h =
     let sound-2 : is_sound s ≡ true = range-sound d m m (omega arith) (omega arith) (omega arith) in
     let apart : is_none (overlap_from range_extent 0 (r ∷ s ∷ [])) ≡ true = apart-two r s (behind text_base (length text) d m (omega arith)) in
     and_from (list_all is_sound (r ∷ s ∷ [])) _ (and_from (is_sound r) _ sound (and_from (is_sound s) true sound-2 refl))
-        (and_from (is_none (overlap_from range_extent 0 (r ∷ s ∷ []))) _ apart (entry-held n entry text (s ∷ []) long some h))
+    (and_from (is_none (overlap_from range_extent 0 (r ∷ s ∷ []))) _ apart (entry-held n entry text (s ∷ []) long some h))
 
 pub image-small : (n entry : ℕ) (text contents : List ℕ) → length text + length contents ≤ 1048576 → bytes_in (image n entry text contents).ranges ≤ 1048576
 image-small n entry text [] short = omega arith

@@ -35,12 +35,15 @@ laid-inverts w p bytes e = first (is_twice w p.line p.label) p.read refl e where
       → (if long then Err cause.Range else Ok (padding p ++ inner)) ≡ Ok bytes → IsLaid w p bytes
   fourth s inner true r k o l h = cc
   fourth s inner false r k o l h = let same : padding p ++ inner ≡ bytes = cc in record { statement = s; inner = inner; read = r; known = k; content = o; short = l; all = sym same }
+
   third : (s : Statement) (o : Option (List ℕ)) → p.read ≡ Ok s → lacks w s ≡ false → content w (address w.text_len (place p)) s ≡ o → padded p o ≡ Ok bytes → IsLaid w p bytes
   third s None r k o h = cc
   third s (Some inner) r k o h = fourth s inner (is_long (after p)) r k o refl h
+
   second : (s : Statement) (lacking : Bool) → p.read ≡ Ok s → lacks w s ≡ lacking → (if lacking then Err cause.Label else padded p (content w (address w.text_len (place p)) s)) ≡ Ok bytes → IsLaid w p bytes
   second s true r k h = cc
   second s false r k h = third s (content w (address w.text_len (place p)) s) r k refl h
+
   first : (twice : Bool) (read : Result Statement AsmCause) → p.read ≡ read → (if twice then Err cause.Twice else laid_by w p read) ≡ Ok bytes → IsLaid w p bytes
   first true read r h = cc
   first false (Err c) r h = cc
@@ -211,6 +214,7 @@ grows w p bytes h = by_section p.before.section p.before.text_len p.before.data_
       let s : stated p ≡ h.statement = ap counted h.read in
       let inner : length h.inner ≡ size (stated p) = length-content w (address w.text_len (place p)) h.statement h.inner h.content ∙ ap size (sym s) in
       omega (arith, ap length h.all, length-append (padding p) h.inner, length-replicate {A = ℕ} (padding-from (stated p) (here p.before)) 0, inner)
+
   by_section : (s : Section) (t d : ℕ) → p.before ≡ (record { section = s; text_len = t; data_len = d }) → Grows w p p.before bytes
   by_section section.Text t d e =
       let r : Reached = at_text t d in

@@ -192,10 +192,7 @@ pub fn placed_line<'a>(
     ensures small { IfOk result (λ placed. size (stated (placed_view placed)) ≤ most_of (length text.now)) }
 {
     let parts = line_parts(text);
-    let read = in_section(
-        before.section,
-        statement_of(alloc, parts.word, parts.rest)?,
-    );
+    let read = in_section(before.section, statement_of(alloc, parts.word, parts.rest)?);
     Ok(Placed {
         line,
         label: parts.label,

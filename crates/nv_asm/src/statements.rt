@@ -296,10 +296,7 @@ fn load_number<'a>(rd: &[u8], value: &[u8]) -> Option<Statement<'a>>
     let Some(value) = number_of_32_bits(value)? else {
         return Some(Statement::OffInstruction);
     };
-    Some(Statement::Instruction(Code::Fixed(loading(
-        rd.number,
-        low_word(value),
-    ))))
+    Some(Statement::Instruction(Code::Fixed(loading(rd.number, low_word(value)))))
 }
 
 #[tactic(auto, unfolding(crate::specs::Statements::load_address_of))]
@@ -334,10 +331,7 @@ fn jump(target: &[u8]) -> Option<Statement<'_>>
     ensures small { IfSome result (λ s. size (view s) ≤ 1048576) }
 {
     let target = name(target)?;
-    Some(Statement::Instruction(Code::Jump(
-        Register { number: 0 },
-        target,
-    )))
+    Some(Statement::Instruction(Code::Jump(Register { number: 0 }, target)))
 }
 
 #[tactic(auto, unfolding(crate::specs::Statements::zeros_of))]

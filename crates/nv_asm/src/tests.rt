@@ -47,7 +47,8 @@ const FORMS: [(&str, u32); 37] = [
 ];
 
 // Each form with a label or with a number of 32 bits.
-const PROGRAM: &str = "start: beq a0, a1, start\nbne t0, zero, end\nblt s0, s1, start\nbge x31, x1, end\nbltu a2, a3, start\nbgeu a4, a5, end\njal ra, end\njal t0, start\nj start\nj end\nend: la a0, msg\nla t6, start\nli a0, 0\nli a1, 2047\nli a2, 2048\nli a3, -1\nli a4, -2048\nli a5, -2049\nli a6, 0x12345fff\nli a7, 4294967295\nli s2, -2147483648\nli s3, 0x7fffffff\nli s4, 0xfffff800\n.data\n.byte 1, -128, 255\nmsg: .ascii \"hi\\n\"\nnum: .word 5, msg, end, -1\n";
+const PROGRAM: &str =
+    "start: beq a0, a1, start\nbne t0, zero, end\nblt s0, s1, start\nbge x31, x1, end\nbltu a2, a3, start\nbgeu a4, a5, end\njal ra, end\njal t0, start\nj start\nj end\nend: la a0, msg\nla t6, start\nli a0, 0\nli a1, 2047\nli a2, 2048\nli a3, -1\nli a4, -2048\nli a5, -2049\nli a6, 0x12345fff\nli a7, 4294967295\nli s2, -2147483648\nli s3, 0x7fffffff\nli s4, 0xfffff800\n.data\n.byte 1, -128, 255\nmsg: .ascii \"hi\\n\"\nnum: .word 5, msg, end, -1\n";
 
 // What GNU as and ld 2.40 make of it, linked with `-Ttext=0x10000 -Tdata=0x11000`, where `lui` with %hi and `addi` with
 // %lo stand for each `li` and `la`, and `.balign 4` is before `.word`.
@@ -57,9 +58,7 @@ const PROGRAM_TEXT: [&[u8]; 3] = [
     b"b7f7ffff9387f77f376834121308f8ffb70800009388f8ff3709008013090900b70900809389f9ff370a0000130a0a80",
 ];
 
-const PROGRAM_DATA: [&[u8]; 1] = [
-    b"0180ff68690a0000050000000310010028000100ffffffff",
-];
+const PROGRAM_DATA: [&[u8]; 1] = [b"0180ff68690a0000050000000310010028000100ffffffff"];
 
 fn bytes_of(alloc: Global, lines: &[&[u8]]) -> Result<Vec<u8>, Fail> {
     let mut bytes = Vec::new(alloc);
@@ -176,7 +175,11 @@ fn refused(rt: HostRuntime) {
         ("nop\n.entry a\n.entry b\na: nop\n", 3, AsmCause::Label),
         ("addi a0, a1, 2048", 1, AsmCause::Range),
         ("addi a0, a1, -2049", 1, AsmCause::Range),
-        ("addi a0, a1, 99999999999999999999999999", 1, AsmCause::Range),
+        (
+            "addi a0, a1, 99999999999999999999999999",
+            1,
+            AsmCause::Range,
+        ),
         ("slli a0, a1, 32", 1, AsmCause::Range),
         ("lui a0, 1048576", 1, AsmCause::Range),
         ("lui a0, -1", 1, AsmCause::Range),
@@ -212,8 +215,14 @@ fn accepted(rt: HostRuntime) {
         ("\t nop\t# \"\n\n", 0x1_0000),
         ("nop\na:nop\n.entry a\n", 0x1_0004),
         ("nop\n.byte 1\na:nop\n.entry a\n", 0x1_0008),
-        ("nop\nlast: nop\n.entry last\n.entry first\nfirst: nop", 0x1_0008),
-        ("beq a0, a1, a\n.zero 4088\na: nop\nb: .zero 4092\nnop\nbeq a0, a1, c\nc: nop", 0x1_0000),
+        (
+            "nop\nlast: nop\n.entry last\n.entry first\nfirst: nop",
+            0x1_0008,
+        ),
+        (
+            "beq a0, a1, a\n.zero 4088\na: nop\nb: .zero 4092\nnop\nbeq a0, a1, c\nc: nop",
+            0x1_0000,
+        ),
         ("a: .zero 4096\nbeq a0, a1, a", 0x1_0000),
         ("nop\n.zero 1048572", 0x1_0000),
         ("a0: .word a0, -1\n.ascii \"#\\\"#\" # \"", 0x1_0000),

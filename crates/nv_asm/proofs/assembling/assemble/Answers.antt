@@ -28,10 +28,10 @@ returns-clause-sound c =
     let l = c.in_ok-laid.laid in
     let h = c.in_ok-laid.ensures.laid in
     subst (λ (p : Image). is_program p ≡ true) (sym c.in_ok-program.ensures)
-        (image-program c.in_ok-names.text_len l.entry l.text.items l.data.items (h.text_len ∙ sym c.in_ok-names.ensures.text_len) c.if-text_len-lt4.false h.short h.entry_at)
+    (image-program c.in_ok-names.text_len l.entry l.text.items l.data.items (h.text_len ∙ sym c.in_ok-names.ensures.text_len) c.if-text_len-lt4.false h.short h.entry_at)
 
 pub returns-clause-small : goal.returns-clause-small
 returns-clause-small c =
     let l = c.in_ok-laid.laid in
     subst (λ (p : Image). bytes_in p.ranges ≤ 1048576) (sym c.in_ok-program.ensures)
-        (image-small c.in_ok-names.text_len l.entry l.text.items l.data.items c.in_ok-laid.ensures.laid.short)
+    (image-small c.in_ok-names.text_len l.entry l.text.items l.data.items c.in_ok-laid.ensures.laid.short)

@@ -1,5 +1,4 @@
 use Rattle.std.proofs.Common.{ℕ, List, [], Bor, bytes_eq, sym, ap, ◌∙◌}
-
 use Rattle.nv_asm.proofs.Finding.{first_of-here, first_of-later, first_of-past}
 use Rattle.nv_asm.proofs.numbers.find.Goals as goal
 
