@@ -1,0 +1,11 @@
+pub mod Computes
+pub mod Finding
+pub mod Digits
+pub mod Fitting
+pub mod Quoting
+pub mod Walking
+pub mod Signs
+pub mod Sizes
+pub mod Passing
+pub mod Faultless
+pub mod Ending

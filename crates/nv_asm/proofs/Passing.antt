@@ -1,0 +1,167 @@
+-- A pass over the lines of a text: what is gathered so far, and what remains.
+use Rattle.std.proofs.Common.{◌≡◌, ℕ, ◌+◌, ◌*◌, ◌^◌, ◌<◌, ◌≤◌, Bool, true, false, List, [], ◌∷◌, Option, Some, None, if◌then◌else◌, IfSome, length, map, bytes_eq, refl, sym, ap, ◌∙◌, arith}
+use Rattle.std.specs.Option.{option_or}
+use Rattle.std.specs.List.{onto_first}
+use Rattle.nv_text.specs.Lines.{lines, is_newline}
+use Rattle.nv_text.specs.Names.{defined, defining, definitions, knowing}
+use Rattle.nv_asm.specs.declared.place.Label.{Label}
+use Rattle.nv_asm.specs.declared.place.Reached.{Reached}
+use Rattle.nv_asm.specs.declared.place.Section.{Section}
+use Rattle.nv_asm.specs.declared.place.Section.TheVariants as section
+use Rattle.nv_asm.specs.Statements.{Statement, Blank, Text, Data, Bytes, Zero, Words, Entry, Instruction, OffInstruction, OffData, OffWords}
+use Rattle.nv_asm.specs.Places.{Placed, begin, size, past, stated, place, after, placed, placed_line, ended, marked}
+use Rattle.nv_asm.specs.Bounds.{most_of}
+use Rattle.nv_asm.specs.Lines.{IsSmall}
+use Rattle.nv_asm.specs.Known.{found}
+
+-- ---- names
+
+or_known : (o p : Option Label) (b : Bool) (d : Label) → option_or o (if b then Some d else p) ≡ option_or (option_or o (if b then Some d else None)) p
+or_known (Some x) p b d = refl
+or_known None p true d = refl
+or_known None p false d = refl
+
+-- a further name is known before, in place of behind
+pub found-defined : (before after behind : List (List ℕ × Label)) (label name : List ℕ) (d : Label)
+    → ((other : List ℕ) → defined after other ≡ knowing before label d other) → found before (defining (Some label) d behind) name ≡ found after behind name
+unfolding defined
+found-defined before after behind label name d h =
+    or_known (defined before name) (defined behind name) (bytes_eq name label) d ∙ ap (λ o. option_or o (defined behind name)) (sym (h name))
+
+or_none : (o : Option Label) → option_or o None ≡ o
+or_none None = refl
+or_none (Some x) = refl
+
+pub found-none : (before behind : List (List ℕ × Label)) (name : List ℕ) → before ≡ [] → found before behind name ≡ defined behind name
+unfolding defined
+found-none before behind name e = ap (λ ls. found ls behind name) e
+
+pub found-all : (before behind : List (List ℕ × Label)) (name : List ℕ) → behind ≡ [] → found before behind name ≡ defined before name
+unfolding defined
+found-all before behind name e = ap (λ ls. found before ls name) e ∙ or_none (defined before name)
+
+-- a bound on the places of names that are known
+pub knows-more : (names now : List (List ℕ × Label)) (label : List ℕ) (d : Label) (most : ℕ) → ((other : List ℕ) → defined now other ≡ knowing names label d other)
+    → ((name : List ℕ) → IfSome (defined names name) (λ (l : Label). l.place.offset < most)) → d.place.offset < most
+    → (name : List ℕ) → IfSome (defined now name) (λ (l : Label). l.place.offset < most)
+knows-more names now label d most is old small name = step (defined now name) (defined names name) (bytes_eq name label) (is name) (old name) where
+  step : (o p : Option Label) (b : Bool) → o ≡ option_or p (if b then Some d else None) → IfSome p (λ (l : Label). l.place.offset < most) → IfSome o (λ (l : Label). l.place.offset < most)
+  step o (Some l) b e h = rw e h
+  step o None true e h = rw e small
+  step o None false e h = rw e tt
+
+pub knows-none : (names : List (List ℕ × Label)) (most : ℕ) → names ≡ [] → (name : List ℕ) → IfSome (defined names name) (λ (l : Label). l.place.offset < most)
+unfolding defined
+knows-none names most e name = rw e tt
+
+-- ---- lines
+
+abbrev pub names_of : List Placed → List (List ℕ × Label)
+names_of ps = definitions (map marked ps)
+
+pub names-line : (n : ℕ) (before : Reached) (text line rest : List ℕ) → lines text ≡ line ∷ lines rest
+    → names_of (placed n before (lines text)) ≡ defining (placed_line n before line).label (record { line = (placed_line n before line).line; place = place (placed_line n before line) }) (names_of (placed (n + 1) (after (placed_line n before line)) (lines rest)))
+unfolding placed definitions
+names-line n before text line rest e = ap (λ ls. names_of (placed n before ls)) e
+
+pub names-none : (n : ℕ) (before : Reached) (text : List ℕ) → length text ≡ 0 → names_of (placed n before (lines text)) ≡ []
+unfolding placed definitions lines
+names-none n before [] e = refl
+names-none n before (b ∷ bs) e = absurd (omega (arith, e))
+
+pub ended-line : (n : ℕ) (before : Reached) (text line rest : List ℕ) → lines text ≡ line ∷ lines rest
+    → ended before (placed n before (lines text)) ≡ ended (after (placed_line n before line)) (placed (n + 1) (after (placed_line n before line)) (lines rest))
+unfolding placed ended
+ended-line n before text line rest e = ap (λ ls. ended before (placed n before ls)) e
+
+pub ended-none : (n : ℕ) (before : Reached) (text : List ℕ) → length text ≡ 0 → ended before (placed n before (lines text)) ≡ before
+unfolding placed ended lines
+ended-none n before [] e = refl
+ended-none n before (b ∷ bs) e = absurd (omega (arith, e))
+
+-- ---- bounds
+
+-- the most bytes that so many lines can have
+abbrev pub weight : List (List ℕ) → ℕ
+weight [] = 0
+weight (line ∷ lines) = most_of (length line) + 3 + weight lines
+
+abbrev pub filled_by : Reached → ℕ
+filled_by r = r.text_len + r.data_len
+
+begin-near : (s : Statement) (n : ℕ) → begin s n ≤ n + 3
+begin-near Blank n = omega arith
+begin-near Text n = omega arith
+begin-near Data n = omega arith
+begin-near (Bytes bs) n = omega arith
+begin-near (Zero k) n = omega arith
+begin-near (Words ws) n = omega arith
+begin-near (Entry l) n = omega arith
+begin-near (Instruction c) n = omega arith
+begin-near OffInstruction n = omega arith
+begin-near OffData n = omega arith
+begin-near (OffWords ws) n = omega arith
+
+past-near : (c : Section) (t d : ℕ) (s : Statement) → filled_by (past s (record { section = c; text_len = t; data_len = d })) ≤ t + d + 3 + size s
+past-near section.Text t d Blank = omega arith
+past-near section.Text t d Text = omega arith
+past-near section.Text t d Data = omega arith
+past-near section.Text t d (Bytes bs) = omega arith
+past-near section.Text t d (Zero k) = omega arith
+past-near section.Text t d (Words ws) = omega (arith, begin-near (Words ws) t)
+past-near section.Text t d (Entry l) = omega arith
+past-near section.Text t d (Instruction c) = omega (arith, begin-near (Instruction c) t)
+past-near section.Text t d OffInstruction = omega arith
+past-near section.Text t d OffData = omega arith
+past-near section.Text t d (OffWords ws) = omega arith
+past-near section.Data t d Blank = omega arith
+past-near section.Data t d Text = omega arith
+past-near section.Data t d Data = omega arith
+past-near section.Data t d (Bytes bs) = omega arith
+past-near section.Data t d (Zero k) = omega arith
+past-near section.Data t d (Words ws) = omega (arith, begin-near (Words ws) d)
+past-near section.Data t d (Entry l) = omega arith
+past-near section.Data t d (Instruction c) = omega (arith, begin-near (Instruction c) d)
+past-near section.Data t d OffInstruction = omega arith
+past-near section.Data t d OffData = omega arith
+past-near section.Data t d (OffWords ws) = omega arith
+
+abbrev statement_of : ℕ → Reached → List ℕ → Statement
+statement_of n before line = stated (placed_line n before line)
+
+line-near : (n : ℕ) (before : Reached) (line : List ℕ) → size (statement_of n before line) ≤ most_of (length line) → filled_by (past (statement_of n before line) before) ≤ filled_by before + 3 + most_of (length line)
+line-near n before line small =
+    let near = past-near before.section before.text_len before.data_len (statement_of n before line) in
+    omega (arith, near, small)
+
+pub before-is : (n : ℕ) (before : Reached) (line : List ℕ) → (placed_line n before line).before ≡ before
+unfolding placed_line
+before-is n before line = refl
+
+after-is : (n : ℕ) (before : Reached) (line : List ℕ) → after (placed_line n before line) ≡ past (statement_of n before line) before
+after-is n before line = ap (past (statement_of n before line)) (before-is n before line)
+
+-- what is filled behind a line, with what the lines behind it can have at most
+pub weight-line : (n : ℕ) (before : Reached) (text line rest : List ℕ) → lines text ≡ line ∷ lines rest → size (stated (placed_line n before line)) ≤ most_of (length line)
+    → filled_by (after (placed_line n before line)) + weight (lines rest) ≤ filled_by before + weight (lines text)
+weight-line n before text line rest e small =
+    let whole : weight (lines text) ≡ most_of (length line) + 3 + weight (lines rest) = ap weight e in
+    let same : filled_by (after (placed_line n before line)) ≡ filled_by (past (statement_of n before line) before) = ap filled_by (after-is n before line) in
+    omega (arith, whole, same, line-near n before line small)
+
+onto-weight : (b : ℕ) (ls : List (List ℕ)) → weight (onto_first b ls) ≤ weight ls + 1048587
+onto-weight b [] = omega arith
+onto-weight b (l ∷ ls) = omega arith
+
+-- a bound on all lines by the text's length
+pub weight-le : (text : List ℕ) → weight (lines text) ≤ 2 ^ 21 * length text
+unfolding lines
+weight-le [] = omega arith
+weight-le (b ∷ bs) = step (is_newline b) (weight-le bs) where
+  step : (x : Bool) → weight (lines bs) ≤ 2 ^ 21 * length bs → weight (if x then [] ∷ lines bs else onto_first b (lines bs)) ≤ 2 ^ 21 * length (b ∷ bs)
+  step true h = omega arith
+  step false h = omega (arith, onto-weight b (lines bs))
+
+-- what is filled stays small
+pub filled-small : (r : Reached) (text rest : List ℕ) → filled_by r + weight (lines rest) ≤ weight (lines text) → length text < 2 ^ 64 → IsSmall r
+filled-small r text rest room long = record { text = omega (arith, room, weight-le text); «data» = omega (arith, room, weight-le text) }

@@ -1,0 +1,27 @@
+use Rattle.std.proofs.Common.{◌≡◌, ◌+◌, ◌++◌, ◌≤◌, length}
+use Rattle.nv_text.specs.Lines.{lines}
+use Rattle.nv_text.specs.Names.{first_fault}
+use Rattle.nv_asm.specs.declared.place.Section.TheVariants as section
+use Rattle.nv_asm.specs.Places.{placed, start, ended}
+use Rattle.nv_asm.specs.Assembled.{section_bytes, entry_of, text_base}
+use Rattle.nv_asm.specs.Known.{known}
+use Rattle.nv_asm.specs.Programs.{IsEntryAt}
+use Rattle.nv_asm.proofs.Faultless.{causes}
+use Rattle.nv_asm.proofs.assembling.lay.Given as goal
+
+abbrev pub invariant-loop-rest : goal.invariant-loop-rest
+invariant-loop-rest l = record {
+  faults : first_fault l.line (causes (known l.names l.text_len) (placed l.line l.reached (lines l.rest))) ≡ first_fault 0 (causes (known l.names l.text_len) (placed 0 start (lines l.text)));
+  texts : l.out.text.items ++ section_bytes (known l.names l.text_len) section.Text (placed l.line l.reached (lines l.rest)) ≡ section_bytes (known l.names l.text_len) section.Text (placed 0 start (lines l.text));
+  contents : l.out.data.items ++ section_bytes (known l.names l.text_len) section.Data (placed l.line l.reached (lines l.rest)) ≡ section_bytes (known l.names l.text_len) section.Data (placed 0 start (lines l.text));
+  entries : entry_of (known l.names l.text_len) l.out.entry (placed l.line l.reached (lines l.rest)) ≡ entry_of (known l.names l.text_len) text_base (placed 0 start (lines l.text));
+  entry_at : IsEntryAt l.text_len l.out.entry;
+  ends : ended l.reached (placed l.line l.reached (lines l.rest)) ≡ ended start (placed 0 start (lines l.text));
+  text_len_is : length l.out.text.items ≡ l.reached.text_len;
+  data_len_is : length l.out.data.items ≡ l.reached.data_len;
+  short : l.reached.text_len + l.reached.data_len ≤ 1048576;
+  read : l.line + length l.rest ≤ length l.text;
+}
+
+abbrev pub decreases-loop-rest : goal.decreases-loop-rest
+decreases-loop-rest l = length l.rest

@@ -1,0 +1,132 @@
+// The words that begin a statement.
+ghost use Rattle.std.specs.Prelude.{◌≡◌, IsTrue, IfSome, map};
+ghost use Rattle.nv_text.specs.Names.{defined};
+ghost use Rattle.nv_asm.specs.Forms.{kinds, is_lawful};
+
+use nv_isa::Op;
+
+/// The operands of a statement that has a fixed number of them.
+#[derive(Clone, Copy, Debug, PartialEq, Eq)]
+pub enum Shape {
+    /// rd, rs1, rs2.
+    Registers(Op),
+    /// rd, rs1 and a number of 12 bits.
+    Immediate(Op),
+    /// rd, rs1 and a number from 0 to 31.
+    Shift(Op),
+    /// rd, imm(rs1).
+    Load(Op),
+    /// rs2, imm(rs1).
+    Store(Op),
+    /// rs1, rs2 and a label.
+    Branch(Op),
+    /// rd and a label: `jal`.
+    JumpAndLink,
+    /// rd and the upper 20 bits of a number.
+    Upper(Op),
+    /// No operand: this word.
+    Alone(u32),
+    /// rd and a number: `li`.
+    LoadNumber,
+    /// rd and a label: `la`.
+    LoadAddress,
+    /// rd and rs: `mv`.
+    Move,
+    /// A label: `j`.
+    Jump,
+    /// `.text`.
+    Text,
+    /// `.data`.
+    Data,
+    /// A number of bytes: `.zero`.
+    Zero,
+    /// A label: `.entry`.
+    Entry,
+}
+
+/// What stands behind the word that begins a statement.
+#[derive(Clone, Copy, Debug, PartialEq, Eq)]
+pub enum Kind {
+    Plain(Shape),
+    /// One or more numbers: `.byte`.
+    Bytes,
+    /// One or more numbers or labels: `.word`.
+    Words,
+    /// A text in quotes: `.ascii`.
+    Ascii,
+}
+
+const KINDS: [(&str, Kind); 52] = [
+    ("add", Kind::Plain(Shape::Registers(Op::Add))),
+    ("sub", Kind::Plain(Shape::Registers(Op::Sub))),
+    ("sll", Kind::Plain(Shape::Registers(Op::Sll))),
+    ("slt", Kind::Plain(Shape::Registers(Op::Slt))),
+    ("sltu", Kind::Plain(Shape::Registers(Op::Sltu))),
+    ("xor", Kind::Plain(Shape::Registers(Op::Xor))),
+    ("srl", Kind::Plain(Shape::Registers(Op::Srl))),
+    ("sra", Kind::Plain(Shape::Registers(Op::Sra))),
+    ("or", Kind::Plain(Shape::Registers(Op::Or))),
+    ("and", Kind::Plain(Shape::Registers(Op::And))),
+    ("addi", Kind::Plain(Shape::Immediate(Op::Addi))),
+    ("slti", Kind::Plain(Shape::Immediate(Op::Slti))),
+    ("sltiu", Kind::Plain(Shape::Immediate(Op::Sltiu))),
+    ("xori", Kind::Plain(Shape::Immediate(Op::Xori))),
+    ("ori", Kind::Plain(Shape::Immediate(Op::Ori))),
+    ("andi", Kind::Plain(Shape::Immediate(Op::Andi))),
+    ("slli", Kind::Plain(Shape::Shift(Op::Slli))),
+    ("srli", Kind::Plain(Shape::Shift(Op::Srli))),
+    ("srai", Kind::Plain(Shape::Shift(Op::Srai))),
+    ("lb", Kind::Plain(Shape::Load(Op::Lb))),
+    ("lh", Kind::Plain(Shape::Load(Op::Lh))),
+    ("lw", Kind::Plain(Shape::Load(Op::Lw))),
+    ("lbu", Kind::Plain(Shape::Load(Op::Lbu))),
+    ("lhu", Kind::Plain(Shape::Load(Op::Lhu))),
+    ("jalr", Kind::Plain(Shape::Load(Op::Jalr))),
+    ("sb", Kind::Plain(Shape::Store(Op::Sb))),
+    ("sh", Kind::Plain(Shape::Store(Op::Sh))),
+    ("sw", Kind::Plain(Shape::Store(Op::Sw))),
+    ("beq", Kind::Plain(Shape::Branch(Op::Beq))),
+    ("bne", Kind::Plain(Shape::Branch(Op::Bne))),
+    ("blt", Kind::Plain(Shape::Branch(Op::Blt))),
+    ("bge", Kind::Plain(Shape::Branch(Op::Bge))),
+    ("bltu", Kind::Plain(Shape::Branch(Op::Bltu))),
+    ("bgeu", Kind::Plain(Shape::Branch(Op::Bgeu))),
+    ("jal", Kind::Plain(Shape::JumpAndLink)),
+    ("lui", Kind::Plain(Shape::Upper(Op::Lui))),
+    ("auipc", Kind::Plain(Shape::Upper(Op::Auipc))),
+    ("fence", Kind::Plain(Shape::Alone(0x0ff0_000f))),
+    ("ecall", Kind::Plain(Shape::Alone(0x73))),
+    ("ebreak", Kind::Plain(Shape::Alone(0x0010_0073))),
+    ("nop", Kind::Plain(Shape::Alone(0x13))),
+    ("li", Kind::Plain(Shape::LoadNumber)),
+    ("la", Kind::Plain(Shape::LoadAddress)),
+    ("mv", Kind::Plain(Shape::Move)),
+    ("j", Kind::Plain(Shape::Jump)),
+    (".text", Kind::Plain(Shape::Text)),
+    (".data", Kind::Plain(Shape::Data)),
+    (".zero", Kind::Plain(Shape::Zero)),
+    (".entry", Kind::Plain(Shape::Entry)),
+    (".byte", Kind::Bytes),
+    (".word", Kind::Words),
+    (".ascii", Kind::Ascii),
+];
+
+fn find(table: &[(&str, Kind)], word: &[u8]) -> Option<Kind>
+    ensures { result ≡ defined (map (λ entry. (entry.0.now, entry.1)) table.now) word.now }
+{
+    for (name, kind) in table {
+        if word == name.as_bytes() {
+            return Some(*kind);
+        }
+    }
+    None
+}
+
+/// What stands behind this word, where it begins a statement.
+#[tactic(auto, unfolding(crate::specs::Forms::kinds))]
+pub fn kind_of(word: &[u8]) -> Option<Kind>
+    ensures value { result ≡ defined kinds word.now }
+    ensures lawful { IfSome result (λ kind. IsTrue (is_lawful kind)) }
+{
+    find(&KINDS, word)
+}

@@ -1,0 +1,19 @@
+//! The assembler of RV32I programs.
+#![tactic(auto)]
+
+mod assembling;
+mod code;
+mod fault;
+mod forms;
+mod labels;
+mod laying;
+mod numbers;
+mod place;
+mod placed;
+mod statements;
+mod strings;
+#[cfg(test)]
+mod tests;
+
+pub use assembling::assemble;
+pub use fault::{AsmCause, AsmFault};

@@ -1,0 +1,295 @@
+// Texts with answers from outside.
+use crate::{AsmCause, AsmFault, assemble};
+use nv_bytes::unhex;
+use nv_elf::{Program, write};
+use std::alloc::Global;
+use std::test::Fail;
+
+// The words that GNU as 2.40 makes of each form without a label, by `-march=rv32i -mno-relax`.
+const FORMS: [(&str, u32); 37] = [
+    ("add a0, a1, a2", 0x00c5_8533),
+    ("sub t0, t1, t2", 0x4073_02b3),
+    ("sll s0, s1, s2", 0x0124_9433),
+    ("slt x1, x2, x3", 0x0031_20b3),
+    ("sltu x4, x5, x6", 0x0062_b233),
+    ("xor t3, t4, t5", 0x01ee_ce33),
+    ("srl a3, a4, a5", 0x00f7_56b3),
+    ("sra a6, a7, s3", 0x4138_d833),
+    ("or s4, s5, s6", 0x016a_ea33),
+    ("and s7, s8, s9", 0x019c_7bb3),
+    ("addi a0, sp, -2048", 0x8001_0513),
+    ("slti a1, gp, 2047", 0x7ff1_a593),
+    ("sltiu a2, tp, -1", 0xfff2_3613),
+    ("xori a3, ra, 0x7ff", 0x7ff0_c693),
+    ("ori a4, zero, 5", 0x0050_6713),
+    ("andi a5, s10, -0x800", 0x800d_7793),
+    ("slli s11, t6, 31", 0x01ff_9d93),
+    ("srli t0, fp, 1", 0x0014_5293),
+    ("srai x31, x30, 0", 0x400f_5f93),
+    ("lb a0, -1(a1)", 0xfff5_8503),
+    ("lh a0, 2(a1)", 0x0025_9503),
+    ("lw t0, -4(sp)", 0xffc1_2283),
+    ("lbu t1, 2047(s0)", 0x7ff4_4303),
+    ("lhu t2, -2048(gp)", 0x8001_d383),
+    ("jalr ra, 0(a0)", 0x0005_00e7),
+    ("jalr x0, -8(x1)", 0xff80_8067),
+    ("sb a0, 0(a1)", 0x00a5_8023),
+    ("sh a0, -2(a1)", 0xfea5_9f23),
+    ("sw s11, 0x7ff(t6)", 0x7fbf_afa3),
+    ("lui t0, 0xFFFFF", 0xffff_f2b7),
+    ("lui a7, 1", 0x0000_18b7),
+    ("auipc gp, 0x12345", 0x1234_5197),
+    ("fence", 0x0ff0_000f),
+    ("ecall", 0x0000_0073),
+    ("ebreak", 0x0010_0073),
+    ("nop", 0x0000_0013),
+    ("mv a0, s1", 0x0004_8513),
+];
+
+// Each form with a label or with a number of 32 bits.
+const PROGRAM: &str =
+    "start: beq a0, a1, start\nbne t0, zero, end\nblt s0, s1, start\nbge x31, x1, end\nbltu a2, a3, start\nbgeu a4, a5, end\njal ra, end\njal t0, start\nj start\nj end\nend: la a0, msg\nla t6, start\nli a0, 0\nli a1, 2047\nli a2, 2048\nli a3, -1\nli a4, -2048\nli a5, -2049\nli a6, 0x12345fff\nli a7, 4294967295\nli s2, -2147483648\nli s3, 0x7fffffff\nli s4, 0xfffff800\n.data\n.byte 1, -128, 255\nmsg: .ascii \"hi\\n\"\nnum: .word 5, msg, end, -1\n";
+
+// What GNU as and ld 2.40 make of it, linked with `-Ttext=0x10000 -Tdata=0x11000`, where `lui` with %hi and `addi` with
+// %lo stand for each `li` and `la`, and `.balign 4` is before `.word`.
+const PROGRAM_TEXT: [&[u8]; 3] = [
+    b"6300b50063920202e34c94fe63de1f00e368d6fe637af700ef000001eff25ffe6ff01ffe6f0040003715010013053500",
+    b"b70f0100938f0f003705000013050500b70500009385f57f3716000013060680b70600009386f6ff3707000013070780",
+    b"b7f7ffff9387f77f376834121308f8ffb70800009388f8ff3709008013090900b70900809389f9ff370a0000130a0a80",
+];
+
+const PROGRAM_DATA: [&[u8]; 1] = [b"0180ff68690a0000050000000310010028000100ffffffff"];
+
+fn bytes_of(alloc: Global, lines: &[&[u8]]) -> Result<Vec<u8>, Fail> {
+    let mut bytes = Vec::new(alloc);
+    for line in lines {
+        let part = unhex(alloc, line)?.ok_or("hexadecimal")?;
+        bytes.extend_from_slice(&part)?;
+    }
+    Ok(bytes)
+}
+
+// Whether the program's segment of this number has this address and these bytes.
+fn has(program: &Program, number: usize, address: u32, bytes: &[u8]) -> bool {
+    match program.segments.get(number) {
+        None => false,
+        Some(segment) => {
+            segment.address == address
+                && segment.size as usize == bytes.len()
+                && segment.bytes.as_slice() == bytes
+        }
+    }
+}
+
+#[test]
+fn forms(rt: HostRuntime) {
+    for (text, word) in FORMS {
+        match assemble(rt.alloc(), text.as_bytes()) {
+            Ok(program) => {
+                assert!(rt; has(&program, 0, 0x1_0000, &word.to_le_bytes()), "{text:?}");
+                assert_eq!(rt; program.segments.len(), 1);
+                assert_eq!(rt; program.entry, 0x1_0000);
+            }
+            Err(fault) => panic!(rt; "{fault:?} at {text:?}"),
+        }
+    }
+}
+
+#[test]
+fn sections(rt: HostRuntime) -> Result<(), Fail> {
+    match assemble(rt.alloc(), PROGRAM.as_bytes()) {
+        Ok(program) => {
+            let text = bytes_of(rt.alloc(), &PROGRAM_TEXT)?;
+            let data = bytes_of(rt.alloc(), &PROGRAM_DATA)?;
+            assert!(rt; has(&program, 0, 0x1_0000, &text));
+            assert!(rt; has(&program, 1, 0x1_1000, &data));
+            assert_eq!(rt; program.segments.len(), 2);
+        }
+        Err(fault) => panic!(rt; "{fault:?}"),
+    }
+    Ok(())
+}
+
+// Whole files: a program that ends, and one that writes `hi` before.
+#[test]
+fn files(rt: HostRuntime) -> Result<(), Fail> {
+    for (text, want) in [
+        (
+            "li a7, 94\necall\n",
+            b"7f454c460101010000000000000000000200f300010000000000010034000000000000000000000034002000010000000000000001000000540000000000010000000100\
+0c0000000c0000000500000004000000b70800009388e80573000000" as &[u8],
+        ),
+        (
+            "la a1, text\naddi a0, zero, 1\naddi a2, zero, 3\naddi a7, zero, 64\necall\nmv a0, zero\naddi a7, zero, 94\necall\ntext: .ascii \"hi\\n\"",
+            b"7f454c460101010000000000000000000200f300010000000000010034000000000000000000000034002000010000000000000001000000540000000000010000000100\
+27000000270000000500000004000000b70501009385450213051000130630009308000473000000130500009308e0057300000068690a" as &[u8],
+        ),
+    ] {
+        match assemble(rt.alloc(), text.as_bytes()) {
+            Ok(program) => {
+                let file = write(rt.alloc(), &program)?;
+                let want = unhex(rt.alloc(), want)?.ok_or("hexadecimal")?;
+                assert_eq!(rt; file.as_slice(), want.as_slice(), "at {text:?}");
+            }
+            Err(fault) => panic!(rt; "{fault:?} at {text:?}"),
+        }
+    }
+    Ok(())
+}
+
+#[test]
+fn refused(rt: HostRuntime) {
+    for (text, line, cause) in [
+        ("bogus\n", 1, AsmCause::Mnemonic),
+        ("a: nop\na: bad\n", 2, AsmCause::Twice),
+        ("a: bad\na: nop\n", 1, AsmCause::Mnemonic),
+        ("a : nop", 1, AsmCause::Mnemonic),
+        ("1a: nop", 1, AsmCause::Mnemonic),
+        ("nop\nNOP", 2, AsmCause::Mnemonic),
+        ("nop\naddi a0, a1\n", 2, AsmCause::Operand),
+        ("addi a0, a1, 1, 2", 1, AsmCause::Operand),
+        ("addi a0, x32, 1", 1, AsmCause::Operand),
+        ("addi a0, x01, 1", 1, AsmCause::Operand),
+        ("addi a0, a1, 0X1", 1, AsmCause::Operand),
+        ("addi a0, a1, +1", 1, AsmCause::Operand),
+        ("addi a0, a1, 0x", 1, AsmCause::Operand),
+        ("addi a0, a1, -", 1, AsmCause::Operand),
+        ("lw a0, 4 (a1)", 1, AsmCause::Operand),
+        ("lw a0, (a1)", 1, AsmCause::Operand),
+        ("nop x", 1, AsmCause::Operand),
+        ("j 1a", 1, AsmCause::Operand),
+        (".text x", 1, AsmCause::Operand),
+        (".byte", 1, AsmCause::Operand),
+        (".byte 1,,2", 1, AsmCause::Operand),
+        (".ascii \"a\" \"b\"", 1, AsmCause::Operand),
+        (".ascii \"a", 1, AsmCause::Operand),
+        (".ascii \"\\x\"", 1, AsmCause::Operand),
+        ("nop\r\n", 1, AsmCause::Mnemonic),
+        ("nop\n.data\nnop", 3, AsmCause::Operand),
+        ("nop\n.data\naddi a0, a1, 5000", 3, AsmCause::Operand),
+        ("nop\nj nowhere\n", 2, AsmCause::Label),
+        ("nop\n.word nowhere, 99999999999\n", 2, AsmCause::Label),
+        ("nop\n.entry a\n.byte 1\na: .zero 8\n", 2, AsmCause::Label),
+        ("nop\n.entry a\na: .zero 3\n", 2, AsmCause::Label),
+        ("nop\n.entry a\n.data\na: .zero 8\n", 2, AsmCause::Label),
+        ("nop\n.entry a\n.entry b\na: nop\n", 3, AsmCause::Label),
+        ("addi a0, a1, 2048", 1, AsmCause::Range),
+        ("addi a0, a1, -2049", 1, AsmCause::Range),
+        (
+            "addi a0, a1, 99999999999999999999999999",
+            1,
+            AsmCause::Range,
+        ),
+        ("slli a0, a1, 32", 1, AsmCause::Range),
+        ("lui a0, 1048576", 1, AsmCause::Range),
+        ("lui a0, -1", 1, AsmCause::Range),
+        ("li a0, 4294967296", 1, AsmCause::Range),
+        ("li a0, -2147483649", 1, AsmCause::Range),
+        (".byte 256", 1, AsmCause::Range),
+        (".byte -129", 1, AsmCause::Range),
+        (".zero 1048577", 1, AsmCause::Range),
+        ("nop\nj b\n.byte 1\nb: .byte 1\n", 2, AsmCause::Range),
+        ("beq a0, a1, a\n.zero 4092\na: nop", 1, AsmCause::Range),
+        ("a: .zero 4096\nnop\nbeq a0, a1, a\n", 3, AsmCause::Range),
+        ("j a\n.zero 1048572\na: nop", 1, AsmCause::Range),
+        ("nop\n.zero 1048576\nbogus", 2, AsmCause::Range),
+        ("# nothing\n.data\n.zero 4", 1, AsmCause::Range),
+        (".byte 1,2,3", 1, AsmCause::Range),
+        ("", 1, AsmCause::Range),
+        // what can't be read is passed over, and of a label defined twice the first place counts
+        ("beq x0, x0, a\na: .zero 5000, 1\n", 2, AsmCause::Operand),
+        ("a: nop\n.zero 4096\na: beq x0, x0, a\n", 3, AsmCause::Twice),
+        ("a: .zero 4096\nbeq x0, x0, a\na: nop\n", 3, AsmCause::Twice),
+    ] {
+        match assemble(rt.alloc(), text.as_bytes()) {
+            Ok(_) => panic!(rt; "accepted {text:?}"),
+            Err(fault) => assert_eq!(rt; fault, AsmFault::Line(line, cause), "at {text:?}"),
+        }
+    }
+}
+
+#[test]
+fn accepted(rt: HostRuntime) {
+    for (text, entry) in [
+        ("nop # \"#\" comment", 0x1_0000),
+        ("\t nop\t# \"\n\n", 0x1_0000),
+        ("nop\na:nop\n.entry a\n", 0x1_0004),
+        ("nop\n.byte 1\na:nop\n.entry a\n", 0x1_0008),
+        (
+            "nop\nlast: nop\n.entry last\n.entry first\nfirst: nop",
+            0x1_0008,
+        ),
+        (
+            "beq a0, a1, a\n.zero 4088\na: nop\nb: .zero 4092\nnop\nbeq a0, a1, c\nc: nop",
+            0x1_0000,
+        ),
+        ("a: .zero 4096\nbeq a0, a1, a", 0x1_0000),
+        ("nop\n.zero 1048572", 0x1_0000),
+        ("a0: .word a0, -1\n.ascii \"#\\\"#\" # \"", 0x1_0000),
+        ("nop\n.data\nx: .text\ny: nop\n.entry y", 0x1_0004),
+    ] {
+        match assemble(rt.alloc(), text.as_bytes()) {
+            Ok(program) => assert_eq!(rt; program.entry, entry, "at {text:?}"),
+            Err(fault) => panic!(rt; "{fault:?} at {text:?}"),
+        }
+    }
+}
+
+// A text of so many repetitions of a part behind a front.
+fn repeated(alloc: Global, front: &str, part: &str, count: u32) -> Result<String, Fail> {
+    let mut text = String::from_str(alloc, front)?;
+    for _ in 0..count {
+        text.push_str(part)?;
+    }
+    Ok(text)
+}
+
+// A text of so many labels, all different.
+fn of_labels(alloc: Global, count: u32) -> Result<String, Fail> {
+    let mut text = String::new(alloc);
+    for i in 0..count {
+        write!(text, "l{i}:\n")?;
+    }
+    Ok(text)
+}
+
+// Whether a text has this fault.
+fn has_fault(alloc: Global, text: &str, line: u32, cause: AsmCause) -> bool {
+    assemble(alloc, text.as_bytes()).err() == Some(AsmFault::Line(line, cause))
+}
+
+// Four million bytes each.
+#[test]
+fn one_word(rt: HostRuntime) -> Result<(), Fail> {
+    let text = repeated(rt.alloc(), "", "aaaa", 1_048_576)?;
+    assert!(rt; has_fault(rt.alloc(), &text, 1, AsmCause::Mnemonic));
+    Ok(())
+}
+
+#[test]
+fn commas(rt: HostRuntime) -> Result<(), Fail> {
+    let text = repeated(rt.alloc(), ".word ", ",,,,", 1_048_576)?;
+    assert!(rt; has_fault(rt.alloc(), &text, 1, AsmCause::Operand));
+    Ok(())
+}
+
+#[test]
+fn one_line(rt: HostRuntime) -> Result<(), Fail> {
+    let text = repeated(rt.alloc(), ".byte 0", ",1", 2_097_149)?;
+    assert!(rt; has_fault(rt.alloc(), &text, 1, AsmCause::Range));
+    Ok(())
+}
+
+#[test]
+fn lines(rt: HostRuntime) -> Result<(), Fail> {
+    let text = repeated(rt.alloc(), "nop\n", "a:\n", 1_398_100)?;
+    assert!(rt; has_fault(rt.alloc(), &text, 3, AsmCause::Twice));
+    Ok(())
+}
+
+#[test]
+fn labels(rt: HostRuntime) -> Result<(), Fail> {
+    let text = of_labels(rt.alloc(), 466_000)?;
+    assert!(rt; has_fault(rt.alloc(), &text, 1, AsmCause::Range));
+    Ok(())
+}
