@@ -34,7 +34,7 @@ module _ (words : List (List ℕ)) (source : Source) (before after : Option (Lis
   refused Usage Whole can ends whole four = absurd (omega arith)
   refused NoMemory Whole can ends whole four = absurd (omega arith)
   refused (NotRead name) Whole can ends whole four = absurd (omega arith)
-  refused (Reported account) Whole can ends whole four = absurd (not_four n (is_report account.lines n ends) four)
+  refused (Reported json account) Whole can ends whole four = absurd (not_four n (is_report account.lines n ends) four)
   refused (Made text) Whole can ends whole four = absurd (omega arith)
   refused outcome Failed can ends whole four = absurd (omega arith)
 
@@ -44,7 +44,7 @@ module _ (words : List (List ℕ)) (source : Source) (before after : Option (Lis
   unread Usage Whole can ends whole five = absurd (omega arith)
   unread NoMemory Whole can ends whole five = absurd (omega arith)
   unread (NotAccepted name cause) Whole can ends whole five = absurd (omega arith)
-  unread (Reported account) Whole can ends whole five = absurd (not_five n (is_report account.lines n ends) five)
+  unread (Reported json account) Whole can ends whole five = absurd (not_five n (is_report account.lines n ends) five)
   unread (Made text) Whole can ends whole five = absurd (omega arith)
   unread outcome Failed can ends whole five = absurd (omega arith)
 

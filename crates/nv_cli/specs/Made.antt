@@ -7,8 +7,8 @@ use Rattle.nv_bpf.specs.Texts.{filter_of, text_of}
 use Rattle.nv_bpf_asm.specs.declared.fault.RuleFault.{RuleFault}
 use Rattle.nv_bpf_asm.specs.Assembled.{assembled}
 use Rattle.nv_cli.specs.Prepared.{is_long}
-use Rattle.nv_cli.specs.declared.words.Tool.{Tool}
-use Rattle.nv_cli.specs.declared.words.Tool.TheVariants.{CheckRules, AssembleRules}
+use Rattle.nv_command.specs.declared.asked.Tool.{Tool}
+use Rattle.nv_command.specs.declared.asked.Tool.TheVariants.{CheckRules, AssembleRules}
 use Rattle.nv_cli.specs.declared.refusal.Cause.{Cause}
 use Rattle.nv_cli.specs.declared.refusal.Cause.TheVariants.{Long, Filter, Rules}
 

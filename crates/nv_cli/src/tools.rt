@@ -8,10 +8,10 @@ ghost use Rattle.nv_bpf.specs.Texts.{filter_of};
 ghost use Rattle.nv_bpf_asm.specs.Assembled.{assembled};
 
 use crate::refusal::Cause;
-use crate::words::Tool;
 use itoa::Buffer;
 use nv_bpf::FilterFault;
 use nv_bpf_asm::RuleFault;
+use nv_command::Tool;
 use nv_outside::{Files, Got};
 use std::alloc::{AllocError, AllocFailed, Global};
 

@@ -90,12 +90,11 @@ fn refused_rule_texts(rt: HostRuntime) -> Result<(), Fail> {
 
 #[test]
 fn words_of_rules(rt: HostRuntime) -> Result<(), Fail> {
-    let lines: [&[&str]; 7] = [
+    let lines: [&[&str]; 6] = [
         &["varan", "rules"],
         &["varan", "rules", "-r"],
         &["varan", "rules", "--asm"],
         &["varan", "rules", "--asm", "-r"],
-        &["varan", "rules", "r", "--asm"],
         &["varan", "rules", "--asm", "r", "r"],
         &["varan", "rule", "r"],
     ];

@@ -1,6 +1,6 @@
 use Rattle.std.proofs.Common.{subst, List, String}
 use Rattle.std.specs.Global.{Global}
-use Rattle.nv_cli.specs.Words.{texts}
+use Rattle.nv_command.specs.Words.{texts}
 use Rattle.nv_cli.specs.Outcome.{source_of}
 use Rattle.nv_cli.specs.Rows.{Refuses, FailsToRead}
 use Rattle.nv_cli.proofs.Statuses.{refuses-by, unread-by}
