@@ -1,5 +1,6 @@
 /* A plain switch interpreter of RV32I of the same design as nv_machine: regions with rights, searched at each access, and
-   no cache of decoded words. It runs one of three guests for a number of instructions and prints where it came. */
+   no cache of decoded words. It runs one of three guests for a number of instructions and prints where it came. With INLINE
+   defined, the compiler may put `step` into the loop that calls it. */
 #include <stdint.h>
 #include <stdio.h>
 #include <stdlib.h>
@@ -22,7 +23,14 @@ static inline int holds(const Memory *m, uint32_t a, uint32_t len, int right) {
 
 static inline uint32_t get(const uint8_t *p, int n) { uint32_t v = 0; memcpy(&v, p, n); return v; }
 
-__attribute__((noinline)) int step(Regs *g, Memory *m) {
+#define CALLED __attribute__((noinline))
+#ifdef INLINE
+#define STEP static
+#else
+#define STEP CALLED
+#endif
+
+STEP int step(Regs *g, Memory *m) {
     uint32_t pc = g->pc;
     if (!holds(m, pc, 4, EXECUTE)) return FETCH;
     uint32_t w = get(m->bytes + pc, 4);
@@ -129,6 +137,13 @@ __attribute__((noinline)) int step(Regs *g, Memory *m) {
     return ON;
 }
 
+/* The number of instructions that were carried out. It isn't compiled into `main`, where the regions would be constants. */
+CALLED uint32_t run(Regs *g, Memory *m, uint32_t count) {
+    for (uint32_t done = 0; done < count; done++)
+        if (step(g, m) != ON) return done;
+    return count;
+}
+
 /* the words of crates/nv_machine_loops */
 static const uint32_t COUNT[] = {0x400002b7, 0xfff28293, 0xfe029ee3, 0x00000073};
 static const uint32_t MEMORY[] = {0x00020437, 0x000103b7, 0x0003a303, 0x00130313, 0x0063a023, 0x00438393, 0xfe8398e3, 0xfe9ff06f};
@@ -140,7 +155,7 @@ int main(int argc, char **argv) {
     size_t size = sizeof COUNT;
     if (!strcmp(argv[1], "memory")) { words = MEMORY; size = sizeof MEMORY; }
     if (!strcmp(argv[1], "calls")) { words = CALLS; size = sizeof CALLS; }
-    uint32_t count = strtoul(argv[2], 0, 10), done;
+    uint32_t count = strtoul(argv[2], 0, 10);
     Region *r = malloc(4 * sizeof *r);
     r[0] = (Region){0x8000, 0x9000, 1, 1, 1};
     r[1] = (Region){0x10000, 0x20000, 1, 1, 0};
@@ -149,7 +164,6 @@ int main(int argc, char **argv) {
     Memory m = {calloc(0x40000, 1), r, 4};
     memcpy(m.bytes + 0x8000, words, size);
     Regs g = {{0}, 0x8000};
-    for (done = 0; done < count; done++)
-        if (step(&g, &m) != ON) break;
+    uint32_t done = run(&g, &m, count);
     printf("%s: %u steps, pc %08x, x5 %08x, x10 %08x, first word %08x\n", argv[1], done, g.pc, g.x[5], g.x[10], get(m.bytes + 0x10000, 4));
 }

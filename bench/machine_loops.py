@@ -1,8 +1,9 @@
 #!/usr/bin/env python3
 """Times the guest machine beside a plain C interpreter of the same design.
 
-Builds crates/nv_machine_loops with `rt run` and bench/machine_loops.c with `gcc -O2`, runs both in turn on three guests and
-prints the medians of their processor times and the ratios, of the medians and of the best runs. Both must print the same.
+Builds crates/nv_machine_loops with `rt run` and bench/machine_loops.c with `gcc -O2`, with `step` as a call of its own and
+compiled into the loop. Runs the three in turn on three guests, and prints the medians and the best of their processor times,
+and how many times the machine's time they took. All must print the same.
 """
 import os
 import resource
@@ -26,22 +27,27 @@ def timed(program, guest):
 def main():
     runs = int(sys.argv[1]) if len(sys.argv) > 1 else 11
     subprocess.run(["rt", "run", "--", "count", "1"], cwd=CRATE, check=True, capture_output=True)
-    machine = os.path.join(CRATE, "out", "nv_machine_loops")
     with tempfile.TemporaryDirectory() as room:
-        plain = os.path.join(room, "machine_loops")
-        subprocess.run(["gcc", "-O2", "-o", plain, os.path.join(TOP, "bench", "machine_loops.c")], check=True)
-        print(f"{STEPS} instructions, the median of {runs} runs, load {os.getloadavg()[0]:.1f}")
-        print("guest    proved machine     C, gcc -O2        ratio  best")
+        programs = {"proved machine": os.path.join(CRATE, "out", "nv_machine_loops")}
+        for name, flags in (("C, step called", []), ("C, step inlined", ["-DINLINE"])):
+            programs[name] = os.path.join(room, "machine_loops" + "".join(flags))
+            source = os.path.join(TOP, "bench", "machine_loops.c")
+            subprocess.run(["gcc", "-O2", *flags, "-o", programs[name], source], check=True)
+        print(f"{STEPS} instructions, {runs} runs, load {os.getloadavg()[0]:.1f}")
+        print("guest    program            median   best      times the machine's: median  best")
         for guest in ("count", "memory", "calls"):
-            ours, theirs = [], []
+            times = {name: [] for name in programs}
+            wrote = set()
             for _ in range(runs):
-                took, wrote = timed(machine, guest)
-                ours.append(took)
-                took, same = timed(plain, guest)
-                theirs.append(took)
-                assert wrote == same, (wrote, same)
-            a, b = statistics.median(ours), statistics.median(theirs)
-            print(f"{guest:8} {a:.3f} s {STEPS / a / 1e6:4.0f} M/s  {b:.3f} s {STEPS / b / 1e6:4.0f} M/s  {b / a:.2f}   {min(theirs) / min(ours):.2f}")
+                for name, program in programs.items():
+                    took, words = timed(program, guest)
+                    times[name].append(took)
+                    wrote.add(words)
+            assert len(wrote) == 1, wrote
+            ours = times["proved machine"]
+            for name, took in times.items():
+                a, b = statistics.median(took), min(took)
+                print(f"{guest:8} {name:16}  {a:.3f} s  {b:.3f} s  {a / statistics.median(ours):21.2f}  {b / min(ours):.2f}")
 
 
 if __name__ == "__main__":

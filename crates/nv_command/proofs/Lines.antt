@@ -7,8 +7,8 @@ use Rattle.clap.specs.Walk.{Row, Text}
 use Rattle.clap.specs.Simple.{App}
 use Rattle.clap.specs.Faults.{is_simple_and_free}
 use Rattle.clap.proofs.OnLiterals.{clap_on_literals}
-use Rattle.nv_command.specs.Simple.{run_app, rules_app}
-use Rattle.nv_command.specs.Words.{Limits, Plan, Job, ring_of, memory_of, budget_of, calls_of, threads_of, limits_of, Name, Command as Line, rows_of_line, plan_of, rules_job_of, run_line, rules_line, texts, asked_by, name_of, name_in, command_of}
+use Rattle.nv_command.specs.Simple.{run_app, rules_app, asm_app}
+use Rattle.nv_command.specs.Words.{Plan, Job, ring_of, memory_of, budget_of, calls_of, threads_of, limits_of, Name, Command as Line, rows_of_line, plan_of, rules_job_of, asm_job_of, run_line, rules_line, asm_line, texts, asked_by, name_of, name_in, command_of}
 use Rattle.nv_command.specs.Seen.{IsRefused}
 use Rattle.nv_command.specs.declared.asked.LineFault.{LineFault}
 use Rattle.nv_command.specs.declared.asked.LineFault.TheVariants.{Usage, Memory}
@@ -20,6 +20,10 @@ run_simple = refl
 pub rules_simple : is_simple_and_free rules_app ≡ true
 unfolding clap_on_literals
 rules_simple = refl
+
+pub asm_simple : is_simple_and_free asm_app ≡ true
+unfolding clap_on_literals
+asm_simple = refl
 
 module _ (rows : List Row) where
   pub no_ring : None ≡ ring_of rows → None ≡ limits_of rows
@@ -51,26 +55,40 @@ module _ (rows : List Row) where
           unfolding limits_of
           all_limits threads h = rw (← r, ← m, ← b, ← c, ← h) refl
 
+-- what a line is read as, from what `clap` matches of it
+module _ {X : Type 0} (read : List Row → Option X) (command app : App) (words : List Text) (e : app ≡ command) where
+  line_is : (rows : List Row) (x : Option X) → rows_of_line app words ≡ Some rows → x ≡ read rows → option_and_then read (rows_of_line command words) ≡ x
+  line_is rows x h p =
+      let r : rows_of_line command words ≡ Some rows = subst (λ (a : App). rows_of_line a words ≡ Some rows) e h in
+      rw r (sym p)
+
+  no_line : rows_of_line app words ≡ None → option_and_then read (rows_of_line command words) ≡ None
+  no_line h = let r : rows_of_line command words ≡ None = subst (λ (a : App). rows_of_line a words ≡ None) e h in rw r refl
+
 module _ (app : App) (words : List Text) where
   pub run_is : (rows : List Row) (plan : Option Plan) → app ≡ run_app → rows_of_line app words ≡ Some rows → plan ≡ plan_of rows → run_line words ≡ plan
   unfolding run_line
-  run_is rows plan e h p =
-      let r : rows_of_line run_app words ≡ Some rows = subst (λ (a : App). rows_of_line a words ≡ Some rows) e h in
-      rw r (sym p)
+  run_is rows plan e h p = line_is plan_of run_app app words e rows plan h p
 
   pub no_run : app ≡ run_app → rows_of_line app words ≡ None → run_line words ≡ None
   unfolding run_line
-  no_run e h = let r : rows_of_line run_app words ≡ None = subst (λ (a : App). rows_of_line a words ≡ None) e h in rw r refl
+  no_run e h = no_line plan_of run_app app words e h
 
   pub rules_is : (rows : List Row) (job : Option Job) → app ≡ rules_app → rows_of_line app words ≡ Some rows → job ≡ rules_job_of rows → rules_line words ≡ job
   unfolding rules_line
-  rules_is rows job e h p =
-      let r : rows_of_line rules_app words ≡ Some rows = subst (λ (a : App). rows_of_line a words ≡ Some rows) e h in
-      rw r (sym p)
+  rules_is rows job e h p = line_is rules_job_of rules_app app words e rows job h p
 
   pub no_rules : app ≡ rules_app → rows_of_line app words ≡ None → rules_line words ≡ None
   unfolding rules_line
-  no_rules e h = let r : rows_of_line rules_app words ≡ None = subst (λ (a : App). rows_of_line a words ≡ None) e h in rw r refl
+  no_rules e h = no_line rules_job_of rules_app app words e h
+
+  pub asm_is : (rows : List Row) (job : Option Job) → app ≡ asm_app → rows_of_line app words ≡ Some rows → job ≡ asm_job_of rows → asm_line words ≡ job
+  unfolding asm_line
+  asm_is rows job e h p = line_is asm_job_of asm_app app words e rows job h p
+
+  pub no_asm : app ≡ asm_app → rows_of_line app words ≡ None → asm_line words ≡ None
+  unfolding asm_line
+  no_asm e h = no_line asm_job_of asm_app app words e h
 
 -- what holds of each error that `?` may hand on
 pub error_by : {T E : Type 0} (r : Result T E) (P Q : E → Type 0) → ((e : E) → P e → Q e) → IsErrAnd r P → IfErr r Q

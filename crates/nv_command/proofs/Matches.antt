@@ -1,5 +1,5 @@
 -- What `clap` matches, from what it says of its answer.
-use Rattle.std.proofs.Common.{◌≡◌, ◌⊎◌, inl, inr, ap, sym, List, [], ◌∷◌, Option, None, Some, true, refl}
+use Rattle.std.proofs.Common.{◌≡◌, ◌⊎◌, inl, inr, ap, sym, List, [], ◌∷◌, None, Some, true, refl}
 use Rattle.clap.specs.Kinds.{Kinds, IsAmong}
 use Rattle.clap.specs.Walk.{Row, Text}
 use Rattle.clap.specs.Simple.{App, is_simple, matches_of}

@@ -1,5 +1,5 @@
 -- What a caller sees of a line that was read.
-use Rattle.std.specs.Prelude.{◌≡◌, List, Some, None, map, IsSome}
+use Rattle.std.specs.Prelude.{◌≡◌, List, None, map, IsSome}
 use Rattle.std.specs.Borrow.{Bor}
 use Rattle.clap.specs.Walk.{Text}
 use Rattle.nv_command.specs.Words.{Limits, Plan, Job as FileJob, Command as Line, Runs, Uses, command_of, name_in}

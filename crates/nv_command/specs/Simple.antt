@@ -41,3 +41,6 @@ run_app = simple_app (codes "run")
 
 abbrev pub rules_app : App
 rules_app = simple_app (codes "rules") (flag_rule (codes "asm") ∷ file_rule (codes "file") ∷ [])
+
+abbrev pub asm_app : App
+asm_app = simple_app (codes "asm") (file_rule (codes "file") ∷ [])

@@ -1,5 +1,5 @@
 -- What the words of a command line ask for: the words of each command have `clap`'s meaning of a simple command.
-use Rattle.std.specs.Prelude.{◌≡◌, ℕ, List, [], ◌∷◌, Bool, ◌&&◌, ◌||◌, ◌==◌, ◌%◌, true, false, nat_le, if◌then◌else◌, Option, None, Some, option_map, option_and_then, length, map, string_bytes, codes, String}
+use Rattle.std.specs.Prelude.{ℕ, List, [], ◌∷◌, Bool, ◌&&◌, ◌==◌, ◌%◌, false, nat_le, if◌then◌else◌, Option, None, Some, option_map, option_and_then, length, map, string_bytes, codes, String}
 use Rattle.std.specs.Global.{Global}
 use Rattle.std.specs.Str.{bytes_eq}
 use Rattle.std.specs.Option.{option_map_or}
@@ -8,9 +8,9 @@ use Rattle.clap.specs.Simple.{App, matches_of}
 use Rattle.clap.specs.Kinds.{Kinds}
 use Rattle.clap.specs.Faults.{fault_of}
 use Rattle.nv_bytes.specs.Texts.{number_of}
-use Rattle.nv_command.specs.Simple.{run_app, rules_app}
+use Rattle.nv_command.specs.Simple.{run_app, rules_app, asm_app}
 use Rattle.nv_command.specs.declared.asked.Tool.{Tool}
-use Rattle.nv_command.specs.declared.asked.Tool.TheVariants.{CheckRules, AssembleRules}
+use Rattle.nv_command.specs.declared.asked.Tool.TheVariants.{CheckRules, AssembleRules, Assemble}
 
 -- the words of a command line
 abbrev pub texts : List (String Global) → List Text
@@ -93,6 +93,9 @@ unfoldable pub rules_job_of : List Row → Option Job
 rules_job_of rows = option_map (λ file. record { tool = if is_set (codes "asm") rows then AssembleRules else CheckRules; file = file })
     (first_of (codes "file") rows)
 
+unfoldable pub asm_job_of : List Row → Option Job
+asm_job_of rows = option_map (λ file. record { tool = Assemble; file = file }) (first_of (codes "file") rows)
+
 pub data Command : Type 0 where
   Runs : Plan → Command
   Uses : Job → Command
@@ -101,9 +104,12 @@ pub data Command : Type 0 where
 pub data Name : Type 0 where
   NamesRun : Name
   NamesRules : Name
+  NamesAsm : Name
 
 abbrev pub name_of : Text → Option Name
-name_of word = if bytes_eq word (codes "run") then Some NamesRun else (if bytes_eq word (codes "rules") then Some NamesRules else None)
+name_of word =
+    if bytes_eq word (codes "run") then Some NamesRun
+    else (if bytes_eq word (codes "rules") then Some NamesRules else (if bytes_eq word (codes "asm") then Some NamesAsm else None))
 
 -- the words of `run`, from its name on
 unfoldable pub run_line : List Text → Option Plan
@@ -113,10 +119,15 @@ run_line words = option_and_then plan_of (rows_of_line run_app words)
 unfoldable pub rules_line : List Text → Option Job
 rules_line words = option_and_then rules_job_of (rows_of_line rules_app words)
 
+-- the words of `asm`
+unfoldable pub asm_line : List Text → Option Job
+asm_line words = option_and_then asm_job_of (rows_of_line asm_app words)
+
 -- what the words from the command's name on ask for
 abbrev pub asked_by : List Text → Name → Option Command
 asked_by words NamesRun = option_map Runs (run_line words)
 asked_by words NamesRules = option_map Uses (rules_line words)
+asked_by words NamesAsm = option_map Uses (asm_line words)
 
 -- the second word names the command, the first one the program
 abbrev pub name_in : List Text → Option Name

@@ -28,6 +28,8 @@ pub enum Tool {
     CheckRules,
     /// `rules --asm FILE`: the rule text becomes a filter text.
     AssembleRules,
+    /// `asm FILE`: the assembler text becomes an ELF file.
+    Assemble,
 }
 
 /// A command over one file.

@@ -2,14 +2,14 @@
 ghost use Rattle.std.specs.Prelude.{◌≡◌, ◌≤◌, ◌%◌, None, Some, IfOk, IfErr, IfSome, IsSome, option_and_then, option_map, length};
 ghost use Rattle.clap.specs.Matches.{found_of};
 ghost use Rattle.clap.specs.Walk.{rows_of};
-ghost use Rattle.nv_command.specs.Words.{texts, number_within, in_pages, ring_of, memory_of, budget_of, calls_of, threads_of, limits_of, versions_of, plan_of, rules_job_of, run_line, rules_line, asked_by, name_of, command_of};
+ghost use Rattle.nv_command.specs.Words.{texts, number_within, in_pages, ring_of, memory_of, budget_of, calls_of, threads_of, limits_of, versions_of, plan_of, rules_job_of, asm_job_of, run_line, rules_line, asm_line, asked_by, name_of, command_of};
 ghost use Rattle.nv_command.specs.Seen.{limits_view, names_view, parts_view, plan_view, job_view, command_view, IsRefused};
 
 use crate::asked::{Command, Job, LineFault, Run, Tool};
 use crate::limits::Limits;
 use crate::matching::{is_set, matched, text, values};
 use crate::parts::Parts;
-use crate::simple::{rules_command, run_command};
+use crate::simple::{asm_command, rules_command, run_command};
 use clap::ArgMatches;
 use std::alloc::{AllocError, Global};
 
@@ -184,6 +184,30 @@ fn read_rules<'a>(alloc: Global, words: &'a [String]) -> Result<Job<'a>, LineFau
     }
 }
 
+#[tactic(auto, unfolding(crate::specs::Words::asm_job_of))]
+fn asm_job<'a>(matches: &ArgMatches<'a>) -> Option<Job<'a>>
+    ensures { option_map job_view result ≡ asm_job_of (rows_of (found_of matches.now)) }
+{
+    let file = text(matches, "file")?;
+    Some(Job {
+        tool: Tool::Assemble,
+        file,
+    })
+}
+
+// Reads the words of `asm`.
+fn read_asm<'a>(alloc: Global, words: &'a [String]) -> Result<Job<'a>, LineFault>
+    ensures job { IfOk result (λ job. asm_line (texts words.entry.now) ≡ Some (job_view job)) }
+    ensures refused { IfErr result (λ fault. fault ≡ LineFault.Usage → asm_line (texts words.entry.now) ≡ None) }
+{
+    let command = asm_command(alloc)?;
+    let matches = matched(command, words)?;
+    match asm_job(&matches) {
+        Some(job) => Ok(job),
+        None => Err(LineFault::Usage),
+    }
+}
+
 // Reads the words from a command's name on.
 fn read_named<'a>(alloc: Global, name: &str, words: &'a [String]) -> Result<Command<'a>, LineFault>
     ensures command { IfOk result (λ command. option_and_then (asked_by (texts words.entry.now)) (name_of name.now) ≡ Some (command_view command)) }
@@ -193,6 +217,7 @@ fn read_named<'a>(alloc: Global, name: &str, words: &'a [String]) -> Result<Comm
     match name {
         "run" => Ok(Command::Run(read_run(alloc, words)?)),
         "rules" => Ok(Command::Use(read_rules(alloc, words)?)),
+        "asm" => Ok(Command::Use(read_asm(alloc, words)?)),
         _ => Err(LineFault::Usage),
     }
 }

@@ -2,7 +2,7 @@
 ghost use Rattle.std.specs.Prelude.{◌≡◌, [], false, IfOk};
 ghost use Rattle.clap.specs.Walk.{rule_of};
 ghost use Rattle.clap.specs.Simple.{app_of, with_rule};
-ghost use Rattle.nv_command.specs.Simple.{option_rule, flag_rule, file_rule, files_rule, required, simple_app, run_app, rules_app};
+ghost use Rattle.nv_command.specs.Simple.{option_rule, flag_rule, file_rule, files_rule, required, simple_app, run_app, rules_app, asm_app};
 
 use clap::{Arg, ArgAction, Command};
 use std::alloc::{AllocError, Global};
@@ -78,4 +78,11 @@ pub fn rules_command<'a>(alloc: Global) -> Result<Command<'a>, AllocError>
 {
     let asm = add(named(alloc, "rules"), flag(alloc, "asm"))?;
     add(asm, file(alloc, "file"))
+}
+
+/// The file of `asm`.
+pub fn asm_command<'a>(alloc: Global) -> Result<Command<'a>, AllocError>
+    ensures { IfOk result (λ command. app_of command ≡ asm_app) }
+{
+    add(named(alloc, "asm"), file(alloc, "file"))
 }

@@ -272,8 +272,10 @@ fn numbers(rt: HostRuntime) -> Result<(), Fail> {
 }
 
 #[test]
-fn files_of_rules(rt: HostRuntime) -> Result<(), Fail> {
-    let accepted: [(&[&str], Tool, &str); 6] = [
+fn files_of_tools(rt: HostRuntime) -> Result<(), Fail> {
+    let accepted: [(&[&str], Tool, &str); 8] = [
+        (&["varan", "asm", "a"], Tool::Assemble, "a"),
+        (&["varan", "asm", "--", "-a"], Tool::Assemble, "-a"),
         (&["varan", "rules", "r"], Tool::CheckRules, "r"),
         (&["varan", "rules", "--asm", "r"], Tool::AssembleRules, "r"),
         (&["varan", "rules", "r", "--asm"], Tool::AssembleRules, "r"),
@@ -296,7 +298,10 @@ fn files_of_rules(rt: HostRuntime) -> Result<(), Fail> {
         };
         assert!(rt; job.tool == tool && job.file == file);
     }
-    let refused: [&[&str]; 8] = [
+    let refused: [&[&str]; 11] = [
+        &["varan", "asm"],
+        &["varan", "asm", "--asm", "a"],
+        &["varan", "asm", "a", "b"],
         &["varan", "rules"],
         &["varan", "rules", "--asm"],
         &["varan", "rules", "--asm", "--asm", "r"],

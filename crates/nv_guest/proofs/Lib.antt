@@ -1,3 +1,5 @@
 pub mod Shaped
 pub mod Strings
 pub mod Placed
+pub mod Walks
+pub mod Answering

@@ -1,12 +1,15 @@
 //! A guest: a machine with its memory, as a version file loads it, and the calls that it makes.
 #![tactic(auto)]
 
+mod answers;
 mod block;
 mod guest;
 mod load;
 mod outcome;
+mod paths;
 #[cfg(test)]
 mod tests;
+mod vectors;
 
 pub use guest::Guest;
 pub use outcome::{Asked, GuestFault};

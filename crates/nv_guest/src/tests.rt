@@ -1,7 +1,10 @@
+use crate::answers::{read_targets, scatter, store_bytes};
+use crate::paths::read_path;
+use crate::vectors::{Part, gather, room_of};
 use crate::{Asked, Guest, GuestFault};
 use nv_calls::{Bytes, Call};
 use nv_machine::{FaultKind, Stepped};
-use nv_memory::{Right, Width};
+use nv_memory::{Memory, Right, Width};
 use std::alloc::{AllocError, Global};
 use std::test::Fail;
 
@@ -82,5 +85,60 @@ fn programs_without_room(rt: HostRuntime) -> Result<(), Fail> {
     let long = vec![in alloc; zeros(alloc, 65536)?]?;
     let many = Guest::make(alloc, &program, &long, 0x40000).err();
     assert_eq!(rt; many, Some(GuestFault::Arguments));
+    Ok(())
+}
+
+// A vector at an address: where its bytes are, and how many.
+fn put_vector(memory: &mut Memory, at: u32, address: u32, size: u32) -> bool {
+    let place = at.wrapping_add(4);
+    memory.store(at, Width::Four, address).is_ok() && memory.store(place, Width::Four, size).is_ok()
+}
+
+// Paths are read byte by byte up to their 0; the stack ends at 0x40000.
+#[test]
+fn paths_in_memory(rt: HostRuntime) -> Result<(), Fail> {
+    let alloc = rt.alloc();
+    let program = nv_elf::read(alloc, &FILE)?;
+    let mut guest = Guest::make(alloc, &program, &[], 0x40000)?;
+    assert_eq!(rt; guest.memory.copy_out(0x3fffc, b"f\0gh"), Ok(()));
+    let mut path = [0; 4];
+    assert_eq!(rt; read_path(&guest.memory, 0x3fffc, &mut path), Some(1));
+    assert_eq!(rt; path, *b"f\0\0\0");
+    assert_eq!(rt; read_path(&guest.memory, 0x3fffe, &mut path), None);
+    assert_eq!(rt; read_path(&guest.memory, 0x3fffe, &mut path[..2]), Some(2));
+    assert_eq!(rt; read_path(&guest.memory, 0xffff_ffff, &mut path), None);
+    Ok(())
+}
+
+// Three vectors: of three bytes, of none anywhere, and of two that may be read alone.
+#[test]
+fn vectors_in_memory(rt: HostRuntime) -> Result<(), Fail> {
+    let alloc = rt.alloc();
+    let program = nv_elf::read(alloc, &FILE)?;
+    let mut guest = Guest::make(alloc, &program, &[], 0x40000)?;
+    assert!(rt; put_vector(&mut guest.memory, 0x30000, 0x3fffd, 3));
+    assert!(rt; put_vector(&mut guest.memory, 0x30008, 0xffff_ffff, 0));
+    assert!(rt; put_vector(&mut guest.memory, 0x30010, 0x10000, 2));
+    assert_eq!(rt; guest.memory.copy_out(0x3fffd, b"abc"), Ok(()));
+    assert_eq!(rt; room_of(&guest.memory, 0x30000, 2, 4096), Some(3));
+    assert_eq!(rt; room_of(&guest.memory, 0x30000, 3, 4096), None);
+    assert_eq!(rt; room_of(&guest.memory, 0x30000, 3, 3), Some(3));
+    let mut bytes = [0; 6];
+    assert_eq!(rt; gather(&guest.memory, 0x30000, 3, &mut bytes), Some(5));
+    assert_eq!(rt; bytes, *b"abc\xb7\x08\0");
+    assert_eq!(rt; gather(&guest.memory, 0x3fff8, 2, &mut bytes), None);
+    let mut targets = [Part {
+        address: 0,
+        size: 0,
+    }; 3];
+    assert_eq!(rt; read_targets(&guest.memory, 0x30000, 3, 5, &mut targets), 3);
+    scatter(&mut guest.memory, &targets, b"vwxyz");
+    let mut last = [0; 3];
+    assert_eq!(rt; guest.memory.copy_in(0x3fffd, &mut last), Ok(()));
+    assert_eq!(rt; last, *b"vwx");
+    assert_eq!(rt; guest.memory.load(0x10000, Width::Two), Ok(0x08b7));
+    store_bytes(&mut guest.memory, 0x3fffe, b"pqrs");
+    assert_eq!(rt; guest.memory.copy_in(0x3fffd, &mut last), Ok(()));
+    assert_eq!(rt; last, *b"vpq");
     Ok(())
 }

@@ -1,7 +1,8 @@
 -- An instruction that a word is read as fits: it has a word.
-use Rattle.std.proofs.Common.{◌≡◌, true, ℕ, ◌+◌, ◌*◌, ◌/◌, ◌%◌, ◌^◌, ◌<◌, Option, Some, None, refl, ap, subst, sym, ◌∙◌, arith}
+use Rattle.std.proofs.Common.{◌≡◌, true, ℕ, ◌+◌, ◌*◌, ◌/◌, ◌%◌, ◌^◌, ◌<◌, Option, Some, None, refl, ap, subst, sym, ◌∙◌, arith, bit_and}
 use Rattle.std.specs.Prelude.{pos, ◌≤ℤ◌, ◌<ℤ◌}
 use Rattle.std.specs.Option.{option_map}
+use Rattle.std.specs.Int.Bits.{and_mask}
 use Rattle.std.proofs.lemmas.Int.{ints}
 use Rattle.std.proofs.lemmas.Bool.Decides.{nat_tests}
 use Rattle.nv_isa.specs.declared.op.Op.{Op}
@@ -11,6 +12,8 @@ use Rattle.nv_isa.specs.declared.op.Insn.{Insn}
 use Rattle.nv_isa.specs.Table.{Row, row, table, row_of, belongs, signed, insn_of, decoded}
 use Rattle.nv_isa.specs.Spelling.{low, InBits, FitsForm, Fits}
 use Rattle.nv_isa.proofs.Signs.{low-signed_13, low-signed_21, low-signed_32}
+use Rattle.nv_isa.specs.Fields.{named, key_of}
+use Rattle.nv_isa.proofs.Masks.{row_of-named}
 use Rattle.nv_isa.proofs.Inverse.{found, all_own}
 
 in_bits_12 : (n : ℕ) → n < 2 ^ 12 → InBits 12 (signed 12 n)
@@ -98,3 +101,14 @@ decoded-fits w i e = go (row_of w) refl e
         let same : insn_of r.op (row r.op).form w ≡ i = ap (λ (x : Row). insn_of r.op x.form w) (sym own.1) ∙ (let s : insn_of r.op r.form w ≡ i = cc in s) in
         let op : i.op ≡ r.op = sym (ap (λ (x : Insn). x.op) same) ∙ op_of_insn r.op (row r.op).form w in
         subst (λ (o : Op). FitsForm (row o).form i) (sym op) (subst (λ (x : Insn). FitsForm (row r.op).form x) same (fits_form (row r.op).form r.op w))
+
+-- the form of a decoded instruction is that of its operation
+pub decoded-operation : (w : ℕ) → w < 2 ^ 32 → (k : Option (Op × Form)) → option_map key_of (named (bit_and w 127) (bit_and (w / 2 ^ 12) 7) (w / 2 ^ 25) w) ≡ k → decoded w ≡ option_map (λ (o : Op). insn_of o (row o).form w) (option_map (λ (x : Op × Form). x.0) k)
+unfolding decoded row_of
+decoded-operation w b k e = go (row_of w) refl (rw (row_of-named w b) (rw (and_mask w 7, and_mask (w / 2 ^ 12) 3) at e))
+  where
+    go : (o : Option Row) → row_of w ≡ o → option_map key_of o ≡ k → option_map (λ (r : Row). insn_of r.op r.form w) o ≡ option_map (λ (o : Op). insn_of o (row o).form w) (option_map (λ (x : Op × Form). x.0) k)
+    go None is h = rw (← h) refl
+    go (Some r) is h =
+        let own : (belongs w r ≡ true) × (r ≡ row r.op) = found w table r all_own is in
+        rw (← h) (ap (λ (x : Row). Some (insn_of r.op x.form w)) own.1)

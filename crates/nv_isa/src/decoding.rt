@@ -1,10 +1,11 @@
 // Reads a word as an instruction: the operation by opcode, funct3 and funct7, then the fields by the form.
 ghost use Rattle.std.specs.Prelude.{◌≡◌, ℕ, ◌/◌, ◌%◌, ◌^◌, ◌<◌, ◌*◌, ◌+◌, ℤ, IfSome};
 ghost use Rattle.std.specs.Option.{option_map};
-ghost use Rattle.nv_isa.specs.Table.{decoded, insn_of, row_of, immediate, signed};
+ghost use Rattle.nv_isa.specs.Table.{decoded, insn_of, row, row_of};
 ghost use Rattle.nv_isa.specs.Fields.{named, key_of};
 ghost use Rattle.nv_isa.specs.Spelling.{Fits, FitsForm, HasSmallRegisters};
 
+use crate::fields::{immediate, rd, rs1, rs2};
 use crate::op::{Form, Insn, Op};
 
 /// The instruction that the word spells. `None`: it belongs to no row of the table.
@@ -15,6 +16,15 @@ pub fn decode(word: u32) -> Option<Insn>
 {
     let (op, form) = key(word & 127, word >> 12 & 7, word >> 25, word)?;
     Some(insn(op, form, word))
+}
+
+/// The operation of the instruction that the word spells: with it the fields can be read one by one, from where its form has
+/// them. `None`: the word belongs to no row of the table.
+pub fn operation(word: u32) -> Option<Op>
+    ensures { decoded word ≡ option_map (λ op. insn_of op (row op).form word) result }
+{
+    let (op, _) = key(word & 127, word >> 12 & 7, word >> 25, word)?;
+    Some(op)
 }
 
 #[tactic(auto, unfolding(crate::specs::Fields::named, crate::specs::Table::table, crate::specs::Table::row))]
@@ -126,56 +136,15 @@ fn key(opcode: u32, funct3: u32, funct7: u32, word: u32) -> Option<(Op, Form)>
     }
 }
 
-fn signed_12(bits: u32) -> i32
-    requires { bits < 2 ^ 12 }
-    ensures { result ≡ signed 12 bits }
-{
-    bits as i32 - ((bits >> 11) as i32) * 4096
-}
-
-fn signed_13(bits: u32) -> i32
-    requires { bits < 2 ^ 13 }
-    ensures { result ≡ signed 13 bits }
-{
-    bits as i32 - ((bits >> 12) as i32) * 8192
-}
-
-fn signed_21(bits: u32) -> i32
-    requires { bits < 2 ^ 21 }
-    ensures { result ≡ signed 21 bits }
-{
-    bits as i32 - ((bits >> 20) as i32) * 2_097_152
-}
-
-fn immediate(form: Form, word: u32) -> i32
-    ensures { result ≡ immediate form word }
-{
-    match form {
-        Form::Register | Form::Whole => 0,
-        Form::Immediate => signed_12(word >> 20),
-        Form::Shift => (word >> 20 & 31) as i32,
-        Form::Store => signed_12((word >> 25) * 32 + (word >> 7 & 31)),
-        Form::Branch => {
-            let high = (word >> 31) * 4096 + (word >> 7 & 1) * 2048;
-            signed_13(high + (word >> 25 & 63) * 32 + (word >> 8 & 15) * 2)
-        }
-        Form::Upper => ((word >> 12) * 4096).cast_signed(),
-        Form::Jump => {
-            let high = (word >> 31) * 1_048_576 + (word >> 12 & 255) * 4096;
-            signed_21(high + (word >> 20 & 1) * 2048 + (word >> 21 & 1023) * 2)
-        }
-    }
-}
-
 #[tactic(auto, unfolding(crate::specs::Table::insn_of))]
 fn insn(op: Op, form: Form, word: u32) -> Insn
     ensures fields { result ≡ insn_of op form word }
     ensures registers { HasSmallRegisters result }
 {
     let imm = immediate(form, word);
-    let rd = (word >> 7 & 31) as u8;
-    let rs1 = (word >> 15 & 31) as u8;
-    let rs2 = (word >> 20 & 31) as u8;
+    let rd = rd(word);
+    let rs1 = rs1(word);
+    let rs2 = rs2(word);
     match form {
         Form::Register => Insn {
             op,

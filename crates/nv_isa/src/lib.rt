@@ -4,12 +4,14 @@
 
 mod decoding;
 mod encoding;
+mod fields;
 mod laws;
 mod op;
 #[cfg(test)]
 mod tests;
 
-pub use decoding::decode;
+pub use decoding::{decode, operation};
 pub use encoding::encode;
+pub use fields::{immediate, rd, rs1, rs2};
 pub use laws::rows_are_apart;
 pub use op::{Form, Insn, Op};

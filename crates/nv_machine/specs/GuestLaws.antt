@@ -85,9 +85,9 @@ effect_rests Ebreak i m = λ n. refl
 effect_rests _ i m = λ n. absurd (n refl)
 
 -- an instruction that ends in no `On` has changed nothing
-pub instruction_rests : (s : Stepped) (a m : Machine) (i : Insn) → (s, a) ≡ effect i.op i m → s ≢ On → a ≡ m
-instruction_rests s a m i e n =
-    ap (λ (o : Outcome). o.1) e ∙ effect_rests i.op i m (λ h. n (ap (λ (o : Outcome). o.0) e ∙ h))
+pub instruction_rests : (s : Stepped) (a m : Machine) (o : Op) (i : Insn) → (s, a) ≡ effect o i m → s ≢ On → a ≡ m
+instruction_rests s a m o i e n =
+    ap (λ (o : Outcome). o.1) e ∙ effect_rests o i m (λ h. n (ap (λ (o : Outcome). o.0) e ∙ h))
 
 executed_rests : (d : Option Insn) (m : Machine) → Rests (executed d m) m
 executed_rests None m = λ n. refl

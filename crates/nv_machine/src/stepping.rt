@@ -1,17 +1,17 @@
 // One instruction: fetched, decoded and carried out, in the order of its faults.
 ghost use Rattle.std.specs.Prelude.{◌≡◌, ◌≢◌, ℕ, ◌+◌, ◌*◌, ◌/◌, ◌%◌, ◌^◌, ◌<◌};
-ghost use Rattle.nv_isa.specs.Spelling.{HasSmallRegisters};
+ghost use Rattle.nv_isa.specs.Table.{row, insn_of, immediate, rd_of, rs1_of, rs2_of};
 ghost use Rattle.nv_machine.specs.Effects.{sum, sign_extended};
 ghost use Rattle.nv_machine.specs.Guest.{gets, next, jumps, branches, loads, stores, with_immediate, between_registers, compares, effect, guest_step, width_of, extended, Machine};
 
 use crate::alu::{compute, takes};
 use crate::outcome::{FaultKind, Stepped};
 use crate::regs::Regs;
-use nv_isa::{Insn, Op, decode};
+use nv_isa::{Form, Op, immediate, operation, rd, rs1, rs2};
 use nv_memory::{Memory, Width};
 
 /// Carries out one instruction. After a call and after a fault nothing has changed.
-#[tactic(auto, unfolding(crate::specs::Guest::guest_step), using(crate::specs::GuestLaws::step_rests))]
+#[tactic(auto, unfolding(crate::specs::Guest::guest_step, nv_isa::specs::Table::insn_of), using(crate::specs::GuestLaws::step_rests))]
 pub fn step(regs: &mut Regs, memory: &mut Memory) -> Stepped
     ensures step { (result, record { regs = regs.new; memory = memory.new }) ≡ guest_step (record { regs = regs.old; memory = memory.old }) }
     ensures registers_rest { result ≢ Stepped.On → regs.new ≡ regs.old }
@@ -20,10 +20,10 @@ pub fn step(regs: &mut Regs, memory: &mut Memory) -> Stepped
     let Ok(word) = memory.fetch(regs.pc) else {
         return Stepped::Fault(FaultKind::Fetch);
     };
-    let Some(insn) = decode(word) else {
+    let Some(op) = operation(word) else {
         return Stepped::Fault(FaultKind::Illegal);
     };
-    execute(regs, memory, &insn)
+    execute(regs, memory, op, word)
 }
 
 fn width(op: Op) -> Width
@@ -82,49 +82,61 @@ fn branch(regs: &mut Regs, taken: bool, to: u32) -> Stepped
     Stepped::On
 }
 
-fn compare(regs: &mut Regs, insn: &Insn) -> Stepped
-    requires { HasSmallRegisters insn.now }
-    ensures { (result, regs.new) ≡ compares insn.now.op insn.now regs.old }
+#[tactic(auto, unfolding(nv_isa::specs::Table::insn_of))]
+fn compare(regs: &mut Regs, op: Op, word: u32) -> Stepped
+    ensures { (result, regs.new) ≡ compares op (insn_of op Form.Branch word) regs.old }
 {
-    let taken = takes(insn.op, regs.get(insn.rs1), regs.get(insn.rs2));
-    let to = regs.pc.wrapping_add_signed(insn.imm);
+    let taken = takes(op, regs.get(rs1(word)), regs.get(rs2(word)));
+    let to = regs.pc.wrapping_add_signed(immediate(Form::Branch, word));
     branch(regs, taken, to)
 }
 
-fn immediate(regs: &mut Regs, insn: &Insn) -> Stepped
-    requires { HasSmallRegisters insn.now }
-    ensures { (result, regs.new) ≡ with_immediate insn.now.op insn.now regs.old }
+#[tactic(auto, unfolding(nv_isa::specs::Table::insn_of))]
+fn with_immediate(regs: &mut Regs, op: Op, word: u32) -> Stepped
+    ensures { (result, regs.new) ≡ with_immediate op (insn_of op Form.Immediate word) regs.old }
 {
-    let value = compute(insn.op, regs.get(insn.rs1), insn.imm.cast_unsigned());
-    advance(regs, insn.rd, value)
+    let by = immediate(Form::Immediate, word).cast_unsigned();
+    let value = compute(op, regs.get(rs1(word)), by);
+    advance(regs, rd(word), value)
 }
 
-fn register(regs: &mut Regs, insn: &Insn) -> Stepped
-    requires { HasSmallRegisters insn.now }
-    ensures { (result, regs.new) ≡ between_registers insn.now.op insn.now regs.old }
+#[tactic(auto, unfolding(nv_isa::specs::Table::insn_of))]
+fn shift(regs: &mut Regs, op: Op, word: u32) -> Stepped
+    ensures { (result, regs.new) ≡ with_immediate op (insn_of op Form.Shift word) regs.old }
 {
-    let value = compute(insn.op, regs.get(insn.rs1), regs.get(insn.rs2));
-    advance(regs, insn.rd, value)
+    let by = immediate(Form::Shift, word).cast_unsigned();
+    let value = compute(op, regs.get(rs1(word)), by);
+    advance(regs, rd(word), value)
 }
 
-fn load(regs: &mut Regs, memory: &Memory, insn: &Insn) -> Stepped
-    requires { HasSmallRegisters insn.now }
-    ensures { (result, regs.new) ≡ loads insn.now.op insn.now regs.old memory.now }
+#[tactic(auto, unfolding(nv_isa::specs::Table::insn_of))]
+fn between_registers(regs: &mut Regs, op: Op, word: u32) -> Stepped
+    ensures { (result, regs.new) ≡ between_registers op (insn_of op Form.Register word) regs.old }
 {
-    let address = regs.get(insn.rs1).wrapping_add_signed(insn.imm);
-    match memory.load(address, width(insn.op)) {
-        Ok(value) => advance(regs, insn.rd, extend(insn.op, value)),
+    let value = compute(op, regs.get(rs1(word)), regs.get(rs2(word)));
+    advance(regs, rd(word), value)
+}
+
+#[tactic(auto, unfolding(nv_isa::specs::Table::insn_of))]
+fn load(regs: &mut Regs, memory: &Memory, op: Op, word: u32) -> Stepped
+    ensures { (result, regs.new) ≡ loads op (insn_of op Form.Immediate word) regs.old memory.now }
+{
+    let offset = immediate(Form::Immediate, word);
+    let address = regs.get(rs1(word)).wrapping_add_signed(offset);
+    match memory.load(address, width(op)) {
+        Ok(value) => advance(regs, rd(word), extend(op, value)),
         Err(_) => Stepped::Fault(FaultKind::Load),
     }
 }
 
-fn store(regs: &mut Regs, memory: &mut Memory, insn: &Insn) -> Stepped
-    requires { HasSmallRegisters insn.now }
-    ensures { (result, record { regs = regs.new; memory = memory.new }) ≡ stores insn.now.op insn.now (record { regs = regs.old; memory = memory.old }) }
+#[tactic(auto, unfolding(nv_isa::specs::Table::insn_of))]
+fn store(regs: &mut Regs, memory: &mut Memory, op: Op, word: u32) -> Stepped
+    ensures { (result, record { regs = regs.new; memory = memory.new }) ≡ stores op (insn_of op Form.Store word) (record { regs = regs.old; memory = memory.old }) }
 {
-    let address = regs.get(insn.rs1).wrapping_add_signed(insn.imm);
-    let value = regs.get(insn.rs2);
-    match memory.store(address, width(insn.op), value) {
+    let offset = immediate(Form::Store, word);
+    let address = regs.get(rs1(word)).wrapping_add_signed(offset);
+    let value = regs.get(rs2(word));
+    match memory.store(address, width(op), value) {
         Ok(()) => {
             regs.pc = regs.pc.wrapping_add(4);
             Stepped::On
@@ -133,36 +145,35 @@ fn store(regs: &mut Regs, memory: &mut Memory, insn: &Insn) -> Stepped
     }
 }
 
-fn execute(regs: &mut Regs, memory: &mut Memory, insn: &Insn) -> Stepped
-    requires { HasSmallRegisters insn.now }
-    ensures { (result, record { regs = regs.new; memory = memory.new }) ≡ effect insn.now.op insn.now (record { regs = regs.old; memory = memory.old }) }
+#[tactic(auto, unfolding(nv_isa::specs::Table::insn_of, nv_isa::specs::Table::row))]
+fn execute(regs: &mut Regs, memory: &mut Memory, op: Op, word: u32) -> Stepped
+    ensures { (result, record { regs = regs.new; memory = memory.new }) ≡ effect op (insn_of op (row op).form word) (record { regs = regs.old; memory = memory.old }) }
 {
-    match insn.op {
-        Op::Lui => advance(regs, insn.rd, insn.imm.cast_unsigned()),
+    match op {
+        Op::Lui => {
+            let value = immediate(Form::Upper, word).cast_unsigned();
+            advance(regs, rd(word), value)
+        }
         Op::Auipc => {
-            let value = regs.pc.wrapping_add_signed(insn.imm);
-            advance(regs, insn.rd, value)
+            let value = regs.pc.wrapping_add_signed(immediate(Form::Upper, word));
+            advance(regs, rd(word), value)
         }
         Op::Jal => {
-            let to = regs.pc.wrapping_add_signed(insn.imm);
-            jump(regs, insn.rd, to)
+            let to = regs.pc.wrapping_add_signed(immediate(Form::Jump, word));
+            jump(regs, rd(word), to)
         }
         Op::Jalr => {
-            let to = regs.get(insn.rs1).wrapping_add_signed(insn.imm);
-            jump(regs, insn.rd, to / 2 * 2)
+            let offset = immediate(Form::Immediate, word);
+            let to = regs.get(rs1(word)).wrapping_add_signed(offset);
+            jump(regs, rd(word), to / 2 * 2)
         }
-        Op::Beq | Op::Bne | Op::Blt | Op::Bge | Op::Bltu | Op::Bgeu => compare(regs, insn),
-        Op::Lb | Op::Lh | Op::Lw | Op::Lbu | Op::Lhu => load(regs, memory, insn),
-        Op::Sb | Op::Sh | Op::Sw => store(regs, memory, insn),
-        Op::Addi
-        | Op::Slti
-        | Op::Sltiu
-        | Op::Xori
-        | Op::Ori
-        | Op::Andi
-        | Op::Slli
-        | Op::Srli
-        | Op::Srai => immediate(regs, insn),
+        Op::Beq | Op::Bne | Op::Blt | Op::Bge | Op::Bltu | Op::Bgeu => compare(regs, op, word),
+        Op::Lb | Op::Lh | Op::Lw | Op::Lbu | Op::Lhu => load(regs, memory, op, word),
+        Op::Sb | Op::Sh | Op::Sw => store(regs, memory, op, word),
+        Op::Addi | Op::Slti | Op::Sltiu | Op::Xori | Op::Ori | Op::Andi => {
+            with_immediate(regs, op, word)
+        }
+        Op::Slli | Op::Srli | Op::Srai => shift(regs, op, word),
         Op::Add
         | Op::Sub
         | Op::Sll
@@ -172,7 +183,7 @@ fn execute(regs: &mut Regs, memory: &mut Memory, insn: &Insn) -> Stepped
         | Op::Srl
         | Op::Sra
         | Op::Or
-        | Op::And => register(regs, insn),
+        | Op::And => between_registers(regs, op, word),
         Op::Fence => branch(regs, false, 0),
         Op::Ecall => Stepped::Call,
         Op::Ebreak => Stepped::Fault(FaultKind::Breakpoint),

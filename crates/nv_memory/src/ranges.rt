@@ -12,7 +12,20 @@ pub fn is_held(regions: &[Region], address: u32, length: usize, right: Right) ->
     length == 0 || is_in_one(regions, address, length, right)
 }
 
+// The first region is tried before the loop over the others: a guest's code is most often there, and a fetch from it then
+// goes straight through.
 fn is_in_one(regions: &[Region], address: u32, length: usize, right: Right) -> bool
+    ensures { result ≡ list_any (covers address length right) regions.now }
+{
+    match regions {
+        [first, rest @ ..] => {
+            is_in(first, address, length, right) || is_in_any(rest, address, length, right)
+        }
+        [] => false,
+    }
+}
+
+fn is_in_any(regions: &[Region], address: u32, length: usize, right: Right) -> bool
     ensures { result ≡ list_any (covers address length right) regions.now }
 {
     regions.iter().any(|r| is_in(r, address, length, right))

@@ -1,5 +1,5 @@
 //! What the seats and the room tell, and the kernel's calls through the lead.
-ghost use Rattle.std.specs.Prelude.{◌≡◌, ◌+◌, ◌<◌, ◌≤◌, ◌++◌, [], ◌∷◌, true, false, length, OnOk, Contains};
+ghost use Rattle.std.specs.Prelude.{◌≡◌, ◌+◌, ◌<◌, ◌≤◌, ◌++◌, [], ◌∷◌, true, false, length, slice_index, OnOk, Contains};
 ghost use Rattle.nv_calls.specs.Calls.{request};
 ghost use Rattle.nv_calls.specs.Logs.{served, live_after, IsLawful};
 ghost use Rattle.nv_calls.specs.Shapes.{IsShaped};
@@ -60,6 +60,14 @@ impl<K: SyscallKernel> Lead<K> {
         self.due = true;
     }
 
+    /// No more than was last seen of a station's cursor.
+    pub fn floor(&self, station: u32) -> u32
+        requires { station < 8 }
+        ensures { station < length (lead_view self.now).floors → result ≤ slice_index (lead_view self.now).floors station }
+    {
+        self.floors[station as usize]
+    }
+
     // The kernel's history is lawful.
     pub(crate) fn tell_lawful(&self)
         ensures { IsLawful (K.log self.now.kernel) }
@@ -75,6 +83,13 @@ impl<K: SyscallKernel> Reader<K> {
         ensures small { result ≤ 131072 }
     {
         self.seen
+    }
+
+    /// No more than were published when it last looked at head.
+    pub fn head(&self) -> u32
+        ensures { result ≤ (view self.now).head_last }
+    {
+        self.head
     }
 
     pub fn station(&self) -> u32

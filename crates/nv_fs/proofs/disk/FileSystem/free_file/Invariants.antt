@@ -1,0 +1,8 @@
+use Rattle.std.proofs.Common.{◌≡◌, ◌-◌}
+use Rattle.nv_fs.specs.States.{least_free, is_kept}
+use Rattle.nv_fs.specs.Opened.{free_file}
+use Rattle.nv_fs.proofs.disk.FileSystem.free_file.Given as goal
+
+-- what the numbers from here on give is the answer
+abbrev pub invariant-loop-i : goal.invariant-loop-i
+invariant-loop-i l = least_free (is_kept l.self.state) (l.i-end - l.i) l.i ≡ free_file l.self.state

@@ -1,0 +1,40 @@
+-- pipe(2), pipe(7).
+use Rattle.std.specs.Prelude.{ℕ, pos, ◌+◌, Bool, true, false, not, ◌==◌, bit_and, [], ◌++◌, length, drop, Option, Some, None, is_none, option_map, if◌then◌else◌}
+use Rattle.std.specs.List.{position_from}
+use Rattle.std.specs.Int.{to_le_bytes, w32}
+use Rattle.nv_fs.specs.declared.open_file.OpenFile.{OpenFile}
+use Rattle.nv_fs.specs.declared.open_file.Target.{Target}
+use Rattle.nv_fs.specs.declared.open_file.Target.TheVariants.{Reader, Writer}
+use Rattle.nv_fs.specs.States.{State, Answer, answer, only, install, is_pipe, least_free, with_at, EINVAL, EMFILE}
+use Rattle.nv_fs.specs.Closes.{free_descriptor}
+
+unfoldable pub free_pipe : State → ℕ
+free_pipe s = least_free (is_pipe s) (length s.pipes) 0
+
+-- an end of a pipe
+abbrev pub end_of : Target → Bool → OpenFile
+end_of target reads = record { target = target; offset = 0; reads = reads; writes = not reads; appends = false }
+
+-- an empty pipe
+abbrev pub with_empty : State → ℕ → State
+with_empty s k = record s { pipes = with_at s.pipes k [] }
+
+abbrev pub with_ends : State → ℕ → ℕ → ℕ → State
+with_ends s k reading writing = install (install (with_empty s k) reading (end_of (Reader k) true)) writing (end_of (Writer k) false)
+
+-- the least free descriptor above another
+abbrev pub free_above : State → ℕ → Option ℕ
+free_above s fd = option_map (λ n. fd + 1 + n) (position_from is_none 0 (drop (fd + 1) s.descriptors))
+
+abbrev pub pipe_on : State → ℕ → Option ℕ → Answer
+pipe_on s reading None = only s EMFILE
+pipe_on s reading (Some writing) =
+    answer (with_ends s (free_pipe s) reading writing) (pos 0) (to_le_bytes w32 reading ++ to_le_bytes w32 writing)
+
+abbrev pub pipe_from : State → Option ℕ → Answer
+pipe_from s None = only s EMFILE
+pipe_from s (Some reading) = pipe_on s reading (free_above s reading)
+
+-- pipe2(2): 526336 is O_CLOEXEC with O_NONBLOCK, which change nothing here
+unfoldable pub pipe_of : State → ℕ → Answer
+pipe_of s flags = if bit_and flags 526336 == flags then pipe_from s (free_descriptor s) else only s EINVAL

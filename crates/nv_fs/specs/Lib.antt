@@ -1,0 +1,12 @@
+pub mod States
+pub mod Closes
+pub mod Seeks
+pub mod Names
+pub mod Opened
+pub mod Ends
+pub mod Fetched
+pub mod Stored
+pub mod Rooms
+pub mod Starts
+pub mod Views
+pub mod FewLaws

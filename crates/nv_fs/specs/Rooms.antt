@@ -1,0 +1,57 @@
+-- The memory that was taken in advance: what a call that grows a table needs of it.
+use Rattle.std.specs.Prelude.{ℕ, ◌+◌, ◌-◌, min, ◌≤◌, ◌<◌, nat_le, List, length, Option, Some, None, slice_index, if◌then◌else◌}
+use Rattle.nv_fs.specs.declared.open_file.OpenFile.{OpenFile}
+use Rattle.nv_fs.specs.declared.open_file.Target.{Target}
+use Rattle.nv_fs.specs.declared.open_file.Target.TheVariants.{Console, File, Writer}
+use Rattle.nv_fs.specs.States.{State, open_of}
+use Rattle.nv_fs.specs.Fetched.{pipe_at}
+use Rattle.nv_fs.specs.Stored.{start_of}
+
+-- how many elements each table has memory for, how long a new name may be, and how many bytes the console, each file and each pipe have memory for
+pub record Room : Type 0 where
+  pub opens : ℕ
+  pub files : ℕ
+  pub pipes : ℕ
+  pub name : ℕ
+  pub console : ℕ
+  pub contents : List ℕ
+  pub buffers : List ℕ
+
+-- a file system: what calls see, and the memory
+pub record Disk : Type 0 where
+  pub state : State
+  pub room : Room
+
+-- how many bytes a file has after a write of n, as far as the limit
+abbrev pub grown : ℕ → ℕ → ℕ → ℕ
+grown limit start n = if nat_le limit start then 0 else start + min n (limit - start)
+
+-- there is memory for a write of n bytes to a target
+abbrev pub HasRoom : Disk → OpenFile → Target → ℕ → Type 0
+HasRoom d o Console n = length d.state.console + min n (16777216 - length d.state.console) ≤ d.room.console
+HasRoom d o (File i) n = i < length d.state.files → grown 1048576 (start_of d.state o i) n ≤ slice_index d.room.contents i
+HasRoom d o (Writer k) n = k < length d.state.pipes → length (pipe_at d.state k) + n ≤ 4096 → length (pipe_at d.state k) + n ≤ slice_index d.room.buffers k
+HasRoom d o _ n = Unit {0}
+
+abbrev pub HasRoomOf : Disk → Option (ℕ × OpenFile) → ℕ → Type 0
+HasRoomOf d None n = Unit {0}
+HasRoomOf d (Some o) n = HasRoom d o.1 o.1.target n
+
+-- there is memory for a write of n bytes to a descriptor
+unfoldable pub CanWrite : Disk → ℕ → ℕ → Type 0
+CanWrite d fd n = HasRoomOf d (open_of d.state fd) n
+
+-- there is memory for so many further open files
+abbrev pub HasOpens : Disk → ℕ → Type 0
+HasOpens d n = length d.state.opens + n ≤ d.room.opens
+
+-- there is memory for a new file, its name of at most so many bytes, and an open file of it
+pub record CanOpen (d : Disk) (path : List ℕ) : Type 0 where
+  pub opens : HasOpens d 1
+  pub files : length d.state.files + 1 ≤ d.room.files
+  pub name : length path ≤ d.room.name
+
+-- there is memory for a new pipe and its two ends
+pub record CanPipe (d : Disk) : Type 0 where
+  pub opens : HasOpens d 2
+  pub pipes : length d.state.pipes + 1 ≤ d.room.pipes

@@ -1,0 +1,43 @@
+-- What calls see of the tables.
+use Rattle.std.specs.Prelude.{ℕ, List, map, drop, option_map, vec_capacity}
+use Rattle.std.specs.Global.{Vec}
+use Rattle.nv_fs.specs.declared.disk.MemoryFile.{MemoryFile}
+use Rattle.nv_fs.specs.declared.disk.FileSystem.TheInside.{Inside}
+use Rattle.nv_fs.specs.States.{State, Inode}
+use Rattle.nv_fs.specs.Rooms.{Disk, Room}
+
+abbrev pub items_of : Vec ℕ → List ℕ
+items_of v = v.items
+
+abbrev pub capacity_of : Vec ℕ → ℕ
+capacity_of v = vec_capacity v
+
+abbrev pub inode_of : MemoryFile → Inode
+inode_of f = record { name = option_map items_of f.name; bytes = f.bytes.items }
+
+abbrev pub content_room : MemoryFile → ℕ
+content_room f = vec_capacity f.bytes
+
+abbrev pub state_of : Inside → State
+state_of k = record {
+  descriptors = k.descriptors;
+  opens = k.opens.items;
+  files = map inode_of k.files.items;
+  pipes = map items_of k.pipes.items;
+  input = drop k.taken k.input.items;
+  console = k.console.items;
+}
+
+abbrev pub room_of : Inside → Room
+room_of k = record {
+  opens = vec_capacity k.opens;
+  files = vec_capacity k.files;
+  pipes = vec_capacity k.pipes;
+  name = vec_capacity k.name;
+  console = vec_capacity k.console;
+  contents = map content_room k.files.items;
+  buffers = map capacity_of k.pipes.items;
+}
+
+abbrev pub disk_of : Inside → Disk
+disk_of k = record { state = state_of k; room = room_of k }

@@ -1,0 +1,135 @@
+// The tables, and what they are at the start.
+ghost use Rattle.std.specs.Prelude.{◌≡◌, IfOk, Bool, not, map};
+ghost use Rattle.nv_fs.specs.Views.{inode_of};
+ghost use Rattle.nv_fs.specs.States.{is_open};
+ghost use Rattle.nv_fs.specs.Starts.{first_state, first_descriptors, first_opens, inode_from};
+
+use crate::open_file::{OpenFile, Target};
+use std::alloc::{AllocError, Global};
+use std::marker::Model;
+
+/// How many descriptors there are.
+pub const DESCRIPTORS: usize = 64;
+
+/// A file in memory: its name until it is unlinked, and its bytes.
+#[derive(Drop)]
+pub struct MemoryFile {
+    pub name: Option<Vec<u8>>,
+    pub bytes: Vec<u8>,
+}
+
+/// The files of a run, with the descriptors that name them. A free place in a table is used again.
+#[derive(Drop)]
+pub struct FileSystem {
+    pub(crate) alloc: Global,
+    pub(crate) descriptors: [Option<usize>; 64],
+    pub(crate) opens: Vec<OpenFile>,
+    pub(crate) files: Vec<MemoryFile>,
+    pub(crate) pipes: Vec<Vec<u8>>,
+    pub(crate) input: Vec<u8>,
+    pub(crate) taken: usize,
+    pub(crate) console: Vec<u8>,
+    pub(crate) name: Vec<u8>,
+}
+
+impl Model for FileSystem {
+    ghost use Rattle.std.specs.Prelude.{◌≤◌, vec_len, map};
+    ghost use Rattle.nv_fs.specs.Rooms.{Disk};
+
+    ghost Value = { Disk };
+
+    ghost use Rattle.nv_fs.specs.Views.{disk_of};
+
+    ghost view = { disk_of };
+
+    ghost invariant = { λ k. k.taken ≤ vec_len k.input };
+}
+
+// The open files that every run begins with.
+fn standard(target: Target, reads: bool) -> OpenFile
+    ensures { result ≡ record { target = target; offset = 0; reads = reads; writes = not reads; appends = Bool.false } }
+{
+    OpenFile {
+        target,
+        offset: 0,
+        reads,
+        writes: !reads,
+        appends: false,
+    }
+}
+
+#[tactic(auto, unfolding(crate::specs::Starts::first_descriptors))]
+fn first_descriptors() -> [Option<usize>; 64]
+    ensures { result ≡ first_descriptors }
+{
+    let mut descriptors = [None; 64];
+    descriptors[0] = Some(0);
+    descriptors[1] = Some(1);
+    descriptors[2] = Some(1);
+    descriptors
+}
+
+fn first_opens(alloc: Global) -> Result<Vec<OpenFile>, AllocError>
+    ensures { IfOk result (λ made. made.items ≡ first_opens) }
+{
+    let mut opens = Vec::new(alloc);
+    opens.push(standard(Target::Input, true))?;
+    opens.push(standard(Target::Console, false))?;
+    Ok(opens)
+}
+
+impl FileSystem {
+    /// The files with these names and contents, the input at descriptor 0 and the console at 1 and 2.
+    pub fn make(
+        alloc: Global,
+        input: &Vec<u8>,
+        files: &Vec<(Vec<u8>, Vec<u8>)>,
+    ) -> Result<FileSystem, AllocError>
+        ensures { IfOk result (λ made. made.state ≡ first_state input.now.items (map inode_from files.now.items)) }
+    {
+        let input = Vec::from_slice(alloc, input.as_slice())?;
+        let files = stored(alloc, files.as_slice())?;
+        let opens = first_opens(alloc)?;
+        Ok(FileSystem {
+            alloc,
+            descriptors: first_descriptors(),
+            opens,
+            files,
+            pipes: Vec::new(alloc),
+            input,
+            taken: 0,
+            console: Vec::new(alloc),
+            name: Vec::new(alloc),
+        })
+    }
+
+    /// Whether the descriptor is open.
+    pub fn has(&self, fd: u32) -> bool
+        ensures { result ≡ is_open self.now.state fd }
+    {
+        self.open_of(fd).is_some()
+    }
+
+    /// The bytes on the console.
+    pub fn console(&self) -> &[u8]
+        ensures { result.now ≡ self.now.state.console }
+    {
+        self.console.as_slice()
+    }
+}
+
+// The files of a script, each with its name.
+fn stored(alloc: Global, files: &[(Vec<u8>, Vec<u8>)]) -> Result<Vec<MemoryFile>, AllocError>
+    ensures { IfOk result (λ made. map inode_of made.items ≡ map inode_from files.now) }
+{
+    let mut made = Vec::new(alloc);
+    for (name, bytes) in files {
+        let name = Vec::from_slice(alloc, name.as_slice())?;
+        let bytes = Vec::from_slice(alloc, bytes.as_slice())?;
+        made.push(MemoryFile {
+            name: Some(name),
+            bytes,
+        })?;
+    }
+    Ok(made)
+}

@@ -1,0 +1,133 @@
+// read.
+ghost use Rattle.std.specs.Prelude.{◌≡◌, ◌≤◌, ◌<◌, length, drop};
+ghost use Rattle.nv_fs.specs.States.{answer};
+ghost use Rattle.nv_fs.specs.Fetched.{read_of, read_input, read_file, read_pipe, read_target, with_pipe, pipe_at};
+
+use crate::disk::FileSystem;
+use crate::errors::{EAGAIN, EBADF};
+use crate::open_file::{OpenFile, Target};
+use crate::tables::{hand_out, refuse};
+use nv_calls::Bytes;
+
+/// How many bytes a call moves at most.
+const MOST: usize = 4096;
+
+// Drops the first bytes.
+fn drop_front(held: &mut Vec<u8>, n: usize)
+    requires { n ≤ length held.old.items }
+    ensures { held.new.items ≡ drop n held.old.items }
+{
+    let rest = held.as_slice().len() - n;
+    held.as_mut_slice().rotate_left(n);
+    held.truncate(rest);
+}
+
+#[tactic(auto, unfolding(crate::specs::Fetched::read_of))]
+impl FileSystem {
+    fn drop_input(&mut self, n: usize)
+        requires { n ≤ length self.old.state.input }
+        ensures { self.new.state ≡ record self.old.state { input = drop n self.old.state.input } }
+    {
+        self.taken += n;
+    }
+
+    // What is still to be read of the input.
+    fn input(&self) -> &[u8]
+        ensures { result.now ≡ self.now.state.input }
+    {
+        &self.input.as_slice()[self.taken..]
+    }
+
+    fn read_input(&mut self, n: usize, out: &mut Bytes) -> i32
+        requires few { n ≤ 4096 }
+        requires room { 4096 ≤ out.old.room }
+        ensures answer { read_input self.old.state n ≡ answer self.new.state result out.new.bytes }
+        ensures room { out.new.room ≡ out.old.room }
+    {
+        let got = hand_out(self.input(), 0, n, out);
+        self.drop_input(got);
+        got as i32
+    }
+
+    fn read_file(
+        &mut self,
+        number: usize,
+        description: OpenFile,
+        i: usize,
+        n: usize,
+        out: &mut Bytes,
+    ) -> i32
+        requires number { number < length self.old.state.opens }
+        requires few { n ≤ 4096 }
+        requires room { 4096 ≤ out.old.room }
+        ensures answer { read_file self.old.state number description i n ≡ answer self.new.state result out.new.bytes }
+        ensures room { out.new.room ≡ out.old.room }
+    {
+        let got = hand_out(self.content(i), description.offset, n, out);
+        self.move_to(number, description, description.offset + got);
+        got as i32
+    }
+
+    fn drop_from_pipe(&mut self, k: usize, n: usize)
+        requires { n ≤ length (pipe_at self.old.state k) }
+        ensures { self.new.state ≡ with_pipe self.old.state k (drop n (pipe_at self.old.state k)) }
+    {
+        if k < self.pipes.as_slice().len() {
+            drop_front(&mut self.pipes[k], n);
+        }
+    }
+
+    fn read_pipe(&mut self, k: usize, n: usize, out: &mut Bytes) -> i32
+        requires few { n ≤ 4096 }
+        requires room { 4096 ≤ out.old.room }
+        ensures answer { read_pipe self.old.state k n ≡ answer self.new.state result out.new.bytes }
+        ensures room { out.new.room ≡ out.old.room }
+    {
+        if n == 0 {
+            return refuse(out, 0);
+        }
+        if self.buffer(k).len() == 0 {
+            let comes = self.has_open(Target::Writer(k));
+            return refuse(out, if comes { EAGAIN } else { 0 });
+        }
+        let got = hand_out(self.buffer(k), 0, n, out);
+        self.drop_from_pipe(k, got);
+        got as i32
+    }
+
+    fn read_target(
+        &mut self,
+        number: usize,
+        description: OpenFile,
+        n: usize,
+        out: &mut Bytes,
+    ) -> i32
+        requires number { number < length self.old.state.opens }
+        requires few { n ≤ 4096 }
+        requires room { 4096 ≤ out.old.room }
+        ensures answer { read_target self.old.state number description description.target n ≡ answer self.new.state result out.new.bytes }
+        ensures room { out.new.room ≡ out.old.room }
+    {
+        match description.target {
+            Target::Input => self.read_input(n, out),
+            Target::File(i) => self.read_file(number, description, i, n, out),
+            Target::Reader(k) => self.read_pipe(k, n, out),
+            Target::Console | Target::Writer(_) => refuse(out, EBADF),
+        }
+    }
+
+    /// read(2), of at most 4,096 bytes.
+    pub fn read(&mut self, fd: u32, count: u32, out: &mut Bytes) -> i32
+        requires { 4096 ≤ out.old.room }
+        ensures answer { read_of self.old.state fd count ≡ answer self.new.state result out.new.bytes }
+        ensures room { out.new.room ≡ out.old.room }
+    {
+        let Some((number, description)) = self.open_of(fd) else {
+            return refuse(out, EBADF);
+        };
+        if !description.reads {
+            return refuse(out, EBADF);
+        }
+        self.read_target(number, description, (count as usize).min(MOST), out)
+    }
+}

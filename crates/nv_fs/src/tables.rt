@@ -1,0 +1,164 @@
+// What the calls read of the tables, and how they change them.
+ghost use Rattle.std.specs.Prelude.{◌≡◌, ◌+◌, ◌<◌, ◌≤◌, ◌++◌, [], length, take, drop, min, max, is_some, vec_len, vec_capacity, OnOk};
+ghost use Rattle.nv_fs.specs.States.{install, moved_to, file_at, with_at};
+ghost use Rattle.nv_fs.specs.Closes.{with_descriptor};
+ghost use Rattle.nv_fs.specs.Seeks.{bytes_of};
+ghost use Rattle.nv_fs.specs.Fetched.{pipe_at};
+ghost use Rattle.nv_fs.specs.Rooms.{HasOpens};
+
+use crate::disk::FileSystem;
+use crate::open_file::OpenFile;
+use nv_calls::Bytes;
+use std::alloc::AllocError;
+
+/// At most so many bytes from a place on.
+pub fn part(bytes: &[u8], from: usize, most: usize) -> &[u8]
+    ensures part { result.now ≡ take most (drop from bytes.now) }
+    ensures few { length result.now ≤ most }
+    ensures inside { from + length result.now ≤ max from (length bytes.now) }
+{
+    let rest = behind(bytes, from);
+    front(rest, most)
+}
+
+/// The bytes from a place on.
+fn behind(bytes: &[u8], from: usize) -> &[u8]
+    ensures { result.now ≡ drop from bytes.now }
+{
+    &bytes[from.min(bytes.len())..]
+}
+
+/// At most so many bytes.
+pub fn front(bytes: &[u8], most: usize) -> &[u8]
+    ensures part { result.now ≡ take most bytes.now }
+    ensures few { length result.now ≡ min most (length bytes.now) }
+{
+    &bytes[..most.min(bytes.len())]
+}
+
+/// An answer that hands out nothing.
+pub fn refuse(out: &mut Bytes, result_is: i32) -> i32
+    ensures ret { result ≡ result_is }
+    ensures out { out.new ≡ record { bytes = []; room = out.old.room } }
+{
+    out.set(&[]);
+    result_is
+}
+
+/// Hands out at most so many bytes from a place on, and tells how many.
+pub fn hand_out(bytes: &[u8], from: usize, most: usize, out: &mut Bytes) -> usize
+    requires { most ≤ out.old.room }
+    ensures out { out.new ≡ record { bytes = take most (drop from bytes.now); room = out.old.room } }
+    ensures ret { result ≡ length out.new.bytes }
+    ensures few { result ≤ most }
+    ensures inside { from + result ≤ max from (length bytes.now) }
+{
+    let part = part(bytes, from, most);
+    out.set(part);
+    part.len()
+}
+
+/// Adds bytes for which there is memory.
+pub fn append(held: &mut Vec<u8>, bytes: &[u8])
+    requires { vec_len held.old + length bytes.now ≤ vec_capacity held.old }
+    ensures { held.new.items ≡ held.old.items ++ bytes.now }
+{
+    match held.extend_from_slice(bytes) {
+        Ok(()) => {}
+        Err(_) => unreachable!(),
+    }
+}
+
+/// Memory for so many elements in all.
+pub fn reserve_to(held: &mut Vec<u8>, most: usize) -> Result<(), AllocError>
+    ensures items { held.new.items ≡ held.old.items }
+    ensures ok { OnOk result (most ≤ vec_capacity held.new) }
+{
+    let more = most.saturating_sub(held.len());
+    held.reserve(more)
+}
+
+fn put_open(opens: &mut Vec<OpenFile>, i: usize, description: OpenFile)
+    requires inside { i ≤ vec_len opens.old }
+    requires room { vec_len opens.old < vec_capacity opens.old }
+    ensures items { opens.new.items ≡ with_at opens.old.items i description }
+    ensures capacity { vec_capacity opens.old ≤ vec_capacity opens.new }
+    ensures len { vec_len opens.new ≤ vec_len opens.old + 1 }
+{
+    if i < opens.len() {
+        opens[i] = description;
+        return;
+    }
+    match opens.push(description) {
+        Ok(()) => {}
+        Err(_) => unreachable!(),
+    }
+}
+
+#[tactic(auto, unfolding(crate::specs::Seeks::seek_of, crate::specs::States::install))]
+impl FileSystem {
+    /// The descriptor names this open file from now on, or none.
+    pub(crate) fn name_at(&mut self, fd: usize, number: Option<usize>)
+        requires { fd < 64 }
+        ensures { self.new ≡ record self.old { state = with_descriptor self.old.state fd number } }
+    {
+        self.descriptors[fd] = number;
+    }
+
+    /// The descriptor names a new open file.
+    pub(crate) fn install(&mut self, fd: usize, description: OpenFile)
+        requires fd { fd < 64 }
+        requires room { HasOpens self.old 1 }
+        ensures state { self.new.state ≡ install self.old.state fd description }
+        ensures room { self.old.room.opens ≤ self.new.room.opens }
+        ensures len { length self.new.state.opens ≤ length self.old.state.opens + 1 }
+    {
+        let number = self.free_open();
+        put_open(&mut self.opens, number, description);
+        self.descriptors[fd] = Some(number);
+    }
+
+    /// The open file moves its offset.
+    pub(crate) fn move_to(&mut self, number: usize, description: OpenFile, offset: usize)
+        requires { number < length self.old.state.opens }
+        ensures { self.new.state ≡ moved_to self.old.state number description offset }
+    {
+        self.opens[number] = OpenFile {
+            offset,
+            ..description
+        };
+    }
+
+    /// Whether the file has a name.
+    pub(crate) fn has_name(&self, i: usize) -> bool
+        ensures { result ≡ is_some (file_at self.now.state i).name }
+    {
+        if i < self.files.len() {
+            self.files[i].name.is_some()
+        } else {
+            false
+        }
+    }
+
+    /// The bytes of a file.
+    pub(crate) fn content(&self, i: usize) -> &[u8]
+        ensures { result.now ≡ bytes_of self.now.state i }
+    {
+        if i < self.files.len() {
+            self.files[i].bytes.as_slice()
+        } else {
+            &[]
+        }
+    }
+
+    /// The bytes in a pipe.
+    pub(crate) fn buffer(&self, k: usize) -> &[u8]
+        ensures { result.now ≡ pipe_at self.now.state k }
+    {
+        if k < self.pipes.len() {
+            self.pipes[k].as_slice()
+        } else {
+            &[]
+        }
+    }
+}

@@ -1,0 +1,236 @@
+// write.
+ghost use Rattle.std.specs.Prelude.{◌≡◌, ◌+◌, ◌-◌, ◌≤◌, ◌<◌, [], ◌++◌, min, length, vec_capacity, slice_index, OnOk};
+ghost use Rattle.nv_fs.specs.States.{answer};
+ghost use Rattle.nv_fs.specs.Seeks.{bytes_of};
+ghost use Rattle.nv_fs.specs.Fetched.{pipe_at, with_pipe};
+ghost use Rattle.nv_fs.specs.Stored.{write_of, write_console, write_at, write_pipe, write_target, with_bytes, with_content, start_of};
+ghost use Rattle.nv_fs.specs.Rooms.{CanWrite, HasRoom, grown};
+
+use crate::disk::FileSystem;
+use crate::errors::{EAGAIN, EBADF, EFBIG, ENOSPC, EPIPE};
+use crate::open_file::{OpenFile, Target};
+use crate::tables::{append, front, reserve_to};
+use std::alloc::AllocError;
+
+/// How many bytes the console takes in all.
+const CONSOLE: usize = 16_777_216;
+
+/// How many bytes a file has at most.
+const FILE: usize = 1_048_576;
+
+/// How many bytes a pipe holds.
+const PIPE: usize = 4096;
+
+// Writes over bytes that are there.
+fn write_over(held: &mut [u8], place: usize, bytes: &[u8])
+    requires { place + length bytes.now ≤ length held.old }
+    ensures { held.new ≡ with_bytes held.old place bytes.now }
+{
+    held[place..place + bytes.len()].copy_from_slice(bytes);
+}
+
+// Writes from a place on up to the end or past it, with zeros in the gap before the place.
+fn write_through(held: &mut Vec<u8>, place: usize, bytes: &[u8])
+    requires behind { length held.old.items ≤ place + length bytes.now }
+    requires room { place + length bytes.now ≤ vec_capacity held.old }
+    ensures { held.new.items ≡ with_bytes held.old.items place bytes.now }
+{
+    match held.resize(place, 0) {
+        Ok(()) => append(held, bytes),
+        Err(_) => unreachable!(),
+    }
+}
+
+// The bytes from a place on, for which there is memory.
+fn put(held: &mut Vec<u8>, place: usize, bytes: &[u8])
+    requires { place + length bytes.now ≤ vec_capacity held.old }
+    ensures { held.new.items ≡ with_bytes held.old.items place bytes.now }
+{
+    if place + bytes.len() < held.as_slice().len() {
+        write_over(held.as_mut_slice(), place, bytes);
+    } else {
+        write_through(held, place, bytes);
+    }
+}
+
+#[tactic(auto, unfolding(crate::specs::Stored::write_of, crate::specs::Rooms::CanWrite))]
+impl FileSystem {
+    fn write_console(&mut self, bytes: &[u8]) -> i32
+        requires { length self.old.state.console + min (length bytes.now) (16777216 - length self.old.state.console) ≤ self.old.room.console }
+        ensures { write_console self.old.state 16777216 bytes.now ≡ answer self.new.state result [] }
+    {
+        let used = self.console.as_slice().len();
+        if used >= CONSOLE {
+            return ENOSPC;
+        }
+        let part = front(bytes, CONSOLE - used);
+        append(&mut self.console, part);
+        part.len() as i32
+    }
+
+    fn put_at(&mut self, i: usize, place: usize, bytes: &[u8])
+        requires { i < length self.old.state.files → place + length bytes.now ≤ slice_index self.old.room.contents i }
+        ensures { self.new.state ≡ with_content self.old.state i (with_bytes (bytes_of self.old.state i) place bytes.now) }
+    {
+        if i < self.files.as_slice().len() {
+            put(&mut self.files[i].bytes, place, bytes);
+        }
+    }
+
+    // Where a write begins.
+    fn start_of(&self, description: OpenFile, i: usize) -> usize
+        ensures { result ≡ start_of self.now.state description i }
+    {
+        if description.appends {
+            self.content(i).len()
+        } else {
+            description.offset
+        }
+    }
+
+    fn write_file(&mut self, number: usize, description: OpenFile, i: usize, bytes: &[u8]) -> i32
+        requires number { number < length self.old.state.opens }
+        requires room { i < length self.old.state.files → grown 1048576 (start_of self.old.state description i) (length bytes.now) ≤ slice_index self.old.room.contents i }
+        ensures { write_at self.old.state number description i 1048576 (start_of self.old.state description i) bytes.now ≡ answer self.new.state result [] }
+    {
+        let start = self.start_of(description, i);
+        if start >= FILE {
+            return EFBIG;
+        }
+        let part = front(bytes, FILE - start);
+        self.put_at(i, start, part);
+        self.move_to(number, description, start + part.len());
+        part.len() as i32
+    }
+
+    fn fill(&mut self, k: usize, bytes: &[u8])
+        requires { k < length self.old.state.pipes → length (pipe_at self.old.state k) + length bytes.now ≤ slice_index self.old.room.buffers k }
+        ensures { self.new.state ≡ with_pipe self.old.state k (pipe_at self.old.state k ++ bytes.now) }
+    {
+        if k < self.pipes.as_slice().len() {
+            append(&mut self.pipes[k], bytes);
+        }
+    }
+
+    fn write_pipe(&mut self, k: usize, bytes: &[u8]) -> i32
+        requires some { 0 < length bytes.now }
+        requires room { k < length self.old.state.pipes → length (pipe_at self.old.state k) + length bytes.now ≤ 4096 → length (pipe_at self.old.state k) + length bytes.now ≤ slice_index self.old.room.buffers k }
+        ensures { write_pipe self.old.state k 4096 bytes.now ≡ answer self.new.state result [] }
+    {
+        if !self.has_open(Target::Reader(k)) {
+            return EPIPE;
+        }
+        if bytes.len() > PIPE.saturating_sub(self.buffer(k).len()) {
+            return EAGAIN;
+        }
+        self.fill(k, bytes);
+        bytes.len() as i32
+    }
+
+    fn write_target(&mut self, number: usize, description: OpenFile, bytes: &[u8]) -> i32
+        requires number { number < length self.old.state.opens }
+        requires room { HasRoom self.old description description.target (length bytes.now) }
+        requires some { 0 < length bytes.now }
+        ensures { write_target self.old.state number description description.target bytes.now ≡ answer self.new.state result [] }
+    {
+        match description.target {
+            Target::Console => self.write_console(bytes),
+            Target::File(i) => self.write_file(number, description, i, bytes),
+            Target::Writer(k) => self.write_pipe(k, bytes),
+            Target::Input | Target::Reader(_) => EBADF,
+        }
+    }
+
+    /// write(2).
+    pub fn write(&mut self, fd: u32, bytes: &[u8]) -> i32
+        requires { CanWrite self.old fd (length bytes.now) }
+        ensures { write_of self.old.state fd bytes.now ≡ answer self.new.state result [] }
+    {
+        let Some((number, description)) = self.open_of(fd) else {
+            return EBADF;
+        };
+        if !description.writes {
+            return EBADF;
+        }
+        if bytes.len() == 0 {
+            return 0;
+        }
+        self.write_target(number, description, bytes)
+    }
+
+    fn reserve_console(&mut self, n: usize) -> Result<(), AllocError>
+        ensures state { self.new.state ≡ self.old.state }
+        ensures ok { OnOk result (length self.old.state.console + min n (16777216 - length self.old.state.console) ≤ self.new.room.console) }
+    {
+        let used = self.console.as_slice().len();
+        let more = n.min(CONSOLE.saturating_sub(used));
+        self.console.reserve(more)
+    }
+
+    fn reserve_content(&mut self, i: usize, most: usize) -> Result<(), AllocError>
+        ensures state { self.new.state ≡ self.old.state }
+        ensures ok { OnOk result (i < length self.old.state.files → most ≤ slice_index self.new.room.contents i) }
+    {
+        if i < self.files.as_slice().len() {
+            reserve_to(&mut self.files[i].bytes, most)
+        } else {
+            Ok(())
+        }
+    }
+
+    fn reserve_buffer(&mut self, k: usize, most: usize) -> Result<(), AllocError>
+        ensures state { self.new.state ≡ self.old.state }
+        ensures ok { OnOk result (k < length self.old.state.pipes → most ≤ slice_index self.new.room.buffers k) }
+    {
+        if k < self.pipes.as_slice().len() {
+            reserve_to(&mut self.pipes[k], most)
+        } else {
+            Ok(())
+        }
+    }
+
+    fn reserve_file(&mut self, description: OpenFile, i: usize, n: usize) -> Result<(), AllocError>
+        ensures state { self.new.state ≡ self.old.state }
+        ensures ok { OnOk result (i < length self.old.state.files → grown 1048576 (start_of self.old.state description i) n ≤ slice_index self.new.room.contents i) }
+    {
+        let start = self.start_of(description, i);
+        if start >= FILE {
+            return Ok(());
+        }
+        self.reserve_content(i, start + n.min(FILE - start))
+    }
+
+    fn reserve_pipe_for(&mut self, k: usize, n: usize) -> Result<(), AllocError>
+        ensures state { self.new.state ≡ self.old.state }
+        ensures ok { OnOk result (k < length self.old.state.pipes → length (pipe_at self.old.state k) + n ≤ 4096 → length (pipe_at self.old.state k) + n ≤ slice_index self.new.room.buffers k) }
+    {
+        let used = self.buffer(k).len();
+        if n > PIPE.saturating_sub(used) {
+            return Ok(());
+        }
+        self.reserve_buffer(k, used + n)
+    }
+
+    fn reserve_target(&mut self, description: OpenFile, n: usize) -> Result<(), AllocError>
+        ensures state { self.new.state ≡ self.old.state }
+        ensures ok { OnOk result (HasRoom self.new description description.target n) }
+    {
+        match description.target {
+            Target::Console => self.reserve_console(n),
+            Target::File(i) => self.reserve_file(description, i, n),
+            Target::Writer(k) => self.reserve_pipe_for(k, n),
+            Target::Input | Target::Reader(_) => Ok(()),
+        }
+    }
+
+    /// Memory for a write of `count` bytes to the descriptor.
+    pub fn reserve_write(&mut self, fd: u32, count: u32) -> Result<(), AllocError>
+        ensures state { self.new.state ≡ self.old.state }
+        ensures ready { OnOk result (CanWrite self.new fd count) }
+    {
+        let Some((_, description)) = self.open_of(fd) else {
+            return Ok(());
+        };
+        self.reserve_target(description, count as usize)
+    }
+}

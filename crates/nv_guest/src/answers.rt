@@ -1,0 +1,82 @@
+// Answers in the guest's memory.
+ghost use Rattle.std.specs.Prelude.{◌≡◌, ◌≤◌, length, min, take, option_map};
+ghost use Rattle.nv_guest.specs.Vectors.{vector_at, front_of};
+ghost use Rattle.nv_guest.specs.Answers.{with_byte, with_bytes, targets_at, scattered};
+
+use crate::vectors::{Part, vector_at};
+use nv_memory::Memory;
+
+#[tactic(auto, unfolding(crate::specs::Answers::with_byte))]
+fn store_byte(memory: &mut Memory, at: usize, byte: u8)
+    ensures { memory.new ≡ with_byte memory.old at byte }
+{
+    if let Ok(address) = u32::try_from(at) {
+        // a byte that may not be written is dropped
+        let _ = memory.copy_out(address, &[byte]);
+    }
+}
+
+/// Stores bytes from an address on, each by itself. What may not be written is dropped.
+pub fn store_bytes(memory: &mut Memory, address: u32, bytes: &[u8])
+    ensures { memory.new ≡ with_bytes memory.old address bytes.now }
+{
+    for (i, byte) in bytes.iter().enumerate() {
+        store_byte(memory, address as usize + i, *byte);
+    }
+}
+
+fn target_at(memory: &Memory, most: u32, at: usize) -> Option<Part>
+    ensures { result ≡ option_map (front_of most) (vector_at memory.now at) }
+{
+    let Part { address, size } = vector_at(memory, at)?;
+    Some(Part {
+        address,
+        size: size.min(most),
+    })
+}
+
+/// Reads the parts that so many bytes go to by this many vectors from an address on into the front of a table, and gives how many these are.
+pub fn read_targets(
+    memory: &Memory,
+    address: u32,
+    count: u32,
+    most: u32,
+    targets: &mut [Part],
+) -> usize
+    requires { count ≤ length targets.old }
+    ensures parts { take result targets.new ≡ targets_at memory.now count most address }
+    ensures inside { result ≤ length targets.old }
+{
+    let mut left = most;
+    let mut at = address as usize;
+    for i in 0..count {
+        if left == 0 {
+            return i as usize;
+        }
+        let Some(part) = target_at(memory, left, at) else {
+            return i as usize;
+        };
+        targets[i as usize] = part;
+        left -= part.size;
+        at += 8;
+    }
+    count as usize
+}
+
+fn front_len(size: u32, len: usize) -> usize
+    ensures { result ≡ min size len }
+{
+    (size as usize).min(len)
+}
+
+/// Stores bytes over parts, in order. What may not be written is dropped.
+pub fn scatter(memory: &mut Memory, targets: &[Part], bytes: &[u8])
+    ensures { memory.new ≡ scattered memory.old targets.now bytes.now }
+{
+    let mut rest = bytes;
+    for part in targets {
+        let (front, behind) = rest.split_at(front_len(part.size, rest.len()));
+        store_bytes(memory, part.address, front);
+        rest = behind;
+    }
+}

@@ -1,0 +1,131 @@
+-- What a line of a script says, by itself.
+use Rattle.std.specs.Prelude.{ℕ, Bool, true, not, ◌&&◌, ◌||◌, List, [], ◌∷◌, ◌++◌, Option, Some, None, Result, Ok, Err, if◌then◌else◌, ◌==◌, nat_lt, nat_le, length, bytes_eq, codes, option_map}
+use Rattle.std.specs.Option.{ok_or}
+use Rattle.std.specs.List.{list_all, slice_split}
+use Rattle.nv_bytes.specs.Texts.{number_of, unhexed}
+use Rattle.nv_text.specs.Lines.{front, behind}
+use Rattle.nv_script.specs.declared.entry.Clock.{Clock}
+use Rattle.nv_script.specs.declared.fault.ScriptCause.{ScriptCause}
+use Rattle.nv_script.specs.declared.fault.ScriptCause.TheVariants.{Word, Shape, Range}
+use Rattle.nv_script.specs.declared.kind.Kind.{Kind}
+use Rattle.nv_script.specs.declared.kind.Kind.TheVariants as kind
+
+-- what a line says
+pub data Entry : Type 0 where
+  -- nothing: an empty line or a comment
+  Nothing : Entry
+  Argument : List ℕ → Entry
+  -- more input
+  Input : List ℕ → Entry
+  -- a file's name and its content
+  File : List ℕ → List ℕ → Entry
+  Time : Clock → Entry
+  Seed : ℕ → Entry
+
+-- ---- fields, which single spaces separate
+
+abbrev pub is_space : ℕ → Bool
+is_space b = b == 32
+
+abbrev pub is_not_space : ℕ → Bool
+is_not_space b = not (is_space b)
+
+abbrev pub word_of : List ℕ → List ℕ
+word_of line = front is_not_space line
+
+abbrev pub without_first : List ℕ → Option (List ℕ)
+without_first [] = None
+without_first (b ∷ bs) = Some bs
+
+-- what stands behind the first space, if there is one
+abbrev pub rest_of : List ℕ → Option (List ℕ)
+rest_of line = without_first (behind is_not_space line)
+
+unfoldable pub fields : List ℕ → List (List ℕ)
+fields text = slice_split is_space text
+
+-- ---- arguments and names of files
+
+-- 0x20 to 0x7E
+abbrev pub is_printable : ℕ → Bool
+is_printable b = nat_le 32 b && nat_le b 126
+
+unfoldable pub is_argument : List ℕ → Bool
+is_argument text = nat_lt 0 (length text) && list_all is_printable text
+
+-- 0x21 to 0x7E without `/`
+abbrev pub is_file_byte : ℕ → Bool
+is_file_byte b = nat_le 33 b && (nat_le b 126 && not (b == 47))
+
+abbrev pub is_dots : List ℕ → Bool
+is_dots name = bytes_eq name (codes ".") || bytes_eq name (codes "..")
+
+unfoldable pub is_file_name : List ℕ → Bool
+is_file_name name = nat_lt 0 (length name) && (nat_le (length name) 255 && (list_all is_file_byte name && not (is_dots name)))
+
+-- ---- lines
+
+-- the words that begin a line
+unfoldable pub kind_of : List ℕ → Option Kind
+kind_of word = if bytes_eq word (codes "arg") then Some kind.Argument
+    else (if bytes_eq word (codes "line") then Some kind.Line
+    else (if bytes_eq word (codes "input") then Some kind.Input
+    else (if bytes_eq word (codes "file") then Some kind.File
+    else (if bytes_eq word (codes "clock") then Some kind.Clock
+    else (if bytes_eq word (codes "random") then Some kind.Random
+    else None)))))
+
+-- an entry, where the line has its shape
+abbrev pub shaped : Option Entry → Result Entry ScriptCause
+shaped found = ok_or found Shape
+
+abbrev pub argument : List ℕ → Option Entry
+argument text = if is_argument text then Some (Argument text) else None
+
+abbrev pub file_with : List ℕ → Option (List ℕ) → Option Entry
+file_with name content = if is_file_name name then option_map (λ bytes. File name bytes) content else None
+
+-- `NAME HEX` or `NAME`
+abbrev pub file_of : List (List ℕ) → Option Entry
+file_of (name ∷ []) = file_with name (Some [])
+file_of (name ∷ hex ∷ []) = file_with name (unhexed hex)
+file_of _ = None
+
+-- at most 999,999,999 nanoseconds, and steps of at most 1,000,000,000
+abbrev pub clock_fits : Clock → Bool
+clock_fits clock = nat_le clock.nanos 999999999 && nat_le clock.step 1000000000
+
+abbrev pub clock_entry : Clock → Result Entry ScriptCause
+clock_entry clock = if clock_fits clock then Ok (Time clock) else Err Range
+
+abbrev pub clock_with : Option ℕ → Option ℕ → Option ℕ → Result Entry ScriptCause
+clock_with (Some seconds) (Some nanos) (Some step) = clock_entry (record { seconds = seconds; nanos = nanos; step = step })
+clock_with _ _ _ = Err Shape
+
+-- `S N STEP`
+abbrev pub clock_of : List (List ℕ) → Result Entry ScriptCause
+clock_of (seconds ∷ nanos ∷ step ∷ []) = clock_with (number_of seconds) (number_of nanos) (number_of step)
+clock_of _ = Err Shape
+
+-- a line by its kind and what stands behind the word's space
+abbrev pub entry_by : Kind → List ℕ → Result Entry ScriptCause
+entry_by kind.Argument rest = shaped (argument rest)
+entry_by kind.Line rest = Ok (Input (rest ++ codes "\n"))
+entry_by kind.Input rest = shaped (option_map Input (unhexed rest))
+entry_by kind.File rest = shaped (file_of (fields rest))
+entry_by kind.Clock rest = clock_of (fields rest)
+entry_by kind.Random rest = shaped (option_map Seed (number_of rest))
+
+abbrev pub entry_with : Option Kind → Option (List ℕ) → Result Entry ScriptCause
+entry_with None rest = Err Word
+entry_with (Some k) None = Err Shape
+entry_with (Some k) (Some rest) = entry_by k rest
+
+-- an empty line, and one that begins with `#`
+abbrev pub is_passed_over : List ℕ → Bool
+is_passed_over [] = true
+is_passed_over (b ∷ bs) = b == 35
+
+-- what a line behind the first says, or its first cause of these three
+unfoldable pub entry_of : List ℕ → Result Entry ScriptCause
+entry_of line = if is_passed_over line then Ok Nothing else entry_with (kind_of (word_of line)) (rest_of line)

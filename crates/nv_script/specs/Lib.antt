@@ -1,0 +1,5 @@
+pub mod Entries
+pub mod Scripts
+pub mod Views
+pub mod Sound
+pub mod Texts

@@ -1,0 +1,149 @@
+-- What a script means: what a run begins with, or the first faulty line with its first cause.
+use Rattle.std.specs.Prelude.{ℕ, Bool, true, not, ◌&&◌, List, [], ◌∷◌, ◌++◌, Option, Some, None, is_some, unwrap_or, Result, Ok, Err, if◌then◌else◌, nat_lt, nat_le, ◌+◌, ◌-◌, ◌^◌, min, length, bytes_eq, codes}
+use Rattle.std.specs.List.{list_all, list_any}
+use Rattle.nv_text.specs.Lines.{lines}
+use Rattle.nv_script.specs.declared.entry.Clock.{Clock}
+use Rattle.nv_script.specs.declared.fault.ScriptCause.{ScriptCause}
+use Rattle.nv_script.specs.declared.fault.ScriptCause.TheVariants.{Form, Twice, Long}
+use Rattle.nv_script.specs.declared.fault.ScriptFault.{ScriptFault}
+use Rattle.nv_script.specs.declared.fault.ScriptFault.TheVariants.{Line}
+use Rattle.nv_script.specs.Entries.{Entry, Nothing, Argument, Input, File, Time, Seed, is_argument, is_file_name, entry_of}
+
+-- a file's name and its content
+abbrev pub Named : Type 0
+Named = List ℕ × List ℕ
+
+-- what a run begins with
+pub record Setup : Type 0 where
+  pub arguments : List (List ℕ)
+  pub input : List ℕ
+  pub files : List Named
+  pub seconds : ℕ
+  pub nanos : ℕ
+  pub step : ℕ
+  pub seed : ℕ
+
+-- ---- line after line
+
+-- what the lines so far say
+pub record Draft : Type 0 where
+  pub arguments : List (List ℕ)
+  pub input : List ℕ
+  pub files : List Named
+  pub clock : Option Clock
+  pub seed : Option ℕ
+
+abbrev pub blank : Draft
+blank = record { arguments = []; input = []; files = []; clock = None; seed = None }
+
+abbrev pub has_name : List ℕ → List Named → Bool
+has_name name files = list_any (λ file. bytes_eq name file.0) files
+
+-- at most 256 arguments
+unfoldable pub with_argument : List ℕ → Draft → Result Draft ScriptCause
+with_argument text draft = if nat_lt (length draft.arguments) 256
+    then Ok (record draft { arguments = draft.arguments ++ text ∷ [] })
+    else Err Long
+
+abbrev pub with_input : List ℕ → Draft → Result Draft ScriptCause
+with_input bytes draft = Ok (record draft { input = draft.input ++ bytes })
+
+-- each name once, and at most 256 files of at most 1,048,576 bytes
+unfoldable pub with_file : List ℕ → List ℕ → Draft → Result Draft ScriptCause
+with_file name content draft = if has_name name draft.files then Err Twice
+    else (if nat_lt (length draft.files) 256 && nat_le (length content) 1048576
+    then Ok (record draft { files = draft.files ++ (name, content) ∷ [] })
+    else Err Long)
+
+-- one clock
+abbrev pub with_clock : Clock → Draft → Result Draft ScriptCause
+with_clock clock draft = if is_some draft.clock then Err Twice else Ok (record draft { clock = Some clock })
+
+-- one seed
+abbrev pub with_seed : ℕ → Draft → Result Draft ScriptCause
+with_seed seed draft = if is_some draft.seed then Err Twice else Ok (record draft { seed = Some seed })
+
+abbrev pub with_entry : Entry → Draft → Result Draft ScriptCause
+with_entry Nothing draft = Ok draft
+with_entry (Argument text) draft = with_argument text draft
+with_entry (Input bytes) draft = with_input bytes draft
+with_entry (File name content) draft = with_file name content draft
+with_entry (Time clock) draft = with_clock clock draft
+with_entry (Seed seed) draft = with_seed seed draft
+
+abbrev pub with_result : Result Entry ScriptCause → Draft → Result Draft ScriptCause
+with_result (Ok entry) draft = with_entry entry draft
+with_result (Err cause) draft = Err cause
+
+unfoldable pub with_line : List ℕ → Draft → Result Draft ScriptCause
+with_line line draft = with_result (entry_of line) draft
+
+-- the number of a line that so many are before; one past 32 bits is reported as the last of these
+abbrev pub line_number : ℕ → ℕ
+line_number n = min (n + 1) (2 ^ 32 - 1)
+
+abbrev pub onward : ℕ → Result Draft ScriptCause → (Draft → Result Draft ScriptFault) → Result Draft ScriptFault
+onward n (Ok draft) later = later draft
+onward n (Err cause) later = Err (Line (line_number n) cause)
+
+-- what lines behind n others make of a draft, or the first faulty line
+unfoldable pub drafted : ℕ → List (List ℕ) → Draft → Result Draft ScriptFault
+drafted n [] draft = Ok draft
+drafted n (line ∷ rest) draft = onward n (with_line line draft) (λ next. drafted (n + 1) rest next)
+
+-- ---- the whole text
+
+-- without a clock line it is 0 and stands still
+abbrev pub no_clock : Clock
+no_clock = record { seconds = 0; nanos = 0; step = 0 }
+
+abbrev pub setup_with : Clock → Draft → Setup
+setup_with clock draft = record {
+  arguments = draft.arguments;
+  input = draft.input;
+  files = draft.files;
+  seconds = clock.seconds;
+  nanos = clock.nanos;
+  step = clock.step;
+  seed = unwrap_or draft.seed 0;
+}
+
+abbrev pub finished : Draft → Setup
+finished draft = setup_with (unwrap_or draft.clock no_clock) draft
+
+abbrev pub finished_result : Result Draft ScriptFault → Result Setup ScriptFault
+finished_result (Ok draft) = Ok (finished draft)
+finished_result (Err fault) = Err fault
+
+abbrev pub is_first : List ℕ → Bool
+is_first line = bytes_eq line (codes "varan-script 1")
+
+abbrev pub no_form : Result Setup ScriptFault
+no_form = Err (Line 1 Form)
+
+abbrev pub script_of_lines : List (List ℕ) → Result Setup ScriptFault
+script_of_lines [] = no_form
+script_of_lines (first ∷ rest) = if is_first first then finished_result (drafted 1 rest blank) else no_form
+
+-- what a script means
+unfoldable pub script_of : List ℕ → Result Setup ScriptFault
+script_of bytes = script_of_lines (lines bytes)
+
+-- ---- what every script keeps to
+
+abbrev pub is_file : Named → Bool
+is_file file = is_file_name file.0 && nat_le (length file.1) 1048576
+
+-- no two files have one name
+abbrev pub are_distinct : List Named → Bool
+are_distinct [] = true
+are_distinct (file ∷ files) = not (has_name file.0 files) && are_distinct files
+
+-- at most 256 files, of at most 1,048,576 bytes each, by names that differ
+unfoldable pub are_files : List Named → Bool
+are_files files = nat_le (length files) 256 && (list_all is_file files && are_distinct files)
+
+-- at most 256 arguments, files as above, and numbers within their limits
+unfoldable pub is_script : Setup → Bool
+is_script setup = nat_le (length setup.arguments) 256 && (list_all is_argument setup.arguments && (are_files setup.files
+    && (nat_lt setup.seconds (2 ^ 32) && (nat_le setup.nanos 999999999 && (nat_le setup.step 1000000000 && nat_lt setup.seed (2 ^ 32))))))

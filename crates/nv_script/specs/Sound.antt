@@ -1,0 +1,329 @@
+-- Every script that a text says keeps to the limits.
+use Rattle.std.proofs.Common.{◌≡◌, ℕ, ◌+◌, ◌^◌, ◌<◌, ◌≤◌, Bool, true, false, not, cond, ◌&&◌, nat_lt, nat_le, List, [], ◌∷◌, ◌++◌, Option, Some, None, is_some, unwrap_or, option_map, Result, Ok, Err, codes, length, sym, ap, refl, ◌∙◌, arith, length-append, subst, bytes_eq}
+use Rattle.std.specs.Char.{is_ascii_digit}
+use Rattle.std.specs.List.{list_all}
+use Rattle.std.specs.Str.Parse.{digits_value}
+use Rattle.std.proofs.lemmas.Bool.{and_parts, and_from, or_parts}
+use Rattle.std.proofs.lemmas.Bool.Decides.{nat_tests}
+use Rattle.std.proofs.lemmas.List.Folds.{list_all-append, list_any-append}
+use Rattle.std.proofs.lemmas.Slice.Eq.{bytes_eq-Decides}
+use Rattle.nv_bytes.specs.Texts.{number_of, unhexed}
+use Rattle.nv_text.specs.Lines.{lines}
+use Rattle.nv_script.specs.declared.entry.Clock.{Clock}
+use Rattle.nv_script.specs.declared.fault.ScriptCause.{ScriptCause}
+use Rattle.nv_script.specs.declared.fault.ScriptCause.TheVariants.{Range, Twice, Long}
+use Rattle.nv_script.specs.declared.fault.ScriptFault.{ScriptFault}
+use Rattle.nv_script.specs.declared.kind.Kind.{Kind}
+use Rattle.nv_script.specs.declared.kind.Kind.TheVariants as kind
+use Rattle.nv_script.specs.Entries.{Entry, Nothing, Argument, Input, File, Time, Seed, argument, is_argument, is_file_name, is_passed_over, clock_fits, clock_entry, clock_with, clock_of, file_with, file_of, fields, shaped, entry_by, entry_with, entry_of, kind_of, word_of, rest_of}
+use Rattle.nv_script.specs.Scripts.{Named, Setup, Draft, blank, has_name, with_argument, with_file, with_clock, with_seed, with_entry, with_result, with_line, onward, drafted, no_clock, finished, finished_result, is_first, no_form, script_of_lines, script_of, is_file, are_distinct, are_files, is_script}
+
+-- ---- the parts of the two tests
+
+pub record FilesKeep (files : List Named) : Type 0 where
+  pub few : length files ≤ 256
+  pub sound : list_all is_file files ≡ true
+  pub distinct : are_distinct files ≡ true
+
+pub files-keep : (files : List Named) → are_files files ≡ true → FilesKeep files
+unfolding are_files
+files-keep files e =
+    let parts = and_parts (nat_le (length files) 256) _ e in
+    let rest = and_parts (list_all is_file files) _ parts.1 in
+    let few : length files ≤ 256 = grind (arith, nat_tests) in
+    record { few = few; sound = rest.0; distinct = rest.1 }
+
+pub are_files-from : (files : List Named) → FilesKeep files → are_files files ≡ true
+unfolding are_files
+are_files-from files k =
+    let few : nat_le (length files) 256 ≡ true = grind (arith, nat_tests) in
+    and_from _ _ few (and_from _ _ k.sound k.distinct)
+
+pub record ScriptKeeps (setup : Setup) : Type 0 where
+  pub arguments : length setup.arguments ≤ 256
+  pub texts : list_all is_argument setup.arguments ≡ true
+  pub files : are_files setup.files ≡ true
+  pub seconds : setup.seconds < 2 ^ 32
+  pub nanos : setup.nanos ≤ 999999999
+  pub step : setup.step ≤ 1000000000
+  pub seed : setup.seed < 2 ^ 32
+
+pub script-keeps : (setup : Setup) → is_script setup ≡ true → ScriptKeeps setup
+unfolding is_script
+script-keeps setup e =
+    let a = and_parts (nat_le (length setup.arguments) 256) _ e in
+    let b = and_parts (list_all is_argument setup.arguments) _ a.1 in
+    let c = and_parts (are_files setup.files) _ b.1 in
+    let d = and_parts (nat_lt setup.seconds (2 ^ 32)) _ c.1 in
+    let f = and_parts (nat_le setup.nanos 999999999) _ d.1 in
+    let g = and_parts (nat_le setup.step 1000000000) _ f.1 in
+    let arguments : length setup.arguments ≤ 256 = grind (arith, nat_tests) in
+    let seconds : setup.seconds < 2 ^ 32 = grind (arith, nat_tests) in
+    let nanos : setup.nanos ≤ 999999999 = grind (arith, nat_tests) in
+    let step : setup.step ≤ 1000000000 = grind (arith, nat_tests) in
+    let seed : setup.seed < 2 ^ 32 = grind (arith, nat_tests) in
+    record { arguments = arguments; texts = b.0; files = c.0; seconds = seconds; nanos = nanos; step = step; seed = seed }
+
+pub is_script-from : (setup : Setup) → ScriptKeeps setup → is_script setup ≡ true
+unfolding is_script
+is_script-from setup k =
+    let arguments : nat_le (length setup.arguments) 256 ≡ true = grind (arith, nat_tests) in
+    let seconds : nat_lt setup.seconds (2 ^ 32) ≡ true = grind (arith, nat_tests) in
+    let nanos : nat_le setup.nanos 999999999 ≡ true = grind (arith, nat_tests) in
+    let step : nat_le setup.step 1000000000 ≡ true = grind (arith, nat_tests) in
+    let seed : nat_lt setup.seed (2 ^ 32) ≡ true = grind (arith, nat_tests) in
+    and_from _ _ arguments (and_from _ _ k.texts (and_from _ _ k.files (and_from _ _ seconds (and_from _ _ nanos (and_from _ _ step seed)))))
+
+-- ---- what a line says
+
+abbrev clock_sound : Clock → Bool
+clock_sound clock = nat_lt clock.seconds (2 ^ 32) && clock_fits clock
+
+abbrev seed_sound : ℕ → Bool
+seed_sound seed = nat_lt seed (2 ^ 32)
+
+abbrev entry_sound : Entry → Bool
+entry_sound Nothing = true
+entry_sound (Argument text) = is_argument text
+entry_sound (Input bytes) = true
+entry_sound (File name content) = is_file_name name
+entry_sound (Time clock) = clock_sound clock
+entry_sound (Seed seed) = seed_sound seed
+
+sound-along : (e f : Entry) → entry_sound e ≡ true → e ≡ f → entry_sound f ≡ true
+sound-along e f h same = ap entry_sound (sym same) ∙ h
+
+number_of-fits : (text : List ℕ) (n : ℕ) → number_of text ≡ Some n → nat_lt n (2 ^ 32) ≡ true
+unfolding number_of
+number_of-fits text n e = step (list_all is_ascii_digit text && nat_lt 0 (length text) && nat_lt (digits_value 10 text) (2 ^ 32)) refl e where
+  step : (x : Bool) → (list_all is_ascii_digit text && nat_lt 0 (length text) && nat_lt (digits_value 10 text) (2 ^ 32)) ≡ x → cond x (Some (digits_value 10 text)) None ≡ Some n → nat_lt n (2 ^ 32) ≡ true
+  step true fits h =
+      let same : digits_value 10 text ≡ n = cc in
+      subst (λ (m : ℕ). nat_lt m (2 ^ 32) ≡ true) same (and_parts (list_all is_ascii_digit text && nat_lt 0 (length text)) _ fits).1
+  step false fits h = cc
+
+-- an optional entry, in its shape
+abbrev found_sound : Option Entry → Bool
+found_sound None = true
+found_sound (Some e) = entry_sound e
+
+shaped-sound : (found : Option Entry) (e : Entry) → found_sound found ≡ true → shaped found ≡ Ok e → entry_sound e ≡ true
+shaped-sound None e sound h = cc
+shaped-sound (Some f) e sound h = sound-along f e sound cc
+
+argument-sound : (text : List ℕ) → found_sound (argument text) ≡ true
+argument-sound text = step (is_argument text) refl where
+  step : (x : Bool) → is_argument text ≡ x → found_sound (cond x (Some (Argument text)) None) ≡ true
+  step true sound = sound
+  step false sound = refl
+
+input-sound : (content : Option (List ℕ)) → found_sound (option_map Input content) ≡ true
+input-sound None = refl
+input-sound (Some bytes) = refl
+
+file_with-sound : (name : List ℕ) (content : Option (List ℕ)) → found_sound (file_with name content) ≡ true
+file_with-sound name content = step (is_file_name name) content refl where
+  step : (x : Bool) (content : Option (List ℕ)) → is_file_name name ≡ x → found_sound (cond x (option_map (λ bytes. File name bytes) content) None) ≡ true
+  step true None sound = refl
+  step true (Some bytes) sound = sound
+  step false content sound = refl
+
+file_of-sound : (texts : List (List ℕ)) → found_sound (file_of texts) ≡ true
+file_of-sound [] = refl
+file_of-sound (name ∷ []) = file_with-sound name (Some [])
+file_of-sound (name ∷ hex ∷ []) = file_with-sound name (unhexed hex)
+file_of-sound (name ∷ hex ∷ more ∷ texts) = refl
+
+clock_entry-sound : (clock : Clock) (e : Entry) → nat_lt clock.seconds (2 ^ 32) ≡ true → clock_entry clock ≡ Ok e → entry_sound e ≡ true
+clock_entry-sound clock e seconds h = step (clock_fits clock) refl h where
+  step : (x : Bool) → clock_fits clock ≡ x → cond x (Ok (Time clock)) (Err Range) ≡ Ok e → entry_sound e ≡ true
+  step true fits h = sound-along (Time clock) e (and_from _ _ seconds fits) cc
+  step false fits h = cc
+
+clock_with-sound : (seconds nanos step : Option ℕ) (e : Entry) → ((n : ℕ) → seconds ≡ Some n → nat_lt n (2 ^ 32) ≡ true) → clock_with seconds nanos step ≡ Ok e → entry_sound e ≡ true
+clock_with-sound None nanos step e fits h = cc
+clock_with-sound (Some s) None step e fits h = cc
+clock_with-sound (Some s) (Some n) None e fits h = cc
+clock_with-sound (Some s) (Some n) (Some t) e fits h = clock_entry-sound (record { seconds = s; nanos = n; step = t }) e (fits s refl) h
+
+clock_of-sound : (texts : List (List ℕ)) (e : Entry) → clock_of texts ≡ Ok e → entry_sound e ≡ true
+clock_of-sound [] e h = cc
+clock_of-sound (s ∷ []) e h = cc
+clock_of-sound (s ∷ n ∷ []) e h = cc
+clock_of-sound (s ∷ n ∷ t ∷ []) e h = clock_with-sound (number_of s) (number_of n) (number_of t) e (number_of-fits s) h
+clock_of-sound (s ∷ n ∷ t ∷ more ∷ texts) e h = cc
+
+seed-sound : (seed : Option ℕ) → ((n : ℕ) → seed ≡ Some n → nat_lt n (2 ^ 32) ≡ true) → found_sound (option_map Seed seed) ≡ true
+seed-sound None fits = refl
+seed-sound (Some n) fits = fits n refl
+
+entry_by-sound : (k : Kind) (rest : List ℕ) (e : Entry) → entry_by k rest ≡ Ok e → entry_sound e ≡ true
+entry_by-sound kind.Argument rest e h = shaped-sound (argument rest) e (argument-sound rest) h
+entry_by-sound kind.Line rest e h = sound-along (Input (rest ++ codes "\n")) e refl cc
+entry_by-sound kind.Input rest e h = shaped-sound (option_map Input (unhexed rest)) e (input-sound (unhexed rest)) h
+entry_by-sound kind.File rest e h = shaped-sound (file_of (fields rest)) e (file_of-sound (fields rest)) h
+entry_by-sound kind.Clock rest e h = clock_of-sound (fields rest) e h
+entry_by-sound kind.Random rest e h = shaped-sound (option_map Seed (number_of rest)) e (seed-sound (number_of rest) (number_of-fits rest)) h
+
+entry_with-sound : (k : Option Kind) (rest : Option (List ℕ)) (e : Entry) → entry_with k rest ≡ Ok e → entry_sound e ≡ true
+entry_with-sound None rest e h = cc
+entry_with-sound (Some k) None e h = cc
+entry_with-sound (Some k) (Some rest) e h = entry_by-sound k rest e h
+
+entry_of-sound : (line : List ℕ) (e : Entry) → entry_of line ≡ Ok e → entry_sound e ≡ true
+unfolding entry_of
+entry_of-sound line e h = step (is_passed_over line) h where
+  step : (x : Bool) → cond x (Ok Nothing) (entry_with (kind_of (word_of line)) (rest_of line)) ≡ Ok e → entry_sound e ≡ true
+  step true h = sound-along Nothing e refl cc
+  step false h = entry_with-sound (kind_of (word_of line)) (rest_of line) e h
+
+-- ---- files with one more
+
+same_test : (a b : List ℕ) → bytes_eq a b ≡ false → bytes_eq b a ≡ false
+same_test a b e = step (bytes_eq b a) refl where
+  step : (x : Bool) → bytes_eq b a ≡ x → x ≡ false
+  step true same = let other = (bytes_eq-Decides a b).1 (sym ((bytes_eq-Decides b a).0 same)) in cc
+  step false same = refl
+
+has_name-more : (name : List ℕ) (files : List Named) (file : Named) → has_name name files ≡ false → bytes_eq name file.0 ≡ false → has_name name (files ++ file ∷ []) ≡ false
+has_name-more name files file before here =
+    list_any-append (λ (f : Named). bytes_eq name f.0) files (file ∷ []) ∙ rw (before, here) refl
+
+are_distinct-more : (files : List Named) (file : Named) → are_distinct files ≡ true → has_name file.0 files ≡ false → are_distinct (files ++ file ∷ []) ≡ true
+are_distinct-more [] file distinct new = refl
+are_distinct-more (f ∷ files) file distinct new =
+    let parts = and_parts (not (has_name f.0 files)) (are_distinct files) distinct in
+    let apart = or_parts (bytes_eq file.0 f.0) (has_name file.0 files) new in
+    let none : has_name f.0 files ≡ false = not_true (has_name f.0 files) parts.0 in
+    and_from _ _ (ap not (has_name-more f.0 files file none (same_test file.0 f.0 apart.0))) (are_distinct-more files file parts.1 apart.1) where
+      not_true : (x : Bool) → not x ≡ true → x ≡ false
+      not_true true e = cc
+      not_true false e = refl
+
+files-more : (files : List Named) (file : Named) → FilesKeep files → length files < 256 → is_file file ≡ true → has_name file.0 files ≡ false → FilesKeep (files ++ file ∷ [])
+files-more files file k room sound new =
+    record {
+      few = omega (arith, length-append files (file ∷ []));
+      sound = list_all-append is_file files (file ∷ []) ∙ and_from _ _ k.sound (and_from _ _ sound refl);
+      distinct = are_distinct-more files file k.distinct new;
+    }
+
+-- ---- drafts
+
+record DraftKeeps (draft : Draft) : Type 0 where
+  pub arguments : length draft.arguments ≤ 256
+  pub texts : list_all is_argument draft.arguments ≡ true
+  pub files : FilesKeep draft.files
+  pub clock : clock_sound (unwrap_or draft.clock no_clock) ≡ true
+  pub seed : seed_sound (unwrap_or draft.seed 0) ≡ true
+
+blank-keeps : DraftKeeps blank
+blank-keeps = record { arguments = omega arith; texts = refl; files = record { few = omega arith; sound = refl; distinct = refl }; clock = refl; seed = refl }
+
+keeps-along : (d e : Draft) → DraftKeeps d → d ≡ e → DraftKeeps e
+keeps-along d e k same = subst DraftKeeps same k
+
+argument-keeps : (text : List ℕ) (d e : Draft) → DraftKeeps d → is_argument text ≡ true → with_argument text d ≡ Ok e → DraftKeeps e
+unfolding with_argument
+argument-keeps text d e k sound h = step (nat_lt (length d.arguments) 256) refl h where
+  step : (x : Bool) → nat_lt (length d.arguments) 256 ≡ x → cond x (Ok (record d { arguments = d.arguments ++ text ∷ [] })) (Err Long) ≡ Ok e → DraftKeeps e
+  step true room h =
+      let below : length d.arguments < 256 = grind (arith, nat_tests) in
+      keeps-along (record d { arguments = d.arguments ++ text ∷ [] }) e
+      (record {
+        arguments = omega (arith, length-append d.arguments (text ∷ []));
+        texts = list_all-append is_argument d.arguments (text ∷ []) ∙ and_from _ _ k.texts (and_from _ _ sound refl);
+        files = k.files;
+        clock = k.clock;
+        seed = k.seed;
+      }) cc
+  step false room h = cc
+
+input-keeps : (d e : Draft) (bytes : List ℕ) → DraftKeeps d → record d { input = d.input ++ bytes } ≡ e → DraftKeeps e
+input-keeps d e bytes k same = keeps-along _ e (record { arguments = k.arguments; texts = k.texts; files = k.files; clock = k.clock; seed = k.seed }) same
+
+file-keeps : (name content : List ℕ) (d e : Draft) → DraftKeeps d → is_file_name name ≡ true → with_file name content d ≡ Ok e → DraftKeeps e
+unfolding with_file
+file-keeps name content d e k sound h = step (has_name name d.files) (nat_lt (length d.files) 256 && nat_le (length content) 1048576) refl refl h where
+  step : (x y : Bool) → has_name name d.files ≡ x → (nat_lt (length d.files) 256 && nat_le (length content) 1048576) ≡ y
+      → cond x (Err Twice) (cond y (Ok (record d { files = d.files ++ (name, content) ∷ [] })) (Err Long)) ≡ Ok e → DraftKeeps e
+  step true y new room h = cc
+  step false true new room h =
+      let parts = and_parts (nat_lt (length d.files) 256) _ room in
+      let below : length d.files < 256 = grind (arith, nat_tests) in
+      keeps-along (record d { files = d.files ++ (name, content) ∷ [] }) e
+      (record {
+        arguments = k.arguments;
+        texts = k.texts;
+        files = files-more d.files (name, content) k.files below (and_from _ _ sound parts.1) new;
+        clock = k.clock;
+        seed = k.seed;
+      }) cc
+  step false false new room h = cc
+
+clock-keeps : (clock : Clock) (d e : Draft) → DraftKeeps d → clock_sound clock ≡ true → with_clock clock d ≡ Ok e → DraftKeeps e
+clock-keeps clock d e k sound h = step (is_some d.clock) h where
+  step : (x : Bool) → cond x (Err Twice) (Ok (record d { clock = Some clock })) ≡ Ok e → DraftKeeps e
+  step true h = cc
+  step false h = keeps-along (record d { clock = Some clock }) e (record { arguments = k.arguments; texts = k.texts; files = k.files; clock = sound; seed = k.seed }) cc
+
+seed-keeps : (seed : ℕ) (d e : Draft) → DraftKeeps d → seed_sound seed ≡ true → with_seed seed d ≡ Ok e → DraftKeeps e
+seed-keeps seed d e k sound h = step (is_some d.seed) h where
+  step : (x : Bool) → cond x (Err Twice) (Ok (record d { seed = Some seed })) ≡ Ok e → DraftKeeps e
+  step true h = cc
+  step false h = keeps-along (record d { seed = Some seed }) e (record { arguments = k.arguments; texts = k.texts; files = k.files; clock = k.clock; seed = sound }) cc
+
+entry-keeps : (entry : Entry) (d e : Draft) → DraftKeeps d → entry_sound entry ≡ true → with_entry entry d ≡ Ok e → DraftKeeps e
+entry-keeps Nothing d e k sound h = keeps-along d e k cc
+entry-keeps (Argument text) d e k sound h = argument-keeps text d e k sound h
+entry-keeps (Input bytes) d e k sound h = input-keeps d e bytes k cc
+entry-keeps (File name content) d e k sound h = file-keeps name content d e k sound h
+entry-keeps (Time clock) d e k sound h = clock-keeps clock d e k sound h
+entry-keeps (Seed seed) d e k sound h = seed-keeps seed d e k sound h
+
+result-keeps : (r : Result Entry ScriptCause) (d e : Draft) → DraftKeeps d → ((entry : Entry) → r ≡ Ok entry → entry_sound entry ≡ true) → with_result r d ≡ Ok e → DraftKeeps e
+result-keeps (Ok entry) d e k sound h = entry-keeps entry d e k (sound entry refl) h
+result-keeps (Err cause) d e k sound h = cc
+
+line-keeps : (line : List ℕ) (d e : Draft) → DraftKeeps d → with_line line d ≡ Ok e → DraftKeeps e
+unfolding with_line
+line-keeps line d e k h = result-keeps (entry_of line) d e k (entry_of-sound line) h
+
+drafted-keeps : (n : ℕ) (lines : List (List ℕ)) (d e : Draft) → DraftKeeps d → drafted n lines d ≡ Ok e → DraftKeeps e
+unfolding drafted
+drafted-keeps n [] d e k h = keeps-along d e k cc
+drafted-keeps n (line ∷ lines) d e k h = step (with_line line d) refl h (drafted-keeps (n + 1) lines) where
+  step : (r : Result Draft ScriptCause) → with_line line d ≡ r → onward n r (λ next. drafted (n + 1) lines next) ≡ Ok e
+      → ((d e : Draft) → DraftKeeps d → drafted (n + 1) lines d ≡ Ok e → DraftKeeps e) → DraftKeeps e
+  step (Ok next) is h later = later next e (line-keeps line d next k is) h
+  step (Err cause) is h later = cc
+
+-- ---- the whole script
+
+finished-keeps : (d : Draft) → DraftKeeps d → ScriptKeeps (finished d)
+finished-keeps d k =
+    let clock = and_parts (nat_lt (unwrap_or d.clock no_clock).seconds (2 ^ 32)) _ k.clock in
+    let fits = and_parts (nat_le (unwrap_or d.clock no_clock).nanos 999999999) _ clock.1 in
+    let seconds : (unwrap_or d.clock no_clock).seconds < 2 ^ 32 = grind (arith, nat_tests) in
+    let nanos : (unwrap_or d.clock no_clock).nanos ≤ 999999999 = grind (arith, nat_tests) in
+    let step : (unwrap_or d.clock no_clock).step ≤ 1000000000 = grind (arith, nat_tests) in
+    let seed : unwrap_or d.seed 0 < 2 ^ 32 = grind (arith, nat_tests) in
+    record { arguments = k.arguments; texts = k.texts; files = are_files-from d.files k.files; seconds = seconds; nanos = nanos; step = step; seed = seed }
+
+finished-script : (r : Result Draft ScriptFault) (s : Setup) → ((d : Draft) → r ≡ Ok d → DraftKeeps d) → finished_result r ≡ Ok s → is_script s ≡ true
+finished-script (Ok d) s keeps h =
+    let same : finished d ≡ s = cc in
+    subst (λ (t : Setup). is_script t ≡ true) same (is_script-from (finished d) (finished-keeps d (keeps d refl)))
+finished-script (Err fault) s keeps h = cc
+
+lines-script : (lines : List (List ℕ)) (s : Setup) → script_of_lines lines ≡ Ok s → is_script s ≡ true
+lines-script [] s h = cc
+lines-script (first ∷ rest) s h = step (is_first first) h where
+  step : (x : Bool) → cond x (finished_result (drafted 1 rest blank)) no_form ≡ Ok s → is_script s ≡ true
+  step true h = finished-script (drafted 1 rest blank) s (λ d e. drafted-keeps 1 rest blank d blank-keeps e) h
+  step false h = cc
+
+-- every script that a text says keeps to the limits
+pub script_of-keeps : (bytes : List ℕ) (s : Setup) → script_of bytes ≡ Ok s → is_script s ≡ true
+unfolding script_of
+script_of-keeps bytes s h = lines-script (lines bytes) s h

@@ -1,0 +1,220 @@
+// What a line of a script says.
+ghost use Rattle.std.specs.Prelude.{◌≡◌, option_map, IfOk};
+ghost use Rattle.std.specs.List.{list_all};
+ghost use Rattle.nv_bytes.specs.Texts.{number_of, unhexed};
+ghost use Rattle.nv_script.specs.Entries as rule;
+ghost use Rattle.nv_script.specs.Entries.{is_printable, is_argument, is_file_byte, is_dots, is_file_name, is_passed_over, fields, argument, file_with, file_of, clock_entry, clock_with, clock_of, shaped, entry_by, entry_of};
+ghost use Rattle.nv_script.specs.Views.{found_view, result_view};
+
+use crate::fault::ScriptCause;
+use crate::fields::{is, split_field};
+use crate::kind::{Kind, kind_of};
+use nv_bytes::{number, unhex};
+use std::alloc::{AllocError, Global};
+
+/// When the clock begins, and how many nanoseconds it goes on with each logged call.
+#[derive(Clone, Copy, Debug, PartialEq, Eq)]
+pub struct Clock {
+    pub seconds: u32,
+    pub nanos: u32,
+    pub step: u32,
+}
+
+/// What a line says.
+#[derive(Drop)]
+pub enum Entry<'a> {
+    /// An empty line or a comment.
+    Nothing,
+    Argument(&'a [u8]),
+    /// Input of this text and a newline.
+    Line(&'a [u8]),
+    Input(Vec<u8>),
+    /// A file's name and its content.
+    File(&'a [u8], Vec<u8>),
+    Clock(Clock),
+    Seed(u32),
+}
+
+const MOST_NANOS: u32 = 999_999_999;
+
+const MOST_STEP: u32 = 1_000_000_000;
+
+const MOST_NAME_BYTES: usize = 255;
+
+fn are_printable(text: &[u8]) -> bool
+    ensures { result ≡ list_all is_printable text.now }
+{
+    text.iter().all(|byte| *byte >= b' ' && *byte <= b'~')
+}
+
+#[tactic(auto, unfolding(crate::specs::Entries::is_argument))]
+fn is_argument(text: &[u8]) -> bool
+    ensures { result ≡ is_argument text.now }
+{
+    !text.is_empty() && are_printable(text)
+}
+
+fn are_file_bytes(name: &[u8]) -> bool
+    ensures { result ≡ list_all is_file_byte name.now }
+{
+    name.iter()
+        .all(|byte| *byte >= b'!' && *byte <= b'~' && *byte != b'/')
+}
+
+fn is_dots(name: &[u8]) -> bool
+    ensures { result ≡ is_dots name.now }
+{
+    is(name, ".") || is(name, "..")
+}
+
+#[tactic(auto, unfolding(crate::specs::Entries::is_file_name))]
+fn is_file_name(name: &[u8]) -> bool
+    ensures { result ≡ is_file_name name.now }
+{
+    !name.is_empty() && name.len() <= MOST_NAME_BYTES && are_file_bytes(name) && !is_dots(name)
+}
+
+fn is_passed_over(line: &[u8]) -> bool
+    ensures { result ≡ is_passed_over line.now }
+{
+    match line {
+        [] => true,
+        [first, ..] => *first == b'#',
+    }
+}
+
+fn read_argument(text: &[u8]) -> Option<Entry<'_>>
+    ensures { found_view result ≡ argument text.now }
+{
+    if is_argument(text) {
+        Some(Entry::Argument(text))
+    } else {
+        None
+    }
+}
+
+fn read_input<'a>(alloc: Global, hex: &[u8]) -> Result<Option<Entry<'a>>, AllocError>
+    ensures { IfOk result (λ entry. found_view entry ≡ option_map rule.Input (unhexed hex.now)) }
+{
+    match unhex(alloc, hex)? {
+        Some(bytes) => Ok(Some(Entry::Input(bytes))),
+        None => Ok(None),
+    }
+}
+
+fn file_with(name: &[u8], content: Option<Vec<u8>>) -> Option<Entry<'_>>
+    ensures { found_view result ≡ file_with name.now (option_map (λ bytes. bytes.items) content) }
+{
+    match content {
+        Some(content) if is_file_name(name) => Some(Entry::File(name, content)),
+        _ => None,
+    }
+}
+
+// `NAME HEX` or `NAME`.
+fn read_file(alloc: Global, text: &[u8]) -> Result<Option<Entry<'_>>, AllocError>
+    ensures { IfOk result (λ entry. found_view entry ≡ file_of (fields text.now)) }
+{
+    let (name, rest) = split_field(text);
+    let Some(rest) = rest else {
+        return Ok(file_with(name, Some(Vec::new(alloc))));
+    };
+    match split_field(rest) {
+        (hex, None) => Ok(file_with(name, unhex(alloc, hex)?)),
+        (_, Some(_)) => Ok(None),
+    }
+}
+
+fn clock_entry<'a>(clock: Clock) -> Result<Entry<'a>, ScriptCause>
+    ensures { result_view result ≡ clock_entry clock }
+{
+    if clock.nanos <= MOST_NANOS && clock.step <= MOST_STEP {
+        Ok(Entry::Clock(clock))
+    } else {
+        Err(ScriptCause::Range)
+    }
+}
+
+fn clock_with<'a>(
+    seconds: Option<u32>,
+    nanos: Option<u32>,
+    step: Option<u32>,
+) -> Result<Entry<'a>, ScriptCause>
+    ensures { result_view result ≡ clock_with seconds nanos step }
+{
+    match (seconds, nanos, step) {
+        (Some(seconds), Some(nanos), Some(step)) => clock_entry(Clock {
+            seconds,
+            nanos,
+            step,
+        }),
+        _ => Err(ScriptCause::Shape),
+    }
+}
+
+// `S N STEP`.
+fn read_clock<'a>(text: &[u8]) -> Result<Entry<'a>, ScriptCause>
+    ensures { result_view result ≡ clock_of (fields text.now) }
+{
+    let (seconds, rest) = split_field(text);
+    let Some(rest) = rest else {
+        return Err(ScriptCause::Shape);
+    };
+    let (nanos, rest) = split_field(rest);
+    let Some(rest) = rest else {
+        return Err(ScriptCause::Shape);
+    };
+    match split_field(rest) {
+        (step, None) => clock_with(number(seconds), number(nanos), number(step)),
+        (_, Some(_)) => Err(ScriptCause::Shape),
+    }
+}
+
+fn read_seed<'a>(text: &[u8]) -> Option<Entry<'a>>
+    ensures { found_view result ≡ option_map rule.Seed (number_of text.now) }
+{
+    match number(text) {
+        Some(seed) => Some(Entry::Seed(seed)),
+        None => None,
+    }
+}
+
+fn shaped(entry: Option<Entry<'_>>) -> Result<Entry<'_>, ScriptCause>
+    ensures { result_view result ≡ shaped (found_view entry.entry) }
+{
+    entry.ok_or(ScriptCause::Shape)
+}
+
+// A line by its kind and what stands behind the word's space.
+fn entry_by(
+    alloc: Global,
+    kind: Kind,
+    rest: &[u8],
+) -> Result<Result<Entry<'_>, ScriptCause>, AllocError>
+    ensures { IfOk result (λ entry. result_view entry ≡ entry_by kind rest.now) }
+{
+    match kind {
+        Kind::Argument => Ok(shaped(read_argument(rest))),
+        Kind::Line => Ok(Ok(Entry::Line(rest))),
+        Kind::Input => Ok(shaped(read_input(alloc, rest)?)),
+        Kind::File => Ok(shaped(read_file(alloc, rest)?)),
+        Kind::Clock => Ok(read_clock(rest)),
+        Kind::Random => Ok(shaped(read_seed(rest))),
+    }
+}
+
+/// What a line behind the first says, or its first cause of those that the line has by itself.
+#[tactic(auto, unfolding(crate::specs::Entries::entry_of))]
+pub fn entry_of(alloc: Global, line: &[u8]) -> Result<Result<Entry<'_>, ScriptCause>, AllocError>
+    ensures { IfOk result (λ entry. result_view entry ≡ entry_of line.now) }
+{
+    if is_passed_over(line) {
+        return Ok(Ok(Entry::Nothing));
+    }
+    let (word, rest) = split_field(line);
+    match (kind_of(word), rest) {
+        (None, _) => Ok(Err(ScriptCause::Word)),
+        (Some(_), None) => Ok(Err(ScriptCause::Shape)),
+        (Some(kind), Some(rest)) => entry_by(alloc, kind, rest),
+    }
+}

@@ -1,0 +1,83 @@
+// Why a script is refused.
+ghost use Rattle.std.specs.Prelude.{◌≡◌, Some};
+ghost use Rattle.nv_script.specs.Texts.{cause_word, fault_text};
+ghost use Rattle.nv_script.specs.declared.fault.ScriptFault.TheVariants.{Memory};
+
+use std::alloc::{AllocError, AllocFailed};
+use std::fmt;
+
+/// Why a line of a script is refused. Of several causes the first in this order is told.
+#[derive(Clone, Copy, Debug, PartialEq, Eq)]
+pub enum ScriptCause {
+    /// The first line isn't `varan-script 1`, or there is none.
+    Form,
+    /// The first word is none of a script's.
+    Word,
+    /// Wrong fields, a byte off its range, or a number or a hexadecimal text that isn't one.
+    Shape,
+    /// A number above its limit.
+    Range,
+    /// A second clock or seed, or a file's name that was used before.
+    Twice,
+    /// More than 256 arguments or 256 files, or a file of more than 1,048,576 bytes.
+    Long,
+}
+
+/// Why a script is refused.
+#[derive(Clone, Copy, Debug, PartialEq, Eq)]
+pub enum ScriptFault {
+    /// The first faulty line, counted from 1, and its first cause.
+    Line(u32, ScriptCause),
+    Memory,
+}
+
+impl ScriptCause {
+    /// The word that a refusal is told by.
+    pub fn as_str(&self) -> &'static str
+        ensures { result.now ≡ cause_word self.now }
+    {
+        match self {
+            ScriptCause::Form => "form",
+            ScriptCause::Word => "word",
+            ScriptCause::Shape => "shape",
+            ScriptCause::Range => "range",
+            ScriptCause::Twice => "twice",
+            ScriptCause::Long => "long",
+        }
+    }
+}
+
+impl fmt::Display for ScriptCause {
+    ghost output = { λ cause. Some (cause_word cause) };
+
+    fn fmt<W: fmt::Write>(&self, f: &mut fmt::Formatter<W>) -> fmt::Result {
+        f.write_str(self.as_str())
+    }
+}
+
+impl fmt::Display for ScriptFault {
+    ghost output = { λ fault. Some (fault_text fault) };
+
+    fn fmt<W: fmt::Write>(&self, f: &mut fmt::Formatter<W>) -> fmt::Result {
+        match self {
+            ScriptFault::Line(line, cause) => write!(f, "line {line} {cause}"),
+            ScriptFault::Memory => f.write_str("memory"),
+        }
+    }
+}
+
+impl From<AllocError> for ScriptFault {
+    ghost from_gives = { λ _ fault. fault ≡ Memory };
+
+    fn from(_: AllocError) -> Self {
+        ScriptFault::Memory
+    }
+}
+
+impl<T: Drop> From<AllocFailed<T>> for ScriptFault {
+    ghost from_gives = { λ _ fault. fault ≡ Memory };
+
+    fn from(_: AllocFailed<T>) -> Self {
+        ScriptFault::Memory
+    }
+}

@@ -1,0 +1,38 @@
+// The words that begin a line.
+ghost use Rattle.std.specs.Prelude.{◌≡◌};
+ghost use Rattle.nv_script.specs.Entries.{kind_of};
+
+use crate::fields::is;
+
+/// What a line is about.
+#[derive(Clone, Copy, Debug, PartialEq, Eq)]
+pub enum Kind {
+    Argument,
+    Line,
+    Input,
+    File,
+    Clock,
+    Random,
+}
+
+/// What a line that begins with this word is about.
+#[tactic(auto, unfolding(crate::specs::Entries::kind_of))]
+pub fn kind_of(word: &[u8]) -> Option<Kind>
+    ensures { result ≡ kind_of word.now }
+{
+    if is(word, "arg") {
+        Some(Kind::Argument)
+    } else if is(word, "line") {
+        Some(Kind::Line)
+    } else if is(word, "input") {
+        Some(Kind::Input)
+    } else if is(word, "file") {
+        Some(Kind::File)
+    } else if is(word, "clock") {
+        Some(Kind::Clock)
+    } else if is(word, "random") {
+        Some(Kind::Random)
+    } else {
+        None
+    }
+}

@@ -1,0 +1,16 @@
+//! Scripts: what a run begins with.
+#![tactic(auto)]
+
+mod draft;
+mod entry;
+mod fault;
+mod fields;
+mod kind;
+mod reading;
+mod script;
+#[cfg(test)]
+mod tests;
+
+pub use fault::{ScriptCause, ScriptFault};
+pub use reading::read;
+pub use script::Script;

@@ -1,0 +1,74 @@
+// The reader of scripts.
+ghost use Rattle.std.specs.Prelude.{◌≡◌, ◌⊎◌, Ok, Err, IsTrue, IfOk, IfErr};
+ghost use Rattle.nv_text.specs.Lines.{lines};
+ghost use Rattle.nv_script.specs.Scripts.{blank, is_first, with_line, drafted, line_number, script_of, is_script};
+ghost use Rattle.nv_script.specs.Views.{became, setup_of};
+ghost use Rattle.nv_script.specs.declared.fault.ScriptFault.TheVariants.{Memory};
+
+use crate::Script;
+use crate::draft::Draft;
+use crate::entry::entry_of;
+use crate::fault::{ScriptCause, ScriptFault};
+use crate::fields::is;
+use nv_text::split_line;
+use std::alloc::{AllocError, Global};
+
+// The number of a line, counted from 1.
+fn line_number(line: usize) -> u32
+    ensures { result ≡ line_number line }
+{
+    u32::try_from(line).unwrap_or(u32::MAX).saturating_add(1)
+}
+
+#[tactic(auto, unfolding(crate::specs::Scripts::with_line))]
+fn add_line<'a>(
+    draft: &mut Draft<'a>,
+    alloc: Global,
+    line: &'a [u8],
+) -> Result<Result<(), ScriptCause>, AllocError>
+    ensures { IfOk result (λ added. became draft.new added ≡ with_line line.now draft.old) }
+{
+    match entry_of(alloc, line)? {
+        Ok(entry) => draft.add(alloc, entry),
+        Err(cause) => Ok(Err(cause)),
+    }
+}
+
+// What the lines behind the first say.
+fn draft_of(alloc: Global, text: &[u8]) -> Result<Draft<'_>, ScriptFault>
+    ensures draft { IfOk result (λ draft. drafted 1 (lines text.now) blank ≡ Ok draft) }
+    ensures fault { IfErr result (λ fault. (fault ≡ Memory) ⊎ (drafted 1 (lines text.now) blank ≡ Err fault)) }
+{
+    let mut draft = Draft::new(alloc);
+    let mut rest = text;
+    let mut before = 1usize;
+    while !rest.is_empty() {
+        let (line, behind) = split_line(rest);
+        if let Err(cause) = add_line(&mut draft, alloc, line)? {
+            return Err(ScriptFault::Line(line_number(before), cause));
+        }
+        before += 1;
+        rest = behind;
+    }
+    Ok(draft)
+}
+
+/// Reads a script.
+pub fn read(alloc: Global, bytes: &[u8]) -> Result<Script, ScriptFault>
+    ensures script { IfOk result (λ script. script_of bytes.now ≡ Ok (setup_of script)) }
+
+    ensures sound { IfOk result (λ script. IsTrue (is_script (setup_of script))) }
+
+    // want of memory is the one free answer
+    ensures fault { IfErr result (λ fault. (fault ≡ Memory) ⊎ (script_of bytes.now ≡ Err fault)) }
+{
+    if bytes.is_empty() {
+        return Err(ScriptFault::Line(1, ScriptCause::Form));
+    }
+    let (first, rest) = split_line(bytes);
+    if !is(first, "varan-script 1") {
+        return Err(ScriptFault::Line(1, ScriptCause::Form));
+    }
+    let draft = draft_of(alloc, rest)?;
+    Ok(draft.finish())
+}

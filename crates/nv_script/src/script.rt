@@ -1,0 +1,20 @@
+// What a script says.
+
+/// What a run begins with. The limits that every script is within are `is_script` of specs/Scripts.antt.
+#[derive(Drop)]
+pub struct Script {
+    /// The arguments of each version, behind its name.
+    pub arguments: Vec<Vec<u8>>,
+    /// What stands on descriptor 0.
+    pub input: Vec<u8>,
+    /// The files, each by its name and its content, in the script's order.
+    pub files: Vec<(Vec<u8>, Vec<u8>)>,
+    /// The clock at the first call, in seconds.
+    pub seconds: u32,
+    /// The nanoseconds behind these seconds.
+    pub nanos: u32,
+    /// How many nanoseconds the clock goes on with each logged call.
+    pub step: u32,
+    /// Where the random numbers begin.
+    pub seed: u32,
+}
