@@ -1,5 +1,5 @@
 // How the files of a run are read and loaded.
-ghost use Rattle.std.specs.Prelude.{◌≡◌, ◌≤◌, ◌<◌, List, ℕ, [], IfOk, IfErr, length, map};
+ghost use Rattle.std.specs.Prelude.{◌≡◌, ◌≤◌, ◌<◌, List, ℕ, [], Some, IfOk, IfErr, length, map, slice_get};
 ghost use Rattle.nv_guest.specs.Guest.{machine_of};
 ghost use Rattle.nv_threads.specs.Threads.{threads};
 ghost use Rattle.nv_replay.specs.Versions.{IsFresh, process_of};
@@ -100,6 +100,14 @@ fn read_version<F: Files>(
     Ok(version)
 }
 
+// The name of the version with this number.
+fn name_at<'a>(names: &[&'a str], index: usize) -> &'a str
+    requires { index < length names.now }
+    ensures { slice_get (names_view names.now) index ≡ Some result.now }
+{
+    names[index]
+}
+
 // Reads and loads the versions in order, each before the next is read.
 fn read_versions<F: Files>(
     alloc: Global,
@@ -115,7 +123,8 @@ fn read_versions<F: Files>(
 {
     let mut versions = Vec::new(alloc);
     for index in 0..names.len() {
-        match read_version(alloc, files, limits, names[index], index as u32) {
+        let name = name_at(names, index);
+        match read_version(alloc, files, limits, name, index as u32) {
             Ok(version) => versions.push(version)?,
             Err(refusal) => return Err(refusal),
         }

@@ -86,6 +86,7 @@ fn use_tool(alloc: Global, tool: Tool, bytes: &[u8]) -> Result<Vec<u8>, Unmade>
     match tool {
         Tool::CheckRules => check_rules(alloc, bytes),
         Tool::AssembleRules => assemble_rules(alloc, bytes),
+        Tool::Assemble => Err(Unmade::Refused(Cause::Unbuilt)),
     }
 }
 
