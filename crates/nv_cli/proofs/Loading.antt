@@ -59,12 +59,6 @@ script_told (Content content) bytes r ok =
     let none : is_long bytes ≡ false = grind (arith, nat_tests) in
     subst (λ (z : List ℕ). (is_long z ≡ false) × (is_script z ≡ true)) (r.same content refl) (none, ok)
 
--- an element that was read at a place stands there, in the list of what is seen of the elements too
-pub map_at : {X Y : Type 0} (f : X → Y) (xs : List X) (k : ℕ) (x : X) → k < length xs → x ≡ get_or xs k x → slice_get (map f xs) k ≡ Some (f x)
-map_at f [] k x less is = absurd (omega arith)
-map_at f (y ∷ ys) zero x less is = ap (λ z. Some (f z)) (sym is)
-map_at f (y ∷ ys) (suc k) x less is = map_at f ys k x (omega arith) is
-
 pub length-front : {X : Type 0} (xs : List X) (k : ℕ) → k ≤ length xs → length (take k xs) ≡ k
 length-front xs zero le = refl
 length-front [] (suc k) le = absurd (omega arith)
