@@ -10,7 +10,7 @@ use Rattle.nv_cli.specs.Prepared.{Ready, ComesTo, TookLong, prepared}
 use Rattle.nv_cli.specs.Account.{IsRunOf, run_status}
 use Rattle.nv_machine.specs.Guest.{Machine}
 use Rattle.nv_replay.specs.Sequence.{Account}
-use Rattle.nv_cli.specs.Outcome.{Source, Outcome, NoMemory, Reported, CanBe, Says, Tells, Answers, Ran, account_text, outcome_of, text_of}
+use Rattle.nv_cli.specs.Outcome.{Source, NoMemory, Reported, CanBe, Says, Tells, Answers, Ran, account_text, outcome_of, text_of}
 use Rattle.nv_command.specs.declared.asked.Tool.{Tool}
 use Rattle.nv_cli.specs.declared.refusal.Cause.{Cause}
 use Rattle.nv_cli.specs.declared.refusal.Cause.TheVariants.{Long}

@@ -4,7 +4,7 @@ use Rattle.nv_outside.specs.Told.{Grows}
 use Rattle.nv_command.specs.Words.{name_in}
 use Rattle.nv_replay.specs.Sequence.{Account}
 use Rattle.nv_cli.specs.Account.{run_status}
-use Rattle.nv_cli.specs.Outcome.{Source, Outcome, NoMemory, NotRead, NotAccepted, Reported, Made, CanBe, IsReported, IsMade, text_of}
+use Rattle.nv_cli.specs.Outcome.{Source, Outcome, NoMemory, NotRead, NotAccepted, Reported, CanBe, IsReported, IsMade, text_of}
 use Rattle.nv_cli.specs.declared.refusal.Cause.{Cause}
 
 -- 0, 1 and 7 are the statuses of a run

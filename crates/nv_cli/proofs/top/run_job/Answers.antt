@@ -1,7 +1,6 @@
-use Rattle.std.proofs.Common.{◌≡◌, ◌∙◌, ap, inl, inr, subst, refl, ℕ, List, ◌++◌, codes}
+use Rattle.std.proofs.Common.{ap, inr, refl, ◌++◌, codes}
 use Rattle.nv_outside.specs.Writing.{puts-is}
-use Rattle.nv_command.specs.Words.{Job}
-use Rattle.nv_cli.specs.Outcome.{Made, NoMemory, NotRead, NotAccepted, Says}
+use Rattle.nv_cli.specs.Outcome.{Made, NoMemory, NotRead, NotAccepted}
 use Rattle.nv_command.specs.Words.{Uses}
 use Rattle.nv_cli.proofs.Commands.{named, unreadable_rose, refused_by}
 use Rattle.nv_cli.proofs.top.run_job.Goals as goal
