@@ -34,10 +34,16 @@ fn budget_and_call_limits(rt: HostRuntime) -> Result<(), Fail> {
         &calling,
     )?;
     assert_eq!(rt; answered.status, 1);
-    assert!(rt; answered.written.starts_with(b"output 0\n\nlog 3\n0 100 174 0 0 0 0 0 0 = "));
-    assert!(rt; answered.written.ends_with(
-        b"fates 1\n0 fault calls 100 00010004 seen 3 led 0-3 rewrites 0\n"
-    ));
+    assert!(rt;
+        answered
+            .written
+            .starts_with(b"output 0\n\nlog 3\n0 100 174 0 0 0 0 0 0 = ")
+    );
+    assert!(rt;
+        answered.written.ends_with(
+            b"fates 1\n0 fault calls 100 00010004 seen 3 led 0-3 rewrites 0\n"
+        )
+    );
     Ok(())
 }
 
@@ -49,7 +55,8 @@ fn json_report(rt: HostRuntime) -> Result<(), Fail> {
         &["varan", "run", "--script", "s", "--json", "v"],
         &version,
     )?;
-    let report = b"{\"fates\":[{\"code\":0,\"fate\":\"exited\",\"led\":[[0,1]],\"rewrites\":0,\"seen\":1}],\"log\":[{\"args\":[0,0,0,0,0,0],\"nr\":94,\"payload\":\"\",\"ret\":0,\"stamp\":0,\"tid\":100}],\"output\":\"\"}\n";
+    let report =
+        b"{\"fates\":[{\"code\":0,\"fate\":\"exited\",\"led\":[[0,1]],\"rewrites\":0,\"seen\":1}],\"log\":[{\"args\":[0,0,0,0,0,0],\"nr\":94,\"payload\":\"\",\"ret\":0,\"stamp\":0,\"tid\":100}],\"output\":\"\"}\n";
     assert_eq!(rt; answered.status, 0);
     assert_eq!(rt; answered.written.as_slice(), report.as_slice());
     Ok(())
@@ -85,6 +92,9 @@ fn least_memory(rt: HostRuntime) -> Result<(), Fail> {
         &version,
     )?;
     assert_eq!(rt; answered.status, 4);
-    assert_eq!(rt; answered.written.as_slice(), b"varan: input v: no room 0\n".as_slice());
+    assert_eq!(rt;
+        answered.written.as_slice(),
+        b"varan: input v: no room 0\n".as_slice()
+    );
     Ok(())
 }

@@ -59,8 +59,18 @@ fn usage(rt: HostRuntime) -> Result<(), Fail> {
         &["varan", "run", "--scripts", "s", "v"],
         &["varan", "run", "--script", "-s", "v"],
         &["varan", "run", "--script", "s", "--ring", "1", "v"],
-        &["varan", "run", "--script", "s", "--ring", "2", "--ring", "2", "v"],
-        &["varan", "run", "--script", "s", "--calls", "4294967296", "v"],
+        &[
+            "varan", "run", "--script", "s", "--ring", "2", "--ring", "2", "v",
+        ],
+        &[
+            "varan",
+            "run",
+            "--script",
+            "s",
+            "--calls",
+            "4294967296",
+            "v",
+        ],
         &["varan", "run", "--script", "s", "--rules", "r", "v"],
         &["varan", "run", "--script", "s", "v", "-v"],
         &[
