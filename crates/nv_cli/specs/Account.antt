@@ -2,6 +2,7 @@
 use Rattle.std.specs.Prelude.{◌≡◌, ℕ, List, map, if◌then◌else◌}
 use Rattle.std.specs.List.{list_any}
 use Rattle.nv_machine.specs.Guest.{Machine}
+use Rattle.nv_command.specs.Words.{Limits}
 use Rattle.nv_kernel.specs.Serving.{start_of_script}
 use Rattle.nv_threads.specs.Threads.{Proc, threads, started}
 use Rattle.nv_replay.specs.declared.standing.Standing.{Standing}
@@ -11,16 +12,16 @@ use Rattle.nv_replay.specs.Sequence.{Account, sequence, cuts_of}
 use Rattle.nv_sequence.specs.Accounts.{AreSettled}
 use Rattle.nv_sequence.specs.Alone.{SurvivorsAgree}
 
--- a version has 10000000 instructions
-abbrev pub begun : Machine → Proc
-begun machine = started machine 10000000
+-- a version has as many instructions as the limits say
+abbrev pub begun : Limits → Machine → Proc
+begun limits machine = started machine limits.budget
 
--- The account is that of the plain sequential monitor over these machines, with at most 65536 events and with the cuts that it tells.
+-- The account is that of the plain sequential monitor over these machines, with at most as many events as the limits say and with the cuts that it tells.
 -- Each version has one fate and at most one span, and one that exited without a rewrite would come to this log alone.
-pub record IsRunOf (machines : List Machine) (account : Account) : Type 0 where
-  pub is_account : account ≡ sequence threads (λ i. no_rules) start_of_script 65536 (cuts_of account.lines) (map begun machines)
+pub record IsRunOf (limits : Limits) (machines : List Machine) (account : Account) : Type 0 where
+  pub is_account : account ≡ sequence threads (λ i. no_rules) start_of_script limits.calls (cuts_of account.lines) (map (begun limits) machines)
   pub settled : AreSettled account.lines
-  pub survivor : SurvivorsAgree threads start_of_script 65536 (map begun machines) account.lines account.log
+  pub survivor : SurvivorsAgree threads start_of_script limits.calls (map (begun limits) machines) account.lines account.log
 
 -- 0 where a version exited; else 7 where one wanted memory; else 1
 abbrev pub run_status : List Standing → ℕ

@@ -1,4 +1,3 @@
-pub mod Words
 pub mod Prepared
 pub mod Made
 pub mod Unmade

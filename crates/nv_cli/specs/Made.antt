@@ -7,10 +7,10 @@ use Rattle.nv_bpf.specs.Texts.{filter_of, text_of}
 use Rattle.nv_bpf_asm.specs.declared.fault.RuleFault.{RuleFault}
 use Rattle.nv_bpf_asm.specs.Assembled.{assembled}
 use Rattle.nv_cli.specs.Prepared.{is_long}
-use Rattle.nv_cli.specs.declared.words.Tool.{Tool}
-use Rattle.nv_cli.specs.declared.words.Tool.TheVariants.{CheckRules, AssembleRules}
+use Rattle.nv_command.specs.declared.asked.Tool.{Tool}
+use Rattle.nv_command.specs.declared.asked.Tool.TheVariants.{CheckRules, AssembleRules, Assemble}
 use Rattle.nv_cli.specs.declared.refusal.Cause.{Cause}
-use Rattle.nv_cli.specs.declared.refusal.Cause.TheVariants.{Long, Filter, Rules}
+use Rattle.nv_cli.specs.declared.refusal.Cause.TheVariants.{Long, Unbuilt, Filter, Rules}
 
 -- an accepted filter, by the number of its instructions
 abbrev pub accepted_text : ℕ → List ℕ
@@ -24,10 +24,11 @@ abbrev pub of_rules : Result (List Op) RuleFault → Result (List ℕ) Cause
 of_rules (Ok ops) = Ok (text_of ops)
 of_rules (Err fault) = Err (Rules fault)
 
--- a filter has at most 4096 instructions
+-- a filter has at most 4096 instructions; an assembler text isn't read so far
 abbrev pub used : Tool → List ℕ → Result (List ℕ) Cause
 used CheckRules bytes = of_filter (filter_of 4096 bytes)
 used AssembleRules bytes = of_rules (assembled 4096 bytes)
+used Assemble bytes = Err Unbuilt
 
 -- what is written of a file with this content, or why it is refused
 unfoldable pub made_of : Tool → List ℕ → Result (List ℕ) Cause

@@ -1,5 +1,5 @@
 -- What a call of the monitor may come to, and what is then written.
-use Rattle.std.specs.Prelude.{◌≡◌, ◌⊎◌, ℕ, List, [], ◌∷◌, ◌++◌, Ok, Err, Option, None, Some, codes, slice_get, unwrap_or}
+use Rattle.std.specs.Prelude.{◌≡◌, ◌⊎◌, ℕ, Bool, true, false, IsSome, List, [], ◌∷◌, ◌++◌, Ok, Err, Option, None, Some, codes, slice_get, unwrap_or}
 use Rattle.std.specs.List.{concat}
 use Rattle.std.specs.Fmt.{decimal}
 use Rattle.nv_outside.specs.Counts.{Rose}
@@ -23,11 +23,12 @@ use Rattle.nv_bpf_asm.specs.declared.fault.RuleFault.{RuleFault}
 use Rattle.nv_bpf_asm.specs.declared.fault.RuleFault.TheVariants as rule
 use Rattle.nv_outside.specs.Told.{Content}
 use Rattle.nv_cli.specs.Made.{made_of}
-use Rattle.nv_cli.specs.Words.{Plan, Job, Command, Run, Use, command_of}
+use Rattle.nv_command.specs.Words.{Limits, Plan, Job, Runs, Uses, command_of, name_in}
 use Rattle.nv_calls.specs.Logs.{output_of}
 use Rattle.nv_kernel.specs.Serving.{start_of_script}
 use Rattle.nv_replay.specs.Sequence.{Account}
 use Rattle.nv_report.specs.Report.{report_text}
+use Rattle.nv_report.specs.Json.{json_text}
 use Rattle.nv_cli.specs.Account.{IsRunOf, run_status}
 use Rattle.nv_cli.specs.Prepared.{prepared, Ready, Refused, ComesTo, IsReached, TookLong}
 use Rattle.nv_cli.specs.declared.refusal.Refusal.{Refusal}
@@ -43,7 +44,8 @@ pub data Outcome : Type 0 where
   NoMemory : Outcome
   NotRead : List ℕ → Outcome
   NotAccepted : List ℕ → Cause → Outcome
-  Reported : Account → Outcome
+  -- as JSON or not
+  Reported : Bool → Account → Outcome
   Made : List ℕ → Outcome
 
 abbrev pub elf_text : ElfFault → List ℕ
@@ -102,13 +104,18 @@ cause_text (Guest fault) = guest_text fault
 cause_text (Filter fault) = filter_text fault
 cause_text (Rules fault) = rules_text fault
 
+-- the report of an account, or its JSON form and a newline
+abbrev pub account_text : Bool → Account → List ℕ
+account_text true account = json_text (output_of start_of_script account.log) account ++ codes "\n"
+account_text false account = report_text (output_of start_of_script account.log) account
+
 -- what is written
 abbrev pub text_of : Outcome → List ℕ
 text_of Usage = codes "varan: usage\n"
 text_of NoMemory = codes "varan: memory\n"
 text_of (NotRead name) = concat (codes "varan: read " ∷ name ∷ codes "\n" ∷ [])
 text_of (NotAccepted name cause) = concat (codes "varan: input " ∷ name ∷ codes ": " ∷ []) ++ (cause_text cause ++ codes "\n")
-text_of (Reported account) = report_text (output_of start_of_script account.log) account
+text_of (Reported json account) = account_text json account
 text_of (Made text) = text
 
 abbrev pub status_of : Outcome → ℕ
@@ -116,7 +123,7 @@ status_of Usage = 2
 status_of NoMemory = 3
 status_of (NotRead name) = 5
 status_of (NotAccepted name cause) = 4
-status_of (Reported account) = run_status account.lines
+status_of (Reported json account) = run_status account.lines
 status_of (Made text) = 0
 
 -- a write fault takes the place of the other statuses
@@ -153,7 +160,7 @@ source_of holds faults taken before after = record {
 -- A read failed, of a file in the reading order whose forerunners are accepted where they are told.
 pub record CannotRead (words : List (List ℕ)) (source : Source) (name : List ℕ) : Type 0 where
   pub plan : Plan
-  pub asked : command_of words ≡ Some (Run plan)
+  pub asked : command_of words ≡ Some (Runs plan)
   pub place : Place
   pub name_is : name ≡ name_of place plan
   pub reached : IsReached place source.holds plan
@@ -162,7 +169,7 @@ pub record CannotRead (words : List (List ℕ)) (source : Source) (name : List �
 -- Where the files are told, the first that is refused is this one, for this cause. Too long is only what more bytes were taken of.
 pub record IsRefused (words : List (List ℕ)) (source : Source) (name : List ℕ) (cause : Cause) : Type 0 where
   pub plan : Plan
-  pub asked : command_of words ≡ Some (Run plan)
+  pub asked : command_of words ≡ Some (Runs plan)
   pub place : Place
   pub name_is : name ≡ name_of place plan
   pub reached : IsReached place source.holds plan
@@ -170,24 +177,25 @@ pub record IsRefused (words : List (List ℕ)) (source : Source) (name : List �
   pub long : cause ≡ Long → TookLong source.taken source.later_taken
 
 -- The account is that of the plain sequential monitor over the files; where they are told, they are accepted and come to these machines.
-pub record IsReported (words : List (List ℕ)) (source : Source) (account : Account) : Type 0 where
+pub record IsReported (words : List (List ℕ)) (source : Source) (json : Bool) (account : Account) : Type 0 where
   pub plan : Plan
-  pub asked : command_of words ≡ Some (Run plan)
+  pub asked : command_of words ≡ Some (Runs plan)
+  pub form : json ≡ plan.json
   pub machines : List Machine
   pub told : ComesTo (prepared source.holds plan) (Ready machines)
-  pub is_run : IsRunOf machines account
+  pub is_run : IsRunOf plan.limits machines account
 
 -- The one file of a command couldn't be read.
 pub record CannotReadFile (words : List (List ℕ)) (source : Source) (name : List ℕ) : Type 0 where
   pub job : Job
-  pub asked : command_of words ≡ Some (Use job)
+  pub asked : command_of words ≡ Some (Uses job)
   pub name_is : name ≡ job.file
   pub rose : Rose source.faults source.later_faults
 
 -- Where it is told, the one file of a command is refused for this cause. Too long is only what more bytes were taken of.
 pub record IsFileRefused (words : List (List ℕ)) (source : Source) (name : List ℕ) (cause : Cause) : Type 0 where
   pub job : Job
-  pub asked : command_of words ≡ Some (Use job)
+  pub asked : command_of words ≡ Some (Uses job)
   pub name_is : name ≡ job.file
   pub told : (content : List ℕ) → source.holds job.file ≡ Content content → made_of job.tool content ≡ Err cause
   pub long : cause ≡ Long → TookLong source.taken source.later_taken
@@ -195,16 +203,16 @@ pub record IsFileRefused (words : List (List ℕ)) (source : Source) (name : Lis
 -- The text is what the command makes of its file, where it is told.
 pub record IsMade (words : List (List ℕ)) (source : Source) (text : List ℕ) : Type 0 where
   pub job : Job
-  pub asked : command_of words ≡ Some (Use job)
+  pub asked : command_of words ≡ Some (Uses job)
   pub told : (content : List ℕ) → source.holds job.file ≡ Content content → made_of job.tool content ≡ Ok text
 
--- the outcomes that a call may have, over these words and this source
+-- the outcomes that a call may have, over these words and this source; memory may be wanted from the reading of a command's words on
 abbrev pub CanBe : List (List ℕ) → Source → Outcome → Type 0
 CanBe words source Usage = command_of words ≡ None
-CanBe words source NoMemory = (command : Command) × (command_of words ≡ Some command)
+CanBe words source NoMemory = IsSome (name_in words)
 CanBe words source (NotRead name) = CannotRead words source name ⊎ CannotReadFile words source name
 CanBe words source (NotAccepted name cause) = IsRefused words source name cause ⊎ IsFileRefused words source name cause
-CanBe words source (Reported account) = IsReported words source account
+CanBe words source (Reported json account) = IsReported words source json account
 CanBe words source (Made text) = IsMade words source text
 
 -- a text was written with this status, or the write failed
@@ -213,14 +221,24 @@ pub record Says (text : List ℕ) (text_status : ℕ) (before : Option (List ℕ
   pub ends : status ≡ ended_with put text_status
   pub written : Puts before faults text put after later_faults
 
+-- the same, or memory was wanted and the line of that was written
+abbrev pub Wrote : List ℕ → ℕ → Option (List ℕ) → ℕ → ℕ → Option (List ℕ) → ℕ → Type 0
+Wrote text text_status before faults status after later_faults =
+    Says text text_status before faults status after later_faults ⊎ Says (text_of NoMemory) 3 before faults status after later_faults
+
+-- only a JSON form takes memory
+abbrev pub Tells : Bool → List ℕ → ℕ → Option (List ℕ) → ℕ → ℕ → Option (List ℕ) → ℕ → Type 0
+Tells true text text_status before faults status after later_faults = Wrote text text_status before faults status after later_faults
+Tells false text text_status before faults status after later_faults = Says text text_status before faults status after later_faults
+
 -- a call came to one of its outcomes, and said so
 pub record Answers (words : List (List ℕ)) (source : Source) (before : Option (List ℕ)) (faults : ℕ) (status : ℕ) (after : Option (List ℕ)) (later_faults : ℕ) : Type 0 where
   pub outcome : Outcome
   pub can_be : CanBe words source outcome
   pub says : Says (text_of outcome) (status_of outcome) before faults status after later_faults
 
--- the versions ran, and their report was written, or the write failed
-pub record Ran (machines : List Machine) (before : Option (List ℕ)) (faults : ℕ) (status : ℕ) (after : Option (List ℕ)) (later_faults : ℕ) : Type 0 where
+-- the versions ran, and their report was written, or the write failed; or memory was wanted for its JSON form
+pub record Ran (limits : Limits) (json : Bool) (machines : List Machine) (before : Option (List ℕ)) (faults : ℕ) (status : ℕ) (after : Option (List ℕ)) (later_faults : ℕ) : Type 0 where
   pub account : Account
-  pub is_run : IsRunOf machines account
-  pub says : Says (text_of (Reported account)) (run_status account.lines) before faults status after later_faults
+  pub is_run : IsRunOf limits machines account
+  pub says : Tells json (account_text json account) (run_status account.lines) before faults status after later_faults

@@ -8,7 +8,7 @@ use Rattle.nv_machine.specs.Guest.{Machine}
 use Rattle.nv_guest.specs.declared.outcome.GuestFault.TheVariants.{NoRoom, Arguments}
 use Rattle.nv_guest.specs.Load.{Loaded, loaded}
 use Rattle.nv_guest.specs.Load as load
-use Rattle.nv_cli.specs.Words.{Plan}
+use Rattle.nv_command.specs.Words.{Limits, Plan}
 use Rattle.nv_cli.specs.declared.refusal.Place.{Place}
 use Rattle.nv_cli.specs.declared.refusal.Place.TheVariants.{Script, Version}
 use Rattle.nv_cli.specs.declared.refusal.Cause.{Cause}
@@ -24,13 +24,13 @@ of_loaded (load.NoRoomFor n) = Faulty (Guest (NoRoom n))
 of_loaded load.NoRoomForArguments = Faulty (Guest Arguments)
 of_loaded (load.Ready machine) = Loads machine
 
-abbrev pub of_elf : ElfOf → VersionOf
-of_elf (elf.Refused fault) = Faulty (Elf fault)
-of_elf (elf.Accepted image) = of_loaded (loaded image [] 1048576)
+abbrev pub of_elf : Limits → ElfOf → VersionOf
+of_elf limits (elf.Refused fault) = Faulty (Elf fault)
+of_elf limits (elf.Accepted image) = of_loaded (loaded image [] limits.memory)
 
--- what a version file comes to; a guest has 1048576 bytes, and no argument behind its name
-unfoldable pub version_of : List ℕ → VersionOf
-version_of bytes = of_elf (elf_of bytes)
+-- what a version file comes to; a guest has as many bytes as the limits say, and no argument behind its name
+unfoldable pub version_of : Limits → List ℕ → VersionOf
+version_of limits bytes = of_elf limits (elf_of bytes)
 
 -- the one script that is read so far
 abbrev pub is_script : List ℕ → Bool
@@ -57,15 +57,15 @@ abbrev pub checked : ℕ → Prepared → VersionOf → Prepared
 checked i rest (Faulty cause) = Refused (Version i) cause
 checked i rest (Loads machine) = behind (machine ∷ []) rest
 
-abbrev pub version_then : ℕ → Prepared → Told → Prepared
-version_then i rest Untold = Unknown
-version_then i rest Missing = Unknown
-version_then i rest (Content bytes) = if is_long bytes then Refused (Version i) Long else checked i rest (version_of bytes)
+abbrev pub version_then : Limits → ℕ → Prepared → Told → Prepared
+version_then limits i rest Untold = Unknown
+version_then limits i rest Missing = Unknown
+version_then limits i rest (Content bytes) = if is_long bytes then Refused (Version i) Long else checked i rest (version_of limits bytes)
 
 -- the versions from number i on
-abbrev pub versions_from : (List ℕ → Told) → ℕ → List (List ℕ) → Prepared
-versions_from holds i [] = Ready []
-versions_from holds i (name ∷ names) = version_then i (versions_from holds (i + 1) names) (holds name)
+abbrev pub versions_from : Limits → (List ℕ → Told) → ℕ → List (List ℕ) → Prepared
+versions_from limits holds i [] = Ready []
+versions_from limits holds i (name ∷ names) = version_then limits i (versions_from limits holds (i + 1) names) (holds name)
 
 abbrev pub script_then : Prepared → Told → Prepared
 script_then rest Untold = Unknown
@@ -74,7 +74,7 @@ script_then rest (Content bytes) = if is_long bytes then Refused Script Long els
 
 -- what the files of a plan come to, by what the source tells of each name
 abbrev pub prepared : (List ℕ → Told) → Plan → Prepared
-prepared holds plan = script_then (versions_from holds 0 plan.versions) (holds plan.script)
+prepared holds plan = script_then (versions_from plan.limits holds 0 plan.versions) (holds plan.script)
 
 -- where enough is told, the files come to this
 abbrev pub ComesTo : Prepared → Prepared → Type 0
@@ -93,19 +93,19 @@ IsLoaded (Faulty cause) = ⊥
 IsLoaded (Loads machine) = Unit {0}
 
 -- where it is told, the version is accepted
-abbrev pub IsVersionTold : Told → Type 0
-IsVersionTold Untold = Unit {0}
-IsVersionTold Missing = ⊥
-IsVersionTold (Content bytes) = (is_long bytes ≡ false) × IsLoaded (version_of bytes)
+abbrev pub IsVersionTold : Limits → Told → Type 0
+IsVersionTold limits Untold = Unit {0}
+IsVersionTold limits Missing = ⊥
+IsVersionTold limits (Content bytes) = (is_long bytes ≡ false) × IsLoaded (version_of limits bytes)
 
-abbrev pub AreVersionsTold : (List ℕ → Told) → List (List ℕ) → Type 0
-AreVersionsTold holds [] = Unit {0}
-AreVersionsTold holds (name ∷ names) = IsVersionTold (holds name) × AreVersionsTold holds names
+abbrev pub AreVersionsTold : Limits → (List ℕ → Told) → List (List ℕ) → Type 0
+AreVersionsTold limits holds [] = Unit {0}
+AreVersionsTold limits holds (name ∷ names) = IsVersionTold limits (holds name) × AreVersionsTold limits holds names
 
 -- a file of the plan; where they are told, the files before it in reading order are accepted
 abbrev pub IsReached : Place → (List ℕ → Told) → Plan → Type 0
 IsReached Script holds plan = Unit {0}
-IsReached (Version i) holds plan = (i < length plan.versions) × IsScriptTold (holds plan.script) × AreVersionsTold holds (take i plan.versions)
+IsReached (Version i) holds plan = (i < length plan.versions) × IsScriptTold (holds plan.script) × AreVersionsTold plan.limits holds (take i plan.versions)
 
 -- more bytes than a file may have were taken, or the count stands at its last value
 abbrev pub TookLong : ℕ → ℕ → Type 0

@@ -1,22 +1,23 @@
 -- What each status of the monitor shows.
-use Rattle.std.specs.Prelude.{◌≡◌, ◌⊎◌, ℕ, List, ◌++◌, Option, Some}
+use Rattle.std.specs.Prelude.{◌≡◌, ◌⊎◌, ℕ, Bool, IsSome, List, ◌++◌, Option}
 use Rattle.nv_outside.specs.Told.{Grows}
-use Rattle.nv_cli.specs.Words.{Command, command_of}
+use Rattle.nv_command.specs.Words.{name_in}
 use Rattle.nv_replay.specs.Sequence.{Account}
 use Rattle.nv_cli.specs.Account.{run_status}
-use Rattle.nv_cli.specs.Outcome.{Source, Outcome, NoMemory, NotRead, NotAccepted, Reported, Made, CanBe, IsReported, IsMade, text_of}
+use Rattle.nv_cli.specs.Outcome.{Source, Outcome, NoMemory, NotRead, NotAccepted, Reported, CanBe, IsReported, IsMade, text_of}
 use Rattle.nv_cli.specs.declared.refusal.Cause.{Cause}
 
 -- 0, 1 and 7 are the statuses of a run
 abbrev pub IsReport : ℕ → Type 0
 IsReport status = (status ≡ 0) ⊎ ((status ≡ 1) ⊎ (status ≡ 7))
 
--- What was written is the report of the account of the plain sequential monitor, and the status is that of the versions' fates.
+-- What was written is the report, or its JSON form, of the account of the plain sequential monitor, and the status is that of the versions' fates.
 pub record Reports (words : List (List ℕ)) (source : Source) (status : ℕ) (before after : Option (List ℕ)) : Type 0 where
+  pub json : Bool
   pub account : Account
-  pub is_account : IsReported words source account
+  pub is_account : IsReported words source json account
   pub status_is : status ≡ run_status account.lines
-  pub written : Grows before (text_of (Reported account)) after
+  pub written : Grows before (text_of (Reported json account)) after
 
 -- What was written is what a command over one file makes of it.
 pub record Makes (words : List (List ℕ)) (source : Source) (before after : Option (List ℕ)) : Type 0 where
@@ -24,10 +25,9 @@ pub record Makes (words : List (List ℕ)) (source : Source) (before after : Opt
   pub is_made : IsMade words source text
   pub written : Grows before text after
 
--- the words are accepted, and what was written says that memory was wanted
+-- the words name a command, and what was written says that memory was wanted
 pub record WantsMemory (words : List (List ℕ)) (before after : Option (List ℕ)) : Type 0 where
-  pub command : Command
-  pub asked : command_of words ≡ Some command
+  pub named : IsSome (name_in words)
   pub written : Grows before (text_of NoMemory) after
 
 -- a file is refused, and what was written names it and its cause

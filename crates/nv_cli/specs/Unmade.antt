@@ -4,7 +4,7 @@ use Rattle.nv_outside.specs.Counts.{Rose}
 use Rattle.nv_outside.specs.Told.{Told, Content}
 use Rattle.nv_cli.specs.Made.{made_of}
 use Rattle.nv_cli.specs.Prepared.{TookLong}
-use Rattle.nv_cli.specs.declared.words.Tool.{Tool}
+use Rattle.nv_command.specs.declared.asked.Tool.{Tool}
 use Rattle.nv_cli.specs.declared.refusal.Cause.{Cause}
 use Rattle.nv_cli.specs.declared.refusal.Cause.TheVariants.{Long}
 use Rattle.nv_cli.specs.declared.tools.Unmade.{Unmade}

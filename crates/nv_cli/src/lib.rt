@@ -6,9 +6,7 @@ mod prepare;
 mod refusal;
 mod tools;
 mod top;
-mod words;
 
 pub use calm::varan_calmly;
 pub use refusal::{Cause, Place, Refusal};
 pub use top::varan;
-pub use words::Tool;

@@ -1,15 +1,16 @@
 // How the files of a run are read and loaded.
-ghost use Rattle.std.specs.Prelude.{◌≡◌, ◌≤◌, ◌<◌, List, ℕ, [], IfOk, IfErr, length, map};
+ghost use Rattle.std.specs.Prelude.{◌≡◌, ◌≤◌, ◌<◌, List, ℕ, [], Some, IfOk, IfErr, length, map, slice_get};
 ghost use Rattle.nv_guest.specs.Guest.{machine_of};
 ghost use Rattle.nv_threads.specs.Threads.{threads};
 ghost use Rattle.nv_replay.specs.Versions.{IsFresh, process_of};
 ghost use Rattle.nv_sequence.specs.Accounts.{AreFresh};
 ghost use Rattle.nv_cli.specs.Account.{begun};
-ghost use Rattle.nv_cli.specs.Words.{texts};
+ghost use Rattle.nv_command.specs.Seen.{limits_view, names_view, plan_view};
 ghost use Rattle.nv_cli.specs.Prepared.{ComesTo, is_script, prepared, Ready, Loads, version_of};
 ghost use Rattle.nv_cli.specs.Refusals.{ReadRefused, IsReadOf, Refuses, IsVersionRefusal, VersionRefused, VersionsRefused, HasLoaded, AreLoaded, IsPrepared};
 
 use crate::refusal::{Cause, Place, Refusal};
+use nv_command::{Limits, Run};
 use nv_elf::ElfFault;
 use nv_guest::{Guest, GuestFault};
 use nv_outside::{Files, Got};
@@ -18,10 +19,6 @@ use nv_threads::Process;
 use std::alloc::Global;
 
 const MOST_BYTES: u32 = 4_194_304;
-
-const MEMORY: u32 = 1_048_576;
-
-const BUDGET: u32 = 10_000_000;
 
 // Reads a whole file.
 fn read_file<F: Files>(
@@ -52,17 +49,17 @@ fn accepts_script(bytes: &[u8]) -> bool
 
 // Loads a version file.
 #[tactic(auto, unfolding(crate::specs::Prepared::version_of))]
-fn load(alloc: Global, bytes: &[u8], place: Place) -> Result<Guest, Refusal>
+fn load(alloc: Global, limits: Limits, bytes: &[u8], place: Place) -> Result<Guest, Refusal>
     requires { length bytes.now ≤ MOST_BYTES }
-    ensures guest { IfOk result (λ guest. version_of bytes.now ≡ Loads (machine_of guest)) }
-    ensures refused { IfErr result (λ refusal. IsVersionRefusal refusal place bytes.now) }
+    ensures guest { IfOk result (λ guest. version_of (limits_view limits) bytes.now ≡ Loads (machine_of guest)) }
+    ensures refused { IfErr result (λ refusal. IsVersionRefusal (limits_view limits) refusal place bytes.now) }
 {
     let program = match nv_elf::read(alloc, bytes) {
         Ok(program) => program,
         Err(ElfFault::Memory) => return Err(Refusal::Memory),
         Err(fault) => return Err(Refusal::Input(place, Cause::Elf(fault))),
     };
-    match Guest::make(alloc, &program, &[], MEMORY) {
+    match Guest::make(alloc, &program, &[], limits.memory) {
         Ok(guest) => Ok(guest),
         Err(GuestFault::Memory) => Err(Refusal::Memory),
         Err(fault) => Err(Refusal::Input(place, Cause::Guest(fault))),
@@ -70,12 +67,12 @@ fn load(alloc: Global, bytes: &[u8], place: Place) -> Result<Guest, Refusal>
 }
 
 // The version with this number, of a guest that hasn't run.
-fn version(alloc: Global, index: u32, guest: Guest) -> Result<Version, Refusal>
+fn version(alloc: Global, limits: Limits, index: u32, guest: Guest) -> Result<Version, Refusal>
     ensures fresh { IfOk result (IsFresh threads index) }
-    ensures process { IfOk result (λ version. version.at.process ≡ begun (machine_of guest)) }
+    ensures process { IfOk result (λ version. version.at.process ≡ begun (limits_view limits) (machine_of guest)) }
     ensures refused { IfErr result (λ refusal. refusal ≡ Refusal.Memory) }
 {
-    let process = Process::make(alloc, guest, BUDGET)?;
+    let process = Process::make(alloc, guest, limits.budget)?;
     let version = Version::make(alloc, index, process)?;
     Ok(version)
 }
@@ -84,12 +81,13 @@ fn version(alloc: Global, index: u32, guest: Guest) -> Result<Version, Refusal>
 fn read_version<F: Files>(
     alloc: Global,
     files: &mut F,
+    limits: Limits,
     name: &str,
     index: u32,
 ) -> Result<Version, Refusal>
-    ensures version { IfOk result (λ version. HasLoaded version (F.holds files.old name.now)) }
+    ensures version { IfOk result (λ version. HasLoaded (limits_view limits) version (F.holds files.old name.now)) }
     ensures fresh { IfOk result (IsFresh threads index) }
-    ensures refused { IfErr result (λ refusal. VersionRefused refusal (Place.Version index) (F.holds files.old name.now)
+    ensures refused { IfErr result (λ refusal. VersionRefused (limits_view limits) refusal (Place.Version index) (F.holds files.old name.now)
         (F.faults files.old) (F.faults files.new) (F.taken files.old) (F.taken files.new)) }
     ensures same { (name : List ℕ) → F.holds files.new name ≡ F.holds files.old name }
     ensures faults { F.faults files.old ≤ F.faults files.new }
@@ -97,26 +95,36 @@ fn read_version<F: Files>(
 {
     let place = Place::Version(index);
     let bytes = read_file(alloc, files, name, place)?;
-    let guest = load(alloc, &bytes, place)?;
-    let version = version(alloc, index, guest)?;
+    let guest = load(alloc, limits, &bytes, place)?;
+    let version = version(alloc, limits, index, guest)?;
     Ok(version)
+}
+
+// The name of the version with this number.
+fn name_at<'a>(names: &[&'a str], index: usize) -> &'a str
+    requires { index < length names.now }
+    ensures { slice_get (names_view names.now) index ≡ Some result.now }
+{
+    names[index]
 }
 
 // Reads and loads the versions in order, each before the next is read.
 fn read_versions<F: Files>(
     alloc: Global,
     files: &mut F,
-    names: &[String],
+    limits: Limits,
+    names: &[&str],
 ) -> Result<Vec<Version>, Refusal>
     requires { length names.now ≤ 8 }
-    ensures loaded { IfOk result (λ versions. AreLoaded versions.items (F.holds files.old) (texts names.now)) }
+    ensures loaded { IfOk result (λ versions. AreLoaded (limits_view limits) versions.items (F.holds files.old) (names_view names.now)) }
     ensures fresh { IfOk result (λ versions. AreFresh threads 0 versions.items) }
-    ensures refused { IfErr result (λ refusal. VersionsRefused refusal (F.holds files.old) (texts names.now)
+    ensures refused { IfErr result (λ refusal. VersionsRefused (limits_view limits) refusal (F.holds files.old) (names_view names.now)
         (F.faults files.old) (F.faults files.new) (F.taken files.old) (F.taken files.new)) }
 {
     let mut versions = Vec::new(alloc);
     for index in 0..names.len() {
-        match read_version(alloc, files, names[index].as_str(), index as u32) {
+        let name = name_at(names, index);
+        match read_version(alloc, files, limits, name, index as u32) {
             Ok(version) => versions.push(version)?,
             Err(refusal) => return Err(refusal),
         }
@@ -128,19 +136,17 @@ fn read_versions<F: Files>(
 pub fn prepare<F: Files>(
     alloc: Global,
     files: &mut F,
-    script: &str,
-    versions: &[String],
+    plan: &Run<'_>,
 ) -> Result<Vec<Version>, Refusal>
-    requires { length versions.now ≤ 8 }
-    ensures versions { IfOk result (λ ready. IsPrepared ready.items (F.holds files.old) (record { script = script.now; versions = texts versions.now })) }
-    ensures refused { IfErr result (λ refusal. Refuses refusal (F.holds files.old) (record { script = script.now; versions = texts versions.now })
+    ensures versions { IfOk result (λ ready. IsPrepared ready.items (F.holds files.old) (plan_view plan.now)) }
+    ensures refused { IfErr result (λ refusal. Refuses refusal (F.holds files.old) (plan_view plan.now)
         (F.faults files.old) (F.faults files.new) (F.taken files.old) (F.taken files.new)) }
 {
-    let bytes = read_file(alloc, files, script, Place::Script)?;
+    let bytes = read_file(alloc, files, plan.script, Place::Script)?;
     if !accepts_script(&bytes) {
         return Err(Refusal::Input(Place::Script, Cause::Unbuilt));
     }
-    match read_versions(alloc, files, versions) {
+    match read_versions(alloc, files, plan.limits, &plan.versions) {
         Ok(versions) => Ok(versions),
         Err(refusal) => Err(refusal),
     }

@@ -20,7 +20,7 @@ pub enum Place {
 pub enum Cause {
     /// More than 4,194,304 bytes.
     Long,
-    /// A script of a form that isn't read so far.
+    /// A script of a form that isn't read so far, or an assembler text.
     Unbuilt,
     /// A version that is no file of a program.
     Elf(ElfFault),

@@ -8,10 +8,10 @@ ghost use Rattle.nv_bpf.specs.Texts.{filter_of};
 ghost use Rattle.nv_bpf_asm.specs.Assembled.{assembled};
 
 use crate::refusal::Cause;
-use crate::words::Tool;
 use itoa::Buffer;
 use nv_bpf::FilterFault;
 use nv_bpf_asm::RuleFault;
+use nv_command::Tool;
 use nv_outside::{Files, Got};
 use std::alloc::{AllocError, AllocFailed, Global};
 
@@ -86,6 +86,7 @@ fn use_tool(alloc: Global, tool: Tool, bytes: &[u8]) -> Result<Vec<u8>, Unmade>
     match tool {
         Tool::CheckRules => check_rules(alloc, bytes),
         Tool::AssembleRules => assemble_rules(alloc, bytes),
+        Tool::Assemble => Err(Unmade::Refused(Cause::Unbuilt)),
     }
 }
 

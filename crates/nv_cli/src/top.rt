@@ -12,26 +12,31 @@ ghost use Rattle.nv_replay.specs.Lead.{is_memory};
 ghost use Rattle.nv_replay.specs.Versions.{standing_of, process_of};
 ghost use Rattle.nv_sequence.specs.Accounts.{AreFresh};
 ghost use Rattle.nv_cli.specs.Account.{begun, run_status};
-ghost use Rattle.nv_cli.specs.Words.{Plan, Job, Run, Use, command_of, texts};
+ghost use Rattle.nv_command.specs.Words.{Plan, Job, Runs, Uses, command_of, name_in, texts};
+ghost use Rattle.nv_command.specs.Seen.{limits_view, plan_view};
+ghost use Rattle.nv_calls.specs.Logs.{output_of};
+ghost use Rattle.nv_report.specs.Report.{report_text};
+ghost use Rattle.nv_report.specs.Json.{json_text};
 ghost use Rattle.nv_cli.specs.Made.{made_of};
 ghost use Rattle.nv_cli.specs.Prepared.{prepared, Ready, Refused};
 ghost use Rattle.nv_cli.specs.declared.refusal.Place.{Place};
 ghost use Rattle.nv_cli.specs.declared.refusal.Cause.{Cause};
-ghost use Rattle.nv_cli.specs.Outcome.{Says, Answers, Ran, Usage, ended_with, name_of, elf_text, guest_text, filter_text, line_text, rule_word, rules_text, cause_text, outcome_of, status_of, text_of, source_of};
+ghost use Rattle.nv_cli.specs.Outcome.{Says, Wrote, Answers, Ran, Usage, NoMemory, ended_with, name_of, elf_text, guest_text, filter_text, line_text, rule_word, rules_text, cause_text, outcome_of, status_of, text_of, source_of};
 ghost use Rattle.nv_cli.specs.Rows.{IsReport, Reports, Makes, WantsMemory, Refuses, FailsToRead, FailsToWrite};
 
 use crate::prepare::prepare;
 use crate::refusal::{Cause, Place, Refusal};
 use crate::tools::{Unmade, make};
-use crate::words::{Tool, job_of, run_of};
 use itoa::Buffer;
 use nv_bpf::FilterFault;
 use nv_bpf_asm::{RuleCause, RuleFault};
+use nv_calls::SyscallKernel;
+use nv_command::{Command, Limits, LineFault, Run, Tool};
 use nv_elf::ElfFault;
 use nv_guest::GuestFault;
 use nv_kernel::ScriptKernel;
 use nv_outside::{Files, Gate, Put, Sink, put_all, put_pieces};
-use nv_replay::{Fate, Version};
+use nv_replay::{Account, Fate, Version};
 use std::alloc::Global;
 
 const USAGE: u8 = 2;
@@ -45,8 +50,6 @@ const READ_FAULT: u8 = 5;
 const WRITE_FAULT: u8 = 6;
 
 const STARVED: u8 = 7;
-
-const MOST_EVENTS: u32 = 65_536;
 
 fn ended(put: Put, status: u8) -> u8
     ensures { result ≡ ended_with put status }
@@ -105,16 +108,50 @@ fn status(versions: &[Version]) -> u8
     }
 }
 
-// Runs the versions and writes the report.
-fn run_versions<S: Sink>(alloc: Global, versions: Vec<Version>, sink: &mut S) -> u8
+// Writes the JSON form of the report, and a newline.
+fn put_json<K: SyscallKernel, S: Sink>(alloc: Global, account: &Account<K>, sink: &mut S) -> u8
+    ensures { Wrote (json_text (output_of (K.start account.now.kernel) (K.log account.now.kernel))
+        (record { log = K.log account.now.kernel; lines = map standing_of account.now.versions.items }) ++ codes "\n")
+        (run_status (map standing_of account.now.versions.items)) (S.told sink.old) (S.faults sink.old) result (S.told sink.new) (S.faults sink.new) }
+{
+    match nv_report::json(alloc, account) {
+        Ok(text) => {
+            let put = put_pieces(sink, &[text.as_bytes(), b"\n"]);
+            ended(put, status(&account.versions))
+        }
+        Err(_) => put_line(sink, b"varan: memory\n", MEMORY),
+    }
+}
+
+// Writes the report.
+fn put_report<K: SyscallKernel, S: Sink>(account: &Account<K>, sink: &mut S) -> u8
+    ensures { Says (report_text (output_of (K.start account.now.kernel) (K.log account.now.kernel))
+        (record { log = K.log account.now.kernel; lines = map standing_of account.now.versions.items }))
+        (run_status (map standing_of account.now.versions.items)) (S.told sink.old) (S.faults sink.old) result (S.told sink.new) (S.faults sink.new) }
+{
+    let put = nv_report::write(sink, account);
+    ended(put, status(&account.versions))
+}
+
+// Runs the versions and writes the report, or its JSON form.
+fn run_versions<S: Sink>(
+    alloc: Global,
+    versions: Vec<Version>,
+    limits: Limits,
+    json: bool,
+    sink: &mut S,
+) -> u8
     requires fresh { AreFresh threads 0 versions.items }
     requires few { length versions.items ≤ 8 }
-    ensures { (machines : List Machine) → map process_of versions.items ≡ map begun machines
-        → Ran machines (S.told sink.old) (S.faults sink.old) result (S.told sink.new) (S.faults sink.new) }
+    ensures { (machines : List Machine) → map process_of versions.items ≡ map (begun (limits_view limits)) machines
+        → Ran (limits_view limits) json machines (S.told sink.old) (S.faults sink.old) result (S.told sink.new) (S.faults sink.new) }
 {
-    let account = nv_sequence::run(versions, ScriptKernel::make(alloc), MOST_EVENTS);
-    let put = nv_report::write(sink, &account);
-    ended(put, status(&account.versions))
+    let account = nv_sequence::run(versions, ScriptKernel::make(alloc), limits.calls);
+    if json {
+        put_json(alloc, &account, sink)
+    } else {
+        put_report(&account, sink)
+    }
 }
 
 fn put_line<S: Sink>(sink: &mut S, line: &[u8], line_status: u8) -> u8
@@ -262,21 +299,18 @@ fn put_input<S: Sink>(sink: &mut S, name: &str, cause: Cause) -> Put
     }
 }
 
-fn name<'a>(place: Place, script: &'a str, versions: &'a [String]) -> &'a str
-    ensures { result.now ≡ name_of place (record { script = script.now; versions = texts versions.now }) }
+fn name<'a>(place: Place, plan: &Run<'a>) -> &'a str
+    ensures { result.now ≡ name_of place (plan_view plan.now) }
 {
     match place {
-        Place::Script => script,
-        Place::Version(index) => versions
-            .get(index as usize)
-            .map_or("", |name| name.as_str()),
+        Place::Script => plan.script,
+        Place::Version(index) => plan.versions.get(index as usize).map_or("", |name| *name),
     }
 }
 
 // Says why a run didn't start.
-fn refuse<S: Sink>(sink: &mut S, refusal: Refusal, script: &str, versions: &[String]) -> u8
-    ensures { Says (text_of (outcome_of refusal (record { script = script.now; versions = texts versions.now })))
-        (status_of (outcome_of refusal (record { script = script.now; versions = texts versions.now })))
+fn refuse<S: Sink>(sink: &mut S, refusal: Refusal, plan: &Run<'_>) -> u8
+    ensures { Says (text_of (outcome_of refusal (plan_view plan.now))) (status_of (outcome_of refusal (plan_view plan.now)))
         (S.told sink.old) (S.faults sink.old) result (S.told sink.new) (S.faults sink.new) }
 {
     match refusal {
@@ -284,16 +318,12 @@ fn refuse<S: Sink>(sink: &mut S, refusal: Refusal, script: &str, versions: &[Str
         Refusal::Unreadable(place) => {
             let put = put_pieces(
                 sink,
-                &[
-                    b"varan: read ",
-                    name(place, script, versions).as_bytes(),
-                    b"\n",
-                ],
+                &[b"varan: read ", name(place, plan).as_bytes(), b"\n"],
             );
             ended(put, READ_FAULT)
         }
         Refusal::Input(place, cause) => {
-            let put = put_input(sink, name(place, script, versions), cause);
+            let put = put_input(sink, name(place, plan), cause);
             ended(put, INPUT)
         }
     }
@@ -307,7 +337,7 @@ fn run_job<F: Files, S: Sink>(
     tool: Tool,
     file: &str,
 ) -> u8
-    ensures { (words : List (List ℕ)) → command_of words ≡ Some (Use (record { tool = tool; file = file.now }))
+    ensures { (words : List (List ℕ)) → command_of words ≡ Some (Uses (record { tool = tool; file = file.now }))
         → Answers words (source_of F.holds F.faults F.taken files.old files.new)
         (S.told sink.old) (S.faults sink.old) result (S.told sink.new) (S.faults sink.new) }
 {
@@ -325,20 +355,28 @@ fn run_job<F: Files, S: Sink>(
     }
 }
 
+// Does a run, and says what it came to.
+fn do_run<F: Files, S: Sink>(alloc: Global, files: &mut F, sink: &mut S, plan: &Run<'_>) -> u8
+    ensures { (words : List (List ℕ)) → command_of words ≡ Some (Runs (plan_view plan.now))
+        → Answers words (source_of F.holds F.faults F.taken files.old files.new)
+        (S.told sink.old) (S.faults sink.old) result (S.told sink.new) (S.faults sink.new) }
+{
+    match prepare(alloc, files, plan) {
+        Ok(versions) => run_versions(alloc, versions, plan.limits, plan.json, sink),
+        Err(refusal) => refuse(sink, refusal, plan),
+    }
+}
+
 // Does what the words ask for, and says what it came to.
 fn answer<F: Files, S: Sink>(alloc: Global, words: &[String], files: &mut F, sink: &mut S) -> u8
     ensures { Answers (texts words.now) (source_of F.holds F.faults F.taken files.old files.new)
         (S.told sink.old) (S.faults sink.old) result (S.told sink.new) (S.faults sink.new) }
 {
-    if let Some(run) = run_of(words) {
-        return match prepare(alloc, files, run.script, run.versions) {
-            Ok(versions) => run_versions(alloc, versions, sink),
-            Err(refusal) => refuse(sink, refusal, run.script, run.versions),
-        };
-    }
-    match job_of(words) {
-        Some(job) => run_job(alloc, files, sink, job.tool, job.file),
-        None => put_line(sink, b"varan: usage\n", USAGE),
+    match nv_command::read(alloc, words) {
+        Ok(Command::Run(plan)) => do_run(alloc, files, sink, &plan),
+        Ok(Command::Use(job)) => run_job(alloc, files, sink, job.tool, job.file),
+        Err(LineFault::Memory) => put_line(sink, b"varan: memory\n", MEMORY),
+        Err(LineFault::Usage) => put_line(sink, b"varan: usage\n", USAGE),
     }
 }
 
@@ -352,26 +390,30 @@ pub fn varan<F: Files, S: Sink, G: Gate>(
 ) -> u8
     // With the statuses 0, 1 and 7 a run writes the report of the plain sequential monitor over these words and files,
     // and a command over one file, which ends with 0, writes what it makes of it.
-    ensures report { (plan : Plan) → command_of (texts words.now.items) ≡ Some (Run plan) → IsReport result
+    ensures report { (plan : Plan) → command_of (texts words.now.items) ≡ Some (Runs plan) → IsReport result
         → Reports (texts words.now.items) (source_of F.holds F.faults F.taken files.old files.new) result (S.told sink.old) (S.told sink.new) }
-    ensures made { (job : Job) → command_of (texts words.now.items) ≡ Some (Use job) → IsReport result
+    ensures made { (job : Job) → command_of (texts words.now.items) ≡ Some (Uses job) → IsReport result
         → (result ≡ 0) × Makes (texts words.now.items) (source_of F.holds F.faults F.taken files.old files.new) (S.told sink.old) (S.told sink.new) }
 
-    // Words that are refused are answered by the line of usage, unless it can't be written; no others are.
+    // Words that are refused are answered by the line of usage, unless it can't be written, or memory is wanted to read the words
+    // of a command; no others are. Words that name no command take no memory.
     ensures usage { command_of (texts words.now.items) ≡ None
+        → Says (text_of Usage) 2 (S.told sink.old) (S.faults sink.old) result (S.told sink.new) (S.faults sink.new)
+        ⊎ Says (text_of NoMemory) 3 (S.told sink.old) (S.faults sink.old) result (S.told sink.new) (S.faults sink.new) }
+    ensures no_command { name_in (texts words.now.items) ≡ None
         → Says (text_of Usage) 2 (S.told sink.old) (S.faults sink.old) result (S.told sink.new) (S.faults sink.new) }
     ensures usage_only { result ≡ 2 → command_of (texts words.now.items) ≡ None }
 
-    // Want of memory is free, for words that are accepted, and is said.
+    // Want of memory is free, for words that name a command, and is said.
     ensures memory { result ≡ 3 → WantsMemory (texts words.now.items) (S.told sink.old) (S.told sink.new) }
 
     // A refused file: only where the contents say so, and there exactly, unless a read failed or the line couldn't be written.
     ensures input { result ≡ 4
         → Refuses (texts words.now.items) (source_of F.holds F.faults F.taken files.old files.new) (S.told sink.old) (S.told sink.new) }
-    ensures refused { (plan : Plan) (place : Place) (cause : Cause) → command_of (texts words.now.items) ≡ Some (Run plan)
+    ensures refused { (plan : Plan) (place : Place) (cause : Cause) → command_of (texts words.now.items) ≡ Some (Runs plan)
         → prepared (F.holds files.old) plan ≡ Refused place cause → (Rose (F.faults files.old) (F.faults files.new) → ⊥)
         → (result ≡ 4) ⊎ ((result ≡ 6) ⊎ (result ≡ 3)) }
-    ensures file_refused { (job : Job) (content : List ℕ) (cause : Cause) → command_of (texts words.now.items) ≡ Some (Use job)
+    ensures file_refused { (job : Job) (content : List ℕ) (cause : Cause) → command_of (texts words.now.items) ≡ Some (Uses job)
         → F.holds files.old job.file ≡ Content content → made_of job.tool content ≡ Err cause → (Rose (F.faults files.old) (F.faults files.new) → ⊥)
         → (result ≡ 4) ⊎ ((result ≡ 6) ⊎ (result ≡ 3)) }
 
@@ -383,11 +425,11 @@ pub fn varan<F: Files, S: Sink, G: Gate>(
         → FailsToWrite (texts words.now.items) (source_of F.holds F.faults F.taken files.old files.new) (S.told sink.old) (S.told sink.new) }
 
     // Where no fault came, files that are accepted give their output, or memory is wanted.
-    ensures complete { (plan : Plan) (machines : List Machine) → command_of (texts words.now.items) ≡ Some (Run plan)
+    ensures complete { (plan : Plan) (machines : List Machine) → command_of (texts words.now.items) ≡ Some (Runs plan)
         → prepared (F.holds files.old) plan ≡ Ready machines
         → (Rose (F.faults files.old) (F.faults files.new) → ⊥) → (Rose (S.faults sink.old) (S.faults sink.new) → ⊥)
         → IsReport result ⊎ (result ≡ 3) }
-    ensures file_complete { (job : Job) (content text : List ℕ) → command_of (texts words.now.items) ≡ Some (Use job)
+    ensures file_complete { (job : Job) (content text : List ℕ) → command_of (texts words.now.items) ≡ Some (Uses job)
         → F.holds files.old job.file ≡ Content content → made_of job.tool content ≡ Ok text
         → (Rose (F.faults files.old) (F.faults files.new) → ⊥) → (Rose (S.faults sink.old) (S.faults sink.new) → ⊥)
         → (result ≡ 0) ⊎ (result ≡ 3) }

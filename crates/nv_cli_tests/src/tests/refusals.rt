@@ -49,7 +49,7 @@ fn refused_files(rt: HostRuntime) -> Result<(), Fail> {
 
 #[test]
 fn usage(rt: HostRuntime) -> Result<(), Fail> {
-    let lines: [&[&str]; 13] = [
+    let lines: [&[&str]; 15] = [
         &[],
         &["varan"],
         &["varan", "run"],
@@ -57,9 +57,21 @@ fn usage(rt: HostRuntime) -> Result<(), Fail> {
         &["varan", "run", "s", "v"],
         &["varan", "walk", "--script", "s", "v"],
         &["varan", "run", "--scripts", "s", "v"],
-        &["varan", "run", "v", "--script", "s"],
         &["varan", "run", "--script", "-s", "v"],
-        &["varan", "run", "--script", "s", "-"],
+        &["varan", "run", "--script", "s", "--ring", "1", "v"],
+        &[
+            "varan", "run", "--script", "s", "--ring", "2", "--ring", "2", "v",
+        ],
+        &[
+            "varan",
+            "run",
+            "--script",
+            "s",
+            "--calls",
+            "4294967296",
+            "v",
+        ],
+        &["varan", "run", "--script", "s", "--rules", "r", "v"],
         &["varan", "run", "--script", "s", "v", "-v"],
         &[
             "varan", "run", "--script", "s", "1", "2", "3", "4", "5", "6", "7", "8", "9",

@@ -90,12 +90,11 @@ fn refused_rule_texts(rt: HostRuntime) -> Result<(), Fail> {
 
 #[test]
 fn words_of_rules(rt: HostRuntime) -> Result<(), Fail> {
-    let lines: [&[&str]; 7] = [
+    let lines: [&[&str]; 6] = [
         &["varan", "rules"],
         &["varan", "rules", "-r"],
         &["varan", "rules", "--asm"],
         &["varan", "rules", "--asm", "-r"],
-        &["varan", "rules", "r", "--asm"],
         &["varan", "rules", "--asm", "r", "r"],
         &["varan", "rule", "r"],
     ];
@@ -107,5 +106,19 @@ fn words_of_rules(rt: HostRuntime) -> Result<(), Fail> {
     let answered = call(rt.alloc(), &["varan", "rules", "q"], FILTER)?;
     assert_eq!(rt; answered.status, 5);
     assert_eq!(rt; answered.written.as_slice(), b"varan: read q\n".as_slice());
+    Ok(())
+}
+
+// The words of `asm` are read; its file is refused so far.
+#[test]
+fn words_of_asm(rt: HostRuntime) -> Result<(), Fail> {
+    let answered = call(rt.alloc(), &["varan", "asm", "r"], b"")?;
+    assert_eq!(rt; answered.status, 4);
+    assert_eq!(rt;
+        answered.written.as_slice(),
+        b"varan: input r: unbuilt\n".as_slice()
+    );
+    let answered = call(rt.alloc(), &["varan", "asm"], b"")?;
+    assert_eq!(rt; answered.status, 2);
     Ok(())
 }

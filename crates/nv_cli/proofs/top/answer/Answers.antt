@@ -1,40 +1,29 @@
-use Rattle.nv_cli.specs.Words.{Plan, texts}
-use Rattle.nv_cli.specs.Outcome.{Reported, Usage, Source, source_of, outcome_of}
-use Rattle.nv_cli.proofs.Commands.{command-run, command-use, command-none, refused_outcome}
+use Rattle.std.proofs.Common.{◌∙◌, ap, subst, Some}
+use Rattle.nv_command.specs.Words.{texts}
+use Rattle.nv_command.specs.Seen.{IsRefused, command_view}
+use Rattle.nv_command.specs.declared.asked.Command.{Command}
+use Rattle.nv_command.specs.declared.asked.LineFault.{LineFault}
+use Rattle.nv_cli.specs.Outcome.{Usage, NoMemory}
 use Rattle.nv_cli.proofs.top.answer.Goals as goal
 
-pub returns-in-Ok : goal.returns-in-Ok
-returns-in-Ok g c =
-    let ready = c.in-Ok.ensures.versions in
-    let ran = c.run_versions.ensures ready.machines ready.processes in
-    record {
-      outcome = Reported ran.account;
-      can_be = record {
-        plan = record { script = c.in-Some.run'.script.now; versions = texts c.in-Some.run'.versions.now };
-        asked = command-run _ _ c.in-Some.ensures.plan.0;
-        machines = ready.machines;
-        told = ready.told;
-        is_run = ran.is_run;
-      };
-      says = ran.says;
-    }
+pub returns-in-Ok-Run : goal.returns-in-Ok-Run
+returns-in-Ok-Run g c =
+    c.do_run.ensures (texts c.args.words.now) (c.in-Ok-Run.ensures.command ∙ ap (λ (x : Command). Some (command_view x)) c.in-Ok-Run.field-0-is)
 
-pub returns-in-Err : goal.returns-in-Err
-returns-in-Err g c =
-    let plan : Plan = record { script = c.in-Some.run'.script.now; versions = texts c.in-Some.run'.versions.now } in
-    let source : Source = source_of g.F.Files.holds g.F.Files.faults g.F.Files.taken c.args.files.now c.prepare.new.files in
-    record {
-      outcome = outcome_of c.in-Err.refusal plan;
-      can_be = refused_outcome c.in-Err.refusal (texts c.args.words.now) plan source (command-run _ _ c.in-Some.ensures.plan.0) c.in-Err.ensures.refused;
-      says = c.refuse.ensures;
-    }
+pub returns-in-Ok-Use : goal.returns-in-Ok-Use
+returns-in-Ok-Use g c =
+    c.run_job.ensures (texts c.args.words.now) (c.in-Ok-Use.ensures.command ∙ ap (λ (x : Command). Some (command_view x)) c.in-Ok-Use.field-0-is)
 
-pub returns-in-Some-job_of : goal.returns-in-Some-job_of
-returns-in-Some-job_of g c = c.run_job.ensures (texts c.args.words.now) (command-use _ _ c.in_default.ensures.plan c.in-Some-job_of.ensures)
-
-pub returns-in-None : goal.returns-in-None
-returns-in-None g c = record {
-  outcome = Usage;
-  can_be = command-none _ c.in_default.ensures.plan c.in-None.ensures;
+pub returns-in-Err-Memory : goal.returns-in-Err-Memory
+returns-in-Err-Memory g c = record {
+  outcome = NoMemory;
+  can_be = subst (λ (fault : LineFault). IsRefused fault (texts c.args.words.now)) c.in-Err-Memory.field-0-is c.in-Err-Memory.ensures.fault;
   says = c.put_line.ensures;
+}
+
+pub returns-in-Err-Usage : goal.returns-in-Err-Usage
+returns-in-Err-Usage g c = record {
+  outcome = Usage;
+  can_be = subst (λ (fault : LineFault). IsRefused fault (texts c.args.words.now)) c.in-Err-Usage.field-0-is c.in-Err-Usage.ensures.fault;
+  says = c.put_line-in-Err-Usage.ensures;
 }

@@ -1,4 +1,3 @@
-use Rattle.std.proofs.Common.{ap, ◌∙◌}
 use Rattle.nv_outside.specs.Writing.{puts-is, puts-then, puts-failed}
 use Rattle.nv_cli.specs.Outcome.{rule_word}
 use Rattle.nv_cli.proofs.top.put_rule_line.Goals as goal

@@ -1,8 +1,8 @@
-use Rattle.std.proofs.Common.{◌≡◌, ◌∙◌, ap, inl, inr, subst, refl, ℕ, List, ◌++◌, codes}
+use Rattle.std.proofs.Common.{ap, inr, refl, ◌++◌, codes}
 use Rattle.nv_outside.specs.Writing.{puts-is}
-use Rattle.nv_cli.specs.Words.{Job}
-use Rattle.nv_cli.specs.Outcome.{Made, NotRead, NotAccepted, Says}
-use Rattle.nv_cli.proofs.Commands.{unreadable_rose, refused_by}
+use Rattle.nv_cli.specs.Outcome.{Made, NoMemory, NotRead, NotAccepted}
+use Rattle.nv_command.specs.Words.{Uses}
+use Rattle.nv_cli.proofs.Commands.{named, unreadable_rose, refused_by}
 use Rattle.nv_cli.proofs.top.run_job.Goals as goal
 
 pub returns-in-Ok : goal.returns-in-Ok
@@ -38,3 +38,6 @@ returns-in-Err-Refused g c = λ words asked.
         written = c.put_input-put.ensures;
       };
     }
+
+pub returns-in-Err-Memory : goal.returns-in-Err-Memory
+returns-in-Err-Memory g c = λ words asked. record { outcome = NoMemory; can_be = named words (Uses _) asked; says = c.put_line-in-Err-Memory.ensures }

@@ -1,0 +1,13 @@
+use Rattle.std.proofs.Common.{◌∙◌, ap, List, map}
+use Rattle.nv_threads.specs.Threads.{Proc}
+use Rattle.nv_replay.specs.Versions.{Running, standing_of}
+use Rattle.nv_cli.specs.Account.{run_status}
+use Rattle.nv_cli.specs.Outcome.{ended_with}
+use Rattle.nv_cli.proofs.top.put_report.Goals as goal
+
+pub returns : goal.returns
+returns g c = record {
+  put = c.write-put.result;
+  ends = c.ended.ensures ∙ ap (ended_with c.write-put.result) (c.status.ensures ∙ ap (λ (vs : List (Running Proc)). run_status (map standing_of vs)) c.deref.ensures.value);
+  written = c.write-put.ensures;
+}
