@@ -6,11 +6,15 @@ use Rattle.nv_bpf.specs.declared.op.FilterFault.{FilterFault}
 use Rattle.nv_bpf.specs.Texts.{filter_of, text_of}
 use Rattle.nv_bpf_asm.specs.declared.fault.RuleFault.{RuleFault}
 use Rattle.nv_bpf_asm.specs.Assembled.{assembled}
+use Rattle.nv_elf.specs.Elf.{Image}
+use Rattle.nv_elf.specs.Written.{file_of}
+use Rattle.nv_asm.specs.declared.fault.AsmFault.{AsmFault}
+use Rattle.nv_asm.specs.Assembled as asm
 use Rattle.nv_cli.specs.Prepared.{is_long}
 use Rattle.nv_command.specs.declared.asked.Tool.{Tool}
 use Rattle.nv_command.specs.declared.asked.Tool.TheVariants.{CheckRules, AssembleRules, Assemble}
 use Rattle.nv_cli.specs.declared.refusal.Cause.{Cause}
-use Rattle.nv_cli.specs.declared.refusal.Cause.TheVariants.{Long, Unbuilt, Filter, Rules}
+use Rattle.nv_cli.specs.declared.refusal.Cause.TheVariants.{Long, Filter, Rules, Asm}
 
 -- an accepted filter, by the number of its instructions
 abbrev pub accepted_text : ℕ → List ℕ
@@ -24,11 +28,15 @@ abbrev pub of_rules : Result (List Op) RuleFault → Result (List ℕ) Cause
 of_rules (Ok ops) = Ok (text_of ops)
 of_rules (Err fault) = Err (Rules fault)
 
--- a filter has at most 4096 instructions; an assembler text isn't read so far
+abbrev pub of_program : Result Image AsmFault → Result (List ℕ) Cause
+of_program (Ok image) = Ok (file_of image)
+of_program (Err fault) = Err (Asm fault)
+
+-- a filter has at most 4096 instructions
 abbrev pub used : Tool → List ℕ → Result (List ℕ) Cause
 used CheckRules bytes = of_filter (filter_of 4096 bytes)
 used AssembleRules bytes = of_rules (assembled 4096 bytes)
-used Assemble bytes = Err Unbuilt
+used Assemble bytes = of_program (asm.assembled bytes)
 
 -- what is written of a file with this content, or why it is refused
 unfoldable pub made_of : Tool → List ℕ → Result (List ℕ) Cause

@@ -21,6 +21,10 @@ use Rattle.nv_bpf_asm.specs.declared.fault.RuleCause.{RuleCause}
 use Rattle.nv_bpf_asm.specs.declared.fault.RuleCause.TheVariants.{Twice, Word, Operand, Label, Far}
 use Rattle.nv_bpf_asm.specs.declared.fault.RuleFault.{RuleFault}
 use Rattle.nv_bpf_asm.specs.declared.fault.RuleFault.TheVariants as rule
+use Rattle.nv_asm.specs.declared.fault.AsmCause.{AsmCause}
+use Rattle.nv_asm.specs.declared.fault.AsmCause.TheVariants as asm_cause
+use Rattle.nv_asm.specs.declared.fault.AsmFault.{AsmFault}
+use Rattle.nv_asm.specs.declared.fault.AsmFault.TheVariants as asm
 use Rattle.nv_outside.specs.Told.{Content}
 use Rattle.nv_cli.specs.Made.{made_of}
 use Rattle.nv_command.specs.Words.{Limits, Plan, Job, Runs, Uses, command_of, name_in}
@@ -36,7 +40,7 @@ use Rattle.nv_cli.specs.declared.refusal.Refusal.TheVariants as refusal
 use Rattle.nv_cli.specs.declared.refusal.Place.{Place}
 use Rattle.nv_cli.specs.declared.refusal.Place.TheVariants.{Script, Version}
 use Rattle.nv_cli.specs.declared.refusal.Cause.{Cause}
-use Rattle.nv_cli.specs.declared.refusal.Cause.TheVariants.{Long, Unbuilt, Elf, Guest, Filter, Rules}
+use Rattle.nv_cli.specs.declared.refusal.Cause.TheVariants.{Long, Unbuilt, Elf, Guest, Filter, Rules, Asm}
 
 -- The words are refused; memory is wanted before the run starts; a file can't be read; a file is refused; a run has its account; or a command over one file has made its text.
 pub data Outcome : Type 0 where
@@ -96,6 +100,17 @@ rules_text (rule.Line n cause) = line_text n ++ rule_word cause
 rules_text (rule.Filter fault) = filter_text fault
 rules_text rule.Memory = codes "memory"
 
+abbrev pub asm_word : AsmCause → List ℕ
+asm_word asm_cause.Twice = codes " twice"
+asm_word asm_cause.Mnemonic = codes " mnemonic"
+asm_word asm_cause.Operand = codes " operand"
+asm_word asm_cause.Label = codes " label"
+asm_word asm_cause.Range = codes " range"
+
+abbrev pub asm_text : AsmFault → List ℕ
+asm_text (asm.Line n cause) = line_text n ++ asm_word cause
+asm_text asm.Memory = codes "memory"
+
 abbrev pub cause_text : Cause → List ℕ
 cause_text Long = codes "long"
 cause_text Unbuilt = codes "unbuilt"
@@ -103,6 +118,7 @@ cause_text (Elf fault) = elf_text fault
 cause_text (Guest fault) = guest_text fault
 cause_text (Filter fault) = filter_text fault
 cause_text (Rules fault) = rules_text fault
+cause_text (Asm fault) = asm_text fault
 
 -- the report of an account, or its JSON form and a newline
 abbrev pub account_text : Bool → Account → List ℕ

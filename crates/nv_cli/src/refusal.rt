@@ -2,6 +2,7 @@
 ghost use Rattle.std.specs.Prelude.{◌≡◌};
 ghost use Rattle.nv_cli.specs.declared.refusal.Refusal.TheVariants.{Memory};
 
+use nv_asm::AsmFault;
 use nv_bpf::FilterFault;
 use nv_bpf_asm::RuleFault;
 use nv_elf::ElfFault;
@@ -20,7 +21,7 @@ pub enum Place {
 pub enum Cause {
     /// More than 4,194,304 bytes.
     Long,
-    /// A script of a form that isn't read so far, or an assembler text.
+    /// A script of a form that isn't read so far.
     Unbuilt,
     /// A version that is no file of a program.
     Elf(ElfFault),
@@ -30,6 +31,8 @@ pub enum Cause {
     Filter(FilterFault),
     /// A rule text that is no filter.
     Rules(RuleFault),
+    /// An assembler text that is no program.
+    Asm(AsmFault),
 }
 
 /// Why a run doesn't start.

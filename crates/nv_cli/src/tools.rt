@@ -1,14 +1,16 @@
 // The commands over one file.
 ghost use Rattle.std.specs.Prelude.{◌≡◌, ◌≢◌, ◌≤◌, List, ℕ, Ok, Err, IfOk, IfErr, length};
 ghost use Rattle.nv_outside.specs.Told.{Content};
-ghost use Rattle.nv_cli.specs.Made.{accepted_text, of_filter, of_rules, used, made_of};
+ghost use Rattle.nv_cli.specs.Made.{accepted_text, of_filter, of_rules, of_program, used, made_of};
 ghost use Rattle.nv_cli.specs.Unmade.{IsUnmade, IsUnused};
 ghost use Rattle.nv_cli.specs.declared.tools.Unmade.TheVariants.{Memory};
 ghost use Rattle.nv_bpf.specs.Texts.{filter_of};
 ghost use Rattle.nv_bpf_asm.specs.Assembled.{assembled};
+ghost use Rattle.nv_asm.specs.Assembled.{assembled as assembled_program};
 
 use crate::refusal::Cause;
 use itoa::Buffer;
+use nv_asm::AsmFault;
 use nv_bpf::FilterFault;
 use nv_bpf_asm::RuleFault;
 use nv_command::Tool;
@@ -79,6 +81,20 @@ fn assemble_rules(alloc: Global, bytes: &[u8]) -> Result<Vec<u8>, Unmade>
     }
 }
 
+fn assemble(alloc: Global, bytes: &[u8]) -> Result<Vec<u8>, Unmade>
+    ensures text { IfOk result (λ text. of_program (assembled_program bytes.now) ≡ Ok text.items) }
+    ensures unmade { IfErr result (λ unmade. IsUnused unmade (of_program (assembled_program bytes.now))) }
+{
+    match nv_asm::assemble(alloc, bytes) {
+        Ok(program) => {
+            let file = nv_elf::write(alloc, &program)?;
+            Ok(file)
+        }
+        Err(AsmFault::Memory) => Err(Unmade::Memory),
+        Err(fault) => Err(Unmade::Refused(Cause::Asm(fault))),
+    }
+}
+
 fn use_tool(alloc: Global, tool: Tool, bytes: &[u8]) -> Result<Vec<u8>, Unmade>
     ensures text { IfOk result (λ text. used tool bytes.now ≡ Ok text.items) }
     ensures unmade { IfErr result (λ unmade. IsUnused unmade (used tool bytes.now)) }
@@ -86,7 +102,7 @@ fn use_tool(alloc: Global, tool: Tool, bytes: &[u8]) -> Result<Vec<u8>, Unmade>
     match tool {
         Tool::CheckRules => check_rules(alloc, bytes),
         Tool::AssembleRules => assemble_rules(alloc, bytes),
-        Tool::Assemble => Err(Unmade::Refused(Cause::Unbuilt)),
+        Tool::Assemble => assemble(alloc, bytes),
     }
 }
 

@@ -21,13 +21,14 @@ ghost use Rattle.nv_cli.specs.Made.{made_of};
 ghost use Rattle.nv_cli.specs.Prepared.{prepared, Ready, Refused};
 ghost use Rattle.nv_cli.specs.declared.refusal.Place.{Place};
 ghost use Rattle.nv_cli.specs.declared.refusal.Cause.{Cause};
-ghost use Rattle.nv_cli.specs.Outcome.{Says, Wrote, Answers, Ran, Usage, NoMemory, ended_with, name_of, elf_text, guest_text, filter_text, line_text, rule_word, rules_text, cause_text, outcome_of, status_of, text_of, source_of};
+ghost use Rattle.nv_cli.specs.Outcome.{Says, Wrote, Answers, Ran, Usage, NoMemory, ended_with, name_of, elf_text, guest_text, filter_text, line_text, rule_word, rules_text, asm_word, asm_text, cause_text, outcome_of, status_of, text_of, source_of};
 ghost use Rattle.nv_cli.specs.Rows.{IsReport, Reports, Makes, WantsMemory, Refuses, FailsToRead, FailsToWrite};
 
 use crate::prepare::prepare;
 use crate::refusal::{Cause, Place, Refusal};
 use crate::tools::{Unmade, make};
 use itoa::Buffer;
+use nv_asm::{AsmCause, AsmFault};
 use nv_bpf::FilterFault;
 use nv_bpf_asm::{RuleCause, RuleFault};
 use nv_calls::SyscallKernel;
@@ -246,11 +247,24 @@ fn word_of(cause: RuleCause) -> &'static [u8]
     }
 }
 
-fn put_rule_line<S: Sink>(sink: &mut S, line: u32, cause: RuleCause) -> Put
-    ensures { Puts (S.told sink.old) (S.faults sink.old) (line_text line ++ rule_word cause) result (S.told sink.new) (S.faults sink.new) }
+fn asm_word_of(cause: AsmCause) -> &'static [u8]
+    ensures { result.now ≡ asm_word cause }
+{
+    match cause {
+        AsmCause::Twice => b" twice",
+        AsmCause::Mnemonic => b" mnemonic",
+        AsmCause::Operand => b" operand",
+        AsmCause::Label => b" label",
+        AsmCause::Range => b" range",
+    }
+}
+
+// A line and what is wrong with it.
+fn put_line_word<S: Sink>(sink: &mut S, line: u32, word: &[u8]) -> Put
+    ensures { Puts (S.told sink.old) (S.faults sink.old) (line_text line ++ word.now) result (S.told sink.new) (S.faults sink.new) }
 {
     match put_place(sink, b"line ", line) {
-        Put::Whole => put_all(sink, word_of(cause)),
+        Put::Whole => put_all(sink, word),
         Put::Failed => Put::Failed,
     }
 }
@@ -259,9 +273,18 @@ fn put_rule_fault<S: Sink>(sink: &mut S, fault: RuleFault) -> Put
     ensures { Puts (S.told sink.old) (S.faults sink.old) (rules_text fault) result (S.told sink.new) (S.faults sink.new) }
 {
     match fault {
-        RuleFault::Line(line, cause) => put_rule_line(sink, line, cause),
+        RuleFault::Line(line, cause) => put_line_word(sink, line, word_of(cause)),
         RuleFault::Filter(fault) => put_filter_fault(sink, fault),
         RuleFault::Memory => put_all(sink, b"memory"),
+    }
+}
+
+fn put_asm_fault<S: Sink>(sink: &mut S, fault: AsmFault) -> Put
+    ensures { Puts (S.told sink.old) (S.faults sink.old) (asm_text fault) result (S.told sink.new) (S.faults sink.new) }
+{
+    match fault {
+        AsmFault::Line(line, cause) => put_line_word(sink, line, asm_word_of(cause)),
+        AsmFault::Memory => put_all(sink, b"memory"),
     }
 }
 
@@ -275,6 +298,7 @@ fn put_cause<S: Sink>(sink: &mut S, cause: Cause) -> Put
         Cause::Guest(fault) => put_guest_fault(sink, fault),
         Cause::Filter(fault) => put_filter_fault(sink, fault),
         Cause::Rules(fault) => put_rule_fault(sink, fault),
+        Cause::Asm(fault) => put_asm_fault(sink, fault),
     }
 }
 

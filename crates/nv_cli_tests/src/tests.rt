@@ -2,6 +2,7 @@ use crate::{Answered, Outside, monitor};
 use std::alloc::{AllocError, Global};
 
 mod alone;
+mod asm;
 mod line;
 mod refusals;
 mod rules;

@@ -108,17 +108,3 @@ fn words_of_rules(rt: HostRuntime) -> Result<(), Fail> {
     assert_eq!(rt; answered.written.as_slice(), b"varan: read q\n".as_slice());
     Ok(())
 }
-
-// The words of `asm` are read; its file is refused so far.
-#[test]
-fn words_of_asm(rt: HostRuntime) -> Result<(), Fail> {
-    let answered = call(rt.alloc(), &["varan", "asm", "r"], b"")?;
-    assert_eq!(rt; answered.status, 4);
-    assert_eq!(rt;
-        answered.written.as_slice(),
-        b"varan: input r: unbuilt\n".as_slice()
-    );
-    let answered = call(rt.alloc(), &["varan", "asm"], b"")?;
-    assert_eq!(rt; answered.status, 2);
-    Ok(())
-}
