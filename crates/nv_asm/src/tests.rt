@@ -258,7 +258,7 @@ fn has_fault(alloc: Global, text: &str, line: u32, cause: AsmCause) -> bool {
     assemble(alloc, text.as_bytes()).err() == Some(AsmFault::Line(line, cause))
 }
 
-// Four million bytes each.
+// About 4,194,304 bytes each.
 #[test]
 fn one_word(rt: HostRuntime) -> Result<(), Fail> {
     let text = repeated(rt.alloc(), "", "aaaa", 1_048_576)?;
@@ -289,7 +289,7 @@ fn lines(rt: HostRuntime) -> Result<(), Fail> {
 
 #[test]
 fn labels(rt: HostRuntime) -> Result<(), Fail> {
-    let text = of_labels(rt.alloc(), 466_000)?;
+    let text = of_labels(rt.alloc(), 478_379)?;
     assert!(rt; has_fault(rt.alloc(), &text, 1, AsmCause::Range));
     Ok(())
 }
