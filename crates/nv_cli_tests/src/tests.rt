@@ -4,6 +4,7 @@ use std::alloc::{AllocError, Global};
 mod alone;
 mod asm;
 mod line;
+mod linker;
 mod refusals;
 mod rules;
 mod several;
