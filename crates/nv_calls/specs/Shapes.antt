@@ -1,44 +1,56 @@
--- Which arguments of a call are values, and the form of a call that a guest can make.
-use Rattle.std.specs.Prelude.{◌≡◌, ℕ, true, ◌==◌, List, [], ◌∷◌, length, slice_index, min, if◌then◌else◌}
-use Rattle.nv_calls.specs.declared.calls.Slot.{Slot}
-use Rattle.nv_calls.specs.declared.calls.Slot.TheVariants.{Value, Address, Unused}
+-- The form of a call that a guest can make.
+use Rattle.std.specs.Prelude.{◌≡◌, ℕ, Bool, true, ◌==◌, ◌&&◌, ◌||◌, not, nat_le, List, [], ◌∷◌, length, slice_index, min, if◌then◌else◌}
+use Rattle.std.specs.List.{list_all}
+use Rattle.nv_calls.specs.declared.numbers.Syscall.{Syscall}
+use Rattle.nv_calls.specs.declared.numbers.Syscall.TheVariants.{Unlinkat, Openat, Write, Readv, Writev}
+use Rattle.nv_calls.specs.declared.numbers.Slot.{Slot}
+use Rattle.nv_calls.specs.declared.numbers.Slot.TheVariants.{Value, Address, Unused}
 use Rattle.nv_calls.specs.Calls.{Request}
+use Rattle.nv_calls.specs.Numbers.{syscall_of, slots_by, has_range}
 
-pub record Row : Type 0 where
-  pub nr : ℕ
-  pub slots : List Slot
+-- an argument that is no value is 0
+abbrev pub is_plain : Slot → ℕ → Bool
+is_plain Value arg = true
+is_plain Address arg = arg == 0
+is_plain Unused arg = arg == 0
 
--- Linux's calls that are built (syscalls(2)): write, exit, exit_group
-abbrev pub table : List Row
-table =
-    record { nr = 64; slots = Value ∷ Address ∷ Value ∷ Unused ∷ Unused ∷ Unused ∷ [] }
-    ∷ record { nr = 93; slots = Value ∷ Unused ∷ Unused ∷ Unused ∷ Unused ∷ Unused ∷ [] }
-    ∷ record { nr = 94; slots = Value ∷ Unused ∷ Unused ∷ Unused ∷ Unused ∷ Unused ∷ [] } ∷ []
+abbrev pub are_plain : List Slot → List ℕ → Bool
+are_plain [] args = true
+are_plain (slot ∷ slots) [] = true
+are_plain (slot ∷ slots) (arg ∷ args) = is_plain slot arg && are_plain slots args
 
-abbrev pub slots_in : List Row → ℕ → List Slot
-slots_in [] nr = Unused ∷ Unused ∷ Unused ∷ Unused ∷ Unused ∷ Unused ∷ []
-slots_in (row ∷ rows) nr = if nr == row.nr then row.slots else slots_in rows nr
+-- the fourth argument of readv holds how many bytes its vectors have room for
+abbrev pub kept_slots : Syscall → List Slot
+kept_slots Readv = Value ∷ Address ∷ Value ∷ Value ∷ Unused ∷ Unused ∷ []
+kept_slots syscall = slots_by syscall
 
-abbrev pub slots_of : ℕ → List Slot
-slots_of nr = slots_in table nr
+-- so many bytes may vectors have together: none where there are more than 1024 (IOV_MAX)
+abbrev pub most_of_vectors : Request → ℕ
+most_of_vectors c = if c.bad then 0 else (if nat_le (slice_index c.args 2) 1024 then 4096 else 0)
 
--- where an argument is no value, it is 0
-abbrev pub IsPlain : Slot → ℕ → Type 0
-IsPlain Value arg = Unit {0}
-IsPlain Address arg = arg ≡ 0
-IsPlain Unused arg = arg ≡ 0
+abbrev pub is_capacity : Syscall → Request → Bool
+is_capacity Readv c = nat_le (slice_index c.args 3) (most_of_vectors c)
+is_capacity _ c = true
 
-abbrev pub ArePlain : List Slot → List ℕ → Type 0
-ArePlain [] args = Unit {0}
-ArePlain (slot ∷ slots) [] = Unit {0}
-ArePlain (slot ∷ slots) (arg ∷ args) = IsPlain slot arg × ArePlain slots args
+-- the first bytes of a path, none of them 0
+abbrev pub is_path : List ℕ → Bool
+is_path bytes = nat_le (length bytes) 256 && list_all (λ b. not (b == 0)) bytes
 
--- how many bytes a call hands in
-abbrev pub handed_in : Request → ℕ
-handed_in c = if c.bad then 0 else if c.nr == 64 then min (slice_index c.args 2) 4096 else 0
+-- the bytes that a call on the guest's own memory hands in
+abbrev pub is_payload : Syscall → Request → Bool
+is_payload Unlinkat c = is_path c.payload
+is_payload Openat c = is_path c.payload
+is_payload Write c = length c.payload == min (slice_index c.args 2) 4096
+is_payload Writev c = nat_le (length c.payload) (most_of_vectors c)
+is_payload _ c = length c.payload == 0
+
+abbrev pub is_shaped_as : Syscall → Request → Bool
+is_shaped_as syscall c = are_plain (kept_slots syscall) c.args && ((not c.bad || has_range syscall)
+    && (is_capacity syscall c && (if c.bad then length c.payload == 0 else is_payload syscall c)))
+
+unfoldable pub is_shaped : Request → Bool
+is_shaped c = is_shaped_as (syscall_of c.nr) c
 
 -- a call that a guest can make
-pub record IsShaped (c : Request) : Type 0 where
-  pub plain : ArePlain (slots_of c.nr) c.args
-  pub bad : c.bad ≡ true → c.nr ≡ 64
-  pub payload : length c.payload ≡ handed_in c
+abbrev pub IsShaped : Request → Type 0
+IsShaped c = is_shaped c ≡ true

@@ -4,7 +4,11 @@
 mod bytes;
 mod calls;
 mod kernel;
+mod numbers;
+mod shapes;
 
 pub use bytes::Bytes;
-pub use calls::{Call, Event, Reply, Slot, same, shaped, slots};
+pub use calls::{Call, Event, Reply, same};
 pub use kernel::SyscallKernel;
+pub use numbers::{Slot, Syscall, slots};
+pub use shapes::shaped;

@@ -14,7 +14,7 @@ use Rattle.nv_replay.specs.declared.fate.Fate.TheVariants.{Exited}
 use Rattle.nv_replay.specs.declared.verdict.Verdict.{Verdict}
 use Rattle.nv_replay.specs.declared.verdict.Verdict.TheVariants.{Allow, Errno, Skip, Refuse}
 use Rattle.nv_replay.specs.Permits.{Permit, Give, Drop, No, permit, given, is_of_threads, verdict_of}
-use Rattle.nv_replay.specs.Constants.{constant_of}
+use Rattle.nv_calls.specs.Constants.{constant_of}
 use Rattle.nv_replay.specs.Follow.{Follower, Judge, decided, met, judged, consumed, permit_by, refusal_by, IsInStep, is_exited}
 use Rattle.nv_replay.proofs.Falling.{within}
 

@@ -1,5 +1,4 @@
 pub mod Settling
-pub mod Constants
 pub mod Permits
 pub mod Follow
 pub mod Lead

@@ -1,7 +1,7 @@
 -- What a rule lets a version do that makes another call than the log has next.
 use Rattle.std.specs.Prelude.{ℕ, pos, ◌-ℤ◌, ◌/◌, ◌%◌, Bool, ◌==◌, ◌||◌, ◌&&◌, not, nat_le, [], Option, Some, None, if◌then◌else◌}
 use Rattle.nv_calls.specs.Calls.{Request, Response, Entry}
-use Rattle.nv_replay.specs.Constants.{constant_of}
+use Rattle.nv_calls.specs.Constants.{constant_of}
 use Rattle.nv_replay.specs.declared.verdict.Verdict.{Verdict}
 use Rattle.nv_replay.specs.declared.verdict.Verdict.TheVariants.{Allow, Errno, Skip, Refuse}
 

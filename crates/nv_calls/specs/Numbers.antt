@@ -1,0 +1,79 @@
+-- Linux's calls for RISC-V by their numbers (syscalls(2), asm-generic/unistd.h), and which arguments of each are values.
+use Rattle.std.specs.Prelude.{ℕ, ◌==◌, Bool, true, false, List, [], ◌∷◌, if◌then◌else◌}
+use Rattle.nv_calls.specs.declared.numbers.Syscall.{Syscall}
+use Rattle.nv_calls.specs.declared.numbers.Syscall.TheVariants.{Getcwd, Dup, Dup3, Ioctl, Unlinkat, Openat, Close, Pipe2, Llseek, Read, Write, Readv, Writev, Exit, ExitGroup, Uname, Getpid, Getppid, Getuid, Geteuid, Getgid, Getegid, Clone, Getrandom, ClockGettime64, Unknown}
+use Rattle.nv_calls.specs.declared.numbers.Slot.{Slot}
+use Rattle.nv_calls.specs.declared.numbers.Slot.TheVariants.{Value, Address, Unused}
+
+pub record Row : Type 0 where
+  pub nr : ℕ
+  pub syscall : Syscall
+
+abbrev pub row : ℕ → Syscall → Row
+row nr syscall = record { nr = nr; syscall = syscall }
+
+abbrev pub table : List Row
+table =
+    row 17 Getcwd ∷ row 23 Dup ∷ row 24 Dup3 ∷ row 29 Ioctl ∷ row 35 Unlinkat ∷ row 56 Openat ∷ row 57 Close ∷ row 59 Pipe2
+    ∷ row 62 Llseek ∷ row 63 Read ∷ row 64 Write ∷ row 65 Readv ∷ row 66 Writev ∷ row 93 Exit ∷ row 94 ExitGroup ∷ row 160 Uname
+    ∷ row 172 Getpid ∷ row 173 Getppid ∷ row 174 Getuid ∷ row 175 Geteuid ∷ row 176 Getgid ∷ row 177 Getegid ∷ row 220 Clone
+    ∷ row 278 Getrandom ∷ row 403 ClockGettime64 ∷ []
+
+abbrev pub found : List Row → ℕ → Syscall
+found [] nr = Unknown
+found (row ∷ rows) nr = if nr == row.nr then row.syscall else found rows nr
+
+-- the call of a number
+unfoldable pub syscall_of : ℕ → Syscall
+syscall_of nr = found table nr
+
+-- what each argument of a call is, by the call's man page
+abbrev pub slots_by : Syscall → List Slot
+slots_by Getcwd = Address ∷ Value ∷ Unused ∷ Unused ∷ Unused ∷ Unused ∷ []
+slots_by Dup = Value ∷ Unused ∷ Unused ∷ Unused ∷ Unused ∷ Unused ∷ []
+slots_by Dup3 = Value ∷ Value ∷ Value ∷ Unused ∷ Unused ∷ Unused ∷ []
+slots_by Ioctl = Value ∷ Value ∷ Unused ∷ Unused ∷ Unused ∷ Unused ∷ []
+slots_by Unlinkat = Value ∷ Address ∷ Value ∷ Unused ∷ Unused ∷ Unused ∷ []
+slots_by Openat = Value ∷ Address ∷ Value ∷ Unused ∷ Unused ∷ Unused ∷ []
+slots_by Close = Value ∷ Unused ∷ Unused ∷ Unused ∷ Unused ∷ Unused ∷ []
+slots_by Pipe2 = Address ∷ Value ∷ Unused ∷ Unused ∷ Unused ∷ Unused ∷ []
+slots_by Llseek = Value ∷ Value ∷ Value ∷ Address ∷ Value ∷ Unused ∷ []
+slots_by Read = Value ∷ Address ∷ Value ∷ Unused ∷ Unused ∷ Unused ∷ []
+slots_by Write = Value ∷ Address ∷ Value ∷ Unused ∷ Unused ∷ Unused ∷ []
+slots_by Readv = Value ∷ Address ∷ Value ∷ Unused ∷ Unused ∷ Unused ∷ []
+slots_by Writev = Value ∷ Address ∷ Value ∷ Unused ∷ Unused ∷ Unused ∷ []
+slots_by Exit = Value ∷ Unused ∷ Unused ∷ Unused ∷ Unused ∷ Unused ∷ []
+slots_by ExitGroup = Value ∷ Unused ∷ Unused ∷ Unused ∷ Unused ∷ Unused ∷ []
+slots_by Uname = Address ∷ Unused ∷ Unused ∷ Unused ∷ Unused ∷ Unused ∷ []
+slots_by Clone = Value ∷ Address ∷ Unused ∷ Address ∷ Unused ∷ Unused ∷ []
+slots_by Getrandom = Address ∷ Value ∷ Value ∷ Unused ∷ Unused ∷ Unused ∷ []
+slots_by ClockGettime64 = Value ∷ Address ∷ Unused ∷ Unused ∷ Unused ∷ Unused ∷ []
+slots_by _ = Unused ∷ Unused ∷ Unused ∷ Unused ∷ Unused ∷ Unused ∷ []
+
+-- a number that isn't in the table has six unused arguments
+abbrev pub slots_of : ℕ → List Slot
+slots_of nr = slots_by (syscall_of nr)
+
+-- a call that reads or writes a range of the guest's memory
+abbrev pub has_range : Syscall → Bool
+has_range Getcwd = true
+has_range Unlinkat = true
+has_range Openat = true
+has_range Pipe2 = true
+has_range Llseek = true
+has_range Read = true
+has_range Write = true
+has_range Readv = true
+has_range Writev = true
+has_range Uname = true
+has_range Getrandom = true
+has_range ClockGettime64 = true
+has_range _ = false
+
+-- a call that hands bytes in
+abbrev pub hands_in : Syscall → Bool
+hands_in Unlinkat = true
+hands_in Openat = true
+hands_in Write = true
+hands_in Writev = true
+hands_in _ = false

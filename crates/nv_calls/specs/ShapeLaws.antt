@@ -1,0 +1,76 @@
+-- How many bytes a call that a guest can make hands in, and how many readv asks for.
+use Rattle.std.proofs.Common.{◌≡◌, ℕ, ◌≤◌, Bool, true, false, ◌==◌, ◌&&◌, ◌||◌, not, cond, nat_le, min, List, [], ◌∷◌, length, refl, arith}
+use Rattle.std.specs.Prelude.{slice_index}
+use Rattle.std.specs.List.{list_all}
+use Rattle.std.proofs.lemmas.Bool.{and_parts}
+use Rattle.std.proofs.lemmas.Bool.Decides.{nat_tests}
+use Rattle.nv_calls.specs.declared.numbers.Syscall.{Syscall}
+use Rattle.nv_calls.specs.declared.numbers.Syscall.TheVariants.{Unlinkat, Openat, Write, Readv, Writev}
+use Rattle.nv_calls.specs.Calls.{Request}
+use Rattle.nv_calls.specs.Numbers.{syscall_of, has_range, hands_in}
+use Rattle.nv_calls.specs.Shapes.{are_plain, kept_slots, most_of_vectors, is_capacity, is_path, is_payload, is_shaped_as, is_shaped, IsShaped}
+
+none : (c : Request) → (length c.payload == 0) ≡ true → length c.payload ≡ 0
+none c h = grind (arith, nat_tests)
+
+vectors_few : (c : Request) → most_of_vectors c ≤ 4096
+vectors_few c = by c.bad (nat_le (slice_index c.args 2) 1024)
+  where
+    by : (a b : Bool) → cond a 0 (cond b 4096 0) ≤ 4096
+    by true b = omega arith
+    by false true = omega arith
+    by false false = omega arith
+
+path_few : (c : Request) → is_path c.payload ≡ true → length c.payload ≤ 4096
+path_few c h = let p = (and_parts (nat_le (length c.payload) 256) _ h).0 in let few : length c.payload ≤ 256 = grind (arith, nat_tests) in omega arith
+
+payload_few : (k : Syscall) (c : Request) → is_payload k c ≡ true → length c.payload ≤ 4096
+payload_few Unlinkat c h = path_few c h
+payload_few Openat c h = path_few c h
+payload_few Write c h = grind (arith, nat_tests)
+payload_few Writev c h = let v = vectors_few c in let few : length c.payload ≤ most_of_vectors c = grind (arith, nat_tests) in omega arith
+payload_few _ c h = let z = none c h in omega arith
+
+payload_empty : (k : Syscall) (c : Request) → hands_in k ≡ false → is_payload k c ≡ true → length c.payload ≡ 0
+payload_empty Unlinkat c e h = cc
+payload_empty Openat c e h = cc
+payload_empty Write c e h = cc
+payload_empty Writev c e h = cc
+payload_empty _ c e h = none c h
+
+few_by : (b : Bool) (k : Syscall) (c : Request) → cond b (length c.payload == 0) (is_payload k c) ≡ true → length c.payload ≤ 4096
+few_by true k c h = let z = none c h in omega arith
+few_by false k c h = payload_few k c h
+
+empty_by : (b : Bool) (k : Syscall) (c : Request) → hands_in k ≡ false → cond b (length c.payload == 0) (is_payload k c) ≡ true → length c.payload ≡ 0
+empty_by true k c e h = none c h
+empty_by false k c e h = payload_empty k c e h
+
+-- the parts of the test
+pub record Shaped (k : Syscall) (c : Request) : Type 0 where
+  pub plain : are_plain (kept_slots k) c.args ≡ true
+  pub bad : (not c.bad || has_range k) ≡ true
+  pub capacity : is_capacity k c ≡ true
+  pub payload : cond c.bad (length c.payload == 0) (is_payload k c) ≡ true
+
+pub shaped-parts : (c : Request) → IsShaped c → Shaped (syscall_of c.nr) c
+unfolding is_shaped
+shaped-parts c h =
+    let k : Syscall = syscall_of c.nr in
+    let a = and_parts (are_plain (kept_slots k) c.args) _ h in
+    let b = and_parts (not c.bad || has_range k) _ a.1 in
+    let d = and_parts (is_capacity k c) _ b.1 in
+    record { plain = a.0; bad = b.0; capacity = d.0; payload = d.1 }
+
+pub shaped-few : (c : Request) → IsShaped c → length c.payload ≤ 4096
+shaped-few c h = few_by c.bad (syscall_of c.nr) c (shaped-parts c h).payload
+
+pub shaped-empty : (c : Request) → IsShaped c → hands_in (syscall_of c.nr) ≡ false → length c.payload ≡ 0
+shaped-empty c h e = empty_by c.bad (syscall_of c.nr) c e (shaped-parts c h).payload
+
+capacity_by : (k : Syscall) (c : Request) → k ≡ Readv → is_capacity k c ≡ true → slice_index c.args 3 ≤ 4096
+capacity_by Readv c e h = let v = vectors_few c in let few : slice_index c.args 3 ≤ most_of_vectors c = grind (arith, nat_tests) in omega arith
+capacity_by _ c e h = cc
+
+pub shaped-capacity : (c : Request) → IsShaped c → syscall_of c.nr ≡ Readv → slice_index c.args 3 ≤ 4096
+shaped-capacity c h e = capacity_by (syscall_of c.nr) c e (shaped-parts c h).capacity
