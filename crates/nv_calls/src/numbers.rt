@@ -86,7 +86,9 @@ impl Syscall {
         let a = Slot::Address;
         let u = Slot::Unused;
         match self {
-            Syscall::Dup | Syscall::Close | Syscall::Exit | Syscall::ExitGroup => [v, u, u, u, u, u],
+            Syscall::Dup | Syscall::Close | Syscall::Exit | Syscall::ExitGroup => [
+                v, u, u, u, u, u,
+            ],
             Syscall::Ioctl => [v, v, u, u, u, u],
             Syscall::Dup3 => [v, v, v, u, u, u],
             Syscall::Uname => [a, u, u, u, u, u],
