@@ -11,7 +11,7 @@ use Rattle.nv_memory.specs.declared.region.Right.TheVariants.{Read, Write}
 use Rattle.nv_memory.specs.Bytes.{bytes_at}
 use Rattle.nv_memory.specs.Regions.{holds}
 use Rattle.nv_memory.specs.Image.{Image}
-use Rattle.nv_machine.specs.Registers.{written}
+use Rattle.nv_machine.specs.Registers.{Registers, written}
 use Rattle.nv_machine.specs.Guest.{Machine, register, next}
 use Rattle.nv_guest.specs.declared.vectors.Part.{Part}
 use Rattle.nv_guest.specs.Paths.{path_at}
@@ -134,9 +134,10 @@ abbrev pub memory_after : Syscall → Machine → List ℕ → Image
 memory_after Readv m bytes = scattered m.memory (targets_at m.memory (vector_count m) (length bytes) (argument m 1)) bytes
 memory_after k m bytes = stored_at m.memory (out_of k m) bytes
 
--- the machine with the result in a0 and the bytes of the answer in memory, past the call
+-- the registers with the result in a0, past the call
+abbrev pub past : Registers → ℕ → Registers
+past regs value = record regs { x = written regs.x 10 value; pc = next regs }
+
+-- the machine with this result and these bytes as the answer
 unfoldable pub answered : Machine → ℤ → List ℕ → Machine
-answered m ret bytes = record {
-  regs = record m.regs { x = written m.regs.x 10 (cast_unsigned w32 ret); pc = next m.regs };
-  memory = memory_after (syscall_of (number m)) m bytes;
-}
+answered m ret bytes = record { regs = past m.regs (cast_unsigned w32 ret); memory = memory_after (syscall_of (number m)) m bytes }

@@ -1,5 +1,5 @@
 // What a call hands over, and where its answer goes.
-ghost use Rattle.std.specs.Prelude.{◌≡◌, ◌≤◌, length, option_map, Option, IfSome};
+ghost use Rattle.std.specs.Prelude.{◌≡◌, ◌≤◌, length, Some};
 ghost use Rattle.nv_guest.specs.Guest.{machine_of};
 ghost use Rattle.nv_guest.specs.Calls.{argument, kept, values, values_with, out_of, vector_count, path_in, bytes_in, vectors_in, room_in, refused, with_payload, with_room, with_out, handed, stored_at, memory_after};
 
@@ -38,15 +38,26 @@ fn kept(slot: Slot, arg: u32) -> u32
     }
 }
 
-// The bytes as the payload, or none of them where they may not be read.
-fn hand(payload: &mut Bytes, bytes: Option<&[u8]>) -> Handed
-    requires { IfSome bytes (λ bytes. length bytes.now ≤ payload.old.room) }
-    ensures handed { record { bad = result.bad; payload = payload.new.bytes; room = result.room } ≡ with_payload (option_map (λ bytes. bytes.now) bytes) }
+// These bytes are the payload.
+fn fill(payload: &mut Bytes, bytes: &[u8]) -> Handed
+    requires { length bytes.now ≤ payload.old.room }
+    ensures handed { record { bad = result.bad; payload = payload.new.bytes; room = result.room } ≡ with_payload (Some bytes.now) }
     ensures room { payload.new.room ≡ payload.old.room }
 {
-    let bad = bytes.is_none();
-    payload.set(bytes.unwrap_or(&[]));
-    Handed { bad, room: 0 }
+    payload.set(bytes);
+    Handed {
+        bad: false,
+        room: 0,
+    }
+}
+
+// A range isn't the guest's.
+fn refuse(payload: &mut Bytes) -> Handed
+    ensures handed { record { bad = result.bad; payload = payload.new.bytes; room = result.room } ≡ refused }
+    ensures room { payload.new.room ≡ payload.old.room }
+{
+    payload.set(&[]);
+    Handed { bad: true, room: 0 }
 }
 
 impl Guest {
@@ -117,8 +128,10 @@ impl Guest {
         ensures room { payload.new.room ≡ payload.old.room }
     {
         let mut path = [0; MOST_PATH];
-        let count = read_path(&self.memory, self.argument(1), &mut path);
-        hand(payload, count.map(|count| &path[..count]))
+        match read_path(&self.memory, self.argument(1), &mut path) {
+            Some(count) => fill(payload, &path[..count]),
+            None => refuse(payload),
+        }
     }
 
     fn hand_bytes(&self, payload: &mut Bytes) -> Handed
@@ -127,7 +140,10 @@ impl Guest {
         ensures room { payload.new.room ≡ payload.old.room }
     {
         let count = self.argument(2).min(MOST_BYTES);
-        hand(payload, self.memory.bytes(self.argument(1), count).ok())
+        match self.memory.bytes(self.argument(1), count) {
+            Ok(bytes) => fill(payload, bytes),
+            Err(_) => refuse(payload),
+        }
     }
 
     fn hand_vectors(&self, payload: &mut Bytes) -> Handed
@@ -136,8 +152,10 @@ impl Guest {
         ensures room { payload.new.room ≡ payload.old.room }
     {
         let mut bytes = [0; MOST_BYTES as usize];
-        let count = gather(&self.memory, self.argument(1), self.vector_count(), &mut bytes);
-        hand(payload, count.map(|count| &bytes[..count]))
+        match gather(&self.memory, self.argument(1), self.vector_count(), &mut bytes) {
+            Some(count) => fill(payload, &bytes[..count]),
+            None => refuse(payload),
+        }
     }
 
     fn hand_room(&self, payload: &mut Bytes) -> Handed

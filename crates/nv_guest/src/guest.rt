@@ -16,7 +16,7 @@ pub struct Guest {
 
 impl Guest {
     ghost use Rattle.nv_guest.specs.Guest.{machine_of};
-    ghost use Rattle.nv_guest.specs.Calls.{call_at, answered};
+    ghost use Rattle.nv_guest.specs.Calls.{call_at, past, answered};
     ghost use Rattle.nv_calls.specs.Calls.{request};
     ghost use Rattle.nv_calls.specs.Shapes.{IsShaped};
     ghost use Rattle.nv_machine.specs.Guest.{guest_step};
@@ -74,7 +74,14 @@ impl Guest {
     {
         let syscall = Syscall::of(self.regs.get(17));
         self.hand_back(syscall, payload);
-        self.regs.set(10, ret.cast_unsigned());
+        self.go_past(ret.cast_unsigned());
+    }
+
+    // Puts the result into a0 and goes past the call.
+    fn go_past(&mut self, value: u32)
+        ensures { machine_of self.new ≡ record (machine_of self.old) { regs = past (machine_of self.old).regs value } }
+    {
+        self.regs.set(10, value);
         self.regs.pc = self.regs.pc.wrapping_add(4);
     }
 }
