@@ -152,7 +152,12 @@ impl Guest {
         ensures room { payload.new.room ≡ payload.old.room }
     {
         let mut bytes = [0; MOST_BYTES as usize];
-        match gather(&self.memory, self.argument(1), self.vector_count(), &mut bytes) {
+        match gather(
+            &self.memory,
+            self.argument(1),
+            self.vector_count(),
+            &mut bytes,
+        ) {
             Some(count) => fill(payload, &bytes[..count]),
             None => refuse(payload),
         }
@@ -163,7 +168,12 @@ impl Guest {
         ensures room { payload.new.room ≡ payload.old.room }
     {
         payload.set(&[]);
-        let room = room_of(&self.memory, self.argument(1), self.vector_count(), MOST_BYTES);
+        let room = room_of(
+            &self.memory,
+            self.argument(1),
+            self.vector_count(),
+            MOST_BYTES,
+        );
         Handed {
             bad: room.is_none(),
             room: room.unwrap_or(0),

@@ -1,8 +1,8 @@
 // A guest with one thread.
 ghost use Rattle.std.specs.Prelude.{◌≡◌, ◌≢◌, ◌≤◌};
 
-use crate::outcome::Asked;
 use crate::calls::MOST_BYTES;
+use crate::outcome::Asked;
 use nv_calls::{Call, Syscall};
 use nv_machine::{Regs, Stepped, step};
 use nv_memory::Memory;

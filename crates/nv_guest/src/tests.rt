@@ -174,7 +174,7 @@ fn calls_hand_over(rt: HostRuntime) -> Result<(), Fail> {
     assert_eq!(rt; guest.call_of(100, &mut call), Asked::Logged);
     assert!(rt; call.bad && call.payload.as_slice().is_empty());
     assert!(rt; put_vector(&mut guest.memory, 0x30000, 0x3fffd, 3));
-    assert!(rt; put_vector(&mut guest.memory, 0x30008, 0x3fffc, 1));
+    assert!(rt; put_vector(&mut guest.memory, 0x30008, 0x3ffff, 1));
     set_call(&mut guest, 65, 0, 0x30000, 2);
     assert_eq!(rt; guest.call_of(100, &mut call), Asked::Logged);
     assert_eq!(rt; call.args, [0, 0, 2, 4, 0, 0]);
@@ -198,22 +198,22 @@ fn answers_come_into_memory(rt: HostRuntime) -> Result<(), Fail> {
     let program = nv_elf::read(alloc, &FILE)?;
     let mut guest = Guest::make(alloc, &program, &[], 0x40000)?;
     let mut bytes = [0; 8];
-    set_call(&mut guest, 63, 0, 0x3fff8, 3);
+    set_call(&mut guest, 63, 0, 0x30010, 3);
     guest.answer(100, 3, b"abc");
-    assert_eq!(rt; guest.memory.copy_in(0x3fff8, &mut bytes), Ok(()));
+    assert_eq!(rt; guest.memory.copy_in(0x30010, &mut bytes), Ok(()));
     assert_eq!(rt; bytes, *b"abc\0\0\0\0\0");
     assert_eq!(rt; guest.regs(100).get(10), 3);
     assert_eq!(rt; guest.pc(100), 0x10004);
-    assert!(rt; put_vector(&mut guest.memory, 0x30000, 0x3fffe, 2));
-    assert!(rt; put_vector(&mut guest.memory, 0x30008, 0x3fff8, 2));
+    assert!(rt; put_vector(&mut guest.memory, 0x30000, 0x30016, 2));
+    assert!(rt; put_vector(&mut guest.memory, 0x30008, 0x30010, 2));
     set_call(&mut guest, 65, 0, 0x30000, 2);
     guest.answer(100, 3, b"xyz");
-    assert_eq!(rt; guest.memory.copy_in(0x3fff8, &mut bytes), Ok(()));
+    assert_eq!(rt; guest.memory.copy_in(0x30010, &mut bytes), Ok(()));
     assert_eq!(rt; bytes, *b"zbc\0\0\0xy");
     set_call(&mut guest, 62, 3, 0, 5);
-    guest.regs.set(13, 0x3fff8);
+    guest.regs.set(13, 0x30010);
     guest.answer(100, 0, b"\x05\0\0\0\0\0\0\0");
-    assert_eq!(rt; guest.memory.copy_in(0x3fff8, &mut bytes), Ok(()));
+    assert_eq!(rt; guest.memory.copy_in(0x30010, &mut bytes), Ok(()));
     assert_eq!(rt; bytes, *b"\x05\0\0\0\0\0\0\0");
     Ok(())
 }
