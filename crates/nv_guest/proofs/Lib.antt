@@ -1,4 +1,5 @@
 pub mod Shaped
+pub mod Calling
 pub mod Strings
 pub mod Placed
 pub mod Walks

@@ -1,22 +1,156 @@
--- A write that the guest asks for has the form of a call.
-use Rattle.std.proofs.Common.{◌≡◌, ℕ, zero, suc, ◌+◌, List, [], Bool, true, false, not, if◌then◌else◌, length, refl, arith}
-use Rattle.nv_calls.specs.Shapes.{IsShaped}
+-- A call that the guest asks for has the form of a call.
+use Rattle.std.proofs.Common.{◌≡◌, ℕ, zero, suc, ◌+◌, ◌-◌, ◌≤◌, Bool, true, false, not, ◌==◌, ◌&&◌, nat_le, min, cond, List, [], ◌∷◌, ◌++◌, length, Option, Some, None, option_map, refl, sym, ap, ◌∙◌, arith, length-append}
+use Rattle.std.specs.Prelude.{IfSome}
+use Rattle.std.specs.List.{list_all}
+use Rattle.std.proofs.lemmas.Bool.{cases_Bool}
+use Rattle.std.proofs.lemmas.Bool.Decides.{nat_tests}
+use Rattle.nv_calls.specs.declared.numbers.Syscall.{Syscall}
+use Rattle.nv_calls.specs.declared.numbers.Syscall.TheVariants.{Getcwd, Unlinkat, Openat, Pipe2, Llseek, Read as ReadCall, Write as WriteCall, Readv, Writev, Uname, Getrandom, ClockGettime64}
+use Rattle.nv_calls.specs.Calls.{Request}
+use Rattle.nv_calls.specs.Numbers.{syscall_of}
+use Rattle.nv_calls.specs.Shapes.{is_path, is_shaped_as, is_shaped, IsShaped}
+use Rattle.nv_memory.specs.declared.region.Right.{Right}
+use Rattle.nv_memory.specs.declared.region.Right.TheVariants.{Read, Write}
 use Rattle.nv_memory.specs.Bytes.{bytes_at}
+use Rattle.nv_memory.specs.Regions.{holds}
+use Rattle.nv_memory.specs.Image.{Image}
 use Rattle.nv_machine.specs.Guest.{Machine}
-use Rattle.nv_guest.specs.Calls.{write_call, count_in, may_write, argument}
+use Rattle.nv_guest.specs.declared.vectors.Part.{Part}
+use Rattle.nv_guest.specs.Paths.{byte_at, path_with, path_at}
+use Rattle.nv_guest.specs.Vectors.{vector_at, front_of, usable_by, usable_at, parts_with, parts_at, capacity, joined}
+use Rattle.nv_guest.specs.Calls.{argument, number, out_of, vector_count, bytes_in, path_in, vectors_in, room_in, Handed, refused, with_payload, with_room, with_out, handed, call_by, call_at}
 
 pub length-bytes_at : (bytes : List ℕ) (a n : ℕ) → length (bytes_at bytes a n) ≡ n
 length-bytes_at bytes a zero = refl
 length-bytes_at bytes a (suc n) = let h : length (bytes_at bytes (a + 1) n) ≡ n = length-bytes_at bytes (a + 1) n in omega arith
 
--- as many bytes as were asked for, where they may be read
-length-part : (readable : Bool) (bytes : List ℕ) (address count : ℕ) → length (if readable then bytes_at bytes address count else []) ≡ (if not readable then 0 else count)
-length-part false bytes address count = refl
-length-part true bytes address count = length-bytes_at bytes address count
+mapped : {A B : Type 0} (f : A → B) (Q : B → Type 0) (o : Option A) → IfSome o (λ x. Q (f x)) → IfSome (option_map f o) Q
+mapped f Q None h = tt
+mapped f Q (Some x) h = h
 
-pub write_is_shaped : (m : Machine) (tid : ℕ) → IsShaped (write_call m tid)
-write_is_shaped m tid = record {
-  plain = (tt, (refl, (tt, (refl, (refl, (refl, tt))))));
-  bad = λ _. refl;
-  payload = length-part (may_write m) m.memory.bytes (argument m 1) (count_in m);
-}
+-- ---- paths
+
+-- so many bytes at most, none of them 0
+record IsPathBy (most : ℕ) (bytes : List ℕ) : Type 0 where
+  few : length bytes ≤ most
+  ended : list_all (λ b. not (b == 0)) bytes ≡ true
+
+path-next : (b n : ℕ) (ends : Bool) (later : Option (List ℕ)) → (b == 0) ≡ ends → IfSome later (IsPathBy n)
+    → IfSome (cond ends (Some []) (option_map (λ bs. b ∷ bs) later)) (IsPathBy (suc n))
+path-next b n true later e h = record { few = omega arith; ended = refl }
+path-next b n false None e h = tt
+path-next b n false (Some bs) e h = record { few = omega (arith, h.few); ended = rw e h.ended }
+
+path-step : (byte : Option ℕ) (n : ℕ) (later : Option (List ℕ)) → IfSome later (IsPathBy n) → IfSome (path_with byte later) (IsPathBy (suc n))
+path-step None n later h = tt
+path-step (Some b) n later h = path-next b n (b == 0) later refl h
+
+path-fits : (most : ℕ) (memory : Image) (at : ℕ) → IfSome (path_at most memory at) (IsPathBy most)
+unfolding path_at
+path-fits zero memory at = record { few = omega arith; ended = refl }
+path-fits (suc most) memory at = path-step (byte_at memory at) most (path_at most memory (at + 1)) (path-fits most memory (at + 1))
+
+path-is : (bytes : List ℕ) → IsPathBy 256 bytes → is_path bytes ≡ true
+path-is bytes h = let few : nat_le (length bytes) 256 ≡ true = (let f = h.few in grind (arith, nat_tests)) in rw (few, h.ended) refl
+
+-- ---- vectors
+
+front-few : (may : Bool) (most : ℕ) (part : Part) → IfSome (cond may (Some (front_of most part)) None) (λ p. p.size ≤ most)
+front-few true most part = omega arith
+front-few false most part = tt
+
+usable-few : (memory : Image) (right : Right) (most : ℕ) (o : Option Part) → IfSome (usable_by memory right most o) (λ p. p.size ≤ most)
+usable-few memory right most None = tt
+usable-few memory right most (Some part) = front-few (holds memory.regions part.address (min part.size most) right) most part
+
+parts-next : (part : Part) (most : ℕ) (later : Option (List Part)) → part.size ≤ most → IfSome later (λ ps. capacity ps ≤ most - part.size)
+    → IfSome (option_map (λ ps. part ∷ ps) later) (λ ps. capacity ps ≤ most)
+parts-next part most None few h = tt
+parts-next part most (Some ps) few h = omega (arith, few, h)
+
+parts-step : (o : Option Part) (most : ℕ) (later : ℕ → Option (List Part)) → IfSome o (λ p. p.size ≤ most)
+    → ((size : ℕ) → IfSome (later size) (λ ps. capacity ps ≤ most - size)) → IfSome (parts_with o later) (λ ps. capacity ps ≤ most)
+parts-step None most later few h = tt
+parts-step (Some part) most later few h = parts-next part most (later part.size) few (h part.size)
+
+parts-some : (left : Bool) (most : ℕ) (later : Option (List Part)) → IfSome later (λ ps. capacity ps ≤ most) → IfSome (cond left (Some []) later) (λ ps. capacity ps ≤ most)
+parts-some true most later h = omega arith
+parts-some false most later h = h
+
+parts-few : (memory : Image) (right : Right) (count most at : ℕ) → IfSome (parts_at memory right count most at) (λ ps. capacity ps ≤ most)
+unfolding parts_at
+parts-few memory right zero most at = omega arith
+parts-few memory right (suc count) most at =
+    parts-some (most == 0) most (parts_with (usable_at memory right most at) (λ size. parts_at memory right count (most - size) (at + 8)))
+    (parts-step (usable_at memory right most at) most (λ size. parts_at memory right count (most - size) (at + 8)) (usable-few memory right most (vector_at memory at))
+    (λ size. parts-few memory right count (most - size) (at + 8)))
+
+-- none, where there are too many vectors
+counted : (memory : Image) (right : Right) (few : Bool) (count most at : ℕ) → IfSome (parts_at memory right (cond few count 0) most at) (λ ps. nat_le (capacity ps) (cond few most 0) ≡ true)
+unfolding parts_at
+counted memory right true count most at = tested (parts_at memory right count most at) (parts-few memory right count most at)
+  where
+    tested : (o : Option (List Part)) → IfSome o (λ ps. capacity ps ≤ most) → IfSome o (λ ps. nat_le (capacity ps) most ≡ true)
+    tested None h = tt
+    tested (Some ps) h = grind (arith, nat_tests)
+counted memory right false count most at = refl
+
+length-joined : (memory : Image) (parts : List Part) → length (joined memory parts) ≡ capacity parts
+length-joined memory [] = refl
+length-joined memory (part ∷ parts) =
+    length-append (bytes_at memory.bytes part.address part.size) (joined memory parts)
+    ∙ ap (λ n. n + length (joined memory parts)) (length-bytes_at memory.bytes part.address part.size)
+    ∙ ap (λ n. part.size + n) (length-joined memory parts)
+
+gathered : (memory : Image) (o : Option (List Part)) (most : ℕ) → IfSome o (λ ps. nat_le (capacity ps) most ≡ true)
+    → IfSome (option_map (joined memory) o) (λ bytes. nat_le (length bytes) most ≡ true)
+gathered memory None most h = tt
+gathered memory (Some parts) most h = rw (length-joined memory parts) h
+
+-- ---- by what a call hands over
+
+by_out : (P : Handed → Type 0) (memory : Image) (o : Option Part) → P (with_payload (Some [])) → P refused → P (with_out memory o)
+by_out P memory None nothing bad = nothing
+by_out P memory (Some part) nothing bad = tested (holds memory.regions part.address part.size Write)
+  where
+    tested : (may : Bool) → P (cond may (with_payload (Some [])) refused)
+    tested true = nothing
+    tested false = bad
+
+by_payload : (P : Handed → Type 0) (Q : List ℕ → Type 0) (o : Option (List ℕ)) → IfSome o Q → P refused → ((bytes : List ℕ) → Q bytes → P (with_payload (Some bytes))) → P (with_payload o)
+by_payload P Q None h bad good = bad
+by_payload P Q (Some bytes) h bad good = good bytes h
+
+by_room : (P : Handed → Type 0) (Q : ℕ → Type 0) (o : Option ℕ) → IfSome o Q → P refused → ((room : ℕ) → Q room → P (with_room (Some room))) → P (with_room o)
+by_room P Q None h bad good = bad
+by_room P Q (Some room) h bad good = good room h
+
+written_in : (bytes : List ℕ) (a n : ℕ) (may : Bool) → IfSome (cond may (Some (bytes_at bytes a n)) None) (λ xs. (length xs == n) ≡ true)
+written_in bytes a n true = let h : length (bytes_at bytes a n) ≡ n = length-bytes_at bytes a n in grind (arith, nat_tests)
+written_in bytes a n false = tt
+
+-- the call with what it hands over has the form
+abbrev Fit : Syscall → Machine → ℕ → Handed → Type 0
+Fit k m tid h = is_shaped_as k (call_by k m tid h) ≡ true
+
+shaped-by : (k : Syscall) (m : Machine) (tid : ℕ) → Fit k m tid (handed k m)
+shaped-by Unlinkat m tid = by_payload (Fit Unlinkat m tid) (IsPathBy 256) (path_in m) (path-fits 256 m.memory (argument m 1)) refl (λ bytes h. path-is bytes h)
+shaped-by Openat m tid = by_payload (Fit Openat m tid) (IsPathBy 256) (path_in m) (path-fits 256 m.memory (argument m 1)) refl (λ bytes h. path-is bytes h)
+shaped-by WriteCall m tid = by_payload (Fit WriteCall m tid) (λ xs. (length xs == min (argument m 2) 4096) ≡ true) (bytes_in m)
+    (written_in m.memory.bytes (argument m 1) (min (argument m 2) 4096) (holds m.memory.regions (argument m 1) (min (argument m 2) 4096) Read)) refl (λ bytes h. h)
+shaped-by Writev m tid = by_payload (Fit Writev m tid) (λ xs. nat_le (length xs) (cond (nat_le (argument m 2) 1024) 4096 0) ≡ true) (vectors_in m)
+    (gathered m.memory (parts_at m.memory Read (vector_count m) 4096 (argument m 1)) (cond (nat_le (argument m 2) 1024) 4096 0) (counted m.memory Read (nat_le (argument m 2) 1024) (argument m 2) 4096 (argument m 1))) refl (λ bytes h. h)
+shaped-by Readv m tid = by_room (Fit Readv m tid) (λ room. nat_le room (cond (nat_le (argument m 2) 1024) 4096 0) ≡ true) (room_in m)
+    (mapped capacity (λ room. nat_le room (cond (nat_le (argument m 2) 1024) 4096 0) ≡ true) (parts_at m.memory Write (vector_count m) 4096 (argument m 1)) (counted m.memory Write (nat_le (argument m 2) 1024) (argument m 2) 4096 (argument m 1))) refl (λ room h. rw h refl)
+shaped-by Getcwd m tid = by_out (Fit Getcwd m tid) m.memory (out_of Getcwd m) refl refl
+shaped-by Pipe2 m tid = by_out (Fit Pipe2 m tid) m.memory (out_of Pipe2 m) refl refl
+shaped-by Llseek m tid = by_out (Fit Llseek m tid) m.memory (out_of Llseek m) refl refl
+shaped-by ReadCall m tid = by_out (Fit ReadCall m tid) m.memory (out_of ReadCall m) refl refl
+shaped-by Uname m tid = by_out (Fit Uname m tid) m.memory (out_of Uname m) refl refl
+shaped-by Getrandom m tid = by_out (Fit Getrandom m tid) m.memory (out_of Getrandom m) refl refl
+shaped-by ClockGettime64 m tid = by_out (Fit ClockGettime64 m tid) m.memory (out_of ClockGettime64 m) refl refl
+shaped-by _ m tid = refl
+
+pub call_is_shaped : (m : Machine) (tid : ℕ) → IsShaped (call_at m tid)
+unfolding is_shaped call_at
+call_is_shaped m tid = shaped-by (syscall_of (number m)) m tid

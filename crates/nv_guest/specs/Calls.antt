@@ -1,12 +1,22 @@
 -- Calls as the machine makes them, in Linux's convention for RISC-V (syscall(2)): number in a7, arguments in a0 to a5, result in a0.
-use Rattle.std.specs.Prelude.{ℕ, ◌+◌, min, [], ◌∷◌, Bool, false, not, ◌||◌, ℤ, if◌then◌else◌, ◌==◌}
+use Rattle.std.specs.Prelude.{ℕ, ◌+◌, min, List, [], ◌∷◌, length, Bool, true, false, ℤ, Option, Some, None, option_map, nat_le, slice_set, if◌then◌else◌}
 use Rattle.std.specs.Int.{w32, cast_unsigned}
+use Rattle.nv_calls.specs.declared.numbers.Syscall.{Syscall}
+use Rattle.nv_calls.specs.declared.numbers.Syscall.TheVariants.{Getcwd, Unlinkat, Openat, Pipe2, Llseek, Read as ReadCall, Write as WriteCall, Readv, Writev, Uname, Getrandom, ClockGettime64}
+use Rattle.nv_calls.specs.declared.numbers.Slot.{Slot}
+use Rattle.nv_calls.specs.declared.numbers.Slot.TheVariants.{Value, Address, Unused}
 use Rattle.nv_calls.specs.Calls.{Request}
-use Rattle.nv_memory.specs.declared.region.Right.TheVariants.{Read}
+use Rattle.nv_calls.specs.Numbers.{syscall_of, slots_by}
+use Rattle.nv_memory.specs.declared.region.Right.TheVariants.{Read, Write}
 use Rattle.nv_memory.specs.Bytes.{bytes_at}
 use Rattle.nv_memory.specs.Regions.{holds}
-use Rattle.nv_machine.specs.Registers.{written}
+use Rattle.nv_memory.specs.Image.{Image}
+use Rattle.nv_machine.specs.Registers.{Registers, written}
 use Rattle.nv_machine.specs.Guest.{Machine, register, next}
+use Rattle.nv_guest.specs.declared.vectors.Part.{Part}
+use Rattle.nv_guest.specs.Paths.{path_at}
+use Rattle.nv_guest.specs.Vectors.{parts_at, capacity, joined}
+use Rattle.nv_guest.specs.Answers.{with_bytes, targets_at, scattered}
 
 -- argument n, which is in register a0 + n
 abbrev pub argument : Machine → ℕ → ℕ
@@ -16,37 +26,118 @@ argument m n = register m.regs (10 + n)
 abbrev pub number : Machine → ℕ
 number m = register m.regs 17
 
--- the bytes that a write hands in: the first 4096
-abbrev pub count_in : Machine → ℕ
-count_in m = min (argument m 2) 4096
+-- ---- the arguments
 
--- they may be read
-abbrev pub may_write : Machine → Bool
-may_write m = holds m.memory.regions (argument m 1) (count_in m) Read
+-- an argument that is an address or isn't used counts as 0
+abbrev pub kept : Slot → ℕ → ℕ
+kept Value arg = arg
+kept Address arg = 0
+kept Unused arg = 0
 
--- write takes a value, an address and a value; its bytes are the payload where they may be read
-abbrev pub write_call : Machine → ℕ → Request
-write_call m tid = record {
-  tid = tid;
-  nr = 64;
-  args = argument m 0 ∷ 0 ∷ argument m 2 ∷ 0 ∷ 0 ∷ 0 ∷ [];
-  bad = not (may_write m);
-  payload = if may_write m then bytes_at m.memory.bytes (argument m 1) (count_in m) else [];
-}
+abbrev pub all_kept : List Slot → List ℕ → List ℕ
+all_kept [] args = []
+all_kept (slot ∷ slots) [] = []
+all_kept (slot ∷ slots) (arg ∷ args) = kept slot arg ∷ all_kept slots args
 
--- exit and exit_group take a value
-abbrev pub exit_call : Machine → ℕ → Request
-exit_call m tid = record { tid = tid; nr = number m; args = argument m 0 ∷ 0 ∷ 0 ∷ 0 ∷ 0 ∷ 0 ∷ []; bad = false; payload = [] }
+abbrev pub values : Syscall → Machine → List ℕ
+values k m = all_kept (slots_by k) (argument m 0 ∷ argument m 1 ∷ argument m 2 ∷ argument m 3 ∷ argument m 4 ∷ argument m 5 ∷ [])
 
--- all other numbers have six unused slots
-abbrev pub other_call : Machine → ℕ → Request
-other_call m tid = record { tid = tid; nr = number m; args = 0 ∷ 0 ∷ 0 ∷ 0 ∷ 0 ∷ 0 ∷ []; bad = false; payload = [] }
+-- the fourth of readv holds how many bytes its vectors have room for
+abbrev pub values_with : Syscall → Machine → ℕ → List ℕ
+values_with Readv m room = slice_set (values Readv m) 3 room
+values_with k m room = values k m
+
+-- ---- the ranges of memory
+
+-- the part of memory that a call's answer goes to, unless vectors name it, by its man page: at most 2 bytes of getcwd's path are needed for `/`,
+-- and no call moves more than 4096 bytes
+abbrev pub out_of : Syscall → Machine → Option Part
+out_of Getcwd m = Some (record { address = argument m 0; size = min (argument m 1) 2 })
+out_of Pipe2 m = Some (record { address = argument m 0; size = 8 })
+out_of Llseek m = Some (record { address = argument m 3; size = 8 })
+out_of ReadCall m = Some (record { address = argument m 1; size = min (argument m 2) 4096 })
+out_of Uname m = Some (record { address = argument m 0; size = 390 })
+out_of Getrandom m = Some (record { address = argument m 0; size = min (argument m 1) 4096 })
+out_of ClockGettime64 m = Some (record { address = argument m 1; size = 16 })
+out_of _ m = None
+
+-- how many vectors a call has: where there are more than 1024 (IOV_MAX) none is read
+abbrev pub vector_count : Machine → ℕ
+vector_count m = if nat_le (argument m 2) 1024 then argument m 2 else 0
+
+-- the first 4096 bytes of a write, where they may be read
+abbrev pub bytes_in : Machine → Option (List ℕ)
+bytes_in m = if holds m.memory.regions (argument m 1) (min (argument m 2) 4096) Read
+    then Some (bytes_at m.memory.bytes (argument m 1) (min (argument m 2) 4096)) else None
+
+-- the first 256 bytes of a path, or those before its 0
+abbrev pub path_in : Machine → Option (List ℕ)
+path_in m = path_at 256 m.memory (argument m 1)
+
+-- the first 4096 bytes that vectors name
+abbrev pub vectors_in : Machine → Option (List ℕ)
+vectors_in m = option_map (joined m.memory) (parts_at m.memory Read (vector_count m) 4096 (argument m 1))
+
+-- how many bytes vectors have room for, at most 4096
+abbrev pub room_in : Machine → Option ℕ
+room_in m = option_map capacity (parts_at m.memory Write (vector_count m) 4096 (argument m 1))
+
+-- ---- what a call hands over
+
+pub record Handed : Type 0 where
+  -- a range isn't the guest's to read or write
+  pub bad : Bool
+  pub payload : List ℕ
+  -- how many bytes the vectors of a readv have room for
+  pub room : ℕ
+
+abbrev pub refused : Handed
+refused = record { bad = true; payload = []; room = 0 }
+
+abbrev pub with_payload : Option (List ℕ) → Handed
+with_payload None = refused
+with_payload (Some bytes) = record { bad = false; payload = bytes; room = 0 }
+
+abbrev pub with_room : Option ℕ → Handed
+with_room None = refused
+with_room (Some room) = record { bad = false; payload = []; room = room }
+
+-- nothing, where the bytes of the answer may be written
+abbrev pub with_out : Image → Option Part → Handed
+with_out memory None = with_payload (Some [])
+with_out memory (Some part) = if holds memory.regions part.address part.size Write then with_payload (Some []) else refused
+
+abbrev pub handed : Syscall → Machine → Handed
+handed Unlinkat m = with_payload (path_in m)
+handed Openat m = with_payload (path_in m)
+handed WriteCall m = with_payload (bytes_in m)
+handed Writev m = with_payload (vectors_in m)
+handed Readv m = with_room (room_in m)
+handed k m = with_out m.memory (out_of k m)
+
+abbrev pub call_by : Syscall → Machine → ℕ → Handed → Request
+call_by k m tid h = record { tid = tid; nr = number m; args = values_with k m h.room; bad = h.bad; payload = h.payload }
 
 -- the call that the machine asks for
-abbrev pub call_at : Machine → ℕ → Request
-call_at m tid = if number m == 64 then write_call m tid
-    else (if number m == 93 || number m == 94 then exit_call m tid else other_call m tid)
+unfoldable pub call_at : Machine → ℕ → Request
+call_at m tid = call_by (syscall_of (number m)) m tid (handed (syscall_of (number m)) m)
 
--- the machine with the result in a0, past the call
-abbrev pub answered : Machine → ℤ → Machine
-answered m ret = record m { regs = record m.regs { x = written m.regs.x 10 (cast_unsigned w32 ret); pc = next m.regs } }
+-- ---- the answer
+
+-- the bytes of an answer from an address on
+abbrev pub stored_at : Image → Option Part → List ℕ → Image
+stored_at memory None bytes = memory
+stored_at memory (Some part) bytes = with_bytes memory part.address bytes
+
+-- the memory with the bytes of an answer, as far as they may be written; a call without a place for them stores none
+abbrev pub memory_after : Syscall → Machine → List ℕ → Image
+memory_after Readv m bytes = scattered m.memory (targets_at m.memory (vector_count m) (length bytes) (argument m 1)) bytes
+memory_after k m bytes = stored_at m.memory (out_of k m) bytes
+
+-- the registers with the result in a0, past the call
+abbrev pub past : Registers → ℕ → Registers
+past regs value = record regs { x = written regs.x 10 value; pc = next regs }
+
+-- the machine with this result and these bytes as the answer
+unfoldable pub answered : Machine → ℤ → List ℕ → Machine
+answered m ret bytes = record { regs = past m.regs (cast_unsigned w32 ret); memory = memory_after (syscall_of (number m)) m bytes }

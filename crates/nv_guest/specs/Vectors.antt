@@ -23,11 +23,12 @@ front_of most part = record part { size = min part.size most }
 abbrev pub usable : Image → Right → ℕ → Part → Option Part
 usable memory right most part = if holds memory.regions part.address (min part.size most) right then Some (front_of most part) else None
 
+abbrev pub usable_by : Image → Right → ℕ → Option Part → Option Part
+usable_by memory right most None = None
+usable_by memory right most (Some part) = usable memory right most part
+
 abbrev pub usable_at : Image → Right → ℕ → ℕ → Option Part
-usable_at memory right most at = used (vector_at memory at) where
-  used : Option Part → Option Part
-  used None = None
-  used (Some part) = usable memory right most part
+usable_at memory right most at = usable_by memory right most (vector_at memory at)
 
 abbrev pub parts_with : Option Part → (ℕ → Option (List Part)) → Option (List Part)
 parts_with None later = None

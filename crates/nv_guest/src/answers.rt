@@ -25,13 +25,13 @@ pub fn store_bytes(memory: &mut Memory, address: u32, bytes: &[u8])
     }
 }
 
-fn target_at(memory: &Memory, most: u32, at: usize) -> Option<Part>
+fn target_at(memory: &Memory, most: usize, at: usize) -> Option<Part>
     ensures { result ≡ option_map (front_of most) (vector_at memory.now at) }
 {
     let Part { address, size } = vector_at(memory, at)?;
     Some(Part {
         address,
-        size: size.min(most),
+        size: (size as usize).min(most) as u32,
     })
 }
 
@@ -40,7 +40,7 @@ pub fn read_targets(
     memory: &Memory,
     address: u32,
     count: u32,
-    most: u32,
+    most: usize,
     targets: &mut [Part],
 ) -> usize
     requires { count ≤ length targets.old }
@@ -57,7 +57,7 @@ pub fn read_targets(
             return i as usize;
         };
         targets[i as usize] = part;
-        left -= part.size;
+        left -= part.size as usize;
         at += 8;
     }
     count as usize

@@ -1,12 +1,11 @@
 // A guest with one thread.
 ghost use Rattle.std.specs.Prelude.{◌≡◌, ◌≢◌, ◌≤◌};
 
+use crate::calls::MOST_BYTES;
 use crate::outcome::Asked;
-use nv_calls::Call;
+use nv_calls::{Call, Syscall};
 use nv_machine::{Regs, Stepped, step};
 use nv_memory::Memory;
-
-const MOST_BYTES: u32 = 4096;
 
 /// A machine with its memory.
 #[derive(Drop)]
@@ -17,7 +16,7 @@ pub struct Guest {
 
 impl Guest {
     ghost use Rattle.nv_guest.specs.Guest.{machine_of};
-    ghost use Rattle.nv_guest.specs.Calls.{call_at, answered, write_call, other_call};
+    ghost use Rattle.nv_guest.specs.Calls.{call_at, past, answered};
     ghost use Rattle.nv_calls.specs.Calls.{request};
     ghost use Rattle.nv_calls.specs.Shapes.{IsShaped};
     ghost use Rattle.nv_machine.specs.Guest.{guest_step};
@@ -59,39 +58,30 @@ impl Guest {
         ensures shaped { IsShaped (request call.new) }
         ensures room { call.new.payload.room ≡ call.old.payload.room }
     {
+        let nr = self.regs.get(17);
+        let syscall = Syscall::of(nr);
+        let handed = self.hand_in(syscall, &mut call.payload);
         call.tid = tid;
-        call.nr = self.regs.get(17);
-        call.bad = false;
-        call.args = [0; 6];
-        call.payload.set(&[]);
-        match call.nr {
-            64 => self.write_call(call),
-            93 | 94 => call.args[0] = self.regs.get(10),
-            _ => {}
-        }
+        call.nr = nr;
+        call.args = self.values_with(syscall, handed.room);
+        call.bad = handed.bad;
         Asked::Logged
     }
 
-    // The arguments and bytes of a write.
-    fn write_call(&self, call: &mut Call)
-        requires room { MOST_BYTES ≤ call.old.payload.room }
-        requires fresh { request call.old ≡ record (other_call (machine_of self.now) call.old.tid) { nr = 64 } }
-        ensures call { request call.new ≡ write_call (machine_of self.now) call.old.tid }
-        ensures room { call.new.payload.room ≡ call.old.payload.room }
+    /// Stores the bytes of the answer, puts the result into a0 and goes past the call.
+    pub fn answer(&mut self, _tid: u32, ret: i32, payload: &[u8])
+        ensures machine { machine_of self.new ≡ answered (machine_of self.old) ret payload.now }
     {
-        let (address, count) = (self.regs.get(11), self.regs.get(12));
-        call.args = [self.regs.get(10), 0, count, 0, 0, 0];
-        match self.memory.bytes(address, count.min(MOST_BYTES)) {
-            Ok(bytes) => call.payload.set(bytes),
-            Err(_) => call.bad = true,
-        }
+        let syscall = Syscall::of(self.regs.get(17));
+        self.hand_back(syscall, payload);
+        self.go_past(ret.cast_unsigned());
     }
 
-    /// Puts the result into a0 and goes past the call.
-    pub fn answer(&mut self, _tid: u32, ret: i32, _payload: &[u8])
-        ensures machine { (machine_of self.new) ≡ answered (machine_of self.old) ret }
+    // Puts the result into a0 and goes past the call.
+    fn go_past(&mut self, value: u32)
+        ensures { machine_of self.new ≡ record (machine_of self.old) { regs = past (machine_of self.old).regs value } }
     {
-        self.regs.set(10, ret.cast_unsigned());
+        self.regs.set(10, value);
         self.regs.pc = self.regs.pc.wrapping_add(4);
     }
 }

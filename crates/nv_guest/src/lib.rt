@@ -3,6 +3,7 @@
 
 mod answers;
 mod block;
+mod calls;
 mod guest;
 mod load;
 mod outcome;

@@ -142,3 +142,78 @@ fn vectors_in_memory(rt: HostRuntime) -> Result<(), Fail> {
     assert_eq!(rt; last, *b"vpq");
     Ok(())
 }
+
+// The registers of a call with three arguments.
+fn set_call(guest: &mut Guest, nr: u32, a0: u32, a1: u32, a2: u32) {
+    guest.regs.set(17, nr);
+    guest.regs.set(10, a0);
+    guest.regs.set(11, a1);
+    guest.regs.set(12, a2);
+}
+
+// A path at the memory's end, two vectors, and a write of no bytes.
+#[test]
+fn calls_hand_over(rt: HostRuntime) -> Result<(), Fail> {
+    let alloc = rt.alloc();
+    let program = nv_elf::read(alloc, &FILE)?;
+    let mut guest = Guest::make(alloc, &program, &[], 0x40000)?;
+    let mut call = Call {
+        tid: 0,
+        nr: 0,
+        args: [1; 6],
+        bad: true,
+        payload: Bytes::make(alloc, 4096)?,
+    };
+    assert_eq!(rt; guest.memory.copy_out(0x3fffd, b"/f\0"), Ok(()));
+    set_call(&mut guest, 56, 0xffff_ff9c, 0x3fffd, 0x41);
+    guest.regs.set(13, 0x1b6);
+    assert_eq!(rt; guest.call_of(100, &mut call), Asked::Logged);
+    assert_eq!(rt; call.args, [0xffff_ff9c, 0, 0x41, 0, 0, 0]);
+    assert!(rt; !call.bad && call.payload.as_slice() == b"/f".as_slice());
+    set_call(&mut guest, 56, 0xffff_ff9c, 0x40000, 0x41);
+    assert_eq!(rt; guest.call_of(100, &mut call), Asked::Logged);
+    assert!(rt; call.bad && call.payload.as_slice().is_empty());
+    assert!(rt; put_vector(&mut guest.memory, 0x30000, 0x3fffd, 3));
+    assert!(rt; put_vector(&mut guest.memory, 0x30008, 0x3ffff, 1));
+    set_call(&mut guest, 65, 0, 0x30000, 2);
+    assert_eq!(rt; guest.call_of(100, &mut call), Asked::Logged);
+    assert_eq!(rt; call.args, [0, 0, 2, 4, 0, 0]);
+    set_call(&mut guest, 66, 1, 0x30000, 2);
+    assert_eq!(rt; guest.call_of(100, &mut call), Asked::Logged);
+    assert!(rt; !call.bad && call.payload.as_slice() == b"/f\0\0".as_slice());
+    set_call(&mut guest, 65, 0, 0xffff_ffff, 1025);
+    assert_eq!(rt; guest.call_of(100, &mut call), Asked::Logged);
+    assert_eq!(rt; call.args, [0, 0, 1025, 0, 0, 0]);
+    assert!(rt; !call.bad);
+    set_call(&mut guest, 64, 1, 0xffff_ffff, 0);
+    assert_eq!(rt; guest.call_of(100, &mut call), Asked::Logged);
+    assert!(rt; !call.bad);
+    Ok(())
+}
+
+// The bytes of a read at its address, of a readv in its vectors, and of an llseek at its fourth argument.
+#[test]
+fn answers_come_into_memory(rt: HostRuntime) -> Result<(), Fail> {
+    let alloc = rt.alloc();
+    let program = nv_elf::read(alloc, &FILE)?;
+    let mut guest = Guest::make(alloc, &program, &[], 0x40000)?;
+    let mut bytes = [0; 8];
+    set_call(&mut guest, 63, 0, 0x30010, 3);
+    guest.answer(100, 3, b"abc");
+    assert_eq!(rt; guest.memory.copy_in(0x30010, &mut bytes), Ok(()));
+    assert_eq!(rt; bytes, *b"abc\0\0\0\0\0");
+    assert_eq!(rt; guest.regs(100).get(10), 3);
+    assert_eq!(rt; guest.pc(100), 0x10004);
+    assert!(rt; put_vector(&mut guest.memory, 0x30000, 0x30016, 2));
+    assert!(rt; put_vector(&mut guest.memory, 0x30008, 0x30010, 2));
+    set_call(&mut guest, 65, 0, 0x30000, 2);
+    guest.answer(100, 3, b"xyz");
+    assert_eq!(rt; guest.memory.copy_in(0x30010, &mut bytes), Ok(()));
+    assert_eq!(rt; bytes, *b"zbc\0\0\0xy");
+    set_call(&mut guest, 62, 3, 0, 5);
+    guest.regs.set(13, 0x30010);
+    guest.answer(100, 0, b"\x05\0\0\0\0\0\0\0");
+    assert_eq!(rt; guest.memory.copy_in(0x30010, &mut bytes), Ok(()));
+    assert_eq!(rt; bytes, *b"\x05\0\0\0\0\0\0\0");
+    Ok(())
+}

@@ -65,7 +65,7 @@ threads = record {
   pending = λ p t. is_some p.call && (t == 100);
   call = λ p t. record (call_or p.call) { tid = t };
   pc = λ p t. p.machine.regs.pc;
-  answered = λ p t r. record { machine = answered p.machine r.ret; left = p.left; call = None; end = end_by (call_or p.call) p.end };
+  answered = λ p t r. record { machine = answered p.machine r.ret r.payload; left = p.left; call = None; end = end_by (call_or p.call) p.end };
   live = λ p. live_by p.end;
   ended = λ p. p.end;
   calls_left = λ p. p.left + (if is_some p.call then 1 else 0);

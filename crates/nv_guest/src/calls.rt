@@ -1,0 +1,237 @@
+// What a call hands over, and where its answer goes.
+ghost use Rattle.std.specs.Prelude.{◌≡◌, ◌≤◌, length, Some};
+ghost use Rattle.nv_guest.specs.Guest.{machine_of};
+ghost use Rattle.nv_guest.specs.Calls.{argument, kept, values, values_with, out_of, vector_count, path_in, bytes_in, vectors_in, room_in, refused, with_payload, with_room, with_out, handed, stored_at, memory_after};
+
+use crate::Guest;
+use crate::answers::{read_targets, scatter, store_bytes};
+use crate::paths::read_path;
+use crate::vectors::{Part, gather, room_of};
+use nv_calls::{Bytes, Slot, Syscall};
+use nv_memory::{Memory, Right};
+
+/// How many bytes a call hands in or out at most.
+pub(crate) const MOST_BYTES: u32 = 4096;
+
+/// How many vectors are read at most: IOV_MAX (limits.h(0p)).
+const MOST_VECTORS: u32 = 1024;
+
+/// How many bytes of a path are read.
+const MOST_PATH: usize = 256;
+
+/// What a call hands over beside its payload.
+#[derive(Clone, Copy, Debug, PartialEq, Eq)]
+pub(crate) struct Handed {
+    /// A range isn't the guest's to read or write.
+    pub(crate) bad: bool,
+    /// How many bytes the vectors of a readv have room for.
+    pub(crate) room: u32,
+}
+
+// An argument that is an address or isn't used counts as 0.
+fn kept(slot: Slot, arg: u32) -> u32
+    ensures { result ≡ kept slot arg }
+{
+    match slot {
+        Slot::Value => arg,
+        Slot::Address | Slot::Unused => 0,
+    }
+}
+
+// These bytes are the payload.
+fn fill(payload: &mut Bytes, bytes: &[u8]) -> Handed
+    requires { length bytes.now ≤ payload.old.room }
+    ensures handed { record { bad = result.bad; payload = payload.new.bytes; room = result.room } ≡ with_payload (Some bytes.now) }
+    ensures room { payload.new.room ≡ payload.old.room }
+{
+    payload.set(bytes);
+    Handed {
+        bad: false,
+        room: 0,
+    }
+}
+
+// A range isn't the guest's.
+fn refuse(payload: &mut Bytes) -> Handed
+    ensures handed { record { bad = result.bad; payload = payload.new.bytes; room = result.room } ≡ refused }
+    ensures room { payload.new.room ≡ payload.old.room }
+{
+    payload.set(&[]);
+    Handed { bad: true, room: 0 }
+}
+
+impl Guest {
+    // Argument `n` of the call.
+    fn argument(&self, n: u8) -> u32
+        requires { n ≤ 5 }
+        ensures { result ≡ argument (machine_of self.now) n }
+    {
+        self.regs.get(10 + n)
+    }
+
+    fn values(&self, syscall: Syscall) -> [u32; 6]
+        ensures { result ≡ values syscall (machine_of self.now) }
+    {
+        let [a, b, c, d, e, f] = syscall.slots();
+        [
+            kept(a, self.argument(0)),
+            kept(b, self.argument(1)),
+            kept(c, self.argument(2)),
+            kept(d, self.argument(3)),
+            kept(e, self.argument(4)),
+            kept(f, self.argument(5)),
+        ]
+    }
+
+    /// The arguments of the call that are values; readv's fourth is the room of its vectors.
+    pub(crate) fn values_with(&self, syscall: Syscall, room: u32) -> [u32; 6]
+        ensures { result ≡ values_with syscall (machine_of self.now) room }
+    {
+        let mut values = self.values(syscall);
+        if syscall == Syscall::Readv {
+            values[3] = room;
+        }
+        values
+    }
+
+    // The part of memory that the answer goes to, unless vectors name it.
+    fn out_of(&self, syscall: Syscall) -> Option<Part>
+        ensures { result ≡ out_of syscall (machine_of self.now) }
+    {
+        let (n, size) = match syscall {
+            Syscall::Getcwd => (0, self.argument(1).min(2)),
+            Syscall::Pipe2 => (0, 8),
+            Syscall::Llseek => (3, 8),
+            Syscall::Read => (1, self.argument(2).min(MOST_BYTES)),
+            Syscall::Uname => (0, 390),
+            Syscall::Getrandom => (0, self.argument(1).min(MOST_BYTES)),
+            Syscall::ClockGettime64 => (1, 16),
+            _ => return None,
+        };
+        Some(Part {
+            address: self.argument(n),
+            size,
+        })
+    }
+
+    fn vector_count(&self) -> u32
+        ensures value { result ≡ vector_count (machine_of self.now) }
+        ensures few { result ≤ 1024 }
+    {
+        let count = self.argument(2);
+        if count <= MOST_VECTORS { count } else { 0 }
+    }
+
+    fn hand_path(&self, payload: &mut Bytes) -> Handed
+        requires { MOST_BYTES ≤ payload.old.room }
+        ensures handed { record { bad = result.bad; payload = payload.new.bytes; room = result.room } ≡ with_payload (path_in (machine_of self.now)) }
+        ensures room { payload.new.room ≡ payload.old.room }
+    {
+        let mut path = [0; MOST_PATH];
+        match read_path(&self.memory, self.argument(1), &mut path) {
+            Some(count) => fill(payload, &path[..count]),
+            None => refuse(payload),
+        }
+    }
+
+    fn hand_bytes(&self, payload: &mut Bytes) -> Handed
+        requires { MOST_BYTES ≤ payload.old.room }
+        ensures handed { record { bad = result.bad; payload = payload.new.bytes; room = result.room } ≡ with_payload (bytes_in (machine_of self.now)) }
+        ensures room { payload.new.room ≡ payload.old.room }
+    {
+        let count = self.argument(2).min(MOST_BYTES);
+        match self.memory.bytes(self.argument(1), count) {
+            Ok(bytes) => fill(payload, bytes),
+            Err(_) => refuse(payload),
+        }
+    }
+
+    fn hand_vectors(&self, payload: &mut Bytes) -> Handed
+        requires { MOST_BYTES ≤ payload.old.room }
+        ensures handed { record { bad = result.bad; payload = payload.new.bytes; room = result.room } ≡ with_payload (vectors_in (machine_of self.now)) }
+        ensures room { payload.new.room ≡ payload.old.room }
+    {
+        let mut bytes = [0; MOST_BYTES as usize];
+        match gather(
+            &self.memory,
+            self.argument(1),
+            self.vector_count(),
+            &mut bytes,
+        ) {
+            Some(count) => fill(payload, &bytes[..count]),
+            None => refuse(payload),
+        }
+    }
+
+    fn hand_room(&self, payload: &mut Bytes) -> Handed
+        ensures handed { record { bad = result.bad; payload = payload.new.bytes; room = result.room } ≡ with_room (room_in (machine_of self.now)) }
+        ensures room { payload.new.room ≡ payload.old.room }
+    {
+        payload.set(&[]);
+        let room = room_of(
+            &self.memory,
+            self.argument(1),
+            self.vector_count(),
+            MOST_BYTES,
+        );
+        Handed {
+            bad: room.is_none(),
+            room: room.unwrap_or(0),
+        }
+    }
+
+    fn hand_out(&self, syscall: Syscall, payload: &mut Bytes) -> Handed
+        ensures handed { record { bad = result.bad; payload = payload.new.bytes; room = result.room } ≡ with_out (machine_of self.now).memory (out_of syscall (machine_of self.now)) }
+        ensures room { payload.new.room ≡ payload.old.room }
+    {
+        payload.set(&[]);
+        let bad = match self.out_of(syscall) {
+            Some(part) => !self.memory.holds(part.address, part.size, Right::Write),
+            None => false,
+        };
+        Handed { bad, room: 0 }
+    }
+
+    /// Checks what the call reads and writes, and fills the payload.
+    pub(crate) fn hand_in(&self, syscall: Syscall, payload: &mut Bytes) -> Handed
+        requires { MOST_BYTES ≤ payload.old.room }
+        ensures handed { record { bad = result.bad; payload = payload.new.bytes; room = result.room } ≡ handed syscall (machine_of self.now) }
+        ensures room { payload.new.room ≡ payload.old.room }
+    {
+        match syscall {
+            Syscall::Unlinkat | Syscall::Openat => self.hand_path(payload),
+            Syscall::Write => self.hand_bytes(payload),
+            Syscall::Writev => self.hand_vectors(payload),
+            Syscall::Readv => self.hand_room(payload),
+            _ => self.hand_out(syscall, payload),
+        }
+    }
+
+    fn store_by_vectors(&mut self, bytes: &[u8])
+        ensures memory { self.new.memory ≡ memory_after Syscall.Readv (machine_of self.old) bytes.now }
+        ensures regs { self.new.regs ≡ self.old.regs }
+    {
+        let mut targets = [Part {
+            address: 0,
+            size: 0,
+        }; MOST_VECTORS as usize];
+        let (address, count) = (self.argument(1), self.vector_count());
+        let found = read_targets(&self.memory, address, count, bytes.len(), &mut targets);
+        scatter(&mut self.memory, &targets[..found], bytes);
+    }
+
+    /// Stores the bytes of the answer where the call wants them.
+    pub(crate) fn hand_back(&mut self, syscall: Syscall, bytes: &[u8])
+        ensures memory { self.new.memory ≡ memory_after syscall (machine_of self.old) bytes.now }
+        ensures regs { self.new.regs ≡ self.old.regs }
+    {
+        match syscall {
+            Syscall::Readv => self.store_by_vectors(bytes),
+            _ => {
+                if let Some(part) = self.out_of(syscall) {
+                    store_bytes(&mut self.memory, part.address, bytes);
+                }
+            }
+        }
+    }
+}
