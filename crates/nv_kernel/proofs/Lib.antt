@@ -3,3 +3,4 @@ pub mod Keeping
 pub mod Files
 pub mod Replies
 pub mod Few
+pub mod Going
