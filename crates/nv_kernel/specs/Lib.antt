@@ -2,3 +2,4 @@ pub mod Ends
 pub mod Serving
 pub mod Rooms
 pub mod Kept
+pub mod ReplyLaws
