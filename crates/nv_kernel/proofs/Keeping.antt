@@ -4,18 +4,9 @@ use Rattle.std.specs.Prelude.{◌==◌, ◌||◌, not, filter, Contains, slice_i
 use Rattle.std.proofs.lemmas.Bool.Decides.{nat_tests}
 use Rattle.nv_calls.specs.Calls.{Request, Entry}
 use Rattle.nv_calls.specs.Logs.{Start, IsLawful, IsLegal, InRange, IsNew, served, child_of, with_child, live_after, live_next, ended_after}
-use Rattle.nv_calls.specs.Shapes.{handed_in}
 use Rattle.nv_calls.specs.LogLaws.{lawful_more, legal_more, lawful_none, legal_none, live_more, arg_more}
 use Rattle.nv_kernel.specs.Ends.{end_next, live_by}
-use Rattle.nv_kernel.specs.Kept.{IsKept}
-
-small_by : (a b : Bool) (n : ℕ) → cond a 0 (cond b (min n 4096) 0) ≤ 4096
-small_by true b n = omega arith
-small_by false true n = grind (arith, nat_tests)
-small_by false false n = omega arith
-
-pub handed_small : (c : Request) → handed_in c ≤ 4096
-handed_small c = small_by c.bad (c.nr == 64) (slice_index c.args 2)
+use Rattle.nv_kernel.specs.Kept.{Spare, IsKept}
 
 one : (live : List ℕ) (end : Option ℕ) (t : ℕ) → live ≡ live_by end → Contains live t → (end ≡ None) × (t ≡ 100)
 one live None t h k = let q : Contains (100 ∷ []) t = subst (λ (z : List ℕ). Contains z t) h k in (refl, one_is t q.0 q.1 q.2)
@@ -34,7 +25,7 @@ ended_by : (b : Bool) (n : ℕ) (live : List ℕ) → live ≡ live_by (cond b (
 ended_by true n live h = subst (λ (z : List ℕ). Some n ≡ cond (length z == 0) (Some n) None) (sym h) refl
 ended_by false n live h = subst (λ (z : List ℕ). None ≡ cond (length z == 0) (Some n) None) (sym h) refl
 
-pub kept_served : (start : Start) (log : List Entry) (c : Request) (len cap len' cap' : ℕ) (spare : Option ℕ) (end : Option ℕ)
+pub kept_served : (start : Start) (log : List Entry) (c : Request) (len cap len' cap' : ℕ) (spare : Option Spare) (end : Option ℕ)
     → IsKept start log len cap spare end → Contains (live_after log) c.tid → length log < 131072 → InRange (served start log c) → child_of (served start log c) ≡ None
     → IsKept start (log ++ served start log c ∷ []) len' cap' None (end_next c end)
 kept_served start log c len cap len' cap' spare end k lives few range child =
@@ -52,14 +43,14 @@ kept_served start log c len cap len' cap' spare end k lives few range child =
       end_is = is ∙ ended_by ((c.nr == 94) || (c.nr == 93)) n (live_after (log ++ e ∷ [])) live ∙ ap (λ (z : ℕ). cond (length (live_after (log ++ e ∷ [])) == 0) (Some (z % 256)) None) (sym (arg_more log e));
     }
 
-pub kept_room : (start : Start) (log log' : List Entry) (len cap len' cap' : ℕ) (spare spare' : Option ℕ) (end : Option ℕ) → IsKept start log len cap spare end → log' ≡ log → len' < cap' → IsKept start log' len' cap' spare' end
+pub kept_room : (start : Start) (log log' : List Entry) (len cap len' cap' : ℕ) (spare spare' : Option Spare) (end : Option ℕ) → IsKept start log len cap spare end → log' ≡ log → len' < cap' → IsKept start log' len' cap' spare' end
 kept_room start log log' len cap len' cap' spare spare' end k h l = record { legal = subst (IsLegal start) (sym h) k.legal; lawful = subst IsLawful (sym h) k.lawful; room = λ _. l; live = ap live_after h ∙ k.live; end_is = k.end_is ∙ ap ended_after (sym h) }
 
 pub map_more : {A B : Type 0} (f : A → B) (xs : List A) (x : A) → Rattle.std.specs.Prelude.map f (xs ++ x ∷ []) ≡ Rattle.std.specs.Prelude.map f xs ++ f x ∷ []
 map_more f [] x = refl
 map_more f (y ∷ ys) x = ap (λ z. f y ∷ z) (map_more f ys x)
 
-pub kept_none : (start : Start) (log log' : List Entry) (len cap len' cap' : ℕ) (spare : Option ℕ) (end : Option ℕ) → IsKept start log len cap spare end → log' ≡ log → IsKept start log' len' cap' None end
+pub kept_none : (start : Start) (log log' : List Entry) (len cap len' cap' : ℕ) (spare : Option Spare) (end : Option ℕ) → IsKept start log len cap spare end → log' ≡ log → IsKept start log' len' cap' None end
 kept_none start log log' len cap len' cap' spare end k h = record { legal = subst (IsLegal start) (sym h) k.legal; lawful = subst IsLawful (sym h) k.lawful; room = λ n. absurd (n refl); live = ap live_after h ∙ k.live; end_is = k.end_is ∙ ap ended_after (sym h) }
 
 pub kept_first : (start : Start) (len cap : ℕ) → IsKept start [] len cap None None

@@ -1,3 +1,6 @@
 pub mod Sixes
 pub mod Keeping
-pub mod Printing
+pub mod Files
+pub mod Replies
+pub mod Few
+pub mod Going

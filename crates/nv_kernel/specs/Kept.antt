@@ -3,22 +3,37 @@ use Rattle.std.specs.Prelude.{◌≡◌, ◌≢◌, ℕ, ◌<◌, ◌≤◌, Lis
 use Rattle.nv_calls.specs.declared.calls.Event.{Event}
 use Rattle.nv_calls.specs.Calls.{Request, Entry}
 use Rattle.nv_calls.specs.Logs.{Start, IsLawful, IsLegal, live_after, ended_after}
+use Rattle.nv_fs.specs.Rooms.{Disk}
+use Rattle.nv_script.specs.Scripts.{Setup}
 use Rattle.nv_kernel.specs.Ends.{live_by}
+use Rattle.nv_kernel.specs.Rooms.{CanAnswer, most_out}
 
--- The log, how many payload bytes the event that is made for the next call can hold, and how many more bytes the console has memory for.
+-- how many bytes an event has memory for: those that its call hands in, and those that it hands out
+pub record Spare : Type 0 where
+  pub handed_in : ℕ
+  pub handed_out : ℕ
+
+-- The log, what the script gave, the memory of the event that is made for the next call, and the files with theirs.
 pub record Kept : Type 0 where
   pub log : List Entry
-  pub spare : Option ℕ
-  pub ahead : ℕ
+  pub setup : Setup
+  pub spare : Option Spare
+  pub disk : Disk
 
-abbrev pub room_of : Event → ℕ
-room_of e = e.call.payload.room
+abbrev pub room_of : Event → Spare
+room_of e = record { handed_in = e.call.payload.room; handed_out = e.reply.payload.room }
 
--- there is memory for the event of a call, and for what it prints
-abbrev pub CanServe : Kept → Request → Type 0
-CanServe k c = ((n : ℕ) × (k.spare ≡ Some n) × (length c.payload ≤ n)) × (length c.payload ≤ k.ahead)
+-- there is memory for the event of a call
+abbrev pub HasRoom : Option Spare → Request → Type 0
+HasRoom None c = ⊥
+HasRoom (Some spare) c = (length c.payload ≤ spare.handed_in) × (most_out c ≤ spare.handed_out)
 
-pub record IsKept (start : Start) (log : List Entry) (len capacity : ℕ) (spare : Option ℕ) (end : Option ℕ) : Type 0 where
+-- there is memory for the event of a call, and for what it leaves
+pub record CanServe (k : Kept) (c : Request) : Type 0 where
+  pub event : HasRoom k.spare c
+  pub answer : CanAnswer k.disk c
+
+pub record IsKept (start : Start) (log : List Entry) (len capacity : ℕ) (spare : Option Spare) (end : Option ℕ) : Type 0 where
   pub legal : IsLegal start log
   pub lawful : IsLawful log
   pub room : spare ≢ None → len < capacity

@@ -1,3 +1,5 @@
 pub mod Ends
 pub mod Serving
+pub mod Rooms
 pub mod Kept
+pub mod ReplyLaws

@@ -1,54 +1,181 @@
--- What the kernel answers, by Linux's numbers (syscalls(2), errno(3)), and what each call leaves: write(2), exit(2), exit_group(2).
-use Rattle.std.specs.Prelude.{ℕ, ℤ, pos, negsuc, ◌-◌, min, List, [], ◌∷◌, ◌++◌, Bool, ◌||◌, ◌==◌, if◌then◌else◌, length, take, slice_index}
+-- What the kernel answers, by Linux's numbers (syscalls(2), errno(3)), and what each call leaves.
+use Rattle.std.specs.Prelude.{ℕ, zero, suc, ℤ, pos, negsuc, ◌+◌, ◌*◌, ◌/◌, ◌%◌, ◌^◌, min, nat_lt, List, [], ◌∷◌, ◌++◌, map, Some, slice_index, if◌then◌else◌}
+use Rattle.std.specs.Int.{cast_signed, to_le_bytes, w32, w64}
+use Rattle.nv_calls.specs.declared.numbers.Syscall.{Syscall}
+use Rattle.nv_calls.specs.declared.numbers.Syscall.TheVariants.{Getcwd, Dup, Dup3, Ioctl, Unlinkat, Openat, Close, Pipe2, Llseek, Read, Write, Readv, Writev, Exit, ExitGroup, Uname, Getpid, Getppid, Getuid, Geteuid, Getgid, Getegid, Getrandom, ClockGettime64}
 use Rattle.nv_calls.specs.Calls.{Request, Response}
+use Rattle.nv_calls.specs.Constants.{names}
 use Rattle.nv_calls.specs.Logs.{Start}
+use Rattle.nv_calls.specs.Numbers.{syscall_of}
+use Rattle.nv_fs.specs.States as fs
+use Rattle.nv_fs.specs.States.{is_open, EBADF, EINVAL}
+use Rattle.nv_fs.specs.Starts as begun
+use Rattle.nv_fs.specs.Closes.{close_of, dup_of, dup3_of}
+use Rattle.nv_fs.specs.Ends.{pipe_of}
+use Rattle.nv_fs.specs.Fetched.{read_of}
+use Rattle.nv_fs.specs.Opened.{open_at_of, unlink_at_of}
+use Rattle.nv_fs.specs.Seeks.{seek_of}
+use Rattle.nv_fs.specs.Stored.{write_of}
+use Rattle.nv_script.specs.Scripts.{Named, Setup}
 
--- what the kernel holds: the bytes on the console
+-- ---- what the kernel holds
+
+-- The files; how many calls were served; the clock at the first call and how far each call moves it, in nanoseconds; the generator's state.
 pub record State : Type 0 where
-  pub console : List ℕ
+  pub files : fs.State
+  pub served : ℕ
+  pub start : ℕ
+  pub step : ℕ
+  pub random : ℕ
 
--- the descriptors 1 and 2 are the console, which is for writing; 0 is the input, and no other is open
-abbrev pub is_console : Request → Bool
-is_console c = slice_index c.args 0 == 1 || slice_index c.args 0 == 2
+-- what a call leaves, its result, and the bytes that it hands out
+pub record Served : Type 0 where
+  pub state : State
+  pub ret : ℤ
+  pub payload : List ℕ
 
--- how many bytes of a write go to the console, which holds so many of at most 16777216
-abbrev pub written_of : ℕ → Request → ℕ
-written_of used c = if c.bad then 0 else (if is_console c then min (length c.payload) (16777216 - used) else 0)
+-- an answer that leaves all as it is
+abbrev pub replied : State → ℤ → List ℕ → Served
+replied s ret payload = record { state = s; ret = ret; payload = payload }
 
--- the result of a write: EFAULT, EBADF, 0 for nothing, ENOSPC, or how many bytes went
-abbrev pub write_ret : ℕ → Request → ℤ
-write_ret used c = if c.bad then negsuc 13 else (if is_console c
-    then (if length c.payload == 0 then pos 0 else (if used == 16777216 then negsuc 27 else pos (min (length c.payload) (16777216 - used))))
-    else negsuc 8)
+-- what the files answer and become
+abbrev pub of_files : State → fs.Answer → Served
+of_files s a = record { state = record s { files = a.state }; ret = a.ret; payload = a.payload }
 
--- how many bytes of a call go to the console
-abbrev pub taken_of : ℕ → Request → ℕ
-taken_of used c = if c.nr == 64 then written_of used c else 0
+abbrev pub counted : Served → Served
+counted r = record r { state = record r.state { served = r.state.served + 1 } }
 
--- the result of a call; a number that isn't built answers ENOSYS
-abbrev pub ret_of : ℕ → Request → ℤ
-ret_of used c = if c.nr == 64 then write_ret used c else (if (c.nr == 93) || (c.nr == 94) then pos 0 else negsuc 37)
+abbrev pub arg : Request → ℕ → ℕ
+arg c i = slice_index c.args i
 
--- what a call leaves
-abbrev pub state_next : State → Request → State
-state_next s c = record { console = s.console ++ take (taken_of (length s.console) c) c.payload }
+-- ---- errno(3)
 
--- what a call is answered
-abbrev pub reply_of : State → Request → Response
-reply_of s c = record { ret = ret_of (length s.console) c; payload = [] }
+abbrev pub EFAULT : ℤ
+EFAULT = negsuc 13
+
+abbrev pub ENOTTY : ℤ
+ENOTTY = negsuc 24
+
+abbrev pub ERANGE : ℤ
+ERANGE = negsuc 33
+
+abbrev pub ENOSYS : ℤ
+ENOSYS = negsuc 37
+
+-- ---- the clock (clock_gettime(2))
+
+unfoldable pub second : ℕ
+second = 1000000000
+
+-- seconds, and the nanoseconds behind them, in 8 bytes each
+unfoldable pub time_bytes : ℕ → List ℕ
+time_bytes nanos = to_le_bytes w64 (nanos / second) ++ to_le_bytes w64 (nanos % second)
+
+-- what the clock shows
+abbrev pub time_of : State → ℕ
+time_of s = s.start + s.served * s.step
+
+-- ---- random numbers (getrandom(2)): a linear congruential generator, whose highest bytes are handed out
+
+unfoldable pub next_random : ℕ → ℕ
+next_random x = (x * 0x5851F42D4C957F2D + 0x14057B7EF767814F) % 2 ^ 64
+
+unfoldable pub high_byte : ℕ → ℕ
+high_byte x = x / 2 ^ 56
+
+-- so many bytes behind a state
+abbrev pub randoms : ℕ → ℕ → List ℕ
+randoms zero x = []
+randoms (suc n) x = high_byte (next_random x) ∷ randoms n (next_random x)
+
+-- the state behind so many bytes
+abbrev pub random_after : ℕ → ℕ → ℕ
+random_after zero x = x
+random_after (suc n) x = random_after n (next_random x)
+
+abbrev pub randomly : State → ℕ → Served
+randomly s n = record { state = record s { random = random_after n s.random }; ret = pos n; payload = randoms n s.random }
+
+-- ---- the calls
+
+-- getcwd(2): the working directory is `/`
+abbrev pub directory : ℕ → Response
+directory size = if nat_lt size 2 then record { ret = ERANGE; payload = [] } else record { ret = pos 2; payload = 47 ∷ 0 ∷ [] }
+
+-- ioctl(2): no open file is a terminal
+abbrev pub control : State → ℕ → Served
+control s fd = if is_open s.files fd then replied s ENOTTY [] else replied s EBADF []
+
+-- readv(2) and writev(2) of at most 1024 vectors (IOV_MAX, limits.h(0p))
+abbrev pub unless_many : State → ℕ → Served → Served
+unless_many s count served = if nat_lt 1024 count then replied s EINVAL [] else served
+
+-- clock_gettime(2): 0 is CLOCK_REALTIME and 1 CLOCK_MONOTONIC
+abbrev pub clock : State → ℕ → Served
+clock s id = if nat_lt 1 id then replied s EINVAL [] else replied s (pos 0) (time_bytes (time_of s))
+
+-- Process 100 has parent 1, and 1000 is each id (getpid(2), getuid(2), getgid(2)). No call makes a thread yet.
+abbrev pub answered : Syscall → State → Request → Served
+answered Getcwd s c = replied s (directory (arg c 1)).ret (directory (arg c 1)).payload
+answered Dup s c = of_files s (dup_of s.files (arg c 0))
+answered Dup3 s c = of_files s (dup3_of s.files (arg c 0) (arg c 1) (arg c 2))
+answered Ioctl s c = control s (arg c 0)
+answered Unlinkat s c = of_files s (unlink_at_of s.files (cast_signed w32 (arg c 0)) c.payload (arg c 2))
+answered Openat s c = of_files s (open_at_of s.files (cast_signed w32 (arg c 0)) c.payload (arg c 2))
+answered Close s c = of_files s (close_of s.files (arg c 0))
+answered Pipe2 s c = of_files s (pipe_of s.files (arg c 1))
+answered Llseek s c = of_files s (seek_of s.files (arg c 0) (arg c 1) (arg c 2) (arg c 4))
+answered Read s c = of_files s (read_of s.files (arg c 0) (arg c 2))
+answered Write s c = of_files s (write_of s.files (arg c 0) c.payload)
+answered Readv s c = unless_many s (arg c 2) (of_files s (read_of s.files (arg c 0) (arg c 3)))
+answered Writev s c = unless_many s (arg c 2) (of_files s (write_of s.files (arg c 0) c.payload))
+answered Exit s c = replied s (pos 0) []
+answered ExitGroup s c = replied s (pos 0) []
+answered Uname s c = replied s (pos 0) names
+answered Getpid s c = replied s (pos 100) []
+answered Getppid s c = replied s (pos 1) []
+answered Getuid s c = replied s (pos 1000) []
+answered Geteuid s c = replied s (pos 1000) []
+answered Getgid s c = replied s (pos 1000) []
+answered Getegid s c = replied s (pos 1000) []
+answered Getrandom s c = randomly s (min (arg c 1) 4096)
+answered ClockGettime64 s c = clock s (arg c 0)
+answered _ s c = replied s ENOSYS []
+
+-- a call on memory that isn't the guest's answers EFAULT before every other check
+abbrev pub unless_bad : State → Request → Served
+unless_bad s c = if c.bad then replied s EFAULT [] else answered (syscall_of c.nr) s c
+
+-- what a call answers, and what it leaves
+unfoldable pub serve : State → Request → Served
+serve s c = counted (unless_bad s c)
+
+-- ---- from call to call
 
 -- the state behind a list of calls
 abbrev pub state_after : State → List Request → State
 state_after s [] = s
-state_after s (c ∷ cs) = state_after (state_next s c) cs
+state_after s (c ∷ cs) = state_after (serve s c).state cs
+
+abbrev pub reply_of : Served → Response
+reply_of r = record { ret = r.ret; payload = r.payload }
 
 -- how the kernel goes on from a state
 abbrev pub start_at : State → Start
-start_at s = record { replies = λ cs c. reply_of (state_after s cs) c; console = λ cs. (state_after s cs).console }
+start_at s = record { replies = λ cs c. reply_of (serve (state_after s cs) c); console = λ cs. (state_after s cs).files.console }
 
--- The start that the script without a line gives: nothing is on the console.
-abbrev pub first_state : State
-first_state = record { console = [] }
+abbrev pub inode_from : Named → fs.Inode
+inode_from file = record { name = Some file.0; bytes = file.1 }
 
-unfoldable pub start_of_script : Start
-start_of_script = start_at first_state
+-- what a script gives: the input, the files, the clock and the generator's first state
+abbrev pub first_state : Setup → State
+first_state setup = record {
+  files = begun.first_state setup.input (map inode_from setup.files);
+  served = 0;
+  start = setup.seconds * second + setup.nanos;
+  step = setup.step;
+  random = setup.seed;
+}
+
+unfoldable pub start_of_script : Setup → Start
+start_of_script setup = start_at (first_state setup)

@@ -1,53 +1,67 @@
-// The kernel, with what is on its console and the log of the calls that it served.
-ghost use Rattle.std.specs.Prelude.{◌≡◌, []};
+// The kernel, with the log of the calls that it served.
+ghost use Rattle.std.specs.Prelude.{◌≡◌, [], IsTrue, IfOk};
+ghost use Rattle.nv_script.specs.Scripts.{is_script};
+ghost use Rattle.nv_script.specs.Views.{setup_of};
 
-use crate::answer::{answer_to, print};
+use crate::devices::Devices;
 use crate::spare::{blank, fill, keep, next_end};
-use nv_calls::{Call, Event, SyscallKernel};
+use nv_calls::{Bytes, Call, Event, SyscallKernel};
+use nv_script::Script;
 use std::alloc::{AllocError, Global};
 use std::marker::Model;
+use std::snapshot::Snapshot;
 
-/// A kernel over a script. So far the script has no line: nothing is to be read, and 1 and 2 are the console.
+/// How many bytes a call hands out at most.
+const MOST_OUT: u32 = 4096;
+
+/// A kernel over a script.
 #[derive(Drop)]
 pub struct ScriptKernel {
     alloc: Global,
+    script: Snapshot<Script>,
+    devices: Devices,
     log: Vec<Event>,
-    console: Vec<u8>,
+    /// Where a call's bytes are put before its event has them.
+    out: Bytes,
     spare: Option<Event>,
-    ahead: usize,
     end: Option<u8>,
 }
 
 impl Model for ScriptKernel {
-    ghost use Rattle.std.specs.Prelude.{◌≡◌, ◌≤◌, ◌+◌, map, option_map, vec_len, vec_capacity, length};
+    ghost use Rattle.std.specs.Prelude.{◌≡◌, map, option_map, vec_len, vec_capacity};
     ghost use Rattle.nv_calls.specs.Calls.{entry};
-    ghost use Rattle.nv_calls.specs.Logs.{output_of};
+    ghost use Rattle.nv_calls.specs.Logs.{calls_of};
+    ghost use Rattle.nv_script.specs.Views.{setup_of};
     ghost use Rattle.nv_kernel.specs.Kept.{Kept, IsKept, room_of};
-    ghost use Rattle.nv_kernel.specs.Serving.{start_of_script};
+    ghost use Rattle.nv_kernel.specs.Rooms.{state_of};
+    ghost use Rattle.nv_kernel.specs.Serving.{start_of_script, first_state, state_after};
 
     ghost Value = { Kept };
 
-    ghost view = { λ k. record { log = map entry k.log.items; spare = option_map room_of k.spare; ahead = k.ahead } };
+    ghost view = { λ k. record { log = map entry k.log.items; setup = setup_of k.script.value; spare = option_map room_of k.spare; disk = k.devices.files } };
 
-    ghost invariant = { λ k. IsKept start_of_script (map entry k.log.items) (vec_len k.log) (vec_capacity k.log) (option_map room_of k.spare) k.end
-        × (k.console.items ≡ output_of start_of_script (map entry k.log.items))
-        × (vec_len k.console ≤ 16777216)
-        × (vec_len k.console + k.ahead ≤ vec_capacity k.console) };
+    ghost invariant = { λ k. IsKept (start_of_script (setup_of k.script.value)) (map entry k.log.items) (vec_len k.log) (vec_capacity k.log) (option_map room_of k.spare) k.end
+        × (state_of k.devices ≡ state_after (first_state (setup_of k.script.value)) (calls_of (map entry k.log.items)))
+        × (k.out.room ≡ 4096) };
 }
 
 impl ScriptKernel {
-    /// A kernel that has served nothing.
-    pub fn make(alloc: Global) -> ScriptKernel
-        ensures { result.log ≡ [] }
+    /// A kernel that has served nothing, over what the script gives.
+    pub fn make(alloc: Global, script: &Script) -> Result<ScriptKernel, AllocError>
+        requires script { IsTrue (is_script (setup_of script.now)) }
+        ensures { IfOk result (λ k. (k.log ≡ []) × (k.setup ≡ setup_of script.now)) }
     {
-        ScriptKernel {
+        let devices = Devices::make(alloc, script)?;
+        let out = Bytes::make(alloc, MOST_OUT)?;
+        Ok(ScriptKernel {
             alloc,
+            script: Snapshot::of(script),
+            devices,
             log: Vec::new(alloc),
-            console: Vec::new(alloc),
+            out,
             spare: None,
-            ahead: 0,
             end: None,
-        }
+        })
     }
 }
 
@@ -57,19 +71,16 @@ impl SyscallKernel for ScriptKernel {
 
     ghost log = { λ k. k.log };
 
-    ghost start = { λ k. start_of_script };
+    ghost start = { λ k. start_of_script k.setup };
 
     ghost is_ready = { CanServe };
 
     fn reserve(&mut self, call: &Call) -> Result<(), AllocError> {
         self.spare = None;
-        self.ahead = 0;
-        let size = call.payload.as_slice().len();
-        let event = blank(self.alloc, size as u32)?;
+        let event = blank(self.alloc, call)?;
         self.log.reserve(1)?;
-        self.console.reserve(size)?;
+        self.devices.reserve(call)?;
         self.spare = Some(event);
-        self.ahead = size;
         Ok(())
     }
 
@@ -77,15 +88,9 @@ impl SyscallKernel for ScriptKernel {
         let Some(mut event) = self.spare.take() else {
             unreachable!()
         };
-        self.ahead = 0;
-        let answer = answer_to(call, self.console.as_slice().len());
-        fill(
-            &mut event,
-            call,
-            self.log.as_slice().len() as u32,
-            answer.ret,
-        );
-        print(&mut self.console, call, answer.taken);
+        let stamp = self.log.as_slice().len() as u32;
+        let ret = self.devices.answer(call, &mut self.out);
+        fill(&mut event, call, stamp, ret, &self.out);
         self.end = next_end(self.end, call);
         keep(&mut self.log, event);
     }
@@ -95,7 +100,7 @@ impl SyscallKernel for ScriptKernel {
     }
 
     fn output(&self) -> &[u8] {
-        self.console.as_slice()
+        self.devices.files.console()
     }
 
     fn ended(&self) -> Option<u8> {

@@ -1,8 +1,13 @@
 //! The kernel that answers the system calls of a run: a profile of Linux's calls, over what a script gives.
 #![tactic(auto)]
 
-mod answer;
+mod clock;
+mod constants;
+mod devices;
+mod errors;
 mod kernel;
+mod random;
 mod spare;
 
+pub use constants::constant;
 pub use kernel::ScriptKernel;

@@ -1,21 +1,41 @@
 // An event whose memory is taken before its call is served.
-ghost use Rattle.std.specs.Prelude.{◌≡◌, ◌≤◌, ◌<◌, ◌^◌, ℕ, [], ◌∷◌, ◌++◌, length, IfOk, vec_len, vec_capacity};
+ghost use Rattle.std.specs.Prelude.{◌≡◌, ◌+◌, ◌≤◌, ◌<◌, ◌^◌, ℕ, [], ◌∷◌, ◌++◌, length, Some, IfOk, vec_len, vec_capacity};
 ghost use mathlib.Core.Option.{some};
 ghost use lib.ListN.{get_elem?};
 ghost use Rattle.nv_calls.specs.Calls.{request, entry};
 ghost use Rattle.nv_calls.specs.Logs.{InRange};
-ghost use Rattle.nv_calls.specs.Shapes.{IsShaped};
 ghost use Rattle.nv_kernel.specs.Ends.{end_next};
+ghost use Rattle.nv_kernel.specs.Kept.{HasRoom, room_of};
+ghost use Rattle.nv_kernel.specs.Rooms.{most_out_by};
 
-use nv_calls::{Bytes, Call, Event, Reply};
+use nv_calls::{Bytes, Call, Event, Reply, Syscall};
 use std::alloc::{AllocError, Global};
 
-/// Memory for a call with a payload of so many bytes, and an empty reply.
-pub fn blank(alloc: Global, size: u32) -> Result<Event, AllocError>
-    ensures { IfOk result (λ e. e.call.payload.room ≡ size) }
+/// How many bytes a call hands out at most: read(2), getrandom(2) and readv(2) have a limit of their own.
+const MOST_OUT: u32 = 4096;
+
+fn most_out_by(syscall: Syscall, call: &Call) -> u32
+    ensures { result ≡ most_out_by syscall (request call.now) }
 {
-    let handed_in = Bytes::make(alloc, size)?;
-    let handed_out = Bytes::make(alloc, 0)?;
+    match syscall {
+        Syscall::Getcwd => 2,
+        Syscall::Pipe2 | Syscall::Llseek => 8,
+        Syscall::Read => call.args[2].min(MOST_OUT),
+        Syscall::Readv => call.args[3].min(MOST_OUT),
+        Syscall::Uname => 390,
+        Syscall::Getrandom => call.args[1].min(MOST_OUT),
+        Syscall::ClockGettime64 => 16,
+        _ => 0,
+    }
+}
+
+/// Memory for the event of a call: its payload, and the most that it hands out.
+pub fn blank(alloc: Global, call: &Call) -> Result<Event, AllocError>
+    requires { length call.now.payload.bytes ≤ 4096 }
+    ensures { IfOk result (λ e. HasRoom (Some (room_of e)) (request call.now)) }
+{
+    let handed_in = Bytes::make(alloc, call.payload.as_slice().len() as u32)?;
+    let handed_out = Bytes::make(alloc, most_out_by(Syscall::of(call.nr), call))?;
     Ok(Event {
         stamp: 0,
         call: Call {
@@ -32,11 +52,12 @@ pub fn blank(alloc: Global, size: u32) -> Result<Event, AllocError>
     })
 }
 
-/// The event of this call with this result.
-pub fn fill(event: &mut Event, call: &Call, stamp: u32, ret: i32)
-    requires room { length call.now.payload.bytes ≤ event.old.call.payload.room }
-    requires shaped { IsShaped (request call.now) }
-    ensures entry { entry event.new ≡ record { stamp = stamp; call = request call.now; reply = record { ret = ret; payload = [] } } }
+/// The event of this call with this result, and the bytes that are handed out.
+pub fn fill(event: &mut Event, call: &Call, stamp: u32, ret: i32, out: &Bytes)
+    requires handed_in { length call.now.payload.bytes ≤ event.old.call.payload.room }
+    requires handed_out { length out.now.bytes ≤ event.old.reply.payload.room }
+    requires few { length call.now.payload.bytes + length out.now.bytes ≤ 4096 }
+    ensures entry { entry event.new ≡ record { stamp = stamp; call = request call.now; reply = record { ret = ret; payload = out.now.bytes } } }
     ensures range { InRange (entry event.new) }
 {
     tell_ranges(call.tid, call.nr, call.args);
@@ -47,7 +68,7 @@ pub fn fill(event: &mut Event, call: &Call, stamp: u32, ret: i32)
     event.call.bad = call.bad;
     event.call.payload.set(call.payload.as_slice());
     event.reply.ret = ret;
-    event.reply.payload.set(&[]);
+    event.reply.payload.set(out.as_slice());
 }
 
 /// Numbers that are passed by value are known to be in their ranges.

@@ -1,0 +1,33 @@
+-- How many bytes calls hand out at most.
+use Rattle.std.proofs.Common.{◌≡◌, sym, subst, refl, ℕ, ◌+◌, ◌≤◌, Bool, true, false, cond, length, [], arith}
+use Rattle.nv_calls.specs.declared.numbers.Syscall.{Syscall}
+use Rattle.nv_calls.specs.Calls.{Request}
+use Rattle.nv_calls.specs.Constants.{names}
+use Rattle.nv_kernel.specs.Serving.{State, Served}
+use Rattle.nv_calls.specs.declared.numbers.Syscall.TheVariants.{Unlinkat, Openat, Write, Writev}
+use Rattle.nv_calls.specs.Numbers.{syscall_of, hands_in}
+use Rattle.nv_calls.specs.Shapes.{IsShaped}
+use Rattle.nv_calls.specs.ShapeLaws.{shaped-few, shaped-empty}
+use Rattle.nv_kernel.specs.Rooms.{most_out_by, most_out}
+
+pub few_as : (k l : Syscall) (c : Request) (n : ℕ) → k ≡ l → n ≤ most_out_by l c → n ≤ most_out_by k c
+few_as k l c n h p = subst (λ (z : Syscall). n ≤ most_out_by z c) (sym h) p
+
+pub few_by : (b : Bool) (x y : Served) (n : ℕ) → length x.payload ≤ n → length y.payload ≤ n → length (cond b x y).payload ≤ n
+few_by true x y n p q = p
+few_by false x y n p q = q
+
+pub names_are : length names ≡ 390
+unfolding names
+names_are = refl
+
+together_as : (k : Syscall) (c : Request) → (hands_in k ≡ false → length c.payload ≡ 0) → length c.payload ≤ 4096 → length c.payload + most_out_by k c ≤ 4096
+together_as Unlinkat c h p = omega arith
+together_as Openat c h p = omega arith
+together_as Write c h p = omega arith
+together_as Writev c h p = omega arith
+together_as _ c h p = let z = h refl in omega arith
+
+-- what a call hands in and out together
+pub together_few : (c : Request) → IsShaped c → length c.payload + most_out c ≤ 4096
+together_few c h = together_as (syscall_of c.nr) c (shaped-empty c h) (shaped-few c h)

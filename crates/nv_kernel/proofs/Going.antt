@@ -1,0 +1,77 @@
+-- From call to call: how many were served, what is printed, and that no thread is made.
+use Rattle.std.proofs.Common.{◌≡◌, ◌∙◌, sym, ap, refl, ℕ, ℤ, pos, negsuc, ◌+◌, ◌<◌, ◌≤◌, Bool, true, false, cond, ◌==◌, ◌&&◌, not, nat_lt, List, [], ◌∷◌, ◌++◌, length, Option, Some, None, arith}
+use Rattle.std.specs.Prelude.{slice_index, map}
+use Rattle.std.proofs.lemmas.Bool.Decides.{nat_tests}
+use Rattle.nv_calls.specs.declared.numbers.Syscall.{Syscall}
+use Rattle.nv_calls.specs.declared.numbers.Syscall.TheVariants.{Ioctl, Readv, Writev, Clone, ClockGettime64}
+use Rattle.nv_calls.specs.Calls.{Request, Response, Entry}
+use Rattle.nv_calls.specs.Numbers.{syscall_of}
+use Rattle.nv_calls.specs.Logs.{made, calls_of, call_of, output_of, served, child_of}
+use Rattle.nv_fs.specs.States.{is_open}
+use Rattle.nv_script.specs.Scripts.{Setup}
+use Rattle.nv_kernel.specs.Serving.{State, Served, replied, EFAULT, ENOSYS, answered, unless_bad, serve, state_after, reply_of, first_state, start_of_script}
+use Rattle.nv_kernel.proofs.Keeping.{map_more}
+
+pub state_more : (s : State) (cs : List Request) (c : Request) → state_after s (cs ++ c ∷ []) ≡ (serve (state_after s cs) c).state
+state_more s [] c = refl
+state_more s (d ∷ cs) c = state_more (serve s d).state cs c
+
+count_by : (b : Bool) (x y : Served) (n : ℕ) → x.state.served ≡ n → y.state.served ≡ n → (cond b x y).state.served ≡ n
+count_by true x y n p q = p
+count_by false x y n p q = q
+
+count_as : (k : Syscall) (s : State) (c : Request) → (answered k s c).state.served ≡ s.served
+count_as Ioctl s c = count_by (is_open s.files (slice_index c.args 0)) _ _ s.served refl refl
+count_as Readv s c = count_by (nat_lt 1024 (slice_index c.args 2)) _ _ s.served refl refl
+count_as Writev s c = count_by (nat_lt 1024 (slice_index c.args 2)) _ _ s.served refl refl
+count_as ClockGettime64 s c = count_by (nat_lt 1 (slice_index c.args 0)) _ _ s.served refl refl
+count_as _ s c = refl
+
+count_more : (s : State) (c : Request) → (serve s c).state.served ≡ s.served + 1
+unfolding serve
+count_more s c = ap (λ n. n + 1) (count_by c.bad (replied s EFAULT []) (answered (syscall_of c.nr) s c) s.served refl (count_as (syscall_of c.nr) s c))
+
+-- the state counts the calls
+pub count_is : (s : State) (cs : List Request) → (state_after s cs).served ≡ s.served + length cs
+count_is s [] = omega arith
+count_is s (c ∷ cs) = let h = count_is (serve s c).state cs in let k = count_more s c in omega (arith, h, k)
+
+not_made : (nr : ℕ) (r : ℤ) → (nr == 220) ≡ false → made nr r ≡ None
+not_made nr (pos n) h = ap (λ b. cond {A = Option ℕ} (b && not (n == 0)) (Some n) None) h
+not_made nr (negsuc n) h = refl
+
+refused : (b : Bool) (s : State) (nr : ℕ) → made nr (cond b (replied s EFAULT []) (replied s ENOSYS [])).ret ≡ None
+refused true s nr = refl
+refused false s nr = refl
+
+is_clone : (nr : ℕ) → nr ≡ 220 → syscall_of nr ≡ Clone
+unfolding syscall_of
+is_clone nr h = ap syscall_of h
+
+clone_makes_none : (s : State) (c : Request) → c.nr ≡ 220 → made c.nr (serve s c).ret ≡ None
+unfolding serve
+clone_makes_none s c h = ap (λ k. made c.nr (cond c.bad (replied s EFAULT []) (answered k s c)).ret) (is_clone c.nr h) ∙ refused c.bad s c.nr
+
+none_by : (b : Bool) (s : State) (c : Request) → (c.nr == 220) ≡ b → made c.nr (serve s c).ret ≡ None
+none_by true s c h = clone_makes_none s c (grind (arith, nat_tests))
+none_by false s c h = not_made c.nr (serve s c).ret h
+
+pub no_child : (setup : Setup) (log : List Entry) (c : Request) → child_of (served (start_of_script setup) log c) ≡ None
+unfolding start_of_script
+no_child setup log c = none_by (c.nr == 220) (state_after (first_state setup) (calls_of log)) c refl
+
+-- the reply to a call, and the console, by the state behind the calls before
+pub reply_is : (setup : Setup) (log : List Entry) (c : Request) → (start_of_script setup).replies (calls_of log) c ≡ reply_of (serve (state_after (first_state setup) (calls_of log)) c)
+unfolding start_of_script
+reply_is setup log c = refl
+
+pub output_is : (setup : Setup) (log : List Entry) → output_of (start_of_script setup) log ≡ (state_after (first_state setup) (calls_of log)).files.console
+unfolding start_of_script
+output_is setup log = refl
+
+-- the state behind one more entry
+pub log_more : (setup : Setup) (log : List Entry) (e : Entry) → state_after (first_state setup) (calls_of (log ++ e ∷ [])) ≡ (serve (state_after (first_state setup) (calls_of log)) e.call).state
+log_more setup log e = ap (state_after (first_state setup)) (map_more call_of log e) ∙ state_more (first_state setup) (calls_of log) e.call
+
+pub log_count : (setup : Setup) (log : List Entry) → (state_after (first_state setup) (calls_of log)).served ≡ length (calls_of log)
+log_count setup log = let h = count_is (first_state setup) (calls_of log) in omega (arith, h)

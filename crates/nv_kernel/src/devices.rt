@@ -1,0 +1,202 @@
+// What the kernel answers each call, and what each call leaves.
+ghost use Rattle.std.specs.Prelude.{◌≡◌, ◌≤◌, ◌<◌, ◌+◌, ◌*◌, ◌^◌, [], length, map, OnOk, IfOk};
+ghost use Rattle.nv_calls.specs.Calls.{request};
+ghost use Rattle.nv_script.specs.Views.{setup_of};
+ghost use Rattle.nv_fs.specs.Fetched.{read_of};
+ghost use Rattle.nv_fs.specs.Stored.{write_of};
+ghost use Rattle.nv_fs.specs.Rooms.{CanWrite};
+ghost use Rattle.nv_kernel.specs.Serving.{of_files, second, answered, serve, first_state, control, unless_many, unless_bad, clock, randomly};
+ghost use Rattle.nv_kernel.specs.Rooms.{state_of, can_answer, CanAnswer, most_out_by, most_out};
+
+use crate::clock::{start_of, time_bytes};
+use crate::constants::{PARENT, PROCESS, USER, directory, names, only};
+use crate::errors::{EBADF, EFAULT, EINVAL, ENOSYS, ENOTTY};
+use crate::random::fill_random;
+use nv_calls::{Bytes, Call, Syscall};
+use nv_fs::FileSystem;
+use nv_script::Script;
+use std::alloc::{AllocError, Global};
+
+/// How many bytes getrandom hands out at most.
+const MOST_RANDOM: u32 = 4096;
+
+/// IOV_MAX (limits.h(0p)).
+const MOST_VECTORS: u32 = 1024;
+
+/// What calls read and change.
+#[derive(Drop)]
+pub struct Devices {
+    pub files: FileSystem,
+    /// How many calls were served.
+    pub served: u32,
+    /// The clock at the first call, in nanoseconds.
+    pub start: u64,
+    /// How many nanoseconds each call moves the clock.
+    pub step: u32,
+    /// The state of the random numbers.
+    pub random: u64,
+}
+
+impl Devices {
+    /// What a script gives.
+    pub fn make(alloc: Global, script: &Script) -> Result<Devices, AllocError>
+        ensures { IfOk result (λ made. state_of made ≡ first_state (setup_of script.now)) }
+    {
+        let files = FileSystem::make(alloc, &script.input, &script.files)?;
+        Ok(Devices {
+            files,
+            served: 0,
+            start: start_of(script.seconds, script.nanos),
+            step: script.step,
+            random: u64::from(script.seed),
+        })
+    }
+
+    // ioctl(2): no open file is a terminal.
+    fn control(&self, fd: u32) -> i32
+        ensures { control (state_of self.now) fd ≡ record { state = state_of self.now; ret = result; payload = [] } }
+    {
+        if self.files.has(fd) { ENOTTY } else { EBADF }
+    }
+
+    // readv(2), of vectors with room for so many bytes together.
+    fn read_vectors(&mut self, fd: u32, count: u32, capacity: u32, out: &mut Bytes) -> i32
+        requires { 4096 ≤ out.old.room }
+        ensures answer { unless_many (state_of self.old) count (of_files (state_of self.old) (read_of self.old.files.state fd capacity)) ≡ record { state = state_of self.new; ret = result; payload = out.new.bytes } }
+        ensures room { out.new.room ≡ out.old.room }
+    {
+        if count > MOST_VECTORS {
+            return only(EINVAL, out);
+        }
+        self.files.read(fd, capacity, out)
+    }
+
+    // writev(2), of vectors that hold these bytes.
+    fn write_vectors(&mut self, fd: u32, count: u32, bytes: &[u8]) -> i32
+        requires { CanWrite self.old.files fd (length bytes.now) }
+        ensures { unless_many (state_of self.old) count (of_files (state_of self.old) (write_of self.old.files.state fd bytes.now)) ≡ record { state = state_of self.new; ret = result; payload = [] } }
+    {
+        if count > MOST_VECTORS {
+            return EINVAL;
+        }
+        self.files.write(fd, bytes)
+    }
+
+    // clock_gettime(2).
+    fn clock(&self, id: u32, out: &mut Bytes) -> i32
+        requires { 16 ≤ out.old.room }
+        ensures answer { clock (state_of self.now) id ≡ record { state = state_of self.now; ret = result; payload = out.new.bytes } }
+        ensures room { out.new.room ≡ out.old.room }
+        ensures few { length out.new.bytes ≤ 16 }
+    {
+        if id > 1 {
+            return only(EINVAL, out);
+        }
+        out.set(&time_bytes(self.start, self.step, self.served));
+        0
+    }
+
+    // getrandom(2).
+    fn hand_out_random(&mut self, n: u32, out: &mut Bytes) -> i32
+        requires few { n ≤ 4096 }
+        requires room { 4096 ≤ out.old.room }
+        ensures answer { randomly (state_of self.old) n ≡ record { state = state_of self.new; ret = result; payload = out.new.bytes } }
+        ensures room { out.new.room ≡ out.old.room }
+        ensures few { length out.new.bytes ≡ n }
+    {
+        let mut bytes = [0; MOST_RANDOM as usize];
+        let part = &mut bytes[..n as usize];
+        self.random = fill_random(self.random, part);
+        out.set(part);
+        n as i32
+    }
+
+    // What the call answers, where all that it reads and writes is the guest's.
+    fn answer_as(&mut self, syscall: Syscall, call: &Call, out: &mut Bytes) -> i32
+        requires ready { can_answer syscall self.old.files (request call.now) }
+        requires room { 4096 ≤ out.old.room }
+        requires empty { out.old.bytes ≡ [] }
+        ensures answer { answered syscall (state_of self.old) (request call.now) ≡ record { state = state_of self.new; ret = result; payload = out.new.bytes } }
+        ensures room { out.new.room ≡ out.old.room }
+        ensures few { length out.new.bytes ≤ most_out_by syscall (request call.now) }
+    {
+        let args = call.args;
+        let bytes = call.payload.as_slice();
+        match syscall {
+            Syscall::Getcwd => directory(args[1], out),
+            Syscall::Dup => self.files.dup(args[0]),
+            Syscall::Dup3 => self.files.dup3(args[0], args[1], args[2]),
+            Syscall::Ioctl => self.control(args[0]),
+            Syscall::Unlinkat => self.files.unlink_at(args[0].cast_signed(), bytes, args[2]),
+            Syscall::Openat => self.files.open_at(args[0].cast_signed(), bytes, args[2]),
+            Syscall::Close => self.files.close(args[0]),
+            Syscall::Pipe2 => self.files.pipe(args[1], out),
+            Syscall::Llseek => self.files.seek(args[0], args[1], args[2], args[4], out),
+            Syscall::Read => self.files.read(args[0], args[2], out),
+            Syscall::Write => self.files.write(args[0], bytes),
+            Syscall::Readv => self.read_vectors(args[0], args[2], args[3], out),
+            Syscall::Writev => self.write_vectors(args[0], args[2], bytes),
+            Syscall::Exit | Syscall::ExitGroup => 0,
+            Syscall::Uname => names(out),
+            Syscall::Getpid => PROCESS,
+            Syscall::Getppid => PARENT,
+            Syscall::Getuid | Syscall::Geteuid | Syscall::Getgid | Syscall::Getegid => USER,
+            Syscall::Getrandom => self.hand_out_random(args[1].min(MOST_RANDOM), out),
+            Syscall::ClockGettime64 => self.clock(args[0], out),
+            Syscall::Clone | Syscall::Unknown => ENOSYS,
+        }
+    }
+
+    fn answer_unless_bad(&mut self, call: &Call, out: &mut Bytes) -> i32
+        requires ready { CanAnswer self.old.files (request call.now) }
+        requires room { 4096 ≤ out.old.room }
+        ensures answer { unless_bad (state_of self.old) (request call.now) ≡ record { state = state_of self.new; ret = result; payload = out.new.bytes } }
+        ensures room { out.new.room ≡ out.old.room }
+        ensures few { length out.new.bytes ≤ most_out (request call.now) }
+    {
+        out.set(&[]);
+        if call.bad {
+            return EFAULT;
+        }
+        self.answer_as(Syscall::of(call.nr), call, out)
+    }
+
+    /// The result of a call, with the bytes that it hands out.
+    #[tactic(auto, unfolding(crate::specs::Serving::serve))]
+    pub fn answer(&mut self, call: &Call, out: &mut Bytes) -> i32
+        requires ready { CanAnswer self.old.files (request call.now) }
+        requires few { self.old.served < 131072 }
+        requires room { 4096 ≤ out.old.room }
+        ensures answer { serve (state_of self.old) (request call.now) ≡ record { state = state_of self.new; ret = result; payload = out.new.bytes } }
+        ensures room { out.new.room ≡ out.old.room }
+        ensures few { length out.new.bytes ≤ most_out (request call.now) }
+    {
+        let ret = self.answer_unless_bad(call, out);
+        self.served += 1;
+        ret
+    }
+
+    fn reserve_as(&mut self, syscall: Syscall, call: &Call) -> Result<(), AllocError>
+        requires few { length call.now.payload.bytes ≤ 4096 }
+        ensures state { state_of self.new ≡ state_of self.old }
+        ensures ready { OnOk result (can_answer syscall self.new.files (request call.now)) }
+    {
+        let args = call.args;
+        let bytes = call.payload.as_slice();
+        match syscall {
+            Syscall::Openat => self.files.reserve_path(args[0].cast_signed(), bytes, args[2]),
+            Syscall::Pipe2 => self.files.reserve_pipe(),
+            Syscall::Write | Syscall::Writev => self.files.reserve_write(args[0], bytes.len() as u32),
+            _ => Ok(()),
+        }
+    }
+
+    /// Memory for what the call leaves.
+    pub fn reserve(&mut self, call: &Call) -> Result<(), AllocError>
+        requires few { length call.now.payload.bytes ≤ 4096 }
+        ensures state { state_of self.new ≡ state_of self.old }
+        ensures ready { OnOk result (CanAnswer self.new.files (request call.now)) }
+    {
+        self.reserve_as(Syscall::of(call.nr), call)
+    }
+}
