@@ -8,6 +8,7 @@ use Rattle.nv_cli.specs.Unmade.{IsUnmade}
 use Rattle.nv_cli.specs.Refusals.{Refuses}
 use Rattle.nv_cli.specs.Prepared.{Ready, ComesTo, TookLong, prepared}
 use Rattle.nv_cli.specs.Account.{IsRunOf, run_status}
+use Rattle.nv_script.specs.Scripts.{Setup}
 use Rattle.nv_machine.specs.Guest.{Machine}
 use Rattle.nv_replay.specs.Sequence.{Account}
 use Rattle.nv_cli.specs.Outcome.{Source, NoMemory, Reported, CanBe, Says, Tells, Answers, Ran, account_text, outcome_of, text_of}
@@ -43,12 +44,12 @@ module _ (unmade : Unmade) (tool : Tool) (told : Told) (before now taken later :
   pub refused_by : (cause : Cause) → unmade ≡ Refused cause → ((content : List ℕ) → told ≡ Content content → made_of tool content ≡ Err cause) × (cause ≡ Long → TookLong taken later)
   refused_by cause e = subst (λ (u : Unmade). IsUnmade u tool told before now taken later) e h
 
-module _ (words : List (List ℕ)) (source : Source) (plan : Plan) (asked : command_of words ≡ Some (Runs plan)) (machines : List Machine)
-    (told : ComesTo (prepared source.holds plan) (Ready machines)) (before : Option (List ℕ)) (faults status : ℕ) (after : Option (List ℕ)) (later : ℕ) where
-  reported : (json : Bool) (account : Account) → json ≡ plan.json → IsRunOf plan.limits machines account
-      → Says (account_text json account) (run_status account.lines) before faults status after later → Answers words source before faults status after later
+module _ (words : List (List ℕ)) (source : Source) (plan : Plan) (asked : command_of words ≡ Some (Runs plan)) (setup : Setup) (machines : List Machine)
+    (told : ComesTo (prepared source.holds plan) (Ready setup machines)) (before : Option (List ℕ)) (faults status : ℕ) (after : Option (List ℕ)) (later : ℕ) where
+  reported : (json : Bool) (account : Account) → json ≡ plan.json → IsRunOf plan.limits setup machines account
+      → Says (account_text json setup account) (run_status account.lines) before faults status after later → Answers words source before faults status after later
   reported json account form run says = record {
-    outcome = Reported json account;
+    outcome = Reported json setup account;
     can_be = record { plan = plan; asked = asked; form = form; machines = machines; told = told; is_run = run };
     says = says;
   }
@@ -56,11 +57,11 @@ module _ (words : List (List ℕ)) (source : Source) (plan : Plan) (asked : comm
   starved : Says (text_of NoMemory) 3 before faults status after later → Answers words source before faults status after later
   starved says = record { outcome = NoMemory; can_be = named words (Runs plan) asked; says = says }
 
-  by_form : (json : Bool) (account : Account) → json ≡ plan.json → IsRunOf plan.limits machines account
-      → Tells json (account_text json account) (run_status account.lines) before faults status after later → Answers words source before faults status after later
+  by_form : (json : Bool) (account : Account) → json ≡ plan.json → IsRunOf plan.limits setup machines account
+      → Tells json (account_text json setup account) (run_status account.lines) before faults status after later → Answers words source before faults status after later
   by_form true account form run tells = ⊎_elim (reported true account form run) starved tells
   by_form false account form run tells = reported false account form run tells
 
   -- versions that ran have an outcome of the run
-  pub ran_answers : Ran plan.limits plan.json machines before faults status after later → Answers words source before faults status after later
+  pub ran_answers : Ran plan.limits plan.json setup machines before faults status after later → Answers words source before faults status after later
   ran_answers ran = by_form plan.json ran.account refl ran.is_run ran.says

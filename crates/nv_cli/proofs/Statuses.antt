@@ -36,7 +36,7 @@ module _ (words : List (List ℕ)) (source : Source) (before after : Option (Lis
   refused Usage Whole can ends whole four = absurd (omega arith)
   refused NoMemory Whole can ends whole four = absurd (omega arith)
   refused (NotRead name) Whole can ends whole four = absurd (omega arith)
-  refused (Reported json account) Whole can ends whole four = absurd (not_four n (is_report account.lines n ends) four)
+  refused (Reported json setup account) Whole can ends whole four = absurd (not_four n (is_report account.lines n ends) four)
   refused (Made text) Whole can ends whole four = absurd (omega arith)
   refused outcome Failed can ends whole four = absurd (omega arith)
 
@@ -46,7 +46,7 @@ module _ (words : List (List ℕ)) (source : Source) (before after : Option (Lis
   unread Usage Whole can ends whole five = absurd (omega arith)
   unread NoMemory Whole can ends whole five = absurd (omega arith)
   unread (NotAccepted name cause) Whole can ends whole five = absurd (omega arith)
-  unread (Reported json account) Whole can ends whole five = absurd (not_five n (is_report account.lines n ends) five)
+  unread (Reported json setup account) Whole can ends whole five = absurd (not_five n (is_report account.lines n ends) five)
   unread (Made text) Whole can ends whole five = absurd (omega arith)
   unread outcome Failed can ends whole five = absurd (omega arith)
 
@@ -79,7 +79,7 @@ module _ (words : List (List ℕ)) (source : Source) (before : Option (List ℕ)
       absurd (⊎_elim (λ (r : CannotRead words source name). unasked words (Runs r.plan) r.asked none) (λ (r : CannotReadFile words source name). unasked words (Uses r.job) r.asked none) can)
   unrefused (NotAccepted name cause) can none says =
       absurd (⊎_elim (λ (r : IsRefused words source name cause). unasked words (Runs r.plan) r.asked none) (λ (r : IsFileRefused words source name cause). unasked words (Uses r.job) r.asked none) can)
-  unrefused (Reported json account) can none says = absurd (unasked words (Runs can.plan) can.asked none)
+  unrefused (Reported json setup account) can none says = absurd (unasked words (Runs can.plan) can.asked none)
   unrefused (Made text) can none says = absurd (unasked words (Uses can.job) can.asked none)
 
   -- words that name no command take no memory
@@ -92,7 +92,7 @@ module _ (words : List (List ℕ)) (source : Source) (before : Option (List ℕ)
   unnamed (NotAccepted name cause) can none says =
       absurd (⊎_elim (λ (r : IsRefused words source name cause). nameless words (named words (Runs r.plan) r.asked) none)
       (λ (r : IsFileRefused words source name cause). nameless words (named words (Uses r.job) r.asked) none) can)
-  unnamed (Reported json account) can none says = absurd (nameless words (named words (Runs can.plan) can.asked) none)
+  unnamed (Reported json setup account) can none says = absurd (nameless words (named words (Runs can.plan) can.asked) none)
   unnamed (Made text) can none says = absurd (nameless words (named words (Uses can.job) can.asked) none)
 
 module _ {words : List (List ℕ)} {source : Source} {before after : Option (List ℕ)} {n faults later : ℕ} where

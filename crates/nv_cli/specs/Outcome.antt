@@ -29,6 +29,8 @@ use Rattle.nv_outside.specs.Told.{Content}
 use Rattle.nv_cli.specs.Made.{made_of}
 use Rattle.nv_command.specs.Words.{Limits, Plan, Job, Runs, Uses, command_of, name_in}
 use Rattle.nv_calls.specs.Logs.{output_of}
+use Rattle.nv_script.specs.Scripts.{Setup}
+use Rattle.nv_script.specs.Texts.{fault_text}
 use Rattle.nv_kernel.specs.Serving.{start_of_script}
 use Rattle.nv_replay.specs.Sequence.{Account}
 use Rattle.nv_report.specs.Report.{report_text}
@@ -40,7 +42,8 @@ use Rattle.nv_cli.specs.declared.refusal.Refusal.TheVariants as refusal
 use Rattle.nv_cli.specs.declared.refusal.Place.{Place}
 use Rattle.nv_cli.specs.declared.refusal.Place.TheVariants.{Script, Version}
 use Rattle.nv_cli.specs.declared.refusal.Cause.{Cause}
-use Rattle.nv_cli.specs.declared.refusal.Cause.TheVariants.{Long, Unbuilt, Elf, Guest, Filter, Rules, Asm}
+use Rattle.nv_cli.specs.declared.refusal.Cause.TheVariants.{Long, Elf, Guest, Filter, Rules, Asm}
+use Rattle.nv_cli.specs.declared.refusal.Cause.TheVariants as causes
 
 -- The words are refused; memory is wanted before the run starts; a file can't be read; a file is refused; a run has its account; or a command over one file has made its text.
 pub data Outcome : Type 0 where
@@ -48,8 +51,8 @@ pub data Outcome : Type 0 where
   NoMemory : Outcome
   NotRead : List ℕ → Outcome
   NotAccepted : List ℕ → Cause → Outcome
-  -- as JSON or not
-  Reported : Bool → Account → Outcome
+  -- as JSON or not, over what the script says
+  Reported : Bool → Setup → Account → Outcome
   Made : List ℕ → Outcome
 
 abbrev pub elf_text : ElfFault → List ℕ
@@ -113,7 +116,7 @@ asm_text asm.Memory = codes "memory"
 
 abbrev pub cause_text : Cause → List ℕ
 cause_text Long = codes "long"
-cause_text Unbuilt = codes "unbuilt"
+cause_text (causes.Script fault) = fault_text fault
 cause_text (Elf fault) = elf_text fault
 cause_text (Guest fault) = guest_text fault
 cause_text (Filter fault) = filter_text fault
@@ -121,9 +124,9 @@ cause_text (Rules fault) = rules_text fault
 cause_text (Asm fault) = asm_text fault
 
 -- the report of an account, or its JSON form and a newline
-abbrev pub account_text : Bool → Account → List ℕ
-account_text true account = json_text (output_of start_of_script account.log) account ++ codes "\n"
-account_text false account = report_text (output_of start_of_script account.log) account
+abbrev pub account_text : Bool → Setup → Account → List ℕ
+account_text true setup account = json_text (output_of (start_of_script setup) account.log) account ++ codes "\n"
+account_text false setup account = report_text (output_of (start_of_script setup) account.log) account
 
 -- what is written
 abbrev pub text_of : Outcome → List ℕ
@@ -131,7 +134,7 @@ text_of Usage = codes "varan: usage\n"
 text_of NoMemory = codes "varan: memory\n"
 text_of (NotRead name) = concat (codes "varan: read " ∷ name ∷ codes "\n" ∷ [])
 text_of (NotAccepted name cause) = concat (codes "varan: input " ∷ name ∷ codes ": " ∷ []) ++ (cause_text cause ++ codes "\n")
-text_of (Reported json account) = account_text json account
+text_of (Reported json setup account) = account_text json setup account
 text_of (Made text) = text
 
 abbrev pub status_of : Outcome → ℕ
@@ -139,7 +142,7 @@ status_of Usage = 2
 status_of NoMemory = 3
 status_of (NotRead name) = 5
 status_of (NotAccepted name cause) = 4
-status_of (Reported json account) = run_status account.lines
+status_of (Reported json setup account) = run_status account.lines
 status_of (Made text) = 0
 
 -- a write fault takes the place of the other statuses
@@ -192,14 +195,14 @@ pub record IsRefused (words : List (List ℕ)) (source : Source) (name : List �
   pub told : ComesTo (prepared source.holds plan) (Refused place cause)
   pub long : cause ≡ Long → TookLong source.taken source.later_taken
 
--- The account is that of the plain sequential monitor over the files; where they are told, they are accepted and come to these machines.
-pub record IsReported (words : List (List ℕ)) (source : Source) (json : Bool) (account : Account) : Type 0 where
+-- The account is that of the plain sequential monitor over the files; where they are told, they are accepted, and the script says this and the versions come to these machines.
+pub record IsReported (words : List (List ℕ)) (source : Source) (json : Bool) (setup : Setup) (account : Account) : Type 0 where
   pub plan : Plan
   pub asked : command_of words ≡ Some (Runs plan)
   pub form : json ≡ plan.json
   pub machines : List Machine
-  pub told : ComesTo (prepared source.holds plan) (Ready machines)
-  pub is_run : IsRunOf plan.limits machines account
+  pub told : ComesTo (prepared source.holds plan) (Ready setup machines)
+  pub is_run : IsRunOf plan.limits setup machines account
 
 -- The one file of a command couldn't be read.
 pub record CannotReadFile (words : List (List ℕ)) (source : Source) (name : List ℕ) : Type 0 where
@@ -228,7 +231,7 @@ CanBe words source Usage = command_of words ≡ None
 CanBe words source NoMemory = IsSome (name_in words)
 CanBe words source (NotRead name) = CannotRead words source name ⊎ CannotReadFile words source name
 CanBe words source (NotAccepted name cause) = IsRefused words source name cause ⊎ IsFileRefused words source name cause
-CanBe words source (Reported json account) = IsReported words source json account
+CanBe words source (Reported json setup account) = IsReported words source json setup account
 CanBe words source (Made text) = IsMade words source text
 
 -- a text was written with this status, or the write failed
@@ -254,7 +257,7 @@ pub record Answers (words : List (List ℕ)) (source : Source) (before : Option 
   pub says : Says (text_of outcome) (status_of outcome) before faults status after later_faults
 
 -- the versions ran, and their report was written, or the write failed; or memory was wanted for its JSON form
-pub record Ran (limits : Limits) (json : Bool) (machines : List Machine) (before : Option (List ℕ)) (faults : ℕ) (status : ℕ) (after : Option (List ℕ)) (later_faults : ℕ) : Type 0 where
+pub record Ran (limits : Limits) (json : Bool) (setup : Setup) (machines : List Machine) (before : Option (List ℕ)) (faults : ℕ) (status : ℕ) (after : Option (List ℕ)) (later_faults : ℕ) : Type 0 where
   pub account : Account
-  pub is_run : IsRunOf limits machines account
-  pub says : Tells json (account_text json account) (run_status account.lines) before faults status after later_faults
+  pub is_run : IsRunOf limits setup machines account
+  pub says : Tells json (account_text json setup account) (run_status account.lines) before faults status after later_faults

@@ -2,6 +2,7 @@
 use Rattle.std.specs.Prelude.{◌≡◌, ◌⊎◌, ℕ, Bool, IsSome, List, ◌++◌, Option}
 use Rattle.nv_outside.specs.Told.{Grows}
 use Rattle.nv_command.specs.Words.{name_in}
+use Rattle.nv_script.specs.Scripts.{Setup}
 use Rattle.nv_replay.specs.Sequence.{Account}
 use Rattle.nv_cli.specs.Account.{run_status}
 use Rattle.nv_cli.specs.Outcome.{Source, Outcome, NoMemory, NotRead, NotAccepted, Reported, CanBe, IsReported, IsMade, text_of}
@@ -14,10 +15,11 @@ IsReport status = (status ≡ 0) ⊎ ((status ≡ 1) ⊎ (status ≡ 7))
 -- What was written is the report, or its JSON form, of the account of the plain sequential monitor, and the status is that of the versions' fates.
 pub record Reports (words : List (List ℕ)) (source : Source) (status : ℕ) (before after : Option (List ℕ)) : Type 0 where
   pub json : Bool
+  pub setup : Setup
   pub account : Account
-  pub is_account : IsReported words source json account
+  pub is_account : IsReported words source json setup account
   pub status_is : status ≡ run_status account.lines
-  pub written : Grows before (text_of (Reported json account)) after
+  pub written : Grows before (text_of (Reported json setup account)) after
 
 -- What was written is what a command over one file makes of it.
 pub record Makes (words : List (List ℕ)) (source : Source) (before after : Option (List ℕ)) : Type 0 where

@@ -1,24 +1,35 @@
 // How the files of a run are read and loaded.
-ghost use Rattle.std.specs.Prelude.{◌≡◌, ◌≤◌, ◌<◌, List, ℕ, [], Some, IfOk, IfErr, length, map, slice_get};
+ghost use Rattle.std.specs.Prelude.{◌≡◌, ◌≤◌, ◌<◌, List, ℕ, Some, Ok, IsTrue, IfOk, IfErr, length, slice_get};
 ghost use Rattle.nv_guest.specs.Guest.{machine_of};
+ghost use Rattle.nv_script.specs.Scripts.{script_of, is_script};
+ghost use Rattle.nv_script.specs.Views.{setup_of};
 ghost use Rattle.nv_threads.specs.Threads.{threads};
-ghost use Rattle.nv_replay.specs.Versions.{IsFresh, process_of};
+ghost use Rattle.nv_replay.specs.Versions.{IsFresh};
 ghost use Rattle.nv_sequence.specs.Accounts.{AreFresh};
 ghost use Rattle.nv_cli.specs.Account.{begun};
 ghost use Rattle.nv_command.specs.Seen.{limits_view, names_view, plan_view};
-ghost use Rattle.nv_cli.specs.Prepared.{ComesTo, is_script, prepared, Ready, Loads, version_of};
-ghost use Rattle.nv_cli.specs.Refusals.{ReadRefused, IsReadOf, Refuses, IsVersionRefusal, VersionRefused, VersionsRefused, HasLoaded, AreLoaded, IsPrepared};
+ghost use Rattle.nv_cli.specs.Prepared.{Loads, version_of};
+ghost use Rattle.nv_cli.specs.Refusals.{ReadRefused, IsReadOf, Refuses, IsScriptRefusal, IsVersionRefusal, VersionRefused, VersionsRefused, HasLoaded, AreLoaded, IsPrepared};
 
 use crate::refusal::{Cause, Place, Refusal};
 use nv_command::{Limits, Run};
 use nv_elf::ElfFault;
 use nv_guest::{Guest, GuestFault};
+use nv_kernel::ScriptKernel;
 use nv_outside::{Files, Got};
 use nv_replay::Version;
+use nv_script::{Script, ScriptFault};
 use nv_threads::Process;
 use std::alloc::Global;
 
 const MOST_BYTES: u32 = 4_194_304;
+
+/// A kernel that has served nothing, and versions that haven't run.
+#[derive(Drop)]
+pub struct Ready {
+    pub kernel: ScriptKernel,
+    pub versions: Vec<Version>,
+}
 
 // Reads a whole file.
 fn read_file<F: Files>(
@@ -41,25 +52,37 @@ fn read_file<F: Files>(
     }
 }
 
-fn accepts_script(bytes: &[u8]) -> bool
-    ensures { result ≡ is_script bytes.now }
+fn script_in(alloc: Global, bytes: &[u8]) -> Result<Script, Refusal>
+    ensures script { IfOk result (λ script. script_of bytes.now ≡ Ok (setup_of script)) }
+    ensures sound { IfOk result (λ script. IsTrue (is_script (setup_of script))) }
+    ensures refused { IfErr result (λ refusal. IsScriptRefusal refusal bytes.now) }
 {
-    bytes == b"varan-script 1".as_slice() || bytes == b"varan-script 1\n".as_slice()
+    match nv_script::read(alloc, bytes) {
+        Ok(script) => Ok(script),
+        Err(ScriptFault::Memory) => Err(Refusal::Memory),
+        Err(fault) => Err(Refusal::Input(Place::Script, Cause::Script(fault))),
+    }
 }
 
 // Loads a version file.
 #[tactic(auto, unfolding(crate::specs::Prepared::version_of))]
-fn load(alloc: Global, limits: Limits, bytes: &[u8], place: Place) -> Result<Guest, Refusal>
+fn load(
+    alloc: Global,
+    limits: Limits,
+    script: &Script,
+    bytes: &[u8],
+    place: Place,
+) -> Result<Guest, Refusal>
     requires { length bytes.now ≤ MOST_BYTES }
-    ensures guest { IfOk result (λ guest. version_of (limits_view limits) bytes.now ≡ Loads (machine_of guest)) }
-    ensures refused { IfErr result (λ refusal. IsVersionRefusal (limits_view limits) refusal place bytes.now) }
+    ensures guest { IfOk result (λ guest. version_of (limits_view limits) (setup_of script.now) bytes.now ≡ Loads (machine_of guest)) }
+    ensures refused { IfErr result (λ refusal. IsVersionRefusal (limits_view limits) (setup_of script.now) refusal place bytes.now) }
 {
     let program = match nv_elf::read(alloc, bytes) {
         Ok(program) => program,
         Err(ElfFault::Memory) => return Err(Refusal::Memory),
         Err(fault) => return Err(Refusal::Input(place, Cause::Elf(fault))),
     };
-    match Guest::make(alloc, &program, &[], limits.memory) {
+    match Guest::make(alloc, &program, &script.arguments, limits.memory) {
         Ok(guest) => Ok(guest),
         Err(GuestFault::Memory) => Err(Refusal::Memory),
         Err(fault) => Err(Refusal::Input(place, Cause::Guest(fault))),
@@ -82,12 +105,13 @@ fn read_version<F: Files>(
     alloc: Global,
     files: &mut F,
     limits: Limits,
+    script: &Script,
     name: &str,
     index: u32,
 ) -> Result<Version, Refusal>
-    ensures version { IfOk result (λ version. HasLoaded (limits_view limits) version (F.holds files.old name.now)) }
+    ensures version { IfOk result (λ version. HasLoaded (limits_view limits) (setup_of script.now) version (F.holds files.old name.now)) }
     ensures fresh { IfOk result (IsFresh threads index) }
-    ensures refused { IfErr result (λ refusal. VersionRefused (limits_view limits) refusal (Place.Version index) (F.holds files.old name.now)
+    ensures refused { IfErr result (λ refusal. VersionRefused (limits_view limits) (setup_of script.now) refusal (Place.Version index) (F.holds files.old name.now)
         (F.faults files.old) (F.faults files.new) (F.taken files.old) (F.taken files.new)) }
     ensures same { (name : List ℕ) → F.holds files.new name ≡ F.holds files.old name }
     ensures faults { F.faults files.old ≤ F.faults files.new }
@@ -95,7 +119,7 @@ fn read_version<F: Files>(
 {
     let place = Place::Version(index);
     let bytes = read_file(alloc, files, name, place)?;
-    let guest = load(alloc, limits, &bytes, place)?;
+    let guest = load(alloc, limits, script, &bytes, place)?;
     let version = version(alloc, limits, index, guest)?;
     Ok(version)
 }
@@ -113,18 +137,19 @@ fn read_versions<F: Files>(
     alloc: Global,
     files: &mut F,
     limits: Limits,
+    script: &Script,
     names: &[&str],
 ) -> Result<Vec<Version>, Refusal>
     requires { length names.now ≤ 8 }
-    ensures loaded { IfOk result (λ versions. AreLoaded (limits_view limits) versions.items (F.holds files.old) (names_view names.now)) }
+    ensures loaded { IfOk result (λ versions. AreLoaded (limits_view limits) (setup_of script.now) versions.items (F.holds files.old) (names_view names.now)) }
     ensures fresh { IfOk result (λ versions. AreFresh threads 0 versions.items) }
-    ensures refused { IfErr result (λ refusal. VersionsRefused (limits_view limits) refusal (F.holds files.old) (names_view names.now)
+    ensures refused { IfErr result (λ refusal. VersionsRefused (limits_view limits) (setup_of script.now) refusal (F.holds files.old) (names_view names.now)
         (F.faults files.old) (F.faults files.new) (F.taken files.old) (F.taken files.new)) }
 {
     let mut versions = Vec::new(alloc);
     for index in 0..names.len() {
         let name = name_at(names, index);
-        match read_version(alloc, files, limits, name, index as u32) {
+        match read_version(alloc, files, limits, script, name, index as u32) {
             Ok(version) => versions.push(version)?,
             Err(refusal) => return Err(refusal),
         }
@@ -137,17 +162,21 @@ pub fn prepare<F: Files>(
     alloc: Global,
     files: &mut F,
     plan: &Run<'_>,
-) -> Result<Vec<Version>, Refusal>
-    ensures versions { IfOk result (λ ready. IsPrepared ready.items (F.holds files.old) (plan_view plan.now)) }
+) -> Result<Ready, Refusal>
+    ensures ready { IfOk result (λ ready. IsPrepared ready.kernel.log ready.kernel.setup ready.versions.items (F.holds files.old) (plan_view plan.now)) }
     ensures refused { IfErr result (λ refusal. Refuses refusal (F.holds files.old) (plan_view plan.now)
         (F.faults files.old) (F.faults files.new) (F.taken files.old) (F.taken files.new)) }
 {
     let bytes = read_file(alloc, files, plan.script, Place::Script)?;
-    if !accepts_script(&bytes) {
-        return Err(Refusal::Input(Place::Script, Cause::Unbuilt));
-    }
-    match read_versions(alloc, files, plan.limits, &plan.versions) {
-        Ok(versions) => Ok(versions),
+    let script = match script_in(alloc, &bytes) {
+        Ok(script) => script,
+        Err(refusal) => return Err(refusal),
+    };
+    match read_versions(alloc, files, plan.limits, &script, &plan.versions) {
+        Ok(versions) => {
+            let kernel = ScriptKernel::make(alloc, &script)?;
+            Ok(Ready { kernel, versions })
+        }
         Err(refusal) => Err(refusal),
     }
 }

@@ -7,6 +7,7 @@ use nv_bpf::FilterFault;
 use nv_bpf_asm::RuleFault;
 use nv_elf::ElfFault;
 use nv_guest::GuestFault;
+use nv_script::ScriptFault;
 use std::alloc::{AllocError, AllocFailed};
 
 /// A file of the reading order: the script, or the version with this number.
@@ -21,8 +22,8 @@ pub enum Place {
 pub enum Cause {
     /// More than 4,194,304 bytes.
     Long,
-    /// A script of a form that isn't read so far.
-    Unbuilt,
+    /// A script that isn't one.
+    Script(ScriptFault),
     /// A version that is no file of a program.
     Elf(ElfFault),
     /// A version whose program has no room in a guest.

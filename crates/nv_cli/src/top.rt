@@ -17,6 +17,8 @@ ghost use Rattle.nv_command.specs.Seen.{limits_view, plan_view};
 ghost use Rattle.nv_calls.specs.Logs.{output_of};
 ghost use Rattle.nv_report.specs.Report.{report_text};
 ghost use Rattle.nv_report.specs.Json.{json_text};
+ghost use Rattle.nv_script.specs.Scripts.{Setup};
+ghost use Rattle.nv_script.specs.Texts.{fault_text};
 ghost use Rattle.nv_cli.specs.Made.{made_of};
 ghost use Rattle.nv_cli.specs.Prepared.{prepared, Ready, Refused};
 ghost use Rattle.nv_cli.specs.declared.refusal.Place.{Place};
@@ -24,7 +26,7 @@ ghost use Rattle.nv_cli.specs.declared.refusal.Cause.{Cause};
 ghost use Rattle.nv_cli.specs.Outcome.{Says, Wrote, Answers, Ran, Usage, NoMemory, ended_with, name_of, elf_text, guest_text, filter_text, line_text, rule_word, rules_text, asm_word, asm_text, cause_text, outcome_of, status_of, text_of, source_of};
 ghost use Rattle.nv_cli.specs.Rows.{IsReport, Reports, Makes, WantsMemory, Refuses, FailsToRead, FailsToWrite};
 
-use crate::prepare::prepare;
+use crate::prepare::{Ready, prepare};
 use crate::refusal::{Cause, Place, Refusal};
 use crate::tools::{Unmade, make};
 use itoa::Buffer;
@@ -38,6 +40,7 @@ use nv_guest::GuestFault;
 use nv_kernel::ScriptKernel;
 use nv_outside::{Files, Gate, Put, Sink, put_all, put_pieces};
 use nv_replay::{Account, Fate, Version};
+use nv_script::ScriptFault;
 use std::alloc::Global;
 
 const USAGE: u8 = 2;
@@ -134,20 +137,22 @@ fn put_report<K: SyscallKernel, S: Sink>(account: &Account<K>, sink: &mut S) -> 
     ended(put, status(&account.versions))
 }
 
-// Runs the versions and writes the report, or its JSON form.
+// Runs the versions over the kernel and writes the report, or its JSON form.
 fn run_versions<S: Sink>(
     alloc: Global,
+    kernel: ScriptKernel,
     versions: Vec<Version>,
     limits: Limits,
     json: bool,
     sink: &mut S,
 ) -> u8
+    requires empty { kernel.log ≡ [] }
     requires fresh { AreFresh threads 0 versions.items }
     requires few { length versions.items ≤ 8 }
     ensures { (machines : List Machine) → map process_of versions.items ≡ map (begun (limits_view limits)) machines
-        → Ran (limits_view limits) json machines (S.told sink.old) (S.faults sink.old) result (S.told sink.new) (S.faults sink.new) }
+        → Ran (limits_view limits) json kernel.setup machines (S.told sink.old) (S.faults sink.old) result (S.told sink.new) (S.faults sink.new) }
 {
-    let account = nv_sequence::run(versions, ScriptKernel::make(alloc), limits.calls);
+    let account = nv_sequence::run(versions, kernel, limits.calls);
     if json {
         put_json(alloc, &account, sink)
     } else {
@@ -259,6 +264,24 @@ fn asm_word_of(cause: AsmCause) -> &'static [u8]
     }
 }
 
+fn put_script_fault<S: Sink>(sink: &mut S, fault: ScriptFault) -> Put
+    ensures { Puts (S.told sink.old) (S.faults sink.old) (fault_text fault) result (S.told sink.new) (S.faults sink.new) }
+{
+    let mut buffer = Buffer::new();
+    match fault {
+        ScriptFault::Line(line, cause) => put_pieces(
+            sink,
+            &[
+                b"line ",
+                buffer.format(line).as_bytes(),
+                b" ",
+                cause.as_str().as_bytes(),
+            ],
+        ),
+        ScriptFault::Memory => put_all(sink, b"memory"),
+    }
+}
+
 // A line and what is wrong with it.
 fn put_line_word<S: Sink>(sink: &mut S, line: u32, word: &[u8]) -> Put
     ensures { Puts (S.told sink.old) (S.faults sink.old) (line_text line ++ word.now) result (S.told sink.new) (S.faults sink.new) }
@@ -293,7 +316,7 @@ fn put_cause<S: Sink>(sink: &mut S, cause: Cause) -> Put
 {
     match cause {
         Cause::Long => put_all(sink, b"long"),
-        Cause::Unbuilt => put_all(sink, b"unbuilt"),
+        Cause::Script(fault) => put_script_fault(sink, fault),
         Cause::Elf(fault) => put_elf_fault(sink, fault),
         Cause::Guest(fault) => put_guest_fault(sink, fault),
         Cause::Filter(fault) => put_filter_fault(sink, fault),
@@ -386,7 +409,9 @@ fn do_run<F: Files, S: Sink>(alloc: Global, files: &mut F, sink: &mut S, plan: &
         (S.told sink.old) (S.faults sink.old) result (S.told sink.new) (S.faults sink.new) }
 {
     match prepare(alloc, files, plan) {
-        Ok(versions) => run_versions(alloc, versions, plan.limits, plan.json, sink),
+        Ok(Ready { kernel, versions }) => {
+            run_versions(alloc, kernel, versions, plan.limits, plan.json, sink)
+        }
         Err(refusal) => refuse(sink, refusal, plan),
     }
 }
@@ -449,8 +474,8 @@ pub fn varan<F: Files, S: Sink, G: Gate>(
         → FailsToWrite (texts words.now.items) (source_of F.holds F.faults F.taken files.old files.new) (S.told sink.old) (S.told sink.new) }
 
     // Where no fault came, files that are accepted give their output, or memory is wanted.
-    ensures complete { (plan : Plan) (machines : List Machine) → command_of (texts words.now.items) ≡ Some (Runs plan)
-        → prepared (F.holds files.old) plan ≡ Ready machines
+    ensures complete { (plan : Plan) (setup : Setup) (machines : List Machine) → command_of (texts words.now.items) ≡ Some (Runs plan)
+        → prepared (F.holds files.old) plan ≡ Ready setup machines
         → (Rose (F.faults files.old) (F.faults files.new) → ⊥) → (Rose (S.faults sink.old) (S.faults sink.new) → ⊥)
         → IsReport result ⊎ (result ≡ 3) }
     ensures file_complete { (job : Job) (content text : List ℕ) → command_of (texts words.now.items) ≡ Some (Uses job)
