@@ -13,6 +13,7 @@ use Rattle.nv_memory.specs.Regions.{holds}
 use Rattle.nv_memory.specs.Image.{Image}
 use Rattle.nv_machine.specs.Registers.{Registers, written}
 use Rattle.nv_machine.specs.Guest.{Machine, register, next}
+use Rattle.nv_guest.specs.declared.calls.Checked.{Checked}
 use Rattle.nv_guest.specs.declared.vectors.Part.{Part}
 use Rattle.nv_guest.specs.Paths.{path_at}
 use Rattle.nv_guest.specs.Vectors.{parts_at, capacity, joined}
@@ -90,6 +91,10 @@ pub record Handed : Type 0 where
   pub payload : List ℕ
   -- how many bytes the vectors of a readv have room for
   pub room : ℕ
+
+-- what was checked, with the payload
+abbrev pub handed_as : Checked → List ℕ → Handed
+handed_as checked payload = record { bad = checked.bad; payload = payload; room = checked.room }
 
 abbrev pub refused : Handed
 refused = record { bad = true; payload = []; room = 0 }

@@ -1,7 +1,7 @@
 // What a call hands over, and where its answer goes.
 ghost use Rattle.std.specs.Prelude.{◌≡◌, ◌≤◌, length, Some};
 ghost use Rattle.nv_guest.specs.Guest.{machine_of};
-ghost use Rattle.nv_guest.specs.Calls.{argument, kept, values, values_with, out_of, vector_count, path_in, bytes_in, vectors_in, room_in, refused, with_payload, with_room, with_out, handed, stored_at, memory_after};
+ghost use Rattle.nv_guest.specs.Calls.{argument, kept, values, values_with, out_of, vector_count, path_in, bytes_in, vectors_in, room_in, refused, with_payload, with_room, with_out, handed, handed_as, memory_after};
 
 use crate::Guest;
 use crate::answers::{read_targets, scatter, store_bytes};
@@ -20,8 +20,8 @@ const MOST_VECTORS: u32 = 1024;
 const MOST_PATH: usize = 256;
 
 /// What a call hands over beside its payload.
-#[derive(Clone, Copy, Debug, PartialEq, Eq)]
-pub(crate) struct Handed {
+#[derive(Drop)]
+pub(crate) struct Checked {
     /// A range isn't the guest's to read or write.
     pub(crate) bad: bool,
     /// How many bytes the vectors of a readv have room for.
@@ -39,25 +39,25 @@ fn kept(slot: Slot, arg: u32) -> u32
 }
 
 // These bytes are the payload.
-fn fill(payload: &mut Bytes, bytes: &[u8]) -> Handed
+fn fill(payload: &mut Bytes, bytes: &[u8]) -> Checked
     requires { length bytes.now ≤ payload.old.room }
-    ensures handed { record { bad = result.bad; payload = payload.new.bytes; room = result.room } ≡ with_payload (Some bytes.now) }
+    ensures handed { handed_as result payload.new.bytes ≡ with_payload (Some bytes.now) }
     ensures room { payload.new.room ≡ payload.old.room }
 {
     payload.set(bytes);
-    Handed {
+    Checked {
         bad: false,
         room: 0,
     }
 }
 
 // A range isn't the guest's.
-fn refuse(payload: &mut Bytes) -> Handed
-    ensures handed { record { bad = result.bad; payload = payload.new.bytes; room = result.room } ≡ refused }
+fn refuse(payload: &mut Bytes) -> Checked
+    ensures handed { handed_as result payload.new.bytes ≡ refused }
     ensures room { payload.new.room ≡ payload.old.room }
 {
     payload.set(&[]);
-    Handed { bad: true, room: 0 }
+    Checked { bad: true, room: 0 }
 }
 
 impl Guest {
@@ -69,6 +69,7 @@ impl Guest {
         self.regs.get(10 + n)
     }
 
+    // The arguments that are values, and 0 for the others.
     fn values(&self, syscall: Syscall) -> [u32; 6]
         ensures { result ≡ values syscall (machine_of self.now) }
     {
@@ -114,6 +115,7 @@ impl Guest {
         })
     }
 
+    // How many vectors the call has; of too many none is read.
     fn vector_count(&self) -> u32
         ensures value { result ≡ vector_count (machine_of self.now) }
         ensures few { result ≤ 1024 }
@@ -122,9 +124,10 @@ impl Guest {
         if count <= MOST_VECTORS { count } else { 0 }
     }
 
-    fn hand_path(&self, payload: &mut Bytes) -> Handed
+    // The path of openat and unlinkat.
+    fn copy_path(&self, payload: &mut Bytes) -> Checked
         requires { MOST_BYTES ≤ payload.old.room }
-        ensures handed { record { bad = result.bad; payload = payload.new.bytes; room = result.room } ≡ with_payload (path_in (machine_of self.now)) }
+        ensures handed { handed_as result payload.new.bytes ≡ with_payload (path_in (machine_of self.now)) }
         ensures room { payload.new.room ≡ payload.old.room }
     {
         let mut path = [0; MOST_PATH];
@@ -134,9 +137,10 @@ impl Guest {
         }
     }
 
-    fn hand_bytes(&self, payload: &mut Bytes) -> Handed
+    // The bytes of write.
+    fn copy_bytes(&self, payload: &mut Bytes) -> Checked
         requires { MOST_BYTES ≤ payload.old.room }
-        ensures handed { record { bad = result.bad; payload = payload.new.bytes; room = result.room } ≡ with_payload (bytes_in (machine_of self.now)) }
+        ensures handed { handed_as result payload.new.bytes ≡ with_payload (bytes_in (machine_of self.now)) }
         ensures room { payload.new.room ≡ payload.old.room }
     {
         let count = self.argument(2).min(MOST_BYTES);
@@ -146,42 +150,37 @@ impl Guest {
         }
     }
 
-    fn hand_vectors(&self, payload: &mut Bytes) -> Handed
+    // The bytes of writev.
+    fn gather_vectors(&self, payload: &mut Bytes) -> Checked
         requires { MOST_BYTES ≤ payload.old.room }
-        ensures handed { record { bad = result.bad; payload = payload.new.bytes; room = result.room } ≡ with_payload (vectors_in (machine_of self.now)) }
+        ensures handed { handed_as result payload.new.bytes ≡ with_payload (vectors_in (machine_of self.now)) }
         ensures room { payload.new.room ≡ payload.old.room }
     {
         let mut bytes = [0; MOST_BYTES as usize];
-        match gather(
-            &self.memory,
-            self.argument(1),
-            self.vector_count(),
-            &mut bytes,
-        ) {
+        let (address, count) = (self.argument(1), self.vector_count());
+        match gather(&self.memory, address, count, &mut bytes) {
             Some(count) => fill(payload, &bytes[..count]),
             None => refuse(payload),
         }
     }
 
-    fn hand_room(&self, payload: &mut Bytes) -> Handed
-        ensures handed { record { bad = result.bad; payload = payload.new.bytes; room = result.room } ≡ with_room (room_in (machine_of self.now)) }
+    // The room of readv.
+    fn find_room(&self, payload: &mut Bytes) -> Checked
+        ensures handed { handed_as result payload.new.bytes ≡ with_room (room_in (machine_of self.now)) }
         ensures room { payload.new.room ≡ payload.old.room }
     {
         payload.set(&[]);
-        let room = room_of(
-            &self.memory,
-            self.argument(1),
-            self.vector_count(),
-            MOST_BYTES,
-        );
-        Handed {
+        let (address, count) = (self.argument(1), self.vector_count());
+        let room = room_of(&self.memory, address, count, MOST_BYTES);
+        Checked {
             bad: room.is_none(),
             room: room.unwrap_or(0),
         }
     }
 
-    fn hand_out(&self, syscall: Syscall, payload: &mut Bytes) -> Handed
-        ensures handed { record { bad = result.bad; payload = payload.new.bytes; room = result.room } ≡ with_out (machine_of self.now).memory (out_of syscall (machine_of self.now)) }
+    // The range that the answer goes to.
+    fn check_out(&self, syscall: Syscall, payload: &mut Bytes) -> Checked
+        ensures handed { handed_as result payload.new.bytes ≡ with_out (machine_of self.now).memory (out_of syscall (machine_of self.now)) }
         ensures room { payload.new.room ≡ payload.old.room }
     {
         payload.set(&[]);
@@ -189,25 +188,26 @@ impl Guest {
             Some(part) => !self.memory.holds(part.address, part.size, Right::Write),
             None => false,
         };
-        Handed { bad, room: 0 }
+        Checked { bad, room: 0 }
     }
 
     /// Checks what the call reads and writes, and fills the payload.
-    pub(crate) fn hand_in(&self, syscall: Syscall, payload: &mut Bytes) -> Handed
+    pub(crate) fn copy_in(&self, syscall: Syscall, payload: &mut Bytes) -> Checked
         requires { MOST_BYTES ≤ payload.old.room }
-        ensures handed { record { bad = result.bad; payload = payload.new.bytes; room = result.room } ≡ handed syscall (machine_of self.now) }
+        ensures handed { handed_as result payload.new.bytes ≡ handed syscall (machine_of self.now) }
         ensures room { payload.new.room ≡ payload.old.room }
     {
         match syscall {
-            Syscall::Unlinkat | Syscall::Openat => self.hand_path(payload),
-            Syscall::Write => self.hand_bytes(payload),
-            Syscall::Writev => self.hand_vectors(payload),
-            Syscall::Readv => self.hand_room(payload),
-            _ => self.hand_out(syscall, payload),
+            Syscall::Unlinkat | Syscall::Openat => self.copy_path(payload),
+            Syscall::Write => self.copy_bytes(payload),
+            Syscall::Writev => self.gather_vectors(payload),
+            Syscall::Readv => self.find_room(payload),
+            _ => self.check_out(syscall, payload),
         }
     }
 
-    fn store_by_vectors(&mut self, bytes: &[u8])
+    // The bytes of readv's answer, over its vectors.
+    fn scatter_out(&mut self, bytes: &[u8])
         ensures memory { self.new.memory ≡ memory_after Syscall.Readv (machine_of self.old) bytes.now }
         ensures regs { self.new.regs ≡ self.old.regs }
     {
@@ -221,12 +221,12 @@ impl Guest {
     }
 
     /// Stores the bytes of the answer where the call wants them.
-    pub(crate) fn hand_back(&mut self, syscall: Syscall, bytes: &[u8])
+    pub(crate) fn copy_out(&mut self, syscall: Syscall, bytes: &[u8])
         ensures memory { self.new.memory ≡ memory_after syscall (machine_of self.old) bytes.now }
         ensures regs { self.new.regs ≡ self.old.regs }
     {
         match syscall {
-            Syscall::Readv => self.store_by_vectors(bytes),
+            Syscall::Readv => self.scatter_out(bytes),
             _ => {
                 if let Some(part) = self.out_of(syscall) {
                     store_bytes(&mut self.memory, part.address, bytes);

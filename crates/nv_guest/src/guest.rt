@@ -60,11 +60,11 @@ impl Guest {
     {
         let nr = self.regs.get(17);
         let syscall = Syscall::of(nr);
-        let handed = self.hand_in(syscall, &mut call.payload);
+        let checked = self.copy_in(syscall, &mut call.payload);
         call.tid = tid;
         call.nr = nr;
-        call.args = self.values_with(syscall, handed.room);
-        call.bad = handed.bad;
+        call.args = self.values_with(syscall, checked.room);
+        call.bad = checked.bad;
         Asked::Logged
     }
 
@@ -73,7 +73,7 @@ impl Guest {
         ensures machine { machine_of self.new ≡ answered (machine_of self.old) ret payload.now }
     {
         let syscall = Syscall::of(self.regs.get(17));
-        self.hand_back(syscall, payload);
+        self.copy_out(syscall, payload);
         self.go_past(ret.cast_unsigned());
     }
 

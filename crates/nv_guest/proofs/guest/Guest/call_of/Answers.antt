@@ -7,10 +7,10 @@ use Rattle.nv_guest.proofs.guest.Guest.call_of.Goals as goal
 
 pub returns-clause-call : goal.returns-clause-call
 returns-clause-call c =
-    call-is (machine_of c.args.self.now) c.args.tid _ c.of-syscall.result _ _ c.get-nr.ensures c.of-syscall.ensures c.hand_in-handed.ensures.handed c.values_with-call.ensures
+    call-is (machine_of c.args.self.now) c.args.tid _ c.of-syscall.result _ _ c.get-nr.ensures c.of-syscall.ensures c.copy_in-checked.ensures.handed c.values_with-call.ensures
 
 pub returns-clause-shaped : goal.returns-clause-shaped
 returns-clause-shaped c =
     subst IsShaped
-    (sym (call-is (machine_of c.args.self.now) c.args.tid _ c.of-syscall.result _ _ c.get-nr.ensures c.of-syscall.ensures c.hand_in-handed.ensures.handed c.values_with-call.ensures))
+    (sym (call-is (machine_of c.args.self.now) c.args.tid _ c.of-syscall.result _ _ c.get-nr.ensures c.of-syscall.ensures c.copy_in-checked.ensures.handed c.values_with-call.ensures))
     (call_is_shaped (machine_of c.args.self.now) c.args.tid)

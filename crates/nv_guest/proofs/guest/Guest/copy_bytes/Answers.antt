@@ -1,6 +1,6 @@
 use Rattle.std.proofs.Common.{◌≡◌, ap, ◌∙◌, arith, length}
 use Rattle.nv_guest.proofs.Shaped.{length-bytes_at}
-use Rattle.nv_guest.proofs.guest.Guest.hand_bytes.Goals as goal
+use Rattle.nv_guest.proofs.guest.Guest.copy_bytes.Goals as goal
 
 pub fill-requires : goal.fill-requires
 fill-requires c =
