@@ -36,7 +36,10 @@ impl Desk {
     }
 
     fn ask(&mut self, call: &Call) -> Result<i32, AllocError> {
-        if call.payload.as_slice().len() > 4096 || self.out.room() < 4096 || self.devices.served >= 9 {
+        if call.payload.as_slice().len() > 4096
+            || self.out.room() < 4096
+            || self.devices.served >= 9
+        {
             return Ok(NO_REPLY);
         }
         self.devices.reserve(call)?;
@@ -76,7 +79,10 @@ fn clock(rt: HostRuntime) -> Result<(), Fail> {
     assert_eq!(rt; desk.call(403, [2, 0, 0, 0, 0, 0], false)?, -22);
     assert_eq!(rt; desk.call(29, [9, 0, 0, 0, 0, 0], false)?, -9);
     assert_eq!(rt; desk.call(403, [1, 0, 0, 0, 0, 0], false)?, 0);
-    assert_eq!(rt; desk.out.as_slice(), b"\x07\0\0\0\0\0\0\0\xff\xc9\x9a\x3b\0\0\0\0".as_slice());
+    assert_eq!(rt;
+        desk.out.as_slice(),
+        b"\x07\0\0\0\0\0\0\0\xff\xc9\x9a\x3b\0\0\0\0".as_slice()
+    );
     Ok(())
 }
 
