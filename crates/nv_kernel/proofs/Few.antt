@@ -1,9 +1,9 @@
 -- How many bytes calls hand out at most.
-use Rattle.std.proofs.Common.{◌≡◌, sym, subst, refl, ℕ, ◌+◌, ◌≤◌, Bool, true, false, cond, length, [], arith}
+use Rattle.std.proofs.Common.{◌≡◌, sym, subst, refl, ℕ, ◌+◌, ◌≤◌, Bool, true, false, cond, length, arith}
 use Rattle.nv_calls.specs.declared.numbers.Syscall.{Syscall}
 use Rattle.nv_calls.specs.Calls.{Request}
 use Rattle.nv_calls.specs.Constants.{names}
-use Rattle.nv_kernel.specs.Serving.{State, Served}
+use Rattle.nv_kernel.specs.Serving.{Served}
 use Rattle.nv_calls.specs.declared.numbers.Syscall.TheVariants.{Unlinkat, Openat, Write, Writev}
 use Rattle.nv_calls.specs.Numbers.{syscall_of, hands_in}
 use Rattle.nv_calls.specs.Shapes.{IsShaped}

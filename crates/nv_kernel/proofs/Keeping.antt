@@ -1,7 +1,6 @@
 -- A kernel of one thread keeps its laws when it serves a call.
-use Rattle.std.proofs.Common.{◌≡◌, ◌∙◌, sym, ap, subst, refl, ℕ, zero, suc, ◌<◌, ◌≤◌, Bool, true, false, List, [], ◌∷◌, ◌++◌, length, Option, Some, None, arith, cond}
+use Rattle.std.proofs.Common.{◌≡◌, ◌∙◌, sym, ap, subst, refl, ℕ, zero, suc, ◌<◌, Bool, true, false, List, [], ◌∷◌, ◌++◌, length, Option, Some, None, arith, cond}
 use Rattle.std.specs.Prelude.{◌==◌, ◌||◌, not, filter, Contains, slice_index, ◌%◌, min, nat_lt}
-use Rattle.std.proofs.lemmas.Bool.Decides.{nat_tests}
 use Rattle.nv_calls.specs.Calls.{Request, Entry}
 use Rattle.nv_calls.specs.Logs.{Start, IsLawful, IsLegal, InRange, IsNew, served, child_of, with_child, live_after, live_next, ended_after}
 use Rattle.nv_calls.specs.LogLaws.{lawful_more, legal_more, lawful_none, legal_none, live_more, arg_more}

@@ -1,5 +1,5 @@
 -- A reply that is the same in every state is what the kernel replies in each.
-use Rattle.std.proofs.Common.{◌≡◌, ◌∙◌, sym, ap, subst, refl, ℕ, zero, suc, ℤ, pos, negsuc, ◌+◌, ◌-◌, ◌≤◌, Bool, true, false, cond, ◌==◌, ◌&&◌, ◌||◌, not, nat_le, nat_lt, List, [], ◌∷◌, Option, Some, None, arith}
+use Rattle.std.proofs.Common.{◌≡◌, ◌∙◌, sym, ap, refl, ℕ, zero, suc, ℤ, pos, negsuc, ◌+◌, ◌-◌, ◌≤◌, Bool, true, false, cond, ◌==◌, ◌&&◌, ◌||◌, not, nat_le, nat_lt, [], ◌∷◌, Option, Some, arith}
 use Rattle.std.specs.Prelude.{slice_index}
 use Rattle.std.proofs.lemmas.Bool.{and_parts}
 use Rattle.std.proofs.lemmas.Bool.Decides.{nat_tests}
@@ -7,12 +7,12 @@ use Rattle.std.proofs.lemmas.Option.{same_Some}
 use Rattle.nv_calls.specs.declared.numbers.Syscall.{Syscall}
 use Rattle.nv_calls.specs.declared.numbers.Syscall.TheVariants.{Getcwd, Uname, Getpid, Getppid, Getuid, Geteuid, Getgid, Getegid}
 use Rattle.nv_calls.specs.Calls.{Request, Response}
-use Rattle.nv_calls.specs.Constants.{plain, names, system, constant_of}
+use Rattle.nv_calls.specs.Constants.{plain, system, constant_of}
 use Rattle.nv_calls.specs.Constants.{directory as named}
 use Rattle.nv_calls.specs.Numbers.{syscall_of, has_range}
 use Rattle.nv_calls.specs.Shapes.{IsShaped}
 use Rattle.nv_calls.specs.ShapeLaws.{shaped-parts}
-use Rattle.nv_kernel.specs.Serving.{State, Served, replied, answered, serve, reply_of, directory, EFAULT}
+use Rattle.nv_kernel.specs.Serving.{State, replied, answered, serve, reply_of, EFAULT}
 
 -- what the kernel replies, by the call and by whether it is bad
 abbrev reply_by : Syscall → Bool → State → Request → Response

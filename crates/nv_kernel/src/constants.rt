@@ -1,21 +1,11 @@
 // The calls whose reply is the same in every state.
-ghost use Rattle.std.specs.Prelude.{◌≡◌, ◌≤◌, [], option_map, pos};
+ghost use Rattle.std.specs.Prelude.{◌≡◌, ◌≤◌, [], ◌++◌, length, drop, option_map, pos};
 ghost use Rattle.nv_calls.specs.Calls.{request};
-ghost use Rattle.nv_calls.specs.Constants.{constant_of, names, unless_bad, system, directory as directory_unless_bad};
+ghost use Rattle.nv_calls.specs.Constants.{constant_of, field, names};
 ghost use Rattle.nv_kernel.specs.Serving.{directory};
 
 use crate::errors::{EFAULT, ERANGE};
 use nv_calls::{Bytes, Call};
-
-/// The six fields of utsname (uname(2)), of 65 bytes each.
-const NAMES: &[u8; 390] = b"\
-    Linux\0\0\0\0\0\0\0\0\0\0\0\0\0\0\0\0\0\0\0\0\0\0\0\0\0\0\0\0\0\0\0\0\0\0\0\0\0\0\0\0\0\0\0\0\0\0\0\0\0\0\0\0\0\0\0\0\0\0\0\0\
-    varan\0\0\0\0\0\0\0\0\0\0\0\0\0\0\0\0\0\0\0\0\0\0\0\0\0\0\0\0\0\0\0\0\0\0\0\0\0\0\0\0\0\0\0\0\0\0\0\0\0\0\0\0\0\0\0\0\0\0\0\0\
-    5.15.0\0\0\0\0\0\0\0\0\0\0\0\0\0\0\0\0\0\0\0\0\0\0\0\0\0\0\0\0\0\0\0\0\0\0\0\0\0\0\0\0\0\0\0\0\0\0\0\0\0\0\0\0\0\0\0\0\0\0\0\
-    #1\0\0\0\0\0\0\0\0\0\0\0\0\0\0\0\0\0\0\0\0\0\0\0\0\0\0\0\0\0\0\0\0\0\0\0\0\0\0\0\0\0\0\0\0\0\0\0\0\0\0\0\0\0\0\0\0\0\0\0\0\0\0\0\
-    riscv32\0\0\0\0\0\0\0\0\0\0\0\0\0\0\0\0\0\0\0\0\0\0\0\0\0\0\0\0\0\0\0\0\0\0\0\0\0\0\0\0\0\0\0\0\0\0\0\0\0\0\0\0\0\0\0\0\0\0\
-    (none)\0\0\0\0\0\0\0\0\0\0\0\0\0\0\0\0\0\0\0\0\0\0\0\0\0\0\0\0\0\0\0\0\0\0\0\0\0\0\0\0\0\0\0\0\0\0\0\0\0\0\0\0\0\0\0\0\0\0\0\
-";
 
 /// The process.
 pub const PROCESS: i32 = 100;
@@ -35,13 +25,39 @@ pub fn only(ret: i32, out: &mut Bytes) -> i32
     ret
 }
 
+// Writes bytes over the first ones.
+fn put(out: &mut [u8], bytes: &[u8])
+    requires { length bytes.now ≤ length out.old }
+    ensures { out.new ≡ bytes.now ++ drop (length bytes.now) out.old }
+{
+    out[..bytes.len()].copy_from_slice(bytes);
+}
+
+// A field of utsname: a name, filled with 0.
+fn field(name: &[u8]) -> [u8; 65]
+    requires { length name.now ≤ 65 }
+    ensures { result ≡ field name.now }
+{
+    let mut bytes = [0; 65];
+    put(&mut bytes, name);
+    bytes
+}
+
 /// uname(2).
 pub fn names(out: &mut Bytes) -> i32
     requires { 390 ≤ out.old.room }
     ensures ret { result ≡ pos 0 }
     ensures out { out.new ≡ record { bytes = names; room = out.old.room } }
 {
-    out.set(NAMES);
+    let fields = [
+        field(b"Linux"),
+        field(b"varan"),
+        field(b"5.15.0"),
+        field(b"#1"),
+        field(b"riscv32"),
+        field(b"(none)"),
+    ];
+    out.set(fields.as_flattened());
     0
 }
 
@@ -68,8 +84,16 @@ pub fn constant(call: &Call, out: &mut Bytes) -> Option<i32>
         172 => Some(only(PROCESS, out)),
         173 => Some(only(PARENT, out)),
         174..=177 => Some(only(USER, out)),
-        160 => Some(if call.bad { only(EFAULT, out) } else { names(out) }),
-        17 => Some(if call.bad { only(EFAULT, out) } else { directory(call.args[1], out) }),
+        160 => Some(if call.bad {
+            only(EFAULT, out)
+        } else {
+            names(out)
+        }),
+        17 => Some(if call.bad {
+            only(EFAULT, out)
+        } else {
+            directory(call.args[1], out)
+        }),
         _ => None,
     }
 }

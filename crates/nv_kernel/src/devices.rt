@@ -184,9 +184,13 @@ impl Devices {
         let args = call.args;
         let bytes = call.payload.as_slice();
         match syscall {
-            Syscall::Openat => self.files.reserve_path(args[0].cast_signed(), bytes, args[2]),
+            Syscall::Openat => self
+                .files
+                .reserve_path(args[0].cast_signed(), bytes, args[2]),
             Syscall::Pipe2 => self.files.reserve_pipe(),
-            Syscall::Write | Syscall::Writev => self.files.reserve_write(args[0], bytes.len() as u32),
+            Syscall::Write | Syscall::Writev => self
+                .files
+                .reserve_write(args[0], bytes.len() as u32),
             _ => Ok(()),
         }
     }

@@ -8,6 +8,8 @@ mod errors;
 mod kernel;
 mod random;
 mod spare;
+#[cfg(test)]
+mod tests;
 
 pub use constants::constant;
 pub use kernel::ScriptKernel;

@@ -1,9 +1,6 @@
-use Rattle.std.proofs.Common.{rules, ◌≡◌, ◌∙◌, sym, ap, ℤ, pos, negsuc, [], length, Bool, true, false, Some, to_z, of_z, w32, cond, arith}
-use Rattle.std.proofs.lemmas.Bool.Decides.{nat_tests}
+use Rattle.std.proofs.Common.{rules, ◌≡◌, ◌∙◌, ap, pos, negsuc, [], Some, to_z, of_z, w32}
 use Rattle.nv_calls.specs.Held.{Held}
-use Rattle.nv_calls.specs.Calls.{request, Response}
-use Rattle.nv_calls.specs.Constants.{constant_of}
-use Rattle.nv_kernel.specs.Serving.{directory}
+use Rattle.nv_calls.specs.Calls.{request}
 use Rattle.nv_kernel.proofs.Replies.{at_getpid, at_getppid, at_user, at_other, uname_bad, uname_good, getcwd_bad, getcwd_good, given}
 use Rattle.nv_kernel.proofs.constants.constant.Goals as goal
 

@@ -1,4 +1,4 @@
-use Rattle.std.proofs.Common.{◌≡◌, ◌∙◌, ap}
+use Rattle.std.proofs.Common.{◌∙◌, ap}
 use Rattle.nv_fs.specs.Starts.{first_state}
 use Rattle.nv_kernel.proofs.Files.{same_files}
 use Rattle.nv_kernel.proofs.devices.Devices.make.Goals as goal

@@ -1,12 +1,12 @@
-use Rattle.std.proofs.Common.{rules, ◌≡◌, ◌∙◌, sym, ap, subst, ℕ, ℤ, ◌+◌, ◌<◌, ◌≤◌, ◌++◌, ◌∷◌, [], List, Option, None, length, map, arith, to_z, of_z, w32}
+use Rattle.std.proofs.Common.{rules, ◌≡◌, ◌∙◌, sym, ap, subst, ℕ, ◌<◌, ◌++◌, ◌∷◌, [], List, Option, None, length, map, arith, to_z, of_z, w32}
 use Rattle.std.proofs.lemmas.List.{length-map}
 use Rattle.std.specs.Prelude.{Contains, option_map, vec_len, vec_capacity}
-use Rattle.nv_calls.specs.Calls.{Entry, Request, Response, entry, request}
+use Rattle.nv_calls.specs.Calls.{Entry, Request, entry, request}
 use Rattle.nv_calls.specs.Logs.{InRange, served, live_after, calls_of, call_of}
 use Rattle.nv_script.specs.Scripts.{Setup}
 use Rattle.nv_script.specs.Views.{setup_of}
 use Rattle.nv_kernel.specs.Ends.{end_next}
-use Rattle.nv_kernel.specs.Kept.{Kept, Spare, IsKept, room_of}
+use Rattle.nv_kernel.specs.Kept.{Kept, IsKept, room_of}
 use Rattle.nv_kernel.specs.Rooms.{state_of}
 use Rattle.nv_kernel.specs.Serving.{State, Served, start_of_script, first_state, state_after, serve, reply_of}
 use Rattle.nv_kernel.proofs.Few.{together_few}
@@ -65,13 +65,13 @@ module _ (c : goal.After-keep) where
 
 pub invariant_of-self : goal.invariant_of-self
 invariant_of-self c = (
-      subst (λ (z : List Entry). IsKept (start_of_script (setup c)) z (vec_len c.keep.new.log) (vec_capacity c.keep.new.log) (option_map room_of c.take.new.self) c.next_end-self-inside.result) (sym (all c))
-          (subst (λ (z : Option ℕ). IsKept (start_of_script (setup c)) (log c ++ served (start_of_script (setup c)) (log c) (call c) ∷ []) (vec_len c.keep.new.log) (vec_capacity c.keep.new.log) (option_map room_of c.take.new.self) z) (sym c.next_end-self-inside.ensures)
-          (subst (λ (z : _). IsKept (start_of_script (setup c)) (log c ++ served (start_of_script (setup c)) (log c) (call c) ∷ []) (vec_len c.keep.new.log) (vec_capacity c.keep.new.log) (option_map room_of z) (end_next (call c) c.self.inside.end)) (sym c.take.ensures.after) (kept c))),
-      ap (λ (r : Served). r.state) (sym (answer c)) ∙ sym (log_more (setup c) (log c) (served (start_of_script (setup c)) (log c) (call c)))
-          ∙ ap (λ (z : List Entry). state_after (first_state (setup c)) (calls_of z)) (sym (all c)),
-      c.answer-ret.ensures.room ∙ c.self.invariant.2,
-    )
+  subst (λ (z : List Entry). IsKept (start_of_script (setup c)) z (vec_len c.keep.new.log) (vec_capacity c.keep.new.log) (option_map room_of c.take.new.self) c.next_end-self-inside.result) (sym (all c))
+      (subst (λ (z : Option ℕ). IsKept (start_of_script (setup c)) (log c ++ served (start_of_script (setup c)) (log c) (call c) ∷ []) (vec_len c.keep.new.log) (vec_capacity c.keep.new.log) (option_map room_of c.take.new.self) z) (sym c.next_end-self-inside.ensures)
+      (subst (λ (z : _). IsKept (start_of_script (setup c)) (log c ++ served (start_of_script (setup c)) (log c) (call c) ∷ []) (vec_len c.keep.new.log) (vec_capacity c.keep.new.log) (option_map room_of z) (end_next (call c) c.self.inside.end)) (sym c.take.ensures.after) (kept c))),
+  ap (λ (r : Served). r.state) (sym (answer c)) ∙ sym (log_more (setup c) (log c) (served (start_of_script (setup c)) (log c) (call c)))
+      ∙ ap (λ (z : List Entry). state_after (first_state (setup c)) (calls_of z)) (sym (all c)),
+  c.answer-ret.ensures.room ∙ c.self.invariant.2,
+)
 
 pub returns-clause-log : goal.returns-clause-log
 returns-clause-log c = all c ∙ ap (λ (k : Kept). k.log ++ served (start_of_script k.setup) k.log (call c) ∷ []) c.self.view_is
