@@ -51,18 +51,20 @@ fn version(alloc: Global, index: u32, words: &[u32]) -> Option<Version>
     Version::make(alloc, index, process).ok()
 }
 
-fn run(alloc: Global, versions: Vec<Version>) -> Account<ScriptKernel>
+fn run(alloc: Global, versions: Vec<Version>) -> Option<Account<ScriptKernel>>
     requires fresh { AreFresh threads 0 versions.items }
     requires few { length versions.items ≤ 8 }
 {
-    nv_sequence::run(versions, ScriptKernel::make(alloc), MOST_EVENTS)
+    let script = nv_script::read(alloc, b"varan-script 1").ok()?;
+    let kernel = ScriptKernel::make(alloc, &script).ok()?;
+    Some(nv_sequence::run(versions, kernel, MOST_EVENTS))
 }
 
 /// The account of a run of one program.
 pub fn alone(alloc: Global, words: &[u32]) -> Option<Account<ScriptKernel>> {
     let version = version(alloc, 0, words)?;
     let versions = vec![in alloc; version].ok()?;
-    Some(run(alloc, versions))
+    run(alloc, versions)
 }
 
 /// The account of a run of two programs.
@@ -70,5 +72,5 @@ pub fn pair(alloc: Global, first: &[u32], second: &[u32]) -> Option<Account<Scri
     let first = version(alloc, 0, first)?;
     let second = version(alloc, 1, second)?;
     let versions = vec![in alloc; first, second].ok()?;
-    Some(run(alloc, versions))
+    run(alloc, versions)
 }

@@ -5,8 +5,7 @@ ghost use Rattle.nv_calls.specs.Shapes.{IsShaped};
 ghost use Rattle.nv_room_tests.specs.Going.{GoesOn};
 
 use nv_calls::SyscallKernel;
-use nv_kernel::ScriptKernel;
-use nv_room_tests::{Script, exit_group, serve_all, write};
+use nv_room_tests::{Script, exit_group, kernel, serve_all, write};
 use std::alloc::{AllocError, Global};
 use std::thread::Threads;
 
@@ -31,7 +30,7 @@ pub fn run_room<R: Threads + Sync>(
     let ended = nv_room_tests::run(
         rt,
         alloc,
-        ScriptKernel::make(alloc),
+        kernel(alloc)?,
         &script,
         versions,
         PLACES,
@@ -48,7 +47,7 @@ pub fn run_kernel(alloc: Global, bytes: u32, events: u32) -> Result<u64, AllocEr
     requires events { events ≤ 131072 }
 {
     let script = script(alloc, bytes, events)?;
-    let kernel = serve_all(ScriptKernel::make(alloc), &script);
+    let kernel = serve_all(kernel(alloc)?, &script);
     Ok(kernel.history().len() as u64)
 }
 

@@ -1,10 +1,11 @@
-//! Calls of the first thread, by Linux's numbers for RISC-V.
-ghost use Rattle.std.specs.Prelude.{◌≡◌, ◌≢◌, ◌≤◌, IfOk};
+//! A kernel, and calls of the first thread by Linux's numbers for RISC-V.
+ghost use Rattle.std.specs.Prelude.{◌≡◌, ◌≤◌, [], IfOk};
 ghost use Rattle.nv_calls.specs.Calls.{request};
 ghost use Rattle.nv_calls.specs.Shapes.{IsShaped};
 ghost use Rattle.nv_room_tests.specs.Going.{GoesOn};
 
 use nv_calls::{Bytes, Call};
+use nv_kernel::ScriptKernel;
 use std::alloc::{AllocError, Global};
 
 const WRITE: u32 = 64;
@@ -12,6 +13,16 @@ const WRITE: u32 = 64;
 const GETUID: u32 = 174;
 
 const EXIT_GROUP: u32 = 94;
+
+/// A kernel over the script without a line.
+pub fn kernel(alloc: Global) -> Result<ScriptKernel, AllocError>
+    ensures { IfOk result (λ k. k.log ≡ []) }
+{
+    match nv_script::read(alloc, b"varan-script 1") {
+        Ok(script) => ScriptKernel::make(alloc, &script),
+        Err(_) => Err(AllocError),
+    }
+}
 
 pub fn getuid(alloc: Global) -> Result<Call, AllocError>
     ensures shaped { IfOk result (λ c. IsShaped (request c)) }
@@ -29,7 +40,6 @@ pub fn exit_group(alloc: Global) -> Result<Call, AllocError>
 }
 
 fn call(alloc: Global, nr: u32) -> Result<Call, AllocError>
-    requires { nr ≢ 64 }
     ensures shaped { IfOk result (λ c. IsShaped (request c)) }
     ensures first { IfOk result (λ c. c.tid ≡ 100) }
     ensures nr { IfOk result (λ c. c.nr ≡ nr) }

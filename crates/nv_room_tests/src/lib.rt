@@ -6,5 +6,5 @@ mod running;
 #[cfg(test)]
 mod tests;
 
-pub use calls::{exit_group, getuid, write};
+pub use calls::{exit_group, getuid, kernel, write};
 pub use running::{Script, run, serve_all};

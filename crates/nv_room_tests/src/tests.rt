@@ -1,8 +1,7 @@
 ghost use Rattle.std.specs.Prelude.{◌<◌, ◌≤◌};
 
-use crate::calls::{exit_group, getuid};
+use crate::calls::{exit_group, getuid, kernel};
 use crate::running::{Script, run};
-use nv_kernel::ScriptKernel;
 use std::alloc::Global;
 use std::process::Abort;
 use std::thread::Threads;
@@ -18,7 +17,7 @@ fn all_see_all<R: Threads + Sync + Abort>(rt: &R, alloc: Global, versions: u32, 
         events: 100,
         most: 10_000_000,
     };
-    let kernel = ScriptKernel::make(alloc);
+    let kernel = kernel(alloc).expect(rt, "memory");
     let ended = run(rt, alloc, kernel, &script, versions, places).expect(rt, "memory");
     assert_eq!(rt; ended.seen.len(), versions as usize);
     for seen in ended.seen.iter() {
