@@ -1,5 +1,5 @@
 -- The least number that isn't in use, found one number after another.
-use Rattle.std.proofs.Common.{◌≡◌, ◌∙◌, ap, ℕ, suc, ◌+◌, ◌-◌, ◌<◌, Bool, true, false, cond, arith}
+use Rattle.std.proofs.Common.{◌≡◌, ◌∙◌, ap, ℕ, suc, ◌+◌, ◌-◌, ◌<◌, Bool, true, cond, arith}
 use Rattle.nv_fs.specs.States.{least_free}
 
 by_used : (b : Bool) (x y : ℕ) → b ≡ true → cond b x y ≡ x

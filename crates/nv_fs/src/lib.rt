@@ -4,7 +4,7 @@
 mod closing;
 mod disk;
 mod ends;
-mod errors;
+pub mod errors;
 mod finding;
 mod open_file;
 mod opening;

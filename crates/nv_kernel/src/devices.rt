@@ -10,15 +10,14 @@ ghost use Rattle.nv_kernel.specs.Rooms.{state_of, can_answer, CanAnswer, most_ou
 
 use crate::clock::{start_of, time_bytes};
 use crate::constants::{PARENT, PROCESS, USER, directory, names, only};
-use crate::errors::{EBADF, EFAULT, EINVAL, ENOSYS, ENOTTY};
+use crate::errors::{EFAULT, ENOSYS, ENOTTY};
 use crate::random::fill_random;
+use crate::spare::MOST_OUT;
 use nv_calls::{Bytes, Call, Syscall};
 use nv_fs::FileSystem;
+use nv_fs::errors::{EBADF, EINVAL};
 use nv_script::Script;
 use std::alloc::{AllocError, Global};
-
-/// How many bytes getrandom hands out at most.
-const MOST_RANDOM: u32 = 4096;
 
 /// IOV_MAX (limits.h(0p)).
 const MOST_VECTORS: u32 = 1024;
@@ -104,7 +103,7 @@ impl Devices {
         ensures room { out.new.room ≡ out.old.room }
         ensures few { length out.new.bytes ≡ n }
     {
-        let mut bytes = [0; MOST_RANDOM as usize];
+        let mut bytes = [0; MOST_OUT as usize];
         let part = &mut bytes[..n as usize];
         self.random = fill_random(self.random, part);
         out.set(part);
@@ -141,7 +140,7 @@ impl Devices {
             Syscall::Getpid => PROCESS,
             Syscall::Getppid => PARENT,
             Syscall::Getuid | Syscall::Geteuid | Syscall::Getgid | Syscall::Getegid => USER,
-            Syscall::Getrandom => self.hand_out_random(args[1].min(MOST_RANDOM), out),
+            Syscall::Getrandom => self.hand_out_random(args[1].min(MOST_OUT), out),
             Syscall::ClockGettime64 => self.clock(args[0], out),
             Syscall::Clone | Syscall::Unknown => ENOSYS,
         }

@@ -1,10 +1,6 @@
-//! The errors of Linux (errno(3)), negative as results are.
-
-pub const EBADF: i32 = -9;
+//! The errors of Linux (errno(3)) that the files don't answer, negative as results are.
 
 pub const EFAULT: i32 = -14;
-
-pub const EINVAL: i32 = -22;
 
 pub const ENOTTY: i32 = -25;
 

@@ -4,17 +4,14 @@ ghost use Rattle.nv_script.specs.Scripts.{is_script};
 ghost use Rattle.nv_script.specs.Views.{setup_of};
 
 use crate::devices::Devices;
-use crate::spare::{blank, fill, keep, next_end};
+use crate::spare::{MOST_OUT, blank, fill, keep, next_end};
 use nv_calls::{Bytes, Call, Event, SyscallKernel};
 use nv_script::Script;
 use std::alloc::{AllocError, Global};
 use std::marker::Model;
 use std::snapshot::Snapshot;
 
-/// How many bytes a call hands out at most.
-const MOST_OUT: u32 = 4096;
-
-/// A kernel over a script.
+/// The kernel of a process with one thread, over what a script gives.
 #[derive(Drop)]
 pub struct ScriptKernel {
     alloc: Global,

@@ -11,9 +11,10 @@ ghost use Rattle.nv_kernel.specs.Rooms.{most_out_by};
 use nv_calls::{Bytes, Call, Event, Reply, Syscall};
 use std::alloc::{AllocError, Global};
 
-/// How many bytes a call hands out at most: read(2), getrandom(2) and readv(2) have a limit of their own.
-const MOST_OUT: u32 = 4096;
+/// How many bytes a call hands out at most.
+pub const MOST_OUT: u32 = 4096;
 
+// How many bytes the call can hand out.
 fn most_out_by(syscall: Syscall, call: &Call) -> u32
     ensures { result ≡ most_out_by syscall (request call.now) }
 {

@@ -1,4 +1,4 @@
-use Rattle.std.proofs.Common.{◌∙◌, ap, List}
+use Rattle.std.proofs.Common.{◌∙◌, ap}
 use Rattle.nv_fs.specs.States.{Inode}
 use Rattle.nv_fs.specs.Names.{file_of, is_named}
 use Rattle.nv_fs.specs.Rooms.{Disk}
