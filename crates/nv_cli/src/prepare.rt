@@ -26,7 +26,7 @@ const MOST_BYTES: u32 = 4_194_304;
 
 /// A kernel that has served nothing, and versions that haven't run.
 #[derive(Drop)]
-pub struct Ready {
+pub struct Prepared {
     pub kernel: ScriptKernel,
     pub versions: Vec<Version>,
 }
@@ -162,7 +162,7 @@ pub fn prepare<F: Files>(
     alloc: Global,
     files: &mut F,
     plan: &Run<'_>,
-) -> Result<Ready, Refusal>
+) -> Result<Prepared, Refusal>
     ensures ready { IfOk result (λ ready. IsPrepared ready.kernel.log ready.kernel.setup ready.versions.items (F.holds files.old) (plan_view plan.now)) }
     ensures refused { IfErr result (λ refusal. Refuses refusal (F.holds files.old) (plan_view plan.now)
         (F.faults files.old) (F.faults files.new) (F.taken files.old) (F.taken files.new)) }
@@ -175,7 +175,7 @@ pub fn prepare<F: Files>(
     match read_versions(alloc, files, plan.limits, &script, &plan.versions) {
         Ok(versions) => {
             let kernel = ScriptKernel::make(alloc, &script)?;
-            Ok(Ready { kernel, versions })
+            Ok(Prepared { kernel, versions })
         }
         Err(refusal) => Err(refusal),
     }

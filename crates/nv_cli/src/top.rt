@@ -26,7 +26,7 @@ ghost use Rattle.nv_cli.specs.declared.refusal.Cause.{Cause};
 ghost use Rattle.nv_cli.specs.Outcome.{Says, Wrote, Answers, Ran, Usage, NoMemory, ended_with, name_of, elf_text, guest_text, filter_text, line_text, rule_word, rules_text, asm_word, asm_text, cause_text, outcome_of, status_of, text_of, source_of};
 ghost use Rattle.nv_cli.specs.Rows.{IsReport, Reports, Makes, WantsMemory, Refuses, FailsToRead, FailsToWrite};
 
-use crate::prepare::{Ready, prepare};
+use crate::prepare::{Prepared, prepare};
 use crate::refusal::{Cause, Place, Refusal};
 use crate::tools::{Unmade, make};
 use itoa::Buffer;
@@ -409,7 +409,7 @@ fn do_run<F: Files, S: Sink>(alloc: Global, files: &mut F, sink: &mut S, plan: &
         (S.told sink.old) (S.faults sink.old) result (S.told sink.new) (S.faults sink.new) }
 {
     match prepare(alloc, files, plan) {
-        Ok(Ready { kernel, versions }) => {
+        Ok(Prepared { kernel, versions }) => {
             run_versions(alloc, kernel, versions, plan.limits, plan.json, sink)
         }
         Err(refusal) => refuse(sink, refusal, plan),

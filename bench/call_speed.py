@@ -1,0 +1,107 @@
+#!/usr/bin/env python3
+"""How many calls a second the program serves, call by call.
+
+Each guest makes one call again and again and exits. The built program runs it with 30,000 and with 120,000 calls; the report goes to
+/dev/null. The table has the median of five runs, the calls a second, and the time of a call in the longer run against the shorter one: it stays
+near 1 where a call's cost doesn't grow with the calls before it. `read` and `lseek` are on a file of 1 MiB and on one of 4 KiB. The start of the program
+with a guest that makes no call is taken off. Build the program first: `cd crates/varan && rt run -- run --script data/s data/v`.
+"""
+import os
+import statistics
+import subprocess
+import sys
+import tempfile
+import time
+
+TOP = os.path.dirname(os.path.dirname(os.path.abspath(__file__)))
+PROGRAM = os.path.join(TOP, "crates", "varan", "out", "varan")
+FEW, MANY = 30_000, 120_000
+RUNS = 5
+LARGE, SMALL = 1 << 20, 1 << 12
+
+OPEN = """
+li a0, -100
+la a1, name
+li a2, 0
+li a7, 56
+ecall
+mv s1, a0
+"""
+
+# A read at the end of a file is one of no bytes: the offset goes back to the front before each.
+BACK = """
+mv a0, s1
+li a1, 0
+li a2, 0
+la a3, room
+li a4, 0
+li a7, 62
+ecall
+"""
+
+CASES = [
+    ("getuid", "", "li a7, 174\necall\n", None),
+    ("write 1", "", "li a0, 1\nla a1, room\nli a2, 1\nli a7, 64\necall\n", None),
+    ("write 64", "", "li a0, 1\nla a1, room\nli a2, 64\nli a7, 64\necall\n", None),
+    ("lseek, 4 KiB", OPEN, BACK, SMALL),
+    ("lseek, 1 MiB", OPEN, BACK, LARGE),
+    ("lseek and read 64, 4 KiB", OPEN, BACK + "mv a0, s1\nla a1, room\nli a2, 64\nli a7, 63\necall\n", SMALL),
+    ("lseek and read 64, 1 MiB", OPEN, BACK + "mv a0, s1\nla a1, room\nli a2, 64\nli a7, 63\necall\n", LARGE),
+    ("write 64 to a file", "li a0, -100\nla a1, name\nli a2, 65\nli a7, 56\necall\nmv s1, a0\n",
+     BACK + "mv a0, s1\nla a1, room\nli a2, 64\nli a7, 64\necall\n", SMALL),
+]
+
+# The console holds 16,777,216 bytes, and a read or write of 4,096 bytes fills a log: these run shorter.
+LONG_CASES = [
+    ("write 4096", "", "li a0, 1\nla a1, room\nli a2, 4096\nli a7, 64\necall\n", None),
+    ("lseek and read 4096, 1 MiB", OPEN, BACK + "mv a0, s1\nla a1, room\nli a2, 4096\nli a7, 63\necall\n", LARGE),
+]
+
+
+def guest(before, calls, turns):
+    body = f"li s0, {turns}\nagain: {calls}addi s0, s0, -1\nbne s0, zero, again\n" if turns else ""
+    return (f"{before}{body}li a0, 0\nli a7, 94\necall\n"
+            '.data\nname: .ascii "f\\0"\nroom: .zero 4096\n')
+
+
+def seconds(folder, script, text):
+    with open(os.path.join(folder, "s"), "wb") as out:
+        out.write(script)
+    with open(os.path.join(folder, "t"), "w") as out:
+        out.write(text)
+    with open(os.path.join(folder, "v"), "wb") as out:
+        subprocess.run([PROGRAM, "asm", os.path.join(folder, "t")], stdout=out, check=True)
+    words = [PROGRAM, "run", "--calls", "131072", "--budget", "100000000",
+             "--script", os.path.join(folder, "s"), os.path.join(folder, "v")]
+    times = []
+    for _ in range(RUNS):
+        begun = time.perf_counter()
+        status = subprocess.run(words, stdout=subprocess.DEVNULL).returncode
+        times.append(time.perf_counter() - begun)
+        if status != 0:
+            sys.exit(f"status {status}")
+    return statistics.median(times)
+
+
+def measure(folder, name, before, calls, size, few, many):
+    script = b"varan-script 1\n"
+    if size:
+        script += b"file f " + b"61" * size + b"\n"
+    per_turn = calls.count("ecall")
+    base = seconds(folder, script, guest(before, calls, 0))
+    short = (seconds(folder, script, guest(before, calls, few // per_turn)) - base) / few
+    long = (seconds(folder, script, guest(before, calls, many // per_turn)) - base) / many
+    print(f"{name:28}  {1 / long:12,.0f}  {long / short:8.2f}", flush=True)
+
+
+def main():
+    with tempfile.TemporaryDirectory() as folder:
+        print(f"{'call':28}  {'calls/s':>12}  {'growth':>8}")
+        for name, before, calls, size in CASES:
+            measure(folder, name, before, calls, size, FEW, MANY)
+        for name, before, calls, size in LONG_CASES:
+            measure(folder, name, before, calls, size, 1_000, 4_000)
+
+
+if __name__ == "__main__":
+    main()
