@@ -82,7 +82,7 @@ pub script_refuses : (refusal : Refusal) (holds : List ℕ → Told) (plan : Pla
     → IsScriptRefusal refusal bytes → Refuses refusal holds plan f0 f t0 t
 script_refuses Memory holds plan bytes f0 f t0 t r h = tt
 script_refuses (Unreadable place) holds plan bytes f0 f t0 t r h = absurd h
-script_refuses (Input place cause) holds plan bytes f0 f t0 t r h = by place cause h.0 h.1.0 h.1.1 h.1.2
+script_refuses (Input place cause) holds plan bytes f0 f t0 t r h = by place cause h.0 h.1 h.2 h.3
   where
     by : (place : Place) (cause : Cause) → place ≡ Script → (fault : ScriptFault) → cause ≡ causes.Script fault → script_of bytes ≡ Err fault
         → Refuses (Input place cause) holds plan f0 f t0 t

@@ -7,8 +7,8 @@ use Rattle.nv_cli.proofs.calm.varan_calmly.Goals as goal
 
 -- a status that isn't that of a write fault is the text's own
 own : (put : Put) (n status : ℕ) → n ≡ ended_with put status → n ≢ 6 → n ≡ status
-own Whole n status ends no = ends
-own Failed n status ends no = absurd (no ends)
+own Whole n status ends other = ends
+own Failed n status ends other = absurd (other ends)
 
 never : Rose 0 0 → ⊥
 never r = omega arith

@@ -1,4 +1,4 @@
-use Rattle.std.proofs.Common.{◌≡◌, ◌∙◌, sym, ap, subst, ℕ, List, true, arith}
+use Rattle.std.proofs.Common.{◌≡◌, ◌∙◌, sym, ap, subst, ℕ, List, Ok, Result, arith}
 use Rattle.std.proofs.lemmas.List.{length-map}
 use Rattle.nv_outside.specs.Told.{Told}
 use Rattle.std.specs.Borrow.{Bor}
@@ -6,18 +6,42 @@ use Rattle.nv_command.specs.Seen.{limits_view, names_view, plan_view}
 use Rattle.nv_script.specs.Scripts.{Setup, script_of}
 use Rattle.nv_script.specs.Views.{setup_of}
 use Rattle.nv_cli.specs.Prepared.{Ready, versions_from}
-use Rattle.nv_cli.specs.Refusals.{AreLoaded, VersionsRefused}
-use Rattle.nv_cli.proofs.Loading.{all_ready, script_accepted, script_refuses, run_refused_by, length-loaded}
+use Rattle.nv_cli.specs.Refusals.{AreLoaded, IsPrepared, VersionsRefused}
+use Rattle.nv_cli.proofs.Loading.{all_ready, script_accepted, run_refused_by, length-loaded}
 use Rattle.nv_cli.proofs.prepare.prepare.Goals as goal
 
-pub returns-in-Ok-clause-ready : goal.returns-in-Ok-clause-ready
-returns-in-Ok-clause-ready g c =
+pub returns-in-Ok-read_versions-clause-ready : goal.returns-in-Ok-read_versions-clause-ready
+returns-in-Ok-read_versions-clause-ready g c =
     let holds = g.F.Files.holds c.args.files.now in
     let limits = limits_view c.args.plan.now.limits in
     let setup = setup_of c.in-Ok.script in
     let names = names_view c.args.plan.now.versions.items in
+    let versions = c.in-Ok-read_versions.versions.items in
+    let kernel = c.in_ok-kernel-in-Ok-read_versions.kernel in
     let same : g.F.Files.holds c.read_file.new.files ≡ holds = λ j name. c.in_ok-bytes.ensures.same name j in
-    let here = subst (λ (ns : List (Bor (List ℕ))). AreLoaded limits setup c.in-Ok-2.versions.items (g.F.Files.holds c.read_file.new.files) (names_view ns)) c.deref-2.ensures.value c.in-Ok-2.ensures.loaded in
-    let loaded = subst (λ (h : List ℕ → Told). AreLoaded limits setup c.in-Ok-2.versions.items h names) same here in
-    let ready = all_ready limits setup c.in-Ok-2.versions.items holds names 0 loaded in
-    ?
+    let here = subst (λ (ns : List (Bor (List ℕ))). AreLoaded limits setup versions (g.F.Files.holds c.read_file.new.files) (names_view ns)) c.deref-2.ensures.value c.in-Ok-read_versions.ensures.loaded in
+    let loaded = subst (λ (h : List ℕ → Told). AreLoaded limits setup versions h names) same here in
+    let ready = all_ready limits setup versions holds names 0 loaded in
+    let accepted : script_of c.in_ok-bytes.bytes.items ≡ Ok setup = ap script_of (sym c.deref.ensures.value) ∙ c.in-Ok.ensures.script in
+    let is = c.in_ok-kernel-in-Ok-read_versions.ensures in
+    subst (λ (s : Setup). IsPrepared kernel.log s versions holds (plan_view c.args.plan.now)) (sym is.1)
+    (record {
+      empty = is.0;
+      machines = ready.machines;
+      processes = ready.processes;
+      told = script_accepted (holds c.args.plan.now.script.now) (λ s. versions_from limits s holds 0 names) (Ready setup ready.machines) c.in_ok-bytes.bytes.items setup c.in_ok-bytes.ensures.bytes accepted ready.told;
+      fresh = c.in-Ok-read_versions.ensures.fresh;
+      few = omega (arith, length-loaded limits setup versions holds names loaded, length-map c.args.plan.now.versions.items (λ (name : Bor (List ℕ)). name.now));
+    })
+
+pub returns-clause-refused : goal.returns-clause-refused
+returns-clause-refused g c =
+    let holds = g.F.Files.holds c.args.files.now in
+    let limits = limits_view c.args.plan.now.limits in
+    let setup = setup_of c.in-Ok.script in
+    let same : g.F.Files.holds c.read_file.new.files ≡ holds = λ j name. c.in_ok-bytes.ensures.same name j in
+    let accepted : script_of c.in_ok-bytes.bytes.items ≡ Ok setup = ap script_of (sym c.deref.ensures.value) ∙ c.in-Ok.ensures.script in
+    run_refused_by c.in-Err-read_versions.refusal holds (g.F.Files.holds c.read_file.new.files) (plan_view c.args.plan.now) c.in_ok-bytes.bytes.items setup _ _ _ _ _ _
+    same c.in_ok-bytes.ensures.bytes accepted c.in_ok-bytes.ensures.faults c.in_ok-bytes.ensures.taken
+    (subst (λ (ns : List (Bor (List ℕ))). VersionsRefused limits setup c.in-Err-read_versions.refusal (g.F.Files.holds c.read_file.new.files) (names_view ns)
+    (g.F.Files.faults c.read_file.new.files) (g.F.Files.faults c.read_versions.new.files) (g.F.Files.taken c.read_file.new.files) (g.F.Files.taken c.read_versions.new.files)) c.deref-2.ensures.value c.in-Err-read_versions.ensures.refused)

@@ -6,10 +6,10 @@ use Rattle.nv_cli.proofs.top.do_run.Goals as goal
 
 pub returns-in-Ok : goal.returns-in-Ok
 returns-in-Ok g c = λ words asked.
-    let ready = c.in-Ok.ensures.versions in
+    let ready = c.in-Ok.ensures.ready in
     let ran = c.run_versions.ensures ready.machines ready.processes in
     ran_answers words (source_of g.F.Files.holds g.F.Files.faults g.F.Files.taken c.args.files.now c.prepare.new.files)
-    (plan_view c.args.plan.now) asked ready.machines ready.told _ _ _ _ _ ran
+    (plan_view c.args.plan.now) asked _ ready.machines ready.told _ _ _ _ _ ran
 
 pub returns-in-Err : goal.returns-in-Err
 returns-in-Err g c = λ words asked.
