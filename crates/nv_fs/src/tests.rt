@@ -451,3 +451,20 @@ fn pipes(rt: HostRuntime) -> Result<(), Fail> {
     assert_eq!(rt; desk.wrong, None);
     Ok(())
 }
+
+// The console takes 16,777,216 bytes through both of its numbers, of which the last of a write have no room.
+#[test]
+fn full_console(rt: HostRuntime) -> Result<(), Fail> {
+    let mut desk = Desk::make(rt.alloc())?;
+    let most = vec![in rt.alloc(); b'a'; 16_777_210]?;
+    desk.write(1, &most, 16_777_210);
+    desk.write(2, b"bcdefghijk", 6);
+    assert!(rt; desk.files.console().ends_with(b"aabcdefg"));
+    desk.write(1, b"x", -28);
+    desk.write(2, b"", 0);
+    desk.dup(2, 3);
+    desk.write(3, b"x", -28);
+    assert_eq!(rt; desk.files.console().len(), 16_777_216);
+    assert_eq!(rt; desk.wrong, None);
+    Ok(())
+}

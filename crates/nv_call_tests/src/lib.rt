@@ -1,0 +1,11 @@
+//! System calls of guests, through the monitor's top call. A guest's calls are a table in its data.
+#![tactic(auto)]
+
+mod guest;
+mod linux;
+
+pub use guest::{end_of_report, front_of_report, run, run_pair, run_table, run_twice, telling};
+pub use linux::{FILES, Guest, NUMBERS, PIPES};
+
+#[cfg(test)]
+mod tests;

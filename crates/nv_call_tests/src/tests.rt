@@ -1,0 +1,58 @@
+use crate::{end_of_report, run_table};
+use std::alloc::{AllocError, Global};
+
+mod addresses;
+mod files;
+mod linux_answers;
+mod long;
+mod numbers;
+mod scripts;
+mod worked;
+
+const SCRIPT: &[u8] = b"varan-script 1\n";
+
+// One file, `f`, of the bytes `abcd`.
+const FILE: &[u8] = b"varan-script 1\nfile f 61626364\n";
+
+// The data of the rows, up to their table of calls. `next` is in the code, and `last` the data's last byte.
+const DATA: &str = ".data
+f: .ascii \"f\\0\"
+g: .ascii \"g\\0\"
+inside: .ascii \"f/g\\0\"
+slash: .ascii \"f/\\0\"
+absent: .ascii \"d/g\\0\"
+empty: .ascii \"\\0\"
+dot: .ascii \".\\0\"
+dots: .ascii \"..\\0\"
+root: .ascii \"/\\0\"
+roots: .ascii \"///\\0\"
+rooted: .ascii \"//f\\0\"
+rooted_dot: .ascii \"/.\\0\"
+dotted: .ascii \"./f\\0\"
+text: .ascii \"abcdefgh\"
+buffer: .zero 4096
+parts: .word text, 2, 0, 0, f, 1
+places: .word buffer, 2, 0, 0, buffer, 1
+unread: .word text, 2, 0, 1
+unwritten: .word buffer, 2, next, 1
+nothing: .word 0, 0
+calls: ";
+
+// The first of these calls whose line of the log isn't the one beside it, where it comes behind so many calls.
+fn first_wrong<'a>(
+    alloc: Global,
+    script: &[u8],
+    before: &str,
+    calls: u16,
+    rows: &[(&'a str, &str)],
+) -> Result<Option<&'a str>, AllocError> {
+    for (call, line) in rows {
+        let data = format!(in alloc; "{DATA}{before}.word {call}\n")?;
+        let answered = run_table(alloc, script, data.as_str())?;
+        let end = end_of_report(alloc, calls, line)?;
+        if answered.status != 0 || !answered.written.ends_with(end.as_bytes()) {
+            return Ok(Some(*call));
+        }
+    }
+    Ok(None)
+}
