@@ -158,11 +158,7 @@ fn read_versions<F: Files>(
 }
 
 /// Reads the script and then the versions in order, and loads them. Each file is checked before the next is read.
-pub fn prepare<F: Files>(
-    alloc: Global,
-    files: &mut F,
-    plan: &Run<'_>,
-) -> Result<Prepared, Refusal>
+pub fn prepare<F: Files>(alloc: Global, files: &mut F, plan: &Run<'_>) -> Result<Prepared, Refusal>
     ensures ready { IfOk result (λ ready. IsPrepared ready.kernel.log ready.kernel.setup ready.versions.items (F.holds files.old) (plan_view plan.now)) }
     ensures refused { IfErr result (λ refusal. Refuses refusal (F.holds files.old) (plan_view plan.now)
         (F.faults files.old) (F.faults files.new) (F.taken files.old) (F.taken files.new)) }

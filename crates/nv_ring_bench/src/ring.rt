@@ -27,14 +27,7 @@ pub fn run_room<R: Threads + Sync>(
     requires versions { (0 < versions) × (versions ≤ 8) }
 {
     let script = script(alloc, bytes, events)?;
-    let ended = nv_room_tests::run(
-        rt,
-        alloc,
-        kernel(alloc)?,
-        &script,
-        versions,
-        PLACES,
-    )?;
+    let ended = nv_room_tests::run(rt, alloc, kernel(alloc)?, &script, versions, PLACES)?;
     Ok(match ended.seen.last() {
         Some(seen) => *seen as u64,
         None => 0,

@@ -37,7 +37,11 @@ fn refused_files(rt: HostRuntime) -> Result<(), Fail> {
         (SCRIPT, &long, b"varan: input v: long\n"),
         (&long, &hello, b"varan: input s: long\n"),
         (b"", &hello, b"varan: input s: line 1 form\n"),
-        (b"varan-script 1\nwait 1\n", b"", b"varan: input s: line 2 word\n"),
+        (
+            b"varan-script 1\nwait 1\n",
+            b"",
+            b"varan: input s: line 2 word\n",
+        ),
     ];
     for (script, version, line) in cases {
         let answered = run(rt.alloc(), script, version)?;
