@@ -38,20 +38,36 @@ unwritten: .word buffer, 2, next, 1
 nothing: .word 0, 0
 calls: ";
 
-// The first of these calls whose line of the log isn't the one beside it, where it comes behind so many calls.
+// Whether a call has this line in the log, where it comes behind so many calls.
+fn is_logged(
+    alloc: Global,
+    script: &[u8],
+    before: &str,
+    calls: u16,
+    call: &str,
+    line: &str,
+) -> Result<bool, AllocError> {
+    let data = format!(in alloc; "{DATA}{before}.word {call}\n")?;
+    let answered = run_table(alloc, script, data.as_str())?;
+    let end = end_of_report(alloc, calls, line)?;
+    Ok(answered.status == 0 && answered.written.ends_with(end.as_bytes()))
+}
+
+// The first row of a table, a call and its line of the log with a bar between them, that isn't so.
 fn first_wrong<'a>(
     alloc: Global,
     script: &[u8],
     before: &str,
     calls: u16,
-    rows: &[(&'a str, &str)],
+    table: &'a str,
 ) -> Result<Option<&'a str>, AllocError> {
-    for (call, line) in rows {
-        let data = format!(in alloc; "{DATA}{before}.word {call}\n")?;
-        let answered = run_table(alloc, script, data.as_str())?;
-        let end = end_of_report(alloc, calls, line)?;
-        if answered.status != 0 || !answered.written.ends_with(end.as_bytes()) {
-            return Ok(Some(*call));
+    for row in table.split('\n') {
+        let right = match row.split_once(" | ") {
+            Some((call, line)) => is_logged(alloc, script, before, calls, call, line)?,
+            None => row.is_empty(),
+        };
+        if !right {
+            return Ok(Some(row));
         }
     }
     Ok(None)
