@@ -1,5 +1,5 @@
 -- What the files of a run come to, as far as the source tells them.
-use Rattle.std.specs.Prelude.{◌≡◌, ◌≤◌, ◌<◌, ◌+◌, ◌-◌, ◌^◌, ℕ, List, [], ◌∷◌, ◌++◌, Bool, true, false, if◌then◌else◌, min, nat_lt, length, take, Result, Ok, Err}
+use Rattle.std.specs.Prelude.{◌≡◌, ◌≤◌, ◌<◌, ◌+◌, ◌-◌, ◌^◌, ℕ, List, [], ◌∷◌, ◌++◌, Bool, false, if◌then◌else◌, min, nat_lt, length, take, Result, Ok, Err}
 use Rattle.nv_outside.specs.Told.{Told, Untold, Missing, Content}
 use Rattle.nv_elf.specs.Elf.{ElfOf, elf_of}
 use Rattle.nv_elf.specs.Elf as elf

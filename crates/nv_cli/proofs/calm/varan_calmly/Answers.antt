@@ -1,5 +1,5 @@
 use Rattle.nv_outside.specs.Counts.{Rose}
-use Rattle.std.proofs.Common.{◌≡◌, ◌≢◌, ℕ, refl, arith}
+use Rattle.std.proofs.Common.{◌≡◌, ◌≢◌, ℕ, arith}
 use Rattle.nv_outside.specs.declared.sink.Put.{Put}
 use Rattle.nv_outside.specs.declared.sink.Put.TheVariants.{Whole, Failed}
 use Rattle.nv_cli.specs.Outcome.{ended_with}

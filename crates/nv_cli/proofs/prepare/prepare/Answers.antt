@@ -1,4 +1,4 @@
-use Rattle.std.proofs.Common.{◌≡◌, ◌∙◌, sym, ap, subst, ℕ, List, Ok, Result, arith}
+use Rattle.std.proofs.Common.{◌≡◌, ◌∙◌, sym, ap, subst, ℕ, List, Ok, arith}
 use Rattle.std.proofs.lemmas.List.{length-map}
 use Rattle.nv_outside.specs.Told.{Told}
 use Rattle.std.specs.Borrow.{Bor}
