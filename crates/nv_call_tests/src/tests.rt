@@ -3,6 +3,7 @@ use std::alloc::{AllocError, Global};
 
 mod addresses;
 mod files;
+mod flags;
 mod linux_answers;
 mod long;
 mod numbers;
