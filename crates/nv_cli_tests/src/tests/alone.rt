@@ -68,7 +68,7 @@ fn runs_that_break(rt: HostRuntime) -> Result<(), Fail> {
         ),
         (
             &[0x0ae00893, 0x00000073],
-            b"output 0\n\nlog 1\n0 100 174 0 0 0 0 0 0 = -38 :\nfates 1\n0 fault fetch 100 00010008 seen 1 led 0-1 rewrites 0\n",
+            b"output 0\n\nlog 1\n0 100 174 0 0 0 0 0 0 = 1000 :\nfates 1\n0 fault fetch 100 00010008 seen 1 led 0-1 rewrites 0\n",
         ),
     ];
     for (words, report) in breaks {
