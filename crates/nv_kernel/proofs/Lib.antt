@@ -4,3 +4,4 @@ pub mod Files
 pub mod Replies
 pub mod Few
 pub mod Going
+pub mod Randoms

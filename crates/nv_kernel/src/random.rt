@@ -25,12 +25,10 @@ pub fn fill_random(state: u64, bytes: &mut [u8]) -> u64
     ensures bytes { bytes.new ≡ randoms (length bytes.old) state }
     ensures state { result ≡ random_after (length bytes.old) state }
 {
-    match bytes.split_first_mut() {
-        None => state,
-        Some((first, rest)) => {
-            let state = next_random(state);
-            *first = high_byte(state);
-            fill_random(state, rest)
-        }
+    let mut now = state;
+    for i in 0..bytes.len() {
+        now = next_random(now);
+        bytes[i] = high_byte(now);
     }
+    now
 }
