@@ -57,8 +57,6 @@ pub record MayFollow (n : ℕ) (live : List ℕ) (e : Entry) : Type 0 where
   pub room : n < 131072
   pub lives : Contains live e.call.tid
   pub new : IsNew live (child_of e)
-  -- until clone is served
-  pub child : child_of e ≡ None
   pub range : InRange e
 
 -- each entry may stand where it stands

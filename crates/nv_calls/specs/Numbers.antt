@@ -1,5 +1,5 @@
 -- Linux's calls for RISC-V by their numbers (syscalls(2), asm-generic/unistd.h), and which arguments of each are values.
-use Rattle.std.specs.Prelude.{ℕ, ◌==◌, Bool, true, false, List, [], ◌∷◌, if◌then◌else◌}
+use Rattle.std.specs.Prelude.{ℕ, ◌==◌, ◌||◌, Bool, true, false, List, [], ◌∷◌, if◌then◌else◌}
 use Rattle.nv_calls.specs.declared.numbers.Syscall.{Syscall}
 use Rattle.nv_calls.specs.declared.numbers.Syscall.TheVariants.{Getcwd, Dup, Dup3, Ioctl, Unlinkat, Openat, Close, Pipe2, Llseek, Read, Write, Readv, Writev, Exit, ExitGroup, Uname, Getpid, Getppid, Getuid, Geteuid, Getgid, Getegid, Clone, Getrandom, ClockGettime64, Unknown}
 use Rattle.nv_calls.specs.declared.numbers.Slot.{Slot}
@@ -77,3 +77,7 @@ hands_in Openat = true
 hands_in Write = true
 hands_in Writev = true
 hands_in _ = false
+
+-- set_tid_address (96), sched_yield (124), gettid (178), brk (214) and futex_time64 (422) are answered by the process itself and stand in no log
+unfoldable pub is_local : ℕ → Bool
+is_local nr = (nr == 96) || (nr == 124) || (nr == 178) || (nr == 214) || (nr == 422)

@@ -7,7 +7,7 @@ use Rattle.std.proofs.lemmas.Bool.Decides.{nat_tests}
 use Rattle.nv_calls.specs.declared.numbers.Syscall.{Syscall}
 use Rattle.nv_calls.specs.declared.numbers.Syscall.TheVariants.{Unlinkat, Openat, Write, Readv, Writev}
 use Rattle.nv_calls.specs.Calls.{Request}
-use Rattle.nv_calls.specs.Numbers.{syscall_of, has_range, hands_in}
+use Rattle.nv_calls.specs.Numbers.{syscall_of, has_range, hands_in, is_local}
 use Rattle.nv_calls.specs.Shapes.{are_plain, kept_slots, most_of_vectors, is_capacity, is_path, is_payload, is_shaped_as, is_shaped, IsShaped}
 
 none : (c : Request) → (length c.payload == 0) ≡ true → length c.payload ≡ 0
@@ -57,7 +57,8 @@ pub shaped-parts : (c : Request) → IsShaped c → Shaped (syscall_of c.nr) c
 unfolding is_shaped
 shaped-parts c h =
     let k : Syscall = syscall_of c.nr in
-    let a = and_parts (are_plain (kept_slots k) c.args) _ h in
+    let s = and_parts (not (is_local c.nr)) (is_shaped_as k c) h in
+    let a = and_parts (are_plain (kept_slots k) c.args) _ s.1 in
     let b = and_parts (not c.bad || has_range k) _ a.1 in
     let d = and_parts (is_capacity k c) _ b.1 in
     record { plain = a.0; bad = b.0; capacity = d.0; payload = d.1 }

@@ -6,7 +6,7 @@ use Rattle.nv_calls.specs.declared.numbers.Syscall.TheVariants.{Unlinkat, Openat
 use Rattle.nv_calls.specs.declared.numbers.Slot.{Slot}
 use Rattle.nv_calls.specs.declared.numbers.Slot.TheVariants.{Value, Address, Unused}
 use Rattle.nv_calls.specs.Calls.{Request}
-use Rattle.nv_calls.specs.Numbers.{syscall_of, slots_by, has_range}
+use Rattle.nv_calls.specs.Numbers.{syscall_of, slots_by, has_range, is_local}
 
 -- an argument that is no value is 0
 abbrev pub is_plain : Slot → ℕ → Bool
@@ -49,8 +49,8 @@ is_shaped_as syscall c = are_plain (kept_slots syscall) c.args && ((not c.bad ||
     && (is_capacity syscall c && (if c.bad then length c.payload == 0 else is_payload syscall c)))
 
 unfoldable pub is_shaped : Request → Bool
-is_shaped c = is_shaped_as (syscall_of c.nr) c
+is_shaped c = not (is_local c.nr) && is_shaped_as (syscall_of c.nr) c
 
--- a call that a guest can make
+-- a call that a guest can make and that is logged
 abbrev pub IsShaped : Request → Type 0
 IsShaped c = is_shaped c ≡ true

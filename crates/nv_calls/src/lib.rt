@@ -10,5 +10,5 @@ mod shapes;
 pub use bytes::Bytes;
 pub use calls::{Call, Event, Reply, same};
 pub use kernel::SyscallKernel;
-pub use numbers::{Slot, Syscall, slots};
+pub use numbers::{Slot, Syscall, is_local, slots};
 pub use shapes::shaped;

@@ -1,6 +1,6 @@
 // The calls that are built, by their numbers.
 ghost use Rattle.std.specs.Prelude.{◌≡◌};
-ghost use Rattle.nv_calls.specs.Numbers.{syscall_of, slots_of, slots_by, has_range};
+ghost use Rattle.nv_calls.specs.Numbers.{syscall_of, slots_of, slots_by, has_range, is_local};
 
 /// A system call by Linux's numbers for RISC-V (syscalls(2)).
 #[derive(Clone, Copy, Debug, PartialEq, Eq, Drop)]
@@ -134,4 +134,12 @@ pub fn slots(nr: u32) -> [Slot; 6]
     ensures { result ≡ slots_of nr }
 {
     Syscall::of(nr).slots()
+}
+
+/// Whether the process itself answers the call with this number, so that it stands in no log.
+#[tactic(auto, unfolding(crate::specs::Numbers::is_local))]
+pub fn is_local(nr: u32) -> bool
+    ensures { result ≡ is_local nr }
+{
+    nr == 96 || nr == 124 || nr == 178 || nr == 214 || nr == 422
 }

@@ -5,7 +5,7 @@ ghost use Rattle.nv_calls.specs.Calls.{request};
 ghost use Rattle.nv_calls.specs.Shapes.{is_plain, are_plain, kept_slots, most_of_vectors, is_capacity, is_path, is_payload, is_shaped_as, is_shaped};
 
 use crate::calls::Call;
-use crate::numbers::{Slot, Syscall};
+use crate::numbers::{Slot, Syscall, is_local};
 
 /// How many bytes a call hands in or out at most.
 const MOST_BYTES: u32 = 4096;
@@ -16,12 +16,12 @@ const MOST_VECTORS: u32 = 1024;
 /// A path of so many bytes has no end among those that are read.
 const MOST_PATH: usize = 256;
 
-/// Whether the call has the form of those that a guest makes.
+/// Whether the call has the form of those that a guest makes and that are logged.
 #[tactic(auto, unfolding(crate::specs::Shapes::is_shaped))]
 pub fn shaped(call: &Call) -> bool
     ensures { result ≡ is_shaped (request call.now) }
 {
-    is_shaped_as(Syscall::of(call.nr), call)
+    !is_local(call.nr) && is_shaped_as(Syscall::of(call.nr), call)
 }
 
 fn is_shaped_as(syscall: Syscall, call: &Call) -> bool
