@@ -7,6 +7,7 @@ use Rattle.nv_calls.specs.Numbers.{syscall_of}
 use Rattle.nv_machine.specs.Guest.{Machine}
 use Rattle.nv_machine.specs.Registers.{Registers}
 use Rattle.nv_memory.specs.Image.{Image}
+use Rattle.nv_guest.specs.Guest.{machine}
 use Rattle.nv_guest.specs.Calls.{number, values_with, Handed, handed, call_by, call_at, memory_after, past, answered}
 
 abbrev pub filled : ℕ → ℕ → List ℕ → Handed → Request
@@ -19,10 +20,9 @@ call-is m tid nr k args h n s is a =
     ap (λ xs. filled tid nr xs h) a ∙ ap (λ x. filled tid x (values_with k m h.room) h) n
     ∙ ap (λ x. call_by k m tid x) is ∙ ap (λ j. call_by j m tid (handed j m)) (s ∙ ap syscall_of n)
 
-pub answered-is : (m mid : Machine) (ret : ℤ) (result : ℕ) (bytes : List ℕ) (nr : ℕ) (k : Syscall) → result ≡ cast_unsigned w32 ret → nr ≡ number m → k ≡ syscall_of nr → mid.memory ≡ memory_after k m bytes → mid.regs ≡ m.regs
-    → record mid { regs = past mid.regs result } ≡ answered m ret bytes
+pub answered-is : (m : Machine) (regs : Registers) (memory : Image) (ret : ℤ) (result : ℕ) (bytes : List ℕ) (nr : ℕ) (k : Syscall) → result ≡ cast_unsigned w32 ret → nr ≡ number m → k ≡ syscall_of nr
+    → memory ≡ memory_after k m bytes → regs ≡ past m.regs result → machine regs memory ≡ answered m ret bytes
 unfolding answered
-answered-is m mid ret result bytes nr k r n s stored same =
-    ap (λ (regs : Registers). record mid { regs = past regs result }) same
-    ∙ ap (λ x. record mid { regs = past m.regs x }) r
-    ∙ ap (λ (memory : Image). record { regs = past m.regs (cast_unsigned w32 ret); memory = memory }) (stored ∙ ap (λ j. memory_after j m bytes) (s ∙ ap syscall_of n))
+answered-is m regs memory ret result bytes nr k r n s stored gone =
+    ap (λ x. machine x memory) (gone ∙ ap (past m.regs) r)
+    ∙ ap (λ x. machine (past m.regs (cast_unsigned w32 ret)) x) (stored ∙ ap (λ j. memory_after j m bytes) (s ∙ ap syscall_of n))

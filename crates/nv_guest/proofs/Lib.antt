@@ -1,6 +1,11 @@
+pub mod Heaps
+pub mod Begun
+pub mod Staying
 pub mod Shaped
 pub mod Calling
 pub mod Strings
 pub mod Placed
 pub mod Walks
 pub mod Answering
+pub mod Places
+pub mod Running

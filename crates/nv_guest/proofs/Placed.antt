@@ -132,3 +132,7 @@ all_lie (s ∷ ss) others =
 
 pub segments_lie : (segments : List Segment) (size : ℕ) → All (λ s. IsTrue (list_any (has_range s.address (length s.bytes.items)) (regions_of (map range_of segments) size))) segments
 segments_lie segments size = All-from_recursion _ segments (all_lie segments (data_region (size - 65536) size ∷ data_region (heap_start (map range_of segments)) (heap_start (map range_of segments)) ∷ []))
+
+-- each range ends at the heap's start or below it
+pub ends_below : (ranges : List Range) → EndBy (heap_start ranges) ranges
+ends_below ranges = let above : highest ranges ≤ heap_start ranges = omega arith in end_later ranges _ _ above (end_by_highest ranges)

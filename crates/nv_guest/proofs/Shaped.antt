@@ -5,7 +5,7 @@ use Rattle.std.specs.List.{list_all}
 use Rattle.std.proofs.lemmas.Bool.Decides.{nat_tests}
 use Rattle.nv_calls.specs.declared.numbers.Syscall.{Syscall}
 use Rattle.nv_calls.specs.declared.numbers.Syscall.TheVariants.{Getcwd, Unlinkat, Openat, Pipe2, Llseek, Read as ReadCall, Write as WriteCall, Readv, Writev, Uname, Getrandom, ClockGettime64}
-use Rattle.nv_calls.specs.Numbers.{syscall_of}
+use Rattle.nv_calls.specs.Numbers.{syscall_of, is_local}
 use Rattle.nv_calls.specs.Shapes.{is_path, is_shaped_as, is_shaped, IsShaped}
 use Rattle.nv_memory.specs.declared.region.Right.{Right}
 use Rattle.nv_memory.specs.declared.region.Right.TheVariants.{Read, Write}
@@ -149,6 +149,6 @@ shaped-by Getrandom m tid = by_out (Fit Getrandom m tid) m.memory (out_of Getran
 shaped-by ClockGettime64 m tid = by_out (Fit ClockGettime64 m tid) m.memory (out_of ClockGettime64 m) refl refl
 shaped-by _ m tid = refl
 
-pub call_is_shaped : (m : Machine) (tid : ℕ) → IsShaped (call_at m tid)
+pub call_is_shaped : (m : Machine) (tid : ℕ) → is_local (number m) ≡ false → IsShaped (call_at m tid)
 unfolding is_shaped call_at
-call_is_shaped m tid = shaped-by (syscall_of (number m)) m tid
+call_is_shaped m tid logged = rw logged (shaped-by (syscall_of (number m)) m tid)

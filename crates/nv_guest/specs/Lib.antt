@@ -5,3 +5,6 @@ pub mod Load
 pub mod Paths
 pub mod Vectors
 pub mod Answers
+pub mod Threads
+pub mod Heap
+pub mod ThreadLaws

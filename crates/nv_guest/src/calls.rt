@@ -1,13 +1,13 @@
 // What a call hands over, and where its answer goes.
 ghost use Rattle.std.specs.Prelude.{◌≡◌, ◌≤◌, length, Some};
-ghost use Rattle.nv_guest.specs.Guest.{machine_of};
+ghost use Rattle.nv_guest.specs.Guest.{machine, machine_by};
 ghost use Rattle.nv_guest.specs.Calls.{argument, kept, values, values_with, out_of, vector_count, path_in, bytes_in, vectors_in, room_in, refused, with_payload, with_room, with_out, handed, handed_as, memory_after};
 
-use crate::Guest;
 use crate::answers::{read_targets, scatter, store_bytes};
 use crate::paths::read_path;
 use crate::vectors::{Part, gather, room_of};
 use nv_calls::{Bytes, Slot, Syscall};
+use nv_machine::Regs;
 use nv_memory::{Memory, Right};
 
 /// How many bytes a call hands in or out at most.
@@ -60,18 +60,25 @@ fn refuse(payload: &mut Bytes) -> Checked
     Checked { bad: true, room: 0 }
 }
 
-impl Guest {
+/// A thread at a call, with the memory.
+#[derive(Clone, Copy, Drop)]
+pub(crate) struct Caller<'a> {
+    pub(crate) regs: &'a Regs,
+    pub(crate) memory: &'a Memory,
+}
+
+impl Caller<'_> {
     // Argument `n` of the call.
     fn argument(&self, n: u8) -> u32
         requires { n ≤ 5 }
-        ensures { result ≡ argument (machine_of self.now) n }
+        ensures { result ≡ argument (machine_by self.now) n }
     {
         self.regs.get(10 + n)
     }
 
     // The arguments that are values, and 0 for the others.
     fn values(&self, syscall: Syscall) -> [u32; 6]
-        ensures { result ≡ values syscall (machine_of self.now) }
+        ensures { result ≡ values syscall (machine_by self.now) }
     {
         let [a, b, c, d, e, f] = syscall.slots();
         [
@@ -86,7 +93,7 @@ impl Guest {
 
     /// The arguments of the call that are values; readv's fourth is the room of its vectors.
     pub(crate) fn values_with(&self, syscall: Syscall, room: u32) -> [u32; 6]
-        ensures { result ≡ values_with syscall (machine_of self.now) room }
+        ensures { result ≡ values_with syscall (machine_by self.now) room }
     {
         let mut values = self.values(syscall);
         if syscall == Syscall::Readv {
@@ -97,7 +104,7 @@ impl Guest {
 
     // The part of memory that the answer goes to, unless vectors name it.
     fn out_of(&self, syscall: Syscall) -> Option<Part>
-        ensures { result ≡ out_of syscall (machine_of self.now) }
+        ensures { result ≡ out_of syscall (machine_by self.now) }
     {
         let (n, size) = match syscall {
             Syscall::Getcwd => (0, self.argument(1).min(2)),
@@ -117,7 +124,7 @@ impl Guest {
 
     // How many vectors the call has; of too many none is read.
     fn vector_count(&self) -> u32
-        ensures value { result ≡ vector_count (machine_of self.now) }
+        ensures value { result ≡ vector_count (machine_by self.now) }
         ensures few { result ≤ 1024 }
     {
         let count = self.argument(2);
@@ -127,11 +134,11 @@ impl Guest {
     // The path of openat and unlinkat.
     fn copy_path(&self, payload: &mut Bytes) -> Checked
         requires { MOST_BYTES ≤ payload.old.room }
-        ensures handed { handed_as result payload.new.bytes ≡ with_payload (path_in (machine_of self.now)) }
+        ensures handed { handed_as result payload.new.bytes ≡ with_payload (path_in (machine_by self.now)) }
         ensures room { payload.new.room ≡ payload.old.room }
     {
         let mut path = [0; MOST_PATH];
-        match read_path(&self.memory, self.argument(1), &mut path) {
+        match read_path(self.memory, self.argument(1), &mut path) {
             Some(count) => fill(payload, &path[..count]),
             None => refuse(payload),
         }
@@ -140,7 +147,7 @@ impl Guest {
     // The bytes of write.
     fn copy_bytes(&self, payload: &mut Bytes) -> Checked
         requires { MOST_BYTES ≤ payload.old.room }
-        ensures handed { handed_as result payload.new.bytes ≡ with_payload (bytes_in (machine_of self.now)) }
+        ensures handed { handed_as result payload.new.bytes ≡ with_payload (bytes_in (machine_by self.now)) }
         ensures room { payload.new.room ≡ payload.old.room }
     {
         let count = self.argument(2).min(MOST_BYTES);
@@ -153,12 +160,12 @@ impl Guest {
     // The bytes of writev.
     fn gather_vectors(&self, payload: &mut Bytes) -> Checked
         requires { MOST_BYTES ≤ payload.old.room }
-        ensures handed { handed_as result payload.new.bytes ≡ with_payload (vectors_in (machine_of self.now)) }
+        ensures handed { handed_as result payload.new.bytes ≡ with_payload (vectors_in (machine_by self.now)) }
         ensures room { payload.new.room ≡ payload.old.room }
     {
         let mut bytes = [0; MOST_BYTES as usize];
         let (address, count) = (self.argument(1), self.vector_count());
-        match gather(&self.memory, address, count, &mut bytes) {
+        match gather(self.memory, address, count, &mut bytes) {
             Some(count) => fill(payload, &bytes[..count]),
             None => refuse(payload),
         }
@@ -166,12 +173,12 @@ impl Guest {
 
     // The room of readv.
     fn find_room(&self, payload: &mut Bytes) -> Checked
-        ensures handed { handed_as result payload.new.bytes ≡ with_room (room_in (machine_of self.now)) }
+        ensures handed { handed_as result payload.new.bytes ≡ with_room (room_in (machine_by self.now)) }
         ensures room { payload.new.room ≡ payload.old.room }
     {
         payload.set(&[]);
         let (address, count) = (self.argument(1), self.vector_count());
-        let room = room_of(&self.memory, address, count, MOST_BYTES);
+        let room = room_of(self.memory, address, count, MOST_BYTES);
         Checked {
             bad: room.is_none(),
             room: room.unwrap_or(0),
@@ -180,7 +187,7 @@ impl Guest {
 
     // The range that the answer goes to.
     fn check_out(&self, syscall: Syscall, payload: &mut Bytes) -> Checked
-        ensures handed { handed_as result payload.new.bytes ≡ with_out (machine_of self.now).memory (out_of syscall (machine_of self.now)) }
+        ensures handed { handed_as result payload.new.bytes ≡ with_out (machine_by self.now).memory (out_of syscall (machine_by self.now)) }
         ensures room { payload.new.room ≡ payload.old.room }
     {
         payload.set(&[]);
@@ -194,7 +201,7 @@ impl Guest {
     /// Checks what the call reads and writes, and fills the payload.
     pub(crate) fn copy_in(&self, syscall: Syscall, payload: &mut Bytes) -> Checked
         requires { MOST_BYTES ≤ payload.old.room }
-        ensures handed { handed_as result payload.new.bytes ≡ handed syscall (machine_of self.now) }
+        ensures handed { handed_as result payload.new.bytes ≡ handed syscall (machine_by self.now) }
         ensures room { payload.new.room ≡ payload.old.room }
     {
         match syscall {
@@ -205,32 +212,39 @@ impl Guest {
             _ => self.check_out(syscall, payload),
         }
     }
+}
 
-    // The bytes of readv's answer, over its vectors.
-    fn scatter_out(&mut self, bytes: &[u8])
-        ensures memory { self.new.memory ≡ memory_after Syscall.Readv (machine_of self.old) bytes.now }
-        ensures regs { self.new.regs ≡ self.old.regs }
-    {
-        let mut targets = [Part {
-            address: 0,
-            size: 0,
-        }; MOST_VECTORS as usize];
-        let (address, count) = (self.argument(1), self.vector_count());
-        let found = read_targets(&self.memory, address, count, bytes.len(), &mut targets);
-        scatter(&mut self.memory, &targets[..found], bytes);
-    }
+// The bytes of readv's answer, over its vectors.
+fn scatter_out(regs: &Regs, memory: &mut Memory, bytes: &[u8])
+    ensures { memory.new ≡ memory_after Syscall.Readv (machine regs.now memory.old) bytes.now }
+{
+    let mut targets = [Part {
+        address: 0,
+        size: 0,
+    }; MOST_VECTORS as usize];
+    let (address, count) = vectors_of(Caller { regs, memory });
+    let found = read_targets(memory, address, count, bytes.len(), &mut targets);
+    scatter(memory, &targets[..found], bytes);
+}
 
-    /// Stores the bytes of the answer where the call wants them.
-    pub(crate) fn copy_out(&mut self, syscall: Syscall, bytes: &[u8])
-        ensures memory { self.new.memory ≡ memory_after syscall (machine_of self.old) bytes.now }
-        ensures regs { self.new.regs ≡ self.old.regs }
-    {
-        match syscall {
-            Syscall::Readv => self.scatter_out(bytes),
-            _ => {
-                if let Some(part) = self.out_of(syscall) {
-                    store_bytes(&mut self.memory, part.address, bytes);
-                }
+// Where the call's vectors are, and how many.
+fn vectors_of(caller: Caller<'_>) -> (u32, u32)
+    ensures value { result ≡ (argument (machine_by caller.entry) 1, vector_count (machine_by caller.entry)) }
+    ensures few { result.1 ≤ 1024 }
+{
+    (caller.argument(1), caller.vector_count())
+}
+
+/// Stores the bytes of the answer where the call wants them.
+pub(crate) fn copy_out(regs: &Regs, memory: &mut Memory, syscall: Syscall, bytes: &[u8])
+    ensures { memory.new ≡ memory_after syscall (machine regs.now memory.old) bytes.now }
+{
+    match syscall {
+        Syscall::Readv => scatter_out(regs, memory, bytes),
+        _ => {
+            let out = Caller { regs, memory }.out_of(syscall);
+            if let Some(part) = out {
+                store_bytes(memory, part.address, bytes);
             }
         }
     }

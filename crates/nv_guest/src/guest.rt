@@ -1,87 +1,164 @@
-// A guest with one thread.
-ghost use Rattle.std.specs.Prelude.{◌≡◌, ◌≢◌, ◌≤◌};
+// A guest with up to eight threads.
+ghost use Rattle.std.specs.Prelude.{◌≡◌, ◌<◌, ◌≤◌, length, Contains};
 
-use crate::calls::MOST_BYTES;
-use crate::outcome::Asked;
+use crate::calls::{Caller, MOST_BYTES, copy_out};
+use crate::heap::{Heap, move_heap};
+use crate::outcome::{Asked, asked_of};
+use crate::threads::{answer_to, place, run_on, start_child};
+use arrayvec::ArrayVec;
 use nv_calls::{Call, Syscall};
-use nv_machine::{Regs, Stepped, step};
+use nv_machine::{Regs, Stepped};
 use nv_memory::Memory;
+use std::marker::Model;
 
-/// A machine with its memory.
+/// How many threads live at most.
+pub(crate) const MOST_THREADS: usize = 8;
+
+/// A thread with its registers.
+#[derive(Drop)]
+pub(crate) struct Thread {
+    pub(crate) tid: u32,
+    pub(crate) regs: Regs,
+}
+
+impl Default for Thread {
+    fn default() -> Self {
+        Thread {
+            tid: 0,
+            regs: Regs::new(0),
+        }
+    }
+}
+
+/// The threads that live, and their memory.
 #[derive(Drop)]
 pub struct Guest {
-    pub(crate) regs: Regs,
+    pub(crate) threads: ArrayVec<Thread, MOST_THREADS>,
     pub(crate) memory: Memory,
+    pub(crate) heap: Heap,
+}
+
+impl Model for Guest {
+    ghost use Rattle.nv_guest.specs.Heap.{HasHeap};
+    ghost use Rattle.nv_guest.specs.Threads.{Threaded};
+
+    ghost Value = { Threaded };
+
+    ghost view = { λ g. record { threads = g.threads.items; memory = g.memory } };
+
+    ghost invariant = { λ g. HasHeap g.memory g.heap };
 }
 
 impl Guest {
-    ghost use Rattle.nv_guest.specs.Guest.{machine_of};
-    ghost use Rattle.nv_guest.specs.Calls.{call_at, past, answered};
-    ghost use Rattle.nv_calls.specs.Calls.{request};
-    ghost use Rattle.nv_calls.specs.Shapes.{IsShaped};
+    ghost use Rattle.nv_guest.specs.Calls.{call_at, number};
     ghost use Rattle.nv_machine.specs.Guest.{guest_step};
+    ghost use Rattle.nv_guest.specs.Heap.{moved};
+    ghost use Rattle.nv_guest.specs.Threads.{tids, machine_at, with_machine, run, answered_at, cloned, without, asked_by, break_after};
+    ghost use Rattle.nv_calls.specs.Calls.{request};
+    ghost use Rattle.nv_calls.specs.Numbers.{is_local};
+    ghost use Rattle.nv_calls.specs.Shapes.{IsShaped};
 
-    /// One instruction of the thread. After a call and after a fault nothing has changed.
-    pub fn step(&mut self, _tid: u32) -> Stepped
-        ensures machine { guest_step (machine_of self.old) ≡ (result, (machine_of self.new)) }
-        ensures kept { result ≢ Stepped.On → (machine_of self.new) ≡ (machine_of self.old) }
+    /// Runs the thread for at most so many instructions, up to the first that ends in a call or a fault, and gives
+    /// how many were run and how the last one ended.
+    pub fn run(&mut self, tid: u32, most: u32) -> (u32, Stepped)
+        requires { Contains (tids self.old.threads) tid }
+        ensures ran { (result.0, result.1, machine_at self.new tid) ≡ run most (machine_at self.old tid) }
+        ensures few { result.0 ≤ most }
+        ensures after { self.new ≡ with_machine self.old tid (machine_at self.new tid) }
     {
-        step(&mut self.regs, &mut self.memory)
+        let place = place(&self.threads, tid);
+        run_on(&mut self.threads[place].regs, &mut self.memory, most)
+    }
+
+    /// Runs the thread's next instruction.
+    pub fn step(&mut self, tid: u32) -> Stepped
+        requires { Contains (tids self.old.threads) tid }
+        ensures step { (result, machine_at self.new tid) ≡ guest_step (machine_at self.old tid) }
+        ensures after { self.new ≡ with_machine self.old tid (machine_at self.new tid) }
+    {
+        let (_, stepped) = self.run(tid, 1);
+        stepped
     }
 
     /// The address of the thread's next instruction; at a call that of its ECALL.
-    pub fn pc(&self, _tid: u32) -> u32
-        ensures { result ≡ (machine_of self.now).regs.pc }
+    pub fn pc(&self, tid: u32) -> u32
+        requires { Contains (tids self.now.threads) tid }
+        ensures { result ≡ (machine_at self.now tid).regs.pc }
     {
-        self.regs.pc
+        self.regs(tid).pc
     }
 
     /// The registers of the thread.
-    pub fn regs(&self, _tid: u32) -> &Regs
-        ensures { result.now ≡ (machine_of self.now).regs }
+    pub fn regs(&self, tid: u32) -> &Regs
+        requires { Contains (tids self.now.threads) tid }
+        ensures { result.now ≡ (machine_at self.now tid).regs }
     {
-        &self.regs
+        &self.threads[place(&self.threads, tid)].regs
     }
 
     /// The memory of all threads.
     pub fn memory(&self) -> &Memory
-        ensures { result.now ≡ (machine_of self.now).memory }
+        ensures { result.now ≡ self.now.memory }
     {
         &self.memory
     }
 
     /// The call that the thread is at.
     pub fn call_of(&self, tid: u32, call: &mut Call) -> Asked
-        requires { MOST_BYTES ≤ call.old.payload.room }
-        ensures logged { result ≡ Asked.Logged }
-        ensures call { request call.new ≡ call_at (machine_of self.now) tid }
-        ensures shaped { IsShaped (request call.new) }
+        requires lives { Contains (tids self.now.threads) tid }
+        requires room { MOST_BYTES ≤ call.old.payload.room }
+        ensures asked { result ≡ asked_by (is_local (number (machine_at self.now tid))) }
+        ensures shaped { result ≡ Asked.Logged → IsShaped (request call.new) }
+        ensures call { request call.new ≡ call_at (machine_at self.now tid) tid }
         ensures room { call.new.payload.room ≡ call.old.payload.room }
     {
-        let nr = self.regs.get(17);
+        let caller = Caller {
+            regs: self.regs(tid),
+            memory: &self.memory,
+        };
+        let nr = caller.regs.get(17);
         let syscall = Syscall::of(nr);
-        let checked = self.copy_in(syscall, &mut call.payload);
+        let checked = caller.copy_in(syscall, &mut call.payload);
         call.tid = tid;
         call.nr = nr;
-        call.args = self.values_with(syscall, checked.room);
+        call.args = caller.values_with(syscall, checked.room);
         call.bad = checked.bad;
-        Asked::Logged
+        asked_of(nr)
     }
 
     /// Stores the bytes of the answer, puts the result into a0 and goes past the call.
-    pub fn answer(&mut self, _tid: u32, ret: i32, payload: &[u8])
-        ensures machine { machine_of self.new ≡ answered (machine_of self.old) ret payload.now }
+    pub fn answer(&mut self, tid: u32, ret: i32, payload: &[u8])
+        requires { Contains (tids self.old.threads) tid }
+        ensures { self.new ≡ answered_at self.old tid ret payload.now }
     {
-        let syscall = Syscall::of(self.regs.get(17));
-        self.copy_out(syscall, payload);
-        self.go_past(ret.cast_unsigned());
+        let place = place(&self.threads, tid);
+        answer_to(&mut self.threads[place].regs, &mut self.memory, ret, payload);
     }
 
-    // Puts the result into a0 and goes past the call.
-    fn go_past(&mut self, value: u32)
-        ensures { machine_of self.new ≡ record (machine_of self.old) { regs = past (machine_of self.old).regs value } }
+    /// Moves the break, if it may be there, and gives it (brk(2)).
+    pub fn move_break(&mut self, address: u32) -> u32
+        ensures answer { result ≡ break_after self.old.memory address }
+        ensures after { self.new ≡ record self.old { memory = moved self.old.memory address } }
     {
-        self.regs.set(10, value);
-        self.regs.pc = self.regs.pc.wrapping_add(4);
+        move_heap(&mut self.heap, &mut self.memory, address)
+    }
+
+    /// Makes a thread that goes on behind its parent's call.
+    pub fn clone_thread(&mut self, tid: u32, child: u32)
+        requires lives { Contains (tids self.old.threads) tid }
+        requires room { length self.old.threads < 8 }
+        ensures { self.new ≡ cloned self.old tid child }
+    {
+        let regs = start_child(self.regs(tid));
+        self.threads.push(Thread { tid: child, regs });
+    }
+
+    /// The thread lives no longer.
+    pub fn end_thread(&mut self, tid: u32)
+        requires { Contains (tids self.old.threads) tid }
+        ensures { self.new ≡ without self.old tid }
+    {
+        let place = place(&self.threads, tid);
+        self.threads.remove(place);
     }
 }

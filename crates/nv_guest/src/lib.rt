@@ -5,11 +5,13 @@ mod answers;
 mod block;
 mod calls;
 mod guest;
+mod heap;
 mod load;
 mod outcome;
 mod paths;
 #[cfg(test)]
 mod tests;
+mod threads;
 mod vectors;
 
 pub use guest::Guest;

@@ -32,6 +32,16 @@ impl Regs {
         Regs { x: [0; 32], pc }
     }
 
+    /// The same registers once more.
+    pub fn copy(&self) -> Regs
+        ensures { result ≡ self.now }
+    {
+        Regs {
+            x: self.x,
+            pc: self.pc,
+        }
+    }
+
     /// What the register holds.
     pub fn get(&self, n: u8) -> u32
         requires { n < 32 }

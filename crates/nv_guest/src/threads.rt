@@ -1,0 +1,85 @@
+// One thread among the others.
+ghost use Rattle.std.specs.Prelude.{◌≡◌, ◌<◌, ◌≤◌, length, Contains};
+ghost use Rattle.nv_machine.specs.Guest.{register};
+ghost use Rattle.nv_guest.specs.Guest.{machine};
+ghost use Rattle.nv_guest.specs.Calls.{answered, past};
+ghost use Rattle.nv_guest.specs.Threads.{tids, place_of, run, child_regs, with_stack, with_pointer};
+
+use crate::calls::copy_out;
+use crate::guest::Thread;
+use nv_calls::Syscall;
+use nv_machine::{Regs, Stepped, step};
+use nv_memory::Memory;
+
+/// The register of the stack pointer.
+const SP: u8 = 2;
+
+/// The register of the thread's pointer.
+const TP: u8 = 4;
+
+/// A new thread's pointer is given with it (CLONE_SETTLS of clone(2)).
+const SET_POINTER: u32 = 0x80000;
+
+/// Where the thread stands.
+pub(crate) fn place(threads: &[Thread], tid: u32) -> usize
+    requires { Contains (tids threads.now) tid }
+    ensures place { result ≡ place_of threads.now tid }
+    ensures inside { result < length threads.now }
+{
+    for (i, thread) in threads.iter().enumerate() {
+        if thread.tid == tid {
+            return i;
+        }
+    }
+    unreachable!()
+}
+
+/// Runs at most so many instructions, up to the first that ends in a call or a fault, and gives how many were run
+/// and how the last one ended.
+pub(crate) fn run_on(regs: &mut Regs, memory: &mut Memory, most: u32) -> (u32, Stepped)
+    ensures few { result.0 ≤ most }
+    ensures ran { run most (machine regs.old memory.old) ≡ (result.0, result.1, machine regs.new memory.new) }
+{
+    for count in 0..most {
+        match step(regs, memory) {
+            Stepped::On => {}
+            Stepped::Call => return (count + 1, Stepped::Call),
+            Stepped::Fault(kind) => return (count + 1, Stepped::Fault(kind)),
+        }
+    }
+    (most, Stepped::On)
+}
+
+/// Stores the bytes of the answer, puts the result into a0 and goes past the call.
+pub(crate) fn answer_to(regs: &mut Regs, memory: &mut Memory, ret: i32, payload: &[u8])
+    ensures { machine regs.new memory.new ≡ answered (machine regs.old memory.old) ret payload.now }
+{
+    let syscall = Syscall::of(regs.get(17));
+    copy_out(regs, memory, syscall, payload);
+    go_past(regs, ret.cast_unsigned());
+}
+
+// Puts the result into a0 and goes past the call.
+fn go_past(regs: &mut Regs, value: u32)
+    ensures { regs.new ≡ past regs.old value }
+{
+    regs.set(10, value);
+    regs.pc = regs.pc.wrapping_add(4);
+}
+
+/// The registers of a new thread, by those of its parent at clone.
+#[tactic(auto, unfolding(crate::specs::Threads::child_regs))]
+pub(crate) fn start_child(parent: &Regs) -> Regs
+    ensures { result ≡ child_regs parent.now }
+{
+    let mut regs = parent.copy();
+    go_past(&mut regs, 0);
+    let stack = parent.get(11);
+    if stack != 0 {
+        regs.set(SP, stack);
+    }
+    if (parent.get(10) / SET_POINTER) % 2 == 1 {
+        regs.set(TP, parent.get(13));
+    }
+    regs
+}
