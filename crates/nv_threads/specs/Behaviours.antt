@@ -41,7 +41,7 @@ pub record IsProcess {P : Type 0} (g : Behaviour P) : Type 0 where
   pub falls : (p : P) (t : ℕ) (r : Response) → g.pending p t ≡ true → g.calls_left (g.answered p t r) < g.calls_left p
   -- the live threads change as a history says
   pub live_after : (p : P) (w : Want) → g.live (g.after p w) ≡ g.live p
-  pub live_answer : (p : P) (t n : ℕ) (r : Response) → g.pending p t ≡ true → Contains (g.live p) t → child_of (event_of g p t r n) ≡ None
+  pub live_answer : (p : P) (t n : ℕ) (r : Response) → g.pending p t ≡ true
       → g.live (g.answered p t r) ≡ live_next (g.live p) (event_of g p t r n)
   pub ended : (p : P) → g.live p ≡ [] → g.ended p ≡ None → ⊥
   pub lives : (p : P) (s : ℕ) → g.ended p ≡ Some s → g.live p ≡ []

@@ -1,11 +1,35 @@
 -- What always holds of a process.
-use Rattle.std.specs.Prelude.{◌≡◌, ℕ, ◌≤◌, Bool, true}
-use Rattle.nv_calls.specs.Calls.{Request}
+use Rattle.std.specs.Prelude.{◌≡◌, ℕ, ◌<◌, ◌≤◌, Bool, true, ◌==◌, ◌&&◌, not, List, [], ◌∷◌, length}
+use Rattle.std.specs.List.{list_any}
+use Rattle.nv_calls.specs.declared.calls.Call.{Call}
 use Rattle.nv_calls.specs.Shapes.{IsShaped}
+use Rattle.nv_threads.specs.Threads.{State, Runs, Asks, Waits, Task, tids}
 
--- the instructions run keep to the budget; a call that waits is the thread's, and one that a guest makes
-pub record IsKept (count budget : ℕ) (waiting : Bool) (c : Request) (room : ℕ) : Type 0 where
+-- no number stands twice
+abbrev pub are_apart : List ℕ → Bool
+are_apart [] = true
+are_apart (t ∷ ts) = not (list_any (λ u. u == t) ts) && are_apart ts
+
+-- a call that waits is the thread's, and one that a guest makes
+abbrev pub IsOwn : ℕ → State → Type 0
+IsOwn tid Runs = Unit {0}
+IsOwn tid (Asks call) = (call.tid ≡ tid) × IsShaped call
+IsOwn tid (Waits address) = Unit {0}
+
+abbrev pub AreOwn : List Task → Type 0
+AreOwn [] = Unit {0}
+AreOwn (t ∷ ts) = IsOwn t.tid t.state × AreOwn ts
+
+-- each call has room for what is handed in
+abbrev pub HaveRoom : List Call → Type 0
+HaveRoom [] = Unit {0}
+HaveRoom (c ∷ cs) = (4096 ≤ c.payload.room) × HaveRoom cs
+
+-- The instructions run keep to the budget, the guest has these threads, each a number of its own, and there is a call for each of eight.
+pub record IsKept (count budget : ℕ) (tasks : List Task) (guest : List ℕ) (calls : List Call) : Type 0 where
   pub within : count ≤ budget
-  pub own : waiting ≡ true → c.tid ≡ 100
-  pub shaped : waiting ≡ true → IsShaped c
-  pub holds : 4096 ≤ room
+  pub same : 0 < length tasks → guest ≡ tids tasks
+  pub apart : are_apart (tids tasks) ≡ true
+  pub own : AreOwn tasks
+  pub eight : length calls ≡ 8
+  pub room : HaveRoom calls

@@ -1,21 +1,33 @@
-// A guest with one thread, and the call that it waits for.
-ghost use Rattle.std.specs.Prelude.{◌≡◌, ◌≤◌, ◌<◌, Some, None, IfOk, true};
+// A guest with up to eight threads, which take turns, and the calls that they wait for.
+ghost use Rattle.std.specs.Prelude.{◌≡◌, ◌≢◌, ◌≤◌, ◌<◌, ◌++◌, ◌∷◌, [], Some, None, Ok, IfOk, true, length, min, is_some, remove, slice_index_or, Contains};
 ghost use Rattle.nv_calls.specs.Calls.{request};
+ghost use Rattle.nv_calls.specs.Logs.{made, IsNew};
 ghost use Rattle.nv_calls.specs.Shapes.{IsShaped};
-ghost use Rattle.nv_guest.specs.Calls.{call_at};
-ghost use Rattle.nv_guest.specs.Guest.{machine_of};
+ghost use Rattle.nv_guest.specs.Guest.{machine_of, one_thread};
+ghost use Rattle.nv_guest.specs.Threads.{break_after};
 ghost use Rattle.nv_threads.specs.Behaviours.{IsStarted};
-ghost use Rattle.nv_threads.specs.Threads.{threads, started, instruction};
+ghost use Rattle.nv_threads.specs.Threads.{threads, started, state_at, is_running, is_asking, wanted, can_move, is_on, faulted, unless_live, passed, replied, local, woken_one, woken, waiting, operation, futex, futex_by, futex_on, called, machine, tids, over, left_by, brk, broken, with_child, goes_on, answered_as};
+ghost use Rattle.nv_threads.specs.Going.{Goes, burst};
+ghost use Rattle.nv_threads.specs.Kept.{HaveRoom};
 
+use crate::tasks::{Doing, Task, asks, can_move, least_waiter, lives, next_tid, place, runs, set_doing};
 use crate::{Came, FaultKind, Want};
+use arrayvec::ArrayVec;
 use nv_calls::{Bytes, Call};
-use nv_guest::Guest;
+use nv_guest::{Asked, Guest};
 use nv_machine::Stepped;
+use nv_memory::Width;
 use std::alloc::{AllocError, Global};
 use std::marker::Model;
 
-/// The number of the one thread.
-const THREAD: u32 = 100;
+/// The number of the first thread.
+const FIRST: u32 = 100;
+
+/// How many threads live at most.
+const MOST_THREADS: usize = 8;
+
+/// How many instructions a turn has.
+const TURN: u32 = 1000;
 
 /// The most bytes that a call hands in.
 const MOST_BYTES: u32 = 4096;
@@ -24,98 +36,304 @@ const MOST_BYTES: u32 = 4096;
 #[derive(Drop)]
 pub struct Process {
     guest: Guest,
-    budget: u32,
+    tasks: ArrayVec<Task, MOST_THREADS>,
+    /// The call that each thread waits for, if it does, in the order of the threads; those behind are spare.
+    calls: Vec<Call>,
+    /// The thread whose turn it is; it may have ended.
+    turn: u32,
+    /// How many instructions the turn has left.
+    slice: u32,
     count: u32,
-    call: Call,
-    waiting: bool,
-    end: Option<u8>,
+    budget: u32,
+    status: u8,
 }
 
 impl Model for Process {
-    ghost use Rattle.std.specs.Prelude.{◌-◌, Some, None, if◌then◌else◌};
+    ghost use Rattle.std.specs.Prelude.{◌-◌, map};
     ghost use Rattle.nv_calls.specs.Calls.{request};
-    ghost use Rattle.nv_guest.specs.Guest.{machine_of};
+    ghost use Rattle.nv_guest.specs.Threads.{tids};
     ghost use Rattle.nv_threads.specs.Kept.{IsKept};
+    ghost use Rattle.nv_threads.specs.Tables.{threads_of};
     ghost use Rattle.nv_threads.specs.Threads.{Proc};
 
     ghost Value = { Proc };
 
-    ghost view = { λ p. record { machine = machine_of p.guest; left = p.budget - p.count; call = if p.waiting then Some (request p.call) else None; end = p.end } };
+    ghost view = { λ p. record { guest = p.guest; tasks = threads_of p.tasks.items (map request p.calls.items); turn = p.turn; slice = p.slice; left = p.budget - p.count; status = p.status } };
 
-    ghost invariant = { λ p. IsKept p.count p.budget p.waiting (request p.call) p.call.payload.room };
+    ghost invariant = { λ p. IsKept p.count p.budget (threads_of p.tasks.items (map request p.calls.items)) (tids p.guest.threads) p.calls.items };
 }
 
 #[tactic(auto, unfolding(crate::specs::Threads::threads))]
 impl Process {
-    /// The process of a guest that hasn't run; all its memory is taken here.
+    /// The process of a guest that hasn't run, whose one thread is 100; all its memory is taken here.
+    #[tactic(auto, unfolding(crate::specs::Threads::threads, crate::specs::Threads::turn_length))]
     pub fn make(alloc: Global, guest: Guest, budget: u32) -> Result<Process, AllocError>
-        requires { budget ≤ 1000000000 }
+        requires alone { guest ≡ one_thread (machine_of guest) }
+        requires budget { budget ≤ 1000000000 }
         ensures process { IfOk result (λ p. p ≡ started (machine_of guest) budget) }
         ensures started { IfOk result (IsStarted threads) }
     {
-        let payload = Bytes::make(alloc, MOST_BYTES)?;
+        let calls = eight_calls(alloc)?;
+        let mut tasks = ArrayVec::new();
+        tasks.push(Task {
+            tid: FIRST,
+            doing: Doing::Runs,
+        });
         Ok(Process {
             guest,
-            budget,
+            tasks,
+            calls,
+            turn: FIRST,
+            slice: TURN,
             count: 0,
-            call: Call {
-                tid: THREAD,
-                nr: 0,
-                args: [0; 6],
-                bad: false,
-                payload,
-            },
-            waiting: false,
-            end: None,
+            budget,
+            status: 0,
         })
     }
 
     /// Goes on to the next call or fault.
     pub fn advance(&mut self, want: Want) -> Came
+        requires { threads.ended self.old ≡ None }
         ensures came { result ≡ threads.came self.old want }
         ensures after { self.new ≡ threads.after self.old want }
     {
-        if self.waiting {
-            return Came::Asked(THREAD);
-        }
-        while self.count < self.budget {
-            if let Some(came) = self.instruction() {
+        loop {
+            if let Some(came) = self.go(want) {
                 return came;
             }
         }
+    }
+
+    /// The first rule that applies; the instructions of a turn are run at once.
+    fn go(&mut self, want: Want) -> Option<Came>
+        requires { tids self.old.tasks ≢ [] }
+        ensures { Goes want self.old result self.new }
+    {
+        let wanted = self.wanted(want);
+        if self.is_asking(wanted) {
+            return Some(Came::Asked(wanted));
+        }
+        if !can_move(&self.tasks, want) {
+            return Some(self.stop());
+        }
+        if !self.is_on() {
+            self.pass();
+            return None;
+        }
+        if self.count == self.budget {
+            return Some(self.fault(FaultKind::Budget));
+        }
+        self.run()
+    }
+
+    fn wanted(&self, want: Want) -> u32
+        ensures { result ≡ wanted want self.now }
+    {
+        match want {
+            Want::Any => self.turn,
+            Want::Only(tid) => tid,
+        }
+    }
+
+    fn is_asking(&self, tid: u32) -> bool
+        ensures { result ≡ is_asking (state_at self.now.tasks tid) }
+    {
+        asks(&self.tasks, tid)
+    }
+
+    fn is_on(&self) -> bool
+        ensures { result ≡ is_on self.now }
+    {
+        runs(&self.tasks, self.turn) && self.slice != 0
+    }
+
+    /// The next thread has the turn.
+    fn pass(&mut self)
+        ensures { self.new ≡ passed self.old }
+    {
+        self.turn = next_tid(&self.tasks, self.turn);
+        self.slice = TURN;
+    }
+
+    /// A fault of the turn's thread.
+    fn fault(&self, kind: FaultKind) -> Came
+        requires { is_some (state_at self.now.tasks self.now.turn) ≡ true }
+        ensures { result ≡ Came.Fault kind self.now.turn (machine self.now).regs.pc }
+    {
         Came::Fault {
-            kind: FaultKind::Budget,
-            tid: THREAD,
-            pc: self.guest.pc(THREAD),
+            kind,
+            tid: self.turn,
+            pc: self.guest.pc(self.turn),
         }
     }
 
-    /// One instruction, and what it comes to unless the thread goes on.
-    fn instruction(&mut self) -> Option<Came>
-        requires left { 0 < self.old.left }
-        requires none { self.old.call ≡ None }
-        ensures { instruction self.old ≡ (result, self.new) }
+    /// No thread can bring the process on.
+    fn stop(&mut self) -> Came
+        requires { tids self.old.tasks ≢ [] }
+        ensures { faulted FaultKind.Deadlock (unless_live self.old) ≡ (Some result, self.new) }
     {
-        self.count += 1;
-        match self.guest.step(THREAD) {
+        self.leave_ended();
+        self.fault(FaultKind::Deadlock)
+    }
+
+    /// A thread that has ended has the turn no longer.
+    fn leave_ended(&mut self)
+        ensures { self.new ≡ unless_live self.old }
+    {
+        if lives(&self.tasks, self.turn) {
+            return;
+        }
+        self.pass();
+    }
+
+    /// The instructions of the turn, up to the first that ends in a call or a fault.
+    fn run(&mut self) -> Option<Came>
+        requires { is_on self.old ≡ true }
+        ensures { burst (min self.old.slice self.old.left) self.old ≡ (result, self.new) }
+    {
+        let most = self.slice.min(self.budget - self.count);
+        let (count, stepped) = self.guest.run(self.turn, most);
+        self.slice -= count;
+        self.count += count;
+        match stepped {
             Stepped::On => None,
-            Stepped::Call => Some(self.ask()),
-            Stepped::Fault(kind) => Some(Came::Fault {
-                kind,
-                tid: THREAD,
-                pc: self.guest.pc(THREAD),
-            }),
+            Stepped::Call => {
+                self.call();
+                None
+            }
+            Stepped::Fault(kind) => Some(self.fault(kind)),
         }
     }
 
-    /// The thread waits for the answer to its call.
-    fn ask(&mut self) -> Came
-        ensures new { self.new ≡ record self.old { call = Some (call_at self.old.machine 100) } }
-        ensures came { result ≡ Came.Asked 100 }
+    /// The turn's thread is at a call.
+    fn call(&mut self)
+        requires { is_running (state_at self.old.tasks self.old.turn) ≡ true }
+        ensures { self.new ≡ called self.old }
     {
-        let _asked = self.guest.call_of(THREAD, &mut self.call);
-        self.waiting = true;
-        Came::Asked(THREAD)
+        let place = place(&self.tasks, self.turn);
+        let turn = self.turn;
+        match self.guest.call_of(turn, &mut self.calls[place]) {
+            Asked::Logged => set_doing(&mut self.tasks, turn, Doing::Asks),
+            Asked::Local => {
+                let nr = self.guest.regs(turn).get(17);
+                self.answer_local(nr);
+            }
+        }
+    }
+
+    /// The process's own answer to the call of the turn's thread.
+    #[tactic(auto, unfolding(crate::specs::Threads::local))]
+    fn answer_local(&mut self, nr: u32)
+        requires { is_running (state_at self.old.tasks self.old.turn) ≡ true }
+        ensures { self.new ≡ local nr self.old }
+    {
+        match nr {
+            214 => self.brk(),
+            422 => self.futex(),
+            124 => {
+                self.reply(0);
+                self.pass();
+            }
+            _ => {
+                let tid = self.turn;
+                self.reply(tid.cast_signed());
+            }
+        }
+    }
+
+    fn reply(&mut self, ret: i32)
+        requires { is_running (state_at self.old.tasks self.old.turn) ≡ true }
+        ensures { self.new ≡ replied self.old ret }
+    {
+        self.guest.answer(self.turn, ret, &[]);
+    }
+
+    fn brk(&mut self)
+        requires { is_running (state_at self.old.tasks self.old.turn) ≡ true }
+        ensures { self.new ≡ brk self.old }
+    {
+        let address = self.guest.regs(self.turn).get(10);
+        let end = self.move_break(address);
+        self.reply(end.cast_signed());
+    }
+
+    fn move_break(&mut self, address: u32) -> u32
+        ensures answer { result ≡ break_after self.old.guest.memory address }
+        ensures after { self.new ≡ broken self.old address }
+    {
+        self.guest.move_break(address)
+    }
+
+    fn futex(&mut self)
+        requires { is_running (state_at self.old.tasks self.old.turn) ≡ true }
+        ensures { self.new ≡ futex self.old }
+    {
+        let regs = self.guest.regs(self.turn);
+        let (address, op, value, timeout) = (regs.get(10), regs.get(11), regs.get(12), regs.get(13));
+        self.futex_by(operation(op), address, value, timeout);
+    }
+
+    fn futex_by(&mut self, op: u32, address: u32, value: u32, timeout: u32)
+        requires { is_running (state_at self.old.tasks self.old.turn) ≡ true }
+        ensures { self.new ≡ futex_by self.old op address value timeout }
+    {
+        if op > 1 || (op == 0 && timeout != 0) {
+            return self.reply(-38);
+        }
+        if address % 4 != 0 {
+            return self.reply(-22);
+        }
+        match self.guest.memory().load(address, Width::Four) {
+            Err(_) => self.reply(-14),
+            Ok(word) => self.futex_on(op, address, value, word),
+        }
+    }
+
+    fn futex_on(&mut self, op: u32, address: u32, value: u32, word: u32)
+        requires { is_running (state_at self.old.tasks self.old.turn) ≡ true }
+        ensures { self.new ≡ futex_on self.old op address value (Ok word) }
+    {
+        if op == 1 {
+            let most = self.tasks.len() as u32;
+            let count = self.wake(value.min(most), address);
+            self.reply(count as i32);
+        } else if word == value {
+            self.wait(address);
+        } else {
+            self.reply(-11);
+        }
+    }
+
+    /// The turn's thread waits at this address.
+    fn wait(&mut self, address: u32)
+        requires { is_running (state_at self.old.tasks self.old.turn) ≡ true }
+        ensures { self.new ≡ waiting self.old address }
+    {
+        set_doing(&mut self.tasks, self.turn, Doing::Waits(address));
+        self.pass();
+    }
+
+    /// At most so many threads that wait at the address run again; gives how many these are.
+    fn wake(&mut self, most: u32, address: u32) -> u32
+        requires { most ≤ 8 }
+        ensures woken { woken most address self.old ≡ (result, self.new) }
+        ensures few { result ≤ most }
+    {
+        for count in 0..most {
+            let Some(tid) = least_waiter(&self.tasks, address) else {
+                return count;
+            };
+            self.wake_one(tid);
+        }
+        most
+    }
+
+    fn wake_one(&mut self, tid: u32)
+        requires { Contains (tids self.old.tasks) tid }
+        ensures { self.new ≡ woken_one self.old tid }
+    {
+        self.guest.answer(tid, 0, &[]);
+        set_doing(&mut self.tasks, tid, Doing::Runs);
     }
 
     /// The call of this thread that waits for its answer.
@@ -124,12 +342,12 @@ impl Process {
         ensures call { request result.now ≡ threads.call self.now tid }
         ensures shaped { IsShaped (request result.now) }
     {
-        let _tid = tid;
-        &self.call
+        &self.calls[place(&self.tasks, tid)]
     }
 
     /// Where this thread is: a waiting one is at its call.
     pub fn pc(&self, tid: u32) -> u32
+        requires { Contains (threads.live self.now) tid }
         ensures { result ≡ threads.pc self.now tid }
     {
         self.guest.pc(tid)
@@ -137,20 +355,144 @@ impl Process {
 
     /// The thread gets the answer to its call.
     pub fn answer(&mut self, tid: u32, ret: i32, payload: &[u8])
-        requires { threads.pending self.old tid ≡ true }
+        requires pending { threads.pending self.old tid ≡ true }
+        requires new { IsNew (threads.live self.old) (made (threads.call self.old tid).nr ret) }
         ensures { self.new ≡ threads.answered self.old tid (record { ret = ret; payload = payload.now }) }
     {
-        if self.call.nr == 93 || self.call.nr == 94 {
-            self.end = Some((self.call.args[0] % 256) as u8);
+        let place = place(&self.tasks, tid);
+        let nr = self.calls[place].nr;
+        let status = (self.calls[place].args[0] % 256) as u8;
+        self.answer_as(tid, nr, status, ret, payload);
+    }
+
+    /// The answer to a call with this number, whose first argument ends in this byte.
+    fn answer_as(&mut self, tid: u32, nr: u32, status: u8, ret: i32, payload: &[u8])
+        requires lives { Contains (tids self.old.tasks) tid }
+        requires new { IsNew (tids self.old.tasks) (made nr ret) }
+        ensures { self.new ≡ answered_as self.old tid nr status (record { ret = ret; payload = payload.now }) }
+    {
+        match nr {
+            94 => self.end(status),
+            93 => self.exit(tid, status),
+            _ => {
+                self.start(tid, nr, ret);
+                self.resume(tid, ret, payload);
+            }
         }
+    }
+
+    /// The thread that an answer to clone makes, if it does.
+    fn start(&mut self, tid: u32, nr: u32, ret: i32)
+        requires lives { Contains (tids self.old.tasks) tid }
+        requires new { IsNew (tids self.old.tasks) (made nr ret) }
+        ensures { self.new ≡ with_child self.old tid (made nr ret) }
+    {
+        if let Some(child) = made(nr, ret) {
+            self.start_child(tid, child);
+        }
+    }
+
+    /// The whole process has ended.
+    fn end(&mut self, status: u8)
+        ensures { self.new ≡ over self.old status }
+    {
+        self.tasks.clear();
+        self.status = status;
+    }
+
+    /// The thread has ended.
+    fn exit(&mut self, tid: u32, status: u8)
+        requires { Contains (tids self.old.tasks) tid }
+        ensures { self.new ≡ left_by self.old tid status }
+    {
+        self.guest.end_thread(tid);
+        let place = place(&self.tasks, tid);
+        self.tasks.remove(place);
+        to_end(&mut self.calls, place);
+        self.status = status;
+    }
+
+    /// The thread has made another.
+    fn start_child(&mut self, tid: u32, child: u32)
+        requires lives { Contains (tids self.old.tasks) tid }
+        requires new { IsNew (tids self.old.tasks) (Some child) }
+        ensures { self.new ≡ with_child self.old tid (Some child) }
+    {
+        self.guest.clone_thread(tid, child);
+        self.tasks.push(Task {
+            tid: child,
+            doing: Doing::Runs,
+        });
+    }
+
+    fn resume(&mut self, tid: u32, ret: i32, payload: &[u8])
+        requires { Contains (tids self.old.tasks) tid }
+        ensures { self.new ≡ goes_on self.old tid (record { ret = ret; payload = payload.now }) }
+    {
         self.guest.answer(tid, ret, payload);
-        self.waiting = false;
+        set_doing(&mut self.tasks, tid, Doing::Runs);
     }
 
     /// The exit status, once it has exited.
     pub fn ended(&self) -> Option<u8>
         ensures { result ≡ threads.ended self.now }
     {
-        self.end
+        if self.tasks.is_empty() {
+            Some(self.status)
+        } else {
+            None
+        }
     }
+}
+
+// The thread that this answer makes.
+fn made(nr: u32, ret: i32) -> Option<u32>
+    ensures { result ≡ made nr ret }
+{
+    if nr == 220 && ret > 0 {
+        Some(ret.cast_unsigned())
+    } else {
+        None
+    }
+}
+
+// The call at this place goes to the end.
+fn to_end(calls: &mut [Call], place: usize)
+    requires { place < length calls.old }
+    ensures { (d : _) → calls.new ≡ remove calls.old place ++ slice_index_or calls.old place d ∷ [] }
+{
+    calls[place..].rotate_left(1);
+}
+
+// A call with room for what is handed in, for each thread.
+#[tactic(auto, using(crate::proofs::Leaving::room_more, crate::proofs::Leaving::length_more))]
+fn eight_calls(alloc: Global) -> Result<Vec<Call>, AllocError>
+    ensures eight { IfOk result (λ calls. length calls.items ≡ 8) }
+    ensures room { IfOk result (λ calls. HaveRoom calls.items) }
+{
+    let mut calls = Vec::new(alloc);
+    for _ in 0..MOST_THREADS {
+        let call = roomy_call(alloc)?;
+        calls.push(call)?;
+    }
+    Ok(calls)
+}
+
+fn roomy_call(alloc: Global) -> Result<Call, AllocError>
+    ensures { IfOk result (λ call. MOST_BYTES ≤ call.payload.room) }
+{
+    Ok(Call {
+        tid: FIRST,
+        nr: 0,
+        args: [0; 6],
+        bad: false,
+        payload: Bytes::make(alloc, MOST_BYTES)?,
+    })
+}
+
+// FUTEX_PRIVATE_FLAG, 128, makes no difference (futex(2)).
+fn operation(op: u32) -> u32
+    ensures { result ≡ operation op }
+{
+    if op % 256 >= 128 { op - 128 } else { op }
 }

@@ -1,9 +1,10 @@
-use Rattle.std.proofs.Common.{◌≡◌, None}
-use Rattle.nv_threads.specs.Threads.{advanced}
+use Rattle.std.proofs.Common.{◌≡◌}
+use Rattle.nv_threads.specs.Threads.{tids, advanced}
+use Rattle.nv_threads.specs.Going.{height}
 use Rattle.nv_threads.proofs.process.Process.advance.Given as goal
 
-abbrev pub invariant-loop-self : goal.invariant-loop-self
-invariant-loop-self l = (advanced l.self.left l.self ≡ advanced l.initial.self.left l.initial.self) × (l.self.call ≡ None)
+abbrev pub invariant-loop-came : goal.invariant-loop-came
+invariant-loop-came l = (advanced l.want l.self ≡ advanced l.want l.initial.self) × (tids l.self.tasks ≡ tids l.initial.self.tasks)
 
-abbrev pub decreases-loop-self : goal.decreases-loop-self
-decreases-loop-self l = l.self.left
+abbrev pub decreases-loop-came : goal.decreases-loop-came
+decreases-loop-came l = height l.want l.self
