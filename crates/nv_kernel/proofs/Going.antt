@@ -1,4 +1,4 @@
--- From call to call: how many were served, what is printed, and that no thread is made.
+-- From call to call: how many were served, and what is printed.
 use Rattle.std.proofs.Common.{◌≡◌, ◌∙◌, ap, refl, ℕ, ℤ, pos, negsuc, ◌+◌, Bool, true, false, cond, ◌==◌, ◌&&◌, not, nat_lt, List, [], ◌∷◌, ◌++◌, length, Option, Some, None, arith}
 use Rattle.std.specs.Prelude.{slice_index}
 use Rattle.std.proofs.lemmas.Bool.Decides.{nat_tests}
@@ -36,29 +36,9 @@ pub count_is : (s : State) (cs : List Request) → (state_after s cs).served ≡
 count_is s [] = omega arith
 count_is s (c ∷ cs) = let h = count_is (serve s c).state cs in let k = count_more s c in omega (arith, h, k)
 
-not_made : (nr : ℕ) (r : ℤ) → (nr == 220) ≡ false → made nr r ≡ None
+pub not_made : (nr : ℕ) (r : ℤ) → (nr == 220) ≡ false → made nr r ≡ None
 not_made nr (pos n) h = ap (λ b. cond {A = Option ℕ} (b && not (n == 0)) (Some n) None) h
 not_made nr (negsuc n) h = refl
-
-refused : (b : Bool) (s : State) (nr : ℕ) → made nr (cond b (replied s EFAULT []) (replied s ENOSYS [])).ret ≡ None
-refused true s nr = refl
-refused false s nr = refl
-
-is_clone : (nr : ℕ) → nr ≡ 220 → syscall_of nr ≡ Clone
-unfolding syscall_of
-is_clone nr h = ap syscall_of h
-
-clone_makes_none : (s : State) (c : Request) → c.nr ≡ 220 → made c.nr (serve s c).ret ≡ None
-unfolding serve
-clone_makes_none s c h = ap (λ k. made c.nr (cond c.bad (replied s EFAULT []) (answered k s c)).ret) (is_clone c.nr h) ∙ refused c.bad s c.nr
-
-none_by : (b : Bool) (s : State) (c : Request) → (c.nr == 220) ≡ b → made c.nr (serve s c).ret ≡ None
-none_by true s c h = clone_makes_none s c (grind (arith, nat_tests))
-none_by false s c h = not_made c.nr (serve s c).ret h
-
-pub no_child : (setup : Setup) (log : List Entry) (c : Request) → child_of (served (start_of_script setup) log c) ≡ None
-unfolding start_of_script
-no_child setup log c = none_by (c.nr == 220) (state_after (first_state setup) (calls_of log)) c refl
 
 -- the reply to a call, and the console, by the state behind the calls before
 pub reply_is : (setup : Setup) (log : List Entry) (c : Request) → (start_of_script setup).replies (calls_of log) c ≡ reply_of (serve (state_after (first_state setup) (calls_of log)) c)

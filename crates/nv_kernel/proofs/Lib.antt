@@ -4,4 +4,5 @@ pub mod Files
 pub mod Replies
 pub mod Few
 pub mod Going
+pub mod Crews
 pub mod Randoms

@@ -1,11 +1,11 @@
--- What a kernel of a process with one thread keeps from call to call.
+-- What a kernel keeps from call to call.
 use Rattle.std.specs.Prelude.{◌≡◌, ◌≢◌, ℕ, ◌<◌, ◌≤◌, List, length, Option, Some, None}
 use Rattle.nv_calls.specs.declared.calls.Event.{Event}
 use Rattle.nv_calls.specs.Calls.{Request, Entry}
 use Rattle.nv_calls.specs.Logs.{Start, IsLawful, IsLegal, live_after, ended_after}
 use Rattle.nv_fs.specs.Rooms.{Disk}
 use Rattle.nv_script.specs.Scripts.{Setup}
-use Rattle.nv_kernel.specs.Ends.{live_by}
+use Rattle.nv_kernel.specs.Crew.{Crew, IsCrew}
 use Rattle.nv_kernel.specs.Rooms.{CanAnswer, most_out}
 
 -- how many bytes an event has memory for: those that its call hands in, and those that it hands out
@@ -33,9 +33,10 @@ pub record CanServe (k : Kept) (c : Request) : Type 0 where
   pub event : HasRoom k.spare c
   pub answer : CanAnswer k.disk c
 
-pub record IsKept (start : Start) (log : List Entry) (len capacity : ℕ) (spare : Option Spare) (end : Option ℕ) : Type 0 where
+pub record IsKept (start : Start) (log : List Entry) (len capacity : ℕ) (spare : Option Spare) (end : Option ℕ) (crew : Crew) : Type 0 where
   pub legal : IsLegal start log
   pub lawful : IsLawful log
   pub room : spare ≢ None → len < capacity
-  pub live : live_after log ≡ live_by end
+  pub live : live_after log ≡ crew.live
+  pub crew_is : IsCrew crew
   pub end_is : end ≡ ended_after log

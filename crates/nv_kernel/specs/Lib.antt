@@ -3,3 +3,4 @@ pub mod Serving
 pub mod Rooms
 pub mod Kept
 pub mod ReplyLaws
+pub mod Crew

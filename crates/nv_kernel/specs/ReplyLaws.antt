@@ -27,7 +27,7 @@ good_by : (bad range : Bool) → range ≡ false → (not bad || range) ≡ true
 good_by false range h k = refl
 good_by true range h k = (let z : range ≡ true = k in cc)
 
-good : (c : Request) (k : Syscall) → IsShaped c → syscall_of c.nr ≡ k → has_range k ≡ false → c.bad ≡ false
+pub good : (c : Request) (k : Syscall) → IsShaped c → syscall_of c.nr ≡ k → has_range k ≡ false → c.bad ≡ false
 good c k h e r = good_by c.bad (has_range (syscall_of c.nr)) (ap has_range e ∙ r) (shaped-parts c h).bad
 
 id_is : (s : State) (c : Request) (k : Syscall) (ret : ℤ) → IsShaped c → syscall_of c.nr ≡ k → has_range k ≡ false → reply_by k false s c ≡ record { ret = ret; payload = [] } → reply_of (serve s c) ≡ record { ret = ret; payload = [] }

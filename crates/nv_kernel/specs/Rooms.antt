@@ -5,12 +5,18 @@ use Rattle.nv_calls.specs.declared.numbers.Syscall.TheVariants.{Getcwd, Openat, 
 use Rattle.nv_calls.specs.Calls.{Request}
 use Rattle.nv_calls.specs.Numbers.{syscall_of}
 use Rattle.nv_fs.specs.Rooms.{Disk, CanOpen, CanPipe, CanWrite}
+use Rattle.nv_kernel.specs.declared.crew.LiveThreads.{LiveThreads}
 use Rattle.nv_kernel.specs.declared.devices.Devices.{Devices}
+use Rattle.nv_kernel.specs.Crew.{Crew}
 use Rattle.nv_kernel.specs.Serving.{State, arg}
+
+-- the threads that live as the definitions see them
+abbrev pub crew_of : LiveThreads → Crew
+crew_of t = record { live = t.live.items; clones = t.clones }
 
 -- the devices as the definitions see them
 abbrev pub state_of : Devices → State
-state_of d = record { files = d.files.state; served = d.served; start = d.start; step = d.step; random = d.random }
+state_of d = record { files = d.files.state; crew = crew_of d.threads; served = d.served; start = d.start; step = d.step; random = d.random }
 
 abbrev pub can_answer : Syscall → Disk → Request → Type 0
 can_answer Openat d c = CanOpen d c.payload

@@ -2,7 +2,7 @@
 use Rattle.std.specs.Prelude.{ℕ, zero, suc, ℤ, pos, negsuc, ◌+◌, ◌*◌, ◌/◌, ◌%◌, ◌^◌, min, nat_lt, List, [], ◌∷◌, ◌++◌, map, Some, slice_index, if◌then◌else◌}
 use Rattle.std.specs.Int.{cast_signed, to_le_bytes, w32, w64}
 use Rattle.nv_calls.specs.declared.numbers.Syscall.{Syscall}
-use Rattle.nv_calls.specs.declared.numbers.Syscall.TheVariants.{Getcwd, Dup, Dup3, Ioctl, Unlinkat, Openat, Close, Pipe2, Llseek, Read, Write, Readv, Writev, Exit, ExitGroup, Uname, Getpid, Getppid, Getuid, Geteuid, Getgid, Getegid, Getrandom, ClockGettime64}
+use Rattle.nv_calls.specs.declared.numbers.Syscall.TheVariants.{Getcwd, Dup, Dup3, Ioctl, Unlinkat, Openat, Close, Pipe2, Llseek, Read, Write, Readv, Writev, Exit, ExitGroup, Uname, Getpid, Getppid, Getuid, Geteuid, Getgid, Getegid, Clone, Getrandom, ClockGettime64}
 use Rattle.nv_calls.specs.Calls.{Request, Response}
 use Rattle.nv_calls.specs.Constants.{names}
 use Rattle.nv_calls.specs.Logs.{Start}
@@ -17,12 +17,14 @@ use Rattle.nv_fs.specs.Opened.{open_at_of, unlink_at_of}
 use Rattle.nv_fs.specs.Seeks.{seek_of}
 use Rattle.nv_fs.specs.Stored.{write_of}
 use Rattle.nv_script.specs.Scripts.{Named, Setup}
+use Rattle.nv_kernel.specs.Crew.{Crew, first_crew, clone_of, exit_of, over}
 
 -- ---- what the kernel holds
 
--- The files; how many calls were served; the clock at the first call and how far each call moves it, in nanoseconds; the generator's state.
+-- The files; the threads that live; how many calls were served; the clock at the first call and how far each call moves it, in nanoseconds; the generator's state.
 pub record State : Type 0 where
   pub files : fs.State
+  pub crew : Crew
   pub served : ℕ
   pub start : ℕ
   pub step : ℕ
@@ -41,6 +43,10 @@ replied s ret payload = record { state = s; ret = ret; payload = payload }
 -- what the files answer and become
 abbrev pub of_files : State → fs.Answer → Served
 of_files s a = record { state = record s { files = a.state }; ret = a.ret; payload = a.payload }
+
+-- what the threads that live answer and become
+abbrev pub of_crew : State → ℤ × Crew → Served
+of_crew s a = record { state = record s { crew = a.1 }; ret = a.0; payload = [] }
 
 abbrev pub counted : Served → Served
 counted r = record r { state = record r.state { served = r.state.served + 1 } }
@@ -114,7 +120,7 @@ unless_many s count served = if nat_lt 1024 count then replied s EINVAL [] else 
 abbrev pub clock : State → ℕ → Served
 clock s id = if nat_lt 1 id then replied s EINVAL [] else replied s (pos 0) (time_bytes (time_of s))
 
--- Process 100 has parent 1, and 1000 is each id (getpid(2), getuid(2), getgid(2)). No call makes a thread yet.
+-- Process 100 has parent 1, and 1000 is each id (getpid(2), getuid(2), getgid(2)).
 abbrev pub answered : Syscall → State → Request → Served
 answered Getcwd s c = replied s (directory (arg c 1)).ret (directory (arg c 1)).payload
 answered Dup s c = of_files s (dup_of s.files (arg c 0))
@@ -129,8 +135,9 @@ answered Read s c = of_files s (read_of s.files (arg c 0) (arg c 2))
 answered Write s c = of_files s (write_of s.files (arg c 0) c.payload)
 answered Readv s c = unless_many s (arg c 2) (of_files s (read_of s.files (arg c 0) (arg c 3)))
 answered Writev s c = unless_many s (arg c 2) (of_files s (write_of s.files (arg c 0) c.payload))
-answered Exit s c = replied s (pos 0) []
-answered ExitGroup s c = replied s (pos 0) []
+answered Exit s c = of_crew s (pos 0, exit_of s.crew c.tid)
+answered ExitGroup s c = of_crew s (pos 0, over s.crew)
+answered Clone s c = of_crew s (clone_of s.crew (arg c 0))
 answered Uname s c = replied s (pos 0) names
 answered Getpid s c = replied s (pos 100) []
 answered Getppid s c = replied s (pos 1) []
@@ -171,6 +178,7 @@ inode_from file = record { name = Some file.0; bytes = file.1 }
 abbrev pub first_state : Setup → State
 first_state setup = record {
   files = begun.first_state setup.input (map inode_from setup.files);
+  crew = first_crew;
   served = 0;
   start = setup.seconds * second + setup.nanos;
   step = setup.step;

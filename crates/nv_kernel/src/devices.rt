@@ -1,15 +1,17 @@
 // What the kernel answers each call, and what each call leaves.
-ghost use Rattle.std.specs.Prelude.{◌≡◌, ◌≤◌, ◌<◌, ◌+◌, ◌*◌, ◌^◌, [], length, map, OnOk, IfOk};
+ghost use Rattle.std.specs.Prelude.{◌≡◌, ◌≤◌, ◌<◌, ◌+◌, ◌*◌, ◌^◌, pos, [], length, map, OnOk, IfOk};
 ghost use Rattle.nv_calls.specs.Calls.{request};
 ghost use Rattle.nv_script.specs.Views.{setup_of};
 ghost use Rattle.nv_fs.specs.Fetched.{read_of};
 ghost use Rattle.nv_fs.specs.Stored.{write_of};
 ghost use Rattle.nv_fs.specs.Rooms.{CanWrite};
-ghost use Rattle.nv_kernel.specs.Serving.{of_files, second, answered, serve, first_state, control, unless_many, unless_bad, clock, randomly};
+ghost use Rattle.nv_kernel.specs.Crew.{exit_of, over};
+ghost use Rattle.nv_kernel.specs.Serving.{of_files, of_crew, second, answered, serve, first_state, control, unless_many, unless_bad, clock, randomly};
 ghost use Rattle.nv_kernel.specs.Rooms.{state_of, can_answer, CanAnswer, most_out_by, most_out};
 
 use crate::clock::{start_of, time_bytes};
 use crate::constants::{PARENT, PROCESS, USER, directory, names, only};
+use crate::crew::LiveThreads;
 use crate::errors::{EFAULT, ENOSYS, ENOTTY};
 use crate::random::fill_random;
 use crate::spare::MOST_OUT;
@@ -26,6 +28,7 @@ const MOST_VECTORS: u32 = 1024;
 #[derive(Drop)]
 pub struct Devices {
     pub files: FileSystem,
+    pub threads: LiveThreads,
     /// How many calls were served.
     pub served: u32,
     /// The clock at the first call, in nanoseconds.
@@ -44,6 +47,7 @@ impl Devices {
         let files = FileSystem::make(alloc, &script.input, &script.files)?;
         Ok(Devices {
             files,
+            threads: LiveThreads::first(),
             served: 0,
             start: start_of(script.seconds, script.nanos),
             step: script.step,
@@ -110,11 +114,28 @@ impl Devices {
         n as i32
     }
 
+    // exit(2).
+    fn end(&mut self, tid: u32) -> i32
+        ensures { of_crew (state_of self.old) (pos 0, exit_of (state_of self.old).crew tid) ≡ record { state = state_of self.new; ret = result; payload = [] } }
+    {
+        self.threads.end(tid);
+        0
+    }
+
+    // exit_group(2).
+    fn end_all(&mut self) -> i32
+        ensures { of_crew (state_of self.old) (pos 0, over (state_of self.old).crew) ≡ record { state = state_of self.new; ret = result; payload = [] } }
+    {
+        self.threads.end_all();
+        0
+    }
+
     // What the call answers, where all that it reads and writes is the guest's.
     fn answer_as(&mut self, syscall: Syscall, call: &Call, out: &mut Bytes) -> i32
         requires ready { can_answer syscall self.old.files (request call.now) }
         requires room { 4096 ≤ out.old.room }
         requires empty { out.old.bytes ≡ [] }
+        requires clones { (state_of self.old).crew.clones < 131072 }
         ensures answer { answered syscall (state_of self.old) (request call.now) ≡ record { state = state_of self.new; ret = result; payload = out.new.bytes } }
         ensures room { out.new.room ≡ out.old.room }
         ensures few { length out.new.bytes ≤ most_out_by syscall (request call.now) }
@@ -135,20 +156,23 @@ impl Devices {
             Syscall::Write => self.files.write(args[0], bytes),
             Syscall::Readv => self.read_vectors(args[0], args[2], args[3], out),
             Syscall::Writev => self.write_vectors(args[0], args[2], bytes),
-            Syscall::Exit | Syscall::ExitGroup => 0,
+            Syscall::Exit => self.end(call.tid),
+            Syscall::ExitGroup => self.end_all(),
             Syscall::Uname => names(out),
             Syscall::Getpid => PROCESS,
             Syscall::Getppid => PARENT,
             Syscall::Getuid | Syscall::Geteuid | Syscall::Getgid | Syscall::Getegid => USER,
             Syscall::Getrandom => self.hand_out_random(args[1].min(MOST_OUT), out),
             Syscall::ClockGettime64 => self.clock(args[0], out),
-            Syscall::Clone | Syscall::Unknown => ENOSYS,
+            Syscall::Clone => self.threads.make(args[0]),
+            Syscall::Unknown => ENOSYS,
         }
     }
 
     fn answer_unless_bad(&mut self, call: &Call, out: &mut Bytes) -> i32
         requires ready { CanAnswer self.old.files (request call.now) }
         requires room { 4096 ≤ out.old.room }
+        requires clones { (state_of self.old).crew.clones < 131072 }
         ensures answer { unless_bad (state_of self.old) (request call.now) ≡ record { state = state_of self.new; ret = result; payload = out.new.bytes } }
         ensures room { out.new.room ≡ out.old.room }
         ensures few { length out.new.bytes ≤ most_out (request call.now) }
@@ -166,6 +190,7 @@ impl Devices {
         requires ready { CanAnswer self.old.files (request call.now) }
         requires few { self.old.served < 131072 }
         requires room { 4096 ≤ out.old.room }
+        requires clones { (state_of self.old).crew.clones < 131072 }
         ensures answer { serve (state_of self.old) (request call.now) ≡ record { state = state_of self.new; ret = result; payload = out.new.bytes } }
         ensures room { out.new.room ≡ out.old.room }
         ensures few { length out.new.bytes ≤ most_out (request call.now) }

@@ -1,5 +1,7 @@
 //! The errors of Linux (errno(3)) that the files don't answer, negative as results are.
 
+pub const EAGAIN: i32 = -11;
+
 pub const EFAULT: i32 = -14;
 
 pub const ENOTTY: i32 = -25;

@@ -11,7 +11,7 @@ use std::alloc::{AllocError, Global};
 use std::marker::Model;
 use std::snapshot::Snapshot;
 
-/// The kernel of a process with one thread, over what a script gives.
+/// The kernel of a process, over what a script gives.
 #[derive(Drop)]
 pub struct ScriptKernel {
     alloc: Global,
@@ -30,14 +30,14 @@ impl Model for ScriptKernel {
     ghost use Rattle.nv_calls.specs.Logs.{calls_of};
     ghost use Rattle.nv_script.specs.Views.{setup_of};
     ghost use Rattle.nv_kernel.specs.Kept.{Kept, IsKept, room_of};
-    ghost use Rattle.nv_kernel.specs.Rooms.{state_of};
+    ghost use Rattle.nv_kernel.specs.Rooms.{state_of, crew_of};
     ghost use Rattle.nv_kernel.specs.Serving.{start_of_script, first_state, state_after};
 
     ghost Value = { Kept };
 
     ghost view = { λ k. record { log = map entry k.log.items; setup = setup_of k.script.value; spare = option_map room_of k.spare; disk = k.devices.files } };
 
-    ghost invariant = { λ k. IsKept (start_of_script (setup_of k.script.value)) (map entry k.log.items) (vec_len k.log) (vec_capacity k.log) (option_map room_of k.spare) k.end
+    ghost invariant = { λ k. IsKept (start_of_script (setup_of k.script.value)) (map entry k.log.items) (vec_len k.log) (vec_capacity k.log) (option_map room_of k.spare) k.end (crew_of k.devices.threads)
         × (state_of k.devices ≡ state_after (first_state (setup_of k.script.value)) (calls_of (map entry k.log.items)))
         × (k.out.room ≡ 4096) };
 }
@@ -88,7 +88,7 @@ impl SyscallKernel for ScriptKernel {
         let stamp = self.log.as_slice().len() as u32;
         let ret = self.devices.answer(call, &mut self.out);
         fill(&mut event, call, stamp, ret, &self.out);
-        self.end = next_end(self.end, call);
+        self.end = next_end(self.devices.threads.is_over(), call);
         keep(&mut self.log, event);
     }
 

@@ -3,6 +3,7 @@
 
 mod clock;
 mod constants;
+mod crew;
 mod devices;
 mod errors;
 mod kernel;

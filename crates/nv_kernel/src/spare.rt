@@ -83,14 +83,14 @@ fn tell_ranges(tid: u32, nr: u32, args: [u32; 6])
     let _args = [args[0], args[1], args[2], args[3], args[4], args[5]];
 }
 
-/// The exit status after this call, of a process of one thread.
-pub fn next_end(end: Option<u8>, call: &Call) -> Option<u8>
-    ensures { result ≡ end_next (request call.now) end }
+/// The exit status after this call, where no thread lives.
+pub fn next_end(over: bool, call: &Call) -> Option<u8>
+    ensures { result ≡ end_next over (request call.now) }
 {
-    if call.nr == 94 || call.nr == 93 {
+    if over {
         Some((call.args[0] % 256) as u8)
     } else {
-        end
+        None
     }
 }
 

@@ -6,4 +6,4 @@ use Rattle.nv_kernel.proofs.devices.Devices.make.Goals as goal
 pub returns : goal.returns
 returns c =
     let files = c.in_ok-files.ensures ∙ ap (first_state c.args.script.now.input.items) (same_files c.args.script.now.files.items) in
-    λ i. record { files = files i; served = 0; start = c.start_of.ensures i; step = c.args.script.now.step; random = c.from.ensures i }
+    λ i. record { files = files i; crew = c.first.ensures i; served = 0; start = c.start_of.ensures i; step = c.args.script.now.step; random = c.from.ensures i }

@@ -1,17 +1,19 @@
-use Rattle.std.proofs.Common.{rules, ◌≡◌, ◌∙◌, sym, ap, subst, ℕ, ◌<◌, ◌++◌, ◌∷◌, [], List, Option, None, length, map, arith, to_z, of_z, w32}
+use Rattle.std.proofs.Common.{rules, ◌≡◌, ◌∙◌, sym, ap, subst, ℕ, ℤ, Bool, ◌<◌, ◌==◌, ◌++◌, ◌∷◌, [], List, Option, None, length, map, arith, to_z, of_z, w32}
 use Rattle.std.proofs.lemmas.List.{length-map}
 use Rattle.std.specs.Prelude.{Contains, option_map, vec_len, vec_capacity}
-use Rattle.nv_calls.specs.Calls.{Entry, Request, entry, request}
-use Rattle.nv_calls.specs.Logs.{InRange, served, live_after, calls_of, call_of}
+use Rattle.nv_calls.specs.Calls.{Entry, Request, Response, entry, request}
+use Rattle.nv_calls.specs.Logs.{InRange, IsNew, made, child_of, served, live_after, live_next, calls_of, call_of}
 use Rattle.nv_script.specs.Scripts.{Setup}
 use Rattle.nv_script.specs.Views.{setup_of}
 use Rattle.nv_kernel.specs.Ends.{end_next}
 use Rattle.nv_kernel.specs.Kept.{Kept, IsKept, room_of}
-use Rattle.nv_kernel.specs.Rooms.{state_of}
+use Rattle.nv_kernel.specs.Rooms.{state_of, crew_of}
 use Rattle.nv_kernel.specs.Serving.{State, Served, start_of_script, first_state, state_after, serve, reply_of}
 use Rattle.nv_kernel.proofs.Few.{together_few}
 use Rattle.nv_kernel.proofs.Keeping.{kept_served, map_more}
-use Rattle.nv_kernel.proofs.Going.{log_more, log_count, no_child, reply_is}
+use Rattle.nv_kernel.proofs.Going.{log_more, log_count, reply_is}
+use Rattle.nv_kernel.proofs.Crews.{CrewStep, crew_step, few_clones_after}
+use Rattle.nv_kernel.specs.Crew.{Crew, IsCrew}
 use Rattle.nv_kernel.proofs.kernel.ScriptKernelSyscallKernel.serve.Goals as goal
 
 pub answer-ret-requires-clause-few : goal.answer-ret-requires-clause-few
@@ -22,6 +24,15 @@ answer-ret-requires-clause-few c =
     let calls = log_count (setup_of c.self.inside.script.value) log in
     let all = length-map log call_of in
     omega (arith, past, count, calls, all, c.requires.room)
+
+pub answer-ret-requires-clause-clones : goal.answer-ret-requires-clause-clones
+answer-ret-requires-clause-clones c =
+    let log : List Entry = map entry c.self.inside.log.items in
+    let past = ap (λ (k : Kept). length k.log) c.self.view_is in
+    let count = ap (λ (s : State). s.crew.clones) c.self.invariant.1 in
+    let few = few_clones_after (first_state (setup_of c.self.inside.script.value)) (calls_of log) in
+    let all = length-map log call_of in
+    omega (arith, past, count, few, all, c.requires.room)
 
 pub fill-requires-clause-few : goal.fill-requires-clause-few
 fill-requires-clause-few c = omega (arith, together_few (request c.args.call.now) c.requires.shaped, c.answer-ret.ensures.few)
@@ -55,19 +66,45 @@ module _ (c : goal.After-keep) where
   all : map entry c.keep.new.log.items ≡ log ++ served (start_of_script setup) log call ∷ []
   all = ap (map entry) c.keep.ensures ∙ map_more entry c.self.inside.log.items c.fill.new.event ∙ ap (λ (z : Entry). log ++ z ∷ []) is
 
-  kept : IsKept (start_of_script setup) (log ++ served (start_of_script setup) log call ∷ []) (vec_len c.keep.new.log) (vec_capacity c.keep.new.log) None (end_next call c.self.inside.end)
+  abbrev crew' : Crew
+  crew' = (state_of c.answer-ret.new.self).crew
+
+  after : (serve here call).state.crew ≡ crew'
+  after = ap (λ (r : Served). r.state.crew) answer
+
+  -- the threads that live before and after the call
+  threads : (crew_of c.self.inside.devices.threads).live ≡ here.crew.live
+  threads = ap (λ (s : State). s.crew.live) c.self.invariant.1
+
+  step : CrewStep here call (serve here call)
+  step = crew_step here call (subst (λ (s : State). IsCrew s.crew) c.self.invariant.1 c.self.invariant.0.crew_is) c.requires.shaped
+
+  ret : (served (start_of_script setup) log call).reply.ret ≡ (serve here call).ret
+  ret = ap (λ (r : Response). r.ret) (reply_is setup log call)
+
+  new : IsNew (crew_of c.self.inside.devices.threads).live (child_of (served (start_of_script setup) log call))
+  new = subst (λ (z : List ℕ). IsNew z (child_of (served (start_of_script setup) log call))) (sym threads) (subst (λ (r : ℤ). IsNew here.crew.live (made call.nr r)) (sym ret) step.new)
+
+  next : crew'.live ≡ live_next (crew_of c.self.inside.devices.threads).live (served (start_of_script setup) log call)
+  next = ap (λ (z : Crew). z.live) (sym after) ∙ step.live ∙ (λ i. live_next (sym threads i) record { stamp = length log; call = call; reply = record { ret = sym ret i; payload = ((start_of_script setup).replies (calls_of log) call).payload } })
+
+  kept : IsKept (start_of_script setup) (log ++ served (start_of_script setup) log call ∷ []) (vec_len c.keep.new.log) (vec_capacity c.keep.new.log) None (end_next (length crew'.live == 0) call) crew'
   kept =
       let past : log ≡ c.args.self.now.log = ap (λ (k : Kept). k.log) c.self.view_is in
       let few : length log < 131072 = subst (λ (z : List Entry). length z < 131072) (sym past) c.requires.room in
       let lives = subst (λ (z : List Entry). Contains (live_after z) c.args.call.now.tid) (sym past) c.requires.lives in
       kept_served (start_of_script setup) log call (vec_len c.self.inside.log) (vec_capacity c.self.inside.log) _ _ _ c.self.inside.end
-      c.self.invariant.0 lives few (subst InRange is c.fill.ensures.range) (no_child setup log call)
+      (crew_of c.self.inside.devices.threads) crew' c.self.invariant.0 lives few (subst InRange is c.fill.ensures.range) new next (subst IsCrew after step.is)
+
+  -- the status, where no thread lives
+  end : end_next (length crew'.live == 0) call ≡ c.next_end-self-inside.result
+  end = ap (λ (b : Bool). end_next b call) (sym c.is_over.ensures) ∙ sym c.next_end-self-inside.ensures
 
 pub invariant_of-self : goal.invariant_of-self
 invariant_of-self c = (
-  subst (λ (z : List Entry). IsKept (start_of_script (setup c)) z (vec_len c.keep.new.log) (vec_capacity c.keep.new.log) (option_map room_of c.take.new.self) c.next_end-self-inside.result) (sym (all c))
-      (subst (λ (z : Option ℕ). IsKept (start_of_script (setup c)) (log c ++ served (start_of_script (setup c)) (log c) (call c) ∷ []) (vec_len c.keep.new.log) (vec_capacity c.keep.new.log) (option_map room_of c.take.new.self) z) (sym c.next_end-self-inside.ensures)
-      (subst (λ (z : _). IsKept (start_of_script (setup c)) (log c ++ served (start_of_script (setup c)) (log c) (call c) ∷ []) (vec_len c.keep.new.log) (vec_capacity c.keep.new.log) (option_map room_of z) (end_next (call c) c.self.inside.end)) (sym c.take.ensures.after) (kept c))),
+  subst (λ (z : List Entry). IsKept (start_of_script (setup c)) z (vec_len c.keep.new.log) (vec_capacity c.keep.new.log) (option_map room_of c.take.new.self) c.next_end-self-inside.result (crew' c)) (sym (all c))
+      (subst (λ (z : Option ℕ). IsKept (start_of_script (setup c)) (log c ++ served (start_of_script (setup c)) (log c) (call c) ∷ []) (vec_len c.keep.new.log) (vec_capacity c.keep.new.log) (option_map room_of c.take.new.self) z (crew' c)) (end c)
+      (subst (λ (z : _). IsKept (start_of_script (setup c)) (log c ++ served (start_of_script (setup c)) (log c) (call c) ∷ []) (vec_len c.keep.new.log) (vec_capacity c.keep.new.log) (option_map room_of z) (end_next (length (crew' c).live == 0) (call c)) (crew' c)) (sym c.take.ensures.after) (kept c))),
   ap (λ (r : Served). r.state) (sym (answer c)) ∙ sym (log_more (setup c) (log c) (served (start_of_script (setup c)) (log c) (call c)))
       ∙ ap (λ (z : List Entry). state_after (first_state (setup c)) (calls_of z)) (sym (all c)),
   c.answer-ret.ensures.room ∙ c.self.invariant.2,

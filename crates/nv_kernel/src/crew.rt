@@ -1,0 +1,92 @@
+// The threads that live, as the kernel counts them.
+ghost use Rattle.std.specs.Prelude.{◌≡◌, ◌<◌, ◌≤◌, length, filter, ◌==◌, not};
+ghost use Rattle.nv_kernel.specs.Crew.{may_clone, clone_of, exit_of, over, first_crew};
+ghost use Rattle.nv_kernel.specs.Rooms.{crew_of};
+
+use crate::errors::EAGAIN;
+use arrayvec::ArrayVec;
+use nv_fs::errors::EINVAL;
+
+/// How many threads live at most.
+pub const MOST_THREADS: usize = 8;
+
+/// The number of the first thread.
+const FIRST: u32 = 100;
+
+/// The numbers of the threads that live, in the order in which they came, and how many calls to clone succeeded.
+#[derive(Drop)]
+pub struct LiveThreads {
+    pub live: ArrayVec<u32, MOST_THREADS>,
+    pub clones: u32,
+}
+
+// The flags that a call to clone may have (clone(2)).
+fn may_clone(flags: u32) -> bool
+    ensures { result ≡ may_clone flags }
+{
+    flags == 0x10F00 || flags == 0x50F00 || flags == 0x90F00 || flags == 0xD0F00
+}
+
+// The threads without one of them.
+fn others(live: &[u32], tid: u32) -> ArrayVec<u32, MOST_THREADS>
+    requires { length live.now ≤ 8 }
+    ensures { result.items ≡ filter (λ t. not (t == tid)) live.now }
+{
+    let mut rest = ArrayVec::new();
+    for i in 0..live.len() {
+        if live[i] == tid {
+            continue;
+        }
+        rest.push(live[i]);
+    }
+    rest
+}
+
+impl LiveThreads {
+    /// Thread 100 alone.
+    pub fn first() -> LiveThreads
+        ensures { crew_of result ≡ first_crew }
+    {
+        let mut live = ArrayVec::new();
+        live.push(FIRST);
+        LiveThreads { live, clones: 0 }
+    }
+
+    /// Whether no thread lives.
+    pub fn is_over(&self) -> bool
+        ensures { result ≡ (length (crew_of self.now).live == 0) }
+    {
+        self.live.is_empty()
+    }
+
+    /// clone(2) with these flags: the number of the new thread.
+    pub fn make(&mut self, flags: u32) -> i32
+        requires { (crew_of self.old).clones < 131072 }
+        ensures { clone_of (crew_of self.old) flags ≡ (result, crew_of self.new) }
+    {
+        if !may_clone(flags) {
+            return EINVAL;
+        }
+        if self.live.is_full() {
+            return EAGAIN;
+        }
+        self.clones += 1;
+        let child = FIRST + self.clones;
+        self.live.push(child);
+        child as i32
+    }
+
+    /// exit(2) of this thread.
+    pub fn end(&mut self, tid: u32)
+        ensures { crew_of self.new ≡ exit_of (crew_of self.old) tid }
+    {
+        self.live = others(&self.live, tid);
+    }
+
+    /// exit_group(2).
+    pub fn end_all(&mut self)
+        ensures { crew_of self.new ≡ over (crew_of self.old) }
+    {
+        self.live.clear();
+    }
+}
