@@ -1,6 +1,6 @@
 // How the files of a run are read and loaded.
 ghost use Rattle.std.specs.Prelude.{◌≡◌, ◌≤◌, ◌<◌, List, ℕ, Some, Ok, IsTrue, IfOk, IfErr, length, slice_get};
-ghost use Rattle.nv_guest.specs.Guest.{machine_of};
+ghost use Rattle.nv_guest.specs.Guest.{machine_of, one_thread};
 ghost use Rattle.nv_script.specs.Scripts.{script_of, is_script};
 ghost use Rattle.nv_script.specs.Views.{setup_of};
 ghost use Rattle.nv_threads.specs.Threads.{threads};
@@ -75,6 +75,7 @@ fn load(
 ) -> Result<Guest, Refusal>
     requires { length bytes.now ≤ MOST_BYTES }
     ensures guest { IfOk result (λ guest. version_of (limits_view limits) (setup_of script.now) bytes.now ≡ Loads (machine_of guest)) }
+    ensures alone { IfOk result (λ guest. guest ≡ one_thread (machine_of guest)) }
     ensures refused { IfErr result (λ refusal. IsVersionRefusal (limits_view limits) (setup_of script.now) refusal place bytes.now) }
 {
     let program = match nv_elf::read(alloc, bytes) {
@@ -91,6 +92,7 @@ fn load(
 
 // The version with this number, of a guest that hasn't run.
 fn version(alloc: Global, limits: Limits, index: u32, guest: Guest) -> Result<Version, Refusal>
+    requires alone { guest ≡ one_thread (machine_of guest) }
     ensures fresh { IfOk result (IsFresh threads index) }
     ensures process { IfOk result (λ version. version.at.process ≡ begun (limits_view limits) (machine_of guest)) }
     ensures refused { IfErr result (λ refusal. refusal ≡ Refusal.Memory) }

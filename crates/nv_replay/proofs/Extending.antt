@@ -38,7 +38,7 @@ module _ {P : Type 0} (g : Behaviour P) (laws : IsProcess g) (judge : Judge) (lo
   unfolding next
   next_same s = same_next s (slice_get log s.seen) s.fate refl
 
-  extend_by : (n : ℕ) (s t : Follower P) → stage (next g judge log) n s ≡ t → Reaches (next g judge (log ++ more)) s t
+  pub extend_by : (n : ℕ) (s t : Follower P) → stage (next g judge log) n s ≡ t → Reaches (next g judge (log ++ more)) s t
   extend_by zero s t h = subst (λ (x : Follower P). Reaches (next g judge (log ++ more)) s x) (sym (stage_zero (next g judge log) s) ∙ h)
       (reach_here (next g judge (log ++ more)) s)
   extend_by (suc n) s t h = elim (next_same s) [

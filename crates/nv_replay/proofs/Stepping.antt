@@ -19,7 +19,7 @@ use Rattle.nv_replay.specs.Follow.{Follower, Judge, decided, met, judged, consum
 use Rattle.nv_replay.proofs.Falling.{within}
 
 -- calls that move no thread
-made_none : (nr : ℕ) (ret : ℤ) → (nr == 220) ≡ false → made nr ret ≡ None
+pub made_none : (nr : ℕ) (ret : ℤ) → (nr == 220) ≡ false → made nr ret ≡ None
 made_none nr (pos n) h = rw h refl
 made_none nr ret h = refl
 
@@ -113,13 +113,13 @@ module _ {P : Type 0} (g : Behaviour P) (laws : IsProcess g) (judge : Judge) whe
   given_live : (p : P) (t n : ℕ) (r : Response) → g.pending p t ≡ true → Contains (g.live p) t → is_of_threads (g.call p t).nr ≡ false
       → g.live (g.answered p t r) ≡ g.live p
   given_live p t n r h k q =
-      laws.live_answer p t n r h k (quiet_child (event_of g p t r n) q) ∙ quiet_live (g.live p) (event_of g p t r n) q
+      laws.live_answer p t n r h ∙ quiet_live (g.live p) (event_of g p t r n) q
 
-  pub same_live : (p : P) (t : ℕ) (e : Entry) → g.pending p t ≡ true → Contains (g.live p) t → g.call p t ≡ e.call → child_of e ≡ None
+  pub same_live : (p : P) (t : ℕ) (e : Entry) → g.pending p t ≡ true → Contains (g.live p) t → g.call p t ≡ e.call
       → g.live (g.answered p t e.reply) ≡ live_next (g.live p) e
-  same_live p t e h k c n =
+  same_live p t e h k c =
       let ev : event_of g p t e.reply e.stamp ≡ e = λ i. record { stamp = e.stamp; call = c i; reply = e.reply } in
-      laws.live_answer p t e.stamp e.reply h k (ap child_of ev ∙ n) ∙ ap (live_next (g.live p)) ev
+      laws.live_answer p t e.stamp e.reply h ∙ ap (live_next (g.live p)) ev
 
   judged_by : (log : List Entry) (e : Entry) (s : Follower P) (p : P) (t : ℕ) (f : Fate) (o : Permit) → slice_get log s.seen ≡ Some e
       → IsInStep g log s → s.fate ≡ None → g.live p ≡ g.live s.process → g.pending p t ≡ true → Contains (g.live p) t
@@ -153,37 +153,37 @@ module _ {P : Type 0} (g : Behaviour P) (laws : IsProcess g) (judge : Judge) whe
       (give_quiet (g.call p t) e v) x
 
   consumed_in_step : (log : List Entry) (e : Entry) (s : Follower P) (p : P) (t : ℕ) → slice_get log s.seen ≡ Some e → IsInStep g log s
-      → s.fate ≡ None → g.live p ≡ g.live s.process → g.pending p t ≡ true → Contains (g.live p) t → g.call p t ≡ e.call → child_of e ≡ None
+      → s.fate ≡ None → g.live p ≡ g.live s.process → g.pending p t ≡ true → Contains (g.live p) t → g.call p t ≡ e.call
       → IsInStep g log (consumed g s (g.answered p t e.reply))
-  consumed_in_step log e s p t h i n l q c k m = record {
+  consumed_in_step log e s p t h i n l q c k = record {
     within = omega (arith, within log s.seen e h);
-    live = λ u. same_live p t e q c k m ∙ (ap (λ x. live_next x e) (l ∙ i.live n) ∙ sym (live_more (100 ∷ []) log s.seen e h));
+    live = λ u. same_live p t e q c k ∙ (ap (λ x. live_next x e) (l ∙ i.live n) ∙ sym (live_more (100 ∷ []) log s.seen e h));
     on = λ u. none_back (g.ended (g.answered p t e.reply)) u;
     exited = λ u. let x = exited_some (g.ended (g.answered p t e.reply)) u in sym
-        (same_live p t e q c k m ∙ (ap (λ x. live_next x e) (l ∙ i.live n) ∙ sym (live_more (100 ∷ []) log s.seen e h))) ∙ laws.lives
+        (same_live p t e q c k ∙ (ap (λ x. live_next x e) (l ∙ i.live n) ∙ sym (live_more (100 ∷ []) log s.seen e h))) ∙ laws.lives
         (g.answered p t e.reply) x.0 x.1;
   }
 
   either_in_step : (log : List Entry) (e : Entry) (s : Follower P) (p : P) (u : ℕ) (b : Bool) → is_same (g.call p u) e.call ≡ b
       → slice_get log s.seen ≡ Some e → IsInStep g log s → s.fate ≡ None → g.live p ≡ g.live s.process → g.pending p u ≡ true
-      → Contains (g.live p) u → child_of e ≡ None → IsInStep g log
+      → Contains (g.live p) u → IsInStep g log
       (cond b (consumed g s (g.answered p u e.reply)) (judged g s p u (refusal_by judge e (g.call p u)) (permit_by judge e (g.call p u))))
-  either_in_step log e s p u true b h i n l q c ch = consumed_in_step log e s p u h i n l q c (same_is (g.call p u) e.call b) ch
-  either_in_step log e s p u false b h i n l q c ch = judged_in_step log e s p u (refusal_by judge e (g.call p u))
+  either_in_step log e s p u true b h i n l q c = consumed_in_step log e s p u h i n l q c (same_is (g.call p u) e.call b)
+  either_in_step log e s p u false b h i n l q c = judged_in_step log e s p u (refusal_by judge e (g.call p u))
       (verdict_of (judge (g.call p u) e)) h i n l q c refl
 
   met_in_step : (log : List Entry) (e : Entry) (s : Follower P) (came : Came) → came ≡ g.came s.process (Only e.call.tid)
-      → slice_get log s.seen ≡ Some e → IsInStep g log s → s.fate ≡ None → Contains (g.live s.process) e.call.tid → child_of e ≡ None
+      → slice_get log s.seen ≡ Some e → IsInStep g log s → s.fate ≡ None → Contains (g.live s.process) e.call.tid
       → IsInStep g log (met g judge e s (g.after s.process (Only e.call.tid)) came)
   unfolding met
-  met_in_step log e s (Fault kind tid pc) k h i n here ch = record { within = i.within; live = λ m. cc; on = λ m. cc; exited = λ m. cc }
-  met_in_step log e s (Asked u) k h i n here ch =
+  met_in_step log e s (Fault kind tid pc) k h i n here = record { within = i.within; live = λ m. cc; on = λ m. cc; exited = λ m. cc }
+  met_in_step log e s (Asked u) k h i n here =
       let p : P = g.after s.process (Only e.call.tid) in
       let l : g.live p ≡ g.live s.process = laws.live_after s.process (Only e.call.tid) in
       let q : g.pending p u ≡ true = laws.asked s.process (Only e.call.tid) u (sym k) in
       let ue : u ≡ e.call.tid = laws.only s.process e.call.tid u here (sym k) in
       let c : Contains (g.live p) u = rw (l, ue) here in
-      either_in_step log e s p u (is_same (g.call p u) e.call) refl h i n l q c ch
+      either_in_step log e s p u (is_same (g.call p u) e.call) refl h i n l q c
 
   pub decided_in_step : (log : List Entry) (e : Entry) (s : Follower P) → IsLawful log → slice_get log s.seen ≡ Some e → IsInStep g log s
       → s.fate ≡ None → IsInStep g log (decided g judge e s)
@@ -191,4 +191,4 @@ module _ {P : Type 0} (g : Behaviour P) (laws : IsProcess g) (judge : Judge) whe
   decided_in_step log e s law h i n =
       let may = law s.seen e h in
       let here : Contains (g.live s.process) e.call.tid = subst (λ (x : List ℕ). Contains x e.call.tid) (sym (i.live n)) may.lives in
-      met_in_step log e s (g.came s.process (Only e.call.tid)) refl h i n here may.child
+      met_in_step log e s (g.came s.process (Only e.call.tid)) refl h i n here

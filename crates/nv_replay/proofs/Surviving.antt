@@ -50,6 +50,7 @@ module _ {P : Type 0} (g : Behaviour P) (laws : IsProcess g) (judge : Judge) (re
     pub lawful : IsLawful log
     pub legal : IsLegal replies log
     pub short : length log ≤ most
+    pub childless : (i : ℕ) (e : Entry) → slice_get log i ≡ Some e → child_of e ≡ None
 
   -- what the follower would have come to as a leader
   abbrev pub copied : Follower P → Leader P
@@ -215,7 +216,7 @@ module _ {P : Type 0} (g : Behaviour P) (laws : IsProcess g) (judge : Judge) (re
         (sym (stage_one (next g judge log) n s) ∙ h) in
         let w' = true_before n (decided g judge e s) t h' w in
         let go = copies n (decided g judge e s) t h' w pl (decided_in_step g laws judge log e s pl.lawful k i none)
-        (decided_alone s e al (pl.lawful s.seen e k).child w') in
+        (decided_alone s e al (pl.childless s.seen e k) w') in
         reach_first (next_call g replies most None) (copied s) (copied t)
         (subst (λ (x : Leader P). Reaches (next_call g replies most None) x (copied t)) (sym (decided_copied s e pl k i none al w')) go)
   ]

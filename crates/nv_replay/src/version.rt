@@ -1,6 +1,7 @@
 // A version of the guest, as follower and as leader.
 ghost use Rattle.std.specs.Prelude.{◌≡◌, ◌≢◌, [], ◌∷◌, ◌+◌, ◌<◌, Some, None, IfOk, IfSome, Contains, true};
 ghost use Rattle.nv_calls.specs.Calls.{request, entry};
+ghost use Rattle.nv_calls.specs.Logs.{IsNew, child_of};
 ghost use Rattle.nv_calls.specs.Shapes.{IsShaped};
 ghost use Rattle.nv_threads.specs.Behaviours.{IsStarted};
 ghost use Rattle.nv_threads.specs.Threads.{threads};
@@ -81,12 +82,13 @@ impl Version {
     }
 
     /// One decision on the next event of the log, without a rule file.
-    #[tactic(auto, using(nv_threads::specs::ThreadLaws::threads_keeps, nv_threads::specs::ThreadLaws::threads_asked, nv_threads::specs::ThreadLaws::threads_live, nv_threads::specs::ThreadLaws::threads_only, crate::proofs::Following::decided_fault, crate::proofs::Following::decided_asked))]
+    #[tactic(auto, using(nv_threads::specs::ThreadLaws::threads_keeps, nv_threads::specs::ThreadLaws::threads_asked, nv_threads::specs::ThreadLaws::threads_live, nv_threads::specs::ThreadLaws::threads_only, nv_threads::specs::ThreadLaws::threads_on, crate::proofs::Following::decided_fault, crate::proofs::Following::decided_asked))]
     pub fn follow(&mut self, event: &Event) -> Followed
         requires following { IsFollowing self.old }
         requires stamp { event.now.stamp ≡ self.old.at.seen }
         requires below { self.old.at.seen < 131072 }
         requires lives { Contains (threads.live self.old.at.process) event.now.call.tid }
+        requires new { IsNew (threads.live self.old.at.process) (child_of (entry event.now)) }
         ensures new { self.new ≡ record self.old { at = decided threads no_rules (entry event.now) self.old.at } }
         ensures told { Told (verdict_on threads no_rules (entry event.now) self.old.at) result self.old.at self.new.at }
     {
@@ -99,6 +101,7 @@ impl Version {
     fn meet(&mut self, tid: u32, event: &Event) -> Followed
         requires following { IsFollowing self.old }
         requires pending { threads.pending self.old.at.process tid ≡ true }
+        requires new { IsNew (threads.live self.old.at.process) (child_of (entry event.now)) }
         requires below { self.old.at.seen < 131072 }
         ensures new { self.new ≡ record self.old { at = met threads no_rules (entry event.now) self.old.at self.old.at.process (Came.Asked tid) } }
         ensures told { Told (Verdict.Refuse 0) result self.old.at self.new.at }
@@ -118,6 +121,8 @@ impl Version {
 
     fn consume(&mut self, tid: u32, event: &Event) -> Followed
         requires pending { threads.pending self.old.at.process tid ≡ true }
+        requires same { (threads.call self.old.at.process tid).nr ≡ event.now.call.nr }
+        requires new { IsNew (threads.live self.old.at.process) (child_of (entry event.now)) }
         requires below { self.old.at.seen < 131072 }
         ensures new { self.new ≡ record self.old { at = consumed threads self.old.at (threads.answered self.old.at.process tid (entry event.now).reply) } }
         ensures told { result ≡ Followed.Matched }
@@ -148,7 +153,8 @@ impl Version {
     /// Comes to the leader's next call, or ends.
     #[tactic(auto, using(nv_threads::specs::ThreadLaws::threads_keeps, nv_threads::specs::ThreadLaws::threads_asked, crate::proofs::Leading::asking_fault, crate::proofs::Leading::asking_asked))]
     pub fn lead(&mut self, most: u32) -> Led
-        requires { IsLeading self.old }
+        requires leading { IsLeading self.old }
+        requires on { threads.ended self.old.at.process ≡ None }
         ensures new { self.new ≡ asking_next threads most self.old }
         ensures told { LedTo result self.new }
         ensures pending { IfSome self.new.asked (λ t. threads.pending self.new.at.process t ≡ true) }
@@ -167,7 +173,7 @@ impl Version {
         Led::Dropped(fate)
     }
 
-    #[tactic(auto, unfolding(crate::specs::Versions::asking_by))]
+    #[tactic(auto, using(nv_threads::specs::ThreadLaws::threads_here), unfolding(crate::specs::Versions::asking_by))]
     fn ask(&mut self, tid: u32, most: u32) -> Led
         requires leading { IsLeading self.old }
         requires pending { threads.pending self.old.at.process tid ≡ true }
@@ -200,6 +206,8 @@ impl Version {
     pub fn answered(&mut self, event: &Event)
         requires asked { self.old.asked ≡ Some event.now.call.tid }
         requires pending { threads.pending self.old.at.process event.now.call.tid ≡ true }
+        requires same { (threads.call self.old.at.process event.now.call.tid).nr ≡ event.now.call.nr }
+        requires new { IsNew (threads.live self.old.at.process) (child_of (entry event.now)) }
         requires below { self.old.at.seen < 131072 }
         ensures { self.new ≡ answered_by threads (entry event.now) self.old }
     {

@@ -50,7 +50,7 @@ module _ {P : Type 0} (g : Behaviour P) (laws : IsProcess g) (judges : ℕ → J
   fated_follow judge log s h = stage_rests (next g judge log) _ s (rests g laws judge log s (inr (off_some s.fate h)))
 
   -- a version that was passed over has a fate in the end
-  alive_not : (log : List Entry) (s : Follower P) → IsInStep g log s → live_after log ≡ [] → s.seen ≡ length log → s.fate ≡ None → ⊥
+  pub alive_not : (log : List Entry) (s : Follower P) → IsInStep g log s → live_after log ≡ [] → s.seen ≡ length log → s.fate ≡ None → ⊥
   alive_not log s i d l n =
       let all : take s.seen log ≡ log = ap (λ (m : ℕ). take m log) l ∙ take_all log in
       laws.ended s.process (i.live n ∙ (ap live_after all ∙ d)) (i.on n)

@@ -1,9 +1,10 @@
 -- The survivor's clause, over the definitions.
-use Rattle.std.proofs.Common.{◌≡◌, ◌∙◌, sym, ap, subst, refl, ℕ, zero, suc, ◌+◌, ◌<◌, ◌≤◌, inl, inr, Bool, true, false, List, [], ◌∷◌, ◌++◌, length, take, Option, Some, None, arith}
+use Rattle.std.proofs.Common.{◌≡◌, ◌∙◌, sym, ap, subst, refl, ℕ, zero, suc, ◌+◌, ◌<◌, ◌≤◌, inl, inr, Bool, true, false, ◌==◌, List, [], ◌∷◌, ◌++◌, length, take, Option, Some, None, arith}
 use Rattle.std.specs.Prelude.{slice_get, Contains, nat_le}
 use Rattle.std.proofs.lemmas.Bool.{cases_lt}
+use Rattle.std.proofs.lemmas.Bool.Decides.{nat_tests}
 use Rattle.nv_calls.specs.Calls.{Entry}
-use Rattle.nv_calls.specs.Logs.{Start, IsLawful, IsLegal, MayFollow, live_after}
+use Rattle.nv_calls.specs.Logs.{Start, IsLawful, IsLegal, MayFollow, live_after, child_of}
 use Rattle.nv_threads.specs.Behaviours.{Behaviour, IsProcess, IsStarted}
 use Rattle.nv_threads.specs.declared.turns.Want.TheVariants.{Any}
 use Rattle.nv_threads.specs.declared.turns.Came.{Came}
@@ -17,13 +18,21 @@ use Rattle.nv_replay.specs.Lead.{Leader, lead, next_call, unless_ended, led, is_
 use Rattle.nv_replay.specs.Sequence.{Account, leads, is_on, turn, sequence_from, leader_line, follower_line}
 use Rattle.nv_replay.proofs.Settled.{Reaches, reach_here, reach_first, stage_zero, stage_one, stage_rests}
 use Rattle.nv_replay.proofs.Extending.{follow_reached, follow_rests, get_front, extended, lead_grows, take_front_of, reach_all}
-use Rattle.nv_replay.proofs.Stepping.{decided_in_step}
+use Rattle.nv_replay.proofs.Stepping.{decided_in_step, made_none}
+use Rattle.nv_sequence.specs.Alone.{HasNoClone}
 use Rattle.nv_replay.proofs.Surviving.{IsTrueTo, IsPlainLog, copied, copies, cases, is_well}
 use Rattle.nv_replay.proofs.Falling.{size, decided_falls, within}
 use Rattle.nv_replay.proofs.Wholes.{next_is}
 use Rattle.nv_sequence.proofs.Wholly.{lead_is}
 use Rattle.nv_sequence.proofs.Turning.{take_all}
 use Rattle.nv_sequence.proofs.Assembling.{on_none}
+
+no_child : (e : Entry) → (e.call.nr ≡ 220 → ⊥) → child_of e ≡ None
+no_child e n = by (e.call.nr == 220) refl
+  where
+    by : (b : Bool) → (e.call.nr == 220) ≡ b → child_of e ≡ None
+    by true h = absurd (n (grind (arith, nat_tests)))
+    by false h = made_none e.call.nr e.reply.ret h
 
 exited_no_memory : (f : Option Fate) → is_exited f ≡ true → is_memory f ≡ false
 exited_no_memory None h = cc
@@ -109,7 +118,7 @@ module _ {P : Type 0} (g : Behaviour P) (laws : IsProcess g) (replies : Start) (
   fresh_in_step log p s = record { within = omega arith; live = λ z. s.live; on = λ z. s.on; exited = λ z. cc }
 
 module _ {P : Type 0} (g : Behaviour P) (laws : IsProcess g) (judge : Judge) (replies : Start) (most : ℕ) (log : List Entry) where
-  stage_in_step : (n : ℕ) (s : Follower P) → IsLawful log → IsInStep g log s → IsInStep g log (stage (next g judge log) n s)
+  pub stage_in_step : (n : ℕ) (s : Follower P) → IsLawful log → IsInStep g log s → IsInStep g log (stage (next g judge log) n s)
   stage_in_step zero s l i = rw (stage_zero (next g judge log) s) i
   stage_in_step (suc n) s l i = rw (stage_one (next g judge log) n s) (elim (cases g laws judge replies most log s) [
     | inl e ↦ rw e (stage_in_step n s l i)
@@ -207,20 +216,20 @@ module _ {P : Type 0} (g : Behaviour P) (laws : IsProcess g) (judges : ℕ → J
   -- what the clause says of one version of a run whose account is a
   abbrev Survives : Account → P → ℕ → Type 0
   Survives a p k = (line : Standing) → slice_get a.lines k ≡ Some line → is_exited line.fate ≡ true → line.rewrites ≡ 0 → IsLawful a.log
-      → IsLegal replies a.log → length a.log ≤ most → (lead g replies most None (record { process = p; log = []; fate = None })).log ≡ a.log
+      → IsLegal replies a.log → length a.log ≤ most → HasNoClone a.log → (lead g replies most None (record { process = p; log = []; fate = None })).log ≡ a.log
 
   head : (p : P) (ps : List P) (i : ℕ) (log : List Entry) (over b : Bool) → leads over (follow g (judges i) log (fresh p)) ≡ b → IsStarted g p
       → Survives (turn g judges replies most cuts i p (λ l o. sequence_from g judges replies most cuts ps (i + 1) l o) log over
       (follow g (judges i) log (fresh p)) b) p 0
-  head p ps i log over false e so line h x w law legal short =
+  head p ps i log over false e so line h x w law legal short nc =
       let L : List Entry = (sequence_from g judges replies most cuts ps (i + 1) log over).log in
       let F : Follower P = follow g (judges i) L (fresh p) in
       let at : follower_line F ≡ line = cc in
       let x' : is_exited F.fate ≡ true = ap (λ (y : Standing). is_exited y.fate) at ∙ x in
       let w' : F.rewrites ≡ 0 = ap (λ (y : Standing). y.rewrites) at ∙ w in
-      follower_alone g laws (judges i) replies most L p so (record { lawful = law; legal = legal; short = short })
+      follower_alone g laws (judges i) replies most L p so (record { lawful = law; legal = legal; short = short; childless = λ i e f. no_child e (nc i e f) })
       (record { rewrites = w'; well = exited_is_well F.fate x' }) x'
-  head p ps i log over true e so line h x w law legal short =
+  head p ps i log over true e so line h x w law legal short nc =
       let f : Follower P = follow g (judges i) log (fresh p) in
       let l : Leader P = lead g replies most (cuts i) (record { process = f.process; log = log; fate = None }) in
       let at : leader_line f l ≡ line = cc in
@@ -233,15 +242,15 @@ module _ {P : Type 0} (g : Behaviour P) (laws : IsProcess g) (judges : ℕ → J
       let law0 : IsLawful log = lawful_front log m.0 (subst IsLawful k law) in
       let n : f.fate ≡ None = on_none over f.fate e in
       let s : f.seen ≡ length log = follow_done g laws (judges i) replies most log (fresh p) law0 (fresh_in_step g laws replies most log p so) n in
-      leader_alone g laws (judges i) replies most L p log m.0 (cuts i) k so (record { lawful = law; legal = legal; short = short }) w' n s
+      leader_alone g laws (judges i) replies most L p log m.0 (cuts i) k so (record { lawful = law; legal = legal; short = short; childless = λ i e f. no_child e (nc i e f) }) w' n s
       x' ∙ sym same
 
   tail : (q p : P) (ps : List P) (i k : ℕ) (log : List Entry) (over b : Bool)
       → ((i : ℕ) (log : List Entry) (over : Bool) → Survives (sequence_from g judges replies most cuts ps i log over) p k)
       → Survives (turn g judges replies most cuts i q (λ l o. sequence_from g judges replies most cuts ps (i + 1) l o) log over
       (follow g (judges i) log (fresh q)) b) p (suc k)
-  tail q p ps i k log over false ih line h x w law legal short = ih (i + 1) log over line h x w law legal short
-  tail q p ps i k log over true ih line h x w law legal short = ih (i + 1) _ _ line h x w law legal short
+  tail q p ps i k log over false ih line h x w law legal short nc = ih (i + 1) log over line h x w law legal short nc
+  tail q p ps i k log over true ih line h x w law legal short nc = ih (i + 1) _ _ line h x w law legal short nc
 
   pub survives : (ps : List P) (k : ℕ) (p : P) → slice_get ps k ≡ Some p → IsStarted g p → (i : ℕ) (log : List Entry) (over : Bool)
       → Survives (sequence_from g judges replies most cuts ps i log over) p k

@@ -20,7 +20,7 @@ use Rattle.nv_replay.specs.Versions.{Running, process_of}
 use Rattle.nv_replay.proofs.Settled.{stage_rests}
 use Rattle.nv_replay.proofs.Wholes.{rests}
 use Rattle.nv_sequence.specs.Accounts.{AreFresh, AreCuts}
-use Rattle.nv_sequence.specs.Alone.{alone, SurvivorsAgree}
+use Rattle.nv_sequence.specs.Alone.{alone, HasNoClone, SurvivorsAgree}
 use Rattle.nv_sequence.proofs.Survivor.{survives}
 
 -- the cuts that an account tells are cuts of its lines
@@ -112,12 +112,12 @@ module _ {P : Type 0} (g : Behaviour P) (laws : IsProcess g) (replies : Start) (
   pub survivors : (judges : ℕ → Judge) (rs : List (Running P)) (lines : List Standing) (log : List Entry) → AreFresh g 0 rs
       → record { log = log; lines = lines } ≡ sequence g judges replies most (cuts_of lines) (map process_of rs)
       → IsLawful log → IsLegal replies log → SurvivorsAgree g replies most (map process_of rs) lines log
-  survivors judges rs lines log fresh e law legal k p line h h' s _ =
+  survivors judges rs lines log fresh e law legal k p line h h' s nc =
       let started = started_at rs 0 k p fresh h in
       let a : Account = sequence g judges replies most (cuts_of lines) (map process_of rs) in
       let el : log ≡ a.log = ap (λ (x : Account). x.log) e in
       let at : slice_get a.lines k ≡ Some line = sym (ap (λ (x : Account). slice_get x.lines k) e) ∙ h' in
       let short = sequence_short g judges replies most (cuts_of lines) (map process_of rs) 0 [] false (omega arith) in
       let same = survives g laws judges replies most (cuts_of lines) (map process_of rs) k p h started 0 [] false line at s.exited
-      s.rewrites (subst IsLawful el law) (subst (IsLegal replies) el legal) short in
+      s.rewrites (subst IsLawful el law) (subst (IsLegal replies) el legal) short (subst HasNoClone el nc) in
       alone_leads p ∙ (same ∙ sym el)

@@ -128,7 +128,7 @@ module _ {P : Type 0} (g : Behaviour P) (laws : IsProcess g) (replies : Start) (
       let call : g.call n.at.process t ≡ e.call = sym (ap (λ (x : Entry). x.call) ee) in
       let may = law (length log) e (get_last log e) in
       let live : g.live (g.answered n.at.process t e.reply) ≡ live_after (log ++ e ∷ []) = same_live g laws (λ c x. 0) n.at.process t e
-      w.pending w.lives call may.child ∙ (ap (λ x. live_next x e) w.live ∙ sym (live_last (100 ∷ []) log e)) in
+      w.pending w.lives call ∙ (ap (λ x. live_next x e) w.live ∙ sym (live_last (100 ∷ []) log e)) in
       let all : take (n.at.seen + 1) (log ++ e ∷ []) ≡ log ++ e ∷ [] = rw (seen, s, ← one) (take_all (log ++ e ∷ [])) in
       let P' : ℕ → Type 0 = λ u. IsInStep g (log ++ e ∷ [])
       (record n.at {

@@ -82,7 +82,7 @@ module _ {P : Type 0} (g : Behaviour P) (laws : IsProcess g) (replies : Start) (
   ended_now c f f' n n' false m e same k =
       (record { below = λ j h. rw k (cut_elsewhere f' j n' m); end = λ h. let z = rw e at h in cc }, rw (k, m) (cut_elsewhere f' n n' m))
 
-  suits_now : (c : Option ℕ) (f f' : Option Fate) (n n' : ℕ) → f ≡ None → (f' ≡ None → n' ≡ n + 1) → (is_memory f' ≡ true → n' ≡ n)
+  pub suits_now : (c : Option ℕ) (f f' : Option Fate) (n n' : ℕ) → f ≡ None → (f' ≡ None → n' ≡ n + 1) → (is_memory f' ≡ true → n' ≡ n)
       → Suits c f' n' → Suits c f n × (is_cut c n ≡ is_memory f')
   suits_now c f None n n' e grew same s =
       let m : n' ≡ n + 1 = grew refl in

@@ -1,6 +1,7 @@
 use Rattle.std.proofs.Common.{sym, subst, ◌<◌, ℕ, List, map, length}
 use Rattle.std.specs.Prelude.{Contains}
 use Rattle.nv_calls.specs.Calls.{entry}
+use Rattle.nv_calls.specs.Logs.{IsNew, child_of}
 use Rattle.nv_threads.specs.Threads.{threads}
 use Rattle.nv_threads.specs.ThreadLaws.{thread_laws}
 use Rattle.nv_replay.specs.Follow.{no_rules}
@@ -22,6 +23,12 @@ follow-told-requires-clause-lives c =
     let next = c.in-Some.ensures.next in
     subst (λ (x : List ℕ). Contains x c.in-Some.event.now.call.tid) (sym (c.loop-event.invariant.in_step.live next.on))
     (c.requires.lawful _ _ next.at).lives
+
+pub follow-told-requires-clause-new : goal.follow-told-requires-clause-new
+follow-told-requires-clause-new c =
+    let next = c.in-Some.ensures.next in
+    subst (λ (x : List ℕ). IsNew x (child_of (entry c.in-Some.event.now))) (sym (c.loop-event.invariant.in_step.live next.on))
+    (c.requires.lawful _ _ next.at).new
 
 pub loop-event-smaller : goal.loop-event-smaller
 loop-event-smaller c =

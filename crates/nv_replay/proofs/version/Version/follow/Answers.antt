@@ -1,11 +1,16 @@
-use Rattle.std.proofs.Common.{◌∙◌, sym, ap}
+use Rattle.std.proofs.Common.{◌≡◌, ◌∙◌, sym, ap, subst, None}
 use Rattle.nv_calls.specs.Calls.{entry}
 use Rattle.nv_threads.specs.Threads.{threads, Proc}
+use Rattle.nv_threads.specs.ThreadLaws.{threads_on}
 use Rattle.nv_replay.specs.Follow.{Follower, decided}
 use Rattle.nv_replay.specs.Follow.{no_rules}
 use Rattle.nv_replay.specs.Versions.{Running}
 use Rattle.nv_replay.proofs.Following.{decided_fault, decided_asked}
 use Rattle.nv_replay.proofs.version.Version.follow.Goals as goal
+
+pub advance-requires : goal.advance-requires
+advance-requires c = subst (λ (r : Running Proc). threads.ended r.at.process ≡ None) (sym c.self.view_is)
+    (threads_on c.args.self.now.at.process c.args.event.now.call.tid c.requires.lives)
 
 pub returns-in-Fault-clause-new : goal.returns-in-Fault-clause-new
 returns-in-Fault-clause-new c =
