@@ -1,22 +1,33 @@
 -- How the room opens, how readers' seats are cut off the first, and how seats come back to one.
-use Rattle.std.proofs.Common.{◌≡◌, ℕ, zero, suc, ◌+◌, ◌*◌, ◌<◌, ◌≤◌, ◌≢◌, ◌⊎◌, List, [], ◌∷◌, ◌++◌, map, length, get_or, set, replicate, sym, refl, ap, ◌∙◌, subst, inl, inr, ⊎_elim, le_refl, zero-le, arith}
+use Rattle.std.proofs.Common.{◌≡◌, ℕ, zero, suc, ◌+◌, ◌*◌, ◌<◌, ◌≤◌, ◌≢◌, ◌⊎◌, List, [], ◌∷◌, ◌++◌, map, length, get_or, set, replicate, sym, refl, ap, ◌∙◌, subst, inl, inr, ⊎_elim, le_refl, zero-le, arith, length-append}
 use mathlib.Core.Path.{Path}
 use mathlib.Core.List.{map-append}
+use mathlib.Core.Logic.{dite}
+use native.Mathlib.Decide.{ℕ_discrete, dec_le}
 use mathlib.Core.Option.{some, some-injective, some-ne-none}
 use lib.ListN.{get_elem?}
 use lib.Seq.{map-set}
+use Rattle.std.specs.Prelude.{Option, Some, None}
 use Rattle.atomic_table.specs.Table.{State, Splits, Joins, opening}
 use Rattle.atomic_table.proofs.Lists.{at_map, at_set}
+use Rattle.nv_calls.specs.Calls.{Entry}
+use Rattle.nv_calls.specs.Logs.{Start}
 use Rattle.nv_calls.specs.LogLaws.{lawful_none}
 use Rattle.nv_room.specs.declared.view.View.{View}
 use Rattle.nv_room.specs.declared.view.Plan.{Plan}
 use Rattle.nv_room.specs.declared.view.Past.{Past}
+use Rattle.nv_room.specs.declared.view.Span.{Span}
 use Rattle.nv_room.specs.declared.view.Role.{Role}
-use Rattle.nv_room.specs.declared.view.Role.TheVariants.{Reader, Lead, Spent}
-use Rattle.nv_room.specs.Room.{cursor, Told, Carries, Knows, Tag, tag, station_of, Has, Live, Out, Clash, Apart, Rule, first}
-use Rattle.nv_room.specs.Steps.{opened, reader_of, joined, spent}
-use Rattle.nv_room.proofs.Lists.{at_end}
-use Rattle.nv_room.proofs.Looks.{in_role}
+use Rattle.nv_room.specs.declared.view.Role.TheVariants.{Reader, Lead, Leaving, Gone, Spent}
+use Rattle.nv_room.specs.Placement.{table_words}
+use Rattle.nv_room.specs.Owner.{GONE, Phase, held, free, closed}
+use Rattle.nv_room.specs.Spans.{of_station}
+use Rattle.nv_room.specs.Room.{cursor, Moment, as_of, InRole, IsSeated, Told, Knows, Tag, tag, station_of, Has, Live, Unmade, Out, Clash, Apart, Rule, first}
+use Rattle.nv_room.specs.Steps.{opened, reader_of, past_of, joined, spent}
+use Rattle.nv_room.proofs.Lists.{at_end, at_below}
+use Rattle.nv_room.proofs.Tiling.{tiles_none}
+use Rattle.nv_room.proofs.Stays.{now}
+use Rattle.nv_room.proofs.Seats.{holder_led, in_role, seated}
 
 flip : (a b : Tag) → Clash a b → Clash b a
 flip a b c = (c.1, c.0, ⊎_elim (λ e. inl (sym e)) (λ e. inr (⊎_elim (λ q. inr q) (λ q. inl q) e)) c.2)
@@ -97,92 +108,137 @@ module _ (ts : List Tag) (id m k : ℕ) (es : List ℕ) (a b : Role) (live : Liv
       (λ (e' : (j ≡ length us) × (Path Tag (b, m, k, []) x)). ⊎_elim (λ (f' : get_elem? us h ≡ some y). absurd (mixed h y f' (subst (λ (z : Tag). Clash z y) (λ i. sym e'.1 i) c))) (λ (f' : (h ≡ length us) × (Path Tag (b, m, k, []) y)). e'.0 ∙ sym f'.0) (at_end us (b, m, k, []) y h f))
       (at_end us (b, m, k, []) x j e)
 
-module _ {T : Type 0} (p : Plan T) where
+module _ {K : Type 0} (hist : K → List Entry) (beg : K → Start) (p : Plan K) where
   abbrev St : Type 0
-  St = State Unit (View T)
+  St = State (Option K) (View K)
 
-  -- the lead cuts off the seat of the station that it makes next
-  pub splits : (id : ℕ) (v : View T) → v.role ≡ Lead → 0 < v.made → v.made < p.stations → v.ended ≡ [] → v.seen ≡ [] → v.wrote ≡ [] → Splits (Rule p) id v (opened v) (reader_of v)
-  splits id v role pos near ended seen wrote s r at = let n : ℕ = p.stations in let c : ℕ = p.places in let t = p.start in let ir = in_role p s r id v at Lead role in let kn = r.each_seat id v at in let pl = r.places in
-      let vs : List (View T) = set s.views id (opened v) in let m : ℕ = v.made in let es : List ℕ = map station_of v.ended in
-      let carried = subst (Carries t c v.start v.places) role kn.carries in
-      let none : length v.seen ≡ 0 = ap (length {A = List ℕ}) seen in let short : length v.seen ≡ length r.log = ir.seen_is_log in let mine_is : v.station ≡ 0 = ir.is_holder ∙ r.station_0_holds in let held : r.holder ≡ 0 = r.station_0_holds in let low : cursor s.words m ≤ length r.log = pl.cursor_at_most_head m near in let zero_cursor : cursor s.words m ≡ length v.seen = omega arith in
-      let mine : Knows n c r.holder t s.words r.log (opened v) = record { seen_is_prefix = kn.seen_is_prefix; read_begins_next = kn.read_begins_next; floor_at_most_cursor = kn.floor_at_most_cursor; head_seen_at_most_head = kn.head_seen_at_most_head; in_role = kn.in_role; carries = kn.carries; ended_is_prefix = kn.ended_is_prefix } in
-      let cut : Knows n c r.holder t s.words r.log (reader_of v) = record { seen_is_prefix = kn.seen_is_prefix; read_begins_next = kn.read_begins_next; floor_at_most_cursor = kn.floor_at_most_cursor; head_seen_at_most_head = kn.head_seen_at_most_head; in_role = record { not_holder = omega arith; station_is_made = near; wrote_nothing = wrote; cursor_is_length = zero_cursor }; carries = carried; ended_is_prefix = kn.ended_is_prefix } in
-      let empty : es ≡ [] = ap (map station_of) ended in
-      let e₁ : map tag vs ≡ set (map tag s.views) id (Lead, 0, m + 1, es) = map-set tag s.views id (opened v) ∙ (λ i. set (map tag s.views) id (role i, mine_is i, m + 1, es)) in
-      let path : map tag (vs ++ reader_of v ∷ []) ≡ set (map tag s.views) id (Lead, 0, m + 1, es) ++ (Reader, m, m, []) ∷ [] = map-append tag vs (reader_of v ∷ []) ∙ (λ i. e₁ i ++ (Reader, m, m, empty i) ∷ []) in record {
-        log = r.log;
-        events = r.events;
-        log_is_spelt = r.log_is_spelt;
-        log_is_lawful = r.log_is_lawful;
-        holder = r.holder;
-        station_0_holds = r.station_0_holds;
-        places = r.places;
-        one_seat_a_station = subst Apart (sym path) (apart_split (map tag s.views) id m m es Lead Reader tt pos empty (at_map tag s.views id v at ∙ (λ i. some (role i, mine_is i, m, es))) r.one_seat_a_station);
-        each_seat = λ j u e. ⊎_elim (λ (e' : get_elem? vs j ≡ some u). ⊎_elim (λ (y : (j ≡ id) × (opened v ≡ u)). subst (Knows n c r.holder t s.words r.log) y.1 mine) (λ (y : (j ≢ id) × (get_elem? s.views j ≡ some u)). r.each_seat j u y.1) (at_set s.views id j (opened v) u e'))
-            (λ (e' : (j ≡ length vs) × (reader_of v ≡ u)). subst (Knows n c r.holder t s.words r.log) e'.1 cut) (at_end vs (reader_of v) u j e);
-      }
+  abbrev RuleOf : St → Type 0
+  RuleOf = Rule hist beg p
 
-  -- a seat takes back the seat w
-  pub joins : (id : ℕ) (v : View T) (other : ℕ) (w : View T) → Live v.role → Live w.role → Joins (Rule p) id v other w (joined v w) spent
-  joins id v other w live live' s r at two at' = let n : ℕ = p.stations in let c : ℕ = p.places in let t = p.start in let kn = r.each_seat id v at in
-      let there' : get_elem? s.views other ≡ some w = ⊎_elim (λ (q : (other ≡ id) × (joined v w ≡ w)). absurd (two q.0)) (λ (q : (other ≢ id) × (get_elem? s.views other ≡ some w)). q.1) (at_set s.views id other (joined v w) w at') in
-      let kw = r.each_seat other w there' in
-      let vs : List (View T) = set s.views id (joined v w) in let es : List ℕ = map station_of v.ended in let gs : List ℕ = map station_of w.ended in let ts : List Tag = map tag s.views in
-      let x : Past = record { station = w.station; seen = w.seen; read = w.read } in
-      let mine : Knows n c r.holder t s.words r.log (joined v w) = record {
+  -- the first seat cuts off the seat of the station that it makes next
+  pub splits : (id : ℕ) (v : View K) → v.role ≡ Reader → v.station ≡ 0 → 0 < v.made → v.made < p.stations → v.ended ≡ [] → v.seen ≡ [] → v.freed ≡ None → v.spans ≡ [] → Splits RuleOf id v (opened v) (reader_of v)
+  splits id v role zeroth pos near ended seen unfreed idle s r at = let n : ℕ = p.stations in let c : ℕ = p.places in let kn = r.each_seat id v at in let pl = r.places in let m : Moment = now hist beg p s r in
+      let ir = in_role hist beg p s r id v at Reader role in let se = seated hist beg p s r id v at Reader role tt in
+      let vs : List (View K) = set s.views id (opened v) in let t : ℕ = v.made in let es : List ℕ = map station_of v.ended in
+      let nothing : length v.seen ≡ 0 = ap (length {A = List ℕ}) seen in let mine : cursor s.words v.station ≡ length v.seen = ir.cursor_is_length in
+      let low : r.holder ≡ 0 = dite (dec_le 1 r.holder) (λ le. let g = pl.lower_are_gone 0 le in let same : cursor s.words v.station ≡ cursor s.words 0 = ap (cursor s.words) zeroth in absurd (omega arith)) (λ gt. omega arith) in
+      let unled : r.spans ≡ [] = holder_led m v.station r.led ir.led_nothing (zeroth ∙ sym low) in
+      let fresh : cursor s.words t ≡ 0 = se.unmade_is_new t record { first = zeroth; other = pos; not_made = le_refl t; near = near } in
+      let none_of : (z : ℕ) → of_station z r.spans ≡ [] = λ z. ap (of_station z) unled in
+      let mine' : Knows n c p.start m (opened v) = record {
         seen_is_prefix = kn.seen_is_prefix;
         read_begins_next = kn.read_begins_next;
         floor_at_most_cursor = kn.floor_at_most_cursor;
         head_seen_at_most_head = kn.head_seen_at_most_head;
+        owner_seen_at_most_head = kn.owner_seen_at_most_head;
         in_role = kn.in_role;
-        carries = kn.carries;
-        ended_is_prefix = λ i y e. ⊎_elim (λ (q : get_elem? v.ended i ≡ some y). kn.ended_is_prefix i y q) (λ (q : (i ≡ length v.ended) × (x ≡ y)). subst (Told r.log) q.1 (kw.seen_is_prefix, kw.read_begins_next)) (at_end v.ended x y i e);
+        seated = λ l. record { start_is = se.start_is; places_are = se.places_are; station_is_made = se.station_is_made; spans_are = se.spans_are; unmade_is_new = λ z u. se.unmade_is_new z record { first = u.first; other = u.other; not_made = (let a = u.not_made in omega arith); near = u.near } };
+        ended_is_told = kn.ended_is_told;
       } in
-      let over : Knows n c r.holder t s.words r.log spent = record { seen_is_prefix = λ i y e. absurd (some-ne-none y (sym e)); read_begins_next = λ i y e. absurd (some-ne-none y (sym e)); floor_at_most_cursor = λ z l. zero-le; head_seen_at_most_head = zero-le; in_role = tt; carries = tt; ended_is_prefix = λ i y e. absurd (some-ne-none y (sym e)) } in
+      let cut : Knows n c p.start m (reader_of v) = record {
+        seen_is_prefix = kn.seen_is_prefix;
+        read_begins_next = kn.read_begins_next;
+        floor_at_most_cursor = kn.floor_at_most_cursor;
+        head_seen_at_most_head = kn.head_seen_at_most_head;
+        owner_seen_at_most_head = kn.owner_seen_at_most_head;
+        in_role = subst (InRole n c m t v.seen v.read v.wrote v.freed) (sym role) record { cursor_is_length = fresh ∙ sym nothing; led_nothing = none_of t; wrote_nothing = ir.wrote_nothing; freed_stays = λ k e. (let q : None ≡ Some k = sym unfreed ∙ e in cc) };
+        seated = λ l. record { start_is = se.start_is; places_are = se.places_are; station_is_made = near; spans_are = idle ∙ sym (none_of t); unmade_is_new = λ z u. (let a = u.first in absurd (omega arith)) };
+        ended_is_told = kn.ended_is_told;
+      } in
+      let empty : es ≡ [] = ap (map station_of) ended in
+      let e₁ : map tag vs ≡ set (map tag s.views) id (Reader, 0, t + 1, es) = map-set tag s.views id (opened v) ∙ (λ i. set (map tag s.views) id (role i, zeroth i, t + 1, es)) in
+      let path : map tag (vs ++ reader_of v ∷ []) ≡ set (map tag s.views) id (Reader, 0, t + 1, es) ++ (Reader, t, t, []) ∷ [] = map-append tag vs (reader_of v ∷ []) ∙ (λ i. e₁ i ++ (role i, t, t, empty i) ∷ []) in record {
+        log = r.log;
+        events = r.events;
+        phase = r.phase;
+        holder = r.holder;
+        spans = r.spans;
+        log_is_spelt = r.log_is_spelt;
+        log_is_lawful = r.log_is_lawful;
+        closed_has_ended = r.closed_has_ended;
+        home = r.home;
+        places = r.places;
+        led = r.led;
+        one_seat_a_station = subst Apart (sym path) (apart_split (map tag s.views) id t t es Reader Reader tt pos empty (at_map tag s.views id v at ∙ (λ i. some (role i, zeroth i, t, es))) r.one_seat_a_station);
+        each_seat = λ j u e. ⊎_elim (λ (e' : get_elem? vs j ≡ some u). ⊎_elim (λ (y : (j ≡ id) × (opened v ≡ u)). subst (Knows n c p.start m) y.1 mine') (λ (y : (j ≢ id) × (get_elem? s.views j ≡ some u)). r.each_seat j u y.1) (at_set s.views id j (opened v) u e'))
+            (λ (e' : (j ≡ length vs) × (reader_of v ≡ u)). subst (Knows n c p.start m) e'.1 cut) (at_end vs (reader_of v) u j e);
+      }
+
+  -- a seat takes in the seat w, which has left
+  pub joins : (id : ℕ) (v : View K) (other : ℕ) (w : View K) → Live v.role → w.role ≡ Gone → Joins RuleOf id v other w (joined v w) spent
+  joins id v other w live gone s r at two at' = let n : ℕ = p.stations in let c : ℕ = p.places in let kn = r.each_seat id v at in let m : Moment = now hist beg p s r in
+      let there' : get_elem? s.views other ≡ some w = ⊎_elim (λ (q : (other ≡ id) × (joined v w ≡ w)). absurd (two q.0)) (λ (q : (other ≢ id) × (get_elem? s.views other ≡ some w)). q.1) (at_set s.views id other (joined v w) w at') in
+      let kw = r.each_seat other w there' in let iw = in_role hist beg p s r other w there' Gone gone in let sw = seated hist beg p s r other w there' Gone gone tt in let se = kn.seated live in
+      let vs : List (View K) = set s.views id (joined v w) in let es : List ℕ = map station_of v.ended in let gs : List ℕ = map station_of w.ended in let ts : List Tag = map tag s.views in
+      let x : Past = past_of w in
+      let told : Told n m x = record { seen_is_prefix = kw.seen_is_prefix; read_begins_next = kw.read_begins_next; station_is_made = sw.station_is_made; cursor_is_gone = iw.cursor_is_gone; spans_are = sw.spans_are; before_later = iw.before_later } in
+      let mine : Knows n c p.start m (joined v w) = record {
+        seen_is_prefix = kn.seen_is_prefix;
+        read_begins_next = kn.read_begins_next;
+        floor_at_most_cursor = kn.floor_at_most_cursor;
+        head_seen_at_most_head = kn.head_seen_at_most_head;
+        owner_seen_at_most_head = kn.owner_seen_at_most_head;
+        in_role = kn.in_role;
+        seated = λ l. record { start_is = se.start_is; places_are = se.places_are; station_is_made = se.station_is_made; spans_are = se.spans_are; unmade_is_new = se.unmade_is_new };
+        ended_is_told = λ i y e. ⊎_elim (λ (q : get_elem? v.ended i ≡ some y). kn.ended_is_told i y q) (λ (q : (i ≡ length v.ended) × (x ≡ y)). subst (Told n m) q.1 told) (at_end v.ended x y i e);
+      } in
+      let over : Knows n c p.start m spent = record { seen_is_prefix = λ i y e. absurd (some-ne-none y (sym e)); read_begins_next = λ i y e. absurd (some-ne-none y (sym e)); floor_at_most_cursor = λ z l. zero-le; head_seen_at_most_head = zero-le; owner_seen_at_most_head = omega arith; in_role = refl; seated = λ l. absurd l; ended_is_told = λ i y e. absurd (some-ne-none y (sym e)) } in
       let e₁ : map tag vs ≡ set ts id (v.role, v.station, v.made, es ++ w.station ∷ []) = map-set tag s.views id (joined v w) ∙ (λ k. set ts id (v.role, v.station, v.made, map-append station_of v.ended (x ∷ []) k)) in
       let path : map tag (set vs other spent) ≡ set (set ts id (v.role, v.station, v.made, es ++ w.station ∷ [])) other (Spent, 0, 0, []) = map-set tag vs other spent ∙ (λ k. set (e₁ k) other (Spent, 0, 0, [])) in record {
         log = r.log;
         events = r.events;
+        phase = r.phase;
+        holder = r.holder;
+        spans = r.spans;
         log_is_spelt = r.log_is_spelt;
         log_is_lawful = r.log_is_lawful;
-        holder = r.holder;
-        station_0_holds = r.station_0_holds;
+        closed_has_ended = r.closed_has_ended;
+        home = r.home;
         places = r.places;
-        one_seat_a_station = subst Apart (sym path) (apart_join ts id other v.station v.made w.station w.made es gs v.role w.role live live' (at_map tag s.views id v at) (at_map tag s.views other w there') r.one_seat_a_station);
-        each_seat = λ j u e. ⊎_elim (λ (y : (j ≡ other) × (spent ≡ u)). subst (Knows n c r.holder t s.words r.log) y.1 over)
-            (λ (y : (j ≢ other) × (get_elem? vs j ≡ some u)). ⊎_elim (λ (z : (j ≡ id) × (joined v w ≡ u)). subst (Knows n c r.holder t s.words r.log) z.1 mine) (λ (z : (j ≢ id) × (get_elem? s.views j ≡ some u)). r.each_seat j u z.1) (at_set s.views id j (joined v w) u y.1))
+        led = r.led;
+        one_seat_a_station = subst Apart (sym path) (apart_join ts id other v.station v.made w.station w.made es gs v.role w.role live (subst Live (sym gone) tt) (at_map tag s.views id v at) (at_map tag s.views other w there') r.one_seat_a_station);
+        each_seat = λ j u e. ⊎_elim (λ (y : (j ≡ other) × (spent ≡ u)). subst (Knows n c p.start m) y.1 over)
+            (λ (y : (j ≢ other) × (get_elem? vs j ≡ some u)). ⊎_elim (λ (z : (j ≡ id) × (joined v w ≡ u)). subst (Knows n c p.start m) z.1 mine) (λ (z : (j ≢ id) × (get_elem? s.views j ≡ some u)). r.each_seat j u z.1) (at_set s.views id j (joined v w) u y.1))
             (at_set vs other j spent u e);
       }
 
-  -- the room opens
-  pub opens : (ws : List ℕ) → 0 < p.places → length ws ≡ p.places * 518 + (p.stations + 2) → ((i : ℕ) → get_or ws i 0 ≡ 0) → Rule p (opening ws [] (first p))
-  opens ws pos wide zeros = record {
+  -- the room opens free at 0, with the kernel home
+  pub opens : (ws : List ℕ) (k : K) → hist k ≡ [] → p.start.value ≡ k → 0 < p.stations → p.stations ≤ 16 → 0 < p.places → length ws ≡ table_words p.stations p.places → ((i : ℕ) → get_or ws i 0 ≡ 0) → RuleOf (opening ws (Some k ∷ []) (first p))
+  opens ws k empty same some_station few pos wide zeros = record {
     log = [];
     events = [];
+    phase = free;
+    holder = 0;
+    spans = [];
     log_is_spelt = refl;
     log_is_lawful = lawful_none;
-    holder = 0;
-    station_0_holds = refl;
+    closed_has_ended = λ e. cc;
+    home = (k, refl, empty, ap beg (sym same));
     places = record {
       some_place = pos;
+      few_stations = few;
       words_are_all = wide;
+      owner_is = zeros 0 ∙ omega arith;
+      holder_is_made = some_station;
+      lower_are_gone = λ s l. absurd (omega arith);
+      lead_counts = λ e. cc;
       head_is_length = zeros 1;
-      cursor_at_most_head = λ s l. let z = zeros (s + 2) in omega arith;
+      cursor_is_count_or_gone = λ s l. inl (let z = zeros (s + 2) in omega arith);
       head_in_window = λ s a l. omega arith;
       unread_stands = λ i s e a l le f. absurd (some-ne-none e (sym f));
       event_is_whole = λ i e f. absurd (some-ne-none e (sym f));
       log_is_short = omega arith;
     };
+    led = record { tile = refl; rise = tt; last_is_holders = λ xs x e. (let a = ap (λ (z : List Span). length z) e in let b = length-append xs (x ∷ []) in absurd (omega arith)); unled_is_free = λ e. refl };
     one_seat_a_station = λ j k a b e f c. (one_at (tag (first p)) j a e).0 ∙ sym (one_at (tag (first p)) k b f).0;
-    each_seat = λ j v e. subst (Knows p.stations p.places 0 p.start ws []) (one_at (first p) j v e).1 record {
+    each_seat = λ j v e. subst (Knows p.stations p.places p.start (as_of ws [] free 0 [])) (one_at (first p) j v e).1 record {
       seen_is_prefix = λ i y f. absurd (some-ne-none y (sym f));
       read_begins_next = λ i y f. absurd (some-ne-none y (sym f));
       floor_at_most_cursor = λ s l. let z = zero_at p.stations s in omega arith;
       head_seen_at_most_head = omega arith;
-      in_role = record { is_holder = refl; seen_is_log = refl; wrote_is_short = omega arith; wrote_stands = λ i x f. absurd (some-ne-none x (sym f)); writes_in_window = λ q. absurd (omega arith) };
-      carries = (refl, refl);
-      ended_is_prefix = λ i x f. absurd (some-ne-none x (sym f));
+      owner_seen_at_most_head = omega arith;
+      in_role = record { cursor_is_length = zeros 2; led_nothing = refl; wrote_nothing = refl; freed_stays = λ k e. cc };
+      seated = λ l. record { start_is = refl; places_are = refl; station_is_made = some_station; spans_are = refl; unmade_is_new = λ t u. zeros (t + 2) };
+      ended_is_told = λ i x f. absurd (some-ne-none x (sym f));
     };
   }

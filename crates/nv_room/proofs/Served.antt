@@ -1,6 +1,6 @@
 -- What the kernel's history tells of an event that is served and not published.
 use Rattle.std.proofs.Common.{refl, suc, take, ◌≡◌, ℕ, ◌+◌, ◌<◌, ◌≤◌, List, [], ◌∷◌, ◌++◌, map, length, sym, ap, ◌∙◌, subst, arith, length-append}
-use Rattle.std.proofs.lemmas.List.{length-map}
+use Rattle.std.proofs.lemmas.List.{length-map, take_all}
 use mathlib.Core.Option.{some, some-injective}
 use lib.ListN.{get_elem?}
 use Rattle.atomic_table.proofs.Lists.{at_map, at_last}
@@ -9,7 +9,7 @@ use Rattle.nv_calls.specs.Logs.{IsLawful}
 use Rattle.nv_calls.specs.LogLaws.{lawful_range, lawful_few}
 use Rattle.nv_words.specs.Spell.{spell, IsWhole}
 use Rattle.nv_words.specs.SpellLaws.{spell_whole}
-use Rattle.nv_room.specs.Room.{Log}
+use Rattle.nv_room.specs.Placement.{Log}
 use Rattle.nv_room.proofs.Lists.{there}
 
 pub served_whole : (h : List Entry) (xs : Log) (ws : List ℕ) → IsLawful h → map spell h ≡ xs ++ ws ∷ [] → IsWhole ws × (length ws ≤ 518)
@@ -26,3 +26,10 @@ take_one (x ∷ xs) ws = ap (λ (z : Log). x ∷ z) (take_one xs ws)
 
 pub served_all : (xs : Log) (ws : List ℕ) (n : ℕ) → length xs ≡ n → take (n + 1) (xs ++ ws ∷ []) ≡ xs ++ ws ∷ []
 served_all xs ws n h = let k : suc (length xs) ≡ n + 1 = omega arith in subst (λ (m : ℕ). take m (xs ++ ws ∷ []) ≡ xs ++ ws ∷ []) k (take_one xs ws)
+
+-- with no event due, the history is the seen list
+pub whole_history : (h : List Entry) (n : ℕ) (xs : Log) → take n (map spell h) ≡ xs → length h ≡ n → map spell h ≡ xs
+whole_history h n xs is long = sym (take_all n (map spell h) (omega (arith, length-map h spell))) ∙ is
+
+pub same_head : {A : Type 0} (a b : A) (xs ys : List (ℕ × A)) → (0, a) ∷ xs ≡ (0, b) ∷ ys → a ≡ b
+same_head {A} a b xs ys e = ap (λ (z : ℕ × A). z.1) (some-injective {A = ℕ × A} (0, a) (0, b) (ap (λ (l : List (ℕ × A)). get_elem? l 0) e))

@@ -1,0 +1,174 @@
+-- A station's own cursor rises: one event on, or gone.
+use Rattle.std.proofs.Common.{◌≡◌, ℕ, ◌+◌, ◌<◌, ◌≤◌, ◌≢◌, ◌⊎◌, List, [], ◌∷◌, ◌++◌, map, length, get_or, set, sym, refl, ap, ◌∙◌, subst, inl, inr, ⊎_elim, le_trans, le_refl, lt_of_not-le, arith, length-append, length-set, get_or-set_other, get_or-set_same}
+use mathlib.Core.Logic.{dite}
+use mathlib.Core.Option.{none, some, some-injective, some-ne-none}
+use native.Mathlib.Decide.{ℕ_discrete, dec_le}
+use lib.ListN.{get_elem?}
+use lib.Seq.{map-set}
+use Rattle.std.specs.Prelude.{Option, Some}
+use Rattle.atomic_table.specs.Table.{State, Me, step, keeps, Allows}
+use Rattle.nv_calls.specs.Calls.{Entry}
+use Rattle.nv_calls.specs.Logs.{Start}
+use Rattle.nv_words.specs.Spell.{IsWhole}
+use Rattle.nv_words.specs.Begins.{Prefix}
+use Rattle.nv_words.specs.SpellLaws.{prefix_length, whole_same}
+use Rattle.nv_room.specs.declared.view.View.{View}
+use Rattle.nv_room.specs.declared.view.Plan.{Plan}
+use Rattle.nv_room.specs.declared.view.Role.{Role}
+use Rattle.nv_room.specs.declared.view.Role.TheVariants.{Reader, Lead, Leaving, Gone, Spent}
+use Rattle.nv_room.specs.Placement.{Log, header, place_of}
+use Rattle.nv_room.specs.Owner.{GONE, held}
+use Rattle.nv_room.specs.Spans.{of_station, Before}
+use Rattle.nv_room.specs.Room.{cursor, Moment, as_of, Places, Led, Freed, InRole, IsSeated, Live, Tag, tag, Apart, Knows, Rule}
+use Rattle.nv_room.specs.Steps.{one_on, advanced, as_gone, left}
+use Rattle.nv_room.proofs.Lists.{at_below, there}
+use Rattle.nv_room.proofs.Placement.{place_behind, header_inside}
+use Rattle.nv_room.proofs.Stays.{Onward, Own, logged, same_tags, told_on, now, moved}
+use Rattle.nv_room.proofs.Seats.{prefix_more, not_holder, not_held, none_above, apart_role, apart_from, apart_unmade, in_role, seated, told}
+
+module _ (n c : ℕ) (m : Moment) (i x : ℕ) (pl : Places n c m) (near : i < n) (up : cursor m.words i ≤ x) where
+  abbrev ws' : List ℕ
+  ws' = set m.words (i + 2) x
+
+  abbrev pub risen : Moment
+  risen = as_of ws' m.log m.phase m.holder m.spans
+
+  inside : i + 2 < length m.words
+  inside = subst (λ (z : ℕ). i + 2 < z) (sym pl.words_are_all) (header_inside n c (i + 2) (omega arith))
+
+  pub cursor_there : cursor ws' i ≡ x
+  cursor_there = get_or-set_same m.words (i + 2) x 0 inside
+
+  pub cursor_else : (s : ℕ) → s ≢ i → cursor ws' s ≡ cursor m.words s
+  cursor_else s ne = get_or-set_other m.words (i + 2) (s + 2) x 0 (λ e. ne (omega arith))
+
+  pub cursor_set : (s : ℕ) → ((s ≡ i) × (cursor ws' s ≡ x)) ⊎ ((s ≢ i) × (cursor ws' s ≡ cursor m.words s))
+  cursor_set s = dite (ℕ_discrete s i) (λ e. inl (e, ap (cursor ws') e ∙ cursor_there)) (λ ne. inr (ne, cursor_else s ne))
+
+  pub cursor_up : (s : ℕ) → cursor m.words s ≤ cursor ws' s
+  cursor_up s = ⊎_elim (λ (y : (s ≡ i) × (cursor ws' s ≡ x)). let a : cursor m.words s ≡ cursor m.words i = ap (cursor m.words) y.0 in let b = y.1 in omega arith) (λ (y : (s ≢ i) × (cursor ws' s ≡ cursor m.words s)). let b = y.1 in omega arith) (cursor_set s)
+
+  place_else : (log : Log) (e j : ℕ) → get_or ws' (place_of n c log e j) 0 ≡ get_or m.words (place_of n c log e j) 0
+  place_else log e j = get_or-set_other m.words (i + 2) (place_of n c log e j) x 0 (place_behind n c log e j (i + 2) (omega arith))
+
+  pub places_risen : (x ≤ length m.log) ⊎ (x ≡ GONE) → (m.phase ≡ held → i ≢ m.holder) → Places n c risen
+  places_risen count unheld = record {
+    some_place = pl.some_place;
+    few_stations = pl.few_stations;
+    words_are_all = length-set m.words (i + 2) x ∙ pl.words_are_all;
+    owner_is = get_or-set_other m.words (i + 2) 0 x 0 (λ e. omega arith) ∙ pl.owner_is;
+    holder_is_made = pl.holder_is_made;
+    lower_are_gone = λ s l. le_trans (pl.lower_are_gone s l) (cursor_up s);
+    lead_counts = λ e. subst (λ (z : ℕ). z ≤ length m.log) (sym (cursor_else m.holder (λ q. unheld e (sym q)))) (pl.lead_counts e);
+    head_is_length = get_or-set_other m.words (i + 2) 1 x 0 (λ e. omega arith) ∙ pl.head_is_length;
+    cursor_is_count_or_gone = λ s l. ⊎_elim (λ (y : (s ≡ i) × (cursor ws' s ≡ x)). subst (λ (z : ℕ). (z ≤ length m.log) ⊎ (z ≡ GONE)) (sym y.1) count)
+        (λ (y : (s ≢ i) × (cursor ws' s ≡ cursor m.words s)). subst (λ (z : ℕ). (z ≤ length m.log) ⊎ (z ≡ GONE)) (sym y.1) (pl.cursor_is_count_or_gone s l)) (cursor_set s);
+    head_in_window = λ s ne l. let o : length m.log ≤ cursor m.words s + c = pl.head_in_window s ne l in let g = cursor_up s in omega arith;
+    unread_stands = λ e s f ne l le g j y h. place_else m.log e j ∙ pl.unread_stands e s f ne l (le_trans (cursor_up s) le) g j y h;
+    event_is_whole = pl.event_is_whole;
+    log_is_short = pl.log_is_short;
+  }
+
+  pub on_risen : Onward n m risen
+  on_risen = record { cursors = λ s l. cursor_up s; longer = λ _ _ h. h; more = le_refl (length m.log); begun = λ k y e. inl (k, y, e, refl, refl); gone_spans = λ s l g. refl }
+
+  pub own_risen : (u : ℕ) → u ≢ i → (r : Role) → Own n c m risen u r
+  own_risen u ne Reader = record { cursor_same = cursor_else u ne; freed_on = λ k f. record { is_free = f.is_free; at_head = f.at_head; lower_gone = λ s l. le_trans (f.lower_gone s l) (cursor_up s) } }
+  own_risen u ne Lead = record { held_on = refl; holder_same = refl; log_same = refl; place_same = λ wrote j l. place_else (m.log ++ wrote ∷ []) (length m.log) j }
+  own_risen u ne Leaving = record { not_held_on = λ e. e; holder_same = refl; cursor_same = cursor_else u ne }
+  own_risen u ne Gone = tt
+  own_risen u ne Spent = tt
+
+module _ {K : Type 0} (hist : K → List Entry) (beg : K → Start) (p : Plan K) where
+  abbrev St : Type 0
+  St = State (Option K) (View K)
+
+  abbrev RuleOf : St → Type 0
+  RuleOf = Rule hist beg p
+
+  abbrev M : Type 0
+  M = Me (Option K) (View K)
+
+  pub advances : (slots id new : ℕ) (me : M) → me.0.role ≡ Reader → IsWhole me.0.read → new ≡ length me.0.seen + 1
+      → Allows RuleOf slots id me (me.0.station + 2) (λ _. new) (λ _. advanced (step slots (me.0.station + 2) new 0 none) me new)
+  advances slots id new me role full is s r wide at _ = let v = me.0 in let n : ℕ = p.stations in let c : ℕ = p.places in let kn = r.each_seat id v at in let size : ℕ = length v.seen in let pl = r.places in
+      let m : Moment = now hist beg p s r in let ir = in_role hist beg p s r id v at Reader role in let se = seated hist beg p s r id v at Reader role tt in let i : ℕ = v.station in let near : i < n = se.station_is_made in let mine : cursor s.words i ≡ size = ir.cursor_is_length in
+      let six : 6 ≤ length v.read = full.0 in let one = there v.read 0 (omega arith) in let rd0 = kn.read_begins_next 0 one.0 one.1 in let e : List ℕ = rd0.0 in let len : ℕ = length r.log in let lt : size < len = at_below r.log size e rd0.1 in
+      let rd : Prefix v.read e = λ j x f. let y = kn.read_begins_next j x f in subst (λ (z : List ℕ). get_elem? z j ≡ some x) (some-injective y.0 e (sym y.1 ∙ rd0.1)) y.2 in
+      let same : v.read ≡ e = whole_same v.read e rd full (pl.event_is_whole size e rd0.1).0 in let entry : get_elem? r.log size ≡ some v.read = rd0.1 ∙ ap some (sym same) in
+      let up : cursor s.words i ≤ new = omega arith in let m' : Moment = risen n c m i new pl near up in let w : View K = one_on v in
+      let pre : Prefix (v.seen ++ v.read ∷ []) r.log = prefix_more v.seen v.read r.log kn.seen_is_prefix entry in let on = on_risen n c m i new pl near up in (
+        w,
+        keeps,
+        tt,
+        moved hist beg p s r (i + 2) new id me.1 keeps r.log r.phase r.holder r.spans r.events v w at (subst Apart (sym (same_tags hist beg p s.views id v w at refl)) r.one_seat_a_station) (logged hist beg p s r) r.home
+            (places_risen n c m i new pl near up (inl (omega arith)) (λ e. not_held m i r.led ir.led_nothing e)) record { tile = r.led.tile; rise = r.led.rise; last_is_holders = r.led.last_is_holders; unled_is_free = r.led.unled_is_free } on
+            (λ j u ne f l. (own_risen n c m i new pl near up u.station (apart_from hist beg p s r j id u v f at ne (subst Live (sym role) tt) l) u.role, refl, λ t q. cursor_else n c m i new pl near up t (apart_unmade hist beg p s r j id u v f at ne (subst Live (sym role) tt) l t q))) record {
+              seen_is_prefix = pre;
+              read_begins_next = λ j x f. absurd (some-ne-none x (sym f));
+              floor_at_most_cursor = λ z l. le_trans (kn.floor_at_most_cursor z l) (cursor_up n c m i new pl near up z);
+              head_seen_at_most_head = kn.head_seen_at_most_head;
+              owner_seen_at_most_head = kn.owner_seen_at_most_head;
+              in_role = subst (InRole n c m' i (v.seen ++ v.read ∷ []) [] v.wrote v.freed) (sym role) record {
+                cursor_is_length = cursor_there n c m i new pl near up ∙ is ∙ sym (length-append v.seen (v.read ∷ []));
+                led_nothing = ir.led_nothing;
+                wrote_nothing = ir.wrote_nothing;
+                freed_stays = λ k q. let f = ir.freed_stays k q in record { is_free = f.is_free; at_head = f.at_head; lower_gone = λ z l. le_trans (f.lower_gone z l) (cursor_up n c m i new pl near up z) };
+              };
+              seated = λ l. record { start_is = se.start_is; places_are = se.places_are; station_is_made = near; spans_are = se.spans_are; unmade_is_new = λ t q. cursor_else n c m i new pl near up t (λ e. let a = q.first in let b = q.other in omega arith) ∙ se.unmade_is_new t q };
+              ended_is_told = λ k y f. told_on n m m' y on (kn.ended_is_told k y f);
+            },
+        (refl, told hist beg p s r (v.seen ++ v.read ∷ []) pre, (let short : len ≤ 131072 = pl.log_is_short in omega arith)),
+      )
+
+  pub advances_at : (slots id k new : ℕ) (me : M) → me.0.role ≡ Reader → IsWhole me.0.read → k ≡ me.0.station + 2 → new ≡ length me.0.seen + 1
+      → Allows RuleOf slots id me k (λ _. new) (λ _. advanced (step slots k new 0 none) me new)
+  advances_at slots id k new me role full at is = subst (λ (z : ℕ). Allows RuleOf slots id me z (λ _. new) (λ _. advanced (step slots z new 0 none) me new)) (sym at) (advances slots id new me role full is)
+
+  -- what lets a station leave: it is no lower than the holder, and holds nothing
+  pub record MayLeave (m : Moment) (station : ℕ) (wrote : List ℕ) : Type 0 where
+    pub count : cursor m.words station ≤ length m.log
+    pub unheld : m.phase ≡ held → station ≢ m.holder
+    pub quiet : wrote ≡ []
+
+  may_leave : (m : Moment) (st : ℕ) (seen : Log) (read wrote : List ℕ) (freed : Option ℕ) → Led m → length seen ≤ length m.log → (r : Role) → (r ≡ Reader) ⊎ (r ≡ Leaving) → InRole p.stations p.places m st seen read wrote freed r → MayLeave m st wrote
+  may_leave m st seen read wrote freed led short Reader either k = record { count = let a = k.cursor_is_length in omega arith; unheld = λ e. not_held m st led k.led_nothing e; quiet = k.wrote_nothing }
+  may_leave m st seen read wrote freed led short Lead either k = absurd (⊎_elim (λ (e : Lead ≡ Reader). cc) (λ (e : Lead ≡ Leaving). cc) either)
+  may_leave m st seen read wrote freed led short Leaving either k = record { count = k.cursor_is_count; unheld = λ e. absurd (k.not_held e); quiet = k.wrote_nothing }
+  may_leave m st seen read wrote freed led short Gone either k = absurd (⊎_elim (λ (e : Gone ≡ Reader). cc) (λ (e : Gone ≡ Leaving). cc) either)
+  may_leave m st seen read wrote freed led short Spent either k = absurd (⊎_elim (λ (e : Spent ≡ Reader). cc) (λ (e : Spent ≡ Leaving). cc) either)
+
+  pub leaves : (slots id new : ℕ) (me : M) → (me.0.role ≡ Reader) ⊎ (me.0.role ≡ Leaving) → new ≡ GONE
+      → Allows RuleOf slots id me (me.0.station + 2) (λ _. new) (λ _. left (step slots (me.0.station + 2) new 0 none) me new)
+  leaves slots id new me role is s r wide at _ = let v = me.0 in let n : ℕ = p.stations in let c : ℕ = p.places in let kn = r.each_seat id v at in let pl = r.places in
+      let m : Moment = now hist beg p s r in let live : Live v.role = ⊎_elim (λ (e : v.role ≡ Reader). subst Live (sym e) tt) (λ (e : v.role ≡ Leaving). subst Live (sym e) tt) role in
+      let se : IsSeated n c p.start m v = kn.seated live in let i : ℕ = v.station in let near : i < n = se.station_is_made in let len : ℕ = length r.log in let few : len ≤ 131072 = pl.log_is_short in
+      let may = may_leave m i v.seen v.read v.wrote v.freed r.led (prefix_length v.seen r.log kn.seen_is_prefix) v.role role kn.in_role in let count : cursor s.words i ≤ len = may.count in
+      let up : cursor s.words i ≤ new = omega arith in let m' : Moment = risen n c m i new pl near up in let w : View K = as_gone v in let on = on_risen n c m i new pl near up in
+      let low : r.holder ≤ i = dite (dec_le r.holder i) (λ le. le) (λ gt. let lt : i < r.holder = lt_of_not-le gt in let g = pl.lower_are_gone i lt in absurd (omega arith)) in
+      let tags : Apart (map tag (set s.views id w)) = subst Apart (sym (map-set tag s.views id w)) (apart_role hist beg p s r id v Gone at live) in (
+        w,
+        keeps,
+        tt,
+        moved hist beg p s r (i + 2) new id me.1 keeps r.log r.phase r.holder r.spans r.events v w at tags (logged hist beg p s r) r.home
+            (places_risen n c m i new pl near up (inr is) may.unheld) record { tile = r.led.tile; rise = r.led.rise; last_is_holders = r.led.last_is_holders; unled_is_free = r.led.unled_is_free } on
+            (λ j u ne f l. (own_risen n c m i new pl near up u.station (apart_from hist beg p s r j id u v f at ne live l) u.role, refl, λ t q. cursor_else n c m i new pl near up t (apart_unmade hist beg p s r j id u v f at ne live l t q))) record {
+              seen_is_prefix = kn.seen_is_prefix;
+              read_begins_next = kn.read_begins_next;
+              floor_at_most_cursor = λ z l. le_trans (kn.floor_at_most_cursor z l) (cursor_up n c m i new pl near up z);
+              head_seen_at_most_head = kn.head_seen_at_most_head;
+              owner_seen_at_most_head = kn.owner_seen_at_most_head;
+              in_role = record {
+                cursor_is_gone = let a : cursor (set s.words (i + 2) new) i ≡ new = cursor_there n c m i new pl near up in omega arith;
+                before_later = λ k y e lt. let top = none_above m k y r.led e in absurd (omega arith);
+                wrote_nothing = may.quiet;
+              };
+              seated = λ l. record { start_is = se.start_is; places_are = se.places_are; station_is_made = near; spans_are = se.spans_are; unmade_is_new = λ t q. cursor_else n c m i new pl near up t (λ e. let a = q.first in let b = q.other in omega arith) ∙ se.unmade_is_new t q };
+              ended_is_told = λ k y f. told_on n m m' y on (kn.ended_is_told k y f);
+            },
+        refl,
+      )
+
+  pub leaves_at : (slots id k new : ℕ) (me : M) → (me.0.role ≡ Reader) ⊎ (me.0.role ≡ Leaving) → k ≡ me.0.station + 2 → new ≡ GONE
+      → Allows RuleOf slots id me k (λ _. new) (λ _. left (step slots k new 0 none) me new)
+  leaves_at slots id k new me role at is = subst (λ (z : ℕ). Allows RuleOf slots id me z (λ _. new) (λ _. left (step slots z new 0 none) me new)) (sym at) (leaves slots id new me role is)

@@ -1,0 +1,23 @@
+-- What the owner word's parts are.
+use Rattle.std.proofs.Common.{◌≡◌, ℕ, zero, suc, ◌+◌, ◌*◌, ◌/◌, ◌%◌, ◌<◌, ◌≤◌, ◌≢◌, ◌⊎◌, Bool, true, false, eqb, eq-eqb, ne_eqb, List, [], ◌∷◌, get_or, sym, refl, ap, ◌∙◌, inl, inr, ⊎_elim, Some, arith}
+use Rattle.std.specs.Prelude.{◌&&◌, ◌==◌, Option, if◌then◌else◌}
+use Rattle.nv_room.specs.OwnerLaws.{and_both}
+use Rattle.nv_room.specs.Owner.{GONE, Phase, held, free, closed, owner_word, owner_at, is_held, is_free, is_closed, lower_marked, noted}
+
+pub data Found (n r : ℕ) : Phase → Type 0 where
+  as_held : is_held r ≡ true → is_free r ≡ false → is_closed r ≡ false → (owner_at r ≡ 0) × (r < 64) → Found n r held
+  as_free : is_held r ≡ false → is_free r ≡ true → is_closed r ≡ false → owner_at r ≡ n → Found n r free
+  as_closed : is_held r ≡ false → is_free r ≡ false → is_closed r ≡ true → owner_at r ≡ n → Found n r closed
+
+pub found : (ph : Phase) (h n r : ℕ) → h < 16 → r ≡ owner_word ph h n → Found n r ph
+found held h n r l is = let m : r % 4 ≡ 1 = omega arith in let d : r / 64 ≡ 0 = omega arith in as_held (eq-eqb (r % 4) 1 m) (ne_eqb (r % 4) 0 (λ e. omega arith)) (ne_eqb (r % 4) 2 (λ e. omega arith)) (d, omega arith)
+found free h n r l is = let m : r % 4 ≡ 0 = omega arith in let d : r / 64 ≡ n = omega arith in as_free (ne_eqb (r % 4) 1 (λ e. omega arith)) (eq-eqb (r % 4) 0 m) (ne_eqb (r % 4) 2 (λ e. omega arith)) d
+found closed h n r l is = let m : r % 4 ≡ 2 = omega arith in let d : r / 64 ≡ n = omega arith in as_closed (ne_eqb (r % 4) 1 (λ e. omega arith)) (ne_eqb (r % 4) 0 (λ e. omega arith)) (eq-eqb (r % 4) 2 m) d
+
+noted_by : (b : Bool) (a k : ℕ) (freed : Option ℕ) → (if b then Some a else freed) ≡ Some k → ((b ≡ true) × (a ≡ k)) ⊎ (freed ≡ Some k)
+noted_by true a k freed e = inl (refl, cc)
+noted_by false a k freed e = inr e
+
+-- the note is new, or was there
+pub noted_is : (freed : Option ℕ) (st : ℕ) (floors : List ℕ) (r k : ℕ) → noted freed st floors r ≡ Some k → ((is_free r ≡ true) × (lower_marked st floors ≡ true) × (owner_at r ≡ k)) ⊎ (freed ≡ Some k)
+noted_is freed st floors r k e = ⊎_elim (λ (q : ((is_free r && lower_marked st floors) ≡ true) × (owner_at r ≡ k)). let b = and_both (is_free r) (lower_marked st floors) q.0 in inl (b.0, b.1, q.1)) (λ q. inr q) (noted_by (is_free r && lower_marked st floors) (owner_at r) k freed e)

@@ -1,0 +1,104 @@
+-- What the rule tells of one seat, and that a seat whose role changes is still apart from the others.
+use Rattle.std.proofs.Common.{◌≡◌, ℕ, ◌+◌, ◌<◌, ◌≤◌, ◌≢◌, ◌⊎◌, List, [], ◌∷◌, ◌++◌, map, length, take, set, sym, ap, ◌∙◌, subst, inl, inr, ⊎_elim, arith, length-append}
+use mathlib.Core.Path.{Path}
+use mathlib.Core.Option.{some, some-ne-none}
+use lib.ListN.{get_elem?}
+use lib.Seq.{map-set}
+use Rattle.std.specs.List.{take-map}
+use Rattle.std.specs.Prelude.{Option, Some}
+use Rattle.atomic_table.specs.Table.{State}
+use Rattle.atomic_table.proofs.Lists.{at_set, at_map}
+use Rattle.nv_calls.specs.Calls.{Entry}
+use Rattle.nv_calls.specs.Logs.{Start}
+use Rattle.nv_calls.specs.LogLaws.{lawful_take}
+use Rattle.nv_words.specs.Spell.{spell}
+use Rattle.nv_words.specs.Begins.{Prefix}
+use Rattle.nv_room.specs.declared.view.View.{View}
+use Rattle.nv_room.specs.declared.view.Plan.{Plan}
+use Rattle.nv_room.specs.declared.view.Span.{Span}
+use Rattle.nv_room.specs.declared.view.Role.{Role}
+use Rattle.nv_room.specs.declared.view.Role.TheVariants.{Reader, Lead, Leaving, Gone, Spent}
+use Rattle.nv_room.specs.Placement.{Log}
+use Rattle.nv_room.specs.Owner.{held, free}
+use Rattle.nv_room.specs.Spans.{Rising, of_station}
+use Rattle.nv_room.specs.Room.{cursor, Moment, Led, InRole, Live, Unmade, IsSeated, Tag, tag, Out, Clash, Apart, Rule}
+use Rattle.nv_room.specs.Steps.{Tells}
+use Rattle.nv_room.proofs.Lists.{at_end, prefix_take}
+use Rattle.nv_room.proofs.Tiling.{last_of, tiles_none, below_last, of_more_own}
+use Rattle.nv_room.proofs.Stays.{Own, now}
+
+-- a prefix, and what follows it
+pub prefix_more : (xs : Log) (x : List ℕ) (ys : Log) → Prefix xs ys → get_elem? ys (length xs) ≡ some x → Prefix (xs ++ x ∷ []) ys
+prefix_more xs x ys pre next i y f = ⊎_elim (λ (g : get_elem? xs i ≡ some y). pre i y g) (λ (g : (i ≡ length xs) × (x ≡ y)). ap (get_elem? ys) g.0 ∙ next ∙ ap some g.1) (at_end xs x y i f)
+
+-- the holder has a span where there is any
+pub holder_led : (m : Moment) (st : ℕ) → Led m → of_station st m.spans ≡ [] → st ≡ m.holder → m.spans ≡ []
+holder_led m st led none is = ⊎_elim (λ (e : m.spans ≡ []). e)
+    (λ (q : (xs : List Span) × (x : Span) × (m.spans ≡ xs ++ x ∷ [])).
+    let own : of_station st m.spans ≡ of_station st q.0 ++ q.1 ∷ [] = ap (of_station st) q.2 ∙ of_more_own st q.0 q.1 (led.last_is_holders q.0 q.1 q.2 ∙ sym is) in
+    let long : length (of_station st q.0 ++ q.1 ∷ []) ≡ 0 = ap (λ (z : List Span). length z) (sym own ∙ none) in
+    let more = length-append (of_station st q.0) (q.1 ∷ []) in absurd (omega arith))
+    (last_of m.spans)
+
+-- no station above the holder led
+pub none_above : (m : Moment) (i : ℕ) (x : Span) → Led m → get_elem? m.spans i ≡ some x → x.station ≤ m.holder
+none_above m i x led e = ⊎_elim
+    (λ (q : m.spans ≡ []). absurd (some-ne-none x (sym e ∙ ap (λ (z : List Span). get_elem? z i) q)))
+    (λ (q : (xs : List Span) × (y : Span) × (m.spans ≡ xs ++ y ∷ [])).
+    let high = below_last 0 q.0 q.1 (subst (Rising 0) q.2 led.rise) i x (ap (λ (z : List Span). get_elem? z i) (sym q.2) ∙ e) in let last = led.last_is_holders q.0 q.1 q.2 in omega arith)
+    (last_of m.spans)
+
+-- a station that led nothing holds nothing, once there is an event
+pub not_holder : (m : Moment) (st : ℕ) → Led m → of_station st m.spans ≡ [] → 0 < length m.log → st ≢ m.holder
+not_holder m st led none pos is = let e = tiles_none 0 (length m.log) m.spans led.tile (holder_led m st led none is) in omega arith
+
+-- and is not held by it
+pub not_held : (m : Moment) (st : ℕ) → Led m → of_station st m.spans ≡ [] → m.phase ≡ held → st ≢ m.holder
+not_held m st led none is same = let e = led.unled_is_free (holder_led m st led none same) in let q : held ≡ free = sym is ∙ e in cc
+
+-- no step of a lead touches another seat
+pub beside_lead : (n c : ℕ) (m m' : Moment) (st h : ℕ) (seen : Log) (read wrote : List ℕ) (freed : Option ℕ) → m.phase ≡ held → h ≡ m.holder → h ≢ st → m'.holder ≡ m.holder → cursor m'.words st ≡ cursor m.words st → (r : Role) → InRole n c m st seen read wrote freed r → Own n c m m' st r
+beside_lead n c m m' st h seen read wrote freed is hs ne same cur Reader k = record { cursor_same = cur; freed_on = λ q f. absurd (let e = f.is_free in let a : held ≡ free = sym is ∙ e in cc) }
+beside_lead n c m m' st h seen read wrote freed is hs ne same cur Lead k = absurd (ne (hs ∙ sym k.is_holder))
+beside_lead n c m m' st h seen read wrote freed is hs ne same cur Leaving k = absurd (k.not_held is)
+beside_lead n c m m' st h seen read wrote freed is hs ne same cur Gone k = tt
+beside_lead n c m m' st h seen read wrote freed is hs ne same cur Spent k = tt
+
+-- a seat is set again with a tag that clashes with no more
+module _ (ts : List Tag) (id : ℕ) (a b : Tag) (at : get_elem? ts id ≡ some a) (less : (y : Tag) → Clash b y → Clash a y) (more : (y : Tag) → Clash y b → Clash y a) (old : Apart ts) where
+  pub apart_again : Apart (set ts id b)
+  apart_again j h x y e f c = ⊎_elim
+      (λ (p : (j ≡ id) × (Path Tag b x)). ⊎_elim (λ (q : (h ≡ id) × (Path Tag b y)). p.0 ∙ sym q.0)
+      (λ (q : (h ≢ id) × (get_elem? ts h ≡ some y)). p.0 ∙ old id h a y at q.1 (less y (subst (λ (z : Tag). Clash z y) (λ i. sym p.1 i) c))) (at_set ts id h b y f))
+      (λ (p : (j ≢ id) × (get_elem? ts j ≡ some x)). ⊎_elim (λ (q : (h ≡ id) × (Path Tag b y)). old j id x a p.1 at (more x (subst (λ (z : Tag). Clash x z) (λ i. sym q.1 i) c)) ∙ sym q.0)
+      (λ (q : (h ≢ id) × (get_elem? ts h ≡ some y)). old j h x y p.1 q.1 c) (at_set ts id h b y f))
+      (at_set ts id j b x e)
+
+module _ {K : Type 0} (hist : K → List Entry) (beg : K → Start) (p : Plan K) where
+  abbrev St : Type 0
+  St = State (Option K) (View K)
+
+  abbrev RuleOf : St → Type 0
+  RuleOf = Rule hist beg p
+
+  -- a live seat whose role alone changes, as far as others see it
+  pub apart_role : (s : St) (r : RuleOf s) (id : ℕ) (v : View K) (role : Role) → get_elem? s.views id ≡ some v → Live v.role → Apart (set (map tag s.views) id (role, (tag v).1, (tag v).2, (tag v).3))
+  apart_role s r id v role at l = apart_again (map tag s.views) id (tag v) (role, (tag v).1, (tag v).2, (tag v).3) (at_map tag s.views id v at) (λ y c. (l, c.1, c.2)) (λ y c. (c.0, l, c.2)) r.one_seat_a_station
+
+  -- two seats that are not spent have two stations
+  pub apart_from : (s : St) (r : RuleOf s) (j id : ℕ) (u v : View K) → get_elem? s.views j ≡ some u → get_elem? s.views id ≡ some v → j ≢ id → Live v.role → Live u.role → u.station ≢ v.station
+  apart_from s r j id u v e at ne lv lu same = ne (r.one_seat_a_station j id (tag u) (tag v) (at_map tag s.views j u e) (at_map tag s.views id v at) (lu, lv, inl same))
+
+  -- no seat is of a station that is still to be made
+  pub apart_unmade : (s : St) (r : RuleOf s) (j id : ℕ) (u v : View K) → get_elem? s.views j ≡ some u → get_elem? s.views id ≡ some v → j ≢ id → Live v.role → Live u.role → (t : ℕ) → Unmade p.stations u.station u.made t → t ≢ v.station
+  apart_unmade s r j id u v e at ne lv lu t un same = ne (r.one_seat_a_station j id (tag u) (tag v) (at_map tag s.views j u e) (at_map tag s.views id v at) (lu, lv, inr (inl (un.first, inl (let a = un.not_made in omega arith)))))
+
+  pub in_role : (s : St) (r : RuleOf s) (id : ℕ) (v : View K) → get_elem? s.views id ≡ some v → (role : Role) → v.role ≡ role → InRole p.stations p.places (now hist beg p s r) v.station v.seen v.read v.wrote v.freed role
+  in_role s r id v at role is = subst (InRole p.stations p.places (now hist beg p s r) v.station v.seen v.read v.wrote v.freed) is (r.each_seat id v at).in_role
+
+  pub seated : (s : St) (r : RuleOf s) (id : ℕ) (v : View K) → get_elem? s.views id ≡ some v → (role : Role) → v.role ≡ role → Live role → IsSeated p.stations p.places p.start (now hist beg p s r) v
+  seated s r id v at role is l = (r.each_seat id v at).seated (subst Live (sym is) l)
+
+  -- the first events of the log are lawful
+  pub told : (s : St) (r : RuleOf s) (xs : Log) → Prefix xs r.log → Tells xs
+  told s r xs pre = (take (length xs) r.events, sym (take-map spell (length xs) r.events) ∙ ap (take (length xs)) r.log_is_spelt ∙ prefix_take xs r.log pre, lawful_take r.events (length xs) r.log_is_lawful)

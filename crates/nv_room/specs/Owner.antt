@@ -1,0 +1,40 @@
+-- The owner word: who holds the kernel or held it last, and, where it is not held, at how many events.
+use Rattle.std.specs.Prelude.{◌≡◌, ℕ, zero, suc, ◌+◌, ◌*◌, ◌/◌, ◌%◌, ◌==◌, ◌&&◌, Bool, true, false, List, [], ◌∷◌, Option, Some, if◌then◌else◌}
+
+-- a cursor word that says that the station has left; it is above every count
+abbrev pub GONE : ℕ
+GONE = 18446744073709551615
+
+pub data Phase : Type 0 where
+  held : Phase
+  free : Phase
+  closed : Phase
+
+-- the station is below 16; a table of zeros is free at 0
+abbrev pub owner_word : Phase → ℕ → ℕ → ℕ
+owner_word held s n = s * 4 + 1
+owner_word free s n = (n * 16 + s) * 4
+owner_word closed s n = (n * 16 + s) * 4 + 2
+
+-- the number that the word carries, which is 0 where it is held
+abbrev pub owner_at : ℕ → ℕ
+owner_at r = r / 64
+
+abbrev pub is_held : ℕ → Bool
+is_held r = r % 4 == 1
+
+abbrev pub is_free : ℕ → Bool
+is_free r = r % 4 == 0
+
+abbrev pub is_closed : ℕ → Bool
+is_closed r = r % 4 == 2
+
+-- all stations below s are marked gone
+abbrev pub lower_marked : ℕ → List ℕ → Bool
+lower_marked zero fs = true
+lower_marked (suc s) [] = false
+lower_marked (suc s) (f ∷ fs) = (f == GONE) && lower_marked s fs
+
+-- the note of a free owner after a look at its word
+abbrev pub noted : Option ℕ → ℕ → List ℕ → ℕ → Option ℕ
+noted freed station floors r = if is_free r && lower_marked station floors then Some (owner_at r) else freed

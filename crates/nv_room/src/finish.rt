@@ -1,0 +1,88 @@
+//! How a room ends: every station's seat comes back, and the kernel is taken out of its slot.
+ghost use Rattle.std.specs.Prelude.{◌≡◌, ℕ, ◌+◌, ◌<◌, ◌≤◌, [], length, map};
+ghost use Rattle.nv_calls.specs.Logs.{IsLegal, IsLawful};
+ghost use Rattle.nv_words.specs.Spell.{spell};
+ghost use Rattle.nv_room.specs.declared.view.Role.TheVariants.{Gone as IsGone};
+ghost use Rattle.nv_room.specs.Seats.{stations_of, origin, with_ended};
+ghost use Rattle.nv_room.specs.Lefts.{LeftsOf, IsEach, Counted, AllTell};
+
+use crate::plays::TakeBack;
+use crate::room::{Left, Room};
+use crate::rule::Kept;
+use crate::view::{Plan, View};
+use atomic_table::{Seat, Table};
+use nv_calls::SyscallKernel;
+use std::alloc::Global;
+
+type Board<K> = Table<Option<K>, View<K>, Plan<K>, Kept<K>, Global>;
+
+/// What is left of a room: the kernel, and for each station how many events its seat saw.
+#[derive(Drop)]
+pub struct Ended<K: SyscallKernel> {
+    pub kernel: K,
+    pub seen: Vec<u32>,
+}
+
+// The seats come back to this one.
+fn join_all<K: SyscallKernel>(
+    table: &Board<K>,
+    seat: &mut Seat<Option<K>, View<K>>,
+    counts: &mut Vec<u32>,
+    mut left: Vec<Left<K>>,
+)
+    requires seat { (seat.old.table_id ≡ table.now.shared.table_id) × (seat.old.me.0.role ≡ IsGone) × (0 < table.now.shared.table_id.words) }
+    requires left { LeftsOf (length counts.old.items) table.now.shared.table_id left.items }
+    ensures same { (seat.new.table_id ≡ seat.old.table_id) × (seat.new.id ≡ seat.old.id) × (seat.new.me.0 ≡ with_ended seat.old.me.0 seat.new.me.0.ended) }
+    ensures counts { Counted left.items seat.new.me.0.ended counts.old.items counts.new.items }
+{
+    while let Some(one) = left.pop() {
+        let Left {
+            seat: other,
+            station,
+            seen,
+        } = one;
+        counts[station as usize] = seen;
+        table.shared.join_seat::<TakeBack>(seat, other);
+    }
+}
+
+impl<K: SyscallKernel> Room<K> {
+    /// Every station has left. The kernel has the whole history; each station's seen list is a prefix of it,
+    /// what it has read of a further event begins the event that follows, and the spans that the stations led
+    /// tile it in order of station. It takes no memory.
+    pub fn finish(self, mut left: Vec<Left<K>>) -> Ended<K>
+        requires { IsEach self left.items }
+        ensures start { K.start result.kernel ≡ K.start (origin self) }
+        ensures legal { IsLegal (K.start (origin self)) (K.log result.kernel) }
+        ensures lawful { IsLawful (K.log result.kernel) }
+        ensures left { AllTell (map spell (K.log result.kernel)) result.seen.items left.items }
+        ensures wide { length result.seen.items ≡ stations_of self }
+    {
+        let Room {
+            table,
+            stations: _,
+            places: _,
+            mut counts,
+        } = self;
+        let Some(base) = left.pop() else {
+            unreachable!()
+        };
+        let Left {
+            mut seat,
+            station,
+            seen,
+        } = base;
+        join_all(&table, &mut seat, &mut counts, left);
+        counts[station as usize] = seen;
+        let mut closed = table.close_with(seat);
+        let Some(kernel) = closed.take(0) else {
+            unreachable!()
+        };
+        closed.free();
+        let _log = kernel.history();
+        Ended {
+            kernel,
+            seen: counts,
+        }
+    }
+}

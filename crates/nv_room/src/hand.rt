@@ -1,0 +1,173 @@
+//! The steps with which a lead gives the kernel up, a reader takes it, and a station leaves.
+ghost use Rattle.std.specs.Prelude.{◌≡◌, ℕ, ◌<◌, ◌≤◌, ◌⊎◌, [], ◌∷◌, true, false, length, map, Some};
+ghost use Rattle.nv_calls.specs.Logs.{live_after};
+ghost use Rattle.nv_words.specs.Spell.{spell};
+ghost use Rattle.nv_room.specs.Owner.{free, closed, owner_word, owner_at, is_free, is_closed};
+ghost use Rattle.nv_room.specs.Steps.{as_leaving, as_lead, as_gone};
+ghost use Rattle.nv_room.specs.Seats.{IsOfRoom, IsLeadOf, IsLeavingOf, IsLeftOf, view, lead_view, leaving_view, left_view, station_of_reader, station_of_lead, station_of_leaving, station_of_left, kernel_of, due_of, origin};
+
+use crate::plays::{GiveUp, Leave, Take};
+use crate::room::{Lead, Leaving, Left, Reader, Room, STATIONS};
+use crate::steps::{FIRST_CURSOR, GONE, OWNER};
+use nv_calls::SyscallKernel;
+
+const HELD: u64 = 1;
+
+const CLOSED: u64 = 2;
+
+impl<K: SyscallKernel> Lead<K> {
+    // The owner word of a room that is free at head.
+    fn free_word(&self) -> u64
+        requires { self.now.station < 16 }
+        ensures { result ≡ owner_word free self.now.station self.now.seen }
+    {
+        (self.seen as u64 * 16 + self.station as u64) * 4
+    }
+}
+
+impl<K: SyscallKernel> Room<K> {
+    /// The kernel goes home, and the room is free at head.
+    pub fn retire_step(&self, lead: Lead<K>) -> Leaving<K>
+        requires of { IsLeadOf self.now lead }
+        requires none_due { due_of lead ≡ false }
+        ensures of { IsLeavingOf self.now result }
+        ensures station { station_of_leaving result ≡ station_of_lead lead }
+        ensures view { leaving_view result ≡ as_leaving (lead_view lead) (leaving_view result).owner_last }
+        ensures given { (is_free (leaving_view result).owner_last ≡ true) × (owner_at (leaving_view result).owner_last ≡ length (lead_view lead).seen) }
+        ensures log { (leaving_view result).seen ≡ map spell (K.log (kernel_of lead)) }
+    {
+        let word = lead.free_word();
+        self.give_up(lead, word)
+    }
+
+    /// The kernel, which has ended, goes home, and the room is closed at head.
+    pub fn close_step(&self, lead: Lead<K>) -> Leaving<K>
+        requires of { IsLeadOf self.now lead }
+        requires none_due { due_of lead ≡ false }
+        requires ended { live_after (K.log (kernel_of lead)) ≡ [] }
+        ensures of { IsLeavingOf self.now result }
+        ensures station { station_of_leaving result ≡ station_of_lead lead }
+        ensures view { leaving_view result ≡ as_leaving (lead_view lead) (leaving_view result).owner_last }
+        ensures given { (is_closed (leaving_view result).owner_last ≡ true) × (owner_at (leaving_view result).owner_last ≡ length (lead_view lead).seen) }
+        ensures log { (leaving_view result).seen ≡ map spell (K.log (kernel_of lead)) }
+    {
+        let word = lead.free_word() + CLOSED;
+        self.give_up(lead, word)
+    }
+
+    // The kernel goes home, and the owner word becomes this one.
+    fn give_up(&self, lead: Lead<K>, word: u64) -> Leaving<K>
+        requires of { IsLeadOf self.now lead }
+        requires none_due { due_of lead ≡ false }
+        requires word { (word ≡ owner_word free lead.station lead.seen) ⊎ ((word ≡ owner_word closed lead.station lead.seen) × (live_after (K.log (kernel_of lead)) ≡ [])) }
+        ensures of { IsLeavingOf self.now result }
+        ensures station { station_of_leaving result ≡ station_of_lead lead }
+        ensures view { leaving_view result ≡ as_leaving (lead_view lead) word }
+        ensures log { (leaving_view result).seen ≡ map spell (K.log (kernel_of lead)) }
+    {
+        lead.tell_lawful();
+        let Lead {
+            mut seat,
+            kernel,
+            station,
+            seen,
+            wrote: _,
+            due: _,
+            floors: _,
+            next: _,
+        } = lead;
+        let inside = self.table.shared.exchange(&mut seat, 0, Some(kernel));
+        match inside {
+            None => {}
+            Some(_) => unreachable!(),
+        }
+        self.table.shared.store::<GiveUp>(&mut seat, OWNER, word);
+        Leaving {
+            seat,
+            station,
+            seen,
+        }
+    }
+
+    /// The kernel comes to the reader, with the history that it has seen.
+    pub fn take_step(&self, reader: Reader<K>) -> Lead<K>
+        requires of { IsOfRoom self.now reader }
+        requires freed { (view reader).freed ≡ Some (length (view reader).seen) }
+        ensures of { IsLeadOf self.now result }
+        ensures station { station_of_lead result ≡ station_of_reader reader }
+        ensures view { lead_view result ≡ as_lead (view reader) }
+        ensures due { due_of result ≡ false }
+        ensures log { map spell (K.log (kernel_of result)) ≡ (view reader).seen }
+        ensures start { K.start (kernel_of result) ≡ K.start (origin self.now) }
+    {
+        let Reader {
+            mut seat,
+            station,
+            seen,
+            read: _,
+            head: _,
+        } = reader;
+        self.table
+            .shared
+            .store::<Take<K>>(&mut seat, OWNER, station as u64 * 4 + HELD);
+        let inside = self.table.shared.exchange(&mut seat, 0, None);
+        let Some(kernel) = inside else { unreachable!() };
+        let next = self.place(seen, 0);
+        Lead {
+            seat,
+            kernel,
+            station,
+            seen,
+            wrote: 0,
+            due: false,
+            floors: [0; STATIONS],
+            next,
+        }
+    }
+
+    /// The station of a seat that gave the kernel up leaves.
+    pub fn leave_step(&self, seat: Leaving<K>) -> Left<K>
+        requires of { IsLeavingOf self.now seat }
+        ensures of { IsLeftOf self.now result }
+        ensures station { station_of_left result ≡ station_of_leaving seat }
+        ensures view { left_view result ≡ as_gone (leaving_view seat) }
+    {
+        let Leaving {
+            seat: mut inner,
+            station,
+            seen,
+        } = seat;
+        self.table
+            .shared
+            .store::<Leave>(&mut inner, station as usize + FIRST_CURSOR, GONE);
+        Left {
+            seat: inner,
+            station,
+            seen,
+        }
+    }
+
+    /// The station of a reader leaves.
+    pub fn leave_reader(&self, reader: Reader<K>) -> Left<K>
+        requires of { IsOfRoom self.now reader }
+        ensures of { IsLeftOf self.now result }
+        ensures station { station_of_left result ≡ station_of_reader reader }
+        ensures view { left_view result ≡ as_gone (view reader) }
+    {
+        let Reader {
+            mut seat,
+            station,
+            seen,
+            read: _,
+            head: _,
+        } = reader;
+        self.table
+            .shared
+            .store::<Leave>(&mut seat, station as usize + FIRST_CURSOR, GONE);
+        Left {
+            seat,
+            station,
+            seen,
+        }
+    }
+}
