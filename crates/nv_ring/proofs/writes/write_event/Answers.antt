@@ -81,6 +81,7 @@ loop-i-preserved g c =
       kernel = w.kernel ∙ i.kernel;
       seen = ap (λ v. v.seen) w.view ∙ i.seen;
       floors = ap (λ v. v.floors) w.view ∙ i.floors;
+      spans = ap (λ v. v.spans) w.view ∙ i.spans;
       wrote = λ e is.
           let one : entry c.index-history-at.result ≡ e = same_Some _ _ (sym first ∙ is) in
           let two : entry c.index-history-at-in-loop-i.result ≡ e = same_Some _ _ (sym again ∙ is) in

@@ -13,5 +13,6 @@ invariant-loop-i g l = record {
   kernel : kernel_of l.lead ≡ kernel_of l.fn.lead;
   seen : (lead_view l.lead).seen ≡ (lead_view l.fn.lead).seen;
   floors : (lead_view l.lead).floors ≡ (lead_view l.fn.lead).floors;
+  spans : (lead_view l.lead).spans ≡ (lead_view l.fn.lead).spans;
   wrote : (e : Entry) → slice_get (g.K.SyscallKernel.log (kernel_of l.fn.lead)) l.at ≡ Some e → (lead_view l.lead).wrote ≡ take l.i (spell e);
 }

@@ -1,0 +1,34 @@
+use Rattle.std.proofs.Common.{arith, sym, ap, subst, ◌∙◌, ◌≡◌, ◌<◌, ◌+◌, ◌++◌, ◌∷◌, [], ℕ, List, length, length-append}
+use Rattle.nv_words.specs.Begins.{Begins}
+use Rattle.nv_words.specs.Spell.{IsWhole}
+use Rattle.nv_room.specs.Steps.{Tells}
+use Rattle.nv_room.specs.Seats.{view}
+use Rattle.nv_ring.proofs.Events.{begins_short}
+use Rattle.nv_ring.proofs.reads.read_event.Goals as goal
+
+pub loop-i-preserved : goal.loop-i-preserved
+loop-i-preserved g c = let i = c.loop-i.invariant in let e = c.read_word-word.ensures in let v = e.view in let now = c.in-More.ensures.words in
+    let read : (view c.read_word-word.new.reader).read ≡ c.put.new.self = ap (λ w. w.read) v ∙ ap (λ (z : List ℕ). z ++ c.read_word-word.result ∷ []) i.read ∙ sym now in
+    let at : c.loop-i.i + 1 ≡ length c.put.new.self = (let a = ap length now in let b = length-append c.loop-i.buf (c.read_word-word.result ∷ []) in let d = i.at in omega arith) in
+    record {
+      same = (e.same.0 ∙ i.same.0, e.same.1 ∙ i.same.1, e.same.2 ∙ i.same.2);
+      of = e.of;
+      kept = record { seen = ap (λ w. w.seen) v ∙ i.kept.seen; floors = ap (λ w. w.floors) v ∙ i.kept.floors; cursor_looks = ap (λ w. w.cursor_looks) v ∙ i.kept.cursor_looks; spans = ap (λ w. w.spans) v ∙ i.kept.spans };
+      ahead = subst (λ w. length w.seen < w.head_last) (sym v) i.ahead;
+      read = read;
+      at = at;
+      part = c.in-More.ensures.whole;
+      short = (let s = begins_short c.put.new.self (subst Begins read e.begins) c.in-More.ensures.whole in omega arith);
+    }
+
+pub returns-in-Whole-clause-read : goal.returns-in-Whole-clause-read
+returns-in-Whole-clause-read g c = let i = c.loop-i.invariant in let e = c.read_word-word.ensures in let v = e.view in let now = c.in-Whole.ensures.words in
+    let read : (view c.read_word-word.new.reader).read ≡ c.put.new.self = ap (λ w. w.read) v ∙ ap (λ (z : List ℕ). z ++ c.read_word-word.result ∷ []) i.read ∙ sym now in
+    let same = ap (λ w. w.seen) v in
+    record {
+      kept = record { seen = same ∙ i.kept.seen; floors = ap (λ w. w.floors) v ∙ i.kept.floors; cursor_looks = ap (λ w. w.cursor_looks) v ∙ i.kept.cursor_looks; spans = ap (λ w. w.spans) v ∙ i.kept.spans };
+      published = subst (λ w. length w.seen < w.head_last) (sym v) i.ahead;
+      read = read;
+      whole = c.in-Whole.ensures.whole;
+      lawful = subst (λ (z : List (List ℕ)). Tells (z ++ c.put.new.self ∷ [])) (sym same) (subst (λ (z : List ℕ). Tells ((view c.loop-i.reader).seen ++ z ∷ [])) read (e.lawful (subst IsWhole (sym read) c.in-Whole.ensures.whole)));
+    }
