@@ -1,5 +1,5 @@
 -- A thread that makes calls that do not end it lives on.
-use Rattle.std.proofs.Common.{◌≡◌, sym, subst, ℕ, zero, Bool, true, false, List, [], ◌∷◌, ◌++◌, Option, Some, None, arith, cond}
+use Rattle.std.proofs.Common.{◌≡◌, ◌∙◌, sym, ap, subst, eq-eqb, ℕ, zero, Bool, true, false, List, [], ◌∷◌, ◌++◌, Option, Some, None, arith, cond}
 use Rattle.std.specs.Prelude.{◌==◌, not, filter, Contains}
 use Rattle.std.proofs.lemmas.List.Elements.{Contains-append_left}
 use Rattle.std.proofs.lemmas.Bool.Decides.{nat_tests}
@@ -26,3 +26,7 @@ lives_on log e x g h = subst (λ (z : List ℕ). Contains z x) (sym (live_more l
 
 pub first_lives : (log : List Entry) (x : ℕ) → log ≡ [] → x ≡ 100 → Contains (live_after log) x
 first_lives log x e is = subst (λ (z : List Entry). Contains (live_after z) x) (sym e) (zero, omega arith, sym is)
+
+-- exit_group ends all threads
+pub all_end : (log : List Entry) (e : Entry) → e.call.nr ≡ 94 → live_after (log ++ e ∷ []) ≡ []
+all_end log e is = live_more log e ∙ ap (λ (b : Bool). cond b [] (cond (e.call.nr == 93) (filter (λ u. not (u == e.call.tid)) (live_after log)) (with_child (live_after log) (child_of e)))) (eq-eqb e.call.nr 94 is)

@@ -1,11 +1,14 @@
 -- Readers in the order of their stations.
-use Rattle.std.proofs.Common.{◌≡◌, ℕ, zero, suc, ◌+◌, ◌<◌, List, [], ◌∷◌, length, get_or, sym, arith}
+use Rattle.std.proofs.Common.{◌≡◌, ℕ, zero, suc, ◌+◌, ◌-◌, ◌<◌, ◌⊎◌, List, [], ◌∷◌, ◌++◌, length, get_or, sym, ap, refl, ◌∙◌, subst, inl, inr, ⊎_elim, arith}
 use mathlib.Core.Option.{some, some-injective, some-ne-none}
 use lib.ListN.{get_elem?}
+use Rattle.atomic_table.proofs.Lists.{at_longer, at_last}
 use Rattle.nv_calls.specs.declared.kernel.SyscallKernel.{Ghosts}
 use Rattle.nv_room.specs.declared.room.Room.{Room}
 use Rattle.nv_room.specs.declared.room.Reader.{Reader}
-use Rattle.nv_room.specs.Seats.{AllSeats}
+use Rattle.nv_room.specs.declared.room.Left.{Left}
+use Rattle.nv_room.specs.Seats.{FreshReaders, IsFresh, IsOfRoom, IsLeftOf, station_of_reader, station_of_left, stations_of}
+use Rattle.nv_room.specs.Lefts.{IsEach}
 use Rattle.nv_room_tests.specs.Backs.{InOrder}
 
 pub at_below : {A : Type 0} (l : List A) (i : ℕ) (a : A) → get_elem? l i ≡ some a → i < length l
@@ -18,13 +21,45 @@ at_value [] i a d e = absurd (some-ne-none a (sym e))
 at_value (x ∷ xs) zero a d e = some-injective x a e
 at_value (x ∷ xs) (suc i) a d e = at_value xs i a d e
 
+there : {A : Type 0} (l : List A) (i : ℕ) → i < length l → (a : A) × (get_elem? l i ≡ some a)
+there [] i h = absurd (omega arith)
+there (x ∷ xs) zero h = (x, refl)
+there (x ∷ xs) (suc i) h = there xs i (omega arith)
+
+at_end : {A : Type 0} (l : List A) (a b : A) (j : ℕ) → get_elem? (l ++ a ∷ []) j ≡ some b → (get_elem? l j ≡ some b) ⊎ ((j ≡ length l) × (a ≡ b))
+at_end [] a b zero e = inr (refl, some-injective a b e)
+at_end [] a b (suc j) e = absurd (some-ne-none b (sym e))
+at_end (x ∷ xs) a b zero e = inl e
+at_end (x ∷ xs) a b (suc j) e = ⊎_elim (λ t. inl t) (λ t. inr (ap suc t.0, t.1)) (at_end xs a b j e)
+
+-- Seats that have left
+
 module _ {K : Type 0} {G : Ghosts K} where
-  -- readers in order are all seats
-  pub all_seats : (room : Room K G) (rs : List (Reader K G)) → InOrder room rs → length rs + 1 ≡ room.stations → AllSeats room rs
-  all_seats room rs h long = (
+  -- the seats of the highest stations, downwards
+  abbrev pub Down : Room K → List (Left K G) → Type 0
+  Down room ls = (i : ℕ) (l : Left K G) → get_elem? ls i ≡ some l → IsLeftOf room l × (station_of_left l + i + 1 ≡ stations_of room)
+
+  pub down_more : (room : Room K) (ls : List (Left K G)) (l : Left K G) → Down room ls → IsLeftOf room l → station_of_left l + length ls + 1 ≡ stations_of room → Down room (ls ++ l ∷ [])
+  down_more room ls l old of is i x f = ⊎_elim (λ (q : get_elem? ls i ≡ some x). old i x q)
+      (λ (q : (i ≡ length ls) × (l ≡ x)). subst (λ (z : Left K G). IsLeftOf room z × (station_of_left z + i + 1 ≡ stations_of room)) q.1 (of, (let a = q.0 in omega arith))) (at_end ls l x i f)
+
+  pub order_less : (room : Room K) (rs rest : List (Reader K G)) (r : Reader K G) → rs ≡ rest ++ r ∷ [] → InOrder room rs → InOrder room rest × IsOfRoom room r × (station_of_reader r ≡ length rest + 1)
+  order_less room rs rest r is old =
+      let last = old (length rest) r (ap (λ (z : List (Reader K G)). get_elem? z (length rest)) is ∙ at_last rest r (length rest) refl) in
+      ((λ i x f. old i x (ap (λ (z : List (Reader K G)). get_elem? z i) is ∙ at_longer rest (r ∷ []) i x f)), last.0, last.1)
+
+  -- as many as there are stations are the seats of all
+  pub all_left : (room : Room K) (ls : List (Left K G)) → Down room ls → length ls ≡ stations_of room → IsEach room ls
+  all_left room ls h long = (
     record {
-      table = λ i r f. let m = h i r f in (m.0.0, (let s = m.1 in omega arith), m.0.1);
-      apart = λ i j r q f g e. let a = (h i r f).1 in let b = (h j q g).1 in omega arith;
+      table = λ i l f. let m = h i l f in m.0;
+      apart = λ i j l q f g e. let a = (h i l f).1 in let b = (h j q g).1 in omega arith;
     },
-    long,
+    λ s near. let i : ℕ = stations_of room - suc s in let x = there ls i (omega arith) in let m = (h i x.0 x.1).1 in (i, x.0, x.1, omega arith),
+  )
+
+  pub fresh_less : (room : Room K) (rs rest : List (Reader K G)) (r : Reader K G) → rs ≡ rest ++ r ∷ [] → FreshReaders room rs → FreshReaders room rest × IsFresh room (length rest + 1) r
+  fresh_less room rs rest r is old = (
+    (λ i x f. old i x (ap (λ (z : List (Reader K G)). get_elem? z i) is ∙ at_longer rest (r ∷ []) i x f)),
+    old (length rest) r (ap (λ (z : List (Reader K G)). get_elem? z (length rest)) is ∙ at_last rest r (length rest) refl),
   )

@@ -1,10 +1,10 @@
 -- Calls that are shaped.
-use Rattle.std.proofs.Common.{◌≡◌, ℕ, ◌≤◌, ◌==◌, min, Bool, true, false, List, [], ◌∷◌, length, refl, arith}
+use Rattle.std.proofs.Common.{◌≡◌, ℕ, ◌≤◌, ◌==◌, ◌&&◌, not, min, Bool, true, false, List, [], ◌∷◌, length, ap, ◌∙◌, refl, arith}
 use Rattle.std.proofs.lemmas.Bool.Decides.{nat_tests}
 use Rattle.nv_calls.specs.declared.numbers.Syscall.{Syscall}
 use Rattle.nv_calls.specs.declared.numbers.Syscall.TheVariants.{Write}
 use Rattle.nv_calls.specs.Calls.{Request}
-use Rattle.nv_calls.specs.Numbers.{syscall_of}
+use Rattle.nv_calls.specs.Numbers.{syscall_of, is_local}
 use Rattle.nv_calls.specs.Shapes.{IsShaped, is_shaped, is_shaped_as}
 
 abbrev plain : ℕ → ℕ → Request
@@ -14,13 +14,13 @@ plain_as : (k : Syscall) (tid nr : ℕ) → is_shaped_as k (plain tid nr) ≡ tr
 plain_as Write tid nr = refl
 plain_as _ tid nr = refl
 
--- each call without arguments and bytes
-pub plain-shaped : (tid nr : ℕ) → IsShaped (plain tid nr)
+-- each call without arguments and bytes that is logged
+pub plain-shaped : (tid nr : ℕ) → is_local nr ≡ false → IsShaped (plain tid nr)
 unfolding is_shaped
-plain-shaped tid nr = plain_as (syscall_of nr) tid nr
+plain-shaped tid nr logged = ap (λ b. not b && is_shaped_as (syscall_of nr) (plain tid nr)) logged ∙ plain_as (syscall_of nr) tid nr
 
 -- a write of so many bytes
 pub write-shaped : (tid count : ℕ) (bytes : List ℕ) → length bytes ≡ count → count ≤ 4096
     → IsShaped (record { tid = tid; nr = 64; args = 1 ∷ 0 ∷ count ∷ 0 ∷ 0 ∷ 0 ∷ []; bad = false; payload = bytes })
-unfolding is_shaped syscall_of
+unfolding is_shaped syscall_of is_local
 write-shaped tid count bytes e few = let all : (length bytes == min count 4096) ≡ true = grind (arith, nat_tests) in rw all refl

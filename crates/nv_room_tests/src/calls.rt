@@ -1,6 +1,7 @@
 //! A kernel, and calls of the first thread by Linux's numbers for RISC-V.
-ghost use Rattle.std.specs.Prelude.{◌≡◌, ◌≤◌, [], IfOk};
+ghost use Rattle.std.specs.Prelude.{◌≡◌, ◌≤◌, false, [], IfOk};
 ghost use Rattle.nv_calls.specs.Calls.{request};
+ghost use Rattle.nv_calls.specs.Numbers.{is_local};
 ghost use Rattle.nv_calls.specs.Shapes.{IsShaped};
 ghost use Rattle.nv_room_tests.specs.Going.{GoesOn};
 
@@ -24,6 +25,7 @@ pub fn kernel(alloc: Global) -> Result<ScriptKernel, AllocError>
     }
 }
 
+#[tactic(auto, unfolding(nv_calls::specs::Numbers::is_local))]
 pub fn getuid(alloc: Global) -> Result<Call, AllocError>
     ensures shaped { IfOk result (λ c. IsShaped (request c)) }
     ensures first { IfOk result (λ c. c.tid ≡ 100) }
@@ -32,14 +34,17 @@ pub fn getuid(alloc: Global) -> Result<Call, AllocError>
     call(alloc, GETUID)
 }
 
+#[tactic(auto, unfolding(nv_calls::specs::Numbers::is_local))]
 pub fn exit_group(alloc: Global) -> Result<Call, AllocError>
     ensures shaped { IfOk result (λ c. IsShaped (request c)) }
     ensures first { IfOk result (λ c. c.tid ≡ 100) }
+    ensures ends { IfOk result (λ c. c.nr ≡ 94) }
 {
     call(alloc, EXIT_GROUP)
 }
 
 fn call(alloc: Global, nr: u32) -> Result<Call, AllocError>
+    requires logged { is_local nr ≡ false }
     ensures shaped { IfOk result (λ c. IsShaped (request c)) }
     ensures first { IfOk result (λ c. c.tid ≡ 100) }
     ensures nr { IfOk result (λ c. c.nr ≡ nr) }

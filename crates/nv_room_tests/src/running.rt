@@ -5,11 +5,12 @@ ghost use Rattle.nv_calls.specs.Calls.{request};
 ghost use Rattle.nv_calls.specs.Logs.{served, live_after, IsLegal, IsLawful};
 ghost use Rattle.nv_calls.specs.Shapes.{IsShaped};
 ghost use Rattle.nv_words.specs.Spell.{IsWhole};
-ghost use Rattle.nv_room.specs.Seats.{IsOfRoom, IsLeadOf, IsFresh, FreshReaders, view, lead_view, due_of, kernel_of, station_of_reader};
+ghost use Rattle.nv_room.specs.Seats.{IsOfRoom, IsLeadOf, IsFresh, FreshReaders, view, due_of, kernel_of, origin, station_of_lead, station_of_reader, stations_of};
 ghost use Rattle.nv_room_tests.specs.Going.{GoesOn};
 ghost use Rattle.nv_room_tests.specs.Backs.{InOrder};
 
 use nv_calls::{Call, Event, SyscallKernel, same};
+use nv_promotion::{leave, retire};
 use nv_ring::{Placed, Polled, advance, place, poll, publish};
 use nv_room::{Ended, Lead, Reader, Room};
 use nv_words::EventBuf;
@@ -51,10 +52,10 @@ pub fn run<R: Threads + Sync, K: SyscallKernel>(
     let (room, readers, lead) = Room::make(alloc, kernel, versions, places)?;
     let shared = &room;
     let write = move || -> Lead<K>
-        requires of { IsLeadOf shared.now lead × (due_of lead ≡ false) × ((lead_view lead).wrote ≡ []) }
+        requires of { IsLeadOf shared.now lead × (due_of lead ≡ false) × (station_of_lead lead ≡ 0) }
         requires shaped { IsShaped (request script.now.call) × IsShaped (request script.now.last) }
         requires lives { Contains (live_after (K.log (kernel_of lead))) 100 × (script.now.call.tid ≡ 100) × (script.now.last.tid ≡ 100) × GoesOn (request script.now.call) }
-        ensures { IsLeadOf shared.entry.now result × (due_of result ≡ false) }
+        ensures { IsLeadOf shared.entry.now result × (due_of result ≡ false) × (station_of_lead result ≡ 0) }
     { lead_all(shared, lead, script) };
     let read = move || -> Result<Vec<Reader<K>>, AllocError>
         requires { FreshReaders shared.now readers.items × (script.now.events ≤ 131072) }
@@ -62,20 +63,43 @@ pub fn run<R: Threads + Sync, K: SyscallKernel>(
     { read_each(rt, alloc, shared, readers, script) };
     let (lead, readers) = join(rt, write, read);
     let readers = readers?;
-    Ok(room.stop(lead, readers))
+    end(alloc, room, lead, readers)
+}
+
+// The lead retires, the readers leave, and the room ends.
+fn end<K: SyscallKernel>(
+    alloc: Global,
+    room: Room<K>,
+    lead: Lead<K>,
+    mut readers: Vec<Reader<K>>,
+) -> Result<Ended<K>, AllocError>
+    requires lead { IsLeadOf room lead × (due_of lead ≡ false) × (station_of_lead lead ≡ 0) }
+    requires readers { InOrder room readers.items }
+    requires all { length readers.items + 1 ≡ stations_of room }
+    ensures start { IfOk result (λ e. K.start e.kernel ≡ K.start (origin room)) }
+    ensures legal { IfOk result (λ e. IsLegal (K.start (origin room)) (K.log e.kernel)) }
+    ensures lawful { IfOk result (λ e. IsLawful (K.log e.kernel)) }
+    ensures wide { IfOk result (λ e. length e.seen.items ≡ stations_of room) }
+{
+    let mut left = Vec::with_capacity(alloc, readers.len() + 1)?;
+    while let Some(reader) = readers.pop() {
+        left.push(leave(reader, &room))?;
+    }
+    left.push(retire(lead, &room))?;
+    Ok(room.finish(left))
 }
 
 /// Publishes the script.
 pub fn lead_all<K: SyscallKernel>(room: &Room<K>, mut lead: Lead<K>, script: &Script) -> Lead<K>
     requires of { IsLeadOf room.now lead }
     requires none_due { due_of lead ≡ false }
-    requires none_wrote { (lead_view lead).wrote ≡ [] }
     requires shaped { IsShaped (request script.now.call) × IsShaped (request script.now.last) }
     requires first { (script.now.call.tid ≡ 100) × (script.now.last.tid ≡ 100) }
     requires lives { Contains (live_after (K.log (kernel_of lead))) 100 }
     requires goes_on { GoesOn (request script.now.call) }
     ensures of { IsLeadOf room.now result }
     ensures due { due_of result ≡ false }
+    ensures station { station_of_lead result ≡ station_of_lead lead }
 {
     for _event in 1..script.events {
         if !publish_one(room, &mut lead, &script.call, script.most) {
@@ -87,15 +111,19 @@ pub fn lead_all<K: SyscallKernel>(room: &Room<K>, mut lead: Lead<K>, script: &Sc
 }
 
 // Publishes one call, unless the kernel has no memory, the log is full or no place comes free.
-fn publish_one<K: SyscallKernel>(room: &Room<K>, lead: &mut Lead<K>, call: &Call, most: u32) -> bool
+pub(crate) fn publish_one<K: SyscallKernel>(
+    room: &Room<K>,
+    lead: &mut Lead<K>,
+    call: &Call,
+    most: u32,
+) -> bool
     requires of { IsLeadOf room.now lead.old }
     requires none_due { due_of lead.old ≡ false }
-    requires none_wrote { (lead_view lead.old).wrote ≡ [] }
     requires shaped { IsShaped (request call.now) }
     requires lives { Contains (live_after (K.log (kernel_of lead.old))) call.now.tid }
     ensures of { IsLeadOf room.now lead.new }
     ensures due { due_of lead.new ≡ false }
-    ensures wrote { (lead_view lead.new).wrote ≡ [] }
+    ensures station { station_of_lead lead.new ≡ station_of_lead lead.old }
     ensures log { OnTrue result (K.log (kernel_of lead.new) ≡ K.log (kernel_of lead.old) ++ served (K.start (kernel_of lead.old)) (K.log (kernel_of lead.old)) (request call.now) ∷ []) }
 {
     if lead.seen() >= 131072 || lead.reserve(call).is_err() {
@@ -179,6 +207,7 @@ fn wait_for_event<K: SyscallKernel>(
         match poll(reader, room, buf) {
             Polled::Event => return true,
             Polled::Waiting => yield_now(),
+            Polled::Free(_) | Polled::Closed(_) => return false,
         }
     }
     false

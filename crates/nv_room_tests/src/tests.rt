@@ -1,6 +1,7 @@
 ghost use Rattle.std.specs.Prelude.{◌<◌, ◌≤◌};
 
 use crate::calls::{exit_group, getuid, kernel};
+use crate::changing::promote;
 use crate::running::{Script, run};
 use std::alloc::Global;
 use std::process::Abort;
@@ -47,4 +48,21 @@ fn four_readers(rt: HostRuntime) {
 fn seven_readers(rt: HostRuntime) {
     all_see_all(&rt, rt.alloc(), 8, 2);
     all_see_all(&rt, rt.alloc(), 8, 1024);
+}
+
+// Station 0 retires after three events, station 1 takes the lead and closes after five, and station 2 reads all.
+#[test]
+fn promotes(rt: HostRuntime) {
+    let alloc = rt.alloc();
+    let call = getuid(alloc).expect(&rt, "memory");
+    let last = exit_group(alloc).expect(&rt, "memory");
+    let kernel = kernel(alloc).expect(&rt, "memory");
+    let ended = promote(alloc, kernel, &call, &last).expect(&rt, "memory");
+    match ended {
+        Some(ended) => {
+            assert_eq!(rt; ended.seen.len(), 3);
+            assert_eq!(rt; ended.seen.as_slice(), [3, 5, 5].as_slice());
+        }
+        None => assert!(rt; false),
+    }
 }
