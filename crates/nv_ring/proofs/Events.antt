@@ -11,8 +11,8 @@ use Rattle.nv_calls.specs.declared.calls.Event.{Event}
 use Rattle.nv_calls.specs.LogLaws.{slice_some}
 use Rattle.nv_words.specs.Spell.{IsWhole, spell}
 use Rattle.nv_words.specs.Begins.{Begins}
-use Rattle.nv_words.specs.SpellLaws.{spell_whole}
-use Rattle.nv_words.specs.SpellLaws.{shorter}
+use Rattle.nv_words.proofs.SpellLaws.{spell_whole}
+use Rattle.nv_words.proofs.SpellLaws.{shorter}
 
 pub take_len : {A : Type 0} (xs : List A) (n : ℕ) → n ≡ length xs → take n xs ≡ xs
 take_len {A} xs n h = subst (λ (k : ℕ). take k xs ≡ xs) (sym h) (all xs)

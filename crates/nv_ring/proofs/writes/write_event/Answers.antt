@@ -4,7 +4,7 @@ use Rattle.std.proofs.lemmas.Option.{same_Some}
 use Rattle.nv_calls.specs.Calls.{Entry, entry}
 use Rattle.nv_calls.specs.Logs.{InRange, IsLawful}
 use Rattle.nv_words.specs.Spell.{spell, bit}
-use Rattle.nv_words.specs.SpellLaws.{spell_whole}
+use Rattle.nv_words.proofs.SpellLaws.{spell_whole}
 use Rattle.nv_room.specs.Seats.{lead_view, kernel_of}
 use Rattle.nv_ring.proofs.Events.{entry_at, last_spelt, one_more, as_long, take_len}
 use Rattle.nv_ring.proofs.writes.write_event.Goals as goal
