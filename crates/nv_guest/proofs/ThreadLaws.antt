@@ -1,9 +1,9 @@
 -- One thread of the table changes, and the others stay.
-use Rattle.std.proofs.Common.{◌≡◌, sym, ap, refl, ℕ, zero, suc, ◌<◌, ◌==◌, Bool, true, false, cond, List, [], ◌∷◌, length, get_or, arith}
+use Rattle.std.proofs.Common.{◌≡◌, ap, refl, ℕ, zero, suc, ◌==◌, Bool, true, false, cond, List, [], ◌∷◌, arith}
 use Rattle.std.specs.Prelude.{Contains}
 use Rattle.std.proofs.lemmas.Bool.Decides.{nat_tests}
 use Rattle.nv_machine.specs.Registers.{Registers}
-use Rattle.nv_guest.specs.Threads.{tids, regs_at, with_regs, dropped}
+use Rattle.nv_guest.specs.Threads.{tids, regs_at, with_regs}
 use Rattle.nv_guest.specs.declared.guest.Thread.{Thread}
 
 is : (a b : ℕ) → a ≡ b → (a == b) ≡ true

@@ -8,7 +8,7 @@ use Rattle.nv_machine.specs.declared.outcome.Stepped.{Stepped}
 use Rattle.nv_machine.specs.declared.outcome.Stepped.TheVariants.{On, Call, Fault as Faults}
 use Rattle.nv_guest.specs.Threads.{Threaded, Ran, run, more, unless_stopped, with_regs, with_machine, machine_at}
 use Rattle.nv_guest.specs.Threads as guests
-use Rattle.nv_guest.specs.ThreadLaws.{tids_stay, regs_written, regs_twice}
+use Rattle.nv_guest.proofs.ThreadLaws.{tids_stay, regs_written, regs_twice}
 use Rattle.nv_threads.specs.Threads.{Proc, tids, state_at, is_asking, is_running, machine, ran, ended_by, stepped, counted, instruction, wanted, can_move, is_on, turn_step}
 use Rattle.nv_threads.specs.Kept.{are_apart}
 use Rattle.nv_threads.specs.Going.{Goes, moved_on, burst}

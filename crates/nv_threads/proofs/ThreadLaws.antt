@@ -13,7 +13,7 @@ use Rattle.nv_machine.specs.declared.outcome.Stepped.TheVariants.{On, Call, Faul
 use Rattle.nv_guest.specs.Calls.{number}
 use Rattle.nv_threads.specs.Behaviours.{IsProcess}
 use Rattle.nv_threads.specs.Threads.{Proc, State, Runs, Asks, Waits, Task, tids, state_at, with_state, is_asking, asks, waiting_calls, next_tid, passed, machine, local, asking, called, ran, ended_by, counted, instruction, wanted, moves, moves_task, can_move, unless_live, is_on, faulted, turn_step, unless_came, steps, most_steps, advanced, first_byte, over, left_by, goes_on, with_child, answered_by, call_in, is_sole, threads}
-use Rattle.nv_threads.specs.Turns.{Quiet, same_tids, calls_more, local_quiet, passed_quiet}
+use Rattle.nv_threads.proofs.Quiet.{Quiet, same_tids, calls_more, local_quiet, passed_quiet}
 use Rattle.nv_threads.specs.declared.turns.Came.{Came}
 use Rattle.nv_threads.specs.declared.turns.Came.TheVariants.{Asked}
 use Rattle.nv_threads.specs.declared.turns.Want.{Want}
@@ -366,6 +366,7 @@ thread_laws = record {
         turn = answer_turn p t c r (c.nr == 94) (c.nr == 93) ∙ a.turn;
       }));
 }
+
 -- each law of use by its name
 pub threads_keeps : (p : Proc) (w : Want) → threads.calls_left (threads.after p w) ≤ threads.calls_left p
 threads_keeps p w = thread_laws.keeps p w

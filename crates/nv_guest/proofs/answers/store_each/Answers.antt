@@ -1,7 +1,7 @@
 use Rattle.std.proofs.Common.{◌+◌, drop, sym, ap, ◌∙◌, arith}
 use Rattle.nv_guest.specs.Answers.{with_bytes}
 use Rattle.nv_guest.proofs.Answering.{bytes-more, bytes-all}
-use Rattle.nv_guest.proofs.answers.store_bytes.Goals as goal
+use Rattle.nv_guest.proofs.answers.store_each.Goals as goal
 
 pub loop-i-preserved : goal.loop-i-preserved
 loop-i-preserved c =

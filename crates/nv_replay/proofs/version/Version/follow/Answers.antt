@@ -1,7 +1,7 @@
 use Rattle.std.proofs.Common.{◌≡◌, ◌∙◌, sym, ap, subst, None}
 use Rattle.nv_calls.specs.Calls.{entry}
 use Rattle.nv_threads.specs.Threads.{threads, Proc}
-use Rattle.nv_threads.specs.ThreadLaws.{threads_on}
+use Rattle.nv_threads.proofs.ThreadLaws.{threads_on}
 use Rattle.nv_replay.specs.Follow.{Follower, decided}
 use Rattle.nv_replay.specs.Follow.{no_rules}
 use Rattle.nv_replay.specs.Versions.{Running}

@@ -6,7 +6,7 @@ use Rattle.nv_calls.specs.Calls.{request, Request}
 use Rattle.nv_guest.specs.Threads as guests
 use Rattle.nv_threads.specs.Kept.{IsKept}
 use Rattle.nv_threads.specs.Tables.{threads_of, place_of}
-use Rattle.nv_threads.specs.ThreadLaws.{others}
+use Rattle.nv_threads.proofs.ThreadLaws.{others}
 use Rattle.nv_threads.specs.Threads.{Proc, Task as Thread, tids, left_by}
 use Rattle.nv_threads.specs.declared.tasks.Task.{Task}
 use Rattle.nv_threads.proofs.Keeping.{room_at}
