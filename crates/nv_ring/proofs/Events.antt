@@ -28,6 +28,12 @@ entry_at history log n x is near at =
     let here : get_elem? history n ≡ some x = at_index history n x (omega arith) at in
     slice_some log n (entry x) (ap (λ (z : List Entry). get_elem? z n) (sym is) ∙ at_map entry history n x here)
 
+-- the event n of a history as it is spelt
+pub spelt_at : (log : List Entry) (n : ℕ) (e : Entry) → slice_get log n ≡ Some e → get_or (map spell log) n [] ≡ spell e
+spelt_at [] n e at = cc
+spelt_at (x ∷ xs) zero e at = ap spell (same_Some x e at)
+spelt_at (x ∷ xs) (suc n) e at = spelt_at xs n e at
+
 -- all but the last, and the last
 pub last_spelt : (log : List Entry) (n : ℕ) (e : Entry) → length log ≡ n + 1 → slice_get log n ≡ Some e → map spell log ≡ take n (map spell log) ++ spell e ∷ []
 last_spelt [] n e long at = absurd (omega arith)
