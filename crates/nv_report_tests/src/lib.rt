@@ -4,7 +4,7 @@
 
 mod runs;
 
-pub use runs::{alone, judged_pair, pair};
+pub use runs::{alone, judged_pair, pair, pair_by};
 
 #[cfg(test)]
 mod rules;

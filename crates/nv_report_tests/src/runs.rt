@@ -52,7 +52,11 @@ fn version(alloc: Global, index: u32, words: &[u32]) -> Option<Version>
     Version::make(alloc, index, process).ok()
 }
 
-fn run(alloc: Global, versions: Vec<Version>, rules: Option<&Filter>) -> Option<Account<ScriptKernel>>
+fn run(
+    alloc: Global,
+    versions: Vec<Version>,
+    rules: Option<&Filter>,
+) -> Option<Account<ScriptKernel>>
     requires fresh { AreFresh threads 0 versions.items }
     requires few { length versions.items ≤ 8 }
 {
@@ -74,12 +78,23 @@ pub fn pair(alloc: Global, first: &[u32], second: &[u32]) -> Option<Account<Scri
 }
 
 /// The account of a run of two programs by a filter in the form that `tcpdump -ddd` prints.
-pub fn judged_pair(alloc: Global, first: &[u32], second: &[u32], rules: &str) -> Option<Account<ScriptKernel>> {
+pub fn judged_pair(
+    alloc: Global,
+    first: &[u32],
+    second: &[u32],
+    rules: &str,
+) -> Option<Account<ScriptKernel>> {
     let filter = nv_bpf::read(alloc, rules.as_bytes()).ok()?;
     pair_by(alloc, first, second, Some(&filter))
 }
 
-fn pair_by(alloc: Global, first: &[u32], second: &[u32], rules: Option<&Filter>) -> Option<Account<ScriptKernel>> {
+/// The account of a run of two programs by these rules, if there are any.
+pub fn pair_by(
+    alloc: Global,
+    first: &[u32],
+    second: &[u32],
+    rules: Option<&Filter>,
+) -> Option<Account<ScriptKernel>> {
     let first = version(alloc, 0, first)?;
     let second = version(alloc, 1, second)?;
     let versions = vec![in alloc; first, second].ok()?;
