@@ -1,0 +1,13 @@
+//! Large runs from a number: versions that write and break one after the other, with their script and their rules.
+#![tactic(auto)]
+
+mod code;
+mod made;
+mod plan;
+mod summary;
+mod version;
+#[cfg(test)]
+mod tests;
+
+pub use made::{Made, make};
+pub use summary::{Outcome, summary};
