@@ -75,7 +75,10 @@ pub record Outcome : Type 0 where
   pub exited : ℕ
   pub rewrites : ℕ
 
+abbrev pub field : List ℕ → ℕ → List ℕ
+field name value = name ++ decimal value
+
 -- the line that sums the run of a number up
 unfoldable pub summary : ℕ → Outcome → List ℕ
-summary n o = codes "gen " ++ decimal n ++ codes " versions " ++ decimal (numbers_of n).versions ++ codes " output " ++ decimal o.output ++ codes " log " ++ decimal o.log
-    ++ codes " exited " ++ decimal o.exited ++ codes " rewrites " ++ decimal o.rewrites ++ codes "\n"
+summary n o = field (codes "gen ") n ++ field (codes " versions ") (numbers_of n).versions ++ field (codes " output ") o.output ++ field (codes " log ") o.log
+    ++ field (codes " exited ") o.exited ++ field (codes " rewrites ") o.rewrites ++ codes "\n"

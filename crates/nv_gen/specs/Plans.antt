@@ -3,7 +3,7 @@ use Rattle.std.specs.Prelude.{ℕ}
 use Rattle.std.proofs.Common.{Vec, Global}
 use Rattle.nv_elf.specs.Elf.{ElfOf, elf_of}
 use Rattle.nv_gen.specs.declared.plan.Plan.{Plan}
-use Rattle.nv_gen.specs.declared.summary.Outcome.{Outcome}
+use Rattle.nv_gen.specs.declared.outcome.Outcome.{Outcome}
 use Rattle.nv_gen.specs.Made.{Numbers}
 use Rattle.nv_gen.specs.Made as made
 

@@ -3,11 +3,11 @@
 
 mod code;
 mod made;
+mod outcome;
 mod plan;
-mod summary;
 mod version;
 #[cfg(test)]
 mod tests;
 
 pub use made::{Made, make};
-pub use summary::{Outcome, summary};
+pub use outcome::{Outcome, summary};
