@@ -1,3 +1,5 @@
 pub mod Steps
 pub mod Calling
 pub mod Courses
+pub mod Carrying
+pub mod Standing
