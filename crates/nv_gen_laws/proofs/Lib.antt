@@ -3,3 +3,5 @@ pub mod Calling
 pub mod Courses
 pub mod Carrying
 pub mod Standing
+pub mod Sizes
+pub mod Loading
