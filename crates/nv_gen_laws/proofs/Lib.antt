@@ -5,3 +5,5 @@ pub mod Carrying
 pub mod Standing
 pub mod Sizes
 pub mod Loading
+pub mod Kept
+pub mod Reading

@@ -83,3 +83,54 @@ first-carries k c args size is room fits j small =
     put-below (put (put zeros 65536 s) pointer (words (stack_words start args))) start (strings args) (65536 + j) (omega arith)
     ∙ put-below (put zeros 65536 s) pointer (words (stack_words start args)) (65536 + j) (omega arith)
     ∙ carries-put zeros 65536 s (omega arith) j small
+
+registers-at : ℕ → List ℕ
+registers-at pointer = slice_set (replicate 32 0) 2 pointer
+
+registers-are : (pointer : ℕ) → AreRegisters (registers-at pointer)
+unfolding registers-at
+registers-are pointer = are-set (replicate 32 0) 2 pointer (omega arith) (record { count = refl; zero_first = refl })
+
+-- the bytes of each write stand in the text range
+text-held : (k : Numbers) (c : Course) (memory : Image) → AreSmall k → IsText memory (65536 + length (segment_bytes k c)) → Carries memory.bytes 65536 (segment_bytes k c) → HoldsText memory (text_of k)
+unfolding block
+text-held k c memory small text all =
+    let size = small.size in
+    let long : length (text_of k) ≡ k.size = length-replicate k.size k.byte in
+    let room : length (block k.byte) ≡ 64 = refl in
+    let whole = length-append (block k.byte) (code_of (insns c)) in
+    let front : take k.size (segment_bytes k c) ≡ take k.size (block k.byte) = take-append-le k.size (block k.byte) (code_of (insns c)) (omega arith) in
+    record {
+      few = omega arith;
+      right = text.read 65536 (length (text_of k)) (omega arith) (omega arith);
+      there = ap (bytes_at memory.bytes 65536) long ∙ bytes-carried memory.bytes 65536 k.size (segment_bytes k c) (omega arith) all ∙ front ∙ take-replicate k.size 64 k.byte size;
+    }
+
+block-length : (byte : ℕ) → length (block byte) ≡ 64
+unfolding block
+block-length byte = refl
+
+pub does-loaded : (k : Numbers) (c : Course) (args : List (List ℕ)) (size : ℕ) (m : Machine) → AreSmall k → Part k c → IsMemorySize size → loaded (program k c) args size ≡ Ready m → Does m c
+unfolding program registers-at
+does-loaded k c args size m small part is e =
+    let ready = ready-is (program k c) args size m e in
+    let all : List (List ℕ) = all_arguments args in
+    let memory : Image = record { bytes = first_bytes (program k c) all size; regions = regions_of (program k c).ranges size } in
+    let room : 65536 + length (segment_bytes k c) ≤ size - 65536 = room-is k c (size - 65536) ready.room in
+    let most = is.most in
+    let text : IsText memory (65536 + length (segment_bytes k c)) = text-regions k c size (first_bytes (program k c) all size) (omega arith) in
+    let carries : Carries memory.bytes 65536 (segment_bytes k c) = first-carries k c all size is room ready.arguments in
+    let block_len : length (block k.byte) ≡ 64 = block-length k.byte in
+    let whole = length-append (block k.byte) (code_of (insns c)) in
+    let code : Carries memory.bytes 65600 (code_of (insns c)) =
+    subst (λ (n : ℕ). Carries memory.bytes (65536 + n) (code_of (insns c))) block_len (carries-behind memory.bytes 65536 (block k.byte) (code_of (insns c)) carries) in
+    let stands = stand memory (65536 + length (segment_bytes k c)) 65600 (insns c) text (omega arith) (omega arith) (all-fit c.calls c.ending part.short part.last) code in
+    subst (λ (machine : Machine). Does machine c) ready.machine
+    (makes c.calls c.ending (registers-at (stack_pointer size all)) 65600 memory (registers-are (stack_pointer size all)) (part.texts memory (text-held k c memory small text carries)) part.last stands)
+
+-- at the default memory, with the text `guest` alone, there is room
+pub ready-default : (k : Numbers) (c : Course) → length (segment_bytes k c) ≤ 300000 → loaded (program k c) [] 1048576 ≡ Ready (first_machine (program k c) (all_arguments []) 1048576)
+unfolding loaded program
+ready-default k c few =
+    let fits : nat_lt 983040 (65536 + length (segment_bytes k c)) ≡ false = grind (arith, nat_tests) in
+    rw fits refl

@@ -2,3 +2,7 @@
 #![tactic(auto)]
 
 mod laws;
+
+pub use laws::{
+    rules_are_read, script_is_read, versions_fit_the_default_memory, versions_keep_their_courses,
+};
