@@ -1,11 +1,10 @@
 -- The code of a list of calls, a call at a time.
-use Rattle.std.proofs.Common.{◌≡◌, ℕ, zero, suc, ◌+◌, List, [], ◌∷◌, ◌++◌, map, refl, ap, sym, ◌∙◌, append_assoc, append-nil, add-one, Vec, Global}
+use Rattle.std.proofs.Common.{◌≡◌, ℕ, ◌+◌, List, [], ◌∷◌, ◌++◌, map, refl, ap, sym, ◌∙◌, append_assoc, append-nil, add-one, Vec, Global}
 use Rattle.std.specs.List.{flat_map}
 use Rattle.std.proofs.lemmas.Grind.{flat_map-append}
 use Rattle.std.proofs.lemmas.List.{map-append}
-use Rattle.nv_elf.specs.Elf.{ElfOf, Accepted, elf_of}
+use Rattle.nv_elf.specs.Elf.{Accepted, elf_of}
 use Rattle.nv_gen.specs.Plans.{read_of}
-use Rattle.nv_isa.specs.declared.op.Insn.{Insn}
 use Rattle.nv_gen.specs.Made.{Numbers, Call, calls_to, calls_at, course, courses_to}
 use Rattle.nv_gen.specs.Programs.{insns_of, code_of, calls_code, word_of, program, programs_to}
 

@@ -1,6 +1,5 @@
 -- The programs are programs that a file holds, and their files are short.
-use Rattle.std.proofs.Common.{◌≡◌, ℕ, ◌+◌, ◌^◌, ◌<◌, ◌≤◌, Bool, true, refl, ap, ◌∙◌, nat_lt, nat_le, List, [], ◌∷◌, ◌++◌, length, length-append, append-nil, arith}
-use Rattle.std.proofs.lemmas.Bool.{and_from}
+use Rattle.std.proofs.Common.{◌≡◌, ℕ, ◌+◌, ◌^◌, ◌≤◌, true, refl, ap, ◌∙◌, nat_lt, nat_le, List, [], ◌∷◌, ◌++◌, length, length-append, arith}
 use Rattle.std.proofs.lemmas.Bool.Decides.{nat_tests}
 use Rattle.nv_elf.specs.Elf.{Image}
 use Rattle.nv_elf.specs.Written.{is_program, bytes_in, file_of, file_header, table_from, contents_from}
@@ -21,9 +20,14 @@ program-sound k c least most =
 pub length-program : (k : Numbers) (c : Course) → length (file_of (program k c)) ≡ 84 + length (segment_bytes k c)
 unfolding file_of program
 length-program k c =
-    omega (arith, length-append (file_header 65600 1) (table_from 84 (text_range k c ∷ []) ++ contents_from 84 (text_range k c ∷ [])),
-      length-append (table_from 84 (text_range k c ∷ [])) (contents_from 84 (text_range k c ∷ [])), length-file_header 65600 1, length-table_from 84 (text_range k c ∷ []),
-      length-contents_from 84 (text_range k c ∷ []))
+    omega (
+      arith,
+      length-append (file_header 65600 1) (table_from 84 (text_range k c ∷ []) ++ contents_from 84 (text_range k c ∷ [])),
+      length-append (table_from 84 (text_range k c ∷ [])) (contents_from 84 (text_range k c ∷ [])),
+      length-file_header 65600 1,
+      length-table_from 84 (text_range k c ∷ []),
+      length-contents_from 84 (text_range k c ∷ []),
+    )
 
 pub program-small : (k : Numbers) (c : Course) → length (segment_bytes k c) ≤ 300000 → bytes_in (program k c).ranges ≤ 1073741824
 unfolding program

@@ -1,5 +1,5 @@
 -- The instructions of the programs have words.
-use Rattle.std.proofs.Common.{◌≡◌, ℕ, ◌<◌, refl, arith}
+use Rattle.std.proofs.Common.{ℕ, ◌<◌, refl, arith}
 use Rattle.std.proofs.lemmas.Int.{ints}
 use Rattle.nv_isa.specs.Table.{row}
 use Rattle.nv_isa.specs.Spelling.{Fits}

@@ -1,5 +1,5 @@
 -- The programs of the versions: they go straight on, some instructions for each call. The bytes to write stand before the code.
-use Rattle.std.specs.Prelude.{ℕ, ℤ, pos, List, [], ◌∷◌, ◌++◌, length, map, replicate, true, false}
+use Rattle.std.specs.Prelude.{ℕ, pos, List, [], ◌∷◌, ◌++◌, length, map, replicate, true, false}
 use Rattle.std.specs.List.{flat_map}
 use Rattle.byteorder.specs.Endian.{little_bytes}
 use Rattle.nv_isa.specs.declared.op.Op.TheVariants.{Addi, Lui, Ecall, Ebreak}

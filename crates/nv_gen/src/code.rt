@@ -10,14 +10,19 @@ use nv_isa::{Insn, Op, encode};
 use std::alloc::AllocError;
 
 const A0: u8 = 10;
+
 const A1: u8 = 11;
+
 const A2: u8 = 12;
+
 const A7: u8 = 17;
 
 const CONSOLE: u8 = 1;
 
 const WRITE: u8 = 64;
+
 const EXIT_GROUP: u8 = 94;
+
 const GETUID: u8 = 174;
 
 // The address of the bytes to write.

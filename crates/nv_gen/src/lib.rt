@@ -5,9 +5,9 @@ mod code;
 mod made;
 mod outcome;
 mod plan;
-mod version;
 #[cfg(test)]
 mod tests;
+mod version;
 
 pub use made::{Made, make};
 pub use outcome::{Outcome, summary};

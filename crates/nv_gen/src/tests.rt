@@ -33,7 +33,10 @@ fn seven_makes_three_versions(rt: HostRuntime) -> Result<(), Fail> {
     assert_eq!(rt; third.len(), CODE + 1007 * 20 + 62 * 8 + 12);
     assert_eq!(rt; first.get(84..CODE), Some([b'h'; 64].as_slice()));
     assert_eq!(rt; first.get(CODE..CODE + 20), Some(WRITE_OF_8.as_slice()));
-    assert_eq!(rt; second.get(CODE + 15 * 20..CODE + 15 * 20 + 8), Some(GETUID.as_slice()));
+    assert_eq!(rt;
+        second.get(CODE + 15 * 20..CODE + 15 * 20 + 8),
+        Some(GETUID.as_slice())
+    );
     assert!(rt; first.ends_with(&EBREAK));
     assert!(rt; second.ends_with(&EBREAK));
     assert!(rt; third.ends_with(&EXIT));

@@ -12,6 +12,7 @@ use std::alloc::{AllocError, Global};
 
 // Where the bytes to write stand, and the code behind them.
 const BASE: u32 = 0x10000;
+
 const ENTRY: u32 = 0x10040;
 
 #[tactic(auto, unfolding(crate::specs::Programs::block))]

@@ -1,7 +1,4 @@
-use Rattle.std.proofs.Common.{◌≡◌, rules, sym, subst, arith}
-use Rattle.std.specs.Prelude.{pos}
-use Rattle.nv_isa.specs.declared.op.Op.TheVariants.{Addi}
-use Rattle.nv_isa.specs.declared.op.Insn.{Insn}
+use Rattle.std.proofs.Common.{rules, sym, subst, arith}
 use Rattle.nv_isa.specs.Spelling.{Fits}
 use Rattle.nv_gen.proofs.Fitting.{fits-sets}
 use Rattle.nv_gen.proofs.code.set.Goals as goal
