@@ -1,11 +1,8 @@
 -- The calls that the registers spell, and the machine behind each.
-use Rattle.std.proofs.Common.{◌≡◌, ◌≢◌, ℕ, ◌+◌, ◌^◌, ◌<◌, ◌≤◌, Bool, true, false, cond, List, [], ◌∷◌, length, Option, Some, None, refl, ap, sym, ◌∙◌, arith}
+use Rattle.std.proofs.Common.{◌≡◌, ◌≢◌, ℕ, ◌+◌, ◌^◌, ◌<◌, true, List, length, refl, ap, ◌∙◌, arith}
 use Rattle.std.specs.Prelude.{ℤ, min, slice_index, slice_set}
 use Rattle.std.specs.Int.{w32, cast_unsigned}
 use Rattle.std.proofs.lemmas.List.{get_or-set_same, get_or-set_other, length-set}
-use Rattle.nv_calls.specs.declared.numbers.Syscall.{Syscall}
-use Rattle.nv_calls.specs.declared.numbers.Syscall.TheVariants as kinds
-use Rattle.nv_calls.specs.Calls.{Request}
 use Rattle.nv_calls.specs.Numbers.{syscall_of}
 use Rattle.nv_memory.specs.declared.region.Right.TheVariants.{Read}
 use Rattle.nv_memory.specs.Bytes.{bytes_at}
@@ -13,7 +10,7 @@ use Rattle.nv_memory.specs.Regions.{holds}
 use Rattle.nv_memory.specs.Image.{Image}
 use Rattle.nv_machine.specs.Guest.{Machine}
 use Rattle.nv_guest.specs.Calls.{call_at, answered, call_by, handed, memory_after}
-use Rattle.nv_gen.specs.Made.{Call, Write, Getuid}
+use Rattle.nv_gen.specs.Made.{Write, Getuid}
 use Rattle.nv_gen_laws.specs.Making.{request_of, exit_request}
 use Rattle.nv_gen_laws.proofs.Steps.{state, next-is}
 

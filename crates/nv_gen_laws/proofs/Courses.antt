@@ -1,16 +1,15 @@
 -- A machine at the code of a course does what the course says.
-use Rattle.std.proofs.Common.{◌≡◌, ℕ, zero, suc, ◌+◌, ◌^◌, ◌<◌, ◌≤◌, Bool, true, false, List, [], ◌∷◌, ◌++◌, length, refl, ap, sym, subst, ◌∙◌, arith}
-use Rattle.std.specs.Prelude.{ℤ, slice_index, slice_set}
+use Rattle.std.proofs.Common.{◌≡◌, ℕ, ◌+◌, ◌<◌, List, [], ◌∷◌, ◌++◌, length, refl, sym, subst, ◌∙◌, arith}
+use Rattle.std.specs.Prelude.{slice_index, slice_set}
 use Rattle.std.specs.Int.{w32, cast_unsigned}
 use Rattle.std.specs.List.{flat_map}
 use Rattle.nv_isa.specs.declared.op.Insn.{Insn}
 use Rattle.nv_memory.specs.Image.{Image}
 use Rattle.nv_machine.specs.declared.outcome.Stepped.TheVariants as ends
 use Rattle.nv_machine.specs.Guest.{Machine}
-use Rattle.nv_guest.specs.Calls.{answered}
 use Rattle.nv_gen.specs.Made.{Call, Write, Getuid, Ending, Breaks, Exits}
-use Rattle.nv_gen.specs.Programs.{write_insns, getuid_insns, exit_insns, insns_of, last_insns, sets, points, ecall}
-use Rattle.nv_gen_laws.specs.Making.{Stops, Asks, Halts, Closes, Makes, request_of, exit_request}
+use Rattle.nv_gen.specs.Programs.{write_insns, insns_of, last_insns}
+use Rattle.nv_gen_laws.specs.Making.{Stops, Makes}
 use Rattle.nv_gen_laws.proofs.Steps.{state, StandsAt, sets-step, points-step, ecall-step, ebreak-step, stops-on, stops-call, stops-break}
 use Rattle.nv_gen_laws.proofs.Calling.{AreRegisters, misses, hits, are-set, HoldsText, calls-write, calls-getuid, calls-exit, answered-state, keeps-write, keeps-getuid}
 
@@ -84,8 +83,8 @@ makes [] (Exits status) x pc memory are texts short stand =
     record {
       at = state x2 (pc + 4 + 4) memory;
       stops = stops-on _ _ _ ends.Call (sets-step x pc memory 10 status refl (omega arith) short are.zero_first stand.0)
-      (stops-on _ _ _ ends.Call (sets-step x1 (pc + 4) memory 17 94 refl (omega arith) (omega arith) are1.zero_first stand.1.0)
-      (stops-call _ _ (ecall-step x2 (pc + 4 + 4) memory stand.1.1.0)));
+          (stops-on _ _ _ ends.Call (sets-step x1 (pc + 4) memory 17 94 refl (omega arith) (omega arith) are1.zero_first stand.1.0)
+          (stops-call _ _ (ecall-step x2 (pc + 4 + 4) memory stand.1.1.0)));
       call = calls-exit x2 (pc + 4 + 4) memory status (misses x1 17 10 94 (omega arith) ∙ hits x 10 status (omega arith) are) (hits x1 17 94 (omega arith) are1);
       behind = λ ret bytes. tt;
     }
@@ -98,9 +97,9 @@ makes (Write bytes ∷ calls) ending x pc memory are texts short stand =
       stops = stops-write x pc memory (length bytes) (flat_map insns_of calls ++ last_insns ending) texts.0.few are stand;
       call = calls-write y at memory bytes texts.0 regs.a0 regs.a1 regs.a2 regs.a7;
       behind = λ ret reply.
-      subst (λ (m : Machine). Makes m calls ending)
-      (sym (answered-state y at memory ret reply 64 regs.a7 (keeps-write (state y at memory) reply) stand.1.1.1.1.0.below))
-      (makes calls ending (slice_set y 10 (cast_unsigned w32 ret)) (at + 4) memory (are-set y 10 (cast_unsigned w32 ret) (omega arith) regs.are) texts.1 short stand.1.1.1.1.1);
+          subst (λ (m : Machine). Makes m calls ending)
+          (sym (answered-state y at memory ret reply 64 regs.a7 (keeps-write (state y at memory) reply) stand.1.1.1.1.0.below))
+          (makes calls ending (slice_set y 10 (cast_unsigned w32 ret)) (at + 4) memory (are-set y 10 (cast_unsigned w32 ret) (omega arith) regs.are) texts.1 short stand.1.1.1.1.1);
     }
 makes (Getuid ∷ calls) ending x pc memory are texts short stand =
     let y : List ℕ = slice_set x 17 174 in
@@ -111,7 +110,7 @@ makes (Getuid ∷ calls) ending x pc memory are texts short stand =
       stops = stops-on _ _ _ ends.Call (sets-step x pc memory 17 174 refl (omega arith) (omega arith) are.zero_first stand.0) (stops-call _ _ (ecall-step y (pc + 4) memory stand.1.0));
       call = calls-getuid y (pc + 4) memory a7;
       behind = λ ret reply.
-      subst (λ (m : Machine). Makes m calls ending)
-      (sym (answered-state y (pc + 4) memory ret reply 174 a7 (keeps-getuid (state y (pc + 4) memory) reply) stand.1.0.below))
-      (makes calls ending (slice_set y 10 (cast_unsigned w32 ret)) (pc + 4 + 4) memory (are-set y 10 (cast_unsigned w32 ret) (omega arith) are1) texts short stand.1.1);
+          subst (λ (m : Machine). Makes m calls ending)
+          (sym (answered-state y (pc + 4) memory ret reply 174 a7 (keeps-getuid (state y (pc + 4) memory) reply) stand.1.0.below))
+          (makes calls ending (slice_set y 10 (cast_unsigned w32 ret)) (pc + 4 + 4) memory (are-set y 10 (cast_unsigned w32 ret) (omega arith) are1) texts short stand.1.1);
     }

@@ -1,12 +1,9 @@
 -- The laws of every large run.
-use Rattle.std.proofs.Common.{◌≡◌, ℕ, ◌<◌, List, []}
-use Rattle.nv_machine.specs.Guest.{Machine}
-use Rattle.nv_guest.specs.Load.{IsMemorySize, Ready, loaded, first_machine}
+use Rattle.std.proofs.Common.{ℕ, ◌<◌, []}
+use Rattle.nv_guest.specs.Load.{first_machine}
 use Rattle.nv_guest.specs.Block.{all_arguments}
 use Rattle.nv_gen.specs.Made.{numbers_of, course}
-use Rattle.nv_gen.specs.Programs.{program}
-use Rattle.nv_gen_laws.specs.Making.{Does}
-use Rattle.nv_gen_laws.specs.Versions.{program_at, course_at, KeepsItsCourse, FitsTheDefault}
+use Rattle.nv_gen_laws.specs.Versions.{program_at, KeepsItsCourse, FitsTheDefault}
 use Rattle.nv_gen_laws.proofs.Sizes.{numbers-small, part}
 use Rattle.nv_gen_laws.proofs.Loading.{does-loaded, ready-default}
 

@@ -7,3 +7,4 @@ pub mod Sizes
 pub mod Loading
 pub mod Kept
 pub mod Reading
+pub mod Listing

@@ -1,23 +1,20 @@
 -- The machine that a program is loaded into does its course.
-use Rattle.std.proofs.Common.{◌≡◌, ℕ, zero, suc, ◌+◌, ◌-◌, ◌*◌, ◌/◌, ◌^◌, ◌==◌, ◌<◌, ◌≤◌, Bool, true, false, cond, ◌&&◌, ◌||◌, nat_lt, nat_le, List, [], ◌∷◌, ◌++◌, Option, Some, None, length, take, replicate, refl, ap, sym, subst, ◌∙◌, length-append, arith}
-use Rattle.std.specs.Prelude.{slice_index, slice_set}
+use Rattle.std.proofs.Common.{◌≡◌, ℕ, ◌+◌, ◌-◌, ◌^◌, ◌==◌, ◌<◌, ◌≤◌, Bool, true, false, cond, ◌&&◌, ◌||◌, nat_lt, nat_le, List, [], ◌∷◌, Option, Some, None, length, take, replicate, refl, ap, sym, subst, ◌∙◌, length-append, arith}
+use Rattle.std.specs.Prelude.{slice_set}
 use Rattle.std.proofs.lemmas.Bool.Decides.{nat_tests}
 use Rattle.std.proofs.lemmas.List.{length-replicate, take-replicate, take-append-le}
 use Rattle.nv_elf.specs.Elf as elf
 use Rattle.nv_memory.specs.declared.region.Right.{Right}
-use Rattle.nv_memory.specs.declared.region.Right.TheVariants.{Read, Execute}
 use Rattle.nv_memory.specs.declared.region.Region.{Region}
 use Rattle.nv_memory.specs.Bytes.{put, bytes_at}
-use Rattle.nv_memory.specs.BytesLaws.{length_put}
 use Rattle.nv_memory.specs.Regions.{holds, covers}
 use Rattle.nv_memory.specs.Image.{Image}
 use Rattle.nv_machine.specs.Guest.{Machine}
 use Rattle.nv_guest.specs.Block.{all_arguments, stack_pointer, strings_start, words, stack_words, strings}
-use Rattle.nv_guest.specs.Load.{IsMemorySize, Loaded, NoRoomFor, NoRoomForArguments, Ready, loaded, loaded_if, first_beyond, first_machine, first_bytes, region_of, data_region, heap_start, regions_of}
+use Rattle.nv_guest.specs.Load.{IsMemorySize, NoRoomForArguments, Ready, loaded, loaded_if, first_beyond, first_machine, first_bytes, regions_of}
 use Rattle.nv_gen.specs.Made.{Numbers, Course, text_of}
-use Rattle.nv_gen.specs.Programs.{program, segment_bytes, text_range, block, code_of, insns}
+use Rattle.nv_gen.specs.Programs.{program, segment_bytes, block, code_of, insns}
 use Rattle.nv_gen_laws.specs.Making.{Does}
-use Rattle.nv_gen_laws.proofs.Steps.{state}
 use Rattle.nv_gen_laws.proofs.Calling.{AreRegisters, are-set, HoldsText}
 use Rattle.nv_gen_laws.proofs.Courses.{makes}
 use Rattle.nv_gen_laws.proofs.Carrying.{Carries, put-below, carries-put, carries-behind, bytes-carried}

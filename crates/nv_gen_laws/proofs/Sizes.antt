@@ -1,5 +1,5 @@
 -- How long the code of a course is, and which bytes it writes.
-use Rattle.std.proofs.Common.{◌≡◌, ℕ, zero, suc, ◌+◌, ◌*◌, ◌/◌, ◌%◌, ◌==◌, ◌&&◌, ◌<◌, ◌≤◌, Bool, true, false, cond, nat_le, List, [], ◌∷◌, ◌++◌, length, replicate, refl, ap, sym, ◌∙◌, length-append, arith}
+use Rattle.std.proofs.Common.{◌≡◌, ℕ, zero, suc, ◌+◌, ◌*◌, ◌/◌, ◌==◌, ◌<◌, ◌≤◌, Bool, true, false, cond, List, [], ◌∷◌, ◌++◌, length, refl, ap, ◌∙◌, length-append, arith}
 use Rattle.std.specs.List.{flat_map}
 use Rattle.std.proofs.lemmas.List.{length-replicate}
 use Rattle.std.proofs.lemmas.Grind.{flat_map-append}
@@ -7,7 +7,7 @@ use Rattle.std.proofs.Math.Nat.{mul-le-mul_left, div-le_of_le-mul}
 use Rattle.nv_isa.specs.declared.op.Insn.{Insn}
 use Rattle.nv_memory.specs.Image.{Image}
 use Rattle.nv_gen.specs.Made.{Numbers, numbers_of, Call, Write, Getuid, Ending, Breaks, Exits, Course, text_of, asks, calls_at, calls_to, course}
-use Rattle.nv_gen.specs.Programs.{insns_of, last_insns, insns, word_of, code_of, block, segment_bytes}
+use Rattle.nv_gen.specs.Programs.{insns_of, last_insns, word_of, code_of, block, segment_bytes}
 use Rattle.nv_gen_laws.proofs.Calling.{HoldsText}
 use Rattle.nv_gen_laws.proofs.Courses.{HoldsTexts, IsShort}
 use Rattle.nv_gen_laws.proofs.Standing.{AreShort}

@@ -1,9 +1,8 @@
 -- The instructions of the programs, one by one.
-use Rattle.std.proofs.Common.{◌≡◌, ℕ, zero, suc, ◌+◌, ◌%◌, ◌^◌, ◌<◌, ◌≤◌, Bool, true, false, ◌==◌, List, [], ◌∷◌, length, Option, Some, Result, Ok, refl, ap, sym, ◌∙◌, arith}
+use Rattle.std.proofs.Common.{◌≡◌, ℕ, suc, ◌+◌, ◌%◌, ◌^◌, ◌<◌, false, ◌==◌, List, Option, Result, Ok, refl, ap, ◌∙◌, arith}
 use Rattle.std.specs.Prelude.{pos, slice_index, slice_set}
 use Rattle.std.specs.Int.{w32, cast_unsigned}
 use Rattle.nv_isa.specs.declared.op.Insn.{Insn}
-use Rattle.nv_isa.specs.Table.{decoded}
 use Rattle.nv_isa.specs.Spelling.{Fits, encoded}
 use Rattle.nv_isa.proofs.Inverse.{decoded-encoded}
 use Rattle.nv_memory.specs.declared.region.Access.{Access}
@@ -15,7 +14,7 @@ use Rattle.nv_machine.specs.declared.outcome.Stepped.TheVariants as ends
 use Rattle.nv_machine.specs.declared.outcome.FaultKind.TheVariants as kinds
 use Rattle.nv_machine.specs.Effects.{sum}
 use Rattle.nv_machine.specs.Guest.{Machine, Outcome, fetched, executed, effect, guest_step}
-use Rattle.nv_guest.specs.Threads.{run, Ran, more, unless_stopped}
+use Rattle.nv_guest.specs.Threads.{run, unless_stopped}
 use Rattle.nv_gen.specs.Programs.{sets, points, ecall, ebreak}
 use Rattle.nv_gen.proofs.Fitting.{fits-sets, fits-points, fits-ecall, fits-ebreak}
 use Rattle.nv_gen_laws.specs.Making.{Stops}

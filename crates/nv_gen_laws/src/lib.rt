@@ -4,5 +4,6 @@
 mod laws;
 
 pub use laws::{
-    rules_are_read, script_is_read, versions_fit_the_default_memory, versions_keep_their_courses,
+    programs_stand_in_order, rules_are_read, script_is_read, versions_fit_the_default_memory,
+    versions_keep_their_courses,
 };
