@@ -3,17 +3,21 @@ use crate::{Answered, Outside, monitor};
 use std::alloc::{AllocError, Global};
 use std::test::Fail;
 
-// A thread that is made, and writes after the first, or while the first counts down.
+// Makes a thread, which begins at `child`.
 const MAKES_A_THREAD: &str = "li a0, 69376
 addi a1, sp, -1024
 li a7, 220
 ecall
 beq a0, zero, child
 ";
+
+// Takes longer than a turn.
 const COUNTS_DOWN: &str = "li t0, 2000
 spin: addi t0, t0, -1
 bne t0, zero, spin
 ";
+
+// Each thread writes, and the second ends the process.
 const BOTH_WRITE: &str = "li a0, 1
 la a1, sa
 li a2, 2
@@ -35,7 +39,8 @@ sa: .ascii \"a\\n\"
 sb: .ascii \"b\\n\"
 ";
 
-// The first thread waits in a futex for the second, which writes, wakes it and exits with how many it woke. Then the word is another.
+// The first thread waits in a futex for the second, which writes, wakes it and exits with how many it woke. Then the word is another, and the
+// process ends with the sum of both answers.
 const HANDS_OVER: &str = "la a0, w
 li a1, 128
 li a2, 0
@@ -143,11 +148,7 @@ fn pair(alloc: Global, first: &str, second: &str) -> Result<Answered, AllocError
         most: 4096,
         failing_writes: &[],
     };
-    monitor(
-        alloc,
-        &["varan", "run", "--script", "s", "a", "b"],
-        outside,
-    )
+    monitor(alloc, &["varan", "run", "--script", "s", "a", "b"], outside)
 }
 
 // The second version's thread asks before the first version's first thread has written.
