@@ -42,5 +42,10 @@ row service service 0 $'0 fault load 100\n1 exited 0' built/service_2 built/serv
 row service service 0 $'0 exited 0\n1 exited 0' built/service_1 built/service_3
 row service service 0 $'0 fault load 100\n1 exited 0\n2 exited 0' built/service_2 built/service_3 built/service_1
 
+if ! ./as_text.py | cmp - ../../crates/nv_call_tests/src/built.rt; then
+    echo "check.sh: the tests of nv_call_tests have other guests"
+    wrong=$((wrong + 1))
+fi
+
 echo "check.sh: $rows rows, $wrong wrong"
 [ "$wrong" = 0 ]
