@@ -102,11 +102,11 @@ futex_by_quiet : (p : Proc) (op address value timeout : ℕ) → Quiet p (futex_
 futex_by_quiet p op address value timeout =
     quiet_if p _ _ (nat_lt 1 op || (op == 0 && not (timeout == 0))) (as_before p _ refl refl refl)
     (quiet_if p _ _ (not (address % 4 == 0)) (as_before p _ refl refl refl)
-        (futex_quiet p op address value (loaded p.guest.memory address Four Read)))
+    (futex_quiet p op address value (loaded p.guest.memory address Four Read)))
 
 pub local_quiet : (nr : ℕ) (p : Proc) → Quiet p (local nr p)
 unfolding local
 local_quiet nr p =
     quiet_if p _ _ (nr == 214) (as_before p _ refl refl refl)
     (quiet_if p _ _ (nr == 422) (futex_by_quiet p (operation (argument (machine p) 1)) (argument (machine p) 0) (argument (machine p) 2) (argument (machine p) 3))
-        (quiet_if p _ _ (nr == 124) (record { live = refl; calls = omega arith; left = refl; turn = inr refl }) (as_before p _ refl refl refl)))
+    (quiet_if p _ _ (nr == 124) (record { live = refl; calls = omega arith; left = refl; turn = inr refl }) (as_before p _ refl refl refl)))

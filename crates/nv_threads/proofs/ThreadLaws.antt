@@ -266,7 +266,7 @@ unfolding turn_step
 step_same p a =
     ap (λ n. rules_by Any n p (can_move Any p)) a.turn
     ∙ same_by p (is_asking (state_at p.tasks 100)) (can_move Any p) (can_move (Only 100) p)
-        (λ can. cond (not can) (faulted Deadlock (unless_live p)) (cond (not (is_on p)) (None, passed p) (cond (p.left == 0) (faulted Budget p) (instruction p)))) (can_same p.tasks a.sole)
+    (λ can. cond (not can) (faulted Deadlock (unless_live p)) (cond (not (is_on p)) (None, passed p) (cond (p.left == 0) (faulted Budget p) (instruction p)))) (can_same p.tasks a.sole)
 
 turn_alone : (p q : Proc) → IsAlone p → (q.turn ≡ p.turn) ⊎ (q.turn ≡ next_tid p.turn (tids p.tasks)) → q.turn ≡ 100
 turn_alone p q a (inl same) = same ∙ a.turn
