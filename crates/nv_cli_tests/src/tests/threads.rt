@@ -138,7 +138,8 @@ fn assembled(alloc: Global, text: &str) -> Result<Vec<u8>, AllocError> {
 }
 
 // A run of two versions.
-fn run_pair(alloc: Global, first: &[u8], second: &[u8]) -> Result<Answered, AllocError> {
+fn run_pair(alloc: Global, versions: [&[u8]; 2]) -> Result<Answered, AllocError> {
+    let [first, second] = versions;
     let files = [("s", SCRIPT), ("a", first), ("b", second)];
     let outside = Outside {
         files: &files,
@@ -153,7 +154,7 @@ fn run_pair(alloc: Global, first: &[u8], second: &[u8]) -> Result<Answered, Allo
 fn pair(alloc: Global, first: &str, second: &str) -> Result<Answered, AllocError> {
     let first = assembled(alloc, first)?;
     let second = assembled(alloc, second)?;
-    run_pair(alloc, &first, &second)
+    run_pair(alloc, [&first, &second])
 }
 
 // The second version's thread asks before the first version's first thread has written.
