@@ -138,10 +138,9 @@ fn assembled(alloc: Global, text: &str) -> Result<Vec<u8>, AllocError> {
 }
 
 // A run of two versions.
-fn pair(alloc: Global, first: &str, second: &str) -> Result<Answered, AllocError> {
-    let first = assembled(alloc, first)?;
-    let second = assembled(alloc, second)?;
-    let files: [(&str, &[u8]); 3] = [("s", SCRIPT), ("a", &first), ("b", &second)];
+fn run_pair(alloc: Global, versions: [&[u8]; 2]) -> Result<Answered, AllocError> {
+    let [first, second] = versions;
+    let files = [("s", SCRIPT), ("a", first), ("b", second)];
     let outside = Outside {
         files: &files,
         failing_reads: &[],
@@ -149,6 +148,13 @@ fn pair(alloc: Global, first: &str, second: &str) -> Result<Answered, AllocError
         failing_writes: &[],
     };
     monitor(alloc, &["varan", "run", "--script", "s", "a", "b"], outside)
+}
+
+// A run of the versions of two assembler texts.
+fn pair(alloc: Global, first: &str, second: &str) -> Result<Answered, AllocError> {
+    let first = assembled(alloc, first)?;
+    let second = assembled(alloc, second)?;
+    run_pair(alloc, [&first, &second])
 }
 
 // The second version's thread asks before the first version's first thread has written.
