@@ -57,6 +57,10 @@ pub record Limits : Type 0 where
   pub calls : ℕ
   pub threads : ℕ
 
+-- those of a run whose line names none
+abbrev pub usual : Limits
+usual = record { ring = 256; memory = 1048576; budget = 10000000; calls = 65536; threads = 8 }
+
 unfoldable pub limits_of : List Row → Option Limits
 limits_of rows =
     option_and_then (λ ring. option_and_then (λ memory. option_and_then (λ budget. option_and_then (λ calls. option_map (λ threads.

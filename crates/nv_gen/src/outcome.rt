@@ -11,11 +11,11 @@ use std::alloc::{AllocError, Global};
 #[derive(Clone, Copy, Debug, PartialEq, Eq)]
 pub struct Outcome {
     /// The bytes of its output.
-    pub output: u32,
+    pub output: u64,
     /// The events of its log.
-    pub log: u32,
+    pub log: u64,
     /// The versions that exited.
-    pub exited: u32,
+    pub exited: u64,
     /// The rewrites of all versions.
     pub rewrites: u64,
 }
@@ -37,9 +37,9 @@ pub fn summary(alloc: Global, number: u32, outcome: &Outcome) -> Result<Vec<u8>,
     let mut line = Vec::new(alloc);
     push_field(&mut line, b"gen ", u64::from(number))?;
     push_field(&mut line, b" versions ", u64::from(versions))?;
-    push_field(&mut line, b" output ", u64::from(outcome.output))?;
-    push_field(&mut line, b" log ", u64::from(outcome.log))?;
-    push_field(&mut line, b" exited ", u64::from(outcome.exited))?;
+    push_field(&mut line, b" output ", outcome.output)?;
+    push_field(&mut line, b" log ", outcome.log)?;
+    push_field(&mut line, b" exited ", outcome.exited)?;
     push_field(&mut line, b" rewrites ", outcome.rewrites)?;
     line.push(b'\n')?;
     Ok(line)
