@@ -1,24 +1,18 @@
 -- What the words ask for, by what each command's words are.
-use Rattle.std.proofs.Common.{◌≡◌, ℕ, List, Option, Some, None, Err, refl, inl, ⊎_elim, subst, option_and_then, Bool, true, false}
+use Rattle.std.proofs.Common.{◌≡◌, ◌∙◌, sym, ap, ℕ, List, Option, Some, None, refl, inl, inr, ⊎_elim, subst, option_and_then, Bool, true, false}
 use Rattle.std.specs.Prelude.{IsSome}
-use Rattle.nv_outside.specs.Counts.{Rose}
-use Rattle.nv_outside.specs.Told.{Told, Content}
-use Rattle.nv_cli.specs.Made.{made_of}
-use Rattle.nv_cli.specs.Unmade.{IsUnmade}
-use Rattle.nv_cli.specs.Refusals.{Refuses}
-use Rattle.nv_cli.specs.Prepared.{Ready, ComesTo, TookLong, prepared}
+use Rattle.nv_outside.specs.Told.{Told}
+use Rattle.nv_cli.specs.Refusals.{ComesTo, Refuses}
+use Rattle.nv_cli.specs.Prepared.{Prepared, Ready}
 use Rattle.nv_cli.specs.Account.{IsRunOf, run_status}
 use Rattle.nv_script.specs.Scripts.{Setup}
 use Rattle.nv_machine.specs.Guest.{Machine}
 use Rattle.nv_replay.specs.Sequence.{Account}
-use Rattle.nv_cli.specs.Outcome.{Source, NoMemory, Reported, CanBe, Says, Tells, Answers, Ran, account_text, outcome_of, text_of}
-use Rattle.nv_command.specs.declared.asked.Tool.{Tool}
-use Rattle.nv_cli.specs.declared.refusal.Cause.{Cause}
-use Rattle.nv_cli.specs.declared.refusal.Cause.TheVariants.{Long}
+use Rattle.nv_cli.specs.Outcome.{Source, Outcome, NoMemory, NotRead, NotAccepted, Reported, account_text, outcome_of, name_of, text_of}
+use Rattle.nv_cli.specs.Due.{RunComesTo, Owes, OwesAny, IsDue, Shows, IsUntouched, Says, Answers}
+use Rattle.nv_cli.specs.Ran.{Tells, Ran}
 use Rattle.nv_cli.specs.declared.refusal.Refusal.{Refusal}
 use Rattle.nv_cli.specs.declared.refusal.Refusal.TheVariants.{Memory, Unreadable as Unread, Input}
-use Rattle.nv_cli.specs.declared.tools.Unmade.{Unmade}
-use Rattle.nv_cli.specs.declared.tools.Unmade.TheVariants.{Unreadable, Refused}
 use Rattle.nv_command.specs.Words.{Name, Plan, Command, Runs, asked_by, behind_program, command_of, name_in}
 
 is_named : (name : Option Name) (asked : Name → Option Command) (command : Command) → option_and_then asked name ≡ Some command → IsSome name
@@ -26,36 +20,67 @@ is_named None asked command h = cc
 is_named (Some name) asked command h = refl
 
 -- words that are accepted name a command
-pub named : (words : List (List ℕ)) (command : Command) → command_of words ≡ Some command → IsSome (name_in words)
+named : (words : List (List ℕ)) (command : Command) → command_of words ≡ Some command → IsSome (name_in words)
 unfolding command_of
 named words command h = is_named (name_in words) (asked_by (behind_program words)) command h
 
+pub unasked : (words : List (List ℕ)) (command : Command) → command_of words ≡ Some command → command_of words ≡ None → ⊥
+unasked words command asked none = let e : Some command ≡ None = sym asked ∙ none in cc
+
+-- what a command owes is due
+pub is_due : (words : List (List ℕ)) (holds : List ℕ → Told) (command : Command) (outcome : Outcome) → command_of words ≡ Some command → Owes command holds outcome → IsDue words holds outcome
+is_due words holds command outcome asked owed = inl (subst (λ (c : Option Command). OwesAny c holds outcome) (sym asked) owed)
+
+-- a command may want memory
+pub memory_due : (words : List (List ℕ)) (holds : List ℕ → Told) (command : Command) → command_of words ≡ Some command → IsDue words holds NoMemory
+memory_due words holds command asked = inr (refl, named words command asked)
+
+-- a command's words aren't refused
+pub asked_unread : (words : List (List ℕ)) (source : Source) (command : Command) → command_of words ≡ Some command → command_of words ≡ None → IsUntouched source
+asked_unread words source command asked none = absurd (unasked words command asked none)
+
+-- the files of a run come to an outcome
+run_due : (words : List (List ℕ)) (holds : List ℕ → Told) (plan : Plan) (whole : Prepared) (outcome : Outcome) → command_of words ≡ Some (Runs plan)
+    → ComesTo plan holds whole → RunComesTo plan whole outcome → IsDue words holds outcome
+run_due words holds plan whole outcome asked files comes = is_due words holds (Runs plan) outcome asked (record {
+  finds = files.finds;
+  agree = files.agree;
+  comes = subst (λ (p : Prepared). RunComesTo plan p outcome) (sym files.is) comes;
+})
+
 -- a run that doesn't start has the outcome of its refusal
-pub refused_outcome : (refusal : Refusal) (words : List (List ℕ)) (plan : Plan) (source : Source) → command_of words ≡ Some (Runs plan)
-    → Refuses refusal source.holds plan source.faults source.later_faults source.taken source.later_taken → CanBe words source (outcome_of refusal plan)
-refused_outcome Memory words plan source asked h = named words (Runs plan) asked
-refused_outcome (Unread place) words plan source asked h = inl (record { plan = plan; asked = asked; place = place; name_is = refl; reached = h.0; rose = h.1 })
-refused_outcome (Input place cause) words plan source asked h = inl (record { plan = plan; asked = asked; place = place; name_is = refl; reached = h.0; told = h.1; long = h.2 })
+pub refusal_due : (refusal : Refusal) (words : List (List ℕ)) (plan : Plan) (source : Source) → command_of words ≡ Some (Runs plan)
+    → Refuses refusal source.holds plan source.faults source.later_faults source.taken source.later_taken → IsDue words source.holds (outcome_of refusal plan)
+refusal_due Memory words plan source asked h = memory_due words source.holds (Runs plan) asked
+refusal_due (Unread place) words plan source asked h = run_due words source.holds plan _ (NotRead (name_of place plan)) asked h.0 refl
+refusal_due (Input place cause) words plan source asked h = run_due words source.holds plan _ (NotAccepted (name_of place plan) cause) asked h.0 refl
 
-module _ (unmade : Unmade) (tool : Tool) (told : Told) (before now taken later : ℕ) (h : IsUnmade unmade tool told before now taken later) where
-  pub unreadable_rose : unmade ≡ Unreadable → Rose before now
-  unreadable_rose e = subst (λ (u : Unmade). IsUnmade u tool told before now taken later) e h
+pub refusal_shown : (refusal : Refusal) (plan : Plan) (source : Source)
+    → Refuses refusal source.holds plan source.faults source.later_faults source.taken source.later_taken → Shows (outcome_of refusal plan) source
+refusal_shown Memory plan source h = h
+refusal_shown (Unread place) plan source h = h.1
+refusal_shown (Input place cause) plan source h = (h.1, h.2)
 
-  pub refused_by : (cause : Cause) → unmade ≡ Refused cause → ((content : List ℕ) → told ≡ Content content → made_of tool content ≡ Err cause) × (cause ≡ Long → TookLong taken later)
-  refused_by cause e = subst (λ (u : Unmade). IsUnmade u tool told before now taken later) e h
-
-module _ (words : List (List ℕ)) (source : Source) (plan : Plan) (asked : command_of words ≡ Some (Runs plan)) (setup : Setup) (machines : List Machine)
-    (told : ComesTo (prepared source.holds plan) (Ready setup machines)) (before : Option (List ℕ)) (faults status : ℕ) (after : Option (List ℕ)) (later : ℕ) where
+module _ (words : List (List ℕ)) (source : Source) (plan : Plan) (asked : command_of words ≡ Some (Runs plan)) (kept : source.later_faults ≡ source.faults) (setup : Setup) (machines : List Machine)
+    (files : ComesTo plan source.holds (Ready setup machines)) (before : Option (List ℕ)) (faults status : ℕ) (after : Option (List ℕ)) (later : ℕ) where
   reported : (json : Bool) (account : Account) → json ≡ plan.json → IsRunOf plan.limits setup machines account
       → Says (account_text json setup account) (run_status account.lines) before faults status after later → Answers words source before faults status after later
   reported json account form run says = record {
     outcome = Reported json setup account;
-    can_be = record { plan = plan; asked = asked; form = form; machines = machines; told = told; is_run = run };
+    due = run_due words source.holds plan (Ready setup machines) (Reported json setup account) asked files (account, ap (λ j. Reported j setup account) form, run);
+    shown = kept;
+    unread = asked_unread words source (Runs plan) asked;
     says = says;
   }
 
   starved : Says (text_of NoMemory) 3 before faults status after later → Answers words source before faults status after later
-  starved says = record { outcome = NoMemory; can_be = named words (Runs plan) asked; says = says }
+  starved says = record {
+    outcome = NoMemory;
+    due = memory_due words source.holds (Runs plan) asked;
+    shown = kept;
+    unread = asked_unread words source (Runs plan) asked;
+    says = says;
+  }
 
   by_form : (json : Bool) (account : Account) → json ≡ plan.json → IsRunOf plan.limits setup machines account
       → Tells json (account_text json setup account) (run_status account.lines) before faults status after later → Answers words source before faults status after later

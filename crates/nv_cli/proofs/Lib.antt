@@ -1,3 +1,5 @@
 mod Loading
+mod Decided
 mod Statuses
+mod Making
 mod Commands

@@ -1,7 +1,10 @@
+pub mod Found
 pub mod Prepared
 pub mod Made
-pub mod Unmade
 pub mod Account
-pub mod Refusals
 pub mod Outcome
-pub mod Rows
+pub mod Due
+pub mod Ran
+pub mod Refusals
+pub mod Unmade
+pub mod Calm

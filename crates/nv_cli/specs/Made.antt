@@ -1,5 +1,5 @@
 -- What the commands over one file make of its content.
-use Rattle.std.specs.Prelude.{ℕ, List, ◌++◌, if◌then◌else◌, length, codes, Result, Ok, Err}
+use Rattle.std.specs.Prelude.{ℕ, List, ◌++◌, length, codes, Result, Ok, Err}
 use Rattle.std.specs.Fmt.{decimal}
 use Rattle.nv_bpf.specs.declared.op.Op.{Op}
 use Rattle.nv_bpf.specs.declared.op.FilterFault.{FilterFault}
@@ -10,11 +10,13 @@ use Rattle.nv_elf.specs.Elf.{Image}
 use Rattle.nv_elf.specs.Written.{file_of}
 use Rattle.nv_asm.specs.declared.fault.AsmFault.{AsmFault}
 use Rattle.nv_asm.specs.Assembled as asm
-use Rattle.nv_cli.specs.Prepared.{is_long}
+use Rattle.nv_cli.specs.Found.{Found, Whole, TooLong, Unread}
 use Rattle.nv_command.specs.declared.asked.Tool.{Tool}
 use Rattle.nv_command.specs.declared.asked.Tool.TheVariants.{CheckRules, AssembleRules, Assemble}
 use Rattle.nv_cli.specs.declared.refusal.Cause.{Cause}
 use Rattle.nv_cli.specs.declared.refusal.Cause.TheVariants.{Long, Filter, Rules, Asm}
+use Rattle.nv_cli.specs.declared.tools.Unmade.{Unmade}
+use Rattle.nv_cli.specs.declared.tools.Unmade.TheVariants.{Unreadable, Refused}
 
 -- an accepted filter, by the number of its instructions
 abbrev pub accepted_text : ℕ → List ℕ
@@ -38,6 +40,12 @@ used CheckRules bytes = of_filter (filter_of 4096 bytes)
 used AssembleRules bytes = of_rules (assembled 4096 bytes)
 used Assemble bytes = of_program (asm.assembled bytes)
 
--- what is written of a file with this content, or why it is refused
-unfoldable pub made_of : Tool → List ℕ → Result (List ℕ) Cause
-made_of tool bytes = if is_long bytes then Err Long else used tool bytes
+abbrev pub unless_refused : Result (List ℕ) Cause → Result (List ℕ) Unmade
+unless_refused (Ok text) = Ok text
+unless_refused (Err cause) = Err (Refused cause)
+
+-- what is made of a file by what is found of it, or why nothing is
+abbrev pub made_of : Tool → Found → Result (List ℕ) Unmade
+made_of tool (Whole bytes) = unless_refused (used tool bytes)
+made_of tool TooLong = Err (Refused Long)
+made_of tool Unread = Err Unreadable

@@ -1,16 +1,13 @@
 -- What a call of the monitor may come to, and what is then written.
-use Rattle.std.specs.Prelude.{◌≡◌, ◌⊎◌, ℕ, Bool, true, false, IsSome, List, [], ◌∷◌, ◌++◌, Ok, Err, Option, None, Some, codes, slice_get, unwrap_or}
+use Rattle.std.specs.Prelude.{ℕ, Bool, true, false, List, [], ◌∷◌, ◌++◌, codes, slice_get, unwrap_or}
 use Rattle.std.specs.List.{concat}
 use Rattle.std.specs.Fmt.{decimal}
-use Rattle.nv_outside.specs.Counts.{Rose}
 use Rattle.nv_outside.specs.Told.{Told}
-use Rattle.nv_outside.specs.Sink.{Puts}
 use Rattle.nv_outside.specs.declared.sink.Put.{Put}
 use Rattle.nv_outside.specs.declared.sink.Put.TheVariants.{Whole, Failed}
 use Rattle.nv_elf.specs.declared.program.ElfFault.{ElfFault}
 use Rattle.nv_elf.specs.declared.program.ElfFault.TheVariants.{Short, Magic, Class, Kind, Flags, Header, Interpreted, Outside, Overlap, Entry}
 use Rattle.nv_elf.specs.declared.program.ElfFault.TheVariants as elf
-use Rattle.nv_machine.specs.Guest.{Machine}
 use Rattle.nv_guest.specs.declared.outcome.GuestFault.{GuestFault}
 use Rattle.nv_guest.specs.declared.outcome.GuestFault.TheVariants.{NoRoom, Arguments}
 use Rattle.nv_guest.specs.declared.outcome.GuestFault.TheVariants as guest
@@ -25,9 +22,7 @@ use Rattle.nv_asm.specs.declared.fault.AsmCause.{AsmCause}
 use Rattle.nv_asm.specs.declared.fault.AsmCause.TheVariants as asm_cause
 use Rattle.nv_asm.specs.declared.fault.AsmFault.{AsmFault}
 use Rattle.nv_asm.specs.declared.fault.AsmFault.TheVariants as asm
-use Rattle.nv_outside.specs.Told.{Content}
-use Rattle.nv_cli.specs.Made.{made_of}
-use Rattle.nv_command.specs.Words.{Limits, Plan, Job, Runs, Uses, command_of, name_in}
+use Rattle.nv_command.specs.Words.{Plan}
 use Rattle.nv_calls.specs.Logs.{output_of}
 use Rattle.nv_script.specs.Scripts.{Setup}
 use Rattle.nv_script.specs.Texts.{fault_text}
@@ -35,8 +30,7 @@ use Rattle.nv_kernel.specs.Serving.{start_of_script}
 use Rattle.nv_replay.specs.Sequence.{Account}
 use Rattle.nv_report.specs.Report.{report_text}
 use Rattle.nv_report.specs.Json.{json_text}
-use Rattle.nv_cli.specs.Account.{IsRunOf, run_status}
-use Rattle.nv_cli.specs.Prepared.{prepared, Ready, Refused, ComesTo, IsReached, TookLong}
+use Rattle.nv_cli.specs.Account.{run_status}
 use Rattle.nv_cli.specs.declared.refusal.Refusal.{Refusal}
 use Rattle.nv_cli.specs.declared.refusal.Refusal.TheVariants as refusal
 use Rattle.nv_cli.specs.declared.refusal.Place.{Place}
@@ -175,89 +169,3 @@ source_of holds faults taken before after = record {
   taken = taken before;
   later_taken = taken after;
 }
-
--- A read failed, of a file in the reading order whose forerunners are accepted where they are told.
-pub record CannotRead (words : List (List ℕ)) (source : Source) (name : List ℕ) : Type 0 where
-  pub plan : Plan
-  pub asked : command_of words ≡ Some (Runs plan)
-  pub place : Place
-  pub name_is : name ≡ name_of place plan
-  pub reached : IsReached place source.holds plan
-  pub rose : Rose source.faults source.later_faults
-
--- Where the files are told, the first that is refused is this one, for this cause. Too long is only what more bytes were taken of.
-pub record IsRefused (words : List (List ℕ)) (source : Source) (name : List ℕ) (cause : Cause) : Type 0 where
-  pub plan : Plan
-  pub asked : command_of words ≡ Some (Runs plan)
-  pub place : Place
-  pub name_is : name ≡ name_of place plan
-  pub reached : IsReached place source.holds plan
-  pub told : ComesTo (prepared source.holds plan) (Refused place cause)
-  pub long : cause ≡ Long → TookLong source.taken source.later_taken
-
--- The account is that of the plain sequential monitor over the files; where they are told, they are accepted, and the script says this and the versions come to these machines.
-pub record IsReported (words : List (List ℕ)) (source : Source) (json : Bool) (setup : Setup) (account : Account) : Type 0 where
-  pub plan : Plan
-  pub asked : command_of words ≡ Some (Runs plan)
-  pub form : json ≡ plan.json
-  pub machines : List Machine
-  pub told : ComesTo (prepared source.holds plan) (Ready setup machines)
-  pub is_run : IsRunOf plan.limits setup machines account
-
--- The one file of a command couldn't be read.
-pub record CannotReadFile (words : List (List ℕ)) (source : Source) (name : List ℕ) : Type 0 where
-  pub job : Job
-  pub asked : command_of words ≡ Some (Uses job)
-  pub name_is : name ≡ job.file
-  pub rose : Rose source.faults source.later_faults
-
--- Where it is told, the one file of a command is refused for this cause. Too long is only what more bytes were taken of.
-pub record IsFileRefused (words : List (List ℕ)) (source : Source) (name : List ℕ) (cause : Cause) : Type 0 where
-  pub job : Job
-  pub asked : command_of words ≡ Some (Uses job)
-  pub name_is : name ≡ job.file
-  pub told : (content : List ℕ) → source.holds job.file ≡ Content content → made_of job.tool content ≡ Err cause
-  pub long : cause ≡ Long → TookLong source.taken source.later_taken
-
--- The text is what the command makes of its file, where it is told.
-pub record IsMade (words : List (List ℕ)) (source : Source) (text : List ℕ) : Type 0 where
-  pub job : Job
-  pub asked : command_of words ≡ Some (Uses job)
-  pub told : (content : List ℕ) → source.holds job.file ≡ Content content → made_of job.tool content ≡ Ok text
-
--- the outcomes that a call may have, over these words and this source; memory may be wanted from the reading of a command's words on
-abbrev pub CanBe : List (List ℕ) → Source → Outcome → Type 0
-CanBe words source Usage = command_of words ≡ None
-CanBe words source NoMemory = IsSome (name_in words)
-CanBe words source (NotRead name) = CannotRead words source name ⊎ CannotReadFile words source name
-CanBe words source (NotAccepted name cause) = IsRefused words source name cause ⊎ IsFileRefused words source name cause
-CanBe words source (Reported json setup account) = IsReported words source json setup account
-CanBe words source (Made text) = IsMade words source text
-
--- a text was written with this status, or the write failed
-pub record Says (text : List ℕ) (text_status : ℕ) (before : Option (List ℕ)) (faults : ℕ) (status : ℕ) (after : Option (List ℕ)) (later_faults : ℕ) : Type 0 where
-  pub put : Put
-  pub ends : status ≡ ended_with put text_status
-  pub written : Puts before faults text put after later_faults
-
--- the same, or memory was wanted and the line of that was written
-abbrev pub Wrote : List ℕ → ℕ → Option (List ℕ) → ℕ → ℕ → Option (List ℕ) → ℕ → Type 0
-Wrote text text_status before faults status after later_faults =
-    Says text text_status before faults status after later_faults ⊎ Says (text_of NoMemory) 3 before faults status after later_faults
-
--- only a JSON form takes memory
-abbrev pub Tells : Bool → List ℕ → ℕ → Option (List ℕ) → ℕ → ℕ → Option (List ℕ) → ℕ → Type 0
-Tells true text text_status before faults status after later_faults = Wrote text text_status before faults status after later_faults
-Tells false text text_status before faults status after later_faults = Says text text_status before faults status after later_faults
-
--- a call came to one of its outcomes, and said so
-pub record Answers (words : List (List ℕ)) (source : Source) (before : Option (List ℕ)) (faults : ℕ) (status : ℕ) (after : Option (List ℕ)) (later_faults : ℕ) : Type 0 where
-  pub outcome : Outcome
-  pub can_be : CanBe words source outcome
-  pub says : Says (text_of outcome) (status_of outcome) before faults status after later_faults
-
--- the versions ran, and their report was written, or the write failed; or memory was wanted for its JSON form
-pub record Ran (limits : Limits) (json : Bool) (setup : Setup) (machines : List Machine) (before : Option (List ℕ)) (faults : ℕ) (status : ℕ) (after : Option (List ℕ)) (later_faults : ℕ) : Type 0 where
-  pub account : Account
-  pub is_run : IsRunOf limits setup machines account
-  pub says : Tells json (account_text json setup account) (run_status account.lines) before faults status after later_faults

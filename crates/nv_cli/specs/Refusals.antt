@@ -1,7 +1,7 @@
--- Why a run doesn't start.
-use Rattle.std.specs.Prelude.{◌≡◌, ◌≢◌, ◌≤◌, ◌<◌, ℕ, List, [], ◌∷◌, Bool, true, false, Err, length, take, map}
+-- How the files of a run are read, and why a run doesn't start.
+use Rattle.std.specs.Prelude.{◌≡◌, ◌≢◌, ◌≤◌, ℕ, List, [], ◌∷◌, Err, length, map}
 use Rattle.nv_outside.specs.Counts.{Rose}
-use Rattle.nv_outside.specs.Told.{Told, Missing, Content}
+use Rattle.nv_outside.specs.Told.{Told}
 use Rattle.nv_command.specs.Words.{Limits, Plan}
 use Rattle.nv_calls.specs.Calls.{Entry}
 use Rattle.nv_script.specs.Scripts.{Setup, script_of}
@@ -11,67 +11,80 @@ use Rattle.nv_threads.specs.Threads.{Proc, threads}
 use Rattle.nv_replay.specs.Versions.{Running, process_of}
 use Rattle.nv_replay.specs.Accounts.{AreFresh}
 use Rattle.nv_cli.specs.Account.{begun}
-use Rattle.nv_cli.specs.Prepared.{VersionOf, Loads, Ready, Refused, Faulty, ComesTo, AreVersionsTold, IsReached, TookLong, is_long, prepared, version_of, versions_from}
+use Rattle.nv_cli.specs.Found.{Found, Whole, TooLong, Unread, Finds, Agrees, AllAgree, AreFound, IsReadOf, IsLongOf, TookLong}
+use Rattle.nv_cli.specs.Prepared.{Prepared, Unreadable, Refused, Ready, Faulty, Loads, prepared, version_of, versions_from}
 use Rattle.nv_cli.specs.declared.refusal.Place.{Place}
-use Rattle.nv_cli.specs.declared.refusal.Place.TheVariants.{Script, Version}
+use Rattle.nv_cli.specs.declared.refusal.Place.TheVariants.{Script}
 use Rattle.nv_cli.specs.declared.refusal.Cause.{Cause}
 use Rattle.nv_cli.specs.declared.refusal.Cause.TheVariants.{Long}
 use Rattle.nv_cli.specs.declared.refusal.Cause.TheVariants as causes
 use Rattle.nv_cli.specs.declared.refusal.Refusal.{Refusal}
-use Rattle.nv_cli.specs.declared.refusal.Refusal.TheVariants.{Memory, Unreadable, Input}
-
--- These bytes were read. Where the content is told, they are it.
-pub record IsReadOf (bytes : List ℕ) (told : Told) : Type 0 where
-  pub short : length bytes ≤ 4194304
-  pub there : told ≢ Missing
-  pub same : (content : List ℕ) → told ≡ Content content → bytes ≡ content
+use Rattle.nv_cli.specs.declared.refusal.Refusal.TheVariants as refusal
 
 -- a file couldn't be read: for want of memory, or the count of faults rose, or it is too long
 abbrev pub ReadRefused : Refusal → Place → Told → ℕ → ℕ → ℕ → ℕ → Type 0
-ReadRefused Memory place told before now taken later = Unit {0}
-ReadRefused (Unreadable at_place) place told before now taken later = (at_place ≡ place) × Rose before now
-ReadRefused (Input at_place cause) place told before now taken later = (at_place ≡ place) × (cause ≡ Long) × TookLong taken later
-    × (told ≢ Missing) × ((content : List ℕ) → told ≡ Content content → is_long content ≡ true)
+ReadRefused refusal.Memory place told before now taken later = now ≡ before
+ReadRefused (refusal.Unreadable at_place) place told before now taken later = (at_place ≡ place) × Rose before now
+ReadRefused (refusal.Input at_place cause) place told before now taken later =
+    (at_place ≡ place) × (cause ≡ Long) × (now ≡ before) × TookLong taken later × IsLongOf told
 
 -- a script is refused, or memory is wanted
 abbrev pub IsScriptRefusal : Refusal → List ℕ → Type 0
-IsScriptRefusal Memory bytes = Unit {0}
-IsScriptRefusal (Unreadable place) bytes = ⊥
-IsScriptRefusal (Input place cause) bytes = (place ≡ Script) × (fault : ScriptFault) × (cause ≡ causes.Script fault) × (script_of bytes ≡ Err fault)
+IsScriptRefusal refusal.Memory bytes = Unit {0}
+IsScriptRefusal (refusal.Unreadable place) bytes = ⊥
+IsScriptRefusal (refusal.Input place cause) bytes = (place ≡ Script) × (fault : ScriptFault) × (cause ≡ causes.Script fault) × (script_of bytes ≡ Err fault)
 
 -- a version file is refused, or memory is wanted
 abbrev pub IsVersionRefusal : Limits → Setup → Refusal → Place → List ℕ → Type 0
-IsVersionRefusal limits setup Memory place bytes = Unit {0}
-IsVersionRefusal limits setup (Unreadable at_place) place bytes = ⊥
-IsVersionRefusal limits setup (Input at_place cause) place bytes = (at_place ≡ place) × (cause ≢ Long) × (version_of limits setup bytes ≡ Faulty cause)
+IsVersionRefusal limits setup refusal.Memory place bytes = Unit {0}
+IsVersionRefusal limits setup (refusal.Unreadable at_place) place bytes = ⊥
+IsVersionRefusal limits setup (refusal.Input at_place cause) place bytes = (at_place ≡ place) × (cause ≢ Long) × (version_of limits setup bytes ≡ Faulty cause)
 
--- Why a run doesn't start: for want of memory; or a read failed, of a file that is reached; or, where the files are told, as they come to.
+-- something is found at each place that agrees with what is told, and over that the files come to this
+pub record ComesTo (plan : Plan) (holds : List ℕ → Told) (whole : Prepared) : Type 0 where
+  pub finds : Finds
+  pub agree : AreFound plan holds finds
+  pub is : prepared plan.limits finds ≡ whole
+
+-- the same of the versions from number i on
+pub record VersionsCome (limits : Limits) (setup : Setup) (holds : List ℕ → Told) (i : ℕ) (names : List (List ℕ)) (whole : Prepared) : Type 0 where
+  pub finds : List Found
+  pub agree : AllAgree holds names finds
+  pub is : versions_from limits setup i finds ≡ whole
+
+-- Why a run doesn't start: for want of memory; or a read failed; or a file is refused.
 abbrev pub Refuses : Refusal → (List ℕ → Told) → Plan → ℕ → ℕ → ℕ → ℕ → Type 0
-Refuses Memory holds plan before now taken later = Unit {0}
-Refuses (Unreadable place) holds plan before now taken later = IsReached place holds plan × Rose before now
-Refuses (Input place cause) holds plan before now taken later =
-    IsReached place holds plan × ComesTo (prepared holds plan) (Refused place cause) × (cause ≡ Long → TookLong taken later)
+Refuses refusal.Memory holds plan before now taken later = now ≡ before
+Refuses (refusal.Unreadable place) holds plan before now taken later = ComesTo plan holds (Unreadable place) × Rose before now
+Refuses (refusal.Input place cause) holds plan before now taken later =
+    ComesTo plan holds (Refused place cause) × (now ≡ before) × (cause ≡ Long → TookLong taken later)
 
--- the version is that of a file with this content, where it is told
+-- the version is that of the bytes that were read
 pub record HasLoaded (limits : Limits) (setup : Setup) (version : Running Proc) (told : Told) : Type 0 where
+  pub bytes : List ℕ
+  pub read : IsReadOf bytes told
   pub machine : Machine
   pub begins : version.at.process ≡ begun limits machine
-  pub there : told ≢ Missing
-  pub short : (content : List ℕ) → told ≡ Content content → is_long content ≡ false
-  pub loads : (content : List ℕ) → told ≡ Content content → version_of limits setup content ≡ Loads machine
+  pub loads : version_of limits setup bytes ≡ Loads machine
 
 -- a version file with this cause: too long, or else faulty
-abbrev pub IsFault : Bool → VersionOf → Cause → Type 0
-IsFault true version cause = cause ≡ Long
-IsFault false version cause = version ≡ Faulty cause
+abbrev pub IsFault : Limits → Setup → Found → Cause → Type 0
+IsFault limits setup (Whole bytes) cause = version_of limits setup bytes ≡ Faulty cause
+IsFault limits setup TooLong cause = cause ≡ Long
+IsFault limits setup Unread cause = ⊥
 
--- a version can't be made: for want of memory, or a read failed, or, where the file is told, it is too long or faulty
+-- a version file that was found is too long or faulty
+pub record IsFaulty (limits : Limits) (setup : Setup) (told : Told) (cause : Cause) : Type 0 where
+  pub found : Found
+  pub agrees : Agrees told found
+  pub fault : IsFault limits setup found cause
+
+-- a version can't be made: for want of memory, or a read failed, or it is too long or faulty
 abbrev pub VersionRefused : Limits → Setup → Refusal → Place → Told → ℕ → ℕ → ℕ → ℕ → Type 0
-VersionRefused limits setup Memory place told before now taken later = Unit {0}
-VersionRefused limits setup (Unreadable at_place) place told before now taken later = (at_place ≡ place) × Rose before now
-VersionRefused limits setup (Input at_place cause) place told before now taken later = (at_place ≡ place) × (told ≢ Missing)
-    × (cause ≡ Long → TookLong taken later)
-    × ((content : List ℕ) → told ≡ Content content → IsFault (is_long content) (version_of limits setup content) cause)
+VersionRefused limits setup refusal.Memory place told before now taken later = now ≡ before
+VersionRefused limits setup (refusal.Unreadable at_place) place told before now taken later = (at_place ≡ place) × Rose before now
+VersionRefused limits setup (refusal.Input at_place cause) place told before now taken later =
+    (at_place ≡ place) × IsFaulty limits setup told cause × (now ≡ before) × (cause ≡ Long → TookLong taken later)
 
 -- the versions are those of files with these names, one each
 abbrev pub AreLoaded : Limits → Setup → List (Running Proc) → (List ℕ → Told) → List (List ℕ) → Type 0
@@ -80,23 +93,18 @@ AreLoaded limits setup [] holds (name ∷ names) = ⊥
 AreLoaded limits setup (version ∷ versions) holds [] = ⊥
 AreLoaded limits setup (version ∷ versions) holds (name ∷ names) = HasLoaded limits setup version (holds name) × AreLoaded limits setup versions holds names
 
--- a version among these names; where they are told, those before it are accepted
-abbrev pub IsVersionReached : Limits → Setup → Place → (List ℕ → Told) → List (List ℕ) → Type 0
-IsVersionReached limits setup Script holds names = ⊥
-IsVersionReached limits setup (Version i) holds names = (i < length names) × AreVersionsTold limits setup holds (take i names)
-
 -- the versions with these names can't be made
 abbrev pub VersionsRefused : Limits → Setup → Refusal → (List ℕ → Told) → List (List ℕ) → ℕ → ℕ → ℕ → ℕ → Type 0
-VersionsRefused limits setup Memory holds names before now taken later = Unit {0}
-VersionsRefused limits setup (Unreadable place) holds names before now taken later = IsVersionReached limits setup place holds names × Rose before now
-VersionsRefused limits setup (Input place cause) holds names before now taken later =
-    IsVersionReached limits setup place holds names × ComesTo (versions_from limits setup holds 0 names) (Refused place cause) × (cause ≡ Long → TookLong taken later)
+VersionsRefused limits setup refusal.Memory holds names before now taken later = now ≡ before
+VersionsRefused limits setup (refusal.Unreadable place) holds names before now taken later = VersionsCome limits setup holds 0 names (Unreadable place) × Rose before now
+VersionsRefused limits setup (refusal.Input place cause) holds names before now taken later =
+    VersionsCome limits setup holds 0 names (Refused place cause) × (now ≡ before) × (cause ≡ Long → TookLong taken later)
 
--- a kernel over what the script says and versions that are ready to run; where the files are told, they come to this and these machines
+-- a kernel over what the script says and versions that are ready to run, to which the files come
 pub record IsPrepared (log : List Entry) (setup : Setup) (versions : List (Running Proc)) (holds : List ℕ → Told) (plan : Plan) : Type 0 where
   pub empty : log ≡ []
   pub machines : List Machine
   pub processes : map process_of versions ≡ map (begun plan.limits) machines
-  pub told : ComesTo (prepared holds plan) (Ready setup machines)
+  pub comes : ComesTo plan holds (Ready setup machines)
   pub fresh : AreFresh threads 0 versions
   pub few : length versions ≤ 8

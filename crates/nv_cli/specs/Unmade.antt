@@ -1,9 +1,9 @@
--- Why a command makes nothing of its file.
-use Rattle.std.specs.Prelude.{◌≡◌, ◌≢◌, ℕ, List, Result, Err}
+-- What a command makes of its file, and why it makes nothing.
+use Rattle.std.specs.Prelude.{◌≡◌, ◌≢◌, ℕ, List, Result, Ok, Err}
 use Rattle.nv_outside.specs.Counts.{Rose}
-use Rattle.nv_outside.specs.Told.{Told, Content}
+use Rattle.nv_outside.specs.Told.{Told}
+use Rattle.nv_cli.specs.Found.{Found, Agrees, TookLong}
 use Rattle.nv_cli.specs.Made.{made_of}
-use Rattle.nv_cli.specs.Prepared.{TookLong}
 use Rattle.nv_command.specs.declared.asked.Tool.{Tool}
 use Rattle.nv_cli.specs.declared.refusal.Cause.{Cause}
 use Rattle.nv_cli.specs.declared.refusal.Cause.TheVariants.{Long}
@@ -16,9 +16,14 @@ IsUnused Memory made = Unit {0}
 IsUnused Unreadable made = ⊥
 IsUnused (Refused cause) made = (made ≡ Err cause) × (cause ≢ Long)
 
--- memory is wanted; or the count of faults rose; or, where the content is told, it is refused so
+-- something is found that agrees with what is told, and this is made of it
+pub record Makes (tool : Tool) (told : Told) (made : Result (List ℕ) Unmade) : Type 0 where
+  pub found : Found
+  pub agrees : Agrees told found
+  pub is : made_of tool found ≡ made
+
+-- memory is wanted; or the count of faults rose; or the file is refused
 abbrev pub IsUnmade : Unmade → Tool → Told → ℕ → ℕ → ℕ → ℕ → Type 0
-IsUnmade Memory tool told before now taken later = Unit {0}
+IsUnmade Memory tool told before now taken later = now ≡ before
 IsUnmade Unreadable tool told before now taken later = Rose before now
-IsUnmade (Refused cause) tool told before now taken later =
-    ((content : List ℕ) → told ≡ Content content → made_of tool content ≡ Err cause) × (cause ≡ Long → TookLong taken later)
+IsUnmade (Refused cause) tool told before now taken later = Makes tool told (Err (Refused cause)) × (now ≡ before) × (cause ≡ Long → TookLong taken later)

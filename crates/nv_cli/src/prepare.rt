@@ -1,5 +1,5 @@
 // How the files of a run are read and loaded.
-ghost use Rattle.std.specs.Prelude.{◌≡◌, ◌≤◌, ◌<◌, List, ℕ, Some, Ok, IsTrue, IfOk, IfErr, length, slice_get};
+ghost use Rattle.std.specs.Prelude.{◌≡◌, ◌≤◌, ◌<◌, List, ℕ, Some, Ok, IsTrue, IfOk, IfErr, OnOk, length, slice_get};
 ghost use Rattle.nv_guest.specs.Guest.{machine_of, one_thread};
 ghost use Rattle.nv_script.specs.Scripts.{script_of, is_script};
 ghost use Rattle.nv_script.specs.Views.{setup_of};
@@ -9,7 +9,8 @@ ghost use Rattle.nv_replay.specs.Accounts.{AreFresh};
 ghost use Rattle.nv_cli.specs.Account.{begun};
 ghost use Rattle.nv_command.specs.Seen.{limits_view, names_view, plan_view};
 ghost use Rattle.nv_cli.specs.Prepared.{Loads, version_of};
-ghost use Rattle.nv_cli.specs.Refusals.{ReadRefused, IsReadOf, Refuses, IsScriptRefusal, IsVersionRefusal, VersionRefused, VersionsRefused, HasLoaded, AreLoaded, IsPrepared};
+ghost use Rattle.nv_cli.specs.Found.{IsReadOf};
+ghost use Rattle.nv_cli.specs.Refusals.{ReadRefused, Refuses, IsScriptRefusal, IsVersionRefusal, VersionRefused, VersionsRefused, HasLoaded, AreLoaded, IsPrepared};
 
 use crate::refusal::{Cause, Place, Refusal};
 use nv_command::{Limits, Run};
@@ -42,7 +43,7 @@ fn read_file<F: Files>(
     ensures refused { IfErr result (λ refusal. ReadRefused refusal place (F.holds files.old name.now)
         (F.faults files.old) (F.faults files.new) (F.taken files.old) (F.taken files.new)) }
     ensures same { (name : List ℕ) → F.holds files.new name ≡ F.holds files.old name }
-    ensures faults { F.faults files.old ≤ F.faults files.new }
+    ensures faults { OnOk result (F.faults files.new ≡ F.faults files.old) }
     ensures taken { F.taken files.old ≤ F.taken files.new }
 {
     match files.read(alloc, name, MOST_BYTES)? {
@@ -116,7 +117,7 @@ fn read_version<F: Files>(
     ensures refused { IfErr result (λ refusal. VersionRefused (limits_view limits) (setup_of script.now) refusal (Place.Version index) (F.holds files.old name.now)
         (F.faults files.old) (F.faults files.new) (F.taken files.old) (F.taken files.new)) }
     ensures same { (name : List ℕ) → F.holds files.new name ≡ F.holds files.old name }
-    ensures faults { F.faults files.old ≤ F.faults files.new }
+    ensures faults { OnOk result (F.faults files.new ≡ F.faults files.old) }
     ensures taken { F.taken files.old ≤ F.taken files.new }
 {
     let place = Place::Version(index);
@@ -147,6 +148,7 @@ fn read_versions<F: Files>(
     ensures fresh { IfOk result (λ versions. AreFresh threads 0 versions.items) }
     ensures refused { IfErr result (λ refusal. VersionsRefused (limits_view limits) (setup_of script.now) refusal (F.holds files.old) (names_view names.now)
         (F.faults files.old) (F.faults files.new) (F.taken files.old) (F.taken files.new)) }
+    ensures faults { OnOk result (F.faults files.new ≡ F.faults files.old) }
 {
     let mut versions = Vec::new(alloc);
     for index in 0..names.len() {
@@ -164,6 +166,7 @@ pub fn prepare<F: Files>(alloc: Global, files: &mut F, plan: &Run<'_>) -> Result
     ensures ready { IfOk result (λ ready. IsPrepared ready.kernel.log ready.kernel.setup ready.versions.items (F.holds files.old) (plan_view plan.now)) }
     ensures refused { IfErr result (λ refusal. Refuses refusal (F.holds files.old) (plan_view plan.now)
         (F.faults files.old) (F.faults files.new) (F.taken files.old) (F.taken files.new)) }
+    ensures faults { OnOk result (F.faults files.new ≡ F.faults files.old) }
 {
     let bytes = read_file(alloc, files, plan.script, Place::Script)?;
     let script = match script_in(alloc, &bytes) {

@@ -1,8 +1,7 @@
 // The commands over one file.
-ghost use Rattle.std.specs.Prelude.{◌≡◌, ◌≢◌, ◌≤◌, List, ℕ, Ok, Err, IfOk, IfErr, length};
-ghost use Rattle.nv_outside.specs.Told.{Content};
-ghost use Rattle.nv_cli.specs.Made.{accepted_text, of_filter, of_rules, of_program, used, made_of};
-ghost use Rattle.nv_cli.specs.Unmade.{IsUnmade, IsUnused};
+ghost use Rattle.std.specs.Prelude.{◌≡◌, ◌≢◌, ◌≤◌, List, ℕ, Ok, Err, IfOk, IfErr, OnOk, length};
+ghost use Rattle.nv_cli.specs.Made.{accepted_text, of_filter, of_rules, of_program, used};
+ghost use Rattle.nv_cli.specs.Unmade.{Makes, IsUnmade, IsUnused};
 ghost use Rattle.nv_cli.specs.declared.tools.Unmade.TheVariants.{Memory};
 ghost use Rattle.nv_bpf.specs.Texts.{filter_of};
 ghost use Rattle.nv_bpf_asm.specs.Assembled.{assembled};
@@ -107,14 +106,14 @@ fn use_tool(alloc: Global, tool: Tool, bytes: &[u8]) -> Result<Vec<u8>, Unmade>
 }
 
 /// Reads the file and makes of it what the command says.
-#[tactic(auto, unfolding(crate::specs::Made::made_of))]
 pub fn make<F: Files>(
     alloc: Global,
     files: &mut F,
     tool: Tool,
     file: &str,
 ) -> Result<Vec<u8>, Unmade>
-    ensures text { IfOk result (λ text. (content : List ℕ) → F.holds files.old file.now ≡ Content content → made_of tool content ≡ Ok text.items) }
+    ensures text { IfOk result (λ text. Makes tool (F.holds files.old file.now) (Ok text.items)) }
+    ensures faults { OnOk result (F.faults files.new ≡ F.faults files.old) }
     ensures unmade { IfErr result (λ unmade. IsUnmade unmade tool (F.holds files.old file.now)
         (F.faults files.old) (F.faults files.new) (F.taken files.old) (F.taken files.new)) }
 {

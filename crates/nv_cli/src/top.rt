@@ -2,8 +2,6 @@
 ghost use Rattle.std.specs.Prelude.{◌≡◌, ◌≢◌, ◌≤◌, ◌⊎◌, ◌++◌, ◌∷◌, [], List, ℕ, Some, None, Ok, Err, IsTrue, ◌↔◌, codes, length, map};
 ghost use Rattle.std.specs.Fmt.{decimal};
 ghost use Rattle.std.specs.List.{concat, list_any};
-ghost use Rattle.nv_outside.specs.Counts.{Rose};
-ghost use Rattle.nv_outside.specs.Told.{Content};
 ghost use Rattle.nv_outside.specs.Sink.{Puts};
 ghost use Rattle.nv_machine.specs.Guest.{Machine};
 ghost use Rattle.nv_threads.specs.Threads.{threads};
@@ -12,19 +10,15 @@ ghost use Rattle.nv_replay.specs.Lead.{is_memory};
 ghost use Rattle.nv_replay.specs.Versions.{standing_of, process_of};
 ghost use Rattle.nv_replay.specs.Accounts.{AreFresh};
 ghost use Rattle.nv_cli.specs.Account.{begun, run_status};
-ghost use Rattle.nv_command.specs.Words.{Plan, Job, Runs, Uses, command_of, name_in, texts};
+ghost use Rattle.nv_command.specs.Words.{Runs, Uses, command_of, texts};
 ghost use Rattle.nv_command.specs.Seen.{limits_view, plan_view};
 ghost use Rattle.nv_calls.specs.Logs.{output_of};
 ghost use Rattle.nv_report.specs.Report.{report_text};
 ghost use Rattle.nv_report.specs.Json.{json_text};
-ghost use Rattle.nv_script.specs.Scripts.{Setup};
 ghost use Rattle.nv_script.specs.Texts.{fault_text};
-ghost use Rattle.nv_cli.specs.Made.{made_of};
-ghost use Rattle.nv_cli.specs.Prepared.{prepared, Ready, Refused};
-ghost use Rattle.nv_cli.specs.declared.refusal.Place.{Place};
-ghost use Rattle.nv_cli.specs.declared.refusal.Cause.{Cause};
-ghost use Rattle.nv_cli.specs.Outcome.{Says, Wrote, Answers, Ran, Usage, NoMemory, ended_with, name_of, elf_text, guest_text, filter_text, line_text, rule_word, rules_text, asm_word, asm_text, cause_text, outcome_of, status_of, text_of, source_of};
-ghost use Rattle.nv_cli.specs.Rows.{IsReport, Reports, Makes, WantsMemory, Refuses, FailsToRead, FailsToWrite};
+ghost use Rattle.nv_cli.specs.Due.{Says, Answers, Completes, Rejects};
+ghost use Rattle.nv_cli.specs.Ran.{Wrote, Ran};
+ghost use Rattle.nv_cli.specs.Outcome.{ended_with, name_of, elf_text, guest_text, filter_text, line_text, rule_word, rules_text, asm_word, asm_text, cause_text, outcome_of, status_of, text_of, source_of};
 
 use crate::prepare::{Prepared, prepare};
 use crate::refusal::{Cause, Place, Refusal};
@@ -437,51 +431,16 @@ pub fn varan<F: Files, S: Sink, G: Gate>(
     sink: &mut S,
     _gate: &G,
 ) -> u8
-    // With the statuses 0, 1 and 7 a run writes the report of the plain sequential monitor over these words and files,
-    // and a command over one file, which ends with 0, writes what it makes of it.
-    ensures report { (plan : Plan) → command_of (texts words.now.items) ≡ Some (Runs plan) → IsReport result
-        → Reports (texts words.now.items) (source_of F.holds F.faults F.taken files.old files.new) result (S.told sink.old) (S.told sink.new) }
-    ensures made { (job : Job) → command_of (texts words.now.items) ≡ Some (Uses job) → IsReport result
-        → (result ≡ 0) × Makes (texts words.now.items) (source_of F.holds F.faults F.taken files.old files.new) (S.told sink.old) (S.told sink.new) }
+    // It comes to an outcome that the words and the files owe, and says it: its status and what it writes are that outcome's.
+    ensures answers { Answers (texts words.now.items) (source_of F.holds F.faults F.taken files.old files.new)
+        (S.told sink.old) (S.faults sink.old) result (S.told sink.new) (S.faults sink.new) }
 
-    // Words that are refused are answered by the line of usage, unless it can't be written, or memory is wanted to read the words
-    // of a command; no others are. Words that name no command take no memory.
-    ensures usage { command_of (texts words.now.items) ≡ None
-        → Says (text_of Usage) 2 (S.told sink.old) (S.faults sink.old) result (S.told sink.new) (S.faults sink.new)
-        ⊎ Says (text_of NoMemory) 3 (S.told sink.old) (S.faults sink.old) result (S.told sink.new) (S.faults sink.new) }
-    ensures no_command { name_in (texts words.now.items) ≡ None
-        → Says (text_of Usage) 2 (S.told sink.old) (S.faults sink.old) result (S.told sink.new) (S.faults sink.new) }
-    ensures usage_only { result ≡ 2 → command_of (texts words.now.items) ≡ None }
+    // Files that are accepted and no fault: the command's work is done, or memory is wanted.
+    ensures completes { Completes (texts words.now.items) (source_of F.holds F.faults F.taken files.old files.new)
+        (S.faults sink.old) result (S.faults sink.new) }
 
-    // Want of memory is free, for words that name a command, and is said.
-    ensures memory { result ≡ 3 → WantsMemory (texts words.now.items) (S.told sink.old) (S.told sink.new) }
-
-    // A refused file: only where the contents say so, and there exactly, unless a read failed or the line couldn't be written.
-    ensures input { result ≡ 4
-        → Refuses (texts words.now.items) (source_of F.holds F.faults F.taken files.old files.new) (S.told sink.old) (S.told sink.new) }
-    ensures refused { (plan : Plan) (place : Place) (cause : Cause) → command_of (texts words.now.items) ≡ Some (Runs plan)
-        → prepared (F.holds files.old) plan ≡ Refused place cause → (Rose (F.faults files.old) (F.faults files.new) → ⊥)
-        → (result ≡ 4) ⊎ ((result ≡ 6) ⊎ (result ≡ 3)) }
-    ensures file_refused { (job : Job) (content : List ℕ) (cause : Cause) → command_of (texts words.now.items) ≡ Some (Uses job)
-        → F.holds files.old job.file ≡ Content content → made_of job.tool content ≡ Err cause → (Rose (F.faults files.old) (F.faults files.new) → ⊥)
-        → (result ≡ 4) ⊎ ((result ≡ 6) ⊎ (result ≡ 3)) }
-
-    // Faults come only where their counts rose.
-    ensures read { result ≡ 5
-        → FailsToRead (texts words.now.items) (source_of F.holds F.faults F.taken files.old files.new) (S.told sink.old) (S.told sink.new) }
-    ensures write { result ≡ 6 → Rose (S.faults sink.old) (S.faults sink.new) }
-    ensures front { result ≡ 6
-        → FailsToWrite (texts words.now.items) (source_of F.holds F.faults F.taken files.old files.new) (S.told sink.old) (S.told sink.new) }
-
-    // Where no fault came, files that are accepted give their output, or memory is wanted.
-    ensures complete { (plan : Plan) (setup : Setup) (machines : List Machine) → command_of (texts words.now.items) ≡ Some (Runs plan)
-        → prepared (F.holds files.old) plan ≡ Ready setup machines
-        → (Rose (F.faults files.old) (F.faults files.new) → ⊥) → (Rose (S.faults sink.old) (S.faults sink.new) → ⊥)
-        → IsReport result ⊎ (result ≡ 3) }
-    ensures file_complete { (job : Job) (content text : List ℕ) → command_of (texts words.now.items) ≡ Some (Uses job)
-        → F.holds files.old job.file ≡ Content content → made_of job.tool content ≡ Ok text
-        → (Rose (F.faults files.old) (F.faults files.new) → ⊥) → (Rose (S.faults sink.old) (S.faults sink.new) → ⊥)
-        → (result ≡ 0) ⊎ (result ≡ 3) }
+    // A file that is refused is named, unless a read failed before, the line can't be written or memory is wanted.
+    ensures rejects { Rejects (texts words.now.items) (source_of F.holds F.faults F.taken files.old files.new) result }
 {
     answer(alloc, words, files, sink)
 }

@@ -1,21 +1,21 @@
+use Rattle.std.proofs.Common.{inl, inr, ⊎_elim, ◌≡◌, ◌⊎◌, arith}
 use Rattle.nv_outside.specs.Counts.{Rose}
-use Rattle.std.proofs.Common.{◌≡◌, ◌≢◌, ℕ, arith}
-use Rattle.nv_outside.specs.declared.sink.Put.{Put}
-use Rattle.nv_outside.specs.declared.sink.Put.TheVariants.{Whole, Failed}
-use Rattle.nv_cli.specs.Outcome.{ended_with}
+use Rattle.nv_cli.proofs.Statuses.{five-by, six-by, usage-by}
 use Rattle.nv_cli.proofs.calm.varan_calmly.Goals as goal
-
--- a status that isn't that of a write fault is the text's own
-own : (put : Put) (n status : ℕ) → n ≡ ended_with put status → n ≢ 6 → n ≡ status
-own Whole n status ends other = ends
-own Failed n status ends other = absurd (other ends)
 
 never : Rose 0 0 → ⊥
 never r = omega arith
 
-pub returns-clause-no_command : goal.returns-clause-no_command
-returns-clause-no_command c = λ none.
-    let says = c.varan.ensures.no_command none in own says.put c.varan.result 2 says.ends (λ six. never (c.varan.ensures.write six))
-
-pub returns-clause-complete : goal.returns-clause-complete
-returns-clause-complete c = λ plan setup machines asked ready. c.varan.ensures.complete plan setup machines asked ready never never
+pub returns : goal.returns
+returns c =
+    let said = c.varan.ensures in
+    record {
+      answers = said.answers;
+      completes = λ command asked accepted. said.completes command asked accepted never never;
+      rejects = λ command asked refused. ⊎_elim inl
+          (λ (r : (c.varan.result ≡ 6) ⊎ (c.varan.result ≡ 3)). ⊎_elim (λ (is : c.varan.result ≡ 6). absurd (never (six-by said.answers is))) inr r)
+          (said.rejects command asked refused never);
+      read = λ is. never (five-by said.answers is);
+      write = λ is. never (six-by said.answers is);
+      no_command = λ none. usage-by said.answers none never;
+    }

@@ -1,13 +1,15 @@
 use Rattle.std.proofs.Common.{◌≡◌, ◌∙◌, sym, ap, subst, ℕ, List, Ok, arith}
 use Rattle.std.proofs.lemmas.List.{length-map}
+use Rattle.std.proofs.lemmas.Result.{err_from_is_err_and}
 use Rattle.nv_outside.specs.Told.{Told}
 use Rattle.std.specs.Borrow.{Bor}
 use Rattle.nv_command.specs.Seen.{limits_view, names_view, plan_view}
 use Rattle.nv_script.specs.Scripts.{Setup, script_of}
 use Rattle.nv_script.specs.Views.{setup_of}
-use Rattle.nv_cli.specs.Prepared.{Ready, versions_from}
+use Rattle.nv_cli.specs.Found.{IsReadOf}
+use Rattle.nv_cli.specs.Prepared.{Ready}
 use Rattle.nv_cli.specs.Refusals.{AreLoaded, IsPrepared, VersionsRefused}
-use Rattle.nv_cli.proofs.Loading.{all_ready, script_accepted, run_refused_by, length-loaded}
+use Rattle.nv_cli.proofs.Loading.{all_ready, script_unread, script_refuses, script_accepted, run_refused_by, length-loaded}
 use Rattle.nv_cli.proofs.prepare.prepare.Goals as goal
 
 pub returns-in-Ok-read_versions-clause-ready : goal.returns-in-Ok-read_versions-clause-ready
@@ -29,7 +31,7 @@ returns-in-Ok-read_versions-clause-ready g c =
       empty = is.0;
       machines = ready.machines;
       processes = ready.processes;
-      told = script_accepted (holds c.args.plan.now.script.now) (λ s. versions_from limits s holds 0 names) (Ready setup ready.machines) c.in_ok-bytes.bytes.items setup c.in_ok-bytes.ensures.bytes accepted ready.told;
+      comes = script_accepted holds (plan_view c.args.plan.now) c.in_ok-bytes.bytes.items setup (Ready setup ready.machines) c.in_ok-bytes.ensures.bytes accepted ready.come;
       fresh = c.in-Ok-read_versions.ensures.fresh;
       few = omega (arith, length-loaded limits setup versions holds names loaded, length-map c.args.plan.now.versions.items (λ (name : Bor (List ℕ)). name.now));
     })
@@ -45,3 +47,15 @@ returns-clause-refused g c =
     same c.in_ok-bytes.ensures.bytes accepted c.in_ok-bytes.ensures.faults c.in_ok-bytes.ensures.taken
     (subst (λ (ns : List (Bor (List ℕ))). VersionsRefused limits setup c.in-Err-read_versions.refusal (g.F.Files.holds c.read_file.new.files) (names_view ns)
     (g.F.Files.faults c.read_file.new.files) (g.F.Files.faults c.read_versions.new.files) (g.F.Files.taken c.read_file.new.files) (g.F.Files.taken c.read_versions.new.files)) c.deref-2.ensures.value c.in-Err-read_versions.ensures.refused)
+
+pub returns-in_err-bytes-clause-refused : goal.returns-in_err-bytes-clause-refused
+returns-in_err-bytes-clause-refused g c =
+    let p = err_from_is_err_and c.from_residual.result c.from_residual.ensures.1 in
+    rw (p.1, p.2) (script_unread _ (g.F.Files.holds c.args.files.now) (plan_view c.args.plan.now) _ _ _ _ c.in_err-bytes.ensures.refused)
+
+pub returns-in-Err-clause-refused : goal.returns-in-Err-clause-refused
+returns-in-Err-clause-refused g c =
+    let holds = g.F.Files.holds c.args.files.now in
+    let told = holds c.args.plan.now.script.now in
+    let read : IsReadOf c.deref.result.now told = subst (λ (bytes : List ℕ). IsReadOf bytes told) (sym c.deref.ensures.value) c.in_ok-bytes.ensures.bytes in
+    script_refuses c.in-Err.refusal holds (plan_view c.args.plan.now) c.deref.result.now _ _ _ _ read c.in_ok-bytes.ensures.faults c.in-Err.ensures.refused

@@ -33,6 +33,6 @@ loop-index-preserved g c =
       loaded_next limits setup c.loop-index.versions.items c.push.new.self.items holds names c.loop-index.index c.in-Ok.version c.name_at-name.result.now c.in_ok-push-in-Ok.ensures.items c.name_at-name.ensures c.loop-index.invariant.0 loaded,
       fresh_next c.loop-index.versions.items c.push.new.self.items c.loop-index.index c.in-Ok.version c.in_ok-push-in-Ok.ensures.items count c.loop-index.invariant.1 c.in-Ok.ensures.fresh,
       λ name. c.in-Ok.ensures.same name ∙ c.loop-index.invariant.2 name,
-      omega (arith, c.loop-index.invariant.3, c.in-Ok.ensures.faults),
+      c.in-Ok.ensures.faults ∙ c.loop-index.invariant.3,
       omega (arith, c.loop-index.invariant.4, c.in-Ok.ensures.taken),
     )

@@ -1,9 +1,10 @@
-use Rattle.std.proofs.Common.{◌∙◌, ap, subst, Some}
-use Rattle.nv_command.specs.Words.{texts}
+use Rattle.std.proofs.Common.{◌≡◌, ◌∙◌, refl, ap, subst, sym, inl, inr, Option, Some, None}
+use Rattle.nv_command.specs.Words.{Command as Line, command_of, texts}
 use Rattle.nv_command.specs.Seen.{IsRefused, command_view}
 use Rattle.nv_command.specs.declared.asked.Command.{Command}
 use Rattle.nv_command.specs.declared.asked.LineFault.{LineFault}
 use Rattle.nv_cli.specs.Outcome.{Usage, NoMemory}
+use Rattle.nv_cli.specs.Due.{OwesAny}
 use Rattle.nv_cli.proofs.top.answer.Goals as goal
 
 pub returns-in-Ok-Run : goal.returns-in-Ok-Run
@@ -17,13 +18,20 @@ returns-in-Ok-Use g c =
 pub returns-in-Err-Memory : goal.returns-in-Err-Memory
 returns-in-Err-Memory g c = record {
   outcome = NoMemory;
-  can_be = subst (λ (fault : LineFault). IsRefused fault (texts c.args.words.now)) c.in-Err-Memory.field-0-is c.in-Err-Memory.ensures.fault;
+  due = inr (refl, subst (λ (fault : LineFault). IsRefused fault (texts c.args.words.now)) c.in-Err-Memory.field-0-is c.in-Err-Memory.ensures.fault);
+  shown = refl;
+  unread = λ none. (refl, refl);
   says = c.put_line.ensures;
 }
 
 pub returns-in-Err-Usage : goal.returns-in-Err-Usage
-returns-in-Err-Usage g c = record {
-  outcome = Usage;
-  can_be = subst (λ (fault : LineFault). IsRefused fault (texts c.args.words.now)) c.in-Err-Usage.field-0-is c.in-Err-Usage.ensures.fault;
-  says = c.put_line-in-Err-Usage.ensures;
-}
+returns-in-Err-Usage g c =
+    let refused : command_of (texts c.args.words.now) ≡ None
+    = subst (λ (fault : LineFault). IsRefused fault (texts c.args.words.now)) c.in-Err-Usage.field-0-is c.in-Err-Usage.ensures.fault in
+    record {
+      outcome = Usage;
+      due = inl (subst (λ (line : Option Line). OwesAny line (g.F.Files.holds c.args.files.now) Usage) (sym refused) refl);
+      shown = refl;
+      unread = λ none. (refl, refl);
+      says = c.put_line-in-Err-Usage.ensures;
+    }

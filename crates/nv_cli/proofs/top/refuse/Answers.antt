@@ -1,7 +1,8 @@
 use Rattle.std.proofs.Common.{◌++◌, ap, codes, sym, subst, ◌∙◌}
 use Rattle.nv_outside.specs.Writing.{puts-is}
 use Rattle.nv_command.specs.Seen.{plan_view}
-use Rattle.nv_cli.specs.Outcome.{Says, cause_text, outcome_of, text_of, status_of}
+use Rattle.nv_cli.specs.Due.{Says}
+use Rattle.nv_cli.specs.Outcome.{cause_text, outcome_of, text_of, status_of}
 use Rattle.nv_cli.specs.declared.refusal.Refusal.{Refusal}
 use Rattle.nv_cli.proofs.top.refuse.Goals as goal
 

@@ -1,37 +1,56 @@
-use Rattle.std.proofs.Common.{ap, inr, refl, ◌++◌, codes}
+use Rattle.std.proofs.Common.{ap, sym, refl, ◌++◌, codes}
 use Rattle.nv_outside.specs.Writing.{puts-is}
+use Rattle.nv_cli.specs.Found.{Unread}
 use Rattle.nv_cli.specs.Outcome.{Made, NoMemory, NotRead, NotAccepted}
-use Rattle.nv_command.specs.Words.{Uses}
-use Rattle.nv_cli.proofs.Commands.{named, unreadable_rose, refused_by}
+use Rattle.nv_cli.specs.Due.{made_outcome}
+use Rattle.nv_command.specs.Words.{Job, Uses}
+use Rattle.nv_cli.proofs.Commands.{is_due, memory_due, unasked}
+use Rattle.nv_cli.proofs.Making.{unreadable_rose, memory_kept, refused_by}
 use Rattle.nv_cli.proofs.top.run_job.Goals as goal
 
 pub returns-in-Ok : goal.returns-in-Ok
-returns-in-Ok g c = λ words asked. record {
-  outcome = Made c.in-Ok.text.items;
-  can_be = record { job = _; asked = asked; told = c.in-Ok.ensures.text };
-  says = record {
-    put = c.put_line.ensures.put;
-    ends = c.put_line.ensures.ends;
-    written = puts-is c.deref.ensures.value c.put_line.ensures.written;
-  };
-}
+returns-in-Ok g c = λ words asked.
+    let holds = g.F.Files.holds c.args.files.now in
+    let job : Job = record { tool = c.args.tool; file = c.args.file.now } in
+    let made = c.in-Ok.ensures.text in
+    record {
+      outcome = Made c.in-Ok.text.items;
+      due = is_due words holds (Uses job) (Made c.in-Ok.text.items) asked (record { found = made.found; agrees = made.agrees; comes = sym (ap (made_outcome job) made.is) });
+      shown = c.in-Ok.ensures.faults;
+      unread = λ none. absurd (unasked words (Uses job) asked none);
+      says = record {
+        put = c.put_line.ensures.put;
+        ends = c.put_line.ensures.ends;
+        written = puts-is c.deref.ensures.value c.put_line.ensures.written;
+      };
+    }
 
 pub returns-in-Err-Unreadable : goal.returns-in-Err-Unreadable
-returns-in-Err-Unreadable g c = λ words asked. record {
-  outcome = NotRead c.args.file.now;
-  can_be = inr (record { job = _; asked = asked; name_is = refl; rose = unreadable_rose _ _ _ _ _ _ _ c.in-Err-Unreadable.ensures.unmade c.in-Err-Unreadable.field-0-is });
-  says = record {
-    put = c.put_pieces-put.result;
-    ends = c.ended.ensures;
-    written = puts-is (ap (λ name. codes "varan: read " ++ (name ++ codes "\n")) c.as_bytes.ensures.value) c.put_pieces-put.ensures;
-  };
-}
+returns-in-Err-Unreadable g c = λ words asked.
+    let holds = g.F.Files.holds c.args.files.now in
+    let job : Job = record { tool = c.args.tool; file = c.args.file.now } in
+    record {
+      outcome = NotRead c.args.file.now;
+      due = is_due words holds (Uses job) (NotRead c.args.file.now) asked (record { found = Unread; agrees = tt; comes = refl });
+      shown = unreadable_rose _ _ _ _ _ _ _ c.in-Err-Unreadable.ensures.unmade c.in-Err-Unreadable.field-0-is;
+      unread = λ none. absurd (unasked words (Uses job) asked none);
+      says = record {
+        put = c.put_pieces-put.result;
+        ends = c.ended.ensures;
+        written = puts-is (ap (λ name. codes "varan: read " ++ (name ++ codes "\n")) c.as_bytes.ensures.value) c.put_pieces-put.ensures;
+      };
+    }
 
 pub returns-in-Err-Refused : goal.returns-in-Err-Refused
 returns-in-Err-Refused g c = λ words asked.
-    let why = refused_by _ _ _ _ _ _ _ c.in-Err-Refused.ensures.unmade c.in-Err-Refused.cause c.in-Err-Refused.field-0-is in record {
+    let holds = g.F.Files.holds c.args.files.now in
+    let job : Job = record { tool = c.args.tool; file = c.args.file.now } in
+    let why = refused_by _ _ _ _ _ _ _ c.in-Err-Refused.ensures.unmade c.in-Err-Refused.cause c.in-Err-Refused.field-0-is in
+    record {
       outcome = NotAccepted c.args.file.now c.in-Err-Refused.cause;
-      can_be = inr (record { job = _; asked = asked; name_is = refl; told = why.0; long = why.1 });
+      due = is_due words holds (Uses job) (NotAccepted c.args.file.now c.in-Err-Refused.cause) asked (record { found = why.0.found; agrees = why.0.agrees; comes = sym (ap (made_outcome job) why.0.is) });
+      shown = (why.1, why.2);
+      unread = λ none. absurd (unasked words (Uses job) asked none);
       says = record {
         put = c.put_input-put.result;
         ends = c.ended-in-Err-Refused.ensures;
@@ -40,4 +59,10 @@ returns-in-Err-Refused g c = λ words asked.
     }
 
 pub returns-in-Err-Memory : goal.returns-in-Err-Memory
-returns-in-Err-Memory g c = λ words asked. record { outcome = NoMemory; can_be = named words (Uses _) asked; says = c.put_line-in-Err-Memory.ensures }
+returns-in-Err-Memory g c = λ words asked. record {
+  outcome = NoMemory;
+  due = memory_due words (g.F.Files.holds c.args.files.now) (Uses _) asked;
+  shown = memory_kept _ _ _ _ _ _ _ c.in-Err-Memory.ensures.unmade c.in-Err-Memory.field-0-is;
+  unread = λ none. absurd (unasked words (Uses _) asked none);
+  says = c.put_line-in-Err-Memory.ensures;
+}

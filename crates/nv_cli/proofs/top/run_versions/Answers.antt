@@ -9,7 +9,8 @@ use Rattle.nv_report.specs.Report.{report_text}
 use Rattle.nv_replay.specs.Alone.{SurvivorsAgree}
 use Rattle.nv_threads.specs.Threads.{Proc, threads}
 use Rattle.nv_cli.specs.Account.{run_status}
-use Rattle.nv_cli.specs.Outcome.{Says, Wrote}
+use Rattle.nv_cli.specs.Due.{Says}
+use Rattle.nv_cli.specs.Ran.{Wrote}
 use Rattle.nv_cli.proofs.top.run_versions.Goals as goal
 
 pub returns-then-json : goal.returns-then-json

@@ -1,0 +1,25 @@
+-- What running versions and writing of it leaves.
+use Rattle.std.specs.Prelude.{◌⊎◌, ℕ, Bool, true, false, List, Option}
+use Rattle.nv_machine.specs.Guest.{Machine}
+use Rattle.nv_command.specs.Words.{Limits}
+use Rattle.nv_script.specs.Scripts.{Setup}
+use Rattle.nv_replay.specs.Sequence.{Account}
+use Rattle.nv_cli.specs.Account.{IsRunOf, run_status}
+use Rattle.nv_cli.specs.Outcome.{NoMemory, account_text, text_of}
+use Rattle.nv_cli.specs.Due.{Says}
+
+-- a text was written with its status, or memory was wanted and the line of that was written
+abbrev pub Wrote : List ℕ → ℕ → Option (List ℕ) → ℕ → ℕ → Option (List ℕ) → ℕ → Type 0
+Wrote text text_status before faults status after later_faults =
+    Says text text_status before faults status after later_faults ⊎ Says (text_of NoMemory) 3 before faults status after later_faults
+
+-- only a JSON form takes memory
+abbrev pub Tells : Bool → List ℕ → ℕ → Option (List ℕ) → ℕ → ℕ → Option (List ℕ) → ℕ → Type 0
+Tells true text text_status before faults status after later_faults = Wrote text text_status before faults status after later_faults
+Tells false text text_status before faults status after later_faults = Says text text_status before faults status after later_faults
+
+-- the versions ran, and their report was written, or the write failed; or memory was wanted for its JSON form
+pub record Ran (limits : Limits) (json : Bool) (setup : Setup) (machines : List Machine) (before : Option (List ℕ)) (faults : ℕ) (status : ℕ) (after : Option (List ℕ)) (later_faults : ℕ) : Type 0 where
+  pub account : Account
+  pub is_run : IsRunOf limits setup machines account
+  pub says : Tells json (account_text json setup account) (run_status account.lines) before faults status after later_faults
