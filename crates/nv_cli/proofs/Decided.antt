@@ -1,20 +1,23 @@
 -- What is told decides what is found, where nothing turns out to be unreadable.
-use Rattle.std.proofs.Common.{◌≡◌, sym, ap, subst, refl, inl, inr, ⊎_elim, ◌⊎◌, ℕ, ◌+◌, ◌≤◌, Bool, true, false, List, [], ◌∷◌, length, map, Result, Ok, Err, arith}
+use Rattle.std.proofs.Common.{◌≡◌, sym, ap, subst, refl, inl, inr, ⊎_elim, ◌⊎◌, ℕ, ◌+◌, ◌≤◌, true, false, List, [], ◌∷◌, length, map, Option, None, Some, option_map, Result, Ok, Err, arith}
 use Rattle.std.proofs.lemmas.Bool.Decides.{nat_tests}
 use Rattle.nv_outside.specs.Told.{Told, Untold, Missing, Content}
+use Rattle.nv_bpf.specs.declared.op.Op.{Op}
+use Rattle.nv_bpf.specs.declared.op.FilterFault.{FilterFault}
+use Rattle.nv_bpf.specs.Texts.{filter_of}
 use Rattle.nv_machine.specs.Guest.{Machine}
 use Rattle.nv_command.specs.Words.{Limits, Plan}
 use Rattle.nv_script.specs.Scripts.{Setup, script_of}
 use Rattle.nv_script.specs.declared.fault.ScriptFault.{ScriptFault}
-use Rattle.nv_cli.specs.Found.{Found, Whole, TooLong, Unread, Finds, Agrees, AllAgree, AreFound, is_long, found_of, finds_of}
-use Rattle.nv_cli.specs.Prepared.{Prepared, Unreadable, Refused, Ready, VersionOf, Faulty, Loads, read_at, in_front, version_then, versions_from, behind_script, version_of, prepared}
+use Rattle.nv_cli.specs.Found.{Found, Whole, TooLong, Unread, Finds, Agrees, AgreesIf, AllAgree, AreFound, is_long, found_of, finds_of}
+use Rattle.nv_cli.specs.Prepared.{Prepared, Unreadable, Refused, Ready, VersionOf, Faulty, Loads, read_at, in_front, version_then, versions_from, judged_by, rules_then, behind_rules, behind_script, version_of, prepared}
 use Rattle.nv_cli.specs.declared.refusal.Place.{Place}
-use Rattle.nv_cli.specs.declared.refusal.Place.TheVariants.{Script, Version}
+use Rattle.nv_cli.specs.declared.refusal.Place.TheVariants.{Script, Rules, Version}
 
 abbrev pub IsUnread : Prepared → Type 0
 IsUnread (Unreadable place) = Unit {0}
 IsUnread (Refused place cause) = ⊥
-IsUnread (Ready setup machines) = ⊥
+IsUnread (Ready setup rules machines) = ⊥
 
 not_long : (bytes : List ℕ) → length bytes ≤ 4194304 → is_long bytes ≡ false
 not_long bytes h = grind (arith, nat_tests)
@@ -56,7 +59,7 @@ same_at place told found check other a same here there =
 front_unread : (machine : Machine) (rest : Prepared) → IsUnread rest → IsUnread (in_front machine rest)
 front_unread machine (Unreadable place) u = tt
 front_unread machine (Refused place cause) u = absurd u
-front_unread machine (Ready setup machines) u = absurd u
+front_unread machine (Ready setup rules machines) u = absurd u
 
 same_then : (i : ℕ) (version : VersionOf) (rest other : Prepared) → ((IsUnread rest → ⊥) → (IsUnread other → ⊥) → rest ≡ other)
     → (IsUnread (version_then i rest version) → ⊥) → (IsUnread (version_then i other version) → ⊥) → version_then i rest version ≡ version_then i other version
@@ -81,6 +84,29 @@ same_versions limits setup holds (name ∷ names) (found ∷ finds) i agree here
     (same_versions limits setup holds names finds (i + 1) agree.1))
     here there
 
+judged_unread : (ops : List Op) (rest : Prepared) → IsUnread rest → IsUnread (judged_by ops rest)
+judged_unread ops (Unreadable place) u = tt
+judged_unread ops (Refused place cause) u = absurd u
+judged_unread ops (Ready setup rules machines) u = absurd u
+
+same_filter : (filter : Result (List Op) FilterFault) (rest other : Prepared) → ((IsUnread rest → ⊥) → (IsUnread other → ⊥) → rest ≡ other)
+    → (IsUnread (rules_then rest filter) → ⊥) → (IsUnread (rules_then other filter) → ⊥) → rules_then rest filter ≡ rules_then other filter
+same_filter (Ok ops) rest other same here there = ap (judged_by ops) (same (λ u. here (judged_unread ops rest u)) (λ u. there (judged_unread ops other u)))
+same_filter (Err fault) rest other same here there = refl
+
+abbrev told_rules : (List ℕ → Told) → Option (List ℕ) → Option Found
+told_rules holds name = option_map (λ n. found_of (holds n)) name
+
+same_rules : (holds : List ℕ → Told) (name : Option (List ℕ)) (found : Option Found) (rest other : Prepared) → AgreesIf holds name found
+    → ((IsUnread rest → ⊥) → (IsUnread other → ⊥) → rest ≡ other)
+    → (IsUnread (behind_rules found rest) → ⊥) → (IsUnread (behind_rules (told_rules holds name) other) → ⊥) → behind_rules found rest ≡ behind_rules (told_rules holds name) other
+same_rules holds None None rest other agree same here there = same here there
+same_rules holds None (Some found) rest other agree same here there = absurd agree
+same_rules holds (Some name) None rest other agree same here there = absurd agree
+same_rules holds (Some name) (Some found) rest other agree same here there =
+    same_at Rules (holds name) found (λ bytes. rules_then rest (filter_of 4096 bytes)) (λ bytes. rules_then other (filter_of 4096 bytes)) agree
+    (λ bytes. same_filter (filter_of 4096 bytes) rest other same) here there
+
 same_script : (read : Result Setup ScriptFault) (versions other : Setup → Prepared) → ((setup : Setup) → (IsUnread (versions setup) → ⊥) → (IsUnread (other setup) → ⊥) → versions setup ≡ other setup)
     → (IsUnread (behind_script versions read) → ⊥) → (IsUnread (behind_script other read) → ⊥) → behind_script versions read ≡ behind_script other read
 same_script (Ok setup) versions other same here there = same setup here there
@@ -91,9 +117,11 @@ pub same_prepared : (holds : List ℕ → Told) (plan : Plan) (finds : Finds) �
     → (IsUnread (prepared plan.limits finds) → ⊥) → (IsUnread (prepared plan.limits (finds_of holds plan)) → ⊥) → prepared plan.limits finds ≡ prepared plan.limits (finds_of holds plan)
 same_prepared holds plan finds agree here there =
     same_at Script (holds plan.script) finds.script
-    (λ bytes. behind_script (λ setup. versions_from plan.limits setup 0 finds.versions) (script_of bytes))
-    (λ bytes. behind_script (λ setup. versions_from plan.limits setup 0 (told_finds holds plan.versions)) (script_of bytes))
+    (λ bytes. behind_script (λ setup. behind_rules finds.rules (versions_from plan.limits setup 0 finds.versions)) (script_of bytes))
+    (λ bytes. behind_script (λ setup. behind_rules (told_rules holds plan.rules) (versions_from plan.limits setup 0 (told_finds holds plan.versions))) (script_of bytes))
     agree.script
-    (λ bytes. same_script (script_of bytes) (λ setup. versions_from plan.limits setup 0 finds.versions) (λ setup. versions_from plan.limits setup 0 (told_finds holds plan.versions))
-    (λ setup. same_versions plan.limits setup holds plan.versions finds.versions 0 agree.versions))
+    (λ bytes. same_script (script_of bytes) (λ setup. behind_rules finds.rules (versions_from plan.limits setup 0 finds.versions))
+    (λ setup. behind_rules (told_rules holds plan.rules) (versions_from plan.limits setup 0 (told_finds holds plan.versions)))
+    (λ setup. same_rules holds plan.rules finds.rules (versions_from plan.limits setup 0 finds.versions) (versions_from plan.limits setup 0 (told_finds holds plan.versions)) agree.rules
+    (same_versions plan.limits setup holds plan.versions finds.versions 0 agree.versions)))
     here there

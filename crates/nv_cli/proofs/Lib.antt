@@ -1,5 +1,6 @@
 mod Loading
 mod Decided
+mod Generating
 mod Statuses
 mod Making
 mod Commands

@@ -1,25 +1,25 @@
 -- Versions that were loaded one after another.
-use Rattle.std.proofs.Common.{◌≡◌, ◌∙◌, sym, ap, subst, refl, ℕ, zero, suc, ◌+◌, ◌≤◌, List, [], ◌∷◌, ◌++◌, length, take, map, Some, Ok, Err, arith}
+use Rattle.std.proofs.Common.{◌≡◌, ◌∙◌, sym, ap, subst, refl, ℕ, zero, suc, ◌+◌, ◌≤◌, List, [], ◌∷◌, ◌++◌, length, take, map, Option, None, Some, option_map, Ok, arith}
 use Rattle.std.specs.Prelude.{slice_get}
 use Rattle.std.proofs.lemmas.Option.{same_Some}
 use Rattle.nv_outside.specs.Told.{Told}
+use Rattle.nv_bpf.specs.declared.op.Op.{Op}
 use Rattle.nv_machine.specs.Guest.{Machine}
 use Rattle.nv_threads.specs.Behaviours.{Behaviour}
 use Rattle.nv_threads.specs.Threads.{Proc, threads}
 use Rattle.nv_replay.specs.Versions.{Running, IsFresh, process_of}
 use Rattle.nv_replay.specs.Accounts.{AreFresh}
 use Rattle.nv_cli.specs.Account.{begun}
-use Rattle.nv_cli.specs.Found.{Found, Whole, TooLong, Unread, Agrees, AllAgree, IsReadOf}
-use Rattle.nv_cli.specs.Prepared.{Prepared, Unreadable, Refused, Ready, Loads, read_at, in_front, version_then, versions_from, behind_script, version_of}
-use Rattle.nv_cli.specs.Refusals.{HasLoaded, AreLoaded, IsFault, ReadRefused, VersionRefused, VersionsRefused, VersionsCome, ComesTo, IsScriptRefusal, IsVersionRefusal, Refuses}
+use Rattle.nv_cli.specs.Found.{Found, Whole, TooLong, Unread, Agrees, AgreesIf, AllAgree, IsReadOf}
+use Rattle.nv_cli.specs.Prepared.{Prepared, Unreadable, Refused, Ready, read_at, in_front, version_then, versions_from, judged_by, rules_then, behind_rules, behind_script, version_of}
+use Rattle.nv_cli.specs.Refusals.{HasLoaded, AreLoaded, IsFault, ReadRefused, VersionRefused, VersionsRefused, VersionsCome, RestComes, HasRead, HasRules, RulesStop, RulesRefused, RestRefused, ComesTo, IsScriptRefusal, IsFilterRefusal, IsVersionRefusal, Refuses}
 use Rattle.nv_cli.specs.declared.refusal.Refusal.{Refusal}
 use Rattle.nv_cli.specs.declared.refusal.Refusal.TheVariants as refusal
 use Rattle.nv_cli.specs.declared.refusal.Place.{Place}
-use Rattle.nv_cli.specs.declared.refusal.Place.TheVariants.{Script, Version}
+use Rattle.nv_cli.specs.declared.refusal.Place.TheVariants.{Script, Rules, Version}
 use Rattle.nv_cli.specs.declared.refusal.Cause.{Cause}
 use Rattle.nv_cli.specs.declared.refusal.Cause.TheVariants as causes
 use Rattle.nv_script.specs.Scripts.{Setup, script_of}
-use Rattle.nv_script.specs.declared.fault.ScriptFault.{ScriptFault}
 use Rattle.nv_command.specs.Words.{Limits, Plan}
 
 pub fresh_more : {P : Type 0} (g : Behaviour P) (i n : ℕ) (rs : List (Running P)) (r : Running P) → AreFresh g i rs → n ≡ i + length rs → IsFresh g n r → AreFresh g i (rs ++ r ∷ [])
@@ -48,22 +48,134 @@ pub all_unread : (holds : List ℕ → Told) (names : List (List ℕ)) → AllAg
 all_unread holds [] = tt
 all_unread holds (name ∷ names) = (tt, all_unread holds names)
 
--- behind an accepted script the versions decide
+-- nor of the rules
+rules_unread : (holds : List ℕ → Told) (name : Option (List ℕ)) → AgreesIf holds name (option_map unread_of name)
+rules_unread holds None = tt
+rules_unread holds (Some name) = tt
+
+-- behind an accepted script the rest decides
 pub script_accepted : (holds : List ℕ → Told) (plan : Plan) (bytes : List ℕ) (setup : Setup) (whole : Prepared) → IsReadOf bytes (holds plan.script)
-    → script_of bytes ≡ Ok setup → VersionsCome plan.limits setup holds 0 plan.versions whole → ComesTo plan holds whole
+    → script_of bytes ≡ Ok setup → RestComes setup holds plan whole → ComesTo plan holds whole
 script_accepted holds plan bytes setup whole r ok v = record {
-  finds = record { script = Whole bytes; versions = v.finds };
-  agree = record { script = r; versions = v.agree };
-  is = ap (behind_script (λ (s : Setup). versions_from plan.limits s 0 v.finds)) ok ∙ v.is;
+  finds = record { script = Whole bytes; rules = v.rules; versions = v.versions };
+  agree = record { script = r; rules = v.rules_agree; versions = v.versions_agree };
+  is = ap (behind_script (λ (s : Setup). behind_rules v.rules (versions_from plan.limits s 0 v.versions))) ok ∙ v.is;
 }
+
+-- what the rest comes to with these rules
+abbrev pub with_rules : Option (List Op) → Prepared → Prepared
+with_rules None whole = whole
+with_rules (Some ops) whole = judged_by ops whole
+
+-- what rules that were read find, and what they leave of the versions
+record RulesGo (holds : List ℕ → Told) (name : Option (List ℕ)) (rules : Option (List Op)) : Type 0 where
+  found : Option Found
+  agree : AgreesIf holds name found
+  is : (rest : Prepared) → behind_rules found rest ≡ with_rules rules rest
+
+rules_go : (holds : List ℕ → Told) (name : Option (List ℕ)) (rules : Option (List Op)) → HasRules rules holds name → RulesGo holds name rules
+rules_go holds None None h = record { found = None; agree = tt; is = λ rest. refl }
+rules_go holds None (Some ops) h = absurd h
+rules_go holds (Some name) None h = absurd h
+rules_go holds (Some name) (Some ops) h = record { found = Some (Whole h.bytes); agree = h.read; is = λ rest. ap (rules_then rest) h.is }
+
+-- behind rules that were read the versions decide
+pub rules_accepted : (holds : List ℕ → Told) (plan : Plan) (setup : Setup) (rules : Option (List Op)) (whole : Prepared) → HasRules rules holds plan.rules
+    → VersionsCome plan.limits setup holds 0 plan.versions whole → RestComes setup holds plan (with_rules rules whole)
+rules_accepted holds plan setup rules whole h v =
+    let r = rules_go holds plan.rules rules h in
+    record {
+      rules = r.found;
+      rules_agree = r.agree;
+      versions = v.finds;
+      versions_agree = v.agree;
+      is = r.is (versions_from plan.limits setup 0 v.finds) ∙ ap (with_rules rules) v.is;
+    }
+
+-- versions that are ready are so with these rules
+pub rules_ready : (holds : List ℕ → Told) (plan : Plan) (setup : Setup) (rules : Option (List Op)) (machines : List Machine) → HasRules rules holds plan.rules
+    → VersionsCome plan.limits setup holds 0 plan.versions (Ready setup None machines) → RestComes setup holds plan (Ready setup rules machines)
+rules_ready holds plan setup None machines h v = rules_accepted holds plan setup None (Ready setup None machines) h v
+rules_ready holds plan setup (Some ops) machines h v = rules_accepted holds plan setup (Some ops) (Ready setup None machines) h v
+
+unreadable_stays : (rules : Option (List Op)) (place : Place) → with_rules rules (Unreadable place) ≡ Unreadable place
+unreadable_stays None place = refl
+unreadable_stays (Some ops) place = refl
+
+refused_stays : (rules : Option (List Op)) (place : Place) (cause : Cause) → with_rules rules (Refused place cause) ≡ Refused place cause
+refused_stays None place cause = refl
+refused_stays (Some ops) place cause = refl
+
+-- the rules decide
+pub rules_stop : (holds : List ℕ → Told) (plan : Plan) (setup : Setup) (whole : Prepared) → RulesStop holds plan.rules whole → RestComes setup holds plan whole
+rules_stop holds plan setup whole s = record {
+  rules = s.rules;
+  rules_agree = s.agree;
+  versions = map unread_of plan.versions;
+  versions_agree = all_unread holds plan.versions;
+  is = s.is (versions_from plan.limits setup 0 (map unread_of plan.versions));
+}
+
+-- rules can't be read
+pub rules_unreadable : (refusal : Refusal) (holds : List ℕ → Told) (named : Option (List ℕ)) (name : List ℕ) (f f' t t' : ℕ) → named ≡ Some name
+    → ReadRefused refusal Rules (holds name) f f' t t' → RulesRefused refusal holds named f f' t t'
+rules_unreadable why holds named name f f' t t' e h = subst (λ (n : Option (List ℕ)). RulesRefused why holds n f f' t t') (sym e) (by why h)
+  where
+    by : (r : Refusal) → ReadRefused r Rules (holds name) f f' t t' → RulesRefused r holds (Some name) f f' t t'
+    by refusal.Memory h = h
+    by (refusal.Unreadable place) h = (record { rules = Some Unread; agree = tt; is = λ rest. ap Unreadable (sym h.0) }, h.1)
+    by (refusal.Input place cause) h =
+        (record { rules = Some TooLong; agree = h.4; is = λ rest. ap (λ p. Refused p causes.Long) (sym h.0) ∙ ap (Refused place) (sym h.1) }, h.2, λ e. h.3)
+
+-- rules are refused
+pub rules_faulty : (refusal : Refusal) (holds : List ℕ → Told) (named : Option (List ℕ)) (name bytes : List ℕ) (f f' t t' : ℕ) → named ≡ Some name
+    → f' ≡ f → IsReadOf bytes (holds name) → IsFilterRefusal refusal bytes → RulesRefused refusal holds named f f' t t'
+rules_faulty why holds named name bytes f f' t t' e kept r h = subst (λ (n : Option (List ℕ)). RulesRefused why holds n f f' t t') (sym e) (by why h)
+  where
+    by : (refused : Refusal) → IsFilterRefusal refused bytes → RulesRefused refused holds (Some name) f f' t t'
+    by refusal.Memory h = kept
+    by (refusal.Unreadable place) h = absurd h
+    by (refusal.Input place cause) h = (
+      record {
+        rules = Some (Whole bytes);
+        agree = r;
+        is = λ rest. ap (rules_then rest) h.3 ∙ ap (λ p. Refused p (causes.Filter h.1)) (sym h.0) ∙ ap (Refused place) (sym h.2);
+      },
+      kept,
+      λ e. let other : causes.Filter h.1 ≡ causes.Long = sym h.2 ∙ e in cc,
+    )
+
+-- rules that are named are read
+pub rules_read : (ops : List Op) (holds : List ℕ → Told) (named : Option (List ℕ)) (name : List ℕ) → named ≡ Some name → HasRead ops (holds name) → HasRules (Some ops) holds named
+rules_read ops holds named name e h = subst (λ (n : Option (List ℕ)). HasRules (Some ops) holds n) (sym e) h
+
+-- the refusal of the rules is that of the rest
+pub rest_by_rules : (refusal : Refusal) (holds : List ℕ → Told) (plan : Plan) (setup : Setup) (f f' t t' : ℕ) → RulesRefused refusal holds plan.rules f f' t t' → RestRefused refusal setup holds plan f f' t t'
+rest_by_rules refusal.Memory holds plan setup f f' t t' h = h
+rest_by_rules (refusal.Unreadable place) holds plan setup f f' t t' h = (rules_stop holds plan setup (Unreadable place) h.0, h.1)
+rest_by_rules (refusal.Input place cause) holds plan setup f f' t t' h = (rules_stop holds plan setup (Refused place cause) h.0, h.1, h.2)
+
+-- behind rules that were read the refusal of the versions is that of the rest
+pub rest_by_versions : (refusal : Refusal) (holds : List ℕ → Told) (plan : Plan) (setup : Setup) (rules : Option (List Op)) (f0 f f' t0 t t' : ℕ) → HasRules rules holds plan.rules → f ≡ f0 → t0 ≤ t
+    → VersionsRefused plan.limits setup refusal holds plan.versions f f' t t' → RestRefused refusal setup holds plan f0 f' t0 t'
+rest_by_versions refusal.Memory holds plan setup rules f0 f f' t0 t t' r fs ts h = h ∙ fs
+rest_by_versions (refusal.Unreadable place) holds plan setup rules f0 f f' t0 t t' r fs ts h = (
+  subst (λ (w : Prepared). RestComes setup holds plan w) (unreadable_stays rules place) (rules_accepted holds plan setup rules (Unreadable place) r h.0),
+  omega (arith, fs, h.1),
+)
+rest_by_versions (refusal.Input place cause) holds plan setup rules f0 f f' t0 t t' r fs ts h = (
+  subst (λ (w : Prepared). RestComes setup holds plan w) (refused_stays rules place cause) (rules_accepted holds plan setup rules (Refused place cause) r h.0),
+  h.1 ∙ fs,
+  λ e. let long = h.2 e in omega (arith, ts, long),
+)
 
 -- the script decides
 script_stops : (holds : List ℕ → Told) (plan : Plan) (found : Found) (whole : Prepared) → Agrees (holds plan.script) found
     → ((rest : Setup → Prepared) → read_at Script found (λ bytes. behind_script rest (script_of bytes)) ≡ whole) → ComesTo plan holds whole
 script_stops holds plan found whole agrees stops = record {
-  finds = record { script = found; versions = map unread_of plan.versions };
-  agree = record { script = agrees; versions = all_unread holds plan.versions };
-  is = stops (λ s. versions_from plan.limits s 0 (map unread_of plan.versions));
+  finds = record { script = found; rules = option_map unread_of plan.rules; versions = map unread_of plan.versions };
+  agree = record { script = agrees; rules = rules_unread holds plan.rules; versions = all_unread holds plan.versions };
+  is = stops (λ s. behind_rules (option_map unread_of plan.rules) (versions_from plan.limits s 0 (map unread_of plan.versions)));
 }
 
 -- a script can't be read
@@ -113,7 +225,7 @@ module _ (limits : Limits) (setup : Setup) where
   pub record AreReady (vs : List (Running Proc)) (holds : List ℕ → Told) (i : ℕ) (names : List (List ℕ)) : Type 0 where
     pub machines : List Machine
     pub processes : map process_of vs ≡ map (begun limits) machines
-    pub come : VersionsCome limits setup holds i names (Ready setup machines)
+    pub come : VersionsCome limits setup holds i names (Ready setup None machines)
 
   pub all_ready : (vs : List (Running Proc)) (holds : List ℕ → Told) (names : List (List ℕ)) (i : ℕ) → AreLoaded limits setup vs holds names → AreReady vs holds i names
   all_ready [] holds [] i all = record { machines = []; processes = refl; come = record { finds = []; agree = tt; is = refl } }
@@ -125,7 +237,7 @@ module _ (limits : Limits) (setup : Setup) where
       record {
         machines = l.machine ∷ r.machines;
         processes = λ j. l.begins j ∷ r.processes j;
-        come = loaded_before v holds n names i (Ready setup r.machines) l r.come;
+        come = loaded_before v holds n names i (Ready setup None r.machines) l r.come;
       }
 
   -- what stops at the version behind those that were loaded
@@ -184,9 +296,9 @@ module _ (limits : Limits) (setup : Setup) where
       let next : take k names ++ name ∷ [] ≡ take (k + 1) names = sym (take_next names k name at) in
       subst (λ (xs : List (Running Proc)). AreLoaded limits setup xs holds (take (k + 1) names)) (sym longer) (subst (λ (ns : List (List ℕ)). AreLoaded limits setup (vs ++ v ∷ []) holds ns) next both)
 
--- behind an accepted script the refusal of the versions is that of the run
+-- behind an accepted script the refusal of the rest is that of the run
 pub run_refused : (refusal : Refusal) (holds : List ℕ → Told) (plan : Plan) (bytes : List ℕ) (setup : Setup) (f0 f f' t0 t t' : ℕ) → IsReadOf bytes (holds plan.script)
-    → script_of bytes ≡ Ok setup → f ≡ f0 → t0 ≤ t → VersionsRefused plan.limits setup refusal holds plan.versions f f' t t' → Refuses refusal holds plan f0 f' t0 t'
+    → script_of bytes ≡ Ok setup → f ≡ f0 → t0 ≤ t → RestRefused refusal setup holds plan f f' t t' → Refuses refusal holds plan f0 f' t0 t'
 run_refused refusal.Memory holds plan bytes setup f0 f f' t0 t t' r ok fs ts h = h ∙ fs
 run_refused (refusal.Unreadable place) holds plan bytes setup f0 f f' t0 t t' r ok fs ts h =
     (script_accepted holds plan bytes setup (Unreadable place) r ok h.0, omega (arith, fs, h.1))
@@ -195,10 +307,3 @@ run_refused (refusal.Input place cause) holds plan bytes setup f0 f f' t0 t t' r
   h.1 ∙ fs,
   λ e. let long = h.2 e in omega (arith, ts, long),
 )
-
--- what is told doesn't change from file to file
-pub run_refused_by : (refusal : Refusal) (holds later : List ℕ → Told) (plan : Plan) (bytes : List ℕ) (setup : Setup) (f0 f f' t0 t t' : ℕ) → later ≡ holds
-    → IsReadOf bytes (holds plan.script) → script_of bytes ≡ Ok setup → f ≡ f0 → t0 ≤ t
-    → VersionsRefused plan.limits setup refusal later plan.versions f f' t t' → Refuses refusal holds plan f0 f' t0 t'
-run_refused_by refusal holds later plan bytes setup f0 f f' t0 t t' same r ok fs ts h =
-    run_refused refusal holds plan bytes setup f0 f f' t0 t t' r ok fs ts (subst (λ (x : List ℕ → Told). VersionsRefused plan.limits setup refusal x plan.versions f f' t t') same h)

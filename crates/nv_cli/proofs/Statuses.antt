@@ -3,19 +3,18 @@ use Rattle.std.proofs.Common.{◌≡◌, ◌∙◌, ◌⊎◌, sym, subst, inl, 
 use Rattle.std.specs.Prelude.{◌||◌, IsSome}
 use Rattle.std.specs.List.{list_any}
 use Rattle.nv_outside.specs.Counts.{Rose}
-use Rattle.nv_outside.specs.Told.{Told}
 use Rattle.nv_outside.specs.declared.sink.Put.{Put}
 use Rattle.nv_outside.specs.declared.sink.Put.TheVariants.{Whole, Failed}
 use Rattle.nv_replay.specs.declared.standing.Standing.{Standing}
 use Rattle.nv_replay.specs.Follow.{is_exited}
 use Rattle.nv_replay.specs.Lead.{is_memory}
-use Rattle.nv_command.specs.Words.{Name, Plan, Job, Command, Runs, Uses, asked_by, behind_program, command_of, name_in}
+use Rattle.nv_command.specs.Words.{Name, Plan, Job, Command, Runs, Uses, Generates, asked_by, behind_program, command_of, name_in}
 use Rattle.nv_cli.specs.Account.{run_status}
 use Rattle.nv_cli.specs.Found.{Found, Unread, found_of, finds_of}
 use Rattle.nv_cli.specs.Prepared.{Prepared, Unreadable, Refused, Ready, prepared}
 use Rattle.nv_cli.specs.Made.{made_of}
-use Rattle.nv_cli.specs.Outcome.{Source, Outcome, Usage, NoMemory, NotRead, NotAccepted, Reported, Made, status_of, ended_with}
-use Rattle.nv_cli.specs.Due.{RunComesTo, RunOwes, JobOwes, Owes, OwesAny, IsDue, Shows, Answers, IsReady, IsMade, IsAccepted, IsRefusedAt, IsRefusedFor, IsRefused, IsReport, IsDone, Completes, Rejects, made_outcome}
+use Rattle.nv_cli.specs.Outcome.{Source, Outcome, Usage, NoMemory, NotRead, NotAccepted, Reported, Made, Summed, status_of, ended_with}
+use Rattle.nv_cli.specs.Due.{RunComesTo, RunOwes, JobOwes, Owes, OwesAny, Shows, Answers, IsReady, IsMade, IsAccepted, IsRefusedAt, IsRefusedFor, IsRefused, IsReport, IsDone, Completes, Rejects, made_outcome}
 use Rattle.nv_cli.specs.declared.tools.Unmade.{Unmade}
 use Rattle.nv_cli.specs.declared.tools.Unmade.TheVariants as unmade
 use Rattle.nv_cli.proofs.Decided.{IsUnread, same_found, same_prepared}
@@ -46,7 +45,7 @@ module _ (source : Source) (no_fault : Rose source.faults source.later_faults �
   run_readable : (plan : Plan) (whole : Prepared) → RunComesTo plan whole outcome → IsUnread whole → ⊥
   run_readable plan (Unreadable place) comes u = readable _ comes
   run_readable plan (Refused place cause) comes u = u
-  run_readable plan (Ready setup machines) comes u = u
+  run_readable plan (Ready setup rules machines) comes u = u
 
   module _ (plan : Plan) (r : RunOwes plan source.holds outcome) where
     run_decided : (IsUnread (prepared plan.limits (finds_of source.holds plan)) → ⊥) → prepared plan.limits r.finds ≡ prepared plan.limits (finds_of source.holds plan)
@@ -66,23 +65,23 @@ module _ (source : Source) (no_fault : Rose source.faults source.later_faults �
 ready_read : (whole : Prepared) → IsReady whole → IsUnread whole → ⊥
 ready_read (Unreadable place) ready u = ready
 ready_read (Refused place cause) ready u = ready
-ready_read (Ready setup machines) ready u = u
+ready_read (Ready setup rules machines) ready u = u
 
 refused_read : (whole : Prepared) → IsRefusedAt whole → IsUnread whole → ⊥
 refused_read (Unreadable place) refused u = refused
 refused_read (Refused place cause) refused u = u
-refused_read (Ready setup machines) refused u = u
+refused_read (Ready setup rules machines) refused u = u
 
 -- accepted files end with a status of the run, and a refused one with 4
 ready_status : (plan : Plan) (whole : Prepared) (outcome : Outcome) → IsReady whole → RunComesTo plan whole outcome → IsDone (Runs plan) (status_of outcome)
 ready_status plan (Unreadable place) outcome ready comes = absurd ready
 ready_status plan (Refused place cause) outcome ready comes = absurd ready
-ready_status plan (Ready setup machines) outcome ready comes = run_done comes.0.lines (status_of outcome) (ap status_of comes.1)
+ready_status plan (Ready setup rules machines) outcome ready comes = run_done comes.0.lines (status_of outcome) (ap status_of comes.1)
 
 refused_status : (plan : Plan) (whole : Prepared) (outcome : Outcome) → IsRefusedAt whole → RunComesTo plan whole outcome → status_of outcome ≡ 4
 refused_status plan (Unreadable place) outcome refused comes = absurd refused
 refused_status plan (Refused place cause) outcome refused comes = ap status_of comes
-refused_status plan (Ready setup machines) outcome refused comes = absurd refused
+refused_status plan (Ready setup rules machines) outcome refused comes = absurd refused
 
 made_status : (job : Job) (made : Result (List ℕ) Unmade) (outcome : Outcome) → IsMade made → outcome ≡ made_outcome job made → status_of outcome ≡ 0
 made_status job (Ok text) outcome is comes = ap status_of comes
@@ -108,6 +107,7 @@ module _ (source : Source) (no_fault : Rose source.faults source.later_faults �
   accepted_status (Uses job) owed accepted =
       made_status job (made_of job.tool (found_of (source.holds job.file))) outcome accepted
       (job_told source no_fault outcome shown job owed (made_found job (found_of (source.holds job.file)) accepted))
+  accepted_status (Generates n) owed accepted = ap status_of owed.comes
 
   rejected_status : (command : Command) → Owes command source.holds outcome → IsRefused command source.holds → status_of outcome ≡ 4
   rejected_status (Runs plan) owed refused =
@@ -116,6 +116,7 @@ module _ (source : Source) (no_fault : Rose source.faults source.later_faults �
   rejected_status (Uses job) owed refused =
       unmade_status job (made_of job.tool (found_of (source.holds job.file))) outcome refused
       (job_told source no_fault outcome shown job owed (refused_found job (found_of (source.holds job.file)) refused))
+  rejected_status (Generates n) owed refused = absurd refused
 
 module _ {words : List (List ℕ)} {source : Source} {before after : Option (List ℕ)} {faults status later : ℕ} where
   -- what the words owe that name this command, unless memory is wanted
@@ -150,6 +151,7 @@ five NoMemory Whole source n shown ends is = absurd (omega arith)
 five (NotAccepted name cause) Whole source n shown ends is = absurd (omega arith)
 five (Reported json setup account) Whole source n shown ends is = absurd (not_five n (run_done account.lines n ends) is)
 five (Made text) Whole source n shown ends is = absurd (omega arith)
+five (Summed k setup account) Whole source n shown ends is = absurd (omega arith)
 five outcome Failed source n shown ends is = absurd (omega arith)
 
 six : (outcome : Outcome) (put : Put) (n : ℕ) → n ≡ ended_with put (status_of outcome) → n ≡ 6 → put ≡ Failed
@@ -160,6 +162,7 @@ six (NotRead name) Whole n ends is = absurd (omega arith)
 six (NotAccepted name cause) Whole n ends is = absurd (omega arith)
 six (Reported json setup account) Whole n ends is = absurd (not_six n (run_done account.lines n ends) is)
 six (Made text) Whole n ends is = absurd (omega arith)
+six (Summed k setup account) Whole n ends is = absurd (omega arith)
 
 -- a name of no command is refused
 nameless : (words : List (List ℕ)) → name_in words ≡ None → command_of words ≡ None

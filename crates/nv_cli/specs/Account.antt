@@ -1,13 +1,14 @@
 -- A whole run.
-use Rattle.std.specs.Prelude.{◌≡◌, ℕ, List, map, if◌then◌else◌}
+use Rattle.std.specs.Prelude.{◌≡◌, ℕ, List, Option, map, if◌then◌else◌}
 use Rattle.std.specs.List.{list_any}
+use Rattle.nv_bpf.specs.declared.op.Op.{Op}
 use Rattle.nv_machine.specs.Guest.{Machine}
 use Rattle.nv_command.specs.Words.{Limits}
 use Rattle.nv_script.specs.Scripts.{Setup}
 use Rattle.nv_kernel.specs.Serving.{start_of_script}
 use Rattle.nv_threads.specs.Threads.{Proc, threads, started}
 use Rattle.nv_replay.specs.declared.standing.Standing.{Standing}
-use Rattle.nv_replay.specs.Follow.{is_exited, no_rules}
+use Rattle.nv_replay.specs.Follow.{is_exited, judge_of}
 use Rattle.nv_replay.specs.Lead.{is_memory}
 use Rattle.nv_replay.specs.Sequence.{Account, sequence, cuts_of}
 use Rattle.nv_replay.specs.Accounts.{AreSettled}
@@ -17,10 +18,10 @@ use Rattle.nv_replay.specs.Alone.{SurvivorsAgree}
 abbrev pub begun : Limits → Machine → Proc
 begun limits machine = started machine limits.budget
 
--- The account is that of the plain sequential monitor over what the script says and these machines, with at most as many events as the limits say and with the cuts that it tells.
+-- The account is that of the plain sequential monitor over what the script says, this filter and these machines, with at most as many events as the limits say and with the cuts that it tells.
 -- Each version has one fate and at most one span, and one that exited without a rewrite would come to this log alone.
-pub record IsRunOf (limits : Limits) (setup : Setup) (machines : List Machine) (account : Account) : Type 0 where
-  pub is_account : account ≡ sequence threads (λ i. no_rules) (start_of_script setup) limits.calls (cuts_of account.lines) (map (begun limits) machines)
+pub record IsRunOf (limits : Limits) (setup : Setup) (rules : Option (List Op)) (machines : List Machine) (account : Account) : Type 0 where
+  pub is_account : account ≡ sequence threads (judge_of rules) (start_of_script setup) limits.calls (cuts_of account.lines) (map (begun limits) machines)
   pub settled : AreSettled account.lines
   pub survivor : SurvivorsAgree threads (start_of_script setup) limits.calls (map (begun limits) machines) account.lines account.log
 

@@ -1,16 +1,22 @@
 -- What a call of the monitor owes for its words and files, and what its answer shows.
-use Rattle.std.specs.Prelude.{◌≡◌, ◌⊎◌, ℕ, IsSome, List, Option, None, Some, Result, Ok, Err}
+use Rattle.std.specs.Prelude.{◌≡◌, ◌⊎◌, ℕ, IsSome, false, List, Option, None, Some, Result, Ok, Err}
+use Rattle.std.specs.List.{list_any}
 use Rattle.nv_outside.specs.Counts.{Rose}
 use Rattle.nv_outside.specs.Told.{Told}
 use Rattle.nv_outside.specs.Sink.{Puts}
 use Rattle.nv_outside.specs.declared.sink.Put.{Put}
-use Rattle.nv_command.specs.Words.{Plan, Job, Command, Runs, Uses, command_of, name_in}
+use Rattle.nv_command.specs.Words.{Plan, Job, Command, Runs, Uses, Generates, usual, command_of, name_in}
+use Rattle.nv_bpf.specs.declared.op.Op.{Op}
+use Rattle.nv_machine.specs.Guest.{Machine}
+use Rattle.nv_script.specs.Scripts.{Setup}
+use Rattle.nv_replay.specs.Lead.{is_memory}
 use Rattle.nv_replay.specs.Sequence.{Account}
 use Rattle.nv_cli.specs.Account.{IsRunOf}
 use Rattle.nv_cli.specs.Found.{Found, Finds, Agrees, AreFound, TookLong, found_of, finds_of}
 use Rattle.nv_cli.specs.Prepared.{Prepared, Unreadable, Refused, Ready, prepared}
+use Rattle.nv_cli.specs.Generated.{IsMadeRun}
 use Rattle.nv_cli.specs.Made.{made_of}
-use Rattle.nv_cli.specs.Outcome.{Outcome, Usage, NoMemory, NotRead, NotAccepted, Reported, Made, Source, name_of, text_of, status_of, ended_with}
+use Rattle.nv_cli.specs.Outcome.{Outcome, Usage, NoMemory, NotRead, NotAccepted, Reported, Made, Summed, Source, name_of, text_of, status_of, ended_with}
 use Rattle.nv_cli.specs.declared.refusal.Cause.TheVariants.{Long}
 use Rattle.nv_cli.specs.declared.tools.Unmade.{Unmade}
 use Rattle.nv_cli.specs.declared.tools.Unmade.TheVariants as unmade
@@ -19,8 +25,8 @@ use Rattle.nv_cli.specs.declared.tools.Unmade.TheVariants as unmade
 abbrev pub RunComesTo : Plan → Prepared → Outcome → Type 0
 RunComesTo plan (Unreadable place) outcome = outcome ≡ NotRead (name_of place plan)
 RunComesTo plan (Refused place cause) outcome = outcome ≡ NotAccepted (name_of place plan) cause
-RunComesTo plan (Ready setup machines) outcome =
-    (account : Account) × (outcome ≡ Reported plan.json setup account) × IsRunOf plan.limits setup machines account
+RunComesTo plan (Ready setup rules machines) outcome =
+    (account : Account) × (outcome ≡ Reported plan.json setup account) × IsRunOf plan.limits setup rules machines account
 
 -- A command over one file makes its text, or the file can't be read or is refused.
 abbrev pub made_outcome : Job → Result (List ℕ) Unmade → Outcome
@@ -41,10 +47,22 @@ pub record JobOwes (job : Job) (holds : List ℕ → Told) (outcome : Outcome) :
   pub agrees : Agrees (holds job.file) found
   pub comes : outcome ≡ made_outcome job (made_of job.tool found)
 
+-- The made run of a number comes to an account of the plain sequential monitor, in which no version wanted memory, and is summed up.
+pub record GenOwes (n : ℕ) (outcome : Outcome) : Type 0 where
+  pub setup : Setup
+  pub filter : Option (List Op)
+  pub machines : List Machine
+  pub made : IsMadeRun n setup filter machines
+  pub account : Account
+  pub is_run : IsRunOf usual setup filter machines account
+  pub never_starved : list_any (λ line. is_memory line.fate) account.lines ≡ false
+  pub comes : outcome ≡ Summed n setup account
+
 -- what each command owes
 abbrev pub Owes : Command → (List ℕ → Told) → Outcome → Type 0
 Owes (Runs plan) holds outcome = RunOwes plan holds outcome
 Owes (Uses job) holds outcome = JobOwes job holds outcome
+Owes (Generates n) holds outcome = GenOwes n outcome
 
 -- words that are refused owe the line of usage
 abbrev pub OwesAny : Option Command → (List ℕ → Told) → Outcome → Type 0
@@ -55,6 +73,10 @@ OwesAny (Some command) holds outcome = Owes command holds outcome
 abbrev pub IsDue : List (List ℕ) → (List ℕ → Told) → Outcome → Type 0
 IsDue words holds outcome = OwesAny (command_of words) holds outcome ⊎ ((outcome ≡ NoMemory) × IsSome (name_in words))
 
+-- no file was read
+abbrev pub IsUntouched : Source → Type 0
+IsUntouched source = (source.later_faults ≡ source.faults) × (source.later_taken ≡ source.taken)
+
 -- What the counts of the source show: a read failed exactly where a file is named that can't be read, and more was taken than a file may have where one is too long.
 abbrev pub Shows : Outcome → Source → Type 0
 Shows Usage source = source.later_faults ≡ source.faults
@@ -63,10 +85,7 @@ Shows (NotRead name) source = Rose source.faults source.later_faults
 Shows (NotAccepted name cause) source = (source.later_faults ≡ source.faults) × (cause ≡ Long → TookLong source.taken source.later_taken)
 Shows (Reported json setup account) source = source.later_faults ≡ source.faults
 Shows (Made text) source = source.later_faults ≡ source.faults
-
--- no file was read
-abbrev pub IsUntouched : Source → Type 0
-IsUntouched source = (source.later_faults ≡ source.faults) × (source.later_taken ≡ source.taken)
+Shows (Summed n setup account) source = IsUntouched source
 
 -- A text was written with its status; or a write failed, its count rose, a front of the text was written, and the status is 6.
 pub record Says (text : List ℕ) (text_status : ℕ) (before : Option (List ℕ)) (faults : ℕ) (status : ℕ) (after : Option (List ℕ)) (later_faults : ℕ) : Type 0 where
@@ -85,7 +104,7 @@ pub record Answers (words : List (List ℕ)) (source : Source) (before : Option 
 abbrev pub IsReady : Prepared → Type 0
 IsReady (Unreadable place) = ⊥
 IsReady (Refused place cause) = ⊥
-IsReady (Ready setup machines) = Unit {0}
+IsReady (Ready setup rules machines) = Unit {0}
 
 abbrev pub IsMade : Result (List ℕ) Unmade → Type 0
 IsMade (Ok text) = Unit {0}
@@ -95,11 +114,12 @@ IsMade (Err reason) = ⊥
 abbrev pub IsAccepted : Command → (List ℕ → Told) → Type 0
 IsAccepted (Runs plan) holds = IsReady (prepared plan.limits (finds_of holds plan))
 IsAccepted (Uses job) holds = IsMade (made_of job.tool (found_of (holds job.file)))
+IsAccepted (Generates n) holds = Unit {0}
 
 abbrev pub IsRefusedAt : Prepared → Type 0
 IsRefusedAt (Unreadable place) = ⊥
 IsRefusedAt (Refused place cause) = Unit {0}
-IsRefusedAt (Ready setup machines) = ⊥
+IsRefusedAt (Ready setup rules machines) = ⊥
 
 abbrev pub IsRefusedFor : Result (List ℕ) Unmade → Type 0
 IsRefusedFor (Ok text) = ⊥
@@ -111,6 +131,7 @@ IsRefusedFor (Err (unmade.Refused cause)) = Unit {0}
 abbrev pub IsRefused : Command → (List ℕ → Told) → Type 0
 IsRefused (Runs plan) holds = IsRefusedAt (prepared plan.limits (finds_of holds plan))
 IsRefused (Uses job) holds = IsRefusedFor (made_of job.tool (found_of (holds job.file)))
+IsRefused (Generates n) holds = ⊥
 
 -- a run that does its work ends with the status of its versions' fates, which is one of three
 abbrev pub IsReport : ℕ → Type 0
@@ -120,6 +141,7 @@ IsReport status = (status ≡ 0) ⊎ ((status ≡ 1) ⊎ (status ≡ 7))
 abbrev pub IsDone : Command → ℕ → Type 0
 IsDone (Runs plan) status = IsReport status
 IsDone (Uses job) status = status ≡ 0
+IsDone (Generates n) status = status ≡ 0
 
 -- Files that are told and accepted, and no fault: the command does its work, or memory is wanted.
 abbrev pub Completes : List (List ℕ) → Source → ℕ → ℕ → ℕ → Type 0

@@ -1,5 +1,5 @@
 -- What a command finds where it reads its files.
-use Rattle.std.specs.Prelude.{◌≡◌, ◌≢◌, ◌≤◌, ◌+◌, ◌-◌, ◌^◌, ℕ, List, [], ◌∷◌, Bool, true, if◌then◌else◌, min, nat_lt, length, map}
+use Rattle.std.specs.Prelude.{◌≡◌, ◌≢◌, ◌≤◌, ◌+◌, ◌-◌, ◌^◌, ℕ, List, [], ◌∷◌, Bool, true, if◌then◌else◌, Option, None, Some, option_map, min, nat_lt, length, map}
 use Rattle.nv_outside.specs.Told.{Told, Untold, Missing, Content}
 use Rattle.nv_command.specs.Words.{Plan}
 
@@ -40,14 +40,23 @@ AllAgree holds [] (found ∷ finds) = ⊥
 AllAgree holds (name ∷ names) [] = ⊥
 AllAgree holds (name ∷ names) (found ∷ finds) = Agrees (holds name) found × AllAgree holds names finds
 
--- what is found of a run's files, one a place
+-- the same of a file that may not be named
+abbrev pub AgreesIf : (List ℕ → Told) → Option (List ℕ) → Option Found → Type 0
+AgreesIf holds None None = Unit {0}
+AgreesIf holds None (Some found) = ⊥
+AgreesIf holds (Some name) None = ⊥
+AgreesIf holds (Some name) (Some found) = Agrees (holds name) found
+
+-- what is found of a run's files, one a place; nothing in the place of rules that aren't named
 pub record Finds : Type 0 where
   pub script : Found
+  pub rules : Option Found
   pub versions : List Found
 
 -- what is found agrees with what the source tells
 pub record AreFound (plan : Plan) (holds : List ℕ → Told) (finds : Finds) : Type 0 where
   pub script : Agrees (holds plan.script) finds.script
+  pub rules : AgreesIf holds plan.rules finds.rules
   pub versions : AllAgree holds plan.versions finds.versions
 
 -- what is found of a file that is told; nothing of the others
@@ -57,4 +66,4 @@ found_of Missing = Unread
 found_of (Content bytes) = if is_long bytes then TooLong else Whole bytes
 
 abbrev pub finds_of : (List ℕ → Told) → Plan → Finds
-finds_of holds plan = record { script = found_of (holds plan.script); versions = map (λ name. found_of (holds name)) plan.versions }
+finds_of holds plan = record { script = found_of (holds plan.script); rules = option_map (λ name. found_of (holds name)) plan.rules; versions = map (λ name. found_of (holds name)) plan.versions }

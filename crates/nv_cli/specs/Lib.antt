@@ -3,7 +3,9 @@ pub mod Prepared
 pub mod Made
 pub mod Account
 pub mod Outcome
+pub mod Generated
 pub mod Due
+pub mod Summing
 pub mod Ran
 pub mod Refusals
 pub mod Unmade

@@ -1,7 +1,8 @@
 -- What a call of the monitor may come to, and what is then written.
-use Rattle.std.specs.Prelude.{ℕ, Bool, true, false, List, [], ◌∷◌, ◌++◌, codes, slice_get, unwrap_or}
+use Rattle.std.specs.Prelude.{ℕ, Bool, true, false, List, [], ◌∷◌, ◌++◌, codes, length, count_by, sum_by, slice_get, unwrap_or}
 use Rattle.std.specs.List.{concat}
 use Rattle.std.specs.Fmt.{decimal}
+use Rattle.nv_gen.specs.Made as gen
 use Rattle.nv_outside.specs.Told.{Told}
 use Rattle.nv_outside.specs.declared.sink.Put.{Put}
 use Rattle.nv_outside.specs.declared.sink.Put.TheVariants.{Whole, Failed}
@@ -27,6 +28,7 @@ use Rattle.nv_calls.specs.Logs.{output_of}
 use Rattle.nv_script.specs.Scripts.{Setup}
 use Rattle.nv_script.specs.Texts.{fault_text}
 use Rattle.nv_kernel.specs.Serving.{start_of_script}
+use Rattle.nv_replay.specs.Follow.{is_exited}
 use Rattle.nv_replay.specs.Sequence.{Account}
 use Rattle.nv_report.specs.Report.{report_text}
 use Rattle.nv_report.specs.Json.{json_text}
@@ -35,6 +37,7 @@ use Rattle.nv_cli.specs.declared.refusal.Refusal.{Refusal}
 use Rattle.nv_cli.specs.declared.refusal.Refusal.TheVariants as refusal
 use Rattle.nv_cli.specs.declared.refusal.Place.{Place}
 use Rattle.nv_cli.specs.declared.refusal.Place.TheVariants.{Script, Version}
+use Rattle.nv_cli.specs.declared.refusal.Place.TheVariants as place
 use Rattle.nv_cli.specs.declared.refusal.Cause.{Cause}
 use Rattle.nv_cli.specs.declared.refusal.Cause.TheVariants.{Long, Elf, Guest, Filter, Rules, Asm}
 use Rattle.nv_cli.specs.declared.refusal.Cause.TheVariants as causes
@@ -48,6 +51,8 @@ pub data Outcome : Type 0 where
   -- as JSON or not, over what the script says
   Reported : Bool → Setup → Account → Outcome
   Made : List ℕ → Outcome
+  -- the run of a number has its account
+  Summed : ℕ → Setup → Account → Outcome
 
 abbrev pub elf_text : ElfFault → List ℕ
 elf_text Short = codes "short"
@@ -122,6 +127,15 @@ abbrev pub account_text : Bool → Setup → Account → List ℕ
 account_text true setup account = json_text (output_of (start_of_script setup) account.log) account ++ codes "\n"
 account_text false setup account = report_text (output_of (start_of_script setup) account.log) account
 
+-- what a run came to that left this on the console
+abbrev pub told : List ℕ → Account → gen.Outcome
+told output account = record {
+  output = length output;
+  log = length account.log;
+  exited = count_by (λ line. is_exited line.fate) account.lines;
+  rewrites = sum_by (λ line. line.rewrites) account.lines;
+}
+
 -- what is written
 abbrev pub text_of : Outcome → List ℕ
 text_of Usage = codes "varan: usage\n"
@@ -130,6 +144,7 @@ text_of (NotRead name) = concat (codes "varan: read " ∷ name ∷ codes "\n" �
 text_of (NotAccepted name cause) = concat (codes "varan: input " ∷ name ∷ codes ": " ∷ []) ++ (cause_text cause ++ codes "\n")
 text_of (Reported json setup account) = account_text json setup account
 text_of (Made text) = text
+text_of (Summed n setup account) = gen.summary n (told (output_of (start_of_script setup) account.log) account)
 
 abbrev pub status_of : Outcome → ℕ
 status_of Usage = 2
@@ -138,6 +153,7 @@ status_of (NotRead name) = 5
 status_of (NotAccepted name cause) = 4
 status_of (Reported json setup account) = run_status account.lines
 status_of (Made text) = 0
+status_of (Summed n setup account) = 0
 
 -- a write fault takes the place of the other statuses
 abbrev pub ended_with : Put → ℕ → ℕ
@@ -146,6 +162,7 @@ ended_with Failed status = 6
 
 abbrev pub name_of : Place → Plan → List ℕ
 name_of Script plan = plan.script
+name_of place.Rules plan = unwrap_or plan.rules []
 name_of (Version i) plan = unwrap_or (slice_get plan.versions i) []
 
 abbrev pub outcome_of : Refusal → Plan → Outcome

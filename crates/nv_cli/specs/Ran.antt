@@ -1,5 +1,6 @@
 -- What running versions and writing of it leaves.
 use Rattle.std.specs.Prelude.{◌⊎◌, ℕ, Bool, true, false, List, Option}
+use Rattle.nv_bpf.specs.declared.op.Op.{Op}
 use Rattle.nv_machine.specs.Guest.{Machine}
 use Rattle.nv_command.specs.Words.{Limits}
 use Rattle.nv_script.specs.Scripts.{Setup}
@@ -19,7 +20,7 @@ Tells true text text_status before faults status after later_faults = Wrote text
 Tells false text text_status before faults status after later_faults = Says text text_status before faults status after later_faults
 
 -- the versions ran, and their report was written, or the write failed; or memory was wanted for its JSON form
-pub record Ran (limits : Limits) (json : Bool) (setup : Setup) (machines : List Machine) (before : Option (List ℕ)) (faults : ℕ) (status : ℕ) (after : Option (List ℕ)) (later_faults : ℕ) : Type 0 where
+pub record Ran (limits : Limits) (json : Bool) (setup : Setup) (rules : Option (List Op)) (machines : List Machine) (before : Option (List ℕ)) (faults : ℕ) (status : ℕ) (after : Option (List ℕ)) (later_faults : ℕ) : Type 0 where
   pub account : Account
-  pub is_run : IsRunOf limits setup machines account
+  pub is_run : IsRunOf limits setup rules machines account
   pub says : Tells json (account_text json setup account) (run_status account.lines) before faults status after later_faults

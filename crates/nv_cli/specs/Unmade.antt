@@ -1,5 +1,5 @@
 -- What a command makes of its file, and why it makes nothing.
-use Rattle.std.specs.Prelude.{◌≡◌, ◌≢◌, ℕ, List, Result, Ok, Err}
+use Rattle.std.specs.Prelude.{◌≡◌, ◌≢◌, ℕ, List, Result, Err}
 use Rattle.nv_outside.specs.Counts.{Rose}
 use Rattle.nv_outside.specs.Told.{Told}
 use Rattle.nv_cli.specs.Found.{Found, Agrees, TookLong}

@@ -2,6 +2,7 @@
 #![tactic(auto)]
 
 mod calm;
+mod generate;
 mod prepare;
 mod refusal;
 mod tools;

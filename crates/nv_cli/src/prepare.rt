@@ -1,5 +1,6 @@
 // How the files of a run are read and loaded.
-ghost use Rattle.std.specs.Prelude.{◌≡◌, ◌≤◌, ◌<◌, List, ℕ, Some, Ok, IsTrue, IfOk, IfErr, OnOk, length, slice_get};
+ghost use Rattle.std.specs.Prelude.{◌≡◌, ◌≤◌, ◌<◌, List, ℕ, Some, Ok, IsTrue, IfOk, IfErr, OnOk, length, option_map, slice_get};
+ghost use Rattle.nv_bpf.specs.Texts.{filter_of};
 ghost use Rattle.nv_guest.specs.Guest.{machine_of, one_thread};
 ghost use Rattle.nv_script.specs.Scripts.{script_of, is_script};
 ghost use Rattle.nv_script.specs.Views.{setup_of};
@@ -7,12 +8,13 @@ ghost use Rattle.nv_threads.specs.Threads.{threads};
 ghost use Rattle.nv_replay.specs.Versions.{IsFresh};
 ghost use Rattle.nv_replay.specs.Accounts.{AreFresh};
 ghost use Rattle.nv_cli.specs.Account.{begun};
-ghost use Rattle.nv_command.specs.Seen.{limits_view, names_view, plan_view};
+ghost use Rattle.nv_command.specs.Seen.{limits_view, names_view, rules_view, plan_view};
 ghost use Rattle.nv_cli.specs.Prepared.{Loads, version_of};
 ghost use Rattle.nv_cli.specs.Found.{IsReadOf};
-ghost use Rattle.nv_cli.specs.Refusals.{ReadRefused, Refuses, IsScriptRefusal, IsVersionRefusal, VersionRefused, VersionsRefused, HasLoaded, AreLoaded, IsPrepared};
+ghost use Rattle.nv_cli.specs.Refusals.{ReadRefused, Refuses, IsScriptRefusal, IsFilterRefusal, HasRules, RulesRefused, IsVersionRefusal, VersionRefused, VersionsRefused, HasLoaded, AreLoaded, IsPrepared};
 
 use crate::refusal::{Cause, Place, Refusal};
+use nv_bpf::{Filter, FilterFault};
 use nv_command::{Limits, Run};
 use nv_elf::ElfFault;
 use nv_guest::{Guest, GuestFault};
@@ -25,10 +27,11 @@ use std::alloc::Global;
 
 const MOST_BYTES: u32 = 4_194_304;
 
-/// A kernel that has served nothing, and versions that haven't run.
+/// A kernel that has served nothing, the filter that judges followers, and versions that haven't run.
 #[derive(Drop)]
 pub struct Prepared {
     pub kernel: ScriptKernel,
+    pub rules: Option<Filter>,
     pub versions: Vec<Version>,
 }
 
@@ -53,7 +56,7 @@ fn read_file<F: Files>(
     }
 }
 
-fn script_in(alloc: Global, bytes: &[u8]) -> Result<Script, Refusal>
+pub fn script_in(alloc: Global, bytes: &[u8]) -> Result<Script, Refusal>
     ensures script { IfOk result (λ script. script_of bytes.now ≡ Ok (setup_of script)) }
     ensures sound { IfOk result (λ script. IsTrue (is_script (setup_of script))) }
     ensures refused { IfErr result (λ refusal. IsScriptRefusal refusal bytes.now) }
@@ -65,9 +68,43 @@ fn script_in(alloc: Global, bytes: &[u8]) -> Result<Script, Refusal>
     }
 }
 
+pub fn filter_in(alloc: Global, bytes: &[u8]) -> Result<Filter, Refusal>
+    ensures filter { IfOk result (λ filter. filter_of 4096 bytes.now ≡ Ok filter) }
+    ensures refused { IfErr result (λ refusal. IsFilterRefusal refusal bytes.now) }
+{
+    match nv_bpf::read(alloc, bytes) {
+        Ok(filter) => Ok(filter),
+        Err(FilterFault::Memory) => Err(Refusal::Memory),
+        Err(fault) => Err(Refusal::Input(Place::Rules, Cause::Filter(fault))),
+    }
+}
+
+// Reads the rules, where they are named.
+fn read_rules<F: Files>(
+    alloc: Global,
+    files: &mut F,
+    name: Option<&str>,
+) -> Result<Option<Filter>, Refusal>
+    ensures rules { IfOk result (λ rules. HasRules rules (F.holds files.old) (rules_view name.entry)) }
+    ensures refused { IfErr result (λ refusal. RulesRefused refusal (F.holds files.old) (rules_view name.entry)
+        (F.faults files.old) (F.faults files.new) (F.taken files.old) (F.taken files.new)) }
+    ensures same { (name : List ℕ) → F.holds files.new name ≡ F.holds files.old name }
+    ensures faults { OnOk result (F.faults files.new ≡ F.faults files.old) }
+    ensures taken { F.taken files.old ≤ F.taken files.new }
+{
+    let Some(name) = name else {
+        return Ok(None);
+    };
+    let bytes = read_file(alloc, files, name, Place::Rules)?;
+    match filter_in(alloc, &bytes) {
+        Ok(filter) => Ok(Some(filter)),
+        Err(refusal) => Err(refusal),
+    }
+}
+
 // Loads a version file.
 #[tactic(auto, unfolding(crate::specs::Prepared::version_of))]
-fn load(
+pub fn load(
     alloc: Global,
     limits: Limits,
     script: &Script,
@@ -92,7 +129,7 @@ fn load(
 }
 
 // The version with this number, of a guest that hasn't run.
-fn version(alloc: Global, limits: Limits, index: u32, guest: Guest) -> Result<Version, Refusal>
+pub fn version(alloc: Global, limits: Limits, index: u32, guest: Guest) -> Result<Version, Refusal>
     requires alone { guest ≡ one_thread (machine_of guest) }
     ensures fresh { IfOk result (IsFresh threads index) }
     ensures process { IfOk result (λ version. version.at.process ≡ begun (limits_view limits) (machine_of guest)) }
@@ -161,9 +198,9 @@ fn read_versions<F: Files>(
     Ok(versions)
 }
 
-/// Reads the script and then the versions in order, and loads them. Each file is checked before the next is read.
+/// Reads the script, the rules if they are named, and the versions in order, and loads them. Each file is checked before the next is read.
 pub fn prepare<F: Files>(alloc: Global, files: &mut F, plan: &Run<'_>) -> Result<Prepared, Refusal>
-    ensures ready { IfOk result (λ ready. IsPrepared ready.kernel.log ready.kernel.setup ready.versions.items (F.holds files.old) (plan_view plan.now)) }
+    ensures ready { IfOk result (λ ready. IsPrepared ready.kernel.log ready.kernel.setup ready.rules ready.versions.items (F.holds files.old) (plan_view plan.now)) }
     ensures refused { IfErr result (λ refusal. Refuses refusal (F.holds files.old) (plan_view plan.now)
         (F.faults files.old) (F.faults files.new) (F.taken files.old) (F.taken files.new)) }
     ensures faults { OnOk result (F.faults files.new ≡ F.faults files.old) }
@@ -173,10 +210,18 @@ pub fn prepare<F: Files>(alloc: Global, files: &mut F, plan: &Run<'_>) -> Result
         Ok(script) => script,
         Err(refusal) => return Err(refusal),
     };
+    let rules = match read_rules(alloc, files, plan.rules) {
+        Ok(rules) => rules,
+        Err(refusal) => return Err(refusal),
+    };
     match read_versions(alloc, files, plan.limits, &script, &plan.versions) {
         Ok(versions) => {
             let kernel = ScriptKernel::make(alloc, &script)?;
-            Ok(Prepared { kernel, versions })
+            Ok(Prepared {
+                kernel,
+                rules,
+                versions,
+            })
         }
         Err(refusal) => Err(refusal),
     }

@@ -10,10 +10,11 @@ use nv_guest::GuestFault;
 use nv_script::ScriptFault;
 use std::alloc::{AllocError, AllocFailed};
 
-/// A file of the reading order: the script, or the version with this number.
+/// A file of the reading order: the script, the rules, or the version with this number.
 #[derive(Clone, Copy, Debug, PartialEq, Eq)]
 pub enum Place {
     Script,
+    Rules,
     Version(u32),
 }
 

@@ -1,5 +1,5 @@
 // The top call.
-ghost use Rattle.std.specs.Prelude.{◌≡◌, ◌≢◌, ◌≤◌, ◌⊎◌, ◌++◌, ◌∷◌, [], List, ℕ, Some, None, Ok, Err, IsTrue, ◌↔◌, codes, length, map};
+ghost use Rattle.std.specs.Prelude.{◌≡◌, ◌≢◌, ◌≤◌, ◌⊎◌, ◌++◌, ◌∷◌, [], List, ℕ, Some, None, Ok, Err, IsTrue, ◌↔◌, codes, length, count_by, sum_by, map, option_map};
 ghost use Rattle.std.specs.Fmt.{decimal};
 ghost use Rattle.std.specs.List.{concat, list_any};
 ghost use Rattle.nv_outside.specs.Sink.{Puts};
@@ -18,18 +18,23 @@ ghost use Rattle.nv_report.specs.Json.{json_text};
 ghost use Rattle.nv_script.specs.Texts.{fault_text};
 ghost use Rattle.nv_cli.specs.Due.{Says, Answers, Completes, Rejects};
 ghost use Rattle.nv_cli.specs.Ran.{Wrote, Ran};
-ghost use Rattle.nv_cli.specs.Outcome.{ended_with, name_of, elf_text, guest_text, filter_text, line_text, rule_word, rules_text, asm_word, asm_text, cause_text, outcome_of, status_of, text_of, source_of};
+ghost use Rattle.nv_gen.specs.Plans.{outcome_in};
+ghost use Rattle.nv_cli.specs.Generated.{IsGenerated};
+ghost use Rattle.nv_cli.specs.Summing.{SumsUp};
+ghost use Rattle.nv_cli.specs.Outcome.{told, ended_with, name_of, elf_text, guest_text, filter_text, line_text, rule_word, rules_text, asm_word, asm_text, cause_text, outcome_of, status_of, text_of, source_of};
 
+use crate::generate::generate;
 use crate::prepare::{Prepared, prepare};
 use crate::refusal::{Cause, Place, Refusal};
 use crate::tools::{Unmade, make};
 use itoa::Buffer;
 use nv_asm::{AsmCause, AsmFault};
-use nv_bpf::FilterFault;
+use nv_bpf::{Filter, FilterFault};
 use nv_bpf_asm::{RuleCause, RuleFault};
 use nv_calls::SyscallKernel;
 use nv_command::{Command, Limits, LineFault, Run, Tool};
 use nv_elf::ElfFault;
+use nv_gen::Outcome;
 use nv_guest::GuestFault;
 use nv_kernel::ScriptKernel;
 use nv_outside::{Files, Gate, Put, Sink, put_all, put_pieces};
@@ -135,6 +140,7 @@ fn put_report<K: SyscallKernel, S: Sink>(account: &Account<K>, sink: &mut S) -> 
 fn run_versions<S: Sink>(
     alloc: Global,
     kernel: ScriptKernel,
+    rules: Option<&Filter>,
     versions: Vec<Version>,
     limits: Limits,
     json: bool,
@@ -144,9 +150,9 @@ fn run_versions<S: Sink>(
     requires fresh { AreFresh threads 0 versions.items }
     requires few { length versions.items ≤ 8 }
     ensures { (machines : List Machine) → map process_of versions.items ≡ map (begun (limits_view limits)) machines
-        → Ran (limits_view limits) json kernel.setup machines (S.told sink.old) (S.faults sink.old) result (S.told sink.new) (S.faults sink.new) }
+        → Ran (limits_view limits) json kernel.setup (option_map (λ f. f.now) rules.entry) machines (S.told sink.old) (S.faults sink.old) result (S.told sink.new) (S.faults sink.new) }
 {
-    let account = nv_sequence::run(versions, None, kernel, limits.calls);
+    let account = nv_sequence::run(versions, rules, kernel, limits.calls);
     if json {
         put_json(alloc, &account, sink)
     } else {
@@ -345,6 +351,7 @@ fn name<'a>(place: Place, plan: &Run<'a>) -> &'a str
 {
     match place {
         Place::Script => plan.script,
+        Place::Rules => plan.rules.unwrap_or(""),
         Place::Version(index) => plan.versions.get(index as usize).map_or("", |name| *name),
     }
 }
@@ -403,10 +410,89 @@ fn do_run<F: Files, S: Sink>(alloc: Global, files: &mut F, sink: &mut S, plan: &
         (S.told sink.old) (S.faults sink.old) result (S.told sink.new) (S.faults sink.new) }
 {
     match prepare(alloc, files, plan) {
-        Ok(Prepared { kernel, versions }) => {
-            run_versions(alloc, kernel, versions, plan.limits, plan.json, sink)
-        }
+        Ok(
+            Prepared {
+                kernel,
+                rules,
+                versions,
+            },
+        ) => run_versions(
+            alloc,
+            kernel,
+            rules.as_ref(),
+            versions,
+            plan.limits,
+            plan.json,
+            sink,
+        ),
         Err(refusal) => refuse(sink, refusal, plan),
+    }
+}
+
+// How many versions have exited.
+fn count_exited(versions: &[Version]) -> usize
+    ensures { result ≡ count_by (λ version. is_exited (standing_of version).fate) versions.now }
+{
+    versions
+        .iter()
+        .filter(|version| has_exited(version))
+        .count()
+}
+
+// The rewrites of all versions.
+fn count_rewrites(versions: &[Version]) -> u64
+    requires { length versions.now ≤ 8 }
+    ensures { result ≡ sum_by (λ version. (standing_of version).rewrites) versions.now }
+{
+    let mut rewrites = 0;
+    for version in versions {
+        rewrites += u64::from(version.standing().rewrites);
+    }
+    rewrites
+}
+
+// What a run came to.
+fn outcome<K: SyscallKernel>(account: &Account<K>) -> Outcome
+    requires { length account.now.versions.items ≤ 8 }
+    ensures { outcome_in result ≡ told (output_of (K.start account.now.kernel) (K.log account.now.kernel)) (record { log = K.log account.now.kernel; lines = map standing_of account.now.versions.items }) }
+{
+    Outcome {
+        output: account.kernel.output().len() as u64,
+        log: account.kernel.history().len() as u64,
+        exited: count_exited(&account.versions) as u64,
+        rewrites: count_rewrites(&account.versions),
+    }
+}
+
+// Runs what a number has made, and sums it up.
+fn sum_up<S: Sink>(alloc: Global, number: u32, made: Prepared, sink: &mut S) -> u8
+    requires { IsGenerated number made.kernel.log made.kernel.setup made.rules made.versions.items }
+    ensures { SumsUp number (S.told sink.old) (S.faults sink.old) result (S.told sink.new) (S.faults sink.new) }
+{
+    let Prepared {
+        kernel,
+        rules,
+        versions,
+    } = made;
+    let limits = Limits::usual();
+    let account = nv_sequence::run(versions, rules.as_ref(), kernel, limits.calls);
+    if starved(&account.versions) {
+        return put_line(sink, b"varan: memory\n", MEMORY);
+    }
+    match nv_gen::summary(alloc, number, &outcome(&account)) {
+        Ok(line) => put_line(sink, &line, 0),
+        Err(_) => put_line(sink, b"varan: memory\n", MEMORY),
+    }
+}
+
+// Makes the run of a number, and says what it came to.
+fn do_generate<S: Sink>(alloc: Global, number: u32, sink: &mut S) -> u8
+    requires { number ≤ 999_999 }
+    ensures { SumsUp number (S.told sink.old) (S.faults sink.old) result (S.told sink.new) (S.faults sink.new) }
+{
+    match generate(alloc, number) {
+        Ok(made) => sum_up(alloc, number, made, sink),
+        Err(_) => put_line(sink, b"varan: memory\n", MEMORY),
     }
 }
 
@@ -418,6 +504,7 @@ fn answer<F: Files, S: Sink>(alloc: Global, words: &[String], files: &mut F, sin
     match nv_command::read(alloc, words) {
         Ok(Command::Run(plan)) => do_run(alloc, files, sink, &plan),
         Ok(Command::Use(job)) => run_job(alloc, files, sink, job.tool, job.file),
+        Ok(Command::Generate(number)) => do_generate(alloc, number, sink),
         Err(LineFault::Memory) => put_line(sink, b"varan: memory\n", MEMORY),
         Err(LineFault::Usage) => put_line(sink, b"varan: usage\n", USAGE),
     }

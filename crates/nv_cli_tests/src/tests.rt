@@ -3,8 +3,10 @@ use std::alloc::{AllocError, Global};
 
 mod alone;
 mod asm;
+mod judged;
 mod line;
 mod linker;
+mod made;
 mod refusals;
 mod rules;
 mod several;

@@ -1,3 +1,4 @@
 mod Apps
 mod Matches
 mod Lines
+pub mod Within

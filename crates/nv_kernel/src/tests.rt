@@ -39,6 +39,7 @@ impl Desk {
         if call.payload.as_slice().len() > 4096
             || self.out.room() < 4096
             || self.devices.served >= 9
+            || self.devices.threads.clones >= 9
         {
             return Ok(NO_REPLY);
         }

@@ -75,7 +75,9 @@ fn usage(rt: HostRuntime) -> Result<(), Fail> {
             "4294967296",
             "v",
         ],
-        &["varan", "run", "--script", "s", "--rules", "r", "v"],
+        &[
+            "varan", "run", "--script", "s", "--rules", "r", "--rules", "r", "v",
+        ],
         &["varan", "run", "--script", "s", "v", "-v"],
         &[
             "varan", "run", "--script", "s", "1", "2", "3", "4", "5", "6", "7", "8", "9",

@@ -3,8 +3,10 @@ use Rattle.nv_command.specs.Words.{Command as Line, command_of, texts}
 use Rattle.nv_command.specs.Seen.{IsRefused, command_view}
 use Rattle.nv_command.specs.declared.asked.Command.{Command}
 use Rattle.nv_command.specs.declared.asked.LineFault.{LineFault}
-use Rattle.nv_cli.specs.Outcome.{Usage, NoMemory}
+use Rattle.nv_cli.specs.Outcome.{Usage, NoMemory, source_of}
 use Rattle.nv_cli.specs.Due.{OwesAny}
+use Rattle.nv_command.proofs.Within.{generated_within}
+use Rattle.nv_cli.proofs.Commands.{made_answers}
 use Rattle.nv_cli.proofs.top.answer.Goals as goal
 
 pub returns-in-Ok-Run : goal.returns-in-Ok-Run
@@ -35,3 +37,12 @@ returns-in-Err-Usage g c =
       unread = λ none. (refl, refl);
       says = c.put_line-in-Err-Usage.ensures;
     }
+
+pub do_generate-requires : goal.do_generate-requires
+do_generate-requires g c =
+    generated_within (texts c.args.words.now) c.in-Ok-Generate.number (c.in-Ok-Generate.ensures.command ∙ ap (λ (x : Command). Some (command_view x)) c.in-Ok-Generate.field-0-is)
+
+pub returns-in-Ok-Generate : goal.returns-in-Ok-Generate
+returns-in-Ok-Generate g c =
+    made_answers (texts c.args.words.now) (source_of g.F.Files.holds g.F.Files.faults g.F.Files.taken c.args.files.now c.args.files.now) c.in-Ok-Generate.number
+    (c.in-Ok-Generate.ensures.command ∙ ap (λ (x : Command). Some (command_view x)) c.in-Ok-Generate.field-0-is) refl refl _ _ _ _ _ c.do_generate.ensures

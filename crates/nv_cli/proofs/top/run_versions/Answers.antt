@@ -1,7 +1,7 @@
-use Rattle.std.proofs.Common.{◌∙◌, ◌++◌, ap, subst, codes, List, map}
+use Rattle.std.proofs.Common.{◌∙◌, ◌++◌, ap, subst, codes, List, map, option_map}
 use Rattle.nv_calls.specs.Logs.{Start, output_of}
 use Rattle.nv_kernel.specs.Serving.{start_of_script}
-use Rattle.nv_replay.specs.Follow.{no_rules}
+use Rattle.nv_replay.specs.Follow.{judge_of}
 use Rattle.nv_replay.specs.Sequence.{sequence, cuts_of}
 use Rattle.nv_replay.specs.Versions.{standing_of}
 use Rattle.nv_report.specs.Json.{json_text}
@@ -18,10 +18,11 @@ returns-then-json g c = λ machines are.
     let log = c.run-account.result.kernel.log in
     let lines = map standing_of c.run-account.result.versions.items in
     let start = start_of_script c.args.kernel.setup in
+    let judges = judge_of (option_map (λ f. f.now) c.args.rules) in
     record {
       account = record { log = log; lines = lines };
       is_run = record {
-        is_account = c.run-account.ensures.account ∙ ap (λ (ps : List Proc). sequence threads (λ i. no_rules) start c.args.limits.calls (cuts_of lines) ps) are;
+        is_account = c.run-account.ensures.account ∙ ap (λ (ps : List Proc). sequence threads judges start c.args.limits.calls (cuts_of lines) ps) are;
         settled = c.run-account.ensures.settled;
         survivor = subst (λ (ps : List Proc). SurvivorsAgree threads start c.args.limits.calls ps lines log) are c.run-account.ensures.survivor;
       };
@@ -36,10 +37,11 @@ returns g c = λ machines are.
     let log = c.run-account.result.kernel.log in
     let lines = map standing_of c.run-account.result.versions.items in
     let start = start_of_script c.args.kernel.setup in
+    let judges = judge_of (option_map (λ f. f.now) c.args.rules) in
     record {
       account = record { log = log; lines = lines };
       is_run = record {
-        is_account = c.run-account.ensures.account ∙ ap (λ (ps : List Proc). sequence threads (λ i. no_rules) start c.args.limits.calls (cuts_of lines) ps) are;
+        is_account = c.run-account.ensures.account ∙ ap (λ (ps : List Proc). sequence threads judges start c.args.limits.calls (cuts_of lines) ps) are;
         settled = c.run-account.ensures.settled;
         survivor = subst (λ (ps : List Proc). SurvivorsAgree threads start c.args.limits.calls ps lines log) are c.run-account.ensures.survivor;
       };

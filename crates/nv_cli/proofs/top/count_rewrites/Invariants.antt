@@ -1,0 +1,7 @@
+use Rattle.std.proofs.Common.{◌≡◌, ◌≤◌, ◌*◌, take}
+use Rattle.std.specs.Prelude.{sum_by}
+use Rattle.nv_replay.specs.Versions.{standing_of}
+use Rattle.nv_cli.proofs.top.count_rewrites.Given as goal
+
+abbrev pub invariant-loop-version : goal.invariant-loop-version
+invariant-loop-version l = (l.rewrites ≡ sum_by (λ version. (standing_of version).rewrites) (take l.version-index l.versions)) × (l.rewrites ≤ l.version-index * 4294967295)

@@ -1,0 +1,71 @@
+use super::SCRIPT;
+use crate::{Answered, Outside, image, monitor};
+use std::alloc::{AllocError, Global};
+use std::test::Fail;
+
+const LINE: [&str; 8] = ["varan", "run", "--script", "s", "--rules", "r", "v", "w"];
+
+// geteuid, and exit_group with 0.
+const ASKS: [u32; 5] = [0x0b100893, 0x00000073, 0x00000513, 0x05e00893, 0x00000073];
+
+// getuid, then the same.
+const ASKS_MORE: [u32; 7] = [
+    0x0ae00893, 0x00000073, 0x0b100893, 0x00000073, 0x00000513, 0x05e00893, 0x00000073,
+];
+
+// getuid is allowed where the log has geteuid.
+const EXTRA_CALL: &[u8] =
+    b"6\n32 0 0 64\n21 0 3 177\n32 0 0 0\n21 0 1 174\n6 0 0 2147418112\n6 0 0 0\n";
+
+// A run of ASKS and ASKS_MORE by these rules, of which the reads with these numbers fail.
+fn judged(alloc: Global, rules: &[u8], failing_reads: &[u32]) -> Result<Answered, AllocError> {
+    let first = image(alloc, &ASKS, b"")?;
+    let second = image(alloc, &ASKS_MORE, b"")?;
+    let files: [(&str, &[u8]); 4] = [("s", SCRIPT), ("r", rules), ("v", &first), ("w", &second)];
+    let outside = Outside {
+        files: &files,
+        failing_reads,
+        most: 4096,
+        failing_writes: &[],
+    };
+    monitor(alloc, &LINE, outside)
+}
+
+#[test]
+fn permitted_extra_call(rt: HostRuntime) -> Result<(), Fail> {
+    let answered = judged(rt.alloc(), EXTRA_CALL, &[])?;
+    let report =
+        b"output 0\n\nlog 2\n0 100 177 0 0 0 0 0 0 = 1000 :\n1 100 94 0 0 0 0 0 0 = 0 :\nfates 2\n0 exited 0 seen 2 led 0-2 rewrites 0\n1 exited 0 seen 2 led - rewrites 1\n";
+    assert_eq!(rt; answered.written.as_slice(), report.as_slice());
+    assert_eq!(rt; answered.status, 0);
+    Ok(())
+}
+
+// The rules are read behind the script and before the versions.
+#[test]
+fn rules_in_their_place(rt: HostRuntime) -> Result<(), Fail> {
+    let empty = judged(rt.alloc(), b"0\n", &[2])?;
+    assert_eq!(rt;
+        empty.written.as_slice(),
+        b"varan: input r: empty\n".as_slice()
+    );
+    assert_eq!(rt; empty.status, 4);
+    let unread = judged(rt.alloc(), b"0\n", &[1])?;
+    assert_eq!(rt; unread.written.as_slice(), b"varan: read r\n".as_slice());
+    assert_eq!(rt; unread.status, 5);
+    let script = judged(rt.alloc(), b"0\n", &[0])?;
+    assert_eq!(rt; script.written.as_slice(), b"varan: read s\n".as_slice());
+    let version = judged(rt.alloc(), EXTRA_CALL, &[2])?;
+    assert_eq!(rt; version.written.as_slice(), b"varan: read v\n".as_slice());
+    Ok(())
+}
+
+// A filter whose division has the divisor 0 has the value 0, and refuses.
+#[test]
+fn refused_by_value(rt: HostRuntime) -> Result<(), Fail> {
+    let answered = judged(rt.alloc(), b"3\n0 0 0 7\n60 0 0 0\n6 0 0 2147418112\n", &[])?;
+    let end = b"\n1 refused 100 174 0 00000000 seen 0 led - rewrites 0\n";
+    assert!(rt; answered.written.ends_with(end));
+    assert_eq!(rt; answered.status, 0);
+    Ok(())
+}

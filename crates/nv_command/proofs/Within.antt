@@ -1,0 +1,56 @@
+-- The numbers of made runs.
+use Rattle.std.proofs.Common.{◌≡◌, ℕ, ◌≤◌, List, Option, Some, None, refl, option_and_then, Bool, true, false, cond, arith}
+use Rattle.std.specs.Prelude.{◌&&◌, nat_le, if◌then◌else◌, option_map, codes}
+use Rattle.std.proofs.lemmas.Bool.Decides.{nat_tests}
+use Rattle.clap.specs.Walk.{Row, Text, first_of}
+use Rattle.nv_bytes.specs.Texts.{number_of}
+use Rattle.nv_command.specs.Simple.{gen_app}
+use Rattle.nv_command.specs.Words.{Name, NamesRun, NamesRules, NamesAsm, NamesGen, Plan, Job, Runs, Uses, Generates, number_within, number_in, rows_of_line, run_line, rules_line, asm_line, gen_line, asked_by, behind_program, command_of, name_in}
+
+kept_within : (k n : ℕ) (b : Bool) → (b ≡ true → k ≤ 999999) → cond b (Some k) None ≡ Some n → n ≤ 999999
+kept_within k n true within h = let e : k ≡ n = cc in let le : k ≤ 999999 = within refl in omega arith
+kept_within k n false within h = cc
+
+six_digits : (k : ℕ) → (nat_le 0 k && nat_le k 999999) ≡ true → k ≤ 999999
+six_digits k h = grind (arith, nat_tests)
+
+read_within : (number : Option ℕ) (n : ℕ) → option_and_then (λ (x : ℕ). if nat_le 0 x && nat_le x 999999 then Some x else None) number ≡ Some n → n ≤ 999999
+read_within None n h = cc
+read_within (Some k) n h = kept_within k n (nat_le 0 k && nat_le k 999999) (six_digits k) h
+
+text_within : (text : Option Text) (n : ℕ) → option_and_then (λ t. number_within 0 0 999999 (Some t)) text ≡ Some n → n ≤ 999999
+text_within None n h = cc
+text_within (Some t) n h = read_within (number_of t) n h
+
+rows_within : (rows : Option (List Row)) (n : ℕ) → option_and_then number_in rows ≡ Some n → n ≤ 999999
+unfolding number_in
+rows_within None n h = cc
+rows_within (Some rows) n h = text_within (first_of (codes "number") rows) n h
+
+line_within : (words : List Text) (n : ℕ) → gen_line words ≡ Some n → n ≤ 999999
+unfolding gen_line
+line_within words n h = rows_within (rows_of_line gen_app words) n h
+
+runs_none : (plan : Option Plan) (n : ℕ) → option_map Runs plan ≡ Some (Generates n) → ⊥
+runs_none None n h = cc
+runs_none (Some plan) n h = cc
+
+uses_none : (job : Option Job) (n : ℕ) → option_map Uses job ≡ Some (Generates n) → ⊥
+uses_none None n h = cc
+uses_none (Some job) n h = cc
+
+same_number : (number : Option ℕ) (n : ℕ) → option_map Generates number ≡ Some (Generates n) → number ≡ Some n
+same_number None n h = cc
+same_number (Some k) n h = cc
+
+named_within : (words : List Text) (name : Option Name) (n : ℕ) → option_and_then (asked_by words) name ≡ Some (Generates n) → n ≤ 999999
+named_within words None n h = cc
+named_within words (Some NamesRun) n h = absurd (runs_none (run_line words) n h)
+named_within words (Some NamesRules) n h = absurd (uses_none (rules_line words) n h)
+named_within words (Some NamesAsm) n h = absurd (uses_none (asm_line words) n h)
+named_within words (Some NamesGen) n h = line_within words n (same_number (gen_line words) n h)
+
+-- a number that is asked for has at most six digits
+pub generated_within : (words : List Text) (n : ℕ) → command_of words ≡ Some (Generates n) → n ≤ 999999
+unfolding command_of
+generated_within words n h = named_within (behind_program words) (name_in words) n h
