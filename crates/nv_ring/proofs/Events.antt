@@ -11,8 +11,8 @@ use Rattle.nv_calls.specs.declared.calls.Event.{Event}
 use Rattle.nv_calls.specs.LogLaws.{slice_some}
 use Rattle.nv_words.specs.Spell.{IsWhole, spell}
 use Rattle.nv_words.specs.Begins.{Begins}
-use Rattle.nv_words.specs.SpellLaws.{spell_whole}
-use Rattle.nv_words.specs.SpellLaws.{shorter}
+use Rattle.nv_words.proofs.SpellLaws.{spell_whole}
+use Rattle.nv_words.proofs.SpellLaws.{shorter}
 
 pub take_len : {A : Type 0} (xs : List A) (n : ℕ) → n ≡ length xs → take n xs ≡ xs
 take_len {A} xs n h = subst (λ (k : ℕ). take k xs ≡ xs) (sym h) (all xs)
@@ -27,6 +27,12 @@ entry_at history log n x is near at =
     let long : length history ≡ length log = sym (length-map history entry) ∙ ap (λ (z : List Entry). length z) is in
     let here : get_elem? history n ≡ some x = at_index history n x (omega arith) at in
     slice_some log n (entry x) (ap (λ (z : List Entry). get_elem? z n) (sym is) ∙ at_map entry history n x here)
+
+-- the event n of a history as it is spelt
+pub spelt_at : (log : List Entry) (n : ℕ) (e : Entry) → slice_get log n ≡ Some e → get_or (map spell log) n [] ≡ spell e
+spelt_at [] n e at = cc
+spelt_at (x ∷ xs) zero e at = ap spell (same_Some x e at)
+spelt_at (x ∷ xs) (suc n) e at = spelt_at xs n e at
 
 -- all but the last, and the last
 pub last_spelt : (log : List Entry) (n : ℕ) (e : Entry) → length log ≡ n + 1 → slice_get log n ≡ Some e → map spell log ≡ take n (map spell log) ++ spell e ∷ []

@@ -1,32 +1,32 @@
 -- How the room opens, how readers' seats are cut off the first, and how seats come back to one.
-use Rattle.std.proofs.Common.{◌≡◌, ℕ, zero, suc, ◌+◌, ◌*◌, ◌<◌, ◌≤◌, ◌≢◌, ◌⊎◌, List, [], ◌∷◌, ◌++◌, map, length, get_or, set, replicate, sym, refl, ap, ◌∙◌, subst, inl, inr, ⊎_elim, le_refl, zero-le, arith, length-append}
+use Rattle.std.proofs.Common.{◌≡◌, ℕ, zero, suc, ◌+◌, ◌<◌, ◌≤◌, ◌≢◌, ◌⊎◌, List, [], ◌∷◌, ◌++◌, map, length, get_or, set, replicate, sym, refl, ap, ◌∙◌, subst, inl, inr, ⊎_elim, le_refl, zero-le, arith, length-append}
 use mathlib.Core.Path.{Path}
 use mathlib.Core.List.{map-append}
 use mathlib.Core.Logic.{dite}
-use native.Mathlib.Decide.{ℕ_discrete, dec_le}
+use native.Mathlib.Decide.{dec_le}
 use mathlib.Core.Option.{some, some-injective, some-ne-none}
 use lib.ListN.{get_elem?}
 use lib.Seq.{map-set}
-use Rattle.std.specs.Prelude.{Option, Some, None}
+use Rattle.std.specs.Prelude.{Option, Some}
 use Rattle.atomic_table.specs.Table.{State, Splits, Joins, opening}
-use Rattle.atomic_table.proofs.Lists.{at_map, at_set}
+use Rattle.atomic_table.proofs.Lists.{at_map, at_set, at_longer}
 use Rattle.nv_calls.specs.Calls.{Entry}
 use Rattle.nv_calls.specs.Logs.{Start}
 use Rattle.nv_calls.specs.LogLaws.{lawful_none}
+use Rattle.nv_words.proofs.SpellLaws.{prefix_length}
 use Rattle.nv_room.specs.declared.view.View.{View}
 use Rattle.nv_room.specs.declared.view.Plan.{Plan}
 use Rattle.nv_room.specs.declared.view.Past.{Past}
 use Rattle.nv_room.specs.declared.view.Span.{Span}
 use Rattle.nv_room.specs.declared.view.Role.{Role}
-use Rattle.nv_room.specs.declared.view.Role.TheVariants.{Reader, Lead, Leaving, Gone, Spent}
+use Rattle.nv_room.specs.declared.view.Role.TheVariants.{Reader, Lead, Gone, Spent}
 use Rattle.nv_room.specs.Placement.{table_words}
-use Rattle.nv_room.specs.Owner.{GONE, Phase, held, free, closed}
+use Rattle.nv_room.specs.Owner.{free}
 use Rattle.nv_room.specs.Spans.{of_station}
-use Rattle.nv_room.specs.Room.{cursor, Moment, as_of, InRole, IsSeated, Told, Knows, Tag, tag, station_of, Has, Live, Unmade, Out, Clash, Apart, Rule, first}
+use Rattle.nv_room.specs.Room.{cursor, Moment, as_of, Told, Knows, Tag, tag, station_of, Has, Live, Out, Clash, Apart, Rule, first}
 use Rattle.nv_room.specs.Steps.{opened, reader_of, past_of, joined, spent}
-use Rattle.nv_room.proofs.Lists.{at_end, at_below}
-use Rattle.nv_room.proofs.Tiling.{tiles_none}
-use Rattle.nv_room.proofs.Stays.{now}
+use Rattle.nv_room.proofs.Lists.{at_end}
+use Rattle.nv_room.proofs.Stays.{now, lead_stays}
 use Rattle.nv_room.proofs.Seats.{holder_led, in_role, seated}
 
 flip : (a b : Tag) → Clash a b → Clash b a
@@ -116,14 +116,14 @@ module _ {K : Type 0} (hist : K → List Entry) (beg : K → Start) (p : Plan K)
   RuleOf = Rule hist beg p
 
   -- the first seat cuts off the seat of the station that it makes next
-  pub splits : (id : ℕ) (v : View K) → v.role ≡ Reader → v.station ≡ 0 → 0 < v.made → v.made < p.stations → v.ended ≡ [] → v.seen ≡ [] → v.freed ≡ None → v.spans ≡ [] → Splits RuleOf id v (opened v) (reader_of v)
-  splits id v role zeroth pos near ended seen unfreed idle s r at = let n : ℕ = p.stations in let c : ℕ = p.places in let kn = r.each_seat id v at in let pl = r.places in let m : Moment = now hist beg p s r in
+  pub splits : (id : ℕ) (v : View K) → v.role ≡ Reader → v.station ≡ 0 → 0 < v.made → v.made < p.stations → v.ended ≡ [] → Splits RuleOf id v (opened v) (reader_of v)
+  splits id v role zeroth pos near ended s r at = let n : ℕ = p.stations in let c : ℕ = p.places in let kn = r.each_seat id v at in let pl = r.places in let m : Moment = now hist beg p s r in
       let ir = in_role hist beg p s r id v at Reader role in let se = seated hist beg p s r id v at Reader role tt in
       let vs : List (View K) = set s.views id (opened v) in let t : ℕ = v.made in let es : List ℕ = map station_of v.ended in
-      let nothing : length v.seen ≡ 0 = ap (length {A = List ℕ}) seen in let mine : cursor s.words v.station ≡ length v.seen = ir.cursor_is_length in
+      let mine : cursor s.words v.station ≡ length v.seen = ir.cursor_is_length in let short = prefix_length v.seen r.log kn.seen_is_prefix in let few = pl.log_is_short in
       let low : r.holder ≡ 0 = dite (dec_le 1 r.holder) (λ le. let g = pl.lower_are_gone 0 le in let same : cursor s.words v.station ≡ cursor s.words 0 = ap (cursor s.words) zeroth in absurd (omega arith)) (λ gt. omega arith) in
       let unled : r.spans ≡ [] = holder_led m v.station r.led ir.led_nothing (zeroth ∙ sym low) in
-      let fresh : cursor s.words t ≡ 0 = se.unmade_is_new t record { first = zeroth; other = pos; not_made = le_refl t; near = near } in
+      let fresh_cursor : cursor s.words t ≡ 0 = se.unmade_is_new t record { first = zeroth; other = pos; not_made = le_refl t; near = near } in
       let none_of : (z : ℕ) → of_station z r.spans ≡ [] = λ z. ap (of_station z) unled in
       let mine' : Knows n c p.start m (opened v) = record {
         seen_is_prefix = kn.seen_is_prefix;
@@ -136,18 +136,18 @@ module _ {K : Type 0} (hist : K → List Entry) (beg : K → Start) (p : Plan K)
         ended_is_told = kn.ended_is_told;
       } in
       let cut : Knows n c p.start m (reader_of v) = record {
-        seen_is_prefix = kn.seen_is_prefix;
-        read_begins_next = kn.read_begins_next;
-        floor_at_most_cursor = kn.floor_at_most_cursor;
-        head_seen_at_most_head = kn.head_seen_at_most_head;
-        owner_seen_at_most_head = kn.owner_seen_at_most_head;
-        in_role = subst (InRole n c m t v.seen v.read v.wrote v.freed) (sym role) record { cursor_is_length = fresh ∙ sym nothing; led_nothing = none_of t; wrote_nothing = ir.wrote_nothing; freed_stays = λ k e. (let q : None ≡ Some k = sym unfreed ∙ e in cc) };
-        seated = λ l. record { start_is = se.start_is; places_are = se.places_are; station_is_made = near; spans_are = idle ∙ sym (none_of t); unmade_is_new = λ z u. (let a = u.first in absurd (omega arith)) };
-        ended_is_told = kn.ended_is_told;
+        seen_is_prefix = λ i y e. absurd (some-ne-none y (sym e));
+        read_begins_next = λ i y e. absurd (some-ne-none y (sym e));
+        floor_at_most_cursor = λ z l. let q = zero_at (length v.floors) z in omega arith;
+        head_seen_at_most_head = zero-le;
+        owner_seen_at_most_head = omega arith;
+        in_role = record { cursor_is_length = fresh_cursor; led_nothing = none_of t; wrote_nothing = refl; freed_stays = λ k e. cc };
+        seated = λ l. record { start_is = se.start_is; places_are = se.places_are; station_is_made = near; spans_are = sym (none_of t); unmade_is_new = λ z u. (let a = u.first in absurd (omega arith)) };
+        ended_is_told = λ i y e. absurd (some-ne-none y (sym e));
       } in
       let empty : es ≡ [] = ap (map station_of) ended in
       let e₁ : map tag vs ≡ set (map tag s.views) id (Reader, 0, t + 1, es) = map-set tag s.views id (opened v) ∙ (λ i. set (map tag s.views) id (role i, zeroth i, t + 1, es)) in
-      let path : map tag (vs ++ reader_of v ∷ []) ≡ set (map tag s.views) id (Reader, 0, t + 1, es) ++ (Reader, t, t, []) ∷ [] = map-append tag vs (reader_of v ∷ []) ∙ (λ i. e₁ i ++ (role i, t, t, empty i) ∷ []) in record {
+      let path : map tag (vs ++ reader_of v ∷ []) ≡ set (map tag s.views) id (Reader, 0, t + 1, es) ++ (Reader, t, 0, []) ∷ [] = map-append tag vs (reader_of v ∷ []) ∙ (λ i. e₁ i ++ (Reader, t, 0, []) ∷ []) in record {
         log = r.log;
         events = r.events;
         phase = r.phase;
@@ -159,7 +159,8 @@ module _ {K : Type 0} (hist : K → List Entry) (beg : K → Start) (p : Plan K)
         home = r.home;
         places = r.places;
         led = r.led;
-        one_seat_a_station = subst Apart (sym path) (apart_split (map tag s.views) id t t es Reader Reader tt pos empty (at_map tag s.views id v at ∙ (λ i. some (role i, zeroth i, t, es))) r.one_seat_a_station);
+        held_has_lead = λ e. let h = lead_stays s.views id r.holder v (opened v) at (λ q. (q, refl)) (r.held_has_lead e) in (h.0, h.1, at_longer vs (reader_of v ∷ []) h.0 h.1 h.2, h.3, h.4);
+        one_seat_a_station = subst Apart (sym path) (apart_split (map tag s.views) id t 0 es Reader Reader tt pos empty (at_map tag s.views id v at ∙ (λ i. some (role i, zeroth i, t, es))) r.one_seat_a_station);
         each_seat = λ j u e. ⊎_elim (λ (e' : get_elem? vs j ≡ some u). ⊎_elim (λ (y : (j ≡ id) × (opened v ≡ u)). subst (Knows n c p.start m) y.1 mine') (λ (y : (j ≢ id) × (get_elem? s.views j ≡ some u)). r.each_seat j u y.1) (at_set s.views id j (opened v) u e'))
             (λ (e' : (j ≡ length vs) × (reader_of v ≡ u)). subst (Knows n c p.start m) e'.1 cut) (at_end vs (reader_of v) u j e);
       }
@@ -196,6 +197,7 @@ module _ {K : Type 0} (hist : K → List Entry) (beg : K → Start) (p : Plan K)
         home = r.home;
         places = r.places;
         led = r.led;
+        held_has_lead = λ e. lead_stays vs other r.holder w spent at' (λ q. absurd (let y : Lead ≡ Gone = sym q ∙ gone in cc)) (lead_stays s.views id r.holder v (joined v w) at (λ q. (q, refl)) (r.held_has_lead e));
         one_seat_a_station = subst Apart (sym path) (apart_join ts id other v.station v.made w.station w.made es gs v.role w.role live (subst Live (sym gone) tt) (at_map tag s.views id v at) (at_map tag s.views other w there') r.one_seat_a_station);
         each_seat = λ j u e. ⊎_elim (λ (y : (j ≡ other) × (spent ≡ u)). subst (Knows n c p.start m) y.1 over)
             (λ (y : (j ≢ other) × (get_elem? vs j ≡ some u)). ⊎_elim (λ (z : (j ≡ id) × (joined v w ≡ u)). subst (Knows n c p.start m) z.1 mine) (λ (z : (j ≢ id) × (get_elem? s.views j ≡ some u)). r.each_seat j u z.1) (at_set s.views id j (joined v w) u y.1))
@@ -229,6 +231,7 @@ module _ {K : Type 0} (hist : K → List Entry) (beg : K → Start) (p : Plan K)
       event_is_whole = λ i e f. absurd (some-ne-none e (sym f));
       log_is_short = omega arith;
     };
+    held_has_lead = λ e. cc;
     led = record { tile = refl; rise = tt; last_is_holders = λ xs x e. (let a = ap (λ (z : List Span). length z) e in let b = length-append xs (x ∷ []) in absurd (omega arith)); unled_is_free = λ e. refl };
     one_seat_a_station = λ j k a b e f c. (one_at (tag (first p)) j a e).0 ∙ sym (one_at (tag (first p)) k b f).0;
     each_seat = λ j v e. subst (Knows p.stations p.places p.start (as_of ws [] free 0 [])) (one_at (first p) j v e).1 record {

@@ -5,26 +5,25 @@ use mathlib.Core.Option.{none, some, some-injective, some-ne-none}
 use native.Mathlib.Decide.{ℕ_discrete, dec_le}
 use lib.ListN.{get_elem?}
 use lib.Seq.{map-set}
-use Rattle.std.specs.Prelude.{Option, Some}
+use Rattle.std.specs.Prelude.{Option}
 use Rattle.atomic_table.specs.Table.{State, Me, step, keeps, Allows}
 use Rattle.nv_calls.specs.Calls.{Entry}
 use Rattle.nv_calls.specs.Logs.{Start}
 use Rattle.nv_words.specs.Spell.{IsWhole}
 use Rattle.nv_words.specs.Begins.{Prefix}
-use Rattle.nv_words.specs.SpellLaws.{prefix_length, whole_same}
+use Rattle.nv_words.proofs.SpellLaws.{prefix_length, whole_same}
 use Rattle.nv_room.specs.declared.view.View.{View}
 use Rattle.nv_room.specs.declared.view.Plan.{Plan}
 use Rattle.nv_room.specs.declared.view.Role.{Role}
 use Rattle.nv_room.specs.declared.view.Role.TheVariants.{Reader, Lead, Leaving, Gone, Spent}
-use Rattle.nv_room.specs.Placement.{Log, header, place_of}
+use Rattle.nv_room.specs.Placement.{Log, place_of}
 use Rattle.nv_room.specs.Owner.{GONE, held}
-use Rattle.nv_room.specs.Spans.{of_station, Before}
-use Rattle.nv_room.specs.Room.{cursor, Moment, as_of, Places, Led, Freed, InRole, IsSeated, Live, Tag, tag, Apart, Knows, Rule}
+use Rattle.nv_room.specs.Room.{cursor, Moment, as_of, Places, Led, InRole, IsSeated, Live, tag, Apart, Rule}
 use Rattle.nv_room.specs.Steps.{one_on, advanced, as_gone, left}
 use Rattle.nv_room.proofs.Lists.{at_below, there}
 use Rattle.nv_room.proofs.Placement.{place_behind, header_inside}
-use Rattle.nv_room.proofs.Stays.{Onward, Own, logged, same_tags, told_on, now, moved}
-use Rattle.nv_room.proofs.Seats.{prefix_more, not_holder, not_held, none_above, apart_role, apart_from, apart_unmade, in_role, seated, told}
+use Rattle.nv_room.proofs.Stays.{Onward, Own, lead_stays, logged, same_tags, told_on, now, moved}
+use Rattle.nv_room.proofs.Seats.{prefix_more, not_held, none_above, apart_role, apart_from, apart_unmade, in_role, seated, told}
 
 module _ (n c : ℕ) (m : Moment) (i x : ℕ) (pl : Places n c m) (near : i < n) (up : cursor m.words i ≤ x) where
   abbrev ws' : List ℕ
@@ -101,7 +100,7 @@ module _ {K : Type 0} (hist : K → List Entry) (beg : K → Start) (p : Plan K)
         w,
         keeps,
         tt,
-        moved hist beg p s r (i + 2) new id me.1 keeps r.log r.phase r.holder r.spans r.events v w at (subst Apart (sym (same_tags hist beg p s.views id v w at refl)) r.one_seat_a_station) (logged hist beg p s r) r.home
+        moved hist beg p s r (i + 2) new id me.1 keeps r.log r.phase r.holder r.spans r.events v w at (subst Apart (sym (same_tags hist beg p s.views id v w at refl)) r.one_seat_a_station) (λ e. lead_stays s.views id r.holder v w at (λ q. (q, refl)) (r.held_has_lead e)) (logged hist beg p s r) r.home
             (places_risen n c m i new pl near up (inl (omega arith)) (λ e. not_held m i r.led ir.led_nothing e)) record { tile = r.led.tile; rise = r.led.rise; last_is_holders = r.led.last_is_holders; unled_is_free = r.led.unled_is_free } on
             (λ j u ne f l. (own_risen n c m i new pl near up u.station (apart_from hist beg p s r j id u v f at ne (subst Live (sym role) tt) l) u.role, refl, λ t q. cursor_else n c m i new pl near up t (apart_unmade hist beg p s r j id u v f at ne (subst Live (sym role) tt) l t q))) record {
               seen_is_prefix = pre;
@@ -150,7 +149,7 @@ module _ {K : Type 0} (hist : K → List Entry) (beg : K → Start) (p : Plan K)
         w,
         keeps,
         tt,
-        moved hist beg p s r (i + 2) new id me.1 keeps r.log r.phase r.holder r.spans r.events v w at tags (logged hist beg p s r) r.home
+        moved hist beg p s r (i + 2) new id me.1 keeps r.log r.phase r.holder r.spans r.events v w at tags (λ e. lead_stays s.views id r.holder v w at (λ q. absurd (⊎_elim (λ (f : v.role ≡ Reader). let y : Lead ≡ Reader = sym q ∙ f in cc) (λ (f : v.role ≡ Leaving). let y : Lead ≡ Leaving = sym q ∙ f in cc) role)) (r.held_has_lead e)) (logged hist beg p s r) r.home
             (places_risen n c m i new pl near up (inr is) may.unheld) record { tile = r.led.tile; rise = r.led.rise; last_is_holders = r.led.last_is_holders; unled_is_free = r.led.unled_is_free } on
             (λ j u ne f l. (own_risen n c m i new pl near up u.station (apart_from hist beg p s r j id u v f at ne live l) u.role, refl, λ t q. cursor_else n c m i new pl near up t (apart_unmade hist beg p s r j id u v f at ne live l t q))) record {
               seen_is_prefix = kn.seen_is_prefix;

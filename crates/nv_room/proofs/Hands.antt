@@ -1,6 +1,5 @@
 -- The owner word and the kernel move together: a lead gives the kernel up, and a reader takes it.
-use Rattle.std.proofs.Common.{◌≡◌, ℕ, suc, ◌+◌, ◌*◌, ◌/◌, ◌<◌, ◌≤◌, ◌≢◌, ◌⊎◌, List, [], ◌∷◌, ◌++◌, map, length, get_or, set, sym, refl, ap, ◌∙◌, subst, inl, inr, ⊎_elim, le_refl, le_trans, zero-le, lt_of_not-le, arith, length-append, length-set, get_or-set_other, get_or-set_same}
-use mathlib.Core.Path.{Path}
+use Rattle.std.proofs.Common.{◌≡◌, ℕ, ◌+◌, ◌/◌, ◌<◌, ◌≤◌, ◌≢◌, ◌⊎◌, List, [], ◌∷◌, ◌++◌, map, length, get_or, set, sym, refl, ap, ◌∙◌, subst, inl, inr, ⊎_elim, le_refl, zero-le, lt_of_not-le, arith, length-append, length-set, get_or-set_other, get_or-set_same}
 use mathlib.Core.Logic.{dite}
 use mathlib.Core.Option.{none, some, some-injective, some-ne-none}
 use mathlib.Core.Option as maybe
@@ -16,21 +15,21 @@ use Rattle.atomic_table.proofs.Lists.{set_here}
 use Rattle.nv_calls.specs.Calls.{Entry}
 use Rattle.nv_calls.specs.Logs.{Start, IsLawful, live_after}
 use Rattle.nv_words.specs.Spell.{spell}
-use Rattle.nv_words.specs.SpellLaws.{prefix_length, prefix_same}
+use Rattle.nv_words.proofs.SpellLaws.{prefix_length, prefix_same}
 use Rattle.nv_room.specs.declared.view.View.{View}
 use Rattle.nv_room.specs.declared.view.Plan.{Plan}
 use Rattle.nv_room.specs.declared.view.Span.{Span}
 use Rattle.nv_room.specs.declared.view.Role.{Role}
 use Rattle.nv_room.specs.declared.view.Role.TheVariants.{Reader, Lead, Leaving, Gone, Spent}
-use Rattle.nv_room.specs.Placement.{Log, header, place_of}
+use Rattle.nv_room.specs.Placement.{Log, place_of}
 use Rattle.nv_room.specs.Owner.{GONE, Phase, held, free, closed, owner_word, owner_at}
-use Rattle.nv_room.specs.Spans.{span, Tiles, Rising, of_station}
-use Rattle.nv_room.specs.Room.{cursor, Moment, as_of, Places, Led, Freed, InRole, Live, Tag, tag, Apart, IsKernel, AtHome, Rule}
+use Rattle.nv_room.specs.Spans.{span, Tiles, of_station}
+use Rattle.nv_room.specs.Room.{cursor, Moment, as_of, Places, Led, Freed, InRole, Live, tag, Apart, IsKernel, AtHome, Rule}
 use Rattle.nv_room.specs.Steps.{as_leaving, gave_up, as_lead, took}
 use Rattle.nv_room.proofs.Lists.{at_below, at_end}
 use Rattle.nv_room.proofs.Placement.{place_behind, header_inside}
 use Rattle.nv_room.proofs.Tiling.{tiles_more, rising_more, last_apart, of_more_other, of_more_own}
-use Rattle.nv_room.proofs.Stays.{Onward, Own, Logged, told_on, now, moved}
+use Rattle.nv_room.proofs.Stays.{Onward, Own, told_on, now, moved}
 use Rattle.nv_room.proofs.Seats.{holder_led, none_above, beside_lead, apart_role, apart_from, in_role, seated}
 
 -- A write of the owner word moves no cursor and no place.
@@ -101,7 +100,7 @@ module _ {K : Type 0} (hist : K → List Entry) (beg : K → Start) (p : Plan K)
         w,
         gives,
         tt,
-        moved hist beg p s r 0 new id me.1 gives r.log ph r.holder r.spans (hist k) v w at tags record { spelt = tells ∙ all; lawful = law; ended = ended } (at_home p.start.value (hist k) (homes_after s.homes me.1 gives) ph over home) places led on
+        moved hist beg p s r 0 new id me.1 gives r.log ph r.holder r.spans (hist k) v w at tags (λ e. absurd (over e)) record { spelt = tells ∙ all; lawful = law; ended = ended } (at_home p.start.value (hist k) (homes_after s.homes me.1 gives) ph over home) places led on
             (λ j u ne f l. (beside_lead n c m m' u.station st u.seen u.read u.wrote u.freed ir.is_held ir.is_holder (λ e. apart_from hist beg p s r j id u v f at ne (subst Live (sym role) tt) l (sym e)) refl (cur u.station) u.role (r.each_seat j u f).in_role, refl, λ t _. cur t))
             record {
               seen_is_prefix = kn.seen_is_prefix;
@@ -175,7 +174,7 @@ module _ {K : Type 0} (hist : K → List Entry) (beg : K → Start) (p : Plan K)
         w,
         takes 0 (Some k),
         home.1,
-        moved hist beg p s r 0 new id me.1 (takes 0 (Some k)) r.log held st spans' r.events v w at tags record { spelt = r.log_is_spelt; lawful = r.log_is_lawful; ended = λ e. cc } (set_here s.homes 0 none (at_below s.homes 0 (some (Some k)) home.1)) places led on
+        moved hist beg p s r 0 new id me.1 (takes 0 (Some k)) r.log held st spans' r.events v w at tags (λ _. (id, w, set_here s.views id w (at_below s.views id v at), refl, refl)) record { spelt = r.log_is_spelt; lawful = r.log_is_lawful; ended = λ e. cc } (set_here s.homes 0 none (at_below s.homes 0 (some (Some k)) home.1)) places led on
             (λ j u ne f l. let other : u.station ≢ st = apart_from hist beg p s r j id u v f at ne (subst Live (sym role) tt) l in let ku = r.each_seat j u f in
             (own_at_take m m' pl st v.seen note.is_free mine (omega arith) note.lower_gone u.station u.seen u.read u.wrote u.freed other (prefix_length u.seen r.log ku.seen_is_prefix) (cur u.station) u.role ku.in_role, of_more_other u.station r.spans new_span (λ e. other (sym e)), λ t _. cur t))
             record {

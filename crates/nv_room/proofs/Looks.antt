@@ -1,8 +1,8 @@
 -- Looks keep the rule.
-use Rattle.std.proofs.Common.{◌≡◌, ℕ, ◌+◌, ◌*◌, ◌/◌, ◌%◌, ◌<◌, ◌≤◌, ◌≢◌, ◌⊎◌, Bool, true, false, List, [], ◌∷◌, ◌++◌, length, take, get_or, set, sym, refl, ap, ◌∙◌, subst, inl, inr, ⊎_elim, le_trans, le_refl, lt_of_not-le, arith, length-append, length-set, get_or-set_other, get_or-set_same}
+use Rattle.std.proofs.Common.{◌≡◌, ℕ, ◌+◌, ◌<◌, ◌≤◌, ◌≢◌, ◌⊎◌, true, false, List, [], ◌∷◌, ◌++◌, length, get_or, set, sym, refl, ap, ◌∙◌, subst, inl, inr, ⊎_elim, le_refl, lt_of_not-le, arith}
 use Rattle.std.proofs.lemmas.List.{length-map}
 use mathlib.Core.Logic.{dite}
-use mathlib.Core.Option.{none, some, some-injective, some-ne-none}
+use mathlib.Core.Option.{none, some, some-injective}
 use native.Mathlib.Decide.{ℕ_discrete, dec_le}
 use lib.ListN.{get_elem?}
 use Rattle.std.specs.Prelude.{Option, Some}
@@ -13,16 +13,15 @@ use Rattle.nv_calls.specs.Logs.{Start}
 use Rattle.nv_calls.specs.LogLaws.{lawful_range}
 use Rattle.nv_words.specs.Spell.{IsWhole, spell}
 use Rattle.nv_words.specs.Begins.{Prefix}
-use Rattle.nv_words.specs.SpellLaws.{prefix_length, prefix_same, whole_same, shorter}
+use Rattle.nv_words.proofs.SpellLaws.{prefix_length, prefix_same, whole_same, shorter}
 use Rattle.nv_room.specs.declared.view.View.{View}
 use Rattle.nv_room.specs.declared.view.Plan.{Plan}
-use Rattle.nv_room.specs.declared.view.Role.{Role}
-use Rattle.nv_room.specs.declared.view.Role.TheVariants.{Reader, Lead, Leaving, Gone, Spent}
+use Rattle.nv_room.specs.declared.view.Role.TheVariants.{Reader, Lead}
 use Rattle.nv_room.specs.Placement.{Log, place_of}
-use Rattle.nv_room.specs.Owner.{GONE, Phase, held, free, closed, is_held, is_free, is_closed, owner_at, owner_word, lower_marked, noted}
-use Rattle.nv_room.specs.OwnerLaws.{marked}
-use Rattle.nv_room.specs.Room.{cursor, Moment, as_of, Places, Freed, InRole, Live, tag, Knows, Rule}
-use Rattle.nv_room.specs.Steps.{head_seen, looked_head, owner_seen, looked_owner, Learns, TellsEnd, word_seen, read_word, cursor_seen, looked_cursor, Tells}
+use Rattle.nv_room.specs.Owner.{GONE, Phase, held, free, closed, is_held, is_free, is_closed, owner_at, lower_marked, noted}
+use Rattle.nv_room.proofs.OwnerLaws.{marked}
+use Rattle.nv_room.specs.Room.{cursor, InRole, Rule}
+use Rattle.nv_room.specs.Steps.{head_seen, looked_head, owner_seen, looked_owner, word_seen, read_word, cursor_seen, looked_cursor}
 use Rattle.nv_room.proofs.Lists.{at_below, there, at_end, set_or}
 use Rattle.nv_room.proofs.Owners.{Found, found, as_held, as_free, as_closed, noted_is}
 use Rattle.nv_room.proofs.Tiling.{tiles_none}
@@ -46,7 +45,7 @@ module _ {K : Type 0} (hist : K → List Entry) (beg : K → Start) (p : Plan K)
     tt,
     looked hist beg p s r 1 id me.1 v (head_seen v (get_or s.words 1 0)) at refl
         record { seen_is_prefix = k.seen_is_prefix; read_begins_next = k.read_begins_next; floor_at_most_cursor = k.floor_at_most_cursor; head_seen_at_most_head = omega arith; owner_seen_at_most_head = k.owner_seen_at_most_head; in_role = k.in_role; seated = λ l. let q = k.seated l in record { start_is = q.start_is; places_are = q.places_are; station_is_made = q.station_is_made; spans_are = q.spans_are; unmade_is_new = q.unmade_is_new }; ended_is_told = k.ended_is_told },
-    (refl, omega arith, (let q = prefix_length v.seen r.log k.seen_is_prefix in omega arith), (let q = k.owner_seen_at_most_head in omega arith)),
+    (refl, omega arith, (let q = prefix_length v.seen r.log k.seen_is_prefix in omega arith), (let q = k.owner_seen_at_most_head in omega arith), (let q = k.head_seen_at_most_head in omega arith)),
   )
 
   -- a lead is no further ahead of another station than there are places

@@ -1,8 +1,8 @@
 -- What the owner word's parts are.
-use Rattle.std.proofs.Common.{◌≡◌, ℕ, zero, suc, ◌+◌, ◌*◌, ◌/◌, ◌%◌, ◌<◌, ◌≤◌, ◌≢◌, ◌⊎◌, Bool, true, false, eqb, eq-eqb, ne_eqb, List, [], ◌∷◌, get_or, sym, refl, ap, ◌∙◌, inl, inr, ⊎_elim, Some, arith}
-use Rattle.std.specs.Prelude.{◌&&◌, ◌==◌, Option, if◌then◌else◌}
-use Rattle.nv_room.specs.OwnerLaws.{and_both}
-use Rattle.nv_room.specs.Owner.{GONE, Phase, held, free, closed, owner_word, owner_at, is_held, is_free, is_closed, lower_marked, noted}
+use Rattle.std.proofs.Common.{◌≡◌, ℕ, ◌/◌, ◌%◌, ◌<◌, ◌⊎◌, Bool, true, false, eq-eqb, ne_eqb, List, refl, inl, inr, ⊎_elim, Some, arith}
+use Rattle.std.specs.Prelude.{◌&&◌, Option, if◌then◌else◌}
+use Rattle.nv_room.proofs.OwnerLaws.{and_both}
+use Rattle.nv_room.specs.Owner.{Phase, held, free, closed, owner_word, owner_at, is_held, is_free, is_closed, lower_marked, noted}
 
 pub data Found (n r : ℕ) : Phase → Type 0 where
   as_held : is_held r ≡ true → is_free r ≡ false → is_closed r ≡ false → (owner_at r ≡ 0) × (r < 64) → Found n r held

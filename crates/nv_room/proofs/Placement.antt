@@ -1,7 +1,7 @@
--- The laws of where words stand. No other proof opens `place_of` or `table_words`.
+-- The laws of where words stand and of the window. No other proof opens `place_of`, `table_words` or `Fits`.
 use Rattle.std.proofs.Common.{◌≡◌, ℕ, ◌+◌, ◌*◌, ◌%◌, ◌<◌, ◌≤◌, ◌≢◌, List, [], ◌∷◌, ◌++◌, length, mod-lt, refl, arith}
 use Rattle.atomic_table.proofs.Lists.{one_turn}
-use Rattle.nv_room.specs.Placement.{Log, header, table_words, place_of}
+use Rattle.nv_room.specs.Placement.{Log, header, table_words, place_of, Fits}
 
 -- it stands in the table
 pub place_inside : (n c : ℕ) (log : Log) (i j : ℕ) → 0 < c → j < 518 → place_of n c log i j < table_words n c
@@ -40,10 +40,20 @@ pub words_apart : (n c : ℕ) (log : Log) (i j w : ℕ) → j ≢ w → place_of
 unfolding place_of
 words_apart n c log i j w ne e = let m : ℕ = i % c in let e' : m * 518 + j + (n + 2) ≡ m * 518 + w + (n + 2) = e in ne (omega arith)
 
--- words of two events of the window, the later of which stands behind the log
-pub places_apart : (n c : ℕ) (log : Log) (e : List ℕ) (i j w : ℕ) → i < length log → length log < i + c → j < 518 → w < 518 → place_of n c log i j ≢ place_of n c (log ++ e ∷ []) (length log) w
-unfolding place_of
-places_apart n c log e i j w lt near a b q = let h : ℕ = length log in let x : ℕ = i % c in let y : ℕ = h % c in let q' : x * 518 + j + (n + 2) ≡ y * 518 + w + (n + 2) = q in
+-- an event that fits is less than a window ahead
+pub fits_near : (c : ℕ) (log : Log) (e : List ℕ) (f : ℕ) → Fits c log e f → length log < f + c
+unfolding Fits
+fits_near c log e f h = h
+
+-- and fits as well where readers have read further
+pub fits_later : (c : ℕ) (log : Log) (e : List ℕ) (f g : ℕ) → f ≤ g → Fits c log e f → Fits c log e g
+unfolding Fits
+fits_later c log e f g le h = let h' : length log < f + c = h in omega arith
+
+-- words of two events, the later of which stands behind the log and fits with the earlier one unread
+pub places_apart : (n c : ℕ) (log : Log) (e : List ℕ) (f i j w : ℕ) → i < length log → f ≤ i → Fits c log e f → j < 518 → w < 518 → place_of n c log i j ≢ place_of n c (log ++ e ∷ []) (length log) w
+unfolding place_of Fits
+places_apart n c log e f i j w lt le fits a b q = let ahead : length log < f + c = fits in let near : length log < i + c = omega arith in let h : ℕ = length log in let x : ℕ = i % c in let y : ℕ = h % c in let q' : x * 518 + j + (n + 2) ≡ y * 518 + w + (n + 2) = q in
     let same : i % c ≡ h % c = (let z : x ≡ y = omega arith in z) in let lt' : i < h = lt in let near' : h < i + c = near in let one : i ≡ h = one_turn i h c (omega arith) near' same in omega arith
 
 -- What holds of this placement alone: the code steps from word to word of a place, and needs no log to find it.
@@ -54,3 +64,8 @@ place_on n c log i j = let y : ℕ = i % c in let q : y * 518 + 0 + (n + 2) + j 
 pub place_any : (n c : ℕ) (log log' : Log) (i j : ℕ) → place_of n c log i j ≡ place_of n c log' i j
 unfolding place_of
 place_any n c log log' i j = refl
+
+-- of this window a number of events decides, whatever their words
+pub fits_all : (c : ℕ) (log : Log) (e : List ℕ) (f : ℕ) → length log < f + c → Fits c log e f
+unfolding Fits
+fits_all c log e f h = h

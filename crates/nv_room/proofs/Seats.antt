@@ -1,11 +1,10 @@
 -- What the rule tells of one seat, and that a seat whose role changes is still apart from the others.
-use Rattle.std.proofs.Common.{◌≡◌, ℕ, ◌+◌, ◌<◌, ◌≤◌, ◌≢◌, ◌⊎◌, List, [], ◌∷◌, ◌++◌, map, length, take, set, sym, ap, ◌∙◌, subst, inl, inr, ⊎_elim, arith, length-append}
+use Rattle.std.proofs.Common.{◌≡◌, ℕ, ◌<◌, ◌≤◌, ◌≢◌, List, [], ◌∷◌, ◌++◌, map, length, take, set, sym, ap, ◌∙◌, subst, inl, inr, ⊎_elim, arith, length-append}
 use mathlib.Core.Path.{Path}
 use mathlib.Core.Option.{some, some-ne-none}
 use lib.ListN.{get_elem?}
-use lib.Seq.{map-set}
 use Rattle.std.specs.List.{take-map}
-use Rattle.std.specs.Prelude.{Option, Some}
+use Rattle.std.specs.Prelude.{Option}
 use Rattle.atomic_table.specs.Table.{State}
 use Rattle.atomic_table.proofs.Lists.{at_set, at_map}
 use Rattle.nv_calls.specs.Calls.{Entry}
@@ -21,7 +20,7 @@ use Rattle.nv_room.specs.declared.view.Role.TheVariants.{Reader, Lead, Leaving, 
 use Rattle.nv_room.specs.Placement.{Log}
 use Rattle.nv_room.specs.Owner.{held, free}
 use Rattle.nv_room.specs.Spans.{Rising, of_station}
-use Rattle.nv_room.specs.Room.{cursor, Moment, Led, InRole, Live, Unmade, IsSeated, Tag, tag, Out, Clash, Apart, Rule}
+use Rattle.nv_room.specs.Room.{cursor, Moment, Led, InRole, Live, Unmade, IsSeated, Tag, tag, Clash, Apart, Rule}
 use Rattle.nv_room.specs.Steps.{Tells}
 use Rattle.nv_room.proofs.Lists.{at_end, prefix_take}
 use Rattle.nv_room.proofs.Tiling.{last_of, tiles_none, below_last, of_more_own}

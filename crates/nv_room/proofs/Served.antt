@@ -1,6 +1,11 @@
 -- What the kernel's history tells of an event that is served and not published.
-use Rattle.std.proofs.Common.{refl, suc, take, ◌≡◌, ℕ, ◌+◌, ◌<◌, ◌≤◌, List, [], ◌∷◌, ◌++◌, map, length, sym, ap, ◌∙◌, subst, arith, length-append}
-use Rattle.std.proofs.lemmas.List.{length-map, take_all}
+use Rattle.std.proofs.Common.{refl, suc, take, get_or, lt_of_not-le, Some, ◌≡◌, ℕ, ◌+◌, ◌<◌, ◌≤◌, List, [], ◌∷◌, ◌++◌, map, length, sym, ap, ◌∙◌, subst, arith, length-append}
+use Rattle.std.specs.Prelude.{slice_get}
+use Rattle.std.proofs.lemmas.List.{length-map, take_all, take_more}
+use Rattle.std.proofs.lemmas.Option.{slice_get_within, get_or_from_slice_get}
+use Rattle.std.proofs.Math.ListN.{get_or-eq_default}
+use mathlib.Core.Logic.{dite}
+use native.Mathlib.Decide.{dec_le}
 use mathlib.Core.Option.{some, some-injective}
 use lib.ListN.{get_elem?}
 use Rattle.atomic_table.proofs.Lists.{at_map, at_last}
@@ -8,9 +13,11 @@ use Rattle.nv_calls.specs.Calls.{Entry}
 use Rattle.nv_calls.specs.Logs.{IsLawful}
 use Rattle.nv_calls.specs.LogLaws.{lawful_range, lawful_few}
 use Rattle.nv_words.specs.Spell.{spell, IsWhole}
-use Rattle.nv_words.specs.SpellLaws.{spell_whole}
+use Rattle.nv_words.specs.Begins.{Begins}
+use Rattle.nv_words.proofs.SpellLaws.{spell_whole, shorter}
+use Rattle.nv_room.specs.Kept.{HasNext}
 use Rattle.nv_room.specs.Placement.{Log}
-use Rattle.nv_room.proofs.Lists.{there}
+use Rattle.nv_room.proofs.Lists.{there, at_get}
 
 pub served_whole : (h : List Entry) (xs : Log) (ws : List ℕ) → IsLawful h → map spell h ≡ xs ++ ws ∷ [] → IsWhole ws × (length ws ≤ 518)
 served_whole h xs ws law is = let n : ℕ = length xs in let long : length h ≡ n + 1 = sym (length-map h spell) ∙ ap length is ∙ length-append xs (ws ∷ []) in let y = there h n (omega arith) in
@@ -26,6 +33,28 @@ take_one (x ∷ xs) ws = ap (λ (z : Log). x ∷ z) (take_one xs ws)
 
 pub served_all : (xs : Log) (ws : List ℕ) (n : ℕ) → length xs ≡ n → take (n + 1) (xs ++ ws ∷ []) ≡ xs ++ ws ∷ []
 served_all xs ws n h = let k : suc (length xs) ≡ n + 1 = omega arith in subst (λ (m : ℕ). take m (xs ++ ws ∷ []) ≡ xs ++ ws ∷ []) k (take_one xs ws)
+
+-- with no event due there are no words of one
+pub no_words : (h : List Entry) (n : ℕ) → length h ≡ n → get_or (map spell h) n [] ≡ []
+no_words h n long = get_or-eq_default (map spell h) [] (omega (arith, length-map h spell))
+
+-- the words of an event of a lawful history, where there is this event
+pub few_words : (h : List Entry) (n : ℕ) → IsLawful h → length (get_or (map spell h) n []) ≤ 518
+few_words h n law = dite (dec_le (length h) n)
+    (λ le. subst (λ (z : List ℕ). length z ≤ 518) (sym (get_or-eq_default (map spell h) [] (let l = length-map h spell in let q : length (map spell h) ≤ n = omega arith in q))) (omega arith))
+    (λ gt. let y = there h n (lt_of_not-le gt) in subst (λ (z : List ℕ). length z ≤ 518) (sym (at_get (map spell h) n (spell y.0) [] (at_map spell h n y.0 y.1))) (spell_whole y.0 (lawful_range h n y.0 law y.1)).1)
+
+-- the word i is one of at most so many
+pub word_near : (ws : List ℕ) (i x : ℕ) → slice_get ws i ≡ Some x → length ws ≤ 518 → i < 518
+word_near ws i x at few = let l = slice_get_within ws i x at in omega arith
+
+-- one more word of the event is written
+pub one_more : (wrote ws : List ℕ) (n i x : ℕ) → wrote ≡ take n ws → n ≡ i → slice_get ws i ≡ Some x → wrote ++ x ∷ [] ≡ take (i + 1) ws
+one_more wrote ws n i x is same at = (λ k. is k ++ sym (get_or_from_slice_get ws i x 0 at) k ∷ []) ∙ ap (λ (z : ℕ). take z ws ++ get_or ws i 0 ∷ []) same ∙ sym (take_more ws i 0 (slice_get_within ws i x at))
+
+-- words that begin an event and aren't whole leave a place for one more
+pub begun_next : (words : List ℕ) → Begins words → HasNext words
+begun_next words b part = let s = spell_whole b.0 b.1 in let l = shorter words (spell b.0) b.2 s.0 part in let m = s.1 in omega arith
 
 -- with no event due, the history is the seen list
 pub whole_history : (h : List Entry) (n : ℕ) (xs : Log) → take n (map spell h) ≡ xs → length h ≡ n → map spell h ≡ xs

@@ -1,5 +1,5 @@
 -- What a clause says of the seats that have left, at the room's end.
-use Rattle.std.specs.Prelude.{◌≡◌, ◌<◌, ◌+◌, ℕ, List, map, length, take}
+use Rattle.std.specs.Prelude.{◌≡◌, ◌<◌, ℕ, List, length, take}
 use mathlib.Core.Option.{some}
 use lib.ListN.{get_elem?}
 use Rattle.nv_calls.specs.declared.kernel.SyscallKernel.{Ghosts}
@@ -40,9 +40,10 @@ module _ {K : Type 0} {G : Ghosts K} where
     pub led : (left_view r).spans ≡ of_station r.station spans
     pub before : Before spans r.station (left_view r).seen (left_view r).read
 
-  -- the spans of the stations tile the history in order of station
+  -- the spans, each of one of the room's stations, tile the history in order of station
   pub record AllTell (history : Log) (counts : List ℕ) (rs : List (Left K G)) : Type 0 where
     pub spans : List Span
     pub tile : Tiles 0 spans (length history)
     pub rise : Rising 0 spans
+    pub made : (i : ℕ) (x : Span) → get_elem? spans i ≡ some x → x.station < length counts
     pub each : (i : ℕ) (r : Left K G) → get_elem? rs i ≡ some r → TellsOf history counts spans r

@@ -1,5 +1,5 @@
 -- The owner word: who holds the kernel or held it last, and, where it is not held, at how many events.
-use Rattle.std.specs.Prelude.{◌≡◌, ℕ, zero, suc, ◌+◌, ◌*◌, ◌/◌, ◌%◌, ◌==◌, ◌&&◌, Bool, true, false, List, [], ◌∷◌, Option, Some, if◌then◌else◌}
+use Rattle.std.specs.Prelude.{ℕ, zero, suc, ◌+◌, ◌*◌, ◌/◌, ◌%◌, ◌==◌, ◌&&◌, Bool, true, false, List, [], ◌∷◌, Option, Some, if◌then◌else◌}
 
 -- a cursor word that says that the station has left; it is above every count
 abbrev pub GONE : ℕ

@@ -57,6 +57,7 @@ impl<K: SyscallKernel> Lead<K> {
         ensures start { K.start (kernel_of self.new) ≡ K.start (kernel_of self.old) }
     {
         self.kernel.serve(call);
+        let _log = self.kernel.history();
         self.due = true;
     }
 

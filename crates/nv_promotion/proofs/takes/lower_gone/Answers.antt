@@ -1,5 +1,5 @@
-use Rattle.std.proofs.Common.{arith, ◌≡◌, ◌<◌, ◌≤◌}
-use Rattle.nv_room.specs.OwnerLaws.{marks_all}
+use Rattle.std.proofs.Common.{arith}
+use Rattle.nv_room.proofs.OwnerLaws.{marks_all}
 use Rattle.nv_room.specs.Seats.{view}
 use Rattle.nv_promotion.proofs.takes.lower_gone.Goals as goal
 

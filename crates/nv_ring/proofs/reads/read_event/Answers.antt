@@ -4,6 +4,7 @@ use Rattle.nv_words.specs.Spell.{IsWhole}
 use Rattle.nv_room.specs.Steps.{Tells}
 use Rattle.nv_room.specs.Seats.{view}
 use Rattle.nv_ring.proofs.Events.{begins_short}
+use Rattle.nv_ring.proofs.Keeping.{keeps_reading}
 use Rattle.nv_ring.proofs.reads.read_event.Goals as goal
 
 pub loop-i-preserved : goal.loop-i-preserved
@@ -13,7 +14,7 @@ loop-i-preserved g c = let i = c.loop-i.invariant in let e = c.read_word-word.en
     record {
       same = (e.same.0 ∙ i.same.0, e.same.1 ∙ i.same.1, e.same.2 ∙ i.same.2);
       of = e.of;
-      kept = record { seen = ap (λ w. w.seen) v ∙ i.kept.seen; floors = ap (λ w. w.floors) v ∙ i.kept.floors; cursor_looks = ap (λ w. w.cursor_looks) v ∙ i.kept.cursor_looks; spans = ap (λ w. w.spans) v ∙ i.kept.spans };
+      kept = keeps_reading _ _ c.read_word-word.result _ v i.kept;
       ahead = subst (λ w. length w.seen < w.head_last) (sym v) i.ahead;
       read = read;
       at = at;
@@ -26,7 +27,7 @@ returns-in-Whole-clause-read g c = let i = c.loop-i.invariant in let e = c.read_
     let read : (view c.read_word-word.new.reader).read ≡ c.put.new.self = ap (λ w. w.read) v ∙ ap (λ (z : List ℕ). z ++ c.read_word-word.result ∷ []) i.read ∙ sym now in
     let same = ap (λ w. w.seen) v in
     record {
-      kept = record { seen = same ∙ i.kept.seen; floors = ap (λ w. w.floors) v ∙ i.kept.floors; cursor_looks = ap (λ w. w.cursor_looks) v ∙ i.kept.cursor_looks; spans = ap (λ w. w.spans) v ∙ i.kept.spans };
+      kept = keeps_reading _ _ c.read_word-word.result _ v i.kept;
       published = subst (λ w. length w.seen < w.head_last) (sym v) i.ahead;
       read = read;
       whole = c.in-Whole.ensures.whole;

@@ -1,12 +1,11 @@
-use Rattle.std.proofs.Common.{arith, sym, ap, subst, ◌∙◌, ◌≡◌, ◌<◌, ◌≤◌, ◌+◌, ◌++◌, ◌∷◌, [], ℕ, List, length, map, get_or, Some}
+use Rattle.std.proofs.Common.{arith, sym, ap, subst, ◌∙◌, ◌≡◌, ◌<◌, ◌+◌, ◌++◌, ◌∷◌, [], ℕ, List, length, map, get_or, Some}
 use Rattle.std.specs.Prelude.{slice_get}
-use Rattle.std.proofs.lemmas.Option.{same_Some}
+use Rattle.std.proofs.lemmas.Option.{same_Some, slice_get-get_or}
 use Rattle.nv_calls.specs.Calls.{Entry, entry}
 use Rattle.nv_calls.specs.Logs.{InRange, IsLawful}
 use Rattle.nv_words.specs.Spell.{spell, bit}
-use Rattle.nv_words.specs.SpellLaws.{spell_whole}
 use Rattle.nv_room.specs.Seats.{lead_view, kernel_of}
-use Rattle.nv_ring.proofs.Events.{entry_at, last_spelt, one_more, as_long, take_len}
+use Rattle.nv_ring.proofs.Events.{entry_at, spelt_at, last_spelt, one_more, as_long, take_len}
 use Rattle.nv_ring.proofs.writes.write_event.Goals as goal
 
 pub count-words-requires : goal.count-words-requires
@@ -34,7 +33,7 @@ word-next-requires g c =
     let range : InRange (entry c.index-history-at-in-loop-i.result) = (law c.seen-at.result _ again).range in
     let words : c.count-words.result ≡ length (spell (entry c.index-history-at-in-loop-i.result)) = c.count-words.ensures ∙ ap (λ (z : Entry). length (spell z)) same in
     let t = c.loop-i-test.true in
-    record { payload = range.short; ret = range.ret; below = omega arith }
+    record { payload = range.short; below = omega arith }
 
 pub write_word-requires-clause-next : goal.write_word-requires-clause-next
 write_word-requires-clause-next g c κs within =
@@ -49,18 +48,23 @@ write_word-requires-clause-next g c κs within =
     let words : c.count-words.result ≡ length (spell (entry c.index-history-at.result)) = c.count-words.ensures in
     as_long (lead_view c.loop-i.lead).wrote c.loop-i.i (spell (entry c.index-history-at.result)) (i.wrote _ first) (omega arith)
 
-pub write_word-requires-clause-small : goal.write_word-requires-clause-small
-write_word-requires-clause-small g c κs within =
+pub write_word-requires-clause-word : goal.write_word-requires-clause-word
+write_word-requires-clause-word g c κs within =
     let l = c.args.lead.now in
     let log : List Entry = g.K.SyscallKernel.log (kernel_of l) in
+    let i = c.loop-i.invariant in
     let long : length log ≡ l.seen + 1 = l.longer ∙ ap (λ b. l.seen + bit b) c.requires.due in
     let at : c.seen-at.result ≡ l.seen = sym c.seen-at.ensures.count ∙ l.seen_is in
-    let law : IsLawful log = subst IsLawful (ap g.K.SyscallKernel.log c.kernel.ensures) c.history.ensures.lawful in
-    let first = entry_at c.history.result.now log c.seen-at.result c.index-history-at.result (c.history.ensures.log ∙ ap g.K.SyscallKernel.log c.kernel.ensures) (omega arith) c.index-history-at.is in
-    let short : length (spell (entry c.index-history-at.result)) ≤ 518 = (spell_whole _ (law c.seen-at.result _ first).range).1 in
-    let words : c.count-words.result ≡ length (spell (entry c.index-history-at.result)) = c.count-words.ensures in
+    let near : c.seen-at.result < length log = omega arith in
+    let first = entry_at c.history.result.now log c.seen-at.result c.index-history-at.result (c.history.ensures.log ∙ ap g.K.SyscallKernel.log c.kernel.ensures) near c.index-history-at.is in
+    let again = entry_at c.history-in-loop-i.result.now log c.seen-at.result c.index-history-at-in-loop-i.result (c.history-in-loop-i.ensures.log ∙ ap g.K.SyscallKernel.log (c.kernel-in-loop-i.ensures ∙ i.kernel)) near c.index-history-at-in-loop-i.is in
+    let same : entry c.index-history-at.result ≡ entry c.index-history-at-in-loop-i.result = same_Some _ _ (sym first ∙ again) in
+    let words : c.count-words.result ≡ length (spell (entry c.index-history-at-in-loop-i.result)) = c.count-words.ensures ∙ ap (λ (z : Entry). length (spell z)) same in
     let t = c.loop-i-test.true in
-    omega arith
+    let seen : length (lead_view c.loop-i.lead).seen ≡ c.seen-at.result = ap length i.seen ∙ l.seen_is ∙ sym at in
+    let is : get_or (map spell (g.K.SyscallKernel.log (kernel_of c.loop-i.lead))) (length (lead_view c.loop-i.lead).seen) [] ≡ spell (entry c.index-history-at-in-loop-i.result) =
+    ap (λ k. get_or (map spell (g.K.SyscallKernel.log k)) (length (lead_view c.loop-i.lead).seen) []) i.kernel ∙ ap (λ z. get_or (map spell log) z []) seen ∙ spelt_at log c.seen-at.result _ again in
+    subst (λ (z : List ℕ). slice_get z c.loop-i.i ≡ Some c.word-next.result) (sym is) (slice_get-get_or (spell (entry c.index-history-at-in-loop-i.result)) c.loop-i.i 0 (omega arith) ∙ ap Some (sym c.word-next.ensures))
 
 pub loop-i-preserved : goal.loop-i-preserved
 loop-i-preserved g c =

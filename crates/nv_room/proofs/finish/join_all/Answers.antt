@@ -1,4 +1,4 @@
-use Rattle.std.proofs.Common.{rules, arith, refl, sym, ap, ◌≡◌, ◌∙◌, subst, ℕ, List, [], ◌∷◌, ◌++◌, length}
+use Rattle.std.proofs.Common.{rules, arith, refl, sym, ap, ◌≡◌, ◌∙◌, subst, [], ◌∷◌, ◌++◌, length}
 use Rattle.nv_room.specs.Steps.{past_of, joined}
 use Rattle.nv_room.specs.Seats.{with_ended}
 use Rattle.nv_room.proofs.Comings.{joins}

@@ -1,6 +1,6 @@
 use Rattle.std.proofs.Common.{arith, ap, length}
 use Rattle.nv_calls.specs.Calls.{entry}
-use Rattle.nv_words.specs.SpellLaws.{spell_length}
+use Rattle.nv_words.proofs.SpellLaws.{spell_length}
 use Rattle.nv_words.proofs.spelling.count.Goals as goal
 
 pub returns : goal.returns

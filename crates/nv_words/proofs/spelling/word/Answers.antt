@@ -2,10 +2,8 @@ use Rattle.std.proofs.Common.{arith, sym, ap, refl, Bool, true, false, ◌∙◌
 use Rattle.nv_calls.specs.Calls.{entry}
 use Rattle.byteorder.specs.Endian.{little_from}
 use Rattle.nv_words.specs.Spell.{spell, bit}
-use Rattle.nv_words.specs.SpellLaws.{spell_length, spell_late}
-use mir.Val.{of_z, bool_byte}
-use mir.Syntax.{w32}
-use Rattle.std.proofs.lemmas.Int.{to_z-of_z}
+use Rattle.nv_words.proofs.SpellLaws.{spell_length, spell_late}
+use mir.Val.{bool_byte}
 use Rattle.nv_words.proofs.spelling.word.Goals as goal
 
 bit_is : (b : Bool) → bool_byte b ≡ bit b
@@ -43,5 +41,5 @@ pub returns-in-5 : goal.returns-in-5
 unfolding spell
 returns-in-5 c = let e = c.args.event.now in
     c.pair-in-5.ensures
-    ∙ (λ k. (c.cast_unsigned.ensures ∙ ap (of_z w32) (to_z-of_z w32 e.reply.ret c.requires.ret)) k + 4294967296 * (length (c.as_slice-sent.ensures.bytes k) + 65536 * length (c.as_slice-came.ensures.bytes k)))
+    ∙ (λ k. c.bits_of.ensures k + 4294967296 * (length (c.as_slice-sent.ensures.bytes k) + 65536 * length (c.as_slice-came.ensures.bytes k)))
     ∙ ap (slice_index (spell (entry e))) (sym c.in-5.is)

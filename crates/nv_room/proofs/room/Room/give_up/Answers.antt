@@ -1,9 +1,8 @@
-use Rattle.std.proofs.Common.{rules, arith, ap, sym, subst, ℕ, ◌+◌, ◌<◌, ◌≡◌, ◌≢◌, ◌∙◌, List, [], ◌∷◌, map, length, refl, false, ⊎_elim}
+use Rattle.std.proofs.Common.{arith, ap, sym, subst, ℕ, ◌+◌, ◌<◌, ◌≡◌, ◌≢◌, ◌∙◌, [], ◌∷◌, map, length, ⊎_elim}
 use Rattle.std.proofs.lemmas.List.{nil_from_length}
 use Rattle.std.specs.Prelude.{Some}
 use Rattle.std.specs.Option.{ForSome}
-use Rattle.atomic_table.specs.Table.{Allows, step, rest}
-use mathlib.Core.Option.{none}
+use Rattle.atomic_table.specs.Table.{rest}
 use Rattle.nv_calls.specs.Logs.{live_after}
 use Rattle.nv_words.specs.Spell.{spell, bit}
 use Rattle.nv_room.specs.Owner.{Phase, held, free, closed, owner_word}

@@ -1,4 +1,4 @@
-use Rattle.std.proofs.Common.{rules, arith, ap, sym, subst, ℕ, ◌+◌, ◌<◌, ◌∙◌, refl, inr}
+use Rattle.std.proofs.Common.{rules, arith, sym, subst, ℕ, ◌+◌, ◌<◌, refl, inr}
 use Rattle.nv_room.proofs.Placement.{header_inside}
 use Rattle.nv_room.proofs.Cursors.{leaves_at}
 use Rattle.nv_room.proofs.room.Room.leave_step.Goals as goal

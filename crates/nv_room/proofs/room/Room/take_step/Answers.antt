@@ -1,4 +1,4 @@
-use Rattle.std.proofs.Common.{rules, arith, ap, sym, subst, ℕ, zero, suc, ◌+◌, ◌<◌, ◌≤◌, ◌≡◌, ◌∙◌, [], ◌∷◌, ◌++◌, List, map, take, get_or, length, refl, zero-le, add-zero}
+use Rattle.std.proofs.Common.{rules, arith, ap, sym, subst, ℕ, zero, suc, ◌<◌, ◌≤◌, ◌≡◌, ◌∙◌, [], ◌∷◌, List, map, get_or, length, refl, zero-le, add-zero}
 use Rattle.std.specs.Prelude.{Some, None}
 use Rattle.std.specs.Option.{ForSome}
 use Rattle.std.proofs.lemmas.List.{length-map, take_all}
@@ -8,7 +8,7 @@ use Rattle.nv_words.specs.Spell.{spell}
 use Rattle.nv_room.specs.Placement.{place_of}
 use Rattle.nv_room.specs.Owner.{owner_word, held}
 use Rattle.nv_room.proofs.Placement.{header_inside}
-use Rattle.nv_room.proofs.Served.{same_head}
+use Rattle.nv_room.proofs.Served.{same_head, no_words}
 use Rattle.nv_room.proofs.Hands.{takes_lead}
 use Rattle.nv_room.proofs.room.Room.take_step.Goals as goal
 
@@ -49,6 +49,8 @@ invariant_of-result g c = let r = c.args.reader in let t = c.store.ensures.2 in 
       seen_is = ap (λ w. length w.seen) v ∙ r.seen_is;
       wrote_is = ap (λ w. length w.wrote) v ∙ ap length t.4;
       quiet = λ z. refl;
+      part = ap (λ w. w.wrote) v ∙ t.4;
+      short = subst (λ (z : List ℕ). length z ≤ 518) (sym (no_words h r.seen long)) (omega arith);
       few = (r.few, omega arith);
       floors_are = λ s b. zeros s c.exchange-inside.new.seat.me.0.floors;
       next_is = c.place-next.ensures ∙ (λ j. place_of (sym (ap (λ w. length w.floors) v ∙ o.3) j) (sym (ap (λ w. w.places) v ∙ o.2) j) [] r.seen 0);
