@@ -8,7 +8,7 @@ use Rattle.nv_machine.specs.Guest.{Machine}
 use Rattle.nv_threads.specs.Behaviours.{Behaviour}
 use Rattle.nv_threads.specs.Threads.{Proc, threads}
 use Rattle.nv_replay.specs.Versions.{Running, IsFresh, process_of}
-use Rattle.nv_sequence.specs.Accounts.{AreFresh}
+use Rattle.nv_replay.specs.Accounts.{AreFresh}
 use Rattle.nv_cli.specs.Account.{begun}
 use Rattle.nv_cli.specs.Prepared.{Loads, Prepared, Unknown, Refused, Ready, behind, version_then, versions_from, ComesTo, IsVersionTold, AreVersionsTold, is_long, version_of}
 use Rattle.nv_cli.specs.Prepared.{script_then, IsScriptTold, IsReached}

@@ -10,8 +10,8 @@ use Rattle.nv_replay.specs.declared.standing.Standing.{Standing}
 use Rattle.nv_replay.specs.Follow.{is_exited, no_rules}
 use Rattle.nv_replay.specs.Lead.{is_memory}
 use Rattle.nv_replay.specs.Sequence.{Account, sequence, cuts_of}
-use Rattle.nv_sequence.specs.Accounts.{AreSettled}
-use Rattle.nv_sequence.specs.Alone.{SurvivorsAgree}
+use Rattle.nv_replay.specs.Accounts.{AreSettled}
+use Rattle.nv_replay.specs.Alone.{SurvivorsAgree}
 
 -- a version has as many instructions as the limits say
 abbrev pub begun : Limits → Machine → Proc

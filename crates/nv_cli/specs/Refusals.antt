@@ -9,7 +9,7 @@ use Rattle.nv_script.specs.declared.fault.ScriptFault.{ScriptFault}
 use Rattle.nv_machine.specs.Guest.{Machine}
 use Rattle.nv_threads.specs.Threads.{Proc, threads}
 use Rattle.nv_replay.specs.Versions.{Running, process_of}
-use Rattle.nv_sequence.specs.Accounts.{AreFresh}
+use Rattle.nv_replay.specs.Accounts.{AreFresh}
 use Rattle.nv_cli.specs.Account.{begun}
 use Rattle.nv_cli.specs.Prepared.{VersionOf, Loads, Ready, Refused, Faulty, ComesTo, AreVersionsTold, IsReached, TookLong, is_long, prepared, version_of, versions_from}
 use Rattle.nv_cli.specs.declared.refusal.Place.{Place}

@@ -5,7 +5,7 @@ ghost use Rattle.nv_script.specs.Scripts.{script_of, is_script};
 ghost use Rattle.nv_script.specs.Views.{setup_of};
 ghost use Rattle.nv_threads.specs.Threads.{threads};
 ghost use Rattle.nv_replay.specs.Versions.{IsFresh};
-ghost use Rattle.nv_sequence.specs.Accounts.{AreFresh};
+ghost use Rattle.nv_replay.specs.Accounts.{AreFresh};
 ghost use Rattle.nv_cli.specs.Account.{begun};
 ghost use Rattle.nv_command.specs.Seen.{limits_view, names_view, plan_view};
 ghost use Rattle.nv_cli.specs.Prepared.{Loads, version_of};

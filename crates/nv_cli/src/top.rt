@@ -10,7 +10,7 @@ ghost use Rattle.nv_threads.specs.Threads.{threads};
 ghost use Rattle.nv_replay.specs.Follow.{is_exited};
 ghost use Rattle.nv_replay.specs.Lead.{is_memory};
 ghost use Rattle.nv_replay.specs.Versions.{standing_of, process_of};
-ghost use Rattle.nv_sequence.specs.Accounts.{AreFresh};
+ghost use Rattle.nv_replay.specs.Accounts.{AreFresh};
 ghost use Rattle.nv_cli.specs.Account.{begun, run_status};
 ghost use Rattle.nv_command.specs.Words.{Plan, Job, Runs, Uses, command_of, name_in, texts};
 ghost use Rattle.nv_command.specs.Seen.{limits_view, plan_view};
@@ -152,7 +152,7 @@ fn run_versions<S: Sink>(
     ensures { (machines : List Machine) → map process_of versions.items ≡ map (begun (limits_view limits)) machines
         → Ran (limits_view limits) json kernel.setup machines (S.told sink.old) (S.faults sink.old) result (S.told sink.new) (S.faults sink.new) }
 {
-    let account = nv_sequence::run(versions, kernel, limits.calls);
+    let account = nv_sequence::run(versions, None, kernel, limits.calls);
     if json {
         put_json(alloc, &account, sink)
     } else {

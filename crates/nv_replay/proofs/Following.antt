@@ -1,15 +1,15 @@
 -- One decision, by what the guest came to.
-use Rattle.std.proofs.Common.{◌≡◌, sym, ap, refl, ℕ, true, false, Some, cond}
-use Rattle.nv_calls.specs.Calls.{Entry, is_same}
+use Rattle.std.proofs.Common.{◌≡◌, sym, ap, refl, ℕ, ◌+◌, true, false, Option, Some, None, cond}
+use Rattle.nv_calls.specs.Calls.{Entry, Response, is_same}
 use Rattle.nv_threads.specs.Behaviours.{Behaviour}
 use Rattle.nv_threads.specs.declared.turns.Want.TheVariants.{Only}
 use Rattle.nv_threads.specs.declared.turns.Came.{Came}
 use Rattle.nv_threads.specs.declared.turns.Came.TheVariants.{Asked, Fault}
 use Rattle.nv_machine.specs.declared.outcome.FaultKind.{FaultKind}
 use Rattle.nv_replay.specs.declared.fate.Fate.{Fate}
-use Rattle.nv_replay.specs.declared.fate.Fate.TheVariants.{Fault as Faulted, Refused}
-use Rattle.nv_replay.specs.Permits.{Permit, Give, Drop, No}
-use Rattle.nv_replay.specs.Follow.{Follower, Judge, decided, met, judged, consumed, permit_by, refusal_by, no_rules}
+use Rattle.nv_replay.specs.declared.fate.Fate.TheVariants.{Fault as Faulted}
+use Rattle.nv_replay.specs.Permits.{Permit, Give, Drop, No, HasGiven}
+use Rattle.nv_replay.specs.Follow.{Follower, Judge, decided, met, judged, consumed, permit_by, refusal_by}
 
 module _ {P : Type 0} (g : Behaviour P) (judge : Judge) (e : Entry) (s : Follower P) where
   judged_again : (q p : P) (t : ℕ) (f : Fate) (o : Permit) → judged g (record s { process = q }) p t f o ≡ judged g s p t f o
@@ -46,8 +46,26 @@ module _ {P : Type 0} (g : Behaviour P) (judge : Judge) (e : Entry) (s : Followe
   unfolding met
   met_other p t h = rw h refl
 
--- without rules another call than the event's is refused
-pub met_refused : {P : Type 0} (g : Behaviour P) (e : Entry) (s : Follower P) (p : P) (t : ℕ) → is_same (g.call p t) e.call ≡ false
-    → met g no_rules e s p (Asked t) ≡ record s { process = p; fate = Some (Refused (g.call p t).tid (g.call p t).nr e.stamp 0) }
-unfolding judged
-met_refused g e s p t h = met_other g no_rules e s p t h
+module _ {P : Type 0} (g : Behaviour P) (s : Follower P) (p : P) (t : ℕ) (f : Fate) where
+  pub judged_give : (o : Permit) (r : Response) → o ≡ Give r
+      → judged g s p t f o ≡ record s { process = g.answered p t r; rewrites = s.rewrites + 1 }
+  unfolding judged
+  judged_give o r h = rw h refl
+
+  pub judged_drop : (o : Permit) → o ≡ Drop → judged g s p t f o ≡ record s { process = p; seen = s.seen + 1; rewrites = s.rewrites + 1 }
+  unfolding judged
+  judged_drop o h = rw h refl
+
+  pub judged_no : (o : Permit) → o ≡ No → judged g s p t f o ≡ record s { process = p; fate = Some f }
+  unfolding judged
+  judged_no o h = rw h refl
+
+-- what an answer by a constant tells
+module _ {P : Type 0} (g : Behaviour P) (t : ℕ) (old new : P) where
+  pub not_given : (o : Option Response) → HasGiven g o t old new false → (o ≡ None) × (new ≡ old)
+  not_given None h = (refl, h.0)
+  not_given (Some r) h = let z : false ≡ true = h.1 in cc
+
+  pub was_given : (o : Option Response) → HasGiven g o t old new true → (r : Response) × (o ≡ Some r) × (new ≡ g.answered old t r)
+  was_given None h = let z : true ≡ false = h.1 in cc
+  was_given (Some r) h = (r, refl, h.0)

@@ -1,5 +1,6 @@
 pub mod Settled
 pub mod Following
+pub mod Obeying
 pub mod Leading
 pub mod Falling
 pub mod Stepping
@@ -7,3 +8,8 @@ pub mod Wholes
 pub mod Extending
 pub mod Surviving
 pub mod Spanning
+pub mod Turning
+pub mod Wholly
+pub mod Fates
+pub mod Survivor
+pub mod Telling

@@ -3,7 +3,7 @@ use Rattle.std.proofs.Common.{◌≡◌, ◌∙◌, sym, ap, subst, refl, ℕ, z
 use Rattle.std.specs.Prelude.{slice_get, option_map, Contains, ℤ, pos, ◌||◌, ◌&&◌, not, ◌==◌, nat_le, ◌-ℤ◌}
 use Rattle.std.proofs.lemmas.Bool.Decides.{nat_tests}
 use Rattle.nv_calls.specs.Calls.{Request, Response, Entry, is_same}
-use Rattle.nv_calls.specs.Logs.{IsLawful, live_next, live_from, live_after, child_of, made}
+use Rattle.nv_calls.specs.Logs.{IsLawful, IsNew, live_next, live_from, live_after, child_of, made}
 use Rattle.nv_calls.specs.SameLaws.{same_is}
 use Rattle.nv_threads.specs.Behaviours.{Behaviour, IsProcess, event_of}
 use Rattle.nv_threads.specs.declared.turns.Want.TheVariants.{Only}
@@ -11,9 +11,10 @@ use Rattle.nv_threads.specs.declared.turns.Came.{Came}
 use Rattle.nv_threads.specs.declared.turns.Came.TheVariants.{Asked, Fault}
 use Rattle.nv_replay.specs.declared.fate.Fate.{Fate}
 use Rattle.nv_replay.specs.declared.fate.Fate.TheVariants.{Exited}
-use Rattle.nv_replay.specs.declared.verdict.Verdict.{Verdict}
-use Rattle.nv_replay.specs.declared.verdict.Verdict.TheVariants.{Allow, Errno, Skip, Refuse}
-use Rattle.nv_replay.specs.Permits.{Permit, Give, Drop, No, permit, given, is_of_threads, verdict_of}
+use Rattle.nv_rules.specs.declared.outcome.Verdict.{Verdict}
+use Rattle.nv_rules.specs.declared.outcome.Verdict.TheVariants.{Allow, Errno, Skip, Refuse}
+use Rattle.nv_rules.specs.Verdicts.{verdict_of}
+use Rattle.nv_replay.specs.Permits.{Permit, Give, Drop, No, permit, given, is_of_threads}
 use Rattle.nv_calls.specs.Constants.{constant_of}
 use Rattle.nv_replay.specs.Follow.{Follower, Judge, decided, met, judged, consumed, permit_by, refusal_by, IsInStep, is_exited}
 use Rattle.nv_replay.proofs.Falling.{within}
@@ -76,6 +77,13 @@ threads_constant c h = elim (or_true _ _ _ h) [
 constant_quiet : (c : Request) (b : Bool) (r : Response) → is_of_threads c.nr ≡ b → given (constant_of c) ≡ Give r → is_of_threads c.nr ≡ false
 constant_quiet c true r e h = let z : No ≡ Give r = sym (ap given (threads_constant c e)) ∙ h in cc
 constant_quiet c false r e h = e
+
+-- a reply that a rule gives makes no thread
+pub quiet_new : (live : List ℕ) (nr : ℕ) (ret : ℤ) → is_of_threads nr ≡ false → IsNew live (made nr ret)
+quiet_new live nr ret h = let k : made nr ret ≡ None = made_none nr ret (or_false _ _ _ h).0 in rw k tt
+
+pub constant_new : (live : List ℕ) (c : Request) (r : Response) (ret : ℤ) → constant_of c ≡ Some r → IsNew live (made c.nr ret)
+constant_new live c r ret h = quiet_new live c.nr ret (constant_quiet c (is_of_threads c.nr) r refl (ap given h))
 
 errno_quiet : (a b : Bool) (x : Response) (r : Response) → cond (a && not b) (Give x) No ≡ Give r → b ≡ false
 errno_quiet a false x r h = refl

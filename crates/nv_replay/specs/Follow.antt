@@ -8,10 +8,14 @@ use Rattle.nv_threads.specs.declared.turns.Came.{Came}
 use Rattle.nv_threads.specs.declared.turns.Came.TheVariants.{Asked, Fault}
 use Rattle.nv_replay.specs.declared.fate.Fate.{Fate}
 use Rattle.nv_replay.specs.declared.fate.Fate.TheVariants.{Exited, Fault as Faulted, Refused}
-use Rattle.nv_replay.specs.declared.verdict.Verdict.{Verdict}
+use Rattle.nv_bpf.specs.declared.op.Op.{Op}
+use Rattle.nv_rules.specs.declared.outcome.Verdict.{Verdict}
+use Rattle.nv_rules.specs.Pairs.{pair_words}
+use Rattle.nv_rules.specs.Values.{value_of}
+use Rattle.nv_rules.specs.Verdicts.{verdict_of}
 use Rattle.nv_replay.specs.declared.version.Followed.{Followed}
 use Rattle.nv_replay.specs.declared.version.Followed.TheVariants.{Matched, Rewrote, Skipped, Dropped}
-use Rattle.nv_replay.specs.Permits.{Permit, Give, Drop, No, permit, verdict_of}
+use Rattle.nv_replay.specs.Permits.{Permit, Give, Drop, No, permit}
 use Rattle.nv_replay.specs.Settling.{stage}
 
 -- the process, the events consumed, the rewrites, and the end if there is one
@@ -32,6 +36,11 @@ Judge = Request → Entry → ℕ
 abbrev pub no_rules : Judge
 no_rules c e = 0
 
+-- the judge of the version with this number, where the rule file is this filter, or there is none
+abbrev pub judge_of : Option (List Op) → ℕ → Judge
+judge_of None i c e = 0
+judge_of (Some filter) i c e = value_of filter (pair_words c e i)
+
 -- the event's reply has answered the call
 abbrev pub consumed : {P : Type 0} → Behaviour P → Follower P → P → Follower P
 consumed g s p = record s { process = p; seen = s.seen + 1; fate = option_map Exited (g.ended p) }
@@ -42,12 +51,16 @@ judged g s p t refused (Give reply) = record s { process = g.answered p t reply;
 judged g s p t refused Drop = record s { process = p; seen = s.seen + 1; rewrites = s.rewrites + 1 }
 judged g s p t refused No = record s { process = p; fate = Some refused }
 
+-- the call is refused in place of the event, by this value
+abbrev pub refusal_of : Request → Entry → ℕ → Fate
+refusal_of c e value = Refused c.tid c.nr e.stamp value
+
 module _ (judge : Judge) (e : Entry) (c : Request) where
   abbrev pub permit_by : Permit
   permit_by = permit c e (verdict_of (judge c e))
 
   abbrev pub refusal_by : Fate
-  refusal_by = Refused c.tid c.nr e.stamp (judge c e)
+  refusal_by = refusal_of c e (judge c e)
 
 module _ {P : Type 0} (g : Behaviour P) (judge : Judge) (e : Entry) (s : Follower P) where
   -- the guest has come to this

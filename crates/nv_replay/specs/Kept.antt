@@ -2,8 +2,9 @@
 use Rattle.std.specs.Prelude.{ℕ, ◌+◌, ◌≤◌, List}
 use Rattle.nv_replay.specs.Spans.{EndBy}
 
--- of the events seen, the rewrites with the calls that are left, and the parts that it led
-pub record IsKept (seen calls : ℕ) (led : List (ℕ × ℕ)) : Type 0 where
+-- of the events seen, the rewrites with the calls that are left, the parts that it led, and the room for a reply
+pub record IsKept (seen calls : ℕ) (led : List (ℕ × ℕ)) (room : ℕ) : Type 0 where
   pub few_seen : seen ≤ 131072
   pub few_calls : calls ≤ seen + 1000000008
   pub in_spans : EndBy seen led
+  pub has_room : 4096 ≤ room

@@ -6,3 +6,6 @@ pub mod Spans
 pub mod Kept
 pub mod Versions
 pub mod Sequence
+pub mod Turns
+pub mod Accounts
+pub mod Alone

@@ -1,17 +1,10 @@
 -- What a rule lets a version do that makes another call than the log has next.
-use Rattle.std.specs.Prelude.{ℕ, pos, ◌-ℤ◌, ◌/◌, ◌%◌, Bool, ◌==◌, ◌||◌, ◌&&◌, not, nat_le, [], Option, Some, None, if◌then◌else◌}
+use Rattle.std.specs.Prelude.{◌≡◌, ℕ, pos, ◌-ℤ◌, Bool, true, false, ◌==◌, ◌||◌, ◌&&◌, not, nat_le, [], Option, Some, None, if◌then◌else◌}
 use Rattle.nv_calls.specs.Calls.{Request, Response, Entry}
 use Rattle.nv_calls.specs.Constants.{constant_of}
-use Rattle.nv_replay.specs.declared.verdict.Verdict.{Verdict}
-use Rattle.nv_replay.specs.declared.verdict.Verdict.TheVariants.{Allow, Errno, Skip, Refuse}
-
--- the high half of a rule's value tells which (seccomp(2))
-abbrev pub verdict_of : ℕ → Verdict
-verdict_of value =
-    if value / 65536 == 0x7FFF then Allow
-    else if value / 65536 == 5 then Errno (value % 65536)
-    else if value / 65536 == 6 then Skip
-    else Refuse value
+use Rattle.nv_threads.specs.Behaviours.{Behaviour}
+use Rattle.nv_rules.specs.declared.outcome.Verdict.{Verdict}
+use Rattle.nv_rules.specs.declared.outcome.Verdict.TheVariants.{Allow, Errno, Skip, Refuse}
 
 -- clone, exit, exit_group
 abbrev pub is_of_threads : ℕ → Bool
@@ -28,8 +21,20 @@ abbrev pub given : Option Response → Permit
 given None = No
 given (Some reply) = Give reply
 
+-- the call has this error: errors go up to 4,095 (errno(3))
+abbrev pub failed : Request → ℕ → Permit
+failed c k = if nat_le k 4095 && not (is_of_threads c.nr) then Give (record { ret = pos 0 -ℤ pos k; payload = [] }) else No
+
+abbrev pub passed : Entry → Permit
+passed e = if is_of_threads e.call.nr then No else Drop
+
 abbrev pub permit : Request → Entry → Verdict → Permit
 permit c e Allow = given (constant_of c)
-permit c e (Errno k) = if nat_le k 4095 && not (is_of_threads c.nr) then Give (record { ret = pos 0 -ℤ pos k; payload = [] }) else No
-permit c e Skip = if is_of_threads e.call.nr then No else Drop
+permit c e (Errno k) = failed c k
+permit c e Skip = passed e
 permit c e (Refuse value) = No
+
+-- the thread's call has been answered so, where there is such a reply
+abbrev pub HasGiven : {P : Type 0} → Behaviour P → Option Response → ℕ → P → P → Bool → Type 0
+HasGiven g None t old new result = (new ≡ old) × (result ≡ false)
+HasGiven g (Some reply) t old new result = (new ≡ g.answered old t reply) × (result ≡ true)

@@ -3,9 +3,9 @@
 
 mod account;
 mod fate;
+mod judging;
 mod spans;
 mod standing;
-mod verdict;
 mod version;
 mod whole_log;
 
@@ -13,6 +13,5 @@ pub use account::Account;
 pub use fate::Fate;
 pub use spans::Spans;
 pub use standing::Standing;
-pub use verdict::Verdict;
 pub use version::{Followed, Led, Version};
 pub use whole_log::follow_all;

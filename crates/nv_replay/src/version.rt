@@ -1,19 +1,31 @@
 // A version of the guest, as follower and as leader.
-ghost use Rattle.std.specs.Prelude.{◌≡◌, ◌≢◌, [], ◌∷◌, ◌+◌, ◌<◌, Some, None, IfOk, IfSome, Contains, true};
+ghost use Rattle.std.specs.Prelude.{◌≡◌, ◌≢◌, [], ◌∷◌, ◌+◌, ◌<◌, Some, None, IfOk, IfSome, Contains, true, option_map};
 ghost use Rattle.nv_calls.specs.Calls.{request, entry};
 ghost use Rattle.nv_calls.specs.Logs.{IsNew, child_of};
 ghost use Rattle.nv_calls.specs.Shapes.{IsShaped};
 ghost use Rattle.nv_threads.specs.Behaviours.{IsStarted};
 ghost use Rattle.nv_threads.specs.Threads.{threads};
 ghost use Rattle.nv_threads.specs.declared.turns.Came.{Came};
-ghost use Rattle.nv_replay.specs.Follow.{Told, verdict_on, decided, met, consumed, fresh, no_rules};
+ghost use Rattle.nv_calls.specs.Constants.{constant_of};
+ghost use Rattle.nv_rules.specs.Verdicts.{verdict_of};
+ghost use Rattle.nv_replay.specs.Follow.{Told, verdict_on, decided, met, consumed, judged, refusal_of, fresh, judge_of};
+ghost use Rattle.nv_replay.specs.Permits.{No, given, failed, passed, permit};
 ghost use Rattle.nv_replay.specs.Versions.{Running, IsFresh, IsFollowing, IsLeading, LedTo, asking_next, asking_by, answered_by, standing_of};
 
-use crate::{Fate, Spans, Standing, Verdict};
-use nv_calls::{Call, Event, same};
+use crate::judging::{give_constant, is_of_threads, judge};
+use crate::{Fate, Spans, Standing};
+use nv_bpf::Filter;
+use nv_calls::{Bytes, Call, Event, same};
+use nv_rules::{Verdict, verdict};
 use nv_threads::{Came, FaultKind, Process, Want};
 use std::alloc::{AllocError, Global};
 use std::marker::Model;
+
+// the payload of a call and its reply (the limit of bytes a call)
+const MOST_BYTES: u32 = 4096;
+
+// the greatest number of an error (errno(3))
+const MOST_ERROR: u16 = 4095;
 
 /// One version of the guest: its process, and how far it has come along the log.
 #[derive(Drop)]
@@ -22,6 +34,8 @@ pub struct Version {
     process: Process,
     standing: Standing,
     asked: Option<u32>,
+    // the bytes of a reply that a rule gives
+    scratch: Bytes,
 }
 
 impl Model for Version {
@@ -34,7 +48,7 @@ impl Model for Version {
 
     ghost view = { λ v. record { index = v.index; at = record { process = v.process; seen = v.standing.seen; rewrites = v.standing.rewrites; fate = v.standing.fate }; led = v.standing.led; asked = v.asked } };
 
-    ghost invariant = { λ v. IsKept v.standing.seen (v.standing.rewrites + threads.calls_left v.process) v.standing.led };
+    ghost invariant = { λ v. IsKept v.standing.seen (v.standing.rewrites + threads.calls_left v.process) v.standing.led v.scratch.room };
 }
 
 /// What a follower has made of an event.
@@ -68,6 +82,7 @@ impl Version {
         ensures process { IfOk result (λ v. v.at.process ≡ process) }
     {
         let led = Spans::make(alloc)?;
+        let scratch = Bytes::make(alloc, MOST_BYTES)?;
         Ok(Version {
             index,
             process,
@@ -78,43 +93,135 @@ impl Version {
                 rewrites: 0,
             },
             asked: None,
+            scratch,
         })
     }
 
-    /// One decision on the next event of the log, without a rule file.
+    /// One decision on the next event of the log; without rules only the event's own call is permitted.
     #[tactic(auto, using(nv_threads::specs::ThreadLaws::threads_keeps, nv_threads::specs::ThreadLaws::threads_asked, nv_threads::specs::ThreadLaws::threads_live, nv_threads::specs::ThreadLaws::threads_only, nv_threads::specs::ThreadLaws::threads_on, crate::proofs::Following::decided_fault, crate::proofs::Following::decided_asked))]
-    pub fn follow(&mut self, event: &Event) -> Followed
+    pub fn follow(&mut self, rules: Option<&Filter>, event: &Event) -> Followed
         requires following { IsFollowing self.old }
         requires stamp { event.now.stamp ≡ self.old.at.seen }
         requires below { self.old.at.seen < 131072 }
         requires lives { Contains (threads.live self.old.at.process) event.now.call.tid }
         requires new { IsNew (threads.live self.old.at.process) (child_of (entry event.now)) }
-        ensures new { self.new ≡ record self.old { at = decided threads no_rules (entry event.now) self.old.at } }
-        ensures told { Told (verdict_on threads no_rules (entry event.now) self.old.at) result self.old.at self.new.at }
+        ensures new { let judge = judge_of (option_map (λ f. f.now) rules.entry) self.old.index in
+            self.new ≡ record self.old { at = decided threads judge (entry event.now) self.old.at } }
+        ensures told { let judge = judge_of (option_map (λ f. f.now) rules.entry) self.old.index in
+            Told (verdict_on threads judge (entry event.now) self.old.at) result self.old.at self.new.at }
     {
         match self.process.advance(Want::Only(event.call.tid)) {
             Came::Fault { kind, tid, pc } => self.end(Fate::Fault { kind, tid, pc }),
-            Came::Asked(tid) => self.meet(tid, event),
+            Came::Asked(tid) => self.meet(rules, tid, event),
         }
     }
 
-    fn meet(&mut self, tid: u32, event: &Event) -> Followed
+    fn meet(&mut self, rules: Option<&Filter>, tid: u32, event: &Event) -> Followed
         requires following { IsFollowing self.old }
         requires pending { threads.pending self.old.at.process tid ≡ true }
         requires new { IsNew (threads.live self.old.at.process) (child_of (entry event.now)) }
         requires below { self.old.at.seen < 131072 }
-        ensures new { self.new ≡ record self.old { at = met threads no_rules (entry event.now) self.old.at self.old.at.process (Came.Asked tid) } }
-        ensures told { Told (Verdict.Refuse 0) result self.old.at self.new.at }
+        ensures new { let judge = judge_of (option_map (λ f. f.now) rules.entry) self.old.index in
+            self.new ≡ record self.old { at = met threads judge (entry event.now) self.old.at self.old.at.process (Came.Asked tid) } }
+        ensures told { let judge = judge_of (option_map (λ f. f.now) rules.entry) self.old.index in
+            Told (verdict_of (judge (threads.call self.old.at.process tid) (entry event.now))) result self.old.at self.new.at }
     {
         let call = self.process.pending(tid);
         if same(call, event) {
             return self.consume(tid, event);
         }
+        let value = judge(rules, call, event, self.index);
+        self.obey(tid, event, value)
+    }
+
+    /// The call isn't the event's, and the rules have this value on the two.
+    fn obey(&mut self, tid: u32, event: &Event, value: u32) -> Followed
+        requires following { IsFollowing self.old }
+        requires pending { threads.pending self.old.at.process tid ≡ true }
+        requires below { self.old.at.seen < 131072 }
+        ensures new { let call = threads.call self.old.at.process tid in
+            self.new ≡ record self.old {
+              at = judged threads self.old.at self.old.at.process tid (refusal_of call (entry event.now) value)
+                  (permit call (entry event.now) (verdict_of value));
+            } }
+        ensures told { Told (verdict_of value) result self.old.at self.new.at }
+    {
+        match verdict(value) {
+            Verdict::Allow => self.allow(tid, event, value),
+            Verdict::Errno(error) => self.fail_call(tid, event, value, error),
+            Verdict::Skip => self.pass(tid, event, value),
+            Verdict::Refuse(_) => self.refuse(tid, event, value),
+        }
+    }
+
+    fn allow(&mut self, tid: u32, event: &Event, value: u32) -> Followed
+        requires following { IsFollowing self.old }
+        requires pending { threads.pending self.old.at.process tid ≡ true }
+        ensures new { let call = threads.call self.old.at.process tid in
+            self.new ≡ record self.old {
+              at = judged threads self.old.at self.old.at.process tid (refusal_of call (entry event.now) value)
+                  (given (constant_of call));
+            } }
+        ensures told { Told Verdict.Allow result self.old.at self.new.at }
+    {
+        if !give_constant(&mut self.process, tid, &mut self.scratch) {
+            return self.refuse(tid, event, value);
+        }
+        self.standing.rewrites += 1;
+        Followed::Rewrote(Verdict::Allow)
+    }
+
+    /// The call has this error in place of the kernel's reply, where there is such an error.
+    fn fail_call(&mut self, tid: u32, event: &Event, value: u32, error: u16) -> Followed
+        requires following { IsFollowing self.old }
+        requires pending { threads.pending self.old.at.process tid ≡ true }
+        ensures new { let call = threads.call self.old.at.process tid in
+            self.new ≡ record self.old {
+              at = judged threads self.old.at self.old.at.process tid (refusal_of call (entry event.now) value)
+                  (failed call error);
+            } }
+        ensures told { Told (Verdict.Errno error) result self.old.at self.new.at }
+    {
+        if error > MOST_ERROR || is_of_threads(self.process.pending(tid).nr) {
+            return self.refuse(tid, event, value);
+        }
+        self.process.answer(tid, -i32::from(error), &[]);
+        self.standing.rewrites += 1;
+        Followed::Rewrote(Verdict::Errno(error))
+    }
+
+    /// The event is passed over; the call still waits.
+    fn pass(&mut self, tid: u32, event: &Event, value: u32) -> Followed
+        requires following { IsFollowing self.old }
+        requires pending { threads.pending self.old.at.process tid ≡ true }
+        requires below { self.old.at.seen < 131072 }
+        ensures new { let call = threads.call self.old.at.process tid in
+            self.new ≡ record self.old {
+              at = judged threads self.old.at self.old.at.process tid (refusal_of call (entry event.now) value)
+                  (passed (entry event.now));
+            } }
+        ensures told { Told Verdict.Skip result self.old.at self.new.at }
+    {
+        if is_of_threads(event.call.nr) {
+            return self.refuse(tid, event, value);
+        }
+        self.standing.seen += 1;
+        self.standing.rewrites += 1;
+        Followed::Skipped
+    }
+
+    fn refuse(&mut self, tid: u32, event: &Event, value: u32) -> Followed
+        requires pending { threads.pending self.old.at.process tid ≡ true }
+        ensures new { let call = threads.call self.old.at.process tid in
+            self.new ≡ record self.old { at = record self.old.at { fate = Some (refusal_of call (entry event.now) value) } } }
+        ensures told { (v : Verdict) → Told v result self.old.at self.new.at }
+    {
+        let call = self.process.pending(tid);
         let refused = Fate::Refused {
             tid: call.tid,
             nr: call.nr,
             stamp: event.stamp,
-            verdict: 0,
+            verdict: value,
         };
         self.end(refused)
     }

@@ -1,9 +1,12 @@
-//! Tests of the JSON form of a report: what is written is read back and compared with the run.
+//! Tests of whole runs over a process and the kernel: by rules, and the report's JSON form, which is read back and compared
+//! with the run.
 #![tactic(auto)]
 
 mod runs;
 
-pub use runs::{alone, pair};
+pub use runs::{alone, judged_pair, pair};
 
+#[cfg(test)]
+mod rules;
 #[cfg(test)]
 mod tests;

@@ -2,8 +2,9 @@
 ghost use Rattle.std.specs.Prelude.{◌≡◌, ◌≤◌, IfSome, length};
 ghost use Rattle.nv_threads.specs.Threads.{threads};
 ghost use Rattle.nv_replay.specs.Versions.{IsFresh};
-ghost use Rattle.nv_sequence.specs.Accounts.{AreFresh};
+ghost use Rattle.nv_replay.specs.Accounts.{AreFresh};
 
+use nv_bpf::Filter;
 use nv_guest::Guest;
 use nv_kernel::ScriptKernel;
 use nv_replay::{Account, Version};
@@ -51,26 +52,36 @@ fn version(alloc: Global, index: u32, words: &[u32]) -> Option<Version>
     Version::make(alloc, index, process).ok()
 }
 
-fn run(alloc: Global, versions: Vec<Version>) -> Option<Account<ScriptKernel>>
+fn run(alloc: Global, versions: Vec<Version>, rules: Option<&Filter>) -> Option<Account<ScriptKernel>>
     requires fresh { AreFresh threads 0 versions.items }
     requires few { length versions.items ≤ 8 }
 {
     let script = nv_script::read(alloc, b"varan-script 1").ok()?;
     let kernel = ScriptKernel::make(alloc, &script).ok()?;
-    Some(nv_sequence::run(versions, kernel, MOST_EVENTS))
+    Some(nv_sequence::run(versions, rules, kernel, MOST_EVENTS))
 }
 
 /// The account of a run of one program.
 pub fn alone(alloc: Global, words: &[u32]) -> Option<Account<ScriptKernel>> {
     let version = version(alloc, 0, words)?;
     let versions = vec![in alloc; version].ok()?;
-    run(alloc, versions)
+    run(alloc, versions, None)
 }
 
-/// The account of a run of two programs.
+/// The account of a run of two programs without rules.
 pub fn pair(alloc: Global, first: &[u32], second: &[u32]) -> Option<Account<ScriptKernel>> {
+    pair_by(alloc, first, second, None)
+}
+
+/// The account of a run of two programs by a filter in the form that `tcpdump -ddd` prints.
+pub fn judged_pair(alloc: Global, first: &[u32], second: &[u32], rules: &str) -> Option<Account<ScriptKernel>> {
+    let filter = nv_bpf::read(alloc, rules.as_bytes()).ok()?;
+    pair_by(alloc, first, second, Some(&filter))
+}
+
+fn pair_by(alloc: Global, first: &[u32], second: &[u32], rules: Option<&Filter>) -> Option<Account<ScriptKernel>> {
     let first = version(alloc, 0, first)?;
     let second = version(alloc, 1, second)?;
     let versions = vec![in alloc; first, second].ok()?;
-    run(alloc, versions)
+    run(alloc, versions, rules)
 }

@@ -1,6 +1,5 @@
 -- The account of the versions from one on, from its line and the account of those behind it.
-use Rattle.std.proofs.Common.{◌≡◌, ◌∙◌, sym, ap, subst, refl, ℕ, ◌+◌, ◌≤◌, Bool, true, false, List, [], ◌∷◌, ◌++◌, map, length, Option, Some, None, arith, append_assoc, append-nil}
-use Rattle.std.specs.Prelude.{not, ◌&&◌}
+use Rattle.std.proofs.Common.{◌≡◌, ◌∙◌, sym, ap, subst, refl, ℕ, ◌+◌, ◌≤◌, Bool, true, false, List, [], ◌∷◌, ◌++◌, map, length, Option, None, arith, append_assoc, append-nil}
 use Rattle.nv_calls.specs.Calls.{Entry}
 use Rattle.nv_calls.specs.Logs.{Start}
 use Rattle.nv_threads.specs.Behaviours.{Behaviour, IsProcess}
@@ -8,16 +7,13 @@ use Rattle.nv_replay.specs.declared.fate.Fate.{Fate}
 use Rattle.nv_replay.specs.declared.standing.Standing.{Standing}
 use Rattle.nv_replay.specs.Follow.{Follower, Judge, follow, fresh, IsInStep, is_exited}
 use Rattle.nv_replay.specs.Lead.{Leader, lead, cut_of}
-use Rattle.nv_replay.specs.Sequence.{leads, is_on, follower_line, leader_line, sequence_from}
+use Rattle.nv_replay.specs.Sequence.{leads, follower_line, leader_line, sequence_from}
 use Rattle.nv_replay.specs.Versions.{Running, IsFresh, leader_of, standing_of, process_of}
 use Rattle.nv_replay.proofs.Extending.{follow_on, in_step_on, lead_grows}
-use Rattle.nv_sequence.specs.Turns.{HasLed}
-use Rattle.nv_sequence.specs.Accounts.{IsLonger, TurnDone, with_span}
-
-pub on_none : (over : Bool) (f : Option Fate) → (not over && is_on f) ≡ true → f ≡ None
-on_none true f h = cc
-on_none false None h = refl
-on_none false (Some x) h = cc
+use Rattle.nv_replay.specs.Turns.{HasLed}
+use Rattle.nv_replay.specs.Accounts.{with_span}
+use Rattle.nv_replay.proofs.Fates.{on_none}
+use Rattle.nv_sequence.specs.Passing.{IsLonger, TurnDone}
 
 module _ {P : Type 0} (g : Behaviour P) (laws : IsProcess g) (judges : ℕ → Judge) (replies : Start) (most : ℕ) where
   -- a version that was passed over

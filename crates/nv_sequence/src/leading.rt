@@ -5,7 +5,7 @@ ghost use Rattle.nv_threads.specs.Threads.{threads};
 ghost use Rattle.nv_replay.specs.Follow.{IsInStep};
 ghost use Rattle.nv_replay.specs.Sequence.{is_on};
 ghost use Rattle.nv_replay.specs.Versions.{IsLeading, answered_by};
-ghost use Rattle.nv_sequence.specs.Turns.{TookTurn, HasLed};
+ghost use Rattle.nv_replay.specs.Turns.{TookTurn, HasLed};
 
 use nv_calls::SyscallKernel;
 use nv_replay::{Led, Version};

@@ -1,46 +1,58 @@
 // The versions in order.
-ghost use Rattle.std.specs.Prelude.{◌≡◌, ◌↔◌, IsTrue, ◌≤◌, ◌+◌, ◌∷◌, [], ℕ, true, Option, None, length, map};
+ghost use Rattle.std.specs.Prelude.{◌≡◌, ◌↔◌, IsTrue, ◌≤◌, ◌+◌, ◌∷◌, [], ℕ, true, Option, None, length, map, option_map};
 ghost use Rattle.nv_calls.specs.Logs.{live_after};
 ghost use Rattle.nv_threads.specs.Threads.{threads};
-ghost use Rattle.nv_replay.specs.Follow.{IsInStep, no_rules};
+ghost use Rattle.nv_replay.specs.Follow.{IsInStep, judge_of};
 ghost use Rattle.nv_replay.specs.Sequence.{Account, leads, sequence_from, sequence, cuts_of};
 ghost use Rattle.nv_replay.specs.Versions.{standing_of, process_of};
-ghost use Rattle.nv_sequence.specs.Accounts.{IsLonger, AreSettled, AreFresh, AreCuts, TurnDone};
-ghost use Rattle.nv_sequence.specs.Alone.{SurvivorsAgree};
+ghost use Rattle.nv_replay.specs.Accounts.{AreSettled, AreFresh, AreCuts};
+ghost use Rattle.nv_sequence.specs.Passing.{IsLonger, TurnDone};
+ghost use Rattle.nv_replay.specs.Alone.{SurvivorsAgree};
 
 use crate::lead_all;
+use nv_bpf::Filter;
 use nv_calls::SyscallKernel;
 use nv_replay::{Account, Fate, Version, follow_all};
 
-/// The whole monitor: the first version leads, the others follow its log, and where a leader ends otherwise than by an exit,
-/// the next version that is in step with the whole log goes on from there.
-pub fn run<K: SyscallKernel>(mut versions: Vec<Version>, mut kernel: K, most: u32) -> Account<K>
+/// The whole monitor: the first version leads, the others follow its log, judged by the rules if there are any, and where a
+/// leader ends otherwise than by an exit, the next version that is in step with the whole log goes on from there.
+pub fn run<K: SyscallKernel>(
+    mut versions: Vec<Version>,
+    rules: Option<&Filter>,
+    mut kernel: K,
+    most: u32,
+) -> Account<K>
     requires fresh { AreFresh threads 0 versions.items }
     requires few { length versions.items ≤ 8 }
     requires most { most ≤ 131072 }
     requires empty { K.log kernel ≡ [] }
     ensures account { record { log = K.log result.kernel; lines = map standing_of result.versions.items }
-        ≡ sequence threads (λ i. no_rules) (K.start kernel) most (cuts_of (map standing_of result.versions.items)) (map process_of versions.items) }
+        ≡ sequence threads (judge_of (option_map (λ f. f.now) rules.entry)) (K.start kernel) most (cuts_of (map standing_of result.versions.items)) (map process_of versions.items) }
     ensures start { K.start result.kernel ≡ K.start kernel }
     ensures settled { AreSettled (map standing_of result.versions.items) }
     ensures survivor { SurvivorsAgree threads (K.start kernel) most (map process_of versions.items) (map standing_of result.versions.items) (K.log result.kernel) }
 {
-    run_all(&mut versions, &mut kernel, most);
+    run_all(&mut versions, rules, &mut kernel, most);
     Account { kernel, versions }
 }
 
-fn run_all<K: SyscallKernel>(versions: &mut [Version], kernel: &mut K, most: u32)
+fn run_all<K: SyscallKernel>(
+    versions: &mut [Version],
+    rules: Option<&Filter>,
+    kernel: &mut K,
+    most: u32,
+)
     requires fresh { AreFresh threads 0 versions.old }
     requires few { length versions.old ≤ 8 }
     requires most { most ≤ 131072 }
     requires empty { K.log kernel.old ≡ [] }
     ensures account { record { log = K.log kernel.new; lines = map standing_of versions.new }
-        ≡ sequence threads (λ i. no_rules) (K.start kernel.old) most (cuts_of (map standing_of versions.new)) (map process_of versions.old) }
+        ≡ sequence threads (judge_of (option_map (λ f. f.now) rules.entry)) (K.start kernel.old) most (cuts_of (map standing_of versions.new)) (map process_of versions.old) }
     ensures start { K.start kernel.new ≡ K.start kernel.old }
     ensures settled { AreSettled (map standing_of versions.new) }
     ensures survivor { SurvivorsAgree threads (K.start kernel.old) most (map process_of versions.old) (map standing_of versions.new) (K.log kernel.new) }
 {
-    run_from(versions, 0, kernel, most, false);
+    run_from(versions, 0, rules, kernel, most, false);
     let _log = kernel.history();
 }
 
@@ -48,6 +60,7 @@ fn run_all<K: SyscallKernel>(versions: &mut [Version], kernel: &mut K, most: u32
 fn run_from<K: SyscallKernel>(
     versions: &mut [Version],
     first: u32,
+    rules: Option<&Filter>,
     kernel: &mut K,
     most: u32,
     over: bool,
@@ -58,18 +71,19 @@ fn run_from<K: SyscallKernel>(
     requires over { over ≡ true → live_after (K.log kernel.old) ≡ [] }
     ensures account { (cuts : ℕ → Option ℕ) → AreCuts first (map standing_of versions.new) cuts →
         record { log = K.log kernel.new; lines = map standing_of versions.new }
-        ≡ sequence_from threads (λ i. no_rules) (K.start kernel.old) most cuts (map process_of versions.old) first (K.log kernel.old) over }
+        ≡ sequence_from threads (judge_of (option_map (λ f. f.now) rules.entry)) (K.start kernel.old) most cuts (map process_of versions.old) first (K.log kernel.old) over }
     ensures start { K.start kernel.new ≡ K.start kernel.old }
     ensures stands { over ≡ true → K.log kernel.new ≡ K.log kernel.old }
     ensures settled { AreSettled (map standing_of versions.new) }
     ensures grows { IsLonger (K.log kernel.old) (K.log kernel.new) }
 {
     if let Some((version, others)) = versions.split_first_mut() {
-        follow_all(version, kernel.history());
+        let log = kernel.history();
+        follow_all(version, rules, log);
         let over = take_turn(version, kernel, most, over);
-        run_from(others, first + 1, kernel, most, over);
+        run_from(others, first + 1, rules, kernel, most, over);
         if is_follower(version) {
-            follow_all(version, kernel.history());
+            follow_all(version, rules, kernel.history());
         }
     }
 }

@@ -1,6 +1,6 @@
 use Rattle.std.proofs.Common.{◌≡◌, ◌≤◌, ℕ, List, take}
 use Rattle.nv_threads.specs.Threads.{threads}
-use Rattle.nv_sequence.specs.Accounts.{AreFresh}
+use Rattle.nv_replay.specs.Accounts.{AreFresh}
 use Rattle.nv_command.specs.Seen.{limits_view, names_view}
 use Rattle.nv_script.specs.Views.{setup_of}
 use Rattle.nv_cli.specs.Refusals.{AreLoaded}

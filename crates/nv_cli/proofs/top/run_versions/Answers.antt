@@ -6,7 +6,7 @@ use Rattle.nv_replay.specs.Sequence.{sequence, cuts_of}
 use Rattle.nv_replay.specs.Versions.{standing_of}
 use Rattle.nv_report.specs.Json.{json_text}
 use Rattle.nv_report.specs.Report.{report_text}
-use Rattle.nv_sequence.specs.Alone.{SurvivorsAgree}
+use Rattle.nv_replay.specs.Alone.{SurvivorsAgree}
 use Rattle.nv_threads.specs.Threads.{Proc, threads}
 use Rattle.nv_cli.specs.Account.{run_status}
 use Rattle.nv_cli.specs.Outcome.{Says, Wrote}

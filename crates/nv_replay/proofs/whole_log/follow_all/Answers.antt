@@ -1,10 +1,11 @@
-use Rattle.std.proofs.Common.{sym, subst, ◌<◌, ℕ, List, map, length}
+use Rattle.std.proofs.Common.{◌∙◌, sym, ap, subst, ◌<◌, ℕ, List, map, length, option_map}
 use Rattle.std.specs.Prelude.{Contains}
 use Rattle.nv_calls.specs.Calls.{entry}
 use Rattle.nv_calls.specs.Logs.{IsNew, child_of}
-use Rattle.nv_threads.specs.Threads.{threads}
+use Rattle.nv_threads.specs.Threads.{threads, Proc}
 use Rattle.nv_threads.specs.ThreadLaws.{thread_laws}
-use Rattle.nv_replay.specs.Follow.{no_rules}
+use Rattle.nv_replay.specs.Follow.{decided, judge_of}
+use Rattle.nv_replay.specs.Versions.{Running}
 use Rattle.nv_replay.proofs.Falling.{decided_falls, within}
 use Rattle.nv_replay.proofs.Wholes.{goes_here, goes_on, whole, length_map}
 use Rattle.nv_replay.proofs.whole_log.follow_all.Goals as goal
@@ -35,14 +36,17 @@ loop-event-smaller c =
     let next = c.in-Some.ensures.next in
     let below : c.loop-event.version.at.seen < length c.args.log.now = rw (← length_map c.args.log.now)
     (within (map entry c.args.log.now) _ _ next.at) in
-    rw (c.follow-told.ensures.new) (decided_falls threads thread_laws no_rules (length c.args.log.now) (entry c.in-Some.event.now)
-    c.loop-event.version.at below next.on)
+    rw (c.follow-told.ensures.new) (decided_falls threads thread_laws (judge_of (option_map (λ f. f.now) c.args.rules) c.loop-event.version.index)
+    (length c.args.log.now) (entry c.in-Some.event.now) c.loop-event.version.at below next.on)
 
 pub loop-event-preserved : goal.loop-event-preserved
 loop-event-preserved c =
     let next = c.in-Some.ensures.next in
-    goes_on threads thread_laws no_rules _ c.args.version.now c.loop-event.version c.follow-told.new.self (entry c.in-Some.event.now)
-    c.requires.lawful next.at next.on c.loop-event.invariant c.follow-told.ensures.new
+    let decides : ℕ → Running Proc = λ i. record c.loop-event.version
+    { at = decided threads (judge_of (option_map (λ f. f.now) c.args.rules) i) (entry c.in-Some.event.now) c.loop-event.version.at } in
+    goes_on threads thread_laws (judge_of (option_map (λ f. f.now) c.args.rules) c.args.version.now.index) _ c.args.version.now
+    c.loop-event.version c.follow-told.new.self (entry c.in-Some.event.now) c.requires.lawful next.at next.on c.loop-event.invariant
+    (c.follow-told.ensures.new ∙ ap decides (ap (λ (r : Running Proc). r.index) c.loop-event.invariant.rest))
 
 pub returns-clause-new : goal.returns-clause-new
 returns-clause-new c = whole threads thread_laws _ _ c.args.version.now c.loop-event.version c.loop-event.invariant c.in_default.ensures.rests

@@ -3,7 +3,7 @@ use Rattle.nv_threads.specs.Threads.{threads}
 use Rattle.nv_threads.specs.ThreadLaws.{thread_laws}
 use Rattle.nv_replay.specs.Versions.{leader_of}
 use Rattle.nv_replay.proofs.Falling.{lead_size}
-use Rattle.nv_sequence.proofs.Wholly.{LedSo}
+use Rattle.nv_replay.proofs.Wholly.{LedSo}
 use Rattle.nv_sequence.proofs.leading.lead_all.Given as goal
 
 abbrev pub invariant-loop-on : goal.invariant-loop-on

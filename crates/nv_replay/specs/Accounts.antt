@@ -1,14 +1,10 @@
 -- What a run begins with and what its account is.
-use Rattle.std.specs.Prelude.{◌≡◌, ℕ, ◌+◌, ◌≤◌, Bool, true, false, List, [], ◌∷◌, ◌++◌, length, Option}
-use Rattle.nv_calls.specs.Calls.{Entry}
-use Rattle.nv_calls.specs.Logs.{Start}
+use Rattle.std.specs.Prelude.{◌≡◌, ℕ, ◌+◌, ◌≤◌, false, List, [], ◌∷◌, length, Option}
 use Rattle.nv_threads.specs.Behaviours.{Behaviour}
-use Rattle.nv_replay.specs.Follow.{is_exited}
 use Rattle.nv_replay.specs.Lead.{cut_of}
 use Rattle.nv_replay.specs.declared.standing.Standing.{Standing}
 use Rattle.nv_replay.specs.Sequence.{is_on}
 use Rattle.nv_replay.specs.Versions.{Running, IsFresh}
-use Rattle.nv_sequence.specs.Turns.{HasLed}
 
 -- versions as they were made, with the numbers from this one on
 abbrev pub AreFresh : {P : Type 0} → Behaviour P → ℕ → List (Running P) → Type 0
@@ -22,16 +18,6 @@ AreCuts i (line ∷ lines) cuts = (cuts i ≡ cut_of line.fate line.seen) × Are
 
 abbrev pub with_span : {P : Type 0} → Running P → ℕ → Running P
 with_span r n = record r { led = (n, n) ∷ [] }
-
--- a version has led, or was passed over
-abbrev pub TurnDone : {P : Type 0} → Behaviour P → Start → ℕ → Bool → Running P → Running P → List Entry → List Entry → Bool → Bool → Type 0
-TurnDone g start most over old new log new_log result true = HasLed g start most (with_span old (length log)) new log new_log ×
-    (result ≡ is_exited new.at.fate)
-TurnDone g start most over old new log new_log result false = (new ≡ old) × (new_log ≡ log) × (result ≡ over)
-
--- a log that begins with another
-abbrev pub IsLonger : List Entry → List Entry → Type 0
-IsLonger log new = (more : List Entry) × (new ≡ log ++ more)
 
 -- a version has a fate, and has led at most one part of the log
 pub record IsSettled (line : Standing) : Type 0 where

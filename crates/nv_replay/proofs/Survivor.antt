@@ -19,13 +19,13 @@ use Rattle.nv_replay.specs.Sequence.{Account, leads, is_on, turn, sequence_from,
 use Rattle.nv_replay.proofs.Settled.{Reaches, reach_here, reach_first, stage_zero, stage_one, stage_rests}
 use Rattle.nv_replay.proofs.Extending.{follow_reached, follow_rests, get_front, extended, lead_grows, take_front_of, reach_all}
 use Rattle.nv_replay.proofs.Stepping.{decided_in_step, made_none}
-use Rattle.nv_sequence.specs.Alone.{HasNoClone}
+use Rattle.nv_replay.specs.Alone.{HasNoClone}
 use Rattle.nv_replay.proofs.Surviving.{IsTrueTo, IsPlainLog, copied, copies, cases, is_well}
 use Rattle.nv_replay.proofs.Falling.{size, decided_falls, within}
 use Rattle.nv_replay.proofs.Wholes.{next_is}
-use Rattle.nv_sequence.proofs.Wholly.{lead_is}
-use Rattle.nv_sequence.proofs.Turning.{take_all}
-use Rattle.nv_sequence.proofs.Assembling.{on_none}
+use Rattle.nv_replay.proofs.Wholly.{lead_is}
+use Rattle.nv_replay.proofs.Turning.{take_all}
+use Rattle.nv_replay.proofs.Fates.{on_none}
 
 no_child : (e : Entry) → (e.call.nr ≡ 220 → ⊥) → child_of e ≡ None
 no_child e n = by (e.call.nr == 220) refl

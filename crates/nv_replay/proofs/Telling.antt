@@ -19,9 +19,9 @@ use Rattle.nv_replay.specs.Sequence.{Account, leads, turn, sequence_from, sequen
 use Rattle.nv_replay.specs.Versions.{Running, process_of}
 use Rattle.nv_replay.proofs.Settled.{stage_rests}
 use Rattle.nv_replay.proofs.Wholes.{rests}
-use Rattle.nv_sequence.specs.Accounts.{AreFresh, AreCuts}
-use Rattle.nv_sequence.specs.Alone.{alone, HasNoClone, SurvivorsAgree}
-use Rattle.nv_sequence.proofs.Survivor.{survives}
+use Rattle.nv_replay.specs.Accounts.{AreFresh, AreCuts}
+use Rattle.nv_replay.specs.Alone.{alone, HasNoClone, SurvivorsAgree}
+use Rattle.nv_replay.proofs.Survivor.{survives}
 
 -- the cuts that an account tells are cuts of its lines
 at_place : (front : List Standing) (line : Standing) (lines : List Standing)

@@ -16,7 +16,7 @@ use Rattle.nv_replay.specs.Spans.{grown}
 use Rattle.nv_replay.proofs.Leading.{AskedFor, asking_cases, ending_cases, lead_dropped, lead_refused, lead_served}
 use Rattle.nv_replay.proofs.Stepping.{same_live, none_back, exited_some}
 use Rattle.nv_replay.proofs.Wholes.{get_map, length_map}
-use Rattle.nv_sequence.specs.Turns.{TookTurn}
+use Rattle.nv_replay.specs.Turns.{TookTurn}
 
 -- the event behind a log
 pub get_last : (log : List Entry) (e : Entry) → slice_get (log ++ e ∷ []) (length log) ≡ Some e

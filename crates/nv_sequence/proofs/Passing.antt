@@ -1,17 +1,17 @@
 -- Each version has a fate.
-use Rattle.std.proofs.Common.{◌≡◌, inr, ◌∙◌, sym, ap, refl, ℕ, Bool, true, false, List, [], length, take, Option, Some, None, arith}
+use Rattle.std.proofs.Common.{◌≡◌, ◌∙◌, sym, ap, refl, ℕ, Bool, true, false, List, [], length, take, Option, None, arith}
 use Rattle.std.specs.Prelude.{not, ◌&&◌}
 use Rattle.nv_calls.specs.Calls.{Entry}
 use Rattle.nv_calls.specs.Logs.{Start, live_after}
 use Rattle.nv_threads.specs.Behaviours.{Behaviour, IsProcess}
 use Rattle.nv_replay.specs.declared.fate.Fate.{Fate}
-use Rattle.nv_replay.specs.Follow.{Follower, Judge, follow, next, IsInStep}
+use Rattle.nv_replay.specs.Follow.{Follower, Judge, follow, IsInStep}
 use Rattle.nv_replay.specs.Sequence.{leads, is_on}
 use Rattle.nv_replay.specs.Versions.{Running, standing_of}
-use Rattle.nv_replay.proofs.Settled.{stage_rests}
-use Rattle.nv_replay.proofs.Wholes.{rests}
-use Rattle.nv_sequence.specs.Accounts.{TurnDone, IsSettled}
-use Rattle.nv_sequence.proofs.Turning.{take_all}
+use Rattle.nv_replay.specs.Accounts.{IsSettled}
+use Rattle.nv_replay.proofs.Fates.{fated_follow, fate_if, alive_not}
+use Rattle.nv_sequence.specs.Passing.{TurnDone}
+use Rattle.nv_replay.proofs.Turning.{take_all}
 use Rattle.nv_sequence.proofs.Assembling.{Followed1, led_turn, led_span, passed_turn, seen_if}
 
 module _ {P : Type 0} (g : Behaviour P) (laws : IsProcess g) (judges : ℕ → Judge) (replies : Start) (most : ℕ) where
@@ -37,39 +37,18 @@ module _ {P : Type 0} (g : Behaviour P) (laws : IsProcess g) (judges : ℕ → J
   off_by true f h e = cc
   off_by false f h e = h
 
-  off_some : (f : Option Fate) → is_on f ≡ false → f ≡ None → ⊥
-  off_some None h e = cc
-  off_some (Some x) h e = cc
-
-  on_cases : (f : Option Fate) (b : Bool) → is_on f ≡ b → (b ≡ true → f ≡ None)
-  on_cases None b h e = refl
-  on_cases (Some x) b h e = let z : false ≡ true = h ∙ e in cc
-
-  fated_follow : (judge : Judge) (log : List Entry) (s : Follower P) → is_on s.fate ≡ false → follow g judge log s ≡ s
-  unfolding follow
-  fated_follow judge log s h = stage_rests (next g judge log) _ s (rests g laws judge log s (inr (off_some s.fate h)))
-
   -- a version that was passed over has a fate in the end
-  pub alive_not : (log : List Entry) (s : Follower P) → IsInStep g log s → live_after log ≡ [] → s.seen ≡ length log → s.fate ≡ None → ⊥
-  alive_not log s i d l n =
-      let all : take s.seen log ≡ log = ap (λ (m : ℕ). take m log) l ∙ take_all log in
-      laws.ended s.process (i.live n ∙ (ap live_after all ∙ d)) (i.on n)
-
-  fate_if : (f : Option Fate) → (f ≡ None → ⊥) → is_on f ≡ false
-  fate_if None h = absurd (h refl)
-  fate_if (Some x) h = refl
-
   by_over : (over o : Bool) → over ≡ o → (v1 v2 v3 : Running P) (log log1 log2 log3 : List Entry) (over1 : Bool) (judge : Judge)
       → (leads over v1.at ≡ false) → (v2 ≡ v1) → (log1 ≡ log) → (over1 ≡ over)
       → v3 ≡ record v2 { at = follow g judge log3 v2.at } → log3 ≡ log2 → IsInStep g log3 v3.at → (v3.at.fate ≡ None → v3.at.seen ≡ length log3)
       → (over ≡ true → live_after log ≡ []) → (over1 ≡ true → log2 ≡ log1) → is_on v3.at.fate ≡ false
   by_over over true e v1 v2 v3 log log1 log2 log3 over1 judge a b c d w k s q dead stand =
       let same : log3 ≡ log = k ∙ (stand (d ∙ e) ∙ c) in
-      fate_if v3.at.fate (λ n. alive_not log3 v3.at s (ap live_after same ∙ dead e) (q n) n)
+      fate_if v3.at.fate (λ n. alive_not g laws log3 v3.at s (ap live_after same ∙ dead e) (q n) n)
   by_over over false e v1 v2 v3 log log1 log2 log3 over1 judge a b c d w k s q dead stand =
       let off : is_on v1.at.fate ≡ false = off_by over v1.at.fate a e in
       let off2 : is_on v2.at.fate ≡ false = ap (λ (x : Running P). is_on x.at.fate) b ∙ off in
-      ap (λ (x : Running P). is_on x.at.fate) w ∙ (ap (λ (x : Follower P). is_on x.fate) (fated_follow judge log3 v2.at off2) ∙ off2)
+      ap (λ (x : Running P). is_on x.at.fate) w ∙ (ap (λ (x : Follower P). is_on x.fate) (fated_follow g laws judge log3 v2.at off2) ∙ off2)
 
   passed_fated : (i : ℕ) (r v1 v2 v3 : Running P) (log log1 log2 log3 : List Entry) (over over1 : Bool)
       → Followed1 g laws judges replies most i r v1 log → TurnDone g replies most over v1 v2 log log1 over1 (leads over v1.at) → v2.led ≡ []

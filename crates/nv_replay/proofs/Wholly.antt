@@ -12,7 +12,7 @@ use Rattle.nv_replay.specs.Sequence.{is_on}
 use Rattle.nv_replay.specs.Versions.{Running, IsLeading, leader_of}
 use Rattle.nv_replay.proofs.Settled.{Reaches, reach_here, reach_on, reached}
 use Rattle.nv_replay.proofs.Falling.{lead_size, lead_falls, next_call_falls}
-use Rattle.nv_sequence.specs.Turns.{LedOn, TookTurn, HasLed}
+use Rattle.nv_replay.specs.Turns.{LedOn, TookTurn, HasLed}
 
 -- a cut at which a leader with this end and this log can have come so far
 pub record Suits (c : Option ℕ) (f : Option Fate) (n : ℕ) : Type 0 where

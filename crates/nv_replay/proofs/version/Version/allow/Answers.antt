@@ -1,0 +1,53 @@
+use Rattle.std.proofs.Common.{◌∙◌, ap, ◌+◌, Some}
+use Rattle.nv_calls.specs.Calls.{entry}
+use Rattle.nv_calls.specs.Constants.{constant_of}
+use Rattle.nv_threads.specs.Threads.{threads, Proc}
+use Rattle.nv_replay.specs.Permits.{given}
+use Rattle.nv_replay.specs.Follow.{refusal_of}
+use Rattle.nv_replay.specs.Versions.{Running}
+use Rattle.nv_replay.proofs.Following.{not_given, was_given}
+use Rattle.nv_replay.proofs.Obeying.{obeyed, is_refused, is_answered}
+use Rattle.nv_replay.proofs.version.Version.allow.Goals as goal
+
+pub returns-then-not-give_constant-clause-new : goal.returns-then-not-give_constant-clause-new
+returns-then-not-give_constant-clause-new c =
+    let old : Running Proc = record {
+      index = c.self.inside.index;
+      at = record {
+        process = c.self.inside.process;
+        seen = c.self.inside.standing.seen;
+        rewrites = c.self.inside.standing.rewrites;
+        fate =
+            c.self.inside.standing.fate;
+      };
+      led = c.self.inside.standing.led;
+      asked = c.self.inside.asked;
+    } in
+    let none = not_given threads c.args.tid c.self.inside.process c.give_constant.new.process
+    (constant_of (threads.call c.self.inside.process c.args.tid)) c.if-not-give_constant.ensures.given in
+    let refused : Proc → Running Proc = λ p. record old
+    { at = record old.at { process = p; fate = Some (refusal_of (threads.call p c.args.tid) (entry c.args.event.now) c.args.value) } } in
+    is_refused threads c.args.tid c.args.value (entry c.args.event.now) (λ call. given (constant_of call)) old c.refuse.new.self
+    (ap given none.0) (c.refuse.ensures.new ∙ ap refused none.1) ∙ ap (obeyed threads c.args.tid c.args.value (entry c.args.event.now)
+    (λ call. given (constant_of call))) c.self.view_is
+
+pub returns-clause-new : goal.returns-clause-new
+returns-clause-new c =
+    let old : Running Proc = record {
+      index = c.self.inside.index;
+      at = record {
+        process = c.self.inside.process;
+        seen = c.self.inside.standing.seen;
+        rewrites = c.self.inside.standing.rewrites;
+        fate =
+            c.self.inside.standing.fate;
+      };
+      led = c.self.inside.standing.led;
+      asked = c.self.inside.asked;
+    } in
+    let some = was_given threads c.args.tid c.self.inside.process c.give_constant.new.process
+    (constant_of (threads.call c.self.inside.process c.args.tid)) c.if-not-give_constant.ensures.given in
+    let answered : Proc → Running Proc = λ p. record old { at = record old.at { process = p; rewrites = old.at.rewrites + 1 } } in
+    is_answered threads c.args.tid c.args.value (entry c.args.event.now) (λ call. given (constant_of call)) old
+    (answered c.give_constant.new.process) some.0 (ap given some.1) (ap answered some.2) ∙ ap
+    (obeyed threads c.args.tid c.args.value (entry c.args.event.now) (λ call. given (constant_of call))) c.self.view_is

@@ -1,0 +1,47 @@
+// What rules say of a follower's call, and the replies that they permit.
+ghost use Rattle.std.specs.Prelude.{◌≡◌, ◌≤◌, true, option_map};
+ghost use Rattle.nv_calls.specs.Calls.{request, entry};
+ghost use Rattle.nv_calls.specs.Constants.{constant_of};
+ghost use Rattle.nv_threads.specs.Threads.{threads};
+ghost use Rattle.nv_replay.specs.Follow.{judge_of};
+ghost use Rattle.nv_replay.specs.Permits.{is_of_threads, HasGiven};
+
+use nv_bpf::Filter;
+use nv_calls::{Bytes, Call, Event};
+use nv_kernel::constant;
+use nv_rules::{pair_of, value};
+use nv_threads::Process;
+
+/// The value of the rules on a follower's call and the event that it met, for the version with this number; 0 without rules.
+pub fn judge(rules: Option<&Filter>, call: &Call, event: &Event, index: u32) -> u32
+    ensures { result ≡ judge_of (option_map (λ f. f.now) rules.entry) index (request call.now) (entry event.now) }
+{
+    match rules {
+        Some(filter) => value(filter, &pair_of(call, event, index)),
+        None => 0,
+    }
+}
+
+/// Whether the call makes or ends a thread: clone, exit or exit_group.
+pub fn is_of_threads(nr: u32) -> bool
+    ensures { result ≡ is_of_threads nr }
+{
+    nr == 220 || nr == 93 || nr == 94
+}
+
+/// Answers the thread's call, where its reply is the same in every state of the kernel; whether it is.
+#[tactic(auto, using(nv_threads::specs::ThreadLaws::threads_here, crate::proofs::Stepping::constant_new))]
+pub fn give_constant(process: &mut Process, tid: u32, scratch: &mut Bytes) -> bool
+    requires pending { threads.pending process.old tid ≡ true }
+    requires room { 4096 ≤ scratch.old.room }
+    ensures given { HasGiven threads (constant_of (threads.call process.old tid)) tid process.old process.new result }
+    ensures room { scratch.new.room ≡ scratch.old.room }
+{
+    match constant(process.pending(tid), scratch) {
+        Some(ret) => {
+            process.answer(tid, ret, scratch.as_slice());
+            true
+        }
+        None => false,
+    }
+}
