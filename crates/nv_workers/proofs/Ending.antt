@@ -7,7 +7,7 @@ use lib.ListN.{get_elem?}
 use Rattle.nv_calls.specs.Calls.{Entry}
 use Rattle.nv_calls.specs.Logs.{InRange, IsLawful, IsLegal, Start}
 use Rattle.nv_words.specs.Spell.{spell}
-use Rattle.nv_words.specs.SpellLaws.{spell_alone, spell_length}
+use Rattle.nv_words.proofs.SpellLaws.{spell_alone, spell_length}
 use Rattle.nv_room.specs.declared.view.View.{View}
 use Rattle.nv_room.specs.declared.view.Span.{Span}
 use Rattle.nv_room.specs.Placement.{Log}
@@ -15,14 +15,14 @@ use Rattle.nv_room.specs.Spans.{span, Tiles, Rising, kept_if, of_station, Before
 use Rattle.nv_room.specs.Room.{Reads}
 use Rattle.nv_threads.specs.Threads.{Proc, threads}
 use Rattle.nv_threads.specs.ThreadLaws.{thread_laws}
+use Rattle.nv_replay.specs.Follow.{Judge}
 use Rattle.nv_replay.specs.Versions.{Running}
-use Rattle.nv_sequence.specs.Accounts.{AreFresh}
-use Rattle.nv_sequence.proofs.Survivor.{lawful_front}
+use Rattle.nv_replay.specs.Accounts.{AreFresh}
+use Rattle.nv_replay.proofs.Survivor.{lawful_front}
 use Rattle.nv_workers.specs.Ends.{Leaving, SpanFrom, Tile, spelt, IsSpelling, IsFinished, IsDone, IsAccount}
-use Rattle.nv_workers.specs.Working.{judges, ends_of, told_by, HasEnded}
+use Rattle.nv_workers.specs.Working.{ends_of, told_by, HasEnded}
 use Rattle.nv_workers.specs.Endings.{IsTold, AreTold}
-use Rattle.nv_workers.proofs.Spelt.{same_spelt}
-use Rattle.nv_workers.proofs.Serving.{long_as}
+use Rattle.nv_workers.proofs.Spelt.{same_spelt, long_as}
 use Rattle.nv_workers.proofs.Told.{workers}
 
 -- Spans
@@ -137,7 +137,7 @@ pair_at (x ∷ xs) k a b h = elim (cases_lt x.station k) [
     ]
 ]
 
-module _ {T : Type 0} (start : Start) (most : ℕ) (h : List Entry) (n : ℕ) (w : ℕ → View T) (law : IsLawful h) (told : AreTold (map spell h) n w) where
+module _ (judges : ℕ → Judge) {T : Type 0} (start : Start) (most : ℕ) (h : List Entry) (n : ℕ) (w : ℕ → View T) (law : IsLawful h) (told : AreTold (map spell h) n w) where
   -- the events that station k has seen
   abbrev seen_by : ℕ → List Entry
   seen_by k = take (length (w k).seen) h
@@ -178,7 +178,7 @@ module _ {T : Type 0} (start : Start) (most : ℕ) (h : List Entry) (n : ℕ) (w
   lawful_by : (k : ℕ) → IsLawful (seen_by k)
   lawful_by k = lawful_front (seen_by k) (drop (length (w k).seen) h) (subst IsLawful (sym (take-append-drop (length (w k).seen) h)) law)
 
-  done_by : (k : ℕ) (p : Proc) (v : Running Proc) → k < n → HasEnded start most k p v (w k) → IsDone threads judges start most InRange spell k p v (left k)
+  done_by : (k : ℕ) (p : Proc) (v : Running Proc) → k < n → HasEnded judges start most k p v (w k) → IsDone threads judges start most InRange spell k p v (left k)
   done_by k p v l e =
       let same : e.log ≡ seen_by k = same_spelt e.log (seen_by k) e.lawful (lawful_by k) (e.spelt ∙ sym (spelt_by k l)) in
       subst (λ (x : List Entry). IsDone threads judges start most InRange spell k p v (told_by x (w k))) same e.done
@@ -186,7 +186,7 @@ module _ {T : Type 0} (start : Start) (most : ℕ) (h : List Entry) (n : ℕ) (w
   -- the versions of all stations have ended, and the room has told of them
   pub ending : (olds news : List (Running Proc)) → AreFresh threads 0 olds → length news ≡ length olds → length news ≡ n → IsLegal start h
       → ((k : ℕ) (old new : Running Proc) → slice_get olds k ≡ Some old → slice_get news k ≡ Some new
-      → HasEnded start most k old.at.process new (w k)) → IsAccount threads judges start most olds news h
+      → HasEnded judges start most k old.at.process new (w k)) → IsAccount threads judges start most olds news h
   ending olds news fresh long all legal e =
       workers threads thread_laws judges start most InRange spell spelling olds news h left fresh long law legal
       (λ k x q. (law k x q).range) (subst (λ (m : ℕ). IsFinished spell h m left) (sym all) finished)

@@ -14,11 +14,11 @@ use Rattle.nv_replay.specs.Versions.{Running, leader_of, standing_of}
 use Rattle.nv_replay.proofs.Settled.{Reaches}
 use Rattle.nv_replay.proofs.Extending.{extend_by, follow_reached}
 use Rattle.nv_replay.proofs.Wholes.{follow_is, rests}
-use Rattle.nv_sequence.specs.Accounts.{AreCuts}
-use Rattle.nv_sequence.proofs.Wholly.{lead_is, Suits, suits_end}
-use Rattle.nv_sequence.proofs.Survivor.{lawful_front, follow_done, stage_in_step}
-use Rattle.nv_sequence.proofs.Turning.{take_all}
-use Rattle.nv_sequence.proofs.Fates.{alive_not}
+use Rattle.nv_replay.specs.Accounts.{AreCuts}
+use Rattle.nv_replay.proofs.Wholly.{lead_is, Suits, suits_end}
+use Rattle.nv_replay.proofs.Survivor.{lawful_front, follow_done, stage_in_step}
+use Rattle.nv_replay.proofs.Turning.{take_all}
+use Rattle.nv_replay.proofs.Fates.{alive_not}
 use Rattle.nv_workers.specs.Ends.{IsStage, IsCutOf, Leaving, SpanFrom, Tile, begun, HasLedFrom}
 use Rattle.nv_workers.proofs.Fronts.{front_of, no_more, take_own, take_within, with_next, stop_by}
 
@@ -136,7 +136,7 @@ module _ {P : Type 0} (g : Behaviour P) (laws : IsProcess g) (judges : ℕ → J
       let f : Follower P = follow g (judges i) log (fresh p) in
       let on : f.fate ≡ None = subst (λ (y : List Entry). (follow g (judges i) y (fresh p)).fate ≡ None) log0 x.led.on in
       let seen : f.seen ≡ length log = follow_done g laws (judges i) replies most log (fresh p) law0 (first_in_step log p first) on in
-      let alive : over ≡ false = not_true over (λ z. alive_not g laws judges replies most log f (follow_in_step i log p law0 first) (dead z) seen on) in
+      let alive : over ≡ false = not_true over (λ z. alive_not g laws log f (follow_in_step i log p law0 first) (dead z) seen on) in
       let k : cuts i ≡ cut_of v.at.fate (length x.log) = c ∙ ap (cut_of v.at.fate) x.led.seen in
       let su = suits_end v.at.fate (length x.log) in
       let st = x.led.stage (cut_of v.at.fate (length x.log)) (record { below = su.below; end = su.end }) in

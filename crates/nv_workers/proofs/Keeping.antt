@@ -1,23 +1,26 @@
 -- Turn by turn a worker keeps what the account needs in the end.
-use Rattle.std.proofs.Common.{◌≡◌, ◌∙◌, sym, ap, subst, refl, ℕ, zero, suc, ◌+◌, ◌<◌, ◌≤◌, ◌⊎◌, inl, inr, true, false, List, [], ◌∷◌, ◌++◌, length, take, Option, Some, None, arith, append-nil, length-append}
-use Rattle.std.specs.Prelude.{slice_get}
+use Rattle.std.proofs.Common.{◌≡◌, ◌∙◌, sym, ap, subst, refl, ℕ, zero, suc, ◌+◌, ◌<◌, ◌≤◌, ◌⊎◌, inl, inr, Bool, true, false, List, [], ◌∷◌, ◌++◌, length, take, Option, Some, None, arith, append-nil, length-append}
+use Rattle.std.specs.Prelude.{slice_get, nat_le, if◌then◌else◌}
 use Rattle.nv_calls.specs.Calls.{Entry}
 use Rattle.nv_calls.specs.Logs.{Start, served, IsLawful, live_after}
 use Rattle.nv_threads.specs.Behaviours.{Behaviour, IsProcess}
+use Rattle.nv_threads.specs.declared.turns.Want.TheVariants.{Any}
+use Rattle.nv_threads.specs.declared.turns.Came.{Came}
+use Rattle.nv_threads.specs.declared.turns.Came.TheVariants.{Asked, Fault}
 use Rattle.nv_replay.specs.declared.fate.Fate.{Fate}
 use Rattle.nv_replay.specs.declared.fate.Fate.TheVariants.{Memory}
 use Rattle.nv_replay.specs.Follow.{Follower, Judge, fresh, next, decided, follow, IsInStep, is_exited}
 use Rattle.nv_replay.specs.Lead.{Leader, is_cut, is_memory, next_call}
 use Rattle.nv_replay.specs.Sequence.{is_on}
-use Rattle.nv_replay.specs.Versions.{Running, IsLeading, asking_next, answered_by, leader_of}
+use Rattle.nv_replay.specs.Versions.{Running, IsLeading, asking_next, asking_by, answered_by, leader_of}
 use Rattle.nv_replay.proofs.Settled.{Reaches, reach_here, reach_on}
 use Rattle.nv_replay.proofs.Extending.{extend_by, in_step_on, take_front_of}
 use Rattle.nv_replay.proofs.Stepping.{decided_in_step}
 use Rattle.nv_replay.proofs.Wholes.{next_is, follow_is, rests}
-use Rattle.nv_sequence.specs.Turns.{LedOn, TookTurn}
-use Rattle.nv_sequence.specs.Accounts.{with_span}
-use Rattle.nv_sequence.proofs.Turning.{get_last, take_all, turn_dropped, turn_refused, turn_served}
-use Rattle.nv_sequence.proofs.Wholly.{Suits, suits_now}
+use Rattle.nv_replay.specs.Turns.{LedOn, TookTurn}
+use Rattle.nv_replay.specs.Accounts.{with_span}
+use Rattle.nv_replay.proofs.Turning.{get_last, take_all, turn_dropped, turn_refused, turn_served}
+use Rattle.nv_replay.proofs.Wholly.{Suits, suits_now}
 use Rattle.nv_workers.specs.Ends.{IsStage, IsCutOf, Leaving, begun, HasLedFrom, IsDroppedAt, HasFollowed, HasLeft, IsDone}
 use Rattle.nv_workers.specs.Turns.{held_list, IsReading, IsServing, IsAsking}
 use Rattle.nv_workers.proofs.Gathering.{IsFirst}
@@ -30,8 +33,9 @@ is_stage step s t r = record { steps = r.steps; is = r.is }
 
 module _ {P : Type 0} (g : Behaviour P) (laws : IsProcess g) (judges : ℕ → Judge) where
   -- a fresh version behind an empty list
-  pub reads_first : (i : ℕ) (p : P) (v : Running P) → IsFirst g p → v.at ≡ fresh p → v.led ≡ [] → v.asked ≡ None → IsReading g judges i p v [] None
-  reads_first i p v f a l k = record {
+  pub reads_first : (i : ℕ) (p : P) (v : Running P) → v.index ≡ i → IsFirst g p → v.at ≡ fresh p → v.led ≡ [] → v.asked ≡ None → IsReading g judges i p v [] None
+  reads_first i p v n f a l k = record {
+    index = n;
     on = ap (λ (x : Follower P). x.fate) a;
     not_led = l;
     none_asked = k;
@@ -54,6 +58,7 @@ module _ {P : Type 0} (g : Behaviour P) (laws : IsProcess g) (judges : ℕ → J
   with_next_held i p v log e r =
       let q = with_held i p v.at log e None (inl refl) (reaches (next g (judges i) (log ++ held_list None)) (fresh p) v.at r.stage) in
       record {
+        index = r.index;
         on = r.on;
         not_led = r.not_led;
         none_asked = r.none_asked;
@@ -79,6 +84,7 @@ module _ {P : Type 0} (g : Behaviour P) (laws : IsProcess g) (judges : ℕ → J
       → new.at.seen ≡ v.at.seen + 1 → new.at.fate ≡ None → IsReading g judges i p new (log ++ e ∷ []) None
   reads_on i p v new log e held r h law k s n =
       let d = decides i p v new log e held r h law k in record {
+        index = ap (λ (x : Running P). x.index) k ∙ r.index;
         on = n;
         not_led = ap (λ (x : Running P). x.led) k ∙ r.not_led;
         none_asked = ap (λ (x : Running P). x.asked) k ∙ r.none_asked;
@@ -94,6 +100,7 @@ module _ {P : Type 0} (g : Behaviour P) (laws : IsProcess g) (judges : ℕ → J
       let d = decides i p v new log e held r h law k in
       let w : new.at.seen ≤ length log = omega (arith, s, r.seen) in
       let t : take new.at.seen (log ++ e ∷ []) ≡ take new.at.seen log = take_front_of log (e ∷ []) new.at.seen w in record {
+        index = ap (λ (x : Running P). x.index) k ∙ r.index;
         on = n;
         not_led = ap (λ (x : Running P). x.led) k ∙ r.not_led;
         none_asked = ap (λ (x : Running P). x.asked) k ∙ r.none_asked;
@@ -174,3 +181,20 @@ module _ {P : Type 0} (g : Behaviour P) (laws : IsProcess g) (judges : ℕ → J
   publishes i p v new t from log s a k law =
       let u = turn_served g laws replies most s.before log v new t (log ++ served replies log (g.call v.at.process t) ∷ []) (leading i p s.before from log s.serving) s.serving.led.seen s.serving.led.in_step s.asking a refl k law in
       leads_on i p s.before new from log (served replies log (g.call v.at.process t) ∷ []) s.serving u
+
+  by_test : (b : Bool) (r s : Running P) (t : ℕ) → r.asked ≡ None → s.at.fate ≡ None → (if b then r else s).asked ≡ Some t → (if b then r else s).at.fate ≡ None
+  by_test true r s t a f h = let e = sym a ∙ h in cc
+  by_test false r s t a f h = f
+
+  asked_by : (r : Running P) (q : P) (m : Came) (t : ℕ) → r.at.fate ≡ None → r.asked ≡ None → (asking_by g most r q m).asked ≡ Some t → (asking_by g most r q m).at.fate ≡ None
+  unfolding asking_by
+  asked_by r q (Fault kind tid pc) t f a h = let e = sym a ∙ h in cc
+  asked_by r q (Asked u) t f a h = by_test (nat_le most r.at.seen) _ _ t a f h
+
+  -- a version that asks has no fate
+  pub asking_on : (i : ℕ) (p : P) (v : Running P) (from : ℕ) (log : List Entry) (t : ℕ) → IsAsking g judges replies most i p v from log → v.asked ≡ Some t → v.at.fate ≡ None
+  unfolding asking_next
+  asking_on i p v from log t a k =
+      let b = a.before in
+      let h : (asking_next g most b).asked ≡ Some t = ap (λ (x : Running P). x.asked) (sym a.asking) ∙ k in
+      ap (λ (x : Running P). x.at.fate) a.asking ∙ asked_by b (g.after b.at.process Any) (g.came b.at.process Any) t a.serving.on a.serving.none_asked h

@@ -1,4 +1,4 @@
--- Which version is the next leader, as D14's item 3 says it; and that no reader without a fate meets a closed room.
+-- Which version is the next leader: the least in step with the whole log; and that no reader without a fate meets a closed room.
 use Rattle.std.proofs.Common.{◌≡◌, ◌∙◌, sym, ap, subst, refl, ℕ, zero, suc, ◌+◌, ◌<◌, ◌≤◌, inl, inr, true, false, List, [], ◌∷◌, ◌++◌, length, take, Option, Some, None, arith, length-append}
 use Rattle.nv_calls.specs.Calls.{Entry}
 use Rattle.nv_calls.specs.Logs.{Start, IsLawful, live_after}
@@ -8,7 +8,7 @@ use Rattle.nv_replay.specs.Sequence.{is_on}
 use Rattle.nv_replay.specs.Versions.{Running}
 use Rattle.nv_replay.proofs.Settled.{stage_rests}
 use Rattle.nv_replay.proofs.Wholes.{rests}
-use Rattle.nv_sequence.proofs.Fates.{alive_not}
+use Rattle.nv_replay.proofs.Fates.{alive_not}
 use Rattle.nv_workers.specs.Ends.{Leaving, Tile}
 use Rattle.nv_workers.specs.Turns.{IsReading}
 use Rattle.nv_workers.proofs.Fronts.{front_of, stop_by}
@@ -51,4 +51,4 @@ module _ {P : Type 0} (g : Behaviour P) (laws : IsProcess g) (judges : ℕ → J
 
   -- a reader that has no fate does not see a closed room
   pub never_closed : (i : ℕ) (p : P) (v : Running P) (log : List Entry) → IsReading g judges i p v log None → live_after log ≡ [] → ⊥
-  never_closed i p v log r d = alive_not g laws judges replies most log v.at r.in_step d r.seen r.on
+  never_closed i p v log r d = alive_not g laws log v.at r.in_step d r.seen r.on

@@ -16,7 +16,7 @@ module _ {K : Type 0} {G : Ghosts K} where
   leads_anew v new l buf f k = λ room m. record {
     fresh = f;
     station = m.fresh.station;
-    works = λ most. fresh_leads room v most l new f m.fresh m.log m.start k;
+    works = λ judges most. fresh_leads judges room v most l new f m.fresh m.log m.start k;
   }
 
   pub reads_anew : (v : Running Proc) (r : Reader K G) (buf : List ℕ) → IsFresh threads (station_of_reader r) v
@@ -24,5 +24,5 @@ module _ {K : Type 0} {G : Ghosts K} where
   reads_anew v r buf f = λ room m. record {
     fresh = f;
     station = refl;
-    works = λ most. fresh_follows room v (station_of_reader r) r buf f m;
+    works = λ judges most. fresh_follows judges room v (station_of_reader r) r buf f m;
   }

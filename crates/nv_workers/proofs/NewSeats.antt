@@ -1,5 +1,6 @@
 -- A room's workers, one more at a time.
-use Rattle.std.proofs.Common.{◌≡◌, ◌∙◌, sym, ap, subst, refl, ℕ, zero, suc, ◌+◌, ◌<◌, List, [], ◌∷◌, ◌++◌, length, arith}
+use Rattle.std.proofs.Common.{◌≡◌, ◌∙◌, sym, ap, subst, refl, ℕ, zero, suc, ◌+◌, ◌<◌, List, [], ◌∷◌, ◌++◌, length, Option, Some, None, arith, length-append}
+use Rattle.std.specs.Option.{MatchOption}
 use mathlib.Core.Option.{some}
 use lib.ListN.{get_elem?}
 use Rattle.nv_calls.specs.declared.kernel.SyscallKernel.{Ghosts}
@@ -9,7 +10,7 @@ use Rattle.nv_room.specs.declared.room.Lead.{Lead}
 use Rattle.nv_room.specs.Seats.{IsFresh as IsFreshReader, FreshReaders, station_of_reader}
 use Rattle.nv_threads.specs.Threads.{Proc, threads}
 use Rattle.nv_replay.specs.Versions.{Running, IsFresh}
-use Rattle.nv_sequence.specs.Accounts.{AreFresh}
+use Rattle.nv_replay.specs.Accounts.{AreFresh}
 use Rattle.nv_workers.specs.declared.worker.Worker.{Worker}
 use Rattle.nv_workers.specs.New.{IsNew, AreNew, AreAsMade, AreNewSeats, LeadsAnew, ReadsAnew, StaffsAnew, IsNewLead, IsNewReader}
 
@@ -20,6 +21,21 @@ fresh_front i (u ∷ vs) v f = (f.0, fresh_front (i + 1) vs v f.1)
 fresh_last : (i : ℕ) (vs : List (Running Proc)) (v : Running Proc) → AreFresh threads i (vs ++ v ∷ []) → IsFresh threads (i + length vs) v
 fresh_last i [] v f = let z : i ≡ i + 0 = omega arith in subst (λ (j : ℕ). IsFresh threads j v) z f.0
 fresh_last i (u ∷ vs) v f = let z : i + 1 + length vs ≡ i + suc (length vs) = omega arith in subst (λ (j : ℕ). IsFresh threads j v) z (fresh_last (i + 1) vs v f.1)
+
+pub versions_front : (vs all : List (Running Proc)) (v : Running Proc) → all ≡ vs ++ v ∷ [] → AreFresh threads 0 all → AreFresh threads 0 vs
+versions_front vs all v e f = fresh_front 0 vs v (subst (λ (x : List (Running Proc)). AreFresh threads 0 x) e f)
+
+pub version_last : (vs all : List (Running Proc)) (v : Running Proc) (k : ℕ) → all ≡ vs ++ v ∷ [] → length vs ≡ k → AreFresh threads 0 all → IsFresh threads k v
+version_last vs all v k e h f =
+    let z : 0 + length vs ≡ k = omega arith in
+    subst (λ (j : ℕ). IsFresh threads j v) z (fresh_last 0 vs v (subst (λ (x : List (Running Proc)). AreFresh threads 0 x) e f))
+
+pub front_length : (vs all : List (Running Proc)) (v : Running Proc) (n : ℕ) → all ≡ vs ++ v ∷ [] → length all ≡ n + 1 → length vs ≡ n
+front_length vs all v n e h = omega (arith, length-append vs (v ∷ []), ap (λ (x : List (Running Proc)). length x) e, h)
+
+pub none_is : {R : Type 0} (o : Option R) (A : Type 0) (B : R → Type 0) → MatchOption o A B → ((r : R) → o ≡ Some r → ⊥) → A
+none_is None A B h n = h
+none_is (Some r) A B h n = absurd (n r refl)
 
 module _ {K : Type 0} {G : Ghosts K} where
   at_front : (rs : List (Reader K G)) (r q : Reader K G) (k : ℕ) → get_elem? rs k ≡ some q → get_elem? (rs ++ r ∷ []) k ≡ some q
@@ -63,17 +79,24 @@ module _ {K : Type 0} {G : Ghosts K} where
   pub reader_station : (rs all : List (Reader K G)) (r : Reader K G) (l : Lead K G) → all ≡ rs ++ r ∷ [] → AreNewSeats all l → station_of_reader r ≡ length rs + 1
   reader_station rs all r l e s = (last_made s.0 rs r l (subst (λ (x : List (Reader K G)). AreAsMade s.0 x l) e s.1)).1
 
-  pub versions_front : (vs all : List (Running Proc)) (v : Running Proc) → all ≡ vs ++ v ∷ [] → AreFresh threads 0 all → AreFresh threads 0 vs
-  versions_front vs all v e f = fresh_front 0 vs v (subst (λ (x : List (Running Proc)). AreFresh threads 0 x) e f)
-
-  pub version_last : (vs all : List (Running Proc)) (v : Running Proc) (k : ℕ) → all ≡ vs ++ v ∷ [] → length vs ≡ k → AreFresh threads 0 all → IsFresh threads k v
-  version_last vs all v k e h f =
-      let z : 0 + length vs ≡ k = omega arith in
-      subst (λ (j : ℕ). IsFresh threads j v) z (fresh_last 0 vs v (subst (λ (x : List (Running Proc)). AreFresh threads 0 x) e f))
-
   -- the first worker
-  pub staffs_one : (v : Running Proc) (l : Lead K G) (w : Worker K G) (all : List (Running Proc)) (rs : List (Reader K G)) → all ≡ v ∷ [] → LeadsAnew v l w → StaffsAnew all rs l (w ∷ [])
-  staffs_one v l w all rs e n = λ room a. subst (λ (x : List (Running Proc)). AreNew room 0 x (w ∷ [])) (sym e) (n room a.lead, tt)
+  pub staffs_one : (vs all : List (Running Proc)) (v : Running Proc) (l : Lead K G) (w : Worker K G) (rs : List (Reader K G)) → all ≡ vs ++ v ∷ [] → length vs ≡ 0
+      → LeadsAnew v l w → StaffsAnew all rs l (w ∷ [])
+  staffs_one [] all v l w rs e h n = λ room a. subst (λ (x : List (Running Proc)). AreNew room 0 x (w ∷ [])) (sym e) (n room a.lead, tt)
+  staffs_one (u ∷ vs) all v l w rs e h n = absurd (omega arith)
+
+  seats_length : (rs all : List (Reader K G)) (r : Reader K G) → all ≡ rs ++ r ∷ [] → length all ≡ length rs + 1
+  seats_length rs all r e = omega (arith, length-append rs (r ∷ []), ap (λ (x : List (Reader K G)). length x) e)
+
+  pub front_readers : (vs all : List (Running Proc)) (v : Running Proc) (rs seats : List (Reader K G)) (r : Reader K G) → all ≡ vs ++ v ∷ [] → seats ≡ rs ++ r ∷ []
+      → length all ≡ length seats + 1 → length vs ≡ length rs + 1
+  front_readers vs all v rs seats r e d h = front_length vs all v (length seats) e h ∙ seats_length rs seats r d
+
+  -- the last version's number is the station of the last reader
+  pub fresh_reader : (vs all : List (Running Proc)) (v : Running Proc) (rs seats : List (Reader K G)) (r : Reader K G) (l : Lead K G) → all ≡ vs ++ v ∷ []
+      → seats ≡ rs ++ r ∷ [] → length all ≡ length seats + 1 → AreNewSeats seats l → AreFresh threads 0 all → IsFresh threads (station_of_reader r) v
+  fresh_reader vs all v rs seats r l e d h s f =
+      version_last vs all v (station_of_reader r) e (front_readers vs all v rs seats r e d h ∙ sym (reader_station rs seats r l d s)) f
 
   -- one worker more
   pub staffs_more : (vs all : List (Running Proc)) (v : Running Proc) (rs seats : List (Reader K G)) (r : Reader K G) (l : Lead K G) (ws : List (Worker K G)) (w : Worker K G)

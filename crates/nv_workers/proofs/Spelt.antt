@@ -4,9 +4,9 @@ use Rattle.std.specs.Prelude.{slice_get}
 use Rattle.nv_calls.specs.Calls.{Entry}
 use Rattle.nv_calls.specs.Logs.{InRange, IsLawful}
 use Rattle.nv_words.specs.Spell.{spell}
-use Rattle.nv_words.specs.SpellLaws.{spell_one}
+use Rattle.nv_words.proofs.SpellLaws.{spell_one}
 use Rattle.nv_replay.proofs.Extending.{get_front}
-use Rattle.nv_sequence.proofs.Survivor.{lawful_front}
+use Rattle.nv_replay.proofs.Survivor.{lawful_front}
 
 abbrev AreInRange : List Entry → Type 0
 AreInRange log = (i : ℕ) (e : Entry) → slice_get log i ≡ Some e → InRange e
@@ -57,3 +57,7 @@ parted (x ∷ h) (s ∷ seen) words e =
       seen_is = (let head : spell x ≡ s = ap (head_or []) e in λ i. head i ∷ r.seen_is i);
       words_are = r.words_are;
     }
+
+pub long_as : (log : List Entry) → length (map spell log) ≡ length log
+long_as [] = refl
+long_as (e ∷ log) = ap suc (long_as log)

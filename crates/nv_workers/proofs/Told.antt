@@ -8,8 +8,8 @@ use Rattle.nv_replay.specs.Follow.{Judge, fresh, next}
 use Rattle.nv_replay.specs.Sequence.{is_on, sequence, cuts_of}
 use Rattle.nv_replay.specs.Versions.{Running, IsFresh, standing_of, process_of}
 use Rattle.nv_replay.proofs.Settled.{Reaches}
-use Rattle.nv_sequence.specs.Accounts.{AreFresh, AreSettled, IsSettled}
-use Rattle.nv_sequence.proofs.Telling.{survivors, cuts_are}
+use Rattle.nv_replay.specs.Accounts.{AreFresh, AreSettled, IsSettled}
+use Rattle.nv_replay.proofs.Telling.{survivors, cuts_are}
 use Rattle.nv_workers.specs.Ends.{IsStage, Leaving, IsSpelling, spelt, Tile, IsFinished, IsDroppedAt, HasFollowed, HasLeft, IsDone, IsAccount}
 use Rattle.nv_workers.proofs.Fronts.{with_next}
 use Rattle.nv_workers.proofs.Gathering.{IsFirst, FollowedOut, LedOut, AreOut, gathered}

@@ -8,8 +8,8 @@ use Rattle.nv_replay.specs.Settling.{stage}
 use Rattle.nv_replay.specs.Follow.{Follower, Judge, fresh, next, follow, IsInStep}
 use Rattle.nv_replay.specs.Lead.{Leader, is_cut, cut_of, next_call}
 use Rattle.nv_replay.specs.Sequence.{is_on, sequence, cuts_of}
-use Rattle.nv_sequence.specs.Accounts.{AreSettled}
-use Rattle.nv_sequence.specs.Alone.{SurvivorsAgree}
+use Rattle.nv_replay.specs.Accounts.{AreSettled}
+use Rattle.nv_replay.specs.Alone.{SurvivorsAgree}
 use Rattle.nv_replay.specs.Versions.{Running, leader_of, standing_of, process_of}
 
 -- a state after any number of steps
@@ -28,7 +28,7 @@ pub record Leaving : Type 0 where
   pub words : List ℕ
   pub spans : List (ℕ × ℕ)
 
--- D16, as far as it is needed: no spelling begins with another's
+-- no spelling begins with another's
 pub record IsSpelling (fits : Entry → Type 0) (spell : Entry → List ℕ) : Type 0 where
   pub some : (e : Entry) → 0 < length (spell e)
   pub own : (d e : Entry) (more : List ℕ) → fits d → fits e → spell e ≡ spell d ++ more → d ≡ e
@@ -48,7 +48,7 @@ abbrev pub Tile : (ℕ → Leaving) → ℕ → ℕ → ℕ → ℕ → Type 0
 Tile left i zero x y = x ≡ y
 Tile left i (suc n) x y = (z : ℕ) × SpanFrom (left i).spans x z × Tile left (i + 1) n z y
 
--- finish, of the kernel's history h and the Left of each of n stations (T4f)
+-- finish, of the kernel's history h and the Left of each of n stations
 pub record IsFinished (spell : Entry → List ℕ) (h : List Entry) (n : ℕ) (left : ℕ → Leaving) : Type 0 where
   pub front : (k : ℕ) → k < n → (rest : List Entry) × (h ≡ (left k).seen ++ rest)
   pub words : (k : ℕ) → k < n → (more : List ℕ) × (spelt spell (slice_get h (length (left k).seen)) ≡ (left k).words ++ more)
@@ -60,7 +60,7 @@ module _ {P : Type 0} (g : Behaviour P) (judges : ℕ → Judge) (replies : Star
   abbrev pub begun : ℕ → P → List Entry → Leader P
   begun i p log = record { process = (follow g (judges i) log (fresh p)).process; log = log; fate = None }
 
-  -- a version that has led from number `from` on, with its seat's seen list: a worker keeps this from `take` on, at each turn's end (T4g)
+  -- a version that has led from number `from` on, with its seat's seen list: a worker keeps this from `take` on, at each turn's end
   pub record HasLedFrom (i : ℕ) (p : P) (v : Running P) (from : ℕ) (log : List Entry) : Type 0 where
     pub within : from ≤ length log
     pub on : (follow g (judges i) (take from log) (fresh p)).fate ≡ None

@@ -8,6 +8,7 @@ use Rattle.nv_room.specs.Owner.{is_held, is_free}
 use Rattle.nv_room.specs.Seats.{IsOfRoom, view, station_of_reader, origin}
 use Rattle.nv_promotion.specs.Lowers.{IsAlive}
 use Rattle.nv_threads.specs.Threads.{Proc}
+use Rattle.nv_replay.specs.Follow.{Judge}
 use Rattle.nv_replay.specs.Versions.{Running}
 use Rattle.nv_workers.specs.declared.follows.Next.{Next}
 use Rattle.nv_workers.specs.declared.follows.Next.TheVariants.{Moved, Waits, Leads, Leaves}
@@ -24,12 +25,19 @@ pub record HasWaited {T : Type 0} (old new : View T) : Type 0 where
   pub owner_looked : old.owner_looks < new.owner_looks
   pub owner : (is_held new.owner_last ≡ true) ⊎ ((is_free new.owner_last ≡ true) × ((s : ℕ) × IsAlive old new new.station s))
 
-module _ {K : Type 0} {G : Ghosts K} (room : Room K) (most : ℕ) (p : Proc) (v : Running Proc) (r : Reader K G) (held : Bool) (buf : List ℕ) where
+module _ (judges : ℕ → Judge) {K : Type 0} {G : Ghosts K} (room : Room K) (most : ℕ) (p : Proc) (v : Running Proc) (r : Reader K G) (held : Bool) (buf : List ℕ) where
   abbrev pub AfterTurn : Next → Type 0
-  AfterTurn Moved = FollowsOn room p v r held buf
-  AfterTurn Waits = FollowsOn room p v r held buf
-  AfterTurn Leads = FollowsOn room p v r false buf × ((view r).freed ≡ Some (length (view r).seen))
-  AfterTurn Leaves = IsOfRoom room r × HasEnded (G.start (origin room)) most (station_of_reader r) p v (view r)
+  AfterTurn Moved = FollowsOn judges room p v r held buf
+  AfterTurn Waits = FollowsOn judges room p v r held buf
+  AfterTurn Leads = FollowsOn judges room p v r false buf × ((view r).freed ≡ Some (length (view r).seen))
+  AfterTurn Leaves = IsOfRoom room r × HasEnded judges (G.start (origin room)) most (station_of_reader r) p v (view r)
+
+-- a turn after which the version follows on has consumed the event, or has rewritten the version's call
+abbrev pub HasGrown : {T : Type 0} → View T → View T → Running Proc → Running Proc → Next → Type 0
+HasGrown w w2 v v2 Moved = (length w.seen < length w2.seen) ⊎ (v.at.rewrites < v2.at.rewrites)
+HasGrown w w2 v v2 Waits = Unit {0}
+HasGrown w w2 v v2 Leads = Unit {0}
+HasGrown w w2 v v2 Leaves = Unit {0}
 
 -- what a turn that waits shows
 abbrev pub IsIdle : {T : Type 0} → View T → View T → Next → Type 0

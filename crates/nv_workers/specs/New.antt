@@ -6,6 +6,7 @@ use Rattle.nv_room.specs.declared.room.Reader.{Reader}
 use Rattle.nv_room.specs.declared.room.Lead.{Lead}
 use Rattle.nv_room.specs.Seats.{IsFreshLead, IsFresh as IsFreshReader, FreshReaders, kernel_of, station_of_reader, origin}
 use Rattle.nv_threads.specs.Threads.{Proc, threads}
+use Rattle.nv_replay.specs.Follow.{Judge}
 use Rattle.nv_replay.specs.Versions.{Running, IsFresh}
 use Rattle.nv_workers.specs.declared.worker.Worker.{Worker}
 use Rattle.nv_workers.specs.Workers.{Works, station_of}
@@ -27,7 +28,7 @@ module _ {K : Type 0} {G : Ghosts K} where
   pub record IsNew (room : Room K) (i : ℕ) (v : Running Proc) (w : Worker K G) : Type 0 where
     pub fresh : IsFresh threads i v
     pub station : station_of w ≡ i
-    pub works : (most : ℕ) → Works room most v.at.process w
+    pub works : (judges : ℕ → Judge) (most : ℕ) → Works judges room most v.at.process w
 
   -- of the room that made the lead
   abbrev pub LeadsAnew : Running Proc → Lead K G → Worker K G → Type 0

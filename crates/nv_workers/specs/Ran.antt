@@ -5,8 +5,9 @@ use Rattle.nv_room.specs.declared.room.Room.{Room}
 use Rattle.nv_room.specs.declared.room.Left.{Left}
 use Rattle.nv_room.specs.Seats.{IsLeftOf, left_view, station_of_left, stations_of, origin}
 use Rattle.nv_threads.specs.Threads.{Proc, threads}
+use Rattle.nv_replay.specs.Follow.{Judge}
 use Rattle.nv_replay.specs.Versions.{Running, IsFresh}
-use Rattle.nv_sequence.specs.Accounts.{AreFresh}
+use Rattle.nv_replay.specs.Accounts.{AreFresh}
 use Rattle.nv_workers.specs.declared.worker.Seat.TheVariants.{Gone}
 use Rattle.nv_workers.specs.declared.worker.Worker.{Worker}
 use Rattle.nv_workers.specs.Working.{HasEnded}
@@ -21,12 +22,12 @@ module _ {K : Type 0} {G : Ghosts K} where
   AreApart (w ∷ ws) (v ∷ vs) [] = ⊥
   AreApart (w ∷ ws) (v ∷ vs) (l ∷ ls) = (w.version ≡ v) × (w.seat ≡ Gone l) × AreApart ws vs ls
 
-module _ {K : Type 0} {G : Ghosts K} (room : Room K) (most : ℕ) where
+module _ (judges : ℕ → Judge) {K : Type 0} {G : Ghosts K} (room : Room K) (most : ℕ) where
   -- version i, fresh before and v after, has its fate, and the seat of station i has left
   pub record HasRun (i : ℕ) (fresh v : Running Proc) (l : Left K G) : Type 0 where
     pub of : IsLeftOf room l
     pub station : station_of_left l ≡ i
-    pub ended : HasEnded (G.start (origin room)) most i fresh.at.process v (left_view l)
+    pub ended : HasEnded judges (G.start (origin room)) most i fresh.at.process v (left_view l)
 
   -- so do the versions from number i on
   abbrev pub HaveRun : ℕ → List (Running Proc) → List (Running Proc) → List (Left K G) → Type 0

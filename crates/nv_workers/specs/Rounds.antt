@@ -3,19 +3,20 @@ use Rattle.std.specs.Prelude.{◌≡◌, ℕ, List, [], ◌∷◌}
 use Rattle.nv_calls.specs.declared.kernel.SyscallKernel.{Ghosts}
 use Rattle.nv_room.specs.declared.room.Room.{Room}
 use Rattle.nv_threads.specs.Threads.{Proc}
+use Rattle.nv_replay.specs.Follow.{Judge}
 use Rattle.nv_workers.specs.declared.worker.Turn.{Turn}
 use Rattle.nv_workers.specs.declared.worker.Turn.TheVariants.{Moved, Waiting, Done}
 use Rattle.nv_workers.specs.declared.worker.Worker.{Worker}
 use Rattle.nv_workers.specs.Workers.{Works, IsGone, station_of}
 
-module _ {K : Type 0} {G : Ghosts K} (room : Room K) (most : ℕ) where
+module _ (judges : ℕ → Judge) {K : Type 0} {G : Ghosts K} (room : Room K) (most : ℕ) where
   -- a worker that may take its turn
   abbrev pub CanWork : Worker K G → Type 0
-  CanWork w = (p : Proc) × Works room most p w
+  CanWork w = (p : Proc) × Works judges room most p w
 
   -- it works on for the same fresh version
   pub record WorkedOn (old new : Worker K G) : Type 0 where
-    pub works : (p : Proc) → Works room most p old → Works room most p new
+    pub works : (p : Proc) → Works judges room most p old → Works judges room most p new
     pub station : station_of new ≡ station_of old
 
   abbrev pub CanAll : List (Worker K G) → Type 0

@@ -1,4 +1,4 @@
--- What a worker keeps from turn to turn, of a version that was fresh with the process p and of its seat's seen list (T4g).
+-- What a worker keeps from turn to turn, of a version that was fresh with the process p and of its seat's seen list.
 use Rattle.std.specs.Prelude.{◌≡◌, ℕ, ◌⊎◌, List, [], ◌∷◌, ◌++◌, length, Option, Some, None}
 use Rattle.nv_calls.specs.Calls.{Entry}
 use Rattle.nv_calls.specs.Logs.{Start}
@@ -14,6 +14,7 @@ held_list (Some e) = e ∷ []
 module _ {P : Type 0} (g : Behaviour P) (judges : ℕ → Judge) where
   -- a reader's version; `held` is the log's next event where it is read and not yet consumed
   pub record IsReading (i : ℕ) (p : P) (v : Running P) (log : List Entry) (held : Option Entry) : Type 0 where
+    pub index : v.index ≡ i
     pub on : v.at.fate ≡ None
     pub not_led : v.led ≡ []
     pub none_asked : v.asked ≡ None

@@ -12,14 +12,10 @@ use Rattle.nv_room.specs.declared.room.Lead.{Lead}
 use Rattle.nv_room.specs.Spans.{span}
 use Rattle.nv_room.specs.Seats.{IsOfRoom, IsLeadOf, view, lead_view, station_of_reader, station_of_lead, kernel_of, due_of, origin}
 use Rattle.nv_threads.specs.Threads.{Proc, threads}
-use Rattle.nv_replay.specs.Follow.{Judge, no_rules}
+use Rattle.nv_replay.specs.Follow.{Judge}
 use Rattle.nv_replay.specs.Versions.{Running}
 use Rattle.nv_workers.specs.Ends.{Leaving, IsDone}
 use Rattle.nv_workers.specs.Turns.{held_list, IsReading, IsServing, IsAsking}
-
--- without rule files
-abbrev pub judges : ℕ → Judge
-judges i = no_rules
 
 abbrev pub ends_of : Span → ℕ × ℕ
 ends_of x = (x.from, x.to)
@@ -35,19 +31,21 @@ Holds false read buf (Some e) = ⊥
 Holds true read buf None = ⊥
 Holds true read buf (Some e) = (read ≡ spell e) × (buf ≡ spell e)
 
--- a version of station i has its fate: this is what the account needs of it and of its seat
-pub record HasEnded {T : Type 0} (start : Start) (most i : ℕ) (p : Proc) (v : Running Proc) (w : View T) : Type 0 where
+-- a version of station i has its fate. Its seat has seen as many events as it has, and tells the spans that it led
+pub record HasEnded (judges : ℕ → Judge) {T : Type 0} (start : Start) (most i : ℕ) (p : Proc) (v : Running Proc) (w : View T) : Type 0 where
   pub log : List Entry
   pub spelt : map spell log ≡ w.seen
   pub lawful : IsLawful log
+  pub count : v.at.seen ≡ length w.seen
+  pub led : v.led ≡ map ends_of w.spans
   pub done : IsDone threads judges start most InRange spell i p v (told_by log w)
 
 -- a leader's version has no call asked, or that of this thread
-abbrev pub Serves : Proc → Running Proc → ℕ → Start → ℕ → ℕ → List Entry → Option ℕ → Type 0
-Serves p v i start most from log None = IsServing threads judges start most i p v from log
-Serves p v i start most from log (Some t) = IsAsking threads judges start most i p v from log × (v.asked ≡ Some t)
+abbrev pub Serves : (ℕ → Judge) → Proc → Running Proc → ℕ → Start → ℕ → ℕ → List Entry → Option ℕ → Type 0
+Serves judges p v i start most from log None = IsServing threads judges start most i p v from log
+Serves judges p v i start most from log (Some t) = IsAsking threads judges start most i p v from log × (v.asked ≡ Some t)
 
-module _ {K : Type 0} {G : Ghosts K} (room : Room K) (p : Proc) (v : Running Proc) where
+module _ (judges : ℕ → Judge) {K : Type 0} {G : Ghosts K} (room : Room K) (p : Proc) (v : Running Proc) where
   -- a version without a fate that was fresh with the process p, and its reader
   pub record FollowsOn (r : Reader K G) (held : Bool) (buf : List ℕ) : Type 0 where
     pub of : IsOfRoom room r
@@ -68,4 +66,4 @@ module _ {K : Type 0} {G : Ghosts K} (room : Room K) (p : Proc) (v : Running Pro
     pub spelt : map spell (G.log (kernel_of l)) ≡ (lead_view l).seen
     pub lawful : IsLawful (G.log (kernel_of l))
     pub spans : (lead_view l).spans ≡ span (station_of_lead l) from (length (lead_view l).seen) ∷ []
-    pub serves : Serves p v (station_of_lead l) (G.start (origin room)) most from (G.log (kernel_of l)) asked
+    pub serves : Serves judges p v (station_of_lead l) (G.start (origin room)) most from (G.log (kernel_of l)) asked

@@ -1,11 +1,14 @@
 //! A reader's turn.
 ghost use Rattle.std.specs.Prelude.{◌≡◌, ℕ, [], true};
+ghost use Rattle.std.specs.Option.{option_copied};
 ghost use Rattle.nv_threads.specs.Threads.{Proc};
+ghost use Rattle.nv_replay.specs.Follow.{judge_of};
 ghost use Rattle.nv_room.specs.Seats.{IsOfRoom, SameReader, view};
 ghost use Rattle.nv_room.specs.Steps.{TellsEnd};
 ghost use Rattle.nv_workers.specs.Working.{FollowsOn};
-ghost use Rattle.nv_workers.specs.Follows.{AfterTurn, IsIdle, IsBusy, IsFound};
+ghost use Rattle.nv_workers.specs.Follows.{AfterTurn, HasGrown, IsIdle, IsBusy, IsFound};
 
+use nv_bpf::Filter;
 use nv_calls::SyscallKernel;
 use nv_outside::Gate;
 use nv_promotion::{Lower, lower_gone};
@@ -44,20 +47,22 @@ pub(crate) fn follow_turn<K: SyscallKernel, G: Gate>(
     held: &mut bool,
     buf: &mut EventBuf,
     room: &Room<K>,
+    rules: Option<&Filter>,
     gate: &G,
 ) -> Next
-    requires { (p : Proc) × FollowsOn room.now p version.old reader.old held.old buf.old }
+    requires { (p : Proc) × FollowsOn (judge_of (option_copied rules)) room.now p version.old reader.old held.old buf.old }
     ensures same { SameReader reader.old reader.new }
-    ensures after { (most : ℕ) (p : Proc) → FollowsOn room.now p version.old reader.old held.old buf.old → AfterTurn room.now most p version.new reader.new held.new buf.new result }
+    ensures after { (most : ℕ) (p : Proc) → FollowsOn (judge_of (option_copied rules.entry)) room.now p version.old reader.old held.old buf.old → AfterTurn (judge_of (option_copied rules.entry)) room.now most p version.new reader.new held.new buf.new result }
+    ensures grown { HasGrown (view reader.old) (view reader.new) version.old version.new result }
     ensures idle { IsIdle (view reader.old) (view reader.new) result }
 {
     if *held {
-        return decide(version, reader, held, buf, room, gate);
+        return decide(version, reader, held, buf, room, rules, gate);
     }
     match find_event(reader, room, buf) {
         Found::Event => {
             *held = true;
-            decide(version, reader, held, buf, room, gate)
+            decide(version, reader, held, buf, room, rules, gate)
         }
         Found::Held => Next::Waits,
         Found::Free => Next::Leads,
@@ -101,16 +106,18 @@ fn decide<K: SyscallKernel, G: Gate>(
     held: &mut bool,
     buf: &EventBuf,
     room: &Room<K>,
+    rules: Option<&Filter>,
     gate: &G,
 ) -> Next
-    requires follows { (p : Proc) × FollowsOn room.now p version.old reader.old true buf.now }
+    requires follows { (p : Proc) × FollowsOn (judge_of (option_copied rules)) room.now p version.old reader.old true buf.now }
     requires held { held.old ≡ true }
     ensures same { SameReader reader.old reader.new }
-    ensures after { (most : ℕ) (p : Proc) → FollowsOn room.now p version.old reader.old true buf.now → AfterTurn room.now most p version.new reader.new held.new buf.now result }
+    ensures after { (most : ℕ) (p : Proc) → FollowsOn (judge_of (option_copied rules.entry)) room.now p version.old reader.old true buf.now → AfterTurn (judge_of (option_copied rules.entry)) room.now most p version.new reader.new held.new buf.now result }
+    ensures grown { HasGrown (view reader.old) (view reader.new) version.old version.new result }
     ensures busy { IsBusy result }
 {
     let event = buf.event();
-    match version.follow(event) {
+    match version.follow(rules, event) {
         Followed::Rewrote(_) => Next::Moved,
         Followed::Dropped(_) => Next::Leaves,
         Followed::Matched | Followed::Skipped => {

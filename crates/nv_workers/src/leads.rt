@@ -1,13 +1,14 @@
 //! A leader's turn.
-ghost use Rattle.std.specs.Prelude.{◌≡◌, ◌≤◌, ◌<◌, ◌++◌, [], ◌∷◌, Some, None, true, false, length, Contains};
+ghost use Rattle.std.specs.Prelude.{◌≡◌, ◌≤◌, ℕ, ◌<◌, ◌++◌, [], ◌∷◌, Some, None, true, false, length, Contains};
 ghost use Rattle.nv_calls.specs.Logs.{served, live_after, IsLawful};
 ghost use Rattle.nv_words.specs.Spell.{spell};
 ghost use Rattle.nv_threads.specs.Threads.{Proc, threads};
+ghost use Rattle.nv_replay.specs.Follow.{Judge};
 ghost use Rattle.nv_replay.specs.Versions.{answered_by};
 ghost use Rattle.nv_room.specs.Spans.{grown};
 ghost use Rattle.nv_room.specs.Seats.{IsLeadOf, SameLead, IsReady, lead_view, kernel_of, due_of};
 ghost use Rattle.nv_workers.specs.Working.{LeadsOn};
-ghost use Rattle.nv_workers.specs.LeadsOn.{AfterLead, IsLate};
+ghost use Rattle.nv_workers.specs.LeadsOn.{AfterLead, HasPublished, IsLate};
 
 use crate::follows::Next;
 use nv_calls::SyscallKernel;
@@ -25,10 +26,11 @@ pub(crate) fn lead_turn<K: SyscallKernel, G: Gate>(
     gate: &G,
     most: u32,
 ) -> Next
-    requires leads { (p : Proc) × LeadsOn room.now p version.old most lead.old asked.old }
+    requires leads { (judges : ℕ → Judge) × (p : Proc) × LeadsOn judges room.now p version.old most lead.old asked.old }
     requires most { most ≤ 131072 }
     ensures same { SameLead lead.old lead.new }
-    ensures after { (p : Proc) → LeadsOn room.now p version.old most lead.old asked.old → AfterLead room.now most p version.new lead.new asked.new result }
+    ensures after { (judges : ℕ → Judge) (p : Proc) → LeadsOn judges room.now p version.old most lead.old asked.old → AfterLead judges room.now most p version.new lead.new asked.new result }
+    ensures published { HasPublished (lead_view lead.old) (lead_view lead.new) result }
     ensures late { IsLate room.now lead.old lead.new result }
 {
     match *asked {
@@ -53,11 +55,12 @@ fn serve<K: SyscallKernel, G: Gate>(
     gate: &G,
     most: u32,
 ) -> Next
-    requires leads { (p : Proc) × LeadsOn room.now p version.old most lead.old (Some tid) }
+    requires leads { (judges : ℕ → Judge) × (p : Proc) × LeadsOn judges room.now p version.old most lead.old (Some tid) }
     requires most { most ≤ 131072 }
     requires asked { asked.old ≡ Some tid }
     ensures same { SameLead lead.old lead.new }
-    ensures after { (p : Proc) → LeadsOn room.now p version.old most lead.old (Some tid) → AfterLead room.now most p version.new lead.new asked.new result }
+    ensures after { (judges : ℕ → Judge) (p : Proc) → LeadsOn judges room.now p version.old most lead.old (Some tid) → AfterLead judges room.now most p version.new lead.new asked.new result }
+    ensures published { HasPublished (lead_view lead.old) (lead_view lead.new) result }
     ensures late { IsLate room.now lead.old lead.new result }
 {
     if let Placed::Waiting(_) = place(lead, room) {

@@ -1,11 +1,11 @@
 //! A whole run.
 ghost use Rattle.std.specs.Prelude.{◌≡◌, ◌≤◌, ◌<◌, ◌+◌, ◌++◌, ℕ, List, [], length, vec_len, vec_capacity, IfOk};
-ghost use Rattle.nv_calls.specs.Logs.{IsLegal};
+ghost use Rattle.std.specs.Option.{option_copied};
 ghost use Rattle.nv_threads.specs.Threads.{Proc, threads};
+ghost use Rattle.nv_replay.specs.Follow.{Judge, judge_of};
 ghost use Rattle.nv_replay.specs.Versions.{Running};
 ghost use Rattle.nv_room.specs.Seats.{stations_of, origin};
 ghost use Rattle.nv_workers.specs.Ends.{IsAccount};
-ghost use Rattle.nv_workers.specs.Working.{judges};
 ghost use Rattle.nv_workers.specs.Rounds.{AreGone};
 ghost use Rattle.nv_workers.specs.New.{AreNew};
 ghost use Rattle.nv_workers.specs.Ran.{AllRan, AreApart};
@@ -13,6 +13,7 @@ ghost use Rattle.nv_workers.specs.Ran.{AllRan, AreApart};
 use crate::dealing::deal;
 use crate::running::rotate;
 use crate::worker::{Seat, Worker};
+use nv_bpf::Filter;
 use nv_calls::SyscallKernel;
 use nv_outside::Gate;
 use nv_replay::{Account, Version};
@@ -38,6 +39,7 @@ pub fn run_all<R: Threads + Wait + Sync, K: SyscallKernel, G: Gate + Sync>(
     alloc: Global,
     room: Room<K>,
     mut workers: Vec<Worker<K>>,
+    rules: Option<&Filter>,
     gate: &G,
     most: u32,
     threads: u32,
@@ -46,12 +48,20 @@ pub fn run_all<R: Threads + Wait + Sync, K: SyscallKernel, G: Gate + Sync>(
     requires all { vec_len workers ≡ stations_of room }
     requires most { most ≤ 131072 }
     ensures room { IfOk result (λ r. r.room ≡ room) }
-    ensures ran { IfOk result (λ r. (fresh : List (Running Proc)) → AreNew room 0 fresh workers.items → AllRan r.room most fresh r.versions.items r.left.items) }
+    ensures ran { IfOk result (λ r. (fresh : List (Running Proc)) → AreNew room 0 fresh workers.items → AllRan (judge_of (option_copied rules.entry)) r.room most fresh r.versions.items r.left.items) }
 {
     let mut left = Vec::with_capacity(alloc, workers.len())?;
     let mut versions = Vec::with_capacity(alloc, workers.len())?;
-    deal(rt, &mut workers, &room, gate, most, threads as usize);
-    rotate(rt, &mut workers, &room, gate, most);
+    deal(
+        rt,
+        &mut workers,
+        &room,
+        rules,
+        gate,
+        most,
+        threads as usize,
+    );
+    rotate(rt, &mut workers, &room, rules, gate, most);
     take_apart(workers, &mut versions, &mut left);
     Ok(Ran {
         room,
@@ -87,9 +97,9 @@ fn take_apart<K: SyscallKernel>(
 
 /// The room ends, and the account is the one of the versions one after another: the plain monitor's.
 pub fn end<K: SyscallKernel>(ran: Ran<K>) -> Account<K>
-    requires { (most : ℕ) × (fresh : List (Running Proc)) × AllRan ran.room most fresh ran.versions.items ran.left.items }
+    requires { (judges : ℕ → Judge) × (most : ℕ) × (fresh : List (Running Proc)) × AllRan judges ran.room most fresh ran.versions.items ran.left.items }
     ensures start { K.start result.kernel ≡ K.start (origin ran.room) }
-    ensures account { (most : ℕ) (fresh : List (Running Proc)) → AllRan ran.room most fresh ran.versions.items ran.left.items
+    ensures account { (judges : ℕ → Judge) (most : ℕ) (fresh : List (Running Proc)) → AllRan judges ran.room most fresh ran.versions.items ran.left.items
         → IsAccount threads judges (K.start (origin ran.room)) most fresh result.versions.items (K.log result.kernel) }
 {
     let Ran {

@@ -1,8 +1,11 @@
 //! Workers on host threads.
 ghost use Rattle.std.specs.Prelude.{◌≡◌, ◌≤◌};
+ghost use Rattle.std.specs.Option.{option_copied};
+ghost use Rattle.nv_replay.specs.Follow.{judge_of};
 ghost use Rattle.nv_workers.specs.Rounds.{CanAll, AllOn, AreGone, GoneIf, both_of};
 
 use crate::worker::{Turn, Worker};
+use nv_bpf::Filter;
 use nv_calls::SyscallKernel;
 use nv_outside::Gate;
 use nv_room::Room;
@@ -14,19 +17,20 @@ use std::thread::yield_now;
 fn round<K: SyscallKernel, G: Gate>(
     workers: &mut [Worker<K>],
     room: &Room<K>,
+    rules: Option<&Filter>,
     gate: &G,
     most: u32,
 ) -> Turn
-    requires can { CanAll room.now most workers.old }
+    requires can { CanAll (judge_of (option_copied rules)) room.now most workers.old }
     requires most { most ≤ 131072 }
-    ensures on { AllOn room.now most workers.old workers.new }
+    ensures on { AllOn (judge_of (option_copied rules.entry)) room.now most workers.old workers.new }
     ensures gone { GoneIf result workers.new }
 {
     let Some((first, others)) = workers.split_first_mut() else {
         return Turn::Done;
     };
-    let own = first.turn(room, gate, most);
-    let rest = round(others, room, gate, most);
+    let own = first.turn(room, rules, gate, most);
+    let rest = round(others, room, rules, gate, most);
     both(own, rest)
 }
 
@@ -80,18 +84,19 @@ const IDLE_ROUNDS: u32 = 1_000_000;
 pub(crate) fn rotate_while_moving<K: SyscallKernel, G: Gate>(
     workers: &mut [Worker<K>],
     room: &Room<K>,
+    rules: Option<&Filter>,
     gate: &G,
     most: u32,
     parts: &Parts,
 )
-    requires can { CanAll room.now most workers.old }
+    requires can { CanAll (judge_of (option_copied rules)) room.now most workers.old }
     requires most { most ≤ 131072 }
-    ensures on { AllOn room.now most workers.old workers.new }
+    ensures on { AllOn (judge_of (option_copied rules.entry)) room.now most workers.old workers.new }
 {
     parts.begin();
     let mut idle = 0;
     for _ in 0..u64::MAX {
-        match round(workers, room, gate, most) {
+        match round(workers, room, rules, gate, most) {
             Turn::Done => return,
             Turn::Moved => idle = 0,
             Turn::Waiting => {
@@ -112,16 +117,17 @@ pub(crate) fn rotate<R: Wait, K: SyscallKernel, G: Gate>(
     rt: &R,
     workers: &mut [Worker<K>],
     room: &Room<K>,
+    rules: Option<&Filter>,
     gate: &G,
     most: u32,
 )
-    requires can { CanAll room.now most workers.old }
+    requires can { CanAll (judge_of (option_copied rules)) room.now most workers.old }
     requires most { most ≤ 131072 }
-    ensures on { AllOn room.now most workers.old workers.new }
+    ensures on { AllOn (judge_of (option_copied rules.entry)) room.now most workers.old workers.new }
     ensures gone { AreGone workers.new }
 {
     for _ in rt.forever() {
-        match round(workers, room, gate, most) {
+        match round(workers, room, rules, gate, most) {
             Turn::Done => return,
             Turn::Moved => {}
             Turn::Waiting => yield_now(),

@@ -1,7 +1,7 @@
 //! The workers of a room.
 ghost use Rattle.std.specs.Prelude.{◌≡◌, ◌+◌, length, IfOk};
 ghost use Rattle.nv_threads.specs.Threads.{threads};
-ghost use Rattle.nv_sequence.specs.Accounts.{AreFresh};
+ghost use Rattle.nv_replay.specs.Accounts.{AreFresh};
 ghost use Rattle.nv_workers.specs.New.{AreNewSeats, StaffsAnew};
 
 use crate::worker::Worker;

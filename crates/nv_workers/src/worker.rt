@@ -1,15 +1,18 @@
 //! A version with its seat.
 ghost use Rattle.std.specs.Prelude.{◌≡◌, ◌≤◌, ℕ, List, None, false, length, Some, IfOk};
+ghost use Rattle.std.specs.Option.{option_copied};
 ghost use Rattle.nv_threads.specs.Threads.{Proc, threads};
+ghost use Rattle.nv_replay.specs.Follow.{Judge, judge_of};
 ghost use Rattle.nv_replay.specs.Versions.{IsFresh};
 ghost use Rattle.nv_room.specs.Seats.{IsLeadOf, IsLeftOf, station_of_lead, station_of_reader, station_of_left, view, lead_view, left_view, due_of};
 ghost use Rattle.nv_room.specs.Steps.{as_gone, as_leaving};
 ghost use Rattle.nv_workers.specs.Working.{FollowsOn, LeadsOn};
-ghost use Rattle.nv_workers.specs.Workers.{Works, WorksAt, IsLast, station_of, station_of_seat};
+ghost use Rattle.nv_workers.specs.Workers.{Works, WorksAt, IsLast, TurnTells, station_of, station_of_seat};
 ghost use Rattle.nv_workers.specs.New.{IsNewLead, IsNewReader, LeadsAnew, ReadsAnew};
 
 use crate::follows::{Next, follow_turn};
 use crate::leads::lead_turn;
+use nv_bpf::Filter;
 use nv_calls::SyscallKernel;
 use nv_outside::Gate;
 use nv_promotion::{close, leave, retire, take};
@@ -82,18 +85,34 @@ impl<K: SyscallKernel> Worker<K> {
         Ok(Worker { version, seat, buf })
     }
 
-    /// One turn: at most one event is consumed or served.
-    pub fn turn<G: Gate>(&mut self, room: &Room<K>, gate: &G, most: u32) -> Turn
-        requires works { (p : Proc) × Works room.now most p self.old }
+    /// One turn: at most one event is consumed or served. A version that was a stage of its run, fresh with some process, is one
+    /// from the same process after it.
+    pub fn turn<G: Gate>(
+        &mut self,
+        room: &Room<K>,
+        rules: Option<&Filter>,
+        gate: &G,
+        most: u32,
+    ) -> Turn
+        requires works { (p : Proc) × Works (judge_of (option_copied rules)) room.now most p self.old }
         requires most { most ≤ 131072 }
-        ensures works { (p : Proc) → Works room.now most p self.old → Works room.now most p self.new }
+        ensures works { (p : Proc) → Works (judge_of (option_copied rules.entry)) room.now most p self.old → Works (judge_of (option_copied rules.entry)) room.now most p self.new }
         ensures station { station_of self.new ≡ station_of self.old }
         ensures last { IsLast result self.new.seat }
+        ensures tells { TurnTells room.now result self.old.version self.new.version self.old.seat self.new.seat }
     {
         let seat = mem::replace(&mut self.seat, Seat::Moving);
         match seat {
             Seat::Reading { reader, held } => {
-                let (seat, turn) = read_on(&mut self.version, &mut self.buf, reader, held, room, gate);
+                let (seat, turn) = read_on(
+                    &mut self.version,
+                    &mut self.buf,
+                    reader,
+                    held,
+                    room,
+                    rules,
+                    gate,
+                );
                 self.seat = seat;
                 turn
             }
@@ -117,14 +136,16 @@ fn read_on<K: SyscallKernel, G: Gate>(
     mut reader: Reader<K>,
     mut held: bool,
     room: &Room<K>,
+    rules: Option<&Filter>,
     gate: &G,
 ) -> (Seat<K>, Turn)
-    requires { (p : Proc) × FollowsOn room.now p version.old reader held buf.old }
-    ensures works { (most : ℕ) (p : Proc) → FollowsOn room.now p version.old reader held buf.old → WorksAt room.now most p version.new buf.new result.0 }
+    requires { (p : Proc) × FollowsOn (judge_of (option_copied rules)) room.now p version.old reader held buf.old }
+    ensures works { (most : ℕ) (p : Proc) → FollowsOn (judge_of (option_copied rules.entry)) room.now p version.old reader held buf.old → WorksAt (judge_of (option_copied rules.entry)) room.now most p version.new buf.new result.0 }
     ensures station { station_of_seat result.0 ≡ station_of_reader reader }
     ensures last { IsLast result.1 result.0 }
+    ensures tells { TurnTells room.now result.1 version.old version.new (Seat.Reading reader held) result.0 }
 {
-    match follow_turn(version, &mut reader, &mut held, buf, room, gate) {
+    match follow_turn(version, &mut reader, &mut held, buf, room, rules, gate) {
         Next::Moved => (Seat::Reading { reader, held }, Turn::Moved),
         Next::Waits => (Seat::Reading { reader, held }, Turn::Waiting),
         Next::Leads => {
@@ -144,10 +165,11 @@ fn take_lead<K: SyscallKernel>(
     reader: Reader<K>,
     room: &Room<K>,
 ) -> Lead<K>
-    requires follows { (p : Proc) × (buf : List ℕ) × FollowsOn room.now p version.old reader false buf }
+    requires follows { (judges : ℕ → Judge) × (p : Proc) × (buf : List ℕ) × FollowsOn judges room.now p version.old reader false buf }
     requires freed { (view reader).freed ≡ Some (length (view reader).seen) }
-    ensures leads { (most : ℕ) (p : Proc) (buf : List ℕ) → FollowsOn room.now p version.old reader false buf → LeadsOn room.now p version.new most result None }
+    ensures leads { (judges : ℕ → Judge) (most : ℕ) (p : Proc) (buf : List ℕ) → FollowsOn judges room.now p version.old reader false buf → LeadsOn judges room.now p version.new most result None }
     ensures station { station_of_lead result ≡ station_of_reader reader }
+    ensures on { version.new.at.fate ≡ None }
 {
     version.begin_lead();
     let lead = take(reader, room);
@@ -163,11 +185,12 @@ fn lead_on<K: SyscallKernel, G: Gate>(
     gate: &G,
     most: u32,
 ) -> (Seat<K>, Turn)
-    requires leads { (p : Proc) × LeadsOn room.now p version.old most lead asked }
+    requires leads { (judges : ℕ → Judge) × (p : Proc) × LeadsOn judges room.now p version.old most lead asked }
     requires most { most ≤ 131072 }
-    ensures works { (p : Proc) (buf : List ℕ) → LeadsOn room.now p version.old most lead asked → WorksAt room.now most p version.new buf result.0 }
+    ensures works { (judges : ℕ → Judge) (p : Proc) (buf : List ℕ) → LeadsOn judges room.now p version.old most lead asked → WorksAt judges room.now most p version.new buf result.0 }
     ensures station { station_of_seat result.0 ≡ station_of_lead lead }
     ensures last { IsLast result.1 result.0 }
+    ensures tells { TurnTells room.now result.1 version.old version.new (Seat.Leading lead asked) result.0 }
 {
     match lead_turn(version, &mut lead, &mut asked, room, gate, most) {
         Next::Moved => (Seat::Leading { lead, asked }, Turn::Moved),

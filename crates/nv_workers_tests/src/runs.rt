@@ -2,8 +2,9 @@
 ghost use Rattle.std.specs.Prelude.{◌≡◌, ◌≤◌, ◌<◌, [], IfSome, length, vec_len};
 ghost use Rattle.nv_threads.specs.Threads.{threads};
 ghost use Rattle.nv_replay.specs.Versions.{IsFresh};
-ghost use Rattle.nv_sequence.specs.Accounts.{AreFresh};
+ghost use Rattle.nv_replay.specs.Accounts.{AreFresh};
 
+use nv_bpf::Filter;
 use nv_guest::Guest;
 use nv_kernel::ScriptKernel;
 use nv_outside::OpenGate;
@@ -56,12 +57,16 @@ fn kernel(alloc: Global) -> Option<ScriptKernel>
 }
 
 /// The account of a run of these programs, one after another.
-pub fn one_by_one(alloc: Global, texts: &[String]) -> Option<Account<ScriptKernel>>
+pub fn one_by_one(
+    alloc: Global,
+    texts: &[String],
+    rules: Option<&Filter>,
+) -> Option<Account<ScriptKernel>>
     requires { length texts.now ≤ 8 }
 {
     let versions = versions(alloc, texts)?;
     let kernel = kernel(alloc)?;
-    Some(nv_sequence::run(versions, kernel, MOST_EVENTS))
+    Some(nv_sequence::run(versions, rules, kernel, MOST_EVENTS))
 }
 
 /// The account of a run of these programs beside each other.
@@ -69,6 +74,7 @@ pub fn beside<R: Threads + Wait + Sync>(
     rt: &R,
     alloc: Global,
     texts: &[String],
+    rules: Option<&Filter>,
     places: u32,
     threads: u32,
 ) -> Option<Account<ScriptKernel>>
@@ -79,6 +85,16 @@ pub fn beside<R: Threads + Wait + Sync>(
     let kernel = kernel(alloc)?;
     let (room, readers, lead) = Room::make(alloc, kernel, texts.len() as u32, places).ok()?;
     let workers = staff(alloc, versions, readers, lead).ok()?;
-    let ran = run_all(rt, alloc, room, workers, &OpenGate, MOST_EVENTS, threads).ok()?;
+    let ran = run_all(
+        rt,
+        alloc,
+        room,
+        workers,
+        rules,
+        &OpenGate,
+        MOST_EVENTS,
+        threads,
+    )
+    .ok()?;
     Some(end(ran))
 }

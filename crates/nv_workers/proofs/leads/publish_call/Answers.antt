@@ -7,7 +7,7 @@ use Rattle.nv_threads.specs.Threads.{threads, Proc}
 use Rattle.nv_threads.specs.ThreadLaws.{threads_own}
 use Rattle.nv_replay.specs.declared.standing.Standing.{Standing}
 use Rattle.nv_room.specs.Seats.{kernel_of}
-use Rattle.nv_sequence.proofs.Turning.{event_is, get_last}
+use Rattle.nv_replay.proofs.Turning.{event_is, get_last}
 use Rattle.nv_workers.proofs.leads.publish_call.Goals as goal
 
 pub publish-requires-clause-lives : goal.publish-requires-clause-lives
