@@ -138,7 +138,7 @@ module _ {K : Type 0} {G : Ghosts K} where
 
   view_here : (d : View K) (ls : List (Left K G)) (k : ℕ) (l : Left K G) → get_elem? ls k ≡ some l → view_at d ls k ≡ left_view l
   view_here d [] k l e = cc
-  view_here d (m ∷ ls) zero l e = sym (ap left_view (some-injective e))
+  view_here d (m ∷ ls) zero l e = ap left_view (some-injective m l e)
   view_here d (m ∷ ls) (suc k) l e = view_here d ls k l e
 
 module _ (judges : ℕ → Judge) {K : Type 0} {G : Ghosts K} (room : Room K) (most : ℕ) where
@@ -149,7 +149,7 @@ module _ (judges : ℕ → Judge) {K : Type 0} {G : Ghosts K} (room : Room K) (m
   left_at i [] (v ∷ vs) (m ∷ ls) r k l e = absurd r
   left_at i (f ∷ fs) [] (m ∷ ls) r k l e = absurd r
   left_at i (f ∷ fs) (v ∷ vs) (m ∷ ls) r zero l e =
-      let s : m ≡ l = some-injective e in
+      let s : m ≡ l = some-injective m l e in
       let at = r.0.station in (
         subst (λ (x : Left K G). IsLeftOf room x) s r.0.of,
         subst (λ (x : Left K G). station_of_left x ≡ i + 0) s (omega arith),
@@ -174,8 +174,8 @@ module _ (judges : ℕ → Judge) {K : Type 0} {G : Ghosts K} (room : Room K) (m
   ended_at d i (f ∷ fs) (v ∷ vs) (l ∷ ls) r zero old new a b =
       let z : i ≡ i + 0 = omega arith in
       subst (λ (j : ℕ). HasEnded judges (G.start (origin room)) most j old.at.process new (left_view l)) z
-          (subst (λ (x : Running Proc). HasEnded judges (G.start (origin room)) most i x.at.process new (left_view l)) (same_Some a)
-          (subst (λ (x : Running Proc). HasEnded judges (G.start (origin room)) most i f.at.process x (left_view l)) (same_Some b) r.0.ended))
+          (subst (λ (x : Running Proc). HasEnded judges (G.start (origin room)) most i x.at.process new (left_view l)) (same_Some f old a)
+          (subst (λ (x : Running Proc). HasEnded judges (G.start (origin room)) most i f.at.process x (left_view l)) (same_Some v new b) r.0.ended))
   ended_at d i (f ∷ fs) (v ∷ vs) (l ∷ ls) r (suc k) old new a b =
       let z : i + 1 + k ≡ i + suc k = omega arith in
       subst (λ (j : ℕ). HasEnded judges (G.start (origin room)) most j old.at.process new (view_at d ls k)) z (ended_at d (i + 1) fs vs ls r.1 k old new a b)
@@ -202,7 +202,7 @@ module _ (judges : ℕ → Judge) {K : Type 0} {G : Ghosts K} (room : Room K) (m
   }
 
   -- what `end` promises
-  pub accounted : (h : List Entry) (counts : List ℕ) (fs vs : List (Running Proc)) (ls : List (Left K G)) AllRan judges room most fs vs ls → IsLawful h → IsLegal (G.start (origin room)) h
+  pub accounted : (h : List Entry) (counts : List ℕ) (fs vs : List (Running Proc)) (ls : List (Left K G)) → AllRan judges room most fs vs ls → IsLawful h → IsLegal (G.start (origin room)) h
       → AllTell (map spell h) counts ls → length counts ≡ stations_of room
       → IsAccount threads judges (G.start (origin room)) most fs vs h
   accounted h counts fs vs ls a law legal t wide =

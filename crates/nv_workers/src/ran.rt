@@ -6,7 +6,7 @@ ghost use Rattle.nv_replay.specs.Follow.{Judge, judge_of};
 ghost use Rattle.nv_replay.specs.Versions.{Running};
 ghost use Rattle.nv_room.specs.Seats.{stations_of, origin};
 ghost use Rattle.nv_workers.specs.Ends.{IsAccount};
-ghost use Rattle.nv_workers.specs.Rounds.{AreGone};
+ghost use Rattle.nv_workers.specs.Rounds.{CanAll, AllOn, AreGone};
 ghost use Rattle.nv_workers.specs.New.{AreNew};
 ghost use Rattle.nv_workers.specs.Ran.{AllRan, AreApart};
 
@@ -52,22 +52,32 @@ pub fn run_all<R: Threads + Wait + Sync, K: SyscallKernel, G: Gate + Sync>(
 {
     let mut left = Vec::with_capacity(alloc, workers.len())?;
     let mut versions = Vec::with_capacity(alloc, workers.len())?;
-    deal(
-        rt,
-        &mut workers,
-        &room,
-        rules,
-        gate,
-        most,
-        threads as usize,
-    );
-    rotate(rt, &mut workers, &room, rules, gate, most);
+    run_beside(rt, &mut workers, &room, rules, gate, most, threads);
     take_apart(workers, &mut versions, &mut left);
     Ok(Ran {
         room,
         left,
         versions,
     })
+}
+
+// Turns on so many threads, and then on this one, until all have ended.
+fn run_beside<R: Threads + Wait + Sync, K: SyscallKernel, G: Gate + Sync>(
+    rt: &R,
+    workers: &mut [Worker<K>],
+    room: &Room<K>,
+    rules: Option<&Filter>,
+    gate: &G,
+    most: u32,
+    threads: u32,
+)
+    requires can { CanAll (judge_of (option_copied rules)) room.now most workers.old }
+    requires most { most ≤ 131072 }
+    ensures on { AllOn (judge_of (option_copied rules.entry)) room.now most workers.old workers.new }
+    ensures gone { AreGone workers.new }
+{
+    deal(rt, workers, room, rules, gate, most, threads as usize);
+    rotate(rt, workers, room, rules, gate, most);
 }
 
 // The versions and the seats that have left, in order.
