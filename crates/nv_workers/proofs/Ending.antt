@@ -1,5 +1,5 @@
 -- From what the room's end and the workers promise to the account.
-use Rattle.std.proofs.Common.{◌≡◌, ◌≢◌, ◌∙◌, sym, ap, subst, refl, ℕ, zero, suc, ◌+◌, ◌<◌, ◌≤◌, ◌⊎◌, inl, inr, List, [], ◌∷◌, ◌++◌, map, length, take, drop, Option, Some, None, arith, take-append-drop, eq-eqb, ne_eqb}
+use Rattle.std.proofs.Common.{◌≡◌, ◌≢◌, ◌∙◌, sym, ap, subst, refl, ℕ, zero, suc, ◌+◌, ◌<◌, ◌≤◌, inl, inr, List, [], ◌∷◌, ◌++◌, map, length, take, drop, Some, arith, take-append-drop, eq-eqb, ne_eqb}
 use Rattle.std.proofs.lemmas.Bool.{cases_lt}
 use Rattle.std.specs.Prelude.{slice_get}
 use mathlib.Core.Option.{some, some-injective, some-ne-none}
@@ -11,7 +11,7 @@ use Rattle.nv_words.proofs.SpellLaws.{spell_alone, spell_length}
 use Rattle.nv_room.specs.declared.view.View.{View}
 use Rattle.nv_room.specs.declared.view.Span.{Span}
 use Rattle.nv_room.specs.Placement.{Log}
-use Rattle.nv_room.specs.Spans.{span, Tiles, Rising, kept_if, of_station, Before}
+use Rattle.nv_room.specs.Spans.{Tiles, Rising, kept_if, of_station}
 use Rattle.nv_room.specs.Room.{Reads}
 use Rattle.nv_threads.specs.Threads.{Proc, threads}
 use Rattle.nv_threads.specs.ThreadLaws.{thread_laws}
@@ -21,7 +21,7 @@ use Rattle.nv_replay.specs.Accounts.{AreFresh}
 use Rattle.nv_replay.proofs.Survivor.{lawful_front}
 use Rattle.nv_workers.specs.Ends.{Leaving, SpanFrom, Tile, spelt, IsSpelling, IsFinished, IsDone, IsAccount}
 use Rattle.nv_workers.specs.Working.{ends_of, told_by, HasEnded}
-use Rattle.nv_workers.specs.Endings.{IsTold, AreTold}
+use Rattle.nv_workers.specs.Endings.{AreTold}
 use Rattle.nv_workers.proofs.Spelt.{same_spelt, long_as}
 use Rattle.nv_workers.proofs.Told.{workers}
 
@@ -51,24 +51,30 @@ module _ (left : ℕ → Leaving) where
       let e : xs ≡ [] = none_made i xs r (λ j s h. let l = d j s h in omega arith) in
       subst (λ (z : List Span). Tiles x z y) e t
   tile_by (suc m) i x y [] t r d o =
-      let s : (left i).spans ≡ [] = o i (omega arith) (omega arith) in
-      (x, subst (λ (z : List (ℕ × ℕ)). SpanFrom z x x) (sym s) refl,
-      tile_by m (i + 1) x y [] t tt (λ j z h. absurd (some-ne-none z (sym h))) (λ k p q. o k (omega arith) (omega arith)))
+      let s : (left i).spans ≡ [] = o i (omega arith) (omega arith) in (
+        x,
+        subst (λ (z : List (ℕ × ℕ)). SpanFrom z x x) (sym s) refl,
+        tile_by m (i + 1) x y [] t tt (λ j z h. absurd (some-ne-none z (sym h))) (λ k p q. o k (omega arith) (omega arith)),
+      )
   tile_by (suc m) i x y (z ∷ zs) t r d o = elim (cases_lt i z.station) [
     | inl l ↦ (
         let none : of_station i (z ∷ zs) ≡ [] = none_below (i + 1) i (z ∷ zs) ((omega arith), r.1) (omega arith) in
-        let s : (left i).spans ≡ [] = o i (omega arith) (omega arith) ∙ ap (map ends_of) none in
-        (x, subst (λ (q : List (ℕ × ℕ)). SpanFrom q x x) (sym s) refl,
-        tile_by m (i + 1) x y (z ∷ zs) t ((omega arith), r.1) (λ j w h. let b = d j w h in omega arith) (λ k p q. o k (omega arith) (omega arith))))
+        let s : (left i).spans ≡ [] = o i (omega arith) (omega arith) ∙ ap (map ends_of) none in (
+          x,
+          subst (λ (q : List (ℕ × ℕ)). SpanFrom q x x) (sym s) refl,
+          tile_by m (i + 1) x y (z ∷ zs) t ((omega arith), r.1) (λ j w h. let b = d j w h in omega arith) (λ k p q. o k (omega arith) (omega arith)),
+        ))
     | inr l ↦ (
         let a = r.0 in
         let e : z.station ≡ i = omega arith in
         let rest : of_station i zs ≡ [] = none_below (z.station + 1) i zs r.1 (omega arith) in
         let s : (left i).spans ≡ (z.from, z.to) ∷ [] = o i (omega arith) (omega arith) ∙ (ap (map ends_of) (own_kept i z zs e) ∙ ap (λ (q : List Span). (z.from, z.to) ∷ map ends_of q) rest) in
-        let r' : Rising (i + 1) zs = subst (λ (n : ℕ). Rising (n + 1) zs) e r.1 in
-        (z.to, subst (λ (q : List (ℕ × ℕ)). SpanFrom q x z.to) (sym s) (t.0, refl),
-        tile_by m (i + 1) z.to y zs t.2 r' (λ j w h. let b = d (suc j) w h in omega arith)
-        (λ k p q. o k (omega arith) (omega arith) ∙ ap (map ends_of) (others_skipped k z zs (λ f. absurd (omega arith))))))
+        let r' : Rising (i + 1) zs = subst (λ (n : ℕ). Rising (n + 1) zs) e r.1 in (
+          z.to,
+          subst (λ (q : List (ℕ × ℕ)). SpanFrom q x z.to) (sym s) (t.0, refl),
+          tile_by m (i + 1) z.to y zs t.2 r' (λ j w h. let b = d (suc j) w h in omega arith)
+              (λ k p q. o k (omega arith) (omega arith) ∙ ap (map ends_of) (others_skipped k z zs (λ f. absurd (omega arith)))),
+        ))
   ]
 
 -- Words
@@ -97,9 +103,9 @@ words_by h seen (x ∷ xs) r =
     let a = r 0 x refl in
     let s : spelt spell (slice_get h (length seen)) ≡ a.0 = spelt_at h (length seen) a.0 a.1 in
     let all : (i y : ℕ) → get_elem? (x ∷ xs) i ≡ some y → get_elem? a.0 i ≡ some y = λ i y q.
-        let b = r i y q in
-        let same : b.0 ≡ a.0 = some-injective b.0 a.0 (sym b.1 ∙ a.1) in
-        subst (λ (z : List ℕ). get_elem? z i ≡ some y) same b.2 in
+    let b = r i y q in
+    let same : b.0 ≡ a.0 = some-injective b.0 a.0 (sym b.1 ∙ a.1) in
+    subst (λ (z : List ℕ). get_elem? z i ≡ some y) same b.2 in
     let f = front_by (x ∷ xs) a.0 all in
     (f.0, s ∙ f.1)
 
@@ -130,11 +136,11 @@ pair_at [] k a b h = cc
 pair_at (x ∷ xs) k a b h = elim (cases_lt x.station k) [
   | inl l ↦ (let r = pair_at xs k a b (sym (ap (map ends_of) (others_skipped k x xs (λ e. absurd (omega arith)))) ∙ h) in (suc r.0, r.1, r.2, r.3, r.4))
   | inr l ↦ elim (cases_lt k x.station) [
-      | inl m ↦ (let r = pair_at xs k a b (sym (ap (map ends_of) (others_skipped k x xs (λ e. absurd (omega arith)))) ∙ h) in (suc r.0, r.1, r.2, r.3, r.4))
-      | inr m ↦ (let e : x.station ≡ k = omega arith in
-          let q = sym (ap (map ends_of) (own_kept k x xs e)) ∙ h in
-          (0, x, refl, e, ap (λ (z : List (ℕ × ℕ)). (first z).0) q))
-    ]
+    | inl m ↦ (let r = pair_at xs k a b (sym (ap (map ends_of) (others_skipped k x xs (λ e. absurd (omega arith)))) ∙ h) in (suc r.0, r.1, r.2, r.3, r.4))
+    | inr m ↦ (let e : x.station ≡ k = omega arith in
+        let q = sym (ap (map ends_of) (own_kept k x xs e)) ∙ h in
+        (0, x, refl, e, ap (λ (z : List (ℕ × ℕ)). (first z).0) q))
+  ]
 ]
 
 module _ (judges : ℕ → Judge) {T : Type 0} (start : Start) (most : ℕ) (h : List Entry) (n : ℕ) (w : ℕ → View T) (law : IsLawful h) (told : AreTold (map spell h) n w) where

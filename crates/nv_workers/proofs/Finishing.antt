@@ -174,8 +174,8 @@ module _ (judges : ℕ → Judge) {K : Type 0} {G : Ghosts K} (room : Room K) (m
   ended_at d i (f ∷ fs) (v ∷ vs) (l ∷ ls) r zero old new a b =
       let z : i ≡ i + 0 = omega arith in
       subst (λ (j : ℕ). HasEnded judges (G.start (origin room)) most j old.at.process new (left_view l)) z
-          (subst (λ (x : Running Proc). HasEnded judges (G.start (origin room)) most i x.at.process new (left_view l)) (same_Some f old a)
-          (subst (λ (x : Running Proc). HasEnded judges (G.start (origin room)) most i f.at.process x (left_view l)) (same_Some v new b) r.0.ended))
+      (subst (λ (x : Running Proc). HasEnded judges (G.start (origin room)) most i x.at.process new (left_view l)) (same_Some f old a)
+      (subst (λ (x : Running Proc). HasEnded judges (G.start (origin room)) most i f.at.process x (left_view l)) (same_Some v new b) r.0.ended))
   ended_at d i (f ∷ fs) (v ∷ vs) (l ∷ ls) r (suc k) old new a b =
       let z : i + 1 + k ≡ i + suc k = omega arith in
       subst (λ (j : ℕ). HasEnded judges (G.start (origin room)) most j old.at.process new (view_at d ls k)) z (ended_at d (i + 1) fs vs ls r.1 k old new a b)
@@ -211,4 +211,4 @@ module _ (judges : ℕ → Judge) {K : Type 0} {G : Ghosts K} (room : Room K) (m
       let all : length vs ≡ stations_of room = long.1 ∙ (sym long.0 ∙ a.all) in
       ending judges (G.start (origin room)) most h (stations_of room) (view_at d ls) law (told_by d (map spell h) counts fs vs ls a t wide) fs vs a.fresh long.1 all legal
       (λ k old new o n. let z : 0 + k ≡ k = omega arith in
-          subst (λ (j : ℕ). HasEnded judges (G.start (origin room)) most j old.at.process new (view_at d ls k)) z (ended_at d 0 fs vs ls a.ran k old new o n))
+      subst (λ (j : ℕ). HasEnded judges (G.start (origin room)) most j old.at.process new (view_at d ls k)) z (ended_at d 0 fs vs ls a.ran k old new o n))

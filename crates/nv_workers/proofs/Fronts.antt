@@ -1,7 +1,6 @@
 -- Lists that one history begins with, and where the spans of a station and of those behind it begin.
-use Rattle.std.proofs.Common.{◌≡◌, ◌∙◌, sym, ap, subst, refl, ℕ, zero, suc, ◌+◌, ◌<◌, ◌≤◌, ◌⊎◌, inl, inr, true, false, List, [], ◌∷◌, ◌++◌, length, take, Option, Some, None, arith, append_assoc, append-nil, length-append}
+use Rattle.std.proofs.Common.{◌≡◌, sym, ap, refl, ℕ, zero, suc, ◌+◌, ◌<◌, ◌≤◌, List, [], ◌∷◌, ◌++◌, length, take, Some, arith, append-nil, length-append}
 use Rattle.std.specs.Prelude.{slice_get}
-use Rattle.nv_calls.specs.Calls.{Entry}
 use Rattle.nv_workers.specs.Ends.{Leaving, SpanFrom, Tile}
 
 pub head_is : {X : Type 0} (a b : X) (xs ys : List X) → a ∷ xs ≡ b ∷ ys → (a ≡ b) × (xs ≡ ys)

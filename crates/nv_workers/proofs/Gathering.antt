@@ -1,26 +1,25 @@
 -- The account of versions that ended beside each other is Sequence's.
-use Rattle.std.proofs.Common.{◌≡◌, ◌∙◌, sym, ap, subst, refl, ℕ, zero, suc, ◌+◌, ◌<◌, ◌≤◌, ◌⊎◌, inl, inr, Bool, true, false, List, [], ◌∷◌, ◌++◌, map, length, take, Option, Some, None, arith, append_assoc, append-nil, length-append}
-use Rattle.std.specs.Prelude.{slice_get, not, ◌&&◌}
+use Rattle.std.proofs.Common.{◌≡◌, ◌∙◌, sym, ap, subst, refl, ℕ, suc, ◌+◌, ◌<◌, ◌≤◌, ◌⊎◌, inl, inr, Bool, true, false, List, [], ◌∷◌, ◌++◌, map, length, take, Option, Some, None, arith, length-append}
+use Rattle.std.specs.Prelude.{not, ◌&&◌}
 use Rattle.nv_calls.specs.Calls.{Entry}
 use Rattle.nv_calls.specs.Logs.{Start, IsLawful, live_after}
 use Rattle.nv_threads.specs.Behaviours.{Behaviour, IsProcess}
 use Rattle.nv_replay.specs.declared.fate.Fate.{Fate}
-use Rattle.nv_replay.specs.Settling.{stage}
 use Rattle.nv_replay.specs.Follow.{Follower, Judge, fresh, next, follow, IsInStep, is_exited}
-use Rattle.nv_replay.specs.Lead.{Leader, is_cut, cut_of, next_call, lead}
+use Rattle.nv_replay.specs.Lead.{cut_of, next_call, lead}
 use Rattle.nv_replay.specs.declared.standing.Standing.{Standing}
-use Rattle.nv_replay.specs.Sequence.{Account, leads, is_on, follower_line, leader_line, turn, sequence_from, sequence}
+use Rattle.nv_replay.specs.Sequence.{leads, is_on, follower_line, leader_line, sequence_from}
 use Rattle.nv_replay.specs.Versions.{Running, leader_of, standing_of}
 use Rattle.nv_replay.proofs.Settled.{Reaches}
 use Rattle.nv_replay.proofs.Extending.{extend_by, follow_reached}
 use Rattle.nv_replay.proofs.Wholes.{follow_is, rests}
 use Rattle.nv_replay.specs.Accounts.{AreCuts}
-use Rattle.nv_replay.proofs.Wholly.{lead_is, Suits, suits_end}
+use Rattle.nv_replay.proofs.Wholly.{lead_is, suits_end}
 use Rattle.nv_replay.proofs.Survivor.{lawful_front, follow_done, stage_in_step}
 use Rattle.nv_replay.proofs.Turning.{take_all}
 use Rattle.nv_replay.proofs.Fates.{alive_not}
-use Rattle.nv_workers.specs.Ends.{IsStage, IsCutOf, Leaving, SpanFrom, Tile, begun, HasLedFrom}
-use Rattle.nv_workers.proofs.Fronts.{front_of, no_more, take_own, take_within, with_next, stop_by}
+use Rattle.nv_workers.specs.Ends.{Leaving, SpanFrom, Tile, begun, HasLedFrom}
+use Rattle.nv_workers.proofs.Fronts.{front_of, no_more, take_own, take_within, stop_by}
 
 pub off_some : (f : Option Fate) → is_on f ≡ false → f ≡ None → ⊥
 off_some None h e = cc

@@ -1,5 +1,5 @@
 -- Turn by turn a worker keeps what the account needs in the end.
-use Rattle.std.proofs.Common.{◌≡◌, ◌∙◌, sym, ap, subst, refl, ℕ, zero, suc, ◌+◌, ◌<◌, ◌≤◌, ◌⊎◌, inl, inr, Bool, true, false, List, [], ◌∷◌, ◌++◌, length, take, Option, Some, None, arith, append-nil, length-append}
+use Rattle.std.proofs.Common.{◌≡◌, ◌∙◌, sym, ap, subst, refl, ℕ, ◌+◌, ◌≤◌, ◌⊎◌, inl, inr, Bool, true, false, List, [], ◌∷◌, ◌++◌, length, take, Option, Some, None, arith, append-nil, length-append}
 use Rattle.std.specs.Prelude.{slice_get, nat_le, if◌then◌else◌}
 use Rattle.nv_calls.specs.Calls.{Entry}
 use Rattle.nv_calls.specs.Logs.{Start, served, IsLawful, live_after}
@@ -9,19 +9,18 @@ use Rattle.nv_threads.specs.declared.turns.Came.{Came}
 use Rattle.nv_threads.specs.declared.turns.Came.TheVariants.{Asked, Fault}
 use Rattle.nv_replay.specs.declared.fate.Fate.{Fate}
 use Rattle.nv_replay.specs.declared.fate.Fate.TheVariants.{Memory}
-use Rattle.nv_replay.specs.Follow.{Follower, Judge, fresh, next, decided, follow, IsInStep, is_exited}
-use Rattle.nv_replay.specs.Lead.{Leader, is_cut, is_memory, next_call}
-use Rattle.nv_replay.specs.Sequence.{is_on}
+use Rattle.nv_replay.specs.Follow.{Follower, Judge, fresh, next, decided, follow, IsInStep}
+use Rattle.nv_replay.specs.Lead.{Leader, next_call}
 use Rattle.nv_replay.specs.Versions.{Running, IsLeading, asking_next, asking_by, answered_by, leader_of}
 use Rattle.nv_replay.proofs.Settled.{Reaches, reach_here, reach_on}
 use Rattle.nv_replay.proofs.Extending.{extend_by, in_step_on, take_front_of}
 use Rattle.nv_replay.proofs.Stepping.{decided_in_step}
 use Rattle.nv_replay.proofs.Wholes.{next_is, follow_is, rests}
-use Rattle.nv_replay.specs.Turns.{LedOn, TookTurn}
+use Rattle.nv_replay.specs.Turns.{TookTurn}
 use Rattle.nv_replay.specs.Accounts.{with_span}
 use Rattle.nv_replay.proofs.Turning.{get_last, take_all, turn_dropped, turn_refused, turn_served}
 use Rattle.nv_replay.proofs.Wholly.{Suits, suits_now}
-use Rattle.nv_workers.specs.Ends.{IsStage, IsCutOf, Leaving, begun, HasLedFrom, IsDroppedAt, HasFollowed, HasLeft, IsDone}
+use Rattle.nv_workers.specs.Ends.{IsStage, IsCutOf, begun, HasLedFrom}
 use Rattle.nv_workers.specs.Turns.{held_list, IsReading, IsServing, IsAsking}
 use Rattle.nv_workers.proofs.Gathering.{IsFirst}
 

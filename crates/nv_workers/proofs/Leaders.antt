@@ -1,7 +1,7 @@
 -- Which version is the next leader: the least in step with the whole log; and that no reader without a fate meets a closed room.
-use Rattle.std.proofs.Common.{◌≡◌, ◌∙◌, sym, ap, subst, refl, ℕ, zero, suc, ◌+◌, ◌<◌, ◌≤◌, inl, inr, true, false, List, [], ◌∷◌, ◌++◌, length, take, Option, Some, None, arith, length-append}
+use Rattle.std.proofs.Common.{◌≡◌, ◌∙◌, sym, ap, subst, refl, ℕ, zero, suc, ◌+◌, ◌<◌, ◌≤◌, inl, false, List, [], ◌∷◌, ◌++◌, length, None, arith, length-append}
 use Rattle.nv_calls.specs.Calls.{Entry}
-use Rattle.nv_calls.specs.Logs.{Start, IsLawful, live_after}
+use Rattle.nv_calls.specs.Logs.{Start, live_after}
 use Rattle.nv_threads.specs.Behaviours.{Behaviour, IsProcess}
 use Rattle.nv_replay.specs.Follow.{Follower, Judge, fresh, next, follow}
 use Rattle.nv_replay.specs.Sequence.{is_on}
@@ -12,7 +12,7 @@ use Rattle.nv_replay.proofs.Fates.{alive_not}
 use Rattle.nv_workers.specs.Ends.{Leaving, Tile}
 use Rattle.nv_workers.specs.Turns.{IsReading}
 use Rattle.nv_workers.proofs.Fronts.{front_of, stop_by}
-use Rattle.nv_workers.proofs.Gathering.{FollowedOut, LedOut, ended_by, off_some}
+use Rattle.nv_workers.proofs.Gathering.{FollowedOut, ended_by, off_some}
 
 module _ {P : Type 0} (g : Behaviour P) (laws : IsProcess g) (judges : ℕ → Judge) (replies : Start) (most : ℕ) where
   -- a version that never led is out of step with the log at which a version above it took the lead, whenever it was dropped

@@ -1,5 +1,5 @@
 -- A worker's seat changes.
-use Rattle.std.proofs.Common.{◌≡◌, ◌∙◌, sym, ap, subst, refl, ℕ, ◌+◌, true, false, List, [], ◌∷◌, ◌++◌, map, length, Option, Some, None, arith}
+use Rattle.std.proofs.Common.{◌≡◌, ◌∙◌, sym, ap, subst, refl, ℕ, false, List, [], ◌∷◌, ◌++◌, map, length, None}
 use Rattle.nv_calls.specs.Calls.{Entry}
 use Rattle.nv_calls.specs.Logs.{IsLawful, Start}
 use Rattle.nv_calls.specs.declared.kernel.SyscallKernel.{Ghosts}
@@ -20,7 +20,7 @@ use Rattle.nv_workers.specs.Turns.{IsReading, IsServing}
 use Rattle.nv_workers.specs.Working.{HasEnded, FollowsOn, LeadsOn}
 use Rattle.nv_workers.proofs.Keeping.{takes, reads_first}
 use Rattle.nv_workers.proofs.Spelt.{same_spelt, long_as}
-use Rattle.nv_workers.proofs.Reading.{Bare, bare}
+use Rattle.nv_workers.proofs.Reading.{bare}
 
 no_length : (xs : List ℕ) → length xs ≡ 0 → xs ≡ []
 no_length [] h = refl

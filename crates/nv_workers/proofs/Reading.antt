@@ -1,5 +1,5 @@
 -- A reader's version with the event that its seat has read.
-use Rattle.std.proofs.Common.{◌≡◌, ◌∙◌, sym, ap, subst, refl, ℕ, ◌+◌, ◌<◌, ◌≤◌, ◌⊎◌, inl, inr, Bool, true, false, List, [], ◌∷◌, ◌++◌, map, length, take, Option, Some, None, arith, append-nil, length-append, ℤ, pos}
+use Rattle.std.proofs.Common.{◌≡◌, ◌∙◌, sym, ap, subst, refl, ℕ, ◌+◌, ◌<◌, ◌⊎◌, inl, inr, true, false, List, [], ◌∷◌, ◌++◌, map, length, take, Option, Some, None, arith, append-nil, length-append, pos}
 use Rattle.std.proofs.lemmas.List.{map-append}
 use Rattle.std.specs.Prelude.{is_some, Contains}
 use Rattle.nv_calls.specs.Calls.{Entry}
@@ -21,15 +21,15 @@ use Rattle.nv_replay.specs.declared.version.Followed.TheVariants.{Matched, Rewro
 use Rattle.nv_replay.specs.Follow.{Follower, Judge, Told, decided, fresh, next}
 use Rattle.nv_replay.specs.Sequence.{is_on}
 use Rattle.nv_replay.specs.Versions.{Running}
-use Rattle.nv_replay.proofs.Turning.{get_last, take_all}
+use Rattle.nv_replay.proofs.Turning.{get_last}
 use Rattle.nv_replay.proofs.Extending.{take_front_of}
 use Rattle.nv_replay.proofs.Survivor.{lawful_front}
-use Rattle.nv_workers.specs.Ends.{IsStage, IsDroppedAt}
+use Rattle.nv_workers.specs.Ends.{IsStage}
 use Rattle.nv_workers.specs.Turns.{held_list, IsReading}
-use Rattle.nv_workers.specs.Working.{ends_of, told_by, Holds, HasEnded, FollowsOn}
+use Rattle.nv_workers.specs.Working.{ends_of, Holds, HasEnded, FollowsOn}
 use Rattle.nv_workers.proofs.Keeping.{with_next_held, decides, reads_on, reads_held}
 use Rattle.nv_workers.proofs.Leaders.{never_closed}
-use Rattle.nv_workers.proofs.Spelt.{same_spelt, long_as, Parted, parted}
+use Rattle.nv_workers.proofs.Spelt.{same_spelt, long_as, parted}
 
 -- one event more is seen
 pub longer : (old new : List (List ℕ)) (read : List ℕ) → new ≡ old ++ read ∷ [] → length old < length new

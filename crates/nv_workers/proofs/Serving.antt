@@ -1,8 +1,8 @@
 -- A leader's version with its lead.
-use Rattle.std.proofs.Common.{◌≡◌, ◌∙◌, sym, ap, subst, refl, ℕ, suc, ◌+◌, ◌<◌, inl, inr, true, false, List, [], ◌∷◌, ◌++◌, map, length, Option, Some, None, arith, length-append}
+use Rattle.std.proofs.Common.{◌≡◌, ◌∙◌, sym, ap, subst, ℕ, ◌+◌, ◌<◌, inr, false, List, [], ◌∷◌, ◌++◌, map, length, Option, Some, None, arith, length-append}
 use Rattle.std.proofs.lemmas.List.{map-append}
 use Rattle.nv_calls.specs.Calls.{Entry}
-use Rattle.nv_calls.specs.Logs.{InRange, IsLawful, Start, served}
+use Rattle.nv_calls.specs.Logs.{IsLawful, Start, served}
 use Rattle.nv_calls.specs.declared.kernel.SyscallKernel.{Ghosts}
 use Rattle.nv_words.specs.Spell.{spell}
 use Rattle.nv_room.specs.declared.view.View.{View}
@@ -12,7 +12,6 @@ use Rattle.nv_room.specs.Spans.{span, grown}
 use Rattle.nv_room.specs.Seats.{IsLeadOf, SameLead, lead_view, station_of_lead, kernel_of, due_of, origin, stations_of}
 use Rattle.nv_threads.specs.Threads.{Proc, threads}
 use Rattle.nv_threads.specs.ThreadLaws.{thread_laws}
-use Rattle.nv_replay.specs.declared.fate.Fate.{Fate}
 use Rattle.nv_replay.specs.declared.fate.Fate.TheVariants.{Memory}
 use Rattle.nv_replay.specs.Follow.{Judge}
 use Rattle.nv_replay.specs.Sequence.{is_on}
@@ -20,7 +19,7 @@ use Rattle.nv_replay.specs.Versions.{Running, asking_next, answered_by}
 use Rattle.nv_replay.proofs.Turning.{Waits, waits}
 use Rattle.nv_workers.specs.Ends.{HasLedFrom}
 use Rattle.nv_workers.specs.Turns.{IsServing, IsAsking}
-use Rattle.nv_workers.specs.Working.{ends_of, told_by, Serves, HasEnded, LeadsOn}
+use Rattle.nv_workers.specs.Working.{ends_of, Serves, HasEnded, LeadsOn}
 use Rattle.nv_workers.proofs.Spelt.{long_as}
 use Rattle.nv_workers.proofs.Keeping.{asking_on, leading, drops, asks, refuses, publishes}
 

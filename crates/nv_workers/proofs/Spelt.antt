@@ -1,12 +1,10 @@
 -- Lists of events by their spellings.
-use Rattle.std.proofs.Common.{◌≡◌, ◌∙◌, sym, ap, subst, refl, ℕ, zero, suc, ◌+◌, List, [], ◌∷◌, ◌++◌, map, length, Some, arith, append-nil}
+use Rattle.std.proofs.Common.{◌≡◌, ap, refl, ℕ, suc, List, [], ◌∷◌, ◌++◌, map, length, Some}
 use Rattle.std.specs.Prelude.{slice_get}
 use Rattle.nv_calls.specs.Calls.{Entry}
 use Rattle.nv_calls.specs.Logs.{InRange, IsLawful}
 use Rattle.nv_words.specs.Spell.{spell}
 use Rattle.nv_words.proofs.SpellLaws.{spell_one}
-use Rattle.nv_replay.proofs.Extending.{get_front}
-use Rattle.nv_replay.proofs.Survivor.{lawful_front}
 
 abbrev AreInRange : List Entry → Type 0
 AreInRange log = (i : ℕ) (e : Entry) → slice_get log i ≡ Some e → InRange e

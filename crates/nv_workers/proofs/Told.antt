@@ -1,18 +1,18 @@
 -- From what finish and run_all promise to the account.
-use Rattle.std.proofs.Common.{◌≡◌, ◌∙◌, sym, ap, subst, refl, ℕ, zero, suc, ◌+◌, ◌<◌, ◌≤◌, ◌⊎◌, inl, inr, true, false, List, [], ◌∷◌, ◌++◌, map, length, Option, Some, None, arith, length-append}
+use Rattle.std.proofs.Common.{◌≡◌, ◌∙◌, sym, ap, subst, refl, ℕ, suc, ◌+◌, ◌<◌, ◌≤◌, ◌⊎◌, inl, inr, false, List, [], ◌∷◌, ◌++◌, map, length, Option, Some, None, arith, length-append}
 use Rattle.std.specs.Prelude.{slice_get}
 use Rattle.nv_calls.specs.Calls.{Entry}
 use Rattle.nv_calls.specs.Logs.{Start, IsLawful, IsLegal}
 use Rattle.nv_threads.specs.Behaviours.{Behaviour, IsProcess}
 use Rattle.nv_replay.specs.Follow.{Judge, fresh, next}
 use Rattle.nv_replay.specs.Sequence.{is_on, sequence, cuts_of}
-use Rattle.nv_replay.specs.Versions.{Running, IsFresh, standing_of, process_of}
+use Rattle.nv_replay.specs.Versions.{Running, standing_of, process_of}
 use Rattle.nv_replay.proofs.Settled.{Reaches}
 use Rattle.nv_replay.specs.Accounts.{AreFresh, AreSettled, IsSettled}
 use Rattle.nv_replay.proofs.Telling.{survivors, cuts_are}
-use Rattle.nv_workers.specs.Ends.{IsStage, Leaving, IsSpelling, spelt, Tile, IsFinished, IsDroppedAt, HasFollowed, HasLeft, IsDone, IsAccount}
+use Rattle.nv_workers.specs.Ends.{IsStage, Leaving, IsSpelling, spelt, IsFinished, IsDroppedAt, HasFollowed, HasLeft, IsDone, IsAccount}
 use Rattle.nv_workers.proofs.Fronts.{with_next}
-use Rattle.nv_workers.proofs.Gathering.{IsFirst, FollowedOut, LedOut, AreOut, gathered}
+use Rattle.nv_workers.proofs.Gathering.{FollowedOut, LedOut, AreOut, gathered}
 
 module _ (fits : Entry → Type 0) (spell : Entry → List ℕ) (sp : IsSpelling fits spell) where
   -- whoever has all words of an event has the log's next

@@ -1,11 +1,11 @@
 -- What the room and the workers tell once all versions have ended.
-use Rattle.std.specs.Prelude.{◌≡◌, ℕ, zero, suc, ◌+◌, ◌<◌, ◌≤◌, ◌⊎◌, true, false, List, [], ◌∷◌, ◌++◌, map, length, take, Option, Some, None, slice_get}
+use Rattle.std.specs.Prelude.{◌≡◌, ℕ, zero, suc, ◌+◌, ◌<◌, ◌≤◌, ◌⊎◌, false, List, [], ◌∷◌, ◌++◌, map, length, take, Option, Some, None, slice_get}
 use Rattle.nv_calls.specs.Calls.{Entry}
 use Rattle.nv_calls.specs.Logs.{Start}
 use Rattle.nv_threads.specs.Behaviours.{Behaviour}
 use Rattle.nv_replay.specs.declared.fate.Fate.{Fate}
 use Rattle.nv_replay.specs.Settling.{stage}
-use Rattle.nv_replay.specs.Follow.{Follower, Judge, fresh, next, follow, IsInStep}
+use Rattle.nv_replay.specs.Follow.{Judge, fresh, next, follow, IsInStep}
 use Rattle.nv_replay.specs.Lead.{Leader, is_cut, cut_of, next_call}
 use Rattle.nv_replay.specs.Sequence.{is_on, sequence, cuts_of}
 use Rattle.nv_replay.specs.Accounts.{AreSettled}

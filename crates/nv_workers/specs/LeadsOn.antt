@@ -1,5 +1,5 @@
 -- What a leader's turn comes to.
-use Rattle.std.specs.Prelude.{◌≡◌, ◌≢◌, ◌<◌, ◌+◌, ◌++◌, ℕ, false, List, [], ◌∷◌, length, Option}
+use Rattle.std.specs.Prelude.{◌≡◌, ◌<◌, ℕ, false, length, Option}
 use Rattle.nv_calls.specs.declared.kernel.SyscallKernel.{Ghosts}
 use Rattle.nv_room.specs.declared.view.View.{View}
 use Rattle.nv_room.specs.declared.room.Room.{Room}

@@ -6,7 +6,7 @@ use Rattle.nv_room.specs.declared.room.Left.{Left}
 use Rattle.nv_room.specs.Seats.{IsLeftOf, left_view, station_of_left, stations_of, origin}
 use Rattle.nv_threads.specs.Threads.{Proc, threads}
 use Rattle.nv_replay.specs.Follow.{Judge}
-use Rattle.nv_replay.specs.Versions.{Running, IsFresh}
+use Rattle.nv_replay.specs.Versions.{Running}
 use Rattle.nv_replay.specs.Accounts.{AreFresh}
 use Rattle.nv_workers.specs.declared.worker.Seat.TheVariants.{Gone}
 use Rattle.nv_workers.specs.declared.worker.Worker.{Worker}

@@ -1,9 +1,9 @@
 -- How a worker's version stands to what its seat has seen.
-use Rattle.std.specs.Prelude.{◌≡◌, ◌+◌, ◌<◌, ℕ, Bool, true, false, List, [], ◌∷◌, ◌++◌, map, length, Option, Some, None}
+use Rattle.std.specs.Prelude.{◌≡◌, ℕ, Bool, true, false, List, [], ◌∷◌, ◌++◌, map, length, Option, Some, None}
 use Rattle.nv_calls.specs.Calls.{Entry}
 use Rattle.nv_calls.specs.Logs.{InRange, IsLawful, Start}
 use Rattle.nv_calls.specs.declared.kernel.SyscallKernel.{Ghosts}
-use Rattle.nv_words.specs.Spell.{spell, IsWhole}
+use Rattle.nv_words.specs.Spell.{spell}
 use Rattle.nv_room.specs.declared.view.View.{View}
 use Rattle.nv_room.specs.declared.view.Span.{Span}
 use Rattle.nv_room.specs.declared.room.Room.{Room}

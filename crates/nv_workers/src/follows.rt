@@ -70,11 +70,7 @@ pub(crate) fn follow_turn<K: SyscallKernel, G: Gate>(
 }
 
 // Polls, and where no station leads and all lower ones have left, polls again.
-fn find_event<K: SyscallKernel>(
-    reader: &mut Reader<K>,
-    room: &Room<K>,
-    buf: &mut EventBuf,
-) -> Found
+fn find_event<K: SyscallKernel>(reader: &mut Reader<K>, room: &Room<K>, buf: &mut EventBuf) -> Found
     requires of { IsOfRoom room.now reader.old }
     requires none_read { (view reader.old).read ≡ [] }
     requires goes_on { TellsEnd (view reader.old).seen → ⊥ }

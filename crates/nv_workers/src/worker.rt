@@ -55,11 +55,7 @@ pub struct Worker<K: SyscallKernel> {
 
 impl<K: SyscallKernel> Worker<K> {
     /// The version that leads first, with the lead of a room as it was made; memory is for one event.
-    pub fn lead(
-        alloc: Global,
-        mut version: Version,
-        lead: Lead<K>,
-    ) -> Result<Worker<K>, AllocError>
+    pub fn lead(alloc: Global, mut version: Version, lead: Lead<K>) -> Result<Worker<K>, AllocError>
         requires fresh { IsFresh threads 0 version }
         requires seat { IsNewLead lead }
         ensures { IfOk result (LeadsAnew version lead) }
@@ -81,7 +77,10 @@ impl<K: SyscallKernel> Worker<K> {
         ensures { IfOk result (ReadsAnew version reader) }
     {
         let buf = EventBuf::make(alloc)?;
-        let seat = Seat::Reading { reader, held: false };
+        let seat = Seat::Reading {
+            reader,
+            held: false,
+        };
         Ok(Worker { version, seat, buf })
     }
 
@@ -160,11 +159,7 @@ fn read_on<K: SyscallKernel, G: Gate>(
 }
 
 // The version leads from here on.
-fn take_lead<K: SyscallKernel>(
-    version: &mut Version,
-    reader: Reader<K>,
-    room: &Room<K>,
-) -> Lead<K>
+fn take_lead<K: SyscallKernel>(version: &mut Version, reader: Reader<K>, room: &Room<K>) -> Lead<K>
     requires follows { (judges : ℕ → Judge) × (p : Proc) × (buf : List ℕ) × FollowsOn judges room.now p version.old reader false buf }
     requires freed { (view reader).freed ≡ Some (length (view reader).seen) }
     ensures leads { (judges : ℕ → Judge) (most : ℕ) (p : Proc) (buf : List ℕ) → FollowsOn judges room.now p version.old reader false buf → LeadsOn judges room.now p version.new most result None }

@@ -1,17 +1,15 @@
-use Rattle.std.proofs.Common.{Bool, sym, ap, subst, ◌∙◌, ◌≡◌, ℕ, refl, None, inl, inr, arith}
+use Rattle.std.proofs.Common.{Bool, sym, ap, subst, ◌∙◌, inl, inr, arith}
 use Rattle.std.specs.Prelude.{Contains}
 use Rattle.std.specs.Option.{option_copied}
 use Rattle.nv_calls.specs.Calls.{Entry, entry}
 use Rattle.nv_calls.specs.Logs.{IsNew, child_of}
-use Rattle.nv_threads.specs.Threads.{Proc, threads}
+use Rattle.nv_threads.specs.Threads.{threads}
 use Rattle.nv_replay.specs.Follow.{judge_of}
-use Rattle.nv_replay.specs.Versions.{Running}
-use Rattle.nv_room.specs.Seats.{view}
 use Rattle.nv_workers.specs.Working.{FollowsOn}
 use Rattle.nv_replay.specs.declared.standing.Standing.{Standing}
 use Rattle.nv_replay.proofs.Wholes.{none_from}
 use Rattle.nv_replay.specs.Sequence.{is_on}
-use Rattle.nv_workers.proofs.Reading.{longer, seen_by, off_from, after_rewrote, after_drop, after_exit, after_consumed, Held, held_of, whole_buf, whole_read, event_is, stamp_is, is_below, is_live, is_new}
+use Rattle.nv_workers.proofs.Reading.{longer, seen_by, off_from, after_rewrote, after_drop, after_exit, after_consumed, held_of, whole_buf, whole_read, event_is, stamp_is, is_below, is_live, is_new}
 use Rattle.nv_workers.proofs.follows.decide.Goals as goal
 
 pub event-event-requires : goal.event-event-requires
@@ -56,14 +54,18 @@ returns-in-Rewrote-clause-after g c = λ most p f.
 
 pub returns-in-Dropped-clause-after : goal.returns-in-Dropped-clause-after
 returns-in-Dropped-clause-after g c = λ most p f.
-    let t = c.in-Dropped.ensures.told in
-    (f.of, after_drop (judge_of (option_copied c.args.rules)) c.args.room.now p c.args.version.now c.args.reader.now c.args.buf.now f (entry c.event-event.result.now)
-    c.event-event.ensures.spelt c.event-event.ensures.range c.follow.new.self c.follow.ensures.new _ most t.0 (ap is_on t.2))
+    let t = c.in-Dropped.ensures.told in (
+      f.of,
+      after_drop (judge_of (option_copied c.args.rules)) c.args.room.now p c.args.version.now c.args.reader.now c.args.buf.now f (entry c.event-event.result.now)
+          c.event-event.ensures.spelt c.event-event.ensures.range c.follow.new.self c.follow.ensures.new _ most t.0 (ap is_on t.2),
+    )
 
 pub returns-then-is_some-clause-after : goal.returns-then-is_some-clause-after
-returns-then-is_some-clause-after g c = λ most p f.
-    (c.advance.ensures.of, after_exit (judge_of (option_copied c.args.rules)) c.args.room.now p c.args.version.now c.args.reader.now c.args.buf.now f (entry c.event-event.result.now)
-    c.event-event.ensures.spelt c.event-event.ensures.range c.follow.new.self c.follow.ensures.new _ most c.advance.new.reader c.advance.ensures.same c.advance.ensures.view (seen_by _ _ c.args.version.now.at c.follow.new.self.at c.in-Matched.is c.follow.ensures.told) (off_from _ _ (sym c.if-is_some.ensures) (ap (λ (x : Standing). x.fate) c.standing.ensures)))
+returns-then-is_some-clause-after g c = λ most p f. (
+  c.advance.ensures.of,
+  after_exit (judge_of (option_copied c.args.rules)) c.args.room.now p c.args.version.now c.args.reader.now c.args.buf.now f (entry c.event-event.result.now)
+      c.event-event.ensures.spelt c.event-event.ensures.range c.follow.new.self c.follow.ensures.new _ most c.advance.new.reader c.advance.ensures.same c.advance.ensures.view (seen_by _ _ c.args.version.now.at c.follow.new.self.at c.in-Matched.is c.follow.ensures.told) (off_from _ _ (sym c.if-is_some.ensures) (ap (λ (x : Standing). x.fate) c.standing.ensures)),
+)
 
 pub returns-else-is_some-clause-after : goal.returns-else-is_some-clause-after
 returns-else-is_some-clause-after g c = λ most p f.

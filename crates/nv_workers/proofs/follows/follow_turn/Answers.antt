@@ -1,7 +1,6 @@
-use Rattle.std.proofs.Common.{subst, sym, Bool}
+use Rattle.std.proofs.Common.{subst, Bool}
 use Rattle.std.specs.Option.{option_copied}
 use Rattle.nv_replay.specs.Follow.{judge_of}
-use Rattle.nv_threads.specs.Threads.{Proc}
 use Rattle.nv_workers.specs.Working.{FollowsOn}
 use Rattle.nv_workers.proofs.Reading.{lives_on, found_event}
 use Rattle.nv_workers.proofs.follows.follow_turn.Goals as goal
@@ -18,10 +17,12 @@ find_event-requires-clause-goes_on g c κs within =
 
 pub decide-requires-in-Event-clause-follows : goal.decide-requires-in-Event-clause-follows
 decide-requires-in-Event-clause-follows g c κs within =
-    let e = c.in-Event.ensures in
-    (c.requires.0, found_event (judge_of (option_copied c.args.rules)) c.args.room.now c.requires.0 c.args.version.now c.args.reader.now c.args.buf.now
-    (subst (λ (b : Bool). FollowsOn (judge_of (option_copied c.args.rules)) c.args.room.now c.requires.0 c.args.version.now c.args.reader.now b c.args.buf.now) c.if-held.false c.requires.1)
-    c.find_event.new.reader c.find_event.new.buf e.of e.same e.found.0 e.found.1 e.found.2 e.found.4)
+    let e = c.in-Event.ensures in (
+      c.requires.0,
+      found_event (judge_of (option_copied c.args.rules)) c.args.room.now c.requires.0 c.args.version.now c.args.reader.now c.args.buf.now
+          (subst (λ (b : Bool). FollowsOn (judge_of (option_copied c.args.rules)) c.args.room.now c.requires.0 c.args.version.now c.args.reader.now b c.args.buf.now) c.if-held.false c.requires.1)
+          c.find_event.new.reader c.find_event.new.buf e.of e.same e.found.0 e.found.1 e.found.2 e.found.4,
+    )
 
 pub returns-in-Event-clause-after : goal.returns-in-Event-clause-after
 returns-in-Event-clause-after g c = λ most p f.

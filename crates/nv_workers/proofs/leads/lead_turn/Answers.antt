@@ -1,8 +1,7 @@
-use Rattle.std.proofs.Common.{subst, sym, ap, ◌∙◌, ℕ, Option, Some, None}
-use Rattle.nv_threads.specs.Threads.{Proc}
+use Rattle.std.proofs.Common.{subst, ap, ℕ, Option}
 use Rattle.nv_replay.specs.Sequence.{is_on}
 use Rattle.nv_workers.specs.Working.{LeadsOn}
-use Rattle.nv_workers.proofs.Serving.{drops_lead, asks_lead}
+use Rattle.nv_workers.proofs.Serving.{drops_lead}
 use Rattle.nv_workers.proofs.leads.lead_turn.Goals as goal
 
 pub lead-requires-clause-on : goal.lead-requires-clause-on

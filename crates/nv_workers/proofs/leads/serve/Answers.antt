@@ -1,5 +1,4 @@
-use Rattle.std.proofs.Common.{subst, sym, ap, ◌∙◌, ℕ, Option, Some, None, arith}
-use Rattle.nv_threads.specs.Threads.{Proc}
+use Rattle.std.proofs.Common.{subst, sym, ap, ℕ, Option, Some, arith}
 use Rattle.nv_replay.specs.declared.standing.Standing.{Standing}
 use Rattle.nv_replay.proofs.Wholes.{none_from}
 use Rattle.nv_workers.specs.Working.{LeadsOn}

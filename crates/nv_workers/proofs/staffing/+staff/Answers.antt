@@ -1,6 +1,6 @@
-use Rattle.std.proofs.Common.{◌≡◌, ◌∙◌, sym, subst, ◌∷◌, ◌++◌, [], length, arith, rules}
+use Rattle.std.proofs.Common.{◌≡◌, sym, subst, ◌∷◌, ◌++◌, [], length, arith, rules}
 use Rattle.nv_workers.specs.New.{StaffsAnew}
-use Rattle.nv_workers.proofs.NewSeats.{none_is, front_length, front_readers, fresh_reader, front_seats, lead_seat, reader_seat, versions_front, version_last, staffs_one, staffs_more}
+use Rattle.nv_workers.proofs.NewSeats.{none_is, front_length, front_readers, fresh_reader, front_seats, reader_seat, versions_front, version_last, staffs_one, staffs_more}
 use Rattle.nv_workers.proofs.staffing.+staff.Goals as goal
 
 pub lead-requires-clause-fresh : goal.lead-requires-clause-fresh

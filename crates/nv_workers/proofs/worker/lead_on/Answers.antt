@@ -1,4 +1,4 @@
-use Rattle.std.proofs.Common.{sym, ap, ◌∙◌, inl}
+use Rattle.std.proofs.Common.{inl}
 use Rattle.nv_room.specs.Seats.{lead_view, left_view}
 use Rattle.nv_workers.proofs.Serving.{leads_fate}
 use Rattle.nv_workers.proofs.Moving.{given_ended}

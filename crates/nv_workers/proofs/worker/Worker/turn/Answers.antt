@@ -1,7 +1,6 @@
 use Rattle.std.proofs.Common.{◌≡◌, ◌∙◌, sym, subst}
 use Rattle.std.specs.Option.{option_copied}
 use Rattle.nv_replay.specs.Follow.{judge_of}
-use Rattle.nv_workers.specs.declared.worker.Seat.{Seat}
 use Rattle.nv_workers.specs.declared.worker.Seat.TheVariants.{Reading, Leading, Gone}
 use Rattle.nv_workers.specs.Workers.{WorksAt, TurnTells}
 use Rattle.nv_workers.proofs.worker.Worker.turn.Goals as goal
