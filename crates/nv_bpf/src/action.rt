@@ -72,6 +72,7 @@ pub enum Action {
 
 /// What an instruction with this code does, where a filter may have it.
 #[tactic(auto, unfolding(crate::specs::Actions::action_of, crate::specs::Actions::actions))]
+#[inline(always)]
 pub fn decode(code: u16) -> Option<Action>
     ensures { result ≡ action_of code }
 {

@@ -27,6 +27,7 @@ impl Model for Filter {
 
 impl Filter {
     /// How many instructions it has.
+    #[inline(always)]
     pub fn len(&self) -> u32
         ensures count { result ≡ length self.now }
         ensures verified { list_fault MOST_OPS self.now ≡ None }
@@ -35,6 +36,7 @@ impl Filter {
     }
 
     /// The instruction at this place.
+    #[inline(always)]
     pub fn at(&self, i: u32) -> Op
         requires { i < length self.now }
         ensures op { slice_get self.now i ≡ Some result }

@@ -81,8 +81,8 @@ fn assembled(alloc: Global, text: &[u8]) -> Result<Vec<u8>, AllocError> {
     Ok(made.written)
 }
 
-// A run of a version.
-fn run_file(alloc: Global, script: &[u8], version: &[u8]) -> Result<Answered, AllocError> {
+/// A run of a version.
+pub fn run_file(alloc: Global, script: &[u8], version: &[u8]) -> Result<Answered, AllocError> {
     let files = [("s", script), ("v", version)];
     answer(alloc, &["varan", "run", "--script", "s", "v"], &files)
 }

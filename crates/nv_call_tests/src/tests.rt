@@ -4,10 +4,12 @@ use std::alloc::{AllocError, Global};
 mod addresses;
 mod files;
 mod flags;
+mod guests_of_c;
 mod linux_answers;
 mod long;
 mod numbers;
 mod scripts;
+mod threads;
 mod worked;
 
 const SCRIPT: &[u8] = b"varan-script 1\n";

@@ -8,6 +8,7 @@ mod linker;
 mod refusals;
 mod rules;
 mod several;
+mod threads;
 
 const SCRIPT: &[u8] = b"varan-script 1\n";
 

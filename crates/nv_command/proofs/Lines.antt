@@ -7,8 +7,8 @@ use Rattle.clap.specs.Walk.{Row, Text}
 use Rattle.clap.specs.Simple.{App}
 use Rattle.clap.specs.Faults.{is_simple_and_free}
 use Rattle.clap.proofs.OnLiterals.{clap_on_literals}
-use Rattle.nv_command.specs.Simple.{run_app, rules_app, asm_app}
-use Rattle.nv_command.specs.Words.{Plan, Job, ring_of, memory_of, budget_of, calls_of, threads_of, limits_of, Name, Command as Line, rows_of_line, plan_of, rules_job_of, asm_job_of, run_line, rules_line, asm_line, texts, asked_by, name_of, name_in, command_of}
+use Rattle.nv_command.specs.Simple.{run_app, rules_app, asm_app, gen_app}
+use Rattle.nv_command.specs.Words.{Plan, Job, ring_of, memory_of, budget_of, calls_of, threads_of, limits_of, Name, Command as Line, rows_of_line, plan_of, rules_job_of, asm_job_of, number_in, run_line, rules_line, asm_line, gen_line, texts, asked_by, name_of, name_in, command_of}
 use Rattle.nv_command.specs.Seen.{IsRefused}
 use Rattle.nv_command.specs.declared.asked.LineFault.{LineFault}
 use Rattle.nv_command.specs.declared.asked.LineFault.TheVariants.{Usage, Memory}
@@ -24,6 +24,10 @@ rules_simple = refl
 pub asm_simple : is_simple_and_free asm_app ≡ true
 unfolding clap_on_literals
 asm_simple = refl
+
+pub gen_simple : is_simple_and_free gen_app ≡ true
+unfolding clap_on_literals
+gen_simple = refl
 
 module _ (rows : List Row) where
   pub no_ring : None ≡ ring_of rows → None ≡ limits_of rows
@@ -89,6 +93,14 @@ module _ (app : App) (words : List Text) where
   pub no_asm : app ≡ asm_app → rows_of_line app words ≡ None → asm_line words ≡ None
   unfolding asm_line
   no_asm e h = no_line asm_job_of asm_app app words e h
+
+  pub gen_is : (rows : List Row) (number : Option ℕ) → app ≡ gen_app → rows_of_line app words ≡ Some rows → number ≡ number_in rows → gen_line words ≡ number
+  unfolding gen_line
+  gen_is rows number e h p = line_is number_in gen_app app words e rows number h p
+
+  pub no_gen : app ≡ gen_app → rows_of_line app words ≡ None → gen_line words ≡ None
+  unfolding gen_line
+  no_gen e h = no_line number_in gen_app app words e h
 
 -- what holds of each error that `?` may hand on
 pub error_by : {T E : Type 0} (r : Result T E) (P Q : E → Type 0) → ((e : E) → P e → Q e) → IsErrAnd r P → IfErr r Q

@@ -1,8 +1,8 @@
 -- What a caller sees of a line that was read.
-use Rattle.std.specs.Prelude.{◌≡◌, List, None, map, IsSome}
+use Rattle.std.specs.Prelude.{◌≡◌, List, Option, None, map, option_map, IsSome}
 use Rattle.std.specs.Borrow.{Bor}
 use Rattle.clap.specs.Walk.{Text}
-use Rattle.nv_command.specs.Words.{Limits, Plan, Job as FileJob, Command as Line, Runs, Uses, command_of, name_in}
+use Rattle.nv_command.specs.Words.{Limits, Plan, Job as FileJob, Command as Line, Runs, Uses, Generates, command_of, name_in}
 use Rattle.nv_command.specs.declared.limits.Limits.{Limits as Held}
 use Rattle.nv_command.specs.declared.asked.Run.{Run}
 use Rattle.nv_command.specs.declared.parts.Parts.{Parts}
@@ -19,11 +19,15 @@ limits_view held = record { ring = held.ring; memory = held.memory; budget = hel
 abbrev pub names_view : List (Bor Text) → List Text
 names_view names = map (λ name. name.now) names
 
+-- the text behind a reference, if there is one
+abbrev pub rules_view : Option (Bor Text) → Option Text
+rules_view rules = option_map (λ name. name.now) rules
+
 abbrev pub plan_view : Run → Plan
-plan_view run = record { script = run.script.now; versions = names_view run.versions.items; limits = limits_view run.limits; json = run.json }
+plan_view run = record { script = run.script.now; rules = rules_view run.rules; versions = names_view run.versions.items; limits = limits_view run.limits; json = run.json }
 
 abbrev pub parts_view : Parts → Plan
-parts_view parts = record { script = parts.script.now; versions = names_view parts.names.now; limits = limits_view parts.limits; json = parts.json }
+parts_view parts = record { script = parts.script.now; rules = rules_view parts.rules; versions = names_view parts.names.now; limits = limits_view parts.limits; json = parts.json }
 
 abbrev pub job_view : Job → FileJob
 job_view job = record { tool = job.tool; file = job.file.now }
@@ -31,6 +35,7 @@ job_view job = record { tool = job.tool; file = job.file.now }
 abbrev pub command_view : Command → Line
 command_view (command.Run run) = Runs (plan_view run)
 command_view (command.Use job) = Uses (job_view job)
+command_view (command.Generate number) = Generates number
 
 -- the words are refused; or they name a command, and memory ran out while its words were read
 abbrev pub IsRefused : LineFault → List Text → Type 0

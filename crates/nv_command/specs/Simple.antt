@@ -30,6 +30,7 @@ simple_app name rules = record { top = record (new_shape name) { rules = rules; 
 abbrev pub run_app : App
 run_app = simple_app (codes "run")
     (required (option_rule (codes "script"))
+    ∷ option_rule (codes "rules")
     ∷ option_rule (codes "ring")
     ∷ option_rule (codes "memory")
     ∷ option_rule (codes "budget")
@@ -44,3 +45,6 @@ rules_app = simple_app (codes "rules") (flag_rule (codes "asm") ∷ file_rule (c
 
 abbrev pub asm_app : App
 asm_app = simple_app (codes "asm") (file_rule (codes "file") ∷ [])
+
+abbrev pub gen_app : App
+gen_app = simple_app (codes "gen") (file_rule (codes "number") ∷ [])

@@ -8,7 +8,7 @@ use Rattle.clap.specs.Simple.{App, matches_of}
 use Rattle.clap.specs.Kinds.{Kinds}
 use Rattle.clap.specs.Faults.{fault_of}
 use Rattle.nv_bytes.specs.Texts.{number_of}
-use Rattle.nv_command.specs.Simple.{run_app, rules_app, asm_app}
+use Rattle.nv_command.specs.Simple.{run_app, rules_app, asm_app, gen_app}
 use Rattle.nv_command.specs.declared.asked.Tool.{Tool}
 use Rattle.nv_command.specs.declared.asked.Tool.TheVariants.{CheckRules, AssembleRules, Assemble}
 
@@ -57,6 +57,10 @@ pub record Limits : Type 0 where
   pub calls : ℕ
   pub threads : ℕ
 
+-- those of a run whose line names none
+abbrev pub usual : Limits
+usual = record { ring = 256; memory = 1048576; budget = 10000000; calls = 65536; threads = 8 }
+
 unfoldable pub limits_of : List Row → Option Limits
 limits_of rows =
     option_and_then (λ ring. option_and_then (λ memory. option_and_then (λ budget. option_and_then (λ calls. option_map (λ threads.
@@ -71,9 +75,10 @@ versions_of rows = option_and_then (λ names. if nat_le (length names) 8 then So
 abbrev pub is_set : Text → List Row → Bool
 is_set name rows = option_map_or (λ text. bytes_eq text (codes "true")) (first_of name rows) false
 
--- what a run is asked for
+-- what a run is asked for; no rules where no file of them is named
 pub record Plan : Type 0 where
   pub script : List ℕ
+  pub rules : Option (List ℕ)
   pub versions : List (List ℕ)
   pub limits : Limits
   pub json : Bool
@@ -81,7 +86,7 @@ pub record Plan : Type 0 where
 unfoldable pub plan_of : List Row → Option Plan
 plan_of rows =
     option_and_then (λ script. option_and_then (λ versions. option_map (λ limits.
-    record { script = script; versions = versions; limits = limits; json = is_set (codes "json") rows })
+    record { script = script; rules = first_of (codes "rules") rows; versions = versions; limits = limits; json = is_set (codes "json") rows })
     (limits_of rows)) (versions_of rows)) (first_of (codes "script") rows)
 
 -- a command over one file
@@ -96,20 +101,27 @@ rules_job_of rows = option_map (λ file. record { tool = if is_set (codes "asm")
 unfoldable pub asm_job_of : List Row → Option Job
 asm_job_of rows = option_map (λ file. record { tool = Assemble; file = file }) (first_of (codes "file") rows)
 
+-- the number of a run that is made, 0 to 999,999
+unfoldable pub number_in : List Row → Option ℕ
+number_in rows = option_and_then (λ text. number_within 0 0 999999 (Some text)) (first_of (codes "number") rows)
+
 pub data Command : Type 0 where
   Runs : Plan → Command
   Uses : Job → Command
+  Generates : (number : ℕ) → Command
 
 -- the names of the commands
 pub data Name : Type 0 where
   NamesRun : Name
   NamesRules : Name
   NamesAsm : Name
+  NamesGen : Name
 
 abbrev pub name_of : Text → Option Name
 name_of word =
     if bytes_eq word (codes "run") then Some NamesRun
-    else (if bytes_eq word (codes "rules") then Some NamesRules else (if bytes_eq word (codes "asm") then Some NamesAsm else None))
+    else (if bytes_eq word (codes "rules") then Some NamesRules
+    else (if bytes_eq word (codes "asm") then Some NamesAsm else (if bytes_eq word (codes "gen") then Some NamesGen else None)))
 
 -- the words of `run`, from its name on
 unfoldable pub run_line : List Text → Option Plan
@@ -123,11 +135,16 @@ rules_line words = option_and_then rules_job_of (rows_of_line rules_app words)
 unfoldable pub asm_line : List Text → Option Job
 asm_line words = option_and_then asm_job_of (rows_of_line asm_app words)
 
+-- the words of `gen`
+unfoldable pub gen_line : List Text → Option ℕ
+gen_line words = option_and_then number_in (rows_of_line gen_app words)
+
 -- what the words from the command's name on ask for
 abbrev pub asked_by : List Text → Name → Option Command
 asked_by words NamesRun = option_map Runs (run_line words)
 asked_by words NamesRules = option_map Uses (rules_line words)
 asked_by words NamesAsm = option_map Uses (asm_line words)
+asked_by words NamesGen = option_map Generates (gen_line words)
 
 -- the second word names the command, the first one the program
 abbrev pub name_in : List Text → Option Name

@@ -13,6 +13,8 @@ use std::alloc::{AllocError, AllocFailed};
 #[derive(Drop)]
 pub struct Run<'a> {
     pub script: &'a str,
+    /// The file of a filter that judges followers, if one is named.
+    pub rules: Option<&'a str>,
     /// One to eight names, in the order in which they were given.
     pub versions: Vec<&'a str>,
     pub limits: Limits,
@@ -44,6 +46,8 @@ pub struct Job<'a> {
 pub enum Command<'a> {
     Run(Run<'a>),
     Use(Job<'a>),
+    /// `gen N`: the large run that is made from this number, 0 to 999,999.
+    Generate(u32),
 }
 
 /// Why a line gives no command.

@@ -20,3 +20,22 @@ pub struct Limits {
     ghost calls_fit: { (1 ≤ calls) × (calls ≤ 131072) },
     ghost threads_fit: { (1 ≤ threads) × (threads ≤ 8) },
 }
+
+impl Limits {
+    ghost use Rattle.std.specs.Prelude.{◌≡◌};
+    ghost use Rattle.nv_command.specs.Words.{usual};
+    ghost use Rattle.nv_command.specs.Seen.{limits_view};
+
+    /// The limits of a run whose line names none.
+    pub fn usual() -> Limits
+        ensures { limits_view result ≡ usual }
+    {
+        Limits {
+            ring: 256,
+            memory: 1_048_576,
+            budget: 10_000_000,
+            calls: 65_536,
+            threads: 8,
+        }
+    }
+}

@@ -7,6 +7,7 @@ use crate::limits::Limits;
 #[derive(Clone, Copy)]
 pub struct Parts<'m, 'a> {
     pub script: &'a str,
+    pub rules: Option<&'a str>,
     pub names: &'m [&'a str],
     pub limits: Limits,
     pub json: bool,

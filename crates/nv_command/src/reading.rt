@@ -2,19 +2,22 @@
 ghost use Rattle.std.specs.Prelude.{◌≡◌, ◌≤◌, ◌%◌, None, Some, IfOk, IfErr, IfSome, IsSome, option_and_then, option_map, length};
 ghost use Rattle.clap.specs.Matches.{found_of};
 ghost use Rattle.clap.specs.Walk.{rows_of};
-ghost use Rattle.nv_command.specs.Words.{texts, number_within, in_pages, ring_of, memory_of, budget_of, calls_of, threads_of, limits_of, versions_of, plan_of, rules_job_of, asm_job_of, run_line, rules_line, asm_line, asked_by, name_of, command_of};
-ghost use Rattle.nv_command.specs.Seen.{limits_view, names_view, parts_view, plan_view, job_view, command_view, IsRefused};
+ghost use Rattle.nv_command.specs.Words.{texts, number_within, in_pages, ring_of, memory_of, budget_of, calls_of, threads_of, limits_of, versions_of, plan_of, rules_job_of, asm_job_of, number_in, run_line, rules_line, asm_line, gen_line, asked_by, name_of, command_of};
+ghost use Rattle.nv_command.specs.Seen.{limits_view, names_view, rules_view, parts_view, plan_view, job_view, command_view, IsRefused};
 
 use crate::asked::{Command, Job, LineFault, Run, Tool};
 use crate::limits::Limits;
 use crate::matching::{is_set, matched, text, values};
 use crate::parts::Parts;
-use crate::simple::{asm_command, rules_command, run_command};
+use crate::simple::{asm_command, gen_command, rules_command, run_command};
 use clap::ArgMatches;
 use std::alloc::{AllocError, Global};
 
 // The most versions of a run.
 const MOST_VERSIONS: usize = 8;
+
+// The greatest number of a run that is made.
+const MOST_NUMBER: u32 = 999_999;
 
 // Bytes of a page of a guest's memory.
 const PAGE: u32 = 4096;
@@ -120,11 +123,13 @@ fn parts_of<'m, 'a>(matches: &'m ArgMatches<'a>) -> Option<Parts<'m, 'a>>
     ensures { option_map parts_view result ≡ plan_of (rows_of (found_of matches.entry.now)) }
 {
     let script = text(matches, "script")?;
+    let rules = text(matches, "rules");
     let names = names(matches)?;
     let limits = limits(matches)?;
     let json = is_set(matches, "json");
     Some(Parts {
         script,
+        rules,
         names,
         limits,
         json,
@@ -139,6 +144,7 @@ fn kept<'a>(alloc: Global, parts: Parts<'_, 'a>) -> Result<Run<'a>, LineFault>
     let versions = parts.names.to_vec(alloc)?;
     Ok(Run {
         script: parts.script,
+        rules: parts.rules,
         versions,
         limits: parts.limits,
         json: parts.json,
@@ -208,6 +214,27 @@ fn read_asm<'a>(alloc: Global, words: &'a [String]) -> Result<Job<'a>, LineFault
     }
 }
 
+#[tactic(auto, unfolding(crate::specs::Words::number_in))]
+fn number(matches: &ArgMatches<'_>) -> Option<u32>
+    ensures { result ≡ number_in (rows_of (found_of matches.now)) }
+{
+    let text = text(matches, "number")?;
+    number_within(0, 0, MOST_NUMBER, Some(text))
+}
+
+// Reads the words of `gen`.
+fn read_gen(alloc: Global, words: &[String]) -> Result<u32, LineFault>
+    ensures number { IfOk result (λ number. gen_line (texts words.now) ≡ Some number) }
+    ensures refused { IfErr result (λ fault. fault ≡ LineFault.Usage → gen_line (texts words.now) ≡ None) }
+{
+    let command = gen_command(alloc)?;
+    let matches = matched(command, words)?;
+    match number(&matches) {
+        Some(number) => Ok(number),
+        None => Err(LineFault::Usage),
+    }
+}
+
 // Reads the words from a command's name on.
 fn read_named<'a>(alloc: Global, name: &str, words: &'a [String]) -> Result<Command<'a>, LineFault>
     ensures command { IfOk result (λ command. option_and_then (asked_by (texts words.entry.now)) (name_of name.now) ≡ Some (command_view command)) }
@@ -218,6 +245,7 @@ fn read_named<'a>(alloc: Global, name: &str, words: &'a [String]) -> Result<Comm
         "run" => Ok(Command::Run(read_run(alloc, words)?)),
         "rules" => Ok(Command::Use(read_rules(alloc, words)?)),
         "asm" => Ok(Command::Use(read_asm(alloc, words)?)),
+        "gen" => Ok(Command::Generate(read_gen(alloc, words)?)),
         _ => Err(LineFault::Usage),
     }
 }

@@ -2,7 +2,7 @@
 ghost use Rattle.std.specs.Prelude.{◌≡◌, [], false, IfOk};
 ghost use Rattle.clap.specs.Walk.{rule_of};
 ghost use Rattle.clap.specs.Simple.{app_of, with_rule};
-ghost use Rattle.nv_command.specs.Simple.{option_rule, flag_rule, file_rule, files_rule, required, simple_app, run_app, rules_app, asm_app};
+ghost use Rattle.nv_command.specs.Simple.{option_rule, flag_rule, file_rule, files_rule, required, simple_app, run_app, rules_app, asm_app, gen_app};
 
 use clap::{Arg, ArgAction, Command};
 use std::alloc::{AllocError, Global};
@@ -63,7 +63,8 @@ pub fn run_command<'a>(alloc: Global) -> Result<Command<'a>, AllocError>
     ensures { IfOk result (λ command. app_of command ≡ run_app) }
 {
     let script = add(named(alloc, "run"), needed(alloc, "script"))?;
-    let ring = add(script, option(alloc, "ring"))?;
+    let rules = add(script, option(alloc, "rules"))?;
+    let ring = add(rules, option(alloc, "ring"))?;
     let memory = add(ring, option(alloc, "memory"))?;
     let budget = add(memory, option(alloc, "budget"))?;
     let calls = add(budget, option(alloc, "calls"))?;
@@ -85,4 +86,11 @@ pub fn asm_command<'a>(alloc: Global) -> Result<Command<'a>, AllocError>
     ensures { IfOk result (λ command. app_of command ≡ asm_app) }
 {
     add(named(alloc, "asm"), file(alloc, "file"))
+}
+
+/// The number of `gen`.
+pub fn gen_command<'a>(alloc: Global) -> Result<Command<'a>, AllocError>
+    ensures { IfOk result (λ command. app_of command ≡ gen_app) }
+{
+    add(named(alloc, "gen"), file(alloc, "number"))
 }

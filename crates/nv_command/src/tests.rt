@@ -155,7 +155,7 @@ fn accepted_runs(rt: HostRuntime) -> Result<(), Fail> {
 
 #[test]
 fn refused_lines(rt: HostRuntime) -> Result<(), Fail> {
-    let lines: [&[&str]; 40] = [
+    let lines: [&[&str]; 41] = [
         &[],
         &["varan"],
         &["varan", ""],
@@ -193,7 +193,10 @@ fn refused_lines(rt: HostRuntime) -> Result<(), Fail> {
         &["varan", "run", "--scrip", "s", "v"],
         &["varan", "run", "--SCRIPT", "s", "v"],
         &["varan", "run", "-script", "s", "v"],
-        &["varan", "run", "--script", "s", "--rules", "r", "v"],
+        &[
+            "varan", "run", "--script", "s", "--rules", "r", "--rules", "r", "v",
+        ],
+        &["varan", "run", "--script", "s", "v", "--rules"],
         &["varan", "run", "--script", "s", "--version", "v"],
         &["varan", "run", "--script", "s", "--help", "v"],
         &["varan", "run", "--script", "s", "-h", "v"],
@@ -214,20 +217,20 @@ fn refused_lines(rt: HostRuntime) -> Result<(), Fail> {
 #[test]
 fn numbers(rt: HostRuntime) -> Result<(), Fail> {
     let accepted = [
-        ("--ring", "2"),
-        ("--ring", "1024"),
-        ("--ring", "0000000000000000000002"),
-        ("--memory", "131072"),
-        ("--memory", "135168"),
-        ("--memory", "16777216"),
-        ("--budget", "1"),
-        ("--budget", "1000000000"),
-        ("--calls", "1"),
-        ("--calls", "131072"),
-        ("--threads", "1"),
-        ("--threads", "8"),
+        ("--ring", "2", 2),
+        ("--ring", "1024", 1024),
+        ("--ring", "0000000000000000000002", 2),
+        ("--memory", "131072", 131_072),
+        ("--memory", "135168", 135_168),
+        ("--memory", "16777216", 16_777_216),
+        ("--budget", "1", 1),
+        ("--budget", "1000000000", 1_000_000_000),
+        ("--calls", "1", 1),
+        ("--calls", "131072", 131_072),
+        ("--threads", "1", 1),
+        ("--threads", "8", 8),
     ];
-    for (option, value) in accepted {
+    for (option, value, expected) in accepted {
         let limits = limits_with(rt.alloc(), option, value)?.expect(&rt, option);
         let number = match option {
             "--ring" => limits.ring,
@@ -236,7 +239,7 @@ fn numbers(rt: HostRuntime) -> Result<(), Fail> {
             "--calls" => limits.calls,
             _ => limits.threads,
         };
-        assert_eq!(rt; Some(number), nv_bytes::number(value.as_bytes()));
+        assert_eq!(rt; number, expected);
     }
     let refused = [
         ("--ring", "1"),
@@ -310,6 +313,61 @@ fn files_of_tools(rt: HostRuntime) -> Result<(), Fail> {
         &["varan", "rules", "-r"],
         &["varan", "rules", "--script", "s", "r"],
         &["varan", "rules", "--help", "r"],
+    ];
+    for words in refused {
+        assert!(rt; is_usage(rt.alloc(), words)?);
+    }
+    Ok(())
+}
+
+// The rules that a run is to go by.
+fn rules_of(alloc: Global, words: &[&str]) -> Result<Option<String>, AllocError> {
+    let words = words_of(alloc, words)?;
+    match read(alloc, &words) {
+        Ok(Command::Run(run)) => match run.rules {
+            Some(name) => Ok(Some(String::from_str(alloc, name)?)),
+            None => Ok(None),
+        },
+        _ => Ok(None),
+    }
+}
+
+#[test]
+fn rules_of_runs(rt: HostRuntime) -> Result<(), Fail> {
+    let named: [(&[&str], &str); 4] = [
+        (&["varan", "run", "--script", "s", "--rules", "r", "v"], "r"),
+        (&["varan", "run", "--rules=r", "v", "--script", "s"], "r"),
+        (&["varan", "run", "v", "--script", "s", "--rules", "v"], "v"),
+        (&["varan", "run", "--script=s", "--rules=", "v"], ""),
+    ];
+    for (words, name) in named {
+        let rules = rules_of(rt.alloc(), words)?.expect(&rt, name);
+        assert_eq!(rt; rules.as_str(), name);
+    }
+    let none = rules_of(rt.alloc(), &["varan", "run", "--script", "s", "v"])?;
+    assert!(rt; none.is_none());
+    Ok(())
+}
+
+#[test]
+fn numbers_of_made_runs(rt: HostRuntime) -> Result<(), Fail> {
+    let accepted = [("0", 0), ("7", 7), ("007", 7), ("999999", 999_999)];
+    for (text, expected) in accepted {
+        let words = words_of(rt.alloc(), &["varan", "gen", text])?;
+        let Ok(Command::Generate(number)) = read(rt.alloc(), &words) else {
+            panic!(rt; "refused");
+        };
+        assert_eq!(rt; number, expected);
+    }
+    let refused: [&[&str]; 8] = [
+        &["varan", "gen"],
+        &["varan", "gen", ""],
+        &["varan", "gen", "1000000"],
+        &["varan", "gen", "seven"],
+        &["varan", "gen", "-7"],
+        &["varan", "gen", "--", "-7"],
+        &["varan", "gen", "7", "8"],
+        &["varan", "gen", "--json", "7"],
     ];
     for words in refused {
         assert!(rt; is_usage(rt.alloc(), words)?);

@@ -1,5 +1,5 @@
 -- The heap of a guest that is made.
-use Rattle.std.proofs.Common.{◌≡◌, ◌∙◌, sym, ap, subst, refl, ℕ, ◌+◌, ◌-◌, ◌≤◌, List, [], ◌∷◌, ◌++◌, inl, inr, length, map, replicate, Option, None, arith}
+use Rattle.std.proofs.Common.{◌≡◌, ◌∙◌, sym, ap, subst, refl, ℕ, ◌+◌, ◌-◌, List, [], ◌∷◌, ◌++◌, inl, inr, length, map, replicate, None, arith}
 use Rattle.std.proofs.lemmas.List.{length-replicate}
 use Rattle.nv_elf.specs.Elf.{Range, Image}
 use Rattle.nv_memory.specs.declared.region.Region.{Region}

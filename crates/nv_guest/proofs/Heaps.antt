@@ -1,15 +1,15 @@
 -- The heap moves, and all else of the memory stays.
-use Rattle.std.proofs.Common.{◌≡◌, ◌∙◌, sym, ap, subst, refl, ℕ, zero, suc, ◌+◌, ◌-◌, ◌<◌, ◌≤◌, Bool, true, false, cond, nat_lt, nat_le, ◌&&◌, List, [], ◌∷◌, ◌⊎◌, inl, inr, ⊎_elim, length, arith}
+use Rattle.std.proofs.Common.{◌≡◌, ◌∙◌, sym, ap, subst, refl, ℕ, zero, suc, ◌+◌, ◌-◌, ◌≤◌, Bool, true, false, cond, nat_lt, nat_le, ◌&&◌, List, [], ◌∷◌, ◌⊎◌, inl, inr, ⊎_elim, length, arith}
 use Rattle.std.specs.List.{AllByRecursion}
 use Rattle.std.specs.Prelude.{replicate}
 use Rattle.std.proofs.lemmas.Bool.Decides.{nat_tests}
 use Rattle.nv_memory.specs.declared.region.Region.{Region}
 use Rattle.nv_memory.specs.Bytes.{put}
 use Rattle.nv_memory.specs.BytesLaws.{length_put}
-use Rattle.nv_memory.specs.Regions.{AreRegions, Apart, IsWithin, set_end, end_of}
+use Rattle.nv_memory.specs.Regions.{AreRegions, Apart, set_end, end_of}
 use Rattle.nv_memory.specs.Image.{Image, cut}
 use Rattle.nv_guest.specs.declared.heap.Heap.{Heap}
-use Rattle.nv_guest.specs.Threads.{last_region, is_break, break_after, with_break}
+use Rattle.nv_guest.specs.Threads.{last_region, is_break, with_break}
 use Rattle.nv_guest.specs.Heap.{IsClear, HasHeap, moved}
 
 apart_from : (r : Region) (rs : List Region) (n end start limit : ℕ) → length rs ≡ n + 1 → AllByRecursion (Apart r) rs → (r.end ≤ start) ⊎ (limit ≤ r.start) → (last_region rs).start ≡ start → end ≤ limit

@@ -1,3 +1,5 @@
+pub mod ThreadLaws
+pub mod Blocks
 pub mod Heaps
 pub mod Begun
 pub mod Staying

@@ -12,7 +12,6 @@ use Rattle.nv_memory.specs.Bytes.{put, little_bytes, byte_count}
 use Rattle.nv_memory.specs.BytesLaws.{length_put}
 use Rattle.nv_memory.specs.Regions.{AreRegions, holds}
 use Rattle.nv_memory.specs.Image.{Image, stored, loaded}
-use Rattle.nv_machine.specs.declared.outcome.Stepped.{Stepped}
 use Rattle.nv_machine.specs.declared.outcome.Stepped.TheVariants.{On, Call, Fault}
 use Rattle.nv_machine.specs.declared.outcome.FaultKind.TheVariants as kinds
 use Rattle.nv_machine.specs.Effects.{sum}

@@ -7,4 +7,3 @@ pub mod Vectors
 pub mod Answers
 pub mod Threads
 pub mod Heap
-pub mod ThreadLaws

@@ -1,5 +1,5 @@
 // Answers in the guest's memory.
-ghost use Rattle.std.specs.Prelude.{◌≡◌, ◌≤◌, length, min, take, option_map};
+ghost use Rattle.std.specs.Prelude.{◌≡◌, ◌≤◌, length, min, take, option_map, true, false};
 ghost use Rattle.nv_guest.specs.Vectors.{vector_at, front_of};
 ghost use Rattle.nv_guest.specs.Answers.{with_byte, with_bytes, targets_at, scattered};
 
@@ -16,13 +16,34 @@ fn store_byte(memory: &mut Memory, at: usize, byte: u8)
     }
 }
 
-/// Stores bytes from an address on, each by itself. What may not be written is dropped.
-pub fn store_bytes(memory: &mut Memory, address: u32, bytes: &[u8])
+// Stores bytes from an address on, each by itself.
+fn store_each(memory: &mut Memory, address: u32, bytes: &[u8])
     ensures { memory.new ≡ with_bytes memory.old address bytes.now }
 {
     for (i, byte) in bytes.iter().enumerate() {
         store_byte(memory, address as usize + i, *byte);
     }
+}
+
+// Stores bytes from an address on, where all of them may be written, and tells whether they may.
+fn store_all(memory: &mut Memory, address: u32, bytes: &[u8]) -> bool
+    ensures stored { result ≡ true → memory.new ≡ with_bytes memory.old address bytes.now }
+    ensures refused { result ≡ false → memory.new ≡ memory.old }
+{
+    if bytes.len() > (u32::MAX - address) as usize {
+        return false;
+    }
+    memory.copy_out(address, bytes).is_ok()
+}
+
+/// Stores bytes from an address on. Each that may not be written is dropped.
+pub fn store_bytes(memory: &mut Memory, address: u32, bytes: &[u8])
+    ensures { memory.new ≡ with_bytes memory.old address bytes.now }
+{
+    if store_all(memory, address, bytes) {
+        return;
+    }
+    store_each(memory, address, bytes);
 }
 
 fn target_at(memory: &Memory, most: usize, at: usize) -> Option<Part>

@@ -1,14 +1,22 @@
 // What a call hands over, and where its answer goes.
 ghost use Rattle.std.specs.Prelude.{◌≡◌, ◌≤◌, length, Some};
 ghost use Rattle.nv_guest.specs.Guest.{machine, machine_by};
-ghost use Rattle.nv_guest.specs.Calls.{argument, kept, values, values_with, out_of, vector_count, path_in, bytes_in, vectors_in, room_in, refused, with_payload, with_room, with_out, handed, handed_as, memory_after};
+ghost use Rattle.nv_calls.specs.Calls.{request};
+ghost use Rattle.nv_calls.specs.Numbers.{is_local};
+ghost use Rattle.nv_calls.specs.Shapes.{IsShaped};
+ghost use Rattle.nv_guest.specs.Threads.{asked_by};
+ghost use Rattle.nv_guest.specs.Calls.{argument, number, call_at, kept, values, values_with, out_of, vector_count, path_in, bytes_in, vectors_in, room_in, refused, with_payload, with_room, with_out, handed, handed_as, memory_after};
 
 use crate::answers::{read_targets, scatter, store_bytes};
+use crate::outcome::{Asked, asked_of};
 use crate::paths::read_path;
 use crate::vectors::{Part, gather, room_of};
-use nv_calls::{Bytes, Slot, Syscall};
+use nv_calls::{Bytes, Call, Slot, Syscall};
 use nv_machine::Regs;
 use nv_memory::{Memory, Right};
+
+/// The register of a call's number, a7.
+pub(crate) const NUMBER: u8 = 17;
 
 /// How many bytes a call hands in or out at most.
 pub(crate) const MOST_BYTES: u32 = 4096;
@@ -211,6 +219,24 @@ impl Caller<'_> {
             Syscall::Readv => self.find_room(payload),
             _ => self.check_out(syscall, payload),
         }
+    }
+
+    /// The call of the thread with this number.
+    pub(crate) fn ask(&self, tid: u32, call: &mut Call) -> Asked
+        requires { MOST_BYTES ≤ call.old.payload.room }
+        ensures asked { result ≡ asked_by (is_local (number (machine_by self.now))) }
+        ensures shaped { result ≡ Asked.Logged → IsShaped (request call.new) }
+        ensures call { request call.new ≡ call_at (machine_by self.now) tid }
+        ensures room { call.new.payload.room ≡ call.old.payload.room }
+    {
+        let nr = self.regs.get(NUMBER);
+        let syscall = Syscall::of(nr);
+        let checked = self.copy_in(syscall, &mut call.payload);
+        call.tid = tid;
+        call.nr = nr;
+        call.args = self.values_with(syscall, checked.room);
+        call.bad = checked.bad;
+        asked_of(nr)
     }
 }
 

@@ -1,12 +1,12 @@
 // A guest with up to eight threads.
 ghost use Rattle.std.specs.Prelude.{◌≡◌, ◌<◌, ◌≤◌, length, Contains};
 
-use crate::calls::{Caller, MOST_BYTES, copy_out};
+use crate::calls::{Caller, MOST_BYTES};
 use crate::heap::{Heap, move_heap};
-use crate::outcome::{Asked, asked_of};
+use crate::outcome::Asked;
 use crate::threads::{answer_to, place, run_on, start_child};
 use arrayvec::ArrayVec;
-use nv_calls::{Call, Syscall};
+use nv_calls::Call;
 use nv_machine::{Regs, Stepped};
 use nv_memory::Memory;
 use std::marker::Model;
@@ -116,14 +116,7 @@ impl Guest {
             regs: self.regs(tid),
             memory: &self.memory,
         };
-        let nr = caller.regs.get(17);
-        let syscall = Syscall::of(nr);
-        let checked = caller.copy_in(syscall, &mut call.payload);
-        call.tid = tid;
-        call.nr = nr;
-        call.args = caller.values_with(syscall, checked.room);
-        call.bad = checked.bad;
-        asked_of(nr)
+        caller.ask(tid, call)
     }
 
     /// Stores the bytes of the answer, puts the result into a0 and goes past the call.
@@ -132,7 +125,12 @@ impl Guest {
         ensures { self.new ≡ answered_at self.old tid ret payload.now }
     {
         let place = place(&self.threads, tid);
-        answer_to(&mut self.threads[place].regs, &mut self.memory, ret, payload);
+        answer_to(
+            &mut self.threads[place].regs,
+            &mut self.memory,
+            ret,
+            payload,
+        );
     }
 
     /// Moves the break, if it may be there, and gives it (brk(2)).

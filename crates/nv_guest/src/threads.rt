@@ -5,7 +5,7 @@ ghost use Rattle.nv_guest.specs.Guest.{machine};
 ghost use Rattle.nv_guest.specs.Calls.{answered, past};
 ghost use Rattle.nv_guest.specs.Threads.{tids, place_of, run, child_regs, with_stack, with_pointer};
 
-use crate::calls::copy_out;
+use crate::calls::{NUMBER, copy_out};
 use crate::guest::Thread;
 use nv_calls::Syscall;
 use nv_machine::{Regs, Stepped, step};
@@ -35,7 +35,8 @@ pub(crate) fn place(threads: &[Thread], tid: u32) -> usize
 }
 
 /// Runs at most so many instructions, up to the first that ends in a call or a fault, and gives how many were run
-/// and how the last one ended.
+/// and how the last one ended. A function of its own for the compiler: one call a turn, with the machine's registers for its loop alone.
+#[inline(never)]
 pub(crate) fn run_on(regs: &mut Regs, memory: &mut Memory, most: u32) -> (u32, Stepped)
     ensures few { result.0 ≤ most }
     ensures ran { run most (machine regs.old memory.old) ≡ (result.0, result.1, machine regs.new memory.new) }
@@ -54,7 +55,7 @@ pub(crate) fn run_on(regs: &mut Regs, memory: &mut Memory, most: u32) -> (u32, S
 pub(crate) fn answer_to(regs: &mut Regs, memory: &mut Memory, ret: i32, payload: &[u8])
     ensures { machine regs.new memory.new ≡ answered (machine regs.old memory.old) ret payload.now }
 {
-    let syscall = Syscall::of(regs.get(17));
+    let syscall = Syscall::of(regs.get(NUMBER));
     copy_out(regs, memory, syscall, payload);
     go_past(regs, ret.cast_unsigned());
 }

@@ -4,5 +4,6 @@ pub mod Files
 pub mod Replies
 pub mod Few
 pub mod Going
+pub mod CrewLaws
 pub mod Crews
 pub mod Randoms

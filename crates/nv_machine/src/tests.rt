@@ -2,7 +2,11 @@ ghost use Rattle.std.specs.Prelude.{◌≡◌, true};
 
 use crate::{FaultKind, Regs, Stepped, step};
 use nv_memory::{Memory, Region, Width};
+use results::RESULTS;
+use std::alloc::{AllocError, Global};
 use std::test::Fail;
+
+mod results;
 
 // What GNU as and ld (binutils 2.40 for riscv64-unknown-elf) wrote at 0x8000.
 static PROGRAM: [u8; 72] = [
@@ -95,5 +99,93 @@ fn single_words(rt: HostRuntime) -> Result<(), Fail> {
             Stepped::Fault(FaultKind::Fetch)
         );
     }
+    Ok(())
+}
+
+// The address of the instruction, and that of the eight bytes that it may load and store.
+const CODE: u32 = 0x8000;
+
+const DATA: u32 = 0x1_0000;
+
+// The eight bytes before.
+const MEMORY: u64 = 0x80ff_7f01_fe00_817e;
+
+// An instruction with what it finds and leaves.
+#[derive(Drop)]
+struct Row<'a> {
+    kind: &'a str,
+    word: u32,
+    x5: u32,
+    x6: u32,
+    x7: u32,
+    moved: u32,
+    memory: u64,
+}
+
+fn number(word: Option<&str>) -> Result<u32, Fail> {
+    Ok(u32::from_str_radix(word.unwrap_or(""), 16)?)
+}
+
+fn row_of(line: &str) -> Result<Row<'_>, Fail> {
+    let mut words = line.split_ascii_whitespace();
+    Ok(Row {
+        kind: words.next().unwrap_or(""),
+        word: number(words.next())?,
+        x5: number(words.next())?,
+        x6: number(words.next())?,
+        x7: number(words.next())?,
+        moved: number(words.next())?,
+        memory: u64::from_str_radix(words.next().unwrap_or(""), 16)?,
+    })
+}
+
+// What a row of this kind counts x5 and x7 from.
+fn origins(kind: &str) -> (u32, u32) {
+    match kind {
+        "pc" => (CODE, CODE),
+        "at" => (DATA, 0),
+        _ => (0, 0),
+    }
+}
+
+// Whether the instruction leaves what the row says.
+fn does_as_said(alloc: Global, row: &Row<'_>) -> Result<bool, Fail> {
+    let regions = vec![in alloc; region(CODE, CODE + 4), region(DATA, DATA + 8)]?;
+    let mut memory = Memory::make(alloc, 0x20000, regions)?;
+    let stored = memory.store(CODE, Width::Four, row.word).is_ok()
+        && memory.copy_out(DATA, &MEMORY.to_be_bytes()).is_ok();
+    let (from, link_from) = origins(row.kind);
+    let mut regs = Regs::new(CODE);
+    regs.set(5, row.x5.wrapping_add(from));
+    regs.set(6, row.x6);
+    regs.set(7, 0x5a5a_5a5a);
+    let stepped = step(&mut regs, &mut memory);
+    let mut left = [0; 8];
+    let read = memory.copy_in(DATA, &mut left).is_ok();
+    let x7 = row.x7.wrapping_add(link_from);
+    Ok(
+        stored
+            && read
+            && stepped == Stepped::On
+            && regs.get(7) == x7
+            && regs.pc.wrapping_sub(CODE) == row.moved
+            && left == row.memory.to_be_bytes(),
+    )
+}
+
+// The first row that isn't so.
+fn first_wrong(alloc: Global, rows: &str) -> Result<Option<&str>, Fail> {
+    for line in rows.split('\n') {
+        if !line.is_empty() && !does_as_said(alloc, &row_of(line)?)? {
+            return Ok(Some(line));
+        }
+    }
+    Ok(None)
+}
+
+// Each instruction that isn't a call or a fault, on edge values.
+#[test]
+fn as_under_qemu(rt: HostRuntime) -> Result<(), Fail> {
+    assert_eq!(rt; first_wrong(rt.alloc(), RESULTS)?, None);
     Ok(())
 }

@@ -52,14 +52,11 @@ pub fn write(bytes: &mut [u8], at: usize, width: Width, value: u32)
 }
 
 // Writes the bytes from the address on.
-#[tactic(auto, using(crate::proofs::Loops::put_more))]
 pub fn write_all(bytes: &mut [u8], at: usize, from: &[u8])
     requires { at + length from.now ≤ length bytes.old }
     ensures { bytes.new ≡ put bytes.old at from.now }
 {
-    for (i, byte) in from.iter().enumerate() {
-        bytes[at + i] = *byte;
-    }
+    bytes[at..at + from.len()].copy_from_slice(from);
 }
 
 // Writes 0 from one address to below another.
@@ -84,12 +81,10 @@ pub fn part(bytes: &[u8], at: usize, size: usize) -> &[u8]
 }
 
 // Reads the bytes from the address on.
-#[tactic(auto, using(crate::proofs::Loops::bytes_read))]
+#[tactic(auto, using(crate::proofs::Loops::part_is_bytes))]
 pub fn read_all(bytes: &[u8], at: usize, out: &mut [u8])
     requires { at + length out.old ≤ length bytes.now }
     ensures { out.new ≡ bytes_at bytes.now at (length out.old) }
 {
-    for i in 0..out.len() {
-        out[i] = bytes[at + i];
-    }
+    out.copy_from_slice(&bytes[at..at + out.len()]);
 }

@@ -46,6 +46,14 @@ impl<S: Sink> Gathering<S> {
         let put = put_all(&mut sink, &held);
         (sink, put)
     }
+
+    /// Drops what is held back, and gives the sink.
+    pub fn give_up(self) -> S
+        ensures { result ≡ sink_of self }
+    {
+        let Gathering { sink, held: _ } = self;
+        sink
+    }
 }
 
 impl<S: Sink> Gathering<S> {

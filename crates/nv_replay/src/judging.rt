@@ -30,7 +30,7 @@ pub fn is_of_threads(nr: u32) -> bool
 }
 
 /// Answers the thread's call, where its reply is the same in every state of the kernel; whether it is.
-#[tactic(auto, using(nv_threads::specs::ThreadLaws::threads_here, crate::proofs::Stepping::constant_new))]
+#[tactic(auto, using(nv_threads::proofs::ThreadLaws::threads_here, crate::proofs::Stepping::constant_new))]
 pub fn give_constant(process: &mut Process, tid: u32, scratch: &mut Bytes) -> bool
     requires pending { threads.pending process.old tid ≡ true }
     requires room { 4096 ≤ scratch.old.room }

@@ -73,7 +73,7 @@ pub enum Led {
     Dropped(Fate),
 }
 
-#[tactic(auto, using(nv_threads::specs::ThreadLaws::threads_keeps, nv_threads::specs::ThreadLaws::threads_falls, nv_threads::specs::ThreadLaws::threads_asked, nv_threads::specs::ThreadLaws::threads_live))]
+#[tactic(auto, using(nv_threads::proofs::ThreadLaws::threads_keeps, nv_threads::proofs::ThreadLaws::threads_falls, nv_threads::proofs::ThreadLaws::threads_asked, nv_threads::proofs::ThreadLaws::threads_live))]
 impl Version {
     /// The version with this number; all its memory is taken here.
     pub fn make(alloc: Global, index: u32, process: Process) -> Result<Version, AllocError>
@@ -98,7 +98,7 @@ impl Version {
     }
 
     /// One decision on the next event of the log; without rules only the event's own call is permitted.
-    #[tactic(auto, using(nv_threads::specs::ThreadLaws::threads_keeps, nv_threads::specs::ThreadLaws::threads_asked, nv_threads::specs::ThreadLaws::threads_live, nv_threads::specs::ThreadLaws::threads_only, nv_threads::specs::ThreadLaws::threads_on, crate::proofs::Following::decided_fault, crate::proofs::Following::decided_asked))]
+    #[tactic(auto, using(nv_threads::proofs::ThreadLaws::threads_keeps, nv_threads::proofs::ThreadLaws::threads_asked, nv_threads::proofs::ThreadLaws::threads_live, nv_threads::proofs::ThreadLaws::threads_only, nv_threads::proofs::ThreadLaws::threads_on, crate::proofs::Following::decided_fault, crate::proofs::Following::decided_asked))]
     pub fn follow(&mut self, rules: Option<&Filter>, event: &Event) -> Followed
         requires following { IsFollowing self.old }
         requires stamp { event.now.stamp ≡ self.old.at.seen }
@@ -258,7 +258,7 @@ impl Version {
     }
 
     /// Comes to the leader's next call, or ends.
-    #[tactic(auto, using(nv_threads::specs::ThreadLaws::threads_keeps, nv_threads::specs::ThreadLaws::threads_asked, crate::proofs::Leading::asking_fault, crate::proofs::Leading::asking_asked))]
+    #[tactic(auto, using(nv_threads::proofs::ThreadLaws::threads_keeps, nv_threads::proofs::ThreadLaws::threads_asked, crate::proofs::Leading::asking_fault, crate::proofs::Leading::asking_asked))]
     pub fn lead(&mut self, most: u32) -> Led
         requires leading { IsLeading self.old }
         requires on { threads.ended self.old.at.process ≡ None }
@@ -280,7 +280,7 @@ impl Version {
         Led::Dropped(fate)
     }
 
-    #[tactic(auto, using(nv_threads::specs::ThreadLaws::threads_here), unfolding(crate::specs::Versions::asking_by))]
+    #[tactic(auto, using(nv_threads::proofs::ThreadLaws::threads_here), unfolding(crate::specs::Versions::asking_by))]
     fn ask(&mut self, tid: u32, most: u32) -> Led
         requires leading { IsLeading self.old }
         requires pending { threads.pending self.old.at.process tid ≡ true }

@@ -4,7 +4,7 @@
 
 mod runs;
 
-pub use runs::{alone, judged_pair, pair};
+pub use runs::{alone, pair, report, report_by_text};
 
 #[cfg(test)]
 mod rules;

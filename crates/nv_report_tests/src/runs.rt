@@ -7,6 +7,7 @@ ghost use Rattle.nv_replay.specs.Accounts.{AreFresh};
 use nv_bpf::Filter;
 use nv_guest::Guest;
 use nv_kernel::ScriptKernel;
+use nv_outside::CalmSink;
 use nv_replay::{Account, Version};
 use nv_threads::Process;
 use std::alloc::Global;
@@ -16,6 +17,9 @@ const MEMORY: u32 = 1_048_576;
 const BUDGET: u32 = 1_000;
 
 const MOST_EVENTS: u32 = 100;
+
+// what a report may have
+const MOST_BYTES: usize = 4096;
 
 // An ELF header and one program header: a loadable segment at 0x10000, which may be read and executed, with the entry there.
 const HEAD: [u8; 68] = [
@@ -52,7 +56,11 @@ fn version(alloc: Global, index: u32, words: &[u32]) -> Option<Version>
     Version::make(alloc, index, process).ok()
 }
 
-fn run(alloc: Global, versions: Vec<Version>, rules: Option<&Filter>) -> Option<Account<ScriptKernel>>
+fn run(
+    alloc: Global,
+    versions: Vec<Version>,
+    rules: Option<&Filter>,
+) -> Option<Account<ScriptKernel>>
     requires fresh { AreFresh threads 0 versions.items }
     requires few { length versions.items ≤ 8 }
 {
@@ -73,13 +81,32 @@ pub fn pair(alloc: Global, first: &[u32], second: &[u32]) -> Option<Account<Scri
     pair_by(alloc, first, second, None)
 }
 
-/// The account of a run of two programs by a filter in the form that `tcpdump -ddd` prints.
-pub fn judged_pair(alloc: Global, first: &[u32], second: &[u32], rules: &str) -> Option<Account<ScriptKernel>> {
+/// The report of a run of two programs by a filter in the form that `tcpdump -ddd` prints.
+pub fn report(alloc: Global, first: &[u32], second: &[u32], rules: &str) -> Option<Vec<u8>> {
     let filter = nv_bpf::read(alloc, rules.as_bytes()).ok()?;
-    pair_by(alloc, first, second, Some(&filter))
+    report_by(alloc, first, second, &filter)
 }
 
-fn pair_by(alloc: Global, first: &[u32], second: &[u32], rules: Option<&Filter>) -> Option<Account<ScriptKernel>> {
+/// The same by a rule text.
+pub fn report_by_text(alloc: Global, first: &[u32], second: &[u32], text: &str) -> Option<Vec<u8>> {
+    let filter = nv_bpf_asm::assemble(alloc, text.as_bytes()).ok()?;
+    report_by(alloc, first, second, &filter)
+}
+
+fn report_by(alloc: Global, first: &[u32], second: &[u32], rules: &Filter) -> Option<Vec<u8>> {
+    let account = pair_by(alloc, first, second, Some(rules))?;
+    let mut sink = CalmSink::make(alloc, MOST_BYTES).ok()?;
+    let _put = nv_report::write(&mut sink, &account);
+    sink.written().to_vec(alloc).ok()
+}
+
+// The account of a run of two programs by these rules, if there are any.
+fn pair_by(
+    alloc: Global,
+    first: &[u32],
+    second: &[u32],
+    rules: Option<&Filter>,
+) -> Option<Account<ScriptKernel>> {
     let first = version(alloc, 0, first)?;
     let second = version(alloc, 1, second)?;
     let versions = vec![in alloc; first, second].ok()?;

@@ -9,7 +9,7 @@ use Rattle.nv_room.specs.declared.room.Reader.{Reader}
 use Rattle.nv_room.specs.declared.room.Left.{Left}
 use Rattle.nv_room.specs.Seats.{FreshReaders, IsFresh, IsOfRoom, IsLeftOf, station_of_reader, station_of_left, stations_of}
 use Rattle.nv_room.specs.Lefts.{IsEach}
-use Rattle.nv_room_tests.specs.Backs.{InOrder}
+use Rattle.nv_room_tests.specs.Backs.{InOrder, LeftInOrder}
 
 pub at_below : {A : Type 0} (l : List A) (i : ℕ) (a : A) → get_elem? l i ≡ some a → i < length l
 at_below [] i a e = absurd (some-ne-none a (sym e))
@@ -63,3 +63,22 @@ module _ {K : Type 0} {G : Ghosts K} where
     (λ i x f. old i x (ap (λ (z : List (Reader K G)). get_elem? z i) is ∙ at_longer rest (r ∷ []) i x f)),
     old (length rest) r (ap (λ (z : List (Reader K G)). get_elem? z (length rest)) is ∙ at_last rest r (length rest) refl),
   )
+
+  -- the seats of the stations from 1 on, and of station 0 behind them, are the seats of all
+  pub first_behind : (room : Room K) (ls all : List (Left K G)) (first : Left K G) → all ≡ ls ++ first ∷ [] → LeftInOrder room ls → IsLeftOf room first → station_of_left first ≡ 0 → length ls + 1 ≡ stations_of room → IsEach room all
+  first_behind room ls all first is order of zeroth long = subst (IsEach room) (sym is) (
+    record {
+      table = λ i l f. ⊎_elim (λ (q : get_elem? ls i ≡ some l). (order i l q).0) (λ (q : (i ≡ length ls) × (first ≡ l)). subst (λ (z : Left K G). IsLeftOf room z) q.1 of) (at_end ls first l i f);
+      apart = λ i j l q f g e. ⊎_elim
+          (λ (a : get_elem? ls i ≡ some l). ⊎_elim (λ (b : get_elem? ls j ≡ some q). let x = (order i l a).1 in let y = (order j q b).1 in omega arith)
+          (λ (b : (j ≡ length ls) × (first ≡ q)). let x = (order i l a).1 in let y = ap (λ (z : Left K G). station_of_left z) b.1 in absurd (omega arith)) (at_end ls first q j g))
+          (λ (a : (i ≡ length ls) × (first ≡ l)). ⊎_elim (λ (b : get_elem? ls j ≡ some q). let x = ap (λ (z : Left K G). station_of_left z) a.1 in let y = (order j q b).1 in absurd (omega arith))
+          (λ (b : (j ≡ length ls) × (first ≡ q)). a.0 ∙ sym b.0) (at_end ls first q j g))
+          (at_end ls first l i f);
+    },
+    λ s near. at_station s near,
+  )
+    where
+      at_station : (s : ℕ) → s < stations_of room → (i : ℕ) × (r : Left K G) × (get_elem? (ls ++ first ∷ []) i ≡ some r) × (station_of_left r ≡ s)
+      at_station zero near = (length ls, first, at_last ls first (length ls) refl, zeroth)
+      at_station (suc s) near = let x = there ls s (omega arith) in let m = (order s x.0 x.1).1 in (s, x.0, at_longer ls (first ∷ []) s x.0 x.1, omega arith)

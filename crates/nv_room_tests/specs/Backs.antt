@@ -1,11 +1,12 @@
--- Readers that come back from their threads.
+-- Seats that come back from their threads.
 use Rattle.std.specs.Prelude.{◌≡◌, ℕ, ◌+◌, List, []}
 use mathlib.Core.Option.{some}
 use lib.ListN.{get_elem?}
 use Rattle.nv_calls.specs.declared.kernel.SyscallKernel.{Ghosts}
 use Rattle.nv_room.specs.declared.room.Room.{Room}
 use Rattle.nv_room.specs.declared.room.Reader.{Reader}
-use Rattle.nv_room.specs.Seats.{IsOfRoom, view, station_of_reader}
+use Rattle.nv_room.specs.declared.room.Left.{Left}
+use Rattle.nv_room.specs.Seats.{IsOfRoom, IsLeftOf, view, station_of_reader, station_of_left}
 
 module _ {K : Type 0} {G : Ghosts K} where
   -- the readers of the stations from 1 on, in order
@@ -15,3 +16,7 @@ module _ {K : Type 0} {G : Ghosts K} where
   -- it has read no word of an event that it has not seen
   abbrev pub IsIdle : Room K → Reader K G → Type 0
   IsIdle room r = IsOfRoom room r × ((view r).read ≡ [])
+
+  -- the seats of the stations from 1 on, which have left, in order
+  abbrev pub LeftInOrder : Room K → List (Left K G) → Type 0
+  LeftInOrder room ls = (i : ℕ) (l : Left K G) → get_elem? ls i ≡ some l → IsLeftOf room l × (station_of_left l ≡ i + 1)

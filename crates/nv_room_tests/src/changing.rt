@@ -18,7 +18,7 @@ use std::alloc::{AllocError, Global};
 
 /// Station 0 publishes three calls and retires, station 1 takes the lead, publishes one more and the last, and closes, and
 /// station 2 reads on.
-pub fn promote<K: SyscallKernel>(
+pub fn change_leader<K: SyscallKernel>(
     alloc: Global,
     kernel: K,
     call: &Call,
@@ -76,7 +76,7 @@ fn first_leads<K: SyscallKernel>(
     ensures left { IfSome result (λ l. IsLeftOf room.now l × (station_of_left l ≡ station_of_lead lead)) }
     ensures third { IsIdle room.now third.new × (station_of_reader third.new ≡ station_of_reader third.old) }
 {
-    if !publish_some(room, &mut lead, call, 3) {
+    if !publish_some(room, &mut lead, call, 3, 1) {
         return None;
     }
     let left = retire(lead, room);
@@ -108,7 +108,7 @@ fn second_leads<K: SyscallKernel>(
         return None;
     }
     let mut lead = take_over(room, second, buf)?;
-    if !goes_on(lead.kernel().history()) || !publish_some(room, &mut lead, call, 1) {
+    if !goes_on(lead.kernel().history()) || !publish_some(room, &mut lead, call, 1, 1) {
         return None;
     }
     if !read_some(room, third, buf, 4) {
@@ -135,12 +135,13 @@ fn reads_to_end<K: SyscallKernel>(
     }
 }
 
-// Publishes a call so many times, as long as there is a place.
-fn publish_some<K: SyscallKernel>(
+// Publishes a call so many times, waiting for each place at most so many turns.
+pub(crate) fn publish_some<K: SyscallKernel>(
     room: &Room<K>,
     lead: &mut Lead<K>,
     call: &Call,
     count: u32,
+    most: u32,
 ) -> bool
     requires of { IsLeadOf room.now lead.old }
     requires none_due { due_of lead.old ≡ false }
@@ -154,7 +155,7 @@ fn publish_some<K: SyscallKernel>(
     ensures lives { OnTrue result (Contains (live_after (K.log (kernel_of lead.new))) 100) }
 {
     for _event in 0..count {
-        if !publish_one(room, lead, call, 1) {
+        if !publish_one(room, lead, call, most) {
             return false;
         }
     }
@@ -208,7 +209,7 @@ fn take_over<K: SyscallKernel>(
 }
 
 // No thread has ended.
-fn goes_on(history: &[Event]) -> bool
+pub(crate) fn goes_on(history: &[Event]) -> bool
     ensures { OnTrue result (Contains (live_after (map entry history.now)) 100) }
 {
     for event in history {

@@ -1,12 +1,14 @@
-//! A room that threads run: one publishes, the others read.
+//! Rooms that threads run: one publishes and the others read, or each leads in its turn; and a change of leader step by step.
 #![tactic(auto)]
 
 mod calls;
 mod changing;
+mod relaying;
 mod running;
 #[cfg(test)]
 mod tests;
 
 pub use calls::{exit_group, getuid, kernel, write};
-pub use changing::promote;
+pub use changing::change_leader;
+pub use relaying::{Relay, all_cross, run_relay};
 pub use running::{Script, run, serve_all};

@@ -18,8 +18,8 @@ use std::alloc::{AllocError, Global};
 use std::thread;
 use std::thread::{Threads, join, yield_now};
 
-/// What the lead publishes: one call again and again, and another last, so many events in all. No thread
-/// is idle for more than `most` turns.
+/// What the lead publishes: one call again and again, and another last, so many events in all. It waits at most `most` turns
+/// for a place, and no reader is idle for more than `most` turns in all.
 #[derive(Drop)]
 pub struct Script {
     pub call: Call,
@@ -178,8 +178,9 @@ pub fn read_all<K: SyscallKernel>(
     let Ok(mut buf) = EventBuf::make(alloc) else {
         return reader;
     };
+    let mut idle = script.most;
     for event in 0..script.events {
-        if !wait_for_event(room, &mut reader, &mut buf, script.most) {
+        if !wait_for_event(room, &mut reader, &mut buf, &mut idle) {
             return reader;
         }
         if !is_scripted(script, buf.event(), event) {
@@ -190,12 +191,12 @@ pub fn read_all<K: SyscallKernel>(
     reader
 }
 
-// Polls until there is an event, at most so many times.
+// Polls until there is an event, or no idle turn is left.
 fn wait_for_event<K: SyscallKernel>(
     room: &Room<K>,
     reader: &mut Reader<K>,
     buf: &mut EventBuf,
-    most: u32,
+    idle: &mut u32,
 ) -> bool
     requires of { IsOfRoom room.now reader.old }
     requires none_read { (view reader.old).read ≡ [] }
@@ -203,12 +204,13 @@ fn wait_for_event<K: SyscallKernel>(
     ensures station { station_of_reader reader.new ≡ station_of_reader reader.old }
     ensures whole { OnTrue result (IsWhole buf.new × IsWhole (view reader.new).read) }
 {
-    for _turn in 0..most {
+    while *idle > 0 {
         match poll(reader, room, buf) {
             Polled::Event => return true,
             Polled::Waiting => yield_now(),
             Polled::Free(_) | Polled::Closed(_) => return false,
         }
+        *idle -= 1;
     }
     false
 }

@@ -1,7 +1,8 @@
 ghost use Rattle.std.specs.Prelude.{◌<◌, ◌≤◌};
 
 use crate::calls::{exit_group, getuid, kernel};
-use crate::changing::promote;
+use crate::changing::change_leader;
+use crate::relaying::{Relay, run_relay};
 use crate::running::{Script, run};
 use std::alloc::Global;
 use std::process::Abort;
@@ -52,12 +53,12 @@ fn seven_readers(rt: HostRuntime) {
 
 // Station 0 retires after three events, station 1 takes the lead and closes after five, and station 2 reads all.
 #[test]
-fn promotes(rt: HostRuntime) {
+fn promote(rt: HostRuntime) {
     let alloc = rt.alloc();
     let call = getuid(alloc).expect(&rt, "memory");
     let last = exit_group(alloc).expect(&rt, "memory");
     let kernel = kernel(alloc).expect(&rt, "memory");
-    let ended = promote(alloc, kernel, &call, &last).expect(&rt, "memory");
+    let ended = change_leader(alloc, kernel, &call, &last).expect(&rt, "memory");
     match ended {
         Some(ended) => {
             assert_eq!(rt; ended.seen.len(), 3);
@@ -65,4 +66,22 @@ fn promotes(rt: HostRuntime) {
         }
         None => assert!(rt; false),
     }
+}
+
+// Eight stations over four places: each leads for three events and retires, and the last closes after exit_group.
+#[test]
+fn each_leads_in_its_turn(rt: HostRuntime) {
+    let alloc = rt.alloc();
+    let script = Relay {
+        call: getuid(alloc).expect(&rt, "memory"),
+        last: exit_group(alloc).expect(&rt, "memory"),
+        each: 3,
+        most: 10_000_000,
+    };
+    let kernel = kernel(alloc).expect(&rt, "memory");
+    let ended = run_relay(&rt, alloc, kernel, &script, 8, 4).expect(&rt, "memory");
+    assert_eq!(rt;
+        ended.seen.as_slice(),
+        [3, 6, 9, 12, 15, 18, 21, 25].as_slice()
+    );
 }

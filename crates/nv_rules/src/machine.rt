@@ -27,6 +27,7 @@ pub enum Step {
 }
 
 // Arithmetic on words of 32 bits; a division by 0 has no result.
+#[inline(always)]
 fn compute(arithmetic: Arithmetic, a: u32, b: u32) -> Option<u32>
     ensures { result ≡ computed arithmetic a b }
 {
@@ -43,6 +44,7 @@ fn compute(arithmetic: Arithmetic, a: u32, b: u32) -> Option<u32>
     }
 }
 
+#[inline(always)]
 fn holds(comparison: Comparison, a: u32, b: u32) -> bool
     ensures { result ≡ holds comparison a b }
 {
@@ -66,6 +68,7 @@ impl Machine {
         }
     }
 
+    #[inline(always)]
     fn held(&self, register: Register) -> u32
         ensures { result ≡ held register (state_of self.now) }
     {
@@ -75,6 +78,7 @@ impl Machine {
         }
     }
 
+    #[inline(always)]
     fn operand(&self, operand: Operand, k: u32) -> u32
         ensures { result ≡ operand_of operand k (state_of self.now) }
     {
@@ -85,6 +89,7 @@ impl Machine {
     }
 
     // The register becomes this, and the next instruction follows.
+    #[inline(always)]
     fn load(&mut self, register: Register, value: u32) -> Step
         ensures { outcome_of result self.new ≡ goes_with register value (state_of self.old) }
     {
@@ -95,6 +100,7 @@ impl Machine {
         Step::Forward(0)
     }
 
+    #[inline(always)]
     fn act(&mut self, action: Action, op: Op, pair: &Pair) -> Step
         requires { IsUsable action op.k }
         ensures { outcome_of result self.new ≡ acted action op pair.now.words (state_of self.old) }
@@ -129,6 +135,7 @@ impl Machine {
     }
 
     /// Carries out an instruction of a filter, which has these many.
+    #[inline(always)]
     pub fn step(&mut self, op: Op, pair: &Pair) -> Step
         requires { IsSound op }
         ensures { stepped op pair.now.words (state_of self.old) ≡ Some (outcome_of result self.new) }

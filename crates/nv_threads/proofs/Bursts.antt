@@ -8,7 +8,7 @@ use Rattle.nv_machine.specs.declared.outcome.Stepped.{Stepped}
 use Rattle.nv_machine.specs.declared.outcome.Stepped.TheVariants.{On, Call, Fault as Faults}
 use Rattle.nv_guest.specs.Threads.{Threaded, Ran, run, more, unless_stopped, with_regs, with_machine, machine_at}
 use Rattle.nv_guest.specs.Threads as guests
-use Rattle.nv_guest.specs.ThreadLaws.{tids_stay, regs_written, regs_twice}
+use Rattle.nv_guest.proofs.ThreadLaws.{tids_stay, regs_written, regs_twice}
 use Rattle.nv_threads.specs.Threads.{Proc, tids, state_at, is_asking, is_running, machine, ran, ended_by, stepped, counted, instruction, wanted, can_move, is_on, turn_step}
 use Rattle.nv_threads.specs.Kept.{are_apart}
 use Rattle.nv_threads.specs.Going.{Goes, moved_on, burst}
@@ -75,7 +75,7 @@ moved_twice p m r =
     let l : (p.left - 1) - r.0 ≡ p.left - (1 + r.0) = omega arith in
     ap (λ ts. record p { guest = record { threads = ts; memory = r.2.memory }; slice = (p.slice - 1) - r.0; left = (p.left - 1) - r.0 }) (regs_twice p.guest.threads p.turn m.regs r.2.regs)
     ∙ (ap (λ n. record p { guest = with_machine p.guest p.turn r.2; slice = n; left = (p.left - 1) - r.0 }) s
-      ∙ ap (λ n. record p { guest = with_machine p.guest p.turn r.2; slice = p.slice - (1 + r.0); left = n }) l)
+    ∙ ap (λ n. record p { guest = with_machine p.guest p.turn r.2; slice = p.slice - (1 + r.0); left = n }) l)
 
 further : (n : ℕ) (p : Proc) (m : Machine) → Contains (guests.tids p.guest.threads) p.turn → burst n (ran (counted p) m) ≡ ended_by (run n m).1 (moved_on (more 1 (run n m)) p)
 further n p m c =

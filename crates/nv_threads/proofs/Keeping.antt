@@ -7,9 +7,9 @@ use Rattle.nv_calls.specs.Calls.{request}
 use Rattle.std.proofs.lemmas.List.{length-set}
 use Rattle.nv_machine.specs.Guest.{Machine}
 use Rattle.nv_guest.specs.Threads as guests
-use Rattle.nv_guest.specs.ThreadLaws.{tids_stay}
+use Rattle.nv_guest.proofs.ThreadLaws.{tids_stay}
 use Rattle.nv_threads.specs.Threads.{State, Task, Proc, tids, passed, unless_live, state_at, with_state, is_running, is_asking}
-use Rattle.nv_threads.specs.Turns.{same_tids}
+use Rattle.nv_threads.proofs.Quiet.{same_tids}
 use Rattle.nv_threads.specs.Kept.{are_apart, IsOwn, AreOwn, HaveRoom, IsKept}
 use Rattle.nv_threads.proofs.Orders.{at_front, behind, either, Next, Higher, Lowest, next_is}
 

@@ -11,7 +11,7 @@ use Rattle.nv_guest.specs.declared.guest.Thread.{Thread as GuestThread}
 use Rattle.nv_threads.specs.Threads.{State, Runs, Asks, Waits, Task as Thread, tids, state_at, is_asking, call_in}
 use Rattle.nv_threads.specs.Kept.{are_apart, IsOwn, AreOwn, HaveRoom, IsKept}
 use Rattle.nv_threads.specs.Tables.{place_of, state_by, thread_by, threads_of}
-use Rattle.nv_threads.specs.ThreadLaws.{others, tids_filter, tids_child}
+use Rattle.nv_threads.proofs.ThreadLaws.{others, tids_filter, tids_child}
 use Rattle.nv_threads.specs.declared.tasks.Doing.{Doing}
 use Rattle.nv_threads.specs.declared.tasks.Doing.TheVariants as doing
 use Rattle.nv_threads.specs.declared.tasks.Task.{Task}

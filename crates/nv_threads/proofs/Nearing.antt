@@ -38,6 +38,7 @@ absent t r (x ∷ xs) h c = ⊎_elim
     by_rest : (b : Bool) → (b || list_any (λ u. u == t) xs) ≡ false → list_any (λ u. u == t) xs ≡ false
     by_rest true h = cc
     by_rest false h = h
+
     by : (b : Bool) → (x == t) ≡ b → (b || list_any (λ u. u == t) xs) ≡ false → x ≡ r → (t == r) ≡ false
     by true f h e = cc
     by false f h e = grind (arith, nat_tests)

@@ -53,10 +53,11 @@ above_by k x xs None true e h =
     (up, at_front x xs, λ r c g. ⊎_elim (λ (e : x ≡ r). omega arith) (λ (c : Contains xs r). (let z = h r c in absurd (omega arith))) (either x xs r c))
 above_by k x xs (Some y) true e h =
     let up : k < x = grind (arith, nat_tests) in
-    let high = h.0 in
-    (omega arith,
+    let high = h.0 in (
+      omega arith,
       ⊎_elim (λ (e : min x y ≡ x). subst (λ (z : ℕ). Contains (x ∷ xs) z) (sym e) (at_front x xs)) (λ (e : min x y ≡ y). subst (λ (z : ℕ). Contains (x ∷ xs) z) (sym e) (behind x xs y h.1)) (min_is x y),
-      λ r c g. ⊎_elim (λ (e : x ≡ r). omega arith) (λ (c : Contains xs r). (let z = h.2 r c g in omega arith)) (either x xs r c))
+      λ r c g. ⊎_elim (λ (e : x ≡ r). omega arith) (λ (c : Contains xs r). (let z = h.2 r c g in omega arith)) (either x xs r c),
+    )
 above_by k x xs None false e h =
     let low : x ≤ k = grind (arith, nat_tests) in
     λ r c. ⊎_elim (λ (e : x ≡ r). omega arith) (λ (c : Contains xs r). h r c) (either x xs r c)
@@ -92,7 +93,7 @@ pub above_less : (j k : ℕ) (ts : List ℕ) → j < k → Contains ts k → abo
 above_less j k [] h c = nothing k c
 above_less j k (t ∷ ts) h c = ⊎_elim
     (λ (e : t ≡ k). (let a : nat_lt k t ≡ false = grind (arith, nat_tests) in let b : nat_lt j t ≡ true = grind (arith, nat_tests) in
-        let g = above_fewer j k ts (omega arith) in rw (a, b) (omega (arith, g))))
+    let g = above_fewer j k ts (omega arith) in rw (a, b) (omega (arith, g))))
     (λ (c : Contains ts k). (let g = above_less j k ts h c in let b = fewer_by j k t (nat_lt k t) (nat_lt j t) refl refl (omega arith) in omega (arith, g, b)))
     (either t ts k c)
 

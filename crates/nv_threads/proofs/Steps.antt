@@ -11,7 +11,7 @@ use Rattle.nv_guest.specs.Calls.{number}
 use Rattle.nv_threads.specs.Threads.{Proc, tid_of, tids, state_at, is_asking, passed, machine, ran, ended_by, counted, instruction, wanted, can_move, unless_live, is_on, faulted, turn_step, unless_came, steps, most_passes, most_steps, advanced}
 use Rattle.nv_threads.specs.Kept.{are_apart}
 use Rattle.nv_threads.specs.Going.{passes, height, Goes}
-use Rattle.nv_threads.specs.ThreadLaws.{step_is, called_is}
+use Rattle.nv_threads.proofs.ThreadLaws.{step_is, called_is}
 use Rattle.nv_threads.specs.declared.turns.Came.{Came}
 use Rattle.nv_threads.specs.declared.turns.Came.TheVariants.{Asked}
 use Rattle.nv_threads.specs.declared.turns.Want.{Want}

@@ -32,7 +32,7 @@ waiter_by a x ts true (Some u) t go all h =
     let z : min x.tid u ≡ t = cc in
     subst (λ n. Contains (tids (x ∷ ts)) n) z
     (⊎_elim (λ (e : min x.tid u ≡ x.tid). subst (λ n. Contains (tids (x ∷ ts)) n) (sym e) (at_front x.tid (tids ts)))
-        (λ (e : min x.tid u ≡ u). subst (λ n. Contains (tids (x ∷ ts)) n) (sym e) (behind x.tid (tids ts) u (all u refl))) (min_is x.tid u))
+    (λ (e : min x.tid u ≡ u). subst (λ n. Contains (tids (x ∷ ts)) n) (sym e) (behind x.tid (tids ts) u (all u refl))) (min_is x.tid u))
 waiter_by a x ts false o t go all h = behind x.tid (tids ts) t (go h)
 
 pub waiter_lives : (a : ℕ) (ts : List Thread) (t : ℕ) → least_waiter a ts ≡ Some t → Contains (tids ts) t

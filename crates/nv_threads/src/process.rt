@@ -10,7 +10,9 @@ ghost use Rattle.nv_threads.specs.Threads.{threads, started, state_at, is_runnin
 ghost use Rattle.nv_threads.specs.Going.{Goes, burst};
 ghost use Rattle.nv_threads.specs.Kept.{HaveRoom};
 
-use crate::tasks::{Doing, Task, asks, can_move, least_waiter, lives, next_tid, place, runs, set_doing};
+use crate::tasks::{
+    Doing, Task, asks, can_move, least_waiter, lives, next_tid, place, runs, set_doing,
+};
 use crate::{Came, FaultKind, Want};
 use arrayvec::ArrayVec;
 use nv_calls::{Bytes, Call};
@@ -269,7 +271,12 @@ impl Process {
         ensures { self.new ≡ futex self.old }
     {
         let regs = self.guest.regs(self.turn);
-        let (address, op, value, timeout) = (regs.get(10), regs.get(11), regs.get(12), regs.get(13));
+        let (address, op, value, timeout) = (
+            regs.get(10),
+            regs.get(11),
+            regs.get(12),
+            regs.get(13),
+        );
         self.futex_by(operation(op), address, value, timeout);
     }
 

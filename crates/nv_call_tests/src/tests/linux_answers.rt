@@ -1,4 +1,4 @@
-use crate::{FILES, Guest, NUMBERS, PIPES, front_of_report, run, run_twice, telling};
+use crate::{FILES, Guest, NUMBERS, PIPES, THREADS, front_of_report, run, run_twice, telling};
 use std::test::Fail;
 
 const SCRIPT: &[u8] = b"varan-script 1\nline hello\nline you\n";
@@ -6,7 +6,7 @@ const SCRIPT: &[u8] = b"varan-script 1\nline hello\nline you\n";
 // Each guest writes what it wrote under Linux.
 #[test]
 fn answers_of_linux(rt: HostRuntime) -> Result<(), Fail> {
-    let groups: [&[Guest]; 3] = [&FILES, &NUMBERS, &PIPES];
+    let groups: [&[Guest]; 4] = [&FILES, &NUMBERS, &PIPES, &THREADS];
     for guests in groups {
         for guest in guests {
             let text = telling(rt.alloc(), guest.text)?;
@@ -23,7 +23,7 @@ fn answers_of_linux(rt: HostRuntime) -> Result<(), Fail> {
 // A follower of each guest gets its results and its bytes, and so makes the same calls.
 #[test]
 fn followers_of_guests(rt: HostRuntime) -> Result<(), Fail> {
-    let groups: [&[Guest]; 3] = [&FILES, &NUMBERS, &PIPES];
+    let groups: [&[Guest]; 4] = [&FILES, &NUMBERS, &PIPES, &THREADS];
     for guests in groups {
         for guest in guests {
             let text = telling(rt.alloc(), guest.text)?;

@@ -4,7 +4,7 @@ use Rattle.std.proofs.lemmas.Int.{to_z_pos}
 use Rattle.nv_calls.specs.Calls.{Request, Response}
 use Rattle.nv_threads.specs.Behaviours.{event_of}
 use Rattle.nv_threads.specs.Threads.{Proc, threads}
-use Rattle.nv_threads.specs.ThreadLaws.{thread_laws, threads_on, threads_asked, threads_live}
+use Rattle.nv_threads.proofs.ThreadLaws.{thread_laws, threads_on, threads_asked, threads_live}
 use Rattle.nv_threads.specs.declared.turns.Want.TheVariants.{Any}
 use Rattle.nv_thread_loops.specs.Firsts.{firsts}
 use Rattle.nv_thread_loops.proofs.Starting.{first_in, new_is, next_is}

@@ -1,4 +1,4 @@
-use Rattle.std.proofs.Common.{◌≡◌, length, take}
+use Rattle.std.proofs.Common.{◌≡◌, take}
 use Rattle.nv_kernel.specs.Serving.{randoms, random_after}
 use Rattle.nv_kernel.proofs.random.fill_random.Given as goal
 

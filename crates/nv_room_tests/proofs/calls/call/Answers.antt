@@ -1,4 +1,4 @@
-use Rattle.std.proofs.Common.{◌≡◌, sym, subst, ℕ, List, [], ◌∷◌, false, ap}
+use Rattle.std.proofs.Common.{sym, subst, ℕ, List, [], ◌∷◌, false, ap}
 use Rattle.nv_calls.specs.Shapes.{IsShaped}
 use Rattle.nv_room_tests.proofs.Shaped.{plain-shaped}
 use Rattle.nv_room_tests.proofs.calls.call.Goals as goal

@@ -1,4 +1,4 @@
-use Rattle.std.proofs.Common.{sym, subst, ap, ◌≡◌, ◌∙◌, List, [], ◌∷◌, ◌++◌}
+use Rattle.std.proofs.Common.{ap, ◌≡◌, ◌∙◌, List, [], ◌∷◌, ◌++◌}
 use Rattle.nv_calls.specs.Calls.{Entry, request}
 use Rattle.nv_calls.specs.Logs.{served, live_after}
 use Rattle.nv_room.specs.Seats.{kernel_of}

@@ -1,6 +1,5 @@
-use Rattle.std.proofs.Common.{◌≡◌, ◌∙◌, ◌++◌, [], ◌∷◌, refl, ap, sym, subst, arith, length}
+use Rattle.std.proofs.Common.{◌≡◌, ◌∙◌, ◌++◌, [], ◌∷◌, ap, sym, subst, arith, length}
 use mathlib.Core.Option.{some-ne-none}
-use Rattle.nv_room.specs.Seats.{station_of_left, stations_of}
 use Rattle.nv_room_tests.proofs.Orders.{Down, down_more, all_left}
 use Rattle.nv_room_tests.proofs.changing.end_three.Goals as goal
 

@@ -1,4 +1,4 @@
-use Rattle.std.proofs.Common.{◌≡◌, ◌+◌, ◌∙◌, ◌++◌, [], ◌∷◌, ap, sym, length, length-append, arith}
+use Rattle.std.proofs.Common.{◌≡◌, ◌∙◌, ◌++◌, [], ◌∷◌, ap, length, length-append, arith}
 use Rattle.nv_room_tests.proofs.Orders.{fresh_less}
 use Rattle.nv_room_tests.proofs.changing.two_readers.Goals as goal
 

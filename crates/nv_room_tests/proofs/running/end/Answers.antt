@@ -1,5 +1,5 @@
-use Rattle.std.proofs.Common.{rules, arith, ap, sym, subst, ◌≡◌, ◌+◌, ◌∙◌, List, [], ◌∷◌, ◌++◌, length, length-append}
-use Rattle.nv_room.specs.Seats.{station_of_left, station_of_lead, station_of_reader, stations_of}
+use Rattle.std.proofs.Common.{rules, arith, ap, sym, subst, ◌≡◌, ◌+◌, ◌∙◌, [], ◌∷◌, ◌++◌, length, length-append}
+use Rattle.nv_room.specs.Seats.{station_of_left}
 use Rattle.nv_room_tests.proofs.Orders.{Down, down_more, order_less, all_left}
 use Rattle.nv_room_tests.proofs.running.end.Goals as goal
 

@@ -1,4 +1,4 @@
-use Rattle.std.proofs.Common.{rules, refl, arith}
+use Rattle.std.proofs.Common.{rules, refl}
 use Rattle.nv_room.specs.Seats.{kernel_of}
 use Rattle.nv_room_tests.proofs.Living.{first_lives}
 use Rattle.nv_room_tests.proofs.running.run.Goals as goal

@@ -1,7 +1,7 @@
 use Rattle.std.proofs.Common.{◌∙◌, refl, subst, Bool}
 use Rattle.nv_calls.specs.Logs.{Start}
 use Rattle.nv_threads.specs.Threads.{threads}
-use Rattle.nv_threads.specs.ThreadLaws.{thread_laws}
+use Rattle.nv_threads.proofs.ThreadLaws.{thread_laws}
 use Rattle.nv_replay.specs.Turns.{TookTurn}
 use Rattle.nv_replay.proofs.Wholly.{LedSo, led_here, led_on, led_whole, turn_falls}
 use Rattle.nv_sequence.proofs.leading.lead_all.Goals as goal

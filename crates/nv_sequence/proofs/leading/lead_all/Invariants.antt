@@ -1,6 +1,6 @@
 use Rattle.std.proofs.Common.{◌≡◌}
 use Rattle.nv_threads.specs.Threads.{threads}
-use Rattle.nv_threads.specs.ThreadLaws.{thread_laws}
+use Rattle.nv_threads.proofs.ThreadLaws.{thread_laws}
 use Rattle.nv_replay.specs.Versions.{leader_of}
 use Rattle.nv_replay.proofs.Falling.{lead_size}
 use Rattle.nv_replay.proofs.Wholly.{LedSo}

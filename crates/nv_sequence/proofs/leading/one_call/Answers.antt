@@ -1,6 +1,6 @@
 use Rattle.std.proofs.Common.{arith}
 use Rattle.nv_threads.specs.Threads.{threads}
-use Rattle.nv_threads.specs.ThreadLaws.{thread_laws}
+use Rattle.nv_threads.proofs.ThreadLaws.{thread_laws}
 use Rattle.nv_replay.proofs.Turning.{waits, turn_dropped, turn_refused, turn_served}
 use Rattle.nv_sequence.proofs.leading.one_call.Goals as goal
 

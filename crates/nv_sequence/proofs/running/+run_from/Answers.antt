@@ -2,7 +2,7 @@ use Rattle.std.proofs.Common.{◌≡◌, sym, refl, subst, ℕ, ◌+◌, List, �
 use Rattle.nv_calls.specs.Calls.{entry}
 use Rattle.nv_calls.specs.Logs.{IsLawful, Start}
 use Rattle.nv_threads.specs.Threads.{threads, Proc}
-use Rattle.nv_threads.specs.ThreadLaws.{thread_laws}
+use Rattle.nv_threads.proofs.ThreadLaws.{thread_laws}
 use Rattle.nv_replay.specs.Follow.{judge_of}
 use Rattle.nv_replay.specs.Sequence.{sequence_from}
 use Rattle.nv_replay.specs.Versions.{Running, IsFresh, standing_of, process_of}

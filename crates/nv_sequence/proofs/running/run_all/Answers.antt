@@ -1,7 +1,7 @@
 use Rattle.std.proofs.Common.{subst, map, option_map}
 use Rattle.nv_calls.specs.Logs.{Start, IsLegal}
 use Rattle.nv_threads.specs.Threads.{threads}
-use Rattle.nv_threads.specs.ThreadLaws.{thread_laws}
+use Rattle.nv_threads.proofs.ThreadLaws.{thread_laws}
 use Rattle.nv_replay.specs.Follow.{judge_of}
 use Rattle.nv_replay.specs.Sequence.{cuts_of}
 use Rattle.nv_replay.specs.Versions.{standing_of}

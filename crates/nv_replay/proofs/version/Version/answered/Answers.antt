@@ -1,7 +1,7 @@
 use Rattle.std.proofs.Common.{◌≡◌, ◌<◌, ℕ, ap, arith, true}
 use Rattle.nv_calls.specs.Calls.{Response}
 use Rattle.nv_threads.specs.Threads.{threads, Proc}
-use Rattle.nv_threads.specs.ThreadLaws.{threads_falls}
+use Rattle.nv_threads.proofs.ThreadLaws.{threads_falls}
 use Rattle.nv_replay.specs.Versions.{Running}
 use Rattle.nv_replay.proofs.Spanning.{grown_end}
 use Rattle.nv_replay.proofs.version.Version.answered.Goals as goal

@@ -32,10 +32,10 @@ answer_as-requires-clause-new c =
     let long : length i.tasks.items ≤ length cs = (let n = length-map i.calls.items request in omega (arith, ap length c.deref.ensures.0, c.deref.ensures.1, c.self.invariant.eight, n)) in
     let d : Call = c.index.result.now in
     let call : call_in (state_at c.args.self.now.tasks c.args.tid) ≡ request d
-        = ap (λ (p : Proc). call_in (state_at p.tasks c.args.tid)) (sym c.self.view_is)
-            ∙ (asked_call i.tasks.items cs c.args.tid (request d) long asks
-            ∙ (ap (λ k. get_or cs k (request d)) (sym at)
-            ∙ (map_at i.calls.items c.place-place.result d ∙ ap request (sym c.index.ensures)))) in
+    = ap (λ (p : Proc). call_in (state_at p.tasks c.args.tid)) (sym c.self.view_is)
+    ∙ (asked_call i.tasks.items cs c.args.tid (request d) long asks
+    ∙ (ap (λ k. get_or cs k (request d)) (sym at)
+    ∙ (map_at i.calls.items c.place-place.result d ∙ ap request (sym c.index.ensures)))) in
     subst (λ (n : ℕ). IsNew (tids c.args.self.now.tasks) (made n (to_z w32 (of_z w32 c.args.ret)))) (ap (λ (q : Request). q.nr) call)
     (subst (λ (r : ℤ). IsNew (tids c.args.self.now.tasks) (made (call_in (state_at c.args.self.now.tasks c.args.tid)).nr r)) (sym (to_z-of_z w32 c.args.ret c.ranges.ret)) c.requires.new)
 
@@ -49,16 +49,16 @@ returns c =
     let long : length i.tasks.items ≤ length cs = (let n = length-map i.calls.items request in omega (arith, ap length c.deref.ensures.0, c.deref.ensures.1, c.self.invariant.eight, n)) in
     let d : Call = c.index.result.now in
     let first : call_in (state_at c.args.self.now.tasks c.args.tid) ≡ request d
-        = ap (λ (p : Proc). call_in (state_at p.tasks c.args.tid)) (sym c.self.view_is)
-            ∙ (asked_call i.tasks.items cs c.args.tid (request d) long asks
-            ∙ (ap (λ k. get_or cs k (request d)) (sym at)
-            ∙ (map_at i.calls.items c.place-place.result d ∙ ap request (sym c.index.ensures)))) in
+    = ap (λ (p : Proc). call_in (state_at p.tasks c.args.tid)) (sym c.self.view_is)
+    ∙ (asked_call i.tasks.items cs c.args.tid (request d) long asks
+    ∙ (ap (λ k. get_or cs k (request d)) (sym at)
+    ∙ (map_at i.calls.items c.place-place.result d ∙ ap request (sym c.index.ensures)))) in
     let e : Call = c.index-2.result.now in
     let second : call_in (state_at c.args.self.now.tasks c.args.tid) ≡ request e
-        = ap (λ (p : Proc). call_in (state_at p.tasks c.args.tid)) (sym c.self.view_is)
-            ∙ (asked_call i.tasks.items cs c.args.tid (request e) long asks
-            ∙ (ap (λ k. get_or cs k (request e)) (sym at)
-            ∙ (map_at i.calls.items c.place-place.result e ∙ ap request (sym c.index-2.ensures)))) in
+    = ap (λ (p : Proc). call_in (state_at p.tasks c.args.tid)) (sym c.self.view_is)
+    ∙ (asked_call i.tasks.items cs c.args.tid (request e) long asks
+    ∙ (ap (λ k. get_or cs k (request e)) (sym at)
+    ∙ (map_at i.calls.items c.place-place.result e ∙ ap request (sym c.index-2.ensures)))) in
     let p : Proc = c.args.self.now in
     let all : Response = record { ret = c.args.ret; payload = c.args.payload.now } in
     c.answer_as.ensures

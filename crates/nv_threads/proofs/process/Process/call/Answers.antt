@@ -81,14 +81,14 @@ invariant_of-self c =
     let few = c.deref.ensures.1 in
     let inside : c.place-place.result < length i.calls.items = omega (arith, few, c.place-place.ensures.inside, c.self.invariant.eight) in
     let room : 4096 ≤ c.call_of.new.call.payload.room = subst (λ (n : ℕ). 4096 ≤ n) (sym c.in-Logged.ensures.room)
-            (subst (λ (k : Call). 4096 ≤ k.payload.room) (sym c.index_mut.ensures.value) (room_at i.calls.items c.place-place.result c.index_mut.result.now c.self.invariant.room inside)) in
+    (subst (λ (k : Call). 4096 ≤ k.payload.room) (sym c.index_mut.ensures.value) (room_at i.calls.items c.place-place.result c.index_mut.result.now c.self.invariant.room inside)) in
     let at : c.place-place.result ≡ place_of i.tasks.items i.turn = c.place-place.ensures.place ∙ ap (λ (ts : List Task). place_of ts i.turn) c.deref.ensures.0 in
     let r : Request = request c.call_of.new.call in
     let long : length i.tasks.items ≤ length cs = (let n = length-map i.calls.items request in omega (arith, ap length c.deref.ensures.0, c.deref.ensures.1, c.self.invariant.eight, n)) in
     let is : threads_of (refill (length i.tasks.items) i.tasks.items c.set_doing.new.tasks) (map request (set i.calls.items c.place-place.result c.call_of.new.call)) ≡ with_state (threads_of i.tasks.items cs) i.turn (Asks r)
-        = ap (λ (ts : List Task). threads_of ts (map request (set i.calls.items c.place-place.result c.call_of.new.call))) (table_written i.tasks.items c.deref_mut.result.now c.set_doing.new.tasks i.turn doing.Asks c.deref_mut.ensures.value c.set_doing.ensures)
-            ∙ (ap (threads_of (with_doing i.tasks.items i.turn doing.Asks)) (map_set i.calls.items c.place-place.result c.call_of.new.call ∙ ap (λ (k : ℕ). set cs k r) at)
-            ∙ asks_of i.tasks.items cs i.turn r long) in
+    = ap (λ (ts : List Task). threads_of ts (map request (set i.calls.items c.place-place.result c.call_of.new.call))) (table_written i.tasks.items c.deref_mut.result.now c.set_doing.new.tasks i.turn doing.Asks c.deref_mut.ensures.value c.set_doing.ensures)
+    ∙ (ap (threads_of (with_doing i.tasks.items i.turn doing.Asks)) (map_set i.calls.items c.place-place.result c.call_of.new.call ∙ ap (λ (k : ℕ). set cs k r) at)
+    ∙ asks_of i.tasks.items cs i.turn r long) in
     let own = ap (λ (q : Request). q.tid) c.in-Logged.ensures.call ∙ own_tid (guests.machine_at i.guest i.turn) i.turn in
     subst (λ (ts : List Thread). IsKept i.count i.budget ts (guests.tids i.guest.threads) (set i.calls.items c.place-place.result c.call_of.new.call)) (sym is)
     (with_call _ _ _ _ _ c.place-place.result c.call_of.new.call (with_task _ _ _ _ _ i.turn (Asks r) c.self.invariant (own, c.in-Logged.ensures.shaped refl)) room)
@@ -101,12 +101,12 @@ invariant_of-self-in-Local c =
     let lives = running_lives (threads_of i.tasks.items cs) i.turn runs in
     let at : c.place-place.result ≡ place_of i.tasks.items i.turn = c.place-place.ensures.place ∙ ap (λ (ts : List Task). place_of ts i.turn) c.deref.ensures.0 in
     let unread_is : threads_of i.tasks.items (map request (set i.calls.items c.place-place.result c.call_of.new.call)) ≡ threads_of i.tasks.items cs
-        = ap (threads_of i.tasks.items) (map_set i.calls.items c.place-place.result c.call_of.new.call ∙ ap (λ (k : ℕ). set cs k (request c.call_of.new.call)) at)
-            ∙ unread i.tasks.items cs i.turn (request c.call_of.new.call) (sym (running_of i.tasks.items cs i.turn) ∙ runs) in
+    = ap (threads_of i.tasks.items) (map_set i.calls.items c.place-place.result c.call_of.new.call ∙ ap (λ (k : ℕ). set cs k (request c.call_of.new.call)) at)
+    ∙ unread i.tasks.items cs i.turn (request c.call_of.new.call) (sym (running_of i.tasks.items cs i.turn) ∙ runs) in
     let few = c.deref.ensures.1 in
     let inside : c.place-place.result < length i.calls.items = omega (arith, few, c.place-place.ensures.inside, c.self.invariant.eight) in
     let room : 4096 ≤ c.call_of.new.call.payload.room = subst (λ (n : ℕ). 4096 ≤ n) (sym c.in-Local.ensures.room)
-            (subst (λ (k : Call). 4096 ≤ k.payload.room) (sym c.index_mut.ensures.value) (room_at i.calls.items c.place-place.result c.index_mut.result.now c.self.invariant.room inside)) in
+    (subst (λ (k : Call). 4096 ≤ k.payload.room) (sym c.index_mut.ensures.value) (room_at i.calls.items c.place-place.result c.index_mut.result.now c.self.invariant.room inside)) in
     subst (λ (ts : List Thread). IsKept i.count i.budget ts (guests.tids i.guest.threads) (set i.calls.items c.place-place.result c.call_of.new.call)) (sym unread_is)
     (with_call _ _ _ _ _ c.place-place.result c.call_of.new.call c.self.invariant room)
 
@@ -118,8 +118,8 @@ answer_local-requires c =
     let lives = running_lives (threads_of i.tasks.items cs) i.turn runs in
     let at : c.place-place.result ≡ place_of i.tasks.items i.turn = c.place-place.ensures.place ∙ ap (λ (ts : List Task). place_of ts i.turn) c.deref.ensures.0 in
     let unread_is : threads_of i.tasks.items (map request (set i.calls.items c.place-place.result c.call_of.new.call)) ≡ threads_of i.tasks.items cs
-        = ap (threads_of i.tasks.items) (map_set i.calls.items c.place-place.result c.call_of.new.call ∙ ap (λ (k : ℕ). set cs k (request c.call_of.new.call)) at)
-            ∙ unread i.tasks.items cs i.turn (request c.call_of.new.call) (sym (running_of i.tasks.items cs i.turn) ∙ runs) in
+    = ap (threads_of i.tasks.items) (map_set i.calls.items c.place-place.result c.call_of.new.call ∙ ap (λ (k : ℕ). set cs k (request c.call_of.new.call)) at)
+    ∙ unread i.tasks.items cs i.turn (request c.call_of.new.call) (sym (running_of i.tasks.items cs i.turn) ∙ runs) in
     subst (λ (ts : List Thread). is_running (state_at ts i.turn) ≡ true) (sym unread_is) runs
 
 pub returns-in-Logged : goal.returns-in-Logged
@@ -132,9 +132,9 @@ returns-in-Logged c =
     let r : Request = request c.call_of.new.call in
     let long : length i.tasks.items ≤ length cs = (let n = length-map i.calls.items request in omega (arith, ap length c.deref.ensures.0, c.deref.ensures.1, c.self.invariant.eight, n)) in
     let is : threads_of (refill (length i.tasks.items) i.tasks.items c.set_doing.new.tasks) (map request (set i.calls.items c.place-place.result c.call_of.new.call)) ≡ with_state (threads_of i.tasks.items cs) i.turn (Asks r)
-        = ap (λ (ts : List Task). threads_of ts (map request (set i.calls.items c.place-place.result c.call_of.new.call))) (table_written i.tasks.items c.deref_mut.result.now c.set_doing.new.tasks i.turn doing.Asks c.deref_mut.ensures.value c.set_doing.ensures)
-            ∙ (ap (threads_of (with_doing i.tasks.items i.turn doing.Asks)) (map_set i.calls.items c.place-place.result c.call_of.new.call ∙ ap (λ (k : ℕ). set cs k r) at)
-            ∙ asks_of i.tasks.items cs i.turn r long) in
+    = ap (λ (ts : List Task). threads_of ts (map request (set i.calls.items c.place-place.result c.call_of.new.call))) (table_written i.tasks.items c.deref_mut.result.now c.set_doing.new.tasks i.turn doing.Asks c.deref_mut.ensures.value c.set_doing.ensures)
+    ∙ (ap (threads_of (with_doing i.tasks.items i.turn doing.Asks)) (map_set i.calls.items c.place-place.result c.call_of.new.call ∙ ap (λ (k : ℕ). set cs k r) at)
+    ∙ asks_of i.tasks.items cs i.turn r long) in
     let v : Proc = record { guest = i.guest; tasks = threads_of i.tasks.items cs; turn = i.turn; slice = i.slice; left = i.budget - i.count; status = i.status } in
     let mine = logged_is (is_local (number (machine v))) (sym c.in-Logged.ensures.asked) in
     ap (λ (ts : List Thread). record v { tasks = ts }) is
@@ -149,8 +149,8 @@ returns-in-Local c =
     let lives = running_lives (threads_of i.tasks.items cs) i.turn runs in
     let at : c.place-place.result ≡ place_of i.tasks.items i.turn = c.place-place.ensures.place ∙ ap (λ (ts : List Task). place_of ts i.turn) c.deref.ensures.0 in
     let unread_is : threads_of i.tasks.items (map request (set i.calls.items c.place-place.result c.call_of.new.call)) ≡ threads_of i.tasks.items cs
-        = ap (threads_of i.tasks.items) (map_set i.calls.items c.place-place.result c.call_of.new.call ∙ ap (λ (k : ℕ). set cs k (request c.call_of.new.call)) at)
-            ∙ unread i.tasks.items cs i.turn (request c.call_of.new.call) (sym (running_of i.tasks.items cs i.turn) ∙ runs) in
+    = ap (threads_of i.tasks.items) (map_set i.calls.items c.place-place.result c.call_of.new.call ∙ ap (λ (k : ℕ). set cs k (request c.call_of.new.call)) at)
+    ∙ unread i.tasks.items cs i.turn (request c.call_of.new.call) (sym (running_of i.tasks.items cs i.turn) ∙ runs) in
     let v : Proc = record { guest = i.guest; tasks = threads_of i.tasks.items cs; turn = i.turn; slice = i.slice; left = i.budget - i.count; status = i.status } in
     let mine = local_is (is_local (number (machine v))) (sym c.in-Local.ensures.asked) in
     let nr : c.get-nr.result ≡ number (machine v) = c.get-nr.ensures ∙ ap (λ (x : Registers). number (record { regs = x; memory = v.guest.memory })) c.regs.ensures in

@@ -9,5 +9,5 @@ unfolding threads
 returns-else-is_empty c =
     let p : Proc = c.args.self.now in
     let some : (length p.tasks == 0) ≡ false = ap (λ (q : Proc). length q.tasks == 0) (sym c.self.view_is)
-            ∙ (ap (λ n. n == 0) (length_of c.self.inside.tasks.items (map request c.self.inside.calls.items)) ∙ (sym c.is_empty.ensures ∙ c.if-is_empty.false)) in
+    ∙ (ap (λ n. n == 0) (length_of c.self.inside.tasks.items (map request c.self.inside.calls.items)) ∙ (sym c.is_empty.ensures ∙ c.if-is_empty.false)) in
     sym (ap (λ (b : Bool). cond {A = Option ℕ} b (Some p.status) None) some)

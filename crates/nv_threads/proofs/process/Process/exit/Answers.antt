@@ -6,7 +6,7 @@ use Rattle.nv_calls.specs.Calls.{request, Request}
 use Rattle.nv_guest.specs.Threads as guests
 use Rattle.nv_threads.specs.Kept.{IsKept}
 use Rattle.nv_threads.specs.Tables.{threads_of, place_of}
-use Rattle.nv_threads.specs.ThreadLaws.{others}
+use Rattle.nv_threads.proofs.ThreadLaws.{others}
 use Rattle.nv_threads.specs.Threads.{Proc, Task as Thread, tids, left_by}
 use Rattle.nv_threads.specs.declared.tasks.Task.{Task}
 use Rattle.nv_threads.proofs.Keeping.{room_at}
@@ -40,17 +40,17 @@ invariant_of-self c =
     let all : take i.calls.len (c.to_end.new.calls ++ drop (length c.to_end.new.calls) i.calls.items) ≡ remove i.calls.items place ++ x ∷ [] = rewritten i.calls.len i.calls.items c.to_end.new.calls size ∙ new in
     let requests : map request (remove i.calls.items place ++ x ∷ []) ≡ remove cs place ++ request x ∷ [] = map_more (remove i.calls.items place) x ∙ ap (λ (rs : List Request). rs ++ request x ∷ []) (map_less i.calls.items place) in
     let is : threads_of c.remove.new.self.items (map request (take i.calls.len (c.to_end.new.calls ++ drop (length c.to_end.new.calls) i.calls.items))) ≡ filter (others c.args.tid) (threads_of i.tasks.items cs)
-        = ap (λ (ts : List Task). threads_of ts (map request (take i.calls.len (c.to_end.new.calls ++ drop (length c.to_end.new.calls) i.calls.items)))) c.remove.ensures.items
-            ∙ (ap (λ (xs : List Call). threads_of (remove i.tasks.items place) (map request xs)) all
-            ∙ (ap (threads_of (remove i.tasks.items place)) requests
-            ∙ (removed_of i.tasks.items cs place (request x) here long
-            ∙ (ap (remove (threads_of i.tasks.items cs)) at ∙ removed_is i.tasks.items cs c.args.tid long c.self.invariant.apart)))) in
+    = ap (λ (ts : List Task). threads_of ts (map request (take i.calls.len (c.to_end.new.calls ++ drop (length c.to_end.new.calls) i.calls.items)))) c.remove.ensures.items
+    ∙ (ap (λ (xs : List Call). threads_of (remove i.tasks.items place) (map request xs)) all
+    ∙ (ap (threads_of (remove i.tasks.items place)) requests
+    ∙ (removed_of i.tasks.items cs place (request x) here long
+    ∙ (ap (remove (threads_of i.tasks.items cs)) at ∙ removed_is i.tasks.items cs c.args.tid long c.self.invariant.apart)))) in
     let gs = ap (λ (g : guests.Threaded). guests.tids g.threads) c.end_thread.ensures in
     let eight : length (remove i.calls.items place ++ x ∷ []) ≡ 8 = ap length (sym new) ∙ (c.to_end.auto.calls ∙ (ap length c.deref_mut.ensures.value ∙ c.self.invariant.eight)) in
     let room = room_more (remove i.calls.items place) x (room_less i.calls.items place c.self.invariant.room) (room_at i.calls.items place blank c.self.invariant.room there) in
     subst (λ (ds : List Call). IsKept i.count i.budget (threads_of c.remove.new.self.items (map request (take i.calls.len (c.to_end.new.calls ++ drop (length c.to_end.new.calls) i.calls.items)))) (guests.tids c.end_thread.new.self.threads) ds) (sym all)
     (subst (λ (ts : List Thread). IsKept i.count i.budget ts (guests.tids c.end_thread.new.self.threads) (remove i.calls.items place ++ x ∷ [])) (sym is)
-        (with_less _ _ _ i.guest.threads _ _ (remove i.calls.items place ++ x ∷ []) c.args.tid c.self.invariant lives gs eight room))
+    (with_less _ _ _ i.guest.threads _ _ (remove i.calls.items place ++ x ∷ []) c.args.tid c.self.invariant lives gs eight room))
 
 pub returns : goal.returns
 returns c =
@@ -70,11 +70,11 @@ returns c =
     let all : take i.calls.len (c.to_end.new.calls ++ drop (length c.to_end.new.calls) i.calls.items) ≡ remove i.calls.items place ++ x ∷ [] = rewritten i.calls.len i.calls.items c.to_end.new.calls size ∙ new in
     let requests : map request (remove i.calls.items place ++ x ∷ []) ≡ remove cs place ++ request x ∷ [] = map_more (remove i.calls.items place) x ∙ ap (λ (rs : List Request). rs ++ request x ∷ []) (map_less i.calls.items place) in
     let is : threads_of c.remove.new.self.items (map request (take i.calls.len (c.to_end.new.calls ++ drop (length c.to_end.new.calls) i.calls.items))) ≡ filter (others c.args.tid) (threads_of i.tasks.items cs)
-        = ap (λ (ts : List Task). threads_of ts (map request (take i.calls.len (c.to_end.new.calls ++ drop (length c.to_end.new.calls) i.calls.items)))) c.remove.ensures.items
-            ∙ (ap (λ (xs : List Call). threads_of (remove i.tasks.items place) (map request xs)) all
-            ∙ (ap (threads_of (remove i.tasks.items place)) requests
-            ∙ (removed_of i.tasks.items cs place (request x) here long
-            ∙ (ap (remove (threads_of i.tasks.items cs)) at ∙ removed_is i.tasks.items cs c.args.tid long c.self.invariant.apart)))) in
+    = ap (λ (ts : List Task). threads_of ts (map request (take i.calls.len (c.to_end.new.calls ++ drop (length c.to_end.new.calls) i.calls.items)))) c.remove.ensures.items
+    ∙ (ap (λ (xs : List Call). threads_of (remove i.tasks.items place) (map request xs)) all
+    ∙ (ap (threads_of (remove i.tasks.items place)) requests
+    ∙ (removed_of i.tasks.items cs place (request x) here long
+    ∙ (ap (remove (threads_of i.tasks.items cs)) at ∙ removed_is i.tasks.items cs c.args.tid long c.self.invariant.apart)))) in
     ap (λ (ts : List Thread). record { guest = c.end_thread.new.self; tasks = ts; turn = i.turn; slice = i.slice; left = i.budget - i.count; status = c.args.status }) is
     ∙ (ap (λ (g : guests.Threaded). record { guest = g; tasks = filter (others c.args.tid) (threads_of i.tasks.items cs); turn = i.turn; slice = i.slice; left = i.budget - i.count; status = c.args.status }) c.end_thread.ensures
     ∙ ap (λ (p : Proc). left_by p c.args.tid c.args.status) c.self.view_is)

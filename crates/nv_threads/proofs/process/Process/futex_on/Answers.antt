@@ -16,9 +16,9 @@ pub returns-then-op-eq1 : goal.returns-then-op-eq1
 returns-then-op-eq1 c =
     let op : (c.args.op == 1) ≡ true = (let o = c.if-op-eq1.true in grind (arith, nat_tests)) in
     let len : c.len-most.result ≡ length c.args.self.now.tasks
-        = c.len-most.ensures.value ∙ (sym (length_of c.self.inside.tasks.items (map request c.self.inside.calls.items)) ∙ ap (λ (p : Proc). length p.tasks) c.self.view_is) in
+    = c.len-most.ensures.value ∙ (sym (length_of c.self.inside.tasks.items (map request c.self.inside.calls.items)) ∙ ap (λ (p : Proc). length p.tasks) c.self.view_is) in
     let most : c.min.result ≡ min c.args.value (length c.args.self.now.tasks) = c.min.ensures ∙ ap (min c.args.value) len in
     let small : c.wake-count.result ≤ 8 = omega (arith, c.wake-count.ensures.few, c.min.ensures, c.len-most.ensures.fits) in
     let count : to_z w32 c.wake-count.result ≡ pos c.wake-count.result = to_z_pos w32 c.wake-count.result (omega arith) in
     rw op (c.reply.ensures ∙ (ap (replied c.wake-count.new.self) count
-        ∙ (sym (ap woke c.wake-count.ensures.woken) ∙ ap (λ (k : ℕ). woke (woken k c.args.address c.args.self.now)) most)))
+    ∙ (sym (ap woke c.wake-count.ensures.woken) ∙ ap (λ (k : ℕ). woke (woken k c.args.address c.args.self.now)) most)))

@@ -28,7 +28,7 @@ returns-then-not-can_move c =
     let w = c.args.want in
     let asks : is_asking (state_at p.tasks (wanted w p)) ≡ c.is_asking.result = ap (λ (n : ℕ). is_asking (state_at p.tasks n)) (sym c.wanted-wanted.ensures) ∙ sym c.is_asking.ensures in
     let moves : can_move w p ≡ c.can_move.result = ap (λ (q : Proc). can_move w q) (sym c.self.view_is)
-            ∙ (moves_of w c.self.inside.tasks.items (map request c.self.inside.calls.items) ∙ (ap (can_move_by w) (sym c.deref.ensures.0) ∙ sym c.can_move.ensures)) in
+    ∙ (moves_of w c.self.inside.tasks.items (map request c.self.inside.calls.items) ∙ (ap (can_move_by w) (sym c.deref.ensures.0) ∙ sym c.can_move.ensures)) in
     comes_by w p c.stop.new.self c.stop.result (step_stuck w p (asks ∙ c.if-is_asking.false) (moves ∙ c.if-not-can_move.true) ∙ c.stop.ensures)
 
 pub returns-then-not-is_on : goal.returns-then-not-is_on
@@ -37,7 +37,7 @@ returns-then-not-is_on c =
     let w = c.args.want in
     let asks : is_asking (state_at p.tasks (wanted w p)) ≡ c.is_asking.result = ap (λ (n : ℕ). is_asking (state_at p.tasks n)) (sym c.wanted-wanted.ensures) ∙ sym c.is_asking.ensures in
     let moves : can_move w p ≡ c.can_move.result = ap (λ (q : Proc). can_move w q) (sym c.self.view_is)
-            ∙ (moves_of w c.self.inside.tasks.items (map request c.self.inside.calls.items) ∙ (ap (can_move_by w) (sym c.deref.ensures.0) ∙ sym c.can_move.ensures)) in
+    ∙ (moves_of w c.self.inside.tasks.items (map request c.self.inside.calls.items) ∙ (ap (can_move_by w) (sym c.deref.ensures.0) ∙ sym c.can_move.ensures)) in
     let on : is_on p ≡ c.is_on.result = sym c.is_on.ensures in
     let apart : are_apart (tids p.tasks) ≡ true = subst (λ (q : Proc). are_apart (tids q.tasks) ≡ true) c.self.view_is c.self.invariant.apart in
     let left : p.left ≡ c.self.inside.budget - c.self.inside.count = ap (λ (q : Proc). q.left) (sym c.self.view_is) in
@@ -49,7 +49,7 @@ returns-then-self c =
     let w = c.args.want in
     let asks : is_asking (state_at p.tasks (wanted w p)) ≡ c.is_asking.result = ap (λ (n : ℕ). is_asking (state_at p.tasks n)) (sym c.wanted-wanted.ensures) ∙ sym c.is_asking.ensures in
     let moves : can_move w p ≡ c.can_move.result = ap (λ (q : Proc). can_move w q) (sym c.self.view_is)
-            ∙ (moves_of w c.self.inside.tasks.items (map request c.self.inside.calls.items) ∙ (ap (can_move_by w) (sym c.deref.ensures.0) ∙ sym c.can_move.ensures)) in
+    ∙ (moves_of w c.self.inside.tasks.items (map request c.self.inside.calls.items) ∙ (ap (can_move_by w) (sym c.deref.ensures.0) ∙ sym c.can_move.ensures)) in
     let on : is_on p ≡ c.is_on.result = sym c.is_on.ensures in
     let apart : are_apart (tids p.tasks) ≡ true = subst (λ (q : Proc). are_apart (tids q.tasks) ≡ true) c.self.view_is c.self.invariant.apart in
     let left : p.left ≡ c.self.inside.budget - c.self.inside.count = ap (λ (q : Proc). q.left) (sym c.self.view_is) in
@@ -62,7 +62,7 @@ returns c =
     let w = c.args.want in
     let asks : is_asking (state_at p.tasks (wanted w p)) ≡ c.is_asking.result = ap (λ (n : ℕ). is_asking (state_at p.tasks n)) (sym c.wanted-wanted.ensures) ∙ sym c.is_asking.ensures in
     let moves : can_move w p ≡ c.can_move.result = ap (λ (q : Proc). can_move w q) (sym c.self.view_is)
-            ∙ (moves_of w c.self.inside.tasks.items (map request c.self.inside.calls.items) ∙ (ap (can_move_by w) (sym c.deref.ensures.0) ∙ sym c.can_move.ensures)) in
+    ∙ (moves_of w c.self.inside.tasks.items (map request c.self.inside.calls.items) ∙ (ap (can_move_by w) (sym c.deref.ensures.0) ∙ sym c.can_move.ensures)) in
     let on : is_on p ≡ c.is_on.result = sym c.is_on.ensures in
     let apart : are_apart (tids p.tasks) ≡ true = subst (λ (q : Proc). are_apart (tids q.tasks) ≡ true) c.self.view_is c.self.invariant.apart in
     let left : p.left ≡ c.self.inside.budget - c.self.inside.count = ap (λ (q : Proc). q.left) (sym c.self.view_is) in
@@ -71,14 +71,14 @@ returns c =
     let some = on_some p is in
     let more : 0 < p.left = omega (arith, left, c.if-self.false, c.self.invariant.within) in
     let lives : Contains (guests.tids p.guest.threads) p.turn = subst (λ (q : Proc). Contains (guests.tids q.guest.threads) q.turn) c.self.view_is
-            (guest_lives _ _ _ _ _ _ c.self.invariant (subst (λ (q : Proc). Contains (tids q.tasks) q.turn) (sym c.self.view_is) (running_lives p.tasks p.turn runs))) in
+    (guest_lives _ _ _ _ _ _ c.self.invariant (subst (λ (q : Proc). Contains (tids q.tasks) q.turn) (sym c.self.view_is) (running_lives p.tasks p.turn runs))) in
     subst (λ (r : Option Came × Proc). Goes w p r.0 r.1) c.run.ensures
     (burst_goes w (min p.slice p.left) p (record {
-        not_asked = asks ∙ c.if-is_asking.false;
-        moves = moves ∙ c.if-not-can_move.false;
-        runs = runs;
-        slice = omega arith;
-        left = omega arith;
-        apart = apart;
-        lives = lives;
-      }) (omega (arith, some, more)))
+      not_asked = asks ∙ c.if-is_asking.false;
+      moves = moves ∙ c.if-not-can_move.false;
+      runs = runs;
+      slice = omega arith;
+      left = omega arith;
+      apart = apart;
+      lives = lives;
+    }) (omega (arith, some, more)))

@@ -9,13 +9,13 @@ use Rattle.nv_threads.proofs.process.Process.leave_ended.Goals as goal
 pub returns-then-lives : goal.returns-then-lives
 returns-then-lives c =
     let there = ap (λ (p : Proc). is_some (state_at p.tasks p.turn)) (sym c.self.view_is)
-            ∙ (live_of c.self.inside.tasks.items (map request c.self.inside.calls.items) c.self.inside.turn
-            ∙ (ap (λ ts. is_some (doing_at ts c.self.inside.turn)) (sym c.deref.ensures.0) ∙ sym c.lives.ensures)) in
+    ∙ (live_of c.self.inside.tasks.items (map request c.self.inside.calls.items) c.self.inside.turn
+    ∙ (ap (λ ts. is_some (doing_at ts c.self.inside.turn)) (sym c.deref.ensures.0) ∙ sym c.lives.ensures)) in
     sym (ap (λ b. cond b c.args.self.now (passed c.args.self.now)) (there ∙ c.if-lives.true))
 
 pub returns : goal.returns
 returns c =
     let there = ap (λ (p : Proc). is_some (state_at p.tasks p.turn)) (sym c.self.view_is)
-            ∙ (live_of c.self.inside.tasks.items (map request c.self.inside.calls.items) c.self.inside.turn
-            ∙ (ap (λ ts. is_some (doing_at ts c.self.inside.turn)) (sym c.deref.ensures.0) ∙ sym c.lives.ensures)) in
+    ∙ (live_of c.self.inside.tasks.items (map request c.self.inside.calls.items) c.self.inside.turn
+    ∙ (ap (λ ts. is_some (doing_at ts c.self.inside.turn)) (sym c.deref.ensures.0) ∙ sym c.lives.ensures)) in
     c.pass.ensures ∙ sym (ap (λ b. cond b c.args.self.now (passed c.args.self.now)) (there ∙ c.if-lives.false))

@@ -30,9 +30,9 @@ returns-clause-call c =
     let long : length i.tasks.items ≤ length cs = (let n = length-map i.calls.items request in omega (arith, ap length c.deref.ensures.0, c.deref.ensures.1, c.self.invariant.eight, n)) in
     let d : Call = c.index.result.now in
     let call : call_in (state_at (threads_of i.tasks.items cs) c.args.tid) ≡ request d
-        = asked_call i.tasks.items cs c.args.tid (request d) long asks
-            ∙ (ap (λ k. get_or cs k (request d)) (sym at)
-            ∙ (map_at i.calls.items c.place.result d ∙ ap request (sym c.index.ensures))) in
+    = asked_call i.tasks.items cs c.args.tid (request d) long asks
+    ∙ (ap (λ k. get_or cs k (request d)) (sym at)
+    ∙ (map_at i.calls.items c.place.result d ∙ ap request (sym c.index.ensures))) in
     let own = own_call (threads_of i.tasks.items cs) c.args.tid c.self.invariant.own asks in
     sym call
     ∙ (with_tid (call_in (state_at (threads_of i.tasks.items cs) c.args.tid)) c.args.tid own.0
@@ -48,8 +48,8 @@ returns-clause-shaped c =
     let long : length i.tasks.items ≤ length cs = (let n = length-map i.calls.items request in omega (arith, ap length c.deref.ensures.0, c.deref.ensures.1, c.self.invariant.eight, n)) in
     let d : Call = c.index.result.now in
     let call : call_in (state_at (threads_of i.tasks.items cs) c.args.tid) ≡ request d
-        = asked_call i.tasks.items cs c.args.tid (request d) long asks
-            ∙ (ap (λ k. get_or cs k (request d)) (sym at)
-            ∙ (map_at i.calls.items c.place.result d ∙ ap request (sym c.index.ensures))) in
+    = asked_call i.tasks.items cs c.args.tid (request d) long asks
+    ∙ (ap (λ k. get_or cs k (request d)) (sym at)
+    ∙ (map_at i.calls.items c.place.result d ∙ ap request (sym c.index.ensures))) in
     let own = own_call (threads_of i.tasks.items cs) c.args.tid c.self.invariant.own asks in
     subst IsShaped call own.1

@@ -15,7 +15,7 @@ pub push-requires : goal.push-requires
 push-requires c =
     let cs = map request c.self.inside.calls.items in
     let len : length (tids c.args.self.now.tasks) ≡ length c.self.inside.tasks.items
-        = ap (λ (p : Proc). length (tids p.tasks)) (sym c.self.view_is) ∙ (ap length (tids_of c.self.inside.tasks.items cs) ∙ length-map c.self.inside.tasks.items number_of) in
+    = ap (λ (p : Proc). length (tids p.tasks)) (sym c.self.view_is) ∙ (ap length (tids_of c.self.inside.tasks.items cs) ∙ length-map c.self.inside.tasks.items number_of) in
     let few = c.requires.new.0 in
     (omega arith, omega (arith, len, few))
 
@@ -27,8 +27,8 @@ invariant_of-self c =
     let gs = ap (λ (g : guests.Threaded). guests.tids g.threads) c.clone_thread.ensures ∙ more_tids i.guest.threads (guests.child_of i.guest.threads c.args.tid c.args.child) in
     subst (λ (ts : List Thread). IsKept i.count i.budget ts (guests.tids c.clone_thread.new.self.threads) i.calls.items) (sym is)
     (with_more _ _ _ _ _ _ c.args.tid c.args.child c.self.invariant
-        (subst (λ (p : Proc). Contains (tids p.tasks) c.args.tid) (sym c.self.view_is) c.requires.lives)
-        (λ (q : Contains (tids (threads_of i.tasks.items cs)) c.args.child). c.requires.new.1 (subst (λ (p : Proc). Contains (tids p.tasks) c.args.child) c.self.view_is q)) gs)
+    (subst (λ (p : Proc). Contains (tids p.tasks) c.args.tid) (sym c.self.view_is) c.requires.lives)
+    (λ (q : Contains (tids (threads_of i.tasks.items cs)) c.args.child). c.requires.new.1 (subst (λ (p : Proc). Contains (tids p.tasks) c.args.child) c.self.view_is q)) gs)
 
 pub returns : goal.returns
 returns c =

@@ -1,0 +1,3 @@
+pub mod Fitting
+pub mod Appending
+pub mod Files

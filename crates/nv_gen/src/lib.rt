@@ -1,0 +1,13 @@
+//! Large runs from a number: versions that write and break one after the other, with their script and their rules.
+#![tactic(auto)]
+
+mod code;
+mod made;
+mod outcome;
+mod plan;
+#[cfg(test)]
+mod tests;
+mod version;
+
+pub use made::{Made, make};
+pub use outcome::{Outcome, summary};

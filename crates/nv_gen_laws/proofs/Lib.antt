@@ -1,0 +1,10 @@
+pub mod Steps
+pub mod Calling
+pub mod Courses
+pub mod Carrying
+pub mod Standing
+pub mod Sizes
+pub mod Loading
+pub mod Kept
+pub mod Reading
+pub mod Listing

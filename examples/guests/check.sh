@@ -1,0 +1,51 @@
+#!/usr/bin/env bash
+# Runs the guests of built/ under varan and compares the console's bytes with what they wrote under Linux (expected/).
+# check.sh [PROGRAM]: crates/varan/out/varan where no program is named. Needs no compiler for guests.
+set -eu
+cd "$(dirname "$0")"
+program=${1:-../../crates/varan/out/varan}
+report=$(mktemp)
+trap 'rm -f "$report"' EXIT
+rows=0
+wrong=0
+
+# row SCRIPT EXPECTED STATUS FATES VERSION..: FATES are the fates of the versions, without the address of a fault, one a line.
+row() {
+    local script=$1 expected=$2 wanted=$3 fates=$4 status=0 size
+    shift 4
+    rows=$((rows + 1))
+    "$program" run --script "scripts/$script" "$@" >"$report" || status=$?
+    if [ "$status" != "$wanted" ]; then
+        echo "check.sh: status $status: $*"
+        wrong=$((wrong + 1))
+        return
+    fi
+    size=$(sed -n '1s/^output //p' "$report")
+    if ! sed 1d "$report" | head -c "$size" | cmp - "expected/$expected"; then
+        echo "check.sh: another console: $*"
+        wrong=$((wrong + 1))
+    elif [ "$(sed -n '/^fates /,$p' "$report" | sed '1d;s/ seen .*//;s/\(fault load 100\) .*/\1/')" != "$fates" ]; then
+        echo "check.sh: other fates: $*"
+        sed -n '/^fates /,$p' "$report"
+        wrong=$((wrong + 1))
+    fi
+}
+
+row heap heap 0 '0 exited 3' built/heap
+row lines lines 0 '0 exited 0' built/lines
+row threads threads 0 '0 exited 0' built/threads
+row threads threads 0 $'0 exited 0\n1 exited 0\n2 exited 0' built/threads built/threads built/threads
+# the service alone, the bad update alone, the service through its bad update, and the old version beside the patched one
+row service service 0 '0 exited 0' built/service_1
+row service service_2_alone 1 '0 fault load 100' built/service_2
+row service service 0 $'0 fault load 100\n1 exited 0' built/service_2 built/service_1
+row service service 0 $'0 exited 0\n1 exited 0' built/service_1 built/service_3
+row service service 0 $'0 fault load 100\n1 exited 0\n2 exited 0' built/service_2 built/service_3 built/service_1
+
+if ! ./as_text.py | cmp - ../../crates/nv_call_tests/src/built.rt; then
+    echo "check.sh: the tests of nv_call_tests have other guests"
+    wrong=$((wrong + 1))
+fi
+
+echo "check.sh: $rows rows, $wrong wrong"
+[ "$wrong" = 0 ]

@@ -1,0 +1,153 @@
+/*
+ * What picolibc wants of its system, by Linux's calls for 32-bit RISC-V: the number in a7, the arguments in a0 to a5, the result in a0,
+ * errors as -1 to -4,095 (syscall(2)). And the standard streams: output is written at each newline, or where the buffer is full.
+ */
+#include "linux.h"
+#include <errno.h>
+#include <fcntl.h>
+#include <stdint.h>
+#include <stdio.h>
+#include <sys/types.h>
+#include <unistd.h>
+
+enum { UNLINKAT = 35, OPENAT = 56, CLOSE = 57, LLSEEK = 62, READ = 63, WRITE = 64, EXIT_GROUP = 94, BRK = 214 };
+
+/* Linux's number for the working directory, its flags of openat and its numbers of errors, where picolibc's differ. */
+enum { LINUX_AT_FDCWD = -100 };
+enum { LINUX_O_CREAT = 0x40, LINUX_O_EXCL = 0x80, LINUX_O_TRUNC = 0x200, LINUX_O_APPEND = 0x400 };
+enum { LINUX_ENAMETOOLONG = 36, LINUX_ENOSYS = 38 };
+
+long call(long number, long first, long second, long third, long fourth, long fifth)
+{
+    register long a0 __asm__("a0") = first;
+    register long a1 __asm__("a1") = second;
+    register long a2 __asm__("a2") = third;
+    register long a3 __asm__("a3") = fourth;
+    register long a4 __asm__("a4") = fifth;
+    register long a7 __asm__("a7") = number;
+    __asm__ volatile("ecall" : "+r"(a0) : "r"(a1), "r"(a2), "r"(a3), "r"(a4), "r"(a7) : "memory");
+    return a0;
+}
+
+/* The result of a call as C has it. */
+static long answer(long result)
+{
+    if (result >= 0 || result < -4095)
+        return result;
+    errno = result == -LINUX_ENAMETOOLONG ? ENAMETOOLONG : result == -LINUX_ENOSYS ? ENOSYS : -result;
+    return -1;
+}
+
+int open(const char *path, int flags, ...)
+{
+    long wanted = flags & O_ACCMODE;
+    wanted |= flags & O_CREAT ? LINUX_O_CREAT : 0;
+    wanted |= flags & O_EXCL ? LINUX_O_EXCL : 0;
+    wanted |= flags & O_TRUNC ? LINUX_O_TRUNC : 0;
+    wanted |= flags & O_APPEND ? LINUX_O_APPEND : 0;
+    return answer(call(OPENAT, LINUX_AT_FDCWD, (long)path, wanted, 0644, 0));
+}
+
+int close(int fd)
+{
+    return answer(call(CLOSE, fd, 0, 0, 0, 0));
+}
+
+int unlink(const char *path)
+{
+    return answer(call(UNLINKAT, LINUX_AT_FDCWD, (long)path, 0, 0, 0));
+}
+
+ssize_t read(int fd, void *buffer, size_t count)
+{
+    return answer(call(READ, fd, (long)buffer, count, 0, 0));
+}
+
+/* varan takes 4,096 bytes a call at most, and answers how many it took. */
+ssize_t write(int fd, const void *buffer, size_t count)
+{
+    return answer(call(WRITE, fd, (long)buffer, count, 0, 0));
+}
+
+off_t lseek(int fd, off_t offset, int whence)
+{
+    int64_t place;
+    long result = answer(call(LLSEEK, fd, (int64_t)offset >> 32, offset, (long)&place, whence));
+    return result < 0 ? -1 : place;
+}
+
+/* The heap begins where the break is at the start, and ends where the break is now. */
+void *sbrk(ptrdiff_t bytes)
+{
+    static char *end;
+    if (end == NULL)
+        end = (char *)call(BRK, 0, 0, 0, 0, 0);
+    char *old = end;
+    if ((char *)call(BRK, (long)(old + bytes), 0, 0, 0, 0) != old + bytes) {
+        errno = ENOMEM;
+        return (void *)-1;
+    }
+    end = old + bytes;
+    return old;
+}
+
+/* ---- the standard streams */
+
+/* A stream of a descriptor, with bytes that aren't written yet, or that are read and not taken. */
+struct stream {
+    FILE file;
+    int fd;
+    unsigned next, end;
+    char bytes[128];
+};
+
+static int flush(FILE *file)
+{
+    struct stream *to = (struct stream *)file;
+    unsigned done = 0;
+    while (done < to->end) {
+        ssize_t count = write(to->fd, to->bytes + done, to->end - done);
+        if (count <= 0)
+            break;
+        done += count;
+    }
+    int result = done < to->end ? EOF : 0;
+    to->end = 0;
+    return result;
+}
+
+static int put(char byte, FILE *file)
+{
+    struct stream *to = (struct stream *)file;
+    to->bytes[to->end++] = byte;
+    return byte == '\n' || to->end == sizeof to->bytes ? flush(file) : 0;
+}
+
+static int get(FILE *file)
+{
+    struct stream *from = (struct stream *)file;
+    if (from->next == from->end) {
+        ssize_t count = read(from->fd, from->bytes, sizeof from->bytes);
+        from->next = 0;
+        from->end = count > 0 ? count : 0;
+        if (count <= 0)
+            return count < 0 ? _FDEV_ERR : _FDEV_EOF;
+    }
+    return (unsigned char)from->bytes[from->next++];
+}
+
+static struct stream input = {.file = FDEV_SETUP_STREAM(NULL, get, NULL, _FDEV_SETUP_READ), .fd = STDIN_FILENO};
+static struct stream output = {.file = FDEV_SETUP_STREAM(put, NULL, flush, _FDEV_SETUP_WRITE), .fd = STDOUT_FILENO};
+static struct stream errors = {.file = FDEV_SETUP_STREAM(put, NULL, flush, _FDEV_SETUP_WRITE), .fd = STDERR_FILENO};
+
+FILE *const stdin = &input.file;
+FILE *const stdout = &output.file;
+FILE *const stderr = &errors.file;
+
+void _exit(int status)
+{
+    flush(stdout);
+    flush(stderr);
+    for (;;)
+        call(EXIT_GROUP, status, 0, 0, 0, 0);
+}
