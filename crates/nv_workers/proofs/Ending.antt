@@ -14,7 +14,7 @@ use Rattle.nv_room.specs.Placement.{Log}
 use Rattle.nv_room.specs.Spans.{Tiles, Rising, kept_if, of_station}
 use Rattle.nv_room.specs.Room.{Reads}
 use Rattle.nv_threads.specs.Threads.{Proc, threads}
-use Rattle.nv_threads.specs.ThreadLaws.{thread_laws}
+use Rattle.nv_threads.proofs.ThreadLaws.{thread_laws}
 use Rattle.nv_replay.specs.Follow.{Judge}
 use Rattle.nv_replay.specs.Versions.{Running}
 use Rattle.nv_replay.specs.Accounts.{AreFresh}

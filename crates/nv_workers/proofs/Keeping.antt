@@ -165,10 +165,6 @@ module _ {P : Type 0} (g : Behaviour P) (laws : IsProcess g) (judges : ℕ → J
       let t = turn_dropped g laws replies most v log new (leading i p v from log s) s.led.seen s.led.in_step k a in
       same_log i p new from log (leads_on i p v new from log [] s (subst (λ (x : List Entry). TookTurn g replies most v new log x) (sym (append-nil log)) t))
 
-  -- it asks a call
-  pub asks : (i : ℕ) (p : P) (v new : Running P) (from : ℕ) (log : List Entry) → IsServing g judges replies most i p v from log → new ≡ asking_next g most v → IsAsking g judges replies most i p new from log
-  asks i p v new from log s k = record { before = v; serving = s; asking = k }
-
   -- memory was refused
   pub refuses : (i : ℕ) (p : P) (v new : Running P) (t from : ℕ) (log : List Entry) → IsAsking g judges replies most i p v from log → v.asked ≡ Some t → new ≡ record v { at = record v.at { fate = Some Memory } } → HasLedFrom g judges replies most i p new from log
   refuses i p v new t from log s a k =

@@ -2,7 +2,7 @@ pub mod Fronts
 pub mod Gathering
 pub mod Keeping
 pub mod Told
-pub mod Leaders
+pub mod Closed
 pub mod Spelt
 pub mod Reading
 pub mod Serving

@@ -12,7 +12,7 @@ use Rattle.nv_room.specs.Spans.{span}
 use Rattle.nv_room.specs.Steps.{as_gone, as_leaving, as_lead}
 use Rattle.nv_room.specs.Seats.{IsLeadOf, view, lead_view, station_of_reader, station_of_lead, kernel_of, due_of, origin, IsFreshLead, IsFresh as IsFreshReader}
 use Rattle.nv_threads.specs.Threads.{Proc, threads}
-use Rattle.nv_threads.specs.ThreadLaws.{thread_laws}
+use Rattle.nv_threads.proofs.ThreadLaws.{thread_laws}
 use Rattle.nv_replay.specs.Follow.{Judge}
 use Rattle.nv_replay.specs.Versions.{Running, IsFresh, IsFollowing}
 use Rattle.nv_replay.specs.Accounts.{with_span}

@@ -66,9 +66,6 @@ module _ {K : Type 0} {G : Ghosts K} where
   pub front_seats : (rs all : List (Reader K G)) (r : Reader K G) (l : Lead K G) → all ≡ rs ++ r ∷ [] → AreNewSeats all l → AreNewSeats rs l
   front_seats rs all r l e s = (s.0, front_made s.0 rs r l (subst (λ (x : List (Reader K G)). AreAsMade s.0 x l) e s.1))
 
-  pub lead_seat : (rs : List (Reader K G)) (l : Lead K G) → AreNewSeats rs l → IsNewLead l
-  lead_seat rs l s = (s.0, s.1.lead)
-
   own_station : (room : Room K) (k : ℕ) (r : Reader K G) → IsFreshReader room k r → IsFreshReader room (station_of_reader r) r
   own_station room k r f = subst (λ (j : ℕ). IsFreshReader room j r) (sym f.1) f
 

@@ -13,7 +13,7 @@ use Rattle.nv_room.specs.declared.room.Reader.{Reader}
 use Rattle.nv_room.specs.Steps.{Tells, TellsEnd, one_on}
 use Rattle.nv_room.specs.Seats.{IsOfRoom, SameReader, view, station_of_reader}
 use Rattle.nv_threads.specs.Threads.{Proc, threads}
-use Rattle.nv_threads.specs.ThreadLaws.{thread_laws}
+use Rattle.nv_threads.proofs.ThreadLaws.{thread_laws}
 use Rattle.nv_replay.specs.declared.fate.Fate.{Fate}
 use Rattle.nv_rules.specs.declared.outcome.Verdict.{Verdict}
 use Rattle.nv_replay.specs.declared.version.Followed.{Followed}
@@ -28,7 +28,7 @@ use Rattle.nv_workers.specs.Ends.{IsStage}
 use Rattle.nv_workers.specs.Turns.{held_list, IsReading}
 use Rattle.nv_workers.specs.Working.{ends_of, Holds, HasEnded, FollowsOn}
 use Rattle.nv_workers.proofs.Keeping.{with_next_held, decides, reads_on, reads_held}
-use Rattle.nv_workers.proofs.Leaders.{never_closed}
+use Rattle.nv_workers.proofs.Closed.{never_closed}
 use Rattle.nv_workers.proofs.Spelt.{same_spelt, long_as, parted}
 
 -- one event more is seen
@@ -170,7 +170,7 @@ module _ (judges : ℕ → Judge) where
     pub goes_on : map spell log ≡ seen → IsLawful log → IsReading threads judges i p v log None → TellsEnd seen → ⊥
     goes_on s l r (h, spelt, law, dead) =
         let same : h ≡ log = same_spelt h log law l (spelt ∙ sym s) in
-        never_closed threads thread_laws judges (record { replies = λ a b. record { ret = pos 0; payload = [] }; console = λ a. [] }) 0 i p v log r (subst (λ (x : List Entry). live_after x ≡ []) same dead)
+        never_closed threads thread_laws judges i p v log r (subst (λ (x : List Entry). live_after x ≡ []) same dead)
 
   module _ {K : Type 0} {G : Ghosts K} (room : Room K) (p : Proc) (v : Running Proc) (r : Reader K G) (buf : List ℕ) (f : FollowsOn judges room p v r true buf) (e : Entry) (s : spell e ≡ buf) (n : InRange e) (new : Running Proc) (k : new ≡ record v { at = decided threads (judges v.index) e v.at }) where
     held : Held (station_of_reader r) p v (view r) buf
@@ -253,16 +253,3 @@ module _ (judges : ℕ → Judge) where
           spans = spans ∙ bare.spans;
           reading = subst (λ (i : ℕ). IsReading threads judges i p v bare.log (Some n.0)) (sym same.2) reading;
         }
-
-    pub found_none : (r2 : Reader K G) (words : List ℕ) → IsOfRoom room r2 → SameReader r r2 → (view r2).seen ≡ (view r).seen
-        → (view r2).spans ≡ (view r).spans → (view r2).read ≡ [] → FollowsOn judges room p v r2 false words
-    found_none r2 words of same seen spans read = record {
-      of = of;
-      log = bare.log;
-      next = None;
-      spelt = bare.spelt ∙ sym seen;
-      lawful = subst IsLawful (sym (append-nil bare.log)) bare.lawful;
-      holds = read;
-      spans = spans ∙ bare.spans;
-      reading = subst (λ (i : ℕ). IsReading threads judges i p v bare.log None) (sym same.2) bare.reading;
-    }

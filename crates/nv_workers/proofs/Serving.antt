@@ -11,7 +11,7 @@ use Rattle.nv_room.specs.declared.room.Lead.{Lead}
 use Rattle.nv_room.specs.Spans.{span, grown}
 use Rattle.nv_room.specs.Seats.{IsLeadOf, SameLead, lead_view, station_of_lead, kernel_of, due_of, origin, stations_of}
 use Rattle.nv_threads.specs.Threads.{Proc, threads}
-use Rattle.nv_threads.specs.ThreadLaws.{thread_laws}
+use Rattle.nv_threads.proofs.ThreadLaws.{thread_laws}
 use Rattle.nv_replay.specs.declared.fate.Fate.TheVariants.{Memory}
 use Rattle.nv_replay.specs.Follow.{Judge}
 use Rattle.nv_replay.specs.Sequence.{is_on}
@@ -21,7 +21,7 @@ use Rattle.nv_workers.specs.Ends.{HasLedFrom}
 use Rattle.nv_workers.specs.Turns.{IsServing, IsAsking}
 use Rattle.nv_workers.specs.Working.{ends_of, Serves, HasEnded, LeadsOn}
 use Rattle.nv_workers.proofs.Spelt.{long_as}
-use Rattle.nv_workers.proofs.Keeping.{asking_on, leading, drops, asks, refuses, publishes}
+use Rattle.nv_workers.proofs.Keeping.{asking_on, leading, drops, refuses, publishes}
 
 -- what was published is seen
 pub grew_lead : {K : Type 0} {G : Ghosts K} (l l2 l3 l4 : Lead K G) (words : List ℕ) → (lead_view l2).seen ≡ (lead_view l).seen → lead_view l3 ≡ lead_view l2
@@ -111,20 +111,6 @@ module _ (judges : ℕ → Judge) where
     drops_lead f new k n e =
         ended_lead (G.start (origin room)) most (station_of_lead l) p new (lead_view l) f.from (G.log (kernel_of l)) f.spelt f.lawful f.spans
         (drops threads thread_laws judges (G.start (origin room)) most (station_of_lead l) p v new f.from (G.log (kernel_of l)) f.serves k n) e
-
-    pub asks_lead : LeadsOn judges room p v most l None → (new : Running Proc) (t : ℕ) → new ≡ asking_next threads most v → new.asked ≡ Some t
-        → LeadsOn judges room p new most l (Some t)
-    asks_lead f new t k n = record {
-      of = f.of;
-      none_due = f.none_due;
-      none_wrote = f.none_wrote;
-      from = f.from;
-      start = f.start;
-      spelt = f.spelt;
-      lawful = f.lawful;
-      spans = f.spans;
-      serves = (asks threads thread_laws judges (G.start (origin room)) most (station_of_lead l) p v new f.from (G.log (kernel_of l)) f.serves k, n);
-    }
 
     module _ (t : ℕ) (f : LeadsOn judges room p v most l (Some t)) where
       abbrev pub start : Start

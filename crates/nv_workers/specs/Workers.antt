@@ -26,9 +26,6 @@ module _ {K : Type 0} {G : Ghosts K} where
   abbrev pub station_of : Worker K G → ℕ
   station_of w = station_of_seat w.seat
 
-  abbrev pub version_of : Worker K G → Running Proc
-  version_of w = w.version
-
   -- the version's fate is there and the seat has left
   abbrev pub IsGone : Seat K G → Type 0
   IsGone (Reading r held) = ⊥

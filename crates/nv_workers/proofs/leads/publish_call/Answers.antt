@@ -4,7 +4,7 @@ use Rattle.nv_calls.specs.Calls.{Request, Entry, request}
 use Rattle.nv_calls.specs.Logs.{IsLawful, IsNew, child_of, live_after, served}
 use Rattle.nv_calls.specs.LogLaws.{take_whole}
 use Rattle.nv_threads.specs.Threads.{threads, Proc}
-use Rattle.nv_threads.specs.ThreadLaws.{threads_own}
+use Rattle.nv_threads.proofs.ThreadLaws.{threads_own}
 use Rattle.nv_replay.specs.declared.standing.Standing.{Standing}
 use Rattle.nv_room.specs.Seats.{kernel_of}
 use Rattle.nv_replay.proofs.Turning.{event_is, get_last}
