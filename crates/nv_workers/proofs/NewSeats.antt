@@ -7,7 +7,7 @@ use Rattle.nv_calls.specs.declared.kernel.SyscallKernel.{Ghosts}
 use Rattle.nv_room.specs.declared.room.Room.{Room}
 use Rattle.nv_room.specs.declared.room.Reader.{Reader}
 use Rattle.nv_room.specs.declared.room.Lead.{Lead}
-use Rattle.nv_room.specs.Seats.{IsFresh as IsFreshReader, station_of_reader}
+use Rattle.nv_room.specs.Seats.{IsFresh as IsFreshReader, station_of_reader, FreshReaders, IsFreshLead, kernel_of, origin}
 use Rattle.nv_threads.specs.Threads.{Proc, threads}
 use Rattle.nv_replay.specs.Versions.{Running, IsFresh}
 use Rattle.nv_replay.specs.Accounts.{AreFresh}
@@ -105,3 +105,8 @@ module _ {K : Type 0} {G : Ghosts K} where
       let z : station_of_reader r ≡ 0 + length vs = omega arith in
       let one : IsNew room (0 + length vs) v w = subst (λ (j : ℕ). IsNew room j v w) z (n room (own_station room (length rs + 1) r q)) in
       subst (λ (x : List (Running Proc)). AreNew room 0 x (ws ++ w ∷ [])) (sym e) (new_more room 0 vs ws v w (s room (front_made room rs r l b)) one)
+
+  -- what the making of a room gives
+  pub as_made : (room : Room K) (rs : List (Reader K G)) (l : Lead K G) (k : K) → origin room ≡ k → FreshReaders room rs → IsFreshLead room l
+      → G.log (kernel_of l) ≡ [] → G.start (kernel_of l) ≡ G.start k → AreAsMade room rs l
+  as_made room rs l k o r f log start = record { readers = r; lead = record { fresh = f; log = log; start = start ∙ sym (ap G.start o) } }

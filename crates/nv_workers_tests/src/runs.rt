@@ -77,14 +77,18 @@ pub fn beside<R: Threads + Wait + Sync>(
     rules: Option<&Filter>,
     places: u32,
     threads: u32,
-) -> Option<Account<ScriptKernel>>
+) -> Result<Account<ScriptKernel>, AllocError>
     requires count { (0 < length texts.now) × (length texts.now ≤ 8) }
     requires places { (2 ≤ places) × (places ≤ 1024) }
 {
-    let versions = versions(alloc, texts)?;
-    let kernel = kernel(alloc)?;
-    let (room, readers, lead) = Room::make(alloc, kernel, texts.len() as u32, places).ok()?;
-    let workers = staff(alloc, versions, readers, lead).ok()?;
+    let Some(versions) = versions(alloc, texts) else {
+        return Err(AllocError);
+    };
+    let Some(kernel) = kernel(alloc) else {
+        return Err(AllocError);
+    };
+    let (room, readers, lead) = Room::make(alloc, kernel, texts.len() as u32, places)?;
+    let workers = staff(alloc, versions, readers, lead)?;
     let ran = run_all(
         rt,
         alloc,
@@ -94,7 +98,6 @@ pub fn beside<R: Threads + Wait + Sync>(
         &OpenGate,
         MOST_EVENTS,
         threads,
-    )
-    .ok()?;
-    Some(end(ran))
+    )?;
+    Ok(end(ran))
 }

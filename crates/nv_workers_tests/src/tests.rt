@@ -43,9 +43,9 @@ fn same_as_plain<R: Threads + Wait + Sync + Abort>(
 {
     let plain = text_of(rt, alloc, one_by_one(alloc, texts, rules));
     for threads in [1, 3, 8] {
-        let small = text_of(rt, alloc, beside(rt, alloc, texts, rules, 2, threads));
+        let small = text_of(rt, alloc, beside(rt, alloc, texts, rules, 2, threads).ok());
         assert_eq!(rt; small.as_str(), plain.as_str());
-        let large = text_of(rt, alloc, beside(rt, alloc, texts, rules, 1024, threads));
+        let large = text_of(rt, alloc, beside(rt, alloc, texts, rules, 1024, threads).ok());
         assert_eq!(rt; large.as_str(), plain.as_str());
     }
 }

@@ -1,5 +1,5 @@
 use Rattle.std.proofs.Common.{ap}
-use Rattle.nv_outside.specs.Writing.{puts-is, puts-stopped}
+use Rattle.nv_outside.specs.Writing.{puts-is, puts-more, puts-stopped}
 use Rattle.nv_calls.specs.Calls.{entry}
 use Rattle.nv_calls.specs.declared.calls.Event.{Event}
 use Rattle.nv_report.specs.Events.{event_text}
@@ -9,4 +9,10 @@ pub returns-in-Failed : goal.returns-in-Failed
 returns-in-Failed g c =
     let item = puts-is (ap (λ (event : Event). event_text (entry event)) c.event-item.is) c.in-Failed.ensures in
     puts-stopped (λ event. event_text (entry event)) c.args.log.now c.loop-event.event-index c.event-item.result c.loop-event-test.true
+    c.loop-event.invariant item
+
+pub loop-event-preserved : goal.loop-event-preserved
+loop-event-preserved g c =
+    let item = puts-is (ap (λ (event : Event). event_text (entry event)) c.event-item.is) c.in-Whole.ensures in
+    puts-more (λ event. event_text (entry event)) c.args.log.now c.loop-event.event-index c.event-item.result c.loop-event-test.true
     c.loop-event.invariant item
