@@ -1,0 +1,15 @@
+pub mod Fronts
+pub mod Gathering
+pub mod Keeping
+pub mod Told
+pub mod Closed
+pub mod Spelt
+pub mod Reading
+pub mod Serving
+pub mod Moving
+pub mod Ending
+pub mod Rotating
+pub mod Making
+pub mod Parting
+pub mod Finishing
+pub mod NewSeats

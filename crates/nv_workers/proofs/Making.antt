@@ -1,0 +1,28 @@
+-- Workers as they are made.
+use Rattle.std.proofs.Common.{◌≡◌, refl, ℕ, List, ◌∷◌, [], false, None}
+use Rattle.nv_calls.specs.declared.kernel.SyscallKernel.{Ghosts}
+use Rattle.nv_room.specs.declared.room.Reader.{Reader}
+use Rattle.nv_room.specs.declared.room.Lead.{Lead}
+use Rattle.nv_room.specs.Seats.{station_of_reader}
+use Rattle.nv_threads.specs.Threads.{Proc, threads}
+use Rattle.nv_replay.specs.Versions.{Running, IsFresh}
+use Rattle.nv_workers.specs.declared.worker.Seat.TheVariants.{Reading, Leading}
+use Rattle.nv_workers.specs.New.{LeadsAnew, ReadsAnew}
+use Rattle.nv_workers.proofs.Moving.{fresh_leads, fresh_follows}
+
+module _ {K : Type 0} {G : Ghosts K} where
+  pub leads_anew : (v new : Running Proc) (l : Lead K G) (buf : List ℕ) → IsFresh threads 0 v → new ≡ record v { led = (v.at.seen, v.at.seen) ∷ [] }
+      → LeadsAnew v l (record { version = new; seat = Leading l None; buf = buf })
+  leads_anew v new l buf f k = λ room m. record {
+    fresh = f;
+    station = m.fresh.station;
+    works = λ judges most. fresh_leads judges room v most l new f m.fresh m.log m.start k;
+  }
+
+  pub reads_anew : (v : Running Proc) (r : Reader K G) (buf : List ℕ) → IsFresh threads (station_of_reader r) v
+      → ReadsAnew v r (record { version = v; seat = Reading r false; buf = buf })
+  reads_anew v r buf f = λ room m. record {
+    fresh = f;
+    station = refl;
+    works = λ judges most. fresh_follows judges room v (station_of_reader r) r buf f m;
+  }

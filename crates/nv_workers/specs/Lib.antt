@@ -1,0 +1,10 @@
+pub mod Ends
+pub mod Turns
+pub mod Working
+pub mod Follows
+pub mod LeadsOn
+pub mod Workers
+pub mod Endings
+pub mod Rounds
+pub mod New
+pub mod Ran

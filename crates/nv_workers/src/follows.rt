@@ -1,0 +1,129 @@
+//! A reader's turn.
+ghost use Rattle.std.specs.Prelude.{◌≡◌, ℕ, [], true};
+ghost use Rattle.std.specs.Option.{option_copied};
+ghost use Rattle.nv_threads.specs.Threads.{Proc};
+ghost use Rattle.nv_replay.specs.Follow.{judge_of};
+ghost use Rattle.nv_room.specs.Seats.{IsOfRoom, SameReader, view};
+ghost use Rattle.nv_room.specs.Steps.{TellsEnd};
+ghost use Rattle.nv_workers.specs.Working.{FollowsOn};
+ghost use Rattle.nv_workers.specs.Follows.{AfterTurn, HasGrown, IsIdle, IsBusy, IsFound};
+
+use nv_bpf::Filter;
+use nv_calls::SyscallKernel;
+use nv_outside::Gate;
+use nv_promotion::{Lower, lower_gone};
+use nv_replay::{Followed, Version};
+use nv_ring::{Polled, advance, poll};
+use nv_room::{Reader, Room};
+use nv_words::EventBuf;
+
+/// What comes next for a reader.
+#[derive(Clone, Copy, Debug, PartialEq, Eq, Drop)]
+pub(crate) enum Next {
+    /// It goes on.
+    Moved,
+    /// It waits for another station.
+    Waits,
+    /// It takes the lead.
+    Leads,
+    /// Its version has ended.
+    Leaves,
+}
+
+// What a look for the next event finds.
+enum Found {
+    // The event, all of whose words are read.
+    Event,
+    // Another station leads, or is to lead before this one.
+    Held,
+    // It is this station's turn to lead.
+    Free,
+}
+
+/// Polls, unless an event is held, and makes one decision on the event.
+pub(crate) fn follow_turn<K: SyscallKernel, G: Gate>(
+    version: &mut Version,
+    reader: &mut Reader<K>,
+    held: &mut bool,
+    buf: &mut EventBuf,
+    room: &Room<K>,
+    rules: Option<&Filter>,
+    gate: &G,
+) -> Next
+    requires { (p : Proc) × FollowsOn (judge_of (option_copied rules)) room.now p version.old reader.old held.old buf.old }
+    ensures same { SameReader reader.old reader.new }
+    ensures after { (most : ℕ) (p : Proc) → FollowsOn (judge_of (option_copied rules.entry)) room.now p version.old reader.old held.old buf.old → AfterTurn (judge_of (option_copied rules.entry)) room.now most p version.new reader.new held.new buf.new result }
+    ensures grown { HasGrown (view reader.old) (view reader.new) version.old version.new result }
+    ensures idle { IsIdle (view reader.old) (view reader.new) result }
+{
+    if *held {
+        return decide(version, reader, held, buf, room, rules, gate);
+    }
+    match find_event(reader, room, buf) {
+        Found::Event => {
+            *held = true;
+            decide(version, reader, held, buf, room, rules, gate)
+        }
+        Found::Held => Next::Waits,
+        Found::Free => Next::Leads,
+    }
+}
+
+// Polls, and where no station leads and all lower ones have left, polls again.
+fn find_event<K: SyscallKernel>(reader: &mut Reader<K>, room: &Room<K>, buf: &mut EventBuf) -> Found
+    requires of { IsOfRoom room.now reader.old }
+    requires none_read { (view reader.old).read ≡ [] }
+    requires goes_on { TellsEnd (view reader.old).seen → ⊥ }
+    ensures of { IsOfRoom room.now reader.new }
+    ensures same { SameReader reader.old reader.new }
+    ensures found { IsFound (view reader.old) (view reader.new) buf.new result }
+{
+    match poll(reader, room, buf) {
+        Polled::Event => return Found::Event,
+        Polled::Waiting => return Found::Held,
+        Polled::Free(_) => {}
+        Polled::Closed(_) => unreachable!(),
+    }
+    match lower_gone(reader, room) {
+        Lower::Alive(_) => return Found::Held,
+        Lower::AllGone => {}
+    }
+    match poll(reader, room, buf) {
+        Polled::Event => Found::Event,
+        Polled::Free(_) => Found::Free,
+        Polled::Waiting | Polled::Closed(_) => unreachable!(),
+    }
+}
+
+// One decision on the event that is held.
+fn decide<K: SyscallKernel, G: Gate>(
+    version: &mut Version,
+    reader: &mut Reader<K>,
+    held: &mut bool,
+    buf: &EventBuf,
+    room: &Room<K>,
+    rules: Option<&Filter>,
+    gate: &G,
+) -> Next
+    requires follows { (p : Proc) × FollowsOn (judge_of (option_copied rules)) room.now p version.old reader.old true buf.now }
+    requires held { held.old ≡ true }
+    ensures same { SameReader reader.old reader.new }
+    ensures after { (most : ℕ) (p : Proc) → FollowsOn (judge_of (option_copied rules.entry)) room.now p version.old reader.old true buf.now → AfterTurn (judge_of (option_copied rules.entry)) room.now most p version.new reader.new held.new buf.now result }
+    ensures grown { HasGrown (view reader.old) (view reader.new) version.old version.new result }
+    ensures busy { IsBusy result }
+{
+    let event = buf.event();
+    match version.follow(rules, event) {
+        Followed::Rewrote(_) => Next::Moved,
+        Followed::Dropped(_) => Next::Leaves,
+        Followed::Matched | Followed::Skipped => {
+            advance(reader, room);
+            *held = false;
+            gate.after_take(reader.station(), event.stamp);
+            if version.standing().fate.is_some() {
+                return Next::Leaves;
+            }
+            Next::Moved
+        }
+    }
+}

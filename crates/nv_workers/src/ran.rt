@@ -1,0 +1,122 @@
+//! A whole run.
+ghost use Rattle.std.specs.Prelude.{◌≡◌, ◌≤◌, ◌<◌, ◌+◌, ◌++◌, ℕ, List, [], length, vec_len, vec_capacity, IfOk};
+ghost use Rattle.std.specs.Option.{option_copied};
+ghost use Rattle.nv_threads.specs.Threads.{Proc, threads};
+ghost use Rattle.nv_replay.specs.Follow.{Judge, judge_of};
+ghost use Rattle.nv_replay.specs.Versions.{Running};
+ghost use Rattle.nv_room.specs.Seats.{stations_of, origin};
+ghost use Rattle.nv_workers.specs.Ends.{IsAccount};
+ghost use Rattle.nv_workers.specs.Rounds.{CanAll, AllOn, AreGone};
+ghost use Rattle.nv_workers.specs.New.{AreNew};
+ghost use Rattle.nv_workers.specs.Ran.{AllRan, AreApart};
+
+use crate::dealing::deal;
+use crate::running::rotate;
+use crate::worker::{Seat, Worker};
+use nv_bpf::Filter;
+use nv_calls::SyscallKernel;
+use nv_outside::Gate;
+use nv_replay::{Account, Version};
+use nv_room::{Ended, Left, Room};
+use std::alloc::{AllocError, Global};
+use std::sync::Wait;
+use std::thread::Threads;
+
+/// The versions of a run once all have ended, and the room for its end, with what is left of each station.
+#[derive(Drop)]
+pub struct Ran<K: SyscallKernel> {
+    pub room: Room<K>,
+    /// In order of station.
+    pub left: Vec<Left<K>>,
+    /// In order of station.
+    pub versions: Vec<Version>,
+}
+
+/// Runs the workers of a room's stations until all have ended, on so many host threads. All its own memory is taken before
+/// the first turn.
+pub fn run_all<R: Threads + Wait + Sync, K: SyscallKernel, G: Gate + Sync>(
+    rt: &R,
+    alloc: Global,
+    room: Room<K>,
+    mut workers: Vec<Worker<K>>,
+    rules: Option<&Filter>,
+    gate: &G,
+    most: u32,
+    threads: u32,
+) -> Result<Ran<K>, AllocError>
+    requires new { (fresh : List (Running Proc)) × AreNew room 0 fresh workers.items }
+    requires all { vec_len workers ≡ stations_of room }
+    requires most { most ≤ 131072 }
+    ensures room { IfOk result (λ r. r.room ≡ room) }
+    ensures ran { IfOk result (λ r. (fresh : List (Running Proc)) → AreNew room 0 fresh workers.items → AllRan (judge_of (option_copied rules.entry)) r.room most fresh r.versions.items r.left.items) }
+{
+    let mut left = Vec::with_capacity(alloc, workers.len())?;
+    let mut versions = Vec::with_capacity(alloc, workers.len())?;
+    run_beside(rt, &mut workers, &room, rules, gate, most, threads);
+    take_apart(workers, &mut versions, &mut left);
+    Ok(Ran {
+        room,
+        left,
+        versions,
+    })
+}
+
+// Turns on so many threads, and then on this one, until all have ended.
+fn run_beside<R: Threads + Wait + Sync, K: SyscallKernel, G: Gate + Sync>(
+    rt: &R,
+    workers: &mut [Worker<K>],
+    room: &Room<K>,
+    rules: Option<&Filter>,
+    gate: &G,
+    most: u32,
+    threads: u32,
+)
+    requires can { CanAll (judge_of (option_copied rules)) room.now most workers.old }
+    requires most { most ≤ 131072 }
+    ensures on { AllOn (judge_of (option_copied rules.entry)) room.now most workers.old workers.new }
+    ensures gone { AreGone workers.new }
+{
+    deal(rt, workers, room, rules, gate, most, threads as usize);
+    rotate(rt, workers, room, rules, gate, most);
+}
+
+// The versions and the seats that have left, in order.
+fn take_apart<K: SyscallKernel>(
+    workers: Vec<Worker<K>>,
+    versions: &mut Vec<Version>,
+    left: &mut Vec<Left<K>>,
+)
+    requires gone { AreGone workers.items }
+    requires empty { (versions.old.items ≡ []) × (left.old.items ≡ []) }
+    requires room { (vec_len workers ≤ vec_capacity versions.old) × (vec_len workers ≤ vec_capacity left.old) }
+    ensures { AreApart workers.items versions.new.items left.new.items }
+{
+    for worker in workers {
+        let Worker {
+            version,
+            seat,
+            buf: _,
+        } = worker;
+        let Seat::Gone { left: gone } = seat else {
+            unreachable!()
+        };
+        versions.push_reserved(version);
+        left.push_reserved(gone);
+    }
+}
+
+/// The room ends, and the account is the one of the versions one after another: the plain monitor's.
+pub fn end<K: SyscallKernel>(ran: Ran<K>) -> Account<K>
+    requires { (judges : ℕ → Judge) × (most : ℕ) × (fresh : List (Running Proc)) × AllRan judges ran.room most fresh ran.versions.items ran.left.items }
+    ensures start { K.start result.kernel ≡ K.start (origin ran.room) }
+    ensures account { (judges : ℕ → Judge) (most : ℕ) (fresh : List (Running Proc)) → AllRan judges ran.room most fresh ran.versions.items ran.left.items
+        → IsAccount threads judges (K.start (origin ran.room)) most fresh result.versions.items (K.log result.kernel) }
+{
+    let Ran {
+        room,
+        left,
+        versions,
+    } = ran;
+    let Ended { kernel, seen: _ } = room.finish(left);
+    Account { kernel, versions }
+}

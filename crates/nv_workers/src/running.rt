@@ -1,0 +1,137 @@
+//! Workers on host threads.
+ghost use Rattle.std.specs.Prelude.{◌≡◌, ◌≤◌};
+ghost use Rattle.std.specs.Option.{option_copied};
+ghost use Rattle.nv_replay.specs.Follow.{judge_of};
+ghost use Rattle.nv_workers.specs.Rounds.{CanAll, AllOn, AreGone, GoneIf, both_of};
+
+use crate::worker::{Turn, Worker};
+use nv_bpf::Filter;
+use nv_calls::SyscallKernel;
+use nv_outside::Gate;
+use nv_room::Room;
+use std::sync::Wait;
+use std::sync::atomic::{AtomicU64, Ordering};
+use std::thread::yield_now;
+
+// A turn of each worker.
+fn round<K: SyscallKernel, G: Gate>(
+    workers: &mut [Worker<K>],
+    room: &Room<K>,
+    rules: Option<&Filter>,
+    gate: &G,
+    most: u32,
+) -> Turn
+    requires can { CanAll (judge_of (option_copied rules)) room.now most workers.old }
+    requires most { most ≤ 131072 }
+    ensures on { AllOn (judge_of (option_copied rules.entry)) room.now most workers.old workers.new }
+    ensures gone { GoneIf result workers.new }
+{
+    let Some((first, others)) = workers.split_first_mut() else {
+        return Turn::Done;
+    };
+    let own = first.turn(room, rules, gate, most);
+    let rest = round(others, room, rules, gate, most);
+    both(own, rest)
+}
+
+// What two turns come to together.
+fn both(own: Turn, rest: Turn) -> Turn
+    ensures { result ≡ both_of own rest }
+{
+    match (own, rest) {
+        (Turn::Done, rest) => rest,
+        (own, Turn::Done) => own,
+        (Turn::Waiting, Turn::Waiting) => Turn::Waiting,
+        _ => Turn::Moved,
+    }
+}
+
+/// The parts that the workers are dealt in. Where a thread can't be made its part runs before or after the others, on the
+/// caller's thread, and what waits for it must give up.
+#[derive(Drop)]
+pub(crate) struct Parts {
+    count: u64,
+    // How many have begun and have not given up.
+    running: AtomicU64,
+}
+
+impl Parts {
+    pub(crate) fn new(count: usize) -> Parts {
+        Parts {
+            count: count as u64,
+            running: AtomicU64::new(0),
+        }
+    }
+
+    fn begin(&self) {
+        self.running.fetch_add(1, Ordering::SeqCst);
+    }
+
+    // From here on not all parts run beside each other.
+    fn give_up(&self) {
+        self.running.fetch_sub(1, Ordering::SeqCst);
+    }
+
+    fn all_run(&self) -> bool {
+        self.running.load(Ordering::SeqCst) == self.count
+    }
+}
+
+// After so many rounds in a row in which none of them moved, a part gives up, unless all parts run beside each other.
+const IDLE_ROUNDS: u32 = 1_000_000;
+
+/// Turns in rotation, until all have ended or none has moved for long.
+pub(crate) fn rotate_while_moving<K: SyscallKernel, G: Gate>(
+    workers: &mut [Worker<K>],
+    room: &Room<K>,
+    rules: Option<&Filter>,
+    gate: &G,
+    most: u32,
+    parts: &Parts,
+)
+    requires can { CanAll (judge_of (option_copied rules)) room.now most workers.old }
+    requires most { most ≤ 131072 }
+    ensures on { AllOn (judge_of (option_copied rules.entry)) room.now most workers.old workers.new }
+{
+    parts.begin();
+    let mut idle = 0;
+    for _ in 0..u64::MAX {
+        match round(workers, room, rules, gate, most) {
+            Turn::Done => return,
+            Turn::Moved => idle = 0,
+            Turn::Waiting => {
+                if idle < IDLE_ROUNDS {
+                    idle += 1;
+                } else if !parts.all_run() {
+                    parts.give_up();
+                    return;
+                }
+                yield_now();
+            }
+        }
+    }
+}
+
+/// Turns in rotation, until all have ended.
+pub(crate) fn rotate<R: Wait, K: SyscallKernel, G: Gate>(
+    rt: &R,
+    workers: &mut [Worker<K>],
+    room: &Room<K>,
+    rules: Option<&Filter>,
+    gate: &G,
+    most: u32,
+)
+    requires can { CanAll (judge_of (option_copied rules)) room.now most workers.old }
+    requires most { most ≤ 131072 }
+    ensures on { AllOn (judge_of (option_copied rules.entry)) room.now most workers.old workers.new }
+    ensures gone { AreGone workers.new }
+{
+    for _ in rt.forever() {
+        match round(workers, room, rules, gate, most) {
+            Turn::Done => return,
+            Turn::Moved => {}
+            Turn::Waiting => yield_now(),
+        }
+    }
+    unreachable!()
+}

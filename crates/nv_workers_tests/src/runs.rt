@@ -1,0 +1,103 @@
+//! Runs of small programs.
+ghost use Rattle.std.specs.Prelude.{◌≡◌, ◌≤◌, ◌<◌, [], IfSome, length, vec_len};
+ghost use Rattle.nv_threads.specs.Threads.{threads};
+ghost use Rattle.nv_replay.specs.Versions.{IsFresh};
+ghost use Rattle.nv_replay.specs.Accounts.{AreFresh};
+
+use nv_bpf::Filter;
+use nv_guest::Guest;
+use nv_kernel::ScriptKernel;
+use nv_outside::OpenGate;
+use nv_replay::{Account, Version};
+use nv_room::Room;
+use nv_threads::Process;
+use nv_workers::{end, run_all, staff};
+use std::alloc::{AllocError, Global};
+use std::sync::Wait;
+use std::thread::Threads;
+
+const MEMORY: u32 = 1_048_576;
+
+const BUDGET: u32 = 1_000_000;
+
+const MOST_EVENTS: u32 = 1_000;
+
+/// A program that makes so many calls getuid, and then does this.
+pub fn program(alloc: Global, calls: u32, then: &str) -> Result<String, AllocError> {
+    format!(in alloc; ".text\nli s0, {calls}\nnext: li a7, 174\necall\naddi s0, s0, -1\nbne s0, zero, next\n{then}")
+}
+
+fn version(alloc: Global, index: u32, text: &str) -> Option<Version>
+    ensures { IfSome result (IsFresh threads index) }
+{
+    let program = nv_asm::assemble(alloc, text.as_bytes()).ok()?;
+    let guest = Guest::make(alloc, &program, &[], MEMORY).ok()?;
+    let process = Process::make(alloc, guest, BUDGET).ok()?;
+    Version::make(alloc, index, process).ok()
+}
+
+fn versions(alloc: Global, texts: &[String]) -> Option<Vec<Version>>
+    requires { length texts.now ≤ 8 }
+    ensures fresh { IfSome result (λ versions. AreFresh threads 0 versions.items) }
+    ensures each { IfSome result (λ versions. length versions.items ≡ length texts.now) }
+{
+    let mut versions = Vec::new(alloc);
+    for index in 0..texts.len() {
+        let version = version(alloc, index as u32, texts[index].as_str())?;
+        versions.push(version).ok()?;
+    }
+    Some(versions)
+}
+
+fn kernel(alloc: Global) -> Option<ScriptKernel>
+    ensures { IfSome result (λ kernel. kernel.log ≡ []) }
+{
+    let script = nv_script::read(alloc, b"varan-script 1").ok()?;
+    ScriptKernel::make(alloc, &script).ok()
+}
+
+/// The account of a run of these programs, one after another.
+pub fn one_by_one(
+    alloc: Global,
+    texts: &[String],
+    rules: Option<&Filter>,
+) -> Option<Account<ScriptKernel>>
+    requires { length texts.now ≤ 8 }
+{
+    let versions = versions(alloc, texts)?;
+    let kernel = kernel(alloc)?;
+    Some(nv_sequence::run(versions, rules, kernel, MOST_EVENTS))
+}
+
+/// The account of a run of these programs beside each other.
+pub fn beside<R: Threads + Wait + Sync>(
+    rt: &R,
+    alloc: Global,
+    texts: &[String],
+    rules: Option<&Filter>,
+    places: u32,
+    threads: u32,
+) -> Result<Account<ScriptKernel>, AllocError>
+    requires count { (0 < length texts.now) × (length texts.now ≤ 8) }
+    requires places { (2 ≤ places) × (places ≤ 1024) }
+{
+    let Some(versions) = versions(alloc, texts) else {
+        return Err(AllocError);
+    };
+    let Some(kernel) = kernel(alloc) else {
+        return Err(AllocError);
+    };
+    let (room, readers, lead) = Room::make(alloc, kernel, texts.len() as u32, places)?;
+    let workers = staff(alloc, versions, readers, lead)?;
+    let ran = run_all(
+        rt,
+        alloc,
+        room,
+        workers,
+        rules,
+        &OpenGate,
+        MOST_EVENTS,
+        threads,
+    )?;
+    Ok(end(ran))
+}
