@@ -17,18 +17,26 @@ const ASKS_MORE: [u32; 7] = [
 const EXTRA_CALL: &[u8] =
     b"6\n32 0 0 64\n21 0 3 177\n32 0 0 0\n21 0 1 174\n6 0 0 2147418112\n6 0 0 0\n";
 
-// A run of ASKS and ASKS_MORE by these rules, of which the reads with these numbers fail.
-fn judged(alloc: Global, rules: &[u8], failing_reads: &[u32]) -> Result<Answered, AllocError> {
-    let first = image(alloc, &ASKS, b"")?;
-    let second = image(alloc, &ASKS_MORE, b"")?;
-    let files: [(&str, &[u8]); 4] = [("s", SCRIPT), ("r", rules), ("v", &first), ("w", &second)];
+// A run of two versions by rules, of which the reads with these numbers fail.
+fn run(alloc: Global, contents: [&[u8]; 3], failing_reads: &[u32]) -> Result<Answered, AllocError> {
+    let [rules, first, second] = contents;
+    let failing = failing_reads.to_vec(alloc)?;
+    let files = [("s", SCRIPT), ("r", rules), ("v", first), ("w", second)];
     let outside = Outside {
         files: &files,
-        failing_reads,
+        failing_reads: &failing,
         most: 4096,
         failing_writes: &[],
     };
     monitor(alloc, &LINE, outside)
+}
+
+// A run of ASKS and ASKS_MORE by these rules.
+fn judged(alloc: Global, rules: &[u8], failing_reads: &[u32]) -> Result<Answered, AllocError> {
+    let rules = rules.to_vec(alloc)?;
+    let first = image(alloc, &ASKS, b"")?;
+    let second = image(alloc, &ASKS_MORE, b"")?;
+    run(alloc, [&rules, &first, &second], failing_reads)
 }
 
 #[test]
