@@ -24,7 +24,9 @@ const MOST_EVENTS: u32 = 1_000;
 
 /// A program that makes so many calls getuid, and then does this.
 pub fn program(alloc: Global, calls: u32, then: &str) -> Result<String, AllocError> {
-    format!(in alloc; ".text\nli s0, {calls}\nnext: li a7, 174\necall\naddi s0, s0, -1\nbne s0, zero, next\n{then}")
+    format!(in alloc;
+        ".text\nli s0, {calls}\nnext: li a7, 174\necall\naddi s0, s0, -1\nbne s0, zero, next\n{then}"
+    )
 }
 
 fn version(alloc: Global, index: u32, text: &str) -> Option<Version>

@@ -45,7 +45,11 @@ fn same_as_plain<R: Threads + Wait + Sync + Abort>(
     for threads in [1, 3, 8] {
         let small = text_of(rt, alloc, beside(rt, alloc, texts, rules, 2, threads).ok());
         assert_eq!(rt; small.as_str(), plain.as_str());
-        let large = text_of(rt, alloc, beside(rt, alloc, texts, rules, 1024, threads).ok());
+        let large = text_of(
+            rt,
+            alloc,
+            beside(rt, alloc, texts, rules, 1024, threads).ok(),
+        );
         assert_eq!(rt; large.as_str(), plain.as_str());
     }
 }

@@ -10,12 +10,18 @@ staff-requires-clause-seats g c κs =
 
 pub run_all-requires-clause-new : goal.run_all-requires-clause-new
 run_all-requires-clause-new g c κs within =
-    let m = c.in_ok-room.ensures in
-    (c.in-Some.versions.items, c.in_ok-workers.ensures.new c.in_ok-room.room
-    (as_made c.in_ok-room.room c.in_ok-room.readers.items c.in_ok-room.lead _ m.origin m.readers.1 m.lead m.log m.start))
+    let m = c.in_ok-room.ensures in (
+      c.in-Some.versions.items,
+      c.in_ok-workers.ensures.new c.in_ok-room.room
+          (as_made c.in_ok-room.room c.in_ok-room.readers.items c.in_ok-room.lead _ m.origin m.readers.1 m.lead m.log m.start),
+    )
 
 pub end-requires-after_bounds : goal.end-requires-after_bounds
 end-requires-after_bounds g c κs =
-    let m = c.in_ok-room.ensures in
-    (judge_of (option_copied c.args.rules), 1000, c.in-Some.versions.items, c.in_ok-ran.ensures.ran c.in-Some.versions.items (c.in_ok-workers.ensures.new c.in_ok-room.room
-    (as_made c.in_ok-room.room c.in_ok-room.readers.items c.in_ok-room.lead _ m.origin m.readers.1 m.lead m.log m.start)))
+    let m = c.in_ok-room.ensures in (
+      judge_of (option_copied c.args.rules),
+      1000,
+      c.in-Some.versions.items,
+      c.in_ok-ran.ensures.ran c.in-Some.versions.items (c.in_ok-workers.ensures.new c.in_ok-room.room
+          (as_made c.in_ok-room.room c.in_ok-room.readers.items c.in_ok-room.lead _ m.origin m.readers.1 m.lead m.log m.start)),
+    )
