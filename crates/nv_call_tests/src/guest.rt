@@ -1,6 +1,8 @@
 // Guests that make the calls of a table.
 use nv_cli_tests::{Answered, Outside, monitor};
 use std::alloc::{AllocError, Global};
+use std::sync::Wait;
+use std::thread::Threads;
 
 // The rest of a guest whose data ends with the table `calls`: six words a call, its number and five arguments.
 const MAKES_THE_CALLS: &str = ".text
@@ -65,55 +67,90 @@ text: .ascii \"abcdefghij\"
 ";
 
 // What the monitor answers to these words over these files.
-fn answer(alloc: Global, words: &[&str], files: &[(&str, &[u8])]) -> Result<Answered, AllocError> {
+fn answer<R: Threads + Wait + Sync>(
+    rt: &R,
+    alloc: Global,
+    words: &[&str],
+    files: &[(&str, &[u8])],
+) -> Result<Answered, AllocError> {
     let outside = Outside {
         files,
         failing_reads: &[],
         most: 4096,
         failing_writes: &[],
     };
-    monitor(alloc, words, outside)
+    monitor(rt, alloc, words, outside)
 }
 
 // The file of an assembler text.
-fn assembled(alloc: Global, text: &[u8]) -> Result<Vec<u8>, AllocError> {
-    let made = answer(alloc, &["varan", "asm", "a"], &[("a", text)])?;
+fn assembled<R: Threads + Wait + Sync>(
+    rt: &R,
+    alloc: Global,
+    text: &[u8],
+) -> Result<Vec<u8>, AllocError> {
+    let made = answer(rt, alloc, &["varan", "asm", "a"], &[("a", text)])?;
     Ok(made.written)
 }
 
 /// A run of a version.
-pub fn run_file(alloc: Global, script: &[u8], version: &[u8]) -> Result<Answered, AllocError> {
+pub fn run_file<R: Threads + Wait + Sync>(
+    rt: &R,
+    alloc: Global,
+    script: &[u8],
+    version: &[u8],
+) -> Result<Answered, AllocError> {
     let files = [("s", script), ("v", version)];
-    answer(alloc, &["varan", "run", "--script", "s", "v"], &files)
+    answer(rt, alloc, &["varan", "run", "--script", "s", "v"], &files)
 }
 
 /// A run of two versions.
-pub fn run_pair(
+pub fn run_pair<R: Threads + Wait + Sync>(
+    rt: &R,
     alloc: Global,
     script: &[u8],
     first: &[u8],
     second: &[u8],
 ) -> Result<Answered, AllocError> {
     let files = [("s", script), ("a", first), ("b", second)];
-    answer(alloc, &["varan", "run", "--script", "s", "a", "b"], &files)
+    answer(
+        rt,
+        alloc,
+        &["varan", "run", "--script", "s", "a", "b"],
+        &files,
+    )
 }
 
 /// A run of the version of an assembler text.
-pub fn run(alloc: Global, script: &[u8], text: &[u8]) -> Result<Answered, AllocError> {
-    let version = assembled(alloc, text)?;
-    run_file(alloc, script, &version)
+pub fn run<R: Threads + Wait + Sync>(
+    rt: &R,
+    alloc: Global,
+    script: &[u8],
+    text: &[u8],
+) -> Result<Answered, AllocError> {
+    let version = assembled(rt, alloc, text)?;
+    run_file(rt, alloc, script, &version)
 }
 
 /// A run of two such versions.
-pub fn run_twice(alloc: Global, script: &[u8], text: &[u8]) -> Result<Answered, AllocError> {
-    let version = assembled(alloc, text)?;
-    run_pair(alloc, script, &version, &version)
+pub fn run_twice<R: Threads + Wait + Sync>(
+    rt: &R,
+    alloc: Global,
+    script: &[u8],
+    text: &[u8],
+) -> Result<Answered, AllocError> {
+    let version = assembled(rt, alloc, text)?;
+    run_pair(rt, alloc, script, &version, &version)
 }
 
 /// A run of the version that makes the calls of a table, six words a call, with which these data end.
-pub fn run_table(alloc: Global, script: &[u8], data: &str) -> Result<Answered, AllocError> {
+pub fn run_table<R: Threads + Wait + Sync>(
+    rt: &R,
+    alloc: Global,
+    script: &[u8],
+    data: &str,
+) -> Result<Answered, AllocError> {
     let text = format!(in alloc; "{data}{MAKES_THE_CALLS}")?;
-    run(alloc, script, text.as_bytes())
+    run(rt, alloc, script, text.as_bytes())
 }
 
 /// The text of the version that tells the results of the calls of a table, seven words a call, with which this text ends.

@@ -1,5 +1,7 @@
 use crate::{end_of_report, run_table};
 use std::alloc::{AllocError, Global};
+use std::sync::Wait;
+use std::thread::Threads;
 
 mod addresses;
 mod files;
@@ -42,7 +44,8 @@ nothing: .word 0, 0
 calls: ";
 
 // Whether a call has this line in the log, where it comes behind so many calls.
-fn is_logged(
+fn is_logged<R: Threads + Wait + Sync>(
+    rt: &R,
     alloc: Global,
     script: &[u8],
     before: &str,
@@ -51,13 +54,14 @@ fn is_logged(
     line: &str,
 ) -> Result<bool, AllocError> {
     let data = format!(in alloc; "{DATA}{before}.word {call}\n")?;
-    let answered = run_table(alloc, script, data.as_str())?;
+    let answered = run_table(rt, alloc, script, data.as_str())?;
     let end = end_of_report(alloc, calls, line)?;
     Ok(answered.status == 0 && answered.written.ends_with(end.as_bytes()))
 }
 
 // The first row of a table, a call and its line of the log with a bar between them, that isn't so.
-fn first_wrong<'a>(
+fn first_wrong<'a, R: Threads + Wait + Sync>(
+    rt: &R,
     alloc: Global,
     script: &[u8],
     before: &str,
@@ -66,7 +70,7 @@ fn first_wrong<'a>(
 ) -> Result<Option<&'a str>, AllocError> {
     for row in table.split('\n') {
         let right = match row.split_once(" | ") {
-            Some((call, line)) => is_logged(alloc, script, before, calls, call, line)?,
+            Some((call, line)) => is_logged(rt, alloc, script, before, calls, call, line)?,
             None => row.is_empty(),
         };
         if !right {

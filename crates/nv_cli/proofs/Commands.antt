@@ -1,17 +1,15 @@
 -- What the words ask for, by what each command's words are.
-use Rattle.std.proofs.Common.{◌≡◌, ◌∙◌, sym, ap, ℕ, List, Option, Some, None, refl, inl, inr, ⊎_elim, subst, option_and_then, Bool, true, false}
+use Rattle.std.proofs.Common.{◌≡◌, ◌∙◌, sym, ℕ, List, Option, Some, None, refl, inl, inr, ⊎_elim, subst, option_and_then}
 use Rattle.std.specs.Prelude.{IsSome}
 use Rattle.nv_outside.specs.Told.{Told}
 use Rattle.nv_cli.specs.Refusals.{ComesTo, Refuses}
 use Rattle.nv_cli.specs.Prepared.{Prepared, Ready}
-use Rattle.nv_cli.specs.Account.{IsRunOf, run_status}
 use Rattle.nv_script.specs.Scripts.{Setup}
 use Rattle.nv_bpf.specs.declared.op.Op.{Op}
 use Rattle.nv_machine.specs.Guest.{Machine}
-use Rattle.nv_replay.specs.Sequence.{Account}
-use Rattle.nv_cli.specs.Outcome.{Source, Outcome, NoMemory, NotRead, NotAccepted, Reported, account_text, outcome_of, name_of, text_of}
+use Rattle.nv_cli.specs.Outcome.{Source, Outcome, NoMemory, NotRead, NotAccepted, Reported, outcome_of, name_of, text_of}
 use Rattle.nv_cli.specs.Due.{RunComesTo, GenOwes, Owes, OwesAny, IsDue, Shows, IsUntouched, Says, Answers}
-use Rattle.nv_cli.specs.Ran.{Tells, Ran}
+use Rattle.nv_cli.specs.Ran.{Ran, RunSays}
 use Rattle.nv_cli.specs.declared.refusal.Refusal.{Refusal}
 use Rattle.nv_cli.specs.declared.refusal.Refusal.TheVariants.{Memory, Unreadable as Unread, Input}
 use Rattle.nv_command.specs.Words.{Name, Plan, Command, Runs, Generates, asked_by, behind_program, command_of, name_in}
@@ -65,14 +63,13 @@ refusal_shown (Input place cause) plan source h = (h.1, h.2)
 
 module _ (words : List (List ℕ)) (source : Source) (plan : Plan) (asked : command_of words ≡ Some (Runs plan)) (kept : source.later_faults ≡ source.faults) (setup : Setup) (rules : Option (List Op)) (machines : List Machine)
     (files : ComesTo plan source.holds (Ready setup rules machines)) (before : Option (List ℕ)) (faults status : ℕ) (after : Option (List ℕ)) (later : ℕ) where
-  reported : (json : Bool) (account : Account) → json ≡ plan.json → IsRunOf plan.limits setup rules machines account
-      → Says (account_text json setup account) (run_status account.lines) before faults status after later → Answers words source before faults status after later
-  reported json account form run says = record {
-    outcome = Reported json setup account;
-    due = run_due words source.holds plan (Ready setup rules machines) (Reported json setup account) asked files (account, ap (λ j. Reported j setup account) form, run);
+  reported : Ran plan.limits plan.json setup rules machines before faults status after later → Answers words source before faults status after later
+  reported ran = record {
+    outcome = Reported plan.json setup ran.account;
+    due = run_due words source.holds plan (Ready setup rules machines) (Reported plan.json setup ran.account) asked files (ran.account, refl, ran.is_run);
     shown = kept;
     unread = asked_unread words source (Runs plan) asked;
-    says = says;
+    says = ran.says;
   }
 
   starved : Says (text_of NoMemory) 3 before faults status after later → Answers words source before faults status after later
@@ -84,14 +81,9 @@ module _ (words : List (List ℕ)) (source : Source) (plan : Plan) (asked : comm
     says = says;
   }
 
-  by_form : (json : Bool) (account : Account) → json ≡ plan.json → IsRunOf plan.limits setup rules machines account
-      → Tells json (account_text json setup account) (run_status account.lines) before faults status after later → Answers words source before faults status after later
-  by_form true account form run tells = ⊎_elim (reported true account form run) starved tells
-  by_form false account form run tells = reported false account form run tells
-
   -- versions that ran have an outcome of the run
-  pub ran_answers : Ran plan.limits plan.json setup rules machines before faults status after later → Answers words source before faults status after later
-  ran_answers ran = by_form plan.json ran.account refl ran.is_run ran.says
+  pub ran_answers : RunSays plan.limits plan.json setup rules machines before faults status after later → Answers words source before faults status after later
+  ran_answers = ⊎_elim reported starved
 
 -- what a made run comes to is the answer of its words
 pub made_answers : (words : List (List ℕ)) (source : Source) (n : ℕ) → command_of words ≡ Some (Generates n) → source.later_faults ≡ source.faults → source.later_taken ≡ source.taken

@@ -3,4 +3,6 @@ mod Decided
 mod Generating
 mod Statuses
 mod Making
+mod Running
 mod Commands
+mod NoVersions

@@ -1,5 +1,5 @@
 -- What running versions and writing of it leaves.
-use Rattle.std.specs.Prelude.{◌⊎◌, ℕ, Bool, true, false, List, Option}
+use Rattle.std.specs.Prelude.{◌⊎◌, ℕ, Bool, List, Option}
 use Rattle.nv_bpf.specs.declared.op.Op.{Op}
 use Rattle.nv_machine.specs.Guest.{Machine}
 use Rattle.nv_command.specs.Words.{Limits}
@@ -14,13 +14,13 @@ abbrev pub Wrote : List ℕ → ℕ → Option (List ℕ) → ℕ → ℕ → Op
 Wrote text text_status before faults status after later_faults =
     Says text text_status before faults status after later_faults ⊎ Says (text_of NoMemory) 3 before faults status after later_faults
 
--- only a JSON form takes memory
-abbrev pub Tells : Bool → List ℕ → ℕ → Option (List ℕ) → ℕ → ℕ → Option (List ℕ) → ℕ → Type 0
-Tells true text text_status before faults status after later_faults = Wrote text text_status before faults status after later_faults
-Tells false text text_status before faults status after later_faults = Says text text_status before faults status after later_faults
-
--- the versions ran, and their report was written, or the write failed; or memory was wanted for its JSON form
+-- The versions ran and their report was written, or its JSON form; or the write failed.
 pub record Ran (limits : Limits) (json : Bool) (setup : Setup) (rules : Option (List Op)) (machines : List Machine) (before : Option (List ℕ)) (faults : ℕ) (status : ℕ) (after : Option (List ℕ)) (later_faults : ℕ) : Type 0 where
   pub account : Account
   pub is_run : IsRunOf limits setup rules machines account
-  pub says : Tells json (account_text json setup account) (run_status account.lines) before faults status after later_faults
+  pub says : Says (account_text json setup account) (run_status account.lines) before faults status after later_faults
+
+-- That is so, or memory was wanted for the run or for its JSON form.
+abbrev pub RunSays : Limits → Bool → Setup → Option (List Op) → List Machine → Option (List ℕ) → ℕ → ℕ → Option (List ℕ) → ℕ → Type 0
+RunSays limits json setup rules machines before faults status after later_faults =
+    Ran limits json setup rules machines before faults status after later_faults ⊎ Says (text_of NoMemory) 3 before faults status after later_faults

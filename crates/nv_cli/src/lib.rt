@@ -1,6 +1,7 @@
 //! The monitor's top call: it reads a command line, runs what it asks for and writes what it came to.
 #![tactic(auto)]
 
+mod beside;
 mod calm;
 mod generate;
 mod prepare;

@@ -17,12 +17,13 @@ ghost use Rattle.nv_report.specs.Report.{report_text};
 ghost use Rattle.nv_report.specs.Json.{json_text};
 ghost use Rattle.nv_script.specs.Texts.{fault_text};
 ghost use Rattle.nv_cli.specs.Due.{Says, Answers, Completes, Rejects};
-ghost use Rattle.nv_cli.specs.Ran.{Wrote, Ran};
+ghost use Rattle.nv_cli.specs.Ran.{Wrote, RunSays};
 ghost use Rattle.nv_gen.specs.Plans.{outcome_in};
 ghost use Rattle.nv_cli.specs.Generated.{IsGenerated};
 ghost use Rattle.nv_cli.specs.Summing.{SumsUp};
 ghost use Rattle.nv_cli.specs.Outcome.{told, ended_with, name_of, elf_text, guest_text, filter_text, line_text, rule_word, rules_text, asm_word, asm_text, cause_text, outcome_of, status_of, text_of, source_of};
 
+use crate::beside::run;
 use crate::generate::generate;
 use crate::prepare::{Prepared, prepare};
 use crate::refusal::{Cause, Place, Refusal};
@@ -41,6 +42,8 @@ use nv_outside::{Files, Gate, Put, Sink, put_all, put_pieces};
 use nv_replay::{Account, Fate, Version};
 use nv_script::ScriptFault;
 use std::alloc::Global;
+use std::sync::Wait;
+use std::thread::Threads;
 
 const USAGE: u8 = 2;
 
@@ -137,7 +140,8 @@ fn put_report<K: SyscallKernel, S: Sink>(account: &Account<K>, sink: &mut S) -> 
 }
 
 // Runs the versions over the kernel and writes the report, or its JSON form.
-fn run_versions<S: Sink>(
+fn run_versions<R: Threads + Wait + Sync, S: Sink, G: Gate + Sync>(
+    rt: &R,
     alloc: Global,
     kernel: ScriptKernel,
     rules: Option<&Filter>,
@@ -145,14 +149,17 @@ fn run_versions<S: Sink>(
     limits: Limits,
     json: bool,
     sink: &mut S,
+    gate: &G,
 ) -> u8
     requires empty { kernel.log ≡ [] }
     requires fresh { AreFresh threads 0 versions.items }
     requires few { length versions.items ≤ 8 }
     ensures { (machines : List Machine) → map process_of versions.items ≡ map (begun (limits_view limits)) machines
-        → Ran (limits_view limits) json kernel.setup (option_map (λ f. f.now) rules.entry) machines (S.told sink.old) (S.faults sink.old) result (S.told sink.new) (S.faults sink.new) }
+        → RunSays (limits_view limits) json kernel.setup (option_map (λ f. f.now) rules.entry) machines (S.told sink.old) (S.faults sink.old) result (S.told sink.new) (S.faults sink.new) }
 {
-    let account = nv_sequence::run(versions, rules, kernel, limits.calls);
+    let Ok(account) = run(rt, alloc, versions, rules, kernel, gate, limits) else {
+        return put_line(sink, b"varan: memory\n", MEMORY);
+    };
     if json {
         put_json(alloc, &account, sink)
     } else {
@@ -404,7 +411,14 @@ fn run_job<F: Files, S: Sink>(
 }
 
 // Does a run, and says what it came to.
-fn do_run<F: Files, S: Sink>(alloc: Global, files: &mut F, sink: &mut S, plan: &Run<'_>) -> u8
+fn do_run<R: Threads + Wait + Sync, F: Files, S: Sink, G: Gate + Sync>(
+    rt: &R,
+    alloc: Global,
+    files: &mut F,
+    sink: &mut S,
+    gate: &G,
+    plan: &Run<'_>,
+) -> u8
     ensures { (words : List (List ℕ)) → command_of words ≡ Some (Runs (plan_view plan.now))
         → Answers words (source_of F.holds F.faults F.taken files.old files.new)
         (S.told sink.old) (S.faults sink.old) result (S.told sink.new) (S.faults sink.new) }
@@ -417,6 +431,7 @@ fn do_run<F: Files, S: Sink>(alloc: Global, files: &mut F, sink: &mut S, plan: &
                 versions,
             },
         ) => run_versions(
+            rt,
             alloc,
             kernel,
             rules.as_ref(),
@@ -424,6 +439,7 @@ fn do_run<F: Files, S: Sink>(alloc: Global, files: &mut F, sink: &mut S, plan: &
             plan.limits,
             plan.json,
             sink,
+            gate,
         ),
         Err(refusal) => refuse(sink, refusal, plan),
     }
@@ -465,7 +481,14 @@ fn outcome<K: SyscallKernel>(account: &Account<K>) -> Outcome
 }
 
 // Runs what a number has made, and sums it up.
-fn sum_up<S: Sink>(alloc: Global, number: u32, made: Prepared, sink: &mut S) -> u8
+fn sum_up<R: Threads + Wait + Sync, S: Sink, G: Gate + Sync>(
+    rt: &R,
+    alloc: Global,
+    number: u32,
+    made: Prepared,
+    sink: &mut S,
+    gate: &G,
+) -> u8
     requires { IsGenerated number made.kernel.log made.kernel.setup made.rules made.versions.items }
     ensures { SumsUp number (S.told sink.old) (S.faults sink.old) result (S.told sink.new) (S.faults sink.new) }
 {
@@ -475,7 +498,9 @@ fn sum_up<S: Sink>(alloc: Global, number: u32, made: Prepared, sink: &mut S) -> 
         versions,
     } = made;
     let limits = Limits::usual();
-    let account = nv_sequence::run(versions, rules.as_ref(), kernel, limits.calls);
+    let Ok(account) = run(rt, alloc, versions, rules.as_ref(), kernel, gate, limits) else {
+        return put_line(sink, b"varan: memory\n", MEMORY);
+    };
     if starved(&account.versions) {
         return put_line(sink, b"varan: memory\n", MEMORY);
     }
@@ -486,37 +511,52 @@ fn sum_up<S: Sink>(alloc: Global, number: u32, made: Prepared, sink: &mut S) -> 
 }
 
 // Makes the run of a number, and says what it came to.
-fn do_generate<S: Sink>(alloc: Global, number: u32, sink: &mut S) -> u8
-    requires { number ≤ 999_999 }
+fn do_generate<R: Threads + Wait + Sync, S: Sink, G: Gate + Sync>(
+    rt: &R,
+    alloc: Global,
+    number: u32,
+    sink: &mut S,
+    gate: &G,
+) -> u8
+    requires number { number ≤ 999_999 }
     ensures { SumsUp number (S.told sink.old) (S.faults sink.old) result (S.told sink.new) (S.faults sink.new) }
 {
     match generate(alloc, number) {
-        Ok(made) => sum_up(alloc, number, made, sink),
+        Ok(made) => sum_up(rt, alloc, number, made, sink, gate),
         Err(_) => put_line(sink, b"varan: memory\n", MEMORY),
     }
 }
 
 // Does what the words ask for, and says what it came to.
-fn answer<F: Files, S: Sink>(alloc: Global, words: &[String], files: &mut F, sink: &mut S) -> u8
+fn answer<R: Threads + Wait + Sync, F: Files, S: Sink, G: Gate + Sync>(
+    rt: &R,
+    alloc: Global,
+    words: &[String],
+    files: &mut F,
+    sink: &mut S,
+    gate: &G,
+) -> u8
     ensures { Answers (texts words.now) (source_of F.holds F.faults F.taken files.old files.new)
         (S.told sink.old) (S.faults sink.old) result (S.told sink.new) (S.faults sink.new) }
 {
     match nv_command::read(alloc, words) {
-        Ok(Command::Run(plan)) => do_run(alloc, files, sink, &plan),
+        Ok(Command::Run(plan)) => do_run(rt, alloc, files, sink, gate, &plan),
         Ok(Command::Use(job)) => run_job(alloc, files, sink, job.tool, job.file),
-        Ok(Command::Generate(number)) => do_generate(alloc, number, sink),
+        Ok(Command::Generate(number)) => do_generate(rt, alloc, number, sink, gate),
         Err(LineFault::Memory) => put_line(sink, b"varan: memory\n", MEMORY),
         Err(LineFault::Usage) => put_line(sink, b"varan: usage\n", USAGE),
     }
 }
 
-/// The monitor: it reads the words of a command line, does what they ask for and answers the status of the process.
-pub fn varan<F: Files, S: Sink, G: Gate>(
+/// The monitor: it reads the words of a command line, does what they ask for and answers the status of the process. A run
+/// has its versions beside each other on threads of the host, so the call may wait for them.
+pub fn varan<R: Threads + Wait + Sync, F: Files, S: Sink, G: Gate + Sync>(
+    rt: &R,
     alloc: Global,
     words: &Vec<String>,
     files: &mut F,
     sink: &mut S,
-    _gate: &G,
+    gate: &G,
 ) -> u8
     // It comes to an outcome that the words and the files owe, and says it: its status and what it writes are that outcome's.
     ensures answers { Answers (texts words.now.items) (source_of F.holds F.faults F.taken files.old files.new)
@@ -529,5 +569,5 @@ pub fn varan<F: Files, S: Sink, G: Gate>(
     // A file that is refused is named, unless a read failed before, the line can't be written or memory is wanted.
     ensures rejects { Rejects (texts words.now.items) (source_of F.holds F.faults F.taken files.old files.new) result }
 {
-    answer(alloc, words, files, sink)
+    answer(rt, alloc, words, files, sink, gate)
 }

@@ -4,7 +4,7 @@
 mod call;
 mod files;
 
-pub use call::{Answered, Outside, monitor};
+pub use call::{Answered, Outside, monitor, monitor_through};
 pub use files::{EXIT, HELLO, HELLO_TWICE, image, set};
 
 #[cfg(test)]

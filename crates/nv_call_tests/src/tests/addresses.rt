@@ -84,7 +84,7 @@ const BAD_ADDRESSES: &str = "
 
 #[test]
 fn bad_addresses(rt: HostRuntime) -> Result<(), Fail> {
-    let wrong = first_wrong(rt.alloc(), SCRIPT, "", 0, BAD_ADDRESSES)?;
+    let wrong = first_wrong(&rt, rt.alloc(), SCRIPT, "", 0, BAD_ADDRESSES)?;
     assert_eq!(rt; wrong, None);
     Ok(())
 }

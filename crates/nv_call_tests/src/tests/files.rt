@@ -76,7 +76,7 @@ const PATHS: &str = "
 fn paths(rt: HostRuntime) -> Result<(), Fail> {
     let before = ".word 56, -100, f, 0, 0, 0
 ";
-    let wrong = first_wrong(rt.alloc(), FILE, before, 1, PATHS)?;
+    let wrong = first_wrong(&rt, rt.alloc(), FILE, before, 1, PATHS)?;
     assert_eq!(rt; wrong, None);
     Ok(())
 }
@@ -193,7 +193,7 @@ fn one_of_each(rt: HostRuntime) -> Result<(), Fail> {
 .word 59, buffer, 0x80000, 0, 0, 0
 .word 57, 10, 0, 0, 0, 0
 ";
-    let wrong = first_wrong(rt.alloc(), FILE, before, 8, ONE_OF_EACH)?;
+    let wrong = first_wrong(&rt, rt.alloc(), FILE, before, 8, ONE_OF_EACH)?;
     assert_eq!(rt; wrong, None);
     Ok(())
 }
@@ -214,7 +214,7 @@ fn end_of_a_file(rt: HostRuntime) -> Result<(), Fail> {
 .word 62, 3, 0, 1048572, buffer, 0
 .word 56, -100, f, 0x401, 0, 0
 ";
-    let wrong = first_wrong(rt.alloc(), FILE, before, 3, END_OF_A_FILE)?;
+    let wrong = first_wrong(&rt, rt.alloc(), FILE, before, 3, END_OF_A_FILE)?;
     assert_eq!(rt; wrong, None);
     Ok(())
 }
@@ -235,7 +235,7 @@ fn past_the_end_of_a_file(rt: HostRuntime) -> Result<(), Fail> {
     let before = ".word 56, -100, f, 2, 0, 0
 .word 62, 3, 0, 1048576, buffer, 0
 ";
-    let wrong = first_wrong(rt.alloc(), FILE, before, 2, PAST_THE_END_OF_A_FILE)?;
+    let wrong = first_wrong(&rt, rt.alloc(), FILE, before, 2, PAST_THE_END_OF_A_FILE)?;
     assert_eq!(rt; wrong, None);
     Ok(())
 }
@@ -256,7 +256,7 @@ fn farthest_offset(rt: HostRuntime) -> Result<(), Fail> {
     let before = ".word 56, -100, f, 2, 0, 0
 .word 62, 3, 0, 0x7fffffff, buffer, 0
 ";
-    let wrong = first_wrong(rt.alloc(), FILE, before, 2, FARTHEST_OFFSET)?;
+    let wrong = first_wrong(&rt, rt.alloc(), FILE, before, 2, FARTHEST_OFFSET)?;
     assert_eq!(rt; wrong, None);
     Ok(())
 }
@@ -278,7 +278,7 @@ fn pipe_nearly_full(rt: HostRuntime) -> Result<(), Fail> {
     let before = ".word 59, buffer, 0, 0, 0, 0
 .word 64, 4, buffer, 4094, 0, 0
 ";
-    let wrong = first_wrong(rt.alloc(), SCRIPT, before, 2, PIPE_NEARLY_FULL)?;
+    let wrong = first_wrong(&rt, rt.alloc(), SCRIPT, before, 2, PIPE_NEARLY_FULL)?;
     assert_eq!(rt; wrong, None);
     Ok(())
 }
@@ -296,7 +296,7 @@ fn pipe_full_and_read(rt: HostRuntime) -> Result<(), Fail> {
 .word 64, 4, buffer, 4096, 0, 0
 .word 63, 3, buffer, 1, 0, 0
 ";
-    let wrong = first_wrong(rt.alloc(), SCRIPT, before, 3, PIPE_FULL_AND_READ)?;
+    let wrong = first_wrong(&rt, rt.alloc(), SCRIPT, before, 3, PIPE_FULL_AND_READ)?;
     assert_eq!(rt; wrong, None);
     Ok(())
 }

@@ -261,11 +261,11 @@ const CLONE: &str = "
 #[test]
 fn each_flag(rt: HostRuntime) -> Result<(), Fail> {
     for table in [OPENAT_OF_A_FILE, OPENAT_OF_NO_FILE, UNLINKAT] {
-        let wrong = first_wrong(rt.alloc(), FILE, "", 0, table)?;
+        let wrong = first_wrong(&rt, rt.alloc(), FILE, "", 0, table)?;
         assert_eq!(rt; wrong, None);
     }
     for table in [DUP3, PIPE2, GETRANDOM, CLONE] {
-        let wrong = first_wrong(rt.alloc(), SCRIPT, "", 0, table)?;
+        let wrong = first_wrong(&rt, rt.alloc(), SCRIPT, "", 0, table)?;
         assert_eq!(rt; wrong, None);
     }
     Ok(())

@@ -23,7 +23,7 @@ abababababab.. of 32768 bytes
 #[test]
 fn printf_and_malloc(rt: HostRuntime) -> Result<(), Fail> {
     let heap = unhex(rt.alloc(), HEAP.as_bytes())?.ok_or("hexadecimal")?;
-    let answered = run_file(rt.alloc(), HEAP_SCRIPT, &heap)?;
+    let answered = run_file(&rt, rt.alloc(), HEAP_SCRIPT, &heap)?;
     let front = front_of_report(rt.alloc(), HEAP_WRITES)?;
     let end = b"\nfates 1\n0 exited 3 seen 9 led 0-9 rewrites 0\n";
     assert_eq!(rt; answered.status, 0);
@@ -95,7 +95,7 @@ fn service_through_an_update(rt: HostRuntime) -> Result<(), Fail> {
     for (first, second, end) in PAIRS {
         let first = unhex(rt.alloc(), first.as_bytes())?.ok_or("hexadecimal")?;
         let second = unhex(rt.alloc(), second.as_bytes())?.ok_or("hexadecimal")?;
-        let answered = run_pair(rt.alloc(), SERVICE_SCRIPT, &first, &second)?;
+        let answered = run_pair(&rt, rt.alloc(), SERVICE_SCRIPT, &first, &second)?;
         assert_eq!(rt; answered.status, 0);
         assert!(rt; answered.written.starts_with(&front));
         assert!(rt; answered.written.ends_with(end));

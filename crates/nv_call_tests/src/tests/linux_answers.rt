@@ -10,7 +10,7 @@ fn answers_of_linux(rt: HostRuntime) -> Result<(), Fail> {
     for guests in groups {
         for guest in guests {
             let text = telling(rt.alloc(), guest.text)?;
-            let answered = run(rt.alloc(), SCRIPT, text.as_bytes())?;
+            let answered = run(&rt, rt.alloc(), SCRIPT, text.as_bytes())?;
             let front = front_of_report(rt.alloc(), guest.written)?;
             let name = guest.name;
             assert_eq!(rt; answered.status, 0, "{name}");
@@ -27,7 +27,7 @@ fn followers_of_guests(rt: HostRuntime) -> Result<(), Fail> {
     for guests in groups {
         for guest in guests {
             let text = telling(rt.alloc(), guest.text)?;
-            let answered = run_twice(rt.alloc(), SCRIPT, text.as_bytes())?;
+            let answered = run_twice(&rt, rt.alloc(), SCRIPT, text.as_bytes())?;
             let front = front_of_report(rt.alloc(), guest.written)?;
             let Guest { name, calls, .. } = *guest;
             let fates = format!(in rt.alloc();

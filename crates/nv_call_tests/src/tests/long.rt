@@ -100,7 +100,7 @@ calls: .word "
     ];
     for (call, line, digits, count) in cases {
         let table = format!(in rt.alloc(); "{data}{call}\n")?;
-        let answered = run_table(rt.alloc(), SCRIPT, table.as_str())?;
+        let answered = run_table(&rt, rt.alloc(), SCRIPT, table.as_str())?;
         let path = digits.repeat(rt.alloc(), count)?;
         let line = format!(in rt.alloc(); "{line} {path}")?;
         let end = end_of_report(rt.alloc(), 0, line.as_str())?;
@@ -127,7 +127,7 @@ fn names_of_the_machine(rt: HostRuntime) -> Result<(), Fail> {
         line.push_str(name)?;
         line.push_str(rest.as_str())?;
     }
-    let answered = run_table(rt.alloc(), SCRIPT, data)?;
+    let answered = run_table(&rt, rt.alloc(), SCRIPT, data)?;
     let end = end_of_report(rt.alloc(), 0, line.as_str())?;
     assert!(rt; answered.written.ends_with(end.as_bytes()));
     Ok(())

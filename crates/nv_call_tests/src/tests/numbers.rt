@@ -115,7 +115,7 @@ const NUMBERS_THAT_ARE_NOT_OPEN: &str = "
 
 #[test]
 fn numbers_that_are_not_open(rt: HostRuntime) -> Result<(), Fail> {
-    let wrong = first_wrong(rt.alloc(), SCRIPT, "", 0, NUMBERS_THAT_ARE_NOT_OPEN)?;
+    let wrong = first_wrong(&rt, rt.alloc(), SCRIPT, "", 0, NUMBERS_THAT_ARE_NOT_OPEN)?;
     assert_eq!(rt; wrong, None);
     Ok(())
 }
@@ -145,7 +145,7 @@ const NO_NUMBER_FREE: &str = "
 #[test]
 fn no_number_free(rt: HostRuntime) -> Result<(), Fail> {
     let mut before = ".word 23, 1, 0, 0, 0, 0\n".repeat(rt.alloc(), 61)?;
-    let wrong = first_wrong(rt.alloc(), FILE, before.as_str(), 61, NO_NUMBER_FREE)?;
+    let wrong = first_wrong(&rt, rt.alloc(), FILE, before.as_str(), 61, NO_NUMBER_FREE)?;
     assert_eq!(rt; wrong, None);
     Ok(())
 }
@@ -164,7 +164,7 @@ const ONE_NUMBER_FREE: &str = "
 #[test]
 fn one_number_free(rt: HostRuntime) -> Result<(), Fail> {
     let mut before = ".word 23, 1, 0, 0, 0, 0\n".repeat(rt.alloc(), 60)?;
-    let wrong = first_wrong(rt.alloc(), FILE, before.as_str(), 60, ONE_NUMBER_FREE)?;
+    let wrong = first_wrong(&rt, rt.alloc(), FILE, before.as_str(), 60, ONE_NUMBER_FREE)?;
     assert_eq!(rt; wrong, None);
     Ok(())
 }
@@ -180,7 +180,7 @@ const TWO_NUMBERS_FREE: &str = "
 fn two_numbers_free(rt: HostRuntime) -> Result<(), Fail> {
     let mut before = ".word 23, 1, 0, 0, 0, 0\n".repeat(rt.alloc(), 60)?;
     before.push_str(".word 57, 3, 0, 0, 0, 0\n")?;
-    let wrong = first_wrong(rt.alloc(), FILE, before.as_str(), 61, TWO_NUMBERS_FREE)?;
+    let wrong = first_wrong(&rt, rt.alloc(), FILE, before.as_str(), 61, TWO_NUMBERS_FREE)?;
     assert_eq!(rt; wrong, None);
     Ok(())
 }
@@ -235,7 +235,7 @@ const NUMBERS_OF_NO_CALL: &str = "
 
 #[test]
 fn numbers_of_no_call(rt: HostRuntime) -> Result<(), Fail> {
-    let wrong = first_wrong(rt.alloc(), SCRIPT, "", 0, NUMBERS_OF_NO_CALL)?;
+    let wrong = first_wrong(&rt, rt.alloc(), SCRIPT, "", 0, NUMBERS_OF_NO_CALL)?;
     assert_eq!(rt; wrong, None);
     Ok(())
 }
@@ -256,7 +256,7 @@ const WHAT_IS_THE_SAME_FOR_ALL: &str = "
 
 #[test]
 fn what_is_the_same_for_all(rt: HostRuntime) -> Result<(), Fail> {
-    let wrong = first_wrong(rt.alloc(), SCRIPT, "", 0, WHAT_IS_THE_SAME_FOR_ALL)?;
+    let wrong = first_wrong(&rt, rt.alloc(), SCRIPT, "", 0, WHAT_IS_THE_SAME_FOR_ALL)?;
     assert_eq!(rt; wrong, None);
     Ok(())
 }

@@ -75,7 +75,7 @@ fn script_faults(rt: HostRuntime) -> Result<(), Fail> {
         ),
     ];
     for (script, cause) in cases {
-        let answered = run(rt.alloc(), script, EXIT)?;
+        let answered = run(&rt, rt.alloc(), script, EXIT)?;
         let line = format!(in rt.alloc(); "varan: input s: {cause}\n")?;
         assert_eq!(rt; answered.written.as_slice(), line.as_bytes());
         assert_eq!(rt; answered.status, 4);
@@ -111,7 +111,7 @@ fn script_limits(rt: HostRuntime) -> Result<(), Fail> {
         )?,
     ];
     for script in &most {
-        let answered = run(rt.alloc(), script.as_bytes(), EXIT)?;
+        let answered = run(&rt, rt.alloc(), script.as_bytes(), EXIT)?;
         assert_eq!(rt; answered.status, 0);
     }
     let long = [
@@ -120,7 +120,7 @@ fn script_limits(rt: HostRuntime) -> Result<(), Fail> {
         (of_length(rt.alloc(), 1_048_577)?, "line 2 long"),
     ];
     for (script, cause) in &long {
-        let answered = run(rt.alloc(), script.as_bytes(), EXIT)?;
+        let answered = run(&rt, rt.alloc(), script.as_bytes(), EXIT)?;
         let line = format!(in rt.alloc(); "varan: input s: {cause}\n")?;
         assert_eq!(rt; answered.written.as_slice(), line.as_bytes());
         assert_eq!(rt; answered.status, 4);
@@ -136,7 +136,7 @@ fn all_files_kept(rt: HostRuntime) -> Result<(), Fail> {
         .word 56, -100, new, 0x41, 0, 0\n.word 56, -100, new, 0, 0, 0\n.word 56, -100, old, 0x41, 0, 0\n\
         .word 35, -100, old, 0, 0, 0\n.word 56, -100, new, 0x41, 0, 0\n.word 57, 3, 0, 0, 0, 0\n\
         .word 56, -100, new, 0x41, 0, 0\n.word 56, -100, old, 0x41, 0, 0\n";
-    let answered = run_table(rt.alloc(), script.as_bytes(), data)?;
+    let answered = run_table(&rt, rt.alloc(), script.as_bytes(), data)?;
     let report = b"output 0\n\nlog 9\n\
         0 100 56 4294967196 0 65 0 0 0 = -28 : 66323536\n\
         1 100 56 4294967196 0 0 0 0 0 = -2 : 66323536\n\

@@ -12,7 +12,7 @@ const NO_THREAD_FREE: &str = "
 #[test]
 fn no_thread_free(rt: HostRuntime) -> Result<(), Fail> {
     let before = ".word 220, 0x10f00, 0, 0, 0, 0\n".repeat(rt.alloc(), 7)?;
-    let wrong = first_wrong(rt.alloc(), SCRIPT, before.as_str(), 7, NO_THREAD_FREE)?;
+    let wrong = first_wrong(&rt, rt.alloc(), SCRIPT, before.as_str(), 7, NO_THREAD_FREE)?;
     assert_eq!(rt; wrong, None);
     Ok(())
 }
@@ -153,7 +153,7 @@ fn threads_come_and_go(rt: HostRuntime) -> Result<(), Fail> {
         (CHILDREN, CHILDREN_REPORT),
     ];
     for (text, report) in cases {
-        let answered = run(rt.alloc(), SCRIPT, text.as_bytes())?;
+        let answered = run(&rt, rt.alloc(), SCRIPT, text.as_bytes())?;
         assert_eq!(rt; answered.status, 0);
         assert_eq!(rt; answered.written.as_slice(), report.as_bytes());
     }
@@ -199,7 +199,7 @@ const OWN_ANSWERS: [i32; 26] = [
 #[test]
 fn own_calls(rt: HostRuntime) -> Result<(), Fail> {
     let text = telling(rt.alloc(), OWN_CALLS)?;
-    let answered = run(rt.alloc(), SCRIPT, text.as_bytes())?;
+    let answered = run(&rt, rt.alloc(), SCRIPT, text.as_bytes())?;
     let mut told = Vec::new(rt.alloc());
     for answer in OWN_ANSWERS {
         told.extend_from_slice(&answer.to_le_bytes())?;

@@ -19,7 +19,7 @@ fn dup_shares_the_offset(rt: HostRuntime) -> Result<(), Fail> {
 .word 63, 4, buffer, 2, 0, 0
 "
     )?;
-    let answered = run_table(rt.alloc(), FILE, data.as_str())?;
+    let answered = run_table(&rt, rt.alloc(), FILE, data.as_str())?;
     let report = "output 0
 
 log 5
@@ -53,7 +53,7 @@ fn files_and_pipes(rt: HostRuntime) -> Result<(), Fail> {
 .word 63, 5, buffer, 1, 0, 0
 "
     )?;
-    let answered = run_table(rt.alloc(), FILE, data.as_str())?;
+    let answered = run_table(&rt, rt.alloc(), FILE, data.as_str())?;
     let report = "output 0
 
 log 13
@@ -86,7 +86,7 @@ calls: .word 64, 1, bytes, 0, 0, 0
 .word 64, 1, bytes, 4096, 0, 0
 .word 64, 1, bytes, 4097, 0, 0
 ";
-    let answered = run_table(rt.alloc(), SCRIPT, data)?;
+    let answered = run_table(&rt, rt.alloc(), SCRIPT, data)?;
     let written = "\0".repeat(rt.alloc(), 8192)?;
     let bytes = "00".repeat(rt.alloc(), 4096)?;
     let report = format!(in rt.alloc();
@@ -121,7 +121,7 @@ fn extra_call_without_rules(rt: HostRuntime) -> Result<(), Fail> {
         ],
         b"",
     )?;
-    let answered = run_pair(rt.alloc(), SCRIPT, &first, &second)?;
+    let answered = run_pair(&rt, rt.alloc(), SCRIPT, &first, &second)?;
     let report = "output 0
 
 log 2
@@ -186,7 +186,7 @@ fn random_and_clock(rt: HostRuntime) -> Result<(), Fail> {
         ),
     ];
     for (script, [first, start, more, later]) in cases {
-        let answered = run_table(rt.alloc(), script, data.as_str())?;
+        let answered = run_table(&rt, rt.alloc(), script, data.as_str())?;
         let report = format!(in rt.alloc();
             "output 0
 
@@ -218,7 +218,7 @@ fn input_lines(rt: HostRuntime) -> Result<(), Fail> {
 "
     )?;
     let script = b"varan-script 1\nline ab\n# no input\ninput 00fF\nline \n";
-    let answered = run_table(rt.alloc(), script, data.as_str())?;
+    let answered = run_table(&rt, rt.alloc(), script, data.as_str())?;
     let report = "output 3
 ab
 
@@ -253,7 +253,7 @@ li a7, 94
 ecall
 ";
     let script = b"varan-script 1\narg one word\narg  2 \n";
-    let answered = run(rt.alloc(), script, text.as_bytes())?;
+    let answered = run(&rt, rt.alloc(), script, text.as_bytes())?;
     let report = "output 20
 \u{3}guest\0one word\0 2 \0
 log 3
@@ -281,7 +281,7 @@ fn exit_codes(rt: HostRuntime) -> Result<(), Fail> {
     ];
     for (call, spelt, code) in cases {
         let data = format!(in rt.alloc(); "{DATA}.word {call}, 1, 2, 3, 4\n")?;
-        let answered = run_table(rt.alloc(), SCRIPT, data.as_str())?;
+        let answered = run_table(&rt, rt.alloc(), SCRIPT, data.as_str())?;
         let report = format!(in rt.alloc();
             "output 0
 

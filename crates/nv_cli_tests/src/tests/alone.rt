@@ -1,12 +1,13 @@
-use super::{HELLO_REPORT, SCRIPT, run};
-use crate::{EXIT, HELLO, image};
+use super::{HELLO_REPORT, LINE, SCRIPT, run};
+use crate::{EXIT, HELLO, Outside, image, monitor_through};
+use nv_outside::OpenGate;
 use std::test::Fail;
 
 #[test]
 fn hello_alone(rt: HostRuntime) -> Result<(), Fail> {
     let version = image(rt.alloc(), &HELLO, b"hi\n")?;
     assert_eq!(rt; version.len(), 123);
-    let answered = run(rt.alloc(), SCRIPT, &version)?;
+    let answered = run(&rt, rt.alloc(), SCRIPT, &version)?;
     assert_eq!(rt; answered.status, 0);
     assert_eq!(rt; answered.written.as_slice(), HELLO_REPORT);
     Ok(())
@@ -15,7 +16,7 @@ fn hello_alone(rt: HostRuntime) -> Result<(), Fail> {
 #[test]
 fn exit_alone(rt: HostRuntime) -> Result<(), Fail> {
     let version = image(rt.alloc(), &EXIT, b"")?;
-    let answered = run(rt.alloc(), b"varan-script 1", &version)?;
+    let answered = run(&rt, rt.alloc(), b"varan-script 1", &version)?;
     assert_eq!(rt; answered.status, 0);
     let report =
         b"output 0\n\nlog 1\n0 100 94 0 0 0 0 0 0 = 0 :\nfates 1\n0 exited 0 seen 1 led 0-1 rewrites 0\n";
@@ -25,7 +26,7 @@ fn exit_alone(rt: HostRuntime) -> Result<(), Fail> {
 
 #[test]
 fn runs_that_break(rt: HostRuntime) -> Result<(), Fail> {
-    let breaks: [(&[u32], &[u8]); 11] = [
+    let breaks: [(&[u32], &[u8]); 10] = [
         (
             &[0x00000000],
             b"output 0\n\nlog 0\nfates 1\n0 fault illegal 100 00010000 seen 0 led 0-0 rewrites 0\n",
@@ -59,10 +60,6 @@ fn runs_that_break(rt: HostRuntime) -> Result<(), Fail> {
             b"output 0\n\nlog 0\nfates 1\n0 fault breakpoint 100 00010000 seen 0 led 0-0 rewrites 0\n",
         ),
         (
-            &[0x0000006f],
-            b"output 0\n\nlog 0\nfates 1\n0 fault budget 100 00010000 seen 0 led 0-0 rewrites 0\n",
-        ),
-        (
             &[0x0040006f],
             b"output 0\n\nlog 0\nfates 1\n0 fault fetch 100 00010004 seen 0 led 0-0 rewrites 0\n",
         ),
@@ -73,10 +70,29 @@ fn runs_that_break(rt: HostRuntime) -> Result<(), Fail> {
     ];
     for (words, report) in breaks {
         let version = image(rt.alloc(), words, b"")?;
-        let answered = run(rt.alloc(), SCRIPT, &version)?;
+        let answered = run(&rt, rt.alloc(), SCRIPT, &version)?;
         assert_eq!(rt; answered.status, 1);
         assert_eq!(rt; answered.written.as_slice(), report);
     }
+    Ok(())
+}
+
+// Ten million instructions, after which the version has made no call.
+#[test]
+fn usual_budget(rt: HostRuntime) -> Result<(), Fail> {
+    let version = image(rt.alloc(), &[0x0000006f], b"")?;
+    let files: [(&str, &[u8]); 2] = [("s", SCRIPT), ("v", &version)];
+    let outside = Outside {
+        files: &files,
+        failing_reads: &[],
+        most: 4096,
+        failing_writes: &[],
+    };
+    let answered = monitor_through(&rt, rt.alloc(), &LINE, outside, &OpenGate)?;
+    let report =
+        b"output 0\n\nlog 0\nfates 1\n0 fault budget 100 00010000 seen 0 led 0-0 rewrites 0\n";
+    assert_eq!(rt; answered.status, 1);
+    assert_eq!(rt; answered.written.as_slice(), report.as_slice());
     Ok(())
 }
 
@@ -86,7 +102,7 @@ fn writes_off_the_console(rt: HostRuntime) -> Result<(), Fail> {
     words[0] = 0x00000013;
     words[1] = 0x00000013;
     let version = image(rt.alloc(), &words, b"hi\n")?;
-    let answered = run(rt.alloc(), SCRIPT, &version)?;
+    let answered = run(&rt, rt.alloc(), SCRIPT, &version)?;
     let report =
         b"output 0\n\nlog 2\n0 100 64 1 0 3 0 0 0 = -14 :\n1 100 94 0 0 0 0 0 0 = 0 :\nfates 1\n0 exited 0 seen 2 led 0-2 rewrites 0\n";
     assert_eq!(rt;
@@ -97,7 +113,7 @@ fn writes_off_the_console(rt: HostRuntime) -> Result<(), Fail> {
     words = HELLO;
     words[2] = 0x00000513;
     let version = image(rt.alloc(), &words, b"hi\n")?;
-    let answered = run(rt.alloc(), SCRIPT, &version)?;
+    let answered = run(&rt, rt.alloc(), SCRIPT, &version)?;
     let report =
         b"output 0\n\nlog 2\n0 100 64 0 0 3 0 0 0 = -9 : 68690a\n1 100 94 0 0 0 0 0 0 = 0 :\nfates 1\n0 exited 0 seen 2 led 0-2 rewrites 0\n";
     assert_eq!(rt; answered.written.as_slice(), report.as_slice(), "the input");
@@ -109,7 +125,7 @@ fn writes_off_the_console(rt: HostRuntime) -> Result<(), Fail> {
 fn jump_clears_bit_zero(rt: HostRuntime) -> Result<(), Fail> {
     let words = [0x000102b7, 0x00d28067, 0x00100073, 0x05e00893, 0x00000073];
     let version = image(rt.alloc(), &words, b"")?;
-    let answered = run(rt.alloc(), SCRIPT, &version)?;
+    let answered = run(&rt, rt.alloc(), SCRIPT, &version)?;
     assert_eq!(rt; answered.status, 0);
     Ok(())
 }

@@ -1,6 +1,8 @@
 use crate::{Answered, Outside, monitor};
 use std::alloc::{AllocError, Global};
+use std::sync::Wait;
 use std::test::Fail;
+use std::thread::Threads;
 
 // The file of `li a7, 94` and `ecall`: the header and the code at 0x10000, which may be read and executed (GNU as).
 static FILE: [u8; 96] = [
@@ -13,7 +15,11 @@ static FILE: [u8; 96] = [
 ];
 
 // `varan asm a`, where `a` has this content.
-fn call(alloc: Global, content: &[u8]) -> Result<Answered, AllocError> {
+fn call<R: Threads + Wait + Sync>(
+    rt: &R,
+    alloc: Global,
+    content: &[u8],
+) -> Result<Answered, AllocError> {
     let files = [("a", content)];
     let outside = Outside {
         files: &files,
@@ -21,12 +27,12 @@ fn call(alloc: Global, content: &[u8]) -> Result<Answered, AllocError> {
         most: 4096,
         failing_writes: &[],
     };
-    monitor(alloc, &["varan", "asm", "a"], outside)
+    monitor(rt, alloc, &["varan", "asm", "a"], outside)
 }
 
 #[test]
 fn assembled_file(rt: HostRuntime) -> Result<(), Fail> {
-    let answered = call(rt.alloc(), b"li a7, 94\necall\n")?;
+    let answered = call(&rt, rt.alloc(), b"li a7, 94\necall\n")?;
     assert_eq!(rt; answered.status, 0);
     assert_eq!(rt; answered.written.as_slice(), FILE.as_slice());
     Ok(())
@@ -46,7 +52,7 @@ fn refused_texts(rt: HostRuntime) -> Result<(), Fail> {
         (b"", b"varan: input a: line 1 range\n"),
     ];
     for (content, line) in cases {
-        let answered = call(rt.alloc(), content)?;
+        let answered = call(&rt, rt.alloc(), content)?;
         assert_eq!(rt; answered.written.as_slice(), line);
         assert_eq!(rt; answered.status, 4);
     }
@@ -67,7 +73,7 @@ fn words_of_asm(rt: HostRuntime) -> Result<(), Fail> {
             most: 4096,
             failing_writes: &[],
         };
-        let answered = monitor(rt.alloc(), words, outside)?;
+        let answered = monitor(&rt, rt.alloc(), words, outside)?;
         assert_eq!(rt; answered.written.as_slice(), b"varan: usage\n".as_slice());
         assert_eq!(rt; answered.status, 2);
     }

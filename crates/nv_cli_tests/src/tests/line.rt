@@ -1,10 +1,17 @@
 use super::{HELLO_REPORT, SCRIPT};
 use crate::{Answered, EXIT, HELLO, Outside, image, monitor};
 use std::alloc::{AllocError, Global};
+use std::sync::Wait;
 use std::test::Fail;
+use std::thread::Threads;
 
 // A call of the monitor with a script `s` and a version `v`.
-fn call(alloc: Global, words: &[&str], version: &[u8]) -> Result<Answered, AllocError> {
+fn call<R: Threads + Wait + Sync>(
+    rt: &R,
+    alloc: Global,
+    words: &[&str],
+    version: &[u8],
+) -> Result<Answered, AllocError> {
     let files = [("s", SCRIPT), ("v", version)];
     let outside = Outside {
         files: &files,
@@ -12,13 +19,14 @@ fn call(alloc: Global, words: &[&str], version: &[u8]) -> Result<Answered, Alloc
         most: 4096,
         failing_writes: &[],
     };
-    monitor(alloc, words, outside)
+    monitor(rt, alloc, words, outside)
 }
 
 #[test]
 fn budget_and_call_limits(rt: HostRuntime) -> Result<(), Fail> {
     let endless = image(rt.alloc(), &[0x0000006f], b"")?;
     let answered = call(
+        &rt,
         rt.alloc(),
         &["varan", "run", "--script", "s", "--budget", "1000", "v"],
         &endless,
@@ -29,6 +37,7 @@ fn budget_and_call_limits(rt: HostRuntime) -> Result<(), Fail> {
     assert_eq!(rt; answered.written.as_slice(), report.as_slice());
     let calling = image(rt.alloc(), &[0x0ae00893, 0x00000073, 0xffdff06f], b"")?;
     let answered = call(
+        &rt,
         rt.alloc(),
         &["varan", "run", "--script", "s", "--calls", "3", "v"],
         &calling,
@@ -51,6 +60,7 @@ fn budget_and_call_limits(rt: HostRuntime) -> Result<(), Fail> {
 fn json_report(rt: HostRuntime) -> Result<(), Fail> {
     let version = image(rt.alloc(), &EXIT, b"")?;
     let answered = call(
+        &rt,
         rt.alloc(),
         &["varan", "run", "--script", "s", "--json", "v"],
         &version,
@@ -75,7 +85,7 @@ fn one_report(rt: HostRuntime) -> Result<(), Fail> {
         &["varan", "run", "--memory=135168", "--script=s", "v"],
     ];
     for words in lines {
-        let answered = call(rt.alloc(), words, &version)?;
+        let answered = call(&rt, rt.alloc(), words, &version)?;
         assert_eq!(rt; answered.status, 0);
         assert_eq!(rt; answered.written.as_slice(), HELLO_REPORT);
     }
@@ -87,6 +97,7 @@ fn one_report(rt: HostRuntime) -> Result<(), Fail> {
 fn least_memory(rt: HostRuntime) -> Result<(), Fail> {
     let version = image(rt.alloc(), &HELLO, b"hi\n")?;
     let answered = call(
+        &rt,
         rt.alloc(),
         &["varan", "run", "--script", "s", "--memory", "131072", "v"],
         &version,

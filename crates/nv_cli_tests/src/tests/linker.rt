@@ -39,7 +39,7 @@ fn linked(alloc: Global) -> Result<Vec<u8>, AllocError> {
 #[test]
 fn linker_made_file(rt: HostRuntime) -> Result<(), Fail> {
     let file = linked(rt.alloc())?;
-    let answered = run(rt.alloc(), SCRIPT, &file)?;
+    let answered = run(&rt, rt.alloc(), SCRIPT, &file)?;
     assert_eq!(rt;
         answered.written.as_slice(),
         b"output 0\n\nlog 2\n0 100 80 0 0 0 0 0 0 = -38 :\n1 100 94 0 0 0 0 0 0 = 0 :\nfates 1\n0 exited 0 seen 2 led 0-2 rewrites 0\n".as_slice()

@@ -1,5 +1,6 @@
 use super::{HELLO_REPORT, LINE, SCRIPT, run};
-use crate::{HELLO, Outside, image, monitor, set};
+use crate::{HELLO, Outside, image, monitor, monitor_through, set};
+use nv_outside::OpenGate;
 use std::test::Fail;
 
 #[test]
@@ -44,7 +45,7 @@ fn refused_files(rt: HostRuntime) -> Result<(), Fail> {
         ),
     ];
     for (script, version, line) in cases {
-        let answered = run(rt.alloc(), script, version)?;
+        let answered = run(&rt, rt.alloc(), script, version)?;
         assert_eq!(rt; answered.written.as_slice(), line);
         assert_eq!(rt; answered.status, 4);
     }
@@ -91,7 +92,7 @@ fn usage(rt: HostRuntime) -> Result<(), Fail> {
             most: 4096,
             failing_writes: &[],
         };
-        let answered = monitor(rt.alloc(), words, outside)?;
+        let answered = monitor(&rt, rt.alloc(), words, outside)?;
         assert_eq!(rt; answered.status, 2);
         assert_eq!(rt; answered.written.as_slice(), b"varan: usage\n".as_slice());
     }
@@ -115,7 +116,7 @@ fn read_faults(rt: HostRuntime) -> Result<(), Fail> {
             most: 4096,
             failing_writes: &[],
         };
-        let answered = monitor(rt.alloc(), &LINE, outside)?;
+        let answered = monitor(&rt, rt.alloc(), &LINE, outside)?;
         assert_eq!(rt; answered.status, 5);
         assert_eq!(rt; answered.written.as_slice(), line);
     }
@@ -135,7 +136,7 @@ fn write_faults(rt: HostRuntime) -> Result<(), Fail> {
             most: 1,
             failing_writes: &[call],
         };
-        let answered = monitor(rt.alloc(), &LINE, outside)?;
+        let answered = monitor_through(&rt, rt.alloc(), &LINE, outside, &OpenGate)?;
         assert_eq!(rt; answered.status, 6);
         assert_eq!(rt; answered.written.as_slice(), &HELLO_REPORT[..call as usize]);
     }
@@ -159,7 +160,7 @@ fn write_faults_of_lines(rt: HostRuntime) -> Result<(), Fail> {
                 most: 1,
                 failing_writes: &[call],
             };
-            let answered = monitor(rt.alloc(), words, outside)?;
+            let answered = monitor(&rt, rt.alloc(), words, outside)?;
             assert_eq!(rt; answered.status, 6);
             assert_eq!(rt; answered.written.as_slice(), &line[..call as usize]);
         }

@@ -1,6 +1,8 @@
 use crate::{Answered, Outside, monitor};
 use std::alloc::{AllocError, Global};
+use std::sync::Wait;
 use std::test::Fail;
+use std::thread::Threads;
 
 const RULES: &[u8] =
     b"ld event[0]\njeq #177, a, no\na: ld [0]\njeq #174, yes, no\nyes: ret #2147418112\nno: ret #0\n";
@@ -9,7 +11,12 @@ const FILTER: &[u8] =
     b"6\n32 0 0 64\n21 0 3 177\n32 0 0 0\n21 0 1 174\n6 0 0 2147418112\n6 0 0 0\n";
 
 // A call of the monitor with one file, `r`.
-fn call(alloc: Global, words: &[&str], content: &[u8]) -> Result<Answered, AllocError> {
+fn call<R: Threads + Wait + Sync>(
+    rt: &R,
+    alloc: Global,
+    words: &[&str],
+    content: &[u8],
+) -> Result<Answered, AllocError> {
     let files = [("r", content)];
     let outside = Outside {
         files: &files,
@@ -17,15 +24,15 @@ fn call(alloc: Global, words: &[&str], content: &[u8]) -> Result<Answered, Alloc
         most: 4096,
         failing_writes: &[],
     };
-    monitor(alloc, words, outside)
+    monitor(rt, alloc, words, outside)
 }
 
 #[test]
 fn rule_text(rt: HostRuntime) -> Result<(), Fail> {
-    let answered = call(rt.alloc(), &["varan", "rules", "--asm", "r"], RULES)?;
+    let answered = call(&rt, rt.alloc(), &["varan", "rules", "--asm", "r"], RULES)?;
     assert_eq!(rt; answered.status, 0);
     assert_eq!(rt; answered.written.as_slice(), FILTER);
-    let answered = call(rt.alloc(), &["varan", "rules", "r"], FILTER)?;
+    let answered = call(&rt, rt.alloc(), &["varan", "rules", "r"], FILTER)?;
     assert_eq!(rt; answered.status, 0);
     assert_eq!(rt; answered.written.as_slice(), b"ok 6\n".as_slice());
     Ok(())
@@ -55,12 +62,12 @@ fn refused_rule_files(rt: HostRuntime) -> Result<(), Fail> {
         ),
     ];
     for (content, line) in cases {
-        let answered = call(rt.alloc(), &["varan", "rules", "r"], content)?;
+        let answered = call(&rt, rt.alloc(), &["varan", "rules", "r"], content)?;
         assert_eq!(rt; answered.written.as_slice(), line);
         assert_eq!(rt; answered.status, 4);
     }
     let accepted = b"3\n0 0 0 7\n60 0 0 0\n6 0 0 2147418112\n";
-    let answered = call(rt.alloc(), &["varan", "rules", "r"], accepted)?;
+    let answered = call(&rt, rt.alloc(), &["varan", "rules", "r"], accepted)?;
     assert_eq!(rt; answered.written.as_slice(), b"ok 3\n".as_slice());
     Ok(())
 }
@@ -81,7 +88,7 @@ fn refused_rule_texts(rt: HostRuntime) -> Result<(), Fail> {
         (b"ld #1\n", b"varan: input r: no return\n"),
     ];
     for (content, line) in cases {
-        let answered = call(rt.alloc(), &["varan", "rules", "--asm", "r"], content)?;
+        let answered = call(&rt, rt.alloc(), &["varan", "rules", "--asm", "r"], content)?;
         assert_eq!(rt; answered.written.as_slice(), line);
         assert_eq!(rt; answered.status, 4);
     }
@@ -99,11 +106,11 @@ fn words_of_rules(rt: HostRuntime) -> Result<(), Fail> {
         &["varan", "rule", "r"],
     ];
     for words in lines {
-        let answered = call(rt.alloc(), words, FILTER)?;
+        let answered = call(&rt, rt.alloc(), words, FILTER)?;
         assert_eq!(rt; answered.status, 2);
         assert_eq!(rt; answered.written.as_slice(), b"varan: usage\n".as_slice());
     }
-    let answered = call(rt.alloc(), &["varan", "rules", "q"], FILTER)?;
+    let answered = call(&rt, rt.alloc(), &["varan", "rules", "q"], FILTER)?;
     assert_eq!(rt; answered.status, 5);
     assert_eq!(rt; answered.written.as_slice(), b"varan: read q\n".as_slice());
     Ok(())

@@ -1,12 +1,19 @@
 use super::SCRIPT;
 use crate::{Answered, HELLO, HELLO_TWICE, Outside, image, monitor};
 use std::alloc::{AllocError, Global};
+use std::sync::Wait;
 use std::test::Fail;
+use std::thread::Threads;
 
 const TEXT: &[u8] = b"hi\n";
 
 // A run of three version files, of which the words name some.
-fn run(alloc: Global, words: &[&str], versions: [&[u8]; 3]) -> Result<Answered, AllocError> {
+fn run<R: Threads + Wait + Sync>(
+    rt: &R,
+    alloc: Global,
+    words: &[&str],
+    versions: [&[u8]; 3],
+) -> Result<Answered, AllocError> {
     let [first, second, third] = versions;
     let files = [("s", SCRIPT), ("a", first), ("b", second), ("c", third)];
     let outside = Outside {
@@ -15,14 +22,20 @@ fn run(alloc: Global, words: &[&str], versions: [&[u8]; 3]) -> Result<Answered, 
         most: 4096,
         failing_writes: &[],
     };
-    monitor(alloc, words, outside)
+    monitor(rt, alloc, words, outside)
 }
 
 // A run of two versions of these instructions, with the text behind them.
-fn pair(alloc: Global, first: &[u32], second: &[u32]) -> Result<Answered, AllocError> {
+fn pair<R: Threads + Wait + Sync>(
+    rt: &R,
+    alloc: Global,
+    first: &[u32],
+    second: &[u32],
+) -> Result<Answered, AllocError> {
     let first = image(alloc, first, TEXT)?;
     let second = image(alloc, second, TEXT)?;
     run(
+        rt,
         alloc,
         &["varan", "run", "--script", "s", "a", "b"],
         [&first, &second, b""],
@@ -31,7 +44,7 @@ fn pair(alloc: Global, first: &[u32], second: &[u32]) -> Result<Answered, AllocE
 
 #[test]
 fn hello_twice(rt: HostRuntime) -> Result<(), Fail> {
-    let answered = pair(rt.alloc(), &HELLO, &HELLO)?;
+    let answered = pair(&rt, rt.alloc(), &HELLO, &HELLO)?;
     let report =
         b"output 3\nhi\n\nlog 2\n0 100 64 1 0 3 0 0 0 = 3 : 68690a\n1 100 94 0 0 0 0 0 0 = 0 :\nfates 2\n0 exited 0 seen 2 led 0-2 rewrites 0\n1 exited 0 seen 2 led - rewrites 0\n";
     assert_eq!(rt; answered.status, 0);
@@ -45,7 +58,7 @@ fn load_fault_changes_leader(rt: HostRuntime) -> Result<(), Fail> {
         0x000105b7, 0x02458593, 0x00100513, 0x00300613, 0x04000893, 0x00000073, 0x00100513,
         0x00000073, 0x00002503,
     ];
-    let answered = pair(rt.alloc(), &load, &HELLO_TWICE)?;
+    let answered = pair(&rt, rt.alloc(), &load, &HELLO_TWICE)?;
     let report =
         b"output 6\nhi\nhi\n\nlog 3\n0 100 64 1 0 3 0 0 0 = 3 : 68690a\n1 100 64 1 0 3 0 0 0 = 3 : 68690a\n2 100 94 0 0 0 0 0 0 = 0 :\nfates 2\n0 fault load 100 00010020 seen 2 led 0-2 rewrites 0\n1 exited 0 seen 3 led 2-3 rewrites 0\n";
     assert_eq!(rt; answered.status, 0);
@@ -55,7 +68,7 @@ fn load_fault_changes_leader(rt: HostRuntime) -> Result<(), Fail> {
 
 #[test]
 fn illegal_at_start_changes_leader(rt: HostRuntime) -> Result<(), Fail> {
-    let answered = pair(rt.alloc(), &[0x00000000], &HELLO)?;
+    let answered = pair(&rt, rt.alloc(), &[0x00000000], &HELLO)?;
     let report =
         b"output 3\nhi\n\nlog 2\n0 100 64 1 0 3 0 0 0 = 3 : 68690a\n1 100 94 0 0 0 0 0 0 = 0 :\nfates 2\n0 fault illegal 100 00010000 seen 0 led 0-0 rewrites 0\n1 exited 0 seen 2 led 0-2 rewrites 0\n";
     assert_eq!(rt; answered.status, 0);
@@ -65,7 +78,7 @@ fn illegal_at_start_changes_leader(rt: HostRuntime) -> Result<(), Fail> {
 
 #[test]
 fn extra_call_without_rules(rt: HostRuntime) -> Result<(), Fail> {
-    let answered = pair(rt.alloc(), &HELLO, &HELLO_TWICE)?;
+    let answered = pair(&rt, rt.alloc(), &HELLO, &HELLO_TWICE)?;
     let report =
         b"output 3\nhi\n\nlog 2\n0 100 64 1 0 3 0 0 0 = 3 : 68690a\n1 100 94 0 0 0 0 0 0 = 0 :\nfates 2\n0 exited 0 seen 2 led 0-2 rewrites 0\n1 refused 100 64 1 00000000 seen 1 led - rewrites 0\n";
     assert_eq!(rt; answered.status, 0);
@@ -78,7 +91,7 @@ fn bad_address(rt: HostRuntime) -> Result<(), Fail> {
     let mut words = HELLO;
     words[0] = 0x00000013;
     words[1] = 0x00000013;
-    let answered = pair(rt.alloc(), &HELLO, &words)?;
+    let answered = pair(&rt, rt.alloc(), &HELLO, &words)?;
     let report =
         b"output 3\nhi\n\nlog 2\n0 100 64 1 0 3 0 0 0 = 3 : 68690a\n1 100 94 0 0 0 0 0 0 = 0 :\nfates 2\n0 exited 0 seen 2 led 0-2 rewrites 0\n1 refused 100 64 0 00000000 seen 0 led - rewrites 0\n";
     assert_eq!(rt; answered.status, 0);
@@ -90,7 +103,7 @@ fn bad_address(rt: HostRuntime) -> Result<(), Fail> {
 fn all_versions_break(rt: HostRuntime) -> Result<(), Fail> {
     let broken = image(rt.alloc(), &[0x00100073], b"")?;
     let words = ["varan", "run", "--script", "s", "a", "b", "c"];
-    let answered = run(rt.alloc(), &words, [&broken, &broken, &broken])?;
+    let answered = run(&rt, rt.alloc(), &words, [&broken, &broken, &broken])?;
     let report =
         b"output 0\n\nlog 0\nfates 3\n0 fault breakpoint 100 00010000 seen 0 led 0-0 rewrites 0\n1 fault breakpoint 100 00010000 seen 0 led 0-0 rewrites 0\n2 fault breakpoint 100 00010000 seen 0 led 0-0 rewrites 0\n";
     assert_eq!(rt; answered.status, 1);
@@ -121,7 +134,7 @@ fn first_refused_file(rt: HostRuntime) -> Result<(), Fail> {
     ];
     let zeros = [0; 64];
     for (words, line, status) in cases {
-        let answered = run(rt.alloc(), words, [&hello, b"", &zeros])?;
+        let answered = run(&rt, rt.alloc(), words, [&hello, b"", &zeros])?;
         assert_eq!(rt; answered.status, status);
         assert_eq!(rt; answered.written.as_slice(), line);
     }
@@ -134,7 +147,7 @@ fn eight_versions(rt: HostRuntime) -> Result<(), Fail> {
     let words = [
         "varan", "run", "--script", "s", "a", "a", "a", "a", "a", "a", "a", "a",
     ];
-    let answered = run(rt.alloc(), &words, [&hello, b"", b""])?;
+    let answered = run(&rt, rt.alloc(), &words, [&hello, b"", b""])?;
     let report =
         b"output 3\nhi\n\nlog 2\n0 100 64 1 0 3 0 0 0 = 3 : 68690a\n1 100 94 0 0 0 0 0 0 = 0 :\nfates 8\n0 exited 0 seen 2 led 0-2 rewrites 0\n1 exited 0 seen 2 led - rewrites 0\n2 exited 0 seen 2 led - rewrites 0\n3 exited 0 seen 2 led - rewrites 0\n4 exited 0 seen 2 led - rewrites 0\n5 exited 0 seen 2 led - rewrites 0\n6 exited 0 seen 2 led - rewrites 0\n7 exited 0 seen 2 led - rewrites 0\n";
     assert_eq!(rt; answered.status, 0);

@@ -1,7 +1,9 @@
 use super::{SCRIPT, run};
 use crate::{Answered, Outside, monitor};
 use std::alloc::{AllocError, Global};
+use std::sync::Wait;
 use std::test::Fail;
+use std::thread::Threads;
 
 // Makes a thread, which begins at `child`.
 const MAKES_A_THREAD: &str = "li a0, 69376
@@ -126,19 +128,27 @@ jalr zero, 0(ra)
 ";
 
 // The version of an assembler text.
-fn assembled(alloc: Global, text: &str) -> Result<Vec<u8>, AllocError> {
+fn assembled<R: Threads + Wait + Sync>(
+    rt: &R,
+    alloc: Global,
+    text: &str,
+) -> Result<Vec<u8>, AllocError> {
     let outside = Outside {
         files: &[("a", text.as_bytes())],
         failing_reads: &[],
         most: 4096,
         failing_writes: &[],
     };
-    let made = monitor(alloc, &["varan", "asm", "a"], outside)?;
+    let made = monitor(rt, alloc, &["varan", "asm", "a"], outside)?;
     Ok(made.written)
 }
 
 // A run of two versions.
-fn run_pair(alloc: Global, versions: [&[u8]; 2]) -> Result<Answered, AllocError> {
+fn run_pair<R: Threads + Wait + Sync>(
+    rt: &R,
+    alloc: Global,
+    versions: [&[u8]; 2],
+) -> Result<Answered, AllocError> {
     let [first, second] = versions;
     let files = [("s", SCRIPT), ("a", first), ("b", second)];
     let outside = Outside {
@@ -147,14 +157,24 @@ fn run_pair(alloc: Global, versions: [&[u8]; 2]) -> Result<Answered, AllocError>
         most: 4096,
         failing_writes: &[],
     };
-    monitor(alloc, &["varan", "run", "--script", "s", "a", "b"], outside)
+    monitor(
+        rt,
+        alloc,
+        &["varan", "run", "--script", "s", "a", "b"],
+        outside,
+    )
 }
 
 // A run of the versions of two assembler texts.
-fn pair(alloc: Global, first: &str, second: &str) -> Result<Answered, AllocError> {
-    let first = assembled(alloc, first)?;
-    let second = assembled(alloc, second)?;
-    run_pair(alloc, [&first, &second])
+fn pair<R: Threads + Wait + Sync>(
+    rt: &R,
+    alloc: Global,
+    first: &str,
+    second: &str,
+) -> Result<Answered, AllocError> {
+    let first = assembled(rt, alloc, first)?;
+    let second = assembled(rt, alloc, second)?;
+    run_pair(rt, alloc, [&first, &second])
 }
 
 // The second version's thread asks before the first version's first thread has written.
@@ -162,7 +182,7 @@ fn pair(alloc: Global, first: &str, second: &str) -> Result<Answered, AllocError
 fn two_guest_threads(rt: HostRuntime) -> Result<(), Fail> {
     let first = format!(in rt.alloc(); "{MAKES_A_THREAD}{BOTH_WRITE}")?;
     let second = format!(in rt.alloc(); "{MAKES_A_THREAD}{COUNTS_DOWN}{BOTH_WRITE}")?;
-    let answered = pair(rt.alloc(), first.as_str(), second.as_str())?;
+    let answered = pair(&rt, rt.alloc(), first.as_str(), second.as_str())?;
     let report =
         b"output 4\na\nb\n\nlog 5\n0 100 220 69376 0 0 0 0 0 = 101 :\n1 100 64 1 0 2 0 0 0 = 2 : 610a\n2 100 93 0 0 0 0 0 0 = 0 :\n3 101 64 1 0 2 0 0 0 = 2 : 620a\n4 101 94 0 0 0 0 0 0 = 0 :\nfates 2\n0 exited 0 seen 5 led 0-5 rewrites 0\n1 exited 0 seen 5 led - rewrites 0\n";
     assert_eq!(rt; answered.status, 0);
@@ -173,7 +193,7 @@ fn two_guest_threads(rt: HostRuntime) -> Result<(), Fail> {
 #[test]
 fn futex_hands_over(rt: HostRuntime) -> Result<(), Fail> {
     let text = format!(in rt.alloc(); "{MAKES_A_THREAD}{HANDS_OVER}")?;
-    let answered = pair(rt.alloc(), text.as_str(), text.as_str())?;
+    let answered = pair(&rt, rt.alloc(), text.as_str(), text.as_str())?;
     let report =
         b"output 4\na\nb\n\nlog 5\n0 100 220 69376 0 0 0 0 0 = 101 :\n1 101 64 1 0 2 0 0 0 = 2 : 610a\n2 101 93 1 0 0 0 0 0 = 0 :\n3 100 64 1 0 2 0 0 0 = 2 : 620a\n4 100 94 4294967285 0 0 0 0 0 = 0 :\nfates 2\n0 exited 245 seen 5 led 0-5 rewrites 0\n1 exited 245 seen 5 led - rewrites 0\n";
     assert_eq!(rt; answered.status, 0);
@@ -197,8 +217,8 @@ fn lone_threads(rt: HostRuntime) -> Result<(), Fail> {
         ),
     ];
     for (text, status, report) in cases {
-        let version = assembled(rt.alloc(), text)?;
-        let answered = run(rt.alloc(), SCRIPT, &version)?;
+        let version = assembled(&rt, rt.alloc(), text)?;
+        let answered = run(&rt, rt.alloc(), SCRIPT, &version)?;
         assert_eq!(rt; answered.status, status);
         assert_eq!(rt; answered.written.as_slice(), report);
     }

@@ -7,7 +7,7 @@ never : Rose 0 0 → ⊥
 never r = omega arith
 
 pub returns : goal.returns
-returns c =
+returns g c =
     let said = c.varan.ensures in
     record {
       answers = said.answers;

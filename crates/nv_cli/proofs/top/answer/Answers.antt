@@ -38,8 +38,8 @@ returns-in-Err-Usage g c =
       says = c.put_line-in-Err-Usage.ensures;
     }
 
-pub do_generate-requires : goal.do_generate-requires
-do_generate-requires g c =
+pub do_generate-requires-clause-number : goal.do_generate-requires-clause-number
+do_generate-requires-clause-number g c κs within =
     generated_within (texts c.args.words.now) c.in-Ok-Generate.number (c.in-Ok-Generate.ensures.command ∙ ap (λ (x : Command). Some (command_view x)) c.in-Ok-Generate.field-0-is)
 
 pub returns-in-Ok-Generate : goal.returns-in-Ok-Generate

@@ -1,52 +1,44 @@
-use Rattle.std.proofs.Common.{◌∙◌, ◌++◌, ap, subst, codes, List, map, option_map}
+use Rattle.std.proofs.Common.{◌++◌, codes, inl, inr, ⊎_elim, subst, map, option_map}
 use Rattle.nv_calls.specs.Logs.{Start, output_of}
-use Rattle.nv_kernel.specs.Serving.{start_of_script}
-use Rattle.nv_replay.specs.Follow.{judge_of}
-use Rattle.nv_replay.specs.Sequence.{sequence, cuts_of}
+use Rattle.nv_command.specs.Seen.{limits_view}
 use Rattle.nv_replay.specs.Versions.{standing_of}
 use Rattle.nv_report.specs.Json.{json_text}
 use Rattle.nv_report.specs.Report.{report_text}
-use Rattle.nv_replay.specs.Alone.{SurvivorsAgree}
-use Rattle.nv_threads.specs.Threads.{Proc, threads}
 use Rattle.nv_cli.specs.Account.{run_status}
 use Rattle.nv_cli.specs.Due.{Says}
 use Rattle.nv_cli.specs.Ran.{Wrote}
+use Rattle.nv_cli.proofs.Running.{run_of}
 use Rattle.nv_cli.proofs.top.run_versions.Goals as goal
 
 pub returns-then-json : goal.returns-then-json
 returns-then-json g c = λ machines are.
-    let log = c.run-account.result.kernel.log in
-    let lines = map standing_of c.run-account.result.versions.items in
-    let start = start_of_script c.args.kernel.setup in
-    let judges = judge_of (option_map (λ f. f.now) c.args.rules) in
-    record {
+    let log = c.in-Ok.account.kernel.log in
+    let lines = map standing_of c.in-Ok.account.versions.items in
+    let setup = c.args.kernel.setup in
+    let limits = limits_view c.args.limits in
+    let rules = option_map (λ f. f.now) c.args.rules in
+    let says = subst
+    (λ (s : Start). Wrote (json_text (output_of s log) (record { log = log; lines = lines }) ++ codes "\n")
+    (run_status lines) (g.S.Sink.told c.args.sink.now) (g.S.Sink.faults c.args.sink.now) c.put_json.result (g.S.Sink.told c.put_json.new.sink) (g.S.Sink.faults c.put_json.new.sink))
+    c.in-Ok.ensures.start c.put_json.ensures in
+    ⊎_elim (λ said. inl (record {
       account = record { log = log; lines = lines };
-      is_run = record {
-        is_account = c.run-account.ensures.account ∙ ap (λ (ps : List Proc). sequence threads judges start c.args.limits.calls (cuts_of lines) ps) are;
-        settled = c.run-account.ensures.settled;
-        survivor = subst (λ (ps : List Proc). SurvivorsAgree threads start c.args.limits.calls ps lines log) are c.run-account.ensures.survivor;
-      };
-      says = rw c.if-json.true (subst
-          (λ (s : Start). Wrote (json_text (output_of s log) (record { log = log; lines = lines }) ++ codes "\n")
-          (run_status lines) (g.S.Sink.told c.args.sink.now) (g.S.Sink.faults c.args.sink.now) c.put_json.result (g.S.Sink.told c.put_json.new.sink) (g.S.Sink.faults c.put_json.new.sink))
-          c.run-account.ensures.start c.put_json.ensures);
-    }
+      is_run = run_of limits setup rules machines c.args.versions.items c.in-Ok.account.versions.items log c.in-Ok.ensures.account are;
+      says = rw c.if-json.true said;
+    })) inr says
 
 pub returns : goal.returns
 returns g c = λ machines are.
-    let log = c.run-account.result.kernel.log in
-    let lines = map standing_of c.run-account.result.versions.items in
-    let start = start_of_script c.args.kernel.setup in
-    let judges = judge_of (option_map (λ f. f.now) c.args.rules) in
-    record {
+    let log = c.in-Ok.account.kernel.log in
+    let lines = map standing_of c.in-Ok.account.versions.items in
+    let setup = c.args.kernel.setup in
+    let limits = limits_view c.args.limits in
+    let rules = option_map (λ f. f.now) c.args.rules in
+    inl (record {
       account = record { log = log; lines = lines };
-      is_run = record {
-        is_account = c.run-account.ensures.account ∙ ap (λ (ps : List Proc). sequence threads judges start c.args.limits.calls (cuts_of lines) ps) are;
-        settled = c.run-account.ensures.settled;
-        survivor = subst (λ (ps : List Proc). SurvivorsAgree threads start c.args.limits.calls ps lines log) are c.run-account.ensures.survivor;
-      };
+      is_run = run_of limits setup rules machines c.args.versions.items c.in-Ok.account.versions.items log c.in-Ok.ensures.account are;
       says = rw c.if-json.false (subst
           (λ (s : Start). Says (report_text (output_of s log) (record { log = log; lines = lines }))
           (run_status lines) (g.S.Sink.told c.args.sink.now) (g.S.Sink.faults c.args.sink.now) c.put_report.result (g.S.Sink.told c.put_report.new.sink) (g.S.Sink.faults c.put_report.new.sink))
-          c.run-account.ensures.start c.put_report.ensures);
-    }
+          c.in-Ok.ensures.start c.put_report.ensures);
+    })

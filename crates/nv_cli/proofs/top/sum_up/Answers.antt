@@ -15,32 +15,36 @@ use Rattle.nv_cli.specs.Outcome.{NoMemory, Summed, told}
 use Rattle.nv_cli.proofs.Generating.{few_lines, made_owes}
 use Rattle.nv_cli.proofs.top.sum_up.Goals as goal
 
+pub returns-in_default : goal.returns-in_default
+returns-in_default g c = record { outcome = NoMemory; owed = inr refl; says = c.put_line.ensures }
+
 pub returns-then-starved : goal.returns-then-starved
-returns-then-starved g c = record { outcome = NoMemory; owed = inr refl; says = c.put_line.ensures }
+returns-then-starved g c = record { outcome = NoMemory; owed = inr refl; says = c.put_line-then-starved.ensures }
 
 pub outcome-requires-after_bounds : goal.outcome-requires-after_bounds
 outcome-requires-after_bounds g c κs =
     few_lines (judge_of (option_map (λ f. f.now) c.as_ref.result)) (start_of_script c.args.made.kernel.setup) c.usual-limits.result.calls
-    (cuts_of (map standing_of c.run-account.result.versions.items)) c.args.made.versions.items c.run-account.result.versions.items c.run-account.result.kernel.log
-    c.run-account.ensures.account c.requires.few
+    (cuts_of (map standing_of c.in-Ok.account.versions.items)) c.args.made.versions.items c.in-Ok.account.versions.items c.in-Ok.account.kernel.log
+    c.in-Ok.ensures.account.account c.requires.few
 
-pub returns-in-Ok : goal.returns-in-Ok
-returns-in-Ok g c =
+pub returns-in-Ok-summary : goal.returns-in-Ok-summary
+returns-in-Ok-summary g c =
     let n = c.args.number in
     let setup = c.args.made.kernel.setup in
-    let log = c.run-account.result.kernel.log in
-    let lines = map standing_of c.run-account.result.versions.items in
+    let log = c.in-Ok.account.kernel.log in
+    let lines = map standing_of c.in-Ok.account.versions.items in
     let account : Account = record { log = log; lines = lines } in
+    let run = c.in-Ok.ensures.account in
     let never : list_any (λ line. is_memory line.fate) lines ≡ false =
     ap (λ (versions : List (Running Proc)). list_any (λ line. is_memory line.fate) (map standing_of versions)) (sym c.deref.ensures.value) ∙ sym c.starved.ensures ∙ c.if-starved.false in
-    let text : c.deref-in-Ok.result.now ≡ summary n (told (output_of (start_of_script setup) log) account) =
-    c.deref-in-Ok.ensures.value ∙ c.in-Ok.ensures ∙ ap (summary n) (c.outcome.ensures ∙ ap (λ (start : Start). told (output_of start log) account) c.run-account.ensures.start) in
+    let text : c.deref-in-Ok-summary.result.now ≡ summary n (told (output_of (start_of_script setup) log) account) =
+    c.deref-in-Ok-summary.ensures.value ∙ c.in-Ok-summary.ensures ∙ ap (summary n) (c.outcome.ensures ∙ ap (λ (start : Start). told (output_of start log) account) c.in-Ok.ensures.start) in
     record {
       outcome = Summed n setup account;
       owed = inl (made_owes n setup c.args.made.rules (option_map (λ f. f.now) c.as_ref.result) c.requires.machines _ (limits_view c.usual-limits.result) account c.requires.run
-          c.as_ref.ensures.value c.usual-limits.ensures c.requires.processes c.run-account.ensures.account c.run-account.ensures.settled c.run-account.ensures.survivor never);
-      says = subst (λ (line : List ℕ). Says line 0 (g.S.Sink.told c.args.sink.now) (g.S.Sink.faults c.args.sink.now) c.put_line-in-Ok.result (g.S.Sink.told c.put_line-in-Ok.new.sink) (g.S.Sink.faults c.put_line-in-Ok.new.sink))
-          text c.put_line-in-Ok.ensures;
+          c.as_ref.ensures.value c.usual-limits.ensures c.requires.processes run.account run.settled run.survivor never);
+      says = subst (λ (line : List ℕ). Says line 0 (g.S.Sink.told c.args.sink.now) (g.S.Sink.faults c.args.sink.now) c.put_line-in-Ok-summary.result (g.S.Sink.told c.put_line-in-Ok-summary.new.sink) (g.S.Sink.faults c.put_line-in-Ok-summary.new.sink))
+          text c.put_line-in-Ok-summary.ensures;
     }
 
 pub returns : goal.returns

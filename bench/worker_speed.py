@@ -1,0 +1,151 @@
+#!/usr/bin/env python3
+"""How versions run beside each other.
+
+The built program runs guests of this script, from outside; each figure is the median of five runs, and each ratio is of figures that were
+taken in turns. Build the program first: `cd crates/varan && rt run -- run --script data/s data/v`. With `--before PROGRAM` the last table
+also times another build of the program, as one from before a change.
+
+- Versions that compute and make one call, and versions that write 65,535 bytes, one a call: k equal ones against one.
+- The same writes on one thread, and over rings of 2, 256 and 1,024 places.
+- A leader beside a slow follower: the leader makes 1,000 calls at once and then computes; the follower computes as much, a part before each
+  call. Where the leader waits for nobody the run takes as long as the follower computes, and else as long as both.
+- Seven followers that wait for a leader which computes: the processor time of all against the wall time.
+"""
+import os
+import resource
+import statistics
+import struct
+import subprocess
+import sys
+import tempfile
+import time
+
+TOP = os.path.dirname(os.path.dirname(os.path.abspath(__file__)))
+PROGRAM = os.path.join(TOP, "crates", "varan", "out", "varan")
+RUNS = 5
+
+ZERO, A0, A1, A2, A7, S0, S1, T0 = 0, 10, 11, 12, 17, 8, 9, 5
+ECALL = 0x00000073
+
+
+def addi(rd, rs1, imm):
+    return ((imm & 0xFFF) << 20) | (rs1 << 15) | (rd << 7) | 0x13
+
+
+def lui(rd, upper):
+    return ((upper & 0xFFFFF) << 12) | (rd << 7) | 0x37
+
+
+def bne(rs1, rs2, offset):
+    o = offset & 0x1FFF
+    return ((o >> 12 & 1) << 31) | ((o >> 5 & 63) << 25) | (rs2 << 20) | (rs1 << 15) | (1 << 12) | ((o >> 1 & 15) << 8) | ((o >> 11 & 1) << 7) | 0x63
+
+
+def load(rd, value):
+    upper = (value + 0x800) >> 12
+    return [lui(rd, upper), addi(rd, rd, value - (upper << 12))]
+
+
+def loop(counter, count, body):
+    """The body, so many times."""
+    return load(counter, count) + body + [addi(counter, counter, -1), bne(counter, ZERO, -4 * (len(body) + 1))]
+
+
+def compute(count):
+    return loop(T0, count, [])
+
+
+EXIT = [addi(A0, ZERO, 0), addi(A7, ZERO, 94), ECALL]
+ASK = [addi(A7, ZERO, 174), ECALL]
+
+
+def image(words, tail=b""):
+    """A version file: one segment with the rights read and execute at 0x10000, with the entry there."""
+    code = b"".join(struct.pack("<I", word) for word in words) + tail
+    head = bytes.fromhex("7F454C46010101000000000000000000") + struct.pack(
+        "<HHIIIIIHHHHHH", 2, 243, 1, 0x10000, 52, 0, 0, 52, 32, 1, 0, 0, 0)
+    table = struct.pack("<IIIIIIII", 1, 84, 0x10000, 0x10000, len(code), len(code), 5, 4)
+    return head + table + code
+
+
+def writes(count):
+    """Writes the byte behind the code, so often."""
+    once = [addi(A0, ZERO, 1), addi(A7, ZERO, 64), ECALL]
+    words = [lui(A1, 0x10), 0, addi(A2, ZERO, 1)] + loop(S0, count, once) + EXIT
+    words[1] = addi(A1, A1, 4 * len(words))
+    return image(words, b"x")
+
+
+# Instructions of a guest that computes: two a turn of its loop.
+TURNS = 150_000_000
+CALLS = 1_000
+
+GUESTS = {
+    "computes": image(compute(TURNS) + EXIT),
+    "writes": writes(65_535),
+    "early": image(loop(S0, CALLS, ASK) + compute(TURNS) + EXIT),
+    "between": image(loop(S0, CALLS, compute(TURNS // CALLS) + ASK) + EXIT),
+    "slow": image(loop(S0, 10, compute(TURNS // 10) + ASK) + EXIT),
+    "quick": image(loop(S0, 10, ASK) + EXIT),
+}
+
+
+class Bench:
+    def __init__(self, folder):
+        self.folder = folder
+        for name, content in list(GUESTS.items()) + [("s", b"varan-script 1\n")]:
+            with open(os.path.join(folder, name), "wb") as file:
+                file.write(content)
+
+    def once(self, guests, options=(), program=PROGRAM):
+        words = [program, "run", "--script", os.path.join(self.folder, "s"), "--budget", "1000000000"]
+        words += list(options) + [os.path.join(self.folder, guest) for guest in guests]
+        before = resource.getrusage(resource.RUSAGE_CHILDREN)
+        begun = time.perf_counter()
+        with open(os.path.join(self.folder, "report"), "wb") as report:
+            status = subprocess.run(words, stdout=report).returncode
+        took = time.perf_counter() - begun
+        after = resource.getrusage(resource.RUSAGE_CHILDREN)
+        if status != 0:
+            sys.exit(f"status {status} of {words}")
+        with open(os.path.join(self.folder, "report"), "rb") as report:
+            fates = report.read().split(b"fates ")[1].splitlines()[1:]
+        if len(fates) != len(guests) or not all(b" exited 0 " in fate for fate in fates):
+            sys.exit(f"another report: {fates}")
+        spent = after.ru_utime + after.ru_stime - before.ru_utime - before.ru_stime
+        return took, spent
+
+    def table(self, rows):
+        """Medians of the rows, whose runs take turns, each against the first: seconds, and processor seconds."""
+        times = [[] for _ in rows]
+        for _ in range(RUNS):
+            for row, (name, guests, options, program) in enumerate(rows):
+                times[row].append(self.once(guests, options, program))
+        walls = [statistics.median(wall for wall, _ in row) for row in times]
+        spent = [statistics.median(cpu for _, cpu in row) for row in times]
+        for (name, _, _, _), wall, cpu in zip(rows, walls, spent):
+            print(f"| {name} | {wall:.3f} | {wall / walls[0]:.2f} | {cpu:.3f} |", flush=True)
+
+
+def main():
+    before = sys.argv[sys.argv.index("--before") + 1] if "--before" in sys.argv else None
+    print("| Run | Seconds | Against the first | Processor seconds |\n|---|---|---|---|")
+    with tempfile.TemporaryDirectory() as folder:
+        bench = Bench(folder)
+        bench.table([(f"{k} that compute", ["computes"] * k, (), PROGRAM) for k in (1, 2, 4, 8)])
+        bench.table([(f"{k} that write", ["writes"] * k, (), PROGRAM) for k in (1, 2, 4, 8)])
+        bench.table([(f"8 that write, ring of {n}", ["writes"] * 8, ("--ring", str(n)), PROGRAM) for n in (256, 2, 1024)]
+                    + [("8 that write, one thread", ["writes"] * 8, ("--threads", "1"), PROGRAM)])
+        bench.table([("slow follower alone", ["between"], (), PROGRAM)]
+                    + [(f"a quick leader and it, ring of {n}", ["early", "between"], ("--ring", str(n)), PROGRAM) for n in (1024, 256, 2)])
+        bench.table([("slow leader alone", ["slow"], (), PROGRAM),
+                     ("with one quick follower", ["slow", "quick"], (), PROGRAM),
+                     ("with seven quick followers", ["slow"] + ["quick"] * 7, (), PROGRAM)])
+        rows = [("1 that writes, one thread", ["writes"], ("--threads", "1"), PROGRAM), ("1 that writes", ["writes"], (), PROGRAM)]
+        if before:
+            rows.insert(0, ("1 that writes, the other build", ["writes"], (), before))
+        bench.table(rows)
+
+
+if __name__ == "__main__":
+    main()

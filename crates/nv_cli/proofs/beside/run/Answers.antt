@@ -1,0 +1,34 @@
+use Rattle.std.proofs.Common.{option_map, rules}
+use Rattle.nv_replay.specs.Follow.{judge_of}
+use Rattle.nv_threads.specs.Threads.{threads}
+use Rattle.nv_workers.proofs.NewSeats.{as_made}
+use Rattle.nv_cli.proofs.NoVersions.{no_versions}
+use Rattle.nv_cli.proofs.beside.run.Goals as goal
+
+pub returns-then-is_empty-clause-account : goal.returns-then-is_empty-clause-account
+returns-then-is_empty-clause-account g c =
+    no_versions threads (judge_of (option_map (λ f. f.now) c.args.rules)) (g.K.SyscallKernel.start c.args.kernel) c.args.limits.calls c.args.versions.items (g.K.SyscallKernel.log c.args.kernel)
+    (search rules) c.requires.empty
+
+pub staff-requires-clause-seats : goal.staff-requires-clause-seats
+staff-requires-clause-seats g c κs within =
+    let m = c.in_ok-room.ensures in
+    (c.in_ok-room.room, as_made c.in_ok-room.room c.in_ok-room.readers.items c.in_ok-room.lead _ m.origin m.readers.1 m.lead m.log m.start)
+
+pub run_all-requires-clause-new : goal.run_all-requires-clause-new
+run_all-requires-clause-new g c κs within =
+    let m = c.in_ok-room.ensures in (
+      c.args.versions.items,
+      c.in_ok-workers.ensures.new c.in_ok-room.room
+          (as_made c.in_ok-room.room c.in_ok-room.readers.items c.in_ok-room.lead _ m.origin m.readers.1 m.lead m.log m.start),
+    )
+
+pub end-requires-after_bounds : goal.end-requires-after_bounds
+end-requires-after_bounds g c κs within =
+    let m = c.in_ok-room.ensures in (
+      judge_of (option_map (λ f. f.now) c.args.rules),
+      c.args.limits.calls,
+      c.args.versions.items,
+      c.in_ok-ran.ensures.ran c.args.versions.items (c.in_ok-workers.ensures.new c.in_ok-room.room
+          (as_made c.in_ok-room.room c.in_ok-room.readers.items c.in_ok-room.lead _ m.origin m.readers.1 m.lead m.log m.start)),
+    )

@@ -1,0 +1,53 @@
+// The versions of a run, beside each other.
+ghost use Rattle.std.specs.Prelude.{◌≡◌, ◌≤◌, [], IfOk, length, option_map};
+ghost use Rattle.nv_threads.specs.Threads.{threads};
+ghost use Rattle.nv_replay.specs.Accounts.{AreFresh};
+ghost use Rattle.nv_replay.specs.Follow.{judge_of};
+ghost use Rattle.nv_workers.specs.Ends.{IsAccount};
+
+use nv_bpf::Filter;
+use nv_calls::SyscallKernel;
+use nv_command::Limits;
+use nv_outside::Gate;
+use nv_replay::{Account, Version};
+use nv_room::Room;
+use nv_workers::{end, run_all, staff};
+use std::alloc::{AllocError, Global};
+use std::sync::Wait;
+use std::thread::Threads;
+
+/// Runs the versions over the kernel, each with its seat in one room, on threads of the host. What they come to is the
+/// account of the plain sequential monitor.
+pub fn run<R: Threads + Wait + Sync, K: SyscallKernel, G: Gate + Sync>(
+    rt: &R,
+    alloc: Global,
+    versions: Vec<Version>,
+    rules: Option<&Filter>,
+    kernel: K,
+    gate: &G,
+    limits: Limits,
+) -> Result<Account<K>, AllocError>
+    requires fresh { AreFresh threads 0 versions.items }
+    requires few { length versions.items ≤ 8 }
+    requires empty { K.log kernel ≡ [] }
+    ensures start { IfOk result (λ r. K.start r.kernel ≡ K.start kernel) }
+    ensures account { IfOk result (λ r. IsAccount threads (judge_of (option_map (λ f. f.now) rules.entry)) (K.start kernel) limits.calls versions.items r.versions.items (K.log r.kernel)) }
+{
+    if versions.is_empty() {
+        return Ok(Account { kernel, versions });
+    }
+    let stations = versions.len() as u32;
+    let (room, readers, lead) = Room::make(alloc, kernel, stations, limits.ring)?;
+    let workers = staff(alloc, versions, readers, lead)?;
+    let ran = run_all(
+        rt,
+        alloc,
+        room,
+        workers,
+        rules,
+        gate,
+        limits.calls,
+        limits.threads,
+    )?;
+    Ok(end(ran))
+}
