@@ -22,7 +22,7 @@ import time
 
 TOP = os.path.dirname(os.path.dirname(os.path.abspath(__file__)))
 PROGRAM = os.path.join(TOP, "crates", "varan", "out", "varan")
-RUNS = 5
+RUNS = int(os.environ.get("RUNS", "5"))
 
 ZERO, A0, A1, A2, A7, S0, S1, T0 = 0, 10, 11, 12, 17, 8, 9, 5
 ECALL = 0x00000073
