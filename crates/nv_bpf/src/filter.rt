@@ -44,6 +44,15 @@ impl Filter {
     {
         self.ops[i as usize]
     }
+
+    /// Its instructions.
+    #[inline(always)]
+    pub fn as_slice(&self) -> &[Op]
+        ensures ops { result.now ≡ self.now }
+        ensures verified { list_fault MOST_OPS self.now ≡ None }
+    {
+        self.ops.as_slice()
+    }
 }
 
 // The fault of arithmetic with a constant.

@@ -1,10 +1,10 @@
 -- A run of a filter goes as its definition says, and stays within it.
-use Rattle.std.proofs.Common.{◌≡◌, ℕ, zero, suc, ◌+◌, ◌-◌, ◌<◌, ◌≤◌, ◌⊎◌, inl, inr, Bool, true, false, nat_lt, ◌&&◌, List, [], ◌∷◌, Option, Some, None, length, drop, refl, sym, ap, ◌∙◌, arith, if◌then◌else◌, option_map, option_and_then}
+use Rattle.std.proofs.Common.{◌≡◌, ℕ, zero, suc, ◌+◌, ◌-◌, ◌<◌, ◌≤◌, ◌⊎◌, inl, inr, Bool, true, false, nat_lt, ◌&&◌, List, [], ◌∷◌, Option, Some, None, length, get_or, drop, refl, sym, ap, ◌∙◌, arith, if◌then◌else◌, option_map, option_and_then}
 use Rattle.std.proofs.lemmas.Bool.Decides.{nat_tests}
-use Rattle.std.proofs.lemmas.List.{at_drop_more, drop-drop}
+use Rattle.std.proofs.lemmas.List.{at_drop_more, drop-drop, length-drop, get_or-drop}
 use Rattle.std.proofs.lemmas.Bool.{cases_lt}
 use Rattle.std.specs.List.{slice_get}
-use Rattle.std.proofs.lemmas.Option.{get_or_from_slice_get, slice_get_within, same_Some}
+use Rattle.std.proofs.lemmas.Option.{get_or_from_slice_get, slice_get_within, slice_get-get_or, same_Some}
 use Rattle.nv_bpf.specs.declared.op.Op.{Op}
 use Rattle.nv_bpf.specs.declared.op.FilterFault.{FilterFault}
 use Rattle.nv_bpf.specs.declared.action.Action.{Action}
@@ -137,3 +137,53 @@ returned_from-goes pair i m s t ops op e g =
     let place : i + 1 + m ≡ i + (1 + m) = omega arith in
     returned_from-at pair i s ops op (Goes m t) e g ∙ returned_from-drop pair m t (drop (i + 1) ops)
     ∙ ap (λ rest. returned_from pair 0 t rest) (drop-drop m (i + 1) ops ∙ ap (λ j. drop j ops) place)
+
+-- the first instruction of what is left of a filter
+abbrev pub first : List Op → Op
+first ops = get_or ops 0 (record { code = 0; jt = 0; jf = 0; k = 0 })
+
+pub first-read : (ops rest : List Op) (i : ℕ) → rest ≡ drop i ops → 0 < length rest → slice_get ops i ≡ Some (first rest)
+first-read ops rest i e some =
+    let long : length rest ≡ length ops - i = ap length e ∙ length-drop i ops in
+    let place : i + 0 ≡ i = omega arith in
+    slice_get-get_or ops i (first []) (omega arith) ∙ ap Some (sym (ap first e ∙ get_or-drop i ops 0 (first []) ∙ ap (λ j. get_or ops j (first [])) place))
+
+-- what is left of a filter, where the instructions in front of it went past it
+pub record Left (ops rest : List Op) (pair : List ℕ) (s : State) (value : Option ℕ) : Type 0 where
+  pub some : 0 < length rest
+  pub place : (i : ℕ) × (rest ≡ drop i ops)
+  pub returns : returned_from pair 0 s rest ≡ value
+
+pub first-sound : (most : ℕ) (ops rest : List Op) (pair : List ℕ) (s : State) (value : Option ℕ) → list_fault most ops ≡ None → Left ops rest pair s value → IsSound (first rest)
+first-sound most ops rest pair s value verified left =
+    IsSound-op (length ops) left.place.0 (first rest) (list_fault-op most left.place.0 ops (first rest) verified (first-read ops rest left.place.0 left.place.1 left.some))
+
+pub first-ends : (ops rest : List Op) (pair : List ℕ) (v : ℕ) (s : State) (value : Option ℕ) → Left ops rest pair s value → stepped (first rest) pair s ≡ Some (Ends v) → value ≡ Some v
+first-ends ops rest pair v s value left step =
+    let i = left.place.0 in
+    let e = left.place.1 in
+    sym left.returns ∙ ap (returned_from pair 0 s) e ∙ returned_from-ends pair i v s ops (first rest) (first-read ops rest i e left.some) step
+
+-- the first instruction goes past fewer than are left behind it
+pub first-within : (most : ℕ) (ops rest : List Op) (pair : List ℕ) (n : ℕ) (s t : State) (value : Option ℕ) → list_fault most ops ≡ None → Left ops rest pair s value
+    → stepped (first rest) pair s ≡ Some (Goes n t) → 1 + n < length rest
+first-within most ops rest pair n s t value verified left step =
+    let i = left.place.0 in
+    let long : length rest ≡ length ops - i = ap length left.place.1 ∙ length-drop i ops in
+    let within = stepped-within most i n ops (first rest) pair s t verified (first-read ops rest i left.place.1 left.some) step in
+    omega arith
+
+-- the instructions that it goes to are left
+pub first-goes : (most : ℕ) (ops rest later : List Op) (pair : List ℕ) (n : ℕ) (s t : State) (value : Option ℕ) → list_fault most ops ≡ None → Left ops rest pair s value
+    → stepped (first rest) pair s ≡ Some (Goes n t) → later ≡ drop (1 + n) rest → Left ops later pair t value
+first-goes most ops rest later pair n s t value verified left step past =
+    let i = left.place.0 in
+    let e = left.place.1 in
+    let within = first-within most ops rest pair n s t value verified left step in
+    let place = past ∙ ap (drop (1 + n)) e ∙ drop-drop (1 + n) i ops in
+    let long : length later ≡ length rest - (1 + n) = ap length past ∙ length-drop (1 + n) rest in
+    record {
+      some = omega arith;
+      place = (i + (1 + n), place);
+      returns = ap (returned_from pair 0 t) place ∙ sym (returned_from-goes pair i n s t ops (first rest) (first-read ops rest i e left.some) step) ∙ sym (ap (returned_from pair 0 s) e) ∙ left.returns;
+    }

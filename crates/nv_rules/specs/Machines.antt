@@ -1,20 +1,22 @@
 -- The code's machine as the definitions see it.
-use Rattle.std.specs.Prelude.{ℕ, ◌<◌, ◌/◌, Option, Some, None}
+use Rattle.std.specs.Prelude.{ℕ, List, ◌<◌, ◌/◌, Option, Some, None}
 use Rattle.nv_bpf.specs.declared.op.Op.{Op}
 use Rattle.nv_bpf.specs.declared.action.Action.{Action}
 use Rattle.nv_bpf.specs.declared.action.Action.TheVariants.{LoadWord, LoadScratch, Store}
 use Rattle.nv_bpf.specs.Actions.{action_of}
-use Rattle.nv_rules.specs.declared.machine.Machine.{Machine}
+use Rattle.nv_rules.specs.declared.machine.Registers.{Registers}
 use Rattle.nv_rules.specs.declared.machine.Step.{Step}
-use Rattle.nv_rules.specs.declared.machine.Step.TheVariants.{Return, Forward}
+use Rattle.nv_rules.specs.declared.machine.Step.TheVariants.{Return, Next, Forward}
 use Rattle.nv_rules.specs.Values.{State, Outcome, Ends, Goes}
 
-abbrev pub state_of : Machine → State
-state_of m = record { accumulator = m.accumulator; index = m.index; scratch = m.scratch }
+-- the registers with the scratch memory
+abbrev pub state_of : Registers → List ℕ → State
+state_of r scratch = record { accumulator = r.accumulator; index = r.index; scratch = scratch }
 
-abbrev pub outcome_of : Step → Machine → Outcome
-outcome_of (Return value) m = Ends value
-outcome_of (Forward n) m = Goes n (state_of m)
+abbrev pub outcome_of : Step → Registers → List ℕ → Outcome
+outcome_of (Return value) r scratch = Ends value
+outcome_of Next r scratch = Goes 0 (state_of r scratch)
+outcome_of (Forward n) r scratch = Goes n (state_of r scratch)
 
 -- the places that an instruction reads or writes are there
 abbrev pub IsUsable : Action → ℕ → Type 0

@@ -1,6 +1,6 @@
 // The machine of filters.
-ghost use Rattle.std.specs.Prelude.{◌≡◌, Some};
-ghost use Rattle.nv_rules.specs.Values.{start, held, operand_of, computed, goes_with, holds, acted, stepped};
+ghost use Rattle.std.specs.Prelude.{◌≡◌, ℕ, List, Some, replicate, if◌then◌else◌};
+ghost use Rattle.nv_rules.specs.Values.{Goes, start, computed, goes_with, ends_without, holds, acted, stepped};
 ghost use Rattle.nv_rules.specs.Machines.{state_of, outcome_of, IsUsable, IsSound};
 
 use crate::Pair;
@@ -9,12 +9,11 @@ use nv_bpf::{Action, Arithmetic, Comparison, Op, Operand, Register, decode};
 /// The length of a pair in bytes.
 const PAIR_BYTES: u32 = 132;
 
-/// The registers and the scratch memory.
+/// The registers. The scratch memory stands apart, so that the compiler keeps them out of memory.
 #[derive(Clone, Copy)]
-pub struct Machine {
+pub struct Registers {
     accumulator: u32,
     index: u32,
-    scratch: [u32; 16],
 }
 
 /// How an instruction ended.
@@ -22,6 +21,8 @@ pub struct Machine {
 pub enum Step {
     /// The filter's value.
     Return(u32),
+    /// The next instruction follows.
+    Next,
     /// How many of the instructions that follow are passed over.
     Forward(u32),
 }
@@ -56,93 +57,90 @@ fn holds(comparison: Comparison, a: u32, b: u32) -> bool
     }
 }
 
-impl Machine {
+impl Registers {
     #[tactic(auto, unfolding(crate::specs::Values::start))]
     pub fn new() -> Self
-        ensures { state_of result ≡ start }
+        ensures { state_of result (replicate 16 0) ≡ start }
     {
-        Machine {
+        Registers {
             accumulator: 0,
             index: 0,
-            scratch: [0; 16],
-        }
-    }
-
-    #[inline(always)]
-    fn held(&self, register: Register) -> u32
-        ensures { result ≡ held register (state_of self.now) }
-    {
-        match register {
-            Register::Accumulator => self.accumulator,
-            Register::Index => self.index,
-        }
-    }
-
-    #[inline(always)]
-    fn operand(&self, operand: Operand, k: u32) -> u32
-        ensures { result ≡ operand_of operand k (state_of self.now) }
-    {
-        match operand {
-            Operand::Constant => k,
-            Operand::Index => self.index,
         }
     }
 
     // The register becomes this, and the next instruction follows.
     #[inline(always)]
     fn load(&mut self, register: Register, value: u32) -> Step
-        ensures { outcome_of result self.new ≡ goes_with register value (state_of self.old) }
+        ensures { (scratch : List ℕ) → outcome_of result self.new scratch ≡ goes_with register value (state_of self.old scratch) }
     {
         match register {
             Register::Accumulator => self.accumulator = value,
             Register::Index => self.index = value,
         }
-        Step::Forward(0)
+        Step::Next
+    }
+
+    // The accumulator becomes the result with this second operand, if there is one.
+    #[inline(always)]
+    fn compute(&mut self, arithmetic: Arithmetic, b: u32) -> Step
+        ensures { (scratch : List ℕ) → outcome_of result self.new scratch ≡ ends_without (computed arithmetic self.old.accumulator b) (state_of self.old scratch) }
+    {
+        match compute(arithmetic, self.accumulator, b) {
+            Some(value) => self.load(Register::Accumulator, value),
+            None => Step::Return(0),
+        }
+    }
+
+    // Where to go on by a comparison with this second operand.
+    #[inline(always)]
+    fn branch(&self, comparison: Comparison, b: u32, op: &Op) -> Step
+        ensures { (scratch : List ℕ) → outcome_of result self.now scratch ≡ Goes (if holds comparison self.now.accumulator b then op.now.jt else op.now.jf) (state_of self.now scratch) }
+    {
+        let taken = holds(comparison, self.accumulator, b);
+        Step::Forward(u32::from(if taken { op.jt } else { op.jf }))
     }
 
     #[inline(always)]
-    fn act(&mut self, action: Action, op: Op, pair: &Pair) -> Step
-        requires { IsUsable action op.k }
-        ensures { outcome_of result self.new ≡ acted action op pair.now.words (state_of self.old) }
+    fn act(&mut self, scratch: &mut [u32; 16], action: Action, op: &Op, pair: &Pair) -> Step
+        requires { IsUsable action op.now.k }
+        ensures { outcome_of result self.new scratch.new ≡ acted action op.now pair.now.words (state_of self.old scratch.old) }
     {
-        let k = op.k;
         match action {
-            Action::LoadWord => self.load(Register::Accumulator, pair.words[(k / 4) as usize]),
-            Action::Load(register) => self.load(register, k),
-            Action::LoadScratch(register) => self.load(register, self.scratch[k as usize]),
+            Action::LoadWord => self.load(Register::Accumulator, pair.words[(op.k / 4) as usize]),
+            Action::Load(register) => self.load(register, op.k),
+            Action::LoadScratch(register) => self.load(register, scratch[op.k as usize]),
             Action::LoadLength(register) => self.load(register, PAIR_BYTES),
-            Action::Store(register) => {
-                self.scratch[k as usize] = self.held(register);
-                Step::Forward(0)
+            Action::Store(Register::Accumulator) => {
+                scratch[op.k as usize] = self.accumulator;
+                Step::Next
             }
-            Action::Compute(arithmetic, operand) => {
-                match compute(arithmetic, self.accumulator, self.operand(operand, k)) {
-                    Some(value) => self.load(Register::Accumulator, value),
-                    None => Step::Return(0),
-                }
+            Action::Store(Register::Index) => {
+                scratch[op.k as usize] = self.index;
+                Step::Next
             }
+            Action::Compute(arithmetic, Operand::Constant) => self.compute(arithmetic, op.k),
+            Action::Compute(arithmetic, Operand::Index) => self.compute(arithmetic, self.index),
             Action::Negate => self.load(Register::Accumulator, 0u32.wrapping_sub(self.accumulator)),
-            Action::Jump => Step::Forward(k),
-            Action::Branch(comparison, operand) => {
-                let taken = holds(comparison, self.accumulator, self.operand(operand, k));
-                Step::Forward(u32::from(if taken { op.jt } else { op.jf }))
-            }
-            Action::ReturnConstant => Step::Return(k),
+            Action::Jump => Step::Forward(op.k),
+            Action::Branch(comparison, Operand::Constant) => self.branch(comparison, op.k, op),
+            Action::Branch(comparison, Operand::Index) => self.branch(comparison, self.index, op),
+            Action::ReturnConstant => Step::Return(op.k),
             Action::ReturnAccumulator => Step::Return(self.accumulator),
             Action::Copy(Register::Accumulator) => self.load(Register::Accumulator, self.index),
             Action::Copy(Register::Index) => self.load(Register::Index, self.accumulator),
         }
     }
 
-    /// Carries out an instruction of a filter, which has these many.
+    /// Carries out an instruction of a filter.
     #[inline(always)]
-    pub fn step(&mut self, op: Op, pair: &Pair) -> Step
-        requires { IsSound op }
-        ensures { stepped op pair.now.words (state_of self.old) ≡ Some (outcome_of result self.new) }
+    pub fn step(&mut self, scratch: &mut [u32; 16], op: &Op, pair: &Pair) -> Step
+        requires { IsSound op.now }
+        ensures { stepped op.now pair.now.words (state_of self.old scratch.old) ≡ Some (outcome_of result self.new scratch.new) }
     {
         match decode(op.code) {
-            Some(action) => self.act(action, op, pair),
-            None => unreachable!(),
+            Some(action) => self.act(scratch, action, op, pair),
+            // not met: each instruction of a filter has an action
+            None => Step::Return(0),
         }
     }
 }

@@ -1,24 +1,33 @@
 // The value of a filter.
-ghost use Rattle.std.specs.Prelude.{◌≡◌, Some};
+ghost use Rattle.std.specs.Prelude.{◌≡◌, ◌≤◌, Some, drop, length};
 ghost use Rattle.nv_rules.specs.Values.{returned, value_of};
 
 use crate::Pair;
-use crate::machine::{Machine, Step};
-use nv_bpf::Filter;
+use crate::machine::{Registers, Step};
+use nv_bpf::{Filter, Op};
+
+// What stands behind so many instructions.
+#[inline(always)]
+fn behind(ops: &[Op], count: usize) -> &[Op]
+    requires { count ≤ length ops.now }
+    ensures { result.now ≡ drop count ops.now }
+{
+    &ops[count..]
+}
 
 /// The value of a filter on a pair. It takes no memory, and passes over the filter at most once.
 pub fn value(filter: &Filter, pair: &Pair) -> u32
     ensures returned { returned filter.now pair.now.words ≡ Some result }
     ensures value { result ≡ value_of filter.now pair.now.words }
 {
-    let count = filter.len();
-    let mut machine = Machine::new();
-    let mut place = 0;
-    while place < count {
-        match machine.step(filter.at(place), pair) {
+    let mut registers = Registers::new();
+    let mut scratch = [0; 16];
+    let mut rest = filter.as_slice();
+    loop {
+        match registers.step(&mut scratch, &rest[0], pair) {
             Step::Return(value) => return value,
-            Step::Forward(skipped) => place += 1 + skipped,
+            Step::Next => rest = behind(rest, 1),
+            Step::Forward(skipped) => rest = behind(rest, 1 + skipped as usize),
         }
     }
-    unreachable!()
 }

@@ -1,25 +1,26 @@
-use Rattle.std.proofs.Common.{◌≡◌, ◌+◌, ◌<◌, Some, length, sym, ap, ◌∙◌, arith, unwrap_or}
+use Rattle.std.proofs.Common.{◌≡◌, Some, ap, sym, ◌∙◌, arith, unwrap_or}
 use Rattle.nv_bpf.specs.FilterLaws.{list_fault-none}
 use Rattle.nv_rules.specs.Values.{returned, returned_from, stepped, Goes}
 use Rattle.nv_rules.specs.Machines.{state_of, outcome_of}
-use Rattle.nv_rules.proofs.Steps.{IsSound-op, stepped-within, returned_from-ends, returned_from-goes}
+use Rattle.nv_rules.proofs.Steps.{first, first-sound, first-ends, first-within, first-goes}
 use Rattle.nv_rules.proofs.running.value.Goals as goal
 
-pub loop-place-init : goal.loop-place-init
+pub loop-value-init : goal.loop-value-init
 unfolding returned
-loop-place-init c =
-    let words = c.args.pair.now.words in
+loop-value-init c =
     let ops = c.args.filter.now in
-    let sound = list_fault-none _ ops c.len-count.ensures.verified in
-    record { within = omega (arith, sound.some); rest = ap (λ s. returned_from words 0 s ops) c.new-machine.ensures }
+    let same = c.as_slice-rest.ensures.ops in
+    record {
+      some = rw same (list_fault-none _ ops c.as_slice-rest.ensures.verified).some;
+      place = (0, same);
+      returns = ap (returned_from c.args.pair.now.words 0 _) same ∙ ap (λ s. returned_from c.args.pair.now.words 0 s ops) c.new-registers.ensures;
+    }
 
 pub step-requires : goal.step-requires
-step-requires c = IsSound-op _ _ c.at.result c.at.ensures.sound
+step-requires c = first-sound _ _ _ _ _ _ c.as_slice-rest.ensures.verified c.loop-value.invariant
 
 ends : (c : goal.In-Return) → returned c.args.filter.now c.args.pair.now.words ≡ Some c.in-Return.value
-ends c =
-    let end = c.step.ensures ∙ ap (λ r. Some (outcome_of r c.step.new.self)) c.in-Return.is in
-    sym c.loop-place.invariant.rest ∙ returned_from-ends c.args.pair.now.words c.loop-place.place c.in-Return.value (state_of c.loop-place.machine) c.args.filter.now c.at.result c.at.ensures.op end
+ends c = first-ends _ _ _ _ _ _ c.loop-value.invariant (c.step.ensures ∙ ap (λ r. Some (outcome_of r c.step.new.self c.step.new.scratch)) c.in-Return.is)
 
 pub returns-in-Return-clause-returned : goal.returns-in-Return-clause-returned
 returns-in-Return-clause-returned c = ends c
@@ -27,26 +28,18 @@ returns-in-Return-clause-returned c = ends c
 pub returns-in-Return-clause-value : goal.returns-in-Return-clause-value
 returns-in-Return-clause-value c = sym (ap (λ o. unwrap_or o 0) (ends c))
 
-goes : (c : goal.In-Forward) → stepped c.at.result c.args.pair.now.words (state_of c.loop-place.machine) ≡ Some (Goes c.in-Forward.skipped (state_of c.step.new.self))
-goes c = c.step.ensures ∙ ap (λ r. Some (outcome_of r c.step.new.self)) c.in-Forward.is
+pub loop-value-preserved-in-Next : goal.loop-value-preserved-in-Next
+loop-value-preserved-in-Next c =
+    let goes = c.step.ensures ∙ ap (λ r. Some (outcome_of r c.step.new.self c.step.new.scratch)) c.in-Next.is in
+    first-goes _ _ _ _ _ 0 _ _ _ c.as_slice-rest.ensures.verified c.loop-value.invariant goes c.behind-rest.ensures
 
-within : (c : goal.In-Forward) → c.loop-place.place + (1 + c.in-Forward.skipped) < length c.args.filter.now
-within c = stepped-within _ c.loop-place.place c.in-Forward.skipped c.args.filter.now c.at.result c.args.pair.now.words _ _ c.len-count.ensures.verified c.at.ensures.op (goes c)
+goes : (c : goal.In-Forward) → stepped (first c.loop-value.rest.now) c.args.pair.now.words (state_of c.loop-value.registers c.loop-value.scratch) ≡ Some (Goes c.in-Forward.skipped (state_of c.step.new.self c.step.new.scratch))
+goes c = c.step.ensures ∙ ap (λ r. Some (outcome_of r c.step.new.self c.step.new.scratch)) c.in-Forward.is
 
-pub overflow_add-place : goal.overflow_add-place
-overflow_add-place c =
-    let few = (list_fault-none _ c.args.filter.now c.len-count.ensures.verified).few in
-    omega (arith, within c)
+pub behind-rest-requires-in-Forward : goal.behind-rest-requires-in-Forward
+behind-rest-requires-in-Forward c = let within = first-within _ _ _ _ _ _ _ _ c.as_slice-rest.ensures.verified c.loop-value.invariant (goes c) in omega arith
 
-pub overflow_add-place-in-Forward : goal.overflow_add-place-in-Forward
-overflow_add-place-in-Forward c =
-    let few = (list_fault-none _ c.args.filter.now c.len-count.ensures.verified).few in
-    omega (arith, within c)
-
-pub loop-place-preserved : goal.loop-place-preserved
-loop-place-preserved c =
-    record {
-      within = omega (arith, within c);
-      rest = sym (returned_from-goes c.args.pair.now.words c.loop-place.place c.in-Forward.skipped (state_of c.loop-place.machine) (state_of c.step.new.self) c.args.filter.now c.at.result c.at.ensures.op (goes c))
-          ∙ c.loop-place.invariant.rest;
-    }
+pub loop-value-preserved : goal.loop-value-preserved
+loop-value-preserved c =
+    let goes = c.step.ensures ∙ ap (λ r. Some (outcome_of r c.step.new.self c.step.new.scratch)) c.in-Forward.is in
+    first-goes _ _ _ _ _ _ _ _ _ c.as_slice-rest.ensures.verified c.loop-value.invariant goes c.behind-rest-in-Forward.ensures
