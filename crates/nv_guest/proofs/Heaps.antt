@@ -6,7 +6,7 @@ use Rattle.std.proofs.lemmas.Bool.Decides.{nat_tests}
 use Rattle.nv_memory.specs.declared.region.Region.{Region}
 use Rattle.nv_memory.specs.Bytes.{put}
 use Rattle.nv_memory.specs.BytesLaws.{length_put}
-use Rattle.nv_memory.specs.Regions.{AreRegions, Apart, set_end, end_of}
+use Rattle.nv_memory.specs.Regions.{AreRegions, Apart, set_end, start_of, end_of}
 use Rattle.nv_memory.specs.Image.{Image, cut}
 use Rattle.nv_guest.specs.declared.heap.Heap.{Heap}
 use Rattle.nv_guest.specs.Threads.{last_region, is_break, with_break}
@@ -15,19 +15,19 @@ use Rattle.nv_guest.specs.Heap.{IsClear, HasHeap, moved}
 apart_from : (r : Region) (rs : List Region) (n end start limit : ℕ) → length rs ≡ n + 1 → AllByRecursion (Apart r) rs → (r.end ≤ start) ⊎ (limit ≤ r.start) → (last_region rs).start ≡ start → end ≤ limit
     → AllByRecursion (Apart r) (set_end rs n end)
 apart_from r [] n end start limit l h c s e = absurd (omega (arith, l))
-apart_from r (s ∷ []) zero end start limit l h c k e = (⊎_elim (λ (q : r.end ≤ start). inl (omega (arith, k))) (λ (q : limit ≤ r.start). inr (omega arith)) c, tt)
+apart_from r (s ∷ []) zero end start limit l h c k e = (⊎_elim (λ (q : r.end ≤ start). inr (inr (inl (omega (arith, k))))) (λ (q : limit ≤ r.start). inr (inr (inr (omega arith)))) c, tt)
 apart_from r (s ∷ []) (suc n) end start limit l h c k e = absurd (omega (arith, l))
 apart_from r (s ∷ t ∷ rs) zero end start limit l h c k e = absurd (omega (arith, l))
 apart_from r (s ∷ t ∷ rs) (suc n) end start limit l h c k e = (h.0, apart_from r (t ∷ rs) n end start limit (omega (arith, l)) h.1 c k e)
 
-pub are_moved : (size : ℕ) (rs : List Region) (n end start limit : ℕ) → length rs ≡ n + 1 → AreRegions size rs → IsClear start limit rs → (last_region rs).start ≡ start → start ≤ end → end ≤ limit → limit ≤ size
+pub are_moved : (size : ℕ) (rs : List Region) (n end start limit : ℕ) → length rs ≡ n + 1 → AreRegions size rs → IsClear start limit rs → (last_region rs).start ≡ start → end ≤ limit → limit ≤ size
     → AreRegions size (set_end rs n end)
-are_moved size [] n end start limit l a c k b e z = absurd (omega (arith, l))
-are_moved size (r ∷ []) zero end start limit l a c k b e z = (record { ordered = omega (arith, k); inside = omega arith }, tt, tt)
-are_moved size (r ∷ []) (suc n) end start limit l a c k b e z = absurd (omega (arith, l))
-are_moved size (r ∷ s ∷ rs) zero end start limit l a c k b e z = absurd (omega (arith, l))
-are_moved size (r ∷ s ∷ rs) (suc n) end start limit l a c k b e z =
-    (a.0, apart_from r (s ∷ rs) n end start limit (omega (arith, l)) a.1 c.0 k e, are_moved size (s ∷ rs) n end start limit (omega (arith, l)) a.2 c.1 k b e z)
+are_moved size [] n end start limit l a c k e z = absurd (omega (arith, l))
+are_moved size (r ∷ []) zero end start limit l a c k e z = (omega arith, tt, tt)
+are_moved size (r ∷ []) (suc n) end start limit l a c k e z = absurd (omega (arith, l))
+are_moved size (r ∷ s ∷ rs) zero end start limit l a c k e z = absurd (omega (arith, l))
+are_moved size (r ∷ s ∷ rs) (suc n) end start limit l a c k e z =
+    (a.0, apart_from r (s ∷ rs) n end start limit (omega (arith, l)) a.1 c.0 k e, are_moved size (s ∷ rs) n end start limit (omega (arith, l)) a.2 c.1 k e z)
 
 last_moved : (rs : List Region) (n end : ℕ) → length rs ≡ n + 1 → last_region (set_end rs n end) ≡ record (last_region rs) { end = end }
 last_moved [] n end l = absurd (omega (arith, l))
@@ -61,6 +61,13 @@ end_is_last (r ∷ []) (suc n) l = absurd (omega (arith, l))
 end_is_last (r ∷ s ∷ rs) zero l = absurd (omega (arith, l))
 end_is_last (r ∷ s ∷ rs) (suc n) l = end_is_last (s ∷ rs) n (omega (arith, l))
 
+pub start_is_last : (rs : List Region) (n : ℕ) → length rs ≡ n + 1 → start_of rs n ≡ (last_region rs).start
+start_is_last [] n l = absurd (omega (arith, l))
+start_is_last (r ∷ []) zero l = refl
+start_is_last (r ∷ []) (suc n) l = absurd (omega (arith, l))
+start_is_last (r ∷ s ∷ rs) zero l = absurd (omega (arith, l))
+start_is_last (r ∷ s ∷ rs) (suc n) l = start_is_last (s ∷ rs) n (omega (arith, l))
+
 length_cut : (bytes : List ℕ) (before end : ℕ) → length (cut bytes before end) ≡ length bytes
 length_cut bytes before end = by (nat_lt end before)
   where
@@ -68,15 +75,15 @@ length_cut bytes before end = by (nat_lt end before)
     by true = length_put bytes end (replicate (before - end) 0)
     by false = refl
 
-pub heap_moved : (memory : Image) (heap : Heap) (end : ℕ) → HasHeap memory heap → heap.start ≤ end → end ≤ heap.limit
+pub heap_moved : (memory : Image) (heap : Heap) (end : ℕ) → HasHeap memory heap → end ≤ heap.limit
     → HasHeap (record { bytes = cut memory.bytes (end_of memory.regions heap.place) end; regions = set_end memory.regions heap.place end }) (record heap { end = end })
-heap_moved memory heap end h low high =
+heap_moved memory heap end h high =
     let rs = memory.regions in
     let l = h.place in
     let size = length_cut memory.bytes (end_of rs heap.place) end in
     let last = last_moved rs heap.place end l in
     record {
-      are = subst (λ (n : ℕ). AreRegions n (set_end rs heap.place end)) (sym size) (are_moved (length memory.bytes) rs heap.place end heap.start heap.limit l h.are h.clear h.start low high (let z = h.limit in omega arith));
+      are = subst (λ (n : ℕ). AreRegions n (set_end rs heap.place end)) (sym size) (are_moved (length memory.bytes) rs heap.place end heap.start heap.limit l h.are h.clear h.start high (let z = h.limit in omega arith));
       place = length_moved rs heap.place end ∙ l;
       start = ap (λ (r : Region). r.start) last ∙ h.start;
       end = ap (λ (r : Region). r.end) last;

@@ -68,8 +68,8 @@ none-mapped f (Some x) e = cc
 -- two ranges that share no address lie one before the other
 apart_by : (x y : Range) → shares (range_extent x) (range_extent y) ≡ false → Apart (region_of x) (region_of y)
 apart_by x y h = elim (cases_Bool (nat_lt x.address (y.address + y.size))) [
-  | inl before ↦ inl (grind (arith, nat_tests))
-  | inr after ↦ inr (grind (arith, nat_tests))
+  | inl before ↦ inr (inr (inl (grind (arith, nat_tests))))
+  | inr after ↦ inr (inr (inr (grind (arith, nat_tests))))
 ]
 
 not_first : (b : Bool) (k : ℕ) (rest : Option ℕ) → cond b (Some k) rest ≡ None → (b ≡ false) × (rest ≡ None)
@@ -79,7 +79,7 @@ not_first false k rest h = (refl, h)
 -- a range that shares no address with others, and two regions behind all of them
 apart_from : (r : Range) (rs : List Range) (k : ℕ) (stack heap : Region) → position_from (λ y. shares (range_extent r) (range_extent y)) k rs ≡ None
     → r.address + r.size ≤ stack.start → r.address + r.size ≤ heap.start → AllByRecursion (Apart (region_of r)) (map region_of rs ++ stack ∷ heap ∷ [])
-apart_from r [] k stack heap none a b = (inl a, (inl b, tt))
+apart_from r [] k stack heap none a b = (inr (inr (inl a)), (inr (inr (inl b)), tt))
 apart_from r (x ∷ xs) k stack heap none a b =
     let parts = not_first (shares (range_extent r) (range_extent x)) k (position_from (λ y. shares (range_extent r) (range_extent y)) (k + 1) xs) none in
     (apart_by r x parts.0, apart_from r xs (k + 1) stack heap parts.1 a b)
@@ -87,10 +87,10 @@ apart_from r (x ∷ xs) k stack heap none a b =
 lie : (size limit heap : ℕ) (ranges : List Range) (i : ℕ) → limit ≤ size → heap ≤ limit → EndBy limit ranges → EndBy heap ranges → overlap_from range_extent i ranges ≡ None
     → AreRegions size (map region_of ranges ++ data_region limit size ∷ data_region heap heap ∷ [])
 lie size limit heap [] i le below a b none =
-    (record { ordered = le; inside = omega arith }, (inr below, tt), (record { ordered = omega arith; inside = omega arith }, tt, tt))
+    (omega arith, (inr (inl (omega arith)), tt), (omega arith, tt, tt))
 lie size limit heap (r ∷ rs) i le below a b none =
     let parts = none-first (option_map (λ k. (i, i + 1 + k)) (position_from (λ y. shares (range_extent r) (range_extent y)) 0 rs)) (overlap_from range_extent (i + 1) rs) none in (
-      record { ordered = omega arith; inside = omega (arith, a.0) },
+      omega (arith, a.0),
       apart_from r rs 0 (data_region limit size) (data_region heap heap) (none-mapped _ _ parts.0) a.0 b.0,
       lie size limit heap rs (i + 1) le below a.1 b.1 parts.1,
     )

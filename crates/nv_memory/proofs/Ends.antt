@@ -15,5 +15,5 @@ set_end_set (r ∷ rs) (suc i) e d h = ap (λ (xs : List Region). r ∷ xs) (set
 
 pub end_is_inside : (size : ℕ) (rs : List Region) (i : ℕ) → AreRegions size rs → i < length rs → end_of rs i ≤ size
 end_is_inside size [] i ok h = absurd (omega arith)
-end_is_inside size (r ∷ rs) zero ok h = ok.0.inside
+end_is_inside size (r ∷ rs) zero ok h = ok.0
 end_is_inside size (r ∷ rs) (suc i) ok h = end_is_inside size rs i ok.2 (omega arith)

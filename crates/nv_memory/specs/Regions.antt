@@ -19,23 +19,28 @@ covers a n right r = nat_le r.start a && (nat_le (a + n) r.end && allows right r
 abbrev pub holds : List Region → ℕ → ℕ → Right → Bool
 holds regions a n right = (n == 0) || list_any (covers a n right) regions
 
--- one ends before the other begins
+-- it covers no address
+abbrev pub IsEmpty : Region → Type 0
+IsEmpty r = r.end ≤ r.start
+
+-- no address lies in both: one covers none, or one ends before the other begins
 abbrev pub Apart : Region → Region → Type 0
-Apart a b = (a.end ≤ b.start) ⊎ (b.end ≤ a.start)
+Apart a b = IsEmpty a ⊎ IsEmpty b ⊎ (a.end ≤ b.start) ⊎ (b.end ≤ a.start)
 
--- it lies in a memory of this size
-pub record IsWithin (size : ℕ) (r : Region) : Type 0 where
-  pub ordered : r.start ≤ r.end
-  pub inside : r.end ≤ size
-
--- each region lies in the memory, and no two overlap
+-- each region ends in a memory of this size, and no two overlap
 abbrev pub AreRegions : ℕ → List Region → Type 0
 AreRegions size [] = Unit {0}
-AreRegions size (r ∷ rs) = IsWithin size r × AllByRecursion (Apart r) rs × AreRegions size rs
+AreRegions size (r ∷ rs) = (r.end ≤ size) × AllByRecursion (Apart r) rs × AreRegions size rs
 
 -- the range lies in the region
 abbrev pub has_range : ℕ → ℕ → Region → Bool
 has_range a n r = nat_le r.start a && nat_le (a + n) r.end
+
+-- where the region at a place begins
+abbrev pub start_of : List Region → ℕ → ℕ
+start_of [] i = 0
+start_of (r ∷ rs) zero = r.start
+start_of (r ∷ rs) (suc i) = start_of rs i
 
 -- where the region at a place ends
 abbrev pub end_of : List Region → ℕ → ℕ

@@ -1,8 +1,8 @@
 // The memory of a guest.
-ghost use Rattle.std.specs.Prelude.{◌≡◌, ℕ, ◌+◌, ◌<◌, length, Ok, Err, IfOk, IfErr, is_ok, IsTrue, replicate};
+ghost use Rattle.std.specs.Prelude.{◌≡◌, ℕ, ◌+◌, ◌<◌, ◌≤◌, length, Ok, Err, IfOk, IfErr, is_ok, IsTrue, replicate};
 ghost use Rattle.std.specs.List.{list_any};
 ghost use Rattle.nv_memory.specs.Bytes.{bytes_at, put, little_bytes, byte_count};
-ghost use Rattle.nv_memory.specs.Regions.{holds, AreRegions, has_range, set_end, end_of};
+ghost use Rattle.nv_memory.specs.Regions.{holds, AreRegions, has_range, set_end, start_of, end_of};
 ghost use Rattle.nv_memory.specs.Image.{loaded, allowed, stored, copied, cut};
 
 use crate::bytes::{clear, count, part, read, read_all, write, write_all};
@@ -147,6 +147,7 @@ impl Memory {
     #[tactic(auto, using(crate::proofs::Ends::end_is_inside, crate::specs::BytesLaws::length_put))]
     pub fn resize(&mut self, region: usize, end: u32)
         requires known { region < length self.old.regions }
+        requires ordered { start_of self.old.regions region ≤ end }
         requires fits { AreRegions (length self.old.bytes) (set_end self.old.regions region end) }
         ensures bytes { self.new.bytes ≡ cut self.old.bytes (end_of self.old.regions region) end }
         ensures regions { self.new.regions ≡ set_end self.old.regions region end }

@@ -29,3 +29,44 @@ fn bytes_of_a_region(rt: HostRuntime) -> Result<(), Fail> {
     assert_eq!(rt; memory.load(16, Width::Four), Ok(0x0000_0711));
     Ok(())
 }
+
+const WHOLE: Region = Region {
+    start: 16,
+    end: 32,
+    read: true,
+    write: true,
+    execute: false,
+};
+
+const EMPTY: Region = Region {
+    start: 20,
+    end: 20,
+    ..WHOLE
+};
+
+// A region that covers no address may stand inside another.
+#[test]
+fn regions_without_addresses(rt: HostRuntime) -> Result<(), Fail> {
+    let turned = Region {
+        start: 48,
+        end: 24,
+        ..WHOLE
+    };
+    let regions = vec![in rt.alloc(); WHOLE, EMPTY, turned]?;
+    let mut memory = Memory::make(rt.alloc(), 64, regions)?;
+    memory.fill(16, &[1, 2, 3, 4, 5, 6, 7, 8]);
+    assert_eq!(rt; memory.load(18, Width::Four), Ok(0x0605_0403));
+    assert!(rt; !memory.holds(48, 1, Right::Read));
+    Ok(())
+}
+
+// An end may pass a region that covers no address.
+#[test]
+fn end_behind_an_empty_region(rt: HostRuntime) -> Result<(), Fail> {
+    let mut memory = Memory::make(rt.alloc(), 64, vec![in rt.alloc(); WHOLE, EMPTY]?)?;
+    memory.fill(16, &[1, 2, 3, 4, 5, 6, 7, 8]);
+    memory.resize(0, 40);
+    assert_eq!(rt; memory.load(20, Width::Four), Ok(0x0807_0605));
+    assert!(rt; memory.holds(36, 4, Right::Write));
+    Ok(())
+}

@@ -4,7 +4,7 @@
 
 mod runs;
 
-pub use runs::{alone, pair, report, report_by_text};
+pub use runs::{alone, pair, report, report_by_text, starved};
 
 #[cfg(test)]
 mod rules;

@@ -1,5 +1,5 @@
 // Runs of small programs.
-ghost use Rattle.std.specs.Prelude.{◌≡◌, ◌≤◌, IfSome, length};
+ghost use Rattle.std.specs.Prelude.{◌≡◌, ◌≤◌, [], IfSome, length};
 ghost use Rattle.nv_threads.specs.Threads.{threads};
 ghost use Rattle.nv_replay.specs.Versions.{IsFresh};
 ghost use Rattle.nv_replay.specs.Accounts.{AreFresh};
@@ -8,7 +8,7 @@ use nv_bpf::Filter;
 use nv_guest::Guest;
 use nv_kernel::ScriptKernel;
 use nv_outside::CalmSink;
-use nv_replay::{Account, Version};
+use nv_replay::{Account, Led, Version};
 use nv_threads::Process;
 use std::alloc::Global;
 
@@ -56,6 +56,13 @@ fn version(alloc: Global, index: u32, words: &[u32]) -> Option<Version>
     Version::make(alloc, index, process).ok()
 }
 
+fn kernel(alloc: Global) -> Option<ScriptKernel>
+    ensures { IfSome result (λ kernel. kernel.log ≡ []) }
+{
+    let script = nv_script::read(alloc, b"varan-script 1").ok()?;
+    ScriptKernel::make(alloc, &script).ok()
+}
+
 fn run(
     alloc: Global,
     versions: Vec<Version>,
@@ -64,9 +71,7 @@ fn run(
     requires fresh { AreFresh threads 0 versions.items }
     requires few { length versions.items ≤ 8 }
 {
-    let script = nv_script::read(alloc, b"varan-script 1").ok()?;
-    let kernel = ScriptKernel::make(alloc, &script).ok()?;
-    Some(nv_sequence::run(versions, rules, kernel, MOST_EVENTS))
+    Some(nv_sequence::run(versions, rules, kernel(alloc)?, MOST_EVENTS))
 }
 
 /// The account of a run of one program.
@@ -74,6 +79,20 @@ pub fn alone(alloc: Global, words: &[u32]) -> Option<Account<ScriptKernel>> {
     let version = version(alloc, 0, words)?;
     let versions = vec![in alloc; version].ok()?;
     run(alloc, versions, None)
+}
+
+/// The account of a program that leads, if there is no memory for its first call.
+pub fn starved(alloc: Global, words: &[u32]) -> Option<Account<ScriptKernel>> {
+    let mut version = version(alloc, 0, words)?;
+    version.begin_lead();
+    let Led::Asked(_) = version.lead(MOST_EVENTS) else {
+        return None;
+    };
+    version.refuse_memory();
+    Some(Account {
+        kernel: kernel(alloc)?,
+        versions: vec![in alloc; version].ok()?,
+    })
 }
 
 /// The account of a run of two programs without rules.

@@ -1,6 +1,7 @@
-use crate::{alone, pair};
+use crate::{alone, pair, starved};
 use nv_calls::{Event, SyscallKernel};
 use nv_kernel::ScriptKernel;
+use nv_machine::FaultKind;
 use nv_replay::{Account, Fate, Standing};
 use serde_json::Value;
 use std::alloc::Global;
@@ -75,13 +76,30 @@ fn is_event(alloc: Global, value: &Value, event: &Event) -> Option<bool> {
     )
 }
 
+fn word_of(kind: FaultKind) -> &'static str {
+    match kind {
+        FaultKind::Illegal => "illegal",
+        FaultKind::Misaligned => "misaligned",
+        FaultKind::Fetch => "fetch",
+        FaultKind::Load => "load",
+        FaultKind::Store => "store",
+        FaultKind::Breakpoint => "breakpoint",
+        FaultKind::Budget => "budget",
+        FaultKind::Deadlock => "deadlock",
+        FaultKind::Calls => "calls",
+    }
+}
+
 fn is_fate(alloc: Global, value: &Value, fate: Fate) -> Option<bool> {
     let name = text(value, "fate")?;
     match fate {
         Fate::Exited(code) => Some(name == "exited" && has(value, "code", u32::from(code))),
-        Fate::Fault { tid, pc, .. } => {
-            Some(name == "fault" && has(value, "tid", tid) && word(alloc, value, "pc")? == pc)
-        }
+        Fate::Fault { kind, tid, pc } => Some(
+            name == "fault"
+                && text(value, "kind")? == word_of(kind)
+                && has(value, "tid", tid)
+                && word(alloc, value, "pc")? == pc,
+        ),
         Fate::Refused {
             tid,
             nr,
@@ -193,6 +211,58 @@ fn json_reads_back(rt: HostRuntime) -> Result<(), Fail> {
         let text = nv_report::json(rt.alloc(), &account)?;
         assert!(rt; is_account(rt.alloc(), text.as_str(), &account) == Some(true));
     }
+    Ok(())
+}
+
+// A waiter whom no thread can wake, and a program that asks for its number again and again.
+const WAITS: [u32; 6] = [
+    0x00010537, 0x00000593, 0x00052603, 0x00000693, 0x1a600893, 0x00000073,
+];
+
+const ASKS: [u32; 3] = [0x0ac00893, 0x00000073, 0xffdff06f];
+
+// The kind of the only version's fault.
+fn is_kind(alloc: Global, text_of_run: &str, kind: &str) -> Option<bool> {
+    let value = Value::from_str(alloc, text_of_run).ok()?;
+    let [fate] = value.get("fates")?.as_array()?.as_slice() else {
+        return None;
+    };
+    Some(text(fate, "kind")? == kind)
+}
+
+#[test]
+fn fault_kinds_read_back(rt: HostRuntime) -> Result<(), Fail> {
+    let runs: [(&[u32], &str); 9] = [
+        (&[0], "illegal"),
+        (&[0x0020006f], "misaligned"),
+        (&[0x00000067], "fetch"),
+        (&[0x00002503], "load"),
+        (&[0x00002023], "store"),
+        (&[0x00100073], "breakpoint"),
+        (&[0x0000006f], "budget"),
+        (&WAITS, "deadlock"),
+        (&ASKS, "calls"),
+    ];
+    for (words, kind) in runs {
+        let account = alone(rt.alloc(), words).expect(&rt, "a run");
+        let text = nv_report::json(rt.alloc(), &account)?;
+        assert!(rt; is_account(rt.alloc(), text.as_str(), &account) == Some(true));
+        assert!(rt; is_kind(rt.alloc(), text.as_str(), kind) == Some(true));
+    }
+    Ok(())
+}
+
+// Nor does the text of a run that wants memory read as one that ended otherwise.
+#[test]
+fn want_of_memory_reads_back(rt: HostRuntime) -> Result<(), Fail> {
+    let account = starved(rt.alloc(), &EXIT).expect(&rt, "a version that asks");
+    let text = nv_report::json(rt.alloc(), &account)?;
+    let expected =
+        "{\"fates\":[{\"fate\":\"memory\",\"led\":[[0,0]],\"rewrites\":0,\"seen\":0}],\"log\":[],\"output\":\"\"}";
+    assert_eq!(rt; text.as_str(), expected);
+    assert!(rt; is_account(rt.alloc(), text.as_str(), &account) == Some(true));
+    let ended = alone(rt.alloc(), &[0]).expect(&rt, "a run");
+    assert!(rt; is_account(rt.alloc(), text.as_str(), &ended) == Some(false));
     Ok(())
 }
 

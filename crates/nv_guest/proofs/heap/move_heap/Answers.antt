@@ -2,8 +2,14 @@ use Rattle.std.proofs.Common.{◌≡◌, ◌∙◌, sym, subst, ℕ, List, lengt
 use Rattle.nv_memory.specs.declared.region.Region.{Region}
 use Rattle.nv_memory.specs.Image.{Image}
 use Rattle.nv_guest.specs.Heap.{HasHeap}
-use Rattle.nv_guest.proofs.Heaps.{are_moved, heap_moved, moved_is}
+use Rattle.nv_guest.proofs.Heaps.{are_moved, start_is_last, heap_moved, moved_is}
 use Rattle.nv_guest.proofs.heap.move_heap.Goals as goal
+
+pub resize-requires-clause-ordered : goal.resize-requires-clause-ordered
+resize-requires-clause-ordered c =
+    let begins = start_is_last c.args.memory.now.regions c.args.heap.now.place c.requires.place in
+    let start = c.requires.start in
+    omega (arith, begins, start, c.if-address-heap.false)
 
 pub resize-requires-clause-fits : goal.resize-requires-clause-fits
 resize-requires-clause-fits c =
@@ -11,7 +17,7 @@ resize-requires-clause-fits c =
     let heap = c.args.heap.now in
     let limit = c.requires.limit in
     are_moved (length m.bytes) m.regions heap.place c.args.address heap.start heap.limit c.requires.place c.requires.are c.requires.clear c.requires.start
-    (omega (arith, c.if-address-heap.false)) (omega (arith, c.if-address-heap-2.false)) (omega (arith, limit))
+    (omega (arith, c.if-address-heap-2.false)) (omega (arith, limit))
 
 -- the memory behind the call
 behind : (m : Image) (bytes : List ℕ) (regions : List Region) → m.bytes ≡ bytes → m.regions ≡ regions → m ≡ record { bytes = bytes; regions = regions }
@@ -27,4 +33,4 @@ returns-clause-heap c =
     let heap = c.args.heap.now in
     subst (λ (m : Image). HasHeap m record { place = heap.place; start = heap.start; end = c.args.address; limit = heap.limit })
     (sym (behind _ _ _ c.resize.ensures.bytes c.resize.ensures.regions))
-    (heap_moved c.args.memory.now heap c.args.address c.requires (omega (arith, c.if-address-heap.false)) (omega (arith, c.if-address-heap-2.false)))
+    (heap_moved c.args.memory.now heap c.args.address c.requires (omega (arith, c.if-address-heap-2.false)))
