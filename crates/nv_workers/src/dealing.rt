@@ -10,11 +10,12 @@ use nv_bpf::Filter;
 use nv_calls::SyscallKernel;
 use nv_outside::Gate;
 use nv_room::Room;
+use std::sync::Wait;
 use std::thread;
 use std::thread::Threads;
 
 /// Each thread takes the turns of a stretch of the workers in rotation.
-pub(crate) fn deal<R: Threads + Sync, K: SyscallKernel, G: Gate + Sync>(
+pub(crate) fn deal<R: Threads + Wait + Sync, K: SyscallKernel, G: Gate + Sync>(
     rt: &R,
     workers: &mut [Worker<K>],
     room: &Room<K>,
@@ -32,6 +33,6 @@ pub(crate) fn deal<R: Threads + Sync, K: SyscallKernel, G: Gate + Sync>(
     let turns = |_start: usize, part: &mut [Worker<K>]|
         requires { CanAll (judge_of (option_copied rules)) room.now most part.now × (most ≤ 131072) }
         ensures { AllOn (judge_of (option_copied rules.entry)) room.entry.now most part.entry.now part.exit.now }
-    { rotate_while_moving(part, room, rules, gate, most, &parts) };
+    { rotate_while_moving(rt, part, room, rules, gate, most, &parts) };
     thread::for_each_chunk_mut(rt, workers, size, &turns);
 }

@@ -12,6 +12,7 @@ use nv_room::Room;
 use std::sync::Wait;
 use std::sync::atomic::{AtomicU64, Ordering};
 use std::thread::yield_now;
+use std::time::Duration;
 
 // A turn of each worker.
 fn round<K: SyscallKernel, G: Gate>(
@@ -77,11 +78,25 @@ impl Parts {
     }
 }
 
-// After so many rounds in a row in which none of them moved, a part gives up, unless all parts run beside each other.
-const IDLE_ROUNDS: u32 = 1_000_000;
+// Rounds in a row in which no worker moved: for so many the thread yields the processor, behind them it sleeps.
+const YIELDS: u32 = 200;
+
+// After so many, a part gives up, unless all parts run beside each other.
+const IDLE_ROUNDS: u32 = 1_000;
+
+// A thread that has nothing to do yields the processor at first, and then sleeps, from 64 microseconds up to a millisecond.
+fn rest<R: Wait>(rt: &R, idle: u32) {
+    if idle < YIELDS {
+        yield_now();
+        return;
+    }
+    let length = 64 << (idle - YIELDS).min(4);
+    AtomicU64::new(0).park_timeout(rt, 0, Duration::from_micros(length));
+}
 
 /// Turns in rotation, until all have ended or none has moved for long.
-pub(crate) fn rotate_while_moving<K: SyscallKernel, G: Gate>(
+pub(crate) fn rotate_while_moving<R: Wait, K: SyscallKernel, G: Gate>(
+    rt: &R,
     workers: &mut [Worker<K>],
     room: &Room<K>,
     rules: Option<&Filter>,
@@ -106,7 +121,7 @@ pub(crate) fn rotate_while_moving<K: SyscallKernel, G: Gate>(
                     parts.give_up();
                     return;
                 }
-                yield_now();
+                rest(rt, idle);
             }
         }
     }
@@ -126,11 +141,15 @@ pub(crate) fn rotate<R: Wait, K: SyscallKernel, G: Gate>(
     ensures on { AllOn (judge_of (option_copied rules.entry)) room.now most workers.old workers.new }
     ensures gone { AreGone workers.new }
 {
+    let mut idle: u32 = 0;
     for _ in rt.forever() {
         match round(workers, room, rules, gate, most) {
             Turn::Done => return,
-            Turn::Moved => {}
-            Turn::Waiting => yield_now(),
+            Turn::Moved => idle = 0,
+            Turn::Waiting => {
+                idle = idle.saturating_add(1);
+                rest(rt, idle);
+            }
         }
     }
     unreachable!()
