@@ -1,0 +1,70 @@
+# Prints the log of `varan run --json` as strace prints calls, one a line:  jq -r -f strace.jq REPORT
+# The log has no addresses: where strace would print one, it has `...`. As with strace, texts are cut at 32 bytes.
+
+def signed: if . < 2147483648 then . else . - 4294967296 end;
+
+def in_digits($base): if . < $base then [.] else ((. / $base | floor) | in_digits($base)) + [. % $base] end;
+def octal: in_digits(8) | map(tostring) | add;
+def hex: if . == 0 then "0" else "0x" + (in_digits(16) | map("0123456789abcdef"[. : . + 1]) | add) end;
+
+# the bytes of a hexadecimal text, and the numbers that they spell, so many bytes each
+def bytes: explode | map(if . > 57 then . - 87 else . - 48 end) | [range(0; length; 2) as $i | .[$i] * 16 + .[$i + 1]];
+def numbers($size): bytes | [range(0; length; $size) as $i | reduce .[$i : $i + $size][range($size - 1; -1; -1)] as $b (0; . * 256 + $b)];
+
+# a byte as it stands in quotes, before another
+def escaped($next):
+    {"34": "\\\"", "92": "\\\\", "9": "\\t", "10": "\\n", "11": "\\v", "12": "\\f", "13": "\\r"}[tostring] //
+    if . >= 32 and . < 127 then [.] | implode
+    elif $next != null and $next >= 48 and $next <= 57 then "\\" + ("00" + octal)[-3:]
+    else "\\" + octal end;
+def quoted: .[:32] as $b | "\"" + ([range($b | length) as $i | $b[$i] | escaped($b[$i + 1])] | join("")) + "\"" + (if length > 32 then "..." else "" end);
+
+def bits: if . < 1 then [] else [. % 2] + (. / 2 | floor | bits) end;
+# the names of bits, lowest first, and what is left
+def flags($names): bits as $bits |
+    [range($bits | length) | select($bits[.] == 1) | . as $i | $names[tostring] // (reduce range($i) as $n (1; . * 2) | hex)] | join("|") | if . == "" then "0" else . end;
+def open_flags: ["O_RDONLY", "O_WRONLY", "O_RDWR", "O_ACCMODE"][. % 4] as $mode | (. - . % 4) |
+    $mode + if . == 0 then "" else "|" + flags({"6": "O_CREAT", "7": "O_EXCL", "9": "O_TRUNC", "10": "O_APPEND"}) end;
+def clone_flags: flags({"8": "CLONE_VM", "9": "CLONE_FS", "10": "CLONE_FILES", "11": "CLONE_SIGHAND", "16": "CLONE_THREAD", "18": "CLONE_SYSVSEM", "19": "CLONE_SETTLS"});
+
+# a number that stands for a descriptor, or for the working directory
+def descriptor: signed | if . == -100 then "AT_FDCWD" else tostring end;
+# bytes that were handed in, and what the call gave, from an event
+def sent: if .ret == -14 then "..." else .payload | bytes | quoted end;
+def got(text): if .ret < 0 then "..." else text end;
+def read_text: got(.payload | bytes | quoted);
+def given($size): got(.payload | numbers($size) | map(tostring) | "[" + join(", ") + "]");
+def text_at($i): .payload | bytes[65 * $i : 65 * $i + 65] | .[: index(0)] | quoted;
+def time: got(.payload | numbers(8) | "{tv_sec=\(.[0]), tv_nsec=\(.[1])}");
+
+def name: {"17": "getcwd", "23": "dup", "24": "dup3", "29": "ioctl", "35": "unlinkat", "56": "openat", "57": "close", "59": "pipe2", "62": "_llseek",
+    "63": "read", "64": "write", "65": "readv", "66": "writev", "93": "exit", "94": "exit_group", "160": "uname", "172": "getpid", "173": "getppid",
+    "174": "getuid", "175": "geteuid", "176": "getgid", "177": "getegid", "220": "clone", "278": "getrandom", "403": "clock_gettime64"}[tostring]
+    // "syscall_" + hex;
+
+def arguments: .args as [$a, $b, $c, $d, $e] | .nr as $nr |
+    if $nr == 17 then [got(.payload | bytes[:-1] | quoted), $b]
+    elif $nr == 23 or $nr == 57 then [$a | descriptor]
+    elif $nr == 24 then [($a | descriptor), ($b | descriptor), ($c | flags({"19": "O_CLOEXEC"}))]
+    elif $nr == 29 then [($a | descriptor), ($b | hex), "..."]
+    elif $nr == 35 then [($a | descriptor), sent, ($c | hex)]
+    elif $nr == 56 then [($a | descriptor), sent, ($c | open_flags)]
+    elif $nr == 59 then [given(4), ($b | flags({"11": "O_NONBLOCK", "19": "O_CLOEXEC"}))]
+    elif $nr == 62 then [($a | descriptor), ($b | signed) * 4294967296 + $c, given(8), (["SEEK_SET", "SEEK_CUR", "SEEK_END"][$e] // $e)]
+    elif $nr == 63 or $nr == 65 then [($a | descriptor), read_text, $c]
+    elif $nr == 64 or $nr == 66 then [($a | descriptor), sent, $c]
+    elif $nr == 93 or $nr == 94 then [$a | signed]
+    elif $nr == 160 then [got("{sysname=\(text_at(0)), nodename=\(text_at(1)), ...}")]
+    elif $nr >= 172 and $nr <= 177 then []
+    elif $nr == 220 then ["child_stack=...", "flags=\($a | clone_flags)"]
+    elif $nr == 278 then [read_text, $b, ($c | hex)]
+    elif $nr == 403 then [(["CLOCK_REALTIME", "CLOCK_MONOTONIC"][$a] // $a), time]
+    else .args | map(hex) end | map(tostring) | join(", ");
+
+def result: if .nr == 93 or .nr == 94 then "?"
+    elif .ret < 0 and .ret >= -4095 then "-1 " + ({"2": "ENOENT", "9": "EBADF", "11": "EAGAIN", "14": "EFAULT", "17": "EEXIST", "20": "ENOTDIR", "22": "EINVAL",
+        "24": "EMFILE", "25": "ENOTTY", "27": "EFBIG", "28": "ENOSPC", "29": "ESPIPE", "32": "EPIPE", "34": "ERANGE", "36": "ENAMETOOLONG", "38": "ENOSYS"}[-.ret | tostring])
+    else .ret end;
+
+(.log | any(.tid != 100)) as $threads | .log[] |
+    (if $threads then "[pid " + ("    \(.tid)"[-5:]) + "] " else "" end) + "\(.nr | name)(\(arguments)) = \(result)"
