@@ -6,6 +6,7 @@ use std::thread::Threads;
 mod alone;
 mod asm;
 mod beside;
+mod causes;
 mod judged;
 mod line;
 mod linker;
