@@ -6,7 +6,7 @@ taken in turns. Build the program first: `cd crates/varan && rt run -- run --scr
 also times another build of the program, as one from before a change.
 
 - Versions that compute and make one call, and versions that write 65,535 bytes, one a call: k equal ones against one.
-- The same writes on one thread, and over rings of 2, 256 and 1,024 places.
+- A tenth of the writes over rings of 256, 2 and 1,024 places, and on one thread.
 - A leader beside a slow follower: the leader makes 1,000 calls at once and then computes; the follower computes as much, a part before each
   call. Where the leader waits for nobody the run takes as long as the follower computes, and else as long as both.
 - Seven followers that wait for a leader which computes: the processor time of all against the wall time.
@@ -83,6 +83,7 @@ CALLS = 1_000
 GUESTS = {
     "computes": image(compute(TURNS) + EXIT),
     "writes": writes(65_535),
+    "few": writes(6_553),
     "early": image(loop(S0, CALLS, ASK) + compute(TURNS) + EXIT),
     "between": image(loop(S0, CALLS, compute(TURNS // CALLS) + ASK) + EXIT),
     "slow": image(loop(S0, 10, compute(TURNS // 10) + ASK) + EXIT),
@@ -134,8 +135,8 @@ def main():
         bench = Bench(folder)
         bench.table([(f"{k} that compute", ["computes"] * k, (), PROGRAM) for k in (1, 2, 4, 8)])
         bench.table([(f"{k} that write", ["writes"] * k, (), PROGRAM) for k in (1, 2, 4, 8)])
-        bench.table([(f"8 that write, ring of {n}", ["writes"] * 8, ("--ring", str(n)), PROGRAM) for n in (256, 2, 1024)]
-                    + [("8 that write, one thread", ["writes"] * 8, ("--threads", "1"), PROGRAM)])
+        bench.table([(f"8 that write a tenth, ring of {n}", ["few"] * 8, ("--ring", str(n)), PROGRAM) for n in (256, 2, 1024)]
+                    + [("8 that write a tenth, one thread", ["few"] * 8, ("--threads", "1"), PROGRAM)])
         bench.table([("slow follower alone", ["between"], (), PROGRAM)]
                     + [(f"a quick leader and it, ring of {n}", ["early", "between"], ("--ring", str(n)), PROGRAM) for n in (1024, 256, 2)])
         bench.table([("slow leader alone", ["slow"], (), PROGRAM),
