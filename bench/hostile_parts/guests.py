@@ -1,0 +1,291 @@
+"""Files of runs: guests as assembler texts, rules and scripts."""
+import struct
+
+# Tells what a script says: the input, a file, the clock, random bytes, and the first byte of each argument.
+TELLING = b"""
+    lw s0, 0(sp)
+    addi s1, sp, 8
+    la s2, place
+    li a0, 0
+    mv a1, s2
+    li a2, 64
+    li a7, 63
+    ecall
+    jal ra, say
+    li a0, -100
+    la a1, name
+    li a2, 0
+    li a7, 56
+    ecall
+    mv a1, s2
+    li a2, 64
+    li a7, 63
+    ecall
+    jal ra, say
+    li a0, 1
+    mv a1, s2
+    li a7, 403
+    ecall
+    li a0, 16
+    jal ra, say
+    mv a0, s2
+    li a1, 8
+    li a2, 0
+    li a7, 278
+    ecall
+    jal ra, say
+    mv s3, s0
+next: addi s3, s3, -1
+    beq s3, zero, done
+    lw s2, 0(s1)
+    addi s1, s1, 4
+    li a0, 1
+    jal ra, say
+    j next
+done: mv a0, s0
+    li a7, 94
+    ecall
+say: bge a0, zero, some
+    li a0, 0
+some: mv a2, a0
+    mv a1, s2
+    li a0, 1
+    li a7, 64
+    ecall
+    jalr zero, 0(ra)
+.data
+name: .ascii "f\\0"
+place: .zero 64
+"""
+
+# Writes from its data, makes a file and a pipe, and moves its break.
+BUSY = b"""
+    la a1, words
+    li a0, 1
+    li a2, 6
+    li a7, 64
+    ecall
+    li a0, 0
+    li a7, 214
+    ecall
+    li t0, 8192
+    add a0, a0, t0
+    ecall
+    addi s0, a0, -4
+    sw a0, 0(s0)
+    li a0, -100
+    la a1, name
+    li a2, 66
+    li a7, 56
+    ecall
+    mv s1, a0
+    mv a1, s0
+    li a2, 4
+    li a7, 64
+    ecall
+    la a0, ends
+    li a1, 0
+    li a7, 59
+    ecall
+    la t0, ends
+    lw a0, 4(t0)
+    la a1, words
+    li a2, 5
+    li a7, 64
+    ecall
+    la t0, ends
+    lw a0, 0(t0)
+    mv a1, s0
+    li a7, 63
+    ecall
+    li a0, 3
+    li a7, 94
+    ecall
+.data
+words: .ascii "hello\\n"
+name: .ascii "made\\0"
+ends: .word 0, 0
+"""
+
+# Two threads; the second writes when the first has woken it.
+THREADS = b"""
+    li a0, 69376
+    addi a1, sp, -1024
+    li a7, 220
+    ecall
+    beq a0, zero, second
+    li t0, 300
+spin: addi t0, t0, -1
+    bne t0, zero, spin
+    la t1, flag
+    li t0, 1
+    sw t0, 0(t1)
+    mv a0, t1
+    li a1, 1
+    li a2, 1
+    li a7, 422
+    ecall
+    li a0, 0
+    li a7, 93
+    ecall
+second: la a0, flag
+    li a1, 0
+    li a2, 0
+    li a3, 0
+    li a7, 422
+    ecall
+    li a0, 1
+    la a1, flag
+    li a2, 4
+    li a7, 64
+    ecall
+    li a0, 0
+    li a7, 94
+    ecall
+.data
+flag: .word 0
+"""
+
+# Every form of the assembler.
+FORMS = b"""# forms
+.entry go
+add a0, a1, a2
+xor x31,x0,t6
+addi t0, t1, -2048
+srai s0, fp, 31
+lw ra, 4(sp)
+jalr zero, 0(ra)
+sb a0, -1(gp)
+go: beq a0, zero, far
+jal ra, go
+lui t0, 0xFFFFF
+auipc t0, 1
+fence
+ebreak
+.text
+li a0, -5
+la a1, text
+far: mv a0, tp
+j go
+nop
+ecall
+.byte 1, -128, 255
+.word 0xDEADBEEF, go
+.data
+text: .ascii "a\\n\\t\\0\\\\\\"#" # end
+.zero 5
+.word text, -1
+"""
+
+RULE_FORMS = b"""; forms
+start: ld [0]
+ld event[4]
+ld version
+ld #7
+st M[0]
+ldx M[0]
+stx M[15]
+ld M[15]
+ld len
+ldx len
+ldx #3
+add #1
+sub x
+mul #2
+div #5
+div x
+or x
+and #255
+lsh #31
+rsh x
+neg
+tax
+txa
+jeq #177, a, no
+a: jgt x, b, no
+b:  jge #1, c, no ; yes
+c: jset #4, d, no
+d: ja no
+ret a
+no: ret #0
+"""
+
+# Allows getuid in place of geteuid.
+ALLOWING = b"6\n32 0 0 64\n21 0 3 177\n32 0 0 0\n21 0 1 174\n6 0 0 2147418112\n6 0 0 0\n"
+# Allows every call, behind each kind of instruction.
+LONG_RULE = b"""26
+128 0 0 0
+7 0 0 0
+1 0 0 9
+135 0 0 0
+2 0 0 15
+97 0 0 15
+4 0 0 3
+28 0 0 0
+36 0 0 2
+52 0 0 7
+60 0 0 0
+68 0 0 1
+92 0 0 0
+100 0 0 31
+124 0 0 0
+132 0 0 0
+3 0 0 0
+96 0 0 0
+129 0 0 0
+32 0 0 128
+37 1 0 4
+53 0 0 0
+77 0 0 0
+5 0 0 0
+0 0 0 2147418112
+22 0 0 0
+"""
+
+SCRIPT = b"""varan-script 1
+# all words
+arg one word
+arg 2
+line typed
+input 00fF0a
+file f 6162630a
+file g
+clock 5 999999999 1000000000
+random 4294967295
+"""
+
+GETEUID_CALL = [0x0B100893, 0x00000073, 0x00000513, 0x05E00893, 0x00000073]
+WITH_GETUID = [0x0AE00893, 0x00000073, *GETEUID_CALL]
+
+# The report of the example in crates/varan/data (README.md, "Run it"), up to the number of versions.
+EXAMPLE = b"output 3\nhi\n\nlog 2\n0 100 64 1 0 3 0 0 0 = 3 : 68690a\n1 100 94 0 0 0 0 0 0 = 0 :\nfates "
+GETEUID = b"output 0\n\nlog 2\n0 100 177 0 0 0 0 0 0 = 1000 :\n1 100 94 0 0 0 0 0 0 = 0 :\nfates 2\n0 exited 0 seen 2 led 0-2 rewrites 0\n1 "
+
+
+def image(words, tail=b""):
+    """A version file: one segment with the rights read and execute at 0x10000, with the entry there."""
+    code = b"".join(struct.pack("<I", word) for word in words) + tail
+    head = bytes.fromhex("7F454C46010101000000000000000000") + struct.pack(
+        "<HHIIIIIHHHHHH", 2, 243, 1, 0x10000, 52, 0, 0, 52, 32, 1, 0, 0, 0)
+    return head + struct.pack("<IIIIIIII", 1, 84, 0x10000, 0x10000, len(code), len(code), 5, 4) + code
+
+
+def told(script):
+    """What `TELLING` writes and its status, by what the script says."""
+    start, nanos, step = script.clock or (0, 0, 0)
+    moment = start * 10**9 + nanos + 5 * step
+    state, drawn = script.seed or 0, b""
+    for _ in range(8):
+        state = (state * 0x5851F42D4C957F2D + 0x14057B7EF767814F) % 2**64
+        drawn += bytes([state >> 56])
+    shown = script.input[:64] + script.files.get(b"f", b"")[:64] + struct.pack("<QQ", *divmod(moment, 10**9)) + drawn
+    return shown + b"".join(text[:1] for text in script.arguments), (len(script.arguments) + 1) % 256
+
+
+def made_line(number):
+    """The line of `gen`: version i below the last breaks behind its write k (i + 1) / v; those above the first ask for their user before each 16th write."""
+    versions, writes, size = 2 + number % 3, 1000 + number % 9000, 1 + number % 64
+    first = writes // versions
+    events = writes + writes // 16 - first // 16 + 1
+    rewrites = (versions - 1) * (first // 16)
+    return b"gen %d versions %d output %d log %d exited 1 rewrites %d\n" % (number, versions, writes * size, events, rewrites)

@@ -1,0 +1,329 @@
+"""Readers of what the program reads and writes, for bench/hostile.py. They are written from the descriptions of the forms (docs/SCRIPT.md,
+docs/RULES.md, docs/REPORT.md, docs/HOSTILE.md, the System V ABI's ELF32, the filters of McCanne and Jacobson), not from the program.
+
+Each reader of a file raises `Refused` with the cause that the program has to name.
+"""
+import json
+import re
+import struct
+
+
+class Refused(Exception):
+    """A file is refused; the text is the cause."""
+
+
+class Wrong(Exception):
+    """The program wrote something that it must not write; the text says what."""
+
+
+def lines_of(content):
+    """Lines that end with a newline; the last newline may be missing."""
+    lines = content.split(b"\n")
+    if lines[-1] == b"":
+        lines.pop()
+    return lines
+
+
+def number(text, limit=4_294_967_295):
+    """A decimal number of up to 32 bits, or None. Leading zeros are fine."""
+    if not re.fullmatch(rb"[0-9]+", text):
+        return None
+    value = int(text)
+    return value if value <= limit else None
+
+
+def unhex(text):
+    return bytes.fromhex(text.decode()) if re.fullmatch(rb"([0-9A-Fa-f]{2})*", text) else None
+
+
+# Scripts
+
+
+class Script:
+    def __init__(self):
+        self.arguments, self.input, self.files, self.clock, self.seed = [], b"", {}, None, None
+
+
+def script_line(script, line):
+    """Takes one line in, or answers its cause."""
+    word, space, rest = line.partition(b" ")
+    if word not in (b"arg", b"line", b"input", b"file", b"clock", b"random"):
+        return "word"
+    if not space:
+        return "shape"
+    if word == b"arg":
+        if not re.fullmatch(rb"[ -~]+", rest):
+            return "shape"
+        if len(script.arguments) == 256:
+            return "long"
+        script.arguments.append(rest)
+    elif word == b"line":
+        script.input += rest + b"\n"
+    elif word == b"input":
+        content = unhex(rest)
+        if content is None:
+            return "shape"
+        script.input += content
+    elif word == b"file":
+        name, _, text = rest.partition(b" ")
+        content = unhex(text)
+        if content is None or not re.fullmatch(rb"[!-.0-~]{1,255}", name) or name in (b".", b".."):
+            return "shape"
+        if name in script.files:
+            return "twice"
+        if len(script.files) == 256 or len(content) > 1_048_576:
+            return "long"
+        script.files[name] = content
+    elif word == b"clock":
+        numbers = [number(text) for text in rest.split(b" ")]
+        if len(numbers) != 3 or None in numbers:
+            return "shape"
+        if numbers[1] > 999_999_999 or numbers[2] > 1_000_000_000:
+            return "range"
+        if script.clock is not None:
+            return "twice"
+        script.clock = numbers
+    else:
+        seed = number(rest)
+        if seed is None:
+            return "shape"
+        if script.seed is not None:
+            return "twice"
+        script.seed = seed
+    return None
+
+
+def read_script(content):
+    lines = lines_of(content)
+    if not lines or lines[0] != b"varan-script 1":
+        raise Refused("line 1 form")
+    script = Script()
+    for place, line in enumerate(lines[1:], 2):
+        cause = script_line(script, line) if line and not line.startswith(b"#") else None
+        if cause:
+            raise Refused(f"line {place} {cause}")
+    return script
+
+
+# Filters
+
+LOADS, STORES, RETURNS = {0x60, 0x61}, {0x02, 0x03}, {0x06, 0x16}
+BRANCHES = {0x15, 0x1D, 0x25, 0x2D, 0x35, 0x3D, 0x45, 0x4D}
+ARITHMETIC = {0x04, 0x0C, 0x14, 0x1C, 0x24, 0x2C, 0x34, 0x3C, 0x44, 0x4C, 0x54, 0x5C, 0x64, 0x6C, 0x74, 0x7C, 0x84}
+CODES = {0x20, 0x00, 0x01, 0x80, 0x81, 0x05, 0x07, 0x87} | LOADS | STORES | RETURNS | BRANCHES | ARITHMETIC
+
+
+def filter_fault(place, count, code, true, false, k):
+    if code not in CODES:
+        return "code"
+    if code == 0x05 and place + 1 + k >= count or code in BRANCHES and place + 1 + max(true, false) >= count:
+        return "jump"
+    if code in LOADS | STORES and k > 15:
+        return "scratch"
+    if code == 0x20 and (k % 4 != 0 or k > 128):
+        return "offset"
+    if code == 0x34 and k == 0:
+        return "zero"
+    if code in (0x64, 0x74) and k > 31:
+        return "shift"
+    return None
+
+
+def read_filter(content):
+    lines = lines_of(content)
+    count = number(lines[0]) if lines else None
+    if count is None:
+        raise Refused("line 1")
+    if count == 0:
+        raise Refused("empty")
+    if count > 4096:
+        raise Refused("too long")
+    code = []
+    for place in range(1, count + 1):
+        if place >= len(lines):
+            raise Refused("count")
+        fields = lines[place].split(b" ")
+        limits = (65_535, 255, 255, 4_294_967_295)
+        values = [number(text, limit) for text, limit in zip(fields, limits)]
+        if len(fields) != 4 or None in values:
+            raise Refused(f"line {place + 1}")
+        code.append(values)
+    if len(lines) > count + 1:
+        raise Refused("count")
+    for place, fields in enumerate(code):
+        fault = filter_fault(place, count, *fields)
+        if fault:
+            raise Refused(f"{fault} {place}")
+    if code[-1][0] not in RETURNS:
+        raise Refused("no return")
+    return code
+
+
+# Version files
+
+
+def read_version(content, memory, arguments=()):
+    """The segments of a version that a guest with so many bytes of memory and these arguments can be made of."""
+    if len(content) < 52:
+        raise Refused("short")
+    if content[:4] != b"\x7fELF":
+        raise Refused("magic")
+    if content[4] != 1 or content[5] != 1:
+        raise Refused("class")
+    kind, machine, version, entry, table = struct.unpack_from("<HHIII", content, 16)
+    flags, size, count = struct.unpack_from("<I2xHH", content, 36)
+    if kind != 2:
+        raise Refused("type")
+    if machine != 243:
+        raise Refused("machine")
+    if flags & 15:
+        raise Refused("flags")
+    if content[6] != 1 or version != 1 or count > 64 or count > 0 and (size != 32 or table + 32 * count > len(content)):
+        raise Refused("header")
+    heads = [struct.unpack_from("<8I", content, table + 32 * i) for i in range(count)]
+    segments = [head for head in heads if head[0] == 1 and head[5] > 0]
+    if len(segments) > 16:
+        raise Refused("header")
+    if any(head[0] in (2, 3) for head in heads):
+        raise Refused("interpreted")
+    for i, (_, offset, address, _, filed, held, _, _) in enumerate(segments):
+        if filed > held or offset + filed > len(content) or address + held > 2**32 - 1:
+            raise Refused(f"outside {i}")
+    spans = [(head[2], head[2] + head[5], head[6]) for head in segments]
+    for a, (start, end, _) in enumerate(spans):
+        for b, (other_start, other_end, _) in enumerate(spans[a + 1:], a + 1):
+            if start < other_end and other_start < end:
+                raise Refused(f"overlap {a} {b}")
+    if entry % 4 != 0 or not any(start <= entry and entry + 4 <= end and rights & 1 for start, end, rights in spans):
+        raise Refused("entry")
+    for i, (_, end, _) in enumerate(spans):
+        if end > memory - 65_536:
+            raise Refused(f"no room {i}")
+    texts = [b"guest", *arguments]
+    stack = memory - sum(len(text) + 1 for text in texts) - 4 * (len(texts) + 5)
+    if memory - stack // 16 * 16 > 65_536:
+        raise Refused("arguments")
+    return spans
+
+
+# Reports
+
+NUMBER = r"(0|[1-9][0-9]*)"
+KINDS = "illegal|misaligned|fetch|load|store|breakpoint|budget|deadlock|calls"
+EVENT = re.compile(rf"{NUMBER} {NUMBER} {NUMBER}((?: (?:0|[1-9][0-9]*)){{6}}) = (0|-?[1-9][0-9]*) :(?: ((?:[0-9a-f]{{2}})+))?".encode())
+FATE = re.compile(
+    rf"{NUMBER} (exited {NUMBER}|fault (?:{KINDS}) {NUMBER} [0-9a-f]{{8}}|refused {NUMBER} {NUMBER} {NUMBER} [0-9a-f]{{8}}|memory)"
+    rf" seen {NUMBER} led (?:{NUMBER}-{NUMBER}|-) rewrites {NUMBER}".encode()
+)
+
+
+class Account:
+    """A report that was read: the console's bytes; events (thread, number, arguments, result, payload); versions (fate, seen, span, rewrites)."""
+
+    def __init__(self, output, events, versions):
+        self.output, self.events, self.versions = output, events, versions
+
+    def same(self, other):
+        return (self.output, self.events, self.versions) == (other.output, other.events, other.versions)
+
+    def status(self):
+        fates = [fate.split()[0] for fate, _, _, _ in self.versions]
+        return 0 if "exited" in fates else 7 if "memory" in fates else 1
+
+
+def counted(text, word):
+    """The number on the line `word n` in front of the text, and what is behind it."""
+    line, newline, rest = text.partition(b"\n")
+    found = re.fullmatch(word + b" (0|[1-9][0-9]*)", line)
+    if not found or not newline:
+        raise Wrong(f"no line `{word.decode()} n`")
+    return int(found[1]), rest
+
+
+def taken(rest, count):
+    lines = rest.split(b"\n", count)
+    if len(lines) != count + 1:
+        raise Wrong("too few lines")
+    return lines[:count], lines[count]
+
+
+def read_report(text):
+    size, rest = counted(text, b"output")
+    output = rest[:size]
+    if len(rest) <= size or rest[size:size + 1] != b"\n":
+        raise Wrong("the console's bytes aren't as many as said")
+    count, rest = counted(rest[size + 1:], b"log")
+    lines, rest = taken(rest, count)
+    events = []
+    for place, line in enumerate(lines):
+        found = EVENT.fullmatch(line)
+        if not found or int(found[1]) != place:
+            raise Wrong(f"line {place} of the log: {line[:60]!r}")
+        arguments = [int(word) for word in found[4].split()]
+        events.append((int(found[2]), int(found[3]), arguments, int(found[5]), bytes.fromhex((found[6] or b"").decode())))
+    count, rest = counted(rest, b"fates")
+    lines, rest = taken(rest, count)
+    if rest:
+        raise Wrong("bytes behind the report")
+    versions = []
+    for place, line in enumerate(lines):
+        found = FATE.fullmatch(line)
+        if not found or int(found[1]) != place:
+            raise Wrong(f"line of version {place}: {line[:60]!r}")
+        span = (int(found[9]), int(found[10])) if found[9] else None
+        versions.append((found[2].decode(), int(found[8]), span, int(found[11])))
+    return checked(Account(output, events, versions))
+
+
+def json_fate(item):
+    kind = item["fate"]
+    if kind == "exited":
+        return f"exited {item['code']}"
+    if kind == "fault":
+        return f"fault {item['kind']} {item['tid']} {item['pc']}"
+    if kind == "refused":
+        return f"refused {item['tid']} {item['nr']} {item['stamp']} {item['verdict']}"
+    return kind
+
+
+def read_json(text):
+    try:
+        whole = json.loads(text)
+        again = json.dumps(whole, separators=(",", ":"), sort_keys=True) + "\n"
+        events = [(i["tid"], i["nr"], i["args"], i["ret"], bytes.fromhex(i["payload"])) for i in whole["log"]]
+        versions = []
+        for item in whole["fates"]:
+            span = tuple(item["led"][0]) if item["led"] else None
+            versions.append((json_fate(item), item["seen"], span, item["rewrites"]))
+        account = Account(bytes.fromhex(whole["output"]), events, versions)
+    except (ValueError, KeyError, TypeError, IndexError) as fault:
+        raise Wrong(f"no report in JSON: {fault!r}") from fault
+    if again.encode() != text:
+        raise Wrong("the JSON isn't compact, or its keys are in another order")
+    if [item["stamp"] for item in whole["log"]] != list(range(len(events))):
+        raise Wrong("the stamps aren't the places")
+    return checked(account)
+
+
+def checked(account):
+    """The account, whose numbers fit together."""
+    length = len(account.events)
+    reached = 0
+    for tid, nr, arguments, ret, payload in account.events:
+        if max(tid, nr, *arguments) >= 2**32 or not -(2**31) <= ret < 2**31 or len(payload) > 4096 or len(arguments) != 6:
+            raise Wrong("an event past its limits")
+    for fate, seen, span, _ in account.versions:
+        kind = fate.split()[0]
+        if span:
+            if span[0] != reached or not span[0] <= span[1] <= length or seen != span[1]:
+                raise Wrong(f"the span {span} behind {reached}")
+            reached = span[1]
+        if seen > length or kind == "exited" and seen != length:
+            raise Wrong(f"seen {seen} of {length}: {fate}")
+        if kind == "refused" and (span or int(fate.split()[3]) != seen):
+            raise Wrong(f"seen {seen}, led {span}: {fate}")
+        if kind == "exited" and int(fate.split()[1]) > 255 or kind == "memory" and not span:
+            raise Wrong(fate)
+    if reached != length:
+        raise Wrong(f"the log's {length} events are led up to {reached}")
+    return account
