@@ -5,7 +5,8 @@ The built program runs guests of this script, from outside; each figure is the m
 taken in turns. Build the program first: `cd crates/varan && rt run -- run --script data/s data/v`. With `--before PROGRAM` the last table
 also times another build of the program, as one from before a change.
 
-- Versions that compute and make one call, and versions that write 65,535 bytes, one a call: k equal ones against one.
+- Versions that compute, between 1,000 calls and before their only one, and versions that write 65,535 bytes, one a call: k equal ones
+  against one.
 - A tenth of the writes over rings of 256, 2 and 1,024 places, and on one thread.
 - A leader beside a slow follower: the leader makes 1,000 calls at once and then computes; the follower computes as much, a part before each
   call. Where the leader waits for nobody the run takes as long as the follower computes, and else as long as both.
@@ -133,7 +134,8 @@ def main():
     print("| Run | Seconds | Against the first | Processor seconds |\n|---|---|---|---|")
     with tempfile.TemporaryDirectory() as folder:
         bench = Bench(folder)
-        bench.table([(f"{k} that compute", ["computes"] * k, (), PROGRAM) for k in (1, 2, 4, 8)])
+        bench.table([(f"{k} that compute between calls", ["between"] * k, (), PROGRAM) for k in (1, 2, 4, 8)])
+        bench.table([(f"{k} that compute before their one call", ["computes"] * k, (), PROGRAM) for k in (1, 2)])
         bench.table([(f"{k} that write", ["writes"] * k, (), PROGRAM) for k in (1, 2, 4, 8)])
         bench.table([(f"8 that write a tenth, ring of {n}", ["few"] * 8, ("--ring", str(n)), PROGRAM) for n in (256, 2, 1024)]
                     + [("8 that write a tenth, one thread", ["few"] * 8, ("--threads", "1"), PROGRAM)])
