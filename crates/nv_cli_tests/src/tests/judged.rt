@@ -1,5 +1,5 @@
 use super::SCRIPT;
-use crate::{Answered, Outside, image, monitor};
+use crate::{Answered, HELLO, HELLO_TWICE, Outside, image, monitor};
 use std::alloc::{AllocError, Global};
 use std::sync::Wait;
 use std::test::Fail;
@@ -92,5 +92,35 @@ fn refused_by_value(rt: HostRuntime) -> Result<(), Fail> {
     let end = b"\n1 refused 100 174 0 00000000 seen 0 led - rewrites 0\n";
     assert!(rt; answered.written.ends_with(end));
     assert_eq!(rt; answered.status, 0);
+    Ok(())
+}
+
+// The version's call gets error 4 (EINTR) where it isn't the log's.
+#[test]
+fn error_by_rule(rt: HostRuntime) -> Result<(), Fail> {
+    let answered = judged(&rt, rt.alloc(), b"1\n6 0 0 327684\n", &[])?;
+    let report =
+        b"output 0\n\nlog 2\n0 100 177 0 0 0 0 0 0 = 1000 :\n1 100 94 0 0 0 0 0 0 = 0 :\nfates 2\n0 exited 0 seen 2 led 0-2 rewrites 0\n1 exited 0 seen 2 led - rewrites 1\n";
+    assert_eq!(rt; answered.written.as_slice(), report.as_slice());
+    assert_eq!(rt; answered.status, 0);
+    Ok(())
+}
+
+// An event that isn't the version's call is passed over, but the end of the process isn't.
+#[test]
+fn skip_rule(rt: HostRuntime) -> Result<(), Fail> {
+    let once = image(rt.alloc(), &HELLO, b"hi\n")?;
+    let twice = image(rt.alloc(), &HELLO_TWICE, b"hi\n")?;
+    let skips = b"1\n6 0 0 393216\n".to_vec(rt.alloc())?;
+    let shorter = run(&rt, rt.alloc(), [&skips, &twice, &once], &[])?;
+    let end =
+        b"fates 2\n0 exited 0 seen 3 led 0-3 rewrites 0\n1 exited 0 seen 3 led - rewrites 1\n";
+    assert!(rt; shorter.written.ends_with(end));
+    assert_eq!(rt; shorter.status, 0);
+    let longer = run(&rt, rt.alloc(), [&skips, &once, &twice], &[])?;
+    let end =
+        b"fates 2\n0 exited 0 seen 2 led 0-2 rewrites 0\n1 refused 100 64 1 00060000 seen 1 led - rewrites 0\n";
+    assert!(rt; longer.written.ends_with(end));
+    assert_eq!(rt; longer.status, 0);
     Ok(())
 }

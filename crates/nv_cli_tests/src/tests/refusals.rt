@@ -123,6 +123,33 @@ fn read_faults(rt: HostRuntime) -> Result<(), Fail> {
     Ok(())
 }
 
+// The rules are the second file that is read; of the report the fifth byte can't be written.
+#[test]
+fn read_and_write_faults(rt: HostRuntime) -> Result<(), Fail> {
+    let hello = image(rt.alloc(), &HELLO, b"hi\n")?;
+    let files: [(&str, &[u8]); 3] = [("s", SCRIPT), ("r", b"0\n"), ("v", &hello)];
+    let words = ["varan", "run", "--script", "s", "--rules", "r", "v"];
+    let unread = Outside {
+        files: &files,
+        failing_reads: &[1],
+        most: 4096,
+        failing_writes: &[],
+    };
+    let answered = monitor(&rt, rt.alloc(), &words, unread)?;
+    assert_eq!(rt; answered.status, 5);
+    assert_eq!(rt; answered.written.as_slice(), b"varan: read r\n".as_slice());
+    let unwritten = Outside {
+        files: &files,
+        failing_reads: &[],
+        most: 1,
+        failing_writes: &[4],
+    };
+    let answered = monitor(&rt, rt.alloc(), &LINE, unwritten)?;
+    assert_eq!(rt; answered.status, 6);
+    assert_eq!(rt; answered.written.as_slice(), b"outp".as_slice());
+    Ok(())
+}
+
 // A sink that takes a byte a call, and fails at one of the calls: what was written is a front of the report.
 #[test]
 fn write_faults(rt: HostRuntime) -> Result<(), Fail> {
