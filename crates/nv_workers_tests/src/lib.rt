@@ -5,4 +5,4 @@ mod runs;
 #[cfg(test)]
 mod tests;
 
-pub use runs::{beside, one_by_one, program};
+pub use runs::{beside, kernel, one_by_one, program};

@@ -5,6 +5,7 @@ ghost use Rattle.nv_replay.specs.Versions.{IsFresh};
 ghost use Rattle.nv_replay.specs.Accounts.{AreFresh};
 
 use nv_bpf::Filter;
+use nv_calls::SyscallKernel;
 use nv_guest::Guest;
 use nv_kernel::ScriptKernel;
 use nv_outside::OpenGate;
@@ -51,42 +52,43 @@ fn versions(alloc: Global, texts: &[String]) -> Option<Vec<Version>>
     Some(versions)
 }
 
-fn kernel(alloc: Global) -> Option<ScriptKernel>
+/// The kernel over the shortest script.
+pub fn kernel(alloc: Global) -> Option<ScriptKernel>
     ensures { IfSome result (λ kernel. kernel.log ≡ []) }
 {
     let script = nv_script::read(alloc, b"varan-script 1").ok()?;
     ScriptKernel::make(alloc, &script).ok()
 }
 
-/// The account of a run of these programs, one after another.
-pub fn one_by_one(
+/// The account of a run of these programs by this kernel, one after another.
+pub fn one_by_one<K: SyscallKernel>(
     alloc: Global,
+    kernel: K,
     texts: &[String],
     rules: Option<&Filter>,
-) -> Option<Account<ScriptKernel>>
-    requires { length texts.now ≤ 8 }
+) -> Option<Account<K>>
+    requires count { length texts.now ≤ 8 }
+    requires kernel { K.log kernel ≡ [] }
 {
     let versions = versions(alloc, texts)?;
-    let kernel = kernel(alloc)?;
     Some(nv_sequence::run(versions, rules, kernel, MOST_EVENTS))
 }
 
-/// The account of a run of these programs beside each other.
-pub fn beside<R: Threads + Wait + Sync>(
+/// The account of a run of these programs by this kernel, beside each other.
+pub fn beside<R: Threads + Wait + Sync, K: SyscallKernel>(
     rt: &R,
     alloc: Global,
+    kernel: K,
     texts: &[String],
     rules: Option<&Filter>,
     places: u32,
     threads: u32,
-) -> Result<Account<ScriptKernel>, AllocError>
+) -> Result<Account<K>, AllocError>
     requires count { (0 < length texts.now) × (length texts.now ≤ 8) }
     requires places { (2 ≤ places) × (places ≤ 1024) }
+    requires kernel { K.log kernel ≡ [] }
 {
     let Some(versions) = versions(alloc, texts) else {
-        return Err(AllocError);
-    };
-    let Some(kernel) = kernel(alloc) else {
         return Err(AllocError);
     };
     let (room, readers, lead) = Room::make(alloc, kernel, texts.len() as u32, places)?;

@@ -1,8 +1,11 @@
 ghost use Rattle.std.specs.Prelude.{◌≤◌, ◌<◌, length};
 
-use crate::runs::{beside, one_by_one, program};
+use crate::runs::{beside, kernel, one_by_one, program};
 use nv_bpf::Filter;
+use nv_calls::SyscallKernel;
 use nv_kernel::ScriptKernel;
+use nv_outside::{MemorySink, Put};
+use nv_refusing::RefusingKernel;
 use nv_replay::Account;
 use std::alloc::Global;
 use std::process::Abort;
@@ -26,7 +29,7 @@ const SKIPS: &str = "1\n6 0 0 393216\n";
 // Each call that isn't the log's gets error 4 (EINTR).
 const INTERRUPTS: &str = "1\n6 0 0 327684\n";
 
-// The whole account as text: log, fates, spans, rewrites and output.
+// The whole account as JSON: log, fates, spans, rewrites and output.
 fn text_of<R: Abort>(rt: &R, alloc: Global, account: Option<Account<ScriptKernel>>) -> String {
     let account = account.expect(rt, "a run");
     nv_report::json(alloc, &account).expect(rt, "memory")
@@ -41,16 +44,14 @@ fn same_as_plain<R: Threads + Wait + Sync + Abort>(
 )
     requires { (0 < length texts.now) × (length texts.now ≤ 8) }
 {
-    let plain = text_of(rt, alloc, one_by_one(alloc, texts, rules));
+    let fresh = kernel(alloc).expect(rt, "a kernel");
+    let plain = text_of(rt, alloc, one_by_one(alloc, fresh, texts, rules));
     for threads in [1, 3, 8] {
-        let small = text_of(rt, alloc, beside(rt, alloc, texts, rules, 2, threads).ok());
-        assert_eq!(rt; small.as_str(), plain.as_str());
-        let large = text_of(
-            rt,
-            alloc,
-            beside(rt, alloc, texts, rules, 1024, threads).ok(),
-        );
-        assert_eq!(rt; large.as_str(), plain.as_str());
+        for places in [2, 1024] {
+            let fresh = kernel(alloc).expect(rt, "a kernel");
+            let account = beside(rt, alloc, fresh, texts, rules, places, threads).ok();
+            assert_eq!(rt; text_of(rt, alloc, account).as_str(), plain.as_str());
+        }
     }
 }
 
@@ -104,4 +105,77 @@ fn none_is_left(rt: HostRuntime) {
         program(alloc, 6, FAULTS).expect(&rt, "memory"),
     ];
     same_as_plain(&rt, alloc, &texts, None);
+}
+
+// Writes `hi` twice and exits with 0.
+const TWICE: &str = ".text
+la a1, text
+li a2, 3
+li a0, 1
+li a7, 64
+ecall
+li a0, 1
+ecall
+li a0, 0
+li a7, 94
+ecall
+.data
+text: .ascii \"hi\\n\"
+";
+
+// The second event finds no memory, so the first version is dropped and the second one makes that call.
+const LEADER_WANTS_MEMORY: &str = "output 6
+hi
+hi
+
+log 3
+0 100 64 1 0 3 0 0 0 = 3 : 68690a
+1 100 64 1 0 3 0 0 0 = 3 : 68690a
+2 100 94 0 0 0 0 0 0 = 0 :
+fates 2
+0 memory seen 1 led 0-1 rewrites 0
+1 exited 0 seen 3 led 1-3 rewrites 0
+";
+
+// A kernel that has no memory for the second call that is asked for.
+fn refusing<R: Abort>(rt: &R, alloc: Global) -> RefusingKernel<ScriptKernel>
+    ensures { result.inner.log ≡ [] }
+{
+    let inner = kernel(alloc).expect(rt, "a kernel");
+    let refused = [1].to_vec(alloc).expect(rt, "memory");
+    RefusingKernel::make(inner, refused)
+}
+
+fn report_of<R: Abort, K: SyscallKernel>(
+    rt: &R,
+    alloc: Global,
+    account: Option<Account<K>>,
+) -> Vec<u8> {
+    let account = account.expect(rt, "a run");
+    let mut sink = MemorySink::make(alloc, 4096, 4096, Vec::new(alloc)).expect(rt, "memory");
+    assert_eq!(rt; nv_report::write(&mut sink, &account), Put::Whole);
+    sink.written().to_vec(alloc).expect(rt, "memory")
+}
+
+#[test]
+fn leader_wants_memory(rt: HostRuntime) {
+    let alloc = rt.alloc();
+    let mut texts = Vec::new(alloc);
+    for _version in 0..2 {
+        let text = String::from_str(alloc, TWICE).expect(&rt, "memory");
+        texts.push(text).expect(&rt, "memory");
+    }
+    assert_eq!(rt; texts.len(), 2);
+    let account = one_by_one(alloc, refusing(&rt, alloc), &texts, None);
+    assert_eq!(rt;
+        report_of(&rt, alloc, account).as_slice(),
+        LEADER_WANTS_MEMORY.as_bytes()
+    );
+    for threads in [1, 2] {
+        let account = beside(&rt, alloc, refusing(&rt, alloc), &texts, None, 2, threads).ok();
+        assert_eq!(rt;
+            report_of(&rt, alloc, account).as_slice(),
+            LEADER_WANTS_MEMORY.as_bytes()
+        );
+    }
 }
