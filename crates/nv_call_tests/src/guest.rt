@@ -1,5 +1,5 @@
 // Guests that make the calls of a table.
-use nv_cli_tests::{Answered, Outside, monitor};
+use nv_test_support::{Answered, Outside, monitor};
 use std::alloc::{AllocError, Global};
 use std::sync::Wait;
 use std::thread::Threads;

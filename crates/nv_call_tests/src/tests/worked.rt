@@ -1,6 +1,6 @@
 use super::{FILE, SCRIPT};
 use crate::{run, run_pair, run_table};
-use nv_cli_tests::image;
+use nv_test_support::image;
 use std::test::Fail;
 
 // A file, a byte to write, and a buffer.

@@ -1,6 +1,7 @@
-use super::{HELLO_REPORT, LINE, SCRIPT, run};
-use crate::{EXIT, HELLO, Outside, image, monitor_through};
 use nv_outside::OpenGate;
+use nv_test_support::{
+    EXIT, HELLO, HELLO_REPORT, LINE, Outside, SCRIPT, image, monitor_through, run,
+};
 use std::test::Fail;
 
 #[test]

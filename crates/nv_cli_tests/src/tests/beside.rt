@@ -1,6 +1,5 @@
-use super::SCRIPT;
-use crate::{Answered, Outside, image, monitor, monitor_through};
 use nv_outside::Gate;
+use nv_test_support::{Answered, Outside, SCRIPT, image, monitor, monitor_through};
 use std::alloc::{AllocError, Global};
 use std::sync::Wait;
 use std::sync::atomic::{AtomicU64, Ordering};

@@ -1,5 +1,4 @@
-use super::{HELLO_REPORT, SCRIPT};
-use crate::{Answered, EXIT, HELLO, Outside, image, monitor};
+use nv_test_support::{Answered, EXIT, HELLO, HELLO_REPORT, Outside, SCRIPT, image, monitor};
 use std::alloc::{AllocError, Global};
 use std::sync::Wait;
 use std::test::Fail;

@@ -1,4 +1,4 @@
-use super::{SCRIPT, run};
+use nv_test_support::{SCRIPT, run};
 use std::alloc::{AllocError, Global};
 use std::test::Fail;
 

@@ -1,4 +1,4 @@
-use crate::{Answered, Outside, monitor};
+use nv_test_support::{Answered, Outside, monitor};
 use std::alloc::{AllocError, Global};
 use std::sync::Wait;
 use std::test::Fail;

@@ -1,5 +1,4 @@
-use super::SCRIPT;
-use crate::{Answered, HELLO, HELLO_TWICE, Outside, image, monitor};
+use nv_test_support::{Answered, HELLO, HELLO_TWICE, Outside, SCRIPT, image, monitor};
 use std::alloc::{AllocError, Global};
 use std::sync::Wait;
 use std::test::Fail;

@@ -1,5 +1,4 @@
-use super::{SCRIPT, run};
-use crate::{Answered, Outside, monitor};
+use nv_test_support::{Answered, Outside, SCRIPT, monitor, run};
 use std::alloc::{AllocError, Global};
 use std::sync::Wait;
 use std::test::Fail;

@@ -1,6 +1,7 @@
-use super::{HELLO_REPORT, LINE, SCRIPT, run};
-use crate::{HELLO, Outside, image, monitor, monitor_through, set};
 use nv_outside::OpenGate;
+use nv_test_support::{
+    HELLO, HELLO_REPORT, LINE, Outside, SCRIPT, image, monitor, monitor_through, run, set,
+};
 use std::test::Fail;
 
 #[test]

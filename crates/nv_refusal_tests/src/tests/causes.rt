@@ -1,6 +1,5 @@
 // Causes that no other test of the top call's lines has.
-use super::SCRIPT;
-use crate::{Answered, HELLO, Outside, image, monitor, set};
+use nv_test_support::{Answered, HELLO, Outside, SCRIPT, image, monitor, set};
 use std::alloc::{AllocError, Global};
 use std::sync::Wait;
 use std::test::Fail;

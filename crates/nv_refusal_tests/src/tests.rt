@@ -1,0 +1,5 @@
+mod asm;
+mod causes;
+mod hostile;
+mod refusals;
+mod rules;

@@ -1,0 +1,10 @@
+//! What the tests of the monitor's top call stand on: the call over files and a sink in memory, and small versions.
+#![tactic(auto)]
+
+mod call;
+mod files;
+mod runs;
+
+pub use call::{Answered, Outside, monitor, monitor_through};
+pub use files::{EXIT, HELLO, HELLO_TWICE, image, set};
+pub use runs::{HELLO_REPORT, LINE, SCRIPT, run};
