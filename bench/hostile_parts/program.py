@@ -19,6 +19,8 @@ CLOCK = 60.0
 # Python ignores these two, and so would what it starts.
 SIGNALS = (signal.SIGPIPE, signal.SIGXFSZ)
 
+STATUSES = (0, 1, 2, 3, 4, 5, 6, 7)
+
 BYTES = (0, 1, 127, 128, 255)
 MEMORY = 262_144
 LIMITS = ["--memory", str(MEMORY), "--budget", "20000", "--calls", "200", "--ring", "2", "--threads", "2"]
@@ -89,15 +91,15 @@ class Tally:
         self.most = collections.defaultdict(lambda: (0, 0))
         self.wrong = 0
 
-    def add(self, kind, words, answer, look):
-        """Counts an answer. `look` raises `Wrong` where it isn't one that these words and files may have."""
+    def add(self, kind, words, answer, look, may_want=False):
+        """Counts an answer. `look` raises `Wrong` where it isn't one that these words and files may have; `may_want` says that memory may be short."""
         self.counts[kind][answer.status] += 1
         processor, resident = self.most[kind]
         self.most[kind] = (max(processor, answer.processor), max(resident, answer.resident))
         try:
             if answer.killed:
                 raise Wrong(f"ended by signal {answer.killed}")
-            if answer.status not in (0, 1, 2, 4, 5, 6, 7):
+            if answer.status not in STATUSES or answer.status == 3 and not may_want:
                 raise Wrong(f"status {answer.status}")
             if answer.errors:
                 raise Wrong(f"standard error: {answer.errors[:80]!r}")
@@ -109,7 +111,7 @@ class Tally:
                 shutil.copytree(".", os.path.join(self.kept, f"{self.wrong}"), symlinks=True, ignore=shutil.ignore_patterns("closed"))
 
     def table(self):
-        print(f"{'kind':28}{'runs':>8}" + "".join(f"{status:>8}" for status in (0, 1, 2, 4, 5, 6, 7)) + "   CPU s    MiB")
+        print(f"{'kind':28}{'runs':>8}" + "".join(f"{status:>8}" for status in STATUSES) + "   CPU s    MiB")
         total = collections.Counter()
         for kind, counts in self.counts.items():
             total += counts
@@ -119,7 +121,7 @@ class Tally:
 
 
 def row(kind, counts):
-    return f"{kind:28}{sum(counts.values()):8}" + "".join(f"{counts[status]:>8}" for status in (0, 1, 2, 4, 5, 6, 7))
+    return f"{kind:28}{sum(counts.values()):8}" + "".join(f"{counts[status]:>8}" for status in STATUSES)
 
 
 def write(name, content):
