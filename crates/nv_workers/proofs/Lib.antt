@@ -8,6 +8,7 @@ pub mod Reading
 pub mod Serving
 pub mod Moving
 pub mod Ending
+pub mod Stepping
 pub mod Rotating
 pub mod Making
 pub mod Parting

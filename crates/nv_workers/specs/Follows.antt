@@ -11,7 +11,7 @@ use Rattle.nv_threads.specs.Threads.{Proc}
 use Rattle.nv_replay.specs.Follow.{Judge}
 use Rattle.nv_replay.specs.Versions.{Running}
 use Rattle.nv_workers.specs.declared.follows.Next.{Next}
-use Rattle.nv_workers.specs.declared.follows.Next.TheVariants.{Moved, Waits, Leads, Leaves}
+use Rattle.nv_workers.specs.declared.follows.Next.TheVariants.{Moved, Waits, Leads, Leaves, Left}
 use Rattle.nv_workers.specs.declared.follows.Found.{Found}
 use Rattle.nv_workers.specs.declared.follows.Found.TheVariants.{Event, Held, Free}
 use Rattle.nv_words.specs.Spell.{IsWhole}
@@ -31,6 +31,7 @@ module _ (judges : ℕ → Judge) {K : Type 0} {G : Ghosts K} (room : Room K) (m
   AfterTurn Waits = FollowsOn judges room p v r held buf
   AfterTurn Leads = FollowsOn judges room p v r false buf × ((view r).freed ≡ Some (length (view r).seen))
   AfterTurn Leaves = IsOfRoom room r × HasEnded judges (G.start (origin room)) most (station_of_reader r) p v (view r)
+  AfterTurn Left = ⊥
 
 -- a turn after which the version follows on has consumed the event, or has rewritten the version's call
 abbrev pub HasGrown : {T : Type 0} → View T → View T → Running Proc → Running Proc → Next → Type 0
@@ -38,6 +39,7 @@ HasGrown w w2 v v2 Moved = (length w.seen < length w2.seen) ⊎ (v.at.rewrites <
 HasGrown w w2 v v2 Waits = Unit {0}
 HasGrown w w2 v v2 Leads = Unit {0}
 HasGrown w w2 v v2 Leaves = Unit {0}
+HasGrown w w2 v v2 Left = Unit {0}
 
 -- what a turn that waits shows
 abbrev pub IsIdle : {T : Type 0} → View T → View T → Next → Type 0
@@ -54,3 +56,4 @@ IsBusy Moved = Unit {0}
 IsBusy Leaves = Unit {0}
 IsBusy Waits = ⊥
 IsBusy Leads = ⊥
+IsBusy Left = ⊥

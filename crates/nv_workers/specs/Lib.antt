@@ -4,6 +4,7 @@ pub mod Working
 pub mod Follows
 pub mod LeadsOn
 pub mod Workers
+pub mod Stepping
 pub mod Endings
 pub mod Rounds
 pub mod New

@@ -17,7 +17,7 @@ use nv_ring::{Polled, advance, poll};
 use nv_room::{Reader, Room};
 use nv_words::EventBuf;
 
-/// What comes next for a reader.
+/// What comes next for a station.
 #[derive(Clone, Copy, Debug, PartialEq, Eq, Drop)]
 pub(crate) enum Next {
     /// It goes on.
@@ -28,6 +28,8 @@ pub(crate) enum Next {
     Leads,
     /// Its version has ended.
     Leaves,
+    /// It left in an earlier turn.
+    Left,
 }
 
 // What a look for the next event finds.

@@ -3,11 +3,12 @@ ghost use Rattle.std.specs.Prelude.{◌≡◌, ◌≤◌, ℕ, List, None, false
 ghost use Rattle.std.specs.Option.{option_copied};
 ghost use Rattle.nv_threads.specs.Threads.{Proc, threads};
 ghost use Rattle.nv_replay.specs.Follow.{Judge, judge_of};
-ghost use Rattle.nv_replay.specs.Versions.{IsFresh};
+ghost use Rattle.nv_replay.specs.Versions.{IsFresh, Running};
 ghost use Rattle.nv_room.specs.Seats.{IsLeadOf, IsLeftOf, station_of_lead, station_of_reader, station_of_left, view, lead_view, left_view, due_of};
 ghost use Rattle.nv_room.specs.Steps.{as_gone, as_leaving};
 ghost use Rattle.nv_workers.specs.Working.{FollowsOn, LeadsOn};
-ghost use Rattle.nv_workers.specs.Workers.{Works, WorksAt, IsLast, TurnTells, station_of, station_of_seat};
+ghost use Rattle.nv_workers.specs.Workers.{Works, WorksAt, IsGone, IsLast, TookLead, TurnTells, station_of, station_of_seat};
+ghost use Rattle.nv_workers.specs.Stepping.{CanLead, CanLeave, AfterStep, StepTells};
 ghost use Rattle.nv_workers.specs.New.{IsNewLead, IsNewReader, LeadsAnew, ReadsAnew};
 
 use crate::follows::{Next, follow_turn};
@@ -41,7 +42,7 @@ pub(crate) enum Seat<K: SyscallKernel> {
     /// The thread whose call is asked and not yet served.
     Leading { lead: Lead<K>, asked: Option<u32> },
     Gone { left: Left<K> },
-    /// Within a turn alone.
+    /// Only while the seat changes.
     Moving,
 }
 
@@ -100,61 +101,89 @@ impl<K: SyscallKernel> Worker<K> {
         ensures last { IsLast result self.new.seat }
         ensures tells { TurnTells room.now result self.old.version self.new.version self.old.seat self.new.seat }
     {
-        let seat = mem::replace(&mut self.seat, Seat::Moving);
-        match seat {
-            Seat::Reading { reader, held } => {
-                let (seat, turn) = read_on(
-                    &mut self.version,
-                    &mut self.buf,
-                    reader,
-                    held,
-                    room,
-                    rules,
-                    gate,
-                );
-                self.seat = seat;
-                turn
+        match self.step(room, rules, gate, most) {
+            Next::Moved => Turn::Moved,
+            Next::Waits => Turn::Waiting,
+            Next::Leads => {
+                self.promote(room);
+                Turn::Moved
             }
-            Seat::Leading { lead, asked } => {
-                let (seat, turn) = lead_on(&mut self.version, lead, asked, room, gate, most);
-                self.seat = seat;
-                turn
-            }
-            Seat::Gone { left } => {
-                self.seat = Seat::Gone { left };
+            Next::Leaves => {
+                self.depart(room);
                 Turn::Done
             }
+            Next::Left => Turn::Done,
+        }
+    }
+
+    // The seat is lent, and stays where it is: a lead has the kernel in it.
+    fn step<G: Gate>(&mut self, room: &Room<K>, rules: Option<&Filter>, gate: &G, most: u32) -> Next
+        requires works { (p : Proc) × Works (judge_of (option_copied rules)) room.now most p self.old }
+        requires most { most ≤ 131072 }
+        ensures after { (p : Proc) → Works (judge_of (option_copied rules.entry)) room.now most p self.old → AfterStep (judge_of (option_copied rules.entry)) room.now p self.new.version most self.new.buf self.new.seat result }
+        ensures station { station_of self.new ≡ station_of self.old }
+        ensures tells { StepTells room.now result self.old.version self.new.version self.old.seat self.new.seat }
+    {
+        match &mut self.seat {
+            Seat::Reading { reader, held } => follow_turn(
+                &mut self.version,
+                reader,
+                held,
+                &mut self.buf,
+                room,
+                rules,
+                gate,
+            ),
+            Seat::Leading { lead, asked } => {
+                lead_turn(&mut self.version, lead, asked, room, gate, most)
+            }
+            Seat::Gone { .. } => Next::Left,
             Seat::Moving => unreachable!(),
         }
     }
+
+    // The reader's seat becomes the lead. Out of line, so that a turn's frame has no seat in it.
+    #[inline(never)]
+    fn promote(&mut self, room: &Room<K>)
+        requires can { (judges : ℕ → Judge) × (p : Proc) × CanLead judges room.now p self.old.version self.old.buf self.old.seat }
+        ensures works { (judges : ℕ → Judge) (most : ℕ) (p : Proc) → CanLead judges room.now p self.old.version self.old.buf self.old.seat → Works judges room.now most p self.new }
+        ensures station { station_of self.new ≡ station_of self.old }
+        ensures leads { TookLead self.old.seat self.new.seat }
+        ensures on { self.new.version.at.fate ≡ None }
+    {
+        let seat = mem::replace(&mut self.seat, Seat::Moving);
+        let Seat::Reading { reader, held: _ } = seat else {
+            unreachable!()
+        };
+        let lead = take_lead(&mut self.version, reader, room);
+        self.seat = Seat::Leading { lead, asked: None };
+    }
+
+    // The seat leaves. Out of line as well.
+    #[inline(never)]
+    fn depart(&mut self, room: &Room<K>)
+        requires can { (judges : ℕ → Judge) × (most : ℕ) × (p : Proc) × CanLeave judges room.now p self.old.version most self.old.seat }
+        ensures works { (judges : ℕ → Judge) (most : ℕ) (p : Proc) → CanLeave judges room.now p self.old.version most self.old.seat → Works judges room.now most p self.new }
+        ensures station { station_of self.new ≡ station_of self.old }
+        ensures gone { IsGone self.new.seat }
+        ensures version { self.new.version ≡ self.old.version }
+    {
+        let seat = mem::replace(&mut self.seat, Seat::Moving);
+        let left = vacate(seat, room);
+        self.seat = Seat::Gone { left };
+    }
 }
 
-fn read_on<K: SyscallKernel, G: Gate>(
-    version: &mut Version,
-    buf: &mut EventBuf,
-    mut reader: Reader<K>,
-    mut held: bool,
-    room: &Room<K>,
-    rules: Option<&Filter>,
-    gate: &G,
-) -> (Seat<K>, Turn)
-    requires { (p : Proc) × FollowsOn (judge_of (option_copied rules)) room.now p version.old reader held buf.old }
-    ensures works { (most : ℕ) (p : Proc) → FollowsOn (judge_of (option_copied rules.entry)) room.now p version.old reader held buf.old → WorksAt (judge_of (option_copied rules.entry)) room.now most p version.new buf.new result.0 }
-    ensures station { station_of_seat result.0 ≡ station_of_reader reader }
-    ensures last { IsLast result.1 result.0 }
-    ensures tells { TurnTells room.now result.1 version.old version.new (Seat.Reading reader held) result.0 }
+// The seat of a version that has its fate leaves.
+fn vacate<K: SyscallKernel>(seat: Seat<K>, room: &Room<K>) -> Left<K>
+    requires can { (judges : ℕ → Judge) × (most : ℕ) × (p : Proc) × (v : Running Proc) × CanLeave judges room.now p v most seat }
+    ensures works { (judges : ℕ → Judge) (most : ℕ) (p : Proc) (v : Running Proc) (buf : List ℕ) → CanLeave judges room.now p v most seat → WorksAt judges room.now most p v buf (Seat.Gone result) }
+    ensures station { station_of_left result ≡ station_of_seat seat }
 {
-    match follow_turn(version, &mut reader, &mut held, buf, room, rules, gate) {
-        Next::Moved => (Seat::Reading { reader, held }, Turn::Moved),
-        Next::Waits => (Seat::Reading { reader, held }, Turn::Waiting),
-        Next::Leads => {
-            let lead = take_lead(version, reader, room);
-            (Seat::Leading { lead, asked: None }, Turn::Moved)
-        }
-        Next::Leaves => {
-            let left = leave(reader, room);
-            (Seat::Gone { left }, Turn::Done)
-        }
+    match seat {
+        Seat::Reading { reader, held: _ } => leave(reader, room),
+        Seat::Leading { lead, asked: _ } => give_up(lead, room),
+        Seat::Gone { .. } | Seat::Moving => unreachable!(),
     }
 }
 
@@ -170,32 +199,6 @@ fn take_lead<K: SyscallKernel>(version: &mut Version, reader: Reader<K>, room: &
     let lead = take(reader, room);
     let _log = lead.kernel().history();
     lead
-}
-
-fn lead_on<K: SyscallKernel, G: Gate>(
-    version: &mut Version,
-    mut lead: Lead<K>,
-    mut asked: Option<u32>,
-    room: &Room<K>,
-    gate: &G,
-    most: u32,
-) -> (Seat<K>, Turn)
-    requires leads { (judges : ℕ → Judge) × (p : Proc) × LeadsOn judges room.now p version.old most lead asked }
-    requires most { most ≤ 131072 }
-    ensures works { (judges : ℕ → Judge) (p : Proc) (buf : List ℕ) → LeadsOn judges room.now p version.old most lead asked → WorksAt judges room.now most p version.new buf result.0 }
-    ensures station { station_of_seat result.0 ≡ station_of_lead lead }
-    ensures last { IsLast result.1 result.0 }
-    ensures tells { TurnTells room.now result.1 version.old version.new (Seat.Leading lead asked) result.0 }
-{
-    match lead_turn(version, &mut lead, &mut asked, room, gate, most) {
-        Next::Moved => (Seat::Leading { lead, asked }, Turn::Moved),
-        Next::Waits => (Seat::Leading { lead, asked }, Turn::Waiting),
-        Next::Leads => unreachable!(),
-        Next::Leaves => {
-            let left = give_up(lead, room);
-            (Seat::Gone { left }, Turn::Done)
-        }
-    }
 }
 
 // The kernel goes home; where it has ended nobody leads after.

@@ -1,34 +1,54 @@
-use Rattle.std.proofs.Common.{◌≡◌, ◌∙◌, sym, subst}
+use Rattle.std.proofs.Common.{◌∙◌, ap, inr}
 use Rattle.std.specs.Option.{option_copied}
 use Rattle.nv_replay.specs.Follow.{judge_of}
-use Rattle.nv_workers.specs.declared.worker.Seat.TheVariants.{Reading, Leading, Gone}
-use Rattle.nv_workers.specs.Workers.{WorksAt, TurnTells}
+use Rattle.nv_replay.specs.Sequence.{is_on}
+use Rattle.nv_replay.specs.Versions.{Running}
+use Rattle.nv_threads.specs.Threads.{Proc}
+use Rattle.nv_workers.proofs.Stepping.{took_from, took_stays}
+use Rattle.nv_workers.proofs.Rotating.{read_grown}
 use Rattle.nv_workers.proofs.worker.Worker.turn.Goals as goal
 
-pub returns-in-Reading-clause-works : goal.returns-in-Reading-clause-works
-returns-in-Reading-clause-works g c = λ p f.
-    let is : c.args.self.now.seat ≡ Reading c.in-Reading.reader c.in-Reading.held = sym c.replace-seat.ensures.value ∙ c.in-Reading.is in
-    c.read_on-seat.ensures.works c.args.most p
-    (subst (λ s. WorksAt (judge_of (option_copied c.args.rules)) c.args.room.now c.args.most p c.args.self.now.version c.args.self.now.buf s) is f)
+pub returns-in-Moved-clause-works : goal.returns-in-Moved-clause-works
+returns-in-Moved-clause-works g c = λ p f. (c.in-Moved.ensures.after p f).0
 
-pub returns-in-Leading-clause-works : goal.returns-in-Leading-clause-works
-returns-in-Leading-clause-works g c = λ p f.
-    let is : c.args.self.now.seat ≡ Leading c.in-Leading.lead c.in-Leading.asked = sym c.replace-seat.ensures.value ∙ c.in-Leading.is in
-    c.lead_on-seat.ensures.works (judge_of (option_copied c.args.rules)) p c.args.self.now.buf
-    (subst (λ s. WorksAt (judge_of (option_copied c.args.rules)) c.args.room.now c.args.most p c.args.self.now.version c.args.self.now.buf s) is f)
+pub returns-in-Moved-clause-last : goal.returns-in-Moved-clause-last
+returns-in-Moved-clause-last g c = (c.in-Moved.ensures.after c.requires.works.0 c.requires.works.1).1
 
-pub returns-in-Reading-clause-tells : goal.returns-in-Reading-clause-tells
-returns-in-Reading-clause-tells g c =
-    let is : c.args.self.now.seat ≡ Reading c.in-Reading.reader c.in-Reading.held = sym c.replace-seat.ensures.value ∙ c.in-Reading.is in
-    subst (λ s. TurnTells c.args.room.now c.read_on-seat.result.1 c.args.self.now.version c.read_on-seat.new.version s c.read_on-seat.result.0) (sym is) c.read_on-seat.ensures.tells
+pub returns-in-Moved-clause-tells : goal.returns-in-Moved-clause-tells
+returns-in-Moved-clause-tells g c = (read_grown c.in-Moved.ensures.tells.0, c.in-Moved.ensures.tells.1)
 
-pub returns-in-Leading-clause-tells : goal.returns-in-Leading-clause-tells
-returns-in-Leading-clause-tells g c =
-    let is : c.args.self.now.seat ≡ Leading c.in-Leading.lead c.in-Leading.asked = sym c.replace-seat.ensures.value ∙ c.in-Leading.is in
-    subst (λ s. TurnTells c.args.room.now c.lead_on-seat.result.1 c.args.self.now.version c.lead_on-seat.new.version s c.lead_on-seat.result.0) (sym is) c.lead_on-seat.ensures.tells
+pub returns-in-Waits-clause-works : goal.returns-in-Waits-clause-works
+returns-in-Waits-clause-works g c = λ p f. (c.in-Waits.ensures.after p f).0
 
-pub returns-in-Gone-clause-tells : goal.returns-in-Gone-clause-tells
-returns-in-Gone-clause-tells g c =
-    let is : c.args.self.now.seat ≡ Gone c.in-Gone.left = sym c.replace-seat.ensures.value ∙ c.in-Gone.is in
-    let w = subst (λ s. WorksAt (judge_of (option_copied c.args.rules)) c.args.room.now c.args.most c.requires.works.0 c.args.self.now.version c.args.self.now.buf s) is c.requires.works.1 in
-    w.1.done.ended
+pub returns-in-Waits-clause-last : goal.returns-in-Waits-clause-last
+returns-in-Waits-clause-last g c = (c.in-Waits.ensures.after c.requires.works.0 c.requires.works.1).1
+
+pub promote-requires-clause-can : goal.promote-requires-clause-can
+promote-requires-clause-can g c κs within =
+    (judge_of (option_copied c.args.rules), c.requires.works.0, c.in-Leads.ensures.after c.requires.works.0 c.requires.works.1)
+
+pub returns-in-Leads-clause-works : goal.returns-in-Leads-clause-works
+returns-in-Leads-clause-works g c = λ p f. c.promote.ensures.works (judge_of (option_copied c.args.rules)) c.args.most p (c.in-Leads.ensures.after p f)
+
+pub returns-in-Leads-clause-last : goal.returns-in-Leads-clause-last
+returns-in-Leads-clause-last g c = took_stays c.step.new.self.seat c.promote.new.self.seat c.promote.ensures.leads
+
+pub returns-in-Leads-clause-tells : goal.returns-in-Leads-clause-tells
+returns-in-Leads-clause-tells g c =
+    (inr (inr (took_from c.args.self.now.seat c.step.new.self.seat c.promote.new.self.seat c.in-Leads.ensures.tells c.promote.ensures.leads)), c.promote.ensures.on)
+
+pub depart-requires-clause-can : goal.depart-requires-clause-can
+depart-requires-clause-can g c κs within =
+    (judge_of (option_copied c.args.rules), c.args.most, c.requires.works.0, c.in-Leaves.ensures.after c.requires.works.0 c.requires.works.1)
+
+pub returns-in-Leaves-clause-works : goal.returns-in-Leaves-clause-works
+returns-in-Leaves-clause-works g c = λ p f. c.depart.ensures.works (judge_of (option_copied c.args.rules)) c.args.most p (c.in-Leaves.ensures.after p f)
+
+pub returns-in-Leaves-clause-tells : goal.returns-in-Leaves-clause-tells
+returns-in-Leaves-clause-tells g c = ap (λ (v : Running Proc). is_on v.at.fate) c.depart.ensures.version ∙ c.in-Leaves.ensures.tells
+
+pub returns-in-Left-clause-works : goal.returns-in-Left-clause-works
+returns-in-Left-clause-works g c = λ p f. (c.in-Left.ensures.after p f).0
+
+pub returns-in-Left-clause-last : goal.returns-in-Left-clause-last
+returns-in-Left-clause-last g c = (c.in-Left.ensures.after c.requires.works.0 c.requires.works.1).1

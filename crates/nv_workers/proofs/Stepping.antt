@@ -1,0 +1,66 @@
+-- What a turn comes to, by seat.
+use Rattle.std.proofs.Common.{inl, ℕ, Bool, List, Option}
+use Rattle.nv_calls.specs.declared.kernel.SyscallKernel.{Ghosts}
+use Rattle.nv_room.specs.declared.room.Room.{Room}
+use Rattle.nv_room.specs.declared.room.Reader.{Reader}
+use Rattle.nv_room.specs.declared.room.Lead.{Lead}
+use Rattle.nv_room.specs.Seats.{view, lead_view}
+use Rattle.nv_threads.specs.Threads.{Proc}
+use Rattle.nv_replay.specs.Follow.{Judge}
+use Rattle.nv_replay.specs.Versions.{Running}
+use Rattle.nv_workers.specs.declared.follows.Next.{Next}
+use Rattle.nv_workers.specs.declared.follows.Next.TheVariants.{Moved, Waits, Leads, Leaves, Left}
+use Rattle.nv_workers.specs.declared.worker.Seat.{Seat}
+use Rattle.nv_workers.specs.declared.worker.Seat.TheVariants.{Reading, Leading, Gone, Moving}
+use Rattle.nv_workers.specs.Follows.{AfterTurn, HasGrown, IsIdle}
+use Rattle.nv_workers.specs.LeadsOn.{AfterLead, HasPublished, IsLate}
+use Rattle.nv_workers.specs.Workers.{IsGone, TookLead}
+use Rattle.nv_workers.specs.Stepping.{Reads, AfterStep, StepTells}
+use Rattle.nv_workers.proofs.Serving.{leads_fate}
+
+module _ (judges : ℕ → Judge) {K : Type 0} {G : Ghosts K} (room : Room K) (most : ℕ) (p : Proc) (v : Running Proc) where
+  pub after_read : (r : Reader K G) (held : Bool) (buf : List ℕ) (next : Next) → AfterTurn judges room most p v r held buf next
+      → AfterStep judges room p v most buf (Reading r held) next
+  after_read r held buf Moved a = (a, λ g. g)
+  after_read r held buf Waits a = (a, λ g. g)
+  after_read r held buf Leads a = a
+  after_read r held buf Leaves a = a
+  after_read r held buf Left a = absurd a
+
+  pub tells_read : (old : Running Proc) (r r2 : Reader K G) (held held2 : Bool) (buf : List ℕ) (next : Next) → AfterTurn judges room most p v r2 held2 buf next
+      → HasGrown (view r) (view r2) old v next → IsIdle (view r) (view r2) next → StepTells room next old v (Reading r held) (Reading r2 held2)
+  tells_read old r r2 held held2 buf Moved a grown idle = (grown, a.reading.on)
+  tells_read old r r2 held held2 buf Waits a grown idle = (idle, a.reading.on)
+  tells_read old r r2 held held2 buf Leads a grown idle = tt
+  tells_read old r r2 held held2 buf Leaves a grown idle = a.1.done.ended
+  tells_read old r r2 held held2 buf Left a grown idle = absurd a
+
+  pub tells_lead : (old : Running Proc) (l l2 : Lead K G) (asked asked2 : Option ℕ) (next : Next) → AfterLead judges room most p v l2 asked2 next
+      → HasPublished (lead_view l) (lead_view l2) next → IsLate room l l2 next → StepTells room next old v (Leading l asked) (Leading l2 asked2)
+  tells_lead old l l2 asked asked2 Moved a published late = (inl published, leads_fate judges room p v most l2 asked2 a)
+  tells_lead old l l2 asked asked2 Waits a published late = (late, leads_fate judges room p v most l2 asked2 a)
+  tells_lead old l l2 asked asked2 Leads a published late = absurd a
+  tells_lead old l l2 asked asked2 Leaves a published late = a.2.done.ended
+  tells_lead old l l2 asked asked2 Left a published late = absurd a
+
+module _ {K : Type 0} {G : Ghosts K} where
+  pub took_from : (s s2 t : Seat K G) → Reads s → TookLead s2 t → TookLead s t
+  took_from (Reading r held) (Reading r2 held2) (Leading l asked) a b = tt
+  took_from (Reading r held) (Reading r2 held2) (Reading r3 held3) a b = absurd b
+  took_from (Reading r held) (Reading r2 held2) (Gone l) a b = absurd b
+  took_from (Reading r held) (Reading r2 held2) Moving a b = absurd b
+  took_from (Reading r held) (Leading l asked) t a b = absurd b
+  took_from (Reading r held) (Gone l) t a b = absurd b
+  took_from (Reading r held) Moving t a b = absurd b
+  took_from (Leading l asked) s2 t a b = absurd a
+  took_from (Gone l) s2 t a b = absurd a
+  took_from Moving s2 t a b = absurd a
+
+  pub took_stays : (s t : Seat K G) → TookLead s t → ¬ IsGone t
+  took_stays (Reading r held) (Leading l asked) a g = g
+  took_stays (Reading r held) (Reading r2 held2) a g = g
+  took_stays (Reading r held) (Gone l) a g = a
+  took_stays (Reading r held) Moving a g = g
+  took_stays (Leading l asked) t a g = a
+  took_stays (Gone l) t a g = a
+  took_stays Moving t a g = a

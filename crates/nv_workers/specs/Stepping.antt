@@ -1,0 +1,53 @@
+-- What a turn comes to before the seat changes.
+use Rattle.std.specs.Prelude.{◌≡◌, ◌<◌, ◌⊎◌, ℕ, false, List, length, Some, None}
+use Rattle.nv_calls.specs.declared.kernel.SyscallKernel.{Ghosts}
+use Rattle.nv_room.specs.declared.room.Room.{Room}
+use Rattle.nv_room.specs.Seats.{IsOfRoom, IsLeadOf, view, lead_view, station_of_reader, station_of_lead, due_of, origin}
+use Rattle.nv_threads.specs.Threads.{Proc}
+use Rattle.nv_replay.specs.Follow.{Judge}
+use Rattle.nv_replay.specs.Sequence.{is_on}
+use Rattle.nv_replay.specs.Versions.{Running}
+use Rattle.nv_workers.specs.declared.follows.Next.{Next}
+use Rattle.nv_workers.specs.declared.follows.Next.TheVariants.{Moved, Waits, Leads, Leaves, Left}
+use Rattle.nv_workers.specs.declared.worker.Seat.{Seat}
+use Rattle.nv_workers.specs.declared.worker.Seat.TheVariants.{Reading, Leading, Gone, Moving}
+use Rattle.nv_workers.specs.Working.{FollowsOn, HasEnded}
+use Rattle.nv_workers.specs.Workers.{WorksAt, IsGone, HasStayed, seen_by}
+
+module _ (judges : ℕ → Judge) {K : Type 0} {G : Ghosts K} (room : Room K) (p : Proc) (v : Running Proc) where
+  -- a reader that holds no event, and whose station is next to lead
+  abbrev pub CanLead : List ℕ → Seat K G → Type 0
+  CanLead buf (Reading r held) = FollowsOn judges room p v r false buf × ((view r).freed ≡ Some (length (view r).seen))
+  CanLead buf (Leading l asked) = ⊥
+  CanLead buf (Gone l) = ⊥
+  CanLead buf Moving = ⊥
+
+  -- the version has its fate, and the seat has still to leave
+  abbrev pub CanLeave : ℕ → Seat K G → Type 0
+  CanLeave most (Reading r held) = IsOfRoom room r × HasEnded judges (G.start (origin room)) most (station_of_reader r) p v (view r)
+  CanLeave most (Leading l asked) = IsLeadOf room l × (due_of l ≡ false) × HasEnded judges (G.start (origin room)) most (station_of_lead l) p v (lead_view l)
+  CanLeave most (Gone l) = ⊥
+  CanLeave most Moving = ⊥
+
+  abbrev pub AfterStep : ℕ → List ℕ → Seat K G → Next → Type 0
+  AfterStep most buf s Moved = WorksAt judges room most p v buf s × ¬ IsGone s
+  AfterStep most buf s Waits = WorksAt judges room most p v buf s × ¬ IsGone s
+  AfterStep most buf s Leads = CanLead buf s
+  AfterStep most buf s Leaves = CanLeave most s
+  AfterStep most buf s Left = WorksAt judges room most p v buf s × IsGone s
+
+module _ {K : Type 0} {G : Ghosts K} where
+  abbrev pub Reads : Seat K G → Type 0
+  Reads (Reading r held) = Unit {0}
+  Reads (Leading l asked) = ⊥
+  Reads (Gone l) = ⊥
+  Reads Moving = ⊥
+
+  -- Moved: the seat's seen list grew, or the version's rewrites did. Waits: the last looks. Only a reader is next to lead.
+  -- Leaves, Left: the version has its fate, and before that it has none
+  abbrev pub StepTells : Room K → Next → Running Proc → Running Proc → Seat K G → Seat K G → Type 0
+  StepTells room Moved v v2 s s2 = ((seen_by s < seen_by s2) ⊎ (v.at.rewrites < v2.at.rewrites)) × (v2.at.fate ≡ None)
+  StepTells room Waits v v2 s s2 = HasStayed room s s2 × (v2.at.fate ≡ None)
+  StepTells room Leads v v2 s s2 = Reads s
+  StepTells room Leaves v v2 s s2 = is_on v2.at.fate ≡ false
+  StepTells room Left v v2 s s2 = is_on v2.at.fate ≡ false
