@@ -12,5 +12,6 @@ pub mod Stepping
 pub mod Rotating
 pub mod Making
 pub mod Parting
+pub mod Evenly
 pub mod Finishing
 pub mod NewSeats

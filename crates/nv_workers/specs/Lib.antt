@@ -7,5 +7,6 @@ pub mod Workers
 pub mod Stepping
 pub mod Endings
 pub mod Rounds
+pub mod Dealing
 pub mod New
 pub mod Ran

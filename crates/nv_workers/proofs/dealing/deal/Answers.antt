@@ -5,15 +5,21 @@ use Rattle.std.specs.Option.{option_copied}
 use Rattle.nv_replay.specs.Follow.{judge_of}
 use Rattle.nv_workers.specs.Rounds.{CanAll, WorkedOn}
 use Rattle.nv_workers.proofs.Parting.{can_front, can_back, on_at, all_at}
+use Rattle.nv_workers.proofs.Rotating.{all_here}
 use Rattle.nv_workers.proofs.dealing.deal.Goals as goal
+
+pub returns-then-is_empty : goal.returns-then-is_empty
+returns-then-is_empty g c = all_here (judge_of (option_copied c.args.rules)) c.args.room.now c.args.most c.args.workers.now
 
 pub for_each_chunk_mut-requires-clause-accepts : goal.for_each_chunk_mut-requires-clause-accepts
 for_each_chunk_mut-requires-clause-accepts g c κs within = λ start p chunk. (
   (
     subst (λ ws. CanAll (judge_of (option_copied c.args.rules)) c.args.room.now c.args.most ws) (sym chunk.value)
-        (can_front (judge_of (option_copied c.args.rules)) c.args.room.now c.args.most c.max-size.result (drop start c.args.workers.now)
+        (can_front (judge_of (option_copied c.args.rules)) c.args.room.now c.args.most c.of-stretches.result.front (drop start c.args.workers.now)
         (can_back (judge_of (option_copied c.args.rules)) c.args.room.now c.args.most start c.args.workers.now c.requires.can)),
     c.requires.most,
+    c.of-stretches.ensures.some.1,
+    c.of-stretches.ensures.some.2,
   ),
   (param_send 1 _ (arg_send _ no _ c.type_bounds.send-K), param_sync 0 _ (arg_sync _ no _ c.type_bounds.sync-R), param_sync 2 _ (arg_sync _ no _ c.type_bounds.sync-G)),
 )

@@ -1,0 +1,26 @@
+use Rattle.std.proofs.Common.{sym, subst, drop, get_or}
+use denote.Exit.{no}
+use denote.Param.Send.{param_send, param_sync, arg_send, arg_sync}
+use Rattle.std.specs.Option.{option_copied}
+use Rattle.nv_replay.specs.Follow.{judge_of}
+use Rattle.nv_workers.specs.Rounds.{CanAll, WorkedOn}
+use Rattle.nv_workers.proofs.Parting.{can_front, can_back, on_at, all_at}
+use Rattle.nv_workers.proofs.dealing.deal_alike.Goals as goal
+
+pub for_each_chunk_mut-requires-clause-accepts : goal.for_each_chunk_mut-requires-clause-accepts
+for_each_chunk_mut-requires-clause-accepts g c κs within = λ start p chunk. (
+  (
+    subst (λ ws. CanAll (judge_of (option_copied c.args.rules)) c.args.room.now c.args.most ws) (sym chunk.value)
+        (can_front (judge_of (option_copied c.args.rules)) c.args.room.now c.args.most c.size_from.result (drop start c.args.workers.now)
+        (can_back (judge_of (option_copied c.args.rules)) c.args.room.now c.args.most start c.args.workers.now c.requires.can)),
+    c.requires.most,
+  ),
+  (param_send 1 _ (arg_send _ no _ c.type_bounds.send-K), param_sync 0 _ (arg_sync _ no _ c.type_bounds.sync-R), param_sync 2 _ (arg_sync _ no _ c.type_bounds.sync-G)),
+)
+
+pub returns : goal.returns
+returns g c = all_at (judge_of (option_copied c.args.rules)) c.args.room.now c.args.most c.args.workers.now c.for_each_chunk_mut.new.s c.for_each_chunk_mut.auto.s
+    (λ i d l. let e = (c.for_each_chunk_mut.ensures.by_index i d l).1 in
+    let on = on_at (judge_of (option_copied c.args.rules)) c.args.room.now c.args.most e.argument.now e.after_call.now e.call e.offset d e.offset_in_chunk in
+    subst (λ w. WorkedOn (judge_of (option_copied c.args.rules)) c.args.room.now c.args.most w (get_or c.for_each_chunk_mut.new.s i d)) e.old_element
+    (subst (λ w. WorkedOn (judge_of (option_copied c.args.rules)) c.args.room.now c.args.most (get_or e.argument.now e.offset d) w) e.new_element on))
