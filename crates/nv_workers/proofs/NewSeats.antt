@@ -12,7 +12,7 @@ use Rattle.nv_threads.specs.Threads.{Proc, threads}
 use Rattle.nv_replay.specs.Versions.{Running, IsFresh}
 use Rattle.nv_replay.specs.Accounts.{AreFresh}
 use Rattle.nv_workers.specs.declared.worker.Worker.{Worker}
-use Rattle.nv_workers.specs.New.{IsNew, AreNew, AreAsMade, AreNewSeats, LeadsAnew, ReadsAnew, StaffsAnew, IsNewLead, IsNewReader}
+use Rattle.nv_workers.specs.New.{IsNew, AreNew, AreAsMade, AreNewSeats, LeadsAnew, ReadsAnew, StaffsAnew, IsNewReader}
 
 fresh_front : (i : ℕ) (vs : List (Running Proc)) (v : Running Proc) → AreFresh threads i (vs ++ v ∷ []) → AreFresh threads i vs
 fresh_front i [] v f = tt
