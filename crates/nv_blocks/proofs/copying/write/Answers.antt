@@ -1,0 +1,16 @@
+use Rattle.std.proofs.Common.{◌∙◌, ap, ℕ, ◌+◌, ◌-◌, ◌≤◌, length, take, drop, arith}
+use Rattle.nv_blocks.specs.Contents.{byte_at, over}
+use Rattle.nv_blocks.proofs.Bytes.{over_more}
+use Rattle.nv_blocks.proofs.copying.write.Goals as goal
+
+pub loop-done-preserved : goal.loop-done-preserved
+loop-done-preserved c =
+    let done = c.loop-done.done in
+    let end = c.min-end.result in
+    let bytes = c.args.bytes.now in
+    let inside : end ≤ length bytes = omega arith in (
+      inside,
+      (λ p. c.write_one.ensures.bytes p ∙ ap (λ (x : ℕ). over (c.args.place + done) (take (end - done) (drop done bytes)) x p) (c.loop-done.invariant.1 p)
+          ∙ over_more c.args.place done end bytes (byte_at c.args.blocks.now.items p) p (omega arith) inside),
+      c.write_one.ensures.held ∙ c.loop-done.invariant.2,
+    )
