@@ -60,6 +60,7 @@ impl Blocks {
     pub fn read_at(&self, from: usize, into: &mut [u8]) -> usize
         ensures count { result ≡ length (part_of self.now.bytes from (length into.old)) }
         ensures bytes { into.new ≡ part_of self.now.bytes from (length into.old) ++ drop result into.old }
+        ensures end { from + result < 2 ^ 64 }
     {
         let got = into.len().min(self.len.saturating_sub(from));
         read(&self.blocks, from, &mut into[..got]);

@@ -5,6 +5,7 @@ use Rattle.std.specs.Global.{Vec}
 use Rattle.std.specs.Vec.{with_item}
 use Rattle.std.specs.Prelude.{vec_capacity, slice_index, nat_lt}
 use Rattle.std.proofs.lemmas.List.{map-set, get_or-map, set-get_or, get_or-set_same, length-set, length-map, map_push}
+use Rattle.nv_blocks.specs.Contents.{Content}
 use Rattle.nv_fs.specs.declared.disk.MemoryFile.{MemoryFile}
 use Rattle.nv_fs.specs.declared.disk.FileSystem.TheInside.{Inside}
 use Rattle.nv_fs.specs.States.{State, Inode, file_at, with_at}
@@ -13,7 +14,7 @@ use Rattle.nv_fs.specs.Fetched.{pipe_at, with_pipe}
 use Rattle.nv_fs.specs.Stored.{with_content}
 use Rattle.nv_fs.specs.Opened.{unlinked}
 use Rattle.nv_fs.specs.Rooms.{Disk}
-use Rattle.nv_fs.specs.Views.{items_of, capacity_of, inode_of, content_room, state_of, disk_of}
+use Rattle.nv_fs.specs.Views.{items_of, capacity_of, inode_of, held_of, state_of, disk_of}
 
 pub pipe_is : (a : Inside) (d : Disk) (k : ℕ) (v : Vec ℕ) → disk_of a ≡ d → k < length a.pipes.items → v ≡ get_or a.pipes.items k v → v.items ≡ pipe_at d.state k
 pipe_is a d k v view l h =
@@ -40,7 +41,7 @@ file_changed a d i f g inode view h =
     ap (λ (z : List Inode). record (state_of a) { files = z }) (map-set inode_of a.files.items i g ∙ ap (λ (z : Inode). set (map inode_of a.files.items) i z) h) ∙ ap (λ (e : Disk). record e.state { files = set e.state.files i inode }) view
 
 -- another content under the same name
-pub content_changed : (a : Inside) (d : Disk) (i : ℕ) (f : MemoryFile) (v : Vec ℕ) (bytes : List ℕ) → disk_of a ≡ d → i < length a.files.items → f ≡ get_or a.files.items i f → v.items ≡ bytes
+pub content_changed : (a : Inside) (d : Disk) (i : ℕ) (f : MemoryFile) (v : Content) (bytes : List ℕ) → disk_of a ≡ d → i < length a.files.items → f ≡ get_or a.files.items i f → v.bytes ≡ bytes
     → state_of (record a { files = with_item a.files i (record { name = f.name; bytes = v }) }) ≡ with_content d.state i bytes
 content_changed a d i f v bytes view l h e =
     file_changed a d i f (record { name = f.name; bytes = v }) (record { name = (file_at d.state i).name; bytes = bytes }) view
@@ -49,10 +50,10 @@ content_changed a d i f v bytes view l h e =
 pub content_same : (s : State) (i : ℕ) → with_content s i (bytes_of s i) ≡ s
 content_same s i = ap (λ (z : List Inode). record s { files = z }) (set-get_or s.files i _)
 
-pub content_room_is : (xs : List MemoryFile) (i : ℕ) (g : MemoryFile) → i < length xs → vec_capacity g.bytes ≡ slice_index (map content_room (set xs i g)) i
-content_room_is xs i g l =
+pub held_is : (xs : List MemoryFile) (i : ℕ) (g : MemoryFile) → i < length xs → g.bytes.held ≡ get_or (map held_of (set xs i g)) i []
+held_is xs i g l =
     let l' : i < length (set xs i g) = subst (λ (n : ℕ). i < n) (sym (length-set xs i g)) l in
-    sym (get_or-map content_room (set xs i g) i g 0 l' ∙ ap content_room (get_or-set_same xs i g g l))
+    sym (get_or-map held_of (set xs i g) i g [] l' ∙ ap held_of (get_or-set_same xs i g g l))
 
 pub map_with_at : {X Y : Type 0} (f : X → Y) (xs : List X) (i : ℕ) (x : X) (y : Y) → f x ≡ y → map f (with_at xs i x) ≡ with_at (map f xs) i y
 map_with_at f xs i x y h =

@@ -1,5 +1,6 @@
 -- The memory that was taken in advance: what a call that grows a table needs of it.
-use Rattle.std.specs.Prelude.{ℕ, ◌+◌, ◌-◌, min, ◌≤◌, ◌<◌, nat_le, List, length, Option, Some, None, slice_index, if◌then◌else◌}
+use Rattle.std.specs.Prelude.{ℕ, ◌+◌, ◌-◌, min, ◌≤◌, ◌<◌, Bool, List, [], length, Option, Some, None, slice_index, slice_index_or}
+use Rattle.nv_blocks.specs.Contents.{HoldsRange}
 use Rattle.nv_fs.specs.declared.open_file.OpenFile.{OpenFile}
 use Rattle.nv_fs.specs.declared.open_file.Target.{Target}
 use Rattle.nv_fs.specs.declared.open_file.Target.TheVariants.{Console, File, Writer}
@@ -7,14 +8,14 @@ use Rattle.nv_fs.specs.States.{State, open_of}
 use Rattle.nv_fs.specs.Fetched.{pipe_at}
 use Rattle.nv_fs.specs.Stored.{start_of}
 
--- how many elements each table has memory for, how long a new name may be, and how many bytes the console, each file and each pipe have memory for
+-- how many elements each table has memory for, how long a new name may be, how many bytes the console and each pipe have memory for, and which blocks of each file take memory
 pub record Room : Type 0 where
   pub opens : ℕ
   pub files : ℕ
   pub pipes : ℕ
   pub name : ℕ
   pub console : ℕ
-  pub contents : List ℕ
+  pub contents : List (List Bool)
   pub buffers : List ℕ
 
 -- a file system: what calls see, and the memory
@@ -22,14 +23,14 @@ pub record Disk : Type 0 where
   pub state : State
   pub room : Room
 
--- how many bytes a file has after a write of n, as far as the limit
-abbrev pub grown : ℕ → ℕ → ℕ → ℕ
-grown limit start n = if nat_le limit start then 0 else start + min n (limit - start)
+-- there is memory for n bytes of a file from a place on
+abbrev pub HasBlocks : Disk → ℕ → ℕ → ℕ → Type 0
+HasBlocks d i place n = i < length d.state.files → HoldsRange (slice_index_or d.room.contents i []) place n
 
 -- there is memory for a write of n bytes to a target
 abbrev pub HasRoom : Disk → OpenFile → Target → ℕ → Type 0
 HasRoom d o Console n = length d.state.console + min n (16777216 - length d.state.console) ≤ d.room.console
-HasRoom d o (File i) n = i < length d.state.files → grown 1048576 (start_of d.state o i) n ≤ slice_index d.room.contents i
+HasRoom d o (File i) n = HasBlocks d i (start_of d.state o i) (min n (1048576 - start_of d.state o i))
 HasRoom d o (Writer k) n = k < length d.state.pipes → length (pipe_at d.state k) + n ≤ 4096 → length (pipe_at d.state k) + n ≤ slice_index d.room.buffers k
 HasRoom d o _ n = Unit {0}
 

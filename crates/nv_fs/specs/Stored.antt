@@ -1,9 +1,10 @@
 -- write(2).
-use Rattle.std.specs.Prelude.{ℕ, pos, ◌+◌, ◌-◌, not, ◌==◌, nat_le, nat_lt, List, [], ◌++◌, Option, Some, None, take, drop, replicate, length, slice_set, if◌then◌else◌}
+use Rattle.std.specs.Prelude.{ℕ, pos, ◌+◌, ◌-◌, not, ◌==◌, nat_le, nat_lt, List, [], ◌++◌, Option, Some, None, take, length, slice_set, if◌then◌else◌}
 use Rattle.nv_fs.specs.declared.open_file.OpenFile.{OpenFile}
 use Rattle.nv_fs.specs.declared.open_file.Target.{Target}
 use Rattle.nv_fs.specs.declared.open_file.Target.TheVariants.{Console, File, Reader, Writer}
 use Rattle.nv_fs.specs.States.{State, file_at, Answer, answer, only, open_of, has_open, moved_to, EBADF, EAGAIN, EFBIG, ENOSPC, EPIPE}
+use Rattle.nv_blocks.specs.Contents.{with_bytes}
 use Rattle.nv_fs.specs.Seeks.{bytes_of}
 use Rattle.nv_fs.specs.Fetched.{pipe_at, with_pipe}
 
@@ -12,10 +13,6 @@ abbrev pub write_console : State → ℕ → List ℕ → Answer
 write_console s limit bytes =
     if nat_le limit (length s.console) then only s ENOSPC
     else (let part = take (limit - length s.console) bytes in answer (record s { console = s.console ++ part }) (pos (length part)) [])
-
--- a file with bytes from a place on: a gap before the place becomes 0 (lseek(2))
-abbrev pub with_bytes : List ℕ → ℕ → List ℕ → List ℕ
-with_bytes old place bytes = take place old ++ replicate (place - length old) 0 ++ bytes ++ drop (place + length bytes) old
 
 abbrev pub with_content : State → ℕ → List ℕ → State
 with_content s i bytes = record s { files = slice_set s.files i record { name = (file_at s i).name; bytes = bytes } }

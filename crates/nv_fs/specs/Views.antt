@@ -1,5 +1,5 @@
 -- What calls see of the tables.
-use Rattle.std.specs.Prelude.{ℕ, List, map, drop, option_map, vec_capacity}
+use Rattle.std.specs.Prelude.{ℕ, Bool, List, [], map, drop, None, option_map, slice_index_or, vec_capacity}
 use Rattle.std.specs.Global.{Vec}
 use Rattle.nv_fs.specs.declared.disk.MemoryFile.{MemoryFile}
 use Rattle.nv_fs.specs.declared.disk.FileSystem.TheInside.{Inside}
@@ -13,10 +13,14 @@ abbrev pub capacity_of : Vec ℕ → ℕ
 capacity_of v = vec_capacity v
 
 abbrev pub inode_of : MemoryFile → Inode
-inode_of f = record { name = option_map items_of f.name; bytes = f.bytes.items }
+inode_of f = record { name = option_map items_of f.name; bytes = f.bytes.bytes }
 
-abbrev pub content_room : MemoryFile → ℕ
-content_room f = vec_capacity f.bytes
+abbrev pub held_of : MemoryFile → List Bool
+held_of f = f.bytes.held
+
+-- the bytes of the file in a place of the table
+abbrev pub bytes_in : List MemoryFile → ℕ → List ℕ
+bytes_in files i = (slice_index_or (map inode_of files) i record { name = None; bytes = [] }).bytes
 
 abbrev pub state_of : Inside → State
 state_of k = record {
@@ -35,7 +39,7 @@ room_of k = record {
   pipes = vec_capacity k.pipes;
   name = vec_capacity k.name;
   console = vec_capacity k.console;
-  contents = map content_room k.files.items;
+  contents = map held_of k.files.items;
   buffers = map capacity_of k.pipes.items;
 }
 

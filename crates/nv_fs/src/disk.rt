@@ -1,24 +1,28 @@
 // The tables, and what they are at the start.
-ghost use Rattle.std.specs.Prelude.{◌≡◌, IfOk, Bool, not, map};
+ghost use Rattle.std.specs.Prelude.{◌≡◌, IfOk, Bool, not, map, vec_len};
 ghost use Rattle.nv_fs.specs.Views.{inode_of};
 ghost use Rattle.nv_fs.specs.States.{is_open};
 ghost use Rattle.nv_fs.specs.Starts.{first_state, first_descriptors, first_opens, inode_from};
 
 use crate::open_file::{OpenFile, Target};
+use nv_blocks::Blocks;
 use std::alloc::{AllocError, Global};
 use std::marker::Model;
 
 /// How many descriptors there are.
 pub const DESCRIPTORS: usize = 64;
 
+/// How many bytes a read hands out at most.
+pub const MOST: usize = 4096;
+
 /// A file in memory: its name until it is unlinked, and its bytes.
 #[derive(Drop)]
 pub struct MemoryFile {
     pub name: Option<Vec<u8>>,
-    pub bytes: Vec<u8>,
+    pub bytes: Blocks,
 }
 
-/// The files of a run, with the descriptors that name them. A free place in a table is used again.
+/// The files of a run, with the descriptors that name them. A free place in a table is used again. A read of a file gathers its bytes in `part`.
 #[derive(Drop)]
 pub struct FileSystem {
     pub(crate) alloc: Global,
@@ -30,10 +34,11 @@ pub struct FileSystem {
     pub(crate) taken: usize,
     pub(crate) console: Vec<u8>,
     pub(crate) name: Vec<u8>,
+    pub(crate) part: Vec<u8>,
 }
 
 impl Model for FileSystem {
-    ghost use Rattle.std.specs.Prelude.{◌≤◌, vec_len, map};
+    ghost use Rattle.std.specs.Prelude.{◌≡◌, ◌≤◌, vec_len, map};
     ghost use Rattle.nv_fs.specs.Rooms.{Disk};
 
     ghost Value = { Disk };
@@ -42,7 +47,13 @@ impl Model for FileSystem {
 
     ghost view = { disk_of };
 
-    ghost invariant = { λ k. k.taken ≤ vec_len k.input };
+    ghost invariant = { λ k. (k.taken ≤ vec_len k.input) × (vec_len k.part ≡ 4096) };
+}
+
+fn zeros(alloc: Global, n: usize) -> Result<Vec<u8>, AllocError>
+    ensures { IfOk result (λ made. vec_len made ≡ n) }
+{
+    vec![in alloc; 0; n]
 }
 
 // The open files that every run begins with.
@@ -90,6 +101,7 @@ impl FileSystem {
         let input = Vec::from_slice(alloc, input.as_slice())?;
         let files = stored(alloc, files.as_slice())?;
         let opens = first_opens(alloc)?;
+        let part = zeros(alloc, MOST)?;
         Ok(FileSystem {
             alloc,
             descriptors: first_descriptors(),
@@ -100,6 +112,7 @@ impl FileSystem {
             taken: 0,
             console: Vec::new(alloc),
             name: Vec::new(alloc),
+            part,
         })
     }
 
@@ -125,7 +138,7 @@ fn stored(alloc: Global, files: &[(Vec<u8>, Vec<u8>)]) -> Result<Vec<MemoryFile>
     let mut made = Vec::new(alloc);
     for (name, bytes) in files {
         let name = Vec::from_slice(alloc, name.as_slice())?;
-        let bytes = Vec::from_slice(alloc, bytes.as_slice())?;
+        let bytes = Blocks::from_slice(alloc, bytes.as_slice())?;
         made.push(MemoryFile {
             name: Some(name),
             bytes,

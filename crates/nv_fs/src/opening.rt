@@ -9,6 +9,7 @@ use crate::disk::{FileSystem, MemoryFile};
 use crate::errors::{EEXIST, EINVAL, EMFILE, ENOENT, ENOSPC};
 use crate::open_file::{OpenFile, Target};
 use crate::tables::append;
+use nv_blocks::Blocks;
 use std::alloc::AllocError;
 use std::mem;
 
@@ -116,7 +117,7 @@ impl FileSystem {
     {
         let file = MemoryFile {
             name: Some(name),
-            bytes: Vec::new(self.alloc),
+            bytes: Blocks::make(self.alloc),
         };
         put_file(&mut self.files, i, file);
     }

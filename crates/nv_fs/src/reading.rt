@@ -1,16 +1,14 @@
 // read.
-ghost use Rattle.std.specs.Prelude.{◌≡◌, ◌≤◌, ◌<◌, length, drop};
+ghost use Rattle.std.specs.Prelude.{◌≡◌, ◌+◌, ◌≤◌, ◌<◌, ◌^◌, length, take, drop};
 ghost use Rattle.nv_fs.specs.States.{answer};
+ghost use Rattle.nv_fs.specs.Views.{bytes_in};
 ghost use Rattle.nv_fs.specs.Fetched.{read_of, read_input, read_file, read_pipe, read_target, with_pipe, pipe_at};
 
-use crate::disk::FileSystem;
+use crate::disk::{FileSystem, MOST, MemoryFile};
 use crate::errors::{EAGAIN, EBADF};
 use crate::open_file::{OpenFile, Target};
 use crate::tables::{hand_out, refuse};
 use nv_calls::Bytes;
-
-/// How many bytes a call moves at most.
-const MOST: usize = 4096;
 
 // Drops the first bytes.
 fn drop_front(held: &mut Vec<u8>, n: usize)
@@ -20,6 +18,31 @@ fn drop_front(held: &mut Vec<u8>, n: usize)
     let rest = held.as_slice().len() - n;
     held.as_mut_slice().rotate_left(n);
     held.truncate(rest);
+}
+
+// Hands out at most so many of a file's bytes from a place on, which it gathers in a part, and tells how many.
+fn hand_out_file(
+    files: &[MemoryFile],
+    i: usize,
+    from: usize,
+    most: usize,
+    part: &mut [u8],
+    out: &mut Bytes,
+) -> usize
+    requires inside { most ≤ length part.old }
+    requires room { most ≤ out.old.room }
+    ensures out { out.new ≡ record { bytes = take most (drop from (bytes_in files.now i)); room = out.old.room } }
+    ensures ret { result ≡ length out.new.bytes }
+    ensures few { result ≤ most }
+    ensures end { from + result < 2 ^ 64 }
+{
+    if i >= files.len() {
+        out.set(&[]);
+        return 0;
+    }
+    let got = files[i].bytes.read_at(from, &mut part[..most]);
+    out.set(&part[..got]);
+    got
 }
 
 #[tactic(auto, unfolding(crate::specs::Fetched::read_of))]
@@ -63,7 +86,14 @@ impl FileSystem {
         ensures answer { read_file self.old.state number description i n ≡ answer self.new.state result out.new.bytes }
         ensures room { out.new.room ≡ out.old.room }
     {
-        let got = hand_out(self.content(i), description.offset, n, out);
+        let got = hand_out_file(
+            self.files.as_slice(),
+            i,
+            description.offset,
+            n,
+            self.part.as_mut_slice(),
+            out,
+        );
         self.move_to(number, description, description.offset + got);
         got as i32
     }

@@ -32,7 +32,7 @@ impl FileSystem {
         match whence {
             0 => Some(0),
             1 => Some(description.offset),
-            2 => Some(self.content(i).len()),
+            2 => Some(self.size_of(i)),
             _ => None,
         }
     }

@@ -140,14 +140,14 @@ impl FileSystem {
         }
     }
 
-    /// The bytes of a file.
-    pub(crate) fn content(&self, i: usize) -> &[u8]
-        ensures { result.now ≡ bytes_of self.now.state i }
+    /// How many bytes a file has.
+    pub(crate) fn size_of(&self, i: usize) -> usize
+        ensures { result ≡ length (bytes_of self.now.state i) }
     {
         if i < self.files.len() {
-            self.files[i].bytes.as_slice()
+            self.files[i].bytes.len()
         } else {
-            &[]
+            0
         }
     }
 

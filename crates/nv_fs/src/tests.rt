@@ -429,6 +429,34 @@ fn limits(rt: HostRuntime) -> Result<(), Fail> {
     Ok(())
 }
 
+// A gap reads as zeros, also where other bytes stood before the file was emptied; a read and a write go over the end of a block.
+#[test]
+fn gaps(rt: HostRuntime) -> Result<(), Fail> {
+    let mut desk = Desk::make(rt.alloc())?;
+    desk.open(b"g", CREATE | BOTH, 3);
+    desk.seek(3, 1_048_575, 0);
+    desk.write(3, b"z", 1);
+    desk.seek(3, 4095, 0);
+    desk.read(3, 2, 2);
+    desk.handed(b"\0\0");
+    desk.seek(3, 4095, 0);
+    desk.write(3, b"abc", 3);
+    desk.seek(3, 4094, 0);
+    desk.read(3, 5, 5);
+    desk.handed(b"\0abc\0");
+    desk.open(b"g", TRUNCATE | BOTH, 4);
+    desk.read(4, 9, 0);
+    desk.seek(4, 8191, 0);
+    desk.write(4, b"y", 1);
+    desk.seek(4, 4095, 0);
+    desk.read(4, 3, 3);
+    desk.handed(b"\0\0\0");
+    desk.seek(4, 4098, 0);
+    desk.read(4, 5000, 4094);
+    assert_eq!(rt; desk.wrong, None);
+    Ok(())
+}
+
 #[test]
 fn pipes(rt: HostRuntime) -> Result<(), Fail> {
     let mut desk = Desk::make(rt.alloc())?;

@@ -1,10 +1,11 @@
 // write.
-ghost use Rattle.std.specs.Prelude.{◌≡◌, ◌+◌, ◌-◌, ◌≤◌, ◌<◌, [], ◌++◌, min, length, vec_capacity, slice_index, OnOk};
+ghost use Rattle.std.specs.Prelude.{◌≡◌, ◌+◌, ◌-◌, ◌≤◌, ◌<◌, ◌^◌, [], ◌++◌, min, length, slice_index, OnOk};
+ghost use Rattle.nv_blocks.specs.Contents.{with_bytes};
 ghost use Rattle.nv_fs.specs.States.{answer};
 ghost use Rattle.nv_fs.specs.Seeks.{bytes_of};
 ghost use Rattle.nv_fs.specs.Fetched.{pipe_at, with_pipe};
-ghost use Rattle.nv_fs.specs.Stored.{write_of, write_console, write_at, write_pipe, write_target, with_bytes, with_content, start_of};
-ghost use Rattle.nv_fs.specs.Rooms.{CanWrite, HasRoom, grown};
+ghost use Rattle.nv_fs.specs.Stored.{write_of, write_console, write_at, write_pipe, write_target, with_content, start_of};
+ghost use Rattle.nv_fs.specs.Rooms.{CanWrite, HasRoom, HasBlocks};
 
 use crate::disk::FileSystem;
 use crate::errors::{EAGAIN, EBADF, EFBIG, ENOSPC, EPIPE};
@@ -20,38 +21,6 @@ const FILE: usize = 1_048_576;
 
 /// How many bytes a pipe holds.
 const PIPE: usize = 4096;
-
-// Writes over bytes that are there.
-fn write_over(held: &mut [u8], place: usize, bytes: &[u8])
-    requires { place + length bytes.now ≤ length held.old }
-    ensures { held.new ≡ with_bytes held.old place bytes.now }
-{
-    held[place..place + bytes.len()].copy_from_slice(bytes);
-}
-
-// Writes from a place on up to the end or past it, with zeros in the gap before the place.
-fn write_through(held: &mut Vec<u8>, place: usize, bytes: &[u8])
-    requires behind { length held.old.items ≤ place + length bytes.now }
-    requires room { place + length bytes.now ≤ vec_capacity held.old }
-    ensures { held.new.items ≡ with_bytes held.old.items place bytes.now }
-{
-    match held.resize(place, 0) {
-        Ok(()) => append(held, bytes),
-        Err(_) => unreachable!(),
-    }
-}
-
-// The bytes from a place on, for which there is memory.
-fn put(held: &mut Vec<u8>, place: usize, bytes: &[u8])
-    requires { place + length bytes.now ≤ vec_capacity held.old }
-    ensures { held.new.items ≡ with_bytes held.old.items place bytes.now }
-{
-    if place + bytes.len() < held.as_slice().len() {
-        write_over(held.as_mut_slice(), place, bytes);
-    } else {
-        write_through(held, place, bytes);
-    }
-}
 
 #[tactic(auto, unfolding(crate::specs::Stored::write_of, crate::specs::Rooms::CanWrite))]
 impl FileSystem {
@@ -69,11 +38,12 @@ impl FileSystem {
     }
 
     fn put_at(&mut self, i: usize, place: usize, bytes: &[u8])
-        requires { i < length self.old.state.files → place + length bytes.now ≤ slice_index self.old.room.contents i }
+        requires fits { place + length bytes.now < 2 ^ 64 }
+        requires room { HasBlocks self.old i place (length bytes.now) }
         ensures { self.new.state ≡ with_content self.old.state i (with_bytes (bytes_of self.old.state i) place bytes.now) }
     {
         if i < self.files.as_slice().len() {
-            put(&mut self.files[i].bytes, place, bytes);
+            self.files[i].bytes.write_at(place, bytes);
         }
     }
 
@@ -82,7 +52,7 @@ impl FileSystem {
         ensures { result ≡ start_of self.now.state description i }
     {
         if description.appends {
-            self.content(i).len()
+            self.size_of(i)
         } else {
             description.offset
         }
@@ -90,7 +60,7 @@ impl FileSystem {
 
     fn write_file(&mut self, number: usize, description: OpenFile, i: usize, bytes: &[u8]) -> i32
         requires number { number < length self.old.state.opens }
-        requires room { i < length self.old.state.files → grown 1048576 (start_of self.old.state description i) (length bytes.now) ≤ slice_index self.old.room.contents i }
+        requires room { HasBlocks self.old i (start_of self.old.state description i) (min (length bytes.now) (1048576 - start_of self.old.state description i)) }
         ensures { write_at self.old.state number description i 1048576 (start_of self.old.state description i) bytes.now ≡ answer self.new.state result [] }
     {
         let start = self.start_of(description, i);
@@ -167,12 +137,13 @@ impl FileSystem {
         self.console.reserve(more)
     }
 
-    fn reserve_content(&mut self, i: usize, most: usize) -> Result<(), AllocError>
+    fn reserve_content(&mut self, i: usize, place: usize, n: usize) -> Result<(), AllocError>
+        requires { place + n < 2 ^ 64 }
         ensures state { self.new.state ≡ self.old.state }
-        ensures ok { OnOk result (i < length self.old.state.files → most ≤ slice_index self.new.room.contents i) }
+        ensures ok { OnOk result (HasBlocks self.new i place n) }
     {
         if i < self.files.as_slice().len() {
-            reserve_to(&mut self.files[i].bytes, most)
+            self.files[i].bytes.reserve(place, n)
         } else {
             Ok(())
         }
@@ -191,13 +162,13 @@ impl FileSystem {
 
     fn reserve_file(&mut self, description: OpenFile, i: usize, n: usize) -> Result<(), AllocError>
         ensures state { self.new.state ≡ self.old.state }
-        ensures ok { OnOk result (i < length self.old.state.files → grown 1048576 (start_of self.old.state description i) n ≤ slice_index self.new.room.contents i) }
+        ensures ok { OnOk result (HasBlocks self.new i (start_of self.old.state description i) (min n (1048576 - start_of self.old.state description i))) }
     {
         let start = self.start_of(description, i);
         if start >= FILE {
             return Ok(());
         }
-        self.reserve_content(i, start + n.min(FILE - start))
+        self.reserve_content(i, start, n.min(FILE - start))
     }
 
     fn reserve_pipe_for(&mut self, k: usize, n: usize) -> Result<(), AllocError>
