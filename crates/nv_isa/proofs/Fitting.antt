@@ -7,7 +7,7 @@ use Rattle.std.proofs.lemmas.Int.{ints}
 use Rattle.std.proofs.lemmas.Bool.Decides.{nat_tests}
 use Rattle.nv_isa.specs.declared.op.Op.{Op}
 use Rattle.nv_isa.specs.declared.op.Form.{Form}
-use Rattle.nv_isa.specs.declared.op.Form.TheVariants.{Register, Immediate, Shift, Store, Branch, Upper, Jump, Whole}
+use Rattle.nv_isa.specs.declared.op.Form.TheVariants.{Register, Immediate, Shift, Store, Branch, Upper, Jump, Whole, Atomic, Reserve}
 use Rattle.nv_isa.specs.declared.op.Insn.{Insn}
 use Rattle.nv_isa.specs.Table.{Row, row, table, row_of, belongs, signed, insn_of, decoded}
 use Rattle.nv_isa.specs.Spelling.{low, InBits, FitsForm, Fits}
@@ -30,6 +30,9 @@ in_bits_32 n h = record { least = grind (arith, ints, nat_tests); most = grind (
 
 amount : (n : ℕ) → n < 32 → (pos 0 ≤ℤ pos n) × (pos n <ℤ pos 32)
 amount n h = (grind (arith, ints), grind (arith, ints))
+
+flags : (n : ℕ) → n < 4 → (pos 0 ≤ℤ pos n) × (pos n <ℤ pos 4)
+flags n h = (grind (arith, ints), grind (arith, ints))
 
 even_13 : (n : ℕ) → n < 2 ^ 13 → n % 2 ≡ 0 → low 1 (signed 13 n) ≡ 0
 even_13 n h e = let m : low 13 (signed 13 n) ≡ n = low-signed_13 n h in omega arith
@@ -75,6 +78,14 @@ fits_whole : IsRead Whole
 unfolding insn_of
 fits_whole o w = record { registers = (refl, refl, refl); immediate = refl }
 
+fits_atomic : IsRead Atomic
+unfolding insn_of
+fits_atomic o w = record { registers = (omega arith, omega arith, omega arith); immediate = flags (w / 2 ^ 25 % 2 ^ 2) (omega arith) }
+
+fits_reserve : IsRead Reserve
+unfolding insn_of
+fits_reserve o w = record { registers = (omega arith, omega arith, refl); immediate = flags (w / 2 ^ 25 % 2 ^ 2) (omega arith) }
+
 fits_form : (f : Form) → IsRead f
 fits_form Register = fits_register
 fits_form Immediate = fits_immediate
@@ -84,6 +95,8 @@ fits_form Branch = fits_branch
 fits_form Upper = fits_upper
 fits_form Jump = fits_jump
 fits_form Whole = fits_whole
+fits_form Atomic = fits_atomic
+fits_form Reserve = fits_reserve
 
 op_of_insn : (o : Op) (f : Form) (w : ℕ) → (insn_of o f w).op ≡ o
 unfolding insn_of

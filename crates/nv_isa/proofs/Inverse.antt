@@ -7,13 +7,13 @@ use Rattle.std.proofs.lemmas.Bool.{eqb-true, eq-eqb, cases_Bool}
 use Rattle.nv_isa.specs.declared.op.Op.{Op}
 use Rattle.nv_isa.specs.declared.op.Op.TheVariants.{Lui}
 use Rattle.nv_isa.specs.declared.op.Form.{Form}
-use Rattle.nv_isa.specs.declared.op.Form.TheVariants.{Register, Immediate, Shift, Store, Branch, Upper, Jump, Whole}
+use Rattle.nv_isa.specs.declared.op.Form.TheVariants.{Register, Immediate, Shift, Store, Branch, Upper, Jump, Whole, Atomic, Reserve}
 use Rattle.nv_isa.specs.declared.op.Insn.{Insn}
 use Rattle.nv_isa.specs.Table.{Row, row, table, row_of, belongs, signed, immediate, insn_of, rd_in, rs1_in, rs2_in, decoded}
 use Rattle.nv_isa.specs.Spelling.{low, FitsForm, spelled, encoded, Fits}
-use Rattle.nv_isa.proofs.Masks.{under_opcode, under_funct3, under_funct7, under_all, has_kind}
+use Rattle.nv_isa.proofs.Masks.{under_opcode, under_funct3, under_funct7, under_funct5, under_reserve, under_all, has_kind}
 use Rattle.nv_isa.proofs.Apart.{only_row}
-use Rattle.nv_isa.proofs.Signs.{low-signed_12, low-signed_13, low-signed_21, low-signed_32, signed-low_12, signed-low_13, signed-low_21, signed-low_32, low_5}
+use Rattle.nv_isa.proofs.Signs.{low-signed_12, low-signed_13, low-signed_21, low-signed_32, signed-low_12, signed-low_13, signed-low_21, signed-low_32, low_5, low_2}
 
 abbrev pub mask_of : Form → ℕ
 mask_of Register = 0xfe00707f
@@ -24,6 +24,8 @@ mask_of Branch = 0x707f
 mask_of Upper = 0x7f
 mask_of Jump = 0x7f
 mask_of Whole = 0xffffffff
+mask_of Atomic = 0xf800707f
+mask_of Reserve = 0xf9f0707f
 
 pub mask-row : (o : Op) → (row o).mask ≡ mask_of (row o).form
 unfolding row
@@ -178,6 +180,38 @@ read_whole v i k b h = record {
   read = same_insn Whole (v + 0) i (sym h.registers.0) (sym h.registers.1) (sym h.registers.2) (sym h.immediate);
 }
 
+read_atomic : (v : ℕ) (i : Insn) → has_kind (mask_of Atomic) v ≡ true → v < 2 ^ 32 → FitsForm Atomic i → ReadBack Atomic v i
+read_atomic v i k b h =
+    let v_is : v ≡ v / 2 ^ 27 * 2 ^ 27 + (v / 2 ^ 12 % 2 ^ 3 * 2 ^ 12 + v % 2 ^ 7) = eqb-true _ _ k in
+    let w : ℕ = v + spelled Atomic i in
+    let m : ℕ = low 2 i.imm in
+    let m_small : m < 2 ^ 2 = omega arith in
+    let s : Six w (v % 2 ^ 7) i.rd (v / 2 ^ 12 % 2 ^ 3) i.rs1 i.rs2 (v / 2 ^ 27 * 2 ^ 2 + m) =
+    six w (v % 2 ^ 7) i.rd (v / 2 ^ 12 % 2 ^ 3) i.rs1 i.rs2 (v / 2 ^ 27 * 2 ^ 2 + m) (omega arith) (omega arith) (omega arith) (omega arith) (omega arith) (omega arith) (omega arith) in
+    let high : w / 2 ^ 27 ≡ v / 2 ^ 27 = omega (arith, s.funct7) in
+    let at_m : w / 2 ^ 25 % 2 ^ 2 ≡ m = omega (arith, s.funct7) in
+    record {
+      bound = s.bound;
+      under = under_funct5 w s.bound ∙ rw (s.opcode, s.funct3, high) (sym v_is);
+      read = same_insn Atomic w i s.rd_at s.rs1_at s.rs2_at (rw at_m (low_2 i.imm h.immediate.0 h.immediate.1));
+    }
+
+read_reserve : (v : ℕ) (i : Insn) → has_kind (mask_of Reserve) v ≡ true → v < 2 ^ 32 → FitsForm Reserve i → ReadBack Reserve v i
+read_reserve v i k b h =
+    let v_is : v ≡ v / 2 ^ 27 * 2 ^ 27 + (v / 2 ^ 12 % 2 ^ 3 * 2 ^ 12 + v % 2 ^ 7) = eqb-true _ _ k in
+    let w : ℕ = v + spelled Reserve i in
+    let m : ℕ = low 2 i.imm in
+    let m_small : m < 2 ^ 2 = omega arith in
+    let s : Six w (v % 2 ^ 7) i.rd (v / 2 ^ 12 % 2 ^ 3) i.rs1 0 (v / 2 ^ 27 * 2 ^ 2 + m) =
+    six w (v % 2 ^ 7) i.rd (v / 2 ^ 12 % 2 ^ 3) i.rs1 0 (v / 2 ^ 27 * 2 ^ 2 + m) (omega arith) (omega arith) (omega arith) (omega arith) (omega arith) (omega arith) (omega arith) in
+    let high : w / 2 ^ 27 ≡ v / 2 ^ 27 = omega (arith, s.funct7) in
+    let at_m : w / 2 ^ 25 % 2 ^ 2 ≡ m = omega (arith, s.funct7) in
+    record {
+      bound = s.bound;
+      under = under_reserve w s.bound ∙ rw (s.opcode, s.funct3, s.rs2_at, high) (omega arith);
+      read = same_insn Reserve w i s.rd_at s.rs1_at (sym h.registers.2) (rw at_m (low_2 i.imm h.immediate.0 h.immediate.1));
+    }
+
 read_back : (f : Form) (v : ℕ) (i : Insn) → has_kind (mask_of f) v ≡ true → v < 2 ^ 32 → FitsForm f i → ReadBack f v i
 read_back Register = read_register
 read_back Immediate = read_immediate
@@ -187,6 +221,8 @@ read_back Branch = read_branch
 read_back Upper = read_upper
 read_back Jump = read_jump
 read_back Whole = read_whole
+read_back Atomic = read_atomic
+read_back Reserve = read_reserve
 
 small : (o : Op) → (row o).value < 2 ^ 32
 unfolding row
@@ -276,6 +312,18 @@ write_jump o w v b e =
     let u : v ≡ w % 2 ^ 7 = sym e ∙ under_opcode w in
     omega arith
 
+write_atomic : WrittenBack Atomic
+unfolding insn_of
+write_atomic o w v b e =
+    let u : v ≡ w / 2 ^ 27 * 2 ^ 27 + (w / 2 ^ 12 % 2 ^ 3 * 2 ^ 12 + w % 2 ^ 7) = sym e ∙ under_funct5 w b in
+    omega arith
+
+write_reserve : WrittenBack Reserve
+unfolding insn_of
+write_reserve o w v b e =
+    let u : v ≡ w / 2 ^ 27 * 2 ^ 27 + w / 2 ^ 20 % 2 ^ 5 * 2 ^ 20 + (w / 2 ^ 12 % 2 ^ 3 * 2 ^ 12 + w % 2 ^ 7) = sym e ∙ under_reserve w b in
+    omega arith
+
 write_back : (f : Form) → WrittenBack f
 write_back Register = write_register
 write_back Immediate = write_immediate
@@ -285,6 +333,8 @@ write_back Branch = write_branch
 write_back Upper = write_upper
 write_back Jump = write_jump
 write_back Whole = write_whole
+write_back Atomic = write_atomic
+write_back Reserve = write_reserve
 
 -- each row of the table is that of its operation
 abbrev pub IsOwn : Row → Type 0
@@ -292,7 +342,7 @@ IsOwn r = r ≡ row r.op
 
 pub all_own : AllByRecursion IsOwn table
 unfolding table row
-all_own = (refl, (refl, (refl, (refl, (refl, (refl, (refl, (refl, (refl, (refl, (refl, (refl, (refl, (refl, (refl, (refl, (refl, (refl, (refl, (refl, (refl, (refl, (refl, (refl, (refl, (refl, (refl, (refl, (refl, (refl, (refl, (refl, (refl, (refl, (refl, (refl, (refl, (refl, (refl, (refl, tt))))))))))))))))))))))))))))))))))))))))
+all_own = (refl, (refl, (refl, (refl, (refl, (refl, (refl, (refl, (refl, (refl, (refl, (refl, (refl, (refl, (refl, (refl, (refl, (refl, (refl, (refl, (refl, (refl, (refl, (refl, (refl, (refl, (refl, (refl, (refl, (refl, (refl, (refl, (refl, (refl, (refl, (refl, (refl, (refl, (refl, (refl, (refl, (refl, (refl, (refl, (refl, (refl, (refl, (refl, (refl, (refl, (refl, (refl, (refl, (refl, (refl, (refl, (refl, (refl, (refl, tt)))))))))))))))))))))))))))))))))))))))))))))))))))))))))))
 
 pub found : (w : ℕ) (rs : List Row) (r : Row) → AllByRecursion IsOwn rs → find (belongs w) rs ≡ Some r → (belongs w r ≡ true) × (r ≡ row r.op)
 found w [] r all e = (cc)

@@ -1,11 +1,11 @@
--- The table of RV32I, and the instruction that a word spells: the RISC-V Unprivileged ISA manual (20191213), chapter 24 for
--- the rows, section 2.2 for the fields and section 2.3 for the immediates.
+-- The table of RV32IMA, and the instruction that a word spells: the RISC-V Unprivileged ISA manual (20191213), chapter 24 for
+-- the rows, section 2.2 for the fields, section 2.3 for the immediates and section 8.1 for aq and rl.
 use Rattle.std.specs.Prelude.{Bool, ℕ, ◌+◌, ◌-◌, ◌*◌, ◌/◌, ◌%◌, ◌^◌, List, [], ◌∷◌, Option, find, nat_lt, ◌==◌, if◌then◌else◌, bit_and, ℤ, pos, ◌-ℤ◌}
 use Rattle.std.specs.Option.{option_map}
 use Rattle.nv_isa.specs.declared.op.Op.{Op}
-use Rattle.nv_isa.specs.declared.op.Op.TheVariants.{Lui, Auipc, Jal, Jalr, Beq, Bne, Blt, Bge, Bltu, Bgeu, Lb, Lh, Lw, Lbu, Lhu, Sb, Sh, Sw, Addi, Slti, Sltiu, Xori, Ori, Andi, Slli, Srli, Srai, Add, Sub, Sll, Slt, Sltu, Xor, Srl, Sra, Or, And, Fence, Ecall, Ebreak}
+use Rattle.nv_isa.specs.declared.op.Op.TheVariants.{Lui, Auipc, Jal, Jalr, Beq, Bne, Blt, Bge, Bltu, Bgeu, Lb, Lh, Lw, Lbu, Lhu, Sb, Sh, Sw, Addi, Slti, Sltiu, Xori, Ori, Andi, Slli, Srli, Srai, Add, Sub, Sll, Slt, Sltu, Xor, Srl, Sra, Or, And, Fence, Ecall, Ebreak, Mul, Mulh, Mulhsu, Mulhu, Div, Divu, Rem, Remu, LoadReserved, StoreConditional, AmoSwap, AmoAdd, AmoXor, AmoAnd, AmoOr, AmoMin, AmoMax, AmoMinu, AmoMaxu}
 use Rattle.nv_isa.specs.declared.op.Form.{Form}
-use Rattle.nv_isa.specs.declared.op.Form.TheVariants.{Register, Immediate, Shift, Store, Branch, Upper, Jump, Whole}
+use Rattle.nv_isa.specs.declared.op.Form.TheVariants.{Register, Immediate, Shift, Store, Branch, Upper, Jump, Whole, Atomic, Reserve}
 use Rattle.nv_isa.specs.declared.op.Insn.{Insn}
 
 -- one line of the manual's listing: the bits that are given, their values, where the other bits go, and what it does
@@ -61,6 +61,25 @@ row And = with_op And 0xfe00707f 0x7033 Register
 row Fence = with_op Fence 0x707f 0xf Immediate
 row Ecall = with_op Ecall 0xffffffff 0x73 Whole
 row Ebreak = with_op Ebreak 0xffffffff 0x100073 Whole
+row Mul = with_op Mul 0xfe00707f 0x2000033 Register
+row Mulh = with_op Mulh 0xfe00707f 0x2001033 Register
+row Mulhsu = with_op Mulhsu 0xfe00707f 0x2002033 Register
+row Mulhu = with_op Mulhu 0xfe00707f 0x2003033 Register
+row Div = with_op Div 0xfe00707f 0x2004033 Register
+row Divu = with_op Divu 0xfe00707f 0x2005033 Register
+row Rem = with_op Rem 0xfe00707f 0x2006033 Register
+row Remu = with_op Remu 0xfe00707f 0x2007033 Register
+row LoadReserved = with_op LoadReserved 0xf9f0707f 0x1000202f Reserve
+row StoreConditional = with_op StoreConditional 0xf800707f 0x1800202f Atomic
+row AmoSwap = with_op AmoSwap 0xf800707f 0x800202f Atomic
+row AmoAdd = with_op AmoAdd 0xf800707f 0x202f Atomic
+row AmoXor = with_op AmoXor 0xf800707f 0x2000202f Atomic
+row AmoAnd = with_op AmoAnd 0xf800707f 0x6000202f Atomic
+row AmoOr = with_op AmoOr 0xf800707f 0x4000202f Atomic
+row AmoMin = with_op AmoMin 0xf800707f 0x8000202f Atomic
+row AmoMax = with_op AmoMax 0xf800707f 0xa000202f Atomic
+row AmoMinu = with_op AmoMinu 0xf800707f 0xc000202f Atomic
+row AmoMaxu = with_op AmoMaxu 0xf800707f 0xe000202f Atomic
 
 -- all rows
 unfoldable pub table : List Row
@@ -69,7 +88,10 @@ table =
     row Bltu ∷ row Bgeu ∷ row Lb ∷ row Lh ∷ row Lw ∷ row Lbu ∷ row Lhu ∷ row Sb ∷ row Sh ∷
     row Sw ∷ row Addi ∷ row Slti ∷ row Sltiu ∷ row Xori ∷ row Ori ∷ row Andi ∷ row Slli ∷
     row Srli ∷ row Srai ∷ row Add ∷ row Sub ∷ row Sll ∷ row Slt ∷ row Sltu ∷ row Xor ∷
-    row Srl ∷ row Sra ∷ row Or ∷ row And ∷ row Fence ∷ row Ecall ∷ row Ebreak ∷ []
+    row Srl ∷ row Sra ∷ row Or ∷ row And ∷ row Fence ∷ row Ecall ∷ row Ebreak ∷
+    row Mul ∷ row Mulh ∷ row Mulhsu ∷ row Mulhu ∷ row Div ∷ row Divu ∷ row Rem ∷ row Remu ∷
+    row LoadReserved ∷ row StoreConditional ∷ row AmoSwap ∷ row AmoAdd ∷ row AmoXor ∷ row AmoAnd ∷ row AmoOr ∷
+    row AmoMin ∷ row AmoMax ∷ row AmoMinu ∷ row AmoMaxu ∷ []
 
 -- a word belongs to a row where the word under the mask is the row's value
 abbrev pub belongs : ℕ → Row → Bool
@@ -106,6 +128,8 @@ immediate Branch word = signed 13 (2 ^ 12 * field word 31 31 + 2 ^ 11 * field wo
 immediate Upper word = signed 32 (2 ^ 12 * field word 31 12)
 immediate Jump word = signed 21 (2 ^ 20 * field word 31 31 + 2 ^ 12 * field word 19 12 + 2 ^ 11 * field word 20 20 + 2 * field word 30 21)
 immediate Whole word = pos 0
+immediate Atomic word = pos (field word 26 25)
+immediate Reserve word = pos (field word 26 25)
 
 -- the registers of each form, 0 where the form has none
 abbrev pub rd_in : Form → ℕ → ℕ
@@ -124,6 +148,7 @@ abbrev pub rs2_in : Form → ℕ → ℕ
 rs2_in Register word = rs2_of word
 rs2_in Store word = rs2_of word
 rs2_in Branch word = rs2_of word
+rs2_in Atomic word = rs2_of word
 rs2_in _ word = 0
 
 -- the instruction that a word of the row spells

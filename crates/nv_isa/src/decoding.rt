@@ -101,6 +101,34 @@ fn between_registers(funct3: u32, funct7: u32) -> Option<(Op, Form)>
         (5, 32) => Some((Op::Sra, Form::Register)),
         (6, 0) => Some((Op::Or, Form::Register)),
         (7, 0) => Some((Op::And, Form::Register)),
+        (0, 1) => Some((Op::Mul, Form::Register)),
+        (1, 1) => Some((Op::Mulh, Form::Register)),
+        (2, 1) => Some((Op::Mulhsu, Form::Register)),
+        (3, 1) => Some((Op::Mulhu, Form::Register)),
+        (4, 1) => Some((Op::Div, Form::Register)),
+        (5, 1) => Some((Op::Divu, Form::Register)),
+        (6, 1) => Some((Op::Rem, Form::Register)),
+        (7, 1) => Some((Op::Remu, Form::Register)),
+        _ => None,
+    }
+}
+
+#[tactic(auto, unfolding(crate::specs::Fields::named, crate::specs::Table::table, crate::specs::Table::row))]
+fn atomic(funct3: u32, funct7: u32, word: u32) -> Option<(Op, Form)>
+    ensures { option_map key_of (named 0x2f funct3 funct7 word) ≡ result }
+{
+    match (funct3, funct7 / 4) {
+        (2, 2) if word >> 20 & 31 == 0 => Some((Op::LoadReserved, Form::Reserve)),
+        (2, 3) => Some((Op::StoreConditional, Form::Atomic)),
+        (2, 1) => Some((Op::AmoSwap, Form::Atomic)),
+        (2, 0) => Some((Op::AmoAdd, Form::Atomic)),
+        (2, 4) => Some((Op::AmoXor, Form::Atomic)),
+        (2, 12) => Some((Op::AmoAnd, Form::Atomic)),
+        (2, 8) => Some((Op::AmoOr, Form::Atomic)),
+        (2, 16) => Some((Op::AmoMin, Form::Atomic)),
+        (2, 20) => Some((Op::AmoMax, Form::Atomic)),
+        (2, 24) => Some((Op::AmoMinu, Form::Atomic)),
+        (2, 28) => Some((Op::AmoMaxu, Form::Atomic)),
         _ => None,
     }
 }
@@ -131,6 +159,7 @@ fn key(opcode: u32, funct3: u32, funct7: u32, word: u32) -> Option<(Op, Form)>
         0x13 => with_immediate(funct3, funct7),
         0x33 => between_registers(funct3, funct7),
         0x0f if funct3 == 0 => Some((Op::Fence, Form::Immediate)),
+        0x2f => atomic(funct3, funct7, word),
         0x73 => system(word),
         _ => None,
     }
@@ -146,14 +175,14 @@ fn insn(op: Op, form: Form, word: u32) -> Insn
     let rs1 = rs1(word);
     let rs2 = rs2(word);
     match form {
-        Form::Register => Insn {
+        Form::Register | Form::Atomic => Insn {
             op,
             rd,
             rs1,
             rs2,
             imm,
         },
-        Form::Immediate | Form::Shift => Insn {
+        Form::Immediate | Form::Shift | Form::Reserve => Insn {
             op,
             rd,
             rs1,

@@ -63,6 +63,25 @@ fn fixed(op: Op) -> (u32, Form)
         Op::Fence => (0xf, Form::Immediate),
         Op::Ecall => (0x73, Form::Whole),
         Op::Ebreak => (0x100073, Form::Whole),
+        Op::Mul => (0x2000033, Form::Register),
+        Op::Mulh => (0x2001033, Form::Register),
+        Op::Mulhsu => (0x2002033, Form::Register),
+        Op::Mulhu => (0x2003033, Form::Register),
+        Op::Div => (0x2004033, Form::Register),
+        Op::Divu => (0x2005033, Form::Register),
+        Op::Rem => (0x2006033, Form::Register),
+        Op::Remu => (0x2007033, Form::Register),
+        Op::LoadReserved => (0x1000202f, Form::Reserve),
+        Op::StoreConditional => (0x1800202f, Form::Atomic),
+        Op::AmoSwap => (0x800202f, Form::Atomic),
+        Op::AmoAdd => (0x202f, Form::Atomic),
+        Op::AmoXor => (0x2000202f, Form::Atomic),
+        Op::AmoAnd => (0x6000202f, Form::Atomic),
+        Op::AmoOr => (0x4000202f, Form::Atomic),
+        Op::AmoMin => (0x8000202f, Form::Atomic),
+        Op::AmoMax => (0xa000202f, Form::Atomic),
+        Op::AmoMinu => (0xc000202f, Form::Atomic),
+        Op::AmoMaxu => (0xe000202f, Form::Atomic),
     }
 }
 
@@ -91,5 +110,7 @@ fn fields(form: Form, insn: &Insn) -> u32
             low + m / 2 % 1024 * 2_097_152 + m / 1_048_576 * 2_147_483_648
         }
         Form::Whole => 0,
+        Form::Atomic => rd + rs1 + rs2 + (imm % 4) * 33_554_432,
+        Form::Reserve => rd + rs1 + (imm % 4) * 33_554_432,
     }
 }

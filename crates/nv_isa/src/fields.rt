@@ -1,4 +1,4 @@
-// Where a word keeps its registers, and the immediate of each form: the manual's sections 2.2 and 2.3.
+// Where a word keeps its registers, and the immediate of each form: the manual's sections 2.2, 2.3 and 8.1.
 ghost use Rattle.std.specs.Prelude.{◌≡◌, ℕ, ◌/◌, ◌%◌, ◌^◌, ◌<◌, ◌*◌, ◌+◌, ℤ};
 ghost use Rattle.nv_isa.specs.Table.{immediate, signed, rd_of, rs1_of, rs2_of};
 
@@ -33,6 +33,7 @@ pub fn immediate(form: Form, word: u32) -> i32
         Form::Register | Form::Whole => 0,
         Form::Immediate => signed_12(word >> 20),
         Form::Shift => (word >> 20 & 31) as i32,
+        Form::Atomic | Form::Reserve => (word >> 25 & 3) as i32,
         Form::Store => signed_12((word >> 25) * 32 + (word >> 7 & 31)),
         Form::Branch => {
             let low = (word >> 7 & 1) * 2048 + (word >> 25 & 63) * 32 + (word >> 8 & 15) * 2;

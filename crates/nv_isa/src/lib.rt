@@ -1,4 +1,4 @@
-//! The instructions of RV32I: the table of the RISC-V Unprivileged ISA manual (chapter 24, "RV32/64G Instruction Set
+//! The instructions of RV32IMA: the table of the RISC-V Unprivileged ISA manual (chapter 24, "RV32/64G Instruction Set
 //! Listings"), by which a word is read as an instruction and an instruction written as a word.
 #![tactic(auto)]
 

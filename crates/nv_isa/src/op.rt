@@ -1,8 +1,9 @@
-// The operations of RV32I, and where their words keep their fields.
+// The operations of RV32IMA, and where their words keep their fields.
 
-/// The operations of RV32I, one for each row of the table.
+/// The operations of RV32IMA, one for each row of the table.
 ///
-/// The sections are those of the RISC-V Instruction Set Manual, Volume I: Unprivileged ISA (20191213), chapter 2.
+/// The sections are those of the RISC-V Instruction Set Manual, Volume I: Unprivileged ISA (20191213): chapter 2 is RV32I,
+/// chapter 7 the extension M, chapter 8 the extension A.
 #[derive(Clone, Copy, Debug, PartialEq, Eq)]
 pub enum Op {
     /// Load upper immediate (section 2.4).
@@ -85,6 +86,44 @@ pub enum Op {
     Ecall,
     /// Breakpoint (section 2.8).
     Ebreak,
+    /// Multiply: the low word of the product (section 7.1).
+    Mul,
+    /// The high word of the product, signed by signed (section 7.1).
+    Mulh,
+    /// The high word of the product, signed by unsigned (section 7.1).
+    Mulhsu,
+    /// The high word of the product, unsigned by unsigned (section 7.1).
+    Mulhu,
+    /// Divide, signed (section 7.2).
+    Div,
+    /// Divide, unsigned (section 7.2).
+    Divu,
+    /// Remainder, signed (section 7.2).
+    Rem,
+    /// Remainder, unsigned (section 7.2).
+    Remu,
+    /// LR.W: load a word and reserve its address (section 8.2).
+    LoadReserved,
+    /// SC.W: store a word where its address is reserved (section 8.2).
+    StoreConditional,
+    /// Swap a register and a word of memory (section 8.4, as the eight below).
+    AmoSwap,
+    /// Add to a word of memory.
+    AmoAdd,
+    /// Exclusive or with a word of memory.
+    AmoXor,
+    /// And with a word of memory.
+    AmoAnd,
+    /// Or with a word of memory.
+    AmoOr,
+    /// The lesser of a register and a word of memory, signed.
+    AmoMin,
+    /// The greater of a register and a word of memory, signed.
+    AmoMax,
+    /// The lesser of a register and a word of memory, unsigned.
+    AmoMinu,
+    /// The greater of a register and a word of memory, unsigned.
+    AmoMaxu,
 }
 
 /// Where a word keeps its fields (sections 2.2 and 2.3 of the manual).
@@ -106,6 +145,10 @@ pub enum Form {
     Jump,
     /// No field: the operation is one word.
     Whole,
+    /// rd, rs1, rs2, and the bits aq and rl (section 8.1): R-type.
+    Atomic,
+    /// rd, rs1, and the bits aq and rl; the place of rs2 is 0.
+    Reserve,
 }
 
 /// An instruction. A field that its form lacks is 0.
@@ -118,6 +161,6 @@ pub struct Insn {
     pub rs1: u8,
     /// The second register that is read.
     pub rs2: u8,
-    /// The immediate; of an upper immediate all 32 bits, of a shift the amount.
+    /// The immediate; of an upper immediate all 32 bits, of a shift the amount, of an atomic operation 2 * aq + rl.
     pub imm: i32,
 }

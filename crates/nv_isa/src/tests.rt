@@ -4,7 +4,7 @@ use std::test::Fail;
 
 // The word of each line, and its operation, rd, rs1, rs2 and immediate.
 #[rattlefmt::skip]
-static WORDS: [(u32, Op, u8, u8, u8, i32); 125] = [
+static WORDS: [(u32, Op, u8, u8, u8, i32); 185] = [
     (0x0000_0fb7, Op::Lui, 31, 0, 0, 0), // lui x31, 0
     (0x0000_1537, Op::Lui, 10, 0, 0, 4096), // lui x10, 1
     (0x1234_50b7, Op::Lui, 1, 0, 0, 305418240), // lui x1, 74565
@@ -130,9 +130,69 @@ static WORDS: [(u32, Op, u8, u8, u8, i32); 125] = [
     (0x8330_000f, Op::Fence, 0, 0, 0, -1997), // fence.tso
     (0x0000_0073, Op::Ecall, 0, 0, 0, 0), // ecall
     (0x0010_0073, Op::Ebreak, 0, 0, 0, 0), // ebreak
+    (0x0210_0fb3, Op::Mul, 31, 0, 1, 0), // mul x31, x0, x1
+    (0x02c5_8533, Op::Mul, 10, 11, 12, 0), // mul x10, x11, x12
+    (0x03f1_10b3, Op::Mulh, 1, 2, 31, 0), // mulh x1, x2, x31
+    (0x02ff_9033, Op::Mulh, 0, 31, 15, 0), // mulh x0, x31, x15
+    (0x0210_2fb3, Op::Mulhsu, 31, 0, 1, 0), // mulhsu x31, x0, x1
+    (0x02c5_a533, Op::Mulhsu, 10, 11, 12, 0), // mulhsu x10, x11, x12
+    (0x03f1_30b3, Op::Mulhu, 1, 2, 31, 0), // mulhu x1, x2, x31
+    (0x02ff_b033, Op::Mulhu, 0, 31, 15, 0), // mulhu x0, x31, x15
+    (0x0210_4fb3, Op::Div, 31, 0, 1, 0), // div x31, x0, x1
+    (0x02c5_c533, Op::Div, 10, 11, 12, 0), // div x10, x11, x12
+    (0x03f1_50b3, Op::Divu, 1, 2, 31, 0), // divu x1, x2, x31
+    (0x02ff_d033, Op::Divu, 0, 31, 15, 0), // divu x0, x31, x15
+    (0x0210_6fb3, Op::Rem, 31, 0, 1, 0), // rem x31, x0, x1
+    (0x02c5_e533, Op::Rem, 10, 11, 12, 0), // rem x10, x11, x12
+    (0x03f1_70b3, Op::Remu, 1, 2, 31, 0), // remu x1, x2, x31
+    (0x02ff_f033, Op::Remu, 0, 31, 15, 0), // remu x0, x31, x15
+    (0x1000_2faf, Op::LoadReserved, 31, 0, 0, 0), // lr.w x31, (x0)
+    (0x1405_a52f, Op::LoadReserved, 10, 11, 0, 2), // lr.w.aq x10, (x11)
+    (0x1201_20af, Op::LoadReserved, 1, 2, 0, 1), // lr.w.rl x1, (x2)
+    (0x160f_a02f, Op::LoadReserved, 0, 31, 0, 3), // lr.w.aqrl x0, (x31)
+    (0x18c5_a52f, Op::StoreConditional, 10, 11, 12, 0), // sc.w x10, x12, (x11)
+    (0x1df1_20af, Op::StoreConditional, 1, 2, 31, 2), // sc.w.aq x1, x31, (x2)
+    (0x1aff_a02f, Op::StoreConditional, 0, 31, 15, 1), // sc.w.rl x0, x15, (x31)
+    (0x1e10_2faf, Op::StoreConditional, 31, 0, 1, 3), // sc.w.aqrl x31, x1, (x0)
+    (0x09f1_20af, Op::AmoSwap, 1, 2, 31, 0), // amoswap.w x1, x31, (x2)
+    (0x0cff_a02f, Op::AmoSwap, 0, 31, 15, 2), // amoswap.w.aq x0, x15, (x31)
+    (0x0a10_2faf, Op::AmoSwap, 31, 0, 1, 1), // amoswap.w.rl x31, x1, (x0)
+    (0x0ec5_a52f, Op::AmoSwap, 10, 11, 12, 3), // amoswap.w.aqrl x10, x12, (x11)
+    (0x00ff_a02f, Op::AmoAdd, 0, 31, 15, 0), // amoadd.w x0, x15, (x31)
+    (0x0410_2faf, Op::AmoAdd, 31, 0, 1, 2), // amoadd.w.aq x31, x1, (x0)
+    (0x02c5_a52f, Op::AmoAdd, 10, 11, 12, 1), // amoadd.w.rl x10, x12, (x11)
+    (0x07f1_20af, Op::AmoAdd, 1, 2, 31, 3), // amoadd.w.aqrl x1, x31, (x2)
+    (0x2010_2faf, Op::AmoXor, 31, 0, 1, 0), // amoxor.w x31, x1, (x0)
+    (0x24c5_a52f, Op::AmoXor, 10, 11, 12, 2), // amoxor.w.aq x10, x12, (x11)
+    (0x23f1_20af, Op::AmoXor, 1, 2, 31, 1), // amoxor.w.rl x1, x31, (x2)
+    (0x26ff_a02f, Op::AmoXor, 0, 31, 15, 3), // amoxor.w.aqrl x0, x15, (x31)
+    (0x60c5_a52f, Op::AmoAnd, 10, 11, 12, 0), // amoand.w x10, x12, (x11)
+    (0x65f1_20af, Op::AmoAnd, 1, 2, 31, 2), // amoand.w.aq x1, x31, (x2)
+    (0x62ff_a02f, Op::AmoAnd, 0, 31, 15, 1), // amoand.w.rl x0, x15, (x31)
+    (0x6610_2faf, Op::AmoAnd, 31, 0, 1, 3), // amoand.w.aqrl x31, x1, (x0)
+    (0x41f1_20af, Op::AmoOr, 1, 2, 31, 0), // amoor.w x1, x31, (x2)
+    (0x44ff_a02f, Op::AmoOr, 0, 31, 15, 2), // amoor.w.aq x0, x15, (x31)
+    (0x4210_2faf, Op::AmoOr, 31, 0, 1, 1), // amoor.w.rl x31, x1, (x0)
+    (0x46c5_a52f, Op::AmoOr, 10, 11, 12, 3), // amoor.w.aqrl x10, x12, (x11)
+    (0x80ff_a02f, Op::AmoMin, 0, 31, 15, 0), // amomin.w x0, x15, (x31)
+    (0x8410_2faf, Op::AmoMin, 31, 0, 1, 2), // amomin.w.aq x31, x1, (x0)
+    (0x82c5_a52f, Op::AmoMin, 10, 11, 12, 1), // amomin.w.rl x10, x12, (x11)
+    (0x87f1_20af, Op::AmoMin, 1, 2, 31, 3), // amomin.w.aqrl x1, x31, (x2)
+    (0xa010_2faf, Op::AmoMax, 31, 0, 1, 0), // amomax.w x31, x1, (x0)
+    (0xa4c5_a52f, Op::AmoMax, 10, 11, 12, 2), // amomax.w.aq x10, x12, (x11)
+    (0xa3f1_20af, Op::AmoMax, 1, 2, 31, 1), // amomax.w.rl x1, x31, (x2)
+    (0xa6ff_a02f, Op::AmoMax, 0, 31, 15, 3), // amomax.w.aqrl x0, x15, (x31)
+    (0xc0c5_a52f, Op::AmoMinu, 10, 11, 12, 0), // amominu.w x10, x12, (x11)
+    (0xc5f1_20af, Op::AmoMinu, 1, 2, 31, 2), // amominu.w.aq x1, x31, (x2)
+    (0xc2ff_a02f, Op::AmoMinu, 0, 31, 15, 1), // amominu.w.rl x0, x15, (x31)
+    (0xc610_2faf, Op::AmoMinu, 31, 0, 1, 3), // amominu.w.aqrl x31, x1, (x0)
+    (0xe1f1_20af, Op::AmoMaxu, 1, 2, 31, 0), // amomaxu.w x1, x31, (x2)
+    (0xe4ff_a02f, Op::AmoMaxu, 0, 31, 15, 2), // amomaxu.w.aq x0, x15, (x31)
+    (0xe210_2faf, Op::AmoMaxu, 31, 0, 1, 1), // amomaxu.w.rl x31, x1, (x0)
+    (0xe6c5_a52f, Op::AmoMaxu, 10, 11, 12, 3), // amomaxu.w.aqrl x10, x12, (x11)
 ];
 
-// Words of other extensions and of 64-bit machines, which RV32I has no row for.
+// Words of other extensions and of 64-bit machines, which RV32IMA has no row for.
 #[rattlefmt::skip]
 static OTHERS: [u32; 38] = [
     0x0000_100f, // fence.i
@@ -142,17 +202,17 @@ static OTHERS: [u32; 38] = [
     0x340f_d0f3, // csrrwi x1, mscratch, 31
     0x3400_60f3, // csrrsi x1, mscratch, 0
     0x3400_f0f3, // csrrci x1, mscratch, 1
-    0x02c5_8533, // mul x10, x11, x12
-    0x0231_10b3, // mulh x1,x2,x3
-    0x0231_20b3, // mulhsu x1,x2,x3
-    0x0231_30b3, // mulhu x1,x2,x3
-    0x02c5_c533, // div x10, x11, x12
-    0x0231_50b3, // divu x1,x2,x3
-    0x0231_60b3, // rem x1,x2,x3
-    0x03ff_ffb3, // remu x31, x31, x31
-    0x1005_a52f, // lr.w x10, (x11)
-    0x18c5_a52f, // sc.w x10, x12, (x11)
-    0x00c5_a52f, // amoadd.w x10, x12, (x11)
+    0x02c5_853b, // mulw x10, x11, x12
+    0x03f1_50bb, // divuw x1, x2, x31
+    0x1005_b52f, // lr.d x10, (x11)
+    0x18c5_b52f, // sc.d x10, x12, (x11)
+    0x00c5_b52f, // amoadd.d x10, x12, (x11)
+    0xe7f1_30af, // amomaxu.d.aqrl x1, x31, (x2)
+    0x1015_a52f, // lr.w x10, (x11) with rs2 1
+    0x16f5_a52f, // lr.w.aqrl x10, (x11) with rs2 15
+    0x28c5_a52f, // an atomic operation of funct5 5
+    0x00c5_852f, // an atomic operation of funct3 0
+    0x04c5_8533, // an operation of registers of funct7 2
     0x0001_2087, // flw f1, 0(x2)
     0x0011_2027, // fsw f1, 0(x2)
     0x0031_70d3, // fadd.s f1, f2, f3
