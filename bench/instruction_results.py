@@ -1,14 +1,22 @@
 #!/usr/bin/env python3
-"""Runs each instruction of RV32I on edge values under qemu-riscv32, and compares what it did with the rows of crates/nv_machine/src/tests/results.rt.
+"""Runs each instruction of RV32IMA on edge values under qemu-riscv32, and compares what it did with the rows of crates/nv_machine/src/tests: results.rt has the
+instructions of RV32I and M, atomics.rt those of A.
 
 Needs riscv64-unknown-elf-as and -ld (Debian's package binutils-riscv64-unknown-elf) and qemu-riscv32 (qemu-user).
-bench/instruction_results.py says which rows differ; with --print it prints the rows, one an instruction and operands:
+bench/instruction_results.py says which rows differ; with --print results or --print atomics it prints the rows. In results.rt, one an instruction and operands:
 
     kind word x5 x6 x7 pc memory instruction
 
 with numbers in hexadecimal, modulo 2^32. x5 and x6 are before the instruction, the others behind it. x7 is 5a5a5a5a before; pc is how far it moved; memory
 is eight bytes, MEMORY before. In rows of the kind `pc`, x5 and x7 are counted from the instruction's address; in rows of the kind `at`, x5 is counted from the
 memory's start; those of the kind `is` are as they are.
+
+In atomics.rt a row has up to three instructions, one behind the other:
+
+    before x6 x7 x29 after words instructions
+
+with eight bytes of memory before and after, x6 before, and x7 and x29 after, which are 5a5a5a5a before. x5 is the address of the first word of the memory, x28 that of the
+second.
 """
 import pathlib
 import re
@@ -17,11 +25,12 @@ import subprocess
 import sys
 import tempfile
 
-ROWS = pathlib.Path(__file__).resolve().parent.parent / "crates/nv_machine/src/tests/results.rt"
+TESTS = pathlib.Path(__file__).resolve().parent.parent / "crates/nv_machine/src/tests"
 BEFORE = 0x5A5A5A5A
 MEMORY = bytes.fromhex("80ff7f01fe00817e")
 EDGES = [0, 1, 0x7FFFFFFF, 0x80000000, 0xFFFFFFFF, 0x12345678]
 PAIRS = [(0, 0), (1, 2), (0x7FFFFFFF, 1), (0x80000000, 1), (0x80000000, 0xFFFFFFFF), (0xFFFFFFFF, 0x7FFFFFFF), (0xF0F01234, 0xCCAA4321)]
+SIGNED = [0, 1, 0xFFFFFFFF, 0x80000000, 0x7FFFFFFF]
 SHIFTED = [(0x80000001, 0), (0x80000001, 1), (0x92345678, 31), (0x92345678, 32), (0x72345678, 0xFFFFFFE4)]
 
 
@@ -35,6 +44,8 @@ def cases():
         yield from (("is", f"{op} x7, x5, {n}", a, 0) for a, n in zip(EDGES, (-2048, -1, 1, -1, 2047, -1366)))
     for op in ("slli", "srli", "srai"):
         yield from (("is", f"{op} x7, x5, {n}", a, 0) for a, n in ((0x80000001, 0), (0x80000001, 1), (0x92345678, 31), (0x72345678, 4)))
+    for op in ("mul", "mulh", "mulhsu", "mulhu", "div", "divu", "rem", "remu"):
+        yield from (("is", f"{op} x7, x5, x6", a, b) for a in SIGNED + [0x12345678] for b in SIGNED + [0xFFFFFFF9])
     yield from (("is", f"lui x7, {n:#x}", 0, 0) for n in (0, 1, 0x7FFFF, 0x80000, 0xFFFFF))
     yield from (("pc", f"auipc x7, {n:#x}", 0, 0) for n in (0, 1, 0x7FFFF, 0x80000, 0xFFFFF))
     yield ("is", "add x0, x5, x6", 3, 4)
@@ -49,6 +60,59 @@ def cases():
         yield from (("at", f"{op} x7, {n}(x5)", (at - n) % 2**32, 0) for n, at in ((0, 0), (2047, 1), (-2048, 2), (3, 3), (-1, 4)))
     for op in ("sb", "sh", "sw"):
         yield from (("at", f"{op} x6, {n}(x5)", (at - n) % 2**32, value) for n, at, value in ((0, 0, 0x89ABCDEF), (2047, 1, 0x89ABCDEF), (-2048, 4, 0x01234567), (-1, 3, 0)))
+
+
+def courses():
+    """Two words of memory, x6, and the instructions."""
+    for op in ("amoswap", "amoadd", "amoxor", "amoand", "amoor", "amomin", "amomax", "amominu", "amomaxu"):
+        yield from ((a, 0x01234567, b, f"{op}.w x7, x6, (x5)") for a in SIGNED for b in SIGNED)
+        yield from ((0xF0F01234, 0xCCAA4321, 0x8F0F0F0F, f"{op}.w{suffix} x7, x6, (x28)") for suffix in ("", ".aq", ".rl", ".aqrl"))
+        yield (5, 6, 7, f"{op}.w x0, x6, (x5)")
+        yield (5, 6, 7, f"{op}.w x7, x0, (x5)")
+        yield (5, 6, 7, f"{op}.w x6, x6, (x5); {op}.w x7, x6, (x5); {op}.w x29, x6, (x28)")
+    for a in SIGNED:
+        yield (a, 6, 7, "lr.w x7, (x5)")
+        yield (a, 6, 7, "sc.w x7, x6, (x5)")
+        yield from ((a, 6, b, "lr.w x7, (x5); sc.w x29, x6, (x5)") for b in SIGNED)
+    yield from ((8, 9, 7, f"lr.w{suffix} x7, (x28); sc.w{suffix} x29, x6, (x28)") for suffix in (".aq", ".rl", ".aqrl"))
+    yield (8, 9, 7, "lr.w x7, (x5); sc.w x29, x6, (x28)")
+    yield (8, 8, 7, "lr.w x7, (x28); sc.w x29, x6, (x5)")
+    yield (8, 9, 7, "lr.w x7, (x5); sc.w x7, x6, (x28); sc.w x29, x6, (x5)")
+    yield (8, 9, 7, "lr.w x7, (x5); sc.w x7, x6, (x5); sc.w x29, x0, (x5)")
+    yield (8, 9, 7, "lr.w x7, (x5); lr.w x7, (x28); sc.w x29, x6, (x5)")
+    yield (8, 9, 7, "lr.w x7, (x5); lr.w x7, (x28); sc.w x29, x6, (x28)")
+    yield (8, 9, 7, "lr.w x7, (x5); amoadd.w x7, x6, (x28); sc.w x29, x6, (x5)")
+    yield (8, 9, 7, "lr.w x7, (x5); sw x6, 4(x5); sc.w x29, x6, (x5)")
+    yield (8, 9, 7, "lr.w x7, (x5); lw x7, 4(x5); sc.w x29, x6, (x5)")
+    yield (8, 9, 7, "lr.w x0, (x5); sc.w x0, x6, (x5)")
+
+
+def text_of_course(first, second, x6, instructions):
+    """One course, which nothing is reserved before: its record is x7, x29, the memory and three words."""
+    count = instructions.count(";") + 1
+    copied = "".join(f"lw x6, {4 * i}(x9)\nsw x6, {16 + 4 * i}(x31)\n" for i in range(count))
+    return f"""
+la x5, memory
+addi x28, x5, 4
+sc.w x0, x0, (x31)
+li x6, {first:#x}
+sw x6, 0(x5)
+li x6, {second:#x}
+sw x6, 4(x5)
+li x6, {x6:#x}
+li x7, {BEFORE:#x}
+li x29, {BEFORE:#x}
+la x9, 7f
+7: {instructions}
+sw x7, 0(x31)
+sw x29, 4(x31)
+lw x6, 0(x30)
+sw x6, 8(x31)
+lw x6, 4(x30)
+sw x6, 12(x31)
+{copied}
+addi x31, x31, 28
+"""
 
 
 def text_of(kind, text, x5, x6):
@@ -84,8 +148,8 @@ addi x31, x31, 24
 """
 
 
-def records(rows, room):
-    program = "".join(text_of(*row) for row in rows)
+def records(texts, size, room):
+    program = "".join(texts)
     source = f""".option norelax
 .option norvc
 .globl _start
@@ -94,7 +158,7 @@ la x30, memory
 {program}
 li a0, 1
 la a1, records
-li a2, {24 * len(rows)}
+li a2, {size * len(texts)}
 li a7, 64
 ecall
 li a0, 0
@@ -102,13 +166,13 @@ li a7, 94
 ecall
 .data
 memory: .zero 8
-records: .zero {24 * len(rows)}
+records: .zero {size * len(texts)}
 """
     (room / "a.s").write_text(source)
-    subprocess.run(["riscv64-unknown-elf-as", "-march=rv32i", "-mabi=ilp32", "-o", room / "a.o", room / "a.s"], check=True)
+    subprocess.run(["riscv64-unknown-elf-as", "-march=rv32ima", "-mabi=ilp32", "-o", room / "a.o", room / "a.s"], check=True)
     subprocess.run(["riscv64-unknown-elf-ld", "-m", "elf32lriscv", "-o", room / "a", room / "a.o"], check=True)
     written = subprocess.run(["qemu-riscv32", room / "a"], check=True, capture_output=True).stdout
-    return [written[at : at + 24] for at in range(0, len(written), 24)]
+    return [written[at : at + size] for at in range(0, len(written), size)]
 
 
 def line_of(row, record):
@@ -119,19 +183,37 @@ def line_of(row, record):
     return f"{kind} {word:08x} {x5:x} {x6:x} {x7:x} {moved % 2**32:x} {record[12:20].hex()} {text}"
 
 
+def line_of_course(row, record):
+    first, second, x6, instructions = row
+    x7, x29 = struct.unpack_from("<II", record)
+    words = ",".join(f"{word:08x}" for word in struct.unpack_from("<III", record, 16)[: instructions.count(";") + 1])
+    return f"{struct.pack('<II', first, second).hex()} {x6:x} {x7:x} {x29:x} {record[8:16].hex()} {words} {instructions}"
+
+
+def lines_of(rows, text, size, line, room):
+    written = records([text(*row) for row in rows], size, room)
+    return [line(row, record) for row, record in zip(rows, written, strict=True)]
+
+
 def main():
-    rows = list(cases())
-    with tempfile.TemporaryDirectory() as room:
-        lines = [line_of(row, record) for row, record in zip(rows, records(rows, pathlib.Path(room)), strict=True)]
-    if sys.argv[1:] == ["--print"]:
-        print("\n".join(lines))
+    with tempfile.TemporaryDirectory() as name:
+        room = pathlib.Path(name)
+        tables = {
+            "results": lines_of(list(cases()), text_of, 24, line_of, room),
+            "atomics": lines_of(list(courses()), text_of_course, 28, line_of_course, room),
+        }
+    if sys.argv[1:2] == ["--print"]:
+        print("\n".join(tables[sys.argv[2]]))
         return
-    kept = re.search(r'= "\n(.*?)\n";', ROWS.read_text(), re.S)[1].split("\n")
-    differ = [line for line in lines if line not in kept]
-    for line in differ:
-        print(f"not kept: {line}")
-    print(f"{len(lines)} results, {len(kept)} kept, {len(differ)} differ")
-    sys.exit(differ != [] or len(kept) != len(lines))
+    wrong = False
+    for table, lines in tables.items():
+        kept = re.search(r'= "\n(.*?)\n";', (TESTS / f"{table}.rt").read_text(), re.S)[1].split("\n")
+        differ = [line for line in lines if line not in kept]
+        for line in differ:
+            print(f"not kept: {line}")
+        print(f"{table}: {len(lines)} results, {len(kept)} kept, {len(differ)} differ")
+        wrong = wrong or differ != [] or len(kept) != len(lines)
+    sys.exit(wrong)
 
 
 main()

@@ -1,8 +1,9 @@
--- What the operations compute, on numbers of 32 bits: the RISC-V Unprivileged ISA manual (20191213), sections 2.4 to 2.6.
-use Rattle.std.specs.Prelude.{Bool, false, not, ℕ, ◌+◌, ◌-◌, ◌*◌, ◌/◌, ◌%◌, ◌^◌, nat_lt, nat_le, ◌==◌, if◌then◌else◌, int_lt, bit_and, bit_or, bit_xor}
+-- What the operations compute, on numbers of 32 bits: the RISC-V Unprivileged ISA manual (20191213), sections 2.4 to 2.6,
+-- 7.1 and 7.2 for multiplication and division, and 8.4 for what an atomic operation stores.
+use Rattle.std.specs.Prelude.{Bool, false, not, ℕ, ◌+◌, ◌-◌, ◌*◌, ◌/◌, ◌%◌, ◌^◌, nat_lt, nat_le, ◌==◌, if◌then◌else◌, int_lt, int_div, int_rem, pos, ◌*ℤ◌, min, max, bit_and, bit_or, bit_xor, ℤ}
 use Rattle.std.specs.Int.{w32, cast_signed, cast_unsigned, int_shr}
 use Rattle.nv_isa.specs.declared.op.Op.{Op}
-use Rattle.nv_isa.specs.declared.op.Op.TheVariants.{Addi, Slti, Sltiu, Xori, Ori, Andi, Slli, Srli, Srai, Add, Sub, Sll, Slt, Sltu, Xor, Srl, Sra, Or, And, Beq, Bne, Blt, Bge, Bltu, Bgeu}
+use Rattle.nv_isa.specs.declared.op.Op.TheVariants.{Addi, Slti, Sltiu, Xori, Ori, Andi, Slli, Srli, Srai, Add, Sub, Sll, Slt, Sltu, Xor, Srl, Sra, Or, And, Beq, Bne, Blt, Bge, Bltu, Bgeu, Mul, Mulh, Mulhsu, Mulhu, Div, Divu, Rem, Remu, AmoSwap, AmoAdd, AmoXor, AmoAnd, AmoOr, AmoMin, AmoMax, AmoMinu, AmoMaxu}
 
 -- modulo 2^32
 abbrev pub sum : ℕ → ℕ → ℕ
@@ -22,6 +23,26 @@ as_number b = if b then 1 else 0
 -- the number shifted down, with copies of its sign above
 abbrev pub shifted_copies : ℕ → ℕ → ℕ
 shifted_copies a by = cast_unsigned w32 (int_shr (cast_signed w32 a) by)
+
+-- the upper 32 bits of a product
+abbrev pub upper_half : ℤ → ℕ
+upper_half product = cast_unsigned w32 (int_shr product 32)
+
+-- signed, toward zero; by 0 it is all ones, and -2^31 by -1 is 2^31, which has the bits of -2^31
+abbrev pub divided : ℕ → ℕ → ℕ
+divided a b = if b == 0 then 2 ^ 32 - 1 else cast_unsigned w32 (int_div (cast_signed w32 a) (cast_signed w32 b))
+
+-- signed, with the sign of the dividend; by 0 it is the dividend
+abbrev pub remainder : ℕ → ℕ → ℕ
+remainder a b = if b == 0 then a else cast_unsigned w32 (int_rem (cast_signed w32 a) (cast_signed w32 b))
+
+-- unsigned; by 0 it is all ones
+abbrev pub divided_unsigned : ℕ → ℕ → ℕ
+divided_unsigned a b = if b == 0 then 2 ^ 32 - 1 else a / b
+
+-- unsigned; by 0 it is the dividend
+abbrev pub remainder_unsigned : ℕ → ℕ → ℕ
+remainder_unsigned a b = if b == 0 then a else a % b
 
 -- what an operation on two numbers gives; the second is an immediate or a register
 abbrev pub computed : Op → ℕ → ℕ → ℕ
@@ -44,6 +65,14 @@ computed Srli a b = a / 2 ^ (b % 32)
 computed Srl a b = a / 2 ^ (b % 32)
 computed Srai a b = shifted_copies a (b % 32)
 computed Sra a b = shifted_copies a (b % 32)
+computed Mul a b = a * b % 2 ^ 32
+computed Mulh a b = upper_half (cast_signed w32 a *ℤ cast_signed w32 b)
+computed Mulhsu a b = upper_half (cast_signed w32 a *ℤ pos b)
+computed Mulhu a b = a * b / 2 ^ 32
+computed Div a b = divided a b
+computed Divu a b = divided_unsigned a b
+computed Rem a b = remainder a b
+computed Remu a b = remainder_unsigned a b
 computed _ a b = 0
 
 -- whether the branch is taken
@@ -59,3 +88,15 @@ is_taken _ a b = false
 -- a number of k bits, with copies of its top bit above
 abbrev pub sign_extended : ℕ → ℕ → ℕ
 sign_extended k n = if nat_lt n (2 ^ (k - 1)) then n else sum n (2 ^ 32 - 2 ^ k)
+
+-- what an atomic operation stores, from the old word and the register
+abbrev pub combined : Op → ℕ → ℕ → ℕ
+combined AmoAdd old b = sum old b
+combined AmoXor old b = bit_xor old b
+combined AmoAnd old b = bit_and old b
+combined AmoOr old b = bit_or old b
+combined AmoMin old b = if is_below_signed b old then b else old
+combined AmoMax old b = if is_below_signed old b then b else old
+combined AmoMinu old b = min old b
+combined AmoMaxu old b = max old b
+combined _ old b = b

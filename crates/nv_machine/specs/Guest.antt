@@ -1,16 +1,18 @@
--- One step of the machine, on lists: the RISC-V Unprivileged ISA manual (20191213), sections 2.4 to 2.8. The faults come in
--- the order fetch, illegal, misaligned, load, store; a load or a store at any address moves its bytes one by one.
-use Rattle.std.specs.Prelude.{Bool, ℕ, ◌*◌, ◌/◌, ◌%◌, ◌==◌, if◌then◌else◌, slice_index, Option, Some, None, Result, Ok, Err}
+-- One step of the machine, on lists: the RISC-V Unprivileged ISA manual (20191213), sections 2.4 to 2.8,
+-- and chapters 7 and 8. The faults come in the order fetch, illegal, misaligned, load, store; a load or a store at any address moves
+-- its bytes one by one, but for the atomic ones, which want a multiple of 4.
+use Rattle.std.specs.Prelude.{Bool, false, ◌&&◌, ℕ, ◌*◌, ◌/◌, ◌%◌, ◌==◌, if◌then◌else◌, slice_index, Option, Some, None, Result, Ok, Err}
 use Rattle.std.specs.Int.{w32, cast_unsigned}
 use Rattle.nv_isa.specs.declared.op.Op.{Op}
-use Rattle.nv_isa.specs.declared.op.Op.TheVariants.{Lui, Auipc, Jal, Jalr, Beq, Bne, Blt, Bge, Bltu, Bgeu, Lb, Lh, Lw, Lbu, Lhu, Sb, Sh, Sw, Addi, Slti, Sltiu, Xori, Ori, Andi, Slli, Srli, Srai, Add, Sub, Sll, Slt, Sltu, Xor, Srl, Sra, Or, And, Fence, Ecall, Ebreak}
+use Rattle.nv_isa.specs.declared.op.Op.TheVariants.{Lui, Auipc, Jal, Jalr, Beq, Bne, Blt, Bge, Bltu, Bgeu, Lb, Lh, Lw, Lbu, Lhu, Sb, Sh, Sw, Addi, Slti, Sltiu, Xori, Ori, Andi, Slli, Srli, Srai, Add, Sub, Sll, Slt, Sltu, Xor, Srl, Sra, Or, And, Fence, Ecall, Ebreak, Mul, Mulh, Mulhsu, Mulhu, Div, Divu, Rem, Remu, LoadReserved, StoreConditional, AmoSwap, AmoAdd, AmoXor, AmoAnd, AmoOr, AmoMin, AmoMax, AmoMinu, AmoMaxu}
 use Rattle.nv_isa.specs.declared.op.Insn.{Insn}
 use Rattle.nv_isa.specs.Table.{decoded}
 use Rattle.nv_memory.specs.declared.region.Access.{Access}
+use Rattle.nv_memory.specs.declared.region.Right.{Right}
 use Rattle.nv_memory.specs.declared.region.Width.{Width}
 use Rattle.nv_memory.specs.declared.region.Width.TheVariants.{One, Two, Four}
 use Rattle.nv_memory.specs.declared.region.Right.TheVariants.{Read, Write, Execute}
-use Rattle.nv_memory.specs.Bytes.{put, little_bytes, byte_count}
+use Rattle.nv_memory.specs.Bytes.{bytes_at, little, put, little_bytes, byte_count}
 use Rattle.nv_memory.specs.Regions.{holds}
 use Rattle.nv_memory.specs.Image.{Image, loaded}
 use Rattle.nv_machine.specs.declared.outcome.FaultKind.{FaultKind}
@@ -18,7 +20,7 @@ use Rattle.nv_machine.specs.declared.outcome.FaultKind.TheVariants as kinds
 use Rattle.nv_machine.specs.declared.outcome.Stepped.{Stepped}
 use Rattle.nv_machine.specs.declared.outcome.Stepped.TheVariants as ends
 use Rattle.nv_machine.specs.Registers.{Registers, written}
-use Rattle.nv_machine.specs.Effects.{sum, computed, is_taken, sign_extended}
+use Rattle.nv_machine.specs.Effects.{sum, computed, is_taken, sign_extended, combined}
 
 -- the registers with the program counter, and the memory
 pub record Machine : Type 0 where
@@ -103,6 +105,42 @@ between_registers o i r = gets i.rd (computed o (register r i.rs1) (register r i
 abbrev pub compares : Op → Insn → Registers → Stepped × Registers
 compares o i r = branches (is_taken o (register r i.rs1) (register r i.rs2)) (sum r.pc (immediate_word i)) r
 
+-- the word at an address
+abbrev pub word_at : Image → ℕ → ℕ
+word_at memory a = little (bytes_at memory.bytes a 4)
+
+-- the memory with another word at an address
+abbrev pub with_word : Image → ℕ → ℕ → Image
+with_word memory a v = record memory { bytes = put memory.bytes a (little_bytes 4 v) }
+
+-- the address is a multiple of 4, and its word lies in a region with the right
+abbrev pub is_word : Image → ℕ → Right → Bool
+is_word memory a right = (a % 4 == 0) && holds memory.regions a 4 right
+
+-- the address is reserved
+abbrev pub is_reserved : Option ℕ → ℕ → Bool
+is_reserved None a = false
+is_reserved (Some b) a = b == a
+
+-- LR.W: the word at rs1, whose address is reserved from then on
+abbrev pub load_reserved : Insn → Registers → Image → Stepped × Registers
+load_reserved i r memory = let a = register r i.rs1 in
+    if is_word memory a Read then gets i.rd (word_at memory a) (next r) (record r { reserved = Some a }) else (ends.Fault kinds.Load, r)
+
+-- SC.W: rs2 is stored at rs1 and rd gets 0 where that address is reserved, else rd gets 1; the reservation ends
+abbrev pub store_conditional : Insn → Machine → Outcome
+store_conditional i m = let a = register m.regs i.rs1 in let released = record m.regs { reserved = None } in
+    if is_word m.memory a Write then (
+    if is_reserved m.regs.reserved a then with_memory (with_word m.memory a (register m.regs i.rs2)) (gets i.rd 0 (next m.regs) released)
+    else with_memory m.memory (gets i.rd 1 (next m.regs) released)) else fault kinds.Store m
+
+-- an atomic operation: rd gets the word at rs1, which becomes what the operation makes of it and rs2
+abbrev pub combines : Op → Insn → Machine → Outcome
+combines o i m = let a = register m.regs i.rs1 in
+    if is_word m.memory a Write && holds m.memory.regions a 4 Read then
+    with_memory (with_word m.memory a (combined o (word_at m.memory a) (register m.regs i.rs2))) (gets i.rd (word_at m.memory a) (next m.regs) m.regs)
+    else fault kinds.Store m
+
 -- the effect of an instruction
 abbrev pub effect : Op → Insn → Machine → Outcome
 effect Lui i m = with_memory m.memory (gets i.rd (immediate_word i) (next m.regs) m.regs)
@@ -145,6 +183,25 @@ effect And i m = with_memory m.memory (between_registers And i m.regs)
 effect Fence i m = with_memory m.memory (ends.On, record m.regs { pc = next m.regs })
 effect Ecall i m = (ends.Call, m)
 effect Ebreak i m = fault kinds.Breakpoint m
+effect Mul i m = with_memory m.memory (between_registers Mul i m.regs)
+effect Mulh i m = with_memory m.memory (between_registers Mulh i m.regs)
+effect Mulhsu i m = with_memory m.memory (between_registers Mulhsu i m.regs)
+effect Mulhu i m = with_memory m.memory (between_registers Mulhu i m.regs)
+effect Div i m = with_memory m.memory (between_registers Div i m.regs)
+effect Divu i m = with_memory m.memory (between_registers Divu i m.regs)
+effect Rem i m = with_memory m.memory (between_registers Rem i m.regs)
+effect Remu i m = with_memory m.memory (between_registers Remu i m.regs)
+effect LoadReserved i m = with_memory m.memory (load_reserved i m.regs m.memory)
+effect StoreConditional i m = store_conditional i m
+effect AmoSwap i m = combines AmoSwap i m
+effect AmoAdd i m = combines AmoAdd i m
+effect AmoXor i m = combines AmoXor i m
+effect AmoAnd i m = combines AmoAnd i m
+effect AmoOr i m = combines AmoOr i m
+effect AmoMin i m = combines AmoMin i m
+effect AmoMax i m = combines AmoMax i m
+effect AmoMinu i m = combines AmoMinu i m
+effect AmoMaxu i m = combines AmoMaxu i m
 
 -- the instruction that was read, if there is one
 abbrev pub executed : Option Insn → Machine → Outcome

@@ -1,8 +1,8 @@
 -- A step that ends in a call or a fault leaves the machine as it was.
 use Rattle.std.proofs.Common.{◌≡◌, ◌≢◌, Bool, true, false, ℕ, Option, Some, None, Result, Ok, Err, ◌*◌, ◌/◌, ◌%◌, ◌==◌, refl, ap, ◌∙◌}
-use Rattle.std.specs.Prelude.{if◌then◌else◌}
+use Rattle.std.specs.Prelude.{if◌then◌else◌, ◌&&◌}
 use Rattle.nv_isa.specs.declared.op.Op.{Op}
-use Rattle.nv_isa.specs.declared.op.Op.TheVariants.{Jal, Jalr, Beq, Bne, Blt, Bge, Bltu, Bgeu, Lb, Lh, Lw, Lbu, Lhu, Sb, Sh, Sw, Ecall, Ebreak}
+use Rattle.nv_isa.specs.declared.op.Op.TheVariants.{LoadReserved, StoreConditional, AmoSwap, AmoAdd, AmoXor, AmoAnd, AmoOr, AmoMin, AmoMax, AmoMinu, AmoMaxu, Jal, Jalr, Beq, Bne, Blt, Bge, Bltu, Bgeu, Lb, Lh, Lw, Lbu, Lhu, Sb, Sh, Sw, Ecall, Ebreak}
 use Rattle.nv_isa.specs.declared.op.Insn.{Insn}
 use Rattle.nv_isa.specs.Table.{decoded}
 use Rattle.nv_memory.specs.declared.region.Access.{Access}
@@ -17,7 +17,7 @@ use Rattle.nv_machine.specs.declared.outcome.Stepped.TheVariants as ends
 use Rattle.nv_machine.specs.declared.outcome.FaultKind.TheVariants as kinds
 use Rattle.nv_machine.specs.Registers.{Registers}
 use Rattle.nv_machine.specs.Effects.{sum, is_taken}
-use Rattle.nv_machine.specs.Guest.{Machine, Outcome, fault, with_memory, gets, jumps, branches, gets_loaded, loads, stores, compares, register, immediate_word, next, width_of, extended, effect, executed, fetched, guest_step}
+use Rattle.nv_machine.specs.Guest.{Machine, Outcome, fault, with_memory, gets, jumps, branches, gets_loaded, loads, stores, compares, is_word, is_reserved, load_reserved, store_conditional, combines, register, immediate_word, next, width_of, extended, effect, executed, fetched, guest_step}
 
 abbrev Rests : Outcome → Machine → Type 0
 Rests o m = o.0 ≢ On → o.1 ≡ m
@@ -63,6 +63,24 @@ stored_or_not false x m = λ n. refl
 stores_rest : (o : Op) (i : Insn) (m : Machine) → Rests (stores o i m) m
 stores_rest o i m = stored_or_not (holds m.memory.regions (sum (register m.regs i.rs1) (immediate_word i)) (byte_count (width_of o)) Write) _ m
 
+reserved_or_not : (b : Bool) (x r : Registers) → RegistersRest (if b then (ends.On, x) else (ends.Fault kinds.Load, r)) r
+reserved_or_not true x r = λ n. absurd (n refl)
+reserved_or_not false x r = λ n. refl
+
+load_reserved_rests : (i : Insn) (m : Machine) → Rests (with_memory m.memory (load_reserved i m.regs m.memory)) m
+load_reserved_rests i m = with_memory_rests m _ (reserved_or_not (is_word m.memory (register m.regs i.rs1) Read) _ m.regs)
+
+tried_or_not : (b c : Bool) (x y m : Machine) → Rests (if b then (if c then (ends.On, x) else (ends.On, y)) else fault kinds.Store m) m
+tried_or_not true true x y m = λ n. absurd (n refl)
+tried_or_not true false x y m = λ n. absurd (n refl)
+tried_or_not false c x y m = λ n. refl
+
+store_conditional_rests : (i : Insn) (m : Machine) → Rests (store_conditional i m) m
+store_conditional_rests i m = tried_or_not (is_word m.memory (register m.regs i.rs1) Write) (is_reserved m.regs.reserved (register m.regs i.rs1)) _ _ m
+
+combines_rests : (o : Op) (i : Insn) (m : Machine) → Rests (combines o i m) m
+combines_rests o i m = stored_or_not (is_word m.memory (register m.regs i.rs1) Write && holds m.memory.regions (register m.regs i.rs1) 4 Read) _ m
+
 effect_rests : (o : Op) (i : Insn) (m : Machine) → Rests (effect o i m) m
 effect_rests Jal i m = with_memory_rests m _ (jumps_rest i.rd (sum m.regs.pc (immediate_word i)) m.regs)
 effect_rests Jalr i m = with_memory_rests m _ (jumps_rest i.rd (sum (register m.regs i.rs1) (immediate_word i) / 2 * 2) m.regs)
@@ -82,6 +100,17 @@ effect_rests Sh i m = stores_rest Sh i m
 effect_rests Sw i m = stores_rest Sw i m
 effect_rests Ecall i m = λ n. refl
 effect_rests Ebreak i m = λ n. refl
+effect_rests LoadReserved i m = load_reserved_rests i m
+effect_rests StoreConditional i m = store_conditional_rests i m
+effect_rests AmoSwap i m = combines_rests AmoSwap i m
+effect_rests AmoAdd i m = combines_rests AmoAdd i m
+effect_rests AmoXor i m = combines_rests AmoXor i m
+effect_rests AmoAnd i m = combines_rests AmoAnd i m
+effect_rests AmoOr i m = combines_rests AmoOr i m
+effect_rests AmoMin i m = combines_rests AmoMin i m
+effect_rests AmoMax i m = combines_rests AmoMax i m
+effect_rests AmoMinu i m = combines_rests AmoMinu i m
+effect_rests AmoMaxu i m = combines_rests AmoMaxu i m
 effect_rests _ i m = λ n. absurd (n refl)
 
 -- an instruction that ends in no `On` has changed nothing

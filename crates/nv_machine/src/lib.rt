@@ -1,4 +1,5 @@
-//! The guest machine: RV32I as the RISC-V Unprivileged ISA manual (20191213), chapter 2, has it, one instruction at a time.
+//! The guest machine: RV32IMA as the RISC-V Unprivileged ISA manual (20191213), chapters 2, 7 and 8, has it, one
+//! instruction at a time.
 #![tactic(auto)]
 
 mod alu;

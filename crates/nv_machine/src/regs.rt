@@ -1,15 +1,16 @@
 // The registers of a thread.
-ghost use Rattle.std.specs.Prelude.{◌≡◌, ◌%◌, ◌<◌, slice_index};
+ghost use Rattle.std.specs.Prelude.{◌≡◌, ◌%◌, ◌<◌, slice_index, Some, None};
 ghost use Rattle.nv_machine.specs.Registers.{fresh, written};
 
 use std::marker::Model;
 
-/// The 32 registers, of which register 0 is 0, and the program counter (the manual's section 2.1).
+/// The 32 registers, of which register 0 is 0, the program counter (the manual's section 2.1) and the reservation (section 8.2).
 #[derive(Debug, Drop)]
 pub struct Regs {
     x: [u32; 32],
     /// The address of the next instruction, a multiple of 4.
     pub pc: u32,
+    reserved: Option<u32>,
 }
 
 impl Model for Regs {
@@ -18,18 +19,22 @@ impl Model for Regs {
 
     ghost Value = { Registers };
 
-    ghost view = { λ r. record { x = r.x; pc = r.pc } };
+    ghost view = { λ r. record { x = r.x; pc = r.pc; reserved = r.reserved } };
 
     ghost invariant = { λ r. (slice_index r.x 0 ≡ 0) × (r.pc % 4 ≡ 0) };
 }
 
 impl Regs {
-    /// All registers are 0.
+    /// All registers are 0, and nothing is reserved.
     pub fn new(pc: u32) -> Regs
         requires { pc % 4 ≡ 0 }
         ensures { result ≡ fresh pc }
     {
-        Regs { x: [0; 32], pc }
+        Regs {
+            x: [0; 32],
+            pc,
+            reserved: None,
+        }
     }
 
     /// The same registers once more.
@@ -39,6 +44,7 @@ impl Regs {
         Regs {
             x: self.x,
             pc: self.pc,
+            reserved: self.reserved,
         }
     }
 
@@ -58,5 +64,26 @@ impl Regs {
         if n != 0 {
             self.x[n as usize] = value;
         }
+    }
+
+    /// The address that the last LR.W reserved, if its reservation hasn't ended.
+    pub fn reserved(&self) -> Option<u32>
+        ensures { result ≡ self.now.reserved }
+    {
+        self.reserved
+    }
+
+    /// Reserves an address, and no other.
+    pub(crate) fn reserve(&mut self, address: u32)
+        ensures { self.new ≡ record self.old { reserved = Some address } }
+    {
+        self.reserved = Some(address);
+    }
+
+    /// Ends the reservation, if there is one.
+    pub fn release(&mut self)
+        ensures { self.new ≡ record self.old { reserved = None } }
+    {
+        self.reserved = None;
     }
 }

@@ -2,13 +2,13 @@
 ghost use Rattle.std.specs.Prelude.{◌≡◌, ◌≢◌, ℕ, ◌+◌, ◌*◌, ◌/◌, ◌%◌, ◌^◌, ◌<◌};
 ghost use Rattle.nv_isa.specs.Table.{row, insn_of, immediate, rd_of, rs1_of, rs2_of};
 ghost use Rattle.nv_machine.specs.Effects.{sum, sign_extended};
-ghost use Rattle.nv_machine.specs.Guest.{gets, next, jumps, branches, loads, stores, with_immediate, between_registers, compares, effect, guest_step, width_of, extended, Machine};
+ghost use Rattle.nv_machine.specs.Guest.{gets, next, jumps, branches, loads, stores, with_immediate, between_registers, compares, load_reserved, store_conditional, combines, effect, guest_step, width_of, extended, Machine};
 
-use crate::alu::{compute, takes};
+use crate::alu::{combine, compute, takes};
 use crate::outcome::{FaultKind, Stepped};
 use crate::regs::Regs;
 use nv_isa::{Form, Op, immediate, operation, rd, rs1, rs2};
-use nv_memory::{Memory, Width};
+use nv_memory::{Memory, Right, Width};
 
 /// Carries out one instruction. After a call and after a fault nothing has changed.
 #[tactic(auto, unfolding(crate::specs::Guest::guest_step, nv_isa::specs::Table::insn_of), using(crate::specs::GuestLaws::step_rests))]
@@ -145,6 +145,60 @@ fn store(regs: &mut Regs, memory: &mut Memory, op: Op, word: u32) -> Stepped
     }
 }
 
+#[tactic(auto, unfolding(nv_isa::specs::Table::insn_of))]
+fn reserve(regs: &mut Regs, memory: &Memory, op: Op, word: u32) -> Stepped
+    ensures { (result, regs.new) ≡ load_reserved (insn_of op Form.Reserve word) regs.old memory.now }
+{
+    let address = regs.get(rs1(word));
+    if address % 4 != 0 {
+        return Stepped::Fault(FaultKind::Load);
+    }
+    let Ok(value) = memory.load(address, Width::Four) else {
+        return Stepped::Fault(FaultKind::Load);
+    };
+    regs.reserve(address);
+    advance(regs, rd(word), value)
+}
+
+#[tactic(auto, unfolding(nv_isa::specs::Table::insn_of))]
+fn store_reserved(regs: &mut Regs, memory: &mut Memory, op: Op, word: u32) -> Stepped
+    ensures { (result, record { regs = regs.new; memory = memory.new }) ≡ store_conditional (insn_of op Form.Atomic word) (record { regs = regs.old; memory = memory.old }) }
+{
+    let address = regs.get(rs1(word));
+    if address % 4 != 0 || !memory.holds(address, 4, Right::Write) {
+        return Stepped::Fault(FaultKind::Store);
+    }
+    let value = regs.get(rs2(word));
+    let succeeds = match regs.reserved() {
+        Some(reserved) => reserved == address,
+        None => false,
+    };
+    regs.release();
+    if succeeds {
+        let _ = memory.store(address, Width::Four, value);
+        return advance(regs, rd(word), 0);
+    }
+    advance(regs, rd(word), 1)
+}
+
+#[tactic(auto, unfolding(nv_isa::specs::Table::insn_of))]
+fn combine_word(regs: &mut Regs, memory: &mut Memory, op: Op, word: u32) -> Stepped
+    ensures { (result, record { regs = regs.new; memory = memory.new }) ≡ combines op (insn_of op Form.Atomic word) (record { regs = regs.old; memory = memory.old }) }
+{
+    let address = regs.get(rs1(word));
+    if address % 4 != 0 || !memory.holds(address, 4, Right::Write) {
+        return Stepped::Fault(FaultKind::Store);
+    }
+    let value = regs.get(rs2(word));
+    match memory.load(address, Width::Four) {
+        Ok(old) => {
+            let _ = memory.store(address, Width::Four, combine(op, old, value));
+            advance(regs, rd(word), old)
+        }
+        Err(_) => Stepped::Fault(FaultKind::Store),
+    }
+}
+
 #[tactic(auto, unfolding(nv_isa::specs::Table::insn_of, nv_isa::specs::Table::row))]
 fn execute(regs: &mut Regs, memory: &mut Memory, op: Op, word: u32) -> Stepped
     ensures { (result, record { regs = regs.new; memory = memory.new }) ≡ effect op (insn_of op (row op).form word) (record { regs = regs.old; memory = memory.old }) }
@@ -183,9 +237,28 @@ fn execute(regs: &mut Regs, memory: &mut Memory, op: Op, word: u32) -> Stepped
         | Op::Srl
         | Op::Sra
         | Op::Or
-        | Op::And => between_registers(regs, op, word),
+        | Op::And
+        | Op::Mul
+        | Op::Mulh
+        | Op::Mulhsu
+        | Op::Mulhu
+        | Op::Div
+        | Op::Divu
+        | Op::Rem
+        | Op::Remu => between_registers(regs, op, word),
         Op::Fence => branch(regs, false, 0),
         Op::Ecall => Stepped::Call,
         Op::Ebreak => Stepped::Fault(FaultKind::Breakpoint),
+        Op::LoadReserved => reserve(regs, memory, op, word),
+        Op::StoreConditional => store_reserved(regs, memory, op, word),
+        Op::AmoSwap
+        | Op::AmoAdd
+        | Op::AmoXor
+        | Op::AmoAnd
+        | Op::AmoOr
+        | Op::AmoMin
+        | Op::AmoMax
+        | Op::AmoMinu
+        | Op::AmoMaxu => combine_word(regs, memory, op, word),
     }
 }

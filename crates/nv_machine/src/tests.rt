@@ -1,11 +1,13 @@
 ghost use Rattle.std.specs.Prelude.{◌≡◌, true};
 
 use crate::{FaultKind, Regs, Stepped, step};
+use atomics::ATOMICS;
 use nv_memory::{Memory, Region, Width};
 use results::RESULTS;
 use std::alloc::{AllocError, Global};
 use std::test::Fail;
 
+mod atomics;
 mod results;
 
 // What GNU as and ld (binutils 2.40 for riscv64-unknown-elf) wrote at 0x8000.
@@ -86,6 +88,9 @@ fn single_words(rt: HostRuntime) -> Result<(), Fail> {
         (0x0000_1163, Stepped::On), // bne x0, x0, . + 2
         (0x0000_2003, Stepped::Fault(FaultKind::Load)), // lw x0, 0(x0)
         (0x0000_2023, Stepped::Fault(FaultKind::Store)), // sw x0, 0(x0)
+        (0x1000_202f, Stepped::Fault(FaultKind::Load)), // lr.w x0, (x0)
+        (0x1800_202f, Stepped::Fault(FaultKind::Store)), // sc.w x0, x0, (x0)
+        (0x0000_202f, Stepped::Fault(FaultKind::Store)), // amoadd.w x0, x0, (x0)
         (0x0000_0000, Stepped::Fault(FaultKind::Illegal)),
     ] {
         let regions = vec![in rt.alloc(); region(0x8000, 0x8004)]?;
@@ -187,5 +192,137 @@ fn first_wrong(alloc: Global, rows: &str) -> Result<Option<&str>, Fail> {
 #[test]
 fn as_under_qemu(rt: HostRuntime) -> Result<(), Fail> {
     assert_eq!(rt; first_wrong(rt.alloc(), RESULTS)?, None);
+    Ok(())
+}
+
+// Up to three instructions, with what they find and leave.
+#[derive(Drop)]
+struct Course<'a> {
+    before: u64,
+    x6: u32,
+    x7: u32,
+    x29: u32,
+    after: u64,
+    words: &'a str,
+}
+
+fn course_of(line: &str) -> Result<Course<'_>, Fail> {
+    let mut words = line.split_ascii_whitespace();
+    Ok(Course {
+        before: u64::from_str_radix(words.next().unwrap_or(""), 16)?,
+        x6: number(words.next())?,
+        x7: number(words.next())?,
+        x29: number(words.next())?,
+        after: u64::from_str_radix(words.next().unwrap_or(""), 16)?,
+        words: words.next().unwrap_or(""),
+    })
+}
+
+// Whether the instructions leave what the row says.
+fn goes_as_said(alloc: Global, course: &Course<'_>) -> Result<bool, Fail> {
+    let regions = vec![in alloc; region(CODE, CODE + 4), region(DATA, DATA + 8)]?;
+    let mut memory = Memory::make(alloc, 0x20000, regions)?;
+    let mut well = memory.copy_out(DATA, &course.before.to_be_bytes()).is_ok();
+    let mut regs = Regs::new(CODE);
+    for (n, value) in [
+        (5, DATA),
+        (28, DATA + 4),
+        (6, course.x6),
+        (7, 0x5a5a_5a5a),
+        (29, 0x5a5a_5a5a),
+    ] {
+        regs.set(n, value);
+    }
+    for word in course.words.split(',') {
+        well = well && memory.store(CODE, Width::Four, number(Some(word))?).is_ok();
+        regs.pc = CODE;
+        well = well && step(&mut regs, &mut memory) == Stepped::On;
+    }
+    let mut left = [0; 8];
+    Ok(
+        well && memory.copy_in(DATA, &mut left).is_ok()
+            && regs.get(7) == course.x7
+            && regs.get(29) == course.x29
+            && left == course.after.to_be_bytes(),
+    )
+}
+
+fn first_wrong_course(alloc: Global, rows: &str) -> Result<Option<&str>, Fail> {
+    for line in rows.split('\n') {
+        if !line.is_empty() && !goes_as_said(alloc, &course_of(line)?)? {
+            return Ok(Some(line));
+        }
+    }
+    Ok(None)
+}
+
+// Each atomic instruction on edge values, and reservations.
+#[test]
+fn atomics_as_under_qemu(rt: HostRuntime) -> Result<(), Fail> {
+    assert_eq!(rt; first_wrong_course(rt.alloc(), ATOMICS)?, None);
+    Ok(())
+}
+
+// The rights of the word at an address, and how the three kinds of atomic instruction end there: lr.w, sc.w and amoadd.w
+// of x0 at x5.
+#[test]
+fn atomic_faults(rt: HostRuntime) -> Result<(), Fail> {
+    for (read, write, at, reserves, stores, combines) in [
+        (true, true, DATA, true, true, true),
+        (true, true, DATA + 1, false, false, false),
+        (true, true, DATA + 2, false, false, false),
+        (true, true, DATA + 8, false, false, false),
+        (true, false, DATA, true, false, false),
+        (false, true, DATA, false, true, false),
+        (false, false, DATA, false, false, false),
+    ] {
+        for (word, goes, kind) in [
+            (0x1002_a02f, reserves, FaultKind::Load),
+            (0x1802_a02f, stores, FaultKind::Store),
+            (0x0002_a02f, combines, FaultKind::Store),
+        ] {
+            let mut data = region(DATA, DATA + 8);
+            data.read = read;
+            data.write = write;
+            let regions = vec![in rt.alloc(); region(CODE, CODE + 4), data]?;
+            let mut memory = Memory::make(rt.alloc(), 0x20000, regions)?;
+            assert_eq!(rt; memory.store(CODE, Width::Four, word), Ok(()));
+            let mut regs = Regs::new(CODE);
+            regs.set(5, at);
+            let want = if goes {
+                Stepped::On
+            } else {
+                Stepped::Fault(kind)
+            };
+            assert_eq!(rt; step(&mut regs, &mut memory), want);
+        }
+    }
+    Ok(())
+}
+
+// A fault leaves the reservation, and `release` ends it.
+#[test]
+fn reservation(rt: HostRuntime) -> Result<(), Fail> {
+    let regions = vec![in rt.alloc(); region(CODE, CODE + 4), region(DATA, DATA + 8)]?;
+    let mut memory = Memory::make(rt.alloc(), 0x20000, regions)?;
+    let mut regs = Regs::new(CODE);
+    assert_eq!(rt; regs.reserved(), None);
+    regs.set(5, DATA);
+    // lr.w x0, (x5)
+    assert_eq!(rt; memory.store(CODE, Width::Four, 0x1002_a02f), Ok(()));
+    assert_eq!(rt; step(&mut regs, &mut memory), Stepped::On);
+    assert_eq!(rt; regs.reserved(), Some(DATA));
+    regs.set(5, DATA + 1);
+    regs.pc = CODE;
+    // sc.w x0, x0, (x5)
+    assert_eq!(rt; memory.store(CODE, Width::Four, 0x1802_a02f), Ok(()));
+    assert_eq!(rt;
+        step(&mut regs, &mut memory),
+        Stepped::Fault(FaultKind::Store)
+    );
+    assert_eq!(rt; regs.reserved(), Some(DATA));
+    assert_eq!(rt; regs.copy().reserved(), Some(DATA));
+    regs.release();
+    assert_eq!(rt; regs.reserved(), None);
     Ok(())
 }
