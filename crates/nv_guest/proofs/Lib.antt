@@ -11,3 +11,4 @@ pub mod Walks
 pub mod Answering
 pub mod Places
 pub mod Running
+pub mod Releasing

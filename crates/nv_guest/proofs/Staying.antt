@@ -1,21 +1,21 @@
 -- What a guest does leaves the regions of its memory as they are, and as many bytes.
-use Rattle.std.proofs.Common.{◌≡◌, ◌∙◌, sym, ap, subst, refl, ℕ, zero, suc, ◌+◌, ◌-◌, ◌^◌, Bool, true, false, cond, nat_lt, List, [], ◌∷◌, length, take, drop, ℤ, Option, Some, None, Result, Ok, Err}
+use Rattle.std.proofs.Common.{◌≡◌, ◌∙◌, sym, ap, subst, refl, ℕ, zero, suc, ◌+◌, ◌-◌, ◌^◌, Bool, true, false, cond, ◌&&◌, nat_lt, List, [], ◌∷◌, length, take, drop, ℤ, Option, Some, None, Result, Ok, Err}
 use Rattle.nv_isa.specs.declared.op.Op.{Op}
-use Rattle.nv_isa.specs.declared.op.Op.TheVariants.{Sb, Sh, Sw}
+use Rattle.nv_isa.specs.declared.op.Op.TheVariants.{Sb, Sh, Sw, StoreConditional, AmoSwap, AmoAdd, AmoXor, AmoAnd, AmoOr, AmoMin, AmoMax, AmoMinu, AmoMaxu}
 use Rattle.nv_isa.specs.declared.op.Insn.{Insn}
 use Rattle.nv_isa.specs.Table.{decoded}
 use Rattle.nv_memory.specs.declared.region.Region.{Region}
 use Rattle.nv_memory.specs.declared.region.Access.{Access}
 use Rattle.nv_memory.specs.declared.region.Width.TheVariants.{Four}
-use Rattle.nv_memory.specs.declared.region.Right.TheVariants.{Write, Execute}
+use Rattle.nv_memory.specs.declared.region.Right.TheVariants.{Read, Write, Execute}
 use Rattle.nv_memory.specs.Bytes.{put, little_bytes, byte_count}
 use Rattle.nv_memory.specs.BytesLaws.{length_put}
 use Rattle.nv_memory.specs.Regions.{AreRegions, holds}
 use Rattle.nv_memory.specs.Image.{Image, stored, loaded}
 use Rattle.nv_machine.specs.declared.outcome.Stepped.TheVariants.{On, Call, Fault}
 use Rattle.nv_machine.specs.declared.outcome.FaultKind.TheVariants as kinds
-use Rattle.nv_machine.specs.Effects.{sum}
-use Rattle.nv_machine.specs.Guest.{Machine, Outcome, fault, stores, effect, executed, fetched, guest_step, register, immediate_word, width_of}
+use Rattle.nv_machine.specs.Effects.{sum, combined}
+use Rattle.nv_machine.specs.Guest.{Machine, Outcome, fault, stores, is_word, is_reserved, store_conditional, word_at, combines, effect, executed, fetched, guest_step, register, immediate_word, width_of}
 use Rattle.nv_calls.specs.declared.numbers.Syscall.{Syscall}
 use Rattle.nv_calls.specs.declared.numbers.Syscall.TheVariants.{Readv}
 use Rattle.nv_calls.specs.Numbers.{syscall_of}
@@ -100,10 +100,36 @@ stores_stay o i m =
     let a = sum (register m.regs i.rs1) (immediate_word i) in
     store_by (holds m.memory.regions a (byte_count (width_of o)) Write) m _ (put_stays m.memory a (little_bytes (byte_count (width_of o)) (register m.regs i.rs2)))
 
+tried_by : (b c : Bool) (m x y : Machine) → Stays m.memory x.memory → Stays m.memory y.memory
+    → Stays m.memory (cond {A = Outcome} b (cond {A = Outcome} c (On, x) (On, y)) (fault kinds.Store m)).1.memory
+tried_by true true m x y h k = h
+tried_by true false m x y h k = k
+tried_by false c m x y h k = stays m.memory
+
+conditional_stays : (i : Insn) (m : Machine) → Stays m.memory (store_conditional i m).1.memory
+conditional_stays i m =
+    let a = register m.regs i.rs1 in
+    tried_by (is_word m.memory a Write) (is_reserved m.regs.reserved a) m _ _ (put_stays m.memory a (little_bytes 4 (register m.regs i.rs2))) (stays m.memory)
+
+combines_stay : (o : Op) (i : Insn) (m : Machine) → Stays m.memory (combines o i m).1.memory
+combines_stay o i m =
+    let a = register m.regs i.rs1 in
+    store_by (is_word m.memory a Write && holds m.memory.regions a 4 Read) m _ (put_stays m.memory a (little_bytes 4 (combined o (word_at m.memory a) (register m.regs i.rs2))))
+
 effect_stays : (o : Op) (i : Insn) (m : Machine) → Stays m.memory (effect o i m).1.memory
 effect_stays Sb i m = stores_stay Sb i m
 effect_stays Sh i m = stores_stay Sh i m
 effect_stays Sw i m = stores_stay Sw i m
+effect_stays StoreConditional i m = conditional_stays i m
+effect_stays AmoSwap i m = combines_stay AmoSwap i m
+effect_stays AmoAdd i m = combines_stay AmoAdd i m
+effect_stays AmoXor i m = combines_stay AmoXor i m
+effect_stays AmoAnd i m = combines_stay AmoAnd i m
+effect_stays AmoOr i m = combines_stay AmoOr i m
+effect_stays AmoMin i m = combines_stay AmoMin i m
+effect_stays AmoMax i m = combines_stay AmoMax i m
+effect_stays AmoMinu i m = combines_stay AmoMinu i m
+effect_stays AmoMaxu i m = combines_stay AmoMaxu i m
 effect_stays _ i m = stays m.memory
 
 executed_stays : (d : Option Insn) (m : Machine) → Stays m.memory (executed d m).1.memory

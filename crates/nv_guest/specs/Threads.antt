@@ -1,5 +1,5 @@
 -- A guest with several threads, which share its memory.
-use Rattle.std.specs.Prelude.{ℕ, zero, suc, ◌+◌, ◌-◌, ◌/◌, ◌%◌, ℤ, ◌==◌, ◌&&◌, nat_le, Bool, true, false, List, [], ◌∷◌, ◌++◌, length, map, if◌then◌else◌}
+use Rattle.std.specs.Prelude.{ℕ, zero, suc, ◌+◌, ◌-◌, ◌/◌, ◌%◌, ℤ, ◌==◌, ◌&&◌, nat_le, Bool, true, false, List, [], ◌∷◌, ◌++◌, length, map, None, if◌then◌else◌}
 use Rattle.nv_memory.specs.declared.region.Region.{Region}
 use Rattle.nv_memory.specs.Regions.{set_end}
 use Rattle.nv_memory.specs.Image.{Image, cut}
@@ -83,9 +83,9 @@ with_stack stack x = if stack == 0 then x else written x 2 stack
 abbrev pub with_pointer : ℕ → ℕ → List ℕ → List ℕ
 with_pointer flags pointer x = if (flags / 0x80000) % 2 == 1 then written x 4 pointer else x
 
--- a new thread goes on behind its parent's call, with the result 0
+-- a new thread goes on behind its parent's call, with the result 0 and without a reservation
 unfoldable pub child_regs : Registers → Registers
-child_regs regs = record (past regs 0) { x = with_pointer (register regs 10) (register regs 13) (with_stack (register regs 11) (past regs 0).x) }
+child_regs regs = record (past regs 0) { x = with_pointer (register regs 10) (register regs 13) (with_stack (register regs 11) (past regs 0).x); reserved = None }
 
 abbrev pub child_of : List Thread → ℕ → ℕ → Thread
 child_of threads tid child = record { tid = child; regs = child_regs (regs_at threads tid) }
@@ -99,6 +99,19 @@ dropped (t ∷ ts) tid = if t.tid == tid then ts else t ∷ dropped ts tid
 
 abbrev pub without : Threaded → ℕ → Threaded
 without g tid = record g { threads = dropped g.threads tid }
+
+-- ---- reservations
+
+abbrev pub unreserved : Thread → Thread
+unreserved t = record t { regs = record t.regs { reserved = None } }
+
+-- the threads once each reservation has ended
+abbrev pub unreserved_each : List Thread → List Thread
+unreserved_each [] = []
+unreserved_each (t ∷ ts) = unreserved t ∷ unreserved_each ts
+
+abbrev pub released : Threaded → Threaded
+released g = record g { threads = unreserved_each g.threads }
 
 -- ---- the heap (brk(2))
 

@@ -4,7 +4,7 @@ ghost use Rattle.std.specs.Prelude.{◌≡◌, ◌<◌, ◌≤◌, length, Conta
 use crate::calls::{Caller, MOST_BYTES};
 use crate::heap::{Heap, move_heap};
 use crate::outcome::Asked;
-use crate::threads::{answer_to, place, run_on, start_child};
+use crate::threads::{answer_to, place, release_each, run_on, start_child};
 use arrayvec::ArrayVec;
 use nv_calls::Call;
 use nv_machine::{Regs, Stepped};
@@ -53,7 +53,7 @@ impl Guest {
     ghost use Rattle.nv_guest.specs.Calls.{call_at, number};
     ghost use Rattle.nv_machine.specs.Guest.{guest_step};
     ghost use Rattle.nv_guest.specs.Heap.{moved};
-    ghost use Rattle.nv_guest.specs.Threads.{tids, machine_at, with_machine, run, answered_at, cloned, without, asked_by, break_after};
+    ghost use Rattle.nv_guest.specs.Threads.{tids, machine_at, with_machine, run, answered_at, cloned, without, released, asked_by, break_after};
     ghost use Rattle.nv_calls.specs.Calls.{request};
     ghost use Rattle.nv_calls.specs.Numbers.{is_local};
     ghost use Rattle.nv_calls.specs.Shapes.{IsShaped};
@@ -131,6 +131,13 @@ impl Guest {
             ret,
             payload,
         );
+    }
+
+    /// Ends the reservation of each thread.
+    pub fn release(&mut self)
+        ensures { self.new ≡ released self.old }
+    {
+        release_each(&mut self.threads);
     }
 
     /// Moves the break, if it may be there, and gives it (brk(2)).

@@ -3,7 +3,7 @@ ghost use Rattle.std.specs.Prelude.{◌≡◌, ◌<◌, ◌≤◌, length, Conta
 ghost use Rattle.nv_machine.specs.Guest.{register};
 ghost use Rattle.nv_guest.specs.Guest.{machine};
 ghost use Rattle.nv_guest.specs.Calls.{answered, past};
-ghost use Rattle.nv_guest.specs.Threads.{tids, place_of, run, child_regs, with_stack, with_pointer};
+ghost use Rattle.nv_guest.specs.Threads.{tids, place_of, run, child_regs, with_stack, with_pointer, unreserved_each};
 
 use crate::calls::{NUMBER, copy_out};
 use crate::guest::Thread;
@@ -68,19 +68,29 @@ fn go_past(regs: &mut Regs, value: u32)
     regs.pc = regs.pc.wrapping_add(4);
 }
 
+/// Ends the reservation of each thread.
+pub(crate) fn release_each(threads: &mut [Thread])
+    ensures { threads.new ≡ unreserved_each threads.old }
+{
+    for thread in threads.iter_mut() {
+        thread.regs.release();
+    }
+}
+
 /// The registers of a new thread, by those of its parent at clone.
 #[tactic(auto, unfolding(crate::specs::Threads::child_regs))]
 pub(crate) fn start_child(parent: &Regs) -> Regs
     ensures { result ≡ child_regs parent.now }
 {
-    let mut regs = parent.copy();
-    go_past(&mut regs, 0);
+    let mut child = parent.copy();
+    child.release();
+    go_past(&mut child, 0);
     let stack = parent.get(11);
     if stack != 0 {
-        regs.set(SP, stack);
+        child.set(SP, stack);
     }
     if (parent.get(10) / SET_POINTER) % 2 == 1 {
-        regs.set(TP, parent.get(13));
+        child.set(TP, parent.get(13));
     }
-    regs
+    child
 }
