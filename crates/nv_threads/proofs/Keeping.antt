@@ -8,6 +8,7 @@ use Rattle.std.proofs.lemmas.List.{length-set}
 use Rattle.nv_machine.specs.Guest.{Machine}
 use Rattle.nv_guest.specs.Threads as guests
 use Rattle.nv_guest.proofs.ThreadLaws.{tids_stay}
+use Rattle.nv_guest.proofs.Releasing.{tids_released}
 use Rattle.nv_threads.specs.Threads.{State, Task, Proc, tids, passed, unless_live, state_at, with_state, is_running, is_asking}
 use Rattle.nv_threads.proofs.Quiet.{same_tids}
 use Rattle.nv_threads.specs.Kept.{are_apart, IsOwn, AreOwn, HaveRoom, IsKept}
@@ -59,6 +60,9 @@ tids_after g h t m e = ap (λ (x : guests.Threaded). guests.tids x.threads) e �
 
 pub with_guest : (count budget : ℕ) (ts : List Task) (g h : List ℕ) (cs : List Call) → IsKept count budget ts g cs → h ≡ g → IsKept count budget ts h cs
 with_guest count budget ts g h cs k e = record { within = k.within; same = λ n. e ∙ k.same n; apart = k.apart; own = k.own; eight = k.eight; room = k.room }
+
+pub guest_released : (count budget : ℕ) (ts : List Task) (g h : guests.Threaded) (cs : List Call) → IsKept count budget ts (guests.tids g.threads) cs → h ≡ guests.released g → IsKept count budget ts (guests.tids h.threads) cs
+guest_released count budget ts g h cs k e = with_guest _ _ _ _ _ _ k (ap (λ (x : guests.Threaded). guests.tids x.threads) e ∙ tids_released g.threads)
 
 pub with_count : (count more budget : ℕ) (ts : List Task) (g : List ℕ) (cs : List Call) → IsKept count budget ts g cs → more ≤ budget → IsKept more budget ts g cs
 with_count count more budget ts g cs k e = record { within = e; same = k.same; apart = k.apart; own = k.own; eight = k.eight; room = k.room }

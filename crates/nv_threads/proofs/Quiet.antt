@@ -5,7 +5,7 @@ use Rattle.nv_memory.specs.declared.region.Width.TheVariants.{Four}
 use Rattle.nv_memory.specs.declared.region.Right.TheVariants.{Read}
 use Rattle.nv_memory.specs.Image.{loaded}
 use Rattle.nv_guest.specs.Calls.{argument}
-use Rattle.nv_threads.specs.Threads.{Proc, State, Runs, Waits, Task, tids, asks, waiting_calls, with_state, next_tid, passed, machine, operation, least_waiter, woken_one, woken_by, woken, woke, waiting, futex_on, futex_by, local}
+use Rattle.nv_threads.specs.Threads.{Proc, State, Runs, Waits, Task, tids, asks, waiting_calls, with_state, next_tid, passed, machine, operation, least_waiter, woken_one, woken_by, woken, woke, waiting, futex_on, futex_by, own_answer, released, local}
 
 -- ---- states
 
@@ -104,9 +104,15 @@ futex_by_quiet p op address value timeout =
     (quiet_if p _ _ (not (address % 4 == 0)) (as_before p _ refl refl refl)
     (futex_quiet p op address value (loaded p.guest.memory address Four Read)))
 
-pub local_quiet : (nr : ℕ) (p : Proc) → Quiet p (local nr p)
-unfolding local
-local_quiet nr p =
+own_quiet : (nr : ℕ) (p : Proc) → Quiet p (own_answer nr p)
+unfolding own_answer
+own_quiet nr p =
     quiet_if p _ _ (nr == 214) (as_before p _ refl refl refl)
     (quiet_if p _ _ (nr == 422) (futex_by_quiet p (operation (argument (machine p) 1)) (argument (machine p) 0) (argument (machine p) 2) (argument (machine p) 3))
     (quiet_if p _ _ (nr == 124) (record { live = refl; calls = omega arith; left = refl; turn = inr refl }) (as_before p _ refl refl refl)))
+
+released_quiet : (p q : Proc) → Quiet p q → Quiet p (released q)
+released_quiet p q h = record { live = h.live; calls = h.calls; left = h.left; turn = h.turn }
+
+pub local_quiet : (nr : ℕ) (p : Proc) → Quiet p (local nr p)
+local_quiet nr p = released_quiet p (own_answer nr p) (own_quiet nr p)

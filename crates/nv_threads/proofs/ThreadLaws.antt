@@ -12,7 +12,7 @@ use Rattle.nv_machine.specs.declared.outcome.Stepped.{Stepped}
 use Rattle.nv_machine.specs.declared.outcome.Stepped.TheVariants.{On, Call, Fault as Faults}
 use Rattle.nv_guest.specs.Calls.{number}
 use Rattle.nv_threads.specs.Behaviours.{IsProcess}
-use Rattle.nv_threads.specs.Threads.{Proc, State, Runs, Asks, Waits, Task, tids, state_at, with_state, is_asking, asks, waiting_calls, next_tid, passed, machine, local, asking, called, ran, ended_by, counted, instruction, wanted, moves, moves_task, can_move, unless_live, is_on, faulted, turn_step, unless_came, steps, most_steps, advanced, first_byte, over, left_by, goes_on, with_child, answered_by, call_in, is_sole, threads}
+use Rattle.nv_threads.specs.Threads.{Proc, State, Runs, Asks, Waits, Task, tids, state_at, with_state, is_asking, asks, waiting_calls, next_tid, passed, machine, local, asking, called, ran, ended_by, counted, instruction, wanted, moves, moves_task, can_move, unless_live, is_on, faulted, turn_step, unless_came, steps, most_steps, advanced, first_byte, over, left_by, goes_on, with_child, outcome_of, answered_by, call_in, is_sole, threads}
 use Rattle.nv_threads.proofs.Quiet.{Quiet, same_tids, calls_more, local_quiet, passed_quiet}
 use Rattle.nv_threads.specs.declared.turns.Came.{Came}
 use Rattle.nv_threads.specs.declared.turns.Came.TheVariants.{Asked}
@@ -351,7 +351,7 @@ thread_laws = record {
   only = λ p t u c h. ((gone_is (Only t) p).asked u h).0;
   any = λ p t e h. (let g = gone_is Any p in subst (λ (ts : List ℕ). Contains ts t) g.live (lives_at (advanced Any p).1.tasks t (g.asked t h).1));
   keeps = λ p w. (gone_is w p).calls;
-  falls = λ p t r h. (let c = call_in (state_at p.tasks t) in answer_falls p t c r (c.nr == 94) (c.nr == 93) (answered_by p t c r) refl h);
+  falls = λ p t r h. (let c = call_in (state_at p.tasks t) in answer_falls p t c r (c.nr == 94) (c.nr == 93) (outcome_of p t c.nr (first_byte c) r) refl h);
   live_after = λ p w. (gone_is w p).live;
   live_answer = λ p t n r h. (let c = call_in (state_at p.tasks t) in answer_live p t c r (c.nr == 94) (c.nr == 93));
   ended = λ p h e. none_lives p.tasks p.status h e;

@@ -17,7 +17,7 @@ use Rattle.nv_machine.specs.declared.outcome.Stepped.TheVariants.{On, Call, Faul
 use Rattle.nv_guest.specs.Calls.{argument, number, call_at}
 use Rattle.nv_guest.specs.Guest.{one_thread}
 use Rattle.nv_guest.specs.Heap.{moved}
-use Rattle.nv_guest.specs.Threads.{break_after, Threaded, machine_at, with_machine, answered_at, cloned, without}
+use Rattle.nv_guest.specs.Threads.{break_after, Threaded, machine_at, with_machine, answered_at, cloned, without, released as released_guest}
 use Rattle.nv_threads.specs.Behaviours.{Behaviour}
 use Rattle.nv_threads.specs.declared.turns.Want.{Want}
 use Rattle.nv_threads.specs.declared.turns.Want.TheVariants.{Any, Only}
@@ -119,9 +119,13 @@ or_else (Some k) n = k
 unfoldable pub next_tid : ℕ → List ℕ → ℕ
 next_tid turn live = or_else (least_above turn live) (or_else (least live) turn)
 
--- the next thread has the turn
+-- no thread has a reservation
+abbrev pub released : Proc → Proc
+released p = record p { guest = released_guest p.guest }
+
+-- the next thread has the turn, and each reservation ends
 abbrev pub passed : Proc → Proc
-passed p = record p { turn = next_tid p.turn (tids p.tasks); slice = turn_length }
+passed p = record p { guest = released_guest p.guest; turn = next_tid p.turn (tids p.tasks); slice = turn_length }
 
 -- ---- the process's own calls, of the turn's thread
 
@@ -179,8 +183,12 @@ abbrev pub futex : Proc → Proc
 futex p = futex_by p (operation (argument (machine p) 1)) (argument (machine p) 0) (argument (machine p) 2) (argument (machine p) 3)
 
 -- sched_yield(2), set_tid_address(2) and gettid(2) beside these
-unfoldable pub local : ℕ → Proc → Proc
-local nr p = if nr == 214 then brk p else if nr == 422 then futex p else if nr == 124 then passed (replied p (pos 0)) else replied p (cast_signed w32 p.turn)
+unfoldable pub own_answer : ℕ → Proc → Proc
+own_answer nr p = if nr == 214 then brk p else if nr == 422 then futex p else if nr == 124 then passed (replied p (pos 0)) else replied p (cast_signed w32 p.turn)
+
+-- the answer ends each reservation
+abbrev pub local : ℕ → Proc → Proc
+local nr p = released (own_answer nr p)
 
 -- ---- going on
 
@@ -297,11 +305,15 @@ with_child p tid None = p
 with_child p tid (Some child) = record p { guest = cloned p.guest tid child; tasks = p.tasks ++ record { tid = child; state = Runs } ∷ [] }
 
 -- the answer to a call with this number, whose first argument ends in this byte
-abbrev pub answered_as : Proc → ℕ → ℕ → ℕ → Response → Proc
-answered_as p tid nr status r =
+abbrev pub outcome_of : Proc → ℕ → ℕ → ℕ → Response → Proc
+outcome_of p tid nr status r =
     if nr == 94 then over p status
     else if nr == 93 then left_by p tid status
     else goes_on (with_child p tid (made nr r.ret)) tid r
+
+-- the answer ends each reservation
+abbrev pub answered_as : Proc → ℕ → ℕ → ℕ → Response → Proc
+answered_as p tid nr status r = released (outcome_of p tid nr status r)
 
 abbrev pub answered_by : Proc → ℕ → Request → Response → Proc
 answered_by p tid c r = answered_as p tid c.nr (first_byte c) r

@@ -6,7 +6,7 @@ ghost use Rattle.nv_calls.specs.Shapes.{IsShaped};
 ghost use Rattle.nv_guest.specs.Guest.{machine_of, one_thread};
 ghost use Rattle.nv_guest.specs.Threads.{break_after};
 ghost use Rattle.nv_threads.specs.Behaviours.{IsStarted};
-ghost use Rattle.nv_threads.specs.Threads.{threads, started, state_at, is_running, is_asking, wanted, can_move, is_on, faulted, unless_live, passed, replied, local, woken_one, woken, waiting, operation, futex, futex_by, futex_on, called, machine, tids, over, left_by, brk, broken, with_child, goes_on, answered_as};
+ghost use Rattle.nv_threads.specs.Threads.{threads, started, state_at, is_running, is_asking, wanted, can_move, is_on, faulted, unless_live, passed, released, replied, own_answer, local, woken_one, woken, waiting, operation, futex, futex_by, futex_on, called, machine, tids, over, left_by, brk, broken, with_child, goes_on, outcome_of, answered_as};
 ghost use Rattle.nv_threads.specs.Going.{Goes, burst};
 ghost use Rattle.nv_threads.specs.Kept.{HaveRoom};
 
@@ -149,12 +149,20 @@ impl Process {
         runs(&self.tasks, self.turn) && self.slice != 0
     }
 
-    /// The next thread has the turn.
+    /// The next thread has the turn, and each reservation ends.
     fn pass(&mut self)
         ensures { self.new ≡ passed self.old }
     {
         self.turn = next_tid(&self.tasks, self.turn);
         self.slice = TURN;
+        self.guest.release();
+    }
+
+    /// Each reservation ends.
+    fn release(&mut self)
+        ensures { self.new ≡ released self.old }
+    {
+        self.guest.release();
     }
 
     /// A fault of the turn's thread.
@@ -223,11 +231,19 @@ impl Process {
         }
     }
 
-    /// The process's own answer to the call of the turn's thread.
-    #[tactic(auto, unfolding(crate::specs::Threads::local))]
+    /// The process's own answer to the call of the turn's thread, with which each reservation ends.
     fn answer_local(&mut self, nr: u32)
         requires { is_running (state_at self.old.tasks self.old.turn) ≡ true }
         ensures { self.new ≡ local nr self.old }
+    {
+        self.own_answer(nr);
+        self.release();
+    }
+
+    #[tactic(auto, unfolding(crate::specs::Threads::own_answer))]
+    fn own_answer(&mut self, nr: u32)
+        requires { is_running (state_at self.old.tasks self.old.turn) ≡ true }
+        ensures { self.new ≡ own_answer nr self.old }
     {
         match nr {
             214 => self.brk(),
@@ -372,11 +388,21 @@ impl Process {
         self.answer_as(tid, nr, status, ret, payload);
     }
 
-    /// The answer to a call with this number, whose first argument ends in this byte.
+    /// The answer to a call with this number, whose first argument ends in this byte. Each reservation ends with it.
     fn answer_as(&mut self, tid: u32, nr: u32, status: u8, ret: i32, payload: &[u8])
         requires lives { Contains (tids self.old.tasks) tid }
         requires new { IsNew (tids self.old.tasks) (made nr ret) }
         ensures { self.new ≡ answered_as self.old tid nr status (record { ret = ret; payload = payload.now }) }
+    {
+        self.settle(tid, nr, status, ret, payload);
+        self.release();
+    }
+
+    /// What the answer does to the threads.
+    fn settle(&mut self, tid: u32, nr: u32, status: u8, ret: i32, payload: &[u8])
+        requires lives { Contains (tids self.old.tasks) tid }
+        requires new { IsNew (tids self.old.tasks) (made nr ret) }
+        ensures { self.new ≡ outcome_of self.old tid nr status (record { ret = ret; payload = payload.now }) }
     {
         match nr {
             94 => self.end(status),
