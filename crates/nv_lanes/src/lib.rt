@@ -1,0 +1,8 @@
+//! Which lane of a room an event stands in, by its thread.
+#![tactic(auto)]
+
+mod lanes;
+#[cfg(test)]
+mod tests;
+
+pub use lanes::{LANES, Lanes};

@@ -1,0 +1,5 @@
+pub mod Header
+pub mod Logs
+pub mod LanePlacement
+pub mod Stamps
+pub mod Placement

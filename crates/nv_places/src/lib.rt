@@ -1,0 +1,9 @@
+//! Where the words of events stand in a room's table.
+#![tactic(auto)]
+
+mod spot;
+
+#[cfg(test)]
+mod tests;
+
+pub use spot::Spot;
