@@ -41,9 +41,6 @@ last_spelt (x ∷ []) zero e long at = ap (λ (z : Entry). spell z ∷ []) (same
 last_spelt (x ∷ y ∷ ys) zero e long at = absurd (omega arith)
 last_spelt (x ∷ xs) (suc n) e long at = ap (λ z. spell x ∷ z) (last_spelt xs n e (omega arith) at)
 
-pub begins_short : (words : List ℕ) → Begins words → ¬ IsWhole words → length words < 518
-begins_short words b part = let s = spell_whole b.0 b.1 in let l = shorter words (spell b.0) b.2 s.0 part in let m = s.1 in omega arith
-
 -- one more word of the event is written
 pub one_more : (wrote : List ℕ) (i w : ℕ) (s : List ℕ) → wrote ≡ take i s → i < length s → w ≡ get_or s i 0 → wrote ++ w ∷ [] ≡ take (i + 1) s
 one_more wrote i w s is l at = (λ k. is k ++ at k ∷ []) ∙ sym (take_more s i 0 l)

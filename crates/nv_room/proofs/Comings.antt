@@ -20,12 +20,16 @@ use Rattle.nv_room.specs.declared.view.Past.{Past}
 use Rattle.nv_room.specs.declared.view.Span.{Span}
 use Rattle.nv_room.specs.declared.view.Role.{Role}
 use Rattle.nv_room.specs.declared.view.Role.TheVariants.{Reader, Lead, Gone, Spent}
-use Rattle.nv_room.specs.Placement.{table_words}
+use Rattle.nv_places.specs.Header.{head_index, cursor_index}
+use Rattle.nv_places.proofs.StampLaws.{stamps_first}
+use Rattle.nv_room.specs.Placement.{table_words, slot}
+use Rattle.std.proofs.lemmas.List.{length-replicate}
 use Rattle.nv_room.specs.Owner.{free}
 use Rattle.nv_room.specs.Spans.{of_station}
-use Rattle.nv_room.specs.Room.{cursor, Moment, as_of, Told, Knows, Tag, tag, station_of, Has, Live, Out, Clash, Apart, Rule, first}
+use Rattle.nv_room.specs.Room.{cursor, Moment, as_of, Told, Knows, Tag, tag, station_of, Has, Live, Out, Clash, Apart, Notes, second, Rule, first}
 use Rattle.nv_room.specs.Steps.{opened, reader_of, past_of, joined, spent}
 use Rattle.nv_room.proofs.Lists.{at_end}
+use Rattle.nv_room.proofs.Merges.{merge_turned, merge_cut, notes_none}
 use Rattle.nv_room.proofs.Stays.{now, lead_stays}
 use Rattle.nv_room.proofs.Seats.{holder_led, in_role, seated}
 
@@ -159,6 +163,8 @@ module _ {K : Type 0} (hist : K → List Entry) (beg : K → Start) (p : Plan K)
         home = r.home;
         places = r.places;
         led = r.led;
+        merge = merge_cut n c s.words r.log r.phase vs (reader_of v) (merge_turned n c s.views id v (opened v) at s.words s.words r.log r.phase r.merge (λ _ _. refl) (λ e. r.merge.lead_writes id v at e) (λ e. r.merge.notes id v at e) (λ l. r.merge.floors_wide id v at l))
+            refl (notes_none r.log []) (length-replicate (length v.floors) 0 ∙ r.merge.floors_wide id v at (subst Live (sym role) tt));
         held_has_lead = λ e. let h = lead_stays s.views id r.holder v (opened v) at (λ q. (q, refl)) (r.held_has_lead e) in (h.0, h.1, at_longer vs (reader_of v ∷ []) h.0 h.1 h.2, h.3, h.4);
         one_seat_a_station = subst Apart (sym path) (apart_split (map tag s.views) id t 0 es Reader Reader tt pos empty (at_map tag s.views id v at ∙ (λ i. some (role i, zeroth i, t, es))) r.one_seat_a_station);
         each_seat = λ j u e. ⊎_elim (λ (e' : get_elem? vs j ≡ some u). ⊎_elim (λ (y : (j ≡ id) × (opened v ≡ u)). subst (Knows n c p.start m) y.1 mine') (λ (y : (j ≢ id) × (get_elem? s.views j ≡ some u)). r.each_seat j u y.1) (at_set s.views id j (opened v) u e'))
@@ -198,6 +204,8 @@ module _ {K : Type 0} (hist : K → List Entry) (beg : K → Start) (p : Plan K)
         places = r.places;
         led = r.led;
         held_has_lead = λ e. lead_stays vs other r.holder w spent at' (λ q. absurd (let y : Lead ≡ Gone = sym q ∙ gone in cc)) (lead_stays s.views id r.holder v (joined v w) at (λ q. (q, refl)) (r.held_has_lead e));
+        merge = merge_turned n c vs other w spent at' s.words s.words r.log r.phase (merge_turned n c s.views id v (joined v w) at s.words s.words r.log r.phase r.merge (λ _ _. refl) (λ e. r.merge.lead_writes id v at e) (λ e. r.merge.notes id v at e) (λ l. r.merge.floors_wide id v at l))
+            (λ _ _. refl) (λ (e : Spent ≡ Lead). cc) (λ (e : Spent ≡ Reader). cc) (λ l. absurd l);
         one_seat_a_station = subst Apart (sym path) (apart_join ts id other v.station v.made w.station w.made es gs v.role w.role live (subst Live (sym gone) tt) (at_map tag s.views id v at) (at_map tag s.views other w there') r.one_seat_a_station);
         each_seat = λ j u e. ⊎_elim (λ (y : (j ≡ other) × (spent ≡ u)). subst (Knows n c p.start m) y.1 over)
             (λ (y : (j ≢ other) × (get_elem? vs j ≡ some u)). ⊎_elim (λ (z : (j ≡ id) × (joined v w ≡ u)). subst (Knows n c p.start m) z.1 mine) (λ (z : (j ≢ id) × (get_elem? s.views j ≡ some u)). r.each_seat j u z.1) (at_set s.views id j (joined v w) u y.1))
@@ -224,8 +232,8 @@ module _ {K : Type 0} (hist : K → List Entry) (beg : K → Start) (p : Plan K)
       holder_is_made = some_station;
       lower_are_gone = λ s l. absurd (omega arith);
       lead_counts = λ e. cc;
-      head_is_length = zeros 1;
-      cursor_is_count_or_gone = λ s l. inl (let z = zeros (s + 2) in omega arith);
+      head_is_length = zeros head_index;
+      cursor_is_count_or_gone = λ s l. inl (let z = zeros (cursor_index s) in omega arith);
       head_in_window = λ s a l. omega arith;
       unread_stands = λ i s e a l le f. absurd (some-ne-none e (sym f));
       event_is_whole = λ i e f. absurd (some-ne-none e (sym f));
@@ -233,6 +241,14 @@ module _ {K : Type 0} (hist : K → List Entry) (beg : K → Start) (p : Plan K)
     };
     held_has_lead = λ e. cc;
     led = record { tile = refl; rise = tt; last_is_holders = λ xs x e. (let a = ap (λ (z : List Span). length z) e in let b = length-append xs (x ∷ []) in absurd (omega arith)); unled_is_free = λ e. refl };
+    merge = record {
+      writing = [];
+      stamps = stamps_first p.places (second p.stations p.places ws) (λ l k. zeros (slot p.stations p.places l k 1));
+      lead_writes = λ j v e role. absurd (let q : Reader ≡ Lead = ap (λ (z : View K). z.role) (one_at (first p) j v e).1 ∙ role in cc);
+      not_held = λ _. refl;
+      notes = λ j v e _. subst (λ (z : View K). Notes [] z.seen z.noted z.missed) (one_at (first p) j v e).1 (notes_none [] []);
+      floors_wide = λ j v e _. subst (λ (z : View K). length z.floors ≡ p.stations) (one_at (first p) j v e).1 (length-replicate p.stations 0);
+    };
     one_seat_a_station = λ j k a b e f c. (one_at (tag (first p)) j a e).0 ∙ sym (one_at (tag (first p)) k b f).0;
     each_seat = λ j v e. subst (Knows p.stations p.places p.start (as_of ws [] free 0 [])) (one_at (first p) j v e).1 record {
       seen_is_prefix = λ i y f. absurd (some-ne-none y (sym f));
@@ -240,8 +256,8 @@ module _ {K : Type 0} (hist : K → List Entry) (beg : K → Start) (p : Plan K)
       floor_at_most_cursor = λ s l. let z = zero_at p.stations s in omega arith;
       head_seen_at_most_head = omega arith;
       owner_seen_at_most_head = omega arith;
-      in_role = record { cursor_is_length = zeros 2; led_nothing = refl; wrote_nothing = refl; freed_stays = λ k e. cc };
-      seated = λ l. record { start_is = refl; places_are = refl; station_is_made = some_station; spans_are = refl; unmade_is_new = λ t u. zeros (t + 2) };
+      in_role = record { cursor_is_length = zeros (cursor_index 0); led_nothing = refl; wrote_nothing = refl; freed_stays = λ k e. cc };
+      seated = λ l. record { start_is = refl; places_are = refl; station_is_made = some_station; spans_are = refl; unmade_is_new = λ t u. zeros (cursor_index t) };
       ended_is_told = λ i x f. absurd (some-ne-none x (sym f));
     };
   }

@@ -22,24 +22,26 @@ use Rattle.nv_room.specs.Room.{cursor, Moment, as_of, Places, Led, InRole, IsSea
 use Rattle.nv_room.specs.Steps.{one_on, advanced, as_gone, left}
 use Rattle.nv_room.proofs.Lists.{at_below, there}
 use Rattle.nv_room.proofs.Placement.{place_behind, header_inside}
+use Rattle.nv_places.specs.Header.{head_index, cursor_index}
+use Rattle.nv_room.proofs.Merges.{merge_turned, second_kept, notes_none}
 use Rattle.nv_room.proofs.Stays.{Onward, Own, lead_stays, logged, same_tags, told_on, now, moved}
 use Rattle.nv_room.proofs.Seats.{prefix_more, not_held, none_above, apart_role, apart_from, apart_unmade, in_role, seated, told}
 
 module _ (n c : ℕ) (m : Moment) (i x : ℕ) (pl : Places n c m) (near : i < n) (up : cursor m.words i ≤ x) where
   abbrev ws' : List ℕ
-  ws' = set m.words (i + 2) x
+  ws' = set m.words (cursor_index i) x
 
   abbrev pub risen : Moment
   risen = as_of ws' m.log m.phase m.holder m.spans
 
-  inside : i + 2 < length m.words
-  inside = subst (λ (z : ℕ). i + 2 < z) (sym pl.words_are_all) (header_inside n c (i + 2) (omega arith))
+  inside : cursor_index i < length m.words
+  inside = subst (λ (z : ℕ). cursor_index i < z) (sym pl.words_are_all) (header_inside n c (cursor_index i) (omega arith))
 
   pub cursor_there : cursor ws' i ≡ x
-  cursor_there = get_or-set_same m.words (i + 2) x 0 inside
+  cursor_there = get_or-set_same m.words (cursor_index i) x 0 inside
 
   pub cursor_else : (s : ℕ) → s ≢ i → cursor ws' s ≡ cursor m.words s
-  cursor_else s ne = get_or-set_other m.words (i + 2) (s + 2) x 0 (λ e. ne (omega arith))
+  cursor_else s ne = get_or-set_other m.words (cursor_index i) (cursor_index s) x 0 (λ e. ne (omega arith))
 
   pub cursor_set : (s : ℕ) → ((s ≡ i) × (cursor ws' s ≡ x)) ⊎ ((s ≢ i) × (cursor ws' s ≡ cursor m.words s))
   cursor_set s = dite (ℕ_discrete s i) (λ e. inl (e, ap (cursor ws') e ∙ cursor_there)) (λ ne. inr (ne, cursor_else s ne))
@@ -48,18 +50,18 @@ module _ (n c : ℕ) (m : Moment) (i x : ℕ) (pl : Places n c m) (near : i < n)
   cursor_up s = ⊎_elim (λ (y : (s ≡ i) × (cursor ws' s ≡ x)). let a : cursor m.words s ≡ cursor m.words i = ap (cursor m.words) y.0 in let b = y.1 in omega arith) (λ (y : (s ≢ i) × (cursor ws' s ≡ cursor m.words s)). let b = y.1 in omega arith) (cursor_set s)
 
   place_else : (log : Log) (e j : ℕ) → get_or ws' (place_of n c log e j) 0 ≡ get_or m.words (place_of n c log e j) 0
-  place_else log e j = get_or-set_other m.words (i + 2) (place_of n c log e j) x 0 (place_behind n c log e j (i + 2) (omega arith))
+  place_else log e j = get_or-set_other m.words (cursor_index i) (place_of n c log e j) x 0 (place_behind n c log e j (cursor_index i) (omega arith))
 
   pub places_risen : (x ≤ length m.log) ⊎ (x ≡ GONE) → (m.phase ≡ held → i ≢ m.holder) → Places n c risen
   places_risen count unheld = record {
     some_place = pl.some_place;
     few_stations = pl.few_stations;
-    words_are_all = length-set m.words (i + 2) x ∙ pl.words_are_all;
-    owner_is = get_or-set_other m.words (i + 2) 0 x 0 (λ e. omega arith) ∙ pl.owner_is;
+    words_are_all = length-set m.words (cursor_index i) x ∙ pl.words_are_all;
+    owner_is = get_or-set_other m.words (cursor_index i) 0 x 0 (λ e. omega arith) ∙ pl.owner_is;
     holder_is_made = pl.holder_is_made;
     lower_are_gone = λ s l. le_trans (pl.lower_are_gone s l) (cursor_up s);
     lead_counts = λ e. subst (λ (z : ℕ). z ≤ length m.log) (sym (cursor_else m.holder (λ q. unheld e (sym q)))) (pl.lead_counts e);
-    head_is_length = get_or-set_other m.words (i + 2) 1 x 0 (λ e. omega arith) ∙ pl.head_is_length;
+    head_is_length = get_or-set_other m.words (cursor_index i) head_index x 0 (λ e. omega arith) ∙ pl.head_is_length;
     cursor_is_count_or_gone = λ s l. ⊎_elim (λ (y : (s ≡ i) × (cursor ws' s ≡ x)). subst (λ (z : ℕ). (z ≤ length m.log) ⊎ (z ≡ GONE)) (sym y.1) count)
         (λ (y : (s ≢ i) × (cursor ws' s ≡ cursor m.words s)). subst (λ (z : ℕ). (z ≤ length m.log) ⊎ (z ≡ GONE)) (sym y.1) (pl.cursor_is_count_or_gone s l)) (cursor_set s);
     head_in_window = λ s ne l. let o : length m.log ≤ cursor m.words s + c = pl.head_in_window s ne l in let g = cursor_up s in omega arith;
@@ -89,7 +91,7 @@ module _ {K : Type 0} (hist : K → List Entry) (beg : K → Start) (p : Plan K)
   M = Me (Option K) (View K)
 
   pub advances : (slots id new : ℕ) (me : M) → me.0.role ≡ Reader → IsWhole me.0.read → new ≡ length me.0.seen + 1
-      → Allows RuleOf slots id me (me.0.station + 2) (λ _. new) (λ _. advanced (step slots (me.0.station + 2) new 0 none) me new)
+      → Allows RuleOf slots id me (cursor_index me.0.station) (λ _. new) (λ _. advanced (step slots (cursor_index me.0.station) new 0 none) me new)
   advances slots id new me role full is s r wide at _ = let v = me.0 in let n : ℕ = p.stations in let c : ℕ = p.places in let kn = r.each_seat id v at in let size : ℕ = length v.seen in let pl = r.places in
       let m : Moment = now hist beg p s r in let ir = in_role hist beg p s r id v at Reader role in let se = seated hist beg p s r id v at Reader role tt in let i : ℕ = v.station in let near : i < n = se.station_is_made in let mine : cursor s.words i ≡ size = ir.cursor_is_length in
       let six : 6 ≤ length v.read = full.0 in let one = there v.read 0 (omega arith) in let rd0 = kn.read_begins_next 0 one.0 one.1 in let e : List ℕ = rd0.0 in let len : ℕ = length r.log in let lt : size < len = at_below r.log size e rd0.1 in
@@ -100,7 +102,7 @@ module _ {K : Type 0} (hist : K → List Entry) (beg : K → Start) (p : Plan K)
         w,
         keeps,
         tt,
-        moved hist beg p s r (i + 2) new id me.1 keeps r.log r.phase r.holder r.spans r.events v w at (subst Apart (sym (same_tags hist beg p s.views id v w at refl)) r.one_seat_a_station) (λ e. lead_stays s.views id r.holder v w at (λ q. (q, refl)) (r.held_has_lead e)) (logged hist beg p s r) r.home
+        moved hist beg p s r (cursor_index i) new id me.1 keeps r.log r.phase r.holder r.spans r.events v w at (subst Apart (sym (same_tags hist beg p s.views id v w at refl)) r.one_seat_a_station) (λ e. lead_stays s.views id r.holder v w at (λ q. (q, refl)) (r.held_has_lead e)) (logged hist beg p s r) r.home
             (places_risen n c m i new pl near up (inl (omega arith)) (λ e. not_held m i r.led ir.led_nothing e)) record { tile = r.led.tile; rise = r.led.rise; last_is_holders = r.led.last_is_holders; unled_is_free = r.led.unled_is_free } on
             (λ j u ne f l. (own_risen n c m i new pl near up u.station (apart_from hist beg p s r j id u v f at ne (subst Live (sym role) tt) l) u.role, refl, λ t q. cursor_else n c m i new pl near up t (apart_unmade hist beg p s r j id u v f at ne (subst Live (sym role) tt) l t q))) record {
               seen_is_prefix = pre;
@@ -116,11 +118,12 @@ module _ {K : Type 0} (hist : K → List Entry) (beg : K → Start) (p : Plan K)
               };
               seated = λ l. record { start_is = se.start_is; places_are = se.places_are; station_is_made = near; spans_are = se.spans_are; unmade_is_new = λ t q. cursor_else n c m i new pl near up t (λ e. let a = q.first in let b = q.other in omega arith) ∙ se.unmade_is_new t q };
               ended_is_told = λ k y f. told_on n m m' y on (kn.ended_is_told k y f);
-            },
+            }
+            (merge_turned n c s.views id v w at s.words (set s.words (cursor_index i) new) r.log r.phase r.merge (second_kept n c (cursor_index i) new s.words (omega arith)) (λ e. r.merge.lead_writes id v at e) (λ _. notes_none r.log (v.seen ++ v.read ∷ [])) (λ l. r.merge.floors_wide id v at l)),
         (refl, told hist beg p s r (v.seen ++ v.read ∷ []) pre, (let short : len ≤ 131072 = pl.log_is_short in omega arith)),
       )
 
-  pub advances_at : (slots id k new : ℕ) (me : M) → me.0.role ≡ Reader → IsWhole me.0.read → k ≡ me.0.station + 2 → new ≡ length me.0.seen + 1
+  pub advances_at : (slots id k new : ℕ) (me : M) → me.0.role ≡ Reader → IsWhole me.0.read → k ≡ cursor_index me.0.station → new ≡ length me.0.seen + 1
       → Allows RuleOf slots id me k (λ _. new) (λ _. advanced (step slots k new 0 none) me new)
   advances_at slots id k new me role full at is = subst (λ (z : ℕ). Allows RuleOf slots id me z (λ _. new) (λ _. advanced (step slots z new 0 none) me new)) (sym at) (advances slots id new me role full is)
 
@@ -138,7 +141,7 @@ module _ {K : Type 0} (hist : K → List Entry) (beg : K → Start) (p : Plan K)
   may_leave m st seen read wrote freed led short Spent either k = absurd (⊎_elim (λ (e : Spent ≡ Reader). cc) (λ (e : Spent ≡ Leaving). cc) either)
 
   pub leaves : (slots id new : ℕ) (me : M) → (me.0.role ≡ Reader) ⊎ (me.0.role ≡ Leaving) → new ≡ GONE
-      → Allows RuleOf slots id me (me.0.station + 2) (λ _. new) (λ _. left (step slots (me.0.station + 2) new 0 none) me new)
+      → Allows RuleOf slots id me (cursor_index me.0.station) (λ _. new) (λ _. left (step slots (cursor_index me.0.station) new 0 none) me new)
   leaves slots id new me role is s r wide at _ = let v = me.0 in let n : ℕ = p.stations in let c : ℕ = p.places in let kn = r.each_seat id v at in let pl = r.places in
       let m : Moment = now hist beg p s r in let live : Live v.role = ⊎_elim (λ (e : v.role ≡ Reader). subst Live (sym e) tt) (λ (e : v.role ≡ Leaving). subst Live (sym e) tt) role in
       let se : IsSeated n c p.start m v = kn.seated live in let i : ℕ = v.station in let near : i < n = se.station_is_made in let len : ℕ = length r.log in let few : len ≤ 131072 = pl.log_is_short in
@@ -149,7 +152,7 @@ module _ {K : Type 0} (hist : K → List Entry) (beg : K → Start) (p : Plan K)
         w,
         keeps,
         tt,
-        moved hist beg p s r (i + 2) new id me.1 keeps r.log r.phase r.holder r.spans r.events v w at tags (λ e. lead_stays s.views id r.holder v w at (λ q. absurd (⊎_elim (λ (f : v.role ≡ Reader). let y : Lead ≡ Reader = sym q ∙ f in cc) (λ (f : v.role ≡ Leaving). let y : Lead ≡ Leaving = sym q ∙ f in cc) role)) (r.held_has_lead e)) (logged hist beg p s r) r.home
+        moved hist beg p s r (cursor_index i) new id me.1 keeps r.log r.phase r.holder r.spans r.events v w at tags (λ e. lead_stays s.views id r.holder v w at (λ q. absurd (⊎_elim (λ (f : v.role ≡ Reader). let y : Lead ≡ Reader = sym q ∙ f in cc) (λ (f : v.role ≡ Leaving). let y : Lead ≡ Leaving = sym q ∙ f in cc) role)) (r.held_has_lead e)) (logged hist beg p s r) r.home
             (places_risen n c m i new pl near up (inr is) may.unheld) record { tile = r.led.tile; rise = r.led.rise; last_is_holders = r.led.last_is_holders; unled_is_free = r.led.unled_is_free } on
             (λ j u ne f l. (own_risen n c m i new pl near up u.station (apart_from hist beg p s r j id u v f at ne live l) u.role, refl, λ t q. cursor_else n c m i new pl near up t (apart_unmade hist beg p s r j id u v f at ne live l t q))) record {
               seen_is_prefix = kn.seen_is_prefix;
@@ -158,16 +161,17 @@ module _ {K : Type 0} (hist : K → List Entry) (beg : K → Start) (p : Plan K)
               head_seen_at_most_head = kn.head_seen_at_most_head;
               owner_seen_at_most_head = kn.owner_seen_at_most_head;
               in_role = record {
-                cursor_is_gone = let a : cursor (set s.words (i + 2) new) i ≡ new = cursor_there n c m i new pl near up in omega arith;
+                cursor_is_gone = let a : cursor (set s.words (cursor_index i) new) i ≡ new = cursor_there n c m i new pl near up in omega arith;
                 before_later = λ k y e lt. let top = none_above m k y r.led e in absurd (omega arith);
                 wrote_nothing = may.quiet;
               };
               seated = λ l. record { start_is = se.start_is; places_are = se.places_are; station_is_made = near; spans_are = se.spans_are; unmade_is_new = λ t q. cursor_else n c m i new pl near up t (λ e. let a = q.first in let b = q.other in omega arith) ∙ se.unmade_is_new t q };
               ended_is_told = λ k y f. told_on n m m' y on (kn.ended_is_told k y f);
-            },
+            }
+            (merge_turned n c s.views id v w at s.words (set s.words (cursor_index i) new) r.log r.phase r.merge (second_kept n c (cursor_index i) new s.words (omega arith)) (λ (e : Gone ≡ Lead). cc) (λ (e : Gone ≡ Reader). cc) (λ _. r.merge.floors_wide id v at live)),
         refl,
       )
 
-  pub leaves_at : (slots id k new : ℕ) (me : M) → (me.0.role ≡ Reader) ⊎ (me.0.role ≡ Leaving) → k ≡ me.0.station + 2 → new ≡ GONE
+  pub leaves_at : (slots id k new : ℕ) (me : M) → (me.0.role ≡ Reader) ⊎ (me.0.role ≡ Leaving) → k ≡ cursor_index me.0.station → new ≡ GONE
       → Allows RuleOf slots id me k (λ _. new) (λ _. left (step slots k new 0 none) me new)
   leaves_at slots id k new me role at is = subst (λ (z : ℕ). Allows RuleOf slots id me z (λ _. new) (λ _. left (step slots z new 0 none) me new)) (sym at) (leaves slots id new me role is)

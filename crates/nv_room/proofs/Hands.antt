@@ -29,6 +29,8 @@ use Rattle.nv_room.specs.Steps.{as_leaving, gave_up, as_lead, took}
 use Rattle.nv_room.proofs.Lists.{at_below, at_end}
 use Rattle.nv_room.proofs.Placement.{place_behind, header_inside}
 use Rattle.nv_room.proofs.Tiling.{tiles_more, rising_more, last_apart, of_more_other, of_more_own}
+use Rattle.nv_places.specs.Header.{head_index, cursor_index}
+use Rattle.nv_room.proofs.Merges.{merge_turned, merge_phase, merged_quiet, second_kept}
 use Rattle.nv_room.proofs.Stays.{Onward, Own, told_on, now, moved}
 use Rattle.nv_room.proofs.Seats.{holder_led, none_above, beside_lead, apart_role, apart_from, in_role, seated}
 
@@ -39,7 +41,7 @@ module _ (n c : ℕ) (m : Moment) (new : ℕ) (pl : Places n c m) where
   wide = subst (λ (z : ℕ). 0 < z) (sym pl.words_are_all) (header_inside n c 0 (omega arith))
 
   pub same_cursor : (s : ℕ) → cursor (set m.words 0 new) s ≡ cursor m.words s
-  same_cursor s = get_or-set_other m.words 0 (s + 2) new 0 (λ e. omega arith)
+  same_cursor s = get_or-set_other m.words 0 (cursor_index s) new 0 (λ e. omega arith)
 
   pub same_place : (log : Log) (i j : ℕ) → get_or (set m.words 0 new) (place_of n c log i j) 0 ≡ get_or m.words (place_of n c log i j) 0
   same_place log i j = get_or-set_other m.words 0 (place_of n c log i j) new 0 (place_behind n c log i j 0 (omega arith))
@@ -54,7 +56,7 @@ module _ (n c : ℕ) (m : Moment) (new : ℕ) (pl : Places n c m) where
     holder_is_made = near;
     lower_are_gone = λ s l. subst (λ (z : ℕ). GONE ≤ z) (sym (same_cursor s)) (low s l);
     lead_counts = λ e. subst (λ (z : ℕ). z ≤ length m.log) (sym (same_cursor h)) (lead e);
-    head_is_length = get_or-set_other m.words 0 1 new 0 (λ e. omega arith) ∙ pl.head_is_length;
+    head_is_length = get_or-set_other m.words 0 head_index new 0 (λ e. omega arith) ∙ pl.head_is_length;
     cursor_is_count_or_gone = λ s l. subst (λ (z : ℕ). (z ≤ length m.log) ⊎ (z ≡ GONE)) (sym (same_cursor s)) (pl.cursor_is_count_or_gone s l);
     head_in_window = λ s ne l. subst (λ (z : ℕ). length m.log ≤ z + c) (sym (same_cursor s)) (⊎_elim (λ (a : s ≢ m.holder). pl.head_in_window s a l) (λ (g : GONE ≤ cursor m.words s). omega arith) (others s ne l));
     unread_stands = λ i s e ne l le f j x g. let le' : cursor m.words s ≤ i = subst (λ (z : ℕ). z ≤ i) (same_cursor s) le in
@@ -111,7 +113,8 @@ module _ {K : Type 0} (hist : K → List Entry) (beg : K → Start) (p : Plan K)
               in_role = record { not_held = over; is_holder = ir.is_holder; cursor_is_count = subst (λ (q : ℕ). q ≤ length r.log) (sym (cur st)) (subst (λ (q : ℕ). cursor s.words q ≤ length r.log) (sym ir.is_holder) (pl.lead_counts ir.is_held)); wrote_nothing = quiet };
               seated = λ l. record { start_is = se.start_is; places_are = se.places_are; station_is_made = se.station_is_made; spans_are = se.spans_are; unmade_is_new = λ t u. cur t ∙ se.unmade_is_new t u };
               ended_is_told = λ i x e. told_on n m m' x on (kn.ended_is_told i x e);
-            },
+            }
+            (merge_turned n c s.views id v w at s.words ws' r.log ph (merge_phase n c s.words r.log r.phase ph s.views r.merge (sym (r.merge.lead_writes id v at role) ∙ quiet)) (second_kept n c 0 new s.words (omega arith)) (λ (e : Leaving ≡ Lead). cc) (λ (e : Leaving ≡ Reader). cc) (λ _. r.merge.floors_wide id v at (subst Live (sym role) tt))),
         refl,
       )
 
@@ -193,6 +196,7 @@ module _ {K : Type 0} (hist : K → List Entry) (beg : K → Start) (p : Plan K)
               };
               seated = λ l. record { start_is = se.start_is; places_are = se.places_are; station_is_made = se.station_is_made; spans_are = ap (λ (z : List Span). z ++ new_span ∷ []) se.spans_are ∙ sym (of_more_own st r.spans new_span refl); unmade_is_new = λ t u. cur t ∙ se.unmade_is_new t u };
               ended_is_told = λ i x e. told_on n m m' x on (kn.ended_is_told i x e);
-            },
+            }
+            (let quiet : r.merge.writing ≡ [] = r.merge.not_held (λ e. let q : held ≡ free = sym e ∙ note.is_free in cc) in merge_turned n c s.views id v w at s.words ws' r.log held (merge_phase n c s.words r.log r.phase held s.views r.merge quiet) (second_kept n c 0 new s.words (omega arith)) (λ _. ir.wrote_nothing ∙ sym (merged_quiet n c s.words r.log r.phase held s.views r.merge quiet)) (λ (e : Lead ≡ Reader). cc) (λ _. r.merge.floors_wide id v at (subst Live (sym role) tt))),
         (k, refl, spelt ∙ sym all, λ t e. home.3 ∙ ap (λ (z : Snapshot K). beg z.value) (same_Some p.start t (sym se.start_is ∙ e)), ir.wrote_nothing),
       )

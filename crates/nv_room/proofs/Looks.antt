@@ -1,5 +1,5 @@
 -- Looks keep the rule.
-use Rattle.std.proofs.Common.{◌≡◌, ℕ, ◌+◌, ◌<◌, ◌≤◌, ◌≢◌, ◌⊎◌, true, false, List, [], ◌∷◌, ◌++◌, length, get_or, set, sym, refl, ap, ◌∙◌, subst, inl, inr, ⊎_elim, le_refl, lt_of_not-le, arith}
+use Rattle.std.proofs.Common.{◌≡◌, ℕ, ◌+◌, ◌*◌, ◌<◌, ◌≤◌, ◌≢◌, ◌⊎◌, true, false, List, [], ◌∷◌, ◌++◌, length, get_or, set, sym, refl, ap, ◌∙◌, subst, inl, inr, ⊎_elim, le_refl, lt_of_not-le, arith, length-set}
 use Rattle.std.proofs.lemmas.List.{length-map}
 use mathlib.Core.Logic.{dite}
 use mathlib.Core.Option.{none, some, some-injective}
@@ -17,14 +17,17 @@ use Rattle.nv_words.proofs.SpellLaws.{prefix_length, prefix_same, whole_same, sh
 use Rattle.nv_room.specs.declared.view.View.{View}
 use Rattle.nv_room.specs.declared.view.Plan.{Plan}
 use Rattle.nv_room.specs.declared.view.Role.TheVariants.{Reader, Lead}
+use Rattle.nv_places.specs.Header.{head_index, cursor_index}
+use Rattle.nv_places.specs.Logs.{lane}
 use Rattle.nv_room.specs.Placement.{Log, place_of}
 use Rattle.nv_room.specs.Owner.{GONE, Phase, held, free, closed, is_held, is_free, is_closed, owner_at, lower_marked, noted}
 use Rattle.nv_room.proofs.OwnerLaws.{marked}
-use Rattle.nv_room.specs.Room.{cursor, InRole, Rule}
+use Rattle.nv_room.specs.Room.{cursor, InRole, Live, Notes, Merge, Rule}
 use Rattle.nv_room.specs.Steps.{head_seen, looked_head, owner_seen, looked_owner, word_seen, read_word, cursor_seen, looked_cursor}
 use Rattle.nv_room.proofs.Lists.{at_below, there, at_end, set_or}
 use Rattle.nv_room.proofs.Owners.{Found, found, as_held, as_free, as_closed, noted_is}
 use Rattle.nv_room.proofs.Tiling.{tiles_none}
+use Rattle.nv_room.proofs.Merges.{merge_turned, notes_none}
 use Rattle.nv_room.proofs.Stays.{now, looked}
 use Rattle.nv_room.proofs.Seats.{prefix_more, holder_led, not_holder, not_held, in_role, seated, told}
 
@@ -38,13 +41,19 @@ module _ {K : Type 0} (hist : K → List Entry) (beg : K → Start) (p : Plan K)
   abbrev M : Type 0
   M = Me (Option K) (View K)
 
-  pub looks_head : (slots id : ℕ) (me : M) → Allows RuleOf slots id me 1 (λ x. x) (looked_head (step slots 1 0 0 none) me)
-  looks_head slots id me s r wide at _ = let v = me.0 in let k = r.each_seat id v at in let few : length r.log ≤ 131072 = r.places.log_is_short in let is : get_or s.words 1 0 ≡ length r.log = r.places.head_is_length in (
-    head_seen v (get_or s.words 1 0),
+  -- a look moves no word, so the places tell what they told
+  still : (s : St) (r : RuleOf s) (id : ℕ) (v w : View K) → get_elem? s.views id ≡ some v → (w.role ≡ Lead → w.wrote ≡ r.merge.writing) → (w.role ≡ Reader → Notes r.log w.seen w.noted w.missed) → (Live w.role → length w.floors ≡ p.stations)
+      → Merge p.stations p.places s.words r.log r.phase (set s.views id w)
+  still s r id v w at leads reads wide = merge_turned p.stations p.places s.views id v w at s.words s.words r.log r.phase r.merge (λ _ _. refl) leads reads wide
+
+  pub looks_head : (slots id : ℕ) (me : M) → Allows RuleOf slots id me head_index (λ x. x) (looked_head (step slots head_index 0 0 none) me)
+  looks_head slots id me s r wide at _ = let v = me.0 in let k = r.each_seat id v at in let few : length r.log ≤ 131072 = r.places.log_is_short in let is : get_or s.words head_index 0 ≡ length r.log = r.places.head_is_length in (
+    head_seen v (get_or s.words head_index 0),
     keeps,
     tt,
-    looked hist beg p s r 1 id me.1 v (head_seen v (get_or s.words 1 0)) at refl
-        record { seen_is_prefix = k.seen_is_prefix; read_begins_next = k.read_begins_next; floor_at_most_cursor = k.floor_at_most_cursor; head_seen_at_most_head = omega arith; owner_seen_at_most_head = k.owner_seen_at_most_head; in_role = k.in_role; seated = λ l. let q = k.seated l in record { start_is = q.start_is; places_are = q.places_are; station_is_made = q.station_is_made; spans_are = q.spans_are; unmade_is_new = q.unmade_is_new }; ended_is_told = k.ended_is_told },
+    looked hist beg p s r head_index id me.1 v (head_seen v (get_or s.words head_index 0)) at refl
+        record { seen_is_prefix = k.seen_is_prefix; read_begins_next = k.read_begins_next; floor_at_most_cursor = k.floor_at_most_cursor; head_seen_at_most_head = omega arith; owner_seen_at_most_head = k.owner_seen_at_most_head; in_role = k.in_role; seated = λ l. let q = k.seated l in record { start_is = q.start_is; places_are = q.places_are; station_is_made = q.station_is_made; spans_are = q.spans_are; unmade_is_new = q.unmade_is_new }; ended_is_told = k.ended_is_told }
+        (still s r id v (head_seen v (get_or s.words head_index 0)) at (λ e. r.merge.lead_writes id v at e) (λ e. r.merge.notes id v at e) (λ l. r.merge.floors_wide id v at l)),
     (refl, omega arith, (let q = prefix_length v.seen r.log k.seen_is_prefix in omega arith), (let q = k.owner_seen_at_most_head in omega arith), (let q = k.head_seen_at_most_head in omega arith)),
   )
 
@@ -60,13 +69,13 @@ module _ {K : Type 0} (hist : K → List Entry) (beg : K → Start) (p : Plan K)
   count_or_gone : (len x : ℕ) → len ≤ 131072 → (x ≤ len) ⊎ (x ≡ GONE) → (x ≤ 131072) ⊎ (x ≡ GONE)
   count_or_gone len x few k = ⊎_elim (λ (a : x ≤ len). inl (omega arith)) (λ (e : x ≡ GONE). inr e) k
 
-  pub looks_cursor : (slots id st : ℕ) (me : M) → st < p.stations → Allows RuleOf slots id me (st + 2) (λ x. x) (looked_cursor (step slots (st + 2) 0 0 none) me)
-  looks_cursor slots id st me near s r wide at _ = let v = me.0 in let k = r.each_seat id v at in let x : ℕ = get_or s.words (st + 2) 0 in
+  pub looks_cursor : (slots id st : ℕ) (me : M) → st < p.stations → Allows RuleOf slots id me (cursor_index st) (λ x. x) (looked_cursor (step slots (cursor_index st) 0 0 none) me)
+  looks_cursor slots id st me near s r wide at _ = let v = me.0 in let k = r.each_seat id v at in let x : ℕ = get_or s.words (cursor_index st) 0 in
       let few : length r.log ≤ 131072 = r.places.log_is_short in (
         cursor_seen st v x,
         keeps,
         tt,
-        looked hist beg p s r (st + 2) id me.1 v (cursor_seen st v x) at refl record {
+        looked hist beg p s r (cursor_index st) id me.1 v (cursor_seen st v x) at refl record {
           seen_is_prefix = k.seen_is_prefix;
           read_begins_next = k.read_begins_next;
           floor_at_most_cursor = λ j l. ⊎_elim (λ (e : get_or (set v.floors st x) j 0 ≡ get_or v.floors j 0). subst (λ (z : ℕ). z ≤ cursor s.words j) (sym e) (k.floor_at_most_cursor j l))
@@ -76,8 +85,8 @@ module _ {K : Type 0} (hist : K → List Entry) (beg : K → Start) (p : Plan K)
           in_role = k.in_role;
           seated = λ l. let q = k.seated l in record { start_is = q.start_is; places_are = q.places_are; station_is_made = q.station_is_made; spans_are = q.spans_are; unmade_is_new = q.unmade_is_new };
           ended_is_told = k.ended_is_told;
-        },
-        (count_or_gone (length r.log) x few (r.places.cursor_is_count_or_gone st near), λ j e. let q : st ≡ j = omega arith in (ap (λ (z : ℕ). (cursor_seen z v x, me.1)) q, λ role other. in_window s r id v at role st near (λ h. other (sym q ∙ h)), (let f = subst (λ (z : ℕ). get_or v.floors z 0 ≤ cursor s.words st) q (k.floor_at_most_cursor st near) in f))),
+        } (still s r id v (cursor_seen st v x) at (λ e. r.merge.lead_writes id v at e) (λ e. r.merge.notes id v at e) (λ l. length-set v.floors st x ∙ r.merge.floors_wide id v at l)),
+        (count_or_gone (length r.log) x few (r.places.cursor_is_count_or_gone st near), λ j e. let e' : 8 * (st + 2) ≡ 8 * (j + 2) = e in let q : st ≡ j = omega arith in (ap (λ (z : ℕ). (cursor_seen z v x, me.1)) q, λ role other. in_window s r id v at role st near (λ h. other (sym q ∙ h)), (let f = subst (λ (z : ℕ). get_or v.floors z 0 ≤ cursor s.words st) q (k.floor_at_most_cursor st near) in f))),
       )
 
   -- Reading the owner word
@@ -140,7 +149,7 @@ module _ {K : Type 0} (hist : K → List Entry) (beg : K → Start) (p : Plan K)
           };
           seated = λ g. let q = kn.seated g in record { start_is = q.start_is; places_are = q.places_are; station_is_made = q.station_is_made; spans_are = q.spans_are; unmade_is_new = q.unmade_is_new };
           ended_is_told = kn.ended_is_told;
-        },
+        } (still s r id v v' at (λ e. r.merge.lead_writes id v at e) (λ e. r.merge.notes id v at e) (λ l. r.merge.floors_wide id v at l)),
         (
           refl,
           record {
@@ -158,15 +167,15 @@ module _ {K : Type 0} (hist : K → List Entry) (beg : K → Start) (p : Plan K)
 
   -- Reading a word of a place
 
-  pub reads_word : (slots id k : ℕ) (me : M) → me.0.role ≡ Reader → ¬ IsWhole me.0.read → length me.0.seen < me.0.head_last → ((log : Log) → Prefix me.0.seen log → k ≡ place_of p.stations p.places log (length me.0.seen) (length me.0.read))
+  pub reads_word : (slots id k l : ℕ) (me : M) → me.0.role ≡ Reader → ¬ IsWhole me.0.read → me.0.noted ≡ Some l → ((log : Log) → Prefix me.0.seen log → l ≡ lane log (length me.0.seen) → k ≡ place_of p.stations p.places log (length me.0.seen) (length me.0.read))
       → Allows RuleOf slots id me k (λ x. x) (read_word (step slots k 0 0 none) me)
-  reads_word slots id k me role part before is s r wide at _ = let v = me.0 in let n : ℕ = p.stations in let c : ℕ = p.places in let kn = r.each_seat id v at in let m : ℕ = length v.seen in
-      let hd : v.head_last ≤ length r.log = kn.head_seen_at_most_head in let got = there r.log m (omega arith) in let e : List ℕ = got.0 in let ir = in_role hist beg p s r id v at Reader role in let se = seated hist beg p s r id v at Reader role tt in
+  reads_word slots id k l me role part before is s r wide at _ = let v = me.0 in let n : ℕ = p.stations in let c : ℕ = p.places in let kn = r.each_seat id v at in let m : ℕ = length v.seen in
+      let nt = (r.merge.notes id v at role).noted_is_next l before in let got = there r.log m nt.0 in let e : List ℕ = got.0 in let ir = in_role hist beg p s r id v at Reader role in let se = seated hist beg p s r id v at Reader role tt in
       let rd : Prefix v.read e = λ j x f. let y = kn.read_begins_next j x f in subst (λ (z : List ℕ). get_elem? z j ≡ some x) (some-injective y.0 e (sym y.1 ∙ got.1)) y.2 in
       let wh = r.places.event_is_whole m e got.1 in let nx = there e (length v.read) (shorter v.read e rd wh.0 part) in let x : ℕ = get_or s.words k 0 in
       let le : cursor s.words v.station ≤ m = subst (λ (z : ℕ). z ≤ m) (sym ir.cursor_is_length) (le_refl m) in
       let other : v.station ≢ r.holder = not_holder (now hist beg p s r) v.station r.led ir.led_nothing (omega arith) in
-      let found : x ≡ nx.0 = ap (λ (z : ℕ). get_or s.words z 0) (is r.log kn.seen_is_prefix) ∙ r.places.unread_stands m v.station e other se.station_is_made le got.1 (length v.read) nx.0 nx.1 in
+      let found : x ≡ nx.0 = ap (λ (z : ℕ). get_or s.words z 0) (is r.log kn.seen_is_prefix nt.1) ∙ r.places.unread_stands m v.station e other se.station_is_made le got.1 (length v.read) nx.0 nx.1 in
       let y = there r.events m (let q = ap length r.log_is_spelt in let g = at_below r.log m e got.1 in omega (arith, length-map r.events spell)) in
       let spells : e ≡ spell y.0 = some-injective e (spell y.0) (sym got.1 ∙ subst (λ (z : Log). get_elem? z m ≡ some (spell y.0)) r.log_is_spelt (at_map spell r.events m y.0 y.1)) in
       let more : Prefix (v.read ++ x ∷ []) e = λ j y' f. ⊎_elim (λ (g : get_elem? v.read j ≡ some y'). rd j y' g)
@@ -175,7 +184,8 @@ module _ {K : Type 0} (hist : K → List Entry) (beg : K → Start) (p : Plan K)
         keeps,
         tt,
         looked hist beg p s r k id me.1 v (word_seen v x) at refl
-            record { seen_is_prefix = kn.seen_is_prefix; read_begins_next = λ j y f. (e, got.1, more j y f); floor_at_most_cursor = kn.floor_at_most_cursor; head_seen_at_most_head = kn.head_seen_at_most_head; owner_seen_at_most_head = kn.owner_seen_at_most_head; in_role = subst (InRole n c (now hist beg p s r) v.station v.seen (v.read ++ x ∷ []) v.wrote v.freed) (sym role) ir; seated = λ l. let q = kn.seated l in record { start_is = q.start_is; places_are = q.places_are; station_is_made = q.station_is_made; spans_are = q.spans_are; unmade_is_new = q.unmade_is_new }; ended_is_told = kn.ended_is_told },
+            record { seen_is_prefix = kn.seen_is_prefix; read_begins_next = λ j y f. (e, got.1, more j y f); floor_at_most_cursor = kn.floor_at_most_cursor; head_seen_at_most_head = kn.head_seen_at_most_head; owner_seen_at_most_head = kn.owner_seen_at_most_head; in_role = subst (InRole n c (now hist beg p s r) v.station v.seen (v.read ++ x ∷ []) v.wrote v.freed) (sym role) ir; seated = λ l. let q = kn.seated l in record { start_is = q.start_is; places_are = q.places_are; station_is_made = q.station_is_made; spans_are = q.spans_are; unmade_is_new = q.unmade_is_new }; ended_is_told = kn.ended_is_told }
+            (still s r id v (word_seen v x) at (λ e. r.merge.lead_writes id v at e) (λ e. r.merge.notes id v at e) (λ l. r.merge.floors_wide id v at l)),
         (
           refl,
           (y.0, lawful_range r.events m y.0 r.log_is_lawful y.1, subst (λ (z : List ℕ). Prefix (v.read ++ x ∷ []) z) spells more),

@@ -2,7 +2,7 @@
 use Rattle.std.proofs.Common.{refl, suc, take, get_or, lt_of_not-le, Some, ◌≡◌, ℕ, ◌+◌, ◌<◌, ◌≤◌, List, [], ◌∷◌, ◌++◌, map, length, sym, ap, ◌∙◌, subst, arith, length-append}
 use Rattle.std.specs.Prelude.{slice_get}
 use Rattle.std.proofs.lemmas.List.{length-map, take_all, take_more}
-use Rattle.std.proofs.lemmas.Option.{slice_get_within, get_or_from_slice_get}
+use Rattle.std.proofs.lemmas.Option.{same_Some, slice_get_within, get_or_from_slice_get}
 use Rattle.std.proofs.Math.ListN.{get_or-eq_default}
 use mathlib.Core.Logic.{dite}
 use native.Mathlib.Decide.{dec_le}
@@ -11,11 +11,12 @@ use lib.ListN.{get_elem?}
 use Rattle.atomic_table.proofs.Lists.{at_map, at_last}
 use Rattle.nv_calls.specs.Calls.{Entry}
 use Rattle.nv_calls.specs.Logs.{IsLawful}
-use Rattle.nv_calls.specs.LogLaws.{lawful_range, lawful_few}
-use Rattle.nv_words.specs.Spell.{spell, IsWhole}
+use Rattle.nv_calls.specs.LogLaws.{lawful_range, lawful_few, slice_some}
+use Rattle.nv_words.specs.Spell.{spell, IsWhole, low, pair, bit}
+use Rattle.nv_places.proofs.StampLaws.{number_word}
 use Rattle.nv_words.specs.Begins.{Begins}
 use Rattle.nv_words.proofs.SpellLaws.{spell_whole, shorter}
-use Rattle.nv_room.specs.Kept.{HasNext}
+use Rattle.nv_room.specs.Kept.{HasNext, AreOf}
 use Rattle.nv_room.specs.Placement.{Log}
 use Rattle.nv_room.proofs.Lists.{there, at_get}
 
@@ -38,11 +39,22 @@ served_all xs ws n h = let k : suc (length xs) ≡ n + 1 = omega arith in subst 
 pub no_words : (h : List Entry) (n : ℕ) → length h ≡ n → get_or (map spell h) n [] ≡ []
 no_words h n long = get_or-eq_default (map spell h) [] (omega (arith, length-map h spell))
 
+are_none : (n : ℕ) → AreOf n []
+are_none n = record { few = omega arith; number_is = λ x e. cc }
+
+-- where no event is due
+pub none_due : (h : List Entry) (n : ℕ) → length h ≡ n → AreOf n (get_or (map spell h) n [])
+none_due h n long = subst (AreOf n) (sym (no_words h n long)) (are_none n)
+
 -- the words of an event of a lawful history, where there is this event
-pub few_words : (h : List Entry) (n : ℕ) → IsLawful h → length (get_or (map spell h) n []) ≤ 518
-few_words h n law = dite (dec_le (length h) n)
-    (λ le. subst (λ (z : List ℕ). length z ≤ 518) (sym (get_or-eq_default (map spell h) [] (let l = length-map h spell in let q : length (map spell h) ≤ n = omega arith in q))) (omega arith))
-    (λ gt. let y = there h n (lt_of_not-le gt) in subst (λ (z : List ℕ). length z ≤ 518) (sym (at_get (map spell h) n (spell y.0) [] (at_map spell h n y.0 y.1))) (spell_whole y.0 (lawful_range h n y.0 law y.1)).1)
+pub due_words_are : (h : List Entry) (n : ℕ) → IsLawful h → AreOf n (get_or (map spell h) n [])
+due_words_are h n law = dite (dec_le (length h) n)
+    (λ le. subst (AreOf n) (sym (get_or-eq_default (map spell h) [] (let l = length-map h spell in let q : length (map spell h) ≤ n = omega arith in q))) (are_none n))
+    (λ gt. let y = there h n (lt_of_not-le gt) in let e : Entry = y.0 in let may = law n e (slice_some h n e y.1) in let w = number_word e may.range in
+    subst (AreOf n) (sym (at_get (map spell h) n (spell e) [] (at_map spell h n e y.1))) record {
+      few = (spell_whole e (lawful_range h n e law y.1)).1;
+      number_is = λ x at. ap low (same_Some x (pair e.stamp (bit e.call.bad)) (sym at ∙ slice_some (spell e) 1 (pair e.stamp (bit e.call.bad)) w.0)) ∙ w.1 ∙ may.stamp;
+    })
 
 -- the word i is one of at most so many
 pub word_near : (ws : List ℕ) (i x : ℕ) → slice_get ws i ≡ Some x → length ws ≤ 518 → i < 518

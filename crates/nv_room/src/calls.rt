@@ -4,6 +4,8 @@ ghost use Rattle.nv_calls.specs.Calls.{request};
 ghost use Rattle.nv_calls.specs.Logs.{served, live_after, IsLawful};
 ghost use Rattle.nv_calls.specs.Shapes.{IsShaped};
 ghost use Rattle.nv_room.specs.Seats.{view, lead_view, station_of_reader, station_of_lead, stations_of, places_of, kernel_of, due_of, SameLead};
+ghost use Rattle.nv_lanes.specs.Lanes.{lives};
+ghost use Rattle.nv_places.specs.Logs.{lanes_after};
 
 use crate::room::{Lead, Reader, Room};
 use nv_calls::{Call, SyscallKernel};
@@ -78,6 +80,14 @@ impl<K: SyscallKernel> Lead<K> {
 }
 
 impl<K: SyscallKernel> Reader<K> {
+    /// Whether some thread has the lane after the events seen, or it is lane 0.
+    pub fn lives(&self, lane: u32) -> bool
+        requires { lane < 8 }
+        ensures { result ≡ lives (lanes_after (view self.now).seen) lane }
+    {
+        self.trail.lanes.lives(lane)
+    }
+
     /// How many events it has seen.
     pub fn seen(&self) -> u32
         ensures count { length (view self.now).seen ≡ result }

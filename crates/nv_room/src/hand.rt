@@ -8,7 +8,7 @@ ghost use Rattle.nv_room.specs.Seats.{IsOfRoom, IsLeadOf, IsLeavingOf, IsLeftOf,
 
 use crate::plays::{GiveUp, Leave, Take};
 use crate::room::{Lead, Leaving, Left, Reader, Room, STATIONS};
-use crate::steps::{FIRST_CURSOR, GONE, OWNER};
+use crate::steps::{FIRST_CURSOR, GONE, LINE, OWNER};
 use nv_calls::SyscallKernel;
 
 const HELD: u64 = 1;
@@ -75,6 +75,7 @@ impl<K: SyscallKernel> Room<K> {
             due: _,
             floors: _,
             next: _,
+            trail: _,
         } = lead;
         let inside = self.table.shared.exchange(&mut seat, 0, Some(kernel));
         match inside {
@@ -106,13 +107,14 @@ impl<K: SyscallKernel> Room<K> {
             seen,
             read: _,
             head: _,
+            trail,
+            place: _,
         } = reader;
         self.table
             .shared
             .store::<Take<K>>(&mut seat, OWNER, station as u64 * 4 + HELD);
         let inside = self.table.shared.exchange(&mut seat, 0, None);
         let Some(kernel) = inside else { unreachable!() };
-        let next = self.place(seen, 0);
         Lead {
             seat,
             kernel,
@@ -121,7 +123,8 @@ impl<K: SyscallKernel> Room<K> {
             wrote: 0,
             due: false,
             floors: [0; STATIONS],
-            next,
+            next: 0,
+            trail,
         }
     }
 
@@ -139,7 +142,7 @@ impl<K: SyscallKernel> Room<K> {
         } = seat;
         self.table
             .shared
-            .store::<Leave>(&mut inner, station as usize + FIRST_CURSOR, GONE);
+            .store::<Leave>(&mut inner, LINE * (station as usize + FIRST_CURSOR), GONE);
         Left {
             seat: inner,
             station,
@@ -160,10 +163,12 @@ impl<K: SyscallKernel> Room<K> {
             seen,
             read: _,
             head: _,
+            trail: _,
+            place: _,
         } = reader;
         self.table
             .shared
-            .store::<Leave>(&mut seat, station as usize + FIRST_CURSOR, GONE);
+            .store::<Leave>(&mut seat, LINE * (station as usize + FIRST_CURSOR), GONE);
         Left {
             seat,
             station,

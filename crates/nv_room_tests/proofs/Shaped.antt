@@ -24,3 +24,13 @@ pub write-shaped : (tid count : ℕ) (bytes : List ℕ) → length bytes ≡ cou
     → IsShaped (record { tid = tid; nr = 64; args = 1 ∷ 0 ∷ count ∷ 0 ∷ 0 ∷ 0 ∷ []; bad = false; payload = bytes })
 unfolding is_shaped syscall_of is_local
 write-shaped tid count bytes e few = let all : (length bytes == min count 4096) ≡ true = grind (arith, nat_tests) in rw all refl
+
+-- a call of clone without addresses
+pub clone-shaped : (tid flags : ℕ) → IsShaped (record { tid = tid; nr = 220; args = flags ∷ 0 ∷ 0 ∷ 0 ∷ 0 ∷ 0 ∷ []; bad = false; payload = [] })
+unfolding is_shaped syscall_of is_local
+clone-shaped tid flags = refl
+
+-- whatever the thread
+pub any-thread : (c : Request) (tid : ℕ) → IsShaped c → IsShaped (record c { tid = tid })
+unfolding is_shaped
+any-thread c tid h = h

@@ -13,6 +13,11 @@ const WRITE: u32 = 64;
 
 const GETUID: u32 = 174;
 
+const CLONE: u32 = 220;
+
+// CLONE_VM, CLONE_FS, CLONE_FILES, CLONE_SIGHAND and CLONE_THREAD (clone(2)): a thread.
+const THREAD: u32 = 0x10F00;
+
 const EXIT_GROUP: u32 = 94;
 
 /// A kernel over the script without a line.
@@ -41,6 +46,30 @@ pub fn exit_group(alloc: Global) -> Result<Call, AllocError>
     ensures ends { IfOk result (λ c. c.nr ≡ 94) }
 {
     call(alloc, EXIT_GROUP)
+}
+
+/// The first thread makes another.
+pub fn clone(alloc: Global) -> Result<Call, AllocError>
+    ensures shaped { IfOk result (λ c. IsShaped (request c)) }
+    ensures first { IfOk result (λ c. c.tid ≡ 100) }
+{
+    let payload = Bytes::make(alloc, 0)?;
+    Ok(Call {
+        tid: 100,
+        nr: CLONE,
+        args: [THREAD, 0, 0, 0, 0, 0],
+        bad: false,
+        payload,
+    })
+}
+
+/// The call, made by this thread.
+pub fn of_thread(call: Call, tid: u32) -> Call
+    requires shaped { IsShaped (request call) }
+    ensures shaped { IsShaped (request result) }
+    ensures thread { result ≡ record call { tid = tid } }
+{
+    Call { tid, ..call }
 }
 
 fn call(alloc: Global, nr: u32) -> Result<Call, AllocError>

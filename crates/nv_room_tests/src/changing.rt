@@ -10,8 +10,9 @@ ghost use Rattle.nv_room_tests.specs.Backs.{IsIdle};
 
 use crate::running::publish_one;
 use nv_calls::{Call, Event, SyscallKernel};
+use nv_lamport::{Polled, poll_merged};
 use nv_promotion::{Lower, close, leave, lower_gone, retire, take};
-use nv_ring::{Polled, advance, poll};
+use nv_ring::advance;
 use nv_room::{Ended, Lead, Left, Reader, Room};
 use nv_words::EventBuf;
 use std::alloc::{AllocError, Global};
@@ -129,7 +130,7 @@ fn reads_to_end<K: SyscallKernel>(
     if !read_some(room, &mut third, buf, 1) {
         return None;
     }
-    match poll(&mut third, room, buf) {
+    match poll_merged(&mut third, room, buf) {
         Polled::Closed(5) => Some(leave(third, room)),
         _ => None,
     }
@@ -176,7 +177,7 @@ fn read_some<K: SyscallKernel>(
     ensures station { station_of_reader reader.new ≡ station_of_reader reader.old }
 {
     for _event in 0..count {
-        match poll(reader, room, buf) {
+        match poll_merged(reader, room, buf) {
             Polled::Event => advance(reader, room),
             _ => return false,
         }
@@ -196,13 +197,13 @@ fn take_over<K: SyscallKernel>(
     ensures due { IfSome result (λ l. due_of l ≡ false) }
     ensures station { IfSome result (λ l. station_of_lead l ≡ station_of_reader reader) }
 {
-    let Polled::Free(3) = poll(&mut reader, room, buf) else {
+    let Polled::Free(3) = poll_merged(&mut reader, room, buf) else {
         return None;
     };
     let Lower::AllGone = lower_gone(&mut reader, room) else {
         return None;
     };
-    let Polled::Free(3) = poll(&mut reader, room, buf) else {
+    let Polled::Free(3) = poll_merged(&mut reader, room, buf) else {
         return None;
     };
     Some(take(reader, room))

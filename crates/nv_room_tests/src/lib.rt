@@ -1,6 +1,7 @@
 //! Rooms that threads run: one publishes and the others read, or each leads in its turn; and a change of leader step by step.
 #![tactic(auto)]
 
+mod alternating;
 mod calls;
 mod changing;
 mod relaying;
@@ -8,7 +9,8 @@ mod running;
 #[cfg(test)]
 mod tests;
 
-pub use calls::{exit_group, getuid, kernel, write};
+pub use alternating::{Pair, run_pair};
+pub use calls::{clone, exit_group, getuid, kernel, of_thread, write};
 pub use changing::change_leader;
 pub use relaying::{Relay, all_cross, run_relay};
 pub use running::{Script, run, serve_all};

@@ -11,8 +11,9 @@ ghost use Rattle.nv_room_tests.specs.Backs.{IsIdle, LeftInOrder};
 use crate::changing::{goes_on, publish_some};
 use crate::running::publish_one;
 use nv_calls::{Call, SyscallKernel};
+use nv_lamport::{Polled, poll_merged};
 use nv_promotion::{Lower, close, leave, lower_gone, retire, take};
-use nv_ring::{Polled, advance, poll};
+use nv_ring::advance;
 use nv_room::{Ended, Lead, Leaving, Left, Reader, Room};
 use nv_words::EventBuf;
 use std::alloc::{AllocError, Global};
@@ -124,7 +125,7 @@ fn follow<K: SyscallKernel>(
         return leave(reader, room);
     };
     for _turn in 0..script.most {
-        match poll(&mut reader, room, &mut buf) {
+        match poll_merged(&mut reader, room, &mut buf) {
             Polled::Event => advance(&mut reader, room),
             Polled::Waiting => yield_now(),
             Polled::Closed(_) => return leave(reader, room),
@@ -149,7 +150,7 @@ fn may_take<K: SyscallKernel>(room: &Room<K>, reader: &mut Reader<K>, buf: &mut 
     let Lower::AllGone = lower_gone(reader, room) else {
         return false;
     };
-    match poll(reader, room, buf) {
+    match poll_merged(reader, room, buf) {
         Polled::Free(_) => true,
         Polled::Event => {
             advance(reader, room);

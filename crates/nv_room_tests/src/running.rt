@@ -10,8 +10,9 @@ ghost use Rattle.nv_room_tests.specs.Going.{GoesOn};
 ghost use Rattle.nv_room_tests.specs.Backs.{InOrder};
 
 use nv_calls::{Call, Event, SyscallKernel, same};
+use nv_lamport::{Polled, poll_merged};
 use nv_promotion::{leave, retire};
-use nv_ring::{Placed, Polled, advance, place, poll, publish};
+use nv_ring::{Placed, advance, place, publish};
 use nv_room::{Ended, Lead, Reader, Room};
 use nv_words::EventBuf;
 use std::alloc::{AllocError, Global};
@@ -67,7 +68,7 @@ pub fn run<R: Threads + Sync, K: SyscallKernel>(
 }
 
 // The lead retires, the readers leave, and the room ends.
-fn end<K: SyscallKernel>(
+pub(crate) fn end<K: SyscallKernel>(
     alloc: Global,
     room: Room<K>,
     lead: Lead<K>,
@@ -192,7 +193,7 @@ pub fn read_all<K: SyscallKernel>(
 }
 
 // Polls until there is an event, or no idle turn is left.
-fn wait_for_event<K: SyscallKernel>(
+pub(crate) fn wait_for_event<K: SyscallKernel>(
     room: &Room<K>,
     reader: &mut Reader<K>,
     buf: &mut EventBuf,
@@ -205,7 +206,7 @@ fn wait_for_event<K: SyscallKernel>(
     ensures whole { OnTrue result (IsWhole buf.new × IsWhole (view reader.new).read) }
 {
     while *idle > 0 {
-        match poll(reader, room, buf) {
+        match poll_merged(reader, room, buf) {
             Polled::Event => return true,
             Polled::Waiting => yield_now(),
             Polled::Free(_) | Polled::Closed(_) => return false,

@@ -1,6 +1,7 @@
 ghost use Rattle.std.specs.Prelude.{◌<◌, ◌≤◌};
 
-use crate::calls::{exit_group, getuid, kernel};
+use crate::alternating::{Pair, run_pair};
+use crate::calls::{clone, exit_group, getuid, kernel, of_thread};
 use crate::changing::change_leader;
 use crate::relaying::{Relay, run_relay};
 use crate::running::{Script, run};
@@ -84,4 +85,38 @@ fn each_leads_in_its_turn(rt: HostRuntime) {
         ended.seen.as_slice(),
         [3, 6, 9, 12, 15, 18, 21, 25].as_slice()
     );
+}
+
+// Thread 100 makes thread 101, their calls alternate 50 times, and exit_group ends both: each reader has the 102 events in order.
+fn two_threads_alternate<R: Threads + Sync + Abort>(
+    rt: &R,
+    alloc: Global,
+    versions: u32,
+    places: u32,
+)
+    requires versions { (0 < versions) × (versions ≤ 8) }
+    requires places { (2 ≤ places) × (places ≤ 1024) }
+{
+    let call = getuid(alloc).expect(rt, "memory");
+    let pair = Pair {
+        clone: clone(alloc).expect(rt, "memory"),
+        first: getuid(alloc).expect(rt, "memory"),
+        second: of_thread(call, 101),
+        last: exit_group(alloc).expect(rt, "memory"),
+        times: 50,
+        most: 10_000_000,
+    };
+    let kernel = kernel(alloc).expect(rt, "memory");
+    let ended = run_pair(rt, alloc, kernel, &pair, versions, places).expect(rt, "memory");
+    assert_eq!(rt; ended.seen.len(), versions as usize);
+    for seen in ended.seen.iter() {
+        assert_eq!(rt; *seen, 102);
+    }
+}
+
+#[test]
+fn two_threads(rt: HostRuntime) {
+    two_threads_alternate(&rt, rt.alloc(), 2, 2);
+    two_threads_alternate(&rt, rt.alloc(), 3, 2);
+    two_threads_alternate(&rt, rt.alloc(), 4, 16);
 }

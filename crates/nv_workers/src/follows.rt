@@ -13,7 +13,8 @@ use nv_calls::SyscallKernel;
 use nv_outside::Gate;
 use nv_promotion::{Lower, lower_gone};
 use nv_replay::{Followed, Version};
-use nv_ring::{Polled, advance, poll};
+use nv_lamport::{Polled, poll_merged};
+use nv_ring::advance;
 use nv_room::{Reader, Room};
 use nv_words::EventBuf;
 
@@ -80,7 +81,7 @@ fn find_event<K: SyscallKernel>(reader: &mut Reader<K>, room: &Room<K>, buf: &mu
     ensures same { SameReader reader.old reader.new }
     ensures found { IsFound (view reader.old) (view reader.new) buf.new result }
 {
-    match poll(reader, room, buf) {
+    match poll_merged(reader, room, buf) {
         Polled::Event => return Found::Event,
         Polled::Waiting => return Found::Held,
         Polled::Free(_) => {}
@@ -90,7 +91,7 @@ fn find_event<K: SyscallKernel>(reader: &mut Reader<K>, room: &Room<K>, buf: &mu
         Lower::Alive(_) => return Found::Held,
         Lower::AllGone => {}
     }
-    match poll(reader, room, buf) {
+    match poll_merged(reader, room, buf) {
         Polled::Event => Found::Event,
         Polled::Free(_) => Found::Free,
         Polled::Waiting | Polled::Closed(_) => unreachable!(),

@@ -5,15 +5,15 @@ use mathlib.Core.List.{map-append}
 use Rattle.nv_calls.specs.Calls.{Entry, request}
 use Rattle.nv_calls.specs.Logs.{served}
 use Rattle.nv_words.specs.Spell.{spell, bit}
-use Rattle.nv_room.proofs.Served.{few_words}
+use Rattle.nv_room.proofs.Served.{due_words_are}
 use Rattle.nv_room.proofs.room.Lead.serve.Goals as goal
 
 pub invariant_of-self-clause-part : goal.invariant_of-self-clause-part
 invariant_of-self-clause-part g c = let l = c.args.self.now in let none : l.wrote ≡ 0 = l.quiet c.requires.none_due in
     nil_from_length _ (l.wrote_is ∙ none) ∙ ap (λ (z : ℕ). take z (get_or (map spell (g.K.SyscallKernel.log c.serve.new.self)) l.seen [])) (sym none)
 
-pub invariant_of-self-clause-short : goal.invariant_of-self-clause-short
-invariant_of-self-clause-short g c = few_words _ c.args.self.now.seen c.history-log.ensures.lawful
+pub invariant_of-self-clause-next_words : goal.invariant_of-self-clause-next_words
+invariant_of-self-clause-next_words g c = due_words_are _ c.args.self.now.seen c.history-log.ensures.lawful
 
 pub invariant_of-self-clause-history : goal.invariant_of-self-clause-history
 invariant_of-self-clause-history g c = let l = c.args.self.now in let h : List Entry = g.K.SyscallKernel.log l.kernel in let x : Entry = served (g.K.SyscallKernel.start l.kernel) h (request c.args.call.now) in

@@ -5,10 +5,10 @@ use Rattle.std.proofs.lemmas.List.{length-map, take_all}
 use Rattle.std.proofs.lemmas.Option.{same_Some}
 use Rattle.atomic_table.specs.Table.{rest}
 use Rattle.nv_words.specs.Spell.{spell}
-use Rattle.nv_room.specs.Placement.{place_of}
+use Rattle.nv_places.specs.Logs.{lanes_after}
 use Rattle.nv_room.specs.Owner.{owner_word, held}
 use Rattle.nv_room.proofs.Placement.{header_inside}
-use Rattle.nv_room.proofs.Served.{same_head, no_words}
+use Rattle.nv_room.proofs.Served.{same_head, none_due}
 use Rattle.nv_room.proofs.Hands.{takes_lead}
 use Rattle.nv_room.proofs.room.Room.take_step.Goals as goal
 
@@ -50,10 +50,11 @@ invariant_of-result g c = let r = c.args.reader in let t = c.store.ensures.2 in 
       wrote_is = ap (λ w. length w.wrote) v ∙ ap length t.4;
       quiet = λ z. refl;
       part = ap (λ w. w.wrote) v ∙ t.4;
-      short = subst (λ (z : List ℕ). length z ≤ 518) (sym (no_words h r.seen long)) (omega arith);
+      next_words = none_due h r.seen long;
       few = (r.few, omega arith);
       floors_are = λ s b. zeros s c.exchange-inside.new.seat.me.0.floors;
-      next_is = c.place-next.ensures ∙ (λ j. place_of (sym (ap (λ w. length w.floors) v ∙ o.3) j) (sym (ap (λ w. w.places) v ∙ o.2) j) [] r.seen 0);
+      next_is = λ w. absurd (let q = ap (λ z. length z.wrote) v in let t' = ap length t.4 in omega arith);
+      trail_is = record { lanes = r.trail_is.lanes ∙ ap lanes_after (sym (ap (λ w. w.seen) v)); first = λ w. absurd (let q = ap (λ z. length z.wrote) v in let t' = ap length t.4 in omega arith); sixth = λ w. absurd (let q = ap (λ z. length z.wrote) v in let t' = ap length t.4 in omega arith) };
       history = take_all r.seen (map spell h) (omega (arith, length-map h spell)) ∙ tells ∙ sym (ap (λ w. w.seen) v);
       longer = long ∙ sym (add-zero r.seen);
       began = subst (λ w. ForSome w.start (λ s. g.K.SyscallKernel.start c.in-Some.kernel ≡ g.K.SyscallKernel.start s.value)) (sym v) (subst (λ z. ForSome r.seat.me.0.start (λ s. g.K.SyscallKernel.start z ≡ g.K.SyscallKernel.start s.value)) same t.3);

@@ -1,11 +1,12 @@
 use Rattle.std.proofs.Common.{arith, sym, ap, subst, ◌∙◌, ◌≡◌, ◌<◌, ◌+◌, ◌++◌, ◌∷◌, [], ℕ, List, length, length-append}
+use Rattle.std.specs.Prelude.{IsSome}
 use Rattle.nv_words.specs.Begins.{Begins}
 use Rattle.nv_words.specs.Spell.{IsWhole}
 use Rattle.nv_room.specs.Steps.{Tells}
 use Rattle.nv_room.specs.Seats.{view}
-use Rattle.nv_ring.proofs.Events.{begins_short}
-use Rattle.nv_ring.proofs.Keeping.{keeps_reading}
-use Rattle.nv_ring.proofs.reads.read_event.Goals as goal
+use Rattle.nv_lamport.proofs.Reading.{begins_short}
+use Rattle.nv_lamport.proofs.Keeping.{keeps_reading}
+use Rattle.nv_lamport.proofs.reads.read_event.Goals as goal
 
 pub loop-i-preserved : goal.loop-i-preserved
 loop-i-preserved g c = let i = c.loop-i.invariant in let e = c.read_word-word.ensures in let v = e.view in let now = c.in-More.ensures.words in
@@ -16,6 +17,7 @@ loop-i-preserved g c = let i = c.loop-i.invariant in let e = c.read_word-word.en
       of = e.of;
       kept = keeps_reading _ _ c.read_word-word.result _ v i.kept;
       ahead = subst (λ w. length w.seen < w.head_last) (sym v) i.ahead;
+      noted = subst (λ w. IsSome w.noted) (sym v) i.noted;
       read = read;
       at = at;
       part = c.in-More.ensures.whole;

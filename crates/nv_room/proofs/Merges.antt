@@ -1,0 +1,119 @@
+-- What the places tell of the order of events stays, whatever a seat does.
+use Rattle.std.proofs.Common.{◌≡◌, ℕ, ◌+◌, ◌%◌, ◌<◌, ◌≤◌, ◌≢◌, ◌⊎◌, List, [], ◌∷◌, ◌++◌, length, take, get_or, set, sym, refl, ap, ◌∙◌, subst, inl, inr, ⊎_elim, mod-lt, arith, length-append, get_or-set_other, get_or-set_same}
+use mathlib.Core.Logic.{dite}
+use native.Mathlib.Decide.{ℕ_discrete}
+use mathlib.Core.Option.{some, some-injective, some-ne-none}
+use lib.ListN.{get_elem?}
+use Rattle.std.specs.Prelude.{Option, Some, None}
+use Rattle.std.proofs.lemmas.Option.{same_Some}
+use Rattle.atomic_table.proofs.Lists.{at_set}
+use Rattle.nv_words.specs.Spell.{low}
+use Rattle.nv_places.specs.Logs.{lane, earlier}
+use Rattle.nv_places.proofs.LogLaws.{lane_stays, lane_below_8}
+use Rattle.nv_places.specs.Stamps.{Stamp, Stamps}
+use Rattle.nv_places.proofs.StampLaws.{stamps_first, stamps_more, stamps_second, stamps_published}
+use Rattle.nv_room.specs.declared.view.View.{View}
+use Rattle.nv_room.specs.declared.view.Role.{Role}
+use Rattle.nv_room.specs.declared.view.Role.TheVariants.{Reader, Lead, Leaving, Gone, Spent}
+use Rattle.nv_room.specs.Placement.{Log, header, slot, place_of}
+use Rattle.nv_room.specs.Owner.{Phase, held}
+use Rattle.nv_room.specs.Room.{Has, Live, Notes, Merge, second}
+use Rattle.nv_room.proofs.Lists.{at_end}
+use Rattle.nv_room.proofs.Placement.{slot_behind, slots_apart, place_is_slot}
+
+-- a word before the places
+pub second_kept : (n c k x : ℕ) (ws : List ℕ) → k < header n → (l j : ℕ) → second n c (set ws k x) l j ≡ second n c ws l j
+second_kept n c k x ws h l j = get_or-set_other ws k (slot n c l j 1) x 0 (slot_behind n c l j 1 k h)
+
+pub stamps_same : (c : ℕ) (f g : ℕ → ℕ → ℕ) (log : Log) (w : List ℕ) → ((l k : ℕ) → g l k ≡ f l k) → Stamps c f log w → Stamps c g log w
+stamps_same c f g log w same s l k a b = subst (λ (z : ℕ). Stamp log w l (low z)) (sym (same l k)) (s l k a b)
+
+pub notes_none : (log seen : Log) → Notes log seen None []
+notes_none log seen = record { noted_is_next = λ l e. cc; missed_is_not = λ l h. absurd (some-ne-none l (sym h.1)) }
+
+pub notes_stay : (log more seen : Log) (noted : Option ℕ) (missed : List ℕ) → Notes log seen noted missed → Notes (log ++ more) seen noted missed
+notes_stay log more seen noted missed k = let n = length-append log more in record {
+  noted_is_next = λ l e. let a = k.noted_is_next l e in ((let q = a.0 in omega arith), a.1 ∙ sym (lane_stays log more (length seen) a.0));
+  missed_is_not = λ l h. let a = k.missed_is_not l h in ((let q = a.0 in omega arith), λ e. a.1 (e ∙ lane_stays log more (length seen) a.0));
+}
+
+module _ {T : Type 0} (n c : ℕ) (views : List (View T)) (id : ℕ) (v w : View T) (at : get_elem? views id ≡ some v) where
+  -- the view of the seat id changes, and no word of a place
+  pub merge_turned : (ws ws' : List ℕ) (log : Log) (phase : Phase) (m : Merge n c ws log phase views) → ((l k : ℕ) → second n c ws' l k ≡ second n c ws l k)
+      → (w.role ≡ Lead → w.wrote ≡ m.writing) → (w.role ≡ Reader → Notes log w.seen w.noted w.missed) → (Live w.role → length w.floors ≡ n) → Merge n c ws' log phase (set views id w)
+  merge_turned ws ws' log phase m same leads reads wide = record {
+    writing = m.writing;
+    stamps = stamps_same c (second n c ws) (second n c ws') log m.writing same m.stamps;
+    lead_writes = λ j u e role. ⊎_elim
+        (λ (y : (j ≡ id) × (w ≡ u)). ap (λ (z : View T). z.wrote) (sym y.1) ∙ leads (ap (λ (z : View T). z.role) y.1 ∙ role))
+        (λ (y : (j ≢ id) × (get_elem? views j ≡ some u)). m.lead_writes j u y.1 role)
+        (at_set views id j w u e);
+    not_held = m.not_held;
+    notes = λ j u e role. ⊎_elim
+        (λ (y : (j ≡ id) × (w ≡ u)). subst (λ (z : View T). Notes log z.seen z.noted z.missed) y.1 (reads (ap (λ (z : View T). z.role) y.1 ∙ role)))
+        (λ (y : (j ≢ id) × (get_elem? views j ≡ some u)). m.notes j u y.1 role)
+        (at_set views id j w u e);
+    floors_wide = λ j u e l. ⊎_elim
+        (λ (y : (j ≡ id) × (w ≡ u)). ap (λ (z : View T). length z.floors) (sym y.1) ∙ wide (subst (λ (z : View T). Live z.role) (sym y.1) l))
+        (λ (y : (j ≢ id) × (get_elem? views j ≡ some u)). m.floors_wide j u y.1 l)
+        (at_set views id j w u e);
+  }
+
+  -- the lead writes: `w` is its new view, and no other seat leads
+  pub merge_written : (ws ws' : List ℕ) (log log' : Log) (phase : Phase) (m : Merge n c ws log phase views) (writing : List ℕ) → w.role ≡ Lead → w.wrote ≡ writing → phase ≡ held → length w.floors ≡ n
+      → ((j : ℕ) (u : View T) → j ≢ id → get_elem? views j ≡ some u → u.role ≢ Lead) → Stamps c (second n c ws') log' writing
+      → ((seen : Log) (noted : Option ℕ) (missed : List ℕ) → Notes log seen noted missed → Notes log' seen noted missed) → Merge n c ws' log' phase (set views id w)
+  merge_written ws ws' log log' phase m writing role is leads wide alone stamps on = record {
+    writing = writing;
+    stamps = stamps;
+    lead_writes = λ j u e lead. ⊎_elim
+        (λ (y : (j ≡ id) × (w ≡ u)). ap (λ (z : View T). z.wrote) (sym y.1) ∙ is)
+        (λ (y : (j ≢ id) × (get_elem? views j ≡ some u)). absurd (alone j u y.0 y.1 lead))
+        (at_set views id j w u e);
+    not_held = λ ne. absurd (ne leads);
+    notes = λ j u e reader. ⊎_elim
+        (λ (y : (j ≡ id) × (w ≡ u)). absurd (let q : Lead ≡ Reader = sym role ∙ ap (λ (z : View T). z.role) y.1 ∙ reader in cc))
+        (λ (y : (j ≢ id) × (get_elem? views j ≡ some u)). on u.seen u.noted u.missed (m.notes j u y.1 reader))
+        (at_set views id j w u e);
+    floors_wide = λ j u e l. ⊎_elim
+        (λ (y : (j ≡ id) × (w ≡ u)). ap (λ (z : View T). length z.floors) (sym y.1) ∙ wide)
+        (λ (y : (j ≢ id) × (get_elem? views j ≡ some u)). m.floors_wide j u y.1 l)
+        (at_set views id j w u e);
+  }
+
+-- the lead comes or goes while nothing stands at head
+pub merge_phase : {T : Type 0} (n c : ℕ) (ws : List ℕ) (log : Log) (phase phase' : Phase) (views : List (View T)) (m : Merge n c ws log phase views) → m.writing ≡ [] → Merge n c ws log phase' views
+merge_phase n c ws log phase phase' views m e = record { writing = []; stamps = subst (Stamps c (second n c ws) log) e m.stamps; lead_writes = λ j v at role. m.lead_writes j v at role ∙ e; not_held = λ _. refl; notes = m.notes; floors_wide = m.floors_wide }
+
+pub merged_quiet : {T : Type 0} (n c : ℕ) (ws : List ℕ) (log : Log) (phase phase' : Phase) (views : List (View T)) (m : Merge n c ws log phase views) (e : m.writing ≡ []) → (merge_phase n c ws log phase phase' views m e).writing ≡ []
+unfolding merge_phase
+merged_quiet n c ws log phase phase' views m e = refl
+
+-- one more seat, which reads
+pub merge_cut : {T : Type 0} (n c : ℕ) (ws : List ℕ) (log : Log) (phase : Phase) (views : List (View T)) (w : View T) → Merge n c ws log phase views → w.role ≡ Reader → Notes log w.seen w.noted w.missed → length w.floors ≡ n → Merge n c ws log phase (views ++ w ∷ [])
+merge_cut {T} n c ws log phase views w m role notes wide = record {
+  writing = m.writing;
+  stamps = m.stamps;
+  lead_writes = λ j u e lead. ⊎_elim (λ (q : get_elem? views j ≡ some u). m.lead_writes j u q lead) (λ (q : (j ≡ length views) × (w ≡ u)). absurd (let z : Reader ≡ Lead = sym role ∙ ap (λ (z : View T). z.role) q.1 ∙ lead in cc)) (at_end views w u j e);
+  not_held = m.not_held;
+  notes = λ j u e reader. ⊎_elim (λ (q : get_elem? views j ≡ some u). m.notes j u q reader) (λ (q : (j ≡ length views) × (w ≡ u)). subst (λ (z : View T). Notes log z.seen z.noted z.missed) q.1 notes) (at_end views w u j e);
+  floors_wide = λ j u e l. ⊎_elim (λ (q : get_elem? views j ≡ some u). m.floors_wide j u q l) (λ (q : (j ≡ length views) × (w ≡ u)). ap (λ (z : View T). length z.floors) (sym q.1) ∙ wide) (at_end views w u j e);
+}
+
+-- the stamps after one more word of the event at head
+pub stamps_written : (n c : ℕ) (ws : List ℕ) (log : Log) (w : List ℕ) (k x : ℕ) → 0 < c → length w < 518 → k < length ws → k ≡ place_of n c (log ++ (w ++ x ∷ []) ∷ []) (length log) (length w) → (length w ≡ 1 → low x ≡ length log)
+    → Stamps c (second n c ws) log w → Stamps c (second n c (set ws k x)) log (w ++ x ∷ [])
+stamps_written n c ws log w k x pos small here is number s =
+    let log' : Log = log ++ (w ++ x ∷ []) ∷ [] in
+    let h : ℕ = length log in
+    let top : ℕ = lane log' h in
+    let p : ℕ = earlier log' h % c in
+    let k' : k ≡ slot n c top p (length w) = is ∙ place_is_slot n c log' h (length w) in
+    let inside : p < c = mod-lt (earlier log' h) pos in
+    dite (ℕ_discrete (length w) 1)
+    (λ one. stamps_second c (second n c ws) (second n c (set ws k x)) log w x one s (λ l j a b. dite (ℕ_discrete (slot n c l j 1) k)
+    (λ e. let q = slots_apart n c l j 1 top p (length w) b inside (omega arith) small (e ∙ k') in inr (q.0, ap low (ap (λ (z : ℕ). get_or (set ws k x) z 0) e ∙ get_or-set_same ws k x 0 here) ∙ number one))
+    (λ ne. inl (get_or-set_other ws k (slot n c l j 1) x 0 ne))))
+    (λ other. λ l j a b. subst (λ (z : ℕ). Stamp log (w ++ x ∷ []) l (low z))
+    (sym (get_or-set_other ws k (slot n c l j 1) x 0 (λ e. let q = slots_apart n c l j 1 top p (length w) b inside (omega arith) small (e ∙ k') in other (sym q.2))))
+    (stamps_more c (second n c ws) log w x s l j a b))

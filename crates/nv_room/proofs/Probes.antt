@@ -1,0 +1,122 @@
+-- Probing a lane keeps the rule.
+use Rattle.std.proofs.Common.{◌≡◌, ℕ, ◌+◌, ◌%◌, ◌<◌, ◌≤◌, ◌≢◌, ◌⊎◌, Bool, true, false, cond, List, [], ◌∷◌, ◌++◌, map, length, take, get_or, set, sym, refl, ap, ◌∙◌, subst, inl, inr, ⊎_elim, le_refl, mod-lt, arith}
+use Rattle.std.proofs.lemmas.List.{length-map}
+use Rattle.std.proofs.lemmas.Bool.{eqb-true, eqb-false}
+use mathlib.Core.Path.{Path}
+use mathlib.Core.Option.{none, some, some-injective}
+use lib.ListN.{get_elem?}
+use Rattle.std.specs.Prelude.{Option, Some, ◌==◌}
+use Rattle.std.proofs.lemmas.Option.{same_Some}
+use Rattle.std.specs.declared.snapshot.Snapshot.{Snapshot}
+use Rattle.atomic_table.specs.Table.{State, Me, step, keeps, Allows}
+use Rattle.atomic_table.proofs.Lists.{at_map}
+use Rattle.nv_calls.specs.Calls.{Entry}
+use Rattle.nv_calls.specs.Logs.{Start, IsLawful}
+use Rattle.nv_calls.specs.LogLaws.{lawful_range, slice_some}
+use Rattle.nv_words.specs.Spell.{low, spell}
+use Rattle.nv_places.specs.Logs.{entries, lanes_after, lane, earlier}
+use Rattle.nv_places.proofs.LogLaws.{lane_below_8, entries_spelt}
+use Rattle.nv_places.specs.Stamps.{IsStamped, found, Lives}
+use Rattle.nv_places.proofs.StampLaws.{number_word}
+use Rattle.nv_places.proofs.MergeLaws.{probe_hits, probe_misses, next_found, next_lives}
+use Rattle.nv_room.specs.declared.view.View.{View}
+use Rattle.nv_room.specs.declared.view.Plan.{Plan}
+use Rattle.nv_room.specs.declared.view.Role.{Role}
+use Rattle.nv_room.specs.declared.view.Role.TheVariants.{Reader, Lead}
+use Rattle.nv_room.specs.Placement.{Log, place_of, next_slot}
+use Rattle.nv_room.specs.Room.{cursor, Moment, Live, Has, tag, Tag, Knows, Notes, Merge, second, Rule}
+use Rattle.nv_room.specs.Steps.{probed_at, probed}
+use Rattle.nv_room.proofs.Lists.{at_below, at_end, there, prefix_take}
+use Rattle.nv_room.proofs.Placement.{place_is_slot, slots_apart}
+use Rattle.nv_room.proofs.Merges.{merge_turned}
+use Rattle.nv_room.proofs.Stays.{now, looked}
+use Rattle.nv_room.proofs.Seats.{not_holder, in_role, seated}
+
+by_test : {A : Type 0} (b : Bool) → (b ≡ true → A) → (b ≡ false → A) → A
+by_test true hit miss = hit refl
+by_test false hit miss = miss refl
+
+module _ {T : Type 0} (l : ℕ) (v : View T) where
+  abbrev hit : View T
+  hit = record v { noted = Some l }
+
+  abbrev miss : View T
+  miss = record v { missed = v.missed ++ l ∷ [] }
+
+  knows_probed : (n c : ℕ) (t : Snapshot T) (m : Moment) (x : ℕ) → Knows n c t m v → Knows n c t m (probed_at l v x)
+  knows_probed n c t m x k = elim (low x == length v.seen) as (λ (b : Bool). Knows n c t m (cond b hit miss)) [
+    | true ↦ record { seen_is_prefix = k.seen_is_prefix; read_begins_next = k.read_begins_next; floor_at_most_cursor = k.floor_at_most_cursor; head_seen_at_most_head = k.head_seen_at_most_head; owner_seen_at_most_head = k.owner_seen_at_most_head; in_role = k.in_role; seated = λ l. let q = k.seated l in record { start_is = q.start_is; places_are = q.places_are; station_is_made = q.station_is_made; spans_are = q.spans_are; unmade_is_new = q.unmade_is_new }; ended_is_told = k.ended_is_told }
+    | false ↦ record { seen_is_prefix = k.seen_is_prefix; read_begins_next = k.read_begins_next; floor_at_most_cursor = k.floor_at_most_cursor; head_seen_at_most_head = k.head_seen_at_most_head; owner_seen_at_most_head = k.owner_seen_at_most_head; in_role = k.in_role; seated = λ l. let q = k.seated l in record { start_is = q.start_is; places_are = q.places_are; station_is_made = q.station_is_made; spans_are = q.spans_are; unmade_is_new = q.unmade_is_new }; ended_is_told = k.ended_is_told }
+  ]
+
+  tag_probed : (x : ℕ) → Path Tag (tag (probed_at l v x)) (tag v)
+  tag_probed x = elim (low x == length v.seen) as (λ (b : Bool). Path Tag (tag (cond b hit miss)) (tag v)) [ true ↦ (λ _. tag v) | false ↦ (λ _. tag v) ]
+
+-- what is noted of a lane
+noted_hit : (log seen : Log) (noted : Option ℕ) (missed : List ℕ) (l : ℕ) → Notes log seen noted missed → length seen < length log → l ≡ lane log (length seen) → Notes log seen (Some l) missed
+noted_hit log seen noted missed l k more is = record { noted_is_next = λ j e. (more, sym (same_Some l j e) ∙ is); missed_is_not = k.missed_is_not }
+
+noted_miss : (log seen : Log) (noted : Option ℕ) (missed : List ℕ) (l : ℕ) → Notes log seen noted missed → length seen < length log → l ≢ lane log (length seen) → Notes log seen noted (missed ++ l ∷ [])
+noted_miss log seen noted missed l k more is = record { noted_is_next = k.noted_is_next; missed_is_not = λ j h. ⊎_elim (λ (q : get_elem? missed h.0 ≡ some j). k.missed_is_not j (h.0, q)) (λ (q : (h.0 ≡ length missed) × (l ≡ j)). (more, λ e. is (q.1 ∙ e))) (at_end missed l j h.0 h.1) }
+
+module _ {K : Type 0} (hist : K → List Entry) (beg : K → Start) (p : Plan K) where
+  abbrev St : Type 0
+  St = State (Option K) (View K)
+
+  abbrev RuleOf : St → Type 0
+  RuleOf = Rule hist beg p
+
+  abbrev M : Type 0
+  M = Me (Option K) (View K)
+
+  lawful_entries : (s : St) (r : RuleOf s) → IsLawful (entries r.log)
+  lawful_entries s r = subst IsLawful (sym (ap entries (sym r.log_is_spelt) ∙ entries_spelt r.events (λ i e f. lawful_range r.events i e r.log_is_lawful f))) r.log_is_lawful
+
+  -- the number of an event that a reader has still to see stands in its place
+  stamped : (s : St) (r : RuleOf s) (id : ℕ) (v : View K) → get_elem? s.views id ≡ some v → v.role ≡ Reader → length v.seen < length r.log → IsStamped p.places (second p.stations p.places s.words) r.log (length v.seen)
+  stamped s r id v at role more = let n : ℕ = p.stations in let c : ℕ = p.places in let i : ℕ = length v.seen in let ir = in_role hist beg p s r id v at Reader role in let se = seated hist beg p s r id v at Reader role tt in
+      let e = there r.log i more in
+      let y = there r.events i (let q = ap length r.log_is_spelt in omega (arith, length-map r.events spell)) in
+      let spells : e.0 ≡ spell y.0 = some-injective e.0 (spell y.0) (sym e.1 ∙ subst (λ (z : Log). get_elem? z i ≡ some (spell y.0)) r.log_is_spelt (at_map spell r.events i y.0 y.1)) in
+      let word = number_word y.0 (lawful_range r.events i y.0 r.log_is_lawful y.1) in
+      let stamp : y.0.stamp ≡ i = (r.log_is_lawful i y.0 (slice_some r.events i y.0 y.1)).stamp in
+      let other : v.station ≢ r.holder = not_holder (now hist beg p s r) v.station r.led ir.led_nothing (omega arith) in
+      let le : cursor s.words v.station ≤ i = subst (λ (z : ℕ). z ≤ i) (sym ir.cursor_is_length) (le_refl i) in
+      let stands = r.places.unread_stands i v.station e.0 other se.station_is_made le e.1 1 _ (ap (λ (z : List ℕ). get_elem? z 1) spells ∙ word.0) in
+      ap (λ (z : ℕ). low (get_or s.words z 0)) (sym (place_is_slot n c r.log i 1)) ∙ ap low stands ∙ word.1 ∙ stamp
+
+  pub probes : (slots id k l : ℕ) (me : M) → me.0.role ≡ Reader → l < 8 → Lives me.0.seen l → length me.0.seen < me.0.head_last → k ≡ next_slot p.stations p.places (lanes_after me.0.seen) l 1
+      → Allows RuleOf slots id me k (λ x. x) (probed (step slots k 0 0 none) me)
+  probes slots id k l me role below living before is s r wide at _ = let v = me.0 in let n : ℕ = p.stations in let c : ℕ = p.places in let kn = r.each_seat id v at in let mg = r.merge in let seen : Log = v.seen in let i : ℕ = length v.seen in
+      let se = seated hist beg p s r id v at Reader role tt in let nt = mg.notes id v at role in let x : ℕ = get_or s.words k 0 in let pos : 0 < c = r.places.some_place in
+      let more : i < length r.log = (let q = kn.head_seen_at_most_head in omega arith) in
+      let front : take i r.log ≡ v.seen = prefix_take v.seen r.log kn.seen_is_prefix in
+      let sec : ℕ → ℕ → ℕ = second n c s.words in
+      let shown : found c sec v.seen l ≡ low x = ap (λ (z : ℕ). low (get_or s.words z 0)) (sym is) in
+      let stands = stamped s r id v at role more in
+      let floors : length v.floors ≡ n = mg.floors_wide id v at (subst Live (sym role) tt) in
+      let w : View K = probed_at l v x in
+      let turned = λ (u : View K) (same : u.role ≡ v.role) (writes : u.wrote ≡ v.wrote) (notes : Notes r.log u.seen u.noted u.missed) (floored : length u.floors ≡ n). merge_turned n c s.views id v u at s.words s.words r.log r.phase mg (λ _ _. refl) (λ e. writes ∙ mg.lead_writes id v at (sym same ∙ e)) (λ _. notes) (λ _. floored) in
+      let merge : Merge n c s.words r.log r.phase (set s.views id w) = by_test (low x == i)
+      (λ t. subst (λ (b : Bool). Merge n c s.words r.log r.phase (set s.views id (cond b (hit l v) (miss l v)))) (sym t)
+      (turned (hit l v) refl refl (noted_hit r.log v.seen v.noted v.missed l nt more (probe_hits c sec r.log mg.writing v.seen l pos mg.stamps more below living (shown ∙ eqb-true (low x) i t))) floors))
+      (λ f. subst (λ (b : Bool). Merge n c s.words r.log r.phase (set s.views id (cond b (hit l v) (miss l v)))) (sym f)
+      (turned (miss l v) refl refl (noted_miss r.log v.seen v.noted v.missed l nt more (probe_misses c sec r.log v.seen l front stands (λ e. eqb-false (low x) i f (sym shown ∙ e)))) floors)) in (
+        w,
+        keeps,
+        tt,
+        looked hist beg p s r k id me.1 v w at (tag_probed l v x) (knows_probed l v n c p.start (now hist beg p s r) x kn) merge,
+        λ j near word.
+            let same : l ≡ j = (slots_apart n c l _ 1 j _ 1 (mod-lt _ pos) (mod-lt _ pos) (omega arith) (omega arith) (sym is ∙ word ∙ (λ z. next_slot (floors z) (se.places_are z) (lanes_after v.seen) j 1))).0 in (
+              ap (λ (z : ℕ). (probed_at z v x, me.1)) same,
+              λ ne. (
+                lane r.log i,
+                lane_below_8 r.log i,
+                next_lives r.log v.seen (lawful_entries s r) front more,
+                λ h. ⊎_elim
+                    (λ (q : get_elem? v.missed h.0 ≡ some (lane r.log i)). (nt.missed_is_not (lane r.log i) (h.0, q)).1 refl)
+                    (λ (q : (h.0 ≡ length v.missed) × (j ≡ lane r.log i)). ne (sym shown ∙ ap (found c sec v.seen) (same ∙ q.1) ∙ next_found c sec r.log v.seen front stands))
+                    (at_end v.missed j (lane r.log i) h.0 h.1),
+              ),
+            ),
+      )

@@ -1,0 +1,5 @@
+use Rattle.std.proofs.Common.{arith}
+use Rattle.nv_room.proofs.trail.Trail.start.Goals as goal
+
+pub returns : goal.returns
+returns c = record { lanes = c.start.ensures.is; first = λ w. absurd (omega arith); sixth = λ w. absurd (omega arith) }

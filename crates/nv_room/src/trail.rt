@@ -1,0 +1,16 @@
+//! What a seat keeps of the events.
+ghost use Rattle.std.specs.Prelude.{◌≡◌, ℕ, ◌+◌, ◌<◌, ◌≤◌, ◌++◌, List, [], ◌∷◌, length, sum, if◌then◌else◌, ◌==◌};
+ghost use Rattle.std.specs.Int.{w32, cast_signed};
+ghost use Rattle.nv_words.specs.Spell.{low, high};
+ghost use Rattle.nv_lanes.specs.Lanes.{noted_by};
+
+use nv_lanes::Lanes;
+
+/// The lanes after the events that were seen, and of the next event the first word and the sixth, which tell its thread,
+/// its number and its result.
+#[derive(Drop)]
+pub struct Trail {
+    pub(crate) lanes: Lanes,
+    pub(crate) first: u64,
+    pub(crate) sixth: u64,
+}
