@@ -1,5 +1,4 @@
 pub mod LogLaws
-pub mod LanePlacementLaws
 pub mod MergeLaws
 pub mod StampLaws
 pub mod PlacementLaws

@@ -41,13 +41,13 @@ pub probe_hits : (c : ℕ) (second : ℕ → ℕ → ℕ) (log : Log) (writing :
     → found c second seen l ≡ length seen → l ≡ lane log (length seen)
 probe_hits c second log writing seen l pos stamps more below living is =
     ⊎_elim
-        (λ (z : found c second seen l ≡ 0). let nothing : length seen ≡ 0 = sym is ∙ z in let at_start = subst (λ (s : Log). Lives s l) (unseen seen nothing) living in
-            only_lane_0 l below at_start ∙ sym (lane_first log (omega arith)) ∙ ap (lane log) (sym nothing))
-        (λ s. ⊎_elim
-            (λ (p : Published log l (found c second seen l)). sym p.lane_is ∙ ap (lane log) is)
-            (λ (b : Begun log writing l (found c second seen l)). let h = b.at_head in absurd (omega arith))
-            s)
-        (stamps l (get_or (lanes_after seen).counts l 0 % c) below (mod-lt (get_or (lanes_after seen).counts l 0) pos))
+    (λ (z : found c second seen l ≡ 0). let nothing : length seen ≡ 0 = sym is ∙ z in let at_start = subst (λ (s : Log). Lives s l) (unseen seen nothing) living in
+    only_lane_0 l below at_start ∙ sym (lane_first log (omega arith)) ∙ ap (lane log) (sym nothing))
+    (λ s. ⊎_elim
+    (λ (p : Published log l (found c second seen l)). sym p.lane_is ∙ ap (lane log) is)
+    (λ (b : Begun log writing l (found c second seen l)). let h = b.at_head in absurd (omega arith))
+    s)
+    (stamps l (get_or (lanes_after seen).counts l 0 % c) below (mod-lt (get_or (lanes_after seen).counts l 0) pos))
 
 -- two of them are one lane
 pub one_hit : (c : ℕ) (second : ℕ → ℕ → ℕ) (log : Log) (writing : List ℕ) (seen : Log) (l m : ℕ) → 0 < c → Stamps c second log writing → length seen < length log → l < 8 → m < 8 → Lives seen l → Lives seen m

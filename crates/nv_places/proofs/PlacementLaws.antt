@@ -193,8 +193,8 @@ less_apart : (n c : ℕ) (log : Log) (i j w : ℕ) → 0 < c → j < w → w < 5
 less_apart n c log i j w pos lt b e = dite (dec_le 6 j)
     (λ s. late_less n c log i j w s lt b e)
     (λ g. let early = lt_of_not-le g in dite (dec_le 6 w)
-        (λ s. early_late n c log log i i j w pos early s e)
-        (λ g'. let q = slots_apart n c (lane log i) (earlier log i % c) j (lane log i) (earlier log i % c) w (mod-lt (earlier log i) pos) (mod-lt (earlier log i) pos) early (lt_of_not-le g') (sym (place_early n c log i j early) ∙ e ∙ place_early n c log i w (lt_of_not-le g')) in let r = q.2 in omega arith))
+    (λ s. early_late n c log log i i j w pos early s e)
+    (λ g'. let q = slots_apart n c (lane log i) (earlier log i % c) j (lane log i) (earlier log i % c) w (mod-lt (earlier log i) pos) (mod-lt (earlier log i) pos) early (lt_of_not-le g') (sym (place_early n c log i j early) ∙ e ∙ place_early n c log i w (lt_of_not-le g')) in let r = q.2 in omega arith))
 
 -- two words of one event
 pub words_apart : (n c : ℕ) (log : Log) (i j w : ℕ) → 0 < c → j < 518 → w < 518 → j ≢ w → place_of n c log i j ≢ place_of n c log i w
@@ -209,7 +209,7 @@ early_apart n c log e i j w lt near a b q =
     let h : ℕ = length log in
     let pos : 0 < c = omega arith in
     let s = slots_apart n c (lane log' i) (earlier log' i % c) j (lane log' h) (earlier log' h % c) w (mod-lt (earlier log' i) pos) (mod-lt (earlier log' h) pos) a b
-        (sym (place_early n c log' i j a) ∙ place_stays n c log (e ∷ []) i j lt ∙ q ∙ place_early n c log' h w b) in
+    (sym (place_early n c log' i j a) ∙ place_stays n c log (e ∷ []) i j lt ∙ q ∙ place_early n c log' h w b) in
     lane_places_apart log e c i lt near s.0 s.1
 
 -- and in chunks
@@ -225,7 +225,7 @@ late_apart n c log d e i j w at few a b jl wl q =
     let x = chunks_hold d j a jl in
     let y = chunks_hold e w b wl in
     pool_apart n c s t j w (omega arith) (omega arith)
-        (sym (place_late n c log i j a) ∙ q ∙ place_late n c log' h w b ∙ ap (λ (k : ℕ). pool_word n c (k % pool_chunks c) w) (before_stays log (e ∷ []) h (le_refl h)))
+    (sym (place_late n c log i j a) ∙ q ∙ place_late n c log' h w b ∙ ap (λ (k : ℕ). pool_word n c (k % pool_chunks c) w) (before_stays log (e ∷ []) h (le_refl h)))
 
 -- words of two events, the later of which stands behind the log and fits while the earlier is kept
 pub places_apart : (n c : ℕ) (log : Log) (d e : List ℕ) (f i j w : ℕ) → f ≤ i → get_elem? log i ≡ some d → Fits c log e f → j < length d → w < length e → place_of n c log i j ≢ place_of n c (log ++ e ∷ []) (length log) w
@@ -236,12 +236,12 @@ places_apart n c log d e f i j w from at fits jl wl q =
     let near = here.window in
     let pos : 0 < c = omega arith in
     dite (dec_le 6 j)
-        (λ s. dite (dec_le 6 w)
-            (λ t. late_apart n c log d e i j w at here.chunks_are_few s t jl wl q)
-            (λ g. early_late n c (log ++ e ∷ []) log (length log) i w j pos (lt_of_not-le g) s (sym q)))
-        (λ g. dite (dec_le 6 w)
-            (λ t. early_late n c log (log ++ e ∷ []) i (length log) j w pos (lt_of_not-le g) t q)
-            (λ g'. early_apart n c log e i j w lt near (lt_of_not-le g) (lt_of_not-le g') q))
+    (λ s. dite (dec_le 6 w)
+    (λ t. late_apart n c log d e i j w at here.chunks_are_few s t jl wl q)
+    (λ g. early_late n c (log ++ e ∷ []) log (length log) i w j pos (lt_of_not-le g) s (sym q)))
+    (λ g. dite (dec_le 6 w)
+    (λ t. early_late n c log (log ++ e ∷ []) i (length log) j w pos (lt_of_not-le g) t q)
+    (λ g'. early_apart n c log e i j w lt near (lt_of_not-le g) (lt_of_not-le g') q))
 
 -- two events of a log, of which those from f on are no more than the places and their chunks no more than the pool's
 pub events_apart : (n c : ℕ) (log : Log) (d e : List ℕ) (f i h j w : ℕ) → f ≤ i → i < h → get_elem? log i ≡ some d → get_elem? log h ≡ some e → length log ≤ f + c → chunks_from log f ≤ pool_chunks c → j < length d → w < length e
@@ -280,3 +280,23 @@ place_next n c log i j l = place_early n c log i j l ∙ ap (λ (k : ℕ). slot 
 
 pub place_last : (n c : ℕ) (log : Log) (e : List ℕ) (j : ℕ) → j < 6 → place_of n c (log ++ e ∷ []) (length log) j ≡ next_slot n c (lanes_after log) (lane (log ++ e ∷ []) (length log)) j
 place_last n c log e j l = place_early n c (log ++ e ∷ []) (length log) j l ∙ ap (λ (k : ℕ). slot n c (lane (log ++ e ∷ []) (length log)) (k % c) j) (earlier_is_count log e)
+
+-- How many words there are
+
+pub table_size : (n c : ℕ) → table_words n c ≡ 8 * c * 6 + 64 * (2 * c + 8) + 8 * (n + 2)
+unfolding table_words
+table_size n c = refl
+
+pub table_is_small : (n c : ℕ) → n ≤ 16 → c ≤ 1024 → table_words n c ≤ 181000
+unfolding table_words
+table_is_small n c a b = let q : 8 * c * 6 + 64 * (2 * c + 8) + 8 * (n + 2) ≤ 181000 = omega arith in q
+
+-- a word of an event stands in the table
+pub spot_inside : (n c l k first j : ℕ) → l < 8 → k < c → spot n c l k first j < table_words n c
+spot_inside n c l k first j a b = dite (dec_le 6 j)
+    (λ s. subst (λ (t : Bool). cond t (slot n c l k j) (pool_word n c first j) < table_words n c) (sym (le-ltb j 6 s)) (pool_inside n c first j))
+    (λ g. let few = lt_of_not-le g in subst (λ (t : Bool). cond t (slot n c l k j) (pool_word n c first j) < table_words n c) (sym (lt-ltb j 6 few)) (slot_inside n c l k j a b few))
+
+pub place_is_spot : (n c : ℕ) (log : Log) (i j : ℕ) → place_of n c log i j ≡ spot n c (lane log i) (earlier log i % c) (chunks_before log i % pool_chunks c) j
+unfolding place_of
+place_is_spot n c log i j = refl

@@ -39,9 +39,9 @@ stamps_published c second log w s l k a b =
     let number : ℕ = low (second l k) in
     let more = length-append log (w ∷ []) in
     ⊎_elim (λ z. inl z) (λ t. inr (inl (⊎_elim
-        (λ (p : Published log l number). record { below = (let q = p.below in omega arith); lane_is = lane_stays log (w ∷ []) number p.below ∙ p.lane_is })
-        (λ (q : Begun log w l number). record { below = (let r = q.at_head in omega arith); lane_is = ap (lane (log ++ w ∷ [])) q.at_head ∙ q.lane_is })
-        t))) (s l k a b)
+    (λ (p : Published log l number). record { below = (let q = p.below in omega arith); lane_is = lane_stays log (w ∷ []) number p.below ∙ p.lane_is })
+    (λ (q : Begun log w l number). record { below = (let r = q.at_head in omega arith); lane_is = ap (lane (log ++ w ∷ [])) q.at_head ∙ q.lane_is })
+    t))) (s l k a b)
 
 -- word 1 of an event has its number in the low half
 low_pair : (a b : ℕ) → a < 4294967296 → low (pair a b) ≡ a

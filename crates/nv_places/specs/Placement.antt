@@ -1,5 +1,5 @@
 -- Where the words of events stand in the table of n stations with eight lanes, each of c places of six words, and 2 c + 8 chunks of 64 words.
-use Rattle.std.specs.Prelude.{ℕ, ◌+◌, ◌-◌, ◌*◌, ◌%◌, ◌<◌, ◌≤◌, List, take, drop, length, sum_by, nat_lt, slice_index, if◌then◌else◌}
+use Rattle.std.specs.Prelude.{ℕ, ◌+◌, ◌-◌, ◌*◌, ◌%◌, ◌<◌, ◌≤◌, List, take, drop, map, length, sum_by, nat_lt, slice_index, if◌then◌else◌}
 use Rattle.nv_pool.specs.Chunks.{chunks_for}
 use Rattle.nv_lanes.specs.Lanes.{Taken}
 use Rattle.nv_places.specs.Logs.{Log, lane, earlier}
@@ -45,3 +45,10 @@ pub record Fits (c : ℕ) (log : Log) (e : List ℕ) (f : ℕ) : Type 0 where
 -- the word j of the next place of a lane, by the lanes that are taken so far
 abbrev pub next_slot : ℕ → ℕ → Taken → ℕ → ℕ → ℕ
 next_slot n c taken lane j = slot n c lane (slice_index taken.counts lane % c) j
+
+-- as many bytes as the words behind the sixth have: their chunks are the event's
+abbrev pub bytes_of : List ℕ → ℕ
+bytes_of e = 8 * (length e - 6)
+
+abbrev pub sizes : Log → List ℕ
+sizes log = map bytes_of log

@@ -2,8 +2,7 @@
 #![tactic(auto)]
 
 mod spot;
-
 #[cfg(test)]
 mod tests;
 
-pub use spot::Spot;
+pub use spot::{PLACE_WORDS, Spot};

@@ -16,8 +16,8 @@ starts_push places starts sizes b pos wide h i below near =
     let at : ℕ = length sizes % places in
     let inside : at < places = mod-lt (length sizes) pos in
     dite (ℕ_discrete i (length sizes))
-        (λ e. ap (λ (k : ℕ). get_or (set starts at (chunks_in sizes)) (k % places) 0) e ∙ get_or-set_same starts at (chunks_in sizes) 0 (omega arith)
-            ∙ sym (chunks_before_all sizes) ∙ ap (chunks_before sizes) (sym e) ∙ sym (chunks_before_push sizes b i (omega arith)))
-        (λ ne. let less : i < length sizes = omega arith in
-            get_or-set_other starts at (i % places) (chunks_in sizes) 0 (λ q. ne (one_turn i (length sizes) places (omega arith) (omega arith) q))
-            ∙ h i less (omega arith) ∙ sym (chunks_before_push sizes b i (omega arith)))
+    (λ e. ap (λ (k : ℕ). get_or (set starts at (chunks_in sizes)) (k % places) 0) e ∙ get_or-set_same starts at (chunks_in sizes) 0 (omega arith)
+    ∙ sym (chunks_before_all sizes) ∙ ap (chunks_before sizes) (sym e) ∙ sym (chunks_before_push sizes b i (omega arith)))
+    (λ ne. let less : i < length sizes = omega arith in
+    get_or-set_other starts at (i % places) (chunks_in sizes) 0 (λ q. ne (one_turn i (length sizes) places (omega arith) (omega arith) q))
+    ∙ h i less (omega arith) ∙ sym (chunks_before_push sizes b i (omega arith)))

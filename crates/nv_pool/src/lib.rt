@@ -3,7 +3,6 @@
 
 mod calls;
 mod pool;
-
 #[cfg(test)]
 mod tests;
 

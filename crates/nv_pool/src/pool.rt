@@ -2,9 +2,6 @@
 ghost use Rattle.std.specs.Prelude.{◌≡◌, ◌*◌, ◌<◌, ◌≤◌, length};
 ghost use Rattle.nv_pool.specs.Chunks.{AllUpTo};
 
-
-
-
 /// Where the payloads of events begin in a ring of chunks. It looks back at as many events as there are places:
 /// `starts` has the chunks of all events before each of these, `total` those of all.
 #[derive(Drop)]

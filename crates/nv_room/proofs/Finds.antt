@@ -6,42 +6,57 @@ use Rattle.nv_words.specs.Spell.{low}
 use Rattle.nv_words.specs.Read.{event_of}
 use Rattle.nv_words.specs.Begins.{Prefix}
 use Rattle.nv_lanes.specs.Lanes.{Taken, lane_in}
-use Rattle.nv_places.specs.Logs.{lanes_after, lane}
-use Rattle.nv_places.proofs.LogLaws.{lane_is_taken}
+use Rattle.nv_places.specs.Logs.{lanes_after, lane, earlier}
+use Rattle.atomic_table.proofs.Lists.{at_longer}
+use Rattle.nv_places.specs.declared.spot.Spot.{Spot}
+use Rattle.nv_places.proofs.LogLaws.{lane_is_taken, earlier_was_count}
+use Rattle.nv_places.proofs.PoolOfLog.{before_front}
 use Rattle.nv_room.specs.declared.view.View.{View}
-use Rattle.nv_room.specs.Placement.{Log, table_words, place_of, next_slot}
+use Rattle.nv_room.specs.Placement.{Log, pool_chunks, table_words, chunks_before, slot, spot, place_of, next_slot}
 use Rattle.nv_room.specs.Steps.{probed_at, with_note, with_miss}
-use Rattle.nv_room.specs.Trails.{NotedAt}
+use Rattle.nv_room.specs.Trails.{IsSpot, NotedAt}
 use Rattle.nv_room.proofs.Lists.{prefix_take}
-use Rattle.nv_room.proofs.Placement.{slot_inside, slot_on, place_next, place_last, table_is_small}
+use Rattle.nv_room.proofs.Placement.{slot_inside, place_is_spot}
 
 pub some_of : {A : Type 0} (o : Option A) → IsSome o → (x : A) × (o ≡ Some x)
 some_of None h = cc
 some_of (Some x) h = (x, refl)
 
-pub next_inside : (n c : ℕ) (t : Taken) (l j : ℕ) → 0 < c → l < 8 → j < 518 → next_slot n c t l j < table_words n c
+-- what the code that finds a word asks
+pub spot_in : (c : ℕ) (seen : Log) (l : ℕ) (s : Spot) → 0 < c → IsSpot c seen l s → (s.lane < 8) × (s.place < c) × (s.first < pool_chunks c)
+spot_in c seen l s pos is = (
+  let e = is.lane in let b = is.below in omega arith,
+  subst (λ (z : ℕ). z < c) (sym is.place) (mod-lt (get_or (lanes_after seen).counts l 0) pos),
+  subst (λ (z : ℕ). z < pool_chunks c) (sym is.first) (mod-lt (chunks_before seen (length seen)) (omega arith)),
+)
+
+-- the words of the event behind the seen list
+pub spot_word : (n c : ℕ) (log seen : Log) (l j : ℕ) (s : Spot) → Prefix seen log → l ≡ lane log (length seen) → IsSpot c seen l s → spot n c s.lane s.place s.first j ≡ place_of n c log (length seen) j
+spot_word n c log seen l j s pre is at =
+    let h : ℕ = length seen in
+    let front : take h log ≡ seen = prefix_take seen log pre in
+    let place : s.place ≡ earlier log h % c = at.place ∙ ap (λ (z : ℕ). get_or (lanes_after seen).counts z 0 % c) is ∙ ap (λ (z : Log). get_or (lanes_after z).counts (lane log h) 0 % c) (sym front) ∙ ap (λ (z : ℕ). z % c) (sym (earlier_was_count log h)) in
+    let first : s.first ≡ chunks_before log h % pool_chunks c = at.first ∙ ap (λ (z : ℕ). z % pool_chunks c) (sym (before_front log seen h front)) in
+    (λ k. spot n c ((at.lane ∙ is) k) (place k) (first k) j) ∙ sym (place_is_spot n c log h j)
+
+-- word 1, which a probe looks at
+pub spot_second : (n c : ℕ) (seen : Log) (l : ℕ) (s : Spot) → IsSpot c seen l s → spot n c s.lane s.place s.first 1 ≡ next_slot n c (lanes_after seen) l 1
+spot_second n c seen l s at = λ k. slot n c (at.lane k) (at.place k) 1
+
+pub next_inside : (n c : ℕ) (t : Taken) (l j : ℕ) → 0 < c → l < 8 → j < 6 → next_slot n c t l j < table_words n c
 next_inside n c t l j pos b s = slot_inside n c l _ j b (mod-lt _ pos) s
-
-pub next_small : (n c : ℕ) (t : Taken) (l j : ℕ) → 0 < c → n ≤ 16 → c ≤ 1024 → l < 8 → j < 518 → next_slot n c t l j < 5000000
-next_small n c t l j pos few most b s = let a = next_inside n c t l j pos b s in let m = table_is_small n c few most in omega arith
-
-pub next_on : (n c : ℕ) (t : Taken) (l j : ℕ) → next_slot n c t l 0 + j ≡ next_slot n c t l j
-next_on n c t l j = slot_on n c l _ j
-
--- a word of the event behind the seen list, from where its place begins
-pub place_word : (n c : ℕ) (log seen : Log) (l place j : ℕ) → Prefix seen log → l ≡ lane log (length seen) → place ≡ next_slot n c (lanes_after seen) l 0 → place + j ≡ place_of n c log (length seen) j
-place_word n c log seen l place j pre is at =
-    ap (λ (z : ℕ). z + j) at ∙ next_on n c (lanes_after seen) l j ∙ ap (λ (z : ℕ). next_slot n c (lanes_after seen) z j) is ∙ ap (λ (z : Log). next_slot n c (lanes_after z) (lane log (length seen)) j) (sym (prefix_take seen log pre)) ∙ sym (place_next n c log (length seen) j)
 
 first_tid : (w : List ℕ) (word : ℕ) → length w ≡ 0 → (event_of (w ++ word ∷ [])).call.tid ≡ low word
 unfolding event_of
 first_tid [] word e = refl
 first_tid (x ∷ xs) word e = absurd (omega arith)
 
--- where the place of an event begins of which the first word comes
-pub place_first : (n c : ℕ) (log : Log) (w : List ℕ) (word : ℕ) → length w ≡ 0 → next_slot n c (lanes_after log) (lane_in (lanes_after log).holders (low word)) 0 ≡ place_of n c (log ++ (w ++ word ∷ []) ∷ []) (length log) 0
-place_first n c log w word e = let is = lane_is_taken log (w ++ word ∷ []) ∙ ap (lane_in (lanes_after log).holders) (first_tid w word e) in
-    ap (λ (l : ℕ). next_slot n c (lanes_after log) l 0) (sym is) ∙ sym (place_last n c log (w ++ word ∷ []) 0)
+-- the lane of an event of which the first word comes, and of one of which more come
+pub lane_first : (log : Log) (w : List ℕ) (word : ℕ) → length w ≡ 0 → lane_in (lanes_after log).holders (low word) ≡ lane (log ++ (w ++ word ∷ []) ∷ []) (length log)
+lane_first log w word e = sym (lane_is_taken log (w ++ word ∷ []) ∙ ap (lane_in (lanes_after log).holders) (first_tid w word e))
+
+pub prefix_self : (log : Log) (e : List ℕ) → Prefix log (log ++ e ∷ [])
+prefix_self log e i x at = at_longer log (e ∷ []) i x at
 
 module _ {T : Type 0} (l r : ℕ) (v : View T) where
   pub probed_hit : (low r == length v.seen) ≡ true → probed_at l v r ≡ with_note l v
@@ -50,10 +65,10 @@ module _ {T : Type 0} (l r : ℕ) (v : View T) where
   pub probed_miss : (low r == length v.seen) ≡ false → probed_at l v r ≡ with_miss l v
   probed_miss t = ap (λ (b : Bool). cond b (with_note l v) (with_miss l v)) t
 
-  pub noted_after : (seen place old : ℕ) → length v.seen ≡ seen → l < 8 → place ≡ next_slot (length v.floors) v.places (lanes_after v.seen) l 0 → NotedAt old v → NotedAt (cond (low r == seen) place old) (probed_at l v r)
-  noted_after seen place old is below at kept = subst (λ (z : ℕ). NotedAt (cond (low r == z) place old) (probed_at l v r)) is
-      (elim (low r == length v.seen) as (λ (b : Bool). NotedAt (cond b place old) (cond b (with_note l v) (with_miss l v))) [
-        | true ↦ (λ j q. let e : l ≡ j = same_Some l j q in (subst (λ (z : ℕ). z < 8) e below, at ∙ ap (λ (z : ℕ). next_slot (length v.floors) v.places (lanes_after v.seen) z 0) e))
+  pub noted_after : (seen : ℕ) (at old : Spot) → length v.seen ≡ seen → IsSpot v.places v.seen l at → NotedAt old v → NotedAt (cond (low r == seen) at old) (probed_at l v r)
+  noted_after seen at old is found kept = subst (λ (z : ℕ). NotedAt (cond (low r == z) at old) (probed_at l v r)) is
+      (elim (low r == length v.seen) as (λ (b : Bool). NotedAt (cond b at old) (cond b (with_note l v) (with_miss l v))) [
+        | true ↦ (λ j q. subst (λ (z : ℕ). IsSpot v.places v.seen z at) (same_Some l j q) found)
         | false ↦ kept
       ])
 

@@ -1,7 +1,7 @@
 -- What the places tell of the order of events stays, whatever a seat does.
-use Rattle.std.proofs.Common.{◌≡◌, ℕ, ◌+◌, ◌%◌, ◌<◌, ◌≤◌, ◌≢◌, ◌⊎◌, List, [], ◌∷◌, ◌++◌, length, take, get_or, set, sym, refl, ap, ◌∙◌, subst, inl, inr, ⊎_elim, mod-lt, arith, length-append, get_or-set_other, get_or-set_same}
+use Rattle.std.proofs.Common.{◌≡◌, ℕ, ◌+◌, ◌%◌, ◌<◌, ◌≤◌, ◌≢◌, ◌⊎◌, List, [], ◌∷◌, ◌++◌, length, take, get_or, set, sym, refl, ap, ◌∙◌, subst, inl, inr, ⊎_elim, mod-lt, lt_of_not-le, arith, length-append, get_or-set_other, get_or-set_same}
 use mathlib.Core.Logic.{dite}
-use native.Mathlib.Decide.{ℕ_discrete}
+use native.Mathlib.Decide.{ℕ_discrete, dec_le}
 use mathlib.Core.Option.{some, some-injective, some-ne-none}
 use lib.ListN.{get_elem?}
 use Rattle.std.specs.Prelude.{Option, Some, None}
@@ -19,7 +19,7 @@ use Rattle.nv_room.specs.Placement.{Log, header, slot, place_of}
 use Rattle.nv_room.specs.Owner.{Phase, held}
 use Rattle.nv_room.specs.Room.{Has, Live, Notes, Merge, second}
 use Rattle.nv_room.proofs.Lists.{at_end}
-use Rattle.nv_room.proofs.Placement.{slot_behind, slots_apart, place_is_slot}
+use Rattle.nv_room.proofs.Placement.{slot_behind, slots_apart, place_early, second_apart}
 
 -- a word before the places
 pub second_kept : (n c k x : ℕ) (ws : List ℕ) → k < header n → (l j : ℕ) → second n c (set ws k x) l j ≡ second n c ws l j
@@ -101,19 +101,21 @@ merge_cut {T} n c ws log phase views w m role notes wide = record {
 }
 
 -- the stamps after one more word of the event at head
-pub stamps_written : (n c : ℕ) (ws : List ℕ) (log : Log) (w : List ℕ) (k x : ℕ) → 0 < c → length w < 518 → k < length ws → k ≡ place_of n c (log ++ (w ++ x ∷ []) ∷ []) (length log) (length w) → (length w ≡ 1 → low x ≡ length log)
+pub stamps_written : (n c : ℕ) (ws : List ℕ) (log : Log) (w : List ℕ) (k x : ℕ) → 0 < c → k < length ws → k ≡ place_of n c (log ++ (w ++ x ∷ []) ∷ []) (length log) (length w) → (length w ≡ 1 → low x ≡ length log)
     → Stamps c (second n c ws) log w → Stamps c (second n c (set ws k x)) log (w ++ x ∷ [])
-stamps_written n c ws log w k x pos small here is number s =
+stamps_written n c ws log w k x pos here is number s =
     let log' : Log = log ++ (w ++ x ∷ []) ∷ [] in
     let h : ℕ = length log in
     let top : ℕ = lane log' h in
     let p : ℕ = earlier log' h % c in
-    let k' : k ≡ slot n c top p (length w) = is ∙ place_is_slot n c log' h (length w) in
     let inside : p < c = mod-lt (earlier log' h) pos in
+    let early : length w < 6 → k ≡ slot n c top p (length w) = λ l. is ∙ place_early n c log' h (length w) l in
     dite (ℕ_discrete (length w) 1)
     (λ one. stamps_second c (second n c ws) (second n c (set ws k x)) log w x one s (λ l j a b. dite (ℕ_discrete (slot n c l j 1) k)
-    (λ e. let q = slots_apart n c l j 1 top p (length w) b inside (omega arith) small (e ∙ k') in inr (q.0, ap low (ap (λ (z : ℕ). get_or (set ws k x) z 0) e ∙ get_or-set_same ws k x 0 here) ∙ number one))
+    (λ e. let q = slots_apart n c l j 1 top p (length w) b inside (omega arith) (omega arith) (e ∙ early (omega arith)) in inr (q.0, ap low (ap (λ (z : ℕ). get_or (set ws k x) z 0) e ∙ get_or-set_same ws k x 0 here) ∙ number one))
     (λ ne. inl (get_or-set_other ws k (slot n c l j 1) x 0 ne))))
     (λ other. λ l j a b. subst (λ (z : ℕ). Stamp log (w ++ x ∷ []) l (low z))
-    (sym (get_or-set_other ws k (slot n c l j 1) x 0 (λ e. let q = slots_apart n c l j 1 top p (length w) b inside (omega arith) small (e ∙ k') in other (sym q.2))))
+    (sym (get_or-set_other ws k (slot n c l j 1) x 0 (λ e. dite (dec_le 6 (length w))
+    (λ six. second_apart n c l j log' h (length w) a b six (e ∙ is))
+    (λ few. let lt = lt_of_not-le few in let q = slots_apart n c l j 1 top p (length w) b inside (omega arith) lt (e ∙ early lt) in other (sym q.2)))))
     (stamps_more c (second n c ws) log w x s l j a b))

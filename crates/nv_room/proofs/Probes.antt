@@ -27,7 +27,7 @@ use Rattle.nv_room.specs.Placement.{Log, place_of, next_slot}
 use Rattle.nv_room.specs.Room.{cursor, Moment, Live, Has, tag, Tag, Knows, Notes, Merge, second, Rule}
 use Rattle.nv_room.specs.Steps.{probed_at, probed}
 use Rattle.nv_room.proofs.Lists.{at_below, at_end, there, prefix_take}
-use Rattle.nv_room.proofs.Placement.{place_is_slot, slots_apart}
+use Rattle.nv_room.proofs.Placement.{place_early, slots_apart}
 use Rattle.nv_room.proofs.Merges.{merge_turned}
 use Rattle.nv_room.proofs.Stays.{now, looked}
 use Rattle.nv_room.proofs.Seats.{not_holder, in_role, seated}
@@ -83,7 +83,7 @@ module _ {K : Type 0} (hist : K → List Entry) (beg : K → Start) (p : Plan K)
       let other : v.station ≢ r.holder = not_holder (now hist beg p s r) v.station r.led ir.led_nothing (omega arith) in
       let le : cursor s.words v.station ≤ i = subst (λ (z : ℕ). z ≤ i) (sym ir.cursor_is_length) (le_refl i) in
       let stands = r.places.unread_stands i v.station e.0 other se.station_is_made le e.1 1 _ (ap (λ (z : List ℕ). get_elem? z 1) spells ∙ word.0) in
-      ap (λ (z : ℕ). low (get_or s.words z 0)) (sym (place_is_slot n c r.log i 1)) ∙ ap low stands ∙ word.1 ∙ stamp
+      ap (λ (z : ℕ). low (get_or s.words z 0)) (sym (place_early n c r.log i 1 (omega arith))) ∙ ap low stands ∙ word.1 ∙ stamp
 
   pub probes : (slots id k l : ℕ) (me : M) → me.0.role ≡ Reader → l < 8 → Lives me.0.seen l → length me.0.seen < me.0.head_last → k ≡ next_slot p.stations p.places (lanes_after me.0.seen) l 1
       → Allows RuleOf slots id me k (λ x. x) (probed (step slots k 0 0 none) me)

@@ -1,10 +1,12 @@
 //! What the seats and the room tell, and the kernel's calls through the lead.
-ghost use Rattle.std.specs.Prelude.{◌≡◌, ◌+◌, ◌<◌, ◌≤◌, ◌++◌, [], ◌∷◌, true, false, length, slice_index, OnOk, Contains};
+ghost use Rattle.std.specs.Prelude.{◌≡◌, ◌+◌, ◌<◌, ◌≤◌, ◌++◌, [], ◌∷◌, true, false, length, slice_index, OnOk, Contains, IsTrue, ◌↔◌};
 ghost use Rattle.nv_calls.specs.Calls.{request};
 ghost use Rattle.nv_calls.specs.Logs.{served, live_after, IsLawful};
 ghost use Rattle.nv_calls.specs.Shapes.{IsShaped};
 ghost use Rattle.nv_room.specs.Seats.{view, lead_view, station_of_reader, station_of_lead, stations_of, places_of, kernel_of, due_of, SameLead};
 ghost use Rattle.nv_lanes.specs.Lanes.{lives};
+ghost use Rattle.nv_pool.specs.Chunks.{chunks_of};
+ghost use Rattle.nv_room.specs.Placement.{pool_chunks, chunks_from};
 ghost use Rattle.nv_places.specs.Logs.{lanes_after};
 
 use crate::room::{Lead, Reader, Room};
@@ -69,6 +71,16 @@ impl<K: SyscallKernel> Lead<K> {
         ensures { station < length (lead_view self.now).floors → result ≤ slice_index (lead_view self.now).floors station }
     {
         self.floors[station as usize]
+    }
+
+    /// Whether the chunks of the events from `floor` on and of one more, whose payloads have so many bytes, are no more than the room has.
+    pub fn fits(&self, bytes: u32, floor: u32) -> bool
+        requires bytes { bytes ≤ 4096 }
+        requires floor { floor ≤ length (lead_view self.now).seen }
+        requires near { length (lead_view self.now).seen ≤ floor + (lead_view self.now).places }
+        ensures { IsTrue result ↔ (chunks_from (lead_view self.now).seen floor + chunks_of bytes ≤ pool_chunks (lead_view self.now).places) }
+    {
+        self.trail.pool.fits(bytes, floor)
     }
 
     // The kernel's history is lawful.

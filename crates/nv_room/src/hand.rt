@@ -74,7 +74,7 @@ impl<K: SyscallKernel> Room<K> {
             wrote: _,
             due: _,
             floors: _,
-            next: _,
+            spot: _,
             trail: _,
         } = lead;
         let inside = self.table.shared.exchange(&mut seat, 0, Some(kernel));
@@ -108,7 +108,7 @@ impl<K: SyscallKernel> Room<K> {
             read: _,
             head: _,
             trail,
-            place: _,
+            spot,
         } = reader;
         self.table
             .shared
@@ -123,7 +123,7 @@ impl<K: SyscallKernel> Room<K> {
             wrote: 0,
             due: false,
             floors: [0; STATIONS],
-            next: 0,
+            spot,
             trail,
         }
     }
@@ -164,7 +164,7 @@ impl<K: SyscallKernel> Room<K> {
             read: _,
             head: _,
             trail: _,
-            place: _,
+            spot: _,
         } = reader;
         self.table
             .shared

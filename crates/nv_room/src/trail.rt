@@ -5,12 +5,14 @@ ghost use Rattle.nv_words.specs.Spell.{low, high};
 ghost use Rattle.nv_lanes.specs.Lanes.{noted_by};
 
 use nv_lanes::Lanes;
+use nv_pool::Pool;
 
-/// The lanes after the events that were seen, and of the next event the first word and the sixth, which tell its thread,
+/// The lanes and the chunks after the events that were seen, and of the next event the first word and the sixth, which tell its thread,
 /// its number and its result.
 #[derive(Drop)]
 pub struct Trail {
     pub(crate) lanes: Lanes,
+    pub(crate) pool: Pool,
     pub(crate) first: u64,
     pub(crate) sixth: u64,
 }

@@ -1,12 +1,16 @@
 //! How the lanes follow the events.
-ghost use Rattle.std.specs.Prelude.{◌≡◌, ℕ, ◌+◌, ◌<◌, ◌≤◌, ◌++◌, List, [], ◌∷◌, length, sum, cond, ◌==◌};
+ghost use Rattle.std.specs.Prelude.{◌≡◌, ℕ, ◌+◌, ◌<◌, ◌≤◌, ◌++◌, List, [], ◌∷◌, length, sum, cond, ◌==◌, IfOk};
 ghost use Rattle.std.specs.Int.{w32, cast_signed};
 ghost use Rattle.nv_words.specs.Spell.{low, high};
 ghost use Rattle.nv_lanes.specs.Lanes.{noted_by};
+ghost use Rattle.nv_pool.specs.Pools.{count_of};
 ghost use Rattle.nv_room.specs.Trails.{Trails};
 
 use crate::trail::Trail;
 use nv_lanes::Lanes;
+use nv_places::PLACE_WORDS;
+use nv_pool::Pool;
+use std::alloc::{AllocError, Global};
 
 /// How many numbers fit a half of a word.
 const HALF: u64 = 4294967296;
@@ -38,30 +42,34 @@ fn note(lanes: &mut Lanes, first: u64, sixth: u64)
 }
 
 impl Trail {
-    /// Before any event.
-    pub(crate) fn start() -> Trail
-        ensures { Trails result [] [] }
+    /// Before any event, in a room of so many places a lane.
+    pub(crate) fn start(alloc: Global, places: u32) -> Result<Trail, AllocError>
+        requires { (2 ≤ places) × (places ≤ 1024) }
+        ensures { IfOk result (λ t. Trails places t [] []) }
     {
-        Trail {
+        Ok(Trail {
             lanes: Lanes::start(),
+            pool: Pool::make(alloc, 2 * places + 8, places)?,
             first: 0,
             sixth: 0,
-        }
+        })
     }
 
     /// One more word of the next event.
     pub(crate) fn keep(&mut self, i: u32, word: u64)
-        ensures { (seen : List (List ℕ)) (words : List ℕ) → i ≡ length words → Trails self.old seen words → Trails self.new seen (words ++ word ∷ []) }
+        ensures { (c : ℕ) (seen : List (List ℕ)) (words : List ℕ) → i ≡ length words → Trails c self.old seen words → Trails c self.new seen (words ++ word ∷ []) }
     {
         self.first = kept(self.first, 0, i, word);
         self.sixth = kept(self.sixth, 5, i, word);
     }
 
-    /// The next event, all of whose words were kept, is seen.
-    pub(crate) fn pass(&mut self)
-        requires { sum self.old.lanes.counts < 131072 }
-        ensures { (seen : List (List ℕ)) (words : List ℕ) → 6 ≤ length words → Trails self.old seen words → Trails self.new (seen ++ words ∷ []) [] }
+    /// The next event, which has so many words that were all kept, is seen.
+    pub(crate) fn pass(&mut self, words: u32)
+        requires few { (sum self.old.lanes.counts < 131072) × (count_of self.old.pool < 131072) }
+        requires words { (6 ≤ words) × (words ≤ 518) }
+        ensures { (c : ℕ) (seen : List (List ℕ)) (written : List ℕ) → words ≡ length written → Trails c self.old seen written → Trails c self.new (seen ++ written ∷ []) [] }
     {
         note(&mut self.lanes, self.first, self.sixth);
+        self.pool.add(8 * (words - PLACE_WORDS));
     }
 }

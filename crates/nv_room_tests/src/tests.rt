@@ -1,7 +1,7 @@
 ghost use Rattle.std.specs.Prelude.{◌<◌, ◌≤◌};
 
 use crate::alternating::{Pair, run_pair};
-use crate::calls::{clone, exit_group, getuid, kernel, of_thread};
+use crate::calls::{clone, exit_group, getuid, kernel, of_thread, write};
 use crate::changing::change_leader;
 use crate::relaying::{Relay, run_relay};
 use crate::running::{Script, run};
@@ -26,6 +26,32 @@ fn all_see_all<R: Threads + Sync + Abort>(rt: &R, alloc: Global, versions: u32, 
     for seen in ended.seen.iter() {
         assert_eq!(rt; *seen, 100);
     }
+}
+
+// One lead publishes 49 writes of 4,096 bytes and exit_group: the payloads go round the pool, which has room for one and a half in a room of two places.
+fn all_see_writes<R: Threads + Sync + Abort>(rt: &R, alloc: Global, versions: u32, places: u32)
+    requires versions { (0 < versions) × (versions ≤ 8) }
+    requires places { (2 ≤ places) × (places ≤ 1024) }
+{
+    let script = Script {
+        call: write(alloc, 4096).expect(rt, "memory"),
+        last: exit_group(alloc).expect(rt, "memory"),
+        events: 50,
+        most: 10_000_000,
+    };
+    let kernel = kernel(alloc).expect(rt, "memory");
+    let ended = run(rt, alloc, kernel, &script, versions, places).expect(rt, "memory");
+    assert_eq!(rt; ended.seen.len(), versions as usize);
+    for seen in ended.seen.iter() {
+        assert_eq!(rt; *seen, 50);
+    }
+}
+
+#[test]
+fn largest_payloads(rt: HostRuntime) {
+    all_see_writes(&rt, rt.alloc(), 2, 2);
+    all_see_writes(&rt, rt.alloc(), 4, 2);
+    all_see_writes(&rt, rt.alloc(), 4, 1024);
 }
 
 #[test]

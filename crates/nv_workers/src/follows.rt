@@ -10,10 +10,10 @@ ghost use Rattle.nv_workers.specs.Follows.{AfterTurn, HasGrown, IsIdle, IsBusy, 
 
 use nv_bpf::Filter;
 use nv_calls::SyscallKernel;
+use nv_lamport::{Polled, poll_merged};
 use nv_outside::Gate;
 use nv_promotion::{Lower, lower_gone};
 use nv_replay::{Followed, Version};
-use nv_lamport::{Polled, poll_merged};
 use nv_ring::advance;
 use nv_room::{Reader, Room};
 use nv_words::EventBuf;

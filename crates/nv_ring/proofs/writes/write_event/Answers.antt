@@ -6,6 +6,7 @@ use Rattle.nv_calls.specs.Logs.{InRange, IsLawful}
 use Rattle.nv_words.specs.Spell.{spell, bit}
 use Rattle.nv_room.specs.Seats.{lead_view, kernel_of}
 use Rattle.nv_ring.proofs.Events.{entry_at, spelt_at, last_spelt, one_more, as_long, take_len}
+use Rattle.nv_ring.proofs.Filling.{ready_still}
 use Rattle.nv_ring.proofs.writes.write_event.Goals as goal
 
 pub count-words-requires : goal.count-words-requires
@@ -65,6 +66,9 @@ write_word-requires-clause-word g c κs within =
     let is : get_or (map spell (g.K.SyscallKernel.log (kernel_of c.loop-i.lead))) (length (lead_view c.loop-i.lead).seen) [] ≡ spell (entry c.index-history-at-in-loop-i.result) =
     ap (λ k. get_or (map spell (g.K.SyscallKernel.log k)) (length (lead_view c.loop-i.lead).seen) []) i.kernel ∙ ap (λ z. get_or (map spell log) z []) seen ∙ spelt_at log c.seen-at.result _ again in
     subst (λ (z : List ℕ). slice_get z c.loop-i.i ≡ Some c.word-next.result) (sym is) (slice_get-get_or (spell (entry c.index-history-at-in-loop-i.result)) c.loop-i.i 0 (omega arith) ∙ ap Some (sym c.word-next.ensures))
+
+pub write_word-requires-clause-ready : goal.write_word-requires-clause-ready
+write_word-requires-clause-ready g c κs within = let i = c.loop-i.invariant in ready_still c.args.room.now c.args.lead.now c.loop-i.lead i.seen i.floors i.same.2 c.requires.placed
 
 pub loop-i-preserved : goal.loop-i-preserved
 loop-i-preserved g c =

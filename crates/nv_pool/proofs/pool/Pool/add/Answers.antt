@@ -9,5 +9,5 @@ returns-clause-after c sizes h = let p = c.args.self.now in let b : ℕ = c.args
   total = (λ i. h.total i + c.chunks_of.ensures.is i) ∙ sym (chunks_push sizes b);
   starts = subst (λ (k : ℕ). Starts p.places (set p.starts.items (k % p.places) p.total) (sizes ++ b ∷ [])) (sym h.count)
       (subst (λ (k : ℕ). Starts p.places (set p.starts.items (length sizes % p.places) k) (sizes ++ b ∷ [])) (sym h.total)
-          (starts_push p.places p.starts.items sizes b p.sizes.1 p.sizes.2 h.starts));
+      (starts_push p.places p.starts.items sizes b p.sizes.1 p.sizes.2 h.starts));
 }

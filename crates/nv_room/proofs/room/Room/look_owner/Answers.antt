@@ -18,6 +18,6 @@ invariant_of-reader g c = let r = c.args.reader.now in let e = c.load-word.ensur
   head_is = subst (λ m. r.head ≤ m.0.head_last) (sym e) r.head_is;
   few = r.few;
   next = subst (λ m. HasNext m.0.read) (sym e) r.next;
-  trail_is = subst (λ m. Trails r.trail m.0.seen m.0.read) (sym e) r.trail_is;
-  noted_at = subst (λ m. NotedAt r.place m.0) (sym e) r.noted_at;
+  trail_is = subst (λ m. Trails m.0.places r.trail m.0.seen m.0.read) (sym e) r.trail_is;
+  noted_at = subst (λ m. NotedAt r.spot m.0) (sym e) r.noted_at;
 }

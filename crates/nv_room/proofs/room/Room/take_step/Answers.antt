@@ -5,7 +5,9 @@ use Rattle.std.proofs.lemmas.List.{length-map, take_all}
 use Rattle.std.proofs.lemmas.Option.{same_Some}
 use Rattle.atomic_table.specs.Table.{rest}
 use Rattle.nv_words.specs.Spell.{spell}
+use Rattle.nv_pool.specs.Pools.{Holds}
 use Rattle.nv_places.specs.Logs.{lanes_after}
+use Rattle.nv_room.specs.Placement.{pool_chunks, sizes}
 use Rattle.nv_room.specs.Owner.{owner_word, held}
 use Rattle.nv_room.proofs.Placement.{header_inside}
 use Rattle.nv_room.proofs.Served.{same_head, none_due}
@@ -51,10 +53,10 @@ invariant_of-result g c = let r = c.args.reader in let t = c.store.ensures.2 in 
       quiet = λ z. refl;
       part = ap (λ w. w.wrote) v ∙ t.4;
       next_words = none_due h r.seen long;
-      few = (r.few, omega arith);
+      few = (r.few.0, omega arith);
       floors_are = λ s b. zeros s c.exchange-inside.new.seat.me.0.floors;
-      next_is = λ w. absurd (let q = ap (λ z. length z.wrote) v in let t' = ap length t.4 in omega arith);
-      trail_is = record { lanes = r.trail_is.lanes ∙ ap lanes_after (sym (ap (λ w. w.seen) v)); first = λ w. absurd (let q = ap (λ z. length z.wrote) v in let t' = ap length t.4 in omega arith); sixth = λ w. absurd (let q = ap (λ z. length z.wrote) v in let t' = ap length t.4 in omega arith) };
+      spot_is = λ w. absurd (let q = ap (λ z. length z.wrote) v in let t' = ap length t.4 in omega arith);
+      trail_is = record { lanes = r.trail_is.lanes ∙ ap lanes_after (sym (ap (λ w. w.seen) v)); pool_is = (r.trail_is.pool_is.0 ∙ ap pool_chunks (sym (ap (λ w. w.places) v)), r.trail_is.pool_is.1 ∙ sym (ap (λ w. w.places) v)); pool = subst (λ z. Holds r.trail.pool (sizes z)) (sym (ap (λ w. w.seen) v)) r.trail_is.pool; first = λ w. absurd (let q = ap (λ z. length z.wrote) v in let t' = ap length t.4 in omega arith); sixth = λ w. absurd (let q = ap (λ z. length z.wrote) v in let t' = ap length t.4 in omega arith) };
       history = take_all r.seen (map spell h) (omega (arith, length-map h spell)) ∙ tells ∙ sym (ap (λ w. w.seen) v);
       longer = long ∙ sym (add-zero r.seen);
       began = subst (λ w. ForSome w.start (λ s. g.K.SyscallKernel.start c.in-Some.kernel ≡ g.K.SyscallKernel.start s.value)) (sym v) (subst (λ z. ForSome r.seat.me.0.start (λ s. g.K.SyscallKernel.start z ≡ g.K.SyscallKernel.start s.value)) same t.3);
