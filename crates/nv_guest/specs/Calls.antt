@@ -129,7 +129,7 @@ call_at m tid = call_by (syscall_of (number m)) m tid (handed (syscall_of (numbe
 
 -- ---- the answer
 
--- the bytes of an answer from an address on
+-- the bytes of an answer from an address on; the kernel hands out no more than its place has, so none falls behind it
 abbrev pub stored_at : Image → Option Part → List ℕ → Image
 stored_at memory None bytes = memory
 stored_at memory (Some part) bytes = with_bytes memory part.address bytes
