@@ -1,5 +1,5 @@
 -- The instructions of the programs, one by one.
-use Rattle.std.proofs.Common.{◌≡◌, ℕ, suc, ◌+◌, ◌%◌, ◌^◌, ◌<◌, false, ◌==◌, List, Option, Result, Ok, refl, ap, ◌∙◌, arith}
+use Rattle.std.proofs.Common.{◌≡◌, ℕ, suc, ◌+◌, ◌%◌, ◌^◌, ◌<◌, false, ◌==◌, List, Option, None, Result, Ok, refl, ap, ◌∙◌, arith}
 use Rattle.std.specs.Prelude.{pos, slice_index, slice_set}
 use Rattle.std.specs.Int.{w32, cast_unsigned}
 use Rattle.nv_isa.specs.declared.op.Insn.{Insn}
@@ -21,7 +21,7 @@ use Rattle.nv_gen_laws.specs.Making.{Stops}
 
 -- a machine by its parts
 abbrev pub state : List ℕ → ℕ → Image → Machine
-state x pc memory = record { regs = record { x = x; pc = pc }; memory = memory }
+state x pc memory = record { regs = record { x = x; pc = pc; reserved = None }; memory = memory }
 
 -- the instruction stands there and the next address is below 2^32
 pub record StandsAt (memory : Image) (pc : ℕ) (i : Insn) : Type 0 where

@@ -44,6 +44,18 @@ divided_unsigned a b = if b == 0 then 2 ^ 32 - 1 else a / b
 abbrev pub remainder_unsigned : ℕ → ℕ → ℕ
 remainder_unsigned a b = if b == 0 then a else a % b
 
+-- what an operation of the extension M gives
+abbrev pub multiplied : Op → ℕ → ℕ → ℕ
+multiplied Mul a b = a * b % 2 ^ 32
+multiplied Mulh a b = upper_half (cast_signed w32 a *ℤ cast_signed w32 b)
+multiplied Mulhsu a b = upper_half (cast_signed w32 a *ℤ pos b)
+multiplied Mulhu a b = a * b / 2 ^ 32
+multiplied Div a b = divided a b
+multiplied Divu a b = divided_unsigned a b
+multiplied Rem a b = remainder a b
+multiplied Remu a b = remainder_unsigned a b
+multiplied _ a b = 0
+
 -- what an operation on two numbers gives; the second is an immediate or a register
 abbrev pub computed : Op → ℕ → ℕ → ℕ
 computed Addi a b = sum a b
@@ -65,15 +77,7 @@ computed Srli a b = a / 2 ^ (b % 32)
 computed Srl a b = a / 2 ^ (b % 32)
 computed Srai a b = shifted_copies a (b % 32)
 computed Sra a b = shifted_copies a (b % 32)
-computed Mul a b = a * b % 2 ^ 32
-computed Mulh a b = upper_half (cast_signed w32 a *ℤ cast_signed w32 b)
-computed Mulhsu a b = upper_half (cast_signed w32 a *ℤ pos b)
-computed Mulhu a b = a * b / 2 ^ 32
-computed Div a b = divided a b
-computed Divu a b = divided_unsigned a b
-computed Rem a b = remainder a b
-computed Remu a b = remainder_unsigned a b
-computed _ a b = 0
+computed o a b = multiplied o a b
 
 -- whether the branch is taken
 abbrev pub is_taken : Op → ℕ → ℕ → Bool

@@ -1,6 +1,6 @@
 // What an operation computes.
 ghost use Rattle.std.specs.Prelude.{◌≡◌, ℕ, ◌^◌, ◌<◌};
-ghost use Rattle.nv_machine.specs.Effects.{sum, is_below_signed, as_number, computed, is_taken, shifted_copies, sign_extended, divided, remainder, divided_unsigned, remainder_unsigned, combined};
+ghost use Rattle.nv_machine.specs.Effects.{sum, is_below_signed, as_number, multiplied, computed, is_taken, shifted_copies, sign_extended, divided, remainder, divided_unsigned, remainder_unsigned, combined};
 
 use nv_isa::Op;
 
@@ -19,7 +19,7 @@ fn shift_with_sign(a: u32, by: u32) -> u32
 
 // The upper half of the product of two signed numbers.
 fn high_signed(a: u32, b: u32) -> u32
-    ensures { result ≡ computed Op.Mulh a b }
+    ensures { result ≡ multiplied Op.Mulh a b }
 {
     let product = a.cast_signed() as i64 * b.cast_signed() as i64;
     ((product >> 32) as i32).cast_unsigned()
@@ -27,7 +27,7 @@ fn high_signed(a: u32, b: u32) -> u32
 
 // The upper half of the product of a signed and an unsigned number.
 fn high_mixed(a: u32, b: u32) -> u32
-    ensures { result ≡ computed Op.Mulhsu a b }
+    ensures { result ≡ multiplied Op.Mulhsu a b }
 {
     let product = a.cast_signed() as i64 * b as i64;
     ((product >> 32) as i32).cast_unsigned()
@@ -35,7 +35,7 @@ fn high_mixed(a: u32, b: u32) -> u32
 
 // The upper half of the product of two unsigned numbers.
 fn high(a: u32, b: u32) -> u32
-    ensures { result ≡ computed Op.Mulhu a b }
+    ensures { result ≡ multiplied Op.Mulhu a b }
 {
     let product = a as u64 * b as u64;
     (product >> 32) as u32
@@ -77,6 +77,24 @@ fn rest_unsigned(a: u32, b: u32) -> u32
     if b == 0 { a } else { a % b }
 }
 
+// The result of an operation of the extension M. For others it is 0. It isn't inlined: that keeps the choice between the other operations short.
+#[inline(never)]
+fn multiply(op: Op, a: u32, b: u32) -> u32
+    ensures { result ≡ multiplied op a b }
+{
+    match op {
+        Op::Mul => a.wrapping_mul(b),
+        Op::Mulh => high_signed(a, b),
+        Op::Mulhsu => high_mixed(a, b),
+        Op::Mulhu => high(a, b),
+        Op::Div => divide(a, b),
+        Op::Divu => divide_unsigned(a, b),
+        Op::Rem => rest(a, b),
+        Op::Remu => rest_unsigned(a, b),
+        _ => 0,
+    }
+}
+
 // The result of an operation on two numbers. For others it is 0.
 pub fn compute(op: Op, a: u32, b: u32) -> u32
     ensures { result ≡ computed op a b }
@@ -92,15 +110,7 @@ pub fn compute(op: Op, a: u32, b: u32) -> u32
         Op::Slli | Op::Sll => a.wrapping_shl(b),
         Op::Srli | Op::Srl => a.wrapping_shr(b),
         Op::Srai | Op::Sra => shift_with_sign(a, b % 32),
-        Op::Mul => a.wrapping_mul(b),
-        Op::Mulh => high_signed(a, b),
-        Op::Mulhsu => high_mixed(a, b),
-        Op::Mulhu => high(a, b),
-        Op::Div => divide(a, b),
-        Op::Divu => divide_unsigned(a, b),
-        Op::Rem => rest(a, b),
-        Op::Remu => rest_unsigned(a, b),
-        _ => 0,
+        _ => multiply(op, a, b),
     }
 }
 

@@ -145,6 +145,7 @@ fn store(regs: &mut Regs, memory: &mut Memory, op: Op, word: u32) -> Stepped
     }
 }
 
+#[inline(never)]
 #[tactic(auto, unfolding(nv_isa::specs::Table::insn_of))]
 fn reserve(regs: &mut Regs, memory: &Memory, op: Op, word: u32) -> Stepped
     ensures { (result, regs.new) ≡ load_reserved (insn_of op Form.Reserve word) regs.old memory.now }
@@ -160,6 +161,7 @@ fn reserve(regs: &mut Regs, memory: &Memory, op: Op, word: u32) -> Stepped
     advance(regs, rd(word), value)
 }
 
+#[inline(never)]
 #[tactic(auto, unfolding(nv_isa::specs::Table::insn_of))]
 fn store_reserved(regs: &mut Regs, memory: &mut Memory, op: Op, word: u32) -> Stepped
     ensures { (result, record { regs = regs.new; memory = memory.new }) ≡ store_conditional (insn_of op Form.Atomic word) (record { regs = regs.old; memory = memory.old }) }
@@ -181,6 +183,7 @@ fn store_reserved(regs: &mut Regs, memory: &mut Memory, op: Op, word: u32) -> St
     advance(regs, rd(word), 1)
 }
 
+#[inline(never)]
 #[tactic(auto, unfolding(nv_isa::specs::Table::insn_of))]
 fn combine_word(regs: &mut Regs, memory: &mut Memory, op: Op, word: u32) -> Stepped
     ensures { (result, record { regs = regs.new; memory = memory.new }) ≡ combines op (insn_of op Form.Atomic word) (record { regs = regs.old; memory = memory.old }) }
