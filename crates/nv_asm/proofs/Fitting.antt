@@ -7,7 +7,7 @@ use Rattle.std.specs.Int.RustNames.{FitsSigned}
 use Rattle.nv_isa.specs.declared.op.Op.{Op}
 use Rattle.nv_isa.specs.declared.op.Op.TheVariants as op
 use Rattle.nv_isa.specs.declared.op.Form.{Form}
-use Rattle.nv_isa.specs.declared.op.Form.TheVariants.{Register, Immediate, Shift, Store, Branch, Upper, Jump, Whole}
+use Rattle.nv_isa.specs.declared.op.Form.TheVariants.{Register, Immediate, Shift, Store, Branch, Upper, Jump, Whole, Atomic, Reserve}
 use Rattle.nv_isa.specs.declared.op.Insn.{Insn}
 use Rattle.nv_isa.specs.Table.{row}
 use Rattle.nv_isa.specs.Spelling.{low, InBits, FitsForm, Fits}
@@ -23,6 +23,8 @@ same-form Branch Branch e = refl
 same-form Upper Upper e = refl
 same-form Jump Jump e = refl
 same-form Whole Whole e = refl
+same-form Atomic Atomic e = refl
+same-form Reserve Reserve e = refl
 same-form _ _ e = cc
 
 fits : (f : Form) (i : Insn) → IsTrue (has_form f i.op) → FitsForm f i → Fits i
@@ -42,6 +44,12 @@ fits-shift o d a z h hd ha least most = fits Shift (insn o d a 0 z) h (record { 
 
 pub fits-store : (o : Op) (a b : ℕ) (z : ℤ) → IsTrue (has_form Store o) → a < 32 → b < 32 → neg_ℤ (pos 2048) ≤ℤ z → z ≤ℤ pos 2047 → Fits (insn o 0 a b z)
 fits-store o a b z h ha hb least most = fits Store (insn o 0 a b z) h (record { registers = (refl, ha, hb); immediate = in_12_bits z least most })
+
+pub fits-reserved : (o : Op) (d a : ℕ) (z : ℤ) → IsTrue (has_form Reserve o) → d < 32 → a < 32 → pos 0 ≤ℤ z → z ≤ℤ pos 3 → Fits (insn o d a 0 z)
+fits-reserved o d a z h hd ha least most = fits Reserve (insn o d a 0 z) h (record { registers = (hd, ha, refl); immediate = (least, grind (arith, ints)) })
+
+pub fits-atomic : (o : Op) (d a b : ℕ) (z : ℤ) → IsTrue (has_form Atomic o) → d < 32 → a < 32 → b < 32 → pos 0 ≤ℤ z → z ≤ℤ pos 3 → Fits (insn o d a b z)
+fits-atomic o d a b z h hd ha hb least most = fits Atomic (insn o d a b z) h (record { registers = (hd, ha, hb); immediate = (least, grind (arith, ints)) })
 
 low-12 : (n : ℕ) → n < 2 ^ 20 → low 12 (cast_signed w32 (4096 * n)) ≡ 0
 low-12 n h = ap (λ m. m % 2 ^ 12) (of_z-to_z w32 (4096 * n) (omega arith)) ∙ omega arith

@@ -1,12 +1,14 @@
 -- The words that begin a statement.
-use Rattle.std.specs.Prelude.{ℕ, Bool, true, false, List, [], ◌∷◌, codes}
+use Rattle.std.specs.Prelude.{ℕ, Bool, true, false, List, [], ◌∷◌, ◌++◌, codes, ℤ, pos}
 use Rattle.nv_isa.specs.declared.op.Op.{Op}
 use Rattle.nv_isa.specs.declared.op.Op.TheVariants as op
 use Rattle.nv_isa.specs.declared.op.Form.{Form}
 use Rattle.nv_isa.specs.declared.op.Form.TheVariants as form
 use Rattle.nv_isa.specs.Table.{row}
+use Rattle.nv_asm.specs.declared.forms.Order.{Order}
+use Rattle.nv_asm.specs.declared.forms.Order.TheVariants as order
 use Rattle.nv_asm.specs.declared.forms.Shape.{Shape}
-use Rattle.nv_asm.specs.declared.forms.Shape.TheVariants.{Registers, Immediate, Shift, Load, Store, Branch, JumpAndLink, Upper, Alone, LoadNumber, LoadAddress, Move, Jump, Text, Data, Zero, Entry}
+use Rattle.nv_asm.specs.declared.forms.Shape.TheVariants.{Registers, Immediate, Shift, Load, Store, Reserved, Atomic, Branch, JumpAndLink, Upper, Alone, LoadNumber, LoadAddress, Move, Jump, Text, Data, Zero, Entry}
 use Rattle.nv_asm.specs.declared.forms.Kind.{Kind}
 use Rattle.nv_asm.specs.declared.forms.Kind.TheVariants.{Plain, Bytes, Words, Ascii}
 
@@ -19,6 +21,8 @@ same_form form.Branch form.Branch = true
 same_form form.Upper form.Upper = true
 same_form form.Jump form.Jump = true
 same_form form.Whole form.Whole = true
+same_form form.Atomic form.Atomic = true
+same_form form.Reserve form.Reserve = true
 same_form _ _ = false
 
 -- the form of the operation's words
@@ -32,6 +36,8 @@ is_lawful_shape (Immediate o) = has_form form.Immediate o
 is_lawful_shape (Shift o) = has_form form.Shift o
 is_lawful_shape (Load o) = has_form form.Immediate o
 is_lawful_shape (Store o) = has_form form.Store o
+is_lawful_shape (Reserved o x) = has_form form.Reserve o
+is_lawful_shape (Atomic o x) = has_form form.Atomic o
 is_lawful_shape (Branch o) = has_form form.Branch o
 is_lawful_shape (Upper o) = has_form form.Upper o
 is_lawful_shape _ = true
@@ -39,6 +45,19 @@ is_lawful_shape _ = true
 abbrev pub is_lawful : Kind → Bool
 is_lawful (Plain s) = is_lawful_shape s
 is_lawful _ = true
+
+-- the bits of an order: 2 * aq + rl
+abbrev pub flags : Order → ℤ
+flags order.Relaxed = pos 0
+flags order.Acquire = pos 2
+flags order.Release = pos 1
+flags order.AcquireRelease = pos 3
+
+-- an atomic operation by itself and with each suffix
+abbrev pub each_order : List ℕ → (Order → Shape) → List (List ℕ × Kind) → List (List ℕ × Kind)
+each_order name shape rest =
+    (name, Plain (shape order.Relaxed)) ∷ (name ++ codes ".aq", Plain (shape order.Acquire)) ∷
+    (name ++ codes ".rl", Plain (shape order.Release)) ∷ (name ++ codes ".aqrl", Plain (shape order.AcquireRelease)) ∷ rest
 
 unfoldable pub kinds : List (List ℕ × Kind)
 kinds =
@@ -54,4 +73,18 @@ kinds =
     (codes "fence", Plain (Alone 0x0ff0000f)) ∷ (codes "ecall", Plain (Alone 0x73)) ∷ (codes "ebreak", Plain (Alone 0x100073)) ∷ (codes "nop", Plain (Alone 0x13)) ∷
     (codes "li", Plain LoadNumber) ∷ (codes "la", Plain LoadAddress) ∷ (codes "mv", Plain Move) ∷ (codes "j", Plain Jump) ∷
     (codes ".text", Plain Text) ∷ (codes ".data", Plain Data) ∷ (codes ".zero", Plain Zero) ∷ (codes ".entry", Plain Entry) ∷
-    (codes ".byte", Bytes) ∷ (codes ".word", Words) ∷ (codes ".ascii", Ascii) ∷ []
+    (codes ".byte", Bytes) ∷ (codes ".word", Words) ∷ (codes ".ascii", Ascii) ∷
+    (codes "mul", Plain (Registers op.Mul)) ∷ (codes "mulh", Plain (Registers op.Mulh)) ∷ (codes "mulhsu", Plain (Registers op.Mulhsu)) ∷ (codes "mulhu", Plain (Registers op.Mulhu)) ∷
+    (codes "div", Plain (Registers op.Div)) ∷ (codes "divu", Plain (Registers op.Divu)) ∷ (codes "rem", Plain (Registers op.Rem)) ∷ (codes "remu", Plain (Registers op.Remu)) ∷
+    each_order (codes "lr.w") (Reserved op.LoadReserved) (
+    each_order (codes "sc.w") (Atomic op.StoreConditional) (
+    each_order (codes "amoswap.w") (Atomic op.AmoSwap) (
+    each_order (codes "amoadd.w") (Atomic op.AmoAdd) (
+    each_order (codes "amoxor.w") (Atomic op.AmoXor) (
+    each_order (codes "amoand.w") (Atomic op.AmoAnd) (
+    each_order (codes "amoor.w") (Atomic op.AmoOr) (
+    each_order (codes "amomin.w") (Atomic op.AmoMin) (
+    each_order (codes "amomax.w") (Atomic op.AmoMax) (
+    each_order (codes "amominu.w") (Atomic op.AmoMinu) (
+    each_order (codes "amomaxu.w") (Atomic op.AmoMaxu) (
+    [])))))))))))

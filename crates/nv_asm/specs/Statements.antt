@@ -11,12 +11,13 @@ use Rattle.nv_text.specs.Lines.{is_name, operands, front, behind}
 use Rattle.nv_text.specs.Names.{defined}
 use Rattle.nv_asm.specs.declared.fault.AsmCause.{AsmCause}
 use Rattle.nv_asm.specs.declared.fault.AsmCause.TheVariants as cause
+use Rattle.nv_asm.specs.declared.forms.Order.{Order}
 use Rattle.nv_asm.specs.declared.forms.Shape.{Shape}
 use Rattle.nv_asm.specs.declared.forms.Shape.TheVariants as shape
 use Rattle.nv_asm.specs.declared.forms.Kind.{Kind}
 use Rattle.nv_asm.specs.declared.forms.Kind.TheVariants as kind
 use Rattle.nv_asm.specs.Numbers.{register, is_number, number, number_of_8_bits, number_of_12_bits, number_of_32_bits}
-use Rattle.nv_asm.specs.Forms.{kinds}
+use Rattle.nv_asm.specs.Forms.{kinds, flags}
 use Rattle.nv_asm.specs.Strings.{string}
 
 -- a word of `.word`
@@ -99,6 +100,10 @@ base_register text = option_and_then register (enclosed (behind is_not_open text
 abbrev pub displacement : List ℕ → Option (Option ℤ)
 displacement text = number_of_12_bits (front is_not_open text)
 
+-- the register of `(rs1)`
+abbrev pub sole_register : List ℕ → Option ℕ
+sole_register text = if length (front is_not_open text) == 0 then base_register text else None
+
 unfoldable pub registers_of : Op → List ℕ → List ℕ → List ℕ → Option Statement
 registers_of o a b c = do
   rd ← register a
@@ -133,6 +138,19 @@ store_of o a b = do
   rs1 ← base_register b
   n ← displacement b
   Some (with_number n (λ z. single (insn o 0 rs1 rs2 z)))
+
+unfoldable pub reserved_of : Op → Order → List ℕ → List ℕ → Option Statement
+reserved_of o x a b = do
+  rd ← register a
+  rs1 ← sole_register b
+  Some (single (insn o rd rs1 0 (flags x)))
+
+unfoldable pub atomic_of : Op → Order → List ℕ → List ℕ → List ℕ → Option Statement
+atomic_of o x a b c = do
+  rd ← register a
+  rs2 ← register b
+  rs1 ← sole_register c
+  Some (single (insn o rd rs1 rs2 (flags x)))
 
 unfoldable pub branch_of : Op → List ℕ → List ℕ → List ℕ → Option Statement
 branch_of o a b c = do
@@ -200,6 +218,7 @@ of_one _ a = None
 abbrev pub of_two : Shape → List ℕ → List ℕ → Option Statement
 of_two (shape.Load o) a b = load_of o a b
 of_two (shape.Store o) a b = store_of o a b
+of_two (shape.Reserved o x) a b = reserved_of o x a b
 of_two (shape.Upper o) a b = upper_number_of o a b
 of_two shape.JumpAndLink a b = jump_and_link_of a b
 of_two shape.LoadNumber a b = load_number_of a b
@@ -211,6 +230,7 @@ abbrev pub of_three : Shape → List ℕ → List ℕ → List ℕ → Option St
 of_three (shape.Registers o) a b c = registers_of o a b c
 of_three (shape.Immediate o) a b c = immediate_of o a b c
 of_three (shape.Shift o) a b c = shift_of o a b c
+of_three (shape.Atomic o x) a b c = atomic_of o x a b c
 of_three (shape.Branch o) a b c = branch_of o a b c
 of_three _ a b c = None
 

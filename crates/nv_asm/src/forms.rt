@@ -1,9 +1,21 @@
 // The words that begin a statement.
-ghost use Rattle.std.specs.Prelude.{◌≡◌, IsTrue, IfSome, map};
+ghost use Rattle.std.specs.Prelude.{◌≡◌, IsTrue, IfSome, map, pos, ◌≤ℤ◌};
 ghost use Rattle.nv_text.specs.Names.{defined};
-ghost use Rattle.nv_asm.specs.Forms.{kinds, is_lawful};
+ghost use Rattle.nv_asm.specs.Forms.{kinds, is_lawful, flags};
 
 use nv_isa::Op;
+
+/// What an atomic operation orders (the manual's section 8.1).
+#[derive(Clone, Copy, Debug, PartialEq, Eq)]
+pub enum Order {
+    Relaxed,
+    /// `.aq`.
+    Acquire,
+    /// `.rl`.
+    Release,
+    /// `.aqrl`.
+    AcquireRelease,
+}
 
 /// The operands of a statement that has a fixed number of them.
 #[derive(Clone, Copy, Debug, PartialEq, Eq)]
@@ -18,6 +30,10 @@ pub enum Shape {
     Load(Op),
     /// rs2, imm(rs1).
     Store(Op),
+    /// rd, (rs1): `lr.w`.
+    Reserved(Op, Order),
+    /// rd, rs2, (rs1).
+    Atomic(Op, Order),
     /// rs1, rs2 and a label.
     Branch(Op),
     /// rd and a label: `jal`.
@@ -56,7 +72,7 @@ pub enum Kind {
     Ascii,
 }
 
-const KINDS: [(&str, Kind); 52] = [
+const KINDS: [(&str, Kind); 104] = [
     ("add", Kind::Plain(Shape::Registers(Op::Add))),
     ("sub", Kind::Plain(Shape::Registers(Op::Sub))),
     ("sll", Kind::Plain(Shape::Registers(Op::Sll))),
@@ -109,7 +125,204 @@ const KINDS: [(&str, Kind); 52] = [
     (".byte", Kind::Bytes),
     (".word", Kind::Words),
     (".ascii", Kind::Ascii),
+    ("mul", Kind::Plain(Shape::Registers(Op::Mul))),
+    ("mulh", Kind::Plain(Shape::Registers(Op::Mulh))),
+    ("mulhsu", Kind::Plain(Shape::Registers(Op::Mulhsu))),
+    ("mulhu", Kind::Plain(Shape::Registers(Op::Mulhu))),
+    ("div", Kind::Plain(Shape::Registers(Op::Div))),
+    ("divu", Kind::Plain(Shape::Registers(Op::Divu))),
+    ("rem", Kind::Plain(Shape::Registers(Op::Rem))),
+    ("remu", Kind::Plain(Shape::Registers(Op::Remu))),
+    (
+        "lr.w",
+        Kind::Plain(Shape::Reserved(Op::LoadReserved, Order::Relaxed)),
+    ),
+    (
+        "lr.w.aq",
+        Kind::Plain(Shape::Reserved(Op::LoadReserved, Order::Acquire)),
+    ),
+    (
+        "lr.w.rl",
+        Kind::Plain(Shape::Reserved(Op::LoadReserved, Order::Release)),
+    ),
+    (
+        "lr.w.aqrl",
+        Kind::Plain(Shape::Reserved(Op::LoadReserved, Order::AcquireRelease)),
+    ),
+    (
+        "sc.w",
+        Kind::Plain(Shape::Atomic(Op::StoreConditional, Order::Relaxed)),
+    ),
+    (
+        "sc.w.aq",
+        Kind::Plain(Shape::Atomic(Op::StoreConditional, Order::Acquire)),
+    ),
+    (
+        "sc.w.rl",
+        Kind::Plain(Shape::Atomic(Op::StoreConditional, Order::Release)),
+    ),
+    (
+        "sc.w.aqrl",
+        Kind::Plain(Shape::Atomic(Op::StoreConditional, Order::AcquireRelease)),
+    ),
+    (
+        "amoswap.w",
+        Kind::Plain(Shape::Atomic(Op::AmoSwap, Order::Relaxed)),
+    ),
+    (
+        "amoswap.w.aq",
+        Kind::Plain(Shape::Atomic(Op::AmoSwap, Order::Acquire)),
+    ),
+    (
+        "amoswap.w.rl",
+        Kind::Plain(Shape::Atomic(Op::AmoSwap, Order::Release)),
+    ),
+    (
+        "amoswap.w.aqrl",
+        Kind::Plain(Shape::Atomic(Op::AmoSwap, Order::AcquireRelease)),
+    ),
+    (
+        "amoadd.w",
+        Kind::Plain(Shape::Atomic(Op::AmoAdd, Order::Relaxed)),
+    ),
+    (
+        "amoadd.w.aq",
+        Kind::Plain(Shape::Atomic(Op::AmoAdd, Order::Acquire)),
+    ),
+    (
+        "amoadd.w.rl",
+        Kind::Plain(Shape::Atomic(Op::AmoAdd, Order::Release)),
+    ),
+    (
+        "amoadd.w.aqrl",
+        Kind::Plain(Shape::Atomic(Op::AmoAdd, Order::AcquireRelease)),
+    ),
+    (
+        "amoxor.w",
+        Kind::Plain(Shape::Atomic(Op::AmoXor, Order::Relaxed)),
+    ),
+    (
+        "amoxor.w.aq",
+        Kind::Plain(Shape::Atomic(Op::AmoXor, Order::Acquire)),
+    ),
+    (
+        "amoxor.w.rl",
+        Kind::Plain(Shape::Atomic(Op::AmoXor, Order::Release)),
+    ),
+    (
+        "amoxor.w.aqrl",
+        Kind::Plain(Shape::Atomic(Op::AmoXor, Order::AcquireRelease)),
+    ),
+    (
+        "amoand.w",
+        Kind::Plain(Shape::Atomic(Op::AmoAnd, Order::Relaxed)),
+    ),
+    (
+        "amoand.w.aq",
+        Kind::Plain(Shape::Atomic(Op::AmoAnd, Order::Acquire)),
+    ),
+    (
+        "amoand.w.rl",
+        Kind::Plain(Shape::Atomic(Op::AmoAnd, Order::Release)),
+    ),
+    (
+        "amoand.w.aqrl",
+        Kind::Plain(Shape::Atomic(Op::AmoAnd, Order::AcquireRelease)),
+    ),
+    (
+        "amoor.w",
+        Kind::Plain(Shape::Atomic(Op::AmoOr, Order::Relaxed)),
+    ),
+    (
+        "amoor.w.aq",
+        Kind::Plain(Shape::Atomic(Op::AmoOr, Order::Acquire)),
+    ),
+    (
+        "amoor.w.rl",
+        Kind::Plain(Shape::Atomic(Op::AmoOr, Order::Release)),
+    ),
+    (
+        "amoor.w.aqrl",
+        Kind::Plain(Shape::Atomic(Op::AmoOr, Order::AcquireRelease)),
+    ),
+    (
+        "amomin.w",
+        Kind::Plain(Shape::Atomic(Op::AmoMin, Order::Relaxed)),
+    ),
+    (
+        "amomin.w.aq",
+        Kind::Plain(Shape::Atomic(Op::AmoMin, Order::Acquire)),
+    ),
+    (
+        "amomin.w.rl",
+        Kind::Plain(Shape::Atomic(Op::AmoMin, Order::Release)),
+    ),
+    (
+        "amomin.w.aqrl",
+        Kind::Plain(Shape::Atomic(Op::AmoMin, Order::AcquireRelease)),
+    ),
+    (
+        "amomax.w",
+        Kind::Plain(Shape::Atomic(Op::AmoMax, Order::Relaxed)),
+    ),
+    (
+        "amomax.w.aq",
+        Kind::Plain(Shape::Atomic(Op::AmoMax, Order::Acquire)),
+    ),
+    (
+        "amomax.w.rl",
+        Kind::Plain(Shape::Atomic(Op::AmoMax, Order::Release)),
+    ),
+    (
+        "amomax.w.aqrl",
+        Kind::Plain(Shape::Atomic(Op::AmoMax, Order::AcquireRelease)),
+    ),
+    (
+        "amominu.w",
+        Kind::Plain(Shape::Atomic(Op::AmoMinu, Order::Relaxed)),
+    ),
+    (
+        "amominu.w.aq",
+        Kind::Plain(Shape::Atomic(Op::AmoMinu, Order::Acquire)),
+    ),
+    (
+        "amominu.w.rl",
+        Kind::Plain(Shape::Atomic(Op::AmoMinu, Order::Release)),
+    ),
+    (
+        "amominu.w.aqrl",
+        Kind::Plain(Shape::Atomic(Op::AmoMinu, Order::AcquireRelease)),
+    ),
+    (
+        "amomaxu.w",
+        Kind::Plain(Shape::Atomic(Op::AmoMaxu, Order::Relaxed)),
+    ),
+    (
+        "amomaxu.w.aq",
+        Kind::Plain(Shape::Atomic(Op::AmoMaxu, Order::Acquire)),
+    ),
+    (
+        "amomaxu.w.rl",
+        Kind::Plain(Shape::Atomic(Op::AmoMaxu, Order::Release)),
+    ),
+    (
+        "amomaxu.w.aqrl",
+        Kind::Plain(Shape::Atomic(Op::AmoMaxu, Order::AcquireRelease)),
+    ),
 ];
+
+/// The bits of the order in an instruction: 2 * aq + rl.
+pub fn flags(order: Order) -> i32
+    ensures value { result ≡ flags order }
+    ensures few { (pos 0 ≤ℤ result) × (result ≤ℤ pos 3) }
+{
+    match order {
+        Order::Relaxed => 0,
+        Order::Acquire => 2,
+        Order::Release => 1,
+        Order::AcquireRelease => 3,
+    }
+}
 
 fn find(table: &[(&str, Kind)], word: &[u8]) -> Option<Kind>
     ensures { result ≡ defined (map (λ entry. (entry.0.now, entry.1)) table.now) word.now }

@@ -1,4 +1,4 @@
-//! The assembler of RV32I programs.
+//! The assembler of RV32IMA programs.
 #![tactic(auto)]
 
 mod assembling;

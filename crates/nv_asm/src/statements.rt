@@ -6,14 +6,14 @@ ghost use Rattle.nv_isa.specs.Spelling.{encoded, Fits};
 ghost use Rattle.nv_isa.specs.declared.op.Form.TheVariants as form;
 ghost use Rattle.nv_asm.specs.Numbers.{is_number, number_of_8_bits, number_of_12_bits, number_of_32_bits};
 ghost use Rattle.nv_asm.specs.Forms.{has_form, is_lawful, is_lawful_shape};
-ghost use Rattle.nv_asm.specs.Statements.{closed, enclosed, is_not_open, base_register, displacement, name, upper_of, lower_of, loading, registers_of, immediate_of, shift_of, load_of, store_of, branch_of, jump_and_link_of, upper_number_of, load_number_of, load_address_of, move_of, jump_of, zeros_of, entry_of, of_none, of_one, of_two, of_three, formed, single, is_byte, byte_of, bytes_of, is_item, is_word, word_of, words_of, read_of, statement};
+ghost use Rattle.nv_asm.specs.Statements.{closed, enclosed, is_not_open, base_register, displacement, sole_register, name, upper_of, lower_of, loading, registers_of, immediate_of, shift_of, load_of, store_of, reserved_of, atomic_of, branch_of, jump_and_link_of, upper_number_of, load_number_of, load_address_of, move_of, jump_of, zeros_of, entry_of, of_none, of_one, of_two, of_three, formed, single, is_byte, byte_of, bytes_of, is_item, is_word, word_of, words_of, read_of, statement};
 ghost use Rattle.nv_asm.specs.Places.{size, counted};
 ghost use Rattle.nv_asm.specs.Bounds.{most_of};
 ghost use Rattle.nv_asm.specs.Views.{view, word_view, words_view, result_view, texts};
 
 use crate::code::{Branch, Code, Insns, Statement, Word};
 use crate::fault::AsmCause;
-use crate::forms::{Kind, Shape, kind_of};
+use crate::forms::{Kind, Order, Shape, flags, kind_of};
 use crate::numbers::{Register, is_number, number, number_of_32_bits, register_of};
 use crate::strings::string;
 use nv_isa::{Insn, Op, encode};
@@ -130,6 +130,16 @@ fn displacement(text: &[u8]) -> Option<Option<i32>>
     number_of_12_bits(&text[..open_place(text)])
 }
 
+// The register of `(rs1)`.
+fn sole_register(text: &[u8]) -> Option<Register>
+    ensures { option_map (λ r. r.number) result ≡ sole_register text.now }
+{
+    if open_place(text) != 0 {
+        return None;
+    }
+    base_register(text)
+}
+
 #[tactic(auto, unfolding(crate::specs::Statements::registers_of))]
 fn registers<'a>(op: Op, rd: &[u8], rs1: &[u8], rs2: &[u8]) -> Option<Statement<'a>>
     requires { IsTrue (has_form form.Register op) }
@@ -225,6 +235,41 @@ fn store<'a>(op: Op, rs2: &[u8], to: &[u8]) -> Option<Statement<'a>>
         rs1: rs1.number,
         rs2: rs2.number,
         imm: value,
+    }))
+}
+
+#[tactic(auto, unfolding(crate::specs::Statements::reserved_of))]
+fn reserved<'a>(op: Op, order: Order, rd: &[u8], at: &[u8]) -> Option<Statement<'a>>
+    requires { IsTrue (has_form form.Reserve op) }
+    ensures value { option_map view result ≡ reserved_of op order rd.now at.now }
+    ensures small { IfSome result (λ s. size (view s) ≤ 1048576) }
+{
+    let rd = register_of(rd)?;
+    let rs1 = sole_register(at)?;
+    Some(single(Insn {
+        op,
+        rd: rd.number,
+        rs1: rs1.number,
+        rs2: 0,
+        imm: flags(order),
+    }))
+}
+
+#[tactic(auto, unfolding(crate::specs::Statements::atomic_of))]
+fn atomic<'a>(op: Op, order: Order, rd: &[u8], rs2: &[u8], at: &[u8]) -> Option<Statement<'a>>
+    requires { IsTrue (has_form form.Atomic op) }
+    ensures value { option_map view result ≡ atomic_of op order rd.now rs2.now at.now }
+    ensures small { IfSome result (λ s. size (view s) ≤ 1048576) }
+{
+    let rd = register_of(rd)?;
+    let rs2 = register_of(rs2)?;
+    let rs1 = sole_register(at)?;
+    Some(single(Insn {
+        op,
+        rd: rd.number,
+        rs1: rs1.number,
+        rs2: rs2.number,
+        imm: flags(order),
     }))
 }
 
@@ -385,6 +430,7 @@ fn of_two<'a>(shape: Shape, a: &[u8], b: &'a [u8]) -> Option<Statement<'a>>
     match shape {
         Shape::Load(op) => load(op, a, b),
         Shape::Store(op) => store(op, a, b),
+        Shape::Reserved(op, order) => reserved(op, order, a, b),
         Shape::Upper(op) => upper_number(op, a, b),
         Shape::JumpAndLink => jump_and_link(a, b),
         Shape::LoadNumber => load_number(a, b),
@@ -403,6 +449,7 @@ fn of_three<'a>(shape: Shape, a: &[u8], b: &[u8], c: &'a [u8]) -> Option<Stateme
         Shape::Registers(op) => registers(op, a, b, c),
         Shape::Immediate(op) => immediate(op, a, b, c),
         Shape::Shift(op) => shift(op, a, b, c),
+        Shape::Atomic(op, order) => atomic(op, order, a, b, c),
         Shape::Branch(op) => branch(op, a, b, c),
         _ => None,
     }
