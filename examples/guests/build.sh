@@ -5,7 +5,7 @@ set -eu
 cd "$(dirname "$0")"
 
 compiler=${CC_GUEST:-riscv64-unknown-elf-gcc}
-machine="-march=rv32i -mabi=ilp32"
+machine="-march=rv32ima -mabi=ilp32"
 if ! command -v "$compiler" >/dev/null; then
     echo "build.sh: $compiler isn't on this machine" >&2
     exit 3

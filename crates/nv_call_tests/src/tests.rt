@@ -4,6 +4,7 @@ use std::sync::Wait;
 use std::thread::Threads;
 
 mod addresses;
+mod atomics;
 mod files;
 mod flags;
 mod guests_of_c;
