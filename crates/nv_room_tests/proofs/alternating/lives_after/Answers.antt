@@ -6,6 +6,7 @@ use Rattle.nv_calls.specs.Calls.{Entry, entry}
 use Rattle.nv_calls.specs.Logs.{live_after, child_of}
 use Rattle.nv_lanes.specs.Lanes.{is_of}
 use Rattle.nv_calls.specs.declared.calls.Event.{Event}
+use Rattle.nv_room_tests.specs.Going.{GoesOn}
 use Rattle.nv_room_tests.proofs.Living.{lives_on, child_lives, either, made_of}
 use Rattle.nv_room_tests.proofs.alternating.lives_after.Goals as goal
 
@@ -17,7 +18,7 @@ loop-event-preserved c = λ lives.
     let more : take (c.loop-event.event-index + 1) xs ≡ take c.loop-event.event-index xs ++ e ∷ [] = take_more xs c.loop-event.event-index e t ∙ ap (λ z. take c.loop-event.event-index xs ++ z ∷ []) (sym c.event-item.is) in
     let mapped : map entry (take (c.loop-event.event-index + 1) xs) ≡ map entry (take c.loop-event.event-index xs) ++ entry e ∷ [] = ap (map entry) more ∙ map-append entry (take c.loop-event.event-index xs) (e ∷ []) in
     let front : List Event = take c.loop-event.event-index xs in
-    let go = (c.if-event-eq94.false, c.if-event-eq93.false) in
+    let go : GoesOn (entry e).call = (c.if-event-eq94.false, c.if-event-eq93.false) in
     subst (λ (z : List Entry). Contains (live_after z) c.args.tid) (sym mapped)
     (⊎_elim (λ was. lives_on (map entry front) (entry e) c.args.tid go (c.loop-event.invariant was))
     (λ made. child_lives (map entry front) (entry e) c.args.tid go (made_of (child_of (entry e)) c.args.tid made))
