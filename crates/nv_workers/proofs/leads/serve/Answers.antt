@@ -4,6 +4,7 @@ use Rattle.nv_replay.proofs.Wholes.{none_from}
 use Rattle.nv_workers.specs.Working.{LeadsOn}
 use Rattle.nv_workers.proofs.Reading.{off_from}
 use Rattle.nv_workers.proofs.Serving.{grew_lead, placed_lead, reserved_lead, waits_lead, refused_lead, ended_now, leads_now}
+use Rattle.nv_ring.proofs.Filling.{ready_still}
 use Rattle.nv_workers.proofs.leads.serve.Goals as goal
 
 pub returns-in-Waiting-clause-after : goal.returns-in-Waiting-clause-after
@@ -91,3 +92,7 @@ pub returns-clause-published : goal.returns-clause-published
 returns-clause-published g c =
     let r = c.reserve.ensures in
     grew_lead c.args.lead.now c.place.new.lead c.reserve.new.self c.publish_call.new.lead _ c.in_default.ensures.seen r.view c.publish_call.ensures.seen
+
+-- taking memory moves no floor
+pub publish_call-requires-clause-placed : goal.publish_call-requires-clause-placed
+publish_call-requires-clause-placed g c κs within = let e = c.reserve.ensures in ready_still c.args.room.now c.place.new.lead c.reserve.new.self (ap (λ w. w.seen) e.view) (ap (λ w. w.floors) e.view) e.same.2 c.in_default.ensures.placed
