@@ -1,7 +1,7 @@
 // Two threads that count in one word, by the ways that instructions have for it, and the rows of multiplication and division.
 use super::SCRIPT;
 use crate::run;
-use nv_cli_tests::Answered;
+use nv_test_support::Answered;
 use std::alloc::{AllocError, Global};
 use std::sync::Wait;
 use std::test::Fail;
