@@ -64,6 +64,55 @@ fn small_ring(rt: HostRuntime) -> Result<(), Fail> {
     Ok(())
 }
 
+// Writes the 4,096 bytes behind it to descriptor 1, 50 times, and exits with 0.
+const WRITES_50: [u32; 13] = [
+    0x000105b7, 0x03458593, 0x00100513, 0x00001637, 0x04000893, 0x03200413, 0x00000073, 0x00100513,
+    0xfff40413, 0xfe041ae3, 0x00000513, 0x05e00893, 0x00000073,
+];
+
+// The report of four such versions, whose bytes are all `a`.
+fn report_of_writes(alloc: Global) -> Result<String, AllocError> {
+    let bytes = "a".repeat(alloc, 204_800)?;
+    let payload = "61".repeat(alloc, 4096)?;
+    let mut text = format!(in alloc; "output 204800\n{bytes}\nlog 51\n")?;
+    for call in 0..50 {
+        let line = format!(in alloc; "{call} 100 64 1 0 4096 0 0 0 = 4096 : {payload}\n")?;
+        text.push_str(line.as_str())?;
+    }
+    text.push_str(
+        "50 100 94 0 0 0 0 0 0 = 0 :\nfates 4\n0 exited 0 seen 51 led 0-51 rewrites 0\n",
+    )?;
+    for version in 1..4 {
+        let line = format!(in alloc; "{version} exited 0 seen 51 led - rewrites 0\n")?;
+        text.push_str(line.as_str())?;
+    }
+    Ok(text)
+}
+
+// The largest events go through the chunks of a room of two places as through those of 1,024.
+#[test]
+fn large_writes(rt: HostRuntime) -> Result<(), Fail> {
+    let tail = "a".repeat(rt.alloc(), 4096)?;
+    let version = image(rt.alloc(), &WRITES_50, tail.as_bytes())?;
+    let files: [(&str, &[u8]); 2] = [("s", SCRIPT), ("v", &version)];
+    let report = report_of_writes(rt.alloc())?;
+    for ring in ["2", "1024"] {
+        let words = [
+            "varan", "run", "--script", "s", "--ring", ring, "v", "v", "v", "v",
+        ];
+        let outside = Outside {
+            files: &files,
+            failing_reads: &[],
+            most: 4096,
+            failing_writes: &[],
+        };
+        let answered = monitor(&rt, rt.alloc(), &words, outside)?;
+        assert_eq!(rt; answered.status, 0);
+        assert!(rt; answered.written.as_slice() == report.as_bytes());
+    }
+    Ok(())
+}
+
 // Version 1 has taken event 3 and the leader is about to publish event 7, at the same time: neither passes before both are
 // there. The stamps of each come in order.
 #[derive(Drop)]
