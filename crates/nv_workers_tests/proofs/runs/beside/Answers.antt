@@ -4,7 +4,7 @@ use Rattle.nv_workers.proofs.NewSeats.{as_made}
 use Rattle.nv_workers_tests.proofs.runs.beside.Goals as goal
 
 pub staff-requires-clause-seats : goal.staff-requires-clause-seats
-staff-requires-clause-seats g c κs =
+staff-requires-clause-seats g c κs within =
     let m = c.in_ok-room.ensures in
     (c.in_ok-room.room, as_made c.in_ok-room.room c.in_ok-room.readers.items c.in_ok-room.lead _ m.origin m.readers.1 m.lead m.log m.start)
 
@@ -17,7 +17,7 @@ run_all-requires-clause-new g c κs within =
     )
 
 pub end-requires-after_bounds : goal.end-requires-after_bounds
-end-requires-after_bounds g c κs =
+end-requires-after_bounds g c κs within =
     let m = c.in_ok-room.ensures in (
       judge_of (option_copied c.args.rules),
       1000,
