@@ -1,4 +1,5 @@
-ghost use Rattle.std.specs.Prelude.{◌≤◌, ◌<◌, length};
+ghost use Rattle.std.specs.Prelude.{◌≡◌, ◌≤◌, ◌<◌, [], length};
+ghost use Rattle.nv_refusing.specs.Refusing.{inner_of};
 
 use crate::runs::{beside, kernel, one_by_one, program};
 use nv_bpf::Filter;
@@ -139,7 +140,7 @@ fates 2
 
 // A kernel that has no memory for the second call that is asked for.
 fn refusing<R: Abort>(rt: &R, alloc: Global) -> RefusingKernel<ScriptKernel>
-    ensures { result.inner.log ≡ [] }
+    ensures { (inner_of result).log ≡ [] }
 {
     let inner = kernel(alloc).expect(rt, "a kernel");
     let refused = [1].to_vec(alloc).expect(rt, "memory");
