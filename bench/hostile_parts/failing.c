@@ -40,14 +40,21 @@ __attribute__((constructor)) static void begin(void) {
     for (int kind = 0; kind < KINDS; kind++) atomic_store(&calls[kind], 0);
 }
 
-__attribute__((destructor)) static void end(void) {
+__attribute__((destructor)) static void tell(void) {
     const char *path = getenv("COUNTED");
     if (!path) return;
     char text[120];
     int length = snprintf(text, sizeof text, "%ld %ld %ld %ld\n", calls[ALLOC], calls[OPEN], calls[READ], calls[WRITE]);
     int fd = (int)syscall(SYS_openat, AT_FDCWD, path, O_WRONLY | O_CREAT | O_TRUNC, 0600);
-    if (fd < 0 || syscall(SYS_write, fd, text, length) != length) _exit(99);
+    if (fd < 0 || syscall(SYS_write, fd, text, length) != length) abort();
     syscall(SYS_close, fd);
+}
+
+/* The program ends by this call, which runs no destructor. */
+void _exit(int status) {
+    tell();
+    syscall(SYS_exit_group, status);
+    __builtin_unreachable();
 }
 
 static long next(enum kind kind) { return atomic_fetch_add(&calls[kind], 1); }
