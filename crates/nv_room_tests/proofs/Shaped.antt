@@ -30,7 +30,11 @@ pub clone-shaped : (tid flags : ℕ) → IsShaped (record { tid = tid; nr = 220;
 unfolding is_shaped syscall_of is_local
 clone-shaped tid flags = refl
 
+shaped_as_any : (s : Syscall) (c : Request) (tid : ℕ) → is_shaped_as s (record c { tid = tid }) ≡ is_shaped_as s c
+shaped_as_any Write c tid = refl
+shaped_as_any _ c tid = refl
+
 -- whatever the thread
 pub any-thread : (c : Request) (tid : ℕ) → IsShaped c → IsShaped (record c { tid = tid })
 unfolding is_shaped
-any-thread c tid h = h
+any-thread c tid h = ap (λ b. not (is_local c.nr) && b) (shaped_as_any (syscall_of c.nr) c tid) ∙ h

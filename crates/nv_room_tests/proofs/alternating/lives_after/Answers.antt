@@ -22,7 +22,7 @@ loop-event-preserved c = λ lives.
     subst (λ (z : List Entry). Contains (live_after z) c.args.tid) (sym mapped)
     (⊎_elim (λ was. lives_on (map entry front) (entry e) c.args.tid go (c.loop-event.invariant was))
     (λ made. child_lives (map entry front) (entry e) c.args.tid go (made_of (child_of (entry e)) c.args.tid made))
-    (either c.loop-event.lives (is_of c.args.tid (child_of (entry e))) (sym c.lives_on.ensures ∙ lives)))
+    (either c.loop-event.lives (is_of c.args.tid (child_of (entry e))) (sym c.lives_on-lives.ensures ∙ lives)))
 
 pub returns : goal.returns
 returns c = λ lives. let t = c.loop-event-test.false in subst (λ (z : List Event). Contains (live_after (map entry z)) c.args.tid) (take_all c.loop-event.event-index c.args.history.now (omega arith)) (c.loop-event.invariant lives)

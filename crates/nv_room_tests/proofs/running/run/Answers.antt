@@ -1,4 +1,5 @@
-use Rattle.std.proofs.Common.{rules, refl}
+use Rattle.std.proofs.Common.{rules, refl, subst, IfOk}
+use Rattle.nv_calls.specs.Logs.{IsLegal}
 use Rattle.nv_room.specs.Seats.{kernel_of}
 use Rattle.nv_room_tests.proofs.Living.{first_lives}
 use Rattle.nv_room_tests.proofs.running.run.Goals as goal
@@ -14,3 +15,7 @@ join-lead-requires-after_bounds g c κs within =
     let first = c.requires.first in
     let on = c.requires.goes_on in
     search rules
+
+pub returns-clause-legal : goal.returns-clause-legal
+returns-clause-legal g c = subst (λ k. IfOk c.end.result (λ e. IsLegal (g.K.SyscallKernel.start k) (g.K.SyscallKernel.log e.kernel)))
+    c.in_ok-room.ensures.origin c.end.ensures.legal
