@@ -8,7 +8,7 @@ use Rattle.nv_bytes.specs.Texts.{decimal_of}
 use Rattle.nv_bpf.specs.declared.op.Op.{Op}
 use Rattle.nv_bpf.specs.Lines.{fields, lines}
 use Rattle.nv_bpf.specs.Verified.{list_fault, ops_or}
-use Rattle.nv_bpf.specs.FilterLaws.{list_fault-none}
+use Rattle.nv_bpf.proofs.FilterLaws.{list_fault-none}
 use Rattle.nv_bpf.specs.Texts.{op_of_fields, op_of, ops_of, put_first, with_line, count_of, ops_behind, ops_of_lines, ops_of_text, filter_with, filter_of, op_text, text_of, FitsFields}
 use Rattle.nv_bpf.proofs.Cutting.{lines-more}
 use Rattle.nv_bpf.proofs.Digits.{decimal-lacks, number_of-decimal, field-decimal}

@@ -1,3 +1,4 @@
+pub mod FieldLaws
 pub mod Parts
 pub mod Numbers
 pub mod Pairs

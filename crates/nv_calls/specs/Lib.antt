@@ -1,10 +1,6 @@
 pub mod Held
 pub mod Calls
-pub mod SameLaws
 pub mod Numbers
 pub mod Shapes
-pub mod ShapeLaws
 pub mod Constants
 pub mod Logs
-pub mod LogLaws
-pub mod StartLaws

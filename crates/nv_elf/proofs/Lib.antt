@@ -1,3 +1,6 @@
+pub mod Tables
+pub mod ReadBack
+pub mod Sound
 pub mod Bounds
 pub mod Headers
 pub mod Faults

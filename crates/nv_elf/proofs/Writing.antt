@@ -4,8 +4,8 @@ use Rattle.std.proofs.lemmas.List.{at_drop_more}
 use Rattle.nv_elf.specs.declared.program.Segment.{Segment}
 use Rattle.nv_elf.specs.Elf.{Image, range_of}
 use Rattle.nv_elf.specs.Written.{file_header, program_header, padding, table_from, contents_from, contents_at, end_from, file_of}
-use Rattle.nv_elf.specs.Tables.{behind, end-above, length-table_from}
-use Rattle.nv_elf.specs.ReadBack.{length-file_header}
+use Rattle.nv_elf.proofs.Tables.{behind, end-above, length-table_from}
+use Rattle.nv_elf.proofs.ReadBack.{length-file_header}
 
 pub table-at : (place : ℕ) (segments : List Segment) (i : ℕ) (s : Segment) → i < length segments → s ≡ get_or segments i s →
     table_from place (map range_of (drop i segments)) ≡ program_header (place + padding place) (range_of s) ++ table_from (behind place (range_of s)) (map range_of (drop (i + 1) segments))

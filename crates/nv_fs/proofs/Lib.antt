@@ -1,3 +1,4 @@
+pub mod FewLaws
 pub mod Least
 pub mod Lengths
 pub mod Signed

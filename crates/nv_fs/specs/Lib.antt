@@ -9,4 +9,3 @@ pub mod Stored
 pub mod Rooms
 pub mod Starts
 pub mod Views
-pub mod FewLaws

@@ -3,8 +3,8 @@ use Rattle.std.proofs.Common.{◌≡◌, ℕ, ◌+◌, ◌^◌, ◌≤◌, true,
 use Rattle.std.proofs.lemmas.Bool.Decides.{nat_tests}
 use Rattle.nv_elf.specs.Elf.{Image}
 use Rattle.nv_elf.specs.Written.{is_program, bytes_in, file_of, file_header, table_from, contents_from}
-use Rattle.nv_elf.specs.ReadBack.{length-file_header}
-use Rattle.nv_elf.specs.Tables.{length-table_from, length-contents_from}
+use Rattle.nv_elf.proofs.ReadBack.{length-file_header}
+use Rattle.nv_elf.proofs.Tables.{length-table_from, length-contents_from}
 use Rattle.nv_gen.specs.Made.{Numbers, Course}
 use Rattle.nv_gen.specs.Programs.{program, segment_bytes, text_range}
 

@@ -4,7 +4,7 @@ use Rattle.std.proofs.lemmas.List.{length-replicate}
 use Rattle.nv_elf.specs.Elf.{Range, Image}
 use Rattle.nv_memory.specs.declared.region.Region.{Region}
 use Rattle.nv_memory.specs.Bytes.{put}
-use Rattle.nv_memory.specs.BytesLaws.{length_put}
+use Rattle.nv_memory.proofs.BytesLaws.{length_put}
 use Rattle.nv_memory.specs.Regions.{AreRegions}
 use Rattle.nv_memory.specs.Image as memories
 use Rattle.nv_guest.specs.Block.{stack_pointer, strings_start, words, stack_words, strings}

@@ -5,7 +5,7 @@ use Rattle.std.specs.Prelude.{replicate}
 use Rattle.std.proofs.lemmas.Bool.Decides.{nat_tests}
 use Rattle.nv_memory.specs.declared.region.Region.{Region}
 use Rattle.nv_memory.specs.Bytes.{put}
-use Rattle.nv_memory.specs.BytesLaws.{length_put}
+use Rattle.nv_memory.proofs.BytesLaws.{length_put}
 use Rattle.nv_memory.specs.Regions.{AreRegions, Apart, set_end, start_of, end_of}
 use Rattle.nv_memory.specs.Image.{Image, cut}
 use Rattle.nv_guest.specs.declared.heap.Heap.{Heap}

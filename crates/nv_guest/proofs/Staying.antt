@@ -9,7 +9,7 @@ use Rattle.nv_memory.specs.declared.region.Access.{Access}
 use Rattle.nv_memory.specs.declared.region.Width.TheVariants.{Four}
 use Rattle.nv_memory.specs.declared.region.Right.TheVariants.{Read, Write, Execute}
 use Rattle.nv_memory.specs.Bytes.{put, little_bytes, byte_count}
-use Rattle.nv_memory.specs.BytesLaws.{length_put}
+use Rattle.nv_memory.proofs.BytesLaws.{length_put}
 use Rattle.nv_memory.specs.Regions.{AreRegions, holds}
 use Rattle.nv_memory.specs.Image.{Image, stored, loaded}
 use Rattle.nv_machine.specs.declared.outcome.Stepped.TheVariants.{On, Call, Fault}

@@ -2,7 +2,7 @@
 use Rattle.std.proofs.Common.{◌≡◌, ℕ, suc, zero, ◌+◌, ◌*◌, ◌<◌, ◌≤◌, List, [], ◌∷◌, ◌++◌, length, length-append, get_or, drop, refl, sym, ap, ◌∙◌, arith, append_assoc}
 use Rattle.std.specs.Prelude.{map}
 use Rattle.nv_memory.specs.Bytes.{put, little_bytes}
-use Rattle.nv_memory.specs.BytesLaws.{put_append}
+use Rattle.nv_memory.proofs.BytesLaws.{put_append}
 use Rattle.std.proofs.Common.{Vec, Global, Some, None, nat_le, vec_len, cond}
 use Rattle.std.proofs.lemmas.Bool.Decides.{nat_tests}
 use Rattle.std.proofs.lemmas.Grind.{common_steps}

@@ -131,7 +131,7 @@ fn write_addresses(memory: &mut Memory, arguments: &[Vec<u8>], start: u32, first
 }
 
 // Writes the strings, each with its 0 byte, from the address on.
-#[tactic(auto, using(crate::proofs::Strings::next_string, nv_memory::specs::BytesLaws::put_append, nv_memory::specs::RegionsLaws::part_of))]
+#[tactic(auto, using(crate::proofs::Strings::next_string, nv_memory::proofs::BytesLaws::put_append, nv_memory::proofs::RegionsLaws::part_of))]
 fn write_strings(memory: &mut Memory, arguments: &[Vec<u8>], start: u32)
     requires room { start + length (strings (texts_of arguments.now)) < 2 ^ 32 }
     requires inside { IsTrue (list_any (has_range start (length (strings (texts_of arguments.now)))) memory.old.regions) }
@@ -146,7 +146,7 @@ fn write_strings(memory: &mut Memory, arguments: &[Vec<u8>], start: u32)
 }
 
 // Writes the text and a 0 byte.
-#[tactic(auto, using(nv_memory::specs::BytesLaws::put_append, nv_memory::specs::RegionsLaws::part_of))]
+#[tactic(auto, using(nv_memory::proofs::BytesLaws::put_append, nv_memory::proofs::RegionsLaws::part_of))]
 fn write_string(memory: &mut Memory, text: &[u8], at: u32)
     requires room { at + length text.now + 1 < 2 ^ 32 }
     requires inside { IsTrue (list_any (has_range at (length text.now + 1)) memory.old.regions) }

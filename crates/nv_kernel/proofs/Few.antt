@@ -7,7 +7,7 @@ use Rattle.nv_kernel.specs.Serving.{Served}
 use Rattle.nv_calls.specs.declared.numbers.Syscall.TheVariants.{Unlinkat, Openat, Write, Writev}
 use Rattle.nv_calls.specs.Numbers.{syscall_of, hands_in}
 use Rattle.nv_calls.specs.Shapes.{IsShaped}
-use Rattle.nv_calls.specs.ShapeLaws.{shaped-few, shaped-empty}
+use Rattle.nv_calls.proofs.ShapeLaws.{shaped-few, shaped-empty}
 use Rattle.nv_kernel.specs.Rooms.{most_out_by, most_out}
 
 pub few_as : (k l : Syscall) (c : Request) (n : ℕ) → k ≡ l → n ≤ most_out_by l c → n ≤ most_out_by k c

@@ -3,7 +3,7 @@ use Rattle.std.proofs.Common.{◌≡◌, ◌≢◌, ◌∙◌, sym, ap, subst, r
 use Rattle.std.specs.Prelude.{◌==◌, Contains, slice_index, ◌%◌}
 use Rattle.nv_calls.specs.Calls.{Request, Entry}
 use Rattle.nv_calls.specs.Logs.{Start, IsLawful, IsLegal, InRange, IsNew, made, served, child_of, live_after, live_next, ended_after}
-use Rattle.nv_calls.specs.LogLaws.{lawful_more, legal_more, lawful_none, legal_none, live_more, arg_more}
+use Rattle.nv_calls.proofs.LogLaws.{lawful_more, legal_more, lawful_none, legal_none, live_more, arg_more}
 use Rattle.nv_kernel.specs.Crew.{Crew, IsCrew, first_crew}
 use Rattle.nv_kernel.proofs.CrewLaws.{first_is}
 use Rattle.nv_kernel.specs.Ends.{end_next}

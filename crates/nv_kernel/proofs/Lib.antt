@@ -1,3 +1,4 @@
+pub mod ReplyLaws
 pub mod Sixes
 pub mod Keeping
 pub mod Files

@@ -2,5 +2,4 @@ pub mod Ends
 pub mod Serving
 pub mod Rooms
 pub mod Kept
-pub mod ReplyLaws
 pub mod Crew

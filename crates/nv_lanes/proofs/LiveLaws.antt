@@ -12,7 +12,7 @@ use Rattle.nv_calls.specs.Calls.{Entry}
 use Rattle.nv_calls.specs.Logs.{child_of, live_next, live_after, IsNew, MayFollow, IsLawful, with_child as with_new}
 use Rattle.nv_lanes.specs.Lanes.{Holders, is_of, lane_of, free_lane, with_holder, with_child, holders_by, holders_next, start, lives, taken_after, lane_at}
 use Rattle.nv_lanes.proofs.LaneLaws.{next_keeps, holders_after, holders_of_taken, holders_push, lane_at_is}
-use Rattle.nv_calls.specs.LogLaws.{live_more, slice_some}
+use Rattle.nv_calls.proofs.LogLaws.{live_more, slice_some}
 
 -- Finding a lane
 

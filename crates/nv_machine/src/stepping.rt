@@ -11,7 +11,7 @@ use nv_isa::{Form, Op, immediate, operation, rd, rs1, rs2};
 use nv_memory::{Memory, Right, Width};
 
 /// Carries out one instruction. After a call and after a fault nothing has changed.
-#[tactic(auto, unfolding(crate::specs::Guest::guest_step, nv_isa::specs::Table::insn_of), using(crate::specs::GuestLaws::step_rests))]
+#[tactic(auto, unfolding(crate::specs::Guest::guest_step, nv_isa::specs::Table::insn_of), using(crate::proofs::GuestLaws::step_rests))]
 pub fn step(regs: &mut Regs, memory: &mut Memory) -> Stepped
     ensures step { (result, record { regs = regs.new; memory = memory.new }) ≡ guest_step (record { regs = regs.old; memory = memory.old }) }
     ensures registers_rest { result ≢ Stepped.On → regs.new ≡ regs.old }

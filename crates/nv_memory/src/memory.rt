@@ -144,7 +144,7 @@ impl Memory {
     }
 
     /// Moves the end of the region at this place of the list. Bytes that leave it become 0.
-    #[tactic(auto, using(crate::proofs::Ends::end_is_inside, crate::specs::BytesLaws::length_put))]
+    #[tactic(auto, using(crate::proofs::Ends::end_is_inside, crate::proofs::BytesLaws::length_put))]
     pub fn resize(&mut self, region: usize, end: u32)
         requires known { region < length self.old.regions }
         requires ordered { start_of self.old.regions region ≤ end }

@@ -4,7 +4,7 @@ use Rattle.std.specs.Prelude.{slice_get, option_map, Contains, ℤ, pos, ◌||�
 use Rattle.std.proofs.lemmas.Bool.Decides.{nat_tests}
 use Rattle.nv_calls.specs.Calls.{Request, Response, Entry, is_same}
 use Rattle.nv_calls.specs.Logs.{IsLawful, IsNew, live_next, live_from, live_after, child_of, made}
-use Rattle.nv_calls.specs.SameLaws.{same_is}
+use Rattle.nv_calls.proofs.SameLaws.{same_is}
 use Rattle.nv_threads.specs.Behaviours.{Behaviour, IsProcess, event_of}
 use Rattle.nv_threads.specs.declared.turns.Want.TheVariants.{Only}
 use Rattle.nv_threads.specs.declared.turns.Came.{Came}

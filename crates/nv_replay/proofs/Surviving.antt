@@ -4,7 +4,7 @@ use Rattle.std.specs.Prelude.{slice_get, Contains, nat_le, option_map}
 use Rattle.std.proofs.lemmas.Bool.Decides.{nat_tests}
 use Rattle.nv_calls.specs.Calls.{Entry, is_same}
 use Rattle.nv_calls.specs.Logs.{Start, served, IsLawful, IsLegal, child_of}
-use Rattle.nv_calls.specs.SameLaws.{same_is}
+use Rattle.nv_calls.proofs.SameLaws.{same_is}
 use Rattle.nv_threads.specs.Behaviours.{Behaviour, IsProcess, event_of}
 use Rattle.nv_threads.specs.declared.turns.Want.TheVariants.{Any, Only}
 use Rattle.nv_threads.specs.declared.turns.Came.{Came}

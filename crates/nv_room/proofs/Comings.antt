@@ -12,7 +12,7 @@ use Rattle.atomic_table.specs.Table.{State, Splits, Joins, opening}
 use Rattle.atomic_table.proofs.Lists.{at_map, at_set, at_longer}
 use Rattle.nv_calls.specs.Calls.{Entry}
 use Rattle.nv_calls.specs.Logs.{Start}
-use Rattle.nv_calls.specs.LogLaws.{lawful_none}
+use Rattle.nv_calls.proofs.LogLaws.{lawful_none}
 use Rattle.nv_words.proofs.SpellLaws.{prefix_length}
 use Rattle.nv_room.specs.declared.view.View.{View}
 use Rattle.nv_room.specs.declared.view.Plan.{Plan}

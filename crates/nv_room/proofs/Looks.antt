@@ -10,7 +10,7 @@ use Rattle.atomic_table.specs.Table.{State, Me, step, keeps, Allows}
 use Rattle.atomic_table.proofs.Lists.{at_map}
 use Rattle.nv_calls.specs.Calls.{Entry}
 use Rattle.nv_calls.specs.Logs.{Start}
-use Rattle.nv_calls.specs.LogLaws.{lawful_range}
+use Rattle.nv_calls.proofs.LogLaws.{lawful_range}
 use Rattle.nv_words.specs.Spell.{IsWhole, spell}
 use Rattle.nv_words.specs.Begins.{Prefix}
 use Rattle.nv_words.proofs.SpellLaws.{prefix_length, prefix_same, whole_same, shorter}

@@ -12,7 +12,7 @@ use Rattle.atomic_table.specs.Table.{State, Me, step, keeps, Allows}
 use Rattle.atomic_table.proofs.Lists.{at_map}
 use Rattle.nv_calls.specs.Calls.{Entry}
 use Rattle.nv_calls.specs.Logs.{Start, IsLawful}
-use Rattle.nv_calls.specs.LogLaws.{lawful_range, slice_some}
+use Rattle.nv_calls.proofs.LogLaws.{lawful_range, slice_some}
 use Rattle.nv_words.specs.Spell.{low, spell}
 use Rattle.nv_places.specs.Logs.{entries, lanes_after, lane, earlier}
 use Rattle.nv_places.proofs.LogLaws.{lane_below_8, entries_spelt}

@@ -9,7 +9,7 @@ use Rattle.atomic_table.specs.Table.{State}
 use Rattle.atomic_table.proofs.Lists.{at_set, at_map}
 use Rattle.nv_calls.specs.Calls.{Entry}
 use Rattle.nv_calls.specs.Logs.{Start}
-use Rattle.nv_calls.specs.LogLaws.{lawful_take}
+use Rattle.nv_calls.proofs.LogLaws.{lawful_take}
 use Rattle.nv_words.specs.Spell.{spell}
 use Rattle.nv_words.specs.Begins.{Prefix}
 use Rattle.nv_room.specs.declared.view.View.{View}

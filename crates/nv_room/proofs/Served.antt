@@ -11,7 +11,7 @@ use lib.ListN.{get_elem?}
 use Rattle.atomic_table.proofs.Lists.{at_map, at_last}
 use Rattle.nv_calls.specs.Calls.{Entry}
 use Rattle.nv_calls.specs.Logs.{IsLawful}
-use Rattle.nv_calls.specs.LogLaws.{lawful_range, lawful_few, slice_some}
+use Rattle.nv_calls.proofs.LogLaws.{lawful_range, lawful_few, slice_some}
 use Rattle.nv_words.specs.Spell.{spell, IsWhole, low, pair, bit}
 use Rattle.nv_places.proofs.StampLaws.{number_word}
 use Rattle.nv_words.specs.Begins.{Begins}

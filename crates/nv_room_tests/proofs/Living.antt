@@ -8,7 +8,7 @@ use Rattle.std.proofs.lemmas.Option.{same_Some}
 use Rattle.std.proofs.lemmas.Bool.Decides.{nat_tests}
 use Rattle.nv_calls.specs.Calls.{Entry}
 use Rattle.nv_calls.specs.Logs.{child_of, with_child, live_after}
-use Rattle.nv_calls.specs.LogLaws.{live_more}
+use Rattle.nv_calls.proofs.LogLaws.{live_more}
 use Rattle.nv_room_tests.specs.Going.{GoesOn}
 
 still : (live : List ℕ) (x : ℕ) (child : Option ℕ) → Contains live x → Contains (with_child live child) x

@@ -11,7 +11,7 @@ use Rattle.nv_bpf.specs.declared.action.Action.{Action}
 use Rattle.nv_bpf.specs.declared.action.Action.TheVariants.{LoadWord, Load, LoadScratch, LoadLength, Store, Compute, Negate, Jump, Branch, ReturnConstant, ReturnAccumulator, Copy}
 use Rattle.nv_bpf.specs.Actions.{action_of}
 use Rattle.nv_bpf.specs.Verified.{unless, action_fault, fault_by, op_fault, list_fault, is_return, ends_in_return}
-use Rattle.nv_bpf.specs.FilterLaws.{list_fault-none, list_fault-op}
+use Rattle.nv_bpf.proofs.FilterLaws.{list_fault-none, list_fault-op}
 use Rattle.nv_rules.specs.Values.{State, Outcome, Ends, Goes, ends_without, computed, operand_of, holds, acted, stepped, gone_on, returned_from}
 use Rattle.nv_rules.specs.Machines.{IsUsable, IsKnown, IsSound}
 

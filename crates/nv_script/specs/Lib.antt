@@ -1,5 +1,4 @@
 pub mod Entries
 pub mod Scripts
 pub mod Views
-pub mod Sound
 pub mod Texts

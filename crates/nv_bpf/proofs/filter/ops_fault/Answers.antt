@@ -2,7 +2,7 @@ use Rattle.std.proofs.Common.{sym, ap, ◌∙◌, ◌+◌, length, drop}
 use Rattle.std.proofs.lemmas.List.{at_drop_all}
 use Rattle.nv_bpf.specs.declared.op.Op.{Op}
 use Rattle.nv_bpf.specs.Verified.{ops_fault, or_later}
-use Rattle.nv_bpf.specs.FilterLaws.{ops_fault-drop}
+use Rattle.nv_bpf.proofs.FilterLaws.{ops_fault-drop}
 use Rattle.nv_bpf.proofs.filter.ops_fault.Goals as goal
 
 abbrev none_given : Op

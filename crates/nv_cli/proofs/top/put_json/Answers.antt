@@ -1,5 +1,5 @@
 use Rattle.std.proofs.Common.{◌∙◌, ◌++◌, ap, inl, inr, codes, List, ℕ, map}
-use Rattle.nv_outside.specs.Writing.{puts-is}
+use Rattle.nv_outside.proofs.Writing.{puts-is}
 use Rattle.nv_threads.specs.Threads.{Proc}
 use Rattle.nv_replay.specs.Versions.{Running, standing_of}
 use Rattle.nv_cli.specs.Account.{run_status}

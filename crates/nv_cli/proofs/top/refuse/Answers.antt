@@ -1,5 +1,5 @@
 use Rattle.std.proofs.Common.{◌++◌, ap, codes, sym, subst, ◌∙◌}
-use Rattle.nv_outside.specs.Writing.{puts-is}
+use Rattle.nv_outside.proofs.Writing.{puts-is}
 use Rattle.nv_command.specs.Seen.{plan_view}
 use Rattle.nv_cli.specs.Due.{Says}
 use Rattle.nv_cli.specs.Outcome.{cause_text, outcome_of, text_of, status_of}

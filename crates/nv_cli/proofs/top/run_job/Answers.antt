@@ -1,5 +1,5 @@
 use Rattle.std.proofs.Common.{ap, sym, refl, ◌++◌, codes}
-use Rattle.nv_outside.specs.Writing.{puts-is}
+use Rattle.nv_outside.proofs.Writing.{puts-is}
 use Rattle.nv_cli.specs.Found.{Unread}
 use Rattle.nv_cli.specs.Outcome.{Made, NoMemory, NotRead, NotAccepted}
 use Rattle.nv_cli.specs.Due.{made_outcome}

@@ -2,8 +2,8 @@ use Rattle.std.proofs.Common.{◌≡◌, sym, ◌∙◌, ap, refl, inr, filter, 
 use Rattle.std.proofs.lemmas.Result.{err_from_is_err_and}
 use Rattle.nv_elf.specs.Elf.{headers_of, loadables_of, is_loadable, range_in, range_of, Accepted}
 use Rattle.std.proofs.lemmas.List.{length-map}
-use Rattle.nv_elf.specs.ReadBack.{program-few}
-use Rattle.nv_elf.specs.Sound.{is_program-accepted}
+use Rattle.nv_elf.proofs.ReadBack.{program-few}
+use Rattle.nv_elf.proofs.Sound.{is_program-accepted}
 use Rattle.nv_elf.proofs.Faults.{refused-file, refused-table, refused-loadables, accepted}
 use Rattle.nv_elf.proofs.reader.read.Goals as goal
 

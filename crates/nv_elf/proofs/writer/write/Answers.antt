@@ -1,7 +1,7 @@
 use Rattle.std.proofs.Common.{◌≡◌, ℕ, ◌∙◌, sym, ap, arith, length, map}
 use Rattle.std.proofs.lemmas.List.{length-map}
 use Rattle.nv_elf.specs.Elf.{image_of, range_of, elf_of}
-use Rattle.nv_elf.specs.ReadBack.{program-few, end-fits, elf_of-file_of}
+use Rattle.nv_elf.proofs.ReadBack.{program-few, end-fits, elf_of-file_of}
 use Rattle.nv_elf.proofs.Writing.{file-pushed}
 use Rattle.nv_elf.proofs.writer.write.Goals as goal
 

@@ -1,6 +1,6 @@
 use Rattle.std.proofs.Common.{◌≡◌, ◌+◌, ◌*◌, ◌∙◌, sym, ap, length, drop, arith}
 use Rattle.nv_memory.specs.Image.{Image}
-use Rattle.nv_memory.specs.RegionsLaws.{part_of}
+use Rattle.nv_memory.proofs.RegionsLaws.{part_of}
 use Rattle.nv_guest.specs.Block.{strings}
 use Rattle.nv_guest.specs.Load.{texts_of}
 use Rattle.nv_memory.specs.Bytes.{put, little_bytes}

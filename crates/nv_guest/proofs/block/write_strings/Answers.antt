@@ -2,7 +2,7 @@ use Rattle.std.proofs.Common.{◌≡◌, ℕ, ◌+◌, ◌∙◌, ◌++◌, ◌�
 use Rattle.nv_guest.specs.Block.{strings}
 use Rattle.nv_memory.specs.Image.{Image}
 use Rattle.nv_memory.specs.Bytes.{put}
-use Rattle.nv_memory.specs.RegionsLaws.{part_of}
+use Rattle.nv_memory.proofs.RegionsLaws.{part_of}
 use Rattle.nv_guest.proofs.Strings.{place_after, written_after}
 use Rattle.nv_guest.proofs.block.write_strings.Goals as goal
 

@@ -1,6 +1,6 @@
 use Rattle.std.proofs.Common.{◌+◌, ap, length, arith}
 use Rattle.nv_memory.specs.Image.{Image}
-use Rattle.nv_memory.specs.RegionsLaws.{part_of}
+use Rattle.nv_memory.proofs.RegionsLaws.{part_of}
 use Rattle.nv_guest.specs.Block.{strings, all_arguments}
 use Rattle.nv_guest.specs.Load.{texts_of}
 use Rattle.nv_guest.proofs.block.write_texts.Goals as goal

@@ -3,7 +3,7 @@ use Rattle.std.proofs.lemmas.List.{length-map}
 use Rattle.std.proofs.Common.{Vec, Global}
 use Rattle.nv_memory.specs.Bytes.{put, little_bytes}
 use Rattle.nv_memory.specs.Image.{Image}
-use Rattle.nv_memory.specs.RegionsLaws.{part_of}
+use Rattle.nv_memory.proofs.RegionsLaws.{part_of}
 use Rattle.nv_guest.specs.Block.{words, addresses}
 use Rattle.nv_guest.specs.Load.{texts_of}
 use Rattle.nv_guest.proofs.Strings.{four_parts, stack_parts, length-words, length-addresses}

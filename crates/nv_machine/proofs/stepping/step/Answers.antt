@@ -1,7 +1,7 @@
 use Rattle.std.proofs.Common.{ap}
 use Rattle.nv_isa.specs.Table.{row, insn_of}
 use Rattle.nv_machine.specs.Guest.{Machine}
-use Rattle.nv_machine.specs.GuestLaws.{instruction_rests}
+use Rattle.nv_machine.proofs.GuestLaws.{instruction_rests}
 use Rattle.nv_machine.proofs.stepping.step.Goals as goal
 
 pub returns-clause-registers_rest : goal.returns-clause-registers_rest

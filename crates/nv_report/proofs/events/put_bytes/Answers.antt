@@ -1,5 +1,5 @@
 use Rattle.std.proofs.Common.{◌++◌}
-use Rattle.nv_outside.specs.Writing.{puts-then, puts-failed}
+use Rattle.nv_outside.proofs.Writing.{puts-then, puts-failed}
 use Rattle.nv_report.specs.Numbers.{hex_text}
 use Rattle.nv_report.proofs.events.put_bytes.Goals as goal
 

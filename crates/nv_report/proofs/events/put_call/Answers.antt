@@ -1,5 +1,5 @@
 use Rattle.std.specs.List.{flat_map}
-use Rattle.nv_outside.specs.Writing.{puts-then, puts-failed}
+use Rattle.nv_outside.proofs.Writing.{puts-then, puts-failed}
 use Rattle.nv_report.specs.Numbers.{number_text}
 use Rattle.nv_report.proofs.events.put_call.Goals as goal
 

@@ -1,5 +1,5 @@
 use Rattle.std.proofs.Common.{codes}
-use Rattle.nv_outside.specs.Writing.{puts-then, puts-failed}
+use Rattle.nv_outside.proofs.Writing.{puts-then, puts-failed}
 use Rattle.nv_report.proofs.events.put_end.Goals as goal
 
 pub returns-in-Whole : goal.returns-in-Whole

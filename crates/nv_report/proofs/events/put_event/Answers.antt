@@ -1,5 +1,5 @@
 use Rattle.std.proofs.Common.{◌++◌, ap, ◌∙◌, codes}
-use Rattle.nv_outside.specs.Writing.{puts-is, puts-then, puts-failed}
+use Rattle.nv_outside.proofs.Writing.{puts-is, puts-then, puts-failed}
 use Rattle.nv_calls.specs.Calls.{entry}
 use Rattle.nv_report.specs.Events.{result_text, payload_text}
 use Rattle.nv_report.proofs.events.put_event.Goals as goal

@@ -1,5 +1,5 @@
 use Rattle.std.proofs.Common.{ap}
-use Rattle.nv_outside.specs.Writing.{puts-is, puts-more, puts-stopped}
+use Rattle.nv_outside.proofs.Writing.{puts-is, puts-more, puts-stopped}
 use Rattle.nv_calls.specs.Calls.{entry}
 use Rattle.nv_calls.specs.declared.calls.Event.{Event}
 use Rattle.nv_report.specs.Events.{event_text}

@@ -1,5 +1,5 @@
 use Rattle.std.proofs.Common.{get_or, ◌/◌, ◌∷◌, [], ap}
-use Rattle.nv_outside.specs.Writing.{puts-is, puts-stopped}
+use Rattle.nv_outside.proofs.Writing.{puts-is, puts-stopped}
 use Rattle.nv_report.specs.Numbers.{hex_digit, hex_pair}
 use Rattle.nv_report.proofs.numbers.put_hex.Goals as goal
 

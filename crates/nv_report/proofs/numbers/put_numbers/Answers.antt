@@ -1,5 +1,5 @@
 use Rattle.std.proofs.Common.{◌++◌, ◌∷◌, [], ap, ◌∙◌}
-use Rattle.nv_outside.specs.Writing.{puts-is, puts-stopped}
+use Rattle.nv_outside.proofs.Writing.{puts-is, puts-stopped}
 use Rattle.nv_report.specs.Numbers.{number_text}
 use Rattle.nv_report.proofs.numbers.put_numbers.Goals as goal
 

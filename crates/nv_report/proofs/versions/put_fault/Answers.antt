@@ -1,6 +1,6 @@
 use Rattle.std.proofs.Common.{ap}
 use Rattle.std.specs.Int.{w32, to_be_bytes}
-use Rattle.nv_outside.specs.Writing.{puts-is, puts-then, puts-failed}
+use Rattle.nv_outside.proofs.Writing.{puts-is, puts-then, puts-failed}
 use Rattle.nv_report.specs.Numbers.{hex_text}
 use Rattle.nv_report.proofs.versions.put_fault.Goals as goal
 

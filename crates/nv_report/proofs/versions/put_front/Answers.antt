@@ -1,5 +1,5 @@
 use Rattle.std.proofs.Common.{◌++◌, ◌∷◌, [], ap, ◌∙◌}
-use Rattle.nv_outside.specs.Writing.{puts-is, puts-then, puts-failed}
+use Rattle.nv_outside.proofs.Writing.{puts-is, puts-then, puts-failed}
 use Rattle.nv_report.specs.Versions.{end_text}
 use Rattle.nv_report.proofs.versions.put_front.Goals as goal
 

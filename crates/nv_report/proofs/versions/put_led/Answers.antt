@@ -1,6 +1,6 @@
 use Rattle.std.proofs.Common.{sym, ap}
 use Rattle.std.specs.List.{flat_map}
-use Rattle.nv_outside.specs.Writing.{puts-is, puts-then, puts-failed}
+use Rattle.nv_outside.proofs.Writing.{puts-is, puts-then, puts-failed}
 use Rattle.nv_report.specs.Versions.{led_text, next_span_text}
 use Rattle.nv_report.proofs.versions.put_led.Goals as goal
 

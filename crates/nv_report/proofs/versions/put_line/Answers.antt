@@ -1,4 +1,4 @@
-use Rattle.nv_outside.specs.Writing.{puts-then, puts-failed}
+use Rattle.nv_outside.proofs.Writing.{puts-then, puts-failed}
 use Rattle.nv_report.specs.Versions.{rest_text}
 use Rattle.nv_report.proofs.versions.put_line.Goals as goal
 

@@ -1,4 +1,4 @@
-use Rattle.nv_outside.specs.Writing.{puts-stopped}
+use Rattle.nv_outside.proofs.Writing.{puts-stopped}
 use Rattle.nv_report.specs.Versions.{next_span_text}
 use Rattle.nv_report.proofs.versions.put_more_spans.Goals as goal
 

@@ -1,4 +1,4 @@
-use Rattle.nv_outside.specs.Writing.{puts-then, puts-failed}
+use Rattle.nv_outside.proofs.Writing.{puts-then, puts-failed}
 use Rattle.nv_report.specs.Versions.{span_text}
 use Rattle.nv_report.proofs.versions.put_next_span.Goals as goal
 

@@ -1,7 +1,7 @@
 use Rattle.std.proofs.Common.{◌++◌, List, map, ap, ◌∙◌, sym, length}
 use Rattle.std.proofs.lemmas.List.{length-map}
 use Rattle.std.specs.List.{flat_map}
-use Rattle.nv_outside.specs.Writing.{puts-is, puts-then, puts-failed}
+use Rattle.nv_outside.proofs.Writing.{puts-is, puts-then, puts-failed}
 use Rattle.nv_calls.specs.Calls.{entry}
 use Rattle.nv_calls.specs.Logs.{output_of}
 use Rattle.nv_threads.specs.Threads.{Proc}

@@ -2,7 +2,7 @@ use Rattle.std.proofs.Common.{◌≡◌, true, false, Ok, length, inl, inr, sym,
 use Rattle.std.proofs.lemmas.Bool.Decides.{nat_tests}
 use Rattle.std.proofs.lemmas.Result.{err_from_is_err_and}
 use Rattle.nv_script.specs.Scripts.{finished_result}
-use Rattle.nv_script.specs.Sound.{script_of-keeps}
+use Rattle.nv_script.proofs.Sound.{script_of-keeps}
 use Rattle.nv_script.proofs.Drafting.{script_of-none, script_of-line}
 use Rattle.nv_script.proofs.reading.read.Goals as goal
 

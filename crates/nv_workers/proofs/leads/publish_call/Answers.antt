@@ -2,7 +2,7 @@ use Rattle.std.proofs.Common.{◌≡◌, ◌∙◌, sym, ap, subst, ℕ, List, [
 use Rattle.std.specs.Prelude.{Contains}
 use Rattle.nv_calls.specs.Calls.{Request, Entry, request}
 use Rattle.nv_calls.specs.Logs.{IsLawful, IsNew, child_of, live_after, served}
-use Rattle.nv_calls.specs.LogLaws.{take_whole}
+use Rattle.nv_calls.proofs.LogLaws.{take_whole}
 use Rattle.nv_threads.specs.Threads.{threads, Proc}
 use Rattle.nv_threads.proofs.ThreadLaws.{threads_own}
 use Rattle.nv_replay.specs.declared.standing.Standing.{Standing}

@@ -1,4 +1,4 @@
-use Rattle.nv_bpf.specs.FilterLaws.{list_fault-read}
+use Rattle.nv_bpf.proofs.FilterLaws.{list_fault-read}
 use Rattle.nv_bpf.proofs.filter.Filter.at.Goals as goal
 
 pub returns-clause-sound : goal.returns-clause-sound

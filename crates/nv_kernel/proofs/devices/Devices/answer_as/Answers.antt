@@ -2,7 +2,7 @@ use Rattle.std.proofs.Common.{◌≤◌, length, min, subst, ap, arith, nat_lt, 
 use Rattle.nv_calls.specs.Held.{Held}
 use Rattle.nv_calls.specs.declared.numbers.Syscall.TheVariants.{Pipe2, Llseek, Read, Readv, Uname}
 use Rattle.nv_fs.specs.States.{Answer}
-use Rattle.nv_fs.specs.FewLaws.{read_few, ends_few, seek_few}
+use Rattle.nv_fs.proofs.FewLaws.{read_few, ends_few, seek_few}
 use Rattle.nv_kernel.specs.Serving.{Served}
 use Rattle.nv_kernel.proofs.Few.{few_as, few_by, names_are}
 use Rattle.nv_kernel.proofs.devices.Devices.answer_as.Goals as goal

@@ -1,7 +1,7 @@
 use Rattle.std.proofs.Common.{ap, sym, ◌∙◌, map, arith}
 use Rattle.nv_calls.specs.Calls.{entry, request}
 use Rattle.nv_calls.specs.Logs.{calls_of}
-use Rattle.nv_calls.specs.ShapeLaws.{shaped-few}
+use Rattle.nv_calls.proofs.ShapeLaws.{shaped-few}
 use Rattle.nv_script.specs.Views.{setup_of}
 use Rattle.nv_kernel.specs.Serving.{State, start_of_script, first_state, state_after}
 use Rattle.nv_kernel.proofs.Keeping.{kept_room, kept_none}

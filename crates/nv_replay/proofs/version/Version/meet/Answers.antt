@@ -1,6 +1,6 @@
 use Rattle.std.proofs.Common.{◌≡◌, ◌∙◌, sym, ap, subst, ℕ, true, false, option_map}
 use Rattle.nv_calls.specs.Calls.{Request, request, entry, is_same}
-use Rattle.nv_calls.specs.SameLaws.{same_by}
+use Rattle.nv_calls.proofs.SameLaws.{same_by}
 use Rattle.nv_rules.specs.Verdicts.{verdict_of}
 use Rattle.nv_threads.specs.Threads.{threads, Proc}
 use Rattle.nv_replay.specs.Permits.{permit}

@@ -11,7 +11,7 @@ use Rattle.nv_calls.specs.Constants.{plain, system, constant_of}
 use Rattle.nv_calls.specs.Constants.{directory as named}
 use Rattle.nv_calls.specs.Numbers.{syscall_of, has_range}
 use Rattle.nv_calls.specs.Shapes.{IsShaped}
-use Rattle.nv_calls.specs.ShapeLaws.{shaped-parts}
+use Rattle.nv_calls.proofs.ShapeLaws.{shaped-parts}
 use Rattle.nv_kernel.specs.Serving.{State, replied, answered, serve, reply_of, EFAULT}
 
 -- what the kernel replies, by the call and by whether it is bad

@@ -8,7 +8,7 @@ use Rattle.nv_bytes.specs.Fields.{field_at}
 use Rattle.nv_elf.specs.declared.header.ProgramHeader.{ProgramHeader}
 use Rattle.nv_elf.specs.Elf.{Range, Image, elf_of, Accepted, file_fault, table_fault, loadables_fault, has_magic, has_class, has_versions, has_table, headers_of, loadables_of, entry_at, is_loadable, range_in, range_extent, overlap_from, is_entry}
 use Rattle.nv_elf.specs.Written.{is_program, is_sound, bytes_in, file_header, table_from, contents_from, contents_at, end_from, file_of}
-use Rattle.nv_elf.specs.Tables.{headers_for, headers-read, ranges-read, length-table_from, length-contents_from, filter-headers_for, length-headers_for, none-interpreted, none-outside, overlap-same, entry-same, end-above, end-below}
+use Rattle.nv_elf.proofs.Tables.{headers_for, headers-read, ranges-read, length-table_from, length-contents_from, filter-headers_for, length-headers_for, none-interpreted, none-outside, overlap-same, entry-same, end-above, end-below}
 
 -- what a program is
 pub program-few : (p : Image) → is_program p ≡ true → length p.ranges ≤ 16
