@@ -1,3 +1,4 @@
+pub mod Headline
 pub mod Found
 pub mod Prepared
 pub mod Made

@@ -3,6 +3,8 @@
 
 mod beside;
 mod calm;
+mod causes;
+mod endings;
 mod generate;
 mod prepare;
 mod refusal;
