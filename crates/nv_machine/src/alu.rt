@@ -77,8 +77,7 @@ fn rest_unsigned(a: u32, b: u32) -> u32
     if b == 0 { a } else { a % b }
 }
 
-// The result of an operation of the extension M. For others it is 0. It isn't inlined: that keeps the choice between the other operations short.
-#[inline(never)]
+// The result of an operation of the extension M. For others it is 0.
 fn multiply(op: Op, a: u32, b: u32) -> u32
     ensures { result ≡ multiplied op a b }
 {
@@ -95,7 +94,8 @@ fn multiply(op: Op, a: u32, b: u32) -> u32
     }
 }
 
-// The result of an operation on two numbers. For others it is 0.
+// The result of an operation on two numbers. For others it is 0. It is inlined, because its callers know the operation from the word.
+#[inline(always)]
 pub fn compute(op: Op, a: u32, b: u32) -> u32
     ensures { result ≡ computed op a b }
 {
