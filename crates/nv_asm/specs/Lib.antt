@@ -10,3 +10,4 @@ pub mod Lines
 pub mod Assembled
 pub mod Known
 pub mod Programs
+pub mod Faults

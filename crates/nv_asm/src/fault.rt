@@ -1,8 +1,10 @@
 // Why a text is no program.
-ghost use Rattle.std.specs.Prelude.{◌≡◌};
+ghost use Rattle.std.specs.Prelude.{◌≡◌, Some};
+ghost use Rattle.nv_asm.specs.Faults.{asm_word, asm_text};
 ghost use Rattle.nv_asm.specs.declared.fault.AsmFault.TheVariants.{Memory};
 
 use std::alloc::{AllocError, AllocFailed};
+use std::fmt;
 
 /// Why a line is faulty. Of several causes the first in this order is told.
 #[derive(Clone, Copy, Debug, PartialEq, Eq)]
@@ -26,6 +28,31 @@ pub enum AsmFault {
     Line(u32, AsmCause),
     /// Want of memory.
     Memory,
+}
+
+impl fmt::Display for AsmCause {
+    ghost output = { λ cause. Some (asm_word cause) };
+
+    fn fmt<W: fmt::Write>(&self, f: &mut fmt::Formatter<W>) -> fmt::Result {
+        match self {
+            AsmCause::Twice => f.write_str("twice"),
+            AsmCause::Mnemonic => f.write_str("mnemonic"),
+            AsmCause::Operand => f.write_str("operand"),
+            AsmCause::Label => f.write_str("label"),
+            AsmCause::Range => f.write_str("range"),
+        }
+    }
+}
+
+impl fmt::Display for AsmFault {
+    ghost output = { λ fault. Some (asm_text fault) };
+
+    fn fmt<W: fmt::Write>(&self, f: &mut fmt::Formatter<W>) -> fmt::Result {
+        match self {
+            AsmFault::Line(line, cause) => write!(f, "line {line} {cause}"),
+            AsmFault::Memory => f.write_str("memory"),
+        }
+    }
 }
 
 impl From<AllocError> for AsmFault {

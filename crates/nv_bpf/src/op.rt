@@ -1,8 +1,10 @@
 // One instruction, and why instructions are no filter.
-ghost use Rattle.std.specs.Prelude.{◌≡◌};
+ghost use Rattle.std.specs.Prelude.{◌≡◌, Some};
+ghost use Rattle.nv_bpf.specs.Faults.{filter_text};
 ghost use Rattle.nv_bpf.specs.declared.op.FilterFault.TheVariants.{Memory};
 
 use std::alloc::{AllocError, AllocFailed};
+use std::fmt;
 
 /// The most instructions that a filter has.
 pub const MOST_OPS: usize = 4096;
@@ -44,6 +46,27 @@ pub enum FilterFault {
     /// The last instruction isn't a return.
     NoReturn,
     Memory,
+}
+
+impl fmt::Display for FilterFault {
+    ghost output = { λ fault. Some (filter_text fault) };
+
+    fn fmt<W: fmt::Write>(&self, f: &mut fmt::Formatter<W>) -> fmt::Result {
+        match self {
+            FilterFault::Line(line) => write!(f, "line {line}"),
+            FilterFault::Empty => f.write_str("empty"),
+            FilterFault::TooLong => f.write_str("too long"),
+            FilterFault::Count => f.write_str("count"),
+            FilterFault::Code(index) => write!(f, "code {index}"),
+            FilterFault::Jump(index) => write!(f, "jump {index}"),
+            FilterFault::Scratch(index) => write!(f, "scratch {index}"),
+            FilterFault::Offset(index) => write!(f, "offset {index}"),
+            FilterFault::Zero(index) => write!(f, "zero {index}"),
+            FilterFault::Shift(index) => write!(f, "shift {index}"),
+            FilterFault::NoReturn => f.write_str("no return"),
+            FilterFault::Memory => f.write_str("memory"),
+        }
+    }
 }
 
 impl From<AllocError> for FilterFault {

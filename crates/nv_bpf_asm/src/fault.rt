@@ -1,9 +1,11 @@
 // Why a rule text is no filter.
-ghost use Rattle.std.specs.Prelude.{◌≡◌};
+ghost use Rattle.std.specs.Prelude.{◌≡◌, Some};
+ghost use Rattle.nv_bpf_asm.specs.Faults.{rule_word, rules_text};
 ghost use Rattle.nv_bpf_asm.specs.declared.fault.RuleFault.TheVariants.{Memory};
 
 use nv_bpf::FilterFault;
 use std::alloc::{AllocError, AllocFailed};
+use std::fmt;
 
 /// Why a line of a rule text has no instruction.
 #[derive(Clone, Copy, Debug, PartialEq, Eq)]
@@ -28,6 +30,32 @@ pub enum RuleFault {
     /// The fault of the instructions.
     Filter(FilterFault),
     Memory,
+}
+
+impl fmt::Display for RuleCause {
+    ghost output = { λ cause. Some (rule_word cause) };
+
+    fn fmt<W: fmt::Write>(&self, f: &mut fmt::Formatter<W>) -> fmt::Result {
+        match self {
+            RuleCause::Twice => f.write_str("twice"),
+            RuleCause::Word => f.write_str("word"),
+            RuleCause::Operand => f.write_str("operand"),
+            RuleCause::Label => f.write_str("label"),
+            RuleCause::Far => f.write_str("far"),
+        }
+    }
+}
+
+impl fmt::Display for RuleFault {
+    ghost output = { λ fault. Some (rules_text fault) };
+
+    fn fmt<W: fmt::Write>(&self, f: &mut fmt::Formatter<W>) -> fmt::Result {
+        match self {
+            RuleFault::Line(line, cause) => write!(f, "line {line} {cause}"),
+            RuleFault::Filter(fault) => write!(f, "{fault}"),
+            RuleFault::Memory => f.write_str("memory"),
+        }
+    }
 }
 
 impl From<AllocError> for RuleFault {

@@ -8,11 +8,14 @@ use Rattle.nv_script.specs.Scripts.{Setup}
 use Rattle.nv_bpf.specs.declared.op.Op.{Op}
 use Rattle.nv_machine.specs.Guest.{Machine}
 use Rattle.nv_cli.specs.Outcome.{Source, Outcome, NoMemory, NotRead, NotAccepted, Reported, outcome_of, name_of, text_of}
-use Rattle.nv_cli.specs.Due.{RunComesTo, GenOwes, Owes, OwesAny, IsDue, Shows, IsUntouched, Says, Answers}
-use Rattle.nv_cli.specs.Ran.{Ran, RunSays}
+use Rattle.nv_cli.specs.Found.{TookLong}
+use Rattle.nv_cli.specs.Due.{RunComesTo, JobOwes, GenOwes, Owes, OwesAny, IsDue, Shows, IsUntouched, Says, Answers}
+use Rattle.nv_cli.specs.Ran.{Ran, RunSays, Wrote, Tells}
+use Rattle.nv_cli.specs.declared.refusal.Cause.{Cause}
+use Rattle.nv_cli.specs.declared.refusal.Cause.TheVariants.{Long}
 use Rattle.nv_cli.specs.declared.refusal.Refusal.{Refusal}
 use Rattle.nv_cli.specs.declared.refusal.Refusal.TheVariants.{Memory, Unreadable as Unread, Input}
-use Rattle.nv_command.specs.Words.{Name, Plan, Command, Runs, Generates, asked_by, behind_program, command_of, name_in}
+use Rattle.nv_command.specs.Words.{Name, Plan, Job, Command, Runs, Uses, Generates, asked_by, behind_program, command_of, name_in}
 use Rattle.nv_cli.specs.Summing.{SumsUp}
 
 is_named : (name : Option Name) (asked : Name → Option Command) (command : Command) → option_and_then asked name ≡ Some command → IsSome name
@@ -48,18 +51,62 @@ run_due words holds plan whole outcome asked files comes = is_due words holds (R
   comes = subst (λ (p : Prepared). RunComesTo plan p outcome) (sym files.is) comes;
 })
 
--- a run that doesn't start has the outcome of its refusal
-pub refusal_due : (refusal : Refusal) (words : List (List ℕ)) (plan : Plan) (source : Source) → command_of words ≡ Some (Runs plan)
-    → Refuses refusal source.holds plan source.faults source.later_faults source.taken source.later_taken → IsDue words source.holds (outcome_of refusal plan)
-refusal_due Memory words plan source asked h = memory_due words source.holds (Runs plan) asked
-refusal_due (Unread place) words plan source asked h = run_due words source.holds plan _ (NotRead (name_of place plan)) asked h.0 refl
-refusal_due (Input place cause) words plan source asked h = run_due words source.holds plan _ (NotAccepted (name_of place plan) cause) asked h.0 refl
+-- Something is due of words that name a command. It is answered as it is due, or memory is wanted for its text.
+module _ (words : List (List ℕ)) (source : Source) (command : Command) (asked : command_of words ≡ Some command) (name : List ℕ) (cause : Cause)
+    (due : IsDue words source.holds (NotAccepted name cause)) (kept : source.later_faults ≡ source.faults) (long : cause ≡ Long → TookLong source.taken source.later_taken)
+    (before : Option (List ℕ)) (faults status : ℕ) (after : Option (List ℕ)) (later : ℕ) where
+  refused : Says (text_of (NotAccepted name cause)) 4 before faults status after later → Answers words source before faults status after later
+  refused says = record {
+    outcome = NotAccepted name cause;
+    due = due;
+    shown = (kept, long);
+    unread = asked_unread words source command asked;
+    says = says;
+  }
 
-pub refusal_shown : (refusal : Refusal) (plan : Plan) (source : Source)
-    → Refuses refusal source.holds plan source.faults source.later_faults source.taken source.later_taken → Shows (outcome_of refusal plan) source
-refusal_shown Memory plan source h = h
-refusal_shown (Unread place) plan source h = h.1
-refusal_shown (Input place cause) plan source h = (h.1, h.2)
+  wanted : Says (text_of NoMemory) 3 before faults status after later → Answers words source before faults status after later
+  wanted says = record {
+    outcome = NoMemory;
+    due = memory_due words source.holds command asked;
+    shown = kept;
+    unread = asked_unread words source command asked;
+    says = says;
+  }
+
+  refused_answers : Wrote (text_of (NotAccepted name cause)) 4 before faults status after later → Answers words source before faults status after later
+  refused_answers = ⊎_elim refused wanted
+
+-- a run that doesn't start answers its refusal
+pub refusal_answers : (refusal : Refusal) (words : List (List ℕ)) (source : Source) (plan : Plan) → command_of words ≡ Some (Runs plan)
+    → Refuses refusal source.holds plan source.faults source.later_faults source.taken source.later_taken
+    → (before : Option (List ℕ)) (faults status : ℕ) (after : Option (List ℕ)) (later : ℕ) → Tells (outcome_of refusal plan) before faults status after later
+    → Answers words source before faults status after later
+refusal_answers Memory words source plan asked h before faults status after later says = record {
+  outcome = NoMemory;
+  due = memory_due words source.holds (Runs plan) asked;
+  shown = h;
+  unread = asked_unread words source (Runs plan) asked;
+  says = says;
+}
+refusal_answers (Unread place) words source plan asked h before faults status after later says = record {
+  outcome = NotRead (name_of place plan);
+  due = run_due words source.holds plan _ (NotRead (name_of place plan)) asked h.0 refl;
+  shown = h.1;
+  unread = asked_unread words source (Runs plan) asked;
+  says = says;
+}
+refusal_answers (Input place cause) words source plan asked h before faults status after later says =
+    refused_answers words source (Runs plan) asked (name_of place plan) cause (run_due words source.holds plan _ (NotAccepted (name_of place plan) cause) asked h.0 refl) h.1 h.2
+    before faults status after later says
+
+-- a command over one file answers that the file is refused
+pub job_refused : (words : List (List ℕ)) (source : Source) (job : Job) (cause : Cause) → command_of words ≡ Some (Uses job)
+    → JobOwes job source.holds (NotAccepted job.file cause) → source.later_faults ≡ source.faults → (cause ≡ Long → TookLong source.taken source.later_taken)
+    → (before : Option (List ℕ)) (faults status : ℕ) (after : Option (List ℕ)) (later : ℕ) → Wrote (text_of (NotAccepted job.file cause)) 4 before faults status after later
+    → Answers words source before faults status after later
+job_refused words source job cause asked owed kept long before faults status after later says =
+    refused_answers words source (Uses job) asked job.file cause (is_due words source.holds (Uses job) (NotAccepted job.file cause) asked owed) kept long
+    before faults status after later says
 
 module _ (words : List (List ℕ)) (source : Source) (plan : Plan) (asked : command_of words ≡ Some (Runs plan)) (kept : source.later_faults ≡ source.faults) (setup : Setup) (rules : Option (List Op)) (machines : List Machine)
     (files : ComesTo plan source.holds (Ready setup rules machines)) (before : Option (List ℕ)) (faults status : ℕ) (after : Option (List ℕ)) (later : ℕ) where

@@ -3,6 +3,7 @@ pub mod Found
 pub mod Prepared
 pub mod Made
 pub mod Account
+pub mod Causes
 pub mod Outcome
 pub mod Generated
 pub mod Due

@@ -3,7 +3,6 @@
 
 mod beside;
 mod calm;
-mod causes;
 mod endings;
 mod generate;
 mod prepare;

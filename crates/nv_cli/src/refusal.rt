@@ -1,5 +1,6 @@
 // Why a run doesn't start.
-ghost use Rattle.std.specs.Prelude.{◌≡◌};
+ghost use Rattle.std.specs.Prelude.{◌≡◌, Some};
+ghost use Rattle.nv_cli.specs.Causes.{cause_text};
 ghost use Rattle.nv_cli.specs.declared.refusal.Refusal.TheVariants.{Memory};
 
 use nv_asm::AsmFault;
@@ -9,6 +10,7 @@ use nv_elf::ElfFault;
 use nv_guest::GuestFault;
 use nv_script::ScriptFault;
 use std::alloc::{AllocError, AllocFailed};
+use std::fmt;
 
 /// A file of the reading order: the script, the rules, or the version with this number.
 #[derive(Clone, Copy, Debug, PartialEq, Eq)]
@@ -35,6 +37,22 @@ pub enum Cause {
     Rules(RuleFault),
     /// An assembler text that is no program.
     Asm(AsmFault),
+}
+
+impl fmt::Display for Cause {
+    ghost output = { λ cause. Some (cause_text cause) };
+
+    fn fmt<W: fmt::Write>(&self, f: &mut fmt::Formatter<W>) -> fmt::Result {
+        match self {
+            Cause::Long => f.write_str("long"),
+            Cause::Script(fault) => write!(f, "{fault}"),
+            Cause::Elf(fault) => write!(f, "{fault}"),
+            Cause::Guest(fault) => write!(f, "{fault}"),
+            Cause::Filter(fault) => write!(f, "{fault}"),
+            Cause::Rules(fault) => write!(f, "{fault}"),
+            Cause::Asm(fault) => write!(f, "{fault}"),
+        }
+    }
 }
 
 /// Why a run doesn't start.

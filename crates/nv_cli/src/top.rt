@@ -11,18 +11,19 @@ ghost use Rattle.nv_calls.specs.Logs.{output_of};
 ghost use Rattle.nv_report.specs.Report.{report_text};
 ghost use Rattle.nv_report.specs.Json.{json_text};
 ghost use Rattle.nv_cli.specs.Due.{Says, Answers, Completes, Rejects};
-ghost use Rattle.nv_cli.specs.Ran.{Wrote, RunSays};
+ghost use Rattle.nv_cli.specs.Ran.{Wrote, Tells, RunSays};
 ghost use Rattle.nv_gen.specs.Plans.{outcome_in};
 ghost use Rattle.nv_cli.specs.Generated.{IsGenerated};
 ghost use Rattle.nv_cli.specs.Summing.{SumsUp};
-ghost use Rattle.nv_cli.specs.Outcome.{told, name_of, outcome_of, status_of, text_of, source_of};
+ghost use Rattle.nv_cli.specs.Outcome.{NotAccepted, told, name_of, outcome_of, text_of, source_of};
 
 use crate::beside::run;
-use crate::causes::put_input;
-use crate::endings::{INPUT, MEMORY, READ_FAULT, USAGE, count_exited, ended, put_line, starved, status};
+use crate::endings::{
+    INPUT, MEMORY, READ_FAULT, USAGE, count_exited, ended, put_line, starved, status,
+};
 use crate::generate::generate;
 use crate::prepare::{Prepared, prepare};
-use crate::refusal::{Place, Refusal};
+use crate::refusal::{Cause, Place, Refusal};
 use crate::tools::{Unmade, make};
 use nv_bpf::Filter;
 use nv_calls::SyscallKernel;
@@ -98,10 +99,29 @@ fn name<'a>(place: Place, plan: &Run<'a>) -> &'a str
     }
 }
 
+// Says which file is refused, and why.
+fn put_input<S: Sink>(alloc: Global, sink: &mut S, name: &str, cause: Cause) -> u8
+    ensures { Wrote (text_of (NotAccepted name.now cause)) 4 (S.told sink.old) (S.faults sink.old) result (S.told sink.new) (S.faults sink.new) }
+{
+    let Ok(why) = cause.to_string(alloc) else {
+        return put_line(sink, b"varan: memory\n", MEMORY);
+    };
+    let put = put_pieces(
+        sink,
+        &[
+            b"varan: input ",
+            name.as_bytes(),
+            b": ",
+            why.as_bytes(),
+            b"\n",
+        ],
+    );
+    ended(put, INPUT)
+}
+
 // Says why a run didn't start.
-fn refuse<S: Sink>(sink: &mut S, refusal: Refusal, plan: &Run<'_>) -> u8
-    ensures { Says (text_of (outcome_of refusal (plan_view plan.now))) (status_of (outcome_of refusal (plan_view plan.now)))
-        (S.told sink.old) (S.faults sink.old) result (S.told sink.new) (S.faults sink.new) }
+fn refuse<S: Sink>(alloc: Global, sink: &mut S, refusal: Refusal, plan: &Run<'_>) -> u8
+    ensures { Tells (outcome_of refusal (plan_view plan.now)) (S.told sink.old) (S.faults sink.old) result (S.told sink.new) (S.faults sink.new) }
 {
     match refusal {
         Refusal::Memory => put_line(sink, b"varan: memory\n", MEMORY),
@@ -112,10 +132,7 @@ fn refuse<S: Sink>(sink: &mut S, refusal: Refusal, plan: &Run<'_>) -> u8
             );
             ended(put, READ_FAULT)
         }
-        Refusal::Input(place, cause) => {
-            let put = put_input(sink, name(place, plan), cause);
-            ended(put, INPUT)
-        }
+        Refusal::Input(place, cause) => put_input(alloc, sink, name(place, plan), cause),
     }
 }
 
@@ -138,10 +155,7 @@ fn run_job<F: Files, S: Sink>(
             let put = put_pieces(sink, &[b"varan: read ", file.as_bytes(), b"\n"]);
             ended(put, READ_FAULT)
         }
-        Err(Unmade::Refused(cause)) => {
-            let put = put_input(sink, file, cause);
-            ended(put, INPUT)
-        }
+        Err(Unmade::Refused(cause)) => put_input(alloc, sink, file, cause),
     }
 }
 
@@ -176,7 +190,7 @@ fn do_run<R: Threads + Wait + Sync, F: Files, S: Sink, G: Gate + Sync>(
             sink,
             gate,
         ),
-        Err(refusal) => refuse(sink, refusal, plan),
+        Err(refusal) => refuse(alloc, sink, refusal, plan),
     }
 }
 

@@ -7,3 +7,4 @@ pub mod Vectors
 pub mod Answers
 pub mod Threads
 pub mod Heap
+pub mod Faults

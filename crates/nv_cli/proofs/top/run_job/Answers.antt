@@ -1,10 +1,10 @@
 use Rattle.std.proofs.Common.{ap, sym, refl, ◌++◌, codes}
 use Rattle.nv_outside.proofs.Writing.{puts-is}
 use Rattle.nv_cli.specs.Found.{Unread}
-use Rattle.nv_cli.specs.Outcome.{Made, NoMemory, NotRead, NotAccepted}
+use Rattle.nv_cli.specs.Outcome.{Source, Made, NoMemory, NotRead, source_of}
 use Rattle.nv_cli.specs.Due.{made_outcome}
 use Rattle.nv_command.specs.Words.{Job, Uses}
-use Rattle.nv_cli.proofs.Commands.{is_due, memory_due, unasked}
+use Rattle.nv_cli.proofs.Commands.{is_due, memory_due, unasked, job_refused}
 use Rattle.nv_cli.proofs.Making.{unreadable_rose, memory_kept, refused_by}
 use Rattle.nv_cli.proofs.top.run_job.Goals as goal
 
@@ -43,20 +43,11 @@ returns-in-Err-Unreadable g c = λ words asked.
 
 pub returns-in-Err-Refused : goal.returns-in-Err-Refused
 returns-in-Err-Refused g c = λ words asked.
-    let holds = g.F.Files.holds c.args.files.now in
+    let source : Source = source_of g.F.Files.holds g.F.Files.faults g.F.Files.taken c.args.files.now c.make.new.files in
     let job : Job = record { tool = c.args.tool; file = c.args.file.now } in
     let why = refused_by _ _ _ _ _ _ _ c.in-Err-Refused.ensures.unmade c.in-Err-Refused.cause c.in-Err-Refused.field-0-is in
-    record {
-      outcome = NotAccepted c.args.file.now c.in-Err-Refused.cause;
-      due = is_due words holds (Uses job) (NotAccepted c.args.file.now c.in-Err-Refused.cause) asked (record { found = why.0.found; agrees = why.0.agrees; comes = sym (ap (made_outcome job) why.0.is) });
-      shown = (why.1, why.2);
-      unread = λ none. absurd (unasked words (Uses job) asked none);
-      says = record {
-        put = c.put_input-put.result;
-        ends = c.ended-in-Err-Refused.ensures;
-        written = c.put_input-put.ensures;
-      };
-    }
+    job_refused words source job c.in-Err-Refused.cause asked (record { found = why.0.found; agrees = why.0.agrees; comes = sym (ap (made_outcome job) why.0.is) }) why.1 why.2
+    _ _ _ _ _ c.put_input.ensures
 
 pub returns-in-Err-Memory : goal.returns-in-Err-Memory
 returns-in-Err-Memory g c = λ words asked. record {
