@@ -107,11 +107,11 @@ module _ {P : Type 0} (g : Behaviour P) (replies : Start) (most : ℕ) (cut : Op
   ended_grows s (Some f) = ([], sym (append-nil s.log))
   ended_grows s None = led_grows s (g.after s.process Any) (g.came s.process Any)
 
-  next_grows : (s : Leader P) → (more : List Entry) × ((next_call g replies most cut s).log ≡ s.log ++ more)
+  pub next_grows : (s : Leader P) → (more : List Entry) × ((next_call g replies most cut s).log ≡ s.log ++ more)
   unfolding next_call
   next_grows s = ended_grows s s.fate
 
-  stage_grows : (n : ℕ) (s : Leader P) → (more : List Entry) × ((stage (next_call g replies most cut) n s).log ≡ s.log ++ more)
+  pub stage_grows : (n : ℕ) (s : Leader P) → (more : List Entry) × ((stage (next_call g replies most cut) n s).log ≡ s.log ++ more)
   unfolding stage
   stage_grows zero s = ([], sym (append-nil s.log))
   stage_grows (suc n) s =

@@ -40,7 +40,7 @@ module _ {P : Type 0} (g : Behaviour P) (laws : IsProcess g) (judge : Judge) whe
   judged_falls n s p t f Drop l e h k = omega arith
   judged_falls n s p t f No l e h k = rw e (omega arith)
 
-  consumed_falls : (n : ℕ) (s : Follower P) (p : P) (t : ℕ) (r : Response) → s.seen < n → s.fate ≡ None → g.pending p t ≡ true
+  pub consumed_falls : (n : ℕ) (s : Follower P) (p : P) (t : ℕ) (r : Response) → s.seen < n → s.fate ≡ None → g.pending p t ≡ true
       → g.calls_left p ≤ g.calls_left s.process → size g n (consumed g s (g.answered p t r)) < size g n s
   unfolding size
   consumed_falls n s p t r l e h k = rw e (omega (arith, laws.falls p t r h, one_at_most (option_map Exited (g.ended (g.answered p t r)))))

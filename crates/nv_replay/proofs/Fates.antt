@@ -16,9 +16,13 @@ on_none true f h = cc
 on_none false None h = refl
 on_none false (Some x) h = cc
 
-off_some : (f : Option Fate) → is_on f ≡ false → f ≡ None → ⊥
+pub off_some : (f : Option Fate) → is_on f ≡ false → f ≡ None → ⊥
 off_some None h e = cc
 off_some (Some x) h e = cc
+
+pub none_on : (f : Option Fate) → is_on f ≡ true → f ≡ None
+none_on None h = refl
+none_on (Some x) h = cc
 
 pub fate_if : (f : Option Fate) → (f ≡ None → ⊥) → is_on f ≡ false
 fate_if None h = absurd (h refl)

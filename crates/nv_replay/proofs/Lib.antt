@@ -13,3 +13,16 @@ pub mod Wholly
 pub mod Fates
 pub mod Survivor
 pub mod Telling
+pub mod Numbers
+pub mod Stretches
+pub mod Tracking
+pub mod Retracing
+pub mod Handing
+pub mod Rotating
+pub mod Unplanned
+pub mod Covering
+pub mod Lone
+pub mod Survivors
+pub mod OneVersion
+pub mod Agreeing
+mod Rows

@@ -1,5 +1,5 @@
 -- A span that grows by one event.
-use Rattle.std.proofs.Common.{◌≡◌, ap, subst, refl, ℕ, zero, suc, ◌+◌, ◌≤◌, List, [], ◌∷◌, length, get_or, set, Some, arith}
+use Rattle.std.proofs.Common.{◌≡◌, ap, subst, refl, ℕ, zero, suc, ◌+◌, ◌≤◌, List, [], ◌∷◌, ◌++◌, length, get_or, set, Some, arith}
 use Rattle.std.specs.Prelude.{slice_get}
 use Rattle.nv_replay.specs.Spans.{grown, EndBy}
 
@@ -20,3 +20,28 @@ grown_by (y ∷ z ∷ zs) n f (suc i) x h = grown_by (z ∷ zs) n (record { each
 
 pub grown_end : (xs : List (ℕ × ℕ)) (n : ℕ) → EndBy n xs → EndBy (n + 1) (grown xs)
 grown_end xs n f = record { each = grown_by xs n f }
+
+-- a span that begins where the version stands
+begun_by : (xs : List (ℕ × ℕ)) (n : ℕ) → EndBy n xs → (i : ℕ) (x : ℕ × ℕ) → slice_get (xs ++ (n, n) ∷ []) i ≡ Some x → x.1 ≤ n
+begun_by [] n f zero x h = let e : (n, n) ≡ x = cc in let P : ℕ × ℕ → Type 0 = λ z. z.1 ≤ n in subst P e (omega arith)
+begun_by [] n f (suc i) x h = cc
+begun_by (y ∷ xs) n f zero x h = f.each 0 x h
+begun_by (y ∷ xs) n f (suc i) x h = begun_by xs n (record { each = λ j t k. f.each (suc j) t k }) i x h
+
+pub begun_end : (xs : List (ℕ × ℕ)) (n : ℕ) → EndBy n xs → EndBy n (xs ++ (n, n) ∷ [])
+begun_end xs n f = record { each = begun_by xs n f }
+
+pub grown_last : (xs : List (ℕ × ℕ)) (a b : ℕ) → grown (xs ++ (a, b) ∷ []) ≡ xs ++ (a, b + 1) ∷ []
+grown_last [] a b = refl
+grown_last (x ∷ []) a b = refl
+grown_last (x ∷ y ∷ xs) a b = ap (λ l. x ∷ l) (grown_last (y ∷ xs) a b)
+
+-- a span behind others that end before it
+last_span : (spans : List (ℕ × ℕ)) (m a b : ℕ) → EndBy m spans → m ≤ b → (i : ℕ) (x : ℕ × ℕ) → slice_get (spans ++ (a, b) ∷ []) i ≡ Some x → x.1 ≤ b
+last_span [] m a b e l zero x h = let k : (a, b) ≡ x = cc in let Q : ℕ × ℕ → Type 0 = λ z. z.1 ≤ b in subst Q k (omega arith)
+last_span [] m a b e l (suc i) x h = cc
+last_span (s ∷ spans) m a b e l zero x h = let k = e.each 0 x h in omega arith
+last_span (s ∷ spans) m a b e l (suc i) x h = last_span spans m a b (record { each = λ j y q. e.each (suc j) y q }) l i x h
+
+pub span_end : (spans : List (ℕ × ℕ)) (m a b : ℕ) → EndBy m spans → m ≤ b → EndBy b (spans ++ (a, b) ∷ [])
+span_end spans m a b e l = record { each = last_span spans m a b e l }

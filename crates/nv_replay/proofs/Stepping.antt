@@ -160,7 +160,7 @@ module _ {P : Type 0} (g : Behaviour P) (laws : IsProcess g) (judge : Judge) whe
   judged_in_step log e s p t f v h i n l q c x = judged_by log e s p t f (permit (g.call p t) e v) h i n l q c (pass_quiet (g.call p t) e v)
       (give_quiet (g.call p t) e v) x
 
-  consumed_in_step : (log : List Entry) (e : Entry) (s : Follower P) (p : P) (t : ℕ) → slice_get log s.seen ≡ Some e → IsInStep g log s
+  pub consumed_in_step : (log : List Entry) (e : Entry) (s : Follower P) (p : P) (t : ℕ) → slice_get log s.seen ≡ Some e → IsInStep g log s
       → s.fate ≡ None → g.live p ≡ g.live s.process → g.pending p t ≡ true → Contains (g.live p) t → g.call p t ≡ e.call
       → IsInStep g log (consumed g s (g.answered p t e.reply))
   consumed_in_step log e s p t h i n l q c k = record {

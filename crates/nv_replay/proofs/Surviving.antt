@@ -73,7 +73,7 @@ module _ {P : Type 0} (g : Behaviour P) (laws : IsProcess g) (judge : Judge) (re
       let call : g.call (g.after s.process (Only e.call.tid)) u ≡ e.call = same_is _ _ sm in
       let ev : served replies (take s.seen log) (g.call (g.after s.process Any) u) ≡ e = rw (a, call) (sym (pl.legal s.seen e h)) in
       let one : take (s.seen + 1) log ≡ take s.seen log ++ e ∷ [] = take_one log s.seen e h in
-      let r : Running P = record { index = 0; at = s; led = []; asked = None } in
+      let r : Running P = record { index = 0; at = s; led = []; leading = true; asked = None } in
       let F : P → Entry → Leader P = λ p x. record {
         process = g.answered p u x.reply;
         log = take s.seen log ++ x ∷ [];
@@ -198,7 +198,7 @@ module _ {P : Type 0} (g : Behaviour P) (laws : IsProcess g) (judge : Judge) (re
   met_alone s e p (Fault kind tid pc) al k w = al
   met_alone s e p (Asked u) al k w = same_alone s e p u (is_same (g.call p u) e.call) refl al k w
 
-  decided_alone : (s : Follower P) (e : Entry) → g.is_alone s.process ≡ true → child_of e ≡ None → IsTrueTo (decided g judge e s)
+  pub decided_alone : (s : Follower P) (e : Entry) → g.is_alone s.process ≡ true → child_of e ≡ None → IsTrueTo (decided g judge e s)
       → g.is_alone (decided g judge e s).process ≡ true
   unfolding decided
   decided_alone s e al k w = met_alone s e _ _ (laws.stays_alone s.process (Only e.call.tid) al) k w

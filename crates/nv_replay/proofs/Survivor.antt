@@ -27,28 +27,28 @@ use Rattle.nv_replay.proofs.Wholly.{lead_is}
 use Rattle.nv_replay.proofs.Turning.{take_all}
 use Rattle.nv_replay.proofs.Fates.{on_none}
 
-no_child : (e : Entry) → (e.call.nr ≡ 220 → ⊥) → child_of e ≡ None
+pub no_child : (e : Entry) → (e.call.nr ≡ 220 → ⊥) → child_of e ≡ None
 no_child e n = by (e.call.nr == 220) refl
   where
     by : (b : Bool) → (e.call.nr == 220) ≡ b → child_of e ≡ None
     by true h = absurd (n (grind (arith, nat_tests)))
     by false h = made_none e.call.nr e.reply.ret h
 
-exited_no_memory : (f : Option Fate) → is_exited f ≡ true → is_memory f ≡ false
+pub exited_no_memory : (f : Option Fate) → is_exited f ≡ true → is_memory f ≡ false
 exited_no_memory None h = cc
 exited_no_memory (Some (Exited s)) h = refl
 exited_no_memory (Some (Fault a b c)) h = cc
 exited_no_memory (Some (Refused a b c d)) h = cc
 exited_no_memory (Some Memory) h = cc
 
-exited_is_well : (f : Option Fate) → is_exited f ≡ true → is_well f ≡ true
+pub exited_is_well : (f : Option Fate) → is_exited f ≡ true → is_well f ≡ true
 exited_is_well None h = refl
 exited_is_well (Some (Exited s)) h = refl
 exited_is_well (Some (Fault a b c)) h = h
 exited_is_well (Some (Refused a b c d)) h = h
 exited_is_well (Some Memory) h = h
 
-exited_well : (f : Option Fate) → is_exited f ≡ true → is_on f ≡ false
+pub exited_well : (f : Option Fate) → is_exited f ≡ true → is_on f ≡ false
 exited_well None h = cc
 exited_well (Some f) h = refl
 
@@ -114,7 +114,7 @@ module _ {P : Type 0} (g : Behaviour P) (laws : IsProcess g) (replies : Start) (
   unfolding lead
   lead_reached c s = record { steps = g.calls_left s.process + 1; is = refl }
 
-  fresh_in_step : (log : List Entry) (p : P) → IsStarted g p → IsInStep g log (fresh p)
+  pub fresh_in_step : (log : List Entry) (p : P) → IsStarted g p → IsInStep g log (fresh p)
   fresh_in_step log p s = record { within = omega arith; live = λ z. s.live; on = λ z. s.on; exited = λ z. cc }
 
 module _ {P : Type 0} (g : Behaviour P) (laws : IsProcess g) (judge : Judge) (replies : Start) (most : ℕ) (log : List Entry) where
@@ -130,7 +130,7 @@ module _ {P : Type 0} (g : Behaviour P) (laws : IsProcess g) (judge : Judge) (re
       (subst (λ (y : List ℕ). Contains y a.0.call.tid) (i.exited x) (l s.seen a.0 a.1).lives)
 
   -- who has exited has seen the whole log
-  exited_all : (s : Follower P) → IsLawful log → IsInStep g log s → is_exited s.fate ≡ true → s.seen ≡ length log
+  pub exited_all : (s : Follower P) → IsLawful log → IsInStep g log s → is_exited s.fate ≡ true → s.seen ≡ length log
   exited_all s l i x = elim (cases_lt s.seen (length log)) [ inl h ↦ absurd (none_lives s l i x h) | inr h ↦ (let w = i.within in omega arith) ]
 
   -- a follower that exited without a rewrite

@@ -15,6 +15,7 @@ use Rattle.nv_replay.specs.Versions.{Running, IsLeading, asking_next, answered_b
 use Rattle.nv_replay.specs.Spans.{grown}
 use Rattle.nv_replay.proofs.Leading.{AskedFor, asking_cases, ending_cases, lead_dropped, lead_refused, lead_served}
 use Rattle.nv_replay.proofs.Stepping.{same_live, none_back, exited_some}
+use Rattle.nv_replay.proofs.Spanning.{grown_last}
 use Rattle.nv_replay.proofs.Wholes.{get_map, length_map}
 use Rattle.nv_replay.specs.Turns.{TookTurn}
 
@@ -78,8 +79,9 @@ module _ {P : Type 0} (g : Behaviour P) (laws : IsProcess g) (replies : Start) (
           index = ap (λ (x : Running P). x.index) e.rest;
           rewrites = ap (λ (x : Running P). x.at.rewrites) e.rest;
           seen = ap (λ (x : Running P). x.at.seen) e.rest ∙ s;
-          span = λ from q. ap (λ (x : Running P). x.led) e.rest ∙
-              (q ∙ ap (λ (m : ℕ). (from, m) ∷ []) (sym (ap (λ (x : Running P). x.at.seen) e.rest)));
+          span = λ front from q. ap (λ (x : Running P). x.led) e.rest ∙
+              (q ∙ ap (λ (m : ℕ). front ++ (from, m) ∷ []) (sym (ap (λ (x : Running P). x.at.seen) e.rest)));
+          leading = ap (λ (x : Running P). x.leading) e.rest;
           in_step = record {
             within = rw (ap (λ (x : Running P). x.at.seen) e.rest) i.within;
             live = λ z. absurd (e.ended z);
@@ -102,7 +104,8 @@ module _ {P : Type 0} (g : Behaviour P) (laws : IsProcess g) (replies : Start) (
           index = ap (λ (x : Running P). x.index) a.new;
           rewrites = ap (λ (x : Running P). x.at.rewrites) a.new;
           seen = seen ∙ s;
-          span = λ from q. ap (λ (x : Running P). x.led) a.new ∙ (q ∙ ap (λ (m : ℕ). (from, m) ∷ []) (sym seen));
+          span = λ front from q. ap (λ (x : Running P). x.led) a.new ∙ (q ∙ ap (λ (m : ℕ). front ++ (from, m) ∷ []) (sym seen));
+          leading = ap (λ (x : Running P). x.leading) a.new;
           in_step = record { within = rw seen i.within; live = λ z. cc; on = λ z. cc; exited = λ z. cc };
           asked = λ z. cc;
         };
@@ -156,7 +159,8 @@ module _ {P : Type 0} (g : Behaviour P) (laws : IsProcess g) (replies : Start) (
           index = ap (λ (x : Running P). x.index) a.new;
           rewrites = ap (λ (x : Running P). x.at.rewrites) a.new;
           seen = omega (arith, one, seen, s);
-          span = λ from q. ap grown (led ∙ q) ∙ ap (λ (m : ℕ). (from, m + 1) ∷ []) (sym seen);
+          span = λ front from q. ap grown (led ∙ q) ∙ (grown_last front from r.at.seen ∙ ap (λ (m : ℕ). front ++ (from, m + 1) ∷ []) (sym seen));
+          leading = ap (λ (x : Running P). x.leading) a.new;
           in_step = subst P' (sym tid) in_step;
           asked = λ z. refl;
         };

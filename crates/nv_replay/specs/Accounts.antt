@@ -1,5 +1,5 @@
 -- What a run begins with and what its account is.
-use Rattle.std.specs.Prelude.{◌≡◌, ℕ, ◌+◌, ◌≤◌, false, List, [], ◌∷◌, length, Option}
+use Rattle.std.specs.Prelude.{◌≡◌, ℕ, ◌+◌, ◌≤◌, true, false, List, [], ◌∷◌, ◌++◌, length, Option}
 use Rattle.nv_threads.specs.Behaviours.{Behaviour}
 use Rattle.nv_replay.specs.Lead.{cut_of}
 use Rattle.nv_replay.specs.declared.standing.Standing.{Standing}
@@ -16,8 +16,9 @@ abbrev pub AreCuts : ℕ → List Standing → (ℕ → Option ℕ) → Type 0
 AreCuts i [] cuts = Unit {0}
 AreCuts i (line ∷ lines) cuts = (cuts i ≡ cut_of line.fate line.seen) × AreCuts (i + 1) lines cuts
 
+-- it leads from here on
 abbrev pub with_span : {P : Type 0} → Running P → ℕ → Running P
-with_span r n = record r { led = (n, n) ∷ [] }
+with_span r n = record r { led = r.led ++ (n, n) ∷ []; leading = true }
 
 -- a version has a fate, and has led at most one part of the log
 pub record IsSettled (line : Standing) : Type 0 where

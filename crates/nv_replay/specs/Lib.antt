@@ -9,3 +9,9 @@ pub mod Sequence
 pub mod Turns
 pub mod Accounts
 pub mod Alone
+pub mod Tracks
+pub mod Hands
+pub mod Monitor
+pub mod Unplanned
+pub mod Covers
+pub mod Survivors

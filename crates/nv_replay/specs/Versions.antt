@@ -1,5 +1,5 @@
 -- A version as callers see it.
-use Rattle.std.specs.Prelude.{◌≡◌, ℕ, ◌+◌, nat_le, List, [], Option, Some, None, option_map, if◌then◌else◌}
+use Rattle.std.specs.Prelude.{◌≡◌, ℕ, ◌+◌, Bool, true, false, nat_le, List, [], Option, Some, None, option_map, if◌then◌else◌}
 use Rattle.nv_calls.specs.Calls.{Entry}
 use Rattle.nv_threads.specs.Behaviours.{Behaviour, IsStarted}
 use Rattle.nv_machine.specs.declared.outcome.FaultKind.TheVariants.{Calls}
@@ -19,6 +19,8 @@ pub record Running (P : Type 0) : Type 0 where
   pub at : Follower P
   -- the parts of the log that it led
   pub led : List (ℕ × ℕ)
+  -- the last of them may still grow
+  pub leading : Bool
   -- the thread whose call it has told and that waits for its answer
   pub asked : Option ℕ
 
@@ -33,16 +35,17 @@ pub record IsFresh {P : Type 0} (g : Behaviour P) (i : ℕ) (r : Running P) : Ty
   pub index : r.index ≡ i
   pub at : r.at ≡ fresh r.at.process
   pub not_led : r.led ≡ []
+  pub idle : r.leading ≡ false
   pub none_asked : r.asked ≡ None
   pub started : IsStarted g r.at.process
 
 pub record IsFollowing {P : Type 0} (r : Running P) : Type 0 where
   pub on : r.at.fate ≡ None
-  pub not_led : r.led ≡ []
+  pub idle : r.leading ≡ false
 
 pub record IsLeading {P : Type 0} (r : Running P) : Type 0 where
   pub on : r.at.fate ≡ None
-  pub led : r.led ≡ [] → ⊥
+  pub leading : r.leading ≡ true
   pub none_asked : r.asked ≡ None
 
 module _ {P : Type 0} (g : Behaviour P) (most : ℕ) (r : Running P) where

@@ -4,6 +4,7 @@
 mod account;
 mod fate;
 mod judging;
+mod laws;
 mod spans;
 mod standing;
 mod version;
@@ -11,6 +12,7 @@ mod whole_log;
 
 pub use account::Account;
 pub use fate::Fate;
+pub use laws::unplanned_is_plain;
 pub use spans::Spans;
 pub use standing::Standing;
 pub use version::{Followed, Led, Version};

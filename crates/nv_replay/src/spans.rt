@@ -1,5 +1,5 @@
 // The parts of a log that a version has led.
-ghost use Rattle.std.specs.Prelude.{◌≡◌, [], ◌∷◌, IfOk};
+ghost use Rattle.std.specs.Prelude.{◌≡◌, ◌<◌, [], ◌∷◌, ◌++◌, length, IfOk};
 ghost use Rattle.nv_replay.specs.Spans.{grown, EndBy};
 
 use std::alloc::{AllocError, Global};
@@ -18,22 +18,22 @@ impl Model for Spans {
 
     ghost view = { λ s. s.held.items };
 
-    ghost invariant = { λ s. 1 ≤ vec_capacity s.held };
+    ghost invariant = { λ s. 9 ≤ vec_capacity s.held };
 }
 
 impl Spans {
-    /// None yet, with memory for one.
+    /// None yet, with memory for nine.
     pub fn make(alloc: Global) -> Result<Spans, AllocError>
         ensures { IfOk result (λ s. s ≡ []) }
     {
-        let held = Vec::with_capacity(alloc, 1)?;
+        let held = Vec::with_capacity(alloc, 9)?;
         Ok(Spans { held })
     }
 
-    /// The first begins at this event.
+    /// One more begins at this event.
     pub fn begin(&mut self, at: u32)
-        requires { self.old ≡ [] }
-        ensures { self.new ≡ (at, at) ∷ [] }
+        requires { length self.old < 9 }
+        ensures { self.new ≡ self.old ++ (at, at) ∷ [] }
     {
         match self.held.push((at, at)) {
             Ok(()) => {}

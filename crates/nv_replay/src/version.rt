@@ -1,5 +1,5 @@
 // A version of the guest, as follower and as leader.
-ghost use Rattle.std.specs.Prelude.{◌≡◌, ◌≢◌, [], ◌∷◌, ◌+◌, ◌<◌, Some, None, IfOk, IfSome, Contains, true, option_map};
+ghost use Rattle.std.specs.Prelude.{◌≡◌, ◌≢◌, [], ◌∷◌, ◌+◌, ◌<◌, ◌++◌, length, Some, None, IfOk, IfSome, Contains, true, false, option_map};
 ghost use Rattle.nv_calls.specs.Calls.{request, entry};
 ghost use Rattle.nv_calls.specs.Logs.{IsNew, child_of};
 ghost use Rattle.nv_calls.specs.Shapes.{IsShaped};
@@ -33,6 +33,7 @@ pub struct Version {
     index: u32,
     process: Process,
     standing: Standing,
+    leading: bool,
     asked: Option<u32>,
     // the bytes of a reply that a rule gives
     scratch: Bytes,
@@ -46,7 +47,7 @@ impl Model for Version {
 
     ghost Value = { Running Proc };
 
-    ghost view = { λ v. record { index = v.index; at = record { process = v.process; seen = v.standing.seen; rewrites = v.standing.rewrites; fate = v.standing.fate }; led = v.standing.led; asked = v.asked } };
+    ghost view = { λ v. record { index = v.index; at = record { process = v.process; seen = v.standing.seen; rewrites = v.standing.rewrites; fate = v.standing.fate }; led = v.standing.led; leading = v.leading; asked = v.asked } };
 
     ghost invariant = { λ v. IsKept v.standing.seen (v.standing.rewrites + threads.calls_left v.process) v.standing.led v.scratch.room };
 }
@@ -92,6 +93,7 @@ impl Version {
                 led,
                 rewrites: 0,
             },
+            leading: false,
             asked: None,
             scratch,
         })
@@ -251,10 +253,20 @@ impl Version {
 
     /// Leads from here on.
     pub fn begin_lead(&mut self)
-        requires { IsFollowing self.old }
-        ensures { self.new ≡ record self.old { led = (self.old.at.seen, self.old.at.seen) ∷ [] } }
+        requires following { IsFollowing self.old }
+        requires few { length self.old.led < 9 }
+        ensures { self.new ≡ record self.old { led = self.old.led ++ (self.old.at.seen, self.old.at.seen) ∷ []; leading = true } }
     {
         self.standing.led.begin(self.standing.seen);
+        self.leading = true;
+    }
+
+    /// Gives up the lead, and follows from here on.
+    pub fn end_lead(&mut self)
+        requires { IsLeading self.old }
+        ensures { self.new ≡ record self.old { leading = false } }
+    {
+        self.leading = false;
     }
 
     /// Comes to the leader's next call, or ends.

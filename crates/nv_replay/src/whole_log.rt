@@ -1,5 +1,5 @@
 // A version over a whole log.
-ghost use Rattle.std.specs.Prelude.{◌≡◌, [], None, length, map, option_map, IfSome, IfNone};
+ghost use Rattle.std.specs.Prelude.{◌≡◌, false, None, length, map, option_map, IfSome, IfNone};
 ghost use Rattle.nv_calls.specs.Calls.{entry};
 ghost use Rattle.nv_calls.specs.Logs.{IsLawful};
 ghost use Rattle.nv_threads.specs.Threads.{threads};
@@ -13,7 +13,7 @@ use nv_calls::Event;
 pub fn follow_all(version: &mut Version, rules: Option<&Filter>, log: &[Event])
     requires lawful { IsLawful (map entry log.now) }
     requires in_step { IsInStep threads (map entry log.now) version.old.at }
-    requires not_led { version.old.led ≡ [] }
+    requires following { version.old.leading ≡ false }
     ensures new { let judge = judge_of (option_map (λ f. f.now) rules.entry) version.old.index in
         version.new ≡ record version.old { at = follow threads judge (map entry log.now) version.old.at } }
     ensures in_step { IsInStep threads (map entry log.now) version.new.at }

@@ -67,18 +67,31 @@ fn run(
     alloc: Global,
     versions: Vec<Version>,
     rules: Option<&Filter>,
+    hands: &[u32],
 ) -> Option<Account<ScriptKernel>>
     requires fresh { AreFresh threads 0 versions.items }
     requires few { length versions.items ≤ 8 }
+    requires hands { length hands.now ≤ 8 }
 {
-    Some(nv_sequence::run(versions, rules, kernel(alloc)?, MOST_EVENTS))
+    let hands = hands.to_vec(alloc).ok()?;
+    let kernel = kernel(alloc)?;
+    Some(nv_sequence::run(versions, rules, kernel, MOST_EVENTS, &hands))
 }
 
 /// The account of a run of one program.
 pub fn alone(alloc: Global, words: &[u32]) -> Option<Account<ScriptKernel>> {
     let version = version(alloc, 0, words)?;
     let versions = vec![in alloc; version].ok()?;
-    run(alloc, versions, None)
+    run(alloc, versions, None, &[])
+}
+
+/// The account of a run of one program that gives up the lead where the log is as long as one of these numbers.
+pub fn alone_by_turns(alloc: Global, words: &[u32], hands: &[u32]) -> Option<Account<ScriptKernel>>
+    requires { length hands.now ≤ 8 }
+{
+    let version = version(alloc, 0, words)?;
+    let versions = vec![in alloc; version].ok()?;
+    run(alloc, versions, None, hands)
 }
 
 /// The account of a program that leads, if there is no memory for its first call.
@@ -97,7 +110,7 @@ pub fn starved(alloc: Global, words: &[u32]) -> Option<Account<ScriptKernel>> {
 
 /// The account of a run of two programs without rules.
 pub fn pair(alloc: Global, first: &[u32], second: &[u32]) -> Option<Account<ScriptKernel>> {
-    pair_by(alloc, first, second, None)
+    pair_by_turns(alloc, first, second, None, &[])
 }
 
 /// The report of a run of two programs by a filter in the form that `tcpdump -ddd` prints.
@@ -113,21 +126,25 @@ pub fn report_by_text(alloc: Global, first: &[u32], second: &[u32], text: &str) 
 }
 
 fn report_by(alloc: Global, first: &[u32], second: &[u32], rules: &Filter) -> Option<Vec<u8>> {
-    let account = pair_by(alloc, first, second, Some(rules))?;
+    let account = pair_by_turns(alloc, first, second, Some(rules), &[])?;
     let mut sink = CalmSink::make(alloc, MOST_BYTES).ok()?;
     let _put = nv_report::write(&mut sink, &account);
     sink.written().to_vec(alloc).ok()
 }
 
-// The account of a run of two programs by these rules, if there are any.
-fn pair_by(
+/// The account of a run of two programs by these rules, if there are any. The lead is given up where the log is as long as one of
+/// these numbers.
+pub fn pair_by_turns(
     alloc: Global,
     first: &[u32],
     second: &[u32],
     rules: Option<&Filter>,
-) -> Option<Account<ScriptKernel>> {
+    hands: &[u32],
+) -> Option<Account<ScriptKernel>>
+    requires { length hands.now ≤ 8 }
+{
     let first = version(alloc, 0, first)?;
     let second = version(alloc, 1, second)?;
     let versions = vec![in alloc; first, second].ok()?;
-    run(alloc, versions, rules)
+    run(alloc, versions, rules, hands)
 }

@@ -1,29 +1,107 @@
 // A version leads a kernel.
-ghost use Rattle.std.specs.Prelude.{◌≡◌, ◌≤◌, ◌<◌, ◌++◌, [], ◌∷◌, Some, true, length, Contains};
+ghost use Rattle.std.specs.Prelude.{◌≡◌, ◌≤◌, ◌<◌, ◌++◌, [], ◌∷◌, Some, None, true, false, length, Contains, option_map};
 ghost use Rattle.nv_calls.specs.Logs.{served, live_after, IsLawful};
 ghost use Rattle.nv_threads.specs.Threads.{threads};
-ghost use Rattle.nv_replay.specs.Follow.{IsInStep};
+ghost use Rattle.nv_replay.specs.Follow.{IsInStep, follow, judge_of};
+ghost use Rattle.nv_replay.specs.Hands.{has, stays};
 ghost use Rattle.nv_replay.specs.Sequence.{is_on};
 ghost use Rattle.nv_replay.specs.Versions.{IsLeading, answered_by};
-ghost use Rattle.nv_replay.specs.Turns.{TookTurn, HasLed};
+ghost use Rattle.nv_replay.specs.Turns.{TookTurn};
+ghost use Rattle.nv_sequence.specs.Passing.{HasLed, TurnDone, IsIdle, followed, given_up, turned_of};
 
+use nv_bpf::Filter;
 use nv_calls::SyscallKernel;
-use nv_replay::{Led, Version};
+use nv_replay::{Fate, Led, Version, follow_all};
 
-/// Leads until the version ends.
-pub fn lead_all<K: SyscallKernel>(version: &mut Version, kernel: &mut K, most: u32)
+/// What has become of a version at its turn.
+#[derive(Clone, Copy, Debug, PartialEq, Eq, Drop)]
+pub enum Turned {
+    /// It has ended, otherwise than by an exit.
+    Left,
+    /// It has given up the lead, and goes on.
+    GaveUp,
+    /// As the leader it has exited.
+    Exited,
+}
+
+/// Follows the log so far, and where it goes on, leads from there.
+pub fn take_turn<K: SyscallKernel>(
+    version: &mut Version,
+    rules: Option<&Filter>,
+    kernel: &mut K,
+    most: u32,
+    hands: &[u32],
+) -> Turned
+    requires idle { IsIdle threads (K.log kernel.old) version.old }
+    requires most { most ≤ 131072 }
+    ensures turn { let judges = judge_of (option_map (λ f. f.now) rules.entry) in
+        TurnDone threads (K.start kernel.old) most hands.now (followed threads judges (K.log kernel.old) version.old) version.new
+        (K.log kernel.old) (K.log kernel.new) result (follow threads (judges version.old.index) (K.log kernel.old) version.old.at).fate }
+    ensures start { K.start kernel.new ≡ K.start kernel.old }
+{
+    follow_all(version, rules, kernel.history());
+    if version.standing().fate.is_some() {
+        return Turned::Left;
+    }
+    version.begin_lead();
+    lead_all(version, kernel, most, hands);
+    end_turn(version)
+}
+
+/// Gives up the lead, unless the version has ended.
+fn end_turn(version: &mut Version) -> Turned
+    requires leading { version.old.leading ≡ true }
+    requires asked { version.old.at.fate ≡ None → version.old.asked ≡ None }
+    ensures new { version.new ≡ given_up version.old }
+    ensures turned { result ≡ turned_of version.old.at.fate }
+{
+    match version.standing().fate {
+        None => {
+            version.end_lead();
+            Turned::GaveUp
+        }
+        Some(Fate::Exited(_)) => Turned::Exited,
+        Some(_) => Turned::Left,
+    }
+}
+
+/// Leads until the version ends, or until it has made the log as long as one of `hands`.
+pub fn lead_all<K: SyscallKernel>(version: &mut Version, kernel: &mut K, most: u32, hands: &[u32])
     requires leading { IsLeading version.old }
-    requires span { version.old.led ≡ (length (K.log kernel.old), length (K.log kernel.old)) ∷ [] }
     requires seen { version.old.at.seen ≡ length (K.log kernel.old) }
     requires in_step { IsInStep threads (K.log kernel.old) version.old.at }
     requires most { most ≤ 131072 }
-    ensures led { HasLed threads (K.start kernel.old) most version.old version.new (K.log kernel.old) (K.log kernel.new) }
+    ensures led { HasLed threads (K.start kernel.old) most hands.now version.old version.new (K.log kernel.old) (K.log kernel.new) }
     ensures start { K.start kernel.new ≡ K.start kernel.old }
 {
     let mut on = true;
     while on {
-        on = one_call(version, kernel, most);
+        on = next_call(version, kernel, most, hands);
     }
+}
+
+/// One call is served and logged, or the version ends; whether it leads on.
+fn next_call<K: SyscallKernel>(
+    version: &mut Version,
+    kernel: &mut K,
+    most: u32,
+    hands: &[u32],
+) -> bool
+    requires leading { IsLeading version.old }
+    requires seen { version.old.at.seen ≡ length (K.log kernel.old) }
+    requires in_step { IsInStep threads (K.log kernel.old) version.old.at }
+    requires most { most ≤ 131072 }
+    ensures turn { TookTurn threads (K.start kernel.old) most version.old version.new (K.log kernel.old) (K.log kernel.new) }
+    ensures start { K.start kernel.new ≡ K.start kernel.old }
+    ensures on { result ≡ stays (is_on version.new.at.fate) hands.now version.new.at.seen }
+{
+    one_call(version, kernel, most) && !is_planned(hands, version.standing().seen)
+}
+
+fn is_planned(hands: &[u32], length: u32) -> bool
+    ensures { result ≡ has hands.now length }
+{
+    hands.contains(&length)
 }
 
 /// One call is served and logged, or the version ends; whether it goes on.

@@ -4,5 +4,5 @@
 mod leading;
 mod running;
 
-pub use leading::lead_all;
+pub use leading::{Turned, lead_all, take_turn};
 pub use running::run;

@@ -1,38 +1,45 @@
 // The versions in order.
-ghost use Rattle.std.specs.Prelude.{◌≡◌, ◌↔◌, IsTrue, ◌≤◌, ◌+◌, ◌∷◌, [], ℕ, true, Option, None, length, map, option_map};
-ghost use Rattle.nv_calls.specs.Logs.{live_after};
+ghost use Rattle.std.specs.Prelude.{◌≡◌, ◌≤◌, ◌+◌, ◌++◌, [], ℕ, length, map, option_map};
 ghost use Rattle.nv_threads.specs.Threads.{threads};
-ghost use Rattle.nv_replay.specs.Follow.{IsInStep, judge_of};
-ghost use Rattle.nv_replay.specs.Sequence.{Account, leads, sequence_from, sequence, cuts_of};
+ghost use Rattle.nv_replay.specs.Follow.{judge_of, IsInStep};
+ghost use Rattle.nv_replay.specs.Sequence.{cuts_of};
+ghost use Rattle.nv_replay.specs.Monitor.{sequence, numbers};
 ghost use Rattle.nv_replay.specs.Versions.{standing_of, process_of};
-ghost use Rattle.nv_replay.specs.Accounts.{AreSettled, AreFresh, AreCuts};
-ghost use Rattle.nv_sequence.specs.Passing.{IsLonger, TurnDone};
-ghost use Rattle.nv_replay.specs.Alone.{SurvivorsAgree};
+ghost use Rattle.nv_replay.specs.Accounts.{AreFresh};
+ghost use Rattle.nv_replay.specs.Covers.{AreEnded, Covers};
+ghost use Rattle.nv_sequence.specs.Rests.{AreRested, IsRested, AreInStep};
+ghost use Rattle.nv_replay.specs.Survivors.{SurvivorsAgree};
+ghost use Rattle.nv_sequence.specs.Passing.{IsReady, NextTurn, followed};
 
-use crate::lead_all;
+use crate::{Turned, take_turn};
+use arrayvec::ArrayVec;
 use nv_bpf::Filter;
 use nv_calls::SyscallKernel;
-use nv_replay::{Account, Fate, Version, follow_all};
+use nv_replay::{Account, Version, follow_all};
 
-/// The whole monitor: the first version leads, the others follow its log, judged by the rules if there are any, and where a
-/// leader ends otherwise than by an exit, the next version that is in step with the whole log goes on from there.
+/// The whole monitor: the versions lead in order, the others follow the log, judged by the rules if there are any. A version that
+/// ends leaves the order, one that has made the log as long as one of `hands` goes to its end; once the process has ended, or
+/// nobody is left, each follows the rest of the log.
 pub fn run<K: SyscallKernel>(
     mut versions: Vec<Version>,
     rules: Option<&Filter>,
     mut kernel: K,
     most: u32,
+    hands: &Vec<u32>,
 ) -> Account<K>
     requires fresh { AreFresh threads 0 versions.items }
     requires few { length versions.items ≤ 8 }
     requires most { most ≤ 131072 }
+    requires hands { length hands.now.items ≤ 8 }
     requires empty { K.log kernel ≡ [] }
     ensures account { record { log = K.log result.kernel; lines = map standing_of result.versions.items }
-        ≡ sequence threads (judge_of (option_map (λ f. f.now) rules.entry)) (K.start kernel) most (cuts_of (map standing_of result.versions.items)) (map process_of versions.items) }
+        ≡ sequence threads (judge_of (option_map (λ f. f.now) rules.entry)) (K.start kernel) most (cuts_of (map standing_of result.versions.items)) hands.now.items (map process_of versions.items) }
     ensures start { K.start result.kernel ≡ K.start kernel }
-    ensures settled { AreSettled (map standing_of result.versions.items) }
-    ensures survivor { SurvivorsAgree threads (K.start kernel) most (map process_of versions.items) (map standing_of result.versions.items) (K.log result.kernel) }
+    ensures settled { AreEnded (map standing_of result.versions.items) }
+    ensures covers { Covers (map standing_of result.versions.items) (K.log result.kernel) }
+    ensures survivor { SurvivorsAgree threads (K.start kernel) most hands.now.items (map process_of versions.items) (map standing_of result.versions.items) (K.log result.kernel) }
 {
-    run_all(&mut versions, rules, &mut kernel, most);
+    run_all(&mut versions, rules, &mut kernel, most, hands.as_slice());
     Account { kernel, versions }
 }
 
@@ -41,74 +48,90 @@ fn run_all<K: SyscallKernel>(
     rules: Option<&Filter>,
     kernel: &mut K,
     most: u32,
+    hands: &[u32],
 )
     requires fresh { AreFresh threads 0 versions.old }
     requires few { length versions.old ≤ 8 }
     requires most { most ≤ 131072 }
+    requires hands { length hands.now ≤ 8 }
     requires empty { K.log kernel.old ≡ [] }
     ensures account { record { log = K.log kernel.new; lines = map standing_of versions.new }
-        ≡ sequence threads (judge_of (option_map (λ f. f.now) rules.entry)) (K.start kernel.old) most (cuts_of (map standing_of versions.new)) (map process_of versions.old) }
+        ≡ sequence threads (judge_of (option_map (λ f. f.now) rules.entry)) (K.start kernel.old) most (cuts_of (map standing_of versions.new)) hands.now (map process_of versions.old) }
     ensures start { K.start kernel.new ≡ K.start kernel.old }
-    ensures settled { AreSettled (map standing_of versions.new) }
-    ensures survivor { SurvivorsAgree threads (K.start kernel.old) most (map process_of versions.old) (map standing_of versions.new) (K.log kernel.new) }
+    ensures settled { AreEnded (map standing_of versions.new) }
+    ensures covers { Covers (map standing_of versions.new) (K.log kernel.new) }
+    ensures survivor { SurvivorsAgree threads (K.start kernel.old) most hands.now (map process_of versions.old) (map standing_of versions.new) (K.log kernel.new) }
 {
-    run_from(versions, 0, rules, kernel, most, false);
+    let mut order = ArrayVec::new();
+    fill(&mut order, versions, 0);
+    let mut on = true;
+    while on {
+        on = one_turn(versions, &mut order, rules, kernel, most, hands);
+    }
+    follow_rest(versions, rules, kernel);
     let _log = kernel.history();
 }
 
-/// The versions from the front of the slice on, which have the numbers from `first` on.
-fn run_from<K: SyscallKernel>(
+/// The numbers of these versions, from `number` on.
+fn fill(order: &mut ArrayVec<u32, 8>, versions: &[Version], number: u32)
+    requires few { length order.old.items + length versions.now ≤ 8 }
+    requires number { number ≡ length order.old.items }
+    ensures { order.new.items ≡ order.old.items ++ numbers number versions.now }
+{
+    if let Some((_version, others)) = versions.split_first() {
+        order.push(number);
+        fill(order, others, number + 1);
+    }
+}
+
+/// The turn of the order's first; whether the others still have theirs.
+fn one_turn<K: SyscallKernel>(
     versions: &mut [Version],
-    first: u32,
+    order: &mut ArrayVec<u32, 8>,
     rules: Option<&Filter>,
     kernel: &mut K,
     most: u32,
-    over: bool,
-)
-    requires fresh { AreFresh threads first versions.old }
-    requires few { first + length versions.old ≤ 8 }
+    hands: &[u32],
+) -> bool
+    requires ready { IsReady threads (K.log kernel.old) versions.old order.old.items }
     requires most { most ≤ 131072 }
-    requires over { over ≡ true → live_after (K.log kernel.old) ≡ [] }
-    ensures account { (cuts : ℕ → Option ℕ) → AreCuts first (map standing_of versions.new) cuts →
-        record { log = K.log kernel.new; lines = map standing_of versions.new }
-        ≡ sequence_from threads (judge_of (option_map (λ f. f.now) rules.entry)) (K.start kernel.old) most cuts (map process_of versions.old) first (K.log kernel.old) over }
+    ensures turn { NextTurn threads (judge_of (option_map (λ f. f.now) rules.entry)) (K.start kernel.old) most hands.now versions.old versions.new order.old.items order.new.items
+        (K.log kernel.old) (K.log kernel.new) result }
     ensures start { K.start kernel.new ≡ K.start kernel.old }
-    ensures stands { over ≡ true → K.log kernel.new ≡ K.log kernel.old }
-    ensures settled { AreSettled (map standing_of versions.new) }
-    ensures grows { IsLonger (K.log kernel.old) (K.log kernel.new) }
 {
-    if let Some((version, others)) = versions.split_first_mut() {
-        let log = kernel.history();
-        follow_all(version, rules, log);
-        let over = take_turn(version, kernel, most, over);
-        run_from(others, first + 1, rules, kernel, most, over);
-        if is_follower(version) {
-            follow_all(version, rules, kernel.history());
+    if order.is_empty() {
+        return false;
+    }
+    let first = order.remove(0);
+    match take_turn(&mut versions[first as usize], rules, kernel, most, hands) {
+        Turned::Left => true,
+        Turned::Exited => false,
+        Turned::GaveUp => {
+            order.push(first);
+            true
         }
     }
 }
 
-/// Whether the version has never led.
-fn is_follower(version: &Version) -> bool
-    ensures { IsTrue result ↔ (version.now.led ≡ []) }
+/// Each version follows the log to its end, or as far as it goes.
+fn follow_rest<K: SyscallKernel>(versions: &mut [Version], rules: Option<&Filter>, kernel: &K)
+    requires rested { AreRested threads (K.log kernel.now) versions.old }
+    ensures new { versions.new ≡ map (followed threads (judge_of (option_map (λ f. f.now) rules.entry)) (K.log kernel.now)) versions.old }
+    ensures in_step { AreInStep threads (K.log kernel.now) versions.new }
 {
-    version.standing().led.as_slice().is_empty()
+    if let Some((version, others)) = versions.split_first_mut() {
+        finish(version, rules, kernel);
+        follow_rest(others, rules, kernel);
+    }
 }
 
-/// Leads where it is this version's turn; whether a version has exited by then.
-fn take_turn<K: SyscallKernel>(version: &mut Version, kernel: &mut K, most: u32, over: bool) -> bool
-    requires not_led { version.old.led ≡ [] }
-    requires none_asked { version.old.asked ≡ None }
-    requires seen { version.old.at.fate ≡ None → version.old.at.seen ≡ length (K.log kernel.old) }
-    requires in_step { IsInStep threads (K.log kernel.old) version.old.at }
-    requires most { most ≤ 131072 }
-    ensures turn { TurnDone threads (K.start kernel.old) most over version.old version.new (K.log kernel.old) (K.log kernel.new) result (leads over version.old.at) }
-    ensures start { K.start kernel.new ≡ K.start kernel.old }
+/// Follows the log to its end, or as far as it goes.
+fn finish<K: SyscallKernel>(version: &mut Version, rules: Option<&Filter>, kernel: &K)
+    requires rested { IsRested threads (K.log kernel.now) version.old }
+    ensures new { version.new ≡ followed threads (judge_of (option_map (λ f. f.now) rules.entry)) (K.log kernel.now) version.old }
+    ensures in_step { IsInStep threads (K.log kernel.now) version.new.at }
 {
-    if over || version.standing().fate.is_some() {
-        return over;
+    if version.standing().fate.is_none() {
+        follow_all(version, rules, kernel.history());
     }
-    version.begin_lead();
-    lead_all(version, kernel, most);
-    matches!(version.standing().fate, Some(Fate::Exited(_)))
 }

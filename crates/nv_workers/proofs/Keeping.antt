@@ -16,10 +16,10 @@ use Rattle.nv_replay.proofs.Settled.{Reaches, reach_here, reach_on}
 use Rattle.nv_replay.proofs.Extending.{extend_by, in_step_on, take_front_of}
 use Rattle.nv_replay.proofs.Stepping.{decided_in_step}
 use Rattle.nv_replay.proofs.Wholes.{next_is, follow_is, rests}
-use Rattle.nv_replay.specs.Turns.{TookTurn}
+use Rattle.nv_replay.specs.Turns.{TookTurn, Suits}
 use Rattle.nv_replay.specs.Accounts.{with_span}
 use Rattle.nv_replay.proofs.Turning.{get_last, take_all, turn_dropped, turn_refused, turn_served}
-use Rattle.nv_replay.proofs.Wholly.{Suits, suits_now}
+use Rattle.nv_replay.proofs.Wholly.{suits_now}
 use Rattle.nv_workers.specs.Ends.{IsStage, IsCutOf, begun, HasLedFrom}
 use Rattle.nv_workers.specs.Turns.{held_list, IsReading, IsServing, IsAsking}
 use Rattle.nv_workers.proofs.Gathering.{IsFirst}
@@ -32,11 +32,12 @@ is_stage step s t r = record { steps = r.steps; is = r.is }
 
 module _ {P : Type 0} (g : Behaviour P) (laws : IsProcess g) (judges : ℕ → Judge) where
   -- a fresh version behind an empty list
-  pub reads_first : (i : ℕ) (p : P) (v : Running P) → v.index ≡ i → IsFirst g p → v.at ≡ fresh p → v.led ≡ [] → v.asked ≡ None → IsReading g judges i p v [] None
-  reads_first i p v n f a l k = record {
+  pub reads_first : (i : ℕ) (p : P) (v : Running P) → v.index ≡ i → IsFirst g p → v.at ≡ fresh p → v.led ≡ [] → v.leading ≡ false → v.asked ≡ None → IsReading g judges i p v [] None
+  reads_first i p v n f a l d k = record {
     index = n;
     on = ap (λ (x : Follower P). x.fate) a;
     not_led = l;
+    idle = d;
     none_asked = k;
     seen = ap (λ (x : Follower P). x.seen) a;
     in_step = subst (λ (x : Follower P). IsInStep g [] x) (sym a) (record { within = omega arith; live = λ z. f.live; on = λ z. f.on; exited = λ z. cc });
@@ -60,6 +61,7 @@ module _ {P : Type 0} (g : Behaviour P) (laws : IsProcess g) (judges : ℕ → J
         index = r.index;
         on = r.on;
         not_led = r.not_led;
+        idle = r.idle;
         none_asked = r.none_asked;
         seen = r.seen;
         in_step = r.in_step;
@@ -86,6 +88,7 @@ module _ {P : Type 0} (g : Behaviour P) (laws : IsProcess g) (judges : ℕ → J
         index = ap (λ (x : Running P). x.index) k ∙ r.index;
         on = n;
         not_led = ap (λ (x : Running P). x.led) k ∙ r.not_led;
+        idle = ap (λ (x : Running P). x.leading) k ∙ r.idle;
         none_asked = ap (λ (x : Running P). x.asked) k ∙ r.none_asked;
         seen = omega (arith, s, r.seen, length-append log (e ∷ []));
         in_step = d.1;
@@ -102,6 +105,7 @@ module _ {P : Type 0} (g : Behaviour P) (laws : IsProcess g) (judges : ℕ → J
         index = ap (λ (x : Running P). x.index) k ∙ r.index;
         on = n;
         not_led = ap (λ (x : Running P). x.led) k ∙ r.not_led;
+        idle = ap (λ (x : Running P). x.leading) k ∙ r.idle;
         none_asked = ap (λ (x : Running P). x.asked) k ∙ r.none_asked;
         seen = s ∙ r.seen;
         in_step = record { within = w; live = λ z. d.1.live z ∙ ap live_after t; on = d.1.on; exited = λ z. ap live_after (sym t) ∙ d.1.exited z };
@@ -125,7 +129,8 @@ module _ {P : Type 0} (g : Behaviour P) (laws : IsProcess g) (judges : ℕ → J
           stage = λ c u. subst (λ (x : Leader P). IsStage (next_call g replies most c) (begun g judges replies most i p (take (length log) log)) x) b (is_stage (next_call g replies most c) (begun g judges replies most i p (take (length log) log)) (begun g judges replies most i p (take (length log) log)) (reach_here (next_call g replies most c) (begun g judges replies most i p (take (length log) log))));
           rewrites = ap (λ (x : Follower P). x.rewrites) f';
           seen = r.seen;
-          span = refl;
+          span = ap (λ (x : List (ℕ × ℕ)). x ++ (length log, length log) ∷ []) r.not_led;
+          leading = refl;
           in_step = r.in_step;
         };
       }
@@ -149,12 +154,13 @@ module _ {P : Type 0} (g : Behaviour P) (laws : IsProcess g) (judges : ℕ → J
             subst (λ (x : List Entry). IsStage (next_call g replies most c) (begun g judges replies most i p x) (leader_of new (log ++ more))) (sym front) (is_stage (next_call g replies most c) (begun g judges replies most i p (take from log)) (leader_of new (log ++ more)) r');
         rewrites = t.on.rewrites ∙ (s.led.rewrites ∙ ap (λ (x : List Entry). (follow g (judges i) x (fresh p)).rewrites) (sym front));
         seen = t.on.seen;
-        span = t.on.span from (s.led.span ∙ ap (λ (m : ℕ). (from, m) ∷ []) (sym s.led.seen)) ∙ ap (λ (m : ℕ). (from, m) ∷ []) t.on.seen;
+        span = t.on.span [] from (s.led.span ∙ ap (λ (m : ℕ). (from, m) ∷ []) (sym s.led.seen)) ∙ ap (λ (m : ℕ). (from, m) ∷ []) t.on.seen;
+        leading = t.on.leading ∙ s.led.leading;
         in_step = t.on.in_step;
       }
 
   pub leading : (i : ℕ) (p : P) (v : Running P) (from : ℕ) (log : List Entry) → IsServing g judges replies most i p v from log → IsLeading v
-  leading i p v from log s = record { on = s.on; led = λ z. let y = sym z ∙ s.led.span in cc; none_asked = s.none_asked }
+  leading i p v from log s = record { on = s.on; leading = s.led.leading; none_asked = s.none_asked }
 
   same_log : (i : ℕ) (p : P) (new : Running P) (from : ℕ) (log : List Entry) → HasLedFrom g judges replies most i p new from (log ++ []) → HasLedFrom g judges replies most i p new from log
   same_log i p new from log h = subst (λ (x : List Entry). HasLedFrom g judges replies most i p new from x) (append-nil log) h

@@ -6,12 +6,13 @@ use Rattle.nv_room.specs.declared.room.Lead.{Lead}
 use Rattle.nv_room.specs.Seats.{station_of_reader}
 use Rattle.nv_threads.specs.Threads.{Proc, threads}
 use Rattle.nv_replay.specs.Versions.{Running, IsFresh}
+use Rattle.nv_replay.specs.Accounts.{with_span}
 use Rattle.nv_workers.specs.declared.worker.Seat.TheVariants.{Reading, Leading}
 use Rattle.nv_workers.specs.New.{LeadsAnew, ReadsAnew}
 use Rattle.nv_workers.proofs.Moving.{fresh_leads, fresh_follows}
 
 module _ {K : Type 0} {G : Ghosts K} where
-  pub leads_anew : (v new : Running Proc) (l : Lead K G) (buf : List ℕ) → IsFresh threads 0 v → new ≡ record v { led = (v.at.seen, v.at.seen) ∷ [] }
+  pub leads_anew : (v new : Running Proc) (l : Lead K G) (buf : List ℕ) → IsFresh threads 0 v → new ≡ with_span v v.at.seen
       → LeadsAnew v l (record { version = new; seat = Leading l None; buf = buf })
   leads_anew v new l buf f k = λ room m. record {
     fresh = f;

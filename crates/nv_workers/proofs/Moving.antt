@@ -36,12 +36,15 @@ module _ (judges : ℕ → Judge) where
 
   module _ {K : Type 0} {G : Ghosts K} (room : Room K) (p : Proc) (v : Running Proc) (r : Reader K G) (buf : List ℕ) where
     pub follows_now : FollowsOn judges room p v r false buf → IsFollowing v
-    follows_now f = let b = bare judges room p v r buf f in record { on = b.reading.on; not_led = b.reading.not_led }
+    follows_now f = let b = bare judges room p v r buf f in record { on = b.reading.on; idle = b.reading.idle }
+
+    pub none_led : FollowsOn judges room p v r false buf → v.led ≡ []
+    none_led f = (bare judges room p v r buf f).reading.not_led
 
     pub takes_lead : (most : ℕ) → FollowsOn judges room p v r false buf → (l : Lead K G) (new : Running Proc) → IsLeadOf room l
         → station_of_lead l ≡ station_of_reader r → lead_view l ≡ as_lead (view r) → due_of l ≡ false
         → map spell (G.log (kernel_of l)) ≡ (view r).seen → G.start (kernel_of l) ≡ G.start (origin room) → IsLawful (G.log (kernel_of l))
-        → new ≡ record v { led = (v.at.seen, v.at.seen) ∷ [] } → LeadsOn judges room p new most l None
+        → new ≡ with_span v v.at.seen → LeadsOn judges room p new most l None
     takes_lead most f l new of station w due spelt start law k =
         let b = bare judges room p v r buf f in
         let log : List Entry = G.log (kernel_of l) in
@@ -81,7 +84,7 @@ module _ (judges : ℕ → Judge) where
   -- Workers as they are made
 
   reads_none : (v : Running Proc) (i : ℕ) → IsFresh threads i v → IsReading threads judges i v.at.process v [] None
-  reads_none v i f = reads_first threads thread_laws judges i v.at.process v f.index (record { live = f.started.live; on = f.started.on }) f.at f.not_led f.none_asked
+  reads_none v i f = reads_first threads thread_laws judges i v.at.process v f.index (record { live = f.started.live; on = f.started.on }) f.at f.not_led f.idle f.none_asked
 
   module _ {K : Type 0} {G : Ghosts K} (room : Room K) (v : Running Proc) where
     pub fresh_follows : (i : ℕ) (r : Reader K G) (buf : List ℕ) → IsFresh threads i v → IsFreshReader room i r → FollowsOn judges room v.at.process v r false buf
@@ -97,7 +100,7 @@ module _ (judges : ℕ → Judge) where
     }
 
     pub fresh_leads : (most : ℕ) (l : Lead K G) (new : Running Proc) → IsFresh threads 0 v → IsFreshLead room l → G.log (kernel_of l) ≡ []
-        → G.start (kernel_of l) ≡ G.start (origin room) → new ≡ record v { led = (v.at.seen, v.at.seen) ∷ [] } → LeadsOn judges room v.at.process new most l None
+        → G.start (kernel_of l) ≡ G.start (origin room) → new ≡ with_span v v.at.seen → LeadsOn judges room v.at.process new most l None
     fresh_leads most l new f n log start k =
         let S : ℕ → List Entry → Running Proc → Type 0 = λ i x w. IsServing threads judges (G.start (origin room)) most i v.at.process w 0 x in
         let s : S 0 [] (with_span v 0) = takes threads thread_laws judges (G.start (origin room)) most 0 v.at.process v [] (reads_none v 0 f) in

@@ -1,5 +1,5 @@
 -- What the room and the workers tell once all versions have ended.
-use Rattle.std.specs.Prelude.{◌≡◌, ℕ, zero, suc, ◌+◌, ◌<◌, ◌≤◌, ◌⊎◌, false, List, [], ◌∷◌, ◌++◌, map, length, take, Option, Some, None, slice_get}
+use Rattle.std.specs.Prelude.{◌≡◌, ℕ, zero, suc, ◌+◌, ◌<◌, ◌≤◌, ◌⊎◌, true, false, List, [], ◌∷◌, ◌++◌, map, length, take, Option, Some, None, slice_get}
 use Rattle.nv_calls.specs.Calls.{Entry}
 use Rattle.nv_calls.specs.Logs.{Start}
 use Rattle.nv_threads.specs.Behaviours.{Behaviour}
@@ -68,6 +68,7 @@ module _ {P : Type 0} (g : Behaviour P) (judges : ℕ → Judge) (replies : Star
     pub rewrites : v.at.rewrites ≡ (follow g (judges i) (take from log) (fresh p)).rewrites
     pub seen : v.at.seen ≡ length log
     pub span : v.led ≡ (from, length log) ∷ []
+    pub leading : v.leading ≡ true
     pub in_step : IsInStep g log v.at
 
 module _ {P : Type 0} (g : Behaviour P) (judges : ℕ → Judge) (fits : Entry → Type 0) (spell : Entry → List ℕ) where

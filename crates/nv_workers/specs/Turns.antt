@@ -1,5 +1,5 @@
 -- What a worker keeps from turn to turn, of a version that was fresh with the process p and of its seat's seen list.
-use Rattle.std.specs.Prelude.{◌≡◌, ℕ, List, [], ◌∷◌, ◌++◌, length, Option, Some, None}
+use Rattle.std.specs.Prelude.{◌≡◌, ℕ, false, List, [], ◌∷◌, ◌++◌, length, Option, Some, None}
 use Rattle.nv_calls.specs.Calls.{Entry}
 use Rattle.nv_calls.specs.Logs.{Start}
 use Rattle.nv_threads.specs.Behaviours.{Behaviour}
@@ -17,6 +17,7 @@ module _ {P : Type 0} (g : Behaviour P) (judges : ℕ → Judge) where
     pub index : v.index ≡ i
     pub on : v.at.fate ≡ None
     pub not_led : v.led ≡ []
+    pub idle : v.leading ≡ false
     pub none_asked : v.asked ≡ None
     pub seen : v.at.seen ≡ length log
     pub in_step : IsInStep g log v.at

@@ -71,7 +71,8 @@ pub fn one_by_one<K: SyscallKernel>(
     requires kernel { K.log kernel ≡ [] }
 {
     let versions = versions(alloc, texts)?;
-    Some(nv_sequence::run(versions, rules, kernel, MOST_EVENTS))
+    let hands = Vec::new(alloc);
+    Some(nv_sequence::run(versions, rules, kernel, MOST_EVENTS, &hands))
 }
 
 /// The account of a run of these programs by this kernel, beside each other.

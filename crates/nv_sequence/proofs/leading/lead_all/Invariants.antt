@@ -3,12 +3,12 @@ use Rattle.nv_threads.specs.Threads.{threads}
 use Rattle.nv_threads.proofs.ThreadLaws.{thread_laws}
 use Rattle.nv_replay.specs.Versions.{leader_of}
 use Rattle.nv_replay.proofs.Falling.{lead_size}
-use Rattle.nv_replay.proofs.Wholly.{LedSo}
+use Rattle.nv_sequence.proofs.Wholly.{LedSo}
 use Rattle.nv_sequence.proofs.leading.lead_all.Given as goal
 
 abbrev pub invariant-loop-on : goal.invariant-loop-on
 invariant-loop-on g l =
-    LedSo threads thread_laws (g.K.SyscallKernel.start l.initial.kernel) l.most l.initial.version l.version
+    LedSo threads thread_laws (g.K.SyscallKernel.start l.initial.kernel) l.most l.hands l.initial.version l.version
     (g.K.SyscallKernel.log l.initial.kernel) (g.K.SyscallKernel.log l.kernel) l.on
     × (g.K.SyscallKernel.start l.kernel ≡ g.K.SyscallKernel.start l.initial.kernel)
 

@@ -1,6 +1,6 @@
-use Rattle.std.proofs.Common.{subst, ap, ◌∙◌}
+use Rattle.std.proofs.Common.{subst, ap, ◌∙◌, arith}
 use Rattle.nv_calls.specs.Logs.{IsLawful}
-use Rattle.nv_workers.proofs.Moving.{follows_now, takes_lead}
+use Rattle.nv_workers.proofs.Moving.{follows_now, none_led, takes_lead}
 use Rattle.nv_workers.proofs.worker.take_lead.Goals as goal
 
 pub returns-clause-leads : goal.returns-clause-leads
@@ -9,10 +9,16 @@ returns-clause-leads g c = λ j most p buf f.
     takes_lead j c.args.room.now p c.args.version.now c.args.reader buf most f c.take-lead.result c.begin_lead.new.self t.of t.station t.view t.due t.log t.start
     (subst IsLawful (ap g.K.SyscallKernel.log c.kernel.ensures) c.history-log.ensures.lawful) c.begin_lead.ensures
 
-pub begin_lead-requires : goal.begin_lead-requires
-begin_lead-requires g c =
+pub begin_lead-requires-clause-following : goal.begin_lead-requires-clause-following
+begin_lead-requires-clause-following g c =
     let f = c.requires.follows in
     follows_now f.0 c.args.room.now f.1 c.args.version.now c.args.reader f.2 f.3
+
+pub begin_lead-requires-clause-few : goal.begin_lead-requires-clause-few
+begin_lead-requires-clause-few g c =
+    let f = c.requires.follows in
+    let n = none_led f.0 c.args.room.now f.1 c.args.version.now c.args.reader f.2 f.3 in
+    rw n (omega arith)
 
 pub returns-clause-on : goal.returns-clause-on
 returns-clause-on g c =

@@ -21,6 +21,7 @@ returns-then-not-give_constant-clause-new c =
             c.self.inside.standing.fate;
       };
       led = c.self.inside.standing.led;
+      leading = c.self.inside.leading;
       asked = c.self.inside.asked;
     } in
     let none = not_given threads c.args.tid c.self.inside.process c.give_constant.new.process
@@ -43,6 +44,7 @@ returns-clause-new c =
             c.self.inside.standing.fate;
       };
       led = c.self.inside.standing.led;
+      leading = c.self.inside.leading;
       asked = c.self.inside.asked;
     } in
     let some = was_given threads c.args.tid c.self.inside.process c.give_constant.new.process

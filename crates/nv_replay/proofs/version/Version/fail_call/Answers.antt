@@ -38,6 +38,7 @@ returns-clause-new c =
             c.self-2.inside.standing.fate;
       };
       led = c.self-2.inside.standing.led;
+      leading = c.self-2.inside.leading;
       asked = c.self-2.inside.asked;
     } in
     let answered : Proc → Running Proc = λ p. record old { at = record old.at { process = p; rewrites = old.at.rewrites + 1 } } in

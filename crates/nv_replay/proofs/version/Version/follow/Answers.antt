@@ -21,7 +21,7 @@ returns-in-Fault-clause-new c =
     let on : Running Proc → Running Proc = λ r. record r { at = decided threads (judge_of (option_map (λ f. f.now) c.args.rules) r.index) (entry c.args.event.now) r.at } in
     let i = c.in-Fault.ensures in
     c.end.ensures.new ∙ (rw i.after (ap (λ (x : Follower Proc). record
-    { index = c.self.inside.index; at = x; led = c.self.inside.standing.led; asked = c.self.inside.asked })
+    { index = c.self.inside.index; at = x; led = c.self.inside.standing.led; leading = c.self.inside.leading; asked = c.self.inside.asked })
     (sym (decided_fault threads _ (entry c.args.event.now)
     (record {
       process = c.self.inside.process;
@@ -36,7 +36,7 @@ returns-in-Asked-clause-new c =
     let on : Running Proc → Running Proc = λ r. record r { at = decided threads (judge_of (option_map (λ f. f.now) c.args.rules) r.index) (entry c.args.event.now) r.at } in
     let i = c.in-Asked.ensures in
     c.meet.ensures.new ∙ (rw i.after (ap (λ (x : Follower Proc). record
-    { index = c.self.inside.index; at = x; led = c.self.inside.standing.led; asked = c.self.inside.asked })
+    { index = c.self.inside.index; at = x; led = c.self.inside.standing.led; leading = c.self.inside.leading; asked = c.self.inside.asked })
     (sym (decided_asked threads _ (entry c.args.event.now)
     (record {
       process = c.self.inside.process;

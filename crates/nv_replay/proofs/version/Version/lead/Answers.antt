@@ -16,6 +16,7 @@ returns-in-Fault-clause-new c =
             c.self.inside.standing.fate;
       };
       led = c.self.inside.standing.led;
+      leading = c.self.inside.leading;
       asked = c.self.inside.asked;
     } in
     let i = c.in-Fault.ensures in
@@ -34,6 +35,7 @@ returns-in-Asked-clause-new c =
             c.self.inside.standing.fate;
       };
       led = c.self.inside.standing.led;
+      leading = c.self.inside.leading;
       asked = c.self.inside.asked;
     } in
     let i = c.in-Asked.ensures in

@@ -23,6 +23,7 @@ returns-clause-new c =
             c.self.inside.standing.fate;
       };
       led = c.self.inside.standing.led;
+      leading = c.self.inside.leading;
       asked = c.self.inside.asked;
     } in
     is_passed threads c.args.tid c.args.value (entry c.args.event.now) (λ call. passed (entry c.args.event.now)) old
