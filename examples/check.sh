@@ -5,6 +5,7 @@
 set -eu
 program=$(realpath -m "${1:-$(dirname "$0")/../crates/varan/out/varan}")
 cd "$(dirname "$0")"
+strace=$PWD/strace.jq
 if [ ! -x "$program" ]; then
     echo "check.sh: $program isn't built: cd crates/varan && rt run -- run --script data/s data/v"
     exit 2
@@ -34,7 +35,7 @@ calls() {
     local expected=$1
     shift
     rows=$((rows + 1))
-    if ! "$program" run --json "$@" | jq -r -f ../strace.jq | diff "$expected" -; then
+    if ! "$program" run --json "$@" | jq -r -f "$strace" | diff "$expected" -; then
         echo "check.sh: other calls: varan run --json $*"
         wrong=$((wrong + 1))
     fi
