@@ -41,7 +41,7 @@ calls() {
     fi
 }
 
-cd hello
+cd ../crates/nv_examples/data/hello
 "$program" asm hi.s >"$work/hi"
 row 0 expected/report run --script script "$work/hi"
 row 0 expected/json run --script script --json "$work/hi"
