@@ -1,5 +1,5 @@
 //! What a pool is asked.
-ghost use Rattle.std.specs.Prelude.{◌≡◌, ℕ, ◌+◌, ◌<◌, ◌≤◌, ◌-◌, ◌↔◌, ◌++◌, List, [], ◌∷◌, length, IfOk, IsTrue};
+ghost use Rattle.std.specs.Prelude.{◌≡◌, ℕ, ◌+◌, ◌%◌, ◌<◌, ◌≤◌, ◌-◌, ◌⊎◌, ◌↔◌, ◌++◌, List, [], ◌∷◌, length, IfOk, IsTrue};
 ghost use Rattle.nv_pool.specs.Chunks.{chunks_of, chunks_before, chunks_from, first_chunk};
 ghost use Rattle.nv_pool.specs.Pools.{chunks_of_pool, places_of, count_of, Holds};
 
@@ -13,6 +13,26 @@ fn chunks_of(bytes: u32) -> u32
     ensures few { result ≤ 8 }
 {
     bytes.div_ceil(8).div_ceil(64)
+}
+
+// Where a number is in a ring of this size. Only one that has come round is divided.
+fn within(at: u32, size: u32) -> u32
+    requires { 0 < size }
+    ensures { result ≡ at % size }
+{
+    if at < size { at } else { at % size }
+}
+
+// So many places back from this one in a ring of this size.
+fn back(at: u32, behind: u32, size: u32) -> u32
+    requires { (at < size) × (0 < behind) × (behind ≤ size) }
+    ensures { (result < size) × ((result + behind ≡ at) ⊎ (result + behind ≡ at + size)) }
+{
+    if behind <= at {
+        at - behind
+    } else {
+        size - (behind - at)
+    }
 }
 
 impl Pool {
@@ -30,6 +50,8 @@ impl Pool {
             places,
             count: 0,
             total: 0,
+            at: 0,
+            first: 0,
             starts,
         })
     }
@@ -43,11 +65,13 @@ impl Pool {
         ensures count { count_of self.new ≡ count_of self.old + 1 }
         ensures same { (chunks_of_pool self.new ≡ chunks_of_pool self.old) × (places_of self.new ≡ places_of self.old) }
     {
-        let first = self.next();
-        let at = (self.count % self.places) as usize;
-        self.starts[at] = self.total;
-        self.total += chunks_of(bytes);
+        let first = self.first;
+        let chunks = chunks_of(bytes);
+        self.starts[self.at as usize] = self.total;
+        self.total += chunks;
         self.count += 1;
+        self.at = within(self.at + 1, self.places);
+        self.first = within(first + chunks, self.chunks);
         first
     }
 
@@ -73,7 +97,7 @@ impl Pool {
         ensures is { (sizes : List ℕ) → Holds self.now sizes → result ≡ first_chunk (chunks_of_pool self.now) sizes (length sizes) }
         ensures below { result < chunks_of_pool self.now }
     {
-        self.total % self.chunks
+        self.first
     }
 
     // The chunks of all events before this one.
@@ -83,10 +107,11 @@ impl Pool {
         ensures is { (sizes : List ℕ) → Holds self.now sizes → result ≡ chunks_before sizes event }
         ensures most { result ≤ self.now.total }
     {
-        if event == self.count {
+        let behind = self.count - event;
+        if behind == 0 {
             self.total
         } else {
-            self.starts[(event % self.places) as usize]
+            self.starts[back(self.at, behind, self.places) as usize]
         }
     }
 }
