@@ -2,7 +2,7 @@
 """How fast the program runs versions that make many calls.
 
 One guest makes 65,535 writes of one byte and exits, so the log has 65,536 events. The built program runs 1, 2, 4 and 8 equal versions of it;
-the table has the median of five runs, the events a second, and the time against that of one version. Build the program first:
+the table has the median of 41 runs, the events a second, and the time against that of one version. Build the program first:
 `cd crates/varan && rt run -- run --script data/s data/v`.
 """
 import os
@@ -16,7 +16,7 @@ import time
 TOP = os.path.dirname(os.path.dirname(os.path.abspath(__file__)))
 PROGRAM = os.path.join(TOP, "crates", "varan", "out", "varan")
 WRITES = 65_535
-RUNS = 5
+RUNS = int(os.environ.get("RUNS", "41"))
 
 
 def image(words, tail):
