@@ -25,7 +25,7 @@ impl Spot {
         requires lane { self.now.lane < 8 }
         requires place { self.now.place < places }
         requires first { self.now.first < pool_chunks places }
-        requires sizes { (stations ≤ 8) × (places ≤ 1024) }
+        requires sizes { (stations ≤ 16) × (places ≤ 1024) }
         requires small { j < 518 }
         ensures { result ≡ spot stations places self.now.lane self.now.place self.now.first j }
     {
@@ -38,7 +38,7 @@ impl Spot {
 
     #[tactic(auto, unfolding(crate::specs::Placement::slot))]
     fn word_of_place(&self, stations: u32, places: u32, j: u32) -> usize
-        requires { (self.now.lane < 8) × (self.now.place < places) × (stations ≤ 8) × (places ≤ 1024) × (j < 6) }
+        requires { (self.now.lane < 8) × (self.now.place < places) × (stations ≤ 16) × (places ≤ 1024) × (j < 6) }
         ensures { result ≡ slot stations places self.now.lane self.now.place j }
     {
         ((self.lane * places + self.place) * PLACE_WORDS + j + 8 * (stations + 2)) as usize
@@ -47,7 +47,7 @@ impl Spot {
     // An event has fewer words than the pool, so it passes the pool's end at most once.
     #[tactic(auto, unfolding(crate::specs::Placement::pool_word))]
     fn word_of_pool(&self, stations: u32, places: u32, i: u32) -> usize
-        requires { (self.now.first < pool_chunks places) × (stations ≤ 8) × (places ≤ 1024) × (i < 512) }
+        requires { (self.now.first < pool_chunks places) × (stations ≤ 16) × (places ≤ 1024) × (i < 512) }
         ensures { result ≡ pool_word stations places self.now.first (i + 6) }
     {
         let words = CHUNK_WORDS * (2 * places + 8);

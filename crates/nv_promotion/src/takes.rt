@@ -2,7 +2,7 @@
 ghost use Rattle.std.specs.Prelude.{◌≡◌, ◌<◌, false, length, map, Some};
 ghost use Rattle.nv_words.specs.Spell.{spell};
 ghost use Rattle.nv_room.specs.Steps.{as_lead};
-ghost use Rattle.nv_room.specs.Seats.{IsOfRoom, IsLeadOf, SameReader, view, lead_view, station_of_reader, station_of_lead, kernel_of, due_of, origin};
+ghost use Rattle.nv_room.specs.Seats.{IsOfRoom, IsLeadOf, SameReader, view, lead_view, station_of_reader, version_of_reader, station_of_lead, version_of_lead, kernel_of, due_of, origin};
 ghost use Rattle.nv_promotion.specs.Lowers.{KeepsMarks, IsLower};
 
 use nv_calls::SyscallKernel;
@@ -40,7 +40,7 @@ pub fn take<K: SyscallKernel>(reader: Reader<K>, room: &Room<K>) -> Lead<K>
     requires of { IsOfRoom room.now reader }
     requires freed { (view reader).freed ≡ Some (length (view reader).seen) }
     ensures of { IsLeadOf room.now result }
-    ensures station { station_of_lead result ≡ station_of_reader reader }
+    ensures station { (station_of_lead result ≡ station_of_reader reader) × (version_of_lead result ≡ version_of_reader reader) }
     ensures view { lead_view result ≡ as_lead (view reader) }
     ensures due { due_of result ≡ false }
     ensures log { map spell (K.log (kernel_of result)) ≡ (view reader).seen }

@@ -15,24 +15,24 @@ use Rattle.nv_words.proofs.SpellLaws.{prefix_length, whole_same}
 use Rattle.nv_room.specs.declared.view.View.{View}
 use Rattle.nv_room.specs.declared.view.Plan.{Plan}
 use Rattle.nv_room.specs.declared.view.Role.{Role}
-use Rattle.nv_room.specs.declared.view.Role.TheVariants.{Reader, Lead, Leaving, Gone, Spent}
+use Rattle.nv_room.specs.declared.view.Role.TheVariants.{Reader, Lead, Opening, Leaving, Moving, Gone, Spent}
 use Rattle.nv_room.specs.Placement.{Log, place_of}
 use Rattle.nv_room.specs.Owner.{GONE, held}
-use Rattle.nv_room.specs.Room.{cursor, Moment, as_of, Places, Led, InRole, IsSeated, Live, tag, Apart, Rule}
+use Rattle.nv_room.specs.Room.{cursor, Moment, as_of, Places, Doors, Led, InRole, IsSeated, Live, Leads, tag, Apart, Rule}
 use Rattle.nv_room.specs.Steps.{one_on, advanced, as_gone, left}
 use Rattle.nv_room.proofs.Lists.{at_below, there}
 use Rattle.nv_room.proofs.Placement.{place_behind, header_inside}
 use Rattle.nv_places.specs.Header.{head_index, cursor_index}
 use Rattle.nv_room.proofs.Merges.{merge_turned, second_kept, notes_none}
-use Rattle.nv_room.proofs.Stays.{Onward, Own, lead_stays, logged, same_tags, told_on, now, moved}
-use Rattle.nv_room.proofs.Seats.{prefix_more, not_held, none_above, apart_role, apart_from, apart_unmade, in_role, seated, told}
+use Rattle.nv_room.proofs.Stays.{Onward, Own, last_near, planned, lead_stays, logged, same_tags, told_on, now, moved}
+use Rattle.nv_room.proofs.Seats.{prefix_more, not_held, none_above, unmade_apart, apart_role, former_apart, apart_from, apart_unmade, in_role, seated, open_near, seat_near, role_near, told}
 
 module _ (n c : ℕ) (m : Moment) (i x : ℕ) (pl : Places n c m) (near : i < n) (up : cursor m.words i ≤ x) where
   abbrev ws' : List ℕ
   ws' = set m.words (cursor_index i) x
 
   abbrev pub risen : Moment
-  risen = as_of ws' m.log m.phase m.holder m.spans
+  risen = as_of ws' m.log m.phase m.holder m.spans m.whos m.ready
 
   inside : cursor_index i < length m.words
   inside = subst (λ (z : ℕ). cursor_index i < z) (sym pl.words_are_all) (header_inside n c (cursor_index i) (omega arith))
@@ -58,7 +58,7 @@ module _ (n c : ℕ) (m : Moment) (i x : ℕ) (pl : Places n c m) (near : i < n)
     few_stations = pl.few_stations;
     words_are_all = length-set m.words (cursor_index i) x ∙ pl.words_are_all;
     owner_is = get_or-set_other m.words (cursor_index i) 0 x 0 (λ e. omega arith) ∙ pl.owner_is;
-    holder_is_made = pl.holder_is_made;
+    holder_is_open = pl.holder_is_open;
     lower_are_gone = λ s l. le_trans (pl.lower_are_gone s l) (cursor_up s);
     lead_counts = λ e. subst (λ (z : ℕ). z ≤ length m.log) (sym (cursor_else m.holder (λ q. unheld e (sym q)))) (pl.lead_counts e);
     head_is_length = get_or-set_other m.words (cursor_index i) head_index x 0 (λ e. omega arith) ∙ pl.head_is_length;
@@ -70,15 +70,30 @@ module _ (n c : ℕ) (m : Moment) (i x : ℕ) (pl : Places n c m) (near : i < n)
     log_is_short = pl.log_is_short;
   }
 
-  pub on_risen : Onward n m risen
-  on_risen = record { cursors = λ s l. cursor_up s; longer = λ _ _ h. h; more = le_refl (length m.log); begun = λ k y e. inl (k, y, e, refl, refl); gone_spans = λ s l g. refl }
+  pub on_risen : length m.whos ≤ n → Onward n m risen
+  on_risen fit = record { near = fit; cursors = λ s l. cursor_up s; longer = λ _ _ h. h; more = le_refl (length m.log); wider = le_refl (length m.whos); begun = λ k y e. inl (k, y, e, refl, refl); gone_spans = λ v s l g. refl; gone_last = λ v s l g. l }
 
-  pub own_risen : (u : ℕ) → u ≢ i → (r : Role) → Own n c m risen u r
-  own_risen u ne Reader = record { cursor_same = cursor_else u ne; freed_on = λ k f. record { is_free = f.is_free; at_head = f.at_head; lower_gone = λ s l. le_trans (f.lower_gone s l) (cursor_up s) } }
-  own_risen u ne Lead = record { held_on = refl; holder_same = refl; log_same = refl; place_same = λ wrote j l. place_else (m.log ++ wrote ∷ []) (length m.log) j }
-  own_risen u ne Leaving = record { not_held_on = λ e. e; holder_same = refl; cursor_same = cursor_else u ne }
-  own_risen u ne Gone = tt
-  own_risen u ne Spent = tt
+  -- an open station's cursor is none of the others'
+  pub doors_risen : (versions : ℕ) (hands : List ℕ) → i < length m.whos → Doors n versions hands m → Doors n versions hands risen
+  doors_risen versions hands inner d = record {
+    all = d.all;
+    least = d.least;
+    first = d.first;
+    is_version = d.is_version;
+    ready_is = ⊎_elim (λ (q : m.ready ≡ length m.whos). inl q) (λ (q : (m.ready ≡ length m.whos + 1) × (m.phase ≡ held) × (cursor m.words (length m.whos) ≡ length m.log)). inr (q.0, q.1, cursor_else (length m.whos) (λ e. omega arith) ∙ q.2)) d.ready_is;
+    shut = λ s l b. cursor_else s (λ e. (let q = d.ready_is in ⊎_elim (λ (a : m.ready ≡ length m.whos). omega arith) (λ (a : (m.ready ≡ length m.whos + 1) × (m.phase ≡ held) × (cursor m.words (length m.whos) ≡ length m.log)). let z = a.0 in omega arith) q)) ∙ d.shut s l b;
+    planned = d.planned;
+  }
+
+  -- the cursor of a seat's station changes, and of its former one, as little as it is this one
+  pub own_risen : {T : Type 0} (u : View T) → u.station ≢ i → (r : Role) → ((r ≡ Moving) → u.former ≢ i) → Own n c m risen u r
+  own_risen u ne Reader other = record { cursor_same = cursor_else u.station ne; led_same = refl; freed_on = λ k f. record { is_free = f.is_free; at_head = f.at_head; opened_is = f.opened_is; lower_gone = λ s l. le_trans (f.lower_gone s l) (cursor_up s) } }
+  own_risen u ne Lead other = record { held_on = refl; holder_same = refl; log_same = refl; whos_same = refl; ready_same = refl; place_same = λ wrote j l. place_else (m.log ++ wrote ∷ []) (length m.log) j }
+  own_risen u ne Opening other = record { held_on = refl; holder_same = refl; log_same = refl; whos_same = refl; ready_same = refl; place_same = λ wrote j l. place_else (m.log ++ wrote ∷ []) (length m.log) j }
+  own_risen u ne Leaving other = record { not_held_on = λ e. e; holder_same = refl; cursor_same = cursor_else u.station ne }
+  own_risen u ne Moving other = record { not_held_on = λ e. e; holder_same = refl; log_same = refl; who_same = refl; former_same = cursor_else u.former (other refl); cursor_same = cursor_else u.station ne; led_same = refl }
+  own_risen u ne Gone other = tt
+  own_risen u ne Spent other = tt
 
 module _ {K : Type 0} (hist : K → List Entry) (beg : K → Start) (p : Plan K) where
   abbrev St : Type 0
@@ -93,30 +108,32 @@ module _ {K : Type 0} (hist : K → List Entry) (beg : K → Start) (p : Plan K)
   pub advances : (slots id new : ℕ) (me : M) → me.0.role ≡ Reader → IsWhole me.0.read → new ≡ length me.0.seen + 1
       → Allows RuleOf slots id me (cursor_index me.0.station) (λ _. new) (λ _. advanced (step slots (cursor_index me.0.station) new 0 none) me new)
   advances slots id new me role full is s r wide at _ = let v = me.0 in let n : ℕ = p.stations in let c : ℕ = p.places in let kn = r.each_seat id v at in let size : ℕ = length v.seen in let pl = r.places in
-      let m : Moment = now hist beg p s r in let ir = in_role hist beg p s r id v at Reader role in let se = seated hist beg p s r id v at Reader role tt in let i : ℕ = v.station in let near : i < n = se.station_is_made in let mine : cursor s.words i ≡ size = ir.cursor_is_length in
+      let m : Moment = now hist beg p s r in let ir = in_role hist beg p s r id v at Reader role in let se = seated hist beg p s r id v at Reader role tt in let i : ℕ = v.station in let near : i < n = role_near hist beg p s r id v at Reader role tt in let mine : cursor s.words i ≡ size = ir.cursor_is_length in
       let six : 6 ≤ length v.read = full.0 in let one = there v.read 0 (omega arith) in let rd0 = kn.read_begins_next 0 one.0 one.1 in let e : List ℕ = rd0.0 in let len : ℕ = length r.log in let lt : size < len = at_below r.log size e rd0.1 in
       let rd : Prefix v.read e = λ j x f. let y = kn.read_begins_next j x f in subst (λ (z : List ℕ). get_elem? z j ≡ some x) (some-injective y.0 e (sym y.1 ∙ rd0.1)) y.2 in
       let same : v.read ≡ e = whole_same v.read e rd full (pl.event_is_whole size e rd0.1).0 in let entry : get_elem? r.log size ≡ some v.read = rd0.1 ∙ ap some (sym same) in
       let up : cursor s.words i ≤ new = omega arith in let m' : Moment = risen n c m i new pl near up in let w : View K = one_on v in
-      let pre : Prefix (v.seen ++ v.read ∷ []) r.log = prefix_more v.seen v.read r.log kn.seen_is_prefix entry in let on = on_risen n c m i new pl near up in (
+      let pre : Prefix (v.seen ++ v.read ∷ []) r.log = prefix_more v.seen v.read r.log kn.seen_is_prefix entry in let on = on_risen n c m i new pl near up (open_near hist beg p s r) in let live : Live v.role = subst Live (sym role) tt in (
         w,
         keeps,
         tt,
-        moved hist beg p s r (cursor_index i) new id me.1 keeps r.log r.phase r.holder r.spans r.events v w at (subst Apart (sym (same_tags hist beg p s.views id v w at refl)) r.one_seat_a_station) (λ e. lead_stays s.views id r.holder v w at (λ q. (q, refl)) (r.held_has_lead e)) (logged hist beg p s r) r.home
-            (places_risen n c m i new pl near up (inl (omega arith)) (λ e. not_held m i r.led ir.led_nothing e)) record { tile = r.led.tile; rise = r.led.rise; last_is_holders = r.led.last_is_holders; unled_is_free = r.led.unled_is_free } on
-            (λ j u ne f l. (own_risen n c m i new pl near up u.station (apart_from hist beg p s r j id u v f at ne (subst Live (sym role) tt) l) u.role, refl, λ t q. cursor_else n c m i new pl near up t (apart_unmade hist beg p s r j id u v f at ne (subst Live (sym role) tt) l t q))) record {
+        moved hist beg p s r (cursor_index i) new id me.1 keeps r.log r.phase r.holder r.spans r.whos r.ready r.events v w at (subst Apart (sym (same_tags hist beg p s.views id v w at refl)) r.one_seat_a_version) (λ e. lead_stays s.views id r.holder v w at (λ q. (q, refl)) (r.held_has_lead e)) (logged hist beg p s r) r.home
+            (places_risen n c m i new pl near up (inl (omega arith)) (λ e. not_held m i r.led ir.led_nothing e)) record { tile = r.led.tile; rise = r.led.rise; last_is_holders = r.led.last_is_holders; unled_is_free = r.led.unled_is_free }
+            (doors_risen n c m i new pl near up p.versions (planned hist beg p) (last_near r.whos v.version i se.last) r.doors) r.turns on
+            (λ j u ne f l. (own_risen n c m i new pl near up u (apart_from hist beg p s r j id u v f at ne live l) u.role (former_apart hist beg p s r j id u v f at ne live l i se.last.has), refl, (λ z. z), λ t q. cursor_else n c m i new pl near up t (apart_unmade hist beg p s r j id u v f at ne live l t q i se.last.has))) record {
               seen_is_prefix = pre;
               read_begins_next = λ j x f. absurd (some-ne-none x (sym f));
               floor_at_most_cursor = λ z l. le_trans (kn.floor_at_most_cursor z l) (cursor_up n c m i new pl near up z);
               head_seen_at_most_head = kn.head_seen_at_most_head;
               owner_seen_at_most_head = kn.owner_seen_at_most_head;
-              in_role = subst (InRole n c m' i (v.seen ++ v.read ∷ []) [] v.wrote v.freed) (sym role) record {
+              opened_at_most_open = kn.opened_at_most_open;
+              in_role = subst (InRole n c m' w) (sym role) record {
                 cursor_is_length = cursor_there n c m i new pl near up ∙ is ∙ sym (length-append v.seen (v.read ∷ []));
                 led_nothing = ir.led_nothing;
                 wrote_nothing = ir.wrote_nothing;
-                freed_stays = λ k q. let f = ir.freed_stays k q in record { is_free = f.is_free; at_head = f.at_head; lower_gone = λ z l. le_trans (f.lower_gone z l) (cursor_up n c m i new pl near up z) };
+                freed_stays = λ k q. let f = ir.freed_stays k q in record { is_free = f.is_free; at_head = f.at_head; opened_is = f.opened_is; lower_gone = λ z l. le_trans (f.lower_gone z l) (cursor_up n c m i new pl near up z) };
               };
-              seated = λ l. record { start_is = se.start_is; places_are = se.places_are; station_is_made = near; spans_are = se.spans_are; unmade_is_new = λ t q. cursor_else n c m i new pl near up t (λ e. let a = q.first in let b = q.other in omega arith) ∙ se.unmade_is_new t q };
+              seated = λ l. record { start_is = se.start_is; places_are = se.places_are; opened_least = se.opened_least; last = se.last; spans_are = se.spans_are; unmade_is_new = λ t q. cursor_else n c m i new pl near up t (unmade_apart n p.versions (planned hist beg p) m v.version i v.made t r.doors se.last.has q) ∙ se.unmade_is_new t q };
               ended_is_told = λ k y f. told_on n m m' y on (kn.ended_is_told k y f);
             }
             (merge_turned n c s.views id v w at s.words (set s.words (cursor_index i) new) r.log r.phase r.merge (second_kept n c (cursor_index i) new s.words (omega arith)) (λ e. r.merge.lead_writes id v at e) (λ _. notes_none r.log (v.seen ++ v.read ∷ [])) (λ l. r.merge.floors_wide id v at l)),
@@ -133,42 +150,46 @@ module _ {K : Type 0} (hist : K → List Entry) (beg : K → Start) (p : Plan K)
     pub unheld : m.phase ≡ held → station ≢ m.holder
     pub quiet : wrote ≡ []
 
-  may_leave : (m : Moment) (st : ℕ) (seen : Log) (read wrote : List ℕ) (freed : Option ℕ) → Led m → length seen ≤ length m.log → (r : Role) → (r ≡ Reader) ⊎ (r ≡ Leaving) → InRole p.stations p.places m st seen read wrote freed r → MayLeave m st wrote
-  may_leave m st seen read wrote freed led short Reader either k = record { count = let a = k.cursor_is_length in omega arith; unheld = λ e. not_held m st led k.led_nothing e; quiet = k.wrote_nothing }
-  may_leave m st seen read wrote freed led short Lead either k = absurd (⊎_elim (λ (e : Lead ≡ Reader). cc) (λ (e : Lead ≡ Leaving). cc) either)
-  may_leave m st seen read wrote freed led short Leaving either k = record { count = k.cursor_is_count; unheld = λ e. absurd (k.not_held e); quiet = k.wrote_nothing }
-  may_leave m st seen read wrote freed led short Gone either k = absurd (⊎_elim (λ (e : Gone ≡ Reader). cc) (λ (e : Gone ≡ Leaving). cc) either)
-  may_leave m st seen read wrote freed led short Spent either k = absurd (⊎_elim (λ (e : Spent ≡ Reader). cc) (λ (e : Spent ≡ Leaving). cc) either)
+  may_leave : (m : Moment) (v : View K) → Led m → length v.seen ≤ length m.log → (r : Role) → (r ≡ Reader) ⊎ (r ≡ Leaving) → InRole p.stations p.places m v r → MayLeave m v.station v.wrote
+  may_leave m v led short Reader either k = record { count = let a = k.cursor_is_length in omega arith; unheld = λ e. not_held m v.station led k.led_nothing e; quiet = k.wrote_nothing }
+  may_leave m v led short Lead either k = absurd (⊎_elim (λ (e : Lead ≡ Reader). cc) (λ (e : Lead ≡ Leaving). cc) either)
+  may_leave m v led short Opening either k = absurd (⊎_elim (λ (e : Opening ≡ Reader). cc) (λ (e : Opening ≡ Leaving). cc) either)
+  may_leave m v led short Leaving either k = record { count = k.cursor_is_count; unheld = λ e. absurd (k.not_held e); quiet = k.wrote_nothing }
+  may_leave m v led short Moving either k = absurd (⊎_elim (λ (e : Moving ≡ Reader). cc) (λ (e : Moving ≡ Leaving). cc) either)
+  may_leave m v led short Gone either k = absurd (⊎_elim (λ (e : Gone ≡ Reader). cc) (λ (e : Gone ≡ Leaving). cc) either)
+  may_leave m v led short Spent either k = absurd (⊎_elim (λ (e : Spent ≡ Reader). cc) (λ (e : Spent ≡ Leaving). cc) either)
 
   pub leaves : (slots id new : ℕ) (me : M) → (me.0.role ≡ Reader) ⊎ (me.0.role ≡ Leaving) → new ≡ GONE
       → Allows RuleOf slots id me (cursor_index me.0.station) (λ _. new) (λ _. left (step slots (cursor_index me.0.station) new 0 none) me new)
   leaves slots id new me role is s r wide at _ = let v = me.0 in let n : ℕ = p.stations in let c : ℕ = p.places in let kn = r.each_seat id v at in let pl = r.places in
       let m : Moment = now hist beg p s r in let live : Live v.role = ⊎_elim (λ (e : v.role ≡ Reader). subst Live (sym e) tt) (λ (e : v.role ≡ Leaving). subst Live (sym e) tt) role in
-      let se : IsSeated n c p.start m v = kn.seated live in let i : ℕ = v.station in let near : i < n = se.station_is_made in let len : ℕ = length r.log in let few : len ≤ 131072 = pl.log_is_short in
-      let may = may_leave m i v.seen v.read v.wrote v.freed r.led (prefix_length v.seen r.log kn.seen_is_prefix) v.role role kn.in_role in let count : cursor s.words i ≤ len = may.count in
-      let up : cursor s.words i ≤ new = omega arith in let m' : Moment = risen n c m i new pl near up in let w : View K = as_gone v in let on = on_risen n c m i new pl near up in
+      let se : IsSeated p m v = kn.seated live in let i : ℕ = v.station in let near : i < n = seat_near hist beg p s r id v at live in let len : ℕ = length r.log in let few : len ≤ 131072 = pl.log_is_short in
+      let may = may_leave m v r.led (prefix_length v.seen r.log kn.seen_is_prefix) v.role role kn.in_role in let count : cursor s.words i ≤ len = may.count in
+      let up : cursor s.words i ≤ new = omega arith in let m' : Moment = risen n c m i new pl near up in let w : View K = as_gone v in let on = on_risen n c m i new pl near up (open_near hist beg p s r) in
       let low : r.holder ≤ i = dite (dec_le r.holder i) (λ le. le) (λ gt. let lt : i < r.holder = lt_of_not-le gt in let g = pl.lower_are_gone i lt in absurd (omega arith)) in
       let tags : Apart (map tag (set s.views id w)) = subst Apart (sym (map-set tag s.views id w)) (apart_role hist beg p s r id v Gone at live) in (
         w,
         keeps,
         tt,
-        moved hist beg p s r (cursor_index i) new id me.1 keeps r.log r.phase r.holder r.spans r.events v w at tags (λ e. lead_stays s.views id r.holder v w at (λ q. absurd (⊎_elim (λ (f : v.role ≡ Reader). let y : Lead ≡ Reader = sym q ∙ f in cc) (λ (f : v.role ≡ Leaving). let y : Lead ≡ Leaving = sym q ∙ f in cc) role)) (r.held_has_lead e)) (logged hist beg p s r) r.home
-            (places_risen n c m i new pl near up (inr is) may.unheld) record { tile = r.led.tile; rise = r.led.rise; last_is_holders = r.led.last_is_holders; unled_is_free = r.led.unled_is_free } on
-            (λ j u ne f l. (own_risen n c m i new pl near up u.station (apart_from hist beg p s r j id u v f at ne live l) u.role, refl, λ t q. cursor_else n c m i new pl near up t (apart_unmade hist beg p s r j id u v f at ne live l t q))) record {
+        moved hist beg p s r (cursor_index i) new id me.1 keeps r.log r.phase r.holder r.spans r.whos r.ready r.events v w at tags (λ e. lead_stays s.views id r.holder v w at (λ q. absurd (⊎_elim (λ (f : v.role ≡ Reader). subst Leads f q) (λ (f : v.role ≡ Leaving). subst Leads f q) role)) (r.held_has_lead e)) (logged hist beg p s r) r.home
+            (places_risen n c m i new pl near up (inr is) may.unheld) record { tile = r.led.tile; rise = r.led.rise; last_is_holders = r.led.last_is_holders; unled_is_free = r.led.unled_is_free }
+            (doors_risen n c m i new pl near up p.versions (planned hist beg p) (last_near r.whos v.version i se.last) r.doors) r.turns on
+            (λ j u ne f l. (own_risen n c m i new pl near up u (apart_from hist beg p s r j id u v f at ne live l) u.role (former_apart hist beg p s r j id u v f at ne live l i se.last.has), refl, (λ z. z), λ t q. cursor_else n c m i new pl near up t (apart_unmade hist beg p s r j id u v f at ne live l t q i se.last.has))) record {
               seen_is_prefix = kn.seen_is_prefix;
               read_begins_next = kn.read_begins_next;
               floor_at_most_cursor = λ z l. le_trans (kn.floor_at_most_cursor z l) (cursor_up n c m i new pl near up z);
               head_seen_at_most_head = kn.head_seen_at_most_head;
               owner_seen_at_most_head = kn.owner_seen_at_most_head;
+              opened_at_most_open = kn.opened_at_most_open;
               in_role = record {
                 cursor_is_gone = let a : cursor (set s.words (cursor_index i) new) i ≡ new = cursor_there n c m i new pl near up in omega arith;
                 before_later = λ k y e lt. let top = none_above m k y r.led e in absurd (omega arith);
                 wrote_nothing = may.quiet;
               };
-              seated = λ l. record { start_is = se.start_is; places_are = se.places_are; station_is_made = near; spans_are = se.spans_are; unmade_is_new = λ t q. cursor_else n c m i new pl near up t (λ e. let a = q.first in let b = q.other in omega arith) ∙ se.unmade_is_new t q };
+              seated = λ l. record { start_is = se.start_is; places_are = se.places_are; opened_least = se.opened_least; last = se.last; spans_are = se.spans_are; unmade_is_new = λ t q. cursor_else n c m i new pl near up t (unmade_apart n p.versions (planned hist beg p) m v.version i v.made t r.doors se.last.has q) ∙ se.unmade_is_new t q };
               ended_is_told = λ k y f. told_on n m m' y on (kn.ended_is_told k y f);
             }
-            (merge_turned n c s.views id v w at s.words (set s.words (cursor_index i) new) r.log r.phase r.merge (second_kept n c (cursor_index i) new s.words (omega arith)) (λ (e : Gone ≡ Lead). cc) (λ (e : Gone ≡ Reader). cc) (λ _. r.merge.floors_wide id v at live)),
+            (merge_turned n c s.views id v w at s.words (set s.words (cursor_index i) new) r.log r.phase r.merge (second_kept n c (cursor_index i) new s.words (omega arith)) (λ e. absurd e) (λ (e : Gone ≡ Reader). cc) (λ _. r.merge.floors_wide id v at live)),
         refl,
       )
 

@@ -1,5 +1,5 @@
 -- Where the code finds words: by the lanes that a seat keeps.
-use Rattle.std.proofs.Common.{◌≡◌, ℕ, ◌+◌, ◌%◌, ◌<◌, ◌≤◌, Bool, true, false, cond, List, [], ◌∷◌, ◌++◌, length, take, get_or, sym, refl, ap, ◌∙◌, subst, mod-lt, arith}
+use Rattle.std.proofs.Common.{◌≡◌, ℕ, ◌%◌, ◌<◌, Bool, true, false, cond, List, [], ◌∷◌, ◌++◌, length, take, get_or, sym, refl, ap, ◌∙◌, subst, mod-lt, arith}
 use Rattle.std.specs.Prelude.{Option, Some, None, IsSome, ◌==◌}
 use Rattle.std.proofs.lemmas.Option.{same_Some}
 use Rattle.nv_words.specs.Spell.{low}

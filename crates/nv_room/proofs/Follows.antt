@@ -1,12 +1,11 @@
 -- The lanes follow the events.
-use Rattle.std.proofs.Common.{◌≡◌, ℕ, zero, suc, ◌+◌, ◌-◌, ◌*◌, ◌<◌, ◌≤◌, ◌≢◌, Bool, cond, List, [], ◌∷◌, ◌++◌, length, get_or, sym, refl, ap, ◌∙◌, subst, arith, length-append}
+use Rattle.std.proofs.Common.{◌≡◌, ℕ, ◌-◌, ◌*◌, ◌<◌, Bool, cond, List, [], ◌∷◌, ◌++◌, length, get_or, sym, refl, ap, ◌∙◌, arith, length-append}
 use Rattle.std.specs.Prelude.{◌==◌, sum}
 use Rattle.std.specs.Int.{w32, cast_signed}
 use mathlib.Core.Logic.{dite}
 use native.Mathlib.Decide.{ℕ_discrete}
 use Rattle.std.proofs.lemmas.Bool.{eq-eqb, ne_eqb}
 use Rattle.std.proofs.lemmas.List.{get_or_push, get_or_append_left, map-append, length-map}
-use Rattle.nv_calls.specs.Calls.{Entry}
 use Rattle.nv_words.specs.Spell.{low, high}
 use Rattle.nv_words.specs.Read.{event_of}
 use Rattle.nv_lanes.specs.Lanes.{Taken, noted_by, noted, taken_after}

@@ -20,19 +20,19 @@ use Rattle.nv_room.specs.declared.view.View.{View}
 use Rattle.nv_room.specs.declared.view.Plan.{Plan}
 use Rattle.nv_room.specs.declared.view.Span.{Span}
 use Rattle.nv_room.specs.declared.view.Role.{Role}
-use Rattle.nv_room.specs.declared.view.Role.TheVariants.{Reader, Lead, Leaving, Gone, Spent}
+use Rattle.nv_room.specs.declared.view.Role.TheVariants.{Reader, Lead, Opening, Leaving, Moving, Gone, Spent}
 use Rattle.nv_room.specs.Placement.{Log, place_of}
 use Rattle.nv_room.specs.Owner.{GONE, Phase, held, free, closed, owner_word, owner_at}
-use Rattle.nv_room.specs.Spans.{span, Tiles, of_station}
-use Rattle.nv_room.specs.Room.{cursor, Moment, as_of, Places, Led, Freed, InRole, Live, tag, Apart, IsKernel, AtHome, Rule}
+use Rattle.nv_room.specs.Spans.{span, Tiles, of_station, IsLast}
+use Rattle.nv_room.specs.Room.{cursor, Moment, as_of, Places, Doors, Turns, Led, Freed, InRole, Live, Leads, tag, Apart, IsKernel, AtHome, Rule}
 use Rattle.nv_room.specs.Steps.{as_leaving, gave_up, as_lead, took}
 use Rattle.nv_room.proofs.Lists.{at_below, at_end}
 use Rattle.nv_room.proofs.Placement.{place_behind, header_inside}
-use Rattle.nv_room.proofs.Tiling.{tiles_more, rising_more, last_apart, of_more_other, of_more_own}
+use Rattle.nv_room.proofs.Tiling.{tiles_more, rising_more, opened_more, last_apart, of_more_other, version_more_other, version_more_own}
 use Rattle.nv_places.specs.Header.{head_index, cursor_index}
 use Rattle.nv_room.proofs.Merges.{merge_turned, merge_phase, merged_quiet, second_kept}
-use Rattle.nv_room.proofs.Stays.{Onward, Own, told_on, now, moved}
-use Rattle.nv_room.proofs.Seats.{holder_led, none_above, beside_lead, apart_role, apart_from, in_role, seated}
+use Rattle.nv_room.proofs.Stays.{Onward, Own, last_near, planned, told_on, now, moved}
+use Rattle.nv_room.proofs.Seats.{holder_led, none_above, beside_lead, one_last, apart_role, apart_version, apart_from, former_apart, in_role, seated, open_near, none_ready}
 
 -- A write of the owner word moves no cursor and no place.
 
@@ -46,23 +46,34 @@ module _ (n c : ℕ) (m : Moment) (new : ℕ) (pl : Places n c m) where
   pub same_place : (log : Log) (i j : ℕ) → get_or (set m.words 0 new) (place_of n c log i j) 0 ≡ get_or m.words (place_of n c log i j) 0
   same_place log i j = get_or-set_other m.words 0 (place_of n c log i j) new 0 (place_behind n c log i j 0 (omega arith))
 
-  pub places_owned : (ph : Phase) (h : ℕ) (spans : List Span) → new ≡ owner_word ph h (length m.log) → h < n → ((s : ℕ) → s < h → GONE ≤ cursor m.words s) → (ph ≡ held → cursor m.words h ≤ length m.log)
-      → ((s : ℕ) → s ≢ h → s < n → (s ≢ m.holder) ⊎ (GONE ≤ cursor m.words s)) → Places n c (as_of (set m.words 0 new) m.log ph h spans)
-  places_owned ph h spans is near low lead others = let few : length m.log ≤ 131072 = pl.log_is_short in record {
+  pub places_owned : (ph : Phase) (h : ℕ) (spans : List Span) (whos : List ℕ) (ready : ℕ) → new ≡ owner_word ph h (length whos) (length m.log) → h < length whos → ((s : ℕ) → s < h → GONE ≤ cursor m.words s) → (ph ≡ held → cursor m.words h ≤ length m.log)
+      → ((s : ℕ) → s ≢ h → s < length whos → ((s ≢ m.holder) × (s < length m.whos)) ⊎ (length m.log ≤ cursor m.words s)) → Places n c (as_of (set m.words 0 new) m.log ph h spans whos ready)
+  places_owned ph h spans whos ready is near low lead others = let few : length m.log ≤ 131072 = pl.log_is_short in record {
     some_place = pl.some_place;
     few_stations = pl.few_stations;
     words_are_all = length-set m.words 0 new ∙ pl.words_are_all;
     owner_is = get_or-set_same m.words 0 new 0 wide ∙ is;
-    holder_is_made = near;
+    holder_is_open = near;
     lower_are_gone = λ s l. subst (λ (z : ℕ). GONE ≤ z) (sym (same_cursor s)) (low s l);
     lead_counts = λ e. subst (λ (z : ℕ). z ≤ length m.log) (sym (same_cursor h)) (lead e);
     head_is_length = get_or-set_other m.words 0 head_index new 0 (λ e. omega arith) ∙ pl.head_is_length;
     cursor_is_count_or_gone = λ s l. subst (λ (z : ℕ). (z ≤ length m.log) ⊎ (z ≡ GONE)) (sym (same_cursor s)) (pl.cursor_is_count_or_gone s l);
-    head_in_window = λ s ne l. subst (λ (z : ℕ). length m.log ≤ z + c) (sym (same_cursor s)) (⊎_elim (λ (a : s ≢ m.holder). pl.head_in_window s a l) (λ (g : GONE ≤ cursor m.words s). omega arith) (others s ne l));
+    head_in_window = λ s ne l. subst (λ (z : ℕ). length m.log ≤ z + c) (sym (same_cursor s)) (⊎_elim (λ (a : (s ≢ m.holder) × (s < length m.whos)). pl.head_in_window s a.0 a.1) (λ (g : length m.log ≤ cursor m.words s). omega arith) (others s ne l));
     unread_stands = λ i s e ne l le f j x g. let le' : cursor m.words s ≤ i = subst (λ (z : ℕ). z ≤ i) (same_cursor s) le in
-        same_place m.log i j ∙ ⊎_elim (λ (a : s ≢ m.holder). pl.unread_stands i s e a l le' f j x g) (λ (a : GONE ≤ cursor m.words s). let b = at_below m.log i e f in absurd (omega arith)) (others s ne l);
+        same_place m.log i j ∙ ⊎_elim (λ (a : (s ≢ m.holder) × (s < length m.whos)). pl.unread_stands i s e a.0 a.1 le' f j x g) (λ (a : length m.log ≤ cursor m.words s). let b = at_below m.log i e f in absurd (omega arith)) (others s ne l);
     event_is_whole = pl.event_is_whole;
     log_is_short = pl.log_is_short;
+  }
+
+  pub doors_owned : (ph : Phase) (h : ℕ) (spans : List Span) (versions : ℕ) (hands : List ℕ) → (m.ready ≡ length m.whos) ⊎ ((m.ready ≡ length m.whos + 1) × (ph ≡ held) × (cursor m.words (length m.whos) ≡ length m.log)) → Doors n versions hands m → Doors n versions hands (as_of (set m.words 0 new) m.log ph h spans m.whos m.ready)
+  doors_owned ph h spans versions hands ready d = record {
+    all = d.all;
+    least = d.least;
+    first = d.first;
+    is_version = d.is_version;
+    ready_is = ⊎_elim (λ (q : m.ready ≡ length m.whos). inl q) (λ (q : (m.ready ≡ length m.whos + 1) × (ph ≡ held) × (cursor m.words (length m.whos) ≡ length m.log)). inr (q.0, q.1, same_cursor (length m.whos) ∙ q.2)) ready;
+    shut = λ s a b. same_cursor s ∙ d.shut s a b;
+    planned = d.planned;
   }
 
 module _ {K : Type 0} (hist : K → List Entry) (beg : K → Start) (p : Plan K) where
@@ -80,41 +91,44 @@ module _ {K : Type 0} (hist : K → List Entry) (beg : K → Start) (p : Plan K)
   at_home t events homes free ne k = k
   at_home t events homes closed ne k = k
 
-  given_at : (ph : Phase) (st n new : ℕ) → ph ≢ held → st < 16 → new ≡ owner_word ph st n → owner_at new ≡ n
-  given_at held st n new ne l is = absurd (ne refl)
-  given_at free st n new ne l is = let q : new / 64 ≡ n = omega arith in q
-  given_at closed st n new ne l is = let q : new / 64 ≡ n = omega arith in q
+  given_at : (ph : Phase) (st o n new : ℕ) → ph ≢ held → st < 16 → o ≤ 16 → new ≡ owner_word ph st o n → owner_at new ≡ n
+  given_at held st o n new ne l b is = absurd (ne refl)
+  given_at free st o n new ne l b is = let q : new / 2048 ≡ n = omega arith in q
+  given_at closed st o n new ne l b is = let q : new / 2048 ≡ n = omega arith in q
 
   -- the lead gives the kernel up: the word is then free or closed
   pub gives_up : (slots id new : ℕ) (k : K) (ph : Phase) (me : M) → me.0.role ≡ Lead → me.1 ≡ (0, Some k) ∷ [] → me.0.wrote ≡ [] → map spell (hist k) ≡ me.0.seen → IsLawful (hist k) → ForSome me.0.start (λ s. beg k ≡ beg s.value)
-      → ph ≢ held → (ph ≡ closed → live_after (hist k) ≡ []) → new ≡ owner_word ph me.0.station (length me.0.seen) → Allows RuleOf slots id me 0 (λ _. new) (λ _. gave_up (step slots 0 new 0 none) me new)
+      → ph ≢ held → (ph ≡ closed → live_after (hist k) ≡ []) → new ≡ owner_word ph me.0.station me.0.opened (length me.0.seen) → Allows RuleOf slots id me 0 (λ _. new) (λ _. gave_up (step slots 0 new 0 none) me new)
   gives_up slots id new k ph me role carries quiet tells law began over ended is s r wide at _ = let v = me.0 in let n : ℕ = p.stations in let c : ℕ = p.places in let kn = r.each_seat id v at in let pl = r.places in
       let m : Moment = now hist beg p s r in let ir = in_role hist beg p s r id v at Lead role in let se = seated hist beg p s r id v at Lead role tt in let st : ℕ = v.station in let ws' : List ℕ = set s.words 0 new in
-      let m' : Moment = as_of ws' r.log ph r.holder r.spans in let all : v.seen ≡ r.log = prefix_same v.seen r.log ir.seen_is_log kn.seen_is_prefix in
+      let m' : Moment = as_of ws' r.log ph r.holder r.spans r.whos r.ready in let fit = open_near hist beg p s r in let few = pl.few_stations in let top = pl.holder_is_open in let all : v.seen ≡ r.log = prefix_same v.seen r.log ir.seen_is_log kn.seen_is_prefix in
       let cur : (z : ℕ) → cursor ws' z ≡ cursor s.words z = same_cursor n c m new pl in
       let out : get_elem? s.homes 0 ≡ some none = subst (AtHome hist beg p.start.value r.events s.homes) ir.is_held r.home in
       let home : IsKernel hist beg p.start.value (hist k) (homes_after s.homes me.1 gives) = (k, ap (λ (cs : List (ℕ × Option K)). get_elem? (put_back s.homes cs) 0) carries ∙ set_here s.homes 0 (some (Some k)) (at_below s.homes 0 none out), refl, began p.start se.start_is) in
-      let places : Places n c m' = places_owned n c m new pl ph r.holder r.spans (is ∙ (λ i. owner_word ph (ir.is_holder i) (ir.seen_is_log i))) pl.holder_is_made pl.lower_are_gone (λ e. absurd (over e)) (λ z ne l. inl ne) in
+      let places : Places n c m' = places_owned n c m new pl ph r.holder r.spans r.whos r.ready (is ∙ (λ i. owner_word ph (ir.is_holder i) (ir.opened_is i) (ir.seen_is_log i))) pl.holder_is_open pl.lower_are_gone (λ e. absurd (over e)) (λ z ne l. inl (ne, l)) in
       let led : Led m' = record { tile = r.led.tile; rise = r.led.rise; last_is_holders = r.led.last_is_holders; unled_is_free = λ e. absurd (let q : held ≡ free = sym ir.is_held ∙ r.led.unled_is_free e in cc) } in
-      let on : Onward n m m' = record { cursors = λ z l. subst (λ (q : ℕ). cursor s.words z ≤ q) (sym (cur z)) (le_refl (cursor s.words z)); longer = λ i x e. e; more = le_refl (length r.log); begun = λ i y e. inl (i, y, e, refl, refl); gone_spans = λ z l g. refl } in
+      let on : Onward n m m' = record { near = fit; cursors = λ z l. subst (λ (q : ℕ). cursor s.words z ≤ q) (sym (cur z)) (le_refl (cursor s.words z)); longer = λ i x e. e; more = le_refl (length r.log); wider = le_refl (length r.whos); begun = λ i y e. inl (i, y, e, refl, refl); gone_spans = λ v z l g. refl; gone_last = λ v z l g. l } in
+      let doors : Doors n p.versions (planned hist beg p) m' = doors_owned n c m new pl ph r.holder r.spans p.versions (planned hist beg p) (inl ir.none_ready) r.doors in
+      let turns : Turns p.versions (planned hist beg p) ph (length r.log) r.spans r.whos = record { who_is = r.turns.who_is; opened = r.turns.opened; unhanded = λ e. absurd (over e); left_over = λ e. absurd (over e) } in
       let w : View K = as_leaving v new in
       let tags : Apart (map tag (set s.views id w)) = subst Apart (sym (map-set tag s.views id w)) (apart_role hist beg p s r id v Leaving at (subst Live (sym role) tt)) in (
         w,
         gives,
         tt,
-        moved hist beg p s r 0 new id me.1 gives r.log ph r.holder r.spans (hist k) v w at tags (λ e. absurd (over e)) record { spelt = tells ∙ all; lawful = law; ended = ended } (at_home p.start.value (hist k) (homes_after s.homes me.1 gives) ph over home) places led on
-            (λ j u ne f l. (beside_lead n c m m' u.station st u.seen u.read u.wrote u.freed ir.is_held ir.is_holder (λ e. apart_from hist beg p s r j id u v f at ne (subst Live (sym role) tt) l (sym e)) refl (cur u.station) u.role (r.each_seat j u f).in_role, refl, λ t _. cur t))
+        moved hist beg p s r 0 new id me.1 gives r.log ph r.holder r.spans r.whos r.ready (hist k) v w at tags (λ e. absurd (over e)) record { spelt = tells ∙ all; lawful = law; ended = ended } (at_home p.start.value (hist k) (homes_after s.homes me.1 gives) ph over home) places led doors turns on
+            (λ j u ne f l. (beside_lead n c m m' u st ir.is_held ir.is_holder (λ e. apart_from hist beg p s r j id u v f at ne (subst Live (sym role) tt) l (sym e)) refl (cur u.station) refl u.role (r.each_seat j u f).in_role, refl, (λ z. z), λ t _. cur t))
             record {
               seen_is_prefix = kn.seen_is_prefix;
               read_begins_next = kn.read_begins_next;
               floor_at_most_cursor = λ z l. subst (λ (q : ℕ). get_or v.floors z 0 ≤ q) (sym (cur z)) (kn.floor_at_most_cursor z l);
               head_seen_at_most_head = kn.head_seen_at_most_head;
-              owner_seen_at_most_head = (let q = given_at ph st (length v.seen) new over (let c = pl.few_stations in let d = se.station_is_made in omega arith) is in let d = ir.seen_is_log in omega arith);
+              owner_seen_at_most_head = (let q = given_at ph st v.opened (length v.seen) new over (let c = ir.is_holder in omega arith) (let c = ir.opened_is in omega arith) is in let d = ir.seen_is_log in omega arith);
+              opened_at_most_open = kn.opened_at_most_open;
               in_role = record { not_held = over; is_holder = ir.is_holder; cursor_is_count = subst (λ (q : ℕ). q ≤ length r.log) (sym (cur st)) (subst (λ (q : ℕ). cursor s.words q ≤ length r.log) (sym ir.is_holder) (pl.lead_counts ir.is_held)); wrote_nothing = quiet };
-              seated = λ l. record { start_is = se.start_is; places_are = se.places_are; station_is_made = se.station_is_made; spans_are = se.spans_are; unmade_is_new = λ t u. cur t ∙ se.unmade_is_new t u };
+              seated = λ l. record { start_is = se.start_is; places_are = se.places_are; opened_least = se.opened_least; last = se.last; spans_are = se.spans_are; unmade_is_new = λ t u. cur t ∙ se.unmade_is_new t u };
               ended_is_told = λ i x e. told_on n m m' x on (kn.ended_is_told i x e);
             }
-            (merge_turned n c s.views id v w at s.words ws' r.log ph (merge_phase n c s.words r.log r.phase ph s.views r.merge (sym (r.merge.lead_writes id v at role) ∙ quiet)) (second_kept n c 0 new s.words (omega arith)) (λ (e : Leaving ≡ Lead). cc) (λ (e : Leaving ≡ Reader). cc) (λ _. r.merge.floors_wide id v at (subst Live (sym role) tt))),
+            (merge_turned n c s.views id v w at s.words ws' r.log ph (merge_phase n c s.words r.log r.phase ph s.views r.merge (sym (r.merge.lead_writes id v at (subst Leads (sym role) tt)) ∙ quiet)) (second_kept n c 0 new s.words (omega arith)) (λ e. absurd e) (λ (e : Leaving ≡ Reader). cc) (λ _. r.merge.floors_wide id v at (subst Live (sym role) tt))),
         refl,
       )
 
@@ -126,50 +140,69 @@ module _ {K : Type 0} (hist : K → List Entry) (beg : K → Start) (p : Plan K)
   one_note m pl st st' seen seen' a b la lb ne low low' = let few : length m.log ≤ 131072 = pl.log_is_short in
       dite (dec_le st st') (λ le. let g = low' st (omega arith) in omega arith) (λ gt. let lt : st' < st = lt_of_not-le gt in let g = low st' lt in omega arith)
 
+  -- a station that holds nothing but counts is above none that has all lower ones gone
+  none_counts : (m : Moment) (pl : Places p.stations p.places m) (st h : ℕ) → h ≡ m.holder → st ≢ h → cursor m.words st ≤ length m.log → cursor m.words h ≤ length m.log → ((z : ℕ) → z < st → GONE ≤ cursor m.words z) → ⊥
+  none_counts m pl st h is ne mine count low = let few : length m.log ≤ 131072 = pl.log_is_short in
+      dite (dec_le st h) (λ le. let lt : st < m.holder = omega arith in let g = pl.lower_are_gone st lt in omega arith) (λ gt. let lt : h < st = lt_of_not-le gt in let g = low h lt in omega arith)
+
   -- when a reader takes the lead no other seat is touched
   own_at_take : (m m' : Moment) (pl : Places p.stations p.places m) (st : ℕ) (mine : Log) → m.phase ≡ free → cursor m.words st ≡ length mine → length mine ≤ length m.log → ((z : ℕ) → z < st → GONE ≤ cursor m.words z)
-      → (u : ℕ) (seen : Log) (read wrote : List ℕ) (freed : Option ℕ) → u ≢ st → length seen ≤ length m.log → cursor m'.words u ≡ cursor m.words u → (r : Role) → InRole p.stations p.places m u seen read wrote freed r → Own p.stations p.places m m' u r
-  own_at_take m m' pl st mine is cur short low u seen read wrote freed ne near same Reader k = record { cursor_same = same; freed_on = λ q f. absurd (one_note m pl st u mine seen cur k.cursor_is_length short near ne low f.lower_gone) }
-  own_at_take m m' pl st mine is cur short low u seen read wrote freed ne near same Lead k = absurd (let a : held ≡ free = sym k.is_held ∙ is in cc)
-  own_at_take m m' pl st mine is cur short low u seen read wrote freed ne near same Leaving k = absurd (let few : length m.log ≤ 131072 = pl.log_is_short in let b : cursor m.words u ≤ length m.log = k.cursor_is_count in
-      dite (dec_le st u) (λ le. let lt : st < m.holder = (let h = k.is_holder in omega arith) in let g = pl.lower_are_gone st lt in omega arith) (λ gt. let lt : u < st = lt_of_not-le gt in let g = low u lt in omega arith))
-  own_at_take m m' pl st mine is cur short low u seen read wrote freed ne near same Gone k = tt
-  own_at_take m m' pl st mine is cur short low u seen read wrote freed ne near same Spent k = tt
+      → (u : View K) → u.station ≢ st → length u.seen ≤ length m.log → (u.role ≡ Moving → u.former ≢ st) → cursor m'.words u.station ≡ cursor m.words u.station → of_station u.station m'.spans ≡ of_station u.station m.spans → (r : Role) → u.role ≡ r → InRole p.stations p.places m u r → Own p.stations p.places m m' u r
+  own_at_take m m' pl st mine is cur short low u ne near other same spans Reader e k = record { cursor_same = same; led_same = spans; freed_on = λ q f. absurd (one_note m pl st u.station mine u.seen cur k.cursor_is_length short near ne low f.lower_gone) }
+  own_at_take m m' pl st mine is cur short low u ne near other same spans Lead e k = absurd (let a : held ≡ free = sym k.is_held ∙ is in cc)
+  own_at_take m m' pl st mine is cur short low u ne near other same spans Opening e k = absurd (let a : held ≡ free = sym k.is_held ∙ is in cc)
+  own_at_take m m' pl st mine is cur short low u ne near other same spans Leaving e k = absurd (none_counts m pl st u.station k.is_holder (λ q. ne (sym q)) (omega arith) k.cursor_is_count low)
+  own_at_take m m' pl st mine is cur short low u ne near other same spans Moving e k = absurd (none_counts m pl st u.former k.is_holder (λ q. other e (sym q)) (omega arith) k.former_is_count low)
+  own_at_take m m' pl st mine is cur short low u ne near other same spans Gone e k = tt
+  own_at_take m m' pl st mine is cur short low u ne near other same spans Spent e k = tt
 
   home_free : (t : K) (events : List Entry) (homes : List (maybe.Option (Option K))) (ph : Phase) → ph ≡ free → AtHome hist beg t events homes ph → IsKernel hist beg t events homes
   home_free t events homes ph is k = subst (AtHome hist beg t events homes) is k
 
   -- the spans after a station takes the lead at head
-  led_more : (m : Moment) (ws : List ℕ) (st n : ℕ) → Led m → n ≡ length m.log → of_station st m.spans ≡ [] → m.holder ≤ st → Led (as_of ws m.log held st (m.spans ++ span st n n ∷ []))
-  led_more m ws st n led is idle low =
+  led_more : (m : Moment) (ws : List ℕ) (st v n : ℕ) → Led m → n ≡ length m.log → of_station st m.spans ≡ [] → m.holder ≤ st → Led (as_of ws m.log held st (m.spans ++ span st v n n ∷ []) m.whos m.ready)
+  led_more m ws st v n led is idle low =
       let below : (i : ℕ) (x : Span) → get_elem? m.spans i ≡ some x → x.station < st = λ i x e.
       let high = none_above m i x led e in let ne : m.holder ≢ st = λ same. absurd (some-ne-none x (sym e ∙ ap (λ (z : List Span). get_elem? z i) (holder_led m st led idle (sym same)))) in omega arith in
       record {
-        tile = subst (λ (z : ℕ). Tiles 0 (m.spans ++ span st n n ∷ []) z) is (tiles_more 0 n st m.spans (subst (λ (z : ℕ). Tiles 0 m.spans z) (sym is) led.tile));
-        rise = rising_more 0 st n m.spans led.rise zero-le below;
-        last_is_holders = λ xs x e. ap (λ (z : Span). z.station) (sym (last_apart m.spans xs (span st n n) x e).1);
-        unled_is_free = λ e. let q = length-append m.spans (span st n n ∷ []) in let z = ap (λ (z : List Span). length z) e in absurd (omega arith);
+        tile = subst (λ (z : ℕ). Tiles 0 (m.spans ++ span st v n n ∷ []) z) is (tiles_more 0 n st v m.spans (subst (λ (z : ℕ). Tiles 0 m.spans z) (sym is) led.tile));
+        rise = rising_more 0 st v n m.spans led.rise zero-le below;
+        last_is_holders = λ xs x e. ap (λ (z : Span). z.station) (sym (last_apart m.spans xs (span st v n n) x e).1);
+        unled_is_free = λ e. let q = length-append m.spans (span st v n n ∷ []) in let z = ap (λ (z : List Span). length z) e in absurd (omega arith);
       }
 
-  pub takes_lead : (slots id new : ℕ) (me : M) → me.0.role ≡ Reader → me.0.freed ≡ Some (length me.0.seen) → new ≡ owner_word held me.0.station (length me.0.seen)
+  turns_more : (m : Moment) (st v n : ℕ) → Turns p.versions (planned hist beg p) m.phase (length m.log) m.spans m.whos → get_elem? m.whos st ≡ some v → Turns p.versions (planned hist beg p) held (length m.log) (m.spans ++ span st v n n ∷ []) m.whos
+  turns_more m st v n t has = record {
+    who_is = λ i x e. ⊎_elim (λ (q : get_elem? m.spans i ≡ some x). t.who_is i x q) (λ (q : (i ≡ length m.spans) × (span st v n n ≡ x)). subst (λ (z : Span). get_elem? m.whos z.station ≡ some z.version) q.1 has) (at_end m.spans (span st v n n) x i e);
+    opened = opened_more p.versions m.whos m.spans (span st v n n) refl t.opened;
+    unhanded = λ h xs x e. ap (λ (z : Span). z.handed) (sym (last_apart m.spans xs (span st v n n) x e).1);
+    left_over = λ h led. let e = ap (λ (z : Span). z.to) (last_apart m.spans led.0 (span st v n n) led.1 led.2).1 in let f = ap (λ (z : Span). z.from) (last_apart m.spans led.0 (span st v n n) led.1 led.2).1 in let g = led.3 in absurd (omega arith);
+  }
+
+  pub takes_lead : (slots id new : ℕ) (me : M) → me.0.role ≡ Reader → me.0.freed ≡ Some (length me.0.seen) → new ≡ owner_word held me.0.station me.0.opened (length me.0.seen)
       → Allows RuleOf slots id me 0 (λ _. new) (λ _. took hist beg (step slots 0 new 0 none) me new)
   takes_lead slots id new me role noted is s r wide at _ = let v = me.0 in let n : ℕ = p.stations in let c : ℕ = p.places in let kn = r.each_seat id v at in let pl = r.places in
       let m : Moment = now hist beg p s r in let ir = in_role hist beg p s r id v at Reader role in let se = seated hist beg p s r id v at Reader role tt in let st : ℕ = v.station in let ws' : List ℕ = set s.words 0 new in
-      let note : Freed m st (length v.seen) = ir.freed_stays (length v.seen) noted in let len : ℕ = length r.log in let size : ℕ = length v.seen in let full : size ≡ len = note.at_head in let all : v.seen ≡ r.log = prefix_same v.seen r.log full kn.seen_is_prefix in
+      let note : Freed m st v.opened (length v.seen) = ir.freed_stays (length v.seen) noted in let len : ℕ = length r.log in let size : ℕ = length v.seen in let full : size ≡ len = note.at_head in let all : v.seen ≡ r.log = prefix_same v.seen r.log full kn.seen_is_prefix in
       let few : len ≤ 131072 = pl.log_is_short in let mine : cursor s.words st ≡ size = ir.cursor_is_length in
       let low : r.holder ≤ st = dite (dec_le r.holder st) (λ le. le) (λ gt. let lt : st < r.holder = lt_of_not-le gt in let g = pl.lower_are_gone st lt in absurd (omega arith)) in
       let home = home_free p.start.value r.events s.homes r.phase note.is_free r.home in let k : K = home.0 in
-      let new_span : Span = span st size size in let spans' : List Span = r.spans ++ new_span ∷ [] in let m' : Moment = as_of ws' r.log held st spans' in
+      let new_span : Span = span st v.version size size in let spans' : List Span = r.spans ++ new_span ∷ [] in let m' : Moment = as_of ws' r.log held st spans' r.whos r.ready in let fit = open_near hist beg p s r in let live : Live v.role = subst Live (sym role) tt in
+      let ready : r.ready ≡ length r.whos = none_ready hist beg p s r (λ e. let q : held ≡ free = sym e ∙ note.is_free in cc) in
       let cur : (z : ℕ) → cursor ws' z ≡ cursor s.words z = same_cursor n c m new pl in
-      let places : Places n c m' = places_owned n c m new pl held st spans' is se.station_is_made note.lower_gone (λ e. omega arith)
-      (λ z ne l. dite (ℕ_discrete z r.holder) (λ e. let lt : z < st = omega arith in inr (note.lower_gone z lt)) (λ ne'. inl ne')) in
-      let led : Led m' = led_more m ws' st size r.led full ir.led_nothing low in
+      let places : Places n c m' = places_owned n c m new pl held st spans' r.whos r.ready (is ∙ (λ i. owner_word held st (note.opened_is i) len)) (last_near r.whos v.version st se.last) note.lower_gone (λ e. omega arith)
+      (λ z ne l. dite (ℕ_discrete z r.holder) (λ e. let lt : z < st = omega arith in inr (let g = note.lower_gone z lt in omega arith)) (λ ne'. inl (ne', l))) in
+      let led : Led m' = led_more m ws' st v.version size r.led full ir.led_nothing low in
+      let doors : Doors n p.versions (planned hist beg p) m' = doors_owned n c m new pl held st spans' p.versions (planned hist beg p) (inl ready) r.doors in
       let on : Onward n m m' = record {
+        near = fit;
+        wider = le_refl (length r.whos);
+        gone_last = λ x z l g. l;
         cursors = λ z l. subst (λ (q : ℕ). cursor s.words z ≤ q) (sym (cur z)) (le_refl (cursor s.words z));
         longer = λ i x e. e;
         more = le_refl len;
         begun = λ i y e. ⊎_elim (λ (q : get_elem? r.spans i ≡ some y). inl (i, y, q, refl, refl)) (λ (q : (i ≡ length r.spans) × (new_span ≡ y)). inr (let f = ap (λ (z : Span). z.from) q.1 in omega arith)) (at_end r.spans new_span y i e);
-        gone_spans = λ z l g. of_more_other z r.spans new_span (λ e. let same : cursor s.words z ≡ cursor s.words st = ap (cursor s.words) (sym e) in omega arith);
+        gone_spans = λ x z l g. version_more_other x r.spans new_span (λ e. let at_mine : z ≡ st = one_last r.whos v.version z st (subst (λ (y : ℕ). IsLast r.whos y z) (sym e) l) se.last in let same : cursor s.words z ≡ cursor s.words st = ap (cursor s.words) at_mine in omega arith);
       } in
       let w : View K = as_lead v in
       let tags : Apart (map tag (set s.views id w)) = subst Apart (sym (map-set tag s.views id w)) (apart_role hist beg p s r id v Lead at (subst Live (sym role) tt)) in
@@ -177,15 +210,20 @@ module _ {K : Type 0} (hist : K → List Entry) (beg : K → Start) (p : Plan K)
         w,
         takes 0 (Some k),
         home.1,
-        moved hist beg p s r 0 new id me.1 (takes 0 (Some k)) r.log held st spans' r.events v w at tags (λ _. (id, w, set_here s.views id w (at_below s.views id v at), refl, refl)) record { spelt = r.log_is_spelt; lawful = r.log_is_lawful; ended = λ e. cc } (set_here s.homes 0 none (at_below s.homes 0 (some (Some k)) home.1)) places led on
-            (λ j u ne f l. let other : u.station ≢ st = apart_from hist beg p s r j id u v f at ne (subst Live (sym role) tt) l in let ku = r.each_seat j u f in
-            (own_at_take m m' pl st v.seen note.is_free mine (omega arith) note.lower_gone u.station u.seen u.read u.wrote u.freed other (prefix_length u.seen r.log ku.seen_is_prefix) (cur u.station) u.role ku.in_role, of_more_other u.station r.spans new_span (λ e. other (sym e)), λ t _. cur t))
+        moved hist beg p s r 0 new id me.1 (takes 0 (Some k)) r.log held st spans' r.whos r.ready r.events v w at tags (λ _. (id, w, set_here s.views id w (at_below s.views id v at), tt, refl)) record { spelt = r.log_is_spelt; lawful = r.log_is_lawful; ended = λ e. cc } (set_here s.homes 0 none (at_below s.homes 0 (some (Some k)) home.1)) places led doors (turns_more m st v.version size r.turns se.last.has) on
+            (λ j u ne f l. let other : u.station ≢ st = apart_from hist beg p s r j id u v f at ne live l in let ku = r.each_seat j u f in (
+              own_at_take m m' pl st v.seen note.is_free mine (omega arith) note.lower_gone u other (prefix_length u.seen r.log ku.seen_is_prefix) (former_apart hist beg p s r j id u v f at ne live l st se.last.has) (cur u.station) (of_more_other u.station r.spans new_span (λ e. other (sym e))) u.role refl ku.in_role,
+              version_more_other u.version r.spans new_span (λ e. apart_version hist beg p s r j id u v f at ne live l (sym e)),
+              (λ z. z),
+              λ t _. cur t,
+            ))
             record {
               seen_is_prefix = kn.seen_is_prefix;
               read_begins_next = kn.read_begins_next;
               floor_at_most_cursor = λ z l. subst (λ (q : ℕ). get_or v.floors z 0 ≤ q) (sym (cur z)) (kn.floor_at_most_cursor z l);
               head_seen_at_most_head = kn.head_seen_at_most_head;
               owner_seen_at_most_head = kn.owner_seen_at_most_head;
+              opened_at_most_open = kn.opened_at_most_open;
               in_role = record {
                 is_held = refl;
                 is_holder = refl;
@@ -193,8 +231,10 @@ module _ {K : Type 0} (hist : K → List Entry) (beg : K → Start) (p : Plan K)
                 wrote_is_short = let q = ap (λ (z : List ℕ). length z) ir.wrote_nothing in omega arith;
                 wrote_stands = λ j x e. absurd (some-ne-none x (sym e ∙ ap (λ (z : List ℕ). get_elem? z j) ir.wrote_nothing));
                 writes_in_window = λ pos. let q = ap (λ (z : List ℕ). length z) ir.wrote_nothing in absurd (omega arith);
+                opened_is = note.opened_is;
+                none_ready = ready;
               };
-              seated = λ l. record { start_is = se.start_is; places_are = se.places_are; station_is_made = se.station_is_made; spans_are = ap (λ (z : List Span). z ++ new_span ∷ []) se.spans_are ∙ sym (of_more_own st r.spans new_span refl); unmade_is_new = λ t u. cur t ∙ se.unmade_is_new t u };
+              seated = λ l. record { start_is = se.start_is; places_are = se.places_are; opened_least = se.opened_least; last = se.last; spans_are = ap (λ (z : List Span). z ++ new_span ∷ []) se.spans_are ∙ sym (version_more_own v.version r.spans new_span refl); unmade_is_new = λ t u. cur t ∙ se.unmade_is_new t u };
               ended_is_told = λ i x e. told_on n m m' x on (kn.ended_is_told i x e);
             }
             (let quiet : r.merge.writing ≡ [] = r.merge.not_held (λ e. let q : held ≡ free = sym e ∙ note.is_free in cc) in merge_turned n c s.views id v w at s.words ws' r.log held (merge_phase n c s.words r.log r.phase held s.views r.merge quiet) (second_kept n c 0 new s.words (omega arith)) (λ _. ir.wrote_nothing ∙ sym (merged_quiet n c s.words r.log r.phase held s.views r.merge quiet)) (λ (e : Lead ≡ Reader). cc) (λ _. r.merge.floors_wide id v at (subst Live (sym role) tt))),

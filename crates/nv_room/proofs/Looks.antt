@@ -20,16 +20,17 @@ use Rattle.nv_room.specs.declared.view.Role.TheVariants.{Reader, Lead}
 use Rattle.nv_places.specs.Header.{head_index, cursor_index}
 use Rattle.nv_places.specs.Logs.{lane}
 use Rattle.nv_room.specs.Placement.{Log, place_of}
-use Rattle.nv_room.specs.Owner.{GONE, Phase, held, free, closed, is_held, is_free, is_closed, owner_at, lower_marked, noted}
+use Rattle.nv_room.specs.Owner.{GONE, Phase, held, free, closed, is_held, is_free, is_closed, owner_at, opened_at, lower_marked}
 use Rattle.nv_room.proofs.OwnerLaws.{marked}
-use Rattle.nv_room.specs.Room.{cursor, InRole, Live, Notes, Merge, Rule}
+use Rattle.nv_room.specs.Spans.{Opened}
+use Rattle.nv_room.specs.Room.{cursor, InRole, Live, Leads, Notes, Merge, Rule}
 use Rattle.nv_room.specs.Steps.{head_seen, looked_head, owner_seen, looked_owner, word_seen, read_word, cursor_seen, looked_cursor}
 use Rattle.nv_room.proofs.Lists.{at_below, there, at_end, set_or}
-use Rattle.nv_room.proofs.Owners.{Found, found, as_held, as_free, as_closed, noted_is}
+use Rattle.nv_room.proofs.Owners.{Found, found, found_open, as_held, as_free, as_closed, noted_is}
 use Rattle.nv_room.proofs.Tiling.{tiles_none}
-use Rattle.nv_room.proofs.Merges.{merge_turned, notes_none}
-use Rattle.nv_room.proofs.Stays.{now, looked}
-use Rattle.nv_room.proofs.Seats.{prefix_more, holder_led, not_holder, not_held, in_role, seated, told}
+use Rattle.nv_room.proofs.Merges.{merge_turned}
+use Rattle.nv_room.proofs.Stays.{last_near, now, looked}
+use Rattle.nv_room.proofs.Seats.{prefix_more, holder_led, not_holder, not_held, in_role, seated, open_near, role_near, told}
 
 module _ {K : Type 0} (hist : K → List Entry) (beg : K → Start) (p : Plan K) where
   abbrev St : Type 0
@@ -42,7 +43,7 @@ module _ {K : Type 0} (hist : K → List Entry) (beg : K → Start) (p : Plan K)
   M = Me (Option K) (View K)
 
   -- a look moves no word, so the places tell what they told
-  still : (s : St) (r : RuleOf s) (id : ℕ) (v w : View K) → get_elem? s.views id ≡ some v → (w.role ≡ Lead → w.wrote ≡ r.merge.writing) → (w.role ≡ Reader → Notes r.log w.seen w.noted w.missed) → (Live w.role → length w.floors ≡ p.stations)
+  still : (s : St) (r : RuleOf s) (id : ℕ) (v w : View K) → get_elem? s.views id ≡ some v → (Leads w.role → w.wrote ≡ r.merge.writing) → (w.role ≡ Reader → Notes r.log w.seen w.noted w.missed) → (Live w.role → length w.floors ≡ p.stations)
       → Merge p.stations p.places s.words r.log r.phase (set s.views id w)
   still s r id v w at leads reads wide = merge_turned p.stations p.places s.views id v w at s.words s.words r.log r.phase r.merge (λ _ _. refl) leads reads wide
 
@@ -51,19 +52,20 @@ module _ {K : Type 0} (hist : K → List Entry) (beg : K → Start) (p : Plan K)
     head_seen v (get_or s.words head_index 0),
     keeps,
     tt,
-    looked hist beg p s r head_index id me.1 v (head_seen v (get_or s.words head_index 0)) at refl
-        record { seen_is_prefix = k.seen_is_prefix; read_begins_next = k.read_begins_next; floor_at_most_cursor = k.floor_at_most_cursor; head_seen_at_most_head = omega arith; owner_seen_at_most_head = k.owner_seen_at_most_head; in_role = k.in_role; seated = λ l. let q = k.seated l in record { start_is = q.start_is; places_are = q.places_are; station_is_made = q.station_is_made; spans_are = q.spans_are; unmade_is_new = q.unmade_is_new }; ended_is_told = k.ended_is_told }
+    looked hist beg p s r head_index id me.1 v (head_seen v (get_or s.words head_index 0)) at refl (λ q. (q, refl))
+        record { seen_is_prefix = k.seen_is_prefix; read_begins_next = k.read_begins_next; floor_at_most_cursor = k.floor_at_most_cursor; head_seen_at_most_head = omega arith; owner_seen_at_most_head = k.owner_seen_at_most_head; opened_at_most_open = k.opened_at_most_open; in_role = k.in_role; seated = λ l. let q = k.seated l in record { start_is = q.start_is; places_are = q.places_are; opened_least = q.opened_least; last = q.last; spans_are = q.spans_are; unmade_is_new = q.unmade_is_new }; ended_is_told = k.ended_is_told }
         (still s r id v (head_seen v (get_or s.words head_index 0)) at (λ e. r.merge.lead_writes id v at e) (λ e. r.merge.notes id v at e) (λ l. r.merge.floors_wide id v at l)),
     (refl, omega arith, (let q = prefix_length v.seen r.log k.seen_is_prefix in omega arith), (let q = k.owner_seen_at_most_head in omega arith), (let q = k.head_seen_at_most_head in omega arith)),
   )
 
   -- a lead is no further ahead of another station than there are places
-  in_window : (s : St) (r : RuleOf s) (id : ℕ) (v : View K) → get_elem? s.views id ≡ some v → v.role ≡ Lead → (st : ℕ) → st < p.stations → st ≢ v.station → length v.seen ≤ cursor s.words st + v.places
+  in_window : (s : St) (r : RuleOf s) (id : ℕ) (v : View K) → get_elem? s.views id ≡ some v → v.role ≡ Lead → (st : ℕ) → st < v.opened → st ≢ v.station → length v.seen ≤ cursor s.words st + v.places
   in_window s r id v at role st near other =
       let ir = in_role hist beg p s r id v at Lead role in
       let seen : length v.seen ≡ length r.log = ir.seen_is_log in
       let places : v.places ≡ p.places = (seated hist beg p s r id v at Lead role tt).places_are in
-      let window : length r.log ≤ cursor s.words st + p.places = r.places.head_in_window st (λ e. other (e ∙ sym ir.is_holder)) near in
+      let within : st < length r.whos = (let e = ir.opened_is in omega arith) in
+      let window : length r.log ≤ cursor s.words st + p.places = r.places.head_in_window st (λ e. other (e ∙ sym ir.is_holder)) within in
       omega arith
 
   count_or_gone : (len x : ℕ) → len ≤ 131072 → (x ≤ len) ⊎ (x ≡ GONE) → (x ≤ 131072) ⊎ (x ≡ GONE)
@@ -75,18 +77,19 @@ module _ {K : Type 0} (hist : K → List Entry) (beg : K → Start) (p : Plan K)
         cursor_seen st v x,
         keeps,
         tt,
-        looked hist beg p s r (cursor_index st) id me.1 v (cursor_seen st v x) at refl record {
+        looked hist beg p s r (cursor_index st) id me.1 v (cursor_seen st v x) at refl (λ q. (q, refl)) record {
           seen_is_prefix = k.seen_is_prefix;
           read_begins_next = k.read_begins_next;
           floor_at_most_cursor = λ j l. ⊎_elim (λ (e : get_or (set v.floors st x) j 0 ≡ get_or v.floors j 0). subst (λ (z : ℕ). z ≤ cursor s.words j) (sym e) (k.floor_at_most_cursor j l))
               (λ (e : (j ≡ st) × (get_or (set v.floors st x) j 0 ≡ x)). subst (λ (z : ℕ). get_or (set v.floors st x) j 0 ≤ cursor s.words z) (sym e.0) (let q = e.1 in omega arith)) (set_or v.floors st j x);
           head_seen_at_most_head = k.head_seen_at_most_head;
           owner_seen_at_most_head = k.owner_seen_at_most_head;
+          opened_at_most_open = k.opened_at_most_open;
           in_role = k.in_role;
-          seated = λ l. let q = k.seated l in record { start_is = q.start_is; places_are = q.places_are; station_is_made = q.station_is_made; spans_are = q.spans_are; unmade_is_new = q.unmade_is_new };
+          seated = λ l. let q = k.seated l in record { start_is = q.start_is; places_are = q.places_are; opened_least = q.opened_least; last = q.last; spans_are = q.spans_are; unmade_is_new = q.unmade_is_new };
           ended_is_told = k.ended_is_told;
         } (still s r id v (cursor_seen st v x) at (λ e. r.merge.lead_writes id v at e) (λ e. r.merge.notes id v at e) (λ l. length-set v.floors st x ∙ r.merge.floors_wide id v at l)),
-        (count_or_gone (length r.log) x few (r.places.cursor_is_count_or_gone st near), λ j e. let e' : 8 * (st + 2) ≡ 8 * (j + 2) = e in let q : st ≡ j = omega arith in (ap (λ (z : ℕ). (cursor_seen z v x, me.1)) q, λ role other. in_window s r id v at role st near (λ h. other (sym q ∙ h)), (let f = subst (λ (z : ℕ). get_or v.floors z 0 ≤ cursor s.words st) q (k.floor_at_most_cursor st near) in f))),
+        (count_or_gone (length r.log) x few (r.places.cursor_is_count_or_gone st near), λ j e. let e' : 8 * (st + 2) ≡ 8 * (j + 2) = e in let q : st ≡ j = omega arith in (ap (λ (z : ℕ). (cursor_seen z v x, me.1)) q, λ role other open'. in_window s r id v at role st (let z = q in omega arith) (λ h. other (sym q ∙ h)), (let f = subst (λ (z : ℕ). get_or v.floors z 0 ≤ cursor s.words st) q (k.floor_at_most_cursor st near) in f))),
       )
 
   -- Reading the owner word
@@ -111,7 +114,7 @@ module _ {K : Type 0} (hist : K → List Entry) (beg : K → Start) (p : Plan K)
   found_closed n x free (as_free a b c d) e = cc
   found_closed n x closed (as_closed a b c d) e = (refl, d)
 
-  found_small : (n x : ℕ) (ph : Phase) → Found n x ph → is_held x ≡ true → x < 64
+  found_small : (n x : ℕ) (ph : Phase) → Found n x ph → is_held x ≡ true → x < 2048
   found_small n x held (as_held a b c d) e = d.1
   found_small n x free (as_free a b c d) e = cc
   found_small n x closed (as_closed a b c d) e = cc
@@ -124,8 +127,8 @@ module _ {K : Type 0} (hist : K → List Entry) (beg : K → Start) (p : Plan K)
   pub looks_owner : (slots id : ℕ) (me : M) → me.0.role ≡ Reader → Allows RuleOf slots id me 0 (λ x. x) (looked_owner (step slots 0 0 0 none) me)
   looks_owner slots id me role s r wide at _ = let v = me.0 in let kn = r.each_seat id v at in let x : ℕ = get_or s.words 0 0 in let pl = r.places in
       let ir = in_role hist beg p s r id v at Reader role in let st : ℕ = v.station in let se = seated hist beg p s r id v at Reader role tt in let n : ℕ = p.stations in let len : ℕ = length r.log in
-      let near : st < n = se.station_is_made in let few : len ≤ 131072 = pl.log_is_short in let small : r.holder < 16 = (let a = pl.few_stations in let b = pl.holder_is_made in omega arith) in
-      let f : Found len x r.phase = found r.phase r.holder len x small pl.owner_is in
+      let near : st < n = role_near hist beg p s r id v at Reader role tt in let few : len ≤ 131072 = pl.log_is_short in let all = open_near hist beg p s r in let small : r.holder < 16 = (let a = pl.few_stations in let b = pl.holder_is_open in omega arith) in let open_few : length r.whos ≤ 16 = (let a = pl.few_stations in omega arith) in
+      let f : Found len x r.phase = found r.phase r.holder (length r.whos) len x small open_few pl.owner_is in let opened : opened_at x ≡ length r.whos = found_open r.phase r.holder (length r.whos) len x small open_few pl.owner_is in
       let l = learnt_at s r n x r.phase f in let seen : length v.seen ≤ len = prefix_length v.seen r.log kn.seen_is_prefix in let mine : cursor s.words st ≡ length v.seen = ir.cursor_is_length in
       let low : lower_marked st v.floors ≡ true → (z : ℕ) → z < st → GONE ≤ cursor s.words z = λ e z b. (let a = marked st v.floors e z b in let c = kn.floor_at_most_cursor z (omega arith) in omega arith) in
       let unheld : lower_marked st v.floors ≡ true → r.phase ≢ held = λ e is. dite (ℕ_discrete st r.holder) (λ same. not_held (now hist beg p s r) st r.led ir.led_nothing is same)
@@ -134,32 +137,35 @@ module _ {K : Type 0} (hist : K → List Entry) (beg : K → Start) (p : Plan K)
         v',
         keeps,
         tt,
-        looked hist beg p s r 0 id me.1 v v' at refl record {
+        looked hist beg p s r 0 id me.1 v v' at refl (λ q. (q, refl)) record {
           seen_is_prefix = kn.seen_is_prefix;
           read_begins_next = kn.read_begins_next;
           floor_at_most_cursor = kn.floor_at_most_cursor;
           head_seen_at_most_head = kn.head_seen_at_most_head;
           owner_seen_at_most_head = l.0;
-          in_role = subst (InRole n p.places (now hist beg p s r) st v.seen v.read v.wrote (noted v.freed st v.floors x)) (sym role) record {
+          opened_at_most_open = let z = opened in omega arith;
+          in_role = subst (InRole n p.places (now hist beg p s r) v') (sym role) record {
             cursor_is_length = ir.cursor_is_length;
             led_nothing = ir.led_nothing;
             wrote_nothing = ir.wrote_nothing;
-            freed_stays = λ k e. ⊎_elim (λ (q : (is_free x ≡ true) × (lower_marked st v.floors ≡ true) × (owner_at x ≡ k)). let y = found_free len x r.phase f q.0 in record { is_free = y.0; at_head = sym q.2 ∙ y.1; lower_gone = low q.1 })
-                (λ (q : v.freed ≡ Some k). ir.freed_stays k q) (noted_is v.freed st v.floors x k e);
+            freed_stays = λ k e. ⊎_elim (λ (q : (is_free x ≡ true) × (lower_marked st v.floors ≡ true) × (owner_at x ≡ k)). let y = found_free len x r.phase f q.0 in record { is_free = y.0; at_head = sym q.2 ∙ y.1; opened_is = opened; lower_gone = low q.1 })
+                (λ (q : v.freed ≡ Some k). let y = ir.freed_stays k q in record { is_free = y.is_free; at_head = y.at_head; opened_is = opened; lower_gone = y.lower_gone }) (noted_is v.freed st v.floors x k e);
           };
-          seated = λ g. let q = kn.seated g in record { start_is = q.start_is; places_are = q.places_are; station_is_made = q.station_is_made; spans_are = q.spans_are; unmade_is_new = q.unmade_is_new };
+          seated = λ g. let q = kn.seated g in record { start_is = q.start_is; places_are = q.places_are; opened_least = (let a = r.doors.least in omega arith); last = q.last; spans_are = q.spans_are; unmade_is_new = q.unmade_is_new };
           ended_is_told = kn.ended_is_told;
         } (still s r id v v' at (λ e. r.merge.lead_writes id v at e) (λ e. r.merge.notes id v at e) (λ l. r.merge.floors_wide id v at l)),
         (
           refl,
           record {
             at_most = let a = l.0 in omega arith;
+            opened_few = let w = r.merge.floors_wide id v at (subst Live (sym role) tt) in omega arith;
             held_is_small = found_small len x r.phase f;
             is_known = l.1;
             behind = λ e. let a = l.2 e in omega arith;
             last_is_free = λ e. found_held len x r.phase f (unheld e);
             first_is_free = λ e. let same : cursor s.words st ≡ cursor s.words 0 = ap (cursor s.words) e in let low : r.holder ≡ 0 = dite (dec_le 1 r.holder) (λ le. let g = pl.lower_are_gone 0 le in absurd (omega arith)) (λ gt. omega arith) in
-                let unled = holder_led (now hist beg p s r) st r.led ir.led_nothing (e ∙ sym low) in let b = tiles_none 0 len r.spans r.led.tile unled in free_found len x r.phase f (r.led.unled_is_free unled) (sym b);
+                let unled = holder_led (now hist beg p s r) st r.led ir.led_nothing (e ∙ sym low) in let b = tiles_none 0 len r.spans r.led.tile unled in let g = free_found len x r.phase f (r.led.unled_is_free unled) (sym b) in
+                let whole : p.versions ≡ length r.whos = subst (Opened p.versions r.whos) unled r.turns.opened in (g.0, g.1, (let a = se.opened_least in let c = kn.opened_at_most_open in omega arith));
             closed_at_end = λ e same. let y = found_closed len x r.phase f e in let all : v.seen ≡ r.log = prefix_same v.seen r.log (sym same ∙ y.1) kn.seen_is_prefix in (r.events, r.log_is_spelt ∙ sym all, r.log_is_lawful, r.closed_has_ended y.0);
           },
         ),
@@ -175,7 +181,7 @@ module _ {K : Type 0} (hist : K → List Entry) (beg : K → Start) (p : Plan K)
       let wh = r.places.event_is_whole m e got.1 in let nx = there e (length v.read) (shorter v.read e rd wh.0 part) in let x : ℕ = get_or s.words k 0 in
       let le : cursor s.words v.station ≤ m = subst (λ (z : ℕ). z ≤ m) (sym ir.cursor_is_length) (le_refl m) in
       let other : v.station ≢ r.holder = not_holder (now hist beg p s r) v.station r.led ir.led_nothing (omega arith) in
-      let found : x ≡ nx.0 = ap (λ (z : ℕ). get_or s.words z 0) (is r.log kn.seen_is_prefix nt.1) ∙ r.places.unread_stands m v.station e other se.station_is_made le got.1 (length v.read) nx.0 nx.1 in
+      let found : x ≡ nx.0 = ap (λ (z : ℕ). get_or s.words z 0) (is r.log kn.seen_is_prefix nt.1) ∙ r.places.unread_stands m v.station e other (last_near r.whos v.version v.station se.last) le got.1 (length v.read) nx.0 nx.1 in
       let y = there r.events m (let q = ap length r.log_is_spelt in let g = at_below r.log m e got.1 in omega (arith, length-map r.events spell)) in
       let spells : e ≡ spell y.0 = some-injective e (spell y.0) (sym got.1 ∙ subst (λ (z : Log). get_elem? z m ≡ some (spell y.0)) r.log_is_spelt (at_map spell r.events m y.0 y.1)) in
       let more : Prefix (v.read ++ x ∷ []) e = λ j y' f. ⊎_elim (λ (g : get_elem? v.read j ≡ some y'). rd j y' g)
@@ -183,8 +189,8 @@ module _ {K : Type 0} (hist : K → List Entry) (beg : K → Start) (p : Plan K)
         word_seen v x,
         keeps,
         tt,
-        looked hist beg p s r k id me.1 v (word_seen v x) at refl
-            record { seen_is_prefix = kn.seen_is_prefix; read_begins_next = λ j y f. (e, got.1, more j y f); floor_at_most_cursor = kn.floor_at_most_cursor; head_seen_at_most_head = kn.head_seen_at_most_head; owner_seen_at_most_head = kn.owner_seen_at_most_head; in_role = subst (InRole n c (now hist beg p s r) v.station v.seen (v.read ++ x ∷ []) v.wrote v.freed) (sym role) ir; seated = λ l. let q = kn.seated l in record { start_is = q.start_is; places_are = q.places_are; station_is_made = q.station_is_made; spans_are = q.spans_are; unmade_is_new = q.unmade_is_new }; ended_is_told = kn.ended_is_told }
+        looked hist beg p s r k id me.1 v (word_seen v x) at refl (λ q. (q, refl))
+            record { seen_is_prefix = kn.seen_is_prefix; read_begins_next = λ j y f. (e, got.1, more j y f); floor_at_most_cursor = kn.floor_at_most_cursor; head_seen_at_most_head = kn.head_seen_at_most_head; owner_seen_at_most_head = kn.owner_seen_at_most_head; opened_at_most_open = kn.opened_at_most_open; in_role = subst (InRole n c (now hist beg p s r) (word_seen v x)) (sym role) ir; seated = λ l. let q = kn.seated l in record { start_is = q.start_is; places_are = q.places_are; opened_least = q.opened_least; last = q.last; spans_are = q.spans_are; unmade_is_new = q.unmade_is_new }; ended_is_told = kn.ended_is_told }
             (still s r id v (word_seen v x) at (λ e. r.merge.lead_writes id v at e) (λ e. r.merge.notes id v at e) (λ l. r.merge.floors_wide id v at l)),
         (
           refl,

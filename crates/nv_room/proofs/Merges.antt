@@ -1,23 +1,21 @@
 -- What the places tell of the order of events stays, whatever a seat does.
-use Rattle.std.proofs.Common.{◌≡◌, ℕ, ◌+◌, ◌%◌, ◌<◌, ◌≤◌, ◌≢◌, ◌⊎◌, List, [], ◌∷◌, ◌++◌, length, take, get_or, set, sym, refl, ap, ◌∙◌, subst, inl, inr, ⊎_elim, mod-lt, lt_of_not-le, arith, length-append, get_or-set_other, get_or-set_same}
+use Rattle.std.proofs.Common.{◌≡◌, ℕ, ◌%◌, ◌<◌, ◌≢◌, List, [], ◌∷◌, ◌++◌, length, get_or, set, sym, refl, ap, ◌∙◌, subst, inl, inr, ⊎_elim, mod-lt, lt_of_not-le, arith, length-append, get_or-set_other, get_or-set_same}
 use mathlib.Core.Logic.{dite}
 use native.Mathlib.Decide.{ℕ_discrete, dec_le}
-use mathlib.Core.Option.{some, some-injective, some-ne-none}
+use mathlib.Core.Option.{some, some-ne-none}
 use lib.ListN.{get_elem?}
-use Rattle.std.specs.Prelude.{Option, Some, None}
-use Rattle.std.proofs.lemmas.Option.{same_Some}
+use Rattle.std.specs.Prelude.{Option, None}
 use Rattle.atomic_table.proofs.Lists.{at_set}
 use Rattle.nv_words.specs.Spell.{low}
 use Rattle.nv_places.specs.Logs.{lane, earlier}
-use Rattle.nv_places.proofs.LogLaws.{lane_stays, lane_below_8}
+use Rattle.nv_places.proofs.LogLaws.{lane_stays}
 use Rattle.nv_places.specs.Stamps.{Stamp, Stamps}
-use Rattle.nv_places.proofs.StampLaws.{stamps_first, stamps_more, stamps_second, stamps_published}
+use Rattle.nv_places.proofs.StampLaws.{stamps_more, stamps_second}
 use Rattle.nv_room.specs.declared.view.View.{View}
-use Rattle.nv_room.specs.declared.view.Role.{Role}
-use Rattle.nv_room.specs.declared.view.Role.TheVariants.{Reader, Lead, Leaving, Gone, Spent}
+use Rattle.nv_room.specs.declared.view.Role.TheVariants.{Reader, Lead}
 use Rattle.nv_room.specs.Placement.{Log, header, slot, place_of}
 use Rattle.nv_room.specs.Owner.{Phase, held}
-use Rattle.nv_room.specs.Room.{Has, Live, Notes, Merge, second}
+use Rattle.nv_room.specs.Room.{Live, Leads, Notes, Merge, second}
 use Rattle.nv_room.proofs.Lists.{at_end}
 use Rattle.nv_room.proofs.Placement.{slot_behind, slots_apart, place_early, second_apart}
 
@@ -40,12 +38,12 @@ notes_stay log more seen noted missed k = let n = length-append log more in reco
 module _ {T : Type 0} (n c : ℕ) (views : List (View T)) (id : ℕ) (v w : View T) (at : get_elem? views id ≡ some v) where
   -- the view of the seat id changes, and no word of a place
   pub merge_turned : (ws ws' : List ℕ) (log : Log) (phase : Phase) (m : Merge n c ws log phase views) → ((l k : ℕ) → second n c ws' l k ≡ second n c ws l k)
-      → (w.role ≡ Lead → w.wrote ≡ m.writing) → (w.role ≡ Reader → Notes log w.seen w.noted w.missed) → (Live w.role → length w.floors ≡ n) → Merge n c ws' log phase (set views id w)
+      → (Leads w.role → w.wrote ≡ m.writing) → (w.role ≡ Reader → Notes log w.seen w.noted w.missed) → (Live w.role → length w.floors ≡ n) → Merge n c ws' log phase (set views id w)
   merge_turned ws ws' log phase m same leads reads wide = record {
     writing = m.writing;
     stamps = stamps_same c (second n c ws) (second n c ws') log m.writing same m.stamps;
     lead_writes = λ j u e role. ⊎_elim
-        (λ (y : (j ≡ id) × (w ≡ u)). ap (λ (z : View T). z.wrote) (sym y.1) ∙ leads (ap (λ (z : View T). z.role) y.1 ∙ role))
+        (λ (y : (j ≡ id) × (w ≡ u)). ap (λ (z : View T). z.wrote) (sym y.1) ∙ leads (subst (λ (z : View T). Leads z.role) (sym y.1) role))
         (λ (y : (j ≢ id) × (get_elem? views j ≡ some u)). m.lead_writes j u y.1 role)
         (at_set views id j w u e);
     not_held = m.not_held;
@@ -61,7 +59,7 @@ module _ {T : Type 0} (n c : ℕ) (views : List (View T)) (id : ℕ) (v w : View
 
   -- the lead writes: `w` is its new view, and no other seat leads
   pub merge_written : (ws ws' : List ℕ) (log log' : Log) (phase : Phase) (m : Merge n c ws log phase views) (writing : List ℕ) → w.role ≡ Lead → w.wrote ≡ writing → phase ≡ held → length w.floors ≡ n
-      → ((j : ℕ) (u : View T) → j ≢ id → get_elem? views j ≡ some u → u.role ≢ Lead) → Stamps c (second n c ws') log' writing
+      → ((j : ℕ) (u : View T) → j ≢ id → get_elem? views j ≡ some u → ¬ Leads u.role) → Stamps c (second n c ws') log' writing
       → ((seen : Log) (noted : Option ℕ) (missed : List ℕ) → Notes log seen noted missed → Notes log' seen noted missed) → Merge n c ws' log' phase (set views id w)
   merge_written ws ws' log log' phase m writing role is leads wide alone stamps on = record {
     writing = writing;
@@ -94,7 +92,7 @@ pub merge_cut : {T : Type 0} (n c : ℕ) (ws : List ℕ) (log : Log) (phase : Ph
 merge_cut {T} n c ws log phase views w m role notes wide = record {
   writing = m.writing;
   stamps = m.stamps;
-  lead_writes = λ j u e lead. ⊎_elim (λ (q : get_elem? views j ≡ some u). m.lead_writes j u q lead) (λ (q : (j ≡ length views) × (w ≡ u)). absurd (let z : Reader ≡ Lead = sym role ∙ ap (λ (z : View T). z.role) q.1 ∙ lead in cc)) (at_end views w u j e);
+  lead_writes = λ j u e lead. ⊎_elim (λ (q : get_elem? views j ≡ some u). m.lead_writes j u q lead) (λ (q : (j ≡ length views) × (w ≡ u)). absurd (subst Leads (ap (λ (z : View T). z.role) (sym q.1) ∙ role) lead)) (at_end views w u j e);
   not_held = m.not_held;
   notes = λ j u e reader. ⊎_elim (λ (q : get_elem? views j ≡ some u). m.notes j u q reader) (λ (q : (j ≡ length views) × (w ≡ u)). subst (λ (z : View T). Notes log z.seen z.noted z.missed) q.1 notes) (at_end views w u j e);
   floors_wide = λ j u e l. ⊎_elim (λ (q : get_elem? views j ≡ some u). m.floors_wide j u q l) (λ (q : (j ≡ length views) × (w ≡ u)). ap (λ (z : View T). length z.floors) (sym q.1) ∙ wide) (at_end views w u j e);

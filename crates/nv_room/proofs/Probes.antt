@@ -1,5 +1,5 @@
 -- Probing a lane keeps the rule.
-use Rattle.std.proofs.Common.{◌≡◌, ℕ, ◌+◌, ◌%◌, ◌<◌, ◌≤◌, ◌≢◌, ◌⊎◌, Bool, true, false, cond, List, [], ◌∷◌, ◌++◌, map, length, take, get_or, set, sym, refl, ap, ◌∙◌, subst, inl, inr, ⊎_elim, le_refl, mod-lt, arith}
+use Rattle.std.proofs.Common.{◌≡◌, ℕ, ◌<◌, ◌≤◌, ◌≢◌, Bool, true, false, cond, List, [], ◌∷◌, ◌++◌, length, take, get_or, set, sym, refl, ap, ◌∙◌, subst, ⊎_elim, le_refl, mod-lt, arith}
 use Rattle.std.proofs.lemmas.List.{length-map}
 use Rattle.std.proofs.lemmas.Bool.{eqb-true, eqb-false}
 use mathlib.Core.Path.{Path}
@@ -7,29 +7,27 @@ use mathlib.Core.Option.{none, some, some-injective}
 use lib.ListN.{get_elem?}
 use Rattle.std.specs.Prelude.{Option, Some, ◌==◌}
 use Rattle.std.proofs.lemmas.Option.{same_Some}
-use Rattle.std.specs.declared.snapshot.Snapshot.{Snapshot}
 use Rattle.atomic_table.specs.Table.{State, Me, step, keeps, Allows}
 use Rattle.atomic_table.proofs.Lists.{at_map}
 use Rattle.nv_calls.specs.Calls.{Entry}
 use Rattle.nv_calls.specs.Logs.{Start, IsLawful}
 use Rattle.nv_calls.proofs.LogLaws.{lawful_range, slice_some}
 use Rattle.nv_words.specs.Spell.{low, spell}
-use Rattle.nv_places.specs.Logs.{entries, lanes_after, lane, earlier}
+use Rattle.nv_places.specs.Logs.{entries, lanes_after, lane}
 use Rattle.nv_places.proofs.LogLaws.{lane_below_8, entries_spelt}
 use Rattle.nv_places.specs.Stamps.{IsStamped, found, Lives}
 use Rattle.nv_places.proofs.StampLaws.{number_word}
 use Rattle.nv_places.proofs.MergeLaws.{probe_hits, probe_misses, next_found, next_lives}
 use Rattle.nv_room.specs.declared.view.View.{View}
 use Rattle.nv_room.specs.declared.view.Plan.{Plan}
-use Rattle.nv_room.specs.declared.view.Role.{Role}
-use Rattle.nv_room.specs.declared.view.Role.TheVariants.{Reader, Lead}
-use Rattle.nv_room.specs.Placement.{Log, place_of, next_slot}
-use Rattle.nv_room.specs.Room.{cursor, Moment, Live, Has, tag, Tag, Knows, Notes, Merge, second, Rule}
+use Rattle.nv_room.specs.declared.view.Role.TheVariants.{Reader}
+use Rattle.nv_room.specs.Placement.{Log, next_slot}
+use Rattle.nv_room.specs.Room.{cursor, Moment, Live, Leads, tag, Tag, Knows, Notes, Merge, second, Rule}
 use Rattle.nv_room.specs.Steps.{probed_at, probed}
-use Rattle.nv_room.proofs.Lists.{at_below, at_end, there, prefix_take}
+use Rattle.nv_room.proofs.Lists.{at_end, there, prefix_take}
 use Rattle.nv_room.proofs.Placement.{place_early, slots_apart}
 use Rattle.nv_room.proofs.Merges.{merge_turned}
-use Rattle.nv_room.proofs.Stays.{now, looked}
+use Rattle.nv_room.proofs.Stays.{last_near, now, looked}
 use Rattle.nv_room.proofs.Seats.{not_holder, in_role, seated}
 
 by_test : {A : Type 0} (b : Bool) → (b ≡ true → A) → (b ≡ false → A) → A
@@ -43,14 +41,17 @@ module _ {T : Type 0} (l : ℕ) (v : View T) where
   abbrev miss : View T
   miss = record v { missed = v.missed ++ l ∷ [] }
 
-  knows_probed : (n c : ℕ) (t : Snapshot T) (m : Moment) (x : ℕ) → Knows n c t m v → Knows n c t m (probed_at l v x)
-  knows_probed n c t m x k = elim (low x == length v.seen) as (λ (b : Bool). Knows n c t m (cond b hit miss)) [
-    | true ↦ record { seen_is_prefix = k.seen_is_prefix; read_begins_next = k.read_begins_next; floor_at_most_cursor = k.floor_at_most_cursor; head_seen_at_most_head = k.head_seen_at_most_head; owner_seen_at_most_head = k.owner_seen_at_most_head; in_role = k.in_role; seated = λ l. let q = k.seated l in record { start_is = q.start_is; places_are = q.places_are; station_is_made = q.station_is_made; spans_are = q.spans_are; unmade_is_new = q.unmade_is_new }; ended_is_told = k.ended_is_told }
-    | false ↦ record { seen_is_prefix = k.seen_is_prefix; read_begins_next = k.read_begins_next; floor_at_most_cursor = k.floor_at_most_cursor; head_seen_at_most_head = k.head_seen_at_most_head; owner_seen_at_most_head = k.owner_seen_at_most_head; in_role = k.in_role; seated = λ l. let q = k.seated l in record { start_is = q.start_is; places_are = q.places_are; station_is_made = q.station_is_made; spans_are = q.spans_are; unmade_is_new = q.unmade_is_new }; ended_is_told = k.ended_is_told }
+  knows_probed : (p : Plan T) (m : Moment) (x : ℕ) → Knows p m v → Knows p m (probed_at l v x)
+  knows_probed p m x k = elim (low x == length v.seen) as (λ (b : Bool). Knows p m (cond b hit miss)) [
+    | true ↦ record { seen_is_prefix = k.seen_is_prefix; read_begins_next = k.read_begins_next; floor_at_most_cursor = k.floor_at_most_cursor; head_seen_at_most_head = k.head_seen_at_most_head; owner_seen_at_most_head = k.owner_seen_at_most_head; opened_at_most_open = k.opened_at_most_open; in_role = k.in_role; seated = λ l. let q = k.seated l in record { start_is = q.start_is; places_are = q.places_are; opened_least = q.opened_least; last = q.last; spans_are = q.spans_are; unmade_is_new = q.unmade_is_new }; ended_is_told = k.ended_is_told }
+    | false ↦ record { seen_is_prefix = k.seen_is_prefix; read_begins_next = k.read_begins_next; floor_at_most_cursor = k.floor_at_most_cursor; head_seen_at_most_head = k.head_seen_at_most_head; owner_seen_at_most_head = k.owner_seen_at_most_head; opened_at_most_open = k.opened_at_most_open; in_role = k.in_role; seated = λ l. let q = k.seated l in record { start_is = q.start_is; places_are = q.places_are; opened_least = q.opened_least; last = q.last; spans_are = q.spans_are; unmade_is_new = q.unmade_is_new }; ended_is_told = k.ended_is_told }
   ]
 
   tag_probed : (x : ℕ) → Path Tag (tag (probed_at l v x)) (tag v)
   tag_probed x = elim (low x == length v.seen) as (λ (b : Bool). Path Tag (tag (cond b hit miss)) (tag v)) [ true ↦ (λ _. tag v) | false ↦ (λ _. tag v) ]
+
+  leads_probed : (x : ℕ) → Leads v.role → Leads (probed_at l v x).role × ((probed_at l v x).station ≡ v.station)
+  leads_probed x q = elim (low x == length v.seen) as (λ (b : Bool). Leads (cond b hit miss).role × ((cond b hit miss).station ≡ v.station)) [ true ↦ (q, refl) | false ↦ (q, refl) ]
 
 -- what is noted of a lane
 noted_hit : (log seen : Log) (noted : Option ℕ) (missed : List ℕ) (l : ℕ) → Notes log seen noted missed → length seen < length log → l ≡ lane log (length seen) → Notes log seen (Some l) missed
@@ -82,7 +83,7 @@ module _ {K : Type 0} (hist : K → List Entry) (beg : K → Start) (p : Plan K)
       let stamp : y.0.stamp ≡ i = (r.log_is_lawful i y.0 (slice_some r.events i y.0 y.1)).stamp in
       let other : v.station ≢ r.holder = not_holder (now hist beg p s r) v.station r.led ir.led_nothing (omega arith) in
       let le : cursor s.words v.station ≤ i = subst (λ (z : ℕ). z ≤ i) (sym ir.cursor_is_length) (le_refl i) in
-      let stands = r.places.unread_stands i v.station e.0 other se.station_is_made le e.1 1 _ (ap (λ (z : List ℕ). get_elem? z 1) spells ∙ word.0) in
+      let stands = r.places.unread_stands i v.station e.0 other (last_near r.whos v.version v.station se.last) le e.1 1 _ (ap (λ (z : List ℕ). get_elem? z 1) spells ∙ word.0) in
       ap (λ (z : ℕ). low (get_or s.words z 0)) (sym (place_early n c r.log i 1 (omega arith))) ∙ ap low stands ∙ word.1 ∙ stamp
 
   pub probes : (slots id k l : ℕ) (me : M) → me.0.role ≡ Reader → l < 8 → Lives me.0.seen l → length me.0.seen < me.0.head_last → k ≡ next_slot p.stations p.places (lanes_after me.0.seen) l 1
@@ -96,7 +97,7 @@ module _ {K : Type 0} (hist : K → List Entry) (beg : K → Start) (p : Plan K)
       let stands = stamped s r id v at role more in
       let floors : length v.floors ≡ n = mg.floors_wide id v at (subst Live (sym role) tt) in
       let w : View K = probed_at l v x in
-      let turned = λ (u : View K) (same : u.role ≡ v.role) (writes : u.wrote ≡ v.wrote) (notes : Notes r.log u.seen u.noted u.missed) (floored : length u.floors ≡ n). merge_turned n c s.views id v u at s.words s.words r.log r.phase mg (λ _ _. refl) (λ e. writes ∙ mg.lead_writes id v at (sym same ∙ e)) (λ _. notes) (λ _. floored) in
+      let turned = λ (u : View K) (same : u.role ≡ v.role) (writes : u.wrote ≡ v.wrote) (notes : Notes r.log u.seen u.noted u.missed) (floored : length u.floors ≡ n). merge_turned n c s.views id v u at s.words s.words r.log r.phase mg (λ _ _. refl) (λ e. writes ∙ mg.lead_writes id v at (subst Leads same e)) (λ _. notes) (λ _. floored) in
       let merge : Merge n c s.words r.log r.phase (set s.views id w) = by_test (low x == i)
       (λ t. subst (λ (b : Bool). Merge n c s.words r.log r.phase (set s.views id (cond b (hit l v) (miss l v)))) (sym t)
       (turned (hit l v) refl refl (noted_hit r.log v.seen v.noted v.missed l nt more (probe_hits c sec r.log mg.writing v.seen l pos mg.stamps more below living (shown ∙ eqb-true (low x) i t))) floors))
@@ -105,7 +106,7 @@ module _ {K : Type 0} (hist : K → List Entry) (beg : K → Start) (p : Plan K)
         w,
         keeps,
         tt,
-        looked hist beg p s r k id me.1 v w at (tag_probed l v x) (knows_probed l v n c p.start (now hist beg p s r) x kn) merge,
+        looked hist beg p s r k id me.1 v w at (tag_probed l v x) (leads_probed l v x) (knows_probed l v p (now hist beg p s r) x kn) merge,
         λ j near word.
             let same : l ≡ j = (slots_apart n c l _ 1 j _ 1 (mod-lt _ pos) (mod-lt _ pos) (omega arith) (omega arith) (sym is ∙ word ∙ (λ z. next_slot (floors z) (se.places_are z) (lanes_after v.seen) j 1))).0 in (
               ap (λ (z : ℕ). (probed_at z v x, me.1)) same,

@@ -1,15 +1,18 @@
 -- Spans that tile the log: one is added at the end, the last grows, and which are a station's.
-use Rattle.std.proofs.Common.{◌≡◌, ℕ, zero, suc, ◌+◌, ◌<◌, ◌≤◌, ◌≢◌, ◌⊎◌, Bool, true, false, eq-eqb, ne_eqb, List, [], ◌∷◌, ◌++◌, sym, refl, ap, ◌∙◌, subst, inl, inr, ⊎_elim, arith}
-use Rattle.std.proofs.lemmas.List.{append-nil}
+use Rattle.std.proofs.Common.{◌≡◌, ℕ, zero, suc, ◌+◌, ◌<◌, ◌≤◌, ◌≢◌, ◌⊎◌, Bool, true, false, eq-eqb, ne_eqb, List, [], ◌∷◌, ◌++◌, length, sym, refl, ap, ◌∙◌, subst, inl, inr, ⊎_elim, arith, length-append}
+use Rattle.std.proofs.lemmas.List.{append-nil, take-append-le, take_all}
 use Rattle.std.specs.Prelude.{◌==◌}
 use mathlib.Core.Option.{some, some-injective, some-ne-none}
 use lib.ListN.{get_elem?}
 use Rattle.nv_room.specs.declared.view.Span.{Span}
-use Rattle.nv_room.specs.Spans.{span, Tiles, Rising, kept_if, of_station, grown}
+use Rattle.atomic_table.proofs.Lists.{at_longer, at_last}
+use Rattle.nv_words.specs.Spell.{bit}
+use Rattle.nv_room.specs.Spans.{span, Tiles, Rising, kept_if, spans_with, of_station, of_version, grown, handed_on, IsLast, Opened}
+use Rattle.nv_room.proofs.Lists.{at_end, at_below}
 
-pub tiles_more : (a n s : ℕ) (xs : List Span) → Tiles a xs n → Tiles a (xs ++ span s n n ∷ []) n
-tiles_more a n s [] t = (sym t, (omega arith), refl)
-tiles_more a n s (x ∷ xs) t = (t.0, t.1, tiles_more x.to n s xs t.2)
+pub tiles_more : (a n s v : ℕ) (xs : List Span) → Tiles a xs n → Tiles a (xs ++ span s v n n ∷ []) n
+tiles_more a n s v [] t = (sym t, (omega arith), refl)
+tiles_more a n s v (x ∷ xs) t = (t.0, t.1, tiles_more x.to n s v xs t.2)
 
 pub tiles_none : (a n : ℕ) (xs : List Span) → Tiles a xs n → xs ≡ [] → a ≡ n
 tiles_none a n xs t e = subst (λ (z : List Span). Tiles a z n) e t
@@ -27,9 +30,9 @@ pub rising_grown : (low : ℕ) (xs : List Span) (x : Span) → Rising low (xs ++
 rising_grown low [] x k = k
 rising_grown low (y ∷ ys) x k = (k.0, rising_grown (y.station + 1) ys x k.1)
 
-pub rising_more : (low s n : ℕ) (xs : List Span) → Rising low xs → low ≤ s → ((i : ℕ) (x : Span) → get_elem? xs i ≡ some x → x.station < s) → Rising low (xs ++ span s n n ∷ [])
-rising_more low s n [] r l b = (l, tt)
-rising_more low s n (x ∷ xs) r l b = (r.0, rising_more (x.station + 1) s n xs r.1 (let q = b 0 x refl in omega arith) (λ i y e. b (suc i) y e))
+pub rising_more : (low s v n : ℕ) (xs : List Span) → Rising low xs → low ≤ s → ((i : ℕ) (x : Span) → get_elem? xs i ≡ some x → x.station < s) → Rising low (xs ++ span s v n n ∷ [])
+rising_more low s v n [] r l b = (l, tt)
+rising_more low s v n (x ∷ xs) r l b = (r.0, rising_more (x.station + 1) s v n xs r.1 (let q = b 0 x refl in omega arith) (λ i y e. b (suc i) y e))
 
 -- a list is empty, or has a last
 pub last_of : {A : Type 0} (l : List A) → (l ≡ []) ⊎ ((xs : List A) × (x : A) × (l ≡ xs ++ x ∷ []))
@@ -55,24 +58,101 @@ below_last low [] x r (suc i) y e = absurd (some-ne-none y (sym e))
 below_last low (z ∷ zs) x r zero y e = let q : z ≡ y = some-injective z y e in let p = ap (λ (w : Span). w.station) q in let l = low_rises (z.station + 1) zs x r.1 in omega arith
 below_last low (z ∷ zs) x r (suc i) y e = below_last (z.station + 1) zs x r.1 i y e
 
--- A station's spans
+-- A station's or a version's spans
 
-pub others_skipped : (s : ℕ) (x : Span) (xs : List Span) → x.station ≢ s → of_station s (x ∷ xs) ≡ of_station s xs
-others_skipped s x xs ne = ap (λ b. kept_if b x (of_station s xs)) (ne_eqb x.station s ne)
+module _ (number : Span → ℕ) where
+  others_skipped : (k : ℕ) (x : Span) (xs : List Span) → number x ≢ k → spans_with number k (x ∷ xs) ≡ spans_with number k xs
+  others_skipped k x xs ne = ap (λ b. kept_if b x (spans_with number k xs)) (ne_eqb (number x) k ne)
 
-pub own_kept : (s : ℕ) (x : Span) (xs : List Span) → x.station ≡ s → of_station s (x ∷ xs) ≡ x ∷ of_station s xs
-own_kept s x xs e = ap (λ b. kept_if b x (of_station s xs)) (eq-eqb x.station s e)
+  own_kept : (k : ℕ) (x : Span) (xs : List Span) → number x ≡ k → spans_with number k (x ∷ xs) ≡ x ∷ spans_with number k xs
+  own_kept k x xs e = ap (λ b. kept_if b x (spans_with number k xs)) (eq-eqb (number x) k e)
 
-kept_append : (b : Bool) (x : Span) (ys zs : List Span) → kept_if b x (ys ++ zs) ≡ kept_if b x ys ++ zs
-kept_append true x ys zs = refl
-kept_append false x ys zs = refl
+  kept_append : (b : Bool) (x : Span) (ys zs : List Span) → kept_if b x (ys ++ zs) ≡ kept_if b x ys ++ zs
+  kept_append true x ys zs = refl
+  kept_append false x ys zs = refl
 
-pub of_append : (s : ℕ) (xs ys : List Span) → of_station s (xs ++ ys) ≡ of_station s xs ++ of_station s ys
-of_append s [] ys = refl
-of_append s (x ∷ xs) ys = ap (kept_if (x.station == s) x) (of_append s xs ys) ∙ kept_append (x.station == s) x (of_station s xs) (of_station s ys)
+  with_append : (k : ℕ) (xs ys : List Span) → spans_with number k (xs ++ ys) ≡ spans_with number k xs ++ spans_with number k ys
+  with_append k [] ys = refl
+  with_append k (x ∷ xs) ys = ap (kept_if (number x == k) x) (with_append k xs ys) ∙ kept_append (number x == k) x (spans_with number k xs) (spans_with number k ys)
+
+  pub with_more_other : (k : ℕ) (xs : List Span) (x : Span) → number x ≢ k → spans_with number k (xs ++ x ∷ []) ≡ spans_with number k xs
+  with_more_other k xs x ne = with_append k xs (x ∷ []) ∙ ap (λ (z : List Span). spans_with number k xs ++ z) (others_skipped k x [] ne) ∙ append-nil (spans_with number k xs)
+
+  pub with_more_own : (k : ℕ) (xs : List Span) (x : Span) → number x ≡ k → spans_with number k (xs ++ x ∷ []) ≡ spans_with number k xs ++ x ∷ []
+  with_more_own k xs x e = with_append k xs (x ∷ []) ∙ ap (λ (z : List Span). spans_with number k xs ++ z) (own_kept k x [] e)
+
+  -- no span has this number
+  pub with_none : (k : ℕ) (xs : List Span) → ((i : ℕ) (x : Span) → get_elem? xs i ≡ some x → number x ≢ k) → spans_with number k xs ≡ []
+  with_none k [] h = refl
+  with_none k (x ∷ xs) h = others_skipped k x xs (h 0 x refl) ∙ with_none k xs (λ i y e. h (suc i) y e)
 
 pub of_more_other : (s : ℕ) (xs : List Span) (x : Span) → x.station ≢ s → of_station s (xs ++ x ∷ []) ≡ of_station s xs
-of_more_other s xs x ne = of_append s xs (x ∷ []) ∙ ap (λ (z : List Span). of_station s xs ++ z) (others_skipped s x [] ne) ∙ append-nil (of_station s xs)
+of_more_other = with_more_other (λ (x : Span). x.station)
 
 pub of_more_own : (s : ℕ) (xs : List Span) (x : Span) → x.station ≡ s → of_station s (xs ++ x ∷ []) ≡ of_station s xs ++ x ∷ []
-of_more_own s xs x e = of_append s xs (x ∷ []) ∙ ap (λ (z : List Span). of_station s xs ++ z) (own_kept s x [] e)
+of_more_own = with_more_own (λ (x : Span). x.station)
+
+pub version_more_other : (v : ℕ) (xs : List Span) (x : Span) → x.version ≢ v → of_version v (xs ++ x ∷ []) ≡ of_version v xs
+version_more_other = with_more_other (λ (x : Span). x.version)
+
+pub version_more_own : (v : ℕ) (xs : List Span) (x : Span) → x.version ≡ v → of_version v (xs ++ x ∷ []) ≡ of_version v xs ++ x ∷ []
+version_more_own = with_more_own (λ (x : Span). x.version)
+
+-- A span that ends with a hand-over
+
+pub handed_end : (xs : List Span) (x : Span) → handed_on (xs ++ x ∷ []) ≡ xs ++ (record x { handed = true }) ∷ []
+handed_end [] x = refl
+handed_end (y ∷ []) x = refl
+handed_end (y ∷ z ∷ zs) x = ap (λ (q : List Span). y ∷ q) (handed_end (z ∷ zs) x)
+
+pub tiles_handed : (a n : ℕ) (xs : List Span) (x : Span) → Tiles a (xs ++ x ∷ []) n → Tiles a (xs ++ (record x { handed = true }) ∷ []) n
+tiles_handed a n [] x k = k
+tiles_handed a n (y ∷ ys) x k = (k.0, k.1, tiles_handed y.to n ys x k.2)
+
+pub rising_handed : (low : ℕ) (xs : List Span) (x : Span) → Rising low (xs ++ x ∷ []) → Rising low (xs ++ (record x { handed = true }) ∷ [])
+rising_handed low [] x k = k
+rising_handed low (y ∷ ys) x k = (k.0, rising_handed (y.station + 1) ys x k.1)
+
+-- Which spans opened the stations
+
+pub opened_most : (next : ℕ) (whos : List ℕ) (xs : List Span) → Opened next whos xs → next ≤ length whos
+opened_most next whos [] o = omega arith
+opened_most next whos (x ∷ xs) o = let h = opened_most (next + bit x.handed) whos xs o.1 in omega arith
+
+unhanded_adds : (x : Span) → x.handed ≡ false → bit x.handed ≡ 0
+unhanded_adds x e = ap bit e
+
+pub opened_more : (next : ℕ) (whos : List ℕ) (xs : List Span) (x : Span) → x.handed ≡ false → Opened next whos xs → Opened next whos (xs ++ x ∷ [])
+opened_more next whos [] x e o = (λ t. absurd (let q : true ≡ false = sym t ∙ e in cc), (let z = unhanded_adds x e in let w : next ≡ length whos = o in omega arith))
+opened_more next whos (y ∷ ys) x e o = (o.0, opened_more (next + bit y.handed) whos ys x e o.1)
+
+pub opened_grown : (next : ℕ) (whos : List ℕ) (xs : List Span) (x : Span) → Opened next whos (xs ++ x ∷ []) → Opened next whos (xs ++ (record x { to = x.to + 1 }) ∷ [])
+opened_grown next whos [] x o = (o.0, o.1)
+opened_grown next whos (y ∷ ys) x o = (o.0, opened_grown (next + bit y.handed) whos ys x o.1)
+
+-- the last span opens one more station
+pub opened_handed : (next : ℕ) (whos : List ℕ) (xs : List Span) (x : Span) → x.handed ≡ false → IsLast whos x.version x.station → Opened next whos (xs ++ x ∷ []) → Opened next (whos ++ x.version ∷ []) (xs ++ (record x { handed = true }) ∷ [])
+opened_handed next whos [] x e last o = let all : next ≡ length whos = (let z = unhanded_adds x e in let w = o.1 in omega arith) in (
+  λ _. (subst (λ (z : List ℕ). IsLast z x.version x.station) (sym (take-append-le next whos (x.version ∷ []) (omega arith) ∙ take_all next whos (omega arith))) last, at_last whos x.version next (sym all)),
+  (let z = length-append whos (x.version ∷ []) in omega arith),
+)
+opened_handed next whos (y ∷ ys) x e last o = let most = opened_most (next + bit y.handed) whos (ys ++ x ∷ []) o.1 in (
+  λ t. let w = o.0 t in (subst (λ (z : List ℕ). IsLast z y.version y.station) (sym (take-append-le next whos (x.version ∷ []) (omega arith))) w.0, at_longer whos (x.version ∷ []) next y.version w.1),
+  opened_handed (next + bit y.handed) whos ys x e last o.1,
+)
+
+-- The stations of a version
+
+-- one more station, of another version
+pub last_other : (whos : List ℕ) (v w s : ℕ) → w ≢ v → IsLast whos v s → IsLast (whos ++ w ∷ []) v s
+last_other whos v w s ne l = record {
+  has = at_longer whos (w ∷ []) s v l.has;
+  none_later = λ t lt e. ⊎_elim (λ (q : get_elem? whos t ≡ some v). l.none_later t lt q) (λ (q : (t ≡ length whos) × (w ≡ v)). ne q.1) (at_end whos w v t e);
+}
+
+-- the new station is its version's last
+pub last_new : (whos : List ℕ) (v : ℕ) → IsLast (whos ++ v ∷ []) v (length whos)
+last_new whos v = record {
+  has = at_last whos v (length whos) refl;
+  none_later = λ t lt e. let b = at_below (whos ++ v ∷ []) t v e in let n = length-append whos (v ∷ []) in absurd (omega arith);
+}

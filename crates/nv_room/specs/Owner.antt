@@ -1,4 +1,4 @@
--- The owner word: who holds the kernel or held it last, and, where it is not held, at how many events.
+-- The owner word: which station holds the kernel or held it last, how many stations are open, and, where it is not held, at how many events.
 use Rattle.std.specs.Prelude.{ℕ, zero, suc, ◌+◌, ◌*◌, ◌/◌, ◌%◌, ◌==◌, ◌&&◌, Bool, true, false, List, [], ◌∷◌, Option, Some, if◌then◌else◌}
 
 -- a cursor word that says that the station has left; it is above every count
@@ -10,15 +10,19 @@ pub data Phase : Type 0 where
   free : Phase
   closed : Phase
 
--- the station is below 16; a table of zeros is free at 0
-abbrev pub owner_word : Phase → ℕ → ℕ → ℕ
-owner_word held s n = s * 4 + 1
-owner_word free s n = (n * 16 + s) * 4
-owner_word closed s n = (n * 16 + s) * 4 + 2
+-- of the station s, which is below 16, with o open stations, which are at most 16
+abbrev pub owner_word : Phase → ℕ → ℕ → ℕ → ℕ
+owner_word held s o n = (o * 16 + s) * 4 + 1
+owner_word free s o n = ((n * 32 + o) * 16 + s) * 4
+owner_word closed s o n = ((n * 32 + o) * 16 + s) * 4 + 2
 
 -- the number that the word carries, which is 0 where it is held
 abbrev pub owner_at : ℕ → ℕ
-owner_at r = r / 64
+owner_at r = r / 2048
+
+-- how many stations are open
+abbrev pub opened_at : ℕ → ℕ
+opened_at r = r / 64 % 32
 
 abbrev pub is_held : ℕ → Bool
 is_held r = r % 4 == 1

@@ -3,7 +3,7 @@ ghost use Rattle.std.specs.Prelude.{◌≡◌, ◌+◌, ◌<◌, ◌≤◌, ◌+
 ghost use Rattle.nv_calls.specs.Calls.{request};
 ghost use Rattle.nv_calls.specs.Logs.{served, live_after, IsLawful};
 ghost use Rattle.nv_calls.specs.Shapes.{IsShaped};
-ghost use Rattle.nv_room.specs.Seats.{view, lead_view, station_of_reader, station_of_lead, stations_of, places_of, kernel_of, due_of, SameLead};
+ghost use Rattle.nv_room.specs.Seats.{view, lead_view, station_of_reader, version_of_reader, station_of_lead, version_of_lead, opened_of, stations_of, versions_of, places_of, kernel_of, due_of, SameLead};
 ghost use Rattle.nv_lanes.specs.Lanes.{lives};
 ghost use Rattle.nv_pool.specs.Chunks.{chunks_of};
 ghost use Rattle.nv_room.specs.Placement.{pool_chunks, chunks_from};
@@ -32,6 +32,21 @@ impl<K: SyscallKernel> Lead<K> {
         ensures { result ≡ station_of_lead self.now }
     {
         self.station
+    }
+
+    /// The version that the seat began with.
+    pub fn version(&self) -> u32
+        ensures { result ≡ version_of_lead self.now }
+    {
+        self.version
+    }
+
+    /// How many stations are open.
+    pub fn opened(&self) -> u32
+        ensures value { result ≡ opened_of self.now }
+        ensures view { (lead_view self.now).opened ≡ result }
+    {
+        self.opened
     }
 
     /// The kernel's.
@@ -67,7 +82,7 @@ impl<K: SyscallKernel> Lead<K> {
 
     /// No more than was last seen of a station's cursor.
     pub fn floor(&self, station: u32) -> u32
-        requires { station < 8 }
+        requires { station < 16 }
         ensures { station < length (lead_view self.now).floors → result ≤ slice_index (lead_view self.now).floors station }
     {
         self.floors[station as usize]
@@ -120,14 +135,29 @@ impl<K: SyscallKernel> Reader<K> {
     {
         self.station
     }
+
+    /// The version that the seat began with.
+    pub fn version(&self) -> u32
+        ensures { result ≡ version_of_reader self.now }
+    {
+        self.version
+    }
 }
 
 impl<K: SyscallKernel> Room<K> {
+    /// One for each version, and one more for each planned length.
     pub fn stations(&self) -> u32
         ensures value { result ≡ stations_of self.now }
-        ensures few { result ≤ 8 }
+        ensures few { result ≤ 16 }
     {
         self.stations
+    }
+
+    pub fn versions(&self) -> u32
+        ensures value { result ≡ versions_of self.now }
+        ensures few { result ≤ 8 }
+    {
+        self.versions
     }
 
     /// How many events the room holds at once.

@@ -1,9 +1,9 @@
-//! How a room ends: every station's seat comes back, and the kernel is taken out of its slot.
+//! How a room ends: every version's seat comes back, and the kernel is taken out of its slot.
 ghost use Rattle.std.specs.Prelude.{◌≡◌, ℕ, ◌+◌, ◌<◌, ◌≤◌, [], length, map};
 ghost use Rattle.nv_calls.specs.Logs.{IsLegal, IsLawful};
 ghost use Rattle.nv_words.specs.Spell.{spell};
 ghost use Rattle.nv_room.specs.declared.view.Role.TheVariants.{Gone as IsGone};
-ghost use Rattle.nv_room.specs.Seats.{stations_of, origin, with_ended};
+ghost use Rattle.nv_room.specs.Seats.{versions_of, origin, with_ended};
 ghost use Rattle.nv_room.specs.Lefts.{LeftsOf, IsEach, Counted, AllTell};
 
 use crate::plays::TakeBack;
@@ -16,7 +16,7 @@ use std::alloc::Global;
 
 type Board<K> = Table<Option<K>, View<K>, Plan<K>, Kept<K>, Global>;
 
-/// What is left of a room: the kernel, and for each station how many events its seat saw.
+/// What is left of a room: the kernel, and for each version how many events its seat saw.
 #[derive(Drop)]
 pub struct Ended<K: SyscallKernel> {
     pub kernel: K,
@@ -38,17 +38,18 @@ fn join_all<K: SyscallKernel>(
     while let Some(one) = left.pop() {
         let Left {
             seat: other,
-            station,
+            station: _,
+            version,
             seen,
         } = one;
-        counts[station as usize] = seen;
+        counts[version as usize] = seen;
         table.shared.join_seat::<TakeBack>(seat, other);
     }
 }
 
 impl<K: SyscallKernel> Room<K> {
-    /// Every station has left. The kernel has the whole history; each station's seen list is a prefix of it,
-    /// what it has read of a further event begins the event that follows, and the spans that the stations led
+    /// Every version's seat has left. The kernel has the whole history; each seat's seen list is a prefix of it,
+    /// what it has read of a further event begins the event that follows, and the spans that the versions led
     /// tile it in order of station. It takes no memory.
     pub fn finish(self, mut left: Vec<Left<K>>) -> Ended<K>
         requires { IsEach self left.items }
@@ -56,11 +57,12 @@ impl<K: SyscallKernel> Room<K> {
         ensures legal { IsLegal (K.start (origin self)) (K.log result.kernel) }
         ensures lawful { IsLawful (K.log result.kernel) }
         ensures left { AllTell (map spell (K.log result.kernel)) result.seen.items left.items }
-        ensures wide { length result.seen.items ≡ stations_of self }
+        ensures wide { length result.seen.items ≡ versions_of self }
     {
         let Room {
             table,
             stations: _,
+            versions: _,
             places: _,
             mut counts,
         } = self;
@@ -69,11 +71,12 @@ impl<K: SyscallKernel> Room<K> {
         };
         let Left {
             mut seat,
-            station,
+            station: _,
+            version,
             seen,
         } = base;
         join_all(&table, &mut seat, &mut counts, left);
-        counts[station as usize] = seen;
+        counts[version as usize] = seen;
         let mut closed = table.close_with(seat);
         let Some(kernel) = closed.take(0) else {
             unreachable!()

@@ -4,7 +4,7 @@ ghost use Rattle.nv_calls.specs.Logs.{live_after};
 ghost use Rattle.nv_words.specs.Spell.{spell};
 ghost use Rattle.nv_room.specs.Owner.{free, closed, owner_word, owner_at, is_free, is_closed};
 ghost use Rattle.nv_room.specs.Steps.{as_leaving, as_lead, as_gone};
-ghost use Rattle.nv_room.specs.Seats.{IsOfRoom, IsLeadOf, IsLeavingOf, IsLeftOf, view, lead_view, leaving_view, left_view, station_of_reader, station_of_lead, station_of_leaving, station_of_left, kernel_of, due_of, origin};
+ghost use Rattle.nv_room.specs.Seats.{IsOfRoom, IsLeadOf, IsLeavingOf, IsLeftOf, view, lead_view, leaving_view, left_view, station_of_reader, version_of_reader, station_of_lead, version_of_lead, station_of_leaving, version_of_leaving, station_of_left, version_of_left, kernel_of, due_of, origin};
 
 use crate::plays::{GiveUp, Leave, Take};
 use crate::room::{Lead, Leaving, Left, Reader, Room, STATIONS};
@@ -18,10 +18,10 @@ const CLOSED: u64 = 2;
 impl<K: SyscallKernel> Lead<K> {
     // The owner word of a room that is free at head.
     fn free_word(&self) -> u64
-        requires { self.now.station < 16 }
-        ensures { result ≡ owner_word free self.now.station self.now.seen }
+        requires { (self.now.station < 16) × (self.now.opened ≤ 16) }
+        ensures { result ≡ owner_word free self.now.station self.now.opened self.now.seen }
     {
-        (self.seen as u64 * 16 + self.station as u64) * 4
+        ((self.seen as u64 * 32 + self.opened as u64) * 16 + self.station as u64) * 4
     }
 }
 
@@ -31,7 +31,7 @@ impl<K: SyscallKernel> Room<K> {
         requires of { IsLeadOf self.now lead }
         requires none_due { due_of lead ≡ false }
         ensures of { IsLeavingOf self.now result }
-        ensures station { station_of_leaving result ≡ station_of_lead lead }
+        ensures station { (station_of_leaving result ≡ station_of_lead lead) × (version_of_leaving result ≡ version_of_lead lead) }
         ensures view { leaving_view result ≡ as_leaving (lead_view lead) (leaving_view result).owner_last }
         ensures given { (is_free (leaving_view result).owner_last ≡ true) × (owner_at (leaving_view result).owner_last ≡ length (lead_view lead).seen) }
         ensures log { (leaving_view result).seen ≡ map spell (K.log (kernel_of lead)) }
@@ -46,7 +46,7 @@ impl<K: SyscallKernel> Room<K> {
         requires none_due { due_of lead ≡ false }
         requires ended { live_after (K.log (kernel_of lead)) ≡ [] }
         ensures of { IsLeavingOf self.now result }
-        ensures station { station_of_leaving result ≡ station_of_lead lead }
+        ensures station { (station_of_leaving result ≡ station_of_lead lead) × (version_of_leaving result ≡ version_of_lead lead) }
         ensures view { leaving_view result ≡ as_leaving (lead_view lead) (leaving_view result).owner_last }
         ensures given { (is_closed (leaving_view result).owner_last ≡ true) × (owner_at (leaving_view result).owner_last ≡ length (lead_view lead).seen) }
         ensures log { (leaving_view result).seen ≡ map spell (K.log (kernel_of lead)) }
@@ -59,9 +59,9 @@ impl<K: SyscallKernel> Room<K> {
     fn give_up(&self, lead: Lead<K>, word: u64) -> Leaving<K>
         requires of { IsLeadOf self.now lead }
         requires none_due { due_of lead ≡ false }
-        requires word { (word ≡ owner_word free lead.station lead.seen) ⊎ ((word ≡ owner_word closed lead.station lead.seen) × (live_after (K.log (kernel_of lead)) ≡ [])) }
+        requires word { (word ≡ owner_word free lead.station lead.opened lead.seen) ⊎ ((word ≡ owner_word closed lead.station lead.opened lead.seen) × (live_after (K.log (kernel_of lead)) ≡ [])) }
         ensures of { IsLeavingOf self.now result }
-        ensures station { station_of_leaving result ≡ station_of_lead lead }
+        ensures station { (station_of_leaving result ≡ station_of_lead lead) × (version_of_leaving result ≡ version_of_lead lead) }
         ensures view { leaving_view result ≡ as_leaving (lead_view lead) word }
         ensures log { (leaving_view result).seen ≡ map spell (K.log (kernel_of lead)) }
     {
@@ -70,6 +70,8 @@ impl<K: SyscallKernel> Room<K> {
             mut seat,
             kernel,
             station,
+            version,
+            opened: _,
             seen,
             wrote: _,
             due: _,
@@ -86,6 +88,7 @@ impl<K: SyscallKernel> Room<K> {
         Leaving {
             seat,
             station,
+            version,
             seen,
         }
     }
@@ -95,7 +98,7 @@ impl<K: SyscallKernel> Room<K> {
         requires of { IsOfRoom self.now reader }
         requires freed { (view reader).freed ≡ Some (length (view reader).seen) }
         ensures of { IsLeadOf self.now result }
-        ensures station { station_of_lead result ≡ station_of_reader reader }
+        ensures station { (station_of_lead result ≡ station_of_reader reader) × (version_of_lead result ≡ version_of_reader reader) }
         ensures view { lead_view result ≡ as_lead (view reader) }
         ensures due { due_of result ≡ false }
         ensures log { map spell (K.log (kernel_of result)) ≡ (view reader).seen }
@@ -104,21 +107,24 @@ impl<K: SyscallKernel> Room<K> {
         let Reader {
             mut seat,
             station,
+            version,
+            opened,
             seen,
             read: _,
             head: _,
             trail,
             spot,
         } = reader;
-        self.table
-            .shared
-            .store::<Take<K>>(&mut seat, OWNER, station as u64 * 4 + HELD);
+        let word = (opened as u64 * 16 + station as u64) * 4 + HELD;
+        self.table.shared.store::<Take<K>>(&mut seat, OWNER, word);
         let inside = self.table.shared.exchange(&mut seat, 0, None);
         let Some(kernel) = inside else { unreachable!() };
         Lead {
             seat,
             kernel,
             station,
+            version,
+            opened,
             seen,
             wrote: 0,
             due: false,
@@ -132,12 +138,13 @@ impl<K: SyscallKernel> Room<K> {
     pub fn leave_step(&self, seat: Leaving<K>) -> Left<K>
         requires of { IsLeavingOf self.now seat }
         ensures of { IsLeftOf self.now result }
-        ensures station { station_of_left result ≡ station_of_leaving seat }
+        ensures station { (station_of_left result ≡ station_of_leaving seat) × (version_of_left result ≡ version_of_leaving seat) }
         ensures view { left_view result ≡ as_gone (leaving_view seat) }
     {
         let Leaving {
             seat: mut inner,
             station,
+            version,
             seen,
         } = seat;
         self.table
@@ -146,6 +153,7 @@ impl<K: SyscallKernel> Room<K> {
         Left {
             seat: inner,
             station,
+            version,
             seen,
         }
     }
@@ -154,12 +162,14 @@ impl<K: SyscallKernel> Room<K> {
     pub fn leave_reader(&self, reader: Reader<K>) -> Left<K>
         requires of { IsOfRoom self.now reader }
         ensures of { IsLeftOf self.now result }
-        ensures station { station_of_left result ≡ station_of_reader reader }
+        ensures station { (station_of_left result ≡ station_of_reader reader) × (version_of_left result ≡ version_of_reader reader) }
         ensures view { left_view result ≡ as_gone (view reader) }
     {
         let Reader {
             mut seat,
             station,
+            version,
+            opened: _,
             seen,
             read: _,
             head: _,
@@ -172,6 +182,7 @@ impl<K: SyscallKernel> Room<K> {
         Left {
             seat,
             station,
+            version,
             seen,
         }
     }

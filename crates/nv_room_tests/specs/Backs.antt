@@ -6,17 +6,17 @@ use Rattle.nv_calls.specs.declared.kernel.SyscallKernel.{Ghosts}
 use Rattle.nv_room.specs.declared.room.Room.{Room}
 use Rattle.nv_room.specs.declared.room.Reader.{Reader}
 use Rattle.nv_room.specs.declared.room.Left.{Left}
-use Rattle.nv_room.specs.Seats.{IsOfRoom, IsLeftOf, view, station_of_reader, station_of_left}
+use Rattle.nv_room.specs.Seats.{IsOfRoom, IsLeftOf, view, version_of_reader, version_of_left}
 
 module _ {K : Type 0} {G : Ghosts K} where
-  -- the readers of the stations from 1 on, in order
+  -- the readers of the versions from 1 on, in order
   abbrev pub InOrder : Room K → List (Reader K G) → Type 0
-  InOrder room rs = (i : ℕ) (r : Reader K G) → get_elem? rs i ≡ some r → IsOfRoom room r × (station_of_reader r ≡ i + 1)
+  InOrder room rs = (i : ℕ) (r : Reader K G) → get_elem? rs i ≡ some r → IsOfRoom room r × (version_of_reader r ≡ i + 1)
 
   -- it has read no word of an event that it has not seen
   abbrev pub IsIdle : Room K → Reader K G → Type 0
   IsIdle room r = IsOfRoom room r × ((view r).read ≡ [])
 
-  -- the seats of the stations from 1 on, which have left, in order
+  -- the seats of the versions from 1 on, which have left, in order
   abbrev pub LeftInOrder : Room K → List (Left K G) → Type 0
-  LeftInOrder room ls = (i : ℕ) (l : Left K G) → get_elem? ls i ≡ some l → IsLeftOf room l × (station_of_left l ≡ i + 1)
+  LeftInOrder room ls = (i : ℕ) (l : Left K G) → get_elem? ls i ≡ some l → IsLeftOf room l × (version_of_left l ≡ i + 1)

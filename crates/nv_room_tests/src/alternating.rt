@@ -4,7 +4,7 @@ ghost use Rattle.nv_calls.specs.Calls.{request, entry};
 ghost use Rattle.nv_calls.specs.Logs.{live_after, made, child_of, IsLegal, IsLawful};
 ghost use Rattle.nv_calls.specs.Shapes.{IsShaped};
 ghost use Rattle.nv_lanes.specs.Lanes.{is_of};
-ghost use Rattle.nv_room.specs.Seats.{IsOfRoom, IsLeadOf, FreshReaders, view, due_of, station_of_lead, station_of_reader};
+ghost use Rattle.nv_room.specs.Seats.{IsOfRoom, IsLeadOf, FreshReaders, view, due_of, version_of_lead, version_of_reader};
 ghost use Rattle.nv_room_tests.specs.Backs.{InOrder};
 ghost use Rattle.nv_room_tests.specs.Pairs.{AreShaped};
 
@@ -75,12 +75,13 @@ pub fn run_pair<R: Threads + Sync, K: SyscallKernel>(
     ensures lawful { IfOk result (λ e. IsLawful (K.log e.kernel)) }
     ensures wide { IfOk result (λ e. length e.seen.items ≡ versions) }
 {
-    let (room, readers, lead) = Room::make(alloc, kernel, versions, places)?;
+    let hands = Vec::new(alloc);
+    let (room, readers, lead) = Room::make(alloc, kernel, versions, places, &hands)?;
     let shared = &room;
     let write = move || -> Lead<K>
-        requires of { IsLeadOf shared.now lead × (due_of lead ≡ false) × (station_of_lead lead ≡ 0) }
+        requires of { IsLeadOf shared.now lead × (due_of lead ≡ false) × (version_of_lead lead ≡ 0) }
         requires pair { AreShaped pair.now × (pair.now.times ≤ 1000) }
-        ensures { IsLeadOf shared.entry.now result × (due_of result ≡ false) × (station_of_lead result ≡ 0) }
+        ensures { IsLeadOf shared.entry.now result × (due_of result ≡ false) × (version_of_lead result ≡ 0) }
     { lead_pair(shared, lead, pair) };
     let read = move || -> Result<Vec<Reader<K>>, AllocError>
         requires { FreshReaders shared.now readers.items × AreShaped pair.now × (pair.now.times ≤ 1000) }
@@ -99,7 +100,7 @@ fn lead_pair<K: SyscallKernel>(room: &Room<K>, mut lead: Lead<K>, pair: &Pair) -
     requires few { pair.now.times ≤ 1000 }
     ensures of { IsLeadOf room.now result }
     ensures due { due_of result ≡ false }
-    ensures station { station_of_lead result ≡ station_of_lead lead }
+    ensures version { version_of_lead result ≡ version_of_lead lead }
 {
     for number in 0..pair.events() {
         let call = pair.call(number);
@@ -170,7 +171,7 @@ fn read_pairs<R: Threads + Sync, K: SyscallKernel>(
 {
     let read = move |reader: Reader<K>| -> Reader<K>
         requires { IsOfRoom room.now reader × ((view reader).read ≡ []) × AreShaped pair.now × (pair.now.times ≤ 1000) }
-        ensures { IsOfRoom room.entry.now result × (station_of_reader result ≡ station_of_reader reader) }
+        ensures { IsOfRoom room.entry.now result × (version_of_reader result ≡ version_of_reader reader) }
     { read_pair(alloc, room, reader, pair) };
     let back = thread::map_vec(rt, readers, &read)?;
     Ok(back)
@@ -188,7 +189,7 @@ fn read_pair<K: SyscallKernel>(
     requires shaped { AreShaped pair.now }
     requires few { pair.now.times ≤ 1000 }
     ensures of { IsOfRoom room.now result }
-    ensures station { station_of_reader result ≡ station_of_reader reader }
+    ensures version { version_of_reader result ≡ version_of_reader reader }
 {
     let Ok(mut buf) = EventBuf::make(alloc) else {
         return reader;

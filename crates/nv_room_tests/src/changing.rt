@@ -4,7 +4,7 @@ ghost use Rattle.std.specs.Bool.{OnTrue};
 ghost use Rattle.nv_calls.specs.Calls.{request, entry};
 ghost use Rattle.nv_calls.specs.Logs.{live_after, IsLegal};
 ghost use Rattle.nv_calls.specs.Shapes.{IsShaped};
-ghost use Rattle.nv_room.specs.Seats.{IsOfRoom, IsLeadOf, IsLeftOf, FreshReaders, view, due_of, kernel_of, origin, station_of_lead, station_of_left, station_of_reader, stations_of};
+ghost use Rattle.nv_room.specs.Seats.{IsOfRoom, IsLeadOf, IsLeftOf, FreshReaders, view, due_of, kernel_of, origin, version_of_lead, version_of_left, version_of_reader, versions_of};
 ghost use Rattle.nv_room_tests.specs.Going.{GoesOn};
 ghost use Rattle.nv_room_tests.specs.Backs.{IsIdle};
 
@@ -33,7 +33,8 @@ pub fn change_leader<K: SyscallKernel>(
     ensures { IfOk result (λ o. IfSome o (λ e. IsLegal (K.start kernel) (K.log e.kernel))) }
 {
     let mut buf = EventBuf::make(alloc)?;
-    let (room, readers, lead) = Room::make(alloc, kernel, 3, 4)?;
+    let hands = Vec::new(alloc);
+    let (room, readers, lead) = Room::make(alloc, kernel, 3, 4, &hands)?;
     let Some((second, mut third)) = two_readers(&room, readers) else {
         return Ok(None);
     };
@@ -54,7 +55,7 @@ fn two_readers<K: SyscallKernel>(
     mut readers: Vec<Reader<K>>,
 ) -> Option<(Reader<K>, Reader<K>)>
     requires { FreshReaders room.now readers.items × (length readers.items ≡ 2) }
-    ensures { IfSome result (λ r. IsIdle room.now r.0 × IsIdle room.now r.1 × (station_of_reader r.0 ≡ 1) × (station_of_reader r.1 ≡ 2)) }
+    ensures { IfSome result (λ r. IsIdle room.now r.0 × IsIdle room.now r.1 × (version_of_reader r.0 ≡ 1) × (version_of_reader r.1 ≡ 2)) }
 {
     let third = readers.pop()?;
     let second = readers.pop()?;
@@ -74,8 +75,8 @@ fn first_leads<K: SyscallKernel>(
     requires first { call.now.tid ≡ 100 }
     requires lives { Contains (live_after (K.log (kernel_of lead))) 100 }
     requires goes_on { GoesOn (request call.now) }
-    ensures left { IfSome result (λ l. IsLeftOf room.now l × (station_of_left l ≡ station_of_lead lead)) }
-    ensures third { IsIdle room.now third.new × (station_of_reader third.new ≡ station_of_reader third.old) }
+    ensures left { IfSome result (λ l. IsLeftOf room.now l × (version_of_left l ≡ version_of_lead lead)) }
+    ensures third { IsIdle room.now third.new × (version_of_reader third.new ≡ version_of_reader third.old) }
 {
     if !publish_some(room, &mut lead, call, 3, 1) {
         return None;
@@ -102,13 +103,13 @@ fn second_leads<K: SyscallKernel>(
     requires first { (call.now.tid ≡ 100) × (last.now.tid ≡ 100) }
     requires goes_on { GoesOn (request call.now) }
     requires ends { last.now.nr ≡ 94 }
-    ensures left { IfSome result (λ l. IsLeftOf room.now l × (station_of_left l ≡ station_of_reader second)) }
-    ensures third { IsIdle room.now third.new × (station_of_reader third.new ≡ station_of_reader third.old) }
+    ensures left { IfSome result (λ l. IsLeftOf room.now l × (version_of_left l ≡ version_of_reader second)) }
+    ensures third { IsIdle room.now third.new × (version_of_reader third.new ≡ version_of_reader third.old) }
 {
     if !read_some(room, &mut second, buf, 3) {
         return None;
     }
-    let mut lead = take_over(room, second, buf)?;
+    let mut lead = take_over(room, second, buf, 3)?;
     if !goes_on(lead.kernel().history()) || !publish_some(room, &mut lead, call, 1, 1) {
         return None;
     }
@@ -125,7 +126,7 @@ fn reads_to_end<K: SyscallKernel>(
     buf: &mut EventBuf,
 ) -> Option<Left<K>>
     requires { IsIdle room.now third }
-    ensures { IfSome result (λ l. IsLeftOf room.now l × (station_of_left l ≡ station_of_reader third)) }
+    ensures { IfSome result (λ l. IsLeftOf room.now l × (version_of_left l ≡ version_of_reader third)) }
 {
     if !read_some(room, &mut third, buf, 1) {
         return None;
@@ -152,7 +153,7 @@ pub(crate) fn publish_some<K: SyscallKernel>(
     requires goes_on { GoesOn (request call.now) }
     ensures of { IsLeadOf room.now lead.new }
     ensures due { due_of lead.new ≡ false }
-    ensures station { station_of_lead lead.new ≡ station_of_lead lead.old }
+    ensures version { version_of_lead lead.new ≡ version_of_lead lead.old }
     ensures lives { OnTrue result (Contains (live_after (K.log (kernel_of lead.new))) 100) }
 {
     for _event in 0..count {
@@ -164,7 +165,7 @@ pub(crate) fn publish_some<K: SyscallKernel>(
 }
 
 // Sees so many events, as long as they are there.
-fn read_some<K: SyscallKernel>(
+pub(crate) fn read_some<K: SyscallKernel>(
     room: &Room<K>,
     reader: &mut Reader<K>,
     buf: &mut EventBuf,
@@ -174,7 +175,7 @@ fn read_some<K: SyscallKernel>(
     requires none_read { (view reader.old).read ≡ [] }
     ensures of { IsOfRoom room.now reader.new }
     ensures none_read { (view reader.new).read ≡ [] }
-    ensures station { station_of_reader reader.new ≡ station_of_reader reader.old }
+    ensures version { version_of_reader reader.new ≡ version_of_reader reader.old }
 {
     for _event in 0..count {
         match poll_merged(reader, room, buf) {
@@ -185,28 +186,48 @@ fn read_some<K: SyscallKernel>(
     true
 }
 
-// The room is free after the three events, and no lower station is left.
-fn take_over<K: SyscallKernel>(
+// The room is free after so many events, and no lower station is left.
+pub(crate) fn take_over<K: SyscallKernel>(
     room: &Room<K>,
     mut reader: Reader<K>,
     buf: &mut EventBuf,
+    events: u32,
 ) -> Option<Lead<K>>
     requires of { IsOfRoom room.now reader }
     requires none_read { (view reader).read ≡ [] }
     ensures of { IfSome result (λ l. IsLeadOf room.now l) }
     ensures due { IfSome result (λ l. due_of l ≡ false) }
-    ensures station { IfSome result (λ l. station_of_lead l ≡ station_of_reader reader) }
+    ensures version { IfSome result (λ l. version_of_lead l ≡ version_of_reader reader) }
 {
-    let Polled::Free(3) = poll_merged(&mut reader, room, buf) else {
+    if !is_free(room, &mut reader, buf, events) {
         return None;
-    };
+    }
     let Lower::AllGone = lower_gone(&mut reader, room) else {
         return None;
     };
-    let Polled::Free(3) = poll_merged(&mut reader, room, buf) else {
-        return None;
-    };
-    Some(take(reader, room))
+    match poll_merged(&mut reader, room, buf) {
+        Polled::Free(_) => Some(take(reader, room)),
+        _ => None,
+    }
+}
+
+// No station leads after so many events.
+pub(crate) fn is_free<K: SyscallKernel>(
+    room: &Room<K>,
+    reader: &mut Reader<K>,
+    buf: &mut EventBuf,
+    events: u32,
+) -> bool
+    requires of { IsOfRoom room.now reader.old }
+    requires none_read { (view reader.old).read ≡ [] }
+    ensures of { IsOfRoom room.now reader.new }
+    ensures version { version_of_reader reader.new ≡ version_of_reader reader.old }
+    ensures none_read { OnTrue result ((view reader.new).read ≡ []) }
+{
+    match poll_merged(reader, room, buf) {
+        Polled::Free(n) => n == events,
+        _ => false,
+    }
 }
 
 // No thread has ended.
@@ -222,14 +243,18 @@ pub(crate) fn goes_on(history: &[Event]) -> bool
 }
 
 // Publishes the last call, and closes.
-fn end_lead<K: SyscallKernel>(room: &Room<K>, mut lead: Lead<K>, last: &Call) -> Option<Left<K>>
+pub(crate) fn end_lead<K: SyscallKernel>(
+    room: &Room<K>,
+    mut lead: Lead<K>,
+    last: &Call,
+) -> Option<Left<K>>
     requires of { IsLeadOf room.now lead }
     requires none_due { due_of lead ≡ false }
     requires shaped { IsShaped (request last.now) }
     requires lives { Contains (live_after (K.log (kernel_of lead))) last.now.tid }
     requires ends { last.now.nr ≡ 94 }
     ensures of { IfSome result (λ l. IsLeftOf room.now l) }
-    ensures station { IfSome result (λ l. station_of_left l ≡ station_of_lead lead) }
+    ensures version { IfSome result (λ l. version_of_left l ≡ version_of_lead lead) }
 {
     if !publish_one(room, &mut lead, last, 1) {
         return None;
@@ -245,7 +270,7 @@ fn end_three<K: SyscallKernel>(
     third: Left<K>,
 ) -> Result<Ended<K>, AllocError>
     requires of { IsLeftOf room first × IsLeftOf room second × IsLeftOf room third }
-    requires stations { (station_of_left first ≡ 0) × (station_of_left second ≡ 1) × (station_of_left third ≡ 2) × (stations_of room ≡ 3) }
+    requires versions_are { (version_of_left first ≡ 0) × (version_of_left second ≡ 1) × (version_of_left third ≡ 2) × (versions_of room ≡ 3) }
     ensures legal { IfOk result (λ e. IsLegal (K.start (origin room)) (K.log e.kernel)) }
 {
     let mut left = Vec::with_capacity(alloc, 3)?;

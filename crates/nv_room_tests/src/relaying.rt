@@ -4,7 +4,7 @@ ghost use Rattle.std.specs.Bool.{OnTrue};
 ghost use Rattle.nv_calls.specs.Calls.{request};
 ghost use Rattle.nv_calls.specs.Logs.{IsLegal, IsLawful};
 ghost use Rattle.nv_calls.specs.Shapes.{IsShaped};
-ghost use Rattle.nv_room.specs.Seats.{IsOfRoom, IsLeadOf, IsLeftOf, FreshReaders, view, due_of, origin, station_of_lead, station_of_left, station_of_reader, stations_of};
+ghost use Rattle.nv_room.specs.Seats.{IsOfRoom, IsLeadOf, IsLeftOf, FreshReaders, view, due_of, origin, version_of_lead, version_of_left, version_of_reader, versions_of};
 ghost use Rattle.nv_room_tests.specs.Going.{GoesOn};
 ghost use Rattle.nv_room_tests.specs.Backs.{IsIdle, LeftInOrder};
 
@@ -51,13 +51,14 @@ pub fn run_relay<R: Threads + Sync, K: SyscallKernel>(
     ensures lawful { IfOk result (λ e. IsLawful (K.log e.kernel)) }
     ensures wide { IfOk result (λ e. length e.seen.items ≡ versions) }
 {
-    let (room, readers, lead) = Room::make(alloc, kernel, versions, places)?;
+    let hands = Vec::new(alloc);
+    let (room, readers, lead) = Room::make(alloc, kernel, versions, places, &hands)?;
     let shared = &room;
     let head = move || -> Left<K>
-        requires of { IsLeadOf shared.now lead × (due_of lead ≡ false) × (station_of_lead lead ≡ 0) }
+        requires of { IsLeadOf shared.now lead × (due_of lead ≡ false) × (version_of_lead lead ≡ 0) }
         requires shaped { IsShaped (request script.now.call) × IsShaped (request script.now.last) }
         requires calls { (script.now.call.tid ≡ 100) × (script.now.last.tid ≡ 100) × GoesOn (request script.now.call) × (script.now.last.nr ≡ 94) }
-        ensures { IsLeftOf shared.entry.now result × (station_of_left result ≡ 0) }
+        ensures { IsLeftOf shared.entry.now result × (version_of_left result ≡ 0) }
     { lead_share(shared, lead, script) };
     let tail = move || -> Result<Vec<Left<K>>, AllocError>
         requires fresh { FreshReaders shared.now readers.items }
@@ -75,12 +76,12 @@ fn end_all<K: SyscallKernel>(
     first: Left<K>,
     mut others: Vec<Left<K>>,
 ) -> Result<Ended<K>, AllocError>
-    requires first { IsLeftOf room first × (station_of_left first ≡ 0) }
-    requires others { LeftInOrder room others.items × (length others.items + 1 ≡ stations_of room) }
+    requires first { IsLeftOf room first × (version_of_left first ≡ 0) }
+    requires others { LeftInOrder room others.items × (length others.items + 1 ≡ versions_of room) }
     ensures start { IfOk result (λ e. K.start e.kernel ≡ K.start (origin room)) }
     ensures legal { IfOk result (λ e. IsLegal (K.start (origin room)) (K.log e.kernel)) }
     ensures lawful { IfOk result (λ e. IsLawful (K.log e.kernel)) }
-    ensures wide { IfOk result (λ e. length e.seen.items ≡ stations_of room) }
+    ensures wide { IfOk result (λ e. length e.seen.items ≡ versions_of room) }
 {
     others.push(first)?;
     Ok(room.finish(others))
@@ -102,7 +103,7 @@ fn follow_each<R: Threads + Sync, K: SyscallKernel>(
 {
     let station = move |reader: Reader<K>| -> Left<K>
         requires { IsIdle room.now reader × (IsShaped (request script.now.call) × IsShaped (request script.now.last)) × ((script.now.call.tid ≡ 100) × (script.now.last.tid ≡ 100) × GoesOn (request script.now.call) × (script.now.last.nr ≡ 94)) }
-        ensures { IsLeftOf room.entry.now result × (station_of_left result ≡ station_of_reader reader) }
+        ensures { IsLeftOf room.entry.now result × (version_of_left result ≡ version_of_reader reader) }
     { follow(alloc, room, reader, script) };
     let back = thread::map_vec(rt, readers, &station)?;
     Ok(back)
@@ -119,7 +120,7 @@ fn follow<K: SyscallKernel>(
     requires shaped { IsShaped (request script.now.call) × IsShaped (request script.now.last) }
     requires calls { (script.now.call.tid ≡ 100) × (script.now.last.tid ≡ 100) × GoesOn (request script.now.call) × (script.now.last.nr ≡ 94) }
     ensures of { IsLeftOf room.now result }
-    ensures station { station_of_left result ≡ station_of_reader reader }
+    ensures version { version_of_left result ≡ version_of_reader reader }
 {
     let Ok(mut buf) = EventBuf::make(alloc) else {
         return leave(reader, room);
@@ -144,7 +145,7 @@ fn follow<K: SyscallKernel>(
 fn may_take<K: SyscallKernel>(room: &Room<K>, reader: &mut Reader<K>, buf: &mut EventBuf) -> bool
     requires { IsIdle room.now reader.old }
     ensures of { IsIdle room.now reader.new }
-    ensures station { station_of_reader reader.new ≡ station_of_reader reader.old }
+    ensures version { version_of_reader reader.new ≡ version_of_reader reader.old }
     ensures freed { OnTrue result ((view reader.new).freed ≡ Some (length (view reader.new).seen)) }
 {
     let Lower::AllGone = lower_gone(reader, room) else {
@@ -167,9 +168,9 @@ fn lead_share<K: SyscallKernel>(room: &Room<K>, mut lead: Lead<K>, script: &Rela
     requires shaped { IsShaped (request script.now.call) × IsShaped (request script.now.last) }
     requires calls { (script.now.call.tid ≡ 100) × (script.now.last.tid ≡ 100) × GoesOn (request script.now.call) × (script.now.last.nr ≡ 94) }
     ensures of { IsLeftOf room.now result }
-    ensures station { station_of_left result ≡ station_of_lead lead }
+    ensures version { version_of_left result ≡ version_of_lead lead }
 {
-    let is_last = lead.station() + 1 == room.stations();
+    let is_last = lead.version() + 1 == room.versions();
     if !goes_on(lead.kernel().history()) {
         return retire(lead, room);
     }

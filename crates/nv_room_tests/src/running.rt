@@ -5,7 +5,7 @@ ghost use Rattle.nv_calls.specs.Calls.{request};
 ghost use Rattle.nv_calls.specs.Logs.{served, live_after, IsLegal, IsLawful};
 ghost use Rattle.nv_calls.specs.Shapes.{IsShaped};
 ghost use Rattle.nv_words.specs.Spell.{IsWhole};
-ghost use Rattle.nv_room.specs.Seats.{IsOfRoom, IsLeadOf, IsFresh, FreshReaders, view, due_of, kernel_of, origin, station_of_lead, station_of_reader, stations_of};
+ghost use Rattle.nv_room.specs.Seats.{IsOfRoom, IsLeadOf, IsFresh, FreshReaders, view, due_of, kernel_of, origin, version_of_lead, version_of_reader, versions_of};
 ghost use Rattle.nv_room_tests.specs.Going.{GoesOn};
 ghost use Rattle.nv_room_tests.specs.Backs.{InOrder};
 
@@ -50,13 +50,14 @@ pub fn run<R: Threads + Sync, K: SyscallKernel>(
     ensures lawful { IfOk result (λ e. IsLawful (K.log e.kernel)) }
     ensures wide { IfOk result (λ e. length e.seen.items ≡ versions) }
 {
-    let (room, readers, lead) = Room::make(alloc, kernel, versions, places)?;
+    let hands = Vec::new(alloc);
+    let (room, readers, lead) = Room::make(alloc, kernel, versions, places, &hands)?;
     let shared = &room;
     let write = move || -> Lead<K>
-        requires of { IsLeadOf shared.now lead × (due_of lead ≡ false) × (station_of_lead lead ≡ 0) }
+        requires of { IsLeadOf shared.now lead × (due_of lead ≡ false) × (version_of_lead lead ≡ 0) }
         requires shaped { IsShaped (request script.now.call) × IsShaped (request script.now.last) }
         requires lives { Contains (live_after (K.log (kernel_of lead))) 100 × (script.now.call.tid ≡ 100) × (script.now.last.tid ≡ 100) × GoesOn (request script.now.call) }
-        ensures { IsLeadOf shared.entry.now result × (due_of result ≡ false) × (station_of_lead result ≡ 0) }
+        ensures { IsLeadOf shared.entry.now result × (due_of result ≡ false) × (version_of_lead result ≡ 0) }
     { lead_all(shared, lead, script) };
     let read = move || -> Result<Vec<Reader<K>>, AllocError>
         requires { FreshReaders shared.now readers.items × (script.now.events ≤ 131072) }
@@ -74,13 +75,13 @@ pub(crate) fn end<K: SyscallKernel>(
     lead: Lead<K>,
     mut readers: Vec<Reader<K>>,
 ) -> Result<Ended<K>, AllocError>
-    requires lead { IsLeadOf room lead × (due_of lead ≡ false) × (station_of_lead lead ≡ 0) }
+    requires lead { IsLeadOf room lead × (due_of lead ≡ false) × (version_of_lead lead ≡ 0) }
     requires readers { InOrder room readers.items }
-    requires all { length readers.items + 1 ≡ stations_of room }
+    requires all { length readers.items + 1 ≡ versions_of room }
     ensures start { IfOk result (λ e. K.start e.kernel ≡ K.start (origin room)) }
     ensures legal { IfOk result (λ e. IsLegal (K.start (origin room)) (K.log e.kernel)) }
     ensures lawful { IfOk result (λ e. IsLawful (K.log e.kernel)) }
-    ensures wide { IfOk result (λ e. length e.seen.items ≡ stations_of room) }
+    ensures wide { IfOk result (λ e. length e.seen.items ≡ versions_of room) }
 {
     let mut left = Vec::with_capacity(alloc, readers.len() + 1)?;
     while let Some(reader) = readers.pop() {
@@ -100,7 +101,7 @@ pub fn lead_all<K: SyscallKernel>(room: &Room<K>, mut lead: Lead<K>, script: &Sc
     requires goes_on { GoesOn (request script.now.call) }
     ensures of { IsLeadOf room.now result }
     ensures due { due_of result ≡ false }
-    ensures station { station_of_lead result ≡ station_of_lead lead }
+    ensures version { version_of_lead result ≡ version_of_lead lead }
 {
     for _event in 1..script.events {
         if !publish_one(room, &mut lead, &script.call, script.most) {
@@ -124,7 +125,7 @@ pub(crate) fn publish_one<K: SyscallKernel>(
     requires lives { Contains (live_after (K.log (kernel_of lead.old))) call.now.tid }
     ensures of { IsLeadOf room.now lead.new }
     ensures due { due_of lead.new ≡ false }
-    ensures station { station_of_lead lead.new ≡ station_of_lead lead.old }
+    ensures version { version_of_lead lead.new ≡ version_of_lead lead.old }
     ensures log { OnTrue result (K.log (kernel_of lead.new) ≡ K.log (kernel_of lead.old) ++ served (K.start (kernel_of lead.old)) (K.log (kernel_of lead.old)) (request call.now) ∷ []) }
 {
     if lead.seen() >= 131072 || lead.reserve(call).is_err() {
@@ -157,7 +158,7 @@ fn read_each<R: Threads + Sync, K: SyscallKernel>(
 {
     let read = move |reader: Reader<K>| -> Reader<K>
         requires { IsOfRoom room.now reader × ((view reader).read ≡ []) × (script.now.events ≤ 131072) }
-        ensures { IsOfRoom room.entry.now result × (station_of_reader result ≡ station_of_reader reader) }
+        ensures { IsOfRoom room.entry.now result × (version_of_reader result ≡ version_of_reader reader) }
     { read_all(alloc, room, reader, script) };
     let back = thread::map_vec(rt, readers, &read)?;
     Ok(back)
@@ -174,7 +175,7 @@ pub fn read_all<K: SyscallKernel>(
     requires none_read { (view reader).read ≡ [] }
     requires few { script.now.events ≤ 131072 }
     ensures of { IsOfRoom room.now result }
-    ensures station { station_of_reader result ≡ station_of_reader reader }
+    ensures version { version_of_reader result ≡ version_of_reader reader }
 {
     let Ok(mut buf) = EventBuf::make(alloc) else {
         return reader;
@@ -202,7 +203,7 @@ pub(crate) fn wait_for_event<K: SyscallKernel>(
     requires of { IsOfRoom room.now reader.old }
     requires none_read { (view reader.old).read ≡ [] }
     ensures of { IsOfRoom room.now reader.new }
-    ensures station { station_of_reader reader.new ≡ station_of_reader reader.old }
+    ensures version { version_of_reader reader.new ≡ version_of_reader reader.old }
     ensures whole { OnTrue result (IsWhole buf.new × IsWhole (view reader.new).read) }
 {
     while *idle > 0 {

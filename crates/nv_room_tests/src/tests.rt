@@ -3,6 +3,7 @@ ghost use Rattle.std.specs.Prelude.{◌<◌, ◌≤◌};
 use crate::alternating::{Pair, run_pair};
 use crate::calls::{clone, exit_group, getuid, kernel, of_thread, write};
 use crate::changing::change_leader;
+use crate::handing::hand_over;
 use crate::relaying::{Relay, run_relay};
 use crate::running::{Script, run};
 use std::alloc::Global;
@@ -78,7 +79,7 @@ fn seven_readers(rt: HostRuntime) {
     all_see_all(&rt, rt.alloc(), 8, 1024);
 }
 
-// Station 0 retires after three events, station 1 takes the lead and closes after five, and station 2 reads all.
+// Version 0 retires after three events, version 1 takes the lead and closes after five, and version 2 reads all.
 #[test]
 fn promote(rt: HostRuntime) {
     let alloc = rt.alloc();
@@ -95,7 +96,21 @@ fn promote(rt: HostRuntime) {
     }
 }
 
-// Eight stations over four places: each leads for three events and retires, and the last closes after exit_group.
+// Version 0 leads one event, hands over and reads on; version 1 leads the other two, of which the last is exit_group.
+#[test]
+fn hands_over_at_a_planned_length(rt: HostRuntime) {
+    let alloc = rt.alloc();
+    let call = getuid(alloc).expect(&rt, "memory");
+    let last = exit_group(alloc).expect(&rt, "memory");
+    let kernel = kernel(alloc).expect(&rt, "memory");
+    let ended = hand_over(alloc, kernel, &call, &last).expect(&rt, "memory");
+    match ended {
+        Some(ended) => assert_eq!(rt; ended.seen.as_slice(), [3, 3].as_slice()),
+        None => assert!(rt; false),
+    }
+}
+
+// Eight versions over four places: each leads for three events and retires, and the last closes after exit_group.
 #[test]
 fn each_leads_in_its_turn(rt: HostRuntime) {
     let alloc = rt.alloc();

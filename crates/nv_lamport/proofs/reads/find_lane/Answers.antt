@@ -9,7 +9,7 @@ use Rattle.nv_lamport.proofs.reads.find_lane.Goals as goal
 
 pub loop-lane-init : goal.loop-lane-init
 loop-lane-init g c = record {
-  same = (refl, refl, refl);
+  same = (refl, refl, refl, refl);
   of = c.requires.of;
   kept = keeps_itself _;
   ahead = c.requires.published;
@@ -20,7 +20,7 @@ loop-lane-init g c = record {
 
 pub loop-lane-preserved : goal.loop-lane-preserved
 loop-lane-preserved g c = let i = c.loop-lane.invariant in let e = c.probe.ensures in let old = view c.loop-lane.reader in let v = e.miss c.if-probe.false in let lane : ℕ = c.loop-lane.lane in record {
-  same = (e.same.0 ∙ i.same.0, e.same.1 ∙ i.same.1, e.same.2 ∙ i.same.2);
+  same = (e.same.0 ∙ i.same.0, e.same.1 ∙ i.same.1, e.same.2 ∙ i.same.2, e.same.3 ∙ i.same.3);
   of = e.of;
   kept = keeps_missing _ _ lane _ v i.kept;
   ahead = subst (λ w. length w.seen < w.head_last) (sym v) i.ahead;

@@ -13,7 +13,7 @@ loop-i-preserved g c = let i = c.loop-i.invariant in let e = c.read_word-word.en
     let read : (view c.read_word-word.new.reader).read ≡ c.put.new.self = ap (λ w. w.read) v ∙ ap (λ (z : List ℕ). z ++ c.read_word-word.result ∷ []) i.read ∙ sym now in
     let at : c.loop-i.i + 1 ≡ length c.put.new.self = (let a = ap length now in let b = length-append c.loop-i.buf (c.read_word-word.result ∷ []) in let d = i.at in omega arith) in
     record {
-      same = (e.same.0 ∙ i.same.0, e.same.1 ∙ i.same.1, e.same.2 ∙ i.same.2);
+      same = (e.same.0 ∙ i.same.0, e.same.1 ∙ i.same.1, e.same.2 ∙ i.same.2, e.same.3 ∙ i.same.3);
       of = e.of;
       kept = keeps_reading _ _ c.read_word-word.result _ v i.kept;
       ahead = subst (λ w. length w.seen < w.head_last) (sym v) i.ahead;

@@ -13,7 +13,7 @@ loop-station-preserved-then-station-own g c =
     let log : Log = (lead_view c.args.lead.now).seen in
     let places : ℕ = c.args.room.now.places in
     let station : ℕ = c.loop-station.station in
-    let near : station < length old.floors = (let t = c.loop-station-test.true in let all = c.stations-station-end.ensures.value in let wide = i.of.3 in omega arith) in
+    let near : station < length old.floors = (let t = c.loop-station-test.true in let all = c.opened-station-end.ensures.view in let wide = i.of.3 in let fit = c.requires.5 in omega arith) in
     record {
       of = i.of;
       same = i.same;
@@ -40,7 +40,7 @@ loop-station-preserved g c =
     let log : Log = (lead_view c.args.lead.now).seen in
     let places : ℕ = c.args.room.now.places in
     let station : ℕ = c.loop-station.station in
-    let near : station < length old.floors = (let t = c.loop-station-test.true in let all = c.stations-station-end.ensures.value in let wide = i.of.3 in omega arith) in
+    let near : station < length old.floors = (let t = c.loop-station-test.true in let all = c.opened-station-end.ensures.view in let wide = i.of.3 in let fit = c.requires.5 in omega arith) in
     let few : length log ≤ 131072 = (let a = c.args.lead.now.few.0 in let b = c.args.lead.now.seen_is in omega arith) in
     let pos : 0 < places = (let a = c.args.room.now.few.2 in omega arith) in
     let same : (lead_view c.look_cursor.new.lead).seen ≡ log = ap (λ w. w.seen) v ∙ i.seen in
@@ -50,7 +50,7 @@ loop-station-preserved g c =
     ] in
     record {
       of = e.of;
-      same = (e.same.0 ∙ i.same.0, e.same.1 ∙ i.same.1, e.same.2 ∙ i.same.2);
+      same = (e.same.0 ∙ i.same.0, e.same.1 ∙ i.same.1, e.same.2 ∙ i.same.2, e.same.3 ∙ i.same.3, e.same.4 ∙ i.same.4);
       due = e.due ∙ i.due;
       kernel = e.kernel ∙ i.kernel;
       seen = same;
@@ -66,5 +66,6 @@ returns-clause-placed g c = λ s words other near short.
     let i = c.loop-station.invariant in
     let own = c.station-own.ensures in
     let over = c.loop-station-test.false in
-    let all = c.stations-station-end.ensures.value in
+    let all = c.opened-station-end.ensures.value in
+    let open' = i.same.4 in
     subst (λ (z : Log). Fits c.args.room.now.places z words (get_or (lead_view c.loop-station.lead).floors s 0)) (sym i.seen) (i.ready s (λ e. other (e ∙ own ∙ sym i.same.2)) (omega arith) words short)

@@ -68,7 +68,7 @@ write_word-requires-clause-word g c κs within =
     subst (λ (z : List ℕ). slice_get z c.loop-i.i ≡ Some c.word-next.result) (sym is) (slice_get-get_or (spell (entry c.index-history-at-in-loop-i.result)) c.loop-i.i 0 (omega arith) ∙ ap Some (sym c.word-next.ensures))
 
 pub write_word-requires-clause-ready : goal.write_word-requires-clause-ready
-write_word-requires-clause-ready g c κs within = let i = c.loop-i.invariant in ready_still c.args.room.now c.args.lead.now c.loop-i.lead i.seen i.floors i.same.2 c.requires.placed
+write_word-requires-clause-ready g c κs within = let i = c.loop-i.invariant in ready_still c.args.room.now c.args.lead.now c.loop-i.lead i.seen i.floors i.same.2 i.same.4 c.requires.placed
 
 pub loop-i-preserved : goal.loop-i-preserved
 loop-i-preserved g c =
@@ -84,7 +84,7 @@ loop-i-preserved g c =
     let t = c.loop-i-test.true in
     record {
       of = w.of;
-      same = (w.same.0 ∙ i.same.0, w.same.1 ∙ i.same.1, w.same.2 ∙ i.same.2);
+      same = (w.same.0 ∙ i.same.0, w.same.1 ∙ i.same.1, w.same.2 ∙ i.same.2, w.same.3 ∙ i.same.3, w.same.4 ∙ i.same.4);
       due = w.due ∙ i.due;
       kernel = w.kernel ∙ i.kernel;
       seen = ap (λ v. v.seen) w.view ∙ i.seen;

@@ -6,7 +6,7 @@ pub join-lead-requires-after_bounds : goal.join-lead-requires-after_bounds
 join-lead-requires-after_bounds g c κs within =
     let made = c.in_ok-room.ensures.lead in
     let of = made.of in
-    let station = made.station in
+    let version = made.version in
     let due = made.due in
     let shaped = c.requires.shaped in
     let few = c.requires.few in

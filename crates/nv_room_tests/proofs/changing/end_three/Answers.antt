@@ -6,7 +6,7 @@ use Rattle.nv_room_tests.proofs.changing.end_three.Goals as goal
 pub finish-requires-after_bounds : goal.finish-requires-after_bounds
 finish-requires-after_bounds g c κs within =
     let room = c.args.room in
-    let s = c.requires.stations in
+    let s = c.requires.versions_are in
     let o = c.requires.of in
     let a = s.0 in
     let b = s.1 in

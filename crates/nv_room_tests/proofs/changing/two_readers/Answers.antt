@@ -15,6 +15,6 @@ returns g c =
     let two = c.requires.1 in
     let long = ap length is ∙ length-append some (c.in_ok-third.third ∷ []) in
     let long' = ap length is' ∙ length-append few (c.in_ok-second.second ∷ []) in
-    let station = a.1.1 in
-    let station' = b.1.1 in
-    ((b.1.0, ap (λ v. v.read) b.1.2), (a.1.0, ap (λ v. v.read) a.1.2), (omega arith), (omega arith))
+    let version = a.1.2 in
+    let station' = b.1.2 in
+    ((b.1.0, ap (λ v. v.read) b.1.3), (a.1.0, ap (λ v. v.read) a.1.3), (omega arith), (omega arith))

@@ -1,5 +1,5 @@
 use Rattle.std.proofs.Common.{rules, arith, ap, sym, subst, ◌≡◌, ◌+◌, ◌∙◌, [], ◌∷◌, ◌++◌, length, length-append}
-use Rattle.nv_room.specs.Seats.{station_of_left}
+use Rattle.nv_room.specs.Seats.{version_of_left}
 use Rattle.nv_room_tests.proofs.Orders.{Down, down_more, order_less, all_left}
 use Rattle.nv_room_tests.proofs.running.end.Goals as goal
 
@@ -17,7 +17,7 @@ loop-reader-preserved g c =
     let d = ap length pushed in
     let e = length-append c.loop-reader.left.items (c.leave.result ∷ []) in
     let long = i.long in
-    let station : station_of_left c.leave.result ≡ length c.pop.new.self.items + 1 = c.leave.ensures.station ∙ less.2 in
+    let version : version_of_left c.leave.result ≡ length c.pop.new.self.items + 1 = c.leave.ensures.station.1 ∙ less.2 in
     record {
       rest = less.0;
       long = omega arith;
@@ -32,5 +32,5 @@ finish-requires-after_bounds g c κs within =
     let long = i.long in
     let d = ap length pushed in
     let e = length-append c.loop-reader.left.items (c.retire.result ∷ []) in
-    let station : station_of_left c.retire.result ≡ 0 = c.retire.ensures.station ∙ c.requires.lead.2 in
+    let version : version_of_left c.retire.result ≡ 0 = c.retire.ensures.station.1 ∙ c.requires.lead.2 in
     all_left c.args.room c.push-2.new.self.items (subst (Down c.args.room) (sym pushed) (down_more c.args.room c.loop-reader.left.items c.retire.result i.down c.retire.ensures.of (omega arith))) (omega arith)

@@ -1,5 +1,5 @@
 use Rattle.std.proofs.Common.{◌≡◌, ◌+◌, length, vec_len}
-use Rattle.nv_room.specs.Seats.{stations_of}
+use Rattle.nv_room.specs.Seats.{versions_of}
 use Rattle.nv_room_tests.specs.Backs.{InOrder}
 use Rattle.nv_room_tests.proofs.Orders.{Down}
 use Rattle.nv_room_tests.proofs.running.end.Given as goal
@@ -7,7 +7,7 @@ use Rattle.nv_room_tests.proofs.running.end.Given as goal
 abbrev pub invariant-loop-reader : goal.invariant-loop-reader
 invariant-loop-reader g l = record {
   rest : InOrder l.room l.readers.items;
-  long : length l.readers.items + length l.left.items + 1 ≡ stations_of l.room;
+  long : length l.readers.items + length l.left.items + 1 ≡ versions_of l.room;
   down : Down l.room l.left.items;
 }
 

@@ -1,4 +1,4 @@
-use Rattle.std.proofs.Common.{rules, arith, sym, subst, ap, le_refl, ◌∙◌, ◌<◌, ◌≤◌, ℕ, length}
+use Rattle.std.proofs.Common.{rules, arith, sym, subst, ap, ◌∙◌, ◌<◌, ◌≤◌, ℕ, length}
 use Rattle.nv_room.specs.Kept.{HasNext}
 use Rattle.nv_room.specs.Trails.{Trails, NotedAt}
 use Rattle.nv_room.proofs.Placement.{header_inside}
@@ -13,6 +13,8 @@ invariant_of-reader g c = let r = c.args.reader.now in let e = c.load-word.ensur
   role = ap (λ m. m.0.role) e ∙ r.role;
   free = ap (λ m. m.1) e ∙ r.free;
   station_is = ap (λ m. m.0.station) e ∙ r.station_is;
+  version_is = ap (λ m. m.0.version) e ∙ r.version_is;
+  opened_is = ap (λ m. m.0.opened) e;
   seen_is = ap (λ m. length m.0.seen) e ∙ r.seen_is;
   read_is = ap (λ m. length m.0.read) e ∙ r.read_is;
   head_is = subst (λ m. r.head ≤ m.0.head_last) (sym e) r.head_is;

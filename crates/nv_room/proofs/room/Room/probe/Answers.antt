@@ -1,4 +1,4 @@
-use Rattle.std.proofs.Common.{rules, arith, sym, ap, ◌∙◌, ◌+◌, ◌<◌, ◌≤◌, ◌≡◌, ◌≢◌, ℕ, subst, refl, length, true, false}
+use Rattle.std.proofs.Common.{rules, arith, sym, ap, ◌∙◌, ◌<◌, ◌≤◌, ◌≡◌, ℕ, subst, refl, length}
 use Rattle.std.proofs.lemmas.Bool.{eqb-false}
 use Rattle.std.specs.Prelude.{◌==◌}
 use Rattle.nv_words.specs.Spell.{low}
@@ -38,6 +38,8 @@ invariant_of-reader g c = let r = c.args.reader.now in let v = r.seat.me.0 in le
       role = ap (λ m. m.0.role) e ∙ probed_same lane x v (λ w. w.role) refl refl ∙ r.role;
       free = ap (λ m. m.1) e ∙ r.free;
       station_is = ap (λ m. m.0.station) e ∙ probed_same lane x v (λ w. w.station) refl refl ∙ r.station_is;
+      version_is = ap (λ m. m.0.version) e ∙ probed_same lane x v (λ w. w.version) refl refl ∙ r.version_is;
+      opened_is = ap (λ m. m.0.opened) e ∙ probed_same lane x v (λ w. w.opened) refl refl ∙ r.opened_is;
       seen_is = ap (λ m. length m.0.seen) e ∙ probed_same lane x v (λ w. length w.seen) refl refl ∙ r.seen_is;
       read_is = ap (λ m. length m.0.read) e ∙ probed_same lane x v (λ w. length w.read) refl refl ∙ r.read_is;
       head_is = subst (λ m. r.head ≤ m.0.head_last) (sym e) (subst (λ (z : ℕ). r.head ≤ z) (sym (probed_same lane x v (λ w. w.head_last) refl refl)) r.head_is);
@@ -53,7 +55,7 @@ returns-clause-of g c = let r = c.args.reader.now in let v = r.seat.me.0 in let 
     let at : IsSpot v.places v.seen lane c.spot-spot.result = subst (λ (z : ℕ). IsSpot z v.seen lane c.spot-spot.result) (sym w.2) (c.spot-spot.ensures v.seen v.read (subst (λ (z : ℕ). Trails z r.trail v.seen v.read) w.2 r.trail_is)) in
     let is : c.word-at.result ≡ next_slot (length v.floors) v.places (lanes_after v.seen) lane 1 = c.word-at.ensures ∙ spot_second room.stations room.places v.seen lane c.spot-spot.result (c.spot-spot.ensures v.seen v.read (subst (λ (z : ℕ). Trails z r.trail v.seen v.read) w.2 r.trail_is)) ∙ (λ j. next_slot (sym w.3 j) (sym w.2 j) (lanes_after v.seen) lane 1) in
     let play = c.load-word.ensures.2 lane c.requires.lane is in let e = play.0 in
-    (c.load-word.ensures.0 ∙ o.0, o.1, ap (λ m. m.0.places) e ∙ probed_same lane x v (λ w. w.places) refl refl ∙ o.2, ap (λ m. length m.0.floors) e ∙ probed_same lane x v (λ w. length w.floors) refl refl ∙ o.3, ap (λ m. m.0.start) e ∙ probed_same lane x v (λ w. w.start) refl refl ∙ o.4)
+    (c.load-word.ensures.0 ∙ o.0, o.1, ap (λ m. m.0.places) e ∙ probed_same lane x v (λ w. w.places) refl refl ∙ o.2, ap (λ m. length m.0.floors) e ∙ probed_same lane x v (λ w. length w.floors) refl refl ∙ o.3, ap (λ m. m.0.start) e ∙ probed_same lane x v (λ w. w.start) refl refl ∙ o.4, subst (λ (z : ℕ). z ≤ room.stations) (sym (ap (λ m. m.0.opened) e ∙ probed_same lane x v (λ w. w.opened) refl refl)) o.5, subst (λ (z : ℕ). z < room.versions) (sym (ap (λ m. m.0.version) e ∙ probed_same lane x v (λ w. w.version) refl refl)) o.6)
 
 pub returns-clause-hit : goal.returns-clause-hit
 returns-clause-hit g c = λ t. let r = c.args.reader.now in let v = r.seat.me.0 in let lane : ℕ = c.args.lane in let x : ℕ = c.load-word.result in

@@ -1,4 +1,4 @@
-use Rattle.std.proofs.Common.{rules, arith, sym, subst, refl, ap, ◌∙◌, ℕ, ◌+◌, ◌<◌, ◌≤◌, length, length-set}
+use Rattle.std.proofs.Common.{rules, arith, sym, subst, refl, ap, ◌∙◌, ℕ, ◌<◌, ◌≤◌, length, length-set}
 use Rattle.nv_room.specs.Kept.{HasNext}
 use Rattle.nv_places.specs.Header.{cursor_index}
 use Rattle.nv_room.proofs.Placement.{header_inside}
@@ -11,8 +11,8 @@ load-requires g c = let k = c.args.self.now.sizes in (search rules, subst (λ (z
 
 pub invariant_of-reader : goal.invariant_of-reader
 invariant_of-reader g c = let r = c.args.reader.now in let e = (c.load.ensures.2.1 c.args.station refl).0 in
-    record { free = ap (λ m. m.1) e ∙ r.free; role = ap (λ m. m.0.role) e ∙ r.role; station_is = ap (λ m. m.0.station) e ∙ r.station_is; seen_is = ap (λ m. length m.0.seen) e ∙ r.seen_is; read_is = ap (λ m. length m.0.read) e ∙ r.read_is; head_is = subst (λ m. r.head ≤ m.0.head_last) (sym e) r.head_is; few = r.few; next = subst (λ m. HasNext m.0.read) (sym e) r.next; trail_is = subst (λ m. Trails m.0.places r.trail m.0.seen m.0.read) (sym e) r.trail_is; noted_at = subst (λ m. NotedAt r.spot m.0) (sym e) r.noted_at }
+    record { free = ap (λ m. m.1) e ∙ r.free; role = ap (λ m. m.0.role) e ∙ r.role; station_is = ap (λ m. m.0.station) e ∙ r.station_is; version_is = ap (λ m. m.0.version) e ∙ r.version_is; opened_is = ap (λ m. m.0.opened) e ∙ r.opened_is; seen_is = ap (λ m. length m.0.seen) e ∙ r.seen_is; read_is = ap (λ m. length m.0.read) e ∙ r.read_is; head_is = subst (λ m. r.head ≤ m.0.head_last) (sym e) r.head_is; few = r.few; next = subst (λ m. HasNext m.0.read) (sym e) r.next; trail_is = subst (λ m. Trails m.0.places r.trail m.0.seen m.0.read) (sym e) r.trail_is; noted_at = subst (λ m. NotedAt r.spot m.0) (sym e) r.noted_at }
 
 pub returns-clause-of : goal.returns-clause-of
 returns-clause-of g c = let o = c.requires.of in let r = c.args.reader.now in let e = (c.load.ensures.2.1 c.args.station refl).0 in
-    (c.load.ensures.0 ∙ o.0, o.1, ap (λ m. m.0.places) e ∙ o.2, ap (λ m. length m.0.floors) e ∙ length-set r.seat.me.0.floors c.args.station c.load.result ∙ o.3, ap (λ m. m.0.start) e ∙ o.4)
+    (c.load.ensures.0 ∙ o.0, o.1, ap (λ m. m.0.places) e ∙ o.2, ap (λ m. length m.0.floors) e ∙ length-set r.seat.me.0.floors c.args.station c.load.result ∙ o.3, ap (λ m. m.0.start) e ∙ o.4, subst (λ m. m.0.opened ≤ c.args.self.now.stations) (sym e) o.5, subst (λ m. m.0.version < c.args.self.now.versions) (sym e) o.6)

@@ -1,4 +1,4 @@
-use Rattle.std.proofs.Common.{refl, ap, ◌∙◌, ◌%◌, ℕ, get_or, sym, length}
+use Rattle.std.proofs.Common.{refl, ap, ◌∙◌, ◌%◌, ℕ, get_or, length}
 use Rattle.nv_pool.specs.Chunks.{first_chunk}
 use Rattle.nv_places.proofs.PoolOfLog.{first_is}
 use Rattle.nv_room.specs.Placement.{sizes}

@@ -16,18 +16,18 @@ use Rattle.nv_room.proofs.room.Room.take_step.Goals as goal
 
 pub store-requires : goal.store-requires
 store-requires g c = let k = c.args.self.now.sizes in let r = c.args.reader in
-    (c.requires.of.0, subst (λ (z : ℕ). 0 < z) (sym k.2) (header_inside _ _ 0 (omega arith)), takes_lead _ _ _ _ _ _ _ r.role c.requires.freed (ap (λ z. owner_word held z (length r.seat.me.0.seen)) (sym r.station_is)))
+    (c.requires.of.0, subst (λ (z : ℕ). 0 < z) (sym k.2) (header_inside _ _ 0 (omega arith)), takes_lead _ _ _ _ _ _ _ r.role c.requires.freed (λ j. owner_word held (sym r.station_is j) (sym r.opened_is j) (length r.seat.me.0.seen)))
 
 pub exchange-inside-requires : goal.exchange-inside-requires
 exchange-inside-requires g c = let t = c.store.ensures.2 in let e = ap (λ m. m.1) t.1 in (search rules, (Some t.0, e ∙ ap (λ l. (0, Some t.0) ∷ rest l) (sym e)))
 
-abbrev eight : List ℕ
-eight = 0 ∷ 0 ∷ 0 ∷ 0 ∷ 0 ∷ 0 ∷ 0 ∷ 0 ∷ []
+abbrev sixteen : List ℕ
+sixteen = 0 ∷ 0 ∷ 0 ∷ 0 ∷ 0 ∷ 0 ∷ 0 ∷ 0 ∷ 0 ∷ 0 ∷ 0 ∷ 0 ∷ 0 ∷ 0 ∷ 0 ∷ 0 ∷ []
 
-zeros : (s : ℕ) (xs : List ℕ) → get_or eight s 0 ≤ get_or xs s 0
+zeros : (s : ℕ) (xs : List ℕ) → get_or sixteen s 0 ≤ get_or xs s 0
 zeros s xs = subst (λ (z : ℕ). z ≤ get_or xs s 0) (sym (all s)) zero-le
   where
-    all : (s : ℕ) → get_or eight s 0 ≡ 0
+    all : (s : ℕ) → get_or sixteen s 0 ≡ 0
     all zero = refl
     all (suc zero) = refl
     all (suc (suc zero)) = refl
@@ -36,7 +36,15 @@ zeros s xs = subst (λ (z : ℕ). z ≤ get_or xs s 0) (sym (all s)) zero-le
     all (suc (suc (suc (suc (suc zero))))) = refl
     all (suc (suc (suc (suc (suc (suc zero)))))) = refl
     all (suc (suc (suc (suc (suc (suc (suc zero))))))) = refl
-    all (suc (suc (suc (suc (suc (suc (suc (suc s)))))))) = refl
+    all (suc (suc (suc (suc (suc (suc (suc (suc zero)))))))) = refl
+    all (suc (suc (suc (suc (suc (suc (suc (suc (suc zero))))))))) = refl
+    all (suc (suc (suc (suc (suc (suc (suc (suc (suc (suc zero)))))))))) = refl
+    all (suc (suc (suc (suc (suc (suc (suc (suc (suc (suc (suc zero))))))))))) = refl
+    all (suc (suc (suc (suc (suc (suc (suc (suc (suc (suc (suc (suc zero)))))))))))) = refl
+    all (suc (suc (suc (suc (suc (suc (suc (suc (suc (suc (suc (suc (suc zero))))))))))))) = refl
+    all (suc (suc (suc (suc (suc (suc (suc (suc (suc (suc (suc (suc (suc (suc zero)))))))))))))) = refl
+    all (suc (suc (suc (suc (suc (suc (suc (suc (suc (suc (suc (suc (suc (suc (suc zero))))))))))))))) = refl
+    all (suc (suc (suc (suc (suc (suc (suc (suc (suc (suc (suc (suc (suc (suc (suc (suc s)))))))))))))))) = refl
 
 pub invariant_of-result : goal.invariant_of-result
 invariant_of-result g c = let r = c.args.reader in let t = c.store.ensures.2 in let e = c.exchange-inside.ensures.3 in let v = ap (λ m. m.0) e ∙ ap (λ m. m.0) t.1 in
@@ -48,6 +56,8 @@ invariant_of-result g c = let r = c.args.reader in let t = c.store.ensures.2 in 
       role = ap (λ w. w.role) v;
       holds = ap (λ m. m.1) e ∙ ap (λ l. (0, None) ∷ rest l) (ap (λ m. m.1) t.1) ∙ ap (λ l. (0, None) ∷ l) r.free;
       station_is = ap (λ w. w.station) v ∙ r.station_is;
+      version_is = ap (λ w. w.version) v ∙ r.version_is;
+      opened_is = ap (λ w. w.opened) v ∙ r.opened_is;
       seen_is = ap (λ w. length w.seen) v ∙ r.seen_is;
       wrote_is = ap (λ w. length w.wrote) v ∙ ap length t.4;
       quiet = λ z. refl;

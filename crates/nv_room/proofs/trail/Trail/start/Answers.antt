@@ -1,4 +1,4 @@
-use Rattle.std.proofs.Common.{arith, refl}
+use Rattle.std.proofs.Common.{arith}
 use Rattle.nv_room.proofs.trail.Trail.start.Goals as goal
 
 pub returns : goal.returns
