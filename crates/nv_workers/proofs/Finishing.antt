@@ -14,8 +14,8 @@ use Rattle.nv_room.specs.declared.room.Room.{Room}
 use Rattle.nv_replay.specs.Follow.{Judge}
 use Rattle.nv_room.specs.declared.room.Left.{Left}
 use Rattle.nv_room.specs.Placement.{Log}
-use Rattle.nv_room.specs.Spans.{Before, of_station}
-use Rattle.nv_room.specs.Seats.{IsLeftOf, left_view, station_of_left, stations_of, origin, first_view}
+use Rattle.nv_room.specs.Spans.{Before, of_version, IsLast, Opened}
+use Rattle.nv_room.specs.Seats.{IsLeftOf, left_view, version_of_left, versions_of, origin, hands_of, first_view}
 use Rattle.nv_room.specs.Lefts.{IsEach, TellsOf, AllTell}
 use Rattle.nv_threads.specs.Threads.{Proc, threads}
 use Rattle.nv_replay.specs.Versions.{Running}
@@ -25,12 +25,11 @@ use Rattle.nv_workers.specs.declared.worker.Seat.TheVariants.{Reading, Leading, 
 use Rattle.nv_workers.specs.declared.worker.Worker.{Worker}
 use Rattle.nv_workers.specs.Ends.{IsAccount}
 use Rattle.nv_workers.specs.Working.{HasEnded}
-use Rattle.nv_workers.specs.Workers.{WorksAt, station_of_seat, IsGone}
+use Rattle.nv_workers.specs.Workers.{WorksAt, version_of_seat, IsGone}
 use Rattle.nv_workers.specs.Rounds.{CanAll, WorkedOn, AllOn, AreGone}
-use Rattle.nv_workers.specs.Endings.{IsTold, AreTold}
 use Rattle.nv_workers.specs.New.{IsNew, AreNew}
 use Rattle.nv_workers.specs.Ran.{AreApart, HasRun, HaveRun, AllRan}
-use Rattle.nv_workers.proofs.Ending.{ending}
+use Rattle.nv_workers.proofs.Ending.{IsTold, AreTold, ending}
 
 -- Workers are taken apart
 
@@ -79,12 +78,12 @@ module _ (judges : ℕ → Judge) {K : Type 0} {G : Ghosts K} (room : Room K) (m
       let p : Proc = f.at.process in
       let a : WorksAt judges room most p w2.version w2.buf w2.seat = on.works p (n.works judges most) in
       let b : WorksAt judges room most p w2.version w2.buf (Gone l) = subst (λ (s : Seat K G). WorksAt judges room most p w2.version w2.buf s) gone a in
-      let at : station_of_left l ≡ i = sym (ap (λ (s : Seat K G). station_of_seat s) gone) ∙ (on.station ∙ n.station) in
+      let at : version_of_left l ≡ i = sym (ap (λ (s : Seat K G). version_of_seat s) gone) ∙ (on.version ∙ n.version) in
       record {
         of = b.0;
-        station = at;
-        ended = subst (λ (j : ℕ). HasEnded judges (G.start (origin room)) most j p v (left_view l)) at
-            (subst (λ (u : Running Proc). HasEnded judges (G.start (origin room)) most (station_of_left l) p u (left_view l)) same b.1);
+        version = at;
+        ended = subst (λ (j : ℕ). HasEnded judges (G.start (origin room)) most (hands_of room) j p v (left_view l)) at
+            (subst (λ (u : Running Proc). HasEnded judges (G.start (origin room)) most (hands_of room) (version_of_left l) p u (left_view l)) same b.1);
       }
 
   have_run : (i : ℕ) (fs : List (Running Proc)) (ws us : List (Worker K G)) (vs : List (Running Proc)) (ls : List (Left K G))
@@ -116,7 +115,7 @@ module _ (judges : ℕ → Judge) {K : Type 0} {G : Ghosts K} (room : Room K) (m
   long_run i (f ∷ fs) (v ∷ vs) (l ∷ ls) r = let h = long_run (i + 1) fs vs ls r.1 in ((let a = h.0 in omega arith), (let b = h.1 in omega arith))
 
   -- what run_all promises
-  pub all_ran : (fs : List (Running Proc)) (ws us : List (Worker K G)) (vs : List (Running Proc)) (ls : List (Left K G)) → AreNew room 0 fs ws → length ws ≡ stations_of room
+  pub all_ran : (fs : List (Running Proc)) (ws us : List (Worker K G)) (vs : List (Running Proc)) (ls : List (Left K G)) → AreNew room 0 fs ws → length ws ≡ versions_of room
       → AllOn judges room most ws us → AreApart us vs ls → AllRan judges room most fs vs ls
   all_ran fs ws us vs ls n all on apart =
       let r = have_run 0 fs ws us vs ls n on apart in
@@ -143,20 +142,20 @@ module _ {K : Type 0} {G : Ghosts K} where
 
 module _ (judges : ℕ → Judge) {K : Type 0} {G : Ghosts K} (room : Room K) (most : ℕ) where
   left_at : (i : ℕ) (fs vs : List (Running Proc)) (ls : List (Left K G)) → HaveRun judges room most i fs vs ls → (k : ℕ) (l : Left K G) → get_elem? ls k ≡ some l
-      → IsLeftOf room l × (station_of_left l ≡ i + k)
+      → IsLeftOf room l × (version_of_left l ≡ i + k)
   left_at i fs vs [] r k l e = cc
   left_at i [] [] (m ∷ ls) r k l e = absurd r
   left_at i [] (v ∷ vs) (m ∷ ls) r k l e = absurd r
   left_at i (f ∷ fs) [] (m ∷ ls) r k l e = absurd r
   left_at i (f ∷ fs) (v ∷ vs) (m ∷ ls) r zero l e =
       let s : m ≡ l = some-injective m l e in
-      let at = r.0.station in (
+      let at = r.0.version in (
         subst (λ (x : Left K G). IsLeftOf room x) s r.0.of,
-        subst (λ (x : Left K G). station_of_left x ≡ i + 0) s (omega arith),
+        subst (λ (x : Left K G). version_of_left x ≡ i + 0) s (omega arith),
       )
   left_at i (f ∷ fs) (v ∷ vs) (m ∷ ls) r (suc k) l e = let q = left_at (i + 1) fs vs ls r.1 k l e in (q.0, (let at = q.1 in omega arith))
 
-  -- each station has left, once
+  -- the seat of each version has left, once
   pub is_each : (fs vs : List (Running Proc)) (ls : List (Left K G)) → AllRan judges room most fs vs ls → IsEach room ls
   is_each fs vs ls a = (
     record {
@@ -167,48 +166,54 @@ module _ (judges : ℕ → Judge) {K : Type 0} {G : Ghosts K} (room : Room K) (m
   )
 
   ended_at : (d : View K) (i : ℕ) (fs vs : List (Running Proc)) (ls : List (Left K G)) → HaveRun judges room most i fs vs ls → (k : ℕ) (old new : Running Proc)
-      → slice_get fs k ≡ Some old → slice_get vs k ≡ Some new → HasEnded judges (G.start (origin room)) most (i + k) old.at.process new (view_at d ls k)
+      → slice_get fs k ≡ Some old → slice_get vs k ≡ Some new → HasEnded judges (G.start (origin room)) most (hands_of room) (i + k) old.at.process new (view_at d ls k)
   ended_at d i [] vs ls r k old new a b = cc
   ended_at d i (f ∷ fs) [] ls r k old new a b = absurd r
   ended_at d i (f ∷ fs) (v ∷ vs) [] r k old new a b = absurd r
   ended_at d i (f ∷ fs) (v ∷ vs) (l ∷ ls) r zero old new a b =
       let z : i ≡ i + 0 = omega arith in
-      subst (λ (j : ℕ). HasEnded judges (G.start (origin room)) most j old.at.process new (left_view l)) z
-      (subst (λ (x : Running Proc). HasEnded judges (G.start (origin room)) most i x.at.process new (left_view l)) (same_Some f old a)
-      (subst (λ (x : Running Proc). HasEnded judges (G.start (origin room)) most i f.at.process x (left_view l)) (same_Some v new b) r.0.ended))
+      subst (λ (j : ℕ). HasEnded judges (G.start (origin room)) most (hands_of room) j old.at.process new (left_view l)) z
+      (subst (λ (x : Running Proc). HasEnded judges (G.start (origin room)) most (hands_of room) i x.at.process new (left_view l)) (same_Some f old a)
+      (subst (λ (x : Running Proc). HasEnded judges (G.start (origin room)) most (hands_of room) i f.at.process x (left_view l)) (same_Some v new b) r.0.ended))
   ended_at d i (f ∷ fs) (v ∷ vs) (l ∷ ls) r (suc k) old new a b =
       let z : i + 1 + k ≡ i + suc k = omega arith in
-      subst (λ (j : ℕ). HasEnded judges (G.start (origin room)) most j old.at.process new (view_at d ls k)) z (ended_at d (i + 1) fs vs ls r.1 k old new a b)
+      subst (λ (j : ℕ). HasEnded judges (G.start (origin room)) most (hands_of room) j old.at.process new (view_at d ls k)) z (ended_at d (i + 1) fs vs ls r.1 k old new a b)
 
-  told_one : (history : Log) (counts : List ℕ) (spans : List Span) (k : ℕ) (l : Left K G) → station_of_left l ≡ k → TellsOf history counts spans l → IsTold history spans k (left_view l)
-  told_one history counts spans k l at t = record {
+  -- what the seat of version k tells
+  told_one : (history : Log) (counts : List ℕ) (spans : List Span) (whos : List ℕ) (k : ℕ) (l : Left K G) → version_of_left l ≡ k → TellsOf history counts spans whos l
+      → IsTold history spans whos k (left_view l)
+  told_one history counts spans whos k l at t = record {
     seen = t.seen;
     read = t.read;
-    led = t.led ∙ ap (λ (j : ℕ). of_station j spans) at;
-    before = subst (λ (j : ℕ). Before spans j (left_view l).seen (left_view l).read) at t.before;
+    led = t.led ∙ ap (λ (j : ℕ). of_version j spans) at;
+    last = (let L : ℕ → ℕ → Type 0 = λ j s. IsLast whos j s in subst (λ (s : ℕ). L k s) (sym l.station_is) (subst (λ (j : ℕ). L j l.station) at t.last));
+    before = subst (λ (s : ℕ). Before spans s (left_view l).seen (left_view l).read) (sym l.station_is) t.before;
   }
 
   told_by : (d : View K) (history : Log) (counts : List ℕ) (fs vs : List (Running Proc)) (ls : List (Left K G)) (a : AllRan judges room most fs vs ls) → AllTell history counts ls
-      → length counts ≡ stations_of room → AreTold history (stations_of room) (view_at d ls)
+      → length counts ≡ versions_of room → AreTold history (versions_of room) (view_at d ls)
   told_by d history counts fs vs ls a t wide = record {
     spans = t.spans;
+    whos = t.whos;
     tile = t.tile;
     rise = t.rise;
-    made = λ i x e. let m = t.made i x e in omega arith;
+    made = t.made;
+    first = λ k h. t.first k (omega arith);
+    opened = subst (λ (n : ℕ). Opened n t.whos t.spans) wide t.opened;
     each = λ k h.
         let x = left_there ls k (let all = a.all in omega arith) in
-        let at : station_of_left x.0 ≡ k = (let q = (left_at 0 fs vs ls a.ran k x.0 x.1).1 in omega arith) in
-        subst (λ (w : View K). IsTold history t.spans k w) (sym (view_here d ls k x.0 x.1)) (told_one history counts t.spans k x.0 at (t.each k x.0 x.1));
+        let at : version_of_left x.0 ≡ k = (let q = (left_at 0 fs vs ls a.ran k x.0 x.1).1 in omega arith) in
+        subst (λ (w : View K). IsTold history t.spans t.whos k w) (sym (view_here d ls k x.0 x.1)) (told_one history counts t.spans t.whos k x.0 at (t.each k x.0 x.1));
   }
 
   -- what `end` promises
   pub accounted : (h : List Entry) (counts : List ℕ) (fs vs : List (Running Proc)) (ls : List (Left K G)) → AllRan judges room most fs vs ls → IsLawful h → IsLegal (G.start (origin room)) h
-      → AllTell (map spell h) counts ls → length counts ≡ stations_of room
-      → IsAccount threads judges (G.start (origin room)) most fs vs h
+      → AllTell (map spell h) counts ls → length counts ≡ versions_of room
+      → IsAccount threads judges (G.start (origin room)) most (hands_of room) fs vs h
   accounted h counts fs vs ls a law legal t wide =
       let d : View K = first_view room 0 in
       let long = long_run judges room most 0 fs vs ls a.ran in
-      let all : length vs ≡ stations_of room = long.1 ∙ (sym long.0 ∙ a.all) in
-      ending judges (G.start (origin room)) most h (stations_of room) (view_at d ls) law (told_by d (map spell h) counts fs vs ls a t wide) fs vs a.fresh long.1 all legal
+      let all : length vs ≡ versions_of room = long.1 ∙ (sym long.0 ∙ a.all) in
+      ending judges (G.start (origin room)) most (hands_of room) h (versions_of room) (view_at d ls) law (told_by d (map spell h) counts fs vs ls a t wide) fs vs a.fresh long.1 all legal
       (λ k old new o n. let z : 0 + k ≡ k = omega arith in
-      subst (λ (j : ℕ). HasEnded judges (G.start (origin room)) most j old.at.process new (view_at d ls k)) z (ended_at d 0 fs vs ls a.ran k old new o n))
+      subst (λ (j : ℕ). HasEnded judges (G.start (origin room)) most (hands_of room) j old.at.process new (view_at d ls k)) z (ended_at d 0 fs vs ls a.ran k old new o n))

@@ -1,7 +1,7 @@
 -- Lists that one history begins with, and where the spans of a station and of those behind it begin.
 use Rattle.std.proofs.Common.{◌≡◌, sym, ap, refl, ℕ, zero, suc, ◌+◌, ◌<◌, ◌≤◌, List, [], ◌∷◌, ◌++◌, length, take, Some, arith, append-nil, length-append}
 use Rattle.std.specs.Prelude.{slice_get}
-use Rattle.nv_workers.specs.Ends.{Leaving, SpanFrom, Tile}
+use Rattle.nv_workers.proofs.Stations.{SpanFrom, Tile}
 
 pub head_is : {X : Type 0} (a b : X) (xs ys : List X) → a ∷ xs ≡ b ∷ ys → (a ≡ b) × (xs ≡ ys)
 head_is a b xs ys h = (cc, cc)
@@ -35,15 +35,15 @@ with_next [] [] e h = cc
 with_next [] (x ∷ c) e h = let k : x ≡ e = cc in (c, λ i. k i ∷ c)
 with_next (x ∷ a) c e h = let r = with_next a c e h in (r.0, ap (λ y. x ∷ y) r.1)
 
-module _ (left : ℕ → Leaving) where
-  stop_at : (spans : List (ℕ × ℕ)) (i n x y stop : ℕ) → (left i).spans ≡ spans → (z : ℕ) → SpanFrom spans x z → (stop ≤ z) → ((a b : ℕ) → (left i).spans ≡ (a, b) ∷ [] → stop ≤ a) → stop ≤ x
+module _ (spans : ℕ → List (ℕ × ℕ)) where
+  stop_at : (own : List (ℕ × ℕ)) (i n x y stop : ℕ) → spans i ≡ own → (z : ℕ) → SpanFrom own x z → (stop ≤ z) → ((a b : ℕ) → spans i ≡ (a, b) ∷ [] → stop ≤ a) → stop ≤ x
   stop_at [] i n x y stop h z s t f = rw (← s) t
   stop_at ((a, b) ∷ []) i n x y stop h z s t f = rw (← s.0) (f a b h)
-  stop_at (p ∷ q ∷ spans) i n x y stop h z s t f = absurd s
+  stop_at (p ∷ q ∷ own) i n x y stop h z s t f = absurd s
 
   -- where no span behind begins before `stop`, the next begins there or later
-  pub stop_by : (n i x y stop : ℕ) → Tile left i n x y → stop ≤ y → ((k a b : ℕ) → i ≤ k → k < i + n → (left k).spans ≡ (a, b) ∷ [] → stop ≤ a) → stop ≤ x
+  pub stop_by : (n i x y stop : ℕ) → Tile spans i n x y → stop ≤ y → ((k a b : ℕ) → i ≤ k → k < i + n → spans k ≡ (a, b) ∷ [] → stop ≤ a) → stop ≤ x
   stop_by zero i x y stop t l f = rw t l
   stop_by (suc n) i x y stop t l f =
       let r : stop ≤ t.0 = stop_by n (i + 1) t.0 y stop t.2 l (λ k a b p q s. f k a b (omega arith) (omega arith) s) in
-      stop_at (left i).spans i n x y stop refl t.0 t.1 r (λ a b s. f i a b (omega arith) (omega arith) s)
+      stop_at (spans i) i n x y stop refl t.0 t.1 r (λ a b s. f i a b (omega arith) (omega arith) s)

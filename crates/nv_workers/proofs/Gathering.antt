@@ -1,164 +1,168 @@
--- The account of versions that ended beside each other is Sequence's.
-use Rattle.std.proofs.Common.{◌≡◌, ◌∙◌, sym, ap, subst, refl, ℕ, suc, ◌+◌, ◌<◌, ◌≤◌, ◌⊎◌, inl, inr, Bool, true, false, List, [], ◌∷◌, ◌++◌, map, length, take, Option, Some, None, arith, length-append}
-use Rattle.std.specs.Prelude.{not, ◌&&◌}
+-- The account of versions that ended beside each other, with planned changes of the leader, by stations.
+use Rattle.std.proofs.Common.{◌≡◌, ◌∙◌, sym, ap, subst, refl, ℕ, zero, suc, ◌+◌, ◌≤◌, inl, inr, Bool, true, false, List, [], ◌∷◌, ◌++◌, length, take, Option, Some, None, arith, length-append}
+use Rattle.std.specs.Prelude.{slice_get}
 use Rattle.nv_calls.specs.Calls.{Entry}
-use Rattle.nv_calls.specs.Logs.{Start, IsLawful, live_after}
+use Rattle.nv_calls.specs.Logs.{Start, live_after}
 use Rattle.nv_threads.specs.Behaviours.{Behaviour, IsProcess}
 use Rattle.nv_replay.specs.declared.fate.Fate.{Fate}
-use Rattle.nv_replay.specs.Follow.{Follower, Judge, fresh, next, follow, IsInStep, is_exited}
-use Rattle.nv_replay.specs.Lead.{cut_of, next_call, lead}
-use Rattle.nv_replay.specs.declared.standing.Standing.{Standing}
-use Rattle.nv_replay.specs.Sequence.{leads, is_on, follower_line, leader_line, sequence_from}
-use Rattle.nv_replay.specs.Versions.{Running, leader_of, standing_of}
-use Rattle.nv_replay.proofs.Settled.{Reaches}
-use Rattle.nv_replay.proofs.Extending.{extend_by, follow_reached}
-use Rattle.nv_replay.proofs.Wholes.{follow_is, rests}
-use Rattle.nv_replay.specs.Accounts.{AreCuts}
-use Rattle.nv_replay.proofs.Wholly.{lead_is, suits_end}
-use Rattle.nv_replay.proofs.Survivor.{lawful_front, follow_done, stage_in_step}
-use Rattle.nv_replay.proofs.Turning.{take_all}
-use Rattle.nv_replay.proofs.Fates.{alive_not}
-use Rattle.nv_workers.specs.Ends.{Leaving, SpanFrom, Tile, begun, HasLedFrom}
+use Rattle.nv_replay.specs.Follow.{Follower, Judge, IsInStep, is_exited}
+use Rattle.nv_replay.specs.Lead.{Leader}
+use Rattle.nv_replay.specs.Hands.{is_handed}
+use Rattle.nv_replay.specs.Sequence.{is_on}
+use Rattle.nv_replay.specs.Monitor.{Part, Run, begun, after_lead, tracked_by, leads_on, turn, lines_of, account_of, sequence}
+use Rattle.nv_replay.proofs.Settled.{Reaches, reach_here, reach_first, stage_rests}
+use Rattle.nv_workers.proofs.Stations.{SpanFrom, Tile, WentBy, LedBy, after_station, AreSeats}
 use Rattle.nv_workers.proofs.Fronts.{front_of, no_more, take_own, take_within, stop_by}
+use Rattle.nv_replay.proofs.Tracking.{track_ended}
+use Rattle.nv_replay.proofs.Rotating.{over_rests, empty_rests, dropped, led, sequence_is}
+use Rattle.nv_replay.proofs.Turning.{take_all}
 
-pub off_some : (f : Option Fate) → is_on f ≡ false → f ≡ None → ⊥
-off_some None h e = cc
-off_some (Some x) h e = cc
+some_of : (f : Option Fate) → is_on f ≡ false → (x : Fate) × (f ≡ Some x)
+some_of None h = cc
+some_of (Some x) h = (x, refl)
 
-pub not_leads : (over : Bool) (f : Option Fate) → is_on f ≡ false → (not over && is_on f) ≡ false
-not_leads true f h = refl
-not_leads false f h = h
+pub after_log : {P : Type 0} (m : Run P) (i : ℕ) (order : List ℕ) (v : Part P) (f : Follower P) (l : Leader P) (b : Bool) → (after_lead m i order v f l b).log ≡ l.log
+after_log m i order v f l true = refl
+after_log m i order v f l false = refl
 
-pub leads_on : (over : Bool) (f : Option Fate) → over ≡ false → f ≡ None → (not over && is_on f) ≡ true
-leads_on over f h e = rw (h, e) refl
+after_dead : {P : Type 0} (m : Run P) (i : ℕ) (order : List ℕ) (v : Part P) (f : Follower P) (l : Leader P) (D : Type 0) (b : Bool) → (is_exited l.fate ≡ true → D)
+    → (after_lead m i order v f l b).over ≡ true → D
+after_dead m i order v f l D true d h = cc
+after_dead m i order v f l D false d h = d h
 
-pub not_true : (b : Bool) → (b ≡ true → ⊥) → b ≡ false
+not_true : (b : Bool) → (b ≡ true → ⊥) → b ≡ false
 not_true true h = absurd (h refl)
 not_true false h = refl
 
--- a fresh version's process
-pub record IsFirst {P : Type 0} (g : Behaviour P) (p : P) : Type 0 where
-  pub live : g.live p ≡ 100 ∷ []
-  pub on : g.ended p ≡ None
+module _ {P : Type 0} (g : Behaviour P) (laws : IsProcess g) (judges : ℕ → Judge) (start : Start) (most : ℕ) (cuts : ℕ → Option ℕ) (hands : List ℕ)
+    (h : List Entry) (spans : ℕ → List (ℕ × ℕ)) (total : ℕ) where
+  abbrev Turn : Run P → Run P
+  Turn m = turn g judges start most cuts hands m
 
-module _ {P : Type 0} (g : Behaviour P) (laws : IsProcess g) (judges : ℕ → Judge) (replies : Start) (most : ℕ) where
-  -- what has ended within a part of the log has followed each longer part
-  pub ended_by : (i : ℕ) (p : P) (at : Follower P) (read m : List Entry) → Reaches (next g (judges i) read) (fresh p) at → is_on at.fate ≡ false → at ≡ follow g (judges i) (read ++ m) (fresh p)
-  ended_by i p at read m r e = follow_is g laws (judges i) (read ++ m) (fresh p) at (extend_by g laws (judges i) read m r.steps (fresh p) at r.is) (rests g laws (judges i) (read ++ m) at (inr (off_some at.fate e)))
+  abbrev Went : ℕ → ℕ → Part P → Type 0
+  Went k i v = WentBy g judges start most cuts hands h spans total k i v
 
-  first_in_step : (log : List Entry) (p : P) → IsFirst g p → IsInStep g log (fresh p)
-  first_in_step log p f = record { within = omega arith; live = λ z. f.live; on = λ z. f.on; exited = λ z. cc }
+  abbrev Led : ℕ → ℕ → Part P → Type 0
+  Led k i v = LedBy g judges start most cuts hands h spans total k i v
 
-  follow_in_step : (i : ℕ) (log : List Entry) (p : P) → IsLawful log → IsFirst g p → IsInStep g log (follow g (judges i) log (fresh p))
-  follow_in_step i log p law f =
-      let r = follow_reached g laws (judges i) log [] (fresh p) in
-      subst (λ (y : Follower P). IsInStep g log y) r.is (stage_in_step g laws (judges i) replies most log r.steps (fresh p) law (first_in_step log p f))
+  abbrev Seats : ℕ → ℕ → Run P → Run P → Type 0
+  Seats n k m last = AreSeats g judges start most cuts hands h spans total n k m last
 
-  -- a version that never led, and had its fate before any later span
-  pub record FollowedOut (h : List Entry) (left : ℕ → Leaving) (n i : ℕ) (p : P) (v : Running P) : Type 0 where
-    pub read : List Entry
-    pub rest : List Entry
-    pub front : h ≡ read ++ rest
-    pub spans : (left i).spans ≡ []
-    pub below : (k a b : ℕ) → i < k → k < n → (left k).spans ≡ (a, b) ∷ [] → length read ≤ a
-    pub reach : Reaches (next g (judges i) read) (fresh p) v.at
-    pub not_led : v.led ≡ []
-    pub ended : is_on v.at.fate ≡ false
+  abbrev tracks : List Entry → ℕ → Part P → Follower P
+  tracks log i v = tracked_by g judges start most cuts hands log i v
 
-  -- a version that led
-  pub record LedOut (h : List Entry) (left : ℕ → Leaving) (i : ℕ) (p : P) (v : Running P) : Type 0 where
-    pub from : ℕ
-    pub log : List Entry
-    pub rest : List Entry
-    pub front : h ≡ log ++ rest
-    pub spans : (left i).spans ≡ (from, length log) ∷ []
-    pub led : HasLedFrom g judges replies most i p v from log
-    pub ended : is_on v.at.fate ≡ false
+  -- what a version that went by told is what it comes to over the whole log
+  pub went_line : (k i : ℕ) (v : Part P) (w : Went k i v) → w.at ≡ tracks h i v
+  went_line k i v w = subst (λ (y : List Entry). w.at ≡ tracks y i v) (sym w.front)
+      (track_ended g laws (judges i) v.led v.process w.at w.read w.rest (record { steps = w.steps; is = w.reach }) w.ended)
 
-  abbrev pub AreOut : List Entry → (ℕ → Leaving) → ℕ → ℕ → List P → List (Running P) → Type 0
-  AreOut h left n i [] [] = Unit {0}
-  AreOut h left n i [] (v ∷ vs) = ⊥
-  AreOut h left n i (p ∷ ps) [] = ⊥
-  AreOut h left n i (p ∷ ps) (v ∷ vs) = IsFirst g p × (FollowedOut h left n i p v ⊎ LedOut h left i p v) × AreOut h left n (i + 1) ps vs
+  -- where the definition comes to
+  pub record Ends (m last : Run P) : Type 0 where
+    pub end : Run P
+    pub reach : Reaches (turn g judges start most cuts hands) m end
+    pub rests : Turn end ≡ end
+    pub log : end.log ≡ h
+    pub parts : end.parts ≡ last.parts
 
-  passed_over : (cuts : ℕ → Option ℕ) (p : P) (ps : List P) (i : ℕ) (log h : List Entry) (over : Bool) (v : Running P) (ls : List Standing)
-      → v.at ≡ follow g (judges i) log (fresh p) → v.at ≡ follow g (judges i) h (fresh p) → is_on v.at.fate ≡ false → v.led ≡ []
-      → record { log = h; lines = ls } ≡ sequence_from g judges replies most cuts ps (i + 1) log over
-      → record { log = h; lines = standing_of v ∷ ls } ≡ sequence_from g judges replies most cuts (p ∷ ps) i log over
-  unfolding sequence_from
-  passed_over cuts p ps i log h over v ls a b e n r =
-      let l : leads over (follow g (judges i) log (fresh p)) ≡ false = not_leads over (follow g (judges i) log (fresh p)).fate (sym (ap (λ (x : Follower P). is_on x.fate) a) ∙ e) in
-      let line : standing_of v ≡ follower_line (follow g (judges i) h (fresh p)) = λ j. record { seen = (b j).seen; led = n j; rewrites = (b j).rewrites; fate = (b j).fate } in
-      rw (l, line, ← r) refl
+  went_tile : (n k i : ℕ) (v : Part P) (w : Went k i v) (x : ℕ) → k + suc n ≡ total → Tile spans k (suc n) x (length h) → (length w.read ≤ x) × Tile spans (k + 1) n x (length h)
+  went_tile n k i v w x m t =
+      let s : t.0 ≡ x = subst (λ (y : List (ℕ × ℕ)). SpanFrom y x t.0) w.none t.1 in
+      let t' : Tile spans (k + 1) n x (length h) = subst (λ (y : ℕ). Tile spans (k + 1) n y (length h)) s t.2 in
+      let within : length w.read ≤ length h = omega (arith, length-append w.read w.rest, ap length w.front) in
+      (stop_by spans n (k + 1) x (length h) (length w.read) t' within (λ j a b p u s. w.below j a b (omega arith) (omega arith) s), t')
 
-  took_lead : (cuts : ℕ → Option ℕ) (p : P) (ps : List P) (i : ℕ) (log log1 h : List Entry) (over : Bool) (v : Running P) (ls : List Standing)
-      → over ≡ false → (follow g (judges i) log (fresh p)).fate ≡ None
-      → lead g replies most (cuts i) (begun g judges replies most i p log) ≡ leader_of v log1
-      → standing_of v ≡ leader_line (follow g (judges i) log (fresh p)) (leader_of v log1)
-      → record { log = h; lines = ls } ≡ sequence_from g judges replies most cuts ps (i + 1) log1 (is_exited v.at.fate)
-      → record { log = h; lines = standing_of v ∷ ls } ≡ sequence_from g judges replies most cuts (p ∷ ps) i log over
-  unfolding sequence_from
-  took_lead cuts p ps i log log1 h over v ls o n d line r =
-      let l : leads over (follow g (judges i) log (fresh p)) ≡ true = leads_on over (follow g (judges i) log (fresh p)).fate o n in
-      rw (l, d, line, ← r) refl
+  led_tile : (n k i : ℕ) (v : Part P) (x : Led k i v) (y : ℕ) → Tile spans k (suc n) y (length h) → (x.from ≡ y) × Tile spans (k + 1) n (length x.log) (length h)
+  led_tile n k i v x y t =
+      let s : (x.from ≡ y) × (length x.log ≡ t.0) = subst (λ (z : List (ℕ × ℕ)). SpanFrom z y t.0) x.span t.1 in
+      (s.0, subst (λ (z : ℕ). Tile spans (k + 1) n z (length h)) (sym s.1) t.2)
 
-  -- where no version behind is left
-  at_end : (cuts : ℕ → Option ℕ) (i : ℕ) (log more h : List Entry) (over : Bool) → h ≡ log ++ more → length log ≡ length h → record { log = h; lines = [] } ≡ sequence_from g judges replies most cuts [] i log over
-  unfolding sequence_from
-  at_end cuts i log more h over e l = ap (λ (x : List Entry). record { log = x; lines = [] }) (e ∙ no_more log more (l ∙ ap length e))
+  alive_not : (log : List Entry) (s : Follower P) → IsInStep g log s → live_after log ≡ [] → s.seen ≡ length log → s.fate ≡ None → ⊥
+  alive_not log s i d l n =
+      let all : take s.seen log ≡ log = ap (λ (m : ℕ). take m log) l ∙ take_all log in
+      laws.ended s.process (i.live n ∙ (ap live_after all ∙ d)) (i.on n)
 
-  passed_step : (cuts : ℕ → Option ℕ) (h : List Entry) (left : ℕ → Leaving) (n : ℕ) (p : P) (ps : List P) (v : Running P) (vs : List (Running P)) (i : ℕ) (log more : List Entry) (over : Bool)
-      → h ≡ log ++ more → i + suc (length vs) ≡ n → Tile left i (suc (length vs)) (length log) (length h)
-      → FollowedOut h left n i p v
-      → (Tile left (i + 1) (length vs) (length log) (length h) → record { log = h; lines = map standing_of vs } ≡ sequence_from g judges replies most cuts ps (i + 1) log over)
-      → record { log = h; lines = standing_of v ∷ map standing_of vs } ≡ sequence_from g judges replies most cuts (p ∷ ps) i log over
-  passed_step cuts h left n p ps v vs i log more over e m t x r =
-      let s : t.0 ≡ length log = subst (λ (y : List (ℕ × ℕ)). SpanFrom y (length log) t.0) x.spans t.1 in
-      let t' : Tile left (i + 1) (length vs) (length log) (length h) = subst (λ (y : ℕ). Tile left (i + 1) (length vs) y (length h)) s t.2 in
-      let within : length x.read ≤ length h = omega (arith, length-append x.read x.rest, ap length x.front) in
-      let stop : length x.read ≤ length log = stop_by left (length vs) (i + 1) (length log) (length h) (length x.read) t' within (λ k a b p q s. x.below k a b (omega arith) (omega arith) s) in
-      let m = front_of x.read log x.rest more (sym x.front ∙ e) stop in
-      let a : v.at ≡ follow g (judges i) log (fresh p) = subst (λ (y : List Entry). v.at ≡ follow g (judges i) y (fresh p)) (sym m.1) (ended_by i p v.at x.read m.0 x.reach x.ended) in
-      let b : v.at ≡ follow g (judges i) h (fresh p) = subst (λ (y : List Entry). v.at ≡ follow g (judges i) y (fresh p)) (sym x.front) (ended_by i p v.at x.read x.rest x.reach x.ended) in
-      passed_over cuts p ps i log h over v (map standing_of vs) a b x.ended x.not_led (r t')
+  -- a station that led
+  record Stood (m : Run P) (k i : ℕ) (order : List ℕ) (v : Part P) (x : Led k i v) : Type 0 where
+    front : take x.from x.log ≡ m.log
+    over : m.over ≡ false
+    turns : Turn m ≡ after_station g judges start most cuts hands h spans total m k i order v x
 
-  took_step : (cuts : ℕ → Option ℕ) (h : List Entry) (left : ℕ → Leaving) (p : P) (ps : List P) (v : Running P) (vs : List (Running P)) (i : ℕ) (log more : List Entry) (over : Bool)
-      → IsLawful h → h ≡ log ++ more → Tile left i (suc (length vs)) (length log) (length h)
-      → IsFirst g p → (x : LedOut h left i p v) → (over ≡ true → live_after log ≡ []) → cuts i ≡ cut_of v.at.fate v.at.seen
-      → (Tile left (i + 1) (length vs) (length x.log) (length h) → record { log = h; lines = map standing_of vs } ≡ sequence_from g judges replies most cuts ps (i + 1) x.log (is_exited v.at.fate))
-      → record { log = h; lines = standing_of v ∷ map standing_of vs } ≡ sequence_from g judges replies most cuts (p ∷ ps) i log over
-  took_step cuts h left p ps v vs i log more over law e t first x dead c r =
-      let s : (x.from ≡ length log) × (length x.log ≡ t.0) = subst (λ (y : List (ℕ × ℕ)). SpanFrom y (length log) t.0) x.spans t.1 in
-      let t' : Tile left (i + 1) (length vs) (length x.log) (length h) = subst (λ (y : ℕ). Tile left (i + 1) (length vs) y (length h)) (sym s.1) t.2 in
-      let log0 : take x.from x.log ≡ log = sym (take_within x.from x.log x.rest x.led.within) ∙ (ap (take x.from) (sym x.front ∙ e) ∙ (ap (λ (y : ℕ). take y (log ++ more)) s.0 ∙ take_own log more)) in
-      let law0 : IsLawful log = lawful_front log more (subst IsLawful e law) in
-      let f : Follower P = follow g (judges i) log (fresh p) in
-      let on : f.fate ≡ None = subst (λ (y : List Entry). (follow g (judges i) y (fresh p)).fate ≡ None) log0 x.led.on in
-      let seen : f.seen ≡ length log = follow_done g laws (judges i) replies most log (fresh p) law0 (first_in_step log p first) on in
-      let alive : over ≡ false = not_true over (λ z. alive_not g laws log f (follow_in_step i log p law0 first) (dead z) seen on) in
-      let k : cuts i ≡ cut_of v.at.fate (length x.log) = c ∙ ap (cut_of v.at.fate) x.led.seen in
-      let su = suits_end v.at.fate (length x.log) in
-      let st = x.led.stage (cut_of v.at.fate (length x.log)) (record { below = su.below; end = su.end }) in
-      let rc : Reaches (next_call g replies most (cut_of v.at.fate (length x.log))) (begun g judges replies most i p (take x.from x.log)) (leader_of v x.log) = record { steps = st.steps; is = st.is } in
-      let d : lead g replies most (cut_of v.at.fate (length x.log)) (begun g judges replies most i p (take x.from x.log)) ≡ leader_of v x.log = sym (lead_is g laws replies most (cut_of v.at.fate (length x.log)) (begun g judges replies most i p (take x.from x.log)) (leader_of v x.log) rc x.ended) in
-      let d' : lead g replies most (cuts i) (begun g judges replies most i p log) ≡ leader_of v x.log = ap (λ (y : Option ℕ). lead g replies most y (begun g judges replies most i p log)) k ∙ (ap (λ (y : List Entry). lead g replies most (cut_of v.at.fate (length x.log)) (begun g judges replies most i p y)) (sym log0) ∙ d) in
-      let span : v.led ≡ (f.seen, length x.log) ∷ [] = x.led.span ∙ ap (λ (y : ℕ). (y, length x.log) ∷ []) (s.0 ∙ sym seen) in
-      let rewrites : v.at.rewrites ≡ f.rewrites = x.led.rewrites ∙ ap (λ (y : List Entry). (follow g (judges i) y (fresh p)).rewrites) log0 in
-      let line : standing_of v ≡ leader_line f (leader_of v x.log) = λ j. record { seen = x.led.seen j; led = span j; rewrites = rewrites j; fate = v.at.fate } in
-      took_lead cuts p ps i log x.log h over v (map standing_of vs) alive on d' line (r t')
+  stood : (m : Run P) (more : List Entry) (k i : ℕ) (order : List ℕ) (v : Part P) (x : Led k i v) → h ≡ m.log ++ more → x.from ≡ length m.log → (m.over ≡ true → live_after m.log ≡ [])
+      → m.order ≡ i ∷ order → slice_get m.parts i ≡ Some v → Stood m k i order v x
+  stood m more k i order v x e s dead o q =
+      let log0 : take x.from x.log ≡ m.log = sym (take_within x.from x.log x.rest x.within) ∙ (ap (take x.from) (sym x.front ∙ e)
+      ∙ (ap (λ (y : ℕ). take y (m.log ++ more)) s ∙ take_own m.log more)) in
+      let on : (tracks m.log i v).fate ≡ None = subst (λ (y : List Entry). (tracks y i v).fate ≡ None) log0 x.on in
+      let seen : (tracks m.log i v).seen ≡ length m.log = subst (λ (y : List Entry). (tracks y i v).seen ≡ x.from) log0 x.seen ∙ s in
+      let step : IsInStep g m.log (tracks m.log i v) = subst (λ (y : List Entry). IsInStep g y (tracks y i v)) log0 x.in_step in
+      let lead : leads_on g judges start most cuts hands m.log i (tracks m.log i v) ≡ x.end = subst
+      (λ (y : List Entry). leads_on g judges start most cuts hands y i (tracks y i v) ≡ x.end) log0 x.lead in
+      let over : m.over ≡ false = not_true m.over (λ z. alive_not m.log (tracks m.log i v) step (dead z) seen on) in record {
+        front = log0;
+        over = over;
+        turns = led g judges start most cuts hands m i order v over o q on
+            ∙ ap (λ (l : Leader P). after_lead m i order v (tracks m.log i v) l (is_handed hands (length m.log) l)) lead;
+      }
 
-  -- where a leader exited no thread lives after its log
-  led_dead : (v : Running P) (log : List Entry) → IsInStep g log v.at → v.at.seen ≡ length log → is_exited v.at.fate ≡ true → live_after log ≡ []
-  led_dead v log s l x = ap live_after (sym (ap (λ (m : ℕ). take m log) l ∙ take_all log)) ∙ s.exited x
+  -- a station that went by
+  went : (m last : Run P) (more : List Entry) (k i : ℕ) (order : List ℕ) (v : Part P) (w : Went k i v) (b : Bool) → m.over ≡ b → h ≡ m.log ++ more → length w.read ≤ length m.log
+      → m.order ≡ i ∷ order → slice_get m.parts i ≡ Some v → Ends (record m { order = order }) last → Ends m last
+  went m last more k i order v w true ov e l o q r =
+      let m1 : Run P = record m { order = order } in
+      let same : m1 ≡ r.end = sym (stage_rests (turn g judges start most cuts hands) r.reach.steps m1 (over_rests g judges start most cuts hands m1 ov)) ∙ r.reach.is in record {
+        end = m;
+        reach = reach_here (turn g judges start most cuts hands) m;
+        rests = over_rests g judges start most cuts hands m ov;
+        log = ap (λ (x : Run P). x.log) same ∙ r.log;
+        parts = ap (λ (x : Run P). x.parts) same ∙ r.parts;
+      }
+  went m last more k i order v w false ov e l o q r =
+      let f = front_of w.read m.log w.rest more (sym w.front ∙ e) l in
+      let a : w.at ≡ tracks m.log i v = subst (λ (y : List Entry). w.at ≡ tracks y i v) (sym f.1)
+      (track_ended g laws (judges i) v.led v.process w.at w.read f.0 (record { steps = w.steps; is = w.reach }) w.ended) in
+      let x = some_of w.at.fate w.ended in
+      let t = dropped g judges start most cuts hands m i order v x.0 ov o q (ap (λ (y : Follower P). y.fate) (sym a) ∙ x.1) in record {
+        end = r.end;
+        reach = reach_first (turn g judges start most cuts hands) m r.end (subst (λ (y : Run P). Reaches (turn g judges start most cuts hands) y r.end) (sym t) r.reach);
+        rests = r.rests;
+        log = r.log;
+        parts = r.parts;
+      }
 
-  pub gathered : (cuts : ℕ → Option ℕ) (h : List Entry) (left : ℕ → Leaving) (n : ℕ) (ps : List P) (vs : List (Running P)) (i : ℕ) (log more : List Entry) (over : Bool)
-      → IsLawful h → h ≡ log ++ more → i + length vs ≡ n → Tile left i (length vs) (length log) (length h)
-      → AreOut h left n i ps vs → (over ≡ true → live_after log ≡ []) → AreCuts i (map standing_of vs) cuts
-      → record { log = h; lines = map standing_of vs } ≡ sequence_from g judges replies most cuts ps i log over
-  gathered cuts h left n [] [] i log more over law e m t out dead c = at_end cuts i log more h over e t
-  gathered cuts h left n [] (v ∷ vs) i log more over law e m t out dead c = absurd out
-  gathered cuts h left n (p ∷ ps) [] i log more over law e m t out dead c = absurd out
-  gathered cuts h left n (p ∷ ps) (v ∷ vs) i log more over law e m t out dead c = elim out.1 [
-    | inl x ↦ passed_step cuts h left n p ps v vs i log more over e m t x (λ t'. gathered cuts h left n ps vs (i + 1) log more over law e (omega arith) t' out.2 dead c.1)
-    | inr x ↦ took_step cuts h left p ps v vs i log more over law e t out.0 x dead c.0 (λ t'. gathered cuts h left n ps vs (i + 1) x.log x.rest (is_exited v.at.fate) law x.front (omega arith) t' out.2 (led_dead v x.log x.led.in_step x.led.seen) c.1)
-  ]
+  pub gathers : (n k : ℕ) (m last : Run P) (more : List Entry) → Seats n k m last → Tile spans k n (length m.log) (length h) → h ≡ m.log ++ more → k + n ≡ total
+      → (m.over ≡ true → live_after m.log ≡ []) → Ends m last
+  gathers zero k m last more s t e c dead = record {
+    end = m;
+    reach = reach_here (turn g judges start most cuts hands) m;
+    rests = empty_rests g judges start most cuts hands m s.0;
+    log = sym (e ∙ no_more m.log more (t ∙ ap length e));
+    parts = ap (λ (x : Run P). x.parts) s.1;
+  }
+  gathers (suc n) k m last more (i, order, v, o, q, inl (w, s)) t e c dead =
+      let wt = went_tile n k i v w (length m.log) c t in
+      went m last more k i order v w m.over refl e wt.0 o q (gathers n (k + 1) (record m { order = order }) last more s wt.1 e (omega arith) dead)
+  gathers (suc n) k m last more (i, order, v, o, q, inr (x, s)) t e c dead =
+      let lt = led_tile n k i v x (length m.log) t in
+      let st = stood m more k i order v x e lt.0 dead o q in
+      let f = tracks m.log i v in
+      let b : Bool = is_handed hands (length m.log) x.end in
+      let m1 : Run P = after_station g judges start most cuts hands h spans total m k i order v x in
+      let l1 : m1.log ≡ x.log = after_log m i order v f x.end b ∙ x.end_log in
+      let r = gathers n (k + 1) m1 last x.rest s (subst (λ (y : List Entry). Tile spans (k + 1) n (length y) (length h)) (sym l1) lt.1) (x.front ∙ ap (λ (y : List Entry). y ++ x.rest) (sym l1)) (omega arith)
+      (λ z. ap live_after l1 ∙ after_dead m i order v f x.end (live_after x.log ≡ []) b x.exited z) in record {
+        end = r.end;
+        reach = reach_first (turn g judges start most cuts hands) m r.end (subst (λ (y : Run P). Reaches (turn g judges start most cuts hands) y r.end) (sym st.turns) r.reach);
+        rests = r.rests;
+        log = r.log;
+        parts = r.parts;
+      }
+
+  -- the account of what the stations tell is the definition's
+  pub gathered : (ps : List P) (last : Run P) → Seats total 0 (begun ps) last → Tile spans 0 total 0 (length h)
+      → record { log = h; lines = lines_of g judges start most cuts hands h 0 last.parts } ≡ sequence g judges start most cuts hands ps
+  gathered ps last s t =
+      let r = gathers total 0 (begun ps) last h s t refl (omega arith) (λ z. cc) in
+      let e : account_of g judges start most cuts hands r.end ≡ sequence g judges start most cuts hands ps = sequence_is g judges start most cuts hands ps r.end r.reach r.rests in
+      let a : account_of g judges start most cuts hands r.end ≡ record { log = h; lines = lines_of g judges start most cuts hands h 0 last.parts } = λ j. record
+      { log = r.log j; lines = lines_of g judges start most cuts hands (r.log j) 0 (r.parts j) } in
+      sym a ∙ e

@@ -1,135 +1,274 @@
--- Turn by turn a worker keeps what the account needs in the end.
-use Rattle.std.proofs.Common.{◌≡◌, ◌∙◌, sym, ap, subst, refl, ℕ, ◌+◌, ◌≤◌, ◌⊎◌, inl, inr, Bool, true, false, List, [], ◌∷◌, ◌++◌, length, take, Option, Some, None, arith, append-nil, length-append}
-use Rattle.std.specs.Prelude.{slice_get, nat_le, if◌then◌else◌}
+-- What a worker's version keeps from turn to turn.
+use Rattle.std.proofs.Common.{◌≡◌, ◌∙◌, sym, ap, subst, refl, ℕ, ◌+◌, ◌<◌, ◌≤◌, ◌⊎◌, inl, inr, Bool, true, false, List, [], ◌∷◌, ◌++◌, length, take, Option, Some, None, arith, append-nil, length-append}
+use Rattle.std.specs.Prelude.{slice_get, nat_le, not, ◌&&◌, if◌then◌else◌}
+use Rattle.std.proofs.lemmas.Bool.Decides.{nat_tests}
 use Rattle.nv_calls.specs.Calls.{Entry}
-use Rattle.nv_calls.specs.Logs.{Start, served, IsLawful, live_after}
+use Rattle.nv_calls.specs.Logs.{Start, IsLawful, live_after, served}
 use Rattle.nv_threads.specs.Behaviours.{Behaviour, IsProcess}
 use Rattle.nv_threads.specs.declared.turns.Want.TheVariants.{Any}
 use Rattle.nv_threads.specs.declared.turns.Came.{Came}
 use Rattle.nv_threads.specs.declared.turns.Came.TheVariants.{Asked, Fault}
 use Rattle.nv_replay.specs.declared.fate.Fate.{Fate}
 use Rattle.nv_replay.specs.declared.fate.Fate.TheVariants.{Memory}
-use Rattle.nv_replay.specs.Follow.{Follower, Judge, fresh, next, decided, follow, IsInStep}
-use Rattle.nv_replay.specs.Lead.{Leader, next_call}
+use Rattle.nv_replay.specs.Follow.{Follower, Judge, decided, fresh, IsInStep}
+use Rattle.nv_replay.specs.Lead.{Leader}
+use Rattle.nv_replay.specs.Tracks.{track_next}
+use Rattle.nv_replay.specs.Hands.{has, above, is_handed, next_or_hand, lead_to_hand}
+use Rattle.nv_replay.specs.Sequence.{is_on}
+use Rattle.nv_replay.specs.Spans.{EndBy}
 use Rattle.nv_replay.specs.Versions.{Running, IsLeading, asking_next, asking_by, answered_by, leader_of}
-use Rattle.nv_replay.proofs.Settled.{Reaches, reach_here, reach_on}
-use Rattle.nv_replay.proofs.Extending.{extend_by, in_step_on, take_front_of}
-use Rattle.nv_replay.proofs.Stepping.{decided_in_step}
-use Rattle.nv_replay.proofs.Wholes.{next_is, follow_is, rests}
 use Rattle.nv_replay.specs.Turns.{TookTurn, Suits}
 use Rattle.nv_replay.specs.Accounts.{with_span}
+use Rattle.nv_replay.proofs.Settled.{Reaches, reach_here, reach_on}
+use Rattle.nv_replay.proofs.Extending.{in_step_on, take_front_of}
+use Rattle.nv_replay.proofs.Stepping.{decided_in_step}
+use Rattle.nv_replay.proofs.Wholes.{next_is, rests}
+use Rattle.nv_replay.proofs.Tracking.{track_extended, next_behind, ends_later, track_is, track_reached}
+use Rattle.nv_replay.proofs.Stretches.{stage_leads, next_unless, handed_rests, hand_is}
+use Rattle.nv_replay.proofs.Handing.{hands_over}
+use Rattle.nv_replay.proofs.Spanning.{span_end}
+use Rattle.nv_replay.proofs.Numbers.{above_all, above_later, above_less, handed_at}
+use Rattle.nv_replay.proofs.Surviving.{length_take}
 use Rattle.nv_replay.proofs.Turning.{get_last, take_all, turn_dropped, turn_refused, turn_served}
 use Rattle.nv_replay.proofs.Wholly.{suits_now}
-use Rattle.nv_workers.specs.Ends.{IsStage, IsCutOf, begun, HasLedFrom}
+use Rattle.nv_workers.specs.Ends.{IsStage, IsCutOf, tracked, begun, TakesLead, HandedOver, AreHanded, HasLedFrom}
 use Rattle.nv_workers.specs.Turns.{held_list, IsReading, IsServing, IsAsking}
-use Rattle.nv_workers.proofs.Gathering.{IsFirst}
 
-reaches : {S : Type 0} (step : S → S) (s t : S) → IsStage step s t → Reaches step s t
+pub reaches : {S : Type 0} (step : S → S) (s t : S) → IsStage step s t → Reaches step s t
 reaches step s t r = record { steps = r.steps; is = r.is }
 
 is_stage : {S : Type 0} (step : S → S) (s t : S) → Reaches step s t → IsStage step s t
 is_stage step s t r = record { steps = r.steps; is = r.is }
 
-module _ {P : Type 0} (g : Behaviour P) (laws : IsProcess g) (judges : ℕ → Judge) where
+-- a fresh version's process
+pub record IsFirst {P : Type 0} (g : Behaviour P) (p : P) : Type 0 where
+  pub live : g.live p ≡ 100 ∷ []
+  pub on : g.ended p ≡ None
+
+-- an element of a list with one more at its end
+pub split_last : {X : Type 0} (xs front back : List X) (x y : X) → xs ++ x ∷ [] ≡ front ++ y ∷ back
+    → ((xs ≡ front) × (x ≡ y)) ⊎ ((more : List X) × (xs ≡ front ++ y ∷ more))
+split_last [] [] back x y h = let k : x ≡ y = cc in inl (refl, k)
+split_last [] (z ∷ front) back x y h = absurd (omega (arith, ap length h, length-append front (y ∷ back)))
+split_last (w ∷ xs) [] back x y h = let k : w ≡ y = cc in inr (xs, ap (λ z. z ∷ xs) k)
+split_last (w ∷ xs) (z ∷ front) back x y h =
+    let k : w ≡ z = cc in
+    let t : xs ++ x ∷ [] ≡ front ++ y ∷ back = cc in
+    elim (split_last xs front back x y t) [
+      | inl (e, f) ↦ inl ((λ i. k i ∷ e i), f)
+      | inr (m, e) ↦ inr (m, (λ i. k i ∷ e i))
+    ]
+
+and_no : (b : Bool) → (b && false) ≡ false
+and_no true = refl
+and_no false = refl
+
+-- a leader goes on where no length is planned
+pub stays_unplanned : {P : Type 0} (hands : List ℕ) (from : ℕ) (l : Leader P) → has hands (length l.log) ≡ false → is_handed hands from l ≡ false
+stays_unplanned hands from l h = rw (h, and_no (not (nat_le (length l.log) from))) (and_no (is_on l.fate))
+
+-- and where it has served no call
+pub stays_here : {P : Type 0} (hands : List ℕ) (l : Leader P) → is_handed hands (length l.log) l ≡ false
+stays_here hands l =
+    let k : nat_le (length l.log) (length l.log) ≡ true = grind (arith, nat_tests) in
+    rw k (and_no (is_on l.fate))
+
+-- it gives up the lead where it has served one and this length is planned
+pub hands_planned : {P : Type 0} (hands : List ℕ) (from : ℕ) (l : Leader P) → l.fate ≡ None → from < length l.log → has hands (length l.log) ≡ true → is_handed hands from l ≡ true
+hands_planned hands from l n m h =
+    let k : nat_le (length l.log) from ≡ false = grind (arith, nat_tests) in
+    rw (n, k, h) refl
+
+module _ {P : Type 0} (g : Behaviour P) (laws : IsProcess g) (judges : ℕ → Judge) (replies : Start) (most : ℕ) (hands : List ℕ) where
+  abbrev Handed : ℕ → P → List (ℕ × ℕ) → List Entry → Type 0
+  Handed i p led log = AreHanded g judges replies most hands i p led log
+
+  abbrev Reading : ℕ → P → Running P → List Entry → Option Entry → Type 0
+  Reading i p v log held = IsReading g judges replies most hands i p v log held
+
+  -- the log has become longer
+  pub handed_longer : (i : ℕ) (p : P) (led : List (ℕ × ℕ)) (log more : List Entry) → Handed i p led log → Handed i p led (log ++ more)
+  handed_longer i p led log more a front back from to e =
+      let h = a front back from to e in
+      let w = h.within in
+      let gr = h.grew in
+      let a : take from (log ++ more) ≡ take from log = take_front_of log more from (omega arith) in
+      let b : take to (log ++ more) ≡ take to log = take_front_of log more to (omega arith) in
+      record {
+        within = omega (arith, length-append log more);
+        grew = h.grew;
+        planned = h.planned;
+        takes = subst (λ (x : List Entry). TakesLead g judges i p front x) (sym a) h.takes;
+        process = h.process;
+        lead = λ c u. ap (λ (x : List Entry). lead_to_hand g replies most c hands from (begun g judges i p front x)) a
+            ∙ (h.lead c u ∙ ap (λ (x : List Entry). record { process = h.process; log = x; fate = None }) (sym b));
+      }
+
+  handed_same : (i : ℕ) (p : P) (led new : List (ℕ × ℕ)) (log : List Entry) → new ≡ led → Handed i p led log → Handed i p new log
+  handed_same i p led new log e h = subst (λ (x : List (ℕ × ℕ)). Handed i p x log) (sym e) h
+
+  handed_none : (i : ℕ) (p : P) (led : List (ℕ × ℕ)) (log : List Entry) → led ≡ [] → Handed i p led log
+  handed_none i p led log e front back from to q =
+      absurd (omega (arith, ap length (sym e ∙ q), length-append front ((from, to) ∷ back)))
+
   -- a fresh version behind an empty list
-  pub reads_first : (i : ℕ) (p : P) (v : Running P) → v.index ≡ i → IsFirst g p → v.at ≡ fresh p → v.led ≡ [] → v.leading ≡ false → v.asked ≡ None → IsReading g judges i p v [] None
+  pub reads_first : (i : ℕ) (p : P) (v : Running P) → v.index ≡ i → IsFirst g p → v.at ≡ fresh p → v.led ≡ [] → v.leading ≡ false → v.asked ≡ None
+      → Reading i p v [] None
   reads_first i p v n f a l d k = record {
     index = n;
     on = ap (λ (x : Follower P). x.fate) a;
-    not_led = l;
     idle = d;
     none_asked = k;
     seen = ap (λ (x : Follower P). x.seen) a;
     in_step = subst (λ (x : Follower P). IsInStep g [] x) (sym a) (record { within = omega arith; live = λ z. f.live; on = λ z. f.on; exited = λ z. cc });
-    stage = subst (λ (x : Follower P). IsStage (next g (judges i) []) (fresh p) x) (sym a) (is_stage (next g (judges i) []) (fresh p) (fresh p) (reach_here (next g (judges i) []) (fresh p)));
+    handed = handed_none i p v.led [] l;
+    behind = subst (λ (x : List (ℕ × ℕ)). EndBy v.at.seen x) (sym l) (record { each = λ j x y. cc });
+    few = omega (arith, ap length l, above_all hands v.at.seen);
+    stage = subst (λ (x : Follower P). IsStage (track_next g (judges i) v.led []) (fresh p) x) (sym a)
+        (is_stage (track_next g (judges i) v.led []) (fresh p) (fresh p) (reach_here (track_next g (judges i) v.led []) (fresh p)));
   }
 
   -- the event that is held, or comes now
-  with_held : (i : ℕ) (p : P) (at : Follower P) (log : List Entry) (e : Entry) (held : Option Entry) → (held ≡ None) ⊎ (held ≡ Some e) → Reaches (next g (judges i) (log ++ held_list held)) (fresh p) at → Reaches (next g (judges i) (log ++ e ∷ [])) (fresh p) at
-  with_held i p at log e None h r =
-      let r' : Reaches (next g (judges i) log) (fresh p) at = subst (λ (x : List Entry). Reaches (next g (judges i) x) (fresh p) at) (append-nil log) r in
-      extend_by g laws (judges i) log (e ∷ []) r'.steps (fresh p) at r'.is
-  with_held i p at log e (Some d) (inl h) r = cc
-  with_held i p at log e (Some d) (inr h) r = let k : d ≡ e = cc in subst (λ (x : Entry). Reaches (next g (judges i) (log ++ x ∷ [])) (fresh p) at) k r
+  with_held : (i : ℕ) (p : P) (led : List (ℕ × ℕ)) (at : Follower P) (log : List Entry) (e : Entry) (held : Option Entry) → (held ≡ None) ⊎ (held ≡ Some e)
+      → Reaches (track_next g (judges i) led (log ++ held_list held)) (fresh p) at → Reaches (track_next g (judges i) led (log ++ e ∷ [])) (fresh p) at
+  with_held i p led at log e None h r =
+      let r' : Reaches (track_next g (judges i) led log) (fresh p) at = subst (λ (x : List Entry). Reaches (track_next g (judges i) led x) (fresh p) at) (append-nil log) r in
+      track_extended g (judges i) led log (e ∷ []) r'.steps (fresh p) at r'.is
+  with_held i p led at log e (Some d) (inl h) r = cc
+  with_held i p led at log e (Some d) (inr h) r =
+      let k : d ≡ e = cc in
+      subst (λ (x : Entry). Reaches (track_next g (judges i) led (log ++ x ∷ [])) (fresh p) at) k r
 
   -- the next event comes
-  pub with_next_held : (i : ℕ) (p : P) (v : Running P) (log : List Entry) (e : Entry) → IsReading g judges i p v log None
-      → IsReading g judges i p v log (Some e)
+  pub with_next_held : (i : ℕ) (p : P) (v : Running P) (log : List Entry) (e : Entry) → Reading i p v log None → Reading i p v log (Some e)
   with_next_held i p v log e r =
-      let q = with_held i p v.at log e None (inl refl) (reaches (next g (judges i) (log ++ held_list None)) (fresh p) v.at r.stage) in
+      let q = with_held i p v.led v.at log e None (inl refl) (reaches (track_next g (judges i) v.led (log ++ held_list None)) (fresh p) v.at r.stage) in
       record {
         index = r.index;
         on = r.on;
-        not_led = r.not_led;
         idle = r.idle;
         none_asked = r.none_asked;
         seen = r.seen;
         in_step = r.in_step;
-        stage = is_stage (next g (judges i) (log ++ e ∷ [])) (fresh p) v.at q;
+        handed = r.handed;
+        behind = r.behind;
+        few = r.few;
+        stage = is_stage (track_next g (judges i) v.led (log ++ e ∷ [])) (fresh p) v.at q;
       }
 
   -- one decision on it
-  pub decides : (i : ℕ) (p : P) (v new : Running P) (log : List Entry) (e : Entry) (held : Option Entry) → IsReading g judges i p v log held → (held ≡ None) ⊎ (held ≡ Some e) → IsLawful (log ++ e ∷ []) → new ≡ record v { at = decided g (judges i) e v.at }
-      → IsStage (next g (judges i) (log ++ e ∷ [])) (fresh p) new.at × IsInStep g (log ++ e ∷ []) new.at
+  pub decides : (i : ℕ) (p : P) (v new : Running P) (log : List Entry) (e : Entry) (held : Option Entry) → Reading i p v log held → (held ≡ None) ⊎ (held ≡ Some e)
+      → IsLawful (log ++ e ∷ []) → new ≡ record v { at = decided g (judges i) e v.at }
+      → IsStage (track_next g (judges i) new.led (log ++ e ∷ [])) (fresh p) new.at × IsInStep g (log ++ e ∷ []) new.at
   decides i p v new log e held r h law k =
       let at : slice_get (log ++ e ∷ []) v.at.seen ≡ Some e = ap (slice_get (log ++ e ∷ [])) r.seen ∙ get_last log e in
       let a : new.at ≡ decided g (judges i) e v.at = ap (λ (x : Running P). x.at) k in
-      let q = with_held i p v.at log e held h (reaches (next g (judges i) (log ++ held_list held)) (fresh p) v.at r.stage) in
-      let one : next g (judges i) (log ++ e ∷ []) v.at ≡ new.at = next_is g laws (judges i) (log ++ e ∷ []) e v.at at r.on ∙ sym a in
-      let st = subst (λ (x : Follower P). Reaches (next g (judges i) (log ++ e ∷ [])) (fresh p) x) one (reach_on (next g (judges i) (log ++ e ∷ [])) (fresh p) v.at q) in
-      let s : IsInStep g (log ++ e ∷ []) (decided g (judges i) e v.at) = decided_in_step g laws (judges i) (log ++ e ∷ []) e v.at law at (in_step_on g log (e ∷ []) v.at r.in_step) r.on in
-      (is_stage (next g (judges i) (log ++ e ∷ [])) (fresh p) new.at st, subst (λ (x : Follower P). IsInStep g (log ++ e ∷ []) x) (sym a) s)
+      let b : new.led ≡ v.led = ap (λ (x : Running P). x.led) k in
+      let q = with_held i p v.led v.at log e held h (reaches (track_next g (judges i) v.led (log ++ held_list held)) (fresh p) v.at r.stage) in
+      let one : track_next g (judges i) v.led (log ++ e ∷ []) v.at ≡ new.at = next_behind g (judges i) v.led (log ++ e ∷ []) v.at r.behind
+      ∙ (next_is g laws (judges i) (log ++ e ∷ []) e v.at at r.on ∙ sym a) in
+      let st = subst (λ (x : Follower P). Reaches (track_next g (judges i) v.led (log ++ e ∷ [])) (fresh p) x) one
+      (reach_on (track_next g (judges i) v.led (log ++ e ∷ [])) (fresh p) v.at q) in
+      let s : IsInStep g (log ++ e ∷ []) (decided g (judges i) e v.at) = decided_in_step g laws (judges i) (log ++ e ∷ []) e v.at law at
+      (in_step_on g log (e ∷ []) v.at r.in_step) r.on in (
+        subst (λ (x : List (ℕ × ℕ)). IsStage (track_next g (judges i) x (log ++ e ∷ [])) (fresh p) new.at) (sym b)
+            (is_stage (track_next g (judges i) v.led (log ++ e ∷ [])) (fresh p) new.at st),
+        subst (λ (x : Follower P). IsInStep g (log ++ e ∷ []) x) (sym a) s,
+      )
 
-  -- Matched, Skipped: the seen list grows
-  pub reads_on : (i : ℕ) (p : P) (v new : Running P) (log : List Entry) (e : Entry) (held : Option Entry) → IsReading g judges i p v log held → (held ≡ None) ⊎ (held ≡ Some e) → IsLawful (log ++ e ∷ []) → new ≡ record v { at = decided g (judges i) e v.at }
-      → new.at.seen ≡ v.at.seen + 1 → new.at.fate ≡ None → IsReading g judges i p new (log ++ e ∷ []) None
-  reads_on i p v new log e held r h law k s n =
-      let d = decides i p v new log e held r h law k in record {
-        index = ap (λ (x : Running P). x.index) k ∙ r.index;
-        on = n;
-        not_led = ap (λ (x : Running P). x.led) k ∙ r.not_led;
-        idle = ap (λ (x : Running P). x.leading) k ∙ r.idle;
-        none_asked = ap (λ (x : Running P). x.asked) k ∙ r.none_asked;
-        seen = omega (arith, s, r.seen, length-append log (e ∷ []));
-        in_step = d.1;
-        stage = subst (λ (x : List Entry). IsStage (next g (judges i) x) (fresh p) new.at) (sym (append-nil (log ++ e ∷ []))) d.0;
-      }
+  module _ (i : ℕ) (p : P) (v new : Running P) (log : List Entry) (e : Entry) (held : Option Entry) (r : Reading i p v log held) (h : (held ≡ None) ⊎ (held ≡ Some e))
+      (law : IsLawful (log ++ e ∷ [])) (k : new ≡ record v { at = decided g (judges i) e v.at }) where
+    led_same : new.led ≡ v.led
+    led_same = ap (λ (x : Running P). x.led) k
 
-  -- Rewrote: the event is held
-  pub reads_held : (i : ℕ) (p : P) (v new : Running P) (log : List Entry) (e : Entry) (held : Option Entry) → IsReading g judges i p v log held → (held ≡ None) ⊎ (held ≡ Some e) → IsLawful (log ++ e ∷ []) → new ≡ record v { at = decided g (judges i) e v.at }
-      → new.at.seen ≡ v.at.seen → new.at.fate ≡ None → IsReading g judges i p new log (Some e)
-  reads_held i p v new log e held r h law k s n =
-      let d = decides i p v new log e held r h law k in
-      let w : new.at.seen ≤ length log = omega (arith, s, r.seen) in
-      let t : take new.at.seen (log ++ e ∷ []) ≡ take new.at.seen log = take_front_of log (e ∷ []) new.at.seen w in record {
-        index = ap (λ (x : Running P). x.index) k ∙ r.index;
-        on = n;
-        not_led = ap (λ (x : Running P). x.led) k ∙ r.not_led;
-        idle = ap (λ (x : Running P). x.leading) k ∙ r.idle;
-        none_asked = ap (λ (x : Running P). x.asked) k ∙ r.none_asked;
-        seen = s ∙ r.seen;
-        in_step = record { within = w; live = λ z. d.1.live z ∙ ap live_after t; on = d.1.on; exited = λ z. ap live_after (sym t) ∙ d.1.exited z };
-        stage = d.0;
-      }
+    few_on : v.at.seen ≤ new.at.seen → length new.led + above hands new.at.seen ≤ length hands
+    few_on l = let f = r.few in omega (arith, ap length led_same, above_later hands v.at.seen new.at.seen l)
 
-module _ {P : Type 0} (g : Behaviour P) (laws : IsProcess g) (judges : ℕ → Judge) (replies : Start) (most : ℕ) where
+    behind_on : v.at.seen ≤ new.at.seen → EndBy new.at.seen new.led
+    behind_on l = subst (λ (x : List (ℕ × ℕ)). EndBy new.at.seen x) (sym led_same) (ends_later v.led v.at.seen new.at.seen r.behind l)
+
+    -- the parts that it led stand behind it, whatever has come of the event
+    pub parts_on : Handed i p new.led (log ++ e ∷ [])
+    parts_on = handed_same i p v.led new.led (log ++ e ∷ []) led_same (handed_longer i p v.led log (e ∷ []) r.handed)
+
+    pub parts_still : Handed i p new.led log
+    parts_still = handed_same i p v.led new.led log led_same r.handed
+
+    -- Matched, Skipped: the seen list grows
+    pub reads_on : new.at.seen ≡ v.at.seen + 1 → new.at.fate ≡ None → Reading i p new (log ++ e ∷ []) None
+    reads_on s n =
+        let d = decides i p v new log e held r h law k in
+        let l : v.at.seen ≤ new.at.seen = omega (arith, s) in record {
+          index = ap (λ (x : Running P). x.index) k ∙ r.index;
+          on = n;
+          idle = ap (λ (x : Running P). x.leading) k ∙ r.idle;
+          none_asked = ap (λ (x : Running P). x.asked) k ∙ r.none_asked;
+          seen = omega (arith, s, r.seen, length-append log (e ∷ []));
+          in_step = d.1;
+          handed = parts_on;
+          behind = behind_on l;
+          few = few_on l;
+          stage = subst (λ (x : List Entry). IsStage (track_next g (judges i) new.led x) (fresh p) new.at) (sym (append-nil (log ++ e ∷ []))) d.0;
+        }
+
+    -- Rewrote: the event is held
+    pub reads_held : new.at.seen ≡ v.at.seen → new.at.fate ≡ None → Reading i p new log (Some e)
+    reads_held s n =
+        let d = decides i p v new log e held r h law k in
+        let l : v.at.seen ≤ new.at.seen = omega (arith, s) in
+        let w : new.at.seen ≤ length log = omega (arith, s, r.seen) in
+        let t : take new.at.seen (log ++ e ∷ []) ≡ take new.at.seen log = take_front_of log (e ∷ []) new.at.seen w in record {
+          index = ap (λ (x : Running P). x.index) k ∙ r.index;
+          on = n;
+          idle = ap (λ (x : Running P). x.leading) k ∙ r.idle;
+          none_asked = ap (λ (x : Running P). x.asked) k ∙ r.none_asked;
+          seen = s ∙ r.seen;
+          in_step = record { within = w; live = λ z. d.1.live z ∙ ap live_after t; on = d.1.on; exited = λ z. ap live_after (sym t) ∙ d.1.exited z };
+          handed = parts_still;
+          behind = behind_on l;
+          few = few_on l;
+          stage = d.0;
+        }
+
+  abbrev Serving : ℕ → P → Running P → List (ℕ × ℕ) → ℕ → List Entry → Type 0
+  Serving i p v led from log = IsServing g judges replies most hands false i p v led from log
+
+  abbrev Led : ℕ → P → Running P → List (ℕ × ℕ) → ℕ → List Entry → Type 0
+  Led i p v led from log = HasLedFrom g judges replies most hands i p v led from log
+
   -- the reader takes the lead
-  pub takes : (i : ℕ) (p : P) (v : Running P) (log : List Entry) → IsReading g judges i p v log None → IsServing g judges replies most i p (with_span v (length log)) (length log) log
+  pub takes : (i : ℕ) (p : P) (v : Running P) (log : List Entry) → Reading i p v log None → Serving i p (with_span v (length log)) v.led (length log) log
   takes i p v log r =
-      let q : Reaches (next g (judges i) log) (fresh p) v.at = subst (λ (x : List Entry). Reaches (next g (judges i) x) (fresh p) v.at) (append-nil log) (reaches (next g (judges i) (log ++ [])) (fresh p) v.at r.stage) in
-      let f : v.at ≡ follow g (judges i) log (fresh p) = follow_is g laws (judges i) log (fresh p) v.at q (rests g laws (judges i) log v.at (inl (omega (arith, r.seen)))) in
+      let q : Reaches (track_next g (judges i) v.led log) (fresh p) v.at = subst (λ (x : List Entry). Reaches (track_next g (judges i) v.led x) (fresh p) v.at) (append-nil log)
+      (reaches (track_next g (judges i) v.led (log ++ [])) (fresh p) v.at r.stage) in
+      let rest : track_next g (judges i) v.led log v.at ≡ v.at = next_behind g (judges i) v.led log v.at r.behind ∙ rests g laws (judges i) log v.at (inl (omega (arith, r.seen))) in
+      let f : v.at ≡ tracked g judges i p v.led log = track_is g laws (judges i) v.led log (fresh p) v.at q rest in
       let all : take (length log) log ≡ log = take_all log in
-      let f' : v.at ≡ follow g (judges i) (take (length log) log) (fresh p) = f ∙ ap (λ (x : List Entry). follow g (judges i) x (fresh p)) (sym all) in
-      let b : begun g judges replies most i p (take (length log) log) ≡ leader_of (with_span v (length log)) log = λ j. record { process = ((sym f') j).process; log = all j; fate = (sym r.on) j } in record {
+      let f' : v.at ≡ tracked g judges i p v.led (take (length log) log) = f ∙ ap (λ (x : List Entry). tracked g judges i p v.led x) (sym all) in
+      let T : List Entry → Type 0 = λ x. TakesLead g judges i p v.led x in
+      let t : T log = record {
+        on = ap (λ (x : Follower P). x.fate) (sym f) ∙ r.on;
+        seen = ap (λ (x : Follower P). x.seen) (sym f) ∙ r.seen;
+        in_step = subst (λ (x : Follower P). IsInStep g log x) f r.in_step;
+      } in
+      let b : begun g judges i p v.led (take (length log) log) ≡ leader_of (with_span v (length log)) log = λ j. record { process = ((sym f') j).process; log = all j; fate = (sym r.on) j } in record {
         on = r.on;
         none_asked = r.none_asked;
-        led = record {
+        handed = stays_here hands (leader_of (with_span v (length log)) log);
+        led_from = record {
+          index = r.index;
+          handed = r.handed;
+          behind = subst (λ (n : ℕ). EndBy n v.led) r.seen r.behind;
+          few = subst (λ (n : ℕ). length v.led + above hands n ≤ length hands) r.seen r.few;
           within = omega arith;
-          on = ap (λ (x : Follower P). x.fate) (sym f') ∙ r.on;
-          stage = λ c u. subst (λ (x : Leader P). IsStage (next_call g replies most c) (begun g judges replies most i p (take (length log) log)) x) b (is_stage (next_call g replies most c) (begun g judges replies most i p (take (length log) log)) (begun g judges replies most i p (take (length log) log)) (reach_here (next_call g replies most c) (begun g judges replies most i p (take (length log) log))));
+          takes = subst T (sym all) t;
+          stage = λ c u.
+              subst (λ (x : Leader P). IsStage (next_or_hand g replies most c hands (length log)) (begun g judges i p v.led (take (length log) log)) x) b
+              (is_stage (next_or_hand g replies most c hands (length log)) (begun g judges i p v.led (take (length log) log)) (begun g judges i p v.led (take (length log) log))
+              (reach_here (next_or_hand g replies most c hands (length log)) (begun g judges i p v.led (take (length log) log))));
           rewrites = ap (λ (x : Follower P). x.rewrites) f';
           seen = r.seen;
-          span = ap (λ (x : List (ℕ × ℕ)). x ++ (length log, length log) ∷ []) r.not_led;
+          span = refl;
           leading = refl;
           in_step = r.in_step;
         };
@@ -142,46 +281,134 @@ module _ {P : Type 0} (g : Behaviour P) (laws : IsProcess g) (judges : ℕ → J
   is_cut_of c f n u = record { below = u.below; end = u.end }
 
   -- a leader's turn
-  pub leads_on : (i : ℕ) (p : P) (v new : Running P) (from : ℕ) (log more : List Entry) → IsServing g judges replies most i p v from log → TookTurn g replies most v new log (log ++ more) → HasLedFrom g judges replies most i p new from (log ++ more)
-  leads_on i p v new from log more s t =
-      let front : take from (log ++ more) ≡ take from log = take_front_of log more from s.led.within in record {
-        within = omega (arith, s.led.within, length-append log more);
-        on = subst (λ (x : List Entry). (follow g (judges i) x (fresh p)).fate ≡ None) (sym front) s.led.on;
+  pub leads_on : (i : ℕ) (p : P) (v new : Running P) (led : List (ℕ × ℕ)) (from : ℕ) (log more : List Entry) → Serving i p v led from log
+      → TookTurn g replies most v new log (log ++ more) → Led i p new led from (log ++ more)
+  leads_on i p v new led from log more s t =
+      let o = s.led_from in
+      let front : take from (log ++ more) ≡ take from log = take_front_of log more from o.within in
+      let start : Leader P = begun g judges i p led (take from log) in record {
+        index = t.on.index ∙ o.index;
+        handed = handed_longer i p led log more o.handed;
+        behind = o.behind;
+        few = o.few;
+        within = omega (arith, o.within, length-append log more);
+        takes = subst (λ (x : List Entry). TakesLead g judges i p led x) (sym front) o.takes;
         stage = λ c u.
+            let step = next_or_hand g replies most c hands from in
             let a = suits_now g laws replies most c v.at.fate new.at.fate (length log) (length (log ++ more)) s.on t.grew t.same (suits c new.at.fate (length (log ++ more)) u) in
-            let r = reaches (next_call g replies most c) (begun g judges replies most i p (take from log)) (leader_of v log) (s.led.stage c (is_cut_of c v.at.fate (length log) a.0)) in
-            let r' = subst (λ (x : Leader P). Reaches (next_call g replies most c) (begun g judges replies most i p (take from log)) x) (sym (t.step c a.1)) (reach_on (next_call g replies most c) (begun g judges replies most i p (take from log)) (leader_of v log) r) in
-            subst (λ (x : List Entry). IsStage (next_call g replies most c) (begun g judges replies most i p x) (leader_of new (log ++ more))) (sym front) (is_stage (next_call g replies most c) (begun g judges replies most i p (take from log)) (leader_of new (log ++ more)) r');
-        rewrites = t.on.rewrites ∙ (s.led.rewrites ∙ ap (λ (x : List Entry). (follow g (judges i) x (fresh p)).rewrites) (sym front));
+            let r = reaches step start (leader_of v log) (o.stage c (is_cut_of c v.at.fate (length log) a.0)) in
+            let one : step (leader_of v log) ≡ leader_of new (log ++ more) = next_unless g replies most c hands from (leader_of v log) s.handed ∙ sym (t.step c a.1) in
+            let r' = subst (λ (x : Leader P). Reaches step start x) one (reach_on step start (leader_of v log) r) in
+            subst (λ (x : List Entry). IsStage step (begun g judges i p led x) (leader_of new (log ++ more))) (sym front) (is_stage step start (leader_of new (log ++ more)) r');
+        rewrites = t.on.rewrites ∙ (o.rewrites ∙ ap (λ (x : List Entry). (tracked g judges i p led x).rewrites) (sym front));
         seen = t.on.seen;
-        span = t.on.span [] from (s.led.span ∙ ap (λ (m : ℕ). (from, m) ∷ []) (sym s.led.seen)) ∙ ap (λ (m : ℕ). (from, m) ∷ []) t.on.seen;
-        leading = t.on.leading ∙ s.led.leading;
+        span = t.on.span led from (o.span ∙ ap (λ (m : ℕ). led ++ (from, m) ∷ []) (sym o.seen)) ∙ ap (λ (m : ℕ). led ++ (from, m) ∷ []) t.on.seen;
+        leading = t.on.leading ∙ o.leading;
         in_step = t.on.in_step;
       }
 
-  pub leading : (i : ℕ) (p : P) (v : Running P) (from : ℕ) (log : List Entry) → IsServing g judges replies most i p v from log → IsLeading v
-  leading i p v from log s = record { on = s.on; leading = s.led.leading; none_asked = s.none_asked }
+  pub leading : (i : ℕ) (p : P) (v : Running P) (led : List (ℕ × ℕ)) (from : ℕ) (log : List Entry) → Serving i p v led from log → IsLeading v
+  leading i p v led from log s = record { on = s.on; leading = s.led_from.leading; none_asked = s.none_asked }
 
-  same_log : (i : ℕ) (p : P) (new : Running P) (from : ℕ) (log : List Entry) → HasLedFrom g judges replies most i p new from (log ++ []) → HasLedFrom g judges replies most i p new from log
-  same_log i p new from log h = subst (λ (x : List Entry). HasLedFrom g judges replies most i p new from x) (append-nil log) h
+  same_log : (i : ℕ) (p : P) (new : Running P) (led : List (ℕ × ℕ)) (from : ℕ) (log : List Entry) → Led i p new led from (log ++ []) → Led i p new led from log
+  same_log i p new led from log h = subst (λ (x : List Entry). Led i p new led from x) (append-nil log) h
 
   -- it was dropped at its advance
-  pub drops : (i : ℕ) (p : P) (v new : Running P) (from : ℕ) (log : List Entry) → IsServing g judges replies most i p v from log → new ≡ asking_next g most v → new.asked ≡ None → HasLedFrom g judges replies most i p new from log
-  drops i p v new from log s k a =
-      let t = turn_dropped g laws replies most v log new (leading i p v from log s) s.led.seen s.led.in_step k a in
-      same_log i p new from log (leads_on i p v new from log [] s (subst (λ (x : List Entry). TookTurn g replies most v new log x) (sym (append-nil log)) t))
+  pub drops : (i : ℕ) (p : P) (v new : Running P) (led : List (ℕ × ℕ)) (from : ℕ) (log : List Entry) → Serving i p v led from log → new ≡ asking_next g most v → new.asked ≡ None
+      → Led i p new led from log
+  drops i p v new led from log s k a =
+      let t = turn_dropped g laws replies most v log new (leading i p v led from log s) s.led_from.seen s.led_from.in_step k a in
+      same_log i p new led from log (leads_on i p v new led from log [] s (subst (λ (x : List Entry). TookTurn g replies most v new log x) (sym (append-nil log)) t))
+
+  abbrev Asking : ℕ → P → Running P → List (ℕ × ℕ) → ℕ → List Entry → Type 0
+  Asking i p v led from log = IsAsking g judges replies most hands i p v led from log
 
   -- memory was refused
-  pub refuses : (i : ℕ) (p : P) (v new : Running P) (t from : ℕ) (log : List Entry) → IsAsking g judges replies most i p v from log → v.asked ≡ Some t → new ≡ record v { at = record v.at { fate = Some Memory } } → HasLedFrom g judges replies most i p new from log
-  refuses i p v new t from log s a k =
-      let u = turn_refused g laws replies most s.before log v new t (leading i p s.before from log s.serving) s.serving.led.seen s.serving.led.in_step s.asking a k in
-      same_log i p new from log (leads_on i p s.before new from log [] s.serving (subst (λ (x : List Entry). TookTurn g replies most s.before new log x) (sym (append-nil log)) u))
+  pub refuses : (i : ℕ) (p : P) (v new : Running P) (t : ℕ) (led : List (ℕ × ℕ)) (from : ℕ) (log : List Entry) → Asking i p v led from log → v.asked ≡ Some t
+      → new ≡ record v { at = record v.at { fate = Some Memory } } → Led i p new led from log
+  refuses i p v new t led from log s a k =
+      let u = turn_refused g laws replies most s.before log v new t (leading i p s.before led from log s.serving) s.serving.led_from.seen s.serving.led_from.in_step s.asking a k in
+      same_log i p new led from log (leads_on i p s.before new led from log [] s.serving (subst (λ (x : List Entry). TookTurn g replies most s.before new log x) (sym (append-nil log)) u))
 
   -- the call was served, published and answered
-  pub publishes : (i : ℕ) (p : P) (v new : Running P) (t from : ℕ) (log : List Entry) → IsAsking g judges replies most i p v from log → v.asked ≡ Some t → new ≡ answered_by g (served replies log (g.call v.at.process t)) v → IsLawful (log ++ served replies log (g.call v.at.process t) ∷ []) → HasLedFrom g judges replies most i p new from (log ++ served replies log (g.call v.at.process t) ∷ [])
-  publishes i p v new t from log s a k law =
-      let u = turn_served g laws replies most s.before log v new t (log ++ served replies log (g.call v.at.process t) ∷ []) (leading i p s.before from log s.serving) s.serving.led.seen s.serving.led.in_step s.asking a refl k law in
-      leads_on i p s.before new from log (served replies log (g.call v.at.process t) ∷ []) s.serving u
+  pub publishes : (i : ℕ) (p : P) (v new : Running P) (t : ℕ) (led : List (ℕ × ℕ)) (from : ℕ) (log : List Entry) → Asking i p v led from log → v.asked ≡ Some t
+      → new ≡ answered_by g (served replies log (g.call v.at.process t)) v → IsLawful (log ++ served replies log (g.call v.at.process t) ∷ [])
+      → Led i p new led from (log ++ served replies log (g.call v.at.process t) ∷ [])
+  publishes i p v new t led from log s a k law =
+      let e = served replies log (g.call v.at.process t) in
+      let u = turn_served g laws replies most s.before log v new t (log ++ e ∷ []) (leading i p s.before led from log s.serving) s.serving.led_from.seen s.serving.led_from.in_step
+      s.asking a refl k law in
+      leads_on i p s.before new led from log (e ∷ []) s.serving u
+
+  -- behind its last part, which ends where the log does, the version gives up the lead
+  gave_up : (i : ℕ) (p : P) (v : Running P) (led : List (ℕ × ℕ)) (from : ℕ) (log : List Entry) → Led i p v led from log → v.at.fate ≡ None → from < length log
+      → has hands (length log) ≡ true → HandedOver g judges replies most hands i p led from (length log) log
+  gave_up i p v led from log s n m h =
+      let all : take (length log) log ≡ log = take_all log in
+      let l : Leader P = leader_of v log in
+      let hd : is_handed hands from l ≡ true = hands_planned hands from l n m h in
+      let l0 : l ≡ record { process = v.at.process; log = take (length log) log; fate = None } = λ j. record { process = v.at.process; log = sym all j; fate = n j } in
+      record {
+        within = omega arith;
+        grew = m;
+        planned = h;
+        takes = s.takes;
+        process = v.at.process;
+        lead = λ c u.
+            let u' : IsCutOf c v.at.fate (length log) = subst (λ (x : Option Fate). IsCutOf c x (length log)) (sym n) u in
+            let r = reaches (next_or_hand g replies most c hands from) (begun g judges i p led (take from log)) l (s.stage c u') in
+            sym (hand_is g replies most c hands from laws (begun g judges i p led (take from log)) l r (handed_rests g replies most c hands from l hd)) ∙ l0;
+      }
+
+  pub gives_up : (i : ℕ) (p : P) (v : Running P) (led : List (ℕ × ℕ)) (from : ℕ) (log : List Entry) → IsServing g judges replies most hands true i p v led from log
+      → Reading i p (record v { leading = false }) log None
+  gives_up i p v led from log sv =
+      let s = sv.led_from in
+      let hd = handed_at hands from (leader_of v log) sv.handed in
+      let n = sv.on in
+      let m = hd.grew in
+      let h = hd.planned in
+      let free : IsCutOf None v.at.fate (length log) = record { below = λ j l. refl; end = λ z. let y : true ≡ false = ap is_on (sym n) ∙ z in cc } in
+      let l0 : Leader P = begun g judges i p led (take from log) in
+      let st = s.stage None free in
+      let r = stage_leads g replies most None hands from st.steps l0 (leader_of v log) st.is in
+      let x = hands_over g (judges i) replies most None led (take from log) p (tracked g judges i p led (take from log)) r.steps (leader_of v log)
+      (track_reached g laws (judges i) led (take from log) (fresh p)) s.takes.seen s.takes.on r.is n in
+      let at : record { process = v.at.process; seen = length log; rewrites = (tracked g judges i p led (take from log)).rewrites; fate = None } ≡ v.at = λ j. record
+      { process = v.at.process; seen = sym s.seen j; rewrites = sym s.rewrites j; fate = sym n j } in
+      let long : length (take from log) ≡ from = length_take log from s.within in
+      let sp : led ++ (length (take from log), length log) ∷ [] ≡ v.led = ap (λ (y : ℕ). led ++ (y, length log) ∷ []) long ∙ sym s.span in
+      let T : List (ℕ × ℕ) → Follower P → Type 0 = λ y f. Reaches (track_next g (judges i) y log) (fresh p) f in
+      let x' : T v.led v.at = subst (λ (y : List (ℕ × ℕ)). T y v.at) sp (subst (λ (f : Follower P). T (led ++ (length (take from log), length log) ∷ []) f) at x) in
+      let last = gave_up i p v led from log s n m h in
+      let over : Handed i p (led ++ (from, length log) ∷ []) log = λ front back a b e. elim (split_last led front back (from, length log) (a, b) e) [
+        | inl (q, y) ↦
+            let ya : from ≡ a = ap (λ (z : ℕ × ℕ). z.0) y in
+            let yb : length log ≡ b = ap (λ (z : ℕ × ℕ). z.1) y in
+            let H : List (ℕ × ℕ) → ℕ → ℕ → Type 0 = λ f c d. HandedOver g judges replies most hands i p f c d log in
+            subst (λ (f : List (ℕ × ℕ)). H f a b) q (subst (λ (c : ℕ). H led c b) ya (subst (λ (d : ℕ). H led from d) yb last))
+        | inr (more, q) ↦ s.handed front more a b q
+      ] in record {
+        index = s.index;
+        on = n;
+        idle = refl;
+        none_asked = sv.none_asked;
+        seen = s.seen;
+        in_step = s.in_step;
+        handed = handed_same i p (led ++ (from, length log) ∷ []) v.led log s.span over;
+        behind = subst (λ (y : ℕ). EndBy y v.led) (sym s.seen) (subst (λ (y : List (ℕ × ℕ)). EndBy (length log) y) (sym s.span) (span_end led from from (length log) s.behind s.within));
+        few = (let f = s.few in omega (arith, s.seen, ap (above hands) s.seen, ap length s.span, length-append led ((from, length log) ∷ []), above_less hands from (length log) m h));
+        stage = subst (λ (y : List Entry). IsStage (track_next g (judges i) v.led y) (fresh p) v.at) (sym (append-nil log)) (is_stage (track_next g (judges i) v.led log) (fresh p) v.at x');
+      }
+
+  -- whether it leads on
+  pub serves_on : (i : ℕ) (p : P) (v : Running P) (led : List (ℕ × ℕ)) (from : ℕ) (log : List Entry) → Led i p v led from log → v.at.fate ≡ None → v.asked ≡ None
+      → has hands (length log) ≡ false → Serving i p v led from log
+  serves_on i p v led from log s n a h = record { on = n; none_asked = a; handed = stays_unplanned hands from (leader_of v log) h; led_from = s }
+
+  pub serves_to : (i : ℕ) (p : P) (v : Running P) (led : List (ℕ × ℕ)) (from : ℕ) (log : List Entry) → Led i p v led from log → v.at.fate ≡ None → v.asked ≡ None
+      → from < length log → has hands (length log) ≡ true → IsServing g judges replies most hands true i p v led from log
+  serves_to i p v led from log s n a m h = record { on = n; none_asked = a; handed = hands_planned hands from (leader_of v log) n m h; led_from = s }
 
   by_test : (b : Bool) (r s : Running P) (t : ℕ) → r.asked ≡ None → s.at.fate ≡ None → (if b then r else s).asked ≡ Some t → (if b then r else s).at.fate ≡ None
   by_test true r s t a f h = let e = sym a ∙ h in cc
@@ -193,9 +420,9 @@ module _ {P : Type 0} (g : Behaviour P) (laws : IsProcess g) (judges : ℕ → J
   asked_by r q (Asked u) t f a h = by_test (nat_le most r.at.seen) _ _ t a f h
 
   -- a version that asks has no fate
-  pub asking_on : (i : ℕ) (p : P) (v : Running P) (from : ℕ) (log : List Entry) (t : ℕ) → IsAsking g judges replies most i p v from log → v.asked ≡ Some t → v.at.fate ≡ None
+  pub asking_on : (i : ℕ) (p : P) (v : Running P) (led : List (ℕ × ℕ)) (from : ℕ) (log : List Entry) (t : ℕ) → Asking i p v led from log → v.asked ≡ Some t → v.at.fate ≡ None
   unfolding asking_next
-  asking_on i p v from log t a k =
+  asking_on i p v led from log t a k =
       let b = a.before in
       let h : (asking_next g most b).asked ≡ Some t = ap (λ (x : Running P). x.asked) (sym a.asking) ∙ k in
       ap (λ (x : Running P). x.at.fate) a.asking ∙ asked_by b (g.after b.at.process Any) (g.came b.at.process Any) t a.serving.on a.serving.none_asked h

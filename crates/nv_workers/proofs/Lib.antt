@@ -1,6 +1,10 @@
-pub mod Fronts
-pub mod Gathering
 pub mod Keeping
+pub mod Fronts
+pub mod Stations
+pub mod Gathering
+pub mod Spanned
+pub mod Opening
+pub mod Accounting
 pub mod Told
 pub mod Closed
 pub mod Spelt

@@ -1,9 +1,9 @@
 -- Workers as they are made.
-use Rattle.std.proofs.Common.{◌≡◌, refl, ℕ, List, ◌∷◌, [], false, None}
+use Rattle.std.proofs.Common.{◌≡◌, refl, ℕ, List, false, None}
 use Rattle.nv_calls.specs.declared.kernel.SyscallKernel.{Ghosts}
 use Rattle.nv_room.specs.declared.room.Reader.{Reader}
 use Rattle.nv_room.specs.declared.room.Lead.{Lead}
-use Rattle.nv_room.specs.Seats.{station_of_reader}
+use Rattle.nv_room.specs.Seats.{version_of_reader}
 use Rattle.nv_threads.specs.Threads.{Proc, threads}
 use Rattle.nv_replay.specs.Versions.{Running, IsFresh}
 use Rattle.nv_replay.specs.Accounts.{with_span}
@@ -16,14 +16,14 @@ module _ {K : Type 0} {G : Ghosts K} where
       → LeadsAnew v l (record { version = new; seat = Leading l None; buf = buf })
   leads_anew v new l buf f k = λ room m. record {
     fresh = f;
-    station = m.fresh.station;
-    works = λ judges most. fresh_leads judges room v most l new f m.fresh m.log m.start k;
+    version = m.fresh.version;
+    works = λ judges most. fresh_leads judges room most v l new f m.fresh m.log m.start k;
   }
 
-  pub reads_anew : (v : Running Proc) (r : Reader K G) (buf : List ℕ) → IsFresh threads (station_of_reader r) v
+  pub reads_anew : (v : Running Proc) (r : Reader K G) (buf : List ℕ) → IsFresh threads (version_of_reader r) v
       → ReadsAnew v r (record { version = v; seat = Reading r false; buf = buf })
   reads_anew v r buf f = λ room m. record {
     fresh = f;
-    station = refl;
-    works = λ judges most. fresh_follows judges room v (station_of_reader r) r buf f m;
+    version = refl;
+    works = λ judges most. fresh_follows judges room most v (version_of_reader r) r buf f m;
   }

@@ -1,24 +1,32 @@
 -- A worker's seat changes.
-use Rattle.std.proofs.Common.{◌≡◌, ◌∙◌, sym, ap, subst, refl, ℕ, false, List, [], ◌∷◌, ◌++◌, map, length, None}
+use Rattle.std.proofs.Common.{◌≡◌, ◌∙◌, sym, ap, subst, refl, ℕ, suc, ◌≤◌, Bool, true, false, List, [], ◌∷◌, ◌++◌, map, length, None, arith, append-nil}
+use Rattle.std.specs.Prelude.{◌==◌, ◌||◌}
+use mathlib.Core.Option.{some}
 use Rattle.nv_calls.specs.Calls.{Entry}
 use Rattle.nv_calls.specs.Logs.{IsLawful, Start}
 use Rattle.nv_calls.specs.declared.kernel.SyscallKernel.{Ghosts}
 use Rattle.nv_words.specs.Spell.{spell}
 use Rattle.nv_room.specs.declared.view.View.{View}
+use Rattle.nv_room.specs.declared.view.Span.{Span}
 use Rattle.nv_room.specs.declared.room.Room.{Room}
 use Rattle.nv_room.specs.declared.room.Reader.{Reader}
 use Rattle.nv_room.specs.declared.room.Lead.{Lead}
-use Rattle.nv_room.specs.Spans.{span}
+use Rattle.nv_room.specs.Spans.{span, handed_on, HasLed}
+use Rattle.nv_room.specs.Room.{Has}
 use Rattle.nv_room.specs.Steps.{as_gone, as_leaving, as_lead}
-use Rattle.nv_room.specs.Seats.{IsLeadOf, view, lead_view, station_of_reader, station_of_lead, kernel_of, due_of, origin, IsFreshLead, IsFresh as IsFreshReader}
+use Rattle.nv_room.specs.Seats.{IsOfRoom, IsLeadOf, view, lead_view, station_of_lead, version_of_reader, version_of_lead, kernel_of, due_of, origin, hands_of, IsFreshLead, IsFresh as IsFreshReader}
 use Rattle.nv_threads.specs.Threads.{Proc, threads}
 use Rattle.nv_threads.proofs.ThreadLaws.{thread_laws}
 use Rattle.nv_replay.specs.Follow.{Judge}
-use Rattle.nv_replay.specs.Versions.{Running, IsFresh, IsFollowing}
+use Rattle.nv_replay.specs.Hands.{has}
+use Rattle.nv_replay.specs.Versions.{Running, IsFresh, IsFollowing, IsLeading, leader_of}
 use Rattle.nv_replay.specs.Accounts.{with_span}
+use Rattle.nv_replay.proofs.Numbers.{eq_same, handed_at}
+use Rattle.nv_workers.specs.Ends.{ends_of, AreHandedOn}
 use Rattle.nv_workers.specs.Turns.{IsReading, IsServing}
 use Rattle.nv_workers.specs.Working.{HasEnded, FollowsOn, LeadsOn}
-use Rattle.nv_workers.proofs.Keeping.{takes, reads_first}
+use Rattle.nv_workers.proofs.Keeping.{takes, reads_first, gives_up}
+use Rattle.nv_workers.proofs.Spanned.{map_append}
 use Rattle.nv_workers.proofs.Spelt.{same_spelt, long_as}
 use Rattle.nv_workers.proofs.Reading.{bare}
 
@@ -26,95 +34,170 @@ no_length : (xs : List ℕ) → length xs ≡ 0 → xs ≡ []
 no_length [] h = refl
 no_length (x ∷ xs) h = cc
 
+-- a number that a list has stands at some place of it
+has_if : (k n : ℕ) (ks : List ℕ) (b : Bool) → (k == n) ≡ b → (b || has ks n) ≡ true → (has ks n ≡ true → Has ks n) → Has (k ∷ ks) n
+has_if k n ks true e h ih = (0, ap (λ (z : ℕ). some z) (eq_same k n e))
+has_if k n ks false e h ih = let r = ih h in (suc r.0, r.1)
+
+pub has_at : (ks : List ℕ) (n : ℕ) → has ks n ≡ true → Has ks n
+has_at [] n h = cc
+has_at (k ∷ ks) n h = has_if k n ks (k == n) refl h (has_at ks n)
+
+-- the last of these spans has ended with a hand-over
+handed_last : (xs : List Span) (x : Span) → handed_on (xs ++ x ∷ []) ≡ xs ++ (record x { handed = true }) ∷ []
+handed_last [] x = refl
+handed_last (y ∷ []) x = refl
+handed_last (y ∷ z ∷ xs) x = ap (λ l. y ∷ l) (handed_last (z ∷ xs) x)
+
+all_handed : (xs : List Span) (x : Span) → AreHandedOn xs → x.handed ≡ true → AreHandedOn (xs ++ x ∷ [])
+all_handed [] x a h = (h, tt)
+all_handed (y ∷ xs) x a h = (a.0, all_handed xs x a.1 h)
+
 module _ (judges : ℕ → Judge) where
-  module _ {T : Type 0} (start : Start) (most i : ℕ) (p : Proc) (v : Running Proc) (w : View T) where
-    pub gone_now : HasEnded judges start most i p v w → HasEnded judges start most i p v (as_gone w)
+  module _ {T : Type 0} (start : Start) (most : ℕ) (hands : List ℕ) (i : ℕ) (p : Proc) (v : Running Proc) (w : View T) where
+    pub gone_now : HasEnded judges start most hands i p v w → HasEnded judges start most hands i p v (as_gone w)
     gone_now h = record { log = h.log; spelt = h.spelt; lawful = h.lawful; count = h.count; led = h.led; done = h.done }
 
-    pub given_now : (word : ℕ) → HasEnded judges start most i p v w → HasEnded judges start most i p v (as_gone (as_leaving w word))
+    pub given_now : (word : ℕ) → HasEnded judges start most hands i p v w → HasEnded judges start most hands i p v (as_gone (as_leaving w word))
     given_now word h = record { log = h.log; spelt = h.spelt; lawful = h.lawful; count = h.count; led = h.led; done = h.done }
 
-  module _ {K : Type 0} {G : Ghosts K} (room : Room K) (p : Proc) (v : Running Proc) (r : Reader K G) (buf : List ℕ) where
-    pub follows_now : FollowsOn judges room p v r false buf → IsFollowing v
-    follows_now f = let b = bare judges room p v r buf f in record { on = b.reading.on; idle = b.reading.idle }
+  module _ {K : Type 0} {G : Ghosts K} (room : Room K) (most : ℕ) (p : Proc) (v : Running Proc) (r : Reader K G) (buf : List ℕ) where
+    pub follows_now : FollowsOn judges room most p v r false buf → IsFollowing v
+    follows_now f = let b = bare judges most room p v r buf f in record { on = b.reading.on; idle = b.reading.idle }
 
-    pub none_led : FollowsOn judges room p v r false buf → v.led ≡ []
-    none_led f = (bare judges room p v r buf f).reading.not_led
+    -- it has led no more parts than lengths are planned
+    pub few_led : FollowsOn judges room most p v r false buf → length v.led ≤ length (hands_of room)
+    few_led f = let b = bare judges most room p v r buf f in let q = b.reading.few in omega arith
 
-    pub takes_lead : (most : ℕ) → FollowsOn judges room p v r false buf → (l : Lead K G) (new : Running Proc) → IsLeadOf room l
-        → station_of_lead l ≡ station_of_reader r → lead_view l ≡ as_lead (view r) → due_of l ≡ false
+    pub takes_lead : FollowsOn judges room most p v r false buf → (l : Lead K G) (new : Running Proc) → IsLeadOf room l
+        → version_of_lead l ≡ version_of_reader r → lead_view l ≡ as_lead (view r) → due_of l ≡ false
         → map spell (G.log (kernel_of l)) ≡ (view r).seen → G.start (kernel_of l) ≡ G.start (origin room) → IsLawful (G.log (kernel_of l))
-        → new ≡ with_span v v.at.seen → LeadsOn judges room p new most l None
-    takes_lead most f l new of station w due spelt start law k =
-        let b = bare judges room p v r buf f in
+        → new ≡ with_span v v.at.seen → LeadsOn judges room most p new false l None
+    takes_lead f l new of version w due spelt start law k =
+        let b = bare judges most room p v r buf f in
         let log : List Entry = G.log (kernel_of l) in
+        let before : List Span = (view r).spans in
         let same : b.log ≡ log = same_spelt b.log log b.lawful law (b.spelt ∙ sym spelt) in
-        let S : ℕ → List Entry → Type 0 = λ i x. IsServing threads judges (G.start (origin room)) most i p (with_span v (length x)) (length x) x in
-        let s : S (station_of_reader r) b.log = takes threads thread_laws judges (G.start (origin room)) most (station_of_reader r) p v b.log b.reading in
-        let s' : S (station_of_lead l) log = subst (λ (i : ℕ). S i log) (sym station) (subst (λ (x : List Entry). S (station_of_reader r) x) same s) in
+        let S : ℕ → List Entry → List (ℕ × ℕ) → Type 0 = λ i x led. IsServing threads judges (G.start (origin room)) most (hands_of room) false i p (with_span v (length x)) led (length x) x in
+        let s : S (version_of_reader r) b.log v.led = takes threads thread_laws judges (G.start (origin room)) most (hands_of room) (version_of_reader r) p v b.log b.reading in
+        let s1 : S (version_of_reader r) b.log (map ends_of before) = subst (λ (x : List (ℕ × ℕ)). S (version_of_reader r) b.log x) b.led s in
+        let s2 : S (version_of_lead l) log (map ends_of before) = subst (λ (i : ℕ). S i log (map ends_of before)) (sym version)
+        (subst (λ (x : List Entry). S (version_of_reader r) x (map ends_of before)) same s1) in
         let long : v.at.seen ≡ length log = b.reading.seen ∙ ap (λ (x : List Entry). length x) same in
         let new' : with_span v (length log) ≡ new = sym (k ∙ ap (λ (n : ℕ). with_span v n) long) in
         let seen : (lead_view l).seen ≡ (view r).seen = ap (λ (x : View K). x.seen) w in
         let as_long : length (view r).seen ≡ length log = sym (ap (λ (x : List (List ℕ)). length x) spelt) ∙ long_as log in
-        let one : (lead_view l).spans ≡ span (view r).station (length (view r).seen) (length (view r).seen) ∷ [] =
-        ap (λ (x : View K). x.spans) w ∙ (λ i. b.spans i ++ span (view r).station (length (view r).seen) (length (view r).seen) ∷ []) in
+        let at : (view r).station ≡ station_of_lead l = sym (ap (λ (x : View K). x.station) w) ∙ l.station_is in
+        let who : (view r).version ≡ version_of_lead l = sym (ap (λ (x : View K). x.version) w) ∙ l.version_is in
+        let spans : (lead_view l).spans ≡ before ++ span (view r).station (view r).version (length (view r).seen) (length (view r).seen) ∷ [] = ap (λ (x : View K). x.spans) w in
         record {
           of = of;
           none_due = due;
           none_wrote = no_length (lead_view l).wrote (l.wrote_is ∙ l.quiet due);
+          before = before;
           from = length log;
           start = start;
           spelt = spelt ∙ sym seen;
           lawful = law;
-          spans = one ∙ (λ i. span ((r.station_is ∙ sym station) i) (as_long i) (length (sym seen i)) ∷ []);
-          serves = subst (λ (x : Running Proc). IsServing threads judges (G.start (origin room)) most (station_of_lead l) p x (length log) log) new' s';
+          spans = spans ∙ (λ i. before ++ span (at i) (who i) (as_long i) (length (sym seen i)) ∷ []);
+          handed_on = b.handed_on;
+          serves = subst (λ (x : Running Proc). IsServing threads judges (G.start (origin room)) most (hands_of room) false (version_of_lead l) p x (map ends_of before) (length log) log) new' s2;
         }
 
-  module _ {T : Type 0} (start : Start) (most : ℕ) (p : Proc) (v : Running Proc) (i j : ℕ) (w w2 : View T) (same : j ≡ i) where
+  module _ {K : Type 0} {G : Ghosts K} (room : Room K) (most : ℕ) (p : Proc) (v : Running Proc) (l : Lead K G) (f : LeadsOn judges room most p v true l None) where
+    abbrev log : List Entry
+    log = G.log (kernel_of l)
+
+    pub leads_now : IsLeading v
+    leads_now = record { on = f.serves.on; leading = f.serves.led_from.leading; none_asked = f.serves.none_asked }
+
+    long_seen : length (lead_view l).seen ≡ length log
+    long_seen = sym (ap (λ (x : List (List ℕ)). length x) f.spelt) ∙ long_as log
+
+    -- the log has come to a planned length
+    pub planned_now : Has (hands_of room) (length (lead_view l).seen)
+    planned_now = has_at (hands_of room) (length (lead_view l).seen) (ap (has (hands_of room)) long_seen ∙ (handed_at (hands_of room) f.from (leader_of v log) f.serves.handed).planned)
+
+    -- it has published an event
+    pub led_now : HasLed (lead_view l).spans
+    led_now = (
+      f.before,
+      span (station_of_lead l) (version_of_lead l) f.from (length (lead_view l).seen),
+      f.spans,
+      (let g = (handed_at (hands_of room) f.from (leader_of v log) f.serves.handed).grew in omega (arith, long_seen)),
+    )
+
+    -- the version follows on from here
+    pub gives_lead : (r : Reader K G) (new : Running Proc) (buf : List ℕ) → IsOfRoom room r → version_of_reader r ≡ version_of_lead l → (view r).seen ≡ (lead_view l).seen
+        → (view r).read ≡ [] → (view r).spans ≡ handed_on (lead_view l).spans → new ≡ record v { leading = false } → FollowsOn judges room most p new r false buf
+    gives_lead r new buf of version seen read spans k =
+        let last : Span = span (station_of_lead l) (version_of_lead l) f.from (length (lead_view l).seen) in
+        let all : (view r).spans ≡ f.before ++ (record last { handed = true }) ∷ [] = spans ∙ (ap handed_on f.spans ∙ handed_last f.before last) in
+        let R : ℕ → Running Proc → Type 0 = λ i x. IsReading threads judges (G.start (origin room)) most (hands_of room) i p x log None in
+        let reading : R (version_of_lead l) (record v { leading = false }) = gives_up threads thread_laws judges (G.start (origin room)) most (hands_of room) (version_of_lead l) p v
+        (map ends_of f.before) f.from log f.serves in
+        record {
+          of = of;
+          log = log;
+          next = None;
+          spelt = f.spelt ∙ sym seen;
+          lawful = subst IsLawful (sym (append-nil log)) f.lawful;
+          holds = read;
+          led = ap (λ (x : Running Proc). x.led) k ∙ (f.serves.led_from.span ∙ (ap (λ (n : ℕ). map ends_of f.before ++ (f.from, n) ∷ []) (sym long_seen)
+              ∙ (sym (map_append ends_of f.before ((record last { handed = true }) ∷ [])) ∙ ap (map ends_of) (sym all))));
+          handed_on = subst AreHandedOn (sym all) (all_handed f.before (record last { handed = true }) f.handed_on refl);
+          reading = subst (λ (i : ℕ). R i new) (sym version) (subst (λ (x : Running Proc). R (version_of_lead l) x) (sym k) reading);
+        }
+
+  module _ {T : Type 0} (start : Start) (most : ℕ) (hands : List ℕ) (p : Proc) (v : Running Proc) (i j : ℕ) (w w2 : View T) (same : j ≡ i) where
     -- the seat of a reader that has ended has left
-    pub left_ended : w2 ≡ as_gone w → HasEnded judges start most i p v w → HasEnded judges start most j p v w2
-    left_ended is h = subst (λ (k : ℕ). HasEnded judges start most k p v w2) (sym same)
-        (subst (λ (x : View T). HasEnded judges start most i p v x) (sym is) (gone_now start most i p v w h))
+    pub left_ended : w2 ≡ as_gone w → HasEnded judges start most hands i p v w → HasEnded judges start most hands j p v w2
+    left_ended is h = subst (λ (k : ℕ). HasEnded judges start most hands k p v w2) (sym same)
+        (subst (λ (x : View T). HasEnded judges start most hands i p v x) (sym is) (gone_now start most hands i p v w h))
 
     -- the seat of a leader that has ended has left
-    pub given_ended : (word : ℕ) → w2 ≡ as_gone (as_leaving w word) → HasEnded judges start most i p v w → HasEnded judges start most j p v w2
-    given_ended word is h = subst (λ (k : ℕ). HasEnded judges start most k p v w2) (sym same)
-        (subst (λ (x : View T). HasEnded judges start most i p v x) (sym is) (given_now start most i p v w word h))
+    pub given_ended : (word : ℕ) → w2 ≡ as_gone (as_leaving w word) → HasEnded judges start most hands i p v w → HasEnded judges start most hands j p v w2
+    given_ended word is h = subst (λ (k : ℕ). HasEnded judges start most hands k p v w2) (sym same)
+        (subst (λ (x : View T). HasEnded judges start most hands i p v x) (sym is) (given_now start most hands i p v w word h))
 
   -- Workers as they are made
 
-  reads_none : (v : Running Proc) (i : ℕ) → IsFresh threads i v → IsReading threads judges i v.at.process v [] None
-  reads_none v i f = reads_first threads thread_laws judges i v.at.process v f.index (record { live = f.started.live; on = f.started.on }) f.at f.not_led f.idle f.none_asked
+  reads_none : (start : Start) (most : ℕ) (hands : List ℕ) (v : Running Proc) (i : ℕ) → IsFresh threads i v → IsReading threads judges start most hands i v.at.process v [] None
+  reads_none start most hands v i f = reads_first threads thread_laws judges start most hands i v.at.process v f.index (record { live = f.started.live; on = f.started.on }) f.at f.not_led f.idle f.none_asked
 
-  module _ {K : Type 0} {G : Ghosts K} (room : Room K) (v : Running Proc) where
-    pub fresh_follows : (i : ℕ) (r : Reader K G) (buf : List ℕ) → IsFresh threads i v → IsFreshReader room i r → FollowsOn judges room v.at.process v r false buf
+  module _ {K : Type 0} {G : Ghosts K} (room : Room K) (most : ℕ) (v : Running Proc) where
+    pub fresh_follows : (i : ℕ) (r : Reader K G) (buf : List ℕ) → IsFresh threads i v → IsFreshReader room i r → FollowsOn judges room most v.at.process v r false buf
     fresh_follows i r buf f n = record {
       of = n.0;
       log = [];
       next = None;
-      spelt = sym (ap (λ (x : View K). x.seen) n.2);
+      spelt = sym (ap (λ (x : View K). x.seen) n.3);
       lawful = λ j e h. cc;
-      holds = ap (λ (x : View K). x.read) n.2;
-      spans = ap (λ (x : View K). x.spans) n.2;
-      reading = subst (λ (j : ℕ). IsReading threads judges j v.at.process v [] None) (sym n.1) (reads_none v i f);
+      holds = ap (λ (x : View K). x.read) n.3;
+      led = f.not_led ∙ sym (ap (λ (x : View K). map ends_of x.spans) n.3);
+      handed_on = subst (λ (x : View K). AreHandedOn x.spans) (sym n.3) tt;
+      reading = subst (λ (j : ℕ). IsReading threads judges (G.start (origin room)) most (hands_of room) j v.at.process v [] None) (sym n.2) (reads_none (G.start (origin room)) most (hands_of room) v i f);
     }
 
-    pub fresh_leads : (most : ℕ) (l : Lead K G) (new : Running Proc) → IsFresh threads 0 v → IsFreshLead room l → G.log (kernel_of l) ≡ []
-        → G.start (kernel_of l) ≡ G.start (origin room) → new ≡ with_span v v.at.seen → LeadsOn judges room v.at.process new most l None
-    fresh_leads most l new f n log start k =
-        let S : ℕ → List Entry → Running Proc → Type 0 = λ i x w. IsServing threads judges (G.start (origin room)) most i v.at.process w 0 x in
-        let s : S 0 [] (with_span v 0) = takes threads thread_laws judges (G.start (origin room)) most 0 v.at.process v [] (reads_none v 0 f) in
-        let none : v.at.seen ≡ 0 = (reads_none v 0 f).seen in
+    pub fresh_leads : (l : Lead K G) (new : Running Proc) → IsFresh threads 0 v → IsFreshLead room l → G.log (kernel_of l) ≡ []
+        → G.start (kernel_of l) ≡ G.start (origin room) → new ≡ with_span v v.at.seen → LeadsOn judges room most v.at.process new false l None
+    fresh_leads l new f n log start k =
+        let S : ℕ → List Entry → List (ℕ × ℕ) → Running Proc → Type 0 = λ i x led w. IsServing threads judges (G.start (origin room)) most (hands_of room) false i v.at.process w led 0 x in
+        let first = reads_none (G.start (origin room)) most (hands_of room) v 0 f in
+        let s : S 0 [] v.led (with_span v 0) = takes threads thread_laws judges (G.start (origin room)) most (hands_of room) 0 v.at.process v [] first in
+        let none : v.at.seen ≡ 0 = first.seen in
         let new' : with_span v 0 ≡ new = sym (k ∙ ap (λ (m : ℕ). with_span v m) none) in
-        let s' : S 0 [] new = subst (λ (w : Running Proc). S 0 [] w) new' s in
+        let s' : S 0 [] [] new = subst (λ (w : Running Proc). S 0 [] [] w) new' (subst (λ (x : List (ℕ × ℕ)). S 0 [] x (with_span v 0)) f.not_led s) in
         record {
           of = n.of;
           none_due = n.due;
           none_wrote = n.wrote;
+          before = [];
           from = 0;
           start = start;
           spelt = ap (map spell) log ∙ sym n.seen;
           lawful = subst IsLawful (sym log) (λ j e h. cc);
-          spans = n.spans ∙ (λ i. span (sym n.station i) 0 (length (sym n.seen i)) ∷ []);
-          serves = subst (λ (i : ℕ). S i (G.log (kernel_of l)) new) (sym n.station) (subst (λ (x : List Entry). S 0 x new) (sym log) s');
+          spans = n.spans ∙ (λ i. span (sym n.station i) (sym n.version i) 0 (length (sym n.seen i)) ∷ []);
+          handed_on = tt;
+          serves = subst (λ (i : ℕ). S i (G.log (kernel_of l)) [] new) (sym n.version) (subst (λ (x : List Entry). S 0 x [] new) (sym log) s');
         }

@@ -7,7 +7,7 @@ use Rattle.nv_calls.specs.declared.kernel.SyscallKernel.{Ghosts}
 use Rattle.nv_room.specs.declared.room.Room.{Room}
 use Rattle.nv_room.specs.declared.room.Reader.{Reader}
 use Rattle.nv_room.specs.declared.room.Lead.{Lead}
-use Rattle.nv_room.specs.Seats.{IsFresh as IsFreshReader, station_of_reader, FreshReaders, IsFreshLead, kernel_of, origin}
+use Rattle.nv_room.specs.Seats.{IsFresh as IsFreshReader, version_of_reader, FreshReaders, IsFreshLead, kernel_of, origin}
 use Rattle.nv_threads.specs.Threads.{Proc, threads}
 use Rattle.nv_replay.specs.Versions.{Running, IsFresh}
 use Rattle.nv_replay.specs.Accounts.{AreFresh}
@@ -66,15 +66,15 @@ module _ {K : Type 0} {G : Ghosts K} where
   pub front_seats : (rs all : List (Reader K G)) (r : Reader K G) (l : Lead K G) → all ≡ rs ++ r ∷ [] → AreNewSeats all l → AreNewSeats rs l
   front_seats rs all r l e s = (s.0, front_made s.0 rs r l (subst (λ (x : List (Reader K G)). AreAsMade s.0 x l) e s.1))
 
-  own_station : (room : Room K) (k : ℕ) (r : Reader K G) → IsFreshReader room k r → IsFreshReader room (station_of_reader r) r
-  own_station room k r f = subst (λ (j : ℕ). IsFreshReader room j r) (sym f.1) f
+  own_version : (room : Room K) (k : ℕ) (r : Reader K G) → IsFreshReader room k r → IsFreshReader room (version_of_reader r) r
+  own_version room k r f = subst (λ (j : ℕ). IsFreshReader room j r) (sym f.2) f
 
   pub reader_seat : (rs all : List (Reader K G)) (r : Reader K G) (l : Lead K G) → all ≡ rs ++ r ∷ [] → AreNewSeats all l → IsNewReader r
-  reader_seat rs all r l e s = (s.0, own_station s.0 (length rs + 1) r (last_made s.0 rs r l (subst (λ (x : List (Reader K G)). AreAsMade s.0 x l) e s.1)))
+  reader_seat rs all r l e s = (s.0, own_version s.0 (length rs + 1) r (last_made s.0 rs r l (subst (λ (x : List (Reader K G)). AreAsMade s.0 x l) e s.1)))
 
-  -- the reader's station is the number of the last version
-  pub reader_station : (rs all : List (Reader K G)) (r : Reader K G) (l : Lead K G) → all ≡ rs ++ r ∷ [] → AreNewSeats all l → station_of_reader r ≡ length rs + 1
-  reader_station rs all r l e s = (last_made s.0 rs r l (subst (λ (x : List (Reader K G)). AreAsMade s.0 x l) e s.1)).1
+  -- the reader's version is the last one
+  pub reader_version : (rs all : List (Reader K G)) (r : Reader K G) (l : Lead K G) → all ≡ rs ++ r ∷ [] → AreNewSeats all l → version_of_reader r ≡ length rs + 1
+  reader_version rs all r l e s = (last_made s.0 rs r l (subst (λ (x : List (Reader K G)). AreAsMade s.0 x l) e s.1)).2
 
   -- the first worker
   pub staffs_one : (vs all : List (Running Proc)) (v : Running Proc) (l : Lead K G) (w : Worker K G) (rs : List (Reader K G)) → all ≡ vs ++ v ∷ [] → length vs ≡ 0
@@ -89,11 +89,11 @@ module _ {K : Type 0} {G : Ghosts K} where
       → length all ≡ length seats + 1 → length vs ≡ length rs + 1
   front_readers vs all v rs seats r e d h = front_length vs all v (length seats) e h ∙ seats_length rs seats r d
 
-  -- the last version's number is the station of the last reader
+  -- the last version is that of the last reader
   pub fresh_reader : (vs all : List (Running Proc)) (v : Running Proc) (rs seats : List (Reader K G)) (r : Reader K G) (l : Lead K G) → all ≡ vs ++ v ∷ []
-      → seats ≡ rs ++ r ∷ [] → length all ≡ length seats + 1 → AreNewSeats seats l → AreFresh threads 0 all → IsFresh threads (station_of_reader r) v
+      → seats ≡ rs ++ r ∷ [] → length all ≡ length seats + 1 → AreNewSeats seats l → AreFresh threads 0 all → IsFresh threads (version_of_reader r) v
   fresh_reader vs all v rs seats r l e d h s f =
-      version_last vs all v (station_of_reader r) e (front_readers vs all v rs seats r e d h ∙ sym (reader_station rs seats r l d s)) f
+      version_last vs all v (version_of_reader r) e (front_readers vs all v rs seats r e d h ∙ sym (reader_version rs seats r l d s)) f
 
   -- one worker more
   pub staffs_more : (vs all : List (Running Proc)) (v : Running Proc) (rs seats : List (Reader K G)) (r : Reader K G) (l : Lead K G) (ws : List (Worker K G)) (w : Worker K G)
@@ -101,9 +101,9 @@ module _ {K : Type 0} {G : Ghosts K} where
   staffs_more vs all v rs seats r l ws w e d h s n = λ room a.
       let b : AreAsMade room (rs ++ r ∷ []) l = subst (λ (x : List (Reader K G)). AreAsMade room x l) d a in
       let q : IsFreshReader room (length rs + 1) r = last_made room rs r l b in
-      let at = q.1 in
-      let z : station_of_reader r ≡ 0 + length vs = omega arith in
-      let one : IsNew room (0 + length vs) v w = subst (λ (j : ℕ). IsNew room j v w) z (n room (own_station room (length rs + 1) r q)) in
+      let at = q.2 in
+      let z : version_of_reader r ≡ 0 + length vs = omega arith in
+      let one : IsNew room (0 + length vs) v w = subst (λ (j : ℕ). IsNew room j v w) z (n room (own_version room (length rs + 1) r q)) in
       subst (λ (x : List (Running Proc)). AreNew room 0 x (ws ++ w ∷ [])) (sym e) (new_more room 0 vs ws v w (s room (front_made room rs r l b)) one)
 
   -- what the making of a room gives

@@ -11,23 +11,24 @@ use Rattle.nv_room.specs.declared.view.View.{View}
 use Rattle.nv_room.specs.declared.room.Room.{Room}
 use Rattle.nv_room.specs.declared.room.Reader.{Reader}
 use Rattle.nv_room.specs.Steps.{Tells, TellsEnd, one_on}
-use Rattle.nv_room.specs.Seats.{IsOfRoom, SameReader, view, station_of_reader}
+use Rattle.nv_room.specs.Seats.{IsOfRoom, SameReader, view, version_of_reader, origin, hands_of}
 use Rattle.nv_threads.specs.Threads.{Proc, threads}
 use Rattle.nv_threads.proofs.ThreadLaws.{thread_laws}
 use Rattle.nv_replay.specs.declared.fate.Fate.{Fate}
 use Rattle.nv_rules.specs.declared.outcome.Verdict.{Verdict}
 use Rattle.nv_replay.specs.declared.version.Followed.{Followed}
 use Rattle.nv_replay.specs.declared.version.Followed.TheVariants.{Matched, Rewrote, Skipped, Dropped}
-use Rattle.nv_replay.specs.Follow.{Follower, Judge, Told, decided, fresh, next}
+use Rattle.nv_replay.specs.Follow.{Follower, Judge, Told, decided, fresh}
+use Rattle.nv_replay.specs.Tracks.{track_next}
 use Rattle.nv_replay.specs.Sequence.{is_on}
 use Rattle.nv_replay.specs.Versions.{Running}
 use Rattle.nv_replay.proofs.Turning.{get_last}
 use Rattle.nv_replay.proofs.Extending.{take_front_of}
 use Rattle.nv_replay.proofs.Survivor.{lawful_front}
-use Rattle.nv_workers.specs.Ends.{IsStage}
+use Rattle.nv_workers.specs.Ends.{IsStage, ends_of, AreHandedOn}
 use Rattle.nv_workers.specs.Turns.{held_list, IsReading}
-use Rattle.nv_workers.specs.Working.{ends_of, Holds, HasEnded, FollowsOn}
-use Rattle.nv_workers.proofs.Keeping.{with_next_held, decides, reads_on, reads_held}
+use Rattle.nv_workers.specs.Working.{Holds, HasEnded, FollowsOn}
+use Rattle.nv_workers.proofs.Keeping.{with_next_held, decides, reads_on, reads_held, parts_on, parts_still}
 use Rattle.nv_workers.proofs.Closed.{never_closed}
 use Rattle.nv_workers.proofs.Spelt.{same_spelt, long_as, parted}
 
@@ -47,29 +48,30 @@ pub off_from : (o f : Option Fate) → is_some o ≡ true → o ≡ f → is_on 
 off_from None f h e = cc
 off_from (Some x) f h e = ap is_on (sym e)
 
-module _ (judges : ℕ → Judge) where
+module _ (judges : ℕ → Judge) (most : ℕ) where
   -- a reader's version with the event that is held
-  pub record Held {T : Type 0} (i : ℕ) (p : Proc) (v : Running Proc) (w : View T) (buf : List ℕ) : Type 0 where
+  pub record Held (start : Start) (hands : List ℕ) {T : Type 0} (i : ℕ) (p : Proc) (v : Running Proc) (w : View T) (buf : List ℕ) : Type 0 where
     pub log : List Entry
     pub event : Entry
     pub spelt : map spell log ≡ w.seen
     pub lawful : IsLawful (log ++ event ∷ [])
     pub read : w.read ≡ spell event
     pub words : buf ≡ spell event
-    pub spans : w.spans ≡ []
-    pub reading : IsReading threads judges i p v log (Some event)
+    pub led : v.led ≡ map ends_of w.spans
+    pub handed_on : AreHandedOn w.spans
+    pub reading : IsReading threads judges start most hands i p v log (Some event)
 
-  held_by : {T : Type 0} (i : ℕ) (p : Proc) (v : Running Proc) (w : View T) (buf : List ℕ) (log : List Entry) (next : Option Entry)
-      → map spell log ≡ w.seen → IsLawful (log ++ held_list next) → Holds true w.read buf next → w.spans ≡ []
-      → IsReading threads judges i p v log next → Held i p v w buf
-  held_by i p v w buf log None s l h n r = absurd h
-  held_by i p v w buf log (Some e) s l h n r = record { log = log; event = e; spelt = s; lawful = l; read = h.0; words = h.1; spans = n; reading = r }
+  held_by : (start : Start) (hands : List ℕ) {T : Type 0} (i : ℕ) (p : Proc) (v : Running Proc) (w : View T) (buf : List ℕ) (log : List Entry) (next : Option Entry)
+      → map spell log ≡ w.seen → IsLawful (log ++ held_list next) → Holds true w.read buf next → v.led ≡ map ends_of w.spans → AreHandedOn w.spans
+      → IsReading threads judges start most hands i p v log next → Held start hands i p v w buf
+  held_by start hands i p v w buf log None s l h n o r = absurd h
+  held_by start hands i p v w buf log (Some e) s l h n o r = record { log = log; event = e; spelt = s; lawful = l; read = h.0; words = h.1; led = n; handed_on = o; reading = r }
 
   module _ {K : Type 0} {G : Ghosts K} (room : Room K) (p : Proc) (v : Running Proc) (r : Reader K G) (buf : List ℕ) where
-    pub held_of : FollowsOn judges room p v r true buf → Held (station_of_reader r) p v (view r) buf
-    held_of f = held_by (station_of_reader r) p v (view r) buf f.log f.next f.spelt f.lawful f.holds f.spans f.reading
+    pub held_of : FollowsOn judges room most p v r true buf → Held (G.start (origin room)) (hands_of room) (version_of_reader r) p v (view r) buf
+    held_of f = held_by (G.start (origin room)) (hands_of room) (version_of_reader r) p v (view r) buf f.log f.next f.spelt f.lawful f.holds f.led f.handed_on f.reading
 
-  module _ {T : Type 0} (i : ℕ) (p : Proc) (v : Running Proc) (w : View T) (buf : List ℕ) (h : Held i p v w buf) where
+  module _ (start : Start) (hands : List ℕ) {T : Type 0} (i : ℕ) (p : Proc) (v : Running Proc) (w : View T) (buf : List ℕ) (h : Held start hands i p v w buf) where
     may : MayFollow (length h.log) (live_after (take (length h.log) (h.log ++ h.event ∷ []))) h.event
     may = h.lawful (length h.log) h.event (get_last h.log h.event)
 
@@ -104,20 +106,23 @@ module _ (judges : ℕ → Judge) where
 
     -- Rewrote: the event stays
     pub rewrote : (new : Running Proc) → new ≡ record v { at = decided threads (judges i) h.event v.at } → new.at.seen ≡ v.at.seen
-        → new.at.fate ≡ None → IsReading threads judges i p new h.log (Some h.event)
-    rewrote new k s n = reads_held threads thread_laws judges i p v new h.log h.event (Some h.event) h.reading (inr refl) h.lawful k s n
+        → new.at.fate ≡ None → IsReading threads judges start most hands i p new h.log (Some h.event)
+    rewrote new k s n = reads_held threads thread_laws judges start most hands i p v new h.log h.event (Some h.event) h.reading (inr refl) h.lawful k s n
 
     -- Matched or Skipped: the event is consumed
     pub consumes : (new : Running Proc) → new ≡ record v { at = decided threads (judges i) h.event v.at } → new.at.seen ≡ v.at.seen + 1
-        → new.at.fate ≡ None → IsReading threads judges i p new (h.log ++ h.event ∷ []) None
-    consumes new k s n = reads_on threads thread_laws judges i p v new h.log h.event (Some h.event) h.reading (inr refl) h.lawful k s n
+        → new.at.fate ≡ None → IsReading threads judges start most hands i p new (h.log ++ h.event ∷ []) None
+    consumes new k s n = reads_on threads thread_laws judges start most hands i p v new h.log h.event (Some h.event) h.reading (inr refl) h.lawful k s n
 
     stage_now : (new : Running Proc) → new ≡ record v { at = decided threads (judges i) h.event v.at }
-        → IsStage (next threads (judges i) (h.log ++ h.event ∷ [])) (fresh p) new.at
-    stage_now new k = (decides threads thread_laws judges i p v new h.log h.event (Some h.event) h.reading (inr refl) h.lawful k).0
+        → IsStage (track_next threads (judges i) new.led (h.log ++ h.event ∷ [])) (fresh p) new.at
+    stage_now new k = (decides threads thread_laws judges start most hands i p v new h.log h.event (Some h.event) h.reading (inr refl) h.lawful k).0
 
-    not_led : (new : Running Proc) → new ≡ record v { at = decided threads (judges i) h.event v.at } → new.led ≡ []
-    not_led new k = ap (λ (x : Running Proc). x.led) k ∙ h.reading.not_led
+    idle_now : (new : Running Proc) → new ≡ record v { at = decided threads (judges i) h.event v.at } → new.leading ≡ false
+    idle_now new k = ap (λ (x : Running Proc). x.leading) k ∙ h.reading.idle
+
+    led_now : (new : Running Proc) → new ≡ record v { at = decided threads (judges i) h.event v.at } → new.led ≡ map ends_of w.spans
+    led_now new k = ap (λ (x : Running Proc). x.led) k ∙ h.led
 
     pub spelt_on : map spell (h.log ++ h.event ∷ []) ≡ w.seen ++ w.read ∷ []
     spelt_on = map-append spell h.log (h.event ∷ []) ∙ (λ i. h.spelt i ++ (sym h.read) i ∷ [])
@@ -126,31 +131,44 @@ module _ (judges : ℕ → Judge) where
     long_seen = sym (ap (λ (x : List (List ℕ)). length x) h.spelt) ∙ long_as h.log
 
     -- it exited with the event, which is consumed
-    pub exits : (start : Start) (most : ℕ) (new : Running Proc) → new ≡ record v { at = decided threads (judges i) h.event v.at }
-        → new.at.seen ≡ v.at.seen + 1 → is_on new.at.fate ≡ false → HasEnded judges start most i p new (one_on w)
-    exits start most new k n e = record {
+    pub exits : (new : Running Proc) → new ≡ record v { at = decided threads (judges i) h.event v.at }
+        → new.at.seen ≡ v.at.seen + 1 → is_on new.at.fate ≡ false → HasEnded judges start most hands i p new (one_on w)
+    exits new k n e = record {
       log = h.log ++ h.event ∷ [];
       spelt = spelt_on;
       lawful = h.lawful;
       count = omega (arith, n, h.reading.seen, long_seen, length-append w.seen (w.read ∷ []));
-      led = not_led new k ∙ sym (ap (map ends_of) h.spans);
-      done = record { ended = e; told = inl (record { spans = ap (map ends_of) h.spans; not_led = not_led new k; stage = inl (stage_now new k) }) };
+      led = led_now new k;
+      done = record {
+        ended = e;
+        count = omega (arith, n, h.reading.seen, length-append h.log (h.event ∷ []));
+        spans = led_now new k;
+        told = inl (record {
+          idle = idle_now new k;
+          handed_on = h.handed_on;
+          handed = parts_on threads thread_laws judges start most hands i p v new h.log h.event (Some h.event) h.reading (inr refl) h.lawful k;
+          stage = inl (stage_now new k);
+        });
+      };
     }
 
     -- it was dropped at the event, whose words stay read
-    pub dropped : (start : Start) (most : ℕ) (new : Running Proc) → new ≡ record v { at = decided threads (judges i) h.event v.at }
-        → new.at.seen ≡ v.at.seen → is_on new.at.fate ≡ false → HasEnded judges start most i p new w
-    dropped start most new k n e = record {
+    pub dropped : (new : Running Proc) → new ≡ record v { at = decided threads (judges i) h.event v.at }
+        → new.at.seen ≡ v.at.seen → is_on new.at.fate ≡ false → HasEnded judges start most hands i p new w
+    dropped new k n e = record {
       log = h.log;
       spelt = h.spelt;
       lawful = lawful_front h.log (h.event ∷ []) h.lawful;
       count = n ∙ (h.reading.seen ∙ sym long_seen);
-      led = not_led new k ∙ sym (ap (map ends_of) h.spans);
+      led = led_now new k;
       done = record {
         ended = e;
+        count = n ∙ h.reading.seen;
+        spans = led_now new k;
         told = inl (record {
-          spans = ap (map ends_of) h.spans;
-          not_led = not_led new k;
+          idle = idle_now new k;
+          handed_on = h.handed_on;
+          handed = parts_still threads thread_laws judges start most hands i p v new h.log h.event (Some h.event) h.reading (inr refl) h.lawful k;
           stage = inr (record { event = h.event; fit = may.range; words = h.read; stage = stage_now new k });
         });
       };
@@ -167,20 +185,23 @@ module _ (judges : ℕ → Judge) where
         (q.last, q.words_are, subst (λ (x : List Entry). IsLawful (x ++ q.last ∷ [])) same lawful)
 
     -- a version without a fate stands where threads live
-    pub goes_on : map spell log ≡ seen → IsLawful log → IsReading threads judges i p v log None → TellsEnd seen → ⊥
-    goes_on s l r (h, spelt, law, dead) =
+    pub goes_on : (start : Start) (hands : List ℕ) → map spell log ≡ seen → IsLawful log → IsReading threads judges start most hands i p v log None → TellsEnd seen → ⊥
+    goes_on start hands s l r (h, spelt, law, dead) =
         let same : h ≡ log = same_spelt h log law l (spelt ∙ sym s) in
-        never_closed threads thread_laws judges i p v log r (subst (λ (x : List Entry). live_after x ≡ []) same dead)
+        never_closed threads thread_laws judges start most hands i p v log r (subst (λ (x : List Entry). live_after x ≡ []) same dead)
 
-  module _ {K : Type 0} {G : Ghosts K} (room : Room K) (p : Proc) (v : Running Proc) (r : Reader K G) (buf : List ℕ) (f : FollowsOn judges room p v r true buf) (e : Entry) (s : spell e ≡ buf) (n : InRange e) (new : Running Proc) (k : new ≡ record v { at = decided threads (judges v.index) e v.at }) where
-    held : Held (station_of_reader r) p v (view r) buf
+  module _ {K : Type 0} {G : Ghosts K} (room : Room K) (p : Proc) (v : Running Proc) (r : Reader K G) (buf : List ℕ) (f : FollowsOn judges room most p v r true buf) (e : Entry) (s : spell e ≡ buf) (n : InRange e) (new : Running Proc) (k : new ≡ record v { at = decided threads (judges v.index) e v.at }) where
+    abbrev start : Start
+    start = G.start (origin room)
+
+    held : Held start (hands_of room) (version_of_reader r) p v (view r) buf
     held = held_of room p v r buf f
 
-    by_held : new ≡ record v { at = decided threads (judges (station_of_reader r)) held.event v.at }
+    by_held : new ≡ record v { at = decided threads (judges (version_of_reader r)) held.event v.at }
     by_held = k ∙ ap (λ (i : ℕ). record v { at = decided threads (judges i) e v.at }) held.reading.index
-        ∙ ap (λ (x : Entry). record v { at = decided threads (judges (station_of_reader r)) x v.at }) (event_is (station_of_reader r) p v (view r) buf held e s n)
+        ∙ ap (λ (x : Entry). record v { at = decided threads (judges (version_of_reader r)) x v.at }) (event_is start (hands_of room) (version_of_reader r) p v (view r) buf held e s n)
 
-    pub after_rewrote : new.at.seen ≡ v.at.seen → new.at.fate ≡ None → FollowsOn judges room p new r true buf
+    pub after_rewrote : new.at.seen ≡ v.at.seen → new.at.fate ≡ None → FollowsOn judges room most p new r true buf
     after_rewrote h o = record {
       of = f.of;
       log = held.log;
@@ -188,61 +209,66 @@ module _ (judges : ℕ → Judge) where
       spelt = held.spelt;
       lawful = held.lawful;
       holds = (held.read, held.words);
-      spans = held.spans;
-      reading = rewrote (station_of_reader r) p v (view r) buf held new by_held h o;
+      led = led_now start (hands_of room) (version_of_reader r) p v (view r) buf held new by_held;
+      handed_on = held.handed_on;
+      reading = rewrote start (hands_of room) (version_of_reader r) p v (view r) buf held new by_held h o;
     }
 
     pub after_consumed : (r2 : Reader K G) → IsOfRoom room r2 → SameReader r r2 → view r2 ≡ one_on (view r) → new.at.seen ≡ v.at.seen + 1
-        → new.at.fate ≡ None → FollowsOn judges room p new r2 false buf
+        → new.at.fate ≡ None → FollowsOn judges room most p new r2 false buf
     after_consumed r2 of same w h o =
         let log : List Entry = held.log ++ held.event ∷ [] in
         record {
           of = of;
           log = log;
           next = None;
-          spelt = spelt_on (station_of_reader r) p v (view r) buf held ∙ sym (ap (λ (x : View K). x.seen) w);
+          spelt = spelt_on start (hands_of room) (version_of_reader r) p v (view r) buf held ∙ sym (ap (λ (x : View K). x.seen) w);
           lawful = subst IsLawful (sym (append-nil log)) held.lawful;
           holds = ap (λ (x : View K). x.read) w;
-          spans = ap (λ (x : View K). x.spans) w ∙ held.spans;
-          reading = subst (λ (i : ℕ). IsReading threads judges i p new log None) (sym same.2) (consumes (station_of_reader r) p v (view r) buf held new by_held h o);
+          led = led_now start (hands_of room) (version_of_reader r) p v (view r) buf held new by_held ∙ sym (ap (λ (x : View K). map ends_of x.spans) w);
+          handed_on = subst (λ (x : View K). AreHandedOn x.spans) (sym w) held.handed_on;
+          reading = subst (λ (i : ℕ). IsReading threads judges start most (hands_of room) i p new log None) (sym same.3)
+              (consumes start (hands_of room) (version_of_reader r) p v (view r) buf held new by_held h o);
         }
 
-    pub after_exit : (start : Start) (most : ℕ) (r2 : Reader K G) → SameReader r r2 → view r2 ≡ one_on (view r) → new.at.seen ≡ v.at.seen + 1 → is_on new.at.fate ≡ false
-        → HasEnded judges start most (station_of_reader r2) p new (view r2)
-    after_exit start most r2 same w n o =
-        subst (λ (i : ℕ). HasEnded judges start most i p new (view r2)) (sym same.2) (subst (λ (x : View K). HasEnded judges start most (station_of_reader r) p new x) (sym w) (exits (station_of_reader r) p v (view r) buf held start most new by_held n o))
+    pub after_exit : (r2 : Reader K G) → SameReader r r2 → view r2 ≡ one_on (view r) → new.at.seen ≡ v.at.seen + 1 → is_on new.at.fate ≡ false
+        → HasEnded judges start most (hands_of room) (version_of_reader r2) p new (view r2)
+    after_exit r2 same w n o =
+        subst (λ (i : ℕ). HasEnded judges start most (hands_of room) i p new (view r2)) (sym same.3) (subst (λ (x : View K). HasEnded judges start most (hands_of room) (version_of_reader r) p new x) (sym w)
+        (exits start (hands_of room) (version_of_reader r) p v (view r) buf held new by_held n o))
 
-    pub after_drop : (start : Start) (most : ℕ) → new.at.seen ≡ v.at.seen → is_on new.at.fate ≡ false → HasEnded judges start most (station_of_reader r) p new (view r)
-    after_drop start most n o = dropped (station_of_reader r) p v (view r) buf held start most new by_held n o
+    pub after_drop : new.at.seen ≡ v.at.seen → is_on new.at.fate ≡ false → HasEnded judges start most (hands_of room) (version_of_reader r) p new (view r)
+    after_drop n o = dropped start (hands_of room) (version_of_reader r) p v (view r) buf held new by_held n o
 
   -- a reader's version where no word of a further event is read
-  pub record Bare {T : Type 0} (i : ℕ) (p : Proc) (v : Running Proc) (w : View T) : Type 0 where
+  pub record Bare (start : Start) (hands : List ℕ) {T : Type 0} (i : ℕ) (p : Proc) (v : Running Proc) (w : View T) : Type 0 where
     pub log : List Entry
     pub spelt : map spell log ≡ w.seen
     pub lawful : IsLawful log
     pub read : w.read ≡ []
-    pub spans : w.spans ≡ []
-    pub reading : IsReading threads judges i p v log None
+    pub led : v.led ≡ map ends_of w.spans
+    pub handed_on : AreHandedOn w.spans
+    pub reading : IsReading threads judges start most hands i p v log None
 
-  bare_by : {T : Type 0} (i : ℕ) (p : Proc) (v : Running Proc) (w : View T) (buf : List ℕ) (log : List Entry) (next : Option Entry)
-      → map spell log ≡ w.seen → IsLawful (log ++ held_list next) → Holds false w.read buf next → w.spans ≡ []
-      → IsReading threads judges i p v log next → Bare i p v w
-  bare_by i p v w buf log None s l h n r = record { log = log; spelt = s; lawful = subst IsLawful (append-nil log) l; read = h; spans = n; reading = r }
-  bare_by i p v w buf log (Some e) s l h n r = absurd h
+  bare_by : (st : Start) (hands : List ℕ) {T : Type 0} (i : ℕ) (p : Proc) (v : Running Proc) (w : View T) (buf : List ℕ) (log : List Entry) (next : Option Entry)
+      → map spell log ≡ w.seen → IsLawful (log ++ held_list next) → Holds false w.read buf next → v.led ≡ map ends_of w.spans → AreHandedOn w.spans
+      → IsReading threads judges st most hands i p v log next → Bare st hands i p v w
+  bare_by st hands i p v w buf log None s l h n o r = record { log = log; spelt = s; lawful = subst IsLawful (append-nil log) l; read = h; led = n; handed_on = o; reading = r }
+  bare_by st hands i p v w buf log (Some e) s l h n o r = absurd h
 
-  module _ {K : Type 0} {G : Ghosts K} (room : Room K) (p : Proc) (v : Running Proc) (r : Reader K G) (buf : List ℕ) (f : FollowsOn judges room p v r false buf) where
-    pub bare : Bare (station_of_reader r) p v (view r)
-    bare = bare_by (station_of_reader r) p v (view r) buf f.log f.next f.spelt f.lawful f.holds f.spans f.reading
+  module _ {K : Type 0} {G : Ghosts K} (room : Room K) (p : Proc) (v : Running Proc) (r : Reader K G) (buf : List ℕ) (f : FollowsOn judges room most p v r false buf) where
+    pub bare : Bare (G.start (origin room)) (hands_of room) (version_of_reader r) p v (view r)
+    bare = bare_by (G.start (origin room)) (hands_of room) (version_of_reader r) p v (view r) buf f.log f.next f.spelt f.lawful f.holds f.led f.handed_on f.reading
 
     pub lives_on : TellsEnd (view r).seen → ⊥
-    lives_on t = goes_on (station_of_reader r) p v bare.log (view r).seen bare.spelt bare.lawful bare.reading t
+    lives_on t = goes_on (version_of_reader r) p v bare.log (view r).seen (G.start (origin room)) (hands_of room) bare.spelt bare.lawful bare.reading t
 
     pub found_event : (r2 : Reader K G) (words : List ℕ) → IsOfRoom room r2 → SameReader r r2 → (view r2).seen ≡ (view r).seen
-        → (view r2).spans ≡ (view r).spans → (view r2).read ≡ words → Tells ((view r2).seen ++ words ∷ []) → FollowsOn judges room p v r2 true words
+        → (view r2).spans ≡ (view r).spans → (view r2).read ≡ words → Tells ((view r2).seen ++ words ∷ []) → FollowsOn judges room most p v r2 true words
     found_event r2 words of same seen spans read tells =
         let spelt : map spell bare.log ≡ (view r2).seen = bare.spelt ∙ sym seen in
-        let n = read_next (station_of_reader r) p v bare.log (view r2).seen spelt bare.lawful words tells in
-        let reading : IsReading threads judges (station_of_reader r) p v bare.log (Some n.0) = with_next_held threads thread_laws judges (station_of_reader r) p v bare.log n.0 bare.reading in
+        let n = read_next (version_of_reader r) p v bare.log (view r2).seen spelt bare.lawful words tells in
+        let reading : IsReading threads judges (G.start (origin room)) most (hands_of room) (version_of_reader r) p v bare.log (Some n.0) = with_next_held threads thread_laws judges (G.start (origin room)) most (hands_of room) (version_of_reader r) p v bare.log n.0 bare.reading in
         record {
           of = of;
           log = bare.log;
@@ -250,6 +276,7 @@ module _ (judges : ℕ → Judge) where
           spelt = spelt;
           lawful = n.2;
           holds = (read ∙ sym n.1, sym n.1);
-          spans = spans ∙ bare.spans;
-          reading = subst (λ (i : ℕ). IsReading threads judges i p v bare.log (Some n.0)) (sym same.2) reading;
+          led = bare.led ∙ sym (ap (map ends_of) spans);
+          handed_on = subst AreHandedOn (sym spans) bare.handed_on;
+          reading = subst (λ (i : ℕ). IsReading threads judges (G.start (origin room)) most (hands_of room) i p v bare.log (Some n.0)) (sym same.3) reading;
         }

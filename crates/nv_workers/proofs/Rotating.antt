@@ -15,7 +15,7 @@ module _ (judges : ℕ → Judge) {K : Type 0} {G : Ghosts K} (room : Room K) (m
 
   pub all_here : (ws : List (Worker K G)) → AllOn judges room most ws ws
   all_here [] = tt
-  all_here (w ∷ ws) = (record { works = λ p h. h; station = refl }, all_here ws)
+  all_here (w ∷ ws) = (record { works = λ p h. h; version = refl }, all_here ws)
 
   pub all_can : (vs ws : List (Worker K G)) → AllOn judges room most vs ws → CanAll judges room most vs → CanAll judges room most ws
   all_can [] [] a c = tt
@@ -30,7 +30,7 @@ module _ (judges : ℕ → Judge) {K : Type 0} {G : Ghosts K} (room : Room K) (m
   all_then (u ∷ us) [] ws a b = absurd a
   all_then (u ∷ us) (v ∷ vs) [] a b = absurd b
   all_then (u ∷ us) (v ∷ vs) (w ∷ ws) a b =
-      (record { works = λ p h. b.0.works p (a.0.works p h); station = b.0.station ∙ a.0.station }, all_then us vs ws a.1 b.1)
+      (record { works = λ p h. b.0.works p (a.0.works p h); version = b.0.version ∙ a.0.version }, all_then us vs ws a.1 b.1)
 
 -- what grew is one of the three
 pub read_grown : {A B C : Type 0} → A ⊎ B → A ⊎ (B ⊎ C)

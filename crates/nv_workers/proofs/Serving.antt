@@ -1,27 +1,34 @@
 -- A leader's version with its lead.
-use Rattle.std.proofs.Common.{◌≡◌, ◌∙◌, sym, ap, subst, ℕ, ◌+◌, ◌<◌, inr, false, List, [], ◌∷◌, ◌++◌, map, length, Option, Some, None, arith, length-append}
+use Rattle.std.proofs.Common.{◌≡◌, ◌∙◌, sym, ap, subst, ℕ, ◌+◌, ◌<◌, ◌≤◌, inr, refl, Bool, true, false, List, [], ◌∷◌, ◌++◌, map, length, Option, Some, None, arith, length-append}
 use Rattle.std.proofs.lemmas.List.{map-append}
 use Rattle.nv_calls.specs.Calls.{Entry}
 use Rattle.nv_calls.specs.Logs.{IsLawful, Start, served}
 use Rattle.nv_calls.specs.declared.kernel.SyscallKernel.{Ghosts}
 use Rattle.nv_words.specs.Spell.{spell}
 use Rattle.nv_room.specs.declared.view.View.{View}
+use Rattle.nv_room.specs.declared.view.Span.{Span}
 use Rattle.nv_room.specs.declared.room.Room.{Room}
 use Rattle.nv_room.specs.declared.room.Lead.{Lead}
 use Rattle.nv_room.specs.Spans.{span, grown}
-use Rattle.nv_room.specs.Seats.{IsLeadOf, SameLead, lead_view, station_of_lead, kernel_of, due_of, origin, stations_of}
+use Rattle.nv_room.specs.Seats.{IsLeadOf, SameLead, lead_view, station_of_lead, version_of_lead, kernel_of, due_of, origin, stations_of, versions_of, hands_of}
 use Rattle.nv_threads.specs.Threads.{Proc, threads}
 use Rattle.nv_threads.proofs.ThreadLaws.{thread_laws}
 use Rattle.nv_replay.specs.declared.fate.Fate.TheVariants.{Memory}
+use Rattle.nv_replay.specs.declared.fate.Fate.{Fate}
 use Rattle.nv_replay.specs.Follow.{Judge}
+use Rattle.nv_replay.specs.Hands.{has}
 use Rattle.nv_replay.specs.Sequence.{is_on}
 use Rattle.nv_replay.specs.Versions.{Running, asking_next, answered_by}
-use Rattle.nv_replay.proofs.Turning.{Waits, waits}
-use Rattle.nv_workers.specs.Ends.{HasLedFrom}
+use Rattle.nv_replay.proofs.Turning.{Waits as IsWaiting, waits}
+use Rattle.nv_workers.specs.Ends.{ends_of, AreHandedOn, HasLedFrom}
 use Rattle.nv_workers.specs.Turns.{IsServing, IsAsking}
-use Rattle.nv_workers.specs.Working.{ends_of, Serves, HasEnded, LeadsOn}
+use Rattle.nv_workers.specs.Working.{Serves, HasEnded, LeadsOn}
+use Rattle.nv_workers.specs.declared.follows.Next.{Next}
+use Rattle.nv_workers.specs.declared.follows.Next.TheVariants.{Moved, Waits, Leads, Hands, Leaves, Left}
+use Rattle.nv_workers.specs.LeadsOn.{AfterLead, HasPublished, IsLate, next_after}
 use Rattle.nv_workers.proofs.Spelt.{long_as}
-use Rattle.nv_workers.proofs.Keeping.{asking_on, leading, drops, refuses, publishes}
+use Rattle.nv_workers.proofs.Spanned.{map_append}
+use Rattle.nv_workers.proofs.Keeping.{asking_on, leading, drops, refuses, publishes, serves_on, serves_to}
 
 -- what was published is seen
 pub grew_lead : {K : Type 0} {G : Ghosts K} (l l2 l3 l4 : Lead K G) (words : List ℕ) → (lead_view l2).seen ≡ (lead_view l).seen → lead_view l3 ≡ lead_view l2
@@ -30,35 +37,73 @@ grew_lead {K} l l2 l3 l4 words a b e =
     let same : (lead_view l3).seen ≡ (lead_view l).seen = ap (λ (x : View K). x.seen) b ∙ a in
     omega (arith, length-append (lead_view l3).seen (words ∷ []), ap (λ (x : List (List ℕ)). length x) e, ap (λ (x : List (List ℕ)). length x) same)
 
+-- what comes next where an event was published
+pub published_next : {T : Type 0} (w w2 : View T) (next : Next) → length w.seen < length w2.seen → HasPublished w w2 next
+published_next w w2 Moved l = l
+published_next w w2 Waits l = tt
+published_next w w2 Leads l = tt
+published_next w w2 Hands l = l
+published_next w w2 Leaves l = tt
+published_next w w2 Left l = tt
+
+late_by : {K : Type 0} {G : Ghosts K} (room : Room K) (old new : Lead K G) (o : Option Fate) (b : Bool) → IsLate room old new (next_after o b)
+late_by room old new (Some x) b = tt
+late_by room old new None true = tt
+late_by room old new None false = tt
+
+pub late_next : {K : Type 0} {G : Ghosts K} (room : Room K) (old new : Lead K G) (o : Option Fate) (b : Bool) (next : Next) → next ≡ next_after o b → IsLate room old new next
+late_next room old new o b next e = subst (λ (x : Next). IsLate room old new x) (sym e) (late_by room old new o b)
+
+-- the last of these spans has one event more
+pub grown_last : (xs : List Span) (s v a b : ℕ) → grown (xs ++ span s v a b ∷ []) ≡ xs ++ span s v a (b + 1) ∷ []
+grown_last [] s v a b = refl
+grown_last (x ∷ []) s v a b = refl
+grown_last (x ∷ y ∷ xs) s v a b = ap (λ l. x ∷ l) (grown_last (y ∷ xs) s v a b)
+
 module _ (judges : ℕ → Judge) where
   -- a leader with its fate
-  ended_lead : {T : Type 0} (start : Start) (most i : ℕ) (p : Proc) (v : Running Proc) (w : View T) (from : ℕ) (log : List Entry) → map spell log ≡ w.seen
-      → IsLawful log → w.spans ≡ span i from (length w.seen) ∷ [] → HasLedFrom threads judges start most i p v from log
-      → is_on v.at.fate ≡ false → HasEnded judges start most i p v w
-  ended_lead start most i p v w from log s law spans led e =
-      let long : length w.seen ≡ length log = sym (ap (λ (x : List (List ℕ)). length x) s) ∙ long_as log in
+  ended_lead : {T : Type 0} (start : Start) (most : ℕ) (hands : List ℕ) (i s u : ℕ) (p : Proc) (v : Running Proc) (w : View T) (before : List Span) (from : ℕ) (log : List Entry) → map spell log ≡ w.seen
+      → IsLawful log → w.spans ≡ before ++ span s u from (length w.seen) ∷ [] → w.station ≡ s → AreHandedOn before
+      → HasLedFrom threads judges start most hands i p v (map ends_of before) from log → is_on v.at.fate ≡ false → HasEnded judges start most hands i p v w
+  ended_lead start most hands i s u p v w before from log sp law spans at on led e =
+      let long : length w.seen ≡ length log = sym (ap (λ (x : List (List ℕ)). length x) sp) ∙ long_as log in
+      let told : v.led ≡ map ends_of w.spans = led.span ∙ (ap (λ (n : ℕ). map ends_of before ++ (from, n) ∷ []) (sym long)
+      ∙ (sym (map_append ends_of before (span s u from (length w.seen) ∷ [])) ∙ ap (map ends_of) (sym spans))) in
       record {
         log = log;
-        spelt = s;
+        spelt = sp;
         lawful = law;
         count = led.seen ∙ sym long;
-        led = led.span ∙ (ap (λ (n : ℕ). (from, n) ∷ []) (sym long) ∙ sym (ap (map ends_of) spans));
-        done = record { ended = e; told = inr (record { from = from; spans = ap (map ends_of) spans ∙ ap (λ (n : ℕ). (from, n) ∷ []) long; led = led }) };
+        led = told;
+        done = record {
+          ended = e;
+          count = led.seen;
+          spans = told;
+          told = inr (record {
+            front = before;
+            last = span s u from (length w.seen);
+            spans = spans;
+            handed_on = on;
+            kept = refl;
+            station = sym at;
+            led = led;
+          });
+        };
       }
 
   -- the call was served, by a start that is this one
-  led_on : (most i : ℕ) (p : Proc) (v new : Running Proc) (t from : ℕ) (log log2 : List Entry) (start start' : Start) → start' ≡ start
-      → IsAsking threads judges start most i p v from log → v.asked ≡ Some t
+  led_on : (most : ℕ) (hands : List ℕ) (i : ℕ) (p : Proc) (v new : Running Proc) (t : ℕ) (led : List (ℕ × ℕ)) (from : ℕ) (log log2 : List Entry) (start start' : Start) → start' ≡ start
+      → IsAsking threads judges start most hands i p v led from log → v.asked ≡ Some t
       → log2 ≡ log ++ served start' log (threads.call v.at.process t) ∷ []
       → new ≡ answered_by threads (served start' log (threads.call v.at.process t)) v → IsLawful log2
-      → HasLedFrom threads judges start most i p new from log2
-  led_on most i p v new t from log log2 start start' s a k l n law =
+      → HasLedFrom threads judges start most hands i p new led from log2
+  led_on most hands i p v new t led from log log2 start start' s a k l n law =
       let T : Start → Type 0 = λ x. log2 ≡ log ++ served x log (threads.call v.at.process t) ∷ [] in
       let N : Start → Type 0 = λ x. new ≡ answered_by threads (served x log (threads.call v.at.process t)) v in
       let l' : T start = subst T s l in
       let n' : N start = subst N s n in
-      let led = publishes threads thread_laws judges start most i p v new t from log a k n' (subst IsLawful l' law) in
-      subst (λ (x : List Entry). HasLedFrom threads judges start most i p new from x) (sym l') led
+      let d = publishes threads thread_laws judges start most hands i p v new t led from log a k n' (subst IsLawful l' law) in
+      subst (λ (x : List Entry). HasLedFrom threads judges start most hands i p new led from x) (sym l') d
 
   of_same : {K : Type 0} {G : Ghosts K} (room : Room K) (l l2 : Lead K G) → IsLeadOf room l → SameLead l l2 → lead_view l2 ≡ lead_view l → IsLeadOf room l2
   of_same {K} room l l2 of same w = (
@@ -67,71 +112,98 @@ module _ (judges : ℕ → Judge) where
     ap (λ (x : View K). x.places) w ∙ of.2,
     ap (λ (x : View K). length x.floors) w ∙ of.3,
     ap (λ (x : View K). x.start) w ∙ of.4,
+    subst (λ (x : View K). x.opened ≤ stations_of room) (sym w) of.5,
+    subst (λ (x : View K). x.version < versions_of room) (sym w) of.6,
   )
 
-  serves_fate : (p : Proc) (v : Running Proc) (i : ℕ) (start : Start) (most from : ℕ) (log : List Entry) (asked : Option ℕ) → Serves judges p v i start most from log asked → v.at.fate ≡ None
-  serves_fate p v i start most from log None s = s.on
-  serves_fate p v i start most from log (Some t) s = asking_on threads thread_laws judges start most i p v from log t s.0 s.1
+  serves_fate : (p : Proc) (v : Running Proc) (i : ℕ) (start : Start) (most : ℕ) (hands : List ℕ) (over : Bool) (led : List (ℕ × ℕ)) (from : ℕ) (log : List Entry) (asked : Option ℕ)
+      → Serves judges p v i start most hands over led from log asked → v.at.fate ≡ None
+  serves_fate p v i start most hands over led from log None s = s.on
+  serves_fate p v i start most hands over led from log (Some t) s = asking_on threads thread_laws judges start most hands i p v led from log t s.0 s.1
 
-  module _ {K : Type 0} {G : Ghosts K} (room : Room K) (p : Proc) (v : Running Proc) (most : ℕ) (l : Lead K G) where
+  module _ {K : Type 0} {G : Ghosts K} (room : Room K) (most : ℕ) (p : Proc) (v : Running Proc) (l : Lead K G) where
+    abbrev start : Start
+    start = G.start (origin room)
+
+    abbrev hands : List ℕ
+    hands = hands_of room
+
     -- a version that leads on has no fate
-    pub leads_fate : (asked : Option ℕ) → LeadsOn judges room p v most l asked → v.at.fate ≡ None
-    leads_fate asked f = serves_fate p v (station_of_lead l) (G.start (origin room)) most f.from (G.log (kernel_of l)) asked f.serves
+    pub leads_fate : (over : Bool) (asked : Option ℕ) → LeadsOn judges room most p v over l asked → v.at.fate ≡ None
+    leads_fate over asked f = serves_fate p v (version_of_lead l) start most hands over (map ends_of f.before) f.from (G.log (kernel_of l)) asked f.serves
 
     -- looks and reserves leave what counts
-    pub moved_lead : (asked : Option ℕ) → LeadsOn judges room p v most l asked → (l2 : Lead K G) → IsLeadOf room l2 → SameLead l l2 → due_of l2 ≡ due_of l
+    pub moved_lead : (asked : Option ℕ) → LeadsOn judges room most p v false l asked → (l2 : Lead K G) → IsLeadOf room l2 → SameLead l l2 → due_of l2 ≡ due_of l
         → G.log (kernel_of l2) ≡ G.log (kernel_of l) → G.start (kernel_of l2) ≡ G.start (kernel_of l) → (lead_view l2).seen ≡ (lead_view l).seen
-        → (lead_view l2).wrote ≡ (lead_view l).wrote → (lead_view l2).spans ≡ (lead_view l).spans → LeadsOn judges room p v most l2 asked
-    moved_lead asked f l2 of same due log start seen wrote spans = record {
+        → (lead_view l2).wrote ≡ (lead_view l).wrote → (lead_view l2).spans ≡ (lead_view l).spans → LeadsOn judges room most p v false l2 asked
+    moved_lead asked f l2 of same due log st seen wrote spans = record {
       of = of;
       none_due = due ∙ f.none_due;
       none_wrote = wrote ∙ f.none_wrote;
+      before = f.before;
       from = f.from;
-      start = start ∙ f.start;
+      start = st ∙ f.start;
       spelt = ap (map spell) log ∙ (f.spelt ∙ sym seen);
       lawful = subst IsLawful (sym log) f.lawful;
-      spans = spans ∙ (f.spans ∙ (λ i. span (sym same.2 i) f.from (length (sym seen i)) ∷ []));
-      serves = (let S : ℕ → List Entry → Type 0 = λ s x. Serves judges p v s (G.start (origin room)) most f.from x asked in
-          subst (λ (s : ℕ). S s (G.log (kernel_of l2))) (sym same.2) (subst (λ (x : List Entry). S (station_of_lead l) x) (sym log) f.serves));
+      spans = spans ∙ (f.spans ∙ (λ i. f.before ++ span (sym same.2 i) (sym same.3 i) f.from (length (sym seen i)) ∷ []));
+      handed_on = f.handed_on;
+      serves = (let S : ℕ → List Entry → Type 0 = λ s x. Serves judges p v s start most hands false (map ends_of f.before) f.from x asked in
+          subst (λ (s : ℕ). S s (G.log (kernel_of l2))) (sym same.3) (subst (λ (x : List Entry). S (version_of_lead l) x) (sym log) f.serves));
     }
 
-    pub placed_lead : (asked : Option ℕ) → LeadsOn judges room p v most l asked → (l2 : Lead K G) → IsLeadOf room l2 → SameLead l l2 → due_of l2 ≡ due_of l
+    pub placed_lead : (asked : Option ℕ) → LeadsOn judges room most p v false l asked → (l2 : Lead K G) → IsLeadOf room l2 → SameLead l l2 → due_of l2 ≡ due_of l
         → kernel_of l2 ≡ kernel_of l → (lead_view l2).seen ≡ (lead_view l).seen → (lead_view l2).wrote ≡ (lead_view l).wrote
-        → (lead_view l2).spans ≡ (lead_view l).spans → LeadsOn judges room p v most l2 asked
+        → (lead_view l2).spans ≡ (lead_view l).spans → LeadsOn judges room most p v false l2 asked
     placed_lead asked f l2 of same due kernel seen wrote spans = moved_lead asked f l2 of same due (ap G.log kernel) (ap G.start kernel) seen wrote spans
 
-    pub reserved_lead : (asked : Option ℕ) → LeadsOn judges room p v most l asked → (l2 : Lead K G) → SameLead l l2 → lead_view l2 ≡ lead_view l
+    pub reserved_lead : (asked : Option ℕ) → LeadsOn judges room most p v false l asked → (l2 : Lead K G) → SameLead l l2 → lead_view l2 ≡ lead_view l
         → due_of l2 ≡ due_of l → G.log (kernel_of l2) ≡ G.log (kernel_of l) → G.start (kernel_of l2) ≡ G.start (kernel_of l)
-        → LeadsOn judges room p v most l2 asked
-    reserved_lead asked f l2 same w due log start = moved_lead asked f l2 (of_same room l l2 f.of same w) same due log start
+        → LeadsOn judges room most p v false l2 asked
+    reserved_lead asked f l2 same w due log st = moved_lead asked f l2 (of_same room l l2 f.of same w) same due log st
         (ap (λ (x : View K). x.seen) w) (ap (λ (x : View K). x.wrote) w) (ap (λ (x : View K). x.spans) w)
 
-    pub drops_lead : LeadsOn judges room p v most l None → (new : Running Proc) → new ≡ asking_next threads most v → new.asked ≡ None
-        → is_on new.at.fate ≡ false → HasEnded judges (G.start (origin room)) most (station_of_lead l) p new (lead_view l)
+    pub drops_lead : LeadsOn judges room most p v false l None → (new : Running Proc) → new ≡ asking_next threads most v → new.asked ≡ None
+        → is_on new.at.fate ≡ false → HasEnded judges start most hands (version_of_lead l) p new (lead_view l)
     drops_lead f new k n e =
-        ended_lead (G.start (origin room)) most (station_of_lead l) p new (lead_view l) f.from (G.log (kernel_of l)) f.spelt f.lawful f.spans
-        (drops threads thread_laws judges (G.start (origin room)) most (station_of_lead l) p v new f.from (G.log (kernel_of l)) f.serves k n) e
+        ended_lead start most hands (version_of_lead l) (station_of_lead l) (version_of_lead l) p new (lead_view l) f.before f.from (G.log (kernel_of l)) f.spelt f.lawful f.spans l.station_is f.handed_on
+        (drops threads thread_laws judges start most hands (version_of_lead l) p v new (map ends_of f.before) f.from (G.log (kernel_of l)) f.serves k n) e
 
-    module _ (t : ℕ) (f : LeadsOn judges room p v most l (Some t)) where
-      abbrev pub start : Start
-      start = G.start (origin room)
+    pub asks_lead : LeadsOn judges room most p v false l None → (new : Running Proc) (t : ℕ) → new ≡ asking_next threads most v → new.asked ≡ Some t
+        → LeadsOn judges room most p new false l (Some t)
+    asks_lead f new t k a = record {
+      of = f.of;
+      none_due = f.none_due;
+      none_wrote = f.none_wrote;
+      before = f.before;
+      from = f.from;
+      start = f.start;
+      spelt = f.spelt;
+      lawful = f.lawful;
+      spans = f.spans;
+      handed_on = f.handed_on;
+      serves = (record { before = v; serving = f.serves; asking = k }, a);
+    }
 
+    module _ (t : ℕ) (f : LeadsOn judges room most p v false l (Some t)) where
       abbrev pub log : List Entry
       log = G.log (kernel_of l)
 
-      abbrev pub asking : IsAsking threads judges start most (station_of_lead l) p v f.from log
+      abbrev pub led : List (ℕ × ℕ)
+      led = map ends_of f.before
+
+      abbrev pub asking : IsAsking threads judges start most hands (version_of_lead l) p v led f.from log
       asking = f.serves.0
 
       -- what is known of a call that is asked
-      pub waits_lead : Waits threads thread_laws start most asking.before log v t
+      pub waits_lead : IsWaiting threads thread_laws start most asking.before log v t
       waits_lead = waits threads thread_laws start most asking.before log v t
-          (leading threads thread_laws judges start most (station_of_lead l) p asking.before f.from log asking.serving) asking.serving.led.seen
-          asking.serving.led.in_step asking.asking f.serves.1
+          (leading threads thread_laws judges start most hands (version_of_lead l) p asking.before led f.from log asking.serving) asking.serving.led_from.seen
+          asking.serving.led_from.in_step asking.asking f.serves.1
 
       -- there was no memory for it
-      pub refused_lead : (new : Running Proc) → new ≡ record v { at = record v.at { fate = Some Memory } } → HasEnded judges start most (station_of_lead l) p new (lead_view l)
-      refused_lead new k = ended_lead start most (station_of_lead l) p new (lead_view l) f.from log f.spelt f.lawful f.spans
-          (refuses threads thread_laws judges start most (station_of_lead l) p v new t f.from log asking f.serves.1 k) (ap (λ (x : Running Proc). is_on x.at.fate) k)
+      pub refused_lead : (new : Running Proc) → new ≡ record v { at = record v.at { fate = Some Memory } } → HasEnded judges start most hands (version_of_lead l) p new (lead_view l)
+      refused_lead new k = ended_lead start most hands (version_of_lead l) (station_of_lead l) (version_of_lead l) p new (lead_view l) f.before f.from log f.spelt f.lawful f.spans l.station_is f.handed_on
+          (refuses threads thread_laws judges start most hands (version_of_lead l) p v new t led f.from log asking f.serves.1 k) (ap (λ (x : Running Proc). is_on x.at.fate) k)
 
       -- it was served and published
       module _ (l2 : Lead K G) (new : Running Proc) (same : SameLead l l2)
@@ -148,28 +220,60 @@ module _ (judges : ℕ → Judge) where
         long_now : length (lead_view l2).seen ≡ length (lead_view l).seen + 1
         long_now = ap (λ (x : List (List ℕ)). length x) seen ∙ length-append (lead_view l).seen (spell event ∷ [])
 
-        spans_now : (lead_view l2).spans ≡ span (station_of_lead l) f.from (length (lead_view l2).seen) ∷ []
-        spans_now = spans ∙ (ap grown f.spans ∙ ap (λ (n : ℕ). span (station_of_lead l) f.from n ∷ []) (sym long_now))
+        spans_now : (lead_view l2).spans ≡ f.before ++ span (station_of_lead l2) (version_of_lead l2) f.from (length (lead_view l2).seen) ∷ []
+        spans_now = spans ∙ (ap grown f.spans ∙ (grown_last f.before (station_of_lead l) (version_of_lead l) f.from (length (lead_view l).seen)
+            ∙ (λ j. f.before ++ span (sym same.2 j) (sym same.3 j) f.from (sym long_now j) ∷ [])))
 
-        led_now : HasLedFrom threads judges start most (station_of_lead l) p new f.from (G.log (kernel_of l2))
-        led_now = led_on most (station_of_lead l) p v new t f.from log (G.log (kernel_of l2)) start (G.start (kernel_of l)) f.start asking f.serves.1 is k law
+        led_now : HasLedFrom threads judges start most hands (version_of_lead l) p new led f.from (G.log (kernel_of l2))
+        led_now = led_on most hands (version_of_lead l) p v new t led f.from log (G.log (kernel_of l2)) start (G.start (kernel_of l)) f.start asking f.serves.1 is k law
 
-        pub ended_now : is_on new.at.fate ≡ false → HasEnded judges start most (station_of_lead l2) p new (lead_view l2)
-        ended_now e = subst (λ (i : ℕ). HasEnded judges start most i p new (lead_view l2)) (sym same.2)
-            (ended_lead start most (station_of_lead l) p new (lead_view l2) f.from (G.log (kernel_of l2)) spelt_now law spans_now led_now e)
+        -- it has served one call at least
+        grew : f.from < length (G.log (kernel_of l2))
+        grew = let w = asking.serving.led_from.within in omega (arith, ap (λ (x : List Entry). length x) is, length-append log (event ∷ []))
 
-        pub leads_now : IsLeadOf room l2 → due_of l2 ≡ false → (lead_view l2).wrote ≡ [] → G.start (kernel_of l2) ≡ G.start (kernel_of l) → new.at.fate ≡ None
-            → LeadsOn judges room p new most l2 None
-        leads_now of due wrote st o =
-            let S : ℕ → Type 0 = λ i. IsServing threads judges start most i p new f.from (G.log (kernel_of l2)) in
-            record {
-              of = of;
-              none_due = due;
-              none_wrote = wrote;
-              from = f.from;
-              start = st ∙ f.start;
-              spelt = spelt_now;
-              lawful = law;
-              spans = spans_now ∙ ap (λ (i : ℕ). span i f.from (length (lead_view l2).seen) ∷ []) (sym same.2);
-              serves = subst S (sym same.2) (record { on = o; none_asked = ap (λ (x : Running Proc). x.asked) k; led = led_now });
-            }
+        none_asked : new.asked ≡ None
+        none_asked = ap (λ (x : Running Proc). x.asked) k
+
+        ended_now : IsLeadOf room l2 → due_of l2 ≡ false → is_on new.at.fate ≡ false
+            → IsLeadOf room l2 × (due_of l2 ≡ false) × HasEnded judges start most hands (version_of_lead l2) p new (lead_view l2)
+        ended_now of due e = (
+          of,
+          due,
+          subst (λ (i : ℕ). HasEnded judges start most hands i p new (lead_view l2)) (sym same.3)
+              (ended_lead start most hands (version_of_lead l) (station_of_lead l2) (version_of_lead l2) p new (lead_view l2) f.before f.from (G.log (kernel_of l2)) spelt_now law spans_now l2.station_is f.handed_on led_now e),
+        )
+
+        leads_now : (over : Bool) → IsServing threads judges start most hands over (version_of_lead l) p new led f.from (G.log (kernel_of l2))
+            → IsLeadOf room l2 → due_of l2 ≡ false → (lead_view l2).wrote ≡ [] → G.start (kernel_of l2) ≡ G.start (kernel_of l) → LeadsOn judges room most p new over l2 None
+        leads_now over sv of due wrote st = record {
+          of = of;
+          none_due = due;
+          none_wrote = wrote;
+          before = f.before;
+          from = f.from;
+          start = st ∙ f.start;
+          spelt = spelt_now;
+          lawful = law;
+          spans = spans_now;
+          handed_on = f.handed_on;
+          serves = subst (λ (i : ℕ). IsServing threads judges start most hands over i p new led f.from (G.log (kernel_of l2))) (sym same.3) sv;
+        }
+
+        after_by : (o : Option Fate) (b : Bool) → new.at.fate ≡ o → has hands new.at.seen ≡ b → IsLeadOf room l2 → due_of l2 ≡ false → (lead_view l2).wrote ≡ []
+            → G.start (kernel_of l2) ≡ G.start (kernel_of l) → AfterLead judges room most p new l2 None (next_after o b)
+        after_by (Some x) b e h of due wrote st = ended_now of due (ap is_on e)
+        after_by None true e h of due wrote st = (
+          leads_now true (serves_to threads thread_laws judges start most hands (version_of_lead l) p new led f.from (G.log (kernel_of l2)) led_now e none_asked grew
+              (ap (has hands) (sym led_now.seen) ∙ h)) of due wrote st,
+          refl,
+        )
+        after_by None false e h of due wrote st =
+            leads_now false (serves_on threads thread_laws judges start most hands (version_of_lead l) p new led f.from (G.log (kernel_of l2)) led_now e none_asked
+            (ap (has hands) (sym led_now.seen) ∙ h)) of due wrote st
+
+        -- what comes next
+        pub after_served : (planned : List ℕ) (next : Next) → hands_of room ≡ planned → next ≡ next_after new.at.fate (has planned new.at.seen) → IsLeadOf room l2 → due_of l2 ≡ false
+            → (lead_view l2).wrote ≡ [] → G.start (kernel_of l2) ≡ G.start (kernel_of l) → AfterLead judges room most p new l2 None next
+        after_served planned next hd is of due wrote st =
+            let q : next ≡ next_after new.at.fate (has hands new.at.seen) = is ∙ ap (λ (x : List ℕ). next_after new.at.fate (has x new.at.seen)) (sym hd) in
+            subst (λ (x : Next). AfterLead judges room most p new l2 None x) (sym q) (after_by new.at.fate (has hands new.at.seen) refl refl of due wrote st)

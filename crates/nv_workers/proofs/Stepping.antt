@@ -1,5 +1,5 @@
 -- What a turn comes to, by seat.
-use Rattle.std.proofs.Common.{inl, ℕ, Bool, List, Option}
+use Rattle.std.proofs.Common.{inl, ℕ, Bool, true, false, List, Option}
 use Rattle.nv_calls.specs.declared.kernel.SyscallKernel.{Ghosts}
 use Rattle.nv_room.specs.declared.room.Room.{Room}
 use Rattle.nv_room.specs.declared.room.Reader.{Reader}
@@ -9,7 +9,7 @@ use Rattle.nv_threads.specs.Threads.{Proc}
 use Rattle.nv_replay.specs.Follow.{Judge}
 use Rattle.nv_replay.specs.Versions.{Running}
 use Rattle.nv_workers.specs.declared.follows.Next.{Next}
-use Rattle.nv_workers.specs.declared.follows.Next.TheVariants.{Moved, Waits, Leads, Leaves, Left}
+use Rattle.nv_workers.specs.declared.follows.Next.TheVariants.{Moved, Waits, Leads, Hands, Leaves, Left}
 use Rattle.nv_workers.specs.declared.worker.Seat.{Seat}
 use Rattle.nv_workers.specs.declared.worker.Seat.TheVariants.{Reading, Leading, Gone, Moving}
 use Rattle.nv_workers.specs.Follows.{AfterTurn, HasGrown, IsIdle}
@@ -24,6 +24,7 @@ module _ (judges : ℕ → Judge) {K : Type 0} {G : Ghosts K} (room : Room K) (m
   after_read r held buf Moved a = (a, λ g. g)
   after_read r held buf Waits a = (a, λ g. g)
   after_read r held buf Leads a = a
+  after_read r held buf Hands a = absurd a
   after_read r held buf Leaves a = a
   after_read r held buf Left a = absurd a
 
@@ -32,14 +33,16 @@ module _ (judges : ℕ → Judge) {K : Type 0} {G : Ghosts K} (room : Room K) (m
   tells_read old r r2 held held2 buf Moved a grown idle = (grown, a.reading.on)
   tells_read old r r2 held held2 buf Waits a grown idle = (idle, a.reading.on)
   tells_read old r r2 held held2 buf Leads a grown idle = tt
+  tells_read old r r2 held held2 buf Hands a grown idle = absurd a
   tells_read old r r2 held held2 buf Leaves a grown idle = a.1.done.ended
   tells_read old r r2 held held2 buf Left a grown idle = absurd a
 
   pub tells_lead : (old : Running Proc) (l l2 : Lead K G) (asked asked2 : Option ℕ) (next : Next) → AfterLead judges room most p v l2 asked2 next
       → HasPublished (lead_view l) (lead_view l2) next → IsLate room l l2 next → StepTells room next old v (Leading l asked) (Leading l2 asked2)
-  tells_lead old l l2 asked asked2 Moved a published late = (inl published, leads_fate judges room p v most l2 asked2 a)
-  tells_lead old l l2 asked asked2 Waits a published late = (late, leads_fate judges room p v most l2 asked2 a)
+  tells_lead old l l2 asked asked2 Moved a published late = (inl published, leads_fate judges room most p v l2 false asked2 a)
+  tells_lead old l l2 asked asked2 Waits a published late = (late, leads_fate judges room most p v l2 false asked2 a)
   tells_lead old l l2 asked asked2 Leads a published late = absurd a
+  tells_lead old l l2 asked asked2 Hands a published late = (published, leads_fate judges room most p v l2 true asked2 a.0)
   tells_lead old l l2 asked asked2 Leaves a published late = a.2.done.ended
   tells_lead old l l2 asked asked2 Left a published late = absurd a
 

@@ -1,15 +1,23 @@
 -- What the room and the workers tell once all versions have ended.
-use Rattle.std.specs.Prelude.{◌≡◌, ℕ, zero, suc, ◌+◌, ◌<◌, ◌≤◌, ◌⊎◌, true, false, List, [], ◌∷◌, ◌++◌, map, length, take, Option, Some, None, slice_get}
+use Rattle.std.specs.Prelude.{◌≡◌, ℕ, ◌+◌, ◌<◌, ◌≤◌, ◌⊎◌, true, false, List, [], ◌∷◌, ◌++◌, map, length, take, Option, Some, None, slice_get}
+use mathlib.Core.Option.{some}
+use lib.ListN.{get_elem?}
 use Rattle.nv_calls.specs.Calls.{Entry}
 use Rattle.nv_calls.specs.Logs.{Start}
+use Rattle.nv_room.specs.declared.view.Span.{Span}
+use Rattle.nv_room.specs.Spans.{Tiles, Rising, of_version, IsLast, Opened}
 use Rattle.nv_threads.specs.Behaviours.{Behaviour}
 use Rattle.nv_replay.specs.declared.fate.Fate.{Fate}
 use Rattle.nv_replay.specs.Settling.{stage}
-use Rattle.nv_replay.specs.Follow.{Judge, fresh, next, follow, IsInStep}
-use Rattle.nv_replay.specs.Lead.{Leader, is_cut, cut_of, next_call}
-use Rattle.nv_replay.specs.Sequence.{is_on, sequence, cuts_of}
-use Rattle.nv_replay.specs.Accounts.{AreSettled}
-use Rattle.nv_replay.specs.Alone.{SurvivorsAgree}
+use Rattle.nv_replay.specs.Follow.{Follower, Judge, fresh, IsInStep}
+use Rattle.nv_replay.specs.Lead.{Leader, is_cut, cut_of}
+use Rattle.nv_replay.specs.Tracks.{track_next, track}
+use Rattle.nv_replay.specs.Hands.{has, above, next_or_hand, lead_to_hand}
+use Rattle.nv_replay.specs.Sequence.{is_on, cuts_of}
+use Rattle.nv_replay.specs.Monitor.{sequence}
+use Rattle.nv_replay.specs.Spans.{EndBy}
+use Rattle.nv_replay.specs.Covers.{AreEnded, Covers}
+use Rattle.nv_replay.specs.Survivors.{SurvivorsAgree}
 use Rattle.nv_replay.specs.Versions.{Running, leader_of, standing_of, process_of}
 
 -- a state after any number of steps
@@ -22,11 +30,20 @@ pub record IsCutOf (c : Option ℕ) (f : Option Fate) (n : ℕ) : Type 0 where
   pub below : (k : ℕ) → k < n → is_cut c k ≡ false
   pub end : is_on f ≡ false → c ≡ cut_of f n
 
--- what a Left tells: its station's seen list, the words read of a further event, the spans led
+abbrev pub ends_of : Span → ℕ × ℕ
+ends_of x = (x.from, x.to)
+
+-- each of these spans ended with a hand-over
+abbrev pub AreHandedOn : List Span → Type 0
+AreHandedOn [] = Unit {0}
+AreHandedOn (x ∷ xs) = (x.handed ≡ true) × AreHandedOn xs
+
+-- what a Left tells: its station, its seen list, the words read of a further event, the spans that its version led
 pub record Leaving : Type 0 where
+  pub station : ℕ
   pub seen : List Entry
   pub words : List ℕ
-  pub spans : List (ℕ × ℕ)
+  pub spans : List Span
 
 -- no spelling begins with another's
 pub record IsSpelling (fits : Entry → Type 0) (spell : Entry → List ℕ) : Type 0 where
@@ -37,67 +54,106 @@ abbrev pub spelt : (Entry → List ℕ) → Option Entry → List ℕ
 spelt spell None = []
 spelt spell (Some e) = spell e
 
--- one station's spans lead from x to y
-abbrev pub SpanFrom : List (ℕ × ℕ) → ℕ → ℕ → Type 0
-SpanFrom [] x y = y ≡ x
-SpanFrom (span ∷ []) x y = (span.0 ≡ x) × (span.1 ≡ y)
-SpanFrom (span ∷ more ∷ spans) x y = ⊥
+-- finish, of the kernel's history h and the Left of each of so many versions
+pub record IsFinished (spell : Entry → List ℕ) (h : List Entry) (versions : ℕ) (left : ℕ → Leaving) : Type 0 where
+  pub front : (k : ℕ) → k < versions → (rest : List Entry) × (h ≡ (left k).seen ++ rest)
+  pub words : (k : ℕ) → k < versions → (more : List ℕ) × (spelt spell (slice_get h (length (left k).seen)) ≡ (left k).words ++ more)
+  -- all spans, and the version of each station
+  pub spans : List Span
+  pub whos : List ℕ
+  pub tile : Tiles 0 spans (length h)
+  pub rise : Rising 0 spans
+  pub made : (j : ℕ) (x : Span) → get_elem? spans j ≡ some x → get_elem? whos x.station ≡ some x.version
+  pub first : (k : ℕ) → k < versions → get_elem? whos k ≡ some k
+  pub opened : Opened versions whos spans
+  pub led : (k : ℕ) → k < versions → (left k).spans ≡ of_version k spans
+  pub last : (k : ℕ) → k < versions → IsLast whos k (left k).station
+  pub before : (k : ℕ) → k < versions → (j : ℕ) (x : Span) → get_elem? spans j ≡ some x → (left k).station < x.station
+      → (length (left k).seen ≤ x.from) × (0 < length (left k).words → length (left k).seen < x.from)
 
--- the spans of n stations, from number i on, tile what lies from x to y
-abbrev pub Tile : (ℕ → Leaving) → ℕ → ℕ → ℕ → ℕ → Type 0
-Tile left i zero x y = x ≡ y
-Tile left i (suc n) x y = (z : ℕ) × SpanFrom (left i).spans x z × Tile left (i + 1) n z y
+module _ {P : Type 0} (g : Behaviour P) (judges : ℕ → Judge) where
+  -- version i, fresh with the process p, over this log, of which it led these parts
+  abbrev pub tracked : ℕ → P → List (ℕ × ℕ) → List Entry → Follower P
+  tracked i p led log = track g (judges i) led log (fresh p)
 
--- finish, of the kernel's history h and the Left of each of n stations
-pub record IsFinished (spell : Entry → List ℕ) (h : List Entry) (n : ℕ) (left : ℕ → Leaving) : Type 0 where
-  pub front : (k : ℕ) → k < n → (rest : List Entry) × (h ≡ (left k).seen ++ rest)
-  pub words : (k : ℕ) → k < n → (more : List ℕ) × (spelt spell (slice_get h (length (left k).seen)) ≡ (left k).words ++ more)
-  pub tiles : Tile left 0 n 0 (length h)
-  pub below : (j k a b : ℕ) → j < k → k < n → (left k).spans ≡ (a, b) ∷ [] → (length (left j).seen ≤ a) × (0 < length (left j).words → length (left j).seen < a)
+  -- it takes the lead of this log, in step with the whole of it
+  pub record TakesLead (i : ℕ) (p : P) (led : List (ℕ × ℕ)) (log : List Entry) : Type 0 where
+    pub on : (tracked i p led log).fate ≡ None
+    pub seen : (tracked i p led log).seen ≡ length log
+    pub in_step : IsInStep g log (tracked i p led log)
 
-module _ {P : Type 0} (g : Behaviour P) (judges : ℕ → Judge) (replies : Start) (most : ℕ) where
   -- version i where it takes the lead of this log
-  abbrev pub begun : ℕ → P → List Entry → Leader P
-  begun i p log = record { process = (follow g (judges i) log (fresh p)).process; log = log; fate = None }
+  abbrev pub begun : ℕ → P → List (ℕ × ℕ) → List Entry → Leader P
+  begun i p led log = record { process = (tracked i p led log).process; log = log; fate = None }
 
-  -- a version that has led from number `from` on, with its seat's seen list: a worker keeps this from `take` on, at each turn's end
-  pub record HasLedFrom (i : ℕ) (p : P) (v : Running P) (from : ℕ) (log : List Entry) : Type 0 where
+module _ {P : Type 0} (g : Behaviour P) (judges : ℕ → Judge) (replies : Start) (most : ℕ) (hands : List ℕ) where
+  -- behind the parts that it led before, it led the log from one length to another, and there it gave up the lead
+  pub record HandedOver (i : ℕ) (p : P) (led : List (ℕ × ℕ)) (from to : ℕ) (log : List Entry) : Type 0 where
+    pub within : to ≤ length log
+    pub grew : from < to
+    pub planned : has hands to ≡ true
+    pub takes : TakesLead g judges i p led (take from log)
+    pub process : P
+    pub lead : (c : Option ℕ) → IsCutOf c None to
+        → lead_to_hand g replies most c hands from (begun g judges i p led (take from log)) ≡ record { process = process; log = take to log; fate = None }
+
+  -- so it led each of these parts
+  abbrev pub AreHanded : ℕ → P → List (ℕ × ℕ) → List Entry → Type 0
+  AreHanded i p led log = (front back : List (ℕ × ℕ)) (from to : ℕ) → led ≡ front ++ (from, to) ∷ back → HandedOver i p front from to log
+
+  -- a version that has led from number `from` on, behind the parts that it led before, with its seat's seen list: a worker keeps this
+  -- while it leads, at each turn's end
+  pub record HasLedFrom (i : ℕ) (p : P) (v : Running P) (led : List (ℕ × ℕ)) (from : ℕ) (log : List Entry) : Type 0 where
+    pub index : v.index ≡ i
+    pub handed : AreHanded i p led log
+    pub behind : EndBy from led
+    pub few : length led + above hands from ≤ length hands
     pub within : from ≤ length log
-    pub on : (follow g (judges i) (take from log) (fresh p)).fate ≡ None
-    pub stage : (c : Option ℕ) → IsCutOf c v.at.fate (length log) → IsStage (next_call g replies most c) (begun i p (take from log)) (leader_of v log)
-    pub rewrites : v.at.rewrites ≡ (follow g (judges i) (take from log) (fresh p)).rewrites
+    pub takes : TakesLead g judges i p led (take from log)
+    pub stage : (c : Option ℕ) → IsCutOf c v.at.fate (length log)
+        → IsStage (next_or_hand g replies most c hands from) (begun g judges i p led (take from log)) (leader_of v log)
+    pub rewrites : v.at.rewrites ≡ (tracked g judges i p led (take from log)).rewrites
     pub seen : v.at.seen ≡ length log
-    pub span : v.led ≡ (from, length log) ∷ []
+    pub span : v.led ≡ led ++ (from, length log) ∷ []
     pub leading : v.leading ≡ true
     pub in_step : IsInStep g log v.at
 
-module _ {P : Type 0} (g : Behaviour P) (judges : ℕ → Judge) (fits : Entry → Type 0) (spell : Entry → List ℕ) where
+module _ {P : Type 0} (g : Behaviour P) (judges : ℕ → Judge) (replies : Start) (most : ℕ) (hands : List ℕ) (fits : Entry → Type 0) (spell : Entry → List ℕ) where
   -- a follower that was dropped at an event all of whose words its seat has read
   pub record IsDroppedAt (i : ℕ) (p : P) (v : Running P) (l : Leaving) : Type 0 where
     pub event : Entry
     pub fit : fits event
     pub words : l.words ≡ spell event
-    pub stage : IsStage (next g (judges i) (l.seen ++ event ∷ [])) (fresh p) v.at
+    pub stage : IsStage (track_next g (judges i) v.led (l.seen ++ event ∷ [])) (fresh p) v.at
 
+  -- it ended as a follower
   pub record HasFollowed (i : ℕ) (p : P) (v : Running P) (l : Leaving) : Type 0 where
-    pub spans : l.spans ≡ []
-    pub not_led : v.led ≡ []
-    pub stage : IsStage (next g (judges i) l.seen) (fresh p) v.at ⊎ IsDroppedAt i p v l
+    pub idle : v.leading ≡ false
+    pub handed_on : AreHandedOn l.spans
+    pub handed : AreHanded g judges replies most hands i p v.led l.seen
+    pub stage : IsStage (track_next g (judges i) v.led l.seen) (fresh p) v.at ⊎ IsDroppedAt i p v l
 
-module _ {P : Type 0} (g : Behaviour P) (judges : ℕ → Judge) (replies : Start) (most : ℕ) (fits : Entry → Type 0) (spell : Entry → List ℕ) where
+  -- it ended as the leader
   pub record HasLeft (i : ℕ) (p : P) (v : Running P) (l : Leaving) : Type 0 where
-    pub from : ℕ
-    pub spans : l.spans ≡ (from, length l.seen) ∷ []
-    pub led : HasLedFrom g judges replies most i p v from l.seen
+    pub front : List Span
+    pub last : Span
+    pub spans : l.spans ≡ front ++ last ∷ []
+    pub handed_on : AreHandedOn front
+    pub kept : last.handed ≡ false
+    pub station : last.station ≡ l.station
+    pub led : HasLedFrom g judges replies most hands i p v (map ends_of front) last.from l.seen
 
-  -- run_all, of version i, fresh with the process p before and v after, and the Left of station i
+  -- run_all, of version i, fresh with the process p before and v after, and its Left
   pub record IsDone (i : ℕ) (p : P) (v : Running P) (l : Leaving) : Type 0 where
     pub ended : is_on v.at.fate ≡ false
-    pub told : HasFollowed g judges fits spell i p v l ⊎ HasLeft i p v l
+    pub count : v.at.seen ≡ length l.seen
+    pub spans : v.led ≡ map ends_of l.spans
+    pub told : HasFollowed i p v l ⊎ HasLeft i p v l
 
-module _ {P : Type 0} (g : Behaviour P) (judges : ℕ → Judge) (start : Start) (most : ℕ) where
-  -- the account of versions that ran beside each other: the log and the standings are those of the versions one after another
+module _ {P : Type 0} (g : Behaviour P) (judges : ℕ → Judge) (start : Start) (most : ℕ) (hands : List ℕ) where
+  -- the account of versions that ran beside each other: the log and the standings are those of the monitor that runs one at a time
   pub record IsAccount (olds news : List (Running P)) (log : List Entry) : Type 0 where
-    pub account : record { log = log; lines = map standing_of news } ≡ sequence g judges start most (cuts_of (map standing_of news)) (map process_of olds)
-    pub settled : AreSettled (map standing_of news)
-    pub survivor : SurvivorsAgree g start most (map process_of olds) (map standing_of news) log
+    pub account : record { log = log; lines = map standing_of news } ≡ sequence g judges start most (cuts_of (map standing_of news)) hands (map process_of olds)
+    pub settled : AreEnded (map standing_of news)
+    pub covers : Covers (map standing_of news) log
+    pub survivor : SurvivorsAgree g start most hands (map process_of olds) (map standing_of news) log

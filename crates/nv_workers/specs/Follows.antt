@@ -5,13 +5,13 @@ use Rattle.nv_room.specs.declared.view.View.{View}
 use Rattle.nv_room.specs.declared.room.Room.{Room}
 use Rattle.nv_room.specs.declared.room.Reader.{Reader}
 use Rattle.nv_room.specs.Owner.{is_held, is_free}
-use Rattle.nv_room.specs.Seats.{IsOfRoom, view, station_of_reader, origin}
+use Rattle.nv_room.specs.Seats.{IsOfRoom, view, version_of_reader, origin, hands_of}
 use Rattle.nv_promotion.specs.Lowers.{IsAlive}
 use Rattle.nv_threads.specs.Threads.{Proc}
 use Rattle.nv_replay.specs.Follow.{Judge}
 use Rattle.nv_replay.specs.Versions.{Running}
 use Rattle.nv_workers.specs.declared.follows.Next.{Next}
-use Rattle.nv_workers.specs.declared.follows.Next.TheVariants.{Moved, Waits, Leads, Leaves, Left}
+use Rattle.nv_workers.specs.declared.follows.Next.TheVariants.{Moved, Waits, Leads, Hands, Leaves, Left}
 use Rattle.nv_workers.specs.declared.follows.Found.{Found}
 use Rattle.nv_workers.specs.declared.follows.Found.TheVariants.{Event, Held, Free}
 use Rattle.nv_words.specs.Spell.{IsWhole}
@@ -27,10 +27,11 @@ pub record HasWaited {T : Type 0} (old new : View T) : Type 0 where
 
 module _ (judges : ℕ → Judge) {K : Type 0} {G : Ghosts K} (room : Room K) (most : ℕ) (p : Proc) (v : Running Proc) (r : Reader K G) (held : Bool) (buf : List ℕ) where
   abbrev pub AfterTurn : Next → Type 0
-  AfterTurn Moved = FollowsOn judges room p v r held buf
-  AfterTurn Waits = FollowsOn judges room p v r held buf
-  AfterTurn Leads = FollowsOn judges room p v r false buf × ((view r).freed ≡ Some (length (view r).seen))
-  AfterTurn Leaves = IsOfRoom room r × HasEnded judges (G.start (origin room)) most (station_of_reader r) p v (view r)
+  AfterTurn Moved = FollowsOn judges room most p v r held buf
+  AfterTurn Waits = FollowsOn judges room most p v r held buf
+  AfterTurn Leads = FollowsOn judges room most p v r false buf × ((view r).freed ≡ Some (length (view r).seen))
+  AfterTurn Hands = ⊥
+  AfterTurn Leaves = IsOfRoom room r × HasEnded judges (G.start (origin room)) most (hands_of room) (version_of_reader r) p v (view r)
   AfterTurn Left = ⊥
 
 -- a turn after which the version follows on has consumed the event, or has rewritten the version's call
@@ -38,6 +39,7 @@ abbrev pub HasGrown : {T : Type 0} → View T → View T → Running Proc → Ru
 HasGrown w w2 v v2 Moved = (length w.seen < length w2.seen) ⊎ (v.at.rewrites < v2.at.rewrites)
 HasGrown w w2 v v2 Waits = Unit {0}
 HasGrown w w2 v v2 Leads = Unit {0}
+HasGrown w w2 v v2 Hands = Unit {0}
 HasGrown w w2 v v2 Leaves = Unit {0}
 HasGrown w w2 v v2 Left = Unit {0}
 
@@ -56,4 +58,5 @@ IsBusy Moved = Unit {0}
 IsBusy Leaves = Unit {0}
 IsBusy Waits = ⊥
 IsBusy Leads = ⊥
+IsBusy Hands = ⊥
 IsBusy Left = ⊥

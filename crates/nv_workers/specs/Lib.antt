@@ -5,7 +5,6 @@ pub mod Follows
 pub mod LeadsOn
 pub mod Workers
 pub mod Stepping
-pub mod Endings
 pub mod Rounds
 pub mod Dealing
 pub mod New

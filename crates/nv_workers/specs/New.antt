@@ -4,12 +4,12 @@ use Rattle.nv_calls.specs.declared.kernel.SyscallKernel.{Ghosts}
 use Rattle.nv_room.specs.declared.room.Room.{Room}
 use Rattle.nv_room.specs.declared.room.Reader.{Reader}
 use Rattle.nv_room.specs.declared.room.Lead.{Lead}
-use Rattle.nv_room.specs.Seats.{IsFreshLead, IsFresh as IsFreshReader, FreshReaders, kernel_of, station_of_reader, origin}
+use Rattle.nv_room.specs.Seats.{IsFreshLead, IsFresh as IsFreshReader, FreshReaders, kernel_of, version_of_reader, origin}
 use Rattle.nv_threads.specs.Threads.{Proc, threads}
 use Rattle.nv_replay.specs.Follow.{Judge}
 use Rattle.nv_replay.specs.Versions.{Running, IsFresh}
 use Rattle.nv_workers.specs.declared.worker.Worker.{Worker}
-use Rattle.nv_workers.specs.Workers.{Works, station_of}
+use Rattle.nv_workers.specs.Workers.{Works, version_of}
 
 module _ {K : Type 0} {G : Ghosts K} where
   -- the lead as the room's making gave it
@@ -22,12 +22,12 @@ module _ {K : Type 0} {G : Ghosts K} where
   IsNewLead l = (room : Room K) × IsLeadAsMade room l
 
   abbrev pub IsNewReader : Reader K G → Type 0
-  IsNewReader r = (room : Room K) × IsFreshReader room (station_of_reader r) r
+  IsNewReader r = (room : Room K) × IsFreshReader room (version_of_reader r) r
 
-  -- the worker of station i of the room, as it is made of this version
+  -- the worker of version i, with its seat in the room, as it is made
   pub record IsNew (room : Room K) (i : ℕ) (v : Running Proc) (w : Worker K G) : Type 0 where
     pub fresh : IsFresh threads i v
-    pub station : station_of w ≡ i
+    pub version : version_of w ≡ i
     pub works : (judges : ℕ → Judge) (most : ℕ) → Works judges room most v.at.process w
 
   -- of the room that made the lead
@@ -36,16 +36,16 @@ module _ {K : Type 0} {G : Ghosts K} where
 
   -- of the room that made the reader
   abbrev pub ReadsAnew : Running Proc → Reader K G → Worker K G → Type 0
-  ReadsAnew v r w = (room : Room K) → IsFreshReader room (station_of_reader r) r → IsNew room (station_of_reader r) v w
+  ReadsAnew v r w = (room : Room K) → IsFreshReader room (version_of_reader r) r → IsNew room (version_of_reader r) v w
 
-  -- one worker for each version, for the stations from number i on
+  -- one worker for each version, for the numbers from i on
   abbrev pub AreNew : Room K → ℕ → List (Running Proc) → List (Worker K G) → Type 0
   AreNew room i [] [] = Unit {0}
   AreNew room i [] (w ∷ ws) = ⊥
   AreNew room i (v ∷ vs) [] = ⊥
   AreNew room i (v ∷ vs) (w ∷ ws) = IsNew room i v w × AreNew room (i + 1) vs ws
 
-  -- the lead and the readers, in order of station, as one room's making gave them
+  -- the lead and the readers, in order of version, as one room's making gave them
   pub record AreAsMade (room : Room K) (rs : List (Reader K G)) (l : Lead K G) : Type 0 where
     pub readers : FreshReaders room rs
     pub lead : IsLeadAsMade room l

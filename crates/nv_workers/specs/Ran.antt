@@ -3,7 +3,7 @@ use Rattle.std.specs.Prelude.{◌≡◌, ℕ, ◌+◌, List, [], ◌∷◌, leng
 use Rattle.nv_calls.specs.declared.kernel.SyscallKernel.{Ghosts}
 use Rattle.nv_room.specs.declared.room.Room.{Room}
 use Rattle.nv_room.specs.declared.room.Left.{Left}
-use Rattle.nv_room.specs.Seats.{IsLeftOf, left_view, station_of_left, stations_of, origin}
+use Rattle.nv_room.specs.Seats.{IsLeftOf, left_view, version_of_left, versions_of, origin, hands_of}
 use Rattle.nv_threads.specs.Threads.{Proc, threads}
 use Rattle.nv_replay.specs.Follow.{Judge}
 use Rattle.nv_replay.specs.Versions.{Running}
@@ -23,11 +23,11 @@ module _ {K : Type 0} {G : Ghosts K} where
   AreApart (w ∷ ws) (v ∷ vs) (l ∷ ls) = (w.version ≡ v) × (w.seat ≡ Gone l) × AreApart ws vs ls
 
 module _ (judges : ℕ → Judge) {K : Type 0} {G : Ghosts K} (room : Room K) (most : ℕ) where
-  -- version i, fresh before and v after, has its fate, and the seat of station i has left
+  -- version i, fresh before and v after, has its fate, and its seat has left
   pub record HasRun (i : ℕ) (fresh v : Running Proc) (l : Left K G) : Type 0 where
     pub of : IsLeftOf room l
-    pub station : station_of_left l ≡ i
-    pub ended : HasEnded judges (G.start (origin room)) most i fresh.at.process v (left_view l)
+    pub version : version_of_left l ≡ i
+    pub ended : HasEnded judges (G.start (origin room)) most (hands_of room) i fresh.at.process v (left_view l)
 
   -- so do the versions from number i on
   abbrev pub HaveRun : ℕ → List (Running Proc) → List (Running Proc) → List (Left K G) → Type 0
@@ -38,8 +38,8 @@ module _ (judges : ℕ → Judge) {K : Type 0} {G : Ghosts K} (room : Room K) (m
   HaveRun i (f ∷ fs) (v ∷ vs) [] = ⊥
   HaveRun i (f ∷ fs) (v ∷ vs) (l ∷ ls) = HasRun i f v l × HaveRun (i + 1) fs vs ls
 
-  -- all versions have run, and each station of the room has left
+  -- all versions have run, and the seat of each version of the room has left
   pub record AllRan (olds news : List (Running Proc)) (left : List (Left K G)) : Type 0 where
     pub fresh : AreFresh threads 0 olds
     pub ran : HaveRun 0 olds news left
-    pub all : length left ≡ stations_of room
+    pub all : length left ≡ versions_of room

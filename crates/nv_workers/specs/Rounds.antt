@@ -7,7 +7,7 @@ use Rattle.nv_replay.specs.Follow.{Judge}
 use Rattle.nv_workers.specs.declared.worker.Turn.{Turn}
 use Rattle.nv_workers.specs.declared.worker.Turn.TheVariants.{Moved, Waiting, Done}
 use Rattle.nv_workers.specs.declared.worker.Worker.{Worker}
-use Rattle.nv_workers.specs.Workers.{Works, IsGone, station_of}
+use Rattle.nv_workers.specs.Workers.{Works, IsGone, version_of}
 
 module _ (judges : ℕ → Judge) {K : Type 0} {G : Ghosts K} (room : Room K) (most : ℕ) where
   -- a worker that may take its turn
@@ -17,7 +17,7 @@ module _ (judges : ℕ → Judge) {K : Type 0} {G : Ghosts K} (room : Room K) (m
   -- it works on for the same fresh version
   pub record WorkedOn (old new : Worker K G) : Type 0 where
     pub works : (p : Proc) → Works judges room most p old → Works judges room most p new
-    pub station : station_of new ≡ station_of old
+    pub version : version_of new ≡ version_of old
 
   abbrev pub CanAll : List (Worker K G) → Type 0
   CanAll [] = Unit {0}

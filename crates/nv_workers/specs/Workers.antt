@@ -2,7 +2,7 @@
 use Rattle.std.specs.Prelude.{◌≡◌, ◌<◌, ◌⊎◌, ℕ, false, List, length, None}
 use Rattle.nv_calls.specs.declared.kernel.SyscallKernel.{Ghosts}
 use Rattle.nv_room.specs.declared.room.Room.{Room}
-use Rattle.nv_room.specs.Seats.{IsLeftOf, view, lead_view, left_view, station_of_reader, station_of_lead, station_of_left, origin}
+use Rattle.nv_room.specs.Seats.{IsLeftOf, view, lead_view, left_view, version_of_reader, version_of_lead, version_of_left, origin, hands_of}
 use Rattle.nv_threads.specs.Threads.{Proc}
 use Rattle.nv_replay.specs.Follow.{Judge}
 use Rattle.nv_replay.specs.Sequence.{is_on}
@@ -17,14 +17,15 @@ use Rattle.nv_workers.specs.Follows.{HasWaited}
 use Rattle.nv_workers.specs.Working.{FollowsOn, LeadsOn, HasEnded}
 
 module _ {K : Type 0} {G : Ghosts K} where
-  abbrev pub station_of_seat : Seat K G → ℕ
-  station_of_seat (Reading r held) = station_of_reader r
-  station_of_seat (Leading l asked) = station_of_lead l
-  station_of_seat (Gone l) = station_of_left l
-  station_of_seat Moving = 0
+  -- the version that the seat began with
+  abbrev pub version_of_seat : Seat K G → ℕ
+  version_of_seat (Reading r held) = version_of_reader r
+  version_of_seat (Leading l asked) = version_of_lead l
+  version_of_seat (Gone l) = version_of_left l
+  version_of_seat Moving = 0
 
-  abbrev pub station_of : Worker K G → ℕ
-  station_of w = station_of_seat w.seat
+  abbrev pub version_of : Worker K G → ℕ
+  version_of w = version_of_seat w.seat
 
   -- the version's fate is there and the seat has left
   abbrev pub IsGone : Seat K G → Type 0
@@ -35,9 +36,9 @@ module _ {K : Type 0} {G : Ghosts K} where
 
 module _ (judges : ℕ → Judge) {K : Type 0} {G : Ghosts K} (room : Room K) (most : ℕ) (p : Proc) (v : Running Proc) (buf : List ℕ) where
   abbrev pub WorksAt : Seat K G → Type 0
-  WorksAt (Reading r held) = FollowsOn judges room p v r held buf
-  WorksAt (Leading l asked) = LeadsOn judges room p v most l asked
-  WorksAt (Gone l) = IsLeftOf room l × HasEnded judges (G.start (origin room)) most (station_of_left l) p v (left_view l)
+  WorksAt (Reading r held) = FollowsOn judges room most p v r held buf
+  WorksAt (Leading l asked) = LeadsOn judges room most p v false l asked
+  WorksAt (Gone l) = IsLeftOf room l × HasEnded judges (G.start (origin room)) most (hands_of room) (version_of_left l) p v (left_view l)
   WorksAt Moving = ⊥
 
 module _ {K : Type 0} {G : Ghosts K} where

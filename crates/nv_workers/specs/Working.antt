@@ -10,19 +10,16 @@ use Rattle.nv_room.specs.declared.room.Room.{Room}
 use Rattle.nv_room.specs.declared.room.Reader.{Reader}
 use Rattle.nv_room.specs.declared.room.Lead.{Lead}
 use Rattle.nv_room.specs.Spans.{span}
-use Rattle.nv_room.specs.Seats.{IsOfRoom, IsLeadOf, view, lead_view, station_of_reader, station_of_lead, kernel_of, due_of, origin}
+use Rattle.nv_room.specs.Seats.{IsOfRoom, IsLeadOf, view, lead_view, version_of_reader, station_of_lead, version_of_lead, kernel_of, due_of, origin, hands_of}
 use Rattle.nv_threads.specs.Threads.{Proc, threads}
 use Rattle.nv_replay.specs.Follow.{Judge}
 use Rattle.nv_replay.specs.Versions.{Running}
-use Rattle.nv_workers.specs.Ends.{Leaving, IsDone}
+use Rattle.nv_workers.specs.Ends.{Leaving, ends_of, AreHandedOn, IsDone}
 use Rattle.nv_workers.specs.Turns.{held_list, IsReading, IsServing, IsAsking}
-
-abbrev pub ends_of : Span → ℕ × ℕ
-ends_of x = (x.from, x.to)
 
 -- what a seat that saw this log tells once it has left
 abbrev pub told_by : {T : Type 0} → List Entry → View T → Leaving
-told_by log w = record { seen = log; words = w.read; spans = map ends_of w.spans }
+told_by log w = record { station = w.station; seen = log; words = w.read; spans = w.spans }
 
 -- the next event is read whole, stands in the buffer, and is not consumed; or no word of it is read
 abbrev pub Holds : Bool → List ℕ → List ℕ → Option Entry → Type 0
@@ -31,21 +28,21 @@ Holds false read buf (Some e) = ⊥
 Holds true read buf None = ⊥
 Holds true read buf (Some e) = (read ≡ spell e) × (buf ≡ spell e)
 
--- a version of station i has its fate. Its seat has seen as many events as it has, and tells the spans that it led
-pub record HasEnded (judges : ℕ → Judge) {T : Type 0} (start : Start) (most i : ℕ) (p : Proc) (v : Running Proc) (w : View T) : Type 0 where
+-- version i has its fate. Its seat has seen as many events as it has, and tells the spans that it led
+pub record HasEnded (judges : ℕ → Judge) {T : Type 0} (start : Start) (most : ℕ) (hands : List ℕ) (i : ℕ) (p : Proc) (v : Running Proc) (w : View T) : Type 0 where
   pub log : List Entry
   pub spelt : map spell log ≡ w.seen
   pub lawful : IsLawful log
   pub count : v.at.seen ≡ length w.seen
   pub led : v.led ≡ map ends_of w.spans
-  pub done : IsDone threads judges start most InRange spell i p v (told_by log w)
+  pub done : IsDone threads judges start most hands InRange spell i p v (told_by log w)
 
--- a leader's version has no call asked, or that of this thread
-abbrev pub Serves : (ℕ → Judge) → Proc → Running Proc → ℕ → Start → ℕ → ℕ → List Entry → Option ℕ → Type 0
-Serves judges p v i start most from log None = IsServing threads judges start most i p v from log
-Serves judges p v i start most from log (Some t) = IsAsking threads judges start most i p v from log × (v.asked ≡ Some t)
+-- a leader's version has no call asked, or that of this thread; `over` says that it has just led to a planned length
+abbrev pub Serves : (ℕ → Judge) → Proc → Running Proc → ℕ → Start → ℕ → List ℕ → Bool → List (ℕ × ℕ) → ℕ → List Entry → Option ℕ → Type 0
+Serves judges p v i start most hands over led from log None = IsServing threads judges start most hands over i p v led from log
+Serves judges p v i start most hands over led from log (Some t) = IsAsking threads judges start most hands i p v led from log × (v.asked ≡ Some t)
 
-module _ (judges : ℕ → Judge) {K : Type 0} {G : Ghosts K} (room : Room K) (p : Proc) (v : Running Proc) where
+module _ (judges : ℕ → Judge) {K : Type 0} {G : Ghosts K} (room : Room K) (most : ℕ) (p : Proc) (v : Running Proc) where
   -- a version without a fate that was fresh with the process p, and its reader
   pub record FollowsOn (r : Reader K G) (held : Bool) (buf : List ℕ) : Type 0 where
     pub of : IsOfRoom room r
@@ -54,16 +51,20 @@ module _ (judges : ℕ → Judge) {K : Type 0} {G : Ghosts K} (room : Room K) (p
     pub spelt : map spell log ≡ (view r).seen
     pub lawful : IsLawful (log ++ held_list next)
     pub holds : Holds held (view r).read buf next
-    pub spans : (view r).spans ≡ []
-    pub reading : IsReading threads judges (station_of_reader r) p v log next
+    pub led : v.led ≡ map ends_of (view r).spans
+    pub handed_on : AreHandedOn (view r).spans
+    pub reading : IsReading threads judges (G.start (origin room)) most (hands_of room) (version_of_reader r) p v log next
 
-  pub record LeadsOn (most : ℕ) (l : Lead K G) (asked : Option ℕ) : Type 0 where
+  -- a version without a fate that was fresh with the process p, and its lead; where it is over, it gives up the lead next
+  pub record LeadsOn (over : Bool) (l : Lead K G) (asked : Option ℕ) : Type 0 where
     pub of : IsLeadOf room l
     pub none_due : due_of l ≡ false
     pub none_wrote : (lead_view l).wrote ≡ []
+    pub before : List Span
     pub from : ℕ
     pub start : G.start (kernel_of l) ≡ G.start (origin room)
     pub spelt : map spell (G.log (kernel_of l)) ≡ (lead_view l).seen
     pub lawful : IsLawful (G.log (kernel_of l))
-    pub spans : (lead_view l).spans ≡ span (station_of_lead l) from (length (lead_view l).seen) ∷ []
-    pub serves : Serves judges p v (station_of_lead l) (G.start (origin room)) most from (G.log (kernel_of l)) asked
+    pub spans : (lead_view l).spans ≡ before ++ span (station_of_lead l) (version_of_lead l) from (length (lead_view l).seen) ∷ []
+    pub handed_on : AreHandedOn before
+    pub serves : Serves judges p v (version_of_lead l) (G.start (origin room)) most (hands_of room) over (map ends_of before) from (G.log (kernel_of l)) asked

@@ -2,6 +2,7 @@
 ghost use Rattle.std.specs.Prelude.{◌≡◌, ◌≤◌, ◌<◌};
 ghost use Rattle.std.specs.Option.{option_copied};
 ghost use Rattle.nv_replay.specs.Follow.{judge_of};
+ghost use Rattle.nv_room.specs.Seats.{hands_of};
 ghost use Rattle.nv_workers.specs.Rounds.{CanAll, AllOn};
 ghost use Rattle.nv_workers.specs.Dealing.{AreEven};
 
@@ -70,10 +71,12 @@ pub(crate) fn deal<R: Threads + Wait + Sync, K: SyscallKernel, G: Gate + Sync>(
     rules: Option<&Filter>,
     gate: &G,
     most: u32,
+    hands: &Vec<u32>,
     threads: usize,
 )
     requires can { CanAll (judge_of (option_copied rules)) room.now most workers.old }
     requires most { most ≤ 131072 }
+    requires hands { hands_of room.now ≡ hands.now.items }
     ensures { AllOn (judge_of (option_copied rules.entry)) room.now most workers.old workers.new }
 {
     if workers.is_empty() {
@@ -83,9 +86,13 @@ pub(crate) fn deal<R: Threads + Wait + Sync, K: SyscallKernel, G: Gate + Sync>(
     let stretches = Stretches::of(workers.len(), threads);
     let parts = Parts::new(threads);
     let alike = |start: usize, part: &mut [Worker<K>]|
-        requires { CanAll (judge_of (option_copied rules)) room.now most part.now × (most ≤ 131072) × (0 < stretches.size) × (0 < stretches.other) }
+        requires { CanAll (judge_of (option_copied rules)) room.now most part.now × (most ≤ 131072) × (hands_of room.now ≡ hands.now.items) × (0 < stretches.size) × (0 < stretches.other) }
         ensures { AllOn (judge_of (option_copied rules.entry)) room.entry.now most part.entry.now part.exit.now }
-    { deal_alike(rt, start, part, room, rules, gate, most, &stretches, &parts) };
+    {
+        deal_alike(
+            rt, start, part, room, rules, gate, most, hands, &stretches, &parts,
+        )
+    };
     thread::for_each_chunk_mut(rt, workers, stretches.front, &alike);
 }
 
@@ -98,17 +105,19 @@ fn deal_alike<R: Threads + Wait + Sync, K: SyscallKernel, G: Gate + Sync>(
     rules: Option<&Filter>,
     gate: &G,
     most: u32,
+    hands: &Vec<u32>,
     stretches: &Stretches,
     parts: &Parts,
 )
     requires can { CanAll (judge_of (option_copied rules)) room.now most workers.old }
     requires most { most ≤ 131072 }
+    requires hands { hands_of room.now ≡ hands.now.items }
     requires some { (0 < stretches.now.size) × (0 < stretches.now.other) }
     ensures { AllOn (judge_of (option_copied rules.entry)) room.now most workers.old workers.new }
 {
     let turns = |_start: usize, part: &mut [Worker<K>]|
-        requires { CanAll (judge_of (option_copied rules)) room.now most part.now × (most ≤ 131072) }
+        requires { CanAll (judge_of (option_copied rules)) room.now most part.now × (most ≤ 131072) × (hands_of room.now ≡ hands.now.items) }
         ensures { AllOn (judge_of (option_copied rules.entry)) room.entry.now most part.entry.now part.exit.now }
-    { rotate_while_moving(rt, part, room, rules, gate, most, parts) };
+    { rotate_while_moving(rt, part, room, rules, gate, most, hands, parts) };
     thread::for_each_chunk_mut(rt, workers, stretches.size_from(start), &turns);
 }

@@ -27,6 +27,8 @@ pub(crate) enum Next {
     Waits,
     /// It takes the lead.
     Leads,
+    /// It gives up the lead at a planned length.
+    Hands,
     /// Its version has ended.
     Leaves,
     /// It left in an earlier turn.
@@ -53,9 +55,9 @@ pub(crate) fn follow_turn<K: SyscallKernel, G: Gate>(
     rules: Option<&Filter>,
     gate: &G,
 ) -> Next
-    requires { (p : Proc) × FollowsOn (judge_of (option_copied rules)) room.now p version.old reader.old held.old buf.old }
+    requires { (most : ℕ) × (p : Proc) × FollowsOn (judge_of (option_copied rules)) room.now most p version.old reader.old held.old buf.old }
     ensures same { SameReader reader.old reader.new }
-    ensures after { (most : ℕ) (p : Proc) → FollowsOn (judge_of (option_copied rules.entry)) room.now p version.old reader.old held.old buf.old → AfterTurn (judge_of (option_copied rules.entry)) room.now most p version.new reader.new held.new buf.new result }
+    ensures after { (most : ℕ) (p : Proc) → FollowsOn (judge_of (option_copied rules.entry)) room.now most p version.old reader.old held.old buf.old → AfterTurn (judge_of (option_copied rules.entry)) room.now most p version.new reader.new held.new buf.new result }
     ensures grown { HasGrown (view reader.old) (view reader.new) version.old version.new result }
     ensures idle { IsIdle (view reader.old) (view reader.new) result }
 {
@@ -108,10 +110,10 @@ fn decide<K: SyscallKernel, G: Gate>(
     rules: Option<&Filter>,
     gate: &G,
 ) -> Next
-    requires follows { (p : Proc) × FollowsOn (judge_of (option_copied rules)) room.now p version.old reader.old true buf.now }
+    requires follows { (most : ℕ) × (p : Proc) × FollowsOn (judge_of (option_copied rules)) room.now most p version.old reader.old true buf.now }
     requires held { held.old ≡ true }
     ensures same { SameReader reader.old reader.new }
-    ensures after { (most : ℕ) (p : Proc) → FollowsOn (judge_of (option_copied rules.entry)) room.now p version.old reader.old true buf.now → AfterTurn (judge_of (option_copied rules.entry)) room.now most p version.new reader.new held.new buf.now result }
+    ensures after { (most : ℕ) (p : Proc) → FollowsOn (judge_of (option_copied rules.entry)) room.now most p version.old reader.old true buf.now → AfterTurn (judge_of (option_copied rules.entry)) room.now most p version.new reader.new held.new buf.now result }
     ensures grown { HasGrown (view reader.old) (view reader.new) version.old version.new result }
     ensures busy { IsBusy result }
 {

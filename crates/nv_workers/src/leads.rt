@@ -4,11 +4,12 @@ ghost use Rattle.nv_calls.specs.Logs.{served, live_after, IsLawful};
 ghost use Rattle.nv_words.specs.Spell.{spell};
 ghost use Rattle.nv_threads.specs.Threads.{Proc, threads};
 ghost use Rattle.nv_replay.specs.Follow.{Judge};
+ghost use Rattle.nv_replay.specs.Hands.{has};
 ghost use Rattle.nv_replay.specs.Versions.{answered_by};
 ghost use Rattle.nv_room.specs.Spans.{grown};
-ghost use Rattle.nv_room.specs.Seats.{IsLeadOf, SameLead, IsReady, lead_view, kernel_of, due_of};
+ghost use Rattle.nv_room.specs.Seats.{IsLeadOf, SameLead, IsReady, lead_view, kernel_of, due_of, hands_of};
 ghost use Rattle.nv_workers.specs.Working.{LeadsOn};
-ghost use Rattle.nv_workers.specs.LeadsOn.{AfterLead, HasPublished, IsLate};
+ghost use Rattle.nv_workers.specs.LeadsOn.{AfterLead, HasPublished, IsLate, next_after};
 
 use crate::follows::Next;
 use nv_calls::SyscallKernel;
@@ -25,21 +26,23 @@ pub(crate) fn lead_turn<K: SyscallKernel, G: Gate>(
     room: &Room<K>,
     gate: &G,
     most: u32,
+    hands: &[u32],
 ) -> Next
-    requires leads { (judges : ℕ → Judge) × (p : Proc) × LeadsOn judges room.now p version.old most lead.old asked.old }
+    requires leads { (judges : ℕ → Judge) × (p : Proc) × LeadsOn judges room.now most p version.old false lead.old asked.old }
     requires most { most ≤ 131072 }
+    requires hands { hands_of room.now ≡ hands.now }
     ensures same { SameLead lead.old lead.new }
-    ensures after { (judges : ℕ → Judge) (p : Proc) → LeadsOn judges room.now p version.old most lead.old asked.old → AfterLead judges room.now most p version.new lead.new asked.new result }
+    ensures after { (judges : ℕ → Judge) (p : Proc) → LeadsOn judges room.now most p version.old false lead.old asked.old → AfterLead judges room.now most p version.new lead.new asked.new result }
     ensures published { HasPublished (lead_view lead.old) (lead_view lead.new) result }
     ensures late { IsLate room.now lead.old lead.new result }
 {
     match *asked {
-        Some(tid) => serve(version, lead, asked, tid, room, gate, most),
+        Some(tid) => serve(version, lead, asked, tid, room, gate, most, hands),
         None => match version.lead(most) {
             Led::Dropped(_) => Next::Leaves,
             Led::Asked(tid) => {
                 *asked = Some(tid);
-                serve(version, lead, asked, tid, room, gate, most)
+                serve(version, lead, asked, tid, room, gate, most, hands)
             }
         },
     }
@@ -54,12 +57,14 @@ fn serve<K: SyscallKernel, G: Gate>(
     room: &Room<K>,
     gate: &G,
     most: u32,
+    hands: &[u32],
 ) -> Next
-    requires leads { (judges : ℕ → Judge) × (p : Proc) × LeadsOn judges room.now p version.old most lead.old (Some tid) }
+    requires leads { (judges : ℕ → Judge) × (p : Proc) × LeadsOn judges room.now most p version.old false lead.old (Some tid) }
     requires most { most ≤ 131072 }
+    requires hands { hands_of room.now ≡ hands.now }
     requires asked { asked.old ≡ Some tid }
     ensures same { SameLead lead.old lead.new }
-    ensures after { (judges : ℕ → Judge) (p : Proc) → LeadsOn judges room.now p version.old most lead.old (Some tid) → AfterLead judges room.now most p version.new lead.new asked.new result }
+    ensures after { (judges : ℕ → Judge) (p : Proc) → LeadsOn judges room.now most p version.old false lead.old (Some tid) → AfterLead judges room.now most p version.new lead.new asked.new result }
     ensures published { HasPublished (lead_view lead.old) (lead_view lead.new) result }
     ensures late { IsLate room.now lead.old lead.new result }
 {
@@ -73,10 +78,26 @@ fn serve<K: SyscallKernel, G: Gate>(
     gate.before_publish(lead.station(), lead.seen());
     publish_call(version, lead, tid, room);
     *asked = None;
+    next_of(version, hands)
+}
+
+// What comes next for a leader whose call was served.
+fn next_of(version: &Version, hands: &[u32]) -> Next
+    ensures { result ≡ next_after version.now.at.fate (has hands.now version.now.at.seen) }
+{
     if version.standing().fate.is_some() {
         return Next::Leaves;
     }
+    if is_planned(hands, version.standing().seen) {
+        return Next::Hands;
+    }
     Next::Moved
+}
+
+fn is_planned(hands: &[u32], length: u32) -> bool
+    ensures { result ≡ has hands.now length }
+{
+    hands.contains(&length)
 }
 
 // The call that the version asked is served, published and answered.

@@ -4,7 +4,7 @@ ghost use Rattle.std.specs.Option.{option_copied};
 ghost use Rattle.nv_threads.specs.Threads.{Proc, threads};
 ghost use Rattle.nv_replay.specs.Follow.{Judge, judge_of};
 ghost use Rattle.nv_replay.specs.Versions.{Running};
-ghost use Rattle.nv_room.specs.Seats.{stations_of, origin};
+ghost use Rattle.nv_room.specs.Seats.{versions_of, hands_of, origin};
 ghost use Rattle.nv_workers.specs.Ends.{IsAccount};
 ghost use Rattle.nv_workers.specs.Rounds.{CanAll, AllOn, AreGone};
 ghost use Rattle.nv_workers.specs.New.{AreNew};
@@ -22,17 +22,16 @@ use std::alloc::{AllocError, Global};
 use std::sync::Wait;
 use std::thread::Threads;
 
-/// The versions of a run once all have ended, and the room for its end, with what is left of each station.
+/// The versions of a run once all have ended, and the room for its end, with what is left of each one's seat.
 #[derive(Drop)]
 pub struct Ran<K: SyscallKernel> {
     pub room: Room<K>,
-    /// In order of station.
+    /// In order of version.
     pub left: Vec<Left<K>>,
-    /// In order of station.
     pub versions: Vec<Version>,
 }
 
-/// Runs the workers of a room's stations until all have ended, on so many host threads. All its own memory is taken before
+/// Runs the workers of a room's versions until all have ended, on so many host threads. All its own memory is taken before
 /// the first turn.
 pub fn run_all<R: Threads + Wait + Sync, K: SyscallKernel, G: Gate + Sync>(
     rt: &R,
@@ -42,17 +41,19 @@ pub fn run_all<R: Threads + Wait + Sync, K: SyscallKernel, G: Gate + Sync>(
     rules: Option<&Filter>,
     gate: &G,
     most: u32,
+    hands: &Vec<u32>,
     threads: u32,
 ) -> Result<Ran<K>, AllocError>
     requires new { (fresh : List (Running Proc)) × AreNew room 0 fresh workers.items }
-    requires all { vec_len workers ≡ stations_of room }
+    requires all { vec_len workers ≡ versions_of room }
     requires most { most ≤ 131072 }
+    requires hands { hands_of room ≡ hands.now.items }
     ensures room { IfOk result (λ r. r.room ≡ room) }
     ensures ran { IfOk result (λ r. (fresh : List (Running Proc)) → AreNew room 0 fresh workers.items → AllRan (judge_of (option_copied rules.entry)) r.room most fresh r.versions.items r.left.items) }
 {
     let mut left = Vec::with_capacity(alloc, workers.len())?;
     let mut versions = Vec::with_capacity(alloc, workers.len())?;
-    run_beside(rt, &mut workers, &room, rules, gate, most, threads);
+    run_beside(rt, &mut workers, &room, rules, gate, most, hands, threads);
     take_apart(workers, &mut versions, &mut left);
     Ok(Ran {
         room,
@@ -69,15 +70,26 @@ fn run_beside<R: Threads + Wait + Sync, K: SyscallKernel, G: Gate + Sync>(
     rules: Option<&Filter>,
     gate: &G,
     most: u32,
+    hands: &Vec<u32>,
     threads: u32,
 )
     requires can { CanAll (judge_of (option_copied rules)) room.now most workers.old }
     requires most { most ≤ 131072 }
+    requires hands { hands_of room.now ≡ hands.now.items }
     ensures on { AllOn (judge_of (option_copied rules.entry)) room.now most workers.old workers.new }
     ensures gone { AreGone workers.new }
 {
-    deal(rt, workers, room, rules, gate, most, threads as usize);
-    rotate(rt, workers, room, rules, gate, most);
+    deal(
+        rt,
+        workers,
+        room,
+        rules,
+        gate,
+        most,
+        hands,
+        threads as usize,
+    );
+    rotate(rt, workers, room, rules, gate, most, hands);
 }
 
 // The versions and the seats that have left, in order.
@@ -110,7 +122,7 @@ pub fn end<K: SyscallKernel>(ran: Ran<K>) -> Account<K>
     requires { (judges : ℕ → Judge) × (most : ℕ) × (fresh : List (Running Proc)) × AllRan judges ran.room most fresh ran.versions.items ran.left.items }
     ensures start { K.start result.kernel ≡ K.start (origin ran.room) }
     ensures account { (judges : ℕ → Judge) (most : ℕ) (fresh : List (Running Proc)) → AllRan judges ran.room most fresh ran.versions.items ran.left.items
-        → IsAccount threads judges (K.start (origin ran.room)) most fresh result.versions.items (K.log result.kernel) }
+        → IsAccount threads judges (K.start (origin ran.room)) most (hands_of ran.room) fresh result.versions.items (K.log result.kernel) }
 {
     let Ran {
         room,

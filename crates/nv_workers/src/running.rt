@@ -2,6 +2,7 @@
 ghost use Rattle.std.specs.Prelude.{◌≡◌, ◌≤◌};
 ghost use Rattle.std.specs.Option.{option_copied};
 ghost use Rattle.nv_replay.specs.Follow.{judge_of};
+ghost use Rattle.nv_room.specs.Seats.{hands_of};
 ghost use Rattle.nv_workers.specs.Rounds.{CanAll, AllOn, AreGone, GoneIf, both_of};
 
 use crate::worker::{Turn, Worker};
@@ -21,17 +22,19 @@ fn round<K: SyscallKernel, G: Gate>(
     rules: Option<&Filter>,
     gate: &G,
     most: u32,
+    hands: &Vec<u32>,
 ) -> Turn
     requires can { CanAll (judge_of (option_copied rules)) room.now most workers.old }
     requires most { most ≤ 131072 }
+    requires hands { hands_of room.now ≡ hands.now.items }
     ensures on { AllOn (judge_of (option_copied rules.entry)) room.now most workers.old workers.new }
     ensures gone { GoneIf result workers.new }
 {
     let Some((first, others)) = workers.split_first_mut() else {
         return Turn::Done;
     };
-    let own = first.turn(room, rules, gate, most);
-    let rest = round(others, room, rules, gate, most);
+    let own = first.turn(room, rules, gate, most, hands);
+    let rest = round(others, room, rules, gate, most, hands);
     both(own, rest)
 }
 
@@ -102,16 +105,18 @@ pub(crate) fn rotate_while_moving<R: Wait, K: SyscallKernel, G: Gate>(
     rules: Option<&Filter>,
     gate: &G,
     most: u32,
+    hands: &Vec<u32>,
     parts: &Parts,
 )
     requires can { CanAll (judge_of (option_copied rules)) room.now most workers.old }
     requires most { most ≤ 131072 }
+    requires hands { hands_of room.now ≡ hands.now.items }
     ensures on { AllOn (judge_of (option_copied rules.entry)) room.now most workers.old workers.new }
 {
     parts.begin();
     let mut idle = 0;
     for _ in 0..u64::MAX {
-        match round(workers, room, rules, gate, most) {
+        match round(workers, room, rules, gate, most, hands) {
             Turn::Done => return,
             Turn::Moved => idle = 0,
             Turn::Waiting => {
@@ -135,15 +140,17 @@ pub(crate) fn rotate<R: Wait, K: SyscallKernel, G: Gate>(
     rules: Option<&Filter>,
     gate: &G,
     most: u32,
+    hands: &Vec<u32>,
 )
     requires can { CanAll (judge_of (option_copied rules)) room.now most workers.old }
     requires most { most ≤ 131072 }
+    requires hands { hands_of room.now ≡ hands.now.items }
     ensures on { AllOn (judge_of (option_copied rules.entry)) room.now most workers.old workers.new }
     ensures gone { AreGone workers.new }
 {
     let mut idle: u32 = 0;
     for _ in rt.forever() {
-        match round(workers, room, rules, gate, most) {
+        match round(workers, room, rules, gate, most, hands) {
             Turn::Done => return,
             Turn::Moved => idle = 0,
             Turn::Waiting => {

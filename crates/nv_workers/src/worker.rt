@@ -1,14 +1,14 @@
 //! A version with its seat.
-ghost use Rattle.std.specs.Prelude.{◌≡◌, ◌≤◌, ℕ, List, None, false, length, Some, IfOk};
+ghost use Rattle.std.specs.Prelude.{◌≡◌, ◌≤◌, ℕ, List, None, true, false, length, Some, IfOk};
 ghost use Rattle.std.specs.Option.{option_copied};
 ghost use Rattle.nv_threads.specs.Threads.{Proc, threads};
 ghost use Rattle.nv_replay.specs.Follow.{Judge, judge_of};
 ghost use Rattle.nv_replay.specs.Versions.{IsFresh, Running};
-ghost use Rattle.nv_room.specs.Seats.{IsLeadOf, IsLeftOf, station_of_lead, station_of_reader, station_of_left, view, lead_view, left_view, due_of};
+ghost use Rattle.nv_room.specs.Seats.{IsLeadOf, IsLeftOf, version_of_lead, version_of_reader, version_of_left, view, lead_view, left_view, due_of, hands_of};
 ghost use Rattle.nv_room.specs.Steps.{as_gone, as_leaving};
 ghost use Rattle.nv_workers.specs.Working.{FollowsOn, LeadsOn};
-ghost use Rattle.nv_workers.specs.Workers.{Works, WorksAt, IsGone, IsLast, TookLead, TurnTells, station_of, station_of_seat};
-ghost use Rattle.nv_workers.specs.Stepping.{CanLead, CanLeave, AfterStep, StepTells};
+ghost use Rattle.nv_workers.specs.Workers.{Works, WorksAt, IsGone, IsLast, TookLead, TurnTells, version_of, version_of_seat, seen_by};
+ghost use Rattle.nv_workers.specs.Stepping.{CanLead, CanHand, CanLeave, AfterStep, StepTells};
 ghost use Rattle.nv_workers.specs.New.{IsNewLead, IsNewReader, LeadsAnew, ReadsAnew};
 
 use crate::follows::{Next, follow_turn};
@@ -16,7 +16,7 @@ use crate::leads::lead_turn;
 use nv_bpf::Filter;
 use nv_calls::SyscallKernel;
 use nv_outside::Gate;
-use nv_promotion::{close, leave, retire, take};
+use nv_promotion::{close, hand, leave, retire, take};
 use nv_replay::Version;
 use nv_room::{Lead, Left, Reader, Room};
 use nv_words::EventBuf;
@@ -73,7 +73,7 @@ impl<K: SyscallKernel> Worker<K> {
         version: Version,
         reader: Reader<K>,
     ) -> Result<Worker<K>, AllocError>
-        requires fresh { IsFresh threads (station_of_reader reader) version }
+        requires fresh { IsFresh threads (version_of_reader reader) version }
         requires seat { IsNewReader reader }
         ensures { IfOk result (ReadsAnew version reader) }
     {
@@ -93,19 +93,25 @@ impl<K: SyscallKernel> Worker<K> {
         rules: Option<&Filter>,
         gate: &G,
         most: u32,
+        hands: &Vec<u32>,
     ) -> Turn
         requires works { (p : Proc) × Works (judge_of (option_copied rules)) room.now most p self.old }
         requires most { most ≤ 131072 }
+        requires hands { hands_of room.now ≡ hands.now.items }
         ensures works { (p : Proc) → Works (judge_of (option_copied rules.entry)) room.now most p self.old → Works (judge_of (option_copied rules.entry)) room.now most p self.new }
-        ensures station { station_of self.new ≡ station_of self.old }
+        ensures version { version_of self.new ≡ version_of self.old }
         ensures last { IsLast result self.new.seat }
         ensures tells { TurnTells room.now result self.old.version self.new.version self.old.seat self.new.seat }
     {
-        match self.step(room, rules, gate, most) {
+        match self.step(room, rules, gate, most, hands) {
             Next::Moved => Turn::Moved,
             Next::Waits => Turn::Waiting,
             Next::Leads => {
                 self.promote(room);
+                Turn::Moved
+            }
+            Next::Hands => {
+                self.hand_over(room);
                 Turn::Moved
             }
             Next::Leaves => {
@@ -117,11 +123,19 @@ impl<K: SyscallKernel> Worker<K> {
     }
 
     // The seat is lent, and stays where it is: a lead has the kernel in it.
-    fn step<G: Gate>(&mut self, room: &Room<K>, rules: Option<&Filter>, gate: &G, most: u32) -> Next
+    fn step<G: Gate>(
+        &mut self,
+        room: &Room<K>,
+        rules: Option<&Filter>,
+        gate: &G,
+        most: u32,
+        hands: &Vec<u32>,
+    ) -> Next
         requires works { (p : Proc) × Works (judge_of (option_copied rules)) room.now most p self.old }
         requires most { most ≤ 131072 }
+        requires hands { hands_of room.now ≡ hands.now.items }
         ensures after { (p : Proc) → Works (judge_of (option_copied rules.entry)) room.now most p self.old → AfterStep (judge_of (option_copied rules.entry)) room.now p self.new.version most self.new.buf self.new.seat result }
-        ensures station { station_of self.new ≡ station_of self.old }
+        ensures version { version_of self.new ≡ version_of self.old }
         ensures tells { StepTells room.now result self.old.version self.new.version self.old.seat self.new.seat }
     {
         match &mut self.seat {
@@ -134,9 +148,15 @@ impl<K: SyscallKernel> Worker<K> {
                 rules,
                 gate,
             ),
-            Seat::Leading { lead, asked } => {
-                lead_turn(&mut self.version, lead, asked, room, gate, most)
-            }
+            Seat::Leading { lead, asked } => lead_turn(
+                &mut self.version,
+                lead,
+                asked,
+                room,
+                gate,
+                most,
+                hands.as_slice(),
+            ),
             Seat::Gone { .. } => Next::Left,
             Seat::Moving => unreachable!(),
         }
@@ -145,9 +165,9 @@ impl<K: SyscallKernel> Worker<K> {
     // The reader's seat becomes the lead. Out of line, so that a turn's frame has no seat in it.
     #[inline(never)]
     fn promote(&mut self, room: &Room<K>)
-        requires can { (judges : ℕ → Judge) × (p : Proc) × CanLead judges room.now p self.old.version self.old.buf self.old.seat }
-        ensures works { (judges : ℕ → Judge) (most : ℕ) (p : Proc) → CanLead judges room.now p self.old.version self.old.buf self.old.seat → Works judges room.now most p self.new }
-        ensures station { station_of self.new ≡ station_of self.old }
+        requires can { (judges : ℕ → Judge) × (most : ℕ) × (p : Proc) × CanLead judges room.now p self.old.version most self.old.buf self.old.seat }
+        ensures works { (judges : ℕ → Judge) (most : ℕ) (p : Proc) → CanLead judges room.now p self.old.version most self.old.buf self.old.seat → Works judges room.now most p self.new }
+        ensures version { version_of self.new ≡ version_of self.old }
         ensures leads { TookLead self.old.seat self.new.seat }
         ensures on { self.new.version.at.fate ≡ None }
     {
@@ -159,14 +179,33 @@ impl<K: SyscallKernel> Worker<K> {
         self.seat = Seat::Leading { lead, asked: None };
     }
 
+    // The version gives up the lead, and its seat reads on at a new station. Out of line as well.
+    #[inline(never)]
+    fn hand_over(&mut self, room: &Room<K>)
+        requires can { (judges : ℕ → Judge) × (most : ℕ) × (p : Proc) × CanHand judges room.now p self.old.version most self.old.seat }
+        ensures works { (judges : ℕ → Judge) (most : ℕ) (p : Proc) → CanHand judges room.now p self.old.version most self.old.seat → Works judges room.now most p self.new }
+        ensures version { version_of self.new ≡ version_of self.old }
+        ensures seen { seen_by self.new.seat ≡ seen_by self.old.seat }
+        ensures stays { ¬ IsGone self.new.seat }
+        ensures fate { self.new.version.at.fate ≡ self.old.version.at.fate }
+    {
+        let seat = mem::replace(&mut self.seat, Seat::Moving);
+        let Seat::Leading { lead, asked: _ } = seat else {
+            unreachable!()
+        };
+        let reader = give_lead(&mut self.version, lead, room);
+        let held = false;
+        self.seat = Seat::Reading { reader, held };
+    }
+
     // The seat leaves. Out of line as well.
     #[inline(never)]
     fn depart(&mut self, room: &Room<K>)
         requires can { (judges : ℕ → Judge) × (most : ℕ) × (p : Proc) × CanLeave judges room.now p self.old.version most self.old.seat }
         ensures works { (judges : ℕ → Judge) (most : ℕ) (p : Proc) → CanLeave judges room.now p self.old.version most self.old.seat → Works judges room.now most p self.new }
-        ensures station { station_of self.new ≡ station_of self.old }
+        ensures version { version_of self.new ≡ version_of self.old }
         ensures gone { IsGone self.new.seat }
-        ensures version { self.new.version ≡ self.old.version }
+        ensures same { self.new.version ≡ self.old.version }
     {
         let seat = mem::replace(&mut self.seat, Seat::Moving);
         let left = vacate(seat, room);
@@ -178,7 +217,7 @@ impl<K: SyscallKernel> Worker<K> {
 fn vacate<K: SyscallKernel>(seat: Seat<K>, room: &Room<K>) -> Left<K>
     requires can { (judges : ℕ → Judge) × (most : ℕ) × (p : Proc) × (v : Running Proc) × CanLeave judges room.now p v most seat }
     ensures works { (judges : ℕ → Judge) (most : ℕ) (p : Proc) (v : Running Proc) (buf : List ℕ) → CanLeave judges room.now p v most seat → WorksAt judges room.now most p v buf (Seat.Gone result) }
-    ensures station { station_of_left result ≡ station_of_seat seat }
+    ensures version { version_of_left result ≡ version_of_seat seat }
 {
     match seat {
         Seat::Reading { reader, held: _ } => leave(reader, room),
@@ -189,10 +228,10 @@ fn vacate<K: SyscallKernel>(seat: Seat<K>, room: &Room<K>) -> Left<K>
 
 // The version leads from here on.
 fn take_lead<K: SyscallKernel>(version: &mut Version, reader: Reader<K>, room: &Room<K>) -> Lead<K>
-    requires follows { (judges : ℕ → Judge) × (p : Proc) × (buf : List ℕ) × FollowsOn judges room.now p version.old reader false buf }
+    requires follows { (judges : ℕ → Judge) × (most : ℕ) × (p : Proc) × (buf : List ℕ) × FollowsOn judges room.now most p version.old reader false buf }
     requires freed { (view reader).freed ≡ Some (length (view reader).seen) }
-    ensures leads { (judges : ℕ → Judge) (most : ℕ) (p : Proc) (buf : List ℕ) → FollowsOn judges room.now p version.old reader false buf → LeadsOn judges room.now p version.new most result None }
-    ensures station { station_of_lead result ≡ station_of_reader reader }
+    ensures leads { (judges : ℕ → Judge) (most : ℕ) (p : Proc) (buf : List ℕ) → FollowsOn judges room.now most p version.old reader false buf → LeadsOn judges room.now most p version.new false result None }
+    ensures version { version_of_lead result ≡ version_of_reader reader }
     ensures on { version.new.at.fate ≡ None }
 {
     version.begin_lead();
@@ -201,12 +240,24 @@ fn take_lead<K: SyscallKernel>(version: &mut Version, reader: Reader<K>, room: &
     lead
 }
 
+// The version gives up the lead, and follows on from here as the last in the order.
+fn give_lead<K: SyscallKernel>(version: &mut Version, lead: Lead<K>, room: &Room<K>) -> Reader<K>
+    requires leads { (judges : ℕ → Judge) × (most : ℕ) × (p : Proc) × LeadsOn judges room.now most p version.old true lead None }
+    ensures follows { (judges : ℕ → Judge) (most : ℕ) (p : Proc) (buf : List ℕ) → LeadsOn judges room.now most p version.old true lead None → FollowsOn judges room.now most p version.new result false buf }
+    ensures version { version_of_reader result ≡ version_of_lead lead }
+    ensures seen { (view result).seen ≡ (lead_view lead).seen }
+    ensures fate { version.new.at.fate ≡ version.old.at.fate }
+{
+    version.end_lead();
+    hand(lead, room)
+}
+
 // The kernel goes home; where it has ended nobody leads after.
 fn give_up<K: SyscallKernel>(lead: Lead<K>, room: &Room<K>) -> Left<K>
     requires of { IsLeadOf room.now lead }
     requires none_due { due_of lead ≡ false }
     ensures of { IsLeftOf room.now result }
-    ensures station { station_of_left result ≡ station_of_lead lead }
+    ensures version { version_of_left result ≡ version_of_lead lead }
     ensures view { left_view result ≡ as_gone (as_leaving (lead_view lead) (left_view result).owner_last) }
 {
     if lead.kernel().ended().is_some() {

@@ -66,13 +66,14 @@ pub fn one_by_one<K: SyscallKernel>(
     kernel: K,
     texts: &[String],
     rules: Option<&Filter>,
+    hands: &Vec<u32>,
 ) -> Option<Account<K>>
     requires count { length texts.now ≤ 8 }
+    requires hands { length hands.now.items ≤ 8 }
     requires kernel { K.log kernel ≡ [] }
 {
     let versions = versions(alloc, texts)?;
-    let hands = Vec::new(alloc);
-    Some(nv_sequence::run(versions, rules, kernel, MOST_EVENTS, &hands))
+    Some(nv_sequence::run(versions, rules, kernel, MOST_EVENTS, hands))
 }
 
 /// The account of a run of these programs by this kernel, beside each other.
@@ -82,17 +83,19 @@ pub fn beside<R: Threads + Wait + Sync, K: SyscallKernel>(
     kernel: K,
     texts: &[String],
     rules: Option<&Filter>,
+    hands: &Vec<u32>,
     places: u32,
     threads: u32,
 ) -> Result<Account<K>, AllocError>
     requires count { (0 < length texts.now) × (length texts.now ≤ 8) }
+    requires hands { length hands.now.items ≤ 8 }
     requires places { (2 ≤ places) × (places ≤ 1024) }
     requires kernel { K.log kernel ≡ [] }
 {
     let Some(versions) = versions(alloc, texts) else {
         return Err(AllocError);
     };
-    let (room, readers, lead) = Room::make(alloc, kernel, texts.len() as u32, places)?;
+    let (room, readers, lead) = Room::make(alloc, kernel, texts.len() as u32, places, hands)?;
     let workers = staff(alloc, versions, readers, lead)?;
     let ran = run_all(
         rt,
@@ -102,6 +105,7 @@ pub fn beside<R: Threads + Wait + Sync, K: SyscallKernel>(
         rules,
         &OpenGate,
         MOST_EVENTS,
+        hands,
         threads,
     )?;
     Ok(end(ran))

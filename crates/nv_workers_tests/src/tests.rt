@@ -45,12 +45,13 @@ fn same_as_plain<R: Threads + Wait + Sync + Abort>(
 )
     requires { (0 < length texts.now) × (length texts.now ≤ 8) }
 {
+    let hands = Vec::new(alloc);
     let fresh = kernel(alloc).expect(rt, "a kernel");
-    let plain = text_of(rt, alloc, one_by_one(alloc, fresh, texts, rules));
+    let plain = text_of(rt, alloc, one_by_one(alloc, fresh, texts, rules, &hands));
     for threads in [1, 3, 8] {
         for places in [2, 1024] {
             let fresh = kernel(alloc).expect(rt, "a kernel");
-            let account = beside(rt, alloc, fresh, texts, rules, places, threads).ok();
+            let account = beside(rt, alloc, fresh, texts, rules, &hands, places, threads).ok();
             assert_eq!(rt; text_of(rt, alloc, account).as_str(), plain.as_str());
         }
     }
@@ -158,25 +159,121 @@ fn report_of<R: Abort, K: SyscallKernel>(
     sink.written().to_vec(alloc).expect(rt, "memory")
 }
 
+// So many versions that write `hi` twice.
+fn alike<R: Abort>(rt: &R, alloc: Global, count: usize) -> Vec<String>
+    ensures { length result.items ≡ count }
+{
+    let mut texts = Vec::new(alloc);
+    for _version in 0..count {
+        let text = String::from_str(alloc, TWICE).expect(rt, "memory");
+        texts.push(text).expect(rt, "memory");
+    }
+    assert_eq!(rt; texts.len(), count);
+    texts
+}
+
 #[test]
 fn leader_wants_memory(rt: HostRuntime) {
     let alloc = rt.alloc();
-    let mut texts = Vec::new(alloc);
-    for _version in 0..2 {
-        let text = String::from_str(alloc, TWICE).expect(&rt, "memory");
-        texts.push(text).expect(&rt, "memory");
-    }
-    assert_eq!(rt; texts.len(), 2);
-    let account = one_by_one(alloc, refusing(&rt, alloc), &texts, None);
+    let texts = alike(&rt, alloc, 2);
+    let hands = Vec::new(alloc);
+    let account = one_by_one(alloc, refusing(&rt, alloc), &texts, None, &hands);
     assert_eq!(rt;
         report_of(&rt, alloc, account).as_slice(),
         LEADER_WANTS_MEMORY.as_bytes()
     );
     for threads in [1, 2] {
-        let account = beside(&rt, alloc, refusing(&rt, alloc), &texts, None, 2, threads).ok();
+        let kernel = refusing(&rt, alloc);
+        let account = beside(&rt, alloc, kernel, &texts, None, &hands, 2, threads).ok();
         assert_eq!(rt;
             report_of(&rt, alloc, account).as_slice(),
             LEADER_WANTS_MEMORY.as_bytes()
         );
     }
+}
+
+// What each run of versions that write `hi` twice tells, but for the versions' own lines.
+const SAID_TWICE: &str = "output 6
+hi
+hi
+
+log 3
+0 100 64 1 0 3 0 0 0 = 3 : 68690a
+1 100 64 1 0 3 0 0 0 = 3 : 68690a
+2 100 94 0 0 0 0 0 0 = 0 :
+";
+
+// These versions come with these planned lengths to these lines: one after another, and on 1 to 3 host threads.
+fn come_to<R: Threads + Wait + Sync + Abort>(
+    rt: &R,
+    alloc: Global,
+    texts: &[String],
+    planned: &[u32],
+    lines: &str,
+)
+    requires texts { (0 < length texts.now) × (length texts.now ≤ 8) }
+    requires planned { length planned.now ≤ 8 }
+{
+    let hands = planned.to_vec(alloc).expect(rt, "memory");
+    let count = texts.len();
+    let wanted = format!(in alloc; "{SAID_TWICE}fates {count}\n{lines}").expect(rt, "memory");
+    let fresh = kernel(alloc).expect(rt, "a kernel");
+    let account = one_by_one(alloc, fresh, texts, None, &hands);
+    assert_eq!(rt; report_of(rt, alloc, account).as_slice(), wanted.as_bytes());
+    for threads in [1, 2, 3] {
+        for places in [2, 1024] {
+            let fresh = kernel(alloc).expect(rt, "a kernel");
+            let account = beside(rt, alloc, fresh, texts, None, &hands, places, threads).ok();
+            assert_eq!(rt; report_of(rt, alloc, account).as_slice(), wanted.as_bytes());
+        }
+    }
+}
+
+#[test]
+fn lead_is_handed_over(rt: HostRuntime) {
+    let alloc = rt.alloc();
+    let two = alike(&rt, alloc, 2);
+    let once = "0 exited 0 seen 3 led 0-1 rewrites 0\n1 exited 0 seen 3 led 1-3 rewrites 0\n";
+    come_to(&rt, alloc, &two, &[1], once);
+    let twice = "0 exited 0 seen 3 led 0-1,2-3 rewrites 0\n1 exited 0 seen 3 led 1-2 rewrites 0\n";
+    come_to(&rt, alloc, &two, &[1, 2], twice);
+}
+
+#[test]
+fn one_version_hands_over_to_itself(rt: HostRuntime) {
+    let alloc = rt.alloc();
+    let one = alike(&rt, alloc, 1);
+    come_to(
+        &rt,
+        alloc,
+        &one,
+        &[1],
+        "0 exited 0 seen 3 led 0-1,1-3 rewrites 0\n",
+    );
+}
+
+// Writes `hi` twice and faults, at the ninth word of its text.
+const TWICE_AND_FAULTS: &str = ".text
+la a1, text
+addi a0, zero, 1
+addi a2, zero, 3
+addi a7, zero, 64
+ecall
+addi a0, zero, 1
+ecall
+lw a0, 0(zero)
+.data
+text: .ascii \"hi\\n\"
+";
+
+#[test]
+fn former_leader_faults(rt: HostRuntime) {
+    let alloc = rt.alloc();
+    let texts = [
+        String::from_str(alloc, TWICE_AND_FAULTS).expect(&rt, "memory"),
+        String::from_str(alloc, TWICE).expect(&rt, "memory"),
+    ];
+    let lines =
+        "0 fault load 100 00010020 seen 2 led 0-1 rewrites 0\n1 exited 0 seen 3 led 1-3 rewrites 0\n";
+    come_to(&rt, alloc, &texts, &[1], lines);
 }

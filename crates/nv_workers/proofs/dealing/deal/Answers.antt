@@ -18,6 +18,7 @@ for_each_chunk_mut-requires-clause-accepts g c κs within = λ start p chunk. (
         (can_front (judge_of (option_copied c.args.rules)) c.args.room.now c.args.most c.of-stretches.result.front (drop start c.args.workers.now)
         (can_back (judge_of (option_copied c.args.rules)) c.args.room.now c.args.most start c.args.workers.now c.requires.can)),
     c.requires.most,
+    c.requires.hands,
     c.of-stretches.ensures.some.1,
     c.of-stretches.ensures.some.2,
   ),

@@ -14,6 +14,7 @@ for_each_chunk_mut-requires-clause-accepts g c κs within = λ start p chunk. (
         (can_front (judge_of (option_copied c.args.rules)) c.args.room.now c.args.most c.size_from.result (drop start c.args.workers.now)
         (can_back (judge_of (option_copied c.args.rules)) c.args.room.now c.args.most start c.args.workers.now c.requires.can)),
     c.requires.most,
+    c.requires.hands,
   ),
   (param_send 1 _ (arg_send _ no _ c.type_bounds.send-K), param_sync 0 _ (arg_sync _ no _ c.type_bounds.sync-R), param_sync 2 _ (arg_sync _ no _ c.type_bounds.sync-G)),
 )

@@ -8,25 +8,26 @@ use Rattle.nv_workers.proofs.follows.follow_turn.Goals as goal
 pub returns-then-held-clause-after : goal.returns-then-held-clause-after
 returns-then-held-clause-after g c = λ most p f.
     c.decide.ensures.after most p
-    (subst (λ (b : Bool). FollowsOn (judge_of (option_copied c.args.rules)) c.args.room.now p c.args.version.now c.args.reader.now b c.args.buf.now) c.if-held.true f)
+    (subst (λ (b : Bool). FollowsOn (judge_of (option_copied c.args.rules)) c.args.room.now most p c.args.version.now c.args.reader.now b c.args.buf.now) c.if-held.true f)
 
 pub find_event-requires-clause-goes_on : goal.find_event-requires-clause-goes_on
 find_event-requires-clause-goes_on g c κs within =
-    lives_on (judge_of (option_copied c.args.rules)) c.args.room.now c.requires.0 c.args.version.now c.args.reader.now c.args.buf.now
-    (subst (λ (b : Bool). FollowsOn (judge_of (option_copied c.args.rules)) c.args.room.now c.requires.0 c.args.version.now c.args.reader.now b c.args.buf.now) c.if-held.false c.requires.1)
+    lives_on (judge_of (option_copied c.args.rules)) c.requires.0 c.args.room.now c.requires.1 c.args.version.now c.args.reader.now c.args.buf.now
+    (subst (λ (b : Bool). FollowsOn (judge_of (option_copied c.args.rules)) c.args.room.now c.requires.0 c.requires.1 c.args.version.now c.args.reader.now b c.args.buf.now) c.if-held.false c.requires.2)
 
 pub decide-requires-in-Event-clause-follows : goal.decide-requires-in-Event-clause-follows
 decide-requires-in-Event-clause-follows g c κs within =
     let e = c.in-Event.ensures in (
       c.requires.0,
-      found_event (judge_of (option_copied c.args.rules)) c.args.room.now c.requires.0 c.args.version.now c.args.reader.now c.args.buf.now
-          (subst (λ (b : Bool). FollowsOn (judge_of (option_copied c.args.rules)) c.args.room.now c.requires.0 c.args.version.now c.args.reader.now b c.args.buf.now) c.if-held.false c.requires.1)
+      c.requires.1,
+      found_event (judge_of (option_copied c.args.rules)) c.requires.0 c.args.room.now c.requires.1 c.args.version.now c.args.reader.now c.args.buf.now
+          (subst (λ (b : Bool). FollowsOn (judge_of (option_copied c.args.rules)) c.args.room.now c.requires.0 c.requires.1 c.args.version.now c.args.reader.now b c.args.buf.now) c.if-held.false c.requires.2)
           c.find_event.new.reader c.find_event.new.buf e.of e.same e.found.0 e.found.1 e.found.2 e.found.4,
     )
 
 pub returns-in-Event-clause-after : goal.returns-in-Event-clause-after
 returns-in-Event-clause-after g c = λ most p f.
     let e = c.in-Event.ensures in
-    c.decide-in-Event.ensures.after most p (found_event (judge_of (option_copied c.args.rules)) c.args.room.now p c.args.version.now c.args.reader.now c.args.buf.now
-    (subst (λ (b : Bool). FollowsOn (judge_of (option_copied c.args.rules)) c.args.room.now p c.args.version.now c.args.reader.now b c.args.buf.now) c.if-held.false f)
+    c.decide-in-Event.ensures.after most p (found_event (judge_of (option_copied c.args.rules)) most c.args.room.now p c.args.version.now c.args.reader.now c.args.buf.now
+    (subst (λ (b : Bool). FollowsOn (judge_of (option_copied c.args.rules)) c.args.room.now most p c.args.version.now c.args.reader.now b c.args.buf.now) c.if-held.false f)
     c.find_event.new.reader c.find_event.new.buf e.of e.same e.found.0 e.found.1 e.found.2 e.found.4)

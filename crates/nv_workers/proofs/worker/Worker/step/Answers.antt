@@ -28,3 +28,10 @@ returns-in-Leading-clause-tells g c =
     subst (λ s. StepTells c.args.room.now c.lead_turn.result c.args.self.now.version c.lead_turn.new.version s (Leading c.lead_turn.new.lead c.lead_turn.new.asked)) (sym c.in-Leading.is)
     (tells_lead (judge_of (option_copied c.args.rules)) c.args.room.now c.args.most p c.lead_turn.new.version c.args.self.now.version c.in-Leading.lead c.lead_turn.new.lead c.in-Leading.asked
     c.lead_turn.new.asked c.lead_turn.result (c.lead_turn.ensures.after (judge_of (option_copied c.args.rules)) p w) c.lead_turn.ensures.published c.lead_turn.ensures.late)
+
+pub follow_turn-requires-after_bounds : goal.follow_turn-requires-after_bounds
+follow_turn-requires-after_bounds g c κs within = (
+  c.args.most,
+  c.requires.works.0,
+  subst (λ s. WorksAt (judge_of (option_copied c.args.rules)) c.args.room.now c.args.most c.requires.works.0 c.args.self.now.version c.args.self.now.buf s) c.in-Reading.is c.requires.works.1,
+)

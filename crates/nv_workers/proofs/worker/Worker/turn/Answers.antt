@@ -1,4 +1,4 @@
-use Rattle.std.proofs.Common.{◌∙◌, ap, inr}
+use Rattle.std.proofs.Common.{◌∙◌, ap, inl, inr, arith}
 use Rattle.std.specs.Option.{option_copied}
 use Rattle.nv_replay.specs.Follow.{judge_of}
 use Rattle.nv_replay.specs.Sequence.{is_on}
@@ -25,7 +25,7 @@ returns-in-Waits-clause-last g c = (c.in-Waits.ensures.after c.requires.works.0 
 
 pub promote-requires-clause-can : goal.promote-requires-clause-can
 promote-requires-clause-can g c κs within =
-    (judge_of (option_copied c.args.rules), c.requires.works.0, c.in-Leads.ensures.after c.requires.works.0 c.requires.works.1)
+    (judge_of (option_copied c.args.rules), c.args.most, c.requires.works.0, c.in-Leads.ensures.after c.requires.works.0 c.requires.works.1)
 
 pub returns-in-Leads-clause-works : goal.returns-in-Leads-clause-works
 returns-in-Leads-clause-works g c = λ p f. c.promote.ensures.works (judge_of (option_copied c.args.rules)) c.args.most p (c.in-Leads.ensures.after p f)
@@ -37,6 +37,19 @@ pub returns-in-Leads-clause-tells : goal.returns-in-Leads-clause-tells
 returns-in-Leads-clause-tells g c =
     (inr (inr (took_from c.args.self.now.seat c.step.new.self.seat c.promote.new.self.seat c.in-Leads.ensures.tells c.promote.ensures.leads)), c.promote.ensures.on)
 
+pub hand_over-requires-clause-can : goal.hand_over-requires-clause-can
+hand_over-requires-clause-can g c κs within =
+    (judge_of (option_copied c.args.rules), c.args.most, c.requires.works.0, c.in-Hands.ensures.after c.requires.works.0 c.requires.works.1)
+
+pub returns-in-Hands-clause-works : goal.returns-in-Hands-clause-works
+returns-in-Hands-clause-works g c = λ p f. c.hand_over.ensures.works (judge_of (option_copied c.args.rules)) c.args.most p (c.in-Hands.ensures.after p f)
+
+pub returns-in-Hands-clause-tells : goal.returns-in-Hands-clause-tells
+returns-in-Hands-clause-tells g c =
+    let grew = c.in-Hands.ensures.tells.0 in
+    let same = c.hand_over.ensures.seen in
+    (inl (omega arith), c.hand_over.ensures.fate ∙ c.in-Hands.ensures.tells.1)
+
 pub depart-requires-clause-can : goal.depart-requires-clause-can
 depart-requires-clause-can g c κs within =
     (judge_of (option_copied c.args.rules), c.args.most, c.requires.works.0, c.in-Leaves.ensures.after c.requires.works.0 c.requires.works.1)
@@ -45,7 +58,7 @@ pub returns-in-Leaves-clause-works : goal.returns-in-Leaves-clause-works
 returns-in-Leaves-clause-works g c = λ p f. c.depart.ensures.works (judge_of (option_copied c.args.rules)) c.args.most p (c.in-Leaves.ensures.after p f)
 
 pub returns-in-Leaves-clause-tells : goal.returns-in-Leaves-clause-tells
-returns-in-Leaves-clause-tells g c = ap (λ (v : Running Proc). is_on v.at.fate) c.depart.ensures.version ∙ c.in-Leaves.ensures.tells
+returns-in-Leaves-clause-tells g c = ap (λ (v : Running Proc). is_on v.at.fate) c.depart.ensures.same ∙ c.in-Leaves.ensures.tells
 
 pub returns-in-Left-clause-works : goal.returns-in-Left-clause-works
 returns-in-Left-clause-works g c = λ p f. (c.in-Left.ensures.after p f).0
