@@ -6,12 +6,13 @@ use Rattle.nv_bpf.specs.Actions.{actions, action_of}
 use Rattle.nv_bpf.specs.Lines.{lines, fields}
 use Rattle.nv_bpf.specs.Texts.{field, op_of, ops_of, ops_of_text, filter_of}
 use Rattle.nv_bpf.specs.Verified.{op_fault, ops_fault, list_fault}
+use Rattle.nv_script.specs.Entries.{form_of}
 use Rattle.nv_script.specs.Scripts.{drafted, script_of}
 use Rattle.nv_gen.specs.Made.{script, rules}
 use Rattle.nv_gen_laws.specs.Texts.{bare, asks_beside_writes}
 
 pub script_read : script_of script ≡ Ok bare
-unfolding script_of drafted text_lines.lines
+unfolding script_of form_of drafted text_lines.lines
 script_read = refl
 
 pub rules_read : filter_of 4096 rules ≡ Ok asks_beside_writes

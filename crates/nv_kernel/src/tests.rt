@@ -27,6 +27,7 @@ impl Desk {
             nanos: 999_999_999,
             step: 1_000_000_000,
             seed: 1,
+            hands: Vec::new(alloc),
         };
         Ok(Desk {
             alloc,

@@ -1,5 +1,5 @@
 -- Every script that a text says keeps to the limits.
-use Rattle.std.proofs.Common.{◌≡◌, ℕ, ◌+◌, ◌^◌, ◌<◌, ◌≤◌, Bool, true, false, not, cond, ◌&&◌, nat_lt, nat_le, List, [], ◌∷◌, ◌++◌, Option, Some, None, is_some, unwrap_or, option_map, Result, Ok, Err, codes, length, sym, ap, refl, ◌∙◌, arith, length-append, subst, bytes_eq}
+use Rattle.std.proofs.Common.{◌≡◌, ℕ, ◌+◌, ◌^◌, ◌<◌, ◌≤◌, Bool, true, false, not, cond, ◌&&◌, ◌==◌, nat_lt, nat_le, List, [], ◌∷◌, ◌++◌, Option, Some, None, is_some, unwrap_or, option_map, Result, Ok, Err, codes, length, sym, ap, refl, ◌∙◌, arith, length-append, subst, bytes_eq}
 use Rattle.std.specs.Char.{is_ascii_digit}
 use Rattle.std.specs.List.{list_all}
 use Rattle.std.specs.Str.Parse.{digits_value}
@@ -10,13 +10,14 @@ use Rattle.std.proofs.lemmas.Slice.Eq.{bytes_eq-Decides}
 use Rattle.nv_bytes.specs.Texts.{number_of, unhexed}
 use Rattle.nv_text.specs.Lines.{lines}
 use Rattle.nv_script.specs.declared.entry.Clock.{Clock}
+use Rattle.nv_script.specs.declared.form.Form.{Form}
 use Rattle.nv_script.specs.declared.fault.ScriptCause.{ScriptCause}
 use Rattle.nv_script.specs.declared.fault.ScriptCause.TheVariants.{Range, Twice, Long}
 use Rattle.nv_script.specs.declared.fault.ScriptFault.{ScriptFault}
 use Rattle.nv_script.specs.declared.kind.Kind.{Kind}
 use Rattle.nv_script.specs.declared.kind.Kind.TheVariants as kind
-use Rattle.nv_script.specs.Entries.{Entry, Nothing, Argument, Input, File, Time, Seed, argument, is_argument, is_file_name, is_passed_over, clock_fits, clock_entry, clock_with, clock_of, file_with, file_of, fields, shaped, entry_by, entry_with, entry_of, kind_of, word_of, rest_of}
-use Rattle.nv_script.specs.Scripts.{Named, Setup, Draft, blank, has_name, with_argument, with_file, with_clock, with_seed, with_entry, with_result, with_line, onward, drafted, no_clock, finished, finished_result, is_first, no_form, script_of_lines, script_of, is_file, are_distinct, are_files, is_script}
+use Rattle.nv_script.specs.Entries.{Entry, Nothing, Argument, Input, File, Time, Seed, Hand, form_of, is_hand, hand_entry, hand_with, argument, is_argument, is_file_name, is_passed_over, clock_fits, clock_entry, clock_with, clock_of, file_with, file_of, fields, shaped, entry_by, entry_with, entry_of, kind_of, word_of, rest_of}
+use Rattle.nv_script.specs.Scripts.{Named, Setup, Draft, blank, has_name, has_hand, with_argument, with_file, with_clock, with_seed, with_hand, with_entry, with_result, with_line, onward, drafted, no_clock, finished, finished_result, script_in, script_of_lines, script_of, is_file, are_distinct, are_files, differ, are_hands, is_script}
 
 -- ---- the parts of the two tests
 
@@ -39,6 +40,25 @@ are_files-from files k =
     let few : nat_le (length files) 256 ≡ true = grind (arith, nat_tests) in
     and_from _ _ few (and_from _ _ k.sound k.distinct)
 
+pub record HandsKeep (hands : List ℕ) : Type 0 where
+  pub few : length hands ≤ 8
+  pub sound : list_all is_hand hands ≡ true
+  pub apart : differ hands ≡ true
+
+pub hands-keep : (hands : List ℕ) → are_hands hands ≡ true → HandsKeep hands
+unfolding are_hands
+hands-keep hands e =
+    let parts = and_parts (nat_le (length hands) 8) _ e in
+    let rest = and_parts (list_all is_hand hands) _ parts.1 in
+    let few : length hands ≤ 8 = grind (arith, nat_tests) in
+    record { few = few; sound = rest.0; apart = rest.1 }
+
+are_hands-from : (hands : List ℕ) → HandsKeep hands → are_hands hands ≡ true
+unfolding are_hands
+are_hands-from hands k =
+    let few : nat_le (length hands) 8 ≡ true = grind (arith, nat_tests) in
+    and_from _ _ few (and_from _ _ k.sound k.apart)
+
 pub record ScriptKeeps (setup : Setup) : Type 0 where
   pub arguments : length setup.arguments ≤ 256
   pub texts : list_all is_argument setup.arguments ≡ true
@@ -47,6 +67,7 @@ pub record ScriptKeeps (setup : Setup) : Type 0 where
   pub nanos : setup.nanos ≤ 999999999
   pub step : setup.step ≤ 1000000000
   pub seed : setup.seed < 2 ^ 32
+  pub hands : are_hands setup.hands ≡ true
 
 pub script-keeps : (setup : Setup) → is_script setup ≡ true → ScriptKeeps setup
 unfolding is_script
@@ -57,12 +78,13 @@ script-keeps setup e =
     let d = and_parts (nat_lt setup.seconds (2 ^ 32)) _ c.1 in
     let f = and_parts (nat_le setup.nanos 999999999) _ d.1 in
     let g = and_parts (nat_le setup.step 1000000000) _ f.1 in
+    let h = and_parts (nat_lt setup.seed (2 ^ 32)) _ g.1 in
     let arguments : length setup.arguments ≤ 256 = grind (arith, nat_tests) in
     let seconds : setup.seconds < 2 ^ 32 = grind (arith, nat_tests) in
     let nanos : setup.nanos ≤ 999999999 = grind (arith, nat_tests) in
     let step : setup.step ≤ 1000000000 = grind (arith, nat_tests) in
     let seed : setup.seed < 2 ^ 32 = grind (arith, nat_tests) in
-    record { arguments = arguments; texts = b.0; files = c.0; seconds = seconds; nanos = nanos; step = step; seed = seed }
+    record { arguments = arguments; texts = b.0; files = c.0; seconds = seconds; nanos = nanos; step = step; seed = seed; hands = h.1 }
 
 pub is_script-from : (setup : Setup) → ScriptKeeps setup → is_script setup ≡ true
 unfolding is_script
@@ -72,7 +94,7 @@ is_script-from setup k =
     let nanos : nat_le setup.nanos 999999999 ≡ true = grind (arith, nat_tests) in
     let step : nat_le setup.step 1000000000 ≡ true = grind (arith, nat_tests) in
     let seed : nat_lt setup.seed (2 ^ 32) ≡ true = grind (arith, nat_tests) in
-    and_from _ _ arguments (and_from _ _ k.texts (and_from _ _ k.files (and_from _ _ seconds (and_from _ _ nanos (and_from _ _ step seed)))))
+    and_from _ _ arguments (and_from _ _ k.texts (and_from _ _ k.files (and_from _ _ seconds (and_from _ _ nanos (and_from _ _ step (and_from _ _ seed k.hands))))))
 
 -- ---- what a line says
 
@@ -89,6 +111,7 @@ entry_sound (Input bytes) = true
 entry_sound (File name content) = is_file_name name
 entry_sound (Time clock) = clock_sound clock
 entry_sound (Seed seed) = seed_sound seed
+entry_sound (Hand n) = is_hand n
 
 sound-along : (e f : Entry) → entry_sound e ≡ true → e ≡ f → entry_sound f ≡ true
 sound-along e f h same = ap entry_sound (sym same) ∙ h
@@ -157,6 +180,16 @@ seed-sound : (seed : Option ℕ) → ((n : ℕ) → seed ≡ Some n → nat_lt n
 seed-sound None fits = refl
 seed-sound (Some n) fits = fits n refl
 
+hand_entry-sound : (n : ℕ) (e : Entry) → hand_entry n ≡ Ok e → entry_sound e ≡ true
+hand_entry-sound n e h = step (is_hand n) refl h where
+  step : (x : Bool) → is_hand n ≡ x → cond x (Ok (Hand n)) (Err Range) ≡ Ok e → entry_sound e ≡ true
+  step true fits h = sound-along (Hand n) e fits cc
+  step false fits h = cc
+
+hand_with-sound : (found : Option ℕ) (e : Entry) → hand_with found ≡ Ok e → entry_sound e ≡ true
+hand_with-sound None e h = cc
+hand_with-sound (Some n) e h = hand_entry-sound n e h
+
 entry_by-sound : (k : Kind) (rest : List ℕ) (e : Entry) → entry_by k rest ≡ Ok e → entry_sound e ≡ true
 entry_by-sound kind.Argument rest e h = shaped-sound (argument rest) e (argument-sound rest) h
 entry_by-sound kind.Line rest e h = sound-along (Input (rest ++ codes "\n")) e refl cc
@@ -164,18 +197,19 @@ entry_by-sound kind.Input rest e h = shaped-sound (option_map Input (unhexed res
 entry_by-sound kind.File rest e h = shaped-sound (file_of (fields rest)) e (file_of-sound (fields rest)) h
 entry_by-sound kind.Clock rest e h = clock_of-sound (fields rest) e h
 entry_by-sound kind.Random rest e h = shaped-sound (option_map Seed (number_of rest)) e (seed-sound (number_of rest) (number_of-fits rest)) h
+entry_by-sound kind.Hand rest e h = hand_with-sound (number_of rest) e h
 
 entry_with-sound : (k : Option Kind) (rest : Option (List ℕ)) (e : Entry) → entry_with k rest ≡ Ok e → entry_sound e ≡ true
 entry_with-sound None rest e h = cc
 entry_with-sound (Some k) None e h = cc
 entry_with-sound (Some k) (Some rest) e h = entry_by-sound k rest e h
 
-entry_of-sound : (line : List ℕ) (e : Entry) → entry_of line ≡ Ok e → entry_sound e ≡ true
+entry_of-sound : (form : Form) (line : List ℕ) (e : Entry) → entry_of form line ≡ Ok e → entry_sound e ≡ true
 unfolding entry_of
-entry_of-sound line e h = step (is_passed_over line) h where
-  step : (x : Bool) → cond x (Ok Nothing) (entry_with (kind_of (word_of line)) (rest_of line)) ≡ Ok e → entry_sound e ≡ true
+entry_of-sound form line e h = step (is_passed_over line) h where
+  step : (x : Bool) → cond x (Ok Nothing) (entry_with (kind_of form (word_of line)) (rest_of line)) ≡ Ok e → entry_sound e ≡ true
   step true h = sound-along Nothing e refl cc
-  step false h = entry_with-sound (kind_of (word_of line)) (rest_of line) e h
+  step false h = entry_with-sound (kind_of form (word_of line)) (rest_of line) e h
 
 -- ---- files with one more
 
@@ -189,16 +223,17 @@ has_name-more : (name : List ℕ) (files : List Named) (file : Named) → has_na
 has_name-more name files file before here =
     list_any-append (λ (f : Named). bytes_eq name f.0) files (file ∷ []) ∙ rw (before, here) refl
 
+not_true : (x : Bool) → not x ≡ true → x ≡ false
+not_true true e = cc
+not_true false e = refl
+
 are_distinct-more : (files : List Named) (file : Named) → are_distinct files ≡ true → has_name file.0 files ≡ false → are_distinct (files ++ file ∷ []) ≡ true
 are_distinct-more [] file distinct new = refl
 are_distinct-more (f ∷ files) file distinct new =
     let parts = and_parts (not (has_name f.0 files)) (are_distinct files) distinct in
     let apart = or_parts (bytes_eq file.0 f.0) (has_name file.0 files) new in
     let none : has_name f.0 files ≡ false = not_true (has_name f.0 files) parts.0 in
-    and_from _ _ (ap not (has_name-more f.0 files file none (same_test file.0 f.0 apart.0))) (are_distinct-more files file parts.1 apart.1) where
-      not_true : (x : Bool) → not x ≡ true → x ≡ false
-      not_true true e = cc
-      not_true false e = refl
+    and_from _ _ (ap not (has_name-more f.0 files file none (same_test file.0 f.0 apart.0))) (are_distinct-more files file parts.1 apart.1)
 
 files-more : (files : List Named) (file : Named) → FilesKeep files → length files < 256 → is_file file ≡ true → has_name file.0 files ≡ false → FilesKeep (files ++ file ∷ [])
 files-more files file k room sound new =
@@ -206,6 +241,33 @@ files-more files file k room sound new =
       few = omega (arith, length-append files (file ∷ []));
       sound = list_all-append is_file files (file ∷ []) ∙ and_from _ _ k.sound (and_from _ _ sound refl);
       distinct = are_distinct-more files file k.distinct new;
+    }
+
+-- ---- lengths to hand over at, with one more
+
+same_length : (m n : ℕ) → (m == n) ≡ false → (n == m) ≡ false
+same_length m n e = step (n == m) refl where
+  step : (x : Bool) → (n == m) ≡ x → x ≡ false
+  step true same = grind (arith, nat_tests)
+  step false same = refl
+
+has_hand-more : (n : ℕ) (hands : List ℕ) (m : ℕ) → has_hand n hands ≡ false → (m == n) ≡ false → has_hand n (hands ++ m ∷ []) ≡ false
+has_hand-more n hands m before here = list_any-append (λ (k : ℕ). k == n) hands (m ∷ []) ∙ rw (before, here) refl
+
+differ-more : (hands : List ℕ) (m : ℕ) → differ hands ≡ true → has_hand m hands ≡ false → differ (hands ++ m ∷ []) ≡ true
+differ-more [] m apart new = refl
+differ-more (n ∷ hands) m apart new =
+    let parts = and_parts (not (has_hand n hands)) (differ hands) apart in
+    let other = or_parts (n == m) (has_hand m hands) new in
+    let none : has_hand n hands ≡ false = not_true (has_hand n hands) parts.0 in
+    and_from _ _ (ap not (has_hand-more n hands m none (same_length n m other.0))) (differ-more hands m parts.1 other.1)
+
+hands-more : (hands : List ℕ) (n : ℕ) → HandsKeep hands → length hands < 8 → is_hand n ≡ true → has_hand n hands ≡ false → HandsKeep (hands ++ n ∷ [])
+hands-more hands n k room sound new =
+    record {
+      few = omega (arith, length-append hands (n ∷ []));
+      sound = list_all-append is_hand hands (n ∷ []) ∙ and_from _ _ k.sound (and_from _ _ sound refl);
+      apart = differ-more hands n k.apart new;
     }
 
 -- ---- drafts
@@ -216,9 +278,10 @@ record DraftKeeps (draft : Draft) : Type 0 where
   pub files : FilesKeep draft.files
   pub clock : clock_sound (unwrap_or draft.clock no_clock) ≡ true
   pub seed : seed_sound (unwrap_or draft.seed 0) ≡ true
+  pub hands : HandsKeep draft.hands
 
 blank-keeps : DraftKeeps blank
-blank-keeps = record { arguments = omega arith; texts = refl; files = record { few = omega arith; sound = refl; distinct = refl }; clock = refl; seed = refl }
+blank-keeps = record { arguments = omega arith; texts = refl; files = record { few = omega arith; sound = refl; distinct = refl }; clock = refl; seed = refl; hands = record { few = omega arith; sound = refl; apart = refl } }
 
 keeps-along : (d e : Draft) → DraftKeeps d → d ≡ e → DraftKeeps e
 keeps-along d e k same = subst DraftKeeps same k
@@ -236,11 +299,12 @@ argument-keeps text d e k sound h = step (nat_lt (length d.arguments) 256) refl 
         files = k.files;
         clock = k.clock;
         seed = k.seed;
+        hands = k.hands;
       }) cc
   step false room h = cc
 
 input-keeps : (d e : Draft) (bytes : List ℕ) → DraftKeeps d → record d { input = d.input ++ bytes } ≡ e → DraftKeeps e
-input-keeps d e bytes k same = keeps-along _ e (record { arguments = k.arguments; texts = k.texts; files = k.files; clock = k.clock; seed = k.seed }) same
+input-keeps d e bytes k same = keeps-along _ e (record { arguments = k.arguments; texts = k.texts; files = k.files; clock = k.clock; seed = k.seed; hands = k.hands }) same
 
 file-keeps : (name content : List ℕ) (d e : Draft) → DraftKeeps d → is_file_name name ≡ true → with_file name content d ≡ Ok e → DraftKeeps e
 unfolding with_file
@@ -258,6 +322,7 @@ file-keeps name content d e k sound h = step (has_name name d.files) (nat_lt (le
         files = files-more d.files (name, content) k.files below (and_from _ _ sound parts.1) new;
         clock = k.clock;
         seed = k.seed;
+        hands = k.hands;
       }) cc
   step false false new room h = cc
 
@@ -265,13 +330,24 @@ clock-keeps : (clock : Clock) (d e : Draft) → DraftKeeps d → clock_sound clo
 clock-keeps clock d e k sound h = step (is_some d.clock) h where
   step : (x : Bool) → cond x (Err Twice) (Ok (record d { clock = Some clock })) ≡ Ok e → DraftKeeps e
   step true h = cc
-  step false h = keeps-along (record d { clock = Some clock }) e (record { arguments = k.arguments; texts = k.texts; files = k.files; clock = sound; seed = k.seed }) cc
+  step false h = keeps-along (record d { clock = Some clock }) e (record { arguments = k.arguments; texts = k.texts; files = k.files; clock = sound; seed = k.seed; hands = k.hands }) cc
 
 seed-keeps : (seed : ℕ) (d e : Draft) → DraftKeeps d → seed_sound seed ≡ true → with_seed seed d ≡ Ok e → DraftKeeps e
 seed-keeps seed d e k sound h = step (is_some d.seed) h where
   step : (x : Bool) → cond x (Err Twice) (Ok (record d { seed = Some seed })) ≡ Ok e → DraftKeeps e
   step true h = cc
-  step false h = keeps-along (record d { seed = Some seed }) e (record { arguments = k.arguments; texts = k.texts; files = k.files; clock = k.clock; seed = sound }) cc
+  step false h = keeps-along (record d { seed = Some seed }) e (record { arguments = k.arguments; texts = k.texts; files = k.files; clock = k.clock; seed = sound; hands = k.hands }) cc
+
+hand-keeps : (n : ℕ) (d e : Draft) → DraftKeeps d → is_hand n ≡ true → with_hand n d ≡ Ok e → DraftKeeps e
+hand-keeps n d e k sound h = step (has_hand n d.hands) (nat_lt (length d.hands) 8) refl refl h where
+  step : (x y : Bool) → has_hand n d.hands ≡ x → nat_lt (length d.hands) 8 ≡ y
+      → cond x (Err Twice) (cond y (Ok (record d { hands = d.hands ++ n ∷ [] })) (Err Long)) ≡ Ok e → DraftKeeps e
+  step true y new room h = cc
+  step false true new room h =
+      let below : length d.hands < 8 = grind (arith, nat_tests) in
+      keeps-along (record d { hands = d.hands ++ n ∷ [] }) e
+      (record { arguments = k.arguments; texts = k.texts; files = k.files; clock = k.clock; seed = k.seed; hands = hands-more d.hands n k.hands below sound new }) cc
+  step false false new room h = cc
 
 entry-keeps : (entry : Entry) (d e : Draft) → DraftKeeps d → entry_sound entry ≡ true → with_entry entry d ≡ Ok e → DraftKeeps e
 entry-keeps Nothing d e k sound h = keeps-along d e k cc
@@ -280,22 +356,23 @@ entry-keeps (Input bytes) d e k sound h = input-keeps d e bytes k cc
 entry-keeps (File name content) d e k sound h = file-keeps name content d e k sound h
 entry-keeps (Time clock) d e k sound h = clock-keeps clock d e k sound h
 entry-keeps (Seed seed) d e k sound h = seed-keeps seed d e k sound h
+entry-keeps (Hand n) d e k sound h = hand-keeps n d e k sound h
 
 result-keeps : (r : Result Entry ScriptCause) (d e : Draft) → DraftKeeps d → ((entry : Entry) → r ≡ Ok entry → entry_sound entry ≡ true) → with_result r d ≡ Ok e → DraftKeeps e
 result-keeps (Ok entry) d e k sound h = entry-keeps entry d e k (sound entry refl) h
 result-keeps (Err cause) d e k sound h = cc
 
-line-keeps : (line : List ℕ) (d e : Draft) → DraftKeeps d → with_line line d ≡ Ok e → DraftKeeps e
+line-keeps : (form : Form) (line : List ℕ) (d e : Draft) → DraftKeeps d → with_line form line d ≡ Ok e → DraftKeeps e
 unfolding with_line
-line-keeps line d e k h = result-keeps (entry_of line) d e k (entry_of-sound line) h
+line-keeps form line d e k h = result-keeps (entry_of form line) d e k (entry_of-sound form line) h
 
-drafted-keeps : (n : ℕ) (lines : List (List ℕ)) (d e : Draft) → DraftKeeps d → drafted n lines d ≡ Ok e → DraftKeeps e
+drafted-keeps : (form : Form) (n : ℕ) (lines : List (List ℕ)) (d e : Draft) → DraftKeeps d → drafted form n lines d ≡ Ok e → DraftKeeps e
 unfolding drafted
-drafted-keeps n [] d e k h = keeps-along d e k cc
-drafted-keeps n (line ∷ lines) d e k h = step (with_line line d) refl h (drafted-keeps (n + 1) lines) where
-  step : (r : Result Draft ScriptCause) → with_line line d ≡ r → onward n r (λ next. drafted (n + 1) lines next) ≡ Ok e
-      → ((d e : Draft) → DraftKeeps d → drafted (n + 1) lines d ≡ Ok e → DraftKeeps e) → DraftKeeps e
-  step (Ok next) is h later = later next e (line-keeps line d next k is) h
+drafted-keeps form n [] d e k h = keeps-along d e k cc
+drafted-keeps form n (line ∷ lines) d e k h = step (with_line form line d) refl h (drafted-keeps form (n + 1) lines) where
+  step : (r : Result Draft ScriptCause) → with_line form line d ≡ r → onward n r (λ next. drafted form (n + 1) lines next) ≡ Ok e
+      → ((d e : Draft) → DraftKeeps d → drafted form (n + 1) lines d ≡ Ok e → DraftKeeps e) → DraftKeeps e
+  step (Ok next) is h later = later next e (line-keeps form line d next k is) h
   step (Err cause) is h later = cc
 
 -- ---- the whole script
@@ -308,7 +385,7 @@ finished-keeps d k =
     let nanos : (unwrap_or d.clock no_clock).nanos ≤ 999999999 = grind (arith, nat_tests) in
     let step : (unwrap_or d.clock no_clock).step ≤ 1000000000 = grind (arith, nat_tests) in
     let seed : unwrap_or d.seed 0 < 2 ^ 32 = grind (arith, nat_tests) in
-    record { arguments = k.arguments; texts = k.texts; files = are_files-from d.files k.files; seconds = seconds; nanos = nanos; step = step; seed = seed }
+    record { arguments = k.arguments; texts = k.texts; files = are_files-from d.files k.files; seconds = seconds; nanos = nanos; step = step; seed = seed; hands = are_hands-from d.hands k.hands }
 
 finished-script : (r : Result Draft ScriptFault) (s : Setup) → ((d : Draft) → r ≡ Ok d → DraftKeeps d) → finished_result r ≡ Ok s → is_script s ≡ true
 finished-script (Ok d) s keeps h =
@@ -318,10 +395,10 @@ finished-script (Err fault) s keeps h = cc
 
 lines-script : (lines : List (List ℕ)) (s : Setup) → script_of_lines lines ≡ Ok s → is_script s ≡ true
 lines-script [] s h = cc
-lines-script (first ∷ rest) s h = step (is_first first) h where
-  step : (x : Bool) → cond x (finished_result (drafted 1 rest blank)) no_form ≡ Ok s → is_script s ≡ true
-  step true h = finished-script (drafted 1 rest blank) s (λ d e. drafted-keeps 1 rest blank d blank-keeps e) h
-  step false h = cc
+lines-script (first ∷ rest) s h = step (form_of first) h where
+  step : (found : Option Form) → script_in found rest ≡ Ok s → is_script s ≡ true
+  step (Some form) h = finished-script (drafted form 1 rest blank) s (λ d e. drafted-keeps form 1 rest blank d blank-keeps e) h
+  step None h = cc
 
 -- every script that a text says keeps to the limits
 pub script_of-keeps : (bytes : List ℕ) (s : Setup) → script_of bytes ≡ Ok s → is_script s ≡ true

@@ -1,5 +1,5 @@
 -- What a line of a script says, by itself.
-use Rattle.std.specs.Prelude.{ℕ, Bool, true, not, ◌&&◌, ◌||◌, List, [], ◌∷◌, ◌++◌, Option, Some, None, Result, Ok, Err, if◌then◌else◌, ◌==◌, nat_lt, nat_le, length, bytes_eq, codes, option_map}
+use Rattle.std.specs.Prelude.{ℕ, Bool, true, false, not, ◌&&◌, ◌||◌, List, [], ◌∷◌, ◌++◌, Option, Some, None, Result, Ok, Err, if◌then◌else◌, ◌==◌, nat_lt, nat_le, length, bytes_eq, codes, option_map}
 use Rattle.std.specs.Option.{ok_or}
 use Rattle.std.specs.List.{list_all, slice_split}
 use Rattle.nv_bytes.specs.Texts.{number_of, unhexed}
@@ -7,6 +7,8 @@ use Rattle.nv_text.specs.Lines.{front, behind}
 use Rattle.nv_script.specs.declared.entry.Clock.{Clock}
 use Rattle.nv_script.specs.declared.fault.ScriptCause.{ScriptCause}
 use Rattle.nv_script.specs.declared.fault.ScriptCause.TheVariants.{Word, Shape, Range}
+use Rattle.nv_script.specs.declared.form.Form.{Form}
+use Rattle.nv_script.specs.declared.form.Form.TheVariants as form
 use Rattle.nv_script.specs.declared.kind.Kind.{Kind}
 use Rattle.nv_script.specs.declared.kind.Kind.TheVariants as kind
 
@@ -21,6 +23,21 @@ pub data Entry : Type 0 where
   File : List ℕ → List ℕ → Entry
   Time : Clock → Entry
   Seed : ℕ → Entry
+  -- a length of the log at which the leader hands over
+  Hand : ℕ → Entry
+
+-- ---- the two forms
+
+-- the form that a first line names
+unfoldable pub form_of : List ℕ → Option Form
+form_of line = if bytes_eq line (codes "varan-script 1") then Some form.First
+    else (if bytes_eq line (codes "varan-script 2") then Some form.Second
+    else None)
+
+-- whether a script of this form may plan the leader's changes
+abbrev pub may_hand : Form → Bool
+may_hand form.First = false
+may_hand form.Second = true
 
 -- ---- fields, which single spaces separate
 
@@ -66,14 +83,15 @@ is_file_name name = nat_lt 0 (length name) && (nat_le (length name) 255 && (list
 -- ---- lines
 
 -- the words that begin a line
-unfoldable pub kind_of : List ℕ → Option Kind
-kind_of word = if bytes_eq word (codes "arg") then Some kind.Argument
+unfoldable pub kind_of : Form → List ℕ → Option Kind
+kind_of f word = if bytes_eq word (codes "arg") then Some kind.Argument
     else (if bytes_eq word (codes "line") then Some kind.Line
     else (if bytes_eq word (codes "input") then Some kind.Input
     else (if bytes_eq word (codes "file") then Some kind.File
     else (if bytes_eq word (codes "clock") then Some kind.Clock
     else (if bytes_eq word (codes "random") then Some kind.Random
-    else None)))))
+    else (if bytes_eq word (codes "hand") && may_hand f then Some kind.Hand
+    else None))))))
 
 -- an entry, where the line has its shape
 abbrev pub shaped : Option Entry → Result Entry ScriptCause
@@ -107,6 +125,17 @@ abbrev pub clock_of : List (List ℕ) → Result Entry ScriptCause
 clock_of (seconds ∷ nanos ∷ step ∷ []) = clock_with (number_of seconds) (number_of nanos) (number_of step)
 clock_of _ = Err Shape
 
+-- 1 to 131,072
+abbrev pub is_hand : ℕ → Bool
+is_hand n = nat_le 1 n && nat_le n 131072
+
+abbrev pub hand_entry : ℕ → Result Entry ScriptCause
+hand_entry n = if is_hand n then Ok (Hand n) else Err Range
+
+abbrev pub hand_with : Option ℕ → Result Entry ScriptCause
+hand_with (Some n) = hand_entry n
+hand_with None = Err Shape
+
 -- a line by its kind and what stands behind the word's space
 abbrev pub entry_by : Kind → List ℕ → Result Entry ScriptCause
 entry_by kind.Argument rest = shaped (argument rest)
@@ -115,6 +144,7 @@ entry_by kind.Input rest = shaped (option_map Input (unhexed rest))
 entry_by kind.File rest = shaped (file_of (fields rest))
 entry_by kind.Clock rest = clock_of (fields rest)
 entry_by kind.Random rest = shaped (option_map Seed (number_of rest))
+entry_by kind.Hand rest = hand_with (number_of rest)
 
 abbrev pub entry_with : Option Kind → Option (List ℕ) → Result Entry ScriptCause
 entry_with None rest = Err Word
@@ -127,5 +157,5 @@ is_passed_over [] = true
 is_passed_over (b ∷ bs) = b == 35
 
 -- what a line behind the first says, or its first cause of these three
-unfoldable pub entry_of : List ℕ → Result Entry ScriptCause
-entry_of line = if is_passed_over line then Ok Nothing else entry_with (kind_of (word_of line)) (rest_of line)
+unfoldable pub entry_of : Form → List ℕ → Result Entry ScriptCause
+entry_of f line = if is_passed_over line then Ok Nothing else entry_with (kind_of f (word_of line)) (rest_of line)

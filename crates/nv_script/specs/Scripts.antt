@@ -1,13 +1,15 @@
 -- What a script means: what a run begins with, or the first faulty line with its first cause.
-use Rattle.std.specs.Prelude.{ℕ, Bool, true, not, ◌&&◌, List, [], ◌∷◌, ◌++◌, Option, Some, None, is_some, unwrap_or, Result, Ok, Err, if◌then◌else◌, nat_lt, nat_le, ◌+◌, ◌-◌, ◌^◌, min, length, bytes_eq, codes}
+use Rattle.std.specs.Prelude.{ℕ, Bool, true, not, ◌&&◌, List, [], ◌∷◌, ◌++◌, Option, Some, None, is_some, unwrap_or, Result, Ok, Err, if◌then◌else◌, nat_lt, nat_le, ◌+◌, ◌-◌, ◌^◌, ◌==◌, min, length, bytes_eq, codes}
 use Rattle.std.specs.List.{list_all, list_any}
 use Rattle.nv_text.specs.Lines.{lines}
 use Rattle.nv_script.specs.declared.entry.Clock.{Clock}
+use Rattle.nv_script.specs.declared.form.Form.{Form}
 use Rattle.nv_script.specs.declared.fault.ScriptCause.{ScriptCause}
-use Rattle.nv_script.specs.declared.fault.ScriptCause.TheVariants.{Form, Twice, Long}
+use Rattle.nv_script.specs.declared.fault.ScriptCause.TheVariants as cause
+use Rattle.nv_script.specs.declared.fault.ScriptCause.TheVariants.{Twice, Long}
 use Rattle.nv_script.specs.declared.fault.ScriptFault.{ScriptFault}
 use Rattle.nv_script.specs.declared.fault.ScriptFault.TheVariants.{Line}
-use Rattle.nv_script.specs.Entries.{Entry, Nothing, Argument, Input, File, Time, Seed, is_argument, is_file_name, entry_of}
+use Rattle.nv_script.specs.Entries.{Entry, Nothing, Argument, Input, File, Time, Seed, Hand, form_of, is_argument, is_file_name, is_hand, entry_of}
 
 -- a file's name and its content
 abbrev pub Named : Type 0
@@ -22,6 +24,7 @@ pub record Setup : Type 0 where
   pub nanos : ℕ
   pub step : ℕ
   pub seed : ℕ
+  pub hands : List ℕ
 
 -- ---- line after line
 
@@ -32,9 +35,10 @@ pub record Draft : Type 0 where
   pub files : List Named
   pub clock : Option Clock
   pub seed : Option ℕ
+  pub hands : List ℕ
 
 abbrev pub blank : Draft
-blank = record { arguments = []; input = []; files = []; clock = None; seed = None }
+blank = record { arguments = []; input = []; files = []; clock = None; seed = None; hands = [] }
 
 abbrev pub has_name : List ℕ → List Named → Bool
 has_name name files = list_any (λ file. bytes_eq name file.0) files
@@ -63,6 +67,16 @@ with_clock clock draft = if is_some draft.clock then Err Twice else Ok (record d
 abbrev pub with_seed : ℕ → Draft → Result Draft ScriptCause
 with_seed seed draft = if is_some draft.seed then Err Twice else Ok (record draft { seed = Some seed })
 
+abbrev pub has_hand : ℕ → List ℕ → Bool
+has_hand n hands = list_any (λ k. k == n) hands
+
+-- each length once, and at most 8 of them
+abbrev pub with_hand : ℕ → Draft → Result Draft ScriptCause
+with_hand n draft = if has_hand n draft.hands then Err Twice
+    else (if nat_lt (length draft.hands) 8
+    then Ok (record draft { hands = draft.hands ++ n ∷ [] })
+    else Err Long)
+
 abbrev pub with_entry : Entry → Draft → Result Draft ScriptCause
 with_entry Nothing draft = Ok draft
 with_entry (Argument text) draft = with_argument text draft
@@ -70,13 +84,14 @@ with_entry (Input bytes) draft = with_input bytes draft
 with_entry (File name content) draft = with_file name content draft
 with_entry (Time clock) draft = with_clock clock draft
 with_entry (Seed seed) draft = with_seed seed draft
+with_entry (Hand n) draft = with_hand n draft
 
 abbrev pub with_result : Result Entry ScriptCause → Draft → Result Draft ScriptCause
 with_result (Ok entry) draft = with_entry entry draft
 with_result (Err cause) draft = Err cause
 
-unfoldable pub with_line : List ℕ → Draft → Result Draft ScriptCause
-with_line line draft = with_result (entry_of line) draft
+unfoldable pub with_line : Form → List ℕ → Draft → Result Draft ScriptCause
+with_line form line draft = with_result (entry_of form line) draft
 
 -- the number of a line that so many are before; one past 32 bits is reported as the last of these
 abbrev pub line_number : ℕ → ℕ
@@ -87,9 +102,9 @@ onward n (Ok draft) later = later draft
 onward n (Err cause) later = Err (Line (line_number n) cause)
 
 -- what lines behind n others make of a draft, or the first faulty line
-unfoldable pub drafted : ℕ → List (List ℕ) → Draft → Result Draft ScriptFault
-drafted n [] draft = Ok draft
-drafted n (line ∷ rest) draft = onward n (with_line line draft) (λ next. drafted (n + 1) rest next)
+unfoldable pub drafted : Form → ℕ → List (List ℕ) → Draft → Result Draft ScriptFault
+drafted form n [] draft = Ok draft
+drafted form n (line ∷ rest) draft = onward n (with_line form line draft) (λ next. drafted form (n + 1) rest next)
 
 -- ---- the whole text
 
@@ -106,6 +121,7 @@ setup_with clock draft = record {
   nanos = clock.nanos;
   step = clock.step;
   seed = unwrap_or draft.seed 0;
+  hands = draft.hands;
 }
 
 abbrev pub finished : Draft → Setup
@@ -115,15 +131,17 @@ abbrev pub finished_result : Result Draft ScriptFault → Result Setup ScriptFau
 finished_result (Ok draft) = Ok (finished draft)
 finished_result (Err fault) = Err fault
 
-abbrev pub is_first : List ℕ → Bool
-is_first line = bytes_eq line (codes "varan-script 1")
-
 abbrev pub no_form : Result Setup ScriptFault
-no_form = Err (Line 1 Form)
+no_form = Err (Line 1 cause.Form)
+
+-- the lines behind the first, by the form that the first names
+abbrev pub script_in : Option Form → List (List ℕ) → Result Setup ScriptFault
+script_in None rest = no_form
+script_in (Some form) rest = finished_result (drafted form 1 rest blank)
 
 abbrev pub script_of_lines : List (List ℕ) → Result Setup ScriptFault
 script_of_lines [] = no_form
-script_of_lines (first ∷ rest) = if is_first first then finished_result (drafted 1 rest blank) else no_form
+script_of_lines (first ∷ rest) = script_in (form_of first) rest
 
 -- what a script means
 unfoldable pub script_of : List ℕ → Result Setup ScriptFault
@@ -143,7 +161,16 @@ are_distinct (file ∷ files) = not (has_name file.0 files) && are_distinct file
 unfoldable pub are_files : List Named → Bool
 are_files files = nat_le (length files) 256 && (list_all is_file files && are_distinct files)
 
--- at most 256 arguments, files as above, and numbers within their limits
+-- no number stands here twice
+abbrev pub differ : List ℕ → Bool
+differ [] = true
+differ (n ∷ ns) = not (has_hand n ns) && differ ns
+
+-- at most 8 lengths to hand over at, from 1 to 131,072, no two of them the same
+unfoldable pub are_hands : List ℕ → Bool
+are_hands hands = nat_le (length hands) 8 && (list_all is_hand hands && differ hands)
+
+-- at most 256 arguments, files and lengths as above, and numbers within their limits
 unfoldable pub is_script : Setup → Bool
 is_script setup = nat_le (length setup.arguments) 256 && (list_all is_argument setup.arguments && (are_files setup.files
-    && (nat_lt setup.seconds (2 ^ 32) && (nat_le setup.nanos 999999999 && (nat_le setup.step 1000000000 && nat_lt setup.seed (2 ^ 32))))))
+    && (nat_lt setup.seconds (2 ^ 32) && (nat_le setup.nanos 999999999 && (nat_le setup.step 1000000000 && (nat_lt setup.seed (2 ^ 32) && are_hands setup.hands))))))

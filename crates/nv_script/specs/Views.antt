@@ -15,6 +15,7 @@ view (code.Input bytes) = rule.Input bytes.items
 view (code.File name content) = rule.File name.now content.items
 view (code.Clock clock) = rule.Time clock
 view (code.Seed seed) = rule.Seed seed
+view (code.Hand hand) = rule.Hand hand
 
 abbrev pub found_view : Option Entry → Option rule.Entry
 found_view found = option_map view found
@@ -38,4 +39,5 @@ setup_of script = record {
   nanos = script.nanos;
   step = script.step;
   seed = script.seed;
+  hands = script.hands.items;
 }

@@ -1,6 +1,6 @@
 // A script in the making.
 ghost use Rattle.std.specs.Prelude.{◌≡◌, false, ◌&&◌, nat_lt, nat_le, [], ◌∷◌, ◌++◌, length, codes, Ok, IfOk, OnOk};
-ghost use Rattle.nv_script.specs.Scripts.{blank, has_name, with_argument, with_input, with_file, with_clock, with_seed, with_entry, finished};
+ghost use Rattle.nv_script.specs.Scripts.{blank, has_name, has_hand, with_argument, with_input, with_file, with_clock, with_seed, with_hand, with_entry, finished};
 ghost use Rattle.nv_script.specs.Views.{view, became, setup_of};
 
 use crate::Script;
@@ -15,6 +15,8 @@ const MOST_ARGUMENTS: usize = 256;
 const MOST_FILES: usize = 256;
 
 const MOST_FILE_BYTES: usize = 1_048_576;
+
+const MOST_HANDS: usize = 8;
 
 const NO_CLOCK: Clock = Clock {
     seconds: 0,
@@ -31,6 +33,7 @@ pub struct Draft<'a> {
     names: Names<'a, ()>,
     clock: Option<Clock>,
     seed: Option<u32>,
+    hands: Vec<u32>,
 }
 
 impl<'a> Model for Draft<'a> {
@@ -46,6 +49,7 @@ impl<'a> Model for Draft<'a> {
       files = map (λ file. (file.0.items, file.1.items)) draft.files.items;
       clock = draft.clock;
       seed = draft.seed;
+      hands = draft.hands.items;
     } };
 
     ghost invariant = { λ draft. (name : List ℕ) → is_some (defined draft.names name) ≡ rule.has_name name (map (λ file. (file.0.items, file.1.items)) draft.files.items) };
@@ -62,6 +66,7 @@ impl<'a> Draft<'a> {
             names: Names::new(alloc),
             clock: None,
             seed: None,
+            hands: Vec::new(alloc),
         }
     }
 
@@ -164,6 +169,26 @@ impl<'a> Draft<'a> {
         Ok(())
     }
 
+    // Whether the leader hands over at this length already.
+    fn has_hand(&self, hand: u32) -> bool
+        ensures { result ≡ has_hand hand self.now.hands }
+    {
+        self.hands.contains(&hand)
+    }
+
+    fn add_hand(&mut self, hand: u32) -> Result<Result<(), ScriptCause>, AllocError>
+        ensures { IfOk result (λ added. became self.new added ≡ with_hand hand self.old) }
+    {
+        if self.has_hand(hand) {
+            return Ok(Err(ScriptCause::Twice));
+        }
+        if self.hands.len() >= MOST_HANDS {
+            return Ok(Err(ScriptCause::Long));
+        }
+        self.hands.push(hand)?;
+        Ok(Ok(()))
+    }
+
     /// Takes in what a line says.
     pub fn add(
         &mut self,
@@ -186,6 +211,7 @@ impl<'a> Draft<'a> {
             Entry::File(name, content) => self.add_file(alloc, name, content),
             Entry::Clock(clock) => Ok(self.add_clock(clock)),
             Entry::Seed(seed) => Ok(self.add_seed(seed)),
+            Entry::Hand(hand) => self.add_hand(hand),
         }
     }
 
@@ -200,6 +226,7 @@ impl<'a> Draft<'a> {
             names: _,
             clock,
             seed,
+            hands,
         } = self;
         let clock = clock.unwrap_or(NO_CLOCK);
         Script {
@@ -210,6 +237,7 @@ impl<'a> Draft<'a> {
             nanos: clock.nanos,
             step: clock.step,
             seed: seed.unwrap_or(0),
+            hands,
         }
     }
 }

@@ -3,11 +3,12 @@ ghost use Rattle.std.specs.Prelude.{◌≡◌, option_map, IfOk};
 ghost use Rattle.std.specs.List.{list_all};
 ghost use Rattle.nv_bytes.specs.Texts.{number_of, unhexed};
 ghost use Rattle.nv_script.specs.Entries as rule;
-ghost use Rattle.nv_script.specs.Entries.{is_printable, is_argument, is_file_byte, is_dots, is_file_name, is_passed_over, fields, argument, file_with, file_of, clock_entry, clock_with, clock_of, shaped, entry_by, entry_of};
+ghost use Rattle.nv_script.specs.Entries.{is_printable, is_argument, is_file_byte, is_dots, is_file_name, is_passed_over, fields, argument, file_with, file_of, clock_entry, clock_with, clock_of, hand_entry, hand_with, shaped, entry_by, entry_of};
 ghost use Rattle.nv_script.specs.Views.{found_view, result_view};
 
 use crate::fault::ScriptCause;
 use crate::fields::{is, split_field};
+use crate::form::Form;
 use crate::kind::{Kind, kind_of};
 use nv_bytes::{number, unhex};
 use std::alloc::{AllocError, Global};
@@ -33,11 +34,15 @@ pub enum Entry<'a> {
     File(&'a [u8], Vec<u8>),
     Clock(Clock),
     Seed(u32),
+    /// A length of the log at which the leader hands over.
+    Hand(u32),
 }
 
 const MOST_NANOS: u32 = 999_999_999;
 
 const MOST_STEP: u32 = 1_000_000_000;
+
+const MOST_HAND: u32 = 131_072;
 
 const MOST_NAME_BYTES: usize = 255;
 
@@ -179,6 +184,25 @@ fn read_seed<'a>(text: &[u8]) -> Option<Entry<'a>>
     }
 }
 
+fn hand_entry<'a>(hand: u32) -> Result<Entry<'a>, ScriptCause>
+    ensures { result_view result ≡ hand_entry hand }
+{
+    if hand >= 1 && hand <= MOST_HAND {
+        Ok(Entry::Hand(hand))
+    } else {
+        Err(ScriptCause::Range)
+    }
+}
+
+fn read_hand<'a>(text: &[u8]) -> Result<Entry<'a>, ScriptCause>
+    ensures { result_view result ≡ hand_with (number_of text.now) }
+{
+    match number(text) {
+        Some(hand) => hand_entry(hand),
+        None => Err(ScriptCause::Shape),
+    }
+}
+
 fn shaped(entry: Option<Entry<'_>>) -> Result<Entry<'_>, ScriptCause>
     ensures { result_view result ≡ shaped (found_view entry.entry) }
 {
@@ -200,19 +224,24 @@ fn entry_by(
         Kind::File => Ok(shaped(read_file(alloc, rest)?)),
         Kind::Clock => Ok(read_clock(rest)),
         Kind::Random => Ok(shaped(read_seed(rest))),
+        Kind::Hand => Ok(read_hand(rest)),
     }
 }
 
-/// What a line behind the first says, or its first cause of those that the line has by itself.
+/// What a line behind the first says in a script of this form, or its first cause of those that the line has by itself.
 #[tactic(auto, unfolding(crate::specs::Entries::entry_of))]
-pub fn entry_of(alloc: Global, line: &[u8]) -> Result<Result<Entry<'_>, ScriptCause>, AllocError>
-    ensures { IfOk result (λ entry. result_view entry ≡ entry_of line.now) }
+pub fn entry_of(
+    alloc: Global,
+    form: Form,
+    line: &[u8],
+) -> Result<Result<Entry<'_>, ScriptCause>, AllocError>
+    ensures { IfOk result (λ entry. result_view entry ≡ entry_of form line.now) }
 {
     if is_passed_over(line) {
         return Ok(Ok(Entry::Nothing));
     }
     let (word, rest) = split_field(line);
-    match (kind_of(word), rest) {
+    match (kind_of(form, word), rest) {
         (None, _) => Ok(Err(ScriptCause::Word)),
         (Some(_), None) => Ok(Err(ScriptCause::Shape)),
         (Some(kind), Some(rest)) => entry_by(alloc, kind, rest),

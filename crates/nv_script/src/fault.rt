@@ -9,17 +9,17 @@ use std::fmt;
 /// Why a line of a script is refused. Of several causes the first in this order is told.
 #[derive(Clone, Copy, Debug, PartialEq, Eq)]
 pub enum ScriptCause {
-    /// The first line isn't `varan-script 1`, or there is none.
+    /// The first line is neither `varan-script 1` nor `varan-script 2`, or there is none.
     Form,
-    /// The first word is none of a script's.
+    /// The first word is none of a script's of this form.
     Word,
     /// Wrong fields, a byte off its range, or a number or a hexadecimal text that isn't one.
     Shape,
-    /// A number above its limit.
+    /// A number off its limits.
     Range,
-    /// A second clock or seed, or a file's name that was used before.
+    /// A second clock or seed, or a file's name or a length to hand over at that was used before.
     Twice,
-    /// More than 256 arguments or 256 files, or a file of more than 1,048,576 bytes.
+    /// More than 256 arguments, 256 files or 8 lengths to hand over at, or a file of more than 1,048,576 bytes.
     Long,
 }
 

@@ -3,6 +3,7 @@ ghost use Rattle.std.specs.Prelude.{◌≡◌};
 ghost use Rattle.nv_script.specs.Entries.{kind_of};
 
 use crate::fields::is;
+use crate::form::Form;
 
 /// What a line is about.
 #[derive(Clone, Copy, Debug, PartialEq, Eq)]
@@ -13,12 +14,13 @@ pub enum Kind {
     File,
     Clock,
     Random,
+    Hand,
 }
 
-/// What a line that begins with this word is about.
+/// What a line that begins with this word is about, in a script of this form.
 #[tactic(auto, unfolding(crate::specs::Entries::kind_of))]
-pub fn kind_of(word: &[u8]) -> Option<Kind>
-    ensures { result ≡ kind_of word.now }
+pub fn kind_of(form: Form, word: &[u8]) -> Option<Kind>
+    ensures { result ≡ kind_of form word.now }
 {
     if is(word, "arg") {
         Some(Kind::Argument)
@@ -32,6 +34,8 @@ pub fn kind_of(word: &[u8]) -> Option<Kind>
         Some(Kind::Clock)
     } else if is(word, "random") {
         Some(Kind::Random)
+    } else if is(word, "hand") && form.may_hand() {
+        Some(Kind::Hand)
     } else {
         None
     }

@@ -5,6 +5,7 @@ mod draft;
 mod entry;
 mod fault;
 mod fields;
+mod form;
 mod kind;
 mod reading;
 mod script;

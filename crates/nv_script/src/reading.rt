@@ -1,7 +1,7 @@
 // The reader of scripts.
 ghost use Rattle.std.specs.Prelude.{◌≡◌, ◌⊎◌, Ok, Err, IsTrue, IfOk, IfErr};
 ghost use Rattle.nv_text.specs.Lines.{lines};
-ghost use Rattle.nv_script.specs.Scripts.{blank, is_first, with_line, drafted, line_number, script_of, is_script};
+ghost use Rattle.nv_script.specs.Scripts.{blank, with_line, drafted, line_number, script_of, is_script};
 ghost use Rattle.nv_script.specs.Views.{became, setup_of};
 ghost use Rattle.nv_script.specs.declared.fault.ScriptFault.TheVariants.{Memory};
 
@@ -9,7 +9,7 @@ use crate::Script;
 use crate::draft::Draft;
 use crate::entry::entry_of;
 use crate::fault::{ScriptCause, ScriptFault};
-use crate::fields::is;
+use crate::form::{Form, form_of};
 use nv_text::split_line;
 use std::alloc::{AllocError, Global};
 
@@ -24,27 +24,28 @@ fn line_number(line: usize) -> u32
 fn add_line<'a>(
     draft: &mut Draft<'a>,
     alloc: Global,
+    form: Form,
     line: &'a [u8],
 ) -> Result<Result<(), ScriptCause>, AllocError>
-    ensures { IfOk result (λ added. became draft.new added ≡ with_line line.now draft.old) }
+    ensures { IfOk result (λ added. became draft.new added ≡ with_line form line.now draft.old) }
 {
-    match entry_of(alloc, line)? {
+    match entry_of(alloc, form, line)? {
         Ok(entry) => draft.add(alloc, entry),
         Err(cause) => Ok(Err(cause)),
     }
 }
 
 // What the lines behind the first say.
-fn draft_of(alloc: Global, text: &[u8]) -> Result<Draft<'_>, ScriptFault>
-    ensures draft { IfOk result (λ draft. drafted 1 (lines text.now) blank ≡ Ok draft) }
-    ensures fault { IfErr result (λ fault. (fault ≡ Memory) ⊎ (drafted 1 (lines text.now) blank ≡ Err fault)) }
+fn draft_of(alloc: Global, form: Form, text: &[u8]) -> Result<Draft<'_>, ScriptFault>
+    ensures draft { IfOk result (λ draft. drafted form 1 (lines text.now) blank ≡ Ok draft) }
+    ensures fault { IfErr result (λ fault. (fault ≡ Memory) ⊎ (drafted form 1 (lines text.now) blank ≡ Err fault)) }
 {
     let mut draft = Draft::new(alloc);
     let mut rest = text;
     let mut before = 1usize;
     while !rest.is_empty() {
         let (line, behind) = split_line(rest);
-        if let Err(cause) = add_line(&mut draft, alloc, line)? {
+        if let Err(cause) = add_line(&mut draft, alloc, form, line)? {
             return Err(ScriptFault::Line(line_number(before), cause));
         }
         before += 1;
@@ -66,9 +67,9 @@ pub fn read(alloc: Global, bytes: &[u8]) -> Result<Script, ScriptFault>
         return Err(ScriptFault::Line(1, ScriptCause::Form));
     }
     let (first, rest) = split_line(bytes);
-    if !is(first, "varan-script 1") {
+    let Some(form) = form_of(first) else {
         return Err(ScriptFault::Line(1, ScriptCause::Form));
-    }
-    let draft = draft_of(alloc, rest)?;
+    };
+    let draft = draft_of(alloc, form, rest)?;
     Ok(draft.finish())
 }

@@ -17,4 +17,6 @@ pub struct Script {
     pub step: u32,
     /// Where the random numbers begin.
     pub seed: u32,
+    /// The lengths of the log at which the leader hands over, in the script's order.
+    pub hands: Vec<u32>,
 }

@@ -11,7 +11,10 @@ fn script_faults(rt: HostRuntime) {
         ("", 1, Form),
         ("\n", 1, Form),
         ("# a comment\nvaran-script 1\n", 1, Form),
-        ("varan-script 2\n", 1, Form),
+        ("varan-script 3\n", 1, Form),
+        ("varan-script 2 \n", 1, Form),
+        ("varan-script 02\n", 1, Form),
+        ("varan-script 22\n", 1, Form),
         ("varan-script 1 \n", 1, Form),
         ("varan-script 1\r\n", 1, Form),
         ("varan-script", 1, Form),
@@ -22,6 +25,10 @@ fn script_faults(rt: HostRuntime) {
         ("varan-script 1\n\r\n", 2, Word),
         ("varan-script 1\nvaran-script 1\n", 2, Word),
         ("varan-script 1\nhand 1\n", 2, Word),
+        ("varan-script 1\nhand\n", 2, Word),
+        ("varan-script 1\nhand 0\n", 2, Word),
+        ("varan-script 2\nhands 1\n", 2, Word),
+        ("varan-script 2\nvaran-script 1\n", 2, Word),
         ("varan-script 1\narg\n", 2, Shape),
         ("varan-script 1\narg \n", 2, Shape),
         ("varan-script 1\narg a\tb\n", 2, Shape),
@@ -51,7 +58,24 @@ fn script_faults(rt: HostRuntime) {
         ("varan-script 1\nrandom \n", 2, Shape),
         ("varan-script 1\nrandom 4294967296\n", 2, Shape),
         ("varan-script 1\nrandom 1\r\n", 2, Shape),
+        ("varan-script 2\nhand\n", 2, Shape),
+        ("varan-script 2\nhand \n", 2, Shape),
+        ("varan-script 2\nhand 0x10\n", 2, Shape),
+        ("varan-script 2\nhand ff\n", 2, Shape),
+        ("varan-script 2\nhand -1\n", 2, Shape),
+        ("varan-script 2\nhand 1 \n", 2, Shape),
+        ("varan-script 2\nhand 1 2\n", 2, Shape),
+        ("varan-script 2\nhand  1\n", 2, Shape),
+        ("varan-script 2\nhand 1\r\n", 2, Shape),
+        ("varan-script 2\nhand 4294967296\n", 2, Shape),
+        ("varan-script 2\nrandom\n", 2, Shape),
         ("varan-script 1\nclock 0 1000000000 0\n", 2, Range),
+        ("varan-script 2\nhand 0\n", 2, Range),
+        ("varan-script 2\nhand 131073\n", 2, Range),
+        ("varan-script 2\nhand 4294967295\n", 2, Range),
+        ("varan-script 2\nhand 1\nhand 1\nhand 0\n", 3, Twice),
+        ("varan-script 2\nhand 1\nhand 0\nhand 1\n", 3, Range),
+        ("varan-script 2\nhand 7\nhand 2\nhand 07\n", 4, Twice),
         ("varan-script 1\nclock 0 0 1000000001", 2, Range),
         (
             "varan-script 1\nclock 0 0 0\nclock 0 0 1000000001\n",
@@ -111,7 +135,12 @@ fn whole_script(rt: HostRuntime) {
 // The first line alone, with and without its newline.
 #[test]
 fn least_script(rt: HostRuntime) {
-    for text in ["varan-script 1", "varan-script 1\n"] {
+    for text in [
+        "varan-script 1",
+        "varan-script 1\n",
+        "varan-script 2",
+        "varan-script 2\n",
+    ] {
         let script = expect_script(&rt, rt.alloc(), text.as_bytes());
         assert!(rt;
             script.arguments.is_empty() && script.input.is_empty() && script.files.is_empty()
@@ -120,7 +149,58 @@ fn least_script(rt: HostRuntime) {
         assert_eq!(rt; script.nanos, 0);
         assert_eq!(rt; script.step, 0);
         assert_eq!(rt; script.seed, 0);
+        assert!(rt; script.hands.is_empty());
     }
+}
+
+// A script of the second form whose lines are those of the first.
+#[test]
+fn second_form(rt: HostRuntime) {
+    let text = b"varan-script 2\narg a\nline b\nfile f 00\nclock 1 2 3\nrandom 4\n";
+    let script = expect_script(&rt, rt.alloc(), text);
+    let [argument] = script.arguments.as_slice() else {
+        panic!(rt; "arguments");
+    };
+    assert_eq!(rt; argument.as_slice(), b"a".as_slice());
+    assert_eq!(rt; script.input.as_slice(), b"b\n".as_slice());
+    let [f] = script.files.as_slice() else {
+        panic!(rt; "files");
+    };
+    assert_eq!(rt; f.1.as_slice(), b"\x00".as_slice());
+    assert_eq!(rt; script.seconds, 1);
+    assert_eq!(rt; script.nanos, 2);
+    assert_eq!(rt; script.step, 3);
+    assert_eq!(rt; script.seed, 4);
+    assert!(rt; script.hands.is_empty());
+}
+
+// Eight lengths to hand over at, in the order of their lines, the least and the greatest among them.
+#[test]
+fn most_hands(rt: HostRuntime) -> Result<(), Fail> {
+    let mut text = String::from_str(
+        rt.alloc(),
+        "varan-script 2\nhand 7\nhand 131072\n# a comment\nhand 1\nhand 003\nhand 2\nhand 9\nhand 8\nhand 10",
+    )?;
+    let script = expect_script(&rt, rt.alloc(), text.as_bytes());
+    assert_eq!(rt;
+        script.hands.as_slice(),
+        [7, 131_072, 1, 3, 2, 9, 8, 10].as_slice()
+    );
+    text.push_str("\nhand 11")?;
+    assert_eq!(rt;
+        read(rt.alloc(), text.as_bytes()).err(),
+        Some(ScriptFault::Line(11, Long))
+    );
+    let mut twice = String::from_str(
+        rt.alloc(),
+        "varan-script 2\nhand 1\nhand 2\nhand 3\nhand 4\nhand 5\nhand 6\nhand 7\nhand 8\n",
+    )?;
+    twice.push_str("hand 8")?;
+    assert_eq!(rt;
+        read(rt.alloc(), twice.as_bytes()).err(),
+        Some(ScriptFault::Line(10, Twice))
+    );
+    Ok(())
 }
 
 // So many arguments and files.

@@ -6,7 +6,7 @@ use Rattle.nv_script.proofs.reading.draft_of.Given as goal
 -- the lines that are left make of the draft what all make of a blank one
 abbrev pub invariant-loop-rest : goal.invariant-loop-rest
 invariant-loop-rest l = record {
-  draft : drafted 1 (lines l.text) blank ≡ drafted l.before (lines l.rest) l.draft;
+  draft : drafted l.form 1 (lines l.text) blank ≡ drafted l.form l.before (lines l.rest) l.draft;
   read : l.before + length l.rest ≤ 1 + length l.text;
 }
 

@@ -1,0 +1,37 @@
+// The forms of a script.
+ghost use Rattle.std.specs.Prelude.{◌≡◌};
+ghost use Rattle.nv_script.specs.Entries.{form_of, may_hand};
+
+use crate::fields::is;
+
+/// Which lines a script may have.
+#[derive(Clone, Copy, Debug, PartialEq, Eq)]
+pub enum Form {
+    /// `varan-script 1`: every line but `hand`.
+    First,
+    /// `varan-script 2`: every line.
+    Second,
+}
+
+impl Form {
+    /// Whether the leader's changes may be planned.
+    pub fn may_hand(self) -> bool
+        ensures { result ≡ may_hand self }
+    {
+        self == Form::Second
+    }
+}
+
+/// The form that a script's first line names.
+#[tactic(auto, unfolding(crate::specs::Entries::form_of))]
+pub fn form_of(line: &[u8]) -> Option<Form>
+    ensures { result ≡ form_of line.now }
+{
+    if is(line, "varan-script 1") {
+        Some(Form::First)
+    } else if is(line, "varan-script 2") {
+        Some(Form::Second)
+    } else {
+        None
+    }
+}
