@@ -20,13 +20,10 @@ use Rattle.nv_script.specs.Scripts.{Setup}
 use Rattle.nv_kernel.specs.Serving.{start_of_script}
 use Rattle.nv_threads.specs.Behaviours.{Behaviour}
 use Rattle.nv_threads.specs.Threads.{Proc, threads}
-use Rattle.nv_replay.specs.Accounts.{AreSettled}
-use Rattle.nv_replay.specs.Alone.{SurvivorsAgree}
-use Rattle.nv_replay.specs.Follow.{Judge, follow, fresh, is_exited, judge_of}
-use Rattle.nv_replay.specs.Lead.{is_memory, lead}
-use Rattle.nv_replay.specs.Sequence.{Account, leads, turn, sequence_from, sequence, cuts_of}
-use Rattle.nv_replay.specs.Versions.{Running, process_of, standing_of}
-use Rattle.nv_cli.specs.Account.{begun}
+use Rattle.nv_replay.specs.Lead.{is_memory}
+use Rattle.nv_replay.specs.Sequence.{Account}
+use Rattle.nv_replay.specs.Versions.{Running, process_of}
+use Rattle.nv_cli.specs.Account.{IsRunOf, begun}
 use Rattle.nv_cli.specs.Prepared.{VersionOf, Loads, of_elf, of_loaded, version_of}
 use Rattle.nv_cli.specs.Generated.{Runs, IsFrom, AreFrom, IsMadeRun}
 use Rattle.nv_cli.specs.Outcome.{Summed}
@@ -103,48 +100,16 @@ made_next setup files vs vs' k file v longer small at all h =
     let next : take (k + 1) files ≡ take k files ++ file ∷ [] = take_more files k file small ∙ ap (λ (f : Vec ℕ Global). take k files ++ f ∷ []) (sym at) in
     subst (λ (fs : List (Vec ℕ Global)). AreFrom setup fs vs') (sym next) (subst (λ (xs : List (Running Proc)). AreFrom setup (take k files ++ file ∷ []) xs) (sym longer) (from_more setup (take k files) vs file v all h))
 
--- an account has a line for each version
-pub length-lines : {P : Type 0} (g : Behaviour P) (judges : ℕ → Judge) (start : Start) (most : ℕ) (cuts : ℕ → Option ℕ) (ps : List P) (i : ℕ) (log : List Entry) (over : Bool)
-    → length (sequence_from g judges start most cuts ps i log over).lines ≡ length ps
-unfolding sequence_from
-length-lines g judges start most cuts [] i log over = refl
-length-lines {P} g judges start most cuts (p ∷ ps) i log over =
-    by (leads over (follow g (judges i) log (fresh p))) (length-lines g judges start most cuts ps (i + 1))
-  where
-    by : (b : Bool) → ((l : List Entry) (o : Bool) → length (sequence_from g judges start most cuts ps (i + 1) l o).lines ≡ length ps)
-        → length (turn g judges start most cuts i p (λ l o. sequence_from g judges start most cuts ps (i + 1) l o) log over (follow g (judges i) log (fresh p)) b).lines ≡ length (p ∷ ps)
-    by true go = ap suc (go (lead g start most (cuts i) (record { process = (follow g (judges i) log (fresh p)).process; log = log; fate = None })).log
-        (is_exited (lead g start most (cuts i) (record { process = (follow g (judges i) log (fresh p)).process; log = log; fate = None })).fate))
-    by false go = ap suc (go log over)
-
-pub few_lines : (judges : ℕ → Judge) (start : Start) (most : ℕ) (cuts : ℕ → Option ℕ) (olds news : List (Running Proc)) (log : List Entry)
-    → record { log = log; lines = map standing_of news } ≡ sequence threads judges start most cuts (map process_of olds) → length olds ≤ 8 → length news ≤ 8
-few_lines judges start most cuts olds news log e few =
-    let lines : length (map standing_of news) ≡ length (map process_of olds) = ap (λ (a : Account). length a.lines) e ∙ length-lines threads judges start most cuts (map process_of olds) 0 [] false in
-    omega (arith, length-map news standing_of, length-map olds process_of)
-
 -- what the run of a number owes, from what it came to
-pub made_owes : (n : ℕ) (setup : Setup) (filter rules : Option (List Op)) (machines : List Machine) (processes : List Proc) (limits : Limits) (account : Account) → IsMadeRun n setup filter machines
-    → rules ≡ filter → limits ≡ usual → processes ≡ map (begun usual) machines
-    → account ≡ sequence threads (judge_of rules) (start_of_script setup) limits.calls (cuts_of account.lines) processes → AreSettled account.lines
-    → SurvivorsAgree threads (start_of_script setup) limits.calls processes account.lines account.log → list_any (λ line. is_memory line.fate) account.lines ≡ false → GenOwes n (Summed n setup account)
-made_owes n setup filter rules machines processes limits account made r l p is settled survivor never =
-    let start = start_of_script setup in
-    let cuts = cuts_of account.lines in
-    record {
-      setup = setup;
-      filter = filter;
-      machines = machines;
-      made = made;
-      account = account;
-      is_run = record {
-        is_account = is ∙ ap (λ (rs : Option (List Op)). sequence threads (judge_of rs) start limits.calls cuts processes) r
-            ∙ ap (λ (x : Limits). sequence threads (judge_of filter) start x.calls cuts processes) l
-            ∙ ap (λ (ps : List Proc). sequence threads (judge_of filter) start usual.calls cuts ps) p;
-        settled = settled;
-        survivor = subst (λ (ps : List Proc). SurvivorsAgree threads start usual.calls ps account.lines account.log) p
-            (subst (λ (x : Limits). SurvivorsAgree threads start x.calls processes account.lines account.log) l survivor);
-      };
-      never_starved = never;
-      comes = refl;
-    }
+pub made_owes : (n : ℕ) (setup : Setup) (filter rules : Option (List Op)) (machines : List Machine) (limits : Limits) (account : Account) → IsMadeRun n setup filter machines
+    → rules ≡ filter → limits ≡ usual → IsRunOf limits setup rules machines account → list_any (λ line. is_memory line.fate) account.lines ≡ false → GenOwes n (Summed n setup account)
+made_owes n setup filter rules machines limits account made r l run never = record {
+  setup = setup;
+  filter = filter;
+  machines = machines;
+  made = made;
+  account = account;
+  is_run = subst (λ (x : Limits). IsRunOf x setup filter machines account) l (subst (λ (rs : Option (List Op)). IsRunOf limits setup rs machines account) r run);
+  never_starved = never;
+  comes = refl;
+}

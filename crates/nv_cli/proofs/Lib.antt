@@ -3,6 +3,9 @@ mod Decided
 mod Generating
 mod Statuses
 mod Making
+mod Once
+mod Planned
+mod Counted
 mod Running
 mod Commands
 mod NoVersions

@@ -1,5 +1,5 @@
 -- A whole run.
-use Rattle.std.specs.Prelude.{◌≡◌, ℕ, List, Option, map, if◌then◌else◌}
+use Rattle.std.specs.Prelude.{◌≡◌, ℕ, List, [], Option, map, if◌then◌else◌}
 use Rattle.std.specs.List.{list_any}
 use Rattle.nv_bpf.specs.declared.op.Op.{Op}
 use Rattle.nv_machine.specs.Guest.{Machine}
@@ -10,20 +10,24 @@ use Rattle.nv_threads.specs.Threads.{Proc, threads, started}
 use Rattle.nv_replay.specs.declared.standing.Standing.{Standing}
 use Rattle.nv_replay.specs.Follow.{is_exited, judge_of}
 use Rattle.nv_replay.specs.Lead.{is_memory}
-use Rattle.nv_replay.specs.Sequence.{Account, sequence, cuts_of}
+use Rattle.nv_replay.specs.Sequence.{Account, cuts_of}
+use Rattle.nv_replay.specs.Monitor.{sequence}
 use Rattle.nv_replay.specs.Accounts.{AreSettled}
-use Rattle.nv_replay.specs.Alone.{SurvivorsAgree}
+use Rattle.nv_replay.specs.Covers.{AreEnded, Covers}
+use Rattle.nv_replay.specs.Survivors.{SurvivorsAgree}
 
 -- a version has as many instructions as the limits say
 abbrev pub begun : Limits → Machine → Proc
 begun limits machine = started machine limits.budget
 
--- The account is that of the plain sequential monitor over what the script says, this filter and these machines, with at most as many events as the limits say and with the cuts that it tells.
--- Each version has one fate and at most one span, and one that exited without a rewrite would come to this log alone.
+-- The account is that of the sequential monitor over what the script says, its planned lengths, this filter and these machines, with at most as many events as the limits say and with the cuts that it tells.
+-- Each version has one fate, and each event lies in exactly one of the spans; where no length is planned each version led at most one. One that exited without a rewrite would come to this log alone.
 pub record IsRunOf (limits : Limits) (setup : Setup) (rules : Option (List Op)) (machines : List Machine) (account : Account) : Type 0 where
-  pub is_account : account ≡ sequence threads (judge_of rules) (start_of_script setup) limits.calls (cuts_of account.lines) (map (begun limits) machines)
-  pub settled : AreSettled account.lines
-  pub survivor : SurvivorsAgree threads (start_of_script setup) limits.calls (map (begun limits) machines) account.lines account.log
+  pub is_account : account ≡ sequence threads (judge_of rules) (start_of_script setup) limits.calls (cuts_of account.lines) setup.hands (map (begun limits) machines)
+  pub settled : AreEnded account.lines
+  pub covers : Covers account.lines account.log
+  pub unplanned : setup.hands ≡ [] → AreSettled account.lines
+  pub survivor : SurvivorsAgree threads (start_of_script setup) limits.calls setup.hands (map (begun limits) machines) account.lines account.log
 
 -- 0 where a version exited; else 7 where one wanted memory; else 1
 abbrev pub run_status : List Standing → ℕ

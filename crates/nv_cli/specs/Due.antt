@@ -21,7 +21,7 @@ use Rattle.nv_cli.specs.declared.refusal.Cause.TheVariants.{Long}
 use Rattle.nv_cli.specs.declared.tools.Unmade.{Unmade}
 use Rattle.nv_cli.specs.declared.tools.Unmade.TheVariants as unmade
 
--- A run comes to its first file that can't be read or is refused, or else to an account of the plain sequential monitor.
+-- A run comes to its first file that can't be read or is refused, or else to an account of the sequential monitor.
 abbrev pub RunComesTo : Plan → Prepared → Outcome → Type 0
 RunComesTo plan (Unreadable place) outcome = outcome ≡ NotRead (name_of place plan)
 RunComesTo plan (Refused place cause) outcome = outcome ≡ NotAccepted (name_of place plan) cause
@@ -47,7 +47,7 @@ pub record JobOwes (job : Job) (holds : List ℕ → Told) (outcome : Outcome) :
   pub agrees : Agrees (holds job.file) found
   pub comes : outcome ≡ made_outcome job (made_of job.tool found)
 
--- The made run of a number comes to an account of the plain sequential monitor, in which no version wanted memory, and is summed up.
+-- The made run of a number comes to an account of the sequential monitor, in which no version wanted memory, and is summed up.
 pub record GenOwes (n : ℕ) (outcome : Outcome) : Type 0 where
   pub setup : Setup
   pub filter : Option (List Op)

@@ -15,14 +15,16 @@ use Rattle.nv_cli.specs.Found.{AreFound, Agrees}
 -- A run owes what it comes to over files that agree with what is told: the first that is refused is named, or an account is reported.
 use Rattle.nv_cli.specs.Due.{RunOwes, RunComesTo}
 use Rattle.nv_cli.specs.Prepared.{prepared, version_of}
--- The account is the plain sequential monitor's over the script's kernel, the rules and the machines of the versions.
+-- The account is the sequential monitor's over the script's kernel, the rules, the machines of the versions and the script's planned lengths.
 use Rattle.nv_cli.specs.Account.{IsRunOf, begun}
 use Rattle.nv_kernel.specs.Serving.{start_of_script}
 use Rattle.nv_replay.specs.Follow.{judge_of}
-use Rattle.nv_replay.specs.Sequence.{sequence}
--- Each version has one fate and led at most one part of the log; one that exited without a rewrite would come to the same log alone.
+use Rattle.nv_replay.specs.Monitor.{sequence}
+-- Each version has one fate, and each event lies in exactly one of the spans that they led; where no length is planned each led at most one.
+use Rattle.nv_replay.specs.Covers.{AreEnded, Covers}
 use Rattle.nv_replay.specs.Accounts.{AreSettled}
-use Rattle.nv_replay.specs.Alone.{SurvivorsAgree}
+-- A version that exited without a rewrite would come to the same log alone.
+use Rattle.nv_replay.specs.Survivors.{SurvivorsAgree}
 -- A command over one file owes what it makes of the file.
 use Rattle.nv_cli.specs.Due.{JobOwes}
 use Rattle.nv_cli.specs.Made.{made_of}

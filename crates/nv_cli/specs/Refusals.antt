@@ -150,6 +150,11 @@ VersionsRefused limits setup (refusal.Unreadable place) holds names before now t
 VersionsRefused limits setup (refusal.Input place cause) holds names before now taken later =
     VersionsCome limits setup holds 0 names (Refused place cause) × (now ≡ before) × (cause ≡ Long → TookLong taken later)
 
+-- the lengths at which the leader hands over are the script's, at most eight
+pub record IsPlanned (setup : Setup) (hands : List ℕ) : Type 0 where
+  pub same : hands ≡ setup.hands
+  pub few : length hands ≤ 8
+
 -- a kernel over what the script says, rules, and versions that are ready to run, to which the files come
 pub record IsPrepared (log : List Entry) (setup : Setup) (rules : Option (List Op)) (versions : List (Running Proc)) (holds : List ℕ → Told) (plan : Plan) : Type 0 where
   pub empty : log ≡ []

@@ -16,8 +16,8 @@ use std::alloc::{AllocError, Global};
 use std::sync::Wait;
 use std::thread::Threads;
 
-/// Runs the versions over the kernel, each with its seat in one room, on threads of the host. What they come to is the
-/// account of the plain sequential monitor.
+/// Runs the versions over the kernel, each with its seat in one room, on threads of the host. The leader hands over at
+/// these lengths of the log. What they come to is the account of the sequential monitor.
 pub fn run<R: Threads + Wait + Sync, K: SyscallKernel, G: Gate + Sync>(
     rt: &R,
     alloc: Global,
@@ -26,18 +26,20 @@ pub fn run<R: Threads + Wait + Sync, K: SyscallKernel, G: Gate + Sync>(
     kernel: K,
     gate: &G,
     limits: Limits,
+    hands: &Vec<u32>,
 ) -> Result<Account<K>, AllocError>
     requires fresh { AreFresh threads 0 versions.items }
     requires few { length versions.items ≤ 8 }
     requires empty { K.log kernel ≡ [] }
+    requires hands { length hands.now.items ≤ 8 }
     ensures start { IfOk result (λ r. K.start r.kernel ≡ K.start kernel) }
-    ensures account { IfOk result (λ r. IsAccount threads (judge_of (option_map (λ f. f.now) rules.entry)) (K.start kernel) limits.calls versions.items r.versions.items (K.log r.kernel)) }
+    ensures account { IfOk result (λ r. IsAccount threads (judge_of (option_map (λ f. f.now) rules.entry)) (K.start kernel) limits.calls hands.now.items versions.items r.versions.items (K.log r.kernel)) }
 {
     if versions.is_empty() {
         return Ok(Account { kernel, versions });
     }
     let stations = versions.len() as u32;
-    let (room, readers, lead) = Room::make(alloc, kernel, stations, limits.ring)?;
+    let (room, readers, lead) = Room::make(alloc, kernel, stations, limits.ring, hands)?;
     let workers = staff(alloc, versions, readers, lead)?;
     let ran = run_all(
         rt,
@@ -47,6 +49,7 @@ pub fn run<R: Threads + Wait + Sync, K: SyscallKernel, G: Gate + Sync>(
         rules,
         gate,
         limits.calls,
+        hands,
         limits.threads,
     )?;
     Ok(end(ran))

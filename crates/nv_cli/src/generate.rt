@@ -8,6 +8,7 @@ ghost use Rattle.nv_script.specs.Scripts.{is_script};
 ghost use Rattle.nv_script.specs.Views.{setup_of};
 ghost use Rattle.nv_threads.specs.Threads.{threads};
 ghost use Rattle.nv_cli.specs.Generated.{IsFrom, AreFrom, IsGenerated, Runs};
+ghost use Rattle.nv_cli.specs.Refusals.{IsPlanned};
 ghost use Rattle.nv_cli.specs.declared.refusal.Refusal.TheVariants.{Memory};
 
 use crate::prepare::{Prepared, filter_in, load, script_in, version};
@@ -88,6 +89,7 @@ fn read_versions(alloc: Global, script: &Script, files: &[Vec<u8>]) -> Result<Ve
 /// Makes the run of a number: its kernel, its rules and its versions, with the limits that a run usually has.
 pub fn generate(alloc: Global, number: u32) -> Result<Prepared, Refusal>
     requires { number ≤ 999_999 }
+    ensures planned { IfOk result (λ ready. IsPlanned ready.kernel.setup ready.hands.items) }
     ensures ready { IfOk result (λ ready. IsGenerated number ready.kernel.log ready.kernel.setup ready.rules ready.versions.items) }
     ensures memory { IfErr result (λ refusal. refusal ≡ Memory) }
 {
@@ -101,5 +103,6 @@ pub fn generate(alloc: Global, number: u32) -> Result<Prepared, Refusal>
         kernel,
         rules: Some(rules),
         versions,
+        hands: script.hands,
     })
 }

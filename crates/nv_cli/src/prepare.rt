@@ -11,7 +11,7 @@ ghost use Rattle.nv_cli.specs.Account.{begun};
 ghost use Rattle.nv_command.specs.Seen.{limits_view, names_view, rules_view, plan_view};
 ghost use Rattle.nv_cli.specs.Prepared.{Loads, version_of};
 ghost use Rattle.nv_cli.specs.Found.{IsReadOf};
-ghost use Rattle.nv_cli.specs.Refusals.{ReadRefused, Refuses, IsScriptRefusal, IsFilterRefusal, HasRules, RulesRefused, IsVersionRefusal, VersionRefused, VersionsRefused, HasLoaded, AreLoaded, IsPrepared};
+ghost use Rattle.nv_cli.specs.Refusals.{ReadRefused, Refuses, IsScriptRefusal, IsFilterRefusal, HasRules, RulesRefused, IsVersionRefusal, VersionRefused, VersionsRefused, HasLoaded, AreLoaded, IsPlanned, IsPrepared};
 
 use crate::refusal::{Cause, Place, Refusal};
 use nv_bpf::{Filter, FilterFault};
@@ -27,12 +27,14 @@ use std::alloc::Global;
 
 const MOST_BYTES: u32 = 4_194_304;
 
-/// A kernel that has served nothing, the filter that judges followers, and versions that haven't run.
+/// A kernel that has served nothing, the filter that judges followers, versions that haven't run, and the lengths of the
+/// log at which the leader hands over.
 #[derive(Drop)]
 pub struct Prepared {
     pub kernel: ScriptKernel,
     pub rules: Option<Filter>,
     pub versions: Vec<Version>,
+    pub hands: Vec<u32>,
 }
 
 // Reads a whole file.
@@ -201,6 +203,7 @@ fn read_versions<F: Files>(
 /// Reads the script, the rules if they are named, and the versions in order, and loads them. Each file is checked before the next is read.
 pub fn prepare<F: Files>(alloc: Global, files: &mut F, plan: &Run<'_>) -> Result<Prepared, Refusal>
     ensures ready { IfOk result (λ ready. IsPrepared ready.kernel.log ready.kernel.setup ready.rules ready.versions.items (F.holds files.old) (plan_view plan.now)) }
+    ensures planned { IfOk result (λ ready. IsPlanned ready.kernel.setup ready.hands.items) }
     ensures refused { IfErr result (λ refusal. Refuses refusal (F.holds files.old) (plan_view plan.now)
         (F.faults files.old) (F.faults files.new) (F.taken files.old) (F.taken files.new)) }
     ensures faults { OnOk result (F.faults files.new ≡ F.faults files.old) }
@@ -221,6 +224,7 @@ pub fn prepare<F: Files>(alloc: Global, files: &mut F, plan: &Run<'_>) -> Result
                 kernel,
                 rules,
                 versions,
+                hands: script.hands,
             })
         }
         Err(refusal) => Err(refusal),

@@ -12,6 +12,7 @@ ghost use Rattle.nv_report.specs.Report.{report_text};
 ghost use Rattle.nv_report.specs.Json.{json_text};
 ghost use Rattle.nv_cli.specs.Due.{Says, Answers, Completes, Rejects};
 ghost use Rattle.nv_cli.specs.Ran.{Wrote, Tells, RunSays};
+ghost use Rattle.nv_cli.specs.Refusals.{IsPlanned};
 ghost use Rattle.nv_gen.specs.Plans.{outcome_in};
 ghost use Rattle.nv_cli.specs.Generated.{IsGenerated};
 ghost use Rattle.nv_cli.specs.Summing.{SumsUp};
@@ -68,6 +69,7 @@ fn run_versions<R: Threads + Wait + Sync, S: Sink, G: Gate + Sync>(
     kernel: ScriptKernel,
     rules: Option<&Filter>,
     versions: Vec<Version>,
+    hands: &Vec<u32>,
     limits: Limits,
     json: bool,
     sink: &mut S,
@@ -76,10 +78,11 @@ fn run_versions<R: Threads + Wait + Sync, S: Sink, G: Gate + Sync>(
     requires empty { kernel.log ≡ [] }
     requires fresh { AreFresh threads 0 versions.items }
     requires few { length versions.items ≤ 8 }
+    requires planned { IsPlanned kernel.setup hands.now.items }
     ensures { (machines : List Machine) → map process_of versions.items ≡ map (begun (limits_view limits)) machines
         → RunSays (limits_view limits) json kernel.setup (option_map (λ f. f.now) rules.entry) machines (S.told sink.old) (S.faults sink.old) result (S.told sink.new) (S.faults sink.new) }
 {
-    let Ok(account) = run(rt, alloc, versions, rules, kernel, gate, limits) else {
+    let Ok(account) = run(rt, alloc, versions, rules, kernel, gate, limits, hands) else {
         return put_line(sink, b"varan: memory\n", MEMORY);
     };
     if json {
@@ -178,6 +181,7 @@ fn do_run<R: Threads + Wait + Sync, F: Files, S: Sink, G: Gate + Sync>(
                 kernel,
                 rules,
                 versions,
+                hands,
             },
         ) => run_versions(
             rt,
@@ -185,6 +189,7 @@ fn do_run<R: Threads + Wait + Sync, F: Files, S: Sink, G: Gate + Sync>(
             kernel,
             rules.as_ref(),
             versions,
+            &hands,
             plan.limits,
             plan.json,
             sink,
@@ -228,16 +233,27 @@ fn sum_up<R: Threads + Wait + Sync, S: Sink, G: Gate + Sync>(
     sink: &mut S,
     gate: &G,
 ) -> u8
-    requires { IsGenerated number made.kernel.log made.kernel.setup made.rules made.versions.items }
+    requires made { IsGenerated number made.kernel.log made.kernel.setup made.rules made.versions.items }
+    requires planned { IsPlanned made.kernel.setup made.hands.items }
     ensures { SumsUp number (S.told sink.old) (S.faults sink.old) result (S.told sink.new) (S.faults sink.new) }
 {
     let Prepared {
         kernel,
         rules,
         versions,
+        hands,
     } = made;
     let limits = Limits::usual();
-    let Ok(account) = run(rt, alloc, versions, rules.as_ref(), kernel, gate, limits) else {
+    let Ok(account) = run(
+        rt,
+        alloc,
+        versions,
+        rules.as_ref(),
+        kernel,
+        gate,
+        limits,
+        &hands,
+    ) else {
         return put_line(sink, b"varan: memory\n", MEMORY);
     };
     if starved(&account.versions) {

@@ -4,5 +4,6 @@ mod judged;
 mod line;
 mod linker;
 mod made;
+mod planned;
 mod several;
 mod threads;

@@ -7,7 +7,7 @@ use Rattle.nv_cli.proofs.beside.run.Goals as goal
 
 pub returns-then-is_empty-clause-account : goal.returns-then-is_empty-clause-account
 returns-then-is_empty-clause-account g c =
-    no_versions threads (judge_of (option_map (λ f. f.now) c.args.rules)) (g.K.SyscallKernel.start c.args.kernel) c.args.limits.calls c.args.versions.items (g.K.SyscallKernel.log c.args.kernel)
+    no_versions threads (judge_of (option_map (λ f. f.now) c.args.rules)) (g.K.SyscallKernel.start c.args.kernel) c.args.limits.calls c.args.hands.now.items c.args.versions.items (g.K.SyscallKernel.log c.args.kernel)
     (search rules) c.requires.empty
 
 pub staff-requires-clause-seats : goal.staff-requires-clause-seats

@@ -7,9 +7,11 @@ use Rattle.nv_gen_laws.specs.Texts.{bare, asks_beside_writes}
 use Rattle.nv_gen_laws.proofs.Reading.{script_read, rules_read}
 use Rattle.nv_command.specs.Words.{usual}
 use Rattle.nv_script.specs.Scripts.{Setup}
+use Rattle.nv_script.specs.Views.{setup_of}
 use Rattle.nv_cli.specs.Prepared.{of_elf}
 use Rattle.nv_cli.specs.Generated.{Runs, IsGenerated}
 use Rattle.nv_cli.proofs.Generating.{can_run, all_made, few_made, length-made}
+use Rattle.nv_cli.proofs.Planned.{planned_by}
 use Rattle.nv_cli.proofs.generate.generate.Goals as goal
 
 pub read_versions-requires-clause-run : goal.read_versions-requires-clause-run
@@ -45,3 +47,6 @@ returns-clause-ready c =
       fresh = c.in_ok-versions.ensures.fresh;
       few = (let short = few_made n files read in let count = length-made bare files versions from in omega arith);
     })
+
+pub returns-clause-planned : goal.returns-clause-planned
+returns-clause-planned c = planned_by c.in_ok-kernel.kernel.setup (setup_of c.in_ok-script.script) c.in_ok-kernel.ensures.1 c.in_ok-script.ensures.sound

@@ -10,6 +10,7 @@ use Rattle.nv_cli.specs.Found.{IsReadOf}
 use Rattle.nv_cli.specs.Prepared.{Ready}
 use Rattle.nv_cli.specs.Refusals.{AreLoaded, HasRules, IsPrepared, RulesRefused, VersionsRefused}
 use Rattle.nv_cli.proofs.Loading.{all_ready, script_unread, script_refuses, script_accepted, rules_ready, rest_by_rules, rest_by_versions, run_refused, length-loaded}
+use Rattle.nv_cli.proofs.Planned.{planned_by}
 use Rattle.nv_cli.proofs.prepare.prepare.Goals as goal
 
 pub returns-in-Ok-read_versions-clause-ready : goal.returns-in-Ok-read_versions-clause-ready
@@ -83,3 +84,7 @@ returns-in-Err-clause-refused g c =
     let told = holds c.args.plan.now.script.now in
     let read : IsReadOf c.deref.result.now told = subst (λ (bytes : List ℕ). IsReadOf bytes told) (sym c.deref.ensures.value) c.in_ok-bytes.ensures.bytes in
     script_refuses c.in-Err.refusal holds (plan_view c.args.plan.now) c.deref.result.now _ _ _ _ read c.in_ok-bytes.ensures.faults c.in-Err.ensures.refused
+
+pub returns-in-Ok-read_versions-clause-planned : goal.returns-in-Ok-read_versions-clause-planned
+returns-in-Ok-read_versions-clause-planned g c =
+    planned_by c.in_ok-kernel-in-Ok-read_versions.kernel.setup (setup_of c.in-Ok.script) c.in_ok-kernel-in-Ok-read_versions.ensures.1 c.in-Ok.ensures.sound

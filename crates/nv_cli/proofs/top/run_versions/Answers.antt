@@ -23,7 +23,7 @@ returns-then-json g c = λ machines are.
     c.in-Ok.ensures.start c.put_json.ensures in
     ⊎_elim (λ said. inl (record {
       account = record { log = log; lines = lines };
-      is_run = run_of limits setup rules machines c.args.versions.items c.in-Ok.account.versions.items log c.in-Ok.ensures.account are;
+      is_run = run_of limits setup rules machines c.args.hands.now.items c.args.versions.items c.in-Ok.account.versions.items log c.requires.planned c.in-Ok.ensures.account are;
       says = rw c.if-json.true said;
     })) inr says
 
@@ -36,7 +36,7 @@ returns g c = λ machines are.
     let rules = option_map (λ f. f.now) c.args.rules in
     inl (record {
       account = record { log = log; lines = lines };
-      is_run = run_of limits setup rules machines c.args.versions.items c.in-Ok.account.versions.items log c.in-Ok.ensures.account are;
+      is_run = run_of limits setup rules machines c.args.hands.now.items c.args.versions.items c.in-Ok.account.versions.items log c.requires.planned c.in-Ok.ensures.account are;
       says = rw c.if-json.false (subst
           (λ (s : Start). Says (report_text (output_of s log) (record { log = log; lines = lines }))
           (run_status lines) (g.S.Sink.told c.args.sink.now) (g.S.Sink.faults c.args.sink.now) c.put_report.result (g.S.Sink.told c.put_report.new.sink) (g.S.Sink.faults c.put_report.new.sink))

@@ -7,12 +7,16 @@ use Rattle.nv_kernel.specs.Serving.{start_of_script}
 use Rattle.nv_replay.specs.Follow.{judge_of}
 use Rattle.nv_replay.specs.Lead.{is_memory}
 use Rattle.nv_replay.specs.Sequence.{Account, cuts_of}
-use Rattle.nv_replay.specs.Versions.{Running, standing_of}
+use Rattle.nv_replay.specs.Versions.{Running, process_of, standing_of}
 use Rattle.nv_threads.specs.Threads.{Proc}
 use Rattle.nv_command.specs.Seen.{limits_view}
+use Rattle.nv_command.specs.Words.{Limits}
+use Rattle.nv_cli.specs.Account.{begun}
 use Rattle.nv_cli.specs.Due.{Says}
 use Rattle.nv_cli.specs.Outcome.{NoMemory, Summed, told}
-use Rattle.nv_cli.proofs.Generating.{few_lines, made_owes}
+use Rattle.nv_cli.proofs.Counted.{few_lines}
+use Rattle.nv_cli.proofs.Generating.{made_owes}
+use Rattle.nv_cli.proofs.Running.{run_of}
 use Rattle.nv_cli.proofs.top.sum_up.Goals as goal
 
 pub returns-in_default : goal.returns-in_default
@@ -24,8 +28,8 @@ returns-then-starved g c = record { outcome = NoMemory; owed = inr refl; says = 
 pub outcome-requires-after_bounds : goal.outcome-requires-after_bounds
 outcome-requires-after_bounds g c κs =
     few_lines (judge_of (option_map (λ f. f.now) c.as_ref.result)) (start_of_script c.args.made.kernel.setup) c.usual-limits.result.calls
-    (cuts_of (map standing_of c.in-Ok.account.versions.items)) c.args.made.versions.items c.in-Ok.account.versions.items c.in-Ok.account.kernel.log
-    c.in-Ok.ensures.account.account c.requires.few
+    (cuts_of (map standing_of c.in-Ok.account.versions.items)) c.args.made.hands.items c.args.made.versions.items c.in-Ok.account.versions.items c.in-Ok.account.kernel.log
+    c.in-Ok.ensures.account.account c.requires.made.few
 
 pub returns-in-Ok-summary : goal.returns-in-Ok-summary
 returns-in-Ok-summary g c =
@@ -34,15 +38,19 @@ returns-in-Ok-summary g c =
     let log = c.in-Ok.account.kernel.log in
     let lines = map standing_of c.in-Ok.account.versions.items in
     let account : Account = record { log = log; lines = lines } in
-    let run = c.in-Ok.ensures.account in
+    let made = c.requires.made in
+    let limits = limits_view c.usual-limits.result in
+    let rules = option_map (λ f. f.now) c.as_ref.result in
+    let begin : map process_of c.args.made.versions.items ≡ map (begun limits) made.machines =
+    made.processes ∙ ap (λ (x : Limits). map (begun x) made.machines) (sym c.usual-limits.ensures) in
+    let run = run_of limits setup rules made.machines c.args.made.hands.items c.args.made.versions.items c.in-Ok.account.versions.items log c.requires.planned c.in-Ok.ensures.account begin in
     let never : list_any (λ line. is_memory line.fate) lines ≡ false =
     ap (λ (versions : List (Running Proc)). list_any (λ line. is_memory line.fate) (map standing_of versions)) (sym c.deref.ensures.value) ∙ sym c.starved.ensures ∙ c.if-starved.false in
     let text : c.deref-in-Ok-summary.result.now ≡ summary n (told (output_of (start_of_script setup) log) account) =
     c.deref-in-Ok-summary.ensures.value ∙ c.in-Ok-summary.ensures ∙ ap (summary n) (c.outcome.ensures ∙ ap (λ (start : Start). told (output_of start log) account) c.in-Ok.ensures.start) in
     record {
       outcome = Summed n setup account;
-      owed = inl (made_owes n setup c.args.made.rules (option_map (λ f. f.now) c.as_ref.result) c.requires.machines _ (limits_view c.usual-limits.result) account c.requires.run
-          c.as_ref.ensures.value c.usual-limits.ensures c.requires.processes run.account run.settled run.survivor never);
+      owed = inl (made_owes n setup c.args.made.rules rules made.machines limits account made.run c.as_ref.ensures.value c.usual-limits.ensures run never);
       says = subst (λ (line : List ℕ). Says line 0 (g.S.Sink.told c.args.sink.now) (g.S.Sink.faults c.args.sink.now) c.put_line-in-Ok-summary.result (g.S.Sink.told c.put_line-in-Ok-summary.new.sink) (g.S.Sink.faults c.put_line-in-Ok-summary.new.sink))
           text c.put_line-in-Ok-summary.ensures;
     }
