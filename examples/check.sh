@@ -59,6 +59,8 @@ row 0 expected/bad_update run --script script "$work/service_2" "$work/service_1
 row 0 expected/patched_without_rules run --script script "$work/service_1" "$work/service_3"
 row 0 expected/patched run --script script --rules "$work/rules" "$work/service_1" "$work/service_3"
 row 0 expected/all run --script script --rules "$work/rules" "$work/service_2" "$work/service_3" "$work/service_1"
+row 0 expected/live_update run --script update --rules "$work/rules" "$work/service_1" "$work/service_3"
+row 0 expected/bad_live_update run --script update "$work/service_1" "$work/service_2"
 
 if command -v jq >/dev/null; then
     calls expected/calls --script script "$work/service_2" "$work/service_1"
