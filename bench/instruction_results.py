@@ -1,5 +1,5 @@
 #!/usr/bin/env python3
-"""Runs each instruction of RV32IMA on edge values under qemu-riscv32, and compares what it did with the rows of crates/nv_machine/src/tests: results.rt has the
+"""Runs each instruction of RV32IMA on edge values under qemu-riscv32, and compares what it did with the rows of crates/nv_machine_tests/src/steps: results.rt has the
 instructions of RV32I and M, atomics.rt those of A.
 
 Needs riscv64-unknown-elf-as and -ld (Debian's package binutils-riscv64-unknown-elf) and qemu-riscv32 (qemu-user).
@@ -25,7 +25,7 @@ import subprocess
 import sys
 import tempfile
 
-TESTS = pathlib.Path(__file__).resolve().parent.parent / "crates/nv_machine/src/tests"
+TESTS = pathlib.Path(__file__).resolve().parent.parent / "crates/nv_machine_tests/src/steps"
 BEFORE = 0x5A5A5A5A
 MEMORY = bytes.fromhex("80ff7f01fe00817e")
 EDGES = [0, 1, 0x7FFFFFFF, 0x80000000, 0xFFFFFFFF, 0x12345678]

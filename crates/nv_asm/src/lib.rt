@@ -12,8 +12,6 @@ mod place;
 mod placed;
 mod statements;
 mod strings;
-#[cfg(test)]
-mod tests;
 
 pub use assembling::assemble;
 pub use fault::{AsmCause, AsmFault};

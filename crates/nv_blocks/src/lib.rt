@@ -5,7 +5,5 @@ mod block;
 mod blocks;
 mod copying;
 mod holding;
-#[cfg(test)]
-mod tests;
 
 pub use blocks::Blocks;

@@ -6,8 +6,6 @@ mod filter;
 mod lines;
 mod op;
 mod reading;
-#[cfg(test)]
-mod tests;
 mod writing;
 
 pub use action::{Action, Arithmetic, Comparison, Operand, Register, decode};

@@ -8,8 +8,6 @@ mod label;
 mod labels;
 mod statements;
 mod targets;
-#[cfg(test)]
-mod tests;
 
 pub use assembling::assemble;
 pub use fault::{RuleCause, RuleFault};

@@ -6,6 +6,3 @@ mod texts;
 
 pub use fields::{put_u32, put_u64, u16_at, u32_at, u64_at};
 pub use texts::{decimal, hex_pair, number, unhex};
-
-#[cfg(test)]
-mod tests;

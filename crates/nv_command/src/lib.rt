@@ -11,6 +11,3 @@ mod simple;
 pub use asked::{Command, Job, LineFault, Run, Tool};
 pub use limits::Limits;
 pub use reading::read;
-
-#[cfg(test)]
-mod tests;

@@ -12,8 +12,6 @@ mod reading;
 mod resolving;
 mod seeking;
 mod tables;
-#[cfg(test)]
-mod tests;
 mod writing;
 
 pub use disk::FileSystem;

@@ -3,11 +3,9 @@
 
 mod code;
 mod made;
-mod outcome;
+mod totals;
 mod plan;
-#[cfg(test)]
-mod tests;
 mod version;
 
 pub use made::{Made, make};
-pub use outcome::{Outcome, summary};
+pub use totals::{Totals, summary};

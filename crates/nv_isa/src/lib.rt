@@ -7,8 +7,6 @@ mod encoding;
 mod fields;
 mod laws;
 mod op;
-#[cfg(test)]
-mod tests;
 
 pub use decoding::{decode, operation};
 pub use encoding::encode;

@@ -2,7 +2,5 @@
 #![tactic(auto)]
 
 mod lanes;
-#[cfg(test)]
-mod tests;
 
 pub use lanes::{LANES, Lanes};

@@ -6,8 +6,6 @@ mod alu;
 mod outcome;
 mod regs;
 mod stepping;
-#[cfg(test)]
-mod tests;
 
 pub use outcome::{FaultKind, Stepped};
 pub use regs::Regs;

@@ -5,8 +5,6 @@ mod bytes;
 mod memory;
 mod ranges;
 mod region;
-#[cfg(test)]
-mod tests;
 
 pub use memory::Memory;
 pub use region::{Access, Region, Right, Width};

@@ -2,7 +2,5 @@
 #![tactic(auto)]
 
 mod spot;
-#[cfg(test)]
-mod tests;
 
 pub use spot::{PLACE_WORDS, Spot};

@@ -3,7 +3,5 @@
 
 mod calls;
 mod pool;
-#[cfg(test)]
-mod tests;
 
 pub use pool::Pool;

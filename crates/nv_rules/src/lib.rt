@@ -6,8 +6,6 @@ mod machine;
 mod outcome;
 mod pair;
 mod running;
-#[cfg(test)]
-mod tests;
 
 pub use judging::verdict;
 pub use outcome::Verdict;

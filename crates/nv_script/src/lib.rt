@@ -9,8 +9,6 @@ mod form;
 mod kind;
 mod reading;
 mod script;
-#[cfg(test)]
-mod tests;
 
 pub use fault::{ScriptCause, ScriptFault};
 pub use reading::read;

@@ -1,5 +1,5 @@
-use crate::{RuleCause, RuleFault, assemble};
 use nv_bpf::{FilterFault, write};
+use nv_bpf_asm::{RuleCause, RuleFault, assemble};
 use std::test::Fail;
 
 // Each form of instruction, with the text that `tcpdump -ddd` would print of it: the codes are those of Linux's bpf_common.h and filter.h.
@@ -22,7 +22,7 @@ fn assembled_texts(rt: HostRuntime) -> Result<(), Fail> {
             "ja end\njeq x, b, end\njgt #1, b, end\nb: jge x, end, c\nc: jset #2, d, end\nd: jset x, end, end\njge #3, end, end\njgt x, end, end\nend: ret #0\n",
             "9\n5 0 0 7\n29 1 6 0\n37 0 5 1\n61 4 0 0\n69 0 3 2\n77 2 2 0\n53 1 1 3\n45 0 0 0\n6 0 0 0\n",
         ),
-        // blanks, comments, empty lines, labels alone and labels with a statement directly behind
+        // blanks, comments, empty lines, labels alone and labels with a statement directly after
         (
             "; a filter\n\n \tld\t#00  ; zero\n  ja end;\nother:ret #1\nend:\n_2: ; two labels of one place\n  ret   a  ",
             "4\n0 0 0 0\n5 0 0 1\n6 0 0 1\n22 0 0 0\n",
@@ -103,7 +103,7 @@ fn refused_texts(rt: HostRuntime) {
             "ja a\nret #0\na: ret #1\nja a\na: ret #0",
             RuleFault::Line(4, RuleCause::Far),
         ),
-        // a label behind the last instruction
+        // a label after the last instruction
         (
             "ja end\nret #0\nend:",
             RuleFault::Filter(FilterFault::Jump(0)),

@@ -1,4 +1,4 @@
-use crate::{Access, Memory, Region, Right, Width};
+use nv_memory::{Access, Memory, Region, Right, Width};
 use std::test::Fail;
 
 // Fields in little-endian order, in a region that may be read and written.

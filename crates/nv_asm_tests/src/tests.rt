@@ -1,5 +1,5 @@
 // Texts with answers from outside.
-use crate::{AsmCause, AsmFault, assemble};
+use nv_asm::{AsmCause, AsmFault, assemble};
 use nv_bytes::unhex;
 use nv_elf::{Program, write};
 use std::alloc::Global;
@@ -303,7 +303,7 @@ fn accepted(rt: HostRuntime) {
     }
 }
 
-// A text of so many repetitions of a part behind a front.
+// A text of so many repetitions of a part after a prefix.
 fn repeated(alloc: Global, front: &str, part: &str, count: u32) -> Result<String, Fail> {
     let mut text = String::from_str(alloc, front)?;
     for _ in 0..count {

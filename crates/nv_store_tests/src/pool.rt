@@ -1,4 +1,4 @@
-use crate::Pool;
+use nv_pool::Pool;
 use std::test::Fail;
 
 #[test]

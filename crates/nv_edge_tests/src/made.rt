@@ -1,5 +1,5 @@
 // What the definitions don't say of themselves: rows that were worked out by hand.
-use crate::{Outcome, make, summary};
+use nv_gen::{Totals, make, summary};
 use std::test::Fail;
 
 // addi a0, x0, 1; lui a1, 0x10; addi a2, x0, 8; addi a7, x0, 64; ecall.
@@ -18,7 +18,7 @@ const EXIT: [u8; 12] = [
     0x13, 0x05, 0x00, 0x00, 0x93, 0x08, 0xe0, 0x05, 0x73, 0x00, 0x00, 0x00,
 ];
 
-// Where the code of a file with one segment begins, behind the bytes to write.
+// Where the code of a file with one segment begins, after the bytes to write.
 const CODE: usize = 84 + 64;
 
 #[test]
@@ -48,13 +48,13 @@ fn seven_makes_three_versions(rt: HostRuntime) -> Result<(), Fail> {
 
 #[test]
 fn a_run_is_summed_up(rt: HostRuntime) -> Result<(), Fail> {
-    let outcome = Outcome {
+    let totals = Totals {
         output: 8056,
         log: 1050,
         exited: 1,
         rewrites: 40,
     };
-    let line = summary(rt.alloc(), 7, &outcome)?;
+    let line = summary(rt.alloc(), 7, &totals)?;
     let row = b"gen 7 versions 3 output 8056 log 1050 exited 1 rewrites 40\n";
     assert_eq!(rt; line.as_slice(), row.as_slice());
     Ok(())

@@ -1,6 +1,6 @@
-use crate::{Pair, Verdict, pair_of, value, verdict};
 use nv_bpf::read;
 use nv_calls::{Bytes, Call, Event, Reply};
+use nv_rules::{Pair, Verdict, pair_of, value, verdict};
 use std::alloc::{AllocError, Global};
 use std::process::Abort;
 use std::test::Fail;
@@ -106,7 +106,7 @@ const PRINTED: [(&str, u32); 7] = [
     ),
 ];
 
-// A filter that bpfc 0.6.8 printed with -f tcpdump, behind its count, of this text:
+// A filter that bpfc 0.6.8 printed with -f tcpdump, after its count, of this text:
 //         ld [0]
 //         jeq #64, write, other
 //  write: ld [64]

@@ -1,5 +1,5 @@
-use crate::ScriptCause::{Form, Long, Range, Shape, Twice, Word};
-use crate::{Script, ScriptFault, read};
+use nv_script::ScriptCause::{Form, Long, Range, Shape, Twice, Word};
+use nv_script::{Script, ScriptFault, read};
 use std::alloc::Global;
 use std::process::Abort;
 use std::test::Fail;
@@ -233,7 +233,7 @@ fn most_lines(rt: HostRuntime) -> Result<(), Fail> {
     Ok(())
 }
 
-// A file of this many bytes, behind another of that name or not.
+// A file of this many bytes, after another of that name or not.
 fn file_of_length(alloc: Global, start: &str, count: u32) -> Result<Option<ScriptFault>, Fail> {
     let mut text = String::from_str(alloc, start)?;
     for _ in 0..count {

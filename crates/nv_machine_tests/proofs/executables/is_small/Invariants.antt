@@ -1,7 +1,7 @@
 use Rattle.std.proofs.Common.{◌≡◌, ◌+◌, map, drop}
 use Rattle.nv_elf.specs.Elf.{range_of}
 use Rattle.nv_elf.specs.Written.{bytes_in}
-use Rattle.nv_elf.proofs.tests.is_small.Given as goal
+use Rattle.nv_machine_tests.proofs.executables.is_small.Given as goal
 
 -- what is left is less by the bytes of the segments so far
 abbrev pub invariant-loop-segment : goal.invariant-loop-segment

@@ -1,7 +1,7 @@
 ghost use Rattle.std.specs.Prelude.{◌≡◌, true};
 
-use crate::{FaultKind, Regs, Stepped, step};
 use atomics::ATOMICS;
+use nv_machine::{FaultKind, Regs, Stepped, step};
 use nv_memory::{Memory, Region, Width};
 use results::RESULTS;
 use std::alloc::{AllocError, Global};

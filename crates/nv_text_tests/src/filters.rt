@@ -1,4 +1,4 @@
-use crate::{FilterFault, read, write};
+use nv_bpf::{FilterFault, read, write};
 use std::test::Fail;
 
 // Each fault, and what comes before it.

@@ -1,5 +1,5 @@
-use crate::FileSystem;
 use nv_calls::Bytes;
+use nv_fs::FileSystem;
 use std::alloc::{AllocError, Global};
 use std::test::Fail;
 

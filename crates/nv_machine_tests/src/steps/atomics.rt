@@ -1,5 +1,5 @@
 // What atomic instructions did under qemu-riscv32, as bench/instruction_results.py has them run and written down.
-// before x6 x7 x29 after words instructions: the eight bytes of memory and x6 before the instructions, x7, x29 and the memory behind them. x7 and x29 are
+// before x6 x7 x29 after words instructions: the eight bytes of memory and x6 before the instructions, x7, x29 and the memory after them. x7 and x29 are
 // 5a5a5a5a before; x5 is the address of the memory's first word, x28 that of the second, and nothing is reserved.
 pub const ATOMICS: &str = "
 0000000067452301 0 0 5a5a5a5a 0000000067452301 0862a3af amoswap.w x7, x6, (x5)

@@ -1,4 +1,4 @@
-use crate::Blocks;
+use nv_blocks::Blocks;
 use std::test::Fail;
 
 // A write far behind the end takes its own block, and what lies before it reads as zeros.

@@ -1,4 +1,4 @@
-use crate::Lanes;
+use nv_lanes::Lanes;
 
 const CLONE: u32 = 220;
 

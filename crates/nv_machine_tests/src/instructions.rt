@@ -1,5 +1,5 @@
 //! Words that GNU as (binutils 2.40 for riscv64-unknown-elf) wrote for lines of assembler text.
-use crate::{Insn, Op, decode, encode};
+use nv_isa::{Insn, Op, decode, encode};
 use std::test::Fail;
 
 // The word of each line, and its operation, rd, rs1, rs2 and immediate.

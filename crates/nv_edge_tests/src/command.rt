@@ -1,4 +1,4 @@
-use crate::{Command, Limits, LineFault, Tool, read};
+use nv_command::{Command, Limits, LineFault, Tool, read};
 use std::alloc::{AllocError, Global};
 use std::test::Fail;
 

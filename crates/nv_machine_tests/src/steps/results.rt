@@ -1,5 +1,5 @@
 // What each instruction did under qemu-riscv32, as bench/instruction_results.py has it run and written down.
-// kind word x5 x6 x7 pc memory instruction: x5 and x6 before the instruction, the others behind it. In rows of the kind `pc`, x5 and x7 are counted
+// kind word x5 x6 x7 pc memory instruction: x5 and x6 before the instruction, the others after it. In rows of the kind `pc`, x5 and x7 are counted
 // from the instruction, in those of the kind `at`, x5 is counted from the start of the memory.
 pub const RESULTS: &str = "
 is 006283b3 0 0 0 4 80ff7f01fe00817e add x7, x5, x6

@@ -1,4 +1,4 @@
-use crate::Spot;
+use nv_places::Spot;
 
 // One station: the words of its owner, head and cursor are 24. Eight lanes of two places of six words are 96, then come 12 chunks.
 #[test]

@@ -1,5 +1,5 @@
 // Values from outside.
-use crate::{decimal, hex_pair, number, put_u32, put_u64, u16_at, u32_at, u64_at, unhex};
+use nv_bytes::{decimal, hex_pair, number, put_u32, put_u64, u16_at, u32_at, u64_at, unhex};
 use std::alloc::Global;
 use std::test::Fail;
 

@@ -1,0 +1,9 @@
+//! Tests of the program's edge: words, files and sinks, and runs that are made from a number.
+#![tactic(auto)]
+
+#[cfg(test)]
+mod command;
+#[cfg(test)]
+mod made;
+#[cfg(test)]
+mod outside;
