@@ -49,7 +49,7 @@ front_at old place p h =
       | inr ge ↦ get_or-append_right (take place old) (replicate (place - length old) 0) (length old) p 0 (omega arith) ge ∙ get_or-replicate (place - length old) (p - length old) 0 0 (omega arith) ∙ sym (get_or_past old p 0 ge)
     ]
 
--- a byte behind a write
+-- a byte after a write
 pub with_bytes_at : (old : List ℕ) (place : ℕ) (bytes : List ℕ) (p : ℕ) → get_or (with_bytes old place bytes) p 0 ≡ over place bytes (get_or old p 0) p
 with_bytes_at old place bytes p =
     let before = front old place in
@@ -65,7 +65,7 @@ with_bytes_at old place bytes p =
           ∙ ap (λ (n : ℕ). get_or old n 0) (omega arith) ∙ sym (over_past place bytes (get_or old p 0) p ge)
     ]
 
--- the length behind a write
+-- the length after a write
 pub with_bytes_length : (old : List ℕ) (place : ℕ) (bytes : List ℕ) → length (with_bytes old place bytes) ≡ max (length old) (place + length bytes)
 with_bytes_length old place bytes =
     omega (arith, front_length old place, length-append (front old place) bytes, length-append (front old place ++ bytes) (drop (place + length bytes) old), length-drop (place + length bytes) old)
@@ -81,7 +81,7 @@ written f g len place bytes h z =
     ext_get_or 0 (map g (range_with_len 0 n)) (with_bytes old place bytes) (long ∙ sym (with_bytes_length old place bytes ∙ ap (λ (m : ℕ). max m (place + length bytes)) before))
     (λ i l. get_or-map-range_with_len g 0 n i i 0 (omega arith) (omega arith) ∙ h i ∙ ap (λ (x : ℕ). over place bytes x i) (sym (listed f len z i)) ∙ sym (with_bytes_at old place bytes i))
 
--- behind a write the function is 0 past the new end
+-- after a write the function is 0 past the new end
 pub zero_past : (f g : ℕ → ℕ) (len place : ℕ) (bytes : List ℕ) → ((p : ℕ) → g p ≡ over place bytes (f p) p) → ((p : ℕ) → len ≤ p → f p ≡ 0) → (p : ℕ) → max len (place + length bytes) ≤ p → g p ≡ 0
 zero_past f g len place bytes h z p l = h p ∙ over_past place bytes (f p) p (omega arith) ∙ z p (omega arith)
 

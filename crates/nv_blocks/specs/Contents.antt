@@ -19,7 +19,7 @@ block_at blocks k = slice_index_or blocks k None
 abbrev pub byte_at : List (Option (List ℕ)) → ℕ → ℕ
 byte_at blocks p = byte_in (block_at blocks (p / 4096)) (p % 4096)
 
--- what stands at p behind a write of these bytes at a place, where a byte stood before
+-- what stands at p after a write of these bytes at a place, where a byte stood before
 abbrev pub over : ℕ → List ℕ → ℕ → ℕ → ℕ
 over place bytes before p = if nat_le place p && nat_lt p (place + length bytes) then slice_index bytes (p - place) else before
 

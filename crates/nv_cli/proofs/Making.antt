@@ -9,7 +9,7 @@ use Rattle.nv_outside.specs.declared.files.Got.{Got}
 use Rattle.nv_outside.specs.declared.files.Got.TheVariants.{Bytes}
 use Rattle.nv_cli.specs.Found.{Whole, IsReadOf, TookLong}
 use Rattle.nv_cli.specs.Made.{used, unless_refused}
-use Rattle.nv_cli.specs.Unmade.{Makes, IsUnmade, IsUnused}
+use Rattle.nv_cli.specs.Unmade.{Makes, IsUnmade, IsReasonFor}
 use Rattle.nv_command.specs.declared.asked.Tool.{Tool}
 use Rattle.nv_cli.specs.declared.refusal.Cause.{Cause}
 use Rattle.nv_cli.specs.declared.refusal.Cause.TheVariants.{Long}
@@ -42,7 +42,7 @@ making (Ok text) tool told bytes read h = record { found = Whole bytes; agrees =
 making (Err unmade) tool told bytes read h = tt
 
 pub unmaking : (result : Result (Vec ℕ Global) Unmade) (tool : Tool) (told : Told) (bytes : List ℕ) (before now taken later : ℕ) → IsReadOf bytes told → now ≡ before
-    → IfErr result (λ unmade. IsUnused unmade (used tool bytes)) → IfErr result (λ unmade. IsUnmade unmade tool told before now taken later)
+    → IfErr result (λ unmade. IsReasonFor unmade (used tool bytes)) → IfErr result (λ unmade. IsUnmade unmade tool told before now taken later)
 unmaking (Ok text) tool told bytes before now taken later read kept h = tt
 unmaking (Err Memory) tool told bytes before now taken later read kept h = kept
 unmaking (Err Unreadable) tool told bytes before now taken later read kept h = absurd h

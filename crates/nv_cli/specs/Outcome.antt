@@ -40,8 +40,8 @@ account_text true setup account = json_text (output_of (start_of_script setup) a
 account_text false setup account = report_text (output_of (start_of_script setup) account.log) account
 
 -- what a run came to that left this on the console
-abbrev pub told : List ℕ → Account → gen.Outcome
-told output account = record {
+abbrev pub totals_of : List ℕ → Account → gen.Totals
+totals_of output account = record {
   output = length output;
   log = length account.log;
   exited = count_by (λ line. is_exited line.fate) account.lines;
@@ -56,7 +56,7 @@ text_of (NotRead name) = concat (codes "varan: read " ∷ name ∷ codes "\n" �
 text_of (NotAccepted name cause) = concat (codes "varan: input " ∷ name ∷ codes ": " ∷ cause_text cause ∷ codes "\n" ∷ [])
 text_of (Reported json setup account) = account_text json setup account
 text_of (Made text) = text
-text_of (Summed n setup account) = gen.summary n (told (output_of (start_of_script setup) account.log) account)
+text_of (Summed n setup account) = gen.summary n (totals_of (output_of (start_of_script setup) account.log) account)
 
 abbrev pub status_of : Outcome → ℕ
 status_of Usage = 2

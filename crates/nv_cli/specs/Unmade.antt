@@ -11,10 +11,10 @@ use Rattle.nv_cli.specs.declared.tools.Unmade.{Unmade}
 use Rattle.nv_cli.specs.declared.tools.Unmade.TheVariants.{Memory, Unreadable, Refused}
 
 -- memory is wanted, or what is made of the bytes is this refusal
-abbrev pub IsUnused : Unmade → Result (List ℕ) Cause → Type 0
-IsUnused Memory made = Unit {0}
-IsUnused Unreadable made = ⊥
-IsUnused (Refused cause) made = (made ≡ Err cause) × (cause ≢ Long)
+abbrev pub IsReasonFor : Unmade → Result (List ℕ) Cause → Type 0
+IsReasonFor Memory made = Unit {0}
+IsReasonFor Unreadable made = ⊥
+IsReasonFor (Refused cause) made = (made ≡ Err cause) × (cause ≢ Long)
 
 -- something is found that agrees with what is told, and this is made of it
 pub record Makes (tool : Tool) (told : Told) (made : Result (List ℕ) Unmade) : Type 0 where

@@ -1,7 +1,7 @@
 // The commands over one file.
 ghost use Rattle.std.specs.Prelude.{◌≡◌, ◌≢◌, ◌≤◌, List, ℕ, Ok, Err, IfOk, IfErr, OnOk, length};
 ghost use Rattle.nv_cli.specs.Made.{accepted_text, of_filter, of_rules, of_program, used};
-ghost use Rattle.nv_cli.specs.Unmade.{Makes, IsUnmade, IsUnused};
+ghost use Rattle.nv_cli.specs.Unmade.{Makes, IsUnmade, IsReasonFor};
 ghost use Rattle.nv_cli.specs.declared.tools.Unmade.TheVariants.{Memory};
 ghost use Rattle.nv_bpf.specs.Texts.{filter_of};
 ghost use Rattle.nv_bpf_asm.specs.Assembled.{assembled};
@@ -57,7 +57,7 @@ fn accepted(alloc: Global, ops: u32) -> Result<Vec<u8>, Unmade>
 
 fn check_rules(alloc: Global, bytes: &[u8]) -> Result<Vec<u8>, Unmade>
     ensures text { IfOk result (λ text. of_filter (filter_of 4096 bytes.now) ≡ Ok text.items) }
-    ensures unmade { IfErr result (λ unmade. IsUnused unmade (of_filter (filter_of 4096 bytes.now))) }
+    ensures unmade { IfErr result (λ unmade. IsReasonFor unmade (of_filter (filter_of 4096 bytes.now))) }
 {
     match nv_bpf::read(alloc, bytes) {
         Ok(filter) => accepted(alloc, filter.len()),
@@ -68,7 +68,7 @@ fn check_rules(alloc: Global, bytes: &[u8]) -> Result<Vec<u8>, Unmade>
 
 fn assemble_rules(alloc: Global, bytes: &[u8]) -> Result<Vec<u8>, Unmade>
     ensures text { IfOk result (λ text. of_rules (assembled 4096 bytes.now) ≡ Ok text.items) }
-    ensures unmade { IfErr result (λ unmade. IsUnused unmade (of_rules (assembled 4096 bytes.now))) }
+    ensures unmade { IfErr result (λ unmade. IsReasonFor unmade (of_rules (assembled 4096 bytes.now))) }
 {
     match nv_bpf_asm::assemble(alloc, bytes) {
         Ok(filter) => {
@@ -82,7 +82,7 @@ fn assemble_rules(alloc: Global, bytes: &[u8]) -> Result<Vec<u8>, Unmade>
 
 fn assemble(alloc: Global, bytes: &[u8]) -> Result<Vec<u8>, Unmade>
     ensures text { IfOk result (λ text. of_program (assembled_program bytes.now) ≡ Ok text.items) }
-    ensures unmade { IfErr result (λ unmade. IsUnused unmade (of_program (assembled_program bytes.now))) }
+    ensures unmade { IfErr result (λ unmade. IsReasonFor unmade (of_program (assembled_program bytes.now))) }
 {
     match nv_asm::assemble(alloc, bytes) {
         Ok(program) => {
@@ -96,7 +96,7 @@ fn assemble(alloc: Global, bytes: &[u8]) -> Result<Vec<u8>, Unmade>
 
 fn use_tool(alloc: Global, tool: Tool, bytes: &[u8]) -> Result<Vec<u8>, Unmade>
     ensures text { IfOk result (λ text. used tool bytes.now ≡ Ok text.items) }
-    ensures unmade { IfErr result (λ unmade. IsUnused unmade (used tool bytes.now)) }
+    ensures unmade { IfErr result (λ unmade. IsReasonFor unmade (used tool bytes.now)) }
 {
     match tool {
         Tool::CheckRules => check_rules(alloc, bytes),

@@ -13,10 +13,10 @@ ghost use Rattle.nv_report.specs.Json.{json_text};
 ghost use Rattle.nv_cli.specs.Due.{Says, Answers, Completes, Rejects};
 ghost use Rattle.nv_cli.specs.Ran.{Wrote, Tells, RunSays};
 ghost use Rattle.nv_cli.specs.Refusals.{IsPlanned};
-ghost use Rattle.nv_gen.specs.Plans.{outcome_in};
+ghost use Rattle.nv_gen.specs.Plans.{totals_in};
 ghost use Rattle.nv_cli.specs.Generated.{IsGenerated};
 ghost use Rattle.nv_cli.specs.Summing.{SumsUp};
-ghost use Rattle.nv_cli.specs.Outcome.{NotAccepted, told, name_of, outcome_of, text_of, source_of};
+ghost use Rattle.nv_cli.specs.Outcome.{NotAccepted, totals_of, name_of, outcome_of, text_of, source_of};
 
 use crate::beside::run;
 use crate::endings::{
@@ -29,7 +29,7 @@ use crate::tools::{Unmade, make};
 use nv_bpf::Filter;
 use nv_calls::SyscallKernel;
 use nv_command::{Command, Limits, LineFault, Run, Tool};
-use nv_gen::Outcome;
+use nv_gen::Totals;
 use nv_kernel::ScriptKernel;
 use nv_outside::{Files, Gate, Sink, put_pieces};
 use nv_replay::{Account, Version};
@@ -212,11 +212,11 @@ fn count_rewrites(versions: &[Version]) -> u64
 }
 
 // What a run came to.
-fn outcome<K: SyscallKernel>(account: &Account<K>) -> Outcome
+fn totals<K: SyscallKernel>(account: &Account<K>) -> Totals
     requires { length account.now.versions.items ≤ 8 }
-    ensures { outcome_in result ≡ told (output_of (K.start account.now.kernel) (K.log account.now.kernel)) (record { log = K.log account.now.kernel; lines = map standing_of account.now.versions.items }) }
+    ensures { totals_in result ≡ totals_of (output_of (K.start account.now.kernel) (K.log account.now.kernel)) (record { log = K.log account.now.kernel; lines = map standing_of account.now.versions.items }) }
 {
-    Outcome {
+    Totals {
         output: account.kernel.output().len() as u64,
         log: account.kernel.history().len() as u64,
         exited: count_exited(&account.versions) as u64,
@@ -259,7 +259,7 @@ fn sum_up<R: Threads + Wait + Sync, S: Sink, G: Gate + Sync>(
     if starved(&account.versions) {
         return put_line(sink, b"varan: memory\n", MEMORY);
     }
-    match nv_gen::summary(alloc, number, &outcome(&account)) {
+    match nv_gen::summary(alloc, number, &totals(&account)) {
         Ok(line) => put_line(sink, &line, 0),
         Err(_) => put_line(sink, b"varan: memory\n", MEMORY),
     }

@@ -20,7 +20,7 @@ use Rattle.nv_elf.specs.Written.{is_sound, bytes_in, flags_of, program_header, p
 abbrev pub header_for : ℕ → Range → ProgramHeader
 header_for offset r = record { kind = 1; offset = offset; address = r.address; file_size = length r.bytes; memory_size = r.size; flags = flags_of r }
 
--- the place behind the bytes of a range
+-- the place after the bytes of a range
 abbrev pub behind : ℕ → Range → ℕ
 behind place r = place + padding place + length r.bytes
 
@@ -47,7 +47,7 @@ pub end-above : (place : ℕ) (ranges : List Range) → place ≤ end_from place
 end-above place [] = omega arith
 end-above place (r ∷ ranges) = let next : end_from place (r ∷ ranges) ≡ end_from (behind place r) ranges = refl in omega (arith, end-above (behind place r) ranges)
 
--- the end is behind the bytes and at most three bytes of padding for each range
+-- the end is after the bytes and at most three bytes of padding for each range
 pub end-below : (place : ℕ) (ranges : List Range) → end_from place ranges ≤ place + bytes_in ranges + 3 * length ranges
 end-below place [] = omega arith
 end-below place (r ∷ ranges) =
@@ -96,7 +96,7 @@ length-program_header : (offset : ℕ) (r : Range) → length (program_header of
 unfolding program_header
 length-program_header offset r = refl
 
--- a program header reads back behind other bytes
+-- a program header reads back after other bytes
 header-read : (front rest : List ℕ) (offset : ℕ) (r : Range) → offset < 2 ^ 32 → is_sound r ≡ true →
     header_at (front ++ (program_header offset r ++ rest)) (length front) ≡ header_for offset r
 unfolding header_at

@@ -66,7 +66,7 @@ abbrev pub end_from : ℕ → List Range → ℕ
 end_from place [] = place
 end_from place (r ∷ ranges) = end_from (place + padding place + length r.bytes) ranges
 
--- where the bytes begin behind this many program headers
+-- where the bytes begin after this many program headers
 abbrev pub contents_at : ℕ → ℕ
 contents_at count = 52 + 32 * count
 

@@ -69,7 +69,7 @@ abbrev pub rules : List ℕ
 rules = codes "6\n32 0 0 64\n21 0 3 64\n32 0 0 0\n21 0 1 174\n6 0 0 2147418112\n6 0 0 0\n"
 
 -- what a run came to: the bytes of its output, the events of its log, the versions that exited, and the rewrites of all versions
-pub record Outcome : Type 0 where
+pub record Totals : Type 0 where
   pub output : ℕ
   pub log : ℕ
   pub exited : ℕ
@@ -79,6 +79,6 @@ abbrev pub field : List ℕ → ℕ → List ℕ
 field name value = name ++ decimal value
 
 -- the line that sums the run of a number up
-unfoldable pub summary : ℕ → Outcome → List ℕ
+unfoldable pub summary : ℕ → Totals → List ℕ
 summary n o = field (codes "gen ") n ++ field (codes " versions ") (numbers_of n).versions ++ field (codes " output ") o.output ++ field (codes " log ") o.log
     ++ field (codes " exited ") o.exited ++ field (codes " rewrites ") o.rewrites ++ codes "\n"

@@ -3,7 +3,7 @@ use Rattle.std.specs.Prelude.{ℕ}
 use Rattle.std.proofs.Common.{Vec, Global}
 use Rattle.nv_elf.specs.Elf.{ElfOf, elf_of}
 use Rattle.nv_gen.specs.declared.plan.Plan.{Plan}
-use Rattle.nv_gen.specs.declared.outcome.Outcome.{Outcome}
+use Rattle.nv_gen.specs.declared.totals.Totals.{Totals}
 use Rattle.nv_gen.specs.Made.{Numbers}
 use Rattle.nv_gen.specs.Made as made
 
@@ -14,5 +14,5 @@ numbers_in p = record { versions = p.versions; writes = p.writes; size = p.size;
 abbrev pub read_of : Vec ℕ Global → ElfOf
 read_of file = elf_of file.items
 
-abbrev pub outcome_in : Outcome → made.Outcome
-outcome_in o = record { output = o.output; log = o.log; exited = o.exited; rewrites = o.rewrites }
+abbrev pub totals_in : Totals → made.Totals
+totals_in o = record { output = o.output; log = o.log; exited = o.exited; rewrites = o.rewrites }

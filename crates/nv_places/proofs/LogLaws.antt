@@ -18,7 +18,7 @@ entries_push log e = map-append event_of log (e ∷ [])
 pub entries_length : (log : Log) → length (entries log) ≡ length log
 entries_length log = length-map log event_of
 
--- of an event behind a log, and of those before it
+-- of an event after a log, and of those before it
 pub lane_last : (log : Log) (e : List ℕ) → lane (log ++ e ∷ []) (length log) ≡ lane_in (holders_after (entries log)) (event_of e).call.tid
 lane_last log e = (λ k. lane_at (entries_push log e k) (sym (entries_length log) k)) ∙ lane_at_last (entries log) (event_of e)
 
@@ -36,7 +36,7 @@ unfolding event_of
 tid_begun [] f pos = absurd (omega arith)
 tid_begun (x ∷ xs) f pos = refl
 
--- of an event that stands behind the log, the first word alone tells its lane
+-- of an event that stands after the log, the first word alone tells its lane
 pub lane_begun : (log : Log) (e f : List ℕ) → 0 < length e → lane (log ++ (e ++ f) ∷ []) (length log) ≡ lane (log ++ e ∷ []) (length log)
 lane_begun log e f pos = lane_last log (e ++ f) ∙ ap (lane_in (holders_after (entries log))) (tid_begun e f pos) ∙ sym (lane_last log e)
 
@@ -46,15 +46,15 @@ earlier_begun log e f pos = earlier_last log (e ++ f) ∙ ap (λ (t : ℕ). even
 pub lane_below_8 : (log : Log) (i : ℕ) → lane log i < 8
 lane_below_8 log i = lane_at_below (entries log) i
 
--- two events of the window that stand in one lane, the later of them behind the log
+-- two events of the window that stand in one lane, the later of them after the log
 pub lane_places_apart : (log : Log) (e : List ℕ) (c i : ℕ) → i < length log → length log < i + c → lane (log ++ e ∷ []) i ≡ lane (log ++ e ∷ []) (length log) → earlier (log ++ e ∷ []) i % c ≢ earlier (log ++ e ∷ []) (length log) % c
 lane_places_apart log e c i lt near = lanes_apart (entries (log ++ e ∷ [])) c i (length log) lt near (let n = entries_length (log ++ e ∷ []) in let m = length-append log (e ∷ []) in omega arith)
 
--- what the code goes by: an event behind the log stands in the lane of its thread,
+-- what the code goes by: an event after the log stands in the lane of its thread,
 pub lane_is_taken : (log : Log) (e : List ℕ) → lane (log ++ e ∷ []) (length log) ≡ lane_in (lanes_after log).holders (event_of e).call.tid
 lane_is_taken log e = lane_last log e ∙ ap (λ (hs : Holders). lane_in hs (event_of e).call.tid) (sym (holders_of_taken start (entries log)))
 
--- behind as many events as are counted there
+-- after as many events as are counted there
 pub earlier_is_count : (log : Log) (e : List ℕ) → earlier (log ++ e ∷ []) (length log) ≡ get_or (lanes_after log).counts (lane (log ++ e ∷ []) (length log)) 0
 earlier_is_count log e =
     let tid : ℕ = (event_of e).call.tid in

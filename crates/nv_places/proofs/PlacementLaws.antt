@@ -160,7 +160,7 @@ place_inside n c log i j pos = dite (dec_le 6 j)
     (λ l. let e = place_late n c log i j l in let b = pool_inside n c (chunks_before log i % pool_chunks c) j in omega arith)
     (λ g. let b = early_below n c log i j pos (lt_of_not-le g) in let t = table_holds_places n c in omega arith)
 
--- and behind the owner, the head and the cursors
+-- and after the owner, the head and the cursors
 pub place_behind : (n c : ℕ) (log : Log) (i j k : ℕ) → k < header n → place_of n c log i j ≢ k
 place_behind n c log i j k l e = dite (dec_le 6 j)
     (λ s. let b = late_behind n c log i j s in let a : ℕ = 8 * c * 6 in let b' : a + header n ≤ place_of n c log i j = b in omega arith)
@@ -174,7 +174,7 @@ pub place_stays : (n c : ℕ) (log more : Log) (i j : ℕ) → i < length log �
 unfolding place_of
 place_stays n c log more i j l = λ k. spot n c (lane_stays log more i l k) (earlier_stays log more i l k % c) (before_stays log more i (le_of_lt l) k % pool_chunks c) j
 
--- of an event that stands behind the log, the first word alone tells where its words stand
+-- of an event that stands after the log, the first word alone tells where its words stand
 pub place_begun : (n c : ℕ) (log : Log) (e f : List ℕ) (j : ℕ) → 0 < length e → place_of n c (log ++ (e ++ f) ∷ []) (length log) j ≡ place_of n c (log ++ e ∷ []) (length log) j
 unfolding place_of
 place_begun n c log e f j pos =
@@ -227,7 +227,7 @@ late_apart n c log d e i j w at few a b jl wl q =
     pool_apart n c s t j w (omega arith) (omega arith)
     (sym (place_late n c log i j a) ∙ q ∙ place_late n c log' h w b ∙ ap (λ (k : ℕ). pool_word n c (k % pool_chunks c) w) (before_stays log (e ∷ []) h (le_refl h)))
 
--- words of two events, the later of which stands behind the log and fits while the earlier is kept
+-- words of two events, the later of which stands after the log and fits while the earlier is kept
 pub places_apart : (n c : ℕ) (log : Log) (d e : List ℕ) (f i j w : ℕ) → f ≤ i → get_elem? log i ≡ some d → Fits c log e f → j < length d → w < length e → place_of n c log i j ≢ place_of n c (log ++ e ∷ []) (length log) w
 places_apart n c log d e f i j w from at fits jl wl q =
     let a = at_get log i d d at in

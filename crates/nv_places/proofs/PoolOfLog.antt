@@ -29,7 +29,7 @@ before_is log i = sum_same (take i log) ∙ ap (sum_by chunks_of) (sym (take-map
 pub from_is : (log : Log) (i : ℕ) → chunks_from log i ≡ pool.chunks_from (sizes log) i
 from_is log i = let a = before_and_from log i in let b = chunks_split (sizes log) i in let c = before_is log i in let d = sum_same log in let t = before_all log in omega arith
 
--- the first chunk of the event behind the log
+-- the first chunk of the event after the log
 pub first_is : (c : ℕ) (log : Log) → first_chunk (pool_chunks c) (sizes log) (length (sizes log)) ≡ chunks_before log (length log) % pool_chunks c
 first_is c log = ap (λ (z : ℕ). pool.chunks_before (sizes log) z % pool_chunks c) (length-map log bytes_of) ∙ ap (λ (z : ℕ). z % pool_chunks c) (sym (before_is log (length log)))
 

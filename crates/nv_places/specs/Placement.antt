@@ -37,7 +37,7 @@ spot n c lane k first j = if nat_lt j 6 then slot n c lane k j else pool_word n 
 unfoldable pub place_of : ℕ → ℕ → Log → ℕ → ℕ → ℕ
 place_of n c log i j = spot n c (lane log i) (earlier log i % c) (chunks_before log i % pool_chunks c) j
 
--- an event may be written behind the log while those from f on are kept
+-- an event may be written after the log while those from f on are kept
 pub record Fits (c : ℕ) (log : Log) (e : List ℕ) (f : ℕ) : Type 0 where
   pub window : length log < f + c
   pub chunks_are_few : chunks_from log f + chunks e ≤ pool_chunks c
@@ -46,7 +46,7 @@ pub record Fits (c : ℕ) (log : Log) (e : List ℕ) (f : ℕ) : Type 0 where
 abbrev pub next_slot : ℕ → ℕ → Taken → ℕ → ℕ → ℕ
 next_slot n c taken lane j = slot n c lane (slice_index taken.counts lane % c) j
 
--- as many bytes as the words behind the sixth have: their chunks are the event's
+-- as many bytes as the words after the sixth have: their chunks are the event's
 abbrev pub bytes_of : List ℕ → ℕ
 bytes_of e = 8 * (length e - 6)
 

@@ -9,7 +9,7 @@ pub record Published (log : Log) (l number : ℕ) : Type 0 where
   pub below : number < length log
   pub lane_is : lane log number ≡ l
 
--- the event behind the log is written there as far as its number
+-- the event after the log is written there as far as its number
 pub record Begun (log : Log) (writing : List ℕ) (l number : ℕ) : Type 0 where
   pub at_head : number ≡ length log
   pub numbered : 2 ≤ length writing

@@ -56,7 +56,7 @@ impl Pool {
         })
     }
 
-    /// A payload of so many bytes comes behind all others: the first of its chunks.
+    /// A payload of so many bytes comes after all others: the first of its chunks.
     pub fn add(&mut self, bytes: u32) -> u32
         requires bytes { bytes ≤ 4096 }
         requires few { count_of self.old < 131072 }
@@ -92,7 +92,7 @@ impl Pool {
         self.count
     }
 
-    /// The first chunk of a payload that comes behind all others.
+    /// The first chunk of a payload that comes after all others.
     pub fn next(&self) -> u32
         ensures is { (sizes : List ℕ) → Holds self.now sizes → result ≡ first_chunk (chunks_of_pool self.now) sizes (length sizes) }
         ensures below { result < chunks_of_pool self.now }

@@ -26,7 +26,7 @@ use Rattle.nv_room.specs.Placement.{table_words, slot}
 use Rattle.std.proofs.lemmas.List.{length-replicate}
 use Rattle.nv_room.specs.Owner.{free}
 use Rattle.nv_room.specs.Spans.{of_station, of_version, IsLast, Opened}
-use Rattle.nv_room.specs.Room.{cursor, Moment, as_of, Told, Knows, Tag, tag, version_of, Has, Live, Leads, Out, Clash, Apart, Notes, second, Rule, first}
+use Rattle.nv_room.specs.Room.{cursor, Moment, as_of, IsPast, Knows, Tag, tag, version_of, Has, Live, Leads, Out, Clash, Apart, Notes, second, Rule, first}
 use Rattle.nv_room.specs.Steps.{one_made, reader_of, past_of, joined, spent}
 use Rattle.nv_room.proofs.Lists.{at_end, at_below}
 use Rattle.nv_room.proofs.Placement.{slot_behind}
@@ -152,10 +152,10 @@ module _ {K : Type 0} (hist : K → List Entry) (beg : K → Start) (p : Plan K)
       let vs : List (View K) = set s.views id (one_made v) in let t : ℕ = v.made in let es : List ℕ = map version_of v.ended in
       let mine : cursor s.words v.station ≡ length v.seen = ir.cursor_is_length in let short = prefix_length v.seen r.log kn.seen_is_prefix in let few = pl.log_is_short in
       let low : r.holder ≡ 0 = dite (dec_le 1 r.holder) (λ le. let g = pl.lower_are_gone 0 le in let same : cursor s.words v.station ≡ cursor s.words 0 = ap (cursor s.words) at_zero in absurd (omega arith)) (λ gt. omega arith) in
-      let unled : r.spans ≡ [] = holder_led m v.station r.led ir.led_nothing (at_zero ∙ sym low) in let d = r.doors in let whole : p.versions ≡ length r.whos = subst (Opened p.versions r.whos) unled r.turns.opened in
+      let unled : r.spans ≡ [] = holder_led m v.station r.led ir.led_nothing (at_zero ∙ sym low) in let d = r.doors in let whole : p.versions ≡ length r.seating = subst (Opened p.versions r.seating) unled r.turns.opened in
       let fresh_cursor : cursor s.words t ≡ 0 = se.unmade_is_new t record { first = zeroth; other = pos; not_made = le_refl t; near = near } in
       let none_of : (z : ℕ) → of_station z r.spans ≡ [] = λ z. ap (of_station z) unled in
-      let last : IsLast r.whos t t = record { has = d.first t near; none_later = λ z l e. let b : z < p.versions = (let y = at_below r.whos z t e in omega arith) in let q : z ≡ t = one_who r.whos z z z t (d.first z b) e refl in omega arith } in
+      let last : IsLast r.seating t t = record { has = d.first t near; none_later = λ z l e. let b : z < p.versions = (let y = at_below r.seating z t e in omega arith) in let q : z ≡ t = one_who r.seating z z z t (d.first z b) e refl in omega arith } in
       let mine' : Knows p m (one_made v) = record {
         seen_is_prefix = kn.seen_is_prefix;
         read_begins_next = kn.read_begins_next;
@@ -165,7 +165,7 @@ module _ {K : Type 0} (hist : K → List Entry) (beg : K → Start) (p : Plan K)
         opened_at_most_open = kn.opened_at_most_open;
         in_role = kn.in_role;
         seated = λ l. record { start_is = se.start_is; places_are = se.places_are; opened_least = se.opened_least; last = se.last; spans_are = se.spans_are; unmade_is_new = λ z u. se.unmade_is_new z record { first = u.first; other = u.other; not_made = (let a = u.not_made in omega arith); near = u.near } };
-        ended_is_told = kn.ended_is_told;
+        ended_is_past = kn.ended_is_past;
       } in
       let cut : Knows p m (reader_of v) = record {
         seen_is_prefix = λ i y e. absurd (some-ne-none y (sym e));
@@ -176,7 +176,7 @@ module _ {K : Type 0} (hist : K → List Entry) (beg : K → Start) (p : Plan K)
         opened_at_most_open = kn.opened_at_most_open;
         in_role = record { cursor_is_length = fresh_cursor; led_nothing = none_of t; wrote_nothing = refl; freed_stays = λ k e. cc };
         seated = λ l. record { start_is = se.start_is; places_are = se.places_are; opened_least = se.opened_least; last = last; spans_are = sym (ap (of_version t) unled); unmade_is_new = λ z u. (let a = u.first in absurd (omega arith)) };
-        ended_is_told = λ i y e. absurd (some-ne-none y (sym e));
+        ended_is_past = λ i y e. absurd (some-ne-none y (sym e));
       } in
       let empty : es ≡ [] = ap (map version_of) ended in
       let e₁ : map tag vs ≡ set (map tag s.views) id (Reader, 0, t + 1, es) = map-set tag s.views id (one_made v) ∙ (λ i. set (map tag s.views) id (role i, zeroth i, t + 1, es)) in
@@ -186,7 +186,7 @@ module _ {K : Type 0} (hist : K → List Entry) (beg : K → Start) (p : Plan K)
         phase = r.phase;
         holder = r.holder;
         spans = r.spans;
-        whos = r.whos;
+        seating = r.seating;
         ready = r.ready;
         log_is_spelt = r.log_is_spelt;
         log_is_lawful = r.log_is_lawful;
@@ -211,7 +211,7 @@ module _ {K : Type 0} (hist : K → List Entry) (beg : K → Start) (p : Plan K)
       let kw = r.each_seat other w there' in let iw = in_role hist beg p s r other w there' Gone gone in let sw = seated hist beg p s r other w there' Gone gone tt in let se = kn.seated live in
       let vs : List (View K) = set s.views id (joined v w) in let es : List ℕ = map version_of v.ended in let gs : List ℕ = map version_of w.ended in let ts : List Tag = map tag s.views in
       let x : Past = past_of w in
-      let told : Told m x = record { seen_is_prefix = kw.seen_is_prefix; read_begins_next = kw.read_begins_next; last = sw.last; cursor_is_gone = iw.cursor_is_gone; spans_are = sw.spans_are; before_later = iw.before_later } in
+      let told : IsPast m x = record { seen_is_prefix = kw.seen_is_prefix; read_begins_next = kw.read_begins_next; last = sw.last; cursor_is_gone = iw.cursor_is_gone; spans_are = sw.spans_are; before_later = iw.before_later } in
       let mine : Knows p m (joined v w) = record {
         seen_is_prefix = kn.seen_is_prefix;
         read_begins_next = kn.read_begins_next;
@@ -221,9 +221,9 @@ module _ {K : Type 0} (hist : K → List Entry) (beg : K → Start) (p : Plan K)
         opened_at_most_open = kn.opened_at_most_open;
         in_role = kn.in_role;
         seated = λ l. record { start_is = se.start_is; places_are = se.places_are; opened_least = se.opened_least; last = se.last; spans_are = se.spans_are; unmade_is_new = se.unmade_is_new };
-        ended_is_told = λ i y e. ⊎_elim (λ (q : get_elem? v.ended i ≡ some y). kn.ended_is_told i y q) (λ (q : (i ≡ length v.ended) × (x ≡ y)). subst (Told m) q.1 told) (at_end v.ended x y i e);
+        ended_is_past = λ i y e. ⊎_elim (λ (q : get_elem? v.ended i ≡ some y). kn.ended_is_past i y q) (λ (q : (i ≡ length v.ended) × (x ≡ y)). subst (IsPast m) q.1 told) (at_end v.ended x y i e);
       } in
-      let over : Knows p m spent = record { seen_is_prefix = λ i y e. absurd (some-ne-none y (sym e)); read_begins_next = λ i y e. absurd (some-ne-none y (sym e)); floor_at_most_cursor = λ z l. zero-le; head_seen_at_most_head = zero-le; owner_seen_at_most_head = omega arith; opened_at_most_open = zero-le; in_role = refl; seated = λ l. absurd l; ended_is_told = λ i y e. absurd (some-ne-none y (sym e)) } in
+      let over : Knows p m spent = record { seen_is_prefix = λ i y e. absurd (some-ne-none y (sym e)); read_begins_next = λ i y e. absurd (some-ne-none y (sym e)); floor_at_most_cursor = λ z l. zero-le; head_seen_at_most_head = zero-le; owner_seen_at_most_head = omega arith; opened_at_most_open = zero-le; in_role = refl; seated = λ l. absurd l; ended_is_past = λ i y e. absurd (some-ne-none y (sym e)) } in
       let e₁ : map tag vs ≡ set ts id (v.role, v.version, v.made, es ++ w.version ∷ []) = map-set tag s.views id (joined v w) ∙ (λ k. set ts id (v.role, v.version, v.made, map-append version_of v.ended (x ∷ []) k)) in
       let path : map tag (set vs other spent) ≡ set (set ts id (v.role, v.version, v.made, es ++ w.version ∷ [])) other (Spent, 0, 0, []) = map-set tag vs other spent ∙ (λ k. set (e₁ k) other (Spent, 0, 0, [])) in record {
         log = r.log;
@@ -231,7 +231,7 @@ module _ {K : Type 0} (hist : K → List Entry) (beg : K → Start) (p : Plan K)
         phase = r.phase;
         holder = r.holder;
         spans = r.spans;
-        whos = r.whos;
+        seating = r.seating;
         ready = r.ready;
         log_is_spelt = r.log_is_spelt;
         log_is_lawful = r.log_is_lawful;
@@ -258,7 +258,7 @@ module _ {K : Type 0} (hist : K → List Entry) (beg : K → Start) (p : Plan K)
     phase = free;
     holder = 0;
     spans = [];
-    whos = numbers 0 u;
+    seating = numbers 0 u;
     ready = u;
     log_is_spelt = refl;
     log_is_lawful = lawful_none;
@@ -301,6 +301,6 @@ module _ {K : Type 0} (hist : K → List Entry) (beg : K → Start) (p : Plan K)
       opened_at_most_open = omega arith;
       in_role = record { cursor_is_length = cur 0; led_nothing = refl; wrote_nothing = refl; freed_stays = λ k e. cc };
       seated = λ l. record { start_is = refl; places_are = refl; opened_least = le_refl u; last = number_last u 0 some_version; spans_are = refl; unmade_is_new = λ t u. cur t };
-      ended_is_told = λ i x f. absurd (some-ne-none x (sym f));
+      ended_is_past = λ i x f. absurd (some-ne-none x (sym f));
     };
   }

@@ -24,7 +24,7 @@ use Rattle.nv_room.proofs.Lists.{at_below, there}
 use Rattle.nv_room.proofs.Placement.{place_behind, header_inside}
 use Rattle.nv_places.specs.Header.{head_index, cursor_index}
 use Rattle.nv_room.proofs.Merges.{merge_turned, second_kept, notes_none}
-use Rattle.nv_room.proofs.Stays.{Onward, Own, last_near, planned, lead_stays, logged, same_tags, told_on, now, moved}
+use Rattle.nv_room.proofs.Stays.{Onward, Own, last_near, planned, lead_stays, logged, same_tags, past_on, now, moved}
 use Rattle.nv_room.proofs.Seats.{prefix_more, not_held, none_above, unmade_apart, apart_role, former_apart, apart_from, apart_unmade, in_role, seated, open_near, seat_near, role_near, told}
 
 module _ (n c : ℕ) (m : Moment) (i x : ℕ) (pl : Places n c m) (near : i < n) (up : cursor m.words i ≤ x) where
@@ -32,7 +32,7 @@ module _ (n c : ℕ) (m : Moment) (i x : ℕ) (pl : Places n c m) (near : i < n)
   ws' = set m.words (cursor_index i) x
 
   abbrev pub risen : Moment
-  risen = as_of ws' m.log m.phase m.holder m.spans m.whos m.ready
+  risen = as_of ws' m.log m.phase m.holder m.spans m.seating m.ready
 
   inside : cursor_index i < length m.words
   inside = subst (λ (z : ℕ). cursor_index i < z) (sym pl.words_are_all) (header_inside n c (cursor_index i) (omega arith))
@@ -70,18 +70,18 @@ module _ (n c : ℕ) (m : Moment) (i x : ℕ) (pl : Places n c m) (near : i < n)
     log_is_short = pl.log_is_short;
   }
 
-  pub on_risen : length m.whos ≤ n → Onward n m risen
-  on_risen fit = record { near = fit; cursors = λ s l. cursor_up s; longer = λ _ _ h. h; more = le_refl (length m.log); wider = le_refl (length m.whos); begun = λ k y e. inl (k, y, e, refl, refl); gone_spans = λ v s l g. refl; gone_last = λ v s l g. l }
+  pub on_risen : length m.seating ≤ n → Onward n m risen
+  on_risen fit = record { near = fit; cursors = λ s l. cursor_up s; longer = λ _ _ h. h; more = le_refl (length m.log); wider = le_refl (length m.seating); begun = λ k y e. inl (k, y, e, refl, refl); gone_spans = λ v s l g. refl; gone_last = λ v s l g. l }
 
   -- an open station's cursor is none of the others'
-  pub doors_risen : (versions : ℕ) (hands : List ℕ) → i < length m.whos → Doors n versions hands m → Doors n versions hands risen
+  pub doors_risen : (versions : ℕ) (hands : List ℕ) → i < length m.seating → Doors n versions hands m → Doors n versions hands risen
   doors_risen versions hands inner d = record {
     all = d.all;
     least = d.least;
     first = d.first;
     is_version = d.is_version;
-    ready_is = ⊎_elim (λ (q : m.ready ≡ length m.whos). inl q) (λ (q : (m.ready ≡ length m.whos + 1) × (m.phase ≡ held) × (cursor m.words (length m.whos) ≡ length m.log)). inr (q.0, q.1, cursor_else (length m.whos) (λ e. omega arith) ∙ q.2)) d.ready_is;
-    shut = λ s l b. cursor_else s (λ e. (let q = d.ready_is in ⊎_elim (λ (a : m.ready ≡ length m.whos). omega arith) (λ (a : (m.ready ≡ length m.whos + 1) × (m.phase ≡ held) × (cursor m.words (length m.whos) ≡ length m.log)). let z = a.0 in omega arith) q)) ∙ d.shut s l b;
+    ready_is = ⊎_elim (λ (q : m.ready ≡ length m.seating). inl q) (λ (q : (m.ready ≡ length m.seating + 1) × (m.phase ≡ held) × (cursor m.words (length m.seating) ≡ length m.log)). inr (q.0, q.1, cursor_else (length m.seating) (λ e. omega arith) ∙ q.2)) d.ready_is;
+    shut = λ s l b. cursor_else s (λ e. (let q = d.ready_is in ⊎_elim (λ (a : m.ready ≡ length m.seating). omega arith) (λ (a : (m.ready ≡ length m.seating + 1) × (m.phase ≡ held) × (cursor m.words (length m.seating) ≡ length m.log)). let z = a.0 in omega arith) q)) ∙ d.shut s l b;
     planned = d.planned;
   }
 
@@ -117,9 +117,9 @@ module _ {K : Type 0} (hist : K → List Entry) (beg : K → Start) (p : Plan K)
         w,
         keeps,
         tt,
-        moved hist beg p s r (cursor_index i) new id me.1 keeps r.log r.phase r.holder r.spans r.whos r.ready r.events v w at (subst Apart (sym (same_tags hist beg p s.views id v w at refl)) r.one_seat_a_version) (λ e. lead_stays s.views id r.holder v w at (λ q. (q, refl)) (r.held_has_lead e)) (logged hist beg p s r) r.home
+        moved hist beg p s r (cursor_index i) new id me.1 keeps r.log r.phase r.holder r.spans r.seating r.ready r.events v w at (subst Apart (sym (same_tags hist beg p s.views id v w at refl)) r.one_seat_a_version) (λ e. lead_stays s.views id r.holder v w at (λ q. (q, refl)) (r.held_has_lead e)) (logged hist beg p s r) r.home
             (places_risen n c m i new pl near up (inl (omega arith)) (λ e. not_held m i r.led ir.led_nothing e)) record { tile = r.led.tile; rise = r.led.rise; last_is_holders = r.led.last_is_holders; unled_is_free = r.led.unled_is_free }
-            (doors_risen n c m i new pl near up p.versions (planned hist beg p) (last_near r.whos v.version i se.last) r.doors) r.turns on
+            (doors_risen n c m i new pl near up p.versions (planned hist beg p) (last_near r.seating v.version i se.last) r.doors) r.turns on
             (λ j u ne f l. (own_risen n c m i new pl near up u (apart_from hist beg p s r j id u v f at ne live l) u.role (former_apart hist beg p s r j id u v f at ne live l i se.last.has), refl, (λ z. z), λ t q. cursor_else n c m i new pl near up t (apart_unmade hist beg p s r j id u v f at ne live l t q i se.last.has))) record {
               seen_is_prefix = pre;
               read_begins_next = λ j x f. absurd (some-ne-none x (sym f));
@@ -134,7 +134,7 @@ module _ {K : Type 0} (hist : K → List Entry) (beg : K → Start) (p : Plan K)
                 freed_stays = λ k q. let f = ir.freed_stays k q in record { is_free = f.is_free; at_head = f.at_head; opened_is = f.opened_is; lower_gone = λ z l. le_trans (f.lower_gone z l) (cursor_up n c m i new pl near up z) };
               };
               seated = λ l. record { start_is = se.start_is; places_are = se.places_are; opened_least = se.opened_least; last = se.last; spans_are = se.spans_are; unmade_is_new = λ t q. cursor_else n c m i new pl near up t (unmade_apart n p.versions (planned hist beg p) m v.version i v.made t r.doors se.last.has q) ∙ se.unmade_is_new t q };
-              ended_is_told = λ k y f. told_on n m m' y on (kn.ended_is_told k y f);
+              ended_is_past = λ k y f. past_on n m m' y on (kn.ended_is_past k y f);
             }
             (merge_turned n c s.views id v w at s.words (set s.words (cursor_index i) new) r.log r.phase r.merge (second_kept n c (cursor_index i) new s.words (omega arith)) (λ e. r.merge.lead_writes id v at e) (λ _. notes_none r.log (v.seen ++ v.read ∷ [])) (λ l. r.merge.floors_wide id v at l)),
         (refl, told hist beg p s r (v.seen ++ v.read ∷ []) pre, (let short : len ≤ 131072 = pl.log_is_short in omega arith)),
@@ -171,9 +171,9 @@ module _ {K : Type 0} (hist : K → List Entry) (beg : K → Start) (p : Plan K)
         w,
         keeps,
         tt,
-        moved hist beg p s r (cursor_index i) new id me.1 keeps r.log r.phase r.holder r.spans r.whos r.ready r.events v w at tags (λ e. lead_stays s.views id r.holder v w at (λ q. absurd (⊎_elim (λ (f : v.role ≡ Reader). subst Leads f q) (λ (f : v.role ≡ Leaving). subst Leads f q) role)) (r.held_has_lead e)) (logged hist beg p s r) r.home
+        moved hist beg p s r (cursor_index i) new id me.1 keeps r.log r.phase r.holder r.spans r.seating r.ready r.events v w at tags (λ e. lead_stays s.views id r.holder v w at (λ q. absurd (⊎_elim (λ (f : v.role ≡ Reader). subst Leads f q) (λ (f : v.role ≡ Leaving). subst Leads f q) role)) (r.held_has_lead e)) (logged hist beg p s r) r.home
             (places_risen n c m i new pl near up (inr is) may.unheld) record { tile = r.led.tile; rise = r.led.rise; last_is_holders = r.led.last_is_holders; unled_is_free = r.led.unled_is_free }
-            (doors_risen n c m i new pl near up p.versions (planned hist beg p) (last_near r.whos v.version i se.last) r.doors) r.turns on
+            (doors_risen n c m i new pl near up p.versions (planned hist beg p) (last_near r.seating v.version i se.last) r.doors) r.turns on
             (λ j u ne f l. (own_risen n c m i new pl near up u (apart_from hist beg p s r j id u v f at ne live l) u.role (former_apart hist beg p s r j id u v f at ne live l i se.last.has), refl, (λ z. z), λ t q. cursor_else n c m i new pl near up t (apart_unmade hist beg p s r j id u v f at ne live l t q i se.last.has))) record {
               seen_is_prefix = kn.seen_is_prefix;
               read_begins_next = kn.read_begins_next;
@@ -187,7 +187,7 @@ module _ {K : Type 0} (hist : K → List Entry) (beg : K → Start) (p : Plan K)
                 wrote_nothing = may.quiet;
               };
               seated = λ l. record { start_is = se.start_is; places_are = se.places_are; opened_least = se.opened_least; last = se.last; spans_are = se.spans_are; unmade_is_new = λ t q. cursor_else n c m i new pl near up t (unmade_apart n p.versions (planned hist beg p) m v.version i v.made t r.doors se.last.has q) ∙ se.unmade_is_new t q };
-              ended_is_told = λ k y f. told_on n m m' y on (kn.ended_is_told k y f);
+              ended_is_past = λ k y f. past_on n m m' y on (kn.ended_is_past k y f);
             }
             (merge_turned n c s.views id v w at s.words (set s.words (cursor_index i) new) r.log r.phase r.merge (second_kept n c (cursor_index i) new s.words (omega arith)) (λ e. absurd e) (λ (e : Gone ≡ Reader). cc) (λ _. r.merge.floors_wide id v at live)),
         refl,

@@ -1,6 +1,6 @@
 -- Numbers that are kept beside a view's, when both change at a place.
 use Rattle.std.proofs.Common.{ℕ, zero, suc, ◌<◌, ◌≤◌, List, [], ◌∷◌, length, set, get_or, length-set, arith}
-use Rattle.nv_room.specs.Kept.{AtMost}
+use Rattle.nv_room.specs.Caches.{AtMost}
 
 at_most_at : (kept floors : List ℕ) (s q r k : ℕ) → q ≤ r → get_or kept k 0 ≤ get_or floors k 0 → k < length floors → get_or (set kept s q) k 0 ≤ get_or (set floors s r) k 0
 at_most_at [] floors s q r k le h within = omega arith

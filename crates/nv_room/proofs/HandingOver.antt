@@ -28,7 +28,7 @@ use Rattle.nv_room.proofs.Tiling.{last_apart, with_none, tiles_handed, rising_ha
 use Rattle.nv_room.proofs.Counts.{below_most, below_planned}
 use Rattle.nv_room.proofs.LastSpan.{Last, last_span, lead_last, begun_last, who_last, others_last, own_last, own_was}
 use Rattle.nv_room.proofs.Merges.{merge_turned, merge_phase, notes_none, second_kept}
-use Rattle.nv_room.proofs.Stays.{Onward, Begun, last_near, planned, lead_stays, logged, told_on, now, looked, moved}
+use Rattle.nv_room.proofs.Stays.{Onward, Begun, last_near, planned, lead_stays, logged, past_on, now, looked, moved}
 use Rattle.nv_room.proofs.Cursors.{risen, cursor_there, cursor_else, cursor_up, places_risen, on_risen, doors_risen, own_risen}
 use Rattle.nv_room.proofs.Hands.{same_cursor, places_owned}
 use Rattle.nv_room.proofs.Seats.{none_above, beside_lead, one_last, unmade_apart, apart_role, apart_version, apart_at, apart_from, apart_unmade, former_apart, in_role, open_near}
@@ -42,18 +42,18 @@ module _ (m : Moment) (l : Last m) where
   ends : handed_on m.spans ≡ l.before ++ x' ∷ []
   ends = ap handed_on l.is ∙ handed_end l.before l.last
 
-  led_handed : (ws : List ℕ) (ph : Phase) (whos : List ℕ) (ready : ℕ) → Led m → Led (as_of ws m.log ph m.holder (handed_on m.spans) whos ready)
-  led_handed ws ph whos ready led = record {
+  led_handed : (ws : List ℕ) (ph : Phase) (seating : List ℕ) (ready : ℕ) → Led m → Led (as_of ws m.log ph m.holder (handed_on m.spans) seating ready)
+  led_handed ws ph seating ready led = record {
     tile = subst (λ (z : List Span). Tiles 0 z (length m.log)) (sym ends) (tiles_handed 0 (length m.log) l.before l.last (subst (λ (z : List Span). Tiles 0 z (length m.log)) l.is led.tile));
     rise = subst (Rising 0) (sym ends) (rising_handed 0 l.before l.last (subst (Rising 0) l.is led.rise));
     last_is_holders = λ xs x e. ap (λ (z : Span). z.station) (sym (last_apart l.before xs x' x (sym ends ∙ e)).1) ∙ l.holders;
     unled_is_free = λ e. let a = ap (λ (z : List Span). length z) (sym ends ∙ e) in let b = length-append l.before (x' ∷ []) in absurd (omega arith);
   }
 
-  turns_handed : (versions : ℕ) (hands : List ℕ) (ph : Phase) (len : ℕ) → Turns versions hands m.phase len m.spans m.whos → m.phase ≡ held → ph ≢ held → IsLast m.whos l.last.version l.last.station → Turns versions hands ph len (handed_on m.spans) (m.whos ++ l.last.version ∷ [])
+  turns_handed : (versions : ℕ) (hands : List ℕ) (ph : Phase) (len : ℕ) → Turns versions hands m.phase len m.spans m.seating → m.phase ≡ held → ph ≢ held → IsLast m.seating l.last.version l.last.station → Turns versions hands ph len (handed_on m.spans) (m.seating ++ l.last.version ∷ [])
   turns_handed versions hands ph len t is over last = record {
-    who_is = λ i y e. at_longer m.whos (l.last.version ∷ []) y.station y.version (who_last m l m.whos x' refl refl t.who_is i y (ap (λ (z : List Span). get_elem? z i) (sym ends) ∙ e));
-    opened = subst (Opened versions (m.whos ++ l.last.version ∷ [])) (sym ends) (opened_handed versions m.whos l.before l.last (t.unhanded is l.before l.last l.is) last (subst (Opened versions m.whos) l.is t.opened));
+    who_is = λ i y e. at_longer m.seating (l.last.version ∷ []) y.station y.version (who_last m l m.seating x' refl refl t.who_is i y (ap (λ (z : List Span). get_elem? z i) (sym ends) ∙ e));
+    opened = subst (Opened versions (m.seating ++ l.last.version ∷ [])) (sym ends) (opened_handed versions m.seating l.before l.last (t.unhanded is l.before l.last l.is) last (subst (Opened versions m.seating) l.is t.opened));
     unhanded = λ e. absurd (over e);
     left_over = λ e. absurd (over e);
   }
@@ -92,7 +92,7 @@ module _ {K : Type 0} (hist : K → List Entry) (beg : K → Start) (p : Plan K)
   M = Me (Option K) (View K)
 
   -- where a lead that has led an event comes to a planned length, a station is left
-  left_station : (s : St) (r : RuleOf s) (id : ℕ) (v : View K) → get_elem? s.views id ≡ some v → v.role ≡ Lead → Has (planned hist beg p) (length v.seen) → HasLed v.spans → length r.whos + 1 ≤ p.versions + below (planned hist beg p) (length r.log + 1)
+  left_station : (s : St) (r : RuleOf s) (id : ℕ) (v : View K) → get_elem? s.views id ≡ some v → v.role ≡ Lead → Has (planned hist beg p) (length v.seen) → HasLed v.spans → length r.seating + 1 ≤ p.versions + below (planned hist beg p) (length r.log + 1)
   left_station s r id v at role plan led = let m : Moment = now hist beg p s r in let ir = in_role hist beg p s r id v at Lead role in let live : Live v.role = subst Live (sym role) tt in let se = (r.each_seat id v at).seated live in
       let l : Last m = last_span m r.led ir.is_held in let mine = lead_last hist beg p s r id v at live ir.is_holder l in
       let a = r.turns.left_over ir.is_held (has_led m l v.version mine (subst HasLed se.spans_are led)) in
@@ -114,11 +114,11 @@ module _ {K : Type 0} (hist : K → List Entry) (beg : K → Start) (p : Plan K)
   opens_next slots id new me role quiet plan led is s r wide at _ = let v = me.0 in let n : ℕ = p.stations in let c : ℕ = p.places in let kn = r.each_seat id v at in let pl = r.places in let d = r.doors in let len : ℕ = length r.log in
       let m : Moment = now hist beg p s r in let ir = in_role hist beg p s r id v at Lead role in let live : Live v.role = subst Live (sym role) tt in let se = kn.seated live in
       let room = left_station s r id v at role plan led in let most = below_most (planned hist beg p) (len + 1) in
-      let i : ℕ = v.opened in let here : i ≡ length r.whos = ir.opened_is in let none = ir.none_ready in let all = d.all in let near : i < n = omega arith in
+      let i : ℕ = v.opened in let here : i ≡ length r.seating = ir.opened_is in let none = ir.none_ready in let all = d.all in let near : i < n = omega arith in
       let off : cursor s.words i ≡ 0 = d.shut i (omega arith) near in let full : length v.seen ≡ len = ir.seen_is_log in
       let up : cursor s.words i ≤ new = omega arith in let there = cursor_there n c m i new pl near up in let ws' : List ℕ = set s.words (cursor_index i) new in
-      let top = pl.holder_is_open in let ready' : ℕ = length r.whos + 1 in let m' : Moment = as_of ws' r.log r.phase r.holder r.spans r.whos ready' in
-      let other : (z : ℕ) → z < length r.whos → z ≢ i = λ z l e. omega arith in
+      let top = pl.holder_is_open in let ready' : ℕ = length r.seating + 1 in let m' : Moment = as_of ws' r.log r.phase r.holder r.spans r.seating ready' in
+      let other : (z : ℕ) → z < length r.seating → z ≢ i = λ z l e. omega arith in
       let few = pl.log_is_short in
       let old = places_risen n c m i new pl near up (inl (omega arith)) (λ e q. other r.holder top (sym q)) in
       let places : Places n c m' = record { some_place = old.some_place; few_stations = old.few_stations; words_are_all = old.words_are_all; owner_is = old.owner_is; holder_is_open = old.holder_is_open; lower_are_gone = old.lower_are_gone; lead_counts = old.lead_counts; head_is_length = old.head_is_length; cursor_is_count_or_gone = old.cursor_is_count_or_gone; head_in_window = old.head_in_window; unread_stands = old.unread_stands; event_is_whole = old.event_is_whole; log_is_short = old.log_is_short } in
@@ -138,9 +138,9 @@ module _ {K : Type 0} (hist : K → List Entry) (beg : K → Start) (p : Plan K)
         w,
         keeps,
         tt,
-        moved hist beg p s r (cursor_index i) new id me.1 keeps r.log r.phase r.holder r.spans r.whos ready' r.events v w at tags (λ e. lead_stays s.views id r.holder v w at (λ q. (tt, refl)) (r.held_has_lead e)) (logged hist beg p s r) r.home places
+        moved hist beg p s r (cursor_index i) new id me.1 keeps r.log r.phase r.holder r.spans r.seating ready' r.events v w at tags (λ e. lead_stays s.views id r.holder v w at (λ q. (tt, refl)) (r.held_has_lead e)) (logged hist beg p s r) r.home places
             record { tile = r.led.tile; rise = r.led.rise; last_is_holders = r.led.last_is_holders; unled_is_free = r.led.unled_is_free } doors r.turns on
-            (λ j u ne f l. (beside_lead n c m m' u v.station ir.is_held ir.is_holder (λ e. apart_from hist beg p s r j id u v f at ne live l (sym e)) refl (cursor_else n c m i new pl near up u.station (other u.station (last_near r.whos u.version u.station ((r.each_seat j u f).seated l).last))) refl u.role (r.each_seat j u f).in_role, refl, (λ z. z), λ t q. cursor_else n c m i new pl near up t (λ e. let a = q.near in let b = d.least in omega arith)))
+            (λ j u ne f l. (beside_lead n c m m' u v.station ir.is_held ir.is_holder (λ e. apart_from hist beg p s r j id u v f at ne live l (sym e)) refl (cursor_else n c m i new pl near up u.station (other u.station (last_near r.seating u.version u.station ((r.each_seat j u f).seated l).last))) refl u.role (r.each_seat j u f).in_role, refl, (λ z. z), λ t q. cursor_else n c m i new pl near up t (λ e. let a = q.near in let b = d.least in omega arith)))
             record {
               seen_is_prefix = kn.seen_is_prefix;
               read_begins_next = kn.read_begins_next;
@@ -150,7 +150,7 @@ module _ {K : Type 0} (hist : K → List Entry) (beg : K → Start) (p : Plan K)
               opened_at_most_open = kn.opened_at_most_open;
               in_role = record { is_held = ir.is_held; is_holder = ir.is_holder; seen_is_log = full; wrote_nothing = quiet; opened_is = here; one_ready = refl };
               seated = λ l. record { start_is = se.start_is; places_are = se.places_are; opened_least = se.opened_least; last = se.last; spans_are = se.spans_are; unmade_is_new = λ t q. cursor_else n c m i new pl near up t (λ e. let a = q.near in let b = d.least in omega arith) ∙ se.unmade_is_new t q };
-              ended_is_told = λ k y f. told_on n m m' y on (kn.ended_is_told k y f);
+              ended_is_past = λ k y f. past_on n m m' y on (kn.ended_is_past k y f);
             }
             (merge_turned n c s.views id v w at s.words ws' r.log r.phase r.merge (second_kept n c (cursor_index i) new s.words (omega arith)) (λ e. r.merge.lead_writes id v at (subst Leads (sym role) tt)) (λ (e : Opening ≡ Reader). cc) (λ _. r.merge.floors_wide id v at live)),
         refl,
@@ -162,32 +162,32 @@ module _ {K : Type 0} (hist : K → List Entry) (beg : K → Start) (p : Plan K)
   hands_on slots id new k me role carries tells law began is s r wide at _ = let v = me.0 in let n : ℕ = p.stations in let c : ℕ = p.places in let kn = r.each_seat id v at in let pl = r.places in let d = r.doors in let len : ℕ = length r.log in
       let m : Moment = now hist beg p s r in let ir = in_role hist beg p s r id v at Opening role in let live : Live v.role = subst Live (sym role) tt in let se = kn.seated live in let st : ℕ = v.station in let ws' : List ℕ = set s.words 0 new in
       let l : Last m = last_span m r.led ir.is_held in let mine : l.last.version ≡ v.version = lead_last hist beg p s r id v at live ir.is_holder l in
-      let whos' : List ℕ = r.whos ++ v.version ∷ [] in let wider : length whos' ≡ length r.whos + 1 = length-append r.whos (v.version ∷ []) in
+      let whos' : List ℕ = r.seating ++ v.version ∷ [] in let wider : length whos' ≡ length r.seating + 1 = length-append r.seating (v.version ∷ []) in
       let spans' : List Span = handed_on r.spans in let m' : Moment = as_of ws' r.log free r.holder spans' whos' r.ready in
       let all : v.seen ≡ r.log = prefix_same v.seen r.log ir.seen_is_log kn.seen_is_prefix in
       let cur : (z : ℕ) → cursor ws' z ≡ cursor s.words z = same_cursor n c m new pl in
       let one = ir.one_ready in let full = ir.seen_is_log in let fit = open_near hist beg p s r in let here = ir.opened_is in let few = pl.log_is_short in
-      let head : cursor s.words (length r.whos) ≡ len = ⊎_elim (λ (q : r.ready ≡ length r.whos). absurd (omega arith)) (λ (q : (r.ready ≡ length r.whos + 1) × (r.phase ≡ held) × (cursor s.words (length r.whos) ≡ len)). q.2) d.ready_is in
+      let head : cursor s.words (length r.seating) ≡ len = ⊎_elim (λ (q : r.ready ≡ length r.seating). absurd (omega arith)) (λ (q : (r.ready ≡ length r.seating + 1) × (r.phase ≡ held) × (cursor s.words (length r.seating) ≡ len)). q.2) d.ready_is in
       let top = pl.holder_is_open in let over : free ≢ held = λ e. cc in
       let out : get_elem? s.homes 0 ≡ some none = subst (AtHome hist beg p.start.value r.events s.homes) ir.is_held r.home in
       let home : IsKernel hist beg p.start.value (hist k) (homes_after s.homes me.1 gives) = (k, ap (λ (cs : List (ℕ × Option K)). get_elem? (put_back s.homes cs) 0) carries ∙ set_here s.homes 0 (some (Some k)) (at_below s.homes 0 none out), refl, began p.start se.start_is) in
       let counts : cursor s.words r.holder ≤ len = pl.lead_counts ir.is_held in
       let places : Places n c m' = places_owned n c m new pl free r.holder spans' whos' r.ready (is ∙ (λ i. owner_word free (ir.is_holder i) ((let q : v.opened + 1 ≡ length whos' = omega arith in q) i) (full i))) (omega arith) pl.lower_are_gone (λ e. absurd (over e))
-      (λ z ne l. dite (ℕ_discrete z (length r.whos)) (λ e. inr (let q : cursor s.words z ≡ cursor s.words (length r.whos) = ap (cursor s.words) e in omega arith)) (λ ne'. inl (ne, omega arith))) in
+      (λ z ne l. dite (ℕ_discrete z (length r.seating)) (λ e. inr (let q : cursor s.words z ≡ cursor s.words (length r.seating) = ap (cursor s.words) e in omega arith)) (λ ne'. inl (ne, omega arith))) in
       let led : Led m' = led_handed m l ws' free whos' r.ready r.led in
-      let turns : Turns p.versions (planned hist beg p) free len spans' whos' = subst (λ (z : ℕ). Turns p.versions (planned hist beg p) free len spans' (r.whos ++ z ∷ [])) mine (turns_handed m l p.versions (planned hist beg p) free len r.turns ir.is_held over
-      (subst (λ (z : ℕ). IsLast r.whos z l.last.station) (sym mine) (subst (λ (z : ℕ). IsLast r.whos v.version z) (ir.is_holder ∙ sym l.holders) se.last))) in
+      let turns : Turns p.versions (planned hist beg p) free len spans' whos' = subst (λ (z : ℕ). Turns p.versions (planned hist beg p) free len spans' (r.seating ++ z ∷ [])) mine (turns_handed m l p.versions (planned hist beg p) free len r.turns ir.is_held over
+      (subst (λ (z : ℕ). IsLast r.seating z l.last.station) (sym mine) (subst (λ (z : ℕ). IsLast r.seating v.version z) (ir.is_holder ∙ sym l.holders) se.last))) in
       let doors : Doors n p.versions (planned hist beg p) m' = record {
         all = d.all;
         least = let a = d.least in omega arith;
-        first = λ z b. at_longer r.whos (v.version ∷ []) z z (d.first z b);
-        is_version = λ z x e. ⊎_elim (λ (q : get_elem? r.whos z ≡ some x). d.is_version z x q) (λ (q : (z ≡ length r.whos) × (v.version ≡ x)). let b = d.is_version st v.version se.last.has in let g = q.1 in omega arith) (at_end r.whos v.version x z e);
+        first = λ z b. at_longer r.seating (v.version ∷ []) z z (d.first z b);
+        is_version = λ z x e. ⊎_elim (λ (q : get_elem? r.seating z ≡ some x). d.is_version z x q) (λ (q : (z ≡ length r.seating) × (v.version ≡ x)). let b = d.is_version st v.version se.last.has in let g = q.1 in omega arith) (at_end r.seating v.version x z e);
         ready_is = inl (omega arith);
         shut = λ z a b. cur z ∙ d.shut z a b;
         planned = d.planned;
       } in
-      let at_lead : (x z : ℕ) → IsLast r.whos x z → GONE ≤ cursor s.words z → v.version ≢ x = λ x z a g e.
-      let same : z ≡ r.holder = one_last r.whos v.version z st (subst (λ (y : ℕ). IsLast r.whos y z) (sym e) a) se.last ∙ ir.is_holder in let b : cursor s.words z ≡ cursor s.words r.holder = ap (cursor s.words) same in omega arith in
+      let at_lead : (x z : ℕ) → IsLast r.seating x z → GONE ≤ cursor s.words z → v.version ≢ x = λ x z a g e.
+      let same : z ≡ r.holder = one_last r.seating v.version z st (subst (λ (y : ℕ). IsLast r.seating y z) (sym e) a) se.last ∙ ir.is_holder in let b : cursor s.words z ≡ cursor s.words r.holder = ap (cursor s.words) same in omega arith in
       let on : Onward n m m' = record {
         near = fit;
         cursors = λ z b. subst (λ (q : ℕ). cursor s.words z ≤ q) (sym (cur z)) (le_refl (cursor s.words z));
@@ -196,7 +196,7 @@ module _ {K : Type 0} (hist : K → List Entry) (beg : K → Start) (p : Plan K)
         wider = omega arith;
         begun = begun_handed m l;
         gone_spans = λ x z a g. versions_handed m l x (λ e. at_lead x z a g (sym mine ∙ e));
-        gone_last = λ x z a g. last_other r.whos x v.version z (at_lead x z a g) a;
+        gone_last = λ x z a g. last_other r.seating x v.version z (at_lead x z a g) a;
       } in
       let quiet : r.merge.writing ≡ [] = sym (r.merge.lead_writes id v at (subst Leads (sym role) tt)) ∙ ir.wrote_nothing in
       let unread : v.read ≡ [] = no_words v.read (λ x e. let q = kn.read_begins_next 0 x e in let b = at_below r.log (length v.seen) q.0 q.1 in omega arith) in
@@ -209,7 +209,7 @@ module _ {K : Type 0} (hist : K → List Entry) (beg : K → Start) (p : Plan K)
             (λ j u ne f a. (
               beside_lead n c m m' u st ir.is_held ir.is_holder (λ e. apart_from hist beg p s r j id u v f at ne live a (sym e)) refl (cur u.station) (stations_handed m l u.station (λ e. apart_from hist beg p s r j id u v f at ne live a (e ∙ sym ir.is_holder))) u.role (r.each_seat j u f).in_role,
               versions_handed m l u.version (λ e. apart_version hist beg p s r j id u v f at ne live a (sym e ∙ mine)),
-              (λ z. last_other r.whos u.version v.version u.station (λ e. apart_version hist beg p s r j id u v f at ne live a (sym e)) z),
+              (λ z. last_other r.seating u.version v.version u.station (λ e. apart_version hist beg p s r j id u v f at ne live a (sym e)) z),
               λ t _. cur t,
             ))
             record {
@@ -223,7 +223,7 @@ module _ {K : Type 0} (hist : K → List Entry) (beg : K → Start) (p : Plan K)
                 not_held = over;
                 is_holder = ir.is_holder;
                 is_lower = let h = ir.is_holder in omega arith;
-                version_is = at_longer r.whos (v.version ∷ []) st v.version se.last.has;
+                version_is = at_longer r.seating (v.version ∷ []) st v.version se.last.has;
                 former_is_count = subst (λ (q : ℕ). q ≤ len) (sym (cur st)) (subst (λ (q : ℕ). cursor s.words q ≤ len) (sym ir.is_holder) counts);
                 cursor_is_length = cur v.opened ∙ ap (cursor s.words) here ∙ head ∙ sym full;
                 seen_is_log = full;
@@ -234,11 +234,11 @@ module _ {K : Type 0} (hist : K → List Entry) (beg : K → Start) (p : Plan K)
                 start_is = se.start_is;
                 places_are = se.places_are;
                 opened_least = let a = se.opened_least in omega arith;
-                last = subst (λ (z : ℕ). IsLast whos' v.version z) (sym here) (last_new r.whos v.version);
+                last = subst (λ (z : ℕ). IsLast whos' v.version z) (sym here) (last_new r.seating v.version);
                 spans_are = ap handed_on se.spans_are ∙ own_handed m l v.version mine;
                 unmade_is_new = λ t u. cur t ∙ se.unmade_is_new t u;
               };
-              ended_is_told = λ i x e. told_on n m m' x on (kn.ended_is_told i x e);
+              ended_is_past = λ i x e. past_on n m m' x on (kn.ended_is_past i x e);
             }
             (merge_turned n c s.views id v w at s.words ws' r.log free (merge_phase n c s.words r.log r.phase free s.views r.merge quiet) (second_kept n c 0 new s.words (omega arith)) (λ e. absurd e) (λ (e : Moving ≡ Reader). cc) (λ _. r.merge.floors_wide id v at live)),
         (refl, unread, ir.wrote_nothing),
@@ -248,14 +248,14 @@ module _ {K : Type 0} (hist : K → List Entry) (beg : K → Start) (p : Plan K)
   pub moves_on : (slots id new : ℕ) (me : M) → me.0.role ≡ Moving → new ≡ GONE → Allows RuleOf slots id me (cursor_index me.0.former) (λ _. new) (λ _. moved_on (step slots (cursor_index me.0.former) new 0 none) me new)
   moves_on slots id new me role is s r wide at _ = let v = me.0 in let n : ℕ = p.stations in let c : ℕ = p.places in let kn = r.each_seat id v at in let pl = r.places in
       let m : Moment = now hist beg p s r in let live : Live v.role = subst Live (sym role) tt in let se = kn.seated live in let ir = in_role hist beg p s r id v at Moving role in let fit = open_near hist beg p s r in
-      let i : ℕ = v.former in let top = pl.holder_is_open in let inner : i < length r.whos = (let h = ir.is_holder in omega arith) in let near : i < n = omega arith in let few = pl.log_is_short in
+      let i : ℕ = v.former in let top = pl.holder_is_open in let inner : i < length r.seating = (let h = ir.is_holder in omega arith) in let near : i < n = omega arith in let few = pl.log_is_short in
       let count = ir.former_is_count in let up : cursor s.words i ≤ new = omega arith in let other : v.station ≢ i = (let h = ir.is_lower in λ e. omega arith) in
       let m' : Moment = risen n c m i new pl near up in let w : View K = as_reader v in let on = on_risen n c m i new pl near up fit in
       let tags : Apart (map tag (set s.views id w)) = subst Apart (sym (map-set tag s.views id w)) (apart_role hist beg p s r id v Reader at live) in (
         w,
         keeps,
         tt,
-        moved hist beg p s r (cursor_index i) new id me.1 keeps r.log r.phase r.holder r.spans r.whos r.ready r.events v w at tags (λ e. absurd (ir.not_held e)) (logged hist beg p s r) r.home
+        moved hist beg p s r (cursor_index i) new id me.1 keeps r.log r.phase r.holder r.spans r.seating r.ready r.events v w at tags (λ e. absurd (ir.not_held e)) (logged hist beg p s r) r.home
             (places_risen n c m i new pl near up (inr is) (λ e. absurd (ir.not_held e))) record { tile = r.led.tile; rise = r.led.rise; last_is_holders = r.led.last_is_holders; unled_is_free = r.led.unled_is_free }
             (doors_risen n c m i new pl near up p.versions (planned hist beg p) inner r.doors) r.turns on
             (λ j u ne f l. (own_risen n c m i new pl near up u (apart_at hist beg p s r j id u v f at ne live l i ir.version_is) u.role (former_apart hist beg p s r j id u v f at ne live l i ir.version_is), refl, (λ z. z), λ t q. cursor_else n c m i new pl near up t (apart_unmade hist beg p s r j id u v f at ne live l t q i ir.version_is)))
@@ -268,7 +268,7 @@ module _ {K : Type 0} (hist : K → List Entry) (beg : K → Start) (p : Plan K)
               opened_at_most_open = kn.opened_at_most_open;
               in_role = record { cursor_is_length = cursor_else n c m i new pl near up v.station other ∙ ir.cursor_is_length; led_nothing = ir.led_nothing; wrote_nothing = ir.wrote_nothing; freed_stays = λ k e. cc };
               seated = λ l. record { start_is = se.start_is; places_are = se.places_are; opened_least = se.opened_least; last = se.last; spans_are = se.spans_are; unmade_is_new = λ t q. cursor_else n c m i new pl near up t (unmade_apart n p.versions (planned hist beg p) m v.version i v.made t r.doors ir.version_is q) ∙ se.unmade_is_new t q };
-              ended_is_told = λ k y f. told_on n m m' y on (kn.ended_is_told k y f);
+              ended_is_past = λ k y f. past_on n m m' y on (kn.ended_is_past k y f);
             }
             (merge_turned n c s.views id v w at s.words (set s.words (cursor_index i) new) r.log r.phase r.merge (second_kept n c (cursor_index i) new s.words (omega arith)) (λ e. absurd e) (λ _. notes_none r.log v.seen) (λ _. r.merge.floors_wide id v at live)),
         refl,

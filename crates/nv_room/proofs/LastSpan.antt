@@ -42,11 +42,11 @@ module _ (m : Moment) (l : Last m) where
       (λ (q : (i ≡ length l.before) × (x ≡ y)). inl (length l.before, l.last, at_the_last, sym s ∙ ap (λ (z : Span). z.station) q.1, sym f ∙ ap (λ (z : Span). z.from) q.1))
       (at_end l.before x y i e)
 
-  pub who_last : (whos : List ℕ) (x : Span) → x.station ≡ l.last.station → x.version ≡ l.last.version → ((i : ℕ) (y : Span) → get_elem? m.spans i ≡ some y → get_elem? whos y.station ≡ some y.version)
-      → (i : ℕ) (y : Span) → get_elem? (l.before ++ x ∷ []) i ≡ some y → get_elem? whos y.station ≡ some y.version
-  who_last whos x s v is i y e = ⊎_elim
+  pub who_last : (seating : List ℕ) (x : Span) → x.station ≡ l.last.station → x.version ≡ l.last.version → ((i : ℕ) (y : Span) → get_elem? m.spans i ≡ some y → get_elem? seating y.station ≡ some y.version)
+      → (i : ℕ) (y : Span) → get_elem? (l.before ++ x ∷ []) i ≡ some y → get_elem? seating y.station ≡ some y.version
+  who_last seating x s v is i y e = ⊎_elim
       (λ (q : get_elem? l.before i ≡ some y). is i y (at_before i y q))
-      (λ (q : (i ≡ length l.before) × (x ≡ y)). ap (λ (z : Span). get_elem? whos z.station) (sym q.1) ∙ ap (get_elem? whos) s ∙ is (length l.before) l.last at_the_last ∙ ap some (sym v) ∙ ap (λ (z : Span). some z.version) q.1)
+      (λ (q : (i ≡ length l.before) × (x ≡ y)). ap (λ (z : Span). get_elem? seating z.station) (sym q.1) ∙ ap (get_elem? seating) s ∙ is (length l.before) l.last at_the_last ∙ ap some (sym v) ∙ ap (λ (z : Span). some z.version) q.1)
       (at_end l.before x y i e)
 
   module _ (number : Span → ℕ) (x : Span) (is : number x ≡ number l.last) (k : ℕ) where
@@ -62,4 +62,4 @@ module _ (m : Moment) (l : Last m) where
 module _ {K : Type 0} (hist : K → List Entry) (beg : K → Start) (p : Plan K) where
   -- the span that is led is of the lead's version
   pub lead_last : (s : State (Option K) (View K)) (r : Rule hist beg p s) (id : ℕ) (v : View K) → get_elem? s.views id ≡ some v → Live v.role → v.station ≡ r.holder → (l : Last (now hist beg p s r)) → l.last.version ≡ v.version
-  lead_last s r id v at live is l = one_who r.whos l.last.station v.station l.last.version v.version (r.turns.who_is (length l.before) l.last (at_the_last (now hist beg p s r) l)) ((r.each_seat id v at).seated live).last.has (let h = l.holders in h ∙ sym is)
+  lead_last s r id v at live is l = one_who r.seating l.last.station v.station l.last.version v.version (r.turns.who_is (length l.before) l.last (at_the_last (now hist beg p s r) l)) ((r.each_seat id v at).seated live).last.has (let h = l.holders in h ∙ sym is)

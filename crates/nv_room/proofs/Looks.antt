@@ -53,7 +53,7 @@ module _ {K : Type 0} (hist : K → List Entry) (beg : K → Start) (p : Plan K)
     keeps,
     tt,
     looked hist beg p s r head_index id me.1 v (head_seen v (get_or s.words head_index 0)) at refl (λ q. (q, refl))
-        record { seen_is_prefix = k.seen_is_prefix; read_begins_next = k.read_begins_next; floor_at_most_cursor = k.floor_at_most_cursor; head_seen_at_most_head = omega arith; owner_seen_at_most_head = k.owner_seen_at_most_head; opened_at_most_open = k.opened_at_most_open; in_role = k.in_role; seated = λ l. let q = k.seated l in record { start_is = q.start_is; places_are = q.places_are; opened_least = q.opened_least; last = q.last; spans_are = q.spans_are; unmade_is_new = q.unmade_is_new }; ended_is_told = k.ended_is_told }
+        record { seen_is_prefix = k.seen_is_prefix; read_begins_next = k.read_begins_next; floor_at_most_cursor = k.floor_at_most_cursor; head_seen_at_most_head = omega arith; owner_seen_at_most_head = k.owner_seen_at_most_head; opened_at_most_open = k.opened_at_most_open; in_role = k.in_role; seated = λ l. let q = k.seated l in record { start_is = q.start_is; places_are = q.places_are; opened_least = q.opened_least; last = q.last; spans_are = q.spans_are; unmade_is_new = q.unmade_is_new }; ended_is_past = k.ended_is_past }
         (still s r id v (head_seen v (get_or s.words head_index 0)) at (λ e. r.merge.lead_writes id v at e) (λ e. r.merge.notes id v at e) (λ l. r.merge.floors_wide id v at l)),
     (refl, omega arith, (let q = prefix_length v.seen r.log k.seen_is_prefix in omega arith), (let q = k.owner_seen_at_most_head in omega arith), (let q = k.head_seen_at_most_head in omega arith)),
   )
@@ -64,7 +64,7 @@ module _ {K : Type 0} (hist : K → List Entry) (beg : K → Start) (p : Plan K)
       let ir = in_role hist beg p s r id v at Lead role in
       let seen : length v.seen ≡ length r.log = ir.seen_is_log in
       let places : v.places ≡ p.places = (seated hist beg p s r id v at Lead role tt).places_are in
-      let within : st < length r.whos = (let e = ir.opened_is in omega arith) in
+      let within : st < length r.seating = (let e = ir.opened_is in omega arith) in
       let window : length r.log ≤ cursor s.words st + p.places = r.places.head_in_window st (λ e. other (e ∙ sym ir.is_holder)) within in
       omega arith
 
@@ -87,7 +87,7 @@ module _ {K : Type 0} (hist : K → List Entry) (beg : K → Start) (p : Plan K)
           opened_at_most_open = k.opened_at_most_open;
           in_role = k.in_role;
           seated = λ l. let q = k.seated l in record { start_is = q.start_is; places_are = q.places_are; opened_least = q.opened_least; last = q.last; spans_are = q.spans_are; unmade_is_new = q.unmade_is_new };
-          ended_is_told = k.ended_is_told;
+          ended_is_past = k.ended_is_past;
         } (still s r id v (cursor_seen st v x) at (λ e. r.merge.lead_writes id v at e) (λ e. r.merge.notes id v at e) (λ l. length-set v.floors st x ∙ r.merge.floors_wide id v at l)),
         (count_or_gone (length r.log) x few (r.places.cursor_is_count_or_gone st near), λ j e. let e' : 8 * (st + 2) ≡ 8 * (j + 2) = e in let q : st ≡ j = omega arith in (ap (λ (z : ℕ). (cursor_seen z v x, me.1)) q, λ role other open'. in_window s r id v at role st (let z = q in omega arith) (λ h. other (sym q ∙ h)), (let f = subst (λ (z : ℕ). get_or v.floors z 0 ≤ cursor s.words st) q (k.floor_at_most_cursor st near) in f))),
       )
@@ -127,8 +127,8 @@ module _ {K : Type 0} (hist : K → List Entry) (beg : K → Start) (p : Plan K)
   pub looks_owner : (slots id : ℕ) (me : M) → me.0.role ≡ Reader → Allows RuleOf slots id me 0 (λ x. x) (looked_owner (step slots 0 0 0 none) me)
   looks_owner slots id me role s r wide at _ = let v = me.0 in let kn = r.each_seat id v at in let x : ℕ = get_or s.words 0 0 in let pl = r.places in
       let ir = in_role hist beg p s r id v at Reader role in let st : ℕ = v.station in let se = seated hist beg p s r id v at Reader role tt in let n : ℕ = p.stations in let len : ℕ = length r.log in
-      let near : st < n = role_near hist beg p s r id v at Reader role tt in let few : len ≤ 131072 = pl.log_is_short in let all = open_near hist beg p s r in let small : r.holder < 16 = (let a = pl.few_stations in let b = pl.holder_is_open in omega arith) in let open_few : length r.whos ≤ 16 = (let a = pl.few_stations in omega arith) in
-      let f : Found len x r.phase = found r.phase r.holder (length r.whos) len x small open_few pl.owner_is in let opened : opened_at x ≡ length r.whos = found_open r.phase r.holder (length r.whos) len x small open_few pl.owner_is in
+      let near : st < n = role_near hist beg p s r id v at Reader role tt in let few : len ≤ 131072 = pl.log_is_short in let all = open_near hist beg p s r in let small : r.holder < 16 = (let a = pl.few_stations in let b = pl.holder_is_open in omega arith) in let open_few : length r.seating ≤ 16 = (let a = pl.few_stations in omega arith) in
+      let f : Found len x r.phase = found r.phase r.holder (length r.seating) len x small open_few pl.owner_is in let opened : opened_at x ≡ length r.seating = found_open r.phase r.holder (length r.seating) len x small open_few pl.owner_is in
       let l = learnt_at s r n x r.phase f in let seen : length v.seen ≤ len = prefix_length v.seen r.log kn.seen_is_prefix in let mine : cursor s.words st ≡ length v.seen = ir.cursor_is_length in
       let low : lower_marked st v.floors ≡ true → (z : ℕ) → z < st → GONE ≤ cursor s.words z = λ e z b. (let a = marked st v.floors e z b in let c = kn.floor_at_most_cursor z (omega arith) in omega arith) in
       let unheld : lower_marked st v.floors ≡ true → r.phase ≢ held = λ e is. dite (ℕ_discrete st r.holder) (λ same. not_held (now hist beg p s r) st r.led ir.led_nothing is same)
@@ -152,7 +152,7 @@ module _ {K : Type 0} (hist : K → List Entry) (beg : K → Start) (p : Plan K)
                 (λ (q : v.freed ≡ Some k). let y = ir.freed_stays k q in record { is_free = y.is_free; at_head = y.at_head; opened_is = opened; lower_gone = y.lower_gone }) (noted_is v.freed st v.floors x k e);
           };
           seated = λ g. let q = kn.seated g in record { start_is = q.start_is; places_are = q.places_are; opened_least = (let a = r.doors.least in omega arith); last = q.last; spans_are = q.spans_are; unmade_is_new = q.unmade_is_new };
-          ended_is_told = kn.ended_is_told;
+          ended_is_past = kn.ended_is_past;
         } (still s r id v v' at (λ e. r.merge.lead_writes id v at e) (λ e. r.merge.notes id v at e) (λ l. r.merge.floors_wide id v at l)),
         (
           refl,
@@ -165,7 +165,7 @@ module _ {K : Type 0} (hist : K → List Entry) (beg : K → Start) (p : Plan K)
             last_is_free = λ e. found_held len x r.phase f (unheld e);
             first_is_free = λ e. let same : cursor s.words st ≡ cursor s.words 0 = ap (cursor s.words) e in let low : r.holder ≡ 0 = dite (dec_le 1 r.holder) (λ le. let g = pl.lower_are_gone 0 le in absurd (omega arith)) (λ gt. omega arith) in
                 let unled = holder_led (now hist beg p s r) st r.led ir.led_nothing (e ∙ sym low) in let b = tiles_none 0 len r.spans r.led.tile unled in let g = free_found len x r.phase f (r.led.unled_is_free unled) (sym b) in
-                let whole : p.versions ≡ length r.whos = subst (Opened p.versions r.whos) unled r.turns.opened in (g.0, g.1, (let a = se.opened_least in let c = kn.opened_at_most_open in omega arith));
+                let whole : p.versions ≡ length r.seating = subst (Opened p.versions r.seating) unled r.turns.opened in (g.0, g.1, (let a = se.opened_least in let c = kn.opened_at_most_open in omega arith));
             closed_at_end = λ e same. let y = found_closed len x r.phase f e in let all : v.seen ≡ r.log = prefix_same v.seen r.log (sym same ∙ y.1) kn.seen_is_prefix in (r.events, r.log_is_spelt ∙ sym all, r.log_is_lawful, r.closed_has_ended y.0);
           },
         ),
@@ -181,7 +181,7 @@ module _ {K : Type 0} (hist : K → List Entry) (beg : K → Start) (p : Plan K)
       let wh = r.places.event_is_whole m e got.1 in let nx = there e (length v.read) (shorter v.read e rd wh.0 part) in let x : ℕ = get_or s.words k 0 in
       let le : cursor s.words v.station ≤ m = subst (λ (z : ℕ). z ≤ m) (sym ir.cursor_is_length) (le_refl m) in
       let other : v.station ≢ r.holder = not_holder (now hist beg p s r) v.station r.led ir.led_nothing (omega arith) in
-      let found : x ≡ nx.0 = ap (λ (z : ℕ). get_or s.words z 0) (is r.log kn.seen_is_prefix nt.1) ∙ r.places.unread_stands m v.station e other (last_near r.whos v.version v.station se.last) le got.1 (length v.read) nx.0 nx.1 in
+      let found : x ≡ nx.0 = ap (λ (z : ℕ). get_or s.words z 0) (is r.log kn.seen_is_prefix nt.1) ∙ r.places.unread_stands m v.station e other (last_near r.seating v.version v.station se.last) le got.1 (length v.read) nx.0 nx.1 in
       let y = there r.events m (let q = ap length r.log_is_spelt in let g = at_below r.log m e got.1 in omega (arith, length-map r.events spell)) in
       let spells : e ≡ spell y.0 = some-injective e (spell y.0) (sym got.1 ∙ subst (λ (z : Log). get_elem? z m ≡ some (spell y.0)) r.log_is_spelt (at_map spell r.events m y.0 y.1)) in
       let more : Prefix (v.read ++ x ∷ []) e = λ j y' f. ⊎_elim (λ (g : get_elem? v.read j ≡ some y'). rd j y' g)
@@ -190,7 +190,7 @@ module _ {K : Type 0} (hist : K → List Entry) (beg : K → Start) (p : Plan K)
         keeps,
         tt,
         looked hist beg p s r k id me.1 v (word_seen v x) at refl (λ q. (q, refl))
-            record { seen_is_prefix = kn.seen_is_prefix; read_begins_next = λ j y f. (e, got.1, more j y f); floor_at_most_cursor = kn.floor_at_most_cursor; head_seen_at_most_head = kn.head_seen_at_most_head; owner_seen_at_most_head = kn.owner_seen_at_most_head; opened_at_most_open = kn.opened_at_most_open; in_role = subst (InRole n c (now hist beg p s r) (word_seen v x)) (sym role) ir; seated = λ l. let q = kn.seated l in record { start_is = q.start_is; places_are = q.places_are; opened_least = q.opened_least; last = q.last; spans_are = q.spans_are; unmade_is_new = q.unmade_is_new }; ended_is_told = kn.ended_is_told }
+            record { seen_is_prefix = kn.seen_is_prefix; read_begins_next = λ j y f. (e, got.1, more j y f); floor_at_most_cursor = kn.floor_at_most_cursor; head_seen_at_most_head = kn.head_seen_at_most_head; owner_seen_at_most_head = kn.owner_seen_at_most_head; opened_at_most_open = kn.opened_at_most_open; in_role = subst (InRole n c (now hist beg p s r) (word_seen v x)) (sym role) ir; seated = λ l. let q = kn.seated l in record { start_is = q.start_is; places_are = q.places_are; opened_least = q.opened_least; last = q.last; spans_are = q.spans_are; unmade_is_new = q.unmade_is_new }; ended_is_past = kn.ended_is_past }
             (still s r id v (word_seen v x) at (λ e. r.merge.lead_writes id v at e) (λ e. r.merge.notes id v at e) (λ l. r.merge.floors_wide id v at l)),
         (
           refl,

@@ -43,8 +43,8 @@ module _ {T : Type 0} (l : ℕ) (v : View T) where
 
   knows_probed : (p : Plan T) (m : Moment) (x : ℕ) → Knows p m v → Knows p m (probed_at l v x)
   knows_probed p m x k = elim (low x == length v.seen) as (λ (b : Bool). Knows p m (cond b hit miss)) [
-    | true ↦ record { seen_is_prefix = k.seen_is_prefix; read_begins_next = k.read_begins_next; floor_at_most_cursor = k.floor_at_most_cursor; head_seen_at_most_head = k.head_seen_at_most_head; owner_seen_at_most_head = k.owner_seen_at_most_head; opened_at_most_open = k.opened_at_most_open; in_role = k.in_role; seated = λ l. let q = k.seated l in record { start_is = q.start_is; places_are = q.places_are; opened_least = q.opened_least; last = q.last; spans_are = q.spans_are; unmade_is_new = q.unmade_is_new }; ended_is_told = k.ended_is_told }
-    | false ↦ record { seen_is_prefix = k.seen_is_prefix; read_begins_next = k.read_begins_next; floor_at_most_cursor = k.floor_at_most_cursor; head_seen_at_most_head = k.head_seen_at_most_head; owner_seen_at_most_head = k.owner_seen_at_most_head; opened_at_most_open = k.opened_at_most_open; in_role = k.in_role; seated = λ l. let q = k.seated l in record { start_is = q.start_is; places_are = q.places_are; opened_least = q.opened_least; last = q.last; spans_are = q.spans_are; unmade_is_new = q.unmade_is_new }; ended_is_told = k.ended_is_told }
+    | true ↦ record { seen_is_prefix = k.seen_is_prefix; read_begins_next = k.read_begins_next; floor_at_most_cursor = k.floor_at_most_cursor; head_seen_at_most_head = k.head_seen_at_most_head; owner_seen_at_most_head = k.owner_seen_at_most_head; opened_at_most_open = k.opened_at_most_open; in_role = k.in_role; seated = λ l. let q = k.seated l in record { start_is = q.start_is; places_are = q.places_are; opened_least = q.opened_least; last = q.last; spans_are = q.spans_are; unmade_is_new = q.unmade_is_new }; ended_is_past = k.ended_is_past }
+    | false ↦ record { seen_is_prefix = k.seen_is_prefix; read_begins_next = k.read_begins_next; floor_at_most_cursor = k.floor_at_most_cursor; head_seen_at_most_head = k.head_seen_at_most_head; owner_seen_at_most_head = k.owner_seen_at_most_head; opened_at_most_open = k.opened_at_most_open; in_role = k.in_role; seated = λ l. let q = k.seated l in record { start_is = q.start_is; places_are = q.places_are; opened_least = q.opened_least; last = q.last; spans_are = q.spans_are; unmade_is_new = q.unmade_is_new }; ended_is_past = k.ended_is_past }
   ]
 
   tag_probed : (x : ℕ) → Path Tag (tag (probed_at l v x)) (tag v)
@@ -83,7 +83,7 @@ module _ {K : Type 0} (hist : K → List Entry) (beg : K → Start) (p : Plan K)
       let stamp : y.0.stamp ≡ i = (r.log_is_lawful i y.0 (slice_some r.events i y.0 y.1)).stamp in
       let other : v.station ≢ r.holder = not_holder (now hist beg p s r) v.station r.led ir.led_nothing (omega arith) in
       let le : cursor s.words v.station ≤ i = subst (λ (z : ℕ). z ≤ i) (sym ir.cursor_is_length) (le_refl i) in
-      let stands = r.places.unread_stands i v.station e.0 other (last_near r.whos v.version v.station se.last) le e.1 1 _ (ap (λ (z : List ℕ). get_elem? z 1) spells ∙ word.0) in
+      let stands = r.places.unread_stands i v.station e.0 other (last_near r.seating v.version v.station se.last) le e.1 1 _ (ap (λ (z : List ℕ). get_elem? z 1) spells ∙ word.0) in
       ap (λ (z : ℕ). low (get_or s.words z 0)) (sym (place_early n c r.log i 1 (omega arith))) ∙ ap low stands ∙ word.1 ∙ stamp
 
   pub probes : (slots id k l : ℕ) (me : M) → me.0.role ≡ Reader → l < 8 → Lives me.0.seen l → length me.0.seen < me.0.head_last → k ≡ next_slot p.stations p.places (lanes_after me.0.seen) l 1

@@ -70,16 +70,16 @@ beside_lead n c m m' u h is hs ne same cur led Gone k = tt
 beside_lead n c m m' u h is hs ne same cur led Spent k = tt
 
 -- a station has one version
-pub one_who : (whos : List ℕ) (s t v w : ℕ) → get_elem? whos s ≡ some v → get_elem? whos t ≡ some w → s ≡ t → v ≡ w
-one_who whos s t v w a b e = some-injective v w (sym a ∙ ap (get_elem? whos) e ∙ b)
+pub one_who : (seating : List ℕ) (s t v w : ℕ) → get_elem? seating s ≡ some v → get_elem? seating t ≡ some w → s ≡ t → v ≡ w
+one_who seating s t v w a b e = some-injective v w (sym a ∙ ap (get_elem? seating) e ∙ b)
 
 -- two last stations of one version are the same
-pub one_last : (whos : List ℕ) (v s t : ℕ) → IsLast whos v s → IsLast whos v t → s ≡ t
-one_last whos v s t a b = dite (ℕ_discrete s t) (λ e. e) (λ ne. dite (dec_le s t) (λ le. absurd (a.none_later t (omega arith) b.has)) (λ gt. absurd (b.none_later s (lt_of_not-le gt) a.has)))
+pub one_last : (seating : List ℕ) (v s t : ℕ) → IsLast seating v s → IsLast seating v t → s ≡ t
+one_last seating v s t a b = dite (ℕ_discrete s t) (λ e. e) (λ ne. dite (dec_le s t) (λ le. absurd (a.none_later t (omega arith) b.has)) (λ gt. absurd (b.none_later s (lt_of_not-le gt) a.has)))
 
 -- a seat that is still to be made is of another station
-pub unmade_apart : (n versions : ℕ) (hands : List ℕ) (m : Moment) (v s made t : ℕ) → Doors n versions hands m → get_elem? m.whos s ≡ some v → Unmade versions v made t → t ≢ s
-unmade_apart n versions hands m v s made t d has u same = let e : t ≡ v = one_who m.whos t s t v (d.first t u.near) has same in let a = u.first in let b = u.other in omega arith
+pub unmade_apart : (n versions : ℕ) (hands : List ℕ) (m : Moment) (v s made t : ℕ) → Doors n versions hands m → get_elem? m.seating s ≡ some v → Unmade versions v made t → t ≢ s
+unmade_apart n versions hands m v s made t d has u same = let e : t ≡ v = one_who m.seating t s t v (d.first t u.near) has same in let a = u.first in let b = u.other in omega arith
 
 -- a seat that has the kernel is not spent, and its station is the holder's
 pub leads_lives : (r : Role) → Leads r → Live r
@@ -126,42 +126,42 @@ module _ {K : Type 0} (hist : K → List Entry) (beg : K → Start) (p : Plan K)
   apart_version s r j id u v e at ne lv lu same = ne (r.one_seat_a_version j id (tag u) (tag v) (at_map tag s.views j u e) (at_map tag s.views id v at) (lu, lv, inl same))
 
   -- the station of a seat's version has no other seat
-  pub apart_at : (s : St) (r : RuleOf s) (j id : ℕ) (u v : View K) → get_elem? s.views j ≡ some u → get_elem? s.views id ≡ some v → j ≢ id → Live v.role → Live u.role → (t : ℕ) → get_elem? r.whos t ≡ some v.version → u.station ≢ t
-  apart_at s r j id u v e at ne lv lu t has same = apart_version s r j id u v e at ne lv lu (one_who r.whos u.station t u.version v.version ((r.each_seat j u e).seated lu).last.has has same)
+  pub apart_at : (s : St) (r : RuleOf s) (j id : ℕ) (u v : View K) → get_elem? s.views j ≡ some u → get_elem? s.views id ≡ some v → j ≢ id → Live v.role → Live u.role → (t : ℕ) → get_elem? r.seating t ≡ some v.version → u.station ≢ t
+  apart_at s r j id u v e at ne lv lu t has same = apart_version s r j id u v e at ne lv lu (one_who r.seating u.station t u.version v.version ((r.each_seat j u e).seated lu).last.has has same)
 
   -- two seats that are not spent have two stations
   pub apart_from : (s : St) (r : RuleOf s) (j id : ℕ) (u v : View K) → get_elem? s.views j ≡ some u → get_elem? s.views id ≡ some v → j ≢ id → Live v.role → Live u.role → u.station ≢ v.station
   apart_from s r j id u v e at ne lv lu = apart_at s r j id u v e at ne lv lu v.station ((r.each_seat id v at).seated lv).last.has
 
   -- no seat is at a station whose seat is still to be made
-  pub apart_unmade : (s : St) (r : RuleOf s) (j id : ℕ) (u v : View K) → get_elem? s.views j ≡ some u → get_elem? s.views id ≡ some v → j ≢ id → Live v.role → Live u.role → (t : ℕ) → Unmade p.versions u.version u.made t → (z : ℕ) → get_elem? r.whos z ≡ some v.version → t ≢ z
-  apart_unmade s r j id u v e at ne lv lu t un z has same = ne (r.one_seat_a_version j id (tag u) (tag v) (at_map tag s.views j u e) (at_map tag s.views id v at) (lu, lv, inr (inl (un.first, inl (let a = un.not_made in let b : t ≡ v.version = one_who r.whos t z t v.version (r.doors.first t un.near) has same in omega arith)))))
+  pub apart_unmade : (s : St) (r : RuleOf s) (j id : ℕ) (u v : View K) → get_elem? s.views j ≡ some u → get_elem? s.views id ≡ some v → j ≢ id → Live v.role → Live u.role → (t : ℕ) → Unmade p.versions u.version u.made t → (z : ℕ) → get_elem? r.seating z ≡ some v.version → t ≢ z
+  apart_unmade s r j id u v e at ne lv lu t un z has same = ne (r.one_seat_a_version j id (tag u) (tag v) (at_map tag s.views j u e) (at_map tag s.views id v at) (lu, lv, inr (inl (un.first, inl (let a = un.not_made in let b : t ≡ v.version = one_who r.seating t z t v.version (r.doors.first t un.near) has same in omega arith)))))
 
   pub in_role : (s : St) (r : RuleOf s) (id : ℕ) (v : View K) → get_elem? s.views id ≡ some v → (role : Role) → v.role ≡ role → InRole p.stations p.places (now hist beg p s r) v role
   in_role s r id v at role is = subst (InRole p.stations p.places (now hist beg p s r) v) is (r.each_seat id v at).in_role
 
   -- no other seat still has to leave a station of this seat's version
-  pub former_apart : (s : St) (r : RuleOf s) (j id : ℕ) (u v : View K) → get_elem? s.views j ≡ some u → get_elem? s.views id ≡ some v → j ≢ id → Live v.role → Live u.role → (z : ℕ) → get_elem? r.whos z ≡ some v.version → u.role ≡ Moving → u.former ≢ z
-  former_apart s r j id u v e at ne lv lu z has is same = apart_version s r j id u v e at ne lv lu (one_who r.whos u.former z u.version v.version (in_role s r j u e Moving is).version_is has same)
+  pub former_apart : (s : St) (r : RuleOf s) (j id : ℕ) (u v : View K) → get_elem? s.views j ≡ some u → get_elem? s.views id ≡ some v → j ≢ id → Live v.role → Live u.role → (z : ℕ) → get_elem? r.seating z ≡ some v.version → u.role ≡ Moving → u.former ≢ z
+  former_apart s r j id u v e at ne lv lu z has is same = apart_version s r j id u v e at ne lv lu (one_who r.seating u.former z u.version v.version (in_role s r j u e Moving is).version_is has same)
 
   pub seated : (s : St) (r : RuleOf s) (id : ℕ) (v : View K) → get_elem? s.views id ≡ some v → (role : Role) → v.role ≡ role → Live role → IsSeated p (now hist beg p s r) v
   seated s r id v at role is l = (r.each_seat id v at).seated (subst Live (sym is) l)
 
   -- all open stations are the room's
-  pub open_near : (s : St) (r : RuleOf s) → length r.whos ≤ p.stations
+  pub open_near : (s : St) (r : RuleOf s) → length r.seating ≤ p.stations
   open_near s r = let d = r.doors in let a = d.all in let b = d.planned in let e = below_most (planned hist beg p) (length r.log + 1) in
-      ⊎_elim (λ (q : r.ready ≡ length r.whos). omega arith) (λ (q : (r.ready ≡ length r.whos + 1) × (r.phase ≡ held) × (cursor s.words (length r.whos) ≡ length r.log)). let z = q.0 in omega arith) d.ready_is
+      ⊎_elim (λ (q : r.ready ≡ length r.seating). omega arith) (λ (q : (r.ready ≡ length r.seating + 1) × (r.phase ≡ held) × (cursor s.words (length r.seating) ≡ length r.log)). let z = q.0 in omega arith) d.ready_is
 
   -- a seat's station is one of them
   pub seat_near : (s : St) (r : RuleOf s) (id : ℕ) (v : View K) → get_elem? s.views id ≡ some v → Live v.role → v.station < p.stations
-  seat_near s r id v at l = let a = last_near r.whos v.version v.station ((r.each_seat id v at).seated l).last in let b = open_near s r in omega arith
+  seat_near s r id v at l = let a = last_near r.seating v.version v.station ((r.each_seat id v at).seated l).last in let b = open_near s r in omega arith
 
   pub role_near : (s : St) (r : RuleOf s) (id : ℕ) (v : View K) → get_elem? s.views id ≡ some v → (role : Role) → v.role ≡ role → Live role → v.station < p.stations
   role_near s r id v at role is l = seat_near s r id v at (subst Live (sym is) l)
 
   -- where the owner isn't held, no station is ready but the open ones
-  pub none_ready : (s : St) (r : RuleOf s) → r.phase ≢ held → r.ready ≡ length r.whos
-  none_ready s r ne = ⊎_elim (λ (q : r.ready ≡ length r.whos). q) (λ (q : (r.ready ≡ length r.whos + 1) × (r.phase ≡ held) × (cursor s.words (length r.whos) ≡ length r.log)). absurd (ne q.1)) r.doors.ready_is
+  pub none_ready : (s : St) (r : RuleOf s) → r.phase ≢ held → r.ready ≡ length r.seating
+  none_ready s r ne = ⊎_elim (λ (q : r.ready ≡ length r.seating). q) (λ (q : (r.ready ≡ length r.seating + 1) × (r.phase ≡ held) × (cursor s.words (length r.seating) ≡ length r.log)). absurd (ne q.1)) r.doors.ready_is
 
   -- the first events of the log are lawful
   pub told : (s : St) (r : RuleOf s) (xs : Log) → Prefix xs r.log → Tells xs

@@ -16,7 +16,7 @@ use Rattle.nv_words.specs.Spell.{spell, IsWhole, low, pair, bit}
 use Rattle.nv_places.proofs.StampLaws.{number_word}
 use Rattle.nv_words.specs.Begins.{Begins}
 use Rattle.nv_words.proofs.SpellLaws.{spell_whole, shorter}
-use Rattle.nv_room.specs.Kept.{HasNext, AreOf}
+use Rattle.nv_room.specs.Caches.{HasNext, AreOf}
 use Rattle.nv_room.specs.Placement.{Log}
 use Rattle.nv_room.proofs.Lists.{there, at_get}
 

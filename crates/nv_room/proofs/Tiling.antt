@@ -115,44 +115,44 @@ rising_handed low (y ∷ ys) x k = (k.0, rising_handed (y.station + 1) ys x k.1)
 
 -- Which spans opened the stations
 
-pub opened_most : (next : ℕ) (whos : List ℕ) (xs : List Span) → Opened next whos xs → next ≤ length whos
-opened_most next whos [] o = omega arith
-opened_most next whos (x ∷ xs) o = let h = opened_most (next + bit x.handed) whos xs o.1 in omega arith
+pub opened_most : (next : ℕ) (seating : List ℕ) (xs : List Span) → Opened next seating xs → next ≤ length seating
+opened_most next seating [] o = omega arith
+opened_most next seating (x ∷ xs) o = let h = opened_most (next + bit x.handed) seating xs o.1 in omega arith
 
 unhanded_adds : (x : Span) → x.handed ≡ false → bit x.handed ≡ 0
 unhanded_adds x e = ap bit e
 
-pub opened_more : (next : ℕ) (whos : List ℕ) (xs : List Span) (x : Span) → x.handed ≡ false → Opened next whos xs → Opened next whos (xs ++ x ∷ [])
-opened_more next whos [] x e o = (λ t. absurd (let q : true ≡ false = sym t ∙ e in cc), (let z = unhanded_adds x e in let w : next ≡ length whos = o in omega arith))
-opened_more next whos (y ∷ ys) x e o = (o.0, opened_more (next + bit y.handed) whos ys x e o.1)
+pub opened_more : (next : ℕ) (seating : List ℕ) (xs : List Span) (x : Span) → x.handed ≡ false → Opened next seating xs → Opened next seating (xs ++ x ∷ [])
+opened_more next seating [] x e o = (λ t. absurd (let q : true ≡ false = sym t ∙ e in cc), (let z = unhanded_adds x e in let w : next ≡ length seating = o in omega arith))
+opened_more next seating (y ∷ ys) x e o = (o.0, opened_more (next + bit y.handed) seating ys x e o.1)
 
-pub opened_grown : (next : ℕ) (whos : List ℕ) (xs : List Span) (x : Span) → Opened next whos (xs ++ x ∷ []) → Opened next whos (xs ++ (record x { to = x.to + 1 }) ∷ [])
-opened_grown next whos [] x o = (o.0, o.1)
-opened_grown next whos (y ∷ ys) x o = (o.0, opened_grown (next + bit y.handed) whos ys x o.1)
+pub opened_grown : (next : ℕ) (seating : List ℕ) (xs : List Span) (x : Span) → Opened next seating (xs ++ x ∷ []) → Opened next seating (xs ++ (record x { to = x.to + 1 }) ∷ [])
+opened_grown next seating [] x o = (o.0, o.1)
+opened_grown next seating (y ∷ ys) x o = (o.0, opened_grown (next + bit y.handed) seating ys x o.1)
 
 -- the last span opens one more station
-pub opened_handed : (next : ℕ) (whos : List ℕ) (xs : List Span) (x : Span) → x.handed ≡ false → IsLast whos x.version x.station → Opened next whos (xs ++ x ∷ []) → Opened next (whos ++ x.version ∷ []) (xs ++ (record x { handed = true }) ∷ [])
-opened_handed next whos [] x e last o = let all : next ≡ length whos = (let z = unhanded_adds x e in let w = o.1 in omega arith) in (
-  λ _. (subst (λ (z : List ℕ). IsLast z x.version x.station) (sym (take-append-le next whos (x.version ∷ []) (omega arith) ∙ take_all next whos (omega arith))) last, at_last whos x.version next (sym all)),
-  (let z = length-append whos (x.version ∷ []) in omega arith),
+pub opened_handed : (next : ℕ) (seating : List ℕ) (xs : List Span) (x : Span) → x.handed ≡ false → IsLast seating x.version x.station → Opened next seating (xs ++ x ∷ []) → Opened next (seating ++ x.version ∷ []) (xs ++ (record x { handed = true }) ∷ [])
+opened_handed next seating [] x e last o = let all : next ≡ length seating = (let z = unhanded_adds x e in let w = o.1 in omega arith) in (
+  λ _. (subst (λ (z : List ℕ). IsLast z x.version x.station) (sym (take-append-le next seating (x.version ∷ []) (omega arith) ∙ take_all next seating (omega arith))) last, at_last seating x.version next (sym all)),
+  (let z = length-append seating (x.version ∷ []) in omega arith),
 )
-opened_handed next whos (y ∷ ys) x e last o = let most = opened_most (next + bit y.handed) whos (ys ++ x ∷ []) o.1 in (
-  λ t. let w = o.0 t in (subst (λ (z : List ℕ). IsLast z y.version y.station) (sym (take-append-le next whos (x.version ∷ []) (omega arith))) w.0, at_longer whos (x.version ∷ []) next y.version w.1),
-  opened_handed (next + bit y.handed) whos ys x e last o.1,
+opened_handed next seating (y ∷ ys) x e last o = let most = opened_most (next + bit y.handed) seating (ys ++ x ∷ []) o.1 in (
+  λ t. let w = o.0 t in (subst (λ (z : List ℕ). IsLast z y.version y.station) (sym (take-append-le next seating (x.version ∷ []) (omega arith))) w.0, at_longer seating (x.version ∷ []) next y.version w.1),
+  opened_handed (next + bit y.handed) seating ys x e last o.1,
 )
 
 -- The stations of a version
 
 -- one more station, of another version
-pub last_other : (whos : List ℕ) (v w s : ℕ) → w ≢ v → IsLast whos v s → IsLast (whos ++ w ∷ []) v s
-last_other whos v w s ne l = record {
-  has = at_longer whos (w ∷ []) s v l.has;
-  none_later = λ t lt e. ⊎_elim (λ (q : get_elem? whos t ≡ some v). l.none_later t lt q) (λ (q : (t ≡ length whos) × (w ≡ v)). ne q.1) (at_end whos w v t e);
+pub last_other : (seating : List ℕ) (v w s : ℕ) → w ≢ v → IsLast seating v s → IsLast (seating ++ w ∷ []) v s
+last_other seating v w s ne l = record {
+  has = at_longer seating (w ∷ []) s v l.has;
+  none_later = λ t lt e. ⊎_elim (λ (q : get_elem? seating t ≡ some v). l.none_later t lt q) (λ (q : (t ≡ length seating) × (w ≡ v)). ne q.1) (at_end seating w v t e);
 }
 
 -- the new station is its version's last
-pub last_new : (whos : List ℕ) (v : ℕ) → IsLast (whos ++ v ∷ []) v (length whos)
-last_new whos v = record {
-  has = at_last whos v (length whos) refl;
-  none_later = λ t lt e. let b = at_below (whos ++ v ∷ []) t v e in let n = length-append whos (v ∷ []) in absurd (omega arith);
+pub last_new : (seating : List ℕ) (v : ℕ) → IsLast (seating ++ v ∷ []) v (length seating)
+last_new seating v = record {
+  has = at_last seating v (length seating) refl;
+  none_later = λ t lt e. let b = at_below (seating ++ v ∷ []) t v e in let n = length-append seating (v ∷ []) in absurd (omega arith);
 }

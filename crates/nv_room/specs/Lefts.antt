@@ -33,23 +33,23 @@ module _ {K : Type 0} {G : Ghosts K} where
     pub each : (i : ℕ) (r : Left K G) → get_elem? rs i ≡ some r → Came r es × (get_elem? ys r.version ≡ some (length (left_view r).seen))
 
   -- what a version's seat tells, in terms of the whole history
-  pub record TellsOf (history : Log) (counts : List ℕ) (spans : List Span) (whos : List ℕ) (r : Left K G) : Type 0 where
+  pub record TellsOf (history : Log) (counts : List ℕ) (spans : List Span) (seating : List ℕ) (r : Left K G) : Type 0 where
     pub count : get_elem? counts r.version ≡ some (length (left_view r).seen)
     pub seen : (left_view r).seen ≡ take (length (left_view r).seen) history
     pub read : Reads history (left_view r).seen (left_view r).read
     pub led : (left_view r).spans ≡ of_version r.version spans
-    pub last : IsLast whos r.version r.station
+    pub last : IsLast seating r.version r.station
     pub before : Before spans r.station (left_view r).seen (left_view r).read
 
   -- The spans, each of an open station and its version, tile the history in order of station. The first stations are those of the versions;
   -- the others were opened by the hand-overs.
   pub record AllTell (history : Log) (counts : List ℕ) (rs : List (Left K G)) : Type 0 where
     pub spans : List Span
-    pub whos : List ℕ
+    pub seating : List ℕ
     pub tile : Tiles 0 spans (length history)
     pub rise : Rising 0 spans
-    pub made : (i : ℕ) (x : Span) → get_elem? spans i ≡ some x → get_elem? whos x.station ≡ some x.version
-    pub first : (s : ℕ) → s < length counts → get_elem? whos s ≡ some s
-    pub is_version : (s v : ℕ) → get_elem? whos s ≡ some v → v < length counts
-    pub opened : Opened (length counts) whos spans
-    pub each : (i : ℕ) (r : Left K G) → get_elem? rs i ≡ some r → TellsOf history counts spans whos r
+    pub made : (i : ℕ) (x : Span) → get_elem? spans i ≡ some x → get_elem? seating x.station ≡ some x.version
+    pub first : (s : ℕ) → s < length counts → get_elem? seating s ≡ some s
+    pub is_version : (s v : ℕ) → get_elem? seating s ≡ some v → v < length counts
+    pub opened : Opened (length counts) seating spans
+    pub each : (i : ℕ) (r : Left K G) → get_elem? rs i ≡ some r → TellsOf history counts spans seating r

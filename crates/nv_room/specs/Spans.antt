@@ -57,15 +57,15 @@ Before spans station seen read = (i : ℕ) (x : Span) → get_elem? spans i ≡ 
 -- Which version each open station has, from the first station on
 
 -- the version's last station
-pub record IsLast (whos : List ℕ) (version station : ℕ) : Type 0 where
-  pub has : get_elem? whos station ≡ some version
-  pub none_later : (t : ℕ) → station < t → get_elem? whos t ≢ some version
+pub record IsLast (seating : List ℕ) (version station : ℕ) : Type 0 where
+  pub has : get_elem? seating station ≡ some version
+  pub none_later : (t : ℕ) → station < t → get_elem? seating t ≢ some version
 
 -- a span that ended with a hand-over opened the station `next` for its version, which had no later one
 abbrev pub Opens : ℕ → List ℕ → Span → Type 0
-Opens next whos x = IsLast (take next whos) x.version x.station × (get_elem? whos next ≡ some x.version)
+Opens next seating x = IsLast (take next seating) x.version x.station × (get_elem? seating next ≡ some x.version)
 
 -- the stations from `next` on were opened by these spans, in their order
 abbrev pub Opened : ℕ → List ℕ → List Span → Type 0
-Opened next whos [] = next ≡ length whos
-Opened next whos (x ∷ xs) = (x.handed ≡ true → Opens next whos x) × Opened (next + bit x.handed) whos xs
+Opened next seating [] = next ≡ length seating
+Opened next seating (x ∷ xs) = (x.handed ≡ true → Opens next seating x) × Opened (next + bit x.handed) seating xs

@@ -8,13 +8,13 @@ ghost use Rattle.nv_room.specs.Lefts.{LeftsOf, IsEach, Counted, AllTell};
 
 use crate::plays::TakeBack;
 use crate::room::{Left, Room};
-use crate::rule::Kept;
+use crate::rule::RoomRule;
 use crate::view::{Plan, View};
 use atomic_table::{Seat, Table};
 use nv_calls::SyscallKernel;
 use std::alloc::Global;
 
-type Board<K> = Table<Option<K>, View<K>, Plan<K>, Kept<K>, Global>;
+type Board<K> = Table<Option<K>, View<K>, Plan<K>, RoomRule<K>, Global>;
 
 /// What is left of a room: the kernel, and for each version how many events its seat saw.
 #[derive(Drop)]

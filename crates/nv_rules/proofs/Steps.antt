@@ -12,7 +12,7 @@ use Rattle.nv_bpf.specs.declared.action.Action.TheVariants.{LoadWord, Load, Load
 use Rattle.nv_bpf.specs.Actions.{action_of}
 use Rattle.nv_bpf.specs.Verified.{unless, action_fault, fault_by, op_fault, list_fault, is_return, ends_in_return}
 use Rattle.nv_bpf.proofs.FilterLaws.{list_fault-none, list_fault-op}
-use Rattle.nv_rules.specs.Values.{State, Outcome, Ends, Goes, ends_without, computed, operand_of, holds, acted, stepped, gone_on, returned_from}
+use Rattle.nv_rules.specs.Values.{State, Effect, Ends, Goes, ends_without, computed, operand_of, holds, acted, stepped, gone_on, returned_from}
 use Rattle.nv_rules.specs.Machines.{IsUsable, IsKnown, IsSound}
 
 unless-none : (b : Bool) (f : FilterFault) → unless b f ≡ None → b ≡ true
@@ -119,7 +119,7 @@ returned_from-drop pair (suc n) s [] = refl
 returned_from-drop pair (suc n) s (op ∷ ops) = returned_from-drop pair n s ops
 
 -- at an instruction, by how it ends
-pub returned_from-at : (pair : List ℕ) (i : ℕ) (s : State) (ops : List Op) (op : Op) (o : Outcome) → slice_get ops i ≡ Some op → stepped op pair s ≡ Some o
+pub returned_from-at : (pair : List ℕ) (i : ℕ) (s : State) (ops : List Op) (op : Op) (o : Effect) → slice_get ops i ≡ Some op → stepped op pair s ≡ Some o
     → returned_from pair 0 s (drop i ops) ≡ gone_on (Some o) (λ n t. returned_from pair n t (drop (i + 1) ops))
 unfolding returned_from
 returned_from-at pair i s ops op o e g =

@@ -7,16 +7,16 @@ use Rattle.nv_bpf.specs.Actions.{action_of}
 use Rattle.nv_rules.specs.declared.machine.Registers.{Registers}
 use Rattle.nv_rules.specs.declared.machine.Step.{Step}
 use Rattle.nv_rules.specs.declared.machine.Step.TheVariants.{Return, Next, Forward}
-use Rattle.nv_rules.specs.Values.{State, Outcome, Ends, Goes}
+use Rattle.nv_rules.specs.Values.{State, Effect, Ends, Goes}
 
 -- the registers with the scratch memory
 abbrev pub state_of : Registers → List ℕ → State
 state_of r scratch = record { accumulator = r.accumulator; index = r.index; scratch = scratch }
 
-abbrev pub outcome_of : Step → Registers → List ℕ → Outcome
-outcome_of (Return value) r scratch = Ends value
-outcome_of Next r scratch = Goes 0 (state_of r scratch)
-outcome_of (Forward n) r scratch = Goes n (state_of r scratch)
+abbrev pub effect_of : Step → Registers → List ℕ → Effect
+effect_of (Return value) r scratch = Ends value
+effect_of Next r scratch = Goes 0 (state_of r scratch)
+effect_of (Forward n) r scratch = Goes n (state_of r scratch)
 
 -- the places that an instruction reads or writes are there
 abbrev pub IsUsable : Action → ℕ → Type 0

@@ -56,19 +56,19 @@ holds AtLeast a b = nat_le b a
 holds CommonBit a b = not (bit_and a b == 0)
 
 -- An instruction ends the filter with a value, or it goes past so many of those that follow it.
-pub data Outcome : Type 0 where
-  Ends : ℕ → Outcome
-  Goes : ℕ → State → Outcome
+pub data Effect : Type 0 where
+  Ends : ℕ → Effect
+  Goes : ℕ → State → Effect
 
-abbrev pub goes_with : Register → ℕ → State → Outcome
+abbrev pub goes_with : Register → ℕ → State → Effect
 goes_with r n s = Goes 0 (with_held r n s)
 
 -- a filter whose arithmetic has no result ends with 0
-abbrev pub ends_without : Option ℕ → State → Outcome
+abbrev pub ends_without : Option ℕ → State → Effect
 ends_without None s = Ends 0
 ends_without (Some n) s = goes_with Accumulator n s
 
-abbrev pub acted : Action → Op → List ℕ → State → Outcome
+abbrev pub acted : Action → Op → List ℕ → State → Effect
 acted LoadWord op pair s = goes_with Accumulator (slice_index pair (op.k / 4)) s
 acted (Load r) op pair s = goes_with r op.k s
 acted (LoadScratch r) op pair s = goes_with r (slice_index s.scratch op.k) s
@@ -83,12 +83,12 @@ acted ReturnAccumulator op pair s = Ends s.accumulator
 acted (Copy r) op pair s = goes_with r (held (other r) s) s
 
 -- how the filter goes on, by what is run past so many instructions
-abbrev pub gone_on : Option Outcome → (ℕ → State → Option ℕ) → Option ℕ
+abbrev pub gone_on : Option Effect → (ℕ → State → Option ℕ) → Option ℕ
 gone_on None later = None
 gone_on (Some (Ends value)) later = Some value
 gone_on (Some (Goes n s)) later = later n s
 
-abbrev pub stepped : Op → List ℕ → State → Option Outcome
+abbrev pub stepped : Op → List ℕ → State → Option Effect
 stepped op pair s = option_map (λ a. acted a op pair s) (action_of op.code)
 
 -- what a list of instructions returns, from the one past so many; it never runs off the end of a filter

@@ -1,7 +1,7 @@
 // The machine of filters.
 ghost use Rattle.std.specs.Prelude.{◌≡◌, ℕ, List, Some, replicate, if◌then◌else◌};
 ghost use Rattle.nv_rules.specs.Values.{Goes, start, computed, goes_with, ends_without, holds, acted, stepped};
-ghost use Rattle.nv_rules.specs.Machines.{state_of, outcome_of, IsUsable, IsSound};
+ghost use Rattle.nv_rules.specs.Machines.{state_of, effect_of, IsUsable, IsSound};
 
 use crate::Pair;
 use nv_bpf::{Action, Arithmetic, Comparison, Op, Operand, Register, decode};
@@ -71,7 +71,7 @@ impl Registers {
     // The register becomes this, and the next instruction follows.
     #[inline(always)]
     fn load(&mut self, register: Register, value: u32) -> Step
-        ensures { (scratch : List ℕ) → outcome_of result self.new scratch ≡ goes_with register value (state_of self.old scratch) }
+        ensures { (scratch : List ℕ) → effect_of result self.new scratch ≡ goes_with register value (state_of self.old scratch) }
     {
         match register {
             Register::Accumulator => self.accumulator = value,
@@ -83,7 +83,7 @@ impl Registers {
     // The accumulator becomes the result with this second operand, if there is one.
     #[inline(always)]
     fn compute(&mut self, arithmetic: Arithmetic, b: u32) -> Step
-        ensures { (scratch : List ℕ) → outcome_of result self.new scratch ≡ ends_without (computed arithmetic self.old.accumulator b) (state_of self.old scratch) }
+        ensures { (scratch : List ℕ) → effect_of result self.new scratch ≡ ends_without (computed arithmetic self.old.accumulator b) (state_of self.old scratch) }
     {
         match compute(arithmetic, self.accumulator, b) {
             Some(value) => self.load(Register::Accumulator, value),
@@ -94,7 +94,7 @@ impl Registers {
     // Where to go on by a comparison with this second operand.
     #[inline(always)]
     fn branch(&self, comparison: Comparison, b: u32, op: &Op) -> Step
-        ensures { (scratch : List ℕ) → outcome_of result self.now scratch ≡ Goes (if holds comparison self.now.accumulator b then op.now.jt else op.now.jf) (state_of self.now scratch) }
+        ensures { (scratch : List ℕ) → effect_of result self.now scratch ≡ Goes (if holds comparison self.now.accumulator b then op.now.jt else op.now.jf) (state_of self.now scratch) }
     {
         let taken = holds(comparison, self.accumulator, b);
         Step::Forward(u32::from(if taken { op.jt } else { op.jf }))
@@ -103,7 +103,7 @@ impl Registers {
     #[inline(always)]
     fn act(&mut self, scratch: &mut [u32; 16], action: Action, op: &Op, pair: &Pair) -> Step
         requires { IsUsable action op.now.k }
-        ensures { outcome_of result self.new scratch.new ≡ acted action op.now pair.now.words (state_of self.old scratch.old) }
+        ensures { effect_of result self.new scratch.new ≡ acted action op.now pair.now.words (state_of self.old scratch.old) }
     {
         match action {
             Action::LoadWord => self.load(Register::Accumulator, pair.words[(op.k / 4) as usize]),
@@ -135,7 +135,7 @@ impl Registers {
     #[inline(always)]
     pub fn step(&mut self, scratch: &mut [u32; 16], op: &Op, pair: &Pair) -> Step
         requires { IsSound op.now }
-        ensures { stepped op.now pair.now.words (state_of self.old scratch.old) ≡ Some (outcome_of result self.new scratch.new) }
+        ensures { stepped op.now pair.now.words (state_of self.old scratch.old) ≡ Some (effect_of result self.new scratch.new) }
     {
         match decode(op.code) {
             Some(action) => self.act(scratch, action, op, pair),

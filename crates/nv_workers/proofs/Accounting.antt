@@ -9,11 +9,11 @@ use Rattle.nv_replay.specs.Monitor.{Run, part, numbers, begun, lines_of, sequenc
 use Rattle.nv_workers.proofs.Stations.{Tile}
 use Rattle.nv_replay.proofs.Numbers.{map_at}
 use Rattle.nv_workers.proofs.Gathering.{gathered}
-use Rattle.nv_workers.proofs.Opening.{Opens, Parts, reads, whos}
+use Rattle.nv_workers.proofs.Opening.{Opens, Parts, reads, seating}
 
 module _ {P : Type 0} (g : Behaviour P) (laws : IsProcess g) (judges : ℕ → Judge) (start : Start) (most : ℕ) (cuts : ℕ → Option ℕ) (hands : List ℕ)
     (h : List Entry) (spans : ℕ → List (ℕ × ℕ)) (total : ℕ) (who : ℕ → ℕ) (tells : ℕ → ℕ → Option Standing) where
-  first_whos : (ps : List P) (k : ℕ) → ((j : ℕ) → k ≤ j → j < k + length ps → who j ≡ j) → numbers k ps ≡ whos g judges start most cuts hands h spans total who tells k (length ps)
+  first_whos : (ps : List P) (k : ℕ) → ((j : ℕ) → k ≤ j → j < k + length ps → who j ≡ j) → numbers k ps ≡ seating g judges start most cuts hands h spans total who tells k (length ps)
   first_whos [] k f = refl
   first_whos (p ∷ ps) k f = λ i. sym (f k (omega arith) (omega arith)) i ∷ first_whos ps (k + 1) (λ j a b. f j (omega arith) (omega arith)) i
 

@@ -24,23 +24,23 @@ use Rattle.nv_workers.proofs.Spelt.{same_spelt, long_as}
 use Rattle.nv_workers.proofs.Told.{accounts}
 
 -- what the seat of version k tells, in terms of the whole history
-pub record IsTold {T : Type 0} (history : Log) (spans : List Span) (whos : List ℕ) (k : ℕ) (w : View T) : Type 0 where
+pub record IsTold {T : Type 0} (history : Log) (spans : List Span) (seating : List ℕ) (k : ℕ) (w : View T) : Type 0 where
   pub seen : w.seen ≡ take (length w.seen) history
   pub read : Reads history w.seen w.read
   pub led : w.spans ≡ of_version k spans
-  pub last : IsLast whos k w.station
+  pub last : IsLast seating k w.station
   pub before : Before spans w.station w.seen w.read
 
 -- the spans of so many versions tile the history in order of station
 pub record AreTold {T : Type 0} (history : Log) (versions : ℕ) (w : ℕ → View T) : Type 0 where
   pub spans : List Span
-  pub whos : List ℕ
+  pub seating : List ℕ
   pub tile : Tiles 0 spans (length history)
   pub rise : Rising 0 spans
-  pub made : (j : ℕ) (x : Span) → get_elem? spans j ≡ some x → get_elem? whos x.station ≡ some x.version
-  pub first : (k : ℕ) → k < versions → get_elem? whos k ≡ some k
-  pub opened : Opened versions whos spans
-  pub each : (k : ℕ) → k < versions → IsTold history spans whos k (w k)
+  pub made : (j : ℕ) (x : Span) → get_elem? spans j ≡ some x → get_elem? seating x.station ≡ some x.version
+  pub first : (k : ℕ) → k < versions → get_elem? seating k ≡ some k
+  pub opened : Opened versions seating spans
+  pub each : (k : ℕ) → k < versions → IsTold history spans seating k (w k)
 
 -- Words
 
@@ -122,7 +122,7 @@ module _ (judges : ℕ → Judge) {T : Type 0} (start : Start) (most : ℕ) (han
         let r = words_by h (w k).seen (w k).read (told.each k l).read in
         (r.0, ap (λ (m : ℕ). spelt spell (slice_get h m)) (long_by k l) ∙ r.1);
     spans = told.spans;
-    whos = told.whos;
+    seating = told.seating;
     tile = subst (λ (m : ℕ). Tiles 0 told.spans m) (long_as h) told.tile;
     rise = told.rise;
     made = told.made;

@@ -180,13 +180,13 @@ module _ (judges : ℕ → Judge) {K : Type 0} {G : Ghosts K} (room : Room K) (m
       subst (λ (j : ℕ). HasEnded judges (G.start (origin room)) most (hands_of room) j old.at.process new (view_at d ls k)) z (ended_at d (i + 1) fs vs ls r.1 k old new a b)
 
   -- what the seat of version k tells
-  told_one : (history : Log) (counts : List ℕ) (spans : List Span) (whos : List ℕ) (k : ℕ) (l : Left K G) → version_of_left l ≡ k → TellsOf history counts spans whos l
-      → IsTold history spans whos k (left_view l)
-  told_one history counts spans whos k l at t = record {
+  told_one : (history : Log) (counts : List ℕ) (spans : List Span) (seating : List ℕ) (k : ℕ) (l : Left K G) → version_of_left l ≡ k → TellsOf history counts spans seating l
+      → IsTold history spans seating k (left_view l)
+  told_one history counts spans seating k l at t = record {
     seen = t.seen;
     read = t.read;
     led = t.led ∙ ap (λ (j : ℕ). of_version j spans) at;
-    last = (let L : ℕ → ℕ → Type 0 = λ j s. IsLast whos j s in subst (λ (s : ℕ). L k s) (sym l.station_is) (subst (λ (j : ℕ). L j l.station) at t.last));
+    last = (let L : ℕ → ℕ → Type 0 = λ j s. IsLast seating j s in subst (λ (s : ℕ). L k s) (sym l.station_is) (subst (λ (j : ℕ). L j l.station) at t.last));
     before = subst (λ (s : ℕ). Before spans s (left_view l).seen (left_view l).read) (sym l.station_is) t.before;
   }
 
@@ -194,16 +194,16 @@ module _ (judges : ℕ → Judge) {K : Type 0} {G : Ghosts K} (room : Room K) (m
       → length counts ≡ versions_of room → AreTold history (versions_of room) (view_at d ls)
   told_by d history counts fs vs ls a t wide = record {
     spans = t.spans;
-    whos = t.whos;
+    seating = t.seating;
     tile = t.tile;
     rise = t.rise;
     made = t.made;
     first = λ k h. t.first k (omega arith);
-    opened = subst (λ (n : ℕ). Opened n t.whos t.spans) wide t.opened;
+    opened = subst (λ (n : ℕ). Opened n t.seating t.spans) wide t.opened;
     each = λ k h.
         let x = left_there ls k (let all = a.all in omega arith) in
         let at : version_of_left x.0 ≡ k = (let q = (left_at 0 fs vs ls a.ran k x.0 x.1).1 in omega arith) in
-        subst (λ (w : View K). IsTold history t.spans t.whos k w) (sym (view_here d ls k x.0 x.1)) (told_one history counts t.spans t.whos k x.0 at (t.each k x.0 x.1));
+        subst (λ (w : View K). IsTold history t.spans t.seating k w) (sym (view_here d ls k x.0 x.1)) (told_one history counts t.spans t.seating k x.0 at (t.each k x.0 x.1));
   }
 
   -- what `end` promises

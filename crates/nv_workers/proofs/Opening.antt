@@ -45,13 +45,13 @@ module _ {P : Type 0} (g : Behaviour P) (judges : ℕ → Judge) (start : Start)
       × ((j : ℕ) → (who k == j) ≡ false → tells (suc k) j ≡ tells k j)
 
   -- the versions of c stations, from number k on
-  abbrev pub whos : ℕ → ℕ → List ℕ
-  whos k zero = []
-  whos k (suc c) = who k ∷ whos (k + 1) c
+  abbrev pub seating : ℕ → ℕ → List ℕ
+  seating k zero = []
+  seating k (suc c) = who k ∷ seating (k + 1) c
 
-  whos_last : (k c : ℕ) → whos k (suc c) ≡ whos k c ++ who (k + c) ∷ []
+  whos_last : (k c : ℕ) → seating k (suc c) ≡ seating k c ++ who (k + c) ∷ []
   whos_last k zero = let n : k ≡ k + 0 = omega arith in ap (λ (x : ℕ). who x ∷ []) n
-  whos_last k (suc c) = let n : k + 1 + c ≡ k + suc c = omega arith in ap (λ l. who k ∷ l) (whos_last (k + 1) c ∙ ap (λ (x : ℕ). whos (k + 1) c ++ who x ∷ []) n)
+  whos_last k (suc c) = let n : k + 1 + c ≡ k + suc c = omega arith in ap (λ l. who k ∷ l) (whos_last (k + 1) c ∙ ap (λ (x : ℕ). seating (k + 1) c ++ who x ∷ []) n)
 
   -- of each version, where station k has its turn: its process, the parts that it led at the stations below, and what is told of it
   pub record Parts (ps : List P) (m : Run P) (k : ℕ) : Type 0 where
@@ -128,12 +128,12 @@ module _ {P : Type 0} (g : Behaviour P) (judges : ℕ → Judge) (start : Start)
   after_parts : (ps : List P) (m : Run P) (k c : ℕ) (v : Part P) (p : P) (f : Follower P) (l : Leader P) (b : Bool) → Parts ps m k → slice_get m.parts (who k) ≡ Some v
       → slice_get ps (who k) ≡ Some p → v.process ≡ p → v.led ≡ led_below k (who k) → spans k ≡ (length m.log, length l.log) ∷ []
       → tells (suc k) (who k) ≡ told_by v f l (length m.log) b → ((j : ℕ) → (who k == j) ≡ false → tells (suc k) j ≡ tells k j)
-      → Parts ps (after_lead m (who k) (whos (k + 1) c) v f l b) (suc k)
+      → Parts ps (after_lead m (who k) (seating (k + 1) c) v f l b) (suc k)
   after_parts ps m k c v p f l true s q hp vp vl e t o =
-      put_parts ps m k v (record v { led = v.led ++ (length m.log, length l.log) ∷ []; told = None }) p (whos (k + 1) c ++ who k ∷ []) l.log false s q hp vp
+      put_parts ps m k v (record v { led = v.led ++ (length m.log, length l.log) ∷ []; told = None }) p (seating (k + 1) c ++ who k ∷ []) l.log false s q hp vp
       (ap (λ (x : List (ℕ × ℕ)). x ++ (length m.log, length l.log) ∷ []) vl ∙ own_led k (who k) ((length m.log, length l.log) ∷ []) refl e) (sym t) o
   after_parts ps m k c v p f l false s q hp vp vl e t o =
-      put_parts ps m k v (record v { led = v.led ++ (length m.log, length l.log) ∷ []; told = Some (led_line v f (length m.log) l) }) p (whos (k + 1) c) l.log (is_exited l.fate) s q hp vp
+      put_parts ps m k v (record v { led = v.led ++ (length m.log, length l.log) ∷ []; told = Some (led_line v f (length m.log) l) }) p (seating (k + 1) c) l.log (is_exited l.fate) s q hp vp
       (ap (λ (x : List (ℕ × ℕ)). x ++ (length m.log, length l.log) ∷ []) vl ∙ own_led k (who k) ((length m.log, length l.log) ∷ []) refl e) (sym t) o
 
   after_order : (m : Run P) (i : ℕ) (order : List ℕ) (v : Part P) (f : Follower P) (l : Leader P) (b : Bool) → b ≡ true → (after_lead m i order v f l b).order ≡ order ++ i ∷ []
@@ -148,11 +148,11 @@ module _ {P : Type 0} (g : Behaviour P) (judges : ℕ → Judge) (start : Start)
   one_on k = omega arith
 
   -- the stations as the versions tell them, in the order in which they were opened
-  pub reads : (ps : List P) (n k c : ℕ) (m : Run P) (more : List Entry) → h ≡ m.log ++ more → Parts ps m k → m.order ≡ whos k c → Opens ps n k c
+  pub reads : (ps : List P) (n k c : ℕ) (m : Run P) (more : List Entry) → h ≡ m.log ++ more → Parts ps m k → m.order ≡ seating k c → Opens ps n k c
       → Tile spans k n (length m.log) (length h) → Reads ps n k m
   reads ps zero k c m more he s o q t = record {
     last = m;
-    seats = (o ∙ ap (whos k) q, refl);
+    seats = (o ∙ ap (seating k) q, refl);
     parts = subst (λ (x : ℕ). Parts ps m x) (let e : k ≡ k + 0 = omega arith in e) s;
   }
   reads ps (suc n) k zero m more he s o q t = absurd q
@@ -161,12 +161,12 @@ module _ {P : Type 0} (g : Behaviour P) (judges : ℕ → Judge) (start : Start)
       let v = s.each (who k) p hp in
       let w' = went_as k (who k) v.0 (seat p k) (sym v.2) (sym v.3) w in
       let z : t.0 ≡ length m.log = subst (λ (y : List (ℕ × ℕ)). SpanFrom y (length m.log) t.0) w.none t.1 in
-      let m1 : Run P = record m { order = whos (k + 1) c } in
-      let s1 : Parts ps m1 (k + 1) = subst (λ (x : ℕ). Parts ps m1 x) (one_on k) (went_parts ps m k (whos (k + 1) c) w.none tl s) in
+      let m1 : Run P = record m { order = seating (k + 1) c } in
+      let s1 : Parts ps m1 (k + 1) = subst (λ (x : ℕ). Parts ps m1 x) (one_on k) (went_parts ps m k (seating (k + 1) c) w.none tl s) in
       let rec = reads ps n (k + 1) c m1 more he s1 refl r.1 (subst (λ (y : ℕ). Tile spans (k + 1) n y (length h)) z t.2) in
       let e : k + 1 + n ≡ k + suc n = omega arith in record {
         last = rec.last;
-        seats = (who k, whos (k + 1) c, v.0, o, v.1, inl (w', rec.seats));
+        seats = (who k, seating (k + 1) c, v.0, o, v.1, inl (w', rec.seats));
         parts = subst (λ (x : ℕ). Parts ps rec.last x) e rec.parts;
       }
   reads ps (suc n) k (suc c) m more he s o (p, hp, (inr x, tl, r)) t =
@@ -183,8 +183,8 @@ module _ {P : Type 0} (g : Behaviour P) (judges : ℕ → Judge) (start : Start)
       let f0 : tracked_by g judges start most cuts hands (take x.from x.log) (who k) (seat p k) ≡ f = λ j. tracked_by g judges start most cuts hands (log0 j) (who k) (seat0 j) in
       let tells0 : tells (suc k) (who k) ≡ told_by v.0 f y.0.end (length m.log) b = tl.0
       ∙ (λ j. told_by (seat0 j) (f0 j) (sym y.2 j) (from j) (same j)) in
-      let m1 : Run P = after_station g judges start most cuts hands h spans total m k (who k) (whos (k + 1) c) v.0 y.0 in
-      let l1 : m1.log ≡ y.0.log = after_log m (who k) (whos (k + 1) c) v.0 f y.0.end b ∙ y.0.end_log in
+      let m1 : Run P = after_station g judges start most cuts hands h spans total m k (who k) (seating (k + 1) c) v.0 y.0 in
+      let l1 : m1.log ≡ y.0.log = after_log m (who k) (seating (k + 1) c) v.0 f y.0.end b ∙ y.0.end_log in
       let span : spans k ≡ (length m.log, length y.0.end.log) ∷ [] = y.0.span ∙ (λ j. (z.0 j, ap length (sym y.0.end_log) j) ∷ []) in
       let s0 = after_parts ps m k c v.0 p f y.0.end b s v.1 hp v.2 v.3 span tells0 tl.1 in
       let s1 : Parts ps m1 (k + 1) = subst (λ (u : ℕ). Parts ps m1 u) (one_on k) s0 in
@@ -194,11 +194,11 @@ module _ {P : Type 0} (g : Behaviour P) (judges : ℕ → Judge) (start : Start)
       let rec : Reads ps n (k + 1) m1 = elim r [
         | inl d ↦
             let j : k + suc c ≡ k + 1 + c = omega arith in
-            let last : whos (k + 1) (suc c) ≡ whos (k + 1) c ++ who k ∷ [] = whos_last (k + 1) c ∙ ap (λ (u : ℕ). whos (k + 1) c ++ u ∷ []) (ap who (sym j) ∙ d.1) in
-            reads ps n (k + 1) (suc c) m1 y.0.rest h1 s1 (after_order m (who k) (whos (k + 1) c) v.0 f y.0.end b (sym same ∙ d.0) ∙ sym last) d.2 t1
-        | inr d ↦ reads ps n (k + 1) c m1 y.0.rest h1 s1 (after_rest m (who k) (whos (k + 1) c) v.0 f y.0.end b (sym same ∙ d.0)) d.1 t1
+            let last : seating (k + 1) (suc c) ≡ seating (k + 1) c ++ who k ∷ [] = whos_last (k + 1) c ∙ ap (λ (u : ℕ). seating (k + 1) c ++ u ∷ []) (ap who (sym j) ∙ d.1) in
+            reads ps n (k + 1) (suc c) m1 y.0.rest h1 s1 (after_order m (who k) (seating (k + 1) c) v.0 f y.0.end b (sym same ∙ d.0) ∙ sym last) d.2 t1
+        | inr d ↦ reads ps n (k + 1) c m1 y.0.rest h1 s1 (after_rest m (who k) (seating (k + 1) c) v.0 f y.0.end b (sym same ∙ d.0)) d.1 t1
       ] in record {
         last = rec.last;
-        seats = (who k, whos (k + 1) c, v.0, o, v.1, inr (y.0, rec.seats));
+        seats = (who k, seating (k + 1) c, v.0, o, v.1, inr (y.0, rec.seats));
         parts = subst (λ (u : ℕ). Parts ps rec.last u) e rec.parts;
       }

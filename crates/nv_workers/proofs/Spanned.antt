@@ -219,56 +219,56 @@ handed_front (y ∷ front) x back a = handed_front front x back a.1
 
 -- Stations that spans opened
 
-module _ (whos : List ℕ) where
-  opened_if : (x : Span) (xs : List Span) (next m : ℕ) (b : Bool) → x.handed ≡ b → (x.handed ≡ true → Opens next whos x) → next ≤ m
-      → ((n : ℕ) → n ≡ next + bit b → n ≤ m → (j : ℕ) × (y : Span) × (get_elem? xs j ≡ some y) × Opens m whos y)
-      → (j : ℕ) × (y : Span) × (get_elem? (x ∷ xs) j ≡ some y) × Opens m whos y
+module _ (seating : List ℕ) where
+  opened_if : (x : Span) (xs : List Span) (next m : ℕ) (b : Bool) → x.handed ≡ b → (x.handed ≡ true → Opens next seating x) → next ≤ m
+      → ((n : ℕ) → n ≡ next + bit b → n ≤ m → (j : ℕ) × (y : Span) × (get_elem? xs j ≡ some y) × Opens m seating y)
+      → (j : ℕ) × (y : Span) × (get_elem? (x ∷ xs) j ≡ some y) × Opens m seating y
   opened_if x xs next m true e o l ih = elim (cases_lt next m) [
     | inl k ↦ (let r = ih (next + bit true) refl (omega arith) in (suc r.0, r.1, r.2, r.3))
-    | inr k ↦ (let q : next ≡ m = omega arith in (0, x, refl, subst (λ (n : ℕ). Opens n whos x) q (o e)))
+    | inr k ↦ (let q : next ≡ m = omega arith in (0, x, refl, subst (λ (n : ℕ). Opens n seating x) q (o e)))
   ]
   opened_if x xs next m false e o l ih = let r = ih (next + bit false) refl (omega arith) in (suc r.0, r.1, r.2, r.3)
 
   -- each later station was opened by a span
-  pub opened_at : (xs : List Span) (next m : ℕ) → Opened next whos xs → next ≤ m → m < length whos
-      → (j : ℕ) × (y : Span) × (get_elem? xs j ≡ some y) × Opens m whos y
+  pub opened_at : (xs : List Span) (next m : ℕ) → Opened next seating xs → next ≤ m → m < length seating
+      → (j : ℕ) × (y : Span) × (get_elem? xs j ≡ some y) × Opens m seating y
   opened_at [] next m o l b = absurd (omega (arith, o))
   opened_at (x ∷ xs) next m o l b = opened_if x xs next m x.handed refl o.0 l
-      (λ n e k. opened_at xs n m (subst (λ (z : ℕ). Opened z whos xs) (sym e) o.1) k b)
+      (λ n e k. opened_at xs n m (subst (λ (z : ℕ). Opened z seating xs) (sym e) o.1) k b)
 
-  none_if : (x : Span) (next : ℕ) (b : Bool) → x.handed ≡ b → next ≤ x.station → (x.handed ≡ true → Opens next whos x) → next + bit x.handed ≡ next
-  none_if x next true e l o = let t = taken_at next whos x.station x.version (o e).0.has in absurd (let u = t.0 in omega arith)
+  none_if : (x : Span) (next : ℕ) (b : Bool) → x.handed ≡ b → next ≤ x.station → (x.handed ≡ true → Opens next seating x) → next + bit x.handed ≡ next
+  none_if x next true e l o = let t = taken_at next seating x.station x.version (o e).0.has in absurd (let u = t.0 in omega arith)
   none_if x next false e l o = let z : bit x.handed ≡ bit false = ap bit e in omega (arith, z)
 
   -- spans of no open station open none
-  pub none_opened : (xs : List Span) (next k : ℕ) → Rising k xs → next ≤ k → Opened next whos xs → next ≡ length whos
+  pub none_opened : (xs : List Span) (next k : ℕ) → Rising k xs → next ≤ k → Opened next seating xs → next ≡ length seating
   none_opened [] next k r l o = o
   none_opened (x ∷ xs) next k r l o =
       let lx = r.0 in
       let e : next + bit x.handed ≡ next = none_if x next x.handed refl (omega arith) o.0 in
-      none_opened xs next (x.station + 1) r.1 (omega arith) (subst (λ (z : ℕ). Opened z whos xs) e o.1)
+      none_opened xs next (x.station + 1) r.1 (omega arith) (subst (λ (z : ℕ). Opened z seating xs) e o.1)
 
-  module _ (versions : ℕ) (spans : List Span) (first : (k : ℕ) → k < versions → get_elem? whos k ≡ some k) (opened : Opened versions whos spans) where
+  module _ (versions : ℕ) (spans : List Span) (first : (k : ℕ) → k < versions → get_elem? seating k ≡ some k) (opened : Opened versions seating spans) where
     -- each station's version is one of them
-    below_by : (n m : ℕ) → m < n → m < length whos → who_of whos m < versions
+    below_by : (n m : ℕ) → m < n → m < length seating → who_of seating m < versions
     below_by zero m l b = absurd (omega arith)
     below_by (suc n) m l b = elim (cases_lt m versions) [
-      | inl v ↦ (let e = who_is whos m m (first m v) in omega (arith, e))
+      | inl v ↦ (let e = who_is seating m m (first m v) in omega (arith, e))
       | inr v ↦ (
           let o = opened_at spans versions m opened v b in
-          let t = taken_at m whos o.1.station o.1.version o.3.0.has in
+          let t = taken_at m seating o.1.station o.1.version o.3.0.has in
           let near = t.0 in
           let r = below_by n o.1.station (omega arith) (omega arith) in
-          let a = who_is whos o.1.station o.1.version t.1 in
-          let c = who_is whos m o.1.version o.3.1 in
+          let a = who_is seating o.1.station o.1.version t.1 in
+          let c = who_is seating m o.1.version o.3.1 in
           omega (arith, a, c))
     ]
 
-    pub who_below : (m : ℕ) → m < length whos → who_of whos m < versions
+    pub who_below : (m : ℕ) → m < length seating → who_of seating m < versions
     who_below m b = below_by (m + 1) m (omega arith) b
 
     -- a station without a span is its version's last one
-    later_by : (n m k i : ℕ) → m < n → k < m → get_elem? whos k ≡ some i → get_elem? whos m ≡ some i
+    later_by : (n m k i : ℕ) → m < n → k < m → get_elem? seating k ≡ some i → get_elem? seating m ≡ some i
         → ((j : ℕ) (x : Span) → get_elem? spans j ≡ some x → x.station ≡ k → ⊥) → ⊥
     later_by zero m k i l km hk hm none = absurd (omega arith)
     later_by (suc n) m k i l km hk hm none = elim (cases_lt m versions) [
@@ -277,13 +277,13 @@ module _ (whos : List ℕ) where
           let b : k ≡ i = some-injective k i (sym (first k (omega arith)) ∙ hk) in
           absurd (omega arith))
       | inr v ↦ (
-          let o = opened_at spans versions m opened v (place_below whos m i hm) in
+          let o = opened_at spans versions m opened v (place_below seating m i hm) in
           let x = o.1 in
           let vi : x.version ≡ i = some-injective x.version i (sym o.3.1 ∙ hm) in
-          let t = taken_at m whos x.station x.version o.3.0.has in
-          let xi : get_elem? whos x.station ≡ some i = t.1 ∙ ap (λ (z : ℕ). some z) vi in
+          let t = taken_at m seating x.station x.version o.3.0.has in
+          let xi : get_elem? seating x.station ≡ some i = t.1 ∙ ap (λ (z : ℕ). some z) vi in
           elim (cases_lt x.station k) [
-            | inl a ↦ o.3.0.none_later k a (take_at m whos k x.version km (hk ∙ ap (λ (z : ℕ). some z) (sym vi)))
+            | inl a ↦ o.3.0.none_later k a (take_at m seating k x.version km (hk ∙ ap (λ (z : ℕ). some z) (sym vi)))
             | inr a ↦ elim (cases_lt k x.station) [
               | inl b ↦ (let near = t.0 in later_by n x.station k i (omega arith) b hk xi none)
               | inr b ↦ none o.0 x o.2 (omega arith)
@@ -291,6 +291,6 @@ module _ (whos : List ℕ) where
           ])
     ]
 
-    pub none_later : (m k i : ℕ) → k < m → get_elem? whos k ≡ some i → get_elem? whos m ≡ some i
+    pub none_later : (m k i : ℕ) → k < m → get_elem? seating k ≡ some i → get_elem? seating m ≡ some i
         → ((j : ℕ) (x : Span) → get_elem? spans j ≡ some x → x.station ≡ k → ⊥) → ⊥
     none_later m k i l hk hm none = later_by (m + 1) m k i (omega arith) l hk hm none

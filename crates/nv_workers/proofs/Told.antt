@@ -80,10 +80,10 @@ module _ {P : Type 0} (g : Behaviour P) (laws : IsProcess g) (judges : ℕ → J
   ps = map process_of olds
 
   abbrev total : ℕ
-  total = length fin.whos
+  total = length fin.seating
 
   abbrev who : ℕ → ℕ
-  who k = who_of fin.whos k
+  who k = who_of fin.seating k
 
   abbrev own : ℕ → List (ℕ × ℕ)
   own k = map ends_of (of_station k fin.spans)
@@ -132,11 +132,11 @@ module _ {P : Type 0} (g : Behaviour P) (laws : IsProcess g) (judges : ℕ → J
 
   -- Stations
 
-  station_of : (k : ℕ) → k < total → get_elem? fin.whos k ≡ some (who k)
-  station_of k l = who_at fin.whos k l
+  station_of : (k : ℕ) → k < total → get_elem? fin.seating k ≡ some (who k)
+  station_of k l = who_at fin.seating k l
 
   is_version : (k : ℕ) → k < total → who k < length news
-  is_version k l = who_below fin.whos (length news) fin.spans fin.first fin.opened k l
+  is_version k l = who_below fin.seating (length news) fin.spans fin.first fin.opened k l
 
   -- no later span of the version than its last station's
   not_later : (i : ℕ) → i < length news → (j : ℕ) (x : Span) → get_elem? fin.spans j ≡ some x → x.version ≡ i → x.station ≤ (left i).station
@@ -152,7 +152,7 @@ module _ {P : Type 0} (g : Behaviour P) (laws : IsProcess g) (judges : ℕ → J
       let s = (left i).station in
       let il = is_version k l in
       elim (cases_lt k s) [
-        | inl m ↦ absurd (none_later fin.whos (length news) fin.spans fin.first fin.opened s k i m (station_of k l) (fin.last i il).has (none_there k fin.spans none))
+        | inl m ↦ absurd (none_later fin.seating (length news) fin.spans fin.first fin.opened s k i m (station_of k l) (fin.last i il).has (none_there k fin.spans none))
         | inr m ↦ elim (cases_lt s k) [
           | inl n ↦ absurd ((fin.last i il).none_later k n (station_of k l))
           | inr n ↦ omega arith
@@ -266,7 +266,7 @@ module _ {P : Type 0} (g : Behaviour P) (laws : IsProcess g) (judges : ℕ → J
     here = ap (λ (z : List Span). get_elem? z (length ys)) all ∙ behind_at ys xs x
 
     version : x.version ≡ iv
-    version = sym (who_is fin.whos k x.version (ap (get_elem? fin.whos) (sym at) ∙ fin.made (length ys) x here))
+    version = sym (who_is fin.seating k x.version (ap (get_elem? fin.seating) (sym at) ∙ fin.made (length ys) x here))
 
     abbrev before : List Span
     before = of_version iv ys
@@ -457,8 +457,8 @@ module _ {P : Type 0} (g : Behaviour P) (laws : IsProcess g) (judges : ℕ → J
   other_told : (k j : ℕ) → k < total → (who k == j) ≡ false → tells (suc k) j ≡ tells k j
   other_told k j l ne = elim (cases_lt j (length news)) [
     | inl m ↦ others_by k j true (apart_le k (left j).station (λ e.
-        let a : get_elem? fin.whos k ≡ some j = ap (get_elem? fin.whos) (sym e) ∙ (fin.last j m).has in
-        let b : who k ≡ j = who_is fin.whos k j a in
+        let a : get_elem? fin.seating k ≡ some j = ap (get_elem? fin.seating) (sym e) ∙ (fin.last j m).has in
+        let b : who k ≡ j = who_is fin.seating k j a in
         let c : (who k == j) ≡ true = grind (arith, nat_tests) in
         let z : true ≡ false = sym c ∙ ne in cc))
     | inr m ↦ told_none_of (slice_get news j) (nat_le (suc k) (left j).station) (nat_le k (left j).station) (unknown j (slice_get news j) refl m)
@@ -568,10 +568,10 @@ module _ {P : Type 0} (g : Behaviour P) (laws : IsProcess g) (judges : ℕ → J
       λ j q. other_told k j l q,
     )
 
-    led_step : (n c : ℕ) (b : Bool) → x.handed ≡ b → (x.handed ≡ true → Opens' (k + suc c) fin.whos x)
+    led_step : (n c : ℕ) (b : Bool) → x.handed ≡ b → (x.handed ≡ true → Opens' (k + suc c) fin.seating x)
         → OpensHere n (k + 1) (c + bit b) → OpensHere (suc n) k (suc c)
     led_step n c true hd o rec =
-        let w : who (k + suc c) ≡ who k = who_is fin.whos (k + suc c) x.version (o hd).1 ∙ version k l ys xs x all at one_here in
+        let w : who (k + suc c) ≡ who k = who_is fin.seating (k + suc c) x.version (o hd).1 ∙ version k l ys xs x all at one_here in
         let z : c + bit true ≡ suc c = omega arith in (
           (ran (who k) (is_version k l)).old.at.process,
           process_at k l,
@@ -587,26 +587,26 @@ module _ {P : Type 0} (g : Behaviour P) (laws : IsProcess g) (judges : ℕ → J
   abbrev End : ℕ → ℕ → ℕ → Type 0
   End n k c = OpensHere n k c × Behind total fin.spans
 
-  opens : (n k c : ℕ) (ys xs : List Span) → fin.spans ≡ ys ++ xs → AreBelow k ys → Rising k xs → Opened (k + c) fin.whos xs → k + n ≡ total → Behind k ys → End n k c
+  opens : (n k c : ℕ) (ys xs : List Span) → fin.spans ≡ ys ++ xs → AreBelow k ys → Rising k xs → Opened (k + c) fin.seating xs → k + n ≡ total → Behind k ys → End n k c
   opens zero k c ys [] all low rise o m e =
       let n : k ≡ total = omega arith in
       (omega (arith, o), subst (λ (z : ℕ). Behind z fin.spans) n (subst (λ (z : List Span). Behind k z) (sym (all ∙ append-nil ys)) e))
   opens zero k c ys (x ∷ xs) all low rise o m e =
       let here = ap (λ (z : List Span). get_elem? z (length ys)) all ∙ behind_at ys xs x in
-      let b = place_below fin.whos x.station x.version (fin.made (length ys) x here) in
+      let b = place_below fin.seating x.station x.version (fin.made (length ys) x here) in
       absurd (let a = rise.0 in omega arith)
-  opens (suc n) k zero ys xs all low rise o m e = let z = none_opened fin.whos xs (k + 0) k rise (omega arith) o in absurd (omega arith)
+  opens (suc n) k zero ys xs all low rise o m e = let z = none_opened fin.seating xs (k + 0) k rise (omega arith) o in absurd (omega arith)
   opens (suc n) k (suc c) ys [] all low rise o m e =
       let l : k < total = omega arith in
       let j : k + suc c ≡ k + 1 + c = omega arith in
-      let r = opens n (k + 1) c ys [] all (below_more k ys low) tt (subst (λ (z : ℕ). Opened z fin.whos []) j o) (omega arith) (went_behind k l ys [] all low tt e) in
+      let r = opens n (k + 1) c ys [] all (below_more k ys low) tt (subst (λ (z : ℕ). Opened z fin.seating []) j o) (omega arith) (went_behind k l ys [] all low tt e) in
       (went_step k l ys [] all low tt e n c r.0, r.1)
   opens (suc n) k (suc c) ys (x ∷ xs) all low rise o m e = elim (cases_lt k x.station) [
     | inl lt ↦ (
         let l : k < total = omega arith in
         let j : k + suc c ≡ k + 1 + c = omega arith in
         let rise' : Rising (k + 1) (x ∷ xs) = ((omega arith), rise.1) in
-        let r = opens n (k + 1) c ys (x ∷ xs) all (below_more k ys low) rise' (subst (λ (z : ℕ). Opened z fin.whos (x ∷ xs)) j o) (omega arith) (went_behind k l ys (x ∷ xs) all low rise' e) in
+        let r = opens n (k + 1) c ys (x ∷ xs) all (below_more k ys low) rise' (subst (λ (z : ℕ). Opened z fin.seating (x ∷ xs)) j o) (omega arith) (went_behind k l ys (x ∷ xs) all low rise' e) in
         (went_step k l ys (x ∷ xs) all low rise' e n c r.0, r.1))
     | inr ge ↦ (
         let l : k < total = omega arith in
@@ -615,7 +615,7 @@ module _ {P : Type 0} (g : Behaviour P) (laws : IsProcess g) (judges : ℕ → J
         let j : k + suc c + bit x.handed ≡ k + 1 + (c + bit x.handed) = omega arith in
         let low' : AreBelow (k + 1) (ys ++ x ∷ []) = below_last (k + 1) ys x (below_more k ys low) (omega arith) in
         let rise' : Rising (k + 1) xs = subst (λ (z : ℕ). Rising (z + 1) xs) at rise.1 in
-        let r = opens n (k + 1) (c + bit x.handed) (ys ++ x ∷ []) xs (all ∙ sym (append_assoc ys (x ∷ []) xs)) low' rise' (subst (λ (z : ℕ). Opened z fin.whos xs) j o.1) (omega arith)
+        let r = opens n (k + 1) (c + bit x.handed) (ys ++ x ∷ []) xs (all ∙ sym (append_assoc ys (x ∷ []) xs)) low' rise' (subst (λ (z : ℕ). Opened z fin.seating xs) j o.1) (omega arith)
         (led_behind k l ys xs x all low at rise.1 e) in
         (led_step k l ys xs x all low at rise.1 e n c x.handed refl o.0 r.0, r.1))
   ]
@@ -656,7 +656,7 @@ module _ {P : Type 0} (g : Behaviour P) (laws : IsProcess g) (judges : ℕ → J
             ap (line_of g judges start most cuts hands h i v) none ∙ (λ j. record { fate = (b j).fate; seen = (b j).seen; led = vl j; rewrites = (b j).rewrites }))
         | inr d ↦ (
             let at = (fin.last i l).has in
-            let m = place_below fin.whos (left i).station i at in
+            let m = place_below fin.seating (left i).station i at in
             let b : nat_le total (left i).station ≡ false = grind (arith, nat_tests) in
             let told : v.told ≡ Some (standing_of x.new) = vt ∙ (T true ∙ (λ j. told_if x.new (d.led.leading j) (b j))) in
             ap (line_of g judges start most cuts hands h i v) told)
@@ -669,9 +669,9 @@ module _ {P : Type 0} (g : Behaviour P) (laws : IsProcess g) (judges : ℕ → J
   told_account : record { log = h; lines = map standing_of news } ≡ sequence g judges start most cuts hands ps
   told_account =
       let few : length news ≡ length ps = long ∙ sym (map_long olds) in
-      let o = opens total 0 (length ps) [] fin.spans refl tt fin.rise (let z : length news ≡ 0 + length ps = omega (arith, few) in subst (λ (y : ℕ). Opened y fin.whos fin.spans) z fin.opened) (omega arith) (λ i. refl) in
-      let t = tile_by own total 0 0 (length h) fin.spans fin.tile fin.rise (λ j x q. let b = place_below fin.whos x.station x.version (fin.made j x q) in omega arith) (λ k a b. refl) in
-      let r = workers g laws judges start most cuts hands h own total who tells ps (λ k l. who_is fin.whos k k (fin.first k (omega arith)))
+      let o = opens total 0 (length ps) [] fin.spans refl tt fin.rise (let z : length news ≡ 0 + length ps = omega (arith, few) in subst (λ (y : ℕ). Opened y fin.seating fin.spans) z fin.opened) (omega arith) (λ i. refl) in
+      let t = tile_by own total 0 0 (length h) fin.spans fin.tile fin.rise (λ j x q. let b = place_below fin.seating x.station x.version (fin.made j x q) in omega arith) (λ k a b. refl) in
+      let r = workers g laws judges start most cuts hands h own total who tells ps (λ k l. who_is fin.seating k k (fin.first k (omega arith)))
       (λ i. let b : nat_le 0 (left i).station ≡ true = grind (arith, nat_tests) in ap (told_of (slice_get news i)) b ∙ untold (slice_get news i)) o.0 t in
       let lines : lines_of g judges start most cuts hands h 0 r.last.parts ≡ map standing_of news = lines_by 0 r.last.parts news (r.parts.same ∙ sym few)
       (λ k v u a b.

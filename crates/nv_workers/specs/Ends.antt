@@ -60,14 +60,14 @@ pub record IsFinished (spell : Entry → List ℕ) (h : List Entry) (versions : 
   pub words : (k : ℕ) → k < versions → (more : List ℕ) × (spelt spell (slice_get h (length (left k).seen)) ≡ (left k).words ++ more)
   -- all spans, and the version of each station
   pub spans : List Span
-  pub whos : List ℕ
+  pub seating : List ℕ
   pub tile : Tiles 0 spans (length h)
   pub rise : Rising 0 spans
-  pub made : (j : ℕ) (x : Span) → get_elem? spans j ≡ some x → get_elem? whos x.station ≡ some x.version
-  pub first : (k : ℕ) → k < versions → get_elem? whos k ≡ some k
-  pub opened : Opened versions whos spans
+  pub made : (j : ℕ) (x : Span) → get_elem? spans j ≡ some x → get_elem? seating x.station ≡ some x.version
+  pub first : (k : ℕ) → k < versions → get_elem? seating k ≡ some k
+  pub opened : Opened versions seating spans
   pub led : (k : ℕ) → k < versions → (left k).spans ≡ of_version k spans
-  pub last : (k : ℕ) → k < versions → IsLast whos k (left k).station
+  pub last : (k : ℕ) → k < versions → IsLast seating k (left k).station
   pub before : (k : ℕ) → k < versions → (j : ℕ) (x : Span) → get_elem? spans j ≡ some x → (left k).station < x.station
       → (length (left k).seen ≤ x.from) × (0 < length (left k).words → length (left k).seen < x.from)
 

@@ -13,7 +13,7 @@ use Rattle.nv_command.specs.Seen.{limits_view}
 use Rattle.nv_command.specs.Words.{Limits}
 use Rattle.nv_cli.specs.Account.{begun}
 use Rattle.nv_cli.specs.Due.{Says}
-use Rattle.nv_cli.specs.Outcome.{NoMemory, Summed, told}
+use Rattle.nv_cli.specs.Outcome.{NoMemory, Summed, totals_of}
 use Rattle.nv_cli.proofs.Counted.{few_lines}
 use Rattle.nv_cli.proofs.Generating.{made_owes}
 use Rattle.nv_cli.proofs.Running.{run_of}
@@ -25,8 +25,8 @@ returns-in_default g c = record { outcome = NoMemory; owed = inr refl; says = c.
 pub returns-then-starved : goal.returns-then-starved
 returns-then-starved g c = record { outcome = NoMemory; owed = inr refl; says = c.put_line-then-starved.ensures }
 
-pub outcome-requires-after_bounds : goal.outcome-requires-after_bounds
-outcome-requires-after_bounds g c κs =
+pub totals-requires-after_bounds : goal.totals-requires-after_bounds
+totals-requires-after_bounds g c κs =
     few_lines (judge_of (option_map (λ f. f.now) c.as_ref.result)) (start_of_script c.args.made.kernel.setup) c.usual-limits.result.calls
     (cuts_of (map standing_of c.in-Ok.account.versions.items)) c.args.made.hands.items c.args.made.versions.items c.in-Ok.account.versions.items c.in-Ok.account.kernel.log
     c.in-Ok.ensures.account.account c.requires.made.few
@@ -46,8 +46,8 @@ returns-in-Ok-summary g c =
     let run = run_of limits setup rules made.machines c.args.made.hands.items c.args.made.versions.items c.in-Ok.account.versions.items log c.requires.planned c.in-Ok.ensures.account begin in
     let never : list_any (λ line. is_memory line.fate) lines ≡ false =
     ap (λ (versions : List (Running Proc)). list_any (λ line. is_memory line.fate) (map standing_of versions)) (sym c.deref.ensures.value) ∙ sym c.starved.ensures ∙ c.if-starved.false in
-    let text : c.deref-in-Ok-summary.result.now ≡ summary n (told (output_of (start_of_script setup) log) account) =
-    c.deref-in-Ok-summary.ensures.value ∙ c.in-Ok-summary.ensures ∙ ap (summary n) (c.outcome.ensures ∙ ap (λ (start : Start). told (output_of start log) account) c.in-Ok.ensures.start) in
+    let text : c.deref-in-Ok-summary.result.now ≡ summary n (totals_of (output_of (start_of_script setup) log) account) =
+    c.deref-in-Ok-summary.ensures.value ∙ c.in-Ok-summary.ensures ∙ ap (summary n) (c.totals.ensures ∙ ap (λ (start : Start). totals_of (output_of start log) account) c.in-Ok.ensures.start) in
     record {
       outcome = Summed n setup account;
       owed = inl (made_owes n setup c.args.made.rules rules made.machines limits account made.run c.as_ref.ensures.value c.usual-limits.ensures run never);

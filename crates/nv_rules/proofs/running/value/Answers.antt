@@ -1,7 +1,7 @@
 use Rattle.std.proofs.Common.{◌≡◌, Some, ap, sym, ◌∙◌, arith, unwrap_or}
 use Rattle.nv_bpf.proofs.FilterLaws.{list_fault-none}
 use Rattle.nv_rules.specs.Values.{returned, returned_from, stepped, Goes}
-use Rattle.nv_rules.specs.Machines.{state_of, outcome_of}
+use Rattle.nv_rules.specs.Machines.{state_of, effect_of}
 use Rattle.nv_rules.proofs.Steps.{first, first-sound, first-ends, first-within, first-goes}
 use Rattle.nv_rules.proofs.running.value.Goals as goal
 
@@ -20,7 +20,7 @@ pub step-requires : goal.step-requires
 step-requires c = first-sound _ _ _ _ _ _ c.as_slice-rest.ensures.verified c.loop-value.invariant
 
 ends : (c : goal.In-Return) → returned c.args.filter.now c.args.pair.now.words ≡ Some c.in-Return.value
-ends c = first-ends _ _ _ _ _ _ c.loop-value.invariant (c.step.ensures ∙ ap (λ r. Some (outcome_of r c.step.new.self c.step.new.scratch)) c.in-Return.is)
+ends c = first-ends _ _ _ _ _ _ c.loop-value.invariant (c.step.ensures ∙ ap (λ r. Some (effect_of r c.step.new.self c.step.new.scratch)) c.in-Return.is)
 
 pub returns-in-Return-clause-returned : goal.returns-in-Return-clause-returned
 returns-in-Return-clause-returned c = ends c
@@ -30,16 +30,16 @@ returns-in-Return-clause-value c = sym (ap (λ o. unwrap_or o 0) (ends c))
 
 pub loop-value-preserved-in-Next : goal.loop-value-preserved-in-Next
 loop-value-preserved-in-Next c =
-    let goes = c.step.ensures ∙ ap (λ r. Some (outcome_of r c.step.new.self c.step.new.scratch)) c.in-Next.is in
+    let goes = c.step.ensures ∙ ap (λ r. Some (effect_of r c.step.new.self c.step.new.scratch)) c.in-Next.is in
     first-goes _ _ _ _ _ 0 _ _ _ c.as_slice-rest.ensures.verified c.loop-value.invariant goes c.behind-rest.ensures
 
 goes : (c : goal.In-Forward) → stepped (first c.loop-value.rest.now) c.args.pair.now.words (state_of c.loop-value.registers c.loop-value.scratch) ≡ Some (Goes c.in-Forward.skipped (state_of c.step.new.self c.step.new.scratch))
-goes c = c.step.ensures ∙ ap (λ r. Some (outcome_of r c.step.new.self c.step.new.scratch)) c.in-Forward.is
+goes c = c.step.ensures ∙ ap (λ r. Some (effect_of r c.step.new.self c.step.new.scratch)) c.in-Forward.is
 
 pub behind-rest-requires-in-Forward : goal.behind-rest-requires-in-Forward
 behind-rest-requires-in-Forward c = let within = first-within _ _ _ _ _ _ _ _ c.as_slice-rest.ensures.verified c.loop-value.invariant (goes c) in omega arith
 
 pub loop-value-preserved : goal.loop-value-preserved
 loop-value-preserved c =
-    let goes = c.step.ensures ∙ ap (λ r. Some (outcome_of r c.step.new.self c.step.new.scratch)) c.in-Forward.is in
+    let goes = c.step.ensures ∙ ap (λ r. Some (effect_of r c.step.new.self c.step.new.scratch)) c.in-Forward.is in
     first-goes _ _ _ _ _ _ _ _ _ c.as_slice-rest.ensures.verified c.loop-value.invariant goes c.behind-rest-in-Forward.ensures

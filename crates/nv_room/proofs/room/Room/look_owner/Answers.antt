@@ -1,5 +1,5 @@
 use Rattle.std.proofs.Common.{rules, arith, sym, subst, ap, ◌∙◌, ◌<◌, ◌≤◌, ℕ, length}
-use Rattle.nv_room.specs.Kept.{HasNext}
+use Rattle.nv_room.specs.Caches.{HasNext}
 use Rattle.nv_room.specs.Trails.{Trails, NotedAt}
 use Rattle.nv_room.proofs.Placement.{header_inside}
 use Rattle.nv_room.proofs.Looks.{looks_owner}

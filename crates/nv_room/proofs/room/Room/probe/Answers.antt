@@ -5,7 +5,7 @@ use Rattle.nv_words.specs.Spell.{low}
 use Rattle.nv_places.specs.Logs.{lanes_after}
 use Rattle.nv_places.specs.declared.spot.Spot.{Spot}
 use Rattle.nv_room.specs.Placement.{next_slot, table_words}
-use Rattle.nv_room.specs.Kept.{HasNext}
+use Rattle.nv_room.specs.Caches.{HasNext}
 use Rattle.nv_room.specs.Trails.{Trails, IsSpot, NotedAt}
 use Rattle.nv_room.specs.Steps.{IsOpen, probed_at}
 use Rattle.nv_room.proofs.Probes.{probes}

@@ -1,7 +1,7 @@
 // The line that sums a run up.
 ghost use Rattle.std.specs.Prelude.{◌≡◌, ◌++◌, IfOk, OnOk};
 ghost use Rattle.nv_gen.specs.Made.{field, summary};
-ghost use Rattle.nv_gen.specs.Plans.{outcome_in};
+ghost use Rattle.nv_gen.specs.Plans.{totals_in};
 
 use crate::plan::Plan;
 use itoa::Buffer;
@@ -9,7 +9,7 @@ use std::alloc::{AllocError, Global};
 
 /// What the run of a number came to.
 #[derive(Clone, Copy, Debug, PartialEq, Eq)]
-pub struct Outcome {
+pub struct Totals {
     /// The bytes of its output.
     pub output: u64,
     /// The events of its log.
@@ -30,17 +30,17 @@ fn push_field(text: &mut Vec<u8>, name: &[u8], value: u64) -> Result<(), AllocEr
 
 /// The line that sums the run of a number up.
 #[tactic(auto, unfolding(crate::specs::Made::summary))]
-pub fn summary(alloc: Global, number: u32, outcome: &Outcome) -> Result<Vec<u8>, AllocError>
-    ensures { IfOk result (λ line. line.items ≡ summary number (outcome_in outcome.now)) }
+pub fn summary(alloc: Global, number: u32, totals: &Totals) -> Result<Vec<u8>, AllocError>
+    ensures { IfOk result (λ line. line.items ≡ summary number (totals_in totals.now)) }
 {
     let versions = Plan::of(number).versions;
     let mut line = Vec::new(alloc);
     push_field(&mut line, b"gen ", u64::from(number))?;
     push_field(&mut line, b" versions ", u64::from(versions))?;
-    push_field(&mut line, b" output ", outcome.output)?;
-    push_field(&mut line, b" log ", outcome.log)?;
-    push_field(&mut line, b" exited ", outcome.exited)?;
-    push_field(&mut line, b" rewrites ", outcome.rewrites)?;
+    push_field(&mut line, b" output ", totals.output)?;
+    push_field(&mut line, b" log ", totals.log)?;
+    push_field(&mut line, b" exited ", totals.exited)?;
+    push_field(&mut line, b" rewrites ", totals.rewrites)?;
     line.push(b'\n')?;
     Ok(line)
 }

@@ -1,10 +1,10 @@
--- What a seat keeps beside its view.
+-- What a seat caches beside its view.
 use Rattle.std.specs.Prelude.{◌≡◌, ℕ, ◌<◌, ◌≤◌, List, length, slice_index_or, slice_get, Some}
 use Rattle.nv_words.specs.Spell.{IsWhole, low}
 
 -- none is above the view's of the same place
 abbrev pub AtMost : List ℕ → List ℕ → Type 0
-AtMost kept floors = (s : ℕ) → s < length floors → slice_index_or kept s 0 ≤ slice_index_or floors s 0
+AtMost cached floors = (s : ℕ) → s < length floors → slice_index_or cached s 0 ≤ slice_index_or floors s 0
 
 -- while words are no whole spelling, one more has a place
 abbrev pub HasNext : List ℕ → Type 0
