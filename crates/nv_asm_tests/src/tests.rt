@@ -3,6 +3,7 @@ use nv_asm::{AsmCause, AsmFault, assemble};
 use nv_bytes::unhex;
 use nv_elf::{Program, write};
 use std::alloc::Global;
+use std::process::Abort;
 use std::test::Fail;
 
 // The words that GNU as 2.40 makes of each form without a label, by `-march=rv32ima -mno-relax`.
@@ -189,91 +190,122 @@ fn files(rt: HostRuntime) -> Result<(), Fail> {
     Ok(())
 }
 
-#[test]
-fn refused(rt: HostRuntime) {
-    for (text, line, cause) in [
-        ("bogus\n", 1, AsmCause::Mnemonic),
-        ("a: nop\na: bad\n", 2, AsmCause::Twice),
-        ("a: bad\na: nop\n", 1, AsmCause::Mnemonic),
-        ("a : nop", 1, AsmCause::Mnemonic),
-        ("1a: nop", 1, AsmCause::Mnemonic),
-        ("nop\nNOP", 2, AsmCause::Mnemonic),
-        ("nop\naddi a0, a1\n", 2, AsmCause::Operand),
-        ("addi a0, a1, 1, 2", 1, AsmCause::Operand),
-        ("addi a0, x32, 1", 1, AsmCause::Operand),
-        ("addi a0, x01, 1", 1, AsmCause::Operand),
-        ("addi a0, a1, 0X1", 1, AsmCause::Operand),
-        ("addi a0, a1, +1", 1, AsmCause::Operand),
-        ("addi a0, a1, 0x", 1, AsmCause::Operand),
-        ("addi a0, a1, -", 1, AsmCause::Operand),
-        ("lw a0, 4 (a1)", 1, AsmCause::Operand),
-        ("lw a0, (a1)", 1, AsmCause::Operand),
-        ("mul a0, a1", 1, AsmCause::Operand),
-        ("mul a0, a1, 3", 1, AsmCause::Operand),
-        ("mul.aq a0, a1, a2", 1, AsmCause::Mnemonic),
-        ("lr a0, (a1)", 1, AsmCause::Mnemonic),
-        ("lr.w.rlaq a0, (a1)", 1, AsmCause::Mnemonic),
-        ("lr.w.aq.rl a0, (a1)", 1, AsmCause::Mnemonic),
-        ("amoadd.d a0, a1, (a2)", 1, AsmCause::Mnemonic),
-        ("lr.w a0, a1", 1, AsmCause::Operand),
-        ("lr.w a0, 0(a1)", 1, AsmCause::Operand),
-        ("lr.w a0, a2, (a1)", 1, AsmCause::Operand),
-        ("lr.w a0, ( a1)", 1, AsmCause::Operand),
-        ("sc.w a0, (a1)", 1, AsmCause::Operand),
-        ("amoadd.w a0, a1, a2", 1, AsmCause::Operand),
-        ("amoadd.w a0, a1, 4(a2)", 1, AsmCause::Operand),
-        ("amoadd.w a0, a1, (x32)", 1, AsmCause::Operand),
-        ("amoadd.w a0, a1, (a2", 1, AsmCause::Operand),
-        ("nop x", 1, AsmCause::Operand),
-        ("j 1a", 1, AsmCause::Operand),
-        (".text x", 1, AsmCause::Operand),
-        (".byte", 1, AsmCause::Operand),
-        (".byte 1,,2", 1, AsmCause::Operand),
-        (".ascii \"a\" \"b\"", 1, AsmCause::Operand),
-        (".ascii \"a", 1, AsmCause::Operand),
-        (".ascii \"\\x\"", 1, AsmCause::Operand),
-        ("nop\r\n", 1, AsmCause::Mnemonic),
-        ("nop\n.data\nnop", 3, AsmCause::Operand),
-        ("nop\n.data\naddi a0, a1, 5000", 3, AsmCause::Operand),
-        ("nop\nj nowhere\n", 2, AsmCause::Label),
-        ("nop\n.word nowhere, 99999999999\n", 2, AsmCause::Label),
-        ("nop\n.entry a\n.byte 1\na: .zero 8\n", 2, AsmCause::Label),
-        ("nop\n.entry a\na: .zero 3\n", 2, AsmCause::Label),
-        ("nop\n.entry a\n.data\na: .zero 8\n", 2, AsmCause::Label),
-        ("nop\n.entry a\n.entry b\na: nop\n", 3, AsmCause::Label),
-        ("addi a0, a1, 2048", 1, AsmCause::Range),
-        ("addi a0, a1, -2049", 1, AsmCause::Range),
-        (
-            "addi a0, a1, 99999999999999999999999999",
-            1,
-            AsmCause::Range,
-        ),
-        ("slli a0, a1, 32", 1, AsmCause::Range),
-        ("lui a0, 1048576", 1, AsmCause::Range),
-        ("lui a0, -1", 1, AsmCause::Range),
-        ("li a0, 4294967296", 1, AsmCause::Range),
-        ("li a0, -2147483649", 1, AsmCause::Range),
-        (".byte 256", 1, AsmCause::Range),
-        (".byte -129", 1, AsmCause::Range),
-        (".zero 1048577", 1, AsmCause::Range),
-        ("nop\nj b\n.byte 1\nb: .byte 1\n", 2, AsmCause::Range),
-        ("beq a0, a1, a\n.zero 4092\na: nop", 1, AsmCause::Range),
-        ("a: .zero 4096\nnop\nbeq a0, a1, a\n", 3, AsmCause::Range),
-        ("j a\n.zero 1048572\na: nop", 1, AsmCause::Range),
-        ("nop\n.zero 1048576\nbogus", 2, AsmCause::Range),
-        ("# nothing\n.data\n.zero 4", 1, AsmCause::Range),
-        (".byte 1,2,3", 1, AsmCause::Range),
-        ("", 1, AsmCause::Range),
-        // what can't be read is passed over, and of a label defined twice the first place counts
-        ("beq x0, x0, a\na: .zero 5000, 1\n", 2, AsmCause::Operand),
-        ("a: nop\n.zero 4096\na: beq x0, x0, a\n", 3, AsmCause::Twice),
-        ("a: .zero 4096\nbeq x0, x0, a\na: nop\n", 3, AsmCause::Twice),
-    ] {
-        match assemble(rt.alloc(), text.as_bytes()) {
+// Each text is refused for this cause on its line.
+fn expect_cause(rt: &impl Abort, alloc: Global, cause: AsmCause, texts: &[(&str, u32)]) {
+    for (text, line) in texts {
+        match assemble(alloc, text.as_bytes()) {
             Ok(_) => panic!(rt; "accepted {text:?}"),
-            Err(fault) => assert_eq!(rt; fault, AsmFault::Line(line, cause), "at {text:?}"),
+            Err(fault) => assert_eq!(rt; fault, AsmFault::Line(*line, cause), "at {text:?}"),
         }
     }
+}
+
+#[test]
+fn refused_words(rt: HostRuntime) {
+    let texts = [
+        ("bogus\n", 1),
+        ("a: bad\na: nop\n", 1),
+        ("a : nop", 1),
+        ("1a: nop", 1),
+        ("nop\nNOP", 2),
+        ("mul.aq a0, a1, a2", 1),
+        ("lr a0, (a1)", 1),
+        ("lr.w.rlaq a0, (a1)", 1),
+        ("lr.w.aq.rl a0, (a1)", 1),
+        ("amoadd.d a0, a1, (a2)", 1),
+        ("nop\r\n", 1),
+    ];
+    expect_cause(&rt, rt.alloc(), AsmCause::Mnemonic, &texts);
+}
+
+#[test]
+fn refused_operands(rt: HostRuntime) {
+    let texts = [
+        ("nop\naddi a0, a1\n", 2),
+        ("addi a0, a1, 1, 2", 1),
+        ("addi a0, x32, 1", 1),
+        ("addi a0, x01, 1", 1),
+        ("addi a0, a1, 0X1", 1),
+        ("addi a0, a1, +1", 1),
+        ("addi a0, a1, 0x", 1),
+        ("addi a0, a1, -", 1),
+        ("lw a0, 4 (a1)", 1),
+        ("lw a0, (a1)", 1),
+        ("mul a0, a1", 1),
+        ("mul a0, a1, 3", 1),
+        ("lr.w a0, a1", 1),
+        ("lr.w a0, 0(a1)", 1),
+        ("lr.w a0, a2, (a1)", 1),
+        ("lr.w a0, ( a1)", 1),
+        ("sc.w a0, (a1)", 1),
+        ("amoadd.w a0, a1, a2", 1),
+        ("amoadd.w a0, a1, 4(a2)", 1),
+        ("amoadd.w a0, a1, (x32)", 1),
+        ("amoadd.w a0, a1, (a2", 1),
+        ("nop x", 1),
+        ("j 1a", 1),
+        (".text x", 1),
+        (".byte", 1),
+        (".byte 1,,2", 1),
+        (".ascii \"a\" \"b\"", 1),
+        (".ascii \"a", 1),
+        (".ascii \"\\x\"", 1),
+        ("nop\n.data\nnop", 3),
+        ("nop\n.data\naddi a0, a1, 5000", 3),
+        // what can't be read is passed over
+        ("beq x0, x0, a\na: .zero 5000, 1\n", 2),
+    ];
+    expect_cause(&rt, rt.alloc(), AsmCause::Operand, &texts);
+}
+
+#[test]
+fn refused_labels(rt: HostRuntime) {
+    let texts = [
+        ("nop\nj nowhere\n", 2),
+        ("nop\n.word nowhere, 99999999999\n", 2),
+        ("nop\n.entry a\n.byte 1\na: .zero 8\n", 2),
+        ("nop\n.entry a\na: .zero 3\n", 2),
+        ("nop\n.entry a\n.data\na: .zero 8\n", 2),
+        ("nop\n.entry a\n.entry b\na: nop\n", 3),
+    ];
+    expect_cause(&rt, rt.alloc(), AsmCause::Label, &texts);
+}
+
+#[test]
+fn refused_ranges(rt: HostRuntime) {
+    let texts = [
+        ("addi a0, a1, 2048", 1),
+        ("addi a0, a1, -2049", 1),
+        ("addi a0, a1, 99999999999999999999999999", 1),
+        ("slli a0, a1, 32", 1),
+        ("lui a0, 1048576", 1),
+        ("lui a0, -1", 1),
+        ("li a0, 4294967296", 1),
+        ("li a0, -2147483649", 1),
+        (".byte 256", 1),
+        (".byte -129", 1),
+        (".zero 1048577", 1),
+        ("nop\nj b\n.byte 1\nb: .byte 1\n", 2),
+        ("beq a0, a1, a\n.zero 4092\na: nop", 1),
+        ("a: .zero 4096\nnop\nbeq a0, a1, a\n", 3),
+        ("j a\n.zero 1048572\na: nop", 1),
+        ("nop\n.zero 1048576\nbogus", 2),
+        ("# nothing\n.data\n.zero 4", 1),
+        (".byte 1,2,3", 1),
+        ("", 1),
+    ];
+    expect_cause(&rt, rt.alloc(), AsmCause::Range, &texts);
+}
+
+#[test]
+fn labels_defined_twice(rt: HostRuntime) {
+    let texts = [
+        ("a: nop\na: bad\n", 2),
+        // of a label defined twice the first place counts
+        ("a: nop\n.zero 4096\na: beq x0, x0, a\n", 3),
+        ("a: .zero 4096\nbeq x0, x0, a\na: nop\n", 3),
+    ];
+    expect_cause(&rt, rt.alloc(), AsmCause::Twice, &texts);
 }
 
 #[test]

@@ -25,7 +25,7 @@ ecall
 last: .ascii \"a\"
 ";
 
-// The same with a seventh word a call, and each result is written to descriptor 1 as four bytes. Behind a result that is no error stand
+// The same with a seventh word a call, and each result is written to descriptor 1 as four bytes. After a result that is no error stand
 // as many bytes of the buffer as it says, where the word is 1, and eight where it is 8. Nothing is written where it is -1.
 const TELLS_THE_RESULTS: &str = ".text
 la s0, calls

@@ -44,7 +44,7 @@ unwritten: .word buffer, 2, next, 1
 nothing: .word 0, 0
 calls: ";
 
-// Whether a call has this line in the log, where it comes behind so many calls.
+// Whether a call has this line in the log, where it comes after so many calls.
 fn is_logged<R: Threads + Wait + Sync>(
     rt: &R,
     alloc: Global,

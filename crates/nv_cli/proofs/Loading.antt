@@ -53,7 +53,7 @@ rules_unread : (holds : List ℕ → Told) (name : Option (List ℕ)) → Agrees
 rules_unread holds None = tt
 rules_unread holds (Some name) = tt
 
--- behind an accepted script the rest decides
+-- after an accepted script the rest decides
 pub script_accepted : (holds : List ℕ → Told) (plan : Plan) (bytes : List ℕ) (setup : Setup) (whole : Prepared) → IsReadOf bytes (holds plan.script)
     → script_of bytes ≡ Ok setup → RestComes setup holds plan whole → ComesTo plan holds whole
 script_accepted holds plan bytes setup whole r ok v = record {
@@ -79,7 +79,7 @@ rules_go holds None (Some ops) h = absurd h
 rules_go holds (Some name) None h = absurd h
 rules_go holds (Some name) (Some ops) h = record { found = Some (Whole h.bytes); agree = h.read; is = λ rest. ap (rules_then rest) h.is }
 
--- behind rules that were read the versions decide
+-- after rules that were read the versions decide
 pub rules_accepted : (holds : List ℕ → Told) (plan : Plan) (setup : Setup) (rules : Option (List Op)) (whole : Prepared) → HasRules rules holds plan.rules
     → VersionsCome plan.limits setup holds 0 plan.versions whole → RestComes setup holds plan (with_rules rules whole)
 rules_accepted holds plan setup rules whole h v =
@@ -155,7 +155,7 @@ rest_by_rules refusal.Memory holds plan setup f f' t t' h = h
 rest_by_rules (refusal.Unreadable place) holds plan setup f f' t t' h = (rules_stop holds plan setup (Unreadable place) h.0, h.1)
 rest_by_rules (refusal.Input place cause) holds plan setup f f' t t' h = (rules_stop holds plan setup (Refused place cause) h.0, h.1, h.2)
 
--- behind rules that were read the refusal of the versions is that of the rest
+-- after rules that were read the refusal of the versions is that of the rest
 pub rest_by_versions : (refusal : Refusal) (holds : List ℕ → Told) (plan : Plan) (setup : Setup) (rules : Option (List Op)) (f0 f f' t0 t t' : ℕ) → HasRules rules holds plan.rules → f ≡ f0 → t0 ≤ t
     → VersionsRefused plan.limits setup refusal holds plan.versions f f' t t' → RestRefused refusal setup holds plan f0 f' t0 t'
 rest_by_versions refusal.Memory holds plan setup rules f0 f f' t0 t t' r fs ts h = h ∙ fs
@@ -240,7 +240,7 @@ module _ (limits : Limits) (setup : Setup) where
         come = loaded_before v holds n names i (Ready setup None r.machines) l r.come;
       }
 
-  -- what stops at the version behind those that were loaded
+  -- what stops at the version after those that were loaded
   stops_next : (vs : List (Running Proc)) (holds : List ℕ → Told) (names : List (List ℕ)) (i k j : ℕ) (name : List ℕ) (found : Found) (whole : Prepared) → j ≡ i + k
       → AreLoaded limits setup vs holds (take k names) → slice_get names k ≡ Some name → Agrees (holds name) found
       → ((rest : Prepared) → read_at (Version j) found (λ bytes. version_then j rest (version_of limits setup bytes)) ≡ whole) → ((machine : Machine) → in_front machine whole ≡ whole)
@@ -296,7 +296,7 @@ module _ (limits : Limits) (setup : Setup) where
       let next : take k names ++ name ∷ [] ≡ take (k + 1) names = sym (take_next names k name at) in
       subst (λ (xs : List (Running Proc)). AreLoaded limits setup xs holds (take (k + 1) names)) (sym longer) (subst (λ (ns : List (List ℕ)). AreLoaded limits setup (vs ++ v ∷ []) holds ns) next both)
 
--- behind an accepted script the refusal of the rest is that of the run
+-- after an accepted script the refusal of the rest is that of the run
 pub run_refused : (refusal : Refusal) (holds : List ℕ → Told) (plan : Plan) (bytes : List ℕ) (setup : Setup) (f0 f f' t0 t t' : ℕ) → IsReadOf bytes (holds plan.script)
     → script_of bytes ≡ Ok setup → f ≡ f0 → t0 ≤ t → RestRefused refusal setup holds plan f f' t t' → Refuses refusal holds plan f0 f' t0 t'
 run_refused refusal.Memory holds plan bytes setup f0 f f' t0 t t' r ok fs ts h = h ∙ fs

@@ -5,7 +5,7 @@
 use Rattle.nv_cli.specs.Due.{Answers}
 -- What a call may come to: usage, want of memory, a file not read, a file not accepted, a report, a command's text, a summary.
 use Rattle.nv_cli.specs.Outcome.{Outcome}
--- What is due: refused words owe the line of usage, a command owes what one of the next three says, or memory is wanted behind its name.
+-- What is due: refused words owe the line of usage, a command owes what one of the next three says, or memory is wanted after its name.
 use Rattle.nv_cli.specs.Due.{IsDue, OwesAny, Owes}
 -- What the words ask for, and the command that they name.
 use Rattle.nv_command.specs.Words.{command_of, name_in}

@@ -33,7 +33,7 @@ abbrev pub of_elf : Limits → Setup → ElfOf → VersionOf
 of_elf limits setup (elf.Refused fault) = Faulty (Elf fault)
 of_elf limits setup (elf.Accepted image) = of_loaded (loaded image setup.arguments limits.memory)
 
--- what a version file comes to; a guest has as many bytes as the limits say, and behind its name the script's arguments
+-- what a version file comes to; a guest has as many bytes as the limits say, and after its name the script's arguments
 unfoldable pub version_of : Limits → Setup → List ℕ → VersionOf
 version_of limits setup bytes = of_elf limits setup (elf_of bytes)
 
@@ -81,7 +81,7 @@ abbrev pub behind_rules : Option Found → Prepared → Prepared
 behind_rules None rest = rest
 behind_rules (Some found) rest = read_at Rules found (λ bytes. rules_then rest (filter_of 4096 bytes))
 
--- the rest behind what the script says
+-- the rest after what the script says
 abbrev pub behind_script : (Setup → Prepared) → Result Setup ScriptFault → Prepared
 behind_script rest (Ok setup) = rest setup
 behind_script rest (Err fault) = Refused Script (cause.Script fault)

@@ -61,7 +61,7 @@ pub record VersionsCome (limits : Limits) (setup : Setup) (holds : List ℕ → 
   pub agree : AllAgree holds names finds
   pub is : versions_from limits setup i finds ≡ whole
 
--- the same of the rules and the versions behind a script
+-- the same of the rules and the versions after a script
 pub record RestComes (setup : Setup) (holds : List ℕ → Told) (plan : Plan) (whole : Prepared) : Type 0 where
   pub rules : Option Found
   pub rules_agree : AgreesIf holds plan.rules rules
@@ -95,7 +95,7 @@ RulesRefused (refusal.Unreadable place) holds name before now taken later = Rule
 RulesRefused (refusal.Input place cause) holds name before now taken later =
     RulesStop holds name (Refused place cause) × (now ≡ before) × (cause ≡ Long → TookLong taken later)
 
--- the same of the rules and the versions behind a script
+-- the same of the rules and the versions after a script
 abbrev pub RestRefused : Refusal → Setup → (List ℕ → Told) → Plan → ℕ → ℕ → ℕ → ℕ → Type 0
 RestRefused refusal.Memory setup holds plan before now taken later = now ≡ before
 RestRefused (refusal.Unreadable place) setup holds plan before now taken later = RestComes setup holds plan (Unreadable place) × Rose before now

@@ -72,7 +72,7 @@ fn usual_limits(rt: HostRuntime) -> Result<(), Fail> {
 
 #[test]
 fn accepted_runs(rt: HostRuntime) -> Result<(), Fail> {
-    let cases: [(&[&str], &str, &[&str], bool); 16] = [
+    let cases: [(&[&str], &str, &[&str], bool); 11] = [
         (&["varan", "run", "v", "--script", "s"], "s", &["v"], false),
         (
             &["varan", "run", "--script=s", "--", "v"],
@@ -114,6 +114,17 @@ fn accepted_runs(rt: HostRuntime) -> Result<(), Fail> {
             &["c=d"],
             false,
         ),
+    ];
+    for (words, script, versions, json) in cases {
+        assert!(rt; is_run(rt.alloc(), words, script, versions, json)?);
+    }
+    Ok(())
+}
+
+// Names that look like commands, or like more than one word.
+#[test]
+fn odd_names(rt: HostRuntime) -> Result<(), Fail> {
+    let cases: [(&[&str], &str, &[&str], bool); 5] = [
         (
             &["varan", "run", "--script", "run", "rules"],
             "run",

@@ -1,4 +1,4 @@
-//! Runs the examples: each line of the file `rows` as a shell would, with what the monitor writes and its status behind it.
+//! Runs the examples: each line of the file `rows` as a shell would, with what the monitor writes and its status after it.
 #![tactic(auto)]
 
 mod shelf;

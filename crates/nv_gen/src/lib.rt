@@ -3,8 +3,8 @@
 
 mod code;
 mod made;
-mod totals;
 mod plan;
+mod totals;
 mod version;
 
 pub use made::{Made, make};

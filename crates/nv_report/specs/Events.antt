@@ -5,7 +5,7 @@ use Rattle.std.specs.List.{flat_map, concat}
 use Rattle.nv_calls.specs.Calls.{Entry}
 use Rattle.nv_report.specs.Numbers.{number_text, hex_text}
 
--- the bytes of a call and of its reply, behind a space where there are any
+-- the bytes of a call and of its reply, after a space where there are any
 abbrev pub payload_text : List ℕ → List ℕ → List ℕ
 payload_text call reply = if length call == 0 && length reply == 0 then [] else codes " " ++ (hex_text call ++ hex_text reply)
 

@@ -67,7 +67,7 @@ fn put_end<S: Sink>(sink: &mut S, call: &[u8], reply: &[u8]) -> Put
     }
 }
 
-// The bytes of a call and of its reply, behind a space where there are any.
+// The bytes of a call and of its reply, after a space where there are any.
 fn put_payload<S: Sink>(sink: &mut S, call: &[u8], reply: &[u8]) -> Put
     ensures { Puts (S.told sink.old) (S.faults sink.old) (payload_text call.now reply.now) result (S.told sink.new) (S.faults sink.new) }
 {

@@ -34,7 +34,7 @@ fn report_value<K: SyscallKernel>(alloc: Global, account: &Account<K>) -> Result
     report_object(alloc, fates, log, output)
 }
 
-/// The report of a run as JSON (RFC 8259): one object on one line, with no newline behind it.
+/// The report of a run as JSON (RFC 8259): one object on one line, with no newline after it.
 pub fn json<K: SyscallKernel>(alloc: Global, account: &Account<K>) -> Result<String, AllocError>
     ensures { IfOk result (λ text. string_bytes text ≡ json_text (output_of (K.start account.now.kernel) (K.log account.now.kernel))
         (record { log = K.log account.now.kernel; lines = map standing_of account.now.versions.items })) }

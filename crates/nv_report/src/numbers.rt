@@ -7,7 +7,7 @@ ghost use Rattle.nv_report.specs.Numbers.{number_text, hex_digit, hex_text};
 use itoa::Buffer;
 use nv_outside::{Put, Sink, put_all, put_pieces};
 
-// Each number with a space behind it.
+// Each number with a space after it.
 pub fn put_numbers<S: Sink>(sink: &mut S, numbers: &[u32]) -> Put
     ensures { Puts (S.told sink.old) (S.faults sink.old) (flat_map number_text numbers.now) result (S.told sink.new) (S.faults sink.new) }
 {

@@ -9,7 +9,7 @@ const ASKS_MORE: [u32; 7] = [
     0x0ae00893, 0x00000073, 0x0b100893, 0x00000073, 0x00000513, 0x05e00893, 0x00000073,
 ];
 
-// Writes the three bytes behind its code once, and exits with 0.
+// Writes the three bytes after its code once, and exits with 0.
 const WRITES: [u32; 10] = [
     0x000105b7, 0x02458593, 0x00100513, 0x00300613, 0x04000893, 0x00000073, 0x00000513, 0x05e00893,
     0x00000073, 0x000a6968,
@@ -79,7 +79,7 @@ const ENDED_WITH_ERROR: &str =
 
 const EXITED: &str = "1 exited 0 seen 2 led - rewrites 1\n";
 
-// The report is the first text and behind it the second.
+// The report is the first text and after it the second.
 fn expect(rt: &impl Abort, report: Option<Vec<u8>>, front: &str, line: &str) {
     let report = report.expect(rt, "a report");
     let (begin, end) = report.split_at(front.len().min(report.len()));

@@ -30,7 +30,7 @@ spot_in c seen l s pos is = (
   subst (λ (z : ℕ). z < pool_chunks c) (sym is.first) (mod-lt (chunks_before seen (length seen)) (omega arith)),
 )
 
--- the words of the event behind the seen list
+-- the words of the event after the seen list
 pub spot_word : (n c : ℕ) (log seen : Log) (l j : ℕ) (s : Spot) → Prefix seen log → l ≡ lane log (length seen) → IsSpot c seen l s → spot n c s.lane s.place s.first j ≡ place_of n c log (length seen) j
 spot_word n c log seen l j s pre is at =
     let h : ℕ = length seen in

@@ -15,7 +15,7 @@ pub record Trails (c : ℕ) (t : Trail) (seen : Log) (words : List ℕ) : Type 0
   pub first : 0 < length words → t.first ≡ slice_index words 0
   pub sixth : 5 < length words → t.sixth ≡ slice_index words 5
 
--- where the event behind these stands, if it stands in this lane
+-- where the event after these stands, if it stands in this lane
 pub record IsSpot (c : ℕ) (seen : Log) (l : ℕ) (s : Spot) : Type 0 where
   pub lane : s.lane ≡ l
   pub below : l < 8

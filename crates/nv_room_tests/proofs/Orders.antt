@@ -64,7 +64,7 @@ module _ {K : Type 0} {G : Ghosts K} where
     old (length rest) r (ap (λ (z : List (Reader K G)). get_elem? z (length rest)) is ∙ at_last rest r (length rest) refl),
   )
 
-  -- the seats of the versions from 1 on, and of version 0 behind them, are the seats of all
+  -- the seats of the versions from 1 on, and of version 0 after them, are the seats of all
   pub first_behind : (room : Room K) (ls all : List (Left K G)) (first : Left K G) → all ≡ ls ++ first ∷ [] → LeftInOrder room ls → IsLeftOf room first → version_of_left first ≡ 0 → length ls + 1 ≡ versions_of room → IsEach room all
   first_behind room ls all first is order of zeroth long = subst (IsEach room) (sym is) (
     record {

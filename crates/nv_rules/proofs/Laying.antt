@@ -19,6 +19,6 @@ argument_words-six (a ∷ b ∷ c ∷ d ∷ e ∷ f ∷ g ∷ rest) h = absurd (
 seam : (n : ℕ) (front behind words : List ℕ) → put_mid (length front) n (front ++ behind) words ≡ front ++ (words ++ drop n behind)
 seam n front behind words = rw take-append_seam (ap (λ (rest : List ℕ). front ++ (words ++ drop n rest)) (drop-append_seam front behind))
 
--- the words behind a front become others
+-- the words after a prefix become others
 pub put_mid-behind : (a n : ℕ) (front behind words : List ℕ) → length front ≡ a → put_mid a n (front ++ behind) words ≡ front ++ (words ++ drop n behind)
 put_mid-behind a n front behind words h = subst (λ (m : ℕ). put_mid m n (front ++ behind) words ≡ front ++ (words ++ drop n behind)) h (seam n front behind words)

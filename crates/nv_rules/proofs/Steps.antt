@@ -111,7 +111,7 @@ stepped-within most i m ops op pair s t h e g =
       | inr within ↦ omega arith
     ]
 
--- what is past so many instructions begins behind them
+-- what is past so many instructions begins after them
 returned_from-drop : (pair : List ℕ) (n : ℕ) (s : State) (ops : List Op) → returned_from pair n s ops ≡ returned_from pair 0 s (drop n ops)
 unfolding returned_from
 returned_from-drop pair zero s ops = refl

@@ -6,7 +6,7 @@ use crate::Pair;
 use crate::machine::{Registers, Step};
 use nv_bpf::{Filter, Op};
 
-// What stands behind so many instructions.
+// What stands after so many instructions.
 #[inline(always)]
 fn behind(ops: &[Op], count: usize) -> &[Op]
     requires { count ≤ length ops.now }

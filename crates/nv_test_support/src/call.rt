@@ -81,7 +81,7 @@ fn names(words: &[&str], option: &str) -> bool {
     words.iter().any(|word| word.starts_with(option))
 }
 
-// The words with one more behind the command's name.
+// The words with one more after the command's name.
 fn with_option<'a>(
     alloc: Global,
     words: &[&'a str],

@@ -1,13 +1,13 @@
 // Version files of one segment.
 use std::alloc::{AllocError, Global};
 
-/// A program that writes the three bytes behind it to descriptor 1 and exits with 0.
+/// A program that writes the three bytes after it to descriptor 1 and exits with 0.
 pub const HELLO: [u32; 9] = [
     0x000105b7, 0x02458593, 0x00100513, 0x00300613, 0x04000893, 0x00000073, 0x00000513, 0x05e00893,
     0x00000073,
 ];
 
-/// A program that writes the three bytes behind it twice and exits with 0.
+/// A program that writes the three bytes after it twice and exits with 0.
 pub const HELLO_TWICE: [u32; 11] = [
     0x000105b7, 0x02c58593, 0x00100513, 0x00300613, 0x04000893, 0x00000073, 0x00100513, 0x00000073,
     0x00000513, 0x05e00893, 0x00000073,
@@ -25,7 +25,7 @@ const HEAD: [u8; 68] = [
 
 const RIGHTS_AND_ALIGNMENT: [u8; 8] = [5, 0, 0, 0, 4, 0, 0, 0];
 
-/// The version file of these words and of the bytes behind them.
+/// The version file of these words and of the bytes after them.
 pub fn image(alloc: Global, words: &[u32], tail: &[u8]) -> Result<Vec<u8>, AllocError> {
     let mut code = Vec::new(alloc);
     for word in words {

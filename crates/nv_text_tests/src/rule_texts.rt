@@ -1,5 +1,7 @@
 use nv_bpf::{FilterFault, write};
 use nv_bpf_asm::{RuleCause, RuleFault, assemble};
+use std::alloc::Global;
+use std::process::Abort;
 use std::test::Fail;
 
 // Each form of instruction, with the text that `tcpdump -ddd` would print of it: the codes are those of Linux's bpf_common.h and filter.h.
@@ -39,98 +41,103 @@ fn assembled_texts(rt: HostRuntime) -> Result<(), Fail> {
     Ok(())
 }
 
+// Each text is refused for this fault.
+fn expect_fault(rt: &impl Abort, alloc: Global, text: &str, want: RuleFault) {
+    match assemble(alloc, text.as_bytes()) {
+        Ok(_) => panic!(rt; "accepted {text:?}"),
+        Err(fault) => assert_eq!(rt; fault, want, "at {text:?}"),
+    }
+}
+
+fn expect_cause(rt: &impl Abort, alloc: Global, cause: RuleCause, texts: &[(&str, u32)]) {
+    for (text, line) in texts {
+        expect_fault(rt, alloc, text, RuleFault::Line(*line, cause));
+    }
+}
+
 #[test]
-fn refused_texts(rt: HostRuntime) {
-    for (text, want) in [
-        ("a: ret #0\na: ret #0", RuleFault::Line(2, RuleCause::Twice)),
-        (
-            "a: ret #0\na: bogus\n",
-            RuleFault::Line(2, RuleCause::Twice),
-        ),
-        (
-            "bogus\na: ret #0\na: ret #0",
-            RuleFault::Line(1, RuleCause::Word),
-        ),
-        ("ret #0\nRET #0", RuleFault::Line(2, RuleCause::Word)),
-        ("ldb [0]", RuleFault::Line(1, RuleCause::Word)),
-        ("a : ret #0", RuleFault::Line(1, RuleCause::Word)),
-        ("1a: ret #0", RuleFault::Line(1, RuleCause::Word)),
-        (
-            "ld event[4294967232]",
-            RuleFault::Line(1, RuleCause::Operand),
-        ),
-        ("ld event [0]", RuleFault::Line(1, RuleCause::Operand)),
-        ("ld [ 0]", RuleFault::Line(1, RuleCause::Operand)),
-        ("ld [0] ]", RuleFault::Line(1, RuleCause::Operand)),
-        ("ld [-1]", RuleFault::Line(1, RuleCause::Operand)),
-        ("ld #4294967296", RuleFault::Line(1, RuleCause::Operand)),
-        ("ld # 1", RuleFault::Line(1, RuleCause::Operand)),
-        ("ld x", RuleFault::Line(1, RuleCause::Operand)),
-        ("ld", RuleFault::Line(1, RuleCause::Operand)),
-        ("ldx [0]", RuleFault::Line(1, RuleCause::Operand)),
-        ("ldx version", RuleFault::Line(1, RuleCause::Operand)),
-        ("st [0]", RuleFault::Line(1, RuleCause::Operand)),
-        ("add M[0]", RuleFault::Line(1, RuleCause::Operand)),
-        ("add", RuleFault::Line(1, RuleCause::Operand)),
-        ("add #1, x", RuleFault::Line(1, RuleCause::Operand)),
-        ("neg x", RuleFault::Line(1, RuleCause::Operand)),
-        ("ret x", RuleFault::Line(1, RuleCause::Operand)),
-        (
-            "jeq #0, a\na: ret #0",
-            RuleFault::Line(1, RuleCause::Operand),
-        ),
-        (
-            "jeq #0, a, 2\na: ret #0",
-            RuleFault::Line(1, RuleCause::Operand),
-        ),
-        ("ja #1\nret #0", RuleFault::Line(1, RuleCause::Operand)),
-        ("ja a\nret #0", RuleFault::Line(1, RuleCause::Label)),
-        (
-            "a: jeq #0, a, b\nret #0",
-            RuleFault::Line(1, RuleCause::Label),
-        ),
-        ("a: ja a\nret #0", RuleFault::Line(1, RuleCause::Far)),
-        (
-            "a: ret #0\njeq #0, a, b\nb: ret #0",
-            RuleFault::Line(2, RuleCause::Far),
-        ),
-        // a faulty line counts as one instruction, and of a label defined twice the first place counts
-        (
-            "ja a\na: ld x\nret #0",
-            RuleFault::Line(2, RuleCause::Operand),
-        ),
-        (
-            "ja a\nret #0\na: ret #1\nja a\na: ret #0",
-            RuleFault::Line(4, RuleCause::Far),
-        ),
+fn labels_defined_twice(rt: HostRuntime) {
+    let texts = [("a: ret #0\na: ret #0", 2), ("a: ret #0\na: bogus\n", 2)];
+    expect_cause(&rt, rt.alloc(), RuleCause::Twice, &texts);
+}
+
+#[test]
+fn refused_words(rt: HostRuntime) {
+    let texts = [
+        ("bogus\na: ret #0\na: ret #0", 1),
+        ("ret #0\nRET #0", 2),
+        ("ldb [0]", 1),
+        ("a : ret #0", 1),
+        ("1a: ret #0", 1),
+    ];
+    expect_cause(&rt, rt.alloc(), RuleCause::Word, &texts);
+}
+
+#[test]
+fn refused_operands(rt: HostRuntime) {
+    let texts = [
+        ("ld event[4294967232]", 1),
+        ("ld event [0]", 1),
+        ("ld [ 0]", 1),
+        ("ld [0] ]", 1),
+        ("ld [-1]", 1),
+        ("ld #4294967296", 1),
+        ("ld # 1", 1),
+        ("ld x", 1),
+        ("ld", 1),
+        ("ldx [0]", 1),
+        ("ldx version", 1),
+        ("st [0]", 1),
+        ("add M[0]", 1),
+        ("add", 1),
+        ("add #1, x", 1),
+        ("neg x", 1),
+        ("ret x", 1),
+        ("jeq #0, a\na: ret #0", 1),
+        ("jeq #0, a, 2\na: ret #0", 1),
+        ("ja #1\nret #0", 1),
+        // a faulty line counts as one instruction
+        ("ja a\na: ld x\nret #0", 2),
+        ("ret #0\r\n", 1),
+    ];
+    expect_cause(&rt, rt.alloc(), RuleCause::Operand, &texts);
+}
+
+#[test]
+fn refused_labels(rt: HostRuntime) {
+    let texts = [("ja a\nret #0", 1), ("a: jeq #0, a, b\nret #0", 1)];
+    expect_cause(&rt, rt.alloc(), RuleCause::Label, &texts);
+}
+
+#[test]
+fn targets_too_far(rt: HostRuntime) {
+    let texts = [
+        ("a: ja a\nret #0", 1),
+        ("a: ret #0\njeq #0, a, b\nb: ret #0", 2),
+        // of a label defined twice the first place counts
+        ("ja a\nret #0\na: ret #1\nja a\na: ret #0", 4),
+    ];
+    expect_cause(&rt, rt.alloc(), RuleCause::Far, &texts);
+}
+
+#[test]
+fn filters_refused(rt: HostRuntime) {
+    for (text, fault) in [
         // a label after the last instruction
-        (
-            "ja end\nret #0\nend:",
-            RuleFault::Filter(FilterFault::Jump(0)),
-        ),
-        ("", RuleFault::Filter(FilterFault::Empty)),
-        ("; nothing\nlabel:\n", RuleFault::Filter(FilterFault::Empty)),
-        ("ld #0\n", RuleFault::Filter(FilterFault::NoReturn)),
+        ("ja end\nret #0\nend:", FilterFault::Jump(0)),
+        ("", FilterFault::Empty),
+        ("; nothing\nlabel:\n", FilterFault::Empty),
+        ("ld #0\n", FilterFault::NoReturn),
         (
             "ret #0\nld event[4294967231]\nret #0",
-            RuleFault::Filter(FilterFault::Offset(1)),
+            FilterFault::Offset(1),
         ),
-        (
-            "ld event[2]\nret #0",
-            RuleFault::Filter(FilterFault::Offset(0)),
-        ),
-        (
-            "st M[16]\nret #0",
-            RuleFault::Filter(FilterFault::Scratch(0)),
-        ),
-        ("div #0\nret #0", RuleFault::Filter(FilterFault::Zero(0))),
-        ("lsh #32\nret #0", RuleFault::Filter(FilterFault::Shift(0))),
-        ("ret #0\r\n", RuleFault::Line(1, RuleCause::Operand)),
+        ("ld event[2]\nret #0", FilterFault::Offset(0)),
+        ("st M[16]\nret #0", FilterFault::Scratch(0)),
+        ("div #0\nret #0", FilterFault::Zero(0)),
+        ("lsh #32\nret #0", FilterFault::Shift(0)),
     ] {
-        match assemble(rt.alloc(), text.as_bytes()) {
-            Ok(_) => panic!(rt; "accepted {text:?}"),
-            Err(fault) => assert_eq!(rt; fault, want, "at {text:?}"),
-        }
+        expect_fault(&rt, rt.alloc(), text, RuleFault::Filter(fault));
     }
 }
 

@@ -1,101 +1,153 @@
 use nv_script::ScriptCause::{Form, Long, Range, Shape, Twice, Word};
-use nv_script::{Script, ScriptFault, read};
+use nv_script::{Script, ScriptCause, ScriptFault, read};
 use std::alloc::Global;
 use std::process::Abort;
 use std::test::Fail;
 
-// Each cause with its line, and what comes before it.
-#[test]
-fn script_faults(rt: HostRuntime) {
-    for (text, line, cause) in [
-        ("", 1, Form),
-        ("\n", 1, Form),
-        ("# a comment\nvaran-script 1\n", 1, Form),
-        ("varan-script 3\n", 1, Form),
-        ("varan-script 2 \n", 1, Form),
-        ("varan-script 02\n", 1, Form),
-        ("varan-script 22\n", 1, Form),
-        ("varan-script 1 \n", 1, Form),
-        ("varan-script 1\r\n", 1, Form),
-        ("varan-script", 1, Form),
-        ("varan-script 1\nargs a\n", 2, Word),
-        ("varan-script 1\n arg a\n", 2, Word),
-        ("varan-script 1\n\n#\n\targ a", 4, Word),
-        ("varan-script 1\narg\ta\n", 2, Word),
-        ("varan-script 1\n\r\n", 2, Word),
-        ("varan-script 1\nvaran-script 1\n", 2, Word),
-        ("varan-script 1\nhand 1\n", 2, Word),
-        ("varan-script 1\nhand\n", 2, Word),
-        ("varan-script 1\nhand 0\n", 2, Word),
-        ("varan-script 2\nhands 1\n", 2, Word),
-        ("varan-script 2\nvaran-script 1\n", 2, Word),
-        ("varan-script 1\narg\n", 2, Shape),
-        ("varan-script 1\narg \n", 2, Shape),
-        ("varan-script 1\narg a\tb\n", 2, Shape),
-        ("varan-script 1\narg a\r\n", 2, Shape),
-        ("varan-script 1\nline\n", 2, Shape),
-        ("varan-script 1\ninput\n", 2, Shape),
-        ("varan-script 1\ninput 0\n", 2, Shape),
-        ("varan-script 1\ninput 0g\n", 2, Shape),
-        ("varan-script 1\ninput 00 00\n", 2, Shape),
-        ("varan-script 1\nfile\n", 2, Shape),
-        ("varan-script 1\nfile \n", 2, Shape),
-        ("varan-script 1\nfile a/b 00\n", 2, Shape),
-        ("varan-script 1\nfile .\n", 2, Shape),
-        ("varan-script 1\nfile .. 00\n", 2, Shape),
-        ("varan-script 1\nfile a\x7f 00\n", 2, Shape),
-        ("varan-script 1\nfile a 000\n", 2, Shape),
-        ("varan-script 1\nfile a 00 \n", 2, Shape),
-        ("varan-script 1\nfile a 00 00\n", 2, Shape),
-        ("varan-script 1\nclock 1\n", 2, Shape),
-        ("varan-script 1\nclock 1 2\n", 2, Shape),
-        ("varan-script 1\nclock 1 2 3 4\n", 2, Shape),
-        ("varan-script 1\nclock 1  2 3\n", 2, Shape),
-        ("varan-script 1\nclock 1 2 -3\n", 2, Shape),
-        ("varan-script 1\nclock 4294967296 0 0\n", 2, Shape),
-        ("varan-script 1\nclock 0 1000000000 x\n", 2, Shape),
-        ("varan-script 1\nrandom\n", 2, Shape),
-        ("varan-script 1\nrandom \n", 2, Shape),
-        ("varan-script 1\nrandom 4294967296\n", 2, Shape),
-        ("varan-script 1\nrandom 1\r\n", 2, Shape),
-        ("varan-script 2\nhand\n", 2, Shape),
-        ("varan-script 2\nhand \n", 2, Shape),
-        ("varan-script 2\nhand 0x10\n", 2, Shape),
-        ("varan-script 2\nhand ff\n", 2, Shape),
-        ("varan-script 2\nhand -1\n", 2, Shape),
-        ("varan-script 2\nhand 1 \n", 2, Shape),
-        ("varan-script 2\nhand 1 2\n", 2, Shape),
-        ("varan-script 2\nhand  1\n", 2, Shape),
-        ("varan-script 2\nhand 1\r\n", 2, Shape),
-        ("varan-script 2\nhand 4294967296\n", 2, Shape),
-        ("varan-script 2\nrandom\n", 2, Shape),
-        ("varan-script 1\nclock 0 1000000000 0\n", 2, Range),
-        ("varan-script 2\nhand 0\n", 2, Range),
-        ("varan-script 2\nhand 131073\n", 2, Range),
-        ("varan-script 2\nhand 4294967295\n", 2, Range),
-        ("varan-script 2\nhand 1\nhand 1\nhand 0\n", 3, Twice),
-        ("varan-script 2\nhand 1\nhand 0\nhand 1\n", 3, Range),
-        ("varan-script 2\nhand 7\nhand 2\nhand 07\n", 4, Twice),
-        ("varan-script 1\nclock 0 0 1000000001", 2, Range),
-        (
-            "varan-script 1\nclock 0 0 0\nclock 0 0 1000000001\n",
-            3,
-            Range,
-        ),
-        (
-            "varan-script 1\nclock 0 0 0\nrandom 0\nclock 0 0 0\n",
-            4,
-            Twice,
-        ),
-        ("varan-script 1\nrandom 0\n\nrandom 0\n", 4, Twice),
-        ("varan-script 1\nfile a 00\nfile b\nfile a\n", 4, Twice),
-        ("varan-script 1\nrandom 0\nrandom x\nclock\n", 3, Shape),
-    ] {
-        match read(rt.alloc(), text.as_bytes()) {
+// Each script is refused for this cause on its line.
+fn expect_cause(rt: &impl Abort, alloc: Global, cause: ScriptCause, texts: &[(&str, u32)]) {
+    for (text, line) in texts {
+        match read(alloc, text.as_bytes()) {
             Ok(_) => panic!(rt; "accepted {text:?}"),
-            Err(fault) => assert_eq!(rt; fault, ScriptFault::Line(line, cause), "at {text:?}"),
+            Err(fault) => assert_eq!(rt; fault, ScriptFault::Line(*line, cause), "at {text:?}"),
         }
     }
+}
+
+#[test]
+fn faults_of_form(rt: HostRuntime) {
+    let texts = [
+        ("", 1),
+        ("\n", 1),
+        ("# a comment\nvaran-script 1\n", 1),
+        ("varan-script 3\n", 1),
+        ("varan-script 2 \n", 1),
+        ("varan-script 02\n", 1),
+        ("varan-script 22\n", 1),
+        ("varan-script 1 \n", 1),
+        ("varan-script 1\r\n", 1),
+        ("varan-script", 1),
+        ("varan-script  1\n", 1),
+        ("# no\nvaran-script 1\n", 1),
+        ("varan-script 3\nclock 1\n", 1),
+    ];
+    expect_cause(&rt, rt.alloc(), Form, &texts);
+}
+
+#[test]
+fn faults_of_words(rt: HostRuntime) {
+    let texts = [
+        ("varan-script 1\nargs a\n", 2),
+        ("varan-script 1\n arg a\n", 2),
+        ("varan-script 1\n\n#\n\targ a", 4),
+        ("varan-script 1\narg\ta\n", 2),
+        ("varan-script 1\n\r\n", 2),
+        ("varan-script 1\nvaran-script 1\n", 2),
+        ("varan-script 1\nhand 1\n", 2),
+        ("varan-script 1\nhand\n", 2),
+        ("varan-script 1\nhand 0\n", 2),
+        ("varan-script 2\nhands 1\n", 2),
+        ("varan-script 2\nvaran-script 1\n", 2),
+        ("varan-script 1\nfiles f\n", 2),
+        ("varan-script 1\n\n# more\n line a\n", 4),
+        ("varan-script 1\nLINE a\n", 2),
+        ("varan-script 1\nline\ta\n", 2),
+        ("varan-script 1\n \n", 2),
+    ];
+    expect_cause(&rt, rt.alloc(), Word, &texts);
+}
+
+#[test]
+fn faults_of_shape(rt: HostRuntime) {
+    let texts = [
+        ("varan-script 1\narg\n", 2),
+        ("varan-script 1\narg \n", 2),
+        ("varan-script 1\narg a\tb\n", 2),
+        ("varan-script 1\narg a\r\n", 2),
+        ("varan-script 1\nline\n", 2),
+        ("varan-script 1\ninput\n", 2),
+        ("varan-script 1\ninput 0\n", 2),
+        ("varan-script 1\ninput 0g\n", 2),
+        ("varan-script 1\ninput 00 00\n", 2),
+        ("varan-script 1\nfile\n", 2),
+        ("varan-script 1\nfile \n", 2),
+        ("varan-script 1\nfile a/b 00\n", 2),
+        ("varan-script 1\nfile .\n", 2),
+        ("varan-script 1\nfile .. 00\n", 2),
+        ("varan-script 1\nfile a\x7f 00\n", 2),
+        ("varan-script 1\nfile a 000\n", 2),
+        ("varan-script 1\nfile a 00 \n", 2),
+        ("varan-script 1\nfile a 00 00\n", 2),
+        ("varan-script 1\nclock 1\n", 2),
+        ("varan-script 1\nclock 1 2\n", 2),
+        ("varan-script 1\nclock 1 2 3 4\n", 2),
+        ("varan-script 1\nclock 1  2 3\n", 2),
+        ("varan-script 1\nclock 1 2 -3\n", 2),
+        ("varan-script 1\nclock 4294967296 0 0\n", 2),
+        ("varan-script 1\nclock 0 1000000000 x\n", 2),
+        ("varan-script 1\nrandom\n", 2),
+        ("varan-script 1\nrandom \n", 2),
+        ("varan-script 1\nrandom 4294967296\n", 2),
+        ("varan-script 1\nrandom 1\r\n", 2),
+        ("varan-script 2\nhand\n", 2),
+        ("varan-script 2\nhand \n", 2),
+        ("varan-script 2\nhand 0x10\n", 2),
+        ("varan-script 2\nhand ff\n", 2),
+        ("varan-script 2\nhand -1\n", 2),
+        ("varan-script 2\nhand 1 \n", 2),
+        ("varan-script 2\nhand 1 2\n", 2),
+        ("varan-script 2\nhand  1\n", 2),
+        ("varan-script 2\nhand 1\r\n", 2),
+        ("varan-script 2\nhand 4294967296\n", 2),
+        ("varan-script 2\nrandom\n", 2),
+        ("varan-script 1\nrandom 0\nrandom x\nclock\n", 3),
+        ("varan-script 1\nclock 1 2 x\n", 2),
+        ("varan-script 1\nclock  1 2 3\n", 2),
+        ("varan-script 1\nclock 1 2 3 \n", 2),
+        ("varan-script 1\nclock 0 4294967296 0\n", 2),
+        ("varan-script 1\nclock -1 0 0\n", 2),
+        ("varan-script 1\nrandom 1 2\n", 2),
+        ("varan-script 1\narg \x7f\n", 2),
+        ("varan-script 1\nfile . 00\n", 2),
+        ("varan-script 1\nfile ..\n", 2),
+        ("varan-script 1\nfile a/b\n", 2),
+        ("varan-script 1\nfile f 0\n", 2),
+        ("varan-script 1\nfile f 00 00\n", 2),
+        ("varan-script 1\nrandom 1\nrandom\nrandom 1\n", 3),
+    ];
+    expect_cause(&rt, rt.alloc(), Shape, &texts);
+}
+
+#[test]
+fn faults_of_range(rt: HostRuntime) {
+    let texts = [
+        ("varan-script 1\nclock 0 1000000000 0\n", 2),
+        ("varan-script 2\nhand 0\n", 2),
+        ("varan-script 2\nhand 131073\n", 2),
+        ("varan-script 2\nhand 4294967295\n", 2),
+        ("varan-script 2\nhand 1\nhand 0\nhand 1\n", 3),
+        ("varan-script 1\nclock 0 0 1000000001", 2),
+        ("varan-script 1\nclock 0 0 0\nclock 0 0 1000000001\n", 3),
+        ("varan-script 1\nclock 0 0 1000000001\n", 2),
+        ("varan-script 1\nclock 0 0 0\nclock 0 4294967295 0\n", 3),
+    ];
+    expect_cause(&rt, rt.alloc(), Range, &texts);
+}
+
+#[test]
+fn lines_said_twice(rt: HostRuntime) {
+    let texts = [
+        ("varan-script 2\nhand 1\nhand 1\nhand 0\n", 3),
+        ("varan-script 2\nhand 7\nhand 2\nhand 07\n", 4),
+        ("varan-script 1\nclock 0 0 0\nrandom 0\nclock 0 0 0\n", 4),
+        ("varan-script 1\nrandom 0\n\nrandom 0\n", 4),
+        ("varan-script 1\nfile a 00\nfile b\nfile a\n", 4),
+        ("varan-script 1\nclock 0 0 0\nclock 0 0 0\n", 3),
+        ("varan-script 1\nrandom 1\n\nrandom 1", 4),
+        ("varan-script 1\nfile f\nfile g\nfile f 00\n", 4),
+        ("varan-script 1\nrandom 1\nrandom 2\nwhat\n", 3),
+    ];
+    expect_cause(&rt, rt.alloc(), Twice, &texts);
 }
 
 fn expect_script(rt: &impl Abort, alloc: Global, text: &[u8]) -> Script {

@@ -1,4 +1,4 @@
--- Lists that one history begins with, and where the spans of a station and of those behind it begin.
+-- Lists that one history begins with, and where the spans of a station and of those after it begin.
 use Rattle.std.proofs.Common.{◌≡◌, sym, ap, refl, ℕ, zero, suc, ◌+◌, ◌<◌, ◌≤◌, List, [], ◌∷◌, ◌++◌, length, take, Some, arith, append-nil, length-append}
 use Rattle.std.specs.Prelude.{slice_get}
 use Rattle.nv_workers.proofs.Stations.{SpanFrom, Tile}
@@ -29,7 +29,7 @@ take_within zero a c h = refl
 take_within (suc n) [] c h = absurd (omega arith)
 take_within (suc n) (x ∷ a) c h = ap (λ y. x ∷ y) (take_within n a c (omega arith))
 
--- a list that a history begins with, with the event behind it
+-- a list that a history begins with, with the event after it
 pub with_next : {X : Type 0} (a c : List X) (e : X) → slice_get (a ++ c) (length a) ≡ Some e → (m : List X) × (a ++ c ≡ (a ++ e ∷ []) ++ m)
 with_next [] [] e h = cc
 with_next [] (x ∷ c) e h = let k : x ≡ e = cc in (c, λ i. k i ∷ c)
@@ -41,7 +41,7 @@ module _ (spans : ℕ → List (ℕ × ℕ)) where
   stop_at ((a, b) ∷ []) i n x y stop h z s t f = rw (← s.0) (f a b h)
   stop_at (p ∷ q ∷ own) i n x y stop h z s t f = absurd s
 
-  -- where no span behind begins before `stop`, the next begins there or later
+  -- where no span after begins before `stop`, the next begins there or later
   pub stop_by : (n i x y stop : ℕ) → Tile spans i n x y → stop ≤ y → ((k a b : ℕ) → i ≤ k → k < i + n → spans k ≡ (a, b) ∷ [] → stop ≤ a) → stop ≤ x
   stop_by zero i x y stop t l f = rw t l
   stop_by (suc n) i x y stop t l f =

@@ -111,7 +111,7 @@ module _ {P : Type 0} (g : Behaviour P) (laws : IsProcess g) (judges : ℕ → J
   handed_none i p led log e front back from to q =
       absurd (omega (arith, ap length (sym e ∙ q), length-append front ((from, to) ∷ back)))
 
-  -- a fresh version behind an empty list
+  -- a fresh version after an empty list
   pub reads_first : (i : ℕ) (p : P) (v : Running P) → v.index ≡ i → IsFirst g p → v.at ≡ fresh p → v.led ≡ [] → v.leading ≡ false → v.asked ≡ None
       → Reading i p v [] None
   reads_first i p v n f a l d k = record {
@@ -187,7 +187,7 @@ module _ {P : Type 0} (g : Behaviour P) (laws : IsProcess g) (judges : ℕ → J
     behind_on : v.at.seen ≤ new.at.seen → EndBy new.at.seen new.led
     behind_on l = subst (λ (x : List (ℕ × ℕ)). EndBy new.at.seen x) (sym led_same) (ends_later v.led v.at.seen new.at.seen r.behind l)
 
-    -- the parts that it led stand behind it, whatever has come of the event
+    -- the parts that it led stand after it, whatever has come of the event
     pub parts_on : Handed i p new.led (log ++ e ∷ [])
     parts_on = handed_same i p v.led new.led (log ++ e ∷ []) led_same (handed_longer i p v.led log (e ∷ []) r.handed)
 
@@ -340,7 +340,7 @@ module _ {P : Type 0} (g : Behaviour P) (laws : IsProcess g) (judges : ℕ → J
       s.asking a refl k law in
       leads_on i p s.before new led from log (e ∷ []) s.serving u
 
-  -- behind its last part, which ends where the log does, the version gives up the lead
+  -- after its last part, which ends where the log does, the version gives up the lead
   gave_up : (i : ℕ) (p : P) (v : Running P) (led : List (ℕ × ℕ)) (from : ℕ) (log : List Entry) → Led i p v led from log → v.at.fate ≡ None → from < length log
       → has hands (length log) ≡ true → HandedOver g judges replies most hands i p led from (length log) log
   gave_up i p v led from log s n m h =

@@ -38,7 +38,7 @@ module _ {P : Type 0} (g : Behaviour P) (judges : ℕ → Judge) (start : Start)
   told_by v f l from true = None
   told_by v f l from false = Some (led_line v f from l)
 
-  -- what is told of each version behind station k
+  -- what is told of each version after station k
   abbrev pub TellsOn : (p : P) (k : ℕ) → Told p k → Type 0
   TellsOn p k (inl w) = (j : ℕ) → tells (suc k) j ≡ tells k j
   TellsOn p k (inr x) = (tells (suc k) (who k) ≡ told_by (seat p k) (tracked_by g judges start most cuts hands (take x.from x.log) (who k) (seat p k)) x.end x.from (is_handed hands x.from x.end))

@@ -90,7 +90,7 @@ pub below_last : (k : ℕ) (xs : List Span) (x : Span) → AreBelow k xs → x.s
 below_last k [] x b l = (l, tt)
 below_last k (y ∷ xs) x b l = (b.0, below_last k xs x b.1 l)
 
--- behind spans of lower stations
+-- after spans of lower stations
 pub behind_below : (k : ℕ) (front xs : List Span) → AreBelow k front → of_station k (front ++ xs) ≡ of_station k xs
 behind_below k [] xs b = refl
 behind_below k (x ∷ front) xs b =

@@ -52,7 +52,7 @@ module _ (fits : Entry → Type 0) (spell : Entry → List ℕ) (sp : IsSpelling
       absurd (omega (arith, length-append words more, ap length w, ap (length {A = ℕ}) h))
   next_is_by (Some d) e words more w h f k = ap Some (sym (sp.own e d more f (k d refl) (h ∙ ap (λ (y : List ℕ). y ++ more) w)))
 
--- what is told of a version that ended as the leader, behind its last station
+-- what is told of a version that ended as the leader, after its last station
 abbrev told_if : {P : Type 0} → Running P → Bool → Bool → Option Standing
 told_if v true false = Some (standing_of v)
 told_if v true true = None
@@ -388,7 +388,7 @@ module _ {P : Type 0} (g : Behaviour P) (laws : IsProcess g) (judges : ℕ → J
               (tracked g judges iv pv parts (take x.from seen)) end x.from) (sym hd));
         }
 
-    -- what is told behind the station
+    -- what is told after the station
     told_none : (b : Bool) → rv.new.leading ≡ false → told_if rv.new rv.new.leading b ≡ None
     told_none b e = ap (λ (y : Bool). told_if rv.new y b) e
 
@@ -453,7 +453,7 @@ module _ {P : Type 0} (g : Behaviour P) (laws : IsProcess g) (judges : ℕ → J
   told_none_of None b c e = refl
   told_none_of (Some v) b c e = cc
 
-  -- behind another version's station
+  -- after another version's station
   other_told : (k j : ℕ) → k < total → (who k == j) ≡ false → tells (suc k) j ≡ tells k j
   other_told k j l ne = elim (cases_lt j (length news)) [
     | inl m ↦ others_by k j true (apart_le k (left j).station (λ e.
@@ -467,7 +467,7 @@ module _ {P : Type 0} (g : Behaviour P) (laws : IsProcess g) (judges : ℕ → J
   idle_told : (v : Running P) (b c : Bool) → v.leading ≡ false → told_of (Some v) b ≡ told_of (Some v) c
   idle_told v b c e = ap (λ (y : Bool). told_if v y b) e ∙ sym (ap (λ (y : Bool). told_if v y c) e)
 
-  -- behind a station that went by
+  -- after a station that went by
   went_told : (k : ℕ) (l : k < total) → of_station k fin.spans ≡ [] → (j : ℕ) → tells (suc k) j ≡ tells k j
   went_told k l none j = by (who k == j) refl where
     by : (b : Bool) → (who k == j) ≡ b → tells (suc k) j ≡ tells k j

@@ -87,7 +87,7 @@ module _ {P : Type 0} (g : Behaviour P) (judges : ℕ → Judge) where
   begun i p led log = record { process = (tracked i p led log).process; log = log; fate = None }
 
 module _ {P : Type 0} (g : Behaviour P) (judges : ℕ → Judge) (replies : Start) (most : ℕ) (hands : List ℕ) where
-  -- behind the parts that it led before, it led the log from one length to another, and there it gave up the lead
+  -- after the parts that it led before, it led the log from one length to another, and there it gave up the lead
   pub record HandedOver (i : ℕ) (p : P) (led : List (ℕ × ℕ)) (from to : ℕ) (log : List Entry) : Type 0 where
     pub within : to ≤ length log
     pub grew : from < to
@@ -101,7 +101,7 @@ module _ {P : Type 0} (g : Behaviour P) (judges : ℕ → Judge) (replies : Star
   abbrev pub AreHanded : ℕ → P → List (ℕ × ℕ) → List Entry → Type 0
   AreHanded i p led log = (front back : List (ℕ × ℕ)) (from to : ℕ) → led ≡ front ++ (from, to) ∷ back → HandedOver i p front from to log
 
-  -- a version that has led from number `from` on, behind the parts that it led before, with its seat's seen list: a worker keeps this
+  -- a version that has led from number `from` on, after the parts that it led before, with its seat's seen list: a worker keeps this
   -- while it leads, at each turn's end
   pub record HasLedFrom (i : ℕ) (p : P) (v : Running P) (led : List (ℕ × ℕ)) (from : ℕ) (log : List Entry) : Type 0 where
     pub index : v.index ≡ i

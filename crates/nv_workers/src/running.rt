@@ -81,7 +81,7 @@ impl Parts {
     }
 }
 
-// Rounds in a row in which no worker moved: for so many the thread yields the processor, behind them it sleeps.
+// Rounds in a row in which no worker moved: for so many the thread yields the processor, after them it sleeps.
 const YIELDS: u32 = 200;
 
 // After so many, a part gives up, unless all parts run beside each other.

@@ -58,7 +58,7 @@ calls: .word 56, -100, f, 0x42, 0x1a4, 0, 0 # openat
 ",
         written: b"\x03\0\0\0\x03\0\0\0\0\0\0\0\xfe\xff\xff\xff\xfe\xff\xff\xff\x04\0\0\0\0\0\0\0\x01\0\0\0\0\0\0\0\0\0\0\0\0\0\0\0\x03\0\0\0abc\0\0\0\0\0\0\0\0\0\0\0\0\xea\xff\xff\xff",
     },
-    // O_TRUNC for writing: the other descriptor keeps its offset; a write behind the end.
+    // O_TRUNC for writing: the other descriptor keeps its offset; a write after the end.
     Guest {
         name: "emptied",
         calls: 27,

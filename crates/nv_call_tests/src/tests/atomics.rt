@@ -97,7 +97,7 @@ fn counted_by_amoadd(rt: HostRuntime) -> Result<(), Fail> {
     Ok(())
 }
 
-// The first turn of each thread ends between its LR.W and its SC.W: 1000 - 14 and 1000 - 8 are 2 modulo 6. The SC.W behind it fails, so
+// The first turn of each thread ends between its LR.W and its SC.W: 1000 - 14 and 1000 - 8 are 2 modulo 6. The SC.W after it fails, so
 // that nothing is lost.
 #[test]
 fn counted_by_reservations(rt: HostRuntime) -> Result<(), Fail> {
@@ -160,7 +160,7 @@ fates 1
     Ok(())
 }
 
-// An answer of the monitor ends a reservation, and so does one of the process itself: SC.W behind getpid or gettid fails.
+// An answer of the monitor ends a reservation, and so does one of the process itself: SC.W after getpid or gettid fails.
 #[test]
 fn reservation_ended_by_an_answer(rt: HostRuntime) -> Result<(), Fail> {
     for (number, calls) in [(172, 2), (178, 1)] {

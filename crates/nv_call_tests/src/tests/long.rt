@@ -1,111 +1,93 @@
 use super::SCRIPT;
 use crate::{end_of_report, run_table};
+use std::alloc::{AllocError, Global};
+use std::process::Abort;
+use std::sync::Wait;
 use std::test::Fail;
+use std::thread::Threads;
 
-// Paths of 255 and of 256 bytes.
-#[test]
-fn long_paths(rt: HostRuntime) -> Result<(), Fail> {
-    let letters = "a".repeat(rt.alloc(), 255)?;
-    let slashes = "/".repeat(rt.alloc(), 255)?;
-    let data = format!(in rt.alloc();
+// Data with paths of 255 bytes (`name`, `root`) and of 256 (`long`, `deep`), up to its table of calls.
+fn paths(alloc: Global) -> Result<String, AllocError> {
+    let letters = "a".repeat(alloc, 255)?;
+    let slashes = "/".repeat(alloc, 255)?;
+    format!(in alloc;
         ".data
 long: .ascii \"a\"
 name: .ascii \"{letters}\\0\"
 deep: .ascii \"/\"
 root: .ascii \"{slashes}\\0\"
 calls: .word "
-    )?;
-    let cases: [(&str, &str, &str, usize); 16] = [
-        (
-            "56, -100, name, 0, 0, 0",
-            "56 4294967196 0 0 0 0 0 = -2 :",
-            "61",
-            255,
-        ),
+    )
+}
+
+// Each row is a call and its line of the log, which ends with so many of a byte in hexadecimal.
+fn expect_paths<R: Threads + Wait + Sync + Abort>(
+    rt: &R,
+    alloc: Global,
+    byte: &str,
+    count: usize,
+    rows: &[(&str, &str)],
+) -> Result<(), AllocError> {
+    let data = paths(alloc)?;
+    let path = byte.repeat(alloc, count)?;
+    for (call, line) in rows {
+        let table = format!(in alloc; "{data}{call}\n")?;
+        let answered = run_table(rt, alloc, SCRIPT, table.as_str())?;
+        let line = format!(in alloc; "{line} {path}")?;
+        let end = end_of_report(alloc, 0, line.as_str())?;
+        assert!(rt; answered.written.ends_with(end.as_bytes()), "{call}");
+    }
+    Ok(())
+}
+
+#[test]
+fn long_paths_opened(rt: HostRuntime) -> Result<(), Fail> {
+    let rows = [
+        ("56, -100, name, 0, 0, 0", "56 4294967196 0 0 0 0 0 = -2 :"),
         (
             "56, -100, name, 0x41, 0, 0",
             "56 4294967196 0 65 0 0 0 = 3 :",
-            "61",
-            255,
         ),
-        (
-            "56, -100, long, 0, 0, 0",
-            "56 4294967196 0 0 0 0 0 = -36 :",
-            "61",
-            256,
-        ),
+        ("56, 99, name, 0, 0, 0", "56 99 0 0 0 0 0 = -9 :"),
+        ("56, 0, name, 0, 0, 0", "56 0 0 0 0 0 0 = -20 :"),
+    ];
+    expect_paths(&rt, rt.alloc(), "61", 255, &rows)?;
+    let rows = [
+        ("56, -100, long, 0, 0, 0", "56 4294967196 0 0 0 0 0 = -36 :"),
         (
             "56, -100, long, 0x41, 0, 0",
             "56 4294967196 0 65 0 0 0 = -36 :",
-            "61",
-            256,
         ),
-        (
-            "56, 99, long, 3, 0, 0",
-            "56 99 0 3 0 0 0 = -36 :",
-            "61",
-            256,
-        ),
-        ("56, 0, long, 0, 0, 0", "56 0 0 0 0 0 0 = -36 :", "61", 256),
-        ("56, 99, name, 0, 0, 0", "56 99 0 0 0 0 0 = -9 :", "61", 255),
-        ("56, 0, name, 0, 0, 0", "56 0 0 0 0 0 0 = -20 :", "61", 255),
-        (
-            "56, -100, root, 0, 0, 0",
-            "56 4294967196 0 0 0 0 0 = -22 :",
-            "2f",
-            255,
-        ),
-        (
-            "56, 99, root, 0, 0, 0",
-            "56 99 0 0 0 0 0 = -22 :",
-            "2f",
-            255,
-        ),
-        (
-            "56, -100, deep, 0x41, 0, 0",
-            "56 4294967196 0 65 0 0 0 = -36 :",
-            "2f",
-            256,
-        ),
-        (
-            "35, -100, name, 0, 0, 0",
-            "35 4294967196 0 0 0 0 0 = -2 :",
-            "61",
-            255,
-        ),
-        (
-            "35, -100, long, 0, 0, 0",
-            "35 4294967196 0 0 0 0 0 = -36 :",
-            "61",
-            256,
-        ),
-        (
-            "35, 99, long, 1, 0, 0",
-            "35 99 0 1 0 0 0 = -36 :",
-            "61",
-            256,
-        ),
-        (
-            "35, -100, root, 0, 0, 0",
-            "35 4294967196 0 0 0 0 0 = -22 :",
-            "2f",
-            255,
-        ),
-        (
-            "35, -100, deep, 0, 0, 0",
-            "35 4294967196 0 0 0 0 0 = -36 :",
-            "2f",
-            256,
-        ),
+        ("56, 99, long, 3, 0, 0", "56 99 0 3 0 0 0 = -36 :"),
+        ("56, 0, long, 0, 0, 0", "56 0 0 0 0 0 0 = -36 :"),
     ];
-    for (call, line, digits, count) in cases {
-        let table = format!(in rt.alloc(); "{data}{call}\n")?;
-        let answered = run_table(&rt, rt.alloc(), SCRIPT, table.as_str())?;
-        let path = digits.repeat(rt.alloc(), count)?;
-        let line = format!(in rt.alloc(); "{line} {path}")?;
-        let end = end_of_report(rt.alloc(), 0, line.as_str())?;
-        assert!(rt; answered.written.ends_with(end.as_bytes()), "{call}");
-    }
+    expect_paths(&rt, rt.alloc(), "61", 256, &rows)?;
+    let rows = [
+        ("56, -100, root, 0, 0, 0", "56 4294967196 0 0 0 0 0 = -22 :"),
+        ("56, 99, root, 0, 0, 0", "56 99 0 0 0 0 0 = -22 :"),
+    ];
+    expect_paths(&rt, rt.alloc(), "2f", 255, &rows)?;
+    let rows = [(
+        "56, -100, deep, 0x41, 0, 0",
+        "56 4294967196 0 65 0 0 0 = -36 :",
+    )];
+    expect_paths(&rt, rt.alloc(), "2f", 256, &rows)?;
+    Ok(())
+}
+
+#[test]
+fn long_paths_unlinked(rt: HostRuntime) -> Result<(), Fail> {
+    let rows = [("35, -100, name, 0, 0, 0", "35 4294967196 0 0 0 0 0 = -2 :")];
+    expect_paths(&rt, rt.alloc(), "61", 255, &rows)?;
+    let rows = [
+        ("35, -100, long, 0, 0, 0", "35 4294967196 0 0 0 0 0 = -36 :"),
+        ("35, 99, long, 1, 0, 0", "35 99 0 1 0 0 0 = -36 :"),
+    ];
+    expect_paths(&rt, rt.alloc(), "61", 256, &rows)?;
+    let rows = [("35, -100, root, 0, 0, 0", "35 4294967196 0 0 0 0 0 = -22 :")];
+    expect_paths(&rt, rt.alloc(), "2f", 255, &rows)?;
+    let rows = [("35, -100, deep, 0, 0, 0", "35 4294967196 0 0 0 0 0 = -36 :")];
+    expect_paths(&rt, rt.alloc(), "2f", 256, &rows)?;
     Ok(())
 }
 

@@ -5,69 +5,20 @@ use std::test::Fail;
 // A guest that exits.
 const EXIT: &[u8] = b"li a7, 94\necall\n";
 
+// Each cause with its line; nv_text_tests has more of each.
 #[test]
 fn script_faults(rt: HostRuntime) -> Result<(), Fail> {
-    let cases: [(&[u8], &str); 50] = [
+    let cases: [(&[u8], &str); 6] = [
         (b"", "line 1 form"),
-        (b"\n", "line 1 form"),
-        (b"varan-script 3\n", "line 1 form"),
-        (b"varan-script 1 \n", "line 1 form"),
-        (b"varan-script  1\n", "line 1 form"),
-        (b"varan-script 1\r\n", "line 1 form"),
-        (b"# no\nvaran-script 1\n", "line 1 form"),
-        (b"varan-script 3\nclock 1\n", "line 1 form"),
-        (b"varan-script 1\nfiles f\n", "line 2 word"),
         (b"varan-script 1\n\n# more\n line a\n", "line 4 word"),
-        (b"varan-script 1\nLINE a\n", "line 2 word"),
-        (b"varan-script 1\nline\ta\n", "line 2 word"),
-        (b"varan-script 1\n \n", "line 2 word"),
-        (b"varan-script 1\nclock 1\n", "line 2 shape"),
-        (b"varan-script 1\nclock 1 2\n", "line 2 shape"),
-        (b"varan-script 1\nclock 1 2 3 4\n", "line 2 shape"),
-        (b"varan-script 1\nclock 1 2 x\n", "line 2 shape"),
-        (b"varan-script 1\nclock  1 2 3\n", "line 2 shape"),
-        (b"varan-script 1\nclock 1 2 3 \n", "line 2 shape"),
-        (b"varan-script 1\nclock 4294967296 0 0\n", "line 2 shape"),
-        (b"varan-script 1\nclock 0 4294967296 0\n", "line 2 shape"),
-        (b"varan-script 1\nclock -1 0 0\n", "line 2 shape"),
-        (b"varan-script 1\nrandom\n", "line 2 shape"),
-        (b"varan-script 1\nrandom \n", "line 2 shape"),
-        (b"varan-script 1\nrandom 1 2\n", "line 2 shape"),
-        (b"varan-script 1\nrandom 4294967296\n", "line 2 shape"),
-        (b"varan-script 1\narg\n", "line 2 shape"),
-        (b"varan-script 1\narg \n", "line 2 shape"),
-        (b"varan-script 1\narg a\tb\n", "line 2 shape"),
-        (b"varan-script 1\narg \x7f\n", "line 2 shape"),
-        (b"varan-script 1\nline\n", "line 2 shape"),
-        (b"varan-script 1\ninput\n", "line 2 shape"),
-        (b"varan-script 1\ninput 0\n", "line 2 shape"),
         (b"varan-script 1\ninput 0g\n", "line 2 shape"),
-        (b"varan-script 1\ninput 00 00\n", "line 2 shape"),
-        (b"varan-script 1\nfile\n", "line 2 shape"),
-        (b"varan-script 1\nfile \n", "line 2 shape"),
-        (b"varan-script 1\nfile . 00\n", "line 2 shape"),
-        (b"varan-script 1\nfile ..\n", "line 2 shape"),
-        (b"varan-script 1\nfile a/b\n", "line 2 shape"),
-        (b"varan-script 1\nfile f 0\n", "line 2 shape"),
-        (b"varan-script 1\nfile f 00 00\n", "line 2 shape"),
-        (b"varan-script 1\nclock 0 1000000000 0\n", "line 2 range"),
-        (b"varan-script 1\nclock 0 0 1000000001\n", "line 2 range"),
         (
             b"varan-script 1\nclock 0 0 0\nclock 0 4294967295 0\n",
             "line 3 range",
         ),
         (
-            b"varan-script 1\nclock 0 0 0\nclock 0 0 0\n",
-            "line 3 twice",
-        ),
-        (b"varan-script 1\nrandom 1\n\nrandom 1", "line 4 twice"),
-        (
             b"varan-script 1\nfile f\nfile g\nfile f 00\n",
             "line 4 twice",
-        ),
-        (
-            b"varan-script 1\nrandom 1\nrandom\nrandom 1\n",
-            "line 3 shape",
         ),
         (
             b"varan-script 1\nrandom 1\nrandom 2\nwhat\n",

@@ -1,6 +1,7 @@
 use super::{FILE, SCRIPT};
 use crate::{run, run_pair, run_table};
 use nv_test_support::image;
+use std::alloc::{AllocError, Global};
 use std::test::Fail;
 
 // A file, a byte to write, and a buffer.
@@ -137,6 +138,24 @@ fates 2
 }
 
 // The lines of getrandom, of getpid, of getrandom at an address that is none, of getrandom again, and of both clocks.
+fn randoms_and_clocks(alloc: Global, bytes: [&str; 4]) -> Result<String, AllocError> {
+    let [first, start, more, later] = bytes;
+    format!(in alloc;
+        "output 0
+
+log 6
+0 100 278 0 1 0 0 0 0 = 1 : {first}
+1 100 278 0 1 0 0 0 0 = -14 :
+2 100 403 0 0 0 0 0 0 = 0 : {start}
+3 100 278 0 7 0 0 0 0 = 7 : {more}
+4 100 403 1 0 0 0 0 0 = 0 : {later}
+5 100 94 0 0 0 0 0 0 = 0 :
+fates 1
+0 exited 0 seen 6 led 0-6 rewrites 0
+"
+    )
+}
+
 #[test]
 fn random_and_clock(rt: HostRuntime) -> Result<(), Fail> {
     let data = format!(in rt.alloc();
@@ -185,22 +204,9 @@ fn random_and_clock(rt: HostRuntime) -> Result<(), Fail> {
             ],
         ),
     ];
-    for (script, [first, start, more, later]) in cases {
+    for (script, bytes) in cases {
         let answered = run_table(&rt, rt.alloc(), script, data.as_str())?;
-        let report = format!(in rt.alloc();
-            "output 0
-
-log 6
-0 100 278 0 1 0 0 0 0 = 1 : {first}
-1 100 278 0 1 0 0 0 0 = -14 :
-2 100 403 0 0 0 0 0 0 = 0 : {start}
-3 100 278 0 7 0 0 0 0 = 7 : {more}
-4 100 403 1 0 0 0 0 0 = 0 : {later}
-5 100 94 0 0 0 0 0 0 = 0 :
-fates 1
-0 exited 0 seen 6 led 0-6 rewrites 0
-"
-        )?;
+        let report = randoms_and_clocks(rt.alloc(), bytes)?;
         assert_eq!(rt; answered.written.as_slice(), report.as_bytes());
         assert_eq!(rt; answered.status, 0);
     }

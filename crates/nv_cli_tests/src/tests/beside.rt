@@ -64,7 +64,7 @@ fn small_ring(rt: HostRuntime) -> Result<(), Fail> {
     Ok(())
 }
 
-// Writes the 4,096 bytes behind it to descriptor 1, 50 times, and exits with 0.
+// Writes the 4,096 bytes after it to descriptor 1, 50 times, and exits with 0.
 const WRITES_50: [u32; 13] = [
     0x000105b7, 0x03458593, 0x00100513, 0x00001637, 0x04000893, 0x03200413, 0x00000073, 0x00100513,
     0xfff40413, 0xfe041ae3, 0x00000513, 0x05e00893, 0x00000073,

@@ -60,7 +60,7 @@ fn permitted_extra_call(rt: HostRuntime) -> Result<(), Fail> {
     Ok(())
 }
 
-// The rules are read behind the script and before the versions.
+// The rules are read after the script and before the versions.
 #[test]
 fn rules_in_their_place(rt: HostRuntime) -> Result<(), Fail> {
     let empty = judged(&rt, rt.alloc(), b"0\n", &[2])?;

@@ -2,7 +2,7 @@ use nv_test_support::{SCRIPT, run};
 use std::alloc::{AllocError, Global};
 use std::test::Fail;
 
-// The header of a file as the usual linker makes it, with the entry 0x10000 and four program headers behind it.
+// The header of a file as the usual linker makes it, with the entry 0x10000 and four program headers after it.
 const HEADER: [u8; 52] = [
     0x7f, 0x45, 0x4c, 0x46, 1, 1, 1, 0, 0, 0, 0, 0, 0, 0, 0, 0, 2, 0, 0xf3, 0, 1, 0, 0, 0, 0, 0, 1,
     0, 52, 0, 0, 0, 0, 0, 0, 0, 0, 0, 0, 0, 52, 0, 32, 0, 4, 0, 40, 0, 0, 0, 0, 0,

@@ -37,7 +37,7 @@ fn run_files<R: Threads + Wait + Sync>(
     monitor(rt, alloc, words, outside)
 }
 
-// A run of versions of these instructions, with the text behind them.
+// A run of versions of these instructions, with the text after them.
 fn run<R: Threads + Wait + Sync>(
     rt: &R,
     alloc: Global,

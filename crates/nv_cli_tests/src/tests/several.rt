@@ -24,7 +24,7 @@ fn run<R: Threads + Wait + Sync>(
     monitor(rt, alloc, words, outside)
 }
 
-// A run of two versions of these instructions, with the text behind them.
+// A run of two versions of these instructions, with the text after them.
 fn pair<R: Threads + Wait + Sync>(
     rt: &R,
     alloc: Global,

@@ -122,7 +122,7 @@ fn each_read_fails(rt: HostRuntime) -> Result<(), Fail> {
     Ok(())
 }
 
-// The leader breaks at the word, before the first write, between the two, or behind the second one.
+// The leader breaks at the word, before the first write, between the two, or after the second one.
 #[test]
 fn each_word_breaks(rt: HostRuntime) -> Result<(), Fail> {
     let whole = image(rt.alloc(), &HELLO_TWICE, b"hi\n")?;
