@@ -5,12 +5,10 @@ ghost use Rattle.nv_elf.specs.Elf.{file_fault, table_fault, loadables_fault, has
 ghost use Rattle.nv_elf.specs.Written.{is_program};
 ghost use Rattle.nv_elf.specs.declared.program.ElfFault.TheVariants.{Memory};
 
-use crate::header::ProgramHeader;
+use crate::header::{FILE_HEADER_LENGTH, PROGRAM_HEADER_LENGTH, ProgramHeader};
 use crate::{ElfFault, Program, Segment};
 use nv_bytes::{u16_at, u32_at};
 use std::alloc::{AllocError, Global};
-
-const HEADER_LENGTH: usize = 52;
 
 const EXECUTABLE: u16 = 2;
 
@@ -21,8 +19,6 @@ const REFUSED_FLAGS: u32 = 0xf;
 const MOST_HEADERS: usize = 64;
 
 const MOST_LOADABLES: usize = 16;
-
-const PROGRAM_HEADER_LENGTH: usize = 32;
 
 fn has_table(bytes: &[u8]) -> bool
     requires { 52 ≤ length bytes.now }
@@ -65,7 +61,7 @@ fn check_file(bytes: &[u8]) -> Result<(), ElfFault>
     ensures long { OnOk result (52 ≤ length bytes.now) }
     ensures table { OnOk result (IsTrue (has_table bytes.now)) }
 {
-    if bytes.len() < HEADER_LENGTH {
+    if bytes.len() < FILE_HEADER_LENGTH {
         return Err(ElfFault::Short);
     }
     if !has_magic(bytes) {

@@ -4,14 +4,11 @@ ghost use Rattle.byteorder.specs.Endian.{little_bytes};
 ghost use Rattle.nv_elf.specs.Elf.{elf_of, range_of, image_of, Accepted};
 ghost use Rattle.nv_elf.specs.Written.{is_program, bytes_in, file_header, flags_of, program_header, padding, contents_at, end_from, table_from, contents_from, file_of};
 
+use crate::header::{FILE_HEADER_LENGTH, PROGRAM_HEADER_LENGTH};
 use crate::{Program, Segment};
 use std::alloc::{AllocError, Global};
 
 const IDENT: [u8; 16] = [0x7f, b'E', b'L', b'F', 1, 1, 1, 0, 0, 0, 0, 0, 0, 0, 0, 0];
-
-const FILE_HEADER_LENGTH: usize = 52;
-
-const PROGRAM_HEADER_LENGTH: usize = 32;
 
 const ALIGNMENT: usize = 4;
 
