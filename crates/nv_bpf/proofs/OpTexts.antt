@@ -6,7 +6,7 @@ use Rattle.nv_bpf.specs.declared.op.FilterFault.{FilterFault}
 use Rattle.nv_bpf.specs.declared.op.FilterFault.TheVariants as fault
 use Rattle.nv_bpf.specs.Lines.{fields, lines}
 use Rattle.nv_bpf.specs.Texts.{op_of_fields, op_of, ops_of, put_first, with_line, count_of, ops_behind, ops_of_lines, ops_of_text}
-use Rattle.nv_bytes.specs.Texts.{number_of}
+use Rattle.nv_text.specs.Numbers.{number_of}
 use Rattle.nv_bpf.proofs.Cutting.{some_part, some_line}
 
 abbrev pub Split : List ℕ → Bor (List ℕ) × Option (Bor (List ℕ)) → Type 0

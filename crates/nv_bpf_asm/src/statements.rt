@@ -6,8 +6,7 @@ ghost use Rattle.nv_bpf_asm.specs.Views.{view, result_view};
 
 use crate::fault::RuleCause;
 use crate::forms::{Form, form_of};
-use nv_bytes::number;
-use nv_text::{is_name, operands};
+use nv_text::{is_name, number, operands};
 use std::alloc::{AllocError, Global};
 
 /// The instruction of a line, with the labels that it goes to.

@@ -1,7 +1,7 @@
 -- The script and the rules are read.
 use Rattle.std.proofs.Common.{◌≡◌, Ok, refl}
 use Rattle.nv_text.specs.Lines as text_lines
-use Rattle.nv_bytes.specs.Texts.{number_of}
+use Rattle.nv_text.specs.Numbers.{number_of}
 use Rattle.nv_bpf.specs.Actions.{actions, action_of}
 use Rattle.nv_bpf.specs.Lines.{lines, fields}
 use Rattle.nv_bpf.specs.Texts.{field, op_of, ops_of, ops_of_text, filter_of}

@@ -2,7 +2,7 @@
 use Rattle.std.specs.Prelude.{ℕ, Bool, true, false, not, ◌&&◌, ◌||◌, List, [], ◌∷◌, ◌++◌, Option, Some, None, Result, Ok, Err, if◌then◌else◌, ◌==◌, nat_lt, nat_le, length, bytes_eq, codes, option_map}
 use Rattle.std.specs.Option.{ok_or}
 use Rattle.std.specs.List.{list_all, slice_split}
-use Rattle.nv_bytes.specs.Texts.{number_of, unhexed}
+use Rattle.nv_text.specs.Numbers.{number_of, unhexed}
 use Rattle.nv_text.specs.Lines.{front, behind}
 use Rattle.nv_script.specs.declared.entry.Clock.{Clock}
 use Rattle.nv_script.specs.declared.fault.ScriptCause.{ScriptCause}

@@ -1,2 +1,4 @@
+pub mod Digits
 pub mod FirstLine
 pub mod Known
+pub mod Pairs

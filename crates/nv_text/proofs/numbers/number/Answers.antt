@@ -1,7 +1,7 @@
 use Rattle.std.proofs.Common.{◌∙◌, sym}
 use Rattle.std.proofs.lemmas.Str.{IsUtf8-from_ascii}
-use Rattle.nv_bytes.proofs.Numbers.{number-refused, number-parsed, ascii-digits}
-use Rattle.nv_bytes.proofs.texts.number.Goals as goal
+use Rattle.nv_text.proofs.Digits.{number-refused, number-parsed, ascii-digits}
+use Rattle.nv_text.proofs.numbers.number.Goals as goal
 
 pub returns-then-not-are_digits : goal.returns-then-not-are_digits
 returns-then-not-are_digits c = sym (number-refused c.args.text.now (sym c.are_digits.ensures ∙ c.if-not-are_digits.true))

@@ -1,6 +1,6 @@
 use Rattle.std.proofs.Common.{◌≡◌, ◌++◌, option_map, length}
-use Rattle.nv_bytes.specs.Texts.{unhexed}
-use Rattle.nv_bytes.proofs.texts.unhex.Given as goal
+use Rattle.nv_text.specs.Numbers.{unhexed}
+use Rattle.nv_text.proofs.numbers.unhex.Given as goal
 
 -- the bytes so far and those of the rest are all
 abbrev pub invariant-loop-rest : goal.invariant-loop-rest

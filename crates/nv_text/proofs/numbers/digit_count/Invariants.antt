@@ -1,6 +1,6 @@
 use Rattle.std.proofs.Common.{◌≡◌, ◌+◌, length}
-use Rattle.nv_bytes.specs.Texts.{decimal_of}
-use Rattle.nv_bytes.proofs.texts.digit_count.Given as goal
+use Rattle.nv_text.specs.Numbers.{decimal_of}
+use Rattle.nv_text.proofs.numbers.digit_count.Given as goal
 
 -- the digits passed and those of the rest are all
 abbrev pub invariant-loop-rest : goal.invariant-loop-rest

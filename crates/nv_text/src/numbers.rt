@@ -3,7 +3,7 @@ ghost use Rattle.std.specs.Prelude.{◌≡◌, ◌++◌, ◌<◌, ◌≤◌, fal
 ghost use Rattle.std.specs.Char.{digit_value, is_ascii_digit, is_ascii_hexdigit};
 ghost use Rattle.std.specs.Fmt.{digit_glyph};
 ghost use Rattle.std.specs.List.{list_all};
-ghost use Rattle.nv_bytes.specs.Texts.{number_of, decimal_of, pair_of, unhexed, hex_pair_of};
+ghost use Rattle.nv_text.specs.Numbers.{number_of, decimal_of, pair_of, unhexed, hex_pair_of};
 
 use std::alloc::{AllocError, Global};
 

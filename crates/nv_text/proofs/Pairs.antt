@@ -4,7 +4,7 @@ use Rattle.std.specs.Char.{is_ascii_hexdigit, digit_value}
 use Rattle.std.specs.List.{list_all}
 use Rattle.std.proofs.Math.Nat.{add-mod_right}
 use Rattle.std.proofs.lemmas.List.{append-nil, take_all}
-use Rattle.nv_bytes.specs.Texts.{unhexed, paired, pair_of}
+use Rattle.nv_text.specs.Numbers.{unhexed, paired, pair_of}
 
 chosen : (even a b rest : Bool) (byte : ℕ) (more : List ℕ) →
     cond (even && (a && (b && rest))) (Some (byte ∷ more)) None ≡ cond (a && b) (option_map (λ bytes. byte ∷ bytes) (cond (even && rest) (Some more) None)) None

@@ -1,8 +1,7 @@
-use Rattle.std.proofs.Common.{◌∙◌, sym, ap, refl, arith, List, ℕ, ◌++◌, option_map}
-use Rattle.nv_bytes.specs.Texts.{unhexed}
-use Rattle.nv_bytes.proofs.Pairs.{pair-step, pair-ends, rest-ends}
-use Rattle.nv_bytes.proofs.texts.unhex.Goals as goal
-use Rattle.nv_bytes.proofs.texts.unhex.Goals.{then-is_empty, else-is_empty}
+use Rattle.std.proofs.Common.{◌∙◌, sym, refl}
+use Rattle.nv_text.proofs.Pairs.{pair-step, pair-ends, rest-ends}
+use Rattle.nv_text.proofs.numbers.unhex.Goals as goal
+use Rattle.nv_text.proofs.numbers.unhex.Goals.{then-is_empty, else-is_empty}
 
 pub returns-in_default-pair_value : goal.returns-in_default-pair_value
 returns-in_default-pair_value c =

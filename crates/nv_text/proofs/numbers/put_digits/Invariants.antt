@@ -1,6 +1,6 @@
 use Rattle.std.proofs.Common.{◌≡◌, ◌<◌, ◌+◌, ◌++◌, length, drop}
-use Rattle.nv_bytes.specs.Texts.{decimal_of}
-use Rattle.nv_bytes.proofs.texts.put_digits.Given as goal
+use Rattle.nv_text.specs.Numbers.{decimal_of}
+use Rattle.nv_text.proofs.numbers.put_digits.Given as goal
 
 -- the digits of the rest belong before those written
 abbrev pub invariant-loop-rest : goal.invariant-loop-rest

@@ -1,8 +1,8 @@
-use Rattle.std.proofs.Common.{arith, length, drop, set, length-set, ◌-◌, ◌+◌, ◌/◌, ◌%◌, ◌≡◌, ◌++◌, ◌∙◌, sym, ap, refl, ℕ, List}
+use Rattle.std.proofs.Common.{arith, length, length-set, ◌-◌, ◌+◌, ◌/◌, ◌%◌, ◌≡◌, ◌∙◌, refl}
 use Rattle.std.specs.Fmt.{decimal}
 use Rattle.std.proofs.lemmas.List.{append-nil, drop_all}
-use Rattle.nv_bytes.proofs.Numbers.{length-decimal_pos, length-decimal_step, length-decimal_digit, digit-written, first-written}
-use Rattle.nv_bytes.proofs.texts.put_digits.Goals as goal
+use Rattle.nv_text.proofs.Digits.{length-decimal_pos, length-decimal_step, length-decimal_digit, digit-written, first-written}
+use Rattle.nv_text.proofs.numbers.put_digits.Goals as goal
 
 pub overflow_sub-place : goal.overflow_sub-place
 overflow_sub-place c = omega (arith, length-decimal_pos c.args.value (omega arith))

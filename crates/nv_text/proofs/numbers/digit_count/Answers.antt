@@ -1,6 +1,6 @@
 use Rattle.std.proofs.Common.{arith}
-use Rattle.nv_bytes.proofs.Numbers.{length-decimal, length-decimal_step, length-decimal_digit}
-use Rattle.nv_bytes.proofs.texts.digit_count.Goals as goal
+use Rattle.nv_text.proofs.Digits.{length-decimal, length-decimal_step, length-decimal_digit}
+use Rattle.nv_text.proofs.numbers.digit_count.Goals as goal
 
 pub overflow_add-count : goal.overflow_add-count
 overflow_add-count c = omega (arith, length-decimal c.args.value (omega arith))
