@@ -1,5 +1,5 @@
 -- What a script means: what a run begins with, or the first faulty line with its first cause.
-use Rattle.std.specs.Prelude.{ℕ, Bool, true, not, ◌&&◌, List, [], ◌∷◌, ◌++◌, Option, Some, None, is_some, unwrap_or, Result, Ok, Err, if◌then◌else◌, nat_lt, nat_le, ◌+◌, ◌-◌, ◌^◌, ◌==◌, min, length, bytes_eq, codes}
+use Rattle.std.specs.Prelude.{ℕ, Bool, true, not, ◌&&◌, List, [], ◌∷◌, ◌++◌, Option, Some, None, is_some, unwrap_or, Result, Ok, Err, if◌then◌else◌, nat_lt, nat_le, ◌+◌, ◌-◌, ◌^◌, ◌==◌, min, length, bytes_eq}
 use Rattle.std.specs.List.{list_all, list_any}
 use Rattle.nv_text.specs.Lines.{lines}
 use Rattle.nv_script.specs.declared.entry.Clock.{Clock}

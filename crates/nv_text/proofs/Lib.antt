@@ -1,4 +1,5 @@
+pub mod Cutting
 pub mod Digits
-pub mod FirstLine
 pub mod Known
+pub mod Laws
 pub mod Pairs

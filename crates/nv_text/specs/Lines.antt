@@ -5,9 +5,6 @@ use Rattle.std.specs.List.{list_all, onto_first, slice_split, prefix_len, suffix
 abbrev pub is_newline : ℕ → Bool
 is_newline b = b == 10
 
-abbrev pub is_not_newline : ℕ → Bool
-is_not_newline b = not (is_newline b)
-
 -- the lines of a text, whose last newline may be missing
 unfoldable pub lines : List ℕ → List (List ℕ)
 lines [] = []
@@ -32,9 +29,6 @@ trim text = trim_end (trim_start text)
 
 abbrev pub is_comma : ℕ → Bool
 is_comma b = b == 44
-
-abbrev pub is_not_comma : ℕ → Bool
-is_not_comma b = not (is_comma b)
 
 abbrev pub operands_of : List ℕ → List (List ℕ)
 operands_of [] = []

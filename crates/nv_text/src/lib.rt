@@ -1,6 +1,7 @@
-//! Lines, words, operands, names and numbers of the text formats.
+//! Lines, fields, words, operands, names and numbers of the text formats.
 #![tactic(auto)]
 
+mod fields;
 mod lines;
 mod names;
 mod numbers;
@@ -8,6 +9,7 @@ mod numbers;
 mod tests;
 mod words;
 
+pub use fields::{cut, split_field};
 pub use lines::split_line;
 pub use names::Names;
 pub use numbers::{decimal, hex_pair, number, unhex};
