@@ -1,5 +1,5 @@
 -- Lines, words and operands of a text.
-use Rattle.std.specs.Prelude.{ℕ, Bool, false, not, ◌&&◌, ◌||◌, List, [], ◌∷◌, Option, Some, None, if◌then◌else◌, ◌==◌, nat_le, ◌-◌, length, take, drop, map}
+use Rattle.std.specs.Prelude.{ℕ, Bool, false, not, ◌&&◌, ◌||◌, List, [], ◌∷◌, Option, Some, None, if◌then◌else◌, ◌==◌, nat_le, ◌+◌, ◌-◌, ◌^◌, min, length, take, drop, map}
 use Rattle.std.specs.List.{list_all, onto_first, slice_split, prefix_len, suffix_len}
 
 abbrev pub is_newline : ℕ → Bool
@@ -9,6 +9,10 @@ is_newline b = b == 10
 unfoldable pub lines : List ℕ → List (List ℕ)
 lines [] = []
 lines (b ∷ bs) = if is_newline b then [] ∷ lines bs else onto_first b (lines bs)
+
+-- the number of a line that so many are before; one past 32 bits is reported as the last of these
+abbrev pub line_number : ℕ → ℕ
+line_number n = min (n + 1) (2 ^ 32 - 1)
 
 -- a space or a tab
 abbrev pub is_blank : ℕ → Bool

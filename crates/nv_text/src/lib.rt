@@ -10,7 +10,7 @@ mod tests;
 mod words;
 
 pub use fields::{cut, split_field};
-pub use lines::split_line;
+pub use lines::{line_number, split_line};
 pub use names::Names;
 pub use numbers::{decimal, hex_pair, number, unhex};
 pub use words::{Line, is_name, line_of, operands, trim};

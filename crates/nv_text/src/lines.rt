@@ -1,6 +1,6 @@
 // The lines of a text.
 ghost use Rattle.std.specs.Prelude.{◌≡◌, ◌<◌, ◌∷◌, length};
-ghost use Rattle.nv_text.specs.Lines.{lines};
+ghost use Rattle.nv_text.specs.Lines.{lines, line_number};
 
 use crate::fields::cut;
 
@@ -15,4 +15,11 @@ pub fn split_line(text: &[u8]) -> (&[u8], &[u8])
         Some(rest) => (line, rest),
         None => (line, &[]),
     }
+}
+
+/// The number of a line that so many are before, counted from 1.
+pub fn line_number(before: usize) -> u32
+    ensures { result ≡ line_number before }
+{
+    u32::try_from(before).unwrap_or(u32::MAX).saturating_add(1)
 }
