@@ -8,10 +8,9 @@ ghost use Rattle.nv_script.specs.Entries.{is_printable, is_argument, is_file_byt
 ghost use Rattle.nv_script.specs.Views.{found_view, result_view};
 
 use crate::fault::ScriptCause;
-use crate::fields::is;
 use crate::form::Form;
 use crate::kind::{Kind, kind_of};
-use nv_text::{number, split_field, unhex};
+use nv_text::{is, number, split_field, unhex};
 use std::alloc::{AllocError, Global};
 
 /// When the clock begins, and how many nanoseconds it goes on with each logged call.

@@ -1,4 +1,4 @@
-// Texts compared with words.
+// Words, and tables of them.
 ghost use Rattle.std.specs.Prelude.{◌≡◌, bytes_eq};
 
 /// Whether a text is this word.
