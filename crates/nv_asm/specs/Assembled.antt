@@ -1,11 +1,11 @@
 -- What an assembler text means: its program, or its least faulty line with the first cause there.
-use Rattle.std.specs.Prelude.{ℕ, Bool, true, false, not, ◌&&◌, List, [], ◌∷◌, ◌++◌, length, map, flat_map, replicate, min, Option, Some, None, Result, Ok, Err, is_none, option_map, unwrap_or, if◌then◌else◌, ◌==◌, nat_lt, nat_le, ◌+◌, ◌-◌, ◌%◌, ◌^◌, ℤ, pos, ◌-ℤ◌}
+use Rattle.std.specs.Prelude.{ℕ, Bool, true, false, not, ◌&&◌, List, [], ◌∷◌, ◌++◌, length, map, flat_map, replicate, Option, Some, None, Result, Ok, Err, is_none, option_map, unwrap_or, if◌then◌else◌, ◌==◌, nat_lt, nat_le, ◌+◌, ◌-◌, ◌%◌, ◌^◌, ℤ, pos, ◌-ℤ◌}
 use Rattle.std.specs.List.{list_any}
 use Rattle.std.specs.Int.{next_multiple_of, w32, to_le_bytes}
 use Rattle.nv_isa.specs.declared.op.Op.TheVariants as op
 use Rattle.nv_isa.specs.Spelling.{encoded}
 use Rattle.nv_elf.specs.Elf.{Range, Image}
-use Rattle.nv_text.specs.Lines.{lines}
+use Rattle.nv_text.specs.Lines.{lines, line_number}
 use Rattle.nv_text.specs.Names.{defined, definitions, first_fault}
 use Rattle.nv_asm.specs.declared.fault.AsmCause.{AsmCause}
 use Rattle.nv_asm.specs.declared.fault.AsmCause.TheVariants as cause
@@ -173,10 +173,6 @@ data_ranges text_len (b ∷ bs) = record { address = data_base text_len; size = 
 
 abbrev pub program : Whole → List Placed → Image
 program w ps = record { entry = entry_of w text_base ps; ranges = text_range (section_bytes w section.Text ps) ∷ data_ranges w.text_len (section_bytes w section.Data ps) }
-
--- the number of a line that so many are before; one past 32 bits is reported as the last of these
-abbrev pub line_number : ℕ → ℕ
-line_number n = min (n + 1) (2 ^ 32 - 1)
 
 abbrev pub first_cause : Whole → List Placed → Option (ℕ × AsmCause)
 first_cause w ps = first_fault 0 (map (λ p. cause_of (laid w p)) ps)

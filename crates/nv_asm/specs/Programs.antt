@@ -1,5 +1,6 @@
 -- The code's programs as the definitions see them.
 use Rattle.std.specs.Prelude.{◌≡◌, ℕ, ◌+◌, ◌-◌, ◌%◌, ◌≤◌, List, ◌++◌, length, Option, None, option_map, Result, Ok, Err}
+use Rattle.nv_text.specs.Lines.{line_number}
 use Rattle.nv_elf.specs.declared.program.Program.{Program}
 use Rattle.nv_elf.specs.Elf.{Image, image_of}
 use Rattle.nv_asm.specs.declared.fault.AsmCause.{AsmCause}
@@ -8,7 +9,7 @@ use Rattle.nv_asm.specs.declared.fault.AsmFault.TheVariants as fault
 use Rattle.nv_asm.specs.declared.place.Reached.{Reached}
 use Rattle.nv_asm.specs.declared.place.Section.TheVariants as section
 use Rattle.nv_asm.specs.Places.{Placed, stated, after, ended, start}
-use Rattle.nv_asm.specs.Assembled.{Whole, laid, laid_in, entry_past, text_base, first_cause, line_number, section_bytes, entry_of}
+use Rattle.nv_asm.specs.Assembled.{Whole, laid, laid_in, entry_past, text_base, first_cause, section_bytes, entry_of}
 
 abbrev pub program_view : Result Program AsmFault → Result Image AsmFault
 program_view (Ok p) = Ok (image_of p)

@@ -6,7 +6,7 @@ ghost use Rattle.nv_elf.specs.Elf.{range_of, image_of};
 ghost use Rattle.nv_elf.specs.Written.{is_program, bytes_in};
 ghost use Rattle.nv_asm.specs.declared.place.Section.TheVariants as section;
 ghost use Rattle.nv_asm.specs.Places.{placed, placed_line, start};
-ghost use Rattle.nv_asm.specs.Assembled.{laid, laid_in, first_cause, section_bytes, entry_of, line_number, text_base, text_range, data_ranges, assembled};
+ghost use Rattle.nv_asm.specs.Assembled.{laid, laid_in, first_cause, section_bytes, entry_of, text_base, text_range, data_ranges, assembled};
 ghost use Rattle.nv_asm.specs.Known.{known, HasRoom};
 ghost use Rattle.nv_asm.specs.Programs.{program_view, fault_of, IsLaidText, AddsLine, IsEntryAt};
 
@@ -16,7 +16,7 @@ use crate::laying::{TEXT_BASE, data_base, entry_past, laid};
 use crate::place::{Label, Reached, Section};
 use crate::placed::placed_line;
 use nv_elf::{Program, Segment};
-use nv_text::{Names, split_line};
+use nv_text::{Names, line_number, split_line};
 use std::alloc::{AllocError, Global};
 
 // The sections' bytes, and the address to begin at.
@@ -25,13 +25,6 @@ struct Laid {
     text: Vec<u8>,
     data: Vec<u8>,
     entry: u128,
-}
-
-// The number of a line, counted from 1.
-fn line_number(line: usize) -> u32
-    ensures { result ≡ line_number line }
-{
-    u32::try_from(line).unwrap_or(u32::MAX).saturating_add(1)
 }
 
 impl Laid {

@@ -1,7 +1,7 @@
 // Texts with answers from outside.
 use nv_asm::{AsmCause, AsmFault, assemble};
-use nv_bytes::unhex;
 use nv_elf::{Program, write};
+use nv_text::unhex;
 use std::alloc::Global;
 use std::process::Abort;
 use std::test::Fail;

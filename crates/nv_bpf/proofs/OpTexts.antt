@@ -4,10 +4,11 @@ use Rattle.std.proofs.lemmas.Option.{same_Some}
 use Rattle.nv_bpf.specs.declared.op.Op.{Op}
 use Rattle.nv_bpf.specs.declared.op.FilterFault.{FilterFault}
 use Rattle.nv_bpf.specs.declared.op.FilterFault.TheVariants as fault
-use Rattle.nv_bpf.specs.Lines.{fields, lines}
+use Rattle.nv_text.specs.Fields.{fields}
+use Rattle.nv_text.specs.Lines.{lines}
 use Rattle.nv_bpf.specs.Texts.{op_of_fields, op_of, ops_of, put_first, with_line, count_of, ops_behind, ops_of_lines, ops_of_text}
-use Rattle.nv_bytes.specs.Texts.{number_of}
-use Rattle.nv_bpf.proofs.Cutting.{some_part, some_line}
+use Rattle.nv_text.specs.Numbers.{number_of}
+use Rattle.nv_text.proofs.Laws.{fields-some, lines-some}
 
 abbrev pub Split : List ℕ → Bor (List ℕ) × Option (Bor (List ℕ)) → Type 0
 Split line r = MatchOption r.1 (fields line ≡ r.0.now ∷ []) (λ rest. fields line ≡ r.0.now ∷ fields rest.now)
@@ -43,9 +44,9 @@ too_many a b d k [] h = absurd (omega (arith, h))
 too_many a b d k (f ∷ fs) h = refl
 
 pub op_of-five : (line a l b m d n k rest : List ℕ) → fields line ≡ a ∷ fields l → fields l ≡ b ∷ fields m → fields m ≡ d ∷ fields n → fields n ≡ k ∷ fields rest → op_of line ≡ None
-unfolding op_of fields
+unfolding op_of
 op_of-five line a l b m d n k rest e f g h =
-    ap op_of_fields (e ∙ ap (λ fs. a ∷ fs) f ∙ ap (λ fs. a ∷ b ∷ fs) g ∙ ap (λ fs. a ∷ b ∷ d ∷ fs) h) ∙ too_many a b d k (fields rest) (some_part 32 rest)
+    ap op_of_fields (e ∙ ap (λ fs. a ∷ fs) f ∙ ap (λ fs. a ∷ b ∷ fs) g ∙ ap (λ fs. a ∷ b ∷ d ∷ fs) h) ∙ too_many a b d k (fields rest) (fields-some rest)
 
 -- what was read, with what follows
 abbrev pub with_front : List Op → Result (List Op) FilterFault → Result (List Op) FilterFault
@@ -82,7 +83,7 @@ no_end n [] h = absurd (omega (arith, h))
 no_end n (l ∷ ls) h = refl
 
 pub ops_of-more : (n : ℕ) (text : List ℕ) → 0 < length text → ops_of n 0 (lines text) ≡ Err fault.Count
-ops_of-more n text h = no_end n (lines text) (some_line text h)
+ops_of-more n text h = no_end n (lines text) (lines-some text h)
 
 pub ops_of_text-none : (most : ℕ) (text : List ℕ) → length text ≡ 0 → ops_of_text most text ≡ Err (fault.Line 1)
 unfolding ops_of_text lines

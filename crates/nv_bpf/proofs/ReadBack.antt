@@ -4,13 +4,14 @@ use Rattle.std.specs.List.{All}
 use Rattle.std.proofs.lemmas.Bool.Decides.{nat_tests}
 use Rattle.std.proofs.lemmas.List.Elements.{All-cons, All-append, All-head, All-tail}
 use Rattle.std.proofs.lemmas.List.Splits.{slice_split_at, slice_split_none}
-use Rattle.nv_bytes.specs.Texts.{decimal_of}
+use Rattle.nv_text.specs.Fields.{fields}
+use Rattle.nv_text.specs.Lines.{lines}
+use Rattle.nv_text.specs.Numbers.{decimal_of}
 use Rattle.nv_bpf.specs.declared.op.Op.{Op}
-use Rattle.nv_bpf.specs.Lines.{fields, lines}
 use Rattle.nv_bpf.specs.Verified.{list_fault, ops_or}
 use Rattle.nv_bpf.proofs.FilterLaws.{list_fault-none}
 use Rattle.nv_bpf.specs.Texts.{op_of_fields, op_of, ops_of, put_first, with_line, count_of, ops_behind, ops_of_lines, ops_of_text, filter_with, filter_of, op_text, text_of, FitsFields}
-use Rattle.nv_bpf.proofs.Cutting.{lines-more}
+use Rattle.nv_text.proofs.Laws.{lines-line}
 use Rattle.nv_bpf.proofs.Digits.{decimal-lacks, number_of-decimal, field-decimal}
 
 -- the line of an instruction, without its newline
@@ -31,10 +32,6 @@ op_line-lacks op fits =
     let k = decimal-lacks 10 op.k (lit< tt) fits.k in
     All-append (Lacks 10) _ _ code
     (All-cons (Lacks 10) 32 _ refl (All-append (Lacks 10) _ _ jt (All-cons (Lacks 10) 32 _ refl (All-append (Lacks 10) _ _ jf (All-cons (Lacks 10) 32 _ refl k)))))
-
--- the first line of a text, which has no newline
-lines-line : (line rest : List ℕ) → All (Lacks 10) line → lines (line ++ 10 ∷ rest) ≡ line ∷ lines rest
-lines-line line rest h = lines-more (line ++ 10 ∷ rest) line rest (slice_split_at (λ b. b == 10) line 10 rest h refl)
 
 lines-ops : (ops : List Op) → All FitsFields ops → lines (flat_map op_text ops) ≡ map op_line ops
 unfolding lines

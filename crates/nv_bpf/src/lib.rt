@@ -3,7 +3,6 @@
 
 mod action;
 mod filter;
-mod lines;
 mod op;
 mod reading;
 mod writing;

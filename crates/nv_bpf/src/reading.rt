@@ -1,12 +1,11 @@
 // The reader of filters.
 ghost use Rattle.std.specs.Prelude.{◌≡◌, ◌≢◌, ◌<◌, ◌≤◌, ◌^◌, Ok, Err, [], ◌∷◌, length, IfOk, IfErr, IfSome};
 ghost use Rattle.nv_bpf.specs.Texts.{field, op_of_fields, op_of, ops_of, ops_of_text, filter_of, count_of};
-ghost use Rattle.nv_bytes.specs.Texts.{number_of};
-ghost use Rattle.nv_bpf.specs.Lines.{lines};
+ghost use Rattle.nv_text.specs.Lines.{lines};
+ghost use Rattle.nv_text.specs.Numbers.{number_of};
 
-use crate::lines::{split_field, split_line};
 use crate::{Filter, FilterFault, MOST_OPS, Op, verify};
-use nv_bytes::number;
+use nv_text::{number, split_field, split_line};
 use std::alloc::Global;
 
 // A number that is at most this.

@@ -3,7 +3,7 @@ use Rattle.std.specs.Prelude.{ℕ, Bool, false, not, ◌&&◌, List, [], ◌∷�
 use Rattle.nv_bpf.specs.declared.op.Op.{Op}
 use Rattle.nv_bpf.specs.declared.op.FilterFault.{FilterFault}
 use Rattle.nv_bpf.specs.Verified.{verified}
-use Rattle.nv_text.specs.Lines.{Parts, lines, line_of, front}
+use Rattle.nv_text.specs.Lines.{Parts, lines, line_number, line_of, front}
 use Rattle.nv_text.specs.Names.{defined, defining}
 use Rattle.nv_bpf_asm.specs.declared.label.Label.{Label}
 use Rattle.nv_bpf_asm.specs.declared.fault.RuleCause.{RuleCause}
@@ -104,10 +104,6 @@ op_of_line find n place line = op_of_parts find n place (line_parts line)
 abbrev pub put_first : Op → Result (List Op) RuleFault → Result (List Op) RuleFault
 put_first op (Ok ops) = Ok (op ∷ ops)
 put_first op (Err f) = Err f
-
--- the number of a line that so many are before; one past 32 bits is reported as the last of these
-abbrev pub line_number : ℕ → ℕ
-line_number n = min (n + 1) (2 ^ 32 - 1)
 
 abbrev pub with_line : ℕ → Result (Option Op) RuleCause → Result (List Op) RuleFault → Result (List Op) RuleFault
 with_line n (Err c) later = Err (fault.Line (line_number n) c)

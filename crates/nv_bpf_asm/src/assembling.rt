@@ -3,7 +3,7 @@ ghost use Rattle.std.specs.Prelude.{◌≡◌, ◌≢◌, Ok, Err, ◌++◌, opt
 ghost use Rattle.nv_text.specs.Lines.{lines};
 ghost use Rattle.nv_text.specs.Names.{defined};
 ghost use Rattle.nv_text.specs.Parts.{parts_of};
-ghost use Rattle.nv_bpf_asm.specs.Assembled.{is_twice, op_of_word, op_of_parts, line_number, ops_of, assembled};
+ghost use Rattle.nv_bpf_asm.specs.Assembled.{is_twice, op_of_word, op_of_parts, ops_of, assembled};
 
 use crate::fault::{RuleCause, RuleFault};
 use crate::label::Label;
@@ -11,7 +11,7 @@ use crate::labels::{labels, line_parts, word_count};
 use crate::statements::statement_of;
 use crate::targets::op_of;
 use nv_bpf::{Filter, MOST_OPS, Op, verify};
-use nv_text::{Line, Names, split_line};
+use nv_text::{Line, Names, line_number, split_line};
 use std::alloc::{AllocError, Global};
 
 // Whether the label is defined on an earlier line.
@@ -64,13 +64,6 @@ fn op_of_parts(
     }
     let op = op_of_word(alloc, names, place, parts.word, parts.rest)?;
     Ok(op)
-}
-
-// The number of a line, counted from 1.
-fn line_number(line: usize) -> u32
-    ensures { result ≡ line_number line }
-{
-    u32::try_from(line).unwrap_or(u32::MAX).saturating_add(1)
 }
 
 fn push_op(ops: &mut Vec<Op>, op: Option<Op>) -> Result<(), AllocError>

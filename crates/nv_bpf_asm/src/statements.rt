@@ -1,13 +1,12 @@
 // The statements of rule texts.
-ghost use Rattle.std.specs.Prelude.{◌≡◌, ℕ, [], ◌∷◌, map, length, option_map, option_and_then, codes, bytes_eq, IfOk};
+ghost use Rattle.std.specs.Prelude.{◌≡◌, ℕ, [], ◌∷◌, map, length, option_map, option_and_then, codes, IfOk};
 ghost use Rattle.std.specs.Option.{option_or};
 ghost use Rattle.nv_bpf_asm.specs.Statements.{behind, closed, constant, between, of_event, plain, sum_of, return_of, load_of, load_index_of, jump_of, choice_of, branch_of, formed, statement};
 ghost use Rattle.nv_bpf_asm.specs.Views.{view, result_view};
 
 use crate::fault::RuleCause;
 use crate::forms::{Form, form_of};
-use nv_bytes::number;
-use nv_text::{is_name, operands};
+use nv_text::{is, is_name, number, operands};
 use std::alloc::{AllocError, Global};
 
 /// The instruction of a line, with the labels that it goes to.
@@ -19,12 +18,6 @@ pub enum Statement<'a> {
     Always(&'a [u8]),
     /// A comparison's code and k, and the labels to go to where it holds and where it doesn't.
     Choice(u16, u32, &'a [u8], &'a [u8]),
-}
-
-fn is(text: &[u8], word: &str) -> bool
-    ensures { result ≡ bytes_eq text.now word.now }
-{
-    text == word.as_bytes()
 }
 
 // What stands behind a front.

@@ -1,4 +1,2 @@
 pub mod FieldLaws
 pub mod Parts
-pub mod Numbers
-pub mod Pairs

@@ -31,7 +31,7 @@ fn number_within(usual: u32, least: u32, most: u32, text: Option<&str>) -> Optio
     let Some(text) = text else {
         return Some(usual);
     };
-    let number = nv_bytes::number(text.as_bytes())?;
+    let number = nv_text::number(text.as_bytes())?;
     if least <= number && number <= most {
         Some(number)
     } else {

@@ -1,9 +1,9 @@
 -- The script and the rules are read.
 use Rattle.std.proofs.Common.{◌≡◌, Ok, refl}
-use Rattle.nv_text.specs.Lines as text_lines
-use Rattle.nv_bytes.specs.Texts.{number_of}
+use Rattle.nv_text.specs.Fields.{fields}
+use Rattle.nv_text.specs.Lines.{lines}
+use Rattle.nv_text.specs.Numbers.{number_of}
 use Rattle.nv_bpf.specs.Actions.{actions, action_of}
-use Rattle.nv_bpf.specs.Lines.{lines, fields}
 use Rattle.nv_bpf.specs.Texts.{field, op_of, ops_of, ops_of_text, filter_of}
 use Rattle.nv_bpf.specs.Verified.{op_fault, ops_fault, list_fault}
 use Rattle.nv_script.specs.Entries.{form_of}
@@ -12,7 +12,7 @@ use Rattle.nv_gen.specs.Made.{script, rules}
 use Rattle.nv_gen_laws.specs.Texts.{bare, asks_beside_writes}
 
 pub script_read : script_of script ≡ Ok bare
-unfolding script_of form_of drafted text_lines.lines
+unfolding script_of form_of drafted lines
 script_read = refl
 
 pub rules_read : filter_of 4096 rules ≡ Ok asks_beside_writes

@@ -3,8 +3,9 @@ ghost use Rattle.std.specs.Prelude.{◌≤◌, ◌↔◌, IsTrue};
 ghost use Rattle.nv_elf.specs.Elf.{image_of};
 ghost use Rattle.nv_elf.specs.Written.{bytes_in};
 
-use nv_bytes::{put_u32, unhex};
+use nv_bytes::put_u32;
 use nv_elf::{ElfFault, Program, Segment, read, write};
+use nv_text::unhex;
 use std::alloc::Global;
 use std::process::Abort;
 use std::test::Fail;

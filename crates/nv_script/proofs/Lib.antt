@@ -1,3 +1,3 @@
 pub mod Sound
-pub mod Cutting
+pub mod TooManyFields
 pub mod Drafting

@@ -7,7 +7,8 @@ use Rattle.std.proofs.lemmas.Bool.{and_parts, and_from, or_parts}
 use Rattle.std.proofs.lemmas.Bool.Decides.{nat_tests}
 use Rattle.std.proofs.lemmas.List.Folds.{list_all-append, list_any-append}
 use Rattle.std.proofs.lemmas.Slice.Eq.{bytes_eq-Decides}
-use Rattle.nv_bytes.specs.Texts.{number_of, unhexed}
+use Rattle.nv_text.specs.Fields.{word_of, rest_of, fields}
+use Rattle.nv_text.specs.Numbers.{number_of, unhexed}
 use Rattle.nv_text.specs.Lines.{lines}
 use Rattle.nv_script.specs.declared.entry.Clock.{Clock}
 use Rattle.nv_script.specs.declared.form.Form.{Form}
@@ -16,7 +17,7 @@ use Rattle.nv_script.specs.declared.fault.ScriptCause.TheVariants.{Range, Twice,
 use Rattle.nv_script.specs.declared.fault.ScriptFault.{ScriptFault}
 use Rattle.nv_script.specs.declared.kind.Kind.{Kind}
 use Rattle.nv_script.specs.declared.kind.Kind.TheVariants as kind
-use Rattle.nv_script.specs.Entries.{Entry, Nothing, Argument, Input, File, Time, Seed, Hand, form_of, is_hand, hand_entry, hand_with, argument, is_argument, is_file_name, is_passed_over, clock_fits, clock_entry, clock_with, clock_of, file_with, file_of, fields, shaped, entry_by, entry_with, entry_of, kind_of, word_of, rest_of}
+use Rattle.nv_script.specs.Entries.{Entry, Nothing, Argument, Input, File, Time, Seed, Hand, form_of, is_hand, hand_entry, hand_with, argument, is_argument, is_file_name, is_passed_over, clock_fits, clock_entry, clock_with, clock_of, file_with, file_of, shaped, entry_by, entry_with, entry_of, kind_of}
 use Rattle.nv_script.specs.Scripts.{Named, Setup, Draft, blank, has_name, has_hand, with_argument, with_file, with_clock, with_seed, with_hand, with_entry, with_result, with_line, onward, drafted, no_clock, finished, finished_result, script_in, script_of_lines, script_of, is_file, are_distinct, are_files, differ, are_hands, is_script}
 
 -- ---- the parts of the two tests

@@ -1,9 +1,9 @@
 -- What a line of a script says, by itself.
 use Rattle.std.specs.Prelude.{ℕ, Bool, true, false, not, ◌&&◌, ◌||◌, List, [], ◌∷◌, ◌++◌, Option, Some, None, Result, Ok, Err, if◌then◌else◌, ◌==◌, nat_lt, nat_le, length, bytes_eq, codes, option_map}
 use Rattle.std.specs.Option.{ok_or}
-use Rattle.std.specs.List.{list_all, slice_split}
-use Rattle.nv_bytes.specs.Texts.{number_of, unhexed}
-use Rattle.nv_text.specs.Lines.{front, behind}
+use Rattle.std.specs.List.{list_all}
+use Rattle.nv_text.specs.Numbers.{number_of, unhexed}
+use Rattle.nv_text.specs.Fields.{word_of, rest_of, fields}
 use Rattle.nv_script.specs.declared.entry.Clock.{Clock}
 use Rattle.nv_script.specs.declared.fault.ScriptCause.{ScriptCause}
 use Rattle.nv_script.specs.declared.fault.ScriptCause.TheVariants.{Word, Shape, Range}
@@ -38,28 +38,6 @@ form_of line = if bytes_eq line (codes "varan-script 1") then Some form.First
 abbrev pub may_hand : Form → Bool
 may_hand form.First = false
 may_hand form.Second = true
-
--- ---- fields, which single spaces separate
-
-abbrev pub is_space : ℕ → Bool
-is_space b = b == 32
-
-abbrev pub is_not_space : ℕ → Bool
-is_not_space b = not (is_space b)
-
-abbrev pub word_of : List ℕ → List ℕ
-word_of line = front is_not_space line
-
-abbrev pub without_first : List ℕ → Option (List ℕ)
-without_first [] = None
-without_first (b ∷ bs) = Some bs
-
--- what stands behind the first space, if there is one
-abbrev pub rest_of : List ℕ → Option (List ℕ)
-rest_of line = without_first (behind is_not_space line)
-
-unfoldable pub fields : List ℕ → List (List ℕ)
-fields text = slice_split is_space text
 
 -- ---- arguments and names of files
 

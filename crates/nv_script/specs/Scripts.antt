@@ -1,7 +1,7 @@
 -- What a script means: what a run begins with, or the first faulty line with its first cause.
-use Rattle.std.specs.Prelude.{ℕ, Bool, true, not, ◌&&◌, List, [], ◌∷◌, ◌++◌, Option, Some, None, is_some, unwrap_or, Result, Ok, Err, if◌then◌else◌, nat_lt, nat_le, ◌+◌, ◌-◌, ◌^◌, ◌==◌, min, length, bytes_eq, codes}
+use Rattle.std.specs.Prelude.{ℕ, Bool, true, not, ◌&&◌, List, [], ◌∷◌, ◌++◌, Option, Some, None, is_some, unwrap_or, Result, Ok, Err, if◌then◌else◌, nat_lt, nat_le, ◌+◌, ◌^◌, ◌==◌, length, bytes_eq}
 use Rattle.std.specs.List.{list_all, list_any}
-use Rattle.nv_text.specs.Lines.{lines}
+use Rattle.nv_text.specs.Lines.{lines, line_number}
 use Rattle.nv_script.specs.declared.entry.Clock.{Clock}
 use Rattle.nv_script.specs.declared.form.Form.{Form}
 use Rattle.nv_script.specs.declared.fault.ScriptCause.{ScriptCause}
@@ -92,10 +92,6 @@ with_result (Err cause) draft = Err cause
 
 unfoldable pub with_line : Form → List ℕ → Draft → Result Draft ScriptCause
 with_line form line draft = with_result (entry_of form line) draft
-
--- the number of a line that so many are before; one past 32 bits is reported as the last of these
-abbrev pub line_number : ℕ → ℕ
-line_number n = min (n + 1) (2 ^ 32 - 1)
 
 abbrev pub onward : ℕ → Result Draft ScriptCause → (Draft → Result Draft ScriptFault) → Result Draft ScriptFault
 onward n (Ok draft) later = later draft

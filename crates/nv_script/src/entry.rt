@@ -1,16 +1,16 @@
 // What a line of a script says.
 ghost use Rattle.std.specs.Prelude.{◌≡◌, option_map, IfOk};
 ghost use Rattle.std.specs.List.{list_all};
-ghost use Rattle.nv_bytes.specs.Texts.{number_of, unhexed};
+ghost use Rattle.nv_text.specs.Fields.{fields};
+ghost use Rattle.nv_text.specs.Numbers.{number_of, unhexed};
 ghost use Rattle.nv_script.specs.Entries as rule;
-ghost use Rattle.nv_script.specs.Entries.{is_printable, is_argument, is_file_byte, is_dots, is_file_name, is_passed_over, fields, argument, file_with, file_of, clock_entry, clock_with, clock_of, hand_entry, hand_with, shaped, entry_by, entry_of};
+ghost use Rattle.nv_script.specs.Entries.{is_printable, is_argument, is_file_byte, is_dots, is_file_name, is_passed_over, argument, file_with, file_of, clock_entry, clock_with, clock_of, hand_entry, hand_with, shaped, entry_by, entry_of};
 ghost use Rattle.nv_script.specs.Views.{found_view, result_view};
 
 use crate::fault::ScriptCause;
-use crate::fields::{is, split_field};
 use crate::form::Form;
 use crate::kind::{Kind, kind_of};
-use nv_bytes::{number, unhex};
+use nv_text::{is, number, split_field, unhex};
 use std::alloc::{AllocError, Global};
 
 /// When the clock begins, and how many nanoseconds it goes on with each logged call.

@@ -2,7 +2,7 @@
 ghost use Rattle.std.specs.Prelude.{◌≡◌};
 ghost use Rattle.nv_script.specs.Entries.{form_of, may_hand};
 
-use crate::fields::is;
+use nv_text::is;
 
 /// Which lines a script may have.
 #[derive(Clone, Copy, Debug, PartialEq, Eq)]

@@ -2,8 +2,8 @@
 ghost use Rattle.std.specs.Prelude.{◌≡◌};
 ghost use Rattle.nv_script.specs.Entries.{kind_of};
 
-use crate::fields::is;
 use crate::form::Form;
+use nv_text::is;
 
 /// What a line is about.
 #[derive(Clone, Copy, Debug, PartialEq, Eq)]

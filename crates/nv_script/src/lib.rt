@@ -4,7 +4,6 @@
 mod draft;
 mod entry;
 mod fault;
-mod fields;
 mod form;
 mod kind;
 mod reading;

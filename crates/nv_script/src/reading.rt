@@ -1,7 +1,7 @@
 // The reader of scripts.
 ghost use Rattle.std.specs.Prelude.{◌≡◌, ◌⊎◌, Ok, Err, IsTrue, IfOk, IfErr};
 ghost use Rattle.nv_text.specs.Lines.{lines};
-ghost use Rattle.nv_script.specs.Scripts.{blank, with_line, drafted, line_number, script_of, is_script};
+ghost use Rattle.nv_script.specs.Scripts.{blank, with_line, drafted, script_of, is_script};
 ghost use Rattle.nv_script.specs.Views.{became, setup_of};
 ghost use Rattle.nv_script.specs.declared.fault.ScriptFault.TheVariants.{Memory};
 
@@ -10,15 +10,8 @@ use crate::draft::Draft;
 use crate::entry::entry_of;
 use crate::fault::{ScriptCause, ScriptFault};
 use crate::form::{Form, form_of};
-use nv_text::split_line;
+use nv_text::{line_number, split_line};
 use std::alloc::{AllocError, Global};
-
-// The number of a line, counted from 1.
-fn line_number(line: usize) -> u32
-    ensures { result ≡ line_number line }
-{
-    u32::try_from(line).unwrap_or(u32::MAX).saturating_add(1)
-}
 
 #[tactic(auto, unfolding(crate::specs::Scripts::with_line))]
 fn add_line<'a>(

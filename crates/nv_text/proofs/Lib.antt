@@ -1,2 +1,5 @@
-pub mod FirstLine
+pub mod Cutting
+pub mod Digits
 pub mod Known
+pub mod Laws
+pub mod Pairs

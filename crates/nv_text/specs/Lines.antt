@@ -1,17 +1,18 @@
 -- Lines, words and operands of a text.
-use Rattle.std.specs.Prelude.{ℕ, Bool, false, not, ◌&&◌, ◌||◌, List, [], ◌∷◌, Option, Some, None, if◌then◌else◌, ◌==◌, nat_le, ◌-◌, length, take, drop, map}
+use Rattle.std.specs.Prelude.{ℕ, Bool, false, not, ◌&&◌, ◌||◌, List, [], ◌∷◌, Option, Some, None, if◌then◌else◌, ◌==◌, nat_le, ◌+◌, ◌-◌, ◌^◌, min, length, take, drop, map}
 use Rattle.std.specs.List.{list_all, onto_first, slice_split, prefix_len, suffix_len}
 
 abbrev pub is_newline : ℕ → Bool
 is_newline b = b == 10
 
-abbrev pub is_not_newline : ℕ → Bool
-is_not_newline b = not (is_newline b)
-
 -- the lines of a text, whose last newline may be missing
 unfoldable pub lines : List ℕ → List (List ℕ)
 lines [] = []
 lines (b ∷ bs) = if is_newline b then [] ∷ lines bs else onto_first b (lines bs)
+
+-- the number of a line that so many are before; one past 32 bits is reported as the last of these
+abbrev pub line_number : ℕ → ℕ
+line_number n = min (n + 1) (2 ^ 32 - 1)
 
 -- a space or a tab
 abbrev pub is_blank : ℕ → Bool
@@ -32,9 +33,6 @@ trim text = trim_end (trim_start text)
 
 abbrev pub is_comma : ℕ → Bool
 is_comma b = b == 44
-
-abbrev pub is_not_comma : ℕ → Bool
-is_not_comma b = not (is_comma b)
 
 abbrev pub operands_of : List ℕ → List (List ℕ)
 operands_of [] = []

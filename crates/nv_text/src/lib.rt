@@ -1,10 +1,16 @@
-//! Lines, words, operands and names of the text formats.
+//! Lines, fields, words, operands, names and numbers of the text formats.
 #![tactic(auto)]
 
+mod fields;
 mod lines;
 mod names;
+mod numbers;
+mod tables;
 mod words;
 
-pub use lines::split_line;
+pub use fields::{cut, split_field};
+pub use lines::{line_number, split_line};
 pub use names::Names;
+pub use numbers::{decimal, hex_pair, number, unhex};
+pub use tables::is;
 pub use words::{Line, is_name, line_of, operands, trim};

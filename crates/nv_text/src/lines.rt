@@ -1,14 +1,8 @@
 // The lines of a text.
-ghost use Rattle.std.specs.Prelude.{◌≡◌, ◌<◌, ◌≤◌, ◌∷◌, length};
-ghost use Rattle.std.specs.List.{prefix_len};
-ghost use Rattle.nv_text.specs.Lines.{is_not_newline, lines};
+ghost use Rattle.std.specs.Prelude.{◌≡◌, ◌<◌, ◌∷◌, length};
+ghost use Rattle.nv_text.specs.Lines.{lines, line_number};
 
-fn line_len(text: &[u8]) -> usize
-    ensures count { result ≡ prefix_len is_not_newline text.now }
-    ensures inside { result ≤ length text.now }
-{
-    text.iter().take_while(|byte| **byte != b'\n').count()
-}
+use crate::fields::cut;
 
 /// The first line of a text, and the text behind its newline.
 pub fn split_line(text: &[u8]) -> (&[u8], &[u8])
@@ -16,9 +10,16 @@ pub fn split_line(text: &[u8]) -> (&[u8], &[u8])
     ensures lines { lines text.now ≡ result.0.now ∷ lines result.1.now }
     ensures shorter { length result.1.now < length text.now }
 {
-    let (line, rest) = text.split_at(line_len(text));
+    let (line, rest) = cut(text, b'\n');
     match rest {
-        [] => (line, rest),
-        [_, behind @ ..] => (line, behind),
+        Some(rest) => (line, rest),
+        None => (line, &[]),
     }
+}
+
+/// The number of a line that so many are before, counted from 1.
+pub fn line_number(before: usize) -> u32
+    ensures { result ≡ line_number before }
+{
+    u32::try_from(before).unwrap_or(u32::MAX).saturating_add(1)
 }

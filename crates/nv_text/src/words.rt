@@ -1,9 +1,10 @@
 // The words of a line.
 ghost use Rattle.std.specs.Prelude.{◌≡◌, ◌≤◌, ◌-◌, Some, None, map, drop, take, length, IfOk, option_map};
 ghost use Rattle.std.specs.List.{list_all, prefix_len, suffix_len, slice_split};
-ghost use Rattle.nv_text.specs.Lines.{is_blank, is_not_blank, is_comma, is_not_comma, is_letter, is_name_byte, trim_start, trim_end, trim, operands_of, operands, begins_name, is_name, line_with, parted, line_of};
+ghost use Rattle.nv_text.specs.Lines.{is_blank, is_not_blank, is_comma, is_letter, is_name_byte, trim_start, trim_end, trim, operands_of, operands, begins_name, is_name, line_with, parted, line_of};
 ghost use Rattle.nv_text.specs.Parts.{parts_of};
 
+use crate::fields::cut;
 use std::alloc::{AllocError, Global};
 
 /// A line without its comment: its label, its first word and the rest.
@@ -130,24 +131,17 @@ pub fn line_of(text: &[u8]) -> Line<'_>
     parted(trim(text))
 }
 
-fn piece_len(text: &[u8]) -> usize
-    ensures count { result ≡ prefix_len is_not_comma text.now }
-    ensures inside { result ≤ length text.now }
-{
-    text.iter().take_while(|byte| **byte != b',').count()
-}
-
 fn pieces<'a>(alloc: Global, text: &'a [u8]) -> Result<Vec<&'a [u8]>, AllocError>
     ensures { IfOk result (λ pieces. map (λ piece. piece.now) pieces.items ≡ map trim (slice_split is_comma text.now)) }
 {
     let mut pieces = Vec::new(alloc);
     let mut rest = text;
     loop {
-        let (piece, behind) = rest.split_at(piece_len(rest));
+        let (piece, behind) = cut(rest, b',');
         pieces.push(trim(piece))?;
         match behind {
-            [] => return Ok(pieces),
-            [_, later @ ..] => rest = later,
+            None => return Ok(pieces),
+            Some(later) => rest = later,
         }
     }
 }

@@ -6,6 +6,8 @@ mod fields;
 #[cfg(test)]
 mod filters;
 #[cfg(test)]
+mod numbers;
+#[cfg(test)]
 mod rule_texts;
 #[cfg(test)]
 mod rules;

@@ -6,8 +6,8 @@ ghost use Rattle.nv_threads.specs.Threads.{threads};
 ghost use Rattle.nv_thread_loops.specs.Firsts.{firsts};
 
 use anyhow::{Result, bail};
-use nv_bytes::number;
 use nv_guest::Guest;
+use nv_text::number;
 use nv_threads::{Came, Process, Want};
 use std::env;
 

@@ -1,6 +1,6 @@
 // Guests of examples/guests, and what they write under Linux.
 use crate::{HEAP, SERVICE_1, SERVICE_2, SERVICE_3, front_of_report, run_file, run_pair};
-use nv_bytes::unhex;
+use nv_text::unhex;
 use std::test::Fail;
 
 const HEAP_SCRIPT: &[u8] = b"varan-script 1

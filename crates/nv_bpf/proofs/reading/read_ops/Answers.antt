@@ -1,6 +1,6 @@
 use Rattle.std.proofs.Common.{◌≡◌, ◌+◌, ◌-◌, ◌<◌, Ok, length, sym, ap, ◌∙◌, arith, append-nil}
 use Rattle.std.proofs.lemmas.Bool.Decides.{nat_tests}
-use Rattle.nv_bpf.specs.Lines.{lines}
+use Rattle.nv_text.specs.Lines.{lines}
 use Rattle.nv_bpf.specs.Texts.{ops_of, with_line}
 use Rattle.nv_bpf.proofs.OpTexts.{with_front, with_front-put_first, ops_of-missing, ops_of-line, ops_of-end, ops_of-more}
 use Rattle.nv_bpf.proofs.reading.read_ops.Goals as goal
@@ -15,7 +15,7 @@ returns-in_default-clause-fault c _ =
     let op = sym c.read_op.ensures ∙ c.in_default.is in
     c.loop-place.invariant
     ∙ ap (with_front c.loop-place.ops.items)
-    (ops_of-line (c.loop-place.place + 2) (c.args.count - c.loop-place.place) c.loop-place.rest.now c.split_line.result.0.now c.split_line.result.1.now (omega arith) c.split_line.ensures
+    (ops_of-line (c.loop-place.place + 2) (c.args.count - c.loop-place.place) c.loop-place.rest.now c.split_line.result.0.now c.split_line.result.1.now (omega arith) c.split_line.ensures.lines
     ∙ ap (λ o. with_line (c.loop-place.place + 2) o (ops_of (c.loop-place.place + 2 + 1) (c.args.count - c.loop-place.place - 1) (lines c.split_line.result.1.now))) op)
 
 pub loop-place-preserved : goal.loop-place-preserved
@@ -26,7 +26,7 @@ loop-place-preserved c =
     let left : c.args.count - c.loop-place.place - 1 ≡ c.args.count - (c.loop-place.place + 1) = omega arith in
     c.loop-place.invariant
     ∙ ap (with_front c.loop-place.ops.items)
-    (ops_of-line (c.loop-place.place + 2) (c.args.count - c.loop-place.place) c.loop-place.rest.now c.split_line.result.0.now c.split_line.result.1.now (omega arith) c.split_line.ensures
+    (ops_of-line (c.loop-place.place + 2) (c.args.count - c.loop-place.place) c.loop-place.rest.now c.split_line.result.0.now c.split_line.result.1.now (omega arith) c.split_line.ensures.lines
     ∙ ap (λ o. with_line (c.loop-place.place + 2) o later) op)
     ∙ with_front-put_first c.loop-place.ops.items c.in-Some.op later
     ∙ ap (λ items. with_front items later) (sym c.in_ok-push.ensures.items)

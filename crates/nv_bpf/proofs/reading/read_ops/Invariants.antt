@@ -1,5 +1,5 @@
 use Rattle.std.proofs.Common.{◌≡◌, ◌+◌, ◌-◌}
-use Rattle.nv_bpf.specs.Lines.{lines}
+use Rattle.nv_text.specs.Lines.{lines}
 use Rattle.nv_bpf.specs.Texts.{ops_of}
 use Rattle.nv_bpf.proofs.OpTexts.{with_front}
 use Rattle.nv_bpf.proofs.reading.read_ops.Given as goal

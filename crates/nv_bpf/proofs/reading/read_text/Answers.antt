@@ -12,14 +12,14 @@ returns-then-is_empty-clause-fault c _ =
 pub returns-in_err-count-clause-fault : goal.returns-in_err-count-clause-fault
 returns-in_err-count-clause-fault c =
     let p = err_from_is_err_and c.from_residual.result c.from_residual.ensures.1 in
-    rw (p.1, p.2) (λ _. ops_of_text-count _ c.args.text.now c.split_line.result.0.now c.split_line.result.1.now (Err c.in_err-count.field-0.0) c.split_line.ensures c.in_err-count.ensures)
+    rw (p.1, p.2) (λ _. ops_of_text-count _ c.args.text.now c.split_line.result.0.now c.split_line.result.1.now (Err c.in_err-count.field-0.0) c.split_line.ensures.lines c.in_err-count.ensures)
 
 pub returns-in_err-ops-clause-fault : goal.returns-in_err-ops-clause-fault
 returns-in_err-ops-clause-fault c =
     let p = err_from_is_err_and c.from_residual-in_err-ops.result c.from_residual-in_err-ops.ensures.1 in
     rw (p.1, p.2)
-    (λ named. ops_of_text-count _ c.args.text.now c.split_line.result.0.now c.split_line.result.1.now (Ok c.in_ok-count.count) c.split_line.ensures c.in_ok-count.ensures ∙ c.in_err-ops.ensures.fault named)
+    (λ named. ops_of_text-count _ c.args.text.now c.split_line.result.0.now c.split_line.result.1.now (Ok c.in_ok-count.count) c.split_line.ensures.lines c.in_ok-count.ensures ∙ c.in_err-ops.ensures.fault named)
 
 pub returns-clause-ops : goal.returns-clause-ops
 returns-clause-ops c =
-    ops_of_text-count _ c.args.text.now c.split_line.result.0.now c.split_line.result.1.now (Ok c.in_ok-count.count) c.split_line.ensures c.in_ok-count.ensures ∙ c.in_ok-ops.ensures.ops
+    ops_of_text-count _ c.args.text.now c.split_line.result.0.now c.split_line.result.1.now (Ok c.in_ok-count.count) c.split_line.ensures.lines c.in_ok-count.ensures ∙ c.in_ok-ops.ensures.ops

@@ -1,6 +1,6 @@
 use Rattle.std.proofs.Common.{◌∷◌, sym, ap, ◌∙◌}
 use Rattle.nv_script.specs.Entries.{clock_of}
-use Rattle.nv_script.proofs.Cutting.{clock_of-four}
+use Rattle.nv_script.proofs.TooManyFields.{clock_of-four}
 use Rattle.nv_script.proofs.entry.read_clock.Goals as goal
 
 pub returns-in_default-Some : goal.returns-in_default-Some

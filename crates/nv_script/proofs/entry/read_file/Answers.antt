@@ -1,6 +1,6 @@
 use Rattle.std.proofs.Common.{◌∷◌, sym, ap, ◌∙◌}
 use Rattle.nv_script.specs.Entries.{file_of}
-use Rattle.nv_script.proofs.Cutting.{file_of-three}
+use Rattle.nv_script.proofs.TooManyFields.{file_of-three}
 use Rattle.nv_script.proofs.entry.read_file.Goals as goal
 
 pub returns-in_default-Some : goal.returns-in_default-Some
