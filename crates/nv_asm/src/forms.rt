@@ -1,9 +1,10 @@
 // The words that begin a statement.
-ghost use Rattle.std.specs.Prelude.{◌≡◌, IsTrue, IfSome, map, pos, ◌≤ℤ◌};
+ghost use Rattle.std.specs.Prelude.{◌≡◌, IsTrue, IfSome, pos, ◌≤ℤ◌};
 ghost use Rattle.nv_text.specs.Names.{defined};
 ghost use Rattle.nv_asm.specs.Forms.{kinds, is_lawful, flags};
 
 use nv_isa::Op;
+use nv_text::find;
 
 /// What an atomic operation orders (the manual's section 8.1).
 #[derive(Clone, Copy, Debug, PartialEq, Eq)]
@@ -322,17 +323,6 @@ pub fn flags(order: Order) -> i32
         Order::Release => 1,
         Order::AcquireRelease => 3,
     }
-}
-
-fn find(table: &[(&str, Kind)], word: &[u8]) -> Option<Kind>
-    ensures { result ≡ defined (map (λ entry. (entry.0.now, entry.1)) table.now) word.now }
-{
-    for (name, kind) in table {
-        if word == name.as_bytes() {
-            return Some(*kind);
-        }
-    }
-    None
 }
 
 /// What stands behind this word, where it begins a statement.

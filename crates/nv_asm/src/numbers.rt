@@ -1,5 +1,5 @@
 // Registers and numbers.
-ghost use Rattle.std.specs.Prelude.{◌≡◌, ℕ, ℤ, pos, ◌≤ℤ◌, ◌<ℤ◌, neg_ℤ, ◌≤◌, ◌<◌, ◌^◌, map, true, length, option_map, IfSome, is_some};
+ghost use Rattle.std.specs.Prelude.{◌≡◌, ℕ, ℤ, pos, ◌≤ℤ◌, ◌<ℤ◌, neg_ℤ, ◌≤◌, ◌<◌, ◌^◌, true, length, option_map, IfSome, is_some};
 ghost use Rattle.std.specs.List.{list_all};
 ghost use Rattle.std.specs.Str.{IsAscii};
 ghost use Rattle.std.specs.Str.Parse.{digits_value, IsNumeral};
@@ -8,6 +8,8 @@ ghost use Rattle.nv_text.specs.Lines.{is_digit};
 ghost use Rattle.std.specs.Char.{is_ascii_digit, is_ascii_hexdigit};
 ghost use Rattle.nv_asm.specs.Numbers.{registers, register, numbered, decimal, hexadecimal, magnitude, signed, literal, number, number_of_32_bits, is_number};
 ghost use Rattle.nv_asm.specs.Small.{small, small_signed, with_sign, IsDigits};
+
+use nv_text::find;
 
 /// A register's number.
 #[derive(Clone, Copy, Debug, PartialEq, Eq)]
@@ -51,17 +53,6 @@ const REGISTERS: [(&str, u8); 33] = [
     ("t5", 30),
     ("t6", 31),
 ];
-
-fn find(table: &[(&str, u8)], word: &[u8]) -> Option<u8>
-    ensures { result ≡ defined (map (λ entry. (entry.0.now, entry.1)) table.now) word.now }
-{
-    for (name, number) in table {
-        if word == name.as_bytes() {
-            return Some(*number);
-        }
-    }
-    None
-}
 
 #[tactic(auto, unfolding(crate::specs::Numbers::registers))]
 fn named(word: &[u8]) -> Option<u8>

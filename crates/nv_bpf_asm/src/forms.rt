@@ -1,7 +1,9 @@
 // The words that begin an instruction.
-ghost use Rattle.std.specs.Prelude.{◌≡◌, map};
+ghost use Rattle.std.specs.Prelude.{◌≡◌};
 ghost use Rattle.nv_text.specs.Names.{defined};
 ghost use Rattle.nv_bpf_asm.specs.Statements.{forms};
+
+use nv_text::find;
 
 /// What operands an instruction takes, with its code where that is one.
 #[derive(Clone, Copy, Debug, PartialEq, Eq)]
@@ -48,21 +50,10 @@ const FORMS: [(&str, Form); 21] = [
     ("ret", Form::Return),
 ];
 
-fn find_form(table: &[(&str, Form)], word: &[u8]) -> Option<Form>
-    ensures { result ≡ defined (map (λ entry. (entry.0.now, entry.1)) table.now) word.now }
-{
-    for (name, form) in table {
-        if word == name.as_bytes() {
-            return Some(*form);
-        }
-    }
-    None
-}
-
 /// The form of the instructions that begin with this word.
 #[tactic(auto, unfolding(crate::specs::Statements::forms))]
 pub fn form_of(word: &[u8]) -> Option<Form>
     ensures { result ≡ defined forms word.now }
 {
-    find_form(&FORMS, word)
+    find(&FORMS, word)
 }

@@ -1,29 +1,21 @@
 // The labels of a rule text.
-ghost use Rattle.std.specs.Prelude.{◌≡◌, ◌≤◌, ℕ, List, length, IfOk};
-ghost use Rattle.std.specs.List.{prefix_len};
+ghost use Rattle.std.specs.Prelude.{◌≡◌, ℕ, List, IfOk};
 ghost use Rattle.nv_text.specs.Lines.{lines};
 ghost use Rattle.nv_text.specs.Names.{defined};
 ghost use Rattle.nv_text.specs.Parts.{parts_of};
-ghost use Rattle.nv_bpf_asm.specs.Assembled.{is_not_comment, line_parts, word_count, labels};
+ghost use Rattle.nv_bpf_asm.specs.Assembled.{line_parts, word_count, labels};
 
 use crate::label::Label;
-use nv_text::{Line, Names, line_of, split_line};
+use nv_text::{Line, Names, cut, line_of, split_line};
 use std::alloc::{AllocError, Global};
-
-// How many bytes stand before the comment.
-fn comment_place(line: &[u8]) -> usize
-    ensures count { result ≡ prefix_len is_not_comment line.now }
-    ensures inside { result ≤ length line.now }
-{
-    line.iter().take_while(|byte| **byte != b';').count()
-}
 
 /// The parts of a line, without its comment.
 #[tactic(auto, unfolding(crate::specs::Assembled::line_parts))]
 pub fn line_parts(line: &[u8]) -> Line<'_>
     ensures { parts_of result ≡ line_parts line.now }
 {
-    line_of(&line[..comment_place(line)])
+    let (statement, _) = cut(line, b';');
+    line_of(statement)
 }
 
 /// How many instructions a line with this first word has.

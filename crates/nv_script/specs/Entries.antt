@@ -1,9 +1,10 @@
 -- What a line of a script says, by itself.
-use Rattle.std.specs.Prelude.{ℕ, Bool, true, false, not, ◌&&◌, ◌||◌, List, [], ◌∷◌, ◌++◌, Option, Some, None, Result, Ok, Err, if◌then◌else◌, ◌==◌, nat_lt, nat_le, length, bytes_eq, codes, option_map}
+use Rattle.std.specs.Prelude.{ℕ, Bool, true, not, ◌&&◌, ◌||◌, List, [], ◌∷◌, ◌++◌, Option, Some, None, Result, Ok, Err, if◌then◌else◌, ◌==◌, nat_lt, nat_le, length, bytes_eq, codes, option_map}
 use Rattle.std.specs.Option.{ok_or}
 use Rattle.std.specs.List.{list_all}
 use Rattle.nv_text.specs.Numbers.{number_of, unhexed}
 use Rattle.nv_text.specs.Fields.{word_of, rest_of, fields}
+use Rattle.nv_text.specs.Names.{defined}
 use Rattle.nv_script.specs.declared.entry.Clock.{Clock}
 use Rattle.nv_script.specs.declared.fault.ScriptCause.{ScriptCause}
 use Rattle.nv_script.specs.declared.fault.ScriptCause.TheVariants.{Word, Shape, Range}
@@ -34,11 +35,6 @@ form_of line = if bytes_eq line (codes "varan-script 1") then Some form.First
     else (if bytes_eq line (codes "varan-script 2") then Some form.Second
     else None)
 
--- whether a script of this form may plan the leader's changes
-abbrev pub may_hand : Form → Bool
-may_hand form.First = false
-may_hand form.Second = true
-
 -- ---- arguments and names of files
 
 -- 0x20 to 0x7E
@@ -61,15 +57,18 @@ is_file_name name = nat_lt 0 (length name) && (nat_le (length name) 255 && (list
 -- ---- lines
 
 -- the words that begin a line
+unfoldable pub kinds : List (List ℕ × Kind)
+kinds =
+    (codes "arg", kind.Argument) ∷ (codes "line", kind.Line) ∷ (codes "input", kind.Input) ∷ (codes "file", kind.File) ∷
+    (codes "clock", kind.Clock) ∷ (codes "random", kind.Random) ∷ (codes "hand", kind.Hand) ∷ []
+
+-- a script of the first form has no `hand`
+abbrev pub in_form : Form → Option Kind → Option Kind
+in_form form.First (Some kind.Hand) = None
+in_form f found = found
+
 unfoldable pub kind_of : Form → List ℕ → Option Kind
-kind_of f word = if bytes_eq word (codes "arg") then Some kind.Argument
-    else (if bytes_eq word (codes "line") then Some kind.Line
-    else (if bytes_eq word (codes "input") then Some kind.Input
-    else (if bytes_eq word (codes "file") then Some kind.File
-    else (if bytes_eq word (codes "clock") then Some kind.Clock
-    else (if bytes_eq word (codes "random") then Some kind.Random
-    else (if bytes_eq word (codes "hand") && may_hand f then Some kind.Hand
-    else None))))))
+kind_of f word = in_form f (defined kinds word)
 
 -- an entry, where the line has its shape
 abbrev pub shaped : Option Entry → Result Entry ScriptCause

@@ -1,6 +1,6 @@
 // The forms of a script.
 ghost use Rattle.std.specs.Prelude.{◌≡◌};
-ghost use Rattle.nv_script.specs.Entries.{form_of, may_hand};
+ghost use Rattle.nv_script.specs.Entries.{form_of};
 
 use nv_text::is;
 
@@ -11,15 +11,6 @@ pub enum Form {
     First,
     /// `varan-script 2`: every line.
     Second,
-}
-
-impl Form {
-    /// Whether the leader's changes may be planned.
-    pub fn may_hand(self) -> bool
-        ensures { result ≡ may_hand self }
-    {
-        self == Form::Second
-    }
 }
 
 /// The form that a script's first line names.

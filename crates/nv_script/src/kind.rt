@@ -1,9 +1,9 @@
 // The words that begin a line.
 ghost use Rattle.std.specs.Prelude.{◌≡◌};
-ghost use Rattle.nv_script.specs.Entries.{kind_of};
+ghost use Rattle.nv_script.specs.Entries.{in_form, kind_of};
 
 use crate::form::Form;
-use nv_text::is;
+use nv_text::find;
 
 /// What a line is about.
 #[derive(Clone, Copy, Debug, PartialEq, Eq)]
@@ -17,26 +17,29 @@ pub enum Kind {
     Hand,
 }
 
+const KINDS: [(&str, Kind); 7] = [
+    ("arg", Kind::Argument),
+    ("line", Kind::Line),
+    ("input", Kind::Input),
+    ("file", Kind::File),
+    ("clock", Kind::Clock),
+    ("random", Kind::Random),
+    ("hand", Kind::Hand),
+];
+
+// Scripts of the first form have no `hand`.
+fn in_form(form: Form, kind: Option<Kind>) -> Option<Kind>
+    ensures { result ≡ in_form form kind }
+{
+    match kind {
+        Some(Kind::Hand) if form == Form::First => None,
+        kind => kind,
+    }
+}
+
 /// What a line that begins with this word is about, in a script of this form.
-#[tactic(auto, unfolding(crate::specs::Entries::kind_of))]
 pub fn kind_of(form: Form, word: &[u8]) -> Option<Kind>
     ensures { result ≡ kind_of form word.now }
 {
-    if is(word, "arg") {
-        Some(Kind::Argument)
-    } else if is(word, "line") {
-        Some(Kind::Line)
-    } else if is(word, "input") {
-        Some(Kind::Input)
-    } else if is(word, "file") {
-        Some(Kind::File)
-    } else if is(word, "clock") {
-        Some(Kind::Clock)
-    } else if is(word, "random") {
-        Some(Kind::Random)
-    } else if is(word, "hand") && form.may_hand() {
-        Some(Kind::Hand)
-    } else {
-        None
-    }
+    in_form(form, find(&KINDS, word))
 }

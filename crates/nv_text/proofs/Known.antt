@@ -1,9 +1,10 @@
--- What a map from names knows.
-use Rattle.std.proofs.Common.{◌≡◌, ℕ, Bool, true, false, cond, List, [], ◌∷◌, Option, Some, None, is_some, bytes_eq, refl, sym, ap, ◌∙◌}
+-- What tables and maps of names know.
+use Rattle.std.proofs.Common.{◌≡◌, ℕ, ◌+◌, ◌<◌, ◌≤◌, length, drop, get_or, Bool, true, false, cond, List, [], ◌∷◌, Option, Some, None, is_some, bytes_eq, refl, sym, ap, ◌∙◌}
 use Rattle.std.specs.Option.{option_or}
 use Rattle.std.specs.Ordering.{is_eq, nat_cmp}
 use Rattle.std.specs.Cmp.Lexicographic.{slice_cmp}
 use Rattle.std.specs.Map.{lookup}
+use Rattle.std.proofs.lemmas.List.{at_drop_more, at_drop_all}
 use Rattle.std.proofs.lemmas.Map.Text.{is_eq-slice_cmp}
 use Rattle.std.proofs.lemmas.Slice.Eq.{bytes_eq-Decides}
 use denote.Ref.{Bor}
@@ -60,3 +61,15 @@ known-inserted {D = D} old new names name d view absent updates other =
     ∙ ap (λ t. cond t (Some d) (lookup (λ key. is_eq (slice_cmp nat_cmp o key.now)) old)) (is_eq-slice_cmp name o)
     ∙ ap (λ found. cond (bytes_eq name o) (Some d) found) (lookup-named old o ∙ ap (λ ds. defined ds o) view))
     other
+
+-- the entry at a place of a table, else those behind it
+pub defined-at : {D : Type 0} (table : List (Bor (List ℕ) × D)) (word : List ℕ) (i : ℕ) (entry : Bor (List ℕ) × D) → i < length table → entry ≡ get_or table i entry
+    → defined (named (drop i table)) word ≡ cond (bytes_eq word entry.0.now) (Some entry.1) (defined (named (drop (i + 1) table)) word)
+unfolding defined
+defined-at {D = D} table word i entry h e =
+    at_drop_more (λ rest. defined (named rest) word) table i entry h
+    ∙ ap (λ (x : Bor (List ℕ) × D). cond (bytes_eq word x.0.now) (Some x.1) (defined (named (drop (i + 1) table)) word)) (sym e)
+
+pub defined-past : {D : Type 0} (table : List (Bor (List ℕ) × D)) (word : List ℕ) (i : ℕ) → length table ≤ i → defined (named (drop i table)) word ≡ None
+unfolding defined
+defined-past table word i h = at_drop_all (λ rest. defined (named rest) word) table i h

@@ -12,5 +12,5 @@ pub use fields::{cut, split_field};
 pub use lines::{line_number, split_line};
 pub use names::Names;
 pub use numbers::{decimal, hex_pair, number, unhex};
-pub use tables::is;
+pub use tables::{find, is};
 pub use words::{Line, is_name, line_of, operands, trim};
