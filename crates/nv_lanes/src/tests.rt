@@ -1,8 +1,5 @@
 use crate::Lanes;
-
-const CLONE: u32 = 220;
-
-const EXIT: u32 = 93;
+use nv_calls::{CLONE, EXIT};
 
 const GETUID: u32 = 174;
 
