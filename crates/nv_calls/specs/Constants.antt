@@ -1,13 +1,14 @@
 -- The replies that a call has in every state of the kernel.
-use Rattle.std.specs.Prelude.{ℕ, ◌-◌, ℤ, pos, negsuc, ◌==◌, ◌&&◌, nat_le, nat_lt, List, [], ◌∷◌, ◌++◌, length, replicate, codes, Option, Some, None, slice_index, if◌then◌else◌}
+use Rattle.std.specs.Prelude.{ℕ, ◌-◌, ℤ, pos, nat_lt, List, [], ◌∷◌, ◌++◌, length, replicate, codes, Option, Some, None, slice_index, if◌then◌else◌}
+use Rattle.nv_calls.specs.declared.numbers.Syscall.{Syscall}
+use Rattle.nv_calls.specs.declared.numbers.Syscall.TheVariants.{Getcwd, Uname, Getpid, Getppid, Getuid, Geteuid, Getgid, Getegid}
 use Rattle.nv_calls.specs.Calls.{Request, Response}
+use Rattle.nv_calls.specs.Errors.{EFAULT, ERANGE}
+use Rattle.nv_calls.specs.Numbers.{syscall_of}
 
-abbrev pub plain : ℤ → Option Response
-plain ret = Some (record { ret = ret; payload = [] })
-
--- a call on memory that isn't the guest's: EFAULT is 14
-abbrev pub unless_bad : Request → Option Response → Option Response
-unless_bad c reply = if c.bad then plain (negsuc 13) else reply
+-- a result that hands out nothing
+abbrev pub plain : ℤ → Response
+plain ret = record { ret = ret; payload = [] }
 
 -- a field of utsname (uname(2)): 65 bytes, filled with 0
 abbrev pub field : List ℕ → List ℕ
@@ -17,20 +18,39 @@ unfoldable pub names : List ℕ
 names = field (codes "Linux") ++ field (codes "varan") ++ field (codes "5.15.0") ++ field (codes "#1") ++ field (codes "riscv32") ++ field
     (codes "(none)")
 
--- uname
-abbrev pub system : Request → Option Response
-system c = unless_bad c (Some (record { ret = pos 0; payload = names }))
+-- uname(2)
+abbrev pub system : Response
+system = record { ret = pos 0; payload = names }
 
--- getcwd: the directory is `/`, and ERANGE is 34
-abbrev pub directory : Request → Option Response
-directory c = unless_bad c (if nat_lt (slice_index c.args 1) 2 then plain (negsuc 33) else Some (record { ret = pos 2; payload = 47 ∷ 0 ∷ [] }))
+-- getcwd(2) with this size: the directory is `/`
+abbrev pub directory : ℕ → Response
+directory size = if nat_lt size 2 then plain ERANGE else record { ret = pos 2; payload = 47 ∷ 0 ∷ [] }
 
--- process 100 has parent 1, and 1000 is each id: getpid, getppid, getuid to getegid
+-- process 100 has parent 1 (getpid(2)), and 1000 is each id (getuid(2), getgid(2))
+abbrev pub process : Response
+process = plain (pos 100)
+
+abbrev pub parent : Response
+parent = plain (pos 1)
+
+abbrev pub user : Response
+user = plain (pos 1000)
+
+-- a call on memory that isn't the guest's
+abbrev pub unless_bad : Request → Response → Response
+unless_bad c reply = if c.bad then plain EFAULT else reply
+
+abbrev pub constant_by : Syscall → Request → Option Response
+constant_by Getcwd c = Some (unless_bad c (directory (slice_index c.args 1)))
+constant_by Uname c = Some (unless_bad c system)
+constant_by Getpid c = Some process
+constant_by Getppid c = Some parent
+constant_by Getuid c = Some user
+constant_by Geteuid c = Some user
+constant_by Getgid c = Some user
+constant_by Getegid c = Some user
+constant_by _ c = None
+
+-- the reply of a call that is answered alike in every state
 unfoldable pub constant_of : Request → Option Response
-constant_of c =
-    if c.nr == 172 then plain (pos 100)
-    else if c.nr == 173 then plain (pos 1)
-    else if nat_le 174 c.nr && nat_le c.nr 177 then plain (pos 1000)
-    else if c.nr == 160 then system c
-    else if c.nr == 17 then directory c
-    else None
+constant_of c = constant_by (syscall_of c.nr) c

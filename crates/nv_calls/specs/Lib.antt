@@ -1,6 +1,9 @@
 pub mod Held
+pub mod Limits
+pub mod Errors
 pub mod Calls
 pub mod Numbers
+pub mod Answers
 pub mod Shapes
 pub mod Constants
 pub mod Logs

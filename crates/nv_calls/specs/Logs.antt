@@ -6,13 +6,14 @@ use mir.Val.{SFits}
 use mir.Syntax.{w32}
 use Rattle.nv_calls.specs.Held.{AreBytes}
 use Rattle.nv_calls.specs.Calls.{Request, Response, Entry}
+use Rattle.nv_calls.specs.Limits.{MOST_BYTES, FIRST_THREAD, MOST_THREADS, MOST_EVENTS}
+use Rattle.nv_calls.specs.Numbers.{CLONE, EXIT, EXIT_GROUP}
 
--- 220 is clone
+-- the thread that a positive answer to clone makes
 abbrev pub made : ℕ → ℤ → Option ℕ
-made nr (pos n) = if nr == 220 && not (n == 0) then Some n else None
+made nr (pos n) = if nr == CLONE && not (n == 0) then Some n else None
 made nr ret = None
 
--- the tid of the thread that a positive answer to clone makes
 abbrev pub child_of : Entry → Option ℕ
 child_of e = made e.call.nr e.reply.ret
 
@@ -20,24 +21,24 @@ abbrev pub with_child : List ℕ → Option ℕ → List ℕ
 with_child live None = live
 with_child live (Some child) = live ++ child ∷ []
 
--- the live threads after one more entry: exit_group (94) ends all, exit (93) its own thread
+-- the live threads after one more entry: exit_group ends all, exit its own thread
 abbrev pub live_next : List ℕ → Entry → List ℕ
 live_next live e =
-    if e.call.nr == 94 then []
-    else if e.call.nr == 93 then filter (λ t. not (t == e.call.tid)) live
+    if e.call.nr == EXIT_GROUP then []
+    else if e.call.nr == EXIT then filter (λ t. not (t == e.call.tid)) live
     else with_child live (child_of e)
 
 abbrev pub live_from : List ℕ → List Entry → List ℕ
 live_from live [] = live
 live_from live (e ∷ es) = live_from (live_next live e) es
 
--- the live threads after a log, which begins with thread 100 alone
+-- the live threads after a log, which begins with one thread
 abbrev pub live_after : List Entry → List ℕ
-live_after log = live_from (100 ∷ []) log
+live_after log = live_from (FIRST_THREAD ∷ []) log
 
 abbrev pub IsNew : List ℕ → Option ℕ → Type 0
 IsNew live None = Unit {0}
-IsNew live (Some child) = (length live < 8) × (Contains live child → ⊥)
+IsNew live (Some child) = (length live < MOST_THREADS) × (Contains live child → ⊥)
 
 -- the numbers of an entry are in their ranges
 pub record InRange (e : Entry) : Type 0 where
@@ -49,12 +50,12 @@ pub record InRange (e : Entry) : Type 0 where
   pub ret : SFits w32 e.reply.ret
   pub call_bytes : AreBytes e.call.payload
   pub reply_bytes : AreBytes e.reply.payload
-  pub short : length e.call.payload + length e.reply.payload ≤ 4096
+  pub short : length e.call.payload + length e.reply.payload ≤ MOST_BYTES
 
 -- an entry that may stand behind n others, after which these threads live
 pub record MayFollow (n : ℕ) (live : List ℕ) (e : Entry) : Type 0 where
   pub stamp : e.stamp ≡ n
-  pub room : n < 131072
+  pub room : n < MOST_EVENTS
   pub lives : Contains live e.call.tid
   pub new : IsNew live (child_of e)
   pub range : InRange e

@@ -5,6 +5,16 @@ use Rattle.nv_calls.specs.declared.numbers.Syscall.TheVariants.{Getcwd, Dup, Dup
 use Rattle.nv_calls.specs.declared.numbers.Slot.{Slot}
 use Rattle.nv_calls.specs.declared.numbers.Slot.TheVariants.{Value, Address, Unused}
 
+-- clone(2), exit(2) and exit_group(2)
+abbrev pub CLONE : ℕ
+CLONE = 220
+
+abbrev pub EXIT : ℕ
+EXIT = 93
+
+abbrev pub EXIT_GROUP : ℕ
+EXIT_GROUP = 94
+
 pub record Row : Type 0 where
   pub nr : ℕ
   pub syscall : Syscall
@@ -15,8 +25,8 @@ row nr syscall = record { nr = nr; syscall = syscall }
 abbrev pub table : List Row
 table =
     row 17 Getcwd ∷ row 23 Dup ∷ row 24 Dup3 ∷ row 29 Ioctl ∷ row 35 Unlinkat ∷ row 56 Openat ∷ row 57 Close ∷ row 59 Pipe2
-    ∷ row 62 Llseek ∷ row 63 Read ∷ row 64 Write ∷ row 65 Readv ∷ row 66 Writev ∷ row 93 Exit ∷ row 94 ExitGroup ∷ row 160 Uname
-    ∷ row 172 Getpid ∷ row 173 Getppid ∷ row 174 Getuid ∷ row 175 Geteuid ∷ row 176 Getgid ∷ row 177 Getegid ∷ row 220 Clone
+    ∷ row 62 Llseek ∷ row 63 Read ∷ row 64 Write ∷ row 65 Readv ∷ row 66 Writev ∷ row EXIT Exit ∷ row EXIT_GROUP ExitGroup ∷ row 160 Uname
+    ∷ row 172 Getpid ∷ row 173 Getppid ∷ row 174 Getuid ∷ row 175 Geteuid ∷ row 176 Getgid ∷ row 177 Getegid ∷ row CLONE Clone
     ∷ row 278 Getrandom ∷ row 403 ClockGettime64 ∷ []
 
 abbrev pub found : List Row → ℕ → Syscall
@@ -77,6 +87,10 @@ hands_in Openat = true
 hands_in Write = true
 hands_in Writev = true
 hands_in _ = false
+
+-- a call that makes or ends threads
+abbrev pub is_of_threads : ℕ → Bool
+is_of_threads nr = (nr == CLONE) || (nr == EXIT) || (nr == EXIT_GROUP)
 
 -- set_tid_address (96), sched_yield (124), gettid (178), brk (214) and futex_time64 (422) are answered by the process itself and stand in no log
 unfoldable pub is_local : ℕ → Bool

@@ -6,6 +6,7 @@ use Rattle.nv_calls.specs.declared.numbers.Syscall.TheVariants.{Unlinkat, Openat
 use Rattle.nv_calls.specs.declared.numbers.Slot.{Slot}
 use Rattle.nv_calls.specs.declared.numbers.Slot.TheVariants.{Value, Address, Unused}
 use Rattle.nv_calls.specs.Calls.{Request}
+use Rattle.nv_calls.specs.Limits.{MOST_BYTES, MOST_VECTORS, MOST_PATH}
 use Rattle.nv_calls.specs.Numbers.{syscall_of, slots_by, has_range, is_local}
 
 -- an argument that is no value is 0
@@ -24,9 +25,9 @@ abbrev pub kept_slots : Syscall → List Slot
 kept_slots Readv = Value ∷ Address ∷ Value ∷ Value ∷ Unused ∷ Unused ∷ []
 kept_slots syscall = slots_by syscall
 
--- so many bytes may vectors have together: none where there are more than 1024 (IOV_MAX)
+-- so many bytes may vectors have together: none where there are too many
 abbrev pub most_of_vectors : Request → ℕ
-most_of_vectors c = if c.bad then 0 else (if nat_le (slice_index c.args 2) 1024 then 4096 else 0)
+most_of_vectors c = if c.bad then 0 else (if nat_le (slice_index c.args 2) MOST_VECTORS then MOST_BYTES else 0)
 
 abbrev pub is_capacity : Syscall → Request → Bool
 is_capacity Readv c = nat_le (slice_index c.args 3) (most_of_vectors c)
@@ -34,13 +35,13 @@ is_capacity _ c = true
 
 -- the first bytes of a path, none of them 0
 abbrev pub is_path : List ℕ → Bool
-is_path bytes = nat_le (length bytes) 256 && list_all (λ b. not (b == 0)) bytes
+is_path bytes = nat_le (length bytes) MOST_PATH && list_all (λ b. not (b == 0)) bytes
 
 -- the bytes that a call on the guest's own memory hands in
 abbrev pub is_payload : Syscall → Request → Bool
 is_payload Unlinkat c = is_path c.payload
 is_payload Openat c = is_path c.payload
-is_payload Write c = length c.payload == min (slice_index c.args 2) 4096
+is_payload Write c = length c.payload == min (slice_index c.args 2) MOST_BYTES
 is_payload Writev c = nat_le (length c.payload) (most_of_vectors c)
 is_payload _ c = length c.payload == 0
 

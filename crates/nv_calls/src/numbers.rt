@@ -2,6 +2,15 @@
 ghost use Rattle.std.specs.Prelude.{◌≡◌};
 ghost use Rattle.nv_calls.specs.Numbers.{syscall_of, slots_of, slots_by, has_range, is_local};
 
+/// clone(2).
+pub const CLONE: u32 = 220;
+
+/// exit(2).
+pub const EXIT: u32 = 93;
+
+/// exit_group(2).
+pub const EXIT_GROUP: u32 = 94;
+
 /// A system call by Linux's numbers for RISC-V (syscalls(2)).
 #[derive(Clone, Copy, Debug, PartialEq, Eq, Drop)]
 pub enum Syscall {
@@ -62,8 +71,8 @@ impl Syscall {
             64 => Syscall::Write,
             65 => Syscall::Readv,
             66 => Syscall::Writev,
-            93 => Syscall::Exit,
-            94 => Syscall::ExitGroup,
+            EXIT => Syscall::Exit,
+            EXIT_GROUP => Syscall::ExitGroup,
             160 => Syscall::Uname,
             172 => Syscall::Getpid,
             173 => Syscall::Getppid,
@@ -71,7 +80,7 @@ impl Syscall {
             175 => Syscall::Geteuid,
             176 => Syscall::Getgid,
             177 => Syscall::Getegid,
-            220 => Syscall::Clone,
+            CLONE => Syscall::Clone,
             278 => Syscall::Getrandom,
             403 => Syscall::ClockGettime64,
             _ => Syscall::Unknown,

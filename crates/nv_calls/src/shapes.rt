@@ -5,16 +5,8 @@ ghost use Rattle.nv_calls.specs.Calls.{request};
 ghost use Rattle.nv_calls.specs.Shapes.{is_plain, are_plain, kept_slots, most_of_vectors, is_capacity, is_path, is_payload, is_shaped_as, is_shaped};
 
 use crate::calls::Call;
+use crate::limits::{MOST_BYTES, MOST_PATH, MOST_VECTORS};
 use crate::numbers::{Slot, Syscall, is_local};
-
-/// How many bytes a call hands in or out at most.
-const MOST_BYTES: u32 = 4096;
-
-/// How many vectors are read at most: IOV_MAX (limits.h(0p)).
-const MOST_VECTORS: u32 = 1024;
-
-/// A path of so many bytes has no end among those that are read.
-const MOST_PATH: usize = 256;
 
 /// Whether the call has the form of those that a guest makes and that are logged.
 #[tactic(auto, unfolding(crate::specs::Shapes::is_shaped))]

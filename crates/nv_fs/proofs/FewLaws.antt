@@ -6,7 +6,8 @@ use Rattle.std.proofs.lemmas.List.{length-take}
 use Rattle.nv_fs.specs.declared.open_file.OpenFile.{OpenFile}
 use Rattle.nv_fs.specs.declared.open_file.Target.{Target}
 use Rattle.nv_fs.specs.declared.open_file.Target.TheVariants.{Input, Console, File, Reader, Writer}
-use Rattle.nv_fs.specs.States.{State, Answer, answer, only, open_of, moved_to, EBADF, EINVAL}
+use Rattle.nv_calls.specs.Errors.{EBADF, EINVAL}
+use Rattle.nv_fs.specs.States.{State, Answer, answer, only, open_of, moved_to}
 use Rattle.nv_fs.specs.Closes.{free_descriptor}
 use Rattle.nv_fs.specs.Ends.{pipe_of, pipe_from, pipe_on, free_above}
 use Rattle.nv_fs.specs.Seeks.{seek_of, seek_open, seek_target, seek_from, seek_to, base_of, plus_signed}

@@ -2,7 +2,8 @@
 use Rattle.std.specs.Prelude.{ℕ, pos, not, ◌||◌, ◌==◌, nat_lt, [], Option, Some, None, is_none, slice_set, if◌then◌else◌}
 use Rattle.std.specs.List.{position_from}
 use Rattle.nv_fs.specs.declared.open_file.OpenFile.{OpenFile}
-use Rattle.nv_fs.specs.States.{State, Answer, answer, only, open_of, EBADF, EINVAL, EMFILE}
+use Rattle.nv_calls.specs.Errors.{EBADF, EINVAL, EMFILE}
+use Rattle.nv_fs.specs.States.{State, Answer, answer, only, open_of}
 
 -- a descriptor names this open file from now on, or none
 abbrev pub with_descriptor : State → ℕ → Option ℕ → State

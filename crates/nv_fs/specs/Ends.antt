@@ -5,7 +5,8 @@ use Rattle.std.specs.Int.{to_le_bytes, w32}
 use Rattle.nv_fs.specs.declared.open_file.OpenFile.{OpenFile}
 use Rattle.nv_fs.specs.declared.open_file.Target.{Target}
 use Rattle.nv_fs.specs.declared.open_file.Target.TheVariants.{Reader, Writer}
-use Rattle.nv_fs.specs.States.{State, Answer, answer, only, install, is_pipe, least_free, with_at, EINVAL, EMFILE}
+use Rattle.nv_calls.specs.Errors.{EINVAL, EMFILE}
+use Rattle.nv_fs.specs.States.{State, Answer, answer, only, install, is_pipe, least_free, with_at}
 use Rattle.nv_fs.specs.Closes.{free_descriptor}
 
 unfoldable pub free_pipe : State → ℕ

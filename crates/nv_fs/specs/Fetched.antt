@@ -3,7 +3,9 @@ use Rattle.std.specs.Prelude.{ℕ, pos, ◌+◌, min, ◌==◌, List, [], Option
 use Rattle.nv_fs.specs.declared.open_file.OpenFile.{OpenFile}
 use Rattle.nv_fs.specs.declared.open_file.Target.{Target}
 use Rattle.nv_fs.specs.declared.open_file.Target.TheVariants.{Input, File, Reader, Writer}
-use Rattle.nv_fs.specs.States.{State, Answer, answer, only, open_of, has_open, moved_to, EBADF, EAGAIN}
+use Rattle.nv_calls.specs.Limits.{MOST_BYTES}
+use Rattle.nv_calls.specs.Errors.{EBADF, EAGAIN}
+use Rattle.nv_fs.specs.States.{State, Answer, answer, only, open_of, has_open, moved_to}
 use Rattle.nv_fs.specs.Seeks.{bytes_of}
 
 -- these bytes are handed out, and their number is the result
@@ -42,6 +44,6 @@ abbrev pub read_open : State → Option (ℕ × OpenFile) → ℕ → Answer
 read_open s None n = only s EBADF
 read_open s (Some o) n = if o.1.reads then read_target s o.0 o.1 o.1.target n else only s EBADF
 
--- read(2), of at most 4096 bytes
+-- read(2), of no more bytes than a call moves
 unfoldable pub read_of : State → ℕ → ℕ → Answer
-read_of s fd count = read_open s (open_of s fd) (min count 4096)
+read_of s fd count = read_open s (open_of s fd) (min count MOST_BYTES)

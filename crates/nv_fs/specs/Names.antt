@@ -2,7 +2,9 @@
 use Rattle.std.specs.Prelude.{ℕ, ℤ, pos, negsuc, Bool, false, ◌&&◌, ◌||◌, not, ◌==◌, nat_le, List, [], ◌∷◌, length, drop, Option, Some, None, is_some, if◌then◌else◌}
 use Rattle.std.specs.Str.{bytes_eq}
 use Rattle.std.specs.List.{position_from, position_or_len, list_any, before_first}
-use Rattle.nv_fs.specs.States.{State, is_open, ENOENT, EBADF, ENOTDIR, EINVAL, ENAMETOOLONG}
+use Rattle.nv_calls.specs.Limits.{MOST_PATH}
+use Rattle.nv_calls.specs.Errors.{ENOENT, EBADF, ENOTDIR, EINVAL, ENAMETOOLONG}
+use Rattle.nv_fs.specs.States.{State, is_open}
 
 -- a path that is refused, or the name in it
 pub data Resolved : Type 0 where
@@ -47,7 +49,7 @@ name_of s name =
 -- Relative paths begin at the working directory, which is `/`.
 unfoldable pub resolved : State → ℤ → List ℕ → Resolved
 resolved s dir path =
-    if nat_le 256 (length path) then Refused ENAMETOOLONG
+    if nat_le MOST_PATH (length path) then Refused ENAMETOOLONG
     else (if length path == 0 then Refused ENOENT
     else (if not (is_absolute path) && not (is_cwd dir) then Refused (if is_open_at s dir then ENOTDIR else EBADF)
     else name_of s (name_in path)))

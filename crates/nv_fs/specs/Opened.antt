@@ -2,7 +2,8 @@
 use Rattle.std.specs.Prelude.{ℕ, ℤ, pos, ◌%◌, Bool, ◌&&◌, not, ◌==◌, nat_le, bit_and, List, [], length, Option, Some, None, slice_set, if◌then◌else◌}
 use Rattle.nv_fs.specs.declared.open_file.OpenFile.{OpenFile}
 use Rattle.nv_fs.specs.declared.open_file.Target.TheVariants.{File}
-use Rattle.nv_fs.specs.States.{State, file_at, Answer, answer, only, install, is_kept, least_free, with_at, ENOENT, EEXIST, EINVAL, EMFILE, ENOSPC}
+use Rattle.nv_calls.specs.Errors.{ENOENT, EEXIST, EINVAL, EMFILE, ENOSPC}
+use Rattle.nv_fs.specs.States.{State, file_at, Answer, answer, only, install, is_kept, least_free, with_at}
 use Rattle.nv_fs.specs.Closes.{free_descriptor}
 use Rattle.nv_fs.specs.Names.{Resolved, Refused, Named, resolved, file_of}
 use Rattle.nv_fs.specs.Stored.{with_content}

@@ -4,7 +4,8 @@ use Rattle.std.specs.Int.{to_le_bytes, w64}
 use Rattle.nv_fs.specs.declared.open_file.OpenFile.{OpenFile}
 use Rattle.nv_fs.specs.declared.open_file.Target.{Target}
 use Rattle.nv_fs.specs.declared.open_file.Target.TheVariants.{File}
-use Rattle.nv_fs.specs.States.{State, file_at, Answer, answer, only, open_of, moved_to, EBADF, EINVAL, ESPIPE}
+use Rattle.nv_calls.specs.Errors.{EBADF, EINVAL, ESPIPE}
+use Rattle.nv_fs.specs.States.{State, file_at, Answer, answer, only, open_of, moved_to}
 
 -- the bytes of a file
 abbrev pub bytes_of : State → ℕ → List ℕ

@@ -1,5 +1,5 @@
 -- Descriptors, open file descriptions and files (open(2), "Open file descriptions"; path_resolution(7)), as lists whose places are the numbers.
-use Rattle.std.specs.Prelude.{ℕ, zero, suc, ℤ, negsuc, ◌+◌, Bool, false, ◌||◌, ◌==◌, nat_lt, List, [], ◌∷◌, ◌++◌, length, Option, Some, None, is_some, slice_get, slice_index_or, slice_set, option_map, if◌then◌else◌}
+use Rattle.std.specs.Prelude.{ℕ, zero, suc, ℤ, ◌+◌, Bool, false, ◌||◌, ◌==◌, nat_lt, List, [], ◌∷◌, ◌++◌, length, Option, Some, None, is_some, slice_get, slice_index_or, slice_set, option_map, if◌then◌else◌}
 use Rattle.std.specs.List.{list_any}
 use Rattle.nv_fs.specs.declared.open_file.OpenFile.{OpenFile}
 use Rattle.nv_fs.specs.declared.open_file.Target.{Target}
@@ -97,40 +97,3 @@ install s fd o = record s { descriptors = slice_set s.descriptors fd (Some (free
 -- an open file moves its offset
 abbrev pub moved_to : State → ℕ → OpenFile → ℕ → State
 moved_to s i o offset = record s { opens = slice_set s.opens i (record o { offset = offset }) }
-
--- errno(3)
-abbrev pub ENOENT : ℤ
-ENOENT = negsuc 1
-
-abbrev pub EBADF : ℤ
-EBADF = negsuc 8
-
-abbrev pub EAGAIN : ℤ
-EAGAIN = negsuc 10
-
-abbrev pub EEXIST : ℤ
-EEXIST = negsuc 16
-
-abbrev pub ENOTDIR : ℤ
-ENOTDIR = negsuc 19
-
-abbrev pub EINVAL : ℤ
-EINVAL = negsuc 21
-
-abbrev pub EMFILE : ℤ
-EMFILE = negsuc 23
-
-abbrev pub EFBIG : ℤ
-EFBIG = negsuc 26
-
-abbrev pub ENOSPC : ℤ
-ENOSPC = negsuc 27
-
-abbrev pub ESPIPE : ℤ
-ESPIPE = negsuc 28
-
-abbrev pub EPIPE : ℤ
-EPIPE = negsuc 31
-
-abbrev pub ENAMETOOLONG : ℤ
-ENAMETOOLONG = negsuc 35

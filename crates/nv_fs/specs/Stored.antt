@@ -3,7 +3,8 @@ use Rattle.std.specs.Prelude.{ℕ, pos, ◌+◌, ◌-◌, not, ◌==◌, nat_le,
 use Rattle.nv_fs.specs.declared.open_file.OpenFile.{OpenFile}
 use Rattle.nv_fs.specs.declared.open_file.Target.{Target}
 use Rattle.nv_fs.specs.declared.open_file.Target.TheVariants.{Console, File, Reader, Writer}
-use Rattle.nv_fs.specs.States.{State, file_at, Answer, answer, only, open_of, has_open, moved_to, EBADF, EAGAIN, EFBIG, ENOSPC, EPIPE}
+use Rattle.nv_calls.specs.Errors.{EBADF, EAGAIN, EFBIG, ENOSPC, EPIPE}
+use Rattle.nv_fs.specs.States.{State, file_at, Answer, answer, only, open_of, has_open, moved_to}
 use Rattle.nv_blocks.specs.Contents.{with_bytes}
 use Rattle.nv_fs.specs.Seeks.{bytes_of}
 use Rattle.nv_fs.specs.Fetched.{pipe_at, with_pipe}

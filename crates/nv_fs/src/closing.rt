@@ -4,7 +4,7 @@ ghost use Rattle.nv_fs.specs.States.{answer};
 ghost use Rattle.nv_fs.specs.Closes.{close_of, dup_of, dup3_of};
 
 use crate::disk::{DESCRIPTORS, FileSystem};
-use crate::errors::{EBADF, EINVAL, EMFILE};
+use nv_calls::errors::{EBADF, EINVAL, EMFILE};
 
 const O_CLOEXEC: u32 = 0x80000;
 

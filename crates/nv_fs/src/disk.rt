@@ -6,14 +6,12 @@ ghost use Rattle.nv_fs.specs.Starts.{first_state, first_descriptors, first_opens
 
 use crate::open_file::{OpenFile, Target};
 use nv_blocks::Blocks;
+use nv_calls::MOST_BYTES;
 use std::alloc::{AllocError, Global};
 use std::marker::Model;
 
 /// How many descriptors there are.
 pub const DESCRIPTORS: usize = 64;
-
-/// How many bytes a read hands out at most.
-pub const MOST: usize = 4096;
 
 /// A file in memory: its name until it is unlinked, and its bytes.
 #[derive(Drop)]
@@ -101,7 +99,7 @@ impl FileSystem {
         let input = Vec::from_slice(alloc, input.as_slice())?;
         let files = stored(alloc, files.as_slice())?;
         let opens = first_opens(alloc)?;
-        let part = zeros(alloc, MOST)?;
+        let part = zeros(alloc, MOST_BYTES as usize)?;
         Ok(FileSystem {
             alloc,
             descriptors: first_descriptors(),

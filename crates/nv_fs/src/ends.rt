@@ -8,11 +8,11 @@ ghost use Rattle.nv_fs.specs.Rooms.{CanPipe};
 ghost use Rattle.nv_fs.specs.Views.{items_of};
 
 use crate::disk::FileSystem;
-use crate::errors::{EINVAL, EMFILE};
 use crate::finding::first_free;
 use crate::open_file::{OpenFile, Target};
 use crate::tables::refuse;
 use nv_calls::Bytes;
+use nv_calls::errors::{EINVAL, EMFILE};
 use std::alloc::{AllocError, Global};
 
 /// O_CLOEXEC and O_NONBLOCK, which change nothing here.

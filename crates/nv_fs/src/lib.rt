@@ -4,7 +4,6 @@
 mod closing;
 mod disk;
 mod ends;
-pub mod errors;
 mod finding;
 mod open_file;
 mod opening;

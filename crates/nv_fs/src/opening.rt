@@ -6,10 +6,10 @@ ghost use Rattle.nv_fs.specs.Stored.{with_content};
 ghost use Rattle.nv_fs.specs.Rooms.{CanOpen, HasOpens};
 
 use crate::disk::{FileSystem, MemoryFile};
-use crate::errors::{EEXIST, EINVAL, EMFILE, ENOENT, ENOSPC};
 use crate::open_file::{OpenFile, Target};
 use crate::tables::append;
 use nv_blocks::Blocks;
+use nv_calls::errors::{EEXIST, EINVAL, EMFILE, ENOENT, ENOSPC};
 use std::alloc::AllocError;
 use std::mem;
 

@@ -4,11 +4,11 @@ ghost use Rattle.nv_fs.specs.States.{answer};
 ghost use Rattle.nv_fs.specs.Views.{bytes_in};
 ghost use Rattle.nv_fs.specs.Fetched.{read_of, read_input, read_file, read_pipe, read_target, with_pipe, pipe_at};
 
-use crate::disk::{FileSystem, MOST, MemoryFile};
-use crate::errors::{EAGAIN, EBADF};
+use crate::disk::{FileSystem, MemoryFile};
 use crate::open_file::{OpenFile, Target};
 use crate::tables::{hand_out, refuse};
-use nv_calls::Bytes;
+use nv_calls::errors::{EAGAIN, EBADF};
+use nv_calls::{Bytes, MOST_BYTES};
 
 // Drops the first bytes.
 fn drop_front(held: &mut Vec<u8>, n: usize)
@@ -158,6 +158,6 @@ impl FileSystem {
         if !description.reads {
             return refuse(out, EBADF);
         }
-        self.read_target(number, description, (count as usize).min(MOST), out)
+        self.read_target(number, description, count.min(MOST_BYTES) as usize, out)
     }
 }

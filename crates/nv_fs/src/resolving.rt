@@ -6,13 +6,11 @@ ghost use Rattle.nv_fs.specs.Names.{Named, Refused, is_absolute, is_cwd, is_open
 ghost use Rattle.nv_fs.specs.Views.{inode_of};
 
 use crate::disk::{FileSystem, MemoryFile};
-use crate::errors::{EBADF, EINVAL, ENAMETOOLONG, ENOENT, ENOTDIR};
+use nv_calls::MOST_PATH;
+use nv_calls::errors::{EBADF, EINVAL, ENAMETOOLONG, ENOENT, ENOTDIR};
 
 /// The number that stands for the working directory (openat(2)).
 const AT_FDCWD: i32 = -100;
-
-/// A path of so many bytes has no end among those that were read.
-const LONG: usize = 256;
 
 const SLASH: u8 = b'/';
 
@@ -132,7 +130,7 @@ impl FileSystem {
         ensures is { MatchResult result (λ found. resolved self.now.state dir path.now ≡ Named found.now) (λ error. resolved self.now.state dir path.now ≡ Refused error) }
         ensures short { IfOk result (λ found. length found.now ≤ length path.now) }
     {
-        if path.len() >= LONG {
+        if path.len() >= MOST_PATH {
             return Err(ENAMETOOLONG);
         }
         if path.len() == 0 {

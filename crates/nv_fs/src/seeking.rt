@@ -4,10 +4,10 @@ ghost use Rattle.nv_fs.specs.States.{answer};
 ghost use Rattle.nv_fs.specs.Seeks.{seek_of, base_of, plus_signed, seek_from, SumIs};
 
 use crate::disk::FileSystem;
-use crate::errors::{EBADF, EINVAL, ESPIPE};
 use crate::open_file::{OpenFile, Target};
 use crate::tables::refuse;
 use nv_calls::Bytes;
+use nv_calls::errors::{EBADF, EINVAL, ESPIPE};
 
 const SIGN: u64 = 1 << 63;
 

@@ -8,9 +8,9 @@ ghost use Rattle.nv_fs.specs.Stored.{write_of, write_console, write_at, write_pi
 ghost use Rattle.nv_fs.specs.Rooms.{CanWrite, HasRoom, HasBlocks};
 
 use crate::disk::FileSystem;
-use crate::errors::{EAGAIN, EBADF, EFBIG, ENOSPC, EPIPE};
 use crate::open_file::{OpenFile, Target};
 use crate::tables::{append, front, reserve_to};
+use nv_calls::errors::{EAGAIN, EBADF, EFBIG, ENOSPC, EPIPE};
 use std::alloc::AllocError;
 
 /// How many bytes the console takes in all.

@@ -6,7 +6,8 @@ use Rattle.std.proofs.lemmas.List.{get_or-set_other}
 use Rattle.nv_fs.specs.declared.open_file.OpenFile.{OpenFile}
 use Rattle.nv_fs.specs.declared.open_file.Target.{Target}
 use Rattle.nv_fs.specs.declared.open_file.Target.TheVariants.{File, Reader, Writer}
-use Rattle.nv_fs.specs.States.{State, Answer, only, open_of, numbered, opens_to, is_kept, is_pipe, has_open, file_at, EBADF, EINVAL}
+use Rattle.nv_calls.specs.Errors.{EBADF, EINVAL}
+use Rattle.nv_fs.specs.States.{State, Answer, only, open_of, numbered, opens_to, is_kept, is_pipe, has_open, file_at}
 use Rattle.nv_fs.specs.Closes.{close_of, close_open, dup3_of, dup_onto, shared_at, with_descriptor}
 use Rattle.nv_fs_laws.specs.Tables.{number_at, HeldBeside, OpenBeside}
 use Rattle.nv_fs_laws.specs.Calls.{IsRefused, OthersKeep, LetsGo}

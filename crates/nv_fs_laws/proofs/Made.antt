@@ -7,7 +7,8 @@ use Rattle.std.proofs.lemmas.Bool.{cases_eq, eq-eqb}
 use Rattle.std.proofs.lemmas.List.{get_or-set_same, get_or-set_other}
 use Rattle.nv_fs.specs.declared.open_file.OpenFile.{OpenFile}
 use Rattle.nv_fs.specs.declared.open_file.Target.TheVariants.{File, Reader, Writer}
-use Rattle.nv_fs.specs.States.{State, Inode, Answer, only, open_of, numbered, opens_to, is_number, is_shared, is_kept, file_at, free_open, install, ENOENT, EBADF, EEXIST, ENOTDIR, EINVAL, EMFILE, ENOSPC, ENAMETOOLONG}
+use Rattle.nv_calls.specs.Errors.{ENOENT, EBADF, EEXIST, ENOTDIR, EINVAL, EMFILE, ENOSPC, ENAMETOOLONG}
+use Rattle.nv_fs.specs.States.{State, Inode, Answer, only, open_of, numbered, opens_to, is_number, is_shared, is_kept, file_at, free_open, install}
 use Rattle.nv_fs.specs.Closes.{dup_of, dup_open, share, free_descriptor}
 use Rattle.nv_fs.specs.Ends.{pipe_of, pipe_from, pipe_on, free_pipe, free_above, with_empty, end_of}
 use Rattle.nv_fs.specs.Names.{Resolved, Refused, Named, resolved, name_of, name_in, component_of, file_of, is_open_at, is_cwd, is_absolute}

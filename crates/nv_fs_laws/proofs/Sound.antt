@@ -6,7 +6,8 @@ use Rattle.std.proofs.lemmas.List.{get_or-set_other}
 use Rattle.nv_fs.specs.declared.open_file.OpenFile.{OpenFile}
 use Rattle.nv_fs.specs.declared.open_file.Target.{Target}
 use Rattle.nv_fs.specs.declared.open_file.Target.TheVariants.{Input, Console, File, Reader, Writer}
-use Rattle.nv_fs.specs.States.{State, Inode, Answer, only, open_of, file_at, free_open, install, with_at, moved_to, EBADF, EINVAL, ENOSPC}
+use Rattle.nv_calls.specs.Errors.{EBADF, EINVAL, ENOSPC}
+use Rattle.nv_fs.specs.States.{State, Inode, Answer, only, open_of, file_at, free_open, install, with_at, moved_to}
 use Rattle.nv_fs.specs.Starts.{first_state, first_descriptors, first_opens, standard}
 use Rattle.nv_fs.specs.Closes.{close_of, close_open, dup_of, dup_open, dup3_of, dup_onto, share, shared_at, free_descriptor, with_descriptor}
 use Rattle.nv_fs.specs.Ends.{pipe_of, pipe_from, pipe_on, free_pipe, free_above, with_empty, with_ends, end_of}

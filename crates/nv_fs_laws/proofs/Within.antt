@@ -6,7 +6,8 @@ use Rattle.std.proofs.lemmas.List.{get_or-set_other}
 use Rattle.nv_fs.specs.declared.open_file.OpenFile.{OpenFile}
 use Rattle.nv_fs.specs.declared.open_file.Target.{Target}
 use Rattle.nv_fs.specs.declared.open_file.Target.TheVariants.{File, Reader, Writer}
-use Rattle.nv_fs.specs.States.{State, Inode, Answer, only, open_of, opens_to, is_target, file_at, moved_to, EINVAL}
+use Rattle.nv_calls.specs.Errors.{EINVAL}
+use Rattle.nv_fs.specs.States.{State, Inode, Answer, only, open_of, opens_to, is_target, file_at, moved_to}
 use Rattle.nv_fs.specs.Names.{Resolved, Refused, Named, resolved, file_of}
 use Rattle.nv_fs.specs.Opened.{unlink_at_of, unlink_resolved, unlink_file, unlinked}
 use Rattle.nv_fs.specs.Seeks.{seek_of}

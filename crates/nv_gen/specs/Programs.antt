@@ -2,6 +2,7 @@
 use Rattle.std.specs.Prelude.{ℕ, pos, List, [], ◌∷◌, ◌++◌, length, map, replicate, true, false}
 use Rattle.std.specs.List.{flat_map}
 use Rattle.byteorder.specs.Endian.{little_bytes}
+use Rattle.nv_calls.specs.Numbers.{EXIT_GROUP}
 use Rattle.nv_isa.specs.declared.op.Op.TheVariants.{Addi, Lui, Ecall, Ebreak}
 use Rattle.nv_isa.specs.declared.op.Insn.{Insn}
 use Rattle.nv_isa.specs.Spelling.{encoded}
@@ -30,7 +31,7 @@ abbrev pub getuid_insns : List Insn
 getuid_insns = sets 17 174 ∷ ecall ∷ []
 
 abbrev pub exit_insns : ℕ → List Insn
-exit_insns status = sets 10 status ∷ sets 17 94 ∷ ecall ∷ []
+exit_insns status = sets 10 status ∷ sets 17 EXIT_GROUP ∷ ecall ∷ []
 
 abbrev pub insns_of : Call → List Insn
 insns_of (Write bytes) = write_insns (length bytes)

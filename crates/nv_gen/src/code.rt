@@ -6,6 +6,7 @@ ghost use Rattle.nv_gen.specs.Plans.{numbers_in};
 ghost use Rattle.nv_gen.specs.Programs.{sets, points, ecall, ebreak, word_of, code_of, write_insns, getuid_insns, exit_insns, insns, calls_code};
 
 use crate::plan::Plan;
+use nv_calls::EXIT_GROUP;
 use nv_isa::{Insn, Op, encode};
 use std::alloc::AllocError;
 
@@ -20,8 +21,6 @@ const A7: u8 = 17;
 const CONSOLE: u8 = 1;
 
 const WRITE: u8 = 64;
-
-const EXIT_GROUP: u8 = 94;
 
 const GETUID: u8 = 174;
 
@@ -123,7 +122,7 @@ fn push_exit(code: &mut Vec<u8>, status: u8) -> Result<(), AllocError>
     ensures len { OnOk result (vec_len code.new ≡ vec_len code.old + 12) }
 {
     push(code, &set(A0, status))?;
-    push(code, &set(A7, EXIT_GROUP))?;
+    push(code, &set(A7, EXIT_GROUP as u8))?;
     push(code, &call())
 }
 

@@ -2,10 +2,12 @@
 use Rattle.std.specs.Prelude.{ℕ, ◌+◌, min, List, [], ◌∷◌, length, Bool, true, false, ℤ, Option, Some, None, option_map, nat_le, slice_set, if◌then◌else◌}
 use Rattle.std.specs.Int.{w32, cast_unsigned}
 use Rattle.nv_calls.specs.declared.numbers.Syscall.{Syscall}
-use Rattle.nv_calls.specs.declared.numbers.Syscall.TheVariants.{Getcwd, Unlinkat, Openat, Pipe2, Llseek, Read as ReadCall, Write as WriteCall, Readv, Writev, Uname, Getrandom, ClockGettime64}
+use Rattle.nv_calls.specs.declared.numbers.Syscall.TheVariants.{Unlinkat, Openat, Write as WriteCall, Readv, Writev}
 use Rattle.nv_calls.specs.declared.numbers.Slot.{Slot}
 use Rattle.nv_calls.specs.declared.numbers.Slot.TheVariants.{Value, Address, Unused}
 use Rattle.nv_calls.specs.Calls.{Request}
+use Rattle.nv_calls.specs.Limits.{MOST_BYTES, MOST_VECTORS, MOST_PATH}
+use Rattle.nv_calls.specs.Answers.{most_out_by, answer_slot}
 use Rattle.nv_calls.specs.Numbers.{syscall_of, slots_by}
 use Rattle.nv_memory.specs.declared.region.Right.TheVariants.{Read, Write}
 use Rattle.nv_memory.specs.Bytes.{bytes_at}
@@ -50,38 +52,30 @@ values_with k m room = values k m
 
 -- ---- the ranges of memory
 
--- the part of memory that a call's answer goes to, unless vectors name it, by its man page: at most 2 bytes of getcwd's path are needed for `/`,
--- and no call moves more than 4096 bytes
+-- the part of memory that a call's answer goes to, unless vectors name it: from the address on, as many bytes as the call hands out at most
 abbrev pub out_of : Syscall → Machine → Option Part
-out_of Getcwd m = Some (record { address = argument m 0; size = min (argument m 1) 2 })
-out_of Pipe2 m = Some (record { address = argument m 0; size = 8 })
-out_of Llseek m = Some (record { address = argument m 3; size = 8 })
-out_of ReadCall m = Some (record { address = argument m 1; size = min (argument m 2) 4096 })
-out_of Uname m = Some (record { address = argument m 0; size = 390 })
-out_of Getrandom m = Some (record { address = argument m 0; size = min (argument m 1) 4096 })
-out_of ClockGettime64 m = Some (record { address = argument m 1; size = 16 })
-out_of _ m = None
+out_of k m = option_map (λ slot. record { address = argument m slot; size = most_out_by k (values k m) }) (answer_slot k)
 
--- how many vectors a call has: where there are more than 1024 (IOV_MAX) none is read
+-- how many vectors a call has: where there are too many none is read
 abbrev pub vector_count : Machine → ℕ
-vector_count m = if nat_le (argument m 2) 1024 then argument m 2 else 0
+vector_count m = if nat_le (argument m 2) MOST_VECTORS then argument m 2 else 0
 
--- the first 4096 bytes of a write, where they may be read
+-- the first bytes of a write, where they may be read
 abbrev pub bytes_in : Machine → Option (List ℕ)
-bytes_in m = if holds m.memory.regions (argument m 1) (min (argument m 2) 4096) Read
-    then Some (bytes_at m.memory.bytes (argument m 1) (min (argument m 2) 4096)) else None
+bytes_in m = if holds m.memory.regions (argument m 1) (min (argument m 2) MOST_BYTES) Read
+    then Some (bytes_at m.memory.bytes (argument m 1) (min (argument m 2) MOST_BYTES)) else None
 
--- the first 256 bytes of a path, or those before its 0
+-- the first bytes of a path, or those before its 0
 abbrev pub path_in : Machine → Option (List ℕ)
-path_in m = path_at 256 m.memory (argument m 1)
+path_in m = path_at MOST_PATH m.memory (argument m 1)
 
--- the first 4096 bytes that vectors name
+-- the first bytes that vectors name
 abbrev pub vectors_in : Machine → Option (List ℕ)
-vectors_in m = option_map (joined m.memory) (parts_at m.memory Read (vector_count m) 4096 (argument m 1))
+vectors_in m = option_map (joined m.memory) (parts_at m.memory Read (vector_count m) MOST_BYTES (argument m 1))
 
--- how many bytes vectors have room for, at most 4096
+-- how many bytes vectors have room for, as far as a call moves them
 abbrev pub room_in : Machine → Option ℕ
-room_in m = option_map capacity (parts_at m.memory Write (vector_count m) 4096 (argument m 1))
+room_in m = option_map capacity (parts_at m.memory Write (vector_count m) MOST_BYTES (argument m 1))
 
 -- ---- what a call hands over
 

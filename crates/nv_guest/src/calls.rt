@@ -11,21 +11,12 @@ use crate::answers::{read_targets, scatter, store_bytes};
 use crate::outcome::{Asked, asked_of};
 use crate::paths::read_path;
 use crate::vectors::{Part, gather, room_of};
-use nv_calls::{Bytes, Call, Slot, Syscall};
+use nv_calls::{Bytes, Call, MOST_BYTES, MOST_PATH, MOST_VECTORS, Slot, Syscall};
 use nv_machine::Regs;
 use nv_memory::{Memory, Right};
 
 /// The register of a call's number, a7.
 pub(crate) const NUMBER: u8 = 17;
-
-/// How many bytes a call hands in or out at most.
-pub(crate) const MOST_BYTES: u32 = 4096;
-
-/// How many vectors are read at most: IOV_MAX (limits.h(0p)).
-const MOST_VECTORS: u32 = 1024;
-
-/// How many bytes of a path are read.
-const MOST_PATH: usize = 256;
 
 /// What a call hands over beside its payload.
 #[derive(Drop)]
@@ -114,19 +105,10 @@ impl Caller<'_> {
     fn out_of(&self, syscall: Syscall) -> Option<Part>
         ensures { result ≡ out_of syscall (machine_by self.now) }
     {
-        let (n, size) = match syscall {
-            Syscall::Getcwd => (0, self.argument(1).min(2)),
-            Syscall::Pipe2 => (0, 8),
-            Syscall::Llseek => (3, 8),
-            Syscall::Read => (1, self.argument(2).min(MOST_BYTES)),
-            Syscall::Uname => (0, 390),
-            Syscall::Getrandom => (0, self.argument(1).min(MOST_BYTES)),
-            Syscall::ClockGettime64 => (1, 16),
-            _ => return None,
-        };
+        let slot = syscall.answer_slot()?;
         Some(Part {
-            address: self.argument(n),
-            size,
+            address: self.argument(slot),
+            size: syscall.most_out(&self.values(syscall)),
         })
     }
 

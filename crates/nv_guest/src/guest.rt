@@ -1,18 +1,15 @@
 // A guest with up to eight threads.
 ghost use Rattle.std.specs.Prelude.{◌≡◌, ◌<◌, ◌≤◌, length, Contains};
 
-use crate::calls::{Caller, MOST_BYTES};
+use crate::calls::Caller;
 use crate::heap::{Heap, move_heap};
 use crate::outcome::Asked;
 use crate::threads::{answer_to, place, release_each, run_on, start_child};
 use arrayvec::ArrayVec;
-use nv_calls::Call;
+use nv_calls::{Call, MOST_BYTES, MOST_THREADS};
 use nv_machine::{Regs, Stepped};
 use nv_memory::Memory;
 use std::marker::Model;
-
-/// How many threads live at most.
-pub(crate) const MOST_THREADS: usize = 8;
 
 /// A thread with its registers.
 #[derive(Drop)]

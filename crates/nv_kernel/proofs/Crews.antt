@@ -4,6 +4,7 @@ use Rattle.std.specs.Prelude.{slice_index, filter, Contains}
 use Rattle.std.proofs.lemmas.Bool.Decides.{nat_tests}
 use Rattle.nv_calls.specs.declared.numbers.Syscall.{Syscall}
 use Rattle.nv_calls.specs.declared.numbers.Syscall.TheVariants.{Ioctl, Readv, Writev, Clone, Exit, ExitGroup, ClockGettime64}
+use Rattle.nv_calls.specs.Errors.{EFAULT}
 use Rattle.nv_calls.specs.Calls.{Request}
 use Rattle.nv_calls.specs.Numbers.{syscall_of, has_range}
 use Rattle.nv_calls.specs.Shapes.{IsShaped}
@@ -12,7 +13,7 @@ use Rattle.nv_fs.specs.States.{is_open}
 use Rattle.nv_kernel.specs.Crew.{Crew, IsCrew, clone_as, clone_of, may_clone, exit_of, over}
 use Rattle.nv_kernel.proofs.CrewLaws.{clone_crew, exit_crew, clone_new}
 use Rattle.nv_kernel.proofs.ReplyLaws.{good}
-use Rattle.nv_kernel.specs.Serving.{State, Served, replied, counted, EFAULT, answered, serve, state_after}
+use Rattle.nv_kernel.specs.Serving.{State, Served, replied, counted, answered, serve, state_after}
 use Rattle.nv_kernel.proofs.Going.{not_made}
 
 -- a call that makes or ends threads

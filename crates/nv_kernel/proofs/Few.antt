@@ -1,27 +1,37 @@
 -- How many bytes calls hand out at most.
-use Rattle.std.proofs.Common.{◌≡◌, sym, subst, refl, ℕ, ◌+◌, ◌≤◌, Bool, true, false, cond, length, arith}
+use Rattle.std.proofs.Common.{◌≡◌, sym, subst, refl, ℕ, pos, ◌+◌, ◌≤◌, Bool, true, false, cond, nat_lt, min, List, [], ◌∷◌, length, arith}
+use Rattle.std.proofs.lemmas.Bool.Decides.{nat_tests}
 use Rattle.nv_calls.specs.declared.numbers.Syscall.{Syscall}
 use Rattle.nv_calls.specs.Calls.{Request}
-use Rattle.nv_calls.specs.Constants.{names}
+use Rattle.nv_calls.specs.Constants.{plain, directory, names}
+use Rattle.nv_calls.specs.Errors.{ERANGE}
 use Rattle.nv_kernel.specs.Serving.{Served}
 use Rattle.nv_calls.specs.declared.numbers.Syscall.TheVariants.{Unlinkat, Openat, Write, Writev}
 use Rattle.nv_calls.specs.Numbers.{syscall_of, hands_in}
 use Rattle.nv_calls.specs.Shapes.{IsShaped}
 use Rattle.nv_calls.proofs.ShapeLaws.{shaped-few, shaped-empty}
-use Rattle.nv_kernel.specs.Rooms.{most_out_by, most_out}
+use Rattle.nv_calls.specs.Answers.{most_out_by}
+use Rattle.nv_kernel.specs.Rooms.{most_out}
 
-pub few_as : (k l : Syscall) (c : Request) (n : ℕ) → k ≡ l → n ≤ most_out_by l c → n ≤ most_out_by k c
-few_as k l c n h p = subst (λ (z : Syscall). n ≤ most_out_by z c) (sym h) p
+pub few_as : (k l : Syscall) (args : List ℕ) (n : ℕ) → k ≡ l → n ≤ most_out_by l args → n ≤ most_out_by k args
+few_as k l args n h p = subst (λ (z : Syscall). n ≤ most_out_by z args) (sym h) p
 
 pub few_by : (b : Bool) (x y : Served) (n : ℕ) → length x.payload ≤ n → length y.payload ≤ n → length (cond b x y).payload ≤ n
 few_by true x y n p q = p
 few_by false x y n p q = q
 
+pub directory_few : (size : ℕ) → length (directory size).payload ≤ min size 2
+directory_few size = by (nat_lt size 2) refl
+  where
+    by : (b : Bool) → nat_lt size 2 ≡ b → length (cond b (plain ERANGE) (record { ret = pos 2; payload = 47 ∷ 0 ∷ [] })).payload ≤ min size 2
+    by true h = omega arith
+    by false h = let big : 2 ≤ size = grind (arith, nat_tests) in omega arith
+
 pub names_are : length names ≡ 390
 unfolding names
 names_are = refl
 
-together_as : (k : Syscall) (c : Request) → (hands_in k ≡ false → length c.payload ≡ 0) → length c.payload ≤ 4096 → length c.payload + most_out_by k c ≤ 4096
+together_as : (k : Syscall) (c : Request) → (hands_in k ≡ false → length c.payload ≡ 0) → length c.payload ≤ 4096 → length c.payload + most_out_by k c.args ≤ 4096
 together_as Unlinkat c h p = omega arith
 together_as Openat c h p = omega arith
 together_as Write c h p = omega arith

@@ -2,7 +2,6 @@ pub mod ReplyLaws
 pub mod Sixes
 pub mod Keeping
 pub mod Files
-pub mod Replies
 pub mod Few
 pub mod Going
 pub mod CrewLaws

@@ -1,7 +1,8 @@
 -- The memory that was taken in advance for a call, and how many bytes it hands out at most.
-use Rattle.std.specs.Prelude.{ℕ, min, length}
+use Rattle.std.specs.Prelude.{ℕ, length}
 use Rattle.nv_calls.specs.declared.numbers.Syscall.{Syscall}
-use Rattle.nv_calls.specs.declared.numbers.Syscall.TheVariants.{Getcwd, Openat, Pipe2, Llseek, Read, Write, Readv, Writev, Uname, Getrandom, ClockGettime64}
+use Rattle.nv_calls.specs.declared.numbers.Syscall.TheVariants.{Openat, Pipe2, Write, Writev}
+use Rattle.nv_calls.specs.Answers.{most_out_by}
 use Rattle.nv_calls.specs.Calls.{Request}
 use Rattle.nv_calls.specs.Numbers.{syscall_of}
 use Rattle.nv_fs.specs.Rooms.{Disk, CanOpen, CanPipe, CanWrite}
@@ -29,17 +30,6 @@ can_answer _ d c = Unit {0}
 abbrev pub CanAnswer : Disk → Request → Type 0
 CanAnswer d c = can_answer (syscall_of c.nr) d c
 
-abbrev pub most_out_by : Syscall → Request → ℕ
-most_out_by Getcwd c = 2
-most_out_by Pipe2 c = 8
-most_out_by Llseek c = 8
-most_out_by Read c = min (arg c 2) 4096
-most_out_by Readv c = min (arg c 3) 4096
-most_out_by Uname c = 390
-most_out_by Getrandom c = min (arg c 1) 4096
-most_out_by ClockGettime64 c = 16
-most_out_by _ c = 0
-
 -- how many bytes a call hands out at most
 abbrev pub most_out : Request → ℕ
-most_out c = most_out_by (syscall_of c.nr) c
+most_out c = most_out_by (syscall_of c.nr) c.args

@@ -1,14 +1,16 @@
 -- What the kernel answers, by Linux's numbers (syscalls(2), errno(3)), and what each call leaves.
-use Rattle.std.specs.Prelude.{ℕ, zero, suc, ℤ, pos, negsuc, ◌+◌, ◌*◌, ◌/◌, ◌%◌, ◌^◌, min, nat_lt, List, [], ◌∷◌, ◌++◌, map, Some, slice_index, if◌then◌else◌}
+use Rattle.std.specs.Prelude.{ℕ, zero, suc, ℤ, pos, ◌+◌, ◌*◌, ◌/◌, ◌%◌, ◌^◌, min, nat_lt, List, [], ◌∷◌, ◌++◌, map, Some, slice_index, if◌then◌else◌}
 use Rattle.std.specs.Int.{cast_signed, to_le_bytes, w32, w64}
 use Rattle.nv_calls.specs.declared.numbers.Syscall.{Syscall}
 use Rattle.nv_calls.specs.declared.numbers.Syscall.TheVariants.{Getcwd, Dup, Dup3, Ioctl, Unlinkat, Openat, Close, Pipe2, Llseek, Read, Write, Readv, Writev, Exit, ExitGroup, Uname, Getpid, Getppid, Getuid, Geteuid, Getgid, Getegid, Clone, Getrandom, ClockGettime64}
 use Rattle.nv_calls.specs.Calls.{Request, Response}
-use Rattle.nv_calls.specs.Constants.{names}
+use Rattle.nv_calls.specs.Constants.{directory, system, process, parent, user}
+use Rattle.nv_calls.specs.Errors.{EBADF, EFAULT, EINVAL, ENOTTY, ENOSYS}
+use Rattle.nv_calls.specs.Limits.{MOST_BYTES, MOST_VECTORS}
 use Rattle.nv_calls.specs.Logs.{Start}
 use Rattle.nv_calls.specs.Numbers.{syscall_of}
 use Rattle.nv_fs.specs.States as fs
-use Rattle.nv_fs.specs.States.{is_open, EBADF, EINVAL}
+use Rattle.nv_fs.specs.States.{is_open}
 use Rattle.nv_fs.specs.Starts as begun
 use Rattle.nv_fs.specs.Closes.{close_of, dup_of, dup3_of}
 use Rattle.nv_fs.specs.Ends.{pipe_of}
@@ -40,6 +42,10 @@ pub record Served : Type 0 where
 abbrev pub replied : State → ℤ → List ℕ → Served
 replied s ret payload = record { state = s; ret = ret; payload = payload }
 
+-- a reply that every state has, which leaves all as it is
+abbrev pub always : State → Response → Served
+always s reply = replied s reply.ret reply.payload
+
 -- what the files answer and become
 abbrev pub of_files : State → fs.Answer → Served
 of_files s a = record { state = record s { files = a.state }; ret = a.ret; payload = a.payload }
@@ -53,20 +59,6 @@ counted r = record r { state = record r.state { served = r.state.served + 1 } }
 
 abbrev pub arg : Request → ℕ → ℕ
 arg c i = slice_index c.args i
-
--- ---- errno(3)
-
-abbrev pub EFAULT : ℤ
-EFAULT = negsuc 13
-
-abbrev pub ENOTTY : ℤ
-ENOTTY = negsuc 24
-
-abbrev pub ERANGE : ℤ
-ERANGE = negsuc 33
-
-abbrev pub ENOSYS : ℤ
-ENOSYS = negsuc 37
 
 -- ---- the clock (clock_gettime(2))
 
@@ -104,25 +96,20 @@ randomly s n = record { state = record s { random = random_after n s.random }; r
 
 -- ---- the calls
 
--- getcwd(2): the working directory is `/`
-abbrev pub directory : ℕ → Response
-directory size = if nat_lt size 2 then record { ret = ERANGE; payload = [] } else record { ret = pos 2; payload = 47 ∷ 0 ∷ [] }
-
 -- ioctl(2): no open file is a terminal
 abbrev pub control : State → ℕ → Served
 control s fd = if is_open s.files fd then replied s ENOTTY [] else replied s EBADF []
 
--- readv(2) and writev(2) of at most 1024 vectors (IOV_MAX, limits.h(0p))
+-- readv(2) and writev(2) of no more vectors than are read
 abbrev pub unless_many : State → ℕ → Served → Served
-unless_many s count served = if nat_lt 1024 count then replied s EINVAL [] else served
+unless_many s count served = if nat_lt MOST_VECTORS count then replied s EINVAL [] else served
 
 -- clock_gettime(2): 0 is CLOCK_REALTIME and 1 CLOCK_MONOTONIC
 abbrev pub clock : State → ℕ → Served
 clock s id = if nat_lt 1 id then replied s EINVAL [] else replied s (pos 0) (time_bytes (time_of s))
 
--- Process 100 has parent 1, and 1000 is each id (getpid(2), getuid(2), getgid(2)).
 abbrev pub answered : Syscall → State → Request → Served
-answered Getcwd s c = replied s (directory (arg c 1)).ret (directory (arg c 1)).payload
+answered Getcwd s c = always s (directory (arg c 1))
 answered Dup s c = of_files s (dup_of s.files (arg c 0))
 answered Dup3 s c = of_files s (dup3_of s.files (arg c 0) (arg c 1) (arg c 2))
 answered Ioctl s c = control s (arg c 0)
@@ -138,14 +125,14 @@ answered Writev s c = unless_many s (arg c 2) (of_files s (write_of s.files (arg
 answered Exit s c = of_crew s (pos 0, exit_of s.crew c.tid)
 answered ExitGroup s c = of_crew s (pos 0, over s.crew)
 answered Clone s c = of_crew s (clone_of s.crew (arg c 0))
-answered Uname s c = replied s (pos 0) names
-answered Getpid s c = replied s (pos 100) []
-answered Getppid s c = replied s (pos 1) []
-answered Getuid s c = replied s (pos 1000) []
-answered Geteuid s c = replied s (pos 1000) []
-answered Getgid s c = replied s (pos 1000) []
-answered Getegid s c = replied s (pos 1000) []
-answered Getrandom s c = randomly s (min (arg c 1) 4096)
+answered Uname s c = always s system
+answered Getpid s c = always s process
+answered Getppid s c = always s parent
+answered Getuid s c = always s user
+answered Geteuid s c = always s user
+answered Getgid s c = always s user
+answered Getegid s c = always s user
+answered Getrandom s c = randomly s (min (arg c 1) MOST_BYTES)
 answered ClockGettime64 s c = clock s (arg c 0)
 answered _ s c = replied s ENOSYS []
 

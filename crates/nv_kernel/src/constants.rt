@@ -1,11 +1,10 @@
 // The calls whose reply is the same in every state.
 ghost use Rattle.std.specs.Prelude.{◌≡◌, ◌≤◌, [], ◌++◌, length, drop, option_map, pos};
 ghost use Rattle.nv_calls.specs.Calls.{request};
-ghost use Rattle.nv_calls.specs.Constants.{constant_of, field, names};
-ghost use Rattle.nv_kernel.specs.Serving.{directory};
+ghost use Rattle.nv_calls.specs.Constants.{constant_by, constant_of, directory, field, names};
 
-use crate::errors::{EFAULT, ERANGE};
-use nv_calls::{Bytes, Call};
+use nv_calls::errors::{EFAULT, ERANGE};
+use nv_calls::{Bytes, Call, Syscall};
 
 /// The process.
 pub const PROCESS: i32 = 100;
@@ -74,26 +73,31 @@ pub fn directory(size: u32, out: &mut Bytes) -> i32
     2
 }
 
+// The result that the call has in every state, with the bytes that it hands out.
+fn constant_as(syscall: Syscall, call: &Call, out: &mut Bytes) -> Option<i32>
+    requires { 4096 ≤ out.old.room }
+    ensures reply { constant_by syscall (request call.now) ≡ option_map (λ ret. record { ret = ret; payload = out.new.bytes }) result }
+    ensures room { out.new.room ≡ out.old.room }
+{
+    match syscall {
+        Syscall::Getcwd | Syscall::Uname if call.bad => Some(only(EFAULT, out)),
+        Syscall::Getcwd => Some(directory(call.args[1], out)),
+        Syscall::Uname => Some(names(out)),
+        Syscall::Getpid => Some(only(PROCESS, out)),
+        Syscall::Getppid => Some(only(PARENT, out)),
+        Syscall::Getuid | Syscall::Geteuid | Syscall::Getgid | Syscall::Getegid => {
+            Some(only(USER, out))
+        }
+        _ => None,
+    }
+}
+
 /// The reply of a call whose reply is the same in every state, with the bytes that it hands out.
+#[tactic(auto, unfolding(nv_calls::specs::Constants::constant_of))]
 pub fn constant(call: &Call, out: &mut Bytes) -> Option<i32>
     requires { 4096 ≤ out.old.room }
     ensures reply { constant_of (request call.now) ≡ option_map (λ ret. record { ret = ret; payload = out.new.bytes }) result }
     ensures room { out.new.room ≡ out.old.room }
 {
-    match call.nr {
-        172 => Some(only(PROCESS, out)),
-        173 => Some(only(PARENT, out)),
-        174..=177 => Some(only(USER, out)),
-        160 => Some(if call.bad {
-            only(EFAULT, out)
-        } else {
-            names(out)
-        }),
-        17 => Some(if call.bad {
-            only(EFAULT, out)
-        } else {
-            directory(call.args[1], out)
-        }),
-        _ => None,
-    }
+    constant_as(Syscall::of(call.nr), call, out)
 }

@@ -3,15 +3,9 @@ ghost use Rattle.std.specs.Prelude.{◌≡◌, ◌<◌, ◌≤◌, length, filte
 ghost use Rattle.nv_kernel.specs.Crew.{may_clone, clone_of, exit_of, over, first_crew};
 ghost use Rattle.nv_kernel.specs.Rooms.{crew_of};
 
-use crate::errors::EAGAIN;
 use arrayvec::ArrayVec;
-use nv_fs::errors::EINVAL;
-
-/// How many threads live at most.
-pub const MOST_THREADS: usize = 8;
-
-/// The number of the first thread.
-const FIRST: u32 = 100;
+use nv_calls::errors::{EAGAIN, EINVAL};
+use nv_calls::{FIRST_THREAD, MOST_THREADS};
 
 /// The numbers of the threads that live, in the order in which they came, and how many calls to clone succeeded.
 #[derive(Drop)]
@@ -43,12 +37,12 @@ fn others(live: &[u32], tid: u32) -> ArrayVec<u32, MOST_THREADS>
 }
 
 impl LiveThreads {
-    /// Thread 100 alone.
+    /// The first thread alone.
     pub fn first() -> LiveThreads
         ensures { crew_of result ≡ first_crew }
     {
         let mut live = ArrayVec::new();
-        live.push(FIRST);
+        live.push(FIRST_THREAD);
         LiveThreads { live, clones: 0 }
     }
 
@@ -71,7 +65,7 @@ impl LiveThreads {
             return EAGAIN;
         }
         self.clones += 1;
-        let child = FIRST + self.clones;
+        let child = FIRST_THREAD + self.clones;
         self.live.push(child);
         child as i32
     }

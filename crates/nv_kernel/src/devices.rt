@@ -1,5 +1,6 @@
 // What the kernel answers each call, and what each call leaves.
 ghost use Rattle.std.specs.Prelude.{◌≡◌, ◌≤◌, ◌<◌, ◌+◌, ◌*◌, ◌^◌, pos, [], length, map, OnOk, IfOk};
+ghost use Rattle.nv_calls.specs.Answers.{most_out_by};
 ghost use Rattle.nv_calls.specs.Calls.{request};
 ghost use Rattle.nv_script.specs.Views.{setup_of};
 ghost use Rattle.nv_fs.specs.Fetched.{read_of};
@@ -7,22 +8,17 @@ ghost use Rattle.nv_fs.specs.Stored.{write_of};
 ghost use Rattle.nv_fs.specs.Rooms.{CanWrite};
 ghost use Rattle.nv_kernel.specs.Crew.{exit_of, over};
 ghost use Rattle.nv_kernel.specs.Serving.{of_files, of_crew, second, answered, serve, first_state, control, unless_many, unless_bad, clock, randomly};
-ghost use Rattle.nv_kernel.specs.Rooms.{state_of, can_answer, CanAnswer, most_out_by, most_out};
+ghost use Rattle.nv_kernel.specs.Rooms.{state_of, can_answer, CanAnswer, most_out};
 
 use crate::clock::{start_of, time_bytes};
 use crate::constants::{PARENT, PROCESS, USER, directory, names, only};
 use crate::crew::LiveThreads;
-use crate::errors::{EFAULT, ENOSYS, ENOTTY};
 use crate::random::fill_random;
-use crate::spare::MOST_OUT;
-use nv_calls::{Bytes, Call, Syscall};
+use nv_calls::errors::{EBADF, EFAULT, EINVAL, ENOSYS, ENOTTY};
+use nv_calls::{Bytes, Call, MOST_BYTES, MOST_VECTORS, Syscall};
 use nv_fs::FileSystem;
-use nv_fs::errors::{EBADF, EINVAL};
 use nv_script::Script;
 use std::alloc::{AllocError, Global};
-
-/// IOV_MAX (limits.h(0p)).
-const MOST_VECTORS: u32 = 1024;
 
 /// What calls read and change.
 #[derive(Drop)]
@@ -107,7 +103,7 @@ impl Devices {
         ensures room { out.new.room ≡ out.old.room }
         ensures few { length out.new.bytes ≡ n }
     {
-        let mut bytes = [0; MOST_OUT as usize];
+        let mut bytes = [0; MOST_BYTES as usize];
         let part = &mut bytes[..n as usize];
         self.random = fill_random(self.random, part);
         out.set(part);
@@ -138,7 +134,7 @@ impl Devices {
         requires clones { (state_of self.old).crew.clones < 131072 }
         ensures answer { answered syscall (state_of self.old) (request call.now) ≡ record { state = state_of self.new; ret = result; payload = out.new.bytes } }
         ensures room { out.new.room ≡ out.old.room }
-        ensures few { length out.new.bytes ≤ most_out_by syscall (request call.now) }
+        ensures few { length out.new.bytes ≤ most_out_by syscall (request call.now).args }
     {
         let args = call.args;
         let bytes = call.payload.as_slice();
@@ -162,7 +158,7 @@ impl Devices {
             Syscall::Getpid => PROCESS,
             Syscall::Getppid => PARENT,
             Syscall::Getuid | Syscall::Geteuid | Syscall::Getgid | Syscall::Getegid => USER,
-            Syscall::Getrandom => self.hand_out_random(args[1].min(MOST_OUT), out),
+            Syscall::Getrandom => self.hand_out_random(args[1].min(MOST_BYTES), out),
             Syscall::ClockGettime64 => self.clock(args[0], out),
             Syscall::Clone => self.threads.make(args[0]),
             Syscall::Unknown => ENOSYS,

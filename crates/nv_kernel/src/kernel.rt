@@ -4,8 +4,8 @@ ghost use Rattle.nv_script.specs.Scripts.{is_script};
 ghost use Rattle.nv_script.specs.Views.{setup_of};
 
 use crate::devices::Devices;
-use crate::spare::{MOST_OUT, blank, fill, keep, next_end};
-use nv_calls::{Bytes, Call, Event, SyscallKernel};
+use crate::spare::{blank, fill, keep, next_end};
+use nv_calls::{Bytes, Call, Event, MOST_BYTES, SyscallKernel};
 use nv_script::Script;
 use std::alloc::{AllocError, Global};
 use std::marker::Model;
@@ -49,7 +49,7 @@ impl ScriptKernel {
         ensures { IfOk result (λ k. (k.log ≡ []) × (k.setup ≡ setup_of script.now)) }
     {
         let devices = Devices::make(alloc, script)?;
-        let out = Bytes::make(alloc, MOST_OUT)?;
+        let out = Bytes::make(alloc, MOST_BYTES)?;
         Ok(ScriptKernel {
             alloc,
             script: Snapshot::of(script),

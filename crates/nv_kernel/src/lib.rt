@@ -5,7 +5,6 @@ mod clock;
 mod constants;
 mod crew;
 mod devices;
-mod errors;
 mod kernel;
 mod random;
 mod spare;

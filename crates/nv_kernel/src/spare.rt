@@ -6,29 +6,9 @@ ghost use Rattle.nv_calls.specs.Calls.{request, entry};
 ghost use Rattle.nv_calls.specs.Logs.{InRange};
 ghost use Rattle.nv_kernel.specs.Ends.{end_next};
 ghost use Rattle.nv_kernel.specs.Kept.{HasRoom, room_of};
-ghost use Rattle.nv_kernel.specs.Rooms.{most_out_by};
 
 use nv_calls::{Bytes, Call, Event, Reply, Syscall};
 use std::alloc::{AllocError, Global};
-
-/// How many bytes a call hands out at most.
-pub const MOST_OUT: u32 = 4096;
-
-// How many bytes the call can hand out.
-fn most_out_by(syscall: Syscall, call: &Call) -> u32
-    ensures { result ≡ most_out_by syscall (request call.now) }
-{
-    match syscall {
-        Syscall::Getcwd => 2,
-        Syscall::Pipe2 | Syscall::Llseek => 8,
-        Syscall::Read => call.args[2].min(MOST_OUT),
-        Syscall::Readv => call.args[3].min(MOST_OUT),
-        Syscall::Uname => 390,
-        Syscall::Getrandom => call.args[1].min(MOST_OUT),
-        Syscall::ClockGettime64 => 16,
-        _ => 0,
-    }
-}
 
 /// Memory for the event of a call: its payload, and the most that it hands out.
 pub fn blank(alloc: Global, call: &Call) -> Result<Event, AllocError>
@@ -36,7 +16,7 @@ pub fn blank(alloc: Global, call: &Call) -> Result<Event, AllocError>
     ensures { IfOk result (λ e. HasRoom (Some (room_of e)) (request call.now)) }
 {
     let handed_in = Bytes::make(alloc, call.payload.as_slice().len() as u32)?;
-    let handed_out = Bytes::make(alloc, most_out_by(Syscall::of(call.nr), call))?;
+    let handed_out = Bytes::make(alloc, Syscall::of(call.nr).most_out(&call.args))?;
     Ok(Event {
         stamp: 0,
         call: Call {

@@ -1,8 +1,10 @@
 -- In which of eight lanes an event stands, by its thread.
-use Rattle.std.specs.Prelude.{ℕ, ℤ, ◌+◌, ◌==◌, ◌||◌, Bool, false, List, [], ◌∷◌, take, replicate, count_by, Option, Some, None, is_some, is_none, unwrap_or, slice_index, slice_index_or, slice_set, if◌then◌else◌}
+use Rattle.std.specs.Prelude.{ℕ, ℤ, ◌+◌, ◌-◌, ◌==◌, ◌||◌, Bool, false, List, [], ◌∷◌, take, replicate, count_by, Option, Some, None, is_some, is_none, unwrap_or, slice_index, slice_index_or, slice_set, if◌then◌else◌}
 use Rattle.std.specs.List.{position_from}
 use Rattle.nv_calls.specs.Calls.{Entry}
+use Rattle.nv_calls.specs.Limits.{FIRST_THREAD, MOST_THREADS}
 use Rattle.nv_calls.specs.Logs.{made}
+use Rattle.nv_calls.specs.Numbers.{EXIT}
 
 abbrev pub Holders : Type 0
 Holders = List (Option ℕ)
@@ -37,10 +39,10 @@ abbrev pub with_child : Holders → Option ℕ → Holders
 with_child holders None = holders
 with_child holders (Some child) = if is_some (lane_of holders child) then holders else with_holder holders (free_lane holders) (Some child)
 
--- exit (93) frees the lane of its thread
+-- exit frees the lane of its thread
 unfoldable pub holders_by : Holders → ℕ → ℕ → ℤ → Holders
 holders_by holders tid nr ret =
-    if nr == 93 then with_holder holders (lane_of holders tid) None
+    if nr == EXIT then with_holder holders (lane_of holders tid) None
     else with_child holders (made nr ret)
 
 abbrev pub one_more : List ℕ → ℕ → List ℕ
@@ -56,9 +58,9 @@ holders_next holders e = holders_by holders e.call.tid e.call.nr e.reply.ret
 abbrev pub noted : Taken → Entry → Taken
 noted s e = noted_by s e.call.tid e.call.nr e.reply.ret
 
--- thread 100 has lane 0
+-- the first thread has lane 0
 unfoldable pub start : Taken
-start = record { holders = Some 100 ∷ replicate 7 None; counts = replicate 8 0 }
+start = record { holders = Some FIRST_THREAD ∷ replicate (MOST_THREADS - 1) None; counts = replicate MOST_THREADS 0 }
 
 -- lane 0 always lives
 abbrev pub lives : Taken → ℕ → Bool

@@ -1,22 +1,13 @@
 //! The lanes, as far as a log tells.
 ghost use Rattle.std.specs.Prelude.{◌≡◌, ◌+◌, ◌<◌, ◌≤◌, length, IfSome, Some, None, sum, slice_index};
 ghost use Rattle.nv_calls.specs.Calls.{entry};
-ghost use Rattle.nv_calls.specs.Logs.{made};
 ghost use Rattle.nv_lanes.specs.Lanes.{is_of, lane_of, free_lane, lane_in, noted, noted_by, start, lives, with_holder, with_child};
 
-use nv_calls::Event;
+use nv_calls::{EXIT, Event, FIRST_THREAD, MOST_THREADS, made};
 use std::marker::Model;
 
 /// How many lanes there are: as many as threads may live.
-pub const LANES: usize = 8;
-
-/// clone(2) and exit(2).
-const CLONE: u32 = 220;
-
-const EXIT: u32 = 93;
-
-/// The thread that lives at the start.
-const FIRST: u32 = 100;
+pub const LANES: usize = MOST_THREADS;
 
 /// Which thread has each lane, and how many events stand in it.
 #[derive(Drop)]
@@ -58,17 +49,6 @@ fn free_among(holders: &[Option<u32>]) -> Option<usize>
     holders.iter().position(|holder| holder.is_none())
 }
 
-// The thread that a positive answer to clone made.
-fn made(nr: u32, ret: i32) -> Option<u32>
-    ensures { result ≡ made nr ret }
-{
-    if nr == CLONE && ret > 0 {
-        Some(ret.cast_unsigned())
-    } else {
-        None
-    }
-}
-
 impl Lanes {
     /// Before any event: thread 100 has lane 0.
     #[tactic(auto, unfolding(crate::specs::Lanes::start))]
@@ -77,7 +57,7 @@ impl Lanes {
         ensures count { sum result.counts ≡ 0 }
     {
         let mut holders = [None; LANES];
-        holders[0] = Some(FIRST);
+        holders[0] = Some(FIRST_THREAD);
         Lanes {
             holders,
             counts: [0; LANES],

@@ -7,7 +7,8 @@ use Rattle.nv_threads.specs.Behaviours.{Behaviour}
 use Rattle.nv_rules.specs.declared.outcome.Verdict.{Verdict}
 use Rattle.nv_replay.specs.declared.version.Followed.{Followed}
 use Rattle.nv_replay.specs.declared.version.Followed.TheVariants.{Matched, Rewrote, Skipped, Dropped}
-use Rattle.nv_replay.specs.Permits.{Permit, Give, Drop, No, is_of_threads, failed, passed}
+use Rattle.nv_calls.specs.Numbers.{is_of_threads}
+use Rattle.nv_replay.specs.Permits.{Permit, Give, Drop, No, failed, passed}
 use Rattle.nv_replay.specs.Follow.{Follower, Told, judged, refusal_of}
 use Rattle.nv_replay.specs.Versions.{Running}
 use Rattle.nv_replay.proofs.Following.{judged_give, judged_drop, judged_no}

@@ -14,7 +14,8 @@ use Rattle.nv_replay.specs.declared.fate.Fate.TheVariants.{Exited}
 use Rattle.nv_rules.specs.declared.outcome.Verdict.{Verdict}
 use Rattle.nv_rules.specs.declared.outcome.Verdict.TheVariants.{Allow, Errno, Skip, Refuse}
 use Rattle.nv_rules.specs.Verdicts.{verdict_of}
-use Rattle.nv_replay.specs.Permits.{Permit, Give, Drop, No, permit, given, is_of_threads}
+use Rattle.nv_calls.specs.Numbers.{syscall_of, is_of_threads}
+use Rattle.nv_replay.specs.Permits.{Permit, Give, Drop, No, permit, given}
 use Rattle.nv_calls.specs.Constants.{constant_of}
 use Rattle.nv_replay.specs.Follow.{Follower, Judge, decided, met, judged, consumed, permit_by, refusal_by, IsInStep, is_exited}
 use Rattle.nv_replay.proofs.Falling.{within}
@@ -63,7 +64,7 @@ is_number n m h = grind (arith, nat_tests)
 
 -- clone, exit and exit_group have no constant reply
 no_constant : (c : Request) → (c.nr ≡ 220) ⊎ ((c.nr ≡ 93) ⊎ (c.nr ≡ 94)) → constant_of c ≡ None
-unfolding constant_of
+unfolding constant_of syscall_of
 no_constant c (inl h) = rw h refl
 no_constant c (inr (inl h)) = rw h refl
 no_constant c (inr (inr h)) = rw h refl

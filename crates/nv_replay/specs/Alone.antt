@@ -2,6 +2,7 @@
 use Rattle.std.specs.Prelude.{◌≡◌, ◌≢◌, ℕ, true, List, [], ◌∷◌, Some, None, slice_get}
 use Rattle.nv_calls.specs.Calls.{Entry}
 use Rattle.nv_calls.specs.Logs.{Start}
+use Rattle.nv_calls.specs.Numbers.{CLONE}
 use Rattle.nv_threads.specs.Behaviours.{Behaviour}
 use Rattle.nv_replay.specs.declared.standing.Standing.{Standing}
 use Rattle.nv_replay.specs.Follow.{is_exited, no_rules}
@@ -17,7 +18,7 @@ pub record IsSurvivor (line : Standing) : Type 0 where
 
 -- no event is a clone's
 abbrev pub HasNoClone : List Entry → Type 0
-HasNoClone log = (i : ℕ) (e : Entry) → slice_get log i ≡ Some e → e.call.nr ≢ 220
+HasNoClone log = (i : ℕ) (e : Entry) → slice_get log i ≡ Some e → e.call.nr ≢ CLONE
 
 -- the log of each survivor alone is the log, and so is its output (output_of)
 abbrev pub SurvivorsAgree : {P : Type 0} → Behaviour P → Start → ℕ → List P → List Standing → List Entry → Type 0

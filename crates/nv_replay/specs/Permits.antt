@@ -1,14 +1,11 @@
 -- What a rule lets a version do that makes another call than the log has next.
-use Rattle.std.specs.Prelude.{◌≡◌, ℕ, pos, ◌-ℤ◌, Bool, true, false, ◌==◌, ◌||◌, ◌&&◌, not, nat_le, [], Option, Some, None, if◌then◌else◌}
+use Rattle.std.specs.Prelude.{◌≡◌, ℕ, pos, ◌-ℤ◌, Bool, true, false, ◌&&◌, not, nat_le, [], Option, Some, None, if◌then◌else◌}
 use Rattle.nv_calls.specs.Calls.{Request, Response, Entry}
 use Rattle.nv_calls.specs.Constants.{constant_of}
+use Rattle.nv_calls.specs.Numbers.{is_of_threads}
 use Rattle.nv_threads.specs.Behaviours.{Behaviour}
 use Rattle.nv_rules.specs.declared.outcome.Verdict.{Verdict}
 use Rattle.nv_rules.specs.declared.outcome.Verdict.TheVariants.{Allow, Errno, Skip, Refuse}
-
--- clone, exit, exit_group
-abbrev pub is_of_threads : ℕ → Bool
-is_of_threads nr = (nr == 220) || (nr == 93) || (nr == 94)
 
 pub data Permit : Type 0 where
   -- the call is answered so

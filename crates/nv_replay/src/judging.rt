@@ -4,7 +4,7 @@ ghost use Rattle.nv_calls.specs.Calls.{request, entry};
 ghost use Rattle.nv_calls.specs.Constants.{constant_of};
 ghost use Rattle.nv_threads.specs.Threads.{threads};
 ghost use Rattle.nv_replay.specs.Follow.{judge_of};
-ghost use Rattle.nv_replay.specs.Permits.{is_of_threads, HasGiven};
+ghost use Rattle.nv_replay.specs.Permits.{HasGiven};
 
 use nv_bpf::Filter;
 use nv_calls::{Bytes, Call, Event};
@@ -20,13 +20,6 @@ pub fn judge(rules: Option<&Filter>, call: &Call, event: &Event, index: u32) -> 
         Some(filter) => value(filter, &pair_of(call, event, index)),
         None => 0,
     }
-}
-
-/// Whether the call makes or ends a thread: clone, exit or exit_group.
-pub fn is_of_threads(nr: u32) -> bool
-    ensures { result ≡ is_of_threads nr }
-{
-    nr == 220 || nr == 93 || nr == 94
 }
 
 /// Answers the thread's call, where its reply is the same in every state of the kernel; whether it is.

@@ -12,17 +12,14 @@ ghost use Rattle.nv_replay.specs.Follow.{Told, verdict_on, decided, met, consume
 ghost use Rattle.nv_replay.specs.Permits.{No, given, failed, passed, permit};
 ghost use Rattle.nv_replay.specs.Versions.{Running, IsFresh, IsFollowing, IsLeading, LedTo, asking_next, asking_by, answered_by, standing_of};
 
-use crate::judging::{give_constant, is_of_threads, judge};
+use crate::judging::{give_constant, judge};
 use crate::{Fate, Spans, Standing};
 use nv_bpf::Filter;
-use nv_calls::{Bytes, Call, Event, same};
+use nv_calls::{Bytes, Call, Event, MOST_BYTES, is_of_threads, same};
 use nv_rules::{Verdict, verdict};
 use nv_threads::{Came, FaultKind, Process, Want};
 use std::alloc::{AllocError, Global};
 use std::marker::Model;
-
-// the payload of a call and its reply (the limit of bytes a call)
-const MOST_BYTES: u32 = 4096;
 
 // the greatest number of an error (errno(3))
 const MOST_ERROR: u16 = 4095;

@@ -1,8 +1,5 @@
+use nv_calls::{CLONE, EXIT};
 use nv_lanes::Lanes;
-
-const CLONE: u32 = 220;
-
-const EXIT: u32 = 93;
 
 const GETUID: u32 = 174;
 

@@ -2,6 +2,7 @@
 use Rattle.std.specs.Prelude.{◌≡◌, ℕ, ◌<◌, ◌≤◌, Bool, true, List, [], ◌∷◌, Option, Some, None, Contains}
 use Rattle.nv_calls.specs.Calls.{Request, Response, Entry}
 use Rattle.nv_calls.specs.Logs.{child_of, live_next}
+use Rattle.nv_calls.specs.Limits.{FIRST_THREAD}
 use Rattle.nv_threads.specs.declared.turns.Want.{Want}
 use Rattle.nv_threads.specs.declared.turns.Want.TheVariants.{Any, Only}
 use Rattle.nv_threads.specs.declared.turns.Came.{Came}
@@ -45,17 +46,17 @@ pub record IsProcess {P : Type 0} (g : Behaviour P) : Type 0 where
       → g.live (g.answered p t r) ≡ live_next (g.live p) (event_of g p t r n)
   pub ended : (p : P) → g.live p ≡ [] → g.ended p ≡ None → ⊥
   pub lives : (p : P) (s : ℕ) → g.ended p ≡ Some s → g.live p ≡ []
-  -- one thread alone is 100, and whichever is wanted
-  pub sole : (p : P) (t : ℕ) → g.is_alone p ≡ true → Contains (g.live p) t → t ≡ 100
-  pub alone : (p : P) → g.is_alone p ≡ true → g.came p Any ≡ g.came p (Only 100)
-  pub alone_after : (p : P) → g.is_alone p ≡ true → g.after p Any ≡ g.after p (Only 100)
+  -- one thread alone is the first, and whichever is wanted
+  pub sole : (p : P) (t : ℕ) → g.is_alone p ≡ true → Contains (g.live p) t → t ≡ FIRST_THREAD
+  pub alone : (p : P) → g.is_alone p ≡ true → g.came p Any ≡ g.came p (Only FIRST_THREAD)
+  pub alone_after : (p : P) → g.is_alone p ≡ true → g.after p Any ≡ g.after p (Only FIRST_THREAD)
   pub stays_alone : (p : P) (w : Want) → g.is_alone p ≡ true → g.is_alone (g.after p w) ≡ true
   pub alone_answer : (p : P) (t n : ℕ) (r : Response) → g.is_alone p ≡ true → child_of (event_of g p t r n) ≡ None
       → g.is_alone (g.answered p t r) ≡ true
 
--- a process as it was made: thread 100 alone lives, and it has made no call
+-- a process as it was made: the first thread alone lives, and it has made no call
 pub record IsStarted {P : Type 0} (g : Behaviour P) (p : P) : Type 0 where
-  pub live : g.live p ≡ 100 ∷ []
+  pub live : g.live p ≡ FIRST_THREAD ∷ []
   pub on : g.ended p ≡ None
   pub alone : g.is_alone p ≡ true
   pub few : g.calls_left p ≤ 1000000008

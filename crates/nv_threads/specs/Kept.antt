@@ -2,6 +2,7 @@
 use Rattle.std.specs.Prelude.{◌≡◌, ℕ, ◌<◌, ◌≤◌, Bool, true, ◌==◌, ◌&&◌, not, List, [], ◌∷◌, length}
 use Rattle.std.specs.List.{list_any}
 use Rattle.nv_calls.specs.declared.calls.Call.{Call}
+use Rattle.nv_calls.specs.Limits.{MOST_BYTES, MOST_THREADS}
 use Rattle.nv_calls.specs.Shapes.{IsShaped}
 use Rattle.nv_threads.specs.Threads.{State, Runs, Asks, Waits, Task, tids}
 
@@ -23,7 +24,7 @@ AreOwn (t ∷ ts) = IsOwn t.tid t.state × AreOwn ts
 -- each call has room for what is handed in
 abbrev pub HaveRoom : List Call → Type 0
 HaveRoom [] = Unit {0}
-HaveRoom (c ∷ cs) = (4096 ≤ c.payload.room) × HaveRoom cs
+HaveRoom (c ∷ cs) = (MOST_BYTES ≤ c.payload.room) × HaveRoom cs
 
 -- The instructions run keep to the budget, the guest has these threads, each a number of its own, and there is a call for each of eight.
 pub record IsKept (count budget : ℕ) (tasks : List Task) (guest : List ℕ) (calls : List Call) : Type 0 where
@@ -31,5 +32,5 @@ pub record IsKept (count budget : ℕ) (tasks : List Task) (guest : List ℕ) (c
   pub same : 0 < length tasks → guest ≡ tids tasks
   pub apart : are_apart (tids tasks) ≡ true
   pub own : AreOwn tasks
-  pub eight : length calls ≡ 8
+  pub eight : length calls ≡ MOST_THREADS
   pub room : HaveRoom calls

@@ -1,10 +1,12 @@
 -- A process of up to eight threads, which take turns.
-use Rattle.std.specs.Prelude.{ℕ, zero, suc, ◌+◌, ◌-◌, ◌*◌, ◌%◌, ℤ, pos, negsuc, Bool, true, false, ◌==◌, ◌||◌, ◌&&◌, not, nat_lt, nat_le, min, List, [], ◌∷◌, ◌++◌, length, map, filter, Option, Some, None, Result, Ok, Err, is_some, slice_index, if◌then◌else◌}
+use Rattle.std.specs.Prelude.{ℕ, zero, suc, ◌+◌, ◌-◌, ◌*◌, ◌%◌, ℤ, pos, Bool, true, false, ◌==◌, ◌||◌, ◌&&◌, not, nat_lt, nat_le, min, List, [], ◌∷◌, ◌++◌, length, map, filter, Option, Some, None, Result, Ok, Err, is_some, slice_index, if◌then◌else◌}
 use Rattle.std.specs.Int.{w32, cast_signed}
 use Rattle.std.specs.List.{list_any}
 use Rattle.nv_calls.specs.Calls.{Request, Response}
 use Rattle.nv_calls.specs.Logs.{made}
-use Rattle.nv_calls.specs.Numbers.{is_local}
+use Rattle.nv_calls.specs.Numbers.{EXIT, EXIT_GROUP, is_local}
+use Rattle.nv_calls.specs.Errors.{EFAULT, EAGAIN, ENOSYS, EINVAL}
+use Rattle.nv_calls.specs.Limits.{FIRST_THREAD}
 use Rattle.nv_memory.specs.declared.region.Access.{Access}
 use Rattle.nv_memory.specs.declared.region.Width.TheVariants.{Four}
 use Rattle.nv_memory.specs.declared.region.Right.TheVariants.{Read}
@@ -91,8 +93,8 @@ turn_length = 1000
 abbrev pub started : Machine → ℕ → Proc
 started m budget = record {
   guest = one_thread m;
-  tasks = record { tid = 100; state = Runs } ∷ [];
-  turn = 100;
+  tasks = record { tid = FIRST_THREAD; state = Runs } ∷ [];
+  turn = FIRST_THREAD;
   slice = turn_length;
   left = budget;
   status = 0;
@@ -166,17 +168,17 @@ woke r = replied r.1 (pos r.0)
 abbrev pub waiting : Proc → ℕ → Proc
 waiting p address = passed (record p { tasks = with_state p.tasks p.turn (Waits address) })
 
--- EAGAIN where the word at the address is another
+-- the word at the address may be another
 abbrev pub futex_on : Proc → ℕ → ℕ → ℕ → Result ℕ Access → Proc
-futex_on p op address value (Err e) = replied p (negsuc 13)
+futex_on p op address value (Err e) = replied p EFAULT
 futex_on p op address value (Ok word) = if op == 1 then woke (woken (min value (length p.tasks)) address p)
-    else if word == value then waiting p address else replied p (negsuc 10)
+    else if word == value then waiting p address else replied p EAGAIN
 
--- FUTEX_WAIT, 0, without a timeout, and FUTEX_WAKE, 1; ENOSYS, EINVAL, EFAULT
+-- FUTEX_WAIT, 0, without a timeout, and FUTEX_WAKE, 1
 abbrev pub futex_by : Proc → ℕ → ℕ → ℕ → ℕ → Proc
 futex_by p op address value timeout =
-    if nat_lt 1 op || (op == 0 && not (timeout == 0)) then replied p (negsuc 37)
-    else if not (address % 4 == 0) then replied p (negsuc 21)
+    if nat_lt 1 op || (op == 0 && not (timeout == 0)) then replied p ENOSYS
+    else if not (address % 4 == 0) then replied p EINVAL
     else futex_on p op address value (loaded p.guest.memory address Four Read)
 
 abbrev pub futex : Proc → Proc
@@ -279,7 +281,7 @@ advanced w p = steps w (suc (most_steps p)) p
 -- ---- answers
 
 abbrev pub no_call : Request
-no_call = record { tid = 100; nr = 0; args = []; bad = false; payload = [] }
+no_call = record { tid = FIRST_THREAD; nr = 0; args = []; bad = false; payload = [] }
 
 abbrev pub call_in : Option State → Request
 call_in (Some (Asks call)) = call
@@ -307,8 +309,8 @@ with_child p tid (Some child) = record p { guest = cloned p.guest tid child; tas
 -- the answer to a call with this number, whose first argument ends in this byte
 abbrev pub outcome_of : Proc → ℕ → ℕ → ℕ → Response → Proc
 outcome_of p tid nr status r =
-    if nr == 94 then over p status
-    else if nr == 93 then left_by p tid status
+    if nr == EXIT_GROUP then over p status
+    else if nr == EXIT then left_by p tid status
     else goes_on (with_child p tid (made nr r.ret)) tid r
 
 -- the answer ends each reservation
@@ -324,7 +326,7 @@ waiting_calls (t ∷ ts) = (if asks t then 1 else 0) + waiting_calls ts
 
 abbrev pub is_sole : List ℕ → Bool
 is_sole [] = true
-is_sole (t ∷ []) = t == 100
+is_sole (t ∷ []) = t == FIRST_THREAD
 is_sole (t ∷ u ∷ ts) = false
 
 unfoldable pub threads : Behaviour Proc
@@ -338,5 +340,5 @@ threads = record {
   live = λ p. tids p.tasks;
   ended = λ p. if length p.tasks == 0 then Some p.status else None;
   calls_left = λ p. p.left + waiting_calls p.tasks;
-  is_alone = λ p. is_sole (tids p.tasks) && (p.turn == 100);
+  is_alone = λ p. is_sole (tids p.tasks) && (p.turn == FIRST_THREAD);
 }

@@ -15,24 +15,16 @@ use crate::tasks::{
 };
 use crate::{Came, FaultKind, Want};
 use arrayvec::ArrayVec;
-use nv_calls::{Bytes, Call};
+use nv_calls::errors::{EAGAIN, EFAULT, EINVAL, ENOSYS};
+use nv_calls::{Bytes, Call, EXIT, EXIT_GROUP, FIRST_THREAD, MOST_BYTES, MOST_THREADS, made};
 use nv_guest::{Asked, Guest};
 use nv_machine::Stepped;
 use nv_memory::Width;
 use std::alloc::{AllocError, Global};
 use std::marker::Model;
 
-/// The number of the first thread.
-const FIRST: u32 = 100;
-
-/// How many threads live at most.
-const MOST_THREADS: usize = 8;
-
 /// How many instructions a turn has.
 const TURN: u32 = 1000;
-
-/// The most bytes that a call hands in.
-const MOST_BYTES: u32 = 4096;
 
 /// A guest that runs, with a budget of instructions.
 #[derive(Drop)]
@@ -78,14 +70,14 @@ impl Process {
         let calls = eight_calls(alloc)?;
         let mut tasks = ArrayVec::new();
         tasks.push(Task {
-            tid: FIRST,
+            tid: FIRST_THREAD,
             doing: Doing::Runs,
         });
         Ok(Process {
             guest,
             tasks,
             calls,
-            turn: FIRST,
+            turn: FIRST_THREAD,
             slice: TURN,
             count: 0,
             budget,
@@ -301,13 +293,13 @@ impl Process {
         ensures { self.new ≡ futex_by self.old op address value timeout }
     {
         if op > 1 || (op == 0 && timeout != 0) {
-            return self.reply(-38);
+            return self.reply(ENOSYS);
         }
         if address % 4 != 0 {
-            return self.reply(-22);
+            return self.reply(EINVAL);
         }
         match self.guest.memory().load(address, Width::Four) {
-            Err(_) => self.reply(-14),
+            Err(_) => self.reply(EFAULT),
             Ok(word) => self.futex_on(op, address, value, word),
         }
     }
@@ -323,7 +315,7 @@ impl Process {
         } else if word == value {
             self.wait(address);
         } else {
-            self.reply(-11);
+            self.reply(EAGAIN);
         }
     }
 
@@ -405,8 +397,8 @@ impl Process {
         ensures { self.new ≡ outcome_of self.old tid nr status (record { ret = ret; payload = payload.now }) }
     {
         match nr {
-            94 => self.end(status),
-            93 => self.exit(tid, status),
+            EXIT_GROUP => self.end(status),
+            EXIT => self.exit(tid, status),
             _ => {
                 self.start(tid, nr, ret);
                 self.resume(tid, ret, payload);
@@ -478,17 +470,6 @@ impl Process {
     }
 }
 
-// The thread that this answer makes.
-fn made(nr: u32, ret: i32) -> Option<u32>
-    ensures { result ≡ made nr ret }
-{
-    if nr == 220 && ret > 0 {
-        Some(ret.cast_unsigned())
-    } else {
-        None
-    }
-}
-
 // The call at this place goes to the end.
 fn to_end(calls: &mut [Call], place: usize)
     requires { place < length calls.old }
@@ -515,7 +496,7 @@ fn roomy_call(alloc: Global) -> Result<Call, AllocError>
     ensures { IfOk result (λ call. MOST_BYTES ≤ call.payload.room) }
 {
     Ok(Call {
-        tid: FIRST,
+        tid: FIRST_THREAD,
         nr: 0,
         args: [0; 6],
         bad: false,

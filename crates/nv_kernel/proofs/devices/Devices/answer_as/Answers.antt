@@ -1,11 +1,16 @@
 use Rattle.std.proofs.Common.{◌≤◌, length, min, subst, ap, arith, nat_lt, slice_index_or}
 use Rattle.nv_calls.specs.Held.{Held}
-use Rattle.nv_calls.specs.declared.numbers.Syscall.TheVariants.{Pipe2, Llseek, Read, Readv, Uname}
+use Rattle.nv_calls.specs.declared.numbers.Syscall.TheVariants.{Getcwd, Pipe2, Llseek, Read, Readv, Uname}
+use Rattle.nv_calls.specs.Calls.{Response}
 use Rattle.nv_fs.specs.States.{Answer}
 use Rattle.nv_fs.proofs.FewLaws.{read_few, ends_few, seek_few}
 use Rattle.nv_kernel.specs.Serving.{Served}
-use Rattle.nv_kernel.proofs.Few.{few_as, few_by, names_are}
+use Rattle.nv_kernel.proofs.Few.{few_as, few_by, directory_few, names_are}
 use Rattle.nv_kernel.proofs.devices.Devices.answer_as.Goals as goal
+
+pub returns-in-Getcwd-clause-few : goal.returns-in-Getcwd-clause-few
+returns-in-Getcwd-clause-few c =
+    few_as c.args.syscall Getcwd _ _ c.in-Getcwd.is (subst (λ (r : Response). length r.payload ≤ min (slice_index_or c.args.call.now.args 1 0) 2) c.directory.ensures.reply (directory_few _))
 
 pub returns-in-Pipe2-clause-few : goal.returns-in-Pipe2-clause-few
 returns-in-Pipe2-clause-few c =

@@ -3,7 +3,8 @@ use mir.Syntax.{w32}
 use Rattle.std.proofs.lemmas.Int.{ints}
 use Rattle.nv_calls.specs.Calls.{Request, entry}
 use Rattle.nv_threads.specs.Threads.{threads, Proc}
-use Rattle.nv_replay.specs.Permits.{is_of_threads, failed}
+use Rattle.nv_calls.specs.Numbers.{is_of_threads}
+use Rattle.nv_replay.specs.Permits.{failed}
 use Rattle.nv_replay.specs.Versions.{Running}
 use Rattle.nv_replay.proofs.Obeying.{obeyed, is_refused, is_answered, failed_far, failed_threads, failed_gives}
 use Rattle.nv_replay.proofs.version.Version.fail_call.Goals as goal

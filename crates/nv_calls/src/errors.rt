@@ -6,6 +6,8 @@ pub const EBADF: i32 = -9;
 
 pub const EAGAIN: i32 = -11;
 
+pub const EFAULT: i32 = -14;
+
 pub const EEXIST: i32 = -17;
 
 pub const ENOTDIR: i32 = -20;
@@ -13,6 +15,8 @@ pub const ENOTDIR: i32 = -20;
 pub const EINVAL: i32 = -22;
 
 pub const EMFILE: i32 = -24;
+
+pub const ENOTTY: i32 = -25;
 
 pub const EFBIG: i32 = -27;
 
@@ -22,4 +26,8 @@ pub const ESPIPE: i32 = -29;
 
 pub const EPIPE: i32 = -32;
 
+pub const ERANGE: i32 = -34;
+
 pub const ENAMETOOLONG: i32 = -36;
+
+pub const ENOSYS: i32 = -38;

@@ -1,0 +1,29 @@
+-- How many bytes a call hands out at most, and where they go.
+use Rattle.std.specs.Prelude.{ℕ, min, List, slice_index, Option, Some, None}
+use Rattle.nv_calls.specs.declared.numbers.Syscall.{Syscall}
+use Rattle.nv_calls.specs.declared.numbers.Syscall.TheVariants.{Getcwd, Pipe2, Llseek, Read, Readv, Uname, Getrandom, ClockGettime64}
+use Rattle.nv_calls.specs.Limits.{MOST_BYTES}
+
+-- How many bytes a call with these arguments hands out at most, by its man page. The path `/` of getcwd has 2, and the fourth argument of
+-- readv is the room of its vectors.
+abbrev pub most_out_by : Syscall → List ℕ → ℕ
+most_out_by Getcwd args = min (slice_index args 1) 2
+most_out_by Pipe2 args = 8
+most_out_by Llseek args = 8
+most_out_by Read args = min (slice_index args 2) MOST_BYTES
+most_out_by Readv args = min (slice_index args 3) MOST_BYTES
+most_out_by Uname args = 390
+most_out_by Getrandom args = min (slice_index args 1) MOST_BYTES
+most_out_by ClockGettime64 args = 16
+most_out_by _ args = 0
+
+-- the argument that is the address of the place of the answer's bytes, unless vectors name it
+abbrev pub answer_slot : Syscall → Option ℕ
+answer_slot Getcwd = Some 0
+answer_slot Pipe2 = Some 0
+answer_slot Llseek = Some 3
+answer_slot Read = Some 1
+answer_slot Uname = Some 0
+answer_slot Getrandom = Some 0
+answer_slot ClockGettime64 = Some 1
+answer_slot _ = None

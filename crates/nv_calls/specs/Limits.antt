@@ -1,0 +1,26 @@
+-- The limits of a run.
+use Rattle.std.specs.Prelude.{ℕ}
+
+-- bytes that a call hands in and out together
+abbrev pub MOST_BYTES : ℕ
+MOST_BYTES = 4096
+
+-- vectors of a call: IOV_MAX (limits.h(0p))
+abbrev pub MOST_VECTORS : ℕ
+MOST_VECTORS = 1024
+
+-- bytes of a path that are read
+abbrev pub MOST_PATH : ℕ
+MOST_PATH = 256
+
+-- the thread that lives at the start
+abbrev pub FIRST_THREAD : ℕ
+FIRST_THREAD = 100
+
+-- threads that live at once
+abbrev pub MOST_THREADS : ℕ
+MOST_THREADS = 8
+
+-- entries of a log
+abbrev pub MOST_EVENTS : ℕ
+MOST_EVENTS = 131072

@@ -1,0 +1,37 @@
+// How many bytes a call hands out, and where they go.
+ghost use Rattle.std.specs.Prelude.{◌≡◌, ◌≤◌, IfSome};
+ghost use Rattle.nv_calls.specs.Answers.{most_out_by, answer_slot};
+
+use crate::limits::MOST_BYTES;
+use crate::numbers::Syscall;
+
+impl Syscall {
+    /// How many bytes the call hands out at most, with these arguments.
+    pub fn most_out(self, args: &[u32; 6]) -> u32
+        ensures { result ≡ most_out_by self args.now }
+    {
+        match self {
+            Syscall::Getcwd => args[1].min(2),
+            Syscall::Pipe2 | Syscall::Llseek => 8,
+            Syscall::Read => args[2].min(MOST_BYTES),
+            Syscall::Readv => args[3].min(MOST_BYTES),
+            Syscall::Uname => 390,
+            Syscall::Getrandom => args[1].min(MOST_BYTES),
+            Syscall::ClockGettime64 => 16,
+            _ => 0,
+        }
+    }
+
+    /// The argument that is the address of the place of the answer's bytes, unless vectors name it.
+    pub fn answer_slot(self) -> Option<u8>
+        ensures is { result ≡ answer_slot self }
+        ensures inside { IfSome result (λ slot. slot ≤ 5) }
+    {
+        match self {
+            Syscall::Getcwd | Syscall::Pipe2 | Syscall::Uname | Syscall::Getrandom => Some(0),
+            Syscall::Read | Syscall::ClockGettime64 => Some(1),
+            Syscall::Llseek => Some(3),
+            _ => None,
+        }
+    }
+}
