@@ -1,27 +1,21 @@
 -- pipe(2), pipe(7).
-use Rattle.std.specs.Prelude.{ℕ, pos, ◌+◌, Bool, true, false, not, ◌==◌, bit_and, [], ◌++◌, length, drop, Option, Some, None, is_none, option_map, if◌then◌else◌}
+use Rattle.std.specs.Prelude.{ℕ, pos, ◌+◌, true, false, ◌==◌, bit_and, [], ◌++◌, length, drop, Option, Some, None, is_none, option_map, if◌then◌else◌}
 use Rattle.std.specs.List.{position_from}
 use Rattle.std.specs.Int.{to_le_bytes, w32}
-use Rattle.nv_fs.specs.declared.open_file.OpenFile.{OpenFile}
-use Rattle.nv_fs.specs.declared.open_file.Target.{Target}
 use Rattle.nv_fs.specs.declared.open_file.Target.TheVariants.{Reader, Writer}
 use Rattle.nv_calls.specs.Errors.{EINVAL, EMFILE}
-use Rattle.nv_fs.specs.States.{State, Answer, answer, only, install, is_pipe, least_free, with_at}
+use Rattle.nv_fs.specs.States.{State, Answer, answer, only, install, is_pipe, least_free, one_way, with_at}
 use Rattle.nv_fs.specs.Closes.{free_descriptor}
 
 unfoldable pub free_pipe : State → ℕ
 free_pipe s = least_free (is_pipe s) (length s.pipes) 0
-
--- an end of a pipe
-abbrev pub end_of : Target → Bool → OpenFile
-end_of target reads = record { target = target; offset = 0; reads = reads; writes = not reads; appends = false }
 
 -- an empty pipe
 abbrev pub with_empty : State → ℕ → State
 with_empty s k = record s { pipes = with_at s.pipes k [] }
 
 abbrev pub with_ends : State → ℕ → ℕ → ℕ → State
-with_ends s k reading writing = install (install (with_empty s k) reading (end_of (Reader k) true)) writing (end_of (Writer k) false)
+with_ends s k reading writing = install (install (with_empty s k) reading (one_way (Reader k) true)) writing (one_way (Writer k) false)
 
 -- the least free descriptor above another
 abbrev pub free_above : State → ℕ → Option ℕ

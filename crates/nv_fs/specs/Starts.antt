@@ -1,14 +1,9 @@
 -- The state that a run begins with.
-use Rattle.std.specs.Prelude.{ℕ, Bool, true, false, not, List, [], ◌∷◌, replicate, Option, Some, None}
+use Rattle.std.specs.Prelude.{ℕ, true, false, List, [], ◌∷◌, replicate, Option, Some, None}
 use Rattle.std.specs.Global.{Vec}
 use Rattle.nv_fs.specs.declared.open_file.OpenFile.{OpenFile}
-use Rattle.nv_fs.specs.declared.open_file.Target.{Target}
 use Rattle.nv_fs.specs.declared.open_file.Target.TheVariants.{Input, Console}
-use Rattle.nv_fs.specs.States.{State, Inode}
-
--- an open file that is only read or only written
-abbrev pub standard : Target → Bool → OpenFile
-standard target reads = record { target = target; offset = 0; reads = reads; writes = not reads; appends = false }
+use Rattle.nv_fs.specs.States.{State, Inode, one_way}
 
 -- a file of a name and its bytes
 abbrev pub inode_from : Vec ℕ × Vec ℕ → Inode
@@ -19,7 +14,7 @@ unfoldable pub first_descriptors : List (Option ℕ)
 first_descriptors = Some 0 ∷ Some 1 ∷ Some 1 ∷ replicate 61 None
 
 abbrev pub first_opens : List OpenFile
-first_opens = standard Input true ∷ standard Console false ∷ []
+first_opens = one_way Input true ∷ one_way Console false ∷ []
 
 -- what a run begins with, from the input and the files
 abbrev pub first_state : List ℕ → List Inode → State

@@ -1,5 +1,5 @@
 -- Descriptors, open file descriptions and files (open(2), "Open file descriptions"; path_resolution(7)), as lists whose places are the numbers.
-use Rattle.std.specs.Prelude.{ℕ, zero, suc, ℤ, ◌+◌, Bool, false, ◌||◌, ◌==◌, nat_lt, List, [], ◌∷◌, ◌++◌, length, Option, Some, None, is_some, slice_get, slice_index_or, slice_set, option_map, if◌then◌else◌}
+use Rattle.std.specs.Prelude.{ℕ, zero, suc, ℤ, ◌+◌, Bool, false, not, ◌||◌, ◌==◌, nat_lt, List, [], ◌∷◌, ◌++◌, length, Option, Some, None, is_some, slice_get, slice_index_or, slice_set, option_map, if◌then◌else◌}
 use Rattle.std.specs.List.{list_any}
 use Rattle.nv_fs.specs.declared.open_file.OpenFile.{OpenFile}
 use Rattle.nv_fs.specs.declared.open_file.Target.{Target}
@@ -43,6 +43,10 @@ open_of s fd = numbered s.opens (slice_index_or s.descriptors fd None)
 
 abbrev pub is_open : State → ℕ → Bool
 is_open s fd = is_some (open_of s fd)
+
+-- an open file that is only read or only written, from its beginning on
+abbrev pub one_way : Target → Bool → OpenFile
+one_way target reads = record { target = target; offset = 0; reads = reads; writes = not reads; appends = false }
 
 abbrev pub is_target : Target → Target → Bool
 is_target (File i) (File j) = i == j

@@ -1,5 +1,5 @@
 // The tables, and what they are at the start.
-ghost use Rattle.std.specs.Prelude.{◌≡◌, IfOk, Bool, not, map, vec_len};
+ghost use Rattle.std.specs.Prelude.{◌≡◌, IfOk, map, vec_len};
 ghost use Rattle.nv_fs.specs.Views.{inode_of};
 ghost use Rattle.nv_fs.specs.States.{is_open};
 ghost use Rattle.nv_fs.specs.Starts.{first_state, first_descriptors, first_opens, inode_from};
@@ -54,19 +54,6 @@ fn zeros(alloc: Global, n: usize) -> Result<Vec<u8>, AllocError>
     vec![in alloc; 0; n]
 }
 
-// The open files that every run begins with.
-fn standard(target: Target, reads: bool) -> OpenFile
-    ensures { result ≡ record { target = target; offset = 0; reads = reads; writes = not reads; appends = Bool.false } }
-{
-    OpenFile {
-        target,
-        offset: 0,
-        reads,
-        writes: !reads,
-        appends: false,
-    }
-}
-
 #[tactic(auto, unfolding(crate::specs::Starts::first_descriptors))]
 fn first_descriptors() -> [Option<usize>; 64]
     ensures { result ≡ first_descriptors }
@@ -82,8 +69,8 @@ fn first_opens(alloc: Global) -> Result<Vec<OpenFile>, AllocError>
     ensures { IfOk result (λ made. made.items ≡ first_opens) }
 {
     let mut opens = Vec::new(alloc);
-    opens.push(standard(Target::Input, true))?;
-    opens.push(standard(Target::Console, false))?;
+    opens.push(OpenFile::one_way(Target::Input, true))?;
+    opens.push(OpenFile::one_way(Target::Console, false))?;
     Ok(opens)
 }
 

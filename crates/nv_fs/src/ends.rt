@@ -3,7 +3,7 @@ ghost use Rattle.std.specs.Prelude.{◌≡◌, ◌+◌, ◌≤◌, ◌<◌, [], 
 ghost use Rattle.std.specs.List.{position_from};
 ghost use Rattle.std.specs.Int.{to_le_bytes, w32};
 ghost use Rattle.nv_fs.specs.States.{answer, with_at};
-ghost use Rattle.nv_fs.specs.Ends.{pipe_of, pipe_on, with_ends, with_empty, free_above, end_of, free_pipe};
+ghost use Rattle.nv_fs.specs.Ends.{pipe_of, pipe_on, with_ends, with_empty, free_above, free_pipe};
 ghost use Rattle.nv_fs.specs.Rooms.{CanPipe};
 ghost use Rattle.nv_fs.specs.Views.{items_of};
 
@@ -17,18 +17,6 @@ use std::alloc::{AllocError, Global};
 
 /// O_CLOEXEC and O_NONBLOCK, which change nothing here.
 const FLAGS: u32 = 0x80800;
-
-fn end_of(target: Target, reads: bool) -> OpenFile
-    ensures { result ≡ end_of target reads }
-{
-    OpenFile {
-        target,
-        offset: 0,
-        reads,
-        writes: !reads,
-        appends: false,
-    }
-}
 
 // Both numbers in four bytes each.
 fn pair(reading: u32, writing: u32) -> [u8; 8]
@@ -93,8 +81,8 @@ impl FileSystem {
     {
         let k = self.free_pipe();
         self.make_pipe(k);
-        self.install(reading, end_of(Target::Reader(k), true));
-        self.install(writing, end_of(Target::Writer(k), false));
+        self.install(reading, OpenFile::one_way(Target::Reader(k), true));
+        self.install(writing, OpenFile::one_way(Target::Writer(k), false));
     }
 
     /// pipe2(2). The reading and the writing descriptor are handed out in 4 bytes each.

@@ -1,6 +1,6 @@
 // What descriptors name.
 ghost use Rattle.std.specs.Prelude.{◌≡◌};
-ghost use Rattle.nv_fs.specs.States.{is_target};
+ghost use Rattle.nv_fs.specs.States.{is_target, one_way};
 
 /// What an open file is of: the input, the console, a file by its number, or an end of a pipe by its number.
 #[derive(Clone, Copy)]
@@ -34,4 +34,19 @@ pub struct OpenFile {
     pub reads: bool,
     pub writes: bool,
     pub appends: bool,
+}
+
+impl OpenFile {
+    /// What is only read or only written, from its beginning on.
+    pub fn one_way(target: Target, reads: bool) -> OpenFile
+        ensures { result ≡ one_way target reads }
+    {
+        OpenFile {
+            target,
+            offset: 0,
+            reads,
+            writes: !reads,
+            appends: false,
+        }
+    }
 }

@@ -8,9 +8,9 @@ use Rattle.std.proofs.lemmas.List.{get_or-set_same, get_or-set_other}
 use Rattle.nv_fs.specs.declared.open_file.OpenFile.{OpenFile}
 use Rattle.nv_fs.specs.declared.open_file.Target.TheVariants.{File, Reader, Writer}
 use Rattle.nv_calls.specs.Errors.{ENOENT, EBADF, EEXIST, ENOTDIR, EINVAL, EMFILE, ENOSPC, ENAMETOOLONG}
-use Rattle.nv_fs.specs.States.{State, Inode, Answer, only, open_of, numbered, opens_to, is_number, is_shared, is_kept, file_at, free_open, install}
+use Rattle.nv_fs.specs.States.{one_way, State, Inode, Answer, only, open_of, numbered, opens_to, is_number, is_shared, is_kept, file_at, free_open, install}
 use Rattle.nv_fs.specs.Closes.{dup_of, dup_open, share, free_descriptor}
-use Rattle.nv_fs.specs.Ends.{pipe_of, pipe_from, pipe_on, free_pipe, free_above, with_empty, end_of}
+use Rattle.nv_fs.specs.Ends.{pipe_of, pipe_from, pipe_on, free_pipe, free_above, with_empty}
 use Rattle.nv_fs.specs.Names.{Resolved, Refused, Named, resolved, name_of, name_in, component_of, file_of, is_open_at, is_cwd, is_absolute}
 use Rattle.nv_fs.specs.Opened.{open_at_of, open_resolved, open_unless, open_at_descriptor, open_file, opened, create, truncated, with_file, free_file, is_refused, has_flag}
 use Rattle.nv_fs.specs.Stored.{with_content}
@@ -193,11 +193,11 @@ doubles s fd = by (open_of s fd) refl
     by (Some o) e = onto (free_descriptor s) o e refl
 
 -- pipe
-descriptors_between : (s : State) (reading : ℕ) → length (install (with_empty s (free_pipe s)) reading (end_of (Reader (free_pipe s)) true)).descriptors ≡ length s.descriptors
+descriptors_between : (s : State) (reading : ℕ) → length (install (with_empty s (free_pipe s)) reading (one_way (Reader (free_pipe s)) true)).descriptors ≡ length s.descriptors
 unfolding install
 descriptors_between s reading = length-set s.descriptors reading (Some (free_open (with_empty s (free_pipe s))))
 
-free_between : (s : State) (reading writing : ℕ) → writing ≢ reading → number_at s writing ≡ None → number_at (install (with_empty s (free_pipe s)) reading (end_of (Reader (free_pipe s)) true)) writing ≡ None
+free_between : (s : State) (reading writing : ℕ) → writing ≢ reading → number_at s writing ≡ None → number_at (install (with_empty s (free_pipe s)) reading (one_way (Reader (free_pipe s)) true)) writing ≡ None
 unfolding install
 free_between s reading writing other free = get_or-set_other s.descriptors reading writing (Some (free_open (with_empty s (free_pipe s)))) None other ∙ free
 
@@ -206,8 +206,8 @@ has_piped : (s : State) (reading writing : ℕ) → IsSound s → reading < leng
 unfolding install
 has_piped s reading writing h l free above l' free' =
     let k = free_pipe s in
-    let one = end_of (Reader k) true in
-    let two = end_of (Writer k) false in
+    let one = one_way (Reader k) true in
+    let two = one_way (Writer k) false in
     let middle = install (with_empty s k) reading one in
     let other : writing ≢ reading = (λ e. omega (arith, e)) in
     let inside : writing < length middle.descriptors = omega (arith, descriptors_between s reading) in

@@ -7,10 +7,10 @@ use Rattle.nv_fs.specs.declared.open_file.OpenFile.{OpenFile}
 use Rattle.nv_fs.specs.declared.open_file.Target.{Target}
 use Rattle.nv_fs.specs.declared.open_file.Target.TheVariants.{Input, Console, File, Reader, Writer}
 use Rattle.nv_calls.specs.Errors.{EBADF, EINVAL, ENOSPC}
-use Rattle.nv_fs.specs.States.{State, Inode, Answer, only, open_of, file_at, free_open, install, with_at, moved_to}
-use Rattle.nv_fs.specs.Starts.{first_state, first_descriptors, first_opens, standard}
+use Rattle.nv_fs.specs.States.{one_way, State, Inode, Answer, only, open_of, file_at, free_open, install, with_at, moved_to}
+use Rattle.nv_fs.specs.Starts.{first_state, first_descriptors, first_opens}
 use Rattle.nv_fs.specs.Closes.{close_of, close_open, dup_of, dup_open, dup3_of, dup_onto, share, shared_at, free_descriptor, with_descriptor}
-use Rattle.nv_fs.specs.Ends.{pipe_of, pipe_from, pipe_on, free_pipe, free_above, with_empty, with_ends, end_of}
+use Rattle.nv_fs.specs.Ends.{pipe_of, pipe_from, pipe_on, free_pipe, free_above, with_empty, with_ends}
 use Rattle.nv_fs.specs.Names.{Resolved, Refused, Named, resolved, file_of, is_named}
 use Rattle.nv_fs.specs.Opened.{open_at_of, open_resolved, open_unless, open_at_descriptor, open_file, opened, create, truncated, with_file, free_file, is_refused, has_flag, unlink_at_of, unlink_resolved, unlink_file}
 use Rattle.nv_fs.specs.Seeks.{seek_of}
@@ -131,8 +131,8 @@ first_is_sound input files = record { count = refl; descriptors = named; opens =
     named (suc (suc (suc d))) n e = let clash : Some n ≡ None = sym e ∙ none_left 61 d in cc
 
     standing : (n : ℕ) (o : OpenFile) → slice_get first_opens n ≡ Some o → StandsIn (length files) 0 o.target
-    standing zero o e = subst (λ (x : OpenFile). StandsIn (length files) 0 x.target) (some_is (standard Input true) o e) tt
-    standing (suc zero) o e = subst (λ (x : OpenFile). StandsIn (length files) 0 x.target) (some_is (standard Console false) o e) tt
+    standing zero o e = subst (λ (x : OpenFile). StandsIn (length files) 0 x.target) (some_is (one_way Input true) o e) tt
+    standing (suc zero) o e = subst (λ (x : OpenFile). StandsIn (length files) 0 x.target) (some_is (one_way Console false) o e) tt
     standing (suc (suc n)) o e = cc
 
 -- close, dup and dup3
@@ -175,13 +175,13 @@ with_pipe_is_sound s h = grown s s.files (with_at s.pipes (free_pipe s) []) s.in
 pub pipe_there : (s : State) → free_pipe s < length (with_empty s (free_pipe s)).pipes
 pipe_there s = with_inside s.pipes (free_pipe s) [] (free_pipe_near s)
 
-pub first_end_is_sound : (s : State) (fd : ℕ) → IsSound s → IsSound (install (with_empty s (free_pipe s)) fd (end_of (Reader (free_pipe s)) true))
-first_end_is_sound s fd h = installed (with_empty s (free_pipe s)) fd (end_of (Reader (free_pipe s)) true) (with_pipe_is_sound s h) (pipe_there s)
+pub first_end_is_sound : (s : State) (fd : ℕ) → IsSound s → IsSound (install (with_empty s (free_pipe s)) fd (one_way (Reader (free_pipe s)) true))
+first_end_is_sound s fd h = installed (with_empty s (free_pipe s)) fd (one_way (Reader (free_pipe s)) true) (with_pipe_is_sound s h) (pipe_there s)
 
 second_end_is_sound : (s : State) (reading writing : ℕ) → IsSound s → IsSound (with_ends s (free_pipe s) reading writing)
 unfolding install
 second_end_is_sound s reading writing h =
-    installed (install (with_empty s (free_pipe s)) reading (end_of (Reader (free_pipe s)) true)) writing (end_of (Writer (free_pipe s)) false) (first_end_is_sound s reading h) (pipe_there s)
+    installed (install (with_empty s (free_pipe s)) reading (one_way (Reader (free_pipe s)) true)) writing (one_way (Writer (free_pipe s)) false) (first_end_is_sound s reading h) (pipe_there s)
 
 pub piped_is_sound : (s : State) (flags : ℕ) → IsSound s → IsSound (pipe_of s flags).state
 unfolding pipe_of

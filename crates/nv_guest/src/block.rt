@@ -8,8 +8,8 @@ ghost use Rattle.nv_guest.specs.Load.{texts_of, IsMemorySize};
 
 use nv_memory::Memory;
 
-/// The most bytes that the block may have.
-const STACK: u32 = 65536;
+/// The size of the stack, at the top of the memory: the block has no more bytes.
+pub(crate) const STACK: u32 = 65536;
 
 /// The text and the 0 byte of argument 0.
 const NAME: [u8; 6] = *b"guest\0";
