@@ -5,7 +5,7 @@ use Rattle.std.proofs.lemmas.Bool.{and_from}
 use Rattle.std.proofs.lemmas.Bool.Decides.{nat_tests}
 use Rattle.nv_text.specs.Lines.{lines}
 use Rattle.nv_text.specs.Names.{defined}
-use Rattle.nv_elf.specs.Elf.{Range, Image, range_extent, shares, overlap_from, holds_entry, is_entry}
+use Rattle.nv_elf.specs.Elf.{Range, Executable, range_extent, shares, overlap_from, holds_entry, is_entry}
 use Rattle.nv_elf.specs.Written.{is_program, is_sound, bytes_in}
 use Rattle.nv_asm.specs.declared.fault.AsmCause.{AsmCause}
 use Rattle.nv_asm.specs.declared.fault.AsmCause.TheVariants as cause
@@ -66,7 +66,7 @@ assembled-short names text_len text h e short =
 
 -- ---- a program
 
-abbrev pub image : ℕ → ℕ → List ℕ → List ℕ → Image
+abbrev pub image : ℕ → ℕ → List ℕ → List ℕ → Executable
 image text_len entry text contents = record { entry = entry; ranges = text_range text ∷ data_ranges text_len contents }
 
 by-program : (w : Whole) (ps : List Placed) (found : Option (ℕ × AsmCause)) → found ≡ None → 4 ≤ w.text_len → meaning_by w ps found ≡ Ok (program w ps)

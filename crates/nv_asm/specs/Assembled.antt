@@ -4,7 +4,7 @@ use Rattle.std.specs.List.{list_any}
 use Rattle.std.specs.Int.{next_multiple_of, w32, to_le_bytes}
 use Rattle.nv_isa.specs.declared.op.Op.TheVariants as op
 use Rattle.nv_isa.specs.Spelling.{encoded}
-use Rattle.nv_elf.specs.Elf.{Range, Image}
+use Rattle.nv_elf.specs.Elf.{Range, Executable}
 use Rattle.nv_text.specs.Lines.{lines, line_number}
 use Rattle.nv_text.specs.Names.{defined, definitions, first_fault}
 use Rattle.nv_asm.specs.declared.fault.AsmCause.{AsmCause}
@@ -171,26 +171,26 @@ abbrev pub data_ranges : ℕ → List ℕ → List Range
 data_ranges text_len [] = []
 data_ranges text_len (b ∷ bs) = record { address = data_base text_len; size = length (b ∷ bs); read = true; write = true; execute = false; bytes = b ∷ bs } ∷ []
 
-abbrev pub program : Whole → List Placed → Image
+abbrev pub program : Whole → List Placed → Executable
 program w ps = record { entry = entry_of w text_base ps; ranges = text_range (section_bytes w section.Text ps) ∷ data_ranges w.text_len (section_bytes w section.Data ps) }
 
 abbrev pub first_cause : Whole → List Placed → Option (ℕ × AsmCause)
 first_cause w ps = first_fault 0 (map (λ p. cause_of (laid w p)) ps)
 
 -- a text without room for an instruction is a fault of line 1
-abbrev pub meaning_by : Whole → List Placed → Option (ℕ × AsmCause) → Result Image AsmFault
+abbrev pub meaning_by : Whole → List Placed → Option (ℕ × AsmCause) → Result Executable AsmFault
 meaning_by w ps (Some f) = Err (fault.Line (line_number f.0) f.1)
 meaning_by w ps None = if nat_lt w.text_len 4 then Err (fault.Line 1 cause.Range) else Ok (program w ps)
 
-unfoldable pub meaning : Whole → List Placed → Result Image AsmFault
+unfoldable pub meaning : Whole → List Placed → Result Executable AsmFault
 meaning w ps = meaning_by w ps (first_cause w ps)
 
 abbrev pub whole_of : List Placed → Whole
 whole_of ps = record { find = defined (definitions (map marked ps)); text_len = (ended start ps).text_len }
 
-abbrev pub assembled_lines : List Placed → Result Image AsmFault
+abbrev pub assembled_lines : List Placed → Result Executable AsmFault
 assembled_lines ps = meaning (whole_of ps) ps
 
 -- the program of a text, or its first fault
-unfoldable pub assembled : List ℕ → Result Image AsmFault
+unfoldable pub assembled : List ℕ → Result Executable AsmFault
 assembled text = assembled_lines (placed 0 start (lines text))

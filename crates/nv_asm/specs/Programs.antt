@@ -2,7 +2,7 @@
 use Rattle.std.specs.Prelude.{◌≡◌, ℕ, ◌+◌, ◌-◌, ◌%◌, ◌≤◌, List, ◌++◌, length, Option, None, option_map, Result, Ok, Err}
 use Rattle.nv_text.specs.Lines.{line_number}
 use Rattle.nv_elf.specs.declared.program.Program.{Program}
-use Rattle.nv_elf.specs.Elf.{Image, image_of}
+use Rattle.nv_elf.specs.Elf.{Executable, executable_of}
 use Rattle.nv_asm.specs.declared.fault.AsmCause.{AsmCause}
 use Rattle.nv_asm.specs.declared.fault.AsmFault.{AsmFault}
 use Rattle.nv_asm.specs.declared.fault.AsmFault.TheVariants as fault
@@ -11,8 +11,8 @@ use Rattle.nv_asm.specs.declared.place.Section.TheVariants as section
 use Rattle.nv_asm.specs.Places.{Placed, stated, after, ended, start}
 use Rattle.nv_asm.specs.Assembled.{Whole, laid, laid_in, entry_past, text_base, first_cause, section_bytes, entry_of}
 
-abbrev pub program_view : Result Program AsmFault → Result Image AsmFault
-program_view (Ok p) = Ok (image_of p)
+abbrev pub program_view : Result Program AsmFault → Result Executable AsmFault
+program_view (Ok p) = Ok (executable_of p)
 program_view (Err f) = Err f
 
 abbrev pub fault_of : Option (ℕ × AsmCause) → Option AsmFault

@@ -2,7 +2,7 @@
 ghost use Rattle.std.specs.Prelude.{◌≡◌, ◌^◌, ◌∷◌, true, not, ◌≢◌, ◌≤◌, ◌<◌, ◌+◌, ◌++◌, ◌%◌, Some, Ok, Err, IsTrue, IfOk, IfErr, OnOk, vec_len, length};
 ghost use Rattle.nv_text.specs.Lines.{lines};
 ghost use Rattle.nv_text.specs.Names.{defined};
-ghost use Rattle.nv_elf.specs.Elf.{range_of, image_of};
+ghost use Rattle.nv_elf.specs.Elf.{range_of, executable_of};
 ghost use Rattle.nv_elf.specs.Written.{is_program, bytes_in};
 ghost use Rattle.nv_asm.specs.declared.place.Section.TheVariants as section;
 ghost use Rattle.nv_asm.specs.Places.{placed, placed_line, start};
@@ -111,7 +111,7 @@ fn program(alloc: Global, text_len: u128, laid: Laid) -> Result<Program, AllocEr
     requires entry { IsEntryAt text_len laid.entry }
     requires text_len { length laid.text.items ≡ text_len }
     requires short { length laid.text.items + length laid.data.items ≤ 1048576 }
-    ensures { IfOk result (λ program. image_of program ≡ record { entry = laid.entry; ranges = text_range laid.text.items ∷ data_ranges text_len laid.data.items }) }
+    ensures { IfOk result (λ program. executable_of program ≡ record { entry = laid.entry; ranges = text_range laid.text.items ∷ data_ranges text_len laid.data.items }) }
 {
     let Laid {
         text: code,
@@ -134,8 +134,8 @@ pub fn assemble(alloc: Global, text: &[u8]) -> Result<Program, AsmFault>
     // want of memory is the one free answer
     ensures program { result ≢ Err AsmFault.Memory → program_view result ≡ assembled text.now }
     // so `nv_elf::write` takes it
-    ensures sound { IfOk result (λ program. IsTrue (is_program (image_of program))) }
-    ensures small { IfOk result (λ program. bytes_in (image_of program).ranges ≤ 1048576) }
+    ensures sound { IfOk result (λ program. IsTrue (is_program (executable_of program))) }
+    ensures small { IfOk result (λ program. bytes_in (executable_of program).ranges ≤ 1048576) }
 {
     let (names, text_len) = labels(alloc, text)?;
     let laid = lay(alloc, &names, text_len, text)?;

@@ -4,7 +4,7 @@ use Rattle.std.specs.Prelude.{slice_get, slice_index_or, All}
 use Rattle.std.specs.List.{list_any}
 use Rattle.std.proofs.lemmas.List.{length-map, take_more}
 use Rattle.std.proofs.lemmas.Option.{same_Some}
-use Rattle.nv_elf.specs.Elf.{Image, Accepted}
+use Rattle.nv_elf.specs.Elf.{Executable, Accepted}
 use Rattle.nv_gen.specs.Made.{numbers_of}
 use Rattle.nv_gen.specs.Plans.{read_of}
 use Rattle.nv_gen.specs.Programs.{programs}
@@ -66,8 +66,8 @@ from_more setup (f ∷ files) [] file version all h = absurd all
 from_more setup (f ∷ files) (v ∷ versions) file version all h = (all.0, from_more setup files versions file version all.1 h)
 
 -- the files of a number's programs can be loaded
-here : (files : List (Vec ℕ Global)) (images : List Image) (k : ℕ) (d : Vec ℕ Global) → map read_of files ≡ map Accepted images → k < length files
-    → (image : Image) × (slice_get images k ≡ Some image) × (read_of (slice_index_or files k d) ≡ Accepted image)
+here : (files : List (Vec ℕ Global)) (images : List Executable) (k : ℕ) (d : Vec ℕ Global) → map read_of files ≡ map Accepted images → k < length files
+    → (image : Executable) × (slice_get images k ≡ Some image) × (read_of (slice_index_or files k d) ≡ Accepted image)
 here [] images k d e small = absurd (omega arith)
 here (file ∷ files) [] k d e small = cc
 here (file ∷ files) (image ∷ images) zero d e small = (image, refl, cc)

@@ -6,7 +6,7 @@ use Rattle.nv_bpf.specs.declared.op.FilterFault.{FilterFault}
 use Rattle.nv_bpf.specs.Texts.{filter_of, text_of}
 use Rattle.nv_bpf_asm.specs.declared.fault.RuleFault.{RuleFault}
 use Rattle.nv_bpf_asm.specs.Assembled.{assembled}
-use Rattle.nv_elf.specs.Elf.{Image}
+use Rattle.nv_elf.specs.Elf.{Executable}
 use Rattle.nv_elf.specs.Written.{file_of}
 use Rattle.nv_asm.specs.declared.fault.AsmFault.{AsmFault}
 use Rattle.nv_asm.specs.Assembled as asm
@@ -30,7 +30,7 @@ abbrev pub of_rules : Result (List Op) RuleFault → Result (List ℕ) Cause
 of_rules (Ok ops) = Ok (text_of ops)
 of_rules (Err fault) = Err (Rules fault)
 
-abbrev pub of_program : Result Image AsmFault → Result (List ℕ) Cause
+abbrev pub of_program : Result Executable AsmFault → Result (List ℕ) Cause
 of_program (Ok image) = Ok (file_of image)
 of_program (Err fault) = Err (Asm fault)
 

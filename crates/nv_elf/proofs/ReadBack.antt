@@ -6,16 +6,16 @@ use Rattle.std.proofs.lemmas.Bool.Decides.{nat_tests}
 use Rattle.byteorder.specs.Numbers.{little_number-reads_back}
 use Rattle.nv_bytes.specs.Fields.{field_at}
 use Rattle.nv_elf.specs.declared.header.ProgramHeader.{ProgramHeader}
-use Rattle.nv_elf.specs.Elf.{Range, Image, elf_of, Accepted, file_fault, table_fault, loadables_fault, has_magic, has_class, has_versions, has_table, headers_of, loadables_of, entry_at, is_loadable, range_in, range_extent, overlap_from, is_entry}
+use Rattle.nv_elf.specs.Elf.{Range, Executable, elf_of, Accepted, file_fault, table_fault, loadables_fault, has_magic, has_class, has_versions, has_table, headers_of, loadables_of, entry_at, is_loadable, range_in, range_extent, overlap_from, is_entry}
 use Rattle.nv_elf.specs.Written.{is_program, is_sound, bytes_in, file_header, table_from, contents_from, contents_at, end_from, file_of}
 use Rattle.nv_elf.proofs.Tables.{headers_for, headers-read, ranges-read, length-table_from, length-contents_from, filter-headers_for, length-headers_for, none-interpreted, none-outside, overlap-same, entry-same, end-above, end-below}
 
 -- what a program is
-pub program-few : (p : Image) → is_program p ≡ true → length p.ranges ≤ 16
+pub program-few : (p : Executable) → is_program p ≡ true → length p.ranges ≤ 16
 unfolding is_program
 program-few p sound = let few = (and_parts (nat_le (length p.ranges) 16) _ sound).0 in grind (arith, nat_tests)
 
-pub program-sound : (p : Image) → is_program p ≡ true → list_all is_sound p.ranges ≡ true
+pub program-sound : (p : Executable) → is_program p ≡ true → list_all is_sound p.ranges ≡ true
 unfolding is_program
 program-sound p sound = (and_parts (list_all is_sound p.ranges) _ (and_parts (nat_le (length p.ranges) 16) _ sound).1).0
 
@@ -23,12 +23,12 @@ none-from_test : {A : Type 0} (o : Option A) → is_none o ≡ true → o ≡ No
 none-from_test None e = refl
 none-from_test (Some x) e = cc
 
-pub program-apart : (p : Image) → is_program p ≡ true → overlap_from range_extent 0 p.ranges ≡ None
+pub program-apart : (p : Executable) → is_program p ≡ true → overlap_from range_extent 0 p.ranges ≡ None
 unfolding is_program
 program-apart p sound = none-from_test (overlap_from range_extent 0 p.ranges)
     (and_parts (is_none (overlap_from range_extent 0 p.ranges)) _ (and_parts (list_all is_sound p.ranges) _ (and_parts (nat_le (length p.ranges) 16) _ sound).1).1).0
 
-pub program-entry : (p : Image) → is_program p ≡ true → is_entry range_extent p.entry p.ranges ≡ true
+pub program-entry : (p : Executable) → is_program p ≡ true → is_entry range_extent p.entry p.ranges ≡ true
 unfolding is_program
 program-entry p sound =
     (and_parts (is_none (overlap_from range_extent 0 p.ranges)) _ (and_parts (list_all is_sound p.ranges) _ (and_parts (nat_le (length p.ranges) 16) _ sound).1).1).1
@@ -106,7 +106,7 @@ table-none place ranges sound few =
     let most : nat_lt 16 (length (headers_for place ranges)) ≡ false = grind (arith, nat_tests) in
     rw (most, none-interpreted place ranges) refl
 
-loadables-none : (len place : ℕ) (p : Image) → is_program p ≡ true → end_from place p.ranges ≤ len → loadables_fault len p.entry (headers_for place p.ranges) ≡ None
+loadables-none : (len place : ℕ) (p : Executable) → is_program p ≡ true → end_from place p.ranges ≤ len → loadables_fault len p.entry (headers_for place p.ranges) ≡ None
 unfolding loadables_fault
 loadables-none len place p sound inside =
     rw (
@@ -118,7 +118,7 @@ loadables-none len place p sound inside =
     ) refl
 
 -- a file with these headers and bytes is read as the program
-read-as : (p : Image) (b : List ℕ) (place : ℕ) → is_program p ≡ true → file_fault b ≡ None → headers_of b ≡ headers_for place p.ranges → entry_at b ≡ p.entry
+read-as : (p : Executable) (b : List ℕ) (place : ℕ) → is_program p ≡ true → file_fault b ≡ None → headers_of b ≡ headers_for place p.ranges → entry_at b ≡ p.entry
     → map (range_in b) (headers_for place p.ranges) ≡ p.ranges → end_from place p.ranges ≤ length b → elf_of b ≡ Accepted p
 unfolding elf_of
 read-as p b place sound file headers entry ranges inside =
@@ -133,7 +133,7 @@ read-as p b place sound file headers entry ranges inside =
       ranges,
     ) refl
 
-pub elf_of-file_of : (p : Image) → is_program p ≡ true → p.entry < 2 ^ 32 → bytes_in p.ranges ≤ 1_073_741_824 → elf_of (file_of p) ≡ Accepted p
+pub elf_of-file_of : (p : Executable) → is_program p ≡ true → p.entry < 2 ^ 32 → bytes_in p.ranges ≤ 1_073_741_824 → elf_of (file_of p) ≡ Accepted p
 unfolding file_of
 elf_of-file_of p sound entry small =
     let count : ℕ = length p.ranges in
@@ -166,7 +166,7 @@ elf_of-file_of p sound entry small =
     read-as p (header ++ (table ++ contents)) place sound file headers (entry-first p.entry count (table ++ contents) (omega arith)) ranges (omega arith)
 
 -- a written file has a few thousand bytes more than its program at most, and so offsets of 32 bits
-pub end-fits : (p : Image) → is_program p ≡ true → bytes_in p.ranges ≤ 1_073_741_824 → end_from (contents_at (length p.ranges)) p.ranges < 2 ^ 32
+pub end-fits : (p : Executable) → is_program p ≡ true → bytes_in p.ranges ≤ 1_073_741_824 → end_from (contents_at (length p.ranges)) p.ranges < 2 ^ 32
 end-fits p sound small =
     let few = program-few p sound in
     let below = end-below (contents_at (length p.ranges)) p.ranges in

@@ -8,7 +8,7 @@ use Rattle.std.proofs.lemmas.List.{length-map}
 use Rattle.nv_elf.specs.declared.header.ProgramHeader.{ProgramHeader}
 use Rattle.nv_elf.specs.declared.program.ElfFault.{ElfFault}
 use Rattle.nv_elf.specs.declared.program.ElfFault.TheVariants.{Entry}
-use Rattle.nv_elf.specs.Elf.{Range, Image, Extent, elf_of, ElfOf, Refused, Accepted, answer, fault_of, image_in, file_fault, table_fault, loadables_fault, overlap_fault, headers_of, loadables_of, entry_at, is_loadable, is_interpreted, is_outside, range_in, extent_of, range_extent, shares, overlap_from, holds_entry, is_entry}
+use Rattle.nv_elf.specs.Elf.{Range, Executable, Extent, elf_of, ElfOf, Refused, Accepted, answer, fault_of, executable_in, file_fault, table_fault, loadables_fault, overlap_fault, headers_of, loadables_of, entry_at, is_loadable, is_interpreted, is_outside, range_in, extent_of, range_extent, shares, overlap_from, holds_entry, is_entry}
 use Rattle.nv_elf.specs.Written.{is_program, is_sound}
 
 none-first : {A : Type 0} (x y : Option A) → option_or x y ≡ None → (x ≡ None) × (y ≡ None)
@@ -19,7 +19,7 @@ none-mapped : {A B : Type 0} (f : A → B) (x : Option A) → option_map f x ≡
 none-mapped f None e = refl
 none-mapped f (Some x) e = cc
 
-answer-accepted : (fault : Option ElfFault) (image p : Image) → answer fault image ≡ Accepted p → (fault ≡ None) × (image ≡ p)
+answer-accepted : (fault : Option ElfFault) (image p : Executable) → answer fault image ≡ Accepted p → (fault ≡ None) × (image ≡ p)
 answer-accepted None image p e = (refl, cc)
 answer-accepted (Some fault) image p e = cc
 
@@ -80,7 +80,7 @@ loadables-kept len entry headers e =
       held true fault h = refl
       held false fault h = cc
 
-image-program : (b : List ℕ) → fault_of b ≡ None → is_program (image_in b) ≡ true
+image-program : (b : List ℕ) → fault_of b ≡ None → is_program (executable_in b) ≡ true
 unfolding is_program
 image-program b none =
     let file = none-first (file_fault b) _ none in
@@ -95,8 +95,8 @@ image-program b none =
     let entry : is_entry range_extent (entry_at b) ranges ≡ true = ap (λ held. (entry_at b % 4 == 0) && held) (held-kept b (entry_at b) (loadables_of b)) ∙ kept.2 in
     and_from (nat_le (length ranges) 16) _ most (and_from (list_all is_sound ranges) _ sound (and_from (is_none (overlap_from range_extent 0 ranges)) _ apart entry))
 
-pub is_program-accepted : (b : List ℕ) (p : Image) → elf_of b ≡ Accepted p → is_program p ≡ true
+pub is_program-accepted : (b : List ℕ) (p : Executable) → elf_of b ≡ Accepted p → is_program p ≡ true
 unfolding elf_of
 is_program-accepted b p e =
-    let given = answer-accepted (fault_of b) (image_in b) p e in
-    subst (λ (q : Image). is_program q ≡ true) given.1 (image-program b given.0)
+    let given = answer-accepted (fault_of b) (executable_in b) p e in
+    subst (λ (q : Executable). is_program q ≡ true) given.1 (image-program b given.0)

@@ -2,7 +2,7 @@
 use Rattle.std.proofs.Common.{◌≡◌, ℕ, ◌+◌, ◌*◌, ◌<◌, ◌≤◌, List, [], ◌∷◌, ◌++◌, length, get_or, drop, map, sym, ap, ◌∙◌, arith, append_assoc, length-append}
 use Rattle.std.proofs.lemmas.List.{at_drop_more}
 use Rattle.nv_elf.specs.declared.program.Segment.{Segment}
-use Rattle.nv_elf.specs.Elf.{Image, range_of}
+use Rattle.nv_elf.specs.Elf.{Executable, range_of}
 use Rattle.nv_elf.specs.Written.{file_header, program_header, padding, table_from, contents_from, contents_at, end_from, file_of}
 use Rattle.nv_elf.proofs.Tables.{behind, end-above, length-table_from}
 use Rattle.nv_elf.proofs.ReadBack.{length-file_header}
@@ -26,7 +26,7 @@ behind-below place segments i s end inside is e =
     omega (arith, above, same)
 
 -- what the pushes leave is the file
-pub file-pushed : (p : Image) →
+pub file-pushed : (p : Executable) →
     let front : List ℕ = file_header p.entry (length p.ranges) ++ table_from (contents_at (length p.ranges)) p.ranges in
     front ++ contents_from (length front) p.ranges ≡ file_of p
 unfolding file_of

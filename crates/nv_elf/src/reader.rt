@@ -1,7 +1,7 @@
 // The reader of version files.
 ghost use Rattle.std.specs.Prelude.{◌≡◌, ◌≤◌, ◌<◌, ◌+◌, ◌*◌, ◌⊎◌, Some, None, IsTrue, IfSome, IfOk, IfErr, OnOk, MatchResult, All, length, filter, map, false, vec_len};
 ghost use Rattle.std.specs.List.{list_any, position_from};
-ghost use Rattle.nv_elf.specs.Elf.{file_fault, table_fault, loadables_fault, has_magic, has_class, has_versions, has_table, headers_from, headers_of, is_loadable, is_interpreted, is_outside, extent_of, shares, holds_entry, overlap_from, is_entry, range_in, range_of, elf_of, image_of, Accepted, Refused};
+ghost use Rattle.nv_elf.specs.Elf.{file_fault, table_fault, loadables_fault, has_magic, has_class, has_versions, has_table, headers_from, headers_of, is_loadable, is_interpreted, is_outside, extent_of, shares, holds_entry, overlap_from, is_entry, range_in, range_of, elf_of, executable_of, Accepted, Refused};
 ghost use Rattle.nv_elf.specs.Written.{is_program};
 ghost use Rattle.nv_elf.specs.declared.program.ElfFault.TheVariants.{Memory};
 
@@ -222,11 +222,11 @@ fn segments(
 
 /// Reads a version file.
 pub fn read(alloc: Global, bytes: &[u8]) -> Result<Program, ElfFault>
-    ensures program { IfOk result (λ program. elf_of bytes.now ≡ Accepted (image_of program)) }
+    ensures program { IfOk result (λ program. elf_of bytes.now ≡ Accepted (executable_of program)) }
 
     ensures few { IfOk result (λ program. vec_len program.segments ≤ 16) }
 
-    ensures sound { IfOk result (λ program. IsTrue (is_program (image_of program))) }
+    ensures sound { IfOk result (λ program. IsTrue (is_program (executable_of program))) }
 
     // want of memory is the one free answer
     ensures fault { IfErr result (λ fault. (fault ≡ Memory) ⊎ (elf_of bytes.now ≡ Refused fault)) }

@@ -1,7 +1,7 @@
 // The writer of version files.
 ghost use Rattle.std.specs.Prelude.{◌≡◌, ◌<◌, ◌≤◌, ◌+◌, ◌++◌, ◌^◌, IsTrue, IfOk, OnOk, length, map, replicate};
 ghost use Rattle.byteorder.specs.Endian.{little_bytes};
-ghost use Rattle.nv_elf.specs.Elf.{elf_of, range_of, image_of, Accepted};
+ghost use Rattle.nv_elf.specs.Elf.{elf_of, range_of, executable_of, Accepted};
 ghost use Rattle.nv_elf.specs.Written.{is_program, bytes_in, file_header, flags_of, program_header, padding, contents_at, end_from, table_from, contents_from, file_of};
 
 use crate::header::{FILE_HEADER_LENGTH, PROGRAM_HEADER_LENGTH};
@@ -107,12 +107,12 @@ fn push_contents(out: &mut Vec<u8>, segments: &[Segment]) -> Result<(), AllocErr
 
 /// Writes a program as a version file.
 pub fn write(alloc: Global, program: &Program) -> Result<Vec<u8>, AllocError>
-    requires sound { IsTrue (is_program (image_of program.now)) }
-    requires small { bytes_in (image_of program.now).ranges ≤ 1_073_741_824 }
+    requires sound { IsTrue (is_program (executable_of program.now)) }
+    requires small { bytes_in (executable_of program.now).ranges ≤ 1_073_741_824 }
 
-    ensures file { IfOk result (λ file. file.items ≡ file_of (image_of program.now)) }
+    ensures file { IfOk result (λ file. file.items ≡ file_of (executable_of program.now)) }
 
-    ensures read_back { IfOk result (λ file. elf_of file.items ≡ Accepted (image_of program.now)) }
+    ensures read_back { IfOk result (λ file. elf_of file.items ≡ Accepted (executable_of program.now)) }
 {
     let mut out = Vec::new(alloc);
     let count = program.segments.len();

@@ -8,7 +8,7 @@ use Rattle.std.proofs.lemmas.List.{map-set, get_or-map, set-get_or, get_or-set_s
 use Rattle.nv_blocks.specs.Contents.{Content}
 use Rattle.nv_fs.specs.declared.disk.MemoryFile.{MemoryFile}
 use Rattle.nv_fs.specs.declared.disk.FileSystem.TheInside.{Inside}
-use Rattle.nv_fs.specs.States.{State, Inode, file_at, with_at}
+use Rattle.nv_fs.specs.States.{FileState, Inode, file_at, with_at}
 use Rattle.nv_fs.specs.Seeks.{bytes_of}
 use Rattle.nv_fs.specs.Fetched.{pipe_at, with_pipe}
 use Rattle.nv_fs.specs.Stored.{with_content}
@@ -24,7 +24,7 @@ pub pipe_changed : (a : Inside) (d : Disk) (k : ℕ) (v : Vec ℕ) (bytes : List
 pipe_changed a d k v bytes view h =
     ap (λ (z : List (List ℕ)). record (state_of a) { pipes = z }) (map-set items_of a.pipes.items k v ∙ ap (λ (z : List ℕ). set (map items_of a.pipes.items) k z) h) ∙ ap (λ (e : Disk). with_pipe e.state k bytes) view
 
-pub pipe_same : (s : State) (k : ℕ) → with_pipe s k (pipe_at s k) ≡ s
+pub pipe_same : (s : FileState) (k : ℕ) → with_pipe s k (pipe_at s k) ≡ s
 pipe_same s k = ap (λ (z : List (List ℕ)). record s { pipes = z }) (set-get_or s.pipes k [])
 
 pub pipe_room : (xs : List (Vec ℕ)) (k : ℕ) (v : Vec ℕ) → k < length xs → vec_capacity v ≡ slice_index (map capacity_of (set xs k v)) k
@@ -47,7 +47,7 @@ content_changed a d i f v bytes view l h e =
     file_changed a d i f (record { name = f.name; bytes = v }) (record { name = (file_at d.state i).name; bytes = bytes }) view
     (λ j. record { name = (file_is a d i f view l h j).name; bytes = e j })
 
-pub content_same : (s : State) (i : ℕ) → with_content s i (bytes_of s i) ≡ s
+pub content_same : (s : FileState) (i : ℕ) → with_content s i (bytes_of s i) ≡ s
 content_same s i = ap (λ (z : List Inode). record s { files = z }) (set-get_or s.files i _)
 
 pub held_is : (xs : List MemoryFile) (i : ℕ) (g : MemoryFile) → i < length xs → g.bytes.held ≡ get_or (map held_of (set xs i g)) i []

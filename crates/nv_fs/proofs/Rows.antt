@@ -1,6 +1,6 @@
 -- The definitions, computed on two worked runs of calls.
 use Rattle.std.proofs.Common.{◌≡◌, refl, ℕ, ℤ, pos, negsuc, List, [], ◌∷◌, Some}
-use Rattle.nv_fs.specs.States.{State, Answer, open_of, has_open, is_shared, is_kept, is_pipe, free_open, install}
+use Rattle.nv_fs.specs.States.{FileState, Answer, open_of, has_open, is_shared, is_kept, is_pipe, free_open, install}
 use Rattle.nv_fs.specs.Starts.{first_state, first_descriptors}
 use Rattle.nv_fs.specs.Closes.{close_of, dup_of, free_descriptor}
 use Rattle.nv_fs.specs.Names.{file_of, resolved}
@@ -14,10 +14,10 @@ abbrev shown : Answer → ℤ × List ℕ
 shown a = (a.ret, a.payload)
 
 -- the file `f` with `abcd`
-abbrev start : State
+abbrev start : FileState
 start = first_state [] (record { name = Some (102 ∷ []); bytes = 97 ∷ 98 ∷ 99 ∷ 100 ∷ [] } ∷ [])
 
-abbrev open_f : State → ℕ → Answer
+abbrev open_f : FileState → ℕ → Answer
 open_f s flags = open_at_of s (negsuc 99) (102 ∷ []) flags
 
 abbrev opened : Answer

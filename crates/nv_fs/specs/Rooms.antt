@@ -4,7 +4,7 @@ use Rattle.nv_blocks.specs.Contents.{HoldsRange}
 use Rattle.nv_fs.specs.declared.open_file.OpenFile.{OpenFile}
 use Rattle.nv_fs.specs.declared.open_file.Target.{Target}
 use Rattle.nv_fs.specs.declared.open_file.Target.TheVariants.{Console, File, Writer}
-use Rattle.nv_fs.specs.States.{State, open_of}
+use Rattle.nv_fs.specs.States.{FileState, open_of}
 use Rattle.nv_fs.specs.Fetched.{pipe_at}
 use Rattle.nv_fs.specs.Stored.{start_of}
 
@@ -20,7 +20,7 @@ pub record Room : Type 0 where
 
 -- a file system: what calls see, and the memory
 pub record Disk : Type 0 where
-  pub state : State
+  pub state : FileState
   pub room : Room
 
 -- there is memory for n bytes of a file from a place on

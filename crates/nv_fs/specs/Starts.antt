@@ -3,7 +3,7 @@ use Rattle.std.specs.Prelude.{ℕ, true, false, List, [], ◌∷◌, replicate, 
 use Rattle.std.specs.Global.{Vec}
 use Rattle.nv_fs.specs.declared.open_file.OpenFile.{OpenFile}
 use Rattle.nv_fs.specs.declared.open_file.Target.TheVariants.{Input, Console}
-use Rattle.nv_fs.specs.States.{State, Inode, one_way}
+use Rattle.nv_fs.specs.States.{FileState, Inode, one_way}
 
 -- a file of a name and its bytes
 abbrev pub inode_from : Vec ℕ × Vec ℕ → Inode
@@ -17,7 +17,7 @@ abbrev pub first_opens : List OpenFile
 first_opens = one_way Input true ∷ one_way Console false ∷ []
 
 -- what a run begins with, from the input and the files
-abbrev pub first_state : List ℕ → List Inode → State
+abbrev pub first_state : List ℕ → List Inode → FileState
 first_state input files = record {
   descriptors = first_descriptors;
   opens = first_opens;

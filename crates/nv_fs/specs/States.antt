@@ -11,7 +11,7 @@ pub record Inode : Type 0 where
   pub bytes : List ℕ
 
 -- A descriptor has the number of its open file, which several may share. The input is what is still to be read of it.
-pub record State : Type 0 where
+pub record FileState : Type 0 where
   pub descriptors : List (Option ℕ)
   pub opens : List OpenFile
   pub files : List Inode
@@ -21,15 +21,15 @@ pub record State : Type 0 where
 
 -- what a call leaves, its result, and the bytes that it hands out
 pub record Answer : Type 0 where
-  pub state : State
+  pub state : FileState
   pub ret : ℤ
   pub payload : List ℕ
 
-abbrev pub answer : State → ℤ → List ℕ → Answer
+abbrev pub answer : FileState → ℤ → List ℕ → Answer
 answer s ret payload = record { state = s; ret = ret; payload = payload }
 
 -- an answer that changes nothing and hands out nothing
-abbrev pub only : State → ℤ → Answer
+abbrev pub only : FileState → ℤ → Answer
 only s ret = answer s ret []
 
 -- the open file of a number, with the number
@@ -38,10 +38,10 @@ numbered opens None = None
 numbered opens (Some i) = option_map (λ o. (i, o)) (slice_get opens i)
 
 -- the open file of a descriptor; None where it isn't open
-unfoldable pub open_of : State → ℕ → Option (ℕ × OpenFile)
+unfoldable pub open_of : FileState → ℕ → Option (ℕ × OpenFile)
 open_of s fd = numbered s.opens (slice_index_or s.descriptors fd None)
 
-abbrev pub is_open : State → ℕ → Bool
+abbrev pub is_open : FileState → ℕ → Bool
 is_open s fd = is_some (open_of s fd)
 
 -- an open file that is only read or only written, from its beginning on
@@ -60,7 +60,7 @@ opens_to target None = false
 opens_to target (Some o) = is_target target o.1.target
 
 -- some descriptor's open file is of the target
-unfoldable pub has_open : State → Target → Bool
+unfoldable pub has_open : FileState → Target → Bool
 has_open s target = list_any (λ d. opens_to target (numbered s.opens d)) s.descriptors
 
 abbrev pub is_number : ℕ → Option ℕ → Bool
@@ -68,17 +68,17 @@ is_number i None = false
 is_number i (Some j) = j == i
 
 -- the number of an open file is in use where a descriptor has it, that of a file where it has a name or is open, that of a pipe where an end is open
-unfoldable pub is_shared : State → ℕ → Bool
+unfoldable pub is_shared : FileState → ℕ → Bool
 is_shared s i = list_any (is_number i) s.descriptors
 
 -- the file of a number; without name and bytes where there is none
-abbrev pub file_at : State → ℕ → Inode
+abbrev pub file_at : FileState → ℕ → Inode
 file_at s i = slice_index_or s.files i record { name = None; bytes = [] }
 
-unfoldable pub is_kept : State → ℕ → Bool
+unfoldable pub is_kept : FileState → ℕ → Bool
 is_kept s i = is_some (file_at s i).name || has_open s (File i)
 
-unfoldable pub is_pipe : State → ℕ → Bool
+unfoldable pub is_pipe : FileState → ℕ → Bool
 is_pipe s k = has_open s (Reader k) || has_open s (Writer k)
 
 -- the least of n numbers from i on that isn't in use; the one behind them where all are
@@ -91,13 +91,13 @@ abbrev pub with_at : {A : Type 0} → List A → ℕ → A → List A
 with_at xs i x = if nat_lt i (length xs) then slice_set xs i x else (xs ++ x ∷ [])
 
 -- the least number for an open file
-unfoldable pub free_open : State → ℕ
+unfoldable pub free_open : FileState → ℕ
 free_open s = least_free (is_shared s) (length s.opens) 0
 
 -- a descriptor names a new open file
-unfoldable pub install : State → ℕ → OpenFile → State
+unfoldable pub install : FileState → ℕ → OpenFile → FileState
 install s fd o = record s { descriptors = slice_set s.descriptors fd (Some (free_open s)); opens = with_at s.opens (free_open s) o }
 
 -- an open file moves its offset
-abbrev pub moved_to : State → ℕ → OpenFile → ℕ → State
+abbrev pub moved_to : FileState → ℕ → OpenFile → ℕ → FileState
 moved_to s i o offset = record s { opens = slice_set s.opens i (record o { offset = offset }) }

@@ -3,7 +3,7 @@ use Rattle.std.specs.Prelude.{ℕ, Bool, List, [], map, drop, None, option_map, 
 use Rattle.std.specs.Global.{Vec}
 use Rattle.nv_fs.specs.declared.disk.MemoryFile.{MemoryFile}
 use Rattle.nv_fs.specs.declared.disk.FileSystem.TheInside.{Inside}
-use Rattle.nv_fs.specs.States.{State, Inode}
+use Rattle.nv_fs.specs.States.{FileState, Inode}
 use Rattle.nv_fs.specs.Rooms.{Disk, Room}
 
 abbrev pub items_of : Vec ℕ → List ℕ
@@ -22,7 +22,7 @@ held_of f = f.bytes.held
 abbrev pub bytes_in : List MemoryFile → ℕ → List ℕ
 bytes_in files i = (slice_index_or (map inode_of files) i record { name = None; bytes = [] }).bytes
 
-abbrev pub state_of : Inside → State
+abbrev pub state_of : Inside → FileState
 state_of k = record {
   descriptors = k.descriptors;
   opens = k.opens.items;

@@ -5,7 +5,7 @@ use Rattle.nv_fs.specs.declared.open_file.OpenFile.{OpenFile}
 use Rattle.nv_fs.specs.declared.open_file.Target.{Target}
 use Rattle.nv_fs.specs.declared.open_file.Target.TheVariants.{Input, Console, File, Reader, Writer}
 use Rattle.nv_calls.specs.Errors.{EBADF, ENOSPC, EFBIG, EPIPE, EAGAIN}
-use Rattle.nv_fs.specs.States.{State, answer, only, open_of, moved_to, has_open}
+use Rattle.nv_fs.specs.States.{FileState, answer, only, open_of, moved_to, has_open}
 use Rattle.nv_fs.specs.Seeks.{seek_of, seek_open, seek_target, seek_from, seek_to, base_of, plus_signed}
 use Rattle.nv_fs.specs.Fetched.{read_of, read_open, read_target, read_pipe, hand_out, with_pipe, pipe_at}
 use Rattle.nv_fs.specs.Stored.{write_of, write_open, write_target, write_console, write_at, write_pipe, with_content, start_of}
@@ -15,7 +15,7 @@ pub by_test : {A : Type 0} (P : A → Type 0) (b : Bool) (x y : A) → P x → P
 by_test P true x y p q = p
 by_test P false x y p q = q
 
-module _ (P : State → Type 0) (s : State) (fd : ℕ) (same : P s) where
+module _ (P : FileState → Type 0) (s : FileState) (fd : ℕ) (same : P s) where
   module _ (moved : (o : ℕ × OpenFile) (offset : ℕ) → open_of s fd ≡ Some o → P (moved_to s o.0 o.1 offset)) where
     to_cases : (o : ℕ × OpenFile) (offset : Option ℕ) → open_of s fd ≡ Some o → P (seek_to s o.0 o.1 offset).state
     to_cases o None e = same

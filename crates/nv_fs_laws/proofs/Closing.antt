@@ -7,7 +7,7 @@ use Rattle.nv_fs.specs.declared.open_file.OpenFile.{OpenFile}
 use Rattle.nv_fs.specs.declared.open_file.Target.{Target}
 use Rattle.nv_fs.specs.declared.open_file.Target.TheVariants.{File, Reader, Writer}
 use Rattle.nv_calls.specs.Errors.{EBADF, EINVAL}
-use Rattle.nv_fs.specs.States.{State, Answer, only, open_of, numbered, opens_to, is_kept, is_pipe, has_open, file_at}
+use Rattle.nv_fs.specs.States.{FileState, Answer, only, open_of, numbered, opens_to, is_kept, is_pipe, has_open, file_at}
 use Rattle.nv_fs.specs.Closes.{close_of, close_open, dup3_of, dup_onto, shared_at, with_descriptor}
 use Rattle.nv_fs_laws.specs.Tables.{number_at, HeldBeside, OpenBeside}
 use Rattle.nv_fs_laws.specs.Calls.{IsRefused, OthersKeep, LetsGo}
@@ -16,12 +16,12 @@ use Rattle.nv_fs_laws.proofs.Holding.{shared_at as found_shared, shared_by, open
 use Rattle.nv_fs_laws.proofs.Cases.{by_test}
 
 -- the same open file is found by the same number
-found_by : (s : State) (t : Target) (d number : ℕ) → number_at s d ≡ Some number → opens_to t (numbered s.opens (Some number)) ≡ true → opens_to t (open_of s d) ≡ true
+found_by : (s : FileState) (t : Target) (d number : ℕ) → number_at s d ≡ Some number → opens_to t (numbered s.opens (Some number)) ≡ true → opens_to t (open_of s d) ≡ true
 unfolding open_of
 found_by s t d number e h = ap (λ (m : Option ℕ). opens_to t (numbered s.opens m)) e ∙ h
 
 -- a descriptor has another number from now on, where that one is some other descriptor's too
-module _ (s : State) (fd : ℕ) (x : Option ℕ) (beside : (number : ℕ) → get_or (set s.descriptors fd x) fd None ≡ Some number → HeldBeside s fd number) where
+module _ (s : FileState) (fd : ℕ) (x : Option ℕ) (beside : (number : ℕ) → get_or (set s.descriptors fd x) fd None ≡ Some number → HeldBeside s fd number) where
   others : OthersKeep s (with_descriptor s fd x) fd
   unfolding open_of
   others d other = ap (numbered s.opens) (get_or-set_other s.descriptors fd d x None other)
@@ -76,7 +76,7 @@ module _ (s : State) (fd : ℕ) (x : Option ℕ) (beside : (number : ℕ) → ge
     same_pipes = refl;
   }
 
-pub close_lets_go : (s : State) (fd : ℕ) → IsRefused s (close_of s fd) ⊎ LetsGo s (close_of s fd).state fd
+pub close_lets_go : (s : FileState) (fd : ℕ) → IsRefused s (close_of s fd) ⊎ LetsGo s (close_of s fd).state fd
 unfolding close_of
 close_lets_go s fd = by (open_of s fd)
   where
@@ -87,7 +87,7 @@ close_lets_go s fd = by (open_of s fd)
     by None = inl record { same = refl; error = refl }
     by (Some o) = inr (lets_go s fd None (λ number e. let clash : Some number ≡ None = sym e ∙ none in cc))
 
-onto : (s : State) (from to : ℕ) (o : ℕ × OpenFile) → from ≢ to → open_of s from ≡ Some o → LetsGo s (with_descriptor s to (Some o.0)) to
+onto : (s : FileState) (from to : ℕ) (o : ℕ × OpenFile) → from ≢ to → open_of s from ≡ Some o → LetsGo s (with_descriptor s to (Some o.0)) to
 onto s from to o other e = lets_go s to (Some o.0) beside
   where
     beside : (number : ℕ) → get_or (set s.descriptors to (Some o.0)) to None ≡ Some number → HeldBeside s to number
@@ -97,15 +97,15 @@ onto s from to o other e = lets_go s to (Some o.0) beside
     ]
 
 -- a call that closes a descriptor, where it isn't refused
-abbrev Closed : State → ℕ → Answer → Type 0
+abbrev Closed : FileState → ℕ → Answer → Type 0
 Closed s fd a = IsRefused s a ⊎ LetsGo s a.state fd
 
-onto_another : (s : State) (from to : ℕ) → from ≢ to → (o : Option (ℕ × OpenFile)) → open_of s from ≡ o → Closed s to (dup_onto s o to)
+onto_another : (s : FileState) (from to : ℕ) → from ≢ to → (o : Option (ℕ × OpenFile)) → open_of s from ≡ o → Closed s to (dup_onto s o to)
 onto_another s from to other None e = inl record { same = refl; error = refl }
 onto_another s from to other (Some o) e =
     by_test (Closed s to) (nat_lt 63 to) (only s EBADF) (shared_at s to o.0) (inl record { same = refl; error = refl }) (inr (onto s from to o other e))
 
-pub dup3_lets_go : (s : State) (from to flags : ℕ) → IsRefused s (dup3_of s from to flags) ⊎ LetsGo s (dup3_of s from to flags).state to
+pub dup3_lets_go : (s : FileState) (from to flags : ℕ) → IsRefused s (dup3_of s from to flags) ⊎ LetsGo s (dup3_of s from to flags).state to
 unfolding dup3_of
 dup3_lets_go s from to flags =
     by_test (Closed s to) (not ((flags == 0) || (flags == 524288))) (only s EINVAL) _ (inl record { same = refl; error = refl }) (by (from == to) refl)

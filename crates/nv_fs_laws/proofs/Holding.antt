@@ -6,7 +6,7 @@ use Rattle.std.proofs.lemmas.List.{get_or-set_same, get_or-set_other}
 use Rattle.nv_fs.specs.declared.open_file.OpenFile.{OpenFile}
 use Rattle.nv_fs.specs.declared.open_file.Target.{Target}
 use Rattle.nv_fs.specs.declared.open_file.Target.TheVariants.{Input, Console, File, Reader, Writer}
-use Rattle.nv_fs.specs.States.{State, Inode, open_of, numbered, opens_to, is_target, is_number, is_shared, is_kept, is_pipe, has_open, file_at, free_open, install, with_at}
+use Rattle.nv_fs.specs.States.{FileState, Inode, open_of, numbered, opens_to, is_target, is_number, is_shared, is_kept, is_pipe, has_open, file_at, free_open, install, with_at}
 use Rattle.nv_fs.specs.Opened.{free_file}
 use Rattle.nv_fs.specs.Ends.{free_pipe}
 use Rattle.nv_fs_laws.specs.Tables.{number_at, StandsIn, IsSound}
@@ -26,19 +26,19 @@ pub is_the_number : (number : ℕ) (o : Option ℕ) → o ≡ Some number → is
 is_the_number number o e = subst (λ (q : Option ℕ). is_number number q ≡ true) (sym e) (eq-eqb number number refl)
 
 -- a number is in use where a descriptor has it
-pub shared_at : (s : State) (number : ℕ) → is_shared s number ≡ true → (d : ℕ) × (number_at s d ≡ Some number)
+pub shared_at : (s : FileState) (number : ℕ) → is_shared s number ≡ true → (d : ℕ) × (number_at s d ≡ Some number)
 unfolding is_shared
 shared_at s number h = let r = passes_at (is_number number) s.descriptors h in (r.0, number_is number _ r.1)
 
-pub shared_by : (s : State) (number d : ℕ) → number_at s d ≡ Some number → is_shared s number ≡ true
+pub shared_by : (s : FileState) (number d : ℕ) → number_at s d ≡ Some number → is_shared s number ≡ true
 unfolding is_shared
 shared_by s number d e = passes (is_number number) s.descriptors d refl (is_the_number number _ e)
 
-pub open_at : (s : State) (t : Target) → has_open s t ≡ true → (d : ℕ) × (opens_to t (open_of s d) ≡ true)
+pub open_at : (s : FileState) (t : Target) → has_open s t ≡ true → (d : ℕ) × (opens_to t (open_of s d) ≡ true)
 unfolding has_open open_of
 open_at s t h = passes_at (λ d. opens_to t (numbered s.opens d)) s.descriptors h
 
-pub open_by : (s : State) (t : Target) (d : ℕ) → opens_to t (open_of s d) ≡ true → has_open s t ≡ true
+pub open_by : (s : FileState) (t : Target) (d : ℕ) → opens_to t (open_of s d) ≡ true → has_open s t ≡ true
 unfolding has_open open_of
 open_by s t d h = passes (λ d. opens_to t (numbered s.opens d)) s.descriptors d refl h
 
@@ -53,11 +53,11 @@ numbered_is opens (Some j) o e = by (slice_get opens j) refl e
         let is = some_is (j, x) o e in
         (ap (λ (p : ℕ × OpenFile). Some p.0) is, subst (λ (p : ℕ × OpenFile). slice_get opens p.0 ≡ Some p.1) is h)
 
-pub open_is : (s : State) (fd : ℕ) (o : ℕ × OpenFile) → open_of s fd ≡ Some o → (number_at s fd ≡ Some o.0) × (slice_get s.opens o.0 ≡ Some o.1)
+pub open_is : (s : FileState) (fd : ℕ) (o : ℕ × OpenFile) → open_of s fd ≡ Some o → (number_at s fd ≡ Some o.0) × (slice_get s.opens o.0 ≡ Some o.1)
 unfolding open_of
 open_is s fd o e = numbered_is s.opens (number_at s fd) o e
 
-pub open_from : (s : State) (fd number : ℕ) (o : OpenFile) → number_at s fd ≡ Some number → slice_get s.opens number ≡ Some o → open_of s fd ≡ Some (number, o)
+pub open_from : (s : FileState) (fd number : ℕ) (o : OpenFile) → number_at s fd ≡ Some number → slice_get s.opens number ≡ Some o → open_of s fd ≡ Some (number, o)
 unfolding open_of
 open_from s fd number o e h = ap (numbered s.opens) e ∙ ap (option_map (λ x. (number, x))) h
 
@@ -84,11 +84,11 @@ stands_too files pipes (Writer i) Console h k = cc
 stands_too files pipes (Writer i) (File j) h k = cc
 stands_too files pipes (Writer i) (Reader j) h k = cc
 
-pub stands : (s : State) (fd : ℕ) (o : ℕ × OpenFile) → IsSound s → open_of s fd ≡ Some o → StandsIn (length s.files) (length s.pipes) o.1.target
+pub stands : (s : FileState) (fd : ℕ) (o : ℕ × OpenFile) → IsSound s → open_of s fd ≡ Some o → StandsIn (length s.files) (length s.pipes) o.1.target
 stands s fd o h e = h.opens o.0 o.1 (open_is s fd o e).1
 
 -- what is open stands in the tables
-pub open_stands : (s : State) (t : Target) → IsSound s → has_open s t ≡ true → StandsIn (length s.files) (length s.pipes) t
+pub open_stands : (s : FileState) (t : Target) → IsSound s → has_open s t ≡ true → StandsIn (length s.files) (length s.pipes) t
 open_stands s t h k = let r = open_at s t k in by r.0 (open_of s r.0) refl r.1
   where
     by : (d : ℕ) (o : Option (ℕ × OpenFile)) → open_of s d ≡ o → opens_to t o ≡ true → StandsIn (length s.files) (length s.pipes) t
@@ -96,18 +96,18 @@ open_stands s t h k = let r = open_at s t k in by r.0 (open_of s r.0) refl r.1
     by d (Some o) e q = stands_too (length s.files) (length s.pipes) t o.1.target q (stands s d o h e)
 
 -- the numbers just behind the tables, and so the least free ones, are in no use
-pub open_is_free : (s : State) → IsSound s → is_shared s (free_open s) ≡ false
+pub open_is_free : (s : FileState) → IsSound s → is_shared s (free_open s) ≡ false
 unfolding free_open
 open_is_free s h = least_is_free (is_shared s) (length s.opens) 0 (unless _ used)
   where
     used : is_shared s (0 + length s.opens) ≡ true → ⊥
     used q = let r = shared_at s (0 + length s.opens) q in omega (arith, h.descriptors r.0 _ r.1)
 
-pub free_open_near : (s : State) → free_open s ≤ length s.opens
+pub free_open_near : (s : FileState) → free_open s ≤ length s.opens
 unfolding free_open
 free_open_near s = omega (arith, least_is_near (is_shared s) (length s.opens) 0)
 
-pub file_is_free : (s : State) → IsSound s → is_kept s (free_file s) ≡ false
+pub file_is_free : (s : FileState) → IsSound s → is_kept s (free_file s) ≡ false
 unfolding free_file is_kept
 file_is_free s h = least_is_free (is_kept s) (length s.files) 0 (unless _ used)
   where
@@ -117,11 +117,11 @@ file_is_free s h = least_is_free (is_kept s) (length s.files) 0 (unless _ used)
       | inr held ↦ omega (arith, open_stands s (File (0 + length s.files)) h held)
     ]
 
-pub free_file_near : (s : State) → free_file s ≤ length s.files
+pub free_file_near : (s : FileState) → free_file s ≤ length s.files
 unfolding free_file
 free_file_near s = omega (arith, least_is_near (is_kept s) (length s.files) 0)
 
-pub pipe_is_free : (s : State) → IsSound s → is_pipe s (free_pipe s) ≡ false
+pub pipe_is_free : (s : FileState) → IsSound s → is_pipe s (free_pipe s) ≡ false
 unfolding free_pipe is_pipe
 pipe_is_free s h = least_is_free (is_pipe s) (length s.pipes) 0 (unless _ used)
   where
@@ -131,7 +131,7 @@ pipe_is_free s h = least_is_free (is_pipe s) (length s.pipes) 0 (unless _ used)
       | inr held ↦ omega (arith, open_stands s (Writer (0 + length s.pipes)) h held)
     ]
 
-pub free_pipe_near : (s : State) → free_pipe s ≤ length s.pipes
+pub free_pipe_near : (s : FileState) → free_pipe s ≤ length s.pipes
 unfolding free_pipe
 free_pipe_near s = omega (arith, least_is_near (is_pipe s) (length s.pipes) 0)
 
@@ -141,7 +141,7 @@ found_still opens n o None h q = refl
 found_still opens n o (Some j) h q = ap (option_map (λ x. (j, x))) (with_other opens n o h j (λ e. q (ap Some e)))
 
 -- a free descriptor takes a new open file
-pub takes_new : (s : State) (fd : ℕ) (o : OpenFile) → IsSound s → fd < length s.descriptors → number_at s fd ≡ None → TakesNew s (install s fd o) fd
+pub takes_new : (s : FileState) (fd : ℕ) (o : OpenFile) → IsSound s → fd < length s.descriptors → number_at s fd ≡ None → TakesNew s (install s fd o) fd
 unfolding install open_of
 takes_new s fd o h l free = record {
   free = free;
@@ -154,7 +154,7 @@ takes_new s fd o h l free = record {
 }
 
 -- and that is the open file
-pub is_installed : (s : State) (fd : ℕ) (o : OpenFile) → fd < length s.descriptors → open_of (install s fd o) fd ≡ Some (free_open s, o)
+pub is_installed : (s : FileState) (fd : ℕ) (o : OpenFile) → fd < length s.descriptors → open_of (install s fd o) fd ≡ Some (free_open s, o)
 unfolding install open_of
 is_installed s fd o l =
     ap (numbered (with_at s.opens (free_open s) o)) (get_or-set_same s.descriptors fd (Some (free_open s)) None l)

@@ -8,7 +8,7 @@ use Rattle.std.proofs.lemmas.List.{get_or-set_same, get_or-set_other}
 use Rattle.nv_fs.specs.declared.open_file.OpenFile.{OpenFile}
 use Rattle.nv_fs.specs.declared.open_file.Target.TheVariants.{File, Reader, Writer}
 use Rattle.nv_calls.specs.Errors.{ENOENT, EBADF, EEXIST, ENOTDIR, EINVAL, EMFILE, ENOSPC, ENAMETOOLONG}
-use Rattle.nv_fs.specs.States.{one_way, State, Inode, Answer, only, open_of, numbered, opens_to, is_number, is_shared, is_kept, file_at, free_open, install}
+use Rattle.nv_fs.specs.States.{one_way, FileState, Inode, Answer, only, open_of, numbered, opens_to, is_number, is_shared, is_kept, file_at, free_open, install}
 use Rattle.nv_fs.specs.Closes.{dup_of, dup_open, share, free_descriptor}
 use Rattle.nv_fs.specs.Ends.{pipe_of, pipe_from, pipe_on, free_pipe, free_above, with_empty}
 use Rattle.nv_fs.specs.Names.{Resolved, Refused, Named, resolved, name_of, name_in, component_of, file_of, is_open_at, is_cwd, is_absolute}
@@ -26,14 +26,14 @@ none_is : (ds : List (Option ℕ)) (fd : ℕ) (x : Option ℕ) → slice_get ds 
 none_is ds fd None e h = or_none ds fd None ∙ ap (λ o. unwrap_or o None) e
 none_is ds fd (Some y) e h = cc
 
-free_at : (s : State) (fd : ℕ) → free_descriptor s ≡ Some fd → (fd < length s.descriptors) × (number_at s fd ≡ None)
+free_at : (s : FileState) (fd : ℕ) → free_descriptor s ≡ Some fd → (fd < length s.descriptors) × (number_at s fd ≡ None)
 unfolding free_descriptor
 free_at s fd e =
     let r = first_is is_none s.descriptors 0 fd e in
     let is : r.0 ≡ fd = omega (arith, r.1) in
     (omega (arith, is, is_inside s.descriptors r.0 r.2 r.3), subst (λ (n : ℕ). number_at s n ≡ None) is (none_is s.descriptors r.0 r.2 r.3 r.4))
 
-above_at : (s : State) (fd other : ℕ) → free_above s fd ≡ Some other → (fd < other) × (other < length s.descriptors) × (number_at s other ≡ None)
+above_at : (s : FileState) (fd other : ℕ) → free_above s fd ≡ Some other → (fd < other) × (other < length s.descriptors) × (number_at s other ≡ None)
 above_at s fd other e = by (position_from is_none 0 (drop (fd + 1) s.descriptors)) refl e
   where
     by : (q : Option ℕ) → position_from is_none 0 (drop (fd + 1) s.descriptors) ≡ q → option_map (λ n. fd + 1 + n) q ≡ Some other → (fd < other) × (other < length s.descriptors) × (number_at s other ≡ None)
@@ -45,15 +45,15 @@ above_at s fd other e = by (position_from is_none 0 (drop (fd + 1) s.descriptors
         (omega (arith, place), is_inside s.descriptors other r.2 there, none_is s.descriptors other r.2 there r.4)
 
 -- tables with the same descriptors and open files
-same_shared : (s t : State) (number : ℕ) → t.descriptors ≡ s.descriptors → is_shared t number ≡ is_shared s number
+same_shared : (s t : FileState) (number : ℕ) → t.descriptors ≡ s.descriptors → is_shared t number ≡ is_shared s number
 unfolding is_shared
 same_shared s t number e = ap (list_any (is_number number)) e
 
-same_open : (s t : State) (fd : ℕ) → t.descriptors ≡ s.descriptors → t.opens ≡ s.opens → open_of t fd ≡ open_of s fd
+same_open : (s t : FileState) (fd : ℕ) → t.descriptors ≡ s.descriptors → t.opens ≡ s.opens → open_of t fd ≡ open_of s fd
 unfolding open_of
 same_open s t fd e f = λ i. numbered (f i) (get_or (e i) fd None)
 
-takes_from : (s t after : State) (fd : ℕ) → t.descriptors ≡ s.descriptors → t.opens ≡ s.opens → TakesNew t after fd → TakesNew s after fd
+takes_from : (s t after : FileState) (fd : ℕ) → t.descriptors ≡ s.descriptors → t.opens ≡ s.opens → TakesNew t after fd → TakesNew s after fd
 takes_from s t after fd e f new = record {
   free = ap (λ (ds : List (Option ℕ)). get_or ds fd None) (sym e) ∙ new.free;
   number = new.number;
@@ -62,7 +62,7 @@ takes_from s t after fd e f new = record {
   others = λ d other. new.others d other ∙ same_open s t d e f;
 }
 
-refused : (s : State) (e : ℤ) → IsTrue (is_error e) → IsRefused s (only s e)
+refused : (s : FileState) (e : ℤ) → IsTrue (is_error e) → IsRefused s (only s e)
 refused s e h = record { same = refl; error = h }
 
 -- openat: a refusal is an error
@@ -73,7 +73,7 @@ Fails (Named name) = Unit {0}
 abbrev Errs : ℤ → Type 0
 Errs error = IsTrue (is_error error)
 
-refusal_is_error : (s : State) (dir : ℤ) (path : List ℕ) → Fails (resolved s dir path)
+refusal_is_error : (s : FileState) (dir : ℤ) (path : List ℕ) → Fails (resolved s dir path)
 unfolding resolved
 refusal_is_error s dir path =
     by_test Fails (nat_le 256 (length path)) (Refused ENAMETOOLONG) _ refl
@@ -92,10 +92,10 @@ refused_is_error (Some i) flags = by_test Unless (has_flag flags 64 && has_flag 
 refused_is_error None flags = by_test Unless (has_flag flags 64) None (Some ENOENT) tt refl
 
 -- What a file becomes before the new open file is made: another keeps all.
-abbrev Ready : State → State → ℕ → Type 0
+abbrev Ready : FileState → FileState → ℕ → Type 0
 Ready s t i = (j : ℕ) → IsTrue (is_kept s j) → ((file_at t j).name ≡ (file_at s j).name) × ((j ≡ i) ⊎ (file_at t j ≡ file_at s j))
 
-opens_on : (s t : State) (fd i flags : ℕ) → t.descriptors ≡ s.descriptors → t.opens ≡ s.opens → t.pipes ≡ s.pipes → IsSound t → Ready s t i
+opens_on : (s t : FileState) (fd i flags : ℕ) → t.descriptors ≡ s.descriptors → t.opens ≡ s.opens → t.pipes ≡ s.pipes → IsSound t → Ready s t i
     → fd < length s.descriptors → number_at s fd ≡ None → HasOpened s (open_file t fd i flags)
 unfolding install
 opens_on s t fd i flags e f g h ready l free =
@@ -114,7 +114,7 @@ opens_on s t fd i flags e f g h ready l free =
       pipes = g;
     }
 
-emptied_ready : (s : State) (i : ℕ) → Ready s (with_content s i []) i
+emptied_ready : (s : FileState) (i : ℕ) → Ready s (with_content s i []) i
 emptied_ready s i j kept = elim (cases_eq j i) [
   | inl is ↦ (subst (λ (k : ℕ). (file_at (with_content s i []) k).name ≡ (file_at s k).name) (sym is) there, inl is)
   | inr other ↦ (ap (λ (f : Inode). f.name) (get_or-set_other s.files i j new none other), inr (get_or-set_other s.files i j new none other))
@@ -129,29 +129,29 @@ emptied_ready s i j kept = elim (cases_eq j i) [
     there : (file_at (with_content s i []) i).name ≡ (file_at s i).name
     there = ⊎_elim (ap (λ (f : Inode). f.name)) (λ q. ap (λ (f : Inode). f.name) (q.0 ∙ sym q.1)) (put_or_not s.files i new none)
 
-opens_file : (s : State) (fd i flags : ℕ) → IsSound s → fd < length s.descriptors → number_at s fd ≡ None → HasOpened s (open_file (truncated s i flags) fd i flags)
+opens_file : (s : FileState) (fd i flags : ℕ) → IsSound s → fd < length s.descriptors → number_at s fd ≡ None → HasOpened s (open_file (truncated s i flags) fd i flags)
 opens_file s fd i flags h l free = by (has_flag flags 512 && not (flags % 4 == 0)) (emptied_is_sound s i flags h)
   where
     by : (b : Bool) → IsSound (cond b (with_content s i []) s) → HasOpened s (open_file (cond b (with_content s i []) s) fd i flags)
     by true h = opens_on s (with_content s i []) fd i flags refl refl refl h (emptied_ready s i) l free
     by false h = opens_on s s fd i flags refl refl refl h (λ j kept. (refl, inr refl)) l free
 
-made_ready : (s : State) (name : List ℕ) → IsSound s → Ready s (with_file s (free_file s) name) (free_file s)
+made_ready : (s : FileState) (name : List ℕ) → IsSound s → Ready s (with_file s (free_file s) name) (free_file s)
 made_ready s name h j kept = (ap (λ (f : Inode). f.name) same, inr same)
   where
     same : file_at (with_file s (free_file s) name) j ≡ file_at s j
     same = with_or_other s.files (free_file s) (record { name = Some name; bytes = [] }) (free_file_near s) j (record { name = None; bytes = [] })
         (λ is. let clash : true ≡ false = sym kept ∙ ap (is_kept s) is ∙ file_is_free s h in cc)
 
-abbrev Opened : State → Answer → Type 0
+abbrev Opened : FileState → Answer → Type 0
 Opened s a = IsRefused s a ⊎ HasOpened s a
 
-makes_file : (s : State) (fd : ℕ) (name : List ℕ) (flags : ℕ) → IsSound s → fd < length s.descriptors → number_at s fd ≡ None → Opened s (create s fd name flags)
+makes_file : (s : FileState) (fd : ℕ) (name : List ℕ) (flags : ℕ) → IsSound s → fd < length s.descriptors → number_at s fd ≡ None → Opened s (create s fd name flags)
 makes_file s fd name flags h l free =
     by_test (Opened s) (nat_le 256 (free_file s)) (only s ENOSPC) (open_file (with_file s (free_file s) name) fd (free_file s) flags) (inl (refused s ENOSPC refl))
     (inr (opens_on s (with_file s (free_file s) name) fd (free_file s) flags refl refl refl (with_file_is_sound s name h) (made_ready s name h) l free))
 
-pub opens_new : (s : State) (dir : ℤ) (path : List ℕ) (flags : ℕ) → IsSound s → IsRefused s (open_at_of s dir path flags) ⊎ HasOpened s (open_at_of s dir path flags)
+pub opens_new : (s : FileState) (dir : ℤ) (path : List ℕ) (flags : ℕ) → IsSound s → IsRefused s (open_at_of s dir path flags) ⊎ HasOpened s (open_at_of s dir path flags)
 unfolding open_at_of
 opens_new s dir path flags h = by (resolved s dir path) (refusal_is_error s dir path)
   where
@@ -171,7 +171,7 @@ opens_new s dir path flags h = by (resolved s dir path) (refusal_is_error s dir 
         (unless (is_refused (file_of s name) flags) name (file_of s name) (refused_is_error (file_of s name) flags))
 
 -- dup
-pub doubles : (s : State) (fd : ℕ) → IsRefused s (dup_of s fd) ⊎ HasDoubled s fd (dup_of s fd)
+pub doubles : (s : FileState) (fd : ℕ) → IsRefused s (dup_of s fd) ⊎ HasDoubled s fd (dup_of s fd)
 unfolding dup_of open_of
 doubles s fd = by (open_of s fd) refl
   where
@@ -193,15 +193,15 @@ doubles s fd = by (open_of s fd) refl
     by (Some o) e = onto (free_descriptor s) o e refl
 
 -- pipe
-descriptors_between : (s : State) (reading : ℕ) → length (install (with_empty s (free_pipe s)) reading (one_way (Reader (free_pipe s)) true)).descriptors ≡ length s.descriptors
+descriptors_between : (s : FileState) (reading : ℕ) → length (install (with_empty s (free_pipe s)) reading (one_way (Reader (free_pipe s)) true)).descriptors ≡ length s.descriptors
 unfolding install
 descriptors_between s reading = length-set s.descriptors reading (Some (free_open (with_empty s (free_pipe s))))
 
-free_between : (s : State) (reading writing : ℕ) → writing ≢ reading → number_at s writing ≡ None → number_at (install (with_empty s (free_pipe s)) reading (one_way (Reader (free_pipe s)) true)) writing ≡ None
+free_between : (s : FileState) (reading writing : ℕ) → writing ≢ reading → number_at s writing ≡ None → number_at (install (with_empty s (free_pipe s)) reading (one_way (Reader (free_pipe s)) true)) writing ≡ None
 unfolding install
 free_between s reading writing other free = get_or-set_other s.descriptors reading writing (Some (free_open (with_empty s (free_pipe s)))) None other ∙ free
 
-has_piped : (s : State) (reading writing : ℕ) → IsSound s → reading < length s.descriptors → number_at s reading ≡ None → reading < writing → writing < length s.descriptors → number_at s writing ≡ None
+has_piped : (s : FileState) (reading writing : ℕ) → IsSound s → reading < length s.descriptors → number_at s reading ≡ None → reading < writing → writing < length s.descriptors → number_at s writing ≡ None
     → HasPiped s (pipe_on s reading (Some writing))
 unfolding install
 has_piped s reading writing h l free above l' free' =
@@ -227,10 +227,10 @@ has_piped s reading writing h l free above l' free' =
       files = refl;
     }
 
-abbrev Piped : State → Answer → Type 0
+abbrev Piped : FileState → Answer → Type 0
 Piped s a = IsRefused s a ⊎ HasPiped s a
 
-pub pipes : (s : State) (flags : ℕ) → IsSound s → IsRefused s (pipe_of s flags) ⊎ HasPiped s (pipe_of s flags)
+pub pipes : (s : FileState) (flags : ℕ) → IsSound s → IsRefused s (pipe_of s flags) ⊎ HasPiped s (pipe_of s flags)
 unfolding pipe_of
 pipes s flags h = by_test (Piped s) (bit_and flags 526336 == flags) (pipe_from s (free_descriptor s)) (only s EINVAL) (by (free_descriptor s) refl) (inl (refused s EINVAL refl))
   where

@@ -1,7 +1,7 @@
 -- The programs are programs that a file holds, and their files are short.
 use Rattle.std.proofs.Common.{◌≡◌, ℕ, ◌+◌, ◌^◌, ◌≤◌, true, refl, ap, ◌∙◌, nat_lt, nat_le, List, [], ◌∷◌, ◌++◌, length, length-append, arith}
 use Rattle.std.proofs.lemmas.Bool.Decides.{nat_tests}
-use Rattle.nv_elf.specs.Elf.{Image}
+use Rattle.nv_elf.specs.Elf.{Executable}
 use Rattle.nv_elf.specs.Written.{is_program, bytes_in, file_of, file_header, table_from, contents_from}
 use Rattle.nv_elf.proofs.ReadBack.{length-file_header}
 use Rattle.nv_elf.proofs.Tables.{length-table_from, length-contents_from}
@@ -33,5 +33,5 @@ pub program-small : (k : Numbers) (c : Course) → length (segment_bytes k c) �
 unfolding program
 program-small k c most = omega arith
 
-pub file-short : (k : Numbers) (c : Course) (p : Image) (file : List ℕ) → length (segment_bytes k c) ≤ 300000 → p ≡ program k c → file ≡ file_of p → length file ≤ 4194304
-file-short k c p file most made written = let e = ap length written ∙ ap (λ (q : Image). length (file_of q)) made ∙ length-program k c in omega arith
+pub file-short : (k : Numbers) (c : Course) (p : Executable) (file : List ℕ) → length (segment_bytes k c) ≤ 300000 → p ≡ program k c → file ≡ file_of p → length file ≤ 4194304
+file-short k c p file most made written = let e = ap length written ∙ ap (λ (q : Executable). length (file_of q)) made ∙ length-program k c in omega arith

@@ -6,7 +6,7 @@ use Rattle.nv_calls.specs.Numbers.{EXIT_GROUP}
 use Rattle.nv_isa.specs.declared.op.Op.TheVariants.{Addi, Lui, Ecall, Ebreak}
 use Rattle.nv_isa.specs.declared.op.Insn.{Insn}
 use Rattle.nv_isa.specs.Spelling.{encoded}
-use Rattle.nv_elf.specs.Elf.{Range, Image}
+use Rattle.nv_elf.specs.Elf.{Range, Executable}
 use Rattle.nv_gen.specs.Made.{Numbers, Call, Write, Getuid, Ending, Breaks, Exits, Course, courses_to, numbers_of}
 
 -- the register gets a number below 2048 (li)
@@ -68,13 +68,13 @@ abbrev pub text_range : Numbers → Course → Range
 text_range k c = record { address = 65536; size = length (segment_bytes k c); read = true; write = false; execute = true; bytes = segment_bytes k c }
 
 -- the one range, with the entry at the code
-unfoldable pub program : Numbers → Course → Image
+unfoldable pub program : Numbers → Course → Executable
 program k c = record { entry = 65600; ranges = text_range k c ∷ [] }
 
 -- the programs of the first versions
-abbrev pub programs_to : Numbers → ℕ → List Image
+abbrev pub programs_to : Numbers → ℕ → List Executable
 programs_to k count = map (program k) (courses_to k count)
 
 -- the programs of all versions
-abbrev pub programs : ℕ → List Image
+abbrev pub programs : ℕ → List Executable
 programs n = programs_to (numbers_of n) (numbers_of n).versions

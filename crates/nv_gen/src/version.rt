@@ -1,6 +1,6 @@
 // The file of a version.
 ghost use Rattle.std.specs.Prelude.{◌≡◌, ◌≤◌, ◌<◌, ◌++◌, OnOk, IfOk, length, vec_len};
-ghost use Rattle.nv_elf.specs.Elf.{elf_of, image_of, range_of, Accepted};
+ghost use Rattle.nv_elf.specs.Elf.{elf_of, executable_of, range_of, Accepted};
 ghost use Rattle.nv_gen.specs.Made.{course};
 ghost use Rattle.nv_gen.specs.Plans.{numbers_in};
 ghost use Rattle.nv_gen.specs.Programs.{program, segment_bytes, text_range, block};
@@ -44,7 +44,7 @@ fn segment(alloc: Global, plan: &Plan, version: u32) -> Result<Segment, AllocErr
 #[tactic(auto, unfolding(crate::specs::Programs::program))]
 fn program(alloc: Global, plan: &Plan, version: u32) -> Result<Program, AllocError>
     requires { version < plan.now.versions }
-    ensures image { IfOk result (λ made. image_of made ≡ program (numbers_in plan.now) (course (numbers_in plan.now) version)) }
+    ensures image { IfOk result (λ made. executable_of made ≡ program (numbers_in plan.now) (course (numbers_in plan.now) version)) }
     ensures short { OnOk result (length (segment_bytes (numbers_in plan.now) (course (numbers_in plan.now) version)) ≤ 300_000) }
     ensures long { OnOk result (68 ≤ length (segment_bytes (numbers_in plan.now) (course (numbers_in plan.now) version))) }
 {

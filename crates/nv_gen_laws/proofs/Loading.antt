@@ -22,18 +22,18 @@ use Rattle.nv_gen_laws.proofs.Standing.{IsText, stand, all-fit}
 use Rattle.nv_gen_laws.proofs.Sizes.{AreSmall, Part}
 
 -- what a loading that succeeded tells
-record IsReady (p : elf.Image) (args : List (List ℕ)) (size : ℕ) (m : Machine) : Type 0 where
+record IsReady (p : elf.Executable) (args : List (List ℕ)) (size : ℕ) (m : Machine) : Type 0 where
   room : first_beyond p.ranges (size - 65536) 0 ≡ None
   arguments : nat_le (size - stack_pointer size args) 65536 ≡ true
   machine : first_machine p args size ≡ m
 
-ready-by : (p : elf.Image) (args : List (List ℕ)) (size : ℕ) (m : Machine) (beyond : Option ℕ) (fits : Bool) → first_beyond p.ranges (size - 65536) 0 ≡ beyond
+ready-by : (p : elf.Executable) (args : List (List ℕ)) (size : ℕ) (m : Machine) (beyond : Option ℕ) (fits : Bool) → first_beyond p.ranges (size - 65536) 0 ≡ beyond
     → nat_le (size - stack_pointer size args) 65536 ≡ fits → loaded_if beyond p args size ≡ Ready m → IsReady p args size m
 ready-by p args size m (Some n) fits b f e = cc
 ready-by p args size m None true b f e = let h : Ready (first_machine p args size) ≡ Ready m = ap (λ x. cond x (Ready (first_machine p args size)) NoRoomForArguments) (sym f) ∙ e in record { room = b; arguments = f; machine = cc }
 ready-by p args size m None false b f e = let h : NoRoomForArguments ≡ Ready m = ap (λ x. cond x (Ready (first_machine p args size)) NoRoomForArguments) (sym f) ∙ e in cc
 
-ready-is : (p : elf.Image) (args : List (List ℕ)) (size : ℕ) (m : Machine) → loaded p args size ≡ Ready m → IsReady p (all_arguments args) size m
+ready-is : (p : elf.Executable) (args : List (List ℕ)) (size : ℕ) (m : Machine) → loaded p args size ≡ Ready m → IsReady p (all_arguments args) size m
 unfolding loaded
 ready-is p args size m e = ready-by p (all_arguments args) size m _ _ refl refl e
 

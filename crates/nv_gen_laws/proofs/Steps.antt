@@ -13,7 +13,7 @@ use Rattle.nv_machine.specs.declared.outcome.Stepped.{Stepped}
 use Rattle.nv_machine.specs.declared.outcome.Stepped.TheVariants as ends
 use Rattle.nv_machine.specs.declared.outcome.FaultKind.TheVariants as kinds
 use Rattle.nv_machine.specs.Effects.{sum}
-use Rattle.nv_machine.specs.Guest.{Machine, Outcome, fetched, executed, effect, guest_step}
+use Rattle.nv_machine.specs.Guest.{Machine, StepResult, fetched, executed, effect, guest_step}
 use Rattle.nv_guest.specs.Threads.{run, unless_stopped}
 use Rattle.nv_gen.specs.Programs.{sets, points, ecall, ebreak}
 use Rattle.nv_gen.proofs.Fitting.{fits-sets, fits-points, fits-ecall, fits-ebreak}
@@ -68,22 +68,22 @@ pub stops-on : (m next at : Machine) (how : Stepped) → guest_step m ≡ (ends.
 unfolding run
 stops-on m next at how step later = record {
   most = suc later.most;
-  way = ap (λ (o : Outcome). (unless_stopped (run later.most) o).1) step ∙ later.way;
-  place = ap (λ (o : Outcome). (unless_stopped (run later.most) o).2) step ∙ later.place;
+  way = ap (λ (o : StepResult). (unless_stopped (run later.most) o).1) step ∙ later.way;
+  place = ap (λ (o : StepResult). (unless_stopped (run later.most) o).2) step ∙ later.place;
 }
 
 pub stops-call : (m at : Machine) → guest_step m ≡ (ends.Call, at) → Stops m ends.Call at
 unfolding run
 stops-call m at step = record {
   most = 1;
-  way = ap (λ (o : Outcome). (unless_stopped (run 0) o).1) step;
-  place = ap (λ (o : Outcome). (unless_stopped (run 0) o).2) step;
+  way = ap (λ (o : StepResult). (unless_stopped (run 0) o).1) step;
+  place = ap (λ (o : StepResult). (unless_stopped (run 0) o).2) step;
 }
 
 pub stops-break : (m at : Machine) → guest_step m ≡ (ends.Fault kinds.Breakpoint, at) → Stops m (ends.Fault kinds.Breakpoint) at
 unfolding run
 stops-break m at step = record {
   most = 1;
-  way = ap (λ (o : Outcome). (unless_stopped (run 0) o).1) step;
-  place = ap (λ (o : Outcome). (unless_stopped (run 0) o).2) step;
+  way = ap (λ (o : StepResult). (unless_stopped (run 0) o).1) step;
+  place = ap (λ (o : StepResult). (unless_stopped (run 0) o).2) step;
 }

@@ -1,6 +1,6 @@
 -- The versions of a large run, once they are loaded.
 use Rattle.std.specs.Prelude.{◌≡◌, ℕ, List, []}
-use Rattle.nv_elf.specs.Elf.{Image}
+use Rattle.nv_elf.specs.Elf.{Executable}
 use Rattle.nv_machine.specs.Guest.{Machine}
 use Rattle.nv_guest.specs.Load.{IsMemorySize, Ready, loaded}
 use Rattle.nv_gen.specs.Made.{Course, numbers_of, course}
@@ -11,7 +11,7 @@ use Rattle.nv_gen_laws.specs.Making.{Does}
 abbrev pub course_at : ℕ → ℕ → Course
 course_at n version = course (numbers_of n) version
 
-abbrev pub program_at : ℕ → ℕ → Image
+abbrev pub program_at : ℕ → ℕ → Executable
 program_at n version = program (numbers_of n) (course_at n version)
 
 -- loaded with any arguments into a memory of any size that has room for it, it does what the definition says

@@ -1,7 +1,7 @@
 -- The heap of a guest that is made.
 use Rattle.std.proofs.Common.{◌≡◌, ◌∙◌, sym, ap, subst, refl, ℕ, ◌+◌, ◌-◌, List, [], ◌∷◌, ◌++◌, inl, inr, length, map, replicate, None, arith}
 use Rattle.std.proofs.lemmas.List.{length-replicate}
-use Rattle.nv_elf.specs.Elf.{Range, Image}
+use Rattle.nv_elf.specs.Elf.{Range, Executable}
 use Rattle.nv_memory.specs.declared.region.Region.{Region}
 use Rattle.nv_memory.specs.Bytes.{put}
 use Rattle.nv_memory.proofs.BytesLaws.{length_put}
@@ -17,7 +17,7 @@ length_ranges : (bytes : List ℕ) (rs : List Range) → length (with_ranges byt
 length_ranges bytes [] = refl
 length_ranges bytes (r ∷ rs) = length_ranges (put bytes r.address r.bytes) rs ∙ length_put bytes r.address r.bytes
 
-length_first : (p : Image) (arguments : List (List ℕ)) (size : ℕ) → length (first_bytes p arguments size) ≡ size
+length_first : (p : Executable) (arguments : List (List ℕ)) (size : ℕ) → length (first_bytes p arguments size) ≡ size
 unfolding first_bytes
 length_first p arguments size =
     let bytes = with_ranges (replicate size 0) p.ranges in
@@ -40,7 +40,7 @@ clear [] start limit a b e h = (inr (omega (arith, h)), tt)
 clear (r ∷ []) start limit a b e h = (inl e.0, clear [] start limit a b e.1 h)
 clear (r ∷ s ∷ rs) start limit a b e h = (inl e.0, clear (s ∷ rs) start limit a b e.1 h)
 
-pub first_has : (p : Image) (arguments : List (List ℕ)) (size : ℕ) (memory : memories.Image) → IsMemorySize size → IsPlaced p → first_beyond p.ranges (size - 65536) 0 ≡ None
+pub first_has : (p : Executable) (arguments : List (List ℕ)) (size : ℕ) (memory : memories.Image) → IsMemorySize size → IsPlaced p → first_beyond p.ranges (size - 65536) 0 ≡ None
     → memory.bytes ≡ first_bytes p arguments size → memory.regions ≡ regions_of p.ranges size → HasHeap memory (first_heap p.ranges size)
 first_has p arguments size memory ok placed none bytes regions =
     let n : length memory.bytes ≡ size = ap length bytes ∙ length_first p arguments size in

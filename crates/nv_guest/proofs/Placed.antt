@@ -6,7 +6,7 @@ use Rattle.std.specs.List.{AllByRecursion, list_any, position_from}
 use Rattle.std.proofs.lemmas.Bool.{and_parts, cases_Bool, or_left, or_right, eqb-true}
 use Rattle.std.proofs.lemmas.Bool.Decides.{nat_tests}
 use Rattle.std.proofs.lemmas.List.Elements.{All-from_recursion}
-use Rattle.nv_elf.specs.Elf.{Range, Image, range_of, range_extent, shares, overlap_from, is_entry}
+use Rattle.nv_elf.specs.Elf.{Range, Executable, range_of, range_extent, shares, overlap_from, is_entry}
 use Rattle.nv_elf.specs.Written.{is_program}
 use Rattle.nv_elf.specs.declared.program.Segment.{Segment}
 use Rattle.nv_memory.specs.declared.region.Region.{Region}
@@ -14,7 +14,7 @@ use Rattle.nv_memory.specs.Regions.{Apart, AreRegions, has_range}
 use Rattle.nv_guest.specs.Load.{first_beyond, highest, heap_start, region_of, data_region, regions_of, IsMemorySize}
 
 -- what the loader uses of a program
-pub record IsPlaced (p : Image) : Type 0 where
+pub record IsPlaced (p : Executable) : Type 0 where
   pub few : length p.ranges ≤ 16
   pub apart : overlap_from range_extent 0 p.ranges ≡ None
   pub entry : p.entry % 4 ≡ 0
@@ -23,7 +23,7 @@ none_of : {A : Type 0} (x : Option A) → is_none x ≡ true → x ≡ None
 none_of None h = refl
 none_of (Some x) h = cc
 
-pub program_is_placed : (p : Image) → IsTrue (is_program p) → IsPlaced p
+pub program_is_placed : (p : Executable) → IsTrue (is_program p) → IsPlaced p
 unfolding is_program
 program_is_placed p h =
     let one = and_parts (nat_le (length p.ranges) 16) _ h in
@@ -96,7 +96,7 @@ lie size limit heap (r ∷ rs) i le below a b none =
     )
 
 -- the regions lie in the memory, apart from one another
-pub regions_lie : (p : Image) (size : ℕ) → IsMemorySize size → IsPlaced p → first_beyond p.ranges (size - 65536) 0 ≡ None → AreRegions size (regions_of p.ranges size)
+pub regions_lie : (p : Executable) (size : ℕ) → IsMemorySize size → IsPlaced p → first_beyond p.ranges (size - 65536) 0 ≡ None → AreRegions size (regions_of p.ranges size)
 regions_lie p size ok placed none =
     let ends : EndBy (size - 65536) p.ranges = end_by p.ranges (size - 65536) 0 none in
     let top : highest p.ranges ≤ size - 65536 = highest_below p.ranges (size - 65536) ends in

@@ -3,7 +3,7 @@ use Rattle.std.proofs.Common.{◌≡◌, ◌∙◌, ap, refl, ℕ, suc, ◌+◌,
 use Rattle.nv_machine.specs.declared.outcome.FaultKind.{FaultKind}
 use Rattle.nv_machine.specs.declared.outcome.Stepped.TheVariants.{On, Call, Fault}
 use Rattle.nv_machine.specs.declared.outcome.Stepped.{Stepped}
-use Rattle.nv_machine.specs.Guest.{Machine, Outcome, guest_step}
+use Rattle.nv_machine.specs.Guest.{Machine, StepResult, guest_step}
 use Rattle.nv_guest.specs.Threads.{run, Ran, more, unless_stopped}
 
 run_here : (most count : ℕ) (m : Machine) → count < most → run (most - count) m ≡ unless_stopped (run (most - (count + 1))) (guest_step m)
@@ -30,7 +30,7 @@ pub run_ends : (most count n : ℕ) (m : Machine) → most - count ≡ 0 → cou
 unfolding run
 run_ends most count n m h e = rw (h, e) refl
 
-one_by : (o : Outcome) (r : Ran) → r ≡ unless_stopped (run 0) o → (r.1, r.2) ≡ o
+one_by : (o : StepResult) (r : Ran) → r ≡ unless_stopped (run 0) o → (r.1, r.2) ≡ o
 unfolding run
 one_by (On, x) r h = ap (λ (q : Ran). (q.1, q.2)) h
 one_by (Call, x) r h = ap (λ (q : Ran). (q.1, q.2)) h

@@ -15,7 +15,7 @@ use Rattle.nv_memory.specs.Image.{Image, stored, loaded}
 use Rattle.nv_machine.specs.declared.outcome.Stepped.TheVariants.{On, Call, Fault}
 use Rattle.nv_machine.specs.declared.outcome.FaultKind.TheVariants as kinds
 use Rattle.nv_machine.specs.Effects.{sum, combined}
-use Rattle.nv_machine.specs.Guest.{Machine, Outcome, fault, stores, is_word, is_reserved, store_conditional, word_at, combines, effect, executed, fetched, guest_step, register, immediate_word, width_of}
+use Rattle.nv_machine.specs.Guest.{Machine, StepResult, fault, stores, is_word, is_reserved, store_conditional, word_at, combines, effect, executed, fetched, guest_step, register, immediate_word, width_of}
 use Rattle.nv_calls.specs.declared.numbers.Syscall.{Syscall}
 use Rattle.nv_calls.specs.declared.numbers.Syscall.TheVariants.{Readv}
 use Rattle.nv_calls.specs.Numbers.{syscall_of}
@@ -91,7 +91,7 @@ answered_stays m ret bytes = after_stays (syscall_of (number m)) m bytes
 
 -- ---- instructions
 
-store_by : (b : Bool) (m x : Machine) → Stays m.memory x.memory → Stays m.memory (cond {A = Outcome} b (On, x) (fault kinds.Store m)).1.memory
+store_by : (b : Bool) (m x : Machine) → Stays m.memory x.memory → Stays m.memory (cond {A = StepResult} b (On, x) (fault kinds.Store m)).1.memory
 store_by true m x h = h
 store_by false m x h = stays m.memory
 
@@ -101,7 +101,7 @@ stores_stay o i m =
     store_by (holds m.memory.regions a (byte_count (width_of o)) Write) m _ (put_stays m.memory a (little_bytes (byte_count (width_of o)) (register m.regs i.rs2)))
 
 tried_by : (b c : Bool) (m x y : Machine) → Stays m.memory x.memory → Stays m.memory y.memory
-    → Stays m.memory (cond {A = Outcome} b (cond {A = Outcome} c (On, x) (On, y)) (fault kinds.Store m)).1.memory
+    → Stays m.memory (cond {A = StepResult} b (cond {A = StepResult} c (On, x) (On, y)) (fault kinds.Store m)).1.memory
 tried_by true true m x y h k = h
 tried_by true false m x y h k = k
 tried_by false c m x y h k = stays m.memory
@@ -144,7 +144,7 @@ step_stays : (m : Machine) → Stays m.memory (guest_step m).1.memory
 unfolding guest_step
 step_stays m = fetched_stays (loaded m.memory m.regs.pc Four Execute) m
 
-unless_stays : (most : ℕ) (m : Machine) (s : Outcome) → Stays m.memory s.1.memory → (Stays s.1.memory (run most s.1).2.memory) → Stays m.memory (unless_stopped (run most) s).2.memory
+unless_stays : (most : ℕ) (m : Machine) (s : StepResult) → Stays m.memory s.1.memory → (Stays s.1.memory (run most s.1).2.memory) → Stays m.memory (unless_stopped (run most) s).2.memory
 unless_stays most m (On, x) p q = then_stays m.memory x.memory (run most x).2.memory p q
 unless_stays most m (Call, x) p q = p
 unless_stays most m (Fault kind, x) p q = p

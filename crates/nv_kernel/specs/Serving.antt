@@ -25,7 +25,7 @@ use Rattle.nv_kernel.specs.Crew.{Crew, first_crew, clone_of, exit_of, over}
 
 -- The files; the threads that live; how many calls were served; the clock at the first call and how far each call moves it, in nanoseconds; the generator's state.
 pub record State : Type 0 where
-  pub files : fs.State
+  pub files : fs.FileState
   pub crew : Crew
   pub served : ℕ
   pub start : ℕ

@@ -17,9 +17,9 @@ use Rattle.nv_machine.specs.declared.outcome.Stepped.TheVariants as ends
 use Rattle.nv_machine.specs.declared.outcome.FaultKind.TheVariants as kinds
 use Rattle.nv_machine.specs.Registers.{Registers}
 use Rattle.nv_machine.specs.Effects.{sum, is_taken}
-use Rattle.nv_machine.specs.Guest.{Machine, Outcome, fault, with_memory, gets, jumps, branches, gets_loaded, loads, stores, compares, is_word, is_reserved, load_reserved, store_conditional, combines, register, immediate_word, next, width_of, extended, effect, executed, fetched, guest_step}
+use Rattle.nv_machine.specs.Guest.{Machine, StepResult, fault, with_memory, gets, jumps, branches, gets_loaded, loads, stores, compares, is_word, is_reserved, load_reserved, store_conditional, combines, register, immediate_word, next, width_of, extended, effect, executed, fetched, guest_step}
 
-abbrev Rests : Outcome → Machine → Type 0
+abbrev Rests : StepResult → Machine → Type 0
 Rests o m = o.0 ≢ On → o.1 ≡ m
 
 abbrev RegistersRest : Stepped × Registers → Registers → Type 0
@@ -116,7 +116,7 @@ effect_rests _ i m = λ n. absurd (n refl)
 -- an instruction that ends in no `On` has changed nothing
 pub instruction_rests : (s : Stepped) (a m : Machine) (o : Op) (i : Insn) → (s, a) ≡ effect o i m → s ≢ On → a ≡ m
 instruction_rests s a m o i e n =
-    ap (λ (o : Outcome). o.1) e ∙ effect_rests o i m (λ h. n (ap (λ (o : Outcome). o.0) e ∙ h))
+    ap (λ (o : StepResult). o.1) e ∙ effect_rests o i m (λ h. n (ap (λ (o : StepResult). o.0) e ∙ h))
 
 executed_rests : (d : Option Insn) (m : Machine) → Rests (executed d m) m
 executed_rests None m = λ n. refl

@@ -28,15 +28,15 @@ pub record Machine : Type 0 where
   pub memory : Image
 
 -- how the step ended, and the machine after it
-abbrev pub Outcome : Type 0
-Outcome = Stepped × Machine
+abbrev pub StepResult : Type 0
+StepResult = Stepped × Machine
 
 -- a fault changes nothing
-abbrev pub fault : FaultKind → Machine → Outcome
+abbrev pub fault : FaultKind → Machine → StepResult
 fault k m = (ends.Fault k, m)
 
 -- an outcome that changes the registers alone
-abbrev pub with_memory : Image → Stepped × Registers → Outcome
+abbrev pub with_memory : Image → Stepped × Registers → StepResult
 with_memory memory r = (r.0, record { regs = r.1; memory = memory })
 
 -- what register n holds
@@ -89,7 +89,7 @@ abbrev pub loads : Op → Insn → Registers → Image → Stepped × Registers
 loads o i r memory = gets_loaded i.rd (loaded memory (sum (register r i.rs1) (immediate_word i)) (width_of o) Read) (extended o) r
 
 -- a store, at rs1 and the immediate
-abbrev pub stores : Op → Insn → Machine → Outcome
+abbrev pub stores : Op → Insn → Machine → StepResult
 stores o i m = let a = sum (register m.regs i.rs1) (immediate_word i) in
     if holds m.memory.regions a (byte_count (width_of o)) Write then (ends.On, record { regs = record m.regs { pc = next m.regs }; memory = record m.memory { bytes = put m.memory.bytes a (little_bytes (byte_count (width_of o)) (register m.regs i.rs2)) } }) else fault kinds.Store m
 
@@ -128,21 +128,21 @@ load_reserved i r memory = let a = register r i.rs1 in
     if is_word memory a Read then gets i.rd (word_at memory a) (next r) (record r { reserved = Some a }) else (ends.Fault kinds.Load, r)
 
 -- SC.W: rs2 is stored at rs1 and rd gets 0 where that address is reserved, else rd gets 1; the reservation ends
-abbrev pub store_conditional : Insn → Machine → Outcome
+abbrev pub store_conditional : Insn → Machine → StepResult
 store_conditional i m = let a = register m.regs i.rs1 in let released = record m.regs { reserved = None } in
     if is_word m.memory a Write then (
     if is_reserved m.regs.reserved a then with_memory (with_word m.memory a (register m.regs i.rs2)) (gets i.rd 0 (next m.regs) released)
     else with_memory m.memory (gets i.rd 1 (next m.regs) released)) else fault kinds.Store m
 
 -- an atomic operation: rd gets the word at rs1, which becomes what the operation makes of it and rs2
-abbrev pub combines : Op → Insn → Machine → Outcome
+abbrev pub combines : Op → Insn → Machine → StepResult
 combines o i m = let a = register m.regs i.rs1 in
     if is_word m.memory a Write && holds m.memory.regions a 4 Read then
     with_memory (with_word m.memory a (combined o (word_at m.memory a) (register m.regs i.rs2))) (gets i.rd (word_at m.memory a) (next m.regs) m.regs)
     else fault kinds.Store m
 
 -- the effect of an instruction
-abbrev pub effect : Op → Insn → Machine → Outcome
+abbrev pub effect : Op → Insn → Machine → StepResult
 effect Lui i m = with_memory m.memory (gets i.rd (immediate_word i) (next m.regs) m.regs)
 effect Auipc i m = with_memory m.memory (gets i.rd (sum m.regs.pc (immediate_word i)) (next m.regs) m.regs)
 effect Jal i m = with_memory m.memory (jumps i.rd (sum m.regs.pc (immediate_word i)) m.regs)
@@ -204,15 +204,15 @@ effect AmoMinu i m = combines AmoMinu i m
 effect AmoMaxu i m = combines AmoMaxu i m
 
 -- the instruction that was read, if there is one
-abbrev pub executed : Option Insn → Machine → Outcome
+abbrev pub executed : Option Insn → Machine → StepResult
 executed None m = fault kinds.Illegal m
 executed (Some i) m = effect i.op i m
 
 -- the word that was fetched, or the refusal
-abbrev pub fetched : Result ℕ Access → Machine → Outcome
+abbrev pub fetched : Result ℕ Access → Machine → StepResult
 fetched (Ok w) m = executed (decoded w) m
 fetched (Err e) m = fault kinds.Fetch m
 
 -- what a step does
-unfoldable pub guest_step : Machine → Outcome
+unfoldable pub guest_step : Machine → StepResult
 guest_step m = fetched (loaded m.memory m.regs.pc Four Execute) m

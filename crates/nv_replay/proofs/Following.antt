@@ -8,14 +8,14 @@ use Rattle.nv_threads.specs.declared.turns.Came.TheVariants.{Asked, Fault}
 use Rattle.nv_machine.specs.declared.outcome.FaultKind.{FaultKind}
 use Rattle.nv_replay.specs.declared.fate.Fate.{Fate}
 use Rattle.nv_replay.specs.declared.fate.Fate.TheVariants.{Fault as Faulted}
-use Rattle.nv_replay.specs.Permits.{Permit, Give, Drop, No, HasGiven}
+use Rattle.nv_replay.specs.Permits.{Permit, Give, Pass, No, HasGiven}
 use Rattle.nv_replay.specs.Follow.{Follower, Judge, decided, met, judged, consumed, permit_by, refusal_by}
 
 module _ {P : Type 0} (g : Behaviour P) (judge : Judge) (e : Entry) (s : Follower P) where
   judged_again : (q p : P) (t : ℕ) (f : Fate) (o : Permit) → judged g (record s { process = q }) p t f o ≡ judged g s p t f o
   unfolding judged
   judged_again q p t f (Give r) = refl
-  judged_again q p t f Drop = refl
+  judged_again q p t f Pass = refl
   judged_again q p t f No = refl
 
   -- the process before is of no account
@@ -52,7 +52,7 @@ module _ {P : Type 0} (g : Behaviour P) (s : Follower P) (p : P) (t : ℕ) (f : 
   unfolding judged
   judged_give o r h = rw h refl
 
-  pub judged_drop : (o : Permit) → o ≡ Drop → judged g s p t f o ≡ record s { process = p; seen = s.seen + 1; rewrites = s.rewrites + 1 }
+  pub judged_drop : (o : Permit) → o ≡ Pass → judged g s p t f o ≡ record s { process = p; seen = s.seen + 1; rewrites = s.rewrites + 1 }
   unfolding judged
   judged_drop o h = rw h refl
 

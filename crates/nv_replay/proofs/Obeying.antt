@@ -8,8 +8,8 @@ use Rattle.nv_rules.specs.declared.outcome.Verdict.{Verdict}
 use Rattle.nv_replay.specs.declared.version.Followed.{Followed}
 use Rattle.nv_replay.specs.declared.version.Followed.TheVariants.{Matched, Rewrote, Skipped, Dropped}
 use Rattle.nv_calls.specs.Numbers.{is_of_threads}
-use Rattle.nv_replay.specs.Permits.{Permit, Give, Drop, No, failed, passed}
-use Rattle.nv_replay.specs.Follow.{Follower, Told, judged, refusal_of}
+use Rattle.nv_replay.specs.Permits.{Permit, Give, Pass, No, failed, passed}
+use Rattle.nv_replay.specs.Follow.{Follower, IsCounted, judged, refusal_of}
 use Rattle.nv_replay.specs.Versions.{Running}
 use Rattle.nv_replay.proofs.Following.{judged_give, judged_drop, judged_no}
 
@@ -26,7 +26,7 @@ module _ {P : Type 0} (g : Behaviour P) (t value : ℕ) (e : Entry) where
       → n ≡ record r { at = record r.at { process = g.answered r.at.process t reply; rewrites = r.at.rewrites + 1 } } → n ≡ obeyed o r
   is_answered o r n reply h k = k ∙ ap (λ (x : Follower P). record r { at = x }) (sym (judged_give g r.at r.at.process t _ _ reply h))
 
-  pub is_passed : (o : Request → Permit) (r n : Running P) → o (g.call r.at.process t) ≡ Drop
+  pub is_passed : (o : Request → Permit) (r n : Running P) → o (g.call r.at.process t) ≡ Pass
       → n ≡ record r { at = record r.at { seen = r.at.seen + 1; rewrites = r.at.rewrites + 1 } } → n ≡ obeyed o r
   is_passed o r n h k = k ∙ ap (λ (x : Follower P). record r { at = x }) (sym (judged_drop g r.at r.at.process t _ _ h))
 
@@ -54,11 +54,11 @@ failed_gives c k l h = let b : nat_le k 4095 ≡ true = grind (arith, nat_tests)
 pub passed_not : (e : Entry) → is_of_threads e.call.nr ≡ true → passed e ≡ No
 passed_not e h = rw h refl
 
-pub passed_drops : (e : Entry) → is_of_threads e.call.nr ≡ false → passed e ≡ Drop
+pub passed_drops : (e : Entry) → is_of_threads e.call.nr ≡ false → passed e ≡ Pass
 passed_drops e h = rw h refl
 
 -- what is told doesn't speak of the process before
-pub told_again : {P : Type 0} (v : Verdict) (f : Followed) (a b n : Follower P) → a.seen ≡ b.seen → a.rewrites ≡ b.rewrites → Told v f a n → Told v f b n
+pub told_again : {P : Type 0} (v : Verdict) (f : Followed) (a b n : Follower P) → a.seen ≡ b.seen → a.rewrites ≡ b.rewrites → IsCounted v f a n → IsCounted v f b n
 told_again v Matched a b n h k t = (t.0 ∙ ap (λ x. x + 1) h, t.1 ∙ k)
 told_again v (Rewrote w) a b n h k t = (t.0 ∙ h, t.1 ∙ ap (λ x. x + 1) k, t.2, t.3)
 told_again v Skipped a b n h k t = (t.0 ∙ ap (λ x. x + 1) h, t.1 ∙ ap (λ x. x + 1) k, t.2)

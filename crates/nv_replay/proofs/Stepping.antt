@@ -15,7 +15,7 @@ use Rattle.nv_rules.specs.declared.outcome.Verdict.{Verdict}
 use Rattle.nv_rules.specs.declared.outcome.Verdict.TheVariants.{Allow, Errno, Skip, Refuse}
 use Rattle.nv_rules.specs.Verdicts.{verdict_of}
 use Rattle.nv_calls.specs.Numbers.{syscall_of, is_of_threads}
-use Rattle.nv_replay.specs.Permits.{Permit, Give, Drop, No, permit, given}
+use Rattle.nv_replay.specs.Permits.{Permit, Give, Pass, No, permit, given}
 use Rattle.nv_calls.specs.Constants.{constant_of}
 use Rattle.nv_replay.specs.Follow.{Follower, Judge, decided, met, judged, consumed, permit_by, refusal_by, IsInStep, is_exited}
 use Rattle.nv_replay.proofs.Falling.{within}
@@ -46,12 +46,12 @@ quiet_live live e h =
     rw (a, b, k) refl
 
 -- what the rules answer or pass moves no thread
-pass_quiet : (c : Request) (e : Entry) (v : Verdict) → permit c e v ≡ Drop → is_of_threads e.call.nr ≡ false
-pass_quiet c e Allow h = elim (constant_of c) as (λ o. given o ≡ Drop → is_of_threads e.call.nr ≡ false) [ None ↦ λ k. cc | Some x ↦ λ k. cc ] h
+pass_quiet : (c : Request) (e : Entry) (v : Verdict) → permit c e v ≡ Pass → is_of_threads e.call.nr ≡ false
+pass_quiet c e Allow h = elim (constant_of c) as (λ o. given o ≡ Pass → is_of_threads e.call.nr ≡ false) [ None ↦ λ k. cc | Some x ↦ λ k. cc ] h
 pass_quiet c e (Errno k) h = elim (nat_le k 4095 && not (is_of_threads c.nr)) as
-    (λ b. cond b (Give (record { ret = pos 0 -ℤ pos k; payload = [] })) No ≡ Drop
+    (λ b. cond b (Give (record { ret = pos 0 -ℤ pos k; payload = [] })) No ≡ Pass
     → is_of_threads e.call.nr ≡ false) [ true ↦ λ q. cc | false ↦ λ q. cc ] h
-pass_quiet c e Skip h = elim (is_of_threads e.call.nr) as (λ b. cond b No Drop ≡ Drop → b ≡ false) [ true ↦ λ q. cc | false ↦ λ q. refl ] h
+pass_quiet c e Skip h = elim (is_of_threads e.call.nr) as (λ b. cond b No Pass ≡ Pass → b ≡ false) [ true ↦ λ q. cc | false ↦ λ q. refl ] h
 pass_quiet c e (Refuse v) h = cc
 
 or_true : (a b c : Bool) → (a || b || c) ≡ true → (a ≡ true) ⊎ ((b ≡ true) ⊎ (c ≡ true))
@@ -94,7 +94,7 @@ errno_quiet false true x r h = cc
 give_quiet : (c : Request) (e : Entry) (v : Verdict) (r : Response) → permit c e v ≡ Give r → is_of_threads c.nr ≡ false
 give_quiet c e Allow r h = constant_quiet c (is_of_threads c.nr) r refl h
 give_quiet c e (Errno k) r h = errno_quiet (nat_le k 4095) (is_of_threads c.nr) (record { ret = pos 0 -ℤ pos k; payload = [] }) r h
-give_quiet c e Skip r h = elim (is_of_threads e.call.nr) as (λ b. cond b No Drop ≡ Give r
+give_quiet c e Skip r h = elim (is_of_threads e.call.nr) as (λ b. cond b No Pass ≡ Give r
     → is_of_threads c.nr ≡ false) [ true ↦ λ q. cc | false ↦ λ q. cc ] h
 give_quiet c e (Refuse v) r h = cc
 
@@ -132,7 +132,7 @@ module _ {P : Type 0} (g : Behaviour P) (laws : IsProcess g) (judge : Judge) whe
 
   judged_by : (log : List Entry) (e : Entry) (s : Follower P) (p : P) (t : ℕ) (f : Fate) (o : Permit) → slice_get log s.seen ≡ Some e
       → IsInStep g log s → s.fate ≡ None → g.live p ≡ g.live s.process → g.pending p t ≡ true → Contains (g.live p) t
-      → (o ≡ Drop → is_of_threads e.call.nr ≡ false) → ((r : Response) → o ≡ Give r → is_of_threads (g.call p t).nr ≡ false)
+      → (o ≡ Pass → is_of_threads e.call.nr ≡ false) → ((r : Response) → o ≡ Give r → is_of_threads (g.call p t).nr ≡ false)
       → is_exited (Some f) ≡ false → IsInStep g log (judged g s p t f o)
   unfolding judged
   judged_by log e s p t f (Give r) h i n l q c a b x =
@@ -142,7 +142,7 @@ module _ {P : Type 0} (g : Behaviour P) (laws : IsProcess g) (judge : Judge) whe
         on = λ m. still_on s.process (g.answered p t r) (g.ended (g.answered p t r)) refl k (i.on n);
         exited = λ m. let z = rw n at m in cc;
       }
-  judged_by log e s p t f Drop h i n l q c a b x = record {
+  judged_by log e s p t f Pass h i n l q c a b x = record {
     within = omega (arith, within log s.seen e h);
     live = λ m. l ∙ (i.live n ∙ (sym (quiet_live (live_after (take s.seen log)) e (a refl)) ∙ sym (live_more (100 ∷ []) log s.seen e h)));
     on = λ m. still_on s.process p (g.ended p) refl l (i.on n);

@@ -10,7 +10,7 @@ use Rattle.nv_threads.specs.declared.turns.Came.{Came}
 use Rattle.nv_threads.specs.declared.turns.Came.TheVariants.{Asked, Fault}
 use Rattle.nv_replay.specs.declared.fate.Fate.{Fate}
 use Rattle.nv_replay.specs.Settling.{stage}
-use Rattle.nv_replay.specs.Permits.{Permit, Give, Drop, No}
+use Rattle.nv_replay.specs.Permits.{Permit, Give, Pass, No}
 use Rattle.nv_replay.specs.Spans.{EndBy}
 use Rattle.nv_replay.specs.Follow.{Follower, Judge, fresh, decided, met, judged, consumed, permit_by, refusal_by, next, on_next, follow}
 use Rattle.nv_replay.specs.Sequence.{is_on}
@@ -115,7 +115,7 @@ module _ {P : Type 0} (g : Behaviour P) (judge : Judge) where
   judged_seen : (s : Follower P) (p : P) (t : ℕ) (f : Fate) (o : Permit) → s.seen ≤ (judged g s p t f o).seen
   unfolding judged
   judged_seen s p t f (Give r) = omega arith
-  judged_seen s p t f Drop = omega arith
+  judged_seen s p t f Pass = omega arith
   judged_seen s p t f No = omega arith
 
   met_seen : (s : Follower P) (e : Entry) (p : P) (came : Came) → s.seen ≤ (met g judge e s p came).seen
@@ -178,7 +178,7 @@ module _ {P : Type 0} (g : Behaviour P) (judge : Judge) where
   judged_one : (s : Follower P) (p : P) (t : ℕ) (f : Fate) (o : Permit) → (judged g s p t f o).seen ≤ s.seen + 1
   unfolding judged
   judged_one s p t f (Give r) = omega arith
-  judged_one s p t f Drop = omega arith
+  judged_one s p t f Pass = omega arith
   judged_one s p t f No = omega arith
 
   met_one : (s : Follower P) (e : Entry) (p : P) (came : Came) → (met g judge e s p came).seen ≤ s.seen + 1

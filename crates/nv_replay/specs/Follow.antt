@@ -15,7 +15,7 @@ use Rattle.nv_rules.specs.Values.{value_of}
 use Rattle.nv_rules.specs.Verdicts.{verdict_of}
 use Rattle.nv_replay.specs.declared.version.Followed.{Followed}
 use Rattle.nv_replay.specs.declared.version.Followed.TheVariants.{Matched, Rewrote, Skipped, Dropped}
-use Rattle.nv_replay.specs.Permits.{Permit, Give, Drop, No, permit}
+use Rattle.nv_replay.specs.Permits.{Permit, Give, Pass, No, permit}
 use Rattle.nv_replay.specs.Settling.{stage}
 
 -- the process, the events consumed, the rewrites, and the end if there is one
@@ -48,7 +48,7 @@ consumed g s p = record s { process = p; seen = s.seen + 1; fate = option_map Ex
 -- the call is another than the event's; `refused` says so where no rule permits it
 unfoldable pub judged : {P : Type 0} → Behaviour P → Follower P → P → ℕ → Fate → Permit → Follower P
 judged g s p t refused (Give reply) = record s { process = g.answered p t reply; rewrites = s.rewrites + 1 }
-judged g s p t refused Drop = record s { process = p; seen = s.seen + 1; rewrites = s.rewrites + 1 }
+judged g s p t refused Pass = record s { process = p; seen = s.seen + 1; rewrites = s.rewrites + 1 }
 judged g s p t refused No = record s { process = p; fate = Some refused }
 
 -- the call is refused in place of the event, by this value
@@ -102,11 +102,11 @@ abbrev pub verdict_on : {P : Type 0} → Behaviour P → Judge → Entry → Fol
 verdict_on g judge e s = verdict_of (judge (g.call (g.after s.process (Only e.call.tid)) e.call.tid) e)
 
 -- what is told of a decision on an event
-abbrev pub Told : {P : Type 0} → Verdict → Followed → Follower P → Follower P → Type 0
-Told v Matched old new = (new.seen ≡ old.seen + 1) × (new.rewrites ≡ old.rewrites)
-Told v (Rewrote verdict) old new = (new.seen ≡ old.seen) × (new.rewrites ≡ old.rewrites + 1) × (new.fate ≡ None) × (verdict ≡ v)
-Told v Skipped old new = (new.seen ≡ old.seen + 1) × (new.rewrites ≡ old.rewrites + 1) × (new.fate ≡ None)
-Told v (Dropped fate) old new = (new.seen ≡ old.seen) × (new.rewrites ≡ old.rewrites) × (new.fate ≡ Some fate)
+abbrev pub IsCounted : {P : Type 0} → Verdict → Followed → Follower P → Follower P → Type 0
+IsCounted v Matched old new = (new.seen ≡ old.seen + 1) × (new.rewrites ≡ old.rewrites)
+IsCounted v (Rewrote verdict) old new = (new.seen ≡ old.seen) × (new.rewrites ≡ old.rewrites + 1) × (new.fate ≡ None) × (verdict ≡ v)
+IsCounted v Skipped old new = (new.seen ≡ old.seen + 1) × (new.rewrites ≡ old.rewrites + 1) × (new.fate ≡ None)
+IsCounted v (Dropped fate) old new = (new.seen ≡ old.seen) × (new.rewrites ≡ old.rewrites) × (new.fate ≡ Some fate)
 
 abbrev pub is_exited : Option Fate → Bool
 is_exited (Some (Exited status)) = true

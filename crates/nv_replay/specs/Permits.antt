@@ -11,7 +11,7 @@ pub data Permit : Type 0 where
   -- the call is answered so
   Give : (reply : Response) → Permit
   -- the event is dropped
-  Drop : Permit
+  Pass : Permit
   No : Permit
 
 abbrev pub given : Option Response → Permit
@@ -23,7 +23,7 @@ abbrev pub failed : Request → ℕ → Permit
 failed c k = if nat_le k 4095 && not (is_of_threads c.nr) then Give (record { ret = pos 0 -ℤ pos k; payload = [] }) else No
 
 abbrev pub passed : Entry → Permit
-passed e = if is_of_threads e.call.nr then No else Drop
+passed e = if is_of_threads e.call.nr then No else Pass
 
 abbrev pub permit : Request → Entry → Verdict → Permit
 permit c e Allow = given (constant_of c)

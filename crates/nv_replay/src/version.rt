@@ -8,7 +8,7 @@ ghost use Rattle.nv_threads.specs.Threads.{threads};
 ghost use Rattle.nv_threads.specs.declared.turns.Came.{Came};
 ghost use Rattle.nv_calls.specs.Constants.{constant_of};
 ghost use Rattle.nv_rules.specs.Verdicts.{verdict_of};
-ghost use Rattle.nv_replay.specs.Follow.{Told, verdict_on, decided, met, consumed, judged, refusal_of, fresh, judge_of};
+ghost use Rattle.nv_replay.specs.Follow.{IsCounted, verdict_on, decided, met, consumed, judged, refusal_of, fresh, judge_of};
 ghost use Rattle.nv_replay.specs.Permits.{No, given, failed, passed, permit};
 ghost use Rattle.nv_replay.specs.Versions.{Running, IsFresh, IsFollowing, IsLeading, LedTo, asking_next, asking_by, answered_by, standing_of};
 
@@ -107,7 +107,7 @@ impl Version {
         ensures new { let judge = judge_of (option_map (λ f. f.now) rules.entry) self.old.index in
             self.new ≡ record self.old { at = decided threads judge (entry event.now) self.old.at } }
         ensures told { let judge = judge_of (option_map (λ f. f.now) rules.entry) self.old.index in
-            Told (verdict_on threads judge (entry event.now) self.old.at) result self.old.at self.new.at }
+            IsCounted (verdict_on threads judge (entry event.now) self.old.at) result self.old.at self.new.at }
     {
         match self.process.advance(Want::Only(event.call.tid)) {
             Came::Fault { kind, tid, pc } => self.end(Fate::Fault { kind, tid, pc }),
@@ -123,7 +123,7 @@ impl Version {
         ensures new { let judge = judge_of (option_map (λ f. f.now) rules.entry) self.old.index in
             self.new ≡ record self.old { at = met threads judge (entry event.now) self.old.at self.old.at.process (Came.Asked tid) } }
         ensures told { let judge = judge_of (option_map (λ f. f.now) rules.entry) self.old.index in
-            Told (verdict_of (judge (threads.call self.old.at.process tid) (entry event.now))) result self.old.at self.new.at }
+            IsCounted (verdict_of (judge (threads.call self.old.at.process tid) (entry event.now))) result self.old.at self.new.at }
     {
         let call = self.process.pending(tid);
         if same(call, event) {
@@ -143,7 +143,7 @@ impl Version {
               at = judged threads self.old.at self.old.at.process tid (refusal_of call (entry event.now) value)
                   (permit call (entry event.now) (verdict_of value));
             } }
-        ensures told { Told (verdict_of value) result self.old.at self.new.at }
+        ensures told { IsCounted (verdict_of value) result self.old.at self.new.at }
     {
         match verdict(value) {
             Verdict::Allow => self.allow(tid, event, value),
@@ -161,7 +161,7 @@ impl Version {
               at = judged threads self.old.at self.old.at.process tid (refusal_of call (entry event.now) value)
                   (given (constant_of call));
             } }
-        ensures told { Told Verdict.Allow result self.old.at self.new.at }
+        ensures told { IsCounted Verdict.Allow result self.old.at self.new.at }
     {
         if !give_constant(&mut self.process, tid, &mut self.scratch) {
             return self.refuse(tid, event, value);
@@ -179,7 +179,7 @@ impl Version {
               at = judged threads self.old.at self.old.at.process tid (refusal_of call (entry event.now) value)
                   (failed call error);
             } }
-        ensures told { Told (Verdict.Errno error) result self.old.at self.new.at }
+        ensures told { IsCounted (Verdict.Errno error) result self.old.at self.new.at }
     {
         if error > MOST_ERROR || is_of_threads(self.process.pending(tid).nr) {
             return self.refuse(tid, event, value);
@@ -199,7 +199,7 @@ impl Version {
               at = judged threads self.old.at self.old.at.process tid (refusal_of call (entry event.now) value)
                   (passed (entry event.now));
             } }
-        ensures told { Told Verdict.Skip result self.old.at self.new.at }
+        ensures told { IsCounted Verdict.Skip result self.old.at self.new.at }
     {
         if is_of_threads(event.call.nr) {
             return self.refuse(tid, event, value);
@@ -213,7 +213,7 @@ impl Version {
         requires pending { threads.pending self.old.at.process tid ≡ true }
         ensures new { let call = threads.call self.old.at.process tid in
             self.new ≡ record self.old { at = record self.old.at { fate = Some (refusal_of call (entry event.now) value) } } }
-        ensures told { (v : Verdict) → Told v result self.old.at self.new.at }
+        ensures told { (v : Verdict) → IsCounted v result self.old.at self.new.at }
     {
         let call = self.process.pending(tid);
         let refused = Fate::Refused {

@@ -12,7 +12,7 @@ use Rattle.nv_bpf.specs.declared.action.Action.TheVariants.{LoadWord, Load, Load
 use Rattle.nv_bpf.specs.Actions.{action_of}
 use Rattle.nv_bpf.specs.Verified.{unless, action_fault, fault_by, op_fault, list_fault, is_return, ends_in_return}
 use Rattle.nv_bpf.proofs.FilterLaws.{list_fault-none, list_fault-op}
-use Rattle.nv_rules.specs.Values.{State, Effect, Ends, Goes, ends_without, computed, operand_of, holds, acted, stepped, gone_on, returned_from}
+use Rattle.nv_rules.specs.Values.{FilterState, Effect, Ends, Goes, ends_without, computed, operand_of, holds, acted, stepped, gone_on, returned_from}
 use Rattle.nv_rules.specs.Machines.{IsUsable, IsKnown, IsSound}
 
 unless-none : (b : Bool) (f : FilterFault) → unless b f ≡ None → b ≡ true
@@ -47,7 +47,7 @@ pub record GoesOn (a : Action) (n i m : ℕ) : Type 0 where
   pub no_return : is_return (Some a) ≡ false
   pub within : (m ≡ 0) ⊎ (i + 1 + m < n)
 
-goes-ends_without : (o : Option ℕ) (s t : State) (m : ℕ) → ends_without o s ≡ Goes m t → m ≡ 0
+goes-ends_without : (o : Option ℕ) (s t : FilterState) (m : ℕ) → ends_without o s ≡ Goes m t → m ≡ 0
 goes-ends_without None s t m h = cc
 goes-ends_without (Some v) s t m h = cc
 
@@ -55,11 +55,11 @@ first_of_two : (a b : Bool) → (a && b) ≡ true → (a ≡ true) × (b ≡ tru
 first_of_two true b h = (refl, h)
 first_of_two false b h = cc
 
-goes-branch : (b : Bool) (jt jf m : ℕ) (s t : State) → Goes (if b then jt else jf) s ≡ Goes m t → (m ≡ jt) ⊎ (m ≡ jf)
+goes-branch : (b : Bool) (jt jf m : ℕ) (s t : FilterState) → Goes (if b then jt else jf) s ≡ Goes m t → (m ≡ jt) ⊎ (m ≡ jf)
 goes-branch true jt jf m s t h = inl cc
 goes-branch false jt jf m s t h = inr cc
 
-goes : (a : Action) (n i m : ℕ) (op : Op) (pair : List ℕ) (s t : State) → action_fault a n i op ≡ None → acted a op pair s ≡ Goes m t → GoesOn a n i m
+goes : (a : Action) (n i m : ℕ) (op : Op) (pair : List ℕ) (s t : FilterState) → action_fault a n i op ≡ None → acted a op pair s ≡ Goes m t → GoesOn a n i m
 goes LoadWord n i m op pair s t h e = record { no_return = refl; within = inl cc }
 goes (Load r) n i m op pair s t h e = record { no_return = refl; within = inl cc }
 goes (LoadScratch r) n i m op pair s t h e = record { no_return = refl; within = inl cc }
@@ -83,7 +83,7 @@ goes ReturnConstant n i m op pair s t h e = cc
 goes ReturnAccumulator n i m op pair s t h e = cc
 goes (Copy r) n i m op pair s t h e = record { no_return = refl; within = inl cc }
 
-stepped_goes : (a : Option Action) (n i m : ℕ) (op : Op) (pair : List ℕ) (s t : State) → fault_by a n i op ≡ None
+stepped_goes : (a : Option Action) (n i m : ℕ) (op : Op) (pair : List ℕ) (s t : FilterState) → fault_by a n i op ≡ None
     → option_map (λ b. acted b op pair s) a ≡ Some (Goes m t) → (is_return a ≡ false) × ((m ≡ 0) ⊎ (i + 1 + m < n))
 stepped_goes None n i m op pair s t h e = cc
 stepped_goes (Some a) n i m op pair s t h e = let g = goes a n i m op pair s t h (same_Some _ _ e) in (g.no_return, g.within)
@@ -97,7 +97,7 @@ last_returns ops i op end e no_return h =
     cc
 
 -- an instruction of a filter that goes on goes to one of the filter
-pub stepped-within : (most i m : ℕ) (ops : List Op) (op : Op) (pair : List ℕ) (s t : State) → list_fault most ops ≡ None → slice_get ops i ≡ Some op
+pub stepped-within : (most i m : ℕ) (ops : List Op) (op : Op) (pair : List ℕ) (s t : FilterState) → list_fault most ops ≡ None → slice_get ops i ≡ Some op
     → stepped op pair s ≡ Some (Goes m t) → i + (1 + m) < length ops
 unfolding op_fault
 stepped-within most i m ops op pair s t h e g =
@@ -112,14 +112,14 @@ stepped-within most i m ops op pair s t h e g =
     ]
 
 -- what is past so many instructions begins after them
-returned_from-drop : (pair : List ℕ) (n : ℕ) (s : State) (ops : List Op) → returned_from pair n s ops ≡ returned_from pair 0 s (drop n ops)
+returned_from-drop : (pair : List ℕ) (n : ℕ) (s : FilterState) (ops : List Op) → returned_from pair n s ops ≡ returned_from pair 0 s (drop n ops)
 unfolding returned_from
 returned_from-drop pair zero s ops = refl
 returned_from-drop pair (suc n) s [] = refl
 returned_from-drop pair (suc n) s (op ∷ ops) = returned_from-drop pair n s ops
 
 -- at an instruction, by how it ends
-pub returned_from-at : (pair : List ℕ) (i : ℕ) (s : State) (ops : List Op) (op : Op) (o : Effect) → slice_get ops i ≡ Some op → stepped op pair s ≡ Some o
+pub returned_from-at : (pair : List ℕ) (i : ℕ) (s : FilterState) (ops : List Op) (op : Op) (o : Effect) → slice_get ops i ≡ Some op → stepped op pair s ≡ Some o
     → returned_from pair 0 s (drop i ops) ≡ gone_on (Some o) (λ n t. returned_from pair n t (drop (i + 1) ops))
 unfolding returned_from
 returned_from-at pair i s ops op o e g =
@@ -127,11 +127,11 @@ returned_from-at pair i s ops op o e g =
     ∙ ap (λ p. gone_on (stepped p pair s) (λ n t. returned_from pair n t (drop (i + 1) ops))) (get_or_from_slice_get ops i op op e)
     ∙ ap (λ p. gone_on p (λ n t. returned_from pair n t (drop (i + 1) ops))) g
 
-pub returned_from-ends : (pair : List ℕ) (i v : ℕ) (s : State) (ops : List Op) (op : Op) → slice_get ops i ≡ Some op → stepped op pair s ≡ Some (Ends v)
+pub returned_from-ends : (pair : List ℕ) (i v : ℕ) (s : FilterState) (ops : List Op) (op : Op) → slice_get ops i ≡ Some op → stepped op pair s ≡ Some (Ends v)
     → returned_from pair 0 s (drop i ops) ≡ Some v
 returned_from-ends pair i v s ops op e g = returned_from-at pair i s ops op (Ends v) e g
 
-pub returned_from-goes : (pair : List ℕ) (i m : ℕ) (s t : State) (ops : List Op) (op : Op) → slice_get ops i ≡ Some op → stepped op pair s ≡ Some (Goes m t)
+pub returned_from-goes : (pair : List ℕ) (i m : ℕ) (s t : FilterState) (ops : List Op) (op : Op) → slice_get ops i ≡ Some op → stepped op pair s ≡ Some (Goes m t)
     → returned_from pair 0 s (drop i ops) ≡ returned_from pair 0 t (drop (i + (1 + m)) ops)
 returned_from-goes pair i m s t ops op e g =
     let place : i + 1 + m ≡ i + (1 + m) = omega arith in
@@ -149,23 +149,23 @@ first-read ops rest i e some =
     slice_get-get_or ops i (first []) (omega arith) ∙ ap Some (sym (ap first e ∙ get_or-drop i ops 0 (first []) ∙ ap (λ j. get_or ops j (first [])) place))
 
 -- what is left of a filter, where the instructions in front of it went past it
-pub record Left (ops rest : List Op) (pair : List ℕ) (s : State) (value : Option ℕ) : Type 0 where
+pub record Left (ops rest : List Op) (pair : List ℕ) (s : FilterState) (value : Option ℕ) : Type 0 where
   pub some : 0 < length rest
   pub place : (i : ℕ) × (rest ≡ drop i ops)
   pub returns : returned_from pair 0 s rest ≡ value
 
-pub first-sound : (most : ℕ) (ops rest : List Op) (pair : List ℕ) (s : State) (value : Option ℕ) → list_fault most ops ≡ None → Left ops rest pair s value → IsSound (first rest)
+pub first-sound : (most : ℕ) (ops rest : List Op) (pair : List ℕ) (s : FilterState) (value : Option ℕ) → list_fault most ops ≡ None → Left ops rest pair s value → IsSound (first rest)
 first-sound most ops rest pair s value verified left =
     IsSound-op (length ops) left.place.0 (first rest) (list_fault-op most left.place.0 ops (first rest) verified (first-read ops rest left.place.0 left.place.1 left.some))
 
-pub first-ends : (ops rest : List Op) (pair : List ℕ) (v : ℕ) (s : State) (value : Option ℕ) → Left ops rest pair s value → stepped (first rest) pair s ≡ Some (Ends v) → value ≡ Some v
+pub first-ends : (ops rest : List Op) (pair : List ℕ) (v : ℕ) (s : FilterState) (value : Option ℕ) → Left ops rest pair s value → stepped (first rest) pair s ≡ Some (Ends v) → value ≡ Some v
 first-ends ops rest pair v s value left step =
     let i = left.place.0 in
     let e = left.place.1 in
     sym left.returns ∙ ap (returned_from pair 0 s) e ∙ returned_from-ends pair i v s ops (first rest) (first-read ops rest i e left.some) step
 
 -- the first instruction goes past fewer than are left behind it
-pub first-within : (most : ℕ) (ops rest : List Op) (pair : List ℕ) (n : ℕ) (s t : State) (value : Option ℕ) → list_fault most ops ≡ None → Left ops rest pair s value
+pub first-within : (most : ℕ) (ops rest : List Op) (pair : List ℕ) (n : ℕ) (s t : FilterState) (value : Option ℕ) → list_fault most ops ≡ None → Left ops rest pair s value
     → stepped (first rest) pair s ≡ Some (Goes n t) → 1 + n < length rest
 first-within most ops rest pair n s t value verified left step =
     let i = left.place.0 in
@@ -174,7 +174,7 @@ first-within most ops rest pair n s t value verified left step =
     omega arith
 
 -- the instructions that it goes to are left
-pub first-goes : (most : ℕ) (ops rest later : List Op) (pair : List ℕ) (n : ℕ) (s t : State) (value : Option ℕ) → list_fault most ops ≡ None → Left ops rest pair s value
+pub first-goes : (most : ℕ) (ops rest later : List Op) (pair : List ℕ) (n : ℕ) (s t : FilterState) (value : Option ℕ) → list_fault most ops ≡ None → Left ops rest pair s value
     → stepped (first rest) pair s ≡ Some (Goes n t) → later ≡ drop (1 + n) rest → Left ops later pair t value
 first-goes most ops rest later pair n s t value verified left step past =
     let i = left.place.0 in

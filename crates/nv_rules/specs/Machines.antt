@@ -7,10 +7,10 @@ use Rattle.nv_bpf.specs.Actions.{action_of}
 use Rattle.nv_rules.specs.declared.machine.Registers.{Registers}
 use Rattle.nv_rules.specs.declared.machine.Step.{Step}
 use Rattle.nv_rules.specs.declared.machine.Step.TheVariants.{Return, Next, Forward}
-use Rattle.nv_rules.specs.Values.{State, Effect, Ends, Goes}
+use Rattle.nv_rules.specs.Values.{FilterState, Effect, Ends, Goes}
 
 -- the registers with the scratch memory
-abbrev pub state_of : Registers → List ℕ → State
+abbrev pub state_of : Registers → List ℕ → FilterState
 state_of r scratch = record { accumulator = r.accumulator; index = r.index; scratch = scratch }
 
 abbrev pub effect_of : Step → Registers → List ℕ → Effect

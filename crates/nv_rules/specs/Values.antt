@@ -14,19 +14,19 @@ use Rattle.nv_bpf.specs.declared.action.Action.TheVariants.{LoadWord, Load, Load
 use Rattle.nv_bpf.specs.Actions.{action_of}
 
 -- the registers A and X, and the sixteen words M
-pub record State : Type 0 where
+pub record FilterState : Type 0 where
   pub accumulator : ℕ
   pub index : ℕ
   pub scratch : List ℕ
 
-unfoldable pub start : State
+unfoldable pub start : FilterState
 start = record { accumulator = 0; index = 0; scratch = replicate 16 0 }
 
-abbrev pub held : Register → State → ℕ
+abbrev pub held : Register → FilterState → ℕ
 held Accumulator s = s.accumulator
 held Index s = s.index
 
-abbrev pub with_held : Register → ℕ → State → State
+abbrev pub with_held : Register → ℕ → FilterState → FilterState
 with_held Accumulator n s = record s { accumulator = n }
 with_held Index n s = record s { index = n }
 
@@ -34,7 +34,7 @@ abbrev pub other : Register → Register
 other Accumulator = Index
 other Index = Accumulator
 
-abbrev pub operand_of : Operand → ℕ → State → ℕ
+abbrev pub operand_of : Operand → ℕ → FilterState → ℕ
 operand_of operand.Constant k s = k
 operand_of operand.Index k s = s.index
 
@@ -58,17 +58,17 @@ holds CommonBit a b = not (bit_and a b == 0)
 -- An instruction ends the filter with a value, or it goes past so many of those that follow it.
 pub data Effect : Type 0 where
   Ends : ℕ → Effect
-  Goes : ℕ → State → Effect
+  Goes : ℕ → FilterState → Effect
 
-abbrev pub goes_with : Register → ℕ → State → Effect
+abbrev pub goes_with : Register → ℕ → FilterState → Effect
 goes_with r n s = Goes 0 (with_held r n s)
 
 -- a filter whose arithmetic has no result ends with 0
-abbrev pub ends_without : Option ℕ → State → Effect
+abbrev pub ends_without : Option ℕ → FilterState → Effect
 ends_without None s = Ends 0
 ends_without (Some n) s = goes_with Accumulator n s
 
-abbrev pub acted : Action → Op → List ℕ → State → Effect
+abbrev pub acted : Action → Op → List ℕ → FilterState → Effect
 acted LoadWord op pair s = goes_with Accumulator (slice_index pair (op.k / 4)) s
 acted (Load r) op pair s = goes_with r op.k s
 acted (LoadScratch r) op pair s = goes_with r (slice_index s.scratch op.k) s
@@ -83,16 +83,16 @@ acted ReturnAccumulator op pair s = Ends s.accumulator
 acted (Copy r) op pair s = goes_with r (held (other r) s) s
 
 -- how the filter goes on, by what is run past so many instructions
-abbrev pub gone_on : Option Effect → (ℕ → State → Option ℕ) → Option ℕ
+abbrev pub gone_on : Option Effect → (ℕ → FilterState → Option ℕ) → Option ℕ
 gone_on None later = None
 gone_on (Some (Ends value)) later = Some value
 gone_on (Some (Goes n s)) later = later n s
 
-abbrev pub stepped : Op → List ℕ → State → Option Effect
+abbrev pub stepped : Op → List ℕ → FilterState → Option Effect
 stepped op pair s = option_map (λ a. acted a op pair s) (action_of op.code)
 
 -- what a list of instructions returns, from the one past so many; it never runs off the end of a filter
-unfoldable pub returned_from : List ℕ → ℕ → State → List Op → Option ℕ
+unfoldable pub returned_from : List ℕ → ℕ → FilterState → List Op → Option ℕ
 returned_from pair n s [] = None
 returned_from pair (suc n) s (op ∷ ops) = returned_from pair n s ops
 returned_from pair zero s (op ∷ ops) = gone_on (stepped op pair s) (λ n t. returned_from pair n t ops)

@@ -9,16 +9,16 @@ use Rattle.nv_machine.specs.Guest.{Machine}
 use Rattle.nv_guest.specs.Threads as guests
 use Rattle.nv_guest.proofs.ThreadLaws.{tids_stay}
 use Rattle.nv_guest.proofs.Releasing.{tids_released}
-use Rattle.nv_threads.specs.Threads.{State, Task, Proc, tids, passed, unless_live, state_at, with_state, is_running, is_asking}
+use Rattle.nv_threads.specs.Threads.{TaskState, Task, Proc, tids, passed, unless_live, state_at, with_state, is_running, is_asking}
 use Rattle.nv_threads.proofs.Quiet.{same_tids}
 use Rattle.nv_threads.specs.Kept.{are_apart, IsOwn, AreOwn, HaveRoom, IsKept}
 use Rattle.nv_threads.proofs.Orders.{at_front, behind, either, Next, Higher, Lowest, next_is}
 
-running_some : (s : Option State) → is_running s ≡ true → is_some s ≡ true
+running_some : (s : Option TaskState) → is_running s ≡ true → is_some s ≡ true
 running_some None h = cc
 running_some (Some s) h = refl
 
-asking_some : (s : Option State) → is_asking s ≡ true → is_some s ≡ true
+asking_some : (s : Option TaskState) → is_asking s ≡ true → is_some s ≡ true
 asking_some None h = cc
 asking_some (Some s) h = refl
 
@@ -69,7 +69,7 @@ with_count count more budget ts g cs k e = record { within = e; same = k.same; a
 
 -- ---- a thread's state changes
 
-own_with : (ts : List Task) (t : ℕ) (s : State) → AreOwn ts → IsOwn t s → AreOwn (with_state ts t s)
+own_with : (ts : List Task) (t : ℕ) (s : TaskState) → AreOwn ts → IsOwn t s → AreOwn (with_state ts t s)
 own_with [] t s a o = a
 own_with (x ∷ ts) t s a o = by (x.tid == t) refl (own_with ts t s a.1 o)
   where
@@ -77,7 +77,7 @@ own_with (x ∷ ts) t s a o = by (x.tid == t) refl (own_with ts t s a.1 o)
     by true e go = (let z : x.tid ≡ t = grind (arith, nat_tests) in subst (λ (n : ℕ). IsOwn n s) (sym z) o, a.1)
     by false e go = (a.0, go)
 
-length_with : (ts : List Task) (t : ℕ) (s : State) → length (with_state ts t s) ≡ length ts
+length_with : (ts : List Task) (t : ℕ) (s : TaskState) → length (with_state ts t s) ≡ length ts
 length_with [] t s = refl
 length_with (x ∷ ts) t s = by (x.tid == t) (length_with ts t s)
   where
@@ -85,7 +85,7 @@ length_with (x ∷ ts) t s = by (x.tid == t) (length_with ts t s)
     by true go = refl
     by false go = ap suc go
 
-pub with_task : (count budget : ℕ) (ts : List Task) (g : List ℕ) (cs : List Call) (t : ℕ) (s : State) → IsKept count budget ts g cs → IsOwn t s → IsKept count budget (with_state ts t s) g cs
+pub with_task : (count budget : ℕ) (ts : List Task) (g : List ℕ) (cs : List Call) (t : ℕ) (s : TaskState) → IsKept count budget ts g cs → IsOwn t s → IsKept count budget (with_state ts t s) g cs
 with_task count budget ts g cs t s k o = record {
   within = k.within;
   same = λ n. k.same (subst (λ m. 0 < m) (length_with ts t s) n) ∙ sym (same_tids ts t s);

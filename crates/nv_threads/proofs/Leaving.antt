@@ -8,7 +8,7 @@ use Rattle.nv_calls.specs.Calls.{Request, request}
 use Rattle.nv_calls.specs.Shapes.{IsShaped}
 use Rattle.nv_guest.specs.Threads as guests
 use Rattle.nv_guest.specs.declared.guest.Thread.{Thread as GuestThread}
-use Rattle.nv_threads.specs.Threads.{State, Runs, Asks, Waits, Task as Thread, tids, state_at, is_asking, call_in}
+use Rattle.nv_threads.specs.Threads.{TaskState, Runs, Asks, Waits, Task as Thread, tids, state_at, is_asking, call_in}
 use Rattle.nv_threads.specs.Kept.{are_apart, IsOwn, AreOwn, HaveRoom, IsKept}
 use Rattle.nv_threads.specs.Tables.{place_of, state_by, thread_by, threads_of}
 use Rattle.nv_threads.proofs.ThreadLaws.{others, tids_filter, tids_child}
@@ -218,7 +218,7 @@ pub length_more : {A : Type 0} (xs : List A) (x : A) → length (xs ++ x ∷ [])
 length_more [] x = refl
 length_more (y ∷ ys) x = let h = length_more ys x in omega arith
 
-own_as : (t : ℕ) (s : State) → IsOwn t s → is_asking (Some s) ≡ true → ((call_in (Some s)).tid ≡ t) × IsShaped (call_in (Some s))
+own_as : (t : ℕ) (s : TaskState) → IsOwn t s → is_asking (Some s) ≡ true → ((call_in (Some s)).tid ≡ t) × IsShaped (call_in (Some s))
 own_as t Runs o h = cc
 own_as t (Asks c) o h = o
 own_as t (Waits a) o h = cc

@@ -4,7 +4,7 @@ use Rattle.std.specs.Prelude.{Contains}
 use Rattle.std.specs.List.{list_any}
 use Rattle.std.proofs.lemmas.List.{length-map}
 use Rattle.std.proofs.lemmas.Bool.Decides.{nat_tests}
-use Rattle.nv_threads.specs.Threads.{Proc, State, Runs, Asks, Waits, Task, tid_of, tids, state_at, is_asking, turn_length, passed, wanted, moves, moves_task, most_passes}
+use Rattle.nv_threads.specs.Threads.{Proc, TaskState, Runs, Asks, Waits, Task, tid_of, tids, state_at, is_asking, turn_length, passed, wanted, moves, moves_task, most_passes}
 use Rattle.nv_threads.specs.Kept.{are_apart}
 use Rattle.nv_threads.specs.Going.{above, aim, stays, passes}
 use Rattle.nv_threads.specs.declared.turns.Want.{Want}
@@ -13,7 +13,7 @@ use Rattle.nv_threads.proofs.Orders.{at_front, behind, either, above_few, above_
 
 -- ---- the thread that can bring the process on
 
-abbrev moves_at : Want → Option State → Bool
+abbrev moves_at : Want → Option TaskState → Bool
 moves_at w None = false
 moves_at w (Some s) = moves w s
 
@@ -63,7 +63,7 @@ aim_is w (t ∷ ts) h a = let r = aim_by w t ts (moves w t.state) refl h a (aim_
 
 -- ---- passing the turn
 
-stays_there : (w : Want) (p : Proc) (s : Option State) → state_at p.tasks p.turn ≡ s → moves_at w s ≡ true → (p.slice == 0) ≡ false → stays w p ≡ true
+stays_there : (w : Want) (p : Proc) (s : Option TaskState) → state_at p.tasks p.turn ≡ s → moves_at w s ≡ true → (p.slice == 0) ≡ false → stays w p ≡ true
 stays_there w p None e h n = cc
 stays_there w p (Some Runs) e h n = rw (e, n) (or_true (is_asking (state_at p.tasks (wanted w p))))
   where

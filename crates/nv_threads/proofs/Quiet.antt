@@ -5,11 +5,11 @@ use Rattle.nv_memory.specs.declared.region.Width.TheVariants.{Four}
 use Rattle.nv_memory.specs.declared.region.Right.TheVariants.{Read}
 use Rattle.nv_memory.specs.Image.{loaded}
 use Rattle.nv_guest.specs.Calls.{argument}
-use Rattle.nv_threads.specs.Threads.{Proc, State, Runs, Waits, Task, tids, asks, waiting_calls, with_state, next_tid, passed, machine, operation, least_waiter, woken_one, woken_by, woken, woke, waiting, futex_on, futex_by, own_answer, released, local}
+use Rattle.nv_threads.specs.Threads.{Proc, TaskState, Runs, Waits, Task, tids, asks, waiting_calls, with_state, next_tid, passed, machine, operation, least_waiter, woken_one, woken_by, woken, woke, waiting, futex_on, futex_by, own_answer, released, local}
 
 -- ---- states
 
-pub same_tids : (ts : List Task) (tid : ℕ) (s : State) → tids (with_state ts tid s) ≡ tids ts
+pub same_tids : (ts : List Task) (tid : ℕ) (s : TaskState) → tids (with_state ts tid s) ≡ tids ts
 same_tids [] tid s = refl
 same_tids (t ∷ ts) tid s = by (t.tid == tid) (same_tids ts tid s)
   where
@@ -25,7 +25,7 @@ at_most true = omega arith
 at_most false = omega arith
 
 -- one call more at most
-pub calls_more : (ts : List Task) (tid : ℕ) (s : State) → waiting_calls (with_state ts tid s) ≤ waiting_calls ts + 1
+pub calls_more : (ts : List Task) (tid : ℕ) (s : TaskState) → waiting_calls (with_state ts tid s) ≤ waiting_calls ts + 1
 calls_more [] tid s = omega arith
 calls_more (t ∷ ts) tid s = by (t.tid == tid) (calls_more ts tid s) (at_most (asks (record t { state = s })))
   where
@@ -35,7 +35,7 @@ calls_more (t ∷ ts) tid s = by (t.tid == tid) (calls_more ts tid s) (at_most (
     by false go h = omega (arith, go)
 
 -- no call more where the thread's new state is none
-pub calls_same : (ts : List Task) (tid : ℕ) (s : State) → asks (record { tid = tid; state = s }) ≡ false → waiting_calls (with_state ts tid s) ≤ waiting_calls ts
+pub calls_same : (ts : List Task) (tid : ℕ) (s : TaskState) → asks (record { tid = tid; state = s }) ≡ false → waiting_calls (with_state ts tid s) ≤ waiting_calls ts
 calls_same [] tid s h = omega arith
 calls_same (t ∷ ts) tid s h = by (t.tid == tid) (calls_same ts tid s h)
   where

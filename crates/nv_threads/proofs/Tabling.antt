@@ -3,7 +3,7 @@ use Rattle.std.proofs.Common.{◌≡◌, ◌∙◌, ap, refl, ℕ, suc, ◌≤�
 use Rattle.std.specs.Prelude.{is_some}
 use Rattle.std.specs.List.{list_any}
 use Rattle.nv_calls.specs.Calls.{Request}
-use Rattle.nv_threads.specs.Threads.{State, Runs, Asks, Task as Thread, tids, state_at, with_state, is_running, is_asking, moves, moves_task, waits_at, least_waiter, lesser, no_call}
+use Rattle.nv_threads.specs.Threads.{TaskState, Runs, Asks, Task as Thread, tids, state_at, with_state, is_running, is_asking, moves, moves_task, waits_at, least_waiter, lesser, no_call}
 use Rattle.nv_threads.specs.Tables.{numbers, doing_at, with_doing, place_of, state_by, thread_by, moves_by, can_move_by, waits_by, waiter_by, threads_of, is_runs, is_asks}
 use Rattle.nv_threads.specs.declared.tasks.Doing.{Doing}
 use Rattle.nv_threads.specs.declared.tasks.Doing.TheVariants as doing
@@ -33,12 +33,12 @@ asking_as doing.Runs c = refl
 asking_as doing.Asks c = refl
 asking_as (doing.Waits a) c = refl
 
-choose : (P : Option State → Bool) (Q : Option Doing → Bool) (d : Doing) (c : Request) (s : Option State) (e : Option Doing) (b : Bool)
+choose : (P : Option TaskState → Bool) (Q : Option Doing → Bool) (d : Doing) (c : Request) (s : Option TaskState) (e : Option Doing) (b : Bool)
     → P (Some (state_by d c)) ≡ Q (Some d) → P s ≡ Q e → P (cond b (Some (state_by d c)) s) ≡ Q (cond b (Some d) e)
 choose P Q d c s e true h k = h
 choose P Q d c s e false h k = k
 
-pub by_doing : (P : Option State → Bool) (Q : Option Doing → Bool) → ((d : Doing) (c : Request) → P (Some (state_by d c)) ≡ Q (Some d)) → P None ≡ Q None
+pub by_doing : (P : Option TaskState → Bool) (Q : Option Doing → Bool) → ((d : Doing) (c : Request) → P (Some (state_by d c)) ≡ Q (Some d)) → P None ≡ Q None
     → (ts : List Task) (cs : List Request) (tid : ℕ) → P (state_at (threads_of ts cs) tid) ≡ Q (doing_at ts tid)
 by_doing P Q each none [] cs tid = none
 by_doing P Q each none (t ∷ ts) [] tid = choose P Q t.doing no_call _ _ (t.tid == tid) (each t.doing no_call) (by_doing P Q each none ts [] tid)
@@ -79,15 +79,15 @@ waiter_of a (t ∷ ts) (c ∷ cs) = ap (λ b. cond b (Some (lesser t.tid (least_
 -- ---- writes
 
 -- what a thread does changes to something without a call
-module _ (d : Doing) (s : State) (each : (c : Request) → state_by d c ≡ s) where
+module _ (d : Doing) (s : TaskState) (each : (c : Request) → state_by d c ≡ s) where
   doing_by : (t : Task) (ts : List Task) (c : Request) (cs : List Request) (tid : ℕ) (b : Bool) → threads_of (with_doing ts tid d) cs ≡ with_state (threads_of ts cs) tid s
       → threads_of (cond b (record t { doing = d } ∷ ts) (t ∷ with_doing ts tid d)) (c ∷ cs) ≡ cond b (record (thread_by t c) { state = s } ∷ threads_of ts cs) (thread_by t c ∷ with_state (threads_of ts cs) tid s)
-  doing_by t ts c cs tid true go = ap (λ (x : State). record { tid = t.tid; state = x } ∷ threads_of ts cs) (each c)
+  doing_by t ts c cs tid true go = ap (λ (x : TaskState). record { tid = t.tid; state = x } ∷ threads_of ts cs) (each c)
   doing_by t ts c cs tid false go = ap (λ rest. thread_by t c ∷ rest) go
 
   doing_none : (t : Task) (ts : List Task) (tid : ℕ) (b : Bool) → threads_of (with_doing ts tid d) [] ≡ with_state (threads_of ts []) tid s
       → threads_of (cond b (record t { doing = d } ∷ ts) (t ∷ with_doing ts tid d)) [] ≡ cond b (record (thread_by t no_call) { state = s } ∷ threads_of ts []) (thread_by t no_call ∷ with_state (threads_of ts []) tid s)
-  doing_none t ts tid true go = ap (λ (x : State). record { tid = t.tid; state = x } ∷ threads_of ts []) (each no_call)
+  doing_none t ts tid true go = ap (λ (x : TaskState). record { tid = t.tid; state = x } ∷ threads_of ts []) (each no_call)
   doing_none t ts tid false go = ap (λ rest. thread_by t no_call ∷ rest) go
 
   pub doing_of : (ts : List Task) (cs : List Request) (tid : ℕ) → threads_of (with_doing ts tid d) cs ≡ with_state (threads_of ts cs) tid s
@@ -111,7 +111,7 @@ asks_of (t ∷ ts) (c ∷ cs) tid r h = asks_by t ts c r cs tid (t.tid == tid) (
 
 -- the call of a thread that runs says nothing
 runs_as : (t : Task) (c r : Request) → is_runs (Some t.doing) ≡ true → thread_by t r ≡ thread_by t c
-runs_as t c r h = ap (λ (s : State). record { tid = t.tid; state = s }) (by t.doing h)
+runs_as t c r h = ap (λ (s : TaskState). record { tid = t.tid; state = s }) (by t.doing h)
   where
     by : (d : Doing) → is_runs (Some d) ≡ true → state_by d r ≡ state_by d c
     by doing.Runs h = refl

@@ -12,7 +12,7 @@ use Rattle.nv_machine.specs.declared.outcome.Stepped.{Stepped}
 use Rattle.nv_machine.specs.declared.outcome.Stepped.TheVariants.{On, Call, Fault as Faults}
 use Rattle.nv_guest.specs.Calls.{number}
 use Rattle.nv_threads.specs.Behaviours.{IsProcess}
-use Rattle.nv_threads.specs.Threads.{Proc, State, Runs, Asks, Waits, Task, tids, state_at, with_state, is_asking, asks, waiting_calls, next_tid, passed, machine, local, asking, called, ran, ended_by, counted, instruction, wanted, moves, moves_task, can_move, unless_live, is_on, faulted, turn_step, unless_came, steps, most_steps, advanced, first_byte, over, left_by, goes_on, with_child, outcome_of, answered_by, call_in, is_sole, threads}
+use Rattle.nv_threads.specs.Threads.{Proc, TaskState, Runs, Asks, Waits, Task, tids, state_at, with_state, is_asking, asks, waiting_calls, next_tid, passed, machine, local, asking, called, ran, ended_by, counted, instruction, wanted, moves, moves_task, can_move, unless_live, is_on, faulted, turn_step, unless_came, steps, most_steps, advanced, first_byte, over, left_by, goes_on, with_child, outcome_of, answered_by, call_in, is_sole, threads}
 use Rattle.nv_threads.proofs.Quiet.{Quiet, same_tids, calls_more, local_quiet, passed_quiet}
 use Rattle.nv_threads.specs.declared.turns.Came.{Came}
 use Rattle.nv_threads.specs.declared.turns.Came.TheVariants.{Asked}
@@ -233,7 +233,7 @@ can_same : (ts : List Task) → is_sole (tids ts) ≡ true → is_asking (state_
 can_same [] h k = refl
 can_same (t ∷ []) h k = by t.state (rw h at k)
   where
-    by : (s : State) → is_asking (Some s) ≡ false → list_any (λ (x : Task). moves Any s) (t ∷ []) ≡ list_any (λ (x : Task). moves (Only 100) s) (t ∷ [])
+    by : (s : TaskState) → is_asking (Some s) ≡ false → list_any (λ (x : Task). moves Any s) (t ∷ []) ≡ list_any (λ (x : Task). moves (Only 100) s) (t ∷ [])
     by Runs k = refl
     by (Asks call) k = cc
     by (Waits address) k = refl

@@ -3,7 +3,7 @@ use Rattle.std.proofs.Common.{◌≡◌, ◌∙◌, sym, ap, subst, refl, ℕ, z
 use Rattle.std.specs.Prelude.{Contains}
 use Rattle.std.specs.List.{refill}
 use Rattle.nv_calls.specs.Calls.{Request}
-use Rattle.nv_threads.specs.Threads.{Proc, State, Runs, Task as Thread, state_at, is_running, tids, with_state, waits_at, lesser, least_waiter, woken_one, woken_by, woken}
+use Rattle.nv_threads.specs.Threads.{Proc, TaskState, Runs, Task as Thread, state_at, is_running, tids, with_state, waits_at, lesser, least_waiter, woken_one, woken_by, woken}
 use Rattle.nv_threads.specs.Tables.{numbers, with_doing, state_by, threads_of}
 use Rattle.nv_threads.specs.declared.tasks.Doing.{Doing}
 use Rattle.nv_threads.specs.declared.tasks.Task.{Task}
@@ -19,7 +19,7 @@ table_written items seen now t d e w =
     let is : now ≡ with_doing items t d = w ∙ ap (λ (ts : List Task). with_doing ts t d) e in
     refilled items now (ap length is ∙ length_doing items t d) ∙ is
 
-pub state_written : (items seen now : List Task) (cs : List Request) (t : ℕ) (d : Doing) (s : State) → ((c : Request) → state_by d c ≡ s) → seen ≡ items → now ≡ with_doing seen t d
+pub state_written : (items seen now : List Task) (cs : List Request) (t : ℕ) (d : Doing) (s : TaskState) → ((c : Request) → state_by d c ≡ s) → seen ≡ items → now ≡ with_doing seen t d
     → threads_of (refill (length items) items now) cs ≡ with_state (threads_of items cs) t s
 state_written items seen now cs t d s each e w = ap (λ (ts : List Task). threads_of ts cs) (table_written items seen now t d e w) ∙ doing_of d s each items cs t
 

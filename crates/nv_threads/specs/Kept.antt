@@ -4,7 +4,7 @@ use Rattle.std.specs.List.{list_any}
 use Rattle.nv_calls.specs.declared.calls.Call.{Call}
 use Rattle.nv_calls.specs.Limits.{MOST_BYTES, MOST_THREADS}
 use Rattle.nv_calls.specs.Shapes.{IsShaped}
-use Rattle.nv_threads.specs.Threads.{State, Runs, Asks, Waits, Task, tids}
+use Rattle.nv_threads.specs.Threads.{TaskState, Runs, Asks, Waits, Task, tids}
 
 -- no number stands twice
 abbrev pub are_apart : List ℕ → Bool
@@ -12,7 +12,7 @@ are_apart [] = true
 are_apart (t ∷ ts) = not (list_any (λ u. u == t) ts) && are_apart ts
 
 -- a call that waits is the thread's, and one that a guest makes
-abbrev pub IsOwn : ℕ → State → Type 0
+abbrev pub IsOwn : ℕ → TaskState → Type 0
 IsOwn tid Runs = Unit {0}
 IsOwn tid (Asks call) = (call.tid ≡ tid) × IsShaped call
 IsOwn tid (Waits address) = Unit {0}

@@ -1,7 +1,7 @@
 -- The tables of a process, and the threads that they say.
 use Rattle.std.specs.Prelude.{ℕ, suc, Bool, true, false, ◌==◌, ◌||◌, List, [], ◌∷◌, map, Option, Some, None, if◌then◌else◌}
 use Rattle.nv_calls.specs.Calls.{Request}
-use Rattle.nv_threads.specs.Threads.{State, Runs, Asks, Waits, Task as Thread, lesser, no_call}
+use Rattle.nv_threads.specs.Threads.{TaskState, Runs, Asks, Waits, Task as Thread, lesser, no_call}
 use Rattle.nv_threads.specs.declared.tasks.Doing.{Doing}
 use Rattle.nv_threads.specs.declared.tasks.Doing.TheVariants as doing
 use Rattle.nv_threads.specs.declared.tasks.Task.{Task}
@@ -27,7 +27,7 @@ place_of [] tid = 0
 place_of (t ∷ ts) tid = if t.tid == tid then 0 else suc (place_of ts tid)
 
 -- the state of a thread, with the call that it may wait for
-abbrev pub state_by : Doing → Request → State
+abbrev pub state_by : Doing → Request → TaskState
 state_by doing.Runs call = Runs
 state_by doing.Asks call = Asks call
 state_by (doing.Waits address) call = Waits address

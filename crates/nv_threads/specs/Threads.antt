@@ -28,16 +28,16 @@ use Rattle.nv_threads.specs.declared.turns.Came.TheVariants.{Asked, Fault}
 
 -- ---- the threads
 
-pub data State : Type 0 where
-  Runs : State
+pub data TaskState : Type 0 where
+  Runs : TaskState
   -- a logged call waits for its answer
-  Asks : (call : Request) → State
+  Asks : (call : Request) → TaskState
   -- in a futex, at this address
-  Waits : (address : ℕ) → State
+  Waits : (address : ℕ) → TaskState
 
 pub record Task : Type 0 where
   pub tid : ℕ
-  pub state : State
+  pub state : TaskState
 
 abbrev pub tid_of : Task → ℕ
 tid_of t = t.tid
@@ -46,26 +46,26 @@ abbrev pub tids : List Task → List ℕ
 tids tasks = map tid_of tasks
 
 -- the state of a thread, where it lives
-abbrev pub state_at : List Task → ℕ → Option State
+abbrev pub state_at : List Task → ℕ → Option TaskState
 state_at [] tid = None
 state_at (t ∷ ts) tid = if t.tid == tid then Some t.state else state_at ts tid
 
-abbrev pub with_state : List Task → ℕ → State → List Task
+abbrev pub with_state : List Task → ℕ → TaskState → List Task
 with_state [] tid s = []
 with_state (t ∷ ts) tid s = if t.tid == tid then record t { state = s } ∷ ts else t ∷ with_state ts tid s
 
-abbrev pub is_running : Option State → Bool
+abbrev pub is_running : Option TaskState → Bool
 is_running (Some Runs) = true
 is_running s = false
 
-abbrev pub is_asking : Option State → Bool
+abbrev pub is_asking : Option TaskState → Bool
 is_asking (Some (Asks call)) = true
 is_asking s = false
 
 abbrev pub asks : Task → Bool
 asks t = is_asking (Some t.state)
 
-abbrev pub waits_at : ℕ → State → Bool
+abbrev pub waits_at : ℕ → TaskState → Bool
 waits_at address (Waits a) = a == address
 waits_at address s = false
 
@@ -229,7 +229,7 @@ wanted Any p = p.turn
 wanted (Only tid) p = tid
 
 -- whether a thread in this state brings the process on
-abbrev pub moves : Want → State → Bool
+abbrev pub moves : Want → TaskState → Bool
 moves w Runs = true
 moves Any (Asks call) = true
 moves (Only tid) (Asks call) = false
@@ -283,7 +283,7 @@ advanced w p = steps w (suc (most_steps p)) p
 abbrev pub no_call : Request
 no_call = record { tid = FIRST_THREAD; nr = 0; args = []; bad = false; payload = [] }
 
-abbrev pub call_in : Option State → Request
+abbrev pub call_in : Option TaskState → Request
 call_in (Some (Asks call)) = call
 call_in s = no_call
 

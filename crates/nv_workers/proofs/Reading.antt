@@ -18,7 +18,7 @@ use Rattle.nv_replay.specs.declared.fate.Fate.{Fate}
 use Rattle.nv_rules.specs.declared.outcome.Verdict.{Verdict}
 use Rattle.nv_replay.specs.declared.version.Followed.{Followed}
 use Rattle.nv_replay.specs.declared.version.Followed.TheVariants.{Matched, Rewrote, Skipped, Dropped}
-use Rattle.nv_replay.specs.Follow.{Follower, Judge, Told, decided, fresh}
+use Rattle.nv_replay.specs.Follow.{Follower, Judge, IsCounted, decided, fresh}
 use Rattle.nv_replay.specs.Tracks.{track_next}
 use Rattle.nv_replay.specs.Sequence.{is_on}
 use Rattle.nv_replay.specs.Versions.{Running}
@@ -36,7 +36,7 @@ use Rattle.nv_workers.proofs.Spelt.{same_spelt, long_as, parted}
 pub longer : (old new : List (List ℕ)) (read : List ℕ) → new ≡ old ++ read ∷ [] → length old < length new
 longer old new read e = omega (arith, length-append old (read ∷ []), ap (λ (x : List (List ℕ)). length x) e)
 
-pub seen_by : (x : Followed) (t : Verdict) (old new : Follower Proc) → (x ≡ Matched) ⊎ (x ≡ Skipped) → Told t x old new → new.seen ≡ old.seen + 1
+pub seen_by : (x : Followed) (t : Verdict) (old new : Follower Proc) → (x ≡ Matched) ⊎ (x ≡ Skipped) → IsCounted t x old new → new.seen ≡ old.seen + 1
 seen_by Matched t old new h k = k.0
 seen_by Skipped t old new h k = k.0
 seen_by (Rewrote w) t old new (inl h) k = cc

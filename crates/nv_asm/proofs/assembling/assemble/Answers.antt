@@ -1,6 +1,6 @@
 use Rattle.std.proofs.Common.{◌≡◌, ◌≤◌, Ok, Err, true, ap, sym, subst, ◌∙◌}
 use Rattle.std.proofs.lemmas.Result.{err_from_is_err_and}
-use Rattle.nv_elf.specs.Elf.{Image}
+use Rattle.nv_elf.specs.Elf.{Executable}
 use Rattle.nv_elf.specs.Written.{is_program, bytes_in}
 use Rattle.nv_asm.proofs.Ending.{IsKnown, assembled-fault, assembled-short, assembled-program, image-program, image-small}
 use Rattle.nv_asm.proofs.assembling.assemble.Goals as goal
@@ -27,11 +27,11 @@ pub returns-clause-sound : goal.returns-clause-sound
 returns-clause-sound c =
     let l = c.in_ok-laid.laid in
     let h = c.in_ok-laid.ensures.laid in
-    subst (λ (p : Image). is_program p ≡ true) (sym c.in_ok-program.ensures)
+    subst (λ (p : Executable). is_program p ≡ true) (sym c.in_ok-program.ensures)
     (image-program c.in_ok-names.text_len l.entry l.text.items l.data.items (h.text_len ∙ sym c.in_ok-names.ensures.text_len) c.if-text_len-lt4.false h.short h.entry_at)
 
 pub returns-clause-small : goal.returns-clause-small
 returns-clause-small c =
     let l = c.in_ok-laid.laid in
-    subst (λ (p : Image). bytes_in p.ranges ≤ 1048576) (sym c.in_ok-program.ensures)
+    subst (λ (p : Executable). bytes_in p.ranges ≤ 1048576) (sym c.in_ok-program.ensures)
     (image-small c.in_ok-names.text_len l.entry l.text.items l.data.items c.in_ok-laid.ensures.laid.short)

@@ -1,7 +1,7 @@
 use Rattle.std.proofs.Common.{◌≡◌, ◌-◌, List, All, ap, sym, subst, ◌∙◌, map, length}
 use Rattle.std.specs.Prelude.{IsTrue}
 use Rattle.std.specs.List.{list_any}
-use Rattle.nv_elf.specs.Elf.{range_of, image_of}
+use Rattle.nv_elf.specs.Elf.{range_of, executable_of}
 use Rattle.nv_elf.specs.declared.program.Segment.{Segment}
 use Rattle.nv_memory.specs.declared.region.Region.{Region}
 use Rattle.nv_memory.specs.Regions.{has_range}
@@ -17,7 +17,7 @@ all_regions-requires-clause-room c =
 pub make-requires : goal.make-requires
 make-requires c =
     rw (c.in_ok-regions.ensures, c.deref.ensures.value)
-    (regions_lie (image_of c.args.program.now) c.args.size c.requires.size (program_is_placed (image_of c.args.program.now) c.requires.program) c.requires.room)
+    (regions_lie (executable_of c.args.program.now) c.args.size c.requires.size (program_is_placed (executable_of c.args.program.now) c.requires.program) c.requires.room)
 
 pub fill_segments-requires : goal.fill_segments-requires
 fill_segments-requires c =

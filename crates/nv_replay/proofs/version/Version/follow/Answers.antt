@@ -6,7 +6,7 @@ use Rattle.nv_threads.proofs.ThreadLaws.{threads_on, threads_only}
 use Rattle.nv_threads.specs.declared.turns.Want.TheVariants.{Only}
 use Rattle.nv_rules.specs.declared.outcome.Verdict.{Verdict}
 use Rattle.nv_rules.specs.Verdicts.{verdict_of}
-use Rattle.nv_replay.specs.Follow.{Follower, Told, decided, judge_of}
+use Rattle.nv_replay.specs.Follow.{Follower, IsCounted, decided, judge_of}
 use Rattle.nv_replay.specs.Versions.{Running}
 use Rattle.nv_replay.proofs.Following.{decided_fault, decided_asked}
 use Rattle.nv_replay.proofs.Obeying.{told_again}
@@ -67,4 +67,4 @@ returns-in-Asked-clause-told c =
     (λ (r : Running Proc). by r.index (threads.after r.at.process (Only wanted)) wanted) c.self.view_is) in
     told_again _ c.meet.result at c.args.self.now.at c.meet.new.self.at (ap (λ (r : Running Proc). r.at.seen) c.self.view_is)
     (ap (λ (r : Running Proc). r.at.rewrites) c.self.view_is)
-    (subst (λ (v : Verdict). Told v c.meet.result at c.meet.new.self.at) verdict c.meet.ensures.told)
+    (subst (λ (v : Verdict). IsCounted v c.meet.result at c.meet.new.self.at) verdict c.meet.ensures.told)

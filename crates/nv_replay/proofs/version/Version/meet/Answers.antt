@@ -4,7 +4,7 @@ use Rattle.nv_calls.proofs.SameLaws.{same_by}
 use Rattle.nv_rules.specs.Verdicts.{verdict_of}
 use Rattle.nv_threads.specs.Threads.{threads, Proc}
 use Rattle.nv_replay.specs.Permits.{permit}
-use Rattle.nv_replay.specs.Follow.{Follower, Told, judged, judge_of, refusal_of}
+use Rattle.nv_replay.specs.Follow.{Follower, IsCounted, judged, judge_of, refusal_of}
 use Rattle.nv_replay.specs.Versions.{Running}
 use Rattle.nv_replay.proofs.Following.{met_same, met_other}
 use Rattle.nv_replay.proofs.version.Version.meet.Goals as goal
@@ -45,4 +45,4 @@ returns-clause-told c =
     (entry c.args.event.now) = c.judge-value.ensures ∙ (ap (λ (q : Request). judge_of (option_map (λ f. f.now) c.args.rules) c.self.inside.index q
     (entry c.args.event.now)) call ∙ ap (λ (r : Running Proc). judge_of (option_map (λ f. f.now) c.args.rules) r.index
     (threads.call old.at.process c.args.tid) (entry c.args.event.now)) c.self.view_is) in
-    subst (λ (v : ℕ). Told (verdict_of v) c.obey.result old.at c.obey.new.self.at) value c.obey.ensures.told
+    subst (λ (v : ℕ). IsCounted (verdict_of v) c.obey.result old.at c.obey.new.self.at) value c.obey.ensures.told
