@@ -1,11 +1,11 @@
-// Bytes with room that was taken in advance.
+// Bytes whose memory was reserved in advance.
 ghost use Rattle.std.specs.Prelude.{◌≡◌, ◌≤◌, [], ℕ, length, take, IfOk};
 ghost use Rattle.nv_calls.specs.Held.{AreBytes};
 
 use std::alloc::{AllocError, Global};
 use std::marker::Model;
 
-/// A list of bytes, and room for a number of them that was taken when it was made.
+/// A list of bytes, with memory for a number of them that was reserved when it was made.
 #[derive(Drop)]
 pub struct Bytes {
     held: Vec<u8>,
@@ -18,32 +18,32 @@ impl Model for Bytes {
 
     ghost Value = { Held };
 
-    ghost view = { λ b. record { bytes = take b.len b.held.items; room = vec_len b.held } };
+    ghost view = { λ b. record { bytes = take b.len b.held.items; capacity = vec_len b.held } };
 
     ghost invariant = { λ b. b.len ≤ vec_len b.held };
 }
 
 impl Bytes {
-    /// An empty list with this room.
-    pub fn make(alloc: Global, room: u32) -> Result<Bytes, AllocError>
-        ensures { IfOk result (λ b. b ≡ record { bytes = []; room = room }) }
+    /// An empty list with this capacity.
+    pub fn make(alloc: Global, capacity: u32) -> Result<Bytes, AllocError>
+        ensures { IfOk result (λ b. b ≡ record { bytes = []; capacity = capacity }) }
     {
-        let held = vec![in alloc; 0u8; room as usize]?;
+        let held = vec![in alloc; 0u8; capacity as usize]?;
         Ok(Bytes { held, len: 0 })
     }
 
     /// Holds these bytes from now on, and takes no memory.
     pub fn set(&mut self, bytes: &[u8])
-        requires { length bytes.now ≤ self.old.room }
-        ensures { self.new ≡ record { bytes = bytes.now; room = self.old.room } }
+        requires { length bytes.now ≤ self.old.capacity }
+        ensures { self.new ≡ record { bytes = bytes.now; capacity = self.old.capacity } }
     {
         self.len = bytes.len();
         copy_front(&mut self.held, bytes);
     }
 
     /// How many bytes it can hold.
-    pub fn room(&self) -> usize
-        ensures { result ≡ self.now.room }
+    pub fn capacity(&self) -> usize
+        ensures { result ≡ self.now.capacity }
     {
         self.held.len()
     }

@@ -88,9 +88,9 @@ impl FileSystem {
     /// pipe2(2). The reading and the writing descriptor are handed out in 4 bytes each.
     pub fn pipe(&mut self, flags: u32, out: &mut Bytes) -> i32
         requires ready { CanPipe self.old }
-        requires room { 8 ≤ out.old.room }
+        requires room { 8 ≤ out.old.capacity }
         ensures answer { pipe_of self.old.state flags ≡ answer self.new.state result out.new.bytes }
-        ensures room { out.new.room ≡ out.old.room }
+        ensures room { out.new.capacity ≡ out.old.capacity }
     {
         if flags & FLAGS != flags {
             return refuse(out, EINVAL);

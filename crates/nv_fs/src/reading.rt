@@ -30,8 +30,8 @@ fn hand_out_file(
     out: &mut Bytes,
 ) -> usize
     requires inside { most ≤ length part.old }
-    requires room { most ≤ out.old.room }
-    ensures out { out.new ≡ record { bytes = take most (drop from (bytes_in files.now i)); room = out.old.room } }
+    requires room { most ≤ out.old.capacity }
+    ensures out { out.new ≡ record { bytes = take most (drop from (bytes_in files.now i)); capacity = out.old.capacity } }
     ensures ret { result ≡ length out.new.bytes }
     ensures few { result ≤ most }
     ensures end { from + result < 2 ^ 64 }
@@ -63,9 +63,9 @@ impl FileSystem {
 
     fn read_input(&mut self, n: usize, out: &mut Bytes) -> i32
         requires few { n ≤ 4096 }
-        requires room { 4096 ≤ out.old.room }
+        requires room { 4096 ≤ out.old.capacity }
         ensures answer { read_input self.old.state n ≡ answer self.new.state result out.new.bytes }
-        ensures room { out.new.room ≡ out.old.room }
+        ensures room { out.new.capacity ≡ out.old.capacity }
     {
         let got = hand_out(self.input(), 0, n, out);
         self.drop_input(got);
@@ -82,9 +82,9 @@ impl FileSystem {
     ) -> i32
         requires number { number < length self.old.state.opens }
         requires few { n ≤ 4096 }
-        requires room { 4096 ≤ out.old.room }
+        requires room { 4096 ≤ out.old.capacity }
         ensures answer { read_file self.old.state number description i n ≡ answer self.new.state result out.new.bytes }
-        ensures room { out.new.room ≡ out.old.room }
+        ensures room { out.new.capacity ≡ out.old.capacity }
     {
         let got = hand_out_file(
             self.files.as_slice(),
@@ -109,9 +109,9 @@ impl FileSystem {
 
     fn read_pipe(&mut self, k: usize, n: usize, out: &mut Bytes) -> i32
         requires few { n ≤ 4096 }
-        requires room { 4096 ≤ out.old.room }
+        requires room { 4096 ≤ out.old.capacity }
         ensures answer { read_pipe self.old.state k n ≡ answer self.new.state result out.new.bytes }
-        ensures room { out.new.room ≡ out.old.room }
+        ensures room { out.new.capacity ≡ out.old.capacity }
     {
         if n == 0 {
             return refuse(out, 0);
@@ -134,9 +134,9 @@ impl FileSystem {
     ) -> i32
         requires number { number < length self.old.state.opens }
         requires few { n ≤ 4096 }
-        requires room { 4096 ≤ out.old.room }
+        requires room { 4096 ≤ out.old.capacity }
         ensures answer { read_target self.old.state number description description.target n ≡ answer self.new.state result out.new.bytes }
-        ensures room { out.new.room ≡ out.old.room }
+        ensures room { out.new.capacity ≡ out.old.capacity }
     {
         match description.target {
             Target::Input => self.read_input(n, out),
@@ -148,9 +148,9 @@ impl FileSystem {
 
     /// read(2), of at most 4,096 bytes.
     pub fn read(&mut self, fd: u32, count: u32, out: &mut Bytes) -> i32
-        requires { 4096 ≤ out.old.room }
+        requires { 4096 ≤ out.old.capacity }
         ensures answer { read_of self.old.state fd count ≡ answer self.new.state result out.new.bytes }
-        ensures room { out.new.room ≡ out.old.room }
+        ensures room { out.new.capacity ≡ out.old.capacity }
     {
         let Some((number, description)) = self.open_of(fd) else {
             return refuse(out, EBADF);

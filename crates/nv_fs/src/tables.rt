@@ -39,7 +39,7 @@ pub fn front(bytes: &[u8], most: usize) -> &[u8]
 /// An answer that hands out nothing.
 pub fn refuse(out: &mut Bytes, result_is: i32) -> i32
     ensures ret { result ≡ result_is }
-    ensures out { out.new ≡ record { bytes = []; room = out.old.room } }
+    ensures out { out.new ≡ record { bytes = []; capacity = out.old.capacity } }
 {
     out.set(&[]);
     result_is
@@ -47,8 +47,8 @@ pub fn refuse(out: &mut Bytes, result_is: i32) -> i32
 
 /// Hands out at most so many bytes from a place on, and tells how many.
 pub fn hand_out(bytes: &[u8], from: usize, most: usize, out: &mut Bytes) -> usize
-    requires { most ≤ out.old.room }
-    ensures out { out.new ≡ record { bytes = take most (drop from bytes.now); room = out.old.room } }
+    requires { most ≤ out.old.capacity }
+    ensures out { out.new ≡ record { bytes = take most (drop from bytes.now); capacity = out.old.capacity } }
     ensures ret { result ≡ length out.new.bytes }
     ensures few { result ≤ most }
     ensures inside { from + result ≤ max from (length bytes.now) }

@@ -39,9 +39,9 @@ fn kept(slot: Slot, arg: u32) -> u32
 
 // These bytes are the payload.
 fn fill(payload: &mut Bytes, bytes: &[u8]) -> Checked
-    requires { length bytes.now ≤ payload.old.room }
+    requires { length bytes.now ≤ payload.old.capacity }
     ensures handed { handed_as result payload.new.bytes ≡ with_payload (Some bytes.now) }
-    ensures room { payload.new.room ≡ payload.old.room }
+    ensures room { payload.new.capacity ≡ payload.old.capacity }
 {
     payload.set(bytes);
     Checked {
@@ -53,7 +53,7 @@ fn fill(payload: &mut Bytes, bytes: &[u8]) -> Checked
 // A range isn't the guest's.
 fn refuse(payload: &mut Bytes) -> Checked
     ensures handed { handed_as result payload.new.bytes ≡ refused }
-    ensures room { payload.new.room ≡ payload.old.room }
+    ensures room { payload.new.capacity ≡ payload.old.capacity }
 {
     payload.set(&[]);
     Checked { bad: true, room: 0 }
@@ -123,9 +123,9 @@ impl Caller<'_> {
 
     // The path of openat and unlinkat.
     fn copy_path(&self, payload: &mut Bytes) -> Checked
-        requires { MOST_BYTES ≤ payload.old.room }
+        requires { MOST_BYTES ≤ payload.old.capacity }
         ensures handed { handed_as result payload.new.bytes ≡ with_payload (path_in (machine_by self.now)) }
-        ensures room { payload.new.room ≡ payload.old.room }
+        ensures room { payload.new.capacity ≡ payload.old.capacity }
     {
         let mut path = [0; MOST_PATH];
         match read_path(self.memory, self.argument(1), &mut path) {
@@ -136,9 +136,9 @@ impl Caller<'_> {
 
     // The bytes of write.
     fn copy_bytes(&self, payload: &mut Bytes) -> Checked
-        requires { MOST_BYTES ≤ payload.old.room }
+        requires { MOST_BYTES ≤ payload.old.capacity }
         ensures handed { handed_as result payload.new.bytes ≡ with_payload (bytes_in (machine_by self.now)) }
-        ensures room { payload.new.room ≡ payload.old.room }
+        ensures room { payload.new.capacity ≡ payload.old.capacity }
     {
         let count = self.argument(2).min(MOST_BYTES);
         match self.memory.bytes(self.argument(1), count) {
@@ -149,9 +149,9 @@ impl Caller<'_> {
 
     // The bytes of writev.
     fn gather_vectors(&self, payload: &mut Bytes) -> Checked
-        requires { MOST_BYTES ≤ payload.old.room }
+        requires { MOST_BYTES ≤ payload.old.capacity }
         ensures handed { handed_as result payload.new.bytes ≡ with_payload (vectors_in (machine_by self.now)) }
-        ensures room { payload.new.room ≡ payload.old.room }
+        ensures room { payload.new.capacity ≡ payload.old.capacity }
     {
         let mut bytes = [0; MOST_BYTES as usize];
         let (address, count) = (self.argument(1), self.vector_count());
@@ -164,7 +164,7 @@ impl Caller<'_> {
     // The room of readv.
     fn find_room(&self, payload: &mut Bytes) -> Checked
         ensures handed { handed_as result payload.new.bytes ≡ with_room (room_in (machine_by self.now)) }
-        ensures room { payload.new.room ≡ payload.old.room }
+        ensures room { payload.new.capacity ≡ payload.old.capacity }
     {
         payload.set(&[]);
         let (address, count) = (self.argument(1), self.vector_count());
@@ -178,7 +178,7 @@ impl Caller<'_> {
     // The range that the answer goes to.
     fn check_out(&self, syscall: Syscall, payload: &mut Bytes) -> Checked
         ensures handed { handed_as result payload.new.bytes ≡ with_out (machine_by self.now).memory (out_of syscall (machine_by self.now)) }
-        ensures room { payload.new.room ≡ payload.old.room }
+        ensures room { payload.new.capacity ≡ payload.old.capacity }
     {
         payload.set(&[]);
         let bad = match self.out_of(syscall) {
@@ -190,9 +190,9 @@ impl Caller<'_> {
 
     /// Checks what the call reads and writes, and fills the payload.
     pub(crate) fn copy_in(&self, syscall: Syscall, payload: &mut Bytes) -> Checked
-        requires { MOST_BYTES ≤ payload.old.room }
+        requires { MOST_BYTES ≤ payload.old.capacity }
         ensures handed { handed_as result payload.new.bytes ≡ handed syscall (machine_by self.now) }
-        ensures room { payload.new.room ≡ payload.old.room }
+        ensures room { payload.new.capacity ≡ payload.old.capacity }
     {
         match syscall {
             Syscall::Unlinkat | Syscall::Openat => self.copy_path(payload),
@@ -205,11 +205,11 @@ impl Caller<'_> {
 
     /// The call of the thread with this number.
     pub(crate) fn ask(&self, tid: u32, call: &mut Call) -> Asked
-        requires { MOST_BYTES ≤ call.old.payload.room }
+        requires { MOST_BYTES ≤ call.old.payload.capacity }
         ensures asked { result ≡ asked_by (is_local (number (machine_by self.now))) }
         ensures shaped { result ≡ Asked.Logged → IsShaped (request call.new) }
         ensures call { request call.new ≡ call_at (machine_by self.now) tid }
-        ensures room { call.new.payload.room ≡ call.old.payload.room }
+        ensures room { call.new.payload.capacity ≡ call.old.payload.capacity }
     {
         let nr = self.regs.get(NUMBER);
         let syscall = Syscall::of(nr);

@@ -103,11 +103,11 @@ impl Guest {
     /// The call that the thread is at.
     pub fn call_of(&self, tid: u32, call: &mut Call) -> Asked
         requires lives { Contains (tids self.now.threads) tid }
-        requires room { MOST_BYTES ≤ call.old.payload.room }
+        requires room { MOST_BYTES ≤ call.old.payload.capacity }
         ensures asked { result ≡ asked_by (is_local (number (machine_at self.now tid))) }
         ensures shaped { result ≡ Asked.Logged → IsShaped (request call.new) }
         ensures call { request call.new ≡ call_at (machine_at self.now tid) tid }
-        ensures room { call.new.payload.room ≡ call.old.payload.room }
+        ensures room { call.new.payload.capacity ≡ call.old.payload.capacity }
     {
         let caller = Caller {
             regs: self.regs(tid),

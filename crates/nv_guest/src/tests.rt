@@ -191,14 +191,14 @@ fn call_regs(nr: u32, a0: u32, a1: u32, a2: u32) -> Regs {
 
 // The call that the registers spell.
 fn asked(regs: &Regs, memory: &Memory, call: &mut Call) -> Asked
-    requires { 4096 ≤ call.old.payload.room }
-    ensures { call.new.payload.room ≡ call.old.payload.room }
+    requires { 4096 ≤ call.old.payload.capacity }
+    ensures { call.new.payload.capacity ≡ call.old.payload.capacity }
 {
     Caller { regs, memory }.ask(100, call)
 }
 
 fn empty_call(alloc: Global) -> Result<Call, AllocError>
-    ensures { IfOk result (λ call. call.payload.room ≡ 4096) }
+    ensures { IfOk result (λ call. call.payload.capacity ≡ 4096) }
 {
     Ok(Call {
         tid: 0,

@@ -21,7 +21,7 @@ pub record Kept : Type 0 where
   pub disk : Disk
 
 abbrev pub room_of : Event → Spare
-room_of e = record { handed_in = e.call.payload.room; handed_out = e.reply.payload.room }
+room_of e = record { handed_in = e.call.payload.capacity; handed_out = e.reply.payload.capacity }
 
 -- there is memory for the event of a call
 abbrev pub HasRoom : Option Spare → Request → Type 0

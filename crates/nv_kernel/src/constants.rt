@@ -18,7 +18,7 @@ pub const USER: i32 = 1000;
 /// A result that hands out nothing.
 pub fn only(ret: i32, out: &mut Bytes) -> i32
     ensures ret { result ≡ ret }
-    ensures out { out.new ≡ record { bytes = []; room = out.old.room } }
+    ensures out { out.new ≡ record { bytes = []; capacity = out.old.capacity } }
 {
     out.set(&[]);
     ret
@@ -44,9 +44,9 @@ fn field(name: &[u8]) -> [u8; 65]
 
 /// uname(2).
 pub fn names(out: &mut Bytes) -> i32
-    requires { 390 ≤ out.old.room }
+    requires { 390 ≤ out.old.capacity }
     ensures ret { result ≡ pos 0 }
-    ensures out { out.new ≡ record { bytes = names; room = out.old.room } }
+    ensures out { out.new ≡ record { bytes = names; capacity = out.old.capacity } }
 {
     let fields = [
         field(b"Linux"),
@@ -62,9 +62,9 @@ pub fn names(out: &mut Bytes) -> i32
 
 /// getcwd(2): the working directory is `/`.
 pub fn directory(size: u32, out: &mut Bytes) -> i32
-    requires { 2 ≤ out.old.room }
+    requires { 2 ≤ out.old.capacity }
     ensures reply { directory size ≡ record { ret = result; payload = out.new.bytes } }
-    ensures room { out.new.room ≡ out.old.room }
+    ensures room { out.new.capacity ≡ out.old.capacity }
 {
     if size < 2 {
         return only(ERANGE, out);
@@ -75,9 +75,9 @@ pub fn directory(size: u32, out: &mut Bytes) -> i32
 
 // The result that the call has in every state, with the bytes that it hands out.
 fn constant_as(syscall: Syscall, call: &Call, out: &mut Bytes) -> Option<i32>
-    requires { 4096 ≤ out.old.room }
+    requires { 4096 ≤ out.old.capacity }
     ensures reply { constant_by syscall (request call.now) ≡ option_map (λ ret. record { ret = ret; payload = out.new.bytes }) result }
-    ensures room { out.new.room ≡ out.old.room }
+    ensures room { out.new.capacity ≡ out.old.capacity }
 {
     match syscall {
         Syscall::Getcwd | Syscall::Uname if call.bad => Some(only(EFAULT, out)),
@@ -95,9 +95,9 @@ fn constant_as(syscall: Syscall, call: &Call, out: &mut Bytes) -> Option<i32>
 /// The reply of a call whose reply is the same in every state, with the bytes that it hands out.
 #[tactic(auto, unfolding(nv_calls::specs::Constants::constant_of))]
 pub fn constant(call: &Call, out: &mut Bytes) -> Option<i32>
-    requires { 4096 ≤ out.old.room }
+    requires { 4096 ≤ out.old.capacity }
     ensures reply { constant_of (request call.now) ≡ option_map (λ ret. record { ret = ret; payload = out.new.bytes }) result }
-    ensures room { out.new.room ≡ out.old.room }
+    ensures room { out.new.capacity ≡ out.old.capacity }
 {
     constant_as(Syscall::of(call.nr), call, out)
 }

@@ -60,9 +60,9 @@ impl Devices {
 
     // readv(2), of vectors with room for so many bytes together.
     fn read_vectors(&mut self, fd: u32, count: u32, capacity: u32, out: &mut Bytes) -> i32
-        requires { 4096 ≤ out.old.room }
+        requires { 4096 ≤ out.old.capacity }
         ensures answer { unless_many (state_of self.old) count (of_files (state_of self.old) (read_of self.old.files.state fd capacity)) ≡ record { state = state_of self.new; ret = result; payload = out.new.bytes } }
-        ensures room { out.new.room ≡ out.old.room }
+        ensures room { out.new.capacity ≡ out.old.capacity }
     {
         if count > MOST_VECTORS {
             return only(EINVAL, out);
@@ -83,9 +83,9 @@ impl Devices {
 
     // clock_gettime(2).
     fn clock(&self, id: u32, out: &mut Bytes) -> i32
-        requires { 16 ≤ out.old.room }
+        requires { 16 ≤ out.old.capacity }
         ensures answer { clock (state_of self.now) id ≡ record { state = state_of self.now; ret = result; payload = out.new.bytes } }
-        ensures room { out.new.room ≡ out.old.room }
+        ensures room { out.new.capacity ≡ out.old.capacity }
         ensures few { length out.new.bytes ≤ 16 }
     {
         if id > 1 {
@@ -98,9 +98,9 @@ impl Devices {
     // getrandom(2).
     fn hand_out_random(&mut self, n: u32, out: &mut Bytes) -> i32
         requires few { n ≤ 4096 }
-        requires room { 4096 ≤ out.old.room }
+        requires room { 4096 ≤ out.old.capacity }
         ensures answer { randomly (state_of self.old) n ≡ record { state = state_of self.new; ret = result; payload = out.new.bytes } }
-        ensures room { out.new.room ≡ out.old.room }
+        ensures room { out.new.capacity ≡ out.old.capacity }
         ensures few { length out.new.bytes ≡ n }
     {
         let mut bytes = [0; MOST_BYTES as usize];
@@ -129,11 +129,11 @@ impl Devices {
     // What the call answers, where all that it reads and writes is the guest's.
     fn answer_as(&mut self, syscall: Syscall, call: &Call, out: &mut Bytes) -> i32
         requires ready { can_answer syscall self.old.files (request call.now) }
-        requires room { 4096 ≤ out.old.room }
+        requires room { 4096 ≤ out.old.capacity }
         requires empty { out.old.bytes ≡ [] }
         requires clones { (state_of self.old).crew.clones < 131072 }
         ensures answer { answered syscall (state_of self.old) (request call.now) ≡ record { state = state_of self.new; ret = result; payload = out.new.bytes } }
-        ensures room { out.new.room ≡ out.old.room }
+        ensures room { out.new.capacity ≡ out.old.capacity }
         ensures few { length out.new.bytes ≤ most_out_by syscall (request call.now).args }
     {
         let args = call.args;
@@ -167,10 +167,10 @@ impl Devices {
 
     fn answer_unless_bad(&mut self, call: &Call, out: &mut Bytes) -> i32
         requires ready { CanAnswer self.old.files (request call.now) }
-        requires room { 4096 ≤ out.old.room }
+        requires room { 4096 ≤ out.old.capacity }
         requires clones { (state_of self.old).crew.clones < 131072 }
         ensures answer { unless_bad (state_of self.old) (request call.now) ≡ record { state = state_of self.new; ret = result; payload = out.new.bytes } }
-        ensures room { out.new.room ≡ out.old.room }
+        ensures room { out.new.capacity ≡ out.old.capacity }
         ensures few { length out.new.bytes ≤ most_out (request call.now) }
     {
         out.set(&[]);
@@ -185,10 +185,10 @@ impl Devices {
     pub fn answer(&mut self, call: &Call, out: &mut Bytes) -> i32
         requires ready { CanAnswer self.old.files (request call.now) }
         requires few { self.old.served < 131072 }
-        requires room { 4096 ≤ out.old.room }
+        requires room { 4096 ≤ out.old.capacity }
         requires clones { (state_of self.old).crew.clones < 131072 }
         ensures answer { serve (state_of self.old) (request call.now) ≡ record { state = state_of self.new; ret = result; payload = out.new.bytes } }
-        ensures room { out.new.room ≡ out.old.room }
+        ensures room { out.new.capacity ≡ out.old.capacity }
         ensures few { length out.new.bytes ≤ most_out (request call.now) }
     {
         let ret = self.answer_unless_bad(call, out);

@@ -39,7 +39,7 @@ impl Model for ScriptKernel {
 
     ghost invariant = { λ k. IsKept (start_of_script (setup_of k.script.value)) (map entry k.log.items) (vec_len k.log) (vec_capacity k.log) (option_map room_of k.spare) k.end (crew_of k.devices.threads)
         × (state_of k.devices ≡ state_after (first_state (setup_of k.script.value)) (calls_of (map entry k.log.items)))
-        × (k.out.room ≡ 4096) };
+        × (k.out.capacity ≡ 4096) };
 }
 
 impl ScriptKernel {

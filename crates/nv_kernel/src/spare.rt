@@ -35,8 +35,8 @@ pub fn blank(alloc: Global, call: &Call) -> Result<Event, AllocError>
 
 /// The event of this call with this result, and the bytes that are handed out.
 pub fn fill(event: &mut Event, call: &Call, stamp: u32, ret: i32, out: &Bytes)
-    requires handed_in { length call.now.payload.bytes ≤ event.old.call.payload.room }
-    requires handed_out { length out.now.bytes ≤ event.old.reply.payload.room }
+    requires handed_in { length call.now.payload.bytes ≤ event.old.call.payload.capacity }
+    requires handed_out { length out.now.bytes ≤ event.old.reply.payload.capacity }
     requires few { length call.now.payload.bytes + length out.now.bytes ≤ 4096 }
     ensures entry { entry event.new ≡ record { stamp = stamp; call = request call.now; reply = record { ret = ret; payload = out.now.bytes } } }
     ensures range { InRange (entry event.new) }

@@ -38,7 +38,7 @@ impl Desk {
 
     fn ask(&mut self, call: &Call) -> Result<i32, AllocError> {
         if call.payload.as_slice().len() > 4096
-            || self.out.room() < 4096
+            || self.out.capacity() < 4096
             || self.devices.served >= 9
             || self.devices.threads.clones >= 9
         {

@@ -26,9 +26,9 @@ pub fn judge(rules: Option<&Filter>, call: &Call, event: &Event, index: u32) -> 
 #[tactic(auto, using(nv_threads::proofs::ThreadLaws::threads_here, crate::proofs::Stepping::constant_new))]
 pub fn give_constant(process: &mut Process, tid: u32, scratch: &mut Bytes) -> bool
     requires pending { threads.pending process.old tid ≡ true }
-    requires room { 4096 ≤ scratch.old.room }
+    requires room { 4096 ≤ scratch.old.capacity }
     ensures given { HasGiven threads (constant_of (threads.call process.old tid)) tid process.old process.new result }
-    ensures room { scratch.new.room ≡ scratch.old.room }
+    ensures room { scratch.new.capacity ≡ scratch.old.capacity }
 {
     match constant(process.pending(tid), scratch) {
         Some(ret) => {

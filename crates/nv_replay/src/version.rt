@@ -46,7 +46,7 @@ impl Model for Version {
 
     ghost view = { λ v. record { index = v.index; at = record { process = v.process; seen = v.standing.seen; rewrites = v.standing.rewrites; fate = v.standing.fate }; led = v.standing.led; leading = v.leading; asked = v.asked } };
 
-    ghost invariant = { λ v. IsKept v.standing.seen (v.standing.rewrites + threads.calls_left v.process) v.standing.led v.scratch.room };
+    ghost invariant = { λ v. IsKept v.standing.seen (v.standing.rewrites + threads.calls_left v.process) v.standing.led v.scratch.capacity };
 }
 
 /// What a follower has made of an event.

@@ -70,7 +70,7 @@ impl Desk {
 
     fn try_pipe(&mut self, flags: u32) -> Result<i32, AllocError> {
         self.files.reserve_pipe()?;
-        if self.out.room() < 8 {
+        if self.out.capacity() < 8 {
             return Ok(NO_MEMORY);
         }
         Ok(self.files.pipe(flags, &mut self.out))
@@ -115,7 +115,7 @@ impl Desk {
     }
 
     fn read(&mut self, fd: u32, count: u32, wanted: i32) {
-        if self.out.room() < 4096 {
+        if self.out.capacity() < 4096 {
             return;
         }
         let got = self.files.read(fd, count, &mut self.out);
@@ -133,7 +133,7 @@ impl Desk {
     }
 
     fn seek_by(&mut self, fd: u32, high: u32, low: u32, whence: u32, wanted: i32) {
-        if self.out.room() < 8 {
+        if self.out.capacity() < 8 {
             return;
         }
         let got = self.files.seek(fd, high, low, whence, &mut self.out);

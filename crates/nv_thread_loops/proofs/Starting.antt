@@ -4,6 +4,7 @@ use Rattle.std.specs.Prelude.{Contains}
 use Rattle.std.proofs.lemmas.Bool.Decides.{nat_tests}
 use Rattle.nv_calls.specs.Calls.{Entry, Response}
 use Rattle.nv_calls.specs.Logs.{made, child_of, live_next, IsNew}
+use Rattle.nv_calls.specs.Numbers.{CLONE}
 use Rattle.nv_thread_loops.specs.Firsts.{firsts}
 
 at_end : (xs : List ℕ) (y r : ℕ) → Contains (xs ++ y ∷ []) r → Contains xs r ⊎ (y ≡ r)
@@ -34,15 +35,15 @@ size : (k : ℕ) → length (firsts k) ≡ k
 size zero = refl
 size (suc k) = let h = size k in let m = more (firsts k) (100 + k) in omega arith
 
-made_is : (nr n : ℕ) (z : ℤ) → nr ≡ 220 → z ≡ pos n → 0 < n → made nr z ≡ Some n
-made_is nr n z h e p = let a : (nr == 220) ≡ true = grind (arith, nat_tests) in let b : (n == 0) ≡ false = grind (arith, nat_tests) in rw (e, a, b) refl
+made_is : (nr n : ℕ) (z : ℤ) → nr ≡ CLONE → z ≡ pos n → 0 < n → made nr z ≡ Some n
+made_is nr n z h e p = let a : (nr == CLONE) ≡ true = grind (arith, nat_tests) in let b : (n == 0) ≡ false = grind (arith, nat_tests) in rw (e, a, b) refl
 
-pub new_is : (live : List ℕ) (k nr : ℕ) (z : ℤ) → live ≡ firsts k → k < 8 → nr ≡ 220 → z ≡ pos (100 + k) → IsNew live (made nr z)
+pub new_is : (live : List ℕ) (k nr : ℕ) (z : ℤ) → live ≡ firsts k → k < 8 → nr ≡ CLONE → z ≡ pos (100 + k) → IsNew live (made nr z)
 new_is live k nr z l h n e =
     let s = size k in
     rw (l, made_is nr (100 + k) z n e (omega arith)) (omega arith, λ (c : Contains (firsts k) (100 + k)). (let q = low k (100 + k) c in omega arith))
 
-pub next_is : (live : List ℕ) (e : Entry) (k : ℕ) → live ≡ firsts k → e.call.nr ≡ 220 → e.reply.ret ≡ pos (100 + k) → live_next live e ≡ firsts (suc k)
+pub next_is : (live : List ℕ) (e : Entry) (k : ℕ) → live ≡ firsts k → e.call.nr ≡ CLONE → e.reply.ret ≡ pos (100 + k) → live_next live e ≡ firsts (suc k)
 next_is live e k l n r =
     let a : (e.call.nr == 94) ≡ false = grind (arith, nat_tests) in
     let b : (e.call.nr == 93) ≡ false = grind (arith, nat_tests) in

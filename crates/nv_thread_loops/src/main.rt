@@ -6,6 +6,7 @@ ghost use Rattle.nv_threads.specs.Threads.{threads};
 ghost use Rattle.nv_thread_loops.specs.Firsts.{firsts};
 
 use anyhow::{Result, bail};
+use nv_calls::{CLONE, FIRST_THREAD, MOST_THREADS};
 use nv_guest::Guest;
 use nv_text::number;
 use nv_threads::{Came, Process, Want};
@@ -49,14 +50,14 @@ fn file_of(name: &str) -> Option<&'static [u8]> {
 fn start(process: &mut Process)
     requires { threads.live process.old ≡ firsts 1 }
 {
-    for i in 1..8u32 {
+    for i in 1..MOST_THREADS as u32 {
         let Came::Asked(tid) = process.advance(Want::Any) else {
             return;
         };
-        if process.pending(tid).nr != 220 {
+        if process.pending(tid).nr != CLONE {
             return;
         }
-        process.answer(tid, (100 + i) as i32, &[]);
+        process.answer(tid, (FIRST_THREAD + i) as i32, &[]);
     }
 }
 

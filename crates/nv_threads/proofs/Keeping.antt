@@ -97,17 +97,17 @@ with_task count budget ts g cs t s k o = record {
 
 -- ---- calls
 
-room_with : (cs : List Call) (i : ℕ) (c : Call) → HaveRoom cs → 4096 ≤ c.payload.room → HaveRoom (set cs i c)
+room_with : (cs : List Call) (i : ℕ) (c : Call) → HaveRoom cs → 4096 ≤ c.payload.capacity → HaveRoom (set cs i c)
 room_with [] i c h r = h
 room_with (x ∷ cs) zero c h r = (r, h.1)
 room_with (x ∷ cs) (suc i) c h r = (h.0, room_with cs i c h.1 r)
 
-pub room_at : (cs : List Call) (i : ℕ) (d : Call) → HaveRoom cs → i < length cs → 4096 ≤ (get_or cs i d).payload.room
+pub room_at : (cs : List Call) (i : ℕ) (d : Call) → HaveRoom cs → i < length cs → 4096 ≤ (get_or cs i d).payload.capacity
 room_at [] i d h l = absurd (omega arith)
 room_at (x ∷ cs) zero d h l = h.0
 room_at (x ∷ cs) (suc i) d h l = room_at cs i d h.1 (omega arith)
 
-pub with_call : (count budget : ℕ) (ts : List Task) (g : List ℕ) (cs : List Call) (i : ℕ) (c : Call) → IsKept count budget ts g cs → 4096 ≤ c.payload.room → IsKept count budget ts g (set cs i c)
+pub with_call : (count budget : ℕ) (ts : List Task) (g : List ℕ) (cs : List Call) (i : ℕ) (c : Call) → IsKept count budget ts g cs → 4096 ≤ c.payload.capacity → IsKept count budget ts g (set cs i c)
 with_call count budget ts g cs i c k r = record { within = k.within; same = k.same; apart = k.apart; own = k.own; eight = length-set cs i c ∙ k.eight; room = room_with cs i c k.room r }
 
 pub map_set : (cs : List Call) (i : ℕ) (c : Call) → map request (set cs i c) ≡ set (map request cs) i (request c)

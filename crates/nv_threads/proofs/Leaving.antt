@@ -167,7 +167,7 @@ with_less count budget ts gs h cs ds t k l e n r =
 
 -- ---- calls
 
-pub room_more : (cs : List Call) (c : Call) → HaveRoom cs → 4096 ≤ c.payload.room → HaveRoom (cs ++ c ∷ [])
+pub room_more : (cs : List Call) (c : Call) → HaveRoom cs → 4096 ≤ c.payload.capacity → HaveRoom (cs ++ c ∷ [])
 room_more [] c h r = (r, tt)
 room_more (x ∷ cs) c h r = (h.0, room_more cs c h.1 r)
 

@@ -24,7 +24,7 @@ AreOwn (t ∷ ts) = IsOwn t.tid t.state × AreOwn ts
 -- each call has room for what is handed in
 abbrev pub HaveRoom : List Call → Type 0
 HaveRoom [] = Unit {0}
-HaveRoom (c ∷ cs) = (MOST_BYTES ≤ c.payload.room) × HaveRoom cs
+HaveRoom (c ∷ cs) = (MOST_BYTES ≤ c.payload.capacity) × HaveRoom cs
 
 -- The instructions run keep to the budget, the guest has these threads, each a number of its own, and there is a call for each of eight.
 pub record IsKept (count budget : ℕ) (tasks : List Task) (guest : List ℕ) (calls : List Call) : Type 0 where

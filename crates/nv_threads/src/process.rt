@@ -493,7 +493,7 @@ fn eight_calls(alloc: Global) -> Result<Vec<Call>, AllocError>
 }
 
 fn roomy_call(alloc: Global) -> Result<Call, AllocError>
-    ensures { IfOk result (λ call. MOST_BYTES ≤ call.payload.room) }
+    ensures { IfOk result (λ call. MOST_BYTES ≤ call.payload.capacity) }
 {
     Ok(Call {
         tid: FIRST_THREAD,

@@ -14,11 +14,11 @@ pub(crate) fn decode(words: &[u64], bytes: &mut [u8], event: &mut Event)
     requires words { 6 ≤ length words.now }
     requires bytes { 8 * length words.now ≤ length bytes.old + 48 }
     requires payload { sent_of words.now + came_of words.now + 48 ≤ 8 * length words.now }
-    requires sent { sent_of words.now ≤ event.old.call.payload.room }
-    requires came { came_of words.now ≤ event.old.reply.payload.room }
+    requires sent { sent_of words.now ≤ event.old.call.payload.capacity }
+    requires came { came_of words.now ≤ event.old.reply.payload.capacity }
     ensures event { entry event.new ≡ event_of words.now }
-    ensures sent { event.new.call.payload.room ≡ event.old.call.payload.room }
-    ensures came { event.new.reply.payload.room ≡ event.old.reply.payload.room }
+    ensures sent { event.new.call.payload.capacity ≡ event.old.call.payload.capacity }
+    ensures came { event.new.reply.payload.capacity ≡ event.old.reply.payload.capacity }
 {
     unpack(&words[6..], bytes);
     let sizes = high(words[5]);

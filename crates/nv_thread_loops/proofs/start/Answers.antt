@@ -22,7 +22,7 @@ answer-requires-clause-pending c = subst (λ (p : Proc). threads.pending p c.in-
 pub answer-requires-clause-new : goal.answer-requires-clause-new
 answer-requires-clause-new c =
     let live = ap threads.live c.in-Asked.ensures.after ∙ (threads_live c.loop-i.process Any ∙ c.loop-i.invariant) in
-    let nr = ap (λ (q : Request). q.nr) (sym c.pending.ensures.call) ∙ c.if-pending-ne220.false in
+    let nr = ap (λ (q : Request). q.nr) (sym c.pending.ensures.call) ∙ c.if-pending-ne-CLONE.false in
     new_is (threads.live c.advance.new.self) c.loop-i.i (threads.call c.advance.new.self c.in-Asked.tid).nr _ live c.loop-i-test.true nr (to_z_pos w32 (100 + c.loop-i.i) (omega (arith, c.loop-i-test.true)))
 
 pub loop-i-preserved : goal.loop-i-preserved
@@ -30,7 +30,7 @@ loop-i-preserved c =
     let p : Proc = c.advance.new.self in
     let t = c.in-Asked.tid in
     let live = ap threads.live c.in-Asked.ensures.after ∙ (threads_live c.loop-i.process Any ∙ c.loop-i.invariant) in
-    let nr = ap (λ (q : Request). q.nr) (sym c.pending.ensures.call) ∙ c.if-pending-ne220.false in
+    let nr = ap (λ (q : Request). q.nr) (sym c.pending.ensures.call) ∙ c.if-pending-ne-CLONE.false in
     let asks = subst (λ (q : Proc). threads.pending q t ≡ true) (sym c.in-Asked.ensures.after) (threads_asked c.loop-i.process Any t (sym c.in-Asked.ensures.came)) in
     let r : Response = record { ret = to_z w32 (100 + c.loop-i.i); payload = [] } in
     ap threads.live c.answer.ensures

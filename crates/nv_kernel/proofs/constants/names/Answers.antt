@@ -14,4 +14,4 @@ returns-clause-out c =
     let all : flat_map (λ x. x) (c.field.result ∷ c.field-2.result ∷ c.field-3.result ∷ c.field-4.result ∷ c.field-5.result ∷ c.field-6.result ∷ []) ≡ names
     = six c.field.result c.field-2.result c.field-3.result c.field-4.result c.field-5.result c.field-6.result
     ∙ (λ i. c.field.ensures i ++ c.field-2.ensures i ++ c.field-3.ensures i ++ c.field-4.ensures i ++ c.field-5.ensures i ++ c.field-6.ensures i) in
-    c.set.ensures ∙ (λ i. record { bytes = (c.as_flattened.ensures.value ∙ all) i; room = c.args.out.now.room })
+    c.set.ensures ∙ (λ i. record { bytes = (c.as_flattened.ensures.value ∙ all) i; capacity = c.args.out.now.capacity })

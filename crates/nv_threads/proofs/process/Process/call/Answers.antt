@@ -54,7 +54,7 @@ pub call_of-requires-clause-room : goal.call_of-requires-clause-room
 call_of-requires-clause-room c =
     let few = c.deref.ensures.1 in
     let inside : c.place-place.result < length c.self.inside.calls.items = omega (arith, few, c.place-place.ensures.inside, c.self.invariant.eight) in
-    subst (λ (k : Call). 4096 ≤ k.payload.room) (sym c.index_mut.ensures.value) (room_at c.self.inside.calls.items c.place-place.result c.index_mut.result.now c.self.invariant.room inside)
+    subst (λ (k : Call). 4096 ≤ k.payload.capacity) (sym c.index_mut.ensures.value) (room_at c.self.inside.calls.items c.place-place.result c.index_mut.result.now c.self.invariant.room inside)
 
 pub regs-requires : goal.regs-requires
 regs-requires c =
@@ -80,8 +80,8 @@ invariant_of-self c =
     let lives = running_lives (threads_of i.tasks.items cs) i.turn runs in
     let few = c.deref.ensures.1 in
     let inside : c.place-place.result < length i.calls.items = omega (arith, few, c.place-place.ensures.inside, c.self.invariant.eight) in
-    let room : 4096 ≤ c.call_of.new.call.payload.room = subst (λ (n : ℕ). 4096 ≤ n) (sym c.in-Logged.ensures.room)
-    (subst (λ (k : Call). 4096 ≤ k.payload.room) (sym c.index_mut.ensures.value) (room_at i.calls.items c.place-place.result c.index_mut.result.now c.self.invariant.room inside)) in
+    let room : 4096 ≤ c.call_of.new.call.payload.capacity = subst (λ (n : ℕ). 4096 ≤ n) (sym c.in-Logged.ensures.room)
+    (subst (λ (k : Call). 4096 ≤ k.payload.capacity) (sym c.index_mut.ensures.value) (room_at i.calls.items c.place-place.result c.index_mut.result.now c.self.invariant.room inside)) in
     let at : c.place-place.result ≡ place_of i.tasks.items i.turn = c.place-place.ensures.place ∙ ap (λ (ts : List Task). place_of ts i.turn) c.deref.ensures.0 in
     let r : Request = request c.call_of.new.call in
     let long : length i.tasks.items ≤ length cs = (let n = length-map i.calls.items request in omega (arith, ap length c.deref.ensures.0, c.deref.ensures.1, c.self.invariant.eight, n)) in
@@ -105,8 +105,8 @@ invariant_of-self-in-Local c =
     ∙ unread i.tasks.items cs i.turn (request c.call_of.new.call) (sym (running_of i.tasks.items cs i.turn) ∙ runs) in
     let few = c.deref.ensures.1 in
     let inside : c.place-place.result < length i.calls.items = omega (arith, few, c.place-place.ensures.inside, c.self.invariant.eight) in
-    let room : 4096 ≤ c.call_of.new.call.payload.room = subst (λ (n : ℕ). 4096 ≤ n) (sym c.in-Local.ensures.room)
-    (subst (λ (k : Call). 4096 ≤ k.payload.room) (sym c.index_mut.ensures.value) (room_at i.calls.items c.place-place.result c.index_mut.result.now c.self.invariant.room inside)) in
+    let room : 4096 ≤ c.call_of.new.call.payload.capacity = subst (λ (n : ℕ). 4096 ≤ n) (sym c.in-Local.ensures.room)
+    (subst (λ (k : Call). 4096 ≤ k.payload.capacity) (sym c.index_mut.ensures.value) (room_at i.calls.items c.place-place.result c.index_mut.result.now c.self.invariant.room inside)) in
     subst (λ (ts : List Thread). IsKept i.count i.budget ts (guests.tids i.guest.threads) (set i.calls.items c.place-place.result c.call_of.new.call)) (sym unread_is)
     (with_call _ _ _ _ _ c.place-place.result c.call_of.new.call c.self.invariant room)
 

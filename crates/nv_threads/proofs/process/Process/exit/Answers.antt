@@ -16,7 +16,7 @@ use Rattle.nv_threads.proofs.Writing.{lives_there}
 use Rattle.nv_threads.proofs.process.Process.exit.Goals as goal
 
 blank : Call
-blank = record { tid = 0; nr = 0; args = []; bad = false; payload = record { bytes = []; room = 0 } }
+blank = record { tid = 0; nr = 0; args = []; bad = false; payload = record { bytes = []; capacity = 0 } }
 
 pub place-place-requires : goal.place-place-requires
 place-place-requires c = lives_there c.self.inside.tasks.items c.deref.result.now (map request c.self.inside.calls.items) c.args.tid c.deref.ensures.0
