@@ -1,7 +1,7 @@
 use Rattle.std.specs.Prelude.{ℕ, List, ◌++◌, Option, None, Some}
 use Rattle.nv_outside.specs.declared.gathering.Gathering.{Gathering}
 
--- the sink behind, and the bytes that are held back from it
+-- the sink below, and the bytes that are held back from it
 abbrev pub sink_of : {S : Type 0} → Gathering S → S
 sink_of g = g.sink
 

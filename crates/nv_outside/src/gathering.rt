@@ -1,4 +1,4 @@
-// A sink that gathers what is written, so that many small pieces cost the sink behind it few writes.
+// A sink that gathers what is written, so that many small pieces cost the sink below it few writes.
 ghost use Rattle.std.specs.Prelude.{◌≡◌, ◌≤◌, ◌<◌, [], drop, length};
 ghost use Rattle.nv_outside.specs.Sink.{Puts};
 
@@ -7,14 +7,14 @@ use arrayvec::ArrayVec;
 
 const HELD: usize = 8192;
 
-/// Holds up to 8,192 bytes back from the sink behind it. `finish` writes the last of them.
+/// Holds up to 8,192 bytes back from the sink below it. `finish` writes the last of them.
 #[derive(Drop)]
 pub struct Gathering<S> {
     sink: S,
     held: ArrayVec<u8, HELD>,
 }
 
-fn behind(held: &ArrayVec<u8, HELD>, count: usize) -> ArrayVec<u8, HELD>
+fn after(held: &ArrayVec<u8, HELD>, count: usize) -> ArrayVec<u8, HELD>
     requires { count ≤ length held.now.items }
     ensures { result.items ≡ drop count held.now.items }
 {
@@ -72,7 +72,7 @@ impl<S: Sink> Gathering<S> {
     {
         match self.sink.write(&self.held) {
             Wrote::Count(count) => {
-                self.held = behind(&self.held, count);
+                self.held = after(&self.held, count);
                 Put::Whole
             }
             Wrote::Failed => Put::Failed,

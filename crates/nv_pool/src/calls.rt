@@ -24,14 +24,14 @@ fn within(at: u32, size: u32) -> u32
 }
 
 // So many places back from this one in a ring of this size.
-fn back(at: u32, behind: u32, size: u32) -> u32
-    requires { (at < size) × (0 < behind) × (behind ≤ size) }
-    ensures { (result < size) × ((result + behind ≡ at) ⊎ (result + behind ≡ at + size)) }
+fn back(at: u32, count: u32, size: u32) -> u32
+    requires { (at < size) × (0 < count) × (count ≤ size) }
+    ensures { (result < size) × ((result + count ≡ at) ⊎ (result + count ≡ at + size)) }
 {
-    if behind <= at {
-        at - behind
+    if count <= at {
+        at - count
     } else {
-        size - (behind - at)
+        size - (count - at)
     }
 }
 
@@ -107,11 +107,11 @@ impl Pool {
         ensures is { (sizes : List ℕ) → Holds self.now sizes → result ≡ chunks_before sizes event }
         ensures most { result ≤ self.now.total }
     {
-        let behind = self.count - event;
-        if behind == 0 {
+        let later = self.count - event;
+        if later == 0 {
             self.total
         } else {
-            self.starts[back(self.at, behind, self.places) as usize]
+            self.starts[back(self.at, later, self.places) as usize]
         }
     }
 }

@@ -3,8 +3,8 @@ use Rattle.std.proofs.lemmas.Grind.{get_or_default_zero}
 use Rattle.nv_pool.proofs.PoolLaws.{back_is}
 use Rattle.nv_pool.proofs.pool.Pool.start.Goals as goal
 
-pub returns-else-behind-eq0-clause-is : goal.returns-else-behind-eq0-clause-is
-returns-else-behind-eq0-clause-is c sizes h = let p = c.args.self.now in let e : ℕ = c.args.event in let k : ℕ = p.count - e in let n : ℕ = p.places in
+pub returns-else-later-eq0-clause-is : goal.returns-else-later-eq0-clause-is
+returns-else-later-eq0-clause-is c sizes h = let p = c.args.self.now in let e : ℕ = c.args.event in let k : ℕ = p.count - e in let n : ℕ = p.places in
     let at : p.at ≡ (e + k) % n = p.turns.0 ∙ ap (λ (z : ℕ). z % n) (let q : p.count ≡ e + k = omega arith in q) in
     let r : c.back.result ≡ e % n = back_is e k n c.back.result (omega arith) c.back.ensures.0 (subst (λ (z : ℕ). (c.back.result + k ≡ z) ⊎ (c.back.result + k ≡ z + n)) at c.back.ensures.1) in
     let some : 0 < k = omega arith in
