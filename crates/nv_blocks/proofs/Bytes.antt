@@ -35,14 +35,14 @@ pub over_past : (place : ℕ) (bytes : List ℕ) (x p : ℕ) → place + length 
 over_past place bytes x p h = grind (arith, nat_tests)
 
 -- what stands before a write, with the gap
-abbrev front : List ℕ → ℕ → List ℕ
-front old place = take place old ++ replicate (place - length old) 0
+abbrev prefix : List ℕ → ℕ → List ℕ
+prefix old place = take place old ++ replicate (place - length old) 0
 
-front_length : (old : List ℕ) (place : ℕ) → length (front old place) ≡ place
-front_length old place = omega (arith, length-append (take place old) (replicate (place - length old) 0), length-take place old, length-replicate {A = ℕ} (place - length old) 0)
+prefix_length : (old : List ℕ) (place : ℕ) → length (prefix old place) ≡ place
+prefix_length old place = omega (arith, length-append (take place old) (replicate (place - length old) 0), length-take place old, length-replicate {A = ℕ} (place - length old) 0)
 
-front_at : (old : List ℕ) (place p : ℕ) → p < place → get_or (front old place) p 0 ≡ get_or old p 0
-front_at old place p h =
+prefix_at : (old : List ℕ) (place p : ℕ) → p < place → get_or (prefix old place) p 0 ≡ get_or old p 0
+prefix_at old place p h =
     let short : length (take place old) ≡ min place (length old) = length-take place old in
     elim (cases_lt p (length old)) [
       | inl lt ↦ get_or_append_left (take place old) (replicate (place - length old) 0) 0 p (omega arith) ∙ get_or-take place old p 0 h
@@ -52,13 +52,13 @@ front_at old place p h =
 -- a byte after a write
 pub with_bytes_at : (old : List ℕ) (place : ℕ) (bytes : List ℕ) (p : ℕ) → get_or (with_bytes old place bytes) p 0 ≡ over place bytes (get_or old p 0) p
 with_bytes_at old place bytes p =
-    let before = front old place in
+    let before = prefix old place in
     let rest = drop (place + length bytes) old in
-    let long : length before ≡ place = front_length old place in
+    let long : length before ≡ place = prefix_length old place in
     let longer : length (before ++ bytes) ≡ place + length bytes = omega (arith, length-append before bytes) in
     elim (cases_lt p (place + length bytes)) [
       | inl lt ↦ get_or_append_left (before ++ bytes) rest 0 p (omega arith) ∙ elim (cases_lt p place) [
-        | inl l ↦ get_or_append_left before bytes 0 p (omega arith) ∙ front_at old place p l ∙ sym (over_below place bytes (get_or old p 0) p l)
+        | inl l ↦ get_or_append_left before bytes 0 p (omega arith) ∙ prefix_at old place p l ∙ sym (over_below place bytes (get_or old p 0) p l)
         | inr g ↦ get_or-append_right before bytes place p 0 long g ∙ sym (over_in place bytes (get_or old p 0) p g lt)
       ]
       | inr ge ↦ get_or-append_right (before ++ bytes) rest (place + length bytes) p 0 longer ge ∙ get_or-drop (place + length bytes) old (p - (place + length bytes)) 0
@@ -68,7 +68,7 @@ with_bytes_at old place bytes p =
 -- the length after a write
 pub with_bytes_length : (old : List ℕ) (place : ℕ) (bytes : List ℕ) → length (with_bytes old place bytes) ≡ max (length old) (place + length bytes)
 with_bytes_length old place bytes =
-    omega (arith, front_length old place, length-append (front old place) bytes, length-append (front old place ++ bytes) (drop (place + length bytes) old), length-drop (place + length bytes) old)
+    omega (arith, prefix_length old place, length-append (prefix old place) bytes, length-append (prefix old place ++ bytes) (drop (place + length bytes) old), length-drop (place + length bytes) old)
 
 -- a write over the function's values
 pub written : (f g : ℕ → ℕ) (len place : ℕ) (bytes : List ℕ) → ((p : ℕ) → g p ≡ over place bytes (f p) p) → ((p : ℕ) → len ≤ p → f p ≡ 0)

@@ -159,13 +159,13 @@ pub fn telling(alloc: Global, text: &str) -> Result<String, AllocError> {
 }
 
 /// How a report begins where these bytes went to the console.
-pub fn front_of_report(alloc: Global, written: &[u8]) -> Result<Vec<u8>, AllocError> {
+pub fn prefix_of_report(alloc: Global, written: &[u8]) -> Result<Vec<u8>, AllocError> {
     let count = written.len();
     let head = format!(in alloc; "output {count}\n")?;
-    let mut front = head.as_bytes().to_vec(alloc)?;
-    front.extend_from_slice(written)?;
-    front.extend_from_slice(b"\nlog ")?;
-    Ok(front)
+    let mut prefix = head.as_bytes().to_vec(alloc)?;
+    prefix.extend_from_slice(written)?;
+    prefix.extend_from_slice(b"\nlog ")?;
+    Ok(prefix)
 }
 
 /// How a report ends where the version made so many calls, then the call of this line, and exited.

@@ -7,7 +7,7 @@ mod linux;
 
 pub use built::{HEAP, SERVICE_1, SERVICE_2, SERVICE_3};
 pub use guest::{
-    end_of_report, front_of_report, run, run_file, run_pair, run_table, run_twice, telling,
+    end_of_report, prefix_of_report, run, run_file, run_pair, run_table, run_twice, telling,
 };
 pub use linux::{FILES, Guest, NUMBERS, PIPES, THREADS};
 

@@ -1,11 +1,11 @@
 -- A log with one more entry.
 use Rattle.std.proofs.Common.{◌≡◌, sym, ap, subst, refl, ℕ, zero, suc, ◌<◌, ◌≤◌, ◌⊎◌, inl, inr, ⊎_elim, List, [], ◌∷◌, ◌++◌, length, take, Some, arith}
-use Rattle.std.specs.Prelude.{slice_get, slice_index}
+use Rattle.std.specs.Prelude.{slice_get}
 use Rattle.std.proofs.lemmas.Option.{same_Some, slice_get_within}
 use mathlib.Core.Option.{some, some-ne-none, some-injective}
 use lib.ListN.{get_elem?}
-use Rattle.nv_calls.specs.Calls.{Entry, Request}
-use Rattle.nv_calls.specs.Logs.{IsLawful, MayFollow, InRange, IsLegal, Start, served, live_after, live_from, live_next, last_arg}
+use Rattle.nv_calls.specs.Calls.{Entry, Request, status_of}
+use Rattle.nv_calls.specs.Logs.{IsLawful, MayFollow, InRange, IsLegal, Start, served, live_after, live_from, live_next, last_status}
 
 pub at_more : {A : Type 0} (xs : List A) (e x : A) (i : ℕ) → slice_get (xs ++ e ∷ []) i ≡ Some x → (slice_get xs i ≡ Some x) ⊎ ((i ≡ length xs) × (e ≡ x))
 at_more [] e x zero h = inr (refl, same_Some e x h)
@@ -47,20 +47,20 @@ live_last live (x ∷ xs) e = live_last (live_next live x) xs e
 pub live_more : (log : List Entry) (e : Entry) → live_after (log ++ e ∷ []) ≡ live_next (live_after log) e
 live_more log e = live_last (100 ∷ []) log e
 
-pub arg_more : (log : List Entry) (e : Entry) → last_arg (log ++ e ∷ []) ≡ slice_index e.call.args 0
-arg_more [] e = refl
-arg_more (x ∷ []) e = refl
-arg_more (x ∷ y ∷ ys) e = arg_more (y ∷ ys) e
+pub status_more : (log : List Entry) (e : Entry) → last_status (log ++ e ∷ []) ≡ status_of e.call
+status_more [] e = refl
+status_more (x ∷ []) e = refl
+status_more (x ∷ y ∷ ys) e = status_more (y ∷ ys) e
 
 -- the first entries of a lawful log are lawful
-pub at_front : {A : Type 0} (k : ℕ) (xs : List A) (i : ℕ) (x : A) → slice_get (take k xs) i ≡ Some x → (slice_get xs i ≡ Some x) × (take i (take k xs) ≡ take i xs)
-at_front zero xs i x h = cc
-at_front (suc k) [] i x h = cc
-at_front (suc k) (y ∷ ys) zero x h = (h, refl)
-at_front (suc k) (y ∷ ys) (suc i) x h = let r = at_front k ys i x h in (r.0, ap (λ z. y ∷ z) r.1)
+pub at_prefix : {A : Type 0} (k : ℕ) (xs : List A) (i : ℕ) (x : A) → slice_get (take k xs) i ≡ Some x → (slice_get xs i ≡ Some x) × (take i (take k xs) ≡ take i xs)
+at_prefix zero xs i x h = cc
+at_prefix (suc k) [] i x h = cc
+at_prefix (suc k) (y ∷ ys) zero x h = (h, refl)
+at_prefix (suc k) (y ∷ ys) (suc i) x h = let r = at_prefix k ys i x h in (r.0, ap (λ z. y ∷ z) r.1)
 
 pub lawful_take : (log : List Entry) (k : ℕ) → IsLawful log → IsLawful (take k log)
-lawful_take log k h i x f = let r = at_front k log i x f in subst (λ (z : List Entry). MayFollow i (live_after z) x) (sym r.1) (h i x r.0)
+lawful_take log k h i x f = let r = at_prefix k log i x f in subst (λ (z : List Entry). MayFollow i (live_after z) x) (sym r.1) (h i x r.0)
 
 has : {A : Type 0} (xs : List A) (i : ℕ) → i < length xs → (x : A) × (slice_get xs i ≡ Some x)
 has [] i h = absurd (omega arith)
@@ -69,7 +69,7 @@ has (x ∷ xs) (suc i) h = has xs i (omega arith)
 
 few_by : (log : List Entry) (n : ℕ) → IsLawful log → n ≡ length log → n ≤ 131072
 few_by log zero h e = omega arith
-few_by log (suc n) h e = let x = has log n (omega arith) in let m = (h n x.0 x.1).room in omega arith
+few_by log (suc n) h e = let x = has log n (omega arith) in let m = (h n x.0 x.1).few in omega arith
 
 pub lawful_few : (log : List Entry) → IsLawful log → length log ≤ 131072
 lawful_few log h = few_by log (length log) h refl

@@ -5,7 +5,7 @@ use Rattle.nv_calls.specs.declared.numbers.Syscall.TheVariants.{Getcwd, Pipe2, L
 use Rattle.nv_calls.specs.Limits.{MOST_BYTES}
 
 -- How many bytes a call with these arguments hands out at most, by its man page. The path `/` of getcwd has 2, and the fourth argument of
--- readv is the room of its vectors.
+-- readv is the capacity of its vectors.
 abbrev pub most_out_by : Syscall → List ℕ → ℕ
 most_out_by Getcwd args = min (slice_index args 1) 2
 most_out_by Pipe2 args = 8

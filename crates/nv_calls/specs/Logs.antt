@@ -1,11 +1,11 @@
 -- What a list of entries says of the threads that live, and which lists are the log of a kernel.
-use Rattle.std.specs.Prelude.{◌≡◌, ℕ, ◌+◌, ◌<◌, ◌≤◌, ℤ, pos, ◌==◌, ◌&&◌, not, List, [], ◌∷◌, ◌++◌, length, take, map, filter, Option, Some, None, slice_get, slice_index, Contains, if◌then◌else◌, ◌%◌, ◌^◌}
+use Rattle.std.specs.Prelude.{◌≡◌, ℕ, ◌+◌, ◌<◌, ◌≤◌, ℤ, pos, ◌==◌, ◌&&◌, not, List, [], ◌∷◌, ◌++◌, length, take, map, filter, Option, Some, None, slice_get, Contains, if◌then◌else◌, ◌^◌}
 use mathlib.Core.Option.{some}
 use lib.ListN.{get_elem?}
 use mir.Val.{SFits}
 use mir.Syntax.{w32}
 use Rattle.nv_calls.specs.Held.{AreBytes}
-use Rattle.nv_calls.specs.Calls.{Request, Response, Entry}
+use Rattle.nv_calls.specs.Calls.{Request, Response, Entry, status_of}
 use Rattle.nv_calls.specs.Limits.{MOST_BYTES, FIRST_THREAD, MOST_THREADS, MOST_EVENTS}
 use Rattle.nv_calls.specs.Numbers.{CLONE, EXIT, EXIT_GROUP}
 
@@ -52,10 +52,10 @@ pub record InRange (e : Entry) : Type 0 where
   pub reply_bytes : AreBytes e.reply.payload
   pub short : length e.call.payload + length e.reply.payload ≤ MOST_BYTES
 
--- an entry that may stand behind n others, after which these threads live
+-- an entry that may stand after n others, after which these threads live
 pub record MayFollow (n : ℕ) (live : List ℕ) (e : Entry) : Type 0 where
   pub stamp : e.stamp ≡ n
-  pub room : n < MOST_EVENTS
+  pub few : n < MOST_EVENTS
   pub lives : Contains live e.call.tid
   pub new : IsNew live (child_of e)
   pub range : InRange e
@@ -75,25 +75,26 @@ call_of e = e.call
 abbrev pub calls_of : List Entry → List Request
 calls_of log = map call_of log
 
--- the entry that a call becomes behind a log
+-- the entry that a call becomes after a log
 abbrev pub served : Start → List Entry → Request → Entry
 served start log c = record { stamp = length log; call = c; reply = start.replies (calls_of log) c }
 
--- each entry is what its call becomes behind the entries before it
+-- each entry is what its call becomes after the entries before it
 abbrev pub IsLegal : Start → List Entry → Type 0
 IsLegal start log = (i : ℕ) (e : Entry) → slice_get log i ≡ Some e → e ≡ served start (take i log) e.call
 
 abbrev pub output_of : Start → List Entry → List ℕ
 output_of start log = start.console (calls_of log)
 
--- the exit status, where no thread lives
-abbrev pub last_arg : List Entry → ℕ
-last_arg [] = 0
-last_arg (e ∷ []) = slice_index e.call.args 0
-last_arg (e ∷ f ∷ es) = last_arg (f ∷ es)
+-- the exit status that the last call asks for
+abbrev pub last_status : List Entry → ℕ
+last_status [] = 0
+last_status (e ∷ []) = status_of e.call
+last_status (e ∷ f ∷ es) = last_status (f ∷ es)
 
+-- the exit status, where no thread lives
 abbrev pub ended_after : List Entry → Option ℕ
-ended_after log = if length (live_after log) == 0 then Some (last_arg log % 256) else None
+ended_after log = if length (live_after log) == 0 then Some (last_status log) else None
 
 -- two starts answer and print alike; as a fact with at most one proof, for ghost fields
 pub record SameStart (a b : Start) : Type 0 where

@@ -20,7 +20,7 @@ are_plain [] args = true
 are_plain (slot ∷ slots) [] = true
 are_plain (slot ∷ slots) (arg ∷ args) = is_plain slot arg && are_plain slots args
 
--- the fourth argument of readv holds how many bytes its vectors have room for
+-- the fourth argument of readv holds how many bytes its vectors can hold
 abbrev pub kept_slots : Syscall → List Slot
 kept_slots Readv = Value ∷ Address ∷ Value ∷ Value ∷ Unused ∷ Unused ∷ []
 kept_slots syscall = slots_by syscall

@@ -38,7 +38,7 @@ impl Bytes {
         ensures { self.new ≡ record { bytes = bytes.now; capacity = self.old.capacity } }
     {
         self.len = bytes.len();
-        copy_front(&mut self.held, bytes);
+        copy_prefix(&mut self.held, bytes);
     }
 
     /// How many bytes it can hold.
@@ -58,7 +58,7 @@ impl Bytes {
     }
 }
 
-fn copy_front(out: &mut [u8], bytes: &[u8])
+fn copy_prefix(out: &mut [u8], bytes: &[u8])
     requires { length bytes.now ≤ length out.old }
     ensures { take (length bytes.now) out.new ≡ bytes.now }
 {

@@ -1,6 +1,6 @@
 // A call, its reply, and the two as an event.
 ghost use Rattle.std.specs.Prelude.{◌≡◌, ◌↔◌, IsTrue};
-ghost use Rattle.nv_calls.specs.Calls.{request, entry};
+ghost use Rattle.nv_calls.specs.Calls.{request, entry, status_of};
 
 use crate::Bytes;
 
@@ -17,6 +17,15 @@ pub struct Call {
     pub bad: bool,
     /// The bytes that the call hands in.
     pub payload: Bytes,
+}
+
+impl Call {
+    /// The exit status that a call of exit or exit_group asks for.
+    pub fn status(&self) -> u8
+        ensures { result ≡ status_of (request self.now) }
+    {
+        (self.args[0] % 256) as u8
+    }
 }
 
 /// What a call was answered.

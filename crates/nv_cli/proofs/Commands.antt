@@ -15,7 +15,7 @@ use Rattle.nv_cli.specs.declared.refusal.Cause.{Cause}
 use Rattle.nv_cli.specs.declared.refusal.Cause.TheVariants.{Long}
 use Rattle.nv_cli.specs.declared.refusal.Refusal.{Refusal}
 use Rattle.nv_cli.specs.declared.refusal.Refusal.TheVariants.{Memory, Unreadable as Unread, Input}
-use Rattle.nv_command.specs.Words.{Name, Plan, Job, Command, Runs, Uses, Generates, asked_by, behind_program, command_of, name_in}
+use Rattle.nv_command.specs.Words.{Name, Plan, Job, Command, Runs, Uses, Generates, asked_by, after_program, command_of, name_in}
 use Rattle.nv_cli.specs.Summing.{SumsUp}
 
 is_named : (name : Option Name) (asked : Name → Option Command) (command : Command) → option_and_then asked name ≡ Some command → IsSome name
@@ -25,7 +25,7 @@ is_named (Some name) asked command h = refl
 -- words that are accepted name a command
 named : (words : List (List ℕ)) (command : Command) → command_of words ≡ Some command → IsSome (name_in words)
 unfolding command_of
-named words command h = is_named (name_in words) (asked_by (behind_program words)) command h
+named words command h = is_named (name_in words) (asked_by (after_program words)) command h
 
 pub unasked : (words : List (List ℕ)) (command : Command) → command_of words ≡ Some command → command_of words ≡ None → ⊥
 unasked words command asked none = let e : Some command ≡ None = sym asked ∙ none in cc

@@ -10,7 +10,7 @@ use Rattle.nv_command.specs.Words.{Limits, Plan}
 use Rattle.nv_script.specs.Scripts.{Setup, script_of}
 use Rattle.nv_script.specs.declared.fault.ScriptFault.{ScriptFault}
 use Rattle.nv_cli.specs.Found.{Found, Whole, TooLong, Unread, Finds, Agrees, AgreesIf, AllAgree, AreFound, is_long, found_of, finds_of}
-use Rattle.nv_cli.specs.Prepared.{Prepared, Unreadable, Refused, Ready, VersionOf, Faulty, Loads, read_at, in_front, version_then, versions_from, judged_by, rules_then, behind_rules, behind_script, version_of, prepared}
+use Rattle.nv_cli.specs.Prepared.{Prepared, Unreadable, Refused, Ready, VersionOf, Faulty, Loads, read_at, with_machine, version_then, versions_from, judged_by, rules_then, after_rules, after_script, version_of, prepared}
 use Rattle.nv_cli.specs.declared.refusal.Place.{Place}
 use Rattle.nv_cli.specs.declared.refusal.Place.TheVariants.{Script, Rules, Version}
 
@@ -56,15 +56,15 @@ same_at place told found check other a same here there =
     (same_read place found check other same here) there) r)
     (same_found told found a)
 
-front_unread : (machine : Machine) (rest : Prepared) → IsUnread rest → IsUnread (in_front machine rest)
-front_unread machine (Unreadable place) u = tt
-front_unread machine (Refused place cause) u = absurd u
-front_unread machine (Ready setup rules machines) u = absurd u
+prefix_unread : (machine : Machine) (rest : Prepared) → IsUnread rest → IsUnread (with_machine machine rest)
+prefix_unread machine (Unreadable place) u = tt
+prefix_unread machine (Refused place cause) u = absurd u
+prefix_unread machine (Ready setup rules machines) u = absurd u
 
 same_then : (i : ℕ) (version : VersionOf) (rest other : Prepared) → ((IsUnread rest → ⊥) → (IsUnread other → ⊥) → rest ≡ other)
     → (IsUnread (version_then i rest version) → ⊥) → (IsUnread (version_then i other version) → ⊥) → version_then i rest version ≡ version_then i other version
 same_then i (Faulty cause) rest other same here there = refl
-same_then i (Loads machine) rest other same here there = ap (in_front machine) (same (λ u. here (front_unread machine rest u)) (λ u. there (front_unread machine other u)))
+same_then i (Loads machine) rest other same here there = ap (with_machine machine) (same (λ u. here (prefix_unread machine rest u)) (λ u. there (prefix_unread machine other u)))
 
 abbrev told_finds : (List ℕ → Told) → List (List ℕ) → List Found
 told_finds holds names = map (λ name. found_of (holds name)) names
@@ -99,7 +99,7 @@ told_rules holds name = option_map (λ n. found_of (holds n)) name
 
 same_rules : (holds : List ℕ → Told) (name : Option (List ℕ)) (found : Option Found) (rest other : Prepared) → AgreesIf holds name found
     → ((IsUnread rest → ⊥) → (IsUnread other → ⊥) → rest ≡ other)
-    → (IsUnread (behind_rules found rest) → ⊥) → (IsUnread (behind_rules (told_rules holds name) other) → ⊥) → behind_rules found rest ≡ behind_rules (told_rules holds name) other
+    → (IsUnread (after_rules found rest) → ⊥) → (IsUnread (after_rules (told_rules holds name) other) → ⊥) → after_rules found rest ≡ after_rules (told_rules holds name) other
 same_rules holds None None rest other agree same here there = same here there
 same_rules holds None (Some found) rest other agree same here there = absurd agree
 same_rules holds (Some name) None rest other agree same here there = absurd agree
@@ -108,7 +108,7 @@ same_rules holds (Some name) (Some found) rest other agree same here there =
     (λ bytes. same_filter (filter_of 4096 bytes) rest other same) here there
 
 same_script : (read : Result Setup ScriptFault) (versions other : Setup → Prepared) → ((setup : Setup) → (IsUnread (versions setup) → ⊥) → (IsUnread (other setup) → ⊥) → versions setup ≡ other setup)
-    → (IsUnread (behind_script versions read) → ⊥) → (IsUnread (behind_script other read) → ⊥) → behind_script versions read ≡ behind_script other read
+    → (IsUnread (after_script versions read) → ⊥) → (IsUnread (after_script other read) → ⊥) → after_script versions read ≡ after_script other read
 same_script (Ok setup) versions other same here there = same setup here there
 same_script (Err fault) versions other same here there = refl
 
@@ -117,11 +117,11 @@ pub same_prepared : (holds : List ℕ → Told) (plan : Plan) (finds : Finds) �
     → (IsUnread (prepared plan.limits finds) → ⊥) → (IsUnread (prepared plan.limits (finds_of holds plan)) → ⊥) → prepared plan.limits finds ≡ prepared plan.limits (finds_of holds plan)
 same_prepared holds plan finds agree here there =
     same_at Script (holds plan.script) finds.script
-    (λ bytes. behind_script (λ setup. behind_rules finds.rules (versions_from plan.limits setup 0 finds.versions)) (script_of bytes))
-    (λ bytes. behind_script (λ setup. behind_rules (told_rules holds plan.rules) (versions_from plan.limits setup 0 (told_finds holds plan.versions))) (script_of bytes))
+    (λ bytes. after_script (λ setup. after_rules finds.rules (versions_from plan.limits setup 0 finds.versions)) (script_of bytes))
+    (λ bytes. after_script (λ setup. after_rules (told_rules holds plan.rules) (versions_from plan.limits setup 0 (told_finds holds plan.versions))) (script_of bytes))
     agree.script
-    (λ bytes. same_script (script_of bytes) (λ setup. behind_rules finds.rules (versions_from plan.limits setup 0 finds.versions))
-    (λ setup. behind_rules (told_rules holds plan.rules) (versions_from plan.limits setup 0 (told_finds holds plan.versions)))
+    (λ bytes. same_script (script_of bytes) (λ setup. after_rules finds.rules (versions_from plan.limits setup 0 finds.versions))
+    (λ setup. after_rules (told_rules holds plan.rules) (versions_from plan.limits setup 0 (told_finds holds plan.versions)))
     (λ setup. same_rules holds plan.rules finds.rules (versions_from plan.limits setup 0 finds.versions) (versions_from plan.limits setup 0 (told_finds holds plan.versions)) agree.rules
     (same_versions plan.limits setup holds plan.versions finds.versions 0 agree.versions)))
     here there

@@ -11,7 +11,7 @@ use Rattle.nv_replay.specs.Versions.{Running, IsFresh, process_of}
 use Rattle.nv_replay.specs.Accounts.{AreFresh}
 use Rattle.nv_cli.specs.Account.{begun}
 use Rattle.nv_cli.specs.Found.{Found, Whole, TooLong, Unread, Agrees, AgreesIf, AllAgree, IsReadOf}
-use Rattle.nv_cli.specs.Prepared.{Prepared, Unreadable, Refused, Ready, read_at, in_front, version_then, versions_from, judged_by, rules_then, behind_rules, behind_script, version_of}
+use Rattle.nv_cli.specs.Prepared.{Prepared, Unreadable, Refused, Ready, read_at, with_machine, version_then, versions_from, judged_by, rules_then, after_rules, after_script, version_of}
 use Rattle.nv_cli.specs.Refusals.{HasLoaded, AreLoaded, IsFault, ReadRefused, VersionRefused, VersionsRefused, VersionsCome, RestComes, HasRead, HasRules, RulesStop, RulesRefused, RestRefused, ComesTo, IsScriptRefusal, IsFilterRefusal, IsVersionRefusal, Refuses}
 use Rattle.nv_cli.specs.declared.refusal.Refusal.{Refusal}
 use Rattle.nv_cli.specs.declared.refusal.Refusal.TheVariants as refusal
@@ -31,10 +31,10 @@ take_next [] k x h = cc
 take_next (y ∷ ys) zero x h = ap (λ z. z ∷ []) (same_Some y x h)
 take_next (y ∷ ys) (suc k) x h = let e : suc k + 1 ≡ suc (k + 1) = omega arith in subst (λ (n : ℕ). take n (y ∷ ys) ≡ y ∷ (take k ys ++ x ∷ [])) (sym e) (ap (λ z. y ∷ z) (take_next ys k x h))
 
-pub length-front : {X : Type 0} (xs : List X) (k : ℕ) → k ≤ length xs → length (take k xs) ≡ k
-length-front xs zero le = refl
-length-front [] (suc k) le = absurd (omega arith)
-length-front (x ∷ xs) (suc k) le = ap suc (length-front xs k (omega arith))
+pub length-prefix : {X : Type 0} (xs : List X) (k : ℕ) → k ≤ length xs → length (take k xs) ≡ k
+length-prefix xs zero le = refl
+length-prefix [] (suc k) le = absurd (omega arith)
+length-prefix (x ∷ xs) (suc k) le = ap suc (length-prefix xs k (omega arith))
 
 pub fresh_next : (vs vs' : List (Running Proc)) (n : ℕ) (v : Running Proc) → vs' ≡ vs ++ v ∷ [] → n ≡ length vs → AreFresh threads 0 vs → IsFresh threads n v → AreFresh threads 0 vs'
 fresh_next vs vs' n v longer e all h = subst (λ (xs : List (Running Proc)). AreFresh threads 0 xs) (sym longer) (fresh_more threads 0 n vs v all (omega (arith, e)) h)
@@ -59,7 +59,7 @@ pub script_accepted : (holds : List ℕ → Told) (plan : Plan) (bytes : List �
 script_accepted holds plan bytes setup whole r ok v = record {
   finds = record { script = Whole bytes; rules = v.rules; versions = v.versions };
   agree = record { script = r; rules = v.rules_agree; versions = v.versions_agree };
-  is = ap (behind_script (λ (s : Setup). behind_rules v.rules (versions_from plan.limits s 0 v.versions))) ok ∙ v.is;
+  is = ap (after_script (λ (s : Setup). after_rules v.rules (versions_from plan.limits s 0 v.versions))) ok ∙ v.is;
 }
 
 -- what the rest comes to with these rules
@@ -71,7 +71,7 @@ with_rules (Some ops) whole = judged_by ops whole
 record RulesGo (holds : List ℕ → Told) (name : Option (List ℕ)) (rules : Option (List Op)) : Type 0 where
   found : Option Found
   agree : AgreesIf holds name found
-  is : (rest : Prepared) → behind_rules found rest ≡ with_rules rules rest
+  is : (rest : Prepared) → after_rules found rest ≡ with_rules rules rest
 
 rules_go : (holds : List ℕ → Told) (name : Option (List ℕ)) (rules : Option (List Op)) → HasRules rules holds name → RulesGo holds name rules
 rules_go holds None None h = record { found = None; agree = tt; is = λ rest. refl }
@@ -171,11 +171,11 @@ rest_by_versions (refusal.Input place cause) holds plan setup rules f0 f f' t0 t
 
 -- the script decides
 script_stops : (holds : List ℕ → Told) (plan : Plan) (found : Found) (whole : Prepared) → Agrees (holds plan.script) found
-    → ((rest : Setup → Prepared) → read_at Script found (λ bytes. behind_script rest (script_of bytes)) ≡ whole) → ComesTo plan holds whole
+    → ((rest : Setup → Prepared) → read_at Script found (λ bytes. after_script rest (script_of bytes)) ≡ whole) → ComesTo plan holds whole
 script_stops holds plan found whole agrees stops = record {
   finds = record { script = found; rules = option_map unread_of plan.rules; versions = map unread_of plan.versions };
   agree = record { script = agrees; rules = rules_unread holds plan.rules; versions = all_unread holds plan.versions };
-  is = stops (λ s. behind_rules (option_map unread_of plan.rules) (versions_from plan.limits s 0 (map unread_of plan.versions)));
+  is = stops (λ s. after_rules (option_map unread_of plan.rules) (versions_from plan.limits s 0 (map unread_of plan.versions)));
 }
 
 -- a script can't be read
@@ -193,7 +193,7 @@ script_refuses refusal.Memory holds plan bytes f0 f t0 t r kept h = kept
 script_refuses (refusal.Unreadable place) holds plan bytes f0 f t0 t r kept h = absurd h
 script_refuses (refusal.Input place cause) holds plan bytes f0 f t0 t r kept h = (
   script_stops holds plan (Whole bytes) (Refused place cause) r
-      (λ rest. ap (behind_script rest) h.3 ∙ ap (λ p. Refused p (causes.Script h.1)) (sym h.0) ∙ ap (Refused place) (sym h.2)),
+      (λ rest. ap (after_script rest) h.3 ∙ ap (λ p. Refused p (causes.Script h.1)) (sym h.0) ∙ ap (Refused place) (sym h.2)),
   kept,
   λ e. let other : causes.Script h.1 ≡ causes.Long = sym h.2 ∙ e in cc,
 )
@@ -214,11 +214,11 @@ module _ (limits : Limits) (setup : Setup) where
 
   -- a loaded version stands before what the others come to
   loaded_before : (v : Running Proc) (holds : List ℕ → Told) (name : List ℕ) (names : List (List ℕ)) (i : ℕ) (rest : Prepared) (l : HasLoaded limits setup v (holds name))
-      → VersionsCome limits setup holds (i + 1) names rest → VersionsCome limits setup holds i (name ∷ names) (in_front l.machine rest)
+      → VersionsCome limits setup holds (i + 1) names rest → VersionsCome limits setup holds i (name ∷ names) (with_machine l.machine rest)
   loaded_before v holds name names i rest l r = record {
     finds = Whole l.bytes ∷ r.finds;
     agree = (l.read, r.agree);
-    is = ap (version_then i (versions_from limits setup (i + 1) r.finds)) l.loads ∙ ap (in_front l.machine) r.is;
+    is = ap (version_then i (versions_from limits setup (i + 1) r.finds)) l.loads ∙ ap (with_machine l.machine) r.is;
   }
 
   -- what loaded versions come to
@@ -243,7 +243,7 @@ module _ (limits : Limits) (setup : Setup) where
   -- what stops at the version after those that were loaded
   stops_next : (vs : List (Running Proc)) (holds : List ℕ → Told) (names : List (List ℕ)) (i k j : ℕ) (name : List ℕ) (found : Found) (whole : Prepared) → j ≡ i + k
       → AreLoaded limits setup vs holds (take k names) → slice_get names k ≡ Some name → Agrees (holds name) found
-      → ((rest : Prepared) → read_at (Version j) found (λ bytes. version_then j rest (version_of limits setup bytes)) ≡ whole) → ((machine : Machine) → in_front machine whole ≡ whole)
+      → ((rest : Prepared) → read_at (Version j) found (λ bytes. version_then j rest (version_of limits setup bytes)) ≡ whole) → ((machine : Machine) → with_machine machine whole ≡ whole)
       → VersionsCome limits setup holds i names whole
   stops_next vs holds [] i k j name found whole is all at agrees stops stays = cc
   stops_next vs holds (n ∷ names) i zero j name found whole is all at agrees stops stays =

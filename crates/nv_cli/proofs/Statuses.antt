@@ -8,7 +8,7 @@ use Rattle.nv_outside.specs.declared.sink.Put.TheVariants.{Whole, Failed}
 use Rattle.nv_replay.specs.declared.standing.Standing.{Standing}
 use Rattle.nv_replay.specs.Follow.{is_exited}
 use Rattle.nv_replay.specs.Lead.{is_memory}
-use Rattle.nv_command.specs.Words.{Name, Plan, Job, Command, Runs, Uses, Generates, asked_by, behind_program, command_of, name_in}
+use Rattle.nv_command.specs.Words.{Name, Plan, Job, Command, Runs, Uses, Generates, asked_by, after_program, command_of, name_in}
 use Rattle.nv_cli.specs.Account.{run_status}
 use Rattle.nv_cli.specs.Found.{Found, Unread, found_of, finds_of}
 use Rattle.nv_cli.specs.Prepared.{Prepared, Unreadable, Refused, Ready, prepared}
@@ -167,7 +167,7 @@ six (Summed k setup account) Whole n ends is = absurd (omega arith)
 -- a name of no command is refused
 nameless : (words : List (List ℕ)) → name_in words ≡ None → command_of words ≡ None
 unfolding command_of
-nameless words none = ap (option_and_then (asked_by (behind_program words))) none
+nameless words none = ap (option_and_then (asked_by (after_program words))) none
 
 is_nameless : (words : List (List ℕ)) → IsSome (name_in words) → name_in words ≡ None → ⊥
 is_nameless words is none = let h = subst (λ (name : Option Name). IsSome name) none is in cc

@@ -50,15 +50,15 @@ read_at place (Whole bytes) check = check bytes
 read_at place TooLong check = Refused place Long
 read_at place Unread check = Unreadable place
 
--- the machine of the version before stands in front
-abbrev pub in_front : Machine → Prepared → Prepared
-in_front machine (Unreadable place) = Unreadable place
-in_front machine (Refused place cause) = Refused place cause
-in_front machine (Ready setup rules rest) = Ready setup rules (machine ∷ rest)
+-- with the machine of the version before, which stands first
+abbrev pub with_machine : Machine → Prepared → Prepared
+with_machine machine (Unreadable place) = Unreadable place
+with_machine machine (Refused place cause) = Refused place cause
+with_machine machine (Ready setup rules rest) = Ready setup rules (machine ∷ rest)
 
 abbrev pub version_then : ℕ → Prepared → VersionOf → Prepared
 version_then i rest (Faulty cause) = Refused (Version i) cause
-version_then i rest (Loads machine) = in_front machine rest
+version_then i rest (Loads machine) = with_machine machine rest
 
 -- the versions from number i on
 abbrev pub versions_from : Limits → Setup → ℕ → List Found → Prepared
@@ -77,16 +77,16 @@ rules_then rest (Ok ops) = judged_by ops rest
 rules_then rest (Err fault) = Refused Rules (Filter fault)
 
 -- rules that are named are read before the versions
-abbrev pub behind_rules : Option Found → Prepared → Prepared
-behind_rules None rest = rest
-behind_rules (Some found) rest = read_at Rules found (λ bytes. rules_then rest (filter_of 4096 bytes))
+abbrev pub after_rules : Option Found → Prepared → Prepared
+after_rules None rest = rest
+after_rules (Some found) rest = read_at Rules found (λ bytes. rules_then rest (filter_of 4096 bytes))
 
 -- the rest after what the script says
-abbrev pub behind_script : (Setup → Prepared) → Result Setup ScriptFault → Prepared
-behind_script rest (Ok setup) = rest setup
-behind_script rest (Err fault) = Refused Script (cause.Script fault)
+abbrev pub after_script : (Setup → Prepared) → Result Setup ScriptFault → Prepared
+after_script rest (Ok setup) = rest setup
+after_script rest (Err fault) = Refused Script (cause.Script fault)
 
 -- what the files come to, by what is found of each
 abbrev pub prepared : Limits → Finds → Prepared
 prepared limits finds =
-    read_at Script finds.script (λ bytes. behind_script (λ setup. behind_rules finds.rules (versions_from limits setup 0 finds.versions)) (script_of bytes))
+    read_at Script finds.script (λ bytes. after_script (λ setup. after_rules finds.rules (versions_from limits setup 0 finds.versions)) (script_of bytes))

@@ -15,7 +15,7 @@ use Rattle.nv_replay.specs.Versions.{Running, process_of}
 use Rattle.nv_replay.specs.Accounts.{AreFresh}
 use Rattle.nv_cli.specs.Account.{begun}
 use Rattle.nv_cli.specs.Found.{Found, Whole, TooLong, Unread, Finds, Agrees, AgreesIf, AllAgree, AreFound, IsReadOf, IsLongOf, TookLong}
-use Rattle.nv_cli.specs.Prepared.{Prepared, Unreadable, Refused, Ready, Faulty, Loads, behind_rules, prepared, version_of, versions_from}
+use Rattle.nv_cli.specs.Prepared.{Prepared, Unreadable, Refused, Ready, Faulty, Loads, after_rules, prepared, version_of, versions_from}
 use Rattle.nv_cli.specs.declared.refusal.Place.{Place}
 use Rattle.nv_cli.specs.declared.refusal.Place.TheVariants.{Script, Rules}
 use Rattle.nv_cli.specs.declared.refusal.Cause.{Cause}
@@ -67,7 +67,7 @@ pub record RestComes (setup : Setup) (holds : List ℕ → Told) (plan : Plan) (
   pub rules_agree : AgreesIf holds plan.rules rules
   pub versions : List Found
   pub versions_agree : AllAgree holds plan.versions versions
-  pub is : behind_rules rules (versions_from plan.limits setup 0 versions) ≡ whole
+  pub is : after_rules rules (versions_from plan.limits setup 0 versions) ≡ whole
 
 -- the filter is that of the bytes that were read
 pub record HasRead (ops : List Op) (told : Told) : Type 0 where
@@ -86,7 +86,7 @@ HasRules (Some ops) holds (Some name) = HasRead ops (holds name)
 pub record RulesStop (holds : List ℕ → Told) (name : Option (List ℕ)) (whole : Prepared) : Type 0 where
   pub rules : Option Found
   pub agree : AgreesIf holds name rules
-  pub is : (rest : Prepared) → behind_rules rules rest ≡ whole
+  pub is : (rest : Prepared) → after_rules rules rest ≡ whole
 
 -- the rules can't be read or are refused, or memory is wanted
 abbrev pub RulesRefused : Refusal → (List ℕ → Told) → Option (List ℕ) → ℕ → ℕ → ℕ → ℕ → Type 0

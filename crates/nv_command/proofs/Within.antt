@@ -5,7 +5,7 @@ use Rattle.std.proofs.lemmas.Bool.Decides.{nat_tests}
 use Rattle.clap.specs.Walk.{Row, Text, first_of}
 use Rattle.nv_text.specs.Numbers.{number_of}
 use Rattle.nv_command.specs.Simple.{gen_app}
-use Rattle.nv_command.specs.Words.{Name, NamesRun, NamesRules, NamesAsm, NamesGen, Plan, Job, Runs, Uses, Generates, number_within, number_in, rows_of_line, run_line, rules_line, asm_line, gen_line, asked_by, behind_program, command_of, name_in}
+use Rattle.nv_command.specs.Words.{Name, NamesRun, NamesRules, NamesAsm, NamesGen, Plan, Job, Runs, Uses, Generates, number_within, number_in, rows_of_line, run_line, rules_line, asm_line, gen_line, asked_by, after_program, command_of, name_in}
 
 kept_within : (k n : ℕ) (b : Bool) → (b ≡ true → k ≤ 999999) → cond b (Some k) None ≡ Some n → n ≤ 999999
 kept_within k n true within h = let e : k ≡ n = cc in let le : k ≤ 999999 = within refl in omega arith
@@ -53,4 +53,4 @@ named_within words (Some NamesGen) n h = line_within words n (same_number (gen_l
 -- a number that is asked for has at most six digits
 pub generated_within : (words : List Text) (n : ℕ) → command_of words ≡ Some (Generates n) → n ≤ 999999
 unfolding command_of
-generated_within words n h = named_within (behind_program words) (name_in words) n h
+generated_within words n h = named_within (after_program words) (name_in words) n h

@@ -15,11 +15,11 @@ use Rattle.nv_command.specs.declared.asked.LineFault.TheVariants.{Usage, Memory}
 abbrev pub limits_view : Held → Limits
 limits_view held = record { ring = held.ring; memory = held.memory; budget = held.budget; calls = held.calls; threads = held.threads }
 
--- the texts behind references
+-- the texts after references
 abbrev pub names_view : List (Bor Text) → List Text
 names_view names = map (λ name. name.now) names
 
--- the text behind a reference, if there is one
+-- the text after a reference, if there is one
 abbrev pub rules_view : Option (Bor Text) → Option Text
 rules_view rules = option_map (λ name. name.now) rules
 

@@ -151,10 +151,10 @@ abbrev pub name_in : List Text → Option Name
 name_in (program ∷ word ∷ words) = name_of word
 name_in _ = None
 
-abbrev pub behind_program : List Text → List Text
-behind_program [] = []
-behind_program (program ∷ words) = words
+abbrev pub after_program : List Text → List Text
+after_program [] = []
+after_program (program ∷ words) = words
 
 -- what the words ask for, if they are accepted
 unfoldable pub command_of : List Text → Option Command
-command_of words = option_and_then (asked_by (behind_program words)) (name_in words)
+command_of words = option_and_then (asked_by (after_program words)) (name_in words)

@@ -1,4 +1,4 @@
--- A write into a pipe that has a reading end and room.
+-- A write into a pipe that has a reading end and takes the bytes.
 use Rattle.std.proofs.Common.{◌≡◌, ◌∙◌, ℕ, ◌+◌, ◌≤◌, List, [], ◌++◌, true, not, pos, length}
 use Rattle.std.specs.Prelude.{nat_lt}
 use Rattle.std.proofs.lemmas.Bool.{cond-false, le-ltb, not_from_true}

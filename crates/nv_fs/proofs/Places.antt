@@ -13,7 +13,7 @@ use Rattle.nv_fs.specs.Seeks.{bytes_of}
 use Rattle.nv_fs.specs.Fetched.{pipe_at, with_pipe}
 use Rattle.nv_fs.specs.Stored.{with_content}
 use Rattle.nv_fs.specs.Opened.{unlinked}
-use Rattle.nv_fs.specs.Rooms.{Disk}
+use Rattle.nv_fs.specs.Reserved.{Disk}
 use Rattle.nv_fs.specs.Views.{items_of, capacity_of, inode_of, held_of, state_of, disk_of}
 
 pub pipe_is : (a : Inside) (d : Disk) (k : ℕ) (v : Vec ℕ) → disk_of a ≡ d → k < length a.pipes.items → v ≡ get_or a.pipes.items k v → v.items ≡ pipe_at d.state k
@@ -27,8 +27,8 @@ pipe_changed a d k v bytes view h =
 pub pipe_same : (s : FileState) (k : ℕ) → with_pipe s k (pipe_at s k) ≡ s
 pipe_same s k = ap (λ (z : List (List ℕ)). record s { pipes = z }) (set-get_or s.pipes k [])
 
-pub pipe_room : (xs : List (Vec ℕ)) (k : ℕ) (v : Vec ℕ) → k < length xs → vec_capacity v ≡ slice_index (map capacity_of (set xs k v)) k
-pipe_room xs k v l =
+pub pipe_reserved : (xs : List (Vec ℕ)) (k : ℕ) (v : Vec ℕ) → k < length xs → vec_capacity v ≡ slice_index (map capacity_of (set xs k v)) k
+pipe_reserved xs k v l =
     let l' : k < length (set xs k v) = subst (λ (n : ℕ). k < n) (sym (length-set xs k v)) l in
     sym (get_or-map capacity_of (set xs k v) k v 0 l' ∙ ap capacity_of (get_or-set_same xs k v v l))
 
@@ -68,7 +68,7 @@ pub position_map : (p : Inode → Bool) (i : ℕ) (xs : List MemoryFile) → pos
 position_map p i [] = refl
 position_map p i (x ∷ xs) = ap (λ (z : Option ℕ). cond (p (inode_of x)) (Some i) z) (position_map p (i + 1) xs)
 
--- a file in a place of the table, or behind it
+-- a file in a place of the table, or after it
 pub file_put : (a : Inside) (d : Disk) (files : Vec MemoryFile) (i : ℕ) (f : MemoryFile) (inode : Inode) → disk_of a ≡ d → files.items ≡ with_at a.files.items i f → inode_of f ≡ inode
     → state_of (record a { files = files }) ≡ record d.state { files = with_at d.state.files i inode }
 file_put a d files i f inode view h e =

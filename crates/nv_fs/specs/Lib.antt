@@ -6,6 +6,6 @@ pub mod Opened
 pub mod Ends
 pub mod Fetched
 pub mod Stored
-pub mod Rooms
+pub mod Reserved
 pub mod Starts
 pub mod Views

@@ -81,12 +81,12 @@ is_kept s i = is_some (file_at s i).name || has_open s (File i)
 unfoldable pub is_pipe : FileState → ℕ → Bool
 is_pipe s k = has_open s (Reader k) || has_open s (Writer k)
 
--- the least of n numbers from i on that isn't in use; the one behind them where all are
+-- the least of n numbers from i on that isn't in use; the one after them where all are
 abbrev pub least_free : (ℕ → Bool) → ℕ → ℕ → ℕ
 least_free used zero i = i
 least_free used (suc n) i = if used i then least_free used n (i + 1) else i
 
--- a table with this at a place: in it, or just behind it
+-- a table with this at a place: in it, or just after it
 abbrev pub with_at : {A : Type 0} → List A → ℕ → A → List A
 with_at xs i x = if nat_lt i (length xs) then slice_set xs i x else (xs ++ x ∷ [])
 

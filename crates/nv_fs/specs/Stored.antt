@@ -22,7 +22,7 @@ with_content s i bytes = record s { files = slice_set s.files i record { name = 
 abbrev pub start_of : FileState → OpenFile → ℕ → ℕ
 start_of s o i = if o.appends then length (bytes_of s i) else o.offset
 
--- A file takes as many bytes as fit below the limit, and the offset moves behind them.
+-- A file takes as many bytes as fit below the limit, and the offset moves past them.
 abbrev pub write_at : FileState → ℕ → OpenFile → ℕ → ℕ → ℕ → List ℕ → Answer
 write_at s number o i limit start bytes =
     if nat_le limit start then only s EFBIG

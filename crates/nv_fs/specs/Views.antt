@@ -4,7 +4,7 @@ use Rattle.std.specs.Global.{Vec}
 use Rattle.nv_fs.specs.declared.disk.MemoryFile.{MemoryFile}
 use Rattle.nv_fs.specs.declared.disk.FileSystem.TheInside.{Inside}
 use Rattle.nv_fs.specs.States.{FileState, Inode}
-use Rattle.nv_fs.specs.Rooms.{Disk, Room}
+use Rattle.nv_fs.specs.Reserved.{Disk, Reserved}
 
 abbrev pub items_of : Vec ℕ → List ℕ
 items_of v = v.items
@@ -32,8 +32,8 @@ state_of k = record {
   console = k.console.items;
 }
 
-abbrev pub room_of : Inside → Room
-room_of k = record {
+abbrev pub reserved_of : Inside → Reserved
+reserved_of k = record {
   opens = vec_capacity k.opens;
   files = vec_capacity k.files;
   pipes = vec_capacity k.pipes;
@@ -44,4 +44,4 @@ room_of k = record {
 }
 
 abbrev pub disk_of : Inside → Disk
-disk_of k = record { state = state_of k; room = room_of k }
+disk_of k = record { state = state_of k; reserved = reserved_of k }

@@ -37,7 +37,8 @@ pub struct FileSystem {
 
 impl Model for FileSystem {
     ghost use Rattle.std.specs.Prelude.{◌≡◌, ◌≤◌, vec_len, map};
-    ghost use Rattle.nv_fs.specs.Rooms.{Disk};
+    ghost use Rattle.nv_calls.specs.Limits.{MOST_BYTES};
+    ghost use Rattle.nv_fs.specs.Reserved.{Disk};
 
     ghost Value = { Disk };
 
@@ -45,7 +46,7 @@ impl Model for FileSystem {
 
     ghost view = { disk_of };
 
-    ghost invariant = { λ k. (k.taken ≤ vec_len k.input) × (vec_len k.part ≡ 4096) };
+    ghost invariant = { λ k. (k.taken ≤ vec_len k.input) × (vec_len k.part ≡ MOST_BYTES) };
 }
 
 fn zeros(alloc: Global, n: usize) -> Result<Vec<u8>, AllocError>

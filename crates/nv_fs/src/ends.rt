@@ -4,7 +4,7 @@ ghost use Rattle.std.specs.List.{position_from};
 ghost use Rattle.std.specs.Int.{to_le_bytes, w32};
 ghost use Rattle.nv_fs.specs.States.{answer, with_at};
 ghost use Rattle.nv_fs.specs.Ends.{pipe_of, pipe_on, with_ends, with_empty, free_above, free_pipe};
-ghost use Rattle.nv_fs.specs.Rooms.{CanPipe};
+ghost use Rattle.nv_fs.specs.Reserved.{CanPipe};
 ghost use Rattle.nv_fs.specs.Views.{items_of};
 
 use crate::disk::FileSystem;
@@ -41,7 +41,7 @@ fn free_above(descriptors: &[Option<usize>], fd: usize) -> Option<usize>
 // Empties a pipe of the table, or adds one.
 fn put_empty(alloc: Global, pipes: &mut Vec<Vec<u8>>, k: usize)
     requires inside { k ≤ length pipes.old.items }
-    requires room { length pipes.old.items < vec_capacity pipes.old }
+    requires reserved { length pipes.old.items < vec_capacity pipes.old }
     ensures { map items_of pipes.new.items ≡ with_at (map items_of pipes.old.items) k [] }
 {
     if k < pipes.as_slice().len() {
@@ -66,9 +66,9 @@ impl FileSystem {
 
     fn make_pipe(&mut self, k: usize)
         requires inside { k ≤ length self.old.state.pipes }
-        requires room { length self.old.state.pipes + 1 ≤ self.old.room.pipes }
+        requires reserved { length self.old.state.pipes + 1 ≤ self.old.reserved.pipes }
         ensures state { self.new.state ≡ with_empty self.old.state k }
-        ensures room { self.new.room.opens ≡ self.old.room.opens }
+        ensures reserved { self.new.reserved.opens ≡ self.old.reserved.opens }
     {
         put_empty(self.alloc, &mut self.pipes, k);
     }
@@ -88,9 +88,9 @@ impl FileSystem {
     /// pipe2(2). The reading and the writing descriptor are handed out in 4 bytes each.
     pub fn pipe(&mut self, flags: u32, out: &mut Bytes) -> i32
         requires ready { CanPipe self.old }
-        requires room { 8 ≤ out.old.capacity }
+        requires capacity { 8 ≤ out.old.capacity }
         ensures answer { pipe_of self.old.state flags ≡ answer self.new.state result out.new.bytes }
-        ensures room { out.new.capacity ≡ out.old.capacity }
+        ensures capacity { out.new.capacity ≡ out.old.capacity }
     {
         if flags & FLAGS != flags {
             return refuse(out, EINVAL);

@@ -3,7 +3,7 @@ ghost use Rattle.std.specs.Prelude.{◌≡◌, ◌+◌, ◌≤◌, ◌<◌, [], 
 ghost use Rattle.nv_fs.specs.States.{answer, with_at};
 ghost use Rattle.nv_fs.specs.Opened.{open_at_of, unlink_at_of, opened, has_flag, truncated, with_file, create, is_refused, open_file, open_at_descriptor, open_unless, unlinked};
 ghost use Rattle.nv_fs.specs.Stored.{with_content};
-ghost use Rattle.nv_fs.specs.Rooms.{CanOpen, HasOpens};
+ghost use Rattle.nv_fs.specs.Reserved.{CanOpen, HasOpens};
 
 use crate::disk::{FileSystem, MemoryFile};
 use crate::open_file::{OpenFile, Target};
@@ -61,7 +61,7 @@ fn forget_name(file: &mut MemoryFile)
 
 fn put_file(files: &mut Vec<MemoryFile>, i: usize, file: MemoryFile)
     requires inside { i ≤ length files.old.items }
-    requires room { length files.old.items < vec_capacity files.old }
+    requires reserved { length files.old.items < vec_capacity files.old }
     ensures { files.new.items ≡ with_at files.old.items i file }
 {
     if i < files.as_slice().len() {
@@ -79,7 +79,7 @@ impl FileSystem {
     // Empties a file that is opened for writing, where the flags say so.
     fn truncate(&mut self, i: usize, flags: u32)
         ensures state { self.new.state ≡ truncated self.old.state i flags }
-        ensures room { self.new.room.opens ≡ self.old.room.opens }
+        ensures reserved { self.new.reserved.opens ≡ self.old.reserved.opens }
     {
         if has_flag(flags, O_TRUNC) && flags % 4 != 0 {
             self.empty(i);
@@ -88,7 +88,7 @@ impl FileSystem {
 
     fn empty(&mut self, i: usize)
         ensures state { self.new.state ≡ with_content self.old.state i [] }
-        ensures room { self.new.room.opens ≡ self.old.room.opens }
+        ensures reserved { self.new.reserved.opens ≡ self.old.reserved.opens }
     {
         if i < self.files.as_slice().len() {
             self.files[i].bytes.clear();
@@ -97,11 +97,11 @@ impl FileSystem {
 
     // The name that is held, as a text of its own.
     fn take_name(&mut self, name: &[u8]) -> Vec<u8>
-        requires { length name.now ≤ self.old.room.name }
+        requires { length name.now ≤ self.old.reserved.name }
         ensures name { result.items ≡ name.now }
         ensures state { self.new.state ≡ self.old.state }
-        ensures opens { self.new.room.opens ≡ self.old.room.opens }
-        ensures files { self.new.room.files ≡ self.old.room.files }
+        ensures opens { self.new.reserved.opens ≡ self.old.reserved.opens }
+        ensures files { self.new.reserved.files ≡ self.old.reserved.files }
     {
         let mut held = mem::replace(&mut self.name, Vec::new(self.alloc));
         held.clear();
@@ -111,9 +111,9 @@ impl FileSystem {
 
     fn make_file(&mut self, i: usize, name: Vec<u8>)
         requires inside { i ≤ length self.old.state.files }
-        requires room { length self.old.state.files + 1 ≤ self.old.room.files }
+        requires reserved { length self.old.state.files + 1 ≤ self.old.reserved.files }
         ensures state { self.new.state ≡ with_file self.old.state i name.items }
-        ensures room { self.new.room.opens ≡ self.old.room.opens }
+        ensures reserved { self.new.reserved.opens ≡ self.old.reserved.opens }
     {
         let file = MemoryFile {
             name: Some(name),
@@ -124,7 +124,7 @@ impl FileSystem {
 
     fn open_file(&mut self, fd: usize, i: usize, flags: u32) -> i32
         requires fd { fd < 64 }
-        requires room { HasOpens self.old 1 }
+        requires reserved { HasOpens self.old 1 }
         ensures { open_file self.old.state fd i flags ≡ answer self.new.state result [] }
     {
         self.install(fd, opened(i, flags));

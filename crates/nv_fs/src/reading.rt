@@ -11,7 +11,7 @@ use nv_calls::errors::{EAGAIN, EBADF};
 use nv_calls::{Bytes, MOST_BYTES};
 
 // Drops the first bytes.
-fn drop_front(held: &mut Vec<u8>, n: usize)
+fn drop_prefix(held: &mut Vec<u8>, n: usize)
     requires { n ≤ length held.old.items }
     ensures { held.new.items ≡ drop n held.old.items }
 {
@@ -30,7 +30,7 @@ fn hand_out_file(
     out: &mut Bytes,
 ) -> usize
     requires inside { most ≤ length part.old }
-    requires room { most ≤ out.old.capacity }
+    requires capacity { most ≤ out.old.capacity }
     ensures out { out.new ≡ record { bytes = take most (drop from (bytes_in files.now i)); capacity = out.old.capacity } }
     ensures ret { result ≡ length out.new.bytes }
     ensures few { result ≤ most }
@@ -62,10 +62,10 @@ impl FileSystem {
     }
 
     fn read_input(&mut self, n: usize, out: &mut Bytes) -> i32
-        requires few { n ≤ 4096 }
-        requires room { 4096 ≤ out.old.capacity }
+        requires few { n ≤ MOST_BYTES }
+        requires capacity { MOST_BYTES ≤ out.old.capacity }
         ensures answer { read_input self.old.state n ≡ answer self.new.state result out.new.bytes }
-        ensures room { out.new.capacity ≡ out.old.capacity }
+        ensures capacity { out.new.capacity ≡ out.old.capacity }
     {
         let got = hand_out(self.input(), 0, n, out);
         self.drop_input(got);
@@ -81,10 +81,10 @@ impl FileSystem {
         out: &mut Bytes,
     ) -> i32
         requires number { number < length self.old.state.opens }
-        requires few { n ≤ 4096 }
-        requires room { 4096 ≤ out.old.capacity }
+        requires few { n ≤ MOST_BYTES }
+        requires capacity { MOST_BYTES ≤ out.old.capacity }
         ensures answer { read_file self.old.state number description i n ≡ answer self.new.state result out.new.bytes }
-        ensures room { out.new.capacity ≡ out.old.capacity }
+        ensures capacity { out.new.capacity ≡ out.old.capacity }
     {
         let got = hand_out_file(
             self.files.as_slice(),
@@ -103,15 +103,15 @@ impl FileSystem {
         ensures { self.new.state ≡ with_pipe self.old.state k (drop n (pipe_at self.old.state k)) }
     {
         if k < self.pipes.as_slice().len() {
-            drop_front(&mut self.pipes[k], n);
+            drop_prefix(&mut self.pipes[k], n);
         }
     }
 
     fn read_pipe(&mut self, k: usize, n: usize, out: &mut Bytes) -> i32
-        requires few { n ≤ 4096 }
-        requires room { 4096 ≤ out.old.capacity }
+        requires few { n ≤ MOST_BYTES }
+        requires capacity { MOST_BYTES ≤ out.old.capacity }
         ensures answer { read_pipe self.old.state k n ≡ answer self.new.state result out.new.bytes }
-        ensures room { out.new.capacity ≡ out.old.capacity }
+        ensures capacity { out.new.capacity ≡ out.old.capacity }
     {
         if n == 0 {
             return refuse(out, 0);
@@ -133,10 +133,10 @@ impl FileSystem {
         out: &mut Bytes,
     ) -> i32
         requires number { number < length self.old.state.opens }
-        requires few { n ≤ 4096 }
-        requires room { 4096 ≤ out.old.capacity }
+        requires few { n ≤ MOST_BYTES }
+        requires capacity { MOST_BYTES ≤ out.old.capacity }
         ensures answer { read_target self.old.state number description description.target n ≡ answer self.new.state result out.new.bytes }
-        ensures room { out.new.capacity ≡ out.old.capacity }
+        ensures capacity { out.new.capacity ≡ out.old.capacity }
     {
         match description.target {
             Target::Input => self.read_input(n, out),
@@ -148,9 +148,9 @@ impl FileSystem {
 
     /// read(2), of at most 4,096 bytes.
     pub fn read(&mut self, fd: u32, count: u32, out: &mut Bytes) -> i32
-        requires { 4096 ≤ out.old.capacity }
+        requires { MOST_BYTES ≤ out.old.capacity }
         ensures answer { read_of self.old.state fd count ≡ answer self.new.state result out.new.bytes }
-        ensures room { out.new.capacity ≡ out.old.capacity }
+        ensures capacity { out.new.capacity ≡ out.old.capacity }
     {
         let Some((number, description)) = self.open_of(fd) else {
             return refuse(out, EBADF);

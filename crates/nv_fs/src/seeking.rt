@@ -46,9 +46,9 @@ impl FileSystem {
         out: &mut Bytes,
     ) -> i32
         requires number { number < length self.old.state.opens }
-        requires room { 8 ≤ out.old.capacity }
+        requires capacity { 8 ≤ out.old.capacity }
         ensures answer { seek_from self.old.state number description base n ≡ answer self.new.state result out.new.bytes }
-        ensures room { out.new.capacity ≡ out.old.capacity }
+        ensures capacity { out.new.capacity ≡ out.old.capacity }
     {
         let Some(base) = base else {
             return refuse(out, EINVAL);
@@ -68,7 +68,7 @@ impl FileSystem {
     pub fn seek(&mut self, fd: u32, high: u32, low: u32, whence: u32, out: &mut Bytes) -> i32
         requires { 8 ≤ out.old.capacity }
         ensures answer { seek_of self.old.state fd high low whence ≡ answer self.new.state result out.new.bytes }
-        ensures room { out.new.capacity ≡ out.old.capacity }
+        ensures capacity { out.new.capacity ≡ out.old.capacity }
     {
         let Some((number, description)) = self.open_of(fd) else {
             return refuse(out, EBADF);

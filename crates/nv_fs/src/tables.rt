@@ -4,7 +4,7 @@ ghost use Rattle.nv_fs.specs.States.{install, moved_to, file_at, with_at};
 ghost use Rattle.nv_fs.specs.Closes.{with_descriptor};
 ghost use Rattle.nv_fs.specs.Seeks.{bytes_of};
 ghost use Rattle.nv_fs.specs.Fetched.{pipe_at};
-ghost use Rattle.nv_fs.specs.Rooms.{HasOpens};
+ghost use Rattle.nv_fs.specs.Reserved.{HasOpens};
 
 use crate::disk::FileSystem;
 use crate::open_file::OpenFile;
@@ -17,19 +17,19 @@ pub fn part(bytes: &[u8], from: usize, most: usize) -> &[u8]
     ensures few { length result.now ≤ most }
     ensures inside { from + length result.now ≤ max from (length bytes.now) }
 {
-    let rest = behind(bytes, from);
-    front(rest, most)
+    let rest = after(bytes, from);
+    prefix(rest, most)
 }
 
 /// The bytes from a place on.
-fn behind(bytes: &[u8], from: usize) -> &[u8]
+fn after(bytes: &[u8], from: usize) -> &[u8]
     ensures { result.now ≡ drop from bytes.now }
 {
     &bytes[from.min(bytes.len())..]
 }
 
 /// At most so many bytes.
-pub fn front(bytes: &[u8], most: usize) -> &[u8]
+pub fn prefix(bytes: &[u8], most: usize) -> &[u8]
     ensures part { result.now ≡ take most bytes.now }
     ensures few { length result.now ≡ min most (length bytes.now) }
 {
@@ -80,7 +80,7 @@ pub fn reserve_to(held: &mut Vec<u8>, most: usize) -> Result<(), AllocError>
 
 fn put_open(opens: &mut Vec<OpenFile>, i: usize, description: OpenFile)
     requires inside { i ≤ vec_len opens.old }
-    requires room { vec_len opens.old < vec_capacity opens.old }
+    requires reserved { vec_len opens.old < vec_capacity opens.old }
     ensures items { opens.new.items ≡ with_at opens.old.items i description }
     ensures capacity { vec_capacity opens.old ≤ vec_capacity opens.new }
     ensures len { vec_len opens.new ≤ vec_len opens.old + 1 }
@@ -108,9 +108,9 @@ impl FileSystem {
     /// The descriptor names a new open file.
     pub(crate) fn install(&mut self, fd: usize, description: OpenFile)
         requires fd { fd < 64 }
-        requires room { HasOpens self.old 1 }
+        requires reserved { HasOpens self.old 1 }
         ensures state { self.new.state ≡ install self.old.state fd description }
-        ensures room { self.old.room.opens ≤ self.new.room.opens }
+        ensures reserved { self.old.reserved.opens ≤ self.new.reserved.opens }
         ensures len { length self.new.state.opens ≤ length self.old.state.opens + 1 }
     {
         let number = self.free_open();

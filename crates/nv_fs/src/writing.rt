@@ -5,11 +5,11 @@ ghost use Rattle.nv_fs.specs.States.{answer};
 ghost use Rattle.nv_fs.specs.Seeks.{bytes_of};
 ghost use Rattle.nv_fs.specs.Fetched.{pipe_at, with_pipe};
 ghost use Rattle.nv_fs.specs.Stored.{write_of, write_console, write_at, write_pipe, write_target, with_content, start_of};
-ghost use Rattle.nv_fs.specs.Rooms.{CanWrite, HasRoom, HasBlocks};
+ghost use Rattle.nv_fs.specs.Reserved.{CanWrite, IsReserved, HasBlocks};
 
 use crate::disk::FileSystem;
 use crate::open_file::{OpenFile, Target};
-use crate::tables::{append, front, reserve_to};
+use crate::tables::{append, prefix, reserve_to};
 use nv_calls::errors::{EAGAIN, EBADF, EFBIG, ENOSPC, EPIPE};
 use std::alloc::AllocError;
 
@@ -22,24 +22,24 @@ const FILE: usize = 1_048_576;
 /// How many bytes a pipe holds.
 const PIPE: usize = 4096;
 
-#[tactic(auto, unfolding(crate::specs::Stored::write_of, crate::specs::Rooms::CanWrite))]
+#[tactic(auto, unfolding(crate::specs::Stored::write_of, crate::specs::Reserved::CanWrite))]
 impl FileSystem {
     fn write_console(&mut self, bytes: &[u8]) -> i32
-        requires { length self.old.state.console + min (length bytes.now) (16777216 - length self.old.state.console) ≤ self.old.room.console }
+        requires { length self.old.state.console + min (length bytes.now) (16777216 - length self.old.state.console) ≤ self.old.reserved.console }
         ensures { write_console self.old.state 16777216 bytes.now ≡ answer self.new.state result [] }
     {
         let used = self.console.as_slice().len();
         if used >= CONSOLE {
             return ENOSPC;
         }
-        let part = front(bytes, CONSOLE - used);
+        let part = prefix(bytes, CONSOLE - used);
         append(&mut self.console, part);
         part.len() as i32
     }
 
     fn put_at(&mut self, i: usize, place: usize, bytes: &[u8])
         requires fits { place + length bytes.now < 2 ^ 64 }
-        requires room { HasBlocks self.old i place (length bytes.now) }
+        requires reserved { HasBlocks self.old i place (length bytes.now) }
         ensures { self.new.state ≡ with_content self.old.state i (with_bytes (bytes_of self.old.state i) place bytes.now) }
     {
         if i < self.files.as_slice().len() {
@@ -60,21 +60,21 @@ impl FileSystem {
 
     fn write_file(&mut self, number: usize, description: OpenFile, i: usize, bytes: &[u8]) -> i32
         requires number { number < length self.old.state.opens }
-        requires room { HasBlocks self.old i (start_of self.old.state description i) (min (length bytes.now) (1048576 - start_of self.old.state description i)) }
+        requires reserved { HasBlocks self.old i (start_of self.old.state description i) (min (length bytes.now) (1048576 - start_of self.old.state description i)) }
         ensures { write_at self.old.state number description i 1048576 (start_of self.old.state description i) bytes.now ≡ answer self.new.state result [] }
     {
         let start = self.start_of(description, i);
         if start >= FILE {
             return EFBIG;
         }
-        let part = front(bytes, FILE - start);
+        let part = prefix(bytes, FILE - start);
         self.put_at(i, start, part);
         self.move_to(number, description, start + part.len());
         part.len() as i32
     }
 
     fn fill(&mut self, k: usize, bytes: &[u8])
-        requires { k < length self.old.state.pipes → length (pipe_at self.old.state k) + length bytes.now ≤ slice_index self.old.room.buffers k }
+        requires { k < length self.old.state.pipes → length (pipe_at self.old.state k) + length bytes.now ≤ slice_index self.old.reserved.buffers k }
         ensures { self.new.state ≡ with_pipe self.old.state k (pipe_at self.old.state k ++ bytes.now) }
     {
         if k < self.pipes.as_slice().len() {
@@ -84,7 +84,7 @@ impl FileSystem {
 
     fn write_pipe(&mut self, k: usize, bytes: &[u8]) -> i32
         requires some { 0 < length bytes.now }
-        requires room { k < length self.old.state.pipes → length (pipe_at self.old.state k) + length bytes.now ≤ 4096 → length (pipe_at self.old.state k) + length bytes.now ≤ slice_index self.old.room.buffers k }
+        requires reserved { k < length self.old.state.pipes → length (pipe_at self.old.state k) + length bytes.now ≤ 4096 → length (pipe_at self.old.state k) + length bytes.now ≤ slice_index self.old.reserved.buffers k }
         ensures { write_pipe self.old.state k 4096 bytes.now ≡ answer self.new.state result [] }
     {
         if !self.has_open(Target::Reader(k)) {
@@ -99,7 +99,7 @@ impl FileSystem {
 
     fn write_target(&mut self, number: usize, description: OpenFile, bytes: &[u8]) -> i32
         requires number { number < length self.old.state.opens }
-        requires room { HasRoom self.old description description.target (length bytes.now) }
+        requires reserved { IsReserved self.old description description.target (length bytes.now) }
         requires some { 0 < length bytes.now }
         ensures { write_target self.old.state number description description.target bytes.now ≡ answer self.new.state result [] }
     {
@@ -130,7 +130,7 @@ impl FileSystem {
 
     fn reserve_console(&mut self, n: usize) -> Result<(), AllocError>
         ensures state { self.new.state ≡ self.old.state }
-        ensures ok { OnOk result (length self.old.state.console + min n (16777216 - length self.old.state.console) ≤ self.new.room.console) }
+        ensures ok { OnOk result (length self.old.state.console + min n (16777216 - length self.old.state.console) ≤ self.new.reserved.console) }
     {
         let used = self.console.as_slice().len();
         let more = n.min(CONSOLE.saturating_sub(used));
@@ -151,7 +151,7 @@ impl FileSystem {
 
     fn reserve_buffer(&mut self, k: usize, most: usize) -> Result<(), AllocError>
         ensures state { self.new.state ≡ self.old.state }
-        ensures ok { OnOk result (k < length self.old.state.pipes → most ≤ slice_index self.new.room.buffers k) }
+        ensures ok { OnOk result (k < length self.old.state.pipes → most ≤ slice_index self.new.reserved.buffers k) }
     {
         if k < self.pipes.as_slice().len() {
             reserve_to(&mut self.pipes[k], most)
@@ -173,7 +173,7 @@ impl FileSystem {
 
     fn reserve_pipe_for(&mut self, k: usize, n: usize) -> Result<(), AllocError>
         ensures state { self.new.state ≡ self.old.state }
-        ensures ok { OnOk result (k < length self.old.state.pipes → length (pipe_at self.old.state k) + n ≤ 4096 → length (pipe_at self.old.state k) + n ≤ slice_index self.new.room.buffers k) }
+        ensures ok { OnOk result (k < length self.old.state.pipes → length (pipe_at self.old.state k) + n ≤ 4096 → length (pipe_at self.old.state k) + n ≤ slice_index self.new.reserved.buffers k) }
     {
         let used = self.buffer(k).len();
         if n > PIPE.saturating_sub(used) {
@@ -184,7 +184,7 @@ impl FileSystem {
 
     fn reserve_target(&mut self, description: OpenFile, n: usize) -> Result<(), AllocError>
         ensures state { self.new.state ≡ self.old.state }
-        ensures ok { OnOk result (HasRoom self.new description description.target n) }
+        ensures ok { OnOk result (IsReserved self.new description description.target n) }
     {
         match description.target {
             Target::Console => self.reserve_console(n),

@@ -11,7 +11,7 @@ use Rattle.nv_fs.specs.Opened.{free_file}
 use Rattle.nv_fs.specs.Ends.{free_pipe}
 use Rattle.nv_fs_laws.specs.Tables.{number_at, StandsIn, IsSound}
 use Rattle.nv_fs_laws.specs.Calls.{TakesNew}
-use Rattle.nv_fs_laws.proofs.Lookups.{some_is, behind, with_other, with_same, passes_at, passes, least_is_near, least_is_free}
+use Rattle.nv_fs_laws.proofs.Lookups.{some_is, past_end, with_other, with_same, passes_at, passes, least_is_near, least_is_free}
 
 -- what isn't true is false
 pub unless : (b : Bool) → (b ≡ true → ⊥) → b ≡ false
@@ -95,7 +95,7 @@ open_stands s t h k = let r = open_at s t k in by r.0 (open_of s r.0) refl r.1
     by d None e q = cc
     by d (Some o) e q = stands_too (length s.files) (length s.pipes) t o.1.target q (stands s d o h e)
 
--- the numbers just behind the tables, and so the least free ones, are in no use
+-- the numbers just after the tables, and so the least free ones, are in no use
 pub open_is_free : (s : FileState) → IsSound s → is_shared s (free_open s) ≡ false
 unfolding free_open
 open_is_free s h = least_is_free (is_shared s) (length s.opens) 0 (unless _ used)
@@ -113,7 +113,7 @@ file_is_free s h = least_is_free (is_kept s) (length s.files) 0 (unless _ used)
   where
     used : (is_some (file_at s (0 + length s.files)).name || has_open s (File (0 + length s.files))) ≡ true → ⊥
     used q = elim (or_cases _ _ q) [
-      | inl named ↦ (let none = ap (λ (f : Inode). is_some f.name) (behind s.files (0 + length s.files) (record { name = None; bytes = [] }) (omega arith)) in let clash : true ≡ false = sym named ∙ none in cc)
+      | inl named ↦ (let none = ap (λ (f : Inode). is_some f.name) (past_end s.files (0 + length s.files) (record { name = None; bytes = [] }) (omega arith)) in let clash : true ≡ false = sym named ∙ none in cc)
       | inr held ↦ omega (arith, open_stands s (File (0 + length s.files)) h held)
     ]
 

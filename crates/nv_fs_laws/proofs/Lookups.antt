@@ -27,11 +27,11 @@ get_drop [] (suc n) m k e = refl
 get_drop (x ∷ xs) (suc n) m zero e = absurd (omega (arith, e))
 get_drop (x ∷ xs) (suc n) m (suc k) e = get_drop xs n m k (omega (arith, e))
 
--- no place behind a list
-pub behind : {A : Type 0} (xs : List A) (i : ℕ) (d : A) → length xs ≤ i → get_or xs i d ≡ d
-behind [] i d h = refl
-behind (x ∷ xs) zero d h = absurd (omega arith)
-behind (x ∷ xs) (suc i) d h = behind xs i d (omega arith)
+-- no place after a list
+pub past_end : {A : Type 0} (xs : List A) (i : ℕ) (d : A) → length xs ≤ i → get_or xs i d ≡ d
+past_end [] i d h = refl
+past_end (x ∷ xs) zero d h = absurd (omega arith)
+past_end (x ∷ xs) (suc i) d h = past_end xs i d (omega arith)
 
 pub set_other : {A : Type 0} (xs : List A) (i j : ℕ) (x : A) → j ≢ i → slice_get (set xs i x) j ≡ slice_get xs j
 set_other [] i j x n = refl
@@ -65,7 +65,7 @@ length_push : {A : Type 0} (xs : List A) (x : A) → length (xs ++ x ∷ []) ≡
 length_push [] x = refl
 length_push (y ∷ xs) x = ap suc (length_push xs x)
 
--- a table with something at a place of it, or just behind it
+-- a table with something at a place of it, or just after it
 module _ {A : Type 0} (xs : List A) (i : ℕ) (x : A) (h : i ≤ length xs) where
   pub with_other : (j : ℕ) → j ≢ i → slice_get (with_at xs i x) j ≡ slice_get xs j
   with_other j n = by (nat_lt i (length xs)) refl

@@ -53,9 +53,9 @@ freed s fd h = record {
         let gone : get_or (set s.descriptors fd None) fd None ≡ None = ⊎_elim (λ q. q) (λ q. q.0) (put_or_not s.descriptors fd None None) in
         let clash : Some n ≡ None = sym e ∙ ap (λ (k : ℕ). get_or (set s.descriptors fd None) k None) here ∙ gone in cc
 
--- a number that stands at a place behind a change there
-number_behind : (ds : List (Option ℕ)) (fd d number n : ℕ) → get_or (set ds fd (Some number)) d None ≡ Some n → (n ≡ number) ⊎ (get_or ds d None ≡ Some n)
-number_behind ds fd d number n e = elim (cases_eq d fd) [
+-- a number that stands at a place after a change there
+number_after : (ds : List (Option ℕ)) (fd d number n : ℕ) → get_or (set ds fd (Some number)) d None ≡ Some n → (n ≡ number) ⊎ (get_or ds d None ≡ Some n)
+number_after ds fd d number n e = elim (cases_eq d fd) [
   | inl here ↦ at_place here
   | inr other ↦ inr (sym (get_or-set_other ds fd d (Some number) None other) ∙ e)
 ]
@@ -71,7 +71,7 @@ number_behind ds fd d number n e = elim (cases_eq d fd) [
 had : (s : FileState) (fd number : ℕ) → IsSound s → number < length s.opens → IsSound (with_descriptor s fd (Some number))
 had s fd number h l = record {
   count = length-set s.descriptors fd (Some number) ∙ h.count;
-  descriptors = λ d n e. elim (number_behind s.descriptors fd d number n e) [
+  descriptors = λ d n e. elim (number_after s.descriptors fd d number n e) [
     | inl is ↦ omega (arith, is, l)
     | inr old ↦ h.descriptors d n old
   ];
@@ -85,7 +85,7 @@ installed s fd o h there =
     let n = free_open s in
     let near = free_open_near s in record {
       count = length-set s.descriptors fd (Some n) ∙ h.count;
-      descriptors = λ d m e. elim (number_behind s.descriptors fd d n m e) [
+      descriptors = λ d m e. elim (number_after s.descriptors fd d n m e) [
         | inl is ↦ omega (arith, is, with_inside s.opens n o near)
         | inr old ↦ omega (arith, h.descriptors d m old, with_longer s.opens n o near)
       ];

@@ -60,7 +60,7 @@ calls_code calls = code_of (flat_map insns_of calls)
 unfoldable pub block : ℕ → List ℕ
 block byte = replicate 64 byte
 
--- at 0x10000 the bytes to write, and the code behind them
+-- at 0x10000 the bytes to write, and the code after them
 abbrev pub segment_bytes : Numbers → Course → List ℕ
 segment_bytes k c = block k.byte ++ code_of (insns c)
 

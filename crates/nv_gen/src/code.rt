@@ -141,7 +141,7 @@ fn push_turn(code: &mut Vec<u8>, plan: &Plan, version: u32, write: u32) -> Resul
 // The first writes of a version.
 fn push_writes(code: &mut Vec<u8>, plan: &Plan, version: u32, writes: u32) -> Result<(), AllocError>
     requires few { writes < 10000 }
-    requires room { vec_len code.old ≤ 64 }
+    requires short { vec_len code.old ≤ 64 }
     ensures code { OnOk result (code.new.items ≡ code.old.items ++ calls_code (calls_to (numbers_in plan.now) version writes)) }
     ensures least { OnOk result (vec_len code.old ≤ vec_len code.new) }
     ensures most { OnOk result (vec_len code.new ≤ vec_len code.old + 28 * writes) }
@@ -152,11 +152,11 @@ fn push_writes(code: &mut Vec<u8>, plan: &Plan, version: u32, writes: u32) -> Re
     Ok(())
 }
 
-/// The code of a version, behind the bytes that it writes.
+/// The code of a version, after the bytes that it writes.
 #[tactic(auto, unfolding(crate::specs::Made::course))]
 pub fn push_code(code: &mut Vec<u8>, plan: &Plan, version: u32) -> Result<(), AllocError>
     requires version { version < plan.now.versions }
-    requires room { vec_len code.old ≤ 64 }
+    requires short { vec_len code.old ≤ 64 }
     ensures code { OnOk result (code.new.items ≡ code.old.items ++ code_of (insns (course (numbers_in plan.now) version))) }
     ensures least { OnOk result (vec_len code.old + 4 ≤ vec_len code.new) }
     ensures most { OnOk result (vec_len code.new ≤ 300_000) }

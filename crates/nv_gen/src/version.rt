@@ -10,7 +10,7 @@ use crate::plan::Plan;
 use nv_elf::{Program, Segment};
 use std::alloc::{AllocError, Global};
 
-// Where the bytes to write stand, and the code behind them.
+// Where the bytes to write stand, and the code after them.
 const BASE: u32 = 0x10000;
 
 const ENTRY: u32 = 0x10040;

@@ -1,4 +1,4 @@
--- The calls that the registers spell, and the machine behind each.
+-- The calls that the registers spell, and the machine after each.
 use Rattle.std.proofs.Common.{◌≡◌, ◌≢◌, ℕ, ◌+◌, ◌^◌, ◌<◌, true, List, length, refl, ap, ◌∙◌, arith}
 use Rattle.std.specs.Prelude.{ℤ, min, slice_index, slice_set}
 use Rattle.std.specs.Int.{w32, cast_unsigned}

@@ -24,8 +24,8 @@ carries-put bytes a (b ∷ bs) fits (suc k) small =
     let long = length-set bytes a b in
     ap (slice_index (put (slice_set bytes a b) (a + 1) bs)) (omega arith) ∙ carries-put (slice_set bytes a b) (a + 1) bs (omega arith) k (omega arith)
 
-pub carries-behind : (bytes : List ℕ) (a : ℕ) (xs ys : List ℕ) → Carries bytes a (xs ++ ys) → Carries bytes (a + length xs) ys
-carries-behind bytes a xs ys all k small =
+pub carries-after : (bytes : List ℕ) (a : ℕ) (xs ys : List ℕ) → Carries bytes a (xs ++ ys) → Carries bytes (a + length xs) ys
+carries-after bytes a xs ys all k small =
     let long = length-append xs ys in
     ap (slice_index bytes) (omega arith) ∙ all (length xs + k) (omega arith) ∙ get_or-append-add xs ys k 0
 

@@ -86,7 +86,7 @@ makes [] (Exits status) x pc memory are texts short stand =
           (stops-on _ _ _ ends.Call (sets-step x1 (pc + 4) memory 17 94 refl (omega arith) (omega arith) are1.zero_first stand.1.0)
           (stops-call _ _ (ecall-step x2 (pc + 4 + 4) memory stand.1.1.0)));
       call = calls-exit x2 (pc + 4 + 4) memory status (misses x1 17 10 94 (omega arith) ∙ hits x 10 status (omega arith) are) (hits x1 17 94 (omega arith) are1);
-      behind = λ ret bytes. tt;
+      later = λ ret bytes. tt;
     }
 makes (Write bytes ∷ calls) ending x pc memory are texts short stand =
     let y : List ℕ = at_write x (length bytes) in
@@ -96,7 +96,7 @@ makes (Write bytes ∷ calls) ending x pc memory are texts short stand =
       at = state y at memory;
       stops = stops-write x pc memory (length bytes) (flat_map insns_of calls ++ last_insns ending) texts.0.few are stand;
       call = calls-write y at memory bytes texts.0 regs.a0 regs.a1 regs.a2 regs.a7;
-      behind = λ ret reply.
+      later = λ ret reply.
           subst (λ (m : Machine). Makes m calls ending)
           (sym (answered-state y at memory ret reply 64 regs.a7 (keeps-write (state y at memory) reply) stand.1.1.1.1.0.below))
           (makes calls ending (slice_set y 10 (cast_unsigned w32 ret)) (at + 4) memory (are-set y 10 (cast_unsigned w32 ret) (omega arith) regs.are) texts.1 short stand.1.1.1.1.1);
@@ -109,7 +109,7 @@ makes (Getuid ∷ calls) ending x pc memory are texts short stand =
       at = state y (pc + 4) memory;
       stops = stops-on _ _ _ ends.Call (sets-step x pc memory 17 174 refl (omega arith) (omega arith) are.zero_first stand.0) (stops-call _ _ (ecall-step y (pc + 4) memory stand.1.0));
       call = calls-getuid y (pc + 4) memory a7;
-      behind = λ ret reply.
+      later = λ ret reply.
           subst (λ (m : Machine). Makes m calls ending)
           (sym (answered-state y (pc + 4) memory ret reply 174 a7 (keeps-getuid (state y (pc + 4) memory) reply) stand.1.0.below))
           (makes calls ending (slice_set y 10 (cast_unsigned w32 ret)) (pc + 4 + 4) memory (are-set y 10 (cast_unsigned w32 ret) (omega arith) are1) texts short stand.1.1);

@@ -5,6 +5,6 @@ pub mod Carrying
 pub mod Standing
 pub mod Sizes
 pub mod Loading
-pub mod Kept
+pub mod Runs
 pub mod Reading
 pub mod Listing

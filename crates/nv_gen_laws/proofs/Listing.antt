@@ -12,10 +12,10 @@ at-end : {A : Type 0} (xs : List A) (x : A) → slice_get (xs ++ x ∷ []) (leng
 at-end [] x = refl
 at-end (y ∷ xs) x = at-end xs x
 
-at-front : {A : Type 0} (xs ys : List A) (i : ℕ) → i < length xs → slice_get (xs ++ ys) i ≡ slice_get xs i
-at-front [] ys i small = absurd (omega arith)
-at-front (x ∷ xs) ys zero small = refl
-at-front (x ∷ xs) ys (suc i) small = at-front xs ys i (omega arith)
+at-prefix : {A : Type 0} (xs ys : List A) (i : ℕ) → i < length xs → slice_get (xs ++ ys) i ≡ slice_get xs i
+at-prefix [] ys i small = absurd (omega arith)
+at-prefix (x ∷ xs) ys zero small = refl
+at-prefix (x ∷ xs) ys (suc i) small = at-prefix xs ys i (omega arith)
 
 length-courses : (k : Numbers) (count : ℕ) → length (courses_to k count) ≡ count
 unfolding courses_to
@@ -28,7 +28,7 @@ course-listed k zero i small = absurd (omega arith)
 course-listed k (suc count) i small =
     let long = length-courses k count in
     elim (cases_lt i count) [
-      | inl before ↦ at-front (courses_to k count) (course k count ∷ []) i (omega arith) ∙ course-listed k count i before
+      | inl before ↦ at-prefix (courses_to k count) (course k count ∷ []) i (omega arith) ∙ course-listed k count i before
       | inr last ↦
           let here : i ≡ length (courses_to k count) = omega arith in
           let same : count ≡ i = omega arith in

@@ -17,7 +17,7 @@ use Rattle.nv_gen.specs.Programs.{program, segment_bytes, block, code_of, insns}
 use Rattle.nv_gen_laws.specs.Making.{Does}
 use Rattle.nv_gen_laws.proofs.Calling.{AreRegisters, are-set, HoldsText}
 use Rattle.nv_gen_laws.proofs.Courses.{makes}
-use Rattle.nv_gen_laws.proofs.Carrying.{Carries, put-below, carries-put, carries-behind, bytes-carried}
+use Rattle.nv_gen_laws.proofs.Carrying.{Carries, put-below, carries-put, carries-after, bytes-carried}
 use Rattle.nv_gen_laws.proofs.Standing.{IsText, stand, all-fit}
 use Rattle.nv_gen_laws.proofs.Sizes.{AreSmall, Part}
 
@@ -96,11 +96,11 @@ text-held k c memory small text all =
     let long : length (text_of k) ≡ k.size = length-replicate k.size k.byte in
     let room : length (block k.byte) ≡ 64 = refl in
     let whole = length-append (block k.byte) (code_of (insns c)) in
-    let front : take k.size (segment_bytes k c) ≡ take k.size (block k.byte) = take-append-le k.size (block k.byte) (code_of (insns c)) (omega arith) in
+    let prefix : take k.size (segment_bytes k c) ≡ take k.size (block k.byte) = take-append-le k.size (block k.byte) (code_of (insns c)) (omega arith) in
     record {
       few = omega arith;
       right = text.read 65536 (length (text_of k)) (omega arith) (omega arith);
-      there = ap (bytes_at memory.bytes 65536) long ∙ bytes-carried memory.bytes 65536 k.size (segment_bytes k c) (omega arith) all ∙ front ∙ take-replicate k.size 64 k.byte size;
+      there = ap (bytes_at memory.bytes 65536) long ∙ bytes-carried memory.bytes 65536 k.size (segment_bytes k c) (omega arith) all ∙ prefix ∙ take-replicate k.size 64 k.byte size;
     }
 
 block-length : (byte : ℕ) → length (block byte) ≡ 64
@@ -120,7 +120,7 @@ does-loaded k c args size m small part is e =
     let block_len : length (block k.byte) ≡ 64 = block-length k.byte in
     let whole = length-append (block k.byte) (code_of (insns c)) in
     let code : Carries memory.bytes 65600 (code_of (insns c)) =
-    subst (λ (n : ℕ). Carries memory.bytes (65536 + n) (code_of (insns c))) block_len (carries-behind memory.bytes 65536 (block k.byte) (code_of (insns c)) carries) in
+    subst (λ (n : ℕ). Carries memory.bytes (65536 + n) (code_of (insns c))) block_len (carries-after memory.bytes 65536 (block k.byte) (code_of (insns c)) carries) in
     let stands = stand memory (65536 + length (segment_bytes k c)) 65600 (insns c) text (omega arith) (omega arith) (all-fit c.calls c.ending part.short part.last) code in
     subst (λ (machine : Machine). Does machine c) ready.machine
     (makes c.calls c.ending (registers-at (stack_pointer size all)) 65600 memory (registers-are (stack_pointer size all)) (part.texts memory (text-held k c memory small text carries)) part.last stands)

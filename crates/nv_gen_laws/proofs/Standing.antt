@@ -11,7 +11,7 @@ use Rattle.nv_gen.specs.Made.{Call, Write, Getuid, Ending, Breaks, Exits}
 use Rattle.nv_gen.specs.Programs.{insns_of, last_insns, word_of, code_of}
 use Rattle.nv_gen.proofs.Fitting.{fits-sets, fits-points, fits-ecall, fits-ebreak}
 use Rattle.nv_gen_laws.proofs.Courses.{Stand, IsShort}
-use Rattle.nv_gen_laws.proofs.Carrying.{Carries, carries-behind, word-carried}
+use Rattle.nv_gen_laws.proofs.Carrying.{Carries, carries-after, word-carried}
 
 -- a memory whose range from 0x10000 to an end may be read and executed
 pub record IsText (memory : Image) (end : ℕ) : Type 0 where
@@ -37,7 +37,7 @@ stand memory end pc (i ∷ is) text above inside fit all =
     let four = length-word i in
     let long = length-append (word_of i) (code_of is) in
     let below = text.below in
-    let next : Carries memory.bytes (pc + 4) (code_of is) = subst (λ (n : ℕ). Carries memory.bytes (pc + n) (code_of is)) four (carries-behind memory.bytes pc (word_of i) (code_of is) all) in (
+    let next : Carries memory.bytes (pc + 4) (code_of is) = subst (λ (n : ℕ). Carries memory.bytes (pc + n) (code_of is)) four (carries-after memory.bytes pc (word_of i) (code_of is) all) in (
       record { word = rw (text.execute pc above (omega arith)) (ap (λ w. Ok w) (word-carried memory.bytes pc i (code_of is) (word-small i fit.0) all)); below = omega arith },
       stand memory end (pc + 4) is text (omega arith) (omega arith) fit.1 next,
     )

@@ -8,7 +8,7 @@ use Rattle.nv_isa.proofs.Inverse.{decoded-encoded}
 use Rattle.nv_memory.specs.declared.region.Access.{Access}
 use Rattle.nv_memory.specs.declared.region.Width.TheVariants.{Four}
 use Rattle.nv_memory.specs.declared.region.Right.TheVariants.{Execute}
-use Rattle.nv_memory.specs.Image.{Image, loaded}
+use Rattle.nv_memory.specs.Image.{Image, value_at}
 use Rattle.nv_machine.specs.declared.outcome.Stepped.{Stepped}
 use Rattle.nv_machine.specs.declared.outcome.Stepped.TheVariants as ends
 use Rattle.nv_machine.specs.declared.outcome.FaultKind.TheVariants as kinds
@@ -25,7 +25,7 @@ state x pc memory = record { regs = record { x = x; pc = pc; reserved = None }; 
 
 -- the instruction stands there and the next address is below 2^32
 pub record StandsAt (memory : Image) (pc : ℕ) (i : Insn) : Type 0 where
-  pub word : loaded memory pc Four Execute ≡ Ok (encoded i)
+  pub word : value_at memory pc Four Execute ≡ Ok (encoded i)
   pub below : pc + 4 < 2 ^ 32
 
 step-at : (x : List ℕ) (pc : ℕ) (memory : Image) (i : Insn) → Fits i → StandsAt memory pc i → guest_step (state x pc memory) ≡ effect i.op i (state x pc memory)

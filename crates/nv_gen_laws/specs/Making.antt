@@ -23,12 +23,12 @@ pub record Stops (m : Machine) (how : Stepped) (at : Machine) : Type 0 where
   pub way : (run most m).1 ≡ how
   pub place : (run most m).2 ≡ at
 
--- it goes on to this call, and behind any answer something holds
-pub record Asks (m : Machine) (asked : Request) (Behind : Machine → Type 0) : Type 0 where
+-- it goes on to this call, and after any answer something holds
+pub record Asks (m : Machine) (asked : Request) (Later : Machine → Type 0) : Type 0 where
   pub at : Machine
   pub stops : Stops m ends.Call at
   pub call : call_at at 100 ≡ asked
-  pub behind : (ret : ℤ) (bytes : List ℕ) → Behind (answered at ret bytes)
+  pub later : (ret : ℤ) (bytes : List ℕ) → Later (answered at ret bytes)
 
 -- it goes on to a breakpoint
 pub record Halts (m : Machine) : Type 0 where

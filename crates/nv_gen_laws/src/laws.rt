@@ -15,13 +15,13 @@ pub fn programs_stand_in_order()
 {}
 
 /// Each version, once it is loaded, makes the calls of its course, whatever they are answered, and ends as the course says.
-#[tactic(auto, using(crate::proofs::Kept::keeps_its_course))]
+#[tactic(auto, using(crate::proofs::Runs::keeps_its_course))]
 pub fn versions_keep_their_courses()
     ensures { (n version : ℕ) → version < (numbers_of n).versions → KeepsItsCourse n version }
 {}
 
 /// Each version can be loaded into a memory of the default size.
-#[tactic(auto, using(crate::proofs::Kept::fits_the_default))]
+#[tactic(auto, using(crate::proofs::Runs::fits_the_default))]
 pub fn versions_fit_the_default_memory()
     ensures { (n version : ℕ) → version < (numbers_of n).versions → FitsTheDefault n version }
 {}

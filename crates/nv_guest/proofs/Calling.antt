@@ -13,11 +13,11 @@ use Rattle.nv_guest.specs.Calls.{number, values_with, Handed, handed, call_by, c
 abbrev pub filled : ℕ → ℕ → List ℕ → Handed → Request
 filled tid nr args h = record { tid = tid; nr = nr; args = args; bad = h.bad; payload = h.payload }
 
-pub call-is : (m : Machine) (tid nr : ℕ) (k : Syscall) (args : List ℕ) (h : Handed) → nr ≡ number m → k ≡ syscall_of nr → h ≡ handed k m → args ≡ values_with k m h.room
+pub call-is : (m : Machine) (tid nr : ℕ) (k : Syscall) (args : List ℕ) (h : Handed) → nr ≡ number m → k ≡ syscall_of nr → h ≡ handed k m → args ≡ values_with k m h.capacity
     → filled tid nr args h ≡ call_at m tid
 unfolding call_at
 call-is m tid nr k args h n s is a =
-    ap (λ xs. filled tid nr xs h) a ∙ ap (λ x. filled tid x (values_with k m h.room) h) n
+    ap (λ xs. filled tid nr xs h) a ∙ ap (λ x. filled tid x (values_with k m h.capacity) h) n
     ∙ ap (λ x. call_by k m tid x) is ∙ ap (λ j. call_by j m tid (handed j m)) (s ∙ ap syscall_of n)
 
 pub answered-is : (m : Machine) (regs : Registers) (memory : Image) (ret : ℤ) (result : ℕ) (bytes : List ℕ) (nr : ℕ) (k : Syscall) → result ≡ cast_unsigned w32 ret → nr ≡ number m → k ≡ syscall_of nr

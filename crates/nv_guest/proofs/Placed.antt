@@ -76,7 +76,7 @@ not_first : (b : Bool) (k : ℕ) (rest : Option ℕ) → cond b (Some k) rest �
 not_first true k rest h = cc
 not_first false k rest h = (refl, h)
 
--- a range that shares no address with others, and two regions behind all of them
+-- a range that shares no address with others, and two regions after all of them
 apart_from : (r : Range) (rs : List Range) (k : ℕ) (stack heap : Region) → position_from (λ y. shares (range_extent r) (range_extent y)) k rs ≡ None
     → r.address + r.size ≤ stack.start → r.address + r.size ≤ heap.start → AllByRecursion (Apart (region_of r)) (map region_of rs ++ stack ∷ heap ∷ [])
 apart_from r [] k stack heap none a b = (inr (inr (inl a)), (inr (inr (inl b)), tt))

@@ -80,12 +80,12 @@ place_none (t ∷ ts) tid (suc i) h = place_none ts tid i (omega arith)
 
 -- ---- a write to one thread of the table
 
-front : {A : Type 0} (ws ys : List A) → take (length ws) (ws ++ ys) ≡ ws
-front [] ys = refl
-front (w ∷ ws) ys = ap (λ rest. w ∷ rest) (front ws ys)
+take_prefix : {A : Type 0} (ws ys : List A) → take (length ws) (ws ++ ys) ≡ ws
+take_prefix [] ys = refl
+take_prefix (w ∷ ws) ys = ap (λ rest. w ∷ rest) (take_prefix ws ys)
 
 refilled : (xs ws : List Thread) → length ws ≡ length xs → refill (length xs) xs ws ≡ ws
-refilled xs ws h = ap (λ n. refill n xs ws) (sym h) ∙ front ws (drop (length ws) xs)
+refilled xs ws h = ap (λ n. refill n xs ws) (sym h) ∙ take_prefix ws (drop (length ws) xs)
 
 pub write_place : (xs ws : List Thread) (tid place : ℕ) (d : Thread) (r : Registers) → ws ≡ xs → place ≡ place_of xs tid → place_of xs tid < length xs
     → refill (length xs) xs (set ws place (record { tid = (get_or ws place d).tid; regs = r })) ≡ with_regs xs tid r

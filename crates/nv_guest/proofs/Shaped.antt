@@ -15,8 +15,8 @@ use Rattle.nv_memory.specs.Image.{Image}
 use Rattle.nv_machine.specs.Guest.{Machine}
 use Rattle.nv_guest.specs.declared.vectors.Part.{Part}
 use Rattle.nv_guest.specs.Paths.{byte_at, path_with, path_at}
-use Rattle.nv_guest.specs.Vectors.{vector_at, front_of, usable_by, usable_at, parts_with, parts_at, capacity, joined}
-use Rattle.nv_guest.specs.Calls.{argument, number, out_of, vector_count, bytes_in, path_in, vectors_in, room_in, Handed, refused, with_payload, with_room, with_out, handed, call_by, call_at}
+use Rattle.nv_guest.specs.Vectors.{vector_at, prefix_of, usable_by, usable_at, parts_with, parts_at, capacity, joined}
+use Rattle.nv_guest.specs.Calls.{argument, number, out_of, vector_count, bytes_in, path_in, vectors_in, capacity_in, Handed, refused, with_payload, with_capacity, with_out, handed, call_by, call_at}
 
 pub length-bytes_at : (bytes : List ℕ) (a n : ℕ) → length (bytes_at bytes a n) ≡ n
 length-bytes_at bytes a zero = refl
@@ -53,13 +53,13 @@ path-is bytes h = let few : nat_le (length bytes) 256 ≡ true = (let f = h.few 
 
 -- ---- vectors
 
-front-few : (may : Bool) (most : ℕ) (part : Part) → IfSome (cond may (Some (front_of most part)) None) (λ p. p.size ≤ most)
-front-few true most part = omega arith
-front-few false most part = tt
+prefix-few : (may : Bool) (most : ℕ) (part : Part) → IfSome (cond may (Some (prefix_of most part)) None) (λ p. p.size ≤ most)
+prefix-few true most part = omega arith
+prefix-few false most part = tt
 
 usable-few : (memory : Image) (right : Right) (most : ℕ) (o : Option Part) → IfSome (usable_by memory right most o) (λ p. p.size ≤ most)
 usable-few memory right most None = tt
-usable-few memory right most (Some part) = front-few (holds memory.regions part.address (min part.size most) right) most part
+usable-few memory right most (Some part) = prefix-few (holds memory.regions part.address (min part.size most) right) most part
 
 parts-next : (part : Part) (most : ℕ) (later : Option (List Part)) → part.size ≤ most → IfSome later (λ ps. capacity ps ≤ most - part.size)
     → IfSome (option_map (λ ps. part ∷ ps) later) (λ ps. capacity ps ≤ most)
@@ -119,9 +119,9 @@ by_payload : (P : Handed → Type 0) (Q : List ℕ → Type 0) (o : Option (List
 by_payload P Q None h bad good = bad
 by_payload P Q (Some bytes) h bad good = good bytes h
 
-by_room : (P : Handed → Type 0) (Q : ℕ → Type 0) (o : Option ℕ) → IfSome o Q → P refused → ((room : ℕ) → Q room → P (with_room (Some room))) → P (with_room o)
-by_room P Q None h bad good = bad
-by_room P Q (Some room) h bad good = good room h
+by_capacity : (P : Handed → Type 0) (Q : ℕ → Type 0) (o : Option ℕ) → IfSome o Q → P refused → ((capacity : ℕ) → Q capacity → P (with_capacity (Some capacity))) → P (with_capacity o)
+by_capacity P Q None h bad good = bad
+by_capacity P Q (Some capacity) h bad good = good capacity h
 
 written_in : (bytes : List ℕ) (a n : ℕ) (may : Bool) → IfSome (cond may (Some (bytes_at bytes a n)) None) (λ xs. (length xs == n) ≡ true)
 written_in bytes a n true = let h : length (bytes_at bytes a n) ≡ n = length-bytes_at bytes a n in grind (arith, nat_tests)
@@ -138,8 +138,8 @@ shaped-by WriteCall m tid = by_payload (Fit WriteCall m tid) (λ xs. (length xs 
     (written_in m.memory.bytes (argument m 1) (min (argument m 2) 4096) (holds m.memory.regions (argument m 1) (min (argument m 2) 4096) Read)) refl (λ bytes h. h)
 shaped-by Writev m tid = by_payload (Fit Writev m tid) (λ xs. nat_le (length xs) (cond (nat_le (argument m 2) 1024) 4096 0) ≡ true) (vectors_in m)
     (gathered m.memory (parts_at m.memory Read (vector_count m) 4096 (argument m 1)) (cond (nat_le (argument m 2) 1024) 4096 0) (counted m.memory Read (nat_le (argument m 2) 1024) (argument m 2) 4096 (argument m 1))) refl (λ bytes h. h)
-shaped-by Readv m tid = by_room (Fit Readv m tid) (λ room. nat_le room (cond (nat_le (argument m 2) 1024) 4096 0) ≡ true) (room_in m)
-    (mapped capacity (λ room. nat_le room (cond (nat_le (argument m 2) 1024) 4096 0) ≡ true) (parts_at m.memory Write (vector_count m) 4096 (argument m 1)) (counted m.memory Write (nat_le (argument m 2) 1024) (argument m 2) 4096 (argument m 1))) refl (λ room h. rw h refl)
+shaped-by Readv m tid = by_capacity (Fit Readv m tid) (λ capacity. nat_le capacity (cond (nat_le (argument m 2) 1024) 4096 0) ≡ true) (capacity_in m)
+    (mapped capacity (λ capacity. nat_le capacity (cond (nat_le (argument m 2) 1024) 4096 0) ≡ true) (parts_at m.memory Write (vector_count m) 4096 (argument m 1)) (counted m.memory Write (nat_le (argument m 2) 1024) (argument m 2) 4096 (argument m 1))) refl (λ capacity h. rw h refl)
 shaped-by Getcwd m tid = by_out (Fit Getcwd m tid) m.memory (out_of Getcwd m) refl refl
 shaped-by Pipe2 m tid = by_out (Fit Pipe2 m tid) m.memory (out_of Pipe2 m) refl refl
 shaped-by Llseek m tid = by_out (Fit Llseek m tid) m.memory (out_of Llseek m) refl refl

@@ -11,7 +11,7 @@ use Rattle.nv_memory.specs.declared.region.Right.TheVariants.{Read, Write, Execu
 use Rattle.nv_memory.specs.Bytes.{put, little_bytes, byte_count}
 use Rattle.nv_memory.proofs.BytesLaws.{length_put}
 use Rattle.nv_memory.specs.Regions.{AreRegions, holds}
-use Rattle.nv_memory.specs.Image.{Image, stored, loaded}
+use Rattle.nv_memory.specs.Image.{Image, stored, value_at}
 use Rattle.nv_machine.specs.declared.outcome.Stepped.TheVariants.{On, Call, Fault}
 use Rattle.nv_machine.specs.declared.outcome.FaultKind.TheVariants as kinds
 use Rattle.nv_machine.specs.Effects.{sum, combined}
@@ -142,7 +142,7 @@ fetched_stays (Err e) m = stays m.memory
 
 step_stays : (m : Machine) → Stays m.memory (guest_step m).1.memory
 unfolding guest_step
-step_stays m = fetched_stays (loaded m.memory m.regs.pc Four Execute) m
+step_stays m = fetched_stays (value_at m.memory m.regs.pc Four Execute) m
 
 unless_stays : (most : ℕ) (m : Machine) (s : StepResult) → Stays m.memory s.1.memory → (Stays s.1.memory (run most s.1).2.memory) → Stays m.memory (unless_stopped (run most) s).2.memory
 unless_stays most m (On, x) p q = then_stays m.memory x.memory (run most x).2.memory p q

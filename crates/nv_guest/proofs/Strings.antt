@@ -64,7 +64,7 @@ addresses_after xs i x n bytes at a lt is size =
     next_address f xs i x a lt ∙ ap (λ (k : ℕ). a ∷ addresses k (drop (i + 1) (texts_of xs))) same in
     ap (λ (ns : List ℕ). put bytes at (words ns)) e ∙ put_append bytes at (little_bytes 4 a) (words (addresses (a + (n + 1)) (drop (i + 1) (texts_of xs))))
 
--- bytes that are written in four parts, one behind another
+-- bytes that are written in four parts, one after another
 pub four_parts : (bytes : List ℕ) (p q r s : ℕ) (a b c d : List ℕ) → q ≡ p + length a → r ≡ q + length b → s ≡ r + length c
     → put (put (put (put bytes p a) q b) r c) s d ≡ put bytes p (a ++ (b ++ (c ++ d)))
 four_parts bytes p q r s a b c d e f g =
@@ -73,7 +73,7 @@ four_parts bytes p q r s a b c d e f g =
     ∙ sym (put_append (put bytes p a) (p + length a) b (c ++ d))
     ∙ sym (put_append bytes p a (b ++ (c ++ d))))
 
--- words that are written behind others
+-- words that are written after others
 pub words-append : (ms ns : List ℕ) → words (ms ++ ns) ≡ words ms ++ words ns
 words-append [] ns = refl
 words-append (m ∷ ms) ns = ap (λ (bs : List ℕ). little_bytes 4 m ++ bs) (words-append ms ns) ∙ sym (append_assoc (little_bytes 4 m) (words ms) (words ns))

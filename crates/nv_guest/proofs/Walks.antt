@@ -22,7 +22,7 @@ path-more memory bytes i most least at next b inside some less after byte more =
     sym (ap (option_map (λ later. take i bytes ++ later)) (path-here memory most at some ∙ ap (λ o. path_with o (path_at (most - 1) memory (at + 1))) byte
     ∙ ap (λ x. if x then Some [] else option_map (λ bs. b ∷ bs) (path_at (most - 1) memory (at + 1))) more)
     ∙ joined_on (path_at (most - 1) memory (at + 1))
-    ∙ ap (λ front. option_map (λ later. front ++ later) (path_at (most - 1) memory (at + 1))) (sym (take_more_set bytes i b inside))
+    ∙ ap (λ prefix. option_map (λ later. prefix ++ later) (path_at (most - 1) memory (at + 1))) (sym (take_more_set bytes i b inside))
     ∙ ap (λ n. option_map (λ later. take (i + 1) (set bytes i b) ++ later) (path_at n memory (at + 1))) (sym less)
     ∙ ap (λ a. option_map (λ later. take (i + 1) (set bytes i b) ++ later) (path_at least memory a)) (sym after))
   where
@@ -43,7 +43,7 @@ pub path-refused : (memory : Image) (bytes : List ℕ) (i most at : ℕ) → 0 <
 path-refused memory bytes i most at some byte =
     sym (ap (option_map (λ later. take i bytes ++ later)) (path-here memory most at some ∙ ap (λ o. path_with o (path_at (most - 1) memory (at + 1))) byte))
 
--- behind the last byte there is no more
+-- after the last byte there is no more
 pub path-all : (memory : Image) (bytes : List ℕ) (i most at : ℕ) → most ≡ 0 → Some (take i bytes) ≡ option_map (λ later. take i bytes ++ later) (path_at most memory at)
 unfolding path_at
 path-all memory bytes i zero at e = ap Some (sym (append-nil (take i bytes)))
@@ -83,15 +83,15 @@ parts-more memory right count fewer most left at next part some less more is res
     ∙ ap (λ n. option_map (λ parts. part ∷ parts) (parts_at memory right fewer n (at + 8))) (sym rest)
     ∙ ap (λ a. option_map (λ parts. part ∷ parts) (parts_at memory right fewer left a)) (sym after)
 
--- bytes counted before a part and those behind it
+-- bytes counted before a part and those after it
 pub capacity-more : (before now : ℕ) (part : Part) (parts : Option (List Part)) → now ≡ before + part.size
     → option_map (λ later. before + capacity later) (option_map (λ later. part ∷ later) parts) ≡ option_map (λ later. now + capacity later) parts
 capacity-more before now part None e = refl
 capacity-more before now part (Some parts) e = ap Some (sym (add_assoc before part.size (capacity parts)) ∙ ap (λ n. n + capacity parts) (sym e))
 
--- bytes read before a part and those behind it
+-- bytes read before a part and those after it
 pub joined-more : (memory : Image) (before now : List ℕ) (part : Part) (parts : Option (List Part)) → now ≡ before ++ bytes_at memory.bytes part.address part.size
     → option_map (λ later. before ++ joined memory later) (option_map (λ later. part ∷ later) parts) ≡ option_map (λ later. now ++ joined memory later) parts
 joined-more memory before now part None e = refl
 joined-more memory before now part (Some parts) e =
-    ap Some (sym (append_assoc before (bytes_at memory.bytes part.address part.size) (joined memory parts)) ∙ ap (λ front. front ++ joined memory parts) (sym e))
+    ap Some (sym (append_assoc before (bytes_at memory.bytes part.address part.size) (joined memory parts)) ∙ ap (λ prefix. prefix ++ joined memory parts) (sym e))

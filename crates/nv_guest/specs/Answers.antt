@@ -2,7 +2,7 @@
 use Rattle.std.specs.Prelude.{ℕ, zero, suc, ◌+◌, ◌-◌, ◌^◌, List, [], ◌∷◌, Option, Some, None, if◌then◌else◌, ◌==◌, nat_lt, option_map, take, drop}
 use Rattle.nv_memory.specs.Image.{Image, stored}
 use Rattle.nv_guest.specs.declared.vectors.Part.{Part}
-use Rattle.nv_guest.specs.Vectors.{vector_at, front_of}
+use Rattle.nv_guest.specs.Vectors.{vector_at, prefix_of}
 
 -- a byte is stored where it may be written, and dropped elsewhere
 unfoldable pub with_byte : Image → ℕ → ℕ → Image
@@ -21,7 +21,7 @@ targets_with (Some part) later = part ∷ later part.size
 unfoldable pub targets_at : Image → ℕ → ℕ → ℕ → List Part
 targets_at memory zero most at = []
 targets_at memory (suc count) most at = if most == 0 then []
-    else targets_with (option_map (front_of most) (vector_at memory at)) (λ size. targets_at memory count (most - size) (at + 8))
+    else targets_with (option_map (prefix_of most) (vector_at memory at)) (λ size. targets_at memory count (most - size) (at + 8))
 
 -- bytes over parts, in order
 unfoldable pub scattered : Image → List Part → List ℕ → Image

@@ -45,10 +45,10 @@ all_kept (slot ∷ slots) (arg ∷ args) = kept slot arg ∷ all_kept slots args
 abbrev pub values : Syscall → Machine → List ℕ
 values k m = all_kept (slots_by k) (argument m 0 ∷ argument m 1 ∷ argument m 2 ∷ argument m 3 ∷ argument m 4 ∷ argument m 5 ∷ [])
 
--- the fourth of readv holds how many bytes its vectors have room for
+-- the fourth of readv holds how many bytes its vectors can hold
 abbrev pub values_with : Syscall → Machine → ℕ → List ℕ
-values_with Readv m room = slice_set (values Readv m) 3 room
-values_with k m room = values k m
+values_with Readv m capacity = slice_set (values Readv m) 3 capacity
+values_with k m capacity = values k m
 
 -- ---- the ranges of memory
 
@@ -73,9 +73,9 @@ path_in m = path_at MOST_PATH m.memory (argument m 1)
 abbrev pub vectors_in : Machine → Option (List ℕ)
 vectors_in m = option_map (joined m.memory) (parts_at m.memory Read (vector_count m) MOST_BYTES (argument m 1))
 
--- how many bytes vectors have room for, as far as a call moves them
-abbrev pub room_in : Machine → Option ℕ
-room_in m = option_map capacity (parts_at m.memory Write (vector_count m) MOST_BYTES (argument m 1))
+-- how many bytes vectors can hold, as far as a call moves them
+abbrev pub capacity_in : Machine → Option ℕ
+capacity_in m = option_map capacity (parts_at m.memory Write (vector_count m) MOST_BYTES (argument m 1))
 
 -- ---- what a call hands over
 
@@ -83,23 +83,23 @@ pub record Handed : Type 0 where
   -- a range isn't the guest's to read or write
   pub bad : Bool
   pub payload : List ℕ
-  -- how many bytes the vectors of a readv have room for
-  pub room : ℕ
+  -- how many bytes the vectors of a readv can hold
+  pub capacity : ℕ
 
 -- what was checked, with the payload
 abbrev pub handed_as : Checked → List ℕ → Handed
-handed_as checked payload = record { bad = checked.bad; payload = payload; room = checked.room }
+handed_as checked payload = record { bad = checked.bad; payload = payload; capacity = checked.capacity }
 
 abbrev pub refused : Handed
-refused = record { bad = true; payload = []; room = 0 }
+refused = record { bad = true; payload = []; capacity = 0 }
 
 abbrev pub with_payload : Option (List ℕ) → Handed
 with_payload None = refused
-with_payload (Some bytes) = record { bad = false; payload = bytes; room = 0 }
+with_payload (Some bytes) = record { bad = false; payload = bytes; capacity = 0 }
 
-abbrev pub with_room : Option ℕ → Handed
-with_room None = refused
-with_room (Some room) = record { bad = false; payload = []; room = room }
+abbrev pub with_capacity : Option ℕ → Handed
+with_capacity None = refused
+with_capacity (Some capacity) = record { bad = false; payload = []; capacity = capacity }
 
 -- nothing, where the bytes of the answer may be written
 abbrev pub with_out : Image → Option Part → Handed
@@ -111,11 +111,11 @@ handed Unlinkat m = with_payload (path_in m)
 handed Openat m = with_payload (path_in m)
 handed WriteCall m = with_payload (bytes_in m)
 handed Writev m = with_payload (vectors_in m)
-handed Readv m = with_room (room_in m)
+handed Readv m = with_capacity (capacity_in m)
 handed k m = with_out m.memory (out_of k m)
 
 abbrev pub call_by : Syscall → Machine → ℕ → Handed → Request
-call_by k m tid h = record { tid = tid; nr = number m; args = values_with k m h.room; bad = h.bad; payload = h.payload }
+call_by k m tid h = record { tid = tid; nr = number m; args = values_with k m h.capacity; bad = h.bad; payload = h.payload }
 
 -- the call that the machine asks for
 unfoldable pub call_at : Machine → ℕ → Request
@@ -123,7 +123,7 @@ call_at m tid = call_by (syscall_of (number m)) m tid (handed (syscall_of (numbe
 
 -- ---- the answer
 
--- the bytes of an answer from an address on; the kernel hands out no more than its place has, so none falls behind it
+-- the bytes of an answer from an address on; the kernel hands out no more than its place has, so none falls past it
 abbrev pub stored_at : Image → Option Part → List ℕ → Image
 stored_at memory None bytes = memory
 stored_at memory (Some part) bytes = with_bytes memory part.address bytes

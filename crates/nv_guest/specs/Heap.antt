@@ -8,7 +8,7 @@ use Rattle.nv_guest.specs.declared.heap.Heap.{Heap}
 use Rattle.nv_guest.specs.Load.{heap_start}
 use Rattle.nv_guest.specs.Threads.{last_region, is_break, with_break}
 
--- each region but the last ends at the heap's start or before it, or begins at the stack's start or behind it
+-- each region but the last ends at the heap's start or before it, or begins at the stack's start or after it
 abbrev pub IsClear : ℕ → ℕ → List Region → Type 0
 IsClear start limit [] = Unit {0}
 IsClear start limit (r ∷ []) = Unit {0}

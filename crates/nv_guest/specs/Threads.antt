@@ -83,7 +83,7 @@ with_stack stack x = if stack == 0 then x else written x 2 stack
 abbrev pub with_pointer : ℕ → ℕ → List ℕ → List ℕ
 with_pointer flags pointer x = if (flags / 0x80000) % 2 == 1 then written x 4 pointer else x
 
--- a new thread goes on behind its parent's call, with the result 0 and without a reservation
+-- a new thread goes on after its parent's call, with the result 0 and without a reservation
 unfoldable pub child_regs : Registers → Registers
 child_regs regs = record (past regs 0) { x = with_pointer (register regs 10) (register regs 13) (with_stack (register regs 11) (past regs 0).x); reserved = None }
 

@@ -15,13 +15,13 @@ part_of bytes = record { address = field_at 4 bytes 0; size = field_at 4 bytes 4
 unfoldable pub vector_at : Image → ℕ → Option Part
 vector_at memory at = if nat_lt at (2 ^ 32) && holds memory.regions at 8 Read then Some (part_of (bytes_at memory.bytes at 8)) else None
 
--- the front of a part, of at most so many bytes
-abbrev pub front_of : ℕ → Part → Part
-front_of most part = record part { size = min part.size most }
+-- the first bytes of a part, at most so many
+abbrev pub prefix_of : ℕ → Part → Part
+prefix_of most part = record part { size = min part.size most }
 
--- the front, where the bytes there may be used
+-- the same, where the bytes there may be used
 abbrev pub usable : Image → Right → ℕ → Part → Option Part
-usable memory right most part = if holds memory.regions part.address (min part.size most) right then Some (front_of most part) else None
+usable memory right most part = if holds memory.regions part.address (min part.size most) right then Some (prefix_of most part) else None
 
 abbrev pub usable_by : Image → Right → ℕ → Option Part → Option Part
 usable_by memory right most None = None

@@ -1,6 +1,6 @@
 // Answers in the guest's memory.
 ghost use Rattle.std.specs.Prelude.{◌≡◌, ◌≤◌, length, min, take, option_map, true, false};
-ghost use Rattle.nv_guest.specs.Vectors.{vector_at, front_of};
+ghost use Rattle.nv_guest.specs.Vectors.{vector_at, prefix_of};
 ghost use Rattle.nv_guest.specs.Answers.{with_byte, with_bytes, targets_at, scattered};
 
 use crate::vectors::{Part, vector_at};
@@ -47,7 +47,7 @@ pub fn store_bytes(memory: &mut Memory, address: u32, bytes: &[u8])
 }
 
 fn target_at(memory: &Memory, most: usize, at: usize) -> Option<Part>
-    ensures { result ≡ option_map (front_of most) (vector_at memory.now at) }
+    ensures { result ≡ option_map (prefix_of most) (vector_at memory.now at) }
 {
     let Part { address, size } = vector_at(memory, at)?;
     Some(Part {
@@ -56,7 +56,7 @@ fn target_at(memory: &Memory, most: usize, at: usize) -> Option<Part>
     })
 }
 
-/// Reads the parts that so many bytes go to by this many vectors from an address on into the front of a table, and gives how many these are.
+/// Reads the parts that so many bytes go to by this many vectors from an address on into the beginning of a table, and gives how many these are.
 pub fn read_targets(
     memory: &Memory,
     address: u32,
@@ -84,7 +84,7 @@ pub fn read_targets(
     count as usize
 }
 
-fn front_len(size: u32, len: usize) -> usize
+fn part_len(size: u32, len: usize) -> usize
     ensures { result ≡ min size len }
 {
     (size as usize).min(len)
@@ -96,8 +96,8 @@ pub fn scatter(memory: &mut Memory, targets: &[Part], bytes: &[u8])
 {
     let mut rest = bytes;
     for part in targets {
-        let (front, behind) = rest.split_at(front_len(part.size, rest.len()));
-        store_bytes(memory, part.address, front);
-        rest = behind;
+        let (part_bytes, later) = rest.split_at(part_len(part.size, rest.len()));
+        store_bytes(memory, part.address, part_bytes);
+        rest = later;
     }
 }

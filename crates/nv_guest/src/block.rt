@@ -42,7 +42,7 @@ pub fn place_block(arguments: &[Vec<u8>], size: u32) -> Option<Block>
 // Writes the block into the stack.
 pub fn write_block(memory: &mut Memory, arguments: &[Vec<u8>], block: Block)
     requires words { block.pointer + 4 * (length arguments.now + 6) ≤ block.start }
-    requires room { block.start + length (strings (all_arguments (texts_of arguments.now))) < 2 ^ 32 }
+    requires fits { block.start + length (strings (all_arguments (texts_of arguments.now))) < 2 ^ 32 }
     requires inside { IsTrue (list_any (has_range block.pointer (block.start + length (strings (all_arguments (texts_of arguments.now))) - block.pointer)) memory.old.regions) }
     ensures { memory.new ≡ record memory.old { bytes = with_block memory.old.bytes block.pointer block.start (all_arguments (texts_of arguments.now)) } }
 {
@@ -52,7 +52,7 @@ pub fn write_block(memory: &mut Memory, arguments: &[Vec<u8>], block: Block)
 
 // Writes the number of arguments, their addresses and the four words 0.
 fn write_words(memory: &mut Memory, arguments: &[Vec<u8>], pointer: u32, start: u32)
-    requires room { pointer + 4 * (length arguments.now + 6) < 2 ^ 32 }
+    requires fits { pointer + 4 * (length arguments.now + 6) < 2 ^ 32 }
     requires texts { start + length (strings (all_arguments (texts_of arguments.now))) < 2 ^ 32 }
     requires inside { IsTrue (list_any (has_range pointer (4 * (length arguments.now + 6))) memory.old.regions) }
     ensures { memory.new ≡ record memory.old { bytes = put memory.old.bytes pointer (words (stack_words start (all_arguments (texts_of arguments.now)))) } }
@@ -66,7 +66,7 @@ fn write_words(memory: &mut Memory, arguments: &[Vec<u8>], pointer: u32, start: 
 
 // Writes the strings of all arguments.
 fn write_texts(memory: &mut Memory, arguments: &[Vec<u8>], start: u32)
-    requires room { start + length (strings (all_arguments (texts_of arguments.now))) < 2 ^ 32 }
+    requires fits { start + length (strings (all_arguments (texts_of arguments.now))) < 2 ^ 32 }
     requires inside { IsTrue (list_any (has_range start (length (strings (all_arguments (texts_of arguments.now))))) memory.old.regions) }
     ensures { memory.new ≡ record memory.old { bytes = put memory.old.bytes start (strings (all_arguments (texts_of arguments.now))) } }
 {
@@ -116,7 +116,7 @@ fn word_bytes(value: u32) -> [u8; 4]
 
 // Writes the address of each string from an address on; the first string is at `first`.
 fn write_addresses(memory: &mut Memory, arguments: &[Vec<u8>], start: u32, first: u32)
-    requires room { start + 4 * length arguments.now < 2 ^ 32 }
+    requires fits { start + 4 * length arguments.now < 2 ^ 32 }
     requires strings { first + length (strings (texts_of arguments.now)) < 2 ^ 32 }
     requires inside { IsTrue (list_any (has_range start (4 * length arguments.now)) memory.old.regions) }
     ensures { memory.new ≡ record memory.old { bytes = put memory.old.bytes start (words (addresses first (texts_of arguments.now))) } }
@@ -133,7 +133,7 @@ fn write_addresses(memory: &mut Memory, arguments: &[Vec<u8>], start: u32, first
 // Writes the strings, each with its 0 byte, from the address on.
 #[tactic(auto, using(crate::proofs::Strings::next_string, nv_memory::proofs::BytesLaws::put_append, nv_memory::proofs::RegionsLaws::part_of))]
 fn write_strings(memory: &mut Memory, arguments: &[Vec<u8>], start: u32)
-    requires room { start + length (strings (texts_of arguments.now)) < 2 ^ 32 }
+    requires fits { start + length (strings (texts_of arguments.now)) < 2 ^ 32 }
     requires inside { IsTrue (list_any (has_range start (length (strings (texts_of arguments.now)))) memory.old.regions) }
     ensures { memory.new ≡ record memory.old { bytes = put memory.old.bytes start (strings (texts_of arguments.now)) } }
 {
@@ -148,7 +148,7 @@ fn write_strings(memory: &mut Memory, arguments: &[Vec<u8>], start: u32)
 // Writes the text and a 0 byte.
 #[tactic(auto, using(nv_memory::proofs::BytesLaws::put_append, nv_memory::proofs::RegionsLaws::part_of))]
 fn write_string(memory: &mut Memory, text: &[u8], at: u32)
-    requires room { at + length text.now + 1 < 2 ^ 32 }
+    requires fits { at + length text.now + 1 < 2 ^ 32 }
     requires inside { IsTrue (list_any (has_range at (length text.now + 1)) memory.old.regions) }
     ensures { memory.new ≡ record memory.old { bytes = put memory.old.bytes at (text.now ++ 0 ∷ []) } }
 {

@@ -5,12 +5,12 @@ ghost use Rattle.nv_calls.specs.Calls.{request};
 ghost use Rattle.nv_calls.specs.Numbers.{is_local};
 ghost use Rattle.nv_calls.specs.Shapes.{IsShaped};
 ghost use Rattle.nv_guest.specs.Threads.{asked_by};
-ghost use Rattle.nv_guest.specs.Calls.{argument, number, call_at, kept, values, values_with, out_of, vector_count, path_in, bytes_in, vectors_in, room_in, refused, with_payload, with_room, with_out, handed, handed_as, memory_after};
+ghost use Rattle.nv_guest.specs.Calls.{argument, number, call_at, kept, values, values_with, out_of, vector_count, path_in, bytes_in, vectors_in, capacity_in, refused, with_payload, with_capacity, with_out, handed, handed_as, memory_after};
 
 use crate::answers::{read_targets, scatter, store_bytes};
 use crate::outcome::{Asked, asked_of};
 use crate::paths::read_path;
-use crate::vectors::{Part, gather, room_of};
+use crate::vectors::{Part, gather, capacity_of};
 use nv_calls::{Bytes, Call, MOST_BYTES, MOST_PATH, MOST_VECTORS, Slot, Syscall};
 use nv_machine::Regs;
 use nv_memory::{Memory, Right};
@@ -23,8 +23,8 @@ pub(crate) const NUMBER: u8 = 17;
 pub(crate) struct Checked {
     /// A range isn't the guest's to read or write.
     pub(crate) bad: bool,
-    /// How many bytes the vectors of a readv have room for.
-    pub(crate) room: u32,
+    /// How many bytes the vectors of a readv can hold.
+    pub(crate) capacity: u32,
 }
 
 // An argument that is an address or isn't used counts as 0.
@@ -41,22 +41,22 @@ fn kept(slot: Slot, arg: u32) -> u32
 fn fill(payload: &mut Bytes, bytes: &[u8]) -> Checked
     requires { length bytes.now ≤ payload.old.capacity }
     ensures handed { handed_as result payload.new.bytes ≡ with_payload (Some bytes.now) }
-    ensures room { payload.new.capacity ≡ payload.old.capacity }
+    ensures capacity { payload.new.capacity ≡ payload.old.capacity }
 {
     payload.set(bytes);
     Checked {
         bad: false,
-        room: 0,
+        capacity: 0,
     }
 }
 
 // A range isn't the guest's.
 fn refuse(payload: &mut Bytes) -> Checked
     ensures handed { handed_as result payload.new.bytes ≡ refused }
-    ensures room { payload.new.capacity ≡ payload.old.capacity }
+    ensures capacity { payload.new.capacity ≡ payload.old.capacity }
 {
     payload.set(&[]);
-    Checked { bad: true, room: 0 }
+    Checked { bad: true, capacity: 0 }
 }
 
 /// A thread at a call, with the memory.
@@ -90,13 +90,13 @@ impl Caller<'_> {
         ]
     }
 
-    /// The arguments of the call that are values; readv's fourth is the room of its vectors.
-    pub(crate) fn values_with(&self, syscall: Syscall, room: u32) -> [u32; 6]
-        ensures { result ≡ values_with syscall (machine_by self.now) room }
+    /// The arguments of the call that are values; readv's fourth is the capacity of its vectors.
+    pub(crate) fn values_with(&self, syscall: Syscall, capacity: u32) -> [u32; 6]
+        ensures { result ≡ values_with syscall (machine_by self.now) capacity }
     {
         let mut values = self.values(syscall);
         if syscall == Syscall::Readv {
-            values[3] = room;
+            values[3] = capacity;
         }
         values
     }
@@ -125,7 +125,7 @@ impl Caller<'_> {
     fn copy_path(&self, payload: &mut Bytes) -> Checked
         requires { MOST_BYTES ≤ payload.old.capacity }
         ensures handed { handed_as result payload.new.bytes ≡ with_payload (path_in (machine_by self.now)) }
-        ensures room { payload.new.capacity ≡ payload.old.capacity }
+        ensures capacity { payload.new.capacity ≡ payload.old.capacity }
     {
         let mut path = [0; MOST_PATH];
         match read_path(self.memory, self.argument(1), &mut path) {
@@ -138,7 +138,7 @@ impl Caller<'_> {
     fn copy_bytes(&self, payload: &mut Bytes) -> Checked
         requires { MOST_BYTES ≤ payload.old.capacity }
         ensures handed { handed_as result payload.new.bytes ≡ with_payload (bytes_in (machine_by self.now)) }
-        ensures room { payload.new.capacity ≡ payload.old.capacity }
+        ensures capacity { payload.new.capacity ≡ payload.old.capacity }
     {
         let count = self.argument(2).min(MOST_BYTES);
         match self.memory.bytes(self.argument(1), count) {
@@ -151,7 +151,7 @@ impl Caller<'_> {
     fn gather_vectors(&self, payload: &mut Bytes) -> Checked
         requires { MOST_BYTES ≤ payload.old.capacity }
         ensures handed { handed_as result payload.new.bytes ≡ with_payload (vectors_in (machine_by self.now)) }
-        ensures room { payload.new.capacity ≡ payload.old.capacity }
+        ensures capacity { payload.new.capacity ≡ payload.old.capacity }
     {
         let mut bytes = [0; MOST_BYTES as usize];
         let (address, count) = (self.argument(1), self.vector_count());
@@ -161,38 +161,38 @@ impl Caller<'_> {
         }
     }
 
-    // The room of readv.
+    // The capacity of readv.
     fn find_room(&self, payload: &mut Bytes) -> Checked
-        ensures handed { handed_as result payload.new.bytes ≡ with_room (room_in (machine_by self.now)) }
-        ensures room { payload.new.capacity ≡ payload.old.capacity }
+        ensures handed { handed_as result payload.new.bytes ≡ with_capacity (capacity_in (machine_by self.now)) }
+        ensures capacity { payload.new.capacity ≡ payload.old.capacity }
     {
         payload.set(&[]);
         let (address, count) = (self.argument(1), self.vector_count());
-        let room = room_of(self.memory, address, count, MOST_BYTES);
+        let capacity = capacity_of(self.memory, address, count, MOST_BYTES);
         Checked {
-            bad: room.is_none(),
-            room: room.unwrap_or(0),
+            bad: capacity.is_none(),
+            capacity: capacity.unwrap_or(0),
         }
     }
 
     // The range that the answer goes to.
     fn check_out(&self, syscall: Syscall, payload: &mut Bytes) -> Checked
         ensures handed { handed_as result payload.new.bytes ≡ with_out (machine_by self.now).memory (out_of syscall (machine_by self.now)) }
-        ensures room { payload.new.capacity ≡ payload.old.capacity }
+        ensures capacity { payload.new.capacity ≡ payload.old.capacity }
     {
         payload.set(&[]);
         let bad = match self.out_of(syscall) {
             Some(part) => !self.memory.holds(part.address, part.size, Right::Write),
             None => false,
         };
-        Checked { bad, room: 0 }
+        Checked { bad, capacity: 0 }
     }
 
     /// Checks what the call reads and writes, and fills the payload.
     pub(crate) fn copy_in(&self, syscall: Syscall, payload: &mut Bytes) -> Checked
         requires { MOST_BYTES ≤ payload.old.capacity }
         ensures handed { handed_as result payload.new.bytes ≡ handed syscall (machine_by self.now) }
-        ensures room { payload.new.capacity ≡ payload.old.capacity }
+        ensures capacity { payload.new.capacity ≡ payload.old.capacity }
     {
         match syscall {
             Syscall::Unlinkat | Syscall::Openat => self.copy_path(payload),
@@ -209,14 +209,14 @@ impl Caller<'_> {
         ensures asked { result ≡ asked_by (is_local (number (machine_by self.now))) }
         ensures shaped { result ≡ Asked.Logged → IsShaped (request call.new) }
         ensures call { request call.new ≡ call_at (machine_by self.now) tid }
-        ensures room { call.new.payload.capacity ≡ call.old.payload.capacity }
+        ensures capacity { call.new.payload.capacity ≡ call.old.payload.capacity }
     {
         let nr = self.regs.get(NUMBER);
         let syscall = Syscall::of(nr);
         let checked = self.copy_in(syscall, &mut call.payload);
         call.tid = tid;
         call.nr = nr;
-        call.args = self.values_with(syscall, checked.room);
+        call.args = self.values_with(syscall, checked.capacity);
         call.bad = checked.bad;
         asked_of(nr)
     }

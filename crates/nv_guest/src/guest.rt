@@ -103,11 +103,11 @@ impl Guest {
     /// The call that the thread is at.
     pub fn call_of(&self, tid: u32, call: &mut Call) -> Asked
         requires lives { Contains (tids self.now.threads) tid }
-        requires room { MOST_BYTES ≤ call.old.payload.capacity }
+        requires capacity { MOST_BYTES ≤ call.old.payload.capacity }
         ensures asked { result ≡ asked_by (is_local (number (machine_at self.now tid))) }
         ensures shaped { result ≡ Asked.Logged → IsShaped (request call.new) }
         ensures call { request call.new ≡ call_at (machine_at self.now tid) tid }
-        ensures room { call.new.payload.capacity ≡ call.old.payload.capacity }
+        ensures capacity { call.new.payload.capacity ≡ call.old.payload.capacity }
     {
         let caller = Caller {
             regs: self.regs(tid),
@@ -145,10 +145,10 @@ impl Guest {
         move_heap(&mut self.heap, &mut self.memory, address)
     }
 
-    /// Makes a thread that goes on behind its parent's call.
+    /// Makes a thread that goes on after its parent's call.
     pub fn clone_thread(&mut self, tid: u32, child: u32)
         requires lives { Contains (tids self.old.threads) tid }
-        requires room { length self.old.threads < 8 }
+        requires few { length self.old.threads < 8 }
         ensures { self.new ≡ cloned self.old tid child }
     {
         let regs = start_child(self.regs(tid));

@@ -15,7 +15,7 @@ fn byte_at(memory: &Memory, at: usize) -> Option<u8>
     Some(byte[0])
 }
 
-/// Reads the path at an address into the front of a buffer, and gives its length; nothing where it may not be read.
+/// Reads the path at an address into the beginning of a buffer, and gives its length; nothing where it may not be read.
 pub fn read_path(memory: &Memory, address: u32, out: &mut [u8]) -> Option<usize>
     ensures path { option_map (λ count. take count out.new) result ≡ path_at (length out.old) memory.now address }
     ensures inside { IfSome result (λ count. count ≤ length out.old) }

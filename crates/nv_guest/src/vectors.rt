@@ -29,7 +29,7 @@ pub fn vector_at(memory: &Memory, at: usize) -> Option<Part>
     })
 }
 
-// The front of at most so many bytes of what the vector at an address names, where it may be used.
+// The first bytes, at most so many, of what the vector at an address names, where it may be used.
 fn usable_at(memory: &Memory, right: Right, most: u32, at: usize) -> Option<Part>
     ensures part { result ≡ usable_at memory.now right most at }
     ensures few { IfSome result (λ part. part.size ≤ most) }
@@ -45,7 +45,7 @@ fn usable_at(memory: &Memory, right: Right, most: u32, at: usize) -> Option<Part
 }
 
 /// How many bytes may be written through this many vectors from an address on, at most so many; nothing where one may not.
-pub fn room_of(memory: &Memory, address: u32, count: u32, most: u32) -> Option<u32>
+pub fn capacity_of(memory: &Memory, address: u32, count: u32, most: u32) -> Option<u32>
     ensures { result ≡ option_map capacity (parts_at memory.now Write count most address) }
 {
     let mut left = most;
@@ -73,7 +73,7 @@ fn copy_part(memory: &Memory, part: Part, out: &mut [u8])
     out.copy_from_slice(bytes);
 }
 
-/// Reads what this many vectors from an address on name into the front of a buffer, as far as it goes, and gives how many bytes these are; nothing
+/// Reads what this many vectors from an address on name into the beginning of a buffer, as far as it goes, and gives how many bytes these are; nothing
 /// where one may not be read.
 pub fn gather(memory: &Memory, address: u32, count: u32, out: &mut [u8]) -> Option<usize>
     requires { length out.old < 2 ^ 32 }

@@ -11,7 +11,7 @@ use Rattle.nv_calls.specs.Numbers.{syscall_of, hands_in}
 use Rattle.nv_calls.specs.Shapes.{IsShaped}
 use Rattle.nv_calls.proofs.ShapeLaws.{shaped-few, shaped-empty}
 use Rattle.nv_calls.specs.Answers.{most_out_by}
-use Rattle.nv_kernel.specs.Rooms.{most_out}
+use Rattle.nv_kernel.specs.Reserved.{most_out}
 
 pub few_as : (k l : Syscall) (args : List ℕ) (n : ℕ) → k ≡ l → n ≤ most_out_by l args → n ≤ most_out_by k args
 few_as k l args n h p = subst (λ (z : Syscall). n ≤ most_out_by z args) (sym h) p

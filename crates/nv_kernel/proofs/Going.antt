@@ -41,7 +41,7 @@ pub not_made : (nr : ℕ) (r : ℤ) → (nr == 220) ≡ false → made nr r ≡ 
 not_made nr (pos n) h = ap (λ b. cond {A = Option ℕ} (b && not (n == 0)) (Some n) None) h
 not_made nr (negsuc n) h = refl
 
--- the reply to a call, and the console, by the state behind the calls before
+-- the reply to a call, and the console, by the state after the calls before
 pub reply_is : (setup : Setup) (log : List Entry) (c : Request) → (start_of_script setup).replies (calls_of log) c ≡ reply_of (serve (state_after (first_state setup) (calls_of log)) c)
 unfolding start_of_script
 reply_is setup log c = refl
@@ -50,7 +50,7 @@ pub output_is : (setup : Setup) (log : List Entry) → output_of (start_of_scrip
 unfolding start_of_script
 output_is setup log = refl
 
--- the state behind one more entry
+-- the state after one more entry
 pub log_more : (setup : Setup) (log : List Entry) (e : Entry) → state_after (first_state setup) (calls_of (log ++ e ∷ [])) ≡ (serve (state_after (first_state setup) (calls_of log)) e.call).state
 log_more setup log e = ap (state_after (first_state setup)) (map_more call_of log e) ∙ state_more (first_state setup) (calls_of log) e.call
 

@@ -2,49 +2,49 @@
 use Rattle.std.proofs.Common.{◌≡◌, ◌≢◌, ◌∙◌, sym, ap, subst, refl, ℕ, ◌<◌, List, [], ◌∷◌, ◌++◌, length, Option, Some, None, cond}
 use Rattle.std.specs.Prelude.{◌==◌, Contains, slice_index, ◌%◌}
 use Rattle.nv_calls.specs.Calls.{Request, Entry}
-use Rattle.nv_calls.specs.Logs.{Start, IsLawful, IsLegal, InRange, IsNew, made, served, child_of, live_after, live_next, ended_after}
-use Rattle.nv_calls.proofs.LogLaws.{lawful_more, legal_more, lawful_none, legal_none, live_more, arg_more}
+use Rattle.nv_calls.specs.Logs.{Start, IsLawful, IsLegal, InRange, IsNew, made, served, child_of, live_after, live_next, last_status, ended_after}
+use Rattle.nv_calls.proofs.LogLaws.{lawful_more, legal_more, lawful_none, legal_none, live_more, status_more}
 use Rattle.nv_kernel.specs.Crew.{Crew, IsCrew, first_crew}
 use Rattle.nv_kernel.proofs.CrewLaws.{first_is}
 use Rattle.nv_kernel.specs.Ends.{end_next}
-use Rattle.nv_kernel.specs.Kept.{Spare, IsKept}
+use Rattle.nv_kernel.specs.Kernel.{Spare, IsSound}
 
 pub kept_served : (start : Start) (log : List Entry) (c : Request) (len cap len' cap' : ℕ) (spare : Option Spare) (end : Option ℕ) (crew crew' : Crew)
-    → IsKept start log len cap spare end crew → Contains (live_after log) c.tid → length log < 131072 → InRange (served start log c)
+    → IsSound start log len cap spare end crew → Contains (live_after log) c.tid → length log < 131072 → InRange (served start log c)
     → IsNew crew.live (child_of (served start log c)) → crew'.live ≡ live_next crew.live (served start log c) → IsCrew crew'
-    → IsKept start (log ++ served start log c ∷ []) len' cap' None (end_next (length crew'.live == 0) c) crew'
+    → IsSound start (log ++ served start log c ∷ []) len' cap' None (end_next (length crew'.live == 0) c) crew'
 kept_served start log c len cap len' cap' spare end crew crew' k lives few range new next is =
     let e : Entry = served start log c in
     let live : live_after (log ++ e ∷ []) ≡ crew'.live = live_more log e ∙ ap (λ (z : List ℕ). live_next z e) k.live ∙ sym next in
     record {
       legal = legal_more start log c k.legal;
-      lawful = lawful_more log e k.lawful record { stamp = refl; room = few; lives = lives; new = subst (λ (z : List ℕ). IsNew z (child_of e)) (sym k.live) new; range = range };
-      room = λ h. absurd (h refl);
+      lawful = lawful_more log e k.lawful record { stamp = refl; few = few; lives = lives; new = subst (λ (z : List ℕ). IsNew z (child_of e)) (sym k.live) new; range = range };
+      reserved = λ h. absurd (h refl);
       live = live;
       crew_is = is;
-      end_is = ap (λ (z : ℕ). cond (length crew'.live == 0) (Some (z % 256)) None) (sym (arg_more log e)) ∙ ap (λ (z : List ℕ). cond (length z == 0) (Some (Rattle.nv_calls.specs.Logs.last_arg (log ++ e ∷ []) % 256)) None) (sym live);
+      end_is = ap (λ (z : ℕ). cond (length crew'.live == 0) (Some z) None) (sym (status_more log e)) ∙ ap (λ (z : List ℕ). cond (length z == 0) (Some (last_status (log ++ e ∷ []))) None) (sym live);
     }
 
-pub kept_room : (start : Start) (log log' : List Entry) (len cap len' cap' : ℕ) (spare spare' : Option Spare) (end : Option ℕ) (crew crew' : Crew)
-    → IsKept start log len cap spare end crew → log' ≡ log → crew' ≡ crew → (spare' ≢ None → len' < cap') → IsKept start log' len' cap' spare' end crew'
-kept_room start log log' len cap len' cap' spare spare' end crew crew' k h e l = record {
+pub kept_reserved : (start : Start) (log log' : List Entry) (len cap len' cap' : ℕ) (spare spare' : Option Spare) (end : Option ℕ) (crew crew' : Crew)
+    → IsSound start log len cap spare end crew → log' ≡ log → crew' ≡ crew → (spare' ≢ None → len' < cap') → IsSound start log' len' cap' spare' end crew'
+kept_reserved start log log' len cap len' cap' spare spare' end crew crew' k h e l = record {
   legal = subst (IsLegal start) (sym h) k.legal;
   lawful = subst IsLawful (sym h) k.lawful;
-  room = l;
+  reserved = l;
   live = ap live_after h ∙ k.live ∙ ap (λ (z : Crew). z.live) (sym e);
   crew_is = subst IsCrew (sym e) k.crew_is;
   end_is = k.end_is ∙ ap ended_after (sym h);
 }
 
 pub kept_none : (start : Start) (log log' : List Entry) (len cap len' cap' : ℕ) (spare : Option Spare) (end : Option ℕ) (crew crew' : Crew)
-    → IsKept start log len cap spare end crew → log' ≡ log → crew' ≡ crew → IsKept start log' len' cap' None end crew'
-kept_none start log log' len cap len' cap' spare end crew crew' k h e = kept_room start log log' len cap len' cap' spare None end crew crew' k h e (λ n. absurd (n refl))
+    → IsSound start log len cap spare end crew → log' ≡ log → crew' ≡ crew → IsSound start log' len' cap' None end crew'
+kept_none start log log' len cap len' cap' spare end crew crew' k h e = kept_reserved start log log' len cap len' cap' spare None end crew crew' k h e (λ n. absurd (n refl))
 
-pub kept_first : (start : Start) (len cap : ℕ) (crew : Crew) → crew ≡ first_crew → IsKept start [] len cap None None crew
+pub kept_first : (start : Start) (len cap : ℕ) (crew : Crew) → crew ≡ first_crew → IsSound start [] len cap None None crew
 kept_first start len cap crew e = record {
   legal = legal_none start;
   lawful = lawful_none;
-  room = λ h. absurd (h refl);
+  reserved = λ h. absurd (h refl);
   live = ap (λ (z : Crew). z.live) (sym e);
   crew_is = subst IsCrew (sym e) first_is;
   end_is = refl;

@@ -1,5 +1,5 @@
 pub mod Ends
 pub mod Serving
-pub mod Rooms
-pub mod Kept
+pub mod Reserved
+pub mod Kernel
 pub mod Crew

@@ -65,7 +65,7 @@ arg c i = slice_index c.args i
 unfoldable pub second : ℕ
 second = 1000000000
 
--- seconds, and the nanoseconds behind them, in 8 bytes each
+-- seconds, and the nanoseconds after them, in 8 bytes each
 unfoldable pub time_bytes : ℕ → List ℕ
 time_bytes nanos = to_le_bytes w64 (nanos / second) ++ to_le_bytes w64 (nanos % second)
 
@@ -81,12 +81,12 @@ next_random x = (x * 0x5851F42D4C957F2D + 0x14057B7EF767814F) % 2 ^ 64
 unfoldable pub high_byte : ℕ → ℕ
 high_byte x = x / 2 ^ 56
 
--- so many bytes behind a state
+-- so many bytes after a state
 abbrev pub randoms : ℕ → ℕ → List ℕ
 randoms zero x = []
 randoms (suc n) x = high_byte (next_random x) ∷ randoms n (next_random x)
 
--- the state behind so many bytes
+-- the state after so many bytes
 abbrev pub random_after : ℕ → ℕ → ℕ
 random_after zero x = x
 random_after (suc n) x = random_after n (next_random x)
@@ -146,7 +146,7 @@ serve s c = counted (unless_bad s c)
 
 -- ---- from call to call
 
--- the state behind a list of calls
+-- the state after a list of calls
 abbrev pub state_after : State → List Request → State
 state_after s [] = s
 state_after s (c ∷ cs) = state_after (serve s c).state cs

@@ -4,7 +4,7 @@ ghost use Rattle.nv_kernel.specs.Serving.{second, time_bytes};
 
 const SECOND: u128 = 1_000_000_000;
 
-/// What the clock shows after so many calls: the seconds and the nanoseconds behind them, in 8 bytes each.
+/// What the clock shows after so many calls: the seconds and the nanoseconds after them, in 8 bytes each.
 #[tactic(auto, unfolding(crate::specs::Serving::second, crate::specs::Serving::time_bytes))]
 pub fn time_bytes(start: u64, step: u32, served: u32) -> [u8; 16]
     ensures { result ≡ time_bytes (start + served * step) }

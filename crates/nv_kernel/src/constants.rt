@@ -2,6 +2,7 @@
 ghost use Rattle.std.specs.Prelude.{◌≡◌, ◌≤◌, [], ◌++◌, length, drop, option_map, pos};
 ghost use Rattle.nv_calls.specs.Calls.{request};
 ghost use Rattle.nv_calls.specs.Constants.{constant_by, constant_of, directory, field, names};
+ghost use Rattle.nv_calls.specs.Limits.{MOST_BYTES};
 
 use nv_calls::errors::{EFAULT, ERANGE};
 use nv_calls::{Bytes, Call, Syscall};
@@ -64,7 +65,7 @@ pub fn names(out: &mut Bytes) -> i32
 pub fn directory(size: u32, out: &mut Bytes) -> i32
     requires { 2 ≤ out.old.capacity }
     ensures reply { directory size ≡ record { ret = result; payload = out.new.bytes } }
-    ensures room { out.new.capacity ≡ out.old.capacity }
+    ensures capacity { out.new.capacity ≡ out.old.capacity }
 {
     if size < 2 {
         return only(ERANGE, out);
@@ -75,9 +76,9 @@ pub fn directory(size: u32, out: &mut Bytes) -> i32
 
 // The result that the call has in every state, with the bytes that it hands out.
 fn constant_as(syscall: Syscall, call: &Call, out: &mut Bytes) -> Option<i32>
-    requires { 4096 ≤ out.old.capacity }
+    requires { MOST_BYTES ≤ out.old.capacity }
     ensures reply { constant_by syscall (request call.now) ≡ option_map (λ ret. record { ret = ret; payload = out.new.bytes }) result }
-    ensures room { out.new.capacity ≡ out.old.capacity }
+    ensures capacity { out.new.capacity ≡ out.old.capacity }
 {
     match syscall {
         Syscall::Getcwd | Syscall::Uname if call.bad => Some(only(EFAULT, out)),
@@ -95,9 +96,9 @@ fn constant_as(syscall: Syscall, call: &Call, out: &mut Bytes) -> Option<i32>
 /// The reply of a call whose reply is the same in every state, with the bytes that it hands out.
 #[tactic(auto, unfolding(nv_calls::specs::Constants::constant_of))]
 pub fn constant(call: &Call, out: &mut Bytes) -> Option<i32>
-    requires { 4096 ≤ out.old.capacity }
+    requires { MOST_BYTES ≤ out.old.capacity }
     ensures reply { constant_of (request call.now) ≡ option_map (λ ret. record { ret = ret; payload = out.new.bytes }) result }
-    ensures room { out.new.capacity ≡ out.old.capacity }
+    ensures capacity { out.new.capacity ≡ out.old.capacity }
 {
     constant_as(Syscall::of(call.nr), call, out)
 }

@@ -1,7 +1,8 @@
 // The threads that live, as the kernel counts them.
 ghost use Rattle.std.specs.Prelude.{◌≡◌, ◌<◌, ◌≤◌, length, filter, ◌==◌, not};
+ghost use Rattle.nv_calls.specs.Limits.{MOST_EVENTS};
 ghost use Rattle.nv_kernel.specs.Crew.{may_clone, clone_of, exit_of, over, first_crew};
-ghost use Rattle.nv_kernel.specs.Rooms.{crew_of};
+ghost use Rattle.nv_kernel.specs.Reserved.{crew_of};
 
 use arrayvec::ArrayVec;
 use nv_calls::errors::{EAGAIN, EINVAL};
@@ -55,7 +56,7 @@ impl LiveThreads {
 
     /// clone(2) with these flags: the number of the new thread.
     pub fn make(&mut self, flags: u32) -> i32
-        requires { (crew_of self.old).clones < 131072 }
+        requires { (crew_of self.old).clones < MOST_EVENTS }
         ensures { clone_of (crew_of self.old) flags ≡ (result, crew_of self.new) }
     {
         if !may_clone(flags) {

@@ -2,13 +2,14 @@
 ghost use Rattle.std.specs.Prelude.{◌≡◌, ◌≤◌, ◌<◌, ◌+◌, ◌*◌, ◌^◌, pos, [], length, map, OnOk, IfOk};
 ghost use Rattle.nv_calls.specs.Answers.{most_out_by};
 ghost use Rattle.nv_calls.specs.Calls.{request};
+ghost use Rattle.nv_calls.specs.Limits.{MOST_EVENTS};
 ghost use Rattle.nv_script.specs.Views.{setup_of};
 ghost use Rattle.nv_fs.specs.Fetched.{read_of};
 ghost use Rattle.nv_fs.specs.Stored.{write_of};
-ghost use Rattle.nv_fs.specs.Rooms.{CanWrite};
+ghost use Rattle.nv_fs.specs.Reserved.{CanWrite};
 ghost use Rattle.nv_kernel.specs.Crew.{exit_of, over};
 ghost use Rattle.nv_kernel.specs.Serving.{of_files, of_crew, second, answered, serve, first_state, control, unless_many, unless_bad, clock, randomly};
-ghost use Rattle.nv_kernel.specs.Rooms.{state_of, can_answer, CanAnswer, most_out};
+ghost use Rattle.nv_kernel.specs.Reserved.{state_of, can_answer, CanAnswer, most_out};
 
 use crate::clock::{start_of, time_bytes};
 use crate::constants::{PARENT, PROCESS, USER, directory, names, only};
@@ -58,11 +59,11 @@ impl Devices {
         if self.files.has(fd) { ENOTTY } else { EBADF }
     }
 
-    // readv(2), of vectors with room for so many bytes together.
+    // readv(2), of vectors that hold so many bytes together.
     fn read_vectors(&mut self, fd: u32, count: u32, capacity: u32, out: &mut Bytes) -> i32
-        requires { 4096 ≤ out.old.capacity }
+        requires { MOST_BYTES ≤ out.old.capacity }
         ensures answer { unless_many (state_of self.old) count (of_files (state_of self.old) (read_of self.old.files.state fd capacity)) ≡ record { state = state_of self.new; ret = result; payload = out.new.bytes } }
-        ensures room { out.new.capacity ≡ out.old.capacity }
+        ensures capacity { out.new.capacity ≡ out.old.capacity }
     {
         if count > MOST_VECTORS {
             return only(EINVAL, out);
@@ -85,7 +86,7 @@ impl Devices {
     fn clock(&self, id: u32, out: &mut Bytes) -> i32
         requires { 16 ≤ out.old.capacity }
         ensures answer { clock (state_of self.now) id ≡ record { state = state_of self.now; ret = result; payload = out.new.bytes } }
-        ensures room { out.new.capacity ≡ out.old.capacity }
+        ensures capacity { out.new.capacity ≡ out.old.capacity }
         ensures few { length out.new.bytes ≤ 16 }
     {
         if id > 1 {
@@ -97,10 +98,10 @@ impl Devices {
 
     // getrandom(2).
     fn hand_out_random(&mut self, n: u32, out: &mut Bytes) -> i32
-        requires few { n ≤ 4096 }
-        requires room { 4096 ≤ out.old.capacity }
+        requires few { n ≤ MOST_BYTES }
+        requires capacity { MOST_BYTES ≤ out.old.capacity }
         ensures answer { randomly (state_of self.old) n ≡ record { state = state_of self.new; ret = result; payload = out.new.bytes } }
-        ensures room { out.new.capacity ≡ out.old.capacity }
+        ensures capacity { out.new.capacity ≡ out.old.capacity }
         ensures few { length out.new.bytes ≡ n }
     {
         let mut bytes = [0; MOST_BYTES as usize];
@@ -129,11 +130,11 @@ impl Devices {
     // What the call answers, where all that it reads and writes is the guest's.
     fn answer_as(&mut self, syscall: Syscall, call: &Call, out: &mut Bytes) -> i32
         requires ready { can_answer syscall self.old.files (request call.now) }
-        requires room { 4096 ≤ out.old.capacity }
+        requires capacity { MOST_BYTES ≤ out.old.capacity }
         requires empty { out.old.bytes ≡ [] }
-        requires clones { (state_of self.old).crew.clones < 131072 }
+        requires clones { (state_of self.old).crew.clones < MOST_EVENTS }
         ensures answer { answered syscall (state_of self.old) (request call.now) ≡ record { state = state_of self.new; ret = result; payload = out.new.bytes } }
-        ensures room { out.new.capacity ≡ out.old.capacity }
+        ensures capacity { out.new.capacity ≡ out.old.capacity }
         ensures few { length out.new.bytes ≤ most_out_by syscall (request call.now).args }
     {
         let args = call.args;
@@ -167,10 +168,10 @@ impl Devices {
 
     fn answer_unless_bad(&mut self, call: &Call, out: &mut Bytes) -> i32
         requires ready { CanAnswer self.old.files (request call.now) }
-        requires room { 4096 ≤ out.old.capacity }
-        requires clones { (state_of self.old).crew.clones < 131072 }
+        requires capacity { MOST_BYTES ≤ out.old.capacity }
+        requires clones { (state_of self.old).crew.clones < MOST_EVENTS }
         ensures answer { unless_bad (state_of self.old) (request call.now) ≡ record { state = state_of self.new; ret = result; payload = out.new.bytes } }
-        ensures room { out.new.capacity ≡ out.old.capacity }
+        ensures capacity { out.new.capacity ≡ out.old.capacity }
         ensures few { length out.new.bytes ≤ most_out (request call.now) }
     {
         out.set(&[]);
@@ -184,11 +185,11 @@ impl Devices {
     #[tactic(auto, unfolding(crate::specs::Serving::serve))]
     pub fn answer(&mut self, call: &Call, out: &mut Bytes) -> i32
         requires ready { CanAnswer self.old.files (request call.now) }
-        requires few { self.old.served < 131072 }
-        requires room { 4096 ≤ out.old.capacity }
-        requires clones { (state_of self.old).crew.clones < 131072 }
+        requires few { self.old.served < MOST_EVENTS }
+        requires capacity { MOST_BYTES ≤ out.old.capacity }
+        requires clones { (state_of self.old).crew.clones < MOST_EVENTS }
         ensures answer { serve (state_of self.old) (request call.now) ≡ record { state = state_of self.new; ret = result; payload = out.new.bytes } }
-        ensures room { out.new.capacity ≡ out.old.capacity }
+        ensures capacity { out.new.capacity ≡ out.old.capacity }
         ensures few { length out.new.bytes ≤ most_out (request call.now) }
     {
         let ret = self.answer_unless_bad(call, out);
@@ -197,7 +198,7 @@ impl Devices {
     }
 
     fn reserve_as(&mut self, syscall: Syscall, call: &Call) -> Result<(), AllocError>
-        requires few { length call.now.payload.bytes ≤ 4096 }
+        requires few { length call.now.payload.bytes ≤ MOST_BYTES }
         ensures state { state_of self.new ≡ state_of self.old }
         ensures ready { OnOk result (can_answer syscall self.new.files (request call.now)) }
     {
@@ -217,7 +218,7 @@ impl Devices {
 
     /// Memory for what the call leaves.
     pub fn reserve(&mut self, call: &Call) -> Result<(), AllocError>
-        requires few { length call.now.payload.bytes ≤ 4096 }
+        requires few { length call.now.payload.bytes ≤ MOST_BYTES }
         ensures state { state_of self.new ≡ state_of self.old }
         ensures ready { OnOk result (CanAnswer self.new.files (request call.now)) }
     {

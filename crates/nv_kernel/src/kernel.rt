@@ -29,15 +29,15 @@ impl Model for ScriptKernel {
     ghost use Rattle.nv_calls.specs.Calls.{entry};
     ghost use Rattle.nv_calls.specs.Logs.{calls_of};
     ghost use Rattle.nv_script.specs.Views.{setup_of};
-    ghost use Rattle.nv_kernel.specs.Kept.{Kept, IsKept, room_of};
-    ghost use Rattle.nv_kernel.specs.Rooms.{state_of, crew_of};
+    ghost use Rattle.nv_kernel.specs.Kernel.{KernelState, IsSound, spare_of};
+    ghost use Rattle.nv_kernel.specs.Reserved.{state_of, crew_of};
     ghost use Rattle.nv_kernel.specs.Serving.{start_of_script, first_state, state_after};
 
-    ghost Value = { Kept };
+    ghost Value = { KernelState };
 
-    ghost view = { λ k. record { log = map entry k.log.items; setup = setup_of k.script.value; spare = option_map room_of k.spare; disk = k.devices.files } };
+    ghost view = { λ k. record { log = map entry k.log.items; setup = setup_of k.script.value; spare = option_map spare_of k.spare; disk = k.devices.files } };
 
-    ghost invariant = { λ k. IsKept (start_of_script (setup_of k.script.value)) (map entry k.log.items) (vec_len k.log) (vec_capacity k.log) (option_map room_of k.spare) k.end (crew_of k.devices.threads)
+    ghost invariant = { λ k. IsSound (start_of_script (setup_of k.script.value)) (map entry k.log.items) (vec_len k.log) (vec_capacity k.log) (option_map spare_of k.spare) k.end (crew_of k.devices.threads)
         × (state_of k.devices ≡ state_after (first_state (setup_of k.script.value)) (calls_of (map entry k.log.items)))
         × (k.out.capacity ≡ 4096) };
 }
@@ -63,7 +63,7 @@ impl ScriptKernel {
 }
 
 impl SyscallKernel for ScriptKernel {
-    ghost use Rattle.nv_kernel.specs.Kept.{CanServe};
+    ghost use Rattle.nv_kernel.specs.Kernel.{CanServe};
     ghost use Rattle.nv_kernel.specs.Serving.{start_of_script};
 
     ghost log = { λ k. k.log };

@@ -20,7 +20,7 @@ fn high_byte(state: u64) -> u8
     (state >> 56) as u8
 }
 
-/// Fills the bytes, and tells the state behind them.
+/// Fills the bytes, and tells the state after them.
 pub fn fill_random(state: u64, bytes: &mut [u8]) -> u64
     ensures bytes { bytes.new ≡ randoms (length bytes.old) state }
     ensures state { result ≡ random_after (length bytes.old) state }

@@ -4,16 +4,17 @@ ghost use mathlib.Core.Option.{some};
 ghost use lib.ListN.{get_elem?};
 ghost use Rattle.nv_calls.specs.Calls.{request, entry};
 ghost use Rattle.nv_calls.specs.Logs.{InRange};
+ghost use Rattle.nv_calls.specs.Limits.{MOST_BYTES};
 ghost use Rattle.nv_kernel.specs.Ends.{end_next};
-ghost use Rattle.nv_kernel.specs.Kept.{HasRoom, room_of};
+ghost use Rattle.nv_kernel.specs.Kernel.{CanHold, spare_of};
 
 use nv_calls::{Bytes, Call, Event, Reply, Syscall};
 use std::alloc::{AllocError, Global};
 
 /// Memory for the event of a call: its payload, and the most that it hands out.
 pub fn blank(alloc: Global, call: &Call) -> Result<Event, AllocError>
-    requires { length call.now.payload.bytes ≤ 4096 }
-    ensures { IfOk result (λ e. HasRoom (Some (room_of e)) (request call.now)) }
+    requires { length call.now.payload.bytes ≤ MOST_BYTES }
+    ensures { IfOk result (λ e. CanHold (Some (spare_of e)) (request call.now)) }
 {
     let handed_in = Bytes::make(alloc, call.payload.as_slice().len() as u32)?;
     let handed_out = Bytes::make(alloc, Syscall::of(call.nr).most_out(&call.args))?;
@@ -37,7 +38,7 @@ pub fn blank(alloc: Global, call: &Call) -> Result<Event, AllocError>
 pub fn fill(event: &mut Event, call: &Call, stamp: u32, ret: i32, out: &Bytes)
     requires handed_in { length call.now.payload.bytes ≤ event.old.call.payload.capacity }
     requires handed_out { length out.now.bytes ≤ event.old.reply.payload.capacity }
-    requires few { length call.now.payload.bytes + length out.now.bytes ≤ 4096 }
+    requires few { length call.now.payload.bytes + length out.now.bytes ≤ MOST_BYTES }
     ensures entry { entry event.new ≡ record { stamp = stamp; call = request call.now; reply = record { ret = ret; payload = out.now.bytes } } }
     ensures range { InRange (entry event.new) }
 {
@@ -68,13 +69,13 @@ pub fn next_end(over: bool, call: &Call) -> Option<u8>
     ensures { result ≡ end_next over (request call.now) }
 {
     if over {
-        Some((call.args[0] % 256) as u8)
+        Some(call.status())
     } else {
         None
     }
 }
 
-/// One more event, for which there is room.
+/// One more event, for which memory is reserved.
 pub fn keep(log: &mut Vec<Event>, event: Event)
     requires { vec_len log.old < vec_capacity log.old }
     ensures { log.new.items ≡ log.old.items ++ event ∷ [] }

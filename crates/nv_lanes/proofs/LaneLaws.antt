@@ -165,26 +165,26 @@ lanes_apart log c a b lt near within same e =
     (ap (λ (k : ℕ). events_in k (take a (lanes_of log)) % c) (sym same) ∙ e)
 
 -- a longer log moves no event
-front_same : (log more : List Entry) (i : ℕ) → i ≤ length log → take i (lanes_of (log ++ more)) ≡ take i (lanes_of log)
-front_same log more i h = sym (lanes_take (log ++ more) i) ∙ ap lanes_of (take-append-le i log more h) ∙ lanes_take log i
+prefix_same : (log more : List Entry) (i : ℕ) → i ≤ length log → take i (lanes_of (log ++ more)) ≡ take i (lanes_of log)
+prefix_same log more i h = sym (lanes_take (log ++ more) i) ∙ ap lanes_of (take-append-le i log more h) ∙ lanes_take log i
 
 pub lane_at_stays : (log more : List Entry) (i : ℕ) → i < length log → lane_at (log ++ more) i ≡ lane_at log i
 lane_at_stays log more i h =
     sym (get_or-take (length log) (lanes_of (log ++ more)) i 0 h)
-    ∙ ap (λ (z : List ℕ). get_or z i 0) (front_same log more (length log) (le_refl (length log)))
+    ∙ ap (λ (z : List ℕ). get_or z i 0) (prefix_same log more (length log) (le_refl (length log)))
     ∙ get_or-take (length log) (lanes_of log) i 0 h
 
 pub earlier_at_stays : (log more : List Entry) (i : ℕ) → i < length log → earlier_at (log ++ more) i ≡ earlier_at log i
-earlier_at_stays log more i h = λ k. events_in (lane_at_stays log more i h k) (front_same log more i (le_of_lt h) k)
+earlier_at_stays log more i h = λ k. events_in (lane_at_stays log more i h k) (prefix_same log more i (le_of_lt h) k)
 
--- an event behind a log
+-- an event after a log
 pub lane_at_last : (log : List Entry) (e : Entry) → lane_at (log ++ e ∷ []) (length log) ≡ lane_in (holders_after log) e.call.tid
 lane_at_last log e =
     ap (λ (z : List ℕ). get_or z (length log) 0) (lanes_push log e)
     ∙ get_or_push (lanes_of log) (lane_in (holders_after log) e.call.tid) 0 (length log) (lanes_length log)
 
 pub earlier_at_last : (log : List Entry) (e : Entry) → earlier_at (log ++ e ∷ []) (length log) ≡ events_in (lane_in (holders_after log) e.call.tid) (lanes_of log)
-earlier_at_last log e = λ k. events_in (lane_at_last log e k) ((front_same log (e ∷ []) (length log) (le_refl (length log)) ∙ ap (λ (n : ℕ). take n (lanes_of log)) (sym (lanes_length log)) ∙ take-length (lanes_of log)) k)
+earlier_at_last log e = λ k. events_in (lane_at_last log e k) ((prefix_same log (e ∷ []) (length log) (le_refl (length log)) ∙ ap (λ (n : ℕ). take n (lanes_of log)) (sym (lanes_length log)) ∙ take-length (lanes_of log)) k)
 
 holders_push_from : (holders : Holders) (log : List Entry) (e : Entry) → holders_from holders (log ++ e ∷ []) ≡ holders_next (holders_from holders log) e
 holders_push_from holders [] e = refl

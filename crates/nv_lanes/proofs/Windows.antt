@@ -1,4 +1,4 @@
--- Counting what passes a test in the front of a list.
+-- Counting what passes a test in the beginning of a list.
 use Rattle.std.proofs.Common.{◌≡◌, ℕ, ◌+◌, ◌-◌, ◌%◌, ◌<◌, ◌≤◌, ◌≢◌, Bool, true, List, ◌++◌, length, take, drop, get_or, ap, arith, length-take}
 use Rattle.std.specs.Prelude.{count_by, cond}
 use Rattle.std.proofs.Math.Seq.{take-add}

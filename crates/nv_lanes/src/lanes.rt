@@ -1,6 +1,7 @@
 //! The lanes, as far as a log tells.
 ghost use Rattle.std.specs.Prelude.{◌≡◌, ◌+◌, ◌<◌, ◌≤◌, length, IfSome, Some, None, sum, slice_index};
 ghost use Rattle.nv_calls.specs.Calls.{entry};
+ghost use Rattle.nv_calls.specs.Limits.{MOST_EVENTS};
 ghost use Rattle.nv_lanes.specs.Lanes.{is_of, lane_of, free_lane, lane_in, noted, noted_by, start, lives, with_holder, with_child};
 
 use nv_calls::{EXIT, Event, FIRST_THREAD, MOST_THREADS, made};
@@ -66,7 +67,7 @@ impl Lanes {
 
     /// One more event of the log.
     pub fn note(&mut self, event: &Event)
-        requires few { sum self.old.counts < 131072 }
+        requires few { sum self.old.counts < MOST_EVENTS }
         ensures is { self.new ≡ noted self.old (entry event.now) }
         ensures count { sum self.new.counts ≡ sum self.old.counts + 1 }
     {
@@ -76,7 +77,7 @@ impl Lanes {
     /// One more event of the log, by its thread, its number and its result.
     #[tactic(auto, unfolding(crate::specs::Lanes::noted_by, crate::specs::Lanes::holders_by))]
     pub fn note_call(&mut self, tid: u32, nr: u32, ret: i32)
-        requires few { sum self.old.counts < 131072 }
+        requires few { sum self.old.counts < MOST_EVENTS }
         ensures is { self.new ≡ noted_by self.old tid nr ret }
         ensures count { sum self.new.counts ≡ sum self.old.counts + 1 }
     {

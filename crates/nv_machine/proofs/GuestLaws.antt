@@ -10,7 +10,7 @@ use Rattle.nv_memory.specs.declared.region.Width.TheVariants.{Four}
 use Rattle.nv_memory.specs.declared.region.Right.TheVariants.{Read, Write, Execute}
 use Rattle.nv_memory.specs.Bytes.{byte_count}
 use Rattle.nv_memory.specs.Regions.{holds}
-use Rattle.nv_memory.specs.Image.{loaded}
+use Rattle.nv_memory.specs.Image.{value_at}
 use Rattle.nv_machine.specs.declared.outcome.Stepped.{Stepped}
 use Rattle.nv_machine.specs.declared.outcome.Stepped.TheVariants.{On}
 use Rattle.nv_machine.specs.declared.outcome.Stepped.TheVariants as ends
@@ -54,7 +54,7 @@ compares_rest : (o : Op) (i : Insn) (m : Machine) → Rests (with_memory m.memor
 compares_rest o i m = with_memory_rests m _ (branches_rest (is_taken o (register m.regs i.rs1) (register m.regs i.rs2)) (sum m.regs.pc (immediate_word i)) m.regs)
 
 loads_rest : (o : Op) (i : Insn) (m : Machine) → Rests (with_memory m.memory (loads o i m.regs m.memory)) m
-loads_rest o i m = with_memory_rests m _ (loaded_rest i.rd (loaded m.memory (sum (register m.regs i.rs1) (immediate_word i)) (width_of o) Read) (extended o) m.regs)
+loads_rest o i m = with_memory_rests m _ (loaded_rest i.rd (value_at m.memory (sum (register m.regs i.rs1) (immediate_word i)) (width_of o) Read) (extended o) m.regs)
 
 stored_or_not : (b : Bool) (x m : Machine) → Rests (if b then (ends.On, x) else fault kinds.Store m) m
 stored_or_not true x m = λ n. absurd (n refl)
@@ -129,4 +129,4 @@ fetched_rests (Err e) m = λ n. refl
 -- what ends in no `On` has changed nothing
 pub step_rests : (m : Machine) → (guest_step m).0 ≢ On → (guest_step m).1 ≡ m
 unfolding guest_step
-step_rests m = fetched_rests (loaded m.memory m.regs.pc Four Execute) m
+step_rests m = fetched_rests (value_at m.memory m.regs.pc Four Execute) m

@@ -14,7 +14,7 @@ use Rattle.nv_memory.specs.declared.region.Width.TheVariants.{One, Two, Four}
 use Rattle.nv_memory.specs.declared.region.Right.TheVariants.{Read, Write, Execute}
 use Rattle.nv_memory.specs.Bytes.{bytes_at, little, put, little_bytes, byte_count}
 use Rattle.nv_memory.specs.Regions.{holds}
-use Rattle.nv_memory.specs.Image.{Image, loaded}
+use Rattle.nv_memory.specs.Image.{Image, value_at}
 use Rattle.nv_machine.specs.declared.outcome.FaultKind.{FaultKind}
 use Rattle.nv_machine.specs.declared.outcome.FaultKind.TheVariants as kinds
 use Rattle.nv_machine.specs.declared.outcome.Stepped.{Stepped}
@@ -86,7 +86,7 @@ extended _ v = v
 
 -- a load, from rs1 and the immediate
 abbrev pub loads : Op → Insn → Registers → Image → Stepped × Registers
-loads o i r memory = gets_loaded i.rd (loaded memory (sum (register r i.rs1) (immediate_word i)) (width_of o) Read) (extended o) r
+loads o i r memory = gets_loaded i.rd (value_at memory (sum (register r i.rs1) (immediate_word i)) (width_of o) Read) (extended o) r
 
 -- a store, at rs1 and the immediate
 abbrev pub stores : Op → Insn → Machine → StepResult
@@ -215,4 +215,4 @@ fetched (Err e) m = fault kinds.Fetch m
 
 -- what a step does
 unfoldable pub guest_step : Machine → StepResult
-guest_step m = fetched (loaded m.memory m.regs.pc Four Execute) m
+guest_step m = fetched (value_at m.memory m.regs.pc Four Execute) m

@@ -62,7 +62,7 @@ fn regions_without_addresses(rt: HostRuntime) -> Result<(), Fail> {
 
 // An end may pass a region that covers no address.
 #[test]
-fn end_behind_an_empty_region(rt: HostRuntime) -> Result<(), Fail> {
+fn end_after_an_empty_region(rt: HostRuntime) -> Result<(), Fail> {
     let mut memory = Memory::make(rt.alloc(), 64, vec![in rt.alloc(); WHOLE, EMPTY]?)?;
     memory.fill(16, &[1, 2, 3, 4, 5, 6, 7, 8]);
     memory.resize(0, 40);

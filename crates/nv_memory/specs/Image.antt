@@ -18,8 +18,8 @@ abbrev pub allowed : Image → ℕ → ℕ → Right → Result (Unit {0}) Acces
 allowed memory address n right = if holds memory.regions address n right then Ok tt else Err (record { 0 = address })
 
 -- the number at the address, or the refusal
-abbrev pub loaded : Image → ℕ → Width → Right → Result ℕ Access
-loaded memory address width right = if holds memory.regions address (byte_count width) right then Ok (little (bytes_at memory.bytes address (byte_count width))) else Err (record { 0 = address })
+abbrev pub value_at : Image → ℕ → Width → Right → Result ℕ Access
+value_at memory address width right = if holds memory.regions address (byte_count width) right then Ok (little (bytes_at memory.bytes address (byte_count width))) else Err (record { 0 = address })
 
 -- the memory after bytes are stored; a refusal changes nothing
 abbrev pub stored : Image → ℕ → List ℕ → Image

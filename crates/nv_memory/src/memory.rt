@@ -3,7 +3,7 @@ ghost use Rattle.std.specs.Prelude.{◌≡◌, ℕ, ◌+◌, ◌<◌, ◌≤◌,
 ghost use Rattle.std.specs.List.{list_any};
 ghost use Rattle.nv_memory.specs.Bytes.{bytes_at, put, little_bytes, byte_count};
 ghost use Rattle.nv_memory.specs.Regions.{holds, AreRegions, has_range, set_end, start_of, end_of};
-ghost use Rattle.nv_memory.specs.Image.{loaded, allowed, stored, copied, cut};
+ghost use Rattle.nv_memory.specs.Image.{value_at, allowed, stored, copied, cut};
 
 use crate::bytes::{clear, count, part, read, read_all, write, write_all};
 use crate::ranges::{end_at, is_held, move_end};
@@ -49,21 +49,21 @@ impl Memory {
 
     /// The number at the address, in little-endian order and with zeros above.
     pub fn load(&self, address: u32, width: Width) -> Result<u32, Access>
-        ensures { result ≡ loaded self.now address width Right.Read }
+        ensures { result ≡ value_at self.now address width Right.Read }
     {
         self.read_with(address, width, Right::Read)
     }
 
     /// The four bytes of an instruction, in little-endian order.
     pub fn fetch(&self, address: u32) -> Result<u32, Access>
-        ensures { result ≡ loaded self.now address Width.Four Right.Execute }
+        ensures { result ≡ value_at self.now address Width.Four Right.Execute }
     {
         self.read_with(address, Width::Four, Right::Execute)
     }
 
     #[tactic(auto, using(crate::proofs::Bounds::held_is_inside))]
     fn read_with(&self, address: u32, width: Width, right: Right) -> Result<u32, Access>
-        ensures { result ≡ loaded self.now address width right }
+        ensures { result ≡ value_at self.now address width right }
     {
         if is_held(&self.regions, address, count(width), right) {
             Ok(read(&self.bytes, address as usize, width))

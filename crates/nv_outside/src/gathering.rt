@@ -61,10 +61,10 @@ impl<S: Sink> Gathering<S> {
     ghost use Rattle.nv_outside.specs.Told.{Grows};
     ghost use Rattle.nv_outside.specs.Counts.{Rose};
 
-    // One write of what is held back, which makes room where it takes any.
-    fn make_room(&mut self) -> Put
+    // One write of what is held back, so that more can be held where it takes any.
+    fn pass_on(&mut self) -> Put
         requires { length self.old.held.items ≡ HELD }
-        ensures room { result ≡ Put.Whole → length self.new.held.items < HELD }
+        ensures below { result ≡ Put.Whole → length self.new.held.items < HELD }
         ensures whole { result ≡ Put.Whole → Grows (with_held (S.told self.old.sink) self.old.held.items) [] (with_held (S.told self.new.sink) self.new.held.items) }
         ensures failed { result ≡ Put.Failed → with_held (S.told self.new.sink) self.new.held.items ≡ with_held (S.told self.old.sink) self.old.held.items }
         ensures rose { result ≡ Put.Failed → Rose (S.faults self.old.sink) (S.faults self.new.sink) }
@@ -89,7 +89,7 @@ impl<S: Sink> Sink for Gathering<S> {
 
     fn write(&mut self, piece: &[u8]) -> Wrote {
         if self.held.is_full() {
-            match self.make_room() {
+            match self.pass_on() {
                 Put::Whole => {}
                 Put::Failed => return Wrote::Failed,
             }

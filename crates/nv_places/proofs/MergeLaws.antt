@@ -56,25 +56,25 @@ one_hit c second log writing seen l m pos stamps more a b x y p q = probe_hits c
 
 -- the next event's lane has the reader's count
 pub next_found : (c : ℕ) (second : ℕ → ℕ → ℕ) (log seen : Log) → take (length seen) log ≡ seen → IsStamped c second log (length seen) → found c second seen (lane log (length seen)) ≡ length seen
-next_found c second log seen front stands =
+next_found c second log seen prefix stands =
     let i : ℕ = length seen in
     let l : ℕ = lane log i in
-    let count : earlier log i ≡ get_or (lanes_after seen).counts l 0 = earlier_was_count log i ∙ ap (λ (z : Log). get_or (lanes_after z).counts l 0) front in
+    let count : earlier log i ≡ get_or (lanes_after seen).counts l 0 = earlier_was_count log i ∙ ap (λ (z : Log). get_or (lanes_after z).counts l 0) prefix in
     ap (λ (k : ℕ). low (second l (k % c))) (sym count) ∙ stands
 
 -- so another lane is no loss
 pub probe_misses : (c : ℕ) (second : ℕ → ℕ → ℕ) (log seen : Log) (l : ℕ) → take (length seen) log ≡ seen → IsStamped c second log (length seen) → found c second seen l ≢ length seen → l ≢ lane log (length seen)
-probe_misses c second log seen l front stands other same = other (ap (found c second seen) same ∙ next_found c second log seen front stands)
+probe_misses c second log seen l prefix stands other same = other (ap (found c second seen) same ∙ next_found c second log seen prefix stands)
 
 -- and that lane lives: where all that live were probed in vain there is no next event
 pub next_lives : (log seen : Log) → IsLawful (entries log) → take (length seen) log ≡ seen → length seen < length log → Lives seen (lane log (length seen))
-next_lives log seen lawful front more =
+next_lives log seen lawful prefix more =
     let i : ℕ = length seen in
     let e = there log i more in
     let living = lane_lives (entries log) i (event_of e.0) lawful (at_map event_of log i e.0 e.1) in
-    let same : taken_after (take i (entries log)) ≡ lanes_after seen = ap taken_after (take-map event_of i log) ∙ ap lanes_after front in
+    let same : taken_after (take i (entries log)) ≡ lanes_after seen = ap taken_after (take-map event_of i log) ∙ ap lanes_after prefix in
     ap (λ s. lives s (lane log i)) (sym same) ∙ living
 
 pub none_missed : (c : ℕ) (second : ℕ → ℕ → ℕ) (log seen : Log) → IsLawful (entries log) → take (length seen) log ≡ seen → IsStamped c second log (length seen) → length seen < length log
     → ((l : ℕ) → l < 8 → Lives seen l → found c second seen l ≢ length seen) → ⊥
-none_missed c second log seen lawful front stands more missed = missed (lane log (length seen)) (lane_below_8 log (length seen)) (next_lives log seen lawful front more) (next_found c second log seen front stands)
+none_missed c second log seen lawful prefix stands more missed = missed (lane log (length seen)) (lane_below_8 log (length seen)) (next_lives log seen lawful prefix more) (next_found c second log seen prefix stands)

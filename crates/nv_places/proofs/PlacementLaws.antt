@@ -46,9 +46,9 @@ slot_late n c l k j = let x : ℕ = l * c + k in let q : 8 * (n + 2) ≤ x * 6 +
 
 -- The words of the pool
 
-pub pool_behind : (n c first j : ℕ) → 8 * c * 6 + header n ≤ pool_word n c first j
+pub pool_after : (n c first j : ℕ) → 8 * c * 6 + header n ≤ pool_word n c first j
 unfolding pool_word
-pool_behind n c first j = let r : ℕ = (64 * first + (j - 6)) % (64 * pool_chunks c) in let y : ℕ = 8 * c * 6 + header n in let q : y ≤ r + y = omega arith in q
+pool_after n c first j = let r : ℕ = (64 * first + (j - 6)) % (64 * pool_chunks c) in let y : ℕ = 8 * c * 6 + header n in let q : y ≤ r + y = omega arith in q
 
 pool_inside : (n c first j : ℕ) → pool_word n c first j < table_words n c
 unfolding pool_word table_words
@@ -151,8 +151,8 @@ table_holds_places n c = let a : ℕ = 8 * c * 6 in let q : a + (8 * (n + 2)) �
 early_below : (n c : ℕ) (log : Log) (i j : ℕ) → 0 < c → j < 6 → place_of n c log i j < 8 * c * 6 + header n
 early_below n c log i j pos l = let e = place_early n c log i j l in let b = slot_below n c (lane log i) (earlier log i % c) j (lane_below_8 log i) (mod-lt (earlier log i) pos) l in omega arith
 
-late_behind : (n c : ℕ) (log : Log) (i j : ℕ) → 6 ≤ j → 8 * c * 6 + header n ≤ place_of n c log i j
-late_behind n c log i j l = let e = place_late n c log i j l in let b = pool_behind n c (chunks_before log i % pool_chunks c) j in omega arith
+late_after : (n c : ℕ) (log : Log) (i j : ℕ) → 6 ≤ j → 8 * c * 6 + header n ≤ place_of n c log i j
+late_after n c log i j l = let e = place_late n c log i j l in let b = pool_after n c (chunks_before log i % pool_chunks c) j in omega arith
 
 -- it stands in the table
 pub place_inside : (n c : ℕ) (log : Log) (i j : ℕ) → 0 < c → place_of n c log i j < table_words n c
@@ -161,9 +161,9 @@ place_inside n c log i j pos = dite (dec_le 6 j)
     (λ g. let b = early_below n c log i j pos (lt_of_not-le g) in let t = table_holds_places n c in omega arith)
 
 -- and after the owner, the head and the cursors
-pub place_behind : (n c : ℕ) (log : Log) (i j k : ℕ) → k < header n → place_of n c log i j ≢ k
-place_behind n c log i j k l e = dite (dec_le 6 j)
-    (λ s. let b = late_behind n c log i j s in let a : ℕ = 8 * c * 6 in let b' : a + header n ≤ place_of n c log i j = b in omega arith)
+pub place_after : (n c : ℕ) (log : Log) (i j k : ℕ) → k < header n → place_of n c log i j ≢ k
+place_after n c log i j k l e = dite (dec_le 6 j)
+    (λ s. let b = late_after n c log i j s in let a : ℕ = 8 * c * 6 in let b' : a + header n ≤ place_of n c log i j = b in omega arith)
     (λ g. let q = place_early n c log i j (lt_of_not-le g) in let b = slot_late n c (lane log i) (earlier log i % c) j in omega arith)
 
 pub header_inside : (n c k : ℕ) → k < header n → k < table_words n c
@@ -182,7 +182,7 @@ place_begun n c log e f j pos =
     λ k. spot n c (lane_begun log e f pos k) (earlier_begun log e f pos k % c) (before k % pool_chunks c) j
 
 early_late : (n c : ℕ) (log log' : Log) (i h j w : ℕ) → 0 < c → j < 6 → 6 ≤ w → place_of n c log i j ≢ place_of n c log' h w
-early_late n c log log' i h j w pos a b e = let x = early_below n c log i j pos a in let y = late_behind n c log' h w b in let z : ℕ = 8 * c * 6 + header n in let x' : place_of n c log i j < z = x in let y' : z ≤ place_of n c log' h w = y in omega arith
+early_late n c log log' i h j w pos a b e = let x = early_below n c log i j pos a in let y = late_after n c log' h w b in let z : ℕ = 8 * c * 6 + header n in let x' : place_of n c log i j < z = x in let y' : z ≤ place_of n c log' h w = y in omega arith
 
 late_less : (n c : ℕ) (log : Log) (i j w : ℕ) → 6 ≤ j → j < w → w < 518 → place_of n c log i j ≢ place_of n c log i w
 late_less n c log i j w six lt b e =
@@ -247,33 +247,33 @@ places_apart n c log d e f i j w from at fits jl wl q =
 pub events_apart : (n c : ℕ) (log : Log) (d e : List ℕ) (f i h j w : ℕ) → f ≤ i → i < h → get_elem? log i ≡ some d → get_elem? log h ≡ some e → length log ≤ f + c → chunks_from log f ≤ pool_chunks c → j < length d → w < length e
     → place_of n c log i j ≢ place_of n c log h w
 events_apart n c log d e f i h j w from lt at_i at_h window few jl wl q =
-    let front : Log = take h log in
+    let prefix : Log = take h log in
     let rest : Log = drop (suc h) log in
     let below : h < length log = (at_get log h e e at_h).0 in
-    let len : length front ≡ h = length-take-le h log (omega arith) in
-    let one : take (suc h) log ≡ front ++ e ∷ [] = take_one_more log h e at_h in
-    let whole : (front ++ e ∷ []) ++ rest ≡ log = ap (λ z. z ++ rest) (sym one) ∙ take-append-drop (suc h) log in
-    let whole' : front ++ drop h log ≡ log = take-append-drop h log in
-    let early : place_of n c log i j ≡ place_of n c front i j = ap (λ z. place_of n c z i j) (sym whole') ∙ place_stays n c front (drop h log) i j (omega arith) in
-    let late : place_of n c log h w ≡ place_of n c (front ++ e ∷ []) (length front) w = ap (λ z. place_of n c z h w) (sym whole) ∙ place_stays n c (front ++ e ∷ []) rest h w (let a = length-append front (e ∷ []) in omega arith) ∙ ap (λ k. place_of n c (front ++ e ∷ []) k w) (sym len) in
-    let at_front : get_elem? front i ≡ some d = get_take log h i lt ∙ at_i in
-    let s : (k : ℕ) → k ≤ h → chunks_before log k ≡ chunks_before front k = λ k l. ap (λ z. chunks_before z k) (sym whole') ∙ before_stays front (drop h log) k (omega arith) in
-    let fits : Fits c front e f = record {
+    let len : length prefix ≡ h = length-take-le h log (omega arith) in
+    let one : take (suc h) log ≡ prefix ++ e ∷ [] = take_one_more log h e at_h in
+    let whole : (prefix ++ e ∷ []) ++ rest ≡ log = ap (λ z. z ++ rest) (sym one) ∙ take-append-drop (suc h) log in
+    let whole' : prefix ++ drop h log ≡ log = take-append-drop h log in
+    let early : place_of n c log i j ≡ place_of n c prefix i j = ap (λ z. place_of n c z i j) (sym whole') ∙ place_stays n c prefix (drop h log) i j (omega arith) in
+    let late : place_of n c log h w ≡ place_of n c (prefix ++ e ∷ []) (length prefix) w = ap (λ z. place_of n c z h w) (sym whole) ∙ place_stays n c (prefix ++ e ∷ []) rest h w (let a = length-append prefix (e ∷ []) in omega arith) ∙ ap (λ k. place_of n c (prefix ++ e ∷ []) k w) (sym len) in
+    let at_prefix : get_elem? prefix i ≡ some d = get_take log h i lt ∙ at_i in
+    let s : (k : ℕ) → k ≤ h → chunks_before log k ≡ chunks_before prefix k = λ k l. ap (λ z. chunks_before z k) (sym whole') ∙ before_stays prefix (drop h log) k (omega arith) in
+    let fits : Fits c prefix e f = record {
       window = omega arith;
-      chunks_are_few = let a = before_and_from front f in let b = before_and_from log f in let x = s f (omega arith) in let y = s h (le_refl h) in let z = before_next log h e at_h in let u : chunks_before front (length front) ≡ chunks_before front h = ap (chunks_before front) len in omega arith;
+      chunks_are_few = let a = before_and_from prefix f in let b = before_and_from log f in let x = s f (omega arith) in let y = s h (le_refl h) in let z = before_next log h e at_h in let u : chunks_before prefix (length prefix) ≡ chunks_before prefix h = ap (chunks_before prefix) len in omega arith;
     } in
-    places_apart n c front d e f i j w from at_front fits jl wl (sym early ∙ q ∙ late)
+    places_apart n c prefix d e f i j w from at_prefix fits jl wl (sym early ∙ q ∙ late)
 
 -- the places of the lanes alone
-pub slot_behind : (n c l k j h : ℕ) → h < header n → slot n c l k j ≢ h
-slot_behind n c l k j h b e = let a = slot_late n c l k j in omega arith
+pub slot_after : (n c l k j h : ℕ) → h < header n → slot n c l k j ≢ h
+slot_after n c l k j h b e = let a = slot_late n c l k j in omega arith
 
 pub slot_inside : (n c l k j : ℕ) → l < 8 → k < c → j < 6 → slot n c l k j < table_words n c
 slot_inside n c l k j a b d = let x = slot_below n c l k j a b d in let t = table_holds_places n c in omega arith
 
 -- word 1 of a place is a later word of no event
 pub second_apart : (n c l k : ℕ) (log : Log) (i j : ℕ) → l < 8 → k < c → 6 ≤ j → slot n c l k 1 ≢ place_of n c log i j
-second_apart n c l k log i j a b six e = let x = slot_below n c l k 1 a b (omega arith) in let y = late_behind n c log i j six in let z : ℕ = 8 * c * 6 + header n in let x' : slot n c l k 1 < z = x in let y' : z ≤ place_of n c log i j = y in omega arith
+second_apart n c l k log i j a b six e = let x = slot_below n c l k 1 a b (omega arith) in let y = late_after n c log i j six in let z : ℕ = 8 * c * 6 + header n in let x' : slot n c l k 1 < z = x in let y' : z ≤ place_of n c log i j = y in omega arith
 
 pub place_next : (n c : ℕ) (log : Log) (i j : ℕ) → j < 6 → place_of n c log i j ≡ next_slot n c (lanes_after (take i log)) (lane log i) j
 place_next n c log i j l = place_early n c log i j l ∙ ap (λ (k : ℕ). slot n c (lane log i) (k % c) j) (earlier_was_count log i)

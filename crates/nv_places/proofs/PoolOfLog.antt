@@ -34,9 +34,9 @@ pub first_is : (c : ℕ) (log : Log) → first_chunk (pool_chunks c) (sizes log)
 first_is c log = ap (λ (z : ℕ). pool.chunks_before (sizes log) z % pool_chunks c) (length-map log bytes_of) ∙ ap (λ (z : ℕ). z % pool_chunks c) (sym (before_is log (length log)))
 
 -- of a log that begins with these events
-pub before_front : (log front : Log) (i : ℕ) → take i log ≡ front → chunks_before log i ≡ chunks_before front (length front)
+pub before_prefix : (log prefix : Log) (i : ℕ) → take i log ≡ prefix → chunks_before log i ≡ chunks_before prefix (length prefix)
 unfolding chunks_before
-before_front log front i is = ap (sum_by chunks) is ∙ sym (before_all front)
+before_prefix log prefix i is = ap (sum_by chunks) is ∙ sym (before_all prefix)
 
 -- where the largest event fits, each does
 pub fits_by_pool : (c : ℕ) (log : Log) (e : List ℕ) (f : ℕ) → length e ≤ 518 → length log < f + c → chunks_from log f + chunks_of 4096 ≤ pool_chunks c → Fits c log e f

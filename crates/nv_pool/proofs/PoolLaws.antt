@@ -24,7 +24,7 @@ starts_push places starts sizes b pos wide h i below near =
     get_or-set_other starts at (i % places) (chunks_in sizes) 0 (λ q. ne (one_turn i (length sizes) places (omega arith) (omega arith) q))
     ∙ h i less (omega arith) ∙ sym (chunks_before_push sizes b i (omega arith)))
 
--- what is behind by less than two turns, within its turn
+-- what is after by less than two turns, within its turn
 one_or_two : (m n : ℕ) → m < n + n → (m % n ≡ m) ⊎ (m % n + n ≡ m)
 one_or_two m n l = dite (dec_le n m)
     (λ le. inr (let d : m ≡ n + (m - n) = omega arith in let w : m - n < n = omega arith in

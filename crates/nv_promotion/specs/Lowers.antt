@@ -1,5 +1,6 @@
 -- What `lower_gone` says of the stations below a reader's.
 use Rattle.std.specs.Prelude.{◌≡◌, ◌<◌, ◌≤◌, ℕ, true, slice_index_or}
+use Rattle.nv_calls.specs.Limits.{MOST_EVENTS}
 use Rattle.nv_room.specs.Owner.{GONE, lower_marked}
 use Rattle.nv_room.specs.declared.view.View.{View}
 use Rattle.nv_promotion.specs.declared.takes.Lower.{Lower}
@@ -23,7 +24,7 @@ pub record IsAlive {T : Type 0} (old new : View T) (own s : ℕ) : Type 0 where
   pub lower : s < own
   pub looked : old.cursor_looks < new.cursor_looks
   pub last : new.cursor_of ≡ s
-  pub count : new.cursor_last ≤ 131072
+  pub count : new.cursor_last ≤ MOST_EVENTS
 
 abbrev pub IsLower : {T : Type 0} → View T → View T → ℕ → Lower → Type 0
 IsLower old new own AllGone = lower_marked own new.floors ≡ true

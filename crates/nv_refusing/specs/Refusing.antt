@@ -2,7 +2,7 @@ use Rattle.std.specs.Prelude.{ℕ, Bool, List, ◌+◌, ◌-◌, ◌^◌, ◌==�
 use Rattle.std.specs.List.{list_any}
 use Rattle.nv_refusing.specs.declared.refusing.RefusingKernel.{RefusingKernel}
 
--- the kernel behind, the numbers of the reservations that it is refused, and how many were asked for
+-- the kernel below, the numbers of the reservations that it is refused, and how many were asked for
 abbrev pub inner_of : {K : Type 0} → RefusingKernel K → K
 inner_of k = k.inner
 

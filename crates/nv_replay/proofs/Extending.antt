@@ -17,22 +17,22 @@ use Rattle.nv_replay.proofs.Settled.{Reaches, reach_here, reach_first, at_rest, 
 use Rattle.nv_replay.proofs.Falling.{size, follow_falls}
 use Rattle.nv_replay.proofs.Wholes.{follow_is, bound}
 
-pub get_front : (log more : List Entry) (i : ℕ) (e : Entry) → slice_get log i ≡ Some e → slice_get (log ++ more) i ≡ Some e
-get_front [] more i e h = cc
-get_front (d ∷ log) more zero e h = h
-get_front (d ∷ log) more (suc i) e h = get_front log more i e h
+pub get_prefix : (log more : List Entry) (i : ℕ) (e : Entry) → slice_get log i ≡ Some e → slice_get (log ++ more) i ≡ Some e
+get_prefix [] more i e h = cc
+get_prefix (d ∷ log) more zero e h = h
+get_prefix (d ∷ log) more (suc i) e h = get_prefix log more i e h
 
-pub take_front_of : (log more : List Entry) (n : ℕ) → n ≤ length log → take n (log ++ more) ≡ take n log
-take_front_of log more zero h = refl
-take_front_of [] more (suc n) h = absurd (omega arith)
-take_front_of (d ∷ log) more (suc n) h = ap (λ x. d ∷ x) (take_front_of log more n (omega arith))
+pub take_prefix_of : (log more : List Entry) (n : ℕ) → n ≤ length log → take n (log ++ more) ≡ take n log
+take_prefix_of log more zero h = refl
+take_prefix_of [] more (suc n) h = absurd (omega arith)
+take_prefix_of (d ∷ log) more (suc n) h = ap (λ x. d ∷ x) (take_prefix_of log more n (omega arith))
 
 module _ {P : Type 0} (g : Behaviour P) (laws : IsProcess g) (judge : Judge) (log more : List Entry) where
   same_next : (s : Follower P) (o : Option Entry) (f : Option Fate) → slice_get log s.seen ≡ o
       → (on_next g judge log s o f ≡ s) ⊎ (on_next g judge log s o f ≡ on_next g judge (log ++ more) s (slice_get (log ++ more) s.seen) f)
   same_next s o (Some f) h = inl refl
   same_next s None None h = inl refl
-  same_next s (Some e) None h = let k : slice_get (log ++ more) s.seen ≡ Some e = get_front log more s.seen e h in inr (rw k refl)
+  same_next s (Some e) None h = let k : slice_get (log ++ more) s.seen ≡ Some e = get_prefix log more s.seen e h in inr (rw k refl)
 
   next_same : (s : Follower P) → (next g judge log s ≡ s) ⊎ (next g judge log s ≡ next g judge (log ++ more) s)
   unfolding next
@@ -84,9 +84,9 @@ follow_on g laws judge log more s =
 pub in_step_on : {P : Type 0} (g : Behaviour P) (log more : List Entry) (s : Follower P) → IsInStep g log s → IsInStep g (log ++ more) s
 in_step_on g log more s i = record {
   within = omega (arith, i.within, length-append log more);
-  live = λ z. i.live z ∙ ap live_after (sym (take_front_of log more s.seen i.within));
+  live = λ z. i.live z ∙ ap live_after (sym (take_prefix_of log more s.seen i.within));
   on = i.on;
-  exited = λ z. ap live_after (take_front_of log more s.seen i.within) ∙ i.exited z;
+  exited = λ z. ap live_after (take_prefix_of log more s.seen i.within) ∙ i.exited z;
 }
 
 module _ {P : Type 0} (g : Behaviour P) (replies : Start) (most : ℕ) (cut : Option ℕ) where

@@ -17,7 +17,7 @@ use Rattle.nv_replay.specs.Versions.{Running, asking_by, asking_next, answered_b
 module _ {P : Type 0} (g : Behaviour P) (most : ℕ) (r : Running P) where
   pub record AskedFor (n : Running P) (t : ℕ) : Type 0 where
     pub came : g.came r.at.process Any ≡ Asked t
-    pub room : nat_le most r.at.seen ≡ false
+    pub few : nat_le most r.at.seen ≡ false
     pub new : n ≡ record r { at = record r.at { process = g.after r.at.process Any }; asked = Some t }
 
   asked_if : (n : Running P) (t u : ℕ) (b : Bool) → nat_le most r.at.seen ≡ b → g.came r.at.process Any ≡ Asked u → r.asked ≡ None
@@ -34,7 +34,7 @@ module _ {P : Type 0} (g : Behaviour P) (most : ℕ) (r : Running P) where
       let e : u ≡ t = cc in
       record {
         came = c ∙ ap Asked e;
-        room = m;
+        few = m;
         new = h ∙ ap
             (λ (x : ℕ). record r { at = record r.at { process = g.after r.at.process Any }; asked = Some x }) e;
       }
@@ -122,7 +122,7 @@ module _ {P : Type 0} (g : Behaviour P) (replies : Start) (most : ℕ) (c : Opti
   pub lead_refused : (n : Running P) (t : ℕ) → r.at.seen ≡ length log → r.at.fate ≡ None → AskedFor g most r n t
       → is_cut c (length log) ≡ true → record { process = n.at.process; log = log; fate = Some Memory } ≡ next_call g replies most c (leader_of r log)
   lead_refused n t s f a k =
-      let m : nat_le most (length log) ≡ false = rw (← s) a.room in
+      let m : nat_le most (length log) ≡ false = rw (← s) a.few in
       rw (led_if t false true m k a.came f) (ap (λ (y : Running P). record { process = y.at.process; log = log; fate = Some Memory }) a.new)
 
   -- the call was served
@@ -130,7 +130,7 @@ module _ {P : Type 0} (g : Behaviour P) (replies : Start) (most : ℕ) (c : Opti
       → is_cut c (length log) ≡ false → leader_of (answered_by g (served replies log (g.call n.at.process t)) n)
       (log ++ served replies log (g.call n.at.process t) ∷ []) ≡ next_call g replies most c (leader_of r log)
   lead_served n t laws s f a k =
-      let m : nat_le most (length log) ≡ false = rw (← s) a.room in
+      let m : nat_le most (length log) ≡ false = rw (← s) a.few in
       let x : Running P = record r { at = record r.at { process = g.after r.at.process Any }; asked = Some t } in
       let own : (g.call (g.after r.at.process Any) t).tid ≡ t = laws.own (g.after r.at.process Any) t in
       rw (led_if t false false m k a.came f, a.new) (rw own refl)

@@ -17,17 +17,17 @@ use Rattle.nv_replay.specs.Tracks.{track, track_next}
 use Rattle.nv_replay.specs.Hands.{is_handed, lead_to_hand}
 use Rattle.nv_replay.specs.Sequence.{is_on}
 use Rattle.nv_replay.proofs.Settled.{Reaches, reach_here, stage_zero, stage_one, stage_rests}
-use Rattle.nv_replay.proofs.Extending.{follow_reached, get_front, stage_grows, in_step_on, reach_all, take_front_of}
+use Rattle.nv_replay.proofs.Extending.{follow_reached, get_prefix, stage_grows, in_step_on, reach_all, take_prefix_of}
 use Rattle.nv_replay.proofs.Stepping.{consumed_in_step, none_back, decided_in_step}
 use Rattle.nv_replay.proofs.Surviving.{IsTrueTo, IsPlainLog, copied, copies, cases, true_before, decided_alone}
 use Rattle.nv_replay.proofs.Falling.{within}
 use Rattle.nv_replay.proofs.Turning.{get_last, take_all}
-use Rattle.nv_replay.proofs.Tracking.{track_extended, track_from, stage_behind, ends_later, followed_seen, follow_more}
+use Rattle.nv_replay.proofs.Tracking.{track_extended, track_from, stage_after, ends_later, followed_seen, follow_more}
 use Rattle.nv_replay.proofs.Retracing.{HasServed, goes_on, back}
 use Rattle.nv_replay.proofs.Handing.{hands_over}
 use Rattle.nv_replay.proofs.Stretches.{hand_leads}
 use Rattle.nv_replay.proofs.Spanning.{span_end}
-use Rattle.nv_replay.proofs.Survivor.{uncut_reach, stage_in_step, lawful_front}
+use Rattle.nv_replay.proofs.Survivor.{uncut_reach, stage_in_step, lawful_prefix}
 
 -- no event makes a thread
 abbrev pub IsChildless : List Entry → Type 0
@@ -40,21 +40,21 @@ pub record IsPlain (start : Start) (most : ℕ) (log : List Entry) : Type 0 wher
   pub short : length log ≤ most
   pub childless : IsChildless log
 
-childless_front : (log more : List Entry) → IsChildless (log ++ more) → IsChildless log
-childless_front log more f i e h = f i e (get_front log more i e h)
+childless_prefix : (log more : List Entry) → IsChildless (log ++ more) → IsChildless log
+childless_prefix log more f i e h = f i e (get_prefix log more i e h)
 
-legal_front : (start : Start) (log more : List Entry) → IsLegal start (log ++ more) → IsLegal start log
-legal_front start log more l i e h =
-    let m = l i e (get_front log more i e h) in
+legal_prefix : (start : Start) (log more : List Entry) → IsLegal start (log ++ more) → IsLegal start log
+legal_prefix start log more l i e h =
+    let m = l i e (get_prefix log more i e h) in
     let w : i ≤ length log = (let a = within log i e h in omega arith) in
-    subst (λ (x : List Entry). e ≡ served start x e.call) (take_front_of log more i w) m
+    subst (λ (x : List Entry). e ≡ served start x e.call) (take_prefix_of log more i w) m
 
-pub plain_front : (start : Start) (most : ℕ) (log more : List Entry) → IsPlain start most (log ++ more) → IsPlain start most log
-plain_front start most log more p = record {
-  lawful = lawful_front log more p.lawful;
-  legal = legal_front start log more p.legal;
+pub plain_prefix : (start : Start) (most : ℕ) (log more : List Entry) → IsPlain start most (log ++ more) → IsPlain start most log
+plain_prefix start most log more p = record {
+  lawful = lawful_prefix log more p.lawful;
+  legal = legal_prefix start log more p.legal;
   short = (let q = p.short in omega (arith, length-append log more));
-  childless = childless_front log more p.childless;
+  childless = childless_prefix log more p.childless;
 }
 
 module _ {P : Type 0} (g : Behaviour P) (laws : IsProcess g) (start : Start) (most : ℕ) where
@@ -99,8 +99,8 @@ module _ {P : Type 0} (g : Behaviour P) (laws : IsProcess g) (start : Start) (mo
       let on1 : l1.fate ≡ None = back g start most cut n l1 m h1 f in
       let on : l.fate ≡ None = back g start most cut (suc n) l m h f in
       let more = stage_grows g start most cut n l1 in
-      let law1 : IsLawful l1.log = lawful_front l1.log more.0 (subst IsLawful (sym (ap (λ (y : Leader P). y.log) h1) ∙ more.1) law) in
-      let none1 : IsChildless l1.log = childless_front l1.log more.0 (subst IsChildless (sym (ap (λ (y : Leader P). y.log) h1) ∙ more.1) none) in
+      let law1 : IsLawful l1.log = lawful_prefix l1.log more.0 (subst IsLawful (sym (ap (λ (y : Leader P). y.log) h1) ∙ more.1) law) in
+      let none1 : IsChildless l1.log = childless_prefix l1.log more.0 (subst IsChildless (sym (ap (λ (y : Leader P). y.log) h1) ∙ more.1) none) in
       leads_so cut n l1 m rewrites h1 f law none (serves cut l rewrites law1 none1 on on1 (goes_on g start most cut l on on1) k)
 
 module _ {P : Type 0} (g : Behaviour P) (laws : IsProcess g) (judge : Judge) (start : Start) (most : ℕ) (log : List Entry) where
@@ -118,11 +118,11 @@ module _ {P : Type 0} (g : Behaviour P) (laws : IsProcess g) (judge : Judge) (st
   abbrev pub beginning : P → Leader P
   beginning p = record { process = p; log = []; fate = None }
 
-  -- where a version stands behind the last part that it led
+  -- where a version stands after the last part that it led
   pub record Trace (led : List (ℕ × ℕ)) (p : P) : Type 0 where
     pub at : Follower P
     pub reach : Reaches (track_next g judge led log) (fresh p) at
-    pub behind : EndBy at.seen led
+    pub past : EndBy at.seen led
     pub in_step : IsInStep g log at
     pub on : at.fate ≡ None
     pub copy : at.rewrites ≡ 0 → Reaches (next_call g start most None) (beginning p) (record { process = at.process; log = take at.seen log; fate = None })

@@ -67,13 +67,13 @@ numbers_length i [] = refl
 numbers_length i (p ∷ ps) = ap suc (numbers_length (i + 1) ps)
 
 -- a list with one place changed
-pub get_behind : {X : Type 0} (front : List X) (x : X) (xs : List X) → slice_get (front ++ x ∷ xs) (length front) ≡ Some x
-get_behind [] x xs = refl
-get_behind (y ∷ front) x xs = get_behind front x xs
+pub get_after : {X : Type 0} (prefix : List X) (x : X) (xs : List X) → slice_get (prefix ++ x ∷ xs) (length prefix) ≡ Some x
+get_after [] x xs = refl
+get_after (y ∷ prefix) x xs = get_after prefix x xs
 
-pub set_behind : {X : Type 0} (front : List X) (x y : X) (xs : List X) → set (front ++ x ∷ xs) (length front) y ≡ front ++ y ∷ xs
-set_behind [] x y xs = refl
-set_behind (z ∷ front) x y xs = ap (λ l. z ∷ l) (set_behind front x y xs)
+pub set_after : {X : Type 0} (prefix : List X) (x y : X) (xs : List X) → set (prefix ++ x ∷ xs) (length prefix) y ≡ prefix ++ y ∷ xs
+set_after [] x y xs = refl
+set_after (z ∷ prefix) x y xs = ap (λ l. z ∷ l) (set_after prefix x y xs)
 
 pub get_set : {X : Type 0} (xs : List X) (i : ℕ) (x y : X) → slice_get xs i ≡ Some x → slice_get (set xs i y) i ≡ Some y
 get_set [] i x y h = cc
@@ -141,8 +141,8 @@ or_right : (b c : Bool) → c ≡ true → (b || c) ≡ true
 or_right true c h = refl
 or_right false c h = h
 
-pub has_behind : (i k : ℕ) (order : List ℕ) → has order k ≡ true → has (i ∷ order) k ≡ true
-has_behind i k order h = or_right (i == k) (has order k) h
+pub has_after : (i k : ℕ) (order : List ℕ) → has order k ≡ true → has (i ∷ order) k ≡ true
+has_after i k order h = or_right (i == k) (has order k) h
 
 pub has_other : (i k : ℕ) (order : List ℕ) → has (i ∷ order) k ≡ true → (i == k) ≡ false → has order k ≡ true
 has_other i k order h e = rw e at h
@@ -151,13 +151,13 @@ pub has_last : (order : List ℕ) (i : ℕ) → has (order ++ i ∷ []) i ≡ tr
 has_last [] i = has_here i []
 has_last (j ∷ order) i = or_right (j == i) (has (order ++ i ∷ []) i) (has_last order i)
 
-front_by : (order : List ℕ) (i k : ℕ) (b : Bool) → (b || has order k) ≡ true → (has order k ≡ true → has (order ++ i ∷ []) k ≡ true) → (b || has (order ++ i ∷ []) k) ≡ true
-front_by order i k true h ih = refl
-front_by order i k false h ih = ih h
+prefix_by : (order : List ℕ) (i k : ℕ) (b : Bool) → (b || has order k) ≡ true → (has order k ≡ true → has (order ++ i ∷ []) k ≡ true) → (b || has (order ++ i ∷ []) k) ≡ true
+prefix_by order i k true h ih = refl
+prefix_by order i k false h ih = ih h
 
-pub has_front : (order : List ℕ) (i k : ℕ) → has order k ≡ true → has (order ++ i ∷ []) k ≡ true
-has_front [] i k h = cc
-has_front (j ∷ order) i k h = front_by order i k (j == k) h (has_front order i k)
+pub has_prefix : (order : List ℕ) (i k : ℕ) → has order k ≡ true → has (order ++ i ∷ []) k ≡ true
+has_prefix [] i k h = cc
+has_prefix (j ∷ order) i k h = prefix_by order i k (j == k) h (has_prefix order i k)
 
 either_last : (i k : ℕ) (b : Bool) → (i == k) ≡ b → (b || false) ≡ true → i ≡ k
 either_last i k true e h = eq_same i k e

@@ -46,7 +46,7 @@ module _ {P : Type 0} (g : Behaviour P) (laws : IsProcess g) (judges : ℕ → J
     over : m.over ≡ false
     at : Follower P
     reach : Reaches (track_next g (judges 0) version.led m.log) (fresh p) at
-    behind : EndBy at.seen version.led
+    past : EndBy at.seen version.led
     seen : at.seen ≡ length m.log
     on : at.fate ≡ None
     copy : Reaches (next_call g start most None) first (record { process = at.process; log = m.log; fate = None })
@@ -84,7 +84,7 @@ module _ {P : Type 0} (g : Behaviour P) (laws : IsProcess g) (judges : ℕ → J
 
     tracked : tracked_by g judges start most free hands m.log 0 s.version ≡ s.at
     tracked = ap (λ (q : P). track g (judges 0) s.version.led m.log (fresh q)) s.process
-        ∙ (track_from g laws (judges 0) s.version.led m.log (fresh p) s.at s.reach s.behind ∙ stands m.log s.at s.seen)
+        ∙ (track_from g laws (judges 0) s.version.led m.log (fresh p) s.at s.reach s.past ∙ stands m.log s.at s.seen)
 
     at_part : slice_get m.parts 0 ≡ Some s.version
     at_part = ap (λ (x : List (Part P)). slice_get x 0) s.parts
@@ -111,7 +111,7 @@ module _ {P : Type 0} (g : Behaviour P) (laws : IsProcess g) (judges : ℕ → J
           over = refl;
           at = record { process = l.process; seen = length l.log; rewrites = s.at.rewrites; fate = None };
           reach = hands_over g (judges 0) start most None s.version.led m.log p s.at r.steps l s.reach s.seen s.on r.is d.on;
-          behind = span_end s.version.led s.at.seen (length m.log) (length l.log) s.behind (omega (arith, s.seen, ap length grew.1, length-append m.log grew.0));
+          past = span_end s.version.led s.at.seen (length m.log) (length l.log) s.past (omega (arith, s.seen, ap length grew.1, length-append m.log grew.0));
           seen = refl;
           on = refl;
           copy = subst (λ (x : Option Fate). Reaches (next_call g start most None) first (record { process = l.process; log = l.log; fate = x })) d.on go;
@@ -152,7 +152,7 @@ module _ {P : Type 0} (g : Behaviour P) (laws : IsProcess g) (judges : ℕ → J
     over = refl;
     at = fresh p;
     reach = reach_here (track_next g (judges 0) [] []) (fresh p);
-    behind = record { each = λ i x h. cc };
+    past = record { each = λ i x h. cc };
     seen = refl;
     on = refl;
     copy = reach_here (next_call g start most None) first;

@@ -14,7 +14,7 @@ use Rattle.nv_replay.specs.Settling.{stage}
 use Rattle.nv_replay.specs.Follow.{Follower, Judge, consumed}
 use Rattle.nv_replay.specs.Lead.{Leader, is_cut, led, logged, unless_ended, next_call}
 use Rattle.nv_replay.proofs.Settled.{Reaches, reach_here, reach_first, stage_zero, stage_one, stage_rests}
-use Rattle.nv_replay.proofs.Extending.{stage_grows, get_front}
+use Rattle.nv_replay.proofs.Extending.{stage_grows, get_prefix}
 use Rattle.nv_replay.proofs.Turning.{get_last}
 use Rattle.nv_replay.specs.Tracks.{is_led, track_next, track_on, tracked, retraced_by}
 
@@ -88,8 +88,8 @@ module _ {P : Type 0} (g : Behaviour P) (judge : Judge) (replies : Start) (most 
       let mlog : m.log ≡ l1.log ++ more.0 = sym (ap (λ (y : Leader P). y.log) h1) ∙ more.1 in
       let one : length l1.log ≡ length l.log + 1 = ap length log1 ∙ length-append l.log (ev ∷ []) in
       let at1 : slice_get l1.log (length l.log) ≡ Some ev = ap (λ (y : List Entry). slice_get y (length l.log)) log1 ∙ get_last l.log ev in
-      let at2 : slice_get m.log (length l.log) ≡ Some ev = ap (λ (y : List Entry). slice_get y (length l.log)) mlog ∙ get_front l1.log more.0 (length l.log) ev at1 in
-      let at3 : slice_get final s.seen ≡ Some ev = ap (slice_get final) q ∙ (ap (λ (y : List Entry). slice_get y (length l.log)) e ∙ get_front m.log rest (length l.log) ev at2) in
+      let at2 : slice_get m.log (length l.log) ≡ Some ev = ap (λ (y : List Entry). slice_get y (length l.log)) mlog ∙ get_prefix l1.log more.0 (length l.log) ev at1 in
+      let at3 : slice_get final s.seen ≡ Some ev = ap (slice_get final) q ∙ (ap (λ (y : List Entry). slice_get y (length l.log)) e ∙ get_prefix m.log rest (length l.log) ev at2) in
       let short : length l.log < length m.log = omega (arith, one, ap length mlog, length-append l1.log more.0) in
       let in_span : is_led spans s.seen ≡ true = ap (is_led spans) q ∙ u (length l.log) (omega arith) short in
       let came : g.came s.process Any ≡ Asked d.thread = ap (λ (y : P). g.came y Any) p ∙ d.came in

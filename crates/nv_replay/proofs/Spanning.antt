@@ -36,7 +36,7 @@ grown_last [] a b = refl
 grown_last (x ∷ []) a b = refl
 grown_last (x ∷ y ∷ xs) a b = ap (λ l. x ∷ l) (grown_last (y ∷ xs) a b)
 
--- a span behind others that end before it
+-- a span after others that end before it
 last_span : (spans : List (ℕ × ℕ)) (m a b : ℕ) → EndBy m spans → m ≤ b → (i : ℕ) (x : ℕ × ℕ) → slice_get (spans ++ (a, b) ∷ []) i ≡ Some x → x.1 ≤ b
 last_span [] m a b e l zero x h = let k : (a, b) ≡ x = cc in let Q : ℕ × ℕ → Type 0 = λ z. z.1 ≤ b in subst Q k (omega arith)
 last_span [] m a b e l (suc i) x h = cc

@@ -17,7 +17,7 @@ use Rattle.nv_replay.specs.Follow.{Follower, Judge, decided, follow, fresh, next
 use Rattle.nv_replay.specs.Lead.{Leader, lead, next_call, unless_ended, led, is_cut, is_memory}
 use Rattle.nv_replay.specs.Sequence.{Account, leads, is_on, turn, sequence_from, leader_line, follower_line}
 use Rattle.nv_replay.proofs.Settled.{Reaches, reach_here, reach_first, stage_zero, stage_one, stage_rests}
-use Rattle.nv_replay.proofs.Extending.{follow_reached, follow_rests, get_front, extended, lead_grows, take_front_of, reach_all}
+use Rattle.nv_replay.proofs.Extending.{follow_reached, follow_rests, get_prefix, extended, lead_grows, take_prefix_of, reach_all}
 use Rattle.nv_replay.proofs.Stepping.{decided_in_step, made_none}
 use Rattle.nv_replay.specs.Alone.{HasNoClone}
 use Rattle.nv_replay.proofs.Surviving.{IsTrueTo, IsPlainLog, copied, copies, cases, is_well}
@@ -161,10 +161,10 @@ module _ {P : Type 0} (g : Behaviour P) (laws : IsProcess g) (judge : Judge) (re
       let l : Leader P = lead g replies most c (record { process = f.process; log = log0; fate = None }) in
       let r : Reaches (next g judge log) (fresh p) f = subst (λ (y : List Entry). Reaches (next g judge y) (fresh p) f) (sym k)
       (extended g laws judge log0 more (fresh p)) in
-      let front : take f.seen log ≡ log0 = ap (λ (m : ℕ). take m log) s ∙
-      (ap (λ (y : List Entry). take (length log0) y) k ∙ (take_front_of log0 more (length log0) (omega arith) ∙ take_all log0)) in
+      let prefix : take f.seen log ≡ log0 = ap (λ (m : ℕ). take m log) s ∙
+      (ap (λ (y : List Entry). take (length log0) y) k ∙ (take_prefix_of log0 more (length log0) (omega arith) ∙ take_all log0)) in
       let at : copied g laws judge replies most log f ≡ record { process = f.process; log = log0; fate = None } = λ j. record
-      { process = f.process; log = front j; fate = n j } in
+      { process = f.process; log = prefix j; fate = n j } in
       let true_to : IsTrueTo f = record { rewrites = w; well = rw n refl } in
       let go = copies g laws judge replies most log r.steps (fresh p) f r.is true_to pl (fresh_in_step g laws replies most log p so) so.alone in
       let go' : Reaches (next_call g replies most None) (record { process = p; log = []; fate = None })
@@ -178,11 +178,11 @@ module _ {P : Type 0} (g : Behaviour P) (laws : IsProcess g) (judge : Judge) (re
       (record { process = f.process; log = log0; fate = None }) l go' on') (exited_well l.fate x) in
       ap (λ (y : Leader P). y.log) (sym e)
 
-pub lawful_front : (log more : List Entry) → IsLawful (log ++ more) → IsLawful log
-lawful_front log more l i e h =
-    let m = l i e (get_front log more i e h) in
+pub lawful_prefix : (log more : List Entry) → IsLawful (log ++ more) → IsLawful log
+lawful_prefix log more l i e h =
+    let m = l i e (get_prefix log more i e h) in
     let w : i ≤ length log = (let a = within log i e h in omega arith) in
-    subst (λ (x : List Entry). MayFollow i (live_after x) e) (take_front_of log more i w) m
+    subst (λ (x : List Entry). MayFollow i (live_after x) e) (take_prefix_of log more i w) m
 
 module _ {P : Type 0} (g : Behaviour P) (laws : IsProcess g) (judge : Judge) (replies : Start) (most : ℕ) (log : List Entry) where
   -- who goes on has seen the whole log
@@ -239,7 +239,7 @@ module _ {P : Type 0} (g : Behaviour P) (laws : IsProcess g) (judges : ℕ → J
       let same : L ≡ l.log = ap (λ (o : Bool). (sequence_from g judges replies most cuts ps (i + 1) l.log o).log) x' ∙ over_log ps (i + 1) l.log in
       let m = lead_grows g replies most (cuts i) (record { process = f.process; log = log; fate = None }) in
       let k : L ≡ log ++ m.0 = same ∙ m.1 in
-      let law0 : IsLawful log = lawful_front log m.0 (subst IsLawful k law) in
+      let law0 : IsLawful log = lawful_prefix log m.0 (subst IsLawful k law) in
       let n : f.fate ≡ None = on_none over f.fate e in
       let s : f.seen ≡ length log = follow_done g laws (judges i) replies most log (fresh p) law0 (fresh_in_step g laws replies most log p so) n in
       leader_alone g laws (judges i) replies most L p log m.0 (cuts i) k so (record { lawful = law; legal = legal; short = short; childless = λ i e f. no_child e (nc i e f) }) w' n s

@@ -17,18 +17,18 @@ use Rattle.nv_replay.specs.Sequence.{is_on}
 use Rattle.nv_replay.specs.Monitor.{Part, Run, part, numbers, begun, led_line, after_lead, tracked_by, leads_on, turn, line_of, lines_of, account_of, sequence}
 use Rattle.nv_replay.proofs.Settled.{Reaches, reach_here, reached}
 use Rattle.nv_replay.proofs.Wholly.{lead_is}
-use Rattle.nv_replay.proofs.Extending.{follow_reached, in_step_on, reach_all, take_front_of}
+use Rattle.nv_replay.proofs.Extending.{follow_reached, in_step_on, reach_all, take_prefix_of}
 use Rattle.nv_replay.proofs.Surviving.{IsTrueTo, copied}
 use Rattle.nv_replay.proofs.Turning.{take_all}
-use Rattle.nv_replay.proofs.Numbers.{set_cases, distinct_numbers, IsDistinct, has_here, has_behind, has_either, distinct_last, eq_self, handed_at}
-use Rattle.nv_replay.proofs.Tracking.{track_extended, track_from, stage_behind, followed_seen, follow_more}
+use Rattle.nv_replay.proofs.Numbers.{set_cases, distinct_numbers, IsDistinct, has_here, has_after, has_either, distinct_last, eq_self, handed_at}
+use Rattle.nv_replay.proofs.Tracking.{track_extended, track_from, stage_after, followed_seen, follow_more}
 use Rattle.nv_replay.proofs.Handing.{hands_over}
 use Rattle.nv_replay.proofs.Stretches.{hand_leads, hand_grows}
 use Rattle.nv_replay.proofs.Spanning.{span_end}
 use Rattle.nv_replay.proofs.Fates.{off_some}
 use Rattle.nv_replay.proofs.Covering.{turn_keeps, stage_keeps, after}
 use Rattle.nv_replay.proofs.Survivor.{uncut_reach, exited_no_memory, exited_is_well, exited_well, exited_all, fresh_in_step}
-use Rattle.nv_replay.proofs.Lone.{IsPlain, plain_front, follower, Keeps, leads_so, beginning, Trace, Whole, wholly}
+use Rattle.nv_replay.proofs.Lone.{IsPlain, plain_prefix, follower, Keeps, leads_so, beginning, Trace, Whole, wholly}
 
 none_no_memory : (f : Option Fate) → f ≡ None → is_memory f ≡ false
 none_no_memory None h = refl
@@ -40,11 +40,11 @@ module _ {P : Type 0} (g : Behaviour P) (laws : IsProcess g) (start : Start) (mo
   trace_on judge log more led p t = record {
     at = t.at;
     reach = (let r = t.reach in track_extended g judge led log more r.steps (fresh p) t.at r.is);
-    behind = t.behind;
+    past = t.past;
     in_step = in_step_on g log more t.at t.in_step;
     on = t.on;
     copy = λ z. subst (λ (x : List Entry). Reaches (next_call g start most None) (beginning g laws judge start most log p) (record { process = t.at.process; log = x; fate = None }))
-        (sym (take_front_of log more t.at.seen t.in_step.within)) (t.copy z);
+        (sym (take_prefix_of log more t.at.seen t.in_step.within)) (t.copy z);
     alone = t.alone;
   }
 
@@ -69,7 +69,7 @@ module _ {P : Type 0} (g : Behaviour P) (laws : IsProcess g) (start : Start) (mo
     to_f : Reaches (track_next g judge led log) (fresh p) f
     to_f =
         let r = follow_reached g laws judge log [] t.at in
-        reach_all (track_next g judge led log) (fresh p) t.at f t.reach (stage_behind g judge led log r.steps t.at f t.behind r.is)
+        reach_all (track_next g judge led log) (fresh p) t.at f t.reach (stage_after g judge led log r.steps t.at f t.past r.is)
 
     is_copy : copied g laws judge start most log f ≡ l0
     is_copy = λ j. record { process = f.process; log = (ap (λ (k : ℕ). take k log) seen ∙ take_all log) j; fate = n j }
@@ -93,7 +93,7 @@ module _ {P : Type 0} (g : Behaviour P) (laws : IsProcess g) (start : Start) (mo
         let k = leads_so g laws start most cut r.steps l0 l f.rewrites r.is o pl.lawful pl.childless (record { in_step = st0; alone = λ z. w.alone (true_to z) }) in record {
           at = record { process = l.process; seen = length l.log; rewrites = f.rewrites; fate = None };
           reach = hands_over g judge start most cut led log p f r.steps l to_f seen n r.is o;
-          behind = span_end led t.at.seen (length log) (length l.log) t.behind
+          past = span_end led t.at.seen (length log) (length l.log) t.past
               (omega (arith, t.in_step.within, ap length more.1, length-append log more.0));
           in_step = subst (λ (x : Option Fate). IsInStep g l.log (record { process = l.process; seen = length l.log; rewrites = f.rewrites; fate = x })) o k.in_step;
           on = refl;
@@ -122,7 +122,7 @@ module _ {P : Type 0} (g : Behaviour P) (laws : IsProcess g) (judges : ℕ → J
   shorter : (m : Run P) (i : ℕ) (order : List ℕ) → m.order ≡ i ∷ order → Inv m → Inv (record m { order = order })
   shorter m i order e s = record {
     distinct = (subst IsDistinct e s.distinct).1;
-    untold = λ k v h o. s.untold k v h (subst (λ (x : List ℕ). has x k ≡ true) (sym e) (has_behind i k order o));
+    untold = λ k v h o. s.untold k v h (subst (λ (x : List ℕ). has x k ≡ true) (sym e) (has_after i k order o));
     trace = s.trace;
     told = s.told;
   }
@@ -134,13 +134,13 @@ module _ {P : Type 0} (g : Behaviour P) (laws : IsProcess g) (judges : ℕ → J
       → Inv (after_lead m i order v f l b)
   after_inv m i order v f l more true s ov e h lg tr en =
       let d = subst IsDistinct e s.distinct in
-      let plain = λ (pl : IsPlain start most l.log). plain_front start most m.log more (subst (IsPlain start most) lg pl) in
+      let plain = λ (pl : IsPlain start most l.log). plain_prefix start most m.log more (subst (IsPlain start most) lg pl) in
       let w : Part P = record v { led = v.led ++ (length m.log, length l.log) ∷ []; told = None } in record {
         distinct = distinct_last order i d.1 d.0;
         untold = λ k x q o. elim (set_cases m.parts i w k x q) [
           | inl (ik, y) ↦ ap (λ (u : Part P). u.told) (sym y)
           | inr (ik, y) ↦ elim (has_either order i k o) [
-            | inl z ↦ s.untold k x y (subst (λ (r : List ℕ). has r k ≡ true) (sym e) (has_behind i k order z))
+            | inl z ↦ s.untold k x y (subst (λ (r : List ℕ). has r k ≡ true) (sym e) (has_after i k order z))
             | inr z ↦ (let c : true ≡ false = sym (eq_self i) ∙ (ap (λ (j : ℕ). i == j) z ∙ ik) in cc)
           ]
         ];
@@ -155,13 +155,13 @@ module _ {P : Type 0} (g : Behaviour P) (laws : IsProcess g) (judges : ℕ → J
       }
   after_inv m i order v f l more false s ov e h lg tr en =
       let d = subst IsDistinct e s.distinct in
-      let plain = λ (pl : IsPlain start most l.log). plain_front start most m.log more (subst (IsPlain start most) lg pl) in
+      let plain = λ (pl : IsPlain start most l.log). plain_prefix start most m.log more (subst (IsPlain start most) lg pl) in
       let line0 : Standing = record { fate = l.fate; seen = length l.log; led = v.led ++ (length m.log, length l.log) ∷ []; rewrites = f.rewrites } in
       let w : Part P = record v { led = v.led ++ (length m.log, length l.log) ∷ []; told = Some line0 } in record {
         distinct = d.1;
         untold = λ k x q o. elim (set_cases m.parts i w k x q) [
           | inl (ik, y) ↦ (let c : true ≡ false = sym o ∙ (ap (has order) (sym ik) ∙ d.0) in cc)
-          | inr (ik, y) ↦ s.untold k x y (subst (λ (r : List ℕ). has r k ≡ true) (sym e) (has_behind i k order o))
+          | inr (ik, y) ↦ s.untold k x y (subst (λ (r : List ℕ). has r k ≡ true) (sym e) (has_after i k order o))
         ];
         trace = λ pl k x q so n. elim (set_cases m.parts i w k x q) [
           | inl (ik, y) ↦ (let c : Some line0 ≡ None = ap (λ (u : Part P). u.told) y ∙ n in cc)
@@ -179,7 +179,7 @@ module _ {P : Type 0} (g : Behaviour P) (laws : IsProcess g) (judges : ℕ → J
   -- the trace of a version that gives up the lead, and what one that exits did
   hands_trace : (i : ℕ) (log : List Entry) (v : Part P) (f : Follower P) → T i log v → tracked_by g judges start most cuts hands log i v ≡ f
       → (t : T i log v) → f ≡ follow g (judges i) log t.at
-  hands_trace i log v f t0 e t = sym e ∙ track_from g laws (judges i) v.led log (fresh v.process) t.at t.reach t.behind
+  hands_trace i log v f t0 e t = sym e ∙ track_from g laws (judges i) v.led log (fresh v.process) t.at t.reach t.past
 
   turn_inv : (m : Run P) → Inv m → Inv (turn g judges start most cuts hands m)
   turn_inv m s = turn_keeps g judges start most cuts hands (λ x. Inv x) m s (λ i order e. shorter m i order e s)
@@ -188,7 +188,7 @@ module _ {P : Type 0} (g : Behaviour P) (laws : IsProcess g) (judges : ℕ → J
       let l = leads_on g judges start most cuts hands m.log i f in
       let k = hand_grows g start most (cuts i) hands (length m.log) (record { process = f.process; log = m.log; fate = None }) in
       let un : v.told ≡ None = s.untold i v h (subst (λ (x : List ℕ). has x i ≡ true) (sym e) (has_here i order)) in
-      let plain = λ (pl : IsPlain start most l.log). plain_front start most m.log k.0 (subst (IsPlain start most) k.1 pl) in
+      let plain = λ (pl : IsPlain start most l.log). plain_prefix start most m.log k.0 (subst (IsPlain start most) k.1 pl) in
       after_inv m i order v f l k.0 (is_handed hands (length m.log) l) s ov e h k.1
       (λ b pl so.
       let t = s.trace (plain pl) i v h so un in
@@ -245,7 +245,7 @@ module _ {P : Type 0} (g : Behaviour P) (laws : IsProcess g) (judges : ℕ → J
     trace = λ pl k v h so n. subst (λ (x : Part P). T k [] x) (part_at ps k v h).0 (record {
       at = fresh v.process;
       reach = reach_here (track_next g (judges k) [] []) (fresh v.process);
-      behind = record { each = λ i x q. cc };
+      past = record { each = λ i x q. cc };
       in_step = fresh_in_step g laws start most [] v.process so;
       on = refl;
       copy = λ z. reach_here (next_call g start most None) (record { process = v.process; log = []; fate = None });
@@ -271,7 +271,7 @@ module _ {P : Type 0} (g : Behaviour P) (laws : IsProcess g) (judges : ℕ → J
   exited_line m k v line None s pl h so e q ex z =
       let t = s.trace pl k v h so e in
       let f = follow g (judges k) m.log t.at in
-      let te : tracked_by g judges start most cuts hands m.log k v ≡ f = track_from g laws (judges k) v.led m.log (fresh v.process) t.at t.reach t.behind in
+      let te : tracked_by g judges start most cuts hands m.log k v ≡ f = track_from g laws (judges k) v.led m.log (fresh v.process) t.at t.reach t.past in
       let xf : is_exited f.fate ≡ true = ap (λ (y : Follower P). is_exited y.fate) (sym te) ∙ (ap (λ (y : Standing). is_exited y.fate) q ∙ ex) in
       let zf : f.rewrites ≡ 0 = ap (λ (y : Follower P). y.rewrites) (sym te) ∙ (ap (λ (y : Standing). y.rewrites) q ∙ z) in
       let w = wholly g laws (judges k) start most m.log v.led v.process pl t in

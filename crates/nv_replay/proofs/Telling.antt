@@ -24,24 +24,24 @@ use Rattle.nv_replay.specs.Alone.{alone, HasNoClone, SurvivorsAgree}
 use Rattle.nv_replay.proofs.Survivor.{survives}
 
 -- the cuts that an account tells are cuts of its lines
-at_place : (front : List Standing) (line : Standing) (lines : List Standing)
-    → cuts_of (front ++ line ∷ lines) (length front) ≡ cut_of line.fate line.seen
+at_place : (prefix : List Standing) (line : Standing) (lines : List Standing)
+    → cuts_of (prefix ++ line ∷ lines) (length prefix) ≡ cut_of line.fate line.seen
 at_place [] line lines = refl
-at_place (x ∷ front) line lines = at_place front line lines
+at_place (x ∷ prefix) line lines = at_place prefix line lines
 
-cuts_behind : (front lines : List Standing) → AreCuts (length front) lines (cuts_of (front ++ lines))
-cuts_behind front [] = tt
-cuts_behind front (line ∷ lines) =
-    let one : length (front ++ line ∷ []) ≡ length front + 1 = length-append front (line ∷ []) in
-    let all : (front ++ line ∷ []) ++ lines ≡ front ++ line ∷ lines = append_assoc front (line ∷ []) lines in
+cuts_after : (prefix lines : List Standing) → AreCuts (length prefix) lines (cuts_of (prefix ++ lines))
+cuts_after prefix [] = tt
+cuts_after prefix (line ∷ lines) =
+    let one : length (prefix ++ line ∷ []) ≡ length prefix + 1 = length-append prefix (line ∷ []) in
+    let all : (prefix ++ line ∷ []) ++ lines ≡ prefix ++ line ∷ lines = append_assoc prefix (line ∷ []) lines in
     let A : ℕ → List Standing → Type 0 = λ i whole. AreCuts i lines (cuts_of whole) in (
-      at_place front line lines,
-      subst (λ (i : ℕ). A i (front ++ line ∷ lines)) one
-          (subst (λ (x : List Standing). A (length (front ++ line ∷ [])) x) all (cuts_behind (front ++ line ∷ []) lines)),
+      at_place prefix line lines,
+      subst (λ (i : ℕ). A i (prefix ++ line ∷ lines)) one
+          (subst (λ (x : List Standing). A (length (prefix ++ line ∷ [])) x) all (cuts_after (prefix ++ line ∷ []) lines)),
     )
 
 pub cuts_are : (lines : List Standing) → AreCuts 0 lines (cuts_of lines)
-cuts_are lines = cuts_behind [] lines
+cuts_are lines = cuts_after [] lines
 
 module _ {P : Type 0} (g : Behaviour P) (replies : Start) (most : ℕ) (cut : Option ℕ) where
   short_if : (s : Leader P) (p : P) (t : ℕ) (b d : Bool) → nat_le most (length s.log) ≡ b → length s.log ≤ most

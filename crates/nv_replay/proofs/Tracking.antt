@@ -1,4 +1,4 @@
--- A version over a log of which it has led parts: what it has come to holds over each longer log, and behind its parts it follows.
+-- A version over a log of which it has led parts: what it has come to holds over each longer log, and after its parts it follows.
 use Rattle.std.proofs.Common.{◌≡◌, ◌≢◌, ◌∙◌, sym, ap, subst, refl, ℕ, zero, suc, ◌+◌, ◌<◌, ◌≤◌, ◌⊎◌, inl, inr, Bool, true, false, List, [], ◌∷◌, ◌++◌, length, Option, Some, None, arith, cond}
 use Rattle.std.specs.Prelude.{slice_get, not, ◌&&◌, ◌||◌, nat_le}
 use Rattle.std.proofs.lemmas.Bool.Decides.{nat_tests}
@@ -15,7 +15,7 @@ use Rattle.nv_replay.specs.Spans.{EndBy}
 use Rattle.nv_replay.specs.Follow.{Follower, Judge, fresh, decided, met, judged, consumed, permit_by, refusal_by, next, on_next, follow}
 use Rattle.nv_replay.specs.Sequence.{is_on}
 use Rattle.nv_replay.proofs.Settled.{Reaches, reach_here, reach_first, reached, at_rest, stage_zero, stage_one, stage_rests, Falls}
-use Rattle.nv_replay.proofs.Extending.{get_front, follow_reached, follow_rests, reach_all}
+use Rattle.nv_replay.proofs.Extending.{get_prefix, follow_reached, follow_rests, reach_all}
 use Rattle.nv_replay.proofs.Falling.{size, decided_falls, consumed_falls, within}
 use Rattle.nv_replay.proofs.Wholes.{bound}
 use Rattle.nv_replay.specs.Tracks.{is_in, is_led, tracked, track_on, track_next, track, retraced_by}
@@ -32,7 +32,7 @@ module _ {P : Type 0} (g : Behaviour P) (judge : Judge) (spans : List (ℕ × �
   same_on : (s : Follower P) (o : Option Entry) (f : Option Fate) → slice_get log s.seen ≡ o → (track_on g judge spans s o f ≡ s) ⊎ (track_on g judge spans s o f ≡ track_on g judge spans s (slice_get (log ++ more) s.seen) f)
   same_on s o (Some f) h = inl refl
   same_on s None None h = inl refl
-  same_on s (Some e) None h = let k : slice_get (log ++ more) s.seen ≡ Some e = get_front log more s.seen e h in inr (rw k refl)
+  same_on s (Some e) None h = let k : slice_get (log ++ more) s.seen ≡ Some e = get_prefix log more s.seen e h in inr (rw k refl)
 
   next_same : (s : Follower P) → (track_next g judge spans log s ≡ s) ⊎ (track_next g judge spans log s ≡ track_next g judge spans (log ++ more) s)
   unfolding track_next
@@ -94,7 +94,7 @@ and_not : (x y : Bool) → y ≡ true → (x && not y) ≡ false
 and_not true y h = rw h refl
 and_not false y h = refl
 
--- behind all parts that end at n or before
+-- after all parts that end at n or before
 not_within : (span : ℕ × ℕ) (n : ℕ) → span.1 ≤ n → is_in span n ≡ false
 not_within (a, b) n h = let k : nat_le b n ≡ true = grind (arith, nat_tests) in and_not (nat_le a n) (nat_le b n) k
 
@@ -102,11 +102,11 @@ or_not : (x y : Bool) → x ≡ false → y ≡ false → (x || y) ≡ false
 or_not true y h k = cc
 or_not false y h k = k
 
-pub not_led_behind : (spans : List (ℕ × ℕ)) (m n : ℕ) → EndBy m spans → m ≤ n → is_led spans n ≡ false
-not_led_behind [] m n e l = refl
-not_led_behind (span ∷ spans) m n e l = or_not (is_in span n) (is_led spans n)
+pub not_led_after : (spans : List (ℕ × ℕ)) (m n : ℕ) → EndBy m spans → m ≤ n → is_led spans n ≡ false
+not_led_after [] m n e l = refl
+not_led_after (span ∷ spans) m n e l = or_not (is_in span n) (is_led spans n)
     (not_within span n (let h = e.each 0 span refl in omega arith))
-    (not_led_behind spans m n (record { each = λ i x h. e.each (suc i) x h }) l)
+    (not_led_after spans m n (record { each = λ i x h. e.each (suc i) x h }) l)
 
 pub ends_later : (spans : List (ℕ × ℕ)) (m n : ℕ) → EndBy m spans → m ≤ n → EndBy n spans
 ends_later spans m n e l = record { each = λ i x h. let k = e.each i x h in omega arith }
@@ -143,35 +143,35 @@ module _ {P : Type 0} (g : Behaviour P) (judge : Judge) where
   stage_seen log zero s = rw (stage_zero (next g judge log) s) (omega arith)
   stage_seen log (suc n) s = rw (stage_one (next g judge log) n s) (omega (arith, next_seen log s, stage_seen log n (next g judge log s)))
 
-  on_behind : (spans : List (ℕ × ℕ)) (log : List Entry) (s : Follower P) (o : Option Entry) (f : Option Fate) → is_led spans s.seen ≡ false
+  on_after : (spans : List (ℕ × ℕ)) (log : List Entry) (s : Follower P) (o : Option Entry) (f : Option Fate) → is_led spans s.seen ≡ false
       → track_on g judge spans s o f ≡ on_next g judge log s o f
-  on_behind spans log s o (Some f) h = refl
-  on_behind spans log s None None h = refl
-  on_behind spans log s (Some e) None h = rw h refl
+  on_after spans log s o (Some f) h = refl
+  on_after spans log s None None h = refl
+  on_after spans log s (Some e) None h = rw h refl
 
-  -- behind its parts a version follows
-  pub next_behind : (spans : List (ℕ × ℕ)) (log : List Entry) (s : Follower P) → EndBy s.seen spans → track_next g judge spans log s ≡ next g judge log s
+  -- after its parts a version follows
+  pub next_after : (spans : List (ℕ × ℕ)) (log : List Entry) (s : Follower P) → EndBy s.seen spans → track_next g judge spans log s ≡ next g judge log s
   unfolding track_next next
-  next_behind spans log s e = on_behind spans log s (slice_get log s.seen) s.fate (not_led_behind spans s.seen s.seen e (omega arith))
+  next_after spans log s e = on_after spans log s (slice_get log s.seen) s.fate (not_led_after spans s.seen s.seen e (omega arith))
 
-  pub stage_behind : (spans : List (ℕ × ℕ)) (log : List Entry) (n : ℕ) (s t : Follower P) → EndBy s.seen spans
+  pub stage_after : (spans : List (ℕ × ℕ)) (log : List Entry) (n : ℕ) (s t : Follower P) → EndBy s.seen spans
       → stage (next g judge log) n s ≡ t → Reaches (track_next g judge spans log) s t
-  stage_behind spans log zero s t e h = subst (λ (x : Follower P). Reaches (track_next g judge spans log) s x)
+  stage_after spans log zero s t e h = subst (λ (x : Follower P). Reaches (track_next g judge spans log) s x)
       (sym (stage_zero (next g judge log) s) ∙ h) (reach_here (track_next g judge spans log) s)
-  stage_behind spans log (suc n) s t e h = reach_first (track_next g judge spans log) s t
-      (subst (λ (x : Follower P). Reaches (track_next g judge spans log) x t) (sym (next_behind spans log s e))
-      (stage_behind spans log n (next g judge log s) t (ends_later spans s.seen (next g judge log s).seen e (next_seen log s))
+  stage_after spans log (suc n) s t e h = reach_first (track_next g judge spans log) s t
+      (subst (λ (x : Follower P). Reaches (track_next g judge spans log) x t) (sym (next_after spans log s e))
+      (stage_after spans log n (next g judge log s) t (ends_later spans s.seen (next g judge log s).seen e (next_seen log s))
       (sym (stage_one (next g judge log) n s) ∙ h)))
 
--- what it comes to over the log is what it comes to by following from behind its parts
+-- what it comes to over the log is what it comes to by following from after its parts
 pub track_from : {P : Type 0} (g : Behaviour P) (laws : IsProcess g) (judge : Judge) (spans : List (ℕ × ℕ)) (log : List Entry) (s t : Follower P)
     → Reaches (track_next g judge spans log) s t → EndBy t.seen spans → track g judge spans log s ≡ follow g judge log t
 track_from {P = P} g laws judge spans log s t r e =
     let f = follow g judge log t in
     let a = follow_reached g laws judge log [] t in
-    let b = stage_behind g judge spans log a.steps t f e a.is in
+    let b = stage_after g judge spans log a.steps t f e a.is in
     let more : t.seen ≤ f.seen = subst (λ (x : Follower P). t.seen ≤ x.seen) a.is (stage_seen g judge log a.steps t) in
-    let rest : track_next g judge spans log f ≡ f = next_behind g judge spans log f (ends_later spans t.seen f.seen e more) ∙ follow_rests g laws judge log t in
+    let rest : track_next g judge spans log f ≡ f = next_after g judge spans log f (ends_later spans t.seen f.seen e more) ∙ follow_rests g laws judge log t in
     sym (track_is g laws judge spans log s f (reach_all (track_next g judge spans log) s t f r b) rest)
 
 module _ {P : Type 0} (g : Behaviour P) (judge : Judge) where

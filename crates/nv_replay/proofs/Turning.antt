@@ -19,7 +19,7 @@ use Rattle.nv_replay.proofs.Spanning.{grown_last}
 use Rattle.nv_replay.proofs.Wholes.{get_map, length_map}
 use Rattle.nv_replay.specs.Turns.{TookTurn}
 
--- the event behind a log
+-- the event after a log
 pub get_last : (log : List Entry) (e : Entry) → slice_get (log ++ e ∷ []) (length log) ≡ Some e
 get_last [] e = refl
 get_last (d ∷ log) e = get_last log e
@@ -32,9 +32,9 @@ pub take_all : (log : List Entry) → take (length log) log ≡ log
 take_all [] = refl
 take_all (e ∷ log) = ap (λ x. e ∷ x) (take_all log)
 
-pub take_front : (log : List Entry) (e : Entry) → take (length log) (log ++ e ∷ []) ≡ log
-take_front [] e = refl
-take_front (d ∷ log) e = ap (λ x. d ∷ x) (take_front log e)
+pub take_prefix : (log : List Entry) (e : Entry) → take (length log) (log ++ e ∷ []) ≡ log
+take_prefix [] e = refl
+take_prefix (d ∷ log) e = ap (λ x. d ∷ x) (take_prefix log e)
 
 not_memory : (o : Option ℕ) → is_memory (option_map Exited o) ≡ false
 not_memory None = refl
@@ -47,7 +47,7 @@ module _ {P : Type 0} (g : Behaviour P) (laws : IsProcess g) (replies : Start) (
     pub lives : Contains (g.live n.at.process) t
     pub live : g.live n.at.process ≡ live_after log
     pub seen : n.at.seen ≡ length log
-    pub room : length log < most
+    pub few : length log < most
 
   waits_at : (t : ℕ) → r.at.fate ≡ None → r.at.seen ≡ length log → IsInStep g log r.at → g.came r.at.process Any ≡ Asked t
       → nat_le most r.at.seen ≡ false → Waits (record r { at = record r.at { process = g.after r.at.process Any }; asked = Some t }) t
@@ -58,14 +58,14 @@ module _ {P : Type 0} (g : Behaviour P) (laws : IsProcess g) (replies : Start) (
         lives = subst (λ (x : List ℕ). Contains x t) (sym l) (laws.any r.at.process t (i.on f) c);
         live = l ∙ (i.live f ∙ ap live_after all);
         seen = s;
-        room = grind (arith, nat_tests);
+        few = grind (arith, nat_tests);
       }
 
   pub waits : (n : Running P) (t : ℕ) → IsLeading r → r.at.seen ≡ length log → IsInStep g log r.at → n ≡ asking_next g most r
       → n.asked ≡ Some t → Waits n t
   waits n t d s i h k =
       let a = asking_cases g most r n t d.none_asked h k in
-      subst (λ (x : Running P). Waits x t) (sym a.new) (waits_at t d.on s i a.came a.room)
+      subst (λ (x : Running P). Waits x t) (sym a.new) (waits_at t d.on s i a.came a.few)
 
   -- it ended by a fault
   pub turn_dropped : (n : Running P) → IsLeading r → r.at.seen ≡ length log → IsInStep g log r.at → n ≡ asking_next g most r
@@ -79,8 +79,8 @@ module _ {P : Type 0} (g : Behaviour P) (laws : IsProcess g) (replies : Start) (
           index = ap (λ (x : Running P). x.index) e.rest;
           rewrites = ap (λ (x : Running P). x.at.rewrites) e.rest;
           seen = ap (λ (x : Running P). x.at.seen) e.rest ∙ s;
-          span = λ front from q. ap (λ (x : Running P). x.led) e.rest ∙
-              (q ∙ ap (λ (m : ℕ). front ++ (from, m) ∷ []) (sym (ap (λ (x : Running P). x.at.seen) e.rest)));
+          span = λ prefix from q. ap (λ (x : Running P). x.led) e.rest ∙
+              (q ∙ ap (λ (m : ℕ). prefix ++ (from, m) ∷ []) (sym (ap (λ (x : Running P). x.at.seen) e.rest)));
           leading = ap (λ (x : Running P). x.leading) e.rest;
           in_step = record {
             within = rw (ap (λ (x : Running P). x.at.seen) e.rest) i.within;
@@ -104,7 +104,7 @@ module _ {P : Type 0} (g : Behaviour P) (laws : IsProcess g) (replies : Start) (
           index = ap (λ (x : Running P). x.index) a.new;
           rewrites = ap (λ (x : Running P). x.at.rewrites) a.new;
           seen = seen ∙ s;
-          span = λ front from q. ap (λ (x : Running P). x.led) a.new ∙ (q ∙ ap (λ (m : ℕ). front ++ (from, m) ∷ []) (sym seen));
+          span = λ prefix from q. ap (λ (x : Running P). x.led) a.new ∙ (q ∙ ap (λ (m : ℕ). prefix ++ (from, m) ∷ []) (sym seen));
           leading = ap (λ (x : Running P). x.leading) a.new;
           in_step = record { within = rw seen i.within; live = λ z. cc; on = λ z. cc; exited = λ z. cc };
           asked = λ z. cc;
@@ -159,7 +159,7 @@ module _ {P : Type 0} (g : Behaviour P) (laws : IsProcess g) (replies : Start) (
           index = ap (λ (x : Running P). x.index) a.new;
           rewrites = ap (λ (x : Running P). x.at.rewrites) a.new;
           seen = omega (arith, one, seen, s);
-          span = λ front from q. ap grown (led ∙ q) ∙ (grown_last front from r.at.seen ∙ ap (λ (m : ℕ). front ++ (from, m + 1) ∷ []) (sym seen));
+          span = λ prefix from q. ap grown (led ∙ q) ∙ (grown_last prefix from r.at.seen ∙ ap (λ (m : ℕ). prefix ++ (from, m + 1) ∷ []) (sym seen));
           leading = ap (λ (x : Running P). x.leading) a.new;
           in_step = subst P' (sym tid) in_step;
           asked = λ z. refl;

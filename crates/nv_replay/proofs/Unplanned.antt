@@ -15,16 +15,16 @@ use Rattle.nv_replay.proofs.Settled.{Reaches, reach_here, reach_first}
 use Rattle.nv_replay.specs.Tracks.{track, track_next}
 use Rattle.nv_replay.specs.Hands.{is_handed, lead_to_hand}
 use Rattle.nv_replay.specs.Monitor.{Part, Run, numbers, part, begun, with_span, led_line, after_lead, tracked_by, leads_on, turn, line_of, lines_of, account_of, sequence}
-use Rattle.nv_replay.proofs.Numbers.{none_planned, get_behind, set_behind}
+use Rattle.nv_replay.proofs.Numbers.{none_planned, get_after, set_after}
 use Rattle.nv_replay.proofs.Stretches.{stage_same, leads_whole}
-use Rattle.nv_replay.proofs.Tracking.{next_behind, follow_seen}
+use Rattle.nv_replay.proofs.Tracking.{next_after, follow_seen}
 use Rattle.nv_replay.proofs.Rotating.{over_rests, empty_rests, dropped, led, sequence_is}
 
 -- who has led nothing follows
 pub track_none : {P : Type 0} (g : Behaviour P) (judge : Judge) (log : List Entry) (s : Follower P) → track g judge [] log s ≡ follow g judge log s
 unfolding track follow
 track_none {P = P} g judge log s = stage_same (track_next g judge [] log) (next g judge log)
-    (λ (x : Follower P). next_behind g judge [] log x (record { each = λ i y h. cc })) (length log + g.calls_left s.process + 1) s
+    (λ (x : Follower P). next_after g judge [] log x (record { each = λ i y h. cc })) (length log + g.calls_left s.process + 1) s
 
 module _ {P : Type 0} (g : Behaviour P) (laws : IsProcess g) (judges : ℕ → Judge) (start : Start) (most : ℕ) (cuts : ℕ → Option ℕ) where
   abbrev Seq : List P → ℕ → List Entry → Bool → Account
@@ -43,40 +43,40 @@ module _ {P : Type 0} (g : Behaviour P) (laws : IsProcess g) (judges : ℕ → J
       ap (λ (x : Standing). record { log = log; lines = x ∷ lines log (i + 1) (map part ps) }) (untold log i p)
       ∙ ap (λ (a : Account). landed.before_follower g judges start most cuts i p a) (over_case ps (i + 1) log)
 
-  -- where a run comes to, behind the parts that are settled
-  record Comes (front : List (Part P)) (m : Run P) (r : Account) : Type 0 where
+  -- where a run comes to, after the parts that are settled
+  record Comes (prefix : List (Part P)) (m : Run P) (r : Account) : Type 0 where
     last : Run P
     reach : Reaches (turn g judges start most cuts []) m last
     rest : turn g judges start most cuts [] last ≡ last
     back : List (Part P)
     log : last.log ≡ r.log
-    parts : last.parts ≡ front ++ back
-    told : lines r.log (length front) back ≡ r.lines
+    parts : last.parts ≡ prefix ++ back
+    told : lines r.log (length prefix) back ≡ r.lines
 
   abbrev at : List P → List (Part P) → List Entry → Bool → Run P
-  at ps front log over = record { log = log; over = over; order = numbers (length front) ps; parts = front ++ map part ps }
+  at ps prefix log over = record { log = log; over = over; order = numbers (length prefix) ps; parts = prefix ++ map part ps }
 
-  next_comes : (front : List (Part P)) (x : Part P) (line : Standing) (m m1 : Run P) (r r1 : Account) → turn g judges start most cuts [] m ≡ m1
-      → Comes (front ++ x ∷ []) m1 r1 → r ≡ record { log = r1.log; lines = line ∷ r1.lines }
-      → line_of g judges start most cuts [] r1.log (length front) x x.told ≡ line → Comes front m r
-  next_comes front x line m m1 r r1 t c e l = rw e (record {
+  next_comes : (prefix : List (Part P)) (x : Part P) (line : Standing) (m m1 : Run P) (r r1 : Account) → turn g judges start most cuts [] m ≡ m1
+      → Comes (prefix ++ x ∷ []) m1 r1 → r ≡ record { log = r1.log; lines = line ∷ r1.lines }
+      → line_of g judges start most cuts [] r1.log (length prefix) x x.told ≡ line → Comes prefix m r
+  next_comes prefix x line m m1 r r1 t c e l = rw e (record {
     last = c.last;
     reach = reach_first (turn g judges start most cuts []) m c.last (subst (λ (y : Run P). Reaches (turn g judges start most cuts []) y c.last) (sym t) c.reach);
     rest = c.rest;
     back = x ∷ c.back;
     log = c.log;
-    parts = c.parts ∙ append_assoc front (x ∷ []) c.back;
-    told = (let k = subst (λ (n : ℕ). lines r1.log n c.back ≡ r1.lines) (length-append front (x ∷ [])) c.told in λ j. l j ∷ k j);
+    parts = c.parts ∙ append_assoc prefix (x ∷ []) c.back;
+    told = (let k = subst (λ (n : ℕ). lines r1.log n c.back ≡ r1.lines) (length-append prefix (x ∷ [])) c.told in λ j. l j ∷ k j);
   })
 
   -- the same run, with one more part settled
-  shifted : (ps : List P) (front : List (Part P)) (x : Part P) (log : List Entry) (over : Bool)
-      → at ps (front ++ x ∷ []) log over ≡ record { log = log; over = over; order = numbers (length front + 1) ps; parts = front ++ x ∷ map part ps }
-  shifted ps front x log over = λ j. record {
+  shifted : (ps : List P) (prefix : List (Part P)) (x : Part P) (log : List Entry) (over : Bool)
+      → at ps (prefix ++ x ∷ []) log over ≡ record { log = log; over = over; order = numbers (length prefix + 1) ps; parts = prefix ++ x ∷ map part ps }
+  shifted ps prefix x log over = λ j. record {
     log = log;
     over = over;
-    order = numbers (length-append front (x ∷ []) j) ps;
-    parts = append_assoc front (x ∷ []) (map part ps) j;
+    order = numbers (length-append prefix (x ∷ []) j) ps;
+    parts = append_assoc prefix (x ∷ []) (map part ps) j;
   }
 
   off_leads : (p : P) (ps : List P) (i : ℕ) (log : List Entry) (x : Fate) → (follow g (judges i) log (fresh p)).fate ≡ Some x
@@ -99,30 +99,30 @@ module _ {P : Type 0} (g : Behaviour P) (laws : IsProcess g) (judges : ℕ → J
   on_leads p ps i log h = rw h refl
 
   abbrev All : List P → Type 0
-  All ps = (front : List (Part P)) (log : List Entry) (over : Bool) → Comes front (at ps front log over) (Seq ps (length front) log over)
+  All ps = (prefix : List (Part P)) (log : List Entry) (over : Bool) → Comes prefix (at ps prefix log over) (Seq ps (length prefix) log over)
 
-  passes : (p : P) (ps : List P) (front : List (Part P)) (log : List Entry) (x : Fate) → (follow g (judges (length front)) log (fresh p)).fate ≡ Some x
-      → All ps → Comes front (at (p ∷ ps) front log false) (Seq (p ∷ ps) (length front) log false)
-  passes p ps front log x h ih =
-      let i : ℕ = length front in
-      let m : Run P = at (p ∷ ps) front log false in
-      let t = dropped g judges start most cuts [] m i (numbers (i + 1) ps) (part p) x refl refl (get_behind front (part p) (map part ps))
+  passes : (p : P) (ps : List P) (prefix : List (Part P)) (log : List Entry) (x : Fate) → (follow g (judges (length prefix)) log (fresh p)).fate ≡ Some x
+      → All ps → Comes prefix (at (p ∷ ps) prefix log false) (Seq (p ∷ ps) (length prefix) log false)
+  passes p ps prefix log x h ih =
+      let i : ℕ = length prefix in
+      let m : Run P = at (p ∷ ps) prefix log false in
+      let t = dropped g judges start most cuts [] m i (numbers (i + 1) ps) (part p) x refl refl (get_after prefix (part p) (map part ps))
       (ap (λ (f : Follower P). f.fate) (track_none g (judges i) log (fresh p)) ∙ h) in
-      let c = ih (front ++ part p ∷ []) log false in
-      let n : length (front ++ part p ∷ []) ≡ i + 1 = length-append front (part p ∷ []) in
-      let c' = subst (λ (k : ℕ). Comes (front ++ part p ∷ []) (at ps (front ++ part p ∷ []) log false) (Seq ps k log false)) n c in
-      next_comes front (part p) (follower_line (follow g (judges i) (Seq ps (i + 1) log false).log (fresh p))) m (at ps (front ++ part p ∷ []) log false)
-      (Seq (p ∷ ps) i log false) (Seq ps (i + 1) log false) (t ∙ sym (shifted ps front (part p) log false)) c' (off_leads p ps i log x h)
+      let c = ih (prefix ++ part p ∷ []) log false in
+      let n : length (prefix ++ part p ∷ []) ≡ i + 1 = length-append prefix (part p ∷ []) in
+      let c' = subst (λ (k : ℕ). Comes (prefix ++ part p ∷ []) (at ps (prefix ++ part p ∷ []) log false) (Seq ps k log false)) n c in
+      next_comes prefix (part p) (follower_line (follow g (judges i) (Seq ps (i + 1) log false).log (fresh p))) m (at ps (prefix ++ part p ∷ []) log false)
+      (Seq (p ∷ ps) i log false) (Seq ps (i + 1) log false) (t ∙ sym (shifted ps prefix (part p) log false)) c' (off_leads p ps i log x h)
       (untold (Seq ps (i + 1) log false).log i p)
 
-  takes : (p : P) (ps : List P) (front : List (Part P)) (log : List Entry) → (follow g (judges (length front)) log (fresh p)).fate ≡ None
-      → All ps → Comes front (at (p ∷ ps) front log false) (Seq (p ∷ ps) (length front) log false)
-  takes p ps front log h ih =
-      let i : ℕ = length front in
-      let m : Run P = at (p ∷ ps) front log false in
+  takes : (p : P) (ps : List P) (prefix : List (Part P)) (log : List Entry) → (follow g (judges (length prefix)) log (fresh p)).fate ≡ None
+      → All ps → Comes prefix (at (p ∷ ps) prefix log false) (Seq (p ∷ ps) (length prefix) log false)
+  takes p ps prefix log h ih =
+      let i : ℕ = length prefix in
+      let m : Run P = at (p ∷ ps) prefix log false in
       let f : Follower P = follow g (judges i) log (fresh p) in
       let tn : track g (judges i) [] log (fresh p) ≡ f = track_none g (judges i) log (fresh p) in
-      let t = led g judges start most cuts [] m i (numbers (i + 1) ps) (part p) refl refl (get_behind front (part p) (map part ps))
+      let t = led g judges start most cuts [] m i (numbers (i + 1) ps) (part p) refl refl (get_after prefix (part p) (map part ps))
       (ap (λ (y : Follower P). y.fate) tn ∙ h) in
       let l : Leader P = whole i p log in
       let lw : leads_on g judges start most cuts [] log i f ≡ l = leads_whole g start most (cuts i) (length log) (record { process = f.process; log = log; fate = None }) in
@@ -133,39 +133,39 @@ module _ {P : Type 0} (g : Behaviour P) (laws : IsProcess g) (judges : ℕ → J
       (is_handed [] (length log) (leads_on g judges start most cuts [] log i y))) tn
       ∙ (ap (λ (b : Bool). after_lead m i (numbers (i + 1) ps) (part p) f (leads_on g judges start most cuts [] log i f) b) (none_planned (length log) (leads_on g judges start most cuts [] log i f))
       ∙ ap (λ (y : Leader P). after_lead m i (numbers (i + 1) ps) (part p) f y false) lw)) in
-      let s : after_lead m i (numbers (i + 1) ps) (part p) f l false ≡ record { log = l.log; over = over; order = numbers (i + 1) ps; parts = front ++ x ∷ map part ps } = ap
-      (λ (y : List (Part P)). record { log = l.log; over = over; order = numbers (i + 1) ps; parts = y }) (set_behind front (part p) x (map part ps)) in
-      let n : length (front ++ x ∷ []) ≡ i + 1 = length-append front (x ∷ []) in
-      let c = ih (front ++ x ∷ []) l.log over in
-      let c' = subst (λ (k : ℕ). Comes (front ++ x ∷ []) (at ps (front ++ x ∷ []) l.log over) (Seq ps k l.log over)) n c in
+      let s : after_lead m i (numbers (i + 1) ps) (part p) f l false ≡ record { log = l.log; over = over; order = numbers (i + 1) ps; parts = prefix ++ x ∷ map part ps } = ap
+      (λ (y : List (Part P)). record { log = l.log; over = over; order = numbers (i + 1) ps; parts = y }) (set_after prefix (part p) x (map part ps)) in
+      let n : length (prefix ++ x ∷ []) ≡ i + 1 = length-append prefix (x ∷ []) in
+      let c = ih (prefix ++ x ∷ []) l.log over in
+      let c' = subst (λ (k : ℕ). Comes (prefix ++ x ∷ []) (at ps (prefix ++ x ∷ []) l.log over) (Seq ps k l.log over)) n c in
       let seen : f.seen ≡ length log = follow_seen g laws (judges i) log p h in
       let ln : led_line (part p) f (length log) l ≡ leader_line f l = ap
       (λ (k : ℕ). record { fate = l.fate; seen = length l.log; led = (k, length l.log) ∷ []; rewrites = f.rewrites }) (sym seen) in
-      next_comes front x (leader_line f l) m (at ps (front ++ x ∷ []) l.log over) (Seq (p ∷ ps) i log false) (Seq ps (i + 1) l.log over)
-      (t' ∙ (s ∙ sym (shifted ps front x l.log over))) c' (on_leads p ps i log h) ln
+      next_comes prefix x (leader_line f l) m (at ps (prefix ++ x ∷ []) l.log over) (Seq (p ∷ ps) i log false) (Seq ps (i + 1) l.log over)
+      (t' ∙ (s ∙ sym (shifted ps prefix x l.log over))) c' (on_leads p ps i log h) ln
 
-  goes : (p : P) (ps : List P) (front : List (Part P)) (log : List Entry) (o : Option Fate) → (follow g (judges (length front)) log (fresh p)).fate ≡ o
-      → All ps → Comes front (at (p ∷ ps) front log false) (Seq (p ∷ ps) (length front) log false)
-  goes p ps front log None h ih = takes p ps front log h ih
-  goes p ps front log (Some x) h ih = passes p ps front log x h ih
+  goes : (p : P) (ps : List P) (prefix : List (Part P)) (log : List Entry) (o : Option Fate) → (follow g (judges (length prefix)) log (fresh p)).fate ≡ o
+      → All ps → Comes prefix (at (p ∷ ps) prefix log false) (Seq (p ∷ ps) (length prefix) log false)
+  goes p ps prefix log None h ih = takes p ps prefix log h ih
+  goes p ps prefix log (Some x) h ih = passes p ps prefix log x h ih
 
-  stands : (ps : List P) (front : List (Part P)) (log : List Entry) → Comes front (at ps front log true) (Seq ps (length front) log true)
-  stands ps front log = let e = over_case ps (length front) log in record {
-    last = at ps front log true;
-    reach = reach_here (turn g judges start most cuts []) (at ps front log true);
-    rest = over_rests g judges start most cuts [] (at ps front log true) refl;
+  stands : (ps : List P) (prefix : List (Part P)) (log : List Entry) → Comes prefix (at ps prefix log true) (Seq ps (length prefix) log true)
+  stands ps prefix log = let e = over_case ps (length prefix) log in record {
+    last = at ps prefix log true;
+    reach = reach_here (turn g judges start most cuts []) (at ps prefix log true);
+    rest = over_rests g judges start most cuts [] (at ps prefix log true) refl;
     back = map part ps;
     log = ap (λ (a : Account). a.log) e;
     parts = refl;
     told = rw (← e) refl;
   }
 
-  none_left : (front : List (Part P)) (log : List Entry) (over : Bool) → Comes front (at [] front log over) (Seq [] (length front) log over)
+  none_left : (prefix : List (Part P)) (log : List Entry) (over : Bool) → Comes prefix (at [] prefix log over) (Seq [] (length prefix) log over)
   unfolding sequence_from
-  none_left front log over = record {
-    last = at [] front log over;
-    reach = reach_here (turn g judges start most cuts []) (at [] front log over);
-    rest = empty_rests g judges start most cuts [] (at [] front log over) refl;
+  none_left prefix log over = record {
+    last = at [] prefix log over;
+    reach = reach_here (turn g judges start most cuts []) (at [] prefix log over);
+    rest = empty_rests g judges start most cuts [] (at [] prefix log over) refl;
     back = [];
     log = refl;
     parts = refl;
@@ -173,9 +173,9 @@ module _ {P : Type 0} (g : Behaviour P) (laws : IsProcess g) (judges : ℕ → J
   }
 
   comes : (ps : List P) → All ps
-  comes [] front log over = none_left front log over
-  comes (p ∷ ps) front log true = stands (p ∷ ps) front log
-  comes (p ∷ ps) front log false = goes p ps front log (follow g (judges (length front)) log (fresh p)).fate refl (comes ps)
+  comes [] prefix log over = none_left prefix log over
+  comes (p ∷ ps) prefix log true = stands (p ∷ ps) prefix log
+  comes (p ∷ ps) prefix log false = goes p ps prefix log (follow g (judges (length prefix)) log (fresh p)).fate refl (comes ps)
 
   pub no_hands : (ps : List P) → sequence g judges start most cuts [] ps ≡ landed.sequence g judges start most cuts ps
   no_hands ps =

@@ -1,4 +1,4 @@
--- A version leads: each call that it comes to is served and logged behind those before.
+-- A version leads: each call that it comes to is served and logged after those before.
 use Rattle.std.specs.Prelude.{ℕ, ◌+◌, Bool, true, false, ◌==◌, nat_le, List, [], ◌∷◌, ◌++◌, length, Option, Some, None, option_map, if◌then◌else◌}
 use Rattle.nv_calls.specs.Calls.{Entry}
 use Rattle.nv_calls.specs.Logs.{Start, served}

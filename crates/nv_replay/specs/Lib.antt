@@ -3,7 +3,7 @@ pub mod Permits
 pub mod Follow
 pub mod Lead
 pub mod Spans
-pub mod Kept
+pub mod Bounds
 pub mod Versions
 pub mod Sequence
 pub mod Turns

@@ -36,7 +36,7 @@ cuts_of (line ∷ lines) zero = cut_of line.fate line.seen
 cuts_of (line ∷ lines) (suc i) = cuts_of lines i
 
 module _ {P : Type 0} (g : Behaviour P) (judges : ℕ → Judge) (start : Start) (most : ℕ) (cuts : ℕ → Option ℕ) where
-  -- the versions behind go on from what the leader leaves
+  -- the versions after it go on from what the leader leaves
   abbrev pub before_leader : Follower P → Leader P → (List Entry → Bool → Account) → Account
   before_leader f l others = record { log = (others l.log (is_exited l.fate)).log; lines = leader_line f l ∷ (others l.log (is_exited l.fate)).lines }
 
@@ -48,7 +48,7 @@ module _ {P : Type 0} (g : Behaviour P) (judges : ℕ → Judge) (start : Start)
   turn i p others log over f true = before_leader f (lead g start most (cuts i) (record { process = f.process; log = log; fate = None })) others
   turn i p others log over f false = before_follower i p (others log over)
 
-  -- the versions from number i on, behind the log of those before; over where one of those has exited
+  -- the versions from number i on, after the log of those before; over where one of those has exited
   unfoldable pub sequence_from : List P → ℕ → List Entry → Bool → Account
   sequence_from [] i log over = record { log = log; lines = [] }
   sequence_from (p ∷ ps) i log over = turn i p (λ l o. sequence_from ps (i + 1) l o) log over (follow g (judges i) log (fresh p))

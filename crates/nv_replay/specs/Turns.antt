@@ -19,7 +19,7 @@ pub record LedOn {P : Type 0} (g : Behaviour P) (old new : Running P) (log new_l
   pub index : new.index ≡ old.index
   pub rewrites : new.at.rewrites ≡ old.at.rewrites
   pub seen : new.at.seen ≡ length new_log
-  pub span : (front : List (ℕ × ℕ)) (from : ℕ) → old.led ≡ front ++ (from, old.at.seen) ∷ [] → new.led ≡ front ++ (from, new.at.seen) ∷ []
+  pub span : (prefix : List (ℕ × ℕ)) (from : ℕ) → old.led ≡ prefix ++ (from, old.at.seen) ∷ [] → new.led ≡ prefix ++ (from, new.at.seen) ∷ []
   pub leading : new.leading ≡ old.leading
   pub in_step : IsInStep g new_log new.at
   pub asked : new.at.fate ≡ None → new.asked ≡ None

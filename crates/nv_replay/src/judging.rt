@@ -2,6 +2,7 @@
 ghost use Rattle.std.specs.Prelude.{◌≡◌, ◌≤◌, true, option_map};
 ghost use Rattle.nv_calls.specs.Calls.{request, entry};
 ghost use Rattle.nv_calls.specs.Constants.{constant_of};
+ghost use Rattle.nv_calls.specs.Limits.{MOST_BYTES};
 ghost use Rattle.nv_threads.specs.Threads.{threads};
 ghost use Rattle.nv_replay.specs.Follow.{judge_of};
 ghost use Rattle.nv_replay.specs.Permits.{HasGiven};
@@ -26,9 +27,9 @@ pub fn judge(rules: Option<&Filter>, call: &Call, event: &Event, index: u32) -> 
 #[tactic(auto, using(nv_threads::proofs::ThreadLaws::threads_here, crate::proofs::Stepping::constant_new))]
 pub fn give_constant(process: &mut Process, tid: u32, scratch: &mut Bytes) -> bool
     requires pending { threads.pending process.old tid ≡ true }
-    requires room { 4096 ≤ scratch.old.capacity }
+    requires capacity { MOST_BYTES ≤ scratch.old.capacity }
     ensures given { HasGiven threads (constant_of (threads.call process.old tid)) tid process.old process.new result }
-    ensures room { scratch.new.capacity ≡ scratch.old.capacity }
+    ensures capacity { scratch.new.capacity ≡ scratch.old.capacity }
 {
     match constant(process.pending(tid), scratch) {
         Some(ret) => {

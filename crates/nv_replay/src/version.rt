@@ -7,6 +7,7 @@ ghost use Rattle.nv_threads.specs.Behaviours.{IsStarted};
 ghost use Rattle.nv_threads.specs.Threads.{threads};
 ghost use Rattle.nv_threads.specs.declared.turns.Came.{Came};
 ghost use Rattle.nv_calls.specs.Constants.{constant_of};
+ghost use Rattle.nv_calls.specs.Limits.{MOST_EVENTS};
 ghost use Rattle.nv_rules.specs.Verdicts.{verdict_of};
 ghost use Rattle.nv_replay.specs.Follow.{IsCounted, verdict_on, decided, met, consumed, judged, refusal_of, fresh, judge_of};
 ghost use Rattle.nv_replay.specs.Permits.{No, given, failed, passed, permit};
@@ -39,14 +40,14 @@ pub struct Version {
 impl Model for Version {
     ghost use Rattle.nv_threads.specs.Threads.{threads, Proc};
     ghost use Rattle.std.specs.Prelude.{◌+◌};
-    ghost use Rattle.nv_replay.specs.Kept.{IsKept};
+    ghost use Rattle.nv_replay.specs.Bounds.{AreBounded};
     ghost use Rattle.nv_replay.specs.Versions.{Running};
 
     ghost Value = { Running Proc };
 
     ghost view = { λ v. record { index = v.index; at = record { process = v.process; seen = v.standing.seen; rewrites = v.standing.rewrites; fate = v.standing.fate }; led = v.standing.led; leading = v.leading; asked = v.asked } };
 
-    ghost invariant = { λ v. IsKept v.standing.seen (v.standing.rewrites + threads.calls_left v.process) v.standing.led v.scratch.capacity };
+    ghost invariant = { λ v. AreBounded v.standing.seen (v.standing.rewrites + threads.calls_left v.process) v.standing.led v.scratch.capacity };
 }
 
 /// What a follower has made of an event.
@@ -101,7 +102,7 @@ impl Version {
     pub fn follow(&mut self, rules: Option<&Filter>, event: &Event) -> Followed
         requires following { IsFollowing self.old }
         requires stamp { event.now.stamp ≡ self.old.at.seen }
-        requires below { self.old.at.seen < 131072 }
+        requires below { self.old.at.seen < MOST_EVENTS }
         requires lives { Contains (threads.live self.old.at.process) event.now.call.tid }
         requires new { IsNew (threads.live self.old.at.process) (child_of (entry event.now)) }
         ensures new { let judge = judge_of (option_map (λ f. f.now) rules.entry) self.old.index in
@@ -119,7 +120,7 @@ impl Version {
         requires following { IsFollowing self.old }
         requires pending { threads.pending self.old.at.process tid ≡ true }
         requires new { IsNew (threads.live self.old.at.process) (child_of (entry event.now)) }
-        requires below { self.old.at.seen < 131072 }
+        requires below { self.old.at.seen < MOST_EVENTS }
         ensures new { let judge = judge_of (option_map (λ f. f.now) rules.entry) self.old.index in
             self.new ≡ record self.old { at = met threads judge (entry event.now) self.old.at self.old.at.process (Came.Asked tid) } }
         ensures told { let judge = judge_of (option_map (λ f. f.now) rules.entry) self.old.index in
@@ -137,7 +138,7 @@ impl Version {
     fn obey(&mut self, tid: u32, event: &Event, value: u32) -> Followed
         requires following { IsFollowing self.old }
         requires pending { threads.pending self.old.at.process tid ≡ true }
-        requires below { self.old.at.seen < 131072 }
+        requires below { self.old.at.seen < MOST_EVENTS }
         ensures new { let call = threads.call self.old.at.process tid in
             self.new ≡ record self.old {
               at = judged threads self.old.at self.old.at.process tid (refusal_of call (entry event.now) value)
@@ -193,7 +194,7 @@ impl Version {
     fn pass(&mut self, tid: u32, event: &Event, value: u32) -> Followed
         requires following { IsFollowing self.old }
         requires pending { threads.pending self.old.at.process tid ≡ true }
-        requires below { self.old.at.seen < 131072 }
+        requires below { self.old.at.seen < MOST_EVENTS }
         ensures new { let call = threads.call self.old.at.process tid in
             self.new ≡ record self.old {
               at = judged threads self.old.at self.old.at.process tid (refusal_of call (entry event.now) value)
@@ -229,7 +230,7 @@ impl Version {
         requires pending { threads.pending self.old.at.process tid ≡ true }
         requires same { (threads.call self.old.at.process tid).nr ≡ event.now.call.nr }
         requires new { IsNew (threads.live self.old.at.process) (child_of (entry event.now)) }
-        requires below { self.old.at.seen < 131072 }
+        requires below { self.old.at.seen < MOST_EVENTS }
         ensures new { self.new ≡ record self.old { at = consumed threads self.old.at (threads.answered self.old.at.process tid (entry event.now).reply) } }
         ensures told { result ≡ Followed.Matched }
     {
@@ -324,7 +325,7 @@ impl Version {
         requires pending { threads.pending self.old.at.process event.now.call.tid ≡ true }
         requires same { (threads.call self.old.at.process event.now.call.tid).nr ≡ event.now.call.nr }
         requires new { IsNew (threads.live self.old.at.process) (child_of (entry event.now)) }
-        requires below { self.old.at.seen < 131072 }
+        requires below { self.old.at.seen < MOST_EVENTS }
         ensures { self.new ≡ answered_by threads (entry event.now) self.old }
     {
         self.process.answer(

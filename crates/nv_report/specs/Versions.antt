@@ -40,8 +40,8 @@ end_text None = []
 end_text (Some fate) = fate_text fate
 
 -- the number and the end
-abbrev pub front_text : ℕ → Option Fate → List ℕ
-front_text index fate = concat (decimal index ∷ codes " " ∷ []) ++ end_text fate
+abbrev pub prefix_text : ℕ → Option Fate → List ℕ
+prefix_text index fate = concat (decimal index ∷ codes " " ∷ []) ++ end_text fate
 
 abbrev pub seen_text : ℕ → List ℕ
 seen_text seen = concat (codes " seen " ∷ decimal seen ∷ codes " led " ∷ [])
@@ -66,7 +66,7 @@ rest_text s = seen_text s.seen ++ (led_text s.led ++ rewrites_text s.rewrites)
 
 -- the line of a version
 abbrev pub line_text : ℕ → Standing → List ℕ
-line_text index s = front_text index s.fate ++ rest_text s
+line_text index s = prefix_text index s.fate ++ rest_text s
 
 -- the lines of the versions from this number on
 abbrev pub lines_text : ℕ → List Standing → List ℕ

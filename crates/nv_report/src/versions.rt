@@ -3,7 +3,7 @@ ghost use Rattle.std.specs.Prelude.{◌≡◌, ◌+◌, ◌<◌, ◌^◌, ◌++�
 ghost use Rattle.std.specs.List.{flat_map};
 ghost use Rattle.nv_outside.specs.Sink.{Puts};
 ghost use Rattle.nv_replay.specs.Versions.{standing_of};
-ghost use Rattle.nv_report.specs.Versions.{kind_text, fault_text, refusal_text, fate_text, end_text, seen_text, span_text, next_span_text, led_text, rewrites_text, front_text, rest_text, line_text, lines_text};
+ghost use Rattle.nv_report.specs.Versions.{kind_text, fault_text, refusal_text, fate_text, end_text, seen_text, span_text, next_span_text, led_text, rewrites_text, prefix_text, rest_text, line_text, lines_text};
 
 use crate::numbers::put_hex;
 use itoa::Buffer;
@@ -28,15 +28,15 @@ pub fn put_lines<S: Sink>(sink: &mut S, first: usize, versions: &[Version]) -> P
 fn put_line<S: Sink>(sink: &mut S, index: usize, standing: &Standing) -> Put
     ensures { Puts (S.told sink.old) (S.faults sink.old) (line_text index standing.now) result (S.told sink.new) (S.faults sink.new) }
 {
-    match put_front(sink, index, standing.fate) {
+    match put_prefix(sink, index, standing.fate) {
         Put::Whole => put_rest(sink, standing),
         Put::Failed => Put::Failed,
     }
 }
 
 // The number and the end.
-fn put_front<S: Sink>(sink: &mut S, index: usize, fate: Option<Fate>) -> Put
-    ensures { Puts (S.told sink.old) (S.faults sink.old) (front_text index fate) result (S.told sink.new) (S.faults sink.new) }
+fn put_prefix<S: Sink>(sink: &mut S, index: usize, fate: Option<Fate>) -> Put
+    ensures { Puts (S.told sink.old) (S.faults sink.old) (prefix_text index fate) result (S.told sink.new) (S.faults sink.new) }
 {
     let mut buffer = Buffer::new();
     match put_pieces(sink, &[buffer.format(index).as_bytes(), b" "]) {

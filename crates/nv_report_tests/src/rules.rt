@@ -80,10 +80,10 @@ const ENDED_WITH_ERROR: &str =
 const EXITED: &str = "1 exited 0 seen 2 led - rewrites 1\n";
 
 // The report is the first text and after it the second.
-fn expect(rt: &impl Abort, report: Option<Vec<u8>>, front: &str, line: &str) {
+fn expect(rt: &impl Abort, report: Option<Vec<u8>>, prefix: &str, line: &str) {
     let report = report.expect(rt, "a report");
-    let (begin, end) = report.split_at(front.len().min(report.len()));
-    assert_eq!(rt; begin, front.as_bytes());
+    let (begin, end) = report.split_at(prefix.len().min(report.len()));
+    assert_eq!(rt; begin, prefix.as_bytes());
     assert_eq!(rt; end, line.as_bytes());
 }
 

@@ -119,10 +119,10 @@ fn is_fate(alloc: Global, value: &Value, fate: Fate) -> Option<bool> {
 fn has_led(value: &Value, spans: &[(u32, u32)]) -> Option<bool> {
     let items = value.get("led")?.as_array()?;
     for (item, span) in items.iter().zip(spans) {
-        let [first, behind] = item.as_array()?.as_slice() else {
+        let [first, last] = item.as_array()?.as_slice() else {
             return None;
         };
-        if first.as_u64()? != u64::from(span.0) || behind.as_u64()? != u64::from(span.1) {
+        if first.as_u64()? != u64::from(span.0) || last.as_u64()? != u64::from(span.1) {
             return Some(false);
         }
     }

@@ -2,6 +2,7 @@
 ghost use Rattle.std.specs.Prelude.{◌≡◌, ◌<◌, ◌≤◌, IfOk};
 ghost use Rattle.nv_calls.specs.Calls.{request};
 ghost use Rattle.nv_calls.specs.Shapes.{IsShaped};
+ghost use Rattle.nv_calls.specs.Limits.{MOST_EVENTS};
 ghost use Rattle.nv_room_tests.specs.Going.{GoesOn};
 
 use nv_calls::SyscallKernel;
@@ -23,7 +24,7 @@ pub fn run_room<R: Threads + Sync>(
     versions: u32,
 ) -> Result<u64, AllocError>
     requires bytes { bytes ≤ 4096 }
-    requires events { events ≤ 131072 }
+    requires events { events ≤ MOST_EVENTS }
     requires versions { (0 < versions) × (versions ≤ 8) }
 {
     let script = script(alloc, bytes, events)?;
@@ -37,7 +38,7 @@ pub fn run_room<R: Threads + Sync>(
 /// The same calls on the kernel alone.
 pub fn run_kernel(alloc: Global, bytes: u32, events: u32) -> Result<u64, AllocError>
     requires bytes { bytes ≤ 4096 }
-    requires events { events ≤ 131072 }
+    requires events { events ≤ MOST_EVENTS }
 {
     let script = script(alloc, bytes, events)?;
     let kernel = serve_all(kernel(alloc)?, &script);

@@ -29,7 +29,7 @@ use Rattle.nv_room.specs.Spans.{of_station, of_version, IsLast, Opened}
 use Rattle.nv_room.specs.Room.{cursor, Moment, as_of, IsPast, Knows, Tag, tag, version_of, Has, Live, Leads, Out, Clash, Apart, Notes, second, Rule, first}
 use Rattle.nv_room.specs.Steps.{one_made, reader_of, past_of, joined, spent}
 use Rattle.nv_room.proofs.Lists.{at_end, at_below}
-use Rattle.nv_room.proofs.Placement.{slot_behind}
+use Rattle.nv_room.proofs.Placement.{slot_after}
 use Rattle.nv_room.proofs.Merges.{merge_turned, merge_cut, notes_none}
 use Rattle.nv_room.proofs.Stays.{planned, now, lead_stays}
 use Rattle.nv_room.proofs.Seats.{holder_led, one_who, in_role, seated}
@@ -285,7 +285,7 @@ module _ {K : Type 0} (hist : K → List Entry) (beg : K → Start) (p : Plan K)
     led = record { tile = refl; rise = tt; last_is_holders = λ xs x e. (let a = ap (λ (z : List Span). length z) e in let b = length-append xs (x ∷ []) in absurd (omega arith)); unled_is_free = λ e. refl };
     merge = record {
       writing = [];
-      stamps = stamps_first p.places (second p.stations p.places ws) (λ l k. zeros (slot p.stations p.places l k 1) (slot_behind p.stations p.places l k 1 0 (omega arith)));
+      stamps = stamps_first p.places (second p.stations p.places ws) (λ l k. zeros (slot p.stations p.places l k 1) (slot_after p.stations p.places l k 1 0 (omega arith)));
       lead_writes = λ j v e role. absurd (subst (λ (z : View K). Leads z.role) (sym (one_at (first p) j v e).1) role);
       not_held = λ _. refl;
       notes = λ j v e _. subst (λ (z : View K). Notes [] z.seen z.noted z.missed) (one_at (first p) j v e).1 (notes_none [] []);

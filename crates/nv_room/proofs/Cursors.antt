@@ -21,7 +21,7 @@ use Rattle.nv_room.specs.Owner.{GONE, held}
 use Rattle.nv_room.specs.Room.{cursor, Moment, as_of, Places, Doors, Led, InRole, IsSeated, Live, Leads, tag, Apart, Rule}
 use Rattle.nv_room.specs.Steps.{one_on, advanced, as_gone, left}
 use Rattle.nv_room.proofs.Lists.{at_below, there}
-use Rattle.nv_room.proofs.Placement.{place_behind, header_inside}
+use Rattle.nv_room.proofs.Placement.{place_after, header_inside}
 use Rattle.nv_places.specs.Header.{head_index, cursor_index}
 use Rattle.nv_room.proofs.Merges.{merge_turned, second_kept, notes_none}
 use Rattle.nv_room.proofs.Stays.{Onward, Own, last_near, planned, lead_stays, logged, same_tags, past_on, now, moved}
@@ -50,7 +50,7 @@ module _ (n c : ℕ) (m : Moment) (i x : ℕ) (pl : Places n c m) (near : i < n)
   cursor_up s = ⊎_elim (λ (y : (s ≡ i) × (cursor ws' s ≡ x)). let a : cursor m.words s ≡ cursor m.words i = ap (cursor m.words) y.0 in let b = y.1 in omega arith) (λ (y : (s ≢ i) × (cursor ws' s ≡ cursor m.words s)). let b = y.1 in omega arith) (cursor_set s)
 
   place_else : (log : Log) (e j : ℕ) → get_or ws' (place_of n c log e j) 0 ≡ get_or m.words (place_of n c log e j) 0
-  place_else log e j = get_or-set_other m.words (cursor_index i) (place_of n c log e j) x 0 (place_behind n c log e j (cursor_index i) (omega arith))
+  place_else log e j = get_or-set_other m.words (cursor_index i) (place_of n c log e j) x 0 (place_after n c log e j (cursor_index i) (omega arith))
 
   pub places_risen : (x ≤ length m.log) ⊎ (x ≡ GONE) → (m.phase ≡ held → i ≢ m.holder) → Places n c risen
   places_risen count unheld = record {

@@ -10,7 +10,7 @@ use Rattle.nv_places.specs.Logs.{lanes_after, lane, earlier}
 use Rattle.atomic_table.proofs.Lists.{at_longer}
 use Rattle.nv_places.specs.declared.spot.Spot.{Spot}
 use Rattle.nv_places.proofs.LogLaws.{lane_is_taken, earlier_was_count}
-use Rattle.nv_places.proofs.PoolOfLog.{before_front}
+use Rattle.nv_places.proofs.PoolOfLog.{before_prefix}
 use Rattle.nv_room.specs.declared.view.View.{View}
 use Rattle.nv_room.specs.Placement.{Log, pool_chunks, table_words, chunks_before, slot, spot, place_of, next_slot}
 use Rattle.nv_room.specs.Steps.{probed_at, with_note, with_miss}
@@ -34,9 +34,9 @@ spot_in c seen l s pos is = (
 pub spot_word : (n c : ℕ) (log seen : Log) (l j : ℕ) (s : Spot) → Prefix seen log → l ≡ lane log (length seen) → IsSpot c seen l s → spot n c s.lane s.place s.first j ≡ place_of n c log (length seen) j
 spot_word n c log seen l j s pre is at =
     let h : ℕ = length seen in
-    let front : take h log ≡ seen = prefix_take seen log pre in
-    let place : s.place ≡ earlier log h % c = at.place ∙ ap (λ (z : ℕ). get_or (lanes_after seen).counts z 0 % c) is ∙ ap (λ (z : Log). get_or (lanes_after z).counts (lane log h) 0 % c) (sym front) ∙ ap (λ (z : ℕ). z % c) (sym (earlier_was_count log h)) in
-    let first : s.first ≡ chunks_before log h % pool_chunks c = at.first ∙ ap (λ (z : ℕ). z % pool_chunks c) (sym (before_front log seen h front)) in
+    let prefix : take h log ≡ seen = prefix_take seen log pre in
+    let place : s.place ≡ earlier log h % c = at.place ∙ ap (λ (z : ℕ). get_or (lanes_after seen).counts z 0 % c) is ∙ ap (λ (z : Log). get_or (lanes_after z).counts (lane log h) 0 % c) (sym prefix) ∙ ap (λ (z : ℕ). z % c) (sym (earlier_was_count log h)) in
+    let first : s.first ≡ chunks_before log h % pool_chunks c = at.first ∙ ap (λ (z : ℕ). z % pool_chunks c) (sym (before_prefix log seen h prefix)) in
     (λ k. spot n c ((at.lane ∙ is) k) (place k) (first k) j) ∙ sym (place_is_spot n c log h j)
 
 -- word 1, which a probe looks at

@@ -27,7 +27,7 @@ use Rattle.nv_room.specs.Spans.{span, Tiles, of_station, IsLast}
 use Rattle.nv_room.specs.Room.{cursor, Moment, as_of, Places, Doors, Turns, Led, Freed, InRole, Live, Leads, tag, Apart, IsKernel, AtHome, Rule}
 use Rattle.nv_room.specs.Steps.{as_leaving, gave_up, as_lead, took}
 use Rattle.nv_room.proofs.Lists.{at_below, at_end}
-use Rattle.nv_room.proofs.Placement.{place_behind, header_inside}
+use Rattle.nv_room.proofs.Placement.{place_after, header_inside}
 use Rattle.nv_room.proofs.Tiling.{tiles_more, rising_more, opened_more, last_apart, of_more_other, version_more_other, version_more_own}
 use Rattle.nv_places.specs.Header.{head_index, cursor_index}
 use Rattle.nv_room.proofs.Merges.{merge_turned, merge_phase, merged_quiet, second_kept}
@@ -44,7 +44,7 @@ module _ (n c : ℕ) (m : Moment) (new : ℕ) (pl : Places n c m) where
   same_cursor s = get_or-set_other m.words 0 (cursor_index s) new 0 (λ e. omega arith)
 
   pub same_place : (log : Log) (i j : ℕ) → get_or (set m.words 0 new) (place_of n c log i j) 0 ≡ get_or m.words (place_of n c log i j) 0
-  same_place log i j = get_or-set_other m.words 0 (place_of n c log i j) new 0 (place_behind n c log i j 0 (omega arith))
+  same_place log i j = get_or-set_other m.words 0 (place_of n c log i j) new 0 (place_after n c log i j 0 (omega arith))
 
   pub places_owned : (ph : Phase) (h : ℕ) (spans : List Span) (seating : List ℕ) (ready : ℕ) → new ≡ owner_word ph h (length seating) (length m.log) → h < length seating → ((s : ℕ) → s < h → GONE ≤ cursor m.words s) → (ph ≡ held → cursor m.words h ≤ length m.log)
       → ((s : ℕ) → s ≢ h → s < length seating → ((s ≢ m.holder) × (s < length m.seating)) ⊎ (length m.log ≤ cursor m.words s)) → Places n c (as_of (set m.words 0 new) m.log ph h spans seating ready)

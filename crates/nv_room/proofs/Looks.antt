@@ -161,7 +161,7 @@ module _ {K : Type 0} (hist : K → List Entry) (beg : K → Start) (p : Plan K)
             opened_few = let w = r.merge.floors_wide id v at (subst Live (sym role) tt) in omega arith;
             held_is_small = found_small len x r.phase f;
             is_known = l.1;
-            behind = λ e. let a = l.2 e in omega arith;
+            within = λ e. let a = l.2 e in omega arith;
             last_is_free = λ e. found_held len x r.phase f (unheld e);
             first_is_free = λ e. let same : cursor s.words st ≡ cursor s.words 0 = ap (cursor s.words) e in let low : r.holder ≡ 0 = dite (dec_le 1 r.holder) (λ le. let g = pl.lower_are_gone 0 le in absurd (omega arith)) (λ gt. omega arith) in
                 let unled = holder_led (now hist beg p s r) st r.led ir.led_nothing (e ∙ sym low) in let b = tiles_none 0 len r.spans r.led.tile unled in let g = free_found len x r.phase f (r.led.unled_is_free unled) (sym b) in

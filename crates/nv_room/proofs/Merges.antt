@@ -17,11 +17,11 @@ use Rattle.nv_room.specs.Placement.{Log, header, slot, place_of}
 use Rattle.nv_room.specs.Owner.{Phase, held}
 use Rattle.nv_room.specs.Room.{Live, Leads, Notes, Merge, second}
 use Rattle.nv_room.proofs.Lists.{at_end}
-use Rattle.nv_room.proofs.Placement.{slot_behind, slots_apart, place_early, second_apart}
+use Rattle.nv_room.proofs.Placement.{slot_after, slots_apart, place_early, second_apart}
 
 -- a word before the places
 pub second_kept : (n c k x : ℕ) (ws : List ℕ) → k < header n → (l j : ℕ) → second n c (set ws k x) l j ≡ second n c ws l j
-second_kept n c k x ws h l j = get_or-set_other ws k (slot n c l j 1) x 0 (slot_behind n c l j 1 k h)
+second_kept n c k x ws h l j = get_or-set_other ws k (slot n c l j 1) x 0 (slot_after n c l j 1 k h)
 
 pub stamps_same : (c : ℕ) (f g : ℕ → ℕ → ℕ) (log : Log) (w : List ℕ) → ((l k : ℕ) → g l k ≡ f l k) → Stamps c f log w → Stamps c g log w
 stamps_same c f g log w same s l k a b = subst (λ (z : ℕ). Stamp log w l (low z)) (sym (same l k)) (s l k a b)

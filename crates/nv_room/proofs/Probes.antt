@@ -91,7 +91,7 @@ module _ {K : Type 0} (hist : K → List Entry) (beg : K → Start) (p : Plan K)
   probes slots id k l me role below living before is s r wide at _ = let v = me.0 in let n : ℕ = p.stations in let c : ℕ = p.places in let kn = r.each_seat id v at in let mg = r.merge in let seen : Log = v.seen in let i : ℕ = length v.seen in
       let se = seated hist beg p s r id v at Reader role tt in let nt = mg.notes id v at role in let x : ℕ = get_or s.words k 0 in let pos : 0 < c = r.places.some_place in
       let more : i < length r.log = (let q = kn.head_seen_at_most_head in omega arith) in
-      let front : take i r.log ≡ v.seen = prefix_take v.seen r.log kn.seen_is_prefix in
+      let prefix : take i r.log ≡ v.seen = prefix_take v.seen r.log kn.seen_is_prefix in
       let sec : ℕ → ℕ → ℕ = second n c s.words in
       let shown : found c sec v.seen l ≡ low x = ap (λ (z : ℕ). low (get_or s.words z 0)) (sym is) in
       let stands = stamped s r id v at role more in
@@ -102,7 +102,7 @@ module _ {K : Type 0} (hist : K → List Entry) (beg : K → Start) (p : Plan K)
       (λ t. subst (λ (b : Bool). Merge n c s.words r.log r.phase (set s.views id (cond b (hit l v) (miss l v)))) (sym t)
       (turned (hit l v) refl refl (noted_hit r.log v.seen v.noted v.missed l nt more (probe_hits c sec r.log mg.writing v.seen l pos mg.stamps more below living (shown ∙ eqb-true (low x) i t))) floors))
       (λ f. subst (λ (b : Bool). Merge n c s.words r.log r.phase (set s.views id (cond b (hit l v) (miss l v)))) (sym f)
-      (turned (miss l v) refl refl (noted_miss r.log v.seen v.noted v.missed l nt more (probe_misses c sec r.log v.seen l front stands (λ e. eqb-false (low x) i f (sym shown ∙ e)))) floors)) in (
+      (turned (miss l v) refl refl (noted_miss r.log v.seen v.noted v.missed l nt more (probe_misses c sec r.log v.seen l prefix stands (λ e. eqb-false (low x) i f (sym shown ∙ e)))) floors)) in (
         w,
         keeps,
         tt,
@@ -113,10 +113,10 @@ module _ {K : Type 0} (hist : K → List Entry) (beg : K → Start) (p : Plan K)
               λ ne. (
                 lane r.log i,
                 lane_below_8 r.log i,
-                next_lives r.log v.seen (lawful_entries s r) front more,
+                next_lives r.log v.seen (lawful_entries s r) prefix more,
                 λ h. ⊎_elim
                     (λ (q : get_elem? v.missed h.0 ≡ some (lane r.log i)). (nt.missed_is_not (lane r.log i) (h.0, q)).1 refl)
-                    (λ (q : (h.0 ≡ length v.missed) × (j ≡ lane r.log i)). ne (sym shown ∙ ap (found c sec v.seen) (same ∙ q.1) ∙ next_found c sec r.log v.seen front stands))
+                    (λ (q : (h.0 ≡ length v.missed) × (j ≡ lane r.log i)). ne (sym shown ∙ ap (found c sec v.seen) (same ∙ q.1) ∙ next_found c sec r.log v.seen prefix stands))
                     (at_end v.missed j (lane r.log i) h.0 h.1),
               ),
             ),

@@ -3,6 +3,7 @@ ghost use Rattle.std.specs.Prelude.{◌≡◌, ◌+◌, ◌<◌, ◌≤◌, ◌+
 ghost use Rattle.nv_calls.specs.Calls.{request};
 ghost use Rattle.nv_calls.specs.Logs.{served, live_after, IsLawful};
 ghost use Rattle.nv_calls.specs.Shapes.{IsShaped};
+ghost use Rattle.nv_calls.specs.Limits.{MOST_BYTES, MOST_EVENTS};
 ghost use Rattle.nv_room.specs.Seats.{view, lead_view, station_of_reader, version_of_reader, station_of_lead, version_of_lead, opened_of, stations_of, versions_of, places_of, kernel_of, due_of, SameLead};
 ghost use Rattle.nv_lanes.specs.Lanes.{lives};
 ghost use Rattle.nv_pool.specs.Chunks.{chunks_of};
@@ -23,7 +24,7 @@ impl<K: SyscallKernel> Lead<K> {
     /// How many events are published.
     pub fn seen(&self) -> u32
         ensures count { length (lead_view self.now).seen ≡ result }
-        ensures small { result ≤ 131072 }
+        ensures small { result ≤ MOST_EVENTS }
     {
         self.seen
     }
@@ -68,7 +69,7 @@ impl<K: SyscallKernel> Lead<K> {
         requires ready { K.is_ready (kernel_of self.old) (request call.now) }
         requires shaped { IsShaped (request call.now) }
         requires lives { Contains (live_after (K.log (kernel_of self.old))) call.now.tid }
-        requires room { length (K.log (kernel_of self.old)) < 131072 }
+        requires few { length (K.log (kernel_of self.old)) < MOST_EVENTS }
         ensures same { SameLead self.old self.new }
         ensures view { lead_view self.new ≡ lead_view self.old }
         ensures due { due_of self.new ≡ true }
@@ -90,7 +91,7 @@ impl<K: SyscallKernel> Lead<K> {
 
     /// Whether the chunks of the events from `floor` on and of one more, whose payloads have so many bytes, are no more than the room has.
     pub fn fits(&self, bytes: u32, floor: u32) -> bool
-        requires bytes { bytes ≤ 4096 }
+        requires bytes { bytes ≤ MOST_BYTES }
         requires floor { floor ≤ length (lead_view self.now).seen }
         requires near { length (lead_view self.now).seen ≤ floor + (lead_view self.now).places }
         ensures { IsTrue result ↔ (chunks_from (lead_view self.now).seen floor + chunks_of bytes ≤ pool_chunks (lead_view self.now).places) }
@@ -118,7 +119,7 @@ impl<K: SyscallKernel> Reader<K> {
     /// How many events it has seen.
     pub fn seen(&self) -> u32
         ensures count { length (view self.now).seen ≡ result }
-        ensures small { result ≤ 131072 }
+        ensures small { result ≤ MOST_EVENTS }
     {
         self.seen
     }

@@ -1,6 +1,7 @@
 //! How the lanes follow the events.
 ghost use Rattle.std.specs.Prelude.{◌≡◌, ℕ, ◌+◌, ◌<◌, ◌≤◌, ◌++◌, List, [], ◌∷◌, length, sum, cond, ◌==◌, IfOk};
 ghost use Rattle.std.specs.Int.{w32, cast_signed};
+ghost use Rattle.nv_calls.specs.Limits.{MOST_EVENTS};
 ghost use Rattle.nv_words.specs.Spell.{low, high};
 ghost use Rattle.nv_lanes.specs.Lanes.{noted_by};
 ghost use Rattle.nv_pool.specs.Pools.{count_of};
@@ -35,7 +36,7 @@ fn kept(old: u64, wanted: u32, i: u32, word: u64) -> u64
 }
 
 fn note(lanes: &mut Lanes, first: u64, sixth: u64)
-    requires { sum lanes.old.counts < 131072 }
+    requires { sum lanes.old.counts < MOST_EVENTS }
     ensures { lanes.new ≡ noted_by lanes.old (low first) (high first) (cast_signed w32 (low sixth)) }
 {
     lanes.note_call(low(first), high(first), low(sixth).cast_signed());
@@ -65,7 +66,7 @@ impl Trail {
 
     /// The next event, which has so many words that were all kept, is seen.
     pub(crate) fn pass(&mut self, words: u32)
-        requires few { (sum self.old.lanes.counts < 131072) × (count_of self.old.pool < 131072) }
+        requires few { (sum self.old.lanes.counts < MOST_EVENTS) × (count_of self.old.pool < MOST_EVENTS) }
         requires words { (6 ≤ words) × (words ≤ 518) }
         ensures { (c : ℕ) (seen : List (List ℕ)) (written : List ℕ) → words ≡ length written → Trails c self.old seen written → Trails c self.new (seen ++ written ∷ []) [] }
     {

@@ -65,8 +65,8 @@ module _ {K : Type 0} {G : Ghosts K} where
   )
 
   -- the seats of the versions from 1 on, and of version 0 after them, are the seats of all
-  pub first_behind : (room : Room K) (ls all : List (Left K G)) (first : Left K G) → all ≡ ls ++ first ∷ [] → LeftInOrder room ls → IsLeftOf room first → version_of_left first ≡ 0 → length ls + 1 ≡ versions_of room → IsEach room all
-  first_behind room ls all first is order of zeroth long = subst (IsEach room) (sym is) (
+  pub first_after : (room : Room K) (ls all : List (Left K G)) (first : Left K G) → all ≡ ls ++ first ∷ [] → LeftInOrder room ls → IsLeftOf room first → version_of_left first ≡ 0 → length ls + 1 ≡ versions_of room → IsEach room all
+  first_after room ls all first is order of zeroth long = subst (IsEach room) (sym is) (
     record {
       table = λ i l f. ⊎_elim (λ (q : get_elem? ls i ≡ some l). (order i l q).0) (λ (q : (i ≡ length ls) × (first ≡ l)). subst (λ (z : Left K G). IsLeftOf room z) q.1 of) (at_end ls first l i f);
       apart = λ i j l q f g e. ⊎_elim

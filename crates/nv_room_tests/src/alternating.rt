@@ -1,7 +1,7 @@
 //! Two threads of a guest, whose calls alternate.
 ghost use Rattle.std.specs.Prelude.{◌≡◌, ◌+◌, ◌*◌, ◌<◌, ◌≤◌, [], false, length, map, IfOk, Contains, IsTrue, ◌||◌};
 ghost use Rattle.nv_calls.specs.Calls.{request, entry};
-ghost use Rattle.nv_calls.specs.Logs.{live_after, made, child_of, IsLegal, IsLawful};
+ghost use Rattle.nv_calls.specs.Logs.{live_after, child_of, IsLegal, IsLawful};
 ghost use Rattle.nv_calls.specs.Shapes.{IsShaped};
 ghost use Rattle.nv_lanes.specs.Lanes.{is_of};
 ghost use Rattle.nv_room.specs.Seats.{IsOfRoom, IsLeadOf, FreshReaders, view, due_of, version_of_lead, version_of_reader};
@@ -9,7 +9,7 @@ ghost use Rattle.nv_room_tests.specs.Backs.{InOrder};
 ghost use Rattle.nv_room_tests.specs.Pairs.{AreShaped};
 
 use crate::running::{end, publish_one, wait_for_event};
-use nv_calls::{Call, Event, SyscallKernel, same};
+use nv_calls::{Call, EXIT, EXIT_GROUP, Event, FIRST_THREAD, SyscallKernel, made, same};
 use nv_ring::advance;
 use nv_room::{Ended, Lead, Reader, Room};
 use nv_words::EventBuf;
@@ -118,9 +118,9 @@ fn lead_pair<K: SyscallKernel>(room: &Room<K>, mut lead: Lead<K>, pair: &Pair) -
 fn lives_after(history: &[Event], tid: u32) -> bool
     ensures { IsTrue result → Contains (live_after (map entry history.now)) tid }
 {
-    let mut lives = tid == 100;
+    let mut lives = tid == FIRST_THREAD;
     for event in history {
-        if event.call.nr == 93 || event.call.nr == 94 {
+        if event.call.nr == EXIT || event.call.nr == EXIT_GROUP {
             return false;
         }
         lives = lives_on(lives, event, tid);
@@ -141,17 +141,6 @@ fn is_of(child: Option<u32>, tid: u32) -> bool
     match child {
         Some(other) => other == tid,
         None => false,
-    }
-}
-
-// The thread that a positive answer to clone(2) made.
-fn made(nr: u32, ret: i32) -> Option<u32>
-    ensures { result ≡ made nr ret }
-{
-    if nr == 220 && ret > 0 {
-        Some(ret.cast_unsigned())
-    } else {
-        None
     }
 }
 

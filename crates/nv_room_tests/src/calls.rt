@@ -5,7 +5,7 @@ ghost use Rattle.nv_calls.specs.Numbers.{is_local};
 ghost use Rattle.nv_calls.specs.Shapes.{IsShaped};
 ghost use Rattle.nv_room_tests.specs.Going.{GoesOn};
 
-use nv_calls::{Bytes, Call};
+use nv_calls::{Bytes, CLONE, Call, EXIT_GROUP, FIRST_THREAD, MOST_BYTES};
 use nv_kernel::ScriptKernel;
 use std::alloc::{AllocError, Global};
 
@@ -13,12 +13,8 @@ const WRITE: u32 = 64;
 
 const GETUID: u32 = 174;
 
-const CLONE: u32 = 220;
-
 // CLONE_VM, CLONE_FS, CLONE_FILES, CLONE_SIGHAND and CLONE_THREAD (clone(2)): a thread.
 const THREAD: u32 = 0x10F00;
-
-const EXIT_GROUP: u32 = 94;
 
 /// A kernel over the script without a line.
 pub fn kernel(alloc: Global) -> Result<ScriptKernel, AllocError>
@@ -33,7 +29,7 @@ pub fn kernel(alloc: Global) -> Result<ScriptKernel, AllocError>
 #[tactic(auto, unfolding(nv_calls::specs::Numbers::is_local))]
 pub fn getuid(alloc: Global) -> Result<Call, AllocError>
     ensures shaped { IfOk result (λ c. IsShaped (request c)) }
-    ensures first { IfOk result (λ c. c.tid ≡ 100) }
+    ensures first { IfOk result (λ c. c.tid ≡ FIRST_THREAD) }
     ensures goes_on { IfOk result (λ c. GoesOn (request c)) }
 {
     call(alloc, GETUID)
@@ -42,8 +38,8 @@ pub fn getuid(alloc: Global) -> Result<Call, AllocError>
 #[tactic(auto, unfolding(nv_calls::specs::Numbers::is_local))]
 pub fn exit_group(alloc: Global) -> Result<Call, AllocError>
     ensures shaped { IfOk result (λ c. IsShaped (request c)) }
-    ensures first { IfOk result (λ c. c.tid ≡ 100) }
-    ensures ends { IfOk result (λ c. c.nr ≡ 94) }
+    ensures first { IfOk result (λ c. c.tid ≡ FIRST_THREAD) }
+    ensures ends { IfOk result (λ c. c.nr ≡ EXIT_GROUP) }
 {
     call(alloc, EXIT_GROUP)
 }
@@ -51,11 +47,11 @@ pub fn exit_group(alloc: Global) -> Result<Call, AllocError>
 /// The first thread makes another.
 pub fn clone(alloc: Global) -> Result<Call, AllocError>
     ensures shaped { IfOk result (λ c. IsShaped (request c)) }
-    ensures first { IfOk result (λ c. c.tid ≡ 100) }
+    ensures first { IfOk result (λ c. c.tid ≡ FIRST_THREAD) }
 {
     let payload = Bytes::make(alloc, 0)?;
     Ok(Call {
-        tid: 100,
+        tid: FIRST_THREAD,
         nr: CLONE,
         args: [THREAD, 0, 0, 0, 0, 0],
         bad: false,
@@ -75,12 +71,12 @@ pub fn of_thread(call: Call, tid: u32) -> Call
 fn call(alloc: Global, nr: u32) -> Result<Call, AllocError>
     requires logged { is_local nr ≡ false }
     ensures shaped { IfOk result (λ c. IsShaped (request c)) }
-    ensures first { IfOk result (λ c. c.tid ≡ 100) }
+    ensures first { IfOk result (λ c. c.tid ≡ FIRST_THREAD) }
     ensures nr { IfOk result (λ c. c.nr ≡ nr) }
 {
     let payload = Bytes::make(alloc, 0)?;
     Ok(Call {
-        tid: 100,
+        tid: FIRST_THREAD,
         nr,
         args: [0; 6],
         bad: false,
@@ -90,16 +86,16 @@ fn call(alloc: Global, nr: u32) -> Result<Call, AllocError>
 
 /// Writes so many zeros to the console.
 pub fn write(alloc: Global, bytes: u32) -> Result<Call, AllocError>
-    requires { bytes ≤ 4096 }
+    requires { bytes ≤ MOST_BYTES }
     ensures shaped { IfOk result (λ c. IsShaped (request c)) }
-    ensures first { IfOk result (λ c. c.tid ≡ 100) }
+    ensures first { IfOk result (λ c. c.tid ≡ FIRST_THREAD) }
     ensures goes_on { IfOk result (λ c. GoesOn (request c)) }
 {
     let zeros = vec![in alloc; 0u8; bytes as usize]?;
     let mut payload = Bytes::make(alloc, bytes)?;
     payload.set(&zeros);
     Ok(Call {
-        tid: 100,
+        tid: FIRST_THREAD,
         nr: WRITE,
         args: [1, 0, bytes, 0, 0, 0],
         bad: false,

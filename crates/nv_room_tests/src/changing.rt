@@ -9,7 +9,7 @@ ghost use Rattle.nv_room_tests.specs.Going.{GoesOn};
 ghost use Rattle.nv_room_tests.specs.Backs.{IsIdle};
 
 use crate::running::publish_one;
-use nv_calls::{Call, Event, SyscallKernel};
+use nv_calls::{Call, EXIT, EXIT_GROUP, Event, FIRST_THREAD, SyscallKernel};
 use nv_lamport::{Polled, poll_merged};
 use nv_promotion::{Lower, close, leave, lower_gone, retire, take};
 use nv_ring::advance;
@@ -27,9 +27,9 @@ pub fn change_leader<K: SyscallKernel>(
 ) -> Result<Option<Ended<K>>, AllocError>
     requires empty { K.log kernel ≡ [] }
     requires shaped { IsShaped (request call.now) × IsShaped (request last.now) }
-    requires first { (call.now.tid ≡ 100) × (last.now.tid ≡ 100) }
+    requires first { (call.now.tid ≡ FIRST_THREAD) × (last.now.tid ≡ FIRST_THREAD) }
     requires goes_on { GoesOn (request call.now) }
-    requires ends { last.now.nr ≡ 94 }
+    requires ends { last.now.nr ≡ EXIT_GROUP }
     ensures { IfOk result (λ o. IfSome o (λ e. IsLegal (K.start kernel) (K.log e.kernel))) }
 {
     let mut buf = EventBuf::make(alloc)?;
@@ -72,8 +72,8 @@ fn first_leads<K: SyscallKernel>(
     requires lead { IsLeadOf room.now lead × (due_of lead ≡ false) }
     requires third { IsIdle room.now third.old }
     requires shaped { IsShaped (request call.now) }
-    requires first { call.now.tid ≡ 100 }
-    requires lives { Contains (live_after (K.log (kernel_of lead))) 100 }
+    requires first { call.now.tid ≡ FIRST_THREAD }
+    requires lives { Contains (live_after (K.log (kernel_of lead))) FIRST_THREAD }
     requires goes_on { GoesOn (request call.now) }
     ensures left { IfSome result (λ l. IsLeftOf room.now l × (version_of_left l ≡ version_of_lead lead)) }
     ensures third { IsIdle room.now third.new × (version_of_reader third.new ≡ version_of_reader third.old) }
@@ -100,9 +100,9 @@ fn second_leads<K: SyscallKernel>(
     requires second { IsIdle room.now second }
     requires third { IsIdle room.now third.old }
     requires shaped { IsShaped (request call.now) × IsShaped (request last.now) }
-    requires first { (call.now.tid ≡ 100) × (last.now.tid ≡ 100) }
+    requires first { (call.now.tid ≡ FIRST_THREAD) × (last.now.tid ≡ FIRST_THREAD) }
     requires goes_on { GoesOn (request call.now) }
-    requires ends { last.now.nr ≡ 94 }
+    requires ends { last.now.nr ≡ EXIT_GROUP }
     ensures left { IfSome result (λ l. IsLeftOf room.now l × (version_of_left l ≡ version_of_reader second)) }
     ensures third { IsIdle room.now third.new × (version_of_reader third.new ≡ version_of_reader third.old) }
 {
@@ -148,13 +148,13 @@ pub(crate) fn publish_some<K: SyscallKernel>(
     requires of { IsLeadOf room.now lead.old }
     requires none_due { due_of lead.old ≡ false }
     requires shaped { IsShaped (request call.now) }
-    requires first { call.now.tid ≡ 100 }
-    requires lives { Contains (live_after (K.log (kernel_of lead.old))) 100 }
+    requires first { call.now.tid ≡ FIRST_THREAD }
+    requires lives { Contains (live_after (K.log (kernel_of lead.old))) FIRST_THREAD }
     requires goes_on { GoesOn (request call.now) }
     ensures of { IsLeadOf room.now lead.new }
     ensures due { due_of lead.new ≡ false }
     ensures version { version_of_lead lead.new ≡ version_of_lead lead.old }
-    ensures lives { OnTrue result (Contains (live_after (K.log (kernel_of lead.new))) 100) }
+    ensures lives { OnTrue result (Contains (live_after (K.log (kernel_of lead.new))) FIRST_THREAD) }
 {
     for _event in 0..count {
         if !publish_one(room, lead, call, most) {
@@ -232,10 +232,10 @@ pub(crate) fn is_free<K: SyscallKernel>(
 
 // No thread has ended.
 pub(crate) fn goes_on(history: &[Event]) -> bool
-    ensures { OnTrue result (Contains (live_after (map entry history.now)) 100) }
+    ensures { OnTrue result (Contains (live_after (map entry history.now)) FIRST_THREAD) }
 {
     for event in history {
-        if event.call.nr == 93 || event.call.nr == 94 {
+        if event.call.nr == EXIT || event.call.nr == EXIT_GROUP {
             return false;
         }
     }
@@ -252,7 +252,7 @@ pub(crate) fn end_lead<K: SyscallKernel>(
     requires none_due { due_of lead ≡ false }
     requires shaped { IsShaped (request last.now) }
     requires lives { Contains (live_after (K.log (kernel_of lead))) last.now.tid }
-    requires ends { last.now.nr ≡ 94 }
+    requires ends { last.now.nr ≡ EXIT_GROUP }
     ensures of { IfSome result (λ l. IsLeftOf room.now l) }
     ensures version { IfSome result (λ l. version_of_left l ≡ version_of_lead lead) }
 {

@@ -8,7 +8,7 @@ ghost use Rattle.nv_room_tests.specs.Going.{GoesOn};
 ghost use Rattle.nv_room_tests.specs.Backs.{IsIdle};
 
 use crate::changing::{end_lead, goes_on, publish_some, read_some, take_over};
-use nv_calls::{Call, SyscallKernel};
+use nv_calls::{Call, EXIT_GROUP, FIRST_THREAD, SyscallKernel};
 use nv_lamport::{Polled, poll_merged};
 use nv_promotion::{Lower, hand, leave, lower_gone};
 use nv_ring::{Placed, place, publish};
@@ -26,9 +26,9 @@ pub fn hand_over<K: SyscallKernel>(
 ) -> Result<Option<Ended<K>>, AllocError>
     requires empty { K.log kernel ≡ [] }
     requires shaped { IsShaped (request call.now) × IsShaped (request last.now) }
-    requires first { (call.now.tid ≡ 100) × (last.now.tid ≡ 100) }
+    requires first { (call.now.tid ≡ FIRST_THREAD) × (last.now.tid ≡ FIRST_THREAD) }
     requires goes_on { GoesOn (request call.now) }
-    requires ends { last.now.nr ≡ 94 }
+    requires ends { last.now.nr ≡ EXIT_GROUP }
     ensures { IfOk result (λ o. IfSome o (λ e. IsLegal (K.start kernel) (K.log e.kernel))) }
 {
     let mut buf = EventBuf::make(alloc)?;
@@ -67,7 +67,7 @@ fn first_hands<K: SyscallKernel>(
     requires lead { IsFreshLead room.now lead × (K.log (kernel_of lead) ≡ []) }
     requires planned { hands_of room.now ≡ 1 ∷ [] }
     requires shaped { IsShaped (request call.now) }
-    requires first { call.now.tid ≡ 100 }
+    requires first { call.now.tid ≡ FIRST_THREAD }
     ensures { IfSome result (λ r. IsIdle room.now r × (version_of_reader r ≡ 0)) }
 {
     lead.reserve(call).ok()?;
@@ -91,9 +91,9 @@ fn second_leads<K: SyscallKernel>(
 ) -> Option<Left<K>>
     requires second { IsIdle room.now second }
     requires shaped { IsShaped (request call.now) × IsShaped (request last.now) }
-    requires first { (call.now.tid ≡ 100) × (last.now.tid ≡ 100) }
+    requires first { (call.now.tid ≡ FIRST_THREAD) × (last.now.tid ≡ FIRST_THREAD) }
     requires goes_on { GoesOn (request call.now) }
-    requires ends { last.now.nr ≡ 94 }
+    requires ends { last.now.nr ≡ EXIT_GROUP }
     ensures { IfSome result (λ l. IsLeftOf room.now l × (version_of_left l ≡ version_of_reader second)) }
 {
     if !read_some(room, &mut second, buf, 1) {

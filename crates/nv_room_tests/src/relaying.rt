@@ -10,7 +10,7 @@ ghost use Rattle.nv_room_tests.specs.Backs.{IsIdle, LeftInOrder};
 
 use crate::changing::{goes_on, publish_some};
 use crate::running::publish_one;
-use nv_calls::{Call, SyscallKernel};
+use nv_calls::{Call, EXIT_GROUP, FIRST_THREAD, SyscallKernel};
 use nv_lamport::{Polled, poll_merged};
 use nv_promotion::{Lower, close, leave, lower_gone, retire, take};
 use nv_ring::advance;
@@ -43,9 +43,9 @@ pub fn run_relay<R: Threads + Sync, K: SyscallKernel>(
     requires places { (2 ≤ places) × (places ≤ 1024) }
     requires empty { K.log kernel ≡ [] }
     requires shaped { IsShaped (request script.now.call) × IsShaped (request script.now.last) }
-    requires first { (script.now.call.tid ≡ 100) × (script.now.last.tid ≡ 100) }
+    requires first { (script.now.call.tid ≡ FIRST_THREAD) × (script.now.last.tid ≡ FIRST_THREAD) }
     requires goes_on { GoesOn (request script.now.call) }
-    requires ends { script.now.last.nr ≡ 94 }
+    requires ends { script.now.last.nr ≡ EXIT_GROUP }
     ensures start { IfOk result (λ e. K.start e.kernel ≡ K.start kernel) }
     ensures legal { IfOk result (λ e. IsLegal (K.start kernel) (K.log e.kernel)) }
     ensures lawful { IfOk result (λ e. IsLawful (K.log e.kernel)) }
@@ -57,13 +57,13 @@ pub fn run_relay<R: Threads + Sync, K: SyscallKernel>(
     let head = move || -> Left<K>
         requires of { IsLeadOf shared.now lead × (due_of lead ≡ false) × (version_of_lead lead ≡ 0) }
         requires shaped { IsShaped (request script.now.call) × IsShaped (request script.now.last) }
-        requires calls { (script.now.call.tid ≡ 100) × (script.now.last.tid ≡ 100) × GoesOn (request script.now.call) × (script.now.last.nr ≡ 94) }
+        requires calls { (script.now.call.tid ≡ FIRST_THREAD) × (script.now.last.tid ≡ FIRST_THREAD) × GoesOn (request script.now.call) × (script.now.last.nr ≡ EXIT_GROUP) }
         ensures { IsLeftOf shared.entry.now result × (version_of_left result ≡ 0) }
     { lead_share(shared, lead, script) };
     let tail = move || -> Result<Vec<Left<K>>, AllocError>
         requires fresh { FreshReaders shared.now readers.items }
         requires shaped { IsShaped (request script.now.call) × IsShaped (request script.now.last) }
-        requires calls { (script.now.call.tid ≡ 100) × (script.now.last.tid ≡ 100) × GoesOn (request script.now.call) × (script.now.last.nr ≡ 94) }
+        requires calls { (script.now.call.tid ≡ FIRST_THREAD) × (script.now.last.tid ≡ FIRST_THREAD) × GoesOn (request script.now.call) × (script.now.last.nr ≡ EXIT_GROUP) }
         ensures { IfOk result (λ ls. LeftInOrder shared.entry.now ls.items × (length ls.items ≡ length readers.items)) }
     { follow_each(rt, alloc, shared, readers, script) };
     let (first, others) = join(rt, head, tail);
@@ -97,12 +97,12 @@ fn follow_each<R: Threads + Sync, K: SyscallKernel>(
 ) -> Result<Vec<Left<K>>, AllocError>
     requires fresh { FreshReaders room.now readers.items }
     requires shaped { IsShaped (request script.now.call) × IsShaped (request script.now.last) }
-    requires calls { (script.now.call.tid ≡ 100) × (script.now.last.tid ≡ 100) × GoesOn (request script.now.call) × (script.now.last.nr ≡ 94) }
+    requires calls { (script.now.call.tid ≡ FIRST_THREAD) × (script.now.last.tid ≡ FIRST_THREAD) × GoesOn (request script.now.call) × (script.now.last.nr ≡ EXIT_GROUP) }
     ensures order { IfOk result (λ ls. LeftInOrder room.now ls.items) }
     ensures len { IfOk result (λ ls. length ls.items ≡ length readers.items) }
 {
     let station = move |reader: Reader<K>| -> Left<K>
-        requires { IsIdle room.now reader × (IsShaped (request script.now.call) × IsShaped (request script.now.last)) × ((script.now.call.tid ≡ 100) × (script.now.last.tid ≡ 100) × GoesOn (request script.now.call) × (script.now.last.nr ≡ 94)) }
+        requires { IsIdle room.now reader × (IsShaped (request script.now.call) × IsShaped (request script.now.last)) × ((script.now.call.tid ≡ FIRST_THREAD) × (script.now.last.tid ≡ FIRST_THREAD) × GoesOn (request script.now.call) × (script.now.last.nr ≡ EXIT_GROUP)) }
         ensures { IsLeftOf room.entry.now result × (version_of_left result ≡ version_of_reader reader) }
     { follow(alloc, room, reader, script) };
     let back = thread::map_vec(rt, readers, &station)?;
@@ -118,7 +118,7 @@ fn follow<K: SyscallKernel>(
 ) -> Left<K>
     requires of { IsIdle room.now reader }
     requires shaped { IsShaped (request script.now.call) × IsShaped (request script.now.last) }
-    requires calls { (script.now.call.tid ≡ 100) × (script.now.last.tid ≡ 100) × GoesOn (request script.now.call) × (script.now.last.nr ≡ 94) }
+    requires calls { (script.now.call.tid ≡ FIRST_THREAD) × (script.now.last.tid ≡ FIRST_THREAD) × GoesOn (request script.now.call) × (script.now.last.nr ≡ EXIT_GROUP) }
     ensures of { IsLeftOf room.now result }
     ensures version { version_of_left result ≡ version_of_reader reader }
 {
@@ -166,7 +166,7 @@ fn lead_share<K: SyscallKernel>(room: &Room<K>, mut lead: Lead<K>, script: &Rela
     requires of { IsLeadOf room.now lead }
     requires none_due { due_of lead ≡ false }
     requires shaped { IsShaped (request script.now.call) × IsShaped (request script.now.last) }
-    requires calls { (script.now.call.tid ≡ 100) × (script.now.last.tid ≡ 100) × GoesOn (request script.now.call) × (script.now.last.nr ≡ 94) }
+    requires calls { (script.now.call.tid ≡ FIRST_THREAD) × (script.now.last.tid ≡ FIRST_THREAD) × GoesOn (request script.now.call) × (script.now.last.nr ≡ EXIT_GROUP) }
     ensures of { IsLeftOf room.now result }
     ensures version { version_of_left result ≡ version_of_lead lead }
 {

@@ -9,7 +9,7 @@ ghost use Rattle.nv_room.specs.Seats.{IsOfRoom, IsLeadOf, IsFresh, FreshReaders,
 ghost use Rattle.nv_room_tests.specs.Going.{GoesOn};
 ghost use Rattle.nv_room_tests.specs.Backs.{InOrder};
 
-use nv_calls::{Call, Event, SyscallKernel, same};
+use nv_calls::{Call, Event, FIRST_THREAD, MOST_EVENTS, SyscallKernel, same};
 use nv_lamport::{Polled, poll_merged};
 use nv_promotion::{leave, retire};
 use nv_ring::{Placed, advance, place, publish};
@@ -42,9 +42,9 @@ pub fn run<R: Threads + Sync, K: SyscallKernel>(
     requires places { (2 ≤ places) × (places ≤ 1024) }
     requires empty { K.log kernel ≡ [] }
     requires shaped { IsShaped (request script.now.call) × IsShaped (request script.now.last) }
-    requires first { (script.now.call.tid ≡ 100) × (script.now.last.tid ≡ 100) }
+    requires first { (script.now.call.tid ≡ FIRST_THREAD) × (script.now.last.tid ≡ FIRST_THREAD) }
     requires goes_on { GoesOn (request script.now.call) }
-    requires few { script.now.events ≤ 131072 }
+    requires few { script.now.events ≤ MOST_EVENTS }
     ensures start { IfOk result (λ e. K.start e.kernel ≡ K.start kernel) }
     ensures legal { IfOk result (λ e. IsLegal (K.start kernel) (K.log e.kernel)) }
     ensures lawful { IfOk result (λ e. IsLawful (K.log e.kernel)) }
@@ -56,11 +56,11 @@ pub fn run<R: Threads + Sync, K: SyscallKernel>(
     let write = move || -> Lead<K>
         requires of { IsLeadOf shared.now lead × (due_of lead ≡ false) × (version_of_lead lead ≡ 0) }
         requires shaped { IsShaped (request script.now.call) × IsShaped (request script.now.last) }
-        requires lives { Contains (live_after (K.log (kernel_of lead))) 100 × (script.now.call.tid ≡ 100) × (script.now.last.tid ≡ 100) × GoesOn (request script.now.call) }
+        requires lives { Contains (live_after (K.log (kernel_of lead))) FIRST_THREAD × (script.now.call.tid ≡ FIRST_THREAD) × (script.now.last.tid ≡ FIRST_THREAD) × GoesOn (request script.now.call) }
         ensures { IsLeadOf shared.entry.now result × (due_of result ≡ false) × (version_of_lead result ≡ 0) }
     { lead_all(shared, lead, script) };
     let read = move || -> Result<Vec<Reader<K>>, AllocError>
-        requires { FreshReaders shared.now readers.items × (script.now.events ≤ 131072) }
+        requires { FreshReaders shared.now readers.items × (script.now.events ≤ MOST_EVENTS) }
         ensures { IfOk result (λ rs. InOrder shared.entry.now rs.items × (length rs.items ≡ length readers.items)) }
     { read_each(rt, alloc, shared, readers, script) };
     let (lead, readers) = join(rt, write, read);
@@ -96,8 +96,8 @@ pub fn lead_all<K: SyscallKernel>(room: &Room<K>, mut lead: Lead<K>, script: &Sc
     requires of { IsLeadOf room.now lead }
     requires none_due { due_of lead ≡ false }
     requires shaped { IsShaped (request script.now.call) × IsShaped (request script.now.last) }
-    requires first { (script.now.call.tid ≡ 100) × (script.now.last.tid ≡ 100) }
-    requires lives { Contains (live_after (K.log (kernel_of lead))) 100 }
+    requires first { (script.now.call.tid ≡ FIRST_THREAD) × (script.now.last.tid ≡ FIRST_THREAD) }
+    requires lives { Contains (live_after (K.log (kernel_of lead))) FIRST_THREAD }
     requires goes_on { GoesOn (request script.now.call) }
     ensures of { IsLeadOf room.now result }
     ensures due { due_of result ≡ false }
@@ -128,7 +128,7 @@ pub(crate) fn publish_one<K: SyscallKernel>(
     ensures version { version_of_lead lead.new ≡ version_of_lead lead.old }
     ensures log { OnTrue result (K.log (kernel_of lead.new) ≡ K.log (kernel_of lead.old) ++ served (K.start (kernel_of lead.old)) (K.log (kernel_of lead.old)) (request call.now) ∷ []) }
 {
-    if lead.seen() >= 131072 || lead.reserve(call).is_err() {
+    if lead.seen() >= MOST_EVENTS || lead.reserve(call).is_err() {
         return false;
     }
     for _turn in 0..most {
@@ -152,12 +152,12 @@ fn read_each<R: Threads + Sync, K: SyscallKernel>(
     script: &Script,
 ) -> Result<Vec<Reader<K>>, AllocError>
     requires fresh { FreshReaders room.now readers.items }
-    requires few { script.now.events ≤ 131072 }
+    requires few { script.now.events ≤ MOST_EVENTS }
     ensures order { IfOk result (λ rs. InOrder room.now rs.items) }
     ensures len { IfOk result (λ rs. length rs.items ≡ length readers.items) }
 {
     let read = move |reader: Reader<K>| -> Reader<K>
-        requires { IsOfRoom room.now reader × ((view reader).read ≡ []) × (script.now.events ≤ 131072) }
+        requires { IsOfRoom room.now reader × ((view reader).read ≡ []) × (script.now.events ≤ MOST_EVENTS) }
         ensures { IsOfRoom room.entry.now result × (version_of_reader result ≡ version_of_reader reader) }
     { read_all(alloc, room, reader, script) };
     let back = thread::map_vec(rt, readers, &read)?;
@@ -173,7 +173,7 @@ pub fn read_all<K: SyscallKernel>(
 ) -> Reader<K>
     requires of { IsOfRoom room.now reader }
     requires none_read { (view reader).read ≡ [] }
-    requires few { script.now.events ≤ 131072 }
+    requires few { script.now.events ≤ MOST_EVENTS }
     ensures of { IsOfRoom room.now result }
     ensures version { version_of_reader result ≡ version_of_reader reader }
 {
@@ -233,9 +233,9 @@ fn is_scripted(script: &Script, event: &Event, place: u32) -> bool
 pub fn serve_all<K: SyscallKernel>(mut kernel: K, script: &Script) -> K
     requires empty { K.log kernel ≡ [] }
     requires shaped { IsShaped (request script.now.call) × IsShaped (request script.now.last) }
-    requires first { (script.now.call.tid ≡ 100) × (script.now.last.tid ≡ 100) }
+    requires first { (script.now.call.tid ≡ FIRST_THREAD) × (script.now.last.tid ≡ FIRST_THREAD) }
     requires goes_on { GoesOn (request script.now.call) }
-    requires few { script.now.events ≤ 131072 }
+    requires few { script.now.events ≤ MOST_EVENTS }
     ensures start { K.start result ≡ K.start kernel }
 {
     for _event in 1..script.events {

@@ -176,7 +176,7 @@ module _ {P : Type 0} (g : Behaviour P) (laws : IsProcess g) (judges : ℕ → J
           asked = λ z. f.none_asked;
           ended = λ z. let y : false ≡ true = sym f.idle ∙ z in cc;
           reach = λ z. subst (λ (x : Follower P). Reaches (track_next g (judges k) v.led []) (fresh p) x) (sym at) (reach_here (track_next g (judges k) v.led []) (fresh p));
-          behind = subst (λ (x : List (ℕ × ℕ)). EndBy v.at.seen x) (sym f.not_led) (record { each = λ i x y. cc });
+          past = subst (λ (x : List (ℕ × ℕ)). EndBy v.at.seen x) (sym f.not_led) (record { each = λ i x y. cc });
           in_step = subst (λ (x : Follower P). IsInStep g [] x) (sym f.at) (record { within = omega arith; live = λ z. f.started.live; on = λ z. f.started.on; exited = λ z. cc });
           few = λ z. omega (arith, ap length f.not_led, above_all hands 0);
         };
@@ -220,7 +220,7 @@ module _ {P : Type 0} (g : Behaviour P) (laws : IsProcess g) (judges : ℕ → J
       → line_of g judges start most cuts hands log k (part_of q u) (told_by u b) ≡ standing_of (followed g judges log u)
   line_is cuts k q u log true e s = ap (λ (x : Follower P). standing_of (record u { at = x })) (sym (fated_follow g laws (judges u.index) log u.at (off_some u.at.fate (s.ended e))))
   line_is cuts k q u log false e s =
-      let t : track g (judges k) u.led log (fresh q) ≡ follow g (judges u.index) log u.at = track_from g laws (judges k) u.led log (fresh q) u.at (s.reach e) s.behind
+      let t : track g (judges k) u.led log (fresh q) ≡ follow g (judges u.index) log u.at = track_from g laws (judges k) u.led log (fresh q) u.at (s.reach e) s.past
       ∙ ap (λ (n : ℕ). follow g (judges n) log u.at) (sym s.index) in
       ap (λ (f : Follower P). record { fate = f.fate; seen = f.seen; led = u.led; rewrites = f.rewrites }) t
 

@@ -20,7 +20,7 @@ use Rattle.nv_sequence.specs.Passing.{HasLed, HadLead, TurnDone, HadTurn, NextTu
 use Rattle.nv_replay.specs.Accounts as accounts
 use Rattle.nv_sequence.specs.declared.leading.Turned.{Turned}
 use Rattle.nv_sequence.specs.declared.leading.Turned.TheVariants.{Left, GaveUp, Exited}
-use Rattle.nv_replay.proofs.Numbers.{length_set, set_cases, set_same, get_set, get_other, some_at, IsDistinct, has_here, has_behind, has_other, has_last, has_front, has_either, distinct_last, eq_self, eq_same}
+use Rattle.nv_replay.proofs.Numbers.{length_set, set_cases, set_same, get_set, get_other, some_at, IsDistinct, has_here, has_after, has_other, has_last, has_prefix, has_either, distinct_last, eq_self, eq_same}
 use Rattle.nv_replay.proofs.Rotating.{dropped, led}
 use Rattle.nv_sequence.proofs.Rounds.{told_by, part_of, parts_of, run_of, parts_at, parts_set, Stands, stands_on, Led, has_led, tracks, passed, ended_leader, handed_over}
 use Rattle.nv_sequence.proofs.Rounds as rounds
@@ -99,7 +99,7 @@ module _ {P : Type 0} (g : Behaviour P) (laws : IsProcess g) (judges : ℕ → J
         | inr (q, o) ↦ ap (λ (u : Running P). u.leading) (sym y) ∙ o
       ]
       | inr (e, y) ↦ elim (in_new k n) [
-        | inl o ↦ a.waits k x y (has_behind i k order o)
+        | inl o ↦ a.waits k x y (has_after i k order o)
         | inr (q, o) ↦ (let z : true ≡ false = sym (eq_self i) ∙ (ap (λ (j : ℕ). i == j) q ∙ e) in cc)
       ]
     ];
@@ -108,7 +108,7 @@ module _ {P : Type 0} (g : Behaviour P) (laws : IsProcess g) (judges : ℕ → J
       | inr (e, y) ↦ kept k (has_other i k order (a.waiting k x y n) e)
     ];
     known = λ k n. elim (in_new k n) [
-      | inl o ↦ (let z = a.known k (has_behind i k order o) in omega (arith, length_set vs i w))
+      | inl o ↦ (let z = a.known k (has_after i k order o) in omega (arith, length_set vs i w))
       | inr (q, o) ↦ (let z = a.known i (has_here i order) in omega (arith, length_set vs i w, q))
     ];
     distinct = d;
@@ -193,7 +193,7 @@ module _ {P : Type 0} (g : Behaviour P) (laws : IsProcess g) (judges : ℕ → J
   led_order order i f false h k n = inl (subst (λ (x : List ℕ). has x k ≡ true) (order_off f order i h) n)
 
   led_kept : (order : List ℕ) (i : ℕ) (f : Option Fate) (b : Bool) → is_on f ≡ b → (k : ℕ) → has order k ≡ true → has (order_of order i (turned_of f)) k ≡ true
-  led_kept order i f true h k n = subst (λ (x : Option Fate). has (order_of order i (turned_of x)) k ≡ true) (sym (none_on f h)) (has_front order i k n)
+  led_kept order i f true h k n = subst (λ (x : Option Fate). has (order_of order i (turned_of x)) k ≡ true) (sym (none_on f h)) (has_prefix order i k n)
   led_kept order i f false h k n = subst (λ (x : List ℕ). has x k ≡ true) (sym (order_off f order i h)) n
 
   led_own : (order : List ℕ) (i : ℕ) (f : Option Fate) → f ≡ None → has (order_of order i (turned_of f)) i ≡ true

@@ -22,8 +22,8 @@ use Rattle.nv_sequence.specs.Passing.{HasLed, HadLead, TurnDone, HadTurn, NextTu
 use Rattle.nv_replay.specs.Accounts as accounts
 use Rattle.nv_sequence.specs.declared.leading.Turned.{Turned}
 use Rattle.nv_sequence.specs.declared.leading.Turned.TheVariants.{Left, GaveUp, Exited}
-use Rattle.nv_replay.proofs.Numbers.{above_later, above_less, handed_at, get_set, length_set, set_cases, set_same, some_at, IsDistinct, has_here, has_behind, has_other, has_last, has_front, has_either, distinct_last, eq_self}
-use Rattle.nv_replay.proofs.Tracking.{track_extended, track_from, stage_behind, ends_later, followed_seen, follow_more}
+use Rattle.nv_replay.proofs.Numbers.{above_later, above_less, handed_at, get_set, length_set, set_cases, set_same, some_at, IsDistinct, has_here, has_after, has_other, has_last, has_prefix, has_either, distinct_last, eq_self}
+use Rattle.nv_replay.proofs.Tracking.{track_extended, track_from, stage_after, ends_later, followed_seen, follow_more}
 use Rattle.nv_replay.proofs.Stretches.{hand_leads, hand_grows}
 use Rattle.nv_replay.proofs.Handing.{hands_over}
 use Rattle.nv_replay.proofs.Rotating.{dropped, led}
@@ -72,7 +72,7 @@ module _ {P : Type 0} (g : Behaviour P) (hands : List ℕ) where
     pub asked : v.leading ≡ false → v.asked ≡ None
     pub ended : v.leading ≡ true → is_on v.at.fate ≡ false
     pub reach : v.leading ≡ false → Reaches (track_next g judge v.led log) (fresh p) v.at
-    pub behind : EndBy v.at.seen v.led
+    pub past : EndBy v.at.seen v.led
     pub in_step : IsInStep g log v.at
     pub few : v.leading ≡ false → length v.led + above hands (length log) ≤ length hands
 
@@ -83,7 +83,7 @@ module _ {P : Type 0} (g : Behaviour P) (hands : List ℕ) where
     asked = s.asked;
     ended = s.ended;
     reach = λ h. let r = s.reach h in track_extended g judge v.led log more r.steps (fresh p) v.at r.is;
-    behind = s.behind;
+    past = s.past;
     in_step = in_step_on g log more v.at s.in_step;
     few = λ h. let f = s.few h in omega (arith, above_later hands (length log) (length (log ++ more)) (omega (arith, length-append log more)));
   }
@@ -99,13 +99,13 @@ module _ {P : Type 0} (g : Behaviour P) (laws : IsProcess g) (judge : Judge) (st
   follows : Reaches (track_next g judge v.led log) (fresh p) f
   follows =
       let r = follow_reached g laws judge log [] v.at in
-      reach_all (track_next g judge v.led log) (fresh p) v.at f (s.reach idle) (stage_behind g judge v.led log r.steps v.at f s.behind r.is)
+      reach_all (track_next g judge v.led log) (fresh p) v.at f (s.reach idle) (stage_after g judge v.led log r.steps v.at f s.past r.is)
 
   more_seen : v.at.seen ≤ f.seen
   more_seen = follow_more g laws judge log v.at
 
   pub tracks : track g judge v.led log (fresh p) ≡ f
-  tracks = track_from g laws judge v.led log (fresh p) v.at (s.reach idle) s.behind
+  tracks = track_from g laws judge v.led log (fresh p) v.at (s.reach idle) s.past
 
   -- it has ended as a follower
   pub passed : w ≡ u → new_log ≡ log → IsInStep g log w.at → Stands g hands judge k p w new_log
@@ -117,7 +117,7 @@ module _ {P : Type 0} (g : Behaviour P) (laws : IsProcess g) (judge : Judge) (st
         asked = s.asked;
         ended = λ h. let z : false ≡ true = sym idle ∙ h in cc;
         reach = λ h. follows;
-        behind = ends_later v.led v.at.seen f.seen s.behind more_seen;
+        past = ends_later v.led v.at.seen f.seen s.past more_seen;
         in_step = i';
         few = s.few;
       } in
@@ -159,7 +159,7 @@ module _ {P : Type 0} (g : Behaviour P) (laws : IsProcess g) (judge : Judge) (st
   ends_at : (e : Running P) → Led e → e.at.seen ≡ length new_log → EndBy e.at.seen e.led
   ends_at e d n =
       let a : v.at.seen ≤ length new_log = omega (arith, more_seen, d.seen, long e d) in
-      let b : EndBy (length new_log) (v.led ++ (length log, length new_log) ∷ []) = span_end v.led v.at.seen (length log) (length new_log) s.behind a in
+      let b : EndBy (length new_log) (v.led ++ (length log, length new_log) ∷ []) = span_end v.led v.at.seen (length log) (length new_log) s.past a in
       subst (λ (x : ℕ). EndBy x e.led) (sym n) (subst (λ (x : List (ℕ × ℕ)). EndBy (length new_log) x) (sym d.led) b)
 
   -- it has ended as the leader
@@ -171,7 +171,7 @@ module _ {P : Type 0} (g : Behaviour P) (laws : IsProcess g) (judge : Judge) (st
         asked = λ z. let y : true ≡ false = sym yes_leading ∙ z in cc;
         ended = λ z. o;
         reach = λ z. let y : true ≡ false = sym yes_leading ∙ z in cc;
-        behind = ends_at e d h.on.seen;
+        past = ends_at e d h.on.seen;
         in_step = h.on.in_step;
         few = λ z. let y : true ≡ false = sym yes_leading ∙ z in cc;
       }
@@ -193,7 +193,7 @@ module _ {P : Type 0} (g : Behaviour P) (laws : IsProcess g) (judge : Judge) (st
         asked = λ z. h.on.asked o;
         ended = λ z. let y : false ≡ true = sym (ap (λ (x : Option Fate). not (is_on x)) o) ∙ z in cc;
         reach = λ z. subst (λ (x : List (ℕ × ℕ)). Reaches (track_next g judge x new_log) (fresh p) e.at) (sym d.led) b;
-        behind = ends_at e d h.on.seen;
+        past = ends_at e d h.on.seen;
         in_step = h.on.in_step;
         few = λ z.
             let q = s.few idle in

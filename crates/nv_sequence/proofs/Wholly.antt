@@ -44,7 +44,7 @@ module _ {P : Type 0} (g : Behaviour P) (laws : IsProcess g) (replies : Start) (
     stops = λ h. cc;
     longer = omega arith;
     reach = λ c h. reach_here (next_or_hand g replies most c hands (length first)) (leader_of start first);
-    led = record { index = refl; rewrites = refl; seen = s; span = λ front from q. q; leading = refl; in_step = i; asked = λ z. d.none_asked };
+    led = record { index = refl; rewrites = refl; seen = s; span = λ prefix from q. q; leading = refl; in_step = i; asked = λ z. d.none_asked };
   }
 
   pub leading_now : (start now : Running P) (first log : List Entry) → IsLeading start → LedSo start now first log true → IsLeading now
@@ -105,7 +105,7 @@ module _ {P : Type 0} (g : Behaviour P) (laws : IsProcess g) (replies : Start) (
           index = t.on.index ∙ s.led.index;
           rewrites = t.on.rewrites ∙ s.led.rewrites;
           seen = t.on.seen;
-          span = λ front from q. t.on.span front from (s.led.span front from q);
+          span = λ prefix from q. t.on.span prefix from (s.led.span prefix from q);
           leading = t.on.leading ∙ s.led.leading;
           in_step = t.on.in_step;
           asked = t.on.asked;

@@ -1,6 +1,7 @@
 // A version leads a kernel.
 ghost use Rattle.std.specs.Prelude.{◌≡◌, ◌≤◌, ◌<◌, ◌++◌, [], ◌∷◌, Some, None, true, false, length, Contains, option_map};
 ghost use Rattle.nv_calls.specs.Logs.{served, live_after, IsLawful};
+ghost use Rattle.nv_calls.specs.Limits.{MOST_EVENTS};
 ghost use Rattle.nv_threads.specs.Threads.{threads};
 ghost use Rattle.nv_replay.specs.Follow.{IsInStep, follow, judge_of};
 ghost use Rattle.nv_replay.specs.Hands.{has, stays};
@@ -33,7 +34,7 @@ pub fn take_turn<K: SyscallKernel>(
     hands: &[u32],
 ) -> Turned
     requires idle { IsIdle threads (K.log kernel.old) version.old }
-    requires most { most ≤ 131072 }
+    requires most { most ≤ MOST_EVENTS }
     ensures turn { let judges = judge_of (option_map (λ f. f.now) rules.entry) in
         TurnDone threads (K.start kernel.old) most hands.now (followed threads judges (K.log kernel.old) version.old) version.new
         (K.log kernel.old) (K.log kernel.new) result (follow threads (judges version.old.index) (K.log kernel.old) version.old.at).fate }
@@ -70,7 +71,7 @@ pub fn lead_all<K: SyscallKernel>(version: &mut Version, kernel: &mut K, most: u
     requires leading { IsLeading version.old }
     requires seen { version.old.at.seen ≡ length (K.log kernel.old) }
     requires in_step { IsInStep threads (K.log kernel.old) version.old.at }
-    requires most { most ≤ 131072 }
+    requires most { most ≤ MOST_EVENTS }
     ensures led { HasLed threads (K.start kernel.old) most hands.now version.old version.new (K.log kernel.old) (K.log kernel.new) }
     ensures start { K.start kernel.new ≡ K.start kernel.old }
 {
@@ -90,7 +91,7 @@ fn next_call<K: SyscallKernel>(
     requires leading { IsLeading version.old }
     requires seen { version.old.at.seen ≡ length (K.log kernel.old) }
     requires in_step { IsInStep threads (K.log kernel.old) version.old.at }
-    requires most { most ≤ 131072 }
+    requires most { most ≤ MOST_EVENTS }
     ensures turn { TookTurn threads (K.start kernel.old) most version.old version.new (K.log kernel.old) (K.log kernel.new) }
     ensures start { K.start kernel.new ≡ K.start kernel.old }
     ensures on { result ≡ stays (is_on version.new.at.fate) hands.now version.new.at.seen }
@@ -109,7 +110,7 @@ fn one_call<K: SyscallKernel>(version: &mut Version, kernel: &mut K, most: u32) 
     requires leading { IsLeading version.old }
     requires seen { version.old.at.seen ≡ length (K.log kernel.old) }
     requires in_step { IsInStep threads (K.log kernel.old) version.old.at }
-    requires most { most ≤ 131072 }
+    requires most { most ≤ MOST_EVENTS }
     ensures turn { TookTurn threads (K.start kernel.old) most version.old version.new (K.log kernel.old) (K.log kernel.new) }
     ensures start { K.start kernel.new ≡ K.start kernel.old }
     ensures on { result ≡ is_on version.new.at.fate }
@@ -134,7 +135,7 @@ fn serve_call<K: SyscallKernel>(version: &mut Version, kernel: &mut K, tid: u32)
     requires lives { Contains (threads.live version.old.at.process) tid }
     requires live { threads.live version.old.at.process ≡ live_after (K.log kernel.old) }
     requires seen { version.old.at.seen ≡ length (K.log kernel.old) }
-    requires room { length (K.log kernel.old) < 131072 }
+    requires few { length (K.log kernel.old) < MOST_EVENTS }
     requires ready { K.is_ready kernel.old (threads.call version.old.at.process tid) }
     ensures log { K.log kernel.new ≡ K.log kernel.old ++ served (K.start kernel.old) (K.log kernel.old) (threads.call version.old.at.process tid) ∷ [] }
     ensures start { K.start kernel.new ≡ K.start kernel.old }

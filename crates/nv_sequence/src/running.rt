@@ -1,5 +1,6 @@
 // The versions in order.
 ghost use Rattle.std.specs.Prelude.{◌≡◌, ◌≤◌, ◌+◌, ◌++◌, [], ℕ, length, map, option_map};
+ghost use Rattle.nv_calls.specs.Limits.{MOST_EVENTS};
 ghost use Rattle.nv_threads.specs.Threads.{threads};
 ghost use Rattle.nv_replay.specs.Follow.{judge_of, IsInStep};
 ghost use Rattle.nv_replay.specs.Sequence.{cuts_of};
@@ -29,7 +30,7 @@ pub fn run<K: SyscallKernel>(
 ) -> Account<K>
     requires fresh { AreFresh threads 0 versions.items }
     requires few { length versions.items ≤ 8 }
-    requires most { most ≤ 131072 }
+    requires most { most ≤ MOST_EVENTS }
     requires hands { length hands.now.items ≤ 8 }
     requires empty { K.log kernel ≡ [] }
     ensures account { record { log = K.log result.kernel; lines = map standing_of result.versions.items }
@@ -52,7 +53,7 @@ fn run_all<K: SyscallKernel>(
 )
     requires fresh { AreFresh threads 0 versions.old }
     requires few { length versions.old ≤ 8 }
-    requires most { most ≤ 131072 }
+    requires most { most ≤ MOST_EVENTS }
     requires hands { length hands.now ≤ 8 }
     requires empty { K.log kernel.old ≡ [] }
     ensures account { record { log = K.log kernel.new; lines = map standing_of versions.new }
@@ -94,7 +95,7 @@ fn one_turn<K: SyscallKernel>(
     hands: &[u32],
 ) -> bool
     requires ready { IsReady threads (K.log kernel.old) versions.old order.old.items }
-    requires most { most ≤ 131072 }
+    requires most { most ≤ MOST_EVENTS }
     ensures turn { NextTurn threads (judge_of (option_map (λ f. f.now) rules.entry)) (K.start kernel.old) most hands.now versions.old versions.new order.old.items order.new.items
         (K.log kernel.old) (K.log kernel.new) result }
     ensures start { K.start kernel.new ≡ K.start kernel.old }

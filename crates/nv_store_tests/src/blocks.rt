@@ -1,7 +1,7 @@
 use nv_blocks::Blocks;
 use std::test::Fail;
 
-// A write far behind the end takes its own block, and what lies before it reads as zeros.
+// A write far after the end takes its own block, and what lies before it reads as zeros.
 #[test]
 fn a_gap_reads_as_zeros(rt: HostRuntime) -> Result<(), Fail> {
     let mut file = Blocks::from_slice(rt.alloc(), b"ab")?;

@@ -127,7 +127,7 @@ impl Desk {
         self.step(got == wanted);
     }
 
-    // Moves the offset to a place from the front.
+    // Moves the offset to a place from the beginning.
     fn seek(&mut self, fd: u32, offset: u32, wanted: i32) {
         self.seek_by(fd, 0, offset, 0, wanted);
     }

@@ -13,10 +13,10 @@ at_end [] y r (suc k, h, e) = absurd (omega arith)
 at_end (x ∷ xs) y r (zero, h, e) = inl (0, omega arith, e)
 at_end (x ∷ xs) y r (suc k, h, e) = ⊎_elim (λ (c : Contains xs r). inl (suc c.0, omega (arith, c.1), c.2)) (λ (f : y ≡ r). inr f) (at_end xs y r (k, omega arith, e))
 
-in_front : (xs : List ℕ) (y r : ℕ) → Contains xs r → Contains (xs ++ y ∷ []) r
-in_front [] y r (k, h, e) = absurd (omega arith)
-in_front (x ∷ xs) y r (zero, h, e) = (0, omega arith, e)
-in_front (x ∷ xs) y r (suc k, h, e) = let d = in_front xs y r (k, omega arith, e) in (suc d.0, omega (arith, d.1), d.2)
+in_prefix : (xs : List ℕ) (y r : ℕ) → Contains xs r → Contains (xs ++ y ∷ []) r
+in_prefix [] y r (k, h, e) = absurd (omega arith)
+in_prefix (x ∷ xs) y r (zero, h, e) = (0, omega arith, e)
+in_prefix (x ∷ xs) y r (suc k, h, e) = let d = in_prefix xs y r (k, omega arith, e) in (suc d.0, omega (arith, d.1), d.2)
 
 more : (xs : List ℕ) (y : ℕ) → length (xs ++ y ∷ []) ≡ length xs + 1
 more [] y = refl
@@ -29,7 +29,7 @@ low (suc k) r c = ⊎_elim (λ (d : Contains (firsts k) r). (let h = low k r d i
 pub first_in : (k : ℕ) → 1 ≤ k → Contains (firsts k) 100
 first_in zero h = absurd (omega arith)
 first_in (suc zero) h = (0, omega arith, refl)
-first_in (suc (suc k)) h = in_front (firsts (suc k)) (100 + suc k) 100 (first_in (suc k) (omega arith))
+first_in (suc (suc k)) h = in_prefix (firsts (suc k)) (100 + suc k) 100 (first_in (suc k) (omega arith))
 
 size : (k : ℕ) → length (firsts k) ≡ k
 size zero = refl

@@ -10,7 +10,7 @@ use Rattle.nv_guest.specs.Threads.{Threaded, Ran, run, more, unless_stopped, wit
 use Rattle.nv_guest.specs.Threads as guests
 use Rattle.nv_guest.proofs.ThreadLaws.{tids_stay, regs_written, regs_twice}
 use Rattle.nv_threads.specs.Threads.{Proc, tids, state_at, is_asking, is_running, machine, ran, ended_by, stepped, counted, instruction, wanted, can_move, is_on, turn_step}
-use Rattle.nv_threads.specs.Kept.{are_apart}
+use Rattle.nv_threads.specs.Process.{are_apart}
 use Rattle.nv_threads.specs.Going.{Goes, moved_on, burst}
 use Rattle.nv_threads.specs.declared.turns.Came.{Came}
 use Rattle.nv_threads.specs.declared.turns.Want.{Want}
@@ -65,7 +65,7 @@ next_can w n p m c =
       lives = subst (λ (ts : List ℕ). Contains ts p.turn) (sym (tids_stay p.guest.threads p.turn m.regs)) c.lives;
     }
 
--- the machine of the turn's thread behind an instruction
+-- the machine of the turn's thread after an instruction
 machine_is : (p : Proc) (m : Machine) → Contains (guests.tids p.guest.threads) p.turn → machine (ran (counted p) m) ≡ m
 machine_is p m c = ap (λ (r : Registers). record { regs = r; memory = m.memory }) (regs_written p.guest.threads p.turn m.regs c)
 

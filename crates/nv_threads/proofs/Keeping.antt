@@ -11,8 +11,8 @@ use Rattle.nv_guest.proofs.ThreadLaws.{tids_stay}
 use Rattle.nv_guest.proofs.Releasing.{tids_released}
 use Rattle.nv_threads.specs.Threads.{TaskState, Task, Proc, tids, passed, unless_live, state_at, with_state, is_running, is_asking}
 use Rattle.nv_threads.proofs.Quiet.{same_tids}
-use Rattle.nv_threads.specs.Kept.{are_apart, IsOwn, AreOwn, HaveRoom, IsKept}
-use Rattle.nv_threads.proofs.Orders.{at_front, behind, either, Next, Higher, Lowest, next_is}
+use Rattle.nv_threads.specs.Process.{are_apart, IsOwn, AreOwn, HaveCapacity, IsSound}
+use Rattle.nv_threads.proofs.Orders.{at_prefix, after, either, Next, Higher, Lowest, next_is}
 
 running_some : (s : Option TaskState) → is_running s ≡ true → is_some s ≡ true
 running_some None h = cc
@@ -28,7 +28,7 @@ lives_by (x ∷ ts) t h = by (x.tid == t) refl h (lives_by ts t)
   where
     by : (b : Bool) → (x.tid == t) ≡ b → is_some (cond b (Some x.state) (state_at ts t)) ≡ true → (is_some (state_at ts t) ≡ true → Contains (tids ts) t) → Contains (tids (x ∷ ts)) t
     by true e h go = (0, omega arith, grind (arith, nat_tests))
-    by false e h go = behind x.tid (tids ts) t (go h)
+    by false e h go = after x.tid (tids ts) t (go h)
 
 pub state_by : (ts : List Task) (t : ℕ) → Contains (tids ts) t → is_some (state_at ts t) ≡ true
 state_by [] t (k, h, e) = absurd (omega arith)
@@ -49,7 +49,7 @@ some_live [] t (k, h, e) = absurd (omega arith)
 some_live (x ∷ ts) t c = omega arith
 
 -- a live thread is one of the guest's
-pub guest_lives : (count budget : ℕ) (ts : List Task) (g : List ℕ) (cs : List Call) (t : ℕ) → IsKept count budget ts g cs → Contains (tids ts) t → Contains g t
+pub guest_lives : (count budget : ℕ) (ts : List Task) (g : List ℕ) (cs : List Call) (t : ℕ) → IsSound count budget ts g cs → Contains (tids ts) t → Contains g t
 guest_lives count budget ts g cs t k c = subst (λ (xs : List ℕ). Contains xs t) (sym (k.same (some_live ts t c))) c
 
 -- ---- the guest goes on
@@ -58,14 +58,14 @@ pub tids_after : (g h : guests.Threaded) (t : ℕ) (m : Machine) → h ≡ guest
     → guests.tids h.threads ≡ guests.tids g.threads
 tids_after g h t m e = ap (λ (x : guests.Threaded). guests.tids x.threads) e ∙ tids_stay g.threads t m.regs
 
-pub with_guest : (count budget : ℕ) (ts : List Task) (g h : List ℕ) (cs : List Call) → IsKept count budget ts g cs → h ≡ g → IsKept count budget ts h cs
-with_guest count budget ts g h cs k e = record { within = k.within; same = λ n. e ∙ k.same n; apart = k.apart; own = k.own; eight = k.eight; room = k.room }
+pub with_guest : (count budget : ℕ) (ts : List Task) (g h : List ℕ) (cs : List Call) → IsSound count budget ts g cs → h ≡ g → IsSound count budget ts h cs
+with_guest count budget ts g h cs k e = record { within = k.within; same = λ n. e ∙ k.same n; apart = k.apart; own = k.own; eight = k.eight; capacity = k.capacity }
 
-pub guest_released : (count budget : ℕ) (ts : List Task) (g h : guests.Threaded) (cs : List Call) → IsKept count budget ts (guests.tids g.threads) cs → h ≡ guests.released g → IsKept count budget ts (guests.tids h.threads) cs
+pub guest_released : (count budget : ℕ) (ts : List Task) (g h : guests.Threaded) (cs : List Call) → IsSound count budget ts (guests.tids g.threads) cs → h ≡ guests.released g → IsSound count budget ts (guests.tids h.threads) cs
 guest_released count budget ts g h cs k e = with_guest _ _ _ _ _ _ k (ap (λ (x : guests.Threaded). guests.tids x.threads) e ∙ tids_released g.threads)
 
-pub with_count : (count more budget : ℕ) (ts : List Task) (g : List ℕ) (cs : List Call) → IsKept count budget ts g cs → more ≤ budget → IsKept more budget ts g cs
-with_count count more budget ts g cs k e = record { within = e; same = k.same; apart = k.apart; own = k.own; eight = k.eight; room = k.room }
+pub with_count : (count more budget : ℕ) (ts : List Task) (g : List ℕ) (cs : List Call) → IsSound count budget ts g cs → more ≤ budget → IsSound more budget ts g cs
+with_count count more budget ts g cs k e = record { within = e; same = k.same; apart = k.apart; own = k.own; eight = k.eight; capacity = k.capacity }
 
 -- ---- a thread's state changes
 
@@ -85,30 +85,30 @@ length_with (x ∷ ts) t s = by (x.tid == t) (length_with ts t s)
     by true go = refl
     by false go = ap suc go
 
-pub with_task : (count budget : ℕ) (ts : List Task) (g : List ℕ) (cs : List Call) (t : ℕ) (s : TaskState) → IsKept count budget ts g cs → IsOwn t s → IsKept count budget (with_state ts t s) g cs
+pub with_task : (count budget : ℕ) (ts : List Task) (g : List ℕ) (cs : List Call) (t : ℕ) (s : TaskState) → IsSound count budget ts g cs → IsOwn t s → IsSound count budget (with_state ts t s) g cs
 with_task count budget ts g cs t s k o = record {
   within = k.within;
   same = λ n. k.same (subst (λ m. 0 < m) (length_with ts t s) n) ∙ sym (same_tids ts t s);
   apart = ap are_apart (same_tids ts t s) ∙ k.apart;
   own = own_with ts t s k.own o;
   eight = k.eight;
-  room = k.room;
+  capacity = k.capacity;
 }
 
 -- ---- calls
 
-room_with : (cs : List Call) (i : ℕ) (c : Call) → HaveRoom cs → 4096 ≤ c.payload.capacity → HaveRoom (set cs i c)
-room_with [] i c h r = h
-room_with (x ∷ cs) zero c h r = (r, h.1)
-room_with (x ∷ cs) (suc i) c h r = (h.0, room_with cs i c h.1 r)
+capacity_with : (cs : List Call) (i : ℕ) (c : Call) → HaveCapacity cs → 4096 ≤ c.payload.capacity → HaveCapacity (set cs i c)
+capacity_with [] i c h r = h
+capacity_with (x ∷ cs) zero c h r = (r, h.1)
+capacity_with (x ∷ cs) (suc i) c h r = (h.0, capacity_with cs i c h.1 r)
 
-pub room_at : (cs : List Call) (i : ℕ) (d : Call) → HaveRoom cs → i < length cs → 4096 ≤ (get_or cs i d).payload.capacity
-room_at [] i d h l = absurd (omega arith)
-room_at (x ∷ cs) zero d h l = h.0
-room_at (x ∷ cs) (suc i) d h l = room_at cs i d h.1 (omega arith)
+pub capacity_at : (cs : List Call) (i : ℕ) (d : Call) → HaveCapacity cs → i < length cs → 4096 ≤ (get_or cs i d).payload.capacity
+capacity_at [] i d h l = absurd (omega arith)
+capacity_at (x ∷ cs) zero d h l = h.0
+capacity_at (x ∷ cs) (suc i) d h l = capacity_at cs i d h.1 (omega arith)
 
-pub with_call : (count budget : ℕ) (ts : List Task) (g : List ℕ) (cs : List Call) (i : ℕ) (c : Call) → IsKept count budget ts g cs → 4096 ≤ c.payload.capacity → IsKept count budget ts g (set cs i c)
-with_call count budget ts g cs i c k r = record { within = k.within; same = k.same; apart = k.apart; own = k.own; eight = length-set cs i c ∙ k.eight; room = room_with cs i c k.room r }
+pub with_call : (count budget : ℕ) (ts : List Task) (g : List ℕ) (cs : List Call) (i : ℕ) (c : Call) → IsSound count budget ts g cs → 4096 ≤ c.payload.capacity → IsSound count budget ts g (set cs i c)
+with_call count budget ts g cs i c k r = record { within = k.within; same = k.same; apart = k.apart; own = k.own; eight = length-set cs i c ∙ k.eight; capacity = capacity_with cs i c k.capacity r }
 
 pub map_set : (cs : List Call) (i : ℕ) (c : Call) → map request (set cs i c) ≡ set (map request cs) i (request c)
 map_set [] i c = refl
@@ -123,7 +123,7 @@ next_lives k ts y (Lowest all inside low) = inside
 
 someone : (ts : List Task) → (tids ts ≡ [] → ⊥) → (r : ℕ) × Contains (tids ts) r
 someone [] h = absurd (h refl)
-someone (t ∷ ts) h = (t.tid, at_front t.tid (tids ts))
+someone (t ∷ ts) h = (t.tid, at_prefix t.tid (tids ts))
 
 turn_lives_by : (p : Proc) (b : Bool) → is_some (state_at p.tasks p.turn) ≡ b → (tids p.tasks ≡ [] → ⊥)
     → is_some (state_at (cond b p (passed p)).tasks (cond b p (passed p)).turn) ≡ true

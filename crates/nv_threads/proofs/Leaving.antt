@@ -9,13 +9,13 @@ use Rattle.nv_calls.specs.Shapes.{IsShaped}
 use Rattle.nv_guest.specs.Threads as guests
 use Rattle.nv_guest.specs.declared.guest.Thread.{Thread as GuestThread}
 use Rattle.nv_threads.specs.Threads.{TaskState, Runs, Asks, Waits, Task as Thread, tids, state_at, is_asking, call_in}
-use Rattle.nv_threads.specs.Kept.{are_apart, IsOwn, AreOwn, HaveRoom, IsKept}
+use Rattle.nv_threads.specs.Process.{are_apart, IsOwn, AreOwn, HaveCapacity, IsSound}
 use Rattle.nv_threads.specs.Tables.{place_of, state_by, thread_by, threads_of}
 use Rattle.nv_threads.proofs.ThreadLaws.{others, tids_filter, tids_child}
 use Rattle.nv_threads.specs.declared.tasks.Doing.{Doing}
 use Rattle.nv_threads.specs.declared.tasks.Doing.TheVariants as doing
 use Rattle.nv_threads.specs.declared.tasks.Task.{Task}
-use Rattle.nv_threads.proofs.Orders.{behind}
+use Rattle.nv_threads.proofs.Orders.{after}
 use Rattle.nv_threads.proofs.Keeping.{some_live}
 
 and_both : (a b : Bool) → (a && b) ≡ true → (a ≡ true) × (b ≡ true)
@@ -45,7 +45,7 @@ apart_more [] y h n = refl
 apart_more (x ∷ xs) y h n =
     let p = and_both (not (list_any (λ u. u == x) xs)) (are_apart xs) h in
     let a : list_any (λ u. u == x) (xs ++ y ∷ []) ≡ false = is_new x y xs (not_true _ p.0) (λ (e : x ≡ y). n (0, omega arith, e)) in
-    rw (a, apart_more xs y p.1 (λ (c : Contains xs y). n (behind x xs y c))) refl
+    rw (a, apart_more xs y p.1 (λ (c : Contains xs y). n (after x xs y c))) refl
 
 any_filter : (x t : ℕ) (xs : List ℕ) → list_any (λ u. u == x) xs ≡ false → list_any (λ u. u == x) (filter (λ u. not (u == t)) xs) ≡ false
 any_filter x t [] h = refl
@@ -141,19 +141,19 @@ more_tids (x ∷ gs) g = ap (λ rest. x.tid ∷ rest) (more_tids gs g)
 
 -- ---- what is kept
 
-pub with_more : (count budget : ℕ) (ts : List Thread) (g h : List ℕ) (cs : List Call) (t child : ℕ) → IsKept count budget ts g cs → Contains (tids ts) t → (Contains (tids ts) child → ⊥) → h ≡ g ++ child ∷ []
-    → IsKept count budget (ts ++ record { tid = child; state = Runs } ∷ []) h cs
+pub with_more : (count budget : ℕ) (ts : List Thread) (g h : List ℕ) (cs : List Call) (t child : ℕ) → IsSound count budget ts g cs → Contains (tids ts) t → (Contains (tids ts) child → ⊥) → h ≡ g ++ child ∷ []
+    → IsSound count budget (ts ++ record { tid = child; state = Runs } ∷ []) h cs
 with_more count budget ts g h cs t child k l n e = record {
   within = k.within;
   same = λ _. e ∙ (ap (λ xs. xs ++ child ∷ []) (k.same (some_live ts t l)) ∙ sym (tids_child ts child));
   apart = ap are_apart (tids_child ts child) ∙ apart_more (tids ts) child k.apart n;
   own = own_more ts child k.own;
   eight = k.eight;
-  room = k.room;
+  capacity = k.capacity;
 }
 
-pub with_less : (count budget : ℕ) (ts : List Thread) (gs : List GuestThread) (h : List ℕ) (cs ds : List Call) (t : ℕ) → IsKept count budget ts (guests.tids gs) cs → Contains (tids ts) t
-    → h ≡ guests.tids (guests.dropped gs t) → length ds ≡ 8 → HaveRoom ds → IsKept count budget (filter (others t) ts) h ds
+pub with_less : (count budget : ℕ) (ts : List Thread) (gs : List GuestThread) (h : List ℕ) (cs ds : List Call) (t : ℕ) → IsSound count budget ts (guests.tids gs) cs → Contains (tids ts) t
+    → h ≡ guests.tids (guests.dropped gs t) → length ds ≡ 8 → HaveCapacity ds → IsSound count budget (filter (others t) ts) h ds
 with_less count budget ts gs h cs ds t k l e n r =
     let same = k.same (some_live ts t l) in
     record {
@@ -162,20 +162,20 @@ with_less count budget ts gs h cs ds t k l e n r =
       apart = ap are_apart (tids_filter ts t) ∙ apart_filter t (tids ts) k.apart;
       own = own_filter t ts k.own;
       eight = n;
-      room = r;
+      capacity = r;
     }
 
 -- ---- calls
 
-pub room_more : (cs : List Call) (c : Call) → HaveRoom cs → 4096 ≤ c.payload.capacity → HaveRoom (cs ++ c ∷ [])
-room_more [] c h r = (r, tt)
-room_more (x ∷ cs) c h r = (h.0, room_more cs c h.1 r)
+pub capacity_more : (cs : List Call) (c : Call) → HaveCapacity cs → 4096 ≤ c.payload.capacity → HaveCapacity (cs ++ c ∷ [])
+capacity_more [] c h r = (r, tt)
+capacity_more (x ∷ cs) c h r = (h.0, capacity_more cs c h.1 r)
 
-pub room_less : (cs : List Call) (i : ℕ) → HaveRoom cs → HaveRoom (remove cs i)
-room_less [] zero h = h
-room_less [] (suc i) h = h
-room_less (x ∷ cs) zero h = h.1
-room_less (x ∷ cs) (suc i) h = (h.0, room_less cs i h.1)
+pub capacity_less : (cs : List Call) (i : ℕ) → HaveCapacity cs → HaveCapacity (remove cs i)
+capacity_less [] zero h = h
+capacity_less [] (suc i) h = h
+capacity_less (x ∷ cs) zero h = h.1
+capacity_less (x ∷ cs) (suc i) h = (h.0, capacity_less cs i h.1)
 
 pub map_more : (cs : List Call) (c : Call) → map request (cs ++ c ∷ []) ≡ map request cs ++ request c ∷ []
 map_more [] c = refl

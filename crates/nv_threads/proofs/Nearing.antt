@@ -5,11 +5,11 @@ use Rattle.std.specs.List.{list_any}
 use Rattle.std.proofs.lemmas.List.{length-map}
 use Rattle.std.proofs.lemmas.Bool.Decides.{nat_tests}
 use Rattle.nv_threads.specs.Threads.{Proc, TaskState, Runs, Asks, Waits, Task, tid_of, tids, state_at, is_asking, turn_length, passed, wanted, moves, moves_task, most_passes}
-use Rattle.nv_threads.specs.Kept.{are_apart}
+use Rattle.nv_threads.specs.Process.{are_apart}
 use Rattle.nv_threads.specs.Going.{above, aim, stays, passes}
 use Rattle.nv_threads.specs.declared.turns.Want.{Want}
 use Rattle.nv_threads.specs.declared.turns.Want.TheVariants.{Any, Only}
-use Rattle.nv_threads.proofs.Orders.{at_front, behind, either, above_few, above_less, Next, Higher, Lowest, next_is}
+use Rattle.nv_threads.proofs.Orders.{at_prefix, after, either, above_few, above_less, Next, Higher, Lowest, next_is}
 
 -- ---- the thread that can bring the process on
 
@@ -50,12 +50,12 @@ pub record Aim (w : Want) (ts : List Task) : Type 0 where
 aim_by : (w : Want) (t : Task) (ts : List Task) (b : Bool) → moves w t.state ≡ b → (b || list_any (moves_task w) ts) ≡ true → are_apart (tids (t ∷ ts)) ≡ true
     → (list_any (moves_task w) ts ≡ true → are_apart (tids ts) ≡ true → Aim w ts)
     → Contains (tids (t ∷ ts)) (cond b t.tid (aim w ts)) × (moves_at w (state_at (t ∷ ts) (cond b t.tid (aim w ts))) ≡ true)
-aim_by w t ts true e h a go = (at_front t.tid (tids ts), (let z : (t.tid == t.tid) ≡ true = grind (arith, nat_tests) in rw z e))
+aim_by w t ts true e h a go = (at_prefix t.tid (tids ts), (let z : (t.tid == t.tid) ≡ true = grind (arith, nat_tests) in rw z e))
 aim_by w t ts false e h a go =
     let p = and_both (not (list_any (λ u. u == t.tid) (tids ts))) (are_apart (tids ts)) a in
     let i = go h p.1 in
     let z : (t.tid == aim w ts) ≡ false = absent t.tid (aim w ts) (tids ts) (not_true _ p.0) i.lives in
-    (behind t.tid (tids ts) (aim w ts) i.lives, rw z i.moves)
+    (after t.tid (tids ts) (aim w ts) i.lives, rw z i.moves)
 
 pub aim_is : (w : Want) (ts : List Task) → list_any (moves_task w) ts ≡ true → are_apart (tids ts) ≡ true → Aim w ts
 aim_is w [] h a = cc

@@ -6,11 +6,11 @@ use Rattle.std.proofs.lemmas.Bool.Decides.{nat_tests}
 use Rattle.nv_threads.specs.Threads.{least_above, least, lesser, or_else, next_tid}
 use Rattle.nv_threads.specs.Going.{above}
 
-pub at_front : (x : ℕ) (xs : List ℕ) → Contains (x ∷ xs) x
-at_front x xs = (0, omega arith, refl)
+pub at_prefix : (x : ℕ) (xs : List ℕ) → Contains (x ∷ xs) x
+at_prefix x xs = (0, omega arith, refl)
 
-pub behind : (x : ℕ) (xs : List ℕ) (r : ℕ) → Contains xs r → Contains (x ∷ xs) r
-behind x xs r (k, h, e) = (suc k, omega arith, e)
+pub after : (x : ℕ) (xs : List ℕ) (r : ℕ) → Contains xs r → Contains (x ∷ xs) r
+after x xs r (k, h, e) = (suc k, omega arith, e)
 
 pub either : (x : ℕ) (xs : List ℕ) (r : ℕ) → Contains (x ∷ xs) r → (x ≡ r) ⊎ Contains xs r
 either x xs r (zero, h, e) = inl e
@@ -37,9 +37,9 @@ min_is a b = by (cases_lt a b)
     by (inr h) = inr (omega arith)
 
 least_by : (x : ℕ) (xs : List ℕ) (o : Option ℕ) → IsLeast xs o → IsLeast (x ∷ xs) (Some (lesser x o))
-least_by x xs None h = (at_front x xs, λ r c. ⊎_elim (λ (e : x ≡ r). omega arith) (λ (c : Contains xs r). absurd (h r c)) (either x xs r c))
+least_by x xs None h = (at_prefix x xs, λ r c. ⊎_elim (λ (e : x ≡ r). omega arith) (λ (c : Contains xs r). absurd (h r c)) (either x xs r c))
 least_by x xs (Some y) h = (
-  ⊎_elim (λ (e : min x y ≡ x). subst (λ (z : ℕ). Contains (x ∷ xs) z) (sym e) (at_front x xs)) (λ (e : min x y ≡ y). subst (λ (z : ℕ). Contains (x ∷ xs) z) (sym e) (behind x xs y h.0)) (min_is x y),
+  ⊎_elim (λ (e : min x y ≡ x). subst (λ (z : ℕ). Contains (x ∷ xs) z) (sym e) (at_prefix x xs)) (λ (e : min x y ≡ y). subst (λ (z : ℕ). Contains (x ∷ xs) z) (sym e) (after x xs y h.0)) (min_is x y),
   λ r c. ⊎_elim (λ (e : x ≡ r). omega arith) (λ (c : Contains xs r). (let k = h.1 r c in omega arith)) (either x xs r c),
 )
 
@@ -50,12 +50,12 @@ least_is (t ∷ ts) = least_by t ts (least ts) (least_is ts)
 above_by : (k x : ℕ) (xs : List ℕ) (o : Option ℕ) (b : Bool) → nat_lt k x ≡ b → IsLeastAbove k xs o → IsLeastAbove k (x ∷ xs) (cond b (Some (lesser x o)) o)
 above_by k x xs None true e h =
     let up : k < x = grind (arith, nat_tests) in
-    (up, at_front x xs, λ r c g. ⊎_elim (λ (e : x ≡ r). omega arith) (λ (c : Contains xs r). (let z = h r c in absurd (omega arith))) (either x xs r c))
+    (up, at_prefix x xs, λ r c g. ⊎_elim (λ (e : x ≡ r). omega arith) (λ (c : Contains xs r). (let z = h r c in absurd (omega arith))) (either x xs r c))
 above_by k x xs (Some y) true e h =
     let up : k < x = grind (arith, nat_tests) in
     let high = h.0 in (
       omega arith,
-      ⊎_elim (λ (e : min x y ≡ x). subst (λ (z : ℕ). Contains (x ∷ xs) z) (sym e) (at_front x xs)) (λ (e : min x y ≡ y). subst (λ (z : ℕ). Contains (x ∷ xs) z) (sym e) (behind x xs y h.1)) (min_is x y),
+      ⊎_elim (λ (e : min x y ≡ x). subst (λ (z : ℕ). Contains (x ∷ xs) z) (sym e) (at_prefix x xs)) (λ (e : min x y ≡ y). subst (λ (z : ℕ). Contains (x ∷ xs) z) (sym e) (after x xs y h.1)) (min_is x y),
       λ r c g. ⊎_elim (λ (e : x ≡ r). omega arith) (λ (c : Contains xs r). (let z = h.2 r c g in omega arith)) (either x xs r c),
     )
 above_by k x xs None false e h =
@@ -63,7 +63,7 @@ above_by k x xs None false e h =
     λ r c. ⊎_elim (λ (e : x ≡ r). omega arith) (λ (c : Contains xs r). h r c) (either x xs r c)
 above_by k x xs (Some y) false e h =
     let low : x ≤ k = grind (arith, nat_tests) in
-    (h.0, behind x xs y h.1, λ r c g. ⊎_elim (λ (e : x ≡ r). absurd (omega arith)) (λ (c : Contains xs r). h.2 r c g) (either x xs r c))
+    (h.0, after x xs y h.1, λ r c g. ⊎_elim (λ (e : x ≡ r). absurd (omega arith)) (λ (c : Contains xs r). h.2 r c g) (either x xs r c))
 
 pub least_above_is : (k : ℕ) (ts : List ℕ) → IsLeastAbove k ts (least_above k ts)
 least_above_is k [] = λ r c. nothing r c
@@ -100,9 +100,9 @@ above_less j k (t ∷ ts) h c = ⊎_elim
 pub above_none : (k : ℕ) (ts : List ℕ) → ((r : ℕ) → Contains ts r → r ≤ k) → above k ts ≡ 0
 above_none k [] h = refl
 above_none k (t ∷ ts) h =
-    let low = h t (at_front t ts) in
+    let low = h t (at_prefix t ts) in
     let a : nat_lt k t ≡ false = grind (arith, nat_tests) in
-    let g = above_none k ts (λ r c. h r (behind t ts r c)) in
+    let g = above_none k ts (λ r c. h r (after t ts r c)) in
     rw (a, g) refl
 
 -- ---- the next

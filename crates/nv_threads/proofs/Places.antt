@@ -46,12 +46,12 @@ place_none (t ∷ ts) tid (suc i) h = place_none ts tid i (omega arith)
 
 -- ---- a write through the table's slice
 
-front : {A : Type 0} (ws ys : List A) → take (length ws) (ws ++ ys) ≡ ws
-front [] ys = refl
-front (w ∷ ws) ys = ap (λ rest. w ∷ rest) (front ws ys)
+prefix : {A : Type 0} (ws ys : List A) → take (length ws) (ws ++ ys) ≡ ws
+prefix [] ys = refl
+prefix (w ∷ ws) ys = ap (λ rest. w ∷ rest) (prefix ws ys)
 
 pub refilled : {A : Type 0} (xs ws : List A) → length ws ≡ length xs → refill (length xs) xs ws ≡ ws
-refilled xs ws h = ap (λ n. refill n xs ws) (sym h) ∙ front ws (drop (length ws) xs)
+refilled xs ws h = ap (λ n. refill n xs ws) (sym h) ∙ prefix ws (drop (length ws) xs)
 
 pub length_doing : (ts : List Task) (tid : ℕ) (x : Doing) → length (with_doing ts tid x) ≡ length ts
 length_doing [] tid x = refl
@@ -63,4 +63,4 @@ length_doing (t ∷ ts) tid x = by (t.tid == tid) (length_doing ts tid x)
 
 -- the whole of a list whose slice was written
 pub rewritten : {A : Type 0} (n : ℕ) (xs ws : List A) → n ≡ length ws → take n (ws ++ drop (length ws) xs) ≡ ws
-rewritten n xs ws h = ap (λ k. take k (ws ++ drop (length ws) xs)) h ∙ front ws (drop (length ws) xs)
+rewritten n xs ws h = ap (λ k. take k (ws ++ drop (length ws) xs)) h ∙ prefix ws (drop (length ws) xs)

@@ -3,7 +3,7 @@ use Rattle.std.proofs.Common.{◌≡◌, ◌∙◌, ap, refl, ℕ, zero, suc, �
 use Rattle.nv_memory.specs.declared.region.Access.{Access}
 use Rattle.nv_memory.specs.declared.region.Width.TheVariants.{Four}
 use Rattle.nv_memory.specs.declared.region.Right.TheVariants.{Read}
-use Rattle.nv_memory.specs.Image.{loaded}
+use Rattle.nv_memory.specs.Image.{value_at}
 use Rattle.nv_guest.specs.Calls.{argument}
 use Rattle.nv_threads.specs.Threads.{Proc, TaskState, Runs, Waits, Task, tids, asks, waiting_calls, with_state, next_tid, passed, machine, operation, least_waiter, woken_one, woken_by, woken, woke, waiting, futex_on, futex_by, own_answer, released, local}
 
@@ -102,7 +102,7 @@ futex_by_quiet : (p : Proc) (op address value timeout : ℕ) → Quiet p (futex_
 futex_by_quiet p op address value timeout =
     quiet_if p _ _ (nat_lt 1 op || (op == 0 && not (timeout == 0))) (as_before p _ refl refl refl)
     (quiet_if p _ _ (not (address % 4 == 0)) (as_before p _ refl refl refl)
-    (futex_quiet p op address value (loaded p.guest.memory address Four Read)))
+    (futex_quiet p op address value (value_at p.guest.memory address Four Read)))
 
 own_quiet : (nr : ℕ) (p : Proc) → Quiet p (own_answer nr p)
 unfolding own_answer

@@ -1,4 +1,4 @@
--- Turn steps come to an end within the bound, so that what a process comes to is what its next step and the process behind it come to.
+-- Turn steps come to an end within the bound, so that what a process comes to is what its next step and the process after it come to.
 use Rattle.std.proofs.Common.{◌≡◌, ◌∙◌, sym, ap, subst, refl, ℕ, zero, suc, ◌+◌, ◌-◌, ◌*◌, ◌<◌, Bool, true, false, cond, ◌==◌, ◌||◌, not, length, Option, Some, None, arith}
 use Rattle.std.proofs.lemmas.List.{length-map}
 use Rattle.std.proofs.lemmas.Bool.Decides.{nat_tests}
@@ -9,7 +9,7 @@ use Rattle.nv_machine.specs.declared.outcome.Stepped.{Stepped}
 use Rattle.nv_machine.specs.declared.outcome.Stepped.TheVariants.{On, Call, Fault as Faults}
 use Rattle.nv_guest.specs.Calls.{number}
 use Rattle.nv_threads.specs.Threads.{Proc, tid_of, tids, state_at, is_asking, passed, machine, ran, ended_by, counted, instruction, wanted, can_move, unless_live, is_on, faulted, turn_step, unless_came, steps, most_passes, most_steps, advanced}
-use Rattle.nv_threads.specs.Kept.{are_apart}
+use Rattle.nv_threads.specs.Process.{are_apart}
 use Rattle.nv_threads.specs.Going.{passes, height, Goes}
 use Rattle.nv_threads.proofs.ThreadLaws.{step_is, called_is}
 use Rattle.nv_threads.specs.declared.turns.Came.{Came}

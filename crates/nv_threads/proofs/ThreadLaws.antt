@@ -3,7 +3,7 @@ use Rattle.std.proofs.Common.{◌≡◌, ◌∙◌, sym, ap, subst, refl, ℕ, z
 use Rattle.std.specs.Prelude.{Contains, filter, is_some}
 use Rattle.std.specs.List.{list_any}
 use Rattle.std.proofs.lemmas.Bool.Decides.{nat_tests}
-use Rattle.nv_calls.specs.Calls.{Request, Response}
+use Rattle.nv_calls.specs.Calls.{Request, Response, status_of}
 use Rattle.nv_calls.specs.Logs.{made, with_child as more_live}
 use Rattle.nv_calls.specs.Numbers.{is_local}
 use Rattle.nv_machine.specs.Guest.{Machine, guest_step}
@@ -12,7 +12,7 @@ use Rattle.nv_machine.specs.declared.outcome.Stepped.{Stepped}
 use Rattle.nv_machine.specs.declared.outcome.Stepped.TheVariants.{On, Call, Fault as Faults}
 use Rattle.nv_guest.specs.Calls.{number}
 use Rattle.nv_threads.specs.Behaviours.{IsProcess}
-use Rattle.nv_threads.specs.Threads.{Proc, TaskState, Runs, Asks, Waits, Task, tids, state_at, with_state, is_asking, asks, waiting_calls, next_tid, passed, machine, local, asking, called, ran, ended_by, counted, instruction, wanted, moves, moves_task, can_move, unless_live, is_on, faulted, turn_step, unless_came, steps, most_steps, advanced, first_byte, over, left_by, goes_on, with_child, outcome_of, answered_by, call_in, is_sole, threads}
+use Rattle.nv_threads.specs.Threads.{Proc, TaskState, Runs, Asks, Waits, Task, tids, state_at, with_state, is_asking, asks, waiting_calls, next_tid, passed, machine, local, asking, called, ran, ended_by, counted, instruction, wanted, moves, moves_task, can_move, unless_live, is_on, faulted, turn_step, unless_came, steps, most_steps, advanced, over, left_by, goes_on, with_child, outcome_of, answered_by, call_in, is_sole, threads}
 use Rattle.nv_threads.proofs.Quiet.{Quiet, same_tids, calls_more, local_quiet, passed_quiet}
 use Rattle.nv_threads.specs.declared.turns.Came.{Came}
 use Rattle.nv_threads.specs.declared.turns.Came.TheVariants.{Asked}
@@ -202,21 +202,21 @@ child_turn p t None = refl
 child_turn p t (Some child) = refl
 
 answer_live : (p : Proc) (t : ℕ) (c : Request) (r : Response) (b94 b93 : Bool)
-    → tids (cond b94 (over p (first_byte c)) (cond b93 (left_by p t (first_byte c)) (goes_on (with_child p t (made c.nr r.ret)) t r))).tasks
+    → tids (cond b94 (over p (status_of c)) (cond b93 (left_by p t (status_of c)) (goes_on (with_child p t (made c.nr r.ret)) t r))).tasks
     ≡ cond b94 [] (cond b93 (filter (λ u. not (u == t)) (tids p.tasks)) (more_live (tids p.tasks) (made c.nr r.ret)))
 answer_live p t c r true b93 = refl
 answer_live p t c r false true = tids_filter p.tasks t
 answer_live p t c r false false = same_tids _ t Runs ∙ child_tids p t (made c.nr r.ret)
 
 answer_falls : (p : Proc) (t : ℕ) (c : Request) (r : Response) (b94 b93 : Bool) (q : Proc)
-    → q ≡ cond b94 (over p (first_byte c)) (cond b93 (left_by p t (first_byte c)) (goes_on (with_child p t (made c.nr r.ret)) t r))
+    → q ≡ cond b94 (over p (status_of c)) (cond b93 (left_by p t (status_of c)) (goes_on (with_child p t (made c.nr r.ret)) t r))
     → is_asking (state_at p.tasks t) ≡ true → q.left + waiting_calls q.tasks < p.left + waiting_calls p.tasks
 answer_falls p t c r true b93 q e h = rw e (omega (arith, some_call p.tasks t h))
 answer_falls p t c r false true q e h = rw e (omega (arith, calls_left_out p.tasks t h))
 answer_falls p t c r false false q e h = rw e (omega (arith, child_calls p t (made c.nr r.ret) h, child_left p t (made c.nr r.ret)))
 
 answer_turn : (p : Proc) (t : ℕ) (c : Request) (r : Response) (b94 b93 : Bool)
-    → (cond b94 (over p (first_byte c)) (cond b93 (left_by p t (first_byte c)) (goes_on (with_child p t (made c.nr r.ret)) t r))).turn ≡ p.turn
+    → (cond b94 (over p (status_of c)) (cond b93 (left_by p t (status_of c)) (goes_on (with_child p t (made c.nr r.ret)) t r))).turn ≡ p.turn
 answer_turn p t c r true b93 = refl
 answer_turn p t c r false true = refl
 answer_turn p t c r false false = child_turn p t (made c.nr r.ret)
@@ -351,7 +351,7 @@ thread_laws = record {
   only = λ p t u c h. ((gone_is (Only t) p).asked u h).0;
   any = λ p t e h. (let g = gone_is Any p in subst (λ (ts : List ℕ). Contains ts t) g.live (lives_at (advanced Any p).1.tasks t (g.asked t h).1));
   keeps = λ p w. (gone_is w p).calls;
-  falls = λ p t r h. (let c = call_in (state_at p.tasks t) in answer_falls p t c r (c.nr == 94) (c.nr == 93) (outcome_of p t c.nr (first_byte c) r) refl h);
+  falls = λ p t r h. (let c = call_in (state_at p.tasks t) in answer_falls p t c r (c.nr == 94) (c.nr == 93) (outcome_of p t c.nr (status_of c) r) refl h);
   live_after = λ p w. (gone_is w p).live;
   live_answer = λ p t n r h. (let c = call_in (state_at p.tasks t) in answer_live p t c r (c.nr == 94) (c.nr == 93));
   ended = λ p h e. none_lives p.tasks p.status h e;

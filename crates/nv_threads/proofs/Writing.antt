@@ -7,7 +7,7 @@ use Rattle.nv_threads.specs.Threads.{Proc, TaskState, Runs, Task as Thread, stat
 use Rattle.nv_threads.specs.Tables.{numbers, with_doing, state_by, threads_of}
 use Rattle.nv_threads.specs.declared.tasks.Doing.{Doing}
 use Rattle.nv_threads.specs.declared.tasks.Task.{Task}
-use Rattle.nv_threads.proofs.Orders.{at_front, behind, min_is}
+use Rattle.nv_threads.proofs.Orders.{at_prefix, after, min_is}
 use Rattle.nv_threads.proofs.Places.{refilled, length_doing}
 use Rattle.nv_threads.proofs.Tabling.{tids_of, doing_of}
 
@@ -27,13 +27,13 @@ state_written items seen now cs t d s each e w = ap (λ (ts : List Task). thread
 
 waiter_by : (a : ℕ) (x : Thread) (ts : List Thread) (b : Bool) (o : Option ℕ) (t : ℕ) → (o ≡ Some t → Contains (tids ts) t) → ((u : ℕ) → o ≡ Some u → Contains (tids ts) u)
     → cond b (Some (lesser x.tid o)) o ≡ Some t → Contains (tids (x ∷ ts)) t
-waiter_by a x ts true None t go all h = let z : x.tid ≡ t = cc in subst (λ n. Contains (tids (x ∷ ts)) n) z (at_front x.tid (tids ts))
+waiter_by a x ts true None t go all h = let z : x.tid ≡ t = cc in subst (λ n. Contains (tids (x ∷ ts)) n) z (at_prefix x.tid (tids ts))
 waiter_by a x ts true (Some u) t go all h =
     let z : min x.tid u ≡ t = cc in
     subst (λ n. Contains (tids (x ∷ ts)) n) z
-    (⊎_elim (λ (e : min x.tid u ≡ x.tid). subst (λ n. Contains (tids (x ∷ ts)) n) (sym e) (at_front x.tid (tids ts)))
-    (λ (e : min x.tid u ≡ u). subst (λ n. Contains (tids (x ∷ ts)) n) (sym e) (behind x.tid (tids ts) u (all u refl))) (min_is x.tid u))
-waiter_by a x ts false o t go all h = behind x.tid (tids ts) t (go h)
+    (⊎_elim (λ (e : min x.tid u ≡ x.tid). subst (λ n. Contains (tids (x ∷ ts)) n) (sym e) (at_prefix x.tid (tids ts)))
+    (λ (e : min x.tid u ≡ u). subst (λ n. Contains (tids (x ∷ ts)) n) (sym e) (after x.tid (tids ts) u (all u refl))) (min_is x.tid u))
+waiter_by a x ts false o t go all h = after x.tid (tids ts) t (go h)
 
 pub waiter_lives : (a : ℕ) (ts : List Thread) (t : ℕ) → least_waiter a ts ≡ Some t → Contains (tids ts) t
 waiter_lives a [] t h = cc

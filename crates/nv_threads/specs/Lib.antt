@@ -1,5 +1,5 @@
 pub mod Behaviours
-pub mod Kept
+pub mod Process
 pub mod Threads
 pub mod Tables
 pub mod Going

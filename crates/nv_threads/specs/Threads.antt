@@ -1,8 +1,8 @@
 -- A process of up to eight threads, which take turns.
-use Rattle.std.specs.Prelude.{ℕ, zero, suc, ◌+◌, ◌-◌, ◌*◌, ◌%◌, ℤ, pos, Bool, true, false, ◌==◌, ◌||◌, ◌&&◌, not, nat_lt, nat_le, min, List, [], ◌∷◌, ◌++◌, length, map, filter, Option, Some, None, Result, Ok, Err, is_some, slice_index, if◌then◌else◌}
+use Rattle.std.specs.Prelude.{ℕ, zero, suc, ◌+◌, ◌-◌, ◌*◌, ◌%◌, ℤ, pos, Bool, true, false, ◌==◌, ◌||◌, ◌&&◌, not, nat_lt, nat_le, min, List, [], ◌∷◌, ◌++◌, length, map, filter, Option, Some, None, Result, Ok, Err, is_some, if◌then◌else◌}
 use Rattle.std.specs.Int.{w32, cast_signed}
 use Rattle.std.specs.List.{list_any}
-use Rattle.nv_calls.specs.Calls.{Request, Response}
+use Rattle.nv_calls.specs.Calls.{Request, Response, status_of}
 use Rattle.nv_calls.specs.Logs.{made}
 use Rattle.nv_calls.specs.Numbers.{EXIT, EXIT_GROUP, is_local}
 use Rattle.nv_calls.specs.Errors.{EFAULT, EAGAIN, ENOSYS, EINVAL}
@@ -10,7 +10,7 @@ use Rattle.nv_calls.specs.Limits.{FIRST_THREAD}
 use Rattle.nv_memory.specs.declared.region.Access.{Access}
 use Rattle.nv_memory.specs.declared.region.Width.TheVariants.{Four}
 use Rattle.nv_memory.specs.declared.region.Right.TheVariants.{Read}
-use Rattle.nv_memory.specs.Image.{loaded}
+use Rattle.nv_memory.specs.Image.{value_at}
 use Rattle.nv_machine.specs.Guest.{Machine, guest_step}
 use Rattle.nv_machine.specs.declared.outcome.FaultKind.{FaultKind}
 use Rattle.nv_machine.specs.declared.outcome.FaultKind.TheVariants.{Budget, Deadlock}
@@ -179,7 +179,7 @@ abbrev pub futex_by : Proc → ℕ → ℕ → ℕ → ℕ → Proc
 futex_by p op address value timeout =
     if nat_lt 1 op || (op == 0 && not (timeout == 0)) then replied p ENOSYS
     else if not (address % 4 == 0) then replied p EINVAL
-    else futex_on p op address value (loaded p.guest.memory address Four Read)
+    else futex_on p op address value (value_at p.guest.memory address Four Read)
 
 abbrev pub futex : Proc → Proc
 futex p = futex_by p (operation (argument (machine p) 1)) (argument (machine p) 0) (argument (machine p) 2) (argument (machine p) 3)
@@ -287,9 +287,6 @@ abbrev pub call_in : Option TaskState → Request
 call_in (Some (Asks call)) = call
 call_in s = no_call
 
-abbrev pub first_byte : Request → ℕ
-first_byte c = slice_index c.args 0 % 256
-
 -- exit_group(2)
 abbrev pub over : Proc → ℕ → Proc
 over p status = record p { tasks = []; status = status }
@@ -318,7 +315,7 @@ abbrev pub answered_as : Proc → ℕ → ℕ → ℕ → Response → Proc
 answered_as p tid nr status r = released (outcome_of p tid nr status r)
 
 abbrev pub answered_by : Proc → ℕ → Request → Response → Proc
-answered_by p tid c r = answered_as p tid c.nr (first_byte c) r
+answered_by p tid c r = answered_as p tid c.nr (status_of c) r
 
 abbrev pub waiting_calls : List Task → ℕ
 waiting_calls [] = 0

@@ -8,7 +8,7 @@ ghost use Rattle.nv_guest.specs.Threads.{break_after};
 ghost use Rattle.nv_threads.specs.Behaviours.{IsStarted};
 ghost use Rattle.nv_threads.specs.Threads.{threads, started, state_at, is_running, is_asking, wanted, can_move, is_on, faulted, unless_live, passed, released, replied, own_answer, local, woken_one, woken, waiting, operation, futex, futex_by, futex_on, called, machine, tids, over, left_by, brk, broken, with_child, goes_on, outcome_of, answered_as};
 ghost use Rattle.nv_threads.specs.Going.{Goes, burst};
-ghost use Rattle.nv_threads.specs.Kept.{HaveRoom};
+ghost use Rattle.nv_threads.specs.Process.{HaveCapacity};
 
 use crate::tasks::{
     Doing, Task, asks, can_move, least_waiter, lives, next_tid, place, runs, set_doing,
@@ -31,7 +31,7 @@ const TURN: u32 = 1000;
 pub struct Process {
     guest: Guest,
     tasks: ArrayVec<Task, MOST_THREADS>,
-    /// The call that each thread waits for, if it does, in the order of the threads; those behind are spare.
+    /// The call that each thread waits for, if it does, in the order of the threads; those after them are spare.
     calls: Vec<Call>,
     /// The thread whose turn it is; it may have ended.
     turn: u32,
@@ -46,7 +46,7 @@ impl Model for Process {
     ghost use Rattle.std.specs.Prelude.{◌-◌, map};
     ghost use Rattle.nv_calls.specs.Calls.{request};
     ghost use Rattle.nv_guest.specs.Threads.{tids};
-    ghost use Rattle.nv_threads.specs.Kept.{IsKept};
+    ghost use Rattle.nv_threads.specs.Process.{IsSound};
     ghost use Rattle.nv_threads.specs.Tables.{threads_of};
     ghost use Rattle.nv_threads.specs.Threads.{Proc};
 
@@ -54,7 +54,7 @@ impl Model for Process {
 
     ghost view = { λ p. record { guest = p.guest; tasks = threads_of p.tasks.items (map request p.calls.items); turn = p.turn; slice = p.slice; left = p.budget - p.count; status = p.status } };
 
-    ghost invariant = { λ p. IsKept p.count p.budget (threads_of p.tasks.items (map request p.calls.items)) (tids p.guest.threads) p.calls.items };
+    ghost invariant = { λ p. IsSound p.count p.budget (threads_of p.tasks.items (map request p.calls.items)) (tids p.guest.threads) p.calls.items };
 }
 
 #[tactic(auto, unfolding(crate::specs::Threads::threads))]
@@ -376,7 +376,7 @@ impl Process {
     {
         let place = place(&self.tasks, tid);
         let nr = self.calls[place].nr;
-        let status = (self.calls[place].args[0] % 256) as u8;
+        let status = self.calls[place].status();
         self.answer_as(tid, nr, status, ret, payload);
     }
 
@@ -478,21 +478,21 @@ fn to_end(calls: &mut [Call], place: usize)
     calls[place..].rotate_left(1);
 }
 
-// A call with room for what is handed in, for each thread.
-#[tactic(auto, using(crate::proofs::Leaving::room_more, crate::proofs::Leaving::length_more))]
+// A call that can hold what is handed in, for each thread.
+#[tactic(auto, using(crate::proofs::Leaving::capacity_more, crate::proofs::Leaving::length_more))]
 fn eight_calls(alloc: Global) -> Result<Vec<Call>, AllocError>
     ensures eight { IfOk result (λ calls. length calls.items ≡ 8) }
-    ensures room { IfOk result (λ calls. HaveRoom calls.items) }
+    ensures capacity { IfOk result (λ calls. HaveCapacity calls.items) }
 {
     let mut calls = Vec::new(alloc);
     for _ in 0..MOST_THREADS {
-        let call = roomy_call(alloc)?;
+        let call = empty_call(alloc)?;
         calls.push(call)?;
     }
     Ok(calls)
 }
 
-fn roomy_call(alloc: Global) -> Result<Call, AllocError>
+fn empty_call(alloc: Global) -> Result<Call, AllocError>
     ensures { IfOk result (λ call. MOST_BYTES ≤ call.payload.capacity) }
 {
     Ok(Call {

@@ -74,10 +74,10 @@ window_whole [] n h = refl
 window_whole (b ∷ bs) zero h = absurd (omega arith)
 window_whole (b ∷ bs) (suc n) h = ap (λ z. b ∷ z) (ap (take (length bs)) (window_cons b bs 0 n) ∙ window_whole bs n (omega arith))
 
--- the bytes are at the front of what their words give back
-front_of_packed : (bs : List ℕ) → ((i : ℕ) → get_or bs i 0 < 256) → take (length bs) (flat_map (little_bytes 8) (packed bs)) ≡ bs
+-- the bytes are at the beginning of what their words give back
+prefix_of_packed : (bs : List ℕ) → ((i : ℕ) → get_or bs i 0 < 256) → take (length bs) (flat_map (little_bytes 8) (packed bs)) ≡ bs
 unfolding packed
-front_of_packed bs h = ap (take (length bs)) (unpacked bs 0 ((length bs + 7) / 8) h) ∙ window_whole bs (8 * ((length bs + 7) / 8)) (omega arith)
+prefix_of_packed bs h = ap (take (length bs)) (unpacked bs 0 ((length bs + 7) / 8) h) ∙ window_whole bs (8 * ((length bs + 7) / 8)) (omega arith)
 
 -- Lengths
 
@@ -114,9 +114,9 @@ spell_whole e ok =
     let words = payload_of (of_z w32 e.reply.ret) a b (ret_fits e ok) l in
     ((omega arith, long ∙ ap (λ (z : ℕ). 6 + z) (sym words)), omega arith)
 
-behind_six : (e : Entry) (j : ℕ) → get_or (spell e) (suc (suc (suc (suc (suc (suc j)))))) 0 ≡ get_or (packed (e.call.payload ++ e.reply.payload)) j 0
+after_six : (e : Entry) (j : ℕ) → get_or (spell e) (suc (suc (suc (suc (suc (suc j)))))) 0 ≡ get_or (packed (e.call.payload ++ e.reply.payload)) j 0
 unfolding spell
-behind_six e j = refl
+after_six e j = refl
 
 -- the payload's words
 pub spell_late : (e : Entry) (i : ℕ) → 6 ≤ i → i < length (spell e) → get_or (spell e) i 0 ≡ little_from (8 * (i - 6)) 8 (e.call.payload ++ e.reply.payload)
@@ -127,7 +127,7 @@ spell_late e i le lt =
     let both = length-append e.call.payload e.reply.payload in
     let long = spell_length e in
     let l : j < (length bs + 7) / 8 = subst (λ (z : ℕ). j < (z + 7) / 8) (sym both) (omega arith) in
-    ap (λ (z : ℕ). get_or (spell e) z 0) (sym is) ∙ behind_six e j ∙ packed_at bs j l
+    ap (λ (z : ℕ). get_or (spell e) z 0) (sym is) ∙ after_six e j ∙ packed_at bs j l
 
 -- Read back
 
@@ -178,7 +178,7 @@ event_of_spell e ok =
     let a : List ℕ = e.call.payload in
     let b : List ℕ = e.reply.payload in
     let all : List ℕ = flat_map (little_bytes 8) (packed (a ++ b)) in
-    let parts = two_parts a b all (front_of_packed (a ++ b) (bytes_below a b ok.call_bytes ok.reply_bytes)) in
+    let parts = two_parts a b all (prefix_of_packed (a ++ b) (bytes_below a b ok.call_bytes ok.reply_bytes)) in
     let first = split_pair e.call.tid e.call.nr ok.tid in
     let second = split_pair e.stamp (bit e.call.bad) ok.stamp in
     let fifth = split_pair (of_z w32 e.reply.ret) (length a + 65536 * length b) (ret_fits e ok) in

@@ -44,7 +44,7 @@ pub(crate) fn decode(words: &[u64], bytes: &mut [u8], event: &mut Event)
 fn unpack(words: &[u64], bytes: &mut [u8])
     requires { 8 * length words.now ≤ length bytes.old }
     ensures wide { length bytes.new ≡ length bytes.old }
-    ensures front { take (8 * length words.now) bytes.new ≡ flat_map (little_bytes 8) words.now }
+    ensures prefix { take (8 * length words.now) bytes.new ≡ flat_map (little_bytes 8) words.now }
 {
     let size = 8 * words.len();
     LittleEndian::write_u64_into(words, &mut bytes[..size]);

@@ -17,7 +17,7 @@ use Rattle.nv_threads.proofs.ThreadLaws.{thread_laws}
 use Rattle.nv_replay.specs.Follow.{Judge}
 use Rattle.nv_replay.specs.Versions.{Running}
 use Rattle.nv_replay.specs.Accounts.{AreFresh}
-use Rattle.nv_replay.proofs.Survivor.{lawful_front}
+use Rattle.nv_replay.proofs.Survivor.{lawful_prefix}
 use Rattle.nv_workers.specs.Ends.{Leaving, spelt, IsSpelling, IsFinished, IsDone, IsAccount}
 use Rattle.nv_workers.specs.Working.{told_by, HasEnded}
 use Rattle.nv_workers.proofs.Spelt.{same_spelt, long_as}
@@ -44,12 +44,12 @@ pub record AreTold {T : Type 0} (history : Log) (versions : ℕ) (w : ℕ → Vi
 
 -- Words
 
-front_by : (xs ys : List ℕ) → ((i x : ℕ) → get_elem? xs i ≡ some x → get_elem? ys i ≡ some x) → (more : List ℕ) × (ys ≡ xs ++ more)
-front_by [] ys h = (ys, refl)
-front_by (x ∷ xs) [] h = absurd (some-ne-none x (sym (h 0 x refl)))
-front_by (x ∷ xs) (y ∷ ys) h =
+prefix_by : (xs ys : List ℕ) → ((i x : ℕ) → get_elem? xs i ≡ some x → get_elem? ys i ≡ some x) → (more : List ℕ) × (ys ≡ xs ++ more)
+prefix_by [] ys h = (ys, refl)
+prefix_by (x ∷ xs) [] h = absurd (some-ne-none x (sym (h 0 x refl)))
+prefix_by (x ∷ xs) (y ∷ ys) h =
     let e : y ≡ x = some-injective y x (h 0 x refl) in
-    let r = front_by xs ys (λ i z q. h (suc i) z q) in
+    let r = prefix_by xs ys (λ i z q. h (suc i) z q) in
     (r.0, λ i. e i ∷ r.1 i)
 
 slice_below : {A : Type 0} (xs : List A) (k : ℕ) (x : A) → slice_get xs k ≡ Some x → k < length xs
@@ -71,7 +71,7 @@ words_by h seen (x ∷ xs) r =
     let b = r i y q in
     let same : b.0 ≡ a.0 = some-injective b.0 a.0 (sym b.1 ∙ a.1) in
     subst (λ (z : List ℕ). get_elem? z i ≡ some y) same b.2 in
-    let f = front_by (x ∷ xs) a.0 all in
+    let f = prefix_by (x ∷ xs) a.0 all in
     (f.0, s ∙ f.1)
 
 take_spelt : (n : ℕ) (h : List Entry) → map spell (take n h) ≡ take n (map spell h)
@@ -117,7 +117,7 @@ module _ (judges : ℕ → Judge) {T : Type 0} (start : Start) (most : ℕ) (han
 
   finished : IsFinished spell h n left
   finished = record {
-    front = λ k l. (drop (length (w k).seen) h, sym (take-append-drop (length (w k).seen) h));
+    prefix = λ k l. (drop (length (w k).seen) h, sym (take-append-drop (length (w k).seen) h));
     words = λ k l.
         let r = words_by h (w k).seen (w k).read (told.each k l).read in
         (r.0, ap (λ (m : ℕ). spelt spell (slice_get h m)) (long_by k l) ∙ r.1);
@@ -134,7 +134,7 @@ module _ (judges : ℕ → Judge) {T : Type 0} (start : Start) (most : ℕ) (han
   }
 
   lawful_by : (k : ℕ) → IsLawful (seen_by k)
-  lawful_by k = lawful_front (seen_by k) (drop (length (w k).seen) h) (subst IsLawful (sym (take-append-drop (length (w k).seen) h)) law)
+  lawful_by k = lawful_prefix (seen_by k) (drop (length (w k).seen) h) (subst IsLawful (sym (take-append-drop (length (w k).seen) h)) law)
 
   done_by : (k : ℕ) (p : Proc) (v : Running Proc) → k < n → HasEnded judges start most hands k p v (w k) → IsDone threads judges start most hands InRange spell k p v (left k)
   done_by k p v l e =

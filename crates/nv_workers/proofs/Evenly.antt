@@ -22,7 +22,7 @@ module _ (n t : ℕ) (some : 0 < t) (enough : t ≤ n) (long : ℕ) (is : long �
   pub longer_fit : (n % t) * long ≤ n
   longer_fit = let h = halves n t some in rw is (omega (arith, h))
 
-  pub short_first : (n % t) * long ≤ n - (n % t) * long → AreEven n t (record { front = n - (n % t) * long; size = n / t; other = long })
+  pub short_first : (n % t) * long ≤ n - (n % t) * long → AreEven n t (record { first = n - (n % t) * long; size = n / t; other = long })
   short_first most =
       let h : (n % t) * long + (t - n % t) * (n / t) ≡ n = rw is (halves n t some) in
       let below : n % t < t = mod-lt n some in
@@ -31,14 +31,14 @@ module _ (n t : ℕ) (some : 0 < t) (enough : t ≤ n) (long : ℕ) (is : long �
         first = t - n % t;
         others = n % t;
         all = omega (arith, below);
-        front = omega (arith, h);
+        together = omega (arith, h);
         whole = omega (arith, h);
         most = most;
         apart = (omega (arith, is), omega (arith, is));
         some = (omega (arith, h, most, some, enough), one, omega (arith, is, one));
       }
 
-  pub long_first : n - (n % t) * long ≤ (n % t) * long → AreEven n t (record { front = (n % t) * long; size = long; other = n / t })
+  pub long_first : n - (n % t) * long ≤ (n % t) * long → AreEven n t (record { first = (n % t) * long; size = long; other = n / t })
   long_first most =
       let h : (n % t) * long + (t - n % t) * (n / t) ≡ n = rw is (halves n t some) in
       let below : n % t < t = mod-lt n some in
@@ -47,7 +47,7 @@ module _ (n t : ℕ) (some : 0 < t) (enough : t ≤ n) (long : ℕ) (is : long �
         first = n % t;
         others = t - n % t;
         all = omega (arith, below);
-        front = refl;
+        together = refl;
         whole = h;
         most = omega (arith, h, most);
         apart = (omega (arith, is), omega (arith, is));

@@ -12,7 +12,7 @@ use Rattle.nv_replay.specs.Sequence.{is_on}
 use Rattle.nv_replay.specs.Monitor.{Part, Run, begun, after_lead, tracked_by, leads_on, turn, lines_of, account_of, sequence}
 use Rattle.nv_replay.proofs.Settled.{Reaches, reach_here, reach_first, stage_rests}
 use Rattle.nv_workers.proofs.Stations.{SpanFrom, Tile, WentBy, LedBy, after_station, AreSeats}
-use Rattle.nv_workers.proofs.Fronts.{front_of, no_more, take_own, take_within, stop_by}
+use Rattle.nv_workers.proofs.Prefixes.{prefix_of, no_more, take_own, take_within, stop_by}
 use Rattle.nv_replay.proofs.Tracking.{track_ended}
 use Rattle.nv_replay.proofs.Rotating.{over_rests, empty_rests, dropped, led, sequence_is}
 use Rattle.nv_replay.proofs.Turning.{take_all}
@@ -53,7 +53,7 @@ module _ {P : Type 0} (g : Behaviour P) (laws : IsProcess g) (judges : ℕ → J
 
   -- what a version that went by told is what it comes to over the whole log
   pub went_line : (k i : ℕ) (v : Part P) (w : Went k i v) → w.at ≡ tracks h i v
-  went_line k i v w = subst (λ (y : List Entry). w.at ≡ tracks y i v) (sym w.front)
+  went_line k i v w = subst (λ (y : List Entry). w.at ≡ tracks y i v) (sym w.prefix)
       (track_ended g laws (judges i) v.led v.process w.at w.read w.rest (record { steps = w.steps; is = w.reach }) w.ended)
 
   -- where the definition comes to
@@ -68,7 +68,7 @@ module _ {P : Type 0} (g : Behaviour P) (laws : IsProcess g) (judges : ℕ → J
   went_tile n k i v w x m t =
       let s : t.0 ≡ x = subst (λ (y : List (ℕ × ℕ)). SpanFrom y x t.0) w.none t.1 in
       let t' : Tile spans (k + 1) n x (length h) = subst (λ (y : ℕ). Tile spans (k + 1) n y (length h)) s t.2 in
-      let within : length w.read ≤ length h = omega (arith, length-append w.read w.rest, ap length w.front) in
+      let within : length w.read ≤ length h = omega (arith, length-append w.read w.rest, ap length w.prefix) in
       (stop_by spans n (k + 1) x (length h) (length w.read) t' within (λ j a b p u s. w.below j a b (omega arith) (omega arith) s), t')
 
   led_tile : (n k i : ℕ) (v : Part P) (x : Led k i v) (y : ℕ) → Tile spans k (suc n) y (length h) → (x.from ≡ y) × Tile spans (k + 1) n (length x.log) (length h)
@@ -83,14 +83,14 @@ module _ {P : Type 0} (g : Behaviour P) (laws : IsProcess g) (judges : ℕ → J
 
   -- a station that led
   record Stood (m : Run P) (k i : ℕ) (order : List ℕ) (v : Part P) (x : Led k i v) : Type 0 where
-    front : take x.from x.log ≡ m.log
+    prefix : take x.from x.log ≡ m.log
     over : m.over ≡ false
     turns : Turn m ≡ after_station g judges start most cuts hands h spans total m k i order v x
 
   stood : (m : Run P) (more : List Entry) (k i : ℕ) (order : List ℕ) (v : Part P) (x : Led k i v) → h ≡ m.log ++ more → x.from ≡ length m.log → (m.over ≡ true → live_after m.log ≡ [])
       → m.order ≡ i ∷ order → slice_get m.parts i ≡ Some v → Stood m k i order v x
   stood m more k i order v x e s dead o q =
-      let log0 : take x.from x.log ≡ m.log = sym (take_within x.from x.log x.rest x.within) ∙ (ap (take x.from) (sym x.front ∙ e)
+      let log0 : take x.from x.log ≡ m.log = sym (take_within x.from x.log x.rest x.within) ∙ (ap (take x.from) (sym x.prefix ∙ e)
       ∙ (ap (λ (y : ℕ). take y (m.log ++ more)) s ∙ take_own m.log more)) in
       let on : (tracks m.log i v).fate ≡ None = subst (λ (y : List Entry). (tracks y i v).fate ≡ None) log0 x.on in
       let seen : (tracks m.log i v).seen ≡ length m.log = subst (λ (y : List Entry). (tracks y i v).seen ≡ x.from) log0 x.seen ∙ s in
@@ -98,7 +98,7 @@ module _ {P : Type 0} (g : Behaviour P) (laws : IsProcess g) (judges : ℕ → J
       let lead : leads_on g judges start most cuts hands m.log i (tracks m.log i v) ≡ x.end = subst
       (λ (y : List Entry). leads_on g judges start most cuts hands y i (tracks y i v) ≡ x.end) log0 x.lead in
       let over : m.over ≡ false = not_true m.over (λ z. alive_not m.log (tracks m.log i v) step (dead z) seen on) in record {
-        front = log0;
+        prefix = log0;
         over = over;
         turns = led g judges start most cuts hands m i order v over o q on
             ∙ ap (λ (l : Leader P). after_lead m i order v (tracks m.log i v) l (is_handed hands (length m.log) l)) lead;
@@ -117,7 +117,7 @@ module _ {P : Type 0} (g : Behaviour P) (laws : IsProcess g) (judges : ℕ → J
         parts = ap (λ (x : Run P). x.parts) same ∙ r.parts;
       }
   went m last more k i order v w false ov e l o q r =
-      let f = front_of w.read m.log w.rest more (sym w.front ∙ e) l in
+      let f = prefix_of w.read m.log w.rest more (sym w.prefix ∙ e) l in
       let a : w.at ≡ tracks m.log i v = subst (λ (y : List Entry). w.at ≡ tracks y i v) (sym f.1)
       (track_ended g laws (judges i) v.led v.process w.at w.read f.0 (record { steps = w.steps; is = w.reach }) w.ended) in
       let x = some_of w.at.fate w.ended in
@@ -148,7 +148,7 @@ module _ {P : Type 0} (g : Behaviour P) (laws : IsProcess g) (judges : ℕ → J
       let b : Bool = is_handed hands (length m.log) x.end in
       let m1 : Run P = after_station g judges start most cuts hands h spans total m k i order v x in
       let l1 : m1.log ≡ x.log = after_log m i order v f x.end b ∙ x.end_log in
-      let r = gathers n (k + 1) m1 last x.rest s (subst (λ (y : List Entry). Tile spans (k + 1) n (length y) (length h)) (sym l1) lt.1) (x.front ∙ ap (λ (y : List Entry). y ++ x.rest) (sym l1)) (omega arith)
+      let r = gathers n (k + 1) m1 last x.rest s (subst (λ (y : List Entry). Tile spans (k + 1) n (length y) (length h)) (sym l1) lt.1) (x.prefix ∙ ap (λ (y : List Entry). y ++ x.rest) (sym l1)) (omega arith)
       (λ z. ap live_after l1 ∙ after_dead m i order v f x.end (live_after x.log ≡ []) b x.exited z) in record {
         end = r.end;
         reach = reach_first (turn g judges start most cuts hands) m r.end (subst (λ (y : Run P). Reaches (turn g judges start most cuts hands) y r.end) (sym st.turns) r.reach);

@@ -20,10 +20,10 @@ use Rattle.nv_replay.specs.Versions.{Running, IsLeading, asking_next, asking_by,
 use Rattle.nv_replay.specs.Turns.{TookTurn, Suits}
 use Rattle.nv_replay.specs.Accounts.{with_span}
 use Rattle.nv_replay.proofs.Settled.{Reaches, reach_here, reach_on}
-use Rattle.nv_replay.proofs.Extending.{in_step_on, take_front_of}
+use Rattle.nv_replay.proofs.Extending.{in_step_on, take_prefix_of}
 use Rattle.nv_replay.proofs.Stepping.{decided_in_step}
 use Rattle.nv_replay.proofs.Wholes.{next_is, rests}
-use Rattle.nv_replay.proofs.Tracking.{track_extended, next_behind, ends_later, track_is, track_reached}
+use Rattle.nv_replay.proofs.Tracking.{track_extended, next_after, ends_later, track_is, track_reached}
 use Rattle.nv_replay.proofs.Stretches.{stage_leads, next_unless, handed_rests, hand_is}
 use Rattle.nv_replay.proofs.Handing.{hands_over}
 use Rattle.nv_replay.proofs.Spanning.{span_end}
@@ -46,15 +46,15 @@ pub record IsFirst {P : Type 0} (g : Behaviour P) (p : P) : Type 0 where
   pub on : g.ended p ≡ None
 
 -- an element of a list with one more at its end
-pub split_last : {X : Type 0} (xs front back : List X) (x y : X) → xs ++ x ∷ [] ≡ front ++ y ∷ back
-    → ((xs ≡ front) × (x ≡ y)) ⊎ ((more : List X) × (xs ≡ front ++ y ∷ more))
+pub split_last : {X : Type 0} (xs prefix back : List X) (x y : X) → xs ++ x ∷ [] ≡ prefix ++ y ∷ back
+    → ((xs ≡ prefix) × (x ≡ y)) ⊎ ((more : List X) × (xs ≡ prefix ++ y ∷ more))
 split_last [] [] back x y h = let k : x ≡ y = cc in inl (refl, k)
-split_last [] (z ∷ front) back x y h = absurd (omega (arith, ap length h, length-append front (y ∷ back)))
+split_last [] (z ∷ prefix) back x y h = absurd (omega (arith, ap length h, length-append prefix (y ∷ back)))
 split_last (w ∷ xs) [] back x y h = let k : w ≡ y = cc in inr (xs, ap (λ z. z ∷ xs) k)
-split_last (w ∷ xs) (z ∷ front) back x y h =
+split_last (w ∷ xs) (z ∷ prefix) back x y h =
     let k : w ≡ z = cc in
-    let t : xs ++ x ∷ [] ≡ front ++ y ∷ back = cc in
-    elim (split_last xs front back x y t) [
+    let t : xs ++ x ∷ [] ≡ prefix ++ y ∷ back = cc in
+    elim (split_last xs prefix back x y t) [
       | inl (e, f) ↦ inl ((λ i. k i ∷ e i), f)
       | inr (m, e) ↦ inr (m, (λ i. k i ∷ e i))
     ]
@@ -88,19 +88,19 @@ module _ {P : Type 0} (g : Behaviour P) (laws : IsProcess g) (judges : ℕ → J
 
   -- the log has become longer
   pub handed_longer : (i : ℕ) (p : P) (led : List (ℕ × ℕ)) (log more : List Entry) → Handed i p led log → Handed i p led (log ++ more)
-  handed_longer i p led log more a front back from to e =
-      let h = a front back from to e in
+  handed_longer i p led log more a prefix back from to e =
+      let h = a prefix back from to e in
       let w = h.within in
       let gr = h.grew in
-      let a : take from (log ++ more) ≡ take from log = take_front_of log more from (omega arith) in
-      let b : take to (log ++ more) ≡ take to log = take_front_of log more to (omega arith) in
+      let a : take from (log ++ more) ≡ take from log = take_prefix_of log more from (omega arith) in
+      let b : take to (log ++ more) ≡ take to log = take_prefix_of log more to (omega arith) in
       record {
         within = omega (arith, length-append log more);
         grew = h.grew;
         planned = h.planned;
-        takes = subst (λ (x : List Entry). TakesLead g judges i p front x) (sym a) h.takes;
+        takes = subst (λ (x : List Entry). TakesLead g judges i p prefix x) (sym a) h.takes;
         process = h.process;
-        lead = λ c u. ap (λ (x : List Entry). lead_to_hand g replies most c hands from (begun g judges i p front x)) a
+        lead = λ c u. ap (λ (x : List Entry). lead_to_hand g replies most c hands from (begun g judges i p prefix x)) a
             ∙ (h.lead c u ∙ ap (λ (x : List Entry). record { process = h.process; log = x; fate = None }) (sym b));
       }
 
@@ -108,8 +108,8 @@ module _ {P : Type 0} (g : Behaviour P) (laws : IsProcess g) (judges : ℕ → J
   handed_same i p led new log e h = subst (λ (x : List (ℕ × ℕ)). Handed i p x log) (sym e) h
 
   handed_none : (i : ℕ) (p : P) (led : List (ℕ × ℕ)) (log : List Entry) → led ≡ [] → Handed i p led log
-  handed_none i p led log e front back from to q =
-      absurd (omega (arith, ap length (sym e ∙ q), length-append front ((from, to) ∷ back)))
+  handed_none i p led log e prefix back from to q =
+      absurd (omega (arith, ap length (sym e ∙ q), length-append prefix ((from, to) ∷ back)))
 
   -- a fresh version after an empty list
   pub reads_first : (i : ℕ) (p : P) (v : Running P) → v.index ≡ i → IsFirst g p → v.at ≡ fresh p → v.led ≡ [] → v.leading ≡ false → v.asked ≡ None
@@ -122,7 +122,7 @@ module _ {P : Type 0} (g : Behaviour P) (laws : IsProcess g) (judges : ℕ → J
     seen = ap (λ (x : Follower P). x.seen) a;
     in_step = subst (λ (x : Follower P). IsInStep g [] x) (sym a) (record { within = omega arith; live = λ z. f.live; on = λ z. f.on; exited = λ z. cc });
     handed = handed_none i p v.led [] l;
-    behind = subst (λ (x : List (ℕ × ℕ)). EndBy v.at.seen x) (sym l) (record { each = λ j x y. cc });
+    past = subst (λ (x : List (ℕ × ℕ)). EndBy v.at.seen x) (sym l) (record { each = λ j x y. cc });
     few = omega (arith, ap length l, above_all hands v.at.seen);
     stage = subst (λ (x : Follower P). IsStage (track_next g (judges i) v.led []) (fresh p) x) (sym a)
         (is_stage (track_next g (judges i) v.led []) (fresh p) (fresh p) (reach_here (track_next g (judges i) v.led []) (fresh p)));
@@ -151,7 +151,7 @@ module _ {P : Type 0} (g : Behaviour P) (laws : IsProcess g) (judges : ℕ → J
         seen = r.seen;
         in_step = r.in_step;
         handed = r.handed;
-        behind = r.behind;
+        past = r.past;
         few = r.few;
         stage = is_stage (track_next g (judges i) v.led (log ++ e ∷ [])) (fresh p) v.at q;
       }
@@ -165,7 +165,7 @@ module _ {P : Type 0} (g : Behaviour P) (laws : IsProcess g) (judges : ℕ → J
       let a : new.at ≡ decided g (judges i) e v.at = ap (λ (x : Running P). x.at) k in
       let b : new.led ≡ v.led = ap (λ (x : Running P). x.led) k in
       let q = with_held i p v.led v.at log e held h (reaches (track_next g (judges i) v.led (log ++ held_list held)) (fresh p) v.at r.stage) in
-      let one : track_next g (judges i) v.led (log ++ e ∷ []) v.at ≡ new.at = next_behind g (judges i) v.led (log ++ e ∷ []) v.at r.behind
+      let one : track_next g (judges i) v.led (log ++ e ∷ []) v.at ≡ new.at = next_after g (judges i) v.led (log ++ e ∷ []) v.at r.past
       ∙ (next_is g laws (judges i) (log ++ e ∷ []) e v.at at r.on ∙ sym a) in
       let st = subst (λ (x : Follower P). Reaches (track_next g (judges i) v.led (log ++ e ∷ [])) (fresh p) x) one
       (reach_on (track_next g (judges i) v.led (log ++ e ∷ [])) (fresh p) v.at q) in
@@ -184,8 +184,8 @@ module _ {P : Type 0} (g : Behaviour P) (laws : IsProcess g) (judges : ℕ → J
     few_on : v.at.seen ≤ new.at.seen → length new.led + above hands new.at.seen ≤ length hands
     few_on l = let f = r.few in omega (arith, ap length led_same, above_later hands v.at.seen new.at.seen l)
 
-    behind_on : v.at.seen ≤ new.at.seen → EndBy new.at.seen new.led
-    behind_on l = subst (λ (x : List (ℕ × ℕ)). EndBy new.at.seen x) (sym led_same) (ends_later v.led v.at.seen new.at.seen r.behind l)
+    after_on : v.at.seen ≤ new.at.seen → EndBy new.at.seen new.led
+    after_on l = subst (λ (x : List (ℕ × ℕ)). EndBy new.at.seen x) (sym led_same) (ends_later v.led v.at.seen new.at.seen r.past l)
 
     -- the parts that it led stand after it, whatever has come of the event
     pub parts_on : Handed i p new.led (log ++ e ∷ [])
@@ -206,7 +206,7 @@ module _ {P : Type 0} (g : Behaviour P) (laws : IsProcess g) (judges : ℕ → J
           seen = omega (arith, s, r.seen, length-append log (e ∷ []));
           in_step = d.1;
           handed = parts_on;
-          behind = behind_on l;
+          past = after_on l;
           few = few_on l;
           stage = subst (λ (x : List Entry). IsStage (track_next g (judges i) new.led x) (fresh p) new.at) (sym (append-nil (log ++ e ∷ []))) d.0;
         }
@@ -217,7 +217,7 @@ module _ {P : Type 0} (g : Behaviour P) (laws : IsProcess g) (judges : ℕ → J
         let d = decides i p v new log e held r h law k in
         let l : v.at.seen ≤ new.at.seen = omega (arith, s) in
         let w : new.at.seen ≤ length log = omega (arith, s, r.seen) in
-        let t : take new.at.seen (log ++ e ∷ []) ≡ take new.at.seen log = take_front_of log (e ∷ []) new.at.seen w in record {
+        let t : take new.at.seen (log ++ e ∷ []) ≡ take new.at.seen log = take_prefix_of log (e ∷ []) new.at.seen w in record {
           index = ap (λ (x : Running P). x.index) k ∙ r.index;
           on = n;
           idle = ap (λ (x : Running P). x.leading) k ∙ r.idle;
@@ -225,7 +225,7 @@ module _ {P : Type 0} (g : Behaviour P) (laws : IsProcess g) (judges : ℕ → J
           seen = s ∙ r.seen;
           in_step = record { within = w; live = λ z. d.1.live z ∙ ap live_after t; on = d.1.on; exited = λ z. ap live_after (sym t) ∙ d.1.exited z };
           handed = parts_still;
-          behind = behind_on l;
+          past = after_on l;
           few = few_on l;
           stage = d.0;
         }
@@ -241,7 +241,7 @@ module _ {P : Type 0} (g : Behaviour P) (laws : IsProcess g) (judges : ℕ → J
   takes i p v log r =
       let q : Reaches (track_next g (judges i) v.led log) (fresh p) v.at = subst (λ (x : List Entry). Reaches (track_next g (judges i) v.led x) (fresh p) v.at) (append-nil log)
       (reaches (track_next g (judges i) v.led (log ++ [])) (fresh p) v.at r.stage) in
-      let rest : track_next g (judges i) v.led log v.at ≡ v.at = next_behind g (judges i) v.led log v.at r.behind ∙ rests g laws (judges i) log v.at (inl (omega (arith, r.seen))) in
+      let rest : track_next g (judges i) v.led log v.at ≡ v.at = next_after g (judges i) v.led log v.at r.past ∙ rests g laws (judges i) log v.at (inl (omega (arith, r.seen))) in
       let f : v.at ≡ tracked g judges i p v.led log = track_is g laws (judges i) v.led log (fresh p) v.at q rest in
       let all : take (length log) log ≡ log = take_all log in
       let f' : v.at ≡ tracked g judges i p v.led (take (length log) log) = f ∙ ap (λ (x : List Entry). tracked g judges i p v.led x) (sym all) in
@@ -258,7 +258,7 @@ module _ {P : Type 0} (g : Behaviour P) (laws : IsProcess g) (judges : ℕ → J
         led_from = record {
           index = r.index;
           handed = r.handed;
-          behind = subst (λ (n : ℕ). EndBy n v.led) r.seen r.behind;
+          past = subst (λ (n : ℕ). EndBy n v.led) r.seen r.past;
           few = subst (λ (n : ℕ). length v.led + above hands n ≤ length hands) r.seen r.few;
           within = omega arith;
           takes = subst T (sym all) t;
@@ -285,22 +285,22 @@ module _ {P : Type 0} (g : Behaviour P) (laws : IsProcess g) (judges : ℕ → J
       → TookTurn g replies most v new log (log ++ more) → Led i p new led from (log ++ more)
   leads_on i p v new led from log more s t =
       let o = s.led_from in
-      let front : take from (log ++ more) ≡ take from log = take_front_of log more from o.within in
+      let prefix : take from (log ++ more) ≡ take from log = take_prefix_of log more from o.within in
       let start : Leader P = begun g judges i p led (take from log) in record {
         index = t.on.index ∙ o.index;
         handed = handed_longer i p led log more o.handed;
-        behind = o.behind;
+        past = o.past;
         few = o.few;
         within = omega (arith, o.within, length-append log more);
-        takes = subst (λ (x : List Entry). TakesLead g judges i p led x) (sym front) o.takes;
+        takes = subst (λ (x : List Entry). TakesLead g judges i p led x) (sym prefix) o.takes;
         stage = λ c u.
             let step = next_or_hand g replies most c hands from in
             let a = suits_now g laws replies most c v.at.fate new.at.fate (length log) (length (log ++ more)) s.on t.grew t.same (suits c new.at.fate (length (log ++ more)) u) in
             let r = reaches step start (leader_of v log) (o.stage c (is_cut_of c v.at.fate (length log) a.0)) in
             let one : step (leader_of v log) ≡ leader_of new (log ++ more) = next_unless g replies most c hands from (leader_of v log) s.handed ∙ sym (t.step c a.1) in
             let r' = subst (λ (x : Leader P). Reaches step start x) one (reach_on step start (leader_of v log) r) in
-            subst (λ (x : List Entry). IsStage step (begun g judges i p led x) (leader_of new (log ++ more))) (sym front) (is_stage step start (leader_of new (log ++ more)) r');
-        rewrites = t.on.rewrites ∙ (o.rewrites ∙ ap (λ (x : List Entry). (tracked g judges i p led x).rewrites) (sym front));
+            subst (λ (x : List Entry). IsStage step (begun g judges i p led x) (leader_of new (log ++ more))) (sym prefix) (is_stage step start (leader_of new (log ++ more)) r');
+        rewrites = t.on.rewrites ∙ (o.rewrites ∙ ap (λ (x : List Entry). (tracked g judges i p led x).rewrites) (sym prefix));
         seen = t.on.seen;
         span = t.on.span led from (o.span ∙ ap (λ (m : ℕ). led ++ (from, m) ∷ []) (sym o.seen)) ∙ ap (λ (m : ℕ). led ++ (from, m) ∷ []) t.on.seen;
         leading = t.on.leading ∙ o.leading;
@@ -381,13 +381,13 @@ module _ {P : Type 0} (g : Behaviour P) (laws : IsProcess g) (judges : ℕ → J
       let T : List (ℕ × ℕ) → Follower P → Type 0 = λ y f. Reaches (track_next g (judges i) y log) (fresh p) f in
       let x' : T v.led v.at = subst (λ (y : List (ℕ × ℕ)). T y v.at) sp (subst (λ (f : Follower P). T (led ++ (length (take from log), length log) ∷ []) f) at x) in
       let last = gave_up i p v led from log s n m h in
-      let over : Handed i p (led ++ (from, length log) ∷ []) log = λ front back a b e. elim (split_last led front back (from, length log) (a, b) e) [
+      let over : Handed i p (led ++ (from, length log) ∷ []) log = λ prefix back a b e. elim (split_last led prefix back (from, length log) (a, b) e) [
         | inl (q, y) ↦
             let ya : from ≡ a = ap (λ (z : ℕ × ℕ). z.0) y in
             let yb : length log ≡ b = ap (λ (z : ℕ × ℕ). z.1) y in
             let H : List (ℕ × ℕ) → ℕ → ℕ → Type 0 = λ f c d. HandedOver g judges replies most hands i p f c d log in
             subst (λ (f : List (ℕ × ℕ)). H f a b) q (subst (λ (c : ℕ). H led c b) ya (subst (λ (d : ℕ). H led from d) yb last))
-        | inr (more, q) ↦ s.handed front more a b q
+        | inr (more, q) ↦ s.handed prefix more a b q
       ] in record {
         index = s.index;
         on = n;
@@ -396,7 +396,7 @@ module _ {P : Type 0} (g : Behaviour P) (laws : IsProcess g) (judges : ℕ → J
         seen = s.seen;
         in_step = s.in_step;
         handed = handed_same i p (led ++ (from, length log) ∷ []) v.led log s.span over;
-        behind = subst (λ (y : ℕ). EndBy y v.led) (sym s.seen) (subst (λ (y : List (ℕ × ℕ)). EndBy (length log) y) (sym s.span) (span_end led from from (length log) s.behind s.within));
+        past = subst (λ (y : ℕ). EndBy y v.led) (sym s.seen) (subst (λ (y : List (ℕ × ℕ)). EndBy (length log) y) (sym s.span) (span_end led from from (length log) s.past s.within));
         few = (let f = s.few in omega (arith, s.seen, ap (above hands) s.seen, ap length s.span, length-append led ((from, length log) ∷ []), above_less hands from (length log) m h));
         stage = subst (λ (y : List Entry). IsStage (track_next g (judges i) v.led y) (fresh p) v.at) (sym (append-nil log)) (is_stage (track_next g (judges i) v.led log) (fresh p) v.at x');
       }

@@ -1,5 +1,5 @@
 pub mod Keeping
-pub mod Fronts
+pub mod Prefixes
 pub mod Stations
 pub mod Gathering
 pub mod Spanned

@@ -14,34 +14,34 @@ use Rattle.nv_replay.specs.Accounts.{AreFresh}
 use Rattle.nv_workers.specs.declared.worker.Worker.{Worker}
 use Rattle.nv_workers.specs.New.{IsNew, AreNew, AreAsMade, AreNewSeats, LeadsAnew, ReadsAnew, StaffsAnew, IsNewReader}
 
-fresh_front : (i : ℕ) (vs : List (Running Proc)) (v : Running Proc) → AreFresh threads i (vs ++ v ∷ []) → AreFresh threads i vs
-fresh_front i [] v f = tt
-fresh_front i (u ∷ vs) v f = (f.0, fresh_front (i + 1) vs v f.1)
+fresh_prefix : (i : ℕ) (vs : List (Running Proc)) (v : Running Proc) → AreFresh threads i (vs ++ v ∷ []) → AreFresh threads i vs
+fresh_prefix i [] v f = tt
+fresh_prefix i (u ∷ vs) v f = (f.0, fresh_prefix (i + 1) vs v f.1)
 
 fresh_last : (i : ℕ) (vs : List (Running Proc)) (v : Running Proc) → AreFresh threads i (vs ++ v ∷ []) → IsFresh threads (i + length vs) v
 fresh_last i [] v f = let z : i ≡ i + 0 = omega arith in subst (λ (j : ℕ). IsFresh threads j v) z f.0
 fresh_last i (u ∷ vs) v f = let z : i + 1 + length vs ≡ i + suc (length vs) = omega arith in subst (λ (j : ℕ). IsFresh threads j v) z (fresh_last (i + 1) vs v f.1)
 
-pub versions_front : (vs all : List (Running Proc)) (v : Running Proc) → all ≡ vs ++ v ∷ [] → AreFresh threads 0 all → AreFresh threads 0 vs
-versions_front vs all v e f = fresh_front 0 vs v (subst (λ (x : List (Running Proc)). AreFresh threads 0 x) e f)
+pub versions_prefix : (vs all : List (Running Proc)) (v : Running Proc) → all ≡ vs ++ v ∷ [] → AreFresh threads 0 all → AreFresh threads 0 vs
+versions_prefix vs all v e f = fresh_prefix 0 vs v (subst (λ (x : List (Running Proc)). AreFresh threads 0 x) e f)
 
 pub version_last : (vs all : List (Running Proc)) (v : Running Proc) (k : ℕ) → all ≡ vs ++ v ∷ [] → length vs ≡ k → AreFresh threads 0 all → IsFresh threads k v
 version_last vs all v k e h f =
     let z : 0 + length vs ≡ k = omega arith in
     subst (λ (j : ℕ). IsFresh threads j v) z (fresh_last 0 vs v (subst (λ (x : List (Running Proc)). AreFresh threads 0 x) e f))
 
-pub front_length : (vs all : List (Running Proc)) (v : Running Proc) (n : ℕ) → all ≡ vs ++ v ∷ [] → length all ≡ n + 1 → length vs ≡ n
-front_length vs all v n e h = omega (arith, length-append vs (v ∷ []), ap (λ (x : List (Running Proc)). length x) e, h)
+pub prefix_length : (vs all : List (Running Proc)) (v : Running Proc) (n : ℕ) → all ≡ vs ++ v ∷ [] → length all ≡ n + 1 → length vs ≡ n
+prefix_length vs all v n e h = omega (arith, length-append vs (v ∷ []), ap (λ (x : List (Running Proc)). length x) e, h)
 
 pub none_is : {R : Type 0} (o : Option R) (A : Type 0) (B : R → Type 0) → MatchOption o A B → ((r : R) → o ≡ Some r → ⊥) → A
 none_is None A B h n = h
 none_is (Some r) A B h n = absurd (n r refl)
 
 module _ {K : Type 0} {G : Ghosts K} where
-  at_front : (rs : List (Reader K G)) (r q : Reader K G) (k : ℕ) → get_elem? rs k ≡ some q → get_elem? (rs ++ r ∷ []) k ≡ some q
-  at_front [] r q k e = cc
-  at_front (p ∷ rs) r q zero e = e
-  at_front (p ∷ rs) r q (suc k) e = at_front rs r q k e
+  at_prefix : (rs : List (Reader K G)) (r q : Reader K G) (k : ℕ) → get_elem? rs k ≡ some q → get_elem? (rs ++ r ∷ []) k ≡ some q
+  at_prefix [] r q k e = cc
+  at_prefix (p ∷ rs) r q zero e = e
+  at_prefix (p ∷ rs) r q (suc k) e = at_prefix rs r q k e
 
   at_last : (rs : List (Reader K G)) (r : Reader K G) → get_elem? (rs ++ r ∷ []) (length rs) ≡ some r
   at_last [] r = refl
@@ -56,15 +56,15 @@ module _ {K : Type 0} {G : Ghosts K} where
       let z : i + suc (length fs) ≡ i + 1 + length fs = omega arith in
       (n.0, new_more room (i + 1) fs ws f w n.1 (subst (λ (j : ℕ). IsNew room j f w) z m))
 
-  front_made : (room : Room K) (rs : List (Reader K G)) (r : Reader K G) (l : Lead K G) → AreAsMade room (rs ++ r ∷ []) l → AreAsMade room rs l
-  front_made room rs r l a = record { readers = λ k q e. a.readers k q (at_front rs r q k e); lead = a.lead }
+  prefix_made : (room : Room K) (rs : List (Reader K G)) (r : Reader K G) (l : Lead K G) → AreAsMade room (rs ++ r ∷ []) l → AreAsMade room rs l
+  prefix_made room rs r l a = record { readers = λ k q e. a.readers k q (at_prefix rs r q k e); lead = a.lead }
 
   last_made : (room : Room K) (rs : List (Reader K G)) (r : Reader K G) (l : Lead K G) → AreAsMade room (rs ++ r ∷ []) l → IsFreshReader room (length rs + 1) r
   last_made room rs r l a = a.readers (length rs) r (at_last rs r)
 
   -- the seats of all but the last version
-  pub front_seats : (rs all : List (Reader K G)) (r : Reader K G) (l : Lead K G) → all ≡ rs ++ r ∷ [] → AreNewSeats all l → AreNewSeats rs l
-  front_seats rs all r l e s = (s.0, front_made s.0 rs r l (subst (λ (x : List (Reader K G)). AreAsMade s.0 x l) e s.1))
+  pub prefix_seats : (rs all : List (Reader K G)) (r : Reader K G) (l : Lead K G) → all ≡ rs ++ r ∷ [] → AreNewSeats all l → AreNewSeats rs l
+  prefix_seats rs all r l e s = (s.0, prefix_made s.0 rs r l (subst (λ (x : List (Reader K G)). AreAsMade s.0 x l) e s.1))
 
   own_version : (room : Room K) (k : ℕ) (r : Reader K G) → IsFreshReader room k r → IsFreshReader room (version_of_reader r) r
   own_version room k r f = subst (λ (j : ℕ). IsFreshReader room j r) (sym f.2) f
@@ -85,15 +85,15 @@ module _ {K : Type 0} {G : Ghosts K} where
   seats_length : (rs all : List (Reader K G)) (r : Reader K G) → all ≡ rs ++ r ∷ [] → length all ≡ length rs + 1
   seats_length rs all r e = omega (arith, length-append rs (r ∷ []), ap (λ (x : List (Reader K G)). length x) e)
 
-  pub front_readers : (vs all : List (Running Proc)) (v : Running Proc) (rs seats : List (Reader K G)) (r : Reader K G) → all ≡ vs ++ v ∷ [] → seats ≡ rs ++ r ∷ []
+  pub prefix_readers : (vs all : List (Running Proc)) (v : Running Proc) (rs seats : List (Reader K G)) (r : Reader K G) → all ≡ vs ++ v ∷ [] → seats ≡ rs ++ r ∷ []
       → length all ≡ length seats + 1 → length vs ≡ length rs + 1
-  front_readers vs all v rs seats r e d h = front_length vs all v (length seats) e h ∙ seats_length rs seats r d
+  prefix_readers vs all v rs seats r e d h = prefix_length vs all v (length seats) e h ∙ seats_length rs seats r d
 
   -- the last version is that of the last reader
   pub fresh_reader : (vs all : List (Running Proc)) (v : Running Proc) (rs seats : List (Reader K G)) (r : Reader K G) (l : Lead K G) → all ≡ vs ++ v ∷ []
       → seats ≡ rs ++ r ∷ [] → length all ≡ length seats + 1 → AreNewSeats seats l → AreFresh threads 0 all → IsFresh threads (version_of_reader r) v
   fresh_reader vs all v rs seats r l e d h s f =
-      version_last vs all v (version_of_reader r) e (front_readers vs all v rs seats r e d h ∙ sym (reader_version rs seats r l d s)) f
+      version_last vs all v (version_of_reader r) e (prefix_readers vs all v rs seats r e d h ∙ sym (reader_version rs seats r l d s)) f
 
   -- one worker more
   pub staffs_more : (vs all : List (Running Proc)) (v : Running Proc) (rs seats : List (Reader K G)) (r : Reader K G) (l : Lead K G) (ws : List (Worker K G)) (w : Worker K G)
@@ -104,7 +104,7 @@ module _ {K : Type 0} {G : Ghosts K} where
       let at = q.2 in
       let z : version_of_reader r ≡ 0 + length vs = omega arith in
       let one : IsNew room (0 + length vs) v w = subst (λ (j : ℕ). IsNew room j v w) z (n room (own_version room (length rs + 1) r q)) in
-      subst (λ (x : List (Running Proc)). AreNew room 0 x (ws ++ w ∷ [])) (sym e) (new_more room 0 vs ws v w (s room (front_made room rs r l b)) one)
+      subst (λ (x : List (Running Proc)). AreNew room 0 x (ws ++ w ∷ [])) (sym e) (new_more room 0 vs ws v w (s room (prefix_made room rs r l b)) one)
 
   -- what the making of a room gives
   pub as_made : (room : Room K) (rs : List (Reader K G)) (l : Lead K G) (k : K) → origin room ≡ k → FreshReaders room rs → IsFreshLead room l

@@ -12,7 +12,7 @@ use Rattle.nv_replay.specs.declared.standing.Standing.{Standing}
 use Rattle.nv_replay.specs.Monitor.{Part, Run, led_line, after_lead, tracked_by}
 use Rattle.nv_workers.proofs.Gathering.{after_log}
 use Rattle.nv_workers.proofs.Stations.{SpanFrom, Tile, WentBy, LedBy, after_station, AreSeats}
-use Rattle.nv_workers.proofs.Fronts.{take_own, take_within}
+use Rattle.nv_workers.proofs.Prefixes.{take_own, take_within}
 use Rattle.nv_replay.proofs.Numbers.{get_set, get_other, length_set, eq_self, eq_same}
 
 module _ {P : Type 0} (g : Behaviour P) (judges : ℕ → Judge) (start : Start) (most : ℕ) (cuts : ℕ → Option ℕ) (hands : List ℕ)
@@ -104,7 +104,7 @@ module _ {P : Type 0} (g : Behaviour P) (judges : ℕ → Judge) (start : Start)
   went_as k i v u a b w =
       let x : WentBy g judges start most cuts hands h spans total k i (record v { told = u.told }) = subst (λ (y : Part P). WentBy g judges start most cuts hands h spans total k i y)
       (λ j. record { process = a j; led = b j; told = u.told }) w in
-      record { read = x.read; rest = x.rest; front = x.front; none = x.none; below = x.below; at = x.at; steps = x.steps; reach = x.reach; ended = x.ended }
+      record { read = x.read; rest = x.rest; prefix = x.prefix; none = x.none; below = x.below; at = x.at; steps = x.steps; reach = x.reach; ended = x.ended }
 
   led_as : (k i : ℕ) (v u : Part P) → u.process ≡ v.process → u.led ≡ v.led → (x : LedBy g judges start most cuts hands h spans total k i u)
       → (y : LedBy g judges start most cuts hands h spans total k i v) × (y.from ≡ x.from) × (y.end ≡ x.end) × (y.log ≡ x.log)
@@ -113,7 +113,7 @@ module _ {P : Type 0} (g : Behaviour P) (judges : ℕ → Judge) (start : Start)
       let T : Part P → Type 0 = λ z. (y : LedBy g judges start most cuts hands h spans total k i z) × (y.from ≡ x.from) × (y.end ≡ x.end) × (y.log ≡ x.log) in
       let r : T (record v { told = u.told }) = subst T e (x, refl, refl, refl) in
       let y = r.0 in (
-        record { from = y.from; log = y.log; rest = y.rest; front = y.front; span = y.span; within = y.within; on = y.on; seen = y.seen; in_step = y.in_step; end = y.end; lead = y.lead; end_log = y.end_log; exited = y.exited },
+        record { from = y.from; log = y.log; rest = y.rest; prefix = y.prefix; span = y.span; within = y.within; on = y.on; seen = y.seen; in_step = y.in_step; end = y.end; lead = y.lead; end_log = y.end_log; exited = y.exited },
         r.1,
         r.2,
         r.3,
@@ -177,7 +177,7 @@ module _ {P : Type 0} (g : Behaviour P) (judges : ℕ → Judge) (start : Start)
       let b : Bool = is_handed hands (length m.log) y.0.end in
       let from : x.from ≡ length m.log = sym y.1 ∙ z.0 in
       let same : is_handed hands x.from x.end ≡ b = λ j. is_handed hands (from j) (sym y.2 j) in
-      let log0 : take x.from x.log ≡ m.log = sym (take_within x.from x.log x.rest x.within) ∙ (ap (take x.from) (sym x.front ∙ he)
+      let log0 : take x.from x.log ≡ m.log = sym (take_within x.from x.log x.rest x.within) ∙ (ap (take x.from) (sym x.prefix ∙ he)
       ∙ (ap (λ (u : ℕ). take u (m.log ++ more)) from ∙ take_own m.log more)) in
       let seat0 : record (seat p k) { told = v.0.told } ≡ v.0 = λ j. record { process = sym v.2 j; led = sym v.3 j; told = v.0.told } in
       let f0 : tracked_by g judges start most cuts hands (take x.from x.log) (who k) (seat p k) ≡ f = λ j. tracked_by g judges start most cuts hands (log0 j) (who k) (seat0 j) in
@@ -189,7 +189,7 @@ module _ {P : Type 0} (g : Behaviour P) (judges : ℕ → Judge) (start : Start)
       let s0 = after_parts ps m k c v.0 p f y.0.end b s v.1 hp v.2 v.3 span tells0 tl.1 in
       let s1 : Parts ps m1 (k + 1) = subst (λ (u : ℕ). Parts ps m1 u) (one_on k) s0 in
       let t1 : Tile spans (k + 1) n (length m1.log) (length h) = subst (λ (u : ℕ). Tile spans (k + 1) n u (length h)) (sym (ap length l1 ∙ z.1)) t.2 in
-      let h1 : h ≡ m1.log ++ y.0.rest = y.0.front ∙ ap (λ (u : List Entry). u ++ y.0.rest) (sym l1) in
+      let h1 : h ≡ m1.log ++ y.0.rest = y.0.prefix ∙ ap (λ (u : List Entry). u ++ y.0.rest) (sym l1) in
       let e : k + 1 + n ≡ k + suc n = omega arith in
       let rec : Reads ps n (k + 1) m1 = elim r [
         | inl d ↦

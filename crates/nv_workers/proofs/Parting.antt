@@ -7,10 +7,10 @@ use Rattle.nv_workers.specs.declared.worker.Worker.{Worker}
 use Rattle.nv_workers.specs.Rounds.{WorkedOn, CanAll, AllOn}
 
 module _ (judges : ℕ → Judge) {K : Type 0} {G : Ghosts K} (room : Room K) (most : ℕ) where
-  pub can_front : (n : ℕ) (ws : List (Worker K G)) → CanAll judges room most ws → CanAll judges room most (take n ws)
-  can_front zero ws c = tt
-  can_front (suc n) [] c = tt
-  can_front (suc n) (w ∷ ws) c = (c.0, can_front n ws c.1)
+  pub can_prefix : (n : ℕ) (ws : List (Worker K G)) → CanAll judges room most ws → CanAll judges room most (take n ws)
+  can_prefix zero ws c = tt
+  can_prefix (suc n) [] c = tt
+  can_prefix (suc n) (w ∷ ws) c = (c.0, can_prefix n ws c.1)
 
   pub can_back : (n : ℕ) (ws : List (Worker K G)) → CanAll judges room most ws → CanAll judges room most (drop n ws)
   can_back zero ws c = c

@@ -23,8 +23,8 @@ use Rattle.nv_replay.specs.Tracks.{track_next}
 use Rattle.nv_replay.specs.Sequence.{is_on}
 use Rattle.nv_replay.specs.Versions.{Running}
 use Rattle.nv_replay.proofs.Turning.{get_last}
-use Rattle.nv_replay.proofs.Extending.{take_front_of}
-use Rattle.nv_replay.proofs.Survivor.{lawful_front}
+use Rattle.nv_replay.proofs.Extending.{take_prefix_of}
+use Rattle.nv_replay.proofs.Survivor.{lawful_prefix}
 use Rattle.nv_workers.specs.Ends.{IsStage, ends_of, AreHandedOn}
 use Rattle.nv_workers.specs.Turns.{held_list, IsReading}
 use Rattle.nv_workers.specs.Working.{Holds, HasEnded, FollowsOn}
@@ -89,12 +89,12 @@ module _ (judges : ℕ → Judge) (most : ℕ) where
     stamp_is = may.stamp ∙ sym h.reading.seen
 
     pub is_below : v.at.seen < 131072
-    is_below = rw (h.reading.seen) may.room
+    is_below = rw (h.reading.seen) may.few
 
     lives_as : threads.live v.at.process ≡ live_after (take (length h.log) (h.log ++ h.event ∷ []))
     lives_as =
         let all : take v.at.seen h.log ≡ take (length h.log) (h.log ++ h.event ∷ []) = ap (λ (n : ℕ). take n h.log) h.reading.seen
-        ∙ sym (take_front_of h.log (h.event ∷ []) (length h.log) (omega arith)) in
+        ∙ sym (take_prefix_of h.log (h.event ∷ []) (length h.log) (omega arith)) in
         h.reading.in_step.live h.reading.on ∙ ap live_after all
 
     pub is_live : Contains (threads.live v.at.process) h.event.call.tid
@@ -158,7 +158,7 @@ module _ (judges : ℕ → Judge) (most : ℕ) where
     dropped new k n e = record {
       log = h.log;
       spelt = h.spelt;
-      lawful = lawful_front h.log (h.event ∷ []) h.lawful;
+      lawful = lawful_prefix h.log (h.event ∷ []) h.lawful;
       count = n ∙ (h.reading.seen ∙ sym long_seen);
       led = led_now new k;
       done = record {
@@ -180,8 +180,8 @@ module _ (judges : ℕ → Judge) (most : ℕ) where
         → (e : Entry) × (spell e ≡ words) × IsLawful (log ++ e ∷ [])
     read_next s l words (h, spelt, law) =
         let q = parted h seen words spelt in
-        let lawful : IsLawful (q.front ++ q.last ∷ []) = subst IsLawful q.all law in
-        let same : q.front ≡ log = same_spelt q.front log (lawful_front q.front (q.last ∷ []) lawful) l (q.seen_is ∙ sym s) in
+        let lawful : IsLawful (q.prefix ++ q.last ∷ []) = subst IsLawful q.all law in
+        let same : q.prefix ≡ log = same_spelt q.prefix log (lawful_prefix q.prefix (q.last ∷ []) lawful) l (q.seen_is ∙ sym s) in
         (q.last, q.words_are, subst (λ (x : List Entry). IsLawful (x ++ q.last ∷ [])) same lawful)
 
     -- a version without a fate stands where threads live

@@ -80,7 +80,7 @@ module _ (judges : ℕ → Judge) where
           count = led.seen;
           spans = told;
           told = inr (record {
-            front = before;
+            prefix = before;
             last = span s u from (length w.seen);
             spans = spans;
             handed_on = on;

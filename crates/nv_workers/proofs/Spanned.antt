@@ -29,13 +29,13 @@ take_at (suc n) [] k x l h = absurd (some-ne-none x (sym h))
 take_at (suc n) (y ∷ xs) zero x l h = h
 take_at (suc n) (y ∷ xs) (suc k) x l h = take_at n xs k x (omega arith) h
 
-pub behind_at : {A : Type 0} (front xs : List A) (x : A) → get_elem? (front ++ x ∷ xs) (length front) ≡ some x
-behind_at [] xs x = refl
-behind_at (y ∷ front) xs x = behind_at front xs x
+pub after_at : {A : Type 0} (prefix xs : List A) (x : A) → get_elem? (prefix ++ x ∷ xs) (length prefix) ≡ some x
+after_at [] xs x = refl
+after_at (y ∷ prefix) xs x = after_at prefix xs x
 
-pub later_at : {A : Type 0} (front xs : List A) (k : ℕ) (x : A) → get_elem? xs k ≡ some x → (j : ℕ) × (get_elem? (front ++ xs) j ≡ some x)
+pub later_at : {A : Type 0} (prefix xs : List A) (k : ℕ) (x : A) → get_elem? xs k ≡ some x → (j : ℕ) × (get_elem? (prefix ++ xs) j ≡ some x)
 later_at [] xs k x h = (k, h)
-later_at (y ∷ front) xs k x h = let r = later_at front xs k x h in (suc r.0, r.1)
+later_at (y ∷ prefix) xs k x h = let r = later_at prefix xs k x h in (suc r.0, r.1)
 
 pub map_append : {A B : Type 0} (f : A → B) (xs ys : List A) → map f (xs ++ ys) ≡ map f xs ++ map f ys
 map_append f [] ys = refl
@@ -91,11 +91,11 @@ below_last k [] x b l = (l, tt)
 below_last k (y ∷ xs) x b l = (b.0, below_last k xs x b.1 l)
 
 -- after spans of lower stations
-pub behind_below : (k : ℕ) (front xs : List Span) → AreBelow k front → of_station k (front ++ xs) ≡ of_station k xs
-behind_below k [] xs b = refl
-behind_below k (x ∷ front) xs b =
+pub after_below : (k : ℕ) (prefix xs : List Span) → AreBelow k prefix → of_station k (prefix ++ xs) ≡ of_station k xs
+after_below k [] xs b = refl
+after_below k (x ∷ prefix) xs b =
     let l = b.0 in
-    others_skipped k x (front ++ xs) (λ e. absurd (omega arith)) ∙ behind_below k front xs b.1
+    others_skipped k x (prefix ++ xs) (λ e. absurd (omega arith)) ∙ after_below k prefix xs b.1
 
 -- a rising list that begins with a span of this station has no other
 pub only_first : (k : ℕ) (x : Span) (xs : List Span) → x.station ≡ k → Rising (x.station + 1) xs → of_station k (x ∷ xs) ≡ x ∷ []
@@ -213,9 +213,9 @@ pub from_version : (i : ℕ) (xs : List Span) (j : ℕ) (x : Span) → get_elem?
 from_version i [] j x h = absurd (some-ne-none x (sym h))
 from_version i (y ∷ xs) j x h = from_kept xs y x (of_version i xs) (y.version == i) j h (λ n q. from_version i xs n x q)
 
-pub handed_front : (front : List Span) (x : Span) (back : List Span) → AreHandedOn (front ++ x ∷ back) → x.handed ≡ true
-handed_front [] x back a = a.0
-handed_front (y ∷ front) x back a = handed_front front x back a.1
+pub handed_prefix : (prefix : List Span) (x : Span) (back : List Span) → AreHandedOn (prefix ++ x ∷ back) → x.handed ≡ true
+handed_prefix [] x back a = a.0
+handed_prefix (y ∷ prefix) x back a = handed_prefix prefix x back a.1
 
 -- Stations that spans opened
 

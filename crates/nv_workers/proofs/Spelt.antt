@@ -35,21 +35,21 @@ same_spelt a b h k e = same_by a b (ranges a h) (ranges b k) e
 
 -- the last of a spelt list
 pub record Parted (h : List Entry) (seen : List (List ℕ)) (words : List ℕ) : Type 0 where
-  pub front : List Entry
+  pub prefix : List Entry
   pub last : Entry
-  pub all : h ≡ front ++ last ∷ []
-  pub seen_is : map spell front ≡ seen
+  pub all : h ≡ prefix ++ last ∷ []
+  pub seen_is : map spell prefix ≡ seen
   pub words_are : spell last ≡ words
 
 pub parted : (h : List Entry) (seen : List (List ℕ)) (words : List ℕ) → map spell h ≡ seen ++ words ∷ [] → Parted h seen words
 parted [] [] words e = cc
 parted [] (s ∷ seen) words e = cc
-parted (x ∷ []) [] words e = record { front = []; last = x; all = refl; seen_is = refl; words_are = ap (head_or []) e }
+parted (x ∷ []) [] words e = record { prefix = []; last = x; all = refl; seen_is = refl; words_are = ap (head_or []) e }
 parted (x ∷ y ∷ h) [] words e = let q = ap tail e in cc
 parted (x ∷ h) (s ∷ seen) words e =
     let r = parted h seen words (ap tail e) in
     record {
-      front = x ∷ r.front;
+      prefix = x ∷ r.prefix;
       last = r.last;
       all = ap (λ z. x ∷ z) r.all;
       seen_is = (let head : spell x ≡ s = ap (head_or []) e in λ i. head i ∷ r.seen_is i);

@@ -29,7 +29,7 @@ module _ {P : Type 0} (g : Behaviour P) (judges : ℕ → Judge) (start : Start)
   pub record WentBy (k i : ℕ) (v : Part P) : Type 0 where
     pub read : List Entry
     pub rest : List Entry
-    pub front : h ≡ read ++ rest
+    pub prefix : h ≡ read ++ rest
     pub none : spans k ≡ []
     pub below : (j a b : ℕ) → k < j → j < total → spans j ≡ (a, b) ∷ [] → length read ≤ a
     pub at : Follower P
@@ -42,7 +42,7 @@ module _ {P : Type 0} (g : Behaviour P) (judges : ℕ → Judge) (start : Start)
     pub from : ℕ
     pub log : List Entry
     pub rest : List Entry
-    pub front : h ≡ log ++ rest
+    pub prefix : h ≡ log ++ rest
     pub span : spans k ≡ (from, length log) ∷ []
     pub within : from ≤ length log
     pub on : (tracked_by g judges start most cuts hands (take from log) i v).fate ≡ None

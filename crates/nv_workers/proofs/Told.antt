@@ -33,10 +33,10 @@ use Rattle.nv_room.specs.declared.view.Span.{Span}
 use Rattle.nv_room.specs.Spans.{Rising, of_station, of_version, Opened, Opens as Opens'}
 use Rattle.nv_words.specs.Spell.{bit}
 use Rattle.nv_workers.specs.Ends.{IsCutOf, ends_of, AreHandedOn, Leaving, IsSpelling, spelt, IsFinished, tracked, begun, TakesLead, HandedOver, HasLedFrom, IsDroppedAt, HasFollowed, HasLeft, IsDone, IsAccount}
-use Rattle.nv_workers.proofs.Fronts.{with_next, take_within}
+use Rattle.nv_workers.proofs.Prefixes.{with_next, take_within}
 use Rattle.nv_workers.proofs.Keeping.{reaches, split_last, hands_planned}
 use Rattle.nv_workers.proofs.Stations.{WentBy, LedBy}
-use Rattle.nv_workers.proofs.Spanned.{place_below, behind_at, later_at, map_append, who_of, who_is, who_at, none_below, AreBelow, below_more, below_last, behind_below, only_first, none_there, one_there, tile_by, pair_at, version_append, version_own, version_none, from_version, handed_front, none_opened, who_below, none_later, rising_at}
+use Rattle.nv_workers.proofs.Spanned.{place_below, after_at, later_at, map_append, who_of, who_is, who_at, none_below, AreBelow, below_more, below_last, after_below, only_first, none_there, one_there, tile_by, pair_at, version_append, version_own, version_none, from_version, handed_prefix, none_opened, who_below, none_later, rising_at}
 use Rattle.nv_workers.proofs.Opening.{led_below, seat, TellsOn, told_by, own_led, other_led, same_led, Opens}
 use Rattle.nv_workers.proofs.Accounting.{workers}
 
@@ -163,7 +163,7 @@ module _ {P : Type 0} (g : Behaviour P) (laws : IsProcess g) (judges : ℕ → J
   record Fell (i : ℕ) (p : P) (v : Running P) : Type 0 where
     read : List Entry
     rest : List Entry
-    front : h ≡ read ++ rest
+    prefix : h ≡ read ++ rest
     one : length read ≤ length (left i).seen + 1
     more : length (left i).seen < length read → 0 < length (left i).words
     reach : Reaches (track_next g (judges i) v.led read) (fresh p) v.at
@@ -171,7 +171,7 @@ module _ {P : Type 0} (g : Behaviour P) (laws : IsProcess g) (judges : ℕ → J
   dropped : (i : ℕ) (l : i < length news) (p : P) (v : Running P) → IsDroppedAt g judges start most hands fits spell i p v (left i) → Fell i p v
   dropped i l p v d =
       let w = fin.words i l in
-      let f = fin.front i l in
+      let f = fin.prefix i l in
       let seen : List Entry = (left i).seen in
       let at : slice_get h (length seen) ≡ Some d.event = next_is_by fits spell sp (slice_get h (length seen)) d.event (left i).words w.0 d.words w.1 d.fit (λ e q. fit (length seen) e q) in
       let at' : slice_get (seen ++ f.0) (length seen) ≡ Some d.event = subst (λ (y : List Entry). slice_get y (length seen) ≡ Some d.event) f.1 at in
@@ -179,7 +179,7 @@ module _ {P : Type 0} (g : Behaviour P) (laws : IsProcess g) (judges : ℕ → J
       record {
         read = seen ++ d.event ∷ [];
         rest = m.0;
-        front = f.1 ∙ m.1;
+        prefix = f.1 ∙ m.1;
         one = omega (arith, length-append seen (d.event ∷ []));
         more = λ z. subst (λ (y : List ℕ). 0 < length y) (sym d.words) (sp.some d.event);
         reach = reaches (track_next g (judges i) v.led (seen ++ d.event ∷ [])) (fresh p) v.at d.stage;
@@ -187,10 +187,10 @@ module _ {P : Type 0} (g : Behaviour P) (laws : IsProcess g) (judges : ℕ → J
 
   fell : (i : ℕ) (l : i < length news) (p : P) (v : Running P) → HasFollowed g judges start most hands fits spell i p v (left i) → Fell i p v
   fell i l p v d = elim d.stage [
-    | inl st ↦ (let f = fin.front i l in record {
+    | inl st ↦ (let f = fin.prefix i l in record {
       read = (left i).seen;
       rest = f.0;
-      front = f.1;
+      prefix = f.1;
       one = omega arith;
       more = λ z. absurd (omega arith);
       reach = reaches (track_next g (judges i) v.led (left i).seen) (fresh p) v.at st;
@@ -212,9 +212,9 @@ module _ {P : Type 0} (g : Behaviour P) (laws : IsProcess g) (judges : ℕ → J
 
     no_leader : HasLeft g judges start most hands fits spell i p r.new (left i) → ⊥
     no_leader d =
-        let e : of_version i fin.spans ≡ d.front ++ d.last ∷ [] = sym (fin.led i (is_version k l)) ∙ d.spans in
-        let a : get_elem? (of_version i fin.spans) (length d.front) ≡ some d.last = ap (λ (z : List Span). get_elem? z (length d.front)) e ∙ behind_at d.front [] d.last in
-        let b = from_version i fin.spans (length d.front) d.last a in
+        let e : of_version i fin.spans ≡ d.prefix ++ d.last ∷ [] = sym (fin.led i (is_version k l)) ∙ d.spans in
+        let a : get_elem? (of_version i fin.spans) (length d.prefix) ≡ some d.last = ap (λ (z : List Span). get_elem? z (length d.prefix)) e ∙ after_at d.prefix [] d.last in
+        let b = from_version i fin.spans (length d.prefix) d.last a in
         none_there k fin.spans none b.0 d.last b.1 (d.station ∙ is_last k l none)
 
     own_none : own k ≡ []
@@ -241,7 +241,7 @@ module _ {P : Type 0} (g : Behaviour P) (laws : IsProcess g) (judges : ℕ → J
         subst (λ (y : List (ℕ × ℕ)). Went k i (record { process = p; led = y; told = None })) (sym e) (record {
           read = f.read;
           rest = f.rest;
-          front = f.front;
+          prefix = f.prefix;
           none = own_none;
           below = before_by f.read f.one f.more;
           at = r.new.at;
@@ -263,7 +263,7 @@ module _ {P : Type 0} (g : Behaviour P) (laws : IsProcess g) (judges : ℕ → J
     pv = rv.old.at.process
 
     here : get_elem? fin.spans (length ys) ≡ some x
-    here = ap (λ (z : List Span). get_elem? z (length ys)) all ∙ behind_at ys xs x
+    here = ap (λ (z : List Span). get_elem? z (length ys)) all ∙ after_at ys xs x
 
     version : x.version ≡ iv
     version = sym (who_is fin.seating k x.version (ap (get_elem? fin.seating) (sym at) ∙ fin.made (length ys) x here))
@@ -271,17 +271,17 @@ module _ {P : Type 0} (g : Behaviour P) (laws : IsProcess g) (judges : ℕ → J
     abbrev before : List Span
     before = of_version iv ys
 
-    abbrev behind : List Span
-    behind = of_version iv xs
+    abbrev later : List Span
+    later = of_version iv xs
 
-    split : (left iv).spans ≡ before ++ x ∷ behind
+    split : (left iv).spans ≡ before ++ x ∷ later
     split = fin.led iv (is_version k l) ∙ (ap (of_version iv) all ∙ (version_append iv ys (x ∷ xs) ∙ ap (λ (z : List Span). before ++ z) (version_own iv x xs version)))
 
     abbrev parts : List (ℕ × ℕ)
     parts = map ends_of before
 
-    led_split : map ends_of (left iv).spans ≡ parts ++ (x.from, x.to) ∷ map ends_of behind
-    led_split = ap (map ends_of) split ∙ map_append ends_of before (x ∷ behind)
+    led_split : map ends_of (left iv).spans ≡ parts ++ (x.from, x.to) ∷ map ends_of later
+    led_split = ap (map ends_of) split ∙ map_append ends_of before (x ∷ later)
 
     own_one : own k ≡ (x.from, x.to) ∷ []
     own_one = ap (map ends_of) one
@@ -301,7 +301,7 @@ module _ {P : Type 0} (g : Behaviour P) (laws : IsProcess g) (judges : ℕ → J
 
     handed_out : HandedOver g judges start most hands iv pv parts x.from x.to (left iv).seen → x.handed ≡ true → tells (suc k) iv ≡ None → Out parts
     handed_out d hd none =
-        let f = fin.front iv (is_version k l) in
+        let f = fin.prefix iv (is_version k l) in
         let seen : List Entry = (left iv).seen in
         let log : List Entry = take x.to seen in
         let grew = d.grew in
@@ -320,7 +320,7 @@ module _ {P : Type 0} (g : Behaviour P) (laws : IsProcess g) (judges : ℕ → J
           from = x.from;
           log = log;
           rest = drop x.to seen ++ f.0;
-          front = f.1 ∙ (ap (λ (y : List Entry). y ++ f.0) (sym halves) ∙ append_assoc log (drop x.to seen) f.0);
+          prefix = f.1 ∙ (ap (λ (y : List Entry). y ++ f.0) (sym halves) ∙ append_assoc log (drop x.to seen) f.0);
           span = own_one ∙ ap (λ (y : ℕ). (x.from, y) ∷ []) (sym long_log);
           within = omega arith;
           on = t.on;
@@ -339,13 +339,13 @@ module _ {P : Type 0} (g : Behaviour P) (laws : IsProcess g) (judges : ℕ → J
         }
 
     -- it ended as the leader here
-    ended_out : (d : HasLeft g judges start most hands fits spell iv pv rv.new (left iv)) → d.front ≡ before → d.last ≡ x → tells (suc k) iv ≡ Some (standing_of rv.new) → Out parts
+    ended_out : (d : HasLeft g judges start most hands fits spell iv pv rv.new (left iv)) → d.prefix ≡ before → d.last ≡ x → tells (suc k) iv ≡ Some (standing_of rv.new) → Out parts
     ended_out d fe le told =
-        let f = fin.front iv (is_version k l) in
+        let f = fin.prefix iv (is_version k l) in
         let seen : List Entry = (left iv).seen in
         let v = rv.new in
         let H : List Span → ℕ → Type 0 = λ y n. HasLedFrom g judges start most hands iv pv v (map ends_of y) n seen in
-        let s : H before x.from = subst (λ (y : List Span). H y x.from) fe (subst (λ (y : Span). H d.front y.from) le d.led) in
+        let s : H before x.from = subst (λ (y : List Span). H y x.from) fe (subst (λ (y : Span). H d.prefix y.from) le d.led) in
         let hd : x.handed ≡ false = subst (λ (y : Span). y.handed ≡ false) le d.kept in
         let whole : (left iv).spans ≡ before ++ x ∷ [] = d.spans ∙ (λ j. fe j ++ le j ∷ []) in
         let to : x.to ≡ length seen = ap (λ (y : ℕ × ℕ). y.1) (last_same parts (x.from, x.to) (x.from, length seen)
@@ -368,7 +368,7 @@ module _ {P : Type 0} (g : Behaviour P) (laws : IsProcess g) (judges : ℕ → J
           from = x.from;
           log = seen;
           rest = f.0;
-          front = f.1;
+          prefix = f.1;
           span = own_one ∙ ap (λ (y : ℕ). (x.from, y) ∷ []) to;
           within = s.within;
           on = t.on;
@@ -397,24 +397,24 @@ module _ {P : Type 0} (g : Behaviour P) (laws : IsProcess g) (judges : ℕ → J
 
     followed_led : HasFollowed g judges start most hands fits spell iv pv rv.new (left iv) → Out parts
     followed_led d =
-        let hd : x.handed ≡ true = handed_front before x behind (subst AreHandedOn split d.handed_on) in
-        let over = d.handed parts (map ends_of behind) x.from x.to (rv.is.spans ∙ led_split) in
+        let hd : x.handed ≡ true = handed_prefix before x later (subst AreHandedOn split d.handed_on) in
+        let over = d.handed parts (map ends_of later) x.from x.to (rv.is.spans ∙ led_split) in
         handed_out over hd (tells_is (nat_le (suc k) (left iv).station) refl ∙ told_none (nat_le (suc k) (left iv).station) d.idle)
 
     -- the span that it ended with as the leader
     last_at : (d : HasLeft g judges start most hands fits spell iv pv rv.new (left iv)) → (j : ℕ) × (get_elem? fin.spans j ≡ some d.last)
     last_at d =
-        let e : of_version iv fin.spans ≡ d.front ++ d.last ∷ [] = sym (fin.led iv (is_version k l)) ∙ d.spans in
-        from_version iv fin.spans (length d.front) d.last (ap (λ (z : List Span). get_elem? z (length d.front)) e ∙ behind_at d.front [] d.last)
+        let e : of_version iv fin.spans ≡ d.prefix ++ d.last ∷ [] = sym (fin.led iv (is_version k l)) ∙ d.spans in
+        from_version iv fin.spans (length d.prefix) d.last (ap (λ (z : List Span). get_elem? z (length d.prefix)) e ∙ after_at d.prefix [] d.last)
 
     left_led : HasLeft g judges start most hands fits spell iv pv rv.new (left iv) → Out parts
-    left_led d = elim (split_last d.front before behind d.last x (sym d.spans ∙ split)) [
+    left_led d = elim (split_last d.prefix before later d.last x (sym d.spans ∙ split)) [
       | inl (fe, le) ↦ (
           let s : (left iv).station ≡ k = sym d.station ∙ (ap (λ (y : Span). y.station) le ∙ at) in
           let b : nat_le (suc k) (left iv).station ≡ false = grind (arith, nat_tests) in
           ended_out d fe le (tells_is false b ∙ ap (λ (y : Bool). told_if rv.new y false) d.led.leading))
       | inr (more, fe) ↦ (
-          let hd : x.handed ≡ true = handed_front before x more (subst AreHandedOn fe d.handed_on) in
+          let hd : x.handed ≡ true = handed_prefix before x more (subst AreHandedOn fe d.handed_on) in
           let at_last = last_at d in
           let apart : d.last.station ≡ k → ⊥ = λ e.
           let same : x ≡ d.last = one_there k fin.spans x one at_last.0 d.last at_last.1 e in
@@ -488,15 +488,15 @@ module _ {P : Type 0} (g : Behaviour P) (laws : IsProcess g) (judges : ℕ → J
   OpensHere n k c = Opens g judges start most cuts hands h own total who tells ps n k c
 
   -- the parts that each version led at the stations below are those of these spans
-  abbrev Behind : ℕ → List Span → Type 0
-  Behind k ys = (i : ℕ) → below k i ≡ map ends_of (of_version i ys)
+  abbrev After : ℕ → List Span → Type 0
+  After k ys = (i : ℕ) → below k i ≡ map ends_of (of_version i ys)
 
   process_at : (k : ℕ) (l : k < total) → slice_get ps (who k) ≡ Some (ran (who k) (is_version k l)).old.at.process
   process_at k l = let x = ran (who k) (is_version k l) in map_at process_of olds (who k) x.old x.at_old
 
-  module _ (k : ℕ) (l : k < total) (ys xs : List Span) (all : fin.spans ≡ ys ++ xs) (low : AreBelow k ys) (rise : Rising (k + 1) xs) (e : Behind k ys) where
+  module _ (k : ℕ) (l : k < total) (ys xs : List Span) (all : fin.spans ≡ ys ++ xs) (low : AreBelow k ys) (rise : Rising (k + 1) xs) (e : After k ys) where
     none_here : of_station k fin.spans ≡ []
-    none_here = ap (of_station k) all ∙ (behind_below k ys xs low ∙ none_below (k + 1) k xs rise (omega arith))
+    none_here = ap (of_station k) all ∙ (after_below k ys xs low ∙ none_below (k + 1) k xs rise (omega arith))
 
     -- the version of a station without a span has led all its parts
     all_led : below k (who k) ≡ (ran (who k) (is_version k l)).new.led
@@ -512,10 +512,10 @@ module _ {P : Type 0} (g : Behaviour P) (laws : IsProcess g) (judges : ℕ → J
         e i ∙ (ap (map ends_of) (sym (append-nil (of_version i ys)) ∙ (ap (λ (z : List Span). of_version i ys ++ z) (sym none)
         ∙ (sym (version_append i ys xs) ∙ (ap (of_version i) (sym all) ∙ sym (fin.led i (is_version k l)))))) ∙ sym x.is.spans)
 
-    went_behind : Behind (k + 1) ys
-    went_behind =
+    went_after : After (k + 1) ys
+    went_after =
         let n : suc k ≡ k + 1 = omega arith in
-        subst (λ (z : ℕ). Behind z ys) n (λ j. same_led g judges start most cuts hands h own total who tells k j (who k == j) (ap (map ends_of) none_here) ∙ e j)
+        subst (λ (z : ℕ). After z ys) n (λ j. same_led g judges start most cuts hands h own total who tells k j (who k == j) (ap (map ends_of) none_here) ∙ e j)
 
     went_step : (n c : ℕ) → OpensHere n (k + 1) c → OpensHere (suc n) k (suc c)
     went_step n c rec = (
@@ -525,9 +525,9 @@ module _ {P : Type 0} (g : Behaviour P) (laws : IsProcess g) (judges : ℕ → J
     )
 
   module _ (k : ℕ) (l : k < total) (ys xs : List Span) (x : Span) (all : fin.spans ≡ ys ++ x ∷ xs) (low : AreBelow k ys) (at : x.station ≡ k) (rise : Rising (x.station + 1) xs)
-      (e : Behind k ys) where
+      (e : After k ys) where
     one_here : of_station k fin.spans ≡ x ∷ []
-    one_here = ap (of_station k) all ∙ (behind_below k ys (x ∷ xs) low ∙ only_first k x xs at rise)
+    one_here = ap (of_station k) all ∙ (after_below k ys (x ∷ xs) low ∙ only_first k x xs at rise)
 
     abbrev Here : List (ℕ × ℕ) → Type 0
     Here led = Out k l ys xs x all at one_here led
@@ -538,15 +538,15 @@ module _ {P : Type 0} (g : Behaviour P) (laws : IsProcess g) (judges : ℕ → J
     led_here : own k ≡ (x.from, x.to) ∷ []
     led_here = ap (map ends_of) one_here
 
-    led_behind_by : (j : ℕ) (b : Bool) → (who k == j) ≡ b → below (suc k) j ≡ map ends_of (of_version j (ys ++ x ∷ []))
-    led_behind_by j true q =
+    led_after_by : (j : ℕ) (b : Bool) → (who k == j) ≡ b → below (suc k) j ≡ map ends_of (of_version j (ys ++ x ∷ []))
+    led_after_by j true q =
         let w : who k ≡ j = eq_same (who k) j q in
         let v : x.version ≡ j = version k l ys xs x all at one_here ∙ w in
         sym (own_led g judges start most cuts hands h own total who tells k j ((x.from, x.to) ∷ []) w led_here)
         ∙ (ap (λ (z : List (ℕ × ℕ)). z ++ (x.from, x.to) ∷ []) (e j)
         ∙ (sym (map_append ends_of (of_version j ys) (x ∷ []))
         ∙ ap (map ends_of) (ap (λ (z : List Span). of_version j ys ++ z) (sym (version_own j x [] v)) ∙ sym (version_append j ys (x ∷ [])))))
-    led_behind_by j false q =
+    led_after_by j false q =
         let none : of_version j (x ∷ []) ≡ [] = version_none j (x ∷ []) (λ i y h v.
         let s : x ≡ y = one_of i y h in
         let w : who k ≡ j = sym (version k l ys xs x all at one_here) ∙ (ap (λ (z : Span). z.version) s ∙ v) in
@@ -558,8 +558,8 @@ module _ {P : Type 0} (g : Behaviour P) (laws : IsProcess g) (judges : ℕ → J
           one_of zero y h = some-injective x y h
           one_of (suc i) y h = absurd (some-ne-none y (sym h))
 
-    led_behind : Behind (k + 1) (ys ++ x ∷ [])
-    led_behind = let n : suc k ≡ k + 1 = omega arith in subst (λ (z : ℕ). Behind z (ys ++ x ∷ [])) n (λ j. led_behind_by j (who k == j) refl)
+    led_after : After (k + 1) (ys ++ x ∷ [])
+    led_after = let n : suc k ≡ k + 1 = omega arith in subst (λ (z : ℕ). After z (ys ++ x ∷ [])) n (λ j. led_after_by j (who k == j) refl)
 
     led_tells : TellsOn g judges start most cuts hands h own total who tells (ran (who k) (is_version k l)).old.at.process k (inr here_out.out)
     led_tells = (
@@ -585,28 +585,28 @@ module _ {P : Type 0} (g : Behaviour P) (laws : IsProcess g) (judges : ℕ → J
         )
 
   abbrev End : ℕ → ℕ → ℕ → Type 0
-  End n k c = OpensHere n k c × Behind total fin.spans
+  End n k c = OpensHere n k c × After total fin.spans
 
-  opens : (n k c : ℕ) (ys xs : List Span) → fin.spans ≡ ys ++ xs → AreBelow k ys → Rising k xs → Opened (k + c) fin.seating xs → k + n ≡ total → Behind k ys → End n k c
+  opens : (n k c : ℕ) (ys xs : List Span) → fin.spans ≡ ys ++ xs → AreBelow k ys → Rising k xs → Opened (k + c) fin.seating xs → k + n ≡ total → After k ys → End n k c
   opens zero k c ys [] all low rise o m e =
       let n : k ≡ total = omega arith in
-      (omega (arith, o), subst (λ (z : ℕ). Behind z fin.spans) n (subst (λ (z : List Span). Behind k z) (sym (all ∙ append-nil ys)) e))
+      (omega (arith, o), subst (λ (z : ℕ). After z fin.spans) n (subst (λ (z : List Span). After k z) (sym (all ∙ append-nil ys)) e))
   opens zero k c ys (x ∷ xs) all low rise o m e =
-      let here = ap (λ (z : List Span). get_elem? z (length ys)) all ∙ behind_at ys xs x in
+      let here = ap (λ (z : List Span). get_elem? z (length ys)) all ∙ after_at ys xs x in
       let b = place_below fin.seating x.station x.version (fin.made (length ys) x here) in
       absurd (let a = rise.0 in omega arith)
   opens (suc n) k zero ys xs all low rise o m e = let z = none_opened fin.seating xs (k + 0) k rise (omega arith) o in absurd (omega arith)
   opens (suc n) k (suc c) ys [] all low rise o m e =
       let l : k < total = omega arith in
       let j : k + suc c ≡ k + 1 + c = omega arith in
-      let r = opens n (k + 1) c ys [] all (below_more k ys low) tt (subst (λ (z : ℕ). Opened z fin.seating []) j o) (omega arith) (went_behind k l ys [] all low tt e) in
+      let r = opens n (k + 1) c ys [] all (below_more k ys low) tt (subst (λ (z : ℕ). Opened z fin.seating []) j o) (omega arith) (went_after k l ys [] all low tt e) in
       (went_step k l ys [] all low tt e n c r.0, r.1)
   opens (suc n) k (suc c) ys (x ∷ xs) all low rise o m e = elim (cases_lt k x.station) [
     | inl lt ↦ (
         let l : k < total = omega arith in
         let j : k + suc c ≡ k + 1 + c = omega arith in
         let rise' : Rising (k + 1) (x ∷ xs) = ((omega arith), rise.1) in
-        let r = opens n (k + 1) c ys (x ∷ xs) all (below_more k ys low) rise' (subst (λ (z : ℕ). Opened z fin.seating (x ∷ xs)) j o) (omega arith) (went_behind k l ys (x ∷ xs) all low rise' e) in
+        let r = opens n (k + 1) c ys (x ∷ xs) all (below_more k ys low) rise' (subst (λ (z : ℕ). Opened z fin.seating (x ∷ xs)) j o) (omega arith) (went_after k l ys (x ∷ xs) all low rise' e) in
         (went_step k l ys (x ∷ xs) all low rise' e n c r.0, r.1))
     | inr ge ↦ (
         let l : k < total = omega arith in
@@ -616,7 +616,7 @@ module _ {P : Type 0} (g : Behaviour P) (laws : IsProcess g) (judges : ℕ → J
         let low' : AreBelow (k + 1) (ys ++ x ∷ []) = below_last (k + 1) ys x (below_more k ys low) (omega arith) in
         let rise' : Rising (k + 1) xs = subst (λ (z : ℕ). Rising (z + 1) xs) at rise.1 in
         let r = opens n (k + 1) (c + bit x.handed) (ys ++ x ∷ []) xs (all ∙ sym (append_assoc ys (x ∷ []) xs)) low' rise' (subst (λ (z : ℕ). Opened z fin.seating xs) j o.1) (omega arith)
-        (led_behind k l ys xs x all low at rise.1 e) in
+        (led_after k l ys xs x all low at rise.1 e) in
         (led_step k l ys xs x all low at rise.1 e n c x.handed refl o.0 r.0, r.1))
   ]
 
@@ -650,7 +650,7 @@ module _ {P : Type 0} (g : Behaviour P) (laws : IsProcess g) (judges : ℕ → J
         | inl d ↦ (
             let none : v.told ≡ None = vt ∙ (T true ∙ ap (λ (y : Bool). told_if x.new y (nat_le total (left i).station)) d.idle) in
             let f = fell i l p x.new d in
-            let a : x.new.at ≡ tracked g judges i p x.new.led h = subst (λ (y : List Entry). x.new.at ≡ tracked g judges i p x.new.led y) (sym f.front)
+            let a : x.new.at ≡ tracked g judges i p x.new.led h = subst (λ (y : List Entry). x.new.at ≡ tracked g judges i p x.new.led y) (sym f.prefix)
             (track_ended g laws (judges i) x.new.led p x.new.at f.read f.rest f.reach x.is.ended) in
             let b : tracked_by g judges start most cuts hands h i v ≡ x.new.at = (λ j. track g (judges i) (vl j) h (fresh (vp j))) ∙ sym a in
             ap (line_of g judges start most cuts hands h i v) none ∙ (λ j. record { fate = (b j).fate; seen = (b j).seen; led = vl j; rewrites = (b j).rewrites }))

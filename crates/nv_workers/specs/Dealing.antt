@@ -7,8 +7,8 @@ pub record AreEven (workers stretches : ℕ) (s : Stretches) : Type 0 where
   pub first : ℕ
   pub others : ℕ
   pub all : first + others ≡ stretches
-  pub front : s.front ≡ first * s.size
-  pub whole : s.front + others * s.other ≡ workers
-  pub most : others * s.other ≤ s.front
+  pub together : s.first ≡ first * s.size
+  pub whole : s.first + others * s.other ≡ workers
+  pub most : others * s.other ≤ s.first
   pub apart : (s.size ≤ s.other + 1) × (s.other ≤ s.size + 1)
-  pub some : (0 < s.front) × (0 < s.size) × (0 < s.other)
+  pub some : (0 < s.first) × (0 < s.size) × (0 < s.other)

@@ -56,7 +56,7 @@ spelt spell (Some e) = spell e
 
 -- finish, of the kernel's history h and the Left of each of so many versions
 pub record IsFinished (spell : Entry → List ℕ) (h : List Entry) (versions : ℕ) (left : ℕ → Leaving) : Type 0 where
-  pub front : (k : ℕ) → k < versions → (rest : List Entry) × (h ≡ (left k).seen ++ rest)
+  pub prefix : (k : ℕ) → k < versions → (rest : List Entry) × (h ≡ (left k).seen ++ rest)
   pub words : (k : ℕ) → k < versions → (more : List ℕ) × (spelt spell (slice_get h (length (left k).seen)) ≡ (left k).words ++ more)
   -- all spans, and the version of each station
   pub spans : List Span
@@ -99,14 +99,14 @@ module _ {P : Type 0} (g : Behaviour P) (judges : ℕ → Judge) (replies : Star
 
   -- so it led each of these parts
   abbrev pub AreHanded : ℕ → P → List (ℕ × ℕ) → List Entry → Type 0
-  AreHanded i p led log = (front back : List (ℕ × ℕ)) (from to : ℕ) → led ≡ front ++ (from, to) ∷ back → HandedOver i p front from to log
+  AreHanded i p led log = (prefix back : List (ℕ × ℕ)) (from to : ℕ) → led ≡ prefix ++ (from, to) ∷ back → HandedOver i p prefix from to log
 
   -- a version that has led from number `from` on, after the parts that it led before, with its seat's seen list: a worker keeps this
   -- while it leads, at each turn's end
   pub record HasLedFrom (i : ℕ) (p : P) (v : Running P) (led : List (ℕ × ℕ)) (from : ℕ) (log : List Entry) : Type 0 where
     pub index : v.index ≡ i
     pub handed : AreHanded i p led log
-    pub behind : EndBy from led
+    pub past : EndBy from led
     pub few : length led + above hands from ≤ length hands
     pub within : from ≤ length log
     pub takes : TakesLead g judges i p led (take from log)
@@ -135,13 +135,13 @@ module _ {P : Type 0} (g : Behaviour P) (judges : ℕ → Judge) (replies : Star
 
   -- it ended as the leader
   pub record HasLeft (i : ℕ) (p : P) (v : Running P) (l : Leaving) : Type 0 where
-    pub front : List Span
+    pub prefix : List Span
     pub last : Span
-    pub spans : l.spans ≡ front ++ last ∷ []
-    pub handed_on : AreHandedOn front
+    pub spans : l.spans ≡ prefix ++ last ∷ []
+    pub handed_on : AreHandedOn prefix
     pub kept : last.handed ≡ false
     pub station : last.station ≡ l.station
-    pub led : HasLedFrom g judges replies most hands i p v (map ends_of front) last.from l.seen
+    pub led : HasLedFrom g judges replies most hands i p v (map ends_of prefix) last.from l.seen
 
   -- run_all, of version i, fresh with the process p before and v after, and its Left
   pub record IsDone (i : ℕ) (p : P) (v : Running P) (l : Leaving) : Type 0 where

@@ -24,7 +24,7 @@ module _ {P : Type 0} (g : Behaviour P) (judges : ℕ → Judge) (replies : Star
     pub seen : v.at.seen ≡ length log
     pub in_step : IsInStep g log v.at
     pub handed : AreHanded g judges replies most hands i p v.led log
-    pub behind : EndBy v.at.seen v.led
+    pub past : EndBy v.at.seen v.led
     pub few : length v.led + above hands v.at.seen ≤ length hands
     pub stage : IsStage (track_next g (judges i) v.led (log ++ held_list held)) (fresh p) v.at
 

@@ -1,6 +1,7 @@
 //! Workers dealt to host threads.
 ghost use Rattle.std.specs.Prelude.{◌≡◌, ◌≤◌, ◌<◌};
 ghost use Rattle.std.specs.Option.{option_copied};
+ghost use Rattle.nv_calls.specs.Limits.{MOST_EVENTS};
 ghost use Rattle.nv_replay.specs.Follow.{judge_of};
 ghost use Rattle.nv_room.specs.Seats.{hands_of};
 ghost use Rattle.nv_workers.specs.Rounds.{CanAll, AllOn};
@@ -21,7 +22,7 @@ use std::thread::Threads;
 #[derive(Clone, Copy, Debug, PartialEq, Eq, Drop)]
 struct Stretches {
     // The workers of the first ones together.
-    front: usize,
+    first: usize,
     // The workers of each of the first ones.
     size: usize,
     // The workers of each of the others.
@@ -41,13 +42,13 @@ impl Stretches {
         let in_short = workers - in_long;
         if in_long <= in_short {
             Stretches {
-                front: in_short,
+                first: in_short,
                 size: short,
                 other: long,
             }
         } else {
             Stretches {
-                front: in_long,
+                first: in_long,
                 size: long,
                 other: short,
             }
@@ -75,7 +76,7 @@ pub(crate) fn deal<R: Threads + Wait + Sync, K: SyscallKernel, G: Gate + Sync>(
     threads: usize,
 )
     requires can { CanAll (judge_of (option_copied rules)) room.now most workers.old }
-    requires most { most ≤ 131072 }
+    requires most { most ≤ MOST_EVENTS }
     requires hands { hands_of room.now ≡ hands.now.items }
     ensures { AllOn (judge_of (option_copied rules.entry)) room.now most workers.old workers.new }
 {
@@ -86,14 +87,14 @@ pub(crate) fn deal<R: Threads + Wait + Sync, K: SyscallKernel, G: Gate + Sync>(
     let stretches = Stretches::of(workers.len(), threads);
     let parts = Parts::new(threads);
     let alike = |start: usize, part: &mut [Worker<K>]|
-        requires { CanAll (judge_of (option_copied rules)) room.now most part.now × (most ≤ 131072) × (hands_of room.now ≡ hands.now.items) × (0 < stretches.size) × (0 < stretches.other) }
+        requires { CanAll (judge_of (option_copied rules)) room.now most part.now × (most ≤ MOST_EVENTS) × (hands_of room.now ≡ hands.now.items) × (0 < stretches.size) × (0 < stretches.other) }
         ensures { AllOn (judge_of (option_copied rules.entry)) room.entry.now most part.entry.now part.exit.now }
     {
         deal_alike(
             rt, start, part, room, rules, gate, most, hands, &stretches, &parts,
         )
     };
-    thread::for_each_chunk_mut(rt, workers, stretches.front, &alike);
+    thread::for_each_chunk_mut(rt, workers, stretches.first, &alike);
 }
 
 // The workers from this one on, in stretches of one size.
@@ -110,13 +111,13 @@ fn deal_alike<R: Threads + Wait + Sync, K: SyscallKernel, G: Gate + Sync>(
     parts: &Parts,
 )
     requires can { CanAll (judge_of (option_copied rules)) room.now most workers.old }
-    requires most { most ≤ 131072 }
+    requires most { most ≤ MOST_EVENTS }
     requires hands { hands_of room.now ≡ hands.now.items }
     requires some { (0 < stretches.now.size) × (0 < stretches.now.other) }
     ensures { AllOn (judge_of (option_copied rules.entry)) room.now most workers.old workers.new }
 {
     let turns = |_start: usize, part: &mut [Worker<K>]|
-        requires { CanAll (judge_of (option_copied rules)) room.now most part.now × (most ≤ 131072) × (hands_of room.now ≡ hands.now.items) }
+        requires { CanAll (judge_of (option_copied rules)) room.now most part.now × (most ≤ MOST_EVENTS) × (hands_of room.now ≡ hands.now.items) }
         ensures { AllOn (judge_of (option_copied rules.entry)) room.entry.now most part.entry.now part.exit.now }
     { rotate_while_moving(rt, part, room, rules, gate, most, hands, parts) };
     thread::for_each_chunk_mut(rt, workers, stretches.size_from(start), &turns);

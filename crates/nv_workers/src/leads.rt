@@ -1,6 +1,7 @@
 //! A leader's turn.
 ghost use Rattle.std.specs.Prelude.{◌≡◌, ◌≤◌, ℕ, ◌<◌, ◌++◌, [], ◌∷◌, Some, None, true, false, length, Contains};
 ghost use Rattle.nv_calls.specs.Logs.{served, live_after, IsLawful};
+ghost use Rattle.nv_calls.specs.Limits.{MOST_EVENTS};
 ghost use Rattle.nv_words.specs.Spell.{spell};
 ghost use Rattle.nv_threads.specs.Threads.{Proc, threads};
 ghost use Rattle.nv_replay.specs.Follow.{Judge};
@@ -29,7 +30,7 @@ pub(crate) fn lead_turn<K: SyscallKernel, G: Gate>(
     hands: &[u32],
 ) -> Next
     requires leads { (judges : ℕ → Judge) × (p : Proc) × LeadsOn judges room.now most p version.old false lead.old asked.old }
-    requires most { most ≤ 131072 }
+    requires most { most ≤ MOST_EVENTS }
     requires hands { hands_of room.now ≡ hands.now }
     ensures same { SameLead lead.old lead.new }
     ensures after { (judges : ℕ → Judge) (p : Proc) → LeadsOn judges room.now most p version.old false lead.old asked.old → AfterLead judges room.now most p version.new lead.new asked.new result }
@@ -60,7 +61,7 @@ fn serve<K: SyscallKernel, G: Gate>(
     hands: &[u32],
 ) -> Next
     requires leads { (judges : ℕ → Judge) × (p : Proc) × LeadsOn judges room.now most p version.old false lead.old (Some tid) }
-    requires most { most ≤ 131072 }
+    requires most { most ≤ MOST_EVENTS }
     requires hands { hands_of room.now ≡ hands.now }
     requires asked { asked.old ≡ Some tid }
     ensures same { SameLead lead.old lead.new }
@@ -116,7 +117,7 @@ fn publish_call<K: SyscallKernel>(
     requires lives { Contains (threads.live version.old.at.process) tid }
     requires live { threads.live version.old.at.process ≡ live_after (K.log (kernel_of lead.old)) }
     requires seen { version.old.at.seen ≡ length (K.log (kernel_of lead.old)) }
-    requires room { length (K.log (kernel_of lead.old)) < 131072 }
+    requires few { length (K.log (kernel_of lead.old)) < MOST_EVENTS }
     requires ready { K.is_ready (kernel_of lead.old) (threads.call version.old.at.process tid) }
     ensures of { IsLeadOf room.now lead.new }
     ensures same { SameLead lead.old lead.new }

@@ -1,6 +1,7 @@
 //! A whole run.
 ghost use Rattle.std.specs.Prelude.{◌≡◌, ◌≤◌, ◌<◌, ◌+◌, ◌++◌, ℕ, List, [], length, vec_len, vec_capacity, IfOk};
 ghost use Rattle.std.specs.Option.{option_copied};
+ghost use Rattle.nv_calls.specs.Limits.{MOST_EVENTS};
 ghost use Rattle.nv_threads.specs.Threads.{Proc, threads};
 ghost use Rattle.nv_replay.specs.Follow.{Judge, judge_of};
 ghost use Rattle.nv_replay.specs.Versions.{Running};
@@ -46,7 +47,7 @@ pub fn run_all<R: Threads + Wait + Sync, K: SyscallKernel, G: Gate + Sync>(
 ) -> Result<Ran<K>, AllocError>
     requires new { (fresh : List (Running Proc)) × AreNew room 0 fresh workers.items }
     requires all { vec_len workers ≡ versions_of room }
-    requires most { most ≤ 131072 }
+    requires most { most ≤ MOST_EVENTS }
     requires hands { hands_of room ≡ hands.now.items }
     ensures room { IfOk result (λ r. r.room ≡ room) }
     ensures ran { IfOk result (λ r. (fresh : List (Running Proc)) → AreNew room 0 fresh workers.items → AllRan (judge_of (option_copied rules.entry)) r.room most fresh r.versions.items r.left.items) }
@@ -74,7 +75,7 @@ fn run_beside<R: Threads + Wait + Sync, K: SyscallKernel, G: Gate + Sync>(
     threads: u32,
 )
     requires can { CanAll (judge_of (option_copied rules)) room.now most workers.old }
-    requires most { most ≤ 131072 }
+    requires most { most ≤ MOST_EVENTS }
     requires hands { hands_of room.now ≡ hands.now.items }
     ensures on { AllOn (judge_of (option_copied rules.entry)) room.now most workers.old workers.new }
     ensures gone { AreGone workers.new }

@@ -1,6 +1,7 @@
 //! Workers on host threads.
 ghost use Rattle.std.specs.Prelude.{◌≡◌, ◌≤◌};
 ghost use Rattle.std.specs.Option.{option_copied};
+ghost use Rattle.nv_calls.specs.Limits.{MOST_EVENTS};
 ghost use Rattle.nv_replay.specs.Follow.{judge_of};
 ghost use Rattle.nv_room.specs.Seats.{hands_of};
 ghost use Rattle.nv_workers.specs.Rounds.{CanAll, AllOn, AreGone, GoneIf, both_of};
@@ -25,7 +26,7 @@ fn round<K: SyscallKernel, G: Gate>(
     hands: &Vec<u32>,
 ) -> Turn
     requires can { CanAll (judge_of (option_copied rules)) room.now most workers.old }
-    requires most { most ≤ 131072 }
+    requires most { most ≤ MOST_EVENTS }
     requires hands { hands_of room.now ≡ hands.now.items }
     ensures on { AllOn (judge_of (option_copied rules.entry)) room.now most workers.old workers.new }
     ensures gone { GoneIf result workers.new }
@@ -109,7 +110,7 @@ pub(crate) fn rotate_while_moving<R: Wait, K: SyscallKernel, G: Gate>(
     parts: &Parts,
 )
     requires can { CanAll (judge_of (option_copied rules)) room.now most workers.old }
-    requires most { most ≤ 131072 }
+    requires most { most ≤ MOST_EVENTS }
     requires hands { hands_of room.now ≡ hands.now.items }
     ensures on { AllOn (judge_of (option_copied rules.entry)) room.now most workers.old workers.new }
 {
@@ -143,7 +144,7 @@ pub(crate) fn rotate<R: Wait, K: SyscallKernel, G: Gate>(
     hands: &Vec<u32>,
 )
     requires can { CanAll (judge_of (option_copied rules)) room.now most workers.old }
-    requires most { most ≤ 131072 }
+    requires most { most ≤ MOST_EVENTS }
     requires hands { hands_of room.now ≡ hands.now.items }
     ensures on { AllOn (judge_of (option_copied rules.entry)) room.now most workers.old workers.new }
     ensures gone { AreGone workers.new }

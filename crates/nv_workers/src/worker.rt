@@ -1,6 +1,7 @@
 //! A version with its seat.
 ghost use Rattle.std.specs.Prelude.{◌≡◌, ◌≤◌, ℕ, List, None, true, false, length, Some, IfOk};
 ghost use Rattle.std.specs.Option.{option_copied};
+ghost use Rattle.nv_calls.specs.Limits.{MOST_EVENTS};
 ghost use Rattle.nv_threads.specs.Threads.{Proc, threads};
 ghost use Rattle.nv_replay.specs.Follow.{Judge, judge_of};
 ghost use Rattle.nv_replay.specs.Versions.{IsFresh, Running};
@@ -96,7 +97,7 @@ impl<K: SyscallKernel> Worker<K> {
         hands: &Vec<u32>,
     ) -> Turn
         requires works { (p : Proc) × Works (judge_of (option_copied rules)) room.now most p self.old }
-        requires most { most ≤ 131072 }
+        requires most { most ≤ MOST_EVENTS }
         requires hands { hands_of room.now ≡ hands.now.items }
         ensures works { (p : Proc) → Works (judge_of (option_copied rules.entry)) room.now most p self.old → Works (judge_of (option_copied rules.entry)) room.now most p self.new }
         ensures version { version_of self.new ≡ version_of self.old }
@@ -132,7 +133,7 @@ impl<K: SyscallKernel> Worker<K> {
         hands: &Vec<u32>,
     ) -> Next
         requires works { (p : Proc) × Works (judge_of (option_copied rules)) room.now most p self.old }
-        requires most { most ≤ 131072 }
+        requires most { most ≤ MOST_EVENTS }
         requires hands { hands_of room.now ≡ hands.now.items }
         ensures after { (p : Proc) → Works (judge_of (option_copied rules.entry)) room.now most p self.old → AfterStep (judge_of (option_copied rules.entry)) room.now p self.new.version most self.new.buf self.new.seat result }
         ensures version { version_of self.new ≡ version_of self.old }

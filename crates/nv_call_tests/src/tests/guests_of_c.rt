@@ -1,5 +1,5 @@
 // Guests of examples/guests, and what they write under Linux.
-use crate::{HEAP, SERVICE_1, SERVICE_2, SERVICE_3, front_of_report, run_file, run_pair};
+use crate::{HEAP, SERVICE_1, SERVICE_2, SERVICE_3, prefix_of_report, run_file, run_pair};
 use nv_text::unhex;
 use std::test::Fail;
 
@@ -24,10 +24,10 @@ abababababab.. of 32768 bytes
 fn printf_and_malloc(rt: HostRuntime) -> Result<(), Fail> {
     let heap = unhex(rt.alloc(), HEAP.as_bytes())?.ok_or("hexadecimal")?;
     let answered = run_file(&rt, rt.alloc(), HEAP_SCRIPT, &heap)?;
-    let front = front_of_report(rt.alloc(), HEAP_WRITES)?;
+    let prefix = prefix_of_report(rt.alloc(), HEAP_WRITES)?;
     let end = b"\nfates 1\n0 exited 3 seen 9 led 0-9 rewrites 0\n";
     assert_eq!(rt; answered.status, 0);
-    assert!(rt; answered.written.starts_with(&front));
+    assert!(rt; answered.written.starts_with(&prefix));
     assert!(rt; answered.written.ends_with(end.as_slice()));
     Ok(())
 }
@@ -91,13 +91,13 @@ const PAIRS: [(&str, &str, &[u8]); 4] = [
 
 #[test]
 fn service_through_an_update(rt: HostRuntime) -> Result<(), Fail> {
-    let front = front_of_report(rt.alloc(), SERVICE_WRITES)?;
+    let prefix = prefix_of_report(rt.alloc(), SERVICE_WRITES)?;
     for (first, second, end) in PAIRS {
         let first = unhex(rt.alloc(), first.as_bytes())?.ok_or("hexadecimal")?;
         let second = unhex(rt.alloc(), second.as_bytes())?.ok_or("hexadecimal")?;
         let answered = run_pair(&rt, rt.alloc(), SERVICE_SCRIPT, &first, &second)?;
         assert_eq!(rt; answered.status, 0);
-        assert!(rt; answered.written.starts_with(&front));
+        assert!(rt; answered.written.starts_with(&prefix));
         assert!(rt; answered.written.ends_with(end));
     }
     Ok(())

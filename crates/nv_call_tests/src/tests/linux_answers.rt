@@ -1,4 +1,4 @@
-use crate::{FILES, Guest, NUMBERS, PIPES, THREADS, front_of_report, run, run_twice, telling};
+use crate::{FILES, Guest, NUMBERS, PIPES, THREADS, prefix_of_report, run, run_twice, telling};
 use std::test::Fail;
 
 const SCRIPT: &[u8] = b"varan-script 1\nline hello\nline you\n";
@@ -11,10 +11,10 @@ fn answers_of_linux(rt: HostRuntime) -> Result<(), Fail> {
         for guest in guests {
             let text = telling(rt.alloc(), guest.text)?;
             let answered = run(&rt, rt.alloc(), SCRIPT, text.as_bytes())?;
-            let front = front_of_report(rt.alloc(), guest.written)?;
+            let prefix = prefix_of_report(rt.alloc(), guest.written)?;
             let name = guest.name;
             assert_eq!(rt; answered.status, 0, "{name}");
-            assert!(rt; answered.written.starts_with(&front), "{name}");
+            assert!(rt; answered.written.starts_with(&prefix), "{name}");
         }
     }
     Ok(())
@@ -28,12 +28,12 @@ fn followers_of_guests(rt: HostRuntime) -> Result<(), Fail> {
         for guest in guests {
             let text = telling(rt.alloc(), guest.text)?;
             let answered = run_twice(&rt, rt.alloc(), SCRIPT, text.as_bytes())?;
-            let front = front_of_report(rt.alloc(), guest.written)?;
+            let prefix = prefix_of_report(rt.alloc(), guest.written)?;
             let Guest { name, calls, .. } = *guest;
             let fates = format!(in rt.alloc();
                 "fates 2\n0 exited 0 seen {calls} led 0-{calls} rewrites 0\n1 exited 0 seen {calls} led - rewrites 0\n"
             )?;
-            assert!(rt; answered.written.starts_with(&front), "{name}");
+            assert!(rt; answered.written.starts_with(&prefix), "{name}");
             assert!(rt; answered.written.ends_with(fates.as_bytes()), "{name}");
         }
     }

@@ -1,5 +1,5 @@
 use super::{SCRIPT, first_wrong};
-use crate::{front_of_report, run, telling};
+use crate::{prefix_of_report, run, telling};
 use std::test::Fail;
 
 // Eight threads live.
@@ -204,10 +204,10 @@ fn own_calls(rt: HostRuntime) -> Result<(), Fail> {
     for answer in OWN_ANSWERS {
         told.extend_from_slice(&answer.to_le_bytes())?;
     }
-    let front = front_of_report(rt.alloc(), &told)?;
+    let prefix = prefix_of_report(rt.alloc(), &told)?;
     let end = b"\nfates 1\n0 exited 0 seen 27 led 0-27 rewrites 0\n";
     assert_eq!(rt; answered.status, 0);
-    assert!(rt; answered.written.starts_with(&front));
+    assert!(rt; answered.written.starts_with(&prefix));
     assert!(rt; answered.written.ends_with(end.as_slice()));
     Ok(())
 }

@@ -151,7 +151,7 @@ fn read_and_write_faults(rt: HostRuntime) -> Result<(), Fail> {
     Ok(())
 }
 
-// A sink that takes a byte a call, and fails at one of the calls: what was written is a front of the report.
+// A sink that takes a byte a call, and fails at one of the calls: what was written is a prefix of the report.
 #[test]
 fn write_faults(rt: HostRuntime) -> Result<(), Fail> {
     let hello = image(rt.alloc(), &HELLO, b"hi\n")?;

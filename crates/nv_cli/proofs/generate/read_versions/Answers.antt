@@ -2,7 +2,7 @@ use Rattle.std.proofs.Common.{◌≡◌, subst, List, ℕ, length, take, arith}
 use Rattle.nv_gen_laws.specs.Texts.{bare}
 use Rattle.nv_cli.specs.Generated.{IsFrom}
 use Rattle.nv_cli.proofs.Generating.{made_next, length-made}
-use Rattle.nv_cli.proofs.Loading.{fresh_next, length-front}
+use Rattle.nv_cli.proofs.Loading.{fresh_next, length-prefix}
 use Rattle.nv_cli.proofs.generate.read_versions.Goals as goal
 
 pub loop-index-preserved : goal.loop-index-preserved
@@ -13,8 +13,8 @@ loop-index-preserved c =
     let version = c.in-Ok.version in
     let old = c.loop-index.versions.items in
     let from = subst (λ (bytes : List ℕ). IsFrom bare bytes version) c.deref.ensures.value c.in-Ok.ensures.version in
-    let front : length (take k files) ≡ k = length-front files k (omega arith) in
-    let count : k ≡ length old = omega (arith, front, length-made bare (take k files) old c.loop-index.invariant.0) in (
+    let prefix : length (take k files) ≡ k = length-prefix files k (omega arith) in
+    let count : k ≡ length old = omega (arith, prefix, length-made bare (take k files) old c.loop-index.invariant.0) in (
       made_next bare files old c.push.new.self.items k file version c.in_ok-push-in-Ok.ensures.items c.loop-index-test.true c.index-files-index.is c.loop-index.invariant.0 from,
       fresh_next old c.push.new.self.items k version c.in_ok-push-in-Ok.ensures.items count c.loop-index.invariant.1 c.in-Ok.ensures.fresh,
     )

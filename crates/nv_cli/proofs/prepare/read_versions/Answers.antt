@@ -5,7 +5,7 @@ use Rattle.std.specs.Borrow.{Bor}
 use Rattle.nv_command.specs.Seen.{limits_view, names_view}
 use Rattle.nv_script.specs.Views.{setup_of}
 use Rattle.nv_cli.specs.Refusals.{HasLoaded}
-use Rattle.nv_cli.proofs.Loading.{versions_refused, loaded_next, fresh_next, length-front, length-loaded}
+use Rattle.nv_cli.proofs.Loading.{versions_refused, loaded_next, fresh_next, length-prefix, length-loaded}
 use Rattle.nv_cli.proofs.prepare.read_versions.Goals as goal
 
 pub returns-in-Err-clause-refused : goal.returns-in-Err-clause-refused
@@ -28,8 +28,8 @@ loop-index-preserved g c =
     = c.loop-index.invariant.2 c.name_at-name.result.now in
     let loaded = subst (λ (z : Told). HasLoaded limits setup c.in-Ok.version z) told c.in-Ok.ensures.version in
     let size : length names ≡ length c.args.names.now = length-map c.args.names.now (λ (name : Bor (List ℕ)). name.now) in
-    let front : length (take c.loop-index.index names) ≡ c.loop-index.index = length-front names c.loop-index.index (omega (arith, size, c.loop-index-test.true)) in
-    let count : c.loop-index.index ≡ length c.loop-index.versions.items = omega (arith, front, length-loaded limits setup c.loop-index.versions.items holds (take c.loop-index.index names) c.loop-index.invariant.0) in (
+    let prefix : length (take c.loop-index.index names) ≡ c.loop-index.index = length-prefix names c.loop-index.index (omega (arith, size, c.loop-index-test.true)) in
+    let count : c.loop-index.index ≡ length c.loop-index.versions.items = omega (arith, prefix, length-loaded limits setup c.loop-index.versions.items holds (take c.loop-index.index names) c.loop-index.invariant.0) in (
       loaded_next limits setup c.loop-index.versions.items c.push.new.self.items holds names c.loop-index.index c.in-Ok.version c.name_at-name.result.now c.in_ok-push-in-Ok.ensures.items c.name_at-name.ensures c.loop-index.invariant.0 loaded,
       fresh_next c.loop-index.versions.items c.push.new.self.items c.loop-index.index c.in-Ok.version c.in_ok-push-in-Ok.ensures.items count c.loop-index.invariant.1 c.in-Ok.ensures.fresh,
       λ name. c.in-Ok.ensures.same name ∙ c.loop-index.invariant.2 name,

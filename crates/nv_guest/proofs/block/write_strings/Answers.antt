@@ -6,13 +6,13 @@ use Rattle.nv_memory.proofs.RegionsLaws.{part_of}
 use Rattle.nv_guest.proofs.Strings.{place_after, written_after}
 use Rattle.nv_guest.proofs.block.write_strings.Goals as goal
 
-pub write_string-requires-clause-room : goal.write_string-requires-clause-room
-write_string-requires-clause-room c =
+pub write_string-requires-clause-fits : goal.write_string-requires-clause-fits
+write_string-requires-clause-fits c =
     let f = λ (v : Vec ℕ Global). v.items in
     let p : c.loop-text.at + (length c.text-item.result.items + 1) + length (strings (drop (c.loop-text.text-index + 1) (map f c.args.arguments.now))) ≡ c.args.start + length (strings (map f c.args.arguments.now)) =
     place_after f c.args.arguments.now c.loop-text.text-index c.text-item.result c.args.start c.loop-text.at (omega arith) c.text-item.is c.loop-text.invariant.place in
     let e : length c.as_slice-bytes.result.now ≡ length c.text-item.result.items = ap length c.as_slice-bytes.ensures.value in
-    omega (arith, p, c.requires.room)
+    omega (arith, p, c.requires.fits)
 
 pub write_string-requires-clause-inside : goal.write_string-requires-clause-inside
 write_string-requires-clause-inside c =
@@ -28,7 +28,7 @@ overflow_cast-at c =
     let p : c.loop-text.at + (length c.text-item.result.items + 1) + length (strings (drop (c.loop-text.text-index + 1) (map f c.args.arguments.now))) ≡ c.args.start + length (strings (map f c.args.arguments.now)) =
     place_after f c.args.arguments.now c.loop-text.text-index c.text-item.result c.args.start c.loop-text.at (omega arith) c.text-item.is c.loop-text.invariant.place in
     let e : length c.as_slice-bytes.result.now ≡ length c.text-item.result.items = ap length c.as_slice-bytes.ensures.value in
-    record { fits = omega (arith, p, e, c.requires.room) }
+    record { fits = omega (arith, p, e, c.requires.fits) }
 
 pub overflow_add-at : goal.overflow_add-at
 overflow_add-at c =
@@ -36,7 +36,7 @@ overflow_add-at c =
     let p : c.loop-text.at + (length c.text-item.result.items + 1) + length (strings (drop (c.loop-text.text-index + 1) (map f c.args.arguments.now))) ≡ c.args.start + length (strings (map f c.args.arguments.now)) =
     place_after f c.args.arguments.now c.loop-text.text-index c.text-item.result c.args.start c.loop-text.at (omega arith) c.text-item.is c.loop-text.invariant.place in
     let e : length c.as_slice-bytes.result.now ≡ length c.text-item.result.items = ap length c.as_slice-bytes.ensures.value in
-    record { fits = omega (arith, p, e, c.requires.room) }
+    record { fits = omega (arith, p, e, c.requires.fits) }
 
 pub overflow_add-at-in-loop-text : goal.overflow_add-at-in-loop-text
 overflow_add-at-in-loop-text c =
@@ -44,7 +44,7 @@ overflow_add-at-in-loop-text c =
     let p : c.loop-text.at + (length c.text-item.result.items + 1) + length (strings (drop (c.loop-text.text-index + 1) (map f c.args.arguments.now))) ≡ c.args.start + length (strings (map f c.args.arguments.now)) =
     place_after f c.args.arguments.now c.loop-text.text-index c.text-item.result c.args.start c.loop-text.at (omega arith) c.text-item.is c.loop-text.invariant.place in
     let e : length c.as_slice-bytes.result.now ≡ length c.text-item.result.items = ap length c.as_slice-bytes.ensures.value in
-    record { fits = omega (arith, p, e, c.requires.room) }
+    record { fits = omega (arith, p, e, c.requires.fits) }
 
 pub loop-text-preserved : goal.loop-text-preserved
 loop-text-preserved c =

@@ -19,18 +19,18 @@ resize-requires-clause-fits c =
     are_moved (length m.bytes) m.regions heap.place c.args.address heap.start heap.limit c.requires.place c.requires.are c.requires.clear c.requires.start
     (omega (arith, c.if-address-heap-2.false)) (omega (arith, limit))
 
--- the memory behind the call
-behind : (m : Image) (bytes : List ℕ) (regions : List Region) → m.bytes ≡ bytes → m.regions ≡ regions → m ≡ record { bytes = bytes; regions = regions }
-behind m bytes regions e f = λ i. record { bytes = e i; regions = f i }
+-- the memory after the call
+memory_is : (m : Image) (bytes : List ℕ) (regions : List Region) → m.bytes ≡ bytes → m.regions ≡ regions → m ≡ record { bytes = bytes; regions = regions }
+memory_is m bytes regions e f = λ i. record { bytes = e i; regions = f i }
 
 pub returns-clause-memory : goal.returns-clause-memory
 returns-clause-memory c =
-    behind _ _ _ c.resize.ensures.bytes c.resize.ensures.regions
+    memory_is _ _ _ c.resize.ensures.bytes c.resize.ensures.regions
     ∙ moved_is c.args.memory.now c.args.heap.now c.args.address c.requires (omega (arith, c.if-address-heap.false)) (omega (arith, c.if-address-heap-2.false))
 
 pub returns-clause-heap : goal.returns-clause-heap
 returns-clause-heap c =
     let heap = c.args.heap.now in
     subst (λ (m : Image). HasHeap m record { place = heap.place; start = heap.start; end = c.args.address; limit = heap.limit })
-    (sym (behind _ _ _ c.resize.ensures.bytes c.resize.ensures.regions))
+    (sym (memory_is _ _ _ c.resize.ensures.bytes c.resize.ensures.regions))
     (heap_moved c.args.memory.now heap c.args.address c.requires (omega (arith, c.if-address-heap-2.false)))

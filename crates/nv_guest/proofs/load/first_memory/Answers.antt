@@ -10,14 +10,14 @@ use Rattle.nv_guest.specs.Load.{first_beyond, regions_of}
 use Rattle.nv_guest.proofs.Placed.{program_is_placed, regions_lie, segments_end_by, segments_lie}
 use Rattle.nv_guest.proofs.load.first_memory.Goals as goal
 
-pub all_regions-requires-clause-room : goal.all_regions-requires-clause-room
-all_regions-requires-clause-room c =
-    segments_end_by c.deref.result.now (c.args.size - 65536) (ap (λ (s : List Segment). first_beyond (map range_of s) (c.args.size - 65536) 0) c.deref.ensures.value ∙ c.requires.room)
+pub all_regions-requires-clause-below : goal.all_regions-requires-clause-below
+all_regions-requires-clause-below c =
+    segments_end_by c.deref.result.now (c.args.size - 65536) (ap (λ (s : List Segment). first_beyond (map range_of s) (c.args.size - 65536) 0) c.deref.ensures.value ∙ c.requires.below)
 
 pub make-requires : goal.make-requires
 make-requires c =
     rw (c.in_ok-regions.ensures, c.deref.ensures.value)
-    (regions_lie (executable_of c.args.program.now) c.args.size c.requires.size (program_is_placed (executable_of c.args.program.now) c.requires.program) c.requires.room)
+    (regions_lie (executable_of c.args.program.now) c.args.size c.requires.size (program_is_placed (executable_of c.args.program.now) c.requires.program) c.requires.below)
 
 pub fill_segments-requires : goal.fill_segments-requires
 fill_segments-requires c =

@@ -17,7 +17,7 @@ pub follow-told-requires-clause-stamp : goal.follow-told-requires-clause-stamp
 follow-told-requires-clause-stamp c = (c.requires.lawful _ _ c.in-Some.ensures.next.at).stamp
 
 pub follow-told-requires-clause-below : goal.follow-told-requires-clause-below
-follow-told-requires-clause-below c = (c.requires.lawful _ _ c.in-Some.ensures.next.at).room
+follow-told-requires-clause-below c = (c.requires.lawful _ _ c.in-Some.ensures.next.at).few
 
 pub follow-told-requires-clause-lives : goal.follow-told-requires-clause-lives
 follow-told-requires-clause-lives c =

@@ -17,11 +17,11 @@ loop-event-preserved c = λ lives.
     let t = c.loop-event-test.true in
     let more : take (c.loop-event.event-index + 1) xs ≡ take c.loop-event.event-index xs ++ e ∷ [] = take_more xs c.loop-event.event-index e t ∙ ap (λ z. take c.loop-event.event-index xs ++ z ∷ []) (sym c.event-item.is) in
     let mapped : map entry (take (c.loop-event.event-index + 1) xs) ≡ map entry (take c.loop-event.event-index xs) ++ entry e ∷ [] = ap (map entry) more ∙ map-append entry (take c.loop-event.event-index xs) (e ∷ []) in
-    let front : List Event = take c.loop-event.event-index xs in
+    let prefix : List Event = take c.loop-event.event-index xs in
     let go : GoesOn (entry e).call = (c.if-event-eq94.false, c.if-event-eq93.false) in
     subst (λ (z : List Entry). Contains (live_after z) c.args.tid) (sym mapped)
-    (⊎_elim (λ was. lives_on (map entry front) (entry e) c.args.tid go (c.loop-event.invariant was))
-    (λ made. child_lives (map entry front) (entry e) c.args.tid go (made_of (child_of (entry e)) c.args.tid made))
+    (⊎_elim (λ was. lives_on (map entry prefix) (entry e) c.args.tid go (c.loop-event.invariant was))
+    (λ made. child_lives (map entry prefix) (entry e) c.args.tid go (made_of (child_of (entry e)) c.args.tid made))
     (either c.loop-event.lives (is_of c.args.tid (child_of (entry e))) (sym c.lives_on-lives.ensures ∙ lives)))
 
 pub returns : goal.returns

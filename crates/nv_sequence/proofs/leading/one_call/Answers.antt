@@ -37,12 +37,12 @@ serve_call-requires-clause-seen g c κs within =
     c.lead.ensures.new c.in-Asked.ensures.told.0 in
     rw (c.reserve.ensures.log) w.seen
 
-pub serve_call-requires-clause-room : goal.serve_call-requires-clause-room
-serve_call-requires-clause-room g c κs within =
+pub serve_call-requires-clause-few : goal.serve_call-requires-clause-few
+serve_call-requires-clause-few g c κs within =
     let w = waits threads thread_laws (g.K.SyscallKernel.start c.args.kernel.now) c.args.most c.args.version.now
     (g.K.SyscallKernel.log c.args.kernel.now) c.lead.new.self c.in-Asked.tid c.requires.leading c.requires.seen c.requires.in_step
     c.lead.ensures.new c.in-Asked.ensures.told.0 in
-    rw (c.reserve.ensures.log) (omega (arith, w.room, c.requires.most))
+    rw (c.reserve.ensures.log) (omega (arith, w.few, c.requires.most))
 
 pub returns-else-is_err-clause-turn : goal.returns-else-is_err-clause-turn
 returns-else-is_err-clause-turn g c =

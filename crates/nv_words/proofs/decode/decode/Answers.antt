@@ -11,11 +11,11 @@ use Rattle.nv_words.specs.Spell.{low, high}
 use Rattle.nv_words.specs.Read.{event_of, sent_of, came_of, bytes_of}
 use Rattle.nv_words.proofs.decode.decode.Goals as goal
 
-front : (n k : ℕ) (all bytes : List ℕ) → k ≤ n → take n all ≡ bytes → take k all ≡ take k bytes
-front n k all bytes le is = sym (take-take k n all le) ∙ ap (take k) is
+prefix : (n k : ℕ) (all bytes : List ℕ) → k ≤ n → take n all ≡ bytes → take k all ≡ take k bytes
+prefix n k all bytes le is = sym (take-take k n all le) ∙ ap (take k) is
 
 middle : (n i k : ℕ) (all bytes : List ℕ) → i + k ≤ n → take n all ≡ bytes → take k (drop i all) ≡ take k (drop i bytes)
-middle n i k all bytes le is = sym (drop-take i k all) ∙ ap (drop i) (front n (i + k) all bytes le is) ∙ drop-take i k bytes
+middle n i k all bytes le is = sym (drop-take i k all) ∙ ap (drop i) (prefix n (i + k) all bytes le is) ∙ drop-take i k bytes
 
 -- a part that begins at `a` and is `b` long
 part : (a b : ℕ) (l : List ℕ) → take (a + b - a) (drop a l) ≡ take b (drop a l)
@@ -29,13 +29,13 @@ returns-clause-event c =
     let size : ℕ = 8 * length (drop 6 words) in
     let long : length (drop 6 words) ≡ length words - 6 = length-drop 6 words in
     let rest : take (length words - 6) (drop 6 words) ≡ drop 6 words = take_rest words 6 in
-    let unpacked : take size bytes ≡ bytes_of words = (λ i. take (8 * length (sym rest i)) bytes) ∙ c.unpack.ensures.front ∙ ap (flat_map (little_bytes 8)) rest in
+    let unpacked : take size bytes ≡ bytes_of words = (λ i. take (8 * length (sym rest i)) bytes) ∙ c.unpack.ensures.prefix ∙ ap (flat_map (little_bytes 8)) rest in
     let sizes : c.high-sizes.result ≡ high (slice_index words 5) = c.high-sizes.ensures in
     let sent : c.high-sizes.result % 65536 ≡ sent_of words = ap (λ (z : ℕ). z % 65536) sizes in
     let came : c.high-sizes.result / 65536 ≡ came_of words = ap (λ (z : ℕ). z / 65536) sizes in
     let fits : sent_of words + came_of words ≤ size = (let p = c.requires.payload in let w = c.requires.words in omega arith) in
     let first : c.set.new.self.bytes ≡ take (sent_of words) (bytes_of words) =
-    ap (λ (h : Held). h.bytes) c.set.ensures ∙ ap (λ (z : ℕ). take z bytes) sent ∙ front size (sent_of words) bytes (bytes_of words) (omega arith) unpacked in
+    ap (λ (h : Held). h.bytes) c.set.ensures ∙ ap (λ (z : ℕ). take z bytes) sent ∙ prefix size (sent_of words) bytes (bytes_of words) (omega arith) unpacked in
     let second : c.set-2.new.self.bytes ≡ take (came_of words) (drop (sent_of words) (bytes_of words)) =
     ap (λ (h : Held). h.bytes) c.set-2.ensures ∙ part (c.high-sizes.result % 65536) (c.high-sizes.result / 65536) bytes
     ∙ (λ i. take (came i) (drop (sent i) bytes)) ∙ middle size (sent_of words) (came_of words) bytes (bytes_of words) fits unpacked in

@@ -4,7 +4,7 @@ use denote.Param.Send.{param_send, param_sync, arg_send, arg_sync}
 use Rattle.std.specs.Option.{option_copied}
 use Rattle.nv_replay.specs.Follow.{judge_of}
 use Rattle.nv_workers.specs.Rounds.{CanAll, WorkedOn}
-use Rattle.nv_workers.proofs.Parting.{can_front, can_back, on_at, all_at}
+use Rattle.nv_workers.proofs.Parting.{can_prefix, can_back, on_at, all_at}
 use Rattle.nv_workers.proofs.Rotating.{all_here}
 use Rattle.nv_workers.proofs.dealing.deal.Goals as goal
 
@@ -15,7 +15,7 @@ pub for_each_chunk_mut-requires-clause-accepts : goal.for_each_chunk_mut-require
 for_each_chunk_mut-requires-clause-accepts g c κs within = λ start p chunk. (
   (
     subst (λ ws. CanAll (judge_of (option_copied c.args.rules)) c.args.room.now c.args.most ws) (sym chunk.value)
-        (can_front (judge_of (option_copied c.args.rules)) c.args.room.now c.args.most c.of-stretches.result.front (drop start c.args.workers.now)
+        (can_prefix (judge_of (option_copied c.args.rules)) c.args.room.now c.args.most c.of-stretches.result.first (drop start c.args.workers.now)
         (can_back (judge_of (option_copied c.args.rules)) c.args.room.now c.args.most start c.args.workers.now c.requires.can)),
     c.requires.most,
     c.requires.hands,

@@ -59,8 +59,8 @@ publish_call-requires-clause-seen g c κs within =
     let w = waits_lead c.requires.leads.0 c.args.room.now c.args.most c.requires.leads.1 c.args.version.now c.reserve.new.self c.args.tid f2 in
     w.seen
 
-pub publish_call-requires-clause-room : goal.publish_call-requires-clause-room
-publish_call-requires-clause-room g c κs within =
+pub publish_call-requires-clause-few : goal.publish_call-requires-clause-few
+publish_call-requires-clause-few g c κs within =
     let e = c.in_default.ensures in
     let r = c.reserve.ensures in
     let f1 = placed_lead c.requires.leads.0 c.args.room.now c.args.most c.requires.leads.1 c.args.version.now c.args.lead.now (Some c.args.tid) c.requires.leads.2 c.place.new.lead e.of e.same e.due e.kernel e.seen e.wrote e.spans in

@@ -6,4 +6,4 @@ pub returns-then-k-as_slice : goal.returns-then-k-as_slice
 returns-then-k-as_slice c =
     let inside : c.args.k < length c.self.inside.pipes.items = (let e = ap length c.as_slice.ensures.value in omega arith) in
     let held = pipe_is c.self.inside c.args.self.now c.args.k c.index_mut.result.now c.self.view_is inside c.index_mut.ensures.value in
-    pipe_changed c.self.inside c.args.self.now c.args.k c.drop_front.new.held _ c.self.view_is (c.drop_front.ensures ∙ ap (drop c.args.n) held)
+    pipe_changed c.self.inside c.args.self.now c.args.k c.drop_prefix.new.held _ c.self.view_is (c.drop_prefix.ensures ∙ ap (drop c.args.n) held)

@@ -1,7 +1,7 @@
 use Rattle.std.proofs.Common.{◌∙◌, ap}
 use Rattle.nv_fs.specs.States.{Inode}
 use Rattle.nv_fs.specs.Names.{file_of, is_named}
-use Rattle.nv_fs.specs.Rooms.{Disk}
+use Rattle.nv_fs.specs.Reserved.{Disk}
 use Rattle.nv_fs.proofs.Places.{position_map}
 use Rattle.nv_fs.proofs.disk.FileSystem.file_of.Goals as goal
 

@@ -2,7 +2,7 @@ use Rattle.std.proofs.Common.{◌∙◌, ap, ℕ, ◌<◌, ◌≤◌, length, ar
 use Rattle.std.specs.Prelude.{map, set, vec_capacity, slice_index}
 use Rattle.nv_fs.specs.Views.{capacity_of}
 use Rattle.std.proofs.lemmas.Result.{on_ok_weaker}
-use Rattle.nv_fs.proofs.Places.{pipe_is, pipe_changed, pipe_same, pipe_room}
+use Rattle.nv_fs.proofs.Places.{pipe_is, pipe_changed, pipe_same, pipe_reserved}
 use Rattle.nv_fs.proofs.disk.FileSystem.reserve_buffer.Goals as goal
 
 pub returns-then-k-as_slice-clause-state : goal.returns-then-k-as_slice-clause-state
@@ -14,4 +14,4 @@ returns-then-k-as_slice-clause-state c =
 pub returns-then-k-as_slice-clause-ok : goal.returns-then-k-as_slice-clause-ok
 returns-then-k-as_slice-clause-ok c =
     let inside : c.args.k < length c.self.inside.pipes.items = (let e = ap length c.as_slice.ensures.value in omega arith) in
-    on_ok_weaker {P = c.args.most ≤ vec_capacity c.reserve_to.new.held} {Q = c.args.k < length c.args.self.now.state.pipes → c.args.most ≤ slice_index (map capacity_of (set c.self.inside.pipes.items c.args.k c.reserve_to.new.held)) c.args.k} _ (λ p _. subst (λ (n : ℕ). c.args.most ≤ n) (pipe_room c.self.inside.pipes.items c.args.k c.reserve_to.new.held inside) p) c.reserve_to.ensures.ok
+    on_ok_weaker {P = c.args.most ≤ vec_capacity c.reserve_to.new.held} {Q = c.args.k < length c.args.self.now.state.pipes → c.args.most ≤ slice_index (map capacity_of (set c.self.inside.pipes.items c.args.k c.reserve_to.new.held)) c.args.k} _ (λ p _. subst (λ (n : ℕ). c.args.most ≤ n) (pipe_reserved c.self.inside.pipes.items c.args.k c.reserve_to.new.held inside) p) c.reserve_to.ensures.ok

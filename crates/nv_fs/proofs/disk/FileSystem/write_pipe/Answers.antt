@@ -8,7 +8,7 @@ use Rattle.nv_fs.proofs.disk.FileSystem.write_pipe.Goals as goal
 
 pub fill-requires : goal.fill-requires
 fill-requires c =
-    let held = ap length c.buffer.ensures in λ l. c.requires.room l (omega arith)
+    let held = ap length c.buffer.ensures in λ l. c.requires.reserved l (omega arith)
 
 pub returns : goal.returns
 returns c =

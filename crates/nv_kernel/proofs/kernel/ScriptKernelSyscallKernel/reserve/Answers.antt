@@ -4,7 +4,7 @@ use Rattle.nv_calls.specs.Logs.{calls_of}
 use Rattle.nv_calls.proofs.ShapeLaws.{shaped-few}
 use Rattle.nv_script.specs.Views.{setup_of}
 use Rattle.nv_kernel.specs.Serving.{State, start_of_script, first_state, state_after}
-use Rattle.nv_kernel.proofs.Keeping.{kept_room, kept_none}
+use Rattle.nv_kernel.proofs.Keeping.{kept_reserved, kept_none}
 use Rattle.nv_kernel.proofs.kernel.ScriptKernelSyscallKernel.reserve.Goals as goal
 
 pub blank-requires : goal.blank-requires
@@ -19,4 +19,4 @@ invariant_of-self-in_err-reserve-2 c = let k = c.self.invariant in let h = ap (m
 
 pub invariant_of-self-2 : goal.invariant_of-self-2
 invariant_of-self-2 c = let k = c.self.invariant in let h = ap (map entry) c.reserve.ensures.items in let ok = c.in_ok-reserve.ensures.ok in let setup = setup_of c.self.inside.script.value in
-    (kept_room (start_of_script setup) _ _ _ _ _ _ _ _ c.self.inside.end _ _ k.0 h (ap (λ (s : State). s.crew) c.reserve-2.ensures.state) (λ n. omega arith), c.reserve-2.ensures.state ∙ k.1 ∙ ap (λ log. state_after (first_state setup) (calls_of log)) (sym h), k.2)
+    (kept_reserved (start_of_script setup) _ _ _ _ _ _ _ _ c.self.inside.end _ _ k.0 h (ap (λ (s : State). s.crew) c.reserve-2.ensures.state) (λ n. omega arith), c.reserve-2.ensures.state ∙ k.1 ∙ ap (λ log. state_after (first_state setup) (calls_of log)) (sym h), k.2)

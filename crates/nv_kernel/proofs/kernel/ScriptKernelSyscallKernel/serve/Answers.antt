@@ -6,8 +6,8 @@ use Rattle.nv_calls.specs.Logs.{InRange, IsNew, made, child_of, served, live_aft
 use Rattle.nv_script.specs.Scripts.{Setup}
 use Rattle.nv_script.specs.Views.{setup_of}
 use Rattle.nv_kernel.specs.Ends.{end_next}
-use Rattle.nv_kernel.specs.Kept.{Kept, IsKept, room_of}
-use Rattle.nv_kernel.specs.Rooms.{state_of, crew_of}
+use Rattle.nv_kernel.specs.Kernel.{KernelState, IsSound, spare_of}
+use Rattle.nv_kernel.specs.Reserved.{state_of, crew_of}
 use Rattle.nv_kernel.specs.Serving.{State, Served, start_of_script, first_state, state_after, serve, reply_of}
 use Rattle.nv_kernel.proofs.Few.{together_few}
 use Rattle.nv_kernel.proofs.Keeping.{kept_served, map_more}
@@ -19,20 +19,20 @@ use Rattle.nv_kernel.proofs.kernel.ScriptKernelSyscallKernel.serve.Goals as goal
 pub answer-ret-requires-clause-few : goal.answer-ret-requires-clause-few
 answer-ret-requires-clause-few c =
     let log : List Entry = map entry c.self.inside.log.items in
-    let past = ap (λ (k : Kept). length k.log) c.self.view_is in
+    let past = ap (λ (k : KernelState). length k.log) c.self.view_is in
     let count = ap (λ (s : State). s.served) c.self.invariant.1 in
     let calls = log_count (setup_of c.self.inside.script.value) log in
     let all = length-map log call_of in
-    omega (arith, past, count, calls, all, c.requires.room)
+    omega (arith, past, count, calls, all, c.requires.few)
 
 pub answer-ret-requires-clause-clones : goal.answer-ret-requires-clause-clones
 answer-ret-requires-clause-clones c =
     let log : List Entry = map entry c.self.inside.log.items in
-    let past = ap (λ (k : Kept). length k.log) c.self.view_is in
+    let past = ap (λ (k : KernelState). length k.log) c.self.view_is in
     let count = ap (λ (s : State). s.crew.clones) c.self.invariant.1 in
     let few = few_clones_after (first_state (setup_of c.self.inside.script.value)) (calls_of log) in
     let all = length-map log call_of in
-    omega (arith, past, count, few, all, c.requires.room)
+    omega (arith, past, count, few, all, c.requires.few)
 
 pub fill-requires-clause-few : goal.fill-requires-clause-few
 fill-requires-clause-few c = omega (arith, together_few (request c.args.call.now) c.requires.shaped, c.answer-ret.ensures.few)
@@ -50,7 +50,7 @@ module _ (c : goal.After-keep) where
   abbrev here : State
   here = state_after (first_state setup) (calls_of log)
 
-  -- what the devices answer is what the definition says behind these calls
+  -- what the devices answer is what the definition says after these calls
   answer : serve here call ≡ record { state = state_of c.answer-ret.new.self; ret = c.answer-ret.result; payload = c.answer-ret.new.out.bytes }
   answer = ap (λ (s : State). serve s call) (sym c.self.invariant.1) ∙ c.answer-ret.ensures.answer
 
@@ -88,10 +88,10 @@ module _ (c : goal.After-keep) where
   next : crew'.live ≡ live_next (crew_of c.self.inside.devices.threads).live (served (start_of_script setup) log call)
   next = ap (λ (z : Crew). z.live) (sym after) ∙ step.live ∙ (λ i. live_next (sym threads i) record { stamp = length log; call = call; reply = record { ret = sym ret i; payload = ((start_of_script setup).replies (calls_of log) call).payload } })
 
-  kept : IsKept (start_of_script setup) (log ++ served (start_of_script setup) log call ∷ []) (vec_len c.keep.new.log) (vec_capacity c.keep.new.log) None (end_next (length crew'.live == 0) call) crew'
+  kept : IsSound (start_of_script setup) (log ++ served (start_of_script setup) log call ∷ []) (vec_len c.keep.new.log) (vec_capacity c.keep.new.log) None (end_next (length crew'.live == 0) call) crew'
   kept =
-      let past : log ≡ c.args.self.now.log = ap (λ (k : Kept). k.log) c.self.view_is in
-      let few : length log < 131072 = subst (λ (z : List Entry). length z < 131072) (sym past) c.requires.room in
+      let past : log ≡ c.args.self.now.log = ap (λ (k : KernelState). k.log) c.self.view_is in
+      let few : length log < 131072 = subst (λ (z : List Entry). length z < 131072) (sym past) c.requires.few in
       let lives = subst (λ (z : List Entry). Contains (live_after z) c.args.call.now.tid) (sym past) c.requires.lives in
       kept_served (start_of_script setup) log call (vec_len c.self.inside.log) (vec_capacity c.self.inside.log) _ _ _ c.self.inside.end
       (crew_of c.self.inside.devices.threads) crew' c.self.invariant.0 lives few (subst InRange is c.fill.ensures.range) new next (subst IsCrew after step.is)
@@ -102,13 +102,13 @@ module _ (c : goal.After-keep) where
 
 pub invariant_of-self : goal.invariant_of-self
 invariant_of-self c = (
-  subst (λ (z : List Entry). IsKept (start_of_script (setup c)) z (vec_len c.keep.new.log) (vec_capacity c.keep.new.log) (option_map room_of c.take.new.self) c.next_end-self-inside.result (crew' c)) (sym (all c))
-      (subst (λ (z : Option ℕ). IsKept (start_of_script (setup c)) (log c ++ served (start_of_script (setup c)) (log c) (call c) ∷ []) (vec_len c.keep.new.log) (vec_capacity c.keep.new.log) (option_map room_of c.take.new.self) z (crew' c)) (end c)
-      (subst (λ (z : _). IsKept (start_of_script (setup c)) (log c ++ served (start_of_script (setup c)) (log c) (call c) ∷ []) (vec_len c.keep.new.log) (vec_capacity c.keep.new.log) (option_map room_of z) (end_next (length (crew' c).live == 0) (call c)) (crew' c)) (sym c.take.ensures.after) (kept c))),
+  subst (λ (z : List Entry). IsSound (start_of_script (setup c)) z (vec_len c.keep.new.log) (vec_capacity c.keep.new.log) (option_map spare_of c.take.new.self) c.next_end-self-inside.result (crew' c)) (sym (all c))
+      (subst (λ (z : Option ℕ). IsSound (start_of_script (setup c)) (log c ++ served (start_of_script (setup c)) (log c) (call c) ∷ []) (vec_len c.keep.new.log) (vec_capacity c.keep.new.log) (option_map spare_of c.take.new.self) z (crew' c)) (end c)
+      (subst (λ (z : _). IsSound (start_of_script (setup c)) (log c ++ served (start_of_script (setup c)) (log c) (call c) ∷ []) (vec_len c.keep.new.log) (vec_capacity c.keep.new.log) (option_map spare_of z) (end_next (length (crew' c).live == 0) (call c)) (crew' c)) (sym c.take.ensures.after) (kept c))),
   ap (λ (r : Served). r.state) (sym (answer c)) ∙ sym (log_more (setup c) (log c) (served (start_of_script (setup c)) (log c) (call c)))
       ∙ ap (λ (z : List Entry). state_after (first_state (setup c)) (calls_of z)) (sym (all c)),
-  c.answer-ret.ensures.room ∙ c.self.invariant.2,
+  c.answer-ret.ensures.capacity ∙ c.self.invariant.2,
 )
 
 pub returns-clause-log : goal.returns-clause-log
-returns-clause-log c = all c ∙ ap (λ (k : Kept). k.log ++ served (start_of_script k.setup) k.log (call c) ∷ []) c.self.view_is
+returns-clause-log c = all c ∙ ap (λ (k : KernelState). k.log ++ served (start_of_script k.setup) k.log (call c) ∷ []) c.self.view_is

@@ -19,5 +19,5 @@ invariant_of-self c =
       few_seen = omega (arith, seen, c.requires.below);
       few_calls = omega (arith, kept.few_calls, fewer _ _ _ _ c.answer.ensures pending);
       in_spans = rw (c.grow.ensures) (grown_end _ _ kept.in_spans);
-      has_room = kept.has_room;
+      wide = kept.wide;
     }

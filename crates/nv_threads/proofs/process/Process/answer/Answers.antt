@@ -1,9 +1,9 @@
-use Rattle.std.proofs.Common.{◌≡◌, ◌∙◌, ◌≤◌, ◌%◌, sym, ap, subst, true, ℕ, ℤ, List, length, map, get_or, to_z, of_z, w32, arith}
-use Rattle.std.specs.Prelude.{Contains, slice_index}
+use Rattle.std.proofs.Common.{◌≡◌, ◌∙◌, ◌≤◌, sym, ap, subst, true, ℕ, ℤ, List, length, map, get_or, to_z, of_z, w32, arith}
+use Rattle.std.specs.Prelude.{Contains}
 use Rattle.std.proofs.lemmas.List.{length-map}
 use Rattle.std.proofs.lemmas.Int.{to_z-of_z}
 use Rattle.nv_calls.specs.declared.calls.Call.{Call}
-use Rattle.nv_calls.specs.Calls.{request, Request, Response}
+use Rattle.nv_calls.specs.Calls.{request, Request, Response, status_of}
 use Rattle.nv_calls.specs.Logs.{made, IsNew}
 use Rattle.nv_threads.specs.Tables.{threads_of, place_of}
 use Rattle.nv_threads.specs.Threads.{Proc, tids, state_at, is_asking, call_in, answered_as, threads}
@@ -62,6 +62,7 @@ returns c =
     let p : Proc = c.args.self.now in
     let all : Response = record { ret = c.args.ret; payload = c.args.payload.now } in
     c.answer_as.ensures
-    ∙ (ap (λ (z : ℤ). answered_as p c.args.tid d.nr (slice_index e.args 0 % 256) (record { ret = z; payload = c.args.payload.now })) (to_z-of_z w32 c.args.ret c.ranges.ret)
-    ∙ (ap (λ (n : ℕ). answered_as p c.args.tid n (slice_index e.args 0 % 256) all) (ap (λ (q : Request). q.nr) (sym first))
-    ∙ ap (λ (n : ℕ). answered_as p c.args.tid (call_in (state_at p.tasks c.args.tid)).nr n all) (ap (λ (q : Request). slice_index q.args 0 % 256) (sym second))))
+    ∙ (ap (λ (n : ℕ). answered_as p c.args.tid d.nr n (record { ret = to_z w32 (of_z w32 c.args.ret); payload = c.args.payload.now })) c.status-status.ensures
+    ∙ ap (λ (z : ℤ). answered_as p c.args.tid d.nr (status_of (request e)) (record { ret = z; payload = c.args.payload.now })) (to_z-of_z w32 c.args.ret c.ranges.ret)
+    ∙ (ap (λ (n : ℕ). answered_as p c.args.tid n (status_of (request e)) all) (ap (λ (q : Request). q.nr) (sym first))
+    ∙ ap (λ (n : ℕ). answered_as p c.args.tid (call_in (state_at p.tasks c.args.tid)).nr n all) (ap status_of (sym second))))

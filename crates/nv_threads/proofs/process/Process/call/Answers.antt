@@ -9,12 +9,12 @@ use Rattle.nv_machine.specs.Registers.{Registers}
 use Rattle.nv_guest.specs.Calls.{call_at, number}
 use Rattle.nv_guest.specs.Threads as guests
 use Rattle.nv_guest.specs.declared.outcome.Asked.TheVariants.{Local, Logged}
-use Rattle.nv_threads.specs.Kept.{IsKept}
+use Rattle.nv_threads.specs.Process.{IsSound}
 use Rattle.nv_threads.specs.Tables.{threads_of, place_of, with_doing}
 use Rattle.nv_threads.specs.Threads.{Proc, Task as Thread, Asks, state_at, with_state, is_running, machine, local, asking, called}
 use Rattle.nv_threads.specs.declared.tasks.Doing.TheVariants as doing
 use Rattle.nv_threads.specs.declared.tasks.Task.{Task}
-use Rattle.nv_threads.proofs.Keeping.{running_lives, guest_lives, with_task, with_call, room_at, map_set}
+use Rattle.nv_threads.proofs.Keeping.{running_lives, guest_lives, with_task, with_call, capacity_at, map_set}
 use Rattle.nv_threads.proofs.Tabling.{running_of, unread, asks_of}
 use Rattle.nv_threads.proofs.Writing.{lives_there, table_written}
 use Rattle.nv_threads.proofs.process.Process.call.Goals as goal
@@ -50,11 +50,11 @@ call_of-requires-clause-lives c =
     let lives = running_lives (threads_of i.tasks.items cs) i.turn runs in
     guest_lives _ _ _ _ _ i.turn c.self.invariant lives
 
-pub call_of-requires-clause-room : goal.call_of-requires-clause-room
-call_of-requires-clause-room c =
+pub call_of-requires-clause-capacity : goal.call_of-requires-clause-capacity
+call_of-requires-clause-capacity c =
     let few = c.deref.ensures.1 in
     let inside : c.place-place.result < length c.self.inside.calls.items = omega (arith, few, c.place-place.ensures.inside, c.self.invariant.eight) in
-    subst (λ (k : Call). 4096 ≤ k.payload.capacity) (sym c.index_mut.ensures.value) (room_at c.self.inside.calls.items c.place-place.result c.index_mut.result.now c.self.invariant.room inside)
+    subst (λ (k : Call). 4096 ≤ k.payload.capacity) (sym c.index_mut.ensures.value) (capacity_at c.self.inside.calls.items c.place-place.result c.index_mut.result.now c.self.invariant.capacity inside)
 
 pub regs-requires : goal.regs-requires
 regs-requires c =
@@ -80,8 +80,8 @@ invariant_of-self c =
     let lives = running_lives (threads_of i.tasks.items cs) i.turn runs in
     let few = c.deref.ensures.1 in
     let inside : c.place-place.result < length i.calls.items = omega (arith, few, c.place-place.ensures.inside, c.self.invariant.eight) in
-    let room : 4096 ≤ c.call_of.new.call.payload.capacity = subst (λ (n : ℕ). 4096 ≤ n) (sym c.in-Logged.ensures.room)
-    (subst (λ (k : Call). 4096 ≤ k.payload.capacity) (sym c.index_mut.ensures.value) (room_at i.calls.items c.place-place.result c.index_mut.result.now c.self.invariant.room inside)) in
+    let capacity : 4096 ≤ c.call_of.new.call.payload.capacity = subst (λ (n : ℕ). 4096 ≤ n) (sym c.in-Logged.ensures.capacity)
+    (subst (λ (k : Call). 4096 ≤ k.payload.capacity) (sym c.index_mut.ensures.value) (capacity_at i.calls.items c.place-place.result c.index_mut.result.now c.self.invariant.capacity inside)) in
     let at : c.place-place.result ≡ place_of i.tasks.items i.turn = c.place-place.ensures.place ∙ ap (λ (ts : List Task). place_of ts i.turn) c.deref.ensures.0 in
     let r : Request = request c.call_of.new.call in
     let long : length i.tasks.items ≤ length cs = (let n = length-map i.calls.items request in omega (arith, ap length c.deref.ensures.0, c.deref.ensures.1, c.self.invariant.eight, n)) in
@@ -90,8 +90,8 @@ invariant_of-self c =
     ∙ (ap (threads_of (with_doing i.tasks.items i.turn doing.Asks)) (map_set i.calls.items c.place-place.result c.call_of.new.call ∙ ap (λ (k : ℕ). set cs k r) at)
     ∙ asks_of i.tasks.items cs i.turn r long) in
     let own = ap (λ (q : Request). q.tid) c.in-Logged.ensures.call ∙ own_tid (guests.machine_at i.guest i.turn) i.turn in
-    subst (λ (ts : List Thread). IsKept i.count i.budget ts (guests.tids i.guest.threads) (set i.calls.items c.place-place.result c.call_of.new.call)) (sym is)
-    (with_call _ _ _ _ _ c.place-place.result c.call_of.new.call (with_task _ _ _ _ _ i.turn (Asks r) c.self.invariant (own, c.in-Logged.ensures.shaped refl)) room)
+    subst (λ (ts : List Thread). IsSound i.count i.budget ts (guests.tids i.guest.threads) (set i.calls.items c.place-place.result c.call_of.new.call)) (sym is)
+    (with_call _ _ _ _ _ c.place-place.result c.call_of.new.call (with_task _ _ _ _ _ i.turn (Asks r) c.self.invariant (own, c.in-Logged.ensures.shaped refl)) capacity)
 
 pub invariant_of-self-in-Local : goal.invariant_of-self-in-Local
 invariant_of-self-in-Local c =
@@ -105,10 +105,10 @@ invariant_of-self-in-Local c =
     ∙ unread i.tasks.items cs i.turn (request c.call_of.new.call) (sym (running_of i.tasks.items cs i.turn) ∙ runs) in
     let few = c.deref.ensures.1 in
     let inside : c.place-place.result < length i.calls.items = omega (arith, few, c.place-place.ensures.inside, c.self.invariant.eight) in
-    let room : 4096 ≤ c.call_of.new.call.payload.capacity = subst (λ (n : ℕ). 4096 ≤ n) (sym c.in-Local.ensures.room)
-    (subst (λ (k : Call). 4096 ≤ k.payload.capacity) (sym c.index_mut.ensures.value) (room_at i.calls.items c.place-place.result c.index_mut.result.now c.self.invariant.room inside)) in
-    subst (λ (ts : List Thread). IsKept i.count i.budget ts (guests.tids i.guest.threads) (set i.calls.items c.place-place.result c.call_of.new.call)) (sym unread_is)
-    (with_call _ _ _ _ _ c.place-place.result c.call_of.new.call c.self.invariant room)
+    let capacity : 4096 ≤ c.call_of.new.call.payload.capacity = subst (λ (n : ℕ). 4096 ≤ n) (sym c.in-Local.ensures.capacity)
+    (subst (λ (k : Call). 4096 ≤ k.payload.capacity) (sym c.index_mut.ensures.value) (capacity_at i.calls.items c.place-place.result c.index_mut.result.now c.self.invariant.capacity inside)) in
+    subst (λ (ts : List Thread). IsSound i.count i.budget ts (guests.tids i.guest.threads) (set i.calls.items c.place-place.result c.call_of.new.call)) (sym unread_is)
+    (with_call _ _ _ _ _ c.place-place.result c.call_of.new.call c.self.invariant capacity)
 
 pub answer_local-requires : goal.answer_local-requires
 answer_local-requires c =

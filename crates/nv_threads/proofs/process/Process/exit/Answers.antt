@@ -4,13 +4,13 @@ use Rattle.std.proofs.lemmas.List.{length-map}
 use Rattle.nv_calls.specs.declared.calls.Call.{Call}
 use Rattle.nv_calls.specs.Calls.{request, Request}
 use Rattle.nv_guest.specs.Threads as guests
-use Rattle.nv_threads.specs.Kept.{IsKept}
+use Rattle.nv_threads.specs.Process.{IsSound}
 use Rattle.nv_threads.specs.Tables.{threads_of, place_of}
 use Rattle.nv_threads.proofs.ThreadLaws.{others}
 use Rattle.nv_threads.specs.Threads.{Proc, Task as Thread, tids, left_by}
 use Rattle.nv_threads.specs.declared.tasks.Task.{Task}
-use Rattle.nv_threads.proofs.Keeping.{room_at}
-use Rattle.nv_threads.proofs.Leaving.{with_less, removed_of, removed_is, room_more, room_less, map_more, map_less}
+use Rattle.nv_threads.proofs.Keeping.{capacity_at}
+use Rattle.nv_threads.proofs.Leaving.{with_less, removed_of, removed_is, capacity_more, capacity_less, map_more, map_less}
 use Rattle.nv_threads.proofs.Places.{rewritten}
 use Rattle.nv_threads.proofs.Writing.{lives_there}
 use Rattle.nv_threads.proofs.process.Process.exit.Goals as goal
@@ -47,10 +47,10 @@ invariant_of-self c =
     ∙ (ap (remove (threads_of i.tasks.items cs)) at ∙ removed_is i.tasks.items cs c.args.tid long c.self.invariant.apart)))) in
     let gs = ap (λ (g : guests.Threaded). guests.tids g.threads) c.end_thread.ensures in
     let eight : length (remove i.calls.items place ++ x ∷ []) ≡ 8 = ap length (sym new) ∙ (c.to_end.auto.calls ∙ (ap length c.deref_mut.ensures.value ∙ c.self.invariant.eight)) in
-    let room = room_more (remove i.calls.items place) x (room_less i.calls.items place c.self.invariant.room) (room_at i.calls.items place blank c.self.invariant.room there) in
-    subst (λ (ds : List Call). IsKept i.count i.budget (threads_of c.remove.new.self.items (map request (take i.calls.len (c.to_end.new.calls ++ drop (length c.to_end.new.calls) i.calls.items)))) (guests.tids c.end_thread.new.self.threads) ds) (sym all)
-    (subst (λ (ts : List Thread). IsKept i.count i.budget ts (guests.tids c.end_thread.new.self.threads) (remove i.calls.items place ++ x ∷ [])) (sym is)
-    (with_less _ _ _ i.guest.threads _ _ (remove i.calls.items place ++ x ∷ []) c.args.tid c.self.invariant lives gs eight room))
+    let capacity = capacity_more (remove i.calls.items place) x (capacity_less i.calls.items place c.self.invariant.capacity) (capacity_at i.calls.items place blank c.self.invariant.capacity there) in
+    subst (λ (ds : List Call). IsSound i.count i.budget (threads_of c.remove.new.self.items (map request (take i.calls.len (c.to_end.new.calls ++ drop (length c.to_end.new.calls) i.calls.items)))) (guests.tids c.end_thread.new.self.threads) ds) (sym all)
+    (subst (λ (ts : List Thread). IsSound i.count i.budget ts (guests.tids c.end_thread.new.self.threads) (remove i.calls.items place ++ x ∷ [])) (sym is)
+    (with_less _ _ _ i.guest.threads _ _ (remove i.calls.items place ++ x ∷ []) c.args.tid c.self.invariant lives gs eight capacity))
 
 pub returns : goal.returns
 returns c =

@@ -3,7 +3,7 @@ use Rattle.std.specs.Prelude.{Contains}
 use Rattle.nv_calls.specs.Calls.{request}
 use Rattle.nv_guest.specs.Threads as guests
 use Rattle.nv_machine.specs.declared.outcome.FaultKind.TheVariants.{Budget}
-use Rattle.nv_threads.specs.Kept.{are_apart}
+use Rattle.nv_threads.specs.Process.{are_apart}
 use Rattle.nv_threads.specs.Tables.{can_move_by}
 use Rattle.nv_threads.specs.Threads.{Proc, tids, state_at, is_asking, is_on, wanted, can_move, machine}
 use Rattle.nv_threads.specs.Going.{Goes}

@@ -3,7 +3,7 @@ use Rattle.std.specs.Prelude.{Contains}
 use Rattle.std.proofs.lemmas.List.{length-map}
 use Rattle.nv_calls.specs.Calls.{request}
 use Rattle.nv_guest.specs.Threads as guests
-use Rattle.nv_threads.specs.Kept.{IsKept}
+use Rattle.nv_threads.specs.Process.{IsSound}
 use Rattle.nv_threads.specs.Tables.{threads_of, number_of}
 use Rattle.nv_threads.specs.Threads.{Proc, Task as Thread, Runs, tids, with_child}
 use Rattle.nv_threads.specs.declared.tasks.Task.{Task}
@@ -25,7 +25,7 @@ invariant_of-self c =
     let cs = map request i.calls.items in
     let is = ap (λ (ts : List Task). threads_of ts cs) c.push.ensures.items ∙ more_of i.tasks.items cs c.args.child in
     let gs = ap (λ (g : guests.Threaded). guests.tids g.threads) c.clone_thread.ensures ∙ more_tids i.guest.threads (guests.child_of i.guest.threads c.args.tid c.args.child) in
-    subst (λ (ts : List Thread). IsKept i.count i.budget ts (guests.tids c.clone_thread.new.self.threads) i.calls.items) (sym is)
+    subst (λ (ts : List Thread). IsSound i.count i.budget ts (guests.tids c.clone_thread.new.self.threads) i.calls.items) (sym is)
     (with_more _ _ _ _ _ _ c.args.tid c.args.child c.self.invariant
     (subst (λ (p : Proc). Contains (tids p.tasks) c.args.tid) (sym c.self.view_is) c.requires.lives)
     (λ (q : Contains (tids (threads_of i.tasks.items cs)) c.args.child). c.requires.new.1 (subst (λ (p : Proc). Contains (tids p.tasks) c.args.child) c.self.view_is q)) gs)

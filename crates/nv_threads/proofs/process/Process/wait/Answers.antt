@@ -2,7 +2,7 @@ use Rattle.std.proofs.Common.{◌∙◌, sym, ap, subst, refl, ◌-◌, List, ma
 use Rattle.std.specs.Prelude.{Contains}
 use Rattle.nv_calls.specs.Calls.{request}
 use Rattle.nv_guest.specs.Threads as guests
-use Rattle.nv_threads.specs.Kept.{IsKept}
+use Rattle.nv_threads.specs.Process.{IsSound}
 use Rattle.nv_threads.specs.Threads.{Proc, Task, Waits, tids, with_state, passed}
 use Rattle.nv_threads.specs.declared.tasks.Doing.TheVariants as doing
 use Rattle.nv_threads.proofs.Keeping.{running_lives, with_task}
@@ -16,7 +16,7 @@ set_doing-requires c = lives_there c.self.inside.tasks.items c.deref_mut.result.
 pub invariant_of-self : goal.invariant_of-self
 invariant_of-self c =
     let is = state_written c.self.inside.tasks.items c.deref_mut.result.now c.set_doing.new.tasks (map request c.self.inside.calls.items) c.self.inside.turn (doing.Waits c.args.address) (Waits c.args.address) (λ _. refl) c.deref_mut.ensures.value c.set_doing.ensures in
-    subst (λ (ts : List Task). IsKept c.self.inside.count c.self.inside.budget ts (guests.tids c.self.inside.guest.threads) c.self.inside.calls.items) (sym is)
+    subst (λ (ts : List Task). IsSound c.self.inside.count c.self.inside.budget ts (guests.tids c.self.inside.guest.threads) c.self.inside.calls.items) (sym is)
     (with_task _ _ _ _ _ c.self.inside.turn (Waits c.args.address) c.self.invariant tt)
 
 pub returns : goal.returns

@@ -5,7 +5,7 @@ use Rattle.nv_calls.specs.declared.numbers.Syscall.TheVariants.{Openat, Pipe2, W
 use Rattle.nv_calls.specs.Answers.{most_out_by}
 use Rattle.nv_calls.specs.Calls.{Request}
 use Rattle.nv_calls.specs.Numbers.{syscall_of}
-use Rattle.nv_fs.specs.Rooms.{Disk, CanOpen, CanPipe, CanWrite}
+use Rattle.nv_fs.specs.Reserved.{Disk, CanOpen, CanPipe, CanWrite}
 use Rattle.nv_kernel.specs.declared.crew.LiveThreads.{LiveThreads}
 use Rattle.nv_kernel.specs.declared.devices.Devices.{Devices}
 use Rattle.nv_kernel.specs.Crew.{Crew}

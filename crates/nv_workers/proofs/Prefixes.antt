@@ -7,12 +7,12 @@ pub head_is : {X : Type 0} (a b : X) (xs ys : List X) → a ∷ xs ≡ b ∷ ys 
 head_is a b xs ys h = (cc, cc)
 
 -- of two that a list begins with, the longer begins with the shorter
-pub front_of : {X : Type 0} (a b c d : List X) → a ++ c ≡ b ++ d → length a ≤ length b → (m : List X) × (b ≡ a ++ m)
-front_of [] b c d h l = (b, refl)
-front_of (x ∷ a) [] c d h l = absurd (omega arith)
-front_of (x ∷ a) (y ∷ b) c d h l =
+pub prefix_of : {X : Type 0} (a b c d : List X) → a ++ c ≡ b ++ d → length a ≤ length b → (m : List X) × (b ≡ a ++ m)
+prefix_of [] b c d h l = (b, refl)
+prefix_of (x ∷ a) [] c d h l = absurd (omega arith)
+prefix_of (x ∷ a) (y ∷ b) c d h l =
     let k = head_is x y (a ++ c) (b ++ d) h in
-    let r = front_of a b c d k.1 (omega arith) in
+    let r = prefix_of a b c d k.1 (omega arith) in
     (r.0, λ i. sym k.0 i ∷ r.1 i)
 
 pub no_more : {X : Type 0} (a c : List X) → length a ≡ length (a ++ c) → a ++ c ≡ a

@@ -21,16 +21,16 @@ abbrev pub AreOwn : List Task → Type 0
 AreOwn [] = Unit {0}
 AreOwn (t ∷ ts) = IsOwn t.tid t.state × AreOwn ts
 
--- each call has room for what is handed in
-abbrev pub HaveRoom : List Call → Type 0
-HaveRoom [] = Unit {0}
-HaveRoom (c ∷ cs) = (MOST_BYTES ≤ c.payload.capacity) × HaveRoom cs
+-- each call can hold what is handed in
+abbrev pub HaveCapacity : List Call → Type 0
+HaveCapacity [] = Unit {0}
+HaveCapacity (c ∷ cs) = (MOST_BYTES ≤ c.payload.capacity) × HaveCapacity cs
 
 -- The instructions run keep to the budget, the guest has these threads, each a number of its own, and there is a call for each of eight.
-pub record IsKept (count budget : ℕ) (tasks : List Task) (guest : List ℕ) (calls : List Call) : Type 0 where
+pub record IsSound (count budget : ℕ) (tasks : List Task) (guest : List ℕ) (calls : List Call) : Type 0 where
   pub within : count ≤ budget
   pub same : 0 < length tasks → guest ≡ tids tasks
   pub apart : are_apart (tids tasks) ≡ true
   pub own : AreOwn tasks
   pub eight : length calls ≡ MOST_THREADS
-  pub room : HaveRoom calls
+  pub capacity : HaveCapacity calls

@@ -1,7 +1,7 @@
 use Rattle.std.proofs.Common.{◌++◌, ◌∷◌, [], ap, ◌∙◌}
 use Rattle.nv_outside.proofs.Writing.{puts-is, puts-then, puts-failed}
 use Rattle.nv_report.specs.Versions.{end_text}
-use Rattle.nv_report.proofs.versions.put_front.Goals as goal
+use Rattle.nv_report.proofs.versions.put_prefix.Goals as goal
 
 pub returns-in-Whole : goal.returns-in-Whole
 returns-in-Whole g c =

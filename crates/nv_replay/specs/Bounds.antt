@@ -3,9 +3,9 @@ use Rattle.std.specs.Prelude.{ℕ, ◌+◌, ◌≤◌, List}
 use Rattle.nv_calls.specs.Limits.{MOST_BYTES, MOST_EVENTS}
 use Rattle.nv_replay.specs.Spans.{EndBy}
 
--- of the events seen, the rewrites with the calls that are left, the parts that it led, and the room for a reply
-pub record IsKept (seen calls : ℕ) (led : List (ℕ × ℕ)) (room : ℕ) : Type 0 where
+-- of the events seen, the rewrites with the calls that are left, the parts that it led, and the capacity for a reply
+pub record AreBounded (seen calls : ℕ) (led : List (ℕ × ℕ)) (capacity : ℕ) : Type 0 where
   pub few_seen : seen ≤ MOST_EVENTS
   pub few_calls : calls ≤ seen + 1000000008
   pub in_spans : EndBy seen led
-  pub has_room : MOST_BYTES ≤ room
+  pub wide : MOST_BYTES ≤ capacity

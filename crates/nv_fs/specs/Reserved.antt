@@ -9,7 +9,7 @@ use Rattle.nv_fs.specs.Fetched.{pipe_at}
 use Rattle.nv_fs.specs.Stored.{start_of}
 
 -- how many elements each table has memory for, how long a new name may be, how many bytes the console and each pipe have memory for, and which blocks of each file take memory
-pub record Room : Type 0 where
+pub record Reserved : Type 0 where
   pub opens : ℕ
   pub files : ℕ
   pub pipes : ℕ
@@ -21,38 +21,38 @@ pub record Room : Type 0 where
 -- a file system: what calls see, and the memory
 pub record Disk : Type 0 where
   pub state : FileState
-  pub room : Room
+  pub reserved : Reserved
 
 -- there is memory for n bytes of a file from a place on
 abbrev pub HasBlocks : Disk → ℕ → ℕ → ℕ → Type 0
-HasBlocks d i place n = i < length d.state.files → HoldsRange (slice_index_or d.room.contents i []) place n
+HasBlocks d i place n = i < length d.state.files → HoldsRange (slice_index_or d.reserved.contents i []) place n
 
 -- there is memory for a write of n bytes to a target
-abbrev pub HasRoom : Disk → OpenFile → Target → ℕ → Type 0
-HasRoom d o Console n = length d.state.console + min n (16777216 - length d.state.console) ≤ d.room.console
-HasRoom d o (File i) n = HasBlocks d i (start_of d.state o i) (min n (1048576 - start_of d.state o i))
-HasRoom d o (Writer k) n = k < length d.state.pipes → length (pipe_at d.state k) + n ≤ 4096 → length (pipe_at d.state k) + n ≤ slice_index d.room.buffers k
-HasRoom d o _ n = Unit {0}
+abbrev pub IsReserved : Disk → OpenFile → Target → ℕ → Type 0
+IsReserved d o Console n = length d.state.console + min n (16777216 - length d.state.console) ≤ d.reserved.console
+IsReserved d o (File i) n = HasBlocks d i (start_of d.state o i) (min n (1048576 - start_of d.state o i))
+IsReserved d o (Writer k) n = k < length d.state.pipes → length (pipe_at d.state k) + n ≤ 4096 → length (pipe_at d.state k) + n ≤ slice_index d.reserved.buffers k
+IsReserved d o _ n = Unit {0}
 
-abbrev pub HasRoomOf : Disk → Option (ℕ × OpenFile) → ℕ → Type 0
-HasRoomOf d None n = Unit {0}
-HasRoomOf d (Some o) n = HasRoom d o.1 o.1.target n
+abbrev pub IsReservedOf : Disk → Option (ℕ × OpenFile) → ℕ → Type 0
+IsReservedOf d None n = Unit {0}
+IsReservedOf d (Some o) n = IsReserved d o.1 o.1.target n
 
 -- there is memory for a write of n bytes to a descriptor
 unfoldable pub CanWrite : Disk → ℕ → ℕ → Type 0
-CanWrite d fd n = HasRoomOf d (open_of d.state fd) n
+CanWrite d fd n = IsReservedOf d (open_of d.state fd) n
 
 -- there is memory for so many further open files
 abbrev pub HasOpens : Disk → ℕ → Type 0
-HasOpens d n = length d.state.opens + n ≤ d.room.opens
+HasOpens d n = length d.state.opens + n ≤ d.reserved.opens
 
 -- there is memory for a new file, its name of at most so many bytes, and an open file of it
 pub record CanOpen (d : Disk) (path : List ℕ) : Type 0 where
   pub opens : HasOpens d 1
-  pub files : length d.state.files + 1 ≤ d.room.files
-  pub name : length path ≤ d.room.name
+  pub files : length d.state.files + 1 ≤ d.reserved.files
+  pub name : length path ≤ d.reserved.name
 
 -- there is memory for a new pipe and its two ends
 pub record CanPipe (d : Disk) : Type 0 where
   pub opens : HasOpens d 2
-  pub pipes : length d.state.pipes + 1 ≤ d.room.pipes
+  pub pipes : length d.state.pipes + 1 ≤ d.reserved.pipes
