@@ -1,14 +1,11 @@
-use crate::{end_of_report, run_table};
+use nv_test_support::{end_of_report, run_table};
 use std::alloc::{AllocError, Global};
 use std::sync::Wait;
 use std::thread::Threads;
 
 mod addresses;
-mod atomics;
 mod files;
 mod flags;
-mod guests_of_c;
-mod linux_answers;
 mod long;
 mod numbers;
 mod scripts;

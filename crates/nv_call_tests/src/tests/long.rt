@@ -1,5 +1,5 @@
 use super::SCRIPT;
-use crate::{end_of_report, run_table};
+use nv_test_support::{end_of_report, run_table};
 use std::alloc::{AllocError, Global};
 use std::process::Abort;
 use std::sync::Wait;

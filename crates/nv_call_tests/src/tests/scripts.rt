@@ -1,4 +1,4 @@
-use crate::{run, run_table};
+use nv_test_support::{run_table, run_text};
 use std::alloc::{AllocError, Global};
 use std::test::Fail;
 
@@ -26,7 +26,7 @@ fn script_faults(rt: HostRuntime) -> Result<(), Fail> {
         ),
     ];
     for (script, cause) in cases {
-        let answered = run(&rt, rt.alloc(), script, EXIT)?;
+        let answered = run_text(&rt, rt.alloc(), script, EXIT)?;
         let line = format!(in rt.alloc(); "varan: input s: {cause}\n")?;
         assert_eq!(rt; answered.written.as_slice(), line.as_bytes());
         assert_eq!(rt; answered.status, 4);
@@ -62,7 +62,7 @@ fn script_limits(rt: HostRuntime) -> Result<(), Fail> {
         )?,
     ];
     for script in &most {
-        let answered = run(&rt, rt.alloc(), script.as_bytes(), EXIT)?;
+        let answered = run_text(&rt, rt.alloc(), script.as_bytes(), EXIT)?;
         assert_eq!(rt; answered.status, 0);
     }
     let long = [
@@ -71,7 +71,7 @@ fn script_limits(rt: HostRuntime) -> Result<(), Fail> {
         (of_length(rt.alloc(), 1_048_577)?, "line 2 long"),
     ];
     for (script, cause) in &long {
-        let answered = run(&rt, rt.alloc(), script.as_bytes(), EXIT)?;
+        let answered = run_text(&rt, rt.alloc(), script.as_bytes(), EXIT)?;
         let line = format!(in rt.alloc(); "varan: input s: {cause}\n")?;
         assert_eq!(rt; answered.written.as_slice(), line.as_bytes());
         assert_eq!(rt; answered.status, 4);

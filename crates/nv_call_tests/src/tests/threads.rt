@@ -1,5 +1,5 @@
 use super::{SCRIPT, first_wrong};
-use crate::{prefix_of_report, run, telling};
+use nv_test_support::{prefix_of_report, run_text, telling};
 use std::test::Fail;
 
 // Eight threads live.
@@ -153,7 +153,7 @@ fn threads_come_and_go(rt: HostRuntime) -> Result<(), Fail> {
         (CHILDREN, CHILDREN_REPORT),
     ];
     for (text, report) in cases {
-        let answered = run(&rt, rt.alloc(), SCRIPT, text.as_bytes())?;
+        let answered = run_text(&rt, rt.alloc(), SCRIPT, text.as_bytes())?;
         assert_eq!(rt; answered.status, 0);
         assert_eq!(rt; answered.written.as_slice(), report.as_bytes());
     }
@@ -199,7 +199,7 @@ const OWN_ANSWERS: [i32; 26] = [
 #[test]
 fn own_calls(rt: HostRuntime) -> Result<(), Fail> {
     let text = telling(rt.alloc(), OWN_CALLS)?;
-    let answered = run(&rt, rt.alloc(), SCRIPT, text.as_bytes())?;
+    let answered = run_text(&rt, rt.alloc(), SCRIPT, text.as_bytes())?;
     let mut told = Vec::new(rt.alloc());
     for answer in OWN_ANSWERS {
         told.extend_from_slice(&answer.to_le_bytes())?;

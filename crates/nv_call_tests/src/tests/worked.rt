@@ -1,6 +1,5 @@
 use super::{FILE, SCRIPT};
-use crate::{run, run_pair, run_table};
-use nv_test_support::image;
+use nv_test_support::{image, run_pair, run_table, run_text};
 use std::alloc::{AllocError, Global};
 use std::test::Fail;
 
@@ -259,7 +258,7 @@ li a7, 94
 ecall
 ";
     let script = b"varan-script 1\narg one word\narg  2 \n";
-    let answered = run(&rt, rt.alloc(), script, text.as_bytes())?;
+    let answered = run_text(&rt, rt.alloc(), script, text.as_bytes())?;
     let report = "output 20
 \u{3}guest\0one word\0 2 \0
 log 3

@@ -1,5 +1,6 @@
 // Guests of examples/guests, and what they write under Linux.
-use crate::{HEAP, SERVICE_1, SERVICE_2, SERVICE_3, prefix_of_report, run_file, run_pair};
+use crate::{HEAP, SERVICE_1, SERVICE_2, SERVICE_3};
+use nv_test_support::{prefix_of_report, run_file, run_pair};
 use nv_text::unhex;
 use std::test::Fail;
 

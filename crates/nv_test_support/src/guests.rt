@@ -1,5 +1,5 @@
 // Guests that make the calls of a table.
-use nv_test_support::{Answered, Outside, monitor};
+use crate::{Answered, Outside, monitor};
 use std::alloc::{AllocError, Global};
 use std::sync::Wait;
 use std::thread::Threads;
@@ -121,7 +121,7 @@ pub fn run_pair<R: Threads + Wait + Sync>(
 }
 
 /// A run of the version of an assembler text.
-pub fn run<R: Threads + Wait + Sync>(
+pub fn run_text<R: Threads + Wait + Sync>(
     rt: &R,
     alloc: Global,
     script: &[u8],
@@ -150,7 +150,7 @@ pub fn run_table<R: Threads + Wait + Sync>(
     data: &str,
 ) -> Result<Answered, AllocError> {
     let text = format!(in alloc; "{data}{MAKES_THE_CALLS}")?;
-    run(rt, alloc, script, text.as_bytes())
+    run_text(rt, alloc, script, text.as_bytes())
 }
 
 /// The text of the version that tells the results of the calls of a table, seven words a call, with which this text ends.

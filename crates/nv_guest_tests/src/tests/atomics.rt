@@ -1,11 +1,11 @@
 // Two threads that count in one word, by the ways that instructions have for it, and the rows of multiplication and division.
-use super::SCRIPT;
-use crate::run;
-use nv_test_support::Answered;
+use nv_test_support::{Answered, run_text};
 use std::alloc::{AllocError, Global};
 use std::sync::Wait;
 use std::test::Fail;
 use std::thread::Threads;
+
+const SCRIPT: &[u8] = b"varan-script 1\n";
 
 // The first thread makes another, does its work, yields until the other has done its own, and tells the word.
 const FIRST: &str = "jal ra, work
@@ -67,7 +67,7 @@ count: .word 0
 done: .word 0
 "
     )?;
-    run(rt, alloc, SCRIPT, text.as_bytes())
+    run_text(rt, alloc, SCRIPT, text.as_bytes())
 }
 
 fn tells(alloc: Global, answered: &Answered, count: &str) -> Result<bool, AllocError> {
@@ -122,7 +122,7 @@ fn counted_by_loads_and_stores(rt: HostRuntime) -> Result<(), Fail> {
 #[test]
 fn division_by_zero(rt: HostRuntime) -> Result<(), Fail> {
     let text = "li a1, 7\nli a2, 0\ndivu a0, a1, a2\nli a7, 94\necall\n";
-    let answered = run(&rt, rt.alloc(), SCRIPT, text.as_bytes())?;
+    let answered = run_text(&rt, rt.alloc(), SCRIPT, text.as_bytes())?;
     let report = "output 0
 
 log 1
@@ -147,7 +147,7 @@ ecall
 .data
 w: .word 9
 ";
-    let answered = run(&rt, rt.alloc(), SCRIPT, text.as_bytes())?;
+    let answered = run_text(&rt, rt.alloc(), SCRIPT, text.as_bytes())?;
     let report = "output 0
 
 log 1
@@ -176,7 +176,7 @@ ecall
 w: .word 9
 "
         )?;
-        let answered = run(&rt, rt.alloc(), SCRIPT, text.as_bytes())?;
+        let answered = run_text(&rt, rt.alloc(), SCRIPT, text.as_bytes())?;
         let end = format!(in rt.alloc(); "0 exited 1 seen {calls} led 0-{calls} rewrites 0\n")?;
         assert!(rt; answered.written.ends_with(end.as_bytes()));
     }

@@ -1,4 +1,5 @@
-use crate::{FILES, Guest, NUMBERS, PIPES, THREADS, prefix_of_report, run, run_twice, telling};
+use crate::{FILES, Guest, NUMBERS, PIPES, THREADS};
+use nv_test_support::{prefix_of_report, run_text, run_twice, telling};
 use std::test::Fail;
 
 const SCRIPT: &[u8] = b"varan-script 1\nline hello\nline you\n";
@@ -10,7 +11,7 @@ fn answers_of_linux(rt: HostRuntime) -> Result<(), Fail> {
     for guests in groups {
         for guest in guests {
             let text = telling(rt.alloc(), guest.text)?;
-            let answered = run(&rt, rt.alloc(), SCRIPT, text.as_bytes())?;
+            let answered = run_text(&rt, rt.alloc(), SCRIPT, text.as_bytes())?;
             let prefix = prefix_of_report(rt.alloc(), guest.written)?;
             let name = guest.name;
             assert_eq!(rt; answered.status, 0, "{name}");

@@ -1,0 +1,3 @@
+mod atomics;
+mod guests_of_c;
+mod linux_answers;
