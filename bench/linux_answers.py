@@ -1,5 +1,5 @@
 #!/usr/bin/env python3
-"""Runs the guests of crates/nv_call_tests/src/linux under Linux, and says which write something else than stands there.
+"""Runs the guests of crates/nv_guest_tests/src/linux under Linux, and says which write something else than stands there.
 
 Needs qemu-riscv32 (Debian's package qemu-user), prlimit and, for the guest `all_files`, the right to mount a tmpfs. Build first:
 rt run in crates/varan. Then: bench/linux_answers.py [PROGRAM], PROGRAM being the program that assembles (crates/varan/out/varan).
@@ -14,7 +14,8 @@ import sys
 import tempfile
 
 TOP = pathlib.Path(__file__).resolve().parent.parent
-SOURCES = TOP / "crates/nv_call_tests/src"
+SOURCES = TOP / "crates/nv_guest_tests/src"
+SUPPORT = TOP / "crates/nv_test_support/src"
 PAGE = 4096
 INPUT = b"hello\nyou\n"
 GUEST = re.compile(r'name: ("\w+"),\s+calls: \d+,\s+text: ("(?:[^"\\]|\\.)*"),\s+written: (b"(?:[^"\\]|\\.)*"),', re.S)
@@ -63,7 +64,7 @@ def answers(program, name, text, room):
 
 def main():
     program = shlex.split(sys.argv[1]) if len(sys.argv) > 1 else [str(TOP / "crates/varan/out/varan")]
-    rest = literal(REST.search((SOURCES / "guest.rt").read_text()).group(1))
+    rest = literal(REST.search((SUPPORT / "guests.rt").read_text()).group(1))
     guests = [found for file in sorted((SOURCES / "linux").glob("*.rt")) for found in GUEST.findall(file.read_text())]
     others = 0
     for name, text, written in (map(literal, guest) for guest in guests):

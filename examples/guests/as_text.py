@@ -1,5 +1,5 @@
 #!/usr/bin/env python3
-"""Prints crates/nv_call_tests/src/built.rt: the built guests that its tests run, as hexadecimal text."""
+"""Prints crates/nv_guest_tests/src/built.rt: the built guests that its tests run, as hexadecimal text."""
 import pathlib
 
 BUILT = pathlib.Path(__file__).resolve().parent / "built"

@@ -42,8 +42,8 @@ row service service 0 $'0 fault load 100\n1 exited 0' built/service_2 built/serv
 row service service 0 $'0 exited 0\n1 exited 0' built/service_1 built/service_3
 row service service 0 $'0 fault load 100\n1 exited 0\n2 exited 0' built/service_2 built/service_3 built/service_1
 
-if ! ./as_text.py | cmp - ../../crates/nv_call_tests/src/built.rt; then
-    echo "check.sh: the tests of nv_call_tests have other guests"
+if ! ./as_text.py | cmp - ../../crates/nv_guest_tests/src/built.rt; then
+    echo "check.sh: the tests of nv_guest_tests have other guests"
     wrong=$((wrong + 1))
 fi
 

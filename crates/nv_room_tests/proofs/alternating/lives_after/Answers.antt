@@ -18,7 +18,7 @@ loop-event-preserved c = λ lives.
     let more : take (c.loop-event.event-index + 1) xs ≡ take c.loop-event.event-index xs ++ e ∷ [] = take_more xs c.loop-event.event-index e t ∙ ap (λ z. take c.loop-event.event-index xs ++ z ∷ []) (sym c.event-item.is) in
     let mapped : map entry (take (c.loop-event.event-index + 1) xs) ≡ map entry (take c.loop-event.event-index xs) ++ entry e ∷ [] = ap (map entry) more ∙ map-append entry (take c.loop-event.event-index xs) (e ∷ []) in
     let prefix : List Event = take c.loop-event.event-index xs in
-    let go : GoesOn (entry e).call = (c.if-event-eq94.false, c.if-event-eq93.false) in
+    let go : GoesOn (entry e).call = (c.if-event-eq-EXIT_GROUP.false, c.if-event-eq-EXIT.false) in
     subst (λ (z : List Entry). Contains (live_after z) c.args.tid) (sym mapped)
     (⊎_elim (λ was. lives_on (map entry prefix) (entry e) c.args.tid go (c.loop-event.invariant was))
     (λ made. child_lives (map entry prefix) (entry e) c.args.tid go (made_of (child_of (entry e)) c.args.tid made))

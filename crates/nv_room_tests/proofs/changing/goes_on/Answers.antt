@@ -15,7 +15,7 @@ loop-event-preserved c =
     let t = c.loop-event-test.true in
     let more : take (c.loop-event.event-index + 1) xs ≡ take c.loop-event.event-index xs ++ e ∷ [] = take_more xs c.loop-event.event-index e t ∙ ap (λ z. take c.loop-event.event-index xs ++ z ∷ []) (sym c.event-item.is) in
     let mapped : map entry (take (c.loop-event.event-index + 1) xs) ≡ map entry (take c.loop-event.event-index xs) ++ entry e ∷ [] = ap (map entry) more ∙ map-append entry (take c.loop-event.event-index xs) (e ∷ []) in
-    subst (λ (z : List Entry). Contains (live_after z) 100) (sym mapped) (lives_on (map entry (take c.loop-event.event-index xs)) (entry e) 100 (c.if-event-eq94.false, c.if-event-eq93.false) c.loop-event.invariant)
+    subst (λ (z : List Entry). Contains (live_after z) 100) (sym mapped) (lives_on (map entry (take c.loop-event.event-index xs)) (entry e) 100 (c.if-event-eq-EXIT_GROUP.false, c.if-event-eq-EXIT.false) c.loop-event.invariant)
 
 pub returns : goal.returns
 returns c = let t = c.loop-event-test.false in subst (λ (z : List Event). Contains (live_after (map entry z)) 100) (take_all c.loop-event.event-index c.args.history.now (omega arith)) c.loop-event.invariant
