@@ -53,7 +53,7 @@ pub assembled-fault : (names : List (List ℕ × Label)) (text_len : ℕ) (text 
 assembled-fault names text_len text f h e =
     assembled-known names text_len text h ∙ by-fault (known names text_len) (placed_text text) (first_cause (known names text_len) (placed_text text)) f e
 
--- ---- a text without room for an instruction
+-- ---- a text too short for an instruction
 
 by-short : (w : Whole) (ps : List Placed) (found : Option (ℕ × AsmCause)) → found ≡ None → w.text_len < 4 → meaning_by w ps found ≡ Err (fault.Line 1 cause.Range)
 by-short w ps (Some x) e h = cc
@@ -106,9 +106,9 @@ entry-held n entry text rs long some h =
     let most : entry + 4 ≤ text_base + length text = omega arith in
     let zero : entry % 4 ≡ 0 = h.aligned in
     let aligned : (entry % 4 == 0) ≡ true = grind (arith, nat_tests) in
-    let front : nat_le text_base entry ≡ true = grind (arith, nat_tests) in
+    let begins : nat_le text_base entry ≡ true = grind (arith, nat_tests) in
     let end : nat_le (entry + 4) (text_base + length text) ≡ true = grind (arith, nat_tests) in
-    entry-first entry (text_range text) rs aligned (and_from (nat_le text_base entry) (nat_le (entry + 4) (text_base + length text)) front end)
+    entry-first entry (text_range text) rs aligned (and_from (nat_le text_base entry) (nat_le (entry + 4) (text_base + length text)) begins end)
 
 apart-one : (r : Range) → is_none (overlap_from range_extent 0 (r ∷ [])) ≡ true
 apart-one r = refl
@@ -116,8 +116,8 @@ apart-one r = refl
 apart-two : (r s : Range) → shares (range_extent r) (range_extent s) ≡ false → is_none (overlap_from range_extent 0 (r ∷ s ∷ [])) ≡ true
 apart-two r s e = rw e refl
 
-behind : (a n d m : ℕ) → a + n ≤ d → (nat_lt a (d + m) && nat_lt d (a + n)) ≡ false
-behind a n d m h = grind (arith, nat_tests)
+comes-after : (a n d m : ℕ) → a + n ≤ d → (nat_lt a (d + m) && nat_lt d (a + n)) ≡ false
+comes-after a n d m h = grind (arith, nat_tests)
 
 pub image-program : (n entry : ℕ) (text contents : List ℕ) → length text ≡ n → 4 ≤ n → length text + length contents ≤ 1048576 → IsEntryAt n entry
     → is_program (image n entry text contents) ≡ true
@@ -135,7 +135,7 @@ image-program n entry text (b ∷ bs) long some short h =
     let near : d < text_base + n + 4096 = base-near n in
     let sound : is_sound r ≡ true = range-sound text_base (length text) (length text) (omega arith) (omega arith) (omega arith) in
     let sound-2 : is_sound s ≡ true = range-sound d m m (omega arith) (omega arith) (omega arith) in
-    let apart : is_none (overlap_from range_extent 0 (r ∷ s ∷ [])) ≡ true = apart-two r s (behind text_base (length text) d m (omega arith)) in
+    let apart : is_none (overlap_from range_extent 0 (r ∷ s ∷ [])) ≡ true = apart-two r s (comes-after text_base (length text) d m (omega arith)) in
     and_from (list_all is_sound (r ∷ s ∷ [])) _ (and_from (is_sound r) _ sound (and_from (is_sound s) true sound-2 refl))
     (and_from (is_none (overlap_from range_extent 0 (r ∷ s ∷ []))) _ apart (entry-held n entry text (s ∷ []) long some h))
 

@@ -4,7 +4,7 @@ use Rattle.std.specs.Prelude.{ℤ}
 use Rattle.std.specs.Int.{w32, to_le_bytes}
 use Rattle.std.proofs.lemmas.List.{length-replicate}
 use Rattle.std.proofs.lemmas.Bool.Decides.{nat_tests}
-use Rattle.nv_text.specs.Lines.{lines}
+use Rattle.nv_text.specs.Lines.{LinesLeft, IsNextLine}
 use Rattle.nv_text.specs.Names.{first_fault, or_later}
 use Rattle.nv_asm.specs.declared.fault.AsmCause.{AsmCause}
 use Rattle.nv_asm.specs.declared.fault.AsmCause.TheVariants as cause
@@ -14,7 +14,7 @@ use Rattle.nv_asm.specs.declared.place.Reached.{Reached}
 use Rattle.nv_asm.specs.declared.place.Label.{Label}
 use Rattle.nv_asm.specs.Statements.{Word, Code, Fixed, Branch, Jump, Load, Statement, Blank, Text, Data, Bytes, Zero, Words, Entry, Instruction, OffInstruction, OffData, OffWords, loading}
 use Rattle.nv_asm.specs.Programs.{IsEntryAt}
-use Rattle.nv_asm.proofs.Passing.{before-is}
+use Rattle.nv_asm.proofs.Passing.{before-is, placed-line, placed-none}
 use Rattle.nv_asm.specs.Places.{Placed, here, begin, size, code_size, past, counted, stated, place, after, placed, placed_line}
 use Rattle.nv_asm.specs.Assembled.{Whole, base, address, address_of, is_entry, is_entry_place, distance, word_value, code_words, le_words, lacks, content, is_twice, is_long, padding, padded, laid_by, laid, cause_of, bytes_of, laid_in, section_bytes, entry_past, entry_of}
 
@@ -54,38 +54,40 @@ laid-inverts w p bytes e = first (is_twice w p.line p.label) p.read refl e where
 abbrev pub causes : Whole → List Placed → List (Option AsmCause)
 causes w ps = map (λ p. cause_of (laid w p)) ps
 
-pub causes-line : (w : Whole) (n : ℕ) (before : Reached) (text line rest : List ℕ) → lines text ≡ line ∷ lines rest
-    → first_fault n (causes w (placed n before (lines text)))
-    ≡ or_later n (cause_of (laid w (placed_line n before line))) (first_fault (n + 1) (causes w (placed (n + 1) (after (placed_line n before line)) (lines rest))))
-unfolding placed first_fault
-causes-line w n before text line rest e = ap (λ ls. first_fault n (causes w (placed n before ls))) e
+pub causes-line : (w : Whole) (a b : LinesLeft) (n : ℕ) (before : Reached) (line : List ℕ) → IsNextLine a n line b
+    → first_fault a.before (causes w (placed a.before before a.left))
+    ≡ or_later n (cause_of (laid w (placed_line n before line))) (first_fault b.before (causes w (placed b.before (after (placed_line n before line)) b.left)))
+unfolding first_fault
+causes-line w a b n before line next =
+    let p : Placed = placed_line n before line in
+    let later : List (Option AsmCause) = causes w (placed b.before (after p) b.left) in
+    ap (λ ps. first_fault a.before (causes w ps)) (placed-line a b n before line next)
+    ∙ ap (λ m. or_later m (cause_of (laid w p)) (first_fault (a.before + 1) later)) (sym next.counted)
+    ∙ ap (λ m. or_later n (cause_of (laid w p)) (first_fault m later)) (sym next.further)
 
-pub causes-none : (w : Whole) (n : ℕ) (before : Reached) (text : List ℕ) → length text ≡ 0 → first_fault n (causes w (placed n before (lines text))) ≡ None
-unfolding placed first_fault lines
-causes-none w n before [] e = refl
-causes-none w n before (b ∷ bs) e = absurd (omega (arith, e))
+pub causes-none : (w : Whole) (n : ℕ) (before : Reached) (left : List (List ℕ)) → left ≡ [] → first_fault n (causes w (placed n before left)) ≡ None
+unfolding first_fault
+causes-none w n before left e = ap (λ ps. first_fault n (causes w ps)) (placed-none n before left e)
 
-pub bytes-line : (w : Whole) (s : Section) (n : ℕ) (before : Reached) (text line rest : List ℕ) → lines text ≡ line ∷ lines rest
-    → section_bytes w s (placed n before (lines text))
-    ≡ laid_in s (placed_line n before line).before.section (bytes_of (laid w (placed_line n before line))) ++ section_bytes w s (placed (n + 1) (after (placed_line n before line)) (lines rest))
-unfolding placed section_bytes
-bytes-line w s n before text line rest e = ap (λ ls. section_bytes w s (placed n before ls)) e
+pub bytes-line : (w : Whole) (s : Section) (a b : LinesLeft) (n : ℕ) (before : Reached) (line : List ℕ) → IsNextLine a n line b
+    → section_bytes w s (placed a.before before a.left)
+    ≡ laid_in s (placed_line n before line).before.section (bytes_of (laid w (placed_line n before line))) ++ section_bytes w s (placed b.before (after (placed_line n before line)) b.left)
+unfolding section_bytes
+bytes-line w s a b n before line next = ap (section_bytes w s) (placed-line a b n before line next)
 
-pub bytes-none : (w : Whole) (s : Section) (n : ℕ) (before : Reached) (text : List ℕ) → length text ≡ 0 → section_bytes w s (placed n before (lines text)) ≡ []
-unfolding placed section_bytes lines
-bytes-none w s n before [] e = refl
-bytes-none w s n before (b ∷ bs) e = absurd (omega (arith, e))
+pub bytes-none : (w : Whole) (s : Section) (n : ℕ) (before : Reached) (left : List (List ℕ)) → left ≡ [] → section_bytes w s (placed n before left) ≡ []
+unfolding section_bytes
+bytes-none w s n before left e = ap (section_bytes w s) (placed-none n before left e)
 
-pub entry-line : (w : Whole) (entry n : ℕ) (before : Reached) (text line rest : List ℕ) → lines text ≡ line ∷ lines rest
-    → entry_of w entry (placed n before (lines text))
-    ≡ entry_of w (entry_past w entry (stated (placed_line n before line))) (placed (n + 1) (after (placed_line n before line)) (lines rest))
-unfolding placed entry_of
-entry-line w entry n before text line rest e = ap (λ ls. entry_of w entry (placed n before ls)) e
+pub entry-line : (w : Whole) (entry : ℕ) (a b : LinesLeft) (n : ℕ) (before : Reached) (line : List ℕ) → IsNextLine a n line b
+    → entry_of w entry (placed a.before before a.left)
+    ≡ entry_of w (entry_past w entry (stated (placed_line n before line))) (placed b.before (after (placed_line n before line)) b.left)
+unfolding entry_of
+entry-line w entry a b n before line next = ap (entry_of w entry) (placed-line a b n before line next)
 
-pub entry-none : (w : Whole) (entry n : ℕ) (before : Reached) (text : List ℕ) → length text ≡ 0 → entry_of w entry (placed n before (lines text)) ≡ entry
-unfolding placed entry_of lines
-entry-none w entry n before [] e = refl
-entry-none w entry n before (b ∷ bs) e = absurd (omega (arith, e))
+pub entry-none : (w : Whole) (entry n : ℕ) (before : Reached) (left : List (List ℕ)) → left ≡ [] → entry_of w entry (placed n before left) ≡ entry
+unfolding entry_of
+entry-none w entry n before left e = ap (entry_of w entry) (placed-none n before left e)
 
 -- ---- lengths
 
@@ -202,7 +204,7 @@ begin-up OffInstruction n = omega arith
 begin-up OffData n = omega arith
 begin-up (OffWords ws) n = omega arith
 
--- how long the sections are behind a line
+-- how long the sections are after a line
 pub record Grows (w : Whole) (p : Placed) (before : Reached) (bytes : List ℕ) : Type 0 where
   pub text : (after p).text_len ≡ before.text_len + length (laid_in section.Text before.section bytes)
   pub contents : (after p).data_len ≡ before.data_len + length (laid_in section.Data before.section bytes)
@@ -246,13 +248,13 @@ pub short-line : (w : Whole) (p : Placed) (bytes : List ℕ) → laid w p ≡ Ok
 short-line w p bytes e = let short = (laid-inverts w p bytes e).short in grind (arith, nat_tests)
 
 -- a section's bytes with those of one more line
-pub bytes-more : (w : Whole) (s : Section) (n : ℕ) (r q : Reached) (text line rest bytes old new : List ℕ) → lines text ≡ line ∷ lines rest → laid w (placed_line n r line) ≡ Ok bytes
+pub bytes-more : (w : Whole) (s : Section) (a b : LinesLeft) (n : ℕ) (r q : Reached) (line bytes old new : List ℕ) → IsNextLine a n line b → laid w (placed_line n r line) ≡ Ok bytes
     → new ≡ old ++ laid_in s r.section bytes → q ≡ after (placed_line n r line)
-    → new ++ section_bytes w s (placed (n + 1) q (lines rest)) ≡ old ++ section_bytes w s (placed n r (lines text))
-bytes-more w s n r q text line rest bytes old new e ok more is =
+    → new ++ section_bytes w s (placed b.before q b.left) ≡ old ++ section_bytes w s (placed a.before r a.left)
+bytes-more w s a b n r q line bytes old new next ok more is =
     let p : Placed = placed_line n r line in
-    let later : List ℕ = section_bytes w s (placed (n + 1) (after p) (lines rest)) in
-    ap (λ x. new ++ section_bytes w s (placed (n + 1) x (lines rest))) is ∙ ap (λ t. t ++ later) more ∙ append_assoc old (laid_in s r.section bytes) later
+    let later : List ℕ = section_bytes w s (placed b.before (after p) b.left) in
+    ap (λ x. new ++ section_bytes w s (placed b.before x b.left)) is ∙ ap (λ t. t ++ later) more ∙ append_assoc old (laid_in s r.section bytes) later
     ∙ ap (λ x. old ++ (laid_in s r.section (bytes_of x) ++ later)) (sym ok)
-    ∙ ap (λ (b : Reached). old ++ (laid_in s b.section (bytes_of (laid w p)) ++ later)) (sym (before-is n r line))
-    ∙ ap (λ x. old ++ x) (sym (bytes-line w s n r text line rest e))
+    ∙ ap (λ (reached : Reached). old ++ (laid_in s reached.section (bytes_of (laid w p)) ++ later)) (sym (before-is n r line))
+    ∙ ap (λ x. old ++ x) (sym (bytes-line w s a b n r line next))

@@ -2,7 +2,7 @@
 use Rattle.std.proofs.Common.{◌≡◌, ℕ, ◌+◌, ◌*◌, ◌^◌, ◌<◌, ◌≤◌, Bool, true, false, List, [], ◌∷◌, Option, Some, None, if◌then◌else◌, IfSome, length, map, bytes_eq, refl, sym, ap, ◌∙◌, arith}
 use Rattle.std.specs.Option.{option_or}
 use Rattle.std.specs.List.{onto_first}
-use Rattle.nv_text.specs.Lines.{lines, is_newline}
+use Rattle.nv_text.specs.Lines.{lines, is_newline, LinesLeft, IsNextLine}
 use Rattle.nv_text.specs.Names.{defined, defining, definitions, knowing}
 use Rattle.nv_asm.specs.declared.place.Label.{Label}
 use Rattle.nv_asm.specs.declared.place.Reached.{Reached}
@@ -21,24 +21,24 @@ or_known (Some x) p b d = refl
 or_known None p true d = refl
 or_known None p false d = refl
 
--- a further name is known before, in place of behind
-pub found-defined : (before after behind : List (List ℕ × Label)) (label name : List ℕ) (d : Label)
-    → ((other : List ℕ) → defined after other ≡ knowing before label d other) → found before (defining (Some label) d behind) name ≡ found after behind name
+-- a further name is known, and no longer among the rest
+pub found-defined : (before now rest : List (List ℕ × Label)) (label name : List ℕ) (d : Label)
+    → ((other : List ℕ) → defined now other ≡ knowing before label d other) → found before (defining (Some label) d rest) name ≡ found now rest name
 unfolding defined
-found-defined before after behind label name d h =
-    or_known (defined before name) (defined behind name) (bytes_eq name label) d ∙ ap (λ o. option_or o (defined behind name)) (sym (h name))
+found-defined before now rest label name d h =
+    or_known (defined before name) (defined rest name) (bytes_eq name label) d ∙ ap (λ o. option_or o (defined rest name)) (sym (h name))
 
 or_none : (o : Option Label) → option_or o None ≡ o
 or_none None = refl
 or_none (Some x) = refl
 
-pub found-none : (before behind : List (List ℕ × Label)) (name : List ℕ) → before ≡ [] → found before behind name ≡ defined behind name
+pub found-none : (before rest : List (List ℕ × Label)) (name : List ℕ) → before ≡ [] → found before rest name ≡ defined rest name
 unfolding defined
-found-none before behind name e = ap (λ ls. found ls behind name) e
+found-none before rest name e = ap (λ ls. found ls rest name) e
 
-pub found-all : (before behind : List (List ℕ × Label)) (name : List ℕ) → behind ≡ [] → found before behind name ≡ defined before name
+pub found-all : (before rest : List (List ℕ × Label)) (name : List ℕ) → rest ≡ [] → found before rest name ≡ defined before name
 unfolding defined
-found-all before behind name e = ap (λ ls. found before ls name) e ∙ or_none (defined before name)
+found-all before rest name e = ap (λ ls. found before ls name) e ∙ or_none (defined before name)
 
 -- a bound on the places of names that are known
 pub knows-more : (names now : List (List ℕ × Label)) (label : List ℕ) (d : Label) (most : ℕ) → ((other : List ℕ) → defined now other ≡ knowing names label d other)
@@ -59,25 +59,36 @@ knows-none names most e name = rw e tt
 abbrev pub names_of : List Placed → List (List ℕ × Label)
 names_of ps = definitions (map marked ps)
 
-pub names-line : (n : ℕ) (before : Reached) (text line rest : List ℕ) → lines text ≡ line ∷ lines rest
-    → names_of (placed n before (lines text)) ≡ defining (placed_line n before line).label (record { line = (placed_line n before line).line; place = place (placed_line n before line) }) (names_of (placed (n + 1) (after (placed_line n before line)) (lines rest)))
-unfolding placed definitions
-names-line n before text line rest e = ap (λ ls. names_of (placed n before ls)) e
+-- the next line, in its place
+pub placed-line : (a b : LinesLeft) (n : ℕ) (before : Reached) (line : List ℕ) → IsNextLine a n line b
+    → placed a.before before a.left ≡ placed_line n before line ∷ placed b.before (after (placed_line n before line)) b.left
+unfolding placed
+placed-line a b n before line next =
+    ap (λ m. placed m before a.left) (sym next.counted) ∙ ap (placed n before) next.first
+    ∙ ap (λ m. placed_line n before line ∷ placed (m + 1) (after (placed_line n before line)) b.left) next.counted
+    ∙ ap (λ m. placed_line n before line ∷ placed m (after (placed_line n before line)) b.left) (sym next.further)
 
-pub names-none : (n : ℕ) (before : Reached) (text : List ℕ) → length text ≡ 0 → names_of (placed n before (lines text)) ≡ []
-unfolding placed definitions lines
-names-none n before [] e = refl
-names-none n before (b ∷ bs) e = absurd (omega (arith, e))
+pub placed-none : (n : ℕ) (before : Reached) (left : List (List ℕ)) → left ≡ [] → placed n before left ≡ []
+unfolding placed
+placed-none n before left e = ap (placed n before) e
 
-pub ended-line : (n : ℕ) (before : Reached) (text line rest : List ℕ) → lines text ≡ line ∷ lines rest
-    → ended before (placed n before (lines text)) ≡ ended (after (placed_line n before line)) (placed (n + 1) (after (placed_line n before line)) (lines rest))
-unfolding placed ended
-ended-line n before text line rest e = ap (λ ls. ended before (placed n before ls)) e
+pub names-line : (a b : LinesLeft) (n : ℕ) (before : Reached) (line : List ℕ) → IsNextLine a n line b
+    → names_of (placed a.before before a.left) ≡ defining (placed_line n before line).label (record { line = (placed_line n before line).line; place = place (placed_line n before line) }) (names_of (placed b.before (after (placed_line n before line)) b.left))
+unfolding definitions
+names-line a b n before line next = ap names_of (placed-line a b n before line next)
 
-pub ended-none : (n : ℕ) (before : Reached) (text : List ℕ) → length text ≡ 0 → ended before (placed n before (lines text)) ≡ before
-unfolding placed ended lines
-ended-none n before [] e = refl
-ended-none n before (b ∷ bs) e = absurd (omega (arith, e))
+pub names-none : (n : ℕ) (before : Reached) (left : List (List ℕ)) → left ≡ [] → names_of (placed n before left) ≡ []
+unfolding definitions
+names-none n before left e = ap names_of (placed-none n before left e)
+
+pub ended-line : (a b : LinesLeft) (n : ℕ) (before : Reached) (line : List ℕ) → IsNextLine a n line b
+    → ended before (placed a.before before a.left) ≡ ended (after (placed_line n before line)) (placed b.before (after (placed_line n before line)) b.left)
+unfolding ended
+ended-line a b n before line next = ap (ended before) (placed-line a b n before line next)
+
+pub ended-none : (n : ℕ) (before : Reached) (left : List (List ℕ)) → left ≡ [] → ended before (placed n before left) ≡ before
+unfolding ended
+ended-none n before left e = ap (ended before) (placed-none n before left e)
 
 -- ---- bounds
 
@@ -141,11 +152,11 @@ before-is n before line = refl
 after-is : (n : ℕ) (before : Reached) (line : List ℕ) → after (placed_line n before line) ≡ past (statement_of n before line) before
 after-is n before line = ap (past (statement_of n before line)) (before-is n before line)
 
--- what is filled behind a line, with what the lines behind it can have at most
-pub weight-line : (n : ℕ) (before : Reached) (text line rest : List ℕ) → lines text ≡ line ∷ lines rest → size (stated (placed_line n before line)) ≤ most_of (length line)
-    → filled_by (after (placed_line n before line)) + weight (lines rest) ≤ filled_by before + weight (lines text)
-weight-line n before text line rest e small =
-    let whole : weight (lines text) ≡ most_of (length line) + 3 + weight (lines rest) = ap weight e in
+-- what is filled after a line, with what the lines after it can have at most
+pub weight-line : (a b : LinesLeft) (n : ℕ) (before : Reached) (line : List ℕ) → IsNextLine a n line b → size (stated (placed_line n before line)) ≤ most_of (length line)
+    → filled_by (after (placed_line n before line)) + weight b.left ≤ filled_by before + weight a.left
+weight-line a b n before line next small =
+    let whole : weight a.left ≡ most_of (length line) + 3 + weight b.left = ap weight next.first in
     let same : filled_by (after (placed_line n before line)) ≡ filled_by (past (statement_of n before line) before) = ap filled_by (after-is n before line) in
     omega (arith, whole, same, line-near n before line small)
 
@@ -163,5 +174,5 @@ weight-le (b ∷ bs) = step (is_newline b) (weight-le bs) where
   step false h = omega (arith, onto-weight b (lines bs))
 
 -- what is filled stays small
-pub filled-small : (r : Reached) (text rest : List ℕ) → filled_by r + weight (lines rest) ≤ weight (lines text) → length text < 2 ^ 64 → IsSmall r
-filled-small r text rest room long = record { text = omega (arith, room, weight-le text); «data» = omega (arith, room, weight-le text) }
+pub filled-small : (r : Reached) (text : List ℕ) (left : List (List ℕ)) → filled_by r + weight left ≤ weight (lines text) → length text < 2 ^ 64 → IsSmall r
+filled-small r text left filled long = record { text = omega (arith, filled, weight-le text); «data» = omega (arith, filled, weight-le text) }

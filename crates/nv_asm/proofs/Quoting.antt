@@ -35,14 +35,14 @@ wrong : (x : Bool) (b : ℕ) (bs : List ℕ) → mark x b ≡ Wrong → quoted x
 unfolding quoted
 wrong x b bs e = rw (e, quoted) refl
 
-joined : (front : List ℕ) (c : ℕ) (more : Option (List ℕ)) → option_map (λ m. front ++ m) (option_map (λ m. c ∷ m) more) ≡ option_map (λ m. (front ++ c ∷ []) ++ m) more
-joined front c None = refl
-joined front c (Some more) = ap Some (rw append_assoc refl)
+joined : (before : List ℕ) (c : ℕ) (more : Option (List ℕ)) → option_map (λ m. before ++ m) (option_map (λ m. c ∷ m) more) ≡ option_map (λ m. (before ++ c ∷ []) ++ m) more
+joined before c None = refl
+joined before c (Some more) = ap Some (rw append_assoc refl)
 
-pub quoted-stands : (front : List ℕ) (x : Bool) (bs : List ℕ) (i c : ℕ) → i < length bs → mark x (get_or bs i 0) ≡ Stands c
-    → option_map (λ m. front ++ m) (quoted x (drop i bs)) ≡ option_map (λ m. (front ++ c ∷ []) ++ m) (quoted false (drop (i + 1) bs))
-quoted-stands front x bs i c h e =
-    ap (option_map (λ m. front ++ m)) (at_drop_more (quoted x) bs i 0 h ∙ stands x (get_or bs i 0) c (drop (i + 1) bs) e) ∙ joined front c (quoted false (drop (i + 1) bs))
+pub quoted-stands : (before : List ℕ) (x : Bool) (bs : List ℕ) (i c : ℕ) → i < length bs → mark x (get_or bs i 0) ≡ Stands c
+    → option_map (λ m. before ++ m) (quoted x (drop i bs)) ≡ option_map (λ m. (before ++ c ∷ []) ++ m) (quoted false (drop (i + 1) bs))
+quoted-stands before x bs i c h e =
+    ap (option_map (λ m. before ++ m)) (at_drop_more (quoted x) bs i 0 h ∙ stands x (get_or bs i 0) c (drop (i + 1) bs) e) ∙ joined before c (quoted false (drop (i + 1) bs))
 
 pub quoted-escapes : (x : Bool) (bs : List ℕ) (i : ℕ) → i < length bs → mark x (get_or bs i 0) ≡ Escapes → quoted x (drop i bs) ≡ quoted true (drop (i + 1) bs)
 quoted-escapes x bs i h e = at_drop_more (quoted x) bs i 0 h ∙ escapes x (get_or bs i 0) (drop (i + 1) bs) e

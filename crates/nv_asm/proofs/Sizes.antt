@@ -1,7 +1,7 @@
 -- How many bytes a line can have at most.
 use Rattle.std.proofs.Common.{◌≡◌, ℕ, ◌+◌, ◌≤◌, Bool, true, false, if◌then◌else◌, List, [], ◌∷◌, length, map, take, Option, Some, None, option_map, IfSome, Result, Ok, Err, IfOk, Bor, ap, refl, arith, length-drop, length-take}
 use Rattle.std.specs.List.{slice_split, onto_first}
-use Rattle.nv_text.specs.Lines.{is_comma, is_name_byte, trim, operands, operands_of, behind, front, line_with, after_name, parted, line_of}
+use Rattle.nv_text.specs.Lines.{is_comma, is_name_byte, trim, operands, operands_of, prefix, rest_after, line_with, after_name, parted, line_of}
 use Rattle.nv_asm.specs.declared.strings.Mark.{Mark}
 use Rattle.nv_asm.specs.declared.strings.Mark.TheVariants.{Stands, Escapes, Ends, Wrong}
 use Rattle.nv_asm.specs.declared.strings.Where.TheVariants.{Outside}
@@ -79,7 +79,7 @@ operands-le rest = omega (arith, operands_of-le (trim rest), trim-le rest)
 line_with-le : (l : Option (List ℕ)) (text : List ℕ) → length (line_with l text).rest ≤ length text
 line_with-le l text = omega (arith, length-drop {A = ℕ})
 
-after_name-le : (text name behind : List ℕ) → length behind ≤ length text → length (after_name text name behind).rest ≤ length text
+after_name-le : (text name rest : List ℕ) → length rest ≤ length text → length (after_name text name rest).rest ≤ length text
 after_name-le text name [] h = line_with-le None text
 after_name-le text name (b ∷ bs) h = step _ where
   step : (x : Bool) → length (if x then line_with (Some name) (trim bs) else line_with None text).rest ≤ length text
@@ -88,7 +88,7 @@ after_name-le text name (b ∷ bs) h = step _ where
 
 line_of-le : (text : List ℕ) → length (line_of text).rest ≤ length text
 unfolding line_of parted
-line_of-le text = let t = trim text in let cut = after_name-le t (front is_name_byte t) (behind is_name_byte t) (omega (arith, length-drop {A = ℕ})) in omega (arith, cut, trim-le text)
+line_of-le text = let t = trim text in let cut = after_name-le t (prefix is_name_byte t) (rest_after is_name_byte t) (omega (arith, length-drop {A = ℕ})) in omega (arith, cut, trim-le text)
 
 pub line_parts-le : (line : List ℕ) → length (line_parts line).rest ≤ length line
 unfolding line_parts

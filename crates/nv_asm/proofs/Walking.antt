@@ -7,14 +7,14 @@ use Rattle.nv_asm.specs.Views.{texts}
 abbrev pub Gathers : {X A : Type 0} → (List X → List A) → (X → List A) → Type 0
 Gathers {X = X} g h = (x : X) (xs : List X) → g (x ∷ xs) ≡ h x ++ g xs
 
-pub rest-more : {X A : Type 0} (g : List X → List A) (h : X → List A) → Gathers g h → (front more : List A) (xs : List X) (i : ℕ) (d : X) → i < length xs
-    → more ≡ h (get_or xs i d) → (front ++ more) ++ g (drop (i + 1) xs) ≡ front ++ g (drop i xs)
-rest-more g h step front more xs i d inside e =
-    append_assoc front more (g (drop (i + 1) xs)) ∙ ap (λ m. front ++ (m ++ g (drop (i + 1) xs))) e
-    ∙ ap (λ r. front ++ r) (sym (at_drop_more g xs i d inside ∙ step (get_or xs i d) (drop (i + 1) xs)))
+pub rest-more : {X A : Type 0} (g : List X → List A) (h : X → List A) → Gathers g h → (before more : List A) (xs : List X) (i : ℕ) (d : X) → i < length xs
+    → more ≡ h (get_or xs i d) → (before ++ more) ++ g (drop (i + 1) xs) ≡ before ++ g (drop i xs)
+rest-more g h step before more xs i d inside e =
+    append_assoc before more (g (drop (i + 1) xs)) ∙ ap (λ m. before ++ (m ++ g (drop (i + 1) xs))) e
+    ∙ ap (λ r. before ++ r) (sym (at_drop_more g xs i d inside ∙ step (get_or xs i d) (drop (i + 1) xs)))
 
-pub rest-end : {X A : Type 0} (g : List X → List A) → g [] ≡ [] → (front : List A) (xs : List X) (i : ℕ) → length xs ≤ i → front ≡ front ++ g (drop i xs)
-rest-end g none front xs i past = sym (ap (λ r. front ++ r) (at_drop_all g xs i past ∙ none) ∙ append-nil front)
+pub rest-end : {X A : Type 0} (g : List X → List A) → g [] ≡ [] → (before : List A) (xs : List X) (i : ℕ) → length xs ≤ i → before ≡ before ++ g (drop i xs)
+rest-end g none before xs i past = sym (ap (λ r. before ++ r) (at_drop_all g xs i past ∙ none) ∙ append-nil before)
 
 abbrev pub Tests : {X : Type 0} → (List X → Bool) → (X → Bool) → Type 0
 Tests {X = X} g h = (x : X) (xs : List X) → g (x ∷ xs) ≡ (h x || g xs)

@@ -177,7 +177,7 @@ program w ps = record { entry = entry_of w text_base ps; ranges = text_range (se
 abbrev pub first_cause : Whole → List Placed → Option (ℕ × AsmCause)
 first_cause w ps = first_fault 0 (map (λ p. cause_of (laid w p)) ps)
 
--- a text without room for an instruction is a fault of line 1
+-- a text too short for an instruction is a fault of line 1
 abbrev pub meaning_by : Whole → List Placed → Option (ℕ × AsmCause) → Result Executable AsmFault
 meaning_by w ps (Some f) = Err (fault.Line (line_number f.0) f.1)
 meaning_by w ps None = if nat_lt w.text_len 4 then Err (fault.Line 1 cause.Range) else Ok (program w ps)

@@ -9,13 +9,13 @@ abbrev pub known : List (List ℕ × Label) → ℕ → Whole
 known names text_len = record { find = defined names; text_len = text_len }
 
 -- every place is small enough to count with
-pub record HasRoom (names : List (List ℕ × Label)) (text_len : ℕ) : Type 0 where
+pub record IsWithin (names : List (List ℕ × Label)) (text_len : ℕ) : Type 0 where
   pub text : text_len < 2 ^ 120
   pub places : (name : List ℕ) → IfSome (defined names name) (λ l. l.place.offset < 2 ^ 121)
 
--- a name's definition among those before, else among those behind
+-- a name's definition among those before, else among the rest
 abbrev pub found : List (List ℕ × Label) → List (List ℕ × Label) → List ℕ → Option Label
-found before behind name = option_or (defined before name) (defined behind name)
+found before rest name = option_or (defined before name) (defined rest name)
 
 -- the places of the names are below a bound
 abbrev pub IsBelow : ℕ → List (List ℕ × Label) → Type 0

@@ -31,7 +31,7 @@ decimal digits = if list_all is_ascii_digit digits && nat_lt 0 (length digits) t
 abbrev pub hexadecimal : List ℕ → Option ℕ
 hexadecimal digits = if list_all is_ascii_hexdigit digits && nat_lt 0 (length digits) then Some (digits_value 16 digits) else None
 
--- decimal digits, or hexadecimal ones behind 0x
+-- decimal digits, or hexadecimal ones after 0x
 abbrev pub magnitude : List ℕ → Option ℕ
 magnitude (a ∷ b ∷ digits) = if (a == 48) && (b == 120) then hexadecimal digits else decimal (a ∷ b ∷ digits)
 magnitude digits = decimal digits

@@ -60,7 +60,7 @@ begin (Words ws) n = next_multiple_of n 4
 begin (Instruction c) n = next_multiple_of n 4
 begin _ n = n
 
--- how far the text has come behind a statement
+-- how far the text has come after a statement
 abbrev pub past : Statement → Reached → Reached
 past Text r = record r { section = section.Text }
 past Data r = record r { section = section.Data }
@@ -92,7 +92,7 @@ placed_parts n before parts = record { line = n; label = parts.label; read = in_
 unfoldable pub placed_line : ℕ → Reached → List ℕ → Placed
 placed_line n before line = placed_parts n before (line_parts line)
 
--- lines behind n others
+-- lines after n others
 unfoldable pub placed : ℕ → Reached → List (List ℕ) → List Placed
 placed n before [] = []
 placed n before (line ∷ lines) = placed_line n before line ∷ placed (n + 1) (after (placed_line n before line)) lines
@@ -100,7 +100,7 @@ placed n before (line ∷ lines) = placed_line n before line ∷ placed (n + 1) 
 abbrev pub start : Reached
 start = record { section = section.Text; text_len = 0; data_len = 0 }
 
--- how far the text has come behind its last line
+-- how far the text has come after its last line
 unfoldable pub ended : Reached → List Placed → Reached
 ended before [] = before
 ended before (p ∷ ps) = ended (after p) ps

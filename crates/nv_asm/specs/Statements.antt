@@ -7,7 +7,7 @@ use Rattle.nv_isa.specs.declared.op.Op.{Op}
 use Rattle.nv_isa.specs.declared.op.Op.TheVariants as op
 use Rattle.nv_isa.specs.declared.op.Insn.{Insn}
 use Rattle.nv_isa.specs.Spelling.{encoded}
-use Rattle.nv_text.specs.Lines.{is_name, operands, front, behind}
+use Rattle.nv_text.specs.Lines.{is_name, operands, prefix, rest_after}
 use Rattle.nv_text.specs.Names.{defined}
 use Rattle.nv_asm.specs.declared.fault.AsmCause.{AsmCause}
 use Rattle.nv_asm.specs.declared.fault.AsmCause.TheVariants as cause
@@ -95,14 +95,14 @@ enclosed (b ∷ bs) = closed bs
 
 -- the number and the register of `imm(rs1)`
 abbrev pub base_register : List ℕ → Option ℕ
-base_register text = option_and_then register (enclosed (behind is_not_open text))
+base_register text = option_and_then register (enclosed (rest_after is_not_open text))
 
 abbrev pub displacement : List ℕ → Option (Option ℤ)
-displacement text = number_of_12_bits (front is_not_open text)
+displacement text = number_of_12_bits (prefix is_not_open text)
 
 -- the register of `(rs1)`
 abbrev pub sole_register : List ℕ → Option ℕ
-sole_register text = if length (front is_not_open text) == 0 then base_register text else None
+sole_register text = if length (prefix is_not_open text) == 0 then base_register text else None
 
 unfoldable pub registers_of : Op → List ℕ → List ℕ → List ℕ → Option Statement
 registers_of o a b c = do
@@ -296,6 +296,6 @@ abbrev pub begun : List ℕ → List ℕ → Result Statement AsmCause
 begun [] rest = Ok Blank
 begun (b ∷ bs) rest = stated (defined kinds (b ∷ bs)) rest
 
--- the statement of a first word and what stands behind it, or why it has none
+-- the statement of a first word and the rest after it, or why it has none
 unfoldable pub statement : List ℕ → List ℕ → Result Statement AsmCause
 statement word rest = begun word rest

@@ -5,7 +5,7 @@ use Rattle.nv_asm.specs.declared.strings.Mark.TheVariants.{Stands, Escapes, Ends
 use Rattle.nv_asm.specs.declared.strings.Where.{Where}
 use Rattle.nv_asm.specs.declared.strings.Where.TheVariants.{Outside, Inside, Escaped}
 
--- what a byte behind a backslash stands for
+-- what a byte after a backslash stands for
 abbrev pub escape : ℕ → Option ℕ
 escape b = if b == 110 then Some 10 else (if b == 116 then Some 9 else (if b == 48 then Some 0 else (if b == 92 then Some 92 else (if b == 34 then Some 34 else None))))
 
@@ -18,12 +18,12 @@ abbrev pub escaped_mark : Option ℕ → Mark
 escaped_mark (Some c) = Stands c
 escaped_mark None = Wrong
 
--- what a byte is, behind the opening quote or behind a backslash
+-- what a byte is, after the opening quote or after a backslash
 abbrev pub mark : Bool → ℕ → Mark
 mark false b = if b == 92 then Escapes else (if b == 34 then Ends else Stands b)
 mark true b = escaped_mark (escape b)
 
--- the bytes up to the closing quote, which must be the last byte; behind a backslash or not
+-- the bytes up to the closing quote, which must be the last byte; after a backslash or not
 unfoldable pub quoted : Bool → List ℕ → Option (List ℕ)
 quoted escaped [] = None
 quoted escaped (b ∷ bs) = elim (mark escaped b) [

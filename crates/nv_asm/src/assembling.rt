@@ -7,7 +7,7 @@ ghost use Rattle.nv_elf.specs.Written.{is_program, bytes_in};
 ghost use Rattle.nv_asm.specs.declared.place.Section.TheVariants as section;
 ghost use Rattle.nv_asm.specs.Places.{placed, placed_line, start};
 ghost use Rattle.nv_asm.specs.Assembled.{laid, laid_in, first_cause, section_bytes, entry_of, text_base, text_range, data_ranges, assembled};
-ghost use Rattle.nv_asm.specs.Known.{known, HasRoom};
+ghost use Rattle.nv_asm.specs.Known.{known, IsWithin};
 ghost use Rattle.nv_asm.specs.Programs.{program_view, fault_of, IsLaidText, AddsLine, IsEntryAt};
 
 use crate::fault::{AsmCause, AsmFault};
@@ -16,7 +16,7 @@ use crate::laying::{TEXT_BASE, data_base, entry_past, laid};
 use crate::place::{Label, Reached, Section};
 use crate::placed::placed_line;
 use nv_elf::{Program, Segment};
-use nv_text::{Names, line_number, split_line};
+use nv_text::{Lines, Names, line_number};
 use std::alloc::{AllocError, Global};
 
 // The sections' bytes, and the address to begin at.
@@ -40,7 +40,7 @@ impl Laid {
     }
 }
 
-// Adds the bytes of a line, and tells how far the text has come behind it; or the first cause that it is faulty.
+// Adds the bytes of a line, and tells how far the text has come after it; or the first cause that it is faulty.
 fn lay_line(
     alloc: Global,
     names: &Names<Label>,
@@ -50,7 +50,7 @@ fn lay_line(
     text: &[u8],
     out: &mut Laid,
 ) -> Result<Result<Reached, AsmCause>, AllocError>
-    requires room { HasRoom names.now text_len }
+    requires within { IsWithin names.now text_len }
     requires short { reached.text_len + reached.data_len ≤ 1048576 }
     ensures ok { IfOk result (λ found. IfOk found (λ after. AddsLine (known names.now text_len) (placed_line line reached text.now) reached out.old.text.items out.new.text.items out.old.data.items out.new.data.items out.old.entry out.new.entry after)) }
     ensures err { IfOk result (λ found. IfErr found (λ cause. laid (known names.now text_len) (placed_line line reached text.now) ≡ Err cause)) }
@@ -68,7 +68,7 @@ fn lay_line(
 
 // The second pass: the bytes of a text's lines, or its first fault.
 fn lay(alloc: Global, names: &Names<Label>, text_len: u128, text: &[u8]) -> Result<Laid, AsmFault>
-    requires { HasRoom names.now text_len }
+    requires { IsWithin names.now text_len }
     ensures laid { IfOk result (λ l. IsLaidText (known names.now text_len) (placed 0 start (lines text.now)) l.text.items l.data.items l.entry) }
     ensures fault { IfErr result (λ fault. fault ≢ AsmFault.Memory → fault_of (first_cause (known names.now text_len) (placed 0 start (lines text.now))) ≡ Some fault) }
 {
@@ -77,17 +77,12 @@ fn lay(alloc: Global, names: &Names<Label>, text_len: u128, text: &[u8]) -> Resu
         data: Vec::new(alloc),
         entry: u128::from(TEXT_BASE),
     };
-    let mut rest = text;
-    let mut line = 0usize;
     let mut reached = START;
-    while !rest.is_empty() {
-        let (first, behind) = split_line(rest);
-        reached = match lay_line(alloc, names, text_len, line, reached, first, &mut out)? {
+    for (line, content) in Lines::of(text) {
+        reached = match lay_line(alloc, names, text_len, line, reached, content, &mut out)? {
             Ok(after) => after,
             Err(cause) => return Err(AsmFault::Line(line_number(line), cause)),
         };
-        line += 1;
-        rest = behind;
     }
     Ok(out)
 }

@@ -61,7 +61,7 @@ pub enum Shape {
     Entry,
 }
 
-/// What stands behind the word that begins a statement.
+/// What stands after the word that begins a statement.
 #[derive(Clone, Copy, Debug, PartialEq, Eq)]
 pub enum Kind {
     Plain(Shape),
@@ -325,7 +325,7 @@ pub fn flags(order: Order) -> i32
     }
 }
 
-/// What stands behind this word, where it begins a statement.
+/// What stands after this word, where it begins a statement.
 #[tactic(auto, unfolding(crate::specs::Forms::kinds))]
 pub fn kind_of(word: &[u8]) -> Option<Kind>
     ensures value { result ≡ defined kinds word.now }

@@ -6,11 +6,11 @@ ghost use Rattle.nv_asm.specs.Places.{placed, start, marked};
 ghost use Rattle.nv_asm.specs.declared.place.Label.{Label};
 ghost use Rattle.nv_asm.specs.Lines.{placed_view, IsSmall};
 ghost use Rattle.nv_asm.specs.Assembled.{Whole, whole_of};
-ghost use Rattle.nv_asm.specs.Known.{HasRoom, found, IsBelow};
+ghost use Rattle.nv_asm.specs.Known.{IsWithin, found, IsBelow};
 
 use crate::place::{Label, Reached, Section};
 use crate::placed::{Placed, placed_line};
-use nv_text::{Names, split_line};
+use nv_text::{Lines, Names};
 use std::alloc::{AllocError, Global};
 
 /// Before the first line.
@@ -23,7 +23,7 @@ pub const START: Reached = Reached {
 // Defines the line's label, if it has one that isn't defined yet.
 fn define<'a>(names: &mut Names<'a, Label>, placed: &Placed<'a>) -> Result<(), AllocError>
     requires { IsSmall placed.now.before }
-    ensures known { OnOk result ((behind : List (List ℕ × Label)) (name : List ℕ) → found names.old (defining (placed_view placed.now).label (marked (placed_view placed.now)).1 behind) name ≡ found names.new behind name) }
+    ensures known { OnOk result ((rest : List (List ℕ × Label)) (name : List ℕ) → found names.old (defining (placed_view placed.now).label (marked (placed_view placed.now)).1 rest) name ≡ found names.new rest name) }
     ensures below { OnOk result (IsBelow (2 ^ 121) names.old → IsBelow (2 ^ 121) names.new) }
 {
     let Some(name) = placed.label else {
@@ -41,19 +41,14 @@ fn define<'a>(names: &mut Names<'a, Label>, placed: &Placed<'a>) -> Result<(), A
 pub fn labels<'a>(alloc: Global, text: &'a [u8]) -> Result<(Names<'a, Label>, u128), AllocError>
     ensures names { IfOk result (λ found. (name : List ℕ) → defined found.0 name ≡ (whole_of (placed 0 start (lines text.now))).find name) }
     ensures text_len { IfOk result (λ found. found.1 ≡ (whole_of (placed 0 start (lines text.now))).text_len) }
-    ensures room { IfOk result (λ found. HasRoom found.0 found.1) }
+    ensures within { IfOk result (λ found. IsWithin found.0 found.1) }
 {
     let mut names = Names::new(alloc);
-    let mut rest = text;
-    let mut line = 0usize;
     let mut reached = START;
-    while !rest.is_empty() {
-        let (first, behind) = split_line(rest);
-        let placed = placed_line(alloc, line, reached, first)?;
+    for (line, content) in Lines::of(text) {
+        let placed = placed_line(alloc, line, reached, content)?;
         define(&mut names, &placed)?;
         reached = placed.after();
-        line += 1;
-        rest = behind;
     }
     Ok((names, reached.text_len))
 }

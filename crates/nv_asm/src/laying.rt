@@ -10,7 +10,7 @@ ghost use Rattle.nv_asm.specs.Views.{view, code_view, word_view, words_view, tex
 ghost use Rattle.nv_asm.specs.Places.{stated};
 ghost use Rattle.nv_asm.specs.Lines.{placed_view, laid_view, IsSmall};
 ghost use Rattle.nv_asm.specs.Assembled.{data_base, address, address_of, is_undefined, is_entry, is_entry_place, word_lacks, code_lacks, lacks, distance, word_value, code_words, le_words, content, is_twice, is_long, padding, laid_by, laid, entry_past};
-ghost use Rattle.nv_asm.specs.Known.{known, HasRoom};
+ghost use Rattle.nv_asm.specs.Known.{known, IsWithin};
 
 use crate::code::{Branch, Code, Insns, Statement, Word};
 use crate::fault::AsmCause;
@@ -53,7 +53,7 @@ fn address(text_len: u128, place: Place) -> u128
 // The address of a label that is defined.
 #[tactic(auto, unfolding(crate::specs::Assembled::address_of))]
 fn address_of(names: &Names<Label>, text_len: u128, name: &[u8]) -> u128
-    requires { HasRoom names.now text_len }
+    requires { IsWithin names.now text_len }
     ensures value { result ≡ address_of (known names.now text_len) name.now }
     ensures small { result < 2 ^ 122 }
 {
@@ -80,7 +80,7 @@ fn is_entry_place(text_len: u128, place: Place) -> bool
 }
 
 fn is_entry(names: &Names<Label>, text_len: u128, name: &[u8]) -> bool
-    requires { HasRoom names.now text_len }
+    requires { IsWithin names.now text_len }
     ensures { result ≡ is_entry text_len (defined names.now name.now) }
 {
     match names.find(name) {
@@ -122,7 +122,7 @@ fn code_lacks(names: &Names<Label>, text_len: u128, code: Code<'_>) -> bool
 // Whether some label isn't defined, or isn't where an entry may be.
 #[tactic(auto, unfolding(crate::specs::Assembled::lacks))]
 fn lacks(names: &Names<Label>, text_len: u128, statement: &Statement<'_>) -> bool
-    requires { HasRoom names.now text_len }
+    requires { IsWithin names.now text_len }
     ensures { result ≡ lacks (known names.now text_len) (view statement.now) }
 {
     match statement {
@@ -186,7 +186,7 @@ fn jump_word(rd: Register, imm: i32) -> u32
 
 // The words of instructions that begin at an address, where distances are in their range.
 fn code_words(names: &Names<Label>, text_len: u128, at: u128, code: Code<'_>) -> Option<Insns>
-    requires room { HasRoom names.now text_len }
+    requires within { IsWithin names.now text_len }
     requires at { at < 2 ^ 122 }
     ensures { option_map words_view result ≡ code_words (known names.now text_len) at (code_view code.entry) }
 {
@@ -228,7 +228,7 @@ fn insns_bytes(alloc: Global, insns: Insns) -> Result<Vec<u8>, AllocError>
 }
 
 fn word_value(names: &Names<Label>, text_len: u128, word: Word<'_>) -> u32
-    requires { HasRoom names.now text_len }
+    requires { IsWithin names.now text_len }
     ensures { result ≡ word_value (known names.now text_len) (word_view word.entry) }
 {
     match word {
@@ -243,7 +243,7 @@ fn words_bytes(
     text_len: u128,
     operands: &[&[u8]],
 ) -> Result<Vec<u8>, AllocError>
-    requires { HasRoom names.now text_len }
+    requires { IsWithin names.now text_len }
     ensures { IfOk result (λ bytes. bytes.items ≡ le_words (map (word_value (known names.now text_len)) (map word_of (texts operands.now)))) }
 {
     let mut bytes = Vec::new(alloc);
@@ -268,7 +268,7 @@ fn content(
     at: u128,
     statement: &Statement<'_>,
 ) -> Result<Option<Vec<u8>>, AllocError>
-    requires room { HasRoom names.now text_len }
+    requires within { IsWithin names.now text_len }
     requires at { at < 2 ^ 122 }
     ensures { IfOk result (λ found. option_map (λ bytes. bytes.items) found ≡ content (known names.now text_len) at (view statement.now)) }
 {
@@ -322,7 +322,7 @@ fn laid_statement(
     placed: &Placed<'_>,
     statement: &Statement<'_>,
 ) -> Result<Result<Vec<u8>, AsmCause>, AllocError>
-    requires room { HasRoom names.now text_len }
+    requires within { IsWithin names.now text_len }
     requires short { placed.now.before.text_len + placed.now.before.data_len ≤ 1048576 }
     ensures { IfOk result (λ found. laid_view found ≡ laid_by (known names.now text_len) (placed_view placed.now) (Ok (view statement.now))) }
 {
@@ -349,7 +349,7 @@ pub fn laid(
     text_len: u128,
     placed: &Placed<'_>,
 ) -> Result<Result<Vec<u8>, AsmCause>, AllocError>
-    requires room { HasRoom names.now text_len }
+    requires within { IsWithin names.now text_len }
     requires short { placed.now.before.text_len + placed.now.before.data_len ≤ 1048576 }
     ensures { IfOk result (λ found. laid_view found ≡ laid (known names.now text_len) (placed_view placed.now)) }
 {
@@ -364,7 +364,7 @@ pub fn laid(
 
 /// The entry after a line, with the one before it.
 pub fn entry_past(names: &Names<Label>, text_len: u128, entry: u128, placed: &Placed<'_>) -> u128
-    requires { HasRoom names.now text_len }
+    requires { IsWithin names.now text_len }
     ensures { result ≡ entry_past (known names.now text_len) entry (stated (placed_view placed.now)) }
 {
     match &placed.read {

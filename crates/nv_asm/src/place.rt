@@ -7,7 +7,7 @@ pub enum Section {
     Data,
 }
 
-/// A place in a section, in bytes from its front.
+/// A place in a section, in bytes from its beginning.
 #[derive(Clone, Copy, Debug, PartialEq, Eq)]
 pub struct Place {
     pub section: Section,

@@ -160,7 +160,7 @@ impl<'a> Placed<'a> {
         }
     }
 
-    /// How far the text has come behind the line.
+    /// How far the text has come after the line.
     pub fn after(&self) -> Reached
         requires { IsSmall self.now.before }
         ensures value { result ≡ after (placed_view self.now) }

@@ -111,7 +111,7 @@ fn enclosed(text: &[u8]) -> Option<&[u8]>
 {
     match text {
         [] => None,
-        [_, behind @ ..] => closed(behind),
+        [_, rest @ ..] => closed(rest),
     }
 }
 
@@ -621,7 +621,7 @@ fn read<'a>(alloc: Global, kind: Kind, rest: &'a [u8]) -> Result<Option<Statemen
     }
 }
 
-/// The statement of a first word and what stands behind it, or why it has none.
+/// The statement of a first word and the rest after it, or why it has none.
 #[tactic(auto, unfolding(crate::specs::Statements::statement))]
 pub fn statement_of<'a>(
     alloc: Global,

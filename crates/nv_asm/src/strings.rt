@@ -12,7 +12,7 @@ pub enum Where {
     Outside,
     /// Inside quotes.
     Inside,
-    /// Inside quotes, behind a backslash.
+    /// Inside quotes, after a backslash.
     Escaped,
 }
 
@@ -63,7 +63,7 @@ pub fn comment_place(line: &[u8]) -> usize
     line.len()
 }
 
-// What a byte behind a backslash stands for.
+// What a byte after a backslash stands for.
 fn escape(byte: u8) -> Option<u8>
     ensures { result ≡ escape byte }
 {
@@ -93,7 +93,7 @@ fn mark_of(escaped: bool, byte: u8) -> Mark
     }
 }
 
-// The bytes behind an opening quote, up to the closing one at the text's end.
+// The bytes after an opening quote, up to the closing one at the text's end.
 fn quoted(alloc: Global, text: &[u8]) -> Result<Option<Vec<u8>>, AllocError>
     ensures { IfOk result (λ found. option_map (λ bytes. bytes.items) found ≡ quoted false text.now) }
 {
@@ -123,7 +123,7 @@ pub fn string(alloc: Global, text: &[u8]) -> Result<Option<Vec<u8>>, AllocError>
     ensures { IfOk result (λ found. option_map (λ bytes. bytes.items) found ≡ string text.now) }
 {
     match text {
-        [b'"', behind @ ..] => quoted(alloc, behind),
+        [b'"', rest @ ..] => quoted(alloc, rest),
         _ => Ok(None),
     }
 }

@@ -336,8 +336,8 @@ fn accepted(rt: HostRuntime) {
 }
 
 // A text of so many repetitions of a part after a prefix.
-fn repeated(alloc: Global, front: &str, part: &str, count: u32) -> Result<String, Fail> {
-    let mut text = String::from_str(alloc, front)?;
+fn repeated(alloc: Global, prefix: &str, part: &str, count: u32) -> Result<String, Fail> {
+    let mut text = String::from_str(alloc, prefix)?;
     for _ in 0..count {
         text.push_str(part)?;
     }

@@ -12,7 +12,7 @@ pub or_later-none : (a b : Option FilterFault) → or_later a b ≡ None → (a 
 or_later-none None b h = (refl, h)
 or_later-none (Some f) b h = cc
 
--- the first fault from a place on, at that place and behind it
+-- the first fault from a place on, at that place and after it
 pub ops_fault-drop : (n i : ℕ) (ops : List Op) (op : Op) → i < length ops → ops_fault n i (drop i ops) ≡ or_later (op_fault n i (get_or ops i op)) (ops_fault n (i + 1) (drop (i + 1) ops))
 unfolding ops_fault
 ops_fault-drop n i ops op h = at_drop_more (λ l. ops_fault n i l) ops i op h

@@ -10,7 +10,7 @@ use Rattle.nv_text.specs.Numbers.{decimal_of}
 use Rattle.nv_bpf.specs.declared.op.Op.{Op}
 use Rattle.nv_bpf.specs.Verified.{list_fault, ops_or}
 use Rattle.nv_bpf.proofs.FilterLaws.{list_fault-none}
-use Rattle.nv_bpf.specs.Texts.{op_of_fields, op_of, ops_of, put_first, with_line, count_of, ops_behind, ops_of_lines, ops_of_text, filter_with, filter_of, op_text, text_of, FitsFields}
+use Rattle.nv_bpf.specs.Texts.{op_of_fields, op_of, ops_of, put_first, with_line, count_of, ops_after, ops_of_lines, ops_of_text, filter_with, filter_of, op_text, text_of, FitsFields}
 use Rattle.nv_text.proofs.Laws.{lines-line}
 use Rattle.nv_bpf.proofs.Digits.{decimal-lacks, number_of-decimal, field-decimal}
 
@@ -85,8 +85,8 @@ ops_of_text-text : (most : ℕ) (ops : List Op) → 0 < length ops → length op
 unfolding ops_of_text
 ops_of_text-text most ops some few small h =
     ap (ops_of_lines most) (lines-text ops (omega arith) h)
-    ∙ ap (λ r. ops_behind (count_of most r) (map op_line ops)) (number_of-decimal (length ops) (omega arith))
-    ∙ ap (λ r. ops_behind r (map op_line ops)) (count_of-length most (length ops) some few)
+    ∙ ap (λ r. ops_after (count_of most r) (map op_line ops)) (number_of-decimal (length ops) (omega arith))
+    ∙ ap (λ r. ops_after r (map op_line ops)) (count_of-length most (length ops) some few)
     ∙ ops_of-lines 2 ops h
 
 pub filter_of-text : (most : ℕ) (ops : List Op) → list_fault most ops ≡ None → most < 2 ^ 32 → All FitsFields ops → filter_of most (text_of ops) ≡ Ok ops

@@ -47,13 +47,13 @@ abbrev pub count_of : ℕ → Option ℕ → Result ℕ FilterFault
 count_of most None = Err (fault.Line 1)
 count_of most (Some count) = if count == 0 then Err fault.Empty else (if nat_lt most count then Err fault.TooLong else Ok count)
 
-abbrev pub ops_behind : Result ℕ FilterFault → List (List ℕ) → Result (List Op) FilterFault
-ops_behind (Ok count) ls = ops_of 2 count ls
-ops_behind (Err f) ls = Err f
+abbrev pub ops_after : Result ℕ FilterFault → List (List ℕ) → Result (List Op) FilterFault
+ops_after (Ok count) ls = ops_of 2 count ls
+ops_after (Err f) ls = Err f
 
 abbrev pub ops_of_lines : ℕ → List (List ℕ) → Result (List Op) FilterFault
 ops_of_lines most [] = Err (fault.Line 1)
-ops_of_lines most (l ∷ ls) = ops_behind (count_of most (number_of l)) ls
+ops_of_lines most (l ∷ ls) = ops_after (count_of most (number_of l)) ls
 
 -- the instructions of a text, which may have so many, or the first fault of its lines
 unfoldable pub ops_of_text : ℕ → List ℕ → Result (List Op) FilterFault

@@ -5,7 +5,7 @@ ghost use Rattle.nv_text.specs.Lines.{lines};
 ghost use Rattle.nv_text.specs.Numbers.{number_of};
 
 use crate::{Filter, FilterFault, MOST_OPS, Op, verify};
-use nv_text::{number, split_field, split_line};
+use nv_text::{Lines, line_number, number, split_field};
 use std::alloc::Global;
 
 // A number that is at most this.
@@ -55,28 +55,25 @@ fn read_count(line: &[u8]) -> Result<u32, FilterFault>
 }
 
 // So many instructions, one a line, from line 2 on.
-fn read_ops(alloc: Global, count: u32, text: &[u8]) -> Result<Vec<Op>, FilterFault>
-    requires { count < 2 ^ 31 }
-    ensures ops { IfOk result (λ ops. ops_of 2 count (lines text.now) ≡ Ok ops.items) }
-    ensures fault { IfErr result (λ fault. fault ≢ FilterFault.Memory → ops_of 2 count (lines text.now) ≡ Err fault) }
+fn read_ops(alloc: Global, count: u32, mut lines: Lines<'_>) -> Result<Vec<Op>, FilterFault>
+    requires few { count < 2 ^ 31 }
+    requires second { lines.before ≡ 1 }
+    ensures ops { IfOk result (λ ops. ops_of 2 count lines.entry.left ≡ Ok ops.items) }
+    ensures fault { IfErr result (λ fault. fault ≢ FilterFault.Memory → ops_of 2 count lines.entry.left ≡ Err fault) }
 {
     let mut ops = Vec::new(alloc);
-    let mut rest = text;
-    for place in 0..count {
-        if rest.is_empty() {
+    for _ in 0..count {
+        let Some((before, line)) = lines.next() else {
             return Err(FilterFault::Count);
-        }
-        let (line, behind) = split_line(rest);
+        };
         let Some(op) = read_op(line) else {
-            return Err(FilterFault::Line(place + 2));
+            return Err(FilterFault::Line(line_number(before)));
         };
         ops.push(op)?;
-        rest = behind;
     }
-    if rest.is_empty() {
-        Ok(ops)
-    } else {
-        Err(FilterFault::Count)
+    match lines.next() {
+        None => Ok(ops),
+        Some(_) => Err(FilterFault::Count),
     }
 }
 
@@ -84,12 +81,12 @@ fn read_text(alloc: Global, text: &[u8]) -> Result<Vec<Op>, FilterFault>
     ensures ops { IfOk result (λ ops. ops_of_text MOST_OPS text.now ≡ Ok ops.items) }
     ensures fault { IfErr result (λ fault. fault ≢ FilterFault.Memory → ops_of_text MOST_OPS text.now ≡ Err fault) }
 {
-    if text.is_empty() {
+    let mut lines = Lines::of(text);
+    let Some((_, first)) = lines.next() else {
         return Err(FilterFault::Line(1));
-    }
-    let (line, rest) = split_line(text);
-    let count = read_count(line)?;
-    let ops = read_ops(alloc, count, rest)?;
+    };
+    let count = read_count(first)?;
+    let ops = read_ops(alloc, count, lines)?;
     Ok(ops)
 }
 

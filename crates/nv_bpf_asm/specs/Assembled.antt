@@ -3,7 +3,7 @@ use Rattle.std.specs.Prelude.{ℕ, Bool, false, not, ◌&&◌, List, [], ◌∷�
 use Rattle.nv_bpf.specs.declared.op.Op.{Op}
 use Rattle.nv_bpf.specs.declared.op.FilterFault.{FilterFault}
 use Rattle.nv_bpf.specs.Verified.{verified}
-use Rattle.nv_text.specs.Lines.{Parts, lines, line_number, line_of, front}
+use Rattle.nv_text.specs.Lines.{Parts, lines, line_number, line_of, prefix}
 use Rattle.nv_text.specs.Names.{defined, defining}
 use Rattle.nv_bpf_asm.specs.declared.label.Label.{Label}
 use Rattle.nv_bpf_asm.specs.declared.fault.RuleCause.{RuleCause}
@@ -17,7 +17,7 @@ is_not_comment b = not (b == 59)
 
 -- a line without its comment, which `;` begins
 unfoldable pub line_parts : List ℕ → Parts
-line_parts line = line_of (front is_not_comment line)
+line_parts line = line_of (prefix is_not_comment line)
 
 -- how many instructions a line has; a faulty one counts too
 abbrev pub word_count : List ℕ → ℕ
@@ -79,18 +79,18 @@ op_of find place (Plain code k) = Ok (record { code = code; jt = 0; jf = 0; k = 
 op_of find place (Always target) = jump_op place (find target)
 op_of find place (Choice code k holds fails) = branch_op place code k (find holds) (find fails)
 
-abbrev pub op_behind : Find → ℕ → Result Statement RuleCause → Result Op RuleCause
-op_behind find place (Ok s) = op_of find place s
-op_behind find place (Err c) = Err c
+abbrev pub op_after : Find → ℕ → Result Statement RuleCause → Result Op RuleCause
+op_after find place (Ok s) = op_of find place s
+op_after find place (Err c) = Err c
 
 abbrev pub some_op : Result Op RuleCause → Result (Option Op) RuleCause
 some_op (Ok op) = Ok (Some op)
 some_op (Err c) = Err c
 
--- the instruction of a word and what stands behind it, if there is a word
+-- the instruction of a word and the rest after it, if there is a word
 abbrev pub op_of_word : Find → ℕ → List ℕ → List ℕ → Result (Option Op) RuleCause
 op_of_word find place [] rest = Ok None
-op_of_word find place (b ∷ bs) rest = some_op (op_behind find place (statement (b ∷ bs) rest))
+op_of_word find place (b ∷ bs) rest = some_op (op_after find place (statement (b ∷ bs) rest))
 
 -- the instruction of a line, or its first cause
 abbrev pub op_of_parts : Find → ℕ → ℕ → Parts → Result (Option Op) RuleCause
@@ -110,7 +110,7 @@ with_line n (Err c) later = Err (fault.Line (line_number n) c)
 with_line n (Ok None) later = later
 with_line n (Ok (Some op)) later = put_first op later
 
--- the instructions of the lines behind n lines and so many instructions, or the first fault
+-- the instructions of the lines after n lines and so many instructions, or the first fault
 unfoldable pub ops_of : Find → ℕ → ℕ → List (List ℕ) → Result (List Op) RuleFault
 ops_of find n place [] = Ok []
 ops_of find n place (line ∷ rest) = with_line n (op_of_line find n place line) (ops_of find (n + 1) (place + count line) rest)

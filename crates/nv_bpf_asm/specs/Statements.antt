@@ -28,9 +28,9 @@ forms =
     (codes "ja", Jump) ∷ (codes "jeq", Branch 0x15 0x1d) ∷ (codes "jgt", Branch 0x25 0x2d) ∷ (codes "jge", Branch 0x35 0x3d) ∷ (codes "jset", Branch 0x45 0x4d) ∷
     (codes "ret", Return) ∷ []
 
--- what stands behind a front
-abbrev pub behind : List ℕ → List ℕ → Option (List ℕ)
-behind front text = if starts_with nat_eq text front then Some (drop (length front) text) else None
+-- the rest of a text after a prefix
+abbrev pub after_prefix : List ℕ → List ℕ → Option (List ℕ)
+after_prefix prefix text = if starts_with nat_eq text prefix then Some (drop (length prefix) text) else None
 
 -- what stands before a closing bracket
 abbrev pub closed : List ℕ → Option (List ℕ)
@@ -38,13 +38,13 @@ closed text = if slice_index text (length text - 1) == 93 then Some (take (lengt
 
 -- the k of `#k`
 unfoldable pub constant : List ℕ → Option ℕ
-constant text = option_and_then number_of (behind (codes "#") text)
+constant text = option_and_then number_of (after_prefix (codes "#") text)
 
--- the k between a front and a closing bracket
+-- the k between a prefix and a closing bracket
 unfoldable pub between : List ℕ → List ℕ → Option ℕ
-between front text = option_and_then number_of (option_and_then closed (behind front text))
+between prefix text = option_and_then number_of (option_and_then closed (after_prefix prefix text))
 
--- the offset of a word of the event's call, which begins 64 bytes behind that of the follower's
+-- the offset of a word of the event's call, which begins 64 bytes after that of the follower's
 abbrev pub of_event : ℕ → Option ℕ
 of_event k = if nat_le k 4294967231 then Some (k + 64) else None
 
@@ -92,6 +92,6 @@ abbrev pub stated : Option Form → List ℕ → Result Statement RuleCause
 stated None rest = Err Word
 stated (Some form) rest = ok_or (formed form (operands rest)) Operand
 
--- the statement of a word and what stands behind it
+-- the statement of a word and the rest after it
 unfoldable pub statement : List ℕ → List ℕ → Result Statement RuleCause
 statement word rest = stated (defined forms word) rest

@@ -11,7 +11,7 @@ use crate::labels::{labels, line_parts, word_count};
 use crate::statements::statement_of;
 use crate::targets::op_of;
 use nv_bpf::{Filter, MOST_OPS, Op, verify};
-use nv_text::{Line, Names, line_number, split_line};
+use nv_text::{Line, Lines, Names, line_number};
 use std::alloc::{AllocError, Global};
 
 // Whether the label is defined on an earlier line.
@@ -27,7 +27,7 @@ fn is_twice(names: &Names<Label>, line: usize, label: Option<&[u8]>) -> bool
     }
 }
 
-// The instruction of a word and what stands behind it, if there is a word.
+// The instruction of a word and the rest after it, if there is a word.
 fn op_of_word(
     alloc: Global,
     names: &Names<Label>,
@@ -81,20 +81,15 @@ fn ops_of(alloc: Global, names: &Names<Label>, text: &[u8]) -> Result<Vec<Op>, R
     ensures fault { IfErr result (λ fault. fault ≢ RuleFault.Memory → ops_of (defined names.now) 0 0 (lines text.now) ≡ Err fault) }
 {
     let mut ops = Vec::new(alloc);
-    let mut rest = text;
-    let mut line = 0usize;
     let mut place = 0usize;
-    while !rest.is_empty() {
-        let (first, behind) = split_line(rest);
-        let parts = line_parts(first);
+    for (line, content) in Lines::of(text) {
+        let parts = line_parts(content);
         let op = match op_of_parts(alloc, names, line, place, parts)? {
             Ok(op) => op,
             Err(cause) => return Err(RuleFault::Line(line_number(line), cause)),
         };
         push_op(&mut ops, op)?;
         place += word_count(parts.word);
-        line += 1;
-        rest = behind;
     }
     Ok(ops)
 }

@@ -18,7 +18,7 @@ pub enum RuleCause {
     Operand,
     /// A label that isn't defined.
     Label,
-    /// A target that isn't after the jump, or is too far behind it.
+    /// A target that isn't after the jump, or is too far after it.
     Far,
 }
 

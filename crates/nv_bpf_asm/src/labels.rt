@@ -6,7 +6,7 @@ ghost use Rattle.nv_text.specs.Parts.{parts_of};
 ghost use Rattle.nv_bpf_asm.specs.Assembled.{line_parts, word_count, labels};
 
 use crate::label::Label;
-use nv_text::{Line, Names, cut, line_of, split_line};
+use nv_text::{Line, Lines, Names, cut, line_of};
 use std::alloc::{AllocError, Global};
 
 /// The parts of a line, without its comment.
@@ -30,18 +30,13 @@ pub fn labels<'a>(alloc: Global, text: &'a [u8]) -> Result<Names<'a, Label>, All
     ensures { IfOk result (λ names. (name : List ℕ) → defined names name ≡ defined (labels 0 0 (lines text.now)) name) }
 {
     let mut names = Names::new(alloc);
-    let mut rest = text;
-    let mut line = 0usize;
     let mut place = 0usize;
-    while !rest.is_empty() {
-        let (first, behind) = split_line(rest);
-        let parts = line_parts(first);
+    for (line, content) in Lines::of(text) {
+        let parts = line_parts(content);
         if let Some(name) = parts.label {
             names.define(name, Label { line, place })?;
         }
         place += word_count(parts.word);
-        line += 1;
-        rest = behind;
     }
     Ok(names)
 }

@@ -1,7 +1,7 @@
 // The statements of rule texts.
 ghost use Rattle.std.specs.Prelude.{◌≡◌, ℕ, [], ◌∷◌, map, length, option_map, option_and_then, codes, IfOk};
 ghost use Rattle.std.specs.Option.{option_or};
-ghost use Rattle.nv_bpf_asm.specs.Statements.{behind, closed, constant, between, of_event, plain, sum_of, return_of, load_of, load_index_of, jump_of, choice_of, branch_of, formed, statement};
+ghost use Rattle.nv_bpf_asm.specs.Statements.{after_prefix, closed, constant, between, of_event, plain, sum_of, return_of, load_of, load_index_of, jump_of, choice_of, branch_of, formed, statement};
 ghost use Rattle.nv_bpf_asm.specs.Views.{view, result_view};
 
 use crate::fault::RuleCause;
@@ -20,12 +20,12 @@ pub enum Statement<'a> {
     Choice(u16, u32, &'a [u8], &'a [u8]),
 }
 
-// What stands behind a front.
-fn behind<'a>(front: &[u8], text: &'a [u8]) -> Option<&'a [u8]>
-    ensures { option_map (λ rest. rest.now) result ≡ behind front.now text.now }
+// The rest of a text after a prefix.
+fn after_prefix<'a>(prefix: &[u8], text: &'a [u8]) -> Option<&'a [u8]>
+    ensures { option_map (λ rest. rest.now) result ≡ after_prefix prefix.now text.now }
 {
-    if text.starts_with(front) {
-        Some(&text[front.len()..])
+    if text.starts_with(prefix) {
+        Some(&text[prefix.len()..])
     } else {
         None
     }
@@ -46,15 +46,15 @@ fn closed(text: &[u8]) -> Option<&[u8]>
 fn constant(text: &[u8]) -> Option<u32>
     ensures { result ≡ constant text.now }
 {
-    number(behind(b"#", text)?)
+    number(after_prefix(b"#", text)?)
 }
 
-// The k between a front and a closing bracket.
+// The k between a prefix and a closing bracket.
 #[tactic(auto, unfolding(crate::specs::Statements::between))]
-fn between(front: &[u8], text: &[u8]) -> Option<u32>
-    ensures { result ≡ between front.now text.now }
+fn between(prefix: &[u8], text: &[u8]) -> Option<u32>
+    ensures { result ≡ between prefix.now text.now }
 {
-    number(closed(behind(front, text)?)?)
+    number(closed(after_prefix(prefix, text)?)?)
 }
 
 fn of_event(k: u32) -> Option<u32>
@@ -206,7 +206,7 @@ fn formed<'a>(form: Form, operands: &[&'a [u8]]) -> Option<Statement<'a>>
     }
 }
 
-/// The statement of a word and what stands behind it.
+/// The statement of a word and the rest after it.
 #[tactic(auto, unfolding(crate::specs::Statements::statement))]
 pub fn statement_of<'a>(
     alloc: Global,

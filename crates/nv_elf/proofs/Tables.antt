@@ -21,13 +21,13 @@ abbrev pub header_for : ℕ → Range → ProgramHeader
 header_for offset r = record { kind = 1; offset = offset; address = r.address; file_size = length r.bytes; memory_size = r.size; flags = flags_of r }
 
 -- the place after the bytes of a range
-abbrev pub behind : ℕ → Range → ℕ
-behind place r = place + padding place + length r.bytes
+abbrev pub after : ℕ → Range → ℕ
+after place r = place + padding place + length r.bytes
 
 -- the program headers of ranges whose bytes stand from a place on
 abbrev pub headers_for : ℕ → List Range → List ProgramHeader
 headers_for place [] = []
-headers_for place (r ∷ ranges) = header_for (place + padding place) r ∷ headers_for (behind place r) ranges
+headers_for place (r ∷ ranges) = header_for (place + padding place) r ∷ headers_for (after place r) ranges
 
 -- what a sound range keeps
 pub sound-size : (r : Range) → is_sound r ≡ true → 0 < r.size
@@ -45,15 +45,15 @@ padding-lt place = mod-lt (4 - place % 4) (omega arith)
 -- the end is no place before the beginning
 pub end-above : (place : ℕ) (ranges : List Range) → place ≤ end_from place ranges
 end-above place [] = omega arith
-end-above place (r ∷ ranges) = let next : end_from place (r ∷ ranges) ≡ end_from (behind place r) ranges = refl in omega (arith, end-above (behind place r) ranges)
+end-above place (r ∷ ranges) = let next : end_from place (r ∷ ranges) ≡ end_from (after place r) ranges = refl in omega (arith, end-above (after place r) ranges)
 
 -- the end is after the bytes and at most three bytes of padding for each range
 pub end-below : (place : ℕ) (ranges : List Range) → end_from place ranges ≤ place + bytes_in ranges + 3 * length ranges
 end-below place [] = omega arith
 end-below place (r ∷ ranges) =
-    let next : end_from place (r ∷ ranges) ≡ end_from (behind place r) ranges = refl in
+    let next : end_from place (r ∷ ranges) ≡ end_from (after place r) ranges = refl in
     let all : bytes_in (r ∷ ranges) ≡ length r.bytes + bytes_in ranges = sum_by-cons (λ x. length x.bytes) r ranges in
-    omega (arith, end-below (behind place r) ranges, padding-lt place)
+    omega (arith, end-below (after place r) ranges, padding-lt place)
 
 -- the rights stand in the flags
 rights : (read write execute : Bool) → let flags : ℕ = (if read then 4 else 0) + (if write then 2 else 0) + (if execute then 1 else 0) in
@@ -97,16 +97,16 @@ unfolding program_header
 length-program_header offset r = refl
 
 -- a program header reads back after other bytes
-header-read : (front rest : List ℕ) (offset : ℕ) (r : Range) → offset < 2 ^ 32 → is_sound r ≡ true →
-    header_at (front ++ (program_header offset r ++ rest)) (length front) ≡ header_for offset r
+header-read : (before rest : List ℕ) (offset : ℕ) (r : Range) → offset < 2 ^ 32 → is_sound r ≡ true →
+    header_at (before ++ (program_header offset r ++ rest)) (length before) ≡ header_for offset r
 unfolding header_at
-header-read front rest offset r fits sound =
+header-read before rest offset r fits sound =
     let bytes = sound-bytes r sound in
     let end = sound-end r sound in
-    let at : (place : ℕ) → field_at 4 (front ++ (program_header offset r ++ rest)) (length front + place) ≡ field_at 4 (program_header offset r ++ rest) place =
-    λ place. field_at-append 4 front (program_header offset r ++ rest) place in
-    let first : field_at 4 (front ++ (program_header offset r ++ rest)) (length front) ≡ 1 =
-    ap (field_at 4 (front ++ (program_header offset r ++ rest))) (omega arith) ∙ at 0 ∙ kind-first offset r rest in
+    let at : (place : ℕ) → field_at 4 (before ++ (program_header offset r ++ rest)) (length before + place) ≡ field_at 4 (program_header offset r ++ rest) place =
+    λ place. field_at-append 4 before (program_header offset r ++ rest) place in
+    let first : field_at 4 (before ++ (program_header offset r ++ rest)) (length before) ≡ 1 =
+    ap (field_at 4 (before ++ (program_header offset r ++ rest))) (omega arith) ∙ at 0 ∙ kind-first offset r rest in
     rw (
       first,
       at 4 ∙ offset-first offset r rest (omega arith),
@@ -117,56 +117,56 @@ header-read front rest offset r fits sound =
     ) refl
 
 -- the table of program headers reads back
-pub headers-read : (front rest : List ℕ) (place : ℕ) (ranges : List Range) → end_from place ranges < 2 ^ 32 → list_all is_sound ranges ≡ true →
-    headers_from (front ++ (table_from place ranges ++ rest)) (length front) (length ranges) ≡ headers_for place ranges
-headers-read front rest place [] fits sound = refl
-headers-read front rest place (r ∷ ranges) fits sound =
+pub headers-read : (before rest : List ℕ) (place : ℕ) (ranges : List Range) → end_from place ranges < 2 ^ 32 → list_all is_sound ranges ≡ true →
+    headers_from (before ++ (table_from place ranges ++ rest)) (length before) (length ranges) ≡ headers_for place ranges
+headers-read before rest place [] fits sound = refl
+headers-read before rest place (r ∷ ranges) fits sound =
     let offset : ℕ = place + padding place in
     let header : List ℕ = program_header offset r in
-    let more : List ℕ = table_from (behind place r) ranges ++ rest in
+    let more : List ℕ = table_from (after place r) ranges ++ rest in
     let parts = and_parts (is_sound r) (list_all is_sound ranges) sound in
-    let next : end_from place (r ∷ ranges) ≡ end_from (behind place r) ranges = refl in
-    let above = end-above (behind place r) ranges in
-    let whole : front ++ ((header ++ table_from (behind place r) ranges) ++ rest) ≡ front ++ (header ++ more) = ap (λ xs. front ++ xs) (append_assoc header (table_from (behind place r) ranges) rest) in
-    let later : front ++ (header ++ more) ≡ (front ++ header) ++ more = sym (append_assoc front header more) in
-    let further : length front + 32 ≡ length (front ++ header) = sym (length-append front header ∙ ap (λ n. length front + n) (length-program_header offset r)) in
-    let here : header_at (front ++ (header ++ more)) (length front) ≡ header_for offset r = header-read front more offset r (omega arith) parts.0 in
-    let rest_read : headers_from (front ++ (header ++ more)) (length front + 32) (length ranges) ≡ headers_for (behind place r) ranges =
-    rw (later, further) (headers-read (front ++ header) rest (behind place r) ranges (omega arith) parts.1) in
-    ap (λ b. headers_from b (length front) (length (r ∷ ranges))) whole
-    ∙ ap (λ h. h ∷ headers_from (front ++ (header ++ more)) (length front + 32) (length ranges)) here ∙ ap (λ hs. header_for offset r ∷ hs) rest_read
+    let next : end_from place (r ∷ ranges) ≡ end_from (after place r) ranges = refl in
+    let above = end-above (after place r) ranges in
+    let whole : before ++ ((header ++ table_from (after place r) ranges) ++ rest) ≡ before ++ (header ++ more) = ap (λ xs. before ++ xs) (append_assoc header (table_from (after place r) ranges) rest) in
+    let later : before ++ (header ++ more) ≡ (before ++ header) ++ more = sym (append_assoc before header more) in
+    let further : length before + 32 ≡ length (before ++ header) = sym (length-append before header ∙ ap (λ n. length before + n) (length-program_header offset r)) in
+    let here : header_at (before ++ (header ++ more)) (length before) ≡ header_for offset r = header-read before more offset r (omega arith) parts.0 in
+    let rest_read : headers_from (before ++ (header ++ more)) (length before + 32) (length ranges) ≡ headers_for (after place r) ranges =
+    rw (later, further) (headers-read (before ++ header) rest (after place r) ranges (omega arith) parts.1) in
+    ap (λ b. headers_from b (length before) (length (r ∷ ranges))) whole
+    ∙ ap (λ h. h ∷ headers_from (before ++ (header ++ more)) (length before + 32) (length ranges)) here ∙ ap (λ hs. header_for offset r ∷ hs) rest_read
 
 -- the bytes of the ranges read back
-pub ranges-read : (front : List ℕ) (place : ℕ) (ranges : List Range) → length front ≡ place →
-    map (range_in (front ++ contents_from place ranges)) (headers_for place ranges) ≡ ranges
-ranges-read front place [] behind_front = refl
-ranges-read front place (r ∷ ranges) behind_front =
+pub ranges-read : (before : List ℕ) (place : ℕ) (ranges : List Range) → length before ≡ place →
+    map (range_in (before ++ contents_from place ranges)) (headers_for place ranges) ≡ ranges
+ranges-read before place [] place_is = refl
+ranges-read before place (r ∷ ranges) place_is =
     let zeros : List ℕ = replicate (padding place) 0 in
-    let more : List ℕ = contents_from (behind place r) ranges in
-    let padded : front ++ (zeros ++ (r.bytes ++ more)) ≡ (front ++ zeros) ++ (r.bytes ++ more) = sym (append_assoc front zeros (r.bytes ++ more)) in
-    let passed : (front ++ zeros) ++ (r.bytes ++ more) ≡ ((front ++ zeros) ++ r.bytes) ++ more = sym (append_assoc (front ++ zeros) r.bytes more) in
-    let long : length (front ++ zeros) ≡ place + padding place = omega (arith, length-append front zeros, length-replicate {A = ℕ} (padding place) 0) in
-    let longer : length ((front ++ zeros) ++ r.bytes) ≡ behind place r = omega (arith, length-append (front ++ zeros) r.bytes) in
-    let bytes : take (length r.bytes) (drop (place + padding place) ((front ++ zeros) ++ (r.bytes ++ more))) ≡ r.bytes =
-    ap (take (length r.bytes)) (drop_at (front ++ zeros) (r.bytes ++ more) (place + padding place) long) ∙ take_at r.bytes more (length r.bytes) refl in
+    let more : List ℕ = contents_from (after place r) ranges in
+    let padded : before ++ (zeros ++ (r.bytes ++ more)) ≡ (before ++ zeros) ++ (r.bytes ++ more) = sym (append_assoc before zeros (r.bytes ++ more)) in
+    let passed : (before ++ zeros) ++ (r.bytes ++ more) ≡ ((before ++ zeros) ++ r.bytes) ++ more = sym (append_assoc (before ++ zeros) r.bytes more) in
+    let long : length (before ++ zeros) ≡ place + padding place = omega (arith, length-append before zeros, length-replicate {A = ℕ} (padding place) 0) in
+    let longer : length ((before ++ zeros) ++ r.bytes) ≡ after place r = omega (arith, length-append (before ++ zeros) r.bytes) in
+    let bytes : take (length r.bytes) (drop (place + padding place) ((before ++ zeros) ++ (r.bytes ++ more))) ≡ r.bytes =
+    ap (take (length r.bytes)) (drop_at (before ++ zeros) (r.bytes ++ more) (place + padding place) long) ∙ take_at r.bytes more (length r.bytes) refl in
     let flags = rights r.read r.write r.execute in
-    let here : range_in ((front ++ zeros) ++ (r.bytes ++ more)) (header_for (place + padding place) r) ≡ r = rw (bytes, flags.1, flags.2, flags.3) refl in
-    let later : map (range_in ((front ++ zeros) ++ (r.bytes ++ more))) (headers_for (behind place r) ranges) ≡ ranges =
-    rw passed (ranges-read ((front ++ zeros) ++ r.bytes) (behind place r) ranges longer) in
+    let here : range_in ((before ++ zeros) ++ (r.bytes ++ more)) (header_for (place + padding place) r) ≡ r = rw (bytes, flags.1, flags.2, flags.3) refl in
+    let later : map (range_in ((before ++ zeros) ++ (r.bytes ++ more))) (headers_for (after place r) ranges) ≡ ranges =
+    rw passed (ranges-read ((before ++ zeros) ++ r.bytes) (after place r) ranges longer) in
     ap (λ b. map (range_in b) (headers_for place (r ∷ ranges))) padded
-    ∙ ap (λ x. x ∷ map (range_in ((front ++ zeros) ++ (r.bytes ++ more))) (headers_for (behind place r) ranges)) here ∙ ap (λ xs. r ∷ xs) later
+    ∙ ap (λ x. x ∷ map (range_in ((before ++ zeros) ++ (r.bytes ++ more))) (headers_for (after place r) ranges)) here ∙ ap (λ xs. r ∷ xs) later
 
 pub length-table_from : (place : ℕ) (ranges : List Range) → length (table_from place ranges) ≡ 32 * length ranges
 length-table_from place [] = refl
 length-table_from place (r ∷ ranges) =
-    omega (arith, length-append (program_header (place + padding place) r) (table_from (behind place r) ranges), length-program_header (place + padding place) r, length-table_from (behind place r) ranges)
+    omega (arith, length-append (program_header (place + padding place) r) (table_from (after place r) ranges), length-program_header (place + padding place) r, length-table_from (after place r) ranges)
 
 pub length-contents_from : (place : ℕ) (ranges : List Range) → place + length (contents_from place ranges) ≡ end_from place ranges
 length-contents_from place [] = omega arith
 length-contents_from place (r ∷ ranges) =
     let zeros : List ℕ = replicate (padding place) 0 in
-    let more : List ℕ = contents_from (behind place r) ranges in
-    omega (arith, length-append zeros (r.bytes ++ more), length-append r.bytes more, length-replicate {A = ℕ} (padding place) 0, length-contents_from (behind place r) ranges)
+    let more : List ℕ = contents_from (after place r) ranges in
+    omega (arith, length-append zeros (r.bytes ++ more), length-append r.bytes more, length-replicate {A = ℕ} (padding place) 0, length-contents_from (after place r) ranges)
 
 -- the headers of sound ranges are loadable ones
 pub filter-headers_for : (place : ℕ) (ranges : List Range) → list_all is_sound ranges ≡ true → filter is_loadable (headers_for place ranges) ≡ headers_for place ranges
@@ -174,15 +174,15 @@ filter-headers_for place [] sound = refl
 filter-headers_for place (r ∷ ranges) sound =
     let parts = and_parts (is_sound r) (list_all is_sound ranges) sound in
     let some : nat_lt 0 r.size ≡ true = let size = sound-size r parts.0 in grind (arith, nat_tests) in
-    rw (some, filter-headers_for (behind place r) ranges parts.1) refl
+    rw (some, filter-headers_for (after place r) ranges parts.1) refl
 
 pub length-headers_for : (place : ℕ) (ranges : List Range) → length (headers_for place ranges) ≡ length ranges
 length-headers_for place [] = refl
-length-headers_for place (r ∷ ranges) = ap (λ n. suc n) (length-headers_for (behind place r) ranges)
+length-headers_for place (r ∷ ranges) = ap (λ n. suc n) (length-headers_for (after place r) ranges)
 
 pub none-interpreted : (place : ℕ) (ranges : List Range) → list_any is_interpreted (headers_for place ranges) ≡ false
 none-interpreted place [] = refl
-none-interpreted place (r ∷ ranges) = none-interpreted (behind place r) ranges
+none-interpreted place (r ∷ ranges) = none-interpreted (after place r) ranges
 
 header-inside : (len offset : ℕ) (r : Range) → is_sound r ≡ true → offset + length r.bytes ≤ len → is_outside len (header_for offset r) ≡ false
 unfolding is_outside
@@ -195,25 +195,25 @@ pub none-outside : (len i place : ℕ) (ranges : List Range) → list_all is_sou
 none-outside len i place [] sound inside = refl
 none-outside len i place (r ∷ ranges) sound inside =
     let parts = and_parts (is_sound r) (list_all is_sound ranges) sound in
-    let next : end_from place (r ∷ ranges) ≡ end_from (behind place r) ranges = refl in
-    let above = end-above (behind place r) ranges in
-    rw (header-inside len (place + padding place) r parts.0 (omega arith)) (none-outside len (i + 1) (behind place r) ranges parts.1 inside)
+    let next : end_from place (r ∷ ranges) ≡ end_from (after place r) ranges = refl in
+    let above = end-above (after place r) ranges in
+    rw (header-inside len (place + padding place) r parts.0 (omega arith)) (none-outside len (i + 1) (after place r) ranges parts.1 inside)
 
 -- the headers lie where the ranges do
 place-same : (x : Extent) (i place : ℕ) (ranges : List Range) →
     position_from (λ y. shares x (extent_of y)) i (headers_for place ranges) ≡ position_from (λ y. shares x (range_extent y)) i ranges
 place-same x i place [] = refl
-place-same x i place (r ∷ ranges) = rw (place-same x (i + 1) (behind place r) ranges) refl
+place-same x i place (r ∷ ranges) = rw (place-same x (i + 1) (after place r) ranges) refl
 
 pub overlap-same : (i place : ℕ) (ranges : List Range) → overlap_from extent_of i (headers_for place ranges) ≡ overlap_from range_extent i ranges
 overlap-same i place [] = refl
 overlap-same i place (r ∷ ranges) =
-    rw (place-same (extent_of (header_for (place + padding place) r)) 0 (behind place r) ranges, overlap-same (i + 1) (behind place r) ranges) refl
+    rw (place-same (extent_of (header_for (place + padding place) r)) 0 (after place r) ranges, overlap-same (i + 1) (after place r) ranges) refl
 
 held-same : (entry place : ℕ) (ranges : List Range) →
     list_any (λ x. holds_entry entry (extent_of x)) (headers_for place ranges) ≡ list_any (λ x. holds_entry entry (range_extent x)) ranges
 held-same entry place [] = refl
-held-same entry place (r ∷ ranges) = rw ((rights r.read r.write r.execute).3, held-same entry (behind place r) ranges) refl
+held-same entry place (r ∷ ranges) = rw ((rights r.read r.write r.execute).3, held-same entry (after place r) ranges) refl
 
 pub entry-same : (entry place : ℕ) (ranges : List Range) → is_entry extent_of entry (headers_for place ranges) ≡ is_entry range_extent entry ranges
 entry-same entry place ranges = ap (λ held. (entry % 4 == 0) && held) (held-same entry place ranges)

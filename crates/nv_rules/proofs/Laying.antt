@@ -16,9 +16,9 @@ argument_words-six (a ∷ b ∷ c ∷ d ∷ e ∷ []) h = absurd (omega (arith, 
 argument_words-six (a ∷ b ∷ c ∷ d ∷ e ∷ f ∷ []) h = refl
 argument_words-six (a ∷ b ∷ c ∷ d ∷ e ∷ f ∷ g ∷ rest) h = absurd (omega (arith, h))
 
-seam : (n : ℕ) (front behind words : List ℕ) → put_mid (length front) n (front ++ behind) words ≡ front ++ (words ++ drop n behind)
-seam n front behind words = rw take-append_seam (ap (λ (rest : List ℕ). front ++ (words ++ drop n rest)) (drop-append_seam front behind))
+seam : (n : ℕ) (before after words : List ℕ) → put_mid (length before) n (before ++ after) words ≡ before ++ (words ++ drop n after)
+seam n before after words = rw take-append_seam (ap (λ (rest : List ℕ). before ++ (words ++ drop n rest)) (drop-append_seam before after))
 
 -- the words after a prefix become others
-pub put_mid-behind : (a n : ℕ) (front behind words : List ℕ) → length front ≡ a → put_mid a n (front ++ behind) words ≡ front ++ (words ++ drop n behind)
-put_mid-behind a n front behind words h = subst (λ (m : ℕ). put_mid m n (front ++ behind) words ≡ front ++ (words ++ drop n behind)) h (seam n front behind words)
+pub put_mid-after : (a n : ℕ) (before after words : List ℕ) → length before ≡ a → put_mid a n (before ++ after) words ≡ before ++ (words ++ drop n after)
+put_mid-after a n before after words h = subst (λ (m : ℕ). put_mid m n (before ++ after) words ≡ before ++ (words ++ drop n after)) h (seam n before after words)

@@ -148,7 +148,7 @@ first-read ops rest i e some =
     let place : i + 0 ≡ i = omega arith in
     slice_get-get_or ops i (first []) (omega arith) ∙ ap Some (sym (ap first e ∙ get_or-drop i ops 0 (first []) ∙ ap (λ j. get_or ops j (first [])) place))
 
--- what is left of a filter, where the instructions in front of it went past it
+-- what is left of a filter, where the instructions before it went past it
 pub record Left (ops rest : List Op) (pair : List ℕ) (s : FilterState) (value : Option ℕ) : Type 0 where
   pub some : 0 < length rest
   pub place : (i : ℕ) × (rest ≡ drop i ops)
@@ -164,7 +164,7 @@ first-ends ops rest pair v s value left step =
     let e = left.place.1 in
     sym left.returns ∙ ap (returned_from pair 0 s) e ∙ returned_from-ends pair i v s ops (first rest) (first-read ops rest i e left.some) step
 
--- the first instruction goes past fewer than are left behind it
+-- the first instruction goes past fewer than are left after it
 pub first-within : (most : ℕ) (ops rest : List Op) (pair : List ℕ) (n : ℕ) (s t : FilterState) (value : Option ℕ) → list_fault most ops ≡ None → Left ops rest pair s value
     → stepped (first rest) pair s ≡ Some (Goes n t) → 1 + n < length rest
 first-within most ops rest pair n s t value verified left step =

@@ -8,7 +8,7 @@ use nv_bpf::{Filter, Op};
 
 // What stands after so many instructions.
 #[inline(always)]
-fn behind(ops: &[Op], count: usize) -> &[Op]
+fn after(ops: &[Op], count: usize) -> &[Op]
     requires { count ≤ length ops.now }
     ensures { result.now ≡ drop count ops.now }
 {
@@ -26,8 +26,8 @@ pub fn value(filter: &Filter, pair: &Pair) -> u32
     loop {
         match registers.step(&mut scratch, &rest[0], pair) {
             Step::Return(value) => return value,
-            Step::Next => rest = behind(rest, 1),
-            Step::Forward(skipped) => rest = behind(rest, 1 + skipped as usize),
+            Step::Next => rest = after(rest, 1),
+            Step::Forward(skipped) => rest = after(rest, 1 + skipped as usize),
         }
     }
 }

@@ -113,7 +113,7 @@ abbrev pub hand_with : Option ℕ → Result Entry ScriptCause
 hand_with (Some n) = hand_entry n
 hand_with None = Err Shape
 
--- a line by its kind and what stands behind the word's space
+-- a line by its kind and the rest after the word's space
 abbrev pub entry_by : Kind → List ℕ → Result Entry ScriptCause
 entry_by kind.Argument rest = shaped (argument rest)
 entry_by kind.Line rest = Ok (Input (rest ++ codes "\n"))
@@ -133,6 +133,6 @@ abbrev pub is_passed_over : List ℕ → Bool
 is_passed_over [] = true
 is_passed_over (b ∷ bs) = b == 35
 
--- what a line behind the first says, or its first cause of these three
+-- what a line after the first says, or its first cause of these three
 unfoldable pub entry_of : Form → List ℕ → Result Entry ScriptCause
 entry_of f line = if is_passed_over line then Ok Nothing else entry_with (kind_of f (word_of line)) (rest_of line)

@@ -97,7 +97,7 @@ abbrev pub onward : ℕ → Result Draft ScriptCause → (Draft → Result Draft
 onward n (Ok draft) later = later draft
 onward n (Err cause) later = Err (Line (line_number n) cause)
 
--- what lines behind n others make of a draft, or the first faulty line
+-- what lines after n others make of a draft, or the first faulty line
 unfoldable pub drafted : Form → ℕ → List (List ℕ) → Draft → Result Draft ScriptFault
 drafted form n [] draft = Ok draft
 drafted form n (line ∷ rest) draft = onward n (with_line form line draft) (λ next. drafted form (n + 1) rest next)
@@ -130,7 +130,7 @@ finished_result (Err fault) = Err fault
 abbrev pub no_form : Result Setup ScriptFault
 no_form = Err (Line 1 cause.Form)
 
--- the lines behind the first, by the form that the first names
+-- the lines after the first, by the form that the first names
 abbrev pub script_in : Option Form → List (List ℕ) → Result Setup ScriptFault
 script_in None rest = no_form
 script_in (Some form) rest = finished_result (drafted form 1 rest blank)

@@ -209,7 +209,7 @@ fn shaped(entry: Option<Entry<'_>>) -> Result<Entry<'_>, ScriptCause>
     entry.ok_or(ScriptCause::Shape)
 }
 
-// A line by its kind and what stands behind the word's space.
+// A line by its kind and the rest after the word's space.
 fn entry_by(
     alloc: Global,
     kind: Kind,
@@ -228,7 +228,7 @@ fn entry_by(
     }
 }
 
-/// What a line behind the first says in a script of this form, or its first cause of those that the line has by itself.
+/// What a line after the first says in a script of this form, or its first cause of those that the line has by itself.
 #[tactic(auto, unfolding(crate::specs::Entries::entry_of))]
 pub fn entry_of(
     alloc: Global,

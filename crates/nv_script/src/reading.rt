@@ -10,7 +10,7 @@ use crate::draft::Draft;
 use crate::entry::entry_of;
 use crate::fault::{ScriptCause, ScriptFault};
 use crate::form::{Form, form_of};
-use nv_text::{line_number, split_line};
+use nv_text::{Lines, line_number};
 use std::alloc::{AllocError, Global};
 
 #[tactic(auto, unfolding(crate::specs::Scripts::with_line))]
@@ -28,21 +28,16 @@ fn add_line<'a>(
     }
 }
 
-// What the lines behind the first say.
-fn draft_of(alloc: Global, form: Form, text: &[u8]) -> Result<Draft<'_>, ScriptFault>
-    ensures draft { IfOk result (λ draft. drafted form 1 (lines text.now) blank ≡ Ok draft) }
-    ensures fault { IfErr result (λ fault. (fault ≡ Memory) ⊎ (drafted form 1 (lines text.now) blank ≡ Err fault)) }
+// What lines say.
+fn draft_of<'a>(alloc: Global, form: Form, lines: Lines<'a>) -> Result<Draft<'a>, ScriptFault>
+    ensures draft { IfOk result (λ draft. drafted form lines.entry.before lines.entry.left blank ≡ Ok draft) }
+    ensures fault { IfErr result (λ fault. (fault ≡ Memory) ⊎ (drafted form lines.entry.before lines.entry.left blank ≡ Err fault)) }
 {
     let mut draft = Draft::new(alloc);
-    let mut rest = text;
-    let mut before = 1usize;
-    while !rest.is_empty() {
-        let (line, behind) = split_line(rest);
+    for (before, line) in lines {
         if let Err(cause) = add_line(&mut draft, alloc, form, line)? {
             return Err(ScriptFault::Line(line_number(before), cause));
         }
-        before += 1;
-        rest = behind;
     }
     Ok(draft)
 }
@@ -56,13 +51,13 @@ pub fn read(alloc: Global, bytes: &[u8]) -> Result<Script, ScriptFault>
     // want of memory is the one free answer
     ensures fault { IfErr result (λ fault. (fault ≡ Memory) ⊎ (script_of bytes.now ≡ Err fault)) }
 {
-    if bytes.is_empty() {
+    let mut lines = Lines::of(bytes);
+    let Some((_, first)) = lines.next() else {
         return Err(ScriptFault::Line(1, ScriptCause::Form));
-    }
-    let (first, rest) = split_line(bytes);
+    };
     let Some(form) = form_of(first) else {
         return Err(ScriptFault::Line(1, ScriptCause::Form));
     };
-    let draft = draft_of(alloc, form, rest)?;
+    let draft = draft_of(alloc, form, lines)?;
     Ok(draft.finish())
 }

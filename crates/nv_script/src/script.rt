@@ -3,7 +3,7 @@
 /// What a run begins with. The limits that every script is within are `is_script` of specs/Scripts.antt.
 #[derive(Drop)]
 pub struct Script {
-    /// The arguments of each version, behind its name.
+    /// The arguments of each version, after its name.
     pub arguments: Vec<Vec<u8>>,
     /// What stands on descriptor 0.
     pub input: Vec<u8>,
@@ -11,7 +11,7 @@ pub struct Script {
     pub files: Vec<(Vec<u8>, Vec<u8>)>,
     /// The clock at the first call, in seconds.
     pub seconds: u32,
-    /// The nanoseconds behind these seconds.
+    /// The nanoseconds after these seconds.
     pub nanos: u32,
     /// How many nanoseconds the clock goes on with each logged call.
     pub step: u32,

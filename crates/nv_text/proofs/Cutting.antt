@@ -4,7 +4,7 @@ use Rattle.std.specs.List.{prefix_len, onto_first, slice_split}
 use Rattle.std.proofs.lemmas.List.{drop-drop, take_all, take_rest}
 use Rattle.std.proofs.lemmas.List.Splits.{slice_split_first}
 use Rattle.nv_text.specs.Fields.{without_first}
-use Rattle.nv_text.specs.Lines.{is_newline, lines, front, behind}
+use Rattle.nv_text.specs.Lines.{is_newline, lines, prefix, rest_after}
 
 split-none : (p : ℕ → Bool) (text : List ℕ) → length text ≤ prefix_len (λ b. not (p b)) text → slice_split p text ≡ text ∷ []
 split-none p [] all = refl
@@ -22,7 +22,7 @@ split-last p text part back n e first rest none =
     let whole : part ≡ text = first ∙ take_all n text (omega (arith, long, size)) in
     split-none p text (omega (arith, long, size)) ∙ ap (λ x. x ∷ []) (sym whole)
 
--- the first part, and those behind its byte
+-- the first part, and the rest after its byte
 pub split-more : (p : ℕ → Bool) (text part back : List ℕ) (n : ℕ) → n ≡ prefix_len (λ b. not (p b)) text → part ≡ take n text → back ≡ drop n text → 1 ≤ length back
     → slice_split p text ≡ part ∷ slice_split p (take (length back - 1) (drop 1 back))
 split-more p text part back n e first rest some =
@@ -33,7 +33,7 @@ split-more p text part back n e first rest some =
     cut ∙ ap (λ k. take k text ∷ slice_split p (drop (k + 1) text)) (sym e)
     ∙ ap (λ x. x ∷ slice_split p (drop (n + 1) text)) (sym first) ∙ ap (λ r. part ∷ slice_split p r) after
 
--- the first line, and what stands behind its newline
+-- the first line, and the rest after its newline
 lines-first : (b : ℕ) (bs : List ℕ) → let n : ℕ = prefix_len (λ c. not (is_newline c)) (b ∷ bs) in lines (b ∷ bs) ≡ take n (b ∷ bs) ∷ lines (drop (suc n) (b ∷ bs))
 unfolding lines
 lines-first b [] =
@@ -47,15 +47,20 @@ lines-first b (c ∷ cs) =
     elim (is_newline b) as (λ x. cond x ([] ∷ lines (c ∷ cs)) (onto_first b (lines (c ∷ cs))) ≡ take (cond (not x) (1 + m) 0) (b ∷ c ∷ cs) ∷ lines (drop (suc (cond (not x) (1 + m) 0)) (b ∷ c ∷ cs)))
     [ true ↦ refl | false ↦ later ]
 
-behind-first : (n : ℕ) (text : List ℕ) → drop (suc n) text ≡ unwrap_or (without_first (drop n text)) []
-behind-first zero [] = refl
-behind-first zero (b ∷ bs) = refl
-behind-first (suc n) [] = refl
-behind-first (suc n) (b ∷ bs) = behind-first n bs
+after-first : (n : ℕ) (text : List ℕ) → drop (suc n) text ≡ unwrap_or (without_first (drop n text)) []
+after-first zero [] = refl
+after-first zero (b ∷ bs) = refl
+after-first (suc n) [] = refl
+after-first (suc n) (b ∷ bs) = after-first n bs
 
-pub lines-cut : (text line : List ℕ) (rest : Option (List ℕ)) → 0 < length text → line ≡ front (λ b. not (is_newline b)) text → rest ≡ without_first (behind (λ b. not (is_newline b)) text)
+pub lines-cut : (text line : List ℕ) (rest : Option (List ℕ)) → 0 < length text → line ≡ prefix (λ b. not (is_newline b)) text → rest ≡ without_first (rest_after (λ b. not (is_newline b)) text)
     → lines text ≡ line ∷ lines (unwrap_or rest [])
 lines-cut [] line rest some e f = absurd (omega arith)
 lines-cut (b ∷ bs) line rest some e f =
     let n : ℕ = prefix_len (λ c. not (is_newline c)) (b ∷ bs) in
-    lines-first b bs ∙ ap (λ later. take n (b ∷ bs) ∷ lines later) (behind-first n (b ∷ bs)) ∙ ap (λ later. take n (b ∷ bs) ∷ lines (unwrap_or later [])) (sym f) ∙ ap (λ l. l ∷ lines (unwrap_or rest [])) (sym e)
+    lines-first b bs ∙ ap (λ later. take n (b ∷ bs) ∷ lines later) (after-first n (b ∷ bs)) ∙ ap (λ later. take n (b ∷ bs) ∷ lines (unwrap_or later [])) (sym f) ∙ ap (λ l. l ∷ lines (unwrap_or rest [])) (sym e)
+
+pub lines-none : (text : List ℕ) → length text ≡ 0 → lines text ≡ []
+unfolding lines
+lines-none [] e = refl
+lines-none (b ∷ bs) e = absurd (omega (arith, e))

@@ -62,7 +62,7 @@ known-inserted {D = D} old new names name d view absent updates other =
     ∙ ap (λ found. cond (bytes_eq name o) (Some d) found) (lookup-named old o ∙ ap (λ ds. defined ds o) view))
     other
 
--- the entry at a place of a table, else those behind it
+-- the entry at a place of a table, else those after it
 pub defined-at : {D : Type 0} (table : List (Bor (List ℕ) × D)) (word : List ℕ) (i : ℕ) (entry : Bor (List ℕ) × D) → i < length table → entry ≡ get_or table i entry
     → defined (named (drop i table)) word ≡ cond (bytes_eq word entry.0.now) (Some entry.1) (defined (named (drop (i + 1) table)) word)
 unfolding defined

@@ -1,25 +1,15 @@
 -- Laws of lines and fields.
-use Rattle.std.proofs.Common.{◌≡◌, ℕ, ◌<◌, ◌==◌, Bool, true, false, cond, List, [], ◌∷◌, ◌++◌, length, refl, ap, arith}
+use Rattle.std.proofs.Common.{◌≡◌, ℕ, ◌<◌, ◌==◌, false, List, [], ◌∷◌, ◌++◌, length, refl, ap, arith}
 use Rattle.std.specs.List.{All, onto_first}
 use Rattle.std.proofs.lemmas.List.Elements.{All-head, All-tail}
 use Rattle.std.proofs.lemmas.List.Splits.{length-slice_split}
-use Rattle.nv_text.specs.Lines.{is_newline, lines}
+use Rattle.nv_text.specs.Lines.{lines}
 use Rattle.nv_text.specs.Fields.{is_space, fields}
 
 -- a text has a field
 pub fields-some : (text : List ℕ) → 0 < length (fields text)
 unfolding fields
 fields-some text = omega (arith, length-slice_split is_space text)
-
--- a text that isn't empty has a line
-pub lines-some : (text : List ℕ) → 0 < length text → 0 < length (lines text)
-unfolding lines
-lines-some [] some = absurd (omega (arith, some))
-lines-some (b ∷ bs) some = step (is_newline b) (lines bs) where
-  step : (ends : Bool) (rest : List (List ℕ)) → 0 < length (cond ends ([] ∷ rest) (onto_first b rest))
-  step true rest = omega arith
-  step false [] = omega arith
-  step false (l ∷ ls) = omega arith
 
 -- a line that a newline ends
 pub lines-line : (line rest : List ℕ) → All (λ b. (b == 10) ≡ false) line → lines (line ++ 10 ∷ rest) ≡ line ∷ lines rest

@@ -38,27 +38,27 @@ pair-refused a b text e = unhexed-cons a b text ∙ go (is_ascii_hexdigit a && i
   go true value h = cc
   go false value h = refl
 
-joined : (front : List ℕ) (byte : ℕ) (more : Option (List ℕ)) → option_map (λ m. (front ++ byte ∷ []) ++ m) more ≡ option_map (λ m. front ++ m) (option_map (λ m. byte ∷ m) more)
-joined front byte None = refl
-joined front byte (Some more) = ap Some (append_assoc front (byte ∷ []) more)
+joined : (before : List ℕ) (byte : ℕ) (more : Option (List ℕ)) → option_map (λ m. (before ++ byte ∷ []) ++ m) more ≡ option_map (λ m. before ++ m) (option_map (λ m. byte ∷ m) more)
+joined before byte None = refl
+joined before byte (Some more) = ap Some (append_assoc before (byte ∷ []) more)
 
 -- the loop's step: the first pair of the rest has a byte
-pub pair-step : (front rest tail : List ℕ) (byte : ℕ) → 2 ≤ length rest → tail ≡ take (length rest - 2) (drop 2 rest) → pair_of (get_or rest 0 0) (get_or rest 1 0) ≡ Some byte →
-    option_map (λ more. (front ++ byte ∷ []) ++ more) (unhexed tail) ≡ option_map (λ more. front ++ more) (unhexed rest)
-pair-step front [] tail byte long e h = absurd (omega arith)
-pair-step front (a ∷ []) tail byte long e h = absurd (omega arith)
-pair-step front (a ∷ b ∷ rest) tail byte long e h =
+pub pair-step : (before rest tail : List ℕ) (byte : ℕ) → 2 ≤ length rest → tail ≡ take (length rest - 2) (drop 2 rest) → pair_of (get_or rest 0 0) (get_or rest 1 0) ≡ Some byte →
+    option_map (λ more. (before ++ byte ∷ []) ++ more) (unhexed tail) ≡ option_map (λ more. before ++ more) (unhexed rest)
+pair-step before [] tail byte long e h = absurd (omega arith)
+pair-step before (a ∷ []) tail byte long e h = absurd (omega arith)
+pair-step before (a ∷ b ∷ rest) tail byte long e h =
     let all : tail ≡ rest = e ∙ take_all (length (a ∷ b ∷ rest) - 2) rest (omega arith) in
-    rw (all, pair-read a b byte rest h) (joined front byte (unhexed rest))
+    rw (all, pair-read a b byte rest h) (joined before byte (unhexed rest))
 
-pub pair-ends : (front rest : List ℕ) → 2 ≤ length rest → pair_of (get_or rest 0 0) (get_or rest 1 0) ≡ None → option_map (λ more. front ++ more) (unhexed rest) ≡ None
-pair-ends front [] long h = absurd (omega arith)
-pair-ends front (a ∷ []) long h = absurd (omega arith)
-pair-ends front (a ∷ b ∷ rest) long h = ap (option_map (λ more. front ++ more)) (pair-refused a b rest h)
+pub pair-ends : (before rest : List ℕ) → 2 ≤ length rest → pair_of (get_or rest 0 0) (get_or rest 1 0) ≡ None → option_map (λ more. before ++ more) (unhexed rest) ≡ None
+pair-ends before [] long h = absurd (omega arith)
+pair-ends before (a ∷ []) long h = absurd (omega arith)
+pair-ends before (a ∷ b ∷ rest) long h = ap (option_map (λ more. before ++ more)) (pair-refused a b rest h)
 
 -- the rest is too short for a pair
-pub rest-ends : (front rest : List ℕ) → length rest < 2 → option_map (λ more. front ++ more) (unhexed rest) ≡ cond (length rest == 0) (Some front) None
+pub rest-ends : (before rest : List ℕ) → length rest < 2 → option_map (λ more. before ++ more) (unhexed rest) ≡ cond (length rest == 0) (Some before) None
 unfolding unhexed
-rest-ends front [] short = ap Some (append-nil front)
-rest-ends front (a ∷ []) short = refl
-rest-ends front (a ∷ b ∷ rest) short = absurd (omega arith)
+rest-ends before [] short = ap Some (append-nil before)
+rest-ends before (a ∷ []) short = refl
+rest-ends before (a ∷ b ∷ rest) short = absurd (omega arith)

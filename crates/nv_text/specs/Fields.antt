@@ -1,7 +1,7 @@
 -- The fields of a line, which single spaces separate.
 use Rattle.std.specs.Prelude.{ℕ, Bool, not, List, [], ◌∷◌, Option, Some, None, ◌==◌}
 use Rattle.std.specs.List.{slice_split}
-use Rattle.nv_text.specs.Lines.{front, behind}
+use Rattle.nv_text.specs.Lines.{prefix, rest_after}
 
 abbrev pub is_space : ℕ → Bool
 is_space b = b == 32
@@ -10,15 +10,15 @@ abbrev pub is_not_space : ℕ → Bool
 is_not_space b = not (is_space b)
 
 abbrev pub word_of : List ℕ → List ℕ
-word_of line = front is_not_space line
+word_of line = prefix is_not_space line
 
 abbrev pub without_first : List ℕ → Option (List ℕ)
 without_first [] = None
 without_first (b ∷ bs) = Some bs
 
--- what stands behind the first space, if there is one
+-- the rest after the first space, if there is one
 abbrev pub rest_of : List ℕ → Option (List ℕ)
-rest_of line = without_first (behind is_not_space line)
+rest_of line = without_first (rest_after is_not_space line)
 
 unfoldable pub fields : List ℕ → List (List ℕ)
 fields line = slice_split is_space line

@@ -1,5 +1,6 @@
 -- Lines, words and operands of a text.
-use Rattle.std.specs.Prelude.{ℕ, Bool, false, not, ◌&&◌, ◌||◌, List, [], ◌∷◌, Option, Some, None, if◌then◌else◌, ◌==◌, nat_le, ◌+◌, ◌-◌, ◌^◌, min, length, take, drop, map}
+use denote.Ref.{Bor}
+use Rattle.std.specs.Prelude.{◌≡◌, ◌<◌, MatchOption, ℕ, Bool, false, not, ◌&&◌, ◌||◌, List, [], ◌∷◌, Option, Some, None, if◌then◌else◌, ◌==◌, nat_le, ◌+◌, ◌-◌, ◌^◌, min, length, take, drop, map}
 use Rattle.std.specs.List.{list_all, onto_first, slice_split, prefix_len, suffix_len}
 
 abbrev pub is_newline : ℕ → Bool
@@ -9,6 +10,22 @@ is_newline b = b == 10
 unfoldable pub lines : List ℕ → List (List ℕ)
 lines [] = []
 lines (b ∷ bs) = if is_newline b then [] ∷ lines bs else onto_first b (lines bs)
+
+-- the lines that are left of a text, and how many are before them
+pub record LinesLeft : Type 0 where
+  pub before : ℕ
+  pub left : List (List ℕ)
+
+-- the next line is given, with how many are before it, and the others stay; a further line's count fits as well
+pub record IsNextLine (s : LinesLeft) (before : ℕ) (line : List ℕ) (t : LinesLeft) : Type 0 where
+  pub first : s.left ≡ line ∷ t.left
+  pub counted : before ≡ s.before
+  pub further : t.before ≡ s.before + 1
+  pub fits : t.before < 2 ^ 64
+
+-- a call gives the next line, or nothing once none is left
+abbrev pub GivesLine : LinesLeft → Option (ℕ × Bor (List ℕ)) → LinesLeft → Type 0
+GivesLine s given t = MatchOption given ((s.left ≡ []) × (t.left ≡ [])) (λ line. IsNextLine s line.0 line.1.now t)
 
 -- the number of a line that so many are before; one past 32 bits is reported as the last of these
 abbrev pub line_number : ℕ → ℕ
@@ -65,15 +82,15 @@ pub record Parts : Type 0 where
   pub word : List ℕ
   pub rest : List ℕ
 
--- the bytes at the front that pass, and those from the first on that doesn't
-abbrev pub front : (ℕ → Bool) → List ℕ → List ℕ
-front p text = take (prefix_len p text) text
+-- the bytes before the first that doesn't pass, and the rest from that on
+abbrev pub prefix : (ℕ → Bool) → List ℕ → List ℕ
+prefix p text = take (prefix_len p text) text
 
-abbrev pub behind : (ℕ → Bool) → List ℕ → List ℕ
-behind p text = drop (prefix_len p text) text
+abbrev pub rest_after : (ℕ → Bool) → List ℕ → List ℕ
+rest_after p text = drop (prefix_len p text) text
 
 abbrev pub line_with : Option (List ℕ) → List ℕ → Parts
-line_with label text = record { label = label; word = front is_not_blank text; rest = trim_start (behind is_not_blank text) }
+line_with label text = record { label = label; word = prefix is_not_blank text; rest = trim_start (rest_after is_not_blank text) }
 
 -- a text that begins with a name, which a colon follows or not
 abbrev pub after_name : List ℕ → List ℕ → List ℕ → Parts
@@ -81,7 +98,7 @@ after_name text name [] = line_with None text
 after_name text name (b ∷ bs) = if is_name name && (b == 58) then line_with (Some name) (trim bs) else line_with None text
 
 unfoldable pub parted : List ℕ → Parts
-parted text = after_name text (front is_name_byte text) (behind is_name_byte text)
+parted text = after_name text (prefix is_name_byte text) (rest_after is_name_byte text)
 
 unfoldable pub line_of : List ℕ → Parts
 line_of text = parted (trim text)

@@ -9,7 +9,7 @@ mod tables;
 mod words;
 
 pub use fields::{cut, split_field};
-pub use lines::{line_number, split_line};
+pub use lines::{Lines, line_number};
 pub use names::Names;
 pub use numbers::{decimal, hex_pair, number, unhex};
 pub use tables::{find, is};

@@ -53,7 +53,7 @@ fn put_digits(value: u64, out: &mut [u8])
     out[place] = b'0' + rest as u8;
 }
 
-/// Writes a number in decimal at the front, without leading zeros, and gives the length of its text.
+/// Writes a number in decimal at the beginning, without leading zeros, and gives the length of its text.
 pub fn decimal(value: u64, out: &mut [u8; 20]) -> usize
     ensures count { result ≡ length (decimal_of value) }
     ensures text { out.new ≡ decimal_of value ++ drop (length (decimal_of value)) out.old }

@@ -116,8 +116,8 @@ fn line_with<'a>(label: Option<&'a [u8]>, text: &'a [u8]) -> Line<'a>
 fn parted(text: &[u8]) -> Line<'_>
     ensures { parts_of result ≡ parted text.now }
 {
-    let (name, behind) = text.split_at(name_len(text));
-    match behind {
+    let (name, after) = text.split_at(name_len(text));
+    match after {
         [b':', rest @ ..] if is_name(name) => line_with(Some(name), trim(rest)),
         _ => line_with(None, text),
     }
@@ -137,9 +137,9 @@ fn pieces<'a>(alloc: Global, text: &'a [u8]) -> Result<Vec<&'a [u8]>, AllocError
     let mut pieces = Vec::new(alloc);
     let mut rest = text;
     loop {
-        let (piece, behind) = cut(rest, b',');
+        let (piece, after) = cut(rest, b',');
         pieces.push(trim(piece))?;
-        match behind {
+        match after {
             None => return Ok(pieces),
             Some(later) => rest = later,
         }

@@ -9,19 +9,15 @@ use Rattle.nv_asm.specs.Programs.{IsEntryAt}
 use Rattle.nv_asm.proofs.Faultless.{causes}
 use Rattle.nv_asm.proofs.assembling.lay.Given as goal
 
-abbrev pub invariant-loop-rest : goal.invariant-loop-rest
-invariant-loop-rest l = record {
-  faults : first_fault l.line (causes (known l.names l.text_len) (placed l.line l.reached (lines l.rest))) ≡ first_fault 0 (causes (known l.names l.text_len) (placed 0 start (lines l.text)));
-  texts : l.out.text.items ++ section_bytes (known l.names l.text_len) section.Text (placed l.line l.reached (lines l.rest)) ≡ section_bytes (known l.names l.text_len) section.Text (placed 0 start (lines l.text));
-  contents : l.out.data.items ++ section_bytes (known l.names l.text_len) section.Data (placed l.line l.reached (lines l.rest)) ≡ section_bytes (known l.names l.text_len) section.Data (placed 0 start (lines l.text));
-  entries : entry_of (known l.names l.text_len) l.out.entry (placed l.line l.reached (lines l.rest)) ≡ entry_of (known l.names l.text_len) text_base (placed 0 start (lines l.text));
+abbrev pub invariant-loop-line : goal.invariant-loop-line
+invariant-loop-line l = record {
+  faults : first_fault l.line-iterator.before (causes (known l.names l.text_len) (placed l.line-iterator.before l.reached l.line-iterator.left)) ≡ first_fault 0 (causes (known l.names l.text_len) (placed 0 start (lines l.fn.text)));
+  texts : l.out.text.items ++ section_bytes (known l.names l.text_len) section.Text (placed l.line-iterator.before l.reached l.line-iterator.left) ≡ section_bytes (known l.names l.text_len) section.Text (placed 0 start (lines l.fn.text));
+  contents : l.out.data.items ++ section_bytes (known l.names l.text_len) section.Data (placed l.line-iterator.before l.reached l.line-iterator.left) ≡ section_bytes (known l.names l.text_len) section.Data (placed 0 start (lines l.fn.text));
+  entries : entry_of (known l.names l.text_len) l.out.entry (placed l.line-iterator.before l.reached l.line-iterator.left) ≡ entry_of (known l.names l.text_len) text_base (placed 0 start (lines l.fn.text));
   entry_at : IsEntryAt l.text_len l.out.entry;
-  ends : ended l.reached (placed l.line l.reached (lines l.rest)) ≡ ended start (placed 0 start (lines l.text));
+  ends : ended l.reached (placed l.line-iterator.before l.reached l.line-iterator.left) ≡ ended start (placed 0 start (lines l.fn.text));
   text_len_is : length l.out.text.items ≡ l.reached.text_len;
   data_len_is : length l.out.data.items ≡ l.reached.data_len;
   short : l.reached.text_len + l.reached.data_len ≤ 1048576;
-  read : l.line + length l.rest ≤ length l.text;
 }
-
-abbrev pub decreases-loop-rest : goal.decreases-loop-rest
-decreases-loop-rest l = length l.rest

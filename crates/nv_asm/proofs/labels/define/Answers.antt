@@ -12,8 +12,8 @@ abbrev at : ℕ → Place → Label
 at n p = record { line = n; place = p }
 
 pub returns-clause-known : goal.returns-clause-known
-returns-clause-known c behind name =
+returns-clause-known c rest name =
     let n = c.args.placed.now.line in
-    ap (λ (o : Option (Bor (List ℕ))). found c.args.names.now (defining (option_map (λ name. name.now) o) (at n (place (placed_view c.args.placed.now))) behind) name) c.in-Some.is
-    ∙ ap (λ (p : Place). found c.args.names.now (defining (Some c.in-Some.name.now) (at n p) behind) name) (sym c.place.ensures.value)
-    ∙ found-defined c.args.names.now c.define.new.self behind c.in-Some.name.now name (at n c.place.result) c.in_ok-define.ensures.ok
+    ap (λ (o : Option (Bor (List ℕ))). found c.args.names.now (defining (option_map (λ name. name.now) o) (at n (place (placed_view c.args.placed.now))) rest) name) c.in-Some.is
+    ∙ ap (λ (p : Place). found c.args.names.now (defining (Some c.in-Some.name.now) (at n p) rest) name) (sym c.place.ensures.value)
+    ∙ found-defined c.args.names.now c.define.new.self rest c.in-Some.name.now name (at n c.place.result) c.in_ok-define.ensures.ok

@@ -14,12 +14,12 @@ abbrev one : Whole → Bor (List ℕ) → List ℕ
 one w x = to_le_bytes w32 (word_value w (word_of x.now))
 
 pub loop-operand-init : goal.loop-operand-init
-loop-operand-init c = ap (λ front. front ++ bytes (known c.args.names.now c.args.text_len) c.args.operands.now) c.new-bytes.ensures.items
+loop-operand-init c = ap (λ before. before ++ bytes (known c.args.names.now c.args.text_len) c.args.operands.now) c.new-bytes.ensures.items
 
 pub loop-operand-preserved : goal.loop-operand-preserved
 loop-operand-preserved c =
     let w = known c.args.names.now c.args.text_len in
-    ap (λ front. front ++ bytes w (drop (c.loop-operand.operand-index + 1) c.args.operands.now)) c.in_ok-push_word.ensures
+    ap (λ before. before ++ bytes w (drop (c.loop-operand.operand-index + 1) c.args.operands.now)) c.in_ok-push_word.ensures
     ∙ rest-more (bytes w) (one w) (λ x xs. refl) c.loop-operand.bytes.items _ c.args.operands.now c.loop-operand.operand-index none_given c.loop-operand-test.true
     (ap (to_le_bytes w32) (c.word_value.ensures ∙ ap (word_value w) c.word_of.ensures))
     ∙ c.loop-operand.invariant

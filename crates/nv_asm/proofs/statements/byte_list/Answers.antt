@@ -11,11 +11,11 @@ abbrev one : Bor (List ℕ) → List ℕ
 one x = byte_of x.now ∷ []
 
 pub loop-operand-init : goal.loop-operand-init
-loop-operand-init c = ap (λ front. front ++ bytes c.args.operands.now) c.new-bytes.ensures.items
+loop-operand-init c = ap (λ before. before ++ bytes c.args.operands.now) c.new-bytes.ensures.items
 
 pub loop-operand-preserved : goal.loop-operand-preserved
 loop-operand-preserved c =
-    ap (λ front. front ++ bytes (drop (c.loop-operand.operand-index + 1) c.args.operands.now)) c.in_ok-push.ensures.items
+    ap (λ before. before ++ bytes (drop (c.loop-operand.operand-index + 1) c.args.operands.now)) c.in_ok-push.ensures.items
     ∙ rest-more bytes one (λ x xs. refl) c.loop-operand.bytes.items _ c.args.operands.now c.loop-operand.operand-index none_given c.loop-operand-test.true (ap (λ b. b ∷ []) c.byte_of.ensures)
     ∙ c.loop-operand.invariant
 

@@ -12,7 +12,7 @@ use Rattle.nv_bpf.proofs.writing.write.Goals as goal
 pub loop-place-init : goal.loop-place-init
 loop-place-init c =
     record {
-      text = c.in_ok-put_number.ensures ∙ ap (λ front. front ++ ended_number c.len-count.result 10) c.new-text.ensures.items ∙ ap (λ n. ended_number n 10) c.len-count.ensures.count
+      text = c.in_ok-put_number.ensures ∙ ap (λ before. before ++ ended_number c.len-count.result 10) c.new-text.ensures.items ∙ ap (λ n. ended_number n 10) c.len-count.ensures.count
           ∙ sym (append-nil (ended_number (length c.args.filter.now) 10));
       fits = All-nil FitsFields;
     }
@@ -21,13 +21,13 @@ pub loop-place-preserved : goal.loop-place-preserved
 loop-place-preserved c =
     let ops = c.args.filter.now in
     let place = c.loop-place.place in
-    let front = ended_number (length ops) 10 in
+    let before = ended_number (length ops) 10 in
     let read = get_or_from_slice_get ops place c.at.result c.at.result c.at.ensures.op in
     let more : take (place + 1) ops ≡ take place ops ++ c.at.result ∷ [] =
     (take_more ops place c.at.result (omega (arith, c.len-count.ensures.count)) ∙ ap (λ op. take place ops ++ op ∷ []) read) in
     record {
-      text = c.in_ok-put_op.ensures.text ∙ ap (λ text. text ++ op_text c.at.result) c.loop-place.invariant.text ∙ flat_map_more op_text front (take place ops) c.at.result
-          ∙ ap (λ taken. front ++ flat_map op_text taken) (sym more);
+      text = c.in_ok-put_op.ensures.text ∙ ap (λ text. text ++ op_text c.at.result) c.loop-place.invariant.text ∙ flat_map_more op_text before (take place ops) c.at.result
+          ∙ ap (λ taken. before ++ flat_map op_text taken) (sym more);
       fits = All-more FitsFields ops place c.at.result (omega (arith, c.len-count.ensures.count)) c.loop-place.invariant.fits (subst FitsFields (sym read) c.in_ok-put_op.ensures.fits);
     }
 

@@ -31,15 +31,15 @@ returns-in-Return-clause-value c = sym (ap (λ o. unwrap_or o 0) (ends c))
 pub loop-value-preserved-in-Next : goal.loop-value-preserved-in-Next
 loop-value-preserved-in-Next c =
     let goes = c.step.ensures ∙ ap (λ r. Some (effect_of r c.step.new.self c.step.new.scratch)) c.in-Next.is in
-    first-goes _ _ _ _ _ 0 _ _ _ c.as_slice-rest.ensures.verified c.loop-value.invariant goes c.behind-rest.ensures
+    first-goes _ _ _ _ _ 0 _ _ _ c.as_slice-rest.ensures.verified c.loop-value.invariant goes c.after-rest.ensures
 
 goes : (c : goal.In-Forward) → stepped (first c.loop-value.rest.now) c.args.pair.now.words (state_of c.loop-value.registers c.loop-value.scratch) ≡ Some (Goes c.in-Forward.skipped (state_of c.step.new.self c.step.new.scratch))
 goes c = c.step.ensures ∙ ap (λ r. Some (effect_of r c.step.new.self c.step.new.scratch)) c.in-Forward.is
 
-pub behind-rest-requires-in-Forward : goal.behind-rest-requires-in-Forward
-behind-rest-requires-in-Forward c = let within = first-within _ _ _ _ _ _ _ _ c.as_slice-rest.ensures.verified c.loop-value.invariant (goes c) in omega arith
+pub after-rest-requires-in-Forward : goal.after-rest-requires-in-Forward
+after-rest-requires-in-Forward c = let within = first-within _ _ _ _ _ _ _ _ c.as_slice-rest.ensures.verified c.loop-value.invariant (goes c) in omega arith
 
 pub loop-value-preserved : goal.loop-value-preserved
 loop-value-preserved c =
     let goes = c.step.ensures ∙ ap (λ r. Some (effect_of r c.step.new.self c.step.new.scratch)) c.in-Forward.is in
-    first-goes _ _ _ _ _ _ _ _ _ c.as_slice-rest.ensures.verified c.loop-value.invariant goes c.behind-rest-in-Forward.ensures
+    first-goes _ _ _ _ _ _ _ _ _ c.as_slice-rest.ensures.verified c.loop-value.invariant goes c.after-rest-in-Forward.ensures

@@ -1,29 +1,38 @@
-use Rattle.std.proofs.Common.{◌≡◌, None, Some, Ok, length, inl, inr, sym, ap, ◌∙◌, arith}
-use Rattle.std.proofs.lemmas.Bool.Decides.{nat_tests}
+use Rattle.std.proofs.Common.{None, Some, Ok, inl, inr, sym, ap, ◌+◌, ◌∙◌}
 use Rattle.std.proofs.lemmas.Result.{err_from_is_err_and}
-use Rattle.nv_script.specs.Scripts.{finished_result}
+use Rattle.nv_text.specs.Lines.{LinesLeft}
+use Rattle.nv_script.specs.Scripts.{blank, drafted, finished_result}
 use Rattle.nv_script.proofs.Sound.{script_of-keeps}
 use Rattle.nv_script.proofs.Drafting.{script_of-none, script_of-line}
 use Rattle.nv_script.proofs.reading.read.Goals as goal
 
-pub returns-then-is_empty-clause-fault : goal.returns-then-is_empty-clause-fault
-returns-then-is_empty-clause-fault c =
-    let empty : length c.args.bytes.now ≡ 0 = grind (arith, nat_tests) in
-    inr (script_of-none c.args.bytes.now empty)
-
 pub returns-in_default-clause-fault : goal.returns-in_default-clause-fault
-returns-in_default-clause-fault c = inr (script_of-line c.args.bytes.now _ _ None c.split_line.ensures.lines (sym c.form_of.ensures ∙ c.in_default.is))
+returns-in_default-clause-fault c = inr (script_of-none c.args.bytes.now (sym (ap (λ (s : LinesLeft). s.left) c.of-lines.ensures) ∙ c.in_default.ensures.steps.0))
+
+pub returns-in_default-form_of-clause-fault : goal.returns-in_default-form_of-clause-fault
+returns-in_default-form_of-clause-fault c =
+    let first = sym (ap (λ (s : LinesLeft). s.left) c.of-lines.ensures) ∙ c.in-Some.ensures.steps.first in
+    inr (script_of-line c.args.bytes.now _ _ None first (sym c.form_of.ensures ∙ c.in_default-form_of.is))
 
 pub returns-in_err-draft-clause-fault : goal.returns-in_err-draft-clause-fault
 returns-in_err-draft-clause-fault c =
+    let next = c.in-Some.ensures.steps in
+    let first = sym (ap (λ (s : LinesLeft). s.left) c.of-lines.ensures) ∙ next.first in
+    let second = next.further ∙ ap (λ (s : LinesLeft). s.before + 1) c.of-lines.ensures in
     let p = err_from_is_err_and c.from_residual.result c.from_residual.ensures.1 in
-    let started = script_of-line c.args.bytes.now _ _ (Some c.in-Some.form) c.split_line.ensures.lines (sym c.form_of.ensures ∙ c.in-Some.is) in
-    rw (p.1, p.2) (elim c.in_err-draft.ensures.fault [ inl memory ↦ inl memory | inr refused ↦ inr (started ∙ ap finished_result refused) ])
+    let started = script_of-line c.args.bytes.now _ _ (Some c.in-Some-form_of.form) first (sym c.form_of.ensures ∙ c.in-Some-form_of.is) in
+    rw (p.1, p.2) (elim c.in_err-draft.ensures.fault [
+      | inl memory ↦ inl memory
+      | inr refused ↦ inr (started ∙ ap finished_result (ap (λ n. drafted c.in-Some-form_of.form n c.next.new.self.left blank) (sym second) ∙ refused))
+    ])
 
 pub returns-clause-script : goal.returns-clause-script
 returns-clause-script c =
-    script_of-line c.args.bytes.now _ _ (Some c.in-Some.form) c.split_line.ensures.lines (sym c.form_of.ensures ∙ c.in-Some.is)
-    ∙ ap finished_result c.in_ok-draft.ensures.draft ∙ ap Ok (sym c.finish.ensures)
+    let next = c.in-Some.ensures.steps in
+    let first = sym (ap (λ (s : LinesLeft). s.left) c.of-lines.ensures) ∙ next.first in
+    let second = next.further ∙ ap (λ (s : LinesLeft). s.before + 1) c.of-lines.ensures in
+    script_of-line c.args.bytes.now _ _ (Some c.in-Some-form_of.form) first (sym c.form_of.ensures ∙ c.in-Some-form_of.is)
+    ∙ ap finished_result (ap (λ n. drafted c.in-Some-form_of.form n c.next.new.self.left blank) (sym second) ∙ c.in_ok-draft.ensures.draft) ∙ ap Ok (sym c.finish.ensures)
 
 pub returns-clause-sound : goal.returns-clause-sound
 returns-clause-sound c = script_of-keeps c.args.bytes.now _ (returns-clause-script c)
