@@ -87,7 +87,7 @@ Shows (Reported json setup account) source = source.later_faults ≡ source.faul
 Shows (Made text) source = source.later_faults ≡ source.faults
 Shows (Summed n setup account) source = IsUntouched source
 
--- A text was written with its status; or a write failed, its count rose, a front of the text was written, and the status is 6.
+-- A text was written with its status; or a write failed, its count rose, a prefix of the text was written, and the status is 6.
 pub record Says (text : List ℕ) (text_status : ℕ) (before : Option (List ℕ)) (faults : ℕ) (status : ℕ) (after : Option (List ℕ)) (later_faults : ℕ) : Type 0 where
   pub put : Put
   pub ends : status ≡ ended_with put text_status

@@ -33,7 +33,7 @@ use Rattle.nv_cli.specs.Due.{GenOwes}
 use Rattle.nv_cli.specs.Generated.{IsMadeRun}
 -- What the source's counts show.
 use Rattle.nv_cli.specs.Due.{Shows, IsUntouched}
--- What was written and the status: a text with its status, or a front of it, a count that rose and 6.
+-- What was written and the status: a text with its status, or a prefix of it, a count that rose and 6.
 use Rattle.nv_cli.specs.Due.{Says}
 use Rattle.nv_cli.specs.Outcome.{text_of, status_of, ended_with}
 use Rattle.nv_cli.specs.Causes.{cause_text}

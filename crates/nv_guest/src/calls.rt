@@ -10,7 +10,7 @@ ghost use Rattle.nv_guest.specs.Calls.{argument, number, call_at, kept, values, 
 use crate::answers::{read_targets, scatter, store_bytes};
 use crate::outcome::{Asked, asked_of};
 use crate::paths::read_path;
-use crate::vectors::{Part, gather, capacity_of};
+use crate::vectors::{Part, capacity_of, gather};
 use nv_calls::{Bytes, Call, MOST_BYTES, MOST_PATH, MOST_VECTORS, Slot, Syscall};
 use nv_machine::Regs;
 use nv_memory::{Memory, Right};
@@ -56,7 +56,10 @@ fn refuse(payload: &mut Bytes) -> Checked
     ensures capacity { payload.new.capacity ≡ payload.old.capacity }
 {
     payload.set(&[]);
-    Checked { bad: true, capacity: 0 }
+    Checked {
+        bad: true,
+        capacity: 0,
+    }
 }
 
 /// A thread at a call, with the memory.

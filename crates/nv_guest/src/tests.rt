@@ -5,7 +5,7 @@ use crate::answers::{read_targets, scatter, store_bytes};
 use crate::calls::Caller;
 use crate::paths::read_path;
 use crate::threads::{answer_to, start_child};
-use crate::vectors::{Part, gather, capacity_of};
+use crate::vectors::{Part, capacity_of, gather};
 use crate::{Asked, Guest, GuestFault};
 use nv_calls::{Bytes, Call};
 use nv_machine::{FaultKind, Regs, Stepped};

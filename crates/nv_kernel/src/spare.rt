@@ -68,11 +68,7 @@ fn tell_ranges(tid: u32, nr: u32, args: [u32; 6])
 pub fn next_end(over: bool, call: &Call) -> Option<u8>
     ensures { result ≡ end_next over (request call.now) }
 {
-    if over {
-        Some(call.status())
-    } else {
-        None
-    }
+    if over { Some(call.status()) } else { None }
 }
 
 /// One more event, for which memory is reserved.
