@@ -2,7 +2,7 @@
  * The memory of a guest: the program from 0x10000 on, its data from the next page on. Linux maps a file by pages of 4,096 bytes, so each
  * segment's place in the file and its address are equal modulo 4,096; varan takes any place. Thread-local data lie within the data,
  * where the first thread uses them as they are. Each segment ends at a multiple of 8: the C library reads strings by words, and varan lets
- * none read behind a segment's last byte.
+ * none read past a segment's last byte.
  */
 OUTPUT_ARCH(riscv)
 ENTRY(_start)

@@ -1,6 +1,6 @@
 # int start_thread(void (*work)(void *), void *argument, void *stack_end, void *locals)
 #
-# clone(2) with CLONE_VM, FS, FILES, SIGHAND, THREAD, SYSVSEM and SETTLS. The child begins behind the call with the result 0, and finds
+# clone(2) with CLONE_VM, FS, FILES, SIGHAND, THREAD, SYSVSEM and SETTLS. The child begins after the call with the result 0, and finds
 # its work on its stack.
     .globl start_thread
 start_thread:
