@@ -55,13 +55,7 @@ fn call<R: Threads + Wait + Sync>(
     words: &[&str],
 ) -> Result<Answered, AllocError> {
     let files = shelf.files()?;
-    let outside = Outside {
-        files: &files,
-        failing_reads: &[],
-        most: 4096,
-        failing_writes: &[],
-    };
-    monitor_through(rt, alloc, words, outside, &OpenGate)
+    monitor_through(rt, alloc, words, Outside::calm(&files), &OpenGate)
 }
 
 fn print_bytes(rt: &impl Print, alloc: Global, bytes: &[u8]) -> io::Result<()> {

@@ -7,7 +7,8 @@ use std::alloc::{AllocError, Global};
 use std::sync::Wait;
 use std::thread::Threads;
 
-const ROOM: usize = 1 << 20;
+// The bytes that the sink can hold.
+const CAPACITY: usize = 1 << 20;
 
 // Options that change no byte of a report, each with its name.
 const TIMING: [(&str, &str); 3] = [
@@ -23,6 +24,20 @@ pub struct Outside<'a> {
     pub failing_reads: &'a [u32],
     pub most: usize,
     pub failing_writes: &'a [u32],
+}
+
+impl<'a> Outside<'a> {
+    /// These files, of which each can be read, and a sink that never fails.
+    pub fn calm(files: &'a [(&'a str, &'a [u8])]) -> Outside<'a>
+        ensures { 0 < result.most }
+    {
+        Outside {
+            files,
+            failing_reads: &[],
+            most: 4096,
+            failing_writes: &[],
+        }
+    }
 }
 
 /// The status, and the bytes that were written.
@@ -71,7 +86,7 @@ pub fn monitor_through<R: Threads + Wait + Sync, G: Gate + Sync>(
     let files = files_of(alloc, outside.files)?;
     let mut source = MemoryFiles::make(files, outside.failing_reads.to_vec(alloc)?);
     let failing = outside.failing_writes.to_vec(alloc)?;
-    let mut sink = MemorySink::make(alloc, ROOM, outside.most, failing)?;
+    let mut sink = MemorySink::make(alloc, CAPACITY, outside.most, failing)?;
     let status = varan(rt, alloc, &words, &mut source, &mut sink, gate);
     let written = sink.written().to_vec(alloc)?;
     Ok(Answered { status, written })

@@ -1,5 +1,5 @@
 // Guests that make the calls of a table.
-use crate::{Answered, Outside, monitor};
+use crate::{Answered, Outside, monitor, run};
 use std::alloc::{AllocError, Global};
 use std::sync::Wait;
 use std::thread::Threads;
@@ -66,41 +66,15 @@ g: .ascii \"g\\0\"
 text: .ascii \"abcdefghij\"
 ";
 
-// What the monitor answers to these words over these files.
-fn answer<R: Threads + Wait + Sync>(
-    rt: &R,
-    alloc: Global,
-    words: &[&str],
-    files: &[(&str, &[u8])],
-) -> Result<Answered, AllocError> {
-    let outside = Outside {
-        files,
-        failing_reads: &[],
-        most: 4096,
-        failing_writes: &[],
-    };
-    monitor(rt, alloc, words, outside)
-}
-
-// The file of an assembler text.
-fn assembled<R: Threads + Wait + Sync>(
+/// The version of an assembler text.
+pub fn assembled<R: Threads + Wait + Sync>(
     rt: &R,
     alloc: Global,
     text: &[u8],
 ) -> Result<Vec<u8>, AllocError> {
-    let made = answer(rt, alloc, &["varan", "asm", "a"], &[("a", text)])?;
+    let files = [("a", text)];
+    let made = monitor(rt, alloc, &["varan", "asm", "a"], Outside::calm(&files))?;
     Ok(made.written)
-}
-
-/// A run of a version.
-pub fn run_file<R: Threads + Wait + Sync>(
-    rt: &R,
-    alloc: Global,
-    script: &[u8],
-    version: &[u8],
-) -> Result<Answered, AllocError> {
-    let files = [("s", script), ("v", version)];
-    answer(rt, alloc, &["varan", "run", "--script", "s", "v"], &files)
 }
 
 /// A run of two versions.
@@ -112,12 +86,8 @@ pub fn run_pair<R: Threads + Wait + Sync>(
     second: &[u8],
 ) -> Result<Answered, AllocError> {
     let files = [("s", script), ("a", first), ("b", second)];
-    answer(
-        rt,
-        alloc,
-        &["varan", "run", "--script", "s", "a", "b"],
-        &files,
-    )
+    let words = ["varan", "run", "--script", "s", "a", "b"];
+    monitor(rt, alloc, &words, Outside::calm(&files))
 }
 
 /// A run of the version of an assembler text.
@@ -128,7 +98,7 @@ pub fn run_text<R: Threads + Wait + Sync>(
     text: &[u8],
 ) -> Result<Answered, AllocError> {
     let version = assembled(rt, alloc, text)?;
-    run_file(rt, alloc, script, &version)
+    run(rt, alloc, script, &version)
 }
 
 /// A run of two such versions.

@@ -10,6 +10,6 @@ mod runs;
 pub use call::{Answered, Outside, monitor, monitor_through};
 pub use files::{EXIT, HELLO, HELLO_TWICE, image, set};
 pub use guests::{
-    end_of_report, prefix_of_report, run_file, run_pair, run_table, run_text, run_twice, telling,
+    assembled, end_of_report, prefix_of_report, run_pair, run_table, run_text, run_twice, telling,
 };
 pub use runs::{HELLO_REPORT, LINE, SCRIPT, run};

@@ -14,7 +14,7 @@ pub const LINE: [&str; 5] = ["varan", "run", "--script", "s", "v"];
 pub const HELLO_REPORT: &[u8] =
     b"output 3\nhi\n\nlog 2\n0 100 64 1 0 3 0 0 0 = 3 : 68690a\n1 100 94 0 0 0 0 0 0 = 0 :\nfates 1\n0 exited 0 seen 2 led 0-2 rewrites 0\n";
 
-/// A run of one version over files and a sink that don't fail.
+/// A run of one version.
 pub fn run<R: Threads + Wait + Sync>(
     rt: &R,
     alloc: Global,
@@ -22,11 +22,5 @@ pub fn run<R: Threads + Wait + Sync>(
     version: &[u8],
 ) -> Result<Answered, AllocError> {
     let files = [("s", script), ("v", version)];
-    let outside = Outside {
-        files: &files,
-        failing_reads: &[],
-        most: 4096,
-        failing_writes: &[],
-    };
-    monitor(rt, alloc, &LINE, outside)
+    monitor(rt, alloc, &LINE, Outside::calm(&files))
 }

@@ -83,12 +83,7 @@ fn runs_that_break(rt: HostRuntime) -> Result<(), Fail> {
 fn usual_budget(rt: HostRuntime) -> Result<(), Fail> {
     let version = image(rt.alloc(), &[0x0000006f], b"")?;
     let files: [(&str, &[u8]); 2] = [("s", SCRIPT), ("v", &version)];
-    let outside = Outside {
-        files: &files,
-        failing_reads: &[],
-        most: 4096,
-        failing_writes: &[],
-    };
+    let outside = Outside::calm(&files);
     let answered = monitor_through(&rt, rt.alloc(), &LINE, outside, &OpenGate)?;
     let report =
         b"output 0\n\nlog 0\nfates 1\n0 fault budget 100 00010000 seen 0 led 0-0 rewrites 0\n";

@@ -41,13 +41,7 @@ fn run_four<R: Threads + Wait + Sync>(
 ) -> Result<Answered, AllocError> {
     let version = image(alloc, &ASKS_99, b"")?;
     let files = [("s", SCRIPT), ("v", version.as_slice())];
-    let outside = Outside {
-        files: &files,
-        failing_reads: &[],
-        most: 4096,
-        failing_writes: &[],
-    };
-    monitor(rt, alloc, words, outside)
+    monitor(rt, alloc, words, Outside::calm(&files))
 }
 
 #[test]
@@ -100,12 +94,7 @@ fn large_writes(rt: HostRuntime) -> Result<(), Fail> {
         let words = [
             "varan", "run", "--script", "s", "--ring", ring, "v", "v", "v", "v",
         ];
-        let outside = Outside {
-            files: &files,
-            failing_reads: &[],
-            most: 4096,
-            failing_writes: &[],
-        };
+        let outside = Outside::calm(&files);
         let answered = monitor(&rt, rt.alloc(), &words, outside)?;
         assert_eq!(rt; answered.status, 0);
         assert!(rt; answered.written.as_slice() == report.as_bytes());
@@ -163,12 +152,7 @@ fn versions_run_beside_each_other(rt: HostRuntime) -> Result<(), Fail> {
     let pair = report(rt.alloc(), 19, 2)?;
     let version = image(rt.alloc(), &ASKS_19, b"")?;
     let files = [("s", SCRIPT), ("v", version.as_slice())];
-    let outside = Outside {
-        files: &files,
-        failing_reads: &[],
-        most: 4096,
-        failing_writes: &[],
-    };
+    let outside = Outside::calm(&files);
     let meeting = Meeting {
         published: AtomicU64::new(0),
         taken: AtomicU64::new(0),

@@ -12,13 +12,7 @@ fn call<R: Threads + Wait + Sync>(
     version: &[u8],
 ) -> Result<Answered, AllocError> {
     let files = [("s", SCRIPT), ("v", version)];
-    let outside = Outside {
-        files: &files,
-        failing_reads: &[],
-        most: 4096,
-        failing_writes: &[],
-    };
-    monitor(rt, alloc, words, outside)
+    monitor(rt, alloc, words, Outside::calm(&files))
 }
 
 #[test]

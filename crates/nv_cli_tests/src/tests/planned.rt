@@ -28,13 +28,7 @@ fn run_files<R: Threads + Wait + Sync>(
 ) -> Result<Answered, AllocError> {
     let [script, first, second] = contents;
     let files = [("s", script), ("a", first), ("b", second)];
-    let outside = Outside {
-        files: &files,
-        failing_reads: &[],
-        most: 4096,
-        failing_writes: &[],
-    };
-    monitor(rt, alloc, words, outside)
+    monitor(rt, alloc, words, Outside::calm(&files))
 }
 
 // A run of versions of these instructions, with the text after them.

@@ -15,13 +15,7 @@ fn run<R: Threads + Wait + Sync>(
 ) -> Result<Answered, AllocError> {
     let [first, second, third] = versions;
     let files = [("s", SCRIPT), ("a", first), ("b", second), ("c", third)];
-    let outside = Outside {
-        files: &files,
-        failing_reads: &[],
-        most: 4096,
-        failing_writes: &[],
-    };
-    monitor(rt, alloc, words, outside)
+    monitor(rt, alloc, words, Outside::calm(&files))
 }
 
 // A run of two versions of these instructions, with the text after them.

@@ -1,4 +1,4 @@
-use nv_test_support::{Answered, Outside, SCRIPT, monitor, run};
+use nv_test_support::{Answered, SCRIPT, assembled, run, run_pair};
 use std::alloc::{AllocError, Global};
 use std::sync::Wait;
 use std::test::Fail;
@@ -126,44 +126,6 @@ ecall
 jalr zero, 0(ra)
 ";
 
-// The version of an assembler text.
-fn assembled<R: Threads + Wait + Sync>(
-    rt: &R,
-    alloc: Global,
-    text: &str,
-) -> Result<Vec<u8>, AllocError> {
-    let outside = Outside {
-        files: &[("a", text.as_bytes())],
-        failing_reads: &[],
-        most: 4096,
-        failing_writes: &[],
-    };
-    let made = monitor(rt, alloc, &["varan", "asm", "a"], outside)?;
-    Ok(made.written)
-}
-
-// A run of two versions.
-fn run_pair<R: Threads + Wait + Sync>(
-    rt: &R,
-    alloc: Global,
-    versions: [&[u8]; 2],
-) -> Result<Answered, AllocError> {
-    let [first, second] = versions;
-    let files = [("s", SCRIPT), ("a", first), ("b", second)];
-    let outside = Outside {
-        files: &files,
-        failing_reads: &[],
-        most: 4096,
-        failing_writes: &[],
-    };
-    monitor(
-        rt,
-        alloc,
-        &["varan", "run", "--script", "s", "a", "b"],
-        outside,
-    )
-}
-
 // A run of the versions of two assembler texts.
 fn pair<R: Threads + Wait + Sync>(
     rt: &R,
@@ -171,9 +133,9 @@ fn pair<R: Threads + Wait + Sync>(
     first: &str,
     second: &str,
 ) -> Result<Answered, AllocError> {
-    let first = assembled(rt, alloc, first)?;
-    let second = assembled(rt, alloc, second)?;
-    run_pair(rt, alloc, [&first, &second])
+    let first = assembled(rt, alloc, first.as_bytes())?;
+    let second = assembled(rt, alloc, second.as_bytes())?;
+    run_pair(rt, alloc, SCRIPT, &first, &second)
 }
 
 // The second version's thread asks before the first version's first thread has written.
@@ -216,7 +178,7 @@ fn lone_threads(rt: HostRuntime) -> Result<(), Fail> {
         ),
     ];
     for (text, status, report) in cases {
-        let version = assembled(&rt, rt.alloc(), text)?;
+        let version = assembled(&rt, rt.alloc(), text.as_bytes())?;
         let answered = run(&rt, rt.alloc(), SCRIPT, &version)?;
         assert_eq!(rt; answered.status, status);
         assert_eq!(rt; answered.written.as_slice(), report);

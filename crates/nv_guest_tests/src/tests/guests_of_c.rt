@@ -1,6 +1,6 @@
 // Guests of examples/guests, and what they write under Linux.
 use crate::{HEAP, SERVICE_1, SERVICE_2, SERVICE_3};
-use nv_test_support::{prefix_of_report, run_file, run_pair};
+use nv_test_support::{prefix_of_report, run, run_pair};
 use nv_text::unhex;
 use std::test::Fail;
 
@@ -24,7 +24,7 @@ abababababab.. of 32768 bytes
 #[test]
 fn printf_and_malloc(rt: HostRuntime) -> Result<(), Fail> {
     let heap = unhex(rt.alloc(), HEAP.as_bytes())?.ok_or("hexadecimal")?;
-    let answered = run_file(&rt, rt.alloc(), HEAP_SCRIPT, &heap)?;
+    let answered = run(&rt, rt.alloc(), HEAP_SCRIPT, &heap)?;
     let prefix = prefix_of_report(rt.alloc(), HEAP_WRITES)?;
     let end = b"\nfates 1\n0 exited 3 seen 9 led 0-9 rewrites 0\n";
     assert_eq!(rt; answered.status, 0);

@@ -21,13 +21,7 @@ fn call<R: Threads + Wait + Sync>(
     content: &[u8],
 ) -> Result<Answered, AllocError> {
     let files = [("a", content)];
-    let outside = Outside {
-        files: &files,
-        failing_reads: &[],
-        most: 4096,
-        failing_writes: &[],
-    };
-    monitor(rt, alloc, &["varan", "asm", "a"], outside)
+    monitor(rt, alloc, &["varan", "asm", "a"], Outside::calm(&files))
 }
 
 #[test]
@@ -67,12 +61,7 @@ fn words_of_asm(rt: HostRuntime) -> Result<(), Fail> {
         &["varan", "asm", "a", "a"],
     ];
     for words in refused {
-        let outside = Outside {
-            files: &[("a", b"ecall\n")],
-            failing_reads: &[],
-            most: 4096,
-            failing_writes: &[],
-        };
+        let outside = Outside::calm(&[("a", b"ecall\n")]);
         let answered = monitor(&rt, rt.alloc(), words, outside)?;
         assert_eq!(rt; answered.written.as_slice(), b"varan: usage\n".as_slice());
         assert_eq!(rt; answered.status, 2);

@@ -19,13 +19,7 @@ fn call<R: Threads + Wait + Sync>(
     file: &[u8],
 ) -> Result<Answered, AllocError> {
     let files = [("s", script), ("f", file)];
-    let outside = Outside {
-        files: &files,
-        failing_reads: &[],
-        most: 4096,
-        failing_writes: &[],
-    };
-    monitor(rt, alloc, words, outside)
+    monitor(rt, alloc, words, Outside::calm(&files))
 }
 
 #[test]

@@ -87,12 +87,7 @@ fn usage(rt: HostRuntime) -> Result<(), Fail> {
         &["varan", "--help", "--script", "s", "v"],
     ];
     for words in lines {
-        let outside = Outside {
-            files: &[],
-            failing_reads: &[],
-            most: 4096,
-            failing_writes: &[],
-        };
+        let outside = Outside::calm(&[]);
         let answered = monitor(&rt, rt.alloc(), words, outside)?;
         assert_eq!(rt; answered.status, 2);
         assert_eq!(rt; answered.written.as_slice(), b"varan: usage\n".as_slice());

@@ -18,13 +18,7 @@ fn call<R: Threads + Wait + Sync>(
     content: &[u8],
 ) -> Result<Answered, AllocError> {
     let files = [("r", content)];
-    let outside = Outside {
-        files: &files,
-        failing_reads: &[],
-        most: 4096,
-        failing_writes: &[],
-    };
-    monitor(rt, alloc, words, outside)
+    monitor(rt, alloc, words, Outside::calm(&files))
 }
 
 #[test]
