@@ -66,7 +66,7 @@ publish_call-requires-clause-few g c κs within =
     let f1 = placed_lead c.requires.leads.0 c.args.room.now c.args.most c.requires.leads.1 c.args.version.now c.args.lead.now (Some c.args.tid) c.requires.leads.2 c.place.new.lead e.of e.same e.due e.kernel e.seen e.wrote e.spans in
     let f2 = reserved_lead c.requires.leads.0 c.args.room.now c.args.most c.requires.leads.1 c.args.version.now c.place.new.lead (Some c.args.tid) f1 c.reserve.new.self r.same r.view r.due r.log r.start in
     let w = waits_lead c.requires.leads.0 c.args.room.now c.args.most c.requires.leads.1 c.args.version.now c.reserve.new.self c.args.tid f2 in
-    omega (arith, w.room, c.requires.most)
+    omega (arith, w.few, c.requires.most)
 
 pub returns-clause-after : goal.returns-clause-after
 returns-clause-after g c = λ j p f.
