@@ -3,10 +3,10 @@ ghost use Rattle.std.specs.Prelude.{◌≡◌, ◌<◌, ◌≤◌, IfOk};
 ghost use Rattle.nv_calls.specs.Calls.{request};
 ghost use Rattle.nv_calls.specs.Shapes.{IsShaped};
 ghost use Rattle.nv_calls.specs.Limits.{MOST_EVENTS};
-ghost use Rattle.nv_room_tests.specs.Going.{GoesOn};
+ghost use Rattle.nv_room_runs.specs.Going.{GoesOn};
 
 use nv_calls::SyscallKernel;
-use nv_room_tests::{Script, exit_group, kernel, serve_all, write};
+use nv_room_runs::{Script, exit_group, kernel, serve_all, write};
 use std::alloc::{AllocError, Global};
 use std::thread::Threads;
 
@@ -28,7 +28,7 @@ pub fn run_room<R: Threads + Sync>(
     requires versions { (0 < versions) × (versions ≤ 8) }
 {
     let script = script(alloc, bytes, events)?;
-    let ended = nv_room_tests::run(rt, alloc, kernel(alloc)?, &script, versions, PLACES)?;
+    let ended = nv_room_runs::run(rt, alloc, kernel(alloc)?, &script, versions, PLACES)?;
     Ok(match ended.seen.last() {
         Some(seen) => *seen as u64,
         None => 0,

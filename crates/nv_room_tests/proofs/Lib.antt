@@ -1,3 +1,0 @@
-mod Orders
-mod Living
-pub mod Shaped

@@ -1,18 +1,5 @@
-//! Rooms that threads run: one publishes and the others read, or each leads in its turn; and a change of leader and a planned hand-over step by step.
+//! Tests of the ring, of the change of leader and of a planned hand-over, on threads of the host.
 #![tactic(auto)]
 
-mod alternating;
-mod calls;
-mod changing;
-mod handing;
-mod relaying;
-mod running;
 #[cfg(test)]
 mod tests;
-
-pub use alternating::{Pair, run_pair};
-pub use calls::{clone, exit_group, getuid, kernel, of_thread, write};
-pub use changing::change_leader;
-pub use handing::hand_over;
-pub use relaying::{Relay, all_cross, run_relay};
-pub use running::{Script, run, serve_all};

@@ -1,11 +1,9 @@
 ghost use Rattle.std.specs.Prelude.{◌<◌, ◌≤◌};
 
-use crate::alternating::{Pair, run_pair};
-use crate::calls::{clone, exit_group, getuid, kernel, of_thread, write};
-use crate::changing::change_leader;
-use crate::handing::hand_over;
-use crate::relaying::{Relay, run_relay};
-use crate::running::{Script, run};
+use nv_room_runs::{
+    Pair, Relay, Script, change_leader, clone, exit_group, getuid, hand_over, kernel, of_thread,
+    run, run_pair, run_relay, write,
+};
 use std::alloc::Global;
 use std::process::Abort;
 use std::thread::Threads;

@@ -1,0 +1,3 @@
+mod Orders
+mod Living
+pub mod Shaped
