@@ -4,7 +4,7 @@ use Rattle.std.specs.Prelude.{slice_index}
 use Rattle.std.proofs.lemmas.Bool.{and_parts}
 use Rattle.std.proofs.lemmas.Bool.Decides.{nat_tests}
 use Rattle.nv_calls.specs.declared.numbers.Syscall.{Syscall}
-use Rattle.nv_calls.specs.declared.numbers.Syscall.TheVariants.{Unlinkat, Openat, Write, Readv, Writev}
+use Rattle.nv_calls.specs.declared.numbers.Syscall.TheVariants.{Unlinkat, Openat, Write, Readv, Writev, Bind}
 use Rattle.nv_calls.specs.Calls.{Request}
 use Rattle.nv_calls.specs.Numbers.{syscall_of, has_range, hands_in, is_local}
 use Rattle.nv_calls.specs.Shapes.{are_plain, kept_slots, most_of_vectors, is_capacity, is_path, is_payload, is_shaped_as, is_shaped, IsShaped}
@@ -28,6 +28,7 @@ payload_few Unlinkat c h = path_few c h
 payload_few Openat c h = path_few c h
 payload_few Write c h = grind (arith, nat_tests)
 payload_few Writev c h = let v = vectors_few c in let few : length c.payload ≤ most_of_vectors c = grind (arith, nat_tests) in omega arith
+payload_few Bind c h = grind (arith, nat_tests)
 payload_few _ c h = let z = none c h in omega arith
 
 payload_empty : (k : Syscall) (c : Request) → hands_in k ≡ false → is_payload k c ≡ true → length c.payload ≡ 0
@@ -35,6 +36,7 @@ payload_empty Unlinkat c e h = cc
 payload_empty Openat c e h = cc
 payload_empty Write c e h = cc
 payload_empty Writev c e h = cc
+payload_empty Bind c e h = cc
 payload_empty _ c e h = none c h
 
 few_by : (b : Bool) (k : Syscall) (c : Request) → cond b (length c.payload == 0) (is_payload k c) ≡ true → length c.payload ≤ 4096

@@ -48,3 +48,12 @@ ENAMETOOLONG = negsuc 35
 
 abbrev pub ENOSYS : ℤ
 ENOSYS = negsuc 37
+
+abbrev pub ENOTSOCK : ℤ
+ENOTSOCK = negsuc 87
+
+abbrev pub EADDRINUSE : ℤ
+EADDRINUSE = negsuc 97
+
+abbrev pub ENOTCONN : ℤ
+ENOTCONN = negsuc 106

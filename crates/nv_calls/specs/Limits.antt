@@ -13,6 +13,10 @@ MOST_VECTORS = 1024
 abbrev pub MOST_PATH : ℕ
 MOST_PATH = 256
 
+-- bytes of a socket's address that are read: those of an address of IPv4 (ip(7))
+abbrev pub MOST_ADDRESS : ℕ
+MOST_ADDRESS = 16
+
 -- the thread that lives at the start
 abbrev pub FIRST_THREAD : ℕ
 FIRST_THREAD = 100

@@ -64,10 +64,16 @@ pub record MayFollow (n : ℕ) (live : List ℕ) (e : Entry) : Type 0 where
 abbrev pub IsLawful : List Entry → Type 0
 IsLawful log = (i : ℕ) (e : Entry) → slice_get log i ≡ Some e → MayFollow i (live_after (take i log)) e
 
--- how a kernel goes on from its start: what it answers, and what stands on its console, after calls
+-- a connection of the script's: its port, and what was written to it
+pub record Written : Type 0 where
+  pub port : ℕ
+  pub bytes : List ℕ
+
+-- how a kernel goes on from its start: what it answers, what stands on its console, and what its connections were written, after calls
 pub record Start : Type 0 where
   pub replies : List Request → Request → Response
   pub console : List Request → List ℕ
+  pub connections : List Request → List Written
 
 abbrev pub call_of : Entry → Request
 call_of e = e.call
@@ -86,6 +92,9 @@ IsLegal start log = (i : ℕ) (e : Entry) → slice_get log i ≡ Some e → e �
 abbrev pub output_of : Start → List Entry → List ℕ
 output_of start log = start.console (calls_of log)
 
+abbrev pub connections_of : Start → List Entry → List Written
+connections_of start log = start.connections (calls_of log)
+
 -- the exit status that the last call asks for
 abbrev pub last_status : List Entry → ℕ
 last_status [] = 0
@@ -100,3 +109,4 @@ ended_after log = if length (live_after log) == 0 then Some (last_status log) el
 pub record SameStart (a b : Start) : Type 0 where
   pub replies : (cs : List Request) (c : Request) → a.replies cs c ≡ b.replies cs c
   pub console : (cs : List Request) → a.console cs ≡ b.console cs
+  pub connections : (cs : List Request) → a.connections cs ≡ b.connections cs

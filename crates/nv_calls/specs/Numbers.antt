@@ -1,7 +1,7 @@
 -- Linux's calls for RISC-V by their numbers (syscalls(2), asm-generic/unistd.h), and which arguments of each are values.
 use Rattle.std.specs.Prelude.{ℕ, ◌==◌, ◌||◌, Bool, true, false, List, [], ◌∷◌, if◌then◌else◌}
 use Rattle.nv_calls.specs.declared.numbers.Syscall.{Syscall}
-use Rattle.nv_calls.specs.declared.numbers.Syscall.TheVariants.{Getcwd, Dup, Dup3, Ioctl, Unlinkat, Openat, Close, Pipe2, Llseek, Read, Write, Readv, Writev, Exit, ExitGroup, Uname, Getpid, Getppid, Getuid, Geteuid, Getgid, Getegid, Clone, Getrandom, ClockGettime64, Unknown}
+use Rattle.nv_calls.specs.declared.numbers.Syscall.TheVariants.{Getcwd, Dup, Dup3, Ioctl, Unlinkat, Openat, Close, Pipe2, Llseek, Read, Write, Readv, Writev, Exit, ExitGroup, Uname, Getpid, Getppid, Getuid, Geteuid, Getgid, Getegid, Socket, Bind, Listen, Accept, Clone, Accept4, Getrandom, ClockGettime64, Unknown}
 use Rattle.nv_calls.specs.declared.numbers.Slot.{Slot}
 use Rattle.nv_calls.specs.declared.numbers.Slot.TheVariants.{Value, Address, Unused}
 
@@ -26,8 +26,8 @@ abbrev pub table : List Row
 table =
     row 17 Getcwd ∷ row 23 Dup ∷ row 24 Dup3 ∷ row 29 Ioctl ∷ row 35 Unlinkat ∷ row 56 Openat ∷ row 57 Close ∷ row 59 Pipe2
     ∷ row 62 Llseek ∷ row 63 Read ∷ row 64 Write ∷ row 65 Readv ∷ row 66 Writev ∷ row EXIT Exit ∷ row EXIT_GROUP ExitGroup ∷ row 160 Uname
-    ∷ row 172 Getpid ∷ row 173 Getppid ∷ row 174 Getuid ∷ row 175 Geteuid ∷ row 176 Getgid ∷ row 177 Getegid ∷ row CLONE Clone
-    ∷ row 278 Getrandom ∷ row 403 ClockGettime64 ∷ []
+    ∷ row 172 Getpid ∷ row 173 Getppid ∷ row 174 Getuid ∷ row 175 Geteuid ∷ row 176 Getgid ∷ row 177 Getegid ∷ row 198 Socket ∷ row 200 Bind
+    ∷ row 201 Listen ∷ row 202 Accept ∷ row CLONE Clone ∷ row 242 Accept4 ∷ row 278 Getrandom ∷ row 403 ClockGettime64 ∷ []
 
 abbrev pub found : List Row → ℕ → Syscall
 found [] nr = Unknown
@@ -55,6 +55,11 @@ slots_by Writev = Value ∷ Address ∷ Value ∷ Unused ∷ Unused ∷ Unused �
 slots_by Exit = Value ∷ Unused ∷ Unused ∷ Unused ∷ Unused ∷ Unused ∷ []
 slots_by ExitGroup = Value ∷ Unused ∷ Unused ∷ Unused ∷ Unused ∷ Unused ∷ []
 slots_by Uname = Address ∷ Unused ∷ Unused ∷ Unused ∷ Unused ∷ Unused ∷ []
+slots_by Socket = Value ∷ Value ∷ Value ∷ Unused ∷ Unused ∷ Unused ∷ []
+slots_by Bind = Value ∷ Address ∷ Value ∷ Unused ∷ Unused ∷ Unused ∷ []
+slots_by Listen = Value ∷ Value ∷ Unused ∷ Unused ∷ Unused ∷ Unused ∷ []
+slots_by Accept = Value ∷ Unused ∷ Unused ∷ Unused ∷ Unused ∷ Unused ∷ []
+slots_by Accept4 = Value ∷ Unused ∷ Unused ∷ Value ∷ Unused ∷ Unused ∷ []
 slots_by Clone = Value ∷ Address ∷ Unused ∷ Address ∷ Unused ∷ Unused ∷ []
 slots_by Getrandom = Address ∷ Value ∷ Value ∷ Unused ∷ Unused ∷ Unused ∷ []
 slots_by ClockGettime64 = Value ∷ Address ∷ Unused ∷ Unused ∷ Unused ∷ Unused ∷ []
@@ -76,6 +81,7 @@ has_range Write = true
 has_range Readv = true
 has_range Writev = true
 has_range Uname = true
+has_range Bind = true
 has_range Getrandom = true
 has_range ClockGettime64 = true
 has_range _ = false
@@ -86,6 +92,7 @@ hands_in Unlinkat = true
 hands_in Openat = true
 hands_in Write = true
 hands_in Writev = true
+hands_in Bind = true
 hands_in _ = false
 
 -- a call that makes or ends threads

@@ -2,11 +2,11 @@
 use Rattle.std.specs.Prelude.{◌≡◌, ℕ, Bool, true, ◌==◌, ◌&&◌, ◌||◌, not, nat_le, List, [], ◌∷◌, length, slice_index, min, if◌then◌else◌}
 use Rattle.std.specs.List.{list_all}
 use Rattle.nv_calls.specs.declared.numbers.Syscall.{Syscall}
-use Rattle.nv_calls.specs.declared.numbers.Syscall.TheVariants.{Unlinkat, Openat, Write, Readv, Writev}
+use Rattle.nv_calls.specs.declared.numbers.Syscall.TheVariants.{Unlinkat, Openat, Write, Readv, Writev, Bind}
 use Rattle.nv_calls.specs.declared.numbers.Slot.{Slot}
 use Rattle.nv_calls.specs.declared.numbers.Slot.TheVariants.{Value, Address, Unused}
 use Rattle.nv_calls.specs.Calls.{Request}
-use Rattle.nv_calls.specs.Limits.{MOST_BYTES, MOST_VECTORS, MOST_PATH}
+use Rattle.nv_calls.specs.Limits.{MOST_BYTES, MOST_VECTORS, MOST_PATH, MOST_ADDRESS}
 use Rattle.nv_calls.specs.Numbers.{syscall_of, slots_by, has_range, is_local}
 
 -- an argument that is no value is 0
@@ -43,6 +43,7 @@ is_payload Unlinkat c = is_path c.payload
 is_payload Openat c = is_path c.payload
 is_payload Write c = length c.payload == min (slice_index c.args 2) MOST_BYTES
 is_payload Writev c = nat_le (length c.payload) (most_of_vectors c)
+is_payload Bind c = length c.payload == min (slice_index c.args 2) MOST_ADDRESS
 is_payload _ c = length c.payload == 0
 
 abbrev pub is_shaped_as : Syscall → Request → Bool

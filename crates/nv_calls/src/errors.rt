@@ -31,3 +31,9 @@ pub const ERANGE: i32 = -34;
 pub const ENAMETOOLONG: i32 = -36;
 
 pub const ENOSYS: i32 = -38;
+
+pub const ENOTSOCK: i32 = -88;
+
+pub const EADDRINUSE: i32 = -98;
+
+pub const ENOTCONN: i32 = -107;

@@ -14,7 +14,9 @@ mod threads;
 pub use bytes::Bytes;
 pub use calls::{Call, Event, Reply, same};
 pub use kernel::SyscallKernel;
-pub use limits::{FIRST_THREAD, MOST_BYTES, MOST_EVENTS, MOST_PATH, MOST_THREADS, MOST_VECTORS};
+pub use limits::{
+    FIRST_THREAD, MOST_ADDRESS, MOST_BYTES, MOST_EVENTS, MOST_PATH, MOST_THREADS, MOST_VECTORS,
+};
 pub use numbers::{CLONE, EXIT, EXIT_GROUP, Slot, Syscall, is_local, slots};
 pub use shapes::shaped;
 pub use threads::{is_of_threads, made};

@@ -9,6 +9,9 @@ pub const MOST_VECTORS: u32 = 1024;
 /// How many bytes of a path are read; a path of so many has no end among them.
 pub const MOST_PATH: usize = 256;
 
+/// How many bytes of a socket's address are read: those of an address of IPv4 (ip(7)).
+pub const MOST_ADDRESS: u32 = 16;
+
 /// The thread that lives at the start.
 pub const FIRST_THREAD: u32 = 100;
 

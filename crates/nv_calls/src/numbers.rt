@@ -36,7 +36,12 @@ pub enum Syscall {
     Geteuid,
     Getgid,
     Getegid,
+    Socket,
+    Bind,
+    Listen,
+    Accept,
     Clone,
+    Accept4,
     Getrandom,
     ClockGettime64,
     /// A number that isn't built.
@@ -80,7 +85,12 @@ impl Syscall {
             175 => Syscall::Geteuid,
             176 => Syscall::Getgid,
             177 => Syscall::Getegid,
+            198 => Syscall::Socket,
+            200 => Syscall::Bind,
+            201 => Syscall::Listen,
+            202 => Syscall::Accept,
             CLONE => Syscall::Clone,
+            242 => Syscall::Accept4,
             278 => Syscall::Getrandom,
             403 => Syscall::ClockGettime64,
             _ => Syscall::Unknown,
@@ -95,11 +105,11 @@ impl Syscall {
         let a = Slot::Address;
         let u = Slot::Unused;
         match self {
-            Syscall::Dup | Syscall::Close | Syscall::Exit | Syscall::ExitGroup => [
-                v, u, u, u, u, u,
-            ],
-            Syscall::Ioctl => [v, v, u, u, u, u],
-            Syscall::Dup3 => [v, v, v, u, u, u],
+            Syscall::Dup | Syscall::Close | Syscall::Exit | Syscall::ExitGroup | Syscall::Accept =>
+                [v, u, u, u, u, u],
+            Syscall::Ioctl | Syscall::Listen => [v, v, u, u, u, u],
+            Syscall::Dup3 | Syscall::Socket => [v, v, v, u, u, u],
+            Syscall::Accept4 => [v, u, u, v, u, u],
             Syscall::Uname => [a, u, u, u, u, u],
             Syscall::Getcwd | Syscall::Pipe2 => [a, v, u, u, u, u],
             Syscall::Getrandom => [a, v, v, u, u, u],
@@ -109,7 +119,8 @@ impl Syscall {
             | Syscall::Read
             | Syscall::Write
             | Syscall::Readv
-            | Syscall::Writev => [v, a, v, u, u, u],
+            | Syscall::Writev
+            | Syscall::Bind => [v, a, v, u, u, u],
             Syscall::Clone => [v, a, u, a, u, u],
             Syscall::Llseek => [v, v, v, a, v, u],
             _ => [u, u, u, u, u, u],
@@ -131,6 +142,7 @@ impl Syscall {
             | Syscall::Readv
             | Syscall::Writev
             | Syscall::Uname
+            | Syscall::Bind
             | Syscall::Getrandom
             | Syscall::ClockGettime64 => true,
             _ => false,

@@ -5,7 +5,7 @@ ghost use Rattle.nv_calls.specs.Calls.{request};
 ghost use Rattle.nv_calls.specs.Shapes.{is_plain, are_plain, kept_slots, most_of_vectors, is_capacity, is_path, is_payload, is_shaped_as, is_shaped};
 
 use crate::calls::Call;
-use crate::limits::{MOST_BYTES, MOST_PATH, MOST_VECTORS};
+use crate::limits::{MOST_ADDRESS, MOST_BYTES, MOST_PATH, MOST_VECTORS};
 use crate::numbers::{Slot, Syscall, is_local};
 
 /// Whether the call has the form of those that a guest makes and that are logged.
@@ -100,6 +100,7 @@ fn is_payload(syscall: Syscall, call: &Call) -> bool
         Syscall::Unlinkat | Syscall::Openat => is_path(bytes),
         Syscall::Write => bytes.len() == call.args[2].min(MOST_BYTES) as usize,
         Syscall::Writev => bytes.len() <= most_of_vectors(call) as usize,
+        Syscall::Bind => bytes.len() == call.args[2].min(MOST_ADDRESS) as usize,
         _ => bytes.len() == 0,
     }
 }

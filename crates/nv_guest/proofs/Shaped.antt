@@ -4,7 +4,7 @@ use Rattle.std.specs.Prelude.{IfSome}
 use Rattle.std.specs.List.{list_all}
 use Rattle.std.proofs.lemmas.Bool.Decides.{nat_tests}
 use Rattle.nv_calls.specs.declared.numbers.Syscall.{Syscall}
-use Rattle.nv_calls.specs.declared.numbers.Syscall.TheVariants.{Getcwd, Unlinkat, Openat, Pipe2, Llseek, Read as ReadCall, Write as WriteCall, Readv, Writev, Uname, Getrandom, ClockGettime64}
+use Rattle.nv_calls.specs.declared.numbers.Syscall.TheVariants.{Getcwd, Unlinkat, Openat, Pipe2, Llseek, Read as ReadCall, Write as WriteCall, Readv, Writev, Bind, Uname, Getrandom, ClockGettime64}
 use Rattle.nv_calls.specs.Numbers.{syscall_of, is_local}
 use Rattle.nv_calls.specs.Shapes.{is_path, is_shaped_as, is_shaped, IsShaped}
 use Rattle.nv_memory.specs.declared.region.Right.{Right}
@@ -16,7 +16,7 @@ use Rattle.nv_machine.specs.Guest.{Machine}
 use Rattle.nv_guest.specs.declared.vectors.Part.{Part}
 use Rattle.nv_guest.specs.Paths.{byte_at, path_with, path_at}
 use Rattle.nv_guest.specs.Vectors.{vector_at, prefix_of, usable_by, usable_at, parts_with, parts_at, capacity, joined}
-use Rattle.nv_guest.specs.Calls.{argument, number, out_of, vector_count, bytes_in, path_in, vectors_in, capacity_in, Handed, refused, with_payload, with_capacity, with_out, handed, call_by, call_at}
+use Rattle.nv_guest.specs.Calls.{argument, number, out_of, vector_count, bytes_in, address_in, path_in, vectors_in, capacity_in, Handed, refused, with_payload, with_capacity, with_out, handed, call_by, call_at}
 
 pub length-bytes_at : (bytes : List ℕ) (a n : ℕ) → length (bytes_at bytes a n) ≡ n
 length-bytes_at bytes a zero = refl
@@ -136,6 +136,8 @@ shaped-by Unlinkat m tid = by_payload (Fit Unlinkat m tid) (IsPathBy 256) (path_
 shaped-by Openat m tid = by_payload (Fit Openat m tid) (IsPathBy 256) (path_in m) (path-fits 256 m.memory (argument m 1)) refl (λ bytes h. path-is bytes h)
 shaped-by WriteCall m tid = by_payload (Fit WriteCall m tid) (λ xs. (length xs == min (argument m 2) 4096) ≡ true) (bytes_in m)
     (written_in m.memory.bytes (argument m 1) (min (argument m 2) 4096) (holds m.memory.regions (argument m 1) (min (argument m 2) 4096) Read)) refl (λ bytes h. h)
+shaped-by Bind m tid = by_payload (Fit Bind m tid) (λ xs. (length xs == min (argument m 2) 16) ≡ true) (address_in m)
+    (written_in m.memory.bytes (argument m 1) (min (argument m 2) 16) (holds m.memory.regions (argument m 1) (min (argument m 2) 16) Read)) refl (λ bytes h. h)
 shaped-by Writev m tid = by_payload (Fit Writev m tid) (λ xs. nat_le (length xs) (cond (nat_le (argument m 2) 1024) 4096 0) ≡ true) (vectors_in m)
     (gathered m.memory (parts_at m.memory Read (vector_count m) 4096 (argument m 1)) (cond (nat_le (argument m 2) 1024) 4096 0) (counted m.memory Read (nat_le (argument m 2) 1024) (argument m 2) 4096 (argument m 1))) refl (λ bytes h. h)
 shaped-by Readv m tid = by_capacity (Fit Readv m tid) (λ capacity. nat_le capacity (cond (nat_le (argument m 2) 1024) 4096 0) ≡ true) (capacity_in m)

@@ -2,11 +2,11 @@
 use Rattle.std.specs.Prelude.{ℕ, ◌+◌, min, List, [], ◌∷◌, length, Bool, true, false, ℤ, Option, Some, None, option_map, nat_le, slice_set, if◌then◌else◌}
 use Rattle.std.specs.Int.{w32, cast_unsigned}
 use Rattle.nv_calls.specs.declared.numbers.Syscall.{Syscall}
-use Rattle.nv_calls.specs.declared.numbers.Syscall.TheVariants.{Unlinkat, Openat, Write as WriteCall, Readv, Writev}
+use Rattle.nv_calls.specs.declared.numbers.Syscall.TheVariants.{Unlinkat, Openat, Write as WriteCall, Readv, Writev, Bind}
 use Rattle.nv_calls.specs.declared.numbers.Slot.{Slot}
 use Rattle.nv_calls.specs.declared.numbers.Slot.TheVariants.{Value, Address, Unused}
 use Rattle.nv_calls.specs.Calls.{Request}
-use Rattle.nv_calls.specs.Limits.{MOST_BYTES, MOST_VECTORS, MOST_PATH}
+use Rattle.nv_calls.specs.Limits.{MOST_BYTES, MOST_VECTORS, MOST_PATH, MOST_ADDRESS}
 use Rattle.nv_calls.specs.Answers.{most_out_by, answer_slot}
 use Rattle.nv_calls.specs.Numbers.{syscall_of, slots_by}
 use Rattle.nv_memory.specs.declared.region.Right.TheVariants.{Read, Write}
@@ -60,10 +60,18 @@ out_of k m = option_map (λ slot. record { address = argument m slot; size = mos
 abbrev pub vector_count : Machine → ℕ
 vector_count m = if nat_le (argument m 2) MOST_VECTORS then argument m 2 else 0
 
--- the first bytes of a write, where they may be read
+-- the first bytes that the second argument names, of as many as the third says and at most so many, where they may be read
+abbrev pub first_bytes : ℕ → Machine → Option (List ℕ)
+first_bytes most m = if holds m.memory.regions (argument m 1) (min (argument m 2) most) Read
+    then Some (bytes_at m.memory.bytes (argument m 1) (min (argument m 2) most)) else None
+
+-- the first bytes of a write
 abbrev pub bytes_in : Machine → Option (List ℕ)
-bytes_in m = if holds m.memory.regions (argument m 1) (min (argument m 2) MOST_BYTES) Read
-    then Some (bytes_at m.memory.bytes (argument m 1) (min (argument m 2) MOST_BYTES)) else None
+bytes_in m = first_bytes MOST_BYTES m
+
+-- the first bytes of a socket's address (bind(2))
+abbrev pub address_in : Machine → Option (List ℕ)
+address_in m = first_bytes MOST_ADDRESS m
 
 -- the first bytes of a path, or those before its 0
 abbrev pub path_in : Machine → Option (List ℕ)
@@ -110,6 +118,7 @@ abbrev pub handed : Syscall → Machine → Handed
 handed Unlinkat m = with_payload (path_in m)
 handed Openat m = with_payload (path_in m)
 handed WriteCall m = with_payload (bytes_in m)
+handed Bind m = with_payload (address_in m)
 handed Writev m = with_payload (vectors_in m)
 handed Readv m = with_capacity (capacity_in m)
 handed k m = with_out m.memory (out_of k m)

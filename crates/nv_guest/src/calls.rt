@@ -5,13 +5,13 @@ ghost use Rattle.nv_calls.specs.Calls.{request};
 ghost use Rattle.nv_calls.specs.Numbers.{is_local};
 ghost use Rattle.nv_calls.specs.Shapes.{IsShaped};
 ghost use Rattle.nv_guest.specs.Threads.{asked_by};
-ghost use Rattle.nv_guest.specs.Calls.{argument, number, call_at, kept, values, values_with, out_of, vector_count, path_in, bytes_in, vectors_in, capacity_in, refused, with_payload, with_capacity, with_out, handed, handed_as, memory_after};
+ghost use Rattle.nv_guest.specs.Calls.{argument, number, call_at, kept, values, values_with, out_of, vector_count, path_in, first_bytes, vectors_in, capacity_in, refused, with_payload, with_capacity, with_out, handed, handed_as, memory_after};
 
 use crate::answers::{read_targets, scatter, store_bytes};
 use crate::outcome::{Asked, asked_of};
 use crate::paths::read_path;
 use crate::vectors::{Part, capacity_of, gather};
-use nv_calls::{Bytes, Call, MOST_BYTES, MOST_PATH, MOST_VECTORS, Slot, Syscall};
+use nv_calls::{Bytes, Call, MOST_ADDRESS, MOST_BYTES, MOST_PATH, MOST_VECTORS, Slot, Syscall};
 use nv_machine::Regs;
 use nv_memory::{Memory, Right};
 
@@ -137,13 +137,13 @@ impl Caller<'_> {
         }
     }
 
-    // The bytes of write.
-    fn copy_bytes(&self, payload: &mut Bytes) -> Checked
-        requires { MOST_BYTES ≤ payload.old.capacity }
-        ensures handed { handed_as result payload.new.bytes ≡ with_payload (bytes_in (machine_by self.now)) }
+    // The bytes of write, and the address of bind: at most so many.
+    fn copy_bytes(&self, most: u32, payload: &mut Bytes) -> Checked
+        requires { most ≤ payload.old.capacity }
+        ensures handed { handed_as result payload.new.bytes ≡ with_payload (first_bytes most (machine_by self.now)) }
         ensures capacity { payload.new.capacity ≡ payload.old.capacity }
     {
-        let count = self.argument(2).min(MOST_BYTES);
+        let count = self.argument(2).min(most);
         match self.memory.bytes(self.argument(1), count) {
             Ok(bytes) => fill(payload, bytes),
             Err(_) => refuse(payload),
@@ -199,7 +199,8 @@ impl Caller<'_> {
     {
         match syscall {
             Syscall::Unlinkat | Syscall::Openat => self.copy_path(payload),
-            Syscall::Write => self.copy_bytes(payload),
+            Syscall::Write => self.copy_bytes(MOST_BYTES, payload),
+            Syscall::Bind => self.copy_bytes(MOST_ADDRESS, payload),
             Syscall::Writev => self.gather_vectors(payload),
             Syscall::Readv => self.find_room(payload),
             _ => self.check_out(syscall, payload),

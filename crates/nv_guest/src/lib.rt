@@ -9,8 +9,6 @@ mod heap;
 mod load;
 mod outcome;
 mod paths;
-#[cfg(test)]
-mod tests;
 mod threads;
 mod vectors;
 
