@@ -17,8 +17,8 @@ use Rattle.nv_script.specs.declared.fault.ScriptCause.TheVariants.{Range, Twice,
 use Rattle.nv_script.specs.declared.fault.ScriptFault.{ScriptFault}
 use Rattle.nv_script.specs.declared.kind.Kind.{Kind}
 use Rattle.nv_script.specs.declared.kind.Kind.TheVariants as kind
-use Rattle.nv_script.specs.Entries.{Entry, Nothing, Argument, Input, File, Time, Seed, Hand, form_of, is_hand, hand_entry, hand_with, argument, is_argument, is_file_name, is_passed_over, clock_fits, clock_entry, clock_with, clock_of, file_with, file_of, shaped, entry_by, entry_with, entry_of, kind_of}
-use Rattle.nv_script.specs.Scripts.{Named, Setup, Draft, blank, has_name, has_hand, with_argument, with_file, with_clock, with_seed, with_hand, with_entry, with_result, with_line, onward, drafted, no_clock, finished, finished_result, script_in, script_of_lines, script_of, is_file, are_distinct, are_files, differ, are_hands, is_script}
+use Rattle.nv_script.specs.Entries.{Entry, Nothing, Argument, Input, File, Time, Seed, Hand, Connection, form_of, is_hand, hand_entry, hand_with, is_port, connection_entry, connection_with, connection_of, argument, is_argument, is_file_name, is_passed_over, clock_fits, clock_entry, clock_with, clock_of, file_with, file_of, shaped, entry_by, entry_with, entry_of, kind_of}
+use Rattle.nv_script.specs.Scripts.{Named, Incoming, Setup, Draft, blank, has_name, has_hand, with_argument, with_file, with_clock, with_seed, with_hand, with_connection, with_entry, with_result, with_line, onward, drafted, no_clock, finished, finished_result, script_in, script_of_lines, script_of, is_file, are_distinct, are_files, differ, are_hands, is_connection, are_connections, is_script}
 
 -- ---- the parts of the two tests
 
@@ -60,6 +60,23 @@ are_hands-from hands k =
     let few : nat_le (length hands) 8 ≡ true = grind (arith, nat_tests) in
     and_from _ _ few (and_from _ _ k.sound k.apart)
 
+pub record ConnectionsKeep (connections : List Incoming) : Type 0 where
+  pub few : length connections ≤ 64
+  pub sound : list_all is_connection connections ≡ true
+
+pub connections-keep : (connections : List Incoming) → are_connections connections ≡ true → ConnectionsKeep connections
+unfolding are_connections
+connections-keep connections e =
+    let parts = and_parts (nat_le (length connections) 64) _ e in
+    let few : length connections ≤ 64 = grind (arith, nat_tests) in
+    record { few = few; sound = parts.1 }
+
+are_connections-from : (connections : List Incoming) → ConnectionsKeep connections → are_connections connections ≡ true
+unfolding are_connections
+are_connections-from connections k =
+    let few : nat_le (length connections) 64 ≡ true = grind (arith, nat_tests) in
+    and_from _ _ few k.sound
+
 pub record ScriptKeeps (setup : Setup) : Type 0 where
   pub arguments : length setup.arguments ≤ 256
   pub texts : list_all is_argument setup.arguments ≡ true
@@ -69,6 +86,7 @@ pub record ScriptKeeps (setup : Setup) : Type 0 where
   pub step : setup.step ≤ 1000000000
   pub seed : setup.seed < 2 ^ 32
   pub hands : are_hands setup.hands ≡ true
+  pub connections : are_connections setup.connections ≡ true
 
 pub script-keeps : (setup : Setup) → is_script setup ≡ true → ScriptKeeps setup
 unfolding is_script
@@ -80,12 +98,13 @@ script-keeps setup e =
     let f = and_parts (nat_le setup.nanos 999999999) _ d.1 in
     let g = and_parts (nat_le setup.step 1000000000) _ f.1 in
     let h = and_parts (nat_lt setup.seed (2 ^ 32)) _ g.1 in
+    let i = and_parts (are_hands setup.hands) _ h.1 in
     let arguments : length setup.arguments ≤ 256 = grind (arith, nat_tests) in
     let seconds : setup.seconds < 2 ^ 32 = grind (arith, nat_tests) in
     let nanos : setup.nanos ≤ 999999999 = grind (arith, nat_tests) in
     let step : setup.step ≤ 1000000000 = grind (arith, nat_tests) in
     let seed : setup.seed < 2 ^ 32 = grind (arith, nat_tests) in
-    record { arguments = arguments; texts = b.0; files = c.0; seconds = seconds; nanos = nanos; step = step; seed = seed; hands = h.1 }
+    record { arguments = arguments; texts = b.0; files = c.0; seconds = seconds; nanos = nanos; step = step; seed = seed; hands = i.0; connections = i.1 }
 
 pub is_script-from : (setup : Setup) → ScriptKeeps setup → is_script setup ≡ true
 unfolding is_script
@@ -95,7 +114,7 @@ is_script-from setup k =
     let nanos : nat_le setup.nanos 999999999 ≡ true = grind (arith, nat_tests) in
     let step : nat_le setup.step 1000000000 ≡ true = grind (arith, nat_tests) in
     let seed : nat_lt setup.seed (2 ^ 32) ≡ true = grind (arith, nat_tests) in
-    and_from _ _ arguments (and_from _ _ k.texts (and_from _ _ k.files (and_from _ _ seconds (and_from _ _ nanos (and_from _ _ step (and_from _ _ seed k.hands))))))
+    and_from _ _ arguments (and_from _ _ k.texts (and_from _ _ k.files (and_from _ _ seconds (and_from _ _ nanos (and_from _ _ step (and_from _ _ seed (and_from _ _ k.hands k.connections)))))))
 
 -- ---- what a line says
 
@@ -113,6 +132,7 @@ entry_sound (File name content) = is_file_name name
 entry_sound (Time clock) = clock_sound clock
 entry_sound (Seed seed) = seed_sound seed
 entry_sound (Hand n) = is_hand n
+entry_sound (Connection port input) = is_port port
 
 sound-along : (e f : Entry) → entry_sound e ≡ true → e ≡ f → entry_sound f ≡ true
 sound-along e f h same = ap entry_sound (sym same) ∙ h
@@ -191,6 +211,23 @@ hand_with-sound : (found : Option ℕ) (e : Entry) → hand_with found ≡ Ok e 
 hand_with-sound None e h = cc
 hand_with-sound (Some n) e h = hand_entry-sound n e h
 
+connection_entry-sound : (port : ℕ) (input : List ℕ) (e : Entry) → connection_entry port input ≡ Ok e → entry_sound e ≡ true
+connection_entry-sound port input e h = step (is_port port) refl h where
+  step : (x : Bool) → is_port port ≡ x → cond x (Ok (Connection port input)) (Err Range) ≡ Ok e → entry_sound e ≡ true
+  step true fits h = sound-along (Connection port input) e fits cc
+  step false fits h = cc
+
+connection_with-sound : (port : Option ℕ) (input : Option (List ℕ)) (e : Entry) → connection_with port input ≡ Ok e → entry_sound e ≡ true
+connection_with-sound None input e h = cc
+connection_with-sound (Some port) None e h = cc
+connection_with-sound (Some port) (Some input) e h = connection_entry-sound port input e h
+
+connection_of-sound : (texts : List (List ℕ)) (e : Entry) → connection_of texts ≡ Ok e → entry_sound e ≡ true
+connection_of-sound [] e h = cc
+connection_of-sound (port ∷ []) e h = connection_with-sound (number_of port) (Some []) e h
+connection_of-sound (port ∷ hex ∷ []) e h = connection_with-sound (number_of port) (unhexed hex) e h
+connection_of-sound (port ∷ hex ∷ more ∷ texts) e h = cc
+
 entry_by-sound : (k : Kind) (rest : List ℕ) (e : Entry) → entry_by k rest ≡ Ok e → entry_sound e ≡ true
 entry_by-sound kind.Argument rest e h = shaped-sound (argument rest) e (argument-sound rest) h
 entry_by-sound kind.Line rest e h = sound-along (Input (rest ++ codes "\n")) e refl cc
@@ -199,6 +236,7 @@ entry_by-sound kind.File rest e h = shaped-sound (file_of (fields rest)) e (file
 entry_by-sound kind.Clock rest e h = clock_of-sound (fields rest) e h
 entry_by-sound kind.Random rest e h = shaped-sound (option_map Seed (number_of rest)) e (seed-sound (number_of rest) (number_of-fits rest)) h
 entry_by-sound kind.Hand rest e h = hand_with-sound (number_of rest) e h
+entry_by-sound kind.Connect rest e h = connection_of-sound (fields rest) e h
 
 entry_with-sound : (k : Option Kind) (rest : Option (List ℕ)) (e : Entry) → entry_with k rest ≡ Ok e → entry_sound e ≡ true
 entry_with-sound None rest e h = cc
@@ -271,6 +309,14 @@ hands-more hands n k room sound new =
       apart = differ-more hands n k.apart new;
     }
 
+-- ---- connections, with one more
+
+connections-more : (connections : List Incoming) (more : Incoming) → ConnectionsKeep connections → length connections < 64 → is_connection more ≡ true → ConnectionsKeep (connections ++ more ∷ [])
+connections-more connections more k room sound = record {
+  few = omega (arith, length-append connections (more ∷ []));
+  sound = list_all-append is_connection connections (more ∷ []) ∙ and_from _ _ k.sound (and_from _ _ sound refl);
+}
+
 -- ---- drafts
 
 record DraftKeeps (draft : Draft) : Type 0 where
@@ -280,9 +326,10 @@ record DraftKeeps (draft : Draft) : Type 0 where
   pub clock : clock_sound (unwrap_or draft.clock no_clock) ≡ true
   pub seed : seed_sound (unwrap_or draft.seed 0) ≡ true
   pub hands : HandsKeep draft.hands
+  pub connections : ConnectionsKeep draft.connections
 
 blank-keeps : DraftKeeps blank
-blank-keeps = record { arguments = omega arith; texts = refl; files = record { few = omega arith; sound = refl; distinct = refl }; clock = refl; seed = refl; hands = record { few = omega arith; sound = refl; apart = refl } }
+blank-keeps = record { arguments = omega arith; texts = refl; files = record { few = omega arith; sound = refl; distinct = refl }; clock = refl; seed = refl; hands = record { few = omega arith; sound = refl; apart = refl }; connections = record { few = omega arith; sound = refl } }
 
 keeps-along : (d e : Draft) → DraftKeeps d → d ≡ e → DraftKeeps e
 keeps-along d e k same = subst DraftKeeps same k
@@ -301,11 +348,12 @@ argument-keeps text d e k sound h = step (nat_lt (length d.arguments) 256) refl 
         clock = k.clock;
         seed = k.seed;
         hands = k.hands;
+        connections = k.connections;
       }) cc
   step false room h = cc
 
 input-keeps : (d e : Draft) (bytes : List ℕ) → DraftKeeps d → record d { input = d.input ++ bytes } ≡ e → DraftKeeps e
-input-keeps d e bytes k same = keeps-along _ e (record { arguments = k.arguments; texts = k.texts; files = k.files; clock = k.clock; seed = k.seed; hands = k.hands }) same
+input-keeps d e bytes k same = keeps-along _ e (record { arguments = k.arguments; texts = k.texts; files = k.files; clock = k.clock; seed = k.seed; hands = k.hands; connections = k.connections }) same
 
 file-keeps : (name content : List ℕ) (d e : Draft) → DraftKeeps d → is_file_name name ≡ true → with_file name content d ≡ Ok e → DraftKeeps e
 unfolding with_file
@@ -324,6 +372,7 @@ file-keeps name content d e k sound h = step (has_name name d.files) (nat_lt (le
         clock = k.clock;
         seed = k.seed;
         hands = k.hands;
+        connections = k.connections;
       }) cc
   step false false new room h = cc
 
@@ -331,13 +380,13 @@ clock-keeps : (clock : Clock) (d e : Draft) → DraftKeeps d → clock_sound clo
 clock-keeps clock d e k sound h = step (is_some d.clock) h where
   step : (x : Bool) → cond x (Err Twice) (Ok (record d { clock = Some clock })) ≡ Ok e → DraftKeeps e
   step true h = cc
-  step false h = keeps-along (record d { clock = Some clock }) e (record { arguments = k.arguments; texts = k.texts; files = k.files; clock = sound; seed = k.seed; hands = k.hands }) cc
+  step false h = keeps-along (record d { clock = Some clock }) e (record { arguments = k.arguments; texts = k.texts; files = k.files; clock = sound; seed = k.seed; hands = k.hands; connections = k.connections }) cc
 
 seed-keeps : (seed : ℕ) (d e : Draft) → DraftKeeps d → seed_sound seed ≡ true → with_seed seed d ≡ Ok e → DraftKeeps e
 seed-keeps seed d e k sound h = step (is_some d.seed) h where
   step : (x : Bool) → cond x (Err Twice) (Ok (record d { seed = Some seed })) ≡ Ok e → DraftKeeps e
   step true h = cc
-  step false h = keeps-along (record d { seed = Some seed }) e (record { arguments = k.arguments; texts = k.texts; files = k.files; clock = k.clock; seed = sound; hands = k.hands }) cc
+  step false h = keeps-along (record d { seed = Some seed }) e (record { arguments = k.arguments; texts = k.texts; files = k.files; clock = k.clock; seed = sound; hands = k.hands; connections = k.connections }) cc
 
 hand-keeps : (n : ℕ) (d e : Draft) → DraftKeeps d → is_hand n ≡ true → with_hand n d ≡ Ok e → DraftKeeps e
 hand-keeps n d e k sound h = step (has_hand n d.hands) (nat_lt (length d.hands) 8) refl refl h where
@@ -347,8 +396,28 @@ hand-keeps n d e k sound h = step (has_hand n d.hands) (nat_lt (length d.hands) 
   step false true new room h =
       let below : length d.hands < 8 = grind (arith, nat_tests) in
       keeps-along (record d { hands = d.hands ++ n ∷ [] }) e
-      (record { arguments = k.arguments; texts = k.texts; files = k.files; clock = k.clock; seed = k.seed; hands = hands-more d.hands n k.hands below sound new }) cc
+      (record { arguments = k.arguments; texts = k.texts; files = k.files; clock = k.clock; seed = k.seed; hands = hands-more d.hands n k.hands below sound new; connections = k.connections }) cc
   step false false new room h = cc
+
+connection-keeps : (port : ℕ) (input : List ℕ) (d e : Draft) → DraftKeeps d → is_port port ≡ true → with_connection port input d ≡ Ok e → DraftKeeps e
+unfolding with_connection
+connection-keeps port input d e k sound h = step (nat_lt (length d.connections) 64 && nat_le (length input) 1048576) refl h where
+  step : (x : Bool) → (nat_lt (length d.connections) 64 && nat_le (length input) 1048576) ≡ x
+      → cond x (Ok (record d { connections = d.connections ++ (port, input) ∷ [] })) (Err Long) ≡ Ok e → DraftKeeps e
+  step true room h =
+      let parts = and_parts (nat_lt (length d.connections) 64) _ room in
+      let below : length d.connections < 64 = grind (arith, nat_tests) in
+      keeps-along (record d { connections = d.connections ++ (port, input) ∷ [] }) e
+      (record {
+        arguments = k.arguments;
+        texts = k.texts;
+        files = k.files;
+        clock = k.clock;
+        seed = k.seed;
+        hands = k.hands;
+        connections = connections-more d.connections (port, input) k.connections below (and_from _ _ sound parts.1);
+      }) cc
+  step false room h = cc
 
 entry-keeps : (entry : Entry) (d e : Draft) → DraftKeeps d → entry_sound entry ≡ true → with_entry entry d ≡ Ok e → DraftKeeps e
 entry-keeps Nothing d e k sound h = keeps-along d e k cc
@@ -358,6 +427,7 @@ entry-keeps (File name content) d e k sound h = file-keeps name content d e k so
 entry-keeps (Time clock) d e k sound h = clock-keeps clock d e k sound h
 entry-keeps (Seed seed) d e k sound h = seed-keeps seed d e k sound h
 entry-keeps (Hand n) d e k sound h = hand-keeps n d e k sound h
+entry-keeps (Connection port input) d e k sound h = connection-keeps port input d e k sound h
 
 result-keeps : (r : Result Entry ScriptCause) (d e : Draft) → DraftKeeps d → ((entry : Entry) → r ≡ Ok entry → entry_sound entry ≡ true) → with_result r d ≡ Ok e → DraftKeeps e
 result-keeps (Ok entry) d e k sound h = entry-keeps entry d e k (sound entry refl) h
@@ -386,7 +456,7 @@ finished-keeps d k =
     let nanos : (unwrap_or d.clock no_clock).nanos ≤ 999999999 = grind (arith, nat_tests) in
     let step : (unwrap_or d.clock no_clock).step ≤ 1000000000 = grind (arith, nat_tests) in
     let seed : unwrap_or d.seed 0 < 2 ^ 32 = grind (arith, nat_tests) in
-    record { arguments = k.arguments; texts = k.texts; files = are_files-from d.files k.files; seconds = seconds; nanos = nanos; step = step; seed = seed; hands = are_hands-from d.hands k.hands }
+    record { arguments = k.arguments; texts = k.texts; files = are_files-from d.files k.files; seconds = seconds; nanos = nanos; step = step; seed = seed; hands = are_hands-from d.hands k.hands; connections = are_connections-from d.connections k.connections }
 
 finished-script : (r : Result Draft ScriptFault) (s : Setup) → ((d : Draft) → r ≡ Ok d → DraftKeeps d) → finished_result r ≡ Ok s → is_script s ≡ true
 finished-script (Ok d) s keeps h =

@@ -26,14 +26,17 @@ pub data Entry : Type 0 where
   Seed : ℕ → Entry
   -- a length of the log at which the leader hands over
   Hand : ℕ → Entry
+  -- a connection's port and what it sends
+  Connection : ℕ → List ℕ → Entry
 
--- ---- the two forms
+-- ---- the three forms
 
 -- the form that a first line names
 unfoldable pub form_of : List ℕ → Option Form
 form_of line = if bytes_eq line (codes "varan-script 1") then Some form.First
     else (if bytes_eq line (codes "varan-script 2") then Some form.Second
-    else None)
+    else (if bytes_eq line (codes "varan-script 3") then Some form.Third
+    else None))
 
 -- ---- arguments and names of files
 
@@ -60,11 +63,14 @@ is_file_name name = nat_lt 0 (length name) && (nat_le (length name) 255 && (list
 unfoldable pub kinds : List (List ℕ × Kind)
 kinds =
     (codes "arg", kind.Argument) ∷ (codes "line", kind.Line) ∷ (codes "input", kind.Input) ∷ (codes "file", kind.File) ∷
-    (codes "clock", kind.Clock) ∷ (codes "random", kind.Random) ∷ (codes "hand", kind.Hand) ∷ []
+    (codes "clock", kind.Clock) ∷ (codes "random", kind.Random) ∷ (codes "hand", kind.Hand) ∷
+    (codes "connect", kind.Connect) ∷ []
 
--- a script of the first form has no `hand`
+-- a script of the first form has no `hand`, and one of the third alone has `connect`
 abbrev pub in_form : Form → Option Kind → Option Kind
 in_form form.First (Some kind.Hand) = None
+in_form form.First (Some kind.Connect) = None
+in_form form.Second (Some kind.Connect) = None
 in_form f found = found
 
 unfoldable pub kind_of : Form → List ℕ → Option Kind
@@ -113,6 +119,23 @@ abbrev pub hand_with : Option ℕ → Result Entry ScriptCause
 hand_with (Some n) = hand_entry n
 hand_with None = Err Shape
 
+-- 1 to 65,535
+abbrev pub is_port : ℕ → Bool
+is_port n = nat_le 1 n && nat_le n 65535
+
+abbrev pub connection_entry : ℕ → List ℕ → Result Entry ScriptCause
+connection_entry port input = if is_port port then Ok (Connection port input) else Err Range
+
+abbrev pub connection_with : Option ℕ → Option (List ℕ) → Result Entry ScriptCause
+connection_with (Some port) (Some input) = connection_entry port input
+connection_with _ _ = Err Shape
+
+-- `PORT HEX` or `PORT`
+abbrev pub connection_of : List (List ℕ) → Result Entry ScriptCause
+connection_of (port ∷ []) = connection_with (number_of port) (Some [])
+connection_of (port ∷ hex ∷ []) = connection_with (number_of port) (unhexed hex)
+connection_of _ = Err Shape
+
 -- a line by its kind and the rest after the word's space
 abbrev pub entry_by : Kind → List ℕ → Result Entry ScriptCause
 entry_by kind.Argument rest = shaped (argument rest)
@@ -122,6 +145,7 @@ entry_by kind.File rest = shaped (file_of (fields rest))
 entry_by kind.Clock rest = clock_of (fields rest)
 entry_by kind.Random rest = shaped (option_map Seed (number_of rest))
 entry_by kind.Hand rest = hand_with (number_of rest)
+entry_by kind.Connect rest = connection_of (fields rest)
 
 abbrev pub entry_with : Option Kind → Option (List ℕ) → Result Entry ScriptCause
 entry_with None rest = Err Word

@@ -9,11 +9,15 @@ use Rattle.nv_script.specs.declared.fault.ScriptCause.TheVariants as cause
 use Rattle.nv_script.specs.declared.fault.ScriptCause.TheVariants.{Twice, Long}
 use Rattle.nv_script.specs.declared.fault.ScriptFault.{ScriptFault}
 use Rattle.nv_script.specs.declared.fault.ScriptFault.TheVariants.{Line}
-use Rattle.nv_script.specs.Entries.{Entry, Nothing, Argument, Input, File, Time, Seed, Hand, form_of, is_argument, is_file_name, is_hand, entry_of}
+use Rattle.nv_script.specs.Entries.{Entry, Nothing, Argument, Input, File, Time, Seed, Hand, Connection, form_of, is_argument, is_file_name, is_hand, is_port, entry_of}
 
 -- a file's name and its content
 abbrev pub Named : Type 0
 Named = List ℕ × List ℕ
+
+-- a connection's port and what it sends
+abbrev pub Incoming : Type 0
+Incoming = ℕ × List ℕ
 
 -- what a run begins with
 pub record Setup : Type 0 where
@@ -25,6 +29,7 @@ pub record Setup : Type 0 where
   pub step : ℕ
   pub seed : ℕ
   pub hands : List ℕ
+  pub connections : List Incoming
 
 -- ---- line after line
 
@@ -36,9 +41,10 @@ pub record Draft : Type 0 where
   pub clock : Option Clock
   pub seed : Option ℕ
   pub hands : List ℕ
+  pub connections : List Incoming
 
 abbrev pub blank : Draft
-blank = record { arguments = []; input = []; files = []; clock = None; seed = None; hands = [] }
+blank = record { arguments = []; input = []; files = []; clock = None; seed = None; hands = []; connections = [] }
 
 abbrev pub has_name : List ℕ → List Named → Bool
 has_name name files = list_any (λ file. bytes_eq name file.0) files
@@ -77,6 +83,12 @@ with_hand n draft = if has_hand n draft.hands then Err Twice
     then Ok (record draft { hands = draft.hands ++ n ∷ [] })
     else Err Long)
 
+-- at most 64 connections, which send at most 1,048,576 bytes each
+unfoldable pub with_connection : ℕ → List ℕ → Draft → Result Draft ScriptCause
+with_connection port input draft = if nat_lt (length draft.connections) 64 && nat_le (length input) 1048576
+    then Ok (record draft { connections = draft.connections ++ (port, input) ∷ [] })
+    else Err Long
+
 abbrev pub with_entry : Entry → Draft → Result Draft ScriptCause
 with_entry Nothing draft = Ok draft
 with_entry (Argument text) draft = with_argument text draft
@@ -85,6 +97,7 @@ with_entry (File name content) draft = with_file name content draft
 with_entry (Time clock) draft = with_clock clock draft
 with_entry (Seed seed) draft = with_seed seed draft
 with_entry (Hand n) draft = with_hand n draft
+with_entry (Connection port input) draft = with_connection port input draft
 
 abbrev pub with_result : Result Entry ScriptCause → Draft → Result Draft ScriptCause
 with_result (Ok entry) draft = with_entry entry draft
@@ -118,6 +131,7 @@ setup_with clock draft = record {
   step = clock.step;
   seed = unwrap_or draft.seed 0;
   hands = draft.hands;
+  connections = draft.connections;
 }
 
 abbrev pub finished : Draft → Setup
@@ -166,7 +180,15 @@ differ (n ∷ ns) = not (has_hand n ns) && differ ns
 unfoldable pub are_hands : List ℕ → Bool
 are_hands hands = nat_le (length hands) 8 && (list_all is_hand hands && differ hands)
 
--- at most 256 arguments, files and lengths as above, and numbers within their limits
+abbrev pub is_connection : Incoming → Bool
+is_connection connection = is_port connection.0 && nat_le (length connection.1) 1048576
+
+-- at most 64 connections, from ports 1 to 65,535, of at most 1,048,576 bytes each
+unfoldable pub are_connections : List Incoming → Bool
+are_connections connections = nat_le (length connections) 64 && list_all is_connection connections
+
+-- at most 256 arguments, files, lengths and connections as above, and numbers within their limits
 unfoldable pub is_script : Setup → Bool
 is_script setup = nat_le (length setup.arguments) 256 && (list_all is_argument setup.arguments && (are_files setup.files
-    && (nat_lt setup.seconds (2 ^ 32) && (nat_le setup.nanos 999999999 && (nat_le setup.step 1000000000 && (nat_lt setup.seed (2 ^ 32) && are_hands setup.hands))))))
+    && (nat_lt setup.seconds (2 ^ 32) && (nat_le setup.nanos 999999999 && (nat_le setup.step 1000000000 && (nat_lt setup.seed (2 ^ 32) && (are_hands setup.hands
+    && are_connections setup.connections)))))))

@@ -16,6 +16,7 @@ view (code.File name content) = rule.File name.now content.items
 view (code.Clock clock) = rule.Time clock
 view (code.Seed seed) = rule.Seed seed
 view (code.Hand hand) = rule.Hand hand
+view (code.Connection port input) = rule.Connection port input.items
 
 abbrev pub found_view : Option Entry → Option rule.Entry
 found_view found = option_map view found
@@ -40,4 +41,5 @@ setup_of script = record {
   step = script.step;
   seed = script.seed;
   hands = script.hands.items;
+  connections = map (λ connection. (connection.0, connection.1.items)) script.connections.items;
 }

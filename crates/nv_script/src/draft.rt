@@ -1,6 +1,6 @@
 // A script in the making.
 ghost use Rattle.std.specs.Prelude.{◌≡◌, false, ◌&&◌, nat_lt, nat_le, [], ◌∷◌, ◌++◌, length, codes, Ok, IfOk, OnOk};
-ghost use Rattle.nv_script.specs.Scripts.{blank, has_name, has_hand, with_argument, with_input, with_file, with_clock, with_seed, with_hand, with_entry, finished};
+ghost use Rattle.nv_script.specs.Scripts.{blank, has_name, has_hand, with_argument, with_input, with_file, with_clock, with_seed, with_hand, with_connection, with_entry, finished};
 ghost use Rattle.nv_script.specs.Views.{view, became, setup_of};
 
 use crate::Script;
@@ -18,6 +18,10 @@ const MOST_FILE_BYTES: usize = 1_048_576;
 
 const MOST_HANDS: usize = 8;
 
+const MOST_CONNECTIONS: usize = 64;
+
+const MOST_CONNECTION_BYTES: usize = 1_048_576;
+
 const NO_CLOCK: Clock = Clock {
     seconds: 0,
     nanos: 0,
@@ -34,6 +38,7 @@ pub struct Draft<'a> {
     clock: Option<Clock>,
     seed: Option<u32>,
     hands: Vec<u32>,
+    connections: Vec<(u32, Vec<u8>)>,
 }
 
 impl<'a> Model for Draft<'a> {
@@ -50,6 +55,7 @@ impl<'a> Model for Draft<'a> {
       clock = draft.clock;
       seed = draft.seed;
       hands = draft.hands.items;
+      connections = map (λ connection. (connection.0, connection.1.items)) draft.connections.items;
     } };
 
     ghost invariant = { λ draft. (name : List ℕ) → is_some (defined draft.names name) ≡ rule.has_name name (map (λ file. (file.0.items, file.1.items)) draft.files.items) };
@@ -67,6 +73,7 @@ impl<'a> Draft<'a> {
             clock: None,
             seed: None,
             hands: Vec::new(alloc),
+            connections: Vec::new(alloc),
         }
     }
 
@@ -189,6 +196,28 @@ impl<'a> Draft<'a> {
         Ok(Ok(()))
     }
 
+    // Whether there is room for one more connection, which sends so many bytes.
+    fn has_connection_room(&self, len: usize) -> bool
+        ensures { result ≡ (nat_lt (length self.now.connections) 64 && nat_le len 1048576) }
+    {
+        self.connections.len() < MOST_CONNECTIONS && len <= MOST_CONNECTION_BYTES
+    }
+
+    #[tactic(auto, unfolding(crate::specs::Scripts::with_connection))]
+    fn add_connection(
+        &mut self,
+        port: u32,
+        input: Vec<u8>,
+    ) -> Result<Result<(), ScriptCause>, AllocError>
+        ensures { IfOk result (λ added. became self.new added ≡ with_connection port input.items self.old) }
+    {
+        if !self.has_connection_room(input.len()) {
+            return Ok(Err(ScriptCause::Long));
+        }
+        self.connections.push((port, input))?;
+        Ok(Ok(()))
+    }
+
     /// Takes in what a line says.
     pub fn add(
         &mut self,
@@ -212,6 +241,7 @@ impl<'a> Draft<'a> {
             Entry::Clock(clock) => Ok(self.add_clock(clock)),
             Entry::Seed(seed) => Ok(self.add_seed(seed)),
             Entry::Hand(hand) => self.add_hand(hand),
+            Entry::Connection(port, input) => self.add_connection(port, input),
         }
     }
 
@@ -227,6 +257,7 @@ impl<'a> Draft<'a> {
             clock,
             seed,
             hands,
+            connections,
         } = self;
         let clock = clock.unwrap_or(NO_CLOCK);
         Script {
@@ -238,6 +269,7 @@ impl<'a> Draft<'a> {
             step: clock.step,
             seed: seed.unwrap_or(0),
             hands,
+            connections,
         }
     }
 }

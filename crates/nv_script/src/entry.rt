@@ -4,7 +4,7 @@ ghost use Rattle.std.specs.List.{list_all};
 ghost use Rattle.nv_text.specs.Fields.{fields};
 ghost use Rattle.nv_text.specs.Numbers.{number_of, unhexed};
 ghost use Rattle.nv_script.specs.Entries as rule;
-ghost use Rattle.nv_script.specs.Entries.{is_printable, is_argument, is_file_byte, is_dots, is_file_name, is_passed_over, argument, file_with, file_of, clock_entry, clock_with, clock_of, hand_entry, hand_with, shaped, entry_by, entry_of};
+ghost use Rattle.nv_script.specs.Entries.{is_printable, is_argument, is_file_byte, is_dots, is_file_name, is_passed_over, argument, file_with, file_of, clock_entry, clock_with, clock_of, hand_entry, hand_with, connection_entry, connection_with, connection_of, shaped, entry_by, entry_of};
 ghost use Rattle.nv_script.specs.Views.{found_view, result_view};
 
 use crate::fault::ScriptCause;
@@ -36,6 +36,8 @@ pub enum Entry<'a> {
     Seed(u32),
     /// A length of the log at which the leader hands over.
     Hand(u32),
+    /// A connection's port and what it sends.
+    Connection(u32, Vec<u8>),
 }
 
 const MOST_NANOS: u32 = 999_999_999;
@@ -43,6 +45,8 @@ const MOST_NANOS: u32 = 999_999_999;
 const MOST_STEP: u32 = 1_000_000_000;
 
 const MOST_HAND: u32 = 131_072;
+
+const MOST_PORT: u32 = 65_535;
 
 const MOST_NAME_BYTES: usize = 255;
 
@@ -203,6 +207,42 @@ fn read_hand<'a>(text: &[u8]) -> Result<Entry<'a>, ScriptCause>
     }
 }
 
+fn connection_entry<'a>(port: u32, input: Vec<u8>) -> Result<Entry<'a>, ScriptCause>
+    ensures { result_view result ≡ connection_entry port input.items }
+{
+    if port >= 1 && port <= MOST_PORT {
+        Ok(Entry::Connection(port, input))
+    } else {
+        Err(ScriptCause::Range)
+    }
+}
+
+fn connection_with<'a>(port: Option<u32>, input: Option<Vec<u8>>) -> Result<Entry<'a>, ScriptCause>
+    ensures { result_view result ≡ connection_with port (option_map (λ bytes. bytes.items) input) }
+{
+    match (port, input) {
+        (Some(port), Some(input)) => connection_entry(port, input),
+        _ => Err(ScriptCause::Shape),
+    }
+}
+
+// `PORT HEX` or `PORT`.
+fn read_connection<'a>(
+    alloc: Global,
+    text: &[u8],
+) -> Result<Result<Entry<'a>, ScriptCause>, AllocError>
+    ensures { IfOk result (λ entry. result_view entry ≡ connection_of (fields text.now)) }
+{
+    let (port, rest) = split_field(text);
+    let Some(rest) = rest else {
+        return Ok(connection_with(number(port), Some(Vec::new(alloc))));
+    };
+    match split_field(rest) {
+        (hex, None) => Ok(connection_with(number(port), unhex(alloc, hex)?)),
+        (_, Some(_)) => Ok(Err(ScriptCause::Shape)),
+    }
+}
+
 fn shaped(entry: Option<Entry<'_>>) -> Result<Entry<'_>, ScriptCause>
     ensures { result_view result ≡ shaped (found_view entry.entry) }
 {
@@ -225,6 +265,7 @@ fn entry_by(
         Kind::Clock => Ok(read_clock(rest)),
         Kind::Random => Ok(shaped(read_seed(rest))),
         Kind::Hand => Ok(read_hand(rest)),
+        Kind::Connect => read_connection(alloc, rest),
     }
 }
 

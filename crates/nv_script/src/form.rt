@@ -7,10 +7,12 @@ use nv_text::is;
 /// Which lines a script may have.
 #[derive(Clone, Copy, Debug, PartialEq, Eq)]
 pub enum Form {
-    /// `varan-script 1`: every line but `hand`.
+    /// `varan-script 1`: every line but `hand` and `connect`.
     First,
-    /// `varan-script 2`: every line.
+    /// `varan-script 2`: every line but `connect`.
     Second,
+    /// `varan-script 3`: every line.
+    Third,
 }
 
 /// The form that a script's first line names.
@@ -22,6 +24,8 @@ pub fn form_of(line: &[u8]) -> Option<Form>
         Some(Form::First)
     } else if is(line, "varan-script 2") {
         Some(Form::Second)
+    } else if is(line, "varan-script 3") {
+        Some(Form::Third)
     } else {
         None
     }

@@ -15,9 +15,10 @@ pub enum Kind {
     Clock,
     Random,
     Hand,
+    Connect,
 }
 
-const KINDS: [(&str, Kind); 7] = [
+const KINDS: [(&str, Kind); 8] = [
     ("arg", Kind::Argument),
     ("line", Kind::Line),
     ("input", Kind::Input),
@@ -25,14 +26,16 @@ const KINDS: [(&str, Kind); 7] = [
     ("clock", Kind::Clock),
     ("random", Kind::Random),
     ("hand", Kind::Hand),
+    ("connect", Kind::Connect),
 ];
 
-// Scripts of the first form have no `hand`.
+// Scripts of the first form have no `hand`, and those of the third alone have `connect`.
 fn in_form(form: Form, kind: Option<Kind>) -> Option<Kind>
     ensures { result ≡ in_form form kind }
 {
     match kind {
         Some(Kind::Hand) if form == Form::First => None,
+        Some(Kind::Connect) if form != Form::Third => None,
         kind => kind,
     }
 }

@@ -19,4 +19,6 @@ pub struct Script {
     pub seed: u32,
     /// The lengths of the log at which the leader hands over, in the script's order.
     pub hands: Vec<u32>,
+    /// The connections that come, each by the port that it comes to and what it sends, in the script's order.
+    pub connections: Vec<(u32, Vec<u8>)>,
 }

@@ -20,7 +20,7 @@ fn faults_of_form(rt: HostRuntime) {
         ("", 1),
         ("\n", 1),
         ("# a comment\nvaran-script 1\n", 1),
-        ("varan-script 3\n", 1),
+        ("varan-script 4\n", 1),
         ("varan-script 2 \n", 1),
         ("varan-script 02\n", 1),
         ("varan-script 22\n", 1),
@@ -29,7 +29,7 @@ fn faults_of_form(rt: HostRuntime) {
         ("varan-script", 1),
         ("varan-script  1\n", 1),
         ("# no\nvaran-script 1\n", 1),
-        ("varan-script 3\nclock 1\n", 1),
+        ("varan-script 4\nclock 1\n", 1),
     ];
     expect_cause(&rt, rt.alloc(), Form, &texts);
 }
@@ -46,6 +46,10 @@ fn faults_of_words(rt: HostRuntime) {
         ("varan-script 1\nhand 1\n", 2),
         ("varan-script 1\nhand\n", 2),
         ("varan-script 1\nhand 0\n", 2),
+        ("varan-script 1\nconnect 80\n", 2),
+        ("varan-script 2\nconnect 80\n", 2),
+        ("varan-script 2\nconnect\n", 2),
+        ("varan-script 3\nconnects 80\n", 2),
         ("varan-script 2\nhands 1\n", 2),
         ("varan-script 2\nvaran-script 1\n", 2),
         ("varan-script 1\nfiles f\n", 2),
@@ -99,6 +103,15 @@ fn faults_of_shape(rt: HostRuntime) {
         ("varan-script 2\nhand  1\n", 2),
         ("varan-script 2\nhand 1\r\n", 2),
         ("varan-script 2\nhand 4294967296\n", 2),
+        ("varan-script 3\nconnect\n", 2),
+        ("varan-script 3\nconnect \n", 2),
+        ("varan-script 3\nconnect x\n", 2),
+        ("varan-script 3\nconnect 4294967296\n", 2),
+        ("varan-script 3\nconnect 0 0\n", 2),
+        ("varan-script 3\nconnect 80 0g\n", 2),
+        ("varan-script 3\nconnect 80 00 \n", 2),
+        ("varan-script 3\nconnect 80 00 00\n", 2),
+        ("varan-script 3\nconnect  80\n", 2),
         ("varan-script 2\nrandom\n", 2),
         ("varan-script 1\nrandom 0\nrandom x\nclock\n", 3),
         ("varan-script 1\nclock 1 2 x\n", 2),
@@ -125,6 +138,9 @@ fn faults_of_range(rt: HostRuntime) {
         ("varan-script 2\nhand 0\n", 2),
         ("varan-script 2\nhand 131073\n", 2),
         ("varan-script 2\nhand 4294967295\n", 2),
+        ("varan-script 3\nconnect 0\n", 2),
+        ("varan-script 3\nconnect 65536 00\n", 2),
+        ("varan-script 3\nconnect 4294967295\n", 2),
         ("varan-script 2\nhand 1\nhand 0\nhand 1\n", 3),
         ("varan-script 1\nclock 0 0 1000000001", 2),
         ("varan-script 1\nclock 0 0 0\nclock 0 0 1000000001\n", 3),
@@ -224,6 +240,36 @@ fn second_form(rt: HostRuntime) {
     assert_eq!(rt; script.step, 3);
     assert_eq!(rt; script.seed, 4);
     assert!(rt; script.hands.is_empty());
+}
+
+// Connections of a script of the third form, in the order of their lines.
+#[test]
+fn connections(rt: HostRuntime) -> Result<(), Fail> {
+    let mut text = String::from_str(
+        rt.alloc(),
+        "varan-script 3\nhand 1\nconnect 65535 00fF\nconnect 1\nconnect 080 \n",
+    )?;
+    let script = expect_script(&rt, rt.alloc(), text.as_bytes());
+    let [first, second, third] = script.connections.as_slice() else {
+        panic!(rt; "connections");
+    };
+    assert_eq!(rt; first.0, 65_535);
+    assert_eq!(rt; first.1.as_slice(), b"\x00\xff".as_slice());
+    assert_eq!(rt; second.0, 1);
+    assert!(rt; second.1.is_empty());
+    assert_eq!(rt; third.0, 80);
+    assert!(rt; third.1.is_empty());
+    for _ in 0..61 {
+        text.push_str("connect 9\n")?;
+    }
+    let script = expect_script(&rt, rt.alloc(), text.as_bytes());
+    assert_eq!(rt; script.connections.len(), 64);
+    text.push_str("connect 9")?;
+    assert_eq!(rt;
+        read(rt.alloc(), text.as_bytes()).err(),
+        Some(ScriptFault::Line(67, Long))
+    );
+    Ok(())
 }
 
 // Eight lengths to hand over at, in the order of their lines, the least and the greatest among them.
