@@ -9,3 +9,4 @@ pub mod Stored
 pub mod Reserved
 pub mod Starts
 pub mod Views
+pub mod Told

@@ -11,6 +11,8 @@ mod reading;
 mod resolving;
 mod seeking;
 mod tables;
+mod telling;
 mod writing;
 
 pub use disk::FileSystem;
+pub use telling::Opened;

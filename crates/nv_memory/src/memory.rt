@@ -4,9 +4,10 @@ ghost use Rattle.std.specs.List.{list_any};
 ghost use Rattle.nv_memory.specs.Bytes.{bytes_at, put, little_bytes, byte_count};
 ghost use Rattle.nv_memory.specs.Regions.{holds, AreRegions, has_range, set_end, start_of, end_of};
 ghost use Rattle.nv_memory.specs.Image.{value_at, allowed, stored, copied, cut};
+ghost use Rattle.nv_memory.specs.Cells.{byte_at};
 
 use crate::bytes::{clear, count, part, read, read_all, write, write_all};
-use crate::ranges::{end_at, is_held, move_end};
+use crate::ranges::{end_at, has_address, is_held, move_end};
 use crate::region::{Access, Region, Right, Width};
 use std::alloc::{AllocError, Global};
 use std::marker::Model;
@@ -45,6 +46,18 @@ impl Memory {
         ensures { result ≡ holds self.now.regions address length right }
     {
         is_held(&self.regions, address, length as usize, right)
+    }
+
+    /// The byte at the address, where a region has it, whatever the region's rights are.
+    #[tactic(auto, using(crate::proofs::Bounds::range_is_inside))]
+    pub fn byte(&self, address: u32) -> Option<u8>
+        ensures { result ≡ byte_at self.now address }
+    {
+        if has_address(&self.regions, address) {
+            Some(self.bytes[address as usize])
+        } else {
+            None
+        }
     }
 
     /// The number at the address, in little-endian order and with zeros above.
