@@ -100,7 +100,8 @@ other_at nr p q r =
     (o 62 _ _ refl (o 63 _ _ refl (o 64 _ _ refl (o 65 _ _ refl (o 66 _ _ refl
     (apart (nr == 93) _ _ q (apart (nr == 94) _ _ p
     (o 160 _ _ refl (o 172 _ _ refl (o 173 _ _ refl (o 174 _ _ refl (o 175 _ _ refl (o 176 _ _ refl (o 177 _ _ refl
-    (apart (nr == 220) _ _ r (o 278 _ _ refl (o 403 _ _ refl refl))))))))))))))))))))))))
+    (o 198 _ _ refl (o 200 _ _ refl (o 201 _ _ refl (o 202 _ _ refl
+    (apart (nr == 220) _ _ r (o 242 _ _ refl (o 278 _ _ refl (o 403 _ _ refl refl)))))))))))))))))))))))))))))
 
 -- the threads that live after a call, as the log has it
 abbrev pub live_by : ℕ → ℕ → List ℕ → ℤ → List ℕ

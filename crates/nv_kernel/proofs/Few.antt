@@ -6,7 +6,7 @@ use Rattle.nv_calls.specs.Calls.{Request}
 use Rattle.nv_calls.specs.Constants.{plain, directory, names}
 use Rattle.nv_calls.specs.Errors.{ERANGE}
 use Rattle.nv_kernel.specs.Serving.{Served}
-use Rattle.nv_calls.specs.declared.numbers.Syscall.TheVariants.{Unlinkat, Openat, Write, Writev}
+use Rattle.nv_calls.specs.declared.numbers.Syscall.TheVariants.{Unlinkat, Openat, Write, Writev, Bind}
 use Rattle.nv_calls.specs.Numbers.{syscall_of, hands_in}
 use Rattle.nv_calls.specs.Shapes.{IsShaped}
 use Rattle.nv_calls.proofs.ShapeLaws.{shaped-few, shaped-empty}
@@ -36,6 +36,7 @@ together_as Unlinkat c h p = omega arith
 together_as Openat c h p = omega arith
 together_as Write c h p = omega arith
 together_as Writev c h p = omega arith
+together_as Bind c h p = omega arith
 together_as _ c h p = let z = h refl in omega arith
 
 -- what a call hands in and out together

@@ -154,9 +154,9 @@ state_after s (c ∷ cs) = state_after (serve s c).state cs
 abbrev pub reply_of : Served → Response
 reply_of r = record { ret = r.ret; payload = r.payload }
 
--- how the kernel goes on from a state
+-- how the kernel goes on from a state; it serves no connection
 abbrev pub start_at : State → Start
-start_at s = record { replies = λ cs c. reply_of (serve (state_after s cs) c); console = λ cs. (state_after s cs).files.console }
+start_at s = record { replies = λ cs c. reply_of (serve (state_after s cs) c); console = λ cs. (state_after s cs).files.console; connections = λ cs. [] }
 
 abbrev pub inode_from : Named → fs.Inode
 inode_from file = record { name = Some file.0; bytes = file.1 }

@@ -1,5 +1,5 @@
 // What the kernel answers each call, and what each call leaves.
-ghost use Rattle.std.specs.Prelude.{◌≡◌, ◌≤◌, ◌<◌, ◌+◌, ◌*◌, ◌^◌, pos, [], length, map, OnOk, IfOk};
+ghost use Rattle.std.specs.Prelude.{◌≡◌, ◌≤◌, ◌<◌, ◌+◌, ◌*◌, ◌^◌, ◌==◌, pos, [], length, map, OnOk, IfOk};
 ghost use Rattle.nv_calls.specs.Answers.{most_out_by};
 ghost use Rattle.nv_calls.specs.Calls.{request};
 ghost use Rattle.nv_calls.specs.Limits.{MOST_EVENTS};
@@ -50,6 +50,13 @@ impl Devices {
             step: script.step,
             random: u64::from(script.seed),
         })
+    }
+
+    /// Whether no thread lives.
+    pub fn is_over(&self) -> bool
+        ensures { result ≡ (length (state_of self.now).crew.live == 0) }
+    {
+        self.threads.is_over()
     }
 
     // ioctl(2): no open file is a terminal.
@@ -162,7 +169,12 @@ impl Devices {
             Syscall::Getrandom => self.hand_out_random(args[1].min(MOST_BYTES), out),
             Syscall::ClockGettime64 => self.clock(args[0], out),
             Syscall::Clone => self.threads.make(args[0]),
-            Syscall::Unknown => ENOSYS,
+            Syscall::Socket
+            | Syscall::Bind
+            | Syscall::Listen
+            | Syscall::Accept
+            | Syscall::Accept4
+            | Syscall::Unknown => ENOSYS,
         }
     }
 

@@ -1,11 +1,17 @@
 // The kernel, with the log of the calls that it served.
-ghost use Rattle.std.specs.Prelude.{◌≡◌, [], IsTrue, IfOk};
+ghost use Rattle.std.specs.Prelude.{◌≡◌, ◌<◌, ◌++◌, [], ◌∷◌, IsTrue, IfOk, OnOk, length, Contains};
+ghost use Rattle.nv_calls.specs.Calls.{request};
+ghost use Rattle.nv_calls.specs.Limits.{MOST_EVENTS};
+ghost use Rattle.nv_calls.specs.Shapes.{IsShaped};
+ghost use Rattle.nv_calls.specs.Logs.{calls_of, served, live_after};
 ghost use Rattle.nv_script.specs.Scripts.{is_script};
 ghost use Rattle.nv_script.specs.Views.{setup_of};
+ghost use Rattle.nv_kernel.specs.Serving.{first_state, state_after};
 
 use crate::devices::Devices;
 use crate::spare::{blank, fill, keep, next_end};
 use nv_calls::{Bytes, Call, Event, MOST_BYTES, SyscallKernel};
+use nv_fs::FileSystem;
 use nv_script::Script;
 use std::alloc::{AllocError, Global};
 use std::marker::Model;
@@ -60,6 +66,14 @@ impl ScriptKernel {
             end: None,
         })
     }
+
+    /// The files, as the calls served left them.
+    pub fn files(&self) -> &FileSystem
+        ensures disk { result.now ≡ self.now.disk }
+        ensures state { result.now.state ≡ (state_after (first_state self.now.setup) (calls_of self.now.log)).files }
+    {
+        &self.devices.files
+    }
 }
 
 impl SyscallKernel for ScriptKernel {
@@ -72,7 +86,13 @@ impl SyscallKernel for ScriptKernel {
 
     ghost is_ready = { CanServe };
 
-    fn reserve(&mut self, call: &Call) -> Result<(), AllocError> {
+    fn reserve(&mut self, call: &Call) -> Result<(), AllocError>
+        requires shaped { IsShaped (request call.now) }
+        ensures log { self.new.log ≡ self.old.log }
+        ensures start { start_of_script self.new.setup ≡ start_of_script self.old.setup }
+        ensures ready { OnOk result (CanServe self.new (request call.now)) }
+        ensures setup { self.new.setup ≡ self.old.setup }
+    {
         self.spare = None;
         let event = blank(self.alloc, call)?;
         self.log.reserve(1)?;
@@ -81,7 +101,15 @@ impl SyscallKernel for ScriptKernel {
         Ok(())
     }
 
-    fn serve(&mut self, call: &Call) {
+    fn serve(&mut self, call: &Call)
+        requires ready { CanServe self.old (request call.now) }
+        requires shaped { IsShaped (request call.now) }
+        requires lives { Contains (live_after self.old.log) call.now.tid }
+        requires few { length self.old.log < MOST_EVENTS }
+        ensures log { self.new.log ≡ self.old.log ++ served (start_of_script self.old.setup) self.old.log (request call.now) ∷ [] }
+        ensures start { start_of_script self.new.setup ≡ start_of_script self.old.setup }
+        ensures setup { self.new.setup ≡ self.old.setup }
+    {
         let Some(mut event) = self.spare.take() else {
             unreachable!()
         };

@@ -7,9 +7,8 @@ mod crew;
 mod devices;
 mod kernel;
 mod random;
-mod spare;
-#[cfg(test)]
-mod tests;
+pub mod spare;
 
 pub use constants::constant;
+pub use devices::Devices;
 pub use kernel::ScriptKernel;
