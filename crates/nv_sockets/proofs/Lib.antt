@@ -1,0 +1,6 @@
+pub mod Begun
+pub mod Outputs
+pub mod Small
+pub mod Going
+pub mod Threads
+pub mod Lines

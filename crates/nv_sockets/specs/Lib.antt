@@ -1,0 +1,6 @@
+pub mod Sockets
+pub mod Serving
+pub mod Reserved
+pub mod Views
+pub mod Kernel
+pub mod Texts

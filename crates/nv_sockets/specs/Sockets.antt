@@ -1,0 +1,212 @@
+-- Sockets over the connections of a script (socket(2), bind(2), listen(2), accept(2), ip(7)), as lists whose places are the numbers.
+use Rattle.std.specs.Prelude.{ℕ, ◌+◌, ◌-◌, ◌*◌, ℤ, pos, Bool, false, not, ◌&&◌, ◌||◌, ◌==◌, nat_lt, nat_le, List, [], ◌∷◌, ◌++◌, length, take, drop, replicate, Option, Some, None, is_none, slice_index, slice_index_or, slice_set, if◌then◌else◌}
+use Rattle.std.specs.List.{list_any, position_from}
+use Rattle.nv_calls.specs.Errors.{EBADF, EAGAIN, EINVAL, EMFILE, ENOSPC, EPIPE, ENOTSOCK, EADDRINUSE, ENOTCONN}
+use Rattle.nv_sockets.specs.declared.socket.Socket.{Socket}
+use Rattle.nv_sockets.specs.declared.socket.Socket.TheVariants.{Fresh, Bound, Listening, Connected}
+
+-- a connection: the port that it comes to, all that it sends, and what was written to it
+pub record Link : Type 0 where
+  pub port : ℕ
+  pub input : List ℕ
+  pub output : List ℕ
+
+-- The sockets of the descriptors from 64 on; of each connection the port at which it waits until it is accepted; and the connections.
+pub record Net : Type 0 where
+  pub sockets : List (Option Socket)
+  pub waiting : List (Option ℕ)
+  pub links : List Link
+
+-- what a call leaves, its result, and the bytes that it hands out
+pub record Answer : Type 0 where
+  pub net : Net
+  pub ret : ℤ
+  pub payload : List ℕ
+
+abbrev pub answer : Net → ℤ → List ℕ → Answer
+answer net ret payload = record { net = net; ret = ret; payload = payload }
+
+-- an answer that changes nothing and hands out nothing
+abbrev pub only : Net → ℤ → Answer
+only net ret = answer net ret []
+
+-- ---- at the start
+
+-- no socket is open: there are 64 descriptors, from 64 to 127
+unfoldable pub no_sockets : List (Option Socket)
+no_sockets = replicate 64 None
+
+-- ---- descriptors
+
+-- the socket of a descriptor; None where it isn't that of an open socket
+unfoldable pub socket_at : Net → ℕ → Option Socket
+socket_at net fd = if nat_lt fd 64 then None else slice_index_or net.sockets (fd - 64) None
+
+-- descriptors below 64 are those of files
+abbrev pub fault_of : ℕ → ℤ
+fault_of fd = if nat_lt fd 64 then ENOTSOCK else EBADF
+
+-- the answer of a call that needs an open socket
+abbrev pub on_socket : Net → ℕ → Option Socket → (Socket → Answer) → Answer
+on_socket net fd None next = only net (fault_of fd)
+on_socket net fd (Some socket) next = next socket
+
+-- a descriptor names this socket from now on, or none
+abbrev pub with_socket : Net → ℕ → Option Socket → Net
+with_socket net fd socket = record net { sockets = slice_set net.sockets (fd - 64) socket }
+
+-- the place of the least descriptor that is free
+unfoldable pub free_place : Net → Option ℕ
+free_place net = position_from is_none 0 net.sockets
+
+-- a new socket at a place; its descriptor is the result
+abbrev pub opened : Net → ℕ → Socket → Answer
+opened net place socket = answer (record net { sockets = slice_set net.sockets place (Some socket) }) (pos (64 + place)) []
+
+-- ---- socket(2)
+
+-- SOCK_NONBLOCK (0x800) and SOCK_CLOEXEC (0x80000)
+abbrev pub are_flags : ℕ → Bool
+are_flags flags = (flags == 0) || (flags == 0x800) || (flags == 0x80000) || (flags == 0x80800)
+
+-- SOCK_STREAM (1), with or without these flags
+abbrev pub is_stream : ℕ → Bool
+is_stream kind = (kind == 1) || (kind == 0x801) || (kind == 0x80001) || (kind == 0x80801)
+
+-- a stream of AF_INET (2), by TCP (6) or with no protocol named
+abbrev pub is_tcp : ℕ → ℕ → ℕ → Bool
+is_tcp domain kind protocol = (domain == 2) && (is_stream kind && ((protocol == 0) || (protocol == 6)))
+
+abbrev pub made_at : Net → Option ℕ → Answer
+made_at net None = only net EMFILE
+made_at net (Some place) = opened net place Fresh
+
+unfoldable pub socket_of : Net → ℕ → ℕ → ℕ → Answer
+socket_of net domain kind protocol = if is_tcp domain kind protocol then made_at net (free_place net) else only net EINVAL
+
+-- ---- bind(2)
+
+-- the port of an address of IPv4: its family is 2 in the first two bytes, the lower first, and the port is in the next two, the higher first
+abbrev pub port_by : ℕ → ℕ → ℕ → ℕ → Option ℕ
+port_by a b c d = if (a == 2) && (b == 0) then Some (c * 256 + d) else None
+
+abbrev pub port_in : List ℕ → Option ℕ
+port_in address = if nat_lt (length address) 4 then None else port_by (slice_index address 0) (slice_index address 1) (slice_index address 2) (slice_index address 3)
+
+-- addresses of 16 to 128 bytes are taken
+abbrev pub is_size : ℕ → Bool
+is_size size = nat_le 16 size && nat_le size 128
+
+abbrev pub has_port : ℕ → Option Socket → Bool
+has_port port None = false
+has_port port (Some Fresh) = false
+has_port port (Some (Bound other)) = other == port
+has_port port (Some (Listening other)) = other == port
+has_port port (Some (Connected i read)) = false
+
+-- an open socket is bound to the port
+unfoldable pub is_used : Net → ℕ → Bool
+is_used net port = list_any (has_port port) net.sockets
+
+abbrev pub bind_to : Net → ℕ → Option ℕ → Answer
+bind_to net fd None = only net EINVAL
+bind_to net fd (Some port) = if is_used net port then only net EADDRINUSE else answer (with_socket net fd (Some (Bound port))) (pos 0) []
+
+abbrev pub bind_socket : Net → ℕ → ℕ → List ℕ → Socket → Answer
+bind_socket net fd size address Fresh = if is_size size then bind_to net fd (port_in address) else only net EINVAL
+bind_socket net fd size address (Bound port) = only net EINVAL
+bind_socket net fd size address (Listening port) = only net EINVAL
+bind_socket net fd size address (Connected i read) = only net EINVAL
+
+unfoldable pub bind_of : Net → ℕ → ℕ → List ℕ → Answer
+bind_of net fd size address = on_socket net fd (socket_at net fd) (bind_socket net fd size address)
+
+-- ---- listen(2)
+
+abbrev pub listen_socket : Net → ℕ → Socket → Answer
+listen_socket net fd Fresh = only net EINVAL
+listen_socket net fd (Bound port) = answer (with_socket net fd (Some (Listening port))) (pos 0) []
+listen_socket net fd (Listening port) = only net (pos 0)
+listen_socket net fd (Connected i read) = only net EINVAL
+
+unfoldable pub listen_of : Net → ℕ → Answer
+listen_of net fd = on_socket net fd (socket_at net fd) (listen_socket net fd)
+
+-- ---- accept(2)
+
+abbrev pub waits_at : ℕ → Option ℕ → Bool
+waits_at port None = false
+waits_at port (Some other) = other == port
+
+-- the first connection that waits at the port, in the script's order
+unfoldable pub next_at : Net → ℕ → Option ℕ
+next_at net port = position_from (waits_at port) 0 net.waiting
+
+-- the connection waits no longer
+abbrev pub with_accepted : Net → ℕ → Net
+with_accepted net i = record net { waiting = slice_set net.waiting i None }
+
+-- EAGAIN in place of waiting
+abbrev pub accept_next : Net → Option ℕ → Option ℕ → Answer
+accept_next net None next = only net EMFILE
+accept_next net (Some place) None = only net EAGAIN
+accept_next net (Some place) (Some i) = opened (with_accepted net i) place (Connected i 0)
+
+abbrev pub accept_socket : Net → Socket → Answer
+accept_socket net Fresh = only net EINVAL
+accept_socket net (Bound port) = only net EINVAL
+accept_socket net (Listening port) = accept_next net (free_place net) (next_at net port)
+accept_socket net (Connected i read) = only net EINVAL
+
+abbrev pub accept_flagged : Net → ℕ → Socket → Answer
+accept_flagged net flags socket = if are_flags flags then accept_socket net socket else only net EINVAL
+
+unfoldable pub accept_of : Net → ℕ → ℕ → Answer
+accept_of net fd flags = on_socket net fd (socket_at net fd) (accept_flagged net flags)
+
+-- ---- read(2) and readv(2), of no more bytes than a call moves
+
+-- the connection of a number; nothing where there is none
+abbrev pub link_at : Net → ℕ → Link
+link_at net i = slice_index_or net.links i record { port = 0; input = []; output = [] }
+
+abbrev pub input_of : Net → ℕ → List ℕ
+input_of net i = (link_at net i).input
+
+abbrev pub output_of : Net → ℕ → List ℕ
+output_of net i = (link_at net i).output
+
+-- at most n bytes of what is left
+abbrev pub read_link : Net → ℕ → ℕ → ℕ → ℕ → Answer
+read_link net fd i read n =
+    let part = take n (drop read (input_of net i)) in
+    answer (with_socket net fd (Some (Connected i (read + length part)))) (pos (length part)) part
+
+abbrev pub read_socket : Net → ℕ → ℕ → Socket → Answer
+read_socket net fd n Fresh = only net ENOTCONN
+read_socket net fd n (Bound port) = only net ENOTCONN
+read_socket net fd n (Listening port) = only net ENOTCONN
+read_socket net fd n (Connected i read) = read_link net fd i read n
+
+-- ---- write(2) and writev(2)
+
+abbrev pub with_output : Net → ℕ → List ℕ → Net
+with_output net i bytes = record net { links = slice_set net.links i (record (link_at net i) { output = bytes }) }
+
+-- a connection takes as many bytes as fit the limit
+abbrev pub write_link : Net → ℕ → ℕ → List ℕ → Answer
+write_link net limit i bytes =
+    if length bytes == 0 then only net (pos 0)
+    else (if nat_le limit (length (output_of net i)) then only net ENOSPC
+    else (let part = take (limit - length (output_of net i)) bytes in answer (with_output net i (output_of net i ++ part)) (pos (length part)) []))
+
+abbrev pub write_socket : Net → List ℕ → Socket → Answer
+write_socket net bytes Fresh = only net EPIPE
+write_socket net bytes (Bound port) = only net EPIPE
+write_socket net bytes (Listening port) = only net EPIPE
+write_socket net bytes (Connected i read) = write_link net 1048576 i bytes
+
+-- ---- close(2): what was written to the connection stays
+
+abbrev pub close_socket : Net → ℕ → Socket → Answer
+close_socket net fd socket = answer (with_socket net fd None) (pos 0) []

@@ -1,0 +1,28 @@
+-- The code's values as the definitions see them.
+use Rattle.std.specs.Prelude.{ℕ, List, map, vec_capacity}
+use Rattle.std.specs.Global.{Vec}
+use Rattle.nv_calls.specs.Logs.{Written}
+use Rattle.nv_script.specs.Scripts.{Incoming}
+use Rattle.nv_sockets.specs.declared.connection.Connection.{Connection}
+use Rattle.nv_sockets.specs.declared.sockets.Sockets.TheInside.{Inside}
+use Rattle.nv_sockets.specs.Sockets.{Link, Net}
+use Rattle.nv_sockets.specs.Reserved.{Wired}
+
+abbrev pub link_of : Connection → Link
+link_of c = record { port = c.port; input = c.input.items; output = c.output.items }
+
+abbrev pub room_of : Connection → ℕ
+room_of c = vec_capacity c.output
+
+abbrev pub written_of : Connection → Written
+written_of c = record { port = c.port; bytes = c.output.items }
+
+-- a connection of a script, as lists
+abbrev pub incoming_of : ℕ × Vec ℕ → Incoming
+incoming_of c = (c.0, c.1.items)
+
+abbrev pub net_of : Inside → Net
+net_of s = record { sockets = s.sockets; waiting = s.waiting.items; links = map link_of s.connections.items }
+
+abbrev pub wired_of : Inside → Wired
+wired_of s = record { net = net_of s; room = map room_of s.connections.items }

@@ -1,0 +1,80 @@
+// What calls read and change, sockets and all.
+ghost use Rattle.std.specs.Prelude.{◌≡◌, ◌≤◌, ◌<◌, length, ◌==◌, OnOk, IfOk};
+ghost use Rattle.nv_calls.specs.Calls.{request};
+ghost use Rattle.nv_calls.specs.Limits.{MOST_EVENTS};
+ghost use Rattle.nv_script.specs.Views.{setup_of};
+ghost use Rattle.nv_kernel.specs.Reserved.{CanAnswer, most_out};
+ghost use Rattle.nv_sockets.specs.Kernel.{state_of};
+ghost use Rattle.nv_sockets.specs.Reserved.{CanSend};
+ghost use Rattle.nv_sockets.specs.Serving.{unless_bad, or_own, first_state, serve};
+ghost use Rattle.nv_sockets.specs.Sockets.{answer};
+
+use crate::sockets::Sockets;
+use nv_calls::{Bytes, Call, MOST_BYTES, Syscall};
+use nv_kernel::Devices;
+use nv_script::Script;
+use std::alloc::{AllocError, Global};
+
+/// What the kernel without sockets holds, and the sockets.
+#[derive(Drop)]
+pub struct Host {
+    pub devices: Devices,
+    pub sockets: Sockets,
+}
+
+// What a call is answered to which the kernel without sockets gave this answer.
+fn answer_beside(sockets: &mut Sockets, call: &Call, own: i32, out: &mut Bytes) -> i32
+    requires ready { CanSend sockets.old (request call.now) }
+    requires capacity { MOST_BYTES ≤ out.old.capacity }
+    ensures answer { or_own sockets.old.net own out.old.bytes (unless_bad sockets.old.net (request call.now)) ≡ answer sockets.new.net result out.new.bytes }
+    ensures capacity { out.new.capacity ≡ out.old.capacity }
+{
+    if call.bad {
+        return own;
+    }
+    sockets.answer_as(Syscall::of(call.nr), call, own, out)
+}
+
+impl Host {
+    /// What a script gives.
+    pub fn make(alloc: Global, script: &Script) -> Result<Host, AllocError>
+        ensures { IfOk result (λ made. state_of made ≡ first_state (setup_of script.now)) }
+    {
+        let devices = Devices::make(alloc, script)?;
+        let sockets = Sockets::make(alloc, &script.connections)?;
+        Ok(Host { devices, sockets })
+    }
+
+    /// Whether no thread lives.
+    pub fn is_over(&self) -> bool
+        ensures { result ≡ (length (state_of self.now).own.crew.live == 0) }
+    {
+        self.devices.is_over()
+    }
+
+    /// The result of a call, with the bytes that it hands out.
+    pub fn answer(&mut self, call: &Call, out: &mut Bytes) -> i32
+        requires ready { CanAnswer self.old.devices.files (request call.now) }
+        requires sends { CanSend self.old.sockets (request call.now) }
+        requires few { self.old.devices.served < MOST_EVENTS }
+        requires capacity { MOST_BYTES ≤ out.old.capacity }
+        requires clones { (state_of self.old).own.crew.clones < MOST_EVENTS }
+        ensures answer { serve (state_of self.old) (request call.now) ≡ record { state = state_of self.new; ret = result; payload = out.new.bytes } }
+        ensures capacity { out.new.capacity ≡ out.old.capacity }
+        ensures few { length out.new.bytes ≤ most_out (request call.now) }
+    {
+        let own = self.devices.answer(call, out);
+        answer_beside(&mut self.sockets, call, own, out)
+    }
+
+    /// Memory for what the call leaves.
+    pub fn reserve(&mut self, call: &Call) -> Result<(), AllocError>
+        requires few { length call.now.payload.bytes ≤ MOST_BYTES }
+        ensures state { state_of self.new ≡ state_of self.old }
+        ensures ready { OnOk result (CanAnswer self.new.devices.files (request call.now)) }
+        ensures sends { OnOk result (CanSend self.new.sockets (request call.now)) }
+    {
+        self.devices.reserve(call)?;
+        self.sockets.reserve_as(Syscall::of(call.nr), call)
+    }
+}

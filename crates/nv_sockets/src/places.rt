@@ -1,0 +1,132 @@
+// What a descriptor names, which are free, and which ports are in use.
+ghost use Rattle.std.specs.Prelude.{◌≡◌, ◌<◌, ◌≤◌, [], length, is_none, IfSome, slice_index_or, None};
+ghost use Rattle.std.specs.List.{position_from, list_any};
+ghost use Rattle.nv_sockets.specs.Sockets.{answer, fault_of, socket_at, with_socket, free_place, opened, has_port, is_used, waits_at, next_at, with_accepted};
+
+use crate::socket::Socket;
+use crate::sockets::{FIRST_SOCKET, Sockets};
+use nv_calls::errors::{EBADF, ENOTSOCK};
+
+fn slot(sockets: &[Option<Socket>], place: usize) -> Option<Socket>
+    ensures is { result ≡ slice_index_or sockets.now place None }
+    ensures inside { IfSome result (λ _. place < length sockets.now) }
+{
+    if place < sockets.len() {
+        sockets[place]
+    } else {
+        None
+    }
+}
+
+// The first free one.
+fn first_free(sockets: &[Option<Socket>]) -> Option<usize>
+    ensures is { result ≡ position_from is_none 0 sockets.now }
+    ensures inside { IfSome result (λ place. place < length sockets.now) }
+{
+    sockets.iter().position(|socket| socket.is_none())
+}
+
+fn has_port(socket: Option<Socket>, port: u32) -> bool
+    ensures { result ≡ has_port port socket }
+{
+    match socket {
+        Some(Socket::Bound(other)) => other == port,
+        Some(Socket::Listening(other)) => other == port,
+        Some(Socket::Fresh) => false,
+        Some(Socket::Connected(_, _)) => false,
+        None => false,
+    }
+}
+
+fn any_has_port(sockets: &[Option<Socket>], port: u32) -> bool
+    ensures { result ≡ list_any (has_port port) sockets.now }
+{
+    sockets.iter().any(|socket| has_port(*socket, port))
+}
+
+fn waits_at(waiting: Option<u32>, port: u32) -> bool
+    ensures { result ≡ waits_at port waiting }
+{
+    match waiting {
+        Some(other) => other == port,
+        None => false,
+    }
+}
+
+fn first_at(waiting: &[Option<u32>], port: u32) -> Option<usize>
+    ensures is { result ≡ position_from (waits_at port) 0 waiting.now }
+    ensures inside { IfSome result (λ i. i < length waiting.now) }
+{
+    waiting.iter().position(|waiting| waits_at(*waiting, port))
+}
+
+/// The error of a call whose descriptor isn't that of an open socket.
+pub fn fault_of(fd: u32) -> i32
+    ensures { result ≡ fault_of fd }
+{
+    if fd < FIRST_SOCKET { ENOTSOCK } else { EBADF }
+}
+
+#[tactic(auto, unfolding(crate::specs::Sockets::socket_at, crate::specs::Sockets::free_place, crate::specs::Sockets::is_used, crate::specs::Sockets::next_at))]
+impl Sockets {
+    /// The socket of a descriptor.
+    pub(crate) fn at(&self, fd: u32) -> Option<Socket>
+        ensures is { result ≡ socket_at self.now.net fd }
+        ensures low { IfSome result (λ _. 64 ≤ fd) }
+        ensures high { IfSome result (λ _. fd < 128) }
+    {
+        if fd < FIRST_SOCKET {
+            return None;
+        }
+        slot(&self.sockets, (fd - FIRST_SOCKET) as usize)
+    }
+
+    /// The descriptor names this socket from now on, or none.
+    pub(crate) fn put(&mut self, fd: u32, socket: Option<Socket>)
+        requires low { 64 ≤ fd }
+        requires high { fd < 128 }
+        ensures { self.new.net ≡ with_socket self.old.net fd socket }
+    {
+        self.sockets[(fd - FIRST_SOCKET) as usize] = socket;
+    }
+
+    /// The place of the least descriptor that is free.
+    pub(crate) fn free_place(&self) -> Option<usize>
+        ensures is { result ≡ free_place self.now.net }
+        ensures inside { IfSome result (λ place. place < 64) }
+    {
+        first_free(&self.sockets)
+    }
+
+    /// A new socket at this place; the answer is its descriptor.
+    pub(crate) fn install(&mut self, place: usize, socket: Socket) -> i32
+        requires { place < 64 }
+        ensures { opened self.old.net place socket ≡ answer self.new.net result [] }
+    {
+        self.sockets[place] = Some(socket);
+        (FIRST_SOCKET as usize + place) as i32
+    }
+
+    /// Whether an open socket is bound to the port.
+    pub(crate) fn is_used(&self, port: u32) -> bool
+        ensures { result ≡ is_used self.now.net port }
+    {
+        any_has_port(&self.sockets, port)
+    }
+
+    /// The first connection that waits at the port.
+    pub(crate) fn next_at(&self, port: u32) -> Option<usize>
+        ensures is { result ≡ next_at self.now.net port }
+        ensures inside { IfSome result (λ i. i < length self.now.net.waiting) }
+    {
+        first_at(self.waiting.as_slice(), port)
+    }
+
+    /// The connection waits no longer.
+    pub(crate) fn leave_queue(&mut self, i: usize)
+        requires { i < length self.old.net.waiting }
+        ensures { self.new.net ≡ with_accepted self.old.net i }
+    {
+        self.waiting[i] = None;
+    }
+}

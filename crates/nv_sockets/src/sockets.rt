@@ -1,0 +1,90 @@
+// The sockets and the connections, and what they are at the start.
+ghost use Rattle.std.specs.Prelude.{◌≡◌, Some, IfOk, map};
+ghost use Rattle.nv_sockets.specs.Sockets.{no_sockets};
+ghost use Rattle.nv_sockets.specs.Serving.{first_net, link_from, port_from};
+ghost use Rattle.nv_sockets.specs.Views.{link_of, incoming_of};
+
+use crate::connection::Connection;
+use crate::socket::Socket;
+use std::alloc::{AllocError, Global};
+use std::marker::Model;
+
+/// How many descriptors sockets have.
+pub const SOCKETS: usize = 64;
+
+/// The first of them.
+pub const FIRST_SOCKET: u32 = 64;
+
+/// The sockets of a run, with the descriptors that name them, and the connections. Each connection waits at its port until it is accepted.
+#[derive(Drop)]
+pub struct Sockets {
+    pub(crate) sockets: [Option<Socket>; 64],
+    pub(crate) waiting: Vec<Option<u32>>,
+    pub(crate) connections: Vec<Connection>,
+}
+
+impl Model for Sockets {
+    ghost use Rattle.nv_sockets.specs.Reserved.{Wired};
+
+    ghost Value = { Wired };
+
+    ghost use Rattle.nv_sockets.specs.Views.{wired_of};
+
+    ghost view = { wired_of };
+}
+
+#[tactic(auto, unfolding(crate::specs::Sockets::no_sockets))]
+fn no_sockets() -> [Option<Socket>; 64]
+    ensures { result ≡ no_sockets }
+{
+    [None; 64]
+}
+
+// The port of each connection.
+fn ports(alloc: Global, stated: &[(u32, Vec<u8>)]) -> Result<Vec<Option<u32>>, AllocError>
+    ensures { IfOk result (λ made. made.items ≡ map (λ c. port_from (incoming_of c)) stated.now) }
+{
+    let mut made = Vec::new(alloc);
+    for (port, _) in stated {
+        made.push(Some(*port))?;
+    }
+    Ok(made)
+}
+
+// The connections, to which nothing was written.
+fn begun(alloc: Global, stated: &[(u32, Vec<u8>)]) -> Result<Vec<Connection>, AllocError>
+    ensures { IfOk result (λ made. map link_of made.items ≡ map (λ c. link_from (incoming_of c)) stated.now) }
+{
+    let mut made = Vec::new(alloc);
+    for (port, input) in stated {
+        let input = Vec::from_slice(alloc, input.as_slice())?;
+        made.push(Connection {
+            port: *port,
+            input,
+            output: Vec::new(alloc),
+        })?;
+    }
+    Ok(made)
+}
+
+impl Sockets {
+    /// No socket, and these connections, each by its port and what it sends.
+    pub fn make(alloc: Global, stated: &Vec<(u32, Vec<u8>)>) -> Result<Sockets, AllocError>
+        ensures { IfOk result (λ made. made.net ≡ first_net (map incoming_of stated.now.items)) }
+    {
+        let waiting = ports(alloc, stated.as_slice())?;
+        let connections = begun(alloc, stated.as_slice())?;
+        Ok(Sockets {
+            sockets: no_sockets(),
+            waiting,
+            connections,
+        })
+    }
+
+    /// The connections, in the script's order.
+    pub fn connections(&self) -> &[Connection]
+        ensures { map link_of result.now ≡ self.now.net.links }
+    {
+        self.connections.as_slice()
+    }
+}

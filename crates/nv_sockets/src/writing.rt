@@ -1,0 +1,88 @@
+// What was written to each connection, as a part of a report.
+ghost use Rattle.std.specs.Prelude.{◌≡◌, ◌+◌, ◌<◌, ◌^◌, length, map};
+ghost use Rattle.nv_calls.specs.Logs.{connections_of};
+ghost use Rattle.nv_outside.specs.Sink.{Puts};
+ghost use Rattle.nv_sockets.specs.Serving.{start_of_script};
+ghost use Rattle.nv_sockets.specs.Texts.{count_text, line_text, lines_text, connections_text};
+ghost use Rattle.nv_sockets.specs.Views.{written_of};
+
+use crate::connection::Connection;
+use crate::kernel::SocketKernel;
+use itoa::Buffer;
+use nv_outside::{Put, Sink, put_pieces};
+
+fn put_count<S: Sink>(sink: &mut S, connections: usize) -> Put
+    ensures { Puts (S.told sink.old) (S.faults sink.old) (count_text connections) result (S.told sink.new) (S.faults sink.new) }
+{
+    let mut buffer = Buffer::new();
+    put_pieces(
+        sink,
+        &[
+            b"connections ",
+            buffer.format(connections).as_bytes(),
+            b"\n",
+        ],
+    )
+}
+
+fn put_line<S: Sink>(sink: &mut S, index: usize, connection: &Connection) -> Put
+    ensures { Puts (S.told sink.old) (S.faults sink.old) (line_text index (written_of connection.now)) result (S.told sink.new) (S.faults sink.new) }
+{
+    put_written(sink, index, connection.port, connection.output.as_slice())
+}
+
+fn put_written<S: Sink>(sink: &mut S, index: usize, port: u32, output: &[u8]) -> Put
+    ensures { Puts (S.told sink.old) (S.faults sink.old) (line_text index (record { port = port; bytes = output.now })) result (S.told sink.new) (S.faults sink.new) }
+{
+    let mut first = Buffer::new();
+    let mut second = Buffer::new();
+    let mut third = Buffer::new();
+    put_pieces(
+        sink,
+        &[
+            b"connection ",
+            first.format(index).as_bytes(),
+            b" ",
+            second.format(port).as_bytes(),
+            b" ",
+            third.format(output.len()).as_bytes(),
+            b"\n",
+            output,
+            b"\n",
+        ],
+    )
+}
+
+// Each connection, with the numbers from `first` on.
+fn put_lines<S: Sink>(sink: &mut S, first: usize, connections: &[Connection]) -> Put
+    requires { first + length connections.now < 2 ^ 64 }
+    ensures { Puts (S.told sink.old) (S.faults sink.old) (lines_text first (map written_of connections.now)) result (S.told sink.new) (S.faults sink.new) }
+{
+    match connections.split_first() {
+        None => Put::Whole,
+        Some((connection, others)) => match put_line(sink, first, connection) {
+            Put::Whole => put_lines(sink, first + 1, others),
+            Put::Failed => Put::Failed,
+        },
+    }
+}
+
+fn put_some<S: Sink>(sink: &mut S, connections: &[Connection]) -> Put
+    ensures { Puts (S.told sink.old) (S.faults sink.old) (connections_text (map written_of connections.now)) result (S.told sink.new) (S.faults sink.new) }
+{
+    if connections.is_empty() {
+        return Put::Whole;
+    }
+    match put_count(sink, connections.len()) {
+        Put::Whole => put_lines(sink, 0, connections),
+        Put::Failed => Put::Failed,
+    }
+}
+
+/// Writes how many connections there are, and of each its number, its port and what was written to it; nothing where there is none. It takes no memory.
+pub fn write_connections<S: Sink>(sink: &mut S, kernel: &SocketKernel) -> Put
+    ensures { Puts (S.told sink.old) (S.faults sink.old) (connections_text (connections_of (start_of_script kernel.now.setup) kernel.now.log))
+        result (S.told sink.new) (S.faults sink.new) }
+{
+    put_some(sink, kernel.connections())
+}
