@@ -3,8 +3,8 @@ use Rattle.std.proofs.Common.{◌≡◌, ◌∙◌, ap, refl, ℕ, suc, ◌≤�
 use Rattle.std.specs.Prelude.{is_some}
 use Rattle.std.specs.List.{list_any}
 use Rattle.nv_calls.specs.Calls.{Request}
-use Rattle.nv_threads.specs.Threads.{TaskState, Runs, Asks, Task as Thread, tids, state_at, with_state, is_running, is_asking, moves, moves_task, waits_at, least_waiter, lesser, no_call}
-use Rattle.nv_threads.specs.Tables.{numbers, doing_at, with_doing, place_of, state_by, thread_by, moves_by, can_move_by, waits_by, waiter_by, threads_of, is_runs, is_asks}
+use Rattle.nv_threads.specs.Threads.{TaskState, Runs, Asks, Task as Thread, tids, state_at, with_state, is_running, is_asking, moves, moves_task, asks, waits_at, least_waiter, lesser, no_call}
+use Rattle.nv_threads.specs.Tables.{numbers, doing_at, with_doing, place_of, state_by, thread_by, moves_by, can_move_by, any_asks_by, waits_by, waiter_by, threads_of, is_runs, is_asks}
 use Rattle.nv_threads.specs.declared.tasks.Doing.{Doing}
 use Rattle.nv_threads.specs.declared.tasks.Doing.TheVariants as doing
 use Rattle.nv_threads.specs.declared.tasks.Task.{Task}
@@ -63,6 +63,11 @@ pub moves_of : (w : Want) (ts : List Task) (cs : List Request) → list_any (mov
 moves_of w [] cs = refl
 moves_of w (t ∷ ts) [] = ap (λ b. b || list_any (moves_task w) (threads_of ts [])) (moves_as w t.doing no_call) ∙ ap (λ b. moves_by w t.doing || b) (moves_of w ts [])
 moves_of w (t ∷ ts) (c ∷ cs) = ap (λ b. b || list_any (moves_task w) (threads_of ts cs)) (moves_as w t.doing c) ∙ ap (λ b. moves_by w t.doing || b) (moves_of w ts cs)
+
+pub any_asks_of : (ts : List Task) (cs : List Request) → list_any asks (threads_of ts cs) ≡ any_asks_by ts
+any_asks_of [] cs = refl
+any_asks_of (t ∷ ts) [] = ap (λ b. b || list_any asks (threads_of ts [])) (asking_as t.doing no_call) ∙ ap (λ b. is_asks (Some t.doing) || b) (any_asks_of ts [])
+any_asks_of (t ∷ ts) (c ∷ cs) = ap (λ b. b || list_any asks (threads_of ts cs)) (asking_as t.doing c) ∙ ap (λ b. is_asks (Some t.doing) || b) (any_asks_of ts cs)
 
 waits_as : (a : ℕ) (d : Doing) (c : Request) → waits_at a (state_by d c) ≡ waits_by a d
 waits_as a doing.Runs c = refl

@@ -3,3 +3,4 @@ pub mod Process
 pub mod Threads
 pub mod Tables
 pub mod Going
+pub mod Ahead

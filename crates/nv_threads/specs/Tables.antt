@@ -68,3 +68,7 @@ is_runs d = false
 abbrev pub is_asks : Option Doing → Bool
 is_asks (Some doing.Asks) = true
 is_asks d = false
+
+abbrev pub any_asks_by : List Task → Bool
+any_asks_by [] = false
+any_asks_by (t ∷ ts) = is_asks (Some t.doing) || any_asks_by ts

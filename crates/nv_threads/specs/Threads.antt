@@ -1,5 +1,5 @@
 -- A process of up to eight threads, which take turns.
-use Rattle.std.specs.Prelude.{ℕ, zero, suc, ◌+◌, ◌-◌, ◌*◌, ◌%◌, ℤ, pos, Bool, true, false, ◌==◌, ◌||◌, ◌&&◌, not, nat_lt, nat_le, min, List, [], ◌∷◌, ◌++◌, length, map, filter, Option, Some, None, Result, Ok, Err, is_some, if◌then◌else◌}
+use Rattle.std.specs.Prelude.{ℕ, zero, suc, ◌+◌, ◌-◌, ◌*◌, ◌%◌, ℤ, pos, Bool, true, false, ◌==◌, ◌||◌, ◌&&◌, not, nat_lt, nat_le, min, max, List, [], ◌∷◌, ◌++◌, length, map, filter, Option, Some, None, Result, Ok, Err, is_some, if◌then◌else◌}
 use Rattle.std.specs.Int.{w32, cast_signed}
 use Rattle.std.specs.List.{list_any}
 use Rattle.nv_calls.specs.Calls.{Request, Response, status_of}
@@ -76,13 +76,14 @@ lesser t (Some u) = min t u
 -- ---- the process
 
 -- The guest, its live threads in the order in which they came, the turn's thread with the instructions that it has left, the instructions
--- left of the budget, and the status that the last call to exit gave.
+-- left of the budget, the budget, and the status that the last call to exit gave.
 pub record Proc : Type 0 where
   pub guest : Threaded
   pub tasks : List Task
   pub turn : ℕ
   pub slice : ℕ
   pub left : ℕ
+  pub budget : ℕ
   pub status : ℕ
 
 -- how many instructions a turn has
@@ -97,8 +98,18 @@ started m budget = record {
   turn = FIRST_THREAD;
   slice = turn_length;
   left = budget;
+  budget = budget;
   status = 0;
 }
+
+-- how many instructions it has run
+abbrev pub count_of : Proc → ℕ
+count_of p = p.budget - p.left
+
+-- the greatest number of a thread that lives; 0 where none does
+abbrev pub greatest : List ℕ → ℕ
+greatest [] = 0
+greatest (t ∷ ts) = max t (greatest ts)
 
 -- the machine of the turn's thread
 abbrev pub machine : Proc → Machine

@@ -1,19 +1,21 @@
 // A guest with up to eight threads, which take turns, and the calls that they wait for.
-ghost use Rattle.std.specs.Prelude.{◌≡◌, ◌≢◌, ◌≤◌, ◌<◌, ◌++◌, ◌∷◌, [], Some, None, Ok, IfOk, true, length, min, is_some, remove, slice_index_or, Contains};
+ghost use Rattle.std.specs.Prelude.{◌≡◌, ◌≢◌, ◌≤◌, ◌<◌, ◌++◌, ◌∷◌, [], Some, None, Ok, IfOk, true, length, min, is_some, remove, slice_index_or, Contains, IsTrue};
 ghost use Rattle.nv_calls.specs.Calls.{request};
 ghost use Rattle.nv_calls.specs.Logs.{made, IsNew};
 ghost use Rattle.nv_calls.specs.Shapes.{IsShaped};
 ghost use Rattle.nv_guest.specs.Guest.{machine_of, one_thread};
-ghost use Rattle.nv_guest.specs.Threads.{break_after};
+ghost use Rattle.nv_guest.specs.Threads.{break_after, tids as guest_tids};
 ghost use Rattle.nv_threads.specs.Behaviours.{IsStarted};
-ghost use Rattle.nv_threads.specs.Threads.{threads, started, state_at, is_running, is_asking, wanted, can_move, is_on, faulted, unless_live, passed, released, replied, own_answer, local, woken_one, woken, waiting, operation, futex, futex_by, futex_on, called, machine, tids, over, left_by, brk, broken, with_child, goes_on, outcome_of, answered_as};
+ghost use Rattle.nv_threads.specs.Threads.{threads, started, count_of, greatest, state_at, is_running, is_asking, wanted, can_move, is_on, faulted, unless_live, passed, released, replied, own_answer, local, woken_one, woken, waiting, operation, futex, futex_by, futex_on, called, machine, tids, over, left_by, brk, broken, with_child, goes_on, outcome_of, answered_as};
 ghost use Rattle.nv_threads.specs.Going.{Goes, burst};
 ghost use Rattle.nv_threads.specs.Process.{HaveCapacity};
+ghost use Rattle.nv_threads.specs.Ahead.{HasGone};
 
 use crate::tasks::{
-    Doing, Task, asks, can_move, least_waiter, lives, next_tid, place, runs, set_doing,
+    Doing, Task, any_asks, asks, can_move, highest, least_waiter, lives, next_tid, place, runs,
+    set_doing,
 };
-use crate::{Came, FaultKind, Want};
+use crate::{Ahead, Came, FaultKind, Want};
 use arrayvec::ArrayVec;
 use nv_calls::errors::{EAGAIN, EFAULT, EINVAL, ENOSYS};
 use nv_calls::{Bytes, Call, EXIT, EXIT_GROUP, FIRST_THREAD, MOST_BYTES, MOST_THREADS, made};
@@ -52,7 +54,7 @@ impl Model for Process {
 
     ghost Value = { Proc };
 
-    ghost view = { λ p. record { guest = p.guest; tasks = threads_of p.tasks.items (map request p.calls.items); turn = p.turn; slice = p.slice; left = p.budget - p.count; status = p.status } };
+    ghost view = { λ p. record { guest = p.guest; tasks = threads_of p.tasks.items (map request p.calls.items); turn = p.turn; slice = p.slice; left = p.budget - p.count; budget = p.budget; status = p.status } };
 
     ghost invariant = { λ p. IsSound p.count p.budget (threads_of p.tasks.items (map request p.calls.items)) (tids p.guest.threads) p.calls.items };
 }
@@ -118,6 +120,31 @@ impl Process {
             return Some(self.fault(FaultKind::Budget));
         }
         self.run()
+    }
+
+    /// Some turn steps that are the same whichever thread's call is wanted next, where there are any: a thread runs and none asks.
+    /// Where no thread can bring it on, or the budget is over, it stays.
+    pub fn run_ahead(&mut self) -> Ahead
+        ensures { HasGone self.old result self.new }
+    {
+        if any_asks(&self.tasks) {
+            return Ahead::Stays;
+        }
+        if !can_move(&self.tasks, Want::Any) {
+            return Ahead::Stays;
+        }
+        if !self.is_on() {
+            self.pass();
+            return Ahead::Goes;
+        }
+        let left = self.budget - self.count;
+        if left == 0 {
+            return Ahead::Stays;
+        }
+        match self.run() {
+            None => Ahead::Goes,
+            Some(came) => Ahead::Comes(came),
+        }
     }
 
     fn wanted(&self, want: Want) -> u32
@@ -366,6 +393,35 @@ impl Process {
         ensures { result ≡ threads.pc self.now tid }
     {
         self.guest.pc(tid)
+    }
+
+    /// The guest: the threads that live, with their registers, and their memory.
+    pub fn guest(&self) -> &Guest
+        ensures { result.now ≡ self.now.guest }
+    {
+        &self.guest
+    }
+
+    /// How many instructions it has run.
+    pub fn count(&self) -> u32
+        ensures { result ≡ count_of self.now }
+    {
+        self.count
+    }
+
+    /// Whether the thread lives.
+    pub fn lives(&self, tid: u32) -> bool
+        ensures is { result ≡ is_some (state_at self.now.tasks tid) }
+        ensures guest { IsTrue result → Contains (guest_tids self.now.guest.threads) tid }
+    {
+        lives(&self.tasks, tid)
+    }
+
+    /// The greatest number of a thread that lives; 0 where none does.
+    pub fn highest(&self) -> u32
+        ensures { result ≡ greatest (tids self.now.tasks) }
+    {
+        highest(&self.tasks)
     }
 
     /// The thread gets the answer to its call.

@@ -1,7 +1,7 @@
 // The threads of a process, and what each does.
 ghost use Rattle.std.specs.Prelude.{◌≡◌, ◌<◌, nat_lt, length, Contains, Some, is_some, if◌then◌else◌};
-ghost use Rattle.nv_threads.specs.Threads.{lesser, next_tid};
-ghost use Rattle.nv_threads.specs.Tables.{doing_at, with_doing, place_of, numbers, moves_by, can_move_by, waits_by, waiter_by, is_runs, is_asks};
+ghost use Rattle.nv_threads.specs.Threads.{lesser, next_tid, greatest};
+ghost use Rattle.nv_threads.specs.Tables.{doing_at, with_doing, place_of, numbers, moves_by, can_move_by, any_asks_by, waits_by, waiter_by, is_runs, is_asks};
 
 use crate::Want;
 
@@ -48,6 +48,19 @@ pub(crate) fn lives(tasks: &[Task], tid: u32) -> bool
     ensures { result ≡ is_some (doing_at tasks.now tid) }
 {
     doing_at(tasks, tid).is_some()
+}
+
+/// The greatest number of a thread that lives; 0 where none does.
+pub(crate) fn highest(tasks: &[Task]) -> u32
+    ensures { result ≡ greatest (numbers tasks.now) }
+{
+    let mut most = 0;
+    let mut i = tasks.len();
+    while i > 0 {
+        i -= 1;
+        most = tasks[i].tid.max(most);
+    }
+    most
 }
 
 /// Whether the thread lives and runs.
@@ -112,6 +125,27 @@ fn moves(doing: Doing, want: Want) -> bool
         Doing::Runs => true,
         Doing::Asks => want == Want::Any,
         Doing::Waits(_) => false,
+    }
+}
+
+/// Whether a thread waits for the answer to a call.
+pub(crate) fn any_asks(tasks: &[Task]) -> bool
+    ensures { result ≡ any_asks_by tasks.now }
+{
+    for task in tasks {
+        if is_call(task.doing) {
+            return true;
+        }
+    }
+    false
+}
+
+fn is_call(doing: Doing) -> bool
+    ensures { result ≡ is_asks (Some doing) }
+{
+    match doing {
+        Doing::Asks => true,
+        _ => false,
     }
 }
 

@@ -18,3 +18,14 @@ pub enum Came {
     /// A fault of this thread, at the instruction that faulted or wasn't run.
     Fault { kind: FaultKind, tid: u32, pc: u32 },
 }
+
+/// How far a process has gone on while no call of it was wanted yet.
+#[derive(Clone, Copy, Debug, PartialEq, Eq, Drop)]
+pub enum Ahead {
+    /// It stays where it was.
+    Stays,
+    /// It has gone on, to where the same calls and faults come next.
+    Goes,
+    /// It has come to what comes next, whichever call is wanted.
+    Comes(Came),
+}

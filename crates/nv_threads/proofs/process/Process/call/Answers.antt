@@ -135,7 +135,7 @@ returns-in-Logged c =
     = ap (λ (ts : List Task). threads_of ts (map request (set i.calls.items c.place-place.result c.call_of.new.call))) (table_written i.tasks.items c.deref_mut.result.now c.set_doing.new.tasks i.turn doing.Asks c.deref_mut.ensures.value c.set_doing.ensures)
     ∙ (ap (threads_of (with_doing i.tasks.items i.turn doing.Asks)) (map_set i.calls.items c.place-place.result c.call_of.new.call ∙ ap (λ (k : ℕ). set cs k r) at)
     ∙ asks_of i.tasks.items cs i.turn r long) in
-    let v : Proc = record { guest = i.guest; tasks = threads_of i.tasks.items cs; turn = i.turn; slice = i.slice; left = i.budget - i.count; status = i.status } in
+    let v : Proc = record { guest = i.guest; tasks = threads_of i.tasks.items cs; turn = i.turn; slice = i.slice; left = i.budget - i.count; budget = i.budget; status = i.status } in
     let mine = logged_is (is_local (number (machine v))) (sym c.in-Logged.ensures.asked) in
     ap (λ (ts : List Thread). record v { tasks = ts }) is
     ∙ (ap (λ (q : Request). record v { tasks = with_state v.tasks v.turn (Asks q) }) c.in-Logged.ensures.call
@@ -151,7 +151,7 @@ returns-in-Local c =
     let unread_is : threads_of i.tasks.items (map request (set i.calls.items c.place-place.result c.call_of.new.call)) ≡ threads_of i.tasks.items cs
     = ap (threads_of i.tasks.items) (map_set i.calls.items c.place-place.result c.call_of.new.call ∙ ap (λ (k : ℕ). set cs k (request c.call_of.new.call)) at)
     ∙ unread i.tasks.items cs i.turn (request c.call_of.new.call) (sym (running_of i.tasks.items cs i.turn) ∙ runs) in
-    let v : Proc = record { guest = i.guest; tasks = threads_of i.tasks.items cs; turn = i.turn; slice = i.slice; left = i.budget - i.count; status = i.status } in
+    let v : Proc = record { guest = i.guest; tasks = threads_of i.tasks.items cs; turn = i.turn; slice = i.slice; left = i.budget - i.count; budget = i.budget; status = i.status } in
     let mine = local_is (is_local (number (machine v))) (sym c.in-Local.ensures.asked) in
     let nr : c.get-nr.result ≡ number (machine v) = c.get-nr.ensures ∙ ap (λ (x : Registers). number (record { regs = x; memory = v.guest.memory })) c.regs.ensures in
     c.answer_local.ensures
