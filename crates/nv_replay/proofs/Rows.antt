@@ -44,7 +44,7 @@ toy = record {
 }
 
 abbrev start : Start
-start = record { replies = λ log c. record { ret = pos 0; payload = [] }; console = λ log. [] }
+start = record { replies = λ log c. record { ret = pos 0; payload = [] }; console = λ log. []; connections = λ log. [] }
 
 -- never faults; faults before its third call
 abbrev whole : Toy

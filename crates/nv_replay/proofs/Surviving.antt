@@ -73,7 +73,7 @@ module _ {P : Type 0} (g : Behaviour P) (laws : IsProcess g) (judge : Judge) (re
       let call : g.call (g.after s.process (Only e.call.tid)) u ≡ e.call = same_is _ _ sm in
       let ev : served replies (take s.seen log) (g.call (g.after s.process Any) u) ≡ e = rw (a, call) (sym (pl.legal s.seen e h)) in
       let one : take (s.seen + 1) log ≡ take s.seen log ++ e ∷ [] = take_one log s.seen e h in
-      let r : Running P = record { index = 0; at = s; led = []; leading = true; asked = None } in
+      let r : Running P = record { index = 0; at = s; led = []; leading = true; asked = None; eager = false } in
       let F : P → Entry → Leader P = λ p x. record {
         process = g.answered p u x.reply;
         log = take s.seen log ++ x ∷ [];

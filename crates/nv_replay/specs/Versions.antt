@@ -23,6 +23,8 @@ pub record Running (P : Type 0) : Type 0 where
   pub leading : Bool
   -- the thread whose call it has told and that waits for its answer
   pub asked : Option ℕ
+  -- it may go on ahead of the log; this never changes
+  pub eager : Bool
 
 abbrev pub standing_of : {P : Type 0} → Running P → Standing
 standing_of r = record { fate = r.at.fate; seen = r.at.seen; led = r.led; rewrites = r.at.rewrites }

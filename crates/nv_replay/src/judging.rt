@@ -11,7 +11,7 @@ use nv_bpf::Filter;
 use nv_calls::{Bytes, Call, Event};
 use nv_kernel::constant;
 use nv_rules::{pair_of, value};
-use nv_threads::Process;
+use nv_threads::Eager;
 
 /// The value of the rules on a follower's call and the event that it met, for the version with this number; 0 without rules.
 pub fn judge(rules: Option<&Filter>, call: &Call, event: &Event, index: u32) -> u32
@@ -25,10 +25,11 @@ pub fn judge(rules: Option<&Filter>, call: &Call, event: &Event, index: u32) -> 
 
 /// Answers the thread's call, where its reply is the same in every state of the kernel; whether it is.
 #[tactic(auto, using(nv_threads::proofs::ThreadLaws::threads_here, crate::proofs::Stepping::constant_new))]
-pub fn give_constant(process: &mut Process, tid: u32, scratch: &mut Bytes) -> bool
-    requires pending { threads.pending process.old tid ≡ true }
+pub fn give_constant(process: &mut Eager, tid: u32, scratch: &mut Bytes) -> bool
+    requires pending { threads.pending process.old.process tid ≡ true }
     requires capacity { MOST_BYTES ≤ scratch.old.capacity }
-    ensures given { HasGiven threads (constant_of (threads.call process.old tid)) tid process.old process.new result }
+    ensures given { HasGiven threads (constant_of (threads.call process.old.process tid)) tid process.old.process process.new.process result }
+    ensures eager { process.new.eager ≡ process.old.eager }
     ensures capacity { scratch.new.capacity ≡ scratch.old.capacity }
 {
     match constant(process.pending(tid), scratch) {

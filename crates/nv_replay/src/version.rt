@@ -18,7 +18,7 @@ use crate::{Fate, Spans, Standing};
 use nv_bpf::Filter;
 use nv_calls::{Bytes, Call, Event, MOST_BYTES, is_of_threads, same};
 use nv_rules::{Verdict, verdict};
-use nv_threads::{Came, FaultKind, Process, Want};
+use nv_threads::{Came, Eager, FaultKind, Process, Want};
 use std::alloc::{AllocError, Global};
 use std::marker::Model;
 
@@ -29,7 +29,7 @@ const MOST_ERROR: u16 = 4095;
 #[derive(Drop)]
 pub struct Version {
     index: u32,
-    process: Process,
+    process: Eager,
     standing: Standing,
     leading: bool,
     asked: Option<u32>,
@@ -45,9 +45,9 @@ impl Model for Version {
 
     ghost Value = { Running Proc };
 
-    ghost view = { λ v. record { index = v.index; at = record { process = v.process; seen = v.standing.seen; rewrites = v.standing.rewrites; fate = v.standing.fate }; led = v.standing.led; leading = v.leading; asked = v.asked } };
+    ghost view = { λ v. record { index = v.index; at = record { process = v.process.process; seen = v.standing.seen; rewrites = v.standing.rewrites; fate = v.standing.fate }; led = v.standing.led; leading = v.leading; asked = v.asked; eager = v.process.eager } };
 
-    ghost invariant = { λ v. AreBounded v.standing.seen (v.standing.rewrites + threads.calls_left v.process) v.standing.led v.scratch.capacity };
+    ghost invariant = { λ v. AreBounded v.standing.seen (v.standing.rewrites + threads.calls_left v.process.process) v.standing.led v.scratch.capacity };
 }
 
 /// What a follower has made of an event.
@@ -74,17 +74,23 @@ pub enum Led {
 
 #[tactic(auto, using(nv_threads::proofs::ThreadLaws::threads_keeps, nv_threads::proofs::ThreadLaws::threads_falls, nv_threads::proofs::ThreadLaws::threads_asked, nv_threads::proofs::ThreadLaws::threads_live))]
 impl Version {
-    /// The version with this number; all its memory is taken here.
-    pub fn make(alloc: Global, index: u32, process: Process) -> Result<Version, AllocError>
+    /// The version with this number, and whether it may go on ahead of the log; all its memory is taken here.
+    pub fn make(
+        alloc: Global,
+        index: u32,
+        process: Process,
+        eager: bool,
+    ) -> Result<Version, AllocError>
         requires { IsStarted threads process }
         ensures fresh { IfOk result (IsFresh threads index) }
         ensures process { IfOk result (λ v. v.at.process ≡ process) }
+        ensures eager { IfOk result (λ v. v.eager ≡ eager) }
     {
         let led = Spans::make(alloc)?;
         let scratch = Bytes::make(alloc, MOST_BYTES)?;
         Ok(Version {
             index,
-            process,
+            process: Eager::new(process, eager),
             standing: Standing {
                 fate: None,
                 seen: 0,
@@ -310,6 +316,14 @@ impl Version {
         Led::Asked(tid)
     }
 
+    /// Goes on towards its next call, by so many turn steps at most, before it is known what that call has to be, if it is eager. Nothing
+    /// that is told of the version depends on it. Says whether there may be more to do.
+    pub fn run_ahead(&mut self, steps: u32) -> bool
+        ensures { self.new ≡ self.old }
+    {
+        self.process.run_ahead(steps)
+    }
+
     /// The call of this thread that waits for its answer.
     pub fn pending(&self, tid: u32) -> &Call
         requires { threads.pending self.now.at.process tid ≡ true }
@@ -345,6 +359,14 @@ impl Version {
         ensures { self.new ≡ record self.old { at = record self.old.at { fate = Some Fate.Memory } } }
     {
         self.standing.fate = Some(Fate::Memory);
+    }
+
+    /// Its process, where it isn't eager.
+    pub fn process(&self) -> &Process
+        requires { self.now.eager ≡ false }
+        ensures { result.now ≡ self.now.at.process }
+    {
+        self.process.process()
     }
 
     /// What there is to tell of it.

@@ -6,7 +6,7 @@ use Rattle.nv_replay.proofs.judging.give_constant.Goals as goal
 
 pub answer-requires-clause-new : goal.answer-requires-clause-new
 answer-requires-clause-new c =
-    let call = threads.call c.args.process.now c.args.tid in
+    let call = threads.call c.args.process.now.process c.args.tid in
     let reply : constant_of call ≡ Some (record { ret = c.in-Some.ret; payload = c.constant.new.out.bytes }) = ap constant_of
     (sym c.pending.ensures.call) ∙ c.in-Some.ensures.reply in
-    constant_new (threads.live c.args.process.now) call _ _ reply
+    constant_new (threads.live c.args.process.now.process) call _ _ reply

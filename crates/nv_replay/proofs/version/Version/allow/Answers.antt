@@ -2,6 +2,8 @@ use Rattle.std.proofs.Common.{◌∙◌, ap, ◌+◌, Some}
 use Rattle.nv_calls.specs.Calls.{entry}
 use Rattle.nv_calls.specs.Constants.{constant_of}
 use Rattle.nv_threads.specs.Threads.{threads, Proc}
+use Rattle.nv_threads.specs.Ahead.{Known}
+use Rattle.nv_threads.proofs.Aheads.{known_as}
 use Rattle.nv_replay.specs.Permits.{given}
 use Rattle.nv_replay.specs.Follow.{refusal_of}
 use Rattle.nv_replay.specs.Versions.{Running}
@@ -14,7 +16,7 @@ returns-then-not-give_constant-clause-new c =
     let old : Running Proc = record {
       index = c.self.inside.index;
       at = record {
-        process = c.self.inside.process;
+        process = c.self.inside.process.process;
         seen = c.self.inside.standing.seen;
         rewrites = c.self.inside.standing.rewrites;
         fate =
@@ -23,13 +25,14 @@ returns-then-not-give_constant-clause-new c =
       led = c.self.inside.standing.led;
       leading = c.self.inside.leading;
       asked = c.self.inside.asked;
+      eager = c.self.inside.process.eager;
     } in
-    let none = not_given threads c.args.tid c.self.inside.process c.give_constant.new.process
-    (constant_of (threads.call c.self.inside.process c.args.tid)) c.if-not-give_constant.ensures.given in
-    let refused : Proc → Running Proc = λ p. record old
-    { at = record old.at { process = p; fate = Some (refusal_of (threads.call p c.args.tid) (entry c.args.event.now) c.args.value) } } in
+    let none = not_given threads c.args.tid c.self.inside.process.process c.give_constant.new.process.process
+    (constant_of (threads.call c.self.inside.process.process c.args.tid)) c.if-not-give_constant.ensures.given in
+    let refused : Known → Running Proc = λ k. record old
+    { at = record old.at { process = k.process; fate = Some (refusal_of (threads.call k.process c.args.tid) (entry c.args.event.now) c.args.value) }; eager = k.eager } in
     is_refused threads c.args.tid c.args.value (entry c.args.event.now) (λ call. given (constant_of call)) old c.refuse.new.self
-    (ap given none.0) (c.refuse.ensures.new ∙ ap refused none.1) ∙ ap (obeyed threads c.args.tid c.args.value (entry c.args.event.now)
+    (ap given none.0) (c.refuse.ensures.new ∙ ap refused (known_as none.1 c.if-not-give_constant.ensures.eager)) ∙ ap (obeyed threads c.args.tid c.args.value (entry c.args.event.now)
     (λ call. given (constant_of call))) c.self.view_is
 
 pub returns-clause-new : goal.returns-clause-new
@@ -37,7 +40,7 @@ returns-clause-new c =
     let old : Running Proc = record {
       index = c.self.inside.index;
       at = record {
-        process = c.self.inside.process;
+        process = c.self.inside.process.process;
         seen = c.self.inside.standing.seen;
         rewrites = c.self.inside.standing.rewrites;
         fate =
@@ -46,10 +49,11 @@ returns-clause-new c =
       led = c.self.inside.standing.led;
       leading = c.self.inside.leading;
       asked = c.self.inside.asked;
+      eager = c.self.inside.process.eager;
     } in
-    let some = was_given threads c.args.tid c.self.inside.process c.give_constant.new.process
-    (constant_of (threads.call c.self.inside.process c.args.tid)) c.if-not-give_constant.ensures.given in
-    let answered : Proc → Running Proc = λ p. record old { at = record old.at { process = p; rewrites = old.at.rewrites + 1 } } in
+    let some = was_given threads c.args.tid c.self.inside.process.process c.give_constant.new.process.process
+    (constant_of (threads.call c.self.inside.process.process c.args.tid)) c.if-not-give_constant.ensures.given in
+    let answered : Known → Running Proc = λ k. record old { at = record old.at { process = k.process; rewrites = old.at.rewrites + 1 }; eager = k.eager } in
     is_answered threads c.args.tid c.args.value (entry c.args.event.now) (λ call. given (constant_of call)) old
-    (answered c.give_constant.new.process) some.0 (ap given some.1) (ap answered some.2) ∙ ap
+    (answered c.give_constant.new.process) some.0 (ap given some.1) (ap answered (known_as some.2 c.if-not-give_constant.ensures.eager)) ∙ ap
     (obeyed threads c.args.tid c.args.value (entry c.args.event.now) (λ call. given (constant_of call))) c.self.view_is

@@ -3,6 +3,7 @@ use mir.Syntax.{w32}
 use Rattle.std.proofs.lemmas.Int.{ints}
 use Rattle.nv_calls.specs.Calls.{Request, entry}
 use Rattle.nv_threads.specs.Threads.{threads, Proc}
+use Rattle.nv_threads.specs.Ahead.{Known}
 use Rattle.nv_calls.specs.Numbers.{is_of_threads}
 use Rattle.nv_replay.specs.Permits.{failed}
 use Rattle.nv_replay.specs.Versions.{Running}
@@ -32,7 +33,7 @@ returns-clause-new c =
     let old : Running Proc = record {
       index = c.self-2.inside.index;
       at = record {
-        process = c.self-2.inside.process;
+        process = c.self-2.inside.process.process;
         seen = c.self-2.inside.standing.seen;
         rewrites = c.self-2.inside.standing.rewrites;
         fate =
@@ -41,17 +42,18 @@ returns-clause-new c =
       led = c.self-2.inside.standing.led;
       leading = c.self-2.inside.leading;
       asked = c.self-2.inside.asked;
+      eager = c.self-2.inside.process.eager;
     } in
-    let answered : Proc → Running Proc = λ p. record old { at = record old.at { process = p; rewrites = old.at.rewrites + 1 } } in
-    let reply : ℤ → Proc = λ ret. threads.answered c.self-2.inside.process c.args.tid (record { ret = ret; payload = [] }) in
+    let answered : Known → Running Proc = λ k. record old { at = record old.at { process = k.process; rewrites = old.at.rewrites + 1 }; eager = k.eager } in
+    let reply : ℤ → Known = λ ret. record c.self-2.inside.process { process = threads.answered c.self-2.inside.process.process c.args.tid (record { ret = ret; payload = [] }) } in
     let few : c.args.error < 4096 = omega arith in
-    let call : threads.call c.self.inside.process c.args.tid ≡ threads.call c.self-2.inside.process c.args.tid = ap
+    let call : threads.call c.self.inside.process.process c.args.tid ≡ threads.call c.self-2.inside.process.process c.args.tid = ap
     (λ (r : Running Proc). threads.call r.at.process c.args.tid) (c.self.view_is ∙ sym c.self-2.view_is) in
-    let quiet : is_of_threads (threads.call c.self-2.inside.process c.args.tid).nr ≡ false = sym
+    let quiet : is_of_threads (threads.call c.self-2.inside.process.process c.args.tid).nr ≡ false = sym
     (ap (λ (q : Request). is_of_threads q.nr) (c.pending.ensures.call ∙ call)) ∙ sym c.if-is_of_threads.ensures in
     let same : c.answer.new.self ≡ reply (pos 0 -ℤ pos c.args.error) = c.answer.ensures ∙ ap reply
     (negated c.args.error c.from.result c.from.ensures few) in
     is_answered threads c.args.tid c.args.value (entry c.args.event.now) (λ call. failed call c.args.error) old
     (answered c.answer.new.self) (record { ret = pos 0 -ℤ pos c.args.error; payload = [] })
-    (failed_gives (threads.call c.self-2.inside.process c.args.tid) c.args.error few quiet) (ap answered same) ∙ ap
+    (failed_gives (threads.call c.self-2.inside.process.process c.args.tid) c.args.error few quiet) (ap answered same) ∙ ap
     (obeyed threads c.args.tid c.args.value (entry c.args.event.now) (λ call. failed call c.args.error)) c.self-2.view_is

@@ -2,6 +2,7 @@ use Rattle.std.proofs.Common.{◌≡◌, ◌∙◌, ℕ, sym, ap, subst, None, o
 use Rattle.std.specs.Prelude.{Contains}
 use Rattle.nv_calls.specs.Calls.{entry}
 use Rattle.nv_threads.specs.Threads.{threads, Proc}
+use Rattle.nv_threads.specs.Ahead.{Known}
 use Rattle.nv_threads.proofs.ThreadLaws.{threads_on, threads_only}
 use Rattle.nv_threads.specs.declared.turns.Want.TheVariants.{Only}
 use Rattle.nv_rules.specs.declared.outcome.Verdict.{Verdict}
@@ -21,10 +22,10 @@ returns-in-Fault-clause-new c =
     let on : Running Proc → Running Proc = λ r. record r { at = decided threads (judge_of (option_map (λ f. f.now) c.args.rules) r.index) (entry c.args.event.now) r.at } in
     let i = c.in-Fault.ensures in
     c.end.ensures.new ∙ (rw i.after (ap (λ (x : Follower Proc). record
-    { index = c.self.inside.index; at = x; led = c.self.inside.standing.led; leading = c.self.inside.leading; asked = c.self.inside.asked })
+    { index = c.self.inside.index; at = x; led = c.self.inside.standing.led; leading = c.self.inside.leading; asked = c.self.inside.asked; eager = c.self.inside.process.eager })
     (sym (decided_fault threads _ (entry c.args.event.now)
     (record {
-      process = c.self.inside.process;
+      process = c.self.inside.process.process;
       seen = c.self.inside.standing.seen;
       rewrites = c.self.inside.standing.rewrites;
       fate =
@@ -36,10 +37,10 @@ returns-in-Asked-clause-new c =
     let on : Running Proc → Running Proc = λ r. record r { at = decided threads (judge_of (option_map (λ f. f.now) c.args.rules) r.index) (entry c.args.event.now) r.at } in
     let i = c.in-Asked.ensures in
     c.meet.ensures.new ∙ (rw i.after (ap (λ (x : Follower Proc). record
-    { index = c.self.inside.index; at = x; led = c.self.inside.standing.led; leading = c.self.inside.leading; asked = c.self.inside.asked })
+    { index = c.self.inside.index; at = x; led = c.self.inside.standing.led; leading = c.self.inside.leading; asked = c.self.inside.asked; eager = c.self.inside.process.eager })
     (sym (decided_asked threads _ (entry c.args.event.now)
     (record {
-      process = c.self.inside.process;
+      process = c.self.inside.process.process;
       seen = c.self.inside.standing.seen;
       rewrites = c.self.inside.standing.rewrites;
       fate =
@@ -50,7 +51,7 @@ pub returns-in-Asked-clause-told : goal.returns-in-Asked-clause-told
 returns-in-Asked-clause-told c =
     let i = c.in-Asked.ensures in
     let at : Follower Proc = record {
-      process = c.advance.new.self;
+      process = c.advance.new.self.process;
       seen = c.self.inside.standing.seen;
       rewrites = c.self.inside.standing.rewrites;
       fate = c.self.inside.standing.fate;
@@ -58,12 +59,12 @@ returns-in-Asked-clause-told c =
     let by : ℕ → Proc → ℕ → Verdict = λ n p t. verdict_of
     (judge_of (option_map (λ f. f.now) c.args.rules) n (threads.call p t) (entry c.args.event.now)) in
     let wanted : ℕ = c.args.event.now.call.tid in
-    let lives : Contains (threads.live c.self.inside.process) wanted = subst (λ (r : Running Proc). Contains (threads.live r.at.process) wanted)
+    let lives : Contains (threads.live c.self.inside.process.process) wanted = subst (λ (r : Running Proc). Contains (threads.live r.at.process) wanted)
     (sym c.self.view_is) c.requires.lives in
-    let same : c.in-Asked.tid ≡ wanted = threads_only c.self.inside.process wanted c.in-Asked.tid lives (sym i.came) in
-    let verdict : by c.self.inside.index c.advance.new.self c.in-Asked.tid ≡ by c.args.self.now.index
-    (threads.after c.args.self.now.at.process (Only wanted)) wanted = ap (λ p. by c.self.inside.index p c.in-Asked.tid) i.after ∙ (ap
-    (by c.self.inside.index (threads.after c.self.inside.process (Only wanted))) same ∙ ap
+    let same : c.in-Asked.tid ≡ wanted = threads_only c.self.inside.process.process wanted c.in-Asked.tid lives (sym i.came) in
+    let verdict : by c.self.inside.index c.advance.new.self.process c.in-Asked.tid ≡ by c.args.self.now.index
+    (threads.after c.args.self.now.at.process (Only wanted)) wanted = ap (λ (k : Known). by c.self.inside.index k.process c.in-Asked.tid) i.after ∙ (ap
+    (by c.self.inside.index (threads.after c.self.inside.process.process (Only wanted))) same ∙ ap
     (λ (r : Running Proc). by r.index (threads.after r.at.process (Only wanted)) wanted) c.self.view_is) in
     told_again _ c.meet.result at c.args.self.now.at c.meet.new.self.at (ap (λ (r : Running Proc). r.at.seen) c.self.view_is)
     (ap (λ (r : Running Proc). r.at.rewrites) c.self.view_is)

@@ -9,7 +9,7 @@ returns-in-Fault-clause-new c =
     let old : Running Proc = record {
       index = c.self.inside.index;
       at = record {
-        process = c.self.inside.process;
+        process = c.self.inside.process.process;
         seen = c.self.inside.standing.seen;
         rewrites = c.self.inside.standing.rewrites;
         fate =
@@ -18,6 +18,7 @@ returns-in-Fault-clause-new c =
       led = c.self.inside.standing.led;
       leading = c.self.inside.leading;
       asked = c.self.inside.asked;
+      eager = c.self.inside.process.eager;
     } in
     let i = c.in-Fault.ensures in
     c.fail.ensures.new ∙ (rw i.after (sym (asking_fault threads c.args.most old _ _ _ (sym i.came))) ∙ ap
@@ -28,7 +29,7 @@ returns-in-Asked-clause-new c =
     let old : Running Proc = record {
       index = c.self.inside.index;
       at = record {
-        process = c.self.inside.process;
+        process = c.self.inside.process.process;
         seen = c.self.inside.standing.seen;
         rewrites = c.self.inside.standing.rewrites;
         fate =
@@ -37,6 +38,7 @@ returns-in-Asked-clause-new c =
       led = c.self.inside.standing.led;
       leading = c.self.inside.leading;
       asked = c.self.inside.asked;
+      eager = c.self.inside.process.eager;
     } in
     let i = c.in-Asked.ensures in
     c.ask.ensures.new ∙ (rw i.after (sym (asking_asked threads c.args.most old _ (sym i.came))) ∙ ap

@@ -16,7 +16,7 @@ returns-clause-new c =
     let old : Running Proc = record {
       index = c.self.inside.index;
       at = record {
-        process = c.self.inside.process;
+        process = c.self.inside.process.process;
         seen = c.self.inside.standing.seen;
         rewrites = c.self.inside.standing.rewrites;
         fate =
@@ -25,6 +25,7 @@ returns-clause-new c =
       led = c.self.inside.standing.led;
       leading = c.self.inside.leading;
       asked = c.self.inside.asked;
+      eager = c.self.inside.process.eager;
     } in
     is_passed threads c.args.tid c.args.value (entry c.args.event.now) (λ call. passed (entry c.args.event.now)) old
     (record old { at = record old.at { seen = old.at.seen + 1; rewrites = old.at.rewrites + 1 } })
