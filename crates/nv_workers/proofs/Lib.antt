@@ -19,3 +19,4 @@ pub mod Parting
 pub mod Evenly
 pub mod Finishing
 pub mod NewSeats
+pub mod Sending

@@ -28,6 +28,9 @@ use Rattle.nv_replay.proofs.Survivor.{lawful_prefix}
 use Rattle.nv_workers.specs.Ends.{IsStage, ends_of, AreHandedOn}
 use Rattle.nv_workers.specs.Turns.{held_list, IsReading}
 use Rattle.nv_workers.specs.Working.{Holds, HasEnded, FollowsOn}
+use Rattle.nv_workers.specs.Follows.{AfterTurn, IsWaiting}
+use Rattle.nv_workers.specs.declared.follows.Next.{Next}
+use Rattle.nv_workers.specs.declared.follows.Next.TheVariants.{Moved, Ahead, Waits, Leads, Hands, Leaves, Left}
 use Rattle.nv_workers.proofs.Keeping.{with_next_held, decides, reads_on, reads_held, parts_on, parts_still}
 use Rattle.nv_workers.proofs.Closed.{never_closed}
 use Rattle.nv_workers.proofs.Spelt.{same_spelt, long_as, parted}
@@ -250,6 +253,10 @@ module _ (judges : ℕ → Judge) (most : ℕ) where
     pub handed_on : AreHandedOn w.spans
     pub reading : IsReading threads judges start most hands i p v log None
 
+  holds_none : (read buf read2 buf2 : List ℕ) (next : Option Entry) → Holds false read buf next → read2 ≡ [] → Holds false read2 buf2 next
+  holds_none read buf read2 buf2 None h e = e
+  holds_none read buf read2 buf2 (Some x) h e = absurd h
+
   bare_by : (st : Start) (hands : List ℕ) {T : Type 0} (i : ℕ) (p : Proc) (v : Running Proc) (w : View T) (buf : List ℕ) (log : List Entry) (next : Option Entry)
       → map spell log ≡ w.seen → IsLawful (log ++ held_list next) → Holds false w.read buf next → v.led ≡ map ends_of w.spans → AreHandedOn w.spans
       → IsReading threads judges st most hands i p v log next → Bare st hands i p v w
@@ -262,6 +269,31 @@ module _ (judges : ℕ → Judge) (most : ℕ) where
 
     pub lives_on : TellsEnd (view r).seen → ⊥
     lives_on t = goes_on (version_of_reader r) p v bare.log (view r).seen (G.start (origin room)) (hands_of room) bare.spelt bare.lawful bare.reading t
+
+    -- where no event is found the version follows on as it stands
+    pub found_none : (r2 : Reader K G) (buf2 : List ℕ) → IsOfRoom room r2 → SameReader r r2 → (view r2).seen ≡ (view r).seen → (view r2).spans ≡ (view r).spans → (view r2).read ≡ []
+        → FollowsOn judges room most p v r2 false buf2
+    found_none r2 buf2 of same seen spans read = record {
+      of = of;
+      log = f.log;
+      next = f.next;
+      spelt = f.spelt ∙ sym seen;
+      lawful = f.lawful;
+      holds = holds_none (view r).read buf (view r2).read buf2 f.next f.holds read;
+      led = f.led ∙ sym (ap (map ends_of) spans);
+      handed_on = subst AreHandedOn (sym spans) f.handed_on;
+      reading = subst (λ (i : ℕ). IsReading threads judges (G.start (origin room)) most (hands_of room) i p v f.log f.next) (sym same.3) f.reading;
+    }
+
+    pub found_waiting : (r2 : Reader K G) (buf2 : List ℕ) (next : Next) → IsWaiting next → IsOfRoom room r2 → SameReader r r2 → (view r2).seen ≡ (view r).seen → (view r2).spans ≡ (view r).spans
+        → (view r2).read ≡ [] → AfterTurn judges room most p v r2 false buf2 next
+    found_waiting r2 buf2 Moved w of same seen spans read = absurd w
+    found_waiting r2 buf2 Ahead w of same seen spans read = found_none r2 buf2 of same seen spans read
+    found_waiting r2 buf2 Waits w of same seen spans read = found_none r2 buf2 of same seen spans read
+    found_waiting r2 buf2 Leads w of same seen spans read = absurd w
+    found_waiting r2 buf2 Hands w of same seen spans read = absurd w
+    found_waiting r2 buf2 Leaves w of same seen spans read = absurd w
+    found_waiting r2 buf2 Left w of same seen spans read = absurd w
 
     pub found_event : (r2 : Reader K G) (words : List ℕ) → IsOfRoom room r2 → SameReader r r2 → (view r2).seen ≡ (view r).seen
         → (view r2).spans ≡ (view r).spans → (view r2).read ≡ words → Tells ((view r2).seen ++ words ∷ []) → FollowsOn judges room most p v r2 true words

@@ -4,7 +4,7 @@ use Rattle.nv_calls.specs.declared.kernel.SyscallKernel.{Ghosts}
 use Rattle.nv_room.specs.declared.room.Room.{Room}
 use Rattle.nv_replay.specs.Follow.{Judge}
 use Rattle.nv_workers.specs.declared.worker.Turn.{Turn}
-use Rattle.nv_workers.specs.declared.worker.Turn.TheVariants.{Moved, Waiting, Done}
+use Rattle.nv_workers.specs.declared.worker.Turn.TheVariants.{Moved, Ahead, Waiting, Done}
 use Rattle.nv_workers.specs.declared.worker.Worker.{Worker}
 use Rattle.nv_workers.specs.Workers.{IsLast}
 use Rattle.nv_workers.specs.Rounds.{CanWork, WorkedOn, CanAll, AllOn, GoneIf, both_of}
@@ -41,8 +41,14 @@ pub gone_both : {K : Type 0} {G : Ghosts K} (own rest : Turn) (w : Worker K G) (
     → GoneIf (both_of own rest) (w ∷ ws)
 gone_both Done Done w ws a b = (a, b)
 gone_both Done Moved w ws a b = tt
+gone_both Done Ahead w ws a b = tt
 gone_both Done Waiting w ws a b = tt
 gone_both Moved rest w ws a b = tt
+gone_both Ahead Moved w ws a b = tt
+gone_both Ahead Ahead w ws a b = tt
+gone_both Ahead Waiting w ws a b = tt
+gone_both Ahead Done w ws a b = tt
 gone_both Waiting Done w ws a b = tt
 gone_both Waiting Waiting w ws a b = tt
+gone_both Waiting Ahead w ws a b = tt
 gone_both Waiting Moved w ws a b = tt

@@ -24,7 +24,7 @@ use Rattle.nv_workers.specs.Ends.{ends_of, AreHandedOn, HasLedFrom}
 use Rattle.nv_workers.specs.Turns.{IsServing, IsAsking}
 use Rattle.nv_workers.specs.Working.{Serves, HasEnded, LeadsOn}
 use Rattle.nv_workers.specs.declared.follows.Next.{Next}
-use Rattle.nv_workers.specs.declared.follows.Next.TheVariants.{Moved, Waits, Leads, Hands, Leaves, Left}
+use Rattle.nv_workers.specs.declared.follows.Next.TheVariants.{Moved, Ahead, Waits, Leads, Hands, Leaves, Left}
 use Rattle.nv_workers.specs.LeadsOn.{AfterLead, HasPublished, IsLate, next_after}
 use Rattle.nv_workers.proofs.Spelt.{long_as}
 use Rattle.nv_workers.proofs.Spanned.{map_append}
@@ -40,6 +40,7 @@ grew_lead {K} l l2 l3 l4 words a b e =
 -- what comes next where an event was published
 pub published_next : {T : Type 0} (w w2 : View T) (next : Next) → length w.seen < length w2.seen → HasPublished w w2 next
 published_next w w2 Moved l = l
+published_next w w2 Ahead l = tt
 published_next w w2 Waits l = tt
 published_next w w2 Leads l = tt
 published_next w w2 Hands l = l

@@ -9,7 +9,7 @@ use Rattle.nv_threads.specs.Threads.{Proc}
 use Rattle.nv_replay.specs.Follow.{Judge}
 use Rattle.nv_replay.specs.Versions.{Running}
 use Rattle.nv_workers.specs.declared.follows.Next.{Next}
-use Rattle.nv_workers.specs.declared.follows.Next.TheVariants.{Moved, Waits, Leads, Hands, Leaves, Left}
+use Rattle.nv_workers.specs.declared.follows.Next.TheVariants.{Moved, Ahead, Waits, Leads, Hands, Leaves, Left}
 use Rattle.nv_workers.specs.declared.worker.Seat.{Seat}
 use Rattle.nv_workers.specs.declared.worker.Seat.TheVariants.{Reading, Leading, Gone, Moving}
 use Rattle.nv_workers.specs.Follows.{AfterTurn, HasGrown, IsIdle}
@@ -22,6 +22,7 @@ module _ (judges : ℕ → Judge) {K : Type 0} {G : Ghosts K} (room : Room K) (m
   pub after_read : (r : Reader K G) (held : Bool) (buf : List ℕ) (next : Next) → AfterTurn judges room most p v r held buf next
       → AfterStep judges room p v most buf (Reading r held) next
   after_read r held buf Moved a = (a, λ g. g)
+  after_read r held buf Ahead a = (a, λ g. g)
   after_read r held buf Waits a = (a, λ g. g)
   after_read r held buf Leads a = a
   after_read r held buf Hands a = absurd a
@@ -31,6 +32,7 @@ module _ (judges : ℕ → Judge) {K : Type 0} {G : Ghosts K} (room : Room K) (m
   pub tells_read : (old : Running Proc) (r r2 : Reader K G) (held held2 : Bool) (buf : List ℕ) (next : Next) → AfterTurn judges room most p v r2 held2 buf next
       → HasGrown (view r) (view r2) old v next → IsIdle (view r) (view r2) next → StepTells room next old v (Reading r held) (Reading r2 held2)
   tells_read old r r2 held held2 buf Moved a grown idle = (grown, a.reading.on)
+  tells_read old r r2 held held2 buf Ahead a grown idle = (idle, a.reading.on)
   tells_read old r r2 held held2 buf Waits a grown idle = (idle, a.reading.on)
   tells_read old r r2 held held2 buf Leads a grown idle = tt
   tells_read old r r2 held held2 buf Hands a grown idle = absurd a
@@ -40,6 +42,7 @@ module _ (judges : ℕ → Judge) {K : Type 0} {G : Ghosts K} (room : Room K) (m
   pub tells_lead : (old : Running Proc) (l l2 : Lead K G) (asked asked2 : Option ℕ) (next : Next) → AfterLead judges room most p v l2 asked2 next
       → HasPublished (lead_view l) (lead_view l2) next → IsLate room l l2 next → StepTells room next old v (Leading l asked) (Leading l2 asked2)
   tells_lead old l l2 asked asked2 Moved a published late = (inl published, leads_fate judges room most p v l2 false asked2 a)
+  tells_lead old l l2 asked asked2 Ahead a published late = absurd a
   tells_lead old l l2 asked asked2 Waits a published late = (late, leads_fate judges room most p v l2 false asked2 a)
   tells_lead old l l2 asked asked2 Leads a published late = absurd a
   tells_lead old l l2 asked asked2 Hands a published late = (published, leads_fate judges room most p v l2 true asked2 a.0)

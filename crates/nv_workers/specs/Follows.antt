@@ -11,7 +11,7 @@ use Rattle.nv_threads.specs.Threads.{Proc}
 use Rattle.nv_replay.specs.Follow.{Judge}
 use Rattle.nv_replay.specs.Versions.{Running}
 use Rattle.nv_workers.specs.declared.follows.Next.{Next}
-use Rattle.nv_workers.specs.declared.follows.Next.TheVariants.{Moved, Waits, Leads, Hands, Leaves, Left}
+use Rattle.nv_workers.specs.declared.follows.Next.TheVariants.{Moved, Ahead, Waits, Leads, Hands, Leaves, Left}
 use Rattle.nv_workers.specs.declared.follows.Found.{Found}
 use Rattle.nv_workers.specs.declared.follows.Found.TheVariants.{Event, Held, Free}
 use Rattle.nv_words.specs.Spell.{IsWhole}
@@ -28,6 +28,7 @@ pub record HasWaited {T : Type 0} (old new : View T) : Type 0 where
 module _ (judges : ℕ → Judge) {K : Type 0} {G : Ghosts K} (room : Room K) (most : ℕ) (p : Proc) (v : Running Proc) (r : Reader K G) (held : Bool) (buf : List ℕ) where
   abbrev pub AfterTurn : Next → Type 0
   AfterTurn Moved = FollowsOn judges room most p v r held buf
+  AfterTurn Ahead = FollowsOn judges room most p v r held buf
   AfterTurn Waits = FollowsOn judges room most p v r held buf
   AfterTurn Leads = FollowsOn judges room most p v r false buf × ((view r).freed ≡ Some (length (view r).seen))
   AfterTurn Hands = ⊥
@@ -37,6 +38,7 @@ module _ (judges : ℕ → Judge) {K : Type 0} {G : Ghosts K} (room : Room K) (m
 -- a turn after which the version follows on has consumed the event, or has rewritten the version's call
 abbrev pub HasGrown : {T : Type 0} → View T → View T → Running Proc → Running Proc → Next → Type 0
 HasGrown w w2 v v2 Moved = (length w.seen < length w2.seen) ⊎ (v.at.rewrites < v2.at.rewrites)
+HasGrown w w2 v v2 Ahead = Unit {0}
 HasGrown w w2 v v2 Waits = Unit {0}
 HasGrown w w2 v v2 Leads = Unit {0}
 HasGrown w w2 v v2 Hands = Unit {0}
@@ -45,6 +47,7 @@ HasGrown w w2 v v2 Left = Unit {0}
 
 -- what a turn that waits shows
 abbrev pub IsIdle : {T : Type 0} → View T → View T → Next → Type 0
+IsIdle old new Ahead = HasWaited old new
 IsIdle old new Waits = HasWaited old new
 IsIdle old new next = Unit {0}
 
@@ -56,7 +59,18 @@ IsFound old new words Free = (new.seen ≡ old.seen) × (new.spans ≡ old.spans
 abbrev pub IsBusy : Next → Type 0
 IsBusy Moved = Unit {0}
 IsBusy Leaves = Unit {0}
+IsBusy Ahead = ⊥
 IsBusy Waits = ⊥
 IsBusy Leads = ⊥
 IsBusy Hands = ⊥
 IsBusy Left = ⊥
+
+-- what a reader does that waits
+abbrev pub IsWaiting : Next → Type 0
+IsWaiting Moved = ⊥
+IsWaiting Ahead = Unit {0}
+IsWaiting Waits = Unit {0}
+IsWaiting Leads = ⊥
+IsWaiting Hands = ⊥
+IsWaiting Leaves = ⊥
+IsWaiting Left = ⊥

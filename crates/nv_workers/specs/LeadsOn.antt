@@ -11,7 +11,7 @@ use Rattle.nv_replay.specs.declared.fate.Fate.{Fate}
 use Rattle.nv_replay.specs.Follow.{Judge}
 use Rattle.nv_replay.specs.Versions.{Running}
 use Rattle.nv_workers.specs.declared.follows.Next.{Next}
-use Rattle.nv_workers.specs.declared.follows.Next.TheVariants.{Moved, Waits, Leads, Hands, Leaves, Left}
+use Rattle.nv_workers.specs.declared.follows.Next.TheVariants.{Moved, Ahead, Waits, Leads, Hands, Leaves, Left}
 use Rattle.nv_workers.specs.Working.{LeadsOn, HasEnded}
 
 -- what comes next for a leader with this fate, where its length is planned or not
@@ -23,6 +23,7 @@ next_after None false = Moved
 module _ (judges : ℕ → Judge) {K : Type 0} {G : Ghosts K} (room : Room K) (most : ℕ) (p : Proc) (v : Running Proc) (l : Lead K G) (asked : Option ℕ) where
   abbrev pub AfterLead : Next → Type 0
   AfterLead Moved = LeadsOn judges room most p v false l asked
+  AfterLead Ahead = ⊥
   AfterLead Waits = LeadsOn judges room most p v false l asked
   AfterLead Leads = ⊥
   AfterLead Hands = LeadsOn judges room most p v true l asked × (asked ≡ None)
@@ -32,6 +33,7 @@ module _ (judges : ℕ → Judge) {K : Type 0} {G : Ghosts K} (room : Room K) (m
 -- a turn after which the version leads on, or gives up the lead, has published an event
 abbrev pub HasPublished : {T : Type 0} → View T → View T → Next → Type 0
 HasPublished w w2 Moved = length w.seen < length w2.seen
+HasPublished w w2 Ahead = Unit {0}
 HasPublished w w2 Waits = Unit {0}
 HasPublished w w2 Leads = Unit {0}
 HasPublished w w2 Hands = length w.seen < length w2.seen
@@ -43,6 +45,7 @@ module _ {K : Type 0} {G : Ghosts K} (room : Room K) (old new : Lead K G) where
   abbrev pub IsLate : Next → Type 0
   IsLate Waits = (s : ℕ) × WaitsFor room old new s
   IsLate Moved = Unit {0}
+  IsLate Ahead = ⊥
   IsLate Leads = ⊥
   IsLate Hands = Unit {0}
   IsLate Leaves = Unit {0}

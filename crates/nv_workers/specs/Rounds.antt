@@ -5,7 +5,7 @@ use Rattle.nv_room.specs.declared.room.Room.{Room}
 use Rattle.nv_threads.specs.Threads.{Proc}
 use Rattle.nv_replay.specs.Follow.{Judge}
 use Rattle.nv_workers.specs.declared.worker.Turn.{Turn}
-use Rattle.nv_workers.specs.declared.worker.Turn.TheVariants.{Moved, Waiting, Done}
+use Rattle.nv_workers.specs.declared.worker.Turn.TheVariants.{Moved, Ahead, Waiting, Done}
 use Rattle.nv_workers.specs.declared.worker.Worker.{Worker}
 use Rattle.nv_workers.specs.Workers.{Works, IsGone, version_of}
 
@@ -37,12 +37,18 @@ module _ {K : Type 0} {G : Ghosts K} where
   -- a round that says so leaves none that works
   abbrev pub GoneIf : Turn → List (Worker K G) → Type 0
   GoneIf Moved ws = Unit {0}
+  GoneIf Ahead ws = Unit {0}
   GoneIf Waiting ws = Unit {0}
   GoneIf Done ws = AreGone ws
 
 abbrev pub both_of : Turn → Turn → Turn
 both_of Done rest = rest
 both_of Moved rest = Moved
+both_of Ahead Moved = Moved
+both_of Ahead Ahead = Ahead
+both_of Ahead Waiting = Ahead
+both_of Ahead Done = Ahead
 both_of Waiting Done = Waiting
 both_of Waiting Waiting = Waiting
+both_of Waiting Ahead = Ahead
 both_of Waiting Moved = Moved

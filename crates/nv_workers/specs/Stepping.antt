@@ -8,7 +8,7 @@ use Rattle.nv_replay.specs.Follow.{Judge}
 use Rattle.nv_replay.specs.Sequence.{is_on}
 use Rattle.nv_replay.specs.Versions.{Running}
 use Rattle.nv_workers.specs.declared.follows.Next.{Next}
-use Rattle.nv_workers.specs.declared.follows.Next.TheVariants.{Moved, Waits, Leads, Hands, Leaves, Left}
+use Rattle.nv_workers.specs.declared.follows.Next.TheVariants.{Moved, Ahead, Waits, Leads, Hands, Leaves, Left}
 use Rattle.nv_workers.specs.declared.worker.Seat.{Seat}
 use Rattle.nv_workers.specs.declared.worker.Seat.TheVariants.{Reading, Leading, Gone, Moving}
 use Rattle.nv_workers.specs.Working.{FollowsOn, LeadsOn, HasEnded}
@@ -38,6 +38,7 @@ module _ (judges : ℕ → Judge) {K : Type 0} {G : Ghosts K} (room : Room K) (p
 
   abbrev pub AfterStep : ℕ → List ℕ → Seat K G → Next → Type 0
   AfterStep most buf s Moved = WorksAt judges room most p v buf s × ¬ IsGone s
+  AfterStep most buf s Ahead = WorksAt judges room most p v buf s × ¬ IsGone s
   AfterStep most buf s Waits = WorksAt judges room most p v buf s × ¬ IsGone s
   AfterStep most buf s Leads = CanLead most buf s
   AfterStep most buf s Hands = CanHand most s
@@ -51,11 +52,12 @@ module _ {K : Type 0} {G : Ghosts K} where
   Reads (Gone l) = ⊥
   Reads Moving = ⊥
 
-  -- Moved: the seat's seen list grew, or the version's rewrites did. Waits: the last looks. Only a reader is next to lead. Hands: the seen
+  -- Moved: the seat's seen list grew, or the version's rewrites did. Ahead, Waits: the last looks. Only a reader is next to lead. Hands: the seen
   -- list grew.
   -- Leaves, Left: the version has its fate, and before that it has none
   abbrev pub StepTells : Room K → Next → Running Proc → Running Proc → Seat K G → Seat K G → Type 0
   StepTells room Moved v v2 s s2 = ((seen_by s < seen_by s2) ⊎ (v.at.rewrites < v2.at.rewrites)) × (v2.at.fate ≡ None)
+  StepTells room Ahead v v2 s s2 = HasStayed room s s2 × (v2.at.fate ≡ None)
   StepTells room Waits v v2 s s2 = HasStayed room s s2 × (v2.at.fate ≡ None)
   StepTells room Leads v v2 s s2 = Reads s
   StepTells room Hands v v2 s s2 = (seen_by s < seen_by s2) × (v2.at.fate ≡ None)

@@ -10,7 +10,7 @@ use Rattle.nv_replay.specs.Versions.{Running}
 use Rattle.nv_workers.specs.declared.worker.Seat.{Seat}
 use Rattle.nv_workers.specs.declared.worker.Seat.TheVariants.{Reading, Leading, Gone, Moving}
 use Rattle.nv_workers.specs.declared.worker.Turn.{Turn}
-use Rattle.nv_workers.specs.declared.worker.Turn.TheVariants.{Moved, Waiting, Done}
+use Rattle.nv_workers.specs.declared.worker.Turn.TheVariants.{Moved, Ahead, Waiting, Done}
 use Rattle.nv_workers.specs.declared.worker.Worker.{Worker}
 use Rattle.nv_ring.specs.Places.{WaitsFor}
 use Rattle.nv_workers.specs.Follows.{HasWaited}
@@ -49,6 +49,7 @@ module _ {K : Type 0} {G : Ghosts K} where
   -- a turn is the last one exactly where the seat has left
   abbrev pub IsLast : Turn → Seat K G → Type 0
   IsLast Moved s = ¬ IsGone s
+  IsLast Ahead s = ¬ IsGone s
   IsLast Waiting s = ¬ IsGone s
   IsLast Done s = IsGone s
 
@@ -81,9 +82,10 @@ module _ {K : Type 0} {G : Ghosts K} where
   HasStayed room (Gone l) t = ⊥
   HasStayed room Moving t = ⊥
 
-  -- Moved: the seat's seen list grew, the version's rewrites grew, or the reader took the lead. Waiting: the last looks.
+  -- Moved: the seat's seen list grew, the version's rewrites grew, or the reader took the lead. Ahead, Waiting: the last looks.
   -- Done: the version has its fate, and before that it has none
   abbrev pub TurnTells : Room K → Turn → Running Proc → Running Proc → Seat K G → Seat K G → Type 0
   TurnTells room Moved v v2 s s2 = ((seen_by s < seen_by s2) ⊎ ((v.at.rewrites < v2.at.rewrites) ⊎ TookLead s s2)) × (v2.at.fate ≡ None)
+  TurnTells room Ahead v v2 s s2 = HasStayed room s s2 × (v2.at.fate ≡ None)
   TurnTells room Waiting v v2 s s2 = HasStayed room s s2 × (v2.at.fate ≡ None)
   TurnTells room Done v v2 s s2 = is_on v2.at.fate ≡ false

@@ -6,7 +6,7 @@ ghost use Rattle.nv_replay.specs.Follow.{judge_of};
 ghost use Rattle.nv_room.specs.Seats.{IsOfRoom, SameReader, view};
 ghost use Rattle.nv_room.specs.Steps.{TellsEnd};
 ghost use Rattle.nv_workers.specs.Working.{FollowsOn};
-ghost use Rattle.nv_workers.specs.Follows.{AfterTurn, HasGrown, IsIdle, IsBusy, IsFound};
+ghost use Rattle.nv_workers.specs.Follows.{AfterTurn, HasGrown, IsIdle, IsBusy, IsFound, IsWaiting};
 
 use nv_bpf::Filter;
 use nv_calls::SyscallKernel;
@@ -23,6 +23,8 @@ use nv_words::EventBuf;
 pub(crate) enum Next {
     /// It goes on.
     Moved,
+    /// It waits for another station, and its version goes on meanwhile.
+    Ahead,
     /// It waits for another station.
     Waits,
     /// It takes the lead.
@@ -69,8 +71,24 @@ pub(crate) fn follow_turn<K: SyscallKernel, G: Gate>(
             *held = true;
             decide(version, reader, held, buf, room, rules, gate)
         }
-        Found::Held => Next::Waits,
+        Found::Held => go_ahead(version),
         Found::Free => Next::Leads,
+    }
+}
+
+// The turn steps that a version which waits goes ahead in a turn, of 1,000 instructions at most: then its worker looks again
+// for the event, and the others of its thread have their turns.
+const STEPS: u32 = 10;
+
+// While its station waits, a version goes on towards its next call.
+fn go_ahead(version: &mut Version) -> Next
+    ensures same { version.new ≡ version.old }
+    ensures waits { IsWaiting result }
+{
+    if version.run_ahead(STEPS) {
+        Next::Ahead
+    } else {
+        Next::Waits
     }
 }
 

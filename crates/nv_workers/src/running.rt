@@ -47,7 +47,8 @@ fn both(own: Turn, rest: Turn) -> Turn
         (Turn::Done, rest) => rest,
         (own, Turn::Done) => own,
         (Turn::Waiting, Turn::Waiting) => Turn::Waiting,
-        _ => Turn::Moved,
+        (Turn::Moved, _) | (_, Turn::Moved) => Turn::Moved,
+        _ => Turn::Ahead,
     }
 }
 
@@ -119,7 +120,7 @@ pub(crate) fn rotate_while_moving<R: Wait, K: SyscallKernel, G: Gate>(
     for _ in 0..u64::MAX {
         match round(workers, room, rules, gate, most, hands) {
             Turn::Done => return,
-            Turn::Moved => idle = 0,
+            Turn::Moved | Turn::Ahead => idle = 0,
             Turn::Waiting => {
                 if idle < IDLE_ROUNDS {
                     idle += 1;
@@ -153,7 +154,7 @@ pub(crate) fn rotate<R: Wait, K: SyscallKernel, G: Gate>(
     for _ in rt.forever() {
         match round(workers, room, rules, gate, most, hands) {
             Turn::Done => return,
-            Turn::Moved => idle = 0,
+            Turn::Moved | Turn::Ahead => idle = 0,
             Turn::Waiting => {
                 idle = idle.saturating_add(1);
                 rest(rt, idle);

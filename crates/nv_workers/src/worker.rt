@@ -29,6 +29,8 @@ use std::mem;
 pub enum Turn {
     /// The worker got on.
     Moved,
+    /// It waits for another station, and its version goes on meanwhile.
+    Ahead,
     /// It waits for another station.
     Waiting,
     /// The version has ended and its station has left.
@@ -106,6 +108,7 @@ impl<K: SyscallKernel> Worker<K> {
     {
         match self.step(room, rules, gate, most, hands) {
             Next::Moved => Turn::Moved,
+            Next::Ahead => Turn::Ahead,
             Next::Waits => Turn::Waiting,
             Next::Leads => {
                 self.promote(room);

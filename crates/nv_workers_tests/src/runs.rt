@@ -36,7 +36,7 @@ fn version(alloc: Global, index: u32, text: &str) -> Option<Version>
     let program = nv_asm::assemble(alloc, text.as_bytes()).ok()?;
     let guest = Guest::make(alloc, &program, &[], MEMORY).ok()?;
     let process = Process::make(alloc, guest, BUDGET).ok()?;
-    Version::make(alloc, index, process).ok()
+    Version::make(alloc, index, process, true).ok()
 }
 
 fn versions(alloc: Global, texts: &[String]) -> Option<Vec<Version>>

@@ -1,11 +1,17 @@
 use Rattle.std.proofs.Common.{sym, subst, drop, get_or}
 use denote.Exit.{no}
-use denote.Param.Send.{param_send, param_sync, arg_send, arg_sync}
+use denote.Param.Send.{sendable, param_send, param_sync, arg_send, arg_sync}
 use Rattle.std.specs.Option.{option_copied}
 use Rattle.nv_replay.specs.Follow.{judge_of}
 use Rattle.nv_workers.specs.Rounds.{CanAll, WorkedOn}
+use Rattle.nv_words.proofs.buf.EventBuf.TheSendSync.{the_send as buf_send}
+use Rattle.nv_workers.proofs.worker.Seat.TheSendSync.{the_field_send as seat_send}
+use Rattle.nv_workers.proofs.Sending.{version_send}
 use Rattle.nv_workers.proofs.Parting.{can_prefix, can_back, on_at, all_at}
 use Rattle.nv_workers.proofs.dealing.deal_alike.Goals as goal
+
+pub for_each_chunk_mut-requires-send-T : goal.for_each_chunk_mut-requires-send-T
+for_each_chunk_mut-requires-send-T g c κs within = search (sendable, version_send, buf_send, seat_send) depth 20
 
 pub for_each_chunk_mut-requires-clause-accepts : goal.for_each_chunk_mut-requires-clause-accepts
 for_each_chunk_mut-requires-clause-accepts g c κs within = λ start p chunk. (

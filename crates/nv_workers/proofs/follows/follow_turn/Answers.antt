@@ -1,8 +1,11 @@
-use Rattle.std.proofs.Common.{subst, Bool}
+use Rattle.std.proofs.Common.{sym, subst, Bool}
 use Rattle.std.specs.Option.{option_copied}
 use Rattle.nv_replay.specs.Follow.{judge_of}
+use Rattle.nv_replay.specs.Versions.{Running}
+use Rattle.nv_threads.specs.Threads.{Proc}
 use Rattle.nv_workers.specs.Working.{FollowsOn}
-use Rattle.nv_workers.proofs.Reading.{lives_on, found_event}
+use Rattle.nv_workers.specs.Follows.{AfterTurn}
+use Rattle.nv_workers.proofs.Reading.{lives_on, found_event, found_waiting}
 use Rattle.nv_workers.proofs.follows.follow_turn.Goals as goal
 
 pub returns-then-held-clause-after : goal.returns-then-held-clause-after
@@ -31,3 +34,13 @@ returns-in-Event-clause-after g c = λ most p f.
     c.decide-in-Event.ensures.after most p (found_event (judge_of (option_copied c.args.rules)) most c.args.room.now p c.args.version.now c.args.reader.now c.args.buf.now
     (subst (λ (b : Bool). FollowsOn (judge_of (option_copied c.args.rules)) c.args.room.now most p c.args.version.now c.args.reader.now b c.args.buf.now) c.if-held.false f)
     c.find_event.new.reader c.find_event.new.buf e.of e.same e.found.0 e.found.1 e.found.2 e.found.4)
+
+pub returns-in-Held-clause-after : goal.returns-in-Held-clause-after
+returns-in-Held-clause-after g c = λ most p f.
+    let judges = judge_of (option_copied c.args.rules) in
+    let e = c.in-Held.ensures in
+    subst (λ (v : Running Proc). AfterTurn judges c.args.room.now most p v c.find_event.new.reader c.args.held.now c.find_event.new.buf c.go_ahead.result) (sym c.go_ahead.ensures.same)
+    (subst (λ (b : Bool). AfterTurn judges c.args.room.now most p c.args.version.now c.find_event.new.reader b c.find_event.new.buf c.go_ahead.result) (sym c.if-held.false)
+    (found_waiting judges most c.args.room.now p c.args.version.now c.args.reader.now c.args.buf.now
+    (subst (λ (b : Bool). FollowsOn judges c.args.room.now most p c.args.version.now c.args.reader.now b c.args.buf.now) c.if-held.false f)
+    c.find_event.new.reader c.find_event.new.buf c.go_ahead.result c.go_ahead.ensures.waits e.of e.same e.found.0 e.found.1 e.found.2))

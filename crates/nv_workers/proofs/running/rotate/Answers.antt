@@ -13,7 +13,7 @@ returns-in-Done-clause-on g c =
 pub loop-preserved-in-Moved : goal.loop-preserved-in-Moved
 loop-preserved-in-Moved g c =
     let i = c.loop.invariant in
-    let on = c.in-Moved.ensures.on in record {
+    let on = c.round.ensures.on in record {
       on = all_then (judge_of (option_copied c.args.rules)) c.args.room.now c.args.most c.args.workers.now c.loop.workers c.round.new.workers i.on on;
       can = all_can (judge_of (option_copied c.args.rules)) c.args.room.now c.args.most c.loop.workers c.round.new.workers on i.can;
     }

@@ -17,6 +17,12 @@ returns-in-Moved-clause-last g c = (c.in-Moved.ensures.after c.requires.works.0 
 pub returns-in-Moved-clause-tells : goal.returns-in-Moved-clause-tells
 returns-in-Moved-clause-tells g c = (read_grown c.in-Moved.ensures.tells.0, c.in-Moved.ensures.tells.1)
 
+pub returns-in-Ahead-clause-works : goal.returns-in-Ahead-clause-works
+returns-in-Ahead-clause-works g c = λ p f. (c.in-Ahead.ensures.after p f).0
+
+pub returns-in-Ahead-clause-last : goal.returns-in-Ahead-clause-last
+returns-in-Ahead-clause-last g c = (c.in-Ahead.ensures.after c.requires.works.0 c.requires.works.1).1
+
 pub returns-in-Waits-clause-works : goal.returns-in-Waits-clause-works
 returns-in-Waits-clause-works g c = λ p f. (c.in-Waits.ensures.after p f).0
 
