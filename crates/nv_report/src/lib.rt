@@ -10,4 +10,6 @@ mod versions;
 mod whole;
 
 pub use form::json;
+pub use numbers::put_hex;
+pub use versions::put_fate;
 pub use whole::write;

@@ -21,7 +21,7 @@ pub fn put_numbers<S: Sink>(sink: &mut S, numbers: &[u32]) -> Put
     Put::Whole
 }
 
-// Each byte as two hexadecimal digits.
+/// Writes each byte as two hexadecimal digits.
 pub fn put_hex<S: Sink>(sink: &mut S, bytes: &[u8]) -> Put
     ensures { Puts (S.told sink.old) (S.faults sink.old) (hex_text bytes.now) result (S.told sink.new) (S.faults sink.new) }
 {

@@ -54,7 +54,8 @@ fn put_fate_of<S: Sink>(sink: &mut S, fate: Option<Fate>) -> Put
     }
 }
 
-fn put_fate<S: Sink>(sink: &mut S, fate: Fate) -> Put
+/// Writes how a version ended.
+pub fn put_fate<S: Sink>(sink: &mut S, fate: Fate) -> Put
     ensures { Puts (S.told sink.old) (S.faults sink.old) (fate_text fate) result (S.told sink.new) (S.faults sink.new) }
 {
     match fate {

@@ -53,7 +53,7 @@ fn version(alloc: Global, index: u32, words: &[u32]) -> Option<Version>
     let program = nv_elf::read(alloc, &file).ok()?;
     let guest = Guest::make(alloc, &program, &[], MEMORY).ok()?;
     let process = Process::make(alloc, guest, BUDGET).ok()?;
-    Version::make(alloc, index, process).ok()
+    Version::make(alloc, index, process, true).ok()
 }
 
 fn kernel(alloc: Global) -> Option<ScriptKernel>

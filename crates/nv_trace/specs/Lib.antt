@@ -1,0 +1,5 @@
+pub mod Trace
+pub mod Held
+pub mod Faults
+pub mod Texts
+pub mod Checks

@@ -1,0 +1,5 @@
+//! Tests of traces.
+#![tactic(auto)]
+
+#[cfg(test)]
+mod traces;
