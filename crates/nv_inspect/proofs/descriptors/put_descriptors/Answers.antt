@@ -1,0 +1,17 @@
+use Rattle.std.proofs.Common.{◌≡◌, sym, arith}
+use Rattle.nv_outside.proofs.Writing.{puts-is, puts-none}
+use Rattle.nv_inspect.specs.Shown.{descriptor_text}
+use Rattle.nv_inspect.proofs.Writes.{firsts-none, puts-next, puts-short, puts-every}
+use Rattle.nv_inspect.proofs.descriptors.put_descriptors.Goals as goal
+
+pub loop-fd-init : goal.loop-fd-init
+loop-fd-init g c = puts-is (sym (firsts-none (descriptor_text c.args.files.now.state))) (puts-none _ _)
+
+pub loop-fd-preserved : goal.loop-fd-preserved
+loop-fd-preserved g c = puts-next (descriptor_text c.args.files.now.state) c.loop-fd.fd c.loop-fd.invariant c.in-Whole.ensures
+
+pub returns-in-Failed : goal.returns-in-Failed
+returns-in-Failed g c = puts-short (descriptor_text c.args.files.now.state) c.loop-fd.fd 64 c.loop-fd-test.true c.loop-fd.invariant c.in-Failed.ensures
+
+pub returns : goal.returns
+returns g c = let same : c.loop-fd.fd ≡ 64 = omega arith in puts-every (descriptor_text c.args.files.now.state) c.loop-fd.fd 64 same c.loop-fd.invariant
