@@ -3,7 +3,7 @@ use Rattle.std.proofs.Common.{◌≡◌, ◌∙◌, ap, subst, ℕ, List, Option
 use Rattle.nv_bpf.specs.declared.op.Op.{Op}
 use Rattle.nv_calls.specs.Calls.{Entry}
 use Rattle.nv_command.specs.Words.{Limits}
-use Rattle.nv_kernel.specs.Serving.{start_of_script}
+use Rattle.nv_sockets.specs.Serving.{start_of_script}
 use Rattle.nv_machine.specs.Guest.{Machine}
 use Rattle.nv_replay.specs.Follow.{judge_of}
 use Rattle.nv_replay.specs.Monitor.{sequence}

@@ -5,7 +5,7 @@ use Rattle.nv_bpf.specs.declared.op.Op.{Op}
 use Rattle.nv_machine.specs.Guest.{Machine}
 use Rattle.nv_command.specs.Words.{Limits}
 use Rattle.nv_script.specs.Scripts.{Setup}
-use Rattle.nv_kernel.specs.Serving.{start_of_script}
+use Rattle.nv_sockets.specs.Serving.{start_of_script}
 use Rattle.nv_threads.specs.Threads.{Proc, threads, started}
 use Rattle.nv_replay.specs.declared.standing.Standing.{Standing}
 use Rattle.nv_replay.specs.Follow.{is_exited, judge_of}

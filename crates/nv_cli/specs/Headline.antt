@@ -17,7 +17,7 @@ use Rattle.nv_cli.specs.Due.{RunOwes, RunComesTo}
 use Rattle.nv_cli.specs.Prepared.{prepared, version_of}
 -- The account is the sequential monitor's over the script's kernel, the rules, the machines of the versions and the script's planned lengths.
 use Rattle.nv_cli.specs.Account.{IsRunOf, begun}
-use Rattle.nv_kernel.specs.Serving.{start_of_script}
+use Rattle.nv_sockets.specs.Serving.{start_of_script}
 use Rattle.nv_replay.specs.Follow.{judge_of}
 use Rattle.nv_replay.specs.Monitor.{sequence}
 -- Each version has one fate, and each event lies in exactly one of the spans that they led; where no length is planned each led at most one.
@@ -39,6 +39,7 @@ use Rattle.nv_cli.specs.Outcome.{text_of, status_of, ended_with}
 use Rattle.nv_cli.specs.Causes.{cause_text}
 use Rattle.nv_report.specs.Report.{report_text}
 use Rattle.nv_report.specs.Json.{json_text}
+use Rattle.nv_sockets.specs.Texts.{connections_text}
 use Rattle.nv_cli.specs.Account.{run_status}
 use Rattle.nv_outside.specs.Sink.{Puts}
 -- The clause `completes`: files that are told and accepted, and no count that rose, have the command's work done, or memory wanted.

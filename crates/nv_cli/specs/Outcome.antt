@@ -6,9 +6,10 @@ use Rattle.nv_outside.specs.Told.{Told}
 use Rattle.nv_outside.specs.declared.sink.Put.{Put}
 use Rattle.nv_outside.specs.declared.sink.Put.TheVariants.{Whole, Failed}
 use Rattle.nv_command.specs.Words.{Plan}
-use Rattle.nv_calls.specs.Logs.{output_of}
+use Rattle.nv_calls.specs.Logs.{output_of, connections_of}
 use Rattle.nv_script.specs.Scripts.{Setup}
-use Rattle.nv_kernel.specs.Serving.{start_of_script}
+use Rattle.nv_sockets.specs.Serving.{start_of_script}
+use Rattle.nv_sockets.specs.Texts.{connections_text}
 use Rattle.nv_replay.specs.Follow.{is_exited}
 use Rattle.nv_replay.specs.Sequence.{Account}
 use Rattle.nv_report.specs.Report.{report_text}
@@ -34,10 +35,11 @@ pub data Outcome : Type 0 where
   -- the run of a number has its account
   Summed : ℕ → Setup → Account → Outcome
 
--- the report of an account, or its JSON form and a newline
+-- the report of an account, with what was written to the connections, or its JSON form and a newline
 abbrev pub account_text : Bool → Setup → Account → List ℕ
 account_text true setup account = json_text (output_of (start_of_script setup) account.log) account ++ codes "\n"
-account_text false setup account = report_text (output_of (start_of_script setup) account.log) account
+account_text false setup account =
+    report_text (output_of (start_of_script setup) account.log) account ++ connections_text (connections_of (start_of_script setup) account.log)
 
 -- what a run came to that left this on the console
 abbrev pub totals_of : List ℕ → Account → gen.Totals

@@ -91,8 +91,11 @@ pub(crate) fn status(versions: &[Version]) -> u8
 pub(crate) fn count_exited(versions: &[Version]) -> usize
     ensures { result ≡ count_by (λ version. is_exited (standing_of version).fate) versions.now }
 {
-    versions
-        .iter()
-        .filter(|version| has_exited(version))
-        .count()
+    let mut count = 0;
+    for version in versions {
+        if has_exited(version) {
+            count += 1;
+        }
+    }
+    count
 }

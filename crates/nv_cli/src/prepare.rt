@@ -18,10 +18,10 @@ use nv_bpf::{Filter, FilterFault};
 use nv_command::{Limits, Run};
 use nv_elf::ElfFault;
 use nv_guest::{Guest, GuestFault};
-use nv_kernel::ScriptKernel;
 use nv_outside::{Files, Got};
 use nv_replay::Version;
 use nv_script::{Script, ScriptFault};
+use nv_sockets::SocketKernel;
 use nv_threads::Process;
 use std::alloc::Global;
 
@@ -31,7 +31,7 @@ const MOST_BYTES: u32 = 4_194_304;
 /// log at which the leader hands over.
 #[derive(Drop)]
 pub struct Prepared {
-    pub kernel: ScriptKernel,
+    pub kernel: SocketKernel,
     pub rules: Option<Filter>,
     pub versions: Vec<Version>,
     pub hands: Vec<u32>,
@@ -138,7 +138,7 @@ pub fn version(alloc: Global, limits: Limits, index: u32, guest: Guest) -> Resul
     ensures refused { IfErr result (λ refusal. refusal ≡ Refusal.Memory) }
 {
     let process = Process::make(alloc, guest, limits.budget)?;
-    let version = Version::make(alloc, index, process)?;
+    let version = Version::make(alloc, index, process, true)?;
     Ok(version)
 }
 
@@ -219,7 +219,7 @@ pub fn prepare<F: Files>(alloc: Global, files: &mut F, plan: &Run<'_>) -> Result
     };
     match read_versions(alloc, files, plan.limits, &script, &plan.versions) {
         Ok(versions) => {
-            let kernel = ScriptKernel::make(alloc, &script)?;
+            let kernel = SocketKernel::make(alloc, &script)?;
             Ok(Prepared {
                 kernel,
                 rules,

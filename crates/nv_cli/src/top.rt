@@ -7,9 +7,12 @@ ghost use Rattle.nv_replay.specs.Accounts.{AreFresh};
 ghost use Rattle.nv_cli.specs.Account.{begun, run_status};
 ghost use Rattle.nv_command.specs.Words.{Runs, Uses, command_of, texts};
 ghost use Rattle.nv_command.specs.Seen.{limits_view, plan_view};
-ghost use Rattle.nv_calls.specs.Logs.{output_of};
+ghost use Rattle.nv_calls.specs.Logs.{output_of, connections_of};
 ghost use Rattle.nv_report.specs.Report.{report_text};
 ghost use Rattle.nv_report.specs.Json.{json_text};
+ghost use Rattle.nv_sockets.specs.Serving.{start_of_script};
+ghost use Rattle.nv_sockets.specs.Texts.{connections_text};
+ghost use Rattle.nv_outside.specs.Sink.{Puts};
 ghost use Rattle.nv_cli.specs.Due.{Says, Answers, Completes, Rejects};
 ghost use Rattle.nv_cli.specs.Ran.{Wrote, Tells, RunSays};
 ghost use Rattle.nv_cli.specs.Refusals.{IsPlanned};
@@ -30,9 +33,9 @@ use nv_bpf::Filter;
 use nv_calls::SyscallKernel;
 use nv_command::{Command, Limits, LineFault, Run, Tool};
 use nv_gen::Totals;
-use nv_kernel::ScriptKernel;
-use nv_outside::{Files, Gate, Sink, put_pieces};
+use nv_outside::{Files, Gate, Put, Sink, put_pieces};
 use nv_replay::{Account, Version};
+use nv_sockets::{SocketKernel, write_connections};
 use std::alloc::Global;
 use std::sync::Wait;
 use std::thread::Threads;
@@ -52,13 +55,28 @@ fn put_json<K: SyscallKernel, S: Sink>(alloc: Global, account: &Account<K>, sink
     }
 }
 
-// Writes the report.
-fn put_report<K: SyscallKernel, S: Sink>(account: &Account<K>, sink: &mut S) -> u8
-    ensures { Says (report_text (output_of (K.start account.now.kernel) (K.log account.now.kernel))
-        (record { log = K.log account.now.kernel; lines = map standing_of account.now.versions.items }))
+// Writes the report, and after it what was written to the connections.
+fn put_whole<S: Sink>(account: &Account<SocketKernel>, sink: &mut S) -> Put
+    ensures { Puts (S.told sink.old) (S.faults sink.old)
+        (report_text (output_of (start_of_script account.now.kernel.setup) account.now.kernel.log)
+        (record { log = account.now.kernel.log; lines = map standing_of account.now.versions.items })
+        ++ connections_text (connections_of (start_of_script account.now.kernel.setup) account.now.kernel.log))
+        result (S.told sink.new) (S.faults sink.new) }
+{
+    match nv_report::write(sink, account) {
+        Put::Whole => write_connections(sink, &account.kernel),
+        Put::Failed => Put::Failed,
+    }
+}
+
+// Writes the report and the connections, and ends with the status of the run.
+fn put_report<S: Sink>(account: &Account<SocketKernel>, sink: &mut S) -> u8
+    ensures { Says (report_text (output_of (start_of_script account.now.kernel.setup) account.now.kernel.log)
+        (record { log = account.now.kernel.log; lines = map standing_of account.now.versions.items })
+        ++ connections_text (connections_of (start_of_script account.now.kernel.setup) account.now.kernel.log))
         (run_status (map standing_of account.now.versions.items)) (S.told sink.old) (S.faults sink.old) result (S.told sink.new) (S.faults sink.new) }
 {
-    let put = nv_report::write(sink, account);
+    let put = put_whole(account, sink);
     ended(put, status(&account.versions))
 }
 
@@ -66,7 +84,7 @@ fn put_report<K: SyscallKernel, S: Sink>(account: &Account<K>, sink: &mut S) -> 
 fn run_versions<R: Threads + Wait + Sync, S: Sink, G: Gate + Sync>(
     rt: &R,
     alloc: Global,
-    kernel: ScriptKernel,
+    kernel: SocketKernel,
     rules: Option<&Filter>,
     versions: Vec<Version>,
     hands: &Vec<u32>,

@@ -7,7 +7,7 @@ use Rattle.nv_cli.proofs.top.put_report.Goals as goal
 
 pub returns : goal.returns
 returns g c = record {
-  put = c.write-put.result;
-  ends = c.ended.ensures ∙ ap (ended_with c.write-put.result) (c.status.ensures ∙ ap (λ (vs : List (Running Proc)). run_status (map standing_of vs)) c.deref.ensures.value);
-  written = c.write-put.ensures;
+  put = c.put_whole-put.result;
+  ends = c.ended.ensures ∙ ap (ended_with c.put_whole-put.result) (c.status.ensures ∙ ap (λ (vs : List (Running Proc)). run_status (map standing_of vs)) c.deref.ensures.value);
+  written = c.put_whole-put.ensures;
 }

@@ -1,9 +1,10 @@
 use Rattle.std.proofs.Common.{◌++◌, codes, inl, inr, ⊎_elim, subst, map, option_map}
-use Rattle.nv_calls.specs.Logs.{Start, output_of}
+use Rattle.nv_calls.specs.Logs.{Start, output_of, connections_of}
 use Rattle.nv_command.specs.Seen.{limits_view}
 use Rattle.nv_replay.specs.Versions.{standing_of}
 use Rattle.nv_report.specs.Json.{json_text}
 use Rattle.nv_report.specs.Report.{report_text}
+use Rattle.nv_sockets.specs.Texts.{connections_text}
 use Rattle.nv_cli.specs.Account.{run_status}
 use Rattle.nv_cli.specs.Due.{Says}
 use Rattle.nv_cli.specs.Ran.{Wrote}
@@ -38,7 +39,7 @@ returns g c = λ machines are.
       account = record { log = log; lines = lines };
       is_run = run_of limits setup rules machines c.args.hands.now.items c.args.versions.items c.in-Ok.account.versions.items log c.requires.planned c.in-Ok.ensures.account are;
       says = rw c.if-json.false (subst
-          (λ (s : Start). Says (report_text (output_of s log) (record { log = log; lines = lines }))
+          (λ (s : Start). Says (report_text (output_of s log) (record { log = log; lines = lines }) ++ connections_text (connections_of s log))
           (run_status lines) (g.S.Sink.told c.args.sink.now) (g.S.Sink.faults c.args.sink.now) c.put_report.result (g.S.Sink.told c.put_report.new.sink) (g.S.Sink.faults c.put_report.new.sink))
           c.in-Ok.ensures.start c.put_report.ensures);
     })

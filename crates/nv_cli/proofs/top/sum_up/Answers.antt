@@ -3,7 +3,7 @@ use Rattle.std.specs.Prelude.{option_map}
 use Rattle.std.specs.List.{list_any}
 use Rattle.nv_calls.specs.Logs.{Start, output_of}
 use Rattle.nv_gen.specs.Made.{summary}
-use Rattle.nv_kernel.specs.Serving.{start_of_script}
+use Rattle.nv_sockets.specs.Serving.{start_of_script}
 use Rattle.nv_replay.specs.Follow.{judge_of}
 use Rattle.nv_replay.specs.Lead.{is_memory}
 use Rattle.nv_replay.specs.Sequence.{Account, cuts_of}
