@@ -35,11 +35,21 @@ def got(text): if .ret < 0 then "..." else text end;
 def read_text: got(.payload | bytes | quoted);
 def given($size): got(.payload | numbers($size) | map(tostring) | "[" + join(", ") + "]");
 def text_at($i): .payload | bytes[65 * $i : 65 * $i + 65] | .[: index(0)] | quoted;
+# strace names the greater of the two flags first
+def socket_flags: flags({"11": "SOCK_NONBLOCK", "19": "SOCK_CLOEXEC"}) | sub("SOCK_NONBLOCK\\|SOCK_CLOEXEC"; "SOCK_CLOEXEC|SOCK_NONBLOCK");
+def socket_type: (. % 16) as $type | ["SOCK_STREAM", "SOCK_DGRAM"][$type - 1] as $name |
+    ($name // ($type | hex)) + if . == $type then "" else "|" + (. - $type | socket_flags) end;
+# the address of a bind: its payload is as many bytes of it as were handed in, at most 16
+def socket_address: if .ret == -14 then "..." else .payload | bytes |
+    if length == 16 and .[:2] == [2, 0] then
+        "{sa_family=AF_INET, sin_port=htons(\(.[2] * 256 + .[3])), sin_addr=inet_addr(\"\(.[4:8] | map(tostring) | join("."))\")}"
+    else quoted end end;
 def time: got(.payload | numbers(8) | "{tv_sec=\(.[0]), tv_nsec=\(.[1])}");
 
 def name: {"17": "getcwd", "23": "dup", "24": "dup3", "29": "ioctl", "35": "unlinkat", "56": "openat", "57": "close", "59": "pipe2", "62": "_llseek",
     "63": "read", "64": "write", "65": "readv", "66": "writev", "93": "exit", "94": "exit_group", "160": "uname", "172": "getpid", "173": "getppid",
-    "174": "getuid", "175": "geteuid", "176": "getgid", "177": "getegid", "220": "clone", "278": "getrandom", "403": "clock_gettime64"}[tostring]
+    "174": "getuid", "175": "geteuid", "176": "getgid", "177": "getegid", "198": "socket", "200": "bind", "201": "listen", "202": "accept", "220": "clone",
+    "242": "accept4", "278": "getrandom", "403": "clock_gettime64"}[tostring]
     // "syscall_" + hex;
 
 def arguments: .args as [$a, $b, $c, $d, $e] | .nr as $nr |
@@ -56,14 +66,20 @@ def arguments: .args as [$a, $b, $c, $d, $e] | .nr as $nr |
     elif $nr == 93 or $nr == 94 then [$a | signed]
     elif $nr == 160 then [got("{sysname=\(text_at(0)), nodename=\(text_at(1)), ...}")]
     elif $nr >= 172 and $nr <= 177 then []
+    elif $nr == 198 then [(if $a == 2 then "AF_INET" else $a | hex end), ($b | socket_type), ({"0": "IPPROTO_IP", "6": "IPPROTO_TCP"}[$c | tostring] // $c)]
+    elif $nr == 200 then [($a | descriptor), socket_address, $c]
+    elif $nr == 201 then [($a | descriptor), ($b | signed)]
+    elif $nr == 202 then [($a | descriptor), "...", "..."]
     elif $nr == 220 then ["child_stack=...", "flags=\($a | clone_flags)"]
+    elif $nr == 242 then [($a | descriptor), "...", "...", ($d | socket_flags)]
     elif $nr == 278 then [read_text, $b, ($c | hex)]
     elif $nr == 403 then [(["CLOCK_REALTIME", "CLOCK_MONOTONIC"][$a] // $a), time]
     else .args | map(hex) end | map(tostring) | join(", ");
 
 def result: if .nr == 93 or .nr == 94 then "?"
     elif .ret < 0 and .ret >= -4095 then "-1 " + ({"2": "ENOENT", "9": "EBADF", "11": "EAGAIN", "14": "EFAULT", "17": "EEXIST", "20": "ENOTDIR", "22": "EINVAL",
-        "24": "EMFILE", "25": "ENOTTY", "27": "EFBIG", "28": "ENOSPC", "29": "ESPIPE", "32": "EPIPE", "34": "ERANGE", "36": "ENAMETOOLONG", "38": "ENOSYS"}[-.ret | tostring])
+        "24": "EMFILE", "25": "ENOTTY", "27": "EFBIG", "28": "ENOSPC", "29": "ESPIPE", "32": "EPIPE", "34": "ERANGE", "36": "ENAMETOOLONG", "38": "ENOSYS", "88": "ENOTSOCK",
+        "98": "EADDRINUSE", "107": "ENOTCONN"}[-.ret | tostring])
     else .ret end;
 
 (.log | any(.tid != 100)) as $threads | .log[] |
