@@ -1,5 +1,5 @@
 #!/usr/bin/env bash
-# Runs the examples but those of guests/, and compares: the assembler texts hello and service with the reports of expected/, and the server in C with
+# Runs the examples but those of guests/, and compares: the assembler texts hello, service and server with the reports of expected/, and the server in C with
 # what its clients got under Linux (server/expected).
 # check.sh [PROGRAM]: crates/varan/out/varan where no program is named.
 # Status: 0 where all is the same, 1 where something differs, 2 where the program isn't built.
@@ -83,6 +83,22 @@ row 0 expected/all run --script script --rules "$work/rules" "$work/service_2" "
 row 0 expected/live_update run --script update --rules "$work/rules" "$work/service_1" "$work/service_3"
 row 0 expected/bad_live_update run --script update "$work/service_1" "$work/service_2"
 
+cd ../server
+for version in 1 2 3 4; do
+    "$program" asm "server_$version.s" >"$work/server_$version"
+done
+row 0 expected/rules rules --asm rules.txt
+"$program" rules --asm rules.txt >"$work/rules"
+row 0 expected/alone run --script script "$work/server_1"
+row 1 expected/bad_update_alone run --script script "$work/server_2"
+row 0 expected/bad_update run --script script "$work/server_2" "$work/server_1"
+row 0 expected/patched run --script script "$work/server_1" "$work/server_3"
+row 0 expected/strict run --script script "$work/server_1" "$work/server_4"
+row 0 expected/strict_by_rules run --script script --rules "$work/rules" "$work/server_1" "$work/server_4"
+row 0 expected/all run --script script "$work/server_2" "$work/server_3" "$work/server_1"
+row 0 expected/live_update run --script update "$work/server_1" "$work/server_3"
+row 0 expected/bad_live_update run --script update "$work/server_1" "$work/server_2"
+
 cd "$here/server"
 "$program" rules --asm rules.txt >"$work/rules"
 row 0 expected/rules rules --asm rules.txt
@@ -110,6 +126,8 @@ if command -v jq >/dev/null; then
     calls expected/calls --script scripts/clients built/server_1
     cd "$here/../crates/nv_examples/data/service"
     calls expected/calls --script script "$work/service_2" "$work/service_1"
+    cd ../server
+    calls expected/calls --script script "$work/server_2" "$work/server_1"
     cd ../hello
     calls expected/calls --script script "$work/hi"
 else
