@@ -43,6 +43,35 @@ calls() {
     fi
 }
 
+# says STATUS TEXT WORD..: what the program writes with these words is this line, and its status this.
+says() {
+    local wanted=$1 text=$2
+    shift 2
+    echo "$text" >"$work/line"
+    row "$wanted" "$work/line" "$@"
+}
+
+# record STATUS TRACE WORD..: records a run.
+record() {
+    local wanted=$1 trace=$2 status=0
+    shift 2
+    rows=$((rows + 1))
+    "$program" record "$@" >"$trace" || status=$?
+    if [ "$status" != "$wanted" ]; then
+        echo "check.sh: status $status in place of $wanted: varan record $*"
+        wrong=$((wrong + 1))
+    fi
+}
+
+# same FILE FILE: two files are the same.
+same() {
+    rows=$((rows + 1))
+    if ! cmp "$1" "$2"; then
+        echo "check.sh: other bytes in $2 than in $1"
+        wrong=$((wrong + 1))
+    fi
+}
+
 # served STATUS CLIENTS FATES WORD..: each connection was written what the file CLIENTS says, and the versions ended so; of a fault without its address.
 served() {
     local wanted=$1 clients=$2 fates=$3 status=0
@@ -67,6 +96,14 @@ cd ../crates/nv_examples/data/hello
 row 0 expected/report run --script script "$work/hi"
 row 0 expected/json run --script script --json "$work/hi"
 row 4 expected/wrong asm wrong.s
+record 0 "$work/trace" --script script "$work/hi"
+xxd -p -c 48 "$work/trace" >"$work/bytes"
+same expected/trace "$work/bytes"
+says 0 'replay exited 0 seen 2 rewrites 0' replay --script script "$work/trace" "$work/hi"
+row 0 expected/inspected inspect --script script --stamp 1 "$work/trace" "$work/hi"
+row 0 expected/inspected_early inspect --script script --count 3 --dump 69632 --length 4 "$work/trace" "$work/hi"
+head -c 110 "$work/trace" >"$work/cut"
+says 4 "varan: input $work/cut: short 1" replay --script script "$work/cut" "$work/hi"
 
 cd ../service
 for version in service_1 service_2 service_3; do
@@ -82,6 +119,17 @@ row 0 expected/patched run --script script --rules "$work/rules" "$work/service_
 row 0 expected/all run --script script --rules "$work/rules" "$work/service_2" "$work/service_3" "$work/service_1"
 row 0 expected/live_update run --script update --rules "$work/rules" "$work/service_1" "$work/service_3"
 row 0 expected/bad_live_update run --script update "$work/service_1" "$work/service_2"
+record 0 "$work/trace" --script script "$work/service_1"
+record 0 "$work/trace_2" --script script "$work/service_2" "$work/service_1"
+same "$work/trace" "$work/trace_2"
+record 1 "$work/broken" --script script "$work/service_2"
+says 0 'replay exited 0 seen 10 rewrites 0' replay --script script "$work/trace" "$work/service_1"
+says 1 'replay fault load 100 0001006c seen 5 rewrites 0' replay --script script "$work/trace" "$work/service_2"
+says 1 'replay refused 100 174 0 00000000 seen 0 rewrites 0' replay --script script "$work/trace" "$work/service_3"
+says 0 'replay exited 0 seen 10 rewrites 1' replay --script script --rules "$work/rules" "$work/trace" "$work/service_3"
+says 0 'replay in step seen 5 rewrites 0' replay --script script "$work/broken" "$work/service_1"
+row 0 expected/inspected_before inspect --script script --stamp 5 --dump 69632 --length 20 "$work/trace" "$work/service_2"
+row 0 expected/inspected_fault inspect --script script --stamp 6 --dump 69632 --length 20 "$work/trace" "$work/service_2"
 
 cd ../server
 for version in 1 2 3 4; do
@@ -98,6 +146,18 @@ row 0 expected/strict_by_rules run --script script --rules "$work/rules" "$work/
 row 0 expected/all run --script script "$work/server_2" "$work/server_3" "$work/server_1"
 row 0 expected/live_update run --script update "$work/server_1" "$work/server_3"
 row 0 expected/bad_live_update run --script update "$work/server_1" "$work/server_2"
+record 0 "$work/trace" --script script "$work/server_1"
+record 0 "$work/trace_2" --script update "$work/server_1" "$work/server_2"
+same "$work/trace" "$work/trace_2"
+says 0 'replay exited 0 seen 31 rewrites 0' replay --script script "$work/trace" "$work/server_1"
+says 1 'replay fault load 100 000100b8 seen 17 rewrites 0' replay --script script "$work/trace" "$work/server_2"
+says 0 'replay exited 0 seen 31 rewrites 0' replay --script script "$work/trace" "$work/server_3"
+says 1 'replay refused 100 64 17 00000000 seen 17 rewrites 0' replay --script script "$work/trace" "$work/server_4"
+says 0 'replay exited 0 seen 31 rewrites 5' replay --script script --rules "$work/rules" "$work/trace" "$work/server_4"
+row 0 expected/inspected inspect --script script --call 57 --dump 69648 --length 20 "$work/trace" "$work/server_1"
+row 0 expected/inspected_before inspect --script script --stamp 17 "$work/trace" "$work/server_4"
+row 0 expected/inspected_parted inspect --script script --stamp 18 --dump 69722 --length 26 "$work/trace" "$work/server_4"
+row 0 expected/inspected_fault inspect --script script --stamp 18 "$work/trace" "$work/server_2"
 
 cd "$here/server"
 "$program" rules --asm rules.txt >"$work/rules"
@@ -121,6 +181,19 @@ served 0 expected/clients_1 $'0 exited 0 seen 115 led 0-47 rewrites 0\n1 exited 
     --script scripts/update built/server_1 built/server_3
 served 0 expected/clients_1 $'0 exited 0 seen 115 led 0-47,59-115 rewrites 0\n1 fault load 100 seen 59 led 47-59 rewrites 0' \
     --script scripts/update built/server_1 built/server_2
+
+# rehearsals, and the state where version 4 parts and version 2 breaks
+record 0 "$work/trace" --script scripts/clients built/server_1
+record 0 "$work/trace_2" --script scripts/update built/server_1 built/server_2
+same "$work/trace" "$work/trace_2"
+says 0 'replay exited 0 seen 115 rewrites 0' replay --script scripts/clients "$work/trace" built/server_1
+says 1 'replay fault load 100 000107dc seen 59 rewrites 0' replay --script scripts/clients "$work/trace" built/server_2
+says 0 'replay exited 0 seen 115 rewrites 0' replay --script scripts/clients "$work/trace" built/server_3
+says 1 'replay refused 100 64 59 00000000 seen 59 rewrites 0' replay --script scripts/clients "$work/trace" built/server_4
+says 0 'replay exited 0 seen 115 rewrites 11' replay --script scripts/clients --rules "$work/rules" "$work/trace" built/server_4
+row 0 expected/inspected_before inspect --script scripts/clients --stamp 59 --dump 76504 --length 18 "$work/trace" built/server_4
+row 0 expected/inspected_parted inspect --script scripts/clients --stamp 60 --dump 1048240 --length 208 "$work/trace" built/server_4
+row 0 expected/inspected_fault inspect --script scripts/clients --stamp 60 "$work/trace" built/server_2
 
 if command -v jq >/dev/null; then
     calls expected/calls --script scripts/clients built/server_1
