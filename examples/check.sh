@@ -97,7 +97,7 @@ row 0 expected/report run --script script "$work/hi"
 row 0 expected/json run --script script --json "$work/hi"
 row 4 expected/wrong asm wrong.s
 record 0 "$work/trace" --script script "$work/hi"
-xxd -p -c 48 "$work/trace" >"$work/bytes"
+od -An -v -tx1 -w48 "$work/trace" | tr -d ' ' >"$work/bytes"
 same expected/trace "$work/bytes"
 says 0 'replay exited 0 seen 2 rewrites 0' replay --script script "$work/trace" "$work/hi"
 row 0 expected/inspected inspect --script script --stamp 1 "$work/trace" "$work/hi"

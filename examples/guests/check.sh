@@ -5,7 +5,8 @@ set -eu
 cd "$(dirname "$0")"
 program=${1:-../../crates/varan/out/varan}
 report=$(mktemp)
-trap 'rm -f "$report"' EXIT
+trace=$(mktemp)
+trap 'rm -f "$report" "$trace"' EXIT
 rows=0
 wrong=0
 
@@ -41,6 +42,26 @@ row service service_2_alone 1 '0 fault load 100' built/service_2
 row service service 0 $'0 fault load 100\n1 exited 0' built/service_2 built/service_1
 row service service 0 $'0 exited 0\n1 exited 0' built/service_1 built/service_3
 row service service 0 $'0 fault load 100\n1 exited 0\n2 exited 0' built/service_2 built/service_3 built/service_1
+
+# rehearsed SCRIPT RECORDED VERSION LINE: over the trace of the guest RECORDED this is told of VERSION, without the address of a fault.
+rehearsed() {
+    local line
+    rows=$((rows + 1))
+    "$program" record --script "scripts/$1" "built/$2" >"$trace" || true
+    line=$("$program" replay --script "scripts/$1" "$trace" "built/$3" || true)
+    if [ "$(sed 's/\(fault load 100\) [0-9a-f]*/\1/' <<<"$line")" != "$4" ]; then
+        echo "check.sh: another rehearsal of $3 over $2: $line"
+        wrong=$((wrong + 1))
+    fi
+}
+
+# each guest over its own trace, which has as many events as the guest makes calls under Linux, and the service's versions over that of the first
+rehearsed heap heap heap 'replay exited 3 seen 9 rewrites 0'
+rehearsed lines lines lines 'replay exited 0 seen 37 rewrites 0'
+rehearsed threads threads threads 'replay exited 0 seen 21 rewrites 0'
+rehearsed service service_1 service_1 'replay exited 0 seen 18 rewrites 0'
+rehearsed service service_1 service_2 'replay fault load 100 seen 7 rewrites 0'
+rehearsed service service_1 service_3 'replay exited 0 seen 18 rewrites 0'
 
 if ! ./as_text.py | cmp - ../../crates/nv_guest_tests/src/built.rt; then
     echo "check.sh: the tests of nv_guest_tests have other guests"
