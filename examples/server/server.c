@@ -17,7 +17,7 @@
 #include <unistd.h>
 
 enum { SOCKET = 198, BIND = 200, LISTEN = 201, ACCEPT = 202 };
-enum { AF_INET = 2, SOCK_STREAM = 1, EAGAIN_OF_LINUX = 11 };
+enum { AF_INET = 2, SOCK_STREAM = 1, LINUX_EAGAIN = 11 };
 
 /* sockaddr_in of ip(7): the port's greater byte comes first, address 0 is any. */
 struct address {
@@ -194,7 +194,7 @@ int main(int count, char **words)
     for (;;) {
         long client = call(ACCEPT, listener, 0, 0, 0, 0);
         if (client < 0)
-            return client == -EAGAIN_OF_LINUX ? 0 : 1;
+            return client == -LINUX_EAGAIN ? 0 : 1;
         answer(client);
     }
 }
