@@ -1,0 +1,110 @@
+// Rows from entries.
+use crate::RowFault;
+use crate::content::content_of;
+use crate::draft::{Draft, text_of};
+use crate::entry::{Entry, Field};
+use crate::row::Row;
+use crate::texts::Texts;
+use nv_text::{is, trim};
+use std::alloc::Global;
+
+/// Reads entries in their order, since a row may include the texts before it.
+#[derive(Drop)]
+pub struct Reader {
+    texts: Texts,
+}
+
+impl Reader {
+    pub fn new(alloc: Global) -> Self {
+        Reader {
+            texts: Texts::new(alloc),
+        }
+    }
+
+    /// The rows of an entry: none where it is a text with a name, and one for each line of its table where it has one.
+    pub fn rows(&mut self, entry: &Entry) -> Result<Vec<Row>, RowFault> {
+        match entry.head.word {
+            b"text" => self.name_text(&entry.head, &entry.fields),
+            b"row" => self.read_row(entry),
+            _ => Err(RowFault::Line),
+        }
+    }
+
+    fn name_text(&mut self, head: &Field, fields: &[Field]) -> Result<Vec<Row>, RowFault> {
+        if !fields.is_empty() {
+            return Err(RowFault::Line);
+        }
+        let content = content_of(&self.texts, &head.content)?;
+        self.texts.define(head.rest, content)?;
+        Ok(Vec::new(self.texts.alloc()))
+    }
+
+    fn read_row(&mut self, entry: &Entry) -> Result<Vec<Row>, RowFault> {
+        if !entry.head.content.is_empty() {
+            return Err(RowFault::Line);
+        }
+        match entry.fields.as_slice() {
+            [fields @ .., table] if is(table.word, "each") => self.read_table(entry, fields, table),
+            fields => self.read_one(entry, fields),
+        }
+    }
+
+    fn read_one(&self, entry: &Entry, fields: &[Field]) -> Result<Vec<Row>, RowFault> {
+        let mut rows = Vec::new(self.texts.alloc());
+        let name = text_of(self.texts.alloc(), entry.head.rest)?;
+        rows.push(self.row_of(name, fields)?)?;
+        Ok(rows)
+    }
+
+    // A row for each line of the table, whose columns are texts with the names in its head.
+    fn read_table(
+        &mut self,
+        entry: &Entry,
+        fields: &[Field],
+        table: &Field,
+    ) -> Result<Vec<Row>, RowFault> {
+        let mut rows = Vec::new(self.texts.alloc());
+        let known = self.texts.len();
+        for line in &table.content {
+            self.name_columns(table.rest, line)?;
+            let name = name_of(self.texts.alloc(), entry.head.rest, line)?;
+            rows.push(self.row_of(name, fields)?)?;
+            self.texts.truncate(known);
+        }
+        Ok(rows)
+    }
+
+    // Names the columns of a table's line.
+    fn name_columns(&mut self, head: &[u8], line: &[u8]) -> Result<(), RowFault> {
+        let [b'|', line @ ..] = line else {
+            return Err(RowFault::Line);
+        };
+        let mut columns = line.split(|byte| *byte == b'|');
+        for name in head.split(|byte| *byte == b'|') {
+            let column = columns.next().ok_or(RowFault::Columns)?;
+            let content = self.texts.expanded(trim(column))?;
+            self.texts.define(trim(name), content)?;
+        }
+        match columns.next() {
+            Some(_) => Err(RowFault::Columns),
+            None => Ok(()),
+        }
+    }
+
+    fn row_of(&self, name: String, fields: &[Field]) -> Result<Row, RowFault> {
+        let mut draft = Draft::new(self.texts.alloc(), name);
+        for field in fields {
+            draft.take(&self.texts, field)?;
+        }
+        draft.finish()
+    }
+}
+
+// The name of the row of a table's line.
+fn name_of(alloc: Global, name: &[u8], line: &[u8]) -> Result<String, RowFault> {
+    let mut text = text_of(alloc, name)?;
+    let line = text_of(alloc, line)?;
+    text.push_str(" ")?;
+    text.push_str(line.as_str())?;
+    Ok(text)
+}

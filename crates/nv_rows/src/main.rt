@@ -1,0 +1,62 @@
+//! Runs rows, calls of the monitor that data/ tells in plain text (crates/nv_rows/data/README.md), and says which of them come out otherwise.
+#![tactic(auto)]
+
+mod run;
+mod tally;
+
+use nv_row_text::{Reader, Row, entries};
+use std::io::Print;
+use std::rt::Files;
+use std::sync::Wait;
+use std::thread::Threads;
+use std::{fs, io};
+use tally::Tally;
+
+// The files with rows, by what they are about. One may include the texts of those before it.
+const SUBJECTS: [&str; 7] = [
+    "common",
+    "calls",
+    "addresses",
+    "flags",
+    "numbers",
+    "files",
+    "scripts",
+];
+
+fn main(rt: HostRuntime) -> io::Result<()> {
+    let mut reader = Reader::new(rt.alloc());
+    let mut tally = Tally::new();
+    for subject in SUBJECTS {
+        run_subject(&rt, subject, &mut reader, &mut tally)?;
+    }
+    println!(rt; "{tally}")
+}
+
+fn run_subject<R: Files + Print + AllocGlobal + Threads + Wait + Sync>(
+    rt: &R,
+    subject: &str,
+    reader: &mut Reader,
+    tally: &mut Tally,
+) -> io::Result<()> {
+    let text = fs::read(rt, subject)?;
+    for entry in &entries(rt.alloc(), &text)? {
+        match reader.rows(entry) {
+            Ok(rows) => run_rows(rt, subject, &rows, tally)?,
+            Err(fault) => tally.tell_fault(rt, subject, entry.head.rest, fault)?,
+        }
+    }
+    Ok(())
+}
+
+fn run_rows<R: Print + AllocGlobal + Threads + Wait + Sync>(
+    rt: &R,
+    subject: &str,
+    rows: &[Row],
+    tally: &mut Tally,
+) -> io::Result<()> {
+    for row in rows {
+        let wrong = run::first_wrong(rt, rt.alloc(), row)?;
+        tally.note(rt, subject, row, wrong)?;
+    }
+    Ok(())
+}

@@ -1,0 +1,133 @@
+// The call of a row.
+use nv_outside::OpenGate;
+use nv_row_text::{Change, Kind, Row, RowFile};
+use nv_test_support::{Answered, Outside, assembled, image, monitor, monitor_through};
+use std::alloc::{AllocError, Global};
+use std::sync::Wait;
+use std::thread::Threads;
+
+/// The first answer of the row's calls that isn't what the row says.
+pub fn first_wrong<R: Threads + Wait + Sync>(
+    rt: &R,
+    alloc: Global,
+    row: &Row,
+) -> Result<Option<Answered>, AllocError> {
+    let words: Vec<&str> = row.words.iter().map(|word| word.as_str()).collect(alloc)?;
+    let contents = contents(rt, alloc, &row.files)?;
+    let mut files = Vec::new(alloc);
+    for (file, content) in row.files.iter().zip(contents.iter()) {
+        files.push((file.name.as_str(), content.as_slice()))?;
+    }
+    let answered = call(rt, alloc, row, &words, &files)?;
+    if answered.status != row.status || !row.wanted.is(&answered.written) {
+        return Ok(Some(answered));
+    }
+    if row.each_write_fails {
+        return first_wrong_write(rt, alloc, row, &words, &files, &answered.written);
+    }
+    Ok(None)
+}
+
+// The files of a row as the call finds them.
+fn contents<R: Threads + Wait + Sync>(
+    rt: &R,
+    alloc: Global,
+    files: &[RowFile],
+) -> Result<Vec<Vec<u8>>, AllocError> {
+    let mut contents = Vec::new(alloc);
+    for file in files {
+        let mut content = content(rt, alloc, file)?;
+        for change in &file.changes {
+            apply(&mut content, change);
+        }
+        contents.push(content)?;
+    }
+    Ok(contents)
+}
+
+fn content<R: Threads + Wait + Sync>(
+    rt: &R,
+    alloc: Global,
+    file: &RowFile,
+) -> Result<Vec<u8>, AllocError> {
+    match file.kind {
+        Kind::Plain => file.content.clone(),
+        Kind::Code => image(alloc, &[], &file.content),
+        Kind::Assembler => assembled(rt, alloc, &file.content),
+        Kind::Rules => filter_of(rt, alloc, &file.content),
+    }
+}
+
+// The filter of a rule text.
+fn filter_of<R: Threads + Wait + Sync>(
+    rt: &R,
+    alloc: Global,
+    text: &[u8],
+) -> Result<Vec<u8>, AllocError> {
+    let files = [("r", text)];
+    let words = ["varan", "rules", "--asm", "r"];
+    let made = monitor(rt, alloc, &words, Outside::calm(&files))?;
+    Ok(made.written)
+}
+
+fn apply(content: &mut Vec<u8>, change: &Change) {
+    match change {
+        Change::Set(place, bytes) => set_bytes(content, *place, bytes),
+        Change::Cut(len) => content.truncate(*len),
+    }
+}
+
+// Bytes that would stand after the end are left out.
+fn set_bytes(content: &mut [u8], place: usize, bytes: &[u8]) {
+    for (old, new) in content.iter_mut().skip(place).zip(bytes.iter()) {
+        *old = *new;
+    }
+}
+
+fn outside_of<'a>(row: &'a Row, files: &'a [(&'a str, &'a [u8])]) -> Outside<'a> {
+    Outside {
+        files,
+        failing_reads: &row.failing_reads,
+        most: row.takes.max(1),
+        failing_writes: &row.failing_writes,
+    }
+}
+
+fn call<R: Threads + Wait + Sync>(
+    rt: &R,
+    alloc: Global,
+    row: &Row,
+    words: &[&str],
+    files: &[(&str, &[u8])],
+) -> Result<Answered, AllocError> {
+    let outside = outside_of(row, files);
+    if row.is_once {
+        return monitor_through(rt, alloc, words, outside, &OpenGate);
+    }
+    monitor(rt, alloc, words, outside)
+}
+
+// The first answer that isn't right where a sink takes a byte a write, and fails at the write of one of these bytes.
+fn first_wrong_write<R: Threads + Wait + Sync>(
+    rt: &R,
+    alloc: Global,
+    row: &Row,
+    words: &[&str],
+    files: &[(&str, &[u8])],
+    written: &[u8],
+) -> Result<Option<Answered>, AllocError> {
+    for place in 0..written.len() {
+        let failing = [u32::try_from(place).unwrap_or(u32::MAX)];
+        let outside = Outside {
+            files,
+            failing_reads: &row.failing_reads,
+            most: 1,
+            failing_writes: &failing,
+        };
+        let answered = monitor_through(rt, alloc, words, outside, &OpenGate)?;
+        if answered.status != 6 || answered.written.as_slice() != &written[..place] {
+            return Ok(Some(answered));
+        }
+    }
+    Ok(None)
+}

@@ -1,0 +1,63 @@
+// How many rows there were, and how many of them were wrong.
+use nv_row_text::{Row, RowFault};
+use nv_test_support::Answered;
+use std::io::Print;
+use std::{fmt, io};
+
+// How many bytes of what came are told.
+const MOST_TOLD: usize = 600;
+
+#[derive(Drop)]
+pub struct Tally {
+    rows: u32,
+    wrong: u32,
+}
+
+impl Tally {
+    pub fn new() -> Self {
+        Tally { rows: 0, wrong: 0 }
+    }
+
+    /// Counts a row, and tells what came where it is another answer than the row's.
+    pub fn note(
+        &mut self,
+        rt: &(impl Print + AllocGlobal),
+        subject: &str,
+        row: &Row,
+        wrong: Option<Answered>,
+    ) -> io::Result<()> {
+        self.rows = self.rows.saturating_add(1);
+        let Some(answered) = wrong else {
+            return Ok(());
+        };
+        self.wrong = self.wrong.saturating_add(1);
+        let name = row.name.as_str();
+        let status = answered.status;
+        let written = answered.written.as_slice();
+        let told = written.get(..MOST_TOLD).unwrap_or(written);
+        let told = String::from_utf8_lossy(rt.alloc(), told)?;
+        println!(rt; "wrong: {subject}: {name}: status {status}, {told:?}")
+    }
+
+    /// Counts a row that isn't read.
+    pub fn tell_fault(
+        &mut self,
+        rt: &(impl Print + AllocGlobal),
+        subject: &str,
+        name: &[u8],
+        fault: RowFault,
+    ) -> io::Result<()> {
+        self.rows = self.rows.saturating_add(1);
+        self.wrong = self.wrong.saturating_add(1);
+        let name = String::from_utf8_lossy(rt.alloc(), name)?;
+        println!(rt; "wrong: {subject}: {name}: {fault}")
+    }
+}
+
+impl fmt::Display for Tally {
+    fn fmt<W: fmt::Write>(&self, f: &mut fmt::Formatter<W>) -> fmt::Result {
+        let rows = self.rows;
+        let wrong = self.wrong;
+        write!(f, "{rows} rows, {wrong} wrong")
+    }
+}
