@@ -1,4 +1,4 @@
-//! Worked runs of the monitor's top call.
+//! A run of the monitor's top call whose versions meet at a gate.
 #![tactic(auto)]
 
 #[cfg(test)]

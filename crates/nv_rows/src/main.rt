@@ -13,7 +13,7 @@ use std::{fs, io};
 use tally::Tally;
 
 // The files with rows, by what they are about. One may include the texts of those before it.
-const SUBJECTS: [&str; 7] = [
+const SUBJECTS: [&str; 9] = [
     "common",
     "calls",
     "addresses",
@@ -21,6 +21,8 @@ const SUBJECTS: [&str; 7] = [
     "numbers",
     "files",
     "scripts",
+    "alone",
+    "several",
 ];
 
 fn main(rt: HostRuntime) -> io::Result<()> {
