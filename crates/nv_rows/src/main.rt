@@ -13,7 +13,7 @@ use std::{fs, io};
 use tally::Tally;
 
 // The files with rows, by what they are about. One may include the texts of those before it.
-const SUBJECTS: [&str; 9] = [
+const SUBJECTS: [&str; 11] = [
     "common",
     "calls",
     "addresses",
@@ -23,6 +23,8 @@ const SUBJECTS: [&str; 9] = [
     "scripts",
     "alone",
     "several",
+    "refusals",
+    "tools",
 ];
 
 fn main(rt: HostRuntime) -> io::Result<()> {

@@ -1,5 +1,0 @@
-mod asm;
-mod causes;
-mod hostile;
-mod refusals;
-mod rules;
