@@ -13,7 +13,7 @@ use std::{fs, io};
 use tally::Tally;
 
 // The files with rows, by what they are about. One may include the texts of those before it.
-const SUBJECTS: [&str; 11] = [
+const SUBJECTS: [&str; 15] = [
     "common",
     "calls",
     "addresses",
@@ -25,6 +25,10 @@ const SUBJECTS: [&str; 11] = [
     "several",
     "refusals",
     "tools",
+    "linux",
+    "built_guests",
+    "built",
+    "atomics",
 ];
 
 fn main(rt: HostRuntime) -> io::Result<()> {

@@ -1,3 +1,0 @@
-mod atomics;
-mod guests_of_c;
-mod linux_answers;
