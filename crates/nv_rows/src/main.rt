@@ -13,7 +13,7 @@ use std::{fs, io};
 use tally::Tally;
 
 // The files with rows, by what they are about. One may include the texts of those before it.
-const SUBJECTS: [&str; 15] = [
+const SUBJECTS: [&str; 16] = [
     "common",
     "calls",
     "addresses",
@@ -29,6 +29,7 @@ const SUBJECTS: [&str; 15] = [
     "built_guests",
     "built",
     "atomics",
+    "sockets",
 ];
 
 fn main(rt: HostRuntime) -> io::Result<()> {

@@ -8,7 +8,7 @@ use std::sync::Wait;
 use std::thread::Threads;
 
 // The bytes that the sink can hold.
-const CAPACITY: usize = 1 << 20;
+const CAPACITY: usize = 1 << 22;
 
 // Options that change no byte of a report, each with its name.
 const TIMING: [(&str, &str); 3] = [
