@@ -4,10 +4,8 @@ ghost use Rattle.nv_threads.specs.Threads.{threads};
 ghost use Rattle.nv_replay.specs.Versions.{IsFresh};
 ghost use Rattle.nv_replay.specs.Accounts.{AreFresh};
 
-use nv_bpf::Filter;
 use nv_guest::Guest;
 use nv_kernel::ScriptKernel;
-use nv_outside::CalmSink;
 use nv_replay::{Account, Led, Version};
 use nv_threads::Process;
 use std::alloc::Global;
@@ -17,9 +15,6 @@ const MEMORY: u32 = 1_048_576;
 const BUDGET: u32 = 1_000;
 
 const MOST_EVENTS: u32 = 100;
-
-// what a report may have
-const MOST_BYTES: usize = 4096;
 
 // An ELF header and one program header: a loadable segment at 0x10000, which may be read and executed, with the entry there.
 const HEAD: [u8; 68] = [
@@ -63,35 +58,18 @@ fn kernel(alloc: Global) -> Option<ScriptKernel>
     ScriptKernel::make(alloc, &script).ok()
 }
 
-fn run(
-    alloc: Global,
-    versions: Vec<Version>,
-    rules: Option<&Filter>,
-    hands: &[u32],
-) -> Option<Account<ScriptKernel>>
+fn run(alloc: Global, versions: Vec<Version>) -> Option<Account<ScriptKernel>>
     requires fresh { AreFresh threads 0 versions.items }
     requires few { length versions.items ≤ 8 }
-    requires hands { length hands.now ≤ 8 }
 {
-    let hands = hands.to_vec(alloc).ok()?;
     let kernel = kernel(alloc)?;
-    Some(nv_sequence::run(versions, rules, kernel, MOST_EVENTS, &hands))
+    Some(nv_sequence::run(versions, None, kernel, MOST_EVENTS, &[]))
 }
 
 /// The account of a run of one program.
 pub fn alone(alloc: Global, words: &[u32]) -> Option<Account<ScriptKernel>> {
     let version = version(alloc, 0, words)?;
-    let versions = vec![in alloc; version].ok()?;
-    run(alloc, versions, None, &[])
-}
-
-/// The account of a run of one program that gives up the lead where the log is as long as one of these numbers.
-pub fn alone_by_turns(alloc: Global, words: &[u32], hands: &[u32]) -> Option<Account<ScriptKernel>>
-    requires { length hands.now ≤ 8 }
-{
-    let version = version(alloc, 0, words)?;
-    let versions = vec![in alloc; version].ok()?;
-    run(alloc, versions, None, hands)
+    run(alloc, vec![in alloc; version].ok()?)
 }
 
 /// The account of a program that leads, if there is no memory for its first call.
@@ -110,41 +88,7 @@ pub fn starved(alloc: Global, words: &[u32]) -> Option<Account<ScriptKernel>> {
 
 /// The account of a run of two programs without rules.
 pub fn pair(alloc: Global, first: &[u32], second: &[u32]) -> Option<Account<ScriptKernel>> {
-    pair_by_turns(alloc, first, second, None, &[])
-}
-
-/// The report of a run of two programs by a filter in the form that `tcpdump -ddd` prints.
-pub fn report(alloc: Global, first: &[u32], second: &[u32], rules: &str) -> Option<Vec<u8>> {
-    let filter = nv_bpf::read(alloc, rules.as_bytes()).ok()?;
-    report_by(alloc, first, second, &filter)
-}
-
-/// The same by a rule text.
-pub fn report_by_text(alloc: Global, first: &[u32], second: &[u32], text: &str) -> Option<Vec<u8>> {
-    let filter = nv_bpf_asm::assemble(alloc, text.as_bytes()).ok()?;
-    report_by(alloc, first, second, &filter)
-}
-
-fn report_by(alloc: Global, first: &[u32], second: &[u32], rules: &Filter) -> Option<Vec<u8>> {
-    let account = pair_by_turns(alloc, first, second, Some(rules), &[])?;
-    let mut sink = CalmSink::make(alloc, MOST_BYTES).ok()?;
-    let _put = nv_report::write(&mut sink, &account);
-    sink.written().to_vec(alloc).ok()
-}
-
-/// The account of a run of two programs by these rules, if there are any. The lead is given up where the log is as long as one of
-/// these numbers.
-pub fn pair_by_turns(
-    alloc: Global,
-    first: &[u32],
-    second: &[u32],
-    rules: Option<&Filter>,
-    hands: &[u32],
-) -> Option<Account<ScriptKernel>>
-    requires { length hands.now ≤ 8 }
-{
     let first = version(alloc, 0, first)?;
     let second = version(alloc, 1, second)?;
-    let versions = vec![in alloc; first, second].ok()?;
-    run(alloc, versions, rules, hands)
+    run(alloc, vec![in alloc; first, second].ok()?)
 }

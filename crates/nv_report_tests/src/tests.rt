@@ -163,40 +163,6 @@ fn is_account(alloc: Global, text: &str, account: &Account<ScriptKernel>) -> Opt
 }
 
 #[test]
-fn json_texts(rt: HostRuntime) -> Result<(), Fail> {
-    let cases: [(&[u32], &str); 3] = [
-        (
-            &EXIT,
-            "{\"fates\":[{\"code\":0,\"fate\":\"exited\",\"led\":[[0,1]],\"rewrites\":0,\"seen\":1}],\"log\":[{\"args\":[0,0,0,0,0,0],\"nr\":94,\"payload\":\"\",\"ret\":0,\"stamp\":0,\"tid\":100}],\"output\":\"\"}",
-        ),
-        (
-            &HELLO,
-            "{\"fates\":[{\"code\":0,\"fate\":\"exited\",\"led\":[[0,2]],\"rewrites\":0,\"seen\":2}],\"log\":[{\"args\":[1,0,3,0,0,0],\"nr\":64,\"payload\":\"68690a\",\"ret\":3,\"stamp\":0,\"tid\":100},{\"args\":[0,0,0,0,0,0],\"nr\":94,\"payload\":\"\",\"ret\":0,\"stamp\":1,\"tid\":100}],\"output\":\"68690a\"}",
-        ),
-        (
-            &[0x00002503],
-            "{\"fates\":[{\"fate\":\"fault\",\"kind\":\"load\",\"led\":[[0,0]],\"pc\":\"00010000\",\"rewrites\":0,\"seen\":0,\"tid\":100}],\"log\":[],\"output\":\"\"}",
-        ),
-    ];
-    for (words, expected) in cases {
-        let account = alone(rt.alloc(), words).expect(&rt, "a run");
-        let text = nv_report::json(rt.alloc(), &account)?;
-        assert_eq!(rt; text.as_str(), expected);
-    }
-    Ok(())
-}
-
-#[test]
-fn json_of_a_follower(rt: HostRuntime) -> Result<(), Fail> {
-    let account = pair(rt.alloc(), &EXIT, &OTHER).expect(&rt, "a run");
-    let text = nv_report::json(rt.alloc(), &account)?;
-    let expected =
-        "{\"fates\":[{\"code\":0,\"fate\":\"exited\",\"led\":[[0,1]],\"rewrites\":0,\"seen\":1},{\"fate\":\"refused\",\"led\":[],\"nr\":174,\"rewrites\":0,\"seen\":0,\"stamp\":0,\"tid\":100,\"verdict\":\"00000000\"}],\"log\":[{\"args\":[0,0,0,0,0,0],\"nr\":94,\"payload\":\"\",\"ret\":0,\"stamp\":0,\"tid\":100}],\"output\":\"\"}";
-    assert_eq!(rt; text.as_str(), expected);
-    Ok(())
-}
-
-#[test]
 fn json_reads_back(rt: HostRuntime) -> Result<(), Fail> {
     let runs: [(&[u32], &[u32]); 6] = [
         (&HELLO, &HELLO),

@@ -13,7 +13,7 @@ use std::{fs, io};
 use tally::Tally;
 
 // The files with rows, by what they are about. One may include the texts of those before it.
-const SUBJECTS: [&str; 16] = [
+const SUBJECTS: [&str; 17] = [
     "common",
     "calls",
     "addresses",
@@ -30,6 +30,7 @@ const SUBJECTS: [&str; 16] = [
     "built",
     "atomics",
     "sockets",
+    "reports",
 ];
 
 fn main(rt: HostRuntime) -> io::Result<()> {
