@@ -1,5 +1,5 @@
 #!/usr/bin/env python3
-"""Runs the guests of crates/nv_guest_tests/src/linux under Linux, and says which write something else than stands there.
+"""Runs the guests of crates/nv_rows/data/linux under Linux, and says which write something else than stands there.
 
 Needs qemu-riscv32 (Debian's package qemu-user), prlimit and, for the guest `all_files`, the right to mount a tmpfs. Build first:
 rt run in crates/varan. Then: bench/linux_answers.py [PROGRAM], PROGRAM being the program that assembles (crates/varan/out/varan).
@@ -14,20 +14,53 @@ import sys
 import tempfile
 
 TOP = pathlib.Path(__file__).resolve().parent.parent
-SOURCES = TOP / "crates/nv_guest_tests/src"
-SUPPORT = TOP / "crates/nv_test_support/src"
+ROWS = TOP / "crates/nv_rows/data"
 PAGE = 4096
 INPUT = b"hello\nyou\n"
-GUEST = re.compile(r'name: ("\w+"),\s+calls: \d+,\s+text: ("(?:[^"\\]|\\.)*"),\s+written: (b"(?:[^"\\]|\\.)*"),', re.S)
-REST = re.compile(r'TELLS_THE_RESULTS: &str = ("(?:[^"\\]|\\.)*");', re.S)
-ESCAPE = re.compile(rb"\\(x..|.)", re.S)
-PLAIN = {b"n": b"\n", b"0": b"\0"}
+MARK = re.compile(rb"\$\[([^\]]*)\]|\$x(..)|\$n")
 
 
-def literal(text):
-    """The bytes of a literal of Rust."""
-    inside = text[text.index('"') + 1 : -1].encode()
-    return ESCAPE.sub(lambda at: bytes.fromhex(at[1][1:].decode()) if len(at[1]) > 1 else PLAIN.get(at[1], at[1]), inside)
+def expanded(line, texts):
+    """The bytes of a line of text, with the marks that these rows have (crates/nv_rows/data/README.md); nothing for a column of a table."""
+    ended = line[:-1] if line.endswith(b"$") else line + b"\n"
+    return MARK.sub(lambda at: texts.get(at[1], b"") if at[1] else bytes.fromhex(at[2].decode()) if at[2] else b"\n", ended)
+
+
+def content(line, texts):
+    """The bytes of a line of content."""
+    kind, _, rest = line.partition(b" ")
+    if line.startswith(b"|"):
+        return expanded(line[1:], texts)
+    if kind == b"int":
+        return b"".join(struct.pack("<i", int(number)) for number in rest.split())
+    return bytes.fromhex(rest.decode())
+
+
+def fields(file, texts):
+    """The fields of a file of rows, each with its content; texts that it names are kept."""
+    found = []
+    for line in file.read_bytes().splitlines():
+        if line.startswith((b"|", b"int ", b"hex ")) and found[-1][0] != b"each":
+            found[-1][2] += content(line, texts)
+        elif line and not line.startswith((b"|", b"#")):
+            kind, _, name = line.partition(b" ")
+            found.append([kind, name, b""])
+        if found and found[-1][0] == b"text":
+            texts[found[-1][1]] = found[-1][2]
+    return found
+
+
+def guests_of(texts):
+    """Of each row its name, the guest's assembler text, and what the guest writes."""
+    name = text = None
+    for kind, rest, bytes_ in fields(ROWS / "linux", texts):
+        if kind == b"row":
+            name = rest
+        elif kind == b"asm":
+            text = bytes_
+        elif kind == b"begins":
+            head, _, after = bytes_.partition(b"\n")
+            yield name, text, after[: int(head.split()[1])]
 
 
 def on_pages(file):
@@ -64,12 +97,13 @@ def answers(program, name, text, room):
 
 def main():
     program = shlex.split(sys.argv[1]) if len(sys.argv) > 1 else [str(TOP / "crates/varan/out/varan")]
-    rest = literal(REST.search((SUPPORT / "guests.rt").read_text()).group(1))
-    guests = [found for file in sorted((SOURCES / "linux").glob("*.rt")) for found in GUEST.findall(file.read_text())]
+    texts = {}
+    fields(ROWS / "common", texts)
+    guests = list(guests_of(texts))
     others = 0
-    for name, text, written in (map(literal, guest) for guest in guests):
+    for name, text, written in guests:
         with tempfile.TemporaryDirectory() as room:
-            came = answers(program, name, text + rest, pathlib.Path(room))
+            came = answers(program, name, text, pathlib.Path(room))
         if came != written:
             others += 1
             print(f"{name.decode()}: {came.hex(' ', 4)}, and not {written.hex(' ', 4)}")

@@ -63,8 +63,8 @@ rehearsed service service_1 service_1 'replay exited 0 seen 18 rewrites 0'
 rehearsed service service_1 service_2 'replay fault load 100 seen 7 rewrites 0'
 rehearsed service service_1 service_3 'replay exited 0 seen 18 rewrites 0'
 
-if ! ./as_text.py | cmp - ../../crates/nv_guest_tests/src/built.rt; then
-    echo "check.sh: the tests of nv_guest_tests have other guests"
+if ! ./as_text.py | cmp - ../../crates/nv_rows/data/built_guests; then
+    echo "check.sh: the rows of nv_rows have other guests"
     wrong=$((wrong + 1))
 fi
 
