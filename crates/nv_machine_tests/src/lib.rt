@@ -1,8 +1,10 @@
-//! Tests of the guest's machine: executables, instructions, memory and steps.
+//! Tests of the guest and its machine: executables, instructions, memory, steps, threads, calls and the heap.
 #![tactic(auto)]
 
 #[cfg(test)]
 mod executables;
+#[cfg(test)]
+mod guests;
 #[cfg(test)]
 mod instructions;
 #[cfg(test)]

@@ -13,9 +13,10 @@ use std::{fs, io};
 use tally::Tally;
 
 // The files with rows, by what they are about. One may include the texts of those before it.
-const SUBJECTS: [&str; 17] = [
+const SUBJECTS: [&str; 18] = [
     "common",
     "calls",
+    "memory",
     "addresses",
     "flags",
     "numbers",
