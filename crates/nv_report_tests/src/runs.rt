@@ -63,7 +63,8 @@ fn run(alloc: Global, versions: Vec<Version>) -> Option<Account<ScriptKernel>>
     requires few { length versions.items ≤ 8 }
 {
     let kernel = kernel(alloc)?;
-    Some(nv_sequence::run(versions, None, kernel, MOST_EVENTS, &[]))
+    let hands = Vec::new(alloc);
+    Some(nv_sequence::run(versions, None, kernel, MOST_EVENTS, &hands))
 }
 
 /// The account of a run of one program.
