@@ -7,8 +7,8 @@ use Rattle.clap.specs.Walk.{Row, Text}
 use Rattle.clap.specs.Simple.{App}
 use Rattle.clap.specs.Faults.{is_simple_and_free}
 use Rattle.clap.proofs.OnLiterals.{clap_on_literals}
-use Rattle.nv_command.specs.Simple.{run_app, rules_app, asm_app, gen_app}
-use Rattle.nv_command.specs.Words.{Plan, Job, ring_of, memory_of, budget_of, calls_of, threads_of, limits_of, Name, Command as Line, rows_of_line, plan_of, rules_job_of, asm_job_of, number_in, run_line, rules_line, asm_line, gen_line, texts, asked_by, name_of, name_in, command_of}
+use Rattle.nv_command.specs.Simple.{run_app, record_app, replay_app, inspect_app, rules_app, asm_app, gen_app}
+use Rattle.nv_command.specs.Words.{Plan, Job, ring_of, memory_of, budget_of, calls_of, threads_of, limits_of, Name, Command as Line, rows_of_line, report_plan_of, plan_of, rules_job_of, asm_job_of, number_in, run_line, rules_line, asm_line, gen_line, texts, asked_by, name_of, name_in, command_of}
 use Rattle.nv_command.specs.Seen.{IsRefused}
 use Rattle.nv_command.specs.declared.asked.LineFault.{LineFault}
 use Rattle.nv_command.specs.declared.asked.LineFault.TheVariants.{Usage, Memory}
@@ -16,6 +16,18 @@ use Rattle.nv_command.specs.declared.asked.LineFault.TheVariants.{Usage, Memory}
 pub run_simple : is_simple_and_free run_app ≡ true
 unfolding clap_on_literals
 run_simple = refl
+
+pub record_simple : is_simple_and_free record_app ≡ true
+unfolding clap_on_literals
+record_simple = refl
+
+pub replay_simple : is_simple_and_free replay_app ≡ true
+unfolding clap_on_literals
+replay_simple = refl
+
+pub inspect_simple : is_simple_and_free inspect_app ≡ true
+unfolding clap_on_literals
+inspect_simple = refl
 
 pub rules_simple : is_simple_and_free rules_app ≡ true
 unfolding clap_on_literals
@@ -70,13 +82,13 @@ module _ {X : Type 0} (read : List Row → Option X) (command app : App) (words 
   no_line h = let r : rows_of_line command words ≡ None = subst (λ (a : App). rows_of_line a words ≡ None) e h in rw r refl
 
 module _ (app : App) (words : List Text) where
-  pub run_is : (rows : List Row) (plan : Option Plan) → app ≡ run_app → rows_of_line app words ≡ Some rows → plan ≡ plan_of rows → run_line words ≡ plan
+  pub run_is : (rows : List Row) (plan : Option Plan) → app ≡ run_app → rows_of_line app words ≡ Some rows → plan ≡ report_plan_of rows → run_line words ≡ plan
   unfolding run_line
-  run_is rows plan e h p = line_is plan_of run_app app words e rows plan h p
+  run_is rows plan e h p = line_is report_plan_of run_app app words e rows plan h p
 
   pub no_run : app ≡ run_app → rows_of_line app words ≡ None → run_line words ≡ None
   unfolding run_line
-  no_run e h = no_line plan_of run_app app words e h
+  no_run e h = no_line report_plan_of run_app app words e h
 
   pub rules_is : (rows : List Row) (job : Option Job) → app ≡ rules_app → rows_of_line app words ≡ Some rows → job ≡ rules_job_of rows → rules_line words ≡ job
   unfolding rules_line

@@ -2,11 +2,15 @@
 use Rattle.std.specs.Prelude.{◌≡◌, List, Option, None, map, option_map, IsSome}
 use Rattle.std.specs.Borrow.{Bor}
 use Rattle.clap.specs.Walk.{Text}
-use Rattle.nv_command.specs.Words.{Limits, Plan, Job as FileJob, Command as Line, Runs, Uses, Generates, command_of, name_in}
+use Rattle.nv_command.specs.Words.{Limits, Plan, Job as FileJob, Trail as TraceTrail, Point as TracePoint, AtStamp, AtCall, AtCount, Look as TraceLook, Command as Line, Runs, Uses, Generates, Records, Replays, Inspects, command_of, name_in}
 use Rattle.nv_command.specs.declared.limits.Limits.{Limits as Held}
 use Rattle.nv_command.specs.declared.asked.Run.{Run}
 use Rattle.nv_command.specs.declared.parts.Parts.{Parts}
 use Rattle.nv_command.specs.declared.asked.Job.{Job}
+use Rattle.nv_command.specs.declared.asked.Trail.{Trail}
+use Rattle.nv_command.specs.declared.asked.Point.{Point}
+use Rattle.nv_command.specs.declared.asked.Point.TheVariants as point
+use Rattle.nv_command.specs.declared.asked.Look.{Look}
 use Rattle.nv_command.specs.declared.asked.Command.{Command}
 use Rattle.nv_command.specs.declared.asked.Command.TheVariants as command
 use Rattle.nv_command.specs.declared.asked.LineFault.{LineFault}
@@ -32,10 +36,32 @@ parts_view parts = record { script = parts.script.now; rules = rules_view parts.
 abbrev pub job_view : Job → FileJob
 job_view job = record { tool = job.tool; file = job.file.now }
 
+abbrev pub trail_view : Trail → TraceTrail
+trail_view trail = record {
+  script = trail.script.now;
+  rules = rules_view trail.rules;
+  trace = trail.trace.now;
+  version = trail.version.now;
+  memory = trail.memory;
+  budget = trail.budget;
+  index = trail.index;
+}
+
+abbrev pub point_view : Point → TracePoint
+point_view (point.Stamp stamp) = AtStamp stamp
+point_view (point.Call number) = AtCall number
+point_view (point.Count count) = AtCount count
+
+abbrev pub look_view : Look → TraceLook
+look_view look = record { trail = trail_view look.trail; point = point_view look.point; dump = look.dump }
+
 abbrev pub command_view : Command → Line
 command_view (command.Run run) = Runs (plan_view run)
 command_view (command.Use job) = Uses (job_view job)
 command_view (command.Generate number) = Generates number
+command_view (command.Record run) = Records (plan_view run)
+command_view (command.Replay trail) = Replays (trail_view trail)
+command_view (command.Inspect look) = Inspects (look_view look)
 
 -- the words are refused; or they name a command, and memory ran out while its words were read
 abbrev pub IsRefused : LineFault → List Text → Type 0

@@ -1,5 +1,5 @@
 -- The commands, as `clap` sees them.
-use Rattle.std.specs.Prelude.{List, [], ◌∷◌, true, Some, codes}
+use Rattle.std.specs.Prelude.{List, [], ◌∷◌, ◌++◌, true, Some, codes}
 use Rattle.clap.specs.Walk.{Rule, Text}
 use Rattle.clap.specs.Simple.{App, new_rule, new_shape}
 use Rattle.clap.specs.declared.builder.action.ArgAction.TheVariants.{SetTrue, Append}
@@ -27,18 +27,53 @@ required rule = record rule { required = true }
 abbrev pub simple_app : Text → List Rule → App
 simple_app name rules = record { top = record (new_shape name) { rules = rules; disable_help_flag = true }; subs = [] }
 
-abbrev pub run_app : App
-run_app = simple_app (codes "run")
-    (required (option_rule (codes "script"))
+-- the options of a run that is reported or recorded
+abbrev pub run_options : List Rule
+run_options =
+    required (option_rule (codes "script"))
     ∷ option_rule (codes "rules")
     ∷ option_rule (codes "ring")
     ∷ option_rule (codes "memory")
     ∷ option_rule (codes "budget")
     ∷ option_rule (codes "calls")
     ∷ option_rule (codes "threads")
-    ∷ flag_rule (codes "json")
-    ∷ files_rule (codes "version")
-    ∷ [])
+    ∷ []
+
+abbrev pub run_app : App
+run_app = simple_app (codes "run") (run_options ++ (flag_rule (codes "json") ∷ files_rule (codes "version") ∷ []))
+
+abbrev pub record_app : App
+record_app = simple_app (codes "record") (run_options ++ (files_rule (codes "version") ∷ []))
+
+-- the options of a version that follows a trace
+abbrev pub trail_options : List Rule
+trail_options =
+    required (option_rule (codes "script"))
+    ∷ option_rule (codes "rules")
+    ∷ option_rule (codes "memory")
+    ∷ option_rule (codes "budget")
+    ∷ option_rule (codes "index")
+    ∷ []
+
+-- the options that say what is shown of it
+abbrev pub look_options : List Rule
+look_options =
+    option_rule (codes "stamp")
+    ∷ option_rule (codes "call")
+    ∷ option_rule (codes "count")
+    ∷ option_rule (codes "dump")
+    ∷ option_rule (codes "length")
+    ∷ []
+
+-- its files, in this order
+abbrev pub trail_files : List Rule
+trail_files = file_rule (codes "trace") ∷ file_rule (codes "version") ∷ []
+
+abbrev pub replay_app : App
+replay_app = simple_app (codes "replay") (trail_options ++ trail_files)
+
+abbrev pub inspect_app : App
+inspect_app = simple_app (codes "inspect") (trail_options ++ (look_options ++ trail_files))
 
 abbrev pub rules_app : App
 rules_app = simple_app (codes "rules") (flag_rule (codes "asm") ∷ file_rule (codes "file") ∷ [])

@@ -1,5 +1,5 @@
 -- What the words of a command line ask for: the words of each command have `clap`'s meaning of a simple command.
-use Rattle.std.specs.Prelude.{ℕ, List, [], ◌∷◌, Bool, ◌&&◌, ◌==◌, ◌%◌, false, nat_le, if◌then◌else◌, Option, None, Some, option_map, option_and_then, length, map, string_bytes, codes, String}
+use Rattle.std.specs.Prelude.{ℕ, List, [], ◌∷◌, Bool, ◌&&◌, ◌==◌, ◌+◌, ◌%◌, false, nat_le, if◌then◌else◌, Option, None, Some, option_map, option_and_then, length, map, string_bytes, codes, String}
 use Rattle.std.specs.Global.{Global}
 use Rattle.std.specs.Str.{bytes_eq}
 use Rattle.std.specs.Option.{option_map_or}
@@ -8,7 +8,7 @@ use Rattle.clap.specs.Simple.{App, matches_of}
 use Rattle.clap.specs.Kinds.{Kinds}
 use Rattle.clap.specs.Faults.{fault_of}
 use Rattle.nv_text.specs.Numbers.{number_of}
-use Rattle.nv_command.specs.Simple.{run_app, rules_app, asm_app, gen_app}
+use Rattle.nv_command.specs.Simple.{run_app, record_app, replay_app, inspect_app, rules_app, asm_app, gen_app}
 use Rattle.nv_command.specs.declared.asked.Tool.{Tool}
 use Rattle.nv_command.specs.declared.asked.Tool.TheVariants.{CheckRules, AssembleRules, Assemble}
 
@@ -25,10 +25,14 @@ unless_faulty (kind ∷ kinds) rows = None
 unfoldable pub rows_of_line : App → List Text → Option (List Row)
 rows_of_line app words = unless_faulty (fault_of app words) (matches_of app words)
 
--- the option's number, from the least to the most that it may be; the usual one where the option isn't given
+-- the number of a text, from the least to the most that it may be
+abbrev pub number_between : ℕ → ℕ → Text → Option ℕ
+number_between least most text = option_and_then (λ n. if nat_le least n && nat_le n most then Some n else None) (number_of text)
+
+-- the number of an option, from the least to the most that it may be; the usual one where the option isn't given
 abbrev pub number_within : ℕ → ℕ → ℕ → Option Text → Option ℕ
 number_within usual least most None = Some usual
-number_within usual least most (Some text) = option_and_then (λ n. if nat_le least n && nat_le n most then Some n else None) (number_of text)
+number_within usual least most (Some text) = number_between least most text
 
 -- whole pages of 4096 bytes
 abbrev pub in_pages : ℕ → Option ℕ
@@ -83,11 +87,79 @@ pub record Plan : Type 0 where
   pub limits : Limits
   pub json : Bool
 
-unfoldable pub plan_of : List Row → Option Plan
-plan_of rows =
+unfoldable pub plan_of : Bool → List Row → Option Plan
+plan_of json rows =
     option_and_then (λ script. option_and_then (λ versions. option_map (λ limits.
-    record { script = script; rules = first_of (codes "rules") rows; versions = versions; limits = limits; json = is_set (codes "json") rows })
+    record { script = script; rules = first_of (codes "rules") rows; versions = versions; limits = limits; json = json })
     (limits_of rows)) (versions_of rows)) (first_of (codes "script") rows)
+
+-- the plan of a run that is reported
+abbrev pub report_plan_of : List Row → Option Plan
+report_plan_of rows = plan_of (is_set (codes "json") rows) rows
+
+-- the index that a version has in its rules
+unfoldable pub index_of : List Row → Option ℕ
+index_of rows = number_within 1 0 7 (first_of (codes "index") rows)
+
+-- what one version is to follow: a trace of a run under this script
+pub record Trail : Type 0 where
+  pub script : List ℕ
+  pub rules : Option (List ℕ)
+  pub trace : List ℕ
+  pub version : List ℕ
+  pub memory : ℕ
+  pub budget : ℕ
+  pub index : ℕ
+
+unfoldable pub trail_of : List Row → Option Trail
+trail_of rows =
+    option_and_then (λ script. option_and_then (λ trace. option_and_then (λ version.
+    option_and_then (λ memory. option_and_then (λ budget. option_map (λ index.
+    record { script = script; rules = first_of (codes "rules") rows; trace = trace; version = version; memory = memory; budget = budget; index = index })
+    (index_of rows)) (budget_of rows)) (memory_of rows))
+    (first_of (codes "version") rows)) (first_of (codes "trace") rows)) (first_of (codes "script") rows)
+
+-- a point of a trace: before the event of this place; before the first event of this number; after so many instructions of the version
+pub data Point : Type 0 where
+  AtStamp : ℕ → Point
+  AtCall : ℕ → Point
+  AtCount : ℕ → Point
+
+-- the point of exactly one of `--stamp`, `--call` and `--count`
+abbrev pub point_from : Option Text → Option Text → Option Text → Option Point
+point_from (Some stamp) None None = option_map AtStamp (number_of stamp)
+point_from None (Some call) None = option_map AtCall (number_of call)
+point_from None None (Some count) = option_map AtCount (number_between 1 1000000000 count)
+point_from _ _ _ = None
+
+unfoldable pub point_of : List Row → Option Point
+point_of rows = point_from (first_of (codes "stamp") rows) (first_of (codes "call") rows) (first_of (codes "count") rows)
+
+-- an address and a length of 1 to 4096 bytes, whose sum is an address
+unfoldable pub range_of : Text → Text → Option (ℕ × ℕ)
+range_of address length =
+    option_and_then (λ address. option_and_then (λ length. if nat_le (address + length) 4294967295 then Some (address, length) else None)
+    (number_between 1 4096 length)) (number_of address)
+
+-- the bytes of memory that are shown, if any are: both of `--dump` and `--length`, or neither
+abbrev pub dump_from : Option Text → Option Text → Option (Option (ℕ × ℕ))
+dump_from None None = Some None
+dump_from (Some address) (Some length) = option_map Some (range_of address length)
+dump_from _ _ = None
+
+unfoldable pub dump_of : List Row → Option (Option (ℕ × ℕ))
+dump_of rows = dump_from (first_of (codes "dump") rows) (first_of (codes "length") rows)
+
+-- what is shown: the version that follows a trail, at a point, and the bytes from an address
+pub record Look : Type 0 where
+  pub trail : Trail
+  pub point : Point
+  pub dump : Option (ℕ × ℕ)
+
+unfoldable pub look_of : List Row → Option Look
+look_of rows =
+    option_and_then (λ trail. option_and_then (λ point. option_map (λ dump. record { trail = trail; point = point; dump = dump })
+    (dump_of rows)) (point_of rows)) (trail_of rows)
 
 -- a command over one file
 pub record Job : Type 0 where
@@ -103,12 +175,15 @@ asm_job_of rows = option_map (λ file. record { tool = Assemble; file = file }) 
 
 -- the number of a run that is made, 0 to 999,999
 unfoldable pub number_in : List Row → Option ℕ
-number_in rows = option_and_then (λ text. number_within 0 0 999999 (Some text)) (first_of (codes "number") rows)
+number_in rows = option_and_then (number_between 0 999999) (first_of (codes "number") rows)
 
 pub data Command : Type 0 where
   Runs : Plan → Command
   Uses : Job → Command
   Generates : (number : ℕ) → Command
+  Records : Plan → Command
+  Replays : Trail → Command
+  Inspects : Look → Command
 
 -- the names of the commands
 pub data Name : Type 0 where
@@ -116,16 +191,23 @@ pub data Name : Type 0 where
   NamesRules : Name
   NamesAsm : Name
   NamesGen : Name
+  NamesRecord : Name
+  NamesReplay : Name
+  NamesInspect : Name
 
 abbrev pub name_of : Text → Option Name
 name_of word =
     if bytes_eq word (codes "run") then Some NamesRun
     else (if bytes_eq word (codes "rules") then Some NamesRules
-    else (if bytes_eq word (codes "asm") then Some NamesAsm else (if bytes_eq word (codes "gen") then Some NamesGen else None)))
+    else (if bytes_eq word (codes "asm") then Some NamesAsm
+    else (if bytes_eq word (codes "gen") then Some NamesGen
+    else (if bytes_eq word (codes "record") then Some NamesRecord
+    else (if bytes_eq word (codes "replay") then Some NamesReplay
+    else (if bytes_eq word (codes "inspect") then Some NamesInspect else None))))))
 
 -- the words of `run`, from its name on
 unfoldable pub run_line : List Text → Option Plan
-run_line words = option_and_then plan_of (rows_of_line run_app words)
+run_line words = option_and_then report_plan_of (rows_of_line run_app words)
 
 -- the words of `rules`
 unfoldable pub rules_line : List Text → Option Job
@@ -139,12 +221,27 @@ asm_line words = option_and_then asm_job_of (rows_of_line asm_app words)
 unfoldable pub gen_line : List Text → Option ℕ
 gen_line words = option_and_then number_in (rows_of_line gen_app words)
 
+-- the words of `record`
+unfoldable pub record_line : List Text → Option Plan
+record_line words = option_and_then (plan_of false) (rows_of_line record_app words)
+
+-- the words of `replay`
+unfoldable pub replay_line : List Text → Option Trail
+replay_line words = option_and_then trail_of (rows_of_line replay_app words)
+
+-- the words of `inspect`
+unfoldable pub inspect_line : List Text → Option Look
+inspect_line words = option_and_then look_of (rows_of_line inspect_app words)
+
 -- what the words from the command's name on ask for
 abbrev pub asked_by : List Text → Name → Option Command
 asked_by words NamesRun = option_map Runs (run_line words)
 asked_by words NamesRules = option_map Uses (rules_line words)
 asked_by words NamesAsm = option_map Uses (asm_line words)
 asked_by words NamesGen = option_map Generates (gen_line words)
+asked_by words NamesRecord = option_map Records (record_line words)
+asked_by words NamesReplay = option_map Replays (replay_line words)
+asked_by words NamesInspect = option_map Inspects (inspect_line words)
 
 -- the second word names the command, the first one the program
 abbrev pub name_in : List Text → Option Name

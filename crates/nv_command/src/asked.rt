@@ -1,7 +1,9 @@
 // What a line asks for.
-ghost use Rattle.std.specs.Prelude.{◌≡◌, ◌≤◌, length};
+ghost use Rattle.std.specs.Prelude.{◌≡◌, ℕ, ◌≤◌, ◌+◌, ◌%◌, length};
+ghost use Rattle.std.specs.Option.{ForSome};
 ghost use Rattle.clap.specs.Values.{kind_of};
 ghost use Rattle.nv_command.specs.declared.asked.LineFault.TheVariants.{Memory};
+ghost use Rattle.nv_command.specs.declared.asked.Point.TheVariants.{Count};
 ghost use Rattle.nv_command.specs.Faults.{line_fault};
 
 use crate::Limits;
@@ -41,6 +43,48 @@ pub struct Job<'a> {
     pub file: &'a str,
 }
 
+/// A version that follows a trace.
+#[derive(Clone, Copy)]
+pub struct Trail<'a> {
+    /// The script of the run that was recorded.
+    pub script: &'a str,
+    /// The file of a filter that judges the version, if one is named.
+    pub rules: Option<&'a str>,
+    pub trace: &'a str,
+    pub version: &'a str,
+    /// Bytes of the guest's memory.
+    pub memory: u32,
+    /// Instructions of the version.
+    pub budget: u32,
+    /// The version's index, as the filter sees it.
+    pub index: u32,
+    ghost memory_fits: { (131072 ≤ memory) × (memory ≤ 16777216) × (memory % 4096 ≡ 0) },
+    ghost budget_fits: { (1 ≤ budget) × (budget ≤ 1000000000) },
+    ghost index_fits: { index ≤ 7 },
+}
+
+/// A point of a trace.
+#[derive(Clone, Copy, Debug, PartialEq, Eq)]
+pub enum Point {
+    /// Before the event with this place, or after the last.
+    Stamp(u32),
+    /// Before the first event of this number, or after the last.
+    Call(u32),
+    /// After so many instructions of the version, 1 to 1,000,000,000.
+    Count(u32),
+}
+
+/// What is shown of a version that follows a trace.
+#[derive(Clone, Copy)]
+pub struct Look<'a> {
+    pub trail: Trail<'a>,
+    pub point: Point,
+    /// The address and the length of the bytes of memory that are shown.
+    pub dump: Option<(u32, u32)>,
+    ghost count_fits: { (n : ℕ) → point ≡ Count n → (1 ≤ n) × (n ≤ 1000000000) },
+    ghost dump_fits: { ForSome dump (λ range. (1 ≤ range.1) × (range.1 ≤ 4096) × (range.0 + range.1 ≤ 4294967295)) },
+}
+
 /// What a line asks for.
 #[derive(Drop)]
 pub enum Command<'a> {
@@ -48,6 +92,10 @@ pub enum Command<'a> {
     Use(Job<'a>),
     /// `gen N`: the large run that is made from this number, 0 to 999,999.
     Generate(u32),
+    /// `record`: the log of the run is written as a trace, and no report.
+    Record(Run<'a>),
+    Replay(Trail<'a>),
+    Inspect(Look<'a>),
 }
 
 /// Why a line gives no command.

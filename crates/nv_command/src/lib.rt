@@ -3,11 +3,14 @@
 
 mod asked;
 mod limits;
+mod looks;
 mod matching;
+mod numbers;
 mod parts;
 mod reading;
 mod simple;
+mod trails;
 
-pub use asked::{Command, Job, LineFault, Run, Tool};
+pub use asked::{Command, Job, LineFault, Look, Point, Run, Tool, Trail};
 pub use limits::Limits;
 pub use reading::read;

@@ -1,15 +1,17 @@
 // How a line is read.
-ghost use Rattle.std.specs.Prelude.{◌≡◌, ◌≤◌, ◌%◌, None, Some, IfOk, IfErr, IfSome, IsSome, option_and_then, option_map, length};
+ghost use Rattle.std.specs.Prelude.{◌≡◌, ◌≤◌, None, Some, IfOk, IfErr, IfSome, IsSome, option_and_then, option_map, length};
 ghost use Rattle.clap.specs.Matches.{found_of};
 ghost use Rattle.clap.specs.Walk.{rows_of};
-ghost use Rattle.nv_command.specs.Words.{texts, number_within, in_pages, ring_of, memory_of, budget_of, calls_of, threads_of, limits_of, versions_of, plan_of, rules_job_of, asm_job_of, number_in, run_line, rules_line, asm_line, gen_line, asked_by, name_of, command_of};
-ghost use Rattle.nv_command.specs.Seen.{limits_view, names_view, rules_view, parts_view, plan_view, job_view, command_view, IsRefused};
+ghost use Rattle.nv_command.specs.Words.{texts, versions_of, plan_of, rules_job_of, asm_job_of, number_in, run_line, record_line, rules_line, asm_line, gen_line, asked_by, name_of, command_of};
+ghost use Rattle.nv_command.specs.Seen.{names_view, parts_view, plan_view, job_view, command_view, IsRefused};
 
 use crate::asked::{Command, Job, LineFault, Run, Tool};
-use crate::limits::Limits;
+use crate::looks::read_inspect;
 use crate::matching::{is_set, matched, text, values};
+use crate::numbers::{limits, number_between};
 use crate::parts::Parts;
-use crate::simple::{asm_command, gen_command, rules_command, run_command};
+use crate::simple::{asm_command, gen_command, record_command, rules_command, run_command};
+use crate::trails::read_replay;
 use clap::ArgMatches;
 use std::alloc::{AllocError, Global};
 
@@ -18,91 +20,6 @@ const MOST_VERSIONS: usize = 8;
 
 // The greatest number of a run that is made.
 const MOST_NUMBER: u32 = 999_999;
-
-// Bytes of a page of a guest's memory.
-const PAGE: u32 = 4096;
-
-// The number of an option, from the least to the most that it may be, or the usual one.
-fn number_within(usual: u32, least: u32, most: u32, text: Option<&str>) -> Option<u32>
-    requires usual { (least ≤ usual) × (usual ≤ most) }
-    ensures number { result ≡ number_within usual least most (option_map (λ text. text.now) text.entry) }
-    ensures range { IfSome result (λ number. (least ≤ number) × (number ≤ most)) }
-{
-    let Some(text) = text else {
-        return Some(usual);
-    };
-    let number = nv_text::number(text.as_bytes())?;
-    if least <= number && number <= most {
-        Some(number)
-    } else {
-        None
-    }
-}
-
-fn in_pages(bytes: u32) -> Option<u32>
-    ensures pages { result ≡ in_pages bytes }
-    ensures same { IfSome result (λ number. (number ≡ bytes) × (number % 4096 ≡ 0)) }
-{
-    if bytes % PAGE == 0 { Some(bytes) } else { None }
-}
-
-#[tactic(auto, unfolding(crate::specs::Words::ring_of))]
-fn ring(matches: &ArgMatches<'_>) -> Option<u32>
-    ensures number { result ≡ ring_of (rows_of (found_of matches.now)) }
-    ensures range { IfSome result (λ number. (2 ≤ number) × (number ≤ 1024)) }
-{
-    number_within(256, 2, 1024, text(matches, "ring"))
-}
-
-#[tactic(auto, unfolding(crate::specs::Words::memory_of))]
-fn memory(matches: &ArgMatches<'_>) -> Option<u32>
-    ensures number { result ≡ memory_of (rows_of (found_of matches.now)) }
-    ensures range { IfSome result (λ number. (131072 ≤ number) × (number ≤ 16777216) × (number % 4096 ≡ 0)) }
-{
-    let bytes = number_within(1_048_576, 131_072, 16_777_216, text(matches, "memory"))?;
-    in_pages(bytes)
-}
-
-#[tactic(auto, unfolding(crate::specs::Words::budget_of))]
-fn budget(matches: &ArgMatches<'_>) -> Option<u32>
-    ensures number { result ≡ budget_of (rows_of (found_of matches.now)) }
-    ensures range { IfSome result (λ number. (1 ≤ number) × (number ≤ 1000000000)) }
-{
-    number_within(10_000_000, 1, 1_000_000_000, text(matches, "budget"))
-}
-
-#[tactic(auto, unfolding(crate::specs::Words::calls_of))]
-fn calls(matches: &ArgMatches<'_>) -> Option<u32>
-    ensures number { result ≡ calls_of (rows_of (found_of matches.now)) }
-    ensures range { IfSome result (λ number. (1 ≤ number) × (number ≤ 131072)) }
-{
-    number_within(65_536, 1, 131_072, text(matches, "calls"))
-}
-
-#[tactic(auto, unfolding(crate::specs::Words::threads_of))]
-fn threads(matches: &ArgMatches<'_>) -> Option<u32>
-    ensures number { result ≡ threads_of (rows_of (found_of matches.now)) }
-    ensures range { IfSome result (λ number. (1 ≤ number) × (number ≤ 8)) }
-{
-    number_within(8, 1, 8, text(matches, "threads"))
-}
-
-fn limits(matches: &ArgMatches<'_>) -> Option<Limits>
-    ensures { option_map limits_view result ≡ limits_of (rows_of (found_of matches.now)) }
-{
-    let ring = ring(matches)?;
-    let memory = memory(matches)?;
-    let budget = budget(matches)?;
-    let calls = calls(matches)?;
-    let threads = threads(matches)?;
-    Some(Limits {
-        ring,
-        memory,
-        budget,
-        calls,
-        threads,
-    })
-}
 
 // The names of the versions, where they aren't too many.
 #[tactic(auto, unfolding(crate::specs::Words::versions_of))]
@@ -119,14 +36,13 @@ fn names<'m, 'a>(matches: &'m ArgMatches<'a>) -> Option<&'m [&'a str]>
 }
 
 #[tactic(auto, unfolding(crate::specs::Words::plan_of))]
-fn parts_of<'m, 'a>(matches: &'m ArgMatches<'a>) -> Option<Parts<'m, 'a>>
-    ensures { option_map parts_view result ≡ plan_of (rows_of (found_of matches.entry.now)) }
+fn parts_of<'m, 'a>(matches: &'m ArgMatches<'a>, json: bool) -> Option<Parts<'m, 'a>>
+    ensures { option_map parts_view result ≡ plan_of json (rows_of (found_of matches.entry.now)) }
 {
     let script = text(matches, "script")?;
     let rules = text(matches, "rules");
     let names = names(matches)?;
     let limits = limits(matches)?;
-    let json = is_set(matches, "json");
     Some(Parts {
         script,
         rules,
@@ -158,7 +74,20 @@ fn read_run<'a>(alloc: Global, words: &'a [String]) -> Result<Run<'a>, LineFault
 {
     let command = run_command(alloc)?;
     let matches = matched(command, words)?;
-    match parts_of(&matches) {
+    match parts_of(&matches, is_set(&matches, "json")) {
+        Some(parts) => kept(alloc, parts),
+        None => Err(LineFault::Usage),
+    }
+}
+
+// Reads the words of `record`.
+fn read_record<'a>(alloc: Global, words: &'a [String]) -> Result<Run<'a>, LineFault>
+    ensures plan { IfOk result (λ plan. record_line (texts words.entry.now) ≡ Some (plan_view plan)) }
+    ensures refused { IfErr result (λ fault. fault ≡ LineFault.Usage → record_line (texts words.entry.now) ≡ None) }
+{
+    let command = record_command(alloc)?;
+    let matches = matched(command, words)?;
+    match parts_of(&matches, false) {
         Some(parts) => kept(alloc, parts),
         None => Err(LineFault::Usage),
     }
@@ -218,8 +147,7 @@ fn read_asm<'a>(alloc: Global, words: &'a [String]) -> Result<Job<'a>, LineFault
 fn number(matches: &ArgMatches<'_>) -> Option<u32>
     ensures { result ≡ number_in (rows_of (found_of matches.now)) }
 {
-    let text = text(matches, "number")?;
-    number_within(0, 0, MOST_NUMBER, Some(text))
+    number_between(0, MOST_NUMBER, text(matches, "number")?)
 }
 
 // Reads the words of `gen`.
@@ -246,6 +174,9 @@ fn read_named<'a>(alloc: Global, name: &str, words: &'a [String]) -> Result<Comm
         "rules" => Ok(Command::Use(read_rules(alloc, words)?)),
         "asm" => Ok(Command::Use(read_asm(alloc, words)?)),
         "gen" => Ok(Command::Generate(read_gen(alloc, words)?)),
+        "record" => Ok(Command::Record(read_record(alloc, words)?)),
+        "replay" => Ok(Command::Replay(read_replay(alloc, words)?)),
+        "inspect" => Ok(Command::Inspect(read_inspect(alloc, words)?)),
         _ => Err(LineFault::Usage),
     }
 }

@@ -2,7 +2,7 @@
 ghost use Rattle.std.specs.Prelude.{◌≡◌, [], false, IfOk};
 ghost use Rattle.clap.specs.Walk.{rule_of};
 ghost use Rattle.clap.specs.Simple.{app_of, with_rule};
-ghost use Rattle.nv_command.specs.Simple.{option_rule, flag_rule, file_rule, files_rule, required, simple_app, run_app, rules_app, asm_app, gen_app};
+ghost use Rattle.nv_command.specs.Simple.{option_rule, flag_rule, file_rule, files_rule, required, simple_app, run_options, run_app, record_app, trail_options, replay_app, inspect_app, rules_app, asm_app, gen_app};
 
 use clap::{Arg, ArgAction, Command};
 use std::alloc::{AllocError, Global};
@@ -58,19 +58,68 @@ fn add<'a>(command: Command<'a>, argument: Arg<'a>) -> Result<Command<'a>, Alloc
     command.arg(argument)
 }
 
-/// The options and files of `run`.
-pub fn run_command<'a>(alloc: Global) -> Result<Command<'a>, AllocError>
-    ensures { IfOk result (λ command. app_of command ≡ run_app) }
+// A command of this name with the options of a run.
+fn with_run_options<'a>(alloc: Global, name: &'a str) -> Result<Command<'a>, AllocError>
+    ensures { IfOk result (λ command. app_of command ≡ simple_app name.entry.now run_options) }
 {
-    let script = add(named(alloc, "run"), needed(alloc, "script"))?;
+    let script = add(named(alloc, name), needed(alloc, "script"))?;
     let rules = add(script, option(alloc, "rules"))?;
     let ring = add(rules, option(alloc, "ring"))?;
     let memory = add(ring, option(alloc, "memory"))?;
     let budget = add(memory, option(alloc, "budget"))?;
     let calls = add(budget, option(alloc, "calls"))?;
-    let threads = add(calls, option(alloc, "threads"))?;
-    let json = add(threads, flag(alloc, "json"))?;
+    add(calls, option(alloc, "threads"))
+}
+
+/// The options and files of `run`.
+pub fn run_command<'a>(alloc: Global) -> Result<Command<'a>, AllocError>
+    ensures { IfOk result (λ command. app_of command ≡ run_app) }
+{
+    let options = with_run_options(alloc, "run")?;
+    let json = add(options, flag(alloc, "json"))?;
     add(json, files(alloc, "version"))
+}
+
+/// The options and files of `record`.
+pub fn record_command<'a>(alloc: Global) -> Result<Command<'a>, AllocError>
+    ensures { IfOk result (λ command. app_of command ≡ record_app) }
+{
+    let options = with_run_options(alloc, "record")?;
+    add(options, files(alloc, "version"))
+}
+
+// A command of this name with the options of a version that follows a trace.
+fn with_trail_options<'a>(alloc: Global, name: &'a str) -> Result<Command<'a>, AllocError>
+    ensures { IfOk result (λ command. app_of command ≡ simple_app name.entry.now trail_options) }
+{
+    let script = add(named(alloc, name), needed(alloc, "script"))?;
+    let rules = add(script, option(alloc, "rules"))?;
+    let memory = add(rules, option(alloc, "memory"))?;
+    let budget = add(memory, option(alloc, "budget"))?;
+    add(budget, option(alloc, "index"))
+}
+
+/// The options and files of `replay`.
+pub fn replay_command<'a>(alloc: Global) -> Result<Command<'a>, AllocError>
+    ensures { IfOk result (λ command. app_of command ≡ replay_app) }
+{
+    let options = with_trail_options(alloc, "replay")?;
+    let trace = add(options, file(alloc, "trace"))?;
+    add(trace, file(alloc, "version"))
+}
+
+/// The options and files of `inspect`.
+pub fn inspect_command<'a>(alloc: Global) -> Result<Command<'a>, AllocError>
+    ensures { IfOk result (λ command. app_of command ≡ inspect_app) }
+{
+    let options = with_trail_options(alloc, "inspect")?;
+    let stamp = add(options, option(alloc, "stamp"))?;
+    let call = add(stamp, option(alloc, "call"))?;
+    let count = add(call, option(alloc, "count"))?;
+    let dump = add(count, option(alloc, "dump"))?;
+    let length = add(dump, option(alloc, "length"))?;
+    let trace = add(length, file(alloc, "trace"))?;
+    add(trace, file(alloc, "version"))
 }
 
 /// The flag and the file of `rules`.

@@ -1,5 +1,5 @@
 use Rattle.nv_command.proofs.Lines.{no_ring, no_memory, no_budget, no_calls, no_threads, all_limits}
-use Rattle.nv_command.proofs.reading.limits.Goals as goal
+use Rattle.nv_command.proofs.numbers.limits.Goals as goal
 
 pub returns-in_err-ring : goal.returns-in_err-ring
 returns-in_err-ring c = rw c.from_residual.ensures (no_ring _ c.in_err-ring.ensures.number)

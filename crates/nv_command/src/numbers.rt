@@ -1,0 +1,115 @@
+// The numbers of the options.
+ghost use Rattle.std.specs.Prelude.{◌≡◌, ◌≤◌, ◌%◌, IfSome, option_map};
+ghost use Rattle.clap.specs.Matches.{found_of};
+ghost use Rattle.clap.specs.Walk.{rows_of};
+ghost use Rattle.nv_command.specs.Words.{number_between, number_within, in_pages, ring_of, memory_of, budget_of, calls_of, threads_of, limits_of, index_of};
+ghost use Rattle.nv_command.specs.Seen.{limits_view};
+
+use crate::limits::Limits;
+use crate::matching::text;
+use clap::ArgMatches;
+
+// Bytes of a page of a guest's memory.
+const PAGE: u32 = 4096;
+
+/// The number of a text, from the least to the most that it may be.
+pub fn number_between(least: u32, most: u32, text: &str) -> Option<u32>
+    ensures number { result ≡ number_between least most text.now }
+    ensures range { IfSome result (λ number. (least ≤ number) × (number ≤ most)) }
+{
+    let number = nv_text::number(text.as_bytes())?;
+    if least <= number && number <= most {
+        Some(number)
+    } else {
+        None
+    }
+}
+
+// The number of an option, from the least to the most that it may be, or the usual one.
+fn number_within(usual: u32, least: u32, most: u32, text: Option<&str>) -> Option<u32>
+    requires usual { (least ≤ usual) × (usual ≤ most) }
+    ensures number { result ≡ number_within usual least most (option_map (λ text. text.now) text.entry) }
+    ensures range { IfSome result (λ number. (least ≤ number) × (number ≤ most)) }
+{
+    match text {
+        Some(text) => number_between(least, most, text),
+        None => Some(usual),
+    }
+}
+
+fn in_pages(bytes: u32) -> Option<u32>
+    ensures pages { result ≡ in_pages bytes }
+    ensures same { IfSome result (λ number. (number ≡ bytes) × (number % 4096 ≡ 0)) }
+{
+    if bytes % PAGE == 0 { Some(bytes) } else { None }
+}
+
+#[tactic(auto, unfolding(crate::specs::Words::ring_of))]
+fn ring(matches: &ArgMatches<'_>) -> Option<u32>
+    ensures number { result ≡ ring_of (rows_of (found_of matches.now)) }
+    ensures range { IfSome result (λ number. (2 ≤ number) × (number ≤ 1024)) }
+{
+    number_within(256, 2, 1024, text(matches, "ring"))
+}
+
+/// Bytes of a guest's memory, in whole pages.
+#[tactic(auto, unfolding(crate::specs::Words::memory_of))]
+pub fn memory(matches: &ArgMatches<'_>) -> Option<u32>
+    ensures number { result ≡ memory_of (rows_of (found_of matches.now)) }
+    ensures range { IfSome result (λ number. (131072 ≤ number) × (number ≤ 16777216) × (number % 4096 ≡ 0)) }
+{
+    let bytes = number_within(1_048_576, 131_072, 16_777_216, text(matches, "memory"))?;
+    in_pages(bytes)
+}
+
+/// Instructions of a version.
+#[tactic(auto, unfolding(crate::specs::Words::budget_of))]
+pub fn budget(matches: &ArgMatches<'_>) -> Option<u32>
+    ensures number { result ≡ budget_of (rows_of (found_of matches.now)) }
+    ensures range { IfSome result (λ number. (1 ≤ number) × (number ≤ 1000000000)) }
+{
+    number_within(10_000_000, 1, 1_000_000_000, text(matches, "budget"))
+}
+
+#[tactic(auto, unfolding(crate::specs::Words::calls_of))]
+fn calls(matches: &ArgMatches<'_>) -> Option<u32>
+    ensures number { result ≡ calls_of (rows_of (found_of matches.now)) }
+    ensures range { IfSome result (λ number. (1 ≤ number) × (number ≤ 131072)) }
+{
+    number_within(65_536, 1, 131_072, text(matches, "calls"))
+}
+
+#[tactic(auto, unfolding(crate::specs::Words::threads_of))]
+fn threads(matches: &ArgMatches<'_>) -> Option<u32>
+    ensures number { result ≡ threads_of (rows_of (found_of matches.now)) }
+    ensures range { IfSome result (λ number. (1 ≤ number) × (number ≤ 8)) }
+{
+    number_within(8, 1, 8, text(matches, "threads"))
+}
+
+/// The limits of a run.
+pub fn limits(matches: &ArgMatches<'_>) -> Option<Limits>
+    ensures { option_map limits_view result ≡ limits_of (rows_of (found_of matches.now)) }
+{
+    let ring = ring(matches)?;
+    let memory = memory(matches)?;
+    let budget = budget(matches)?;
+    let calls = calls(matches)?;
+    let threads = threads(matches)?;
+    Some(Limits {
+        ring,
+        memory,
+        budget,
+        calls,
+        threads,
+    })
+}
+
+/// The index that a version has in its rules.
+#[tactic(auto, unfolding(crate::specs::Words::index_of))]
+pub fn index(matches: &ArgMatches<'_>) -> Option<u32>
+    ensures number { result ≡ index_of (rows_of (found_of matches.now)) }
+    ensures range { IfSome result (λ number. number ≤ 7) }
+{
+    number_within(1, 0, 7, text(matches, "index"))
+}
