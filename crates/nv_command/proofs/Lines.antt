@@ -1,45 +1,14 @@
 -- What a line asks for, from what its parts are.
-use Rattle.std.proofs.Common.{◌≡◌, ◌<◌, ◌≤◌, ◌-◌, refl, sym, ap, ap₂, ◌∙◌, subst, arith, ℕ, List, [], ◌∷◌, length, take, drop, Option, None, Some, true, option_and_then, string_bytes, String, Global, Result, Ok, Err}
+use Rattle.std.proofs.Common.{◌≡◌, ◌<◌, ◌≤◌, ◌-◌, refl, sym, ap, ap₂, ◌∙◌, subst, arith, ℕ, List, [], ◌∷◌, length, take, drop, Option, None, Some, option_and_then, string_bytes, String, Global, Result, Ok, Err}
 use Rattle.std.specs.Prelude.{IfErr, IsSome, slice_index_or}
 use Rattle.std.specs.Result.{IsErrAnd}
 use Rattle.std.proofs.Math.Seq.{take-length}
 use Rattle.clap.specs.Walk.{Row, Text}
 use Rattle.clap.specs.Simple.{App}
-use Rattle.clap.specs.Faults.{is_simple_and_free}
-use Rattle.clap.proofs.OnLiterals.{clap_on_literals}
-use Rattle.nv_command.specs.Simple.{run_app, record_app, replay_app, inspect_app, rules_app, asm_app, gen_app}
-use Rattle.nv_command.specs.Words.{Plan, Job, ring_of, memory_of, budget_of, calls_of, threads_of, limits_of, Name, Command as Line, rows_of_line, report_plan_of, plan_of, rules_job_of, asm_job_of, number_in, run_line, rules_line, asm_line, gen_line, texts, asked_by, name_of, name_in, command_of}
+use Rattle.nv_command.specs.Words.{ring_of, memory_of, budget_of, calls_of, threads_of, limits_of, Name, Command as Line, rows_of_line, texts, asked_by, name_of, name_in, command_of}
 use Rattle.nv_command.specs.Seen.{IsRefused}
 use Rattle.nv_command.specs.declared.asked.LineFault.{LineFault}
 use Rattle.nv_command.specs.declared.asked.LineFault.TheVariants.{Usage, Memory}
-
-pub run_simple : is_simple_and_free run_app ≡ true
-unfolding clap_on_literals
-run_simple = refl
-
-pub record_simple : is_simple_and_free record_app ≡ true
-unfolding clap_on_literals
-record_simple = refl
-
-pub replay_simple : is_simple_and_free replay_app ≡ true
-unfolding clap_on_literals
-replay_simple = refl
-
-pub inspect_simple : is_simple_and_free inspect_app ≡ true
-unfolding clap_on_literals
-inspect_simple = refl
-
-pub rules_simple : is_simple_and_free rules_app ≡ true
-unfolding clap_on_literals
-rules_simple = refl
-
-pub asm_simple : is_simple_and_free asm_app ≡ true
-unfolding clap_on_literals
-asm_simple = refl
-
-pub gen_simple : is_simple_and_free gen_app ≡ true
-unfolding clap_on_literals
-gen_simple = refl
 
 module _ (rows : List Row) where
   pub no_ring : None ≡ ring_of rows → None ≡ limits_of rows
@@ -73,46 +42,13 @@ module _ (rows : List Row) where
 
 -- what a line is read as, from what `clap` matches of it
 module _ {X : Type 0} (read : List Row → Option X) (command app : App) (words : List Text) (e : app ≡ command) where
-  line_is : (rows : List Row) (x : Option X) → rows_of_line app words ≡ Some rows → x ≡ read rows → option_and_then read (rows_of_line command words) ≡ x
+  pub line_is : (rows : List Row) (x : Option X) → rows_of_line app words ≡ Some rows → x ≡ read rows → option_and_then read (rows_of_line command words) ≡ x
   line_is rows x h p =
       let r : rows_of_line command words ≡ Some rows = subst (λ (a : App). rows_of_line a words ≡ Some rows) e h in
       rw r (sym p)
 
-  no_line : rows_of_line app words ≡ None → option_and_then read (rows_of_line command words) ≡ None
+  pub no_line : rows_of_line app words ≡ None → option_and_then read (rows_of_line command words) ≡ None
   no_line h = let r : rows_of_line command words ≡ None = subst (λ (a : App). rows_of_line a words ≡ None) e h in rw r refl
-
-module _ (app : App) (words : List Text) where
-  pub run_is : (rows : List Row) (plan : Option Plan) → app ≡ run_app → rows_of_line app words ≡ Some rows → plan ≡ report_plan_of rows → run_line words ≡ plan
-  unfolding run_line
-  run_is rows plan e h p = line_is report_plan_of run_app app words e rows plan h p
-
-  pub no_run : app ≡ run_app → rows_of_line app words ≡ None → run_line words ≡ None
-  unfolding run_line
-  no_run e h = no_line report_plan_of run_app app words e h
-
-  pub rules_is : (rows : List Row) (job : Option Job) → app ≡ rules_app → rows_of_line app words ≡ Some rows → job ≡ rules_job_of rows → rules_line words ≡ job
-  unfolding rules_line
-  rules_is rows job e h p = line_is rules_job_of rules_app app words e rows job h p
-
-  pub no_rules : app ≡ rules_app → rows_of_line app words ≡ None → rules_line words ≡ None
-  unfolding rules_line
-  no_rules e h = no_line rules_job_of rules_app app words e h
-
-  pub asm_is : (rows : List Row) (job : Option Job) → app ≡ asm_app → rows_of_line app words ≡ Some rows → job ≡ asm_job_of rows → asm_line words ≡ job
-  unfolding asm_line
-  asm_is rows job e h p = line_is asm_job_of asm_app app words e rows job h p
-
-  pub no_asm : app ≡ asm_app → rows_of_line app words ≡ None → asm_line words ≡ None
-  unfolding asm_line
-  no_asm e h = no_line asm_job_of asm_app app words e h
-
-  pub gen_is : (rows : List Row) (number : Option ℕ) → app ≡ gen_app → rows_of_line app words ≡ Some rows → number ≡ number_in rows → gen_line words ≡ number
-  unfolding gen_line
-  gen_is rows number e h p = line_is number_in gen_app app words e rows number h p
-
-  pub no_gen : app ≡ gen_app → rows_of_line app words ≡ None → gen_line words ≡ None
-  unfolding gen_line
-  no_gen e h = no_line number_in gen_app app words e h
 
 -- what holds of each error that `?` may hand on
 pub error_by : {T E : Type 0} (r : Result T E) (P Q : E → Type 0) → ((e : E) → P e → Q e) → IsErrAnd r P → IfErr r Q

@@ -5,7 +5,7 @@ use Rattle.std.proofs.lemmas.Bool.Decides.{nat_tests}
 use Rattle.clap.specs.Walk.{Row, Text, first_of}
 use Rattle.nv_text.specs.Numbers.{number_of}
 use Rattle.nv_command.specs.Simple.{gen_app}
-use Rattle.nv_command.specs.Words.{Name, NamesRun, NamesRules, NamesAsm, NamesGen, Plan, Job, Runs, Uses, Generates, number_within, number_in, rows_of_line, run_line, rules_line, asm_line, gen_line, asked_by, after_program, command_of, name_in}
+use Rattle.nv_command.specs.Words.{Name, NamesRun, NamesRules, NamesAsm, NamesGen, NamesRecord, NamesReplay, NamesInspect, Plan, Job, Trail, Look, Runs, Uses, Generates, Records, Replays, Inspects, number_between, number_in, rows_of_line, run_line, rules_line, asm_line, gen_line, record_line, replay_line, inspect_line, asked_by, after_program, command_of, name_in}
 
 kept_within : (k n : ℕ) (b : Bool) → (b ≡ true → k ≤ 999999) → cond b (Some k) None ≡ Some n → n ≤ 999999
 kept_within k n true within h = let e : k ≡ n = cc in let le : k ≤ 999999 = within refl in omega arith
@@ -18,7 +18,7 @@ read_within : (number : Option ℕ) (n : ℕ) → option_and_then (λ (x : ℕ).
 read_within None n h = cc
 read_within (Some k) n h = kept_within k n (nat_le 0 k && nat_le k 999999) (six_digits k) h
 
-text_within : (text : Option Text) (n : ℕ) → option_and_then (λ t. number_within 0 0 999999 (Some t)) text ≡ Some n → n ≤ 999999
+text_within : (text : Option Text) (n : ℕ) → option_and_then (number_between 0 999999) text ≡ Some n → n ≤ 999999
 text_within None n h = cc
 text_within (Some t) n h = read_within (number_of t) n h
 
@@ -39,6 +39,18 @@ uses_none : (job : Option Job) (n : ℕ) → option_map Uses job ≡ Some (Gener
 uses_none None n h = cc
 uses_none (Some job) n h = cc
 
+records_none : (plan : Option Plan) (n : ℕ) → option_map Records plan ≡ Some (Generates n) → ⊥
+records_none None n h = cc
+records_none (Some plan) n h = cc
+
+replays_none : (trail : Option Trail) (n : ℕ) → option_map Replays trail ≡ Some (Generates n) → ⊥
+replays_none None n h = cc
+replays_none (Some trail) n h = cc
+
+inspects_none : (look : Option Look) (n : ℕ) → option_map Inspects look ≡ Some (Generates n) → ⊥
+inspects_none None n h = cc
+inspects_none (Some look) n h = cc
+
 same_number : (number : Option ℕ) (n : ℕ) → option_map Generates number ≡ Some (Generates n) → number ≡ Some n
 same_number None n h = cc
 same_number (Some k) n h = cc
@@ -49,6 +61,9 @@ named_within words (Some NamesRun) n h = absurd (runs_none (run_line words) n h)
 named_within words (Some NamesRules) n h = absurd (uses_none (rules_line words) n h)
 named_within words (Some NamesAsm) n h = absurd (uses_none (asm_line words) n h)
 named_within words (Some NamesGen) n h = line_within words n (same_number (gen_line words) n h)
+named_within words (Some NamesRecord) n h = absurd (records_none (record_line words) n h)
+named_within words (Some NamesReplay) n h = absurd (replays_none (replay_line words) n h)
+named_within words (Some NamesInspect) n h = absurd (inspects_none (inspect_line words) n h)
 
 -- a number that is asked for has at most six digits
 pub generated_within : (words : List Text) (n : ℕ) → command_of words ≡ Some (Generates n) → n ≤ 999999
