@@ -1,4 +1,4 @@
-use nv_command::{Command, Limits, LineFault, Tool, read};
+use nv_command::{Command, Limits, LineFault, Point, Tool, Trail, read};
 use std::alloc::{AllocError, Global};
 use std::test::Fail;
 
@@ -382,6 +382,392 @@ fn numbers_of_made_runs(rt: HostRuntime) -> Result<(), Fail> {
     ];
     for words in refused {
         assert!(rt; is_usage(rt.alloc(), words)?);
+    }
+    Ok(())
+}
+
+// Whether the words ask for a run of this script and of these versions that is recorded.
+fn is_recording(
+    alloc: Global,
+    words: &[&str],
+    script: &str,
+    versions: &[&str],
+) -> Result<bool, AllocError> {
+    let words = words_of(alloc, words)?;
+    match read(alloc, &words) {
+        Ok(Command::Record(run)) => {
+            Ok(run.script == script && are(&run.versions, versions) && !run.json)
+        }
+        _ => Ok(false),
+    }
+}
+
+#[test]
+fn recorded_runs(rt: HostRuntime) -> Result<(), Fail> {
+    let accepted: [(&[&str], &str, &[&str]); 4] = [
+        (&["varan", "record", "--script", "s", "v"], "s", &["v"]),
+        (
+            &[
+                "varan",
+                "record",
+                "v",
+                "--script=s",
+                "--rules",
+                "r",
+                "--ring",
+                "2",
+                "--memory",
+                "131072",
+                "--budget",
+                "1",
+                "--calls",
+                "1",
+                "--threads",
+                "1",
+                "w",
+            ],
+            "s",
+            &["v", "w"],
+        ),
+        (
+            &["varan", "record", "--script", "s", "--", "--json"],
+            "s",
+            &["--json"],
+        ),
+        (
+            &["varan", "record", "--script", "run", "record"],
+            "run",
+            &["record"],
+        ),
+    ];
+    for (words, script, versions) in accepted {
+        assert!(rt; is_recording(rt.alloc(), words, script, versions)?);
+    }
+    let refused: [&[&str]; 8] = [
+        &["varan", "record"],
+        &["varan", "record", "v"],
+        &["varan", "record", "--script", "s"],
+        &["varan", "record", "--script", "s", "--json", "v"],
+        &["varan", "record", "--script", "s", "--index", "1", "v"],
+        &["varan", "record", "--script", "s", "--ring", "1", "v"],
+        &["varan", "Record", "--script", "s", "v"],
+        &[
+            "varan", "record", "--script", "s", "1", "2", "3", "4", "5", "6", "7", "8", "9",
+        ],
+    ];
+    for words in refused {
+        assert!(rt; is_usage(rt.alloc(), words)?);
+    }
+    Ok(())
+}
+
+#[test]
+fn options_of_recorded_runs(rt: HostRuntime) -> Result<(), Fail> {
+    let words = words_of(
+        rt.alloc(),
+        &[
+            "varan",
+            "record",
+            "--script",
+            "s",
+            "--rules",
+            "r",
+            "--ring",
+            "4",
+            "--memory=135168",
+            "--budget",
+            "5",
+            "--calls",
+            "6",
+            "--threads",
+            "7",
+            "v",
+        ],
+    )?;
+    let Ok(Command::Record(run)) = read(rt.alloc(), &words) else {
+        panic!(rt; "refused");
+    };
+    assert_eq!(rt; run.rules, Some("r"));
+    assert_eq!(rt; run.limits.ring, 4);
+    assert_eq!(rt; run.limits.memory, 135_168);
+    assert_eq!(rt; run.limits.budget, 5);
+    assert_eq!(rt; run.limits.calls, 6);
+    assert_eq!(rt; run.limits.threads, 7);
+    Ok(())
+}
+
+fn are_same(trail: &Trail<'_>, expected: &Trail<'_>) -> bool {
+    trail.script == expected.script
+        && trail.rules == expected.rules
+        && trail.trace == expected.trace
+        && trail.version == expected.version
+        && trail.memory == expected.memory
+        && trail.budget == expected.budget
+        && trail.index == expected.index
+}
+
+fn is_replay(alloc: Global, words: &[&str], expected: &Trail<'_>) -> Result<bool, AllocError> {
+    let words = words_of(alloc, words)?;
+    match read(alloc, &words) {
+        Ok(Command::Replay(trail)) => Ok(are_same(&trail, expected)),
+        _ => Ok(false),
+    }
+}
+
+#[test]
+fn replayed_traces(rt: HostRuntime) -> Result<(), Fail> {
+    let usual = Trail {
+        script: "s",
+        rules: None,
+        trace: "t",
+        version: "v",
+        memory: 1_048_576,
+        budget: 10_000_000,
+        index: 1,
+    };
+    assert!(rt;
+        is_replay(
+            rt.alloc(),
+            &["varan", "replay", "--script", "s", "t", "v"],
+            &usual
+        )?
+    );
+    assert!(rt;
+        is_replay(
+            rt.alloc(),
+            &["varan", "replay", "t", "--script=s", "v"],
+            &usual
+        )?
+    );
+    let full = Trail {
+        script: "a",
+        rules: Some("b"),
+        trace: "-t",
+        version: "--index",
+        memory: 131_072,
+        budget: 1,
+        index: 7,
+    };
+    let words = [
+        "varan",
+        "replay",
+        "--index=7",
+        "--rules",
+        "b",
+        "--memory",
+        "131072",
+        "--script",
+        "a",
+        "--budget",
+        "1",
+        "--",
+        "-t",
+        "--index",
+    ];
+    assert!(rt; is_replay(rt.alloc(), &words, &full)?);
+    Ok(())
+}
+
+// The index of a version that is replayed with this word.
+fn index_of(alloc: Global, text: &str) -> Result<Option<u32>, AllocError> {
+    let words = words_of(
+        alloc,
+        &[
+            "varan", "replay", "--script", "s", "--index", text, "t", "v",
+        ],
+    )?;
+    match read(alloc, &words) {
+        Ok(Command::Replay(trail)) => Ok(Some(trail.index)),
+        _ => Ok(None),
+    }
+}
+
+#[test]
+fn indexes(rt: HostRuntime) -> Result<(), Fail> {
+    for (text, index) in [("0", 0), ("1", 1), ("7", 7), ("007", 7)] {
+        assert_eq!(rt; index_of(rt.alloc(), text)?.expect(&rt, text), index);
+    }
+    for text in ["8", "", "-1", "one", "4294967296", "4294967297"] {
+        assert!(rt; index_of(rt.alloc(), text)?.is_none());
+    }
+    Ok(())
+}
+
+#[test]
+fn refused_replays(rt: HostRuntime) -> Result<(), Fail> {
+    let lines: [&[&str]; 16] = [
+        &["varan", "replay"],
+        &["varan", "replay", "t", "v"],
+        &["varan", "replay", "--script", "s"],
+        &["varan", "replay", "--script", "s", "t"],
+        &["varan", "replay", "--script", "s", "t", "v", "w"],
+        &[
+            "varan", "replay", "--script", "s", "--script", "s", "t", "v",
+        ],
+        &["varan", "replay", "--script", "s", "--json", "t", "v"],
+        &["varan", "replay", "--script", "s", "--ring", "2", "t", "v"],
+        &["varan", "replay", "--script", "s", "--calls", "1", "t", "v"],
+        &[
+            "varan",
+            "replay",
+            "--script",
+            "s",
+            "--threads",
+            "1",
+            "t",
+            "v",
+        ],
+        &["varan", "replay", "--script", "s", "--stamp", "1", "t", "v"],
+        &[
+            "varan", "replay", "--script", "s", "--index", "1", "--index", "1", "t", "v",
+        ],
+        &["varan", "replay", "--script", "s", "t", "v", "--index"],
+        &[
+            "varan", "replay", "--script", "s", "--memory", "131073", "t", "v",
+        ],
+        &[
+            "varan", "replay", "--script", "s", "--budget", "0", "t", "v",
+        ],
+        &["varan", "replay", "--script", "s", "--trace", "t", "v"],
+    ];
+    for words in lines {
+        assert!(rt; is_usage(rt.alloc(), words)?);
+    }
+    Ok(())
+}
+
+// What `inspect` is asked for with these options more.
+fn look_with(
+    alloc: Global,
+    options: &[&str],
+) -> Result<Option<(Point, Option<(u32, u32)>)>, AllocError> {
+    let mut words = words_of(alloc, &["varan", "inspect", "--script", "s", "t", "v"])?;
+    for option in options {
+        words.push(String::from_str(alloc, option)?)?;
+    }
+    match read(alloc, &words) {
+        Ok(Command::Inspect(look)) => Ok(Some((look.point, look.dump))),
+        _ => Ok(None),
+    }
+}
+
+#[test]
+fn trails_of_looks(rt: HostRuntime) -> Result<(), Fail> {
+    let expected = Trail {
+        script: "s",
+        rules: Some("r"),
+        trace: "t",
+        version: "v",
+        memory: 131_072,
+        budget: 3,
+        index: 0,
+    };
+    let words = words_of(
+        rt.alloc(),
+        &[
+            "varan",
+            "inspect",
+            "t",
+            "--count",
+            "4",
+            "--rules=r",
+            "--budget",
+            "3",
+            "v",
+            "--index",
+            "0",
+            "--memory",
+            "131072",
+            "--script",
+            "s",
+        ],
+    )?;
+    let Ok(Command::Inspect(look)) = read(rt.alloc(), &words) else {
+        panic!(rt; "refused");
+    };
+    assert!(rt; are_same(&look.trail, &expected));
+    assert_eq!(rt; look.point, Point::Count(4));
+    assert!(rt; look.dump.is_none());
+    Ok(())
+}
+
+#[test]
+fn points(rt: HostRuntime) -> Result<(), Fail> {
+    let accepted: [(&[&str], Point); 9] = [
+        (&["--stamp", "0"], Point::Stamp(0)),
+        (&["--stamp=007"], Point::Stamp(7)),
+        (&["--stamp", "4294967295"], Point::Stamp(4_294_967_295)),
+        (&["--call", "0"], Point::Call(0)),
+        (&["--call", "64"], Point::Call(64)),
+        (&["--call", "4294967295"], Point::Call(4_294_967_295)),
+        (&["--count", "1"], Point::Count(1)),
+        (&["--count", "1000000000"], Point::Count(1_000_000_000)),
+        (&["--budget", "1", "--count", "2"], Point::Count(2)),
+    ];
+    for (options, expected) in accepted {
+        let (point, dump) = look_with(rt.alloc(), options)?.expect(&rt, "refused");
+        assert_eq!(rt; point, expected);
+        assert!(rt; dump.is_none());
+    }
+    let refused: [&[&str]; 15] = [
+        &[],
+        &["--stamp", "1", "--call", "1"],
+        &["--stamp", "1", "--count", "1"],
+        &["--call", "1", "--count", "1"],
+        &["--stamp", "1", "--call", "1", "--count", "1"],
+        &["--stamp", "1", "--stamp", "1"],
+        &["--stamp"],
+        &["--stamp="],
+        &["--stamp", "-1"],
+        &["--stamp", "4294967296"],
+        &["--call", "4294967296"],
+        &["--call", "write"],
+        &["--count", "0"],
+        &["--count", "1000000001"],
+        &["--stamp", "1", "--json"],
+    ];
+    for options in refused {
+        assert!(rt; look_with(rt.alloc(), options)?.is_none());
+    }
+    Ok(())
+}
+
+#[test]
+fn dumps(rt: HostRuntime) -> Result<(), Fail> {
+    let accepted = [
+        ("65572", "4", 65_572, 4),
+        ("0", "1", 0, 1),
+        ("0", "4096", 0, 4096),
+        ("4294963199", "4096", 4_294_963_199, 4096),
+        ("4294967294", "1", 4_294_967_294, 1),
+    ];
+    for (address, length, from, bytes) in accepted {
+        let options = ["--length", length, "--stamp", "2", "--dump", address];
+        let (point, dump) = look_with(rt.alloc(), &options)?.expect(&rt, "refused");
+        assert_eq!(rt; point, Point::Stamp(2));
+        let (first, count) = dump.expect(&rt, "no bytes");
+        assert_eq!(rt; first, from);
+        assert_eq!(rt; count, bytes);
+    }
+    let refused: [&[&str]; 12] = [
+        &["--dump", "0"],
+        &["--length", "1"],
+        &["--dump", "0", "--length", "0"],
+        &["--dump", "0", "--length", "4097"],
+        &["--dump", "4294967295", "--length", "1"],
+        &["--dump", "4294967294", "--length", "2"],
+        &["--dump", "4294963200", "--length", "4096"],
+        &["--dump", "4294967296", "--length", "1"],
+        &["--dump", "0x10", "--length", "1"],
+        &["--dump", "", "--length", "1"],
+        &["--dump", "0", "--length", "1", "--length", "1"],
+        &["--dump", "0", "1"],
+    ];
+    for options in refused {
+        let mut line = options.to_vec(rt.alloc())?;
+        line.push("--stamp")?;
+        line.push("0")?;
+        assert!(rt; look_with(rt.alloc(), &line)?.is_none());
     }
     Ok(())
 }
