@@ -1,0 +1,10 @@
+use Rattle.std.proofs.Common.{codes}
+use Rattle.std.proofs.lemmas.Result.{IfOk-weaker}
+use Rattle.nv_command.specs.Simple.{file_rule}
+use Rattle.nv_command.proofs.Apps.{grown}
+use Rattle.nv_command.proofs.simple.rules_command.Goals as goal
+
+pub returns : goal.returns
+returns c =
+    let asm = grown _ _ _ _ _ c.in_ok-asm.ensures c.named.ensures c.flag.ensures.rule in
+    IfOk-weaker c.add-2.result _ _ (λ more h. grown _ _ _ _ (file_rule (codes "file")) h asm c.file.ensures.rule) c.add-2.ensures
