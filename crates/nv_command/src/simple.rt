@@ -1,8 +1,8 @@
 // The commands of `clap`.
-ghost use Rattle.std.specs.Prelude.{◌≡◌, [], false, IfOk};
+ghost use Rattle.std.specs.Prelude.{◌≡◌, [], ◌∷◌, ◌++◌, false, IfOk, codes};
 ghost use Rattle.clap.specs.Walk.{rule_of};
 ghost use Rattle.clap.specs.Simple.{app_of, with_rule};
-ghost use Rattle.nv_command.specs.Simple.{option_rule, flag_rule, file_rule, files_rule, required, simple_app, run_options, run_app, record_app, trail_options, replay_app, inspect_app, rules_app, asm_app, gen_app};
+ghost use Rattle.nv_command.specs.Simple.{option_rule, flag_rule, file_rule, files_rule, required, simple_app, run_options, run_app, record_app, trail_options, look_options, replay_app, inspect_app, rules_app, asm_app, gen_app};
 
 use clap::{Arg, ArgAction, Command};
 use std::alloc::{AllocError, Global};
@@ -58,13 +58,20 @@ fn add<'a>(command: Command<'a>, argument: Arg<'a>) -> Result<Command<'a>, Alloc
     command.arg(argument)
 }
 
+// A command of this name with a script and rules.
+fn with_script<'a>(alloc: Global, name: &'a str) -> Result<Command<'a>, AllocError>
+    ensures { IfOk result (λ command. app_of command ≡ simple_app name.entry.now (required (option_rule (codes "script")) ∷ option_rule (codes "rules") ∷ [])) }
+{
+    let script = add(named(alloc, name), needed(alloc, "script"))?;
+    add(script, option(alloc, "rules"))
+}
+
 // A command of this name with the options of a run.
 fn with_run_options<'a>(alloc: Global, name: &'a str) -> Result<Command<'a>, AllocError>
     ensures { IfOk result (λ command. app_of command ≡ simple_app name.entry.now run_options) }
 {
-    let script = add(named(alloc, name), needed(alloc, "script"))?;
-    let rules = add(script, option(alloc, "rules"))?;
-    let ring = add(rules, option(alloc, "ring"))?;
+    let options = with_script(alloc, name)?;
+    let ring = add(options, option(alloc, "ring"))?;
     let memory = add(ring, option(alloc, "memory"))?;
     let budget = add(memory, option(alloc, "budget"))?;
     let calls = add(budget, option(alloc, "calls"))?;
@@ -92,9 +99,8 @@ pub fn record_command<'a>(alloc: Global) -> Result<Command<'a>, AllocError>
 fn with_trail_options<'a>(alloc: Global, name: &'a str) -> Result<Command<'a>, AllocError>
     ensures { IfOk result (λ command. app_of command ≡ simple_app name.entry.now trail_options) }
 {
-    let script = add(named(alloc, name), needed(alloc, "script"))?;
-    let rules = add(script, option(alloc, "rules"))?;
-    let memory = add(rules, option(alloc, "memory"))?;
+    let options = with_script(alloc, name)?;
+    let memory = add(options, option(alloc, "memory"))?;
     let budget = add(memory, option(alloc, "budget"))?;
     add(budget, option(alloc, "index"))
 }
@@ -108,17 +114,24 @@ pub fn replay_command<'a>(alloc: Global) -> Result<Command<'a>, AllocError>
     add(trace, file(alloc, "version"))
 }
 
-/// The options and files of `inspect`.
-pub fn inspect_command<'a>(alloc: Global) -> Result<Command<'a>, AllocError>
-    ensures { IfOk result (λ command. app_of command ≡ inspect_app) }
+// `inspect` with its options.
+fn with_look_options<'a>(alloc: Global) -> Result<Command<'a>, AllocError>
+    ensures { IfOk result (λ command. app_of command ≡ simple_app (codes "inspect") (trail_options ++ look_options)) }
 {
     let options = with_trail_options(alloc, "inspect")?;
     let stamp = add(options, option(alloc, "stamp"))?;
     let call = add(stamp, option(alloc, "call"))?;
     let count = add(call, option(alloc, "count"))?;
     let dump = add(count, option(alloc, "dump"))?;
-    let length = add(dump, option(alloc, "length"))?;
-    let trace = add(length, file(alloc, "trace"))?;
+    add(dump, option(alloc, "length"))
+}
+
+/// The options and files of `inspect`.
+pub fn inspect_command<'a>(alloc: Global) -> Result<Command<'a>, AllocError>
+    ensures { IfOk result (λ command. app_of command ≡ inspect_app) }
+{
+    let options = with_look_options(alloc)?;
+    let trace = add(options, file(alloc, "trace"))?;
     add(trace, file(alloc, "version"))
 }
 

@@ -1,0 +1,10 @@
+use Rattle.std.proofs.Common.{codes}
+use Rattle.std.proofs.lemmas.Result.{IfOk-weaker}
+use Rattle.nv_command.specs.Simple.{option_rule}
+use Rattle.nv_command.proofs.Apps.{grown}
+use Rattle.nv_command.proofs.simple.with_script.Goals as goal
+
+pub returns : goal.returns
+returns c =
+    let script = grown _ _ _ _ _ c.in_ok-script.ensures c.named.ensures c.needed.ensures.rule in
+    IfOk-weaker c.add-2.result _ _ (λ more h. grown _ _ _ _ (option_rule (codes "rules")) h script c.option.ensures.rule) c.add-2.ensures
