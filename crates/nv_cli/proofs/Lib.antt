@@ -1,11 +1,4 @@
-mod Loading
-mod Decided
-mod Generating
-mod Statuses
-mod Making
 mod Once
-mod Planned
 mod Counted
 mod Running
-mod Commands
 mod NoVersions

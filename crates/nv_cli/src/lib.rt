@@ -3,13 +3,8 @@
 
 mod beside;
 mod calm;
-mod endings;
-mod generate;
-mod prepare;
-mod refusal;
-mod tools;
 mod top;
 
 pub use calm::varan_calmly;
-pub use refusal::{Cause, Place, Refusal};
+pub use nv_jobs::{Cause, Place, Refusal};
 pub use top::varan;

@@ -4,7 +4,7 @@ ghost use Rattle.nv_machine.specs.Guest.{Machine};
 ghost use Rattle.nv_threads.specs.Threads.{threads};
 ghost use Rattle.nv_replay.specs.Versions.{standing_of, process_of};
 ghost use Rattle.nv_replay.specs.Accounts.{AreFresh};
-ghost use Rattle.nv_cli.specs.Account.{begun, run_status};
+ghost use Rattle.nv_jobs.specs.Account.{begun, run_status};
 ghost use Rattle.nv_command.specs.Words.{Runs, Uses, command_of, texts};
 ghost use Rattle.nv_command.specs.Seen.{limits_view, plan_view};
 ghost use Rattle.nv_calls.specs.Logs.{output_of, connections_of};
@@ -13,26 +13,23 @@ ghost use Rattle.nv_report.specs.Json.{json_text};
 ghost use Rattle.nv_sockets.specs.Serving.{start_of_script};
 ghost use Rattle.nv_sockets.specs.Texts.{connections_text};
 ghost use Rattle.nv_outside.specs.Sink.{Puts};
-ghost use Rattle.nv_cli.specs.Due.{Says, Answers, Completes, Rejects};
-ghost use Rattle.nv_cli.specs.Ran.{Wrote, Tells, RunSays};
-ghost use Rattle.nv_cli.specs.Refusals.{IsPlanned};
+ghost use Rattle.nv_jobs.specs.Due.{Says, Answers, Completes, Rejects};
+ghost use Rattle.nv_jobs.specs.Ran.{Wrote, Tells, RunSays};
+ghost use Rattle.nv_jobs.specs.Refusals.{IsPlanned};
 ghost use Rattle.nv_gen.specs.Plans.{totals_in};
-ghost use Rattle.nv_cli.specs.Generated.{IsGenerated};
-ghost use Rattle.nv_cli.specs.Summing.{SumsUp};
-ghost use Rattle.nv_cli.specs.Outcome.{NotAccepted, totals_of, name_of, outcome_of, text_of, source_of};
+ghost use Rattle.nv_jobs.specs.Generated.{IsGenerated};
+ghost use Rattle.nv_jobs.specs.Summing.{SumsUp};
+ghost use Rattle.nv_jobs.specs.Outcome.{NotAccepted, totals_of, name_of, outcome_of, text_of, source_of};
 
 use crate::beside::run;
-use crate::endings::{
-    INPUT, MEMORY, READ_FAULT, USAGE, count_exited, ended, put_line, starved, status,
-};
-use crate::generate::generate;
-use crate::prepare::{Prepared, prepare};
-use crate::refusal::{Cause, Place, Refusal};
-use crate::tools::{Unmade, make};
 use nv_bpf::Filter;
 use nv_calls::SyscallKernel;
-use nv_command::{Command, Limits, LineFault, Run, Tool};
+use nv_command::{Command, Limits, Run};
 use nv_gen::Totals;
+use nv_jobs::{
+    MEMORY, Prepared, Task, answer_alone, count_exited, ended, generate, prepare, put_line, refuse,
+    starved, status,
+};
 use nv_outside::{Files, Gate, Put, Sink, put_pieces};
 use nv_replay::{Account, Version};
 use nv_sockets::{SocketKernel, write_connections};
@@ -107,76 +104,6 @@ fn run_versions<R: Threads + Wait + Sync, S: Sink, G: Gate + Sync>(
         put_json(alloc, &account, sink)
     } else {
         put_report(&account, sink)
-    }
-}
-
-fn name<'a>(place: Place, plan: &Run<'a>) -> &'a str
-    ensures { result.now ≡ name_of place (plan_view plan.now) }
-{
-    match place {
-        Place::Script => plan.script,
-        Place::Rules => plan.rules.unwrap_or(""),
-        Place::Version(index) => plan.versions.get(index as usize).map_or("", |name| *name),
-    }
-}
-
-// Says which file is refused, and why.
-fn put_input<S: Sink>(alloc: Global, sink: &mut S, name: &str, cause: Cause) -> u8
-    ensures { Wrote (text_of (NotAccepted name.now cause)) 4 (S.told sink.old) (S.faults sink.old) result (S.told sink.new) (S.faults sink.new) }
-{
-    let Ok(why) = cause.to_string(alloc) else {
-        return put_line(sink, b"varan: memory\n", MEMORY);
-    };
-    let put = put_pieces(
-        sink,
-        &[
-            b"varan: input ",
-            name.as_bytes(),
-            b": ",
-            why.as_bytes(),
-            b"\n",
-        ],
-    );
-    ended(put, INPUT)
-}
-
-// Says why a run didn't start.
-fn refuse<S: Sink>(alloc: Global, sink: &mut S, refusal: Refusal, plan: &Run<'_>) -> u8
-    ensures { Tells (outcome_of refusal (plan_view plan.now)) (S.told sink.old) (S.faults sink.old) result (S.told sink.new) (S.faults sink.new) }
-{
-    match refusal {
-        Refusal::Memory => put_line(sink, b"varan: memory\n", MEMORY),
-        Refusal::Unreadable(place) => {
-            let put = put_pieces(
-                sink,
-                &[b"varan: read ", name(place, plan).as_bytes(), b"\n"],
-            );
-            ended(put, READ_FAULT)
-        }
-        Refusal::Input(place, cause) => put_input(alloc, sink, name(place, plan), cause),
-    }
-}
-
-// Does the command over one file, and says what it came to.
-fn run_job<F: Files, S: Sink>(
-    alloc: Global,
-    files: &mut F,
-    sink: &mut S,
-    tool: Tool,
-    file: &str,
-) -> u8
-    ensures { (words : List (List ℕ)) → command_of words ≡ Some (Uses (record { tool = tool; file = file.now }))
-        → Answers words (source_of F.holds F.faults F.taken files.old files.new)
-        (S.told sink.old) (S.faults sink.old) result (S.told sink.new) (S.faults sink.new) }
-{
-    match make(alloc, files, tool, file) {
-        Ok(text) => put_line(sink, &text, 0),
-        Err(Unmade::Memory) => put_line(sink, b"varan: memory\n", MEMORY),
-        Err(Unmade::Unreadable) => {
-            let put = put_pieces(sink, &[b"varan: read ", file.as_bytes(), b"\n"]);
-            ended(put, READ_FAULT)
-        }
-        Err(Unmade::Refused(cause)) => put_input(alloc, sink, file, cause),
     }
 }
 
@@ -314,10 +241,9 @@ fn answer<R: Threads + Wait + Sync, F: Files, S: Sink, G: Gate + Sync>(
 {
     match nv_command::read(alloc, words) {
         Ok(Command::Run(plan)) => do_run(rt, alloc, files, sink, gate, &plan),
-        Ok(Command::Use(job)) => run_job(alloc, files, sink, job.tool, job.file),
+        Ok(Command::Use(job)) => answer_alone(alloc, files, sink, Task::Use(job)),
         Ok(Command::Generate(number)) => do_generate(rt, alloc, number, sink, gate),
-        Err(LineFault::Memory) => put_line(sink, b"varan: memory\n", MEMORY),
-        Err(LineFault::Usage) => put_line(sink, b"varan: usage\n", USAGE),
+        Err(fault) => answer_alone(alloc, files, sink, Task::Refuse(fault)),
     }
 }
 

@@ -1,8 +1,8 @@
 // How the program ends.
 ghost use Rattle.std.specs.Prelude.{◌≡◌, ◌≢◌};
 ghost use Rattle.nv_outside.specs.Gathering.{sink_of, held_of};
-ghost use Rattle.nv_cli.specs.Outcome.{Usage, NoMemory, text_of, ended_with};
-ghost use Rattle.nv_cli.specs.Due.{Says};
+ghost use Rattle.nv_jobs.specs.Outcome.{Usage, NoMemory, text_of, ended_with};
+ghost use Rattle.nv_jobs.specs.Due.{Says};
 
 use crate::words::WordsFault;
 use nv_outside::{Gathering, Put, Sink, put_all};

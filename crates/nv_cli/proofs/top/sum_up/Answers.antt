@@ -11,11 +11,11 @@ use Rattle.nv_replay.specs.Versions.{Running, process_of, standing_of}
 use Rattle.nv_threads.specs.Threads.{Proc}
 use Rattle.nv_command.specs.Seen.{limits_view}
 use Rattle.nv_command.specs.Words.{Limits}
-use Rattle.nv_cli.specs.Account.{begun}
-use Rattle.nv_cli.specs.Due.{Says}
-use Rattle.nv_cli.specs.Outcome.{NoMemory, Summed, totals_of}
+use Rattle.nv_jobs.specs.Account.{begun}
+use Rattle.nv_jobs.specs.Due.{Says}
+use Rattle.nv_jobs.specs.Outcome.{NoMemory, Summed, totals_of}
 use Rattle.nv_cli.proofs.Counted.{few_lines}
-use Rattle.nv_cli.proofs.Generating.{made_owes}
+use Rattle.nv_jobs.proofs.Loaded.{made_owes}
 use Rattle.nv_cli.proofs.Running.{run_of}
 use Rattle.nv_cli.proofs.top.sum_up.Goals as goal
 

@@ -1,9 +1,9 @@
 use Rattle.std.proofs.Common.{subst, List, String}
 use Rattle.std.specs.Global.{Global}
 use Rattle.nv_command.specs.Words.{texts}
-use Rattle.nv_cli.specs.Outcome.{source_of}
-use Rattle.nv_cli.specs.Due.{Answers}
-use Rattle.nv_cli.proofs.Statuses.{completes-by, rejects-by}
+use Rattle.nv_jobs.specs.Outcome.{source_of}
+use Rattle.nv_jobs.specs.Due.{Answers}
+use Rattle.nv_jobs.proofs.Statuses.{completes-by, rejects-by}
 use Rattle.nv_cli.proofs.top.varan.Goals as goal
 
 pub returns : goal.returns

@@ -1,0 +1,169 @@
+-- What the words ask for, by what each command's words are.
+use Rattle.std.proofs.Common.{◌≡◌, ◌∙◌, sym, ℕ, List, Option, Some, None, refl, inl, inr, ⊎_elim, subst, option_and_then}
+use Rattle.std.specs.Prelude.{IsSome}
+use Rattle.nv_outside.specs.Told.{Told}
+use Rattle.nv_jobs.specs.Refusals.{ComesTo, Refuses}
+use Rattle.nv_jobs.specs.Prepared.{Prepared, Ready}
+use Rattle.nv_script.specs.Scripts.{Setup}
+use Rattle.nv_bpf.specs.declared.op.Op.{Op}
+use Rattle.nv_machine.specs.Guest.{Machine}
+use Rattle.nv_jobs.specs.Outcome.{Source, Outcome, Usage, NoMemory, NotRead, NotAccepted, Reported, outcome_of, name_of, text_of, status_of}
+use Rattle.nv_jobs.specs.Found.{TookLong}
+use Rattle.nv_jobs.specs.Due.{RunComesTo, JobOwes, GenOwes, Owes, OwesAny, IsDue, Shows, IsUntouched, Says, Answers}
+use Rattle.nv_jobs.specs.Ran.{Ran, RunSays, Wrote, Tells}
+use Rattle.nv_jobs.specs.declared.refusal.Cause.{Cause}
+use Rattle.nv_jobs.specs.declared.refusal.Cause.TheVariants.{Long}
+use Rattle.nv_jobs.specs.declared.refusal.Refusal.{Refusal}
+use Rattle.nv_jobs.specs.declared.refusal.Refusal.TheVariants.{Memory, Unreadable as Unread, Input}
+use Rattle.nv_command.specs.Words.{Name, Plan, Job, Command, Runs, Uses, Generates, asked_by, after_program, command_of, name_in}
+use Rattle.nv_command.specs.Seen.{IsRefused}
+use Rattle.nv_command.specs.declared.asked.LineFault.{LineFault}
+use Rattle.nv_command.specs.declared.asked.LineFault.TheVariants as line
+use Rattle.nv_jobs.specs.Summing.{SumsUp}
+use Rattle.nv_jobs.specs.Tasks.{fault_outcome}
+
+is_named : (name : Option Name) (asked : Name → Option Command) (command : Command) → option_and_then asked name ≡ Some command → IsSome name
+is_named None asked command h = cc
+is_named (Some name) asked command h = refl
+
+-- words that are accepted name a command
+named : (words : List (List ℕ)) (command : Command) → command_of words ≡ Some command → IsSome (name_in words)
+unfolding command_of
+named words command h = is_named (name_in words) (asked_by (after_program words)) command h
+
+pub unasked : (words : List (List ℕ)) (command : Command) → command_of words ≡ Some command → command_of words ≡ None → ⊥
+unasked words command asked none = let e : Some command ≡ None = sym asked ∙ none in cc
+
+-- what a command owes is due
+pub is_due : (words : List (List ℕ)) (holds : List ℕ → Told) (command : Command) (outcome : Outcome) → command_of words ≡ Some command → Owes command holds outcome → IsDue words holds outcome
+is_due words holds command outcome asked owed = inl (subst (λ (c : Option Command). OwesAny c holds outcome) (sym asked) owed)
+
+-- a command may want memory
+pub memory_due : (words : List (List ℕ)) (holds : List ℕ → Told) (command : Command) → command_of words ≡ Some command → IsDue words holds NoMemory
+memory_due words holds command asked = inr (refl, named words command asked)
+
+-- a command's words aren't refused
+pub asked_unread : (words : List (List ℕ)) (source : Source) (command : Command) → command_of words ≡ Some command → command_of words ≡ None → IsUntouched source
+asked_unread words source command asked none = absurd (unasked words command asked none)
+
+-- the files of a run come to an outcome
+run_due : (words : List (List ℕ)) (holds : List ℕ → Told) (plan : Plan) (whole : Prepared) (outcome : Outcome) → command_of words ≡ Some (Runs plan)
+    → ComesTo plan holds whole → RunComesTo plan whole outcome → IsDue words holds outcome
+run_due words holds plan whole outcome asked files comes = is_due words holds (Runs plan) outcome asked (record {
+  finds = files.finds;
+  agree = files.agree;
+  comes = subst (λ (p : Prepared). RunComesTo plan p outcome) (sym files.is) comes;
+})
+
+-- Something is due of words that name a command. It is answered as it is due, or memory is wanted for its text.
+module _ (words : List (List ℕ)) (source : Source) (command : Command) (asked : command_of words ≡ Some command) (name : List ℕ) (cause : Cause)
+    (due : IsDue words source.holds (NotAccepted name cause)) (kept : source.later_faults ≡ source.faults) (long : cause ≡ Long → TookLong source.taken source.later_taken)
+    (before : Option (List ℕ)) (faults status : ℕ) (after : Option (List ℕ)) (later : ℕ) where
+  refused : Says (text_of (NotAccepted name cause)) 4 before faults status after later → Answers words source before faults status after later
+  refused says = record {
+    outcome = NotAccepted name cause;
+    due = due;
+    shown = (kept, long);
+    unread = asked_unread words source command asked;
+    says = says;
+  }
+
+  wanted : Says (text_of NoMemory) 3 before faults status after later → Answers words source before faults status after later
+  wanted says = record {
+    outcome = NoMemory;
+    due = memory_due words source.holds command asked;
+    shown = kept;
+    unread = asked_unread words source command asked;
+    says = says;
+  }
+
+  refused_answers : Wrote (text_of (NotAccepted name cause)) 4 before faults status after later → Answers words source before faults status after later
+  refused_answers = ⊎_elim refused wanted
+
+-- a run that doesn't start answers its refusal
+pub refusal_answers : (refusal : Refusal) (words : List (List ℕ)) (source : Source) (plan : Plan) → command_of words ≡ Some (Runs plan)
+    → Refuses refusal source.holds plan source.faults source.later_faults source.taken source.later_taken
+    → (before : Option (List ℕ)) (faults status : ℕ) (after : Option (List ℕ)) (later : ℕ) → Tells (outcome_of refusal plan) before faults status after later
+    → Answers words source before faults status after later
+refusal_answers Memory words source plan asked h before faults status after later says = record {
+  outcome = NoMemory;
+  due = memory_due words source.holds (Runs plan) asked;
+  shown = h;
+  unread = asked_unread words source (Runs plan) asked;
+  says = says;
+}
+refusal_answers (Unread place) words source plan asked h before faults status after later says = record {
+  outcome = NotRead (name_of place plan);
+  due = run_due words source.holds plan _ (NotRead (name_of place plan)) asked h.0 refl;
+  shown = h.1;
+  unread = asked_unread words source (Runs plan) asked;
+  says = says;
+}
+refusal_answers (Input place cause) words source plan asked h before faults status after later says =
+    refused_answers words source (Runs plan) asked (name_of place plan) cause (run_due words source.holds plan _ (NotAccepted (name_of place plan) cause) asked h.0 refl) h.1 h.2
+    before faults status after later says
+
+-- a command over one file answers that the file is refused
+pub job_refused : (words : List (List ℕ)) (source : Source) (job : Job) (cause : Cause) → command_of words ≡ Some (Uses job)
+    → JobOwes job source.holds (NotAccepted job.file cause) → source.later_faults ≡ source.faults → (cause ≡ Long → TookLong source.taken source.later_taken)
+    → (before : Option (List ℕ)) (faults status : ℕ) (after : Option (List ℕ)) (later : ℕ) → Wrote (text_of (NotAccepted job.file cause)) 4 before faults status after later
+    → Answers words source before faults status after later
+job_refused words source job cause asked owed kept long before faults status after later says =
+    refused_answers words source (Uses job) asked job.file cause (is_due words source.holds (Uses job) (NotAccepted job.file cause) asked owed) kept long
+    before faults status after later says
+
+module _ (words : List (List ℕ)) (source : Source) (plan : Plan) (asked : command_of words ≡ Some (Runs plan)) (kept : source.later_faults ≡ source.faults) (setup : Setup) (rules : Option (List Op)) (machines : List Machine)
+    (files : ComesTo plan source.holds (Ready setup rules machines)) (before : Option (List ℕ)) (faults status : ℕ) (after : Option (List ℕ)) (later : ℕ) where
+  reported : Ran plan.limits plan.json setup rules machines before faults status after later → Answers words source before faults status after later
+  reported ran = record {
+    outcome = Reported plan.json setup ran.account;
+    due = run_due words source.holds plan (Ready setup rules machines) (Reported plan.json setup ran.account) asked files (ran.account, refl, ran.is_run);
+    shown = kept;
+    unread = asked_unread words source (Runs plan) asked;
+    says = ran.says;
+  }
+
+  starved : Says (text_of NoMemory) 3 before faults status after later → Answers words source before faults status after later
+  starved says = record {
+    outcome = NoMemory;
+    due = memory_due words source.holds (Runs plan) asked;
+    shown = kept;
+    unread = asked_unread words source (Runs plan) asked;
+    says = says;
+  }
+
+  -- versions that ran have an outcome of the run
+  pub ran_answers : RunSays plan.limits plan.json setup rules machines before faults status after later → Answers words source before faults status after later
+  ran_answers = ⊎_elim reported starved
+
+-- what a made run comes to is the answer of its words
+pub made_answers : (words : List (List ℕ)) (source : Source) (n : ℕ) → command_of words ≡ Some (Generates n) → source.later_faults ≡ source.faults → source.later_taken ≡ source.taken
+    → (before : Option (List ℕ)) (faults status : ℕ) (after : Option (List ℕ)) (later : ℕ) → SumsUp n before faults status after later → Answers words source before faults status after later
+made_answers words source n asked kept taken before faults status after later s = record {
+  outcome = s.outcome;
+  due = ⊎_elim (λ (owed : GenOwes n s.outcome). is_due words source.holds (Generates n) s.outcome asked owed)
+      (λ (e : s.outcome ≡ NoMemory). subst (λ (o : Outcome). IsDue words source.holds o) (sym e) (memory_due words source.holds (Generates n) asked)) s.owed;
+  shown = ⊎_elim (λ (owed : GenOwes n s.outcome). subst (λ (o : Outcome). Shows o source) (sym owed.comes) (kept, taken))
+      (λ (e : s.outcome ≡ NoMemory). subst (λ (o : Outcome). Shows o source) (sym e) kept) s.owed;
+  unread = asked_unread words source (Generates n) asked;
+  says = s.says;
+}
+
+-- refused words, and no file that was read
+pub words_refused : (fault : LineFault) (words : List (List ℕ)) (source : Source) → IsRefused fault words → IsUntouched source
+    → (before : Option (List ℕ)) (faults status : ℕ) (after : Option (List ℕ)) (later : ℕ)
+    → Says (text_of (fault_outcome fault)) (status_of (fault_outcome fault)) before faults status after later → Answers words source before faults status after later
+words_refused line.Usage words source refused still before faults status after later says = record {
+  outcome = Usage;
+  due = inl (subst (λ (command : Option Command). OwesAny command source.holds Usage) (sym refused) refl);
+  shown = still.0;
+  unread = λ none. still;
+  says = says;
+}
+words_refused line.Memory words source named still before faults status after later says = record {
+  outcome = NoMemory;
+  due = inr (refl, named);
+  shown = still.0;
+  unread = λ none. still;
+  says = says;
+}

@@ -1,0 +1,194 @@
+-- What the statuses show.
+use Rattle.std.proofs.Common.{◌≡◌, ◌∙◌, ◌⊎◌, sym, subst, inl, inr, ⊎_elim, ℕ, List, Bool, true, false, if◌then◌else◌, Option, Some, None, [], ◌∷◌, map, ap, refl, Result, Ok, Err, option_and_then, arith}
+use Rattle.std.specs.Prelude.{◌||◌, IsSome}
+use Rattle.std.specs.List.{list_any}
+use Rattle.nv_outside.specs.Counts.{Rose}
+use Rattle.nv_outside.specs.declared.sink.Put.{Put}
+use Rattle.nv_outside.specs.declared.sink.Put.TheVariants.{Whole, Failed}
+use Rattle.nv_replay.specs.declared.standing.Standing.{Standing}
+use Rattle.nv_replay.specs.Follow.{is_exited}
+use Rattle.nv_replay.specs.Lead.{is_memory}
+use Rattle.nv_command.specs.Words.{Name, Plan, Job, Command, Runs, Uses, Generates, asked_by, after_program, command_of, name_in}
+use Rattle.nv_jobs.specs.Account.{run_status}
+use Rattle.nv_jobs.specs.Found.{Found, Unread, found_of, finds_of}
+use Rattle.nv_jobs.specs.Prepared.{Prepared, Unreadable, Refused, Ready, prepared}
+use Rattle.nv_jobs.specs.Made.{made_of}
+use Rattle.nv_jobs.specs.Outcome.{Source, Outcome, Usage, NoMemory, NotRead, NotAccepted, Reported, Made, Summed, status_of, ended_with}
+use Rattle.nv_jobs.specs.Due.{RunComesTo, RunOwes, JobOwes, Owes, OwesAny, Shows, Answers, IsReady, IsMade, IsAccepted, IsRefusedAt, IsRefusedFor, IsRefused, IsReport, IsDone, Completes, Rejects, made_outcome}
+use Rattle.nv_jobs.specs.declared.tools.Unmade.{Unmade}
+use Rattle.nv_jobs.specs.declared.tools.Unmade.TheVariants as unmade
+use Rattle.nv_jobs.proofs.Decided.{IsUnread, same_found, same_prepared}
+
+-- a run has one of three statuses
+one_of : (exited memory : Bool) (n : ℕ) → n ≡ (if exited then 0 else (if memory then 7 else 1)) → IsReport n
+one_of true memory n is = inl is
+one_of false true n is = inr (inr is)
+one_of false false n is = inr (inl is)
+
+run_done : (lines : List Standing) (n : ℕ) → n ≡ run_status lines → IsReport n
+run_done lines n is = one_of (list_any (λ line. is_exited line.fate) lines) (list_any (λ line. is_memory line.fate) lines) n is
+
+-- the status of a text that was written whole is its own
+own : (put : Put) (n status : ℕ) → n ≡ ended_with put status → (put ≡ Failed → ⊥) → n ≡ status
+own Whole n status ends whole = ends
+own Failed n status ends whole = absurd (whole refl)
+
+own_or_six : (put : Put) (n status : ℕ) → n ≡ ended_with put status → (n ≡ status) ⊎ (n ≡ 6)
+own_or_six Whole n status ends = inl ends
+own_or_six Failed n status ends = inr ends
+
+module _ (source : Source) (no_fault : Rose source.faults source.later_faults → ⊥) (outcome : Outcome) (shown : Shows outcome source) where
+  -- no file was unreadable
+  readable : (name : List ℕ) → outcome ≡ NotRead name → ⊥
+  readable name e = no_fault (subst (λ (o : Outcome). Shows o source) e shown)
+
+  run_readable : (plan : Plan) (whole : Prepared) → RunComesTo plan whole outcome → IsUnread whole → ⊥
+  run_readable plan (Unreadable place) comes u = readable _ comes
+  run_readable plan (Refused place cause) comes u = u
+  run_readable plan (Ready setup rules machines) comes u = u
+
+  module _ (plan : Plan) (r : RunOwes plan source.holds outcome) where
+    run_decided : (IsUnread (prepared plan.limits (finds_of source.holds plan)) → ⊥) → prepared plan.limits r.finds ≡ prepared plan.limits (finds_of source.holds plan)
+    run_decided told = same_prepared source.holds plan r.finds r.agree (run_readable plan (prepared plan.limits r.finds) r.comes) told
+
+    run_told : (IsUnread (prepared plan.limits (finds_of source.holds plan)) → ⊥) → RunComesTo plan (prepared plan.limits (finds_of source.holds plan)) outcome
+    run_told told = subst (λ (p : Prepared). RunComesTo plan p outcome) (run_decided told) r.comes
+
+  module _ (job : Job) (j : JobOwes job source.holds outcome) where
+    job_told : (found_of (source.holds job.file) ≡ Unread → ⊥) → outcome ≡ made_outcome job (made_of job.tool (found_of (source.holds job.file)))
+    job_told told =
+        ⊎_elim (λ (e : j.found ≡ Unread). absurd (readable job.file (j.comes ∙ ap (λ f. made_outcome job (made_of job.tool f)) e)))
+        (λ (r : (found_of (source.holds job.file) ≡ Unread) ⊎ (j.found ≡ found_of (source.holds job.file))). ⊎_elim (λ (e : found_of (source.holds job.file) ≡ Unread). absurd (told e))
+        (λ (e : j.found ≡ found_of (source.holds job.file)). j.comes ∙ ap (λ f. made_outcome job (made_of job.tool f)) e) r)
+        (same_found (source.holds job.file) j.found j.agrees)
+
+ready_read : (whole : Prepared) → IsReady whole → IsUnread whole → ⊥
+ready_read (Unreadable place) ready u = ready
+ready_read (Refused place cause) ready u = ready
+ready_read (Ready setup rules machines) ready u = u
+
+refused_read : (whole : Prepared) → IsRefusedAt whole → IsUnread whole → ⊥
+refused_read (Unreadable place) refused u = refused
+refused_read (Refused place cause) refused u = u
+refused_read (Ready setup rules machines) refused u = u
+
+-- accepted files end with a status of the run, and a refused one with 4
+ready_status : (plan : Plan) (whole : Prepared) (outcome : Outcome) → IsReady whole → RunComesTo plan whole outcome → IsDone (Runs plan) (status_of outcome)
+ready_status plan (Unreadable place) outcome ready comes = absurd ready
+ready_status plan (Refused place cause) outcome ready comes = absurd ready
+ready_status plan (Ready setup rules machines) outcome ready comes = run_done comes.0.lines (status_of outcome) (ap status_of comes.1)
+
+refused_status : (plan : Plan) (whole : Prepared) (outcome : Outcome) → IsRefusedAt whole → RunComesTo plan whole outcome → status_of outcome ≡ 4
+refused_status plan (Unreadable place) outcome refused comes = absurd refused
+refused_status plan (Refused place cause) outcome refused comes = ap status_of comes
+refused_status plan (Ready setup rules machines) outcome refused comes = absurd refused
+
+made_status : (job : Job) (made : Result (List ℕ) Unmade) (outcome : Outcome) → IsMade made → outcome ≡ made_outcome job made → status_of outcome ≡ 0
+made_status job (Ok text) outcome is comes = ap status_of comes
+made_status job (Err reason) outcome is comes = absurd is
+
+unmade_status : (job : Job) (made : Result (List ℕ) Unmade) (outcome : Outcome) → IsRefusedFor made → outcome ≡ made_outcome job made → status_of outcome ≡ 4
+unmade_status job (Ok text) outcome refused comes = absurd refused
+unmade_status job (Err unmade.Memory) outcome refused comes = absurd refused
+unmade_status job (Err unmade.Unreadable) outcome refused comes = absurd refused
+unmade_status job (Err (unmade.Refused cause)) outcome refused comes = ap status_of comes
+
+made_found : (job : Job) (found : Found) → IsMade (made_of job.tool found) → found ≡ Unread → ⊥
+made_found job found is e = subst (λ (f : Found). IsMade (made_of job.tool f)) e is
+
+refused_found : (job : Job) (found : Found) → IsRefusedFor (made_of job.tool found) → found ≡ Unread → ⊥
+refused_found job found refused e = subst (λ (f : Found). IsRefusedFor (made_of job.tool f)) e refused
+
+module _ (source : Source) (no_fault : Rose source.faults source.later_faults → ⊥) (outcome : Outcome) (shown : Shows outcome source) where
+  accepted_status : (command : Command) → Owes command source.holds outcome → IsAccepted command source.holds → IsDone command (status_of outcome)
+  accepted_status (Runs plan) owed accepted =
+      ready_status plan (prepared plan.limits (finds_of source.holds plan)) outcome accepted
+      (run_told source no_fault outcome shown plan owed (ready_read (prepared plan.limits (finds_of source.holds plan)) accepted))
+  accepted_status (Uses job) owed accepted =
+      made_status job (made_of job.tool (found_of (source.holds job.file))) outcome accepted
+      (job_told source no_fault outcome shown job owed (made_found job (found_of (source.holds job.file)) accepted))
+  accepted_status (Generates n) owed accepted = ap status_of owed.comes
+
+  rejected_status : (command : Command) → Owes command source.holds outcome → IsRefused command source.holds → status_of outcome ≡ 4
+  rejected_status (Runs plan) owed refused =
+      refused_status plan (prepared plan.limits (finds_of source.holds plan)) outcome refused
+      (run_told source no_fault outcome shown plan owed (refused_read (prepared plan.limits (finds_of source.holds plan)) refused))
+  rejected_status (Uses job) owed refused =
+      unmade_status job (made_of job.tool (found_of (source.holds job.file))) outcome refused
+      (job_told source no_fault outcome shown job owed (refused_found job (found_of (source.holds job.file)) refused))
+  rejected_status (Generates n) owed refused = absurd refused
+
+module _ {words : List (List ℕ)} {source : Source} {before after : Option (List ℕ)} {faults status later : ℕ} where
+  -- what the words owe that name this command, unless memory is wanted
+  owes : (a : Answers words source before faults status after later) (command : Command) → command_of words ≡ Some command → Owes command source.holds a.outcome ⊎ (status_of a.outcome ≡ 3)
+  owes a command asked =
+      ⊎_elim (λ (owed : OwesAny (command_of words) source.holds a.outcome). inl (subst (λ (c : Option Command). OwesAny c source.holds a.outcome) asked owed))
+      (λ (m : (a.outcome ≡ NoMemory) × IsSome (name_in words)). inr (ap status_of m.0)) a.due
+
+  pub completes-by : Answers words source before faults status after later → Completes words source faults status later
+  completes-by a = λ command asked accepted no_fault no_write.
+      let is : status ≡ status_of a.outcome = own a.says.put status (status_of a.outcome) a.says.ends (λ failed. no_write (a.says.written.rose failed)) in
+      ⊎_elim (λ (owed : Owes command source.holds a.outcome). inl (subst (λ (n : ℕ). IsDone command n) (sym is) (accepted_status source no_fault a.outcome a.shown command owed accepted)))
+      (λ (three : status_of a.outcome ≡ 3). inr (is ∙ three)) (owes a command asked)
+
+  pub rejects-by : Answers words source before faults status after later → Rejects words source status
+  rejects-by a = λ command asked refused no_fault.
+      ⊎_elim (λ (is : status ≡ status_of a.outcome).
+      ⊎_elim (λ (owed : Owes command source.holds a.outcome). inl (is ∙ rejected_status source no_fault a.outcome a.shown command owed refused))
+      (λ (three : status_of a.outcome ≡ 3). inr (inr (is ∙ three))) (owes a command asked))
+      (λ (six : status ≡ 6). inr (inl six)) (own_or_six a.says.put status (status_of a.outcome) a.says.ends)
+
+not_five : (n : ℕ) → IsReport n → n ≡ 5 → ⊥
+not_five n done five = ⊎_elim (λ is. omega arith) (λ r. ⊎_elim (λ is. omega arith) (λ is. omega arith) r) done
+
+not_six : (n : ℕ) → IsReport n → n ≡ 6 → ⊥
+not_six n done six = ⊎_elim (λ is. omega arith) (λ r. ⊎_elim (λ is. omega arith) (λ is. omega arith) r) done
+
+five : (outcome : Outcome) (put : Put) (source : Source) (n : ℕ) → Shows outcome source → n ≡ ended_with put (status_of outcome) → n ≡ 5 → Rose source.faults source.later_faults
+five (NotRead name) put source n shown ends is = shown
+five Usage Whole source n shown ends is = absurd (omega arith)
+five NoMemory Whole source n shown ends is = absurd (omega arith)
+five (NotAccepted name cause) Whole source n shown ends is = absurd (omega arith)
+five (Reported json setup account) Whole source n shown ends is = absurd (not_five n (run_done account.lines n ends) is)
+five (Made text) Whole source n shown ends is = absurd (omega arith)
+five (Summed k setup account) Whole source n shown ends is = absurd (omega arith)
+five outcome Failed source n shown ends is = absurd (omega arith)
+
+six : (outcome : Outcome) (put : Put) (n : ℕ) → n ≡ ended_with put (status_of outcome) → n ≡ 6 → put ≡ Failed
+six outcome Failed n ends is = refl
+six Usage Whole n ends is = absurd (omega arith)
+six NoMemory Whole n ends is = absurd (omega arith)
+six (NotRead name) Whole n ends is = absurd (omega arith)
+six (NotAccepted name cause) Whole n ends is = absurd (omega arith)
+six (Reported json setup account) Whole n ends is = absurd (not_six n (run_done account.lines n ends) is)
+six (Made text) Whole n ends is = absurd (omega arith)
+six (Summed k setup account) Whole n ends is = absurd (omega arith)
+
+-- a name of no command is refused
+nameless : (words : List (List ℕ)) → name_in words ≡ None → command_of words ≡ None
+unfolding command_of
+nameless words none = ap (option_and_then (asked_by (after_program words))) none
+
+is_nameless : (words : List (List ℕ)) → IsSome (name_in words) → name_in words ≡ None → ⊥
+is_nameless words is none = let h = subst (λ (name : Option Name). IsSome name) none is in cc
+
+module _ {words : List (List ℕ)} {source : Source} {before after : Option (List ℕ)} {faults status later : ℕ} (a : Answers words source before faults status after later) where
+  -- status 5 shows a read fault, and status 6 a write fault
+  pub five-by : status ≡ 5 → Rose source.faults source.later_faults
+  five-by is = five a.outcome a.says.put source status a.shown a.says.ends is
+
+  pub six-by : status ≡ 6 → Rose faults later
+  six-by is = a.says.written.rose (six a.outcome a.says.put status a.says.ends is)
+
+  -- words that name no command get 2, where no write failed
+  pub usage-by : name_in words ≡ None → (Rose faults later → ⊥) → status ≡ 2
+  usage-by none no_write =
+      let is : status ≡ status_of a.outcome = own a.says.put status (status_of a.outcome) a.says.ends (λ failed. no_write (a.says.written.rose failed)) in
+      let refused : command_of words ≡ None = nameless words none in
+      ⊎_elim (λ (owed : OwesAny (command_of words) source.holds a.outcome). let usage : a.outcome ≡ Usage = subst (λ (c : Option Command). OwesAny c source.holds a.outcome) refused owed in is ∙ ap status_of usage)
+      (λ (m : (a.outcome ≡ NoMemory) × IsSome (name_in words)). absurd (is_nameless words m.1 none)) a.due
+
+-- some element passes, of what is seen of a list
+pub any-map : {X Y : Type 0} (p : Y → Bool) (f : X → Y) (xs : List X) → list_any p (map f xs) ≡ list_any (λ x. p (f x)) xs
+any-map p f [] = refl
+any-map p f (x ∷ xs) = ap (λ z. p (f x) || z) (any-map p f xs)

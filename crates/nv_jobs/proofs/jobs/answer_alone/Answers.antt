@@ -1,0 +1,14 @@
+use Rattle.std.proofs.Common.{subst, refl}
+use Rattle.nv_jobs.specs.Outcome.{source_of}
+use Rattle.nv_jobs.specs.Tasks.{IsTaskOf}
+use Rattle.nv_jobs.specs.declared.task.Task.{Task}
+use Rattle.nv_jobs.proofs.Commands.{words_refused}
+use Rattle.nv_jobs.proofs.jobs.answer_alone.Goals as goal
+
+pub returns-in-Refuse : goal.returns-in-Refuse
+returns-in-Refuse g c = λ words is.
+    words_refused c.in-Refuse.fault words (source_of g.F.Files.holds g.F.Files.faults g.F.Files.taken c.args.files.now c.args.files.now)
+    (subst (λ (task : Task). IsTaskOf task words) c.in-Refuse.is is) (refl, refl) _ _ _ _ _ c.refuse_words.ensures
+
+pub returns-in-Use : goal.returns-in-Use
+returns-in-Use g c = λ words is. c.use_file.ensures words (subst (λ (task : Task). IsTaskOf task words) c.in-Use.is is)

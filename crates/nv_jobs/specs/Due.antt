@@ -1,0 +1,154 @@
+-- What a call of the monitor owes for its words and files, and what its answer shows.
+use Rattle.std.specs.Prelude.{◌≡◌, ◌⊎◌, ℕ, IsSome, false, List, Option, None, Some, Result, Ok, Err}
+use Rattle.std.specs.List.{list_any}
+use Rattle.nv_outside.specs.Counts.{Rose}
+use Rattle.nv_outside.specs.Told.{Told}
+use Rattle.nv_outside.specs.Sink.{Puts}
+use Rattle.nv_outside.specs.declared.sink.Put.{Put}
+use Rattle.nv_command.specs.Words.{Plan, Job, Command, Runs, Uses, Generates, usual, command_of, name_in}
+use Rattle.nv_bpf.specs.declared.op.Op.{Op}
+use Rattle.nv_machine.specs.Guest.{Machine}
+use Rattle.nv_script.specs.Scripts.{Setup}
+use Rattle.nv_replay.specs.Lead.{is_memory}
+use Rattle.nv_replay.specs.Sequence.{Account}
+use Rattle.nv_jobs.specs.Account.{IsRunOf}
+use Rattle.nv_jobs.specs.Found.{Found, Finds, Agrees, AreFound, TookLong, found_of, finds_of}
+use Rattle.nv_jobs.specs.Prepared.{Prepared, Unreadable, Refused, Ready, prepared}
+use Rattle.nv_jobs.specs.Generated.{IsMadeRun}
+use Rattle.nv_jobs.specs.Made.{made_of}
+use Rattle.nv_jobs.specs.Outcome.{Outcome, Usage, NoMemory, NotRead, NotAccepted, Reported, Made, Summed, Source, name_of, text_of, status_of, ended_with}
+use Rattle.nv_jobs.specs.declared.refusal.Cause.TheVariants.{Long}
+use Rattle.nv_jobs.specs.declared.tools.Unmade.{Unmade}
+use Rattle.nv_jobs.specs.declared.tools.Unmade.TheVariants as unmade
+
+-- A run comes to its first file that can't be read or is refused, or else to an account of the sequential monitor.
+abbrev pub RunComesTo : Plan → Prepared → Outcome → Type 0
+RunComesTo plan (Unreadable place) outcome = outcome ≡ NotRead (name_of place plan)
+RunComesTo plan (Refused place cause) outcome = outcome ≡ NotAccepted (name_of place plan) cause
+RunComesTo plan (Ready setup rules machines) outcome =
+    (account : Account) × (outcome ≡ Reported plan.json setup account) × IsRunOf plan.limits setup rules machines account
+
+-- A command over one file makes its text, or the file can't be read or is refused.
+abbrev pub made_outcome : Job → Result (List ℕ) Unmade → Outcome
+made_outcome job (Ok text) = Made text
+made_outcome job (Err unmade.Memory) = NoMemory
+made_outcome job (Err unmade.Unreadable) = NotRead job.file
+made_outcome job (Err (unmade.Refused cause)) = NotAccepted job.file cause
+
+-- Something is found at each place of a run that agrees with what the source tells, and over that the run comes to this.
+pub record RunOwes (plan : Plan) (holds : List ℕ → Told) (outcome : Outcome) : Type 0 where
+  pub finds : Finds
+  pub agree : AreFound plan holds finds
+  pub comes : RunComesTo plan (prepared plan.limits finds) outcome
+
+-- the same of the one file of a command
+pub record JobOwes (job : Job) (holds : List ℕ → Told) (outcome : Outcome) : Type 0 where
+  pub found : Found
+  pub agrees : Agrees (holds job.file) found
+  pub comes : outcome ≡ made_outcome job (made_of job.tool found)
+
+-- The made run of a number comes to an account of the sequential monitor, in which no version wanted memory, and is summed up.
+pub record GenOwes (n : ℕ) (outcome : Outcome) : Type 0 where
+  pub setup : Setup
+  pub filter : Option (List Op)
+  pub machines : List Machine
+  pub made : IsMadeRun n setup filter machines
+  pub account : Account
+  pub is_run : IsRunOf usual setup filter machines account
+  pub never_starved : list_any (λ line. is_memory line.fate) account.lines ≡ false
+  pub comes : outcome ≡ Summed n setup account
+
+-- what each command owes
+abbrev pub Owes : Command → (List ℕ → Told) → Outcome → Type 0
+Owes (Runs plan) holds outcome = RunOwes plan holds outcome
+Owes (Uses job) holds outcome = JobOwes job holds outcome
+Owes (Generates n) holds outcome = GenOwes n outcome
+
+-- words that are refused owe the line of usage
+abbrev pub OwesAny : Option Command → (List ℕ → Told) → Outcome → Type 0
+OwesAny None holds outcome = outcome ≡ Usage
+OwesAny (Some command) holds outcome = Owes command holds outcome
+
+-- What the words owe. Memory may be wanted instead, from the reading of a command's words on.
+abbrev pub IsDue : List (List ℕ) → (List ℕ → Told) → Outcome → Type 0
+IsDue words holds outcome = OwesAny (command_of words) holds outcome ⊎ ((outcome ≡ NoMemory) × IsSome (name_in words))
+
+-- no file was read
+abbrev pub IsUntouched : Source → Type 0
+IsUntouched source = (source.later_faults ≡ source.faults) × (source.later_taken ≡ source.taken)
+
+-- What the counts of the source show: a read failed exactly where a file is named that can't be read, and more was taken than a file may have where one is too long.
+abbrev pub Shows : Outcome → Source → Type 0
+Shows Usage source = source.later_faults ≡ source.faults
+Shows NoMemory source = source.later_faults ≡ source.faults
+Shows (NotRead name) source = Rose source.faults source.later_faults
+Shows (NotAccepted name cause) source = (source.later_faults ≡ source.faults) × (cause ≡ Long → TookLong source.taken source.later_taken)
+Shows (Reported json setup account) source = source.later_faults ≡ source.faults
+Shows (Made text) source = source.later_faults ≡ source.faults
+Shows (Summed n setup account) source = IsUntouched source
+
+-- A text was written with its status; or a write failed, its count rose, a prefix of the text was written, and the status is 6.
+pub record Says (text : List ℕ) (text_status : ℕ) (before : Option (List ℕ)) (faults : ℕ) (status : ℕ) (after : Option (List ℕ)) (later_faults : ℕ) : Type 0 where
+  pub put : Put
+  pub ends : status ≡ ended_with put text_status
+  pub written : Puts before faults text put after later_faults
+
+-- The call came to an outcome that is due, and said so. Refused words read no file.
+pub record Answers (words : List (List ℕ)) (source : Source) (before : Option (List ℕ)) (faults : ℕ) (status : ℕ) (after : Option (List ℕ)) (later_faults : ℕ) : Type 0 where
+  pub outcome : Outcome
+  pub due : IsDue words source.holds outcome
+  pub shown : Shows outcome source
+  pub unread : command_of words ≡ None → IsUntouched source
+  pub says : Says (text_of outcome) (status_of outcome) before faults status after later_faults
+
+abbrev pub IsReady : Prepared → Type 0
+IsReady (Unreadable place) = ⊥
+IsReady (Refused place cause) = ⊥
+IsReady (Ready setup rules machines) = Unit {0}
+
+abbrev pub IsMade : Result (List ℕ) Unmade → Type 0
+IsMade (Ok text) = Unit {0}
+IsMade (Err reason) = ⊥
+
+-- all files that the command reads are told, and accepted
+abbrev pub IsAccepted : Command → (List ℕ → Told) → Type 0
+IsAccepted (Runs plan) holds = IsReady (prepared plan.limits (finds_of holds plan))
+IsAccepted (Uses job) holds = IsMade (made_of job.tool (found_of (holds job.file)))
+IsAccepted (Generates n) holds = Unit {0}
+
+abbrev pub IsRefusedAt : Prepared → Type 0
+IsRefusedAt (Unreadable place) = ⊥
+IsRefusedAt (Refused place cause) = Unit {0}
+IsRefusedAt (Ready setup rules machines) = ⊥
+
+abbrev pub IsRefusedFor : Result (List ℕ) Unmade → Type 0
+IsRefusedFor (Ok text) = ⊥
+IsRefusedFor (Err unmade.Memory) = ⊥
+IsRefusedFor (Err unmade.Unreadable) = ⊥
+IsRefusedFor (Err (unmade.Refused cause)) = Unit {0}
+
+-- the files that the command reads are told up to one that is refused
+abbrev pub IsRefused : Command → (List ℕ → Told) → Type 0
+IsRefused (Runs plan) holds = IsRefusedAt (prepared plan.limits (finds_of holds plan))
+IsRefused (Uses job) holds = IsRefusedFor (made_of job.tool (found_of (holds job.file)))
+IsRefused (Generates n) holds = ⊥
+
+-- a run that does its work ends with the status of its versions' fates, which is one of three
+abbrev pub IsReport : ℕ → Type 0
+IsReport status = (status ≡ 0) ⊎ ((status ≡ 1) ⊎ (status ≡ 7))
+
+-- the statuses of a command that does its work
+abbrev pub IsDone : Command → ℕ → Type 0
+IsDone (Runs plan) status = IsReport status
+IsDone (Uses job) status = status ≡ 0
+IsDone (Generates n) status = status ≡ 0
+
+-- Files that are told and accepted, and no fault: the command does its work, or memory is wanted.
+abbrev pub Completes : List (List ℕ) → Source → ℕ → ℕ → ℕ → Type 0
+Completes words source faults status later_faults = (command : Command) → command_of words ≡ Some command → IsAccepted command source.holds
+    → (Rose source.faults source.later_faults → ⊥) → (Rose faults later_faults → ⊥) → IsDone command status ⊎ (status ≡ 3)
+
+-- A file that is told and refused, and no read fault: it is named, unless the line can't be written or memory is wanted.
+abbrev pub Rejects : List (List ℕ) → Source → ℕ → Type 0
+Rejects words source status = (command : Command) → command_of words ≡ Some command → IsRefused command source.holds
+    → (Rose source.faults source.later_faults → ⊥) → (status ≡ 4) ⊎ ((status ≡ 6) ⊎ (status ≡ 3))

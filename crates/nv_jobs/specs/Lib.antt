@@ -1,0 +1,13 @@
+pub mod Found
+pub mod Prepared
+pub mod Made
+pub mod Account
+pub mod Causes
+pub mod Outcome
+pub mod Generated
+pub mod Due
+pub mod Tasks
+pub mod Summing
+pub mod Ran
+pub mod Refusals
+pub mod Unmade

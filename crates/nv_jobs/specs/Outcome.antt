@@ -1,0 +1,102 @@
+-- What a call of the monitor may come to, and what is then written.
+use Rattle.std.specs.Prelude.{ℕ, Bool, true, false, List, [], ◌∷◌, ◌++◌, codes, length, count_by, sum_by, slice_get, unwrap_or}
+use Rattle.std.specs.List.{concat}
+use Rattle.nv_gen.specs.Made as gen
+use Rattle.nv_outside.specs.Told.{Told}
+use Rattle.nv_outside.specs.declared.sink.Put.{Put}
+use Rattle.nv_outside.specs.declared.sink.Put.TheVariants.{Whole, Failed}
+use Rattle.nv_command.specs.Words.{Plan}
+use Rattle.nv_calls.specs.Logs.{output_of, connections_of}
+use Rattle.nv_script.specs.Scripts.{Setup}
+use Rattle.nv_sockets.specs.Serving.{start_of_script}
+use Rattle.nv_sockets.specs.Texts.{connections_text}
+use Rattle.nv_replay.specs.Follow.{is_exited}
+use Rattle.nv_replay.specs.Sequence.{Account}
+use Rattle.nv_report.specs.Report.{report_text}
+use Rattle.nv_report.specs.Json.{json_text}
+use Rattle.nv_jobs.specs.Account.{run_status}
+use Rattle.nv_jobs.specs.Causes.{cause_text}
+use Rattle.nv_jobs.specs.declared.refusal.Refusal.{Refusal}
+use Rattle.nv_jobs.specs.declared.refusal.Refusal.TheVariants as refusal
+use Rattle.nv_jobs.specs.declared.refusal.Place.{Place}
+use Rattle.nv_jobs.specs.declared.refusal.Place.TheVariants.{Script, Version}
+use Rattle.nv_jobs.specs.declared.refusal.Place.TheVariants as place
+use Rattle.nv_jobs.specs.declared.refusal.Cause.{Cause}
+
+-- The words are refused; memory is wanted before the run starts; a file can't be read; a file is refused; a run has its account; or a command over one file has made its text.
+pub data Outcome : Type 0 where
+  Usage : Outcome
+  NoMemory : Outcome
+  NotRead : List ℕ → Outcome
+  NotAccepted : List ℕ → Cause → Outcome
+  -- as JSON or not, over what the script says
+  Reported : Bool → Setup → Account → Outcome
+  Made : List ℕ → Outcome
+  -- the run of a number has its account
+  Summed : ℕ → Setup → Account → Outcome
+
+-- the report of an account, with what was written to the connections, or its JSON form and a newline
+abbrev pub account_text : Bool → Setup → Account → List ℕ
+account_text true setup account = json_text (output_of (start_of_script setup) account.log) account ++ codes "\n"
+account_text false setup account =
+    report_text (output_of (start_of_script setup) account.log) account ++ connections_text (connections_of (start_of_script setup) account.log)
+
+-- what a run came to that left this on the console
+abbrev pub totals_of : List ℕ → Account → gen.Totals
+totals_of output account = record {
+  output = length output;
+  log = length account.log;
+  exited = count_by (λ line. is_exited line.fate) account.lines;
+  rewrites = sum_by (λ line. line.rewrites) account.lines;
+}
+
+-- what is written
+abbrev pub text_of : Outcome → List ℕ
+text_of Usage = codes "varan: usage\n"
+text_of NoMemory = codes "varan: memory\n"
+text_of (NotRead name) = concat (codes "varan: read " ∷ name ∷ codes "\n" ∷ [])
+text_of (NotAccepted name cause) = concat (codes "varan: input " ∷ name ∷ codes ": " ∷ cause_text cause ∷ codes "\n" ∷ [])
+text_of (Reported json setup account) = account_text json setup account
+text_of (Made text) = text
+text_of (Summed n setup account) = gen.summary n (totals_of (output_of (start_of_script setup) account.log) account)
+
+abbrev pub status_of : Outcome → ℕ
+status_of Usage = 2
+status_of NoMemory = 3
+status_of (NotRead name) = 5
+status_of (NotAccepted name cause) = 4
+status_of (Reported json setup account) = run_status account.lines
+status_of (Made text) = 0
+status_of (Summed n setup account) = 0
+
+-- a write fault takes the place of the other statuses
+abbrev pub ended_with : Put → ℕ → ℕ
+ended_with Whole status = status
+ended_with Failed status = 6
+
+abbrev pub name_of : Place → Plan → List ℕ
+name_of Script plan = plan.script
+name_of place.Rules plan = unwrap_or plan.rules []
+name_of (Version i) plan = unwrap_or (slice_get plan.versions i) []
+
+abbrev pub outcome_of : Refusal → Plan → Outcome
+outcome_of refusal.Memory plan = NoMemory
+outcome_of (refusal.Unreadable place) plan = NotRead (name_of place plan)
+outcome_of (refusal.Input place cause) plan = NotAccepted (name_of place plan) cause
+
+-- The file source of a call: what it tells of each name, and its counts before the call and after it.
+pub record Source : Type 0 where
+  pub holds : List ℕ → Told
+  pub faults : ℕ
+  pub later_faults : ℕ
+  pub taken : ℕ
+  pub later_taken : ℕ
+
+abbrev pub source_of : {X : Type 0} → (X → List ℕ → Told) → (X → ℕ) → (X → ℕ) → X → X → Source
+source_of holds faults taken before after = record {
+  holds = holds before;
+  faults = faults before;
+  later_faults = faults after;
+  taken = taken before;
+  later_taken = taken after;
+}

@@ -1,0 +1,4 @@
+// How long files may be.
+
+/// The most bytes of a file.
+pub const FILE_LIMIT: u32 = 4_194_304;
