@@ -3,6 +3,7 @@
 
 mod beside;
 mod calm;
+mod recording;
 mod top;
 
 pub use calm::varan_calmly;

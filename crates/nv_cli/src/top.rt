@@ -22,6 +22,7 @@ ghost use Rattle.nv_jobs.specs.Summing.{SumsUp};
 ghost use Rattle.nv_jobs.specs.Outcome.{NotAccepted, totals_of, name_of, outcome_of, text_of, source_of};
 
 use crate::beside::run;
+use crate::recording::record;
 use nv_bpf::Filter;
 use nv_calls::SyscallKernel;
 use nv_command::{Command, Limits, Run};
@@ -241,8 +242,11 @@ fn answer<R: Threads + Wait + Sync, F: Files, S: Sink, G: Gate + Sync>(
 {
     match nv_command::read(alloc, words) {
         Ok(Command::Run(plan)) => do_run(rt, alloc, files, sink, gate, &plan),
+        Ok(Command::Record(plan)) => record(rt, alloc, files, sink, gate, &plan),
         Ok(Command::Use(job)) => answer_alone(alloc, files, sink, Task::Use(job)),
         Ok(Command::Generate(number)) => do_generate(rt, alloc, number, sink, gate),
+        Ok(Command::Replay(trail)) => answer_alone(alloc, files, sink, Task::Replay(trail)),
+        Ok(Command::Inspect(look)) => answer_alone(alloc, files, sink, Task::Inspect(look)),
         Err(fault) => answer_alone(alloc, files, sink, Task::Refuse(fault)),
     }
 }

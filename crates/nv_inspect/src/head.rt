@@ -25,7 +25,8 @@ fn put_place<S: Sink>(sink: &mut S, seen: u32, count: u32) -> Put
     )
 }
 
-fn put_end<S: Sink>(sink: &mut S, fate: Option<Fate>) -> Put
+/// How the version ended, or that it is in step.
+pub fn put_end<S: Sink>(sink: &mut S, fate: Option<Fate>) -> Put
     ensures { Puts (S.told sink.old) (S.faults sink.old) (end_text fate) result (S.told sink.new) (S.faults sink.new) }
 {
     match fate {

@@ -7,4 +7,5 @@ mod head;
 mod threads;
 mod whole;
 
+pub use head::put_end;
 pub use whole::show;

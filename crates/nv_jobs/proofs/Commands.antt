@@ -1,21 +1,28 @@
 -- What the words ask for, by what each command's words are.
-use Rattle.std.proofs.Common.{◌≡◌, ◌∙◌, sym, ℕ, List, Option, Some, None, refl, inl, inr, ⊎_elim, subst, option_and_then}
+use Rattle.std.proofs.Common.{◌≡◌, ◌∙◌, sym, ap, ℕ, List, Option, Some, None, refl, inl, inr, ⊎_elim, subst, option_and_then}
 use Rattle.std.specs.Prelude.{IsSome}
 use Rattle.nv_outside.specs.Told.{Told}
 use Rattle.nv_jobs.specs.Refusals.{ComesTo, Refuses}
 use Rattle.nv_jobs.specs.Prepared.{Prepared, Ready}
+use Rattle.nv_jobs.specs.Prepared as prep
 use Rattle.nv_script.specs.Scripts.{Setup}
 use Rattle.nv_bpf.specs.declared.op.Op.{Op}
 use Rattle.nv_machine.specs.Guest.{Machine}
-use Rattle.nv_jobs.specs.Outcome.{Source, Outcome, Usage, NoMemory, NotRead, NotAccepted, Reported, outcome_of, name_of, text_of, status_of}
-use Rattle.nv_jobs.specs.Found.{TookLong}
-use Rattle.nv_jobs.specs.Due.{RunComesTo, JobOwes, GenOwes, Owes, OwesAny, IsDue, Shows, IsUntouched, Says, Answers}
-use Rattle.nv_jobs.specs.Ran.{Ran, RunSays, Wrote, Tells}
+use Rattle.nv_jobs.specs.Outcome.{Source, Outcome, Usage, NoMemory, NotRead, NotAccepted, Reported, Recorded, TraceTooLong, outcome_of, name_of, name_on, text_of, status_of}
+use Rattle.nv_jobs.specs.Found.{TookLong, TookMore}
+use Rattle.nv_jobs.specs.Due.{RunComesTo, RecordComesTo, JobOwes, GenOwes, TrailOwes, traced_outcome, lack_outcome, Owes, OwesAny, IsDue, Shows, IsUntouched, Says, Answers}
+use Rattle.nv_jobs.specs.Ran.{Ran, RunSays, RanRecorded, RecordSays, Wrote, Tells}
 use Rattle.nv_jobs.specs.declared.refusal.Cause.{Cause}
 use Rattle.nv_jobs.specs.declared.refusal.Cause.TheVariants.{Long}
+use Rattle.nv_jobs.specs.declared.refusal.Cause.TheVariants as causes
+use Rattle.nv_jobs.specs.declared.refusal.Place.{Place}
+use Rattle.nv_jobs.specs.declared.refusal.Place.TheVariants.{Script, Rules, Trace, Version}
+use Rattle.nv_jobs.specs.Traced.{Traced}
+use Rattle.nv_jobs.specs.Traced as lack
+use Rattle.nv_jobs.specs.Trails.{limit_of, TrailRefused, refused_outcome}
 use Rattle.nv_jobs.specs.declared.refusal.Refusal.{Refusal}
 use Rattle.nv_jobs.specs.declared.refusal.Refusal.TheVariants.{Memory, Unreadable as Unread, Input}
-use Rattle.nv_command.specs.Words.{Name, Plan, Job, Command, Runs, Uses, Generates, asked_by, after_program, command_of, name_in}
+use Rattle.nv_command.specs.Words.{Name, Plan, Job, Trail, Command, Runs, Uses, Generates, Records, asked_by, after_program, command_of, name_in}
 use Rattle.nv_command.specs.Seen.{IsRefused}
 use Rattle.nv_command.specs.declared.asked.LineFault.{LineFault}
 use Rattle.nv_command.specs.declared.asked.LineFault.TheVariants as line
@@ -80,28 +87,52 @@ module _ (words : List (List ℕ)) (source : Source) (command : Command) (asked 
   refused_answers : Wrote (text_of (NotAccepted name cause)) 4 before faults status after later → Answers words source before faults status after later
   refused_answers = ⊎_elim refused wanted
 
+-- a command over the files of a run answers their refusal, where it owes that
+module _ (words : List (List ℕ)) (source : Source) (plan : Plan) (command : Command) (asked : command_of words ≡ Some command)
+    (unread : (place : Place) → ComesTo plan source.holds (prep.Unreadable place) → Owes command source.holds (NotRead (name_of place plan)))
+    (unfit : (place : Place) (cause : Cause) → ComesTo plan source.holds (prep.Refused place cause) → Owes command source.holds (NotAccepted (name_of place plan) cause)) where
+  stopped_answers : (refusal : Refusal) → Refuses refusal source.holds plan source.faults source.later_faults source.taken source.later_taken
+      → (before : Option (List ℕ)) (faults status : ℕ) (after : Option (List ℕ)) (later : ℕ) → Tells (outcome_of refusal plan) before faults status after later
+      → Answers words source before faults status after later
+  stopped_answers Memory h before faults status after later says = record {
+    outcome = NoMemory;
+    due = memory_due words source.holds command asked;
+    shown = h;
+    unread = asked_unread words source command asked;
+    says = says;
+  }
+  stopped_answers (Unread place) h before faults status after later says = record {
+    outcome = NotRead (name_of place plan);
+    due = is_due words source.holds command (NotRead (name_of place plan)) asked (unread place h.0);
+    shown = h.1;
+    unread = asked_unread words source command asked;
+    says = says;
+  }
+  stopped_answers (Input place cause) h before faults status after later says =
+      refused_answers words source command asked (name_of place plan) cause
+      (is_due words source.holds command (NotAccepted (name_of place plan) cause) asked (unfit place cause h.0)) h.1 h.2 before faults status after later says
+
 -- a run that doesn't start answers its refusal
 pub refusal_answers : (refusal : Refusal) (words : List (List ℕ)) (source : Source) (plan : Plan) → command_of words ≡ Some (Runs plan)
     → Refuses refusal source.holds plan source.faults source.later_faults source.taken source.later_taken
     → (before : Option (List ℕ)) (faults status : ℕ) (after : Option (List ℕ)) (later : ℕ) → Tells (outcome_of refusal plan) before faults status after later
     → Answers words source before faults status after later
-refusal_answers Memory words source plan asked h before faults status after later says = record {
-  outcome = NoMemory;
-  due = memory_due words source.holds (Runs plan) asked;
-  shown = h;
-  unread = asked_unread words source (Runs plan) asked;
-  says = says;
-}
-refusal_answers (Unread place) words source plan asked h before faults status after later says = record {
-  outcome = NotRead (name_of place plan);
-  due = run_due words source.holds plan _ (NotRead (name_of place plan)) asked h.0 refl;
-  shown = h.1;
-  unread = asked_unread words source (Runs plan) asked;
-  says = says;
-}
-refusal_answers (Input place cause) words source plan asked h before faults status after later says =
-    refused_answers words source (Runs plan) asked (name_of place plan) cause (run_due words source.holds plan _ (NotAccepted (name_of place plan) cause) asked h.0 refl) h.1 h.2
-    before faults status after later says
+refusal_answers refusal words source plan asked =
+    stopped_answers words source plan (Runs plan) asked
+    (λ place files. record { finds = files.finds; agree = files.agree; comes = subst (λ (p : Prepared). RunComesTo plan p (NotRead (name_of place plan))) (sym files.is) refl })
+    (λ place cause files. record { finds = files.finds; agree = files.agree; comes = subst (λ (p : Prepared). RunComesTo plan p (NotAccepted (name_of place plan) cause)) (sym files.is) refl })
+    refusal
+
+-- so does one that is recorded
+pub record_refusal_answers : (refusal : Refusal) (words : List (List ℕ)) (source : Source) (plan : Plan) → command_of words ≡ Some (Records plan)
+    → Refuses refusal source.holds plan source.faults source.later_faults source.taken source.later_taken
+    → (before : Option (List ℕ)) (faults status : ℕ) (after : Option (List ℕ)) (later : ℕ) → Tells (outcome_of refusal plan) before faults status after later
+    → Answers words source before faults status after later
+record_refusal_answers refusal words source plan asked =
+    stopped_answers words source plan (Records plan) asked
+    (λ place files. record { finds = files.finds; agree = files.agree; comes = subst (λ (p : Prepared). RecordComesTo plan p (NotRead (name_of place plan))) (sym files.is) refl })
+    (λ place cause files. record { finds = files.finds; agree = files.agree; comes = subst (λ (p : Prepared). RecordComesTo plan p (NotAccepted (name_of place plan) cause)) (sym files.is) refl })
+    refusal
 
 -- a command over one file answers that the file is refused
 pub job_refused : (words : List (List ℕ)) (source : Source) (job : Job) (cause : Cause) → command_of words ≡ Some (Uses job)
@@ -167,3 +198,94 @@ words_refused line.Memory words source named still before faults status after la
   unread = λ none. still;
   says = says;
 }
+
+module _ (words : List (List ℕ)) (source : Source) (plan : Plan) (asked : command_of words ≡ Some (Records plan)) (kept : source.later_faults ≡ source.faults) (setup : Setup) (rules : Option (List Op)) (machines : List Machine)
+    (files : ComesTo plan source.holds (Ready setup rules machines)) (before : Option (List ℕ)) (faults status : ℕ) (after : Option (List ℕ)) (later : ℕ) where
+  recorded : RanRecorded plan.limits setup rules machines before faults status after later → Answers words source before faults status after later
+  recorded ran = record {
+    outcome = Recorded ran.account;
+    due = is_due words source.holds (Records plan) (Recorded ran.account) asked (record {
+      finds = files.finds;
+      agree = files.agree;
+      comes = subst (λ (p : Prepared). RecordComesTo plan p (Recorded ran.account)) (sym files.is) (ran.account, refl, ran.is_run, ran.never_starved);
+    });
+    shown = kept;
+    unread = asked_unread words source (Records plan) asked;
+    says = ran.says;
+  }
+
+  unrecorded : Says (text_of NoMemory) 3 before faults status after later → Answers words source before faults status after later
+  unrecorded says = record {
+    outcome = NoMemory;
+    due = memory_due words source.holds (Records plan) asked;
+    shown = kept;
+    unread = asked_unread words source (Records plan) asked;
+    says = says;
+  }
+
+  -- versions that ran have an outcome of the recorded run
+  pub record_answers : RecordSays plan.limits setup rules machines before faults status after later → Answers words source before faults status after later
+  record_answers = ⊎_elim recorded unrecorded
+
+-- ---- a version that follows a trace
+
+-- what is written of a refusal, by its place
+pub tells_lack : (trail : Trail) (place : Place) (cause : Cause) {before : Option (List ℕ)} {faults status : ℕ} {after : Option (List ℕ)} {later : ℕ}
+    → Wrote (text_of (NotAccepted (name_on place trail) cause)) 4 before faults status after later → Tells (lack_outcome trail (lack.Refused place cause)) before faults status after later
+tells_lack trail Trace Long h = h
+tells_lack trail place cause h = h
+
+module _ (words : List (List ℕ)) (source : Source) (command : Command) (asked : command_of words ≡ Some command)
+    (before : Option (List ℕ)) (faults status : ℕ) (after : Option (List ℕ)) (later : ℕ) where
+  -- an outcome that is owed and told
+  pub told_answers : (outcome : Outcome) → Owes command source.holds outcome → Shows outcome source → Says (text_of outcome) (status_of outcome) before faults status after later
+      → Answers words source before faults status after later
+  told_answers outcome owed shown says = record {
+    outcome = outcome;
+    due = is_due words source.holds command outcome asked owed;
+    shown = shown;
+    unread = asked_unread words source command asked;
+    says = says;
+  }
+
+  -- memory was wanted
+  pub wanted_answers : source.later_faults ≡ source.faults → Says (text_of NoMemory) 3 before faults status after later → Answers words source before faults status after later
+  wanted_answers kept says = record {
+    outcome = NoMemory;
+    due = memory_due words source.holds command asked;
+    shown = kept;
+    unread = asked_unread words source command asked;
+    says = says;
+  }
+
+  -- it is told, or memory was wanted
+  pub wrote_answers : (outcome : Outcome) → Owes command source.holds outcome → Shows outcome source → source.later_faults ≡ source.faults
+      → Wrote (text_of outcome) (status_of outcome) before faults status after later → Answers words source before faults status after later
+  wrote_answers outcome owed shown kept = ⊎_elim (told_answers outcome owed shown) (wanted_answers kept)
+
+  -- a file that is refused
+  lack_answers : (trail : Trail) (place : Place) (cause : Cause) → Owes command source.holds (lack_outcome trail (lack.Refused place cause)) → source.later_faults ≡ source.faults
+      → (cause ≡ Long → TookMore (limit_of place) source.taken source.later_taken) → Tells (lack_outcome trail (lack.Refused place cause)) before faults status after later
+      → Answers words source before faults status after later
+  lack_answers trail Trace Long owed kept long says = wrote_answers (TraceTooLong trail.trace) owed (kept, long refl) kept says
+  lack_answers trail Trace (causes.Script fault) owed kept long says = wrote_answers _ owed (kept, λ e. cc) kept says
+  lack_answers trail Trace (causes.Elf fault) owed kept long says = wrote_answers _ owed (kept, λ e. cc) kept says
+  lack_answers trail Trace (causes.Guest fault) owed kept long says = wrote_answers _ owed (kept, λ e. cc) kept says
+  lack_answers trail Trace (causes.Filter fault) owed kept long says = wrote_answers _ owed (kept, λ e. cc) kept says
+  lack_answers trail Trace (causes.Rules fault) owed kept long says = wrote_answers _ owed (kept, λ e. cc) kept says
+  lack_answers trail Trace (causes.Asm fault) owed kept long says = wrote_answers _ owed (kept, λ e. cc) kept says
+  lack_answers trail Trace (causes.Trace fault) owed kept long says = wrote_answers _ owed (kept, λ e. cc) kept says
+  lack_answers trail Trace (causes.Check fault) owed kept long says = wrote_answers _ owed (kept, λ e. cc) kept says
+  lack_answers trail Script cause owed kept long says = wrote_answers (NotAccepted trail.script cause) owed (kept, long) kept says
+  lack_answers trail Rules cause owed kept long says = wrote_answers (NotAccepted (name_on Rules trail) cause) owed (kept, long) kept says
+  lack_answers trail (Version i) cause owed kept long says = wrote_answers (NotAccepted trail.version cause) owed (kept, long) kept says
+
+  -- files that give nothing have it answered
+  pub trail_refusal_answers : (refusal : Refusal) (trail : Trail) (made : Traced → Outcome) → ((outcome : Outcome) → TrailOwes trail made source.holds outcome → Owes command source.holds outcome)
+      → TrailRefused refusal trail source.holds source.faults source.later_faults source.taken source.later_taken → Tells (refused_outcome refusal trail) before faults status after later
+      → Answers words source before faults status after later
+  trail_refusal_answers Memory trail made owes h says = wanted_answers h says
+  trail_refusal_answers (Unread place) trail made owes h says =
+      told_answers (NotRead (name_on place trail)) (owes _ (record { finds = h.0.finds; agree = h.0.agree; comes = sym (ap (traced_outcome trail made) h.0.is) })) h.1 says
+  trail_refusal_answers (Input place cause) trail made owes h says =
+      lack_answers trail place cause (owes _ (record { finds = h.0.finds; agree = h.0.agree; comes = sym (ap (traced_outcome trail made) h.0.is) })) h.1 h.2 says

@@ -9,7 +9,7 @@ use Rattle.nv_machine.specs.Guest.{Machine}
 use Rattle.nv_command.specs.Words.{Limits, Plan}
 use Rattle.nv_script.specs.Scripts.{Setup, script_of}
 use Rattle.nv_script.specs.declared.fault.ScriptFault.{ScriptFault}
-use Rattle.nv_jobs.specs.Found.{Found, Whole, TooLong, Unread, Finds, Agrees, AgreesIf, AllAgree, AreFound, is_long, found_of, finds_of}
+use Rattle.nv_jobs.specs.Found.{Found, Whole, TooLong, Unread, Finds, Agrees, AgreesIf, AllAgree, AreFound, AgreesWithin, FILE_LIMIT, is_longer, found_within, found_of, finds_of}
 use Rattle.nv_jobs.specs.Prepared.{Prepared, Unreadable, Refused, Ready, VersionOf, Faulty, Loads, read_at, with_machine, version_then, versions_from, judged_by, rules_then, after_rules, after_script, version_of, prepared}
 use Rattle.nv_jobs.specs.declared.refusal.Place.{Place}
 use Rattle.nv_jobs.specs.declared.refusal.Place.TheVariants.{Script, Rules, Version}
@@ -19,25 +19,28 @@ IsUnread (Unreadable place) = Unit {0}
 IsUnread (Refused place cause) = ⊥
 IsUnread (Ready setup rules machines) = ⊥
 
-not_long : (bytes : List ℕ) → length bytes ≤ 4194304 → is_long bytes ≡ false
-not_long bytes h = grind (arith, nat_tests)
+not_longer : (limit : ℕ) (bytes : List ℕ) → length bytes ≤ limit → is_longer limit bytes ≡ false
+not_longer limit bytes h = grind (arith, nat_tests)
 
-whole_of : (bytes : List ℕ) → is_long bytes ≡ false → Whole bytes ≡ found_of (Content bytes)
-whole_of bytes short = rw short refl
+whole_of : (limit : ℕ) (bytes : List ℕ) → is_longer limit bytes ≡ false → Whole bytes ≡ found_within limit (Content bytes)
+whole_of limit bytes short = rw short refl
 
-long_of : (content : List ℕ) → is_long content ≡ true → TooLong ≡ found_of (Content content)
-long_of content long = rw long refl
+long_of : (limit : ℕ) (content : List ℕ) → is_longer limit content ≡ true → TooLong ≡ found_within limit (Content content)
+long_of limit content long = rw long refl
 
 -- what is found is what is told, unless the file is unreadable or untold
+pub same_within : (limit : ℕ) (told : Told) (found : Found) → AgreesWithin limit told found → (found ≡ Unread) ⊎ ((found_within limit told ≡ Unread) ⊎ (found ≡ found_within limit told))
+same_within limit told Unread a = inl refl
+same_within limit Untold (Whole bytes) a = inr (inl refl)
+same_within limit Untold TooLong a = inr (inl refl)
+same_within limit Missing (Whole bytes) a = inr (inl refl)
+same_within limit Missing TooLong a = inr (inl refl)
+same_within limit (Content content) (Whole bytes) a =
+    inr (inr (subst (λ (c : List ℕ). Whole bytes ≡ found_within limit (Content c)) (a.same content refl) (whole_of limit bytes (not_longer limit bytes a.short))))
+same_within limit (Content content) TooLong a = inr (inr (long_of limit content (a.same content refl)))
+
 pub same_found : (told : Told) (found : Found) → Agrees told found → (found ≡ Unread) ⊎ ((found_of told ≡ Unread) ⊎ (found ≡ found_of told))
-same_found told Unread a = inl refl
-same_found Untold (Whole bytes) a = inr (inl refl)
-same_found Untold TooLong a = inr (inl refl)
-same_found Missing (Whole bytes) a = inr (inl refl)
-same_found Missing TooLong a = inr (inl refl)
-same_found (Content content) (Whole bytes) a =
-    inr (inr (subst (λ (c : List ℕ). Whole bytes ≡ found_of (Content c)) (a.same content refl) (whole_of bytes (not_long bytes a.short))))
-same_found (Content content) TooLong a = inr (inr (long_of content (a.same content refl)))
+same_found told found a = same_within FILE_LIMIT told found a
 
 same_read : (place : Place) (found : Found) (check other : List ℕ → Prepared) → ((bytes : List ℕ) → (IsUnread (check bytes) → ⊥) → (IsUnread (other bytes) → ⊥) → check bytes ≡ other bytes)
     → (IsUnread (read_at place found check) → ⊥) → (IsUnread (read_at place found other) → ⊥) → read_at place found check ≡ read_at place found other

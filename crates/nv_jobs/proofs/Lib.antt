@@ -1,5 +1,7 @@
 pub mod Loading
 pub mod Decided
+pub mod Followed
+pub mod Trailing
 pub mod Loaded
 pub mod Statuses
 pub mod Making

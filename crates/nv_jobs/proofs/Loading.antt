@@ -10,7 +10,7 @@ use Rattle.nv_threads.specs.Threads.{Proc, threads}
 use Rattle.nv_replay.specs.Versions.{Running, IsFresh, process_of}
 use Rattle.nv_replay.specs.Accounts.{AreFresh}
 use Rattle.nv_jobs.specs.Account.{begun}
-use Rattle.nv_jobs.specs.Found.{Found, Whole, TooLong, Unread, Agrees, AgreesIf, AllAgree, IsReadOf}
+use Rattle.nv_jobs.specs.Found.{Found, Whole, TooLong, Unread, Agrees, AgreesIf, AllAgree, IsReadOf, FILE_LIMIT}
 use Rattle.nv_jobs.specs.Prepared.{Prepared, Unreadable, Refused, Ready, read_at, with_machine, version_then, versions_from, judged_by, rules_then, after_rules, after_script, version_of}
 use Rattle.nv_jobs.specs.Refusals.{HasLoaded, AreLoaded, IsFault, ReadRefused, VersionRefused, VersionsRefused, VersionsCome, RestComes, HasRead, HasRules, RulesStop, RulesRefused, RestRefused, ComesTo, IsScriptRefusal, IsFilterRefusal, IsVersionRefusal, Refuses}
 use Rattle.nv_jobs.specs.declared.refusal.Refusal.{Refusal}
@@ -49,7 +49,7 @@ all_unread holds [] = tt
 all_unread holds (name ∷ names) = (tt, all_unread holds names)
 
 -- nor of the rules
-rules_unread : (holds : List ℕ → Told) (name : Option (List ℕ)) → AgreesIf holds name (option_map unread_of name)
+pub rules_unread : (holds : List ℕ → Told) (name : Option (List ℕ)) → AgreesIf holds name (option_map unread_of name)
 rules_unread holds None = tt
 rules_unread holds (Some name) = tt
 
@@ -118,10 +118,10 @@ rules_stop holds plan setup whole s = record {
 
 -- rules can't be read
 pub rules_unreadable : (refusal : Refusal) (holds : List ℕ → Told) (named : Option (List ℕ)) (name : List ℕ) (f f' t t' : ℕ) → named ≡ Some name
-    → ReadRefused refusal Rules (holds name) f f' t t' → RulesRefused refusal holds named f f' t t'
+    → ReadRefused refusal Rules FILE_LIMIT (holds name) f f' t t' → RulesRefused refusal holds named f f' t t'
 rules_unreadable why holds named name f f' t t' e h = subst (λ (n : Option (List ℕ)). RulesRefused why holds n f f' t t') (sym e) (by why h)
   where
-    by : (r : Refusal) → ReadRefused r Rules (holds name) f f' t t' → RulesRefused r holds (Some name) f f' t t'
+    by : (r : Refusal) → ReadRefused r Rules FILE_LIMIT (holds name) f f' t t' → RulesRefused r holds (Some name) f f' t t'
     by refusal.Memory h = h
     by (refusal.Unreadable place) h = (record { rules = Some Unread; agree = tt; is = λ rest. ap Unreadable (sym h.0) }, h.1)
     by (refusal.Input place cause) h =
@@ -179,7 +179,7 @@ script_stops holds plan found whole agrees stops = record {
 }
 
 -- a script can't be read
-pub script_unread : (refusal : Refusal) (holds : List ℕ → Told) (plan : Plan) (f0 f t0 t : ℕ) → ReadRefused refusal Script (holds plan.script) f0 f t0 t → Refuses refusal holds plan f0 f t0 t
+pub script_unread : (refusal : Refusal) (holds : List ℕ → Told) (plan : Plan) (f0 f t0 t : ℕ) → ReadRefused refusal Script FILE_LIMIT (holds plan.script) f0 f t0 t → Refuses refusal holds plan f0 f t0 t
 script_unread refusal.Memory holds plan f0 f t0 t h = h
 script_unread (refusal.Unreadable place) holds plan f0 f t0 t h =
     (script_stops holds plan Unread (Unreadable place) tt (λ rest. ap Unreadable (sym h.0)), h.1)

@@ -8,13 +8,25 @@ use Rattle.nv_outside.specs.declared.sink.Put.TheVariants.{Whole, Failed}
 use Rattle.nv_replay.specs.declared.standing.Standing.{Standing}
 use Rattle.nv_replay.specs.Follow.{is_exited}
 use Rattle.nv_replay.specs.Lead.{is_memory}
-use Rattle.nv_command.specs.Words.{Name, Plan, Job, Command, Runs, Uses, Generates, asked_by, after_program, command_of, name_in}
-use Rattle.nv_jobs.specs.Account.{run_status}
+use Rattle.nv_command.specs.Words.{Name, Plan, Job, Trail, Look, Command, Runs, Uses, Generates, Records, Replays, Inspects, asked_by, after_program, command_of, name_in}
+use Rattle.nv_replay.specs.Follow.{follow, fresh, judge_of}
+use Rattle.nv_replay.specs.declared.fate.Fate.{Fate}
+use Rattle.nv_replay.specs.declared.fate.Fate.TheVariants.{Exited}
+use Rattle.nv_threads.specs.Threads.{threads}
+use Rattle.nv_jobs.specs.Account.{run_status, begun}
+use Rattle.nv_jobs.specs.Replayed.{replay_status}
+use Rattle.nv_jobs.specs.Traced.{Traced, Lack, traced, trace_finds_of, trail_limits}
+use Rattle.nv_jobs.specs.Traced as lack
+use Rattle.nv_jobs.specs.declared.refusal.Place.{Place}
+use Rattle.nv_jobs.specs.declared.refusal.Place.TheVariants.{Trace}
+use Rattle.nv_jobs.specs.declared.refusal.Cause.{Cause}
+use Rattle.nv_jobs.specs.declared.refusal.Cause.TheVariants.{Long}
+use Rattle.nv_jobs.proofs.Followed.{LacksRead, same_traced}
 use Rattle.nv_jobs.specs.Found.{Found, Unread, found_of, finds_of}
 use Rattle.nv_jobs.specs.Prepared.{Prepared, Unreadable, Refused, Ready, prepared}
 use Rattle.nv_jobs.specs.Made.{made_of}
-use Rattle.nv_jobs.specs.Outcome.{Source, Outcome, Usage, NoMemory, NotRead, NotAccepted, Reported, Made, Summed, status_of, ended_with}
-use Rattle.nv_jobs.specs.Due.{RunComesTo, RunOwes, JobOwes, Owes, OwesAny, Shows, Answers, IsReady, IsMade, IsAccepted, IsRefusedAt, IsRefusedFor, IsRefused, IsReport, IsDone, Completes, Rejects, made_outcome}
+use Rattle.nv_jobs.specs.Outcome.{Source, Outcome, Usage, NoMemory, NotRead, NotAccepted, Reported, Made, Summed, Recorded, TraceTooLong, Replayed, Shown, status_of, ended_with}
+use Rattle.nv_jobs.specs.Due.{RunComesTo, RunOwes, JobOwes, Owes, OwesAny, Shows, Answers, IsReady, IsMade, IsAccepted, IsRefusedAt, IsRefusedFor, IsRefused, IsReport, IsDone, Completes, Rejects, made_outcome, RecordComesTo, RecordOwes, TrailOwes, traced_outcome, lack_outcome, replayed, shown as shown_by, IsTraced, IsRefusedOn}
 use Rattle.nv_jobs.specs.declared.tools.Unmade.{Unmade}
 use Rattle.nv_jobs.specs.declared.tools.Unmade.TheVariants as unmade
 use Rattle.nv_jobs.proofs.Decided.{IsUnread, same_found, same_prepared}
@@ -27,6 +39,21 @@ one_of false false n is = inr (inl is)
 
 run_done : (lines : List Standing) (n : ℕ) → n ≡ run_status lines → IsReport n
 run_done lines n is = one_of (list_any (λ line. is_exited line.fate) lines) (list_any (λ line. is_memory line.fate) lines) n is
+
+-- a run in which no version wanted memory has one of two
+one_of_two : (exited memory : Bool) (n : ℕ) → memory ≡ false → n ≡ (if exited then 0 else (if memory then 7 else 1)) → (n ≡ 0) ⊎ (n ≡ 1)
+one_of_two true memory n never is = inl is
+one_of_two false true n never is = cc
+one_of_two false false n never is = inr is
+
+record_done : (lines : List Standing) (n : ℕ) → list_any (λ line. is_memory line.fate) lines ≡ false → n ≡ run_status lines → (n ≡ 0) ⊎ (n ≡ 1)
+record_done lines n never is = one_of_two (list_any (λ line. is_exited line.fate) lines) (list_any (λ line. is_memory line.fate) lines) n never is
+
+-- so has a replay
+replay_done : (fate : Option Fate) (n : ℕ) → n ≡ replay_status fate → (n ≡ 0) ⊎ (n ≡ 1)
+replay_done None n is = inl is
+replay_done (Some (Exited code)) n is = inl is
+replay_done (Some fate) n is = inr is
 
 -- the status of a text that was written whole is its own
 own : (put : Put) (n status : ℕ) → n ≡ ended_with put status → (put ≡ Failed → ⊥) → n ≡ status
@@ -53,6 +80,26 @@ module _ (source : Source) (no_fault : Rose source.faults source.later_faults �
 
     run_told : (IsUnread (prepared plan.limits (finds_of source.holds plan)) → ⊥) → RunComesTo plan (prepared plan.limits (finds_of source.holds plan)) outcome
     run_told told = subst (λ (p : Prepared). RunComesTo plan p outcome) (run_decided told) r.comes
+
+  record_readable : (plan : Plan) (whole : Prepared) → RecordComesTo plan whole outcome → IsUnread whole → ⊥
+  record_readable plan (Unreadable place) comes u = readable _ comes
+  record_readable plan (Refused place cause) comes u = u
+  record_readable plan (Ready setup rules machines) comes u = u
+
+  record_told : (plan : Plan) (r : RecordOwes plan source.holds outcome) → (IsUnread (prepared plan.limits (finds_of source.holds plan)) → ⊥) → RecordComesTo plan (prepared plan.limits (finds_of source.holds plan)) outcome
+  record_told plan r told =
+      subst (λ (p : Prepared). RecordComesTo plan p outcome)
+      (same_prepared source.holds plan r.finds r.agree (record_readable plan (prepared plan.limits r.finds) r.comes) told) r.comes
+
+  module _ (trail : Trail) (made : Traced → Outcome) where
+    trail_readable : (given : Result Traced Lack) → outcome ≡ traced_outcome trail made given → LacksRead given → ⊥
+    trail_readable (Ok files) comes u = u
+    trail_readable (Err (lack.Unreadable place)) comes u = readable _ comes
+    trail_readable (Err (lack.Refused place cause)) comes u = u
+
+    trail_told : TrailOwes trail made source.holds outcome → (LacksRead (traced trail (trace_finds_of source.holds trail)) → ⊥) → outcome ≡ traced_outcome trail made (traced trail (trace_finds_of source.holds trail))
+    trail_told r told =
+        r.comes ∙ ap (traced_outcome trail made) (same_traced trail source.holds r.finds r.agree (trail_readable (traced trail r.finds) r.comes) told)
 
   module _ (job : Job) (j : JobOwes job source.holds outcome) where
     job_told : (found_of (source.holds job.file) ≡ Unread → ⊥) → outcome ≡ made_outcome job (made_of job.tool (found_of (source.holds job.file)))
@@ -83,6 +130,39 @@ refused_status plan (Unreadable place) outcome refused comes = absurd refused
 refused_status plan (Refused place cause) outcome refused comes = ap status_of comes
 refused_status plan (Ready setup rules machines) outcome refused comes = absurd refused
 
+record_ready_status : (plan : Plan) (whole : Prepared) (outcome : Outcome) → IsReady whole → RecordComesTo plan whole outcome → IsDone (Records plan) (status_of outcome)
+record_ready_status plan (Unreadable place) outcome ready comes = absurd ready
+record_ready_status plan (Refused place cause) outcome ready comes = absurd ready
+record_ready_status plan (Ready setup rules machines) outcome ready comes = record_done comes.0.lines (status_of outcome) comes.3 (ap status_of comes.1)
+
+record_refused_status : (plan : Plan) (whole : Prepared) (outcome : Outcome) → IsRefusedAt whole → RecordComesTo plan whole outcome → status_of outcome ≡ 4
+record_refused_status plan (Unreadable place) outcome refused comes = absurd refused
+record_refused_status plan (Refused place cause) outcome refused comes = ap status_of comes
+record_refused_status plan (Ready setup rules machines) outcome refused comes = absurd refused
+
+lack_status : (trail : Trail) (place : Place) (cause : Cause) → status_of (lack_outcome trail (lack.Refused place cause)) ≡ 4
+lack_status trail Trace Long = refl
+lack_status trail place cause = refl
+
+module _ (trail : Trail) (made : Traced → Outcome) (outcome : Outcome) where
+  traced_read : (given : Result Traced Lack) → IsTraced given → LacksRead given → ⊥
+  traced_read (Ok files) is u = u
+  traced_read (Err lack) is u = absurd is
+
+  lacking_read : (given : Result Traced Lack) → IsRefusedOn given → LacksRead given → ⊥
+  lacking_read (Ok files) refused u = u
+  lacking_read (Err (lack.Unreadable place)) refused u = absurd refused
+  lacking_read (Err (lack.Refused place cause)) refused u = u
+
+  traced_status : (P : ℕ → Type 0) → ((files : Traced) → P (status_of (made files))) → (given : Result Traced Lack) → IsTraced given → outcome ≡ traced_outcome trail made given → P (status_of outcome)
+  traced_status P done (Ok files) is comes = subst (λ (o : Outcome). P (status_of o)) (sym comes) (done files)
+  traced_status P done (Err lack) is comes = absurd is
+
+  lacking_status : (given : Result Traced Lack) → IsRefusedOn given → outcome ≡ traced_outcome trail made given → status_of outcome ≡ 4
+  lacking_status (Ok files) refused comes = absurd refused
+  lacking_status (Err (lack.Unreadable place)) refused comes = absurd refused
+  lacking_status (Err (lack.Refused place cause)) refused comes = ap status_of comes ∙ lack_status trail place cause
+
 made_status : (job : Job) (made : Result (List ℕ) Unmade) (outcome : Outcome) → IsMade made → outcome ≡ made_outcome job made → status_of outcome ≡ 0
 made_status job (Ok text) outcome is comes = ap status_of comes
 made_status job (Err reason) outcome is comes = absurd is
@@ -108,6 +188,17 @@ module _ (source : Source) (no_fault : Rose source.faults source.later_faults �
       made_status job (made_of job.tool (found_of (source.holds job.file))) outcome accepted
       (job_told source no_fault outcome shown job owed (made_found job (found_of (source.holds job.file)) accepted))
   accepted_status (Generates n) owed accepted = ap status_of owed.comes
+  accepted_status (Records plan) owed accepted =
+      record_ready_status plan (prepared plan.limits (finds_of source.holds plan)) outcome accepted
+      (record_told source no_fault outcome shown plan owed (ready_read (prepared plan.limits (finds_of source.holds plan)) accepted))
+  accepted_status (Replays trail) owed accepted =
+      traced_status trail (replayed trail) outcome (λ n. (n ≡ 0) ⊎ (n ≡ 1))
+      (λ files. replay_done (follow threads (judge_of files.rules trail.index) files.log (fresh (begun (trail_limits trail) files.machine))).fate _ refl)
+      (traced trail (trace_finds_of source.holds trail)) accepted
+      (trail_told source no_fault outcome shown trail (replayed trail) owed (traced_read trail (replayed trail) outcome (traced trail (trace_finds_of source.holds trail)) accepted))
+  accepted_status (Inspects look) owed accepted =
+      traced_status look.trail (shown_by look) outcome (λ n. n ≡ 0) (λ files. refl) (traced look.trail (trace_finds_of source.holds look.trail)) accepted
+      (trail_told source no_fault outcome shown look.trail (shown_by look) owed (traced_read look.trail (shown_by look) outcome (traced look.trail (trace_finds_of source.holds look.trail)) accepted))
 
   rejected_status : (command : Command) → Owes command source.holds outcome → IsRefused command source.holds → status_of outcome ≡ 4
   rejected_status (Runs plan) owed refused =
@@ -117,6 +208,15 @@ module _ (source : Source) (no_fault : Rose source.faults source.later_faults �
       unmade_status job (made_of job.tool (found_of (source.holds job.file))) outcome refused
       (job_told source no_fault outcome shown job owed (refused_found job (found_of (source.holds job.file)) refused))
   rejected_status (Generates n) owed refused = absurd refused
+  rejected_status (Records plan) owed refused =
+      record_refused_status plan (prepared plan.limits (finds_of source.holds plan)) outcome refused
+      (record_told source no_fault outcome shown plan owed (refused_read (prepared plan.limits (finds_of source.holds plan)) refused))
+  rejected_status (Replays trail) owed refused =
+      lacking_status trail (replayed trail) outcome (traced trail (trace_finds_of source.holds trail)) refused
+      (trail_told source no_fault outcome shown trail (replayed trail) owed (lacking_read trail (replayed trail) outcome (traced trail (trace_finds_of source.holds trail)) refused))
+  rejected_status (Inspects look) owed refused =
+      lacking_status look.trail (shown_by look) outcome (traced look.trail (trace_finds_of source.holds look.trail)) refused
+      (trail_told source no_fault outcome shown look.trail (shown_by look) owed (lacking_read look.trail (shown_by look) outcome (traced look.trail (trace_finds_of source.holds look.trail)) refused))
 
 module _ {words : List (List ℕ)} {source : Source} {before after : Option (List ℕ)} {faults status later : ℕ} where
   -- what the words owe that name this command, unless memory is wanted
@@ -144,6 +244,12 @@ not_five n done five = ⊎_elim (λ is. omega arith) (λ r. ⊎_elim (λ is. ome
 not_six : (n : ℕ) → IsReport n → n ≡ 6 → ⊥
 not_six n done six = ⊎_elim (λ is. omega arith) (λ r. ⊎_elim (λ is. omega arith) (λ is. omega arith) r) done
 
+two_not_five : (n : ℕ) → (n ≡ 0) ⊎ (n ≡ 1) → n ≡ 5 → ⊥
+two_not_five n done five = ⊎_elim (λ is. omega arith) (λ is. omega arith) done
+
+two_not_six : (n : ℕ) → (n ≡ 0) ⊎ (n ≡ 1) → n ≡ 6 → ⊥
+two_not_six n done six = ⊎_elim (λ is. omega arith) (λ is. omega arith) done
+
 five : (outcome : Outcome) (put : Put) (source : Source) (n : ℕ) → Shows outcome source → n ≡ ended_with put (status_of outcome) → n ≡ 5 → Rose source.faults source.later_faults
 five (NotRead name) put source n shown ends is = shown
 five Usage Whole source n shown ends is = absurd (omega arith)
@@ -152,6 +258,10 @@ five (NotAccepted name cause) Whole source n shown ends is = absurd (omega arith
 five (Reported json setup account) Whole source n shown ends is = absurd (not_five n (run_done account.lines n ends) is)
 five (Made text) Whole source n shown ends is = absurd (omega arith)
 five (Summed k setup account) Whole source n shown ends is = absurd (omega arith)
+five (Recorded account) Whole source n shown ends is = absurd (not_five n (run_done account.lines n ends) is)
+five (TraceTooLong name) Whole source n shown ends is = absurd (omega arith)
+five (Replayed at) Whole source n shown ends is = absurd (two_not_five n (replay_done at.fate n ends) is)
+five (Shown text) Whole source n shown ends is = absurd (omega arith)
 five outcome Failed source n shown ends is = absurd (omega arith)
 
 six : (outcome : Outcome) (put : Put) (n : ℕ) → n ≡ ended_with put (status_of outcome) → n ≡ 6 → put ≡ Failed
@@ -163,6 +273,10 @@ six (NotAccepted name cause) Whole n ends is = absurd (omega arith)
 six (Reported json setup account) Whole n ends is = absurd (not_six n (run_done account.lines n ends) is)
 six (Made text) Whole n ends is = absurd (omega arith)
 six (Summed k setup account) Whole n ends is = absurd (omega arith)
+six (Recorded account) Whole n ends is = absurd (not_six n (run_done account.lines n ends) is)
+six (TraceTooLong name) Whole n ends is = absurd (omega arith)
+six (Replayed at) Whole n ends is = absurd (two_not_six n (replay_done at.fate n ends) is)
+six (Shown text) Whole n ends is = absurd (omega arith)
 
 -- a name of no command is refused
 nameless : (words : List (List ℕ)) → name_in words ≡ None → command_of words ≡ None

@@ -6,8 +6,9 @@ use Rattle.nv_guest.specs.Faults.{guest_text}
 use Rattle.nv_bpf.specs.Faults.{filter_text}
 use Rattle.nv_bpf_asm.specs.Faults.{rules_text}
 use Rattle.nv_asm.specs.Faults.{asm_text}
+use Rattle.nv_trace.specs.Texts.{trace_text, check_text}
 use Rattle.nv_jobs.specs.declared.refusal.Cause.{Cause}
-use Rattle.nv_jobs.specs.declared.refusal.Cause.TheVariants.{Long, Script, Elf, Guest, Filter, Rules, Asm}
+use Rattle.nv_jobs.specs.declared.refusal.Cause.TheVariants.{Long, Script, Elf, Guest, Filter, Rules, Asm, Trace, Check}
 
 abbrev pub cause_text : Cause → List ℕ
 cause_text Long = codes "long"
@@ -17,3 +18,5 @@ cause_text (Guest fault) = guest_text fault
 cause_text (Filter fault) = filter_text fault
 cause_text (Rules fault) = rules_text fault
 cause_text (Asm fault) = asm_text fault
+cause_text (Trace fault) = trace_text fault
+cause_text (Check fault) = check_text fault

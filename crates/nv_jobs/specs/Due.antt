@@ -1,22 +1,34 @@
 -- What a call of the monitor owes for its words and files, and what its answer shows.
-use Rattle.std.specs.Prelude.{◌≡◌, ◌⊎◌, ℕ, IsSome, false, List, Option, None, Some, Result, Ok, Err}
+use Rattle.std.specs.Prelude.{◌≡◌, ◌⊎◌, ℕ, IsSome, false, List, take, Option, None, Some, Result, Ok, Err}
 use Rattle.std.specs.List.{list_any}
 use Rattle.nv_outside.specs.Counts.{Rose}
 use Rattle.nv_outside.specs.Told.{Told}
 use Rattle.nv_outside.specs.Sink.{Puts}
 use Rattle.nv_outside.specs.declared.sink.Put.{Put}
-use Rattle.nv_command.specs.Words.{Plan, Job, Command, Runs, Uses, Generates, usual, command_of, name_in}
+use Rattle.nv_command.specs.Words.{Plan, Job, Trail, Look, Command, Runs, Uses, Generates, Records, Replays, Inspects, usual, command_of, name_in}
 use Rattle.nv_bpf.specs.declared.op.Op.{Op}
 use Rattle.nv_machine.specs.Guest.{Machine}
 use Rattle.nv_script.specs.Scripts.{Setup}
 use Rattle.nv_replay.specs.Lead.{is_memory}
 use Rattle.nv_replay.specs.Sequence.{Account}
-use Rattle.nv_jobs.specs.Account.{IsRunOf}
-use Rattle.nv_jobs.specs.Found.{Found, Finds, Agrees, AreFound, TookLong, found_of, finds_of}
+use Rattle.nv_jobs.specs.Account.{IsRunOf, begun}
+use Rattle.nv_jobs.specs.Found.{Found, Finds, Agrees, AreFound, TookLong, TookMore, TRACE_LIMIT, found_of, finds_of}
 use Rattle.nv_jobs.specs.Prepared.{Prepared, Unreadable, Refused, Ready, prepared}
 use Rattle.nv_jobs.specs.Generated.{IsMadeRun}
 use Rattle.nv_jobs.specs.Made.{made_of}
-use Rattle.nv_jobs.specs.Outcome.{Outcome, Usage, NoMemory, NotRead, NotAccepted, Reported, Made, Summed, Source, name_of, text_of, status_of, ended_with}
+use Rattle.nv_jobs.specs.Outcome.{Outcome, Usage, NoMemory, NotRead, NotAccepted, Reported, Made, Summed, Recorded, TraceTooLong, Replayed, Shown, Source, name_of, name_on, text_of, status_of, ended_with}
+use Rattle.nv_calls.specs.Calls.{Entry}
+use Rattle.nv_calls.specs.Logs.{calls_of}
+use Rattle.nv_fs.specs.States.{FileState}
+use Rattle.nv_inspect.specs.Shown.{show_text}
+use Rattle.nv_replay.specs.Follow.{Follower, follow, fresh, judge_of}
+use Rattle.nv_retrace.specs.Points.{at_point}
+use Rattle.nv_sockets.specs.Serving.{first_state, state_after}
+use Rattle.nv_threads.specs.Threads.{Proc, threads}
+use Rattle.nv_jobs.specs.Tracing.{point_of}
+use Rattle.nv_jobs.specs.Traced.{TraceFinds, AreTraceFound, Traced, Lack, trace_finds_of, traced, trail_limits}
+use Rattle.nv_jobs.specs.Traced as lack
+use Rattle.nv_jobs.specs.declared.refusal.Place.TheVariants.{Trace}
 use Rattle.nv_jobs.specs.declared.refusal.Cause.TheVariants.{Long}
 use Rattle.nv_jobs.specs.declared.tools.Unmade.{Unmade}
 use Rattle.nv_jobs.specs.declared.tools.Unmade.TheVariants as unmade
@@ -58,11 +70,58 @@ pub record GenOwes (n : ℕ) (outcome : Outcome) : Type 0 where
   pub never_starved : list_any (λ line. is_memory line.fate) account.lines ≡ false
   pub comes : outcome ≡ Summed n setup account
 
+-- what a file that gives nothing has its command come to
+abbrev pub lack_outcome : Trail → Lack → Outcome
+lack_outcome trail (lack.Unreadable place) = NotRead (name_on place trail)
+lack_outcome trail (lack.Refused Trace Long) = TraceTooLong trail.trace
+lack_outcome trail (lack.Refused place cause) = NotAccepted (name_on place trail) cause
+
+-- what files come to of which this is made
+abbrev pub traced_outcome : Trail → (Traced → Outcome) → Result Traced Lack → Outcome
+traced_outcome trail made (Ok files) = made files
+traced_outcome trail made (Err lack) = lack_outcome trail lack
+
+-- the same of the files of a version that follows a trace
+pub record TrailOwes (trail : Trail) (made : Traced → Outcome) (holds : List ℕ → Told) (outcome : Outcome) : Type 0 where
+  pub finds : TraceFinds
+  pub agree : AreTraceFound trail holds finds
+  pub comes : outcome ≡ traced_outcome trail made (traced trail finds)
+
+-- The version follows the whole log, judged as the version with its number.
+abbrev pub replayed : Trail → Traced → Outcome
+replayed trail files = Replayed (follow threads (judge_of files.rules trail.index) files.log (fresh (begun (trail_limits trail) files.machine)))
+
+-- the files of the kernel after so many events of the log
+abbrev pub files_after : Setup → List Entry → FileState
+files_after setup log = (state_after (first_state setup) (calls_of log)).own.files
+
+-- the version at a point of the log, and the files after the events that it has seen
+abbrev pub shown_of : Traced → Option (ℕ × ℕ) → Follower Proc → Outcome
+shown_of files dump at = Shown (show_text at (files_after files.setup (take at.seen files.log)) dump)
+
+abbrev pub shown : Look → Traced → Outcome
+shown look files = shown_of files look.dump (at_point files.rules look.trail.index files.log (point_of look.point) look.trail.budget files.machine)
+
+-- A recorded run comes to its first file that can't be read or is refused, or else to an account of the sequential monitor, in which no version wanted memory.
+abbrev pub RecordComesTo : Plan → Prepared → Outcome → Type 0
+RecordComesTo plan (Unreadable place) outcome = outcome ≡ NotRead (name_of place plan)
+RecordComesTo plan (Refused place cause) outcome = outcome ≡ NotAccepted (name_of place plan) cause
+RecordComesTo plan (Ready setup rules machines) outcome =
+    (account : Account) × (outcome ≡ Recorded account) × IsRunOf plan.limits setup rules machines account × (list_any (λ line. is_memory line.fate) account.lines ≡ false)
+
+pub record RecordOwes (plan : Plan) (holds : List ℕ → Told) (outcome : Outcome) : Type 0 where
+  pub finds : Finds
+  pub agree : AreFound plan holds finds
+  pub comes : RecordComesTo plan (prepared plan.limits finds) outcome
+
 -- what each command owes
 abbrev pub Owes : Command → (List ℕ → Told) → Outcome → Type 0
 Owes (Runs plan) holds outcome = RunOwes plan holds outcome
 Owes (Uses job) holds outcome = JobOwes job holds outcome
 Owes (Generates n) holds outcome = GenOwes n outcome
+Owes (Records plan) holds outcome = RecordOwes plan holds outcome
+Owes (Replays trail) holds outcome = TrailOwes trail (replayed trail) holds outcome
+Owes (Inspects look) holds outcome = TrailOwes look.trail (shown look) holds outcome
 
 -- words that are refused owe the line of usage
 abbrev pub OwesAny : Option Command → (List ℕ → Told) → Outcome → Type 0
@@ -86,6 +145,10 @@ Shows (NotAccepted name cause) source = (source.later_faults ≡ source.faults) 
 Shows (Reported json setup account) source = source.later_faults ≡ source.faults
 Shows (Made text) source = source.later_faults ≡ source.faults
 Shows (Summed n setup account) source = IsUntouched source
+Shows (Recorded account) source = source.later_faults ≡ source.faults
+Shows (TraceTooLong name) source = (source.later_faults ≡ source.faults) × TookMore TRACE_LIMIT source.taken source.later_taken
+Shows (Replayed at) source = source.later_faults ≡ source.faults
+Shows (Shown text) source = source.later_faults ≡ source.faults
 
 -- A text was written with its status; or a write failed, its count rose, a prefix of the text was written, and the status is 6.
 pub record Says (text : List ℕ) (text_status : ℕ) (before : Option (List ℕ)) (faults : ℕ) (status : ℕ) (after : Option (List ℕ)) (later_faults : ℕ) : Type 0 where
@@ -110,11 +173,18 @@ abbrev pub IsMade : Result (List ℕ) Unmade → Type 0
 IsMade (Ok text) = Unit {0}
 IsMade (Err reason) = ⊥
 
+abbrev pub IsTraced : Result Traced Lack → Type 0
+IsTraced (Ok files) = Unit {0}
+IsTraced (Err lack) = ⊥
+
 -- all files that the command reads are told, and accepted
 abbrev pub IsAccepted : Command → (List ℕ → Told) → Type 0
 IsAccepted (Runs plan) holds = IsReady (prepared plan.limits (finds_of holds plan))
 IsAccepted (Uses job) holds = IsMade (made_of job.tool (found_of (holds job.file)))
 IsAccepted (Generates n) holds = Unit {0}
+IsAccepted (Records plan) holds = IsReady (prepared plan.limits (finds_of holds plan))
+IsAccepted (Replays trail) holds = IsTraced (traced trail (trace_finds_of holds trail))
+IsAccepted (Inspects look) holds = IsTraced (traced look.trail (trace_finds_of holds look.trail))
 
 abbrev pub IsRefusedAt : Prepared → Type 0
 IsRefusedAt (Unreadable place) = ⊥
@@ -127,11 +197,19 @@ IsRefusedFor (Err unmade.Memory) = ⊥
 IsRefusedFor (Err unmade.Unreadable) = ⊥
 IsRefusedFor (Err (unmade.Refused cause)) = Unit {0}
 
+abbrev pub IsRefusedOn : Result Traced Lack → Type 0
+IsRefusedOn (Ok files) = ⊥
+IsRefusedOn (Err (lack.Unreadable place)) = ⊥
+IsRefusedOn (Err (lack.Refused place cause)) = Unit {0}
+
 -- the files that the command reads are told up to one that is refused
 abbrev pub IsRefused : Command → (List ℕ → Told) → Type 0
 IsRefused (Runs plan) holds = IsRefusedAt (prepared plan.limits (finds_of holds plan))
 IsRefused (Uses job) holds = IsRefusedFor (made_of job.tool (found_of (holds job.file)))
 IsRefused (Generates n) holds = ⊥
+IsRefused (Records plan) holds = IsRefusedAt (prepared plan.limits (finds_of holds plan))
+IsRefused (Replays trail) holds = IsRefusedOn (traced trail (trace_finds_of holds trail))
+IsRefused (Inspects look) holds = IsRefusedOn (traced look.trail (trace_finds_of holds look.trail))
 
 -- a run that does its work ends with the status of its versions' fates, which is one of three
 abbrev pub IsReport : ℕ → Type 0
@@ -142,6 +220,9 @@ abbrev pub IsDone : Command → ℕ → Type 0
 IsDone (Runs plan) status = IsReport status
 IsDone (Uses job) status = status ≡ 0
 IsDone (Generates n) status = status ≡ 0
+IsDone (Records plan) status = (status ≡ 0) ⊎ (status ≡ 1)
+IsDone (Replays trail) status = (status ≡ 0) ⊎ (status ≡ 1)
+IsDone (Inspects look) status = status ≡ 0
 
 -- Files that are told and accepted, and no fault: the command does its work, or memory is wanted.
 abbrev pub Completes : List (List ℕ) → Source → ℕ → ℕ → ℕ → Type 0

@@ -3,13 +3,27 @@ use Rattle.std.specs.Prelude.{◌≡◌, ◌≢◌, ◌≤◌, ◌+◌, ◌-◌,
 use Rattle.nv_outside.specs.Told.{Told, Untold, Missing, Content}
 use Rattle.nv_command.specs.Words.{Plan}
 
--- a file has at most 4194304 bytes
+-- the most bytes of a file
+abbrev pub FILE_LIMIT : ℕ
+FILE_LIMIT = 4194304
+
+-- the most bytes of a trace
+abbrev pub TRACE_LIMIT : ℕ
+TRACE_LIMIT = 67108864
+
+-- a file has more bytes than it may have
+abbrev pub is_longer : ℕ → List ℕ → Bool
+is_longer limit bytes = nat_lt limit (length bytes)
+
 abbrev pub is_long : List ℕ → Bool
-is_long bytes = nat_lt 4194304 (length bytes)
+is_long bytes = is_longer FILE_LIMIT bytes
 
 -- more bytes than a file may have were taken, or the count stands at its last value
+abbrev pub TookMore : ℕ → ℕ → ℕ → Type 0
+TookMore limit before now = min (before + limit + 1) (2 ^ 64 - 1) ≤ now
+
 abbrev pub TookLong : ℕ → ℕ → Type 0
-TookLong before now = min (before + 4194304 + 1) (2 ^ 64 - 1) ≤ now
+TookLong before now = TookMore FILE_LIMIT before now
 
 -- all bytes of a file, that it has more than a file may have, or that it can't be read
 pub data Found : Type 0 where
@@ -17,22 +31,31 @@ pub data Found : Type 0 where
   TooLong : Found
   Unread : Found
 
--- These are all bytes of the file. A content that is told is these bytes, and a missing file has none.
-pub record IsReadOf (bytes : List ℕ) (told : Told) : Type 0 where
-  pub short : length bytes ≤ 4194304
+-- These are all bytes of the file, no more than it may have. A content that is told is these bytes, and a missing file has none.
+pub record IsReadWithin (limit : ℕ) (bytes : List ℕ) (told : Told) : Type 0 where
+  pub short : length bytes ≤ limit
   pub there : told ≢ Missing
   pub same : (content : List ℕ) → told ≡ Content content → bytes ≡ content
 
--- the file is too long, as a content that is told shows; a missing file isn't
-pub record IsLongOf (told : Told) : Type 0 where
-  pub there : told ≢ Missing
-  pub same : (content : List ℕ) → told ≡ Content content → is_long content ≡ true
+abbrev pub IsReadOf : List ℕ → Told → Type 0
+IsReadOf bytes told = IsReadWithin FILE_LIMIT bytes told
 
--- What may be found, by what the source tells. Any file may turn out to be unreadable.
+-- the file is too long, as a content that is told shows; a missing file isn't
+pub record IsLongerThan (limit : ℕ) (told : Told) : Type 0 where
+  pub there : told ≢ Missing
+  pub same : (content : List ℕ) → told ≡ Content content → is_longer limit content ≡ true
+
+abbrev pub IsLongOf : Told → Type 0
+IsLongOf told = IsLongerThan FILE_LIMIT told
+
+-- What may be found of a file with this limit, by what the source tells. Any file may turn out to be unreadable.
+abbrev pub AgreesWithin : ℕ → Told → Found → Type 0
+AgreesWithin limit told (Whole bytes) = IsReadWithin limit bytes told
+AgreesWithin limit told TooLong = IsLongerThan limit told
+AgreesWithin limit told Unread = Unit {0}
+
 abbrev pub Agrees : Told → Found → Type 0
-Agrees told (Whole bytes) = IsReadOf bytes told
-Agrees told TooLong = IsLongOf told
-Agrees told Unread = Unit {0}
+Agrees told found = AgreesWithin FILE_LIMIT told found
 
 abbrev pub AllAgree : (List ℕ → Told) → List (List ℕ) → List Found → Type 0
 AllAgree holds [] [] = Unit {0}
@@ -59,11 +82,14 @@ pub record AreFound (plan : Plan) (holds : List ℕ → Told) (finds : Finds) : 
   pub rules : AgreesIf holds plan.rules finds.rules
   pub versions : AllAgree holds plan.versions finds.versions
 
--- what is found of a file that is told; nothing of the others
+-- what is found of a file that is told and has this limit; nothing of the others
+abbrev pub found_within : ℕ → Told → Found
+found_within limit Untold = Unread
+found_within limit Missing = Unread
+found_within limit (Content bytes) = if is_longer limit bytes then TooLong else Whole bytes
+
 abbrev pub found_of : Told → Found
-found_of Untold = Unread
-found_of Missing = Unread
-found_of (Content bytes) = if is_long bytes then TooLong else Whole bytes
+found_of told = found_within FILE_LIMIT told
 
 abbrev pub finds_of : (List ℕ → Told) → Plan → Finds
 finds_of holds plan = record { script = found_of (holds plan.script); rules = option_map (λ name. found_of (holds name)) plan.rules; versions = map (λ name. found_of (holds name)) plan.versions }

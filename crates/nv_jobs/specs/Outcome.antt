@@ -5,23 +5,27 @@ use Rattle.nv_gen.specs.Made as gen
 use Rattle.nv_outside.specs.Told.{Told}
 use Rattle.nv_outside.specs.declared.sink.Put.{Put}
 use Rattle.nv_outside.specs.declared.sink.Put.TheVariants.{Whole, Failed}
-use Rattle.nv_command.specs.Words.{Plan}
+use Rattle.nv_command.specs.Words.{Plan, Trail}
 use Rattle.nv_calls.specs.Logs.{output_of, connections_of}
 use Rattle.nv_script.specs.Scripts.{Setup}
 use Rattle.nv_sockets.specs.Serving.{start_of_script}
 use Rattle.nv_sockets.specs.Texts.{connections_text}
-use Rattle.nv_replay.specs.Follow.{is_exited}
+use Rattle.nv_replay.specs.Follow.{Follower, is_exited}
+use Rattle.nv_threads.specs.Threads.{Proc}
+use Rattle.nv_trace.specs.Trace.{trace_of}
 use Rattle.nv_replay.specs.Sequence.{Account}
 use Rattle.nv_report.specs.Report.{report_text}
 use Rattle.nv_report.specs.Json.{json_text}
 use Rattle.nv_jobs.specs.Account.{run_status}
 use Rattle.nv_jobs.specs.Causes.{cause_text}
+use Rattle.nv_jobs.specs.Replayed.{replay_text, replay_status}
 use Rattle.nv_jobs.specs.declared.refusal.Refusal.{Refusal}
 use Rattle.nv_jobs.specs.declared.refusal.Refusal.TheVariants as refusal
 use Rattle.nv_jobs.specs.declared.refusal.Place.{Place}
 use Rattle.nv_jobs.specs.declared.refusal.Place.TheVariants.{Script, Version}
 use Rattle.nv_jobs.specs.declared.refusal.Place.TheVariants as place
 use Rattle.nv_jobs.specs.declared.refusal.Cause.{Cause}
+use Rattle.nv_jobs.specs.declared.refusal.Cause.TheVariants.{Long}
 
 -- The words are refused; memory is wanted before the run starts; a file can't be read; a file is refused; a run has its account; or a command over one file has made its text.
 pub data Outcome : Type 0 where
@@ -34,6 +38,14 @@ pub data Outcome : Type 0 where
   Made : List ℕ → Outcome
   -- the run of a number has its account
   Summed : ℕ → Setup → Account → Outcome
+  -- a run that is recorded has its account
+  Recorded : Account → Outcome
+  -- a trace is longer than it may be
+  TraceTooLong : List ℕ → Outcome
+  -- a version has followed a trace
+  Replayed : Follower Proc → Outcome
+  -- what a version shows at a point of a trace
+  Shown : List ℕ → Outcome
 
 -- the report of an account, with what was written to the connections, or its JSON form and a newline
 abbrev pub account_text : Bool → Setup → Account → List ℕ
@@ -59,6 +71,10 @@ text_of (NotAccepted name cause) = concat (codes "varan: input " ∷ name ∷ co
 text_of (Reported json setup account) = account_text json setup account
 text_of (Made text) = text
 text_of (Summed n setup account) = gen.summary n (totals_of (output_of (start_of_script setup) account.log) account)
+text_of (Recorded account) = trace_of account.log
+text_of (TraceTooLong name) = concat (codes "varan: input " ∷ name ∷ codes ": " ∷ cause_text Long ∷ codes "\n" ∷ [])
+text_of (Replayed at) = replay_text at
+text_of (Shown text) = text
 
 abbrev pub status_of : Outcome → ℕ
 status_of Usage = 2
@@ -68,6 +84,10 @@ status_of (NotAccepted name cause) = 4
 status_of (Reported json setup account) = run_status account.lines
 status_of (Made text) = 0
 status_of (Summed n setup account) = 0
+status_of (Recorded account) = run_status account.lines
+status_of (TraceTooLong name) = 4
+status_of (Replayed at) = replay_status at.fate
+status_of (Shown text) = 0
 
 -- a write fault takes the place of the other statuses
 abbrev pub ended_with : Put → ℕ → ℕ
@@ -77,7 +97,15 @@ ended_with Failed status = 6
 abbrev pub name_of : Place → Plan → List ℕ
 name_of Script plan = plan.script
 name_of place.Rules plan = unwrap_or plan.rules []
+name_of place.Trace plan = []
 name_of (Version i) plan = unwrap_or (slice_get plan.versions i) []
+
+-- the name of a file of a version that follows a trace
+abbrev pub name_on : Place → Trail → List ℕ
+name_on Script trail = trail.script
+name_on place.Rules trail = unwrap_or trail.rules []
+name_on place.Trace trail = trail.trace
+name_on (Version i) trail = trail.version
 
 abbrev pub outcome_of : Refusal → Plan → Outcome
 outcome_of refusal.Memory plan = NoMemory

@@ -14,7 +14,7 @@ use Rattle.nv_threads.specs.Threads.{Proc, threads}
 use Rattle.nv_replay.specs.Versions.{Running, process_of}
 use Rattle.nv_replay.specs.Accounts.{AreFresh}
 use Rattle.nv_jobs.specs.Account.{begun}
-use Rattle.nv_jobs.specs.Found.{Found, Whole, TooLong, Unread, Finds, Agrees, AgreesIf, AllAgree, AreFound, IsReadOf, IsLongOf, TookLong}
+use Rattle.nv_jobs.specs.Found.{Found, Whole, TooLong, Unread, Finds, Agrees, AgreesIf, AllAgree, AreFound, IsReadOf, IsLongerThan, TookLong, TookMore}
 use Rattle.nv_jobs.specs.Prepared.{Prepared, Unreadable, Refused, Ready, Faulty, Loads, after_rules, prepared, version_of, versions_from}
 use Rattle.nv_jobs.specs.declared.refusal.Place.{Place}
 use Rattle.nv_jobs.specs.declared.refusal.Place.TheVariants.{Script, Rules}
@@ -25,11 +25,11 @@ use Rattle.nv_jobs.specs.declared.refusal.Refusal.{Refusal}
 use Rattle.nv_jobs.specs.declared.refusal.Refusal.TheVariants as refusal
 
 -- a file couldn't be read: for want of memory, or the count of faults rose, or it is too long
-abbrev pub ReadRefused : Refusal → Place → Told → ℕ → ℕ → ℕ → ℕ → Type 0
-ReadRefused refusal.Memory place told before now taken later = now ≡ before
-ReadRefused (refusal.Unreadable at_place) place told before now taken later = (at_place ≡ place) × Rose before now
-ReadRefused (refusal.Input at_place cause) place told before now taken later =
-    (at_place ≡ place) × (cause ≡ Long) × (now ≡ before) × TookLong taken later × IsLongOf told
+abbrev pub ReadRefused : Refusal → Place → ℕ → Told → ℕ → ℕ → ℕ → ℕ → Type 0
+ReadRefused refusal.Memory place limit told before now taken later = now ≡ before
+ReadRefused (refusal.Unreadable at_place) place limit told before now taken later = (at_place ≡ place) × Rose before now
+ReadRefused (refusal.Input at_place cause) place limit told before now taken later =
+    (at_place ≡ place) × (cause ≡ Long) × (now ≡ before) × TookMore limit taken later × IsLongerThan limit told
 
 -- a script is refused, or memory is wanted
 abbrev pub IsScriptRefusal : Refusal → List ℕ → Type 0

@@ -6,7 +6,9 @@ ghost use Rattle.nv_jobs.specs.Outcome.{source_of, status_of, text_of};
 ghost use Rattle.nv_jobs.specs.Tasks.{IsTaskOf, fault_outcome};
 
 use crate::endings::{MEMORY, USAGE, put_line};
+use crate::inspecting::inspect;
 use crate::refusing::{put_input, put_unread};
+use crate::replaying::replay;
 use crate::task::Task;
 use crate::tools::{Unmade, make};
 use nv_command::{LineFault, Tool};
@@ -57,5 +59,7 @@ pub fn answer_alone<F: Files, S: Sink>(
     match task {
         Task::Refuse(fault) => refuse_words(sink, fault),
         Task::Use(job) => use_file(alloc, files, sink, job.tool, job.file),
+        Task::Replay(trail) => replay(alloc, files, sink, &trail),
+        Task::Inspect(look) => inspect(alloc, files, sink, &look),
     }
 }

@@ -3,13 +3,16 @@
 
 mod endings;
 mod generating;
+mod inspecting;
 mod jobs;
 mod limits;
 mod preparing;
 mod refusal;
 mod refusing;
+mod replaying;
 mod task;
 mod tools;
+mod trails;
 
 pub use endings::{
     INPUT, MEMORY, READ_FAULT, USAGE, count_exited, ended, put_line, starved, status,

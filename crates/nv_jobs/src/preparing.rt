@@ -4,13 +4,12 @@ ghost use Rattle.nv_bpf.specs.Texts.{filter_of};
 ghost use Rattle.nv_guest.specs.Guest.{machine_of, one_thread};
 ghost use Rattle.nv_script.specs.Scripts.{script_of, is_script};
 ghost use Rattle.nv_script.specs.Views.{setup_of};
-ghost use Rattle.nv_threads.specs.Threads.{threads};
+ghost use Rattle.nv_threads.specs.Threads.{threads, started};
 ghost use Rattle.nv_replay.specs.Versions.{IsFresh};
 ghost use Rattle.nv_replay.specs.Accounts.{AreFresh};
-ghost use Rattle.nv_jobs.specs.Account.{begun};
 ghost use Rattle.nv_command.specs.Seen.{limits_view, names_view, rules_view, plan_view};
 ghost use Rattle.nv_jobs.specs.Prepared.{Loads, version_of};
-ghost use Rattle.nv_jobs.specs.Found.{IsReadOf};
+ghost use Rattle.nv_jobs.specs.Found.{IsReadWithin};
 ghost use Rattle.nv_jobs.specs.Refusals.{ReadRefused, Refuses, IsScriptRefusal, IsFilterRefusal, HasRules, RulesRefused, IsVersionRefusal, VersionRefused, VersionsRefused, HasLoaded, AreLoaded, IsPlanned, IsPrepared};
 
 use crate::limits::FILE_LIMIT;
@@ -36,21 +35,22 @@ pub struct Prepared {
     pub hands: Vec<u32>,
 }
 
-// Reads a whole file.
-fn read_file<F: Files>(
+// Reads a whole file of at most so many bytes.
+pub fn read_file<F: Files>(
     alloc: Global,
     files: &mut F,
     name: &str,
     place: Place,
+    limit: u32,
 ) -> Result<Vec<u8>, Refusal>
-    ensures bytes { IfOk result (λ bytes. IsReadOf bytes.items (F.holds files.old name.now)) }
-    ensures refused { IfErr result (λ refusal. ReadRefused refusal place (F.holds files.old name.now)
+    ensures bytes { IfOk result (λ bytes. IsReadWithin limit bytes.items (F.holds files.old name.now)) }
+    ensures refused { IfErr result (λ refusal. ReadRefused refusal place limit (F.holds files.old name.now)
         (F.faults files.old) (F.faults files.new) (F.taken files.old) (F.taken files.new)) }
     ensures same { (name : List ℕ) → F.holds files.new name ≡ F.holds files.old name }
     ensures faults { OnOk result (F.faults files.new ≡ F.faults files.old) }
     ensures taken { F.taken files.old ≤ F.taken files.new }
 {
-    match files.read(alloc, name, FILE_LIMIT)? {
+    match files.read(alloc, name, limit)? {
         Got::Bytes(bytes) => Ok(bytes),
         Got::Long => Err(Refusal::Input(place, Cause::Long)),
         Got::Failed => Err(Refusal::Unreadable(place)),
@@ -81,7 +81,7 @@ pub fn filter_in(alloc: Global, bytes: &[u8]) -> Result<Filter, Refusal>
 }
 
 // Reads the rules, where they are named.
-fn read_rules<F: Files>(
+pub fn read_rules<F: Files>(
     alloc: Global,
     files: &mut F,
     name: Option<&str>,
@@ -96,7 +96,7 @@ fn read_rules<F: Files>(
     let Some(name) = name else {
         return Ok(None);
     };
-    let bytes = read_file(alloc, files, name, Place::Rules)?;
+    let bytes = read_file(alloc, files, name, Place::Rules, FILE_LIMIT)?;
     match filter_in(alloc, &bytes) {
         Ok(filter) => Ok(Some(filter)),
         Err(refusal) => Err(refusal),
@@ -129,15 +129,24 @@ pub fn load(
     }
 }
 
-// The version with this number, of a guest that hasn't run.
-pub fn version(alloc: Global, limits: Limits, index: u32, guest: Guest) -> Result<Version, Refusal>
+// The version with this number, of a guest that hasn't run and has so many instructions; it may go on ahead of the log, or
+// never does.
+pub fn version(
+    alloc: Global,
+    budget: u32,
+    index: u32,
+    guest: Guest,
+    eager: bool,
+) -> Result<Version, Refusal>
     requires alone { guest ≡ one_thread (machine_of guest) }
+    requires budget { budget ≤ 1_000_000_000 }
     ensures fresh { IfOk result (IsFresh threads index) }
-    ensures process { IfOk result (λ version. version.at.process ≡ begun (limits_view limits) (machine_of guest)) }
+    ensures process { IfOk result (λ version. version.at.process ≡ started (machine_of guest) budget) }
+    ensures eager { IfOk result (λ version. version.eager ≡ eager) }
     ensures refused { IfErr result (λ refusal. refusal ≡ Refusal.Memory) }
 {
-    let process = Process::make(alloc, guest, limits.budget)?;
-    let version = Version::make(alloc, index, process, true)?;
+    let process = Process::make(alloc, guest, budget)?;
+    let version = Version::make(alloc, index, process, eager)?;
     Ok(version)
 }
 
@@ -159,9 +168,9 @@ fn read_version<F: Files>(
     ensures taken { F.taken files.old ≤ F.taken files.new }
 {
     let place = Place::Version(index);
-    let bytes = read_file(alloc, files, name, place)?;
+    let bytes = read_file(alloc, files, name, place, FILE_LIMIT)?;
     let guest = load(alloc, limits, script, &bytes, place)?;
-    let version = version(alloc, limits, index, guest)?;
+    let version = version(alloc, limits.budget, index, guest, true)?;
     Ok(version)
 }
 
@@ -207,7 +216,7 @@ pub fn prepare<F: Files>(alloc: Global, files: &mut F, plan: &Run<'_>) -> Result
         (F.faults files.old) (F.faults files.new) (F.taken files.old) (F.taken files.new)) }
     ensures faults { OnOk result (F.faults files.new ≡ F.faults files.old) }
 {
-    let bytes = read_file(alloc, files, plan.script, Place::Script)?;
+    let bytes = read_file(alloc, files, plan.script, Place::Script, FILE_LIMIT)?;
     let script = match script_in(alloc, &bytes) {
         Ok(script) => script,
         Err(refusal) => return Err(refusal),

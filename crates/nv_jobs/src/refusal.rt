@@ -1,6 +1,7 @@
 // Why a run doesn't start.
 ghost use Rattle.std.specs.Prelude.{◌≡◌, Some};
 ghost use Rattle.nv_jobs.specs.Causes.{cause_text};
+ghost use Rattle.nv_jobs.specs.Untraced.{IsByTrace, IsByCheck};
 ghost use Rattle.nv_jobs.specs.declared.refusal.Refusal.TheVariants.{Memory};
 
 use nv_asm::AsmFault;
@@ -9,21 +10,23 @@ use nv_bpf_asm::RuleFault;
 use nv_elf::ElfFault;
 use nv_guest::GuestFault;
 use nv_script::ScriptFault;
+use nv_trace::{CheckFault, TraceFault};
 use std::alloc::{AllocError, AllocFailed};
 use std::fmt;
 
-/// A file of the reading order: the script, the rules, or the version with this number.
+/// A file of the reading order: the script, the rules, the trace, or the version with this number.
 #[derive(Clone, Copy, Debug, PartialEq, Eq)]
 pub enum Place {
     Script,
     Rules,
+    Trace,
     Version(u32),
 }
 
 /// Why a file is refused.
 #[derive(Clone, Copy, Debug, PartialEq, Eq)]
 pub enum Cause {
-    /// More than 4,194,304 bytes.
+    /// More than 4,194,304 bytes, of a trace more than 67,108,864.
     Long,
     /// A script that isn't one.
     Script(ScriptFault),
@@ -37,6 +40,10 @@ pub enum Cause {
     Rules(RuleFault),
     /// An assembler text that is no program.
     Asm(AsmFault),
+    /// A trace that isn't one.
+    Trace(TraceFault),
+    /// A trace that the kernel of the script doesn't come to.
+    Check(CheckFault),
 }
 
 impl fmt::Display for Cause {
@@ -51,6 +58,8 @@ impl fmt::Display for Cause {
             Cause::Filter(fault) => write!(f, "{fault}"),
             Cause::Rules(fault) => write!(f, "{fault}"),
             Cause::Asm(fault) => write!(f, "{fault}"),
+            Cause::Trace(fault) => write!(f, "{fault}"),
+            Cause::Check(fault) => write!(f, "{fault}"),
         }
     }
 }
@@ -76,5 +85,27 @@ impl<T: Drop> From<AllocFailed<T>> for Refusal {
 
     fn from(_: AllocFailed<T>) -> Self {
         Refusal::Memory
+    }
+}
+
+impl From<TraceFault> for Refusal {
+    ghost from_gives = { IsByTrace };
+
+    fn from(fault: TraceFault) -> Self {
+        match fault {
+            TraceFault::Memory => Refusal::Memory,
+            _ => Refusal::Input(Place::Trace, Cause::Trace(fault)),
+        }
+    }
+}
+
+impl From<CheckFault> for Refusal {
+    ghost from_gives = { IsByCheck };
+
+    fn from(fault: CheckFault) -> Self {
+        match fault {
+            CheckFault::Memory => Refusal::Memory,
+            _ => Refusal::Input(Place::Trace, Cause::Check(fault)),
+        }
     }
 }

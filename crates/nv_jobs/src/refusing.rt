@@ -1,13 +1,14 @@
 // What says that a file is refused.
 ghost use Rattle.std.specs.Prelude.{◌≡◌};
-ghost use Rattle.nv_command.specs.Seen.{plan_view};
+ghost use Rattle.nv_command.specs.Seen.{plan_view, trail_view};
 ghost use Rattle.nv_jobs.specs.Due.{Says};
-ghost use Rattle.nv_jobs.specs.Outcome.{NotAccepted, NotRead, name_of, outcome_of, text_of};
+ghost use Rattle.nv_jobs.specs.Outcome.{NotAccepted, NotRead, name_of, name_on, outcome_of, text_of};
 ghost use Rattle.nv_jobs.specs.Ran.{Wrote, Tells};
+ghost use Rattle.nv_jobs.specs.Trails.{refused_outcome};
 
 use crate::endings::{INPUT, MEMORY, READ_FAULT, ended, put_line};
 use crate::refusal::{Cause, Place, Refusal};
-use nv_command::Run;
+use nv_command::{Run, Trail};
 use nv_outside::{Sink, put_pieces};
 use std::alloc::Global;
 
@@ -17,7 +18,19 @@ fn name<'a>(place: Place, plan: &Run<'a>) -> &'a str
     match place {
         Place::Script => plan.script,
         Place::Rules => plan.rules.unwrap_or(""),
+        Place::Trace => "",
         Place::Version(index) => plan.versions.get(index as usize).map_or("", |name| *name),
+    }
+}
+
+fn name_on<'a>(place: Place, trail: &Trail<'a>) -> &'a str
+    ensures { result.now ≡ name_on place (trail_view trail.now) }
+{
+    match place {
+        Place::Script => trail.script,
+        Place::Rules => trail.rules.unwrap_or(""),
+        Place::Trace => trail.trace,
+        Place::Version(_) => trail.version,
     }
 }
 
@@ -57,5 +70,21 @@ pub fn refuse<S: Sink>(alloc: Global, sink: &mut S, refusal: Refusal, plan: &Run
         Refusal::Memory => put_line(sink, b"varan: memory\n", MEMORY),
         Refusal::Unreadable(place) => put_unread(sink, name(place, plan)),
         Refusal::Input(place, cause) => put_input(alloc, sink, name(place, plan), cause),
+    }
+}
+
+/// Says why a version doesn't follow a trace.
+pub(crate) fn refuse_trail<S: Sink>(
+    alloc: Global,
+    sink: &mut S,
+    refusal: Refusal,
+    trail: &Trail<'_>,
+) -> u8
+    ensures { Tells (refused_outcome refusal (trail_view trail.now)) (S.told sink.old) (S.faults sink.old) result (S.told sink.new) (S.faults sink.new) }
+{
+    match refusal {
+        Refusal::Memory => put_line(sink, b"varan: memory\n", MEMORY),
+        Refusal::Unreadable(place) => put_unread(sink, name_on(place, trail)),
+        Refusal::Input(place, cause) => put_input(alloc, sink, name_on(place, trail), cause),
     }
 }

@@ -1,5 +1,5 @@
 // What a line asks for that needs no other threads.
-use nv_command::{Job, LineFault};
+use nv_command::{Job, LineFault, Look, Trail};
 
 /// What a line asks for that needs no other threads, or why it asks for nothing.
 #[derive(Clone, Copy)]
@@ -8,4 +8,8 @@ pub enum Task<'a> {
     Refuse(LineFault),
     /// A command over one file.
     Use(Job<'a>),
+    /// A version that follows a trace.
+    Replay(Trail<'a>),
+    /// A version at a point of a trace.
+    Inspect(Look<'a>),
 }

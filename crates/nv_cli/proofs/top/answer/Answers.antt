@@ -26,3 +26,15 @@ returns-in-Ok-Generate g c =
 
 pub returns-in-Err : goal.returns-in-Err
 returns-in-Err g c = c.answer_alone-in-Err.ensures (texts c.args.words.now) c.in-Err.ensures.fault
+
+pub returns-in-Ok-Record : goal.returns-in-Ok-Record
+returns-in-Ok-Record g c =
+    c.record.ensures (texts c.args.words.now) (c.in-Ok-Record.ensures.command ∙ ap (λ (x : Command). Some (command_view x)) c.in-Ok-Record.field-0-is)
+
+pub returns-in-Ok-Replay : goal.returns-in-Ok-Replay
+returns-in-Ok-Replay g c =
+    c.answer_alone-in-Ok-Replay.ensures (texts c.args.words.now) (c.in-Ok-Replay.ensures.command ∙ ap (λ (x : Command). Some (command_view x)) c.in-Ok-Replay.field-0-is)
+
+pub returns-in-Ok-Inspect : goal.returns-in-Ok-Inspect
+returns-in-Ok-Inspect g c =
+    c.answer_alone-in-Ok-Inspect.ensures (texts c.args.words.now) (c.in-Ok-Inspect.ensures.command ∙ ap (λ (x : Command). Some (command_view x)) c.in-Ok-Inspect.field-0-is)

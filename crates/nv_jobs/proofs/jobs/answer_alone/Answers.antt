@@ -12,3 +12,9 @@ returns-in-Refuse g c = λ words is.
 
 pub returns-in-Use : goal.returns-in-Use
 returns-in-Use g c = λ words is. c.use_file.ensures words (subst (λ (task : Task). IsTaskOf task words) c.in-Use.is is)
+
+pub returns-in-Replay : goal.returns-in-Replay
+returns-in-Replay g c = λ words is. c.replay.ensures words (subst (λ (task : Task). IsTaskOf task words) c.in-Replay.is is)
+
+pub returns-in-Inspect : goal.returns-in-Inspect
+returns-in-Inspect g c = λ words is. c.inspect.ensures words (subst (λ (task : Task). IsTaskOf task words) c.in-Inspect.is is)

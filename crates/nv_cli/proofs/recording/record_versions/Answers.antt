@@ -1,0 +1,29 @@
+use Rattle.std.proofs.Common.{◌≡◌, ◌∙◌, ap, sym, inl, inr, List, map, option_map, false}
+use Rattle.std.specs.List.{list_any}
+use Rattle.nv_command.specs.Seen.{limits_view}
+use Rattle.nv_replay.specs.Lead.{is_memory}
+use Rattle.nv_replay.specs.Versions.{Running, standing_of}
+use Rattle.nv_threads.specs.Threads.{Proc}
+use Rattle.nv_cli.proofs.Running.{run_of}
+use Rattle.nv_cli.proofs.recording.record_versions.Goals as goal
+
+pub returns-in_default : goal.returns-in_default
+returns-in_default g c = λ machines are. inr c.put_line.ensures
+
+pub returns-then-starved : goal.returns-then-starved
+returns-then-starved g c = λ machines are. inr c.put_line-then-starved.ensures
+
+pub returns : goal.returns
+returns g c = λ machines are.
+    let log = c.in-Ok.account.kernel.log in
+    let lines = map standing_of c.in-Ok.account.versions.items in
+    let limits = limits_view c.args.limits in
+    let rules = option_map (λ f. f.now) c.args.rules in
+    let never : list_any (λ line. is_memory line.fate) lines ≡ false =
+    ap (λ (versions : List (Running Proc)). list_any (λ line. is_memory line.fate) (map standing_of versions)) (sym c.deref.ensures.value) ∙ sym c.starved.ensures ∙ c.if-starved.false in
+    inl (record {
+      account = record { log = log; lines = lines };
+      is_run = run_of limits c.args.kernel.setup rules machines c.args.hands.now.items c.args.versions.items c.in-Ok.account.versions.items log c.requires.planned c.in-Ok.ensures.account are;
+      never_starved = never;
+      says = c.put_trace.ensures;
+    })
