@@ -1,5 +1,5 @@
 -- The versions of a made run, from its files.
-use Rattle.std.proofs.Common.{◌≡◌, ◌∙◌, sym, ap, ap₂, subst, refl, ℕ, zero, suc, ◌+◌, ◌<◌, ◌≤◌, List, [], ◌∷◌, ◌++◌, length, take, map, Bool, true, false, Option, None, Some, Vec, Global, get_or, arith}
+use Rattle.std.proofs.Common.{◌≡◌, ◌∙◌, sym, ap, ap₂, subst, refl, ℕ, zero, suc, ◌+◌, ◌<◌, ◌≤◌, List, [], ◌∷◌, ◌++◌, length, take, map, false, Option, Some, Vec, Global, get_or, arith}
 use Rattle.std.specs.Prelude.{slice_get, slice_index_or, All}
 use Rattle.std.specs.List.{list_any}
 use Rattle.std.proofs.lemmas.List.{length-map, take_more}
@@ -13,13 +13,9 @@ use Rattle.nv_gen_laws.specs.Versions.{program_at, FitsTheDefault}
 use Rattle.nv_gen_laws.proofs.Listing.{programs_listed, programs_counted}
 use Rattle.nv_machine.specs.Guest.{Machine}
 use Rattle.nv_bpf.specs.declared.op.Op.{Op}
-use Rattle.nv_calls.specs.Calls.{Entry}
-use Rattle.nv_calls.specs.Logs.{Start}
 use Rattle.nv_command.specs.Words.{Limits, usual}
 use Rattle.nv_script.specs.Scripts.{Setup}
-use Rattle.nv_sockets.specs.Serving.{start_of_script}
-use Rattle.nv_threads.specs.Behaviours.{Behaviour}
-use Rattle.nv_threads.specs.Threads.{Proc, threads}
+use Rattle.nv_threads.specs.Threads.{Proc}
 use Rattle.nv_replay.specs.Lead.{is_memory}
 use Rattle.nv_replay.specs.Sequence.{Account}
 use Rattle.nv_replay.specs.Versions.{Running, process_of}

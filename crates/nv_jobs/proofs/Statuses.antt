@@ -8,7 +8,7 @@ use Rattle.nv_outside.specs.declared.sink.Put.TheVariants.{Whole, Failed}
 use Rattle.nv_replay.specs.declared.standing.Standing.{Standing}
 use Rattle.nv_replay.specs.Follow.{is_exited}
 use Rattle.nv_replay.specs.Lead.{is_memory}
-use Rattle.nv_command.specs.Words.{Name, Plan, Job, Trail, Look, Command, Runs, Uses, Generates, Records, Replays, Inspects, asked_by, after_program, command_of, name_in}
+use Rattle.nv_command.specs.Words.{Name, Plan, Job, Trail, Command, Runs, Uses, Generates, Records, Replays, Inspects, asked_by, after_program, command_of, name_in}
 use Rattle.nv_replay.specs.Follow.{follow, fresh, judge_of}
 use Rattle.nv_replay.specs.declared.fate.Fate.{Fate}
 use Rattle.nv_replay.specs.declared.fate.Fate.TheVariants.{Exited}

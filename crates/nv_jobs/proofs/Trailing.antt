@@ -1,6 +1,5 @@
 -- The files of a version that follows a trace, one after another.
-use Rattle.std.proofs.Common.{◌≡◌, ◌∙◌, ◌⊎◌, ⊎_elim, sym, ap, subst, refl, ℕ, ◌+◌, ◌≤◌, List, Option, None, Some, option_map, Result, Ok, Err, arith}
-use Rattle.nv_outside.specs.Counts.{Rose}
+use Rattle.std.proofs.Common.{◌≡◌, ◌∙◌, ◌⊎◌, ⊎_elim, sym, ap, subst, refl, ℕ, ◌≤◌, List, Option, None, Some, option_map, Result, Ok, Err, arith}
 use Rattle.nv_outside.specs.Told.{Told}
 use Rattle.nv_bpf.specs.declared.op.Op.{Op}
 use Rattle.nv_bpf.specs.declared.op.FilterFault.{FilterFault}
@@ -8,7 +7,7 @@ use Rattle.nv_bpf.specs.Texts.{filter_of}
 use Rattle.nv_calls.specs.Calls.{Entry}
 use Rattle.nv_machine.specs.Guest.{Machine}
 use Rattle.nv_command.specs.Words.{Limits, Trail}
-use Rattle.nv_script.specs.Scripts.{Setup, script_of}
+use Rattle.nv_script.specs.Scripts.{Setup}
 use Rattle.nv_calls.specs.Logs.{Start}
 use Rattle.nv_sockets.specs.Serving.{start_of_script}
 use Rattle.nv_trace.specs.declared.fault.TraceFault.{TraceFault}
@@ -24,8 +23,8 @@ use Rattle.nv_trace.proofs.Sound.{faultless_is}
 use Rattle.nv_jobs.specs.Found.{Found, Whole, TooLong, Unread, AgreesIf, AgreesWithin, IsReadOf, IsReadWithin, FILE_LIMIT, TRACE_LIMIT, TookMore}
 use Rattle.nv_jobs.specs.Prepared.{Prepared, after_rules, judged_by, rules_then, VersionOf, Faulty, Loads, version_of}
 use Rattle.nv_jobs.specs.Prepared as prepared
-use Rattle.nv_jobs.specs.Refusals.{ReadRefused, HasRules, RulesRefused, RulesStop, IsScriptRefusal, IsVersionRefusal}
-use Rattle.nv_jobs.specs.Traced.{Traced, TraceFinds, AreTraceFound, Lack, Unreadable, Refused, then_with, bytes_at, of_script, script_at, of_filter, rules_at, of_trace, log_at, unless_unsound, unless_faulty, trace_of_file, of_version, machine_at, trail_limits, after_log, after_filter, after_setup, traced}
+use Rattle.nv_jobs.specs.Refusals.{ReadRefused, HasRules, RulesRefused, IsScriptRefusal, IsVersionRefusal}
+use Rattle.nv_jobs.specs.Traced.{Traced, TraceFinds, Lack, Unreadable, Refused, then_with, of_script, script_at, of_filter, rules_at, of_trace, log_at, unless_unsound, unless_faulty, trace_of_file, of_version, machine_at, trail_limits, after_log, after_filter, after_setup}
 use Rattle.nv_jobs.specs.Untraced.{IsByTrace, IsByCheck}
 use Rattle.nv_jobs.specs.Trails.{limit_of, Gives, StepRefused, IsTraceRefusal, TrailComes, TrailRefused}
 use Rattle.nv_jobs.specs.declared.refusal.Place.{Place}

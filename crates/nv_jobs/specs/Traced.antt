@@ -1,5 +1,5 @@
 -- What the files of a version that follows a trace come to.
-use Rattle.std.specs.Prelude.{◌≡◌, ℕ, List, [], Option, None, Some, option_map, Result, Ok, Err}
+use Rattle.std.specs.Prelude.{ℕ, List, Option, None, Some, option_map, Result, Ok, Err}
 use Rattle.nv_outside.specs.Told.{Told}
 use Rattle.nv_bpf.specs.declared.op.Op.{Op}
 use Rattle.nv_bpf.specs.declared.op.FilterFault.{FilterFault}

@@ -17,7 +17,6 @@ use Rattle.nv_jobs.specs.Due.{lack_outcome}
 use Rattle.nv_jobs.specs.Traced.{TraceFinds, AreTraceFound, Traced, Lack, Unreadable, Refused, traced, trace_of_file, machine_at}
 use Rattle.nv_jobs.specs.declared.refusal.Place.{Place}
 use Rattle.nv_jobs.specs.declared.refusal.Place.TheVariants.{Trace}
-use Rattle.nv_jobs.specs.declared.refusal.Cause.{Cause}
 use Rattle.nv_jobs.specs.declared.refusal.Cause.TheVariants.{Long}
 use Rattle.nv_jobs.specs.declared.refusal.Refusal.{Refusal}
 use Rattle.nv_jobs.specs.declared.refusal.Refusal.TheVariants as refusal

@@ -1,5 +1,5 @@
-use Rattle.std.proofs.Common.{◌≡◌, ◌∙◌, refl, ap, Some}
-use Rattle.nv_command.specs.Words.{Command as Line, command_of, texts}
+use Rattle.std.proofs.Common.{◌∙◌, refl, ap, Some}
+use Rattle.nv_command.specs.Words.{texts}
 use Rattle.nv_command.specs.Seen.{command_view}
 use Rattle.nv_command.specs.declared.asked.Command.{Command}
 use Rattle.nv_jobs.specs.Outcome.{source_of}

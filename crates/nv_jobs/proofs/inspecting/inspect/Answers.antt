@@ -1,7 +1,6 @@
-use Rattle.std.proofs.Common.{◌≡◌, ◌∙◌, ap, sym, subst, refl, ℕ}
+use Rattle.std.proofs.Common.{◌≡◌, ◌∙◌, ap, sym, ℕ}
 use Rattle.nv_command.specs.Words.{Inspects}
-use Rattle.nv_command.specs.Seen.{look_view, trail_view, point_view}
-use Rattle.nv_machine.specs.Guest.{Machine}
+use Rattle.nv_command.specs.Seen.{look_view}
 use Rattle.nv_replay.specs.Follow.{Follower, follow, fresh, judge_of}
 use Rattle.nv_retrace.specs.Points.{at_point, events_to}
 use Rattle.nv_retrace.specs.declared.points.Point.{Point}

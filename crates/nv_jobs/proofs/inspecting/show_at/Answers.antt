@@ -1,4 +1,4 @@
-use Rattle.std.proofs.Common.{◌≡◌, ◌∙◌, ap, ap₂, inl, inr, ℕ, List, Option, take, arith}
+use Rattle.std.proofs.Common.{◌≡◌, ◌∙◌, ap, ap₂, inl, inr, List, Option, take}
 use Rattle.nv_bpf.specs.declared.op.Op.{Op}
 use Rattle.nv_calls.specs.Calls.{Entry}
 use Rattle.nv_fs.specs.States.{FileState}

@@ -1,5 +1,4 @@
-use Rattle.std.proofs.Common.{◌∙◌, ap, subst, List, Option, sym}
-use Rattle.std.specs.Prelude.{option_map}
+use Rattle.std.proofs.Common.{◌∙◌, ap, List, Option}
 use Rattle.nv_bpf.specs.declared.op.Op.{Op}
 use Rattle.nv_replay.specs.Follow.{follow, fresh, judge_of}
 use Rattle.nv_threads.specs.Threads.{threads}

@@ -1,4 +1,4 @@
-use Rattle.std.proofs.Common.{◌≡◌, ◌++◌, ap, List, ℕ}
+use Rattle.std.proofs.Common.{◌++◌, ap}
 use Rattle.nv_inspect.specs.Shown.{end_text}
 use Rattle.nv_outside.proofs.Writing.{puts-is, puts-then, puts-failed}
 use Rattle.nv_jobs.specs.Replayed.{counts_text}

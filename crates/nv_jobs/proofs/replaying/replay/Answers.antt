@@ -1,11 +1,10 @@
-use Rattle.std.proofs.Common.{◌≡◌, ◌∙◌, ap, sym, subst, refl, ℕ}
+use Rattle.std.proofs.Common.{◌≡◌, ◌∙◌, ap, sym, ℕ}
 use Rattle.nv_command.specs.Words.{Replays}
 use Rattle.nv_command.specs.Seen.{trail_view}
 use Rattle.nv_replay.specs.Follow.{Follower, follow, fresh, judge_of}
 use Rattle.nv_threads.specs.Threads.{Proc, threads}
-use Rattle.nv_jobs.specs.Due.{Says, replayed, traced_outcome}
+use Rattle.nv_jobs.specs.Due.{replayed, traced_outcome}
 use Rattle.nv_jobs.specs.Outcome.{Replayed, source_of}
-use Rattle.nv_jobs.specs.Replayed.{replay_text, replay_status}
 use Rattle.nv_jobs.proofs.Commands.{told_answers, trail_refusal_answers}
 use Rattle.nv_jobs.proofs.replaying.replay.Goals as goal
 

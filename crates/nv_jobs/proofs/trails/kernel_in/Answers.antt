@@ -1,4 +1,4 @@
-use Rattle.std.proofs.Common.{◌≡◌, ◌∙◌, ap, subst, sym, List, map}
+use Rattle.std.proofs.Common.{ap, subst, sym, List, map}
 use Rattle.std.proofs.lemmas.Result.{err_from_is_err_and}
 use Rattle.nv_calls.specs.declared.calls.Event.{Event}
 use Rattle.nv_calls.specs.Calls.{entry}

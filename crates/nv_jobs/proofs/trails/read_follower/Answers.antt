@@ -1,4 +1,4 @@
-use Rattle.std.proofs.Common.{◌∙◌, ap, ap₂, subst, sym, refl, List, ℕ}
+use Rattle.std.proofs.Common.{◌∙◌, ap, subst, sym, refl, List, ℕ}
 use Rattle.std.proofs.lemmas.Result.{err_from_is_err_and}
 use Rattle.nv_command.specs.Seen.{limits_view, trail_view}
 use Rattle.nv_command.specs.Words.{Limits}
@@ -6,8 +6,7 @@ use Rattle.nv_guest.specs.Guest.{machine_of}
 use Rattle.nv_script.specs.Views.{setup_of}
 use Rattle.nv_jobs.specs.Found.{Whole, IsReadOf}
 use Rattle.nv_jobs.specs.Prepared.{version_of}
-use Rattle.nv_jobs.specs.Refusals.{IsVersionRefusal}
-use Rattle.nv_jobs.specs.Traced.{machine_at, of_version, trail_limits}
+use Rattle.nv_jobs.specs.Traced.{machine_at, of_version}
 use Rattle.nv_jobs.specs.declared.refusal.Place.TheVariants.{Version}
 use Rattle.nv_jobs.proofs.Trailing.{read_refuses, version_refuses}
 use Rattle.nv_jobs.proofs.trails.read_follower.Goals as goal

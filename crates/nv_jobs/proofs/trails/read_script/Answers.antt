@@ -1,6 +1,5 @@
-use Rattle.std.proofs.Common.{◌∙◌, ap, subst, sym, refl, List, ℕ}
+use Rattle.std.proofs.Common.{ap, subst, sym, refl, List, ℕ}
 use Rattle.std.proofs.lemmas.Result.{err_from_is_err_and, IfOk-weaker, IfErr-weaker}
-use Rattle.nv_script.specs.Views.{setup_of}
 use Rattle.nv_jobs.specs.Found.{Whole, IsReadOf}
 use Rattle.nv_jobs.specs.Traced.{script_at, of_script}
 use Rattle.nv_jobs.specs.declared.refusal.Place.TheVariants.{Script}
