@@ -3,9 +3,9 @@
 
 -- The clause `answers`: the call came to an outcome that is due, the counts of the source show it, and it said so.
 use Rattle.nv_jobs.specs.Due.{Answers}
--- What a call may come to: usage, want of memory, a file not read, a file not accepted, a report, a command's text, a summary.
+-- What a call may come to: usage, want of memory, a file not read, a file not accepted, a report, a command's text, a summary, a trace, a rehearsal, what an inspection shows.
 use Rattle.nv_jobs.specs.Outcome.{Outcome}
--- What is due: refused words owe the line of usage, a command owes what one of the next three says, or memory is wanted after its name.
+-- What is due: refused words owe the line of usage, a command owes what one of the parts below says, or memory is wanted after its name.
 use Rattle.nv_jobs.specs.Due.{IsDue, OwesAny, Owes}
 -- What the words ask for, and the command that they name.
 use Rattle.nv_command.specs.Words.{command_of, name_in}
@@ -31,6 +31,20 @@ use Rattle.nv_jobs.specs.Made.{made_of}
 -- `gen` owes the summary of the run of its number.
 use Rattle.nv_jobs.specs.Due.{GenOwes}
 use Rattle.nv_jobs.specs.Generated.{IsMadeRun}
+-- `record` owes the trace of the log of such an account, in which no version wanted memory.
+use Rattle.nv_jobs.specs.Due.{RecordOwes, RecordComesTo}
+use Rattle.nv_trace.specs.Trace.{trace_of}
+-- `replay` and `inspect` owe what their files come to: the first in reading order that can't be read or is refused is named, or there are the setup, the rules, the log and the machine.
+use Rattle.nv_jobs.specs.Due.{TrailOwes}
+use Rattle.nv_jobs.specs.Traced.{traced, trace_of_file}
+use Rattle.nv_trace.specs.Faults.{trace_fault}
+use Rattle.nv_trace.specs.Checks.{check_fault}
+-- Over these `replay` owes the line of following the whole log, and `inspect` the text of the version at the point and of the files after the events that it has seen.
+use Rattle.nv_jobs.specs.Due.{replayed, shown}
+use Rattle.nv_replay.specs.Follow.{follow}
+use Rattle.nv_jobs.specs.Replayed.{replay_text, replay_status}
+use Rattle.nv_retrace.specs.Points.{at_point}
+use Rattle.nv_inspect.specs.Shown.{show_text}
 -- What the source's counts show.
 use Rattle.nv_jobs.specs.Due.{Shows, IsUntouched}
 -- What was written and the status: a text with its status, or a prefix of it, a count that rose and 6.
