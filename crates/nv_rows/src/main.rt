@@ -13,7 +13,7 @@ use std::{fs, io};
 use tally::Tally;
 
 // The files with rows, by what they are about. One may include the texts of those before it.
-const SUBJECTS: [&str; 18] = [
+const SUBJECTS: [&str; 19] = [
     "common",
     "calls",
     "memory",
@@ -32,6 +32,7 @@ const SUBJECTS: [&str; 18] = [
     "atomics",
     "sockets",
     "reports",
+    "traces",
 ];
 
 fn main(rt: HostRuntime) -> io::Result<()> {
