@@ -91,6 +91,12 @@ served() {
     fi
 }
 
+# page PAGE: the commands of a page under docs/ print what stands there.
+page() {
+    rows=$((rows + 1))
+    "$here/follow.py" "$here/../docs/$1" "$program" || wrong=$((wrong + 1))
+}
+
 cd ../crates/nv_examples/data/hello
 "$program" asm hi.s >"$work/hi"
 row 0 expected/report run --script script "$work/hi"
@@ -203,8 +209,9 @@ if command -v jq >/dev/null; then
     calls expected/calls --script script "$work/server_2" "$work/server_1"
     cd ../hello
     calls expected/calls --script script "$work/hi"
+    page PARTING.md
 else
-    echo "check.sh: there is no jq, so strace.jq wasn't tried"
+    echo "check.sh: there is no jq, so strace.jq and the pages that want it weren't tried"
 fi
 
 echo "check.sh: $rows rows, $wrong wrong"

@@ -1,0 +1,212 @@
+#!/usr/bin/env python3
+"""Shows where a version parts from a recorded run: the event of the log and the version's own call one above the other, as strace prints calls, and what differs first.
+
+    parting.py [--program PROGRAM] --script S [--rules R] [--memory N] [--budget N] [--index I] TRACE VERSION
+
+The words but --program (usually `varan`) are those of `varan replay`. docs/PARTING.md says how it is read. Wants jq, for strace.jq.
+Status: 0 where the version is in step or exited, 1 where it parts or breaks, 2 for a faulty command line; where `varan` refuses a file its line is printed, and the status is that of `varan`.
+"""
+import argparse
+import dataclasses
+import json
+import pathlib
+import struct
+import subprocess
+import sys
+
+STRACE = pathlib.Path(__file__).resolve().parent / "strace.jq"
+UNLINKAT, OPENAT, WRITE, READV, WRITEV, BIND = 35, 56, 64, 65, 66, 200
+# The arguments of each call that are values, from 0: those that are compared (docs/RULES.md). Addresses and what isn't used aren't.
+VALUES = {
+    17: [1], 23: [0], 24: [0, 1, 2], 29: [0, 1], UNLINKAT: [0, 2], OPENAT: [0, 2], 57: [0], 59: [1], 62: [0, 1, 2, 4], 63: [0, 2], WRITE: [0, 2], READV: [0, 2], WRITEV: [0, 2],
+    93: [0], 94: [0], 198: [0, 1, 2], BIND: [0, 2], 201: [0, 1], 202: [0], 220: [0], 242: [0, 3], 278: [1, 2], 403: [0],
+}
+# How many bytes, vectors and bytes of a path and of a socket's address a call hands in at most.
+MOST_BYTES, MOST_VECTORS, MOST_PATH, MOST_ADDRESS = 4096, 1024, 256, 16
+EPERM, EFAULT = 1, 14
+# The registers of a call: its arguments from a0 on, its number in a7.
+FIRST_ARGUMENT, NUMBER = 10, 17
+
+
+@dataclasses.dataclass
+class Call:
+    tid: int
+    nr: int
+    args: list
+    sent: bytes
+    bad: bool
+    # What it got: the result and the bytes. Of the version's own call they aren't known.
+    ret: int = -EPERM
+    got: bytes = b""
+
+
+class BadAddress(Exception):
+    pass
+
+
+def read_trace(path):
+    """The events of a trace (docs/TRACES.md)."""
+    data = pathlib.Path(path).read_bytes()
+    events, at = [], 12
+    while at < len(data):
+        tid, nr, *args, bad, ret, sent, got = struct.unpack_from("<9Ii2I", data, at)
+        at += 48
+        events.append(Call(tid, nr, args, data[at : at + sent], bool(bad), ret, data[at + sent : at + sent + got]))
+        at += sent + got
+    return events
+
+
+class State:
+    """A version at the call that was refused, as `varan inspect` shows it."""
+
+    def __init__(self, inspect, tid):
+        self.inspect = inspect
+        lines = inspect([])
+        at = next(i for i, line in enumerate(lines) if line.startswith(f"thread {tid} "))
+        self.x = [int(word, 16) for word in lines[at + 1].split()[1:]]
+
+    def argument(self, number):
+        return self.x[FIRST_ARGUMENT + number]
+
+    def memory(self, address, length):
+        """So many bytes, None for one that the version has no memory at."""
+        found = []
+        for first in range(address, address + length, MOST_BYTES):
+            part = min(MOST_BYTES, address + length - first)
+            for line in self.inspect(["--dump", str(first), "--length", str(part)]):
+                if line.startswith("mem "):
+                    found += [None if digits == "--" else int(digits, 16) for digits in line.split()[2:]]
+        return found
+
+    def bytes(self, address, length):
+        if address + length >= 1 << 32:
+            raise BadAddress
+        found = self.memory(address, length) if length > 0 else []
+        if None in found:
+            raise BadAddress
+        return bytes(found)
+
+    def path(self, address):
+        found = self.memory(address, min(MOST_PATH, (1 << 32) - 1 - address))
+        end = found.index(0) if 0 in found else len(found)
+        if None in found[:end]:
+            raise BadAddress
+        return bytes(found[:end])
+
+    def vectors(self):
+        """The parts that the vectors of the call name, as far as a call moves bytes."""
+        count = self.argument(2) if self.argument(2) <= MOST_VECTORS else 0
+        left, parts = MOST_BYTES, []
+        for number in range(count):
+            if left == 0:
+                break
+            address, size = struct.unpack("<2I", self.bytes(self.argument(1) + 8 * number, 8))
+            parts.append((address, min(size, left)))
+            left -= parts[-1][1]
+        return parts
+
+    def sent(self, nr):
+        """The bytes that the call hands in."""
+        if nr == WRITE:
+            return self.bytes(self.argument(1), min(self.argument(2), MOST_BYTES))
+        if nr == BIND:
+            return self.bytes(self.argument(1), min(self.argument(2), MOST_ADDRESS))
+        if nr in (UNLINKAT, OPENAT):
+            return self.path(self.argument(1))
+        if nr == WRITEV:
+            return b"".join(self.bytes(address, size) for address, size in self.vectors())
+        return b""
+
+    def call(self, tid):
+        nr = self.x[NUMBER]
+        args = [self.argument(i) if i in VALUES.get(nr, []) else 0 for i in range(6)]
+        try:
+            sent = self.sent(nr)
+            if nr == READV:
+                args[3] = sum(size for _, size in self.vectors())
+        except BadAddress:
+            return Call(tid, nr, args, b"", True, -EFAULT)
+        return Call(tid, nr, args, sent, False)
+
+
+def printed(calls):
+    """The calls as strace prints them."""
+    log = [{"tid": c.tid, "nr": c.nr, "args": c.args, "ret": c.ret, "payload": (c.sent + c.got).hex(), "stamp": 0} for c in calls]
+    done = subprocess.run(["jq", "-r", "-f", STRACE], input=json.dumps({"log": log}), stdout=subprocess.PIPE, text=True, check=True)
+    return done.stdout.splitlines()
+
+
+def quoted(data):
+    return '"' + "".join(chr(b) if 32 <= b < 127 and b not in b'"\\' else {9: "\\t", 10: "\\n", 13: "\\r", 34: '\\"', 92: "\\\\"}.get(b, f"\\x{b:02x}") for b in data) + '"'
+
+
+def around(data, at):
+    """The bytes about a place, where it stands between."""
+    before, after = data[max(at - 12, 0) : at], data[at : at + 20]
+    return ("" if at <= 12 else "..") + quoted(before) + " " + (quoted(after) if after else "ends") + ("" if at + 20 >= len(data) else "..")
+
+
+def difference(logged, own):
+    """What differs first, in the order of the call's number, arguments, addresses and bytes."""
+    if logged.nr != own.nr:
+        return [f"differs  the number of the call: {logged.nr}, {own.nr}"]
+    for number, (one, other) in enumerate(zip(logged.args, own.args)):
+        if one != other and not (logged.nr == READV and number == 3 and logged.bad != own.bad):
+            return [f"differs  argument {number}: {one}, {other}"] + bytes_difference(logged.sent, own.sent)
+    if logged.bad != own.bad or logged.sent == own.sent:
+        return [f"differs  an address: {'bad' if logged.bad else 'good'} in the log, {'good' if logged.bad else 'bad'} in the version"]
+    return bytes_difference(logged.sent, own.sent)
+
+
+def bytes_difference(one, other):
+    if one == other:
+        return []
+    at = next((i for i, (a, b) in enumerate(zip(one, other)) if a != b), min(len(one), len(other)))
+    return [f"differs  byte {at}, of {len(one)} and {len(other)}", f"log      {around(one, at)}", f"version  {around(other, at)}"]
+
+
+def run(words):
+    done = subprocess.run(words, stdout=subprocess.PIPE, text=True)
+    if done.stdout.startswith("varan: "):
+        print(done.stdout, end="")
+        sys.exit(done.returncode)
+    return done.stdout.splitlines()
+
+
+def main():
+    parser = argparse.ArgumentParser(description="Shows where a version parts from a recorded run.")
+    parser.add_argument("--program", default="varan")
+    options = ["--script", "--rules", "--memory", "--budget", "--index"]
+    for name in options:
+        parser.add_argument(name, required=name == "--script")
+    parser.add_argument("trace")
+    parser.add_argument("version")
+    words = parser.parse_args()
+    given = [word for name in options if getattr(words, name[2:]) is not None for word in (name, getattr(words, name[2:]))]
+
+    [line] = run([words.program, "replay", *given, words.trace, words.version])
+    end = line.split()[1:]
+    if end[0] in ("in", "exited"):
+        print(line)
+        return 0
+    seen = int(end[end.index("seen") + 1])
+    logged = read_trace(words.trace)[seen]
+    print(f"event    {seen}, of thread {logged.tid}; rewrites before it: {end[-1]}")
+    if end[0] == "fault":
+        print("log     ", *printed([logged]))
+        print("version ", *end[: end.index("seen")])
+        return 1
+
+    def inspect(dump):
+        return run([words.program, "inspect", *given, "--stamp", str(seen + 1), *dump, words.trace, words.version])
+
+    own = State(inspect, logged.tid).call(logged.tid)
+    of_log, of_version = printed([logged, own])
+    print("log     ", of_log)
+    # What the version's call would give isn't known.
+    print("version ", of_version.rsplit(" = ", 1)[0])
+    print(*difference(logged, own), sep="\n")
+    return 1
+
+
+sys.exit(main())
