@@ -1,6 +1,6 @@
 #!/usr/bin/env bash
 # Runs the examples but those of guests/, and compares: the assembler texts hello, service and server with the reports of expected/, and the server in C with
-# what its clients got under Linux (server/expected).
+# what its clients got under Linux (server/expected); and does the commands of docs/TUTORIAL.md and docs/PARTING.md.
 # check.sh [PROGRAM]: crates/varan/out/varan where no program is named.
 # Status: 0 where all is the same, 1 where something differs, 2 where the program isn't built.
 set -eu
@@ -209,6 +209,7 @@ if command -v jq >/dev/null; then
     calls expected/calls --script script "$work/server_2" "$work/server_1"
     cd ../hello
     calls expected/calls --script script "$work/hi"
+    page TUTORIAL.md
     page PARTING.md
 else
     echo "check.sh: there is no jq, so strace.jq and the pages that want it weren't tried"
