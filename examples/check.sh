@@ -1,6 +1,7 @@
 #!/usr/bin/env bash
 # Runs the examples but those of guests/, and compares: the assembler texts hello, service and server with the reports of expected/, and the server in C with
-# what its clients got under Linux (server/expected); and does the commands of docs/TUTORIAL.md and docs/PARTING.md.
+# what its clients got under Linux (server/expected); does the commands of docs/TUTORIAL.md and
+# docs/PARTING.md; and has docs/varan.1 formatted.
 # check.sh [PROGRAM]: crates/varan/out/varan where no program is named.
 # Status: 0 where all is the same, 1 where something differs, 2 where the program isn't built.
 set -eu
@@ -213,6 +214,15 @@ if command -v jq >/dev/null; then
     page PARTING.md
 else
     echo "check.sh: there is no jq, so strace.jq and the pages that want it weren't tried"
+fi
+
+if command -v groff >/dev/null; then
+    rows=$((rows + 1))
+    # groff tells a fault of the page on standard error alone
+    if [ -n "$(groff -mandoc -Tutf8 -ww -z "$here/../docs/varan.1" 2>&1 | tee /dev/stderr)" ]; then
+        echo "check.sh: docs/varan.1 isn't formatted without a warning"
+        wrong=$((wrong + 1))
+    fi
 fi
 
 echo "check.sh: $rows rows, $wrong wrong"
