@@ -13,7 +13,7 @@ use std::{fs, io};
 use tally::Tally;
 
 // The files with rows, by what they are about. One may include the texts of those before it.
-const SUBJECTS: [&str; 19] = [
+const SUBJECTS: [&str; 22] = [
     "common",
     "calls",
     "memory",
@@ -22,10 +22,13 @@ const SUBJECTS: [&str; 19] = [
     "numbers",
     "files",
     "scripts",
+    "script_texts",
     "alone",
     "several",
     "refusals",
     "tools",
+    "rule_files",
+    "rule_texts",
     "linux",
     "built_guests",
     "built",

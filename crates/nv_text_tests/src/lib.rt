@@ -1,4 +1,5 @@
-//! Tests of the text formats: filters and rule texts, scripts, and what rules say.
+//! Tests of what no command tells of the text formats: fields, numbers, filters as they are written again, what rules say, and a script longer
+//! than a file may be.
 #![tactic(auto)]
 
 #[cfg(test)]
@@ -7,8 +8,6 @@ mod fields;
 mod filters;
 #[cfg(test)]
 mod numbers;
-#[cfg(test)]
-mod rule_texts;
 #[cfg(test)]
 mod rules;
 #[cfg(test)]
