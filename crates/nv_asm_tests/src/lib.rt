@@ -1,4 +1,4 @@
-//! Tests of the assembler, against what GNU as writes.
+//! Tests of the assembler on long texts.
 #![tactic(auto)]
 
 #[cfg(test)]

@@ -13,7 +13,7 @@ use std::{fs, io};
 use tally::Tally;
 
 // The files with rows, by what they are about. One may include the texts of those before it.
-const SUBJECTS: [&str; 22] = [
+const SUBJECTS: [&str; 23] = [
     "common",
     "calls",
     "memory",
@@ -29,6 +29,7 @@ const SUBJECTS: [&str; 22] = [
     "tools",
     "rule_files",
     "rule_texts",
+    "assembler_texts",
     "linux",
     "built_guests",
     "built",
