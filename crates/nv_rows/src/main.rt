@@ -13,7 +13,7 @@ use std::{fs, io};
 use tally::Tally;
 
 // The files with rows, by what they are about. One may include the texts of those before it.
-const SUBJECTS: [&str; 23] = [
+const SUBJECTS: [&str; 24] = [
     "common",
     "calls",
     "memory",
@@ -26,6 +26,7 @@ const SUBJECTS: [&str; 23] = [
     "alone",
     "several",
     "refusals",
+    "command_lines",
     "tools",
     "rule_files",
     "rule_texts",
