@@ -1,5 +1,5 @@
-// The values of options, which no answer tells, words with blanks, and the commands over traces. All else of a line is told by rows.
-use nv_command::{Command, Limits, LineFault, Point, Trail, read};
+// The values of options, which no answer tells, and words with blanks. All else of a line is told by rows.
+use nv_command::{Command, Limits, Point, Trail, read};
 use std::alloc::{AllocError, Global};
 use std::test::Fail;
 
@@ -33,14 +33,6 @@ fn is_run(
         Ok(Command::Run(run)) => Ok(
             run.script == script && are(&run.versions, versions) && run.json == json,
         ),
-        _ => Ok(false),
-    }
-}
-
-fn is_usage(alloc: Global, words: &[&str]) -> Result<bool, AllocError> {
-    let words = words_of(alloc, words)?;
-    match read(alloc, &words) {
-        Err(LineFault::Usage) => Ok(true),
         _ => Ok(false),
     }
 }
@@ -109,81 +101,6 @@ fn numbers(rt: HostRuntime) -> Result<(), Fail> {
     let refused = [("--ring", " 2"), ("--ring", "2 ")];
     for (option, value) in refused {
         assert!(rt; limits_with(rt.alloc(), option, value)?.is_none());
-    }
-    Ok(())
-}
-
-// Whether the words ask for a run of this script and of these versions that is recorded.
-fn is_recording(
-    alloc: Global,
-    words: &[&str],
-    script: &str,
-    versions: &[&str],
-) -> Result<bool, AllocError> {
-    let words = words_of(alloc, words)?;
-    match read(alloc, &words) {
-        Ok(Command::Record(run)) => {
-            Ok(run.script == script && are(&run.versions, versions) && !run.json)
-        }
-        _ => Ok(false),
-    }
-}
-
-#[test]
-fn recorded_runs(rt: HostRuntime) -> Result<(), Fail> {
-    let accepted: [(&[&str], &str, &[&str]); 4] = [
-        (&["varan", "record", "--script", "s", "v"], "s", &["v"]),
-        (
-            &[
-                "varan",
-                "record",
-                "v",
-                "--script=s",
-                "--rules",
-                "r",
-                "--ring",
-                "2",
-                "--memory",
-                "131072",
-                "--budget",
-                "1",
-                "--calls",
-                "1",
-                "--threads",
-                "1",
-                "w",
-            ],
-            "s",
-            &["v", "w"],
-        ),
-        (
-            &["varan", "record", "--script", "s", "--", "--json"],
-            "s",
-            &["--json"],
-        ),
-        (
-            &["varan", "record", "--script", "run", "record"],
-            "run",
-            &["record"],
-        ),
-    ];
-    for (words, script, versions) in accepted {
-        assert!(rt; is_recording(rt.alloc(), words, script, versions)?);
-    }
-    let refused: [&[&str]; 8] = [
-        &["varan", "record"],
-        &["varan", "record", "v"],
-        &["varan", "record", "--script", "s"],
-        &["varan", "record", "--script", "s", "--json", "v"],
-        &["varan", "record", "--script", "s", "--index", "1", "v"],
-        &["varan", "record", "--script", "s", "--ring", "1", "v"],
-        &["varan", "Record", "--script", "s", "v"],
-        &[
-            "varan", "record", "--script", "s", "1", "2", "3", "4", "5", "6", "7", "8", "9",
-        ],
-    ];
-    for words in refused {
-        assert!(rt; is_usage(rt.alloc(), words)?);
     }
     Ok(())
 }
@@ -314,52 +231,6 @@ fn indexes(rt: HostRuntime) -> Result<(), Fail> {
     for (text, index) in [("0", 0), ("1", 1), ("7", 7), ("007", 7)] {
         assert_eq!(rt; index_of(rt.alloc(), text)?.expect(&rt, text), index);
     }
-    for text in ["8", "", "-1", "one", "4294967296", "4294967297"] {
-        assert!(rt; index_of(rt.alloc(), text)?.is_none());
-    }
-    Ok(())
-}
-
-#[test]
-fn refused_replays(rt: HostRuntime) -> Result<(), Fail> {
-    let lines: [&[&str]; 16] = [
-        &["varan", "replay"],
-        &["varan", "replay", "t", "v"],
-        &["varan", "replay", "--script", "s"],
-        &["varan", "replay", "--script", "s", "t"],
-        &["varan", "replay", "--script", "s", "t", "v", "w"],
-        &[
-            "varan", "replay", "--script", "s", "--script", "s", "t", "v",
-        ],
-        &["varan", "replay", "--script", "s", "--json", "t", "v"],
-        &["varan", "replay", "--script", "s", "--ring", "2", "t", "v"],
-        &["varan", "replay", "--script", "s", "--calls", "1", "t", "v"],
-        &[
-            "varan",
-            "replay",
-            "--script",
-            "s",
-            "--threads",
-            "1",
-            "t",
-            "v",
-        ],
-        &["varan", "replay", "--script", "s", "--stamp", "1", "t", "v"],
-        &[
-            "varan", "replay", "--script", "s", "--index", "1", "--index", "1", "t", "v",
-        ],
-        &["varan", "replay", "--script", "s", "t", "v", "--index"],
-        &[
-            "varan", "replay", "--script", "s", "--memory", "131073", "t", "v",
-        ],
-        &[
-            "varan", "replay", "--script", "s", "--budget", "0", "t", "v",
-        ],
-        &["varan", "replay", "--script", "s", "--trace", "t", "v"],
-    ];
-    for words in lines {
-        assert!(rt; is_usage(rt.alloc(), words)?);
-    }
     Ok(())
 }
 
@@ -436,26 +307,6 @@ fn points(rt: HostRuntime) -> Result<(), Fail> {
         assert_eq!(rt; point, expected);
         assert!(rt; dump.is_none());
     }
-    let refused: [&[&str]; 15] = [
-        &[],
-        &["--stamp", "1", "--call", "1"],
-        &["--stamp", "1", "--count", "1"],
-        &["--call", "1", "--count", "1"],
-        &["--stamp", "1", "--call", "1", "--count", "1"],
-        &["--stamp", "1", "--stamp", "1"],
-        &["--stamp"],
-        &["--stamp="],
-        &["--stamp", "-1"],
-        &["--stamp", "4294967296"],
-        &["--call", "4294967296"],
-        &["--call", "write"],
-        &["--count", "0"],
-        &["--count", "1000000001"],
-        &["--stamp", "1", "--json"],
-    ];
-    for options in refused {
-        assert!(rt; look_with(rt.alloc(), options)?.is_none());
-    }
     Ok(())
 }
 
@@ -475,26 +326,6 @@ fn dumps(rt: HostRuntime) -> Result<(), Fail> {
         let (first, count) = dump.expect(&rt, "no bytes");
         assert_eq!(rt; first, from);
         assert_eq!(rt; count, bytes);
-    }
-    let refused: [&[&str]; 12] = [
-        &["--dump", "0"],
-        &["--length", "1"],
-        &["--dump", "0", "--length", "0"],
-        &["--dump", "0", "--length", "4097"],
-        &["--dump", "4294967295", "--length", "1"],
-        &["--dump", "4294967294", "--length", "2"],
-        &["--dump", "4294963200", "--length", "4096"],
-        &["--dump", "4294967296", "--length", "1"],
-        &["--dump", "0x10", "--length", "1"],
-        &["--dump", "", "--length", "1"],
-        &["--dump", "0", "--length", "1", "--length", "1"],
-        &["--dump", "0", "1"],
-    ];
-    for options in refused {
-        let mut line = options.to_vec(rt.alloc())?;
-        line.push("--stamp")?;
-        line.push("0")?;
-        assert!(rt; look_with(rt.alloc(), &line)?.is_none());
     }
     Ok(())
 }

@@ -13,7 +13,7 @@ use std::{fs, io};
 use tally::Tally;
 
 // The files with rows, by what they are about. One may include the texts of those before it.
-const SUBJECTS: [&str; 24] = [
+const SUBJECTS: [&str; 25] = [
     "common",
     "calls",
     "memory",
@@ -38,6 +38,7 @@ const SUBJECTS: [&str; 24] = [
     "sockets",
     "reports",
     "traces",
+    "trace_lines",
 ];
 
 fn main(rt: HostRuntime) -> io::Result<()> {
