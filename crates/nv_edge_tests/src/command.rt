@@ -141,13 +141,20 @@ fn options_of_recorded_runs(rt: HostRuntime) -> Result<(), Fail> {
 }
 
 fn are_same(trail: &Trail<'_>, expected: &Trail<'_>) -> bool {
-    trail.script == expected.script
-        && trail.rules == expected.rules
-        && trail.trace == expected.trace
-        && trail.version == expected.version
-        && trail.memory == expected.memory
-        && trail.budget == expected.budget
-        && trail.index == expected.index
+    let script = trail.script == expected.script;
+    let rules = are_same_rules(trail.rules, expected.rules);
+    let trace = trail.trace == expected.trace;
+    let version = trail.version == expected.version;
+    let limits = trail.memory == expected.memory && trail.budget == expected.budget;
+    script && rules && trace && version && limits && trail.index == expected.index
+}
+
+fn are_same_rules(rules: Option<&str>, expected: Option<&str>) -> bool {
+    match (rules, expected) {
+        (Some(rules), Some(expected)) => rules == expected,
+        (None, None) => true,
+        _ => false,
+    }
 }
 
 fn is_replay(alloc: Global, words: &[&str], expected: &Trail<'_>) -> Result<bool, AllocError> {

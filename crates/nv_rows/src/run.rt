@@ -1,4 +1,6 @@
 // The call of a row.
+ghost use Rattle.std.specs.Prelude.{◌<◌};
+
 use nv_outside::OpenGate;
 use nv_row_text::{Change, Kind, Row, RowFile};
 use nv_test_support::{Answered, Outside, assembled, image, monitor, monitor_through};
@@ -84,7 +86,9 @@ fn set_bytes(content: &mut [u8], place: usize, bytes: &[u8]) {
     }
 }
 
-fn outside_of<'a>(row: &'a Row, files: &'a [(&'a str, &'a [u8])]) -> Outside<'a> {
+fn outside_of<'a>(row: &'a Row, files: &'a [(&'a str, &'a [u8])]) -> Outside<'a>
+    ensures { 0 < result.most }
+{
     Outside {
         files,
         failing_reads: &row.failing_reads,
@@ -108,26 +112,38 @@ fn call<R: Threads + Wait + Sync>(
 }
 
 // The first answer that isn't right where a sink takes a byte a write, and fails at the write of one of these bytes.
-fn first_wrong_write<R: Threads + Wait + Sync>(
+fn first_wrong_write<'a, R: Threads + Wait + Sync>(
     rt: &R,
     alloc: Global,
-    row: &Row,
+    row: &'a Row,
     words: &[&str],
-    files: &[(&str, &[u8])],
+    files: &'a [(&'a str, &'a [u8])],
     written: &[u8],
 ) -> Result<Option<Answered>, AllocError> {
     for place in 0..written.len() {
-        let failing = [u32::try_from(place).unwrap_or(u32::MAX)];
-        let outside = Outside {
-            files,
-            failing_reads: &row.failing_reads,
-            most: 1,
-            failing_writes: &failing,
-        };
-        let answered = monitor_through(rt, alloc, words, outside, &OpenGate)?;
+        let answered = cut_off(rt, alloc, row, words, files, place)?;
         if answered.status != 6 || answered.written.as_slice() != &written[..place] {
             return Ok(Some(answered));
         }
     }
     Ok(None)
+}
+
+// The answer where a sink takes a byte a write, and fails at this one.
+fn cut_off<'a, R: Threads + Wait + Sync>(
+    rt: &R,
+    alloc: Global,
+    row: &'a Row,
+    words: &[&str],
+    files: &'a [(&'a str, &'a [u8])],
+    place: usize,
+) -> Result<Answered, AllocError> {
+    let failing = [u32::try_from(place).unwrap_or(u32::MAX)];
+    let outside = Outside {
+        files,
+        failing_reads: &row.failing_reads,
+        most: 1,
+        failing_writes: &failing,
+    };
+    monitor_through(rt, alloc, words, outside, &OpenGate)
 }
