@@ -1,5 +1,6 @@
 // The memory traffic of a ring of small events alone: places of six words end to end against places of eight words, each on a cache line
-// of its own. One thread writes the six words of an event in sequential order and then head; readers look at head, read the words and
+// of its own, and readers that write their cursor after each event against readers that write it once for all events that one look at head
+// showed. One thread writes the six words of an event in sequential order and then head; readers look at head, read the words and
 // write their cursors, in sequential order. Nothing is spelt, served or proved here.
 //
 //   gcc -O2 -pthread bench/ring_layout.c -o /tmp/ring_layout && /tmp/ring_layout
@@ -15,6 +16,7 @@ enum { PLACES = 64, WORDS = 6, LINE = 8, EVENTS = 1000000, RUNS = 9, MOST = 2 };
 
 static _Atomic uint64_t *table;
 static unsigned stride, readers;
+static int once_a_look;
 
 static _Atomic uint64_t *place(uint64_t event) { return table + LINE * (2 + MOST) + (event % PLACES) * stride; }
 
@@ -34,7 +36,8 @@ static void *read_all(void *given)
         for (unsigned i = 0; i < WORDS; i++)
             sum += words[i];
         seen++;
-        table[LINE * (2 + own)] = seen;
+        if (!once_a_look || seen == head)
+            table[LINE * (2 + own)] = seen;
     }
     return (void *)(uintptr_t)sum;
 }
@@ -80,19 +83,21 @@ static int by_size(const void *a, const void *b)
 
 int main(void)
 {
-    double took[2][RUNS];
+    enum { FORMS = 3 };
+    double took[FORMS][RUNS];
     table = aligned_alloc(64, 8 * (LINE * (2 + MOST) + PLACES * 8));
-    printf("| Readers | Six words, ns an event | Eight aligned | Eight / six |\n|---|---|---|---|\n");
+    printf("| Readers | Six words, ns an event | Eight aligned | Eight / six | Six, a cursor a look | A look / an event |\n|---|---|---|---|---|---|\n");
     for (readers = 0; readers <= MOST; readers++) {
         for (unsigned i = 0; i < RUNS; i++)
-            for (unsigned layout = 0; layout < 2; layout++) {
-                stride = layout ? 8 : WORDS;
-                took[layout][i] = run() / EVENTS;
+            for (unsigned form = 0; form < FORMS; form++) {
+                stride = form == 1 ? 8 : WORDS;
+                once_a_look = form == 2;
+                took[form][i] = run() / EVENTS;
             }
-        for (unsigned layout = 0; layout < 2; layout++)
-            qsort(took[layout], RUNS, sizeof(double), by_size);
-        double six = took[0][RUNS / 2], eight = took[1][RUNS / 2];
-        printf("| %u | %.1f | %.1f | %.2f |\n", readers, six, eight, eight / six);
+        for (unsigned form = 0; form < FORMS; form++)
+            qsort(took[form], RUNS, sizeof(double), by_size);
+        double six = took[0][RUNS / 2], eight = took[1][RUNS / 2], look = took[2][RUNS / 2];
+        printf("| %u | %.1f | %.1f | %.2f | %.1f | %.2f |\n", readers, six, eight, eight / six, look, look / six);
     }
     return 0;
 }

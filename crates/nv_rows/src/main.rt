@@ -13,7 +13,7 @@ use std::{fs, io};
 use tally::Tally;
 
 // The files with rows, by what they are about. One may include the texts of those before it.
-const SUBJECTS: [&str; 25] = [
+const SUBJECTS: [&str; 26] = [
     "common",
     "calls",
     "memory",
@@ -25,6 +25,7 @@ const SUBJECTS: [&str; 25] = [
     "script_texts",
     "alone",
     "several",
+    "ahead",
     "refusals",
     "command_lines",
     "tools",
