@@ -6,3 +6,4 @@ pub mod Places
 pub mod Piped
 pub mod Firsts
 pub mod Rows
+pub mod Others

@@ -10,3 +10,4 @@ pub mod Reserved
 pub mod Starts
 pub mod Views
 pub mod Told
+pub mod Kept

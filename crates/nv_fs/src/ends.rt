@@ -4,6 +4,7 @@ ghost use Rattle.std.specs.List.{position_from};
 ghost use Rattle.std.specs.Int.{to_le_bytes, w32};
 ghost use Rattle.nv_fs.specs.States.{answer, with_at};
 ghost use Rattle.nv_fs.specs.Ends.{pipe_of, pipe_on, with_ends, with_empty, free_above, free_pipe};
+ghost use Rattle.nv_fs.specs.Kept.{KeepsBlocks};
 ghost use Rattle.nv_fs.specs.Reserved.{CanPipe};
 ghost use Rattle.nv_fs.specs.Views.{items_of};
 
@@ -110,6 +111,7 @@ impl FileSystem {
     pub fn reserve_pipe(&mut self) -> Result<(), AllocError>
         ensures state { self.new.state ≡ self.old.state }
         ensures ready { OnOk result (CanPipe self.new) }
+        ensures others { KeepsBlocks self.old self.new }
     {
         self.opens.reserve(2)?;
         self.pipes.reserve(1)?;

@@ -3,6 +3,7 @@ ghost use Rattle.std.specs.Prelude.{◌≡◌, ◌+◌, ◌≤◌, ◌<◌, [], 
 ghost use Rattle.nv_fs.specs.States.{answer, with_at};
 ghost use Rattle.nv_fs.specs.Opened.{open_at_of, unlink_at_of, opened, has_flag, truncated, with_file, create, is_refused, open_file, open_at_descriptor, open_unless, unlinked};
 ghost use Rattle.nv_fs.specs.Stored.{with_content};
+ghost use Rattle.nv_fs.specs.Kept.{KeepsBlocks};
 ghost use Rattle.nv_fs.specs.Reserved.{CanOpen, HasOpens};
 
 use crate::disk::{FileSystem, MemoryFile};
@@ -192,6 +193,7 @@ impl FileSystem {
     pub fn reserve_path(&mut self, _dir: i32, path: &[u8], _flags: u32) -> Result<(), AllocError>
         ensures state { self.new.state ≡ self.old.state }
         ensures ready { OnOk result (CanOpen self.new path.now) }
+        ensures others { KeepsBlocks self.old self.new }
     {
         self.opens.reserve(1)?;
         self.files.reserve(1)?;

@@ -1,10 +1,11 @@
 // write.
-ghost use Rattle.std.specs.Prelude.{◌≡◌, ◌+◌, ◌-◌, ◌≤◌, ◌<◌, ◌^◌, [], ◌++◌, min, length, slice_index, OnOk};
+ghost use Rattle.std.specs.Prelude.{◌≡◌, ℕ, ◌+◌, ◌-◌, ◌≤◌, ◌<◌, ◌^◌, [], ◌++◌, min, length, slice_index, OnOk};
 ghost use Rattle.nv_blocks.specs.Contents.{with_bytes};
 ghost use Rattle.nv_fs.specs.States.{answer};
 ghost use Rattle.nv_fs.specs.Seeks.{bytes_of};
 ghost use Rattle.nv_fs.specs.Fetched.{pipe_at, with_pipe};
 ghost use Rattle.nv_fs.specs.Stored.{write_of, write_console, write_at, write_pipe, write_target, with_content, start_of};
+ghost use Rattle.nv_fs.specs.Kept.{is_held, KeepsBlocks, KeepsOthers, IsBeside, IsUntouched};
 ghost use Rattle.nv_fs.specs.Reserved.{CanWrite, IsReserved, HasBlocks};
 
 use crate::disk::FileSystem;
@@ -131,6 +132,7 @@ impl FileSystem {
     fn reserve_console(&mut self, n: usize) -> Result<(), AllocError>
         ensures state { self.new.state ≡ self.old.state }
         ensures ok { OnOk result (length self.old.state.console + min n (16777216 - length self.old.state.console) ≤ self.new.reserved.console) }
+        ensures others { KeepsBlocks self.old self.new }
     {
         let used = self.console.as_slice().len();
         let more = n.min(CONSOLE.saturating_sub(used));
@@ -141,6 +143,7 @@ impl FileSystem {
         requires { place + n < 2 ^ 64 }
         ensures state { self.new.state ≡ self.old.state }
         ensures ok { OnOk result (HasBlocks self.new i place n) }
+        ensures others { (j k : ℕ) → IsBeside i place n j k → is_held self.new j k ≡ is_held self.old j k }
     {
         if i < self.files.as_slice().len() {
             self.files[i].bytes.reserve(place, n)
@@ -152,6 +155,7 @@ impl FileSystem {
     fn reserve_buffer(&mut self, k: usize, most: usize) -> Result<(), AllocError>
         ensures state { self.new.state ≡ self.old.state }
         ensures ok { OnOk result (k < length self.old.state.pipes → most ≤ slice_index self.new.reserved.buffers k) }
+        ensures others { KeepsBlocks self.old self.new }
     {
         if k < self.pipes.as_slice().len() {
             reserve_to(&mut self.pipes[k], most)
@@ -163,6 +167,7 @@ impl FileSystem {
     fn reserve_file(&mut self, description: OpenFile, i: usize, n: usize) -> Result<(), AllocError>
         ensures state { self.new.state ≡ self.old.state }
         ensures ok { OnOk result (HasBlocks self.new i (start_of self.old.state description i) (min n (1048576 - start_of self.old.state description i))) }
+        ensures others { (j k : ℕ) → IsBeside i (start_of self.old.state description i) (min n (1048576 - start_of self.old.state description i)) j k → is_held self.new j k ≡ is_held self.old j k }
     {
         let start = self.start_of(description, i);
         if start >= FILE {
@@ -174,6 +179,7 @@ impl FileSystem {
     fn reserve_pipe_for(&mut self, k: usize, n: usize) -> Result<(), AllocError>
         ensures state { self.new.state ≡ self.old.state }
         ensures ok { OnOk result (k < length self.old.state.pipes → length (pipe_at self.old.state k) + n ≤ 4096 → length (pipe_at self.old.state k) + n ≤ slice_index self.new.reserved.buffers k) }
+        ensures others { KeepsBlocks self.old self.new }
     {
         let used = self.buffer(k).len();
         if n > PIPE.saturating_sub(used) {
@@ -185,6 +191,7 @@ impl FileSystem {
     fn reserve_target(&mut self, description: OpenFile, n: usize) -> Result<(), AllocError>
         ensures state { self.new.state ≡ self.old.state }
         ensures ok { OnOk result (IsReserved self.new description description.target n) }
+        ensures others { (j k : ℕ) → IsUntouched self.old.state description description.target n j k → is_held self.new j k ≡ is_held self.old j k }
     {
         match description.target {
             Target::Console => self.reserve_console(n),
@@ -194,10 +201,11 @@ impl FileSystem {
         }
     }
 
-    /// Memory for a write of `count` bytes to the descriptor.
+    /// Memory for a write of `count` bytes to the descriptor. A gap before the place of the write takes none.
     pub fn reserve_write(&mut self, fd: u32, count: u32) -> Result<(), AllocError>
         ensures state { self.new.state ≡ self.old.state }
         ensures ready { OnOk result (CanWrite self.new fd count) }
+        ensures others { KeepsOthers self.old self.new fd count }
     {
         let Some((_, description)) = self.open_of(fd) else {
             return Ok(());
