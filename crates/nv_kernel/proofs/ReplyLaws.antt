@@ -1,5 +1,6 @@
 -- A reply that is the same in every state is what the kernel replies in each.
-use Rattle.std.proofs.Common.{◌≡◌, ◌∙◌, ap, refl, Bool, true, false, cond, ◌||◌, not, [], Some}
+use Rattle.std.proofs.Common.{◌≡◌, ◌∙◌, ap, refl, ℕ, ℤ, Bool, true, false, cond, ◌||◌, not, List, [], Option, Some, None}
+use Rattle.std.specs.Prelude.{option_map, IfSome}
 use Rattle.std.proofs.lemmas.Option.{same_Some}
 use Rattle.nv_calls.specs.declared.numbers.Syscall.{Syscall}
 use Rattle.nv_calls.specs.declared.numbers.Syscall.TheVariants.{Getcwd, Uname, Getpid, Getppid, Getuid, Geteuid, Getgid, Getegid}
@@ -9,6 +10,7 @@ use Rattle.nv_calls.specs.Errors.{EFAULT}
 use Rattle.nv_calls.specs.Numbers.{syscall_of, has_range}
 use Rattle.nv_calls.specs.Shapes.{IsShaped}
 use Rattle.nv_calls.proofs.ShapeLaws.{shaped-parts}
+use Rattle.nv_kernel.specs.EveryState.{IsAlwaysReplied}
 use Rattle.nv_kernel.specs.Serving.{State, replied, always, answered, serve, reply_of}
 
 -- what the kernel replies, by the call and by whether it is bad
@@ -49,3 +51,9 @@ served_by _ s c r g h = cc
 pub constant-served : (s : State) (c : Request) (r : Response) → IsShaped c → constant_of c ≡ Some r → reply_of (serve s c) ≡ r
 unfolding constant_of
 constant-served s c r h e = reply_is s c ∙ served_by (syscall_of c.nr) s c r (λ f. good c (syscall_of c.nr) h refl f) e
+
+-- the same of a reply that there may be
+pub always-replied : (c : Request) (result : Option ℤ) (bytes : List ℕ) → constant_of c ≡ option_map (λ ret. record { ret = ret; payload = bytes }) result
+    → IfSome result (λ ret. IsAlwaysReplied c (record { ret = ret; payload = bytes }))
+always-replied c None bytes e = tt
+always-replied c (Some ret) bytes e = λ h s. constant-served s c _ h e

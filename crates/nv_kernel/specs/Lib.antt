@@ -3,3 +3,4 @@ pub mod Serving
 pub mod Reserved
 pub mod Kernel
 pub mod Crew
+pub mod EveryState

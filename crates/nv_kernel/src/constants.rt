@@ -1,8 +1,9 @@
 // The calls whose reply is the same in every state.
-ghost use Rattle.std.specs.Prelude.{◌≡◌, ◌≤◌, [], ◌++◌, length, drop, option_map, pos};
+ghost use Rattle.std.specs.Prelude.{◌≡◌, ◌≤◌, [], ◌++◌, length, drop, option_map, pos, IfSome};
 ghost use Rattle.nv_calls.specs.Calls.{request};
 ghost use Rattle.nv_calls.specs.Constants.{constant_by, constant_of, directory, field, names};
 ghost use Rattle.nv_calls.specs.Limits.{MOST_BYTES};
+ghost use Rattle.nv_kernel.specs.EveryState.{IsAlwaysReplied};
 
 use nv_calls::errors::{EFAULT, ERANGE};
 use nv_calls::{Bytes, Call, Syscall};
@@ -93,12 +94,13 @@ fn constant_as(syscall: Syscall, call: &Call, out: &mut Bytes) -> Option<i32>
     }
 }
 
-/// The reply of a call whose reply is the same in every state, with the bytes that it hands out.
+/// The reply of a call whose reply is the same in every state, with the bytes that it hands out. A version is given it without the kernel.
 #[tactic(auto, unfolding(nv_calls::specs::Constants::constant_of))]
 pub fn constant(call: &Call, out: &mut Bytes) -> Option<i32>
     requires { MOST_BYTES ≤ out.old.capacity }
     ensures reply { constant_of (request call.now) ≡ option_map (λ ret. record { ret = ret; payload = out.new.bytes }) result }
     ensures capacity { out.new.capacity ≡ out.old.capacity }
+    ensures always { IfSome result (λ ret. IsAlwaysReplied (request call.now) (record { ret = ret; payload = out.new.bytes })) }
 {
     constant_as(Syscall::of(call.nr), call, out)
 }
