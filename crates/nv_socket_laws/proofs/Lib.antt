@@ -1,2 +1,3 @@
 pub mod Refusing
 pub mod States
+pub mod Constants

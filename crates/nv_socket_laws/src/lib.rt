@@ -3,4 +3,6 @@
 
 mod laws;
 
-pub use laws::what_a_socket_answers_is_refused_without_sockets;
+pub use laws::{
+    a_constant_reply_is_given_in_every_state, what_a_socket_answers_is_refused_without_sockets,
+};
