@@ -1,3 +1,4 @@
+pub mod HeaderLaws
 pub mod LogLaws
 pub mod MergeLaws
 pub mod StampLaws
