@@ -155,7 +155,8 @@ module _ {K : Type 0} (hist : K → List Entry) (beg : K → Start) (p : Plan K)
       let unled : r.spans ≡ [] = holder_led m v.station r.led ir.led_nothing (at_zero ∙ sym low) in let d = r.doors in let whole : p.versions ≡ length r.seating = subst (Opened p.versions r.seating) unled r.turns.opened in
       let fresh_cursor : cursor s.words t ≡ 0 = se.unmade_is_new t record { first = zeroth; other = pos; not_made = le_refl t; near = near } in
       let none_of : (z : ℕ) → of_station z r.spans ≡ [] = λ z. ap (of_station z) unled in
-      let last : IsLast r.seating t t = record { has = d.first t near; none_later = λ z l e. let b : z < p.versions = (let y = at_below r.seating z t e in omega arith) in let q : z ≡ t = one_who r.seating z z z t (d.first z b) e refl in omega arith } in
+      let alone : (z : ℕ) → get_elem? r.seating z ≡ some t → z ≡ t = λ z e. let b : z < p.versions = (let y = at_below r.seating z t e in omega arith) in one_who r.seating z z z t (d.first z b) e refl in
+      let last : IsLast r.seating t t = record { has = d.first t near; none_later = λ z l e. let q : z ≡ t = alone z e in omega arith } in
       let mine' : Knows p m (one_made v) = record {
         seen_is_prefix = kn.seen_is_prefix;
         read_begins_next = kn.read_begins_next;
@@ -164,7 +165,7 @@ module _ {K : Type 0} (hist : K → List Entry) (beg : K → Start) (p : Plan K)
         owner_seen_at_most_head = kn.owner_seen_at_most_head;
         opened_at_most_open = kn.opened_at_most_open;
         in_role = kn.in_role;
-        seated = λ l. record { start_is = se.start_is; places_are = se.places_are; opened_least = se.opened_least; last = se.last; spans_are = se.spans_are; unmade_is_new = λ z u. se.unmade_is_new z record { first = u.first; other = u.other; not_made = (let a = u.not_made in omega arith); near = u.near } };
+        seated = λ l. record { start_is = se.start_is; places_are = se.places_are; opened_least = se.opened_least; last = se.last; spans_are = se.spans_are; unmade_is_new = λ z u. se.unmade_is_new z record { first = u.first; other = u.other; not_made = (let a = u.not_made in omega arith); near = u.near }; others_are_gone = se.others_are_gone };
         ended_is_past = kn.ended_is_past;
       } in
       let cut : Knows p m (reader_of v) = record {
@@ -175,7 +176,7 @@ module _ {K : Type 0} (hist : K → List Entry) (beg : K → Start) (p : Plan K)
         owner_seen_at_most_head = omega arith;
         opened_at_most_open = kn.opened_at_most_open;
         in_role = record { cursor_is_length = fresh_cursor; led_nothing = none_of t; wrote_nothing = refl; freed_stays = λ k e. cc };
-        seated = λ l. record { start_is = se.start_is; places_are = se.places_are; opened_least = se.opened_least; last = last; spans_are = sym (ap (of_version t) unled); unmade_is_new = λ z u. (let a = u.first in absurd (omega arith)) };
+        seated = λ l. record { start_is = se.start_is; places_are = se.places_are; opened_least = se.opened_least; last = last; spans_are = sym (ap (of_version t) unled); unmade_is_new = λ z u. (let a = u.first in absurd (omega arith)); others_are_gone = λ z has ne out. absurd (ne (alone z has)) };
         ended_is_past = λ i y e. absurd (some-ne-none y (sym e));
       } in
       let empty : es ≡ [] = ap (map version_of) ended in
@@ -197,7 +198,7 @@ module _ {K : Type 0} (hist : K → List Entry) (beg : K → Start) (p : Plan K)
         doors = r.doors;
         turns = r.turns;
         merge = merge_cut n c s.words r.log r.phase vs (reader_of v) (merge_turned n c s.views id v (one_made v) at s.words s.words r.log r.phase r.merge (λ _ _. refl) (λ e. r.merge.lead_writes id v at e) (λ e. r.merge.notes id v at e) (λ l. r.merge.floors_wide id v at l))
-            refl (notes_none r.log []) (length-replicate (length v.floors) 0 ∙ r.merge.floors_wide id v at (subst Live (sym role) tt));
+            refl (notes_none r.log [] [] refl) (length-replicate (length v.floors) 0 ∙ r.merge.floors_wide id v at (subst Live (sym role) tt));
         held_has_lead = λ e. let h = lead_stays s.views id r.holder v (one_made v) at (λ q. (q, refl)) (r.held_has_lead e) in (h.0, h.1, at_longer vs (reader_of v ∷ []) h.0 h.1 h.2, h.3, h.4);
         one_seat_a_version = subst Apart (sym path) (apart_split (map tag s.views) id t 0 es Reader Reader tt pos empty (at_map tag s.views id v at ∙ (λ i. some (role i, zeroth i, t, es))) r.one_seat_a_version);
         each_seat = λ j u e. ⊎_elim (λ (e' : get_elem? vs j ≡ some u). ⊎_elim (λ (y : (j ≡ id) × (one_made v ≡ u)). subst (Knows p m) y.1 mine') (λ (y : (j ≢ id) × (get_elem? s.views j ≡ some u)). r.each_seat j u y.1) (at_set s.views id j (one_made v) u e'))
@@ -220,7 +221,7 @@ module _ {K : Type 0} (hist : K → List Entry) (beg : K → Start) (p : Plan K)
         owner_seen_at_most_head = kn.owner_seen_at_most_head;
         opened_at_most_open = kn.opened_at_most_open;
         in_role = kn.in_role;
-        seated = λ l. record { start_is = se.start_is; places_are = se.places_are; opened_least = se.opened_least; last = se.last; spans_are = se.spans_are; unmade_is_new = se.unmade_is_new };
+        seated = λ l. record { start_is = se.start_is; places_are = se.places_are; opened_least = se.opened_least; last = se.last; spans_are = se.spans_are; unmade_is_new = se.unmade_is_new; others_are_gone = se.others_are_gone };
         ended_is_past = λ i y e. ⊎_elim (λ (q : get_elem? v.ended i ≡ some y). kn.ended_is_past i y q) (λ (q : (i ≡ length v.ended) × (x ≡ y)). subst (IsPast m) q.1 told) (at_end v.ended x y i e);
       } in
       let over : Knows p m spent = record { seen_is_prefix = λ i y e. absurd (some-ne-none y (sym e)); read_begins_next = λ i y e. absurd (some-ne-none y (sym e)); floor_at_most_cursor = λ z l. zero-le; head_seen_at_most_head = zero-le; owner_seen_at_most_head = omega arith; opened_at_most_open = zero-le; in_role = refl; seated = λ l. absurd l; ended_is_past = λ i y e. absurd (some-ne-none y (sym e)) } in
@@ -288,7 +289,7 @@ module _ {K : Type 0} (hist : K → List Entry) (beg : K → Start) (p : Plan K)
       stamps = stamps_first p.places (second p.stations p.places ws) (λ l k. zeros (slot p.stations p.places l k 1) (slot_after p.stations p.places l k 1 0 (omega arith)));
       lead_writes = λ j v e role. absurd (subst (λ (z : View K). Leads z.role) (sym (one_at (first p) j v e).1) role);
       not_held = λ _. refl;
-      notes = λ j v e _. subst (λ (z : View K). Notes [] z.seen z.noted z.missed) (one_at (first p) j v e).1 (notes_none [] []);
+      notes = λ j v e _. subst (λ (z : View K). Notes [] z.seen z.noted z.missed z.read) (one_at (first p) j v e).1 (notes_none [] [] [] refl);
       floors_wide = λ j v e _. subst (λ (z : View K). length z.floors ≡ p.stations) (one_at (first p) j v e).1 (length-replicate p.stations 0);
     };
     one_seat_a_version = λ j k a b e f c. (one_at (tag (first p)) j a e).0 ∙ sym (one_at (tag (first p)) k b f).0;
@@ -300,7 +301,7 @@ module _ {K : Type 0} (hist : K → List Entry) (beg : K → Start) (p : Plan K)
       owner_seen_at_most_head = omega arith;
       opened_at_most_open = omega arith;
       in_role = record { cursor_is_length = cur 0; led_nothing = refl; wrote_nothing = refl; freed_stays = λ k e. cc };
-      seated = λ l. record { start_is = refl; places_are = refl; opened_least = le_refl u; last = number_last u 0 some_version; spans_are = refl; unmade_is_new = λ t u. cur t };
+      seated = λ l. record { start_is = refl; places_are = refl; opened_least = le_refl u; last = number_last u 0 some_version; spans_are = refl; unmade_is_new = λ t u. cur t; others_are_gone = λ z has ne out. absurd (let within = at_below (numbers 0 u) z 0 has in let q : z ≡ 0 = some-injective z 0 (sym (number_from u z (omega arith)) ∙ has) in ne q) };
       ended_is_past = λ i x f. absurd (some-ne-none x (sym f));
     };
   }

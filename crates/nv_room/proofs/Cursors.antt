@@ -71,7 +71,7 @@ module _ (n c : ℕ) (m : Moment) (i x : ℕ) (pl : Places n c m) (near : i < n)
   }
 
   pub on_risen : length m.seating ≤ n → Onward n m risen
-  on_risen fit = record { near = fit; cursors = λ s l. cursor_up s; longer = λ _ _ h. h; more = le_refl (length m.log); wider = le_refl (length m.seating); begun = λ k y e. inl (k, y, e, refl, refl); gone_spans = λ v s l g. refl; gone_last = λ v s l g. l }
+  on_risen fit = record { near = fit; cursors = λ s l. cursor_up s; longer = λ _ _ h. h; seated = λ _ _ h. h; more = le_refl (length m.log); wider = le_refl (length m.seating); begun = λ k y e. inl (k, y, e, refl, refl); gone_spans = λ v s l g. refl; gone_last = λ v s l g. l }
 
   -- an open station's cursor is none of the others'
   pub doors_risen : (versions : ℕ) (hands : List ℕ) → i < length m.seating → Doors n versions hands m → Doors n versions hands risen
@@ -133,10 +133,10 @@ module _ {K : Type 0} (hist : K → List Entry) (beg : K → Start) (p : Plan K)
                 wrote_nothing = ir.wrote_nothing;
                 freed_stays = λ k q. let f = ir.freed_stays k q in record { is_free = f.is_free; at_head = f.at_head; opened_is = f.opened_is; lower_gone = λ z l. le_trans (f.lower_gone z l) (cursor_up n c m i new pl near up z) };
               };
-              seated = λ l. record { start_is = se.start_is; places_are = se.places_are; opened_least = se.opened_least; last = se.last; spans_are = se.spans_are; unmade_is_new = λ t q. cursor_else n c m i new pl near up t (unmade_apart n p.versions (planned hist beg p) m v.version i v.made t r.doors se.last.has q) ∙ se.unmade_is_new t q };
+              seated = λ l. record { start_is = se.start_is; places_are = se.places_are; opened_least = se.opened_least; last = se.last; spans_are = se.spans_are; unmade_is_new = λ t q. cursor_else n c m i new pl near up t (unmade_apart n p.versions (planned hist beg p) m v.version i v.made t r.doors se.last.has q) ∙ se.unmade_is_new t q; others_are_gone = λ t has ne out. le_trans (se.others_are_gone t has ne out) (cursor_up n c m i new pl near up t) };
               ended_is_past = λ k y f. past_on n m m' y on (kn.ended_is_past k y f);
             }
-            (merge_turned n c s.views id v w at s.words (set s.words (cursor_index i) new) r.log r.phase r.merge (second_kept n c (cursor_index i) new s.words (omega arith)) (λ e. r.merge.lead_writes id v at e) (λ _. notes_none r.log (v.seen ++ v.read ∷ [])) (λ l. r.merge.floors_wide id v at l)),
+            (merge_turned n c s.views id v w at s.words (set s.words (cursor_index i) new) r.log r.phase r.merge (second_kept n c (cursor_index i) new s.words (omega arith)) (λ e. r.merge.lead_writes id v at e) (λ _. notes_none r.log (v.seen ++ v.read ∷ []) [] refl) (λ l. r.merge.floors_wide id v at l)),
         (refl, told hist beg p s r (v.seen ++ v.read ∷ []) pre, (let short : len ≤ 131072 = pl.log_is_short in omega arith)),
       )
 
@@ -164,6 +164,7 @@ module _ {K : Type 0} (hist : K → List Entry) (beg : K → Start) (p : Plan K)
   leaves slots id new me role is s r wide at _ = let v = me.0 in let n : ℕ = p.stations in let c : ℕ = p.places in let kn = r.each_seat id v at in let pl = r.places in
       let m : Moment = now hist beg p s r in let live : Live v.role = ⊎_elim (λ (e : v.role ≡ Reader). subst Live (sym e) tt) (λ (e : v.role ≡ Leaving). subst Live (sym e) tt) role in
       let se : IsSeated p m v = kn.seated live in let i : ℕ = v.station in let near : i < n = seat_near hist beg p s r id v at live in let len : ℕ = length r.log in let few : len ≤ 131072 = pl.log_is_short in
+      let stays : v.role ≢ Moving = λ e. ⊎_elim (λ (f : v.role ≡ Reader). let q : Reader ≡ Moving = sym f ∙ e in (let z : ⊥ = cc in z)) (λ (f : v.role ≡ Leaving). let q : Leaving ≡ Moving = sym f ∙ e in (let z : ⊥ = cc in z)) role in
       let may = may_leave m v r.led (prefix_length v.seen r.log kn.seen_is_prefix) v.role role kn.in_role in let count : cursor s.words i ≤ len = may.count in
       let up : cursor s.words i ≤ new = omega arith in let m' : Moment = risen n c m i new pl near up in let w : View K = as_gone v in let on = on_risen n c m i new pl near up (open_near hist beg p s r) in
       let low : r.holder ≤ i = dite (dec_le r.holder i) (λ le. le) (λ gt. let lt : i < r.holder = lt_of_not-le gt in let g = pl.lower_are_gone i lt in absurd (omega arith)) in
@@ -186,7 +187,7 @@ module _ {K : Type 0} (hist : K → List Entry) (beg : K → Start) (p : Plan K)
                 before_later = λ k y e lt. let top = none_above m k y r.led e in absurd (omega arith);
                 wrote_nothing = may.quiet;
               };
-              seated = λ l. record { start_is = se.start_is; places_are = se.places_are; opened_least = se.opened_least; last = se.last; spans_are = se.spans_are; unmade_is_new = λ t q. cursor_else n c m i new pl near up t (unmade_apart n p.versions (planned hist beg p) m v.version i v.made t r.doors se.last.has q) ∙ se.unmade_is_new t q };
+              seated = λ l. record { start_is = se.start_is; places_are = se.places_are; opened_least = se.opened_least; last = se.last; spans_are = se.spans_are; unmade_is_new = λ t q. cursor_else n c m i new pl near up t (unmade_apart n p.versions (planned hist beg p) m v.version i v.made t r.doors se.last.has q) ∙ se.unmade_is_new t q; others_are_gone = λ t has ne out. le_trans (se.others_are_gone t has ne (λ e. absurd (stays e))) (cursor_up n c m i new pl near up t) };
               ended_is_past = λ k y f. past_on n m m' y on (kn.ended_is_past k y f);
             }
             (merge_turned n c s.views id v w at s.words (set s.words (cursor_index i) new) r.log r.phase r.merge (second_kept n c (cursor_index i) new s.words (omega arith)) (λ e. absurd e) (λ (e : Gone ≡ Reader). cc) (λ _. r.merge.floors_wide id v at live)),

@@ -1,5 +1,5 @@
 -- A lead gives up the lead and goes on as a reader at a new station.
-use Rattle.std.proofs.Common.{◌≡◌, ℕ, ◌+◌, ◌/◌, ◌<◌, ◌≤◌, ◌≢◌, true, List, [], ◌∷◌, ◌++◌, map, length, get_or, set, sym, refl, ap, ◌∙◌, subst, inl, inr, ⊎_elim, le_refl, le_trans, arith, length-append}
+use Rattle.std.proofs.Common.{◌≡◌, ℕ, ◌+◌, ◌/◌, ◌<◌, ◌≤◌, ◌≢◌, true, List, [], ◌∷◌, ◌++◌, map, length, get_or, set, sym, refl, ap, ◌∙◌, subst, inl, inr, ⊎_elim, le_refl, le_trans, arith, length-append, length-set}
 use mathlib.Core.Logic.{dite}
 use mathlib.Core.Option.{none, some}
 use native.Mathlib.Decide.{ℕ_discrete}
@@ -23,7 +23,7 @@ use Rattle.nv_room.specs.Spans.{Tiles, Rising, of_station, of_version, handed_on
 use Rattle.nv_room.specs.Planned.{below}
 use Rattle.nv_room.specs.Room.{cursor, Moment, as_of, Places, Doors, Turns, Led, Live, Leads, Has, tag, Apart, IsKernel, AtHome, Rule}
 use Rattle.nv_room.specs.Steps.{spare, as_opening, opens, as_moving, handed, as_reader, moved as moved_on}
-use Rattle.nv_room.proofs.Lists.{at_below, at_end}
+use Rattle.nv_room.proofs.Lists.{at_below, at_end, set_or}
 use Rattle.nv_room.proofs.Tiling.{last_apart, with_none, tiles_handed, rising_handed, handed_end, opened_handed, last_other, last_new}
 use Rattle.nv_room.proofs.Counts.{below_most, below_planned}
 use Rattle.nv_room.proofs.LastSpan.{Last, last_span, lead_last, begun_last, who_last, others_last, own_last, own_was}
@@ -132,7 +132,7 @@ module _ {K : Type 0} (hist : K → List Entry) (beg : K → Start) (p : Plan K)
         planned = room;
       } in
       let o = on_risen n c m i new pl near up (open_near hist beg p s r) in
-      let on : Onward n m m' = record { near = o.near; cursors = o.cursors; longer = o.longer; more = o.more; wider = o.wider; begun = o.begun; gone_spans = o.gone_spans; gone_last = o.gone_last } in
+      let on : Onward n m m' = record { near = o.near; cursors = o.cursors; longer = o.longer; more = o.more; wider = o.wider; seated = o.seated; begun = o.begun; gone_spans = o.gone_spans; gone_last = o.gone_last } in
       let w : View K = as_opening v in
       let tags : Apart (map tag (set s.views id w)) = subst Apart (sym (map-set tag s.views id w)) (apart_role hist beg p s r id v Opening at live) in (
         w,
@@ -149,7 +149,7 @@ module _ {K : Type 0} (hist : K → List Entry) (beg : K → Start) (p : Plan K)
               owner_seen_at_most_head = kn.owner_seen_at_most_head;
               opened_at_most_open = kn.opened_at_most_open;
               in_role = record { is_held = ir.is_held; is_holder = ir.is_holder; seen_is_log = full; wrote_nothing = quiet; opened_is = here; one_ready = refl };
-              seated = λ l. record { start_is = se.start_is; places_are = se.places_are; opened_least = se.opened_least; last = se.last; spans_are = se.spans_are; unmade_is_new = λ t q. cursor_else n c m i new pl near up t (λ e. let a = q.near in let b = d.least in omega arith) ∙ se.unmade_is_new t q };
+              seated = λ l. record { start_is = se.start_is; places_are = se.places_are; opened_least = se.opened_least; last = se.last; spans_are = se.spans_are; unmade_is_new = λ t q. cursor_else n c m i new pl near up t (λ e. let a = q.near in let b = d.least in omega arith) ∙ se.unmade_is_new t q; others_are_gone = λ t has ne out. le_trans (se.others_are_gone t has ne (λ e. absurd (let q : Lead ≡ Moving = sym role ∙ e in (let z : ⊥ = cc in z)))) (cursor_up n c m i new pl near up t) };
               ended_is_past = λ k y f. past_on n m m' y on (kn.ended_is_past k y f);
             }
             (merge_turned n c s.views id v w at s.words ws' r.log r.phase r.merge (second_kept n c (cursor_index i) new s.words (omega arith)) (λ e. r.merge.lead_writes id v at (subst Leads (sym role) tt)) (λ (e : Opening ≡ Reader). cc) (λ _. r.merge.floors_wide id v at live)),
@@ -194,6 +194,7 @@ module _ {K : Type 0} (hist : K → List Entry) (beg : K → Start) (p : Plan K)
         longer = λ i x e. e;
         more = le_refl len;
         wider = omega arith;
+        seated = λ z x e. at_longer r.seating (v.version ∷ []) z x e;
         begun = begun_handed m l;
         gone_spans = λ x z a g. versions_handed m l x (λ e. at_lead x z a g (sym mine ∙ e));
         gone_last = λ x z a g. last_other r.seating x v.version z (at_lead x z a g) a;
@@ -237,6 +238,10 @@ module _ {K : Type 0} (hist : K → List Entry) (beg : K → Start) (p : Plan K)
                 last = subst (λ (z : ℕ). IsLast whos' v.version z) (sym here) (last_new r.seating v.version);
                 spans_are = ap handed_on se.spans_are ∙ own_handed m l v.version mine;
                 unmade_is_new = λ t u. cur t ∙ se.unmade_is_new t u;
+                others_are_gone = λ t has ne out. ⊎_elim
+                    (λ (q : get_elem? r.seating t ≡ some v.version). subst (λ (z : ℕ). GONE ≤ z) (sym (cur t)) (se.others_are_gone t q (out refl) (λ e. absurd (let z : Opening ≡ Moving = sym role ∙ e in (let f : ⊥ = cc in f)))))
+                    (λ (q : (t ≡ length r.seating) × (v.version ≡ v.version)). absurd (ne (q.0 ∙ sym here)))
+                    (at_end r.seating v.version v.version t has);
               };
               ended_is_past = λ i x e. past_on n m m' x on (kn.ended_is_past i x e);
             }
@@ -250,6 +255,8 @@ module _ {K : Type 0} (hist : K → List Entry) (beg : K → Start) (p : Plan K)
       let m : Moment = now hist beg p s r in let live : Live v.role = subst Live (sym role) tt in let se = kn.seated live in let ir = in_role hist beg p s r id v at Moving role in let fit = open_near hist beg p s r in
       let i : ℕ = v.former in let top = pl.holder_is_open in let inner : i < length r.seating = (let h = ir.is_holder in omega arith) in let near : i < n = omega arith in let few = pl.log_is_short in
       let count = ir.former_is_count in let up : cursor s.words i ≤ new = omega arith in let other : v.station ≢ i = (let h = ir.is_lower in λ e. omega arith) in
+      let unread : v.read ≡ [] = no_words v.read (λ x e. let q = kn.read_begins_next 0 x e in let b = at_below r.log (length v.seen) q.0 q.1 in let full = ir.seen_is_log in omega arith) in
+      let gone : cursor (set s.words (cursor_index i) new) i ≡ GONE = cursor_there n c m i new pl near up ∙ is in
       let m' : Moment = risen n c m i new pl near up in let w : View K = as_reader v in let on = on_risen n c m i new pl near up fit in
       let tags : Apart (map tag (set s.views id w)) = subst Apart (sym (map-set tag s.views id w)) (apart_role hist beg p s r id v Reader at live) in (
         w,
@@ -262,15 +269,18 @@ module _ {K : Type 0} (hist : K → List Entry) (beg : K → Start) (p : Plan K)
             record {
               seen_is_prefix = kn.seen_is_prefix;
               read_begins_next = kn.read_begins_next;
-              floor_at_most_cursor = λ z l. le_trans (kn.floor_at_most_cursor z l) (cursor_up n c m i new pl near up z);
+              floor_at_most_cursor = λ z l. ⊎_elim
+                  (λ (e : get_or (set v.floors i GONE) z 0 ≡ get_or v.floors z 0). subst (λ (q : ℕ). q ≤ cursor (set s.words (cursor_index i) new) z) (sym e) (le_trans (kn.floor_at_most_cursor z l) (cursor_up n c m i new pl near up z)))
+                  (λ (e : (z ≡ i) × (get_or (set v.floors i GONE) z 0 ≡ GONE)). subst (λ (q : ℕ). get_or (set v.floors i GONE) z 0 ≤ cursor (set s.words (cursor_index i) new) q) (sym e.0) (let f = e.1 in omega arith))
+                  (set_or v.floors i z GONE);
               head_seen_at_most_head = kn.head_seen_at_most_head;
               owner_seen_at_most_head = kn.owner_seen_at_most_head;
               opened_at_most_open = kn.opened_at_most_open;
               in_role = record { cursor_is_length = cursor_else n c m i new pl near up v.station other ∙ ir.cursor_is_length; led_nothing = ir.led_nothing; wrote_nothing = ir.wrote_nothing; freed_stays = λ k e. cc };
-              seated = λ l. record { start_is = se.start_is; places_are = se.places_are; opened_least = se.opened_least; last = se.last; spans_are = se.spans_are; unmade_is_new = λ t q. cursor_else n c m i new pl near up t (unmade_apart n p.versions (planned hist beg p) m v.version i v.made t r.doors ir.version_is q) ∙ se.unmade_is_new t q };
+              seated = λ l. record { start_is = se.start_is; places_are = se.places_are; opened_least = se.opened_least; last = se.last; spans_are = se.spans_are; unmade_is_new = λ t q. cursor_else n c m i new pl near up t (unmade_apart n p.versions (planned hist beg p) m v.version i v.made t r.doors ir.version_is q) ∙ se.unmade_is_new t q; others_are_gone = λ t has ne out. dite (ℕ_discrete t i) (λ e. subst (λ (z : ℕ). GONE ≤ cursor (set s.words (cursor_index i) new) z) (sym e) (omega arith)) (λ other'. le_trans (se.others_are_gone t has ne (λ _. other')) (cursor_up n c m i new pl near up t)) };
               ended_is_past = λ k y f. past_on n m m' y on (kn.ended_is_past k y f);
             }
-            (merge_turned n c s.views id v w at s.words (set s.words (cursor_index i) new) r.log r.phase r.merge (second_kept n c (cursor_index i) new s.words (omega arith)) (λ e. absurd e) (λ _. notes_none r.log v.seen) (λ _. r.merge.floors_wide id v at live)),
+            (merge_turned n c s.views id v w at s.words (set s.words (cursor_index i) new) r.log r.phase r.merge (second_kept n c (cursor_index i) new s.words (omega arith)) (λ e. absurd e) (λ _. notes_none r.log v.seen v.read unread) (λ _. length-set v.floors i GONE ∙ r.merge.floors_wide id v at live)),
         refl,
       )
 

@@ -25,7 +25,7 @@ use Rattle.nv_room.specs.Placement.{Log, place_of}
 use Rattle.nv_room.specs.Owner.{GONE, Phase, held, free, closed, owner_word, owner_at}
 use Rattle.nv_room.specs.Spans.{span, Tiles, of_station, IsLast}
 use Rattle.nv_room.specs.Room.{cursor, Moment, as_of, Places, Doors, Turns, Led, Freed, InRole, Live, Leads, tag, Apart, IsKernel, AtHome, Rule}
-use Rattle.nv_room.specs.Steps.{as_leaving, gave_up, as_lead, took}
+use Rattle.nv_room.specs.Steps.{as_leaving, gave_up, span_begun, as_lead, took}
 use Rattle.nv_room.proofs.Lists.{at_below, at_end}
 use Rattle.nv_room.proofs.Placement.{place_after, header_inside}
 use Rattle.nv_room.proofs.Tiling.{tiles_more, rising_more, opened_more, last_apart, of_more_other, version_more_other, version_more_own}
@@ -103,11 +103,12 @@ module _ {K : Type 0} (hist : K → List Entry) (beg : K → Start) (p : Plan K)
       let m : Moment = now hist beg p s r in let ir = in_role hist beg p s r id v at Lead role in let se = seated hist beg p s r id v at Lead role tt in let st : ℕ = v.station in let ws' : List ℕ = set s.words 0 new in
       let m' : Moment = as_of ws' r.log ph r.holder r.spans r.seating r.ready in let fit = open_near hist beg p s r in let few = pl.few_stations in let top = pl.holder_is_open in let all : v.seen ≡ r.log = prefix_same v.seen r.log ir.seen_is_log kn.seen_is_prefix in
       let cur : (z : ℕ) → cursor ws' z ≡ cursor s.words z = same_cursor n c m new pl in
+      let stays : v.role ≢ Moving = λ e. (let q : Lead ≡ Moving = sym role ∙ e in (let z : ⊥ = cc in z)) in
       let out : get_elem? s.homes 0 ≡ some none = subst (AtHome hist beg p.start.value r.events s.homes) ir.is_held r.home in
       let home : IsKernel hist beg p.start.value (hist k) (homes_after s.homes me.1 gives) = (k, ap (λ (cs : List (ℕ × Option K)). get_elem? (put_back s.homes cs) 0) carries ∙ set_here s.homes 0 (some (Some k)) (at_below s.homes 0 none out), refl, began p.start se.start_is) in
       let places : Places n c m' = places_owned n c m new pl ph r.holder r.spans r.seating r.ready (is ∙ (λ i. owner_word ph (ir.is_holder i) (ir.opened_is i) (ir.seen_is_log i))) pl.holder_is_open pl.lower_are_gone (λ e. absurd (over e)) (λ z ne l. inl (ne, l)) in
       let led : Led m' = record { tile = r.led.tile; rise = r.led.rise; last_is_holders = r.led.last_is_holders; unled_is_free = λ e. absurd (let q : held ≡ free = sym ir.is_held ∙ r.led.unled_is_free e in cc) } in
-      let on : Onward n m m' = record { near = fit; cursors = λ z l. subst (λ (q : ℕ). cursor s.words z ≤ q) (sym (cur z)) (le_refl (cursor s.words z)); longer = λ i x e. e; more = le_refl (length r.log); wider = le_refl (length r.seating); begun = λ i y e. inl (i, y, e, refl, refl); gone_spans = λ v z l g. refl; gone_last = λ v z l g. l } in
+      let on : Onward n m m' = record { near = fit; cursors = λ z l. subst (λ (q : ℕ). cursor s.words z ≤ q) (sym (cur z)) (le_refl (cursor s.words z)); longer = λ i x e. e; more = le_refl (length r.log); wider = le_refl (length r.seating); seated = λ v z e. e; begun = λ i y e. inl (i, y, e, refl, refl); gone_spans = λ v z l g. refl; gone_last = λ v z l g. l } in
       let doors : Doors n p.versions (planned hist beg p) m' = doors_owned n c m new pl ph r.holder r.spans p.versions (planned hist beg p) (inl ir.none_ready) r.doors in
       let turns : Turns p.versions (planned hist beg p) ph (length r.log) r.spans r.seating = record { who_is = r.turns.who_is; opened = r.turns.opened; unhanded = λ e. absurd (over e); left_over = λ e. absurd (over e) } in
       let w : View K = as_leaving v new in
@@ -125,7 +126,7 @@ module _ {K : Type 0} (hist : K → List Entry) (beg : K → Start) (p : Plan K)
               owner_seen_at_most_head = (let q = given_at ph st v.opened (length v.seen) new over (let c = ir.is_holder in omega arith) (let c = ir.opened_is in omega arith) is in let d = ir.seen_is_log in omega arith);
               opened_at_most_open = kn.opened_at_most_open;
               in_role = record { not_held = over; is_holder = ir.is_holder; cursor_is_count = subst (λ (q : ℕ). q ≤ length r.log) (sym (cur st)) (subst (λ (q : ℕ). cursor s.words q ≤ length r.log) (sym ir.is_holder) (pl.lead_counts ir.is_held)); wrote_nothing = quiet };
-              seated = λ l. record { start_is = se.start_is; places_are = se.places_are; opened_least = se.opened_least; last = se.last; spans_are = se.spans_are; unmade_is_new = λ t u. cur t ∙ se.unmade_is_new t u };
+              seated = λ l. record { start_is = se.start_is; places_are = se.places_are; opened_least = se.opened_least; last = se.last; spans_are = se.spans_are; unmade_is_new = λ t u. cur t ∙ se.unmade_is_new t u; others_are_gone = λ t has ne out. subst (λ (q : ℕ). GONE ≤ q) (sym (cur t)) (se.others_are_gone t has ne (λ e. absurd (stays e))) };
               ended_is_past = λ i x e. past_on n m m' x on (kn.ended_is_past i x e);
             }
             (merge_turned n c s.views id v w at s.words ws' r.log ph (merge_phase n c s.words r.log r.phase ph s.views r.merge (sym (r.merge.lead_writes id v at (subst Leads (sym role) tt)) ∙ quiet)) (second_kept n c 0 new s.words (omega arith)) (λ e. absurd e) (λ (e : Leaving ≡ Reader). cc) (λ _. r.merge.floors_wide id v at (subst Live (sym role) tt))),
@@ -187,16 +188,18 @@ module _ {K : Type 0} (hist : K → List Entry) (beg : K → Start) (p : Plan K)
       let few : len ≤ 131072 = pl.log_is_short in let mine : cursor s.words st ≡ size = ir.cursor_is_length in
       let low : r.holder ≤ st = dite (dec_le r.holder st) (λ le. le) (λ gt. let lt : st < r.holder = lt_of_not-le gt in let g = pl.lower_are_gone st lt in absurd (omega arith)) in
       let home = home_free p.start.value r.events s.homes r.phase note.is_free r.home in let k : K = home.0 in
-      let new_span : Span = span st v.version size size in let spans' : List Span = r.spans ++ new_span ∷ [] in let m' : Moment = as_of ws' r.log held st spans' r.seating r.ready in let fit = open_near hist beg p s r in let live : Live v.role = subst Live (sym role) tt in
+      let new_span : Span = span_begun v in let spans' : List Span = r.spans ++ new_span ∷ [] in let m' : Moment = as_of ws' r.log held st spans' r.seating r.ready in let fit = open_near hist beg p s r in let live : Live v.role = subst Live (sym role) tt in
       let ready : r.ready ≡ length r.seating = none_ready hist beg p s r (λ e. let q : held ≡ free = sym e ∙ note.is_free in cc) in
       let cur : (z : ℕ) → cursor ws' z ≡ cursor s.words z = same_cursor n c m new pl in
+      let stays : v.role ≢ Moving = λ e. (let q : Reader ≡ Moving = sym role ∙ e in (let z : ⊥ = cc in z)) in
       let places : Places n c m' = places_owned n c m new pl held st spans' r.seating r.ready (is ∙ (λ i. owner_word held st (note.opened_is i) len)) (last_near r.seating v.version st se.last) note.lower_gone (λ e. omega arith)
       (λ z ne l. dite (ℕ_discrete z r.holder) (λ e. let lt : z < st = omega arith in inr (let g = note.lower_gone z lt in omega arith)) (λ ne'. inl (ne', l))) in
-      let led : Led m' = led_more m ws' st v.version size r.led full ir.led_nothing low in
+      let led : Led m' = led_more m ws' st v.version new_span.from r.led full ir.led_nothing low in
       let doors : Doors n p.versions (planned hist beg p) m' = doors_owned n c m new pl held st spans' p.versions (planned hist beg p) (inl ready) r.doors in
       let on : Onward n m m' = record {
         near = fit;
         wider = le_refl (length r.seating);
+        seated = λ z x e. e;
         gone_last = λ x z l g. l;
         cursors = λ z l. subst (λ (q : ℕ). cursor s.words z ≤ q) (sym (cur z)) (le_refl (cursor s.words z));
         longer = λ i x e. e;
@@ -210,7 +213,7 @@ module _ {K : Type 0} (hist : K → List Entry) (beg : K → Start) (p : Plan K)
         w,
         takes 0 (Some k),
         home.1,
-        moved hist beg p s r 0 new id me.1 (takes 0 (Some k)) r.log held st spans' r.seating r.ready r.events v w at tags (λ _. (id, w, set_here s.views id w (at_below s.views id v at), tt, refl)) record { spelt = r.log_is_spelt; lawful = r.log_is_lawful; ended = λ e. cc } (set_here s.homes 0 none (at_below s.homes 0 (some (Some k)) home.1)) places led doors (turns_more m st v.version size r.turns se.last.has) on
+        moved hist beg p s r 0 new id me.1 (takes 0 (Some k)) r.log held st spans' r.seating r.ready r.events v w at tags (λ _. (id, w, set_here s.views id w (at_below s.views id v at), tt, refl)) record { spelt = r.log_is_spelt; lawful = r.log_is_lawful; ended = λ e. cc } (set_here s.homes 0 none (at_below s.homes 0 (some (Some k)) home.1)) places led doors (turns_more m st v.version new_span.from r.turns se.last.has) on
             (λ j u ne f l. let other : u.station ≢ st = apart_from hist beg p s r j id u v f at ne live l in let ku = r.each_seat j u f in (
               own_at_take m m' pl st v.seen note.is_free mine (omega arith) note.lower_gone u other (prefix_length u.seen r.log ku.seen_is_prefix) (former_apart hist beg p s r j id u v f at ne live l st se.last.has) (cur u.station) (of_more_other u.station r.spans new_span (λ e. other (sym e))) u.role refl ku.in_role,
               version_more_other u.version r.spans new_span (λ e. apart_version hist beg p s r j id u v f at ne live l (sym e)),
@@ -234,7 +237,7 @@ module _ {K : Type 0} (hist : K → List Entry) (beg : K → Start) (p : Plan K)
                 opened_is = note.opened_is;
                 none_ready = ready;
               };
-              seated = λ l. record { start_is = se.start_is; places_are = se.places_are; opened_least = se.opened_least; last = se.last; spans_are = ap (λ (z : List Span). z ++ new_span ∷ []) se.spans_are ∙ sym (version_more_own v.version r.spans new_span refl); unmade_is_new = λ t u. cur t ∙ se.unmade_is_new t u };
+              seated = λ l. record { start_is = se.start_is; places_are = se.places_are; opened_least = se.opened_least; last = se.last; spans_are = ap (λ (z : List Span). z ++ new_span ∷ []) se.spans_are ∙ sym (version_more_own v.version r.spans new_span refl); unmade_is_new = λ t u. cur t ∙ se.unmade_is_new t u; others_are_gone = λ t has ne out. subst (λ (q : ℕ). GONE ≤ q) (sym (cur t)) (se.others_are_gone t has ne (λ e. absurd (stays e))) };
               ended_is_past = λ i x e. past_on n m m' x on (kn.ended_is_past i x e);
             }
             (let quiet : r.merge.writing ≡ [] = r.merge.not_held (λ e. let q : held ≡ free = sym e ∙ note.is_free in cc) in merge_turned n c s.views id v w at s.words ws' r.log held (merge_phase n c s.words r.log r.phase held s.views r.merge quiet) (second_kept n c 0 new s.words (omega arith)) (λ _. ir.wrote_nothing ∙ sym (merged_quiet n c s.words r.log r.phase held s.views r.merge quiet)) (λ (e : Lead ≡ Reader). cc) (λ _. r.merge.floors_wide id v at (subst Live (sym role) tt))),

@@ -5,7 +5,7 @@ use mathlib.Core.Logic.{dite}
 use mathlib.Core.Option.{none, some, some-injective}
 use native.Mathlib.Decide.{ℕ_discrete, dec_le}
 use lib.ListN.{get_elem?}
-use Rattle.std.specs.Prelude.{Option, Some}
+use Rattle.std.specs.Prelude.{Option, Some, None}
 use Rattle.atomic_table.specs.Table.{State, Me, step, keeps, Allows}
 use Rattle.atomic_table.proofs.Lists.{at_map}
 use Rattle.nv_calls.specs.Calls.{Entry}
@@ -20,8 +20,8 @@ use Rattle.nv_room.specs.declared.view.Role.TheVariants.{Reader, Lead}
 use Rattle.nv_places.specs.Header.{head_index, cursor_index}
 use Rattle.nv_places.specs.Logs.{lane}
 use Rattle.nv_room.specs.Placement.{Log, place_of}
-use Rattle.nv_room.specs.Owner.{GONE, Phase, held, free, closed, is_held, is_free, is_closed, owner_at, opened_at, lower_marked}
-use Rattle.nv_room.proofs.OwnerLaws.{marked}
+use Rattle.nv_room.specs.Owner.{GONE, Phase, held, free, closed, is_held, is_free, is_closed, owner_at, opened_at, lower_marked, is_noted, note_of}
+use Rattle.nv_room.proofs.OwnerLaws.{and_both, marked}
 use Rattle.nv_room.specs.Spans.{Opened}
 use Rattle.nv_room.specs.Room.{cursor, InRole, Live, Leads, Notes, Merge, Rule}
 use Rattle.nv_room.specs.Steps.{head_seen, looked_head, owner_seen, looked_owner, word_seen, read_word, cursor_seen, looked_cursor}
@@ -43,7 +43,7 @@ module _ {K : Type 0} (hist : K → List Entry) (beg : K → Start) (p : Plan K)
   M = Me (Option K) (View K)
 
   -- a look moves no word, so the places tell what they told
-  still : (s : St) (r : RuleOf s) (id : ℕ) (v w : View K) → get_elem? s.views id ≡ some v → (Leads w.role → w.wrote ≡ r.merge.writing) → (w.role ≡ Reader → Notes r.log w.seen w.noted w.missed) → (Live w.role → length w.floors ≡ p.stations)
+  still : (s : St) (r : RuleOf s) (id : ℕ) (v w : View K) → get_elem? s.views id ≡ some v → (Leads w.role → w.wrote ≡ r.merge.writing) → (w.role ≡ Reader → Notes r.log w.seen w.noted w.missed w.read) → (Live w.role → length w.floors ≡ p.stations)
       → Merge p.stations p.places s.words r.log r.phase (set s.views id w)
   still s r id v w at leads reads wide = merge_turned p.stations p.places s.views id v w at s.words s.words r.log r.phase r.merge (λ _ _. refl) leads reads wide
 
@@ -53,7 +53,7 @@ module _ {K : Type 0} (hist : K → List Entry) (beg : K → Start) (p : Plan K)
     keeps,
     tt,
     looked hist beg p s r head_index id me.1 v (head_seen v (get_or s.words head_index 0)) at refl (λ q. (q, refl))
-        record { seen_is_prefix = k.seen_is_prefix; read_begins_next = k.read_begins_next; floor_at_most_cursor = k.floor_at_most_cursor; head_seen_at_most_head = omega arith; owner_seen_at_most_head = k.owner_seen_at_most_head; opened_at_most_open = k.opened_at_most_open; in_role = k.in_role; seated = λ l. let q = k.seated l in record { start_is = q.start_is; places_are = q.places_are; opened_least = q.opened_least; last = q.last; spans_are = q.spans_are; unmade_is_new = q.unmade_is_new }; ended_is_past = k.ended_is_past }
+        record { seen_is_prefix = k.seen_is_prefix; read_begins_next = k.read_begins_next; floor_at_most_cursor = k.floor_at_most_cursor; head_seen_at_most_head = omega arith; owner_seen_at_most_head = k.owner_seen_at_most_head; opened_at_most_open = k.opened_at_most_open; in_role = k.in_role; seated = λ l. let q = k.seated l in record { start_is = q.start_is; places_are = q.places_are; opened_least = q.opened_least; last = q.last; spans_are = q.spans_are; unmade_is_new = q.unmade_is_new; others_are_gone = q.others_are_gone }; ended_is_past = k.ended_is_past }
         (still s r id v (head_seen v (get_or s.words head_index 0)) at (λ e. r.merge.lead_writes id v at e) (λ e. r.merge.notes id v at e) (λ l. r.merge.floors_wide id v at l)),
     (refl, omega arith, (let q = prefix_length v.seen r.log k.seen_is_prefix in omega arith), (let q = k.owner_seen_at_most_head in omega arith), (let q = k.head_seen_at_most_head in omega arith)),
   )
@@ -86,7 +86,7 @@ module _ {K : Type 0} (hist : K → List Entry) (beg : K → Start) (p : Plan K)
           owner_seen_at_most_head = k.owner_seen_at_most_head;
           opened_at_most_open = k.opened_at_most_open;
           in_role = k.in_role;
-          seated = λ l. let q = k.seated l in record { start_is = q.start_is; places_are = q.places_are; opened_least = q.opened_least; last = q.last; spans_are = q.spans_are; unmade_is_new = q.unmade_is_new };
+          seated = λ l. let q = k.seated l in record { start_is = q.start_is; places_are = q.places_are; opened_least = q.opened_least; last = q.last; spans_are = q.spans_are; unmade_is_new = q.unmade_is_new; others_are_gone = q.others_are_gone };
           ended_is_past = k.ended_is_past;
         } (still s r id v (cursor_seen st v x) at (λ e. r.merge.lead_writes id v at e) (λ e. r.merge.notes id v at e) (λ l. length-set v.floors st x ∙ r.merge.floors_wide id v at l)),
         (count_or_gone (length r.log) x few (r.places.cursor_is_count_or_gone st near), λ j e. let e' : 8 * (st + 2) ≡ 8 * (j + 2) = e in let q : st ≡ j = omega arith in (ap (λ (z : ℕ). (cursor_seen z v x, me.1)) q, λ role other open'. in_window s r id v at role st (let z = q in omega arith) (λ h. other (sym q ∙ h)), (let f = subst (λ (z : ℕ). get_or v.floors z 0 ≤ cursor s.words st) q (k.floor_at_most_cursor st near) in f))),
@@ -148,10 +148,10 @@ module _ {K : Type 0} (hist : K → List Entry) (beg : K → Start) (p : Plan K)
             cursor_is_length = ir.cursor_is_length;
             led_nothing = ir.led_nothing;
             wrote_nothing = ir.wrote_nothing;
-            freed_stays = λ k e. ⊎_elim (λ (q : (is_free x ≡ true) × (lower_marked st v.floors ≡ true) × (owner_at x ≡ k)). let y = found_free len x r.phase f q.0 in record { is_free = y.0; at_head = sym q.2 ∙ y.1; opened_is = opened; lower_gone = low q.1 })
+            freed_stays = λ k e. ⊎_elim (λ (q : (is_noted st v.floors x ≡ true) × (note_of x ≡ k)). let b = and_both (is_free x) (lower_marked st v.floors) q.0 in let y = found_free len x r.phase f b.0 in record { is_free = y.0; at_head = sym q.1 ∙ y.1; opened_is = opened; lower_gone = low b.1 })
                 (λ (q : v.freed ≡ Some k). let y = ir.freed_stays k q in record { is_free = y.is_free; at_head = y.at_head; opened_is = opened; lower_gone = y.lower_gone }) (noted_is v.freed st v.floors x k e);
           };
-          seated = λ g. let q = kn.seated g in record { start_is = q.start_is; places_are = q.places_are; opened_least = (let a = r.doors.least in omega arith); last = q.last; spans_are = q.spans_are; unmade_is_new = q.unmade_is_new };
+          seated = λ g. let q = kn.seated g in record { start_is = q.start_is; places_are = q.places_are; opened_least = (let a = r.doors.least in omega arith); last = q.last; spans_are = q.spans_are; unmade_is_new = q.unmade_is_new; others_are_gone = q.others_are_gone };
           ended_is_past = kn.ended_is_past;
         } (still s r id v v' at (λ e. r.merge.lead_writes id v at e) (λ e. r.merge.notes id v at e) (λ l. r.merge.floors_wide id v at l)),
         (
@@ -190,8 +190,8 @@ module _ {K : Type 0} (hist : K → List Entry) (beg : K → Start) (p : Plan K)
         keeps,
         tt,
         looked hist beg p s r k id me.1 v (word_seen v x) at refl (λ q. (q, refl))
-            record { seen_is_prefix = kn.seen_is_prefix; read_begins_next = λ j y f. (e, got.1, more j y f); floor_at_most_cursor = kn.floor_at_most_cursor; head_seen_at_most_head = kn.head_seen_at_most_head; owner_seen_at_most_head = kn.owner_seen_at_most_head; opened_at_most_open = kn.opened_at_most_open; in_role = subst (InRole n c (now hist beg p s r) (word_seen v x)) (sym role) ir; seated = λ l. let q = kn.seated l in record { start_is = q.start_is; places_are = q.places_are; opened_least = q.opened_least; last = q.last; spans_are = q.spans_are; unmade_is_new = q.unmade_is_new }; ended_is_past = kn.ended_is_past }
-            (still s r id v (word_seen v x) at (λ e. r.merge.lead_writes id v at e) (λ e. r.merge.notes id v at e) (λ l. r.merge.floors_wide id v at l)),
+            record { seen_is_prefix = kn.seen_is_prefix; read_begins_next = λ j y f. (e, got.1, more j y f); floor_at_most_cursor = kn.floor_at_most_cursor; head_seen_at_most_head = kn.head_seen_at_most_head; owner_seen_at_most_head = kn.owner_seen_at_most_head; opened_at_most_open = kn.opened_at_most_open; in_role = subst (InRole n c (now hist beg p s r) (word_seen v x)) (sym role) ir; seated = λ l. let q = kn.seated l in record { start_is = q.start_is; places_are = q.places_are; opened_least = q.opened_least; last = q.last; spans_are = q.spans_are; unmade_is_new = q.unmade_is_new; others_are_gone = q.others_are_gone }; ended_is_past = kn.ended_is_past }
+            (still s r id v (word_seen v x) at (λ e. r.merge.lead_writes id v at e) (λ e. let k = r.merge.notes id v at e in record { noted_is_next = k.noted_is_next; missed_is_not = k.missed_is_not; unnoted_is_unread = λ q. let none : Some l ≡ None = sym before ∙ q in cc }) (λ l. r.merge.floors_wide id v at l)),
         (
           refl,
           (y.0, lawful_range r.events m y.0 r.log_is_lawful y.1, subst (λ (z : List ℕ). Prefix (v.read ++ x ∷ []) z) spells more),

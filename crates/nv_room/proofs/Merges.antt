@@ -26,19 +26,20 @@ second_kept n c k x ws h l j = get_or-set_other ws k (slot n c l j 1) x 0 (slot_
 pub stamps_same : (c : ℕ) (f g : ℕ → ℕ → ℕ) (log : Log) (w : List ℕ) → ((l k : ℕ) → g l k ≡ f l k) → Stamps c f log w → Stamps c g log w
 stamps_same c f g log w same s l k a b = subst (λ (z : ℕ). Stamp log w l (low z)) (sym (same l k)) (s l k a b)
 
-pub notes_none : (log seen : Log) → Notes log seen None []
-notes_none log seen = record { noted_is_next = λ l e. cc; missed_is_not = λ l h. absurd (some-ne-none l (sym h.1)) }
+pub notes_none : (log seen : Log) (read : List ℕ) → read ≡ [] → Notes log seen None [] read
+notes_none log seen read unread = record { noted_is_next = λ l e. cc; missed_is_not = λ l h. absurd (some-ne-none l (sym h.1)); unnoted_is_unread = λ e. unread }
 
-pub notes_stay : (log more seen : Log) (noted : Option ℕ) (missed : List ℕ) → Notes log seen noted missed → Notes (log ++ more) seen noted missed
-notes_stay log more seen noted missed k = let n = length-append log more in record {
+pub notes_stay : (log more seen : Log) (noted : Option ℕ) (missed read : List ℕ) → Notes log seen noted missed read → Notes (log ++ more) seen noted missed read
+notes_stay log more seen noted missed read k = let n = length-append log more in record {
   noted_is_next = λ l e. let a = k.noted_is_next l e in ((let q = a.0 in omega arith), a.1 ∙ sym (lane_stays log more (length seen) a.0));
   missed_is_not = λ l h. let a = k.missed_is_not l h in ((let q = a.0 in omega arith), λ e. a.1 (e ∙ lane_stays log more (length seen) a.0));
+  unnoted_is_unread = k.unnoted_is_unread;
 }
 
 module _ {T : Type 0} (n c : ℕ) (views : List (View T)) (id : ℕ) (v w : View T) (at : get_elem? views id ≡ some v) where
   -- the view of the seat id changes, and no word of a place
   pub merge_turned : (ws ws' : List ℕ) (log : Log) (phase : Phase) (m : Merge n c ws log phase views) → ((l k : ℕ) → second n c ws' l k ≡ second n c ws l k)
-      → (Leads w.role → w.wrote ≡ m.writing) → (w.role ≡ Reader → Notes log w.seen w.noted w.missed) → (Live w.role → length w.floors ≡ n) → Merge n c ws' log phase (set views id w)
+      → (Leads w.role → w.wrote ≡ m.writing) → (w.role ≡ Reader → Notes log w.seen w.noted w.missed w.read) → (Live w.role → length w.floors ≡ n) → Merge n c ws' log phase (set views id w)
   merge_turned ws ws' log phase m same leads reads wide = record {
     writing = m.writing;
     stamps = stamps_same c (second n c ws) (second n c ws') log m.writing same m.stamps;
@@ -48,7 +49,7 @@ module _ {T : Type 0} (n c : ℕ) (views : List (View T)) (id : ℕ) (v w : View
         (at_set views id j w u e);
     not_held = m.not_held;
     notes = λ j u e role. ⊎_elim
-        (λ (y : (j ≡ id) × (w ≡ u)). subst (λ (z : View T). Notes log z.seen z.noted z.missed) y.1 (reads (ap (λ (z : View T). z.role) y.1 ∙ role)))
+        (λ (y : (j ≡ id) × (w ≡ u)). subst (λ (z : View T). Notes log z.seen z.noted z.missed z.read) y.1 (reads (ap (λ (z : View T). z.role) y.1 ∙ role)))
         (λ (y : (j ≢ id) × (get_elem? views j ≡ some u)). m.notes j u y.1 role)
         (at_set views id j w u e);
     floors_wide = λ j u e l. ⊎_elim
@@ -60,7 +61,7 @@ module _ {T : Type 0} (n c : ℕ) (views : List (View T)) (id : ℕ) (v w : View
   -- the lead writes: `w` is its new view, and no other seat leads
   pub merge_written : (ws ws' : List ℕ) (log log' : Log) (phase : Phase) (m : Merge n c ws log phase views) (writing : List ℕ) → w.role ≡ Lead → w.wrote ≡ writing → phase ≡ held → length w.floors ≡ n
       → ((j : ℕ) (u : View T) → j ≢ id → get_elem? views j ≡ some u → ¬ Leads u.role) → Stamps c (second n c ws') log' writing
-      → ((seen : Log) (noted : Option ℕ) (missed : List ℕ) → Notes log seen noted missed → Notes log' seen noted missed) → Merge n c ws' log' phase (set views id w)
+      → ((seen : Log) (noted : Option ℕ) (missed read : List ℕ) → Notes log seen noted missed read → Notes log' seen noted missed read) → Merge n c ws' log' phase (set views id w)
   merge_written ws ws' log log' phase m writing role is leads wide alone stamps on = record {
     writing = writing;
     stamps = stamps;
@@ -71,7 +72,7 @@ module _ {T : Type 0} (n c : ℕ) (views : List (View T)) (id : ℕ) (v w : View
     not_held = λ ne. absurd (ne leads);
     notes = λ j u e reader. ⊎_elim
         (λ (y : (j ≡ id) × (w ≡ u)). absurd (let q : Lead ≡ Reader = sym role ∙ ap (λ (z : View T). z.role) y.1 ∙ reader in cc))
-        (λ (y : (j ≢ id) × (get_elem? views j ≡ some u)). on u.seen u.noted u.missed (m.notes j u y.1 reader))
+        (λ (y : (j ≢ id) × (get_elem? views j ≡ some u)). on u.seen u.noted u.missed u.read (m.notes j u y.1 reader))
         (at_set views id j w u e);
     floors_wide = λ j u e l. ⊎_elim
         (λ (y : (j ≡ id) × (w ≡ u)). ap (λ (z : View T). length z.floors) (sym y.1) ∙ wide)
@@ -88,13 +89,13 @@ unfolding merge_phase
 merged_quiet n c ws log phase phase' views m e = refl
 
 -- one more seat, which reads
-pub merge_cut : {T : Type 0} (n c : ℕ) (ws : List ℕ) (log : Log) (phase : Phase) (views : List (View T)) (w : View T) → Merge n c ws log phase views → w.role ≡ Reader → Notes log w.seen w.noted w.missed → length w.floors ≡ n → Merge n c ws log phase (views ++ w ∷ [])
+pub merge_cut : {T : Type 0} (n c : ℕ) (ws : List ℕ) (log : Log) (phase : Phase) (views : List (View T)) (w : View T) → Merge n c ws log phase views → w.role ≡ Reader → Notes log w.seen w.noted w.missed w.read → length w.floors ≡ n → Merge n c ws log phase (views ++ w ∷ [])
 merge_cut {T} n c ws log phase views w m role notes wide = record {
   writing = m.writing;
   stamps = m.stamps;
   lead_writes = λ j u e lead. ⊎_elim (λ (q : get_elem? views j ≡ some u). m.lead_writes j u q lead) (λ (q : (j ≡ length views) × (w ≡ u)). absurd (subst Leads (ap (λ (z : View T). z.role) (sym q.1) ∙ role) lead)) (at_end views w u j e);
   not_held = m.not_held;
-  notes = λ j u e reader. ⊎_elim (λ (q : get_elem? views j ≡ some u). m.notes j u q reader) (λ (q : (j ≡ length views) × (w ≡ u)). subst (λ (z : View T). Notes log z.seen z.noted z.missed) q.1 notes) (at_end views w u j e);
+  notes = λ j u e reader. ⊎_elim (λ (q : get_elem? views j ≡ some u). m.notes j u q reader) (λ (q : (j ≡ length views) × (w ≡ u)). subst (λ (z : View T). Notes log z.seen z.noted z.missed z.read) q.1 notes) (at_end views w u j e);
   floors_wide = λ j u e l. ⊎_elim (λ (q : get_elem? views j ≡ some u). m.floors_wide j u q l) (λ (q : (j ≡ length views) × (w ≡ u)). ap (λ (z : View T). length z.floors) (sym q.1) ∙ wide) (at_end views w u j e);
 }
 

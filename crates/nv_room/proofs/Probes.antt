@@ -5,7 +5,7 @@ use Rattle.std.proofs.lemmas.Bool.{eqb-true, eqb-false}
 use mathlib.Core.Path.{Path}
 use mathlib.Core.Option.{none, some, some-injective}
 use lib.ListN.{get_elem?}
-use Rattle.std.specs.Prelude.{Option, Some, ◌==◌}
+use Rattle.std.specs.Prelude.{Option, Some, None, ◌==◌}
 use Rattle.std.proofs.lemmas.Option.{same_Some}
 use Rattle.atomic_table.specs.Table.{State, Me, step, keeps, Allows}
 use Rattle.atomic_table.proofs.Lists.{at_map}
@@ -43,8 +43,8 @@ module _ {T : Type 0} (l : ℕ) (v : View T) where
 
   knows_probed : (p : Plan T) (m : Moment) (x : ℕ) → Knows p m v → Knows p m (probed_at l v x)
   knows_probed p m x k = elim (low x == length v.seen) as (λ (b : Bool). Knows p m (cond b hit miss)) [
-    | true ↦ record { seen_is_prefix = k.seen_is_prefix; read_begins_next = k.read_begins_next; floor_at_most_cursor = k.floor_at_most_cursor; head_seen_at_most_head = k.head_seen_at_most_head; owner_seen_at_most_head = k.owner_seen_at_most_head; opened_at_most_open = k.opened_at_most_open; in_role = k.in_role; seated = λ l. let q = k.seated l in record { start_is = q.start_is; places_are = q.places_are; opened_least = q.opened_least; last = q.last; spans_are = q.spans_are; unmade_is_new = q.unmade_is_new }; ended_is_past = k.ended_is_past }
-    | false ↦ record { seen_is_prefix = k.seen_is_prefix; read_begins_next = k.read_begins_next; floor_at_most_cursor = k.floor_at_most_cursor; head_seen_at_most_head = k.head_seen_at_most_head; owner_seen_at_most_head = k.owner_seen_at_most_head; opened_at_most_open = k.opened_at_most_open; in_role = k.in_role; seated = λ l. let q = k.seated l in record { start_is = q.start_is; places_are = q.places_are; opened_least = q.opened_least; last = q.last; spans_are = q.spans_are; unmade_is_new = q.unmade_is_new }; ended_is_past = k.ended_is_past }
+    | true ↦ record { seen_is_prefix = k.seen_is_prefix; read_begins_next = k.read_begins_next; floor_at_most_cursor = k.floor_at_most_cursor; head_seen_at_most_head = k.head_seen_at_most_head; owner_seen_at_most_head = k.owner_seen_at_most_head; opened_at_most_open = k.opened_at_most_open; in_role = k.in_role; seated = λ l. let q = k.seated l in record { start_is = q.start_is; places_are = q.places_are; opened_least = q.opened_least; last = q.last; spans_are = q.spans_are; unmade_is_new = q.unmade_is_new; others_are_gone = q.others_are_gone }; ended_is_past = k.ended_is_past }
+    | false ↦ record { seen_is_prefix = k.seen_is_prefix; read_begins_next = k.read_begins_next; floor_at_most_cursor = k.floor_at_most_cursor; head_seen_at_most_head = k.head_seen_at_most_head; owner_seen_at_most_head = k.owner_seen_at_most_head; opened_at_most_open = k.opened_at_most_open; in_role = k.in_role; seated = λ l. let q = k.seated l in record { start_is = q.start_is; places_are = q.places_are; opened_least = q.opened_least; last = q.last; spans_are = q.spans_are; unmade_is_new = q.unmade_is_new; others_are_gone = q.others_are_gone }; ended_is_past = k.ended_is_past }
   ]
 
   tag_probed : (x : ℕ) → Path Tag (tag (probed_at l v x)) (tag v)
@@ -54,11 +54,11 @@ module _ {T : Type 0} (l : ℕ) (v : View T) where
   leads_probed x q = elim (low x == length v.seen) as (λ (b : Bool). Leads (cond b hit miss).role × ((cond b hit miss).station ≡ v.station)) [ true ↦ (q, refl) | false ↦ (q, refl) ]
 
 -- what is noted of a lane
-noted_hit : (log seen : Log) (noted : Option ℕ) (missed : List ℕ) (l : ℕ) → Notes log seen noted missed → length seen < length log → l ≡ lane log (length seen) → Notes log seen (Some l) missed
-noted_hit log seen noted missed l k more is = record { noted_is_next = λ j e. (more, sym (same_Some l j e) ∙ is); missed_is_not = k.missed_is_not }
+noted_hit : (log seen : Log) (noted : Option ℕ) (missed read : List ℕ) (l : ℕ) → Notes log seen noted missed read → length seen < length log → l ≡ lane log (length seen) → Notes log seen (Some l) missed read
+noted_hit log seen noted missed read l k more is = record { noted_is_next = λ j e. (more, sym (same_Some l j e) ∙ is); missed_is_not = k.missed_is_not; unnoted_is_unread = λ (e : Some l ≡ None). cc }
 
-noted_miss : (log seen : Log) (noted : Option ℕ) (missed : List ℕ) (l : ℕ) → Notes log seen noted missed → length seen < length log → l ≢ lane log (length seen) → Notes log seen noted (missed ++ l ∷ [])
-noted_miss log seen noted missed l k more is = record { noted_is_next = k.noted_is_next; missed_is_not = λ j h. ⊎_elim (λ (q : get_elem? missed h.0 ≡ some j). k.missed_is_not j (h.0, q)) (λ (q : (h.0 ≡ length missed) × (l ≡ j)). (more, λ e. is (q.1 ∙ e))) (at_end missed l j h.0 h.1) }
+noted_miss : (log seen : Log) (noted : Option ℕ) (missed read : List ℕ) (l : ℕ) → Notes log seen noted missed read → length seen < length log → l ≢ lane log (length seen) → Notes log seen noted (missed ++ l ∷ []) read
+noted_miss log seen noted missed read l k more is = record { noted_is_next = k.noted_is_next; missed_is_not = λ j h. ⊎_elim (λ (q : get_elem? missed h.0 ≡ some j). k.missed_is_not j (h.0, q)) (λ (q : (h.0 ≡ length missed) × (l ≡ j)). (more, λ e. is (q.1 ∙ e))) (at_end missed l j h.0 h.1); unnoted_is_unread = k.unnoted_is_unread }
 
 module _ {K : Type 0} (hist : K → List Entry) (beg : K → Start) (p : Plan K) where
   abbrev St : Type 0
@@ -97,12 +97,12 @@ module _ {K : Type 0} (hist : K → List Entry) (beg : K → Start) (p : Plan K)
       let stands = stamped s r id v at role more in
       let floors : length v.floors ≡ n = mg.floors_wide id v at (subst Live (sym role) tt) in
       let w : View K = probed_at l v x in
-      let turned = λ (u : View K) (same : u.role ≡ v.role) (writes : u.wrote ≡ v.wrote) (notes : Notes r.log u.seen u.noted u.missed) (floored : length u.floors ≡ n). merge_turned n c s.views id v u at s.words s.words r.log r.phase mg (λ _ _. refl) (λ e. writes ∙ mg.lead_writes id v at (subst Leads same e)) (λ _. notes) (λ _. floored) in
+      let turned = λ (u : View K) (same : u.role ≡ v.role) (writes : u.wrote ≡ v.wrote) (notes : Notes r.log u.seen u.noted u.missed u.read) (floored : length u.floors ≡ n). merge_turned n c s.views id v u at s.words s.words r.log r.phase mg (λ _ _. refl) (λ e. writes ∙ mg.lead_writes id v at (subst Leads same e)) (λ _. notes) (λ _. floored) in
       let merge : Merge n c s.words r.log r.phase (set s.views id w) = by_test (low x == i)
       (λ t. subst (λ (b : Bool). Merge n c s.words r.log r.phase (set s.views id (cond b (hit l v) (miss l v)))) (sym t)
-      (turned (hit l v) refl refl (noted_hit r.log v.seen v.noted v.missed l nt more (probe_hits c sec r.log mg.writing v.seen l pos mg.stamps more below living (shown ∙ eqb-true (low x) i t))) floors))
+      (turned (hit l v) refl refl (noted_hit r.log v.seen v.noted v.missed v.read l nt more (probe_hits c sec r.log mg.writing v.seen l pos mg.stamps more below living (shown ∙ eqb-true (low x) i t))) floors))
       (λ f. subst (λ (b : Bool). Merge n c s.words r.log r.phase (set s.views id (cond b (hit l v) (miss l v)))) (sym f)
-      (turned (miss l v) refl refl (noted_miss r.log v.seen v.noted v.missed l nt more (probe_misses c sec r.log v.seen l prefix stands (λ e. eqb-false (low x) i f (sym shown ∙ e)))) floors)) in (
+      (turned (miss l v) refl refl (noted_miss r.log v.seen v.noted v.missed v.read l nt more (probe_misses c sec r.log v.seen l prefix stands (λ e. eqb-false (low x) i f (sym shown ∙ e)))) floors)) in (
         w,
         keeps,
         tt,

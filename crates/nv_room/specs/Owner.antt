@@ -39,6 +39,14 @@ lower_marked zero fs = true
 lower_marked (suc s) [] = false
 lower_marked (suc s) (f ∷ fs) = (f == GONE) && lower_marked s fs
 
+-- a look at the owner word is noted where it is free and all lower stations are marked gone
+abbrev pub is_noted : ℕ → List ℕ → ℕ → Bool
+is_noted station floors r = is_free r && lower_marked station floors
+
+-- at how many events a noted word is free
+abbrev pub note_of : ℕ → ℕ
+note_of r = owner_at r
+
 -- the note of a free owner after a look at its word
 abbrev pub noted : Option ℕ → ℕ → List ℕ → ℕ → Option ℕ
-noted freed station floors r = if is_free r && lower_marked station floors then Some (owner_at r) else freed
+noted freed station floors r = if is_noted station floors r then Some (note_of r) else freed
