@@ -23,6 +23,7 @@ module _ {T : Type 0} where
     head_last = le_refl v.head_last;
     owner_looks = le_refl v.owner_looks;
     owner_last = λ _. (refl, refl);
+    owner_after = λ _. refl;
   }
 
   pub keeps_then : (a b c : View T) → Keeps a b → Keeps b c → Keeps a c
@@ -44,6 +45,10 @@ module _ {T : Type 0} where
         let first = k.owner_last (omega arith) in
         let second = l.owner_last (omega arith) in
         (second.0 ∙ first.0, second.1 ∙ first.1);
+    owner_after = λ e.
+        let x = k.owner_looks in
+        let y = l.owner_looks in
+        l.owner_after (omega arith) ∙ k.owner_after (omega arith);
   }
 
   -- what is read, noted and missed may change
@@ -61,6 +66,7 @@ module _ {T : Type 0} where
     head_last = k.head_last;
     owner_looks = k.owner_looks;
     owner_last = k.owner_last;
+    owner_after = k.owner_after;
   }
 
   -- a word more is read

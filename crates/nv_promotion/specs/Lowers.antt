@@ -17,6 +17,7 @@ pub record KeepsMarks {T : Type 0} (old new : View T) : Type 0 where
   pub head_last : new.head_last ≡ old.head_last
   pub owner_looks : new.owner_looks ≡ old.owner_looks
   pub owner_last : new.owner_last ≡ old.owner_last
+  pub owner_after : new.owner_after ≡ old.owner_after
   pub marks_stay : (s : ℕ) → slice_index_or old.floors s 0 ≡ GONE → slice_index_or new.floors s 0 ≡ GONE
 
 -- a lower station's cursor was looked at since, last of all, and was a number
