@@ -142,7 +142,7 @@ fn decide<K: SyscallKernel, G: Gate>(
         Followed::Matched | Followed::Skipped => {
             advance(reader, room);
             *held = false;
-            gate.after_take(reader.station(), event.stamp);
+            gate.after_take(reader.version(), event.stamp);
             if version.standing().fate.is_some() {
                 return Next::Leaves;
             }

@@ -76,7 +76,7 @@ fn serve<K: SyscallKernel, G: Gate>(
         version.refuse_memory();
         return Next::Leaves;
     }
-    gate.before_publish(lead.station(), lead.seen());
+    gate.before_publish(lead.version(), lead.seen());
     publish_call(version, lead, tid, room);
     *asked = None;
     next_of(version, hands)
