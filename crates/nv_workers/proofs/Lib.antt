@@ -20,3 +20,4 @@ pub mod Evenly
 pub mod Finishing
 pub mod NewSeats
 pub mod Sending
+pub mod Growing

@@ -1,6 +1,7 @@
 pub mod Ends
 pub mod Turns
 pub mod Working
+pub mod Growing
 pub mod Follows
 pub mod LeadsOn
 pub mod Workers

@@ -1,11 +1,12 @@
 //! A reader's turn.
-ghost use Rattle.std.specs.Prelude.{◌≡◌, ℕ, [], true};
+ghost use Rattle.std.specs.Prelude.{◌≡◌, ℕ, [], true, length};
 ghost use Rattle.std.specs.Option.{option_copied};
 ghost use Rattle.nv_threads.specs.Threads.{Proc};
 ghost use Rattle.nv_replay.specs.Follow.{judge_of};
 ghost use Rattle.nv_room.specs.Seats.{IsOfRoom, SameReader, view};
 ghost use Rattle.nv_room.specs.Steps.{TellsEnd};
 ghost use Rattle.nv_workers.specs.Working.{FollowsOn};
+ghost use Rattle.nv_workers.specs.Growing.{OneMoreAtMost};
 ghost use Rattle.nv_workers.specs.Follows.{AfterTurn, HasGrown, IsIdle, IsBusy, IsFound, IsWaiting};
 
 use nv_bpf::Filter;
@@ -62,6 +63,7 @@ pub(crate) fn follow_turn<K: SyscallKernel, G: Gate>(
     ensures after { (most : ℕ) (p : Proc) → FollowsOn (judge_of (option_copied rules.entry)) room.now most p version.old reader.old held.old buf.old → AfterTurn (judge_of (option_copied rules.entry)) room.now most p version.new reader.new held.new buf.new result }
     ensures grown { HasGrown (view reader.old) (view reader.new) version.old version.new result }
     ensures idle { IsIdle (view reader.old) (view reader.new) result }
+    ensures one { OneMoreAtMost (length (view reader.old).seen) (length (view reader.new).seen) }
 {
     if *held {
         return decide(version, reader, held, buf, room, rules, gate);
@@ -134,6 +136,7 @@ fn decide<K: SyscallKernel, G: Gate>(
     ensures after { (most : ℕ) (p : Proc) → FollowsOn (judge_of (option_copied rules.entry)) room.now most p version.old reader.old true buf.now → AfterTurn (judge_of (option_copied rules.entry)) room.now most p version.new reader.new held.new buf.now result }
     ensures grown { HasGrown (view reader.old) (view reader.new) version.old version.new result }
     ensures busy { IsBusy result }
+    ensures one { OneMoreAtMost (length (view reader.old).seen) (length (view reader.new).seen) }
 {
     let event = buf.event();
     match version.follow(rules, event) {

@@ -10,6 +10,7 @@ ghost use Rattle.nv_replay.specs.Versions.{answered_by};
 ghost use Rattle.nv_room.specs.Spans.{grown};
 ghost use Rattle.nv_room.specs.Seats.{IsLeadOf, SameLead, IsReady, lead_view, kernel_of, due_of, hands_of};
 ghost use Rattle.nv_workers.specs.Working.{LeadsOn};
+ghost use Rattle.nv_workers.specs.Growing.{OneMoreAtMost};
 ghost use Rattle.nv_workers.specs.LeadsOn.{AfterLead, HasPublished, IsLate, next_after};
 
 use crate::follows::Next;
@@ -36,6 +37,7 @@ pub(crate) fn lead_turn<K: SyscallKernel, G: Gate>(
     ensures after { (judges : ℕ → Judge) (p : Proc) → LeadsOn judges room.now most p version.old false lead.old asked.old → AfterLead judges room.now most p version.new lead.new asked.new result }
     ensures published { HasPublished (lead_view lead.old) (lead_view lead.new) result }
     ensures late { IsLate room.now lead.old lead.new result }
+    ensures one { OneMoreAtMost (length (lead_view lead.old).seen) (length (lead_view lead.new).seen) }
 {
     match *asked {
         Some(tid) => serve(version, lead, asked, tid, room, gate, most, hands),
@@ -68,6 +70,7 @@ fn serve<K: SyscallKernel, G: Gate>(
     ensures after { (judges : ℕ → Judge) (p : Proc) → LeadsOn judges room.now most p version.old false lead.old (Some tid) → AfterLead judges room.now most p version.new lead.new asked.new result }
     ensures published { HasPublished (lead_view lead.old) (lead_view lead.new) result }
     ensures late { IsLate room.now lead.old lead.new result }
+    ensures one { OneMoreAtMost (length (lead_view lead.old).seen) (length (lead_view lead.new).seen) }
 {
     if let Placed::Waiting(_) = place(lead, room) {
         return Next::Waits;

@@ -8,6 +8,7 @@ ghost use Rattle.nv_replay.specs.Versions.{IsFresh, Running};
 ghost use Rattle.nv_room.specs.Seats.{IsLeadOf, IsLeftOf, version_of_lead, version_of_reader, version_of_left, view, lead_view, left_view, due_of, hands_of};
 ghost use Rattle.nv_room.specs.Steps.{as_gone, as_leaving};
 ghost use Rattle.nv_workers.specs.Working.{FollowsOn, LeadsOn};
+ghost use Rattle.nv_workers.specs.Growing.{OneMoreAtMost};
 ghost use Rattle.nv_workers.specs.Workers.{Works, WorksAt, IsGone, IsLast, TookLead, TurnTells, version_of, version_of_seat, seen_by};
 ghost use Rattle.nv_workers.specs.Stepping.{CanLead, CanHand, CanLeave, AfterStep, StepTells};
 ghost use Rattle.nv_workers.specs.New.{IsNewLead, IsNewReader, LeadsAnew, ReadsAnew};
@@ -105,6 +106,7 @@ impl<K: SyscallKernel> Worker<K> {
         ensures version { version_of self.new ≡ version_of self.old }
         ensures last { IsLast result self.new.seat }
         ensures tells { TurnTells room.now result self.old.version self.new.version self.old.seat self.new.seat }
+        ensures one { OneMoreAtMost (seen_by self.old.seat) (seen_by self.new.seat) }
     {
         match self.step(room, rules, gate, most, hands) {
             Next::Moved => Turn::Moved,
@@ -141,6 +143,7 @@ impl<K: SyscallKernel> Worker<K> {
         ensures after { (p : Proc) → Works (judge_of (option_copied rules.entry)) room.now most p self.old → AfterStep (judge_of (option_copied rules.entry)) room.now p self.new.version most self.new.buf self.new.seat result }
         ensures version { version_of self.new ≡ version_of self.old }
         ensures tells { StepTells room.now result self.old.version self.new.version self.old.seat self.new.seat }
+        ensures one { OneMoreAtMost (seen_by self.old.seat) (seen_by self.new.seat) }
     {
         match &mut self.seat {
             Seat::Reading { reader, held } => follow_turn(
@@ -172,6 +175,7 @@ impl<K: SyscallKernel> Worker<K> {
         requires can { (judges : ℕ → Judge) × (most : ℕ) × (p : Proc) × CanLead judges room.now p self.old.version most self.old.buf self.old.seat }
         ensures works { (judges : ℕ → Judge) (most : ℕ) (p : Proc) → CanLead judges room.now p self.old.version most self.old.buf self.old.seat → Works judges room.now most p self.new }
         ensures version { version_of self.new ≡ version_of self.old }
+        ensures seen { seen_by self.new.seat ≡ seen_by self.old.seat }
         ensures leads { TookLead self.old.seat self.new.seat }
         ensures on { self.new.version.at.fate ≡ None }
     {
@@ -208,6 +212,7 @@ impl<K: SyscallKernel> Worker<K> {
         requires can { (judges : ℕ → Judge) × (most : ℕ) × (p : Proc) × CanLeave judges room.now p self.old.version most self.old.seat }
         ensures works { (judges : ℕ → Judge) (most : ℕ) (p : Proc) → CanLeave judges room.now p self.old.version most self.old.seat → Works judges room.now most p self.new }
         ensures version { version_of self.new ≡ version_of self.old }
+        ensures seen { seen_by self.new.seat ≡ seen_by self.old.seat }
         ensures gone { IsGone self.new.seat }
         ensures same { self.new.version ≡ self.old.version }
     {
@@ -222,6 +227,7 @@ fn vacate<K: SyscallKernel>(seat: Seat<K>, room: &Room<K>) -> Left<K>
     requires can { (judges : ℕ → Judge) × (most : ℕ) × (p : Proc) × (v : Running Proc) × CanLeave judges room.now p v most seat }
     ensures works { (judges : ℕ → Judge) (most : ℕ) (p : Proc) (v : Running Proc) (buf : List ℕ) → CanLeave judges room.now p v most seat → WorksAt judges room.now most p v buf (Seat.Gone result) }
     ensures version { version_of_left result ≡ version_of_seat seat }
+    ensures seen { length (left_view result).seen ≡ seen_by seat }
 {
     match seat {
         Seat::Reading { reader, held: _ } => leave(reader, room),
@@ -236,6 +242,7 @@ fn take_lead<K: SyscallKernel>(version: &mut Version, reader: Reader<K>, room: &
     requires freed { (view reader).freed ≡ Some (length (view reader).seen) }
     ensures leads { (judges : ℕ → Judge) (most : ℕ) (p : Proc) (buf : List ℕ) → FollowsOn judges room.now most p version.old reader false buf → LeadsOn judges room.now most p version.new false result None }
     ensures version { version_of_lead result ≡ version_of_reader reader }
+    ensures seen { (lead_view result).seen ≡ (view reader).seen }
     ensures on { version.new.at.fate ≡ None }
 {
     version.begin_lead();

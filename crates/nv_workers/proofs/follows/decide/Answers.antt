@@ -10,6 +10,7 @@ use Rattle.nv_replay.specs.declared.standing.Standing.{Standing}
 use Rattle.nv_replay.proofs.Wholes.{none_from}
 use Rattle.nv_replay.specs.Sequence.{is_on}
 use Rattle.nv_workers.proofs.Reading.{longer, seen_by, off_from, after_rewrote, after_drop, after_exit, after_consumed, held_of, whole_buf, whole_read, event_is, stamp_is, is_below, is_live, is_new}
+use Rattle.nv_workers.proofs.Growing.{one_more}
 use Rattle.nv_workers.proofs.follows.decide.Goals as goal
 
 pub event-event-requires : goal.event-event-requires
@@ -80,3 +81,9 @@ returns-in-Rewrote-clause-grown g c =
 pub returns-else-is_some-clause-grown : goal.returns-else-is_some-clause-grown
 returns-else-is_some-clause-grown g c =
     inl (longer _ _ _ (ap (λ w. w.seen) c.advance.ensures.view))
+
+pub returns-then-is_some-clause-one : goal.returns-then-is_some-clause-one
+returns-then-is_some-clause-one g c = one_more _ _ _ (ap (λ w. w.seen) c.advance.ensures.view)
+
+pub returns-else-is_some-clause-one : goal.returns-else-is_some-clause-one
+returns-else-is_some-clause-one g c = one_more _ _ _ (ap (λ w. w.seen) c.advance.ensures.view)

@@ -1,8 +1,9 @@
-use Rattle.std.proofs.Common.{subst, sym, ap, ℕ, Option, Some, false, arith}
+use Rattle.std.proofs.Common.{◌∙◌, subst, sym, ap, ℕ, Option, Some, false, arith}
 use Rattle.nv_room.specs.Seats.{lead_view}
 use Rattle.nv_workers.specs.Working.{LeadsOn}
 use Rattle.nv_workers.proofs.Serving.{grew_lead, placed_lead, reserved_lead, waits_lead, refused_lead, after_served, published_next, late_next}
 use Rattle.nv_ring.proofs.Filling.{ready_still}
+use Rattle.nv_workers.proofs.Growing.{none_more, one_more, one_after}
 use Rattle.nv_workers.proofs.leads.serve.Goals as goal
 
 pub returns-in-Waiting-clause-after : goal.returns-in-Waiting-clause-after
@@ -90,3 +91,12 @@ returns-clause-late g c = late_next c.args.room.now c.args.lead.now c.publish_ca
 -- taking memory moves no floor
 pub publish_call-requires-clause-placed : goal.publish_call-requires-clause-placed
 publish_call-requires-clause-placed g c κs within = let e = c.reserve.ensures in ready_still c.args.room.now c.place.new.lead c.reserve.new.self (ap (λ w. w.seen) e.view) (ap (λ w. w.floors) e.view) e.same.2 e.same.4 c.in_default.ensures.placed
+
+pub returns-in-Waiting-clause-one : goal.returns-in-Waiting-clause-one
+returns-in-Waiting-clause-one g c = none_more _ _ c.in-Waiting.ensures.seen
+
+pub returns-then-is_err-clause-one : goal.returns-then-is_err-clause-one
+returns-then-is_err-clause-one g c = none_more _ _ (ap (λ w. w.seen) c.reserve.ensures.view ∙ c.in_default.ensures.seen)
+
+pub returns-clause-one : goal.returns-clause-one
+returns-clause-one g c = one_after _ _ _ (ap (λ w. w.seen) c.reserve.ensures.view ∙ c.in_default.ensures.seen) (one_more _ _ _ c.publish_call.ensures.seen)

@@ -2,9 +2,10 @@ use Rattle.std.proofs.Common.{sym, subst}
 use Rattle.std.specs.Option.{option_copied}
 use Rattle.nv_replay.specs.Follow.{judge_of}
 use Rattle.nv_workers.specs.declared.worker.Seat.TheVariants.{Reading, Leading}
-use Rattle.nv_workers.specs.Workers.{WorksAt}
+use Rattle.nv_workers.specs.Workers.{WorksAt, seen_by}
 use Rattle.nv_workers.specs.Stepping.{StepTells}
 use Rattle.nv_workers.proofs.Stepping.{after_read, tells_read, tells_lead}
+use Rattle.nv_workers.specs.Growing.{OneMoreAtMost}
 use Rattle.nv_workers.proofs.worker.Worker.step.Goals as goal
 
 pub returns-in-Reading-clause-after : goal.returns-in-Reading-clause-after
@@ -35,3 +36,11 @@ follow_turn-requires-after_bounds g c κs within = (
   c.requires.works.0,
   subst (λ s. WorksAt (judge_of (option_copied c.args.rules)) c.args.room.now c.args.most c.requires.works.0 c.args.self.now.version c.args.self.now.buf s) c.in-Reading.is c.requires.works.1,
 )
+
+pub returns-in-Reading-clause-one : goal.returns-in-Reading-clause-one
+returns-in-Reading-clause-one g c =
+    subst (λ s. OneMoreAtMost (seen_by s) (seen_by (Reading c.follow_turn.new.reader c.follow_turn.new.held))) (sym c.in-Reading.is) c.follow_turn.ensures.one
+
+pub returns-in-Leading-clause-one : goal.returns-in-Leading-clause-one
+returns-in-Leading-clause-one g c =
+    subst (λ s. OneMoreAtMost (seen_by s) (seen_by (Leading c.lead_turn.new.lead c.lead_turn.new.asked))) (sym c.in-Leading.is) c.lead_turn.ensures.one

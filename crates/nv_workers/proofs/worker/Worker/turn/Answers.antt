@@ -71,3 +71,21 @@ returns-in-Left-clause-works g c = λ p f. (c.in-Left.ensures.after p f).0
 
 pub returns-in-Left-clause-last : goal.returns-in-Left-clause-last
 returns-in-Left-clause-last g c = (c.in-Left.ensures.after c.requires.works.0 c.requires.works.1).1
+
+pub returns-in-Leads-clause-one : goal.returns-in-Leads-clause-one
+returns-in-Leads-clause-one g c =
+    let one = c.in-Leads.ensures.one in
+    let same = c.promote.ensures.seen in
+    (omega arith, omega arith)
+
+pub returns-in-Hands-clause-one : goal.returns-in-Hands-clause-one
+returns-in-Hands-clause-one g c =
+    let one = c.in-Hands.ensures.one in
+    let same = c.hand_over.ensures.seen in
+    (omega arith, omega arith)
+
+pub returns-in-Leaves-clause-one : goal.returns-in-Leaves-clause-one
+returns-in-Leaves-clause-one g c =
+    let one = c.in-Leaves.ensures.one in
+    let same = c.depart.ensures.seen in
+    (omega arith, omega arith)
