@@ -9,6 +9,6 @@ mod running;
 mod staffing;
 mod worker;
 
-pub use ran::{Ran, end, run_all};
+pub use ran::{NotRun, Ran, end, run_all};
 pub use staffing::staff;
 pub use worker::{Turn, Worker};

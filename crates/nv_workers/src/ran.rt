@@ -1,5 +1,5 @@
 //! A whole run.
-ghost use Rattle.std.specs.Prelude.{◌≡◌, ◌≤◌, ◌<◌, ◌+◌, ◌++◌, ℕ, List, [], length, vec_len, vec_capacity, IfOk};
+ghost use Rattle.std.specs.Prelude.{◌≡◌, ◌≤◌, ◌<◌, ◌+◌, ◌++◌, ℕ, List, [], length, vec_len, vec_capacity, IfOk, IfErr};
 ghost use Rattle.std.specs.Option.{option_copied};
 ghost use Rattle.nv_calls.specs.Limits.{MOST_EVENTS};
 ghost use Rattle.nv_threads.specs.Threads.{Proc, threads};
@@ -32,8 +32,21 @@ pub struct Ran<K: SyscallKernel> {
     pub versions: Vec<Version>,
 }
 
+/// What a run was given, where it found no memory: no worker has taken a turn.
+#[derive(Drop)]
+pub struct NotRun<K: SyscallKernel> {
+    pub room: Room<K>,
+    pub workers: Vec<Worker<K>>,
+}
+
+impl<K: SyscallKernel> From<NotRun<K>> for AllocError {
+    fn from(_given: NotRun<K>) -> AllocError {
+        AllocError
+    }
+}
+
 /// Runs the workers of a room's versions until all have ended, on so many host threads. All its own memory is taken before
-/// the first turn.
+/// the first turn: where there is none, room and workers come back as they were, so no call was served.
 pub fn run_all<R: Threads + Wait + Sync, K: SyscallKernel, G: Gate + Sync>(
     rt: &R,
     alloc: Global,
@@ -44,16 +57,18 @@ pub fn run_all<R: Threads + Wait + Sync, K: SyscallKernel, G: Gate + Sync>(
     most: u32,
     hands: &Vec<u32>,
     threads: u32,
-) -> Result<Ran<K>, AllocError>
+) -> Result<Ran<K>, NotRun<K>>
     requires new { (fresh : List (Running Proc)) × AreNew room 0 fresh workers.items }
     requires all { vec_len workers ≡ versions_of room }
     requires most { most ≤ MOST_EVENTS }
     requires hands { hands_of room ≡ hands.now.items }
     ensures room { IfOk result (λ r. r.room ≡ room) }
     ensures ran { IfOk result (λ r. (fresh : List (Running Proc)) → AreNew room 0 fresh workers.items → AllRan (judge_of (option_copied rules.entry)) r.room most fresh r.versions.items r.left.items) }
+    ensures not_run { IfErr result (λ given. (given.room ≡ room) × (given.workers ≡ workers)) }
 {
-    let mut left = Vec::with_capacity(alloc, workers.len())?;
-    let mut versions = Vec::with_capacity(alloc, workers.len())?;
+    let Ok((mut versions, mut left)) = lists_for(alloc, workers.len()) else {
+        return Err(NotRun { room, workers });
+    };
     run_beside(rt, &mut workers, &room, rules, gate, most, hands, threads);
     take_apart(workers, &mut versions, &mut left);
     Ok(Ran {
@@ -61,6 +76,19 @@ pub fn run_all<R: Threads + Wait + Sync, K: SyscallKernel, G: Gate + Sync>(
         left,
         versions,
     })
+}
+
+// Empty lists, with memory for what is left of so many workers.
+fn lists_for<K: SyscallKernel>(
+    alloc: Global,
+    workers: usize,
+) -> Result<(Vec<Version>, Vec<Left<K>>), AllocError>
+    ensures empty { IfOk result (λ lists. (lists.0.items ≡ []) × (lists.1.items ≡ [])) }
+    ensures room { IfOk result (λ lists. (workers ≤ vec_capacity lists.0) × (workers ≤ vec_capacity lists.1)) }
+{
+    let versions = Vec::with_capacity(alloc, workers)?;
+    let left = Vec::with_capacity(alloc, workers)?;
+    Ok((versions, left))
 }
 
 // Turns on so many threads, and then on this one, until all have ended.
