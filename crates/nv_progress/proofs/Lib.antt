@@ -1,0 +1,4 @@
+pub mod Lists
+pub mod Lower
+pub mod Stuck
+pub mod Falling

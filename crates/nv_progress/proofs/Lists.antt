@@ -1,0 +1,24 @@
+-- Places of lists.
+use Rattle.std.proofs.Common.{◌≡◌, ℕ, zero, suc, ◌<◌, ◌⊎◌, Bool, true, false, List, [], ◌∷◌, length, take, sym, refl, inl, inr, arith}
+use mathlib.Core.Option.{some, some-ne-none}
+use lib.ListN.{get_elem?}
+
+pub at_below : {A : Type 0} (l : List A) (i : ℕ) (a : A) → get_elem? l i ≡ some a → i < length l
+at_below [] i a e = absurd (some-ne-none a (sym e))
+at_below (x ∷ xs) zero a e = omega arith
+at_below (x ∷ xs) (suc i) a e = let q = at_below xs i a e in omega arith
+
+pub there : {A : Type 0} (l : List A) (i : ℕ) → i < length l → (a : A) × (get_elem? l i ≡ some a)
+there [] i lt = absurd (omega arith)
+there (x ∷ xs) zero lt = (x, refl)
+there (x ∷ xs) (suc i) lt = there xs i (omega arith)
+
+pub at_taken : {A : Type 0} (l : List A) (n i : ℕ) (a : A) → i < n → get_elem? l i ≡ some a → get_elem? (take n l) i ≡ some a
+at_taken [] n i a lt e = absurd (some-ne-none a (sym e))
+at_taken (x ∷ xs) zero i a lt e = absurd (omega arith)
+at_taken (x ∷ xs) (suc n) zero a lt e = e
+at_taken (x ∷ xs) (suc n) (suc i) a lt e = at_taken xs n i a (omega arith) e
+
+pub either : (b : Bool) → (b ≡ true) ⊎ (b ≡ false)
+either true = inl refl
+either false = inr refl

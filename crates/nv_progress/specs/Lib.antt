@@ -1,0 +1,2 @@
+pub mod GetsOn
+pub mod Steps

@@ -1,0 +1,83 @@
+-- How many steps that get on a seat can take.
+use Rattle.std.specs.Prelude.{◌≡◌, ◌⊎◌, ℕ, ◌+◌, ◌-◌, ◌*◌, ◌<◌, List, [], ◌∷◌, length}
+use Rattle.nv_calls.specs.Limits.{MOST_EVENTS}
+use Rattle.nv_room.specs.declared.view.View.{View}
+use Rattle.nv_room.specs.declared.view.Role.{Role}
+use Rattle.nv_room.specs.declared.view.Role.TheVariants.{Reader, Lead, Opening, Leaving, Moving, Gone, Spent}
+use Rattle.nv_room.specs.Steps.{head_seen, owner_seen, word_seen, probed_at, one_on, cursor_seen, word_put, one_out, as_leaving, as_lead, as_opening, as_moving, as_reader, as_gone}
+
+-- at most so many steps of a seat change its role, before it is at a later station or has left
+abbrev pub turns_at : Role → ℕ
+turns_at Moving = 4
+turns_at Reader = 3
+turns_at Lead = 2
+turns_at Opening = 1
+turns_at Leaving = 1
+turns_at Gone = 0
+turns_at Spent = 0
+
+-- in a room of n stations: an event for each that the log may still get, and what is left at this station and the later ones
+abbrev pub steps_left : {T : Type 0} → ℕ → View T → ℕ
+steps_left n v = (MOST_EVENTS - length v.seen) + 4 * (n - v.station) + turns_at v.role
+
+-- what a step does: it looks at a word, at a station's cursor, or at a lane; it reads or writes a word; or it gets on
+pub data Kind : Type 0 where
+  looks_head : ℕ → Kind
+  looks_owner : ℕ → Kind
+  looks_cursor : ℕ → ℕ → Kind
+  probes : ℕ → ℕ → Kind
+  reads : ℕ → Kind
+  writes : ℕ → Kind
+  sees : Kind
+  publishes : Kind
+  takes : Kind
+  gives_up : ℕ → Kind
+  leaves : Kind
+  opens : Kind
+  hands : ℕ → Kind
+  moves : Kind
+
+-- the view after such a step of a room of n stations, and when it is taken
+module _ {T : Type 0} (n : ℕ) (v w : View T) where
+  abbrev pub Goes : Kind → Type 0
+  Goes (looks_head r) = w ≡ head_seen v r
+  Goes (looks_owner r) = w ≡ owner_seen v r
+  Goes (looks_cursor s r) = w ≡ cursor_seen s v r
+  Goes (probes l r) = w ≡ probed_at l v r
+  Goes (reads r) = w ≡ word_seen v r
+  Goes (writes r) = w ≡ word_put v r
+  Goes sees = (length v.seen < MOST_EVENTS) × (w ≡ one_on v)
+  Goes publishes = (length v.seen < MOST_EVENTS) × (w ≡ one_out v)
+  Goes takes = (v.role ≡ Reader) × (w ≡ as_lead v)
+  Goes (gives_up r) = (v.role ≡ Lead) × (w ≡ as_leaving v r)
+  Goes leaves = ((v.role ≡ Reader) ⊎ (v.role ≡ Leaving)) × (w ≡ as_gone v)
+  Goes opens = (v.role ≡ Lead) × (w ≡ as_opening v)
+  Goes (hands r) = (v.role ≡ Opening) × (v.station < v.opened) × (v.opened < n) × (w ≡ as_moving v r)
+  Goes moves = (v.role ≡ Moving) × (w ≡ as_reader v)
+
+-- 1 for a step that gets on
+abbrev pub gets_on : Kind → ℕ
+gets_on (looks_head r) = 0
+gets_on (looks_owner r) = 0
+gets_on (looks_cursor s r) = 0
+gets_on (probes l r) = 0
+gets_on (reads r) = 0
+gets_on (writes r) = 0
+gets_on sees = 1
+gets_on publishes = 1
+gets_on takes = 1
+gets_on (gives_up r) = 1
+gets_on leaves = 1
+gets_on opens = 1
+gets_on (hands r) = 1
+gets_on moves = 1
+
+-- the seat's view after steps of these kinds
+abbrev pub Went : {T : Type 0} → ℕ → View T → List Kind → View T → Type 0
+Went n v [] w = w ≡ v
+Went {T} n v (k ∷ ks) w = (u : View T) × Goes n v u k × Went n u ks w
+
+-- how many of them got on
+abbrev pub steps_on : List Kind → ℕ
+steps_on [] = 0
+steps_on (k ∷ ks) = gets_on k + steps_on ks

@@ -1,0 +1,7 @@
+//! What the room's rule and its steps say of progress: no state is stuck, and no seat gets on for ever.
+//! That a seat takes its next step is the host's part: nothing here says that a thread runs.
+#![tactic(auto)]
+
+mod laws;
+
+pub use laws::{no_room_is_stuck, no_seat_gets_on_for_ever, who_is_waited_for_can_get_on};
