@@ -20,7 +20,7 @@ use Rattle.nv_room.specs.Owner.{GONE, Phase, held, free, closed}
 use Rattle.nv_room.specs.Spans.{IsLast}
 use Rattle.nv_room.specs.Room.{cursor, Moment, InRole, Live, Leads, Rule}
 use Rattle.nv_room.specs.Steps.{TellsEnd}
-use Rattle.nv_progress.specs.GetsOn.{moment, HasEvent, CanGetOn, Stays, SomeSeat, AllSeated, SomeStays, SomeGetsOn, IsLeftBehind, IsLowest}
+use Rattle.nv_progress.specs.GetsOn.{moment, HasEvent, CanGetOn, Stays, SomeSeat, AllSeated, SomeStays, SomeGetsOn, IsLeftBehind, HaveMovedOn, IsLowest}
 use Rattle.nv_progress.proofs.Lists.{at_below, there}
 use Rattle.nv_progress.proofs.Lower.{not_above}
 
@@ -219,3 +219,16 @@ module _ {K : Type 0} (hist : K → List Entry) (beg : K → Start) (p : Plan K)
 
   pub not_stuck : AllSeated p s.views → SomeStays s.views → SomeGetsOn p.places m s.views ⊎ SomeSeat s.views (IsLeftBehind m)
   not_stuck all w = by_phase all w r.phase refl
+
+  -- where each seat's former stations are gone, none is left behind
+  left_behind : HaveMovedOn m s.views → (j : ℕ) (v : View K) → get_elem? s.views j ≡ some v → IsLeftBehind m v → Live v.role → (v.role ≢ Moving) → ⊥
+  left_behind moved j v at b live still = let low = b.not_left in let later = b.later in let g = moved j v at live r.holder b.was_its (λ e. omega arith) (λ e. absurd (still e)) in omega arith
+
+  pub none_behind : HaveMovedOn m s.views → SomeSeat s.views (IsLeftBehind m) → ⊥
+  none_behind moved q = ⊎_elim
+      (λ (e : q.1.role ≡ Reader). left_behind moved q.0 q.1 q.2 q.3 (subst Live (sym e) tt) (λ mov. let x : Reader ≡ Moving = sym e ∙ mov in cc))
+      (λ (e : q.1.role ≡ Gone). left_behind moved q.0 q.1 q.2 q.3 (subst Live (sym e) tt) (λ mov. let x : Gone ≡ Moving = sym e ∙ mov in cc))
+      q.3.role
+
+  pub gets_on : AllSeated p s.views → SomeStays s.views → HaveMovedOn m s.views → SomeGetsOn p.places m s.views
+  gets_on all w moved = ⊎_elim (λ (g : SomeGetsOn p.places m s.views). g) (λ (b : SomeSeat s.views (IsLeftBehind m)). absurd (none_behind moved b)) (not_stuck all w)

@@ -83,6 +83,11 @@ pub record IsLeftBehind {T : Type 0} (m : Moment) (v : View T) : Type 0 where
   pub later : m.holder < v.station
   pub role : (v.role ≡ Reader) ⊎ (v.role ≡ Gone)
 
+-- each station that a version's seat was at before is gone, but for the one that a moving seat has still to leave
+abbrev pub HaveMovedOn : {T : Type 0} → Moment → List (View T) → Type 0
+HaveMovedOn {T} m views = (j : ℕ) (v : View T) → get_elem? views j ≡ some v → Live v.role
+    → (t : ℕ) → get_elem? m.seating t ≡ some v.version → t ≢ v.station → (v.role ≡ Moving → t ≢ v.former) → GONE ≤ cursor m.words t
+
 -- the lowest station that hasn't left
 pub record IsLowest (m : Moment) (s : ℕ) : Type 0 where
   pub is_open : s < length m.seating

@@ -8,15 +8,18 @@ ghost use Rattle.nv_room.specs.Owner.{held, free};
 ghost use Rattle.nv_room.specs.Placement.{Log};
 ghost use Rattle.nv_room.specs.Room.{cursor, Leads, Rule};
 ghost use Rattle.nv_ring.specs.Places.{FitsAll, IsFull};
-ghost use Rattle.nv_progress.specs.GetsOn.{moment, AllSeated, CanGetOn, HasEvent, IsLeftBehind, IsLowest, SomeGetsOn, SomeSeat, SomeStays};
+ghost use Rattle.nv_progress.specs.GetsOn.{moment, AllSeated, CanGetOn, HasEvent, HaveMovedOn, IsLeftBehind, IsLowest, SomeGetsOn, SomeSeat, SomeStays};
 ghost use Rattle.nv_progress.specs.Steps.{Kind, Went, steps_left, steps_on};
 
 use nv_calls::SyscallKernel;
 
-/// In each state of a room that meets its rule, each version's seat there and not all gone, some seat can get on.
+/// In each state of a room that meets its rule, each version's seat there and not all gone, some seat can get on; but for a state in which a station
+/// hasn't left that a seat has moved on from.
 pub fn no_room_is_stuck<K: SyscallKernel>()
-    ensures { (p : Plan K) (s : State (Option K) (View K)) (r : Rule K.log K.start p s) → AllSeated p s.views → SomeStays s.views
+    ensures some { (p : Plan K) (s : State (Option K) (View K)) (r : Rule K.log K.start p s) → AllSeated p s.views → SomeStays s.views
         → SomeGetsOn p.places (moment r) s.views ⊎ SomeSeat s.views (IsLeftBehind (moment r)) }
+    ensures moved_on { (p : Plan K) (s : State (Option K) (View K)) (r : Rule K.log K.start p s) → AllSeated p s.views → SomeStays s.views
+        → HaveMovedOn (moment r) s.views → SomeGetsOn p.places (moment r) s.views }
 {}
 
 /// Who keeps a lead from its place has an event to see, as the cursor tells at which the lead looked; while the room is held a seat leads it; and while it
