@@ -1,8 +1,14 @@
 #!/usr/bin/env bash
-# Builds the guests into built/, by the stock compiler and picolibc (Debian: gcc-riscv64-unknown-elf and picolibc-riscv64-unknown-elf).
-# Status 3: the compiler or the library isn't on this machine.
+# Builds the guests by the stock compiler and picolibc (Debian: gcc-riscv64-unknown-elf and picolibc-riscv64-unknown-elf), and says which of them
+# the repository has otherwise. It changes nothing there.
+# build.sh --write: puts them into built/, and their text into the rows of nv_rows.
+# Status 1: a guest is otherwise. 2: other words. 3: the compiler or the library isn't on this machine.
 set -eu
 cd "$(dirname "$0")"
+if [ "$*" != "" ] && [ "$*" != --write ]; then
+    echo "build.sh: build.sh or build.sh --write" >&2
+    exit 2
+fi
 
 compiler=${CC_GUEST:-riscv64-unknown-elf-gcc}
 machine="-march=rv32ima -mabi=ilp32"
@@ -14,19 +20,32 @@ if ! echo '#include <stdio.h>' | "$compiler" --specs=picolibc.specs $machine -E 
     echo "build.sh: picolibc isn't on this machine" >&2
     exit 3
 fi
+made=$(mktemp -d)
+trap 'rm -rf "$made"' EXIT
 
 # build NAME SOURCE..
 build() {
     local name=$1
     shift
     "$compiler" --specs=picolibc.specs -DPICOLIBC_INTEGER_PRINTF_SCANF $machine -std=gnu11 -Os -Wall -Wextra -ffunction-sections \
-        -fdata-sections -nostartfiles -T guest.ld -Wl,-z,max-page-size=4096 -s -o "built/$name" start.S linux.c "$@"
+        -fdata-sections -nostartfiles -T guest.ld -Wl,-z,max-page-size=4096 -s -o "$made/$name" start.S linux.c "$@"
 }
 
-mkdir -p built
 build heap heap.c
 build lines lines.c
 build threads threads.c thread.S
 for version in 1 2 3; do
     build "service_$version" service.c "store_$version.c"
 done
+
+if [ "$*" = --write ]; then
+    mkdir -p built
+    cp "$made"/* built
+    ./as_text.py >../../crates/nv_rows/data/built_guests
+    exit
+fi
+status=0
+for guest in "$made"/*; do
+    cmp "$guest" "built/$(basename "$guest")" || status=1
+done
+exit $status
