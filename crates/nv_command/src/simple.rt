@@ -66,14 +66,21 @@ fn with_script<'a>(alloc: Global, name: &'a str) -> Result<Command<'a>, AllocErr
     add(script, option(alloc, "rules"))
 }
 
+// A command of this name with a script, rules, and the sizes of a run.
+fn with_sizes<'a>(alloc: Global, name: &'a str) -> Result<Command<'a>, AllocError>
+    ensures { IfOk result (λ command. app_of command ≡ simple_app name.entry.now (required (option_rule (codes "script")) ∷ option_rule (codes "rules") ∷ option_rule (codes "ring") ∷ option_rule (codes "memory") ∷ [])) }
+{
+    let options = with_script(alloc, name)?;
+    let ring = add(options, option(alloc, "ring"))?;
+    add(ring, option(alloc, "memory"))
+}
+
 // A command of this name with the options of a run.
 fn with_run_options<'a>(alloc: Global, name: &'a str) -> Result<Command<'a>, AllocError>
     ensures { IfOk result (λ command. app_of command ≡ simple_app name.entry.now run_options) }
 {
-    let options = with_script(alloc, name)?;
-    let ring = add(options, option(alloc, "ring"))?;
-    let memory = add(ring, option(alloc, "memory"))?;
-    let budget = add(memory, option(alloc, "budget"))?;
+    let options = with_sizes(alloc, name)?;
+    let budget = add(options, option(alloc, "budget"))?;
     let calls = add(budget, option(alloc, "calls"))?;
     add(calls, option(alloc, "threads"))
 }
@@ -114,15 +121,22 @@ pub fn replay_command<'a>(alloc: Global) -> Result<Command<'a>, AllocError>
     add(trace, file(alloc, "version"))
 }
 
-// `inspect` with its options.
-fn with_look_options<'a>(alloc: Global) -> Result<Command<'a>, AllocError>
-    ensures { IfOk result (λ command. app_of command ≡ simple_app (codes "inspect") (trail_options ++ look_options)) }
+// `inspect` with the options of a version that follows a trace, and those of a point.
+fn with_points<'a>(alloc: Global) -> Result<Command<'a>, AllocError>
+    ensures { IfOk result (λ command. app_of command ≡ simple_app (codes "inspect") (trail_options ++ (option_rule (codes "stamp") ∷ option_rule (codes "call") ∷ option_rule (codes "count") ∷ []))) }
 {
     let options = with_trail_options(alloc, "inspect")?;
     let stamp = add(options, option(alloc, "stamp"))?;
     let call = add(stamp, option(alloc, "call"))?;
-    let count = add(call, option(alloc, "count"))?;
-    let dump = add(count, option(alloc, "dump"))?;
+    add(call, option(alloc, "count"))
+}
+
+// `inspect` with its options.
+fn with_look_options<'a>(alloc: Global) -> Result<Command<'a>, AllocError>
+    ensures { IfOk result (λ command. app_of command ≡ simple_app (codes "inspect") (trail_options ++ look_options)) }
+{
+    let points = with_points(alloc)?;
+    let dump = add(points, option(alloc, "dump"))?;
     add(dump, option(alloc, "length"))
 }
 

@@ -6,8 +6,5 @@ use Rattle.nv_command.proofs.simple.with_look_options.Goals as goal
 
 pub returns : goal.returns
 returns c =
-    let stamp = grown _ _ _ _ _ c.in_ok-stamp.ensures c.in_ok-options.ensures c.option.ensures.rule in
-    let call = grown _ _ _ _ _ c.in_ok-call.ensures stamp c.option-2.ensures.rule in
-    let count = grown _ _ _ _ _ c.in_ok-count.ensures call c.option-3.ensures.rule in
-    let dump = grown _ _ _ _ _ c.in_ok-dump.ensures count c.option-4.ensures.rule in
-    IfOk-weaker c.add-5.result _ _ (λ more h. grown _ _ _ _ (option_rule (codes "length")) h dump c.option-5.ensures.rule) c.add-5.ensures
+    let dump = grown _ _ _ _ _ c.in_ok-dump.ensures c.in_ok-points.ensures c.option.ensures.rule in
+    IfOk-weaker c.add-2.result _ _ (λ more h. grown _ _ _ _ (option_rule (codes "length")) h dump c.option-2.ensures.rule) c.add-2.ensures

@@ -6,8 +6,6 @@ use Rattle.nv_command.proofs.simple.with_run_options.Goals as goal
 
 pub returns : goal.returns
 returns c =
-    let ring = grown _ _ _ _ _ c.in_ok-ring.ensures c.in_ok-options.ensures c.option.ensures.rule in
-    let memory = grown _ _ _ _ _ c.in_ok-memory.ensures ring c.option-2.ensures.rule in
-    let budget = grown _ _ _ _ _ c.in_ok-budget.ensures memory c.option-3.ensures.rule in
-    let calls = grown _ _ _ _ _ c.in_ok-calls.ensures budget c.option-4.ensures.rule in
-    IfOk-weaker c.add-5.result _ _ (λ more h. grown _ _ _ _ (option_rule (codes "threads")) h calls c.option-5.ensures.rule) c.add-5.ensures
+    let budget = grown _ _ _ _ _ c.in_ok-budget.ensures c.in_ok-options.ensures c.option.ensures.rule in
+    let calls = grown _ _ _ _ _ c.in_ok-calls.ensures budget c.option-2.ensures.rule in
+    IfOk-weaker c.add-3.result _ _ (λ more h. grown _ _ _ _ (option_rule (codes "threads")) h calls c.option-3.ensures.rule) c.add-3.ensures
