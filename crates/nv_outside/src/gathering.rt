@@ -59,7 +59,7 @@ impl<S: Sink> Gathering<S> {
 impl<S: Sink> Gathering<S> {
     ghost use Rattle.nv_outside.specs.Gathering.{with_held};
     ghost use Rattle.nv_outside.specs.Told.{Grows};
-    ghost use Rattle.nv_outside.specs.Counts.{Rose};
+    ghost use Rattle.nv_outside.specs.Sink.{faults_by};
 
     // One write of what is held back, so that more can be held where it takes any.
     fn pass_on(&mut self) -> Put
@@ -67,8 +67,7 @@ impl<S: Sink> Gathering<S> {
         ensures below { result ≡ Put.Whole → length self.new.held.items < HELD }
         ensures whole { result ≡ Put.Whole → Grows (with_held (S.told self.old.sink) self.old.held.items) [] (with_held (S.told self.new.sink) self.new.held.items) }
         ensures failed { result ≡ Put.Failed → with_held (S.told self.new.sink) self.new.held.items ≡ with_held (S.told self.old.sink) self.old.held.items }
-        ensures rose { result ≡ Put.Failed → Rose (S.faults self.old.sink) (S.faults self.new.sink) }
-        ensures faults { S.faults self.old.sink ≤ S.faults self.new.sink }
+        ensures faults { S.faults self.new.sink ≡ faults_by result (S.faults self.old.sink) }
     {
         match self.sink.write(&self.held) {
             Wrote::Count(count) => {
