@@ -1,4 +1,8 @@
-//! The assembler of RV32IMA programs.
+//! The assembler of RV32IMA programs: a text to a program, or its first faulty line.
+//! Types: `AsmCause`, `AsmFault`; function `assemble`; specs/Assembled is the language's meaning.
+//! Proved: `assemble` gives the program of the text, or the least faulty line with its first cause; `nv_elf::write` takes
+//! every such program.
+//! Above: the commands.
 #![tactic(auto)]
 
 mod assembling;

@@ -1,4 +1,8 @@
-//! Filters: classic BPF programs over a pair of calls (McCanne and Jacobson 1993).
+//! Filters: classic BPF over a pair of calls (McCanne and Jacobson 1993), verified, read and written.
+//! Types: `Op`, `Action`, `Filter`, `FilterFault`.
+//! Proved: `verify` and `read` accept just the filters of the definition, else give the first fault; what `write` writes is
+//! read back.
+//! Above: the rules' values, a version, the filter assembler, the commands.
 #![tactic(auto)]
 
 mod action;

@@ -1,4 +1,7 @@
 //! Little-endian fields in bytes.
+//! Functions: `u16_at`, `u32_at`, `u64_at`, `put_u32`, `put_u64`.
+//! Proved: a field read is the number of its bytes, the least first; a field put is the whole list with these bytes in it.
+//! Above: version files, argument blocks, traces.
 #![tactic(auto)]
 
 mod fields;

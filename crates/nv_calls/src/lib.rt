@@ -1,4 +1,8 @@
-//! System calls, their replies and the log of both, and the kernel that answers them.
+//! System calls, their replies, the log of both, and the trait of a kernel that answers them.
+//! Types: `Syscall` and `Slot` (the table of calls), `Call`, `Reply`, `Event`, `Bytes`, `SyscallKernel`.
+//! Proved: the table's functions give the table's rows, and `same` and `shaped` are their definitions.
+//! A kernel's laws are clauses of the trait: the log grows by just the call served, with the reply that its start gives.
+//! Above: nearly every crate.
 #![tactic(auto)]
 
 mod answers;

@@ -1,4 +1,8 @@
-//! The monitor's top call: it reads a command line, runs what it asks for and writes what it came to.
+//! The top call, `varan`: it reads a command line, does what it asks for, and says what that came to.
+//! Functions: `varan`; `varan_calmly`, over files and a sink that never fail; specs/Headline lists all that is to be believed.
+//! Proved, if it returns: the clauses `answers`, `completes` and `rejects`, which stand on one page, nv_jobs/specs/Due.
+//! `run`, `record` and `gen` have their versions on threads that wait for each other: that these return isn't proved.
+//! Above: the program, tests, examples.
 #![tactic(auto)]
 
 mod beside;

@@ -1,4 +1,5 @@
-//! A run of the monitor's top call whose versions meet at a gate.
+//! Tests of the top call with a gate: versions that really run beside each other.
+//! Proved: that the tests do nothing undefined. What they assert is run.
 #![tactic(auto)]
 
 #[cfg(test)]

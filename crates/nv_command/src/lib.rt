@@ -1,4 +1,8 @@
-//! The words of a command line: what they ask for, or that they are refused. `clap` reads the words of each command.
+//! The words of a command line: what they ask for, or that they are refused; `clap` reads the words of each command.
+//! Types: `Command`, and its parts `Run`, `Job`, `Tool`, `Trail`, `Look`, `Point`, `Limits`; `LineFault`.
+//! Proved: `read` gives the command that the words ask for, or that they are refused, as specs/Words defines; memory is
+//! wanted only after a command's name.
+//! Above: the commands.
 #![tactic(auto)]
 
 mod asked;

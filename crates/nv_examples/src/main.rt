@@ -1,4 +1,5 @@
 //! Runs the examples: each line of the file `rows` as a shell would, with what the monitor writes and its status after it.
+//! Proved: that nothing undefined is done. The gate compares what it prints with the file `stdout`.
 #![tactic(auto)]
 
 mod shelf;

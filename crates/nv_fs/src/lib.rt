@@ -1,4 +1,8 @@
-//! Files as a guest's system calls see them: descriptors, shared open files, files in memory, pipes and the console.
+//! Files as guests' calls see them: descriptors, shared open files, files in memory, pipes and the console.
+//! Types: `FileSystem`, `Opened`.
+//! Proved: each call gives the answer, the bytes and the state of its definition; the `reserve_` calls change nothing that
+//! can be seen, and the call after them can't fail.
+//! Above: both kernels, inspection.
 #![tactic(auto)]
 
 mod closing;

@@ -1,5 +1,8 @@
-//! What the definitions of calls on files say together: what is made takes no number in use, what isn't spoken of stays, and a
-//! close frees just what nothing else holds.
+//! What the definitions of calls on files say together, for every state.
+//! Functions: one a law; their contracts are the laws.
+//! Proved: the tables stay sound; what is made takes no number in use; a close frees just what nothing else holds; a call on
+//! a descriptor changes no other open file, file or pipe.
+//! Above: the laws of sockets.
 #![tactic(auto)]
 
 mod laws;

@@ -1,4 +1,8 @@
-//! What the versions of a large run do once they are loaded: they make the calls of the definition, and end as it says.
+//! What the files of a made run do once they are loaded, for every number.
+//! Functions: one a law; their contracts are the laws.
+//! Proved: each version makes its defined course of calls, ends as the number says and fits the usual memory; the script
+//! and the filter are accepted.
+//! Above: the command `gen`.
 #![tactic(auto)]
 
 mod laws;

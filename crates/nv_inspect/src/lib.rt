@@ -1,4 +1,7 @@
-//! What there is to show of a version at a point of a log: its threads with their registers, its descriptors, and bytes of its memory.
+//! What there is to show of a version at a point: threads, registers, descriptors, memory.
+//! Functions: `show`, `put_end`; specs/Shown has the text.
+//! Proved: `show` writes just that text, without memory.
+//! Above: the commands.
 #![tactic(auto)]
 
 mod descriptors;

@@ -1,5 +1,7 @@
-//! The instructions of RV32IMA: the table of the RISC-V Unprivileged ISA manual (chapter 24, "RV32/64G Instruction Set
-//! Listings"), by which a word is read as an instruction and an instruction written as a word.
+//! The instructions of RV32IMA: a word read as an instruction, an instruction written as a word (RISC-V manual, chapter 24).
+//! Types: `Op`, `Form`, `Insn`; specs/Table has the rows.
+//! Proved: `decode` is the table, and nothing off it; `encode` is its inverse both ways; no word belongs to two rows.
+//! Above: the machine, the assembler, made runs.
 #![tactic(auto)]
 
 mod decoding;

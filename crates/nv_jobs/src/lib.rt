@@ -1,4 +1,8 @@
-//! What the monitor's commands come to, and all of their work that needs no room and no other threads.
+//! What the top call owes (specs/Due), the reading and refusing of files, and the commands that need no other threads.
+//! Types: `Task`, `Prepared`, `Refusal`, `Place`, `Cause`; function `answer_alone`.
+//! Proved: the first file in order that can't be read or is refused is named; `asm`, `rules`, `replay`, `inspect` and
+//! refused words are answered as they are owed, without waiting; each ending says its text with its status.
+//! Above: the top call.
 #![tactic(auto)]
 
 mod endings;

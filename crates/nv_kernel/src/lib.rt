@@ -1,4 +1,8 @@
-//! The kernel that answers the system calls of a run: a profile of Linux's calls, over what a script gives.
+//! The kernel without sockets: a profile of Linux's calls over what a script gives.
+//! Types: `ScriptKernel`, `Devices`.
+//! Proved: it meets the laws of `SyscallKernel` with the definition of every call (`serve`); a call for which `reserve` took
+//! the memory can't fail.
+//! Above: the kernel with sockets, a version's constant replies.
 #![tactic(auto)]
 
 mod clock;

@@ -1,5 +1,8 @@
-//! The guest machine: RV32IMA as the RISC-V Unprivileged ISA manual (20191213), chapters 2, 7 and 8, has it, one
-//! instruction at a time.
+//! One instruction of RV32IMA on registers and memory (RISC-V Unprivileged ISA, chapters 2, 7 and 8).
+//! Types: `Regs`, `FaultKind`, `Stepped`.
+//! Proved: `step` is the definition of one instruction, with its faults in their order; after a call or a fault nothing
+//! has changed.
+//! Above: the guest.
 #![tactic(auto)]
 
 mod alu;

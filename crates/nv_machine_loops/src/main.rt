@@ -1,4 +1,5 @@
-//! Runs one of three guests for a number of instructions, and prints where it came.
+//! Runs one of three guests for a number of instructions, and prints where it came; bench/machine_loops.py takes the time.
+//! Proved: that nothing undefined is done.
 #![tactic(auto)]
 
 ghost use Rattle.std.specs.Prelude.{◌≡◌, true};

@@ -1,4 +1,5 @@
 //! Tests of the guest and its machine: executables, instructions, memory, steps, threads, calls and the heap.
+//! Proved: that the tests do nothing undefined. What they assert is run.
 #![tactic(auto)]
 
 #[cfg(test)]

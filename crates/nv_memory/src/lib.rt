@@ -1,4 +1,8 @@
-//! The memory of a guest: bytes, and the regions in which they may be used.
+//! A guest's memory: bytes, and regions with their rights.
+//! Types: `Width`, `Access`, `Right`, `Region`, `Memory`.
+//! Proved: a load, store or copy is that of the list of bytes; it is refused where no region has the range with the right,
+//! and then nothing has changed.
+//! Above: the machine and the guest.
 #![tactic(auto)]
 
 mod bytes;

@@ -1,4 +1,7 @@
-//! Where the words of events stand in a room's table.
+//! Where in a room's table the words of events stand.
+//! Types: `Spot`; specs/Placement and Header have the layout.
+//! Proved: `Spot` finds the table's word of each word of an event.
+//! Above: the room.
 #![tactic(auto)]
 
 mod spot;

@@ -1,5 +1,8 @@
-//! The change of leader in a room: a lead gives the kernel up, the lowest station that is left takes it, and stations leave. At a planned
-//! length of the log a lead gives up the lead and reads on as the last.
+//! The change of leader: a lead gives up the kernel, the lowest station left takes it; or it hands over at a planned length.
+//! Types: `Lower`; functions `retire`, `close`, `leave`, `hand`, `lower_gone`, `take`.
+//! Proved: each does what its clause says; who takes the lead has seen the whole log, and who handed over reads on with all
+//! that it has seen.
+//! Above: workers.
 #![tactic(auto)]
 
 mod gives;

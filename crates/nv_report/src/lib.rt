@@ -1,4 +1,7 @@
-//! The report of a run: what went to the console, the log, and how each version ended.
+//! The report of a run as text and as JSON: console, log, and how each version ended.
+//! Functions: `write`, `json`, `put_fate`, `put_hex`; specs/Report and Json have the texts.
+//! Proved: `write` writes just the report's text, without memory; `json` gives just the text of its JSON form.
+//! Above: inspection, the commands.
 #![tactic(auto)]
 
 mod events;

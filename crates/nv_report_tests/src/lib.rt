@@ -1,4 +1,5 @@
-//! Tests of the report's JSON form, which is read back and compared with the run that it tells.
+//! Tests of accounts by the plain monitor, and of the report's JSON form, which is read back and compared with the run.
+//! Proved: that the tests do nothing undefined. What they assert is run.
 #![tactic(auto)]
 
 mod runs;

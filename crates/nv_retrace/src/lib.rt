@@ -1,4 +1,7 @@
-//! A version over a recorded log: what it comes to at a point, and the kernel at that point.
+//! A version over a recorded log, brought to a point, and the kernel at that point.
+//! Types: `Point`; functions `bring`, `kernel_after`.
+//! Proved: the version and the kernel are the definition's after just those events or instructions.
+//! Above: the commands.
 #![tactic(auto)]
 
 mod kernels;

@@ -1,5 +1,6 @@
-//! Events through a room, and as many words through rtrb, for a script that takes the time.
+//! Events through a room, and as many words through rtrb; bench/ring_speed.py takes the time.
 //! The one argument says what runs, as `ring-518-2` (words an event, readers), `kernel-518` or `rtrb-518`.
+//! Proved: that nothing undefined is done.
 #![tactic(auto)]
 
 mod queue;

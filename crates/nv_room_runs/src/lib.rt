@@ -1,4 +1,7 @@
-//! Runs of rooms by threads, for tests and benchmarks: one publishes and the others read, or each leads in its turn; and a change of leader and a planned hand-over step by step.
+//! Runs of a room: by threads, in turns, and step by step over a change of leader and a planned hand-over.
+//! Types: `Pair`, `Relay`, `Script`.
+//! Proved: the conditions of the room's steps hold, and the log that a run leaves is legal from the kernel's start.
+//! Above: the room's tests, the ring's benchmark.
 #![tactic(auto)]
 
 mod alternating;

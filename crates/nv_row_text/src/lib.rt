@@ -1,4 +1,7 @@
-//! Rows of tests in their text form (crates/nv_rows/data/README.md): calls of the monitor, each with what has to come of it.
+//! Rows of tests as plain text (crates/nv_rows/data/README.md): calls of the monitor, each with what has to come of it.
+//! Types: `Row`, `RowFile`, `Change`, `Kind`, `Wanted`, `Entry`, `Reader`, `RowFault`.
+//! Proved: that nothing undefined is done; what it reads is shown by the rows.
+//! Above: the program that runs them.
 #![tactic(auto)]
 
 mod content;

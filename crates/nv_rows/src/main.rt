@@ -1,4 +1,5 @@
-//! Runs rows, calls of the monitor that data/ tells in plain text (crates/nv_rows/data/README.md), and says which of them come out otherwise.
+//! Runs the rows of data/ through the top call (crates/nv_rows/data/README.md), and says which of them come out otherwise.
+//! Proved: that nothing undefined is done. The gate compares what it prints with the file `stdout`.
 #![tactic(auto)]
 
 mod run;

@@ -1,4 +1,7 @@
-//! What a filter says of a follower's call: the pair that it reads, its value and the verdict.
+//! What a filter says of a follower's call that isn't the event's.
+//! Types: `Pair`, `Verdict`.
+//! Proved: `value` is the filter's value on the pair; `verdict` is the table of verdicts.
+//! Above: a version.
 #![tactic(auto)]
 
 mod judging;

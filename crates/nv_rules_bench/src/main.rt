@@ -1,5 +1,6 @@
-//! Values of a filter whose every instruction runs, for a script that takes the time.
+//! Values of a filter whose every instruction runs; bench/verdict_speed.py takes the time.
 //! The two arguments say how many instructions it has and how many values are asked for.
+//! Proved: that nothing undefined is done.
 #![tactic(auto)]
 
 use nv_bpf::{Filter, FilterFault, Op, verify};

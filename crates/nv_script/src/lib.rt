@@ -1,4 +1,8 @@
-//! Scripts: what a run begins with.
+//! Scripts: what a run begins with, and where its leaders hand over.
+//! Types: `Script`, `ScriptFault`, `ScriptCause`.
+//! Proved: `read` gives what a script says, or its first faulty line with the first cause; a script that is accepted keeps
+//! to the stated limits.
+//! Above: both kernels, the commands.
 #![tactic(auto)]
 
 mod draft;

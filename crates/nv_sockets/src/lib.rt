@@ -1,4 +1,8 @@
-//! The kernel of a run with sockets over the connections that the script states.
+//! The kernel of a run: nv_kernel's, and sockets over the connections that a script states.
+//! Types: `Connection`, `SocketKernel`.
+//! Proved: it meets the laws of `SyscallKernel` with the definition of serving with sockets; `write_connections` writes
+//! just the text of what each connection was sent.
+//! Above: the commands.
 #![tactic(auto)]
 
 mod accepting;

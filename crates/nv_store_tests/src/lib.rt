@@ -1,4 +1,5 @@
 //! Tests of what holds bytes and events: files and their blocks, lanes, places and the pool.
+//! Proved: that the tests do nothing undefined. What they assert is run.
 #![tactic(auto)]
 
 #[cfg(test)]

@@ -1,4 +1,7 @@
-//! What the tests of the monitor's top call stand on: the call over files and a sink in memory, and small versions.
+//! The top call over files and a sink in memory, and version files of a few words.
+//! Types: `Outside`, `Answered`; functions `monitor`, `monitor_through`.
+//! Proved: that nothing undefined is done; what is answered is compared by those that stand on it.
+//! Above: rows, examples, tests of the top call.
 #![tactic(auto)]
 
 mod call;

@@ -1,4 +1,8 @@
-//! Lines, fields, words, operands, names and numbers of the text formats.
+//! What the text formats share: lines, fields, statements with labels, names, tables of words, numbers.
+//! Types: `Lines`, `Line`, `Names`.
+//! Proved: each line comes once, in order, with how many are before it; fields, words and operands are their definitions;
+//! numbers and hexadecimal texts are read and written exactly.
+//! Above: scripts, filters, both assemblers, the command line, rows.
 #![tactic(auto)]
 
 mod fields;

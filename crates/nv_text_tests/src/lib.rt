@@ -1,5 +1,6 @@
-//! Tests of what no command tells of the text formats: fields, numbers, filters as they are written again, what rules say, and a script longer
-//! than a file may be.
+//! Tests of the text formats, for what no command tells: fields, numbers, filters written again, what rules say, and a
+//! script longer than a file may be.
+//! Proved: that the tests do nothing undefined. What they assert is run.
 #![tactic(auto)]
 
 #[cfg(test)]

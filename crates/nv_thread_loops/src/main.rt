@@ -1,4 +1,5 @@
-//! Runs a guest of one or of eight threads for a number of instructions, and prints where it came.
+//! Runs a guest of one or of eight threads for a number of instructions, and prints where it came; bench/thread_loops.py
+//! takes the time. Proved: that nothing undefined is done.
 #![tactic(auto)]
 
 ghost use Rattle.std.specs.Prelude.{◌≡◌, ◌≤◌, None};

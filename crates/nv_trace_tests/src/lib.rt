@@ -1,4 +1,5 @@
-//! Tests of traces.
+//! Tests of traces: written, read, checked.
+//! Proved: that the tests do nothing undefined. What they assert is run.
 #![tactic(auto)]
 
 #[cfg(test)]

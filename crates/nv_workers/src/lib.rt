@@ -1,4 +1,8 @@
-//! Versions beside each other, each with its seat in a room.
+//! A run: versions beside each other on threads of the host, each with its seat in one room.
+//! Types: `Worker`, `Turn`, `Ran`; functions `staff`, `run_all`, `end`.
+//! Proved, if it returns: the log and the standings are the sequential monitor's with the room's planned lengths, whichever
+//! thread took which turn; the spans of all versions cover the log.
+//! Above: the top call.
 #![tactic(auto)]
 
 mod dealing;

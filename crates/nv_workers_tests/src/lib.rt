@@ -1,4 +1,5 @@
-//! Runs of small programs by workers on host threads, and by the plain monitor.
+//! Tests of workers on threads of the host: small programs, whose accounts are compared with the plain monitor's.
+//! Proved: that the tests do nothing undefined. What they assert is run.
 #![tactic(auto)]
 
 mod runs;
