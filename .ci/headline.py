@@ -1,0 +1,191 @@
+#!/usr/bin/env python3
+"""What the clauses of `nv_cli::varan` cite, whole: the definitions of specs/ that a reader has to believe.
+
+    .ci/headline.py            compares them with crates/nv_cli/specs/Headline.antt, with docs/DEFINITIONS.md and with the number in README.md
+    .ci/headline.py --write    writes them there: Headline.antt after its line MORE, the table at the end of DEFINITIONS.md, the number
+    .ci/headline.py --why X    says by which definitions the clauses come to X
+    .ci/headline.py --inner    lists the definitions that no contract cites, and those that contracts of private functions alone cite
+
+Headline.antt is imports alone: first those in reading order, with what they say, and after the line MORE all others, by crate and file.
+"""
+import re
+import sys
+
+sys.dont_write_bytecode = True
+from definitions import ROOT, House, imports_of, read, whole
+
+TOP = ("nv_cli", "top", "varan")
+HEADLINE, PAGE, README = "crates/nv_cli/specs/Headline.antt", "docs/DEFINITIONS.md", "README.md"
+MORE = "-- And what these stand on, by crate and file. (.ci/headline.py --write makes the lines from here on.)"
+TABLE = "## Everything that the top call cites\n"
+COUNT = re.compile(r"\*\*[\d,]+\*\* definitions")
+
+
+def cited_by_top(house):
+    crate, file, name = TOP
+    for at, known, _, cites in house.contracts(crate):
+        if (at, known) == (file, name):
+            return cites
+    sys.exit(f"headline: {crate} has no function {name} in src/{file}.rt")
+
+
+def path_of(it):
+    return f"{it.crate}/specs/{it.module.replace('.', '/')}.antt"
+
+
+def by_file(house, definitions):
+    """The definitions by file, in the order of crates.txt, of files' names and of the files."""
+    order = [it.group(1) for it in re.finditer(r"(?m)^(\w+)[^:#\n]*:", read(f"{ROOT}/crates.txt"))]
+    files = sorted({(order.index(it.crate), it.module) for it in definitions})
+    for at, module in files:
+        yield order[at], module, [it for it in house.scopes[order[at], module].definitions.values() if it in definitions]
+
+
+def imported(house, text):
+    """The definitions that a list of imports names, and what is wrong with it."""
+    found, wrong = set(), []
+    for line in text.split("\n"):
+        if line.strip() and not line.startswith(("--", "use ")):
+            wrong.append(f"{HEADLINE} has more than imports: {line.strip()}")
+    for _, path, names, _ in imports_of(text):
+        parts = path.split(".")
+        for name, _ in names or [("", "")]:
+            it = house.find((parts[1], ".".join(parts[3:])), name)
+            if it in found:
+                wrong.append(f"{HEADLINE} has {it} twice")
+            if it:
+                found.add(it)
+            else:
+                wrong.append(f"{HEADLINE} names {path} {name}, which isn't there")
+    return found, wrong
+
+
+def more_imports(house, definitions, first):
+    """The imports of these, each by its own name, or with its crate's and file's where another has that name."""
+    taken, lines = {here for _, _, names, _ in imports_of(first) for _, here in names or []}, []
+    for crate, module, found in by_file(house, definitions):
+        names = []
+        for it in found:
+            here = next(name for name in (it.name, f"{crate}_{it.name}", f"{crate}_{module.replace('.', '_')}_{it.name}") if name not in taken)
+            taken.add(here)
+            names.append(it.name if here == it.name else f"{it.name} as {here}")
+        lines.append(f"use Rattle.{crate}.specs.{module}.{{{', '.join(names)}}}")
+    return lines
+
+
+def table_of(house, definitions):
+    return ["| File | Definitions |", "|---|---|", *(f"| {path_of(found[0])} | {', '.join(f'`{it.name}`' for it in found)} |" for _, _, found in by_file(house, definitions))]
+
+
+def in_table(house, text):
+    found, wrong = set(), []
+    for it in re.finditer(r"(?m)^\| (\w+)/specs/(\S+)\.antt \| (.*) \|$", text):
+        for name in re.findall(r"`([^`]+)`", it.group(3)):
+            known = house.find((it.group(1), it.group(2).replace("/", ".")), name)
+            if known:
+                found.add(known)
+            else:
+                wrong.append(f"{PAGE} has `{name}` in {it.group(1)}/specs/{it.group(2)}.antt, where it isn't")
+    return found, wrong
+
+
+def in_words(house, text, cited):
+    """Names in the first column of the page's tables that are no definition, and in the first table those that the clauses don't cite."""
+    known = {it.name for it in [*house.definitions(), *house.types.values()]}
+    reading = text.partition("## The top call")[2].partition("\n## ")[0]
+    for line in text.partition(TABLE)[0].split("\n"):
+        for name in re.findall(r"`([^`]+)`", line.split("|")[1]) if line.startswith("| `") else []:
+            if name not in known:
+                yield f"{PAGE} has `{name}`, which is no definition"
+            elif line in reading and not any(it.name == name for it in cited):
+                yield f"{PAGE} has `{name}` in reading order, which the clauses don't cite"
+
+
+def count_of(definitions):
+    return f"**{len(definitions):,}** definitions"
+
+
+def unresolved(house):
+    """Imports that this script doesn't follow: what they cite would be missing."""
+    for (crate, module), scope in house.scopes.items():
+        for target, there in scope.imports.values():
+            if "TheConstants" not in target[1] and not house.find(target, there):
+                yield f"{crate}/specs/{module}: {there} of {'.'.join(target)} isn't found"
+
+
+def compare(house, cited):
+    headline, page = read(f"{ROOT}/{HEADLINE}"), read(f"{ROOT}/{PAGE}")
+    listed, wrong = imported(house, headline)
+    rows, more = in_table(house, page.partition(TABLE)[2])
+    wrong += more + list(unresolved(house)) + list(in_words(house, page, cited))
+    for place, those in ((HEADLINE, listed), (PAGE, rows)):
+        wrong += sorted(f"{place} lacks {it}" for it in cited - those)
+        wrong += sorted(f"{place} has {it}, which the clauses don't cite" for it in those - cited)
+    if count_of(cited) not in read(f"{ROOT}/{README}"):
+        wrong.append(f"{README} doesn't say {count_of(cited)}")
+    return wrong
+
+
+def write(house, cited):
+    def put(path, text):
+        with open(f"{ROOT}/{path}", "w", encoding="utf-8") as it:
+            it.write(text)
+    first = read(f"{ROOT}/{HEADLINE}").partition(MORE)[0].rstrip()
+    kept, _ = imported(house, first)
+    put(HEADLINE, "\n".join([first, MORE, *more_imports(house, cited - kept, first), ""]))
+    front = read(f"{ROOT}/{PAGE}").partition(TABLE)[0].rstrip()
+    told = f"{len(cited):,} definitions, by crate, the lowest first. `.ci/headline.py --write` makes this table, and the gate compares it with the clauses."
+    put(PAGE, "\n".join([front, "", TABLE.rstrip(), "", told, "", *table_of(house, cited), ""]))
+    put(README, COUNT.sub(count_of(cited), read(f"{ROOT}/{README}")))
+
+
+def why(house, roots, name):
+    came, todo = {it: None for it in roots}, list(roots)
+    while todo:
+        it = todo.pop(0)
+        for more in it.cites:
+            if more not in came:
+                came[more] = it
+                todo.append(more)
+    for it in came:
+        if it.name == name:
+            steps = []
+            while it:
+                steps.append(str(it))
+                it = came[it]
+            print("\n  by ".join(steps))
+
+
+def inner(house):
+    """What no contract cites; and what is cited by contracts of functions that only their own crate calls."""
+    public, private = set(), set()
+    for crate in house.crates:
+        for _, _, is_public, cites in house.contracts(crate):
+            (public if is_public else private).update(cites)
+    public, private = whole(public), whole(private)
+    for title, keep in (("no contract cites:", lambda it: it not in private), ("contracts of private functions alone cite:", lambda it: it in private)):
+        print(title)
+        for _, _, found in by_file(house, {it for it in house.definitions() if it not in public and keep(it)}):
+            print(f"  {path_of(found[0])}: {', '.join(it.name for it in found)}")
+
+
+def main(words):
+    house = House()
+    roots = cited_by_top(house)
+    cited = {it for it in whole(roots) if it.is_of_specs}
+    if words[:1] == ["--why"] and len(words) == 2:
+        return why(house, roots, words[1])
+    if words == ["--inner"]:
+        return inner(house)
+    if words == ["--write"]:
+        write(house, cited)
+    elif words:
+        sys.exit(__doc__)
+    wrong = compare(house, cited)
+    if wrong:
+        sys.exit("\n".join(f"headline: {it}" for it in wrong))
+    print(f"headline: the clauses of {TOP[2]} cite {len(cited):,} of the {len(house.definitions()):,} definitions of specs/, in {sum(it.lines for it in cited):,} lines, and {len(whole(roots)) - len(cited)} types of the code")
+
+
+if __name__ == "__main__":
+    main(sys.argv[1:])
