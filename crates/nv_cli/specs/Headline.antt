@@ -74,10 +74,10 @@ use Rattle.nv_text.specs.Lines.{is_newline, lines, line_number, is_blank, is_not
 use Rattle.nv_text.specs.Names.{defined, defining, definitions, or_later, first_fault}
 use Rattle.nv_text.specs.Numbers.{number_of, decimal_of, paired, unhexed}
 use Rattle.nv_bytes.specs.Fields.{field_at}
-use Rattle.nv_outside.specs.Counts.{Rose}
+use Rattle.nv_outside.specs.Counts.{raised, Rose}
 use Rattle.nv_outside.specs.Files.{Answers as nv_outside_Answers, KeepsFaults}
-use Rattle.nv_outside.specs.Sink.{Writes}
-use Rattle.nv_outside.specs.Told.{Grows}
+use Rattle.nv_outside.specs.Sink.{Writes, faults_by_write, faults_by}
+use Rattle.nv_outside.specs.Told.{MayFail, Grows}
 use Rattle.nv_isa.specs.Spelling.{low, spelled, encoded}
 use Rattle.nv_isa.specs.Table.{Row as nv_isa_Row, with_op, row as nv_isa_row, table as nv_isa_table, belongs, row_of, field as nv_isa_field, signed, rd_of, rs1_of, rs2_of, immediate, rd_in, rs1_in, rs2_in, insn_of, decoded}
 use Rattle.nv_memory.specs.Bytes.{bytes_at, put, little, little_bytes, byte_count}
@@ -129,7 +129,6 @@ use Rattle.nv_rules.specs.Pairs.{argument_words, call_words, pair_words}
 use Rattle.nv_rules.specs.Values.{FilterState, start, held, with_held, other, operand_of, computed as nv_rules_computed, holds as nv_rules_holds, Effect, goes_with, ends_without, acted, gone_on, stepped as nv_rules_stepped, returned_from, returned, value_of}
 use Rattle.nv_rules.specs.Verdicts.{verdict_of}
 use Rattle.nv_replay.specs.Accounts.{IsSettled}
-use Rattle.nv_replay.specs.Alone.{IsSurvivor, HasNoClone}
 use Rattle.nv_replay.specs.Covers.{times, led_times}
 use Rattle.nv_replay.specs.Follow.{Follower, fresh as nv_replay_fresh, Judge, no_rules, consumed, judged, refusal_of, permit_by, refusal_by, met, decided, on_next, next as nv_replay_next, is_exited}
 use Rattle.nv_replay.specs.Hands.{has, is_handed, unless_handed, next_or_hand, lead_to_hand}
