@@ -22,7 +22,7 @@ use Rattle.nv_replay.specs.Monitor.{Part, Run, begun, after_lead, tracked_by, le
 use Rattle.nv_replay.specs.Follow as following
 use Rattle.nv_replay.specs.Versions.{Running, process_of}
 use Rattle.nv_replay.specs.Accounts.{AreFresh}
-use Rattle.nv_replay.specs.Alone.{HasNoClone}
+use Rattle.nv_replay.specs.Survivors.{HasNoClone}
 use Rattle.nv_replay.specs.Survivors.{alone, SurvivorsAgree}
 use Rattle.nv_replay.proofs.Covering.{turn_keeps, stage_keeps}
 use Rattle.nv_replay.proofs.Stretches.{hand_leads}

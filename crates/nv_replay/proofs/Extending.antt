@@ -1,5 +1,5 @@
 -- To follow a log and then the longer log is to follow the longer log; to lead is to append.
-use Rattle.std.proofs.Common.{◌≡◌, ◌∙◌, sym, ap, subst, refl, ℕ, zero, suc, ◌+◌, ◌≤◌, ◌⊎◌, inl, inr, Bool, true, false, List, [], ◌∷◌, ◌++◌, length, take, Option, Some, None, arith, append_assoc, append-nil, length-append, cond}
+use Rattle.std.proofs.Common.{◌≡◌, ◌∙◌, sym, ap, subst, refl, ℕ, zero, suc, ◌+◌, ◌≤◌, ◌⊎◌, Bool, true, false, List, [], ◌∷◌, ◌++◌, length, take, Option, Some, None, arith, append_assoc, append-nil, length-append, cond}
 use Rattle.std.specs.Prelude.{slice_get, nat_le}
 use Rattle.nv_calls.specs.Calls.{Entry}
 use Rattle.nv_calls.specs.Logs.{Start, served, live_after}
@@ -11,11 +11,11 @@ use Rattle.nv_replay.specs.declared.fate.Fate.{Fate}
 use Rattle.nv_replay.specs.declared.fate.Fate.TheVariants.{Fault as Faulted, Memory}
 use Rattle.nv_machine.specs.declared.outcome.FaultKind.TheVariants.{Calls}
 use Rattle.nv_replay.specs.Settling.{stage}
-use Rattle.nv_replay.specs.Follow.{Follower, Judge, next, on_next, follow, IsInStep}
-use Rattle.nv_replay.specs.Lead.{Leader, is_cut, led, logged, unless_ended, next_call, lead}
-use Rattle.nv_replay.proofs.Settled.{Reaches, reach_here, reach_first, at_rest, stage_zero, stage_one, stage_rests}
+use Rattle.nv_replay.specs.Follow.{Follower, Judge, next, follow, IsInStep}
+use Rattle.nv_replay.specs.Lead.{Leader, is_cut, led, logged, unless_ended, next_call}
+use Rattle.nv_replay.proofs.Settled.{Reaches, reach_first, at_rest, stage_zero, stage_one}
 use Rattle.nv_replay.proofs.Falling.{size, follow_falls}
-use Rattle.nv_replay.proofs.Wholes.{follow_is, bound}
+use Rattle.nv_replay.proofs.Wholes.{bound}
 
 pub get_prefix : (log more : List Entry) (i : ℕ) (e : Entry) → slice_get log i ≡ Some e → slice_get (log ++ more) i ≡ Some e
 get_prefix [] more i e h = cc
@@ -28,34 +28,10 @@ take_prefix_of [] more (suc n) h = absurd (omega arith)
 take_prefix_of (d ∷ log) more (suc n) h = ap (λ x. d ∷ x) (take_prefix_of log more n (omega arith))
 
 module _ {P : Type 0} (g : Behaviour P) (laws : IsProcess g) (judge : Judge) (log more : List Entry) where
-  same_next : (s : Follower P) (o : Option Entry) (f : Option Fate) → slice_get log s.seen ≡ o
-      → (on_next g judge log s o f ≡ s) ⊎ (on_next g judge log s o f ≡ on_next g judge (log ++ more) s (slice_get (log ++ more) s.seen) f)
-  same_next s o (Some f) h = inl refl
-  same_next s None None h = inl refl
-  same_next s (Some e) None h = let k : slice_get (log ++ more) s.seen ≡ Some e = get_prefix log more s.seen e h in inr (rw k refl)
-
-  next_same : (s : Follower P) → (next g judge log s ≡ s) ⊎ (next g judge log s ≡ next g judge (log ++ more) s)
-  unfolding next
-  next_same s = same_next s (slice_get log s.seen) s.fate refl
-
-  pub extend_by : (n : ℕ) (s t : Follower P) → stage (next g judge log) n s ≡ t → Reaches (next g judge (log ++ more)) s t
-  extend_by zero s t h = subst (λ (x : Follower P). Reaches (next g judge (log ++ more)) s x) (sym (stage_zero (next g judge log) s) ∙ h)
-      (reach_here (next g judge (log ++ more)) s)
-  extend_by (suc n) s t h = elim (next_same s) [
-    | inl e ↦ subst (λ (x : Follower P). Reaches (next g judge (log ++ more)) s x) (sym (stage_rests (next g judge log) (suc n) s e) ∙ h)
-        (reach_here (next g judge (log ++ more)) s)
-    | inr e ↦ reach_first (next g judge (log ++ more)) s t
-        (subst (λ (x : Follower P). Reaches (next g judge (log ++ more)) x t) e
-        (extend_by n (next g judge log s) t (sym (stage_one (next g judge log) n s) ∙ h)))
-  ]
-
   -- what follow comes to is reached, and rests
   pub follow_reached : (s : Follower P) → Reaches (next g judge log) s (follow g judge log s)
   unfolding follow
   follow_reached s = record { steps = length log + g.calls_left s.process + 1; is = refl }
-
-  pub extended : (s : Follower P) → Reaches (next g judge (log ++ more)) s (follow g judge log s)
-  extended s = let r = follow_reached s in extend_by r.steps s (follow g judge log s) r.is
 
 module _ {P : Type 0} (g : Behaviour P) (laws : IsProcess g) (judge : Judge) (log : List Entry) where
   pub follow_rests : (s : Follower P) → next g judge log (follow g judge log s) ≡ follow g judge log s
@@ -69,16 +45,6 @@ reach_by step (suc n) s t u h q = reach_first step s u (reach_by step n (step s)
 
 pub reach_all : {S : Type 0} (step : S → S) (s t u : S) → Reaches step s t → Reaches step t u → Reaches step s u
 reach_all step s t u r q = reach_by step r.steps s t u r.is q
-
--- following on
-pub follow_on : {P : Type 0} (g : Behaviour P) (laws : IsProcess g) (judge : Judge) (log more : List Entry) (s : Follower P)
-    → follow g judge (log ++ more) (follow g judge log s) ≡ follow g judge (log ++ more) s
-follow_on g laws judge log more s =
-    let f = follow g judge log s in
-    follow_is g laws judge (log ++ more) s (follow g judge (log ++ more) f)
-    (reach_all (next g judge (log ++ more)) s f (follow g judge (log ++ more) f) (extended g laws judge log more s)
-    (follow_reached g laws judge (log ++ more) [] f))
-    (follow_rests g laws judge (log ++ more) f)
 
 -- in step with the log is in step with the longer one
 pub in_step_on : {P : Type 0} (g : Behaviour P) (log more : List Entry) (s : Follower P) → IsInStep g log s → IsInStep g (log ++ more) s
@@ -118,7 +84,3 @@ module _ {P : Type 0} (g : Behaviour P) (replies : Start) (most : ℕ) (cut : Op
       let a = next_grows s in
       let b = stage_grows n (next_call g replies most cut s) in
       (a.0 ++ b.0, b.1 ∙ (ap (λ x. x ++ b.0) a.1 ∙ append_assoc s.log a.0 b.0))
-
-  pub lead_grows : (s : Leader P) → (more : List Entry) × ((lead g replies most cut s).log ≡ s.log ++ more)
-  unfolding lead
-  lead_grows s = stage_grows (g.calls_left s.process + 1) s

@@ -1,6 +1,6 @@
 -- A version that goes on, and a fate.
-use Rattle.std.proofs.Common.{◌≡◌, inr, ◌∙◌, ap, refl, ℕ, Bool, true, false, List, [], length, take, Option, Some, None}
-use Rattle.std.specs.Prelude.{not, ◌&&◌}
+use Rattle.std.proofs.Common.{◌≡◌, inr, ◌∙◌, ap, refl, ℕ, true, false, List, [], length, take, Option, Some, None}
+use Rattle.std.specs.Prelude.{◌&&◌}
 use Rattle.nv_calls.specs.Calls.{Entry}
 use Rattle.nv_calls.specs.Logs.{live_after}
 use Rattle.nv_threads.specs.Behaviours.{Behaviour, IsProcess}
@@ -10,11 +10,6 @@ use Rattle.nv_replay.specs.Sequence.{is_on}
 use Rattle.nv_replay.proofs.Settled.{stage_rests}
 use Rattle.nv_replay.proofs.Turning.{take_all}
 use Rattle.nv_replay.proofs.Wholes.{rests}
-
-pub on_none : (over : Bool) (f : Option Fate) → (not over && is_on f) ≡ true → f ≡ None
-on_none true f h = cc
-on_none false None h = refl
-on_none false (Some x) h = cc
 
 pub off_some : (f : Option Fate) → is_on f ≡ false → f ≡ None → ⊥
 off_some None h e = cc

@@ -12,7 +12,6 @@ pub mod Turning
 pub mod Wholly
 pub mod Fates
 pub mod Survivor
-pub mod Telling
 pub mod Numbers
 pub mod Stretches
 pub mod Tracking

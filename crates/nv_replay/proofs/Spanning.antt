@@ -21,16 +21,6 @@ grown_by (y ∷ z ∷ zs) n f (suc i) x h = grown_by (z ∷ zs) n (record { each
 pub grown_end : (xs : List (ℕ × ℕ)) (n : ℕ) → EndBy n xs → EndBy (n + 1) (grown xs)
 grown_end xs n f = record { each = grown_by xs n f }
 
--- a span that begins where the version stands
-begun_by : (xs : List (ℕ × ℕ)) (n : ℕ) → EndBy n xs → (i : ℕ) (x : ℕ × ℕ) → slice_get (xs ++ (n, n) ∷ []) i ≡ Some x → x.1 ≤ n
-begun_by [] n f zero x h = let e : (n, n) ≡ x = cc in let P : ℕ × ℕ → Type 0 = λ z. z.1 ≤ n in subst P e (omega arith)
-begun_by [] n f (suc i) x h = cc
-begun_by (y ∷ xs) n f zero x h = f.each 0 x h
-begun_by (y ∷ xs) n f (suc i) x h = begun_by xs n (record { each = λ j t k. f.each (suc j) t k }) i x h
-
-pub begun_end : (xs : List (ℕ × ℕ)) (n : ℕ) → EndBy n xs → EndBy n (xs ++ (n, n) ∷ [])
-begun_end xs n f = record { each = begun_by xs n f }
-
 pub grown_last : (xs : List (ℕ × ℕ)) (a b : ℕ) → grown (xs ++ (a, b) ∷ []) ≡ xs ++ (a, b + 1) ∷ []
 grown_last [] a b = refl
 grown_last (x ∷ []) a b = refl

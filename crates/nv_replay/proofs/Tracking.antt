@@ -24,10 +24,6 @@ off_some : (f : Option Fate) → is_on f ≡ false → f ≡ None → ⊥
 off_some None h e = cc
 off_some (Some x) h e = cc
 
-some_off : (f : Option Fate) → (f ≡ None → ⊥) → is_on f ≡ false
-some_off None h = absurd (h refl)
-some_off (Some x) h = refl
-
 module _ {P : Type 0} (g : Behaviour P) (judge : Judge) (spans : List (ℕ × ℕ)) (log more : List Entry) where
   same_on : (s : Follower P) (o : Option Entry) (f : Option Fate) → slice_get log s.seen ≡ o → (track_on g judge spans s o f ≡ s) ⊎ (track_on g judge spans s o f ≡ track_on g judge spans s (slice_get (log ++ more) s.seen) f)
   same_on s o (Some f) h = inl refl

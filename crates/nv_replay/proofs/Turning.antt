@@ -32,10 +32,6 @@ pub take_all : (log : List Entry) → take (length log) log ≡ log
 take_all [] = refl
 take_all (e ∷ log) = ap (λ x. e ∷ x) (take_all log)
 
-pub take_prefix : (log : List Entry) (e : Entry) → take (length log) (log ++ e ∷ []) ≡ log
-take_prefix [] e = refl
-take_prefix (d ∷ log) e = ap (λ x. d ∷ x) (take_prefix log e)
-
 not_memory : (o : Option ℕ) → is_memory (option_map Exited o) ≡ false
 not_memory None = refl
 not_memory (Some s) = refl

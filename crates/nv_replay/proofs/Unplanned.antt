@@ -10,7 +10,7 @@ use Rattle.nv_replay.specs.Settling.{stage}
 use Rattle.nv_replay.specs.Follow.{Follower, Judge, fresh, next, follow, is_exited}
 use Rattle.nv_replay.specs.Lead.{Leader, lead}
 use Rattle.nv_replay.specs.Sequence.{Account, leads, is_on, follower_line, leader_line, sequence_from}
-use Rattle.nv_replay.specs.Sequence as landed
+use Rattle.nv_replay.specs.Sequence as plain
 use Rattle.nv_replay.proofs.Settled.{Reaches, reach_here, reach_first}
 use Rattle.nv_replay.specs.Tracks.{track, track_next}
 use Rattle.nv_replay.specs.Hands.{is_handed, lead_to_hand}
@@ -41,7 +41,7 @@ module _ {P : Type 0} (g : Behaviour P) (laws : IsProcess g) (judges : ℕ → J
   over_case [] i log = refl
   over_case (p ∷ ps) i log =
       ap (λ (x : Standing). record { log = log; lines = x ∷ lines log (i + 1) (map part ps) }) (untold log i p)
-      ∙ ap (λ (a : Account). landed.before_follower g judges start most cuts i p a) (over_case ps (i + 1) log)
+      ∙ ap (λ (a : Account). plain.before_follower g judges start most cuts i p a) (over_case ps (i + 1) log)
 
   -- where a run comes to, after the parts that are settled
   record Comes (prefix : List (Part P)) (m : Run P) (r : Account) : Type 0 where
@@ -177,7 +177,7 @@ module _ {P : Type 0} (g : Behaviour P) (laws : IsProcess g) (judges : ℕ → J
   comes (p ∷ ps) prefix log true = stands (p ∷ ps) prefix log
   comes (p ∷ ps) prefix log false = goes p ps prefix log (follow g (judges (length prefix)) log (fresh p)).fate refl (comes ps)
 
-  pub no_hands : (ps : List P) → sequence g judges start most cuts [] ps ≡ landed.sequence g judges start most cuts ps
+  pub no_hands : (ps : List P) → sequence g judges start most cuts [] ps ≡ plain.plain_sequence g judges start most cuts ps
   no_hands ps =
       let c = comes ps [] [] false in
       sym (sequence_is g judges start most cuts [] ps c.last c.reach c.rest)

@@ -1,6 +1,6 @@
 -- A version over a log, decision by decision.
 use Rattle.std.proofs.Common.{◌≡◌, ◌≢◌, ◌∙◌, sym, ap, subst, refl, ℕ, zero, suc, ◌+◌, ◌<◌, ◌≤◌, ◌⊎◌, inl, inr, List, [], ◌∷◌, map, get_or, length, Option, Some, None, arith}
-use Rattle.std.specs.Prelude.{slice_get, true, false}
+use Rattle.std.specs.Prelude.{slice_get, false}
 use Rattle.std.specs.Option.{is_some}
 use Rattle.std.proofs.lemmas.Option.{slice_get_past}
 use Rattle.nv_calls.specs.Calls.{Entry, entry}
@@ -73,14 +73,6 @@ pub length_map : (xs : List Event) → length (map entry xs) ≡ length xs
 length_map [] = refl
 length_map (x ∷ xs) = ap suc (length_map xs)
 
-pub at_next : (xs : List Event) (n m s : ℕ) (d : Event) → n ≡ s → n < length xs → m ≡ s → d ≡ get_or xs m d
-    → slice_get (map entry xs) s ≡ Some (entry d)
-at_next xs n m s d p q r e = let k : m ≡ n = r ∙ sym p in rw (← r) (get_map xs m d (rw k q) e)
-
 pub none_from : (o f : Option Fate) → is_some o ≡ false → o ≡ f → f ≡ None
 none_from None f h e = sym e
 none_from (Some x) f h e = cc
-
-pub some_from : (o f : Option Fate) → is_some o ≡ true → o ≡ f → f ≢ None
-some_from None f h e n = cc
-some_from (Some x) f h e n = cc

@@ -1,7 +1,6 @@
 -- What a run begins with and what its account is.
-use Rattle.std.specs.Prelude.{◌≡◌, ℕ, ◌+◌, ◌≤◌, true, false, List, [], ◌∷◌, ◌++◌, length, Option}
+use Rattle.std.specs.Prelude.{◌≡◌, ℕ, ◌+◌, ◌≤◌, true, false, List, [], ◌∷◌, ◌++◌, length}
 use Rattle.nv_threads.specs.Behaviours.{Behaviour}
-use Rattle.nv_replay.specs.Lead.{cut_of}
 use Rattle.nv_replay.specs.declared.standing.Standing.{Standing}
 use Rattle.nv_replay.specs.Sequence.{is_on}
 use Rattle.nv_replay.specs.Versions.{Running, IsFresh}
@@ -10,11 +9,6 @@ use Rattle.nv_replay.specs.Versions.{Running, IsFresh}
 abbrev pub AreFresh : {P : Type 0} → Behaviour P → ℕ → List (Running P) → Type 0
 AreFresh g i [] = Unit {0}
 AreFresh g i (r ∷ rs) = IsFresh g i r × AreFresh g (i + 1) rs
-
--- the cuts are those that the lines tell
-abbrev pub AreCuts : ℕ → List Standing → (ℕ → Option ℕ) → Type 0
-AreCuts i [] cuts = Unit {0}
-AreCuts i (line ∷ lines) cuts = (cuts i ≡ cut_of line.fate line.seen) × AreCuts (i + 1) lines cuts
 
 -- it leads from here on
 abbrev pub with_span : {P : Type 0} → Running P → ℕ → Running P

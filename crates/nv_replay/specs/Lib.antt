@@ -8,7 +8,6 @@ pub mod Versions
 pub mod Sequence
 pub mod Turns
 pub mod Accounts
-pub mod Alone
 pub mod Tracks
 pub mod Hands
 pub mod Monitor

@@ -1,4 +1,4 @@
--- The whole monitor, one version after another.
+-- The whole monitor without planned lengths, one version after another.
 use Rattle.std.specs.Prelude.{ℕ, zero, suc, ◌+◌, Bool, true, false, ◌&&◌, not, List, [], ◌∷◌, length, Option, Some, None}
 use Rattle.nv_calls.specs.Calls.{Entry}
 use Rattle.nv_calls.specs.Logs.{Start}
@@ -54,5 +54,5 @@ module _ {P : Type 0} (g : Behaviour P) (judges : ℕ → Judge) (start : Start)
   sequence_from (p ∷ ps) i log over = turn i p (λ l o. sequence_from ps (i + 1) l o) log over (follow g (judges i) log (fresh p))
       (leads over (follow g (judges i) log (fresh p)))
 
-  abbrev pub sequence : List P → Account
-  sequence ps = sequence_from ps 0 [] false
+  abbrev pub plain_sequence : List P → Account
+  plain_sequence ps = sequence_from ps 0 [] false

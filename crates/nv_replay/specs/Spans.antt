@@ -1,6 +1,10 @@
 -- The parts of a log that a version has led.
 use Rattle.std.specs.Prelude.{◌≡◌, ℕ, ◌+◌, ◌≤◌, List, [], ◌∷◌, Some, slice_get}
 
+-- how many a version leads at most: one, and one more for each planned length
+abbrev pub MOST_SPANS : ℕ
+MOST_SPANS = 9
+
 -- the last one has one event more
 abbrev pub grown : List (ℕ × ℕ) → List (ℕ × ℕ)
 grown [] = []

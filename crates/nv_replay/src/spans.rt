@@ -1,9 +1,12 @@
 // The parts of a log that a version has led.
 ghost use Rattle.std.specs.Prelude.{◌≡◌, ◌<◌, [], ◌∷◌, ◌++◌, length, IfOk};
-ghost use Rattle.nv_replay.specs.Spans.{grown, EndBy};
+ghost use Rattle.nv_replay.specs.Spans.{grown, EndBy, MOST_SPANS};
 
 use std::alloc::{AllocError, Global};
 use std::marker::Model;
+
+/// How many parts of a log a version leads at most: one, and one more for each planned length.
+const MOST_SPANS: usize = 9;
 
 /// The parts of a log that a version has led: each covers the events from its first number to below its second.
 #[derive(Drop)]
@@ -13,26 +16,27 @@ pub struct Spans {
 
 impl Model for Spans {
     ghost use Rattle.std.specs.Prelude.{◌≤◌, ℕ, List, vec_capacity};
+    ghost use Rattle.nv_replay.specs.Spans.{MOST_SPANS};
 
     ghost Value = { List (ℕ × ℕ) };
 
     ghost view = { λ s. s.held.items };
 
-    ghost invariant = { λ s. 9 ≤ vec_capacity s.held };
+    ghost invariant = { λ s. MOST_SPANS ≤ vec_capacity s.held };
 }
 
 impl Spans {
-    /// None yet, with memory for nine.
+    /// None yet, with memory for the most.
     pub fn make(alloc: Global) -> Result<Spans, AllocError>
         ensures { IfOk result (λ s. s ≡ []) }
     {
-        let held = Vec::with_capacity(alloc, 9)?;
+        let held = Vec::with_capacity(alloc, MOST_SPANS)?;
         Ok(Spans { held })
     }
 
     /// One more begins at this event.
     pub fn begin(&mut self, at: u32)
-        requires { length self.old < 9 }
+        requires { length self.old < MOST_SPANS }
         ensures { self.new ≡ self.old ++ (at, at) ∷ [] }
     {
         match self.held.push((at, at)) {

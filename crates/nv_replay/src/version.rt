@@ -1,5 +1,5 @@
 // A version of the guest, as follower and as leader.
-ghost use Rattle.std.specs.Prelude.{◌≡◌, ◌≢◌, [], ◌∷◌, ◌+◌, ◌<◌, ◌++◌, length, Some, None, IfOk, IfSome, Contains, true, false, option_map};
+ghost use Rattle.std.specs.Prelude.{◌≡◌, ◌≢◌, [], ◌∷◌, ◌+◌, ◌<◌, ◌++◌, length, Some, None, IfOk, IfSome, Contains, true, false, option_map, IsTrue, ◌↔◌};
 ghost use Rattle.nv_calls.specs.Calls.{request, entry};
 ghost use Rattle.nv_calls.specs.Logs.{IsNew, child_of};
 ghost use Rattle.nv_calls.specs.Shapes.{IsShaped};
@@ -11,6 +11,7 @@ ghost use Rattle.nv_calls.specs.Limits.{MOST_EVENTS};
 ghost use Rattle.nv_rules.specs.Verdicts.{verdict_of};
 ghost use Rattle.nv_replay.specs.Follow.{IsCounted, verdict_on, decided, met, consumed, judged, refusal_of, fresh, judge_of};
 ghost use Rattle.nv_replay.specs.Permits.{No, given, failed, passed, permit};
+ghost use Rattle.nv_replay.specs.Spans.{MOST_SPANS};
 ghost use Rattle.nv_replay.specs.Versions.{Running, IsFresh, IsFollowing, IsLeading, LedTo, asking_next, asking_by, answered_by, standing_of};
 
 use crate::judging::{give_constant, judge};
@@ -122,6 +123,14 @@ impl Version {
         }
     }
 
+    // Whether the event is of the very call that the thread asks.
+    fn asks(&self, tid: u32, event: &Event) -> bool
+        requires { threads.pending self.now.at.process tid ≡ true }
+        ensures { IsTrue result ↔ (threads.call self.now.at.process tid ≡ (entry event.now).call) }
+    {
+        same(self.process.pending(tid), event)
+    }
+
     fn meet(&mut self, rules: Option<&Filter>, tid: u32, event: &Event) -> Followed
         requires following { IsFollowing self.old }
         requires pending { threads.pending self.old.at.process tid ≡ true }
@@ -132,11 +141,10 @@ impl Version {
         ensures told { let judge = judge_of (option_map (λ f. f.now) rules.entry) self.old.index in
             IsCounted (verdict_of (judge (threads.call self.old.at.process tid) (entry event.now))) result self.old.at self.new.at }
     {
-        let call = self.process.pending(tid);
-        if same(call, event) {
+        if self.asks(tid, event) {
             return self.consume(tid, event);
         }
-        let value = judge(rules, call, event, self.index);
+        let value = judge(rules, self.process.pending(tid), event, self.index);
         self.obey(tid, event, value)
     }
 
@@ -258,7 +266,7 @@ impl Version {
     /// Leads from here on.
     pub fn begin_lead(&mut self)
         requires following { IsFollowing self.old }
-        requires few { length self.old.led < 9 }
+        requires few { length self.old.led < MOST_SPANS }
         ensures { self.new ≡ record self.old { led = self.old.led ++ (self.old.at.seen, self.old.at.seen) ∷ []; leading = true } }
     {
         self.standing.led.begin(self.standing.seen);
