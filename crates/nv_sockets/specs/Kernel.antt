@@ -8,7 +8,7 @@ use Rattle.nv_kernel.specs.Kernel.{Spare, CanHold}
 use Rattle.nv_kernel.specs.Reserved as kernel
 use Rattle.nv_sockets.specs.declared.host.Host.{Host}
 use Rattle.nv_sockets.specs.Sockets.{Link}
-use Rattle.nv_sockets.specs.Reserved.{Wired, CanSend}
+use Rattle.nv_sockets.specs.Reserved.{Buffered, CanSend}
 use Rattle.nv_sockets.specs.Serving.{State, first_state, state_after}
 
 -- The log, what the script gave, the memory of the event that is made for the next call, and the files and the sockets with theirs.
@@ -17,13 +17,13 @@ pub record KernelState : Type 0 where
   pub setup : Setup
   pub spare : Option Spare
   pub disk : Disk
-  pub wired : Wired
+  pub buffered : Buffered
 
 -- there is memory for the event of a call, and for what it leaves
 pub record CanServe (k : KernelState) (c : Request) : Type 0 where
   pub event : CanHold k.spare c
   pub answer : kernel.CanAnswer k.disk c
-  pub sends : CanSend k.wired c
+  pub sends : CanSend k.buffered c
 
 -- what the kernel without sockets and the sockets hold
 abbrev pub state_of : Host → State

@@ -10,34 +10,34 @@ use Rattle.nv_sockets.specs.declared.socket.Socket.TheVariants.{Fresh, Bound, Li
 use Rattle.nv_sockets.specs.Sockets.{Net, socket_at, output_of}
 
 -- the sockets, and how many bytes that are written to each connection have memory
-pub record Wired : Type 0 where
+pub record Buffered : Type 0 where
   pub net : Net
-  pub room : List ℕ
+  pub buffers : List ℕ
 
 -- a connection has memory for so many bytes in all
-abbrev pub Holds : Wired → ℕ → ℕ → Type 0
-Holds w i n = i < length w.net.links → n ≤ slice_index w.room i
+abbrev pub Holds : Buffered → ℕ → ℕ → Type 0
+Holds w i n = i < length w.net.links → n ≤ slice_index w.buffers i
 
 -- there is memory for n more bytes of a connection, as far as they fit
-abbrev pub HasRoom : Wired → ℕ → ℕ → Type 0
-HasRoom w i n = Holds w i (length (output_of w.net i) + min n (1048576 - length (output_of w.net i)))
+abbrev pub HoldsMore : Buffered → ℕ → ℕ → Type 0
+HoldsMore w i n = Holds w i (length (output_of w.net i) + min n (1048576 - length (output_of w.net i)))
 
-abbrev pub CanWriteTo : Wired → Option Socket → ℕ → Type 0
+abbrev pub CanWriteTo : Buffered → Option Socket → ℕ → Type 0
 CanWriteTo w None n = Unit {0}
 CanWriteTo w (Some Fresh) n = Unit {0}
 CanWriteTo w (Some (Bound port)) n = Unit {0}
 CanWriteTo w (Some (Listening port)) n = Unit {0}
-CanWriteTo w (Some (Connected i read)) n = HasRoom w i n
+CanWriteTo w (Some (Connected i read)) n = HoldsMore w i n
 
 -- there is memory for a write of n bytes to a descriptor
-unfoldable pub CanWrite : Wired → ℕ → ℕ → Type 0
+unfoldable pub CanWrite : Buffered → ℕ → ℕ → Type 0
 CanWrite w fd n = CanWriteTo w (socket_at w.net fd) n
 
-abbrev pub can_send : Syscall → Wired → Request → Type 0
+abbrev pub can_send : Syscall → Buffered → Request → Type 0
 can_send Write w c = CanWrite w (arg c 0) (length c.payload)
 can_send Writev w c = CanWrite w (arg c 0) (length c.payload)
 can_send _ w c = Unit {0}
 
 -- there is memory for what the call writes to a connection
-abbrev pub CanSend : Wired → Request → Type 0
+abbrev pub CanSend : Buffered → Request → Type 0
 CanSend w c = can_send (syscall_of c.nr) w c

@@ -6,13 +6,13 @@ use Rattle.nv_script.specs.Scripts.{Incoming}
 use Rattle.nv_sockets.specs.declared.connection.Connection.{Connection}
 use Rattle.nv_sockets.specs.declared.sockets.Sockets.TheInside.{Inside}
 use Rattle.nv_sockets.specs.Sockets.{Link, Net}
-use Rattle.nv_sockets.specs.Reserved.{Wired}
+use Rattle.nv_sockets.specs.Reserved.{Buffered}
 
 abbrev pub link_of : Connection → Link
 link_of c = record { port = c.port; input = c.input.items; output = c.output.items }
 
-abbrev pub room_of : Connection → ℕ
-room_of c = vec_capacity c.output
+abbrev pub capacity_of : Connection → ℕ
+capacity_of c = vec_capacity c.output
 
 abbrev pub written_of : Connection → Written
 written_of c = record { port = c.port; bytes = c.output.items }
@@ -24,5 +24,5 @@ incoming_of c = (c.0, c.1.items)
 abbrev pub net_of : Inside → Net
 net_of s = record { sockets = s.sockets; waiting = s.waiting.items; links = map link_of s.connections.items }
 
-abbrev pub wired_of : Inside → Wired
-wired_of s = record { net = net_of s; room = map room_of s.connections.items }
+abbrev pub buffered_of : Inside → Buffered
+buffered_of s = record { net = net_of s; buffers = map capacity_of s.connections.items }

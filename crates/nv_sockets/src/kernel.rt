@@ -45,7 +45,7 @@ impl Model for SocketKernel {
 
     ghost Value = { KernelState };
 
-    ghost view = { λ k. record { log = map entry k.log.items; setup = setup_of k.script.value; spare = option_map spare_of k.spare; disk = k.host.devices.files; wired = k.host.sockets } };
+    ghost view = { λ k. record { log = map entry k.log.items; setup = setup_of k.script.value; spare = option_map spare_of k.spare; disk = k.host.devices.files; buffered = k.host.sockets } };
 
     ghost invariant = { λ k. IsSound (start_of_script (setup_of k.script.value)) (map entry k.log.items) (vec_len k.log) (vec_capacity k.log) (option_map spare_of k.spare) k.end (crew_of k.host.devices.threads)
         × (state_of k.host ≡ state_after (first_state (setup_of k.script.value)) (calls_of (map entry k.log.items)))

@@ -3,7 +3,7 @@ ghost use Rattle.std.specs.Prelude.{◌≡◌, ◌+◌, ◌≤◌, ◌<◌, [], 
 ghost use Rattle.nv_calls.specs.Calls.{request};
 ghost use Rattle.nv_sockets.specs.Sockets.{answer, input_of, output_of, read_link, read_socket, with_output, write_link, write_socket, close_socket};
 ghost use Rattle.nv_sockets.specs.Serving.{of_open, unless_many, answered, or_own};
-ghost use Rattle.nv_sockets.specs.Reserved.{Holds, HasRoom, CanWriteTo, CanWrite, can_send};
+ghost use Rattle.nv_sockets.specs.Reserved.{Holds, HoldsMore, CanWriteTo, CanWrite, can_send};
 
 use crate::parts::{append, hand_out, prefix, refuse, reserve_to};
 use crate::socket::Socket;
@@ -75,7 +75,7 @@ impl Sockets {
     }
 
     fn write_connection(&mut self, i: usize, bytes: &[u8]) -> i32
-        requires { HasRoom self.old i (length bytes.now) }
+        requires { HoldsMore self.old i (length bytes.now) }
         ensures { write_link self.old.net 1048576 i bytes.now ≡ answer self.new.net result [] }
     {
         if bytes.len() == 0 {
@@ -220,7 +220,7 @@ impl Sockets {
 
     fn reserve_connection(&mut self, i: usize, n: usize) -> Result<(), AllocError>
         ensures net { self.new.net ≡ self.old.net }
-        ensures ok { OnOk result (HasRoom self.new i n) }
+        ensures ok { OnOk result (HoldsMore self.new i n) }
     {
         let used = self.output(i).len();
         let more = n.min(OUTPUT.saturating_sub(used));

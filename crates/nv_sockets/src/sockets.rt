@@ -24,13 +24,13 @@ pub struct Sockets {
 }
 
 impl Model for Sockets {
-    ghost use Rattle.nv_sockets.specs.Reserved.{Wired};
+    ghost use Rattle.nv_sockets.specs.Reserved.{Buffered};
 
-    ghost Value = { Wired };
+    ghost Value = { Buffered };
 
-    ghost use Rattle.nv_sockets.specs.Views.{wired_of};
+    ghost use Rattle.nv_sockets.specs.Views.{buffered_of};
 
-    ghost view = { wired_of };
+    ghost view = { buffered_of };
 }
 
 #[tactic(auto, unfolding(crate::specs::Sockets::no_sockets))]

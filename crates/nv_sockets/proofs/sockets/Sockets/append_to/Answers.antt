@@ -1,5 +1,5 @@
 use Rattle.std.proofs.Common.{◌∙◌, ap, ℕ, ◌<◌, ◌++◌, List, length, arith}
-use Rattle.nv_sockets.proofs.Outputs.{links_length, room_at, output_is, output_changed}
+use Rattle.nv_sockets.proofs.Outputs.{links_length, capacity_at, output_is, output_changed}
 use Rattle.nv_sockets.proofs.sockets.Sockets.append_to.Goals as goal
 
 pub append-requires : goal.append-requires
@@ -7,7 +7,7 @@ append-requires c =
     let inside : c.args.i < length c.self.inside.connections.items = (let e = ap length c.as_slice.ensures.value in omega arith) in
     let there = links_length c.self.inside c.args.self.now c.self.view_is in
     let held = ap length (output_is c.self.inside c.args.self.now c.args.i c.index_mut.result.now c.self.view_is inside c.index_mut.ensures.value) in
-    let room = room_at c.self.inside c.args.self.now c.args.i c.index_mut.result.now c.self.view_is inside c.index_mut.ensures.value in
+    let capacity = capacity_at c.self.inside c.args.self.now c.args.i c.index_mut.result.now c.self.view_is inside c.index_mut.ensures.value in
     let fits = c.requires (omega arith) in
     omega arith
 

@@ -2,8 +2,8 @@ use Rattle.std.proofs.Common.{◌∙◌, ap, ℕ, ◌<◌, ◌≤◌, length, ar
 use Rattle.std.specs.Prelude.{map, set, vec_capacity, slice_index}
 use Rattle.std.proofs.lemmas.Result.{on_ok_weaker}
 use Rattle.nv_sockets.specs.declared.connection.Connection.{Connection}
-use Rattle.nv_sockets.specs.Views.{link_of, room_of}
-use Rattle.nv_sockets.proofs.Outputs.{output_is, output_changed, output_same, room_is}
+use Rattle.nv_sockets.specs.Views.{link_of, capacity_of}
+use Rattle.nv_sockets.proofs.Outputs.{output_is, output_changed, output_same, capacity_is}
 use Rattle.nv_sockets.proofs.sockets.Sockets.reserve_output.Goals as goal
 
 pub returns-then-i-as_slice-clause-net : goal.returns-then-i-as_slice-clause-net
@@ -18,5 +18,5 @@ returns-then-i-as_slice-clause-ok c =
     let inside : c.args.i < length c.self.inside.connections.items = (let e = ap length c.as_slice.ensures.value in omega arith) in
     let after : Connection = record c.index_mut.result.now { output = c.reserve_to.new.held } in
     let all = set c.self.inside.connections.items c.args.i after in
-    on_ok_weaker {P = c.args.most ≤ vec_capacity c.reserve_to.new.held} {Q = c.args.i < length (map link_of all) → c.args.most ≤ slice_index (map room_of all) c.args.i} _
-    (λ p _. subst (λ (n : ℕ). c.args.most ≤ n) (room_is c.self.inside.connections.items c.args.i after inside) p) c.reserve_to.ensures.ok
+    on_ok_weaker {P = c.args.most ≤ vec_capacity c.reserve_to.new.held} {Q = c.args.i < length (map link_of all) → c.args.most ≤ slice_index (map capacity_of all) c.args.i} _
+    (λ p _. subst (λ (n : ℕ). c.args.most ≤ n) (capacity_is c.self.inside.connections.items c.args.i after inside) p) c.reserve_to.ensures.ok
