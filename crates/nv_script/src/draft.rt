@@ -114,8 +114,8 @@ impl<'a> Draft<'a> {
         self.names.find(name).is_some()
     }
 
-    // Whether there is room for one more file, of this length.
-    fn has_room(&self, len: usize) -> bool
+    // Whether one more file, of this length, may be stated.
+    fn takes_file(&self, len: usize) -> bool
         ensures { result ≡ (nat_lt (length self.now.files) 256 && nat_le len 1048576) }
     {
         self.files.len() < MOST_FILES && len <= MOST_FILE_BYTES
@@ -149,7 +149,7 @@ impl<'a> Draft<'a> {
         if self.has_name(name) {
             return Ok(Err(ScriptCause::Twice));
         }
-        if !self.has_room(content.len()) {
+        if !self.takes_file(content.len()) {
             return Ok(Err(ScriptCause::Long));
         }
         self.push_file(alloc, name, content)?;
@@ -196,8 +196,8 @@ impl<'a> Draft<'a> {
         Ok(Ok(()))
     }
 
-    // Whether there is room for one more connection, which sends so many bytes.
-    fn has_connection_room(&self, len: usize) -> bool
+    // Whether one more connection, which sends so many bytes, may be stated.
+    fn takes_connection(&self, len: usize) -> bool
         ensures { result ≡ (nat_lt (length self.now.connections) 64 && nat_le len 1048576) }
     {
         self.connections.len() < MOST_CONNECTIONS && len <= MOST_CONNECTION_BYTES
@@ -211,7 +211,7 @@ impl<'a> Draft<'a> {
     ) -> Result<Result<(), ScriptCause>, AllocError>
         ensures { IfOk result (λ added. became self.new added ≡ with_connection port input.items self.old) }
     {
-        if !self.has_connection_room(input.len()) {
+        if !self.takes_connection(input.len()) {
             return Ok(Err(ScriptCause::Long));
         }
         self.connections.push((port, input))?;
