@@ -23,16 +23,16 @@ use nv_calls::SyscallKernel;
 use nv_command::Look;
 use nv_inspect::show;
 use nv_outside::{Files, Sink};
-use nv_retrace::{Point, bring, kernel_after};
+use nv_retrace::{TracePoint, bring, kernel_after};
 use std::alloc::Global;
 
-fn point(look: &Look<'_>) -> Point
+fn point(look: &Look<'_>) -> TracePoint
     ensures { result ≡ point_of (point_view look.now.point) }
 {
     match look.point {
-        nv_command::Point::Stamp(stamp) => Point::Stamp(stamp),
-        nv_command::Point::Call(number) => Point::Call(number),
-        nv_command::Point::Count(count) => Point::Count(count),
+        nv_command::Point::Stamp(stamp) => TracePoint::Stamp(stamp),
+        nv_command::Point::Call(number) => TracePoint::Call(number),
+        nv_command::Point::Count(count) => TracePoint::Count(count),
     }
 }
 
@@ -52,7 +52,7 @@ fn show_at<S: Sink>(
     alloc: Global,
     sink: &mut S,
     traced: TracedVersion,
-    point: Point,
+    point: TracePoint,
     dump: Option<(u32, u32)>,
 ) -> u8
     requires fresh { IsFresh threads traced.version.index traced.version }

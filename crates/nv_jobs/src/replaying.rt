@@ -18,7 +18,7 @@ use nv_command::Trail;
 use nv_inspect::put_end;
 use nv_outside::{Files, Put, Sink, put_all, put_pieces};
 use nv_replay::{Fate, Standing, Version};
-use nv_retrace::{Point, bring};
+use nv_retrace::{TracePoint, bring};
 use std::alloc::Global;
 
 fn put_counts<S: Sink>(sink: &mut S, seen: u32, rewrites: u32) -> Put
@@ -81,7 +81,7 @@ fn follow_whole(traced: TracedVersion, budget: u32) -> Version
         mut version,
         ..
     } = traced;
-    bring(&mut version, rules.as_ref(), &kernel, Point::Count(budget));
+    bring(&mut version, rules.as_ref(), &kernel, TracePoint::Count(budget));
     version
 }
 

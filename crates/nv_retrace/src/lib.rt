@@ -8,4 +8,4 @@ mod kernels;
 mod points;
 
 pub use kernels::kernel_after;
-pub use points::{Point, bring};
+pub use points::{TracePoint, bring};

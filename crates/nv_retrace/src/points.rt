@@ -12,7 +12,7 @@ use nv_replay::{Version, follow_all};
 
 /// A point of a log for a version that follows it.
 #[derive(Clone, Copy, Debug, PartialEq, Eq)]
-pub enum Point {
+pub enum TracePoint {
     /// Before the event with this place, or after the last.
     Stamp(u32),
     /// Before the first event of this number, or after the last.
@@ -35,13 +35,13 @@ fn place_of(nr: u32, log: &[Event]) -> usize
 }
 
 // The events that are followed to the point.
-fn events_to(point: Point, log: &[Event]) -> &[Event]
+fn events_to(point: TracePoint, log: &[Event]) -> &[Event]
     ensures { map entry result.now ≡ events_to point (map entry log.now) }
 {
     match point {
-        Point::Stamp(stamp) => first(log, stamp as usize),
-        Point::Call(nr) => first(log, place_of(nr, log)),
-        Point::Count(_) => log,
+        TracePoint::Stamp(stamp) => first(log, stamp as usize),
+        TracePoint::Call(nr) => first(log, place_of(nr, log)),
+        TracePoint::Count(_) => log,
     }
 }
 
@@ -57,7 +57,7 @@ pub fn bring<K: SyscallKernel>(
     version: &mut Version,
     rules: Option<&Filter>,
     kernel: &K,
-    point: Point,
+    point: TracePoint,
 )
     requires { IsFresh threads version.old.index version.old }
     ensures at { let judge = judge_of (option_map (λ f. f.now) rules.entry) version.old.index in

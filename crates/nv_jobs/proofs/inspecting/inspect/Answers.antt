@@ -3,7 +3,7 @@ use Rattle.nv_command.specs.Words.{Inspects}
 use Rattle.nv_command.specs.Seen.{look_view}
 use Rattle.nv_replay.specs.Follow.{Follower, follow, fresh, judge_of}
 use Rattle.nv_retrace.specs.Points.{at_point, events_to}
-use Rattle.nv_retrace.specs.declared.points.Point.{Point}
+use Rattle.nv_retrace.specs.declared.points.TracePoint.{TracePoint}
 use Rattle.nv_script.specs.Views.{setup_of}
 use Rattle.nv_threads.specs.Threads.{Proc, threads, started}
 use Rattle.nv_jobs.specs.Due.{shown, shown_of, traced_outcome}
@@ -22,11 +22,11 @@ returns-in-Ok g c = λ words asked.
     let log = traced.kernel.log in
     let point = point_of look.point in
     let files : Traced = record { setup = setup_of traced.script; rules = traced.rules; log = log; machine = ready.machine } in
-    let by : ℕ → Point → Proc → Follower Proc = λ i p process. follow threads (judge_of traced.rules i) (events_to p log) (fresh process) in
+    let by : ℕ → TracePoint → Proc → Follower Proc = λ i p process. follow threads (judge_of traced.rules i) (events_to p log) (fresh process) in
     let at = by traced.version.index c.point.result traced.version.at.process in
     let is : at ≡ at_point traced.rules look.trail.index log point look.trail.budget ready.machine =
     ap (λ (i : ℕ). by i c.point.result traced.version.at.process) ready.fresh.index
-    ∙ ap (λ (p : Point). by look.trail.index p traced.version.at.process) c.point.ensures
+    ∙ ap (λ (p : TracePoint). by look.trail.index p traced.version.at.process) c.point.ensures
     ∙ ap (by look.trail.index point) (ready.begins ∙ ap (started ready.machine) c.budget.ensures.is) in
     wrote_answers words source (Inspects look) asked _ _ _ _ _ (shown_of files look.dump at)
     (record { finds = ready.comes.finds; agree = ready.comes.agree; comes = ap (shown_of files look.dump) is ∙ sym (ap (traced_outcome look.trail (shown look)) ready.comes.is) })

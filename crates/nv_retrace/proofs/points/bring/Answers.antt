@@ -6,16 +6,16 @@ use Rattle.nv_threads.specs.Threads.{Proc, threads}
 use Rattle.nv_replay.specs.Follow.{Follower, IsInStep, follow, judge_of}
 use Rattle.nv_replay.specs.Versions.{Running, IsFresh}
 use Rattle.nv_retrace.specs.Points.{place_of, events_to}
-use Rattle.nv_retrace.specs.declared.points.Point.{Point}
-use Rattle.nv_retrace.specs.declared.points.Point.TheVariants.{Stamp, Call, Count}
+use Rattle.nv_retrace.specs.declared.points.TracePoint.{TracePoint}
+use Rattle.nv_retrace.specs.declared.points.TracePoint.TheVariants.{Stamp, Call, Count}
 use Rattle.nv_retrace.proofs.points.bring.Goals as goal
 
-lawful_to : (point : Point) (log : List Entry) → IsLawful log → IsLawful (events_to point log)
+lawful_to : (point : TracePoint) (log : List Entry) → IsLawful log → IsLawful (events_to point log)
 lawful_to (Stamp n) log ok = lawful_take log n ok
 lawful_to (Call nr) log ok = lawful_take log (place_of nr log) ok
 lawful_to (Count n) log ok = ok
 
-shorter : (point : Point) (log : List Entry) → length (events_to point log) ≤ length log
+shorter : (point : TracePoint) (log : List Entry) → length (events_to point log) ≤ length log
 shorter (Stamp n) log = omega (arith, length-take n log)
 shorter (Call nr) log = omega (arith, length-take (place_of nr log) log)
 shorter (Count n) log = omega arith
