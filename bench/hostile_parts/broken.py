@@ -5,9 +5,10 @@ import sys
 import time
 
 from hostile_parts.guests import (
-    ALLOWING, BUSY, EXAMPLE, FORMS, GETEUID, LONG_RULE, RULE_FORMS, SCRIPT, TELLING, THREADS, GETEUID_CALL, WITH_GETUID, image, made_line, told)
-from hostile_parts.program import BYTES, LIMITS, MEMORY, MIB, TOP, account_of, is_answer, is_refusal, is_small, write
-from hostile_parts.readers import Refused, Wrong, read_filter, read_script, read_version
+    ALLOWING, BUSY, EXAMPLE, EXAMPLE_EVENTS, FORMS, GETEUID, HANDING, LONG_RULE, RULE_FORMS, SCRIPT, TELLING, THREADS, GETEUID_CALL, WITH_GETUID, image,
+    made_line, told, told_events)
+from hostile_parts.program import BYTES, FOLLOWING, LIMITS, MEMORY, MIB, TOP, account_of, is_answer, is_refusal, is_replay, is_small, write
+from hostile_parts.readers import CHECKS, Refused, Wrong, read_filter, read_script, read_trace, read_version, trace_of
 
 # Of the longest version every byte up to the first number is changed, and behind it every byte at a step of the second.
 SERVICE_DENSE, SERVICE_STEP = 116, 31
@@ -62,7 +63,7 @@ class Broken:
 
     def scripts(self):
         write("v", self.assembled(TELLING))
-        for content in damaged_text(SCRIPT):
+        for content in [*damaged_text(SCRIPT), *damaged_text(HANDING)]:
             write("s", content)
 
             def look(answer, words, content=content):
@@ -70,7 +71,7 @@ class Broken:
                     script = read_script(content)
                 except Refused as fault:
                     return is_refusal(answer, "s", str(fault))
-                account = account_of(answer, words)
+                account = account_of(answer, words, handed=bool(script.hands))
                 shown, status = told(script)
                 if account.output != shown or [fate for fate, *_ in account.versions] != [f"exited {status}"] * 2:
                     raise Wrong(f"not what the script says: {shown!r}, {status}")
@@ -151,9 +152,57 @@ class Broken:
             self.version(f"version: {name}", plain, content, damaged(content))
         self.version("version: service", requests, service, damaged(service, dense=SERVICE_DENSE, step=SERVICE_STEP))
 
+    def traces(self):
+        """A damaged trace, rehearsed and inspected: of the example, and of the guest that tells what its script says."""
+        with open(os.path.join(TOP, "crates", "varan", "data", "v"), "rb") as file:
+            write("example", file.read())
+        write("telling", self.assembled(TELLING))
+        script = read_script(HANDING)
+        shown, _ = told(script)
+        for name, content, events, step in (
+            ("example", b"varan-script 1\n", EXAMPLE_EVENTS, 1), ("telling", HANDING, told_events(script, shown), 7),
+        ):
+            write("s", content)
+            whole = trace_of(events)
+            self.answer("record", ["record", "--script", "s", *LIMITS, name, name], lambda answer, _, whole=whole: is_answer(answer, 0, whole))
+            for trace in [whole, *damaged(whole, dense=116, step=step)]:
+                write("t", trace)
+                try:
+                    length, fault = len(read_trace(trace)), None
+                except Refused as refused:
+                    length, fault = 0, str(refused)
+
+                def is_checked(answer, length):
+                    """Whether the kernel of the script doesn't come to the trace's events."""
+                    found = re.fullmatch(rb"varan: input t: (.*)\n", answer.text)
+                    if answer.status != 4 or not found:
+                        return False
+                    cause = CHECKS.fullmatch(found[1].decode("latin1"))
+                    if not cause or int(cause[2]) >= length:
+                        raise Wrong("no cause of a trace")
+                    return True
+
+                def rehearsed(answer, _, fault=fault, length=length, sound=trace == whole):
+                    if fault:
+                        return is_refusal(answer, "t", fault)
+                    if sound or not is_checked(answer, length):
+                        is_replay(answer, length)
+                    if sound and answer.text != b"replay exited %d seen %d rewrites 0\n" % (events[-1].arguments[0], length):
+                        raise Wrong("a whole trace isn't followed to its end")
+
+                def inspected(answer, _, fault=fault, length=length, sound=trace == whole):
+                    if fault:
+                        return is_refusal(answer, "t", fault)
+                    if (sound or not is_checked(answer, length)) and (answer.status != 0 or not answer.text.startswith(b"at seen ")):
+                        raise Wrong("no state of a version")
+
+                self.answer("replay", ["replay", "--script", "s", *FOLLOWING, "t", name], rehearsed)
+                self.answer("inspect", ["inspect", "--script", "s", *FOLLOWING, "--stamp", "1", "t", name], inspected)
+
     def version(self, kind, script, whole, contents):
         """The damaged version behind the example, which leads; and before the undamaged one, which may have to take over."""
         write("s", script)
+        write("h", script.replace(b"varan-script 1\n", b"varan-script 2\nhand 1\nhand 2\n"))
         with open(os.path.join(TOP, "crates", "varan", "data", "v"), "rb") as file:
             write("example", file.read())
         write("v", whole)
@@ -181,7 +230,14 @@ class Broken:
                     raise Wrong("not two versions")
 
             self.answer(kind, ["run", "--script", "s", *LIMITS, "example", "w"], behind, form=True)
+            def handed(answer, words, fault=fault):
+                if fault:
+                    return is_refusal(answer, "w", fault)
+                if len(account_of(answer, words, handed=True).versions) != 3:
+                    raise Wrong("not three versions")
+
             self.answer(kind, ["run", "--script", "s", *LIMITS, "w", "v"], before, form=True)
+            self.answer(f"{kind}, handed", ["run", "--script", "h", *LIMITS, "v", "w", "v"], handed, form=True)
 
     def generated(self):
         for word in ("0", "1", "2", "007", "63", "64", "8999", "9000", "999999", "00000000000000000000012"):
@@ -193,7 +249,7 @@ class Broken:
             self.answer("gen", words, lambda answer, _: is_answer(answer, 2, b"varan: usage\n"))
 
     def run(self):
-        for sweep in (self.scripts, self.rules, self.rule_texts, self.texts, self.versions, self.generated):
+        for sweep in (self.scripts, self.rules, self.rule_texts, self.texts, self.versions, self.traces, self.generated):
             begun = time.perf_counter()
             sweep()
             print(f"{sweep.__name__}: {time.perf_counter() - begun:.0f} seconds", flush=True)

@@ -5,13 +5,17 @@ import signal
 
 from hostile_parts.guests import image
 from hostile_parts.program import account_of, is_answer, is_refusal, is_small, write
-from hostile_parts.readers import Wrong
+from hostile_parts.readers import Event, Wrong, trace_of
 
 NOBODY = 65_534
 FILE = 4_194_304
+TRACE = 67_108_864
 USAGE = b"varan: usage\n"
 SCRIPT = b"varan-script 1\n"
+HANDING = b"varan-script 2\nhand 1\n"
 QUIET = [0x05E00893, 0x00000073]
+QUIET_TRACE = trace_of([Event(100, 94, [0] * 6, 0, 0, b"", b"")])
+REHEARSED = b"replay exited 0 seen 1 rewrites 0\n"
 NOPS = b"nop\n" * 30_000
 NOPS_MADE = image([0x00000013] * 30_000)
 
@@ -27,6 +31,13 @@ REFUSED = [
         "--memory=131071", "--memory=126976", "--memory=131073", "--memory=16777217", "--memory=16781312", "--memory=18446744073709682688",
         "--budget=0", "--budget=1000000001", "--calls=0", "--calls=131073", "--threads=0", "--threads=9", "--calls=3 ", "--calls= 3", "--rules")],
     ["asm"], ["asm", "a", "a"], ["asm", "--asm", "a"],
+    ["record", "v"], ["record", "--script", "s"], ["record", "--json", "--script", "s", "v"], ["record", "--script", "s", *["v"] * 9],
+    ["replay", "--script", "s", "q"], ["replay", "q", "v"], ["replay", "--script", "s", "q", "v", "v"], ["replay", "--script", "s", "--json", "q", "v"],
+    *[["replay", "--script", "s", option, "q", "v"] for option in ("--index=8", "--index=", "--calls=1", "--ring=2", "--threads=1", "--budget=0", "--stamp=1")],
+    ["inspect", "--script", "s", "q", "v"], ["inspect", "--script", "s", "--stamp=1", "--call=94", "q", "v"], ["inspect", "--script", "s", "--stamp=1", "q"],
+    *[["inspect", "--script", "s", *options, "q", "v"] for options in (
+        ["--count=0"], ["--count=1000000001"], ["--stamp=1", "--dump=0"], ["--stamp=1", "--length=1"], ["--stamp=1", "--dump=0", "--length=4097"],
+        ["--stamp=1", "--dump=4294967295", "--length=1"], ["--stamp=4294967296"], ["--call="])],
     ["rules"], ["rules", "r", "r"], ["rules", "--asm"], ["rules", "--asm", "--asm", "t"], ["rules", "--json", "r"],
 ]
 
@@ -36,6 +47,13 @@ ACCEPTED = [
     ["run", "--script", "s", "--ring", "2", "--memory=135168", "--budget", "0000000004", "--calls=1", "--threads", "1", "v"],
     ["run", "--script", "s", "--ring=1024", "--memory", "16777216", "--budget=1000000000", "--calls", "131072", "--threads=8", "v"],
     ["run", "--script", "s", *["v"] * 8],
+    ["run", "--script", "h", "v", "v"],
+]
+
+# The same of the other commands over versions, with what they write.
+WRITING = [
+    (["record", "v", "--script", "s"], QUIET_TRACE), (["record", "--script=h", "--calls", "1", "v", "v"], QUIET_TRACE),
+    (["replay", "--script", "s", "q", "v"], REHEARSED), (["replay", "q", "--index=7", "--script=h", "--", "v"], REHEARSED),
 ]
 
 
@@ -69,6 +87,8 @@ class Edges:
                     raise Wrong("not exited")
 
             self.tally.add("edge: words", words, self.program.run(words), look)
+        for words, text in WRITING:
+            self.answer("edge: words", words, 0, text)
 
     def unread(self):
         """Files that aren't there, aren't files, may not be read, or fail when they are read."""
@@ -83,6 +103,8 @@ class Edges:
             for words in (
                 ["run", "--script", name, "v"], ["run", "--script=" + name, "--rules", name, name], ["run", "--script", "s", "--rules", name, "bad"],
                 ["run", "--script", "s", "--rules", "r", "v", name, "bad"], ["asm", name], ["rules", name], ["rules", "--asm", name],
+                ["record", "--script", "h", "v", name, "bad"], ["replay", "--script", name, "q", "v"], ["replay", "--script", "s", name, "bad"],
+                ["replay", "--script", "s", "--rules", name, "bad", "bad"], ["inspect", "--script", "s", "--stamp=0", "q", name],
             ):
                 self.answer("edge: unread", words, 5, text, user)
         for words, status, text in (
@@ -91,6 +113,10 @@ class Edges:
             (["run", "--script", "s", "bad", "missing"], 4, b"varan: input bad: short\n"),
             (["run", "--script", "s", "v", "v", "bad", "missing"], 4, b"varan: input bad: short\n"),
             (["run", "--script", "missing", "--rules", "bad", "bad"], 5, b"varan: read missing\n"),
+            (["record", "--script", "h", "bad", "missing"], 4, b"varan: input bad: short\n"),
+            (["replay", "--script", "s", "bad", "missing"], 4, b"varan: input bad: magic\n"),
+            (["replay", "--script", "s", "--rules", "bad", "missing", "missing"], 4, b"varan: input bad: line 1\n"),
+            (["inspect", "--script", "s", "--stamp=0", "missing", "bad"], 5, b"varan: read missing\n"),
         ):
             self.answer("edge: order", words, status, text)
 
@@ -98,7 +124,7 @@ class Edges:
         """Files without bytes, without an end, at the limit of length and one byte past it."""
         for words, cause in (
             (["run", "--script", "x", "v"], "line 1 form"), (["run", "--script", "s", "--rules", "x", "v"], "line 1"), (["run", "--script", "s", "v", "x"], "short"),
-            (["rules", "x"], "line 1"), (["rules", "--asm", "x"], "empty"), (["asm", "x"], "line 1 range"),
+            (["rules", "x"], "line 1"), (["rules", "--asm", "x"], "empty"), (["asm", "x"], "line 1 range"), (["replay", "--script", "s", "q", "x"], "short"),
         ):
             for name, told in (("/dev/null", cause), ("/dev/zero", "long")):
                 self.refusal([name if word == "x" else word for word in words], name, told)
@@ -116,12 +142,29 @@ class Edges:
             self.answer("edge: length", words, 0, made)
             write("x", front + fill * (FILE + 1 - len(front) - len(back)) + back)
             self.refusal(words, "x", "long")
+        self.trace_lengths()
         os.unlink("x")
+
+    def trace_lengths(self):
+        """Traces without bytes, at the limit of length, and one byte past it: what follows the events of a trace is refused."""
+        words = ["replay", "--script", "s", "x", "v"]
+        for content, cause in (
+            (b"", "magic"), (QUIET_TRACE[:12], "short 0"), (QUIET_TRACE + b"\0", "extra"),
+            (QUIET_TRACE + bytes(TRACE - len(QUIET_TRACE)), "extra"), (QUIET_TRACE + bytes(TRACE + 1 - len(QUIET_TRACE)), "long"),
+        ):
+            write("x", content)
+
+            def look(answer, cause=cause):
+                is_refusal(answer, "x", cause)
+
+            self.tally.add("edge: length", [*words, f"({len(content)} bytes)"], self.program.run(words), look)
 
     def outputs(self):
         """Standard output closed, full, not for writing, a pipe that nobody reads, and one that takes a part."""
         lines = [
             ["run", "--script", "s", "v"], ["run", "--json", "--script", "s", "v"], ["run", "--script", "s", "missing"], ["run", "--script", "bad", "v"], ["run"], [],
+            ["run", "--script", "h", "v", "v"], ["record", "--script", "h", "v", "v"], ["record", "--script", "s", "bad"], ["replay", "--script", "s", "q", "v"],
+            ["replay", "--script", "s", "bad", "v"], ["inspect", "--script", "s", "--stamp=0", "q", "v"],
             ["asm", "a"], ["asm", "bad"], ["rules", "r"], ["rules", "bad"], ["rules", "--asm", "t"], ["gen", "0"], ["asm", b"\xff"],
         ]
         end, unheard = os.pipe()
@@ -169,7 +212,9 @@ class Edges:
     def run(self):
         os.chmod(".", 0o755)
         write("s", SCRIPT)
+        write("h", HANDING)
         write("v", image(QUIET))
+        write("q", QUIET_TRACE)
         write("bad", b"bad")
         write("r", b"1\n6 0 0 0\n")
         write("t", b"ret #0\n")

@@ -2,8 +2,8 @@
 import os
 import subprocess
 
-from hostile_parts.guests import ALLOWING, BUSY, FORMS, GETEUID_CALL, RULE_FORMS, SCRIPT, TELLING, THREADS, WITH_GETUID, image
-from hostile_parts.program import LIMITS, TOP, account_of, is_answer, is_small, write
+from hostile_parts.guests import ALLOWING, BUSY, FORMS, GETEUID_CALL, HANDING, RULE_FORMS, SCRIPT, TELLING, THREADS, WITH_GETUID, image
+from hostile_parts.program import FOLLOWING, LIMITS, TOP, account_of, is_answer, is_small, write
 from hostile_parts.readers import Wrong, read_json, read_report
 
 WANTING = b"varan: memory\n"
@@ -29,6 +29,17 @@ def led_on(whole, account):
         raise Wrong(f"the second version: {rest}")
 
 
+def led_still(whole, account):
+    """Equal versions that hand over, of which one has no memory for an event: the log is as before, and the others come to its end."""
+    length = len(whole.events)
+    if (account.output, account.events) != (whole.output, whole.events):
+        raise Wrong("another log")
+    wanting = [version for version in account.versions if version[0] == "memory"]
+    rest = [version for version in account.versions if version[0] != "memory"]
+    if len(wanting) != 1 or any((fate, seen, rewrites) != (whole.versions[0][0], length, 0) for fate, seen, _, rewrites in rest):
+        raise Wrong(f"the versions: {account.versions}")
+
+
 class Failing:
     """Each call of the C library by which the program takes memory, opens, reads and writes fails once (failing.c)."""
 
@@ -52,11 +63,12 @@ class Failing:
         os.unlink("counted")
         return answer, counts
 
-    def sweep(self, name, words, files, wanting=()):
-        """`files` are those that the words name, in reading order; `wanting` the further reports that a leader without memory may come to."""
+    def sweep(self, name, words, files, wanting=(), handed=False):
+        """`files` are those that the words name, in reading order; `wanting` the further reports that a leader without memory may come to;
+        `handed` says that the script plans lengths."""
         whole, counts = self.preloaded(words)
         self.tally.add(f"failing: {name}", words, whole, lambda answer: is_answer(answer, 0, whole.text))
-        account = account_of(whole, words) if words[0] == "run" else None
+        account = account_of(whole, words, handed) if words[0] == "run" else None
         reader = read_json if "--json" in words else read_report
 
         def wants(answer):
@@ -64,7 +76,7 @@ class Failing:
                 return
             if account is None or answer.status != 0 or wanting:
                 raise Wrong("neither the whole answer nor want of memory")
-            led_on(account, reader(answer.text))
+            (led_still if handed else led_on)(account, reader(answer.text, handed))
 
         reached = 0
 
@@ -110,6 +122,7 @@ class Failing:
             ["cc", "-O2", "-shared", "-fPIC", "-o", self.shim, os.path.join(TOP, "bench", "hostile_parts", "failing.c")], check=True)
         write("plain", b"varan-script 1\n")
         write("s", SCRIPT)
+        write("h", HANDING)
         write("r", ALLOWING)
         write("t", RULE_FORMS)
         write("a", FORMS)
@@ -121,12 +134,17 @@ class Failing:
         for threads in ("1", "2"):
             limits = [*LIMITS[:-1], threads]
             self.sweep(f"run of what a script says, {threads} threads", ["run", "--script", "s", *limits, "telling", "telling"], ["s", "telling", "telling"])
+            self.sweep(f"run that hands over, {threads} threads", ["run", "--script", "h", *limits, "telling", "telling"], ["h", "telling", "telling"], handed=True)
             for name in ("busy", "threads"):
                 for form in ([], ["--json"]):
                     words = ["run", *form, "--script", "plain", "--rules", "r", *limits, name, name]
                     self.sweep(f"run of {name}, {threads} threads{' '.join(['', *form])}", words, ["plain", "r", name, name])
             self.sweep(
                 f"run by rules, {threads} threads", ["run", "--script", "plain", "--rules", "r", *limits, "v", "w"], ["plain", "r", "v", "w"], (AT_FIRST, AT_EXIT))
+        self.sweep("record", ["record", "--script", "h", *LIMITS, "telling", "telling"], ["h", "telling", "telling"])
+        write("q", self.program.run(["record", "--script", "h", *LIMITS, "telling"]).text)
+        self.sweep("replay", ["replay", "--script", "h", "--rules", "r", *FOLLOWING, "q", "telling"], ["h", "r", "q", "telling"])
+        self.sweep("inspect", ["inspect", "--script", "h", *FOLLOWING, "--stamp", "5", "q", "telling"], ["h", "q", "telling"])
         self.sweep("asm", ["asm", "a"], ["a"])
         self.sweep("rules", ["rules", "r"], ["r"])
         self.sweep("rules --asm", ["rules", "--asm", "t"], ["t"])

@@ -1,6 +1,8 @@
 """Files of runs: guests as assembler texts, rules and scripts."""
 import struct
 
+from hostile_parts.readers import Event
+
 # Tells what a script says: the input, a file, the clock, random bytes, and the first byte of each argument.
 TELLING = b"""
     lw s0, 0(sp)
@@ -254,8 +256,23 @@ clock 5 999999999 1000000000
 random 4294967295
 """
 
+# The same in form 2, with lengths at which the lead is handed over.
+HANDING = b"""varan-script 2
+hand 3
+arg one word
+hand 1
+line typed
+file f 6162630a
+clock 5 999999999 1000000000
+random 4294967295
+hand 131072
+"""
+
 GETEUID_CALL = [0x0B100893, 0x00000073, 0x00000513, 0x05E00893, 0x00000073]
 WITH_GETUID = [0x0AE00893, 0x00000073, *GETEUID_CALL]
+
+# The events of the example in crates/varan/data.
+EXAMPLE_EVENTS = [Event(100, 64, [1, 0, 3, 0, 0, 0], 0, 3, b"hi\n", b""), Event(100, 94, [0] * 6, 0, 0, b"", b"")]
 
 # The report of the example in crates/varan/data (README.md, "Run it"), up to the number of versions.
 EXAMPLE = b"output 3\nhi\n\nlog 2\n0 100 64 1 0 3 0 0 0 = 3 : 68690a\n1 100 94 0 0 0 0 0 0 = 0 :\nfates "
@@ -280,6 +297,41 @@ def told(script):
         drawn += bytes([state >> 56])
     shown = script.input[:64] + script.files.get(b"f", b"")[:64] + struct.pack("<QQ", *divmod(moment, 10**9)) + drawn
     return shown + b"".join(text[:1] for text in script.arguments), (len(script.arguments) + 1) % 256
+
+
+def told_events(script, shown):
+    """The calls of `TELLING` with their replies, by what the script says and what it shows."""
+    place, given = 0, []
+    events = []
+
+    def event(nr, arguments, ret, handed=b"", got=b""):
+        events.append(Event(100, nr, arguments + [0] * (6 - len(arguments)), 0, ret, handed, got))
+
+    def say(count):
+        nonlocal place
+        given.append(shown[place:place + count])
+        event(64, [1, 0, count], count, shown[place:place + count])
+        place += count
+
+    typed = script.input[:64]
+    event(63, [0, 0, 64], len(typed), got=typed)
+    say(len(typed))
+    content = script.files.get(b"f")
+    event(56, [4294967196, 0, 0], -2 if content is None else 3, b"f")
+    if content is None:
+        event(63, [4294967294, 0, 64], -9)
+        say(0)
+    else:
+        event(63, [3, 0, 64], len(content[:64]), got=content[:64])
+        say(len(content[:64]))
+    event(403, [1, 0], 0, got=shown[place:place + 16])
+    say(16)
+    event(278, [0, 8, 0], 8, got=shown[place:place + 8])
+    say(8)
+    for _ in script.arguments:
+        say(1)
+    event(94, [(len(script.arguments) + 1) % 256], 0)
+    return events
 
 
 def made_line(number):

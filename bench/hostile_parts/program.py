@@ -5,7 +5,7 @@ import resource
 import shutil
 import signal
 
-from hostile_parts.readers import Wrong, read_json, read_report
+from hostile_parts.readers import REPLAY, Wrong, read_json, read_report
 
 TOP = os.path.dirname(os.path.dirname(os.path.dirname(os.path.abspath(__file__))))
 MIB = 1 << 20
@@ -20,6 +20,9 @@ CLOCK = 60.0
 SIGNALS = (signal.SIGPIPE, signal.SIGXFSZ)
 
 STATUSES = (0, 1, 2, 3, 4, 5, 6, 7)
+
+# What a rehearsal and an inspection take of these.
+FOLLOWING = ["--memory", str(262_144), "--budget", "20000"]
 
 BYTES = (0, 1, 127, 128, 255)
 MEMORY = 262_144
@@ -147,9 +150,18 @@ def is_small(answer):
         raise Wrong(f"{answer.processor:.2f} seconds of the processor, {answer.resident / MIB:.0f} MiB")
 
 
-def account_of(answer, words):
+def is_replay(answer, length):
+    """The line of a rehearsal over so many events, whose status is that of its end."""
+    found = REPLAY.fullmatch(answer.text)
+    if not found or int(found["seen"]) > length:
+        raise Wrong("no line of a rehearsal")
+    if answer.status != (0 if found["end"].startswith((b"exited", b"in step")) else 1):
+        raise Wrong("the status isn't that of the end")
+
+
+def account_of(answer, words, handed=False):
     """The report that a run wrote, whose status is that of its fates."""
-    account = read_json(answer.text) if "--json" in words else read_report(answer.text)
+    account = read_json(answer.text, handed) if "--json" in words else read_report(answer.text, handed)
     if answer.status != account.status() or answer.status == 7:
         raise Wrong("the status isn't that of the fates")
     return account

@@ -1,5 +1,5 @@
 """Readers of what the program reads and writes, for bench/hostile.py. They are written from the descriptions of the forms (docs/SCRIPT.md,
-docs/RULES.md, docs/REPORT.md, docs/HOSTILE.md, the System V ABI's ELF32, the filters of McCanne and Jacobson), not from the program.
+docs/RULES.md, docs/REPORT.md, docs/TRACES.md, docs/HOSTILE.md, the System V ABI's ELF32, the filters of McCanne and Jacobson), not from the program.
 
 Each reader of a file raises `Refused` with the cause that the program has to name.
 """
@@ -38,16 +38,20 @@ def unhex(text):
 
 # Scripts
 
+WORDS = (b"arg", b"line", b"input", b"file", b"clock", b"random")
+FORMS = {b"varan-script 1": WORDS, b"varan-script 2": (*WORDS, b"hand"), b"varan-script 3": (*WORDS, b"hand", b"connect")}
+
 
 class Script:
     def __init__(self):
         self.arguments, self.input, self.files, self.clock, self.seed = [], b"", {}, None, None
+        self.hands, self.connections = [], []
 
 
-def script_line(script, line):
+def script_line(script, line, known):
     """Takes one line in, or answers its cause."""
     word, space, rest = line.partition(b" ")
-    if word not in (b"arg", b"line", b"input", b"file", b"clock", b"random"):
+    if word not in known:
         return "word"
     if not space:
         return "shape"
@@ -83,6 +87,27 @@ def script_line(script, line):
         if script.clock is not None:
             return "twice"
         script.clock = numbers
+    elif word == b"hand":
+        length = number(rest)
+        if length is None:
+            return "shape"
+        if not 1 <= length <= 131_072:
+            return "range"
+        if length in script.hands:
+            return "twice"
+        if len(script.hands) == 8:
+            return "long"
+        script.hands.append(length)
+    elif word == b"connect":
+        port, _, text = rest.partition(b" ")
+        port, content = number(port), unhex(text)
+        if port is None or content is None:
+            return "shape"
+        if not 1 <= port <= 65_535:
+            return "range"
+        if len(script.connections) == 64 or len(content) > 1_048_576:
+            return "long"
+        script.connections.append((port, content))
     else:
         seed = number(rest)
         if seed is None:
@@ -95,11 +120,11 @@ def script_line(script, line):
 
 def read_script(content):
     lines = lines_of(content)
-    if not lines or lines[0] != b"varan-script 1":
+    if not lines or lines[0] not in FORMS:
         raise Refused("line 1 form")
     script = Script()
     for place, line in enumerate(lines[1:], 2):
-        cause = script_line(script, line) if line and not line.startswith(b"#") else None
+        cause = script_line(script, line, FORMS[lines[0]]) if line and not line.startswith(b"#") else None
         if cause:
             raise Refused(f"line {place} {cause}")
     return script
@@ -206,19 +231,71 @@ def read_version(content, memory, arguments=()):
     return spans
 
 
+# Traces
+
+MAGIC = b"VARANTR1"
+
+
+class Event:
+    """An event: its thread, number, arguments and result, whether the call is bad, and the bytes that it hands in and gets."""
+
+    def __init__(self, tid, nr, arguments, bad, ret, given, got):
+        self.tid, self.nr, self.arguments, self.bad, self.ret, self.given, self.got = tid, nr, arguments, bad, ret, given, got
+
+    def bytes(self):
+        return struct.pack("<8IIiII", self.tid, self.nr, *self.arguments, self.bad, self.ret, len(self.given), len(self.got)) + self.given + self.got
+
+
+def trace_of(events):
+    return MAGIC + struct.pack("<I", len(events)) + b"".join(event.bytes() for event in events)
+
+
+def read_trace(content):
+    if len(content) < 12 or content[:8] != MAGIC:
+        raise Refused("magic")
+    count = struct.unpack_from("<I", content, 8)[0]
+    if count > 131_072:
+        raise Refused("count")
+    events, place = [], 12
+    for i in range(count):
+        if place + 48 > len(content):
+            raise Refused(f"short {i}")
+        *fields, bad, ret, given, got = struct.unpack_from("<8IIiII", content, place)
+        if bad > 1 or given + got > 4096:
+            raise Refused(f"field {i}")
+        place += 48
+        if place + given + got > len(content):
+            raise Refused(f"short {i}")
+        events.append(Event(fields[0], fields[1], fields[2:], bad, ret, content[place:place + given], content[place + given:place + given + got]))
+        place += given + got
+    if place != len(content):
+        raise Refused("extra")
+    return events
+
+
+# The causes of a trace that its script's kernel doesn't come to.
+CHECKS = re.compile(r"(ended|shape|thread|reply) (0|[1-9][0-9]*)")
+
+
 # Reports
 
 NUMBER = r"(0|[1-9][0-9]*)"
+PART = r"(?:0|[1-9][0-9]*)-(?:0|[1-9][0-9]*)"
 KINDS = "illegal|misaligned|fetch|load|store|breakpoint|budget|deadlock|calls"
 EVENT = re.compile(rf"{NUMBER} {NUMBER} {NUMBER}((?: (?:0|[1-9][0-9]*)){{6}}) = (0|-?[1-9][0-9]*) :(?: ((?:[0-9a-f]{{2}})+))?".encode())
 FATE = re.compile(
     rf"{NUMBER} (exited {NUMBER}|fault (?:{KINDS}) {NUMBER} [0-9a-f]{{8}}|refused {NUMBER} {NUMBER} {NUMBER} [0-9a-f]{{8}}|memory)"
-    rf" seen {NUMBER} led (?:{NUMBER}-{NUMBER}|-) rewrites {NUMBER}".encode()
+    rf" seen {NUMBER} led (?P<led>{PART}(?:,{PART})*|-) rewrites (?P<rewrites>{NUMBER})".encode()
+)
+REPLAY = re.compile(
+    rf"replay (?P<end>exited {NUMBER}|in step|fault (?:{KINDS}) {NUMBER} [0-9a-f]{{8}}|refused {NUMBER} {NUMBER} {NUMBER} [0-9a-f]{{8}})"
+    rf" seen (?P<seen>{NUMBER}) rewrites {NUMBER}\n".encode()
 )
 
 
 class Account:
-    """A report that was read: the console's bytes; events (thread, number, arguments, result, payload); versions (fate, seen, span, rewrites)."""
+    """A report that was read: the console's bytes; events (thread, number, arguments, result, payload); versions (fate, seen, span, rewrites).
+    A span is None, a pair of places, or, where the lead was handed over, several pairs."""
 
     def __init__(self, output, events, versions):
         self.output, self.events, self.versions = output, events, versions
@@ -247,7 +324,17 @@ def taken(rest, count):
     return lines[:count], lines[count]
 
 
-def read_report(text):
+def span_of(parts):
+    """The span of these parts: none, the one, or all of them."""
+    return None if not parts else parts[0] if len(parts) == 1 else tuple(parts)
+
+
+def parts_of(span):
+    return [] if span is None else [span] if isinstance(span[0], int) else list(span)
+
+
+def read_report(text, handed=False):
+    """A report; `handed` says that the script plans lengths, so that a version may lead more than once."""
     size, rest = counted(text, b"output")
     output = rest[:size]
     if len(rest) <= size or rest[size:size + 1] != b"\n":
@@ -270,9 +357,10 @@ def read_report(text):
         found = FATE.fullmatch(line)
         if not found or int(found[1]) != place:
             raise Wrong(f"line of version {place}: {line[:60]!r}")
-        span = (int(found[9]), int(found[10])) if found[9] else None
-        versions.append((found[2].decode(), int(found[8]), span, int(found[11])))
-    return checked(Account(output, events, versions))
+        led = found["led"].decode()
+        span = None if led == "-" else span_of([tuple(map(int, part.split("-"))) for part in led.split(",")])
+        versions.append((found[2].decode(), int(found[8]), span, int(found["rewrites"])))
+    return checked(Account(output, events, versions), handed)
 
 
 def json_fate(item):
@@ -286,14 +374,14 @@ def json_fate(item):
     return kind
 
 
-def read_json(text):
+def read_json(text, handed=False):
     try:
         whole = json.loads(text)
         again = json.dumps(whole, separators=(",", ":"), sort_keys=True) + "\n"
         events = [(i["tid"], i["nr"], i["args"], i["ret"], bytes.fromhex(i["payload"])) for i in whole["log"]]
         versions = []
         for item in whole["fates"]:
-            span = tuple(item["led"][0]) if item["led"] else None
+            span = span_of([tuple(part) for part in item["led"]])
             versions.append((json_fate(item), item["seen"], span, item["rewrites"]))
         account = Account(bytes.fromhex(whole["output"]), events, versions)
     except (ValueError, KeyError, TypeError, IndexError) as fault:
@@ -302,25 +390,28 @@ def read_json(text):
         raise Wrong("the JSON isn't compact, or its keys are in another order")
     if [item["stamp"] for item in whole["log"]] != list(range(len(events))):
         raise Wrong("the stamps aren't the places")
-    return checked(account)
+    return checked(account, handed)
 
 
-def checked(account):
-    """The account, whose numbers fit together."""
+def checked(account, handed):
+    """The account, whose numbers fit together. Without planned lengths the versions lead in order, each once."""
     length = len(account.events)
     reached = 0
     for tid, nr, arguments, ret, payload in account.events:
         if max(tid, nr, *arguments) >= 2**32 or not -(2**31) <= ret < 2**31 or len(payload) > 4096 or len(arguments) != 6:
             raise Wrong("an event past its limits")
+    parts = [part for _, _, span, _ in account.versions for part in parts_of(span)]
+    for start, end in sorted(parts) if handed else parts:
+        if start != reached or not start <= end <= length:
+            raise Wrong(f"the span {start}-{end} behind {reached}")
+        reached = end
     for fate, seen, span, _ in account.versions:
         kind = fate.split()[0]
-        if span:
-            if span[0] != reached or not span[0] <= span[1] <= length or seen != span[1]:
-                raise Wrong(f"the span {span} behind {reached}")
-            reached = span[1]
+        if span and (seen < parts_of(span)[-1][1] if handed else seen != span[1]):
+            raise Wrong(f"seen {seen}, led {span}")
         if seen > length or kind == "exited" and seen != length:
             raise Wrong(f"seen {seen} of {length}: {fate}")
-        if kind == "refused" and (span or int(fate.split()[3]) != seen):
+        if kind == "refused" and (span and not handed or int(fate.split()[3]) != seen):
             raise Wrong(f"seen {seen}, led {span}: {fate}")
         if kind == "exited" and int(fate.split()[1]) > 255 or kind == "memory" and not span:
             raise Wrong(fate)

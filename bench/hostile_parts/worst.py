@@ -4,7 +4,7 @@ import struct
 
 from hostile_parts.guests import image, made_line
 from hostile_parts.program import MIB, write, write_all
-from hostile_parts.readers import Wrong
+from hostile_parts.readers import Event, Wrong, trace_of
 
 SCRIPT = b"varan-script 1\n"
 CALLS = ["--calls", "131072", "--budget", "1000000000"]
@@ -271,6 +271,36 @@ class Worst:
             due = report(b"", count, events, fates)
             self.row("8 versions, seven break at the last event", count, ["run", "--script", "s", *CALLS, *[f"w{i}" for i in range(8)]], due)
 
+    def handed(self):
+        """Eight versions and eight planned lengths, the last at the last event: each leads once, and the first again at the end."""
+        for count in (MOST // 4, MOST // 2, MOST):
+            lengths = [count // 8 * i for i in range(1, 8)] + [count - 1]
+            write("s", b"varan-script 2\n" + b"".join(b"hand %d\n" % length for length in lengths))
+            self.assembled("v", loop(count - 1, "li a7, 174\necall\n") + EXIT)
+            events = itertools.chain(itertools.repeat((174, [], 1000), count - 1), [(94, [0], 0)])
+            spans = [f"{start}-{end}" for start, end in zip([0, *lengths], [*lengths, count])]
+            led = [f"{spans[0]},{spans[8]}", *spans[1:8]]
+            fates = [f"exited 0 seen {count} led {part} rewrites 0" for part in led]
+            self.row("8 versions, 8 planned lengths", count, ["run", "--script", "s", *CALLS, *["v"] * 8], report(b"", count, events, fates))
+            quiet = [Event(100, 174, [0] * 6, 0, 1000, b"", b"")] * (count - 1) + [Event(100, 94, [0] * 6, 0, 0, b"", b"")]
+            trace = trace_of(quiet)
+            self.row("record, 8 versions, 8 planned lengths", count, ["record", "--script", "s", *CALLS, *["v"] * 8], [trace])
+            write("t", trace)
+            self.row("replay of a whole log", count, ["replay", "--script", "s", "t", "v"], [b"replay exited 0 seen %d rewrites 0\n" % count])
+
+    def traces(self):
+        """Traces up to the limit of length: of the largest payloads, and ones that break at the last byte."""
+        write("s", SCRIPT)
+        self.assembled("v", EXIT)
+        for count in (4_000, 8_000, 16_000):
+            written = [Event(100, 64, [1, 0, 4096, 0, 0, 0], 0, 4096 if i < 4096 else -28, b"a" * 4096, b"") for i in range(count)]
+            trace = trace_of(written)
+            write("t", trace)
+            refused = [b"replay refused 100 94 0 00000000 seen 0 rewrites 0\n"]
+            self.row("replay of writes of 4,096 bytes", count, ["replay", "--script", "s", "t", "v"], refused, status=1, payload=count * 4096)
+            write("t", trace[:-1])
+            self.row("a trace cut at its last byte", count, ["replay", "--script", "s", "t", "v"], [b"varan: input t: short %d\n" % (count - 1)], status=4)
+
     def large_versions(self):
         """Eight versions of the largest file in the largest memory."""
         write("s", SCRIPT)
@@ -393,6 +423,6 @@ class Worst:
 
     def run(self):
         print(f"{'worst case':58}{'size':>12}{'CPU s':>9}{'MiB':>11}  of its payload")
-        for part in (self.words, self.files, self.rules, self.texts, self.last_event, self.large_versions, self.payloads, self.vectors, self.gaps,
+        for part in (self.words, self.files, self.rules, self.texts, self.last_event, self.handed, self.traces, self.large_versions, self.payloads, self.vectors, self.gaps,
                      self.instructions, self.generated):
             part()
