@@ -2,7 +2,7 @@
 //! Functions: one a law; their contracts are the laws.
 //! Proved: the tables stay sound; what is made takes no number in use; a close frees just what nothing else holds; a call on
 //! a descriptor changes no other open file, file or pipe.
-//! Above: the laws of sockets.
+//! Of the input and the console they say nothing. Above: the laws of sockets.
 #![tactic(auto)]
 
 mod laws;

@@ -15,7 +15,7 @@ fn after(ops: &[Op], count: usize) -> &[Op]
     &ops[count..]
 }
 
-/// The value of a filter on a pair. It takes no memory, and passes over the filter at most once.
+/// The value of a filter on a pair. It takes no memory.
 pub fn value(filter: &Filter, pair: &Pair) -> u32
     ensures returned { returned filter.now pair.now.words ≡ Some result }
     ensures value { result ≡ value_of filter.now pair.now.words }
