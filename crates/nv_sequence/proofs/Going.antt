@@ -1,5 +1,5 @@
 -- A run over its versions: each turn in code is a turn of the definition.
-use Rattle.std.proofs.Common.{◌≡◌, ◌≢◌, ◌∙◌, sym, ap, subst, refl, ℕ, zero, suc, ◌+◌, ◌<◌, ◌≤◌, ◌⊎◌, inl, inr, Bool, true, false, List, [], ◌∷◌, ◌++◌, length, take, map, set, Option, Some, None, arith, append-nil, length-append}
+use Rattle.std.proofs.Common.{◌≡◌, ◌≢◌, ◌∙◌, sym, ap, subst, refl, ℕ, ◌+◌, ◌<◌, ◌≤◌, ◌⊎◌, inl, inr, Bool, true, false, List, [], ◌∷◌, ◌++◌, length, take, set, Option, Some, None, arith, append-nil, length-append}
 use Rattle.std.specs.Prelude.{slice_get, not, ◌==◌}
 use Rattle.std.proofs.lemmas.Option.{same_Some}
 use Rattle.nv_calls.specs.Calls.{Entry}
@@ -7,22 +7,20 @@ use Rattle.nv_calls.specs.Logs.{Start, live_after}
 use Rattle.nv_threads.specs.Behaviours.{Behaviour, IsProcess}
 use Rattle.nv_replay.specs.declared.fate.Fate.{Fate}
 use Rattle.nv_replay.specs.declared.fate.Fate.TheVariants as fates
-use Rattle.nv_replay.specs.Follow.{Follower, Judge, fresh, follow, IsInStep, is_exited}
+use Rattle.nv_replay.specs.Follow.{Follower, Judge, follow, IsInStep, is_exited}
 use Rattle.nv_replay.specs.Lead.{Leader}
-use Rattle.nv_replay.specs.Hands.{has, is_handed, lead_to_hand}
+use Rattle.nv_replay.specs.Hands.{has, is_handed}
 use Rattle.nv_replay.specs.Sequence.{is_on}
-use Rattle.nv_replay.specs.Monitor.{Part, Run, begun, led_line, after_lead, with_span, leads_on, turn}
+use Rattle.nv_replay.specs.Monitor.{Run, begun, led_line, after_lead, with_span, leads_on, turn}
 use Rattle.nv_replay.specs.Versions.{Running, leader_of, standing_of}
 use Rattle.nv_replay.proofs.Settled.{Reaches, reach_on}
-use Rattle.nv_replay.proofs.Falling.{within}
 use Rattle.nv_replay.specs.Turns.{Suits}
-use Rattle.nv_sequence.specs.Passing.{HasLed, HadLead, TurnDone, HadTurn, NextTurn, followed, given_up, turned_of, order_of, goes_on}
+use Rattle.nv_sequence.specs.Passing.{HasLed, followed, given_up, turned_of, order_of, goes_on}
 use Rattle.nv_replay.specs.Accounts as accounts
-use Rattle.nv_sequence.specs.declared.leading.Turned.{Turned}
-use Rattle.nv_sequence.specs.declared.leading.Turned.TheVariants.{Left, GaveUp, Exited}
-use Rattle.nv_replay.proofs.Numbers.{length_set, set_cases, set_same, get_set, get_other, some_at, IsDistinct, has_here, has_after, has_other, has_last, has_prefix, has_either, distinct_last, eq_self, eq_same}
+use Rattle.nv_sequence.specs.declared.leading.Turned.TheVariants.{Exited}
+use Rattle.nv_replay.proofs.Numbers.{length_set, set_cases, set_same, get_set, get_other, IsDistinct, has_here, has_after, has_other, has_last, has_prefix, has_either, distinct_last, eq_self, eq_same}
 use Rattle.nv_replay.proofs.Rotating.{dropped, led}
-use Rattle.nv_sequence.proofs.Rounds.{told_by, part_of, parts_of, run_of, parts_at, parts_set, Stands, stands_on, Led, has_led, tracks, passed, ended_leader, handed_over}
+use Rattle.nv_sequence.proofs.Rounds.{told_by, part_of, parts_of, run_of, parts_at, parts_set, Stands, stands_on, has_led, tracks, passed, ended_leader, handed_over}
 use Rattle.nv_sequence.proofs.Rounds as rounds
 use Rattle.nv_replay.proofs.Fates.{off_some, none_on}
 use Rattle.nv_sequence.proofs.Taking.{fated_follow}
@@ -32,9 +30,6 @@ use Rattle.nv_replay.proofs.Turning.{take_all}
 -- each version has come to where its cut allows
 abbrev pub AreSo : {P : Type 0} → (ℕ → Option ℕ) → List (Running P) → Type 0
 AreSo {P} cuts vs = (k : ℕ) (v : Running P) → slice_get vs k ≡ Some v → Suits (cuts k) v.at.fate v.at.seen
-
-suits_on : (c : Option ℕ) (o : Option Fate) (n m : ℕ) → Suits c o m → n ≤ m → o ≡ None → Suits c None n
-suits_on c o n m s l e = record { below = λ j h. s.below j (omega arith); end = λ z. cc }
 
 pub suits_by : {P : Type 0} (c : Option ℕ) (v w : Follower P) (o : Option Fate) → v.fate ≡ o → Suits c w.fate w.seen → v.seen ≤ w.seen → ((v.fate ≡ None → ⊥) → w ≡ v)
     → Suits c v.fate v.seen

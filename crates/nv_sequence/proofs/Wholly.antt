@@ -7,12 +7,12 @@ use Rattle.nv_calls.specs.Logs.{Start}
 use Rattle.nv_threads.specs.Behaviours.{Behaviour, IsProcess}
 use Rattle.nv_replay.specs.declared.fate.Fate.{Fate}
 use Rattle.nv_replay.specs.Follow.{IsInStep}
-use Rattle.nv_replay.specs.Lead.{Leader, is_cut, is_memory, cut_of, next_call, unless_ended, lead}
+use Rattle.nv_replay.specs.Lead.{Leader, cut_of}
 use Rattle.nv_replay.specs.Sequence.{is_on}
 use Rattle.nv_replay.specs.Versions.{Running, IsLeading, leader_of}
-use Rattle.nv_replay.proofs.Settled.{Reaches, reach_here, reach_on, reached}
-use Rattle.nv_replay.proofs.Falling.{lead_size, lead_falls, next_call_falls}
-use Rattle.nv_replay.specs.Hands.{has, stays, is_handed, next_or_hand, lead_to_hand}
+use Rattle.nv_replay.proofs.Settled.{Reaches, reach_here, reach_on}
+use Rattle.nv_replay.proofs.Falling.{lead_size, next_call_falls}
+use Rattle.nv_replay.specs.Hands.{has, stays, is_handed, next_or_hand}
 use Rattle.nv_replay.proofs.Extending.{next_grows}
 use Rattle.nv_replay.specs.Turns.{Suits, LedOn, TookTurn}
 use Rattle.nv_replay.proofs.Wholly.{suits_end, suits_now}
@@ -46,10 +46,6 @@ module _ {P : Type 0} (g : Behaviour P) (laws : IsProcess g) (replies : Start) (
     reach = λ c h. reach_here (next_or_hand g replies most c hands (length first)) (leader_of start first);
     led = record { index = refl; rewrites = refl; seen = s; span = λ prefix from q. q; leading = refl; in_step = i; asked = λ z. d.none_asked };
   }
-
-  pub leading_now : (start now : Running P) (first log : List Entry) → IsLeading start → LedSo start now first log true → IsLeading now
-  leading_now start now first log d s = let n = (s.goes refl).0 in record
-      { on = n; leading = s.led.leading ∙ d.leading; none_asked = s.led.asked n }
 
   -- the log of a step is no shorter
   turn_longer : (now new : Running P) (log new_log : List Entry) → now.at.fate ≡ None → TookTurn g replies most now new log new_log → length log ≤ length new_log

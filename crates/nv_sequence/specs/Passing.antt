@@ -8,6 +8,7 @@ use Rattle.nv_replay.specs.declared.fate.Fate.TheVariants.{Exited as Exits}
 use Rattle.nv_replay.specs.Follow.{Judge, follow, IsInStep}
 use Rattle.nv_replay.specs.Hands.{is_handed, lead_to_hand}
 use Rattle.nv_replay.specs.Sequence.{is_on}
+use Rattle.nv_replay.specs.Spans.{MOST_SPANS}
 use Rattle.nv_replay.specs.Versions.{Running, leader_of}
 use Rattle.nv_replay.specs.Accounts.{with_span}
 use Rattle.nv_replay.specs.Turns.{Suits, LedOn}
@@ -51,7 +52,7 @@ pub record IsIdle {P : Type 0} (g : Behaviour P) (log : List Entry) (r : Running
   pub idle : r.leading ≡ false
   pub asked : r.asked ≡ None
   pub in_step : IsInStep g log r.at
-  pub few : length r.led < 9
+  pub few : length r.led < MOST_SPANS
 
 -- the order's first is such a version
 abbrev pub IsReady : {P : Type 0} → Behaviour P → List Entry → List (Running P) → List ℕ → Type 0
