@@ -11,7 +11,7 @@ use Rattle.std.proofs.lemmas.Option.{slice_get_within}
 use Rattle.nv_calls.specs.Calls.{Response, Entry}
 use Rattle.nv_calls.specs.Logs.{Start, served, calls_of, live_after, IsLegal}
 use Rattle.nv_calls.specs.Shapes.{is_shaped, IsShaped}
-use Rattle.nv_calls.proofs.LogLaws.{at_more, at_prefix, take_left, take_whole, legal_none, legal_more}
+use Rattle.nv_calls.proofs.LogLaws.{at_more, take_left, take_whole, legal_none, legal_more}
 use Rattle.nv_trace.specs.declared.fault.CheckFault.{CheckFault}
 use Rattle.nv_trace.specs.Checks.{AreStamped, IsSound, is_live, is_reply, entry_fault, faults_after, check_fault}
 
@@ -160,11 +160,3 @@ module _ (start : Start) where
 
   pub unsound_is : (events : List Entry) (fault : CheckFault) → check_fault start events ≡ Some fault → IsSound start events → ⊥
   unsound_is events fault h ok = let none = faultless_is events ok in let bad : Some fault ≡ None = sym h ∙ none in cc
-
--- the first of sound events are sound
-pub sound_take : (start : Start) (events : List Entry) (n : ℕ) → IsSound start events → IsSound start (take n events)
-sound_take start events n ok = record {
-  legal = λ i e h. let r = at_prefix n events i e h in subst (λ (z : List Entry). e ≡ served start z e.call) (sym r.1) (ok.legal i e r.0);
-  shaped = λ i e h. ok.shaped i e (at_prefix n events i e h).0;
-  live = λ i e h. let r = at_prefix n events i e h in subst (λ (z : List Entry). Contains (live_after z) e.call.tid) (sym r.1) (ok.live i e r.0);
-}
