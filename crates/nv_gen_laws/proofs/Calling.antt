@@ -55,11 +55,6 @@ pub calls-exit : (x : List ℕ) (pc : ℕ) (memory : Image) (status : ℕ) → s
 unfolding syscall_of
 calls-exit x pc memory status a0 a7 = call-by (state x pc memory) 100 94 a7 ∙ rw (a7, a0) refl
 
--- the answer is a result alone
-answered-by : (m : Machine) (ret : ℤ) (bytes : List ℕ) (nr : ℕ) → slice_index m.regs.x 17 ≡ nr → (answered m ret bytes).memory ≡ memory_after (syscall_of nr) m bytes
-unfolding answered
-answered-by m ret bytes nr is = ap (λ (n : ℕ). memory_after (syscall_of n) m bytes) is
-
 pub answered-state : (x : List ℕ) (pc : ℕ) (memory : Image) (ret : ℤ) (bytes : List ℕ) (nr : ℕ) → slice_index x 17 ≡ nr → memory_after (syscall_of nr) (state x pc memory) bytes ≡ memory → pc + 4 < 2 ^ 32
     → answered (state x pc memory) ret bytes ≡ state (slice_set x 10 (cast_unsigned w32 ret)) (pc + 4) memory
 unfolding answered

@@ -4,10 +4,7 @@ use Rattle.std.specs.Prelude.{slice_set}
 use Rattle.std.proofs.lemmas.Bool.Decides.{nat_tests}
 use Rattle.std.proofs.lemmas.List.{length-replicate, take-replicate, take-append-le}
 use Rattle.nv_elf.specs.Elf as elf
-use Rattle.nv_memory.specs.declared.region.Right.{Right}
-use Rattle.nv_memory.specs.declared.region.Region.{Region}
 use Rattle.nv_memory.specs.Bytes.{put, bytes_at}
-use Rattle.nv_memory.specs.Regions.{holds, covers}
 use Rattle.nv_memory.specs.Image.{Image}
 use Rattle.nv_machine.specs.Guest.{Machine}
 use Rattle.nv_guest.specs.Block.{all_arguments, stack_pointer, strings_start, words, stack_words, strings}
@@ -45,9 +42,6 @@ room-is k c limit none = grind (arith, nat_tests)
 or_true : (b : Bool) → (b || true) ≡ true
 or_true true = refl
 or_true false = refl
-
-range-held : (len a n : ℕ) (right : Right) (rest : List Region) (r : Region) → r.start ≡ 65536 → r.end ≡ 65536 + len → 65536 ≤ a → a + n ≤ 65536 + len → covers a n right r ≡ true → holds (r ∷ rest) a n right ≡ true
-range-held len a n right rest r start end above inside held = rw held (or_true (n == 0))
 
 text-regions : (k : Numbers) (c : Course) (size : ℕ) (bytes : List ℕ) → 65536 + length (segment_bytes k c) < 2 ^ 32
     → IsText (record { bytes = bytes; regions = regions_of (program k c).ranges size }) (65536 + length (segment_bytes k c))
