@@ -1,7 +1,7 @@
 -- What is told decides what is found, where nothing turns out to be unreadable.
-use Rattle.std.proofs.Common.{◌≡◌, sym, ap, subst, refl, inl, inr, ⊎_elim, ◌⊎◌, ℕ, ◌+◌, ◌≤◌, true, false, List, [], ◌∷◌, length, map, Option, None, Some, option_map, Result, Ok, Err, arith}
+use Rattle.std.proofs.Common.{◌≡◌, sym, ap, subst, refl, inl, inr, ⊎_elim, ◌⊎◌, ℕ, ◌+◌, ◌≤◌, Bool, true, false, if◌then◌else◌, List, [], ◌∷◌, length, map, Option, None, Some, option_map, Result, Ok, Err, arith}
 use Rattle.std.proofs.lemmas.Bool.Decides.{nat_tests}
-use Rattle.nv_outside.specs.Told.{Told, Untold, Missing, Content}
+use Rattle.nv_outside.specs.Told.{Told, Untold, Missing, Content, content_or}
 use Rattle.nv_bpf.specs.declared.op.Op.{Op}
 use Rattle.nv_bpf.specs.declared.op.FilterFault.{FilterFault}
 use Rattle.nv_bpf.specs.Texts.{filter_of}
@@ -27,6 +27,19 @@ whole_of limit bytes short = rw short refl
 
 long_of : (limit : ℕ) (content : List ℕ) → is_longer limit content ≡ true → TooLong ≡ found_within limit (Content content)
 long_of limit content long = rw long refl
+
+longer_of : (limit : ℕ) (bytes content : List ℕ) → is_longer limit bytes ≡ true → bytes ≡ content → is_longer limit content ≡ true
+longer_of limit bytes content long same = subst (λ (c : List ℕ). is_longer limit c ≡ true) same long
+
+-- what is told may be found
+pub told_agrees : (limit : ℕ) (told : Told) → AgreesWithin limit told (found_within limit told)
+told_agrees limit Untold = tt
+told_agrees limit Missing = tt
+told_agrees limit (Content bytes) = by (is_longer limit bytes) refl
+  where
+    by : (b : Bool) → is_longer limit bytes ≡ b → AgreesWithin limit (Content bytes) (if b then TooLong else Whole bytes)
+    by true long = record { there = λ e. cc; same = λ content e. longer_of limit bytes content long (ap (λ (t : Told). content_or t []) e) }
+    by false short = record { short = grind (arith, nat_tests); there = λ e. cc; same = λ content e. ap (λ (t : Told). content_or t []) e }
 
 -- what is found is what is told, unless the file is unreadable or untold
 pub same_within : (limit : ℕ) (told : Told) (found : Found) → AgreesWithin limit told found → (found ≡ Unread) ⊎ ((found_within limit told ≡ Unread) ⊎ (found ≡ found_within limit told))

@@ -2,7 +2,7 @@
 use Rattle.std.proofs.Common.{◌≡◌, ◌∙◌, sym, ap, subst, refl, ℕ, zero, suc, ◌+◌, ◌≤◌, List, [], ◌∷◌, ◌++◌, length, take, map, Option, None, Some, option_map, Ok, arith}
 use Rattle.std.specs.Prelude.{slice_get}
 use Rattle.std.proofs.lemmas.Option.{same_Some}
-use Rattle.nv_outside.specs.Told.{Told}
+use Rattle.nv_outside.specs.Told.{Told, MayFail}
 use Rattle.nv_bpf.specs.declared.op.Op.{Op}
 use Rattle.nv_machine.specs.Guest.{Machine}
 use Rattle.nv_threads.specs.Behaviours.{Behaviour}
@@ -10,9 +10,10 @@ use Rattle.nv_threads.specs.Threads.{Proc, threads}
 use Rattle.nv_replay.specs.Versions.{Running, IsFresh, process_of}
 use Rattle.nv_replay.specs.Accounts.{AreFresh}
 use Rattle.nv_jobs.specs.Account.{begun}
-use Rattle.nv_jobs.specs.Found.{Found, Whole, TooLong, Unread, Agrees, AgreesIf, AllAgree, IsReadOf, FILE_LIMIT}
+use Rattle.nv_jobs.specs.Found.{Found, Whole, TooLong, Unread, Agrees, AgreesIf, AllAgree, IsReadOf, FILE_LIMIT, found_of}
 use Rattle.nv_jobs.specs.Prepared.{Prepared, Unreadable, Refused, Ready, read_at, with_machine, version_then, versions_from, judged_by, rules_then, after_rules, after_script, version_of}
 use Rattle.nv_jobs.specs.Refusals.{HasLoaded, AreLoaded, IsFault, ReadRefused, VersionRefused, VersionsRefused, VersionsCome, RestComes, HasRead, HasRules, RulesStop, RulesRefused, RestRefused, ComesTo, IsScriptRefusal, IsFilterRefusal, IsVersionRefusal, Refuses}
+use Rattle.nv_jobs.proofs.Decided.{told_agrees}
 use Rattle.nv_jobs.specs.declared.refusal.Refusal.{Refusal}
 use Rattle.nv_jobs.specs.declared.refusal.Refusal.TheVariants as refusal
 use Rattle.nv_jobs.specs.declared.refusal.Place.{Place}
@@ -39,19 +40,15 @@ length-prefix (x ∷ xs) (suc k) le = ap suc (length-prefix xs k (omega arith))
 pub fresh_next : (vs vs' : List (Running Proc)) (n : ℕ) (v : Running Proc) → vs' ≡ vs ++ v ∷ [] → n ≡ length vs → AreFresh threads 0 vs → IsFresh threads n v → AreFresh threads 0 vs'
 fresh_next vs vs' n v longer e all h = subst (λ (xs : List (Running Proc)). AreFresh threads 0 xs) (sym longer) (fresh_more threads 0 n vs v all (omega (arith, e)) h)
 
--- a file that wasn't read
-abbrev pub unread_of : List ℕ → Found
-unread_of name = Unread
+-- what is told of files that weren't read
+pub all_told : (holds : List ℕ → Told) (names : List (List ℕ)) → AllAgree holds names (map (λ name. found_of (holds name)) names)
+all_told holds [] = tt
+all_told holds (name ∷ names) = (told_agrees FILE_LIMIT (holds name), all_told holds names)
 
--- nothing was read of these
-pub all_unread : (holds : List ℕ → Told) (names : List (List ℕ)) → AllAgree holds names (map unread_of names)
-all_unread holds [] = tt
-all_unread holds (name ∷ names) = (tt, all_unread holds names)
-
--- nor of the rules
-pub rules_unread : (holds : List ℕ → Told) (name : Option (List ℕ)) → AgreesIf holds name (option_map unread_of name)
-rules_unread holds None = tt
-rules_unread holds (Some name) = tt
+-- the same of the rules
+pub rules_told : (holds : List ℕ → Told) (name : Option (List ℕ)) → AgreesIf holds name (option_map (λ n. found_of (holds n)) name)
+rules_told holds None = tt
+rules_told holds (Some name) = told_agrees FILE_LIMIT (holds name)
 
 -- after an accepted script the rest decides
 pub script_accepted : (holds : List ℕ → Told) (plan : Plan) (bytes : List ℕ) (setup : Setup) (whole : Prepared) → IsReadOf bytes (holds plan.script)
@@ -111,9 +108,9 @@ pub rules_stop : (holds : List ℕ → Told) (plan : Plan) (setup : Setup) (whol
 rules_stop holds plan setup whole s = record {
   rules = s.rules;
   rules_agree = s.agree;
-  versions = map unread_of plan.versions;
-  versions_agree = all_unread holds plan.versions;
-  is = s.is (versions_from plan.limits setup 0 (map unread_of plan.versions));
+  versions = map (λ name. found_of (holds name)) plan.versions;
+  versions_agree = all_told holds plan.versions;
+  is = s.is (versions_from plan.limits setup 0 (map (λ name. found_of (holds name)) plan.versions));
 }
 
 -- rules can't be read
@@ -123,7 +120,7 @@ rules_unreadable why holds named name f f' t t' e h = subst (λ (n : Option (Lis
   where
     by : (r : Refusal) → ReadRefused r Rules FILE_LIMIT (holds name) f f' t t' → RulesRefused r holds (Some name) f f' t t'
     by refusal.Memory h = h
-    by (refusal.Unreadable place) h = (record { rules = Some Unread; agree = tt; is = λ rest. ap Unreadable (sym h.0) }, h.1)
+    by (refusal.Unreadable place) h = (record { rules = Some Unread; agree = h.2; is = λ rest. ap Unreadable (sym h.0) }, h.1)
     by (refusal.Input place cause) h =
         (record { rules = Some TooLong; agree = h.4; is = λ rest. ap (λ p. Refused p causes.Long) (sym h.0) ∙ ap (Refused place) (sym h.1) }, h.2, λ e. h.3)
 
@@ -173,16 +170,16 @@ rest_by_versions (refusal.Input place cause) holds plan setup rules f0 f f' t0 t
 script_stops : (holds : List ℕ → Told) (plan : Plan) (found : Found) (whole : Prepared) → Agrees (holds plan.script) found
     → ((rest : Setup → Prepared) → read_at Script found (λ bytes. after_script rest (script_of bytes)) ≡ whole) → ComesTo plan holds whole
 script_stops holds plan found whole agrees stops = record {
-  finds = record { script = found; rules = option_map unread_of plan.rules; versions = map unread_of plan.versions };
-  agree = record { script = agrees; rules = rules_unread holds plan.rules; versions = all_unread holds plan.versions };
-  is = stops (λ s. after_rules (option_map unread_of plan.rules) (versions_from plan.limits s 0 (map unread_of plan.versions)));
+  finds = record { script = found; rules = option_map (λ name. found_of (holds name)) plan.rules; versions = map (λ name. found_of (holds name)) plan.versions };
+  agree = record { script = agrees; rules = rules_told holds plan.rules; versions = all_told holds plan.versions };
+  is = stops (λ s. after_rules (option_map (λ name. found_of (holds name)) plan.rules) (versions_from plan.limits s 0 (map (λ name. found_of (holds name)) plan.versions)));
 }
 
 -- a script can't be read
 pub script_unread : (refusal : Refusal) (holds : List ℕ → Told) (plan : Plan) (f0 f t0 t : ℕ) → ReadRefused refusal Script FILE_LIMIT (holds plan.script) f0 f t0 t → Refuses refusal holds plan f0 f t0 t
 script_unread refusal.Memory holds plan f0 f t0 t h = h
 script_unread (refusal.Unreadable place) holds plan f0 f t0 t h =
-    (script_stops holds plan Unread (Unreadable place) tt (λ rest. ap Unreadable (sym h.0)), h.1)
+    (script_stops holds plan Unread (Unreadable place) h.2 (λ rest. ap Unreadable (sym h.0)), h.1)
 script_unread (refusal.Input place cause) holds plan f0 f t0 t h =
     (script_stops holds plan TooLong (Refused place cause) h.4 (λ rest. ap (λ p. Refused p causes.Long) (sym h.0) ∙ ap (Refused place) (sym h.1)), h.2, λ e. h.3)
 
@@ -249,10 +246,10 @@ module _ (limits : Limits) (setup : Setup) where
   stops_next vs holds (n ∷ names) i zero j name found whole is all at agrees stops stays =
       let first : j ≡ i = omega (arith, is) in
       record {
-        finds = found ∷ map unread_of names;
-        agree = (subst (λ (x : List ℕ). Agrees (holds x) found) (sym (same_Some n name at)) agrees, all_unread holds names);
-        is = subst (λ (x : ℕ). read_at (Version x) found (λ bytes. version_then x (versions_from limits setup (i + 1) (map unread_of names)) (version_of limits setup bytes)) ≡ whole) first
-            (stops (versions_from limits setup (i + 1) (map unread_of names)));
+        finds = found ∷ map (λ n. found_of (holds n)) names;
+        agree = (subst (λ (x : List ℕ). Agrees (holds x) found) (sym (same_Some n name at)) agrees, all_told holds names);
+        is = subst (λ (x : ℕ). read_at (Version x) found (λ bytes. version_then x (versions_from limits setup (i + 1) (map (λ n. found_of (holds n)) names)) (version_of limits setup bytes)) ≡ whole) first
+            (stops (versions_from limits setup (i + 1) (map (λ n. found_of (holds n)) names)));
       }
   stops_next [] holds (n ∷ names) i (suc k) j name found whole is all at agrees stops stays = absurd all
   stops_next (v ∷ vs) holds (n ∷ names) i (suc k) j name found whole is all at agrees stops stays =
@@ -278,7 +275,7 @@ module _ (limits : Limits) (setup : Setup) where
       → VersionRefused limits setup refusal (Version k) told f f' t t' → VersionsRefused limits setup refusal holds names f0 f' t0 t'
   versions_refused refusal.Memory vs holds names k name told f0 f f' t0 t t' all at is fs ts h = h ∙ fs
   versions_refused (refusal.Unreadable place) vs holds names k name told f0 f f' t0 t t' all at is fs ts h = (
-    stops_next vs holds names 0 k k name Unread (Unreadable place) (omega arith) all at tt (λ rest. ap Unreadable (sym h.0)) (λ m. refl),
+    stops_next vs holds names 0 k k name Unread (Unreadable place) (omega arith) all at (subst MayFail is h.2) (λ rest. ap Unreadable (sym h.0)) (λ m. refl),
     omega (arith, fs, h.1),
   )
   versions_refused (refusal.Input place cause) vs holds names k name told f0 f f' t0 t t' all at is fs ts h = (

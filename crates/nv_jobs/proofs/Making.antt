@@ -3,7 +3,7 @@ use Rattle.std.proofs.Common.{◌≡◌, sym, ap, subst, ℕ, List, Vec, Result,
 use Rattle.std.specs.Prelude.{IfOk, IfErr}
 use Rattle.std.specs.Global.{Global}
 use Rattle.nv_outside.specs.Counts.{Rose}
-use Rattle.nv_outside.specs.Told.{Told}
+use Rattle.nv_outside.specs.Told.{Told, MayFail}
 use Rattle.nv_outside.specs.Files.{Answers, KeepsFaults}
 use Rattle.nv_outside.specs.declared.files.Got.{Got}
 use Rattle.nv_outside.specs.declared.files.Got.TheVariants.{Bytes}
@@ -20,8 +20,8 @@ module _ (unmade : Unmade) (tool : Tool) (told : Told) (before now taken later :
   pub memory_kept : unmade ≡ Memory → now ≡ before
   memory_kept e = subst (λ (u : Unmade). IsUnmade u tool told before now taken later) e h
 
-  pub unreadable_rose : unmade ≡ Unreadable → Rose before now
-  unreadable_rose e = subst (λ (u : Unmade). IsUnmade u tool told before now taken later) e h
+  pub unreadable_by : unmade ≡ Unreadable → Rose before now × MayFail told
+  unreadable_by e = subst (λ (u : Unmade). IsUnmade u tool told before now taken later) e h
 
   pub refused_by : (cause : Cause) → unmade ≡ Refused cause → Makes tool told (Err (Refused cause)) × (now ≡ before) × (cause ≡ Long → TookLong taken later)
   refused_by cause e = subst (λ (u : Unmade). IsUnmade u tool told before now taken later) e h

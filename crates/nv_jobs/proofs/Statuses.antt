@@ -3,6 +3,7 @@ use Rattle.std.proofs.Common.{◌≡◌, ◌∙◌, ◌⊎◌, sym, subst, inl, 
 use Rattle.std.specs.Prelude.{◌||◌, IsSome}
 use Rattle.std.specs.List.{list_any}
 use Rattle.nv_outside.specs.Counts.{Rose}
+use Rattle.nv_outside.proofs.Writing.{puts-rose}
 use Rattle.nv_outside.specs.declared.sink.Put.{Put}
 use Rattle.nv_outside.specs.declared.sink.Put.TheVariants.{Whole, Failed}
 use Rattle.nv_replay.specs.declared.standing.Standing.{Standing}
@@ -26,7 +27,7 @@ use Rattle.nv_jobs.specs.Found.{Found, Unread, found_of, finds_of}
 use Rattle.nv_jobs.specs.Prepared.{Prepared, Unreadable, Refused, Ready, prepared}
 use Rattle.nv_jobs.specs.Made.{made_of}
 use Rattle.nv_jobs.specs.Outcome.{Source, Outcome, Usage, NoMemory, NotRead, NotAccepted, Reported, Made, Summed, Recorded, TraceTooLong, Replayed, Shown, status_of, ended_with}
-use Rattle.nv_jobs.specs.Due.{RunComesTo, RunOwes, JobOwes, Owes, OwesAny, Shows, Answers, IsReady, IsMade, IsAccepted, IsRefusedAt, IsRefusedFor, IsRefused, IsReport, IsDone, Completes, Rejects, made_outcome, RecordComesTo, RecordOwes, TrailOwes, traced_outcome, lack_outcome, replayed, shown as shown_by, IsTraced, IsRefusedOn}
+use Rattle.nv_jobs.specs.Due.{RunComesTo, RunOwes, JobOwes, Owes, OwesAny, IsDue, Shows, Answers, IsReady, IsMade, IsAccepted, IsRefusedAt, IsRefusedFor, IsRefused, IsReport, IsDone, Completes, Rejects, made_outcome, RecordComesTo, RecordOwes, TrailOwes, traced_outcome, lack_outcome, replayed, shown as shown_by, IsTraced, IsRefusedOn}
 use Rattle.nv_jobs.specs.declared.tools.Unmade.{Unmade}
 use Rattle.nv_jobs.specs.declared.tools.Unmade.TheVariants as unmade
 use Rattle.nv_jobs.proofs.Decided.{IsUnread, same_found, same_prepared}
@@ -218,25 +219,34 @@ module _ (source : Source) (no_fault : Rose source.faults source.later_faults �
       lacking_status look.trail (shown_by look) outcome (traced look.trail (trace_finds_of source.holds look.trail)) refused
       (trail_told source no_fault outcome shown look.trail (shown_by look) owed (lacking_read look.trail (shown_by look) outcome (traced look.trail (trace_finds_of source.holds look.trail)) refused))
 
-module _ {words : List (List ℕ)} {source : Source} {before after : Option (List ℕ)} {faults status later : ℕ} where
+-- an outcome that is due and shown, and the status that the call ended with
+module _ (words : List (List ℕ)) (source : Source) (status : ℕ) (outcome : Outcome) (due : IsDue words source.holds outcome) (shown : Shows outcome source)
+    (put : Put) (ends : status ≡ ended_with put (status_of outcome)) where
   -- what the words owe that name this command, unless memory is wanted
-  owes : (a : Answers words source before faults status after later) (command : Command) → command_of words ≡ Some command → Owes command source.holds a.outcome ⊎ (status_of a.outcome ≡ 3)
-  owes a command asked =
-      ⊎_elim (λ (owed : OwesAny (command_of words) source.holds a.outcome). inl (subst (λ (c : Option Command). OwesAny c source.holds a.outcome) asked owed))
-      (λ (m : (a.outcome ≡ NoMemory) × IsSome (name_in words)). inr (ap status_of m.0)) a.due
+  owes : (command : Command) → command_of words ≡ Some command → Owes command source.holds outcome ⊎ (status_of outcome ≡ 3)
+  owes command asked =
+      ⊎_elim (λ (owed : OwesAny (command_of words) source.holds outcome). inl (subst (λ (c : Option Command). OwesAny c source.holds outcome) asked owed))
+      (λ (m : (outcome ≡ NoMemory) × IsSome (name_in words)). inr (ap status_of m.0)) due
 
+  pub completes-of : (faults later : ℕ) → (put ≡ Failed → Rose faults later) → Completes words source faults status later
+  completes-of faults later rose = λ command asked accepted no_fault no_write.
+      let is : status ≡ status_of outcome = own put status (status_of outcome) ends (λ failed. no_write (rose failed)) in
+      ⊎_elim (λ (owed : Owes command source.holds outcome). inl (subst (λ (n : ℕ). IsDone command n) (sym is) (accepted_status source no_fault outcome shown command owed accepted)))
+      (λ (three : status_of outcome ≡ 3). inr (is ∙ three)) (owes command asked)
+
+  pub rejects-of : Rejects words source status
+  rejects-of = λ command asked refused no_fault.
+      ⊎_elim (λ (is : status ≡ status_of outcome).
+      ⊎_elim (λ (owed : Owes command source.holds outcome). inl (is ∙ rejected_status source no_fault outcome shown command owed refused))
+      (λ (three : status_of outcome ≡ 3). inr (inr (is ∙ three))) (owes command asked))
+      (λ (six : status ≡ 6). inr (inl six)) (own_or_six put status (status_of outcome) ends)
+
+module _ {words : List (List ℕ)} {source : Source} {before after : Option (List ℕ)} {faults status later : ℕ} where
   pub completes-by : Answers words source before faults status after later → Completes words source faults status later
-  completes-by a = λ command asked accepted no_fault no_write.
-      let is : status ≡ status_of a.outcome = own a.says.put status (status_of a.outcome) a.says.ends (λ failed. no_write (a.says.written.rose failed)) in
-      ⊎_elim (λ (owed : Owes command source.holds a.outcome). inl (subst (λ (n : ℕ). IsDone command n) (sym is) (accepted_status source no_fault a.outcome a.shown command owed accepted)))
-      (λ (three : status_of a.outcome ≡ 3). inr (is ∙ three)) (owes a command asked)
+  completes-by a = completes-of words source status a.outcome a.due a.shown a.says.put a.says.ends faults later (puts-rose a.says.written)
 
   pub rejects-by : Answers words source before faults status after later → Rejects words source status
-  rejects-by a = λ command asked refused no_fault.
-      ⊎_elim (λ (is : status ≡ status_of a.outcome).
-      ⊎_elim (λ (owed : Owes command source.holds a.outcome). inl (is ∙ rejected_status source no_fault a.outcome a.shown command owed refused))
-      (λ (three : status_of a.outcome ≡ 3). inr (inr (is ∙ three))) (owes a command asked))
-      (λ (six : status ≡ 6). inr (inl six)) (own_or_six a.says.put status (status_of a.outcome) a.says.ends)
+  rejects-by a = rejects-of words source status a.outcome a.due a.shown a.says.put a.says.ends
 
 not_five : (n : ℕ) → IsReport n → n ≡ 5 → ⊥
 not_five n done five = ⊎_elim (λ is. omega arith) (λ r. ⊎_elim (λ is. omega arith) (λ is. omega arith) r) done
@@ -278,6 +288,10 @@ six (TraceTooLong name) Whole n ends is = absurd (omega arith)
 six (Replayed at) Whole n ends is = absurd (two_not_six n (replay_done at.fate n ends) is)
 six (Shown text) Whole n ends is = absurd (omega arith)
 
+-- the status of a text is never that of a write fault
+pub never_six : (outcome : Outcome) → status_of outcome ≡ 6 → ⊥
+never_six outcome is = let failed : Whole ≡ Failed = six outcome Whole (status_of outcome) refl is in cc
+
 -- a name of no command is refused
 nameless : (words : List (List ℕ)) → name_in words ≡ None → command_of words ≡ None
 unfolding command_of
@@ -292,12 +306,12 @@ module _ {words : List (List ℕ)} {source : Source} {before after : Option (Lis
   five-by is = five a.outcome a.says.put source status a.shown a.says.ends is
 
   pub six-by : status ≡ 6 → Rose faults later
-  six-by is = a.says.written.rose (six a.outcome a.says.put status a.says.ends is)
+  six-by is = puts-rose a.says.written (six a.outcome a.says.put status a.says.ends is)
 
   -- words that name no command get 2, where no write failed
   pub usage-by : name_in words ≡ None → (Rose faults later → ⊥) → status ≡ 2
   usage-by none no_write =
-      let is : status ≡ status_of a.outcome = own a.says.put status (status_of a.outcome) a.says.ends (λ failed. no_write (a.says.written.rose failed)) in
+      let is : status ≡ status_of a.outcome = own a.says.put status (status_of a.outcome) a.says.ends (λ failed. no_write (puts-rose a.says.written failed)) in
       let refused : command_of words ≡ None = nameless words none in
       ⊎_elim (λ (owed : OwesAny (command_of words) source.holds a.outcome). let usage : a.outcome ≡ Usage = subst (λ (c : Option Command). OwesAny c source.holds a.outcome) refused owed in is ∙ ap status_of usage)
       (λ (m : (a.outcome ≡ NoMemory) × IsSome (name_in words)). absurd (is_nameless words m.1 none)) a.due

@@ -20,7 +20,7 @@ use Rattle.nv_trace.specs.Faults.{trace_fault, IsRefused as IsNoTrace}
 use Rattle.nv_trace.specs.Checks.{check_fault, IsSound, StopsFor}
 use Rattle.nv_trace.proofs.Whole.{trace_faultless, trace_log}
 use Rattle.nv_trace.proofs.Sound.{faultless_is}
-use Rattle.nv_jobs.specs.Found.{Found, Whole, TooLong, Unread, AgreesIf, AgreesWithin, IsReadOf, IsReadWithin, FILE_LIMIT, TRACE_LIMIT, TookMore}
+use Rattle.nv_jobs.specs.Found.{Found, Whole, TooLong, Unread, AgreesIf, AgreesWithin, IsReadOf, IsReadWithin, FILE_LIMIT, TRACE_LIMIT, TookMore, found_of, found_within}
 use Rattle.nv_jobs.specs.Prepared.{Prepared, after_rules, judged_by, rules_then, VersionOf, Faulty, Loads, version_of}
 use Rattle.nv_jobs.specs.Prepared as prepared
 use Rattle.nv_jobs.specs.Refusals.{ReadRefused, HasRules, RulesRefused, IsScriptRefusal, IsVersionRefusal}
@@ -33,7 +33,8 @@ use Rattle.nv_jobs.specs.declared.refusal.Cause.{Cause}
 use Rattle.nv_jobs.specs.declared.refusal.Cause.TheVariants as causes
 use Rattle.nv_jobs.specs.declared.refusal.Refusal.{Refusal}
 use Rattle.nv_jobs.specs.declared.refusal.Refusal.TheVariants as refusal
-use Rattle.nv_jobs.proofs.Loading.{unread_of, rules_unread}
+use Rattle.nv_jobs.proofs.Decided.{told_agrees}
+use Rattle.nv_jobs.proofs.Loading.{rules_told}
 
 -- ---- one file
 
@@ -42,7 +43,7 @@ pub read_refuses : {X : Type 0} (why : Refusal) (place : Place) (step : Found �
     → ReadRefused why place (limit_of place) told f f' t t' → StepRefused why place step told f f' t t'
 read_refuses refusal.Memory place step told f f' t t' unread long h = h
 read_refuses (refusal.Unreadable at) place step told f f' t t' unread long h =
-    (record { found = Unread; agrees = tt; is = unread ∙ ap (λ (p : Place). Err (Unreadable p)) (sym h.0) }, h.1)
+    (record { found = Unread; agrees = h.2; is = unread ∙ ap (λ (p : Place). Err (Unreadable p)) (sym h.0) }, h.1)
 read_refuses (refusal.Input at cause) place step told f f' t t' unread long h =
     (h.0, record { found = TooLong; agrees = h.4; is = long ∙ ap (λ (p : Place). Err (Refused p causes.Long)) (sym h.0) ∙ ap (λ (z : Cause). Err (Refused at z)) (sym h.1) }, h.2, λ e. h.3)
 
@@ -119,32 +120,39 @@ stop_refused (Some Unread) place cause h = (cc, cc)
 -- ---- the files together
 
 module _ (trail : Trail) (holds : List ℕ → Told) where
+  -- what is told of the files that come last
+  abbrev trace_told : Found
+  trace_told = found_within TRACE_LIMIT (holds trail.trace)
+
+  abbrev version_told : Found
+  version_told = found_of (holds trail.version)
+
   -- the script decides
   pub script_lacks : (lack : Lack) → Gives script_at FILE_LIMIT (holds trail.script) (Err lack) → TrailComes trail holds (Err lack)
   script_lacks lack g =
-      let finds : TraceFinds = record { script = g.found; rules = option_map unread_of trail.rules; trace = Unread; version = Unread } in
-      record { finds = finds; agree = record { script = g.agrees; rules = rules_unread holds trail.rules; trace = tt; version = tt }; is = ap (then_with (after_setup trail finds)) g.is }
+      let finds : TraceFinds = record { script = g.found; rules = option_map (λ name. found_of (holds name)) trail.rules; trace = trace_told; version = version_told } in
+      record { finds = finds; agree = record { script = g.agrees; rules = rules_told holds trail.rules; trace = told_agrees TRACE_LIMIT (holds trail.trace); version = told_agrees FILE_LIMIT (holds trail.version) }; is = ap (then_with (after_setup trail finds)) g.is }
 
   module _ (setup : Setup) (script : Gives script_at FILE_LIMIT (holds trail.script) (Ok setup)) where
     -- the rules decide
     pub rules_lack : (lack : Lack) → RulesGive holds trail.rules (Err lack) → TrailComes trail holds (Err lack)
     rules_lack lack r =
-        let finds : TraceFinds = record { script = script.found; rules = r.found; trace = Unread; version = Unread } in
+        let finds : TraceFinds = record { script = script.found; rules = r.found; trace = trace_told; version = version_told } in
         record {
           finds = finds;
-          agree = record { script = script.agrees; rules = r.agrees; trace = tt; version = tt };
-          is = ap (then_with (after_setup trail finds)) script.is ∙ ap (then_with (after_filter trail Unread Unread setup)) r.is;
+          agree = record { script = script.agrees; rules = r.agrees; trace = told_agrees TRACE_LIMIT (holds trail.trace); version = told_agrees FILE_LIMIT (holds trail.version) };
+          is = ap (then_with (after_setup trail finds)) script.is ∙ ap (then_with (after_filter trail trace_told version_told setup)) r.is;
         }
 
     module _ (filter : Option (List Op)) (rules : RulesGive holds trail.rules (Ok filter)) where
       -- the trace decides
       pub log_lacks : (lack : Lack) → Gives (log_at setup) TRACE_LIMIT (holds trail.trace) (Err lack) → TrailComes trail holds (Err lack)
       log_lacks lack g =
-          let finds : TraceFinds = record { script = script.found; rules = rules.found; trace = g.found; version = Unread } in
+          let finds : TraceFinds = record { script = script.found; rules = rules.found; trace = g.found; version = version_told } in
           record {
             finds = finds;
-            agree = record { script = script.agrees; rules = rules.agrees; trace = g.agrees; version = tt };
-            is = ap (then_with (after_setup trail finds)) script.is ∙ ap (then_with (after_filter trail g.found Unread setup)) rules.is ∙ ap (then_with (after_log trail Unread setup filter)) g.is;
+            agree = record { script = script.agrees; rules = rules.agrees; trace = g.agrees; version = told_agrees FILE_LIMIT (holds trail.version) };
+            is = ap (then_with (after_setup trail finds)) script.is ∙ ap (then_with (after_filter trail g.found version_told setup)) rules.is ∙ ap (then_with (after_log trail version_told setup filter)) g.is;
           }
 
       module _ (log : List Entry) (trace : Gives (log_at setup) TRACE_LIMIT (holds trail.trace) (Ok log)) where

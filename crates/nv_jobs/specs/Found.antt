@@ -1,6 +1,6 @@
 -- What a command finds where it reads its files.
 use Rattle.std.specs.Prelude.{◌≡◌, ◌≢◌, ◌≤◌, ◌+◌, ◌-◌, ◌^◌, ℕ, List, [], ◌∷◌, Bool, true, if◌then◌else◌, Option, None, Some, option_map, min, nat_lt, length, map}
-use Rattle.nv_outside.specs.Told.{Told, Untold, Missing, Content}
+use Rattle.nv_outside.specs.Told.{Told, Untold, Missing, Content, MayFail}
 use Rattle.nv_command.specs.Words.{Plan}
 
 -- the most bytes of a file
@@ -48,11 +48,11 @@ pub record IsLongerThan (limit : ℕ) (told : Told) : Type 0 where
 abbrev pub IsLongOf : Told → Type 0
 IsLongOf told = IsLongerThan FILE_LIMIT told
 
--- What may be found of a file with this limit, by what the source tells. Any file may turn out to be unreadable.
+-- What may be found of a file with this limit, by what the source tells. A file whose content is told can be read.
 abbrev pub AgreesWithin : ℕ → Told → Found → Type 0
 AgreesWithin limit told (Whole bytes) = IsReadWithin limit bytes told
 AgreesWithin limit told TooLong = IsLongerThan limit told
-AgreesWithin limit told Unread = Unit {0}
+AgreesWithin limit told Unread = MayFail told
 
 abbrev pub Agrees : Told → Found → Type 0
 Agrees told found = AgreesWithin FILE_LIMIT told found

@@ -1,7 +1,7 @@
 -- How the files of a run are read, and why a run doesn't start.
 use Rattle.std.specs.Prelude.{◌≡◌, ◌≢◌, ◌≤◌, ℕ, List, [], ◌∷◌, Option, None, Some, Ok, Err, length, map}
 use Rattle.nv_outside.specs.Counts.{Rose}
-use Rattle.nv_outside.specs.Told.{Told}
+use Rattle.nv_outside.specs.Told.{Told, MayFail}
 use Rattle.nv_command.specs.Words.{Limits, Plan}
 use Rattle.nv_calls.specs.Calls.{Entry}
 use Rattle.nv_script.specs.Scripts.{Setup, script_of}
@@ -24,10 +24,10 @@ use Rattle.nv_jobs.specs.declared.refusal.Cause.TheVariants as causes
 use Rattle.nv_jobs.specs.declared.refusal.Refusal.{Refusal}
 use Rattle.nv_jobs.specs.declared.refusal.Refusal.TheVariants as refusal
 
--- a file couldn't be read: for want of memory, or the count of faults rose, or it is too long
+-- a file couldn't be read: for want of memory, or the count of faults rose and its content isn't told, or it is too long
 abbrev pub ReadRefused : Refusal → Place → ℕ → Told → ℕ → ℕ → ℕ → ℕ → Type 0
 ReadRefused refusal.Memory place limit told before now taken later = now ≡ before
-ReadRefused (refusal.Unreadable at_place) place limit told before now taken later = (at_place ≡ place) × Rose before now
+ReadRefused (refusal.Unreadable at_place) place limit told before now taken later = (at_place ≡ place) × Rose before now × MayFail told
 ReadRefused (refusal.Input at_place cause) place limit told before now taken later =
     (at_place ≡ place) × (cause ≡ Long) × (now ≡ before) × TookMore limit taken later × IsLongerThan limit told
 
@@ -132,7 +132,7 @@ pub record IsFaulty (limits : Limits) (setup : Setup) (told : Told) (cause : Cau
 -- a version can't be made: for want of memory, or a read failed, or it is too long or faulty
 abbrev pub VersionRefused : Limits → Setup → Refusal → Place → Told → ℕ → ℕ → ℕ → ℕ → Type 0
 VersionRefused limits setup refusal.Memory place told before now taken later = now ≡ before
-VersionRefused limits setup (refusal.Unreadable at_place) place told before now taken later = (at_place ≡ place) × Rose before now
+VersionRefused limits setup (refusal.Unreadable at_place) place told before now taken later = (at_place ≡ place) × Rose before now × MayFail told
 VersionRefused limits setup (refusal.Input at_place cause) place told before now taken later =
     (at_place ≡ place) × IsFaulty limits setup told cause × (now ≡ before) × (cause ≡ Long → TookLong taken later)
 

@@ -1,7 +1,7 @@
 -- What a command makes of its file, and why it makes nothing.
 use Rattle.std.specs.Prelude.{◌≡◌, ◌≢◌, ℕ, List, Result, Err}
 use Rattle.nv_outside.specs.Counts.{Rose}
-use Rattle.nv_outside.specs.Told.{Told}
+use Rattle.nv_outside.specs.Told.{Told, MayFail}
 use Rattle.nv_jobs.specs.Found.{Found, Agrees, TookLong}
 use Rattle.nv_jobs.specs.Made.{made_of}
 use Rattle.nv_command.specs.declared.asked.Tool.{Tool}
@@ -22,8 +22,8 @@ pub record Makes (tool : Tool) (told : Told) (made : Result (List ℕ) Unmade) :
   pub agrees : Agrees told found
   pub is : made_of tool found ≡ made
 
--- memory is wanted; or the count of faults rose; or the file is refused
+-- memory is wanted; or the count of faults rose, and the content isn't told; or the file is refused
 abbrev pub IsUnmade : Unmade → Tool → Told → ℕ → ℕ → ℕ → ℕ → Type 0
 IsUnmade Memory tool told before now taken later = now ≡ before
-IsUnmade Unreadable tool told before now taken later = Rose before now
+IsUnmade Unreadable tool told before now taken later = Rose before now × MayFail told
 IsUnmade (Refused cause) tool told before now taken later = Makes tool told (Err (Refused cause)) × (now ≡ before) × (cause ≡ Long → TookLong taken later)

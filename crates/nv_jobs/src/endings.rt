@@ -23,7 +23,8 @@ pub const INPUT: u8 = 4;
 /// A file that can't be read.
 pub const READ_FAULT: u8 = 5;
 
-const WRITE_FAULT: u8 = 6;
+/// A write that failed.
+pub const WRITE_FAULT: u8 = 6;
 
 const STARVED: u8 = 7;
 

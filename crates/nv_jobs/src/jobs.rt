@@ -35,8 +35,8 @@ fn use_file<F: Files, S: Sink>(
     }
 }
 
-// Says that the words are refused, or that memory was wanted while they were read.
-fn refuse_words<S: Sink>(sink: &mut S, fault: LineFault) -> u8
+/// Says that the words are refused, or that memory was wanted while they were read.
+pub fn refuse_words<S: Sink>(sink: &mut S, fault: LineFault) -> u8
     ensures { Says (text_of (fault_outcome fault)) (status_of (fault_outcome fault)) (S.told sink.old) (S.faults sink.old) result (S.told sink.new) (S.faults sink.new) }
 {
     match fault {

@@ -19,10 +19,10 @@ mod tools;
 mod trails;
 
 pub use endings::{
-    INPUT, MEMORY, READ_FAULT, USAGE, count_exited, ended, put_line, starved, status,
+    INPUT, MEMORY, READ_FAULT, USAGE, WRITE_FAULT, count_exited, ended, put_line, starved, status,
 };
 pub use generating::generate;
-pub use jobs::answer_alone;
+pub use jobs::{answer_alone, refuse_words};
 pub use preparing::{Prepared, prepare};
 pub use refusal::{Cause, Place, Refusal};
 pub use refusing::refuse;

@@ -5,7 +5,7 @@ use Rattle.nv_jobs.specs.Outcome.{Source, Made, NoMemory, NotRead, source_of}
 use Rattle.nv_jobs.specs.Due.{made_outcome}
 use Rattle.nv_command.specs.Words.{Job, Uses}
 use Rattle.nv_jobs.proofs.Commands.{is_due, memory_due, unasked, job_refused}
-use Rattle.nv_jobs.proofs.Making.{unreadable_rose, memory_kept, refused_by}
+use Rattle.nv_jobs.proofs.Making.{unreadable_by, memory_kept, refused_by}
 use Rattle.nv_jobs.proofs.jobs.use_file.Goals as goal
 
 pub returns-in-Ok : goal.returns-in-Ok
@@ -29,10 +29,11 @@ pub returns-in-Err-Unreadable : goal.returns-in-Err-Unreadable
 returns-in-Err-Unreadable g c = λ words asked.
     let holds = g.F.Files.holds c.args.files.now in
     let job : Job = record { tool = c.args.tool; file = c.args.file.now } in
+    let why = unreadable_by _ _ _ _ _ _ _ c.in-Err-Unreadable.ensures.unmade c.in-Err-Unreadable.field-0-is in
     record {
       outcome = NotRead c.args.file.now;
-      due = is_due words holds (Uses job) (NotRead c.args.file.now) asked (record { found = Unread; agrees = tt; comes = refl });
-      shown = unreadable_rose _ _ _ _ _ _ _ c.in-Err-Unreadable.ensures.unmade c.in-Err-Unreadable.field-0-is;
+      due = is_due words holds (Uses job) (NotRead c.args.file.now) asked (record { found = Unread; agrees = why.1; comes = refl });
+      shown = why.0;
       unread = λ none. absurd (unasked words (Uses job) asked none);
       says = c.put_unread.ensures;
     }
