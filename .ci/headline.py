@@ -1,5 +1,5 @@
 #!/usr/bin/env python3
-"""What the clauses of `nv_cli::varan` cite, whole: the definitions of specs/ that a reader has to believe.
+"""What the clauses of `nv_cli::varan`, and of `nv_cli::program`, which `main` calls, cite, whole: the definitions of specs/ that a reader has to believe.
 
     .ci/headline.py            compares them with crates/nv_cli/specs/Headline.antt, with docs/DEFINITIONS.md and with the number in README.md
     .ci/headline.py --write    writes them there: Headline.antt after its line MORE, the table at the end of DEFINITIONS.md, the number
@@ -14,7 +14,7 @@ import sys
 sys.dont_write_bytecode = True
 from definitions import ROOT, House, imports_of, read, whole
 
-TOP = ("nv_cli", "top", "varan")
+TOP = [("nv_cli", "top", "varan"), ("nv_cli", "process", "program")]
 HEADLINE, PAGE, README = "crates/nv_cli/specs/Headline.antt", "docs/DEFINITIONS.md", "README.md"
 MORE = "-- And what these stand on, by crate and file. (.ci/headline.py --write makes the lines from here on.)"
 TABLE = "## Everything that the top call cites\n"
@@ -22,11 +22,13 @@ COUNT = re.compile(r"\*\*[\d,]+\*\* definitions")
 
 
 def cited_by_top(house):
-    crate, file, name = TOP
-    for at, known, _, cites in house.contracts(crate):
-        if (at, known) == (file, name):
-            return cites
-    sys.exit(f"headline: {crate} has no function {name} in src/{file}.rt")
+    found = []
+    for crate, file, name in TOP:
+        cites = [cites for at, known, _, cites in house.contracts(crate) if (at, known) == (file, name)]
+        if not cites:
+            sys.exit(f"headline: {crate} has no function {name} in src/{file}.rt")
+        found += cites[0]
+    return found
 
 
 def path_of(it):

@@ -1,7 +1,7 @@
 #!/usr/bin/env bash
 # Runs the examples but those of guests/, and compares: the assembler texts hello, service and server with the reports of expected/, and the server in C with
-# what its clients got under Linux (server/expected); does the commands of docs/TUTORIAL.md and
-# docs/PARTING.md; and has docs/varan.1 formatted.
+# what its clients got under Linux (server/expected); gives the program files and outputs of the host that fail; does the commands of
+# docs/TUTORIAL.md and docs/PARTING.md; and has docs/varan.1 formatted.
 # check.sh [PROGRAM]: crates/varan/out/varan where no program is named.
 # Status: 0 where all is the same, 1 where something differs, 2 where the program isn't built.
 set -eu
@@ -17,13 +17,15 @@ work=$(mktemp -d)
 trap 'rm -rf "$work"' EXIT
 rows=0
 wrong=0
+# what the program is started by, where it isn't the shell
+under=()
 
 # row STATUS EXPECTED WORD..: what the program writes with these words is the file EXPECTED, and its status this.
 row() {
     local wanted=$1 expected=$2 status=0
     shift 2
     rows=$((rows + 1))
-    "$program" "$@" >"$work/written" || status=$?
+    ${under[@]+"${under[@]}"} "$program" "$@" >"$work/written" || status=$?
     if ! diff "$expected" "$work/written"; then
         echo "check.sh: other text than $expected: varan $*"
         wrong=$((wrong + 1))
@@ -50,6 +52,47 @@ says() {
     shift 2
     echo "$text" >"$work/line"
     row "$wanted" "$work/line" "$@"
+}
+
+# ended STATUS WORD..: the program's status, where the caller says what its standard output is.
+ended() {
+    local wanted=$1 status=0
+    shift
+    rows=$((rows + 1))
+    ${under[@]+"${under[@]}"} "$program" "$@" || status=$?
+    if [ "$status" != "$wanted" ]; then
+        echo "check.sh: status $status in place of $wanted: varan $*" >&2
+        wrong=$((wrong + 1))
+    fi
+}
+
+# unwritten WORD..: where standard output is full, closed or not for writing, the status is 6.
+unwritten() {
+    ended 6 "$@" >/dev/full
+    ended 6 "$@" >&-
+    ended 6 "$@" 1<"$here/check.sh"
+}
+
+# failing CALL COMMAND..: one of the functions here, where this call of the C library fails once (bench/hostile_parts/failing.c).
+failing() {
+    under=(env "LD_PRELOAD=$work/failing.so" "FAILING=$1" "COUNTED=$work/counted")
+    shift
+    "$@"
+    under=()
+}
+
+# stopped N WORD..: where write N fails, from 0, the status is 6, the writes before it stand, and none comes after it.
+stopped() {
+    local number=$1 written
+    shift
+    failing "write:$number" ended 6 "$@" >"$work/written"
+    read -r _ _ _ written <"$work/counted"
+    "$program" "$@" >"$work/whole" || true
+    rows=$((rows + 1))
+    if [ "$written" != $((number + 1)) ] || ! head -c $((8192 * number)) "$work/whole" | cmp - "$work/written"; then
+        echo "check.sh: something was written after write $number failed: varan $*"
+        wrong=$((wrong + 1))
+    fi
 }
 
 # record STATUS TRACE WORD..: records a run.
@@ -111,6 +154,50 @@ row 0 expected/inspected inspect --script script --stamp 1 "$work/trace" "$work/
 row 0 expected/inspected_early inspect --script script --count 3 --dump 69632 --length 4 "$work/trace" "$work/hi"
 head -c 110 "$work/trace" >"$work/cut"
 says 4 "varan: input $work/cut: short 1" replay --script script "$work/cut" "$work/hi"
+
+# files of the host: of several pieces, too long, and ones that can't be read
+{ echo 1000; yes '0 0 0 0' | head -n 999; echo '6 0 0 0'; } >"$work/filter"
+says 0 'ok 1000' rules "$work/filter"
+head -c 4194304 /dev/zero | tr '\0' '\n' >"$work/longest"
+says 4 "varan: input $work/longest: line 1" rules "$work/longest"
+echo >>"$work/longest"
+says 4 "varan: input $work/longest: long" rules "$work/longest"
+missing=$work/missing
+says 5 "varan: read $missing" run --script "$missing" "$work/hi"
+says 5 "varan: read $missing" run --script script --rules "$missing" "$work/hi"
+says 5 "varan: read $missing" record --script script "$work/hi" "$missing"
+says 5 "varan: read $missing" replay --script script "$missing" "$work/hi"
+says 5 "varan: read $missing" inspect --script script --stamp 1 "$work/trace" "$missing"
+says 5 "varan: read $work" asm "$work"
+# words that aren't text
+says 2 'varan: usage' asm $'\xff'
+says 2 'varan: usage' run --script script "$work/hi" $'hi\xff'
+# outputs that fail: short texts, and one of several writes
+long=(inspect --script script --count 3 --dump 65536 --length 4096 "$work/trace" "$work/hi")
+unwritten run --script script "$work/hi"
+unwritten record --script script "$work/hi"
+unwritten asm hi.s
+unwritten asm wrong.s
+unwritten rules "$missing"
+unwritten asm $'\xff'
+unwritten "${long[@]}"
+# calls of the host that fail once
+if command -v cc >/dev/null; then
+    cc -O1 -shared -fPIC -o "$work/failing.so" "$here/../bench/hostile_parts/failing.c"
+    failing open:0 says 5 'varan: read script' run --script script --rules "$work/filter" "$work/hi"
+    failing open:1 says 5 "varan: read $work/filter" run --script script --rules "$work/filter" "$work/hi"
+    failing open:2 says 5 "varan: read $work/hi" run --script script --rules "$work/filter" "$work/hi"
+    failing read:1 says 5 "varan: read $work/filter" rules "$work/filter"
+    failing short-read:0 says 0 'ok 1000' rules "$work/filter"
+    failing short-write:0 says 0 'ok 1000' rules "$work/filter"
+    stopped 0 asm hi.s
+    stopped 0 asm wrong.s
+    stopped 0 asm $'\xff'
+    stopped 0 "${long[@]}"
+    stopped 1 "${long[@]}"
+else
+    echo "check.sh: there is no cc, so calls of the host that fail once weren't tried"
+fi
 
 cd ../service
 for version in service_1 service_2 service_3; do

@@ -2,3 +2,4 @@ mod Once
 mod Counted
 mod Running
 mod NoVersions
+mod Finished

@@ -60,6 +60,8 @@ use Rattle.nv_outside.specs.Sink.{Puts}
 use Rattle.nv_jobs.specs.Due.{Completes, IsAccepted, IsDone}
 -- The clause `rejects`: files that are told up to one that is refused have it named, or memory wanted, or a write failed.
 use Rattle.nv_jobs.specs.Due.{Rejects, IsRefused}
+-- The call of `main`, `nv_cli::program`: the words of the process, or why there are none, come to such an outcome too, and at the end the whole text stands on the sink, or just one write failed.
+use Rattle.nv_cli.specs.Program.{ProgramAnswers, IsDueOf, EndsWith}
 -- And what these stand on, by crate and file. (.ci/headline.py --write makes the lines from here on.)
 use Rattle.nv_calls.specs.Answers.{most_out_by, answer_slot}
 use Rattle.nv_calls.specs.Calls.{Request, Response, Entry, status_of as nv_calls_status_of, is_same}

@@ -7,9 +7,11 @@
 
 mod beside;
 mod calm;
+mod process;
 mod recording;
 mod top;
 
 pub use calm::varan_calmly;
 pub use nv_jobs::{Cause, Place, Refusal};
+pub use process::program;
 pub use top::varan;

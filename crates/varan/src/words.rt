@@ -1,30 +1,17 @@
 // The words of the command line.
-use std::alloc::AllocError;
+use nv_command::LineFault;
 use std::{env, io};
 
-/// Why there are no words.
-#[derive(Clone, Copy, Debug, PartialEq, Eq)]
-pub enum WordsFault {
-    /// A word isn't text.
-    NotText,
-    Memory,
-}
-
-impl From<AllocError> for WordsFault {
-    fn from(_: AllocError) -> Self {
-        WordsFault::Memory
-    }
-}
-
 // Arguments are refused where one of them isn't text.
-fn fault_of(error: &io::Error) -> WordsFault {
+fn fault_of(error: &io::Error) -> LineFault {
     match error.kind() {
-        io::ErrorKind::OutOfMemory => WordsFault::Memory,
-        _ => WordsFault::NotText,
+        io::ErrorKind::OutOfMemory => LineFault::Memory,
+        _ => LineFault::Usage,
     }
 }
 
-pub fn words(rt: &HostRuntime) -> Result<Vec<String>, WordsFault> {
+/// The words of the process, or why there are none.
+pub fn words(rt: &HostRuntime) -> Result<Vec<String>, LineFault> {
     match env::args(rt) {
         Ok(arguments) => Ok(arguments.collect(rt.alloc())?),
         Err(error) => Err(fault_of(&error)),

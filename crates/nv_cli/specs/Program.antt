@@ -1,0 +1,48 @@
+-- What the program says, over the words of the process or over why there are none.
+use Rattle.std.specs.Prelude.{◌≡◌, ◌++◌, ℕ, List, Option, None, Some, Result, Ok, Err, Vec, String}
+use Rattle.std.specs.Global.{Global}
+use Rattle.nv_outside.specs.Told.{Told, Grows}
+use Rattle.nv_outside.specs.Sink.{faults_by}
+use Rattle.nv_outside.specs.declared.sink.Put.{Put}
+use Rattle.nv_outside.specs.declared.sink.Put.TheVariants.{Whole, Failed}
+use Rattle.nv_command.specs.Words.{texts, command_of}
+use Rattle.nv_command.specs.declared.asked.LineFault.{LineFault}
+use Rattle.nv_jobs.specs.Due.{IsDue, IsUntouched, Shows}
+use Rattle.nv_jobs.specs.Outcome.{Outcome, Source, status_of, text_of, ended_with}
+use Rattle.nv_jobs.specs.Tasks.{fault_outcome}
+
+-- the words of the process, or why there are none
+abbrev pub Given : Type 0
+Given = Result (Vec (String Global) Global) LineFault
+
+-- Words owe what they owe the monitor. Where there are none, usage is due, or want of memory.
+abbrev pub IsDueOf : Given → (List ℕ → Told) → Outcome → Type 0
+IsDueOf (Ok words) holds outcome = IsDue (texts words.items) holds outcome
+IsDueOf (Err fault) holds outcome = outcome ≡ fault_outcome fault
+
+-- the words are refused, or there are none
+abbrev pub AreRefused : Given → Type 0
+AreRefused (Ok words) = command_of (texts words.items) ≡ None
+AreRefused (Err fault) = Unit {0}
+
+-- What stands on the sink is a beginning of what stood there and the text. An object that no longer tells never tells again.
+abbrev pub Begins : Option (List ℕ) → List ℕ → Option (List ℕ) → Type 0
+Begins before text None = Unit {0}
+Begins (Some before) text (Some after) = (rest : List ℕ) × (before ++ text ≡ after ++ rest)
+Begins None text (Some after) = ⊥
+
+-- The whole text was written with its status, and no write failed; or just one write failed, the text was written up to there, and the status is 6.
+pub record EndsWith (text : List ℕ) (text_status : ℕ) (before : Option (List ℕ)) (faults : ℕ) (status : ℕ) (after : Option (List ℕ)) (later_faults : ℕ) : Type 0 where
+  pub put : Put
+  pub ends : status ≡ ended_with put text_status
+  pub counted : later_faults ≡ faults_by put faults
+  pub whole : put ≡ Whole → Grows before text after
+  pub begun : put ≡ Failed → Begins before text after
+
+-- The program came to an outcome that is due, and ended with it. Where words are refused, or there are none, no file was read.
+pub record ProgramAnswers (words : Given) (source : Source) (before : Option (List ℕ)) (faults : ℕ) (status : ℕ) (after : Option (List ℕ)) (later_faults : ℕ) : Type 0 where
+  pub outcome : Outcome
+  pub due : IsDueOf words source.holds outcome
+  pub shown : Shows outcome source
+  pub unread : AreRefused words → IsUntouched source
+  pub ends : EndsWith (text_of outcome) (status_of outcome) before faults status after later_faults
