@@ -1,4 +1,3 @@
 pub mod Lists
-pub mod Lower
 pub mod Stuck
 pub mod Falling

@@ -1,5 +1,5 @@
 -- Places of lists.
-use Rattle.std.proofs.Common.{◌≡◌, ℕ, zero, suc, ◌<◌, ◌⊎◌, Bool, true, false, List, [], ◌∷◌, length, take, sym, refl, inl, inr, arith}
+use Rattle.std.proofs.Common.{◌≡◌, ℕ, zero, suc, ◌<◌, List, [], ◌∷◌, length, sym, refl, arith}
 use mathlib.Core.Option.{some, some-ne-none}
 use lib.ListN.{get_elem?}
 
@@ -12,13 +12,3 @@ pub there : {A : Type 0} (l : List A) (i : ℕ) → i < length l → (a : A) × 
 there [] i lt = absurd (omega arith)
 there (x ∷ xs) zero lt = (x, refl)
 there (x ∷ xs) (suc i) lt = there xs i (omega arith)
-
-pub at_taken : {A : Type 0} (l : List A) (n i : ℕ) (a : A) → i < n → get_elem? l i ≡ some a → get_elem? (take n l) i ≡ some a
-at_taken [] n i a lt e = absurd (some-ne-none a (sym e))
-at_taken (x ∷ xs) zero i a lt e = absurd (omega arith)
-at_taken (x ∷ xs) (suc n) zero a lt e = e
-at_taken (x ∷ xs) (suc n) (suc i) a lt e = at_taken xs n i a (omega arith) e
-
-pub either : (b : Bool) → (b ≡ true) ⊎ (b ≡ false)
-either true = inl refl
-either false = inr refl

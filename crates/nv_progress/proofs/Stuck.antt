@@ -17,12 +17,10 @@ use Rattle.nv_room.specs.declared.view.Role.{Role}
 use Rattle.nv_room.specs.declared.view.Role.TheVariants.{Reader, Lead, Opening, Leaving, Moving, Gone, Spent}
 use Rattle.nv_room.specs.Placement.{Log, pool_chunks, chunks_from}
 use Rattle.nv_room.specs.Owner.{GONE, Phase, held, free, closed}
-use Rattle.nv_room.specs.Spans.{IsLast}
 use Rattle.nv_room.specs.Room.{cursor, Moment, InRole, Live, Leads, Rule}
 use Rattle.nv_room.specs.Steps.{TellsEnd}
-use Rattle.nv_progress.specs.GetsOn.{moment, HasEvent, CanGetOn, Stays, SomeSeat, AllSeated, SomeStays, SomeGetsOn, IsLeftBehind, HaveMovedOn, IsLowest}
+use Rattle.nv_progress.specs.GetsOn.{moment, HasEvent, CanGetOn, Stays, SomeSeat, AllSeated, SomeStays, SomeGetsOn, IsLowest}
 use Rattle.nv_progress.proofs.Lists.{at_below, there}
-use Rattle.nv_progress.proofs.Lower.{not_above}
 
 -- a place that isn't free is kept by a reader with an event to see
 pub full_unread : (c : ℕ) (log : Log) (seen : ℕ) → 0 < c → IsFull c log seen → seen < length log
@@ -44,7 +42,7 @@ module _ {K : Type 0} (hist : K → List Entry) (beg : K → Start) (p : Plan K)
     pub at : get_elem? s.views id ≡ some view
     pub live : Live view.role
     pub has : get_elem? r.seating t ≡ some view.version
-    pub last : IsLast r.seating view.version view.station
+    pub others : (u : ℕ) → get_elem? r.seating u ≡ some view.version → u ≢ view.station → (view.role ≡ Moving → u ≢ view.former) → GONE ≤ cursor s.words u
 
   pub sits : AllSeated p s.views → (t : ℕ) → t < length r.seating → Sits t
   sits all t near = let w = there r.seating t near in let q = all w.0 (r.doors.is_version t w.0 w.1) in record {
@@ -53,15 +51,21 @@ module _ {K : Type 0} (hist : K → List Entry) (beg : K → Start) (p : Plan K)
     at = q.2;
     live = q.3.0;
     has = w.1 ∙ ap some (sym q.3.1);
-    last = ((r.each_seat q.0 q.1 q.2).seated q.3.0).last;
+    others = ((r.each_seat q.0 q.1 q.2).seated q.3.0).others_are_gone;
   }
 
-  -- it sits there or, where the station isn't above the holder, at a later one
-  pub here_or_later : (t : ℕ) → (k : Sits t) → (t ≡ k.view.station) ⊎ ((t < k.view.station) × (t ≤ r.holder))
-  here_or_later t k = dite (ℕ_discrete t k.view.station) (λ e. inl e)
-      (λ ne. dite (dec_le t k.view.station)
-      (λ le. let lt : t < k.view.station = omega arith in inr (lt, not_above p.stations p.versions p.hands.value.items m r.doors r.led r.turns.opened t k.view.station k.view.version lt k.has k.last.has))
-      (λ gt. absurd (k.last.none_later t (lt_of_not-le gt) k.has)))
+  -- it sits there, or it is moving, or the station is gone
+  by_role : (t : ℕ) (k : Sits t) → t ≢ k.view.station → (role : Role) → k.view.role ≡ role → (role ≡ Moving) ⊎ (GONE ≤ cursor s.words t)
+  by_role t k ne Moving e = inl refl
+  by_role t k ne Reader e = inr (k.others t k.has ne (λ mov. let x : Reader ≡ Moving = sym e ∙ mov in cc))
+  by_role t k ne Lead e = inr (k.others t k.has ne (λ mov. let x : Lead ≡ Moving = sym e ∙ mov in cc))
+  by_role t k ne Opening e = inr (k.others t k.has ne (λ mov. let x : Opening ≡ Moving = sym e ∙ mov in cc))
+  by_role t k ne Leaving e = inr (k.others t k.has ne (λ mov. let x : Leaving ≡ Moving = sym e ∙ mov in cc))
+  by_role t k ne Gone e = inr (k.others t k.has ne (λ mov. let x : Gone ≡ Moving = sym e ∙ mov in cc))
+  by_role t k ne Spent e = inr (k.others t k.has ne (λ mov. let x : Spent ≡ Moving = sym e ∙ mov in cc))
+
+  pub sat : (t : ℕ) (k : Sits t) → (t ≡ k.view.station) ⊎ ((k.view.role ≡ Moving) ⊎ (GONE ≤ cursor s.words t))
+  sat t k = dite (ℕ_discrete t k.view.station) (λ e. inl e) (λ ne. inr (by_role t k ne k.view.role refl))
 
   -- While the room is held
 
@@ -74,13 +78,19 @@ module _ {K : Type 0} (hist : K → List Entry) (beg : K → Start) (p : Plan K)
   reads_on v is ne less Gone l k = let few : length r.log ≤ 131072 = r.places.log_is_short in let g = k.cursor_is_gone in absurd (omega arith)
   reads_on v is ne less Spent l k = absurd l
 
+  moving_free : (id : ℕ) (v : View K) → get_elem? s.views id ≡ some v → v.role ≡ Moving → r.phase ≡ held → ⊥
+  moving_free id v at e is = (subst (InRole p.stations p.places m v) e (r.each_seat id v at).in_role).not_held is
+
   -- a station behind the log has an event to see
   pub behind : AllSeated p s.views → r.phase ≡ held → (t : ℕ) → t ≢ r.holder → t < length r.seating → cursor s.words t < length r.log
       → SomeSeat s.views (λ v. (v.station ≡ t) × CanGetOn p.places m v v.role × HasEvent m v)
   behind all is t ne near less = let k = sits all t near in let few : length r.log ≤ 131072 = r.places.log_is_short in ⊎_elim
       (λ (e : t ≡ k.view.station). let q = reads_on k.view is (λ f. ne (e ∙ f)) (subst (λ (z : ℕ). cursor s.words z < length r.log) e less) k.view.role k.live (r.each_seat k.id k.view k.at).in_role in (k.id, k.view, k.at, (sym e, q.0, q.1)))
-      (λ (q : (t < k.view.station) × (t ≤ r.holder)). let le = q.1 in let g = r.places.lower_are_gone t (omega arith) in absurd (omega arith))
-      (here_or_later t k)
+      (λ (q : (k.view.role ≡ Moving) ⊎ (GONE ≤ cursor s.words t)). ⊎_elim
+      (λ (e : k.view.role ≡ Moving). absurd (moving_free k.id k.view k.at e is))
+      (λ (g : GONE ≤ cursor s.words t). absurd (omega arith))
+      q)
+      (sat t k)
 
   -- each other station has seen the whole log or left, or one hasn't
   place_or_late : (k : ℕ) → k ≤ length r.seating → ((t : ℕ) → t ≢ r.holder → t < k → FitsAll p.places r.log (cursor s.words t))
@@ -139,25 +149,22 @@ module _ {K : Type 0} (hist : K → List Entry) (beg : K → Start) (p : Plan K)
   lowest_on v is few here lower Gone l k = let g = k.cursor_is_gone in absurd (omega arith)
   lowest_on v is few here lower Spent l k = absurd l
 
-  -- the seat has gone on from the holder's station
-  gone_on : (v : View K) → r.phase ≡ free → cursor s.words r.holder < GONE → get_elem? r.seating r.holder ≡ some v.version → r.holder < v.station → (role : Role) → v.role ≡ role → Live role → InRole p.stations p.places m v role → CanGetOn p.places m v role ⊎ IsLeftBehind m v
-  gone_on v is here has later Reader e l k = inr record { is_free = is; not_left = here; was_its = has; later = later; role = inl e }
-  gone_on v is here has later Lead e l k = absurd (free_held is k.is_held)
-  gone_on v is here has later Opening e l k = absurd (free_held is k.is_held)
-  gone_on v is here has later Leaving e l k = let h = k.is_holder in absurd (omega arith)
-  gone_on v is here has later Moving e l k = inl tt
-  gone_on v is here has later Gone e l k = inr record { is_free = is; not_left = here; was_its = has; later = later; role = inr e }
-  gone_on v is here has later Spent e l k = absurd l
-
-  pub lowest_gets_on : AllSeated p s.views → r.phase ≡ free → (t : ℕ) → IsLowest m t → SomeGetsOn p.places m s.views ⊎ SomeSeat s.views (IsLeftBehind m)
-  lowest_gets_on all is t low = let k = sits all t low.is_open in let v = k.view in let kn = r.each_seat k.id v k.at in ⊎_elim
-      (λ (e : t ≡ v.station). inl (k.id, v, k.at, lowest_on v is (short v k.id k.at) (subst (λ (z : ℕ). cursor s.words z < GONE) e low.not_left) (subst (λ (z : ℕ). (u : ℕ) → u < z → GONE ≤ cursor s.words u) e low.lower_gone) v.role k.live kn.in_role))
-      (λ (q : (t < v.station) × (t ≤ r.holder)). let lt = q.0 in let le = q.1 in let here = low.not_left in
-      let same : t ≡ r.holder = dite (ℕ_discrete t r.holder) (λ e. e) (λ ne. let g = r.places.lower_are_gone t (omega arith) in absurd (omega arith)) in ⊎_elim
-      (λ (c : CanGetOn p.places m v v.role). inl (k.id, v, k.at, c))
-      (λ (b : IsLeftBehind m v). inr (k.id, v, k.at, b))
-      (gone_on v is (subst (λ (z : ℕ). cursor s.words z < GONE) same here) (subst (λ (z : ℕ). get_elem? r.seating z ≡ some v.version) same k.has) (omega arith) v.role refl k.live kn.in_role))
-      (here_or_later t k)
+  pub lowest_gets_on : AllSeated p s.views → r.phase ≡ free → (t : ℕ) → IsLowest m t → SomeSeat s.views (λ v. (get_elem? r.seating t ≡ some v.version) × CanGetOn p.places m v v.role)
+  lowest_gets_on all is t low = let k = sits all t low.is_open in let v = k.view in let kn = r.each_seat k.id v k.at in let here = low.not_left in (
+    k.id,
+    v,
+    k.at,
+    (
+      k.has,
+      ⊎_elim
+          (λ (e : t ≡ v.station). lowest_on v is (short v k.id k.at) (subst (λ (z : ℕ). cursor s.words z < GONE) e here) (subst (λ (z : ℕ). (u : ℕ) → u < z → GONE ≤ cursor s.words u) e low.lower_gone) v.role k.live kn.in_role)
+          (λ (q : (v.role ≡ Moving) ⊎ (GONE ≤ cursor s.words t)). ⊎_elim
+          (λ (e : v.role ≡ Moving). subst (CanGetOn p.places m v) (sym e) tt)
+          (λ (g : GONE ≤ cursor s.words t). absurd (omega arith))
+          q)
+          (sat t k),
+    ),
+  )
 
   lowest_below : (k : ℕ) → k ≤ length r.seating → ((t : ℕ) → t < k → GONE ≤ cursor s.words t) ⊎ ((t : ℕ) × IsLowest m t)
   lowest_below zero le = inl (λ t lt. absurd (omega arith))
@@ -186,11 +193,11 @@ module _ {K : Type 0} (hist : K → List Entry) (beg : K → Start) (p : Plan K)
   stays_lives Gone l = absurd l
   stays_lives Spent l = absurd l
 
-  free_gets_on : AllSeated p s.views → SomeStays s.views → r.phase ≡ free → SomeGetsOn p.places m s.views ⊎ SomeSeat s.views (IsLeftBehind m)
+  free_gets_on : AllSeated p s.views → SomeStays s.views → r.phase ≡ free → SomeGetsOn p.places m s.views
   free_gets_on all w is = let v = w.1 in let kn = r.each_seat w.0 v w.2 in let here = stays_counts v is (short v w.0 w.2) v.role w.3 kn.in_role in
       let last = (kn.seated (stays_lives v.role w.3)).last in let near = at_below r.seating v.station v.version last.has in ⊎_elim
       (λ (f : (t : ℕ) → t < length r.seating → GONE ≤ cursor s.words t). let g = f v.station near in absurd (omega arith))
-      (λ (q : (t : ℕ) × IsLowest m t). lowest_gets_on all is q.0 q.1)
+      (λ (q : (t : ℕ) × IsLowest m t). let o = lowest_gets_on all is q.0 q.1 in (o.0, o.1, o.2, o.3.1))
       (lowest_below (length r.seating) (le_refl (length r.seating)))
 
   -- And closed
@@ -212,23 +219,10 @@ module _ {K : Type 0} (hist : K → List Entry) (beg : K → Start) (p : Plan K)
   closed_on v id at is Gone l k = absurd l
   closed_on v id at is Spent l k = absurd l
 
-  by_phase : AllSeated p s.views → SomeStays s.views → (ph : Phase) → r.phase ≡ ph → SomeGetsOn p.places m s.views ⊎ SomeSeat s.views (IsLeftBehind m)
-  by_phase all w held is = inl (held_gets_on all is)
+  by_phase : AllSeated p s.views → SomeStays s.views → (ph : Phase) → r.phase ≡ ph → SomeGetsOn p.places m s.views
+  by_phase all w held is = held_gets_on all is
   by_phase all w free is = free_gets_on all w is
-  by_phase all w closed is = inl (w.0, w.1, w.2, closed_on w.1 w.0 w.2 is w.1.role w.3 (r.each_seat w.0 w.1 w.2).in_role)
+  by_phase all w closed is = (w.0, w.1, w.2, closed_on w.1 w.0 w.2 is w.1.role w.3 (r.each_seat w.0 w.1 w.2).in_role)
 
-  pub not_stuck : AllSeated p s.views → SomeStays s.views → SomeGetsOn p.places m s.views ⊎ SomeSeat s.views (IsLeftBehind m)
+  pub not_stuck : AllSeated p s.views → SomeStays s.views → SomeGetsOn p.places m s.views
   not_stuck all w = by_phase all w r.phase refl
-
-  -- where each seat's former stations are gone, none is left behind
-  left_behind : HaveMovedOn m s.views → (j : ℕ) (v : View K) → get_elem? s.views j ≡ some v → IsLeftBehind m v → Live v.role → (v.role ≢ Moving) → ⊥
-  left_behind moved j v at b live still = let low = b.not_left in let later = b.later in let g = moved j v at live r.holder b.was_its (λ e. omega arith) (λ e. absurd (still e)) in omega arith
-
-  pub none_behind : HaveMovedOn m s.views → SomeSeat s.views (IsLeftBehind m) → ⊥
-  none_behind moved q = ⊎_elim
-      (λ (e : q.1.role ≡ Reader). left_behind moved q.0 q.1 q.2 q.3 (subst Live (sym e) tt) (λ mov. let x : Reader ≡ Moving = sym e ∙ mov in cc))
-      (λ (e : q.1.role ≡ Gone). left_behind moved q.0 q.1 q.2 q.3 (subst Live (sym e) tt) (λ mov. let x : Gone ≡ Moving = sym e ∙ mov in cc))
-      q.3.role
-
-  pub gets_on : AllSeated p s.views → SomeStays s.views → HaveMovedOn m s.views → SomeGetsOn p.places m s.views
-  gets_on all w moved = ⊎_elim (λ (g : SomeGetsOn p.places m s.views). g) (λ (b : SomeSeat s.views (IsLeftBehind m)). absurd (none_behind moved b)) (not_stuck all w)

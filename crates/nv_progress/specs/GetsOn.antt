@@ -74,20 +74,6 @@ SomeStays views = SomeSeat views (λ v. Stays v.role)
 abbrev pub SomeGetsOn : {T : Type 0} → ℕ → Moment → List (View T) → Type 0
 SomeGetsOn c m views = SomeSeat views (λ v. CanGetOn c m v v.role)
 
--- A seat has gone on from the holder's station to a later one and is no longer moving, and yet that station hasn't left: none takes the lead after it.
--- The step that moves a seat leaves its former station, so no run comes to this; the rule alone doesn't say so.
-pub record IsLeftBehind {T : Type 0} (m : Moment) (v : View T) : Type 0 where
-  pub is_free : m.phase ≡ free
-  pub not_left : cursor m.words m.holder < GONE
-  pub was_its : get_elem? m.seating m.holder ≡ some v.version
-  pub later : m.holder < v.station
-  pub role : (v.role ≡ Reader) ⊎ (v.role ≡ Gone)
-
--- each station that a version's seat was at before is gone, but for the one that a moving seat has still to leave
-abbrev pub HaveMovedOn : {T : Type 0} → Moment → List (View T) → Type 0
-HaveMovedOn {T} m views = (j : ℕ) (v : View T) → get_elem? views j ≡ some v → Live v.role
-    → (t : ℕ) → get_elem? m.seating t ≡ some v.version → t ≢ v.station → (v.role ≡ Moving → t ≢ v.former) → GONE ≤ cursor m.words t
-
 -- the lowest station that hasn't left
 pub record IsLowest (m : Moment) (s : ℕ) : Type 0 where
   pub is_open : s < length m.seating

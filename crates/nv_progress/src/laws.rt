@@ -1,5 +1,7 @@
 // What holds of each state of a room.
-ghost use Rattle.std.specs.Prelude.{◌≡◌, ◌≢◌, ◌⊎◌, ℕ, ◌+◌, ◌*◌, ◌<◌, ◌≤◌, List, Option, length};
+ghost use Rattle.std.specs.Prelude.{◌≡◌, ◌≢◌, ℕ, ◌+◌, ◌*◌, ◌<◌, ◌≤◌, List, Option, length};
+ghost use mathlib.Core.Option.{some};
+ghost use lib.ListN.{get_elem?};
 ghost use Rattle.atomic_table.specs.Table.{State};
 ghost use Rattle.nv_calls.specs.Limits.{MOST_EVENTS};
 ghost use Rattle.nv_room.specs.declared.view.View.{View};
@@ -8,18 +10,14 @@ ghost use Rattle.nv_room.specs.Owner.{held, free};
 ghost use Rattle.nv_room.specs.Placement.{Log};
 ghost use Rattle.nv_room.specs.Room.{cursor, Leads, Rule};
 ghost use Rattle.nv_ring.specs.Places.{FitsAll, IsFull};
-ghost use Rattle.nv_progress.specs.GetsOn.{moment, AllSeated, CanGetOn, HasEvent, HaveMovedOn, IsLeftBehind, IsLowest, SomeGetsOn, SomeSeat, SomeStays};
+ghost use Rattle.nv_progress.specs.GetsOn.{moment, AllSeated, CanGetOn, HasEvent, IsLowest, SomeGetsOn, SomeSeat, SomeStays};
 ghost use Rattle.nv_progress.specs.Steps.{Kind, Went, steps_left, steps_on};
 
 use nv_calls::SyscallKernel;
 
-/// In each state of a room that meets its rule, each version's seat there and not all gone, some seat can get on; but for a state in which a station
-/// hasn't left that a seat has moved on from.
+/// In each state of a room that meets its rule, each version's seat there and not all gone, some seat can get on.
 pub fn no_room_is_stuck<K: SyscallKernel>()
-    ensures some { (p : Plan K) (s : State (Option K) (View K)) (r : Rule K.log K.start p s) → AllSeated p s.views → SomeStays s.views
-        → SomeGetsOn p.places (moment r) s.views ⊎ SomeSeat s.views (IsLeftBehind (moment r)) }
-    ensures moved_on { (p : Plan K) (s : State (Option K) (View K)) (r : Rule K.log K.start p s) → AllSeated p s.views → SomeStays s.views
-        → HaveMovedOn (moment r) s.views → SomeGetsOn p.places (moment r) s.views }
+    ensures { (p : Plan K) (s : State (Option K) (View K)) (r : Rule K.log K.start p s) → AllSeated p s.views → SomeStays s.views → SomeGetsOn p.places (moment r) s.views }
 {}
 
 /// Who keeps a lead from its place has an event to see, as the cursor tells at which the lead looked; while the room is held a seat leads it; and while it
@@ -33,7 +31,7 @@ pub fn who_is_waited_for_can_get_on<K: SyscallKernel>()
         → SomeSeat s.views (λ v. (v.station ≡ r.holder) × Leads v.role) }
     ensures lower { (p : Plan K) (s : State (Option K) (View K)) (r : Rule K.log K.start p s) → AllSeated p s.views → r.phase ≡ free
         → (t : ℕ) → IsLowest (moment r) t
-        → SomeSeat s.views (λ v. CanGetOn p.places (moment r) v v.role) ⊎ SomeSeat s.views (IsLeftBehind (moment r)) }
+        → SomeSeat s.views (λ v. (get_elem? r.seating t ≡ some v.version) × CanGetOn p.places (moment r) v v.role) }
 {}
 
 /// However a seat goes on in a room of n stations, it takes at most so many steps that get on: one for each event, and four at each station and once more.
