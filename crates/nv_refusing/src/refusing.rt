@@ -36,6 +36,13 @@ impl<K: SyscallKernel> RefusingKernel<K> {
             asked: 0,
         }
     }
+
+    /// How many reservations were asked for, those that were refused too.
+    pub fn asked(&self) -> u64
+        ensures { result ≡ asked_of self.now }
+    {
+        self.asked
+    }
 }
 
 impl<K: SyscallKernel> SyscallKernel for RefusingKernel<K> {

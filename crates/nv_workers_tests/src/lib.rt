@@ -2,6 +2,8 @@
 //! Proved: that the tests do nothing undefined. What they assert is run.
 #![tactic(auto)]
 
+#[cfg(test)]
+mod gates;
 mod runs;
 #[cfg(test)]
 mod tests;

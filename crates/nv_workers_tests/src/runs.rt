@@ -8,7 +8,7 @@ use nv_bpf::Filter;
 use nv_calls::SyscallKernel;
 use nv_guest::Guest;
 use nv_kernel::ScriptKernel;
-use nv_outside::OpenGate;
+use nv_outside::Gate;
 use nv_replay::{Account, Version};
 use nv_room::Room;
 use nv_threads::Process;
@@ -76,13 +76,14 @@ pub fn one_by_one<K: SyscallKernel>(
     Some(nv_sequence::run(versions, rules, kernel, MOST_EVENTS, hands))
 }
 
-/// The account of a run of these programs by this kernel, beside each other.
-pub fn beside<R: Threads + Wait + Sync, K: SyscallKernel>(
+/// The account of a run of these programs by this kernel, beside each other, past this gate.
+pub fn beside<R: Threads + Wait + Sync, K: SyscallKernel, G: Gate + Sync>(
     rt: &R,
     alloc: Global,
     kernel: K,
     texts: &[String],
     rules: Option<&Filter>,
+    gate: &G,
     hands: &Vec<u32>,
     places: u32,
     threads: u32,
@@ -103,7 +104,7 @@ pub fn beside<R: Threads + Wait + Sync, K: SyscallKernel>(
         room,
         workers,
         rules,
-        &OpenGate,
+        gate,
         MOST_EVENTS,
         hands,
         threads,

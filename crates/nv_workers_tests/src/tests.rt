@@ -5,7 +5,7 @@ use crate::runs::{beside, kernel, one_by_one, program};
 use nv_bpf::Filter;
 use nv_calls::SyscallKernel;
 use nv_kernel::ScriptKernel;
-use nv_outside::{MemorySink, Put};
+use nv_outside::{MemorySink, OpenGate, Put};
 use nv_refusing::RefusingKernel;
 use nv_replay::Account;
 use std::alloc::Global;
@@ -51,7 +51,10 @@ fn same_as_plain<R: Threads + Wait + Sync + Abort>(
     for threads in [1, 3, 8] {
         for places in [2, 1024] {
             let fresh = kernel(alloc).expect(rt, "a kernel");
-            let account = beside(rt, alloc, fresh, texts, rules, &hands, places, threads).ok();
+            let account = beside(
+                rt, alloc, fresh, texts, rules, &OpenGate, &hands, places, threads,
+            );
+            let account = account.ok();
             assert_eq!(rt; text_of(rt, alloc, account).as_str(), plain.as_str());
         }
     }
@@ -125,42 +128,27 @@ ecall
 text: .ascii \"hi\\n\"
 ";
 
-// The second event finds no memory, so the first version is dropped and the second one makes that call.
-const LEADER_WANTS_MEMORY: &str = "output 6
-hi
-hi
-
-log 3
-0 100 64 1 0 3 0 0 0 = 3 : 68690a
-1 100 64 1 0 3 0 0 0 = 3 : 68690a
-2 100 94 0 0 0 0 0 0 = 0 :
-fates 2
-0 memory seen 1 led 0-1 rewrites 0
-1 exited 0 seen 3 led 1-3 rewrites 0
-";
-
-// A kernel that has no memory for the second call that is asked for.
-fn refusing<R: Abort>(rt: &R, alloc: Global) -> RefusingKernel<ScriptKernel>
+// A kernel that is refused the reservation with this number, counted from 0.
+fn refusing<R: Abort>(rt: &R, alloc: Global, number: u32) -> RefusingKernel<ScriptKernel>
     ensures { (inner_of result).log ≡ [] }
 {
     let inner = kernel(alloc).expect(rt, "a kernel");
-    let refused = [1].to_vec(alloc).expect(rt, "memory");
+    let refused = [number].to_vec(alloc).expect(rt, "memory");
     RefusingKernel::make(inner, refused)
 }
 
-fn report_of<R: Abort, K: SyscallKernel>(
-    rt: &R,
-    alloc: Global,
-    account: Option<Account<K>>,
-) -> Vec<u8> {
-    let account = account.expect(rt, "a run");
+fn finished<R: Abort, K: SyscallKernel>(rt: &R, account: Option<Account<K>>) -> Account<K> {
+    account.expect(rt, "a run")
+}
+
+fn report_of<R: Abort, K: SyscallKernel>(rt: &R, alloc: Global, account: &Account<K>) -> Vec<u8> {
     let mut sink = MemorySink::make(alloc, 4096, 4096, Vec::new(alloc)).expect(rt, "memory");
-    assert_eq!(rt; nv_report::write(&mut sink, &account), Put::Whole);
+    assert_eq!(rt; nv_report::write(&mut sink, account), Put::Whole);
     sink.written().to_vec(alloc).expect(rt, "memory")
 }
 
 // So many versions that write `hi` twice.
-fn alike<R: Abort>(rt: &R, alloc: Global, count: usize) -> Vec<String>
+pub(crate) fn alike<R: Abort>(rt: &R, alloc: Global, count: usize) -> Vec<String>
     ensures { length result.items ≡ count }
 {
     let mut texts = Vec::new(alloc);
@@ -170,26 +158,6 @@ fn alike<R: Abort>(rt: &R, alloc: Global, count: usize) -> Vec<String>
     }
     assert_eq!(rt; texts.len(), count);
     texts
-}
-
-#[test]
-fn leader_wants_memory(rt: HostRuntime) {
-    let alloc = rt.alloc();
-    let texts = alike(&rt, alloc, 2);
-    let hands = Vec::new(alloc);
-    let account = one_by_one(alloc, refusing(&rt, alloc), &texts, None, &hands);
-    assert_eq!(rt;
-        report_of(&rt, alloc, account).as_slice(),
-        LEADER_WANTS_MEMORY.as_bytes()
-    );
-    for threads in [1, 2] {
-        let kernel = refusing(&rt, alloc);
-        let account = beside(&rt, alloc, kernel, &texts, None, &hands, 2, threads).ok();
-        assert_eq!(rt;
-            report_of(&rt, alloc, account).as_slice(),
-            LEADER_WANTS_MEMORY.as_bytes()
-        );
-    }
 }
 
 // What each run of versions that write `hi` twice tells, but for the versions' own lines.
@@ -202,6 +170,46 @@ log 3
 1 100 64 1 0 3 0 0 0 = 3 : 68690a
 2 100 94 0 0 0 0 0 0 = 0 :
 ";
+
+// The kernel was asked for memory once for each event, and once for the call that was refused; and so does the report say.
+fn asked_once<R: Abort>(
+    rt: &R,
+    alloc: Global,
+    account: Option<Account<RefusingKernel<ScriptKernel>>>,
+    wanted: &str,
+) {
+    let account = finished(rt, account);
+    assert_eq!(rt; account.kernel.asked(), 4);
+    assert_eq!(rt;
+        report_of(rt, alloc, &account).as_slice(),
+        wanted.as_bytes()
+    );
+}
+
+// One event finds no memory, each in turn: the first version is dropped before that call is served, and the second one makes it. No
+// other memory is asked for, so none is between a call served and its event published.
+#[test]
+fn leader_wants_memory(rt: HostRuntime) {
+    let alloc = rt.alloc();
+    let texts = alike(&rt, alloc, 2);
+    let hands = Vec::new(alloc);
+    for number in 0..3 {
+        let wanted = format!(in alloc;
+            "{SAID_TWICE}fates 2\n0 memory seen {number} led 0-{number} rewrites 0\n1 exited 0 seen 3 led {number}-3 rewrites 0\n"
+        );
+        let wanted = wanted.expect(&rt, "memory");
+        let kernel = refusing(&rt, alloc, number);
+        let account = one_by_one(alloc, kernel, &texts, None, &hands);
+        asked_once(&rt, alloc, account, wanted.as_str());
+        for threads in [1, 2] {
+            let kernel = refusing(&rt, alloc, number);
+            let account = beside(
+                &rt, alloc, kernel, &texts, None, &OpenGate, &hands, 2, threads,
+            );
+            asked_once(&rt, alloc, account.ok(), wanted.as_str());
+        }
+    }
+}
 
 // These versions come with these planned lengths to these lines: one after another, and on 1 to 3 host threads.
 fn come_to<R: Threads + Wait + Sync + Abort>(
@@ -219,12 +227,20 @@ fn come_to<R: Threads + Wait + Sync + Abort>(
     let wanted = format!(in alloc; "{SAID_TWICE}fates {count}\n{lines}").expect(rt, "memory");
     let fresh = kernel(alloc).expect(rt, "a kernel");
     let account = one_by_one(alloc, fresh, texts, None, &hands);
-    assert_eq!(rt; report_of(rt, alloc, account).as_slice(), wanted.as_bytes());
+    assert_eq!(rt;
+        report_of(rt, alloc, &finished(rt, account)).as_slice(),
+        wanted.as_bytes()
+    );
     for threads in [1, 2, 3] {
         for places in [2, 1024] {
             let fresh = kernel(alloc).expect(rt, "a kernel");
-            let account = beside(rt, alloc, fresh, texts, None, &hands, places, threads).ok();
-            assert_eq!(rt; report_of(rt, alloc, account).as_slice(), wanted.as_bytes());
+            let account = beside(
+                rt, alloc, fresh, texts, None, &OpenGate, &hands, places, threads,
+            );
+            assert_eq!(rt;
+                report_of(rt, alloc, &finished(rt, account.ok())).as_slice(),
+                wanted.as_bytes()
+            );
         }
     }
 }
