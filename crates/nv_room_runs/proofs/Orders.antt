@@ -9,7 +9,7 @@ use Rattle.nv_room.specs.declared.room.Reader.{Reader}
 use Rattle.nv_room.specs.declared.room.Left.{Left}
 use Rattle.nv_room.specs.Seats.{FreshReaders, IsFresh, IsOfRoom, IsLeftOf, version_of_reader, version_of_left, versions_of}
 use Rattle.nv_room.specs.Lefts.{IsEach}
-use Rattle.nv_room_runs.specs.Backs.{InOrder, LeftInOrder}
+use Rattle.nv_room_runs.specs.Backs.{LeftInOrder}
 
 pub at_below : {A : Type 0} (l : List A) (i : ℕ) (a : A) → get_elem? l i ≡ some a → i < length l
 at_below [] i a e = absurd (some-ne-none a (sym e))
@@ -42,11 +42,6 @@ module _ {K : Type 0} {G : Ghosts K} where
   pub down_more : (room : Room K) (ls : List (Left K G)) (l : Left K G) → Down room ls → IsLeftOf room l → version_of_left l + length ls + 1 ≡ versions_of room → Down room (ls ++ l ∷ [])
   down_more room ls l old of is i x f = ⊎_elim (λ (q : get_elem? ls i ≡ some x). old i x q)
       (λ (q : (i ≡ length ls) × (l ≡ x)). subst (λ (z : Left K G). IsLeftOf room z × (version_of_left z + i + 1 ≡ versions_of room)) q.1 (of, (let a = q.0 in omega arith))) (at_end ls l x i f)
-
-  pub order_less : (room : Room K) (rs rest : List (Reader K G)) (r : Reader K G) → rs ≡ rest ++ r ∷ [] → InOrder room rs → InOrder room rest × IsOfRoom room r × (version_of_reader r ≡ length rest + 1)
-  order_less room rs rest r is old =
-      let last = old (length rest) r (ap (λ (z : List (Reader K G)). get_elem? z (length rest)) is ∙ at_last rest r (length rest) refl) in
-      ((λ i x f. old i x (ap (λ (z : List (Reader K G)). get_elem? z i) is ∙ at_longer rest (r ∷ []) i x f)), last.0, last.1)
 
   -- as many as there are versions are the seats of all
   pub all_left : (room : Room K) (ls : List (Left K G)) → Down room ls → length ls ≡ versions_of room → IsEach room ls

@@ -9,10 +9,6 @@ use Rattle.nv_room.specs.declared.room.Left.{Left}
 use Rattle.nv_room.specs.Seats.{IsOfRoom, IsLeftOf, view, version_of_reader, version_of_left}
 
 module _ {K : Type 0} {G : Ghosts K} where
-  -- the readers of the versions from 1 on, in order
-  abbrev pub InOrder : Room K → List (Reader K G) → Type 0
-  InOrder room rs = (i : ℕ) (r : Reader K G) → get_elem? rs i ≡ some r → IsOfRoom room r × (version_of_reader r ≡ i + 1)
-
   -- it has read no word of an event that it has not seen
   abbrev pub IsIdle : Room K → Reader K G → Type 0
   IsIdle room r = IsOfRoom room r × ((view r).read ≡ [])

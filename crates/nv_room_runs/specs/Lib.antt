@@ -1,3 +1,3 @@
 pub mod Going
 pub mod Backs
-pub mod Pairs
+pub mod Scripts

@@ -48,6 +48,7 @@ pub fn exit_group(alloc: Global) -> Result<Call, AllocError>
 pub fn clone(alloc: Global) -> Result<Call, AllocError>
     ensures shaped { IfOk result (λ c. IsShaped (request c)) }
     ensures first { IfOk result (λ c. c.tid ≡ FIRST_THREAD) }
+    ensures goes_on { IfOk result (λ c. GoesOn (request c)) }
 {
     let payload = Bytes::make(alloc, 0)?;
     Ok(Call {
@@ -64,6 +65,7 @@ pub fn of_thread(call: Call, tid: u32) -> Call
     requires shaped { IsShaped (request call) }
     ensures shaped { IsShaped (request result) }
     ensures thread { result ≡ record call { tid = tid } }
+    ensures goes_on { GoesOn (request call) → GoesOn (request result) }
 {
     Call { tid, ..call }
 }

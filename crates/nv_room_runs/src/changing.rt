@@ -8,8 +8,9 @@ ghost use Rattle.nv_room.specs.Seats.{IsOfRoom, IsLeadOf, IsLeftOf, FreshReaders
 ghost use Rattle.nv_room_runs.specs.Going.{GoesOn};
 ghost use Rattle.nv_room_runs.specs.Backs.{IsIdle};
 
+use crate::lives::goes_on;
 use crate::running::publish_one;
-use nv_calls::{Call, EXIT, EXIT_GROUP, Event, FIRST_THREAD, SyscallKernel};
+use nv_calls::{Call, EXIT_GROUP, FIRST_THREAD, SyscallKernel};
 use nv_lamport::{Polled, poll_merged};
 use nv_promotion::{Lower, close, leave, lower_gone, retire, take};
 use nv_ring::advance;
@@ -228,18 +229,6 @@ pub(crate) fn is_free<K: SyscallKernel>(
         Polled::Free(n) => n == events,
         _ => false,
     }
-}
-
-// No thread has ended.
-pub(crate) fn goes_on(history: &[Event]) -> bool
-    ensures { OnTrue result (Contains (live_after (map entry history.now)) FIRST_THREAD) }
-{
-    for event in history {
-        if event.call.nr == EXIT || event.call.nr == EXIT_GROUP {
-            return false;
-        }
-    }
-    true
 }
 
 // Publishes the last call, and closes.

@@ -7,7 +7,8 @@ ghost use Rattle.nv_room.specs.Seats.{IsLeftOf, IsFreshLead, FreshReaders, kerne
 ghost use Rattle.nv_room_runs.specs.Going.{GoesOn};
 ghost use Rattle.nv_room_runs.specs.Backs.{IsIdle};
 
-use crate::changing::{end_lead, goes_on, publish_some, read_some, take_over};
+use crate::changing::{end_lead, publish_some, read_some, take_over};
+use crate::lives::goes_on;
 use nv_calls::{Call, EXIT_GROUP, FIRST_THREAD, SyscallKernel};
 use nv_lamport::{Polled, poll_merged};
 use nv_promotion::{Lower, hand, leave, lower_gone};

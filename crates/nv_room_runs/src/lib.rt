@@ -1,19 +1,18 @@
-//! Runs of a room: by threads, in turns, and step by step over a change of leader and a planned hand-over.
-//! Types: `Pair`, `Relay`, `Script`.
-//! Proved: the conditions of the room's steps hold, and the log that a run leaves is legal from the kernel's start.
+//! Runs of rooms by threads: each version leads in its turn and the others read; and a change of leader and a planned hand-over step by step.
+//! Types: `Script`, what a run tries: versions, calls, places.
+//! Proved: the conditions of the room's steps hold.
 //! Above: the room's tests, the ring's benchmark.
 #![tactic(auto)]
 
-mod alternating;
 mod calls;
 mod changing;
 mod handing;
-mod relaying;
+mod lives;
 mod running;
+mod script;
 
-pub use alternating::{Pair, run_pair};
 pub use calls::{clone, exit_group, getuid, kernel, of_thread, write};
 pub use changing::change_leader;
 pub use handing::hand_over;
-pub use relaying::{Relay, all_cross, run_relay};
-pub use running::{Script, run, serve_all};
+pub use running::{all_cross, run, serve_all};
+pub use script::Script;

@@ -2,10 +2,10 @@ use Rattle.std.proofs.Common.{rules, ◌≡◌, ◌∙◌, length, arith, sym, a
 use Rattle.nv_room.specs.Seats.{IsLeftOf, version_of_left, version_of_reader}
 use Rattle.atomic_table.proofs.Lists.{at_index}
 use Rattle.nv_room_runs.proofs.Orders.{at_below, at_value}
-use Rattle.nv_room_runs.proofs.relaying.follow_each.Goals as goal
+use Rattle.nv_room_runs.proofs.running.follow_each.Goals as goal
 
 pub map_vec-requires-after_bounds : goal.map_vec-requires-after_bounds
-map_vec-requires-after_bounds g c κs within i x near at = let f = c.requires.fresh i x (at_index _ i x near at) in (((f.0, ap (λ v. v.read) f.3), c.requires.shaped, c.requires.calls), (let s = c.type_bounds.send-K in search rules))
+map_vec-requires-after_bounds g c κs within i x near at = let f = c.requires.fresh i x (at_index _ i x near at) in (((f.0, ap (λ v. v.read) f.3), c.requires.calls), (let s = c.type_bounds.send-K in search rules))
 
 pub returns-clause-order : goal.returns-clause-order
 returns-clause-order g c = λ i l at.

@@ -6,7 +6,7 @@ use Rattle.nv_calls.specs.Calls.{Entry, entry}
 use Rattle.nv_calls.specs.Logs.{live_after}
 use Rattle.nv_calls.specs.declared.calls.Event.{Event}
 use Rattle.nv_room_runs.proofs.Living.{lives_on}
-use Rattle.nv_room_runs.proofs.changing.goes_on.Goals as goal
+use Rattle.nv_room_runs.proofs.lives.goes_on.Goals as goal
 
 pub loop-event-preserved : goal.loop-event-preserved
 loop-event-preserved c =

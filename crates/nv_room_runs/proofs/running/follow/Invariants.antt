@@ -1,7 +1,7 @@
 use Rattle.std.proofs.Common.{◌≡◌}
 use Rattle.nv_room.specs.Seats.{version_of_reader}
 use Rattle.nv_room_runs.specs.Backs.{IsIdle}
-use Rattle.nv_room_runs.proofs.relaying.follow.Given as goal
+use Rattle.nv_room_runs.proofs.running.follow.Given as goal
 
 abbrev pub invariant-loop-turn : goal.invariant-loop-turn
 invariant-loop-turn g l = record {

@@ -3,11 +3,11 @@ use Rattle.nv_calls.specs.Calls.{Entry, request}
 use Rattle.nv_calls.specs.Logs.{served, live_after}
 use Rattle.nv_room.specs.Seats.{kernel_of}
 use Rattle.nv_room_runs.proofs.Living.{all_end}
-use Rattle.nv_room_runs.proofs.relaying.lead_share.Goals as goal
+use Rattle.nv_room_runs.proofs.running.lead_share.Goals as goal
 
 pub close-requires-clause-ended : goal.close-requires-clause-ended
 close-requires-clause-ended g c κs within =
-    let log : List Entry = g.K.SyscallKernel.log (kernel_of c.publish_some.new.lead) in
-    let e : Entry = served (g.K.SyscallKernel.start (kernel_of c.publish_some.new.lead)) log (request c.args.script.now.last) in
+    let log : List Entry = g.K.SyscallKernel.log (kernel_of c.publish_share.new.lead) in
+    let e : Entry = served (g.K.SyscallKernel.start (kernel_of c.publish_share.new.lead)) log (request c.args.script.now.last) in
     let more : g.K.SyscallKernel.log (kernel_of c.publish_one.new.lead) ≡ log ++ e ∷ [] = c.if-not-publish_one.ensures.log in
-    ap live_after more ∙ all_end log e c.requires.calls.3
+    ap live_after more ∙ all_end log e c.requires.calls.last.2

@@ -8,7 +8,7 @@ use Rattle.nv_lanes.specs.Lanes.{is_of}
 use Rattle.nv_calls.specs.declared.calls.Event.{Event}
 use Rattle.nv_room_runs.specs.Going.{GoesOn}
 use Rattle.nv_room_runs.proofs.Living.{lives_on, child_lives, either, made_of}
-use Rattle.nv_room_runs.proofs.alternating.lives_after.Goals as goal
+use Rattle.nv_room_runs.proofs.lives.lives_after.Goals as goal
 
 pub loop-event-preserved : goal.loop-event-preserved
 loop-event-preserved c = λ lives.
