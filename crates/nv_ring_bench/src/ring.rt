@@ -1,9 +1,7 @@
 //! Events through a room.
 ghost use Rattle.std.specs.Prelude.{◌≡◌, ◌<◌, ◌≤◌, IfOk};
-ghost use Rattle.nv_calls.specs.Calls.{request};
-ghost use Rattle.nv_calls.specs.Shapes.{IsShaped};
 ghost use Rattle.nv_calls.specs.Limits.{MOST_EVENTS};
-ghost use Rattle.nv_room_runs.specs.Going.{GoesOn};
+ghost use Rattle.nv_room_runs.specs.Scripts.{AreCalls};
 
 use nv_calls::SyscallKernel;
 use nv_room_runs::{Script, exit_group, kernel, serve_all, write};
@@ -48,16 +46,20 @@ pub fn run_kernel(alloc: Global, bytes: u32, events: u32) -> Result<u64, AllocEr
 fn script(alloc: Global, bytes: u32, events: u32) -> Result<Script, AllocError>
     requires { bytes ≤ 4096 }
     ensures events { IfOk result (λ s. s.events ≡ events) }
-    ensures shaped { IfOk result (λ s. IsShaped (request s.call) × IsShaped (request s.last)) }
-    ensures first { IfOk result (λ s. (s.call.tid ≡ 100) × (s.last.tid ≡ 100)) }
-    ensures goes_on { IfOk result (λ s. GoesOn (request s.call)) }
+    ensures calls { IfOk result (λ s. AreCalls s) }
+    ensures first { IfOk result (λ s. s.first.tid ≡ 100) }
 {
-    let call = write(alloc, bytes)?;
+    let opening = write(alloc, bytes)?;
+    let first = write(alloc, bytes)?;
+    let second = write(alloc, bytes)?;
     let last = exit_group(alloc)?;
     Ok(Script {
-        call,
+        opening,
+        first,
+        second,
         last,
         events,
+        each: events,
         most: IDLE,
     })
 }

@@ -1,8 +1,7 @@
 ghost use Rattle.std.specs.Prelude.{◌<◌, ◌≤◌};
 
 use nv_room_runs::{
-    Pair, Relay, Script, change_leader, clone, exit_group, getuid, hand_over, kernel, of_thread,
-    run, run_pair, run_relay, write,
+    Script, change_leader, clone, exit_group, getuid, hand_over, kernel, of_thread, run, write,
 };
 use std::alloc::Global;
 use std::process::Abort;
@@ -14,9 +13,12 @@ fn all_see_all<R: Threads + Sync + Abort>(rt: &R, alloc: Global, versions: u32, 
     requires places { (2 ≤ places) × (places ≤ 1024) }
 {
     let script = Script {
-        call: getuid(alloc).expect(rt, "memory"),
+        opening: getuid(alloc).expect(rt, "memory"),
+        first: getuid(alloc).expect(rt, "memory"),
+        second: getuid(alloc).expect(rt, "memory"),
         last: exit_group(alloc).expect(rt, "memory"),
         events: 100,
+        each: 100,
         most: 10_000_000,
     };
     let kernel = kernel(alloc).expect(rt, "memory");
@@ -33,9 +35,12 @@ fn all_see_writes<R: Threads + Sync + Abort>(rt: &R, alloc: Global, versions: u3
     requires places { (2 ≤ places) × (places ≤ 1024) }
 {
     let script = Script {
-        call: write(alloc, 4096).expect(rt, "memory"),
+        opening: write(alloc, 4096).expect(rt, "memory"),
+        first: write(alloc, 4096).expect(rt, "memory"),
+        second: write(alloc, 4096).expect(rt, "memory"),
         last: exit_group(alloc).expect(rt, "memory"),
         events: 50,
+        each: 50,
         most: 10_000_000,
     };
     let kernel = kernel(alloc).expect(rt, "memory");
@@ -112,14 +117,17 @@ fn hands_over_at_a_planned_length(rt: HostRuntime) {
 #[test]
 fn each_leads_in_its_turn(rt: HostRuntime) {
     let alloc = rt.alloc();
-    let script = Relay {
-        call: getuid(alloc).expect(&rt, "memory"),
+    let script = Script {
+        opening: getuid(alloc).expect(&rt, "memory"),
+        first: getuid(alloc).expect(&rt, "memory"),
+        second: getuid(alloc).expect(&rt, "memory"),
         last: exit_group(alloc).expect(&rt, "memory"),
+        events: 25,
         each: 3,
         most: 10_000_000,
     };
     let kernel = kernel(alloc).expect(&rt, "memory");
-    let ended = run_relay(&rt, alloc, kernel, &script, 8, 4).expect(&rt, "memory");
+    let ended = run(&rt, alloc, kernel, &script, 8, 4).expect(&rt, "memory");
     assert_eq!(rt;
         ended.seen.as_slice(),
         [3, 6, 9, 12, 15, 18, 21, 25].as_slice()
@@ -137,16 +145,17 @@ fn two_threads_alternate<R: Threads + Sync + Abort>(
     requires places { (2 ≤ places) × (places ≤ 1024) }
 {
     let call = getuid(alloc).expect(rt, "memory");
-    let pair = Pair {
-        clone: clone(alloc).expect(rt, "memory"),
+    let script = Script {
+        opening: clone(alloc).expect(rt, "memory"),
         first: getuid(alloc).expect(rt, "memory"),
         second: of_thread(call, 101),
         last: exit_group(alloc).expect(rt, "memory"),
-        times: 50,
+        events: 102,
+        each: 102,
         most: 10_000_000,
     };
     let kernel = kernel(alloc).expect(rt, "memory");
-    let ended = run_pair(rt, alloc, kernel, &pair, versions, places).expect(rt, "memory");
+    let ended = run(rt, alloc, kernel, &script, versions, places).expect(rt, "memory");
     assert_eq!(rt; ended.seen.len(), versions as usize);
     for seen in ended.seen.iter() {
         assert_eq!(rt; *seen, 102);
