@@ -1,5 +1,5 @@
 //! Runs of rooms by threads: each version leads in its turn and the others read; and a change of leader and a planned hand-over step by step.
-//! Types: `Script`, what a run tries: versions, calls, places.
+//! Types: `Script`, what the stations publish and when they lead.
 //! Proved: the conditions of the room's steps hold.
 //! Above: the room's tests, the ring's benchmark.
 #![tactic(auto)]
