@@ -18,12 +18,12 @@ use Rattle.nv_words.specs.Spell.{IsWhole}
 use Rattle.nv_room.specs.Steps.{Tells}
 use Rattle.nv_workers.specs.Working.{FollowsOn, HasEnded}
 
--- head and the owner were looked at; a station leads, or none does and a lower station has still to leave
+-- head and the owner were looked at; a station leads, or none does and a lower station, which was looked at after that, has still to leave
 pub record HasWaited {T : Type 0} (old new : View T) : Type 0 where
   pub head_looked : old.head_looks < new.head_looks
   pub head_last : new.head_last ≡ length new.seen
   pub owner_looked : old.owner_looks < new.owner_looks
-  pub owner : (is_held new.owner_last ≡ true) ⊎ ((is_free new.owner_last ≡ true) × ((s : ℕ) × IsAlive old new new.station s))
+  pub owner : (is_held new.owner_last ≡ true) ⊎ ((is_free new.owner_last ≡ true) × (new.owner_after < new.cursor_looks) × ((s : ℕ) × IsAlive old new new.station s))
 
 module _ (judges : ℕ → Judge) {K : Type 0} {G : Ghosts K} (room : Room K) (most : ℕ) (p : Proc) (v : Running Proc) (r : Reader K G) (held : Bool) (buf : List ℕ) where
   abbrev pub AfterTurn : Next → Type 0

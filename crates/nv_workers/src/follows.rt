@@ -103,7 +103,8 @@ fn find_event<K: SyscallKernel>(reader: &mut Reader<K>, room: &Room<K>, buf: &mu
     ensures same { SameReader reader.old reader.new }
     ensures found { IsFound (view reader.old) (view reader.new) buf.new result }
 {
-    match poll_merged(reader, room, buf) {
+    let polled = poll_merged(reader, room, buf);
+    match polled {
         Polled::Event => return Found::Event,
         Polled::Waiting => return Found::Held,
         Polled::Free(_) => {}
