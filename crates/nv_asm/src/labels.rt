@@ -1,8 +1,9 @@
 // The first pass: where each label is first defined, and how long the text section is.
-ghost use Rattle.std.specs.Prelude.{◌≡◌, ◌^◌, ℕ, List, IfOk, OnOk};
+ghost use Rattle.std.specs.Prelude.{◌≡◌, ◌≤◌, ◌^◌, ℕ, List, IfOk, OnOk, length};
 ghost use Rattle.nv_text.specs.Lines.{lines};
 ghost use Rattle.nv_text.specs.Names.{defined, defining};
-ghost use Rattle.nv_asm.specs.Places.{placed, start, marked};
+ghost use Rattle.nv_asm.specs.Places.{after, marked, placed, placed_line, size, start, stated};
+ghost use Rattle.nv_asm.specs.Bounds.{most_of};
 ghost use Rattle.nv_asm.specs.declared.place.Label.{Label};
 ghost use Rattle.nv_asm.specs.Lines.{placed_view, IsSmall};
 ghost use Rattle.nv_asm.specs.Assembled.{Whole, whole_of};
@@ -37,6 +38,25 @@ fn define<'a>(names: &mut Names<'a, Label>, placed: &Placed<'a>) -> Result<(), A
     Ok(())
 }
 
+// Defines a line's label, and tells how far the text has come after it.
+fn take_up<'a>(
+    alloc: Global,
+    names: &mut Names<'a, Label>,
+    line: usize,
+    before: Reached,
+    content: &'a [u8],
+) -> Result<Reached, AllocError>
+    requires { IsSmall before }
+    ensures reached { IfOk result (λ reached. reached ≡ after (placed_line line before content.now)) }
+    ensures small { IfOk result (λ reached. size (stated (placed_line line before content.now)) ≤ most_of (length content.now)) }
+    ensures known { OnOk result ((rest : List (List ℕ × Label)) (name : List ℕ) → found names.old (defining (placed_line line before content.now).label (marked (placed_line line before content.now)).1 rest) name ≡ found names.new rest name) }
+    ensures below { OnOk result (IsBelow (2 ^ 121) names.old → IsBelow (2 ^ 121) names.new) }
+{
+    let placed = placed_line(alloc, line, before, content)?;
+    define(names, &placed)?;
+    Ok(placed.after())
+}
+
 /// What each label is first defined as, and how long the text section is.
 pub fn labels<'a>(alloc: Global, text: &'a [u8]) -> Result<(Names<'a, Label>, u128), AllocError>
     ensures names { IfOk result (λ found. (name : List ℕ) → defined found.0 name ≡ (whole_of (placed 0 start (lines text.now))).find name) }
@@ -46,9 +66,7 @@ pub fn labels<'a>(alloc: Global, text: &'a [u8]) -> Result<(Names<'a, Label>, u1
     let mut names = Names::new(alloc);
     let mut reached = START;
     for (line, content) in Lines::of(text) {
-        let placed = placed_line(alloc, line, reached, content)?;
-        define(&mut names, &placed)?;
-        reached = placed.after();
+        reached = take_up(alloc, &mut names, line, reached, content)?;
     }
     Ok((names, reached.text_len))
 }
