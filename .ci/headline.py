@@ -186,7 +186,7 @@ def main(words):
     wrong = compare(house, cited)
     if wrong:
         sys.exit("\n".join(f"headline: {it}" for it in wrong))
-    print(f"headline: the clauses of {TOP[2]} cite {len(cited):,} of the {len(house.definitions()):,} definitions of specs/, in {sum(it.lines for it in cited):,} lines, and {len(whole(roots)) - len(cited)} types of the code")
+    print(f"headline: the clauses of varan and program cite {len(cited):,} of the {len(house.definitions()):,} definitions of specs/, in {sum(it.lines for it in cited):,} lines, and {len(whole(roots)) - len(cited)} types of the code")
 
 
 if __name__ == "__main__":

@@ -139,7 +139,7 @@ use Rattle.nv_replay.specs.Monitor.{Part, Run, numbers, part, begun as nv_replay
 use Rattle.nv_replay.specs.Permits.{Permit, given, failed, passed as nv_replay_passed, permit}
 use Rattle.nv_replay.specs.Sequence.{Account, is_on as nv_replay_is_on, cuts_of}
 use Rattle.nv_replay.specs.Settling.{stage}
-use Rattle.nv_replay.specs.Survivors.{alone}
+use Rattle.nv_replay.specs.Survivors.{alone, IsSurvivor, HasNoClone}
 use Rattle.nv_replay.specs.Tracks.{is_in, is_led, retraced_by, tracked, track_on, track_next, track}
 use Rattle.nv_report.specs.Events.{payload_text, call_text, result_text, event_text}
 use Rattle.nv_report.specs.Json.{natural, integer, list_value, hex_value, word_value, payload_value, event_value, span_value, led_value, version_members, version_value, report_object, report_value}
@@ -174,5 +174,7 @@ use Rattle.nv_jobs.specs.Made.{accepted_text, of_filter as nv_jobs_of_filter, of
 use Rattle.nv_jobs.specs.Outcome.{account_text, totals_of, name_of as nv_jobs_name_of, name_on, Source, source_of}
 use Rattle.nv_jobs.specs.Prepared.{VersionOf, of_loaded, of_elf, Prepared, read_at, with_machine as nv_jobs_with_machine, version_then, versions_from, judged_by, rules_then, after_rules, after_script}
 use Rattle.nv_jobs.specs.Replayed.{counts_text}
+use Rattle.nv_jobs.specs.Tasks.{fault_outcome}
 use Rattle.nv_jobs.specs.Traced.{TraceFinds, AreTraceFound, trace_finds_of, Lack, then_with, bytes_at as nv_jobs_bytes_at, of_script, script_at, of_filter as nv_jobs_Traced_of_filter, rules_at, unless_unsound, unless_faulty as nv_jobs_unless_faulty, of_trace, log_at, trail_limits, of_version, machine_at as nv_jobs_machine_at, Traced, after_log, after_filter, after_setup}
 use Rattle.nv_jobs.specs.Tracing.{point_of as nv_jobs_point_of}
+use Rattle.nv_cli.specs.Program.{Given, AreRefused, Begins}
