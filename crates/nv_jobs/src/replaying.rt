@@ -81,7 +81,12 @@ fn follow_whole(traced: TracedVersion, budget: u32) -> Version
         mut version,
         ..
     } = traced;
-    bring(&mut version, rules.as_ref(), &kernel, TracePoint::Count(budget));
+    bring(
+        &mut version,
+        rules.as_ref(),
+        &kernel,
+        TracePoint::Count(budget),
+    );
     version
 }
 
