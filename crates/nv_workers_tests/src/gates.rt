@@ -1,8 +1,9 @@
-use crate::runs::{beside, kernel};
-use crate::tests::alike;
+use crate::runs::{beside, kernel, program};
+use crate::tests::{EXITS, alike};
 use nv_outside::Gate;
 use std::process::Abort;
 use std::sync::atomic::{AtomicU64, Ordering};
+use std::thread::yield_now;
 
 // How often the first version and the second came with each stamp: a decimal digit for each of 0, 1 and 2. Other versions are noted apart.
 #[derive(Drop)]
@@ -82,5 +83,70 @@ fn gate_is_told_versions(rt: HostRuntime) {
         assert!(rt; account.is_ok());
         assert_eq!(rt; gate.published.told(), [101, 10, 0]);
         assert_eq!(rt; gate.taken.told(), [10, 101, 0]);
+    }
+}
+
+// A gate of one leader and one follower. It holds the follower once it has taken the first event, until the leader has come as
+// far as it may and for some time more, and keeps how far the leader was ahead at most: the events that it had published less those
+// that the follower had told as taken.
+#[derive(Drop)]
+struct Holding {
+    places: u64,
+    begun: AtomicU64,
+    taken: AtomicU64,
+    ahead: AtomicU64,
+}
+
+impl Holding {
+    // Until the leader has begun more events than these, for so long at most.
+    fn wait(&self, events: u64, yields: u32) {
+        for _ in 0..yields {
+            if self.begun.load(Ordering::SeqCst) > events {
+                return;
+            }
+            yield_now();
+        }
+    }
+}
+
+impl Gate for Holding {
+    fn before_publish(&self, _version: u32, stamp: u32) {
+        let taken = self.taken.load(Ordering::SeqCst);
+        let ahead = u64::from(stamp).saturating_sub(taken);
+        self.ahead.fetch_max(ahead, Ordering::SeqCst);
+        self.begun.fetch_add(1, Ordering::SeqCst);
+    }
+
+    fn after_take(&self, _version: u32, stamp: u32) {
+        if stamp == 0 {
+            self.wait(self.places, 10_000_000);
+            self.wait(self.places.saturating_add(1), 20_000);
+        }
+        self.taken.fetch_add(1, Ordering::SeqCst);
+    }
+}
+
+// While the follower is held with one event taken, the leader publishes as many after it as there are places, and no more.
+#[test]
+fn ring_bounds_the_leader(rt: HostRuntime) {
+    let alloc = rt.alloc();
+    let texts = [
+        program(alloc, 40, EXITS).expect(&rt, "memory"),
+        program(alloc, 40, EXITS).expect(&rt, "memory"),
+    ];
+    let hands = Vec::new(alloc);
+    for places in [2, 16] {
+        let gate = Holding {
+            places: u64::from(places),
+            begun: AtomicU64::new(0),
+            taken: AtomicU64::new(0),
+            ahead: AtomicU64::new(0),
+        };
+        let fresh = kernel(alloc).expect(&rt, "a kernel");
+        let account = beside(&rt, alloc, fresh, &texts, None, &gate, &hands, places, 2);
+        assert!(rt; account.is_ok());
+        assert_eq!(rt; gate.begun.load(Ordering::SeqCst), 41);
+        assert_eq!(rt; gate.taken.load(Ordering::SeqCst), 41);
+        assert_eq!(rt; gate.ahead.load(Ordering::SeqCst), u64::from(places));
     }
 }

@@ -13,7 +13,7 @@ use std::process::Abort;
 use std::sync::Wait;
 use std::thread::Threads;
 
-const EXITS: &str = "li a0, 7\nli a7, 94\necall\n";
+pub(crate) const EXITS: &str = "li a0, 7\nli a7, 94\necall\n";
 
 // A load from address 0.
 const FAULTS: &str = "lw a0, 0(zero)\n";
