@@ -36,5 +36,5 @@ module _ {P : Type 0} (g : Behaviour P) (judges : ℕ → Judge) (start : Start)
   -- the account of a run without planned lengths
   pub settled_unplanned : IsProcess g → (hands : List ℕ) (ps : List P) (account : Account) → account ≡ sequence g judges start most cuts hands ps → AreEnded account.lines → hands ≡ [] → AreSettled account.lines
   settled_unplanned laws hands ps account is ended none =
-      let same : account ≡ plain.sequence g judges start most cuts ps = is ∙ ap (λ (h : List ℕ). sequence g judges start most cuts h ps) none ∙ no_hands g laws judges start most cuts ps in
+      let same : account ≡ plain.plain_sequence g judges start most cuts ps = is ∙ ap (λ (h : List ℕ). sequence g judges start most cuts h ps) none ∙ no_hands g laws judges start most cuts ps in
       settled_from account.lines ended (subst (λ (a : Account). EachOnce a.lines) (sym same) (once_from ps 0 [] false))
