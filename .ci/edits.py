@@ -16,6 +16,8 @@ LACKS_A_NAME = "(only because a proof file names"
 AT_A_LIMIT = "(only by a limit of the prover"
 # What is no clause: what a call requires, and that a number, an index or a divisor is within its bounds.
 CONDITION = re.compile(r"requires holds at|`([\w.-]+-)?(requires|overflow_|bounds-|slice_bounds-|offset_bounds-|nonzero_|prove-)")
+# But where a seat writes to the table that stations share, and where that table is made, what the call requires is the table's rule.
+RULE = re.compile(r"`(store|exchange|new-made)-requires")
 ROW = re.compile(r"\| `(\w+/[\w.-]+)` \|")
 
 
@@ -27,7 +29,7 @@ def fault_of(came_to, said, is_rule):
         return "only a name is missing: change a value and keep the names"
     if said.startswith(AT_A_LIMIT):
         return "only a limit of the prover refuses it"
-    if CONDITION.search(said) and not is_rule:
+    if CONDITION.search(said) and not RULE.search(said) and not is_rule:
         return f"a condition on the way refuses it, and no clause{said}"
     return None
 
