@@ -1,5 +1,6 @@
 pub mod Ends
 pub mod Turns
+pub mod Terms
 pub mod Working
 pub mod Growing
 pub mod Follows

@@ -1,5 +1,5 @@
 //! A leader's turn.
-ghost use Rattle.std.specs.Prelude.{◌≡◌, ◌≤◌, ℕ, ◌<◌, ◌++◌, [], ◌∷◌, Some, None, true, false, length, Contains};
+ghost use Rattle.std.specs.Prelude.{◌≡◌, ℕ, ◌<◌, ◌++◌, [], ◌∷◌, Some, None, true, false, length, Contains};
 ghost use Rattle.nv_calls.specs.Logs.{served, live_after, IsLawful};
 ghost use Rattle.nv_calls.specs.Limits.{MOST_EVENTS};
 ghost use Rattle.nv_words.specs.Spell.{spell};
@@ -8,12 +8,14 @@ ghost use Rattle.nv_replay.specs.Follow.{Judge};
 ghost use Rattle.nv_replay.specs.Hands.{has};
 ghost use Rattle.nv_replay.specs.Versions.{answered_by};
 ghost use Rattle.nv_room.specs.Spans.{grown};
-ghost use Rattle.nv_room.specs.Seats.{IsLeadOf, SameLead, IsReady, lead_view, kernel_of, due_of, hands_of};
+ghost use Rattle.nv_room.specs.Seats.{IsLeadOf, SameLead, IsReady, lead_view, kernel_of, due_of};
+ghost use Rattle.nv_workers.specs.Terms.{AreOfRoom};
 ghost use Rattle.nv_workers.specs.Working.{LeadsOn};
 ghost use Rattle.nv_workers.specs.Growing.{OneMoreAtMost};
 ghost use Rattle.nv_workers.specs.LeadsOn.{AfterLead, HasPublished, IsLate, next_after};
 
 use crate::follows::Next;
+use crate::terms::Terms;
 use nv_calls::SyscallKernel;
 use nv_outside::Gate;
 use nv_replay::{Led, Version};
@@ -26,26 +28,23 @@ pub(crate) fn lead_turn<K: SyscallKernel, G: Gate>(
     lead: &mut Lead<K>,
     asked: &mut Option<u32>,
     room: &Room<K>,
-    gate: &G,
-    most: u32,
-    hands: &[u32],
+    terms: &Terms<'_, G>,
 ) -> Next
-    requires leads { (judges : ℕ → Judge) × (p : Proc) × LeadsOn judges room.now most p version.old false lead.old asked.old }
-    requires most { most ≤ MOST_EVENTS }
-    requires hands { hands_of room.now ≡ hands.now }
+    requires leads { (judges : ℕ → Judge) × (p : Proc) × LeadsOn judges room.now terms.now.most p version.old false lead.old asked.old }
+    requires terms { AreOfRoom room.now terms.now }
     ensures same { SameLead lead.old lead.new }
-    ensures after { (judges : ℕ → Judge) (p : Proc) → LeadsOn judges room.now most p version.old false lead.old asked.old → AfterLead judges room.now most p version.new lead.new asked.new result }
+    ensures after { (judges : ℕ → Judge) (p : Proc) → LeadsOn judges room.now terms.now.most p version.old false lead.old asked.old → AfterLead judges room.now terms.now.most p version.new lead.new asked.new result }
     ensures published { HasPublished (lead_view lead.old) (lead_view lead.new) result }
     ensures late { IsLate room.now lead.old lead.new result }
     ensures one { OneMoreAtMost (length (lead_view lead.old).seen) (length (lead_view lead.new).seen) }
 {
     match *asked {
-        Some(tid) => serve(version, lead, asked, tid, room, gate, most, hands),
-        None => match version.lead(most) {
+        Some(tid) => serve(version, lead, asked, tid, room, terms),
+        None => match version.lead(terms.most) {
             Led::Dropped(_) => Next::Leaves,
             Led::Asked(tid) => {
                 *asked = Some(tid);
-                serve(version, lead, asked, tid, room, gate, most, hands)
+                serve(version, lead, asked, tid, room, terms)
             }
         },
     }
@@ -58,16 +57,13 @@ fn serve<K: SyscallKernel, G: Gate>(
     asked: &mut Option<u32>,
     tid: u32,
     room: &Room<K>,
-    gate: &G,
-    most: u32,
-    hands: &[u32],
+    terms: &Terms<'_, G>,
 ) -> Next
-    requires leads { (judges : ℕ → Judge) × (p : Proc) × LeadsOn judges room.now most p version.old false lead.old (Some tid) }
-    requires most { most ≤ MOST_EVENTS }
-    requires hands { hands_of room.now ≡ hands.now }
+    requires leads { (judges : ℕ → Judge) × (p : Proc) × LeadsOn judges room.now terms.now.most p version.old false lead.old (Some tid) }
+    requires terms { AreOfRoom room.now terms.now }
     requires asked { asked.old ≡ Some tid }
     ensures same { SameLead lead.old lead.new }
-    ensures after { (judges : ℕ → Judge) (p : Proc) → LeadsOn judges room.now most p version.old false lead.old (Some tid) → AfterLead judges room.now most p version.new lead.new asked.new result }
+    ensures after { (judges : ℕ → Judge) (p : Proc) → LeadsOn judges room.now terms.now.most p version.old false lead.old (Some tid) → AfterLead judges room.now terms.now.most p version.new lead.new asked.new result }
     ensures published { HasPublished (lead_view lead.old) (lead_view lead.new) result }
     ensures late { IsLate room.now lead.old lead.new result }
     ensures one { OneMoreAtMost (length (lead_view lead.old).seen) (length (lead_view lead.new).seen) }
@@ -79,10 +75,10 @@ fn serve<K: SyscallKernel, G: Gate>(
         version.refuse_memory();
         return Next::Leaves;
     }
-    gate.before_publish(lead.version(), lead.seen());
+    terms.gate.before_publish(lead.version(), lead.seen());
     publish_call(version, lead, tid, room);
     *asked = None;
-    next_of(version, hands)
+    next_of(version, terms.hands)
 }
 
 // What comes next for a leader whose call was served.
