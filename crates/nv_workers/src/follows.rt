@@ -1,7 +1,7 @@
 //! A reader's turn.
 ghost use Rattle.std.specs.Prelude.{◌≡◌, ℕ, [], true, length};
 ghost use Rattle.nv_threads.specs.Threads.{Proc};
-ghost use Rattle.nv_room.specs.Seats.{IsOfRoom, SameReader, view};
+ghost use Rattle.nv_room.specs.Seats.{IsOfRoom, SameReader, view, version_of_reader};
 ghost use Rattle.nv_room.specs.Steps.{TellsEnd};
 ghost use Rattle.nv_workers.specs.Terms.{judges_of};
 ghost use Rattle.nv_workers.specs.Working.{FollowsOn};
@@ -11,7 +11,7 @@ ghost use Rattle.nv_workers.specs.Follows.{AfterTurn, HasGrown, IsIdle, IsBusy, 
 use crate::terms::Terms;
 use nv_calls::SyscallKernel;
 use nv_lamport::{Polled, poll_merged};
-use nv_outside::Gate;
+use nv_outside::{Gate, VersionNumber};
 use nv_promotion::{Lower, lower_gone};
 use nv_replay::{Followed, Version};
 use nv_ring::advance;
@@ -143,11 +143,18 @@ fn decide<K: SyscallKernel, G: Gate>(
         Followed::Matched | Followed::Skipped => {
             advance(reader, room);
             *held = false;
-            terms.gate.after_take(reader.version(), event.stamp);
+            terms.gate.after_take(follower(reader), event.stamp);
             if version.standing().fate.is_some() {
                 return Next::Leaves;
             }
             Next::Moved
         }
     }
+}
+
+// The version that follows, whatever its station's number is.
+fn follower<K: SyscallKernel>(reader: &Reader<K>) -> VersionNumber
+    ensures { result.0 ≡ version_of_reader reader.now }
+{
+    VersionNumber(reader.version())
 }

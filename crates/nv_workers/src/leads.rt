@@ -8,7 +8,7 @@ ghost use Rattle.nv_replay.specs.Follow.{Judge};
 ghost use Rattle.nv_replay.specs.Hands.{has};
 ghost use Rattle.nv_replay.specs.Versions.{answered_by};
 ghost use Rattle.nv_room.specs.Spans.{grown};
-ghost use Rattle.nv_room.specs.Seats.{IsLeadOf, SameLead, IsReady, lead_view, kernel_of, due_of};
+ghost use Rattle.nv_room.specs.Seats.{IsLeadOf, SameLead, IsReady, lead_view, kernel_of, due_of, version_of_lead};
 ghost use Rattle.nv_workers.specs.Terms.{AreOfRoom};
 ghost use Rattle.nv_workers.specs.Working.{LeadsOn};
 ghost use Rattle.nv_workers.specs.Growing.{OneMoreAtMost};
@@ -17,7 +17,7 @@ ghost use Rattle.nv_workers.specs.LeadsOn.{AfterLead, HasPublished, IsLate, next
 use crate::follows::Next;
 use crate::terms::Terms;
 use nv_calls::SyscallKernel;
-use nv_outside::Gate;
+use nv_outside::{Gate, VersionNumber};
 use nv_replay::{Led, Version};
 use nv_ring::{Placed, place, publish};
 use nv_room::{Lead, Room};
@@ -75,10 +75,17 @@ fn serve<K: SyscallKernel, G: Gate>(
         version.refuse_memory();
         return Next::Leaves;
     }
-    terms.gate.before_publish(lead.version(), lead.seen());
+    terms.gate.before_publish(leader(lead), lead.seen());
     publish_call(version, lead, tid, room);
     *asked = None;
     next_of(version, terms.hands)
+}
+
+// The version that leads, whatever its station's number is.
+fn leader<K: SyscallKernel>(lead: &Lead<K>) -> VersionNumber
+    ensures { result.0 ≡ version_of_lead lead.now }
+{
+    VersionNumber(lead.version())
 }
 
 // What comes next for a leader whose call was served.
