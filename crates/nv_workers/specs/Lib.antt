@@ -4,6 +4,7 @@ pub mod Terms
 pub mod Working
 pub mod Growing
 pub mod Follows
+pub mod Publishing
 pub mod LeadsOn
 pub mod Workers
 pub mod Stepping
