@@ -11,7 +11,7 @@ use nv_command::Limits;
 use nv_outside::Gate;
 use nv_replay::{Account, Version};
 use nv_room::Room;
-use nv_workers::{end, run_all, staff};
+use nv_workers::{Terms, end, run_all, staff};
 use std::alloc::{AllocError, Global};
 use std::sync::Wait;
 use std::thread::Threads;
@@ -41,16 +41,12 @@ pub fn run<R: Threads + Wait + Sync, K: SyscallKernel, G: Gate + Sync>(
     let stations = versions.len() as u32;
     let (room, readers, lead) = Room::make(alloc, kernel, stations, limits.ring, hands)?;
     let workers = staff(alloc, versions, readers, lead)?;
-    let ran = run_all(
-        rt,
-        alloc,
-        room,
-        workers,
+    let terms = Terms {
         rules,
         gate,
-        limits.calls,
-        hands,
-        limits.threads,
-    )?;
+        most: limits.calls,
+        hands: hands.as_slice(),
+    };
+    let ran = run_all(rt, alloc, room, workers, &terms, limits.threads)?;
     Ok(end(ran))
 }

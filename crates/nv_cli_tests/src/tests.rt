@@ -1,4 +1,4 @@
-use nv_outside::Gate;
+use nv_outside::{Gate, VersionNumber};
 use nv_test_support::{Outside, image, monitor_through};
 use std::alloc::{AllocError, Global};
 use std::sync::atomic::{AtomicU64, Ordering};
@@ -53,15 +53,15 @@ impl Meeting {
 }
 
 impl Gate for Meeting {
-    fn before_publish(&self, version: u32, stamp: u32) {
-        self.note(&self.published, version == 0, stamp);
+    fn before_publish(&self, version: VersionNumber, stamp: u32) {
+        self.note(&self.published, version == VersionNumber(0), stamp);
         if stamp == 7 {
             self.wait_for(&self.taken, 4);
         }
     }
 
-    fn after_take(&self, version: u32, stamp: u32) {
-        self.note(&self.taken, version == 1, stamp);
+    fn after_take(&self, version: VersionNumber, stamp: u32) {
+        self.note(&self.taken, version == VersionNumber(1), stamp);
         if stamp == 3 {
             self.wait_for(&self.published, 8);
         }

@@ -1,8 +1,10 @@
 pub mod Ends
 pub mod Turns
+pub mod Terms
 pub mod Working
 pub mod Growing
 pub mod Follows
+pub mod Publishing
 pub mod LeadsOn
 pub mod Workers
 pub mod Stepping

@@ -1,15 +1,12 @@
 //! Workers dealt to host threads.
-ghost use Rattle.std.specs.Prelude.{◌≡◌, ◌≤◌, ◌<◌};
-ghost use Rattle.std.specs.Option.{option_copied};
-ghost use Rattle.nv_calls.specs.Limits.{MOST_EVENTS};
-ghost use Rattle.nv_replay.specs.Follow.{judge_of};
-ghost use Rattle.nv_room.specs.Seats.{hands_of};
+ghost use Rattle.std.specs.Prelude.{◌≤◌, ◌<◌};
+ghost use Rattle.nv_workers.specs.Terms.{AreOfRoom, judges_of};
 ghost use Rattle.nv_workers.specs.Rounds.{CanAll, AllOn};
 ghost use Rattle.nv_workers.specs.Dealing.{AreEven};
 
 use crate::running::{Parts, rotate_while_moving};
+use crate::terms::Terms;
 use crate::worker::Worker;
-use nv_bpf::Filter;
 use nv_calls::SyscallKernel;
 use nv_outside::Gate;
 use nv_room::Room;
@@ -69,16 +66,12 @@ pub(crate) fn deal<R: Threads + Wait + Sync, K: SyscallKernel, G: Gate + Sync>(
     rt: &R,
     workers: &mut [Worker<K>],
     room: &Room<K>,
-    rules: Option<&Filter>,
-    gate: &G,
-    most: u32,
-    hands: &Vec<u32>,
+    terms: &Terms<'_, G>,
     threads: usize,
 )
-    requires can { CanAll (judge_of (option_copied rules)) room.now most workers.old }
-    requires most { most ≤ MOST_EVENTS }
-    requires hands { hands_of room.now ≡ hands.now.items }
-    ensures { AllOn (judge_of (option_copied rules.entry)) room.now most workers.old workers.new }
+    requires can { CanAll (judges_of terms.now) room.now terms.now.most workers.old }
+    requires terms { AreOfRoom room.now terms.now }
+    ensures { AllOn (judges_of terms.now) room.now terms.now.most workers.old workers.new }
 {
     if workers.is_empty() {
         return;
@@ -87,38 +80,29 @@ pub(crate) fn deal<R: Threads + Wait + Sync, K: SyscallKernel, G: Gate + Sync>(
     let stretches = Stretches::of(workers.len(), threads);
     let parts = Parts::new(threads);
     let alike = |start: usize, part: &mut [Worker<K>]|
-        requires { CanAll (judge_of (option_copied rules)) room.now most part.now × (most ≤ MOST_EVENTS) × (hands_of room.now ≡ hands.now.items) × (0 < stretches.size) × (0 < stretches.other) }
-        ensures { AllOn (judge_of (option_copied rules.entry)) room.entry.now most part.entry.now part.exit.now }
-    {
-        deal_alike(
-            rt, start, part, room, rules, gate, most, hands, &stretches, &parts,
-        )
-    };
+        requires { CanAll (judges_of terms.now) room.now terms.now.most part.now × AreOfRoom room.now terms.now × (0 < stretches.size) × (0 < stretches.other) }
+        ensures { AllOn (judges_of terms.entry.now) room.entry.now terms.entry.now.most part.entry.now part.exit.now }
+    { deal_alike(rt, part, stretches.size_from(start), room, terms, &parts) };
     thread::for_each_chunk_mut(rt, workers, stretches.first, &alike);
 }
 
-// The workers from this one on, in stretches of one size.
+// The workers in stretches of this size.
 fn deal_alike<R: Threads + Wait + Sync, K: SyscallKernel, G: Gate + Sync>(
     rt: &R,
-    start: usize,
     workers: &mut [Worker<K>],
+    size: usize,
     room: &Room<K>,
-    rules: Option<&Filter>,
-    gate: &G,
-    most: u32,
-    hands: &Vec<u32>,
-    stretches: &Stretches,
+    terms: &Terms<'_, G>,
     parts: &Parts,
 )
-    requires can { CanAll (judge_of (option_copied rules)) room.now most workers.old }
-    requires most { most ≤ MOST_EVENTS }
-    requires hands { hands_of room.now ≡ hands.now.items }
-    requires some { (0 < stretches.now.size) × (0 < stretches.now.other) }
-    ensures { AllOn (judge_of (option_copied rules.entry)) room.now most workers.old workers.new }
+    requires can { CanAll (judges_of terms.now) room.now terms.now.most workers.old }
+    requires terms { AreOfRoom room.now terms.now }
+    requires some { 0 < size }
+    ensures { AllOn (judges_of terms.now) room.now terms.now.most workers.old workers.new }
 {
     let turns = |_start: usize, part: &mut [Worker<K>]|
-        requires { CanAll (judge_of (option_copied rules)) room.now most part.now × (most ≤ MOST_EVENTS) × (hands_of room.now ≡ hands.now.items) }
-        ensures { AllOn (judge_of (option_copied rules.entry)) room.entry.now most part.entry.now part.exit.now }
-    { rotate_while_moving(rt, part, room, rules, gate, most, hands, parts) };
-    thread::for_each_chunk_mut(rt, workers, stretches.size_from(start), &turns);
+        requires { CanAll (judges_of terms.now) room.now terms.now.most part.now × AreOfRoom room.now terms.now }
+        ensures { AllOn (judges_of terms.entry.now) room.entry.now terms.entry.now.most part.entry.now part.exit.now }
+    { rotate_while_moving(rt, part, room, terms, parts) };
+    thread::for_each_chunk_mut(rt, workers, size, &turns);
 }

@@ -1,18 +1,17 @@
 //! A reader's turn.
 ghost use Rattle.std.specs.Prelude.{◌≡◌, ℕ, [], true, length};
-ghost use Rattle.std.specs.Option.{option_copied};
 ghost use Rattle.nv_threads.specs.Threads.{Proc};
-ghost use Rattle.nv_replay.specs.Follow.{judge_of};
-ghost use Rattle.nv_room.specs.Seats.{IsOfRoom, SameReader, view};
+ghost use Rattle.nv_room.specs.Seats.{IsOfRoom, SameReader, view, version_of_reader};
 ghost use Rattle.nv_room.specs.Steps.{TellsEnd};
+ghost use Rattle.nv_workers.specs.Terms.{judges_of};
 ghost use Rattle.nv_workers.specs.Working.{FollowsOn};
 ghost use Rattle.nv_workers.specs.Growing.{OneMoreAtMost};
 ghost use Rattle.nv_workers.specs.Follows.{AfterTurn, HasGrown, IsIdle, IsBusy, IsFound, IsWaiting};
 
-use nv_bpf::Filter;
+use crate::terms::Terms;
 use nv_calls::SyscallKernel;
 use nv_lamport::{Polled, poll_merged};
-use nv_outside::Gate;
+use nv_outside::{Gate, VersionNumber};
 use nv_promotion::{Lower, lower_gone};
 use nv_replay::{Followed, Version};
 use nv_ring::advance;
@@ -55,23 +54,22 @@ pub(crate) fn follow_turn<K: SyscallKernel, G: Gate>(
     held: &mut bool,
     buf: &mut EventBuf,
     room: &Room<K>,
-    rules: Option<&Filter>,
-    gate: &G,
+    terms: &Terms<'_, G>,
 ) -> Next
-    requires { (most : ℕ) × (p : Proc) × FollowsOn (judge_of (option_copied rules)) room.now most p version.old reader.old held.old buf.old }
+    requires { (most : ℕ) × (p : Proc) × FollowsOn (judges_of terms.now) room.now most p version.old reader.old held.old buf.old }
     ensures same { SameReader reader.old reader.new }
-    ensures after { (most : ℕ) (p : Proc) → FollowsOn (judge_of (option_copied rules.entry)) room.now most p version.old reader.old held.old buf.old → AfterTurn (judge_of (option_copied rules.entry)) room.now most p version.new reader.new held.new buf.new result }
+    ensures after { (most : ℕ) (p : Proc) → FollowsOn (judges_of terms.now) room.now most p version.old reader.old held.old buf.old → AfterTurn (judges_of terms.now) room.now most p version.new reader.new held.new buf.new result }
     ensures grown { HasGrown (view reader.old) (view reader.new) version.old version.new result }
     ensures idle { IsIdle (view reader.old) (view reader.new) result }
     ensures one { OneMoreAtMost (length (view reader.old).seen) (length (view reader.new).seen) }
 {
     if *held {
-        return decide(version, reader, held, buf, room, rules, gate);
+        return decide(version, reader, held, buf, room, terms);
     }
     match find_event(reader, room, buf) {
         Found::Event => {
             *held = true;
-            decide(version, reader, held, buf, room, rules, gate)
+            decide(version, reader, held, buf, room, terms)
         }
         Found::Held => go_ahead(version),
         Found::Free => Next::Leads,
@@ -128,29 +126,35 @@ fn decide<K: SyscallKernel, G: Gate>(
     held: &mut bool,
     buf: &EventBuf,
     room: &Room<K>,
-    rules: Option<&Filter>,
-    gate: &G,
+    terms: &Terms<'_, G>,
 ) -> Next
-    requires follows { (most : ℕ) × (p : Proc) × FollowsOn (judge_of (option_copied rules)) room.now most p version.old reader.old true buf.now }
+    requires follows { (most : ℕ) × (p : Proc) × FollowsOn (judges_of terms.now) room.now most p version.old reader.old true buf.now }
     requires held { held.old ≡ true }
     ensures same { SameReader reader.old reader.new }
-    ensures after { (most : ℕ) (p : Proc) → FollowsOn (judge_of (option_copied rules.entry)) room.now most p version.old reader.old true buf.now → AfterTurn (judge_of (option_copied rules.entry)) room.now most p version.new reader.new held.new buf.now result }
+    ensures after { (most : ℕ) (p : Proc) → FollowsOn (judges_of terms.now) room.now most p version.old reader.old true buf.now → AfterTurn (judges_of terms.now) room.now most p version.new reader.new held.new buf.now result }
     ensures grown { HasGrown (view reader.old) (view reader.new) version.old version.new result }
     ensures busy { IsBusy result }
     ensures one { OneMoreAtMost (length (view reader.old).seen) (length (view reader.new).seen) }
 {
     let event = buf.event();
-    match version.follow(rules, event) {
+    match version.follow(terms.rules, event) {
         Followed::Rewrote(_) => Next::Moved,
         Followed::Dropped(_) => Next::Leaves,
         Followed::Matched | Followed::Skipped => {
             advance(reader, room);
             *held = false;
-            gate.after_take(reader.version(), event.stamp);
+            terms.gate.after_take(follower(reader), event.stamp);
             if version.standing().fate.is_some() {
                 return Next::Leaves;
             }
             Next::Moved
         }
     }
+}
+
+// The version that follows, whatever its station's number is.
+fn follower<K: SyscallKernel>(reader: &Reader<K>) -> VersionNumber
+    ensures { result.0 ≡ version_of_reader reader.now }
+{
+    VersionNumber(reader.version())
 }

@@ -1,21 +1,19 @@
 //! A leader's turn.
-ghost use Rattle.std.specs.Prelude.{◌≡◌, ◌≤◌, ℕ, ◌<◌, ◌++◌, [], ◌∷◌, Some, None, true, false, length, Contains};
-ghost use Rattle.nv_calls.specs.Logs.{served, live_after, IsLawful};
-ghost use Rattle.nv_calls.specs.Limits.{MOST_EVENTS};
-ghost use Rattle.nv_words.specs.Spell.{spell};
-ghost use Rattle.nv_threads.specs.Threads.{Proc, threads};
+ghost use Rattle.std.specs.Prelude.{◌≡◌, ℕ, Some, None, false, length};
+ghost use Rattle.nv_threads.specs.Threads.{Proc};
 ghost use Rattle.nv_replay.specs.Follow.{Judge};
 ghost use Rattle.nv_replay.specs.Hands.{has};
-ghost use Rattle.nv_replay.specs.Versions.{answered_by};
-ghost use Rattle.nv_room.specs.Spans.{grown};
-ghost use Rattle.nv_room.specs.Seats.{IsLeadOf, SameLead, IsReady, lead_view, kernel_of, due_of, hands_of};
+ghost use Rattle.nv_room.specs.Seats.{SameLead, lead_view, version_of_lead};
+ghost use Rattle.nv_workers.specs.Terms.{AreOfRoom};
 ghost use Rattle.nv_workers.specs.Working.{LeadsOn};
 ghost use Rattle.nv_workers.specs.Growing.{OneMoreAtMost};
+ghost use Rattle.nv_workers.specs.Publishing.{CanPublish, IsPublished};
 ghost use Rattle.nv_workers.specs.LeadsOn.{AfterLead, HasPublished, IsLate, next_after};
 
 use crate::follows::Next;
+use crate::terms::Terms;
 use nv_calls::SyscallKernel;
-use nv_outside::Gate;
+use nv_outside::{Gate, VersionNumber};
 use nv_replay::{Led, Version};
 use nv_ring::{Placed, place, publish};
 use nv_room::{Lead, Room};
@@ -26,26 +24,23 @@ pub(crate) fn lead_turn<K: SyscallKernel, G: Gate>(
     lead: &mut Lead<K>,
     asked: &mut Option<u32>,
     room: &Room<K>,
-    gate: &G,
-    most: u32,
-    hands: &[u32],
+    terms: &Terms<'_, G>,
 ) -> Next
-    requires leads { (judges : ℕ → Judge) × (p : Proc) × LeadsOn judges room.now most p version.old false lead.old asked.old }
-    requires most { most ≤ MOST_EVENTS }
-    requires hands { hands_of room.now ≡ hands.now }
+    requires leads { (judges : ℕ → Judge) × (p : Proc) × LeadsOn judges room.now terms.now.most p version.old false lead.old asked.old }
+    requires terms { AreOfRoom room.now terms.now }
     ensures same { SameLead lead.old lead.new }
-    ensures after { (judges : ℕ → Judge) (p : Proc) → LeadsOn judges room.now most p version.old false lead.old asked.old → AfterLead judges room.now most p version.new lead.new asked.new result }
+    ensures after { (judges : ℕ → Judge) (p : Proc) → LeadsOn judges room.now terms.now.most p version.old false lead.old asked.old → AfterLead judges room.now terms.now.most p version.new lead.new asked.new result }
     ensures published { HasPublished (lead_view lead.old) (lead_view lead.new) result }
     ensures late { IsLate room.now lead.old lead.new result }
     ensures one { OneMoreAtMost (length (lead_view lead.old).seen) (length (lead_view lead.new).seen) }
 {
     match *asked {
-        Some(tid) => serve(version, lead, asked, tid, room, gate, most, hands),
-        None => match version.lead(most) {
+        Some(tid) => serve(version, lead, asked, tid, room, terms),
+        None => match version.lead(terms.most) {
             Led::Dropped(_) => Next::Leaves,
             Led::Asked(tid) => {
                 *asked = Some(tid);
-                serve(version, lead, asked, tid, room, gate, most, hands)
+                serve(version, lead, asked, tid, room, terms)
             }
         },
     }
@@ -58,16 +53,13 @@ fn serve<K: SyscallKernel, G: Gate>(
     asked: &mut Option<u32>,
     tid: u32,
     room: &Room<K>,
-    gate: &G,
-    most: u32,
-    hands: &[u32],
+    terms: &Terms<'_, G>,
 ) -> Next
-    requires leads { (judges : ℕ → Judge) × (p : Proc) × LeadsOn judges room.now most p version.old false lead.old (Some tid) }
-    requires most { most ≤ MOST_EVENTS }
-    requires hands { hands_of room.now ≡ hands.now }
+    requires leads { (judges : ℕ → Judge) × (p : Proc) × LeadsOn judges room.now terms.now.most p version.old false lead.old (Some tid) }
+    requires terms { AreOfRoom room.now terms.now }
     requires asked { asked.old ≡ Some tid }
     ensures same { SameLead lead.old lead.new }
-    ensures after { (judges : ℕ → Judge) (p : Proc) → LeadsOn judges room.now most p version.old false lead.old (Some tid) → AfterLead judges room.now most p version.new lead.new asked.new result }
+    ensures after { (judges : ℕ → Judge) (p : Proc) → LeadsOn judges room.now terms.now.most p version.old false lead.old (Some tid) → AfterLead judges room.now terms.now.most p version.new lead.new asked.new result }
     ensures published { HasPublished (lead_view lead.old) (lead_view lead.new) result }
     ensures late { IsLate room.now lead.old lead.new result }
     ensures one { OneMoreAtMost (length (lead_view lead.old).seen) (length (lead_view lead.new).seen) }
@@ -79,10 +71,17 @@ fn serve<K: SyscallKernel, G: Gate>(
         version.refuse_memory();
         return Next::Leaves;
     }
-    gate.before_publish(lead.version(), lead.seen());
+    terms.gate.before_publish(leader(lead), lead.seen());
     publish_call(version, lead, tid, room);
     *asked = None;
-    next_of(version, hands)
+    next_of(version, terms.hands)
+}
+
+// The version that leads, whatever its station's number is.
+fn leader<K: SyscallKernel>(lead: &Lead<K>) -> VersionNumber
+    ensures { result.0 ≡ version_of_lead lead.now }
+{
+    VersionNumber(lead.version())
 }
 
 // What comes next for a leader whose call was served.
@@ -111,27 +110,8 @@ fn publish_call<K: SyscallKernel>(
     tid: u32,
     room: &Room<K>,
 )
-    requires of { IsLeadOf room.now lead.old }
-    requires placed { IsReady room.now lead.old }
-    requires none_due { due_of lead.old ≡ false }
-    requires none_wrote { (lead_view lead.old).wrote ≡ [] }
-    requires asked { version.old.asked ≡ Some tid }
-    requires pending { threads.pending version.old.at.process tid ≡ true }
-    requires lives { Contains (threads.live version.old.at.process) tid }
-    requires live { threads.live version.old.at.process ≡ live_after (K.log (kernel_of lead.old)) }
-    requires seen { version.old.at.seen ≡ length (K.log (kernel_of lead.old)) }
-    requires few { length (K.log (kernel_of lead.old)) < MOST_EVENTS }
-    requires ready { K.is_ready (kernel_of lead.old) (threads.call version.old.at.process tid) }
-    ensures of { IsLeadOf room.now lead.new }
-    ensures same { SameLead lead.old lead.new }
-    ensures due { due_of lead.new ≡ false }
-    ensures wrote { (lead_view lead.new).wrote ≡ [] }
-    ensures start { K.start (kernel_of lead.new) ≡ K.start (kernel_of lead.old) }
-    ensures log { K.log (kernel_of lead.new) ≡ K.log (kernel_of lead.old) ++ served (K.start (kernel_of lead.old)) (K.log (kernel_of lead.old)) (threads.call version.old.at.process tid) ∷ [] }
-    ensures lawful { IsLawful (K.log (kernel_of lead.new)) }
-    ensures seen { (lead_view lead.new).seen ≡ (lead_view lead.old).seen ++ spell (served (K.start (kernel_of lead.old)) (K.log (kernel_of lead.old)) (threads.call version.old.at.process tid)) ∷ [] }
-    ensures spans { (lead_view lead.new).spans ≡ grown (lead_view lead.old).spans }
-    ensures version { version.new ≡ answered_by threads (served (K.start (kernel_of lead.old)) (K.log (kernel_of lead.old)) (threads.call version.old.at.process tid)) version.old }
+    requires { CanPublish room.now version.old lead.old tid }
+    ensures { IsPublished room.now version.old lead.old tid version.new lead.new }
 {
     publish(lead, room, version.pending(tid));
     let at = version.standing().seen as usize;

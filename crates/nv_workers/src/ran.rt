@@ -1,20 +1,19 @@
 //! A whole run.
 ghost use Rattle.std.specs.Prelude.{◌≡◌, ◌≤◌, ◌<◌, ◌+◌, ◌++◌, ℕ, List, [], length, vec_len, vec_capacity, IfOk, IfErr};
-ghost use Rattle.std.specs.Option.{option_copied};
-ghost use Rattle.nv_calls.specs.Limits.{MOST_EVENTS};
 ghost use Rattle.nv_threads.specs.Threads.{Proc, threads};
-ghost use Rattle.nv_replay.specs.Follow.{Judge, judge_of};
+ghost use Rattle.nv_replay.specs.Follow.{Judge};
 ghost use Rattle.nv_replay.specs.Versions.{Running};
 ghost use Rattle.nv_room.specs.Seats.{versions_of, hands_of, origin};
 ghost use Rattle.nv_workers.specs.Ends.{IsAccount};
+ghost use Rattle.nv_workers.specs.Terms.{AreOfRoom, judges_of};
 ghost use Rattle.nv_workers.specs.Rounds.{CanAll, AllOn, AreGone};
 ghost use Rattle.nv_workers.specs.New.{AreNew};
 ghost use Rattle.nv_workers.specs.Ran.{AllRan, AreApart};
 
 use crate::dealing::deal;
 use crate::running::rotate;
+use crate::terms::Terms;
 use crate::worker::{Seat, Worker};
-use nv_bpf::Filter;
 use nv_calls::SyscallKernel;
 use nv_outside::Gate;
 use nv_replay::{Account, Version};
@@ -52,24 +51,20 @@ pub fn run_all<R: Threads + Wait + Sync, K: SyscallKernel, G: Gate + Sync>(
     alloc: Global,
     room: Room<K>,
     mut workers: Vec<Worker<K>>,
-    rules: Option<&Filter>,
-    gate: &G,
-    most: u32,
-    hands: &Vec<u32>,
+    terms: &Terms<'_, G>,
     threads: u32,
 ) -> Result<Ran<K>, NotRun<K>>
     requires new { (fresh : List (Running Proc)) × AreNew room 0 fresh workers.items }
     requires all { vec_len workers ≡ versions_of room }
-    requires most { most ≤ MOST_EVENTS }
-    requires hands { hands_of room ≡ hands.now.items }
+    requires terms { AreOfRoom room terms.now }
     ensures room { IfOk result (λ r. r.room ≡ room) }
-    ensures ran { IfOk result (λ r. (fresh : List (Running Proc)) → AreNew room 0 fresh workers.items → AllRan (judge_of (option_copied rules.entry)) r.room most fresh r.versions.items r.left.items) }
+    ensures ran { IfOk result (λ r. (fresh : List (Running Proc)) → AreNew room 0 fresh workers.items → AllRan (judges_of terms.now) r.room terms.now.most fresh r.versions.items r.left.items) }
     ensures not_run { IfErr result (λ given. (given.room ≡ room) × (given.workers ≡ workers)) }
 {
     let Ok((mut versions, mut left)) = lists_for(alloc, workers.len()) else {
         return Err(NotRun { room, workers });
     };
-    run_beside(rt, &mut workers, &room, rules, gate, most, hands, threads);
+    run_beside(rt, &mut workers, &room, terms, threads);
     take_apart(workers, &mut versions, &mut left);
     Ok(Ran {
         room,
@@ -96,29 +91,16 @@ fn run_beside<R: Threads + Wait + Sync, K: SyscallKernel, G: Gate + Sync>(
     rt: &R,
     workers: &mut [Worker<K>],
     room: &Room<K>,
-    rules: Option<&Filter>,
-    gate: &G,
-    most: u32,
-    hands: &Vec<u32>,
+    terms: &Terms<'_, G>,
     threads: u32,
 )
-    requires can { CanAll (judge_of (option_copied rules)) room.now most workers.old }
-    requires most { most ≤ MOST_EVENTS }
-    requires hands { hands_of room.now ≡ hands.now.items }
-    ensures on { AllOn (judge_of (option_copied rules.entry)) room.now most workers.old workers.new }
+    requires can { CanAll (judges_of terms.now) room.now terms.now.most workers.old }
+    requires terms { AreOfRoom room.now terms.now }
+    ensures on { AllOn (judges_of terms.now) room.now terms.now.most workers.old workers.new }
     ensures gone { AreGone workers.new }
 {
-    deal(
-        rt,
-        workers,
-        room,
-        rules,
-        gate,
-        most,
-        hands,
-        threads as usize,
-    );
-    rotate(rt, workers, room, rules, gate, most, hands);
+    deal(rt, workers, room, terms, threads as usize);
+    rotate(rt, workers, room, terms);
 }
 
 // The versions and the seats that have left, in order.

@@ -1,13 +1,10 @@
 //! Workers on host threads.
-ghost use Rattle.std.specs.Prelude.{◌≡◌, ◌≤◌};
-ghost use Rattle.std.specs.Option.{option_copied};
-ghost use Rattle.nv_calls.specs.Limits.{MOST_EVENTS};
-ghost use Rattle.nv_replay.specs.Follow.{judge_of};
-ghost use Rattle.nv_room.specs.Seats.{hands_of};
+ghost use Rattle.std.specs.Prelude.{◌≡◌};
+ghost use Rattle.nv_workers.specs.Terms.{AreOfRoom, judges_of};
 ghost use Rattle.nv_workers.specs.Rounds.{CanAll, AllOn, AreGone, GoneIf, both_of};
 
+use crate::terms::Terms;
 use crate::worker::{Turn, Worker};
-use nv_bpf::Filter;
 use nv_calls::SyscallKernel;
 use nv_outside::Gate;
 use nv_room::Room;
@@ -20,22 +17,18 @@ use std::time::Duration;
 fn round<K: SyscallKernel, G: Gate>(
     workers: &mut [Worker<K>],
     room: &Room<K>,
-    rules: Option<&Filter>,
-    gate: &G,
-    most: u32,
-    hands: &Vec<u32>,
+    terms: &Terms<'_, G>,
 ) -> Turn
-    requires can { CanAll (judge_of (option_copied rules)) room.now most workers.old }
-    requires most { most ≤ MOST_EVENTS }
-    requires hands { hands_of room.now ≡ hands.now.items }
-    ensures on { AllOn (judge_of (option_copied rules.entry)) room.now most workers.old workers.new }
+    requires can { CanAll (judges_of terms.now) room.now terms.now.most workers.old }
+    requires terms { AreOfRoom room.now terms.now }
+    ensures on { AllOn (judges_of terms.now) room.now terms.now.most workers.old workers.new }
     ensures gone { GoneIf result workers.new }
 {
     let Some((first, others)) = workers.split_first_mut() else {
         return Turn::Done;
     };
-    let own = first.turn(room, rules, gate, most, hands);
-    let rest = round(others, room, rules, gate, most, hands);
+    let own = first.turn(room, terms);
+    let rest = round(others, room, terms);
     both(own, rest)
 }
 
@@ -104,21 +97,17 @@ pub(crate) fn rotate_while_moving<R: Wait, K: SyscallKernel, G: Gate>(
     rt: &R,
     workers: &mut [Worker<K>],
     room: &Room<K>,
-    rules: Option<&Filter>,
-    gate: &G,
-    most: u32,
-    hands: &Vec<u32>,
+    terms: &Terms<'_, G>,
     parts: &Parts,
 )
-    requires can { CanAll (judge_of (option_copied rules)) room.now most workers.old }
-    requires most { most ≤ MOST_EVENTS }
-    requires hands { hands_of room.now ≡ hands.now.items }
-    ensures on { AllOn (judge_of (option_copied rules.entry)) room.now most workers.old workers.new }
+    requires can { CanAll (judges_of terms.now) room.now terms.now.most workers.old }
+    requires terms { AreOfRoom room.now terms.now }
+    ensures on { AllOn (judges_of terms.now) room.now terms.now.most workers.old workers.new }
 {
     parts.begin();
     let mut idle = 0;
     for _ in 0..u64::MAX {
-        match round(workers, room, rules, gate, most, hands) {
+        match round(workers, room, terms) {
             Turn::Done => return,
             Turn::Moved | Turn::Ahead => idle = 0,
             Turn::Waiting => {
@@ -139,20 +128,16 @@ pub(crate) fn rotate<R: Wait, K: SyscallKernel, G: Gate>(
     rt: &R,
     workers: &mut [Worker<K>],
     room: &Room<K>,
-    rules: Option<&Filter>,
-    gate: &G,
-    most: u32,
-    hands: &Vec<u32>,
+    terms: &Terms<'_, G>,
 )
-    requires can { CanAll (judge_of (option_copied rules)) room.now most workers.old }
-    requires most { most ≤ MOST_EVENTS }
-    requires hands { hands_of room.now ≡ hands.now.items }
-    ensures on { AllOn (judge_of (option_copied rules.entry)) room.now most workers.old workers.new }
+    requires can { CanAll (judges_of terms.now) room.now terms.now.most workers.old }
+    requires terms { AreOfRoom room.now terms.now }
+    ensures on { AllOn (judges_of terms.now) room.now terms.now.most workers.old workers.new }
     ensures gone { AreGone workers.new }
 {
     let mut idle: u32 = 0;
     for _ in rt.forever() {
-        match round(workers, room, rules, gate, most, hands) {
+        match round(workers, room, terms) {
             Turn::Done => return,
             Turn::Moved | Turn::Ahead => idle = 0,
             Turn::Waiting => {

@@ -1,12 +1,11 @@
 //! A version with its seat.
-ghost use Rattle.std.specs.Prelude.{◌≡◌, ◌≤◌, ℕ, List, None, true, false, length, Some, IfOk};
-ghost use Rattle.std.specs.Option.{option_copied};
-ghost use Rattle.nv_calls.specs.Limits.{MOST_EVENTS};
+ghost use Rattle.std.specs.Prelude.{◌≡◌, ℕ, List, None, true, false, length, Some, IfOk};
 ghost use Rattle.nv_threads.specs.Threads.{Proc, threads};
-ghost use Rattle.nv_replay.specs.Follow.{Judge, judge_of};
+ghost use Rattle.nv_replay.specs.Follow.{Judge};
 ghost use Rattle.nv_replay.specs.Versions.{IsFresh, Running};
-ghost use Rattle.nv_room.specs.Seats.{IsLeadOf, IsLeftOf, version_of_lead, version_of_reader, version_of_left, view, lead_view, left_view, due_of, hands_of};
+ghost use Rattle.nv_room.specs.Seats.{IsLeadOf, IsLeftOf, version_of_lead, version_of_reader, version_of_left, view, lead_view, left_view, due_of};
 ghost use Rattle.nv_room.specs.Steps.{as_gone, as_leaving};
+ghost use Rattle.nv_workers.specs.Terms.{AreOfRoom, judges_of};
 ghost use Rattle.nv_workers.specs.Working.{FollowsOn, LeadsOn};
 ghost use Rattle.nv_workers.specs.Growing.{OneMoreAtMost};
 ghost use Rattle.nv_workers.specs.Workers.{Works, WorksAt, IsGone, IsLast, TookLead, TurnTells, version_of, version_of_seat, seen_by};
@@ -15,7 +14,7 @@ ghost use Rattle.nv_workers.specs.New.{IsNewLead, IsNewReader, LeadsAnew, ReadsA
 
 use crate::follows::{Next, follow_turn};
 use crate::leads::lead_turn;
-use nv_bpf::Filter;
+use crate::terms::Terms;
 use nv_calls::SyscallKernel;
 use nv_outside::Gate;
 use nv_promotion::{close, hand, leave, retire, take};
@@ -91,24 +90,16 @@ impl<K: SyscallKernel> Worker<K> {
 
     /// One turn: at most one event is consumed or served. A version that was a stage of its run, fresh with some process, is one
     /// from the same process after it.
-    pub fn turn<G: Gate>(
-        &mut self,
-        room: &Room<K>,
-        rules: Option<&Filter>,
-        gate: &G,
-        most: u32,
-        hands: &Vec<u32>,
-    ) -> Turn
-        requires works { (p : Proc) × Works (judge_of (option_copied rules)) room.now most p self.old }
-        requires most { most ≤ MOST_EVENTS }
-        requires hands { hands_of room.now ≡ hands.now.items }
-        ensures works { (p : Proc) → Works (judge_of (option_copied rules.entry)) room.now most p self.old → Works (judge_of (option_copied rules.entry)) room.now most p self.new }
+    pub fn turn<G: Gate>(&mut self, room: &Room<K>, terms: &Terms<'_, G>) -> Turn
+        requires works { (p : Proc) × Works (judges_of terms.now) room.now terms.now.most p self.old }
+        requires terms { AreOfRoom room.now terms.now }
+        ensures works { (p : Proc) → Works (judges_of terms.now) room.now terms.now.most p self.old → Works (judges_of terms.now) room.now terms.now.most p self.new }
         ensures version { version_of self.new ≡ version_of self.old }
         ensures last { IsLast result self.new.seat }
         ensures tells { TurnTells room.now result self.old.version self.new.version self.old.seat self.new.seat }
         ensures one { OneMoreAtMost (seen_by self.old.seat) (seen_by self.new.seat) }
     {
-        match self.step(room, rules, gate, most, hands) {
+        match self.step(room, terms) {
             Next::Moved => Turn::Moved,
             Next::Ahead => Turn::Ahead,
             Next::Waits => Turn::Waiting,
@@ -129,18 +120,10 @@ impl<K: SyscallKernel> Worker<K> {
     }
 
     // The seat is lent, and stays where it is: a lead has the kernel in it.
-    fn step<G: Gate>(
-        &mut self,
-        room: &Room<K>,
-        rules: Option<&Filter>,
-        gate: &G,
-        most: u32,
-        hands: &Vec<u32>,
-    ) -> Next
-        requires works { (p : Proc) × Works (judge_of (option_copied rules)) room.now most p self.old }
-        requires most { most ≤ MOST_EVENTS }
-        requires hands { hands_of room.now ≡ hands.now.items }
-        ensures after { (p : Proc) → Works (judge_of (option_copied rules.entry)) room.now most p self.old → AfterStep (judge_of (option_copied rules.entry)) room.now p self.new.version most self.new.buf self.new.seat result }
+    fn step<G: Gate>(&mut self, room: &Room<K>, terms: &Terms<'_, G>) -> Next
+        requires works { (p : Proc) × Works (judges_of terms.now) room.now terms.now.most p self.old }
+        requires terms { AreOfRoom room.now terms.now }
+        ensures after { (p : Proc) → Works (judges_of terms.now) room.now terms.now.most p self.old → AfterStep (judges_of terms.now) room.now p self.new.version terms.now.most self.new.buf self.new.seat result }
         ensures version { version_of self.new ≡ version_of self.old }
         ensures tells { StepTells room.now result self.old.version self.new.version self.old.seat self.new.seat }
         ensures one { OneMoreAtMost (seen_by self.old.seat) (seen_by self.new.seat) }
@@ -152,18 +135,9 @@ impl<K: SyscallKernel> Worker<K> {
                 held,
                 &mut self.buf,
                 room,
-                rules,
-                gate,
+                terms,
             ),
-            Seat::Leading { lead, asked } => lead_turn(
-                &mut self.version,
-                lead,
-                asked,
-                room,
-                gate,
-                most,
-                hands.as_slice(),
-            ),
+            Seat::Leading { lead, asked } => lead_turn(&mut self.version, lead, asked, room, terms),
             Seat::Gone { .. } => Next::Left,
             Seat::Moving => unreachable!(),
         }

@@ -1,6 +1,6 @@
 use crate::runs::{beside, kernel, program};
 use crate::tests::{EXITS, alike};
-use nv_outside::Gate;
+use nv_outside::{Gate, VersionNumber};
 use std::process::Abort;
 use std::sync::atomic::{AtomicU64, Ordering};
 use std::thread::yield_now;
@@ -22,15 +22,15 @@ impl Comings {
         }
     }
 
-    fn of(&self, version: u32) -> &AtomicU64 {
+    fn of(&self, version: VersionNumber) -> &AtomicU64 {
         match version {
-            0 => &self.first,
-            1 => &self.second,
+            VersionNumber(0) => &self.first,
+            VersionNumber(1) => &self.second,
             _ => &self.others,
         }
     }
 
-    fn note(&self, version: u32, stamp: u32) {
+    fn note(&self, version: VersionNumber, stamp: u32) {
         let once = match stamp {
             0 => 1,
             1 => 10,
@@ -57,11 +57,11 @@ struct Noting {
 }
 
 impl Gate for Noting {
-    fn before_publish(&self, version: u32, stamp: u32) {
+    fn before_publish(&self, version: VersionNumber, stamp: u32) {
         self.published.note(version, stamp);
     }
 
-    fn after_take(&self, version: u32, stamp: u32) {
+    fn after_take(&self, version: VersionNumber, stamp: u32) {
         self.taken.note(version, stamp);
     }
 }
@@ -110,14 +110,14 @@ impl Holding {
 }
 
 impl Gate for Holding {
-    fn before_publish(&self, _version: u32, stamp: u32) {
+    fn before_publish(&self, _version: VersionNumber, stamp: u32) {
         let taken = self.taken.load(Ordering::SeqCst);
         let ahead = u64::from(stamp).saturating_sub(taken);
         self.ahead.fetch_max(ahead, Ordering::SeqCst);
         self.begun.fetch_add(1, Ordering::SeqCst);
     }
 
-    fn after_take(&self, _version: u32, stamp: u32) {
+    fn after_take(&self, _version: VersionNumber, stamp: u32) {
         if stamp == 0 {
             self.wait(self.places, 10_000_000);
             self.wait(self.places.saturating_add(1), 20_000);

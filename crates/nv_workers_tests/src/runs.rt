@@ -12,7 +12,7 @@ use nv_outside::Gate;
 use nv_replay::{Account, Version};
 use nv_room::Room;
 use nv_threads::Process;
-use nv_workers::{end, run_all, staff};
+use nv_workers::{Terms, end, run_all, staff};
 use std::alloc::{AllocError, Global};
 use std::sync::Wait;
 use std::thread::Threads;
@@ -98,16 +98,12 @@ pub fn beside<R: Threads + Wait + Sync, K: SyscallKernel, G: Gate + Sync>(
     };
     let (room, readers, lead) = Room::make(alloc, kernel, texts.len() as u32, places, hands)?;
     let workers = staff(alloc, versions, readers, lead)?;
-    let ran = run_all(
-        rt,
-        alloc,
-        room,
-        workers,
+    let terms = Terms {
         rules,
         gate,
-        MOST_EVENTS,
-        hands,
-        threads,
-    )?;
+        most: MOST_EVENTS,
+        hands: hands.as_slice(),
+    };
+    let ran = run_all(rt, alloc, room, workers, &terms, threads)?;
     Ok(end(ran))
 }

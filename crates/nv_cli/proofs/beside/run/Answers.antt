@@ -23,6 +23,9 @@ run_all-requires-clause-new g c κs within =
           (as_made c.in_ok-room.room c.in_ok-room.readers.items c.in_ok-room.lead _ m.origin m.readers.1 m.lead m.log m.start),
     )
 
+pub run_all-requires-clause-terms : goal.run_all-requires-clause-terms
+run_all-requires-clause-terms g c κs within = record { most = c.args.limits.calls_fit.1; hands = search rules }
+
 pub end-requires-after_bounds : goal.end-requires-after_bounds
 end-requires-after_bounds g c κs within =
     let m = c.in_ok-room.ensures in (

@@ -1,8 +1,7 @@
 use Rattle.std.proofs.Common.{sym, subst, drop, get_or}
 use denote.Exit.{no}
 use denote.Param.Send.{sendable, param_send, param_sync, arg_send, arg_sync}
-use Rattle.std.specs.Option.{option_copied}
-use Rattle.nv_replay.specs.Follow.{judge_of}
+use Rattle.nv_workers.specs.Terms.{judges_of}
 use Rattle.nv_workers.specs.Rounds.{CanAll, WorkedOn}
 use Rattle.nv_words.proofs.buf.EventBuf.TheSendSync.{the_send as buf_send}
 use Rattle.nv_workers.proofs.worker.Seat.TheSendSync.{the_field_send as seat_send}
@@ -16,18 +15,17 @@ for_each_chunk_mut-requires-send-T g c κs within = search (sendable, version_se
 pub for_each_chunk_mut-requires-clause-accepts : goal.for_each_chunk_mut-requires-clause-accepts
 for_each_chunk_mut-requires-clause-accepts g c κs within = λ start p chunk. (
   (
-    subst (λ ws. CanAll (judge_of (option_copied c.args.rules)) c.args.room.now c.args.most ws) (sym chunk.value)
-        (can_prefix (judge_of (option_copied c.args.rules)) c.args.room.now c.args.most c.size_from.result (drop start c.args.workers.now)
-        (can_back (judge_of (option_copied c.args.rules)) c.args.room.now c.args.most start c.args.workers.now c.requires.can)),
-    c.requires.most,
-    c.requires.hands,
+    subst (λ ws. CanAll (judges_of c.args.terms.now) c.args.room.now c.args.terms.now.most ws) (sym chunk.value)
+        (can_prefix (judges_of c.args.terms.now) c.args.room.now c.args.terms.now.most c.args.size (drop start c.args.workers.now)
+        (can_back (judges_of c.args.terms.now) c.args.room.now c.args.terms.now.most start c.args.workers.now c.requires.can)),
+    c.requires.terms,
   ),
   (param_send 1 _ (arg_send _ no _ c.type_bounds.send-K), param_sync 0 _ (arg_sync _ no _ c.type_bounds.sync-R), param_sync 2 _ (arg_sync _ no _ c.type_bounds.sync-G)),
 )
 
 pub returns : goal.returns
-returns g c = all_at (judge_of (option_copied c.args.rules)) c.args.room.now c.args.most c.args.workers.now c.for_each_chunk_mut.new.s c.for_each_chunk_mut.auto.s
+returns g c = all_at (judges_of c.args.terms.now) c.args.room.now c.args.terms.now.most c.args.workers.now c.for_each_chunk_mut.new.s c.for_each_chunk_mut.auto.s
     (λ i d l. let e = (c.for_each_chunk_mut.ensures.by_index i d l).1 in
-    let on = on_at (judge_of (option_copied c.args.rules)) c.args.room.now c.args.most e.argument.now e.after_call.now e.call e.offset d e.offset_in_chunk in
-    subst (λ w. WorkedOn (judge_of (option_copied c.args.rules)) c.args.room.now c.args.most w (get_or c.for_each_chunk_mut.new.s i d)) e.old_element
-    (subst (λ w. WorkedOn (judge_of (option_copied c.args.rules)) c.args.room.now c.args.most (get_or e.argument.now e.offset d) w) e.new_element on))
+    let on = on_at (judges_of c.args.terms.now) c.args.room.now c.args.terms.now.most e.argument.now e.after_call.now e.call e.offset d e.offset_in_chunk in
+    subst (λ w. WorkedOn (judges_of c.args.terms.now) c.args.room.now c.args.terms.now.most w (get_or c.for_each_chunk_mut.new.s i d)) e.old_element
+    (subst (λ w. WorkedOn (judges_of c.args.terms.now) c.args.room.now c.args.terms.now.most (get_or e.argument.now e.offset d) w) e.new_element on))

@@ -1,6 +1,5 @@
 use Rattle.std.proofs.Common.{sym, subst, Bool}
-use Rattle.std.specs.Option.{option_copied}
-use Rattle.nv_replay.specs.Follow.{judge_of}
+use Rattle.nv_workers.specs.Terms.{judges_of}
 use Rattle.nv_replay.specs.Versions.{Running}
 use Rattle.nv_threads.specs.Threads.{Proc}
 use Rattle.nv_workers.specs.Working.{FollowsOn}
@@ -12,33 +11,33 @@ use Rattle.nv_workers.proofs.follows.follow_turn.Goals as goal
 pub returns-then-held-clause-after : goal.returns-then-held-clause-after
 returns-then-held-clause-after g c = λ most p f.
     c.decide.ensures.after most p
-    (subst (λ (b : Bool). FollowsOn (judge_of (option_copied c.args.rules)) c.args.room.now most p c.args.version.now c.args.reader.now b c.args.buf.now) c.if-held.true f)
+    (subst (λ (b : Bool). FollowsOn (judges_of c.args.terms.now) c.args.room.now most p c.args.version.now c.args.reader.now b c.args.buf.now) c.if-held.true f)
 
 pub find_event-requires-clause-goes_on : goal.find_event-requires-clause-goes_on
 find_event-requires-clause-goes_on g c κs within =
-    lives_on (judge_of (option_copied c.args.rules)) c.requires.0 c.args.room.now c.requires.1 c.args.version.now c.args.reader.now c.args.buf.now
-    (subst (λ (b : Bool). FollowsOn (judge_of (option_copied c.args.rules)) c.args.room.now c.requires.0 c.requires.1 c.args.version.now c.args.reader.now b c.args.buf.now) c.if-held.false c.requires.2)
+    lives_on (judges_of c.args.terms.now) c.requires.0 c.args.room.now c.requires.1 c.args.version.now c.args.reader.now c.args.buf.now
+    (subst (λ (b : Bool). FollowsOn (judges_of c.args.terms.now) c.args.room.now c.requires.0 c.requires.1 c.args.version.now c.args.reader.now b c.args.buf.now) c.if-held.false c.requires.2)
 
 pub decide-requires-in-Event-clause-follows : goal.decide-requires-in-Event-clause-follows
 decide-requires-in-Event-clause-follows g c κs within =
     let e = c.in-Event.ensures in (
       c.requires.0,
       c.requires.1,
-      found_event (judge_of (option_copied c.args.rules)) c.requires.0 c.args.room.now c.requires.1 c.args.version.now c.args.reader.now c.args.buf.now
-          (subst (λ (b : Bool). FollowsOn (judge_of (option_copied c.args.rules)) c.args.room.now c.requires.0 c.requires.1 c.args.version.now c.args.reader.now b c.args.buf.now) c.if-held.false c.requires.2)
+      found_event (judges_of c.args.terms.now) c.requires.0 c.args.room.now c.requires.1 c.args.version.now c.args.reader.now c.args.buf.now
+          (subst (λ (b : Bool). FollowsOn (judges_of c.args.terms.now) c.args.room.now c.requires.0 c.requires.1 c.args.version.now c.args.reader.now b c.args.buf.now) c.if-held.false c.requires.2)
           c.find_event.new.reader c.find_event.new.buf e.of e.same e.found.0 e.found.1 e.found.2 e.found.4,
     )
 
 pub returns-in-Event-clause-after : goal.returns-in-Event-clause-after
 returns-in-Event-clause-after g c = λ most p f.
     let e = c.in-Event.ensures in
-    c.decide-in-Event.ensures.after most p (found_event (judge_of (option_copied c.args.rules)) most c.args.room.now p c.args.version.now c.args.reader.now c.args.buf.now
-    (subst (λ (b : Bool). FollowsOn (judge_of (option_copied c.args.rules)) c.args.room.now most p c.args.version.now c.args.reader.now b c.args.buf.now) c.if-held.false f)
+    c.decide-in-Event.ensures.after most p (found_event (judges_of c.args.terms.now) most c.args.room.now p c.args.version.now c.args.reader.now c.args.buf.now
+    (subst (λ (b : Bool). FollowsOn (judges_of c.args.terms.now) c.args.room.now most p c.args.version.now c.args.reader.now b c.args.buf.now) c.if-held.false f)
     c.find_event.new.reader c.find_event.new.buf e.of e.same e.found.0 e.found.1 e.found.2 e.found.4)
 
 pub returns-in-Held-clause-after : goal.returns-in-Held-clause-after
 returns-in-Held-clause-after g c = λ most p f.
-    let judges = judge_of (option_copied c.args.rules) in
+    let judges = judges_of c.args.terms.now in
     let e = c.in-Held.ensures in
     subst (λ (v : Running Proc). AfterTurn judges c.args.room.now most p v c.find_event.new.reader c.args.held.now c.find_event.new.buf c.go_ahead.result) (sym c.go_ahead.ensures.same)
     (subst (λ (b : Bool). AfterTurn judges c.args.room.now most p c.args.version.now c.find_event.new.reader b c.find_event.new.buf c.go_ahead.result) (sym c.if-held.false)

@@ -6,17 +6,17 @@ use Rattle.nv_workers.proofs.leads.lead_turn.Goals as goal
 
 pub lead-requires-clause-on : goal.lead-requires-clause-on
 lead-requires-clause-on g c =
-    let f0 = subst (λ (o : Option ℕ). LeadsOn c.requires.leads.0 c.args.room.now c.args.most c.requires.leads.1 c.args.version.now false c.args.lead.now o) c.in-None.is c.requires.leads.2 in
+    let f0 = subst (λ (o : Option ℕ). LeadsOn c.requires.leads.0 c.args.room.now c.args.terms.now.most c.requires.leads.1 c.args.version.now false c.args.lead.now o) c.in-None.is c.requires.leads.2 in
     f0.serves.led_from.in_step.on f0.serves.on
 
 pub returns-in-Dropped-clause-after : goal.returns-in-Dropped-clause-after
 returns-in-Dropped-clause-after g c = λ j p f.
-    let f0 = subst (λ (o : Option ℕ). LeadsOn j c.args.room.now c.args.most p c.args.version.now false c.args.lead.now o) c.in-None.is f in
+    let f0 = subst (λ (o : Option ℕ). LeadsOn j c.args.room.now c.args.terms.now.most p c.args.version.now false c.args.lead.now o) c.in-None.is f in
     let t = c.in-Dropped.ensures.told in
-    (f0.of, f0.none_due, drops_lead j c.args.room.now c.args.most p c.args.version.now c.args.lead.now f0 c.lead.new.self c.lead.ensures.new t.0 (ap is_on t.1))
+    (f0.of, f0.none_due, drops_lead j c.args.room.now c.args.terms.now.most p c.args.version.now c.args.lead.now f0 c.lead.new.self c.lead.ensures.new t.0 (ap is_on t.1))
 
 pub returns-in-Asked-clause-after : goal.returns-in-Asked-clause-after
 returns-in-Asked-clause-after g c = λ j p f.
-    let f0 = subst (λ (o : Option ℕ). LeadsOn j c.args.room.now c.args.most p c.args.version.now false c.args.lead.now o) c.in-None.is f in
+    let f0 = subst (λ (o : Option ℕ). LeadsOn j c.args.room.now c.args.terms.now.most p c.args.version.now false c.args.lead.now o) c.in-None.is f in
     let t = c.in-Asked.ensures.told in
-    c.serve-in-Asked.ensures.after j p (asks_lead j c.args.room.now c.args.most p c.args.version.now c.args.lead.now f0 c.lead.new.self c.in-Asked.tid c.lead.ensures.new t.0)
+    c.serve-in-Asked.ensures.after j p (asks_lead j c.args.room.now c.args.terms.now.most p c.args.version.now c.args.lead.now f0 c.lead.new.self c.in-Asked.tid c.lead.ensures.new t.0)

@@ -1,4 +1,4 @@
-use Rattle.std.proofs.Common.{◌≡◌, ◌∙◌, sym, ap, subst, ℕ, List, [], ◌∷◌, length, Some}
+use Rattle.std.proofs.Common.{◌≡◌, ◌∙◌, sym, ap, subst, ℕ, List, [], ◌∷◌, ◌++◌, length, Some, arith}
 use Rattle.std.specs.Prelude.{Contains}
 use Rattle.nv_calls.specs.Calls.{Request, Entry, request}
 use Rattle.nv_calls.specs.Logs.{IsLawful, IsNew, child_of, live_after, served}
@@ -6,7 +6,9 @@ use Rattle.nv_calls.proofs.LogLaws.{take_whole}
 use Rattle.nv_threads.specs.Threads.{threads, Proc}
 use Rattle.nv_threads.proofs.ThreadLaws.{threads_own}
 use Rattle.nv_replay.specs.declared.standing.Standing.{Standing}
-use Rattle.nv_room.specs.Seats.{kernel_of}
+use Rattle.nv_words.specs.Spell.{spell}
+use Rattle.nv_replay.specs.Versions.{answered_by}
+use Rattle.nv_room.specs.Seats.{kernel_of, lead_view}
 use Rattle.nv_replay.proofs.Turning.{event_is, get_last}
 use Rattle.nv_workers.proofs.leads.publish_call.Goals as goal
 
@@ -54,5 +56,44 @@ answered-requires-clause-new g c =
     let new : IsNew (live_after log) (child_of last) = subst (λ (x : List Entry). IsNew (live_after x) (child_of last)) (take_whole log (last ∷ [])) may.new in
     subst (λ (x : Entry). IsNew (threads.live c.args.version.now.at.process) (child_of x)) (sym e) (subst (λ (x : List ℕ). IsNew x (child_of last)) (sym c.requires.live) new)
 
-pub returns-clause-lawful : goal.returns-clause-lawful
-returns-clause-lawful g c = subst IsLawful (ap g.K.SyscallKernel.log c.kernel.ensures) c.history.ensures.lawful
+pub answered-requires-clause-below : goal.answered-requires-clause-below
+answered-requires-clause-below g c = omega (arith, c.requires.seen, c.requires.few)
+
+pub publish-requires-clause-of : goal.publish-requires-clause-of
+publish-requires-clause-of g c κs within = c.requires.of
+
+pub publish-requires-clause-placed : goal.publish-requires-clause-placed
+publish-requires-clause-placed g c κs within = c.requires.placed
+
+pub publish-requires-clause-none_due : goal.publish-requires-clause-none_due
+publish-requires-clause-none_due g c κs within = c.requires.none_due
+
+pub publish-requires-clause-ready : goal.publish-requires-clause-ready
+publish-requires-clause-ready g c κs within =
+    subst (λ (a : Request). g.K.SyscallKernel.is_ready (kernel_of c.args.lead.now) a) (sym c.pending.ensures.call) c.requires.ready
+
+pub publish-requires-clause-few : goal.publish-requires-clause-few
+publish-requires-clause-few g c κs within = c.requires.few
+
+pub pending-requires : goal.pending-requires
+pending-requires g c = c.requires.pending
+
+pub returns : goal.returns
+returns g c =
+    let p = c.publish.ensures in
+    let start = g.K.SyscallKernel.start (kernel_of c.args.lead.now) in
+    let log = g.K.SyscallKernel.log (kernel_of c.args.lead.now) in
+    let call = c.pending.ensures.call in
+    let e = event_is c.history.result.now _ _ _ c.index-history-at.result (c.history.ensures.log ∙ (ap g.K.SyscallKernel.log c.kernel.ensures ∙ p.log))
+    ((ap (λ (x : Standing). x.seen) c.standing.ensures) ∙ c.requires.seen) c.index-history-at.is in record {
+      of = p.of;
+      same = p.same;
+      due = p.due;
+      wrote = p.wrote;
+      start = p.start;
+      log = p.log ∙ ap (λ (a : Request). log ++ served start log a ∷ []) call;
+      lawful = subst IsLawful (ap g.K.SyscallKernel.log c.kernel.ensures) c.history.ensures.lawful;
+      seen = p.seen ∙ ap (λ (a : Request). (lead_view c.args.lead.now).seen ++ spell (served start log a) ∷ []) call;
+      spans = p.spans;
+      version = c.answered.ensures ∙ ap (λ (x : Entry). answered_by threads x c.args.version.now) (e ∙ ap (served start log) call);
+    }

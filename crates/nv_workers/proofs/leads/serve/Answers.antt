@@ -1,4 +1,4 @@
-use Rattle.std.proofs.Common.{◌∙◌, subst, sym, ap, ℕ, Option, Some, false, arith}
+use Rattle.std.proofs.Common.{◌∙◌, subst, sym, ap, ℕ, Option, Some, false, arith, rules}
 use Rattle.nv_room.specs.Seats.{lead_view}
 use Rattle.nv_workers.specs.Working.{LeadsOn}
 use Rattle.nv_workers.proofs.Serving.{grew_lead, placed_lead, reserved_lead, waits_lead, refused_lead, after_served, published_next, late_next}
@@ -9,75 +9,50 @@ use Rattle.nv_workers.proofs.leads.serve.Goals as goal
 pub returns-in-Waiting-clause-after : goal.returns-in-Waiting-clause-after
 returns-in-Waiting-clause-after g c = λ j p f.
     let e = c.in-Waiting.ensures in
-    subst (λ (o : Option ℕ). LeadsOn j c.args.room.now c.args.most p c.args.version.now false c.place.new.lead o) (sym c.requires.asked)
-    (placed_lead j c.args.room.now c.args.most p c.args.version.now c.args.lead.now (Some c.args.tid) f c.place.new.lead e.of e.same e.due e.kernel e.seen e.wrote e.spans)
+    subst (λ (o : Option ℕ). LeadsOn j c.args.room.now c.args.terms.now.most p c.args.version.now false c.place.new.lead o) (sym c.requires.asked)
+    (placed_lead j c.args.room.now c.args.terms.now.most p c.args.version.now c.args.lead.now (Some c.args.tid) f c.place.new.lead e.of e.same e.due e.kernel e.seen e.wrote e.spans)
 
 pub pending-requires : goal.pending-requires
 pending-requires g c =
-    (waits_lead c.requires.leads.0 c.args.room.now c.args.most c.requires.leads.1 c.args.version.now c.args.lead.now c.args.tid c.requires.leads.2).pending
+    (waits_lead c.requires.leads.0 c.args.room.now c.args.terms.now.most c.requires.leads.1 c.args.version.now c.args.lead.now c.args.tid c.requires.leads.2).pending
 
 pub returns-then-is_err-clause-after : goal.returns-then-is_err-clause-after
 returns-then-is_err-clause-after g c = λ j p f.
     let e = c.in_default.ensures in
     let r = c.reserve.ensures in
-    let f1 = placed_lead j c.args.room.now c.args.most p c.args.version.now c.args.lead.now (Some c.args.tid) f c.place.new.lead e.of e.same e.due e.kernel e.seen e.wrote e.spans in
-    let f2 = reserved_lead j c.args.room.now c.args.most p c.args.version.now c.place.new.lead (Some c.args.tid) f1 c.reserve.new.self r.same r.view r.due r.log r.start in
-    (f2.of, f2.none_due, refused_lead j c.args.room.now c.args.most p c.args.version.now c.reserve.new.self c.args.tid f2 c.refuse_memory.new.self c.refuse_memory.ensures)
+    let f1 = placed_lead j c.args.room.now c.args.terms.now.most p c.args.version.now c.args.lead.now (Some c.args.tid) f c.place.new.lead e.of e.same e.due e.kernel e.seen e.wrote e.spans in
+    let f2 = reserved_lead j c.args.room.now c.args.terms.now.most p c.args.version.now c.place.new.lead (Some c.args.tid) f1 c.reserve.new.self r.same r.view r.due r.log r.start in
+    (f2.of, f2.none_due, refused_lead j c.args.room.now c.args.terms.now.most p c.args.version.now c.reserve.new.self c.args.tid f2 c.refuse_memory.new.self c.refuse_memory.ensures)
 
-pub publish_call-requires-clause-pending : goal.publish_call-requires-clause-pending
-publish_call-requires-clause-pending g c κs within =
+pub publish_call-requires-after_bounds : goal.publish_call-requires-after_bounds
+publish_call-requires-after_bounds g c κs within =
     let e = c.in_default.ensures in
     let r = c.reserve.ensures in
-    let f1 = placed_lead c.requires.leads.0 c.args.room.now c.args.most c.requires.leads.1 c.args.version.now c.args.lead.now (Some c.args.tid) c.requires.leads.2 c.place.new.lead e.of e.same e.due e.kernel e.seen e.wrote e.spans in
-    let f2 = reserved_lead c.requires.leads.0 c.args.room.now c.args.most c.requires.leads.1 c.args.version.now c.place.new.lead (Some c.args.tid) f1 c.reserve.new.self r.same r.view r.due r.log r.start in
-    let w = waits_lead c.requires.leads.0 c.args.room.now c.args.most c.requires.leads.1 c.args.version.now c.reserve.new.self c.args.tid f2 in
-    w.pending
-
-pub publish_call-requires-clause-lives : goal.publish_call-requires-clause-lives
-publish_call-requires-clause-lives g c κs within =
-    let e = c.in_default.ensures in
-    let r = c.reserve.ensures in
-    let f1 = placed_lead c.requires.leads.0 c.args.room.now c.args.most c.requires.leads.1 c.args.version.now c.args.lead.now (Some c.args.tid) c.requires.leads.2 c.place.new.lead e.of e.same e.due e.kernel e.seen e.wrote e.spans in
-    let f2 = reserved_lead c.requires.leads.0 c.args.room.now c.args.most c.requires.leads.1 c.args.version.now c.place.new.lead (Some c.args.tid) f1 c.reserve.new.self r.same r.view r.due r.log r.start in
-    let w = waits_lead c.requires.leads.0 c.args.room.now c.args.most c.requires.leads.1 c.args.version.now c.reserve.new.self c.args.tid f2 in
-    w.lives
-
-pub publish_call-requires-clause-live : goal.publish_call-requires-clause-live
-publish_call-requires-clause-live g c κs within =
-    let e = c.in_default.ensures in
-    let r = c.reserve.ensures in
-    let f1 = placed_lead c.requires.leads.0 c.args.room.now c.args.most c.requires.leads.1 c.args.version.now c.args.lead.now (Some c.args.tid) c.requires.leads.2 c.place.new.lead e.of e.same e.due e.kernel e.seen e.wrote e.spans in
-    let f2 = reserved_lead c.requires.leads.0 c.args.room.now c.args.most c.requires.leads.1 c.args.version.now c.place.new.lead (Some c.args.tid) f1 c.reserve.new.self r.same r.view r.due r.log r.start in
-    let w = waits_lead c.requires.leads.0 c.args.room.now c.args.most c.requires.leads.1 c.args.version.now c.reserve.new.self c.args.tid f2 in
-    w.live
-
-pub publish_call-requires-clause-seen : goal.publish_call-requires-clause-seen
-publish_call-requires-clause-seen g c κs within =
-    let e = c.in_default.ensures in
-    let r = c.reserve.ensures in
-    let f1 = placed_lead c.requires.leads.0 c.args.room.now c.args.most c.requires.leads.1 c.args.version.now c.args.lead.now (Some c.args.tid) c.requires.leads.2 c.place.new.lead e.of e.same e.due e.kernel e.seen e.wrote e.spans in
-    let f2 = reserved_lead c.requires.leads.0 c.args.room.now c.args.most c.requires.leads.1 c.args.version.now c.place.new.lead (Some c.args.tid) f1 c.reserve.new.self r.same r.view r.due r.log r.start in
-    let w = waits_lead c.requires.leads.0 c.args.room.now c.args.most c.requires.leads.1 c.args.version.now c.reserve.new.self c.args.tid f2 in
-    w.seen
-
-pub publish_call-requires-clause-few : goal.publish_call-requires-clause-few
-publish_call-requires-clause-few g c κs within =
-    let e = c.in_default.ensures in
-    let r = c.reserve.ensures in
-    let f1 = placed_lead c.requires.leads.0 c.args.room.now c.args.most c.requires.leads.1 c.args.version.now c.args.lead.now (Some c.args.tid) c.requires.leads.2 c.place.new.lead e.of e.same e.due e.kernel e.seen e.wrote e.spans in
-    let f2 = reserved_lead c.requires.leads.0 c.args.room.now c.args.most c.requires.leads.1 c.args.version.now c.place.new.lead (Some c.args.tid) f1 c.reserve.new.self r.same r.view r.due r.log r.start in
-    let w = waits_lead c.requires.leads.0 c.args.room.now c.args.most c.requires.leads.1 c.args.version.now c.reserve.new.self c.args.tid f2 in
-    omega (arith, w.few, c.requires.most)
+    let f1 = placed_lead c.requires.leads.0 c.args.room.now c.args.terms.now.most c.requires.leads.1 c.args.version.now c.args.lead.now (Some c.args.tid) c.requires.leads.2 c.place.new.lead e.of e.same e.due e.kernel e.seen e.wrote e.spans in
+    let f2 = reserved_lead c.requires.leads.0 c.args.room.now c.args.terms.now.most c.requires.leads.1 c.args.version.now c.place.new.lead (Some c.args.tid) f1 c.reserve.new.self r.same r.view r.due r.log r.start in
+    let w = waits_lead c.requires.leads.0 c.args.room.now c.args.terms.now.most c.requires.leads.1 c.args.version.now c.reserve.new.self c.args.tid f2 in record {
+      of = f2.of;
+      placed = ready_still c.args.room.now c.place.new.lead c.reserve.new.self (ap (λ w. w.seen) r.view) (ap (λ w. w.floors) r.view) r.same.2 r.same.4 e.placed;
+      none_due = f2.none_due;
+      none_wrote = f2.none_wrote;
+      asked = f2.serves.1;
+      pending = w.pending;
+      lives = w.lives;
+      live = w.live;
+      seen = w.seen;
+      few = omega (arith, w.few, c.requires.terms.most);
+      ready = search rules;
+    }
 
 pub returns-clause-after : goal.returns-clause-after
 returns-clause-after g c = λ j p f.
     let e = c.in_default.ensures in
     let r = c.reserve.ensures in
-    let f1 = placed_lead j c.args.room.now c.args.most p c.args.version.now c.args.lead.now (Some c.args.tid) f c.place.new.lead e.of e.same e.due e.kernel e.seen e.wrote e.spans in
-    let f2 = reserved_lead j c.args.room.now c.args.most p c.args.version.now c.place.new.lead (Some c.args.tid) f1 c.reserve.new.self r.same r.view r.due r.log r.start in
+    let f1 = placed_lead j c.args.room.now c.args.terms.now.most p c.args.version.now c.args.lead.now (Some c.args.tid) f c.place.new.lead e.of e.same e.due e.kernel e.seen e.wrote e.spans in
+    let f2 = reserved_lead j c.args.room.now c.args.terms.now.most p c.args.version.now c.place.new.lead (Some c.args.tid) f1 c.reserve.new.self r.same r.view r.due r.log r.start in
     let q = c.publish_call.ensures in
-    after_served j c.args.room.now c.args.most p c.args.version.now c.reserve.new.self c.args.tid f2 c.publish_call.new.lead c.publish_call.new.version q.same q.log q.seen q.spans q.lawful q.version
-    c.args.hands.now c.next_of.result c.requires.hands c.next_of.ensures q.of q.due q.wrote q.start
+    after_served j c.args.room.now c.args.terms.now.most p c.args.version.now c.reserve.new.self c.args.tid f2 c.publish_call.new.lead c.publish_call.new.version q.same q.log q.seen q.spans q.lawful q.version
+    c.args.terms.now.hands.now c.next_of.result c.requires.terms.hands c.next_of.ensures q.of q.due q.wrote q.start
 
 pub returns-clause-published : goal.returns-clause-published
 returns-clause-published g c =
@@ -87,10 +62,6 @@ returns-clause-published g c =
 
 pub returns-clause-late : goal.returns-clause-late
 returns-clause-late g c = late_next c.args.room.now c.args.lead.now c.publish_call.new.lead _ _ c.next_of.result c.next_of.ensures
-
--- taking memory moves no floor
-pub publish_call-requires-clause-placed : goal.publish_call-requires-clause-placed
-publish_call-requires-clause-placed g c κs within = let e = c.reserve.ensures in ready_still c.args.room.now c.place.new.lead c.reserve.new.self (ap (λ w. w.seen) e.view) (ap (λ w. w.floors) e.view) e.same.2 e.same.4 c.in_default.ensures.placed
 
 pub returns-in-Waiting-clause-one : goal.returns-in-Waiting-clause-one
 returns-in-Waiting-clause-one g c = none_more _ _ c.in-Waiting.ensures.seen

@@ -1,25 +1,24 @@
-use Rattle.std.specs.Option.{option_copied}
-use Rattle.nv_replay.specs.Follow.{judge_of}
+use Rattle.nv_workers.specs.Terms.{judges_of}
 use Rattle.nv_workers.proofs.Rotating.{all_here, all_can, all_then}
 use Rattle.nv_workers.proofs.running.rotate_while_moving.Goals as goal
 
 pub loop-init : goal.loop-init
-loop-init g c = record { on = all_here (judge_of (option_copied c.args.rules)) c.args.room.now c.args.most c.args.workers.now; can = c.requires.can }
+loop-init g c = record { on = all_here (judges_of c.args.terms.now) c.args.room.now c.args.terms.now.most c.args.workers.now; can = c.requires.can }
 
 pub returns-in-Done : goal.returns-in-Done
 returns-in-Done g c = record {
-  on = all_then (judge_of (option_copied c.args.rules)) c.args.room.now c.args.most c.args.workers.now c.loop.workers c.round.new.workers c.loop.invariant.on c.round.ensures.on;
+  on = all_then (judges_of c.args.terms.now) c.args.room.now c.args.terms.now.most c.args.workers.now c.loop.workers c.round.new.workers c.loop.invariant.on c.round.ensures.on;
 }
 
 pub returns-then-not-all_run : goal.returns-then-not-all_run
 returns-then-not-all_run g c = record {
-  on = all_then (judge_of (option_copied c.args.rules)) c.args.room.now c.args.most c.args.workers.now c.loop.workers c.round.new.workers c.loop.invariant.on c.round.ensures.on;
+  on = all_then (judges_of c.args.terms.now) c.args.room.now c.args.terms.now.most c.args.workers.now c.loop.workers c.round.new.workers c.loop.invariant.on c.round.ensures.on;
 }
 
 pub loop-preserved : goal.loop-preserved
 loop-preserved g c =
     let i = c.loop.invariant in
     let on = c.round.ensures.on in record {
-      on = all_then (judge_of (option_copied c.args.rules)) c.args.room.now c.args.most c.args.workers.now c.loop.workers c.round.new.workers i.on on;
-      can = all_can (judge_of (option_copied c.args.rules)) c.args.room.now c.args.most c.loop.workers c.round.new.workers on i.can;
+      on = all_then (judges_of c.args.terms.now) c.args.room.now c.args.terms.now.most c.args.workers.now c.loop.workers c.round.new.workers i.on on;
+      can = all_can (judges_of c.args.terms.now) c.args.room.now c.args.terms.now.most c.loop.workers c.round.new.workers on i.can;
     }

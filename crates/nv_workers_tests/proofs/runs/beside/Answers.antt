@@ -1,3 +1,4 @@
+use Rattle.std.proofs.Common.{arith, rules}
 use Rattle.std.specs.Option.{option_copied}
 use Rattle.nv_replay.specs.Follow.{judge_of}
 use Rattle.nv_workers.proofs.NewSeats.{as_made}
@@ -15,6 +16,9 @@ run_all-requires-clause-new g c κs within =
       c.in_ok-workers.ensures.new c.in_ok-room.room
           (as_made c.in_ok-room.room c.in_ok-room.readers.items c.in_ok-room.lead _ m.origin m.readers.1 m.lead m.log m.start),
     )
+
+pub run_all-requires-clause-terms : goal.run_all-requires-clause-terms
+run_all-requires-clause-terms g c κs within = record { most = omega arith; hands = search rules }
 
 pub end-requires-after_bounds : goal.end-requires-after_bounds
 end-requires-after_bounds g c κs within =

@@ -1,6 +1,5 @@
 use Rattle.std.proofs.Common.{sym, subst}
-use Rattle.std.specs.Option.{option_copied}
-use Rattle.nv_replay.specs.Follow.{judge_of}
+use Rattle.nv_workers.specs.Terms.{judges_of}
 use Rattle.nv_workers.specs.declared.worker.Seat.TheVariants.{Reading, Leading}
 use Rattle.nv_workers.specs.Workers.{WorksAt, seen_by}
 use Rattle.nv_workers.specs.Stepping.{StepTells}
@@ -10,31 +9,31 @@ use Rattle.nv_workers.proofs.worker.Worker.step.Goals as goal
 
 pub returns-in-Reading-clause-after : goal.returns-in-Reading-clause-after
 returns-in-Reading-clause-after g c = λ p f.
-    after_read (judge_of (option_copied c.args.rules)) c.args.room.now c.args.most p c.follow_turn.new.version c.follow_turn.new.reader c.follow_turn.new.held c.follow_turn.new.buf c.follow_turn.result
-    (c.follow_turn.ensures.after c.args.most p
-    (subst (λ s. WorksAt (judge_of (option_copied c.args.rules)) c.args.room.now c.args.most p c.args.self.now.version c.args.self.now.buf s) c.in-Reading.is f))
+    after_read (judges_of c.args.terms.now) c.args.room.now c.args.terms.now.most p c.follow_turn.new.version c.follow_turn.new.reader c.follow_turn.new.held c.follow_turn.new.buf c.follow_turn.result
+    (c.follow_turn.ensures.after c.args.terms.now.most p
+    (subst (λ s. WorksAt (judges_of c.args.terms.now) c.args.room.now c.args.terms.now.most p c.args.self.now.version c.args.self.now.buf s) c.in-Reading.is f))
 
 pub returns-in-Reading-clause-tells : goal.returns-in-Reading-clause-tells
 returns-in-Reading-clause-tells g c =
     let p = c.requires.works.0 in
-    let w = subst (λ s. WorksAt (judge_of (option_copied c.args.rules)) c.args.room.now c.args.most p c.args.self.now.version c.args.self.now.buf s) c.in-Reading.is c.requires.works.1 in
+    let w = subst (λ s. WorksAt (judges_of c.args.terms.now) c.args.room.now c.args.terms.now.most p c.args.self.now.version c.args.self.now.buf s) c.in-Reading.is c.requires.works.1 in
     subst (λ s. StepTells c.args.room.now c.follow_turn.result c.args.self.now.version c.follow_turn.new.version s (Reading c.follow_turn.new.reader c.follow_turn.new.held)) (sym c.in-Reading.is)
-    (tells_read (judge_of (option_copied c.args.rules)) c.args.room.now c.args.most p c.follow_turn.new.version c.args.self.now.version c.in-Reading.reader c.follow_turn.new.reader c.in-Reading.held
-    c.follow_turn.new.held c.follow_turn.new.buf c.follow_turn.result (c.follow_turn.ensures.after c.args.most p w) c.follow_turn.ensures.grown c.follow_turn.ensures.idle)
+    (tells_read (judges_of c.args.terms.now) c.args.room.now c.args.terms.now.most p c.follow_turn.new.version c.args.self.now.version c.in-Reading.reader c.follow_turn.new.reader c.in-Reading.held
+    c.follow_turn.new.held c.follow_turn.new.buf c.follow_turn.result (c.follow_turn.ensures.after c.args.terms.now.most p w) c.follow_turn.ensures.grown c.follow_turn.ensures.idle)
 
 pub returns-in-Leading-clause-tells : goal.returns-in-Leading-clause-tells
 returns-in-Leading-clause-tells g c =
     let p = c.requires.works.0 in
-    let w = subst (λ s. WorksAt (judge_of (option_copied c.args.rules)) c.args.room.now c.args.most p c.args.self.now.version c.args.self.now.buf s) c.in-Leading.is c.requires.works.1 in
+    let w = subst (λ s. WorksAt (judges_of c.args.terms.now) c.args.room.now c.args.terms.now.most p c.args.self.now.version c.args.self.now.buf s) c.in-Leading.is c.requires.works.1 in
     subst (λ s. StepTells c.args.room.now c.lead_turn.result c.args.self.now.version c.lead_turn.new.version s (Leading c.lead_turn.new.lead c.lead_turn.new.asked)) (sym c.in-Leading.is)
-    (tells_lead (judge_of (option_copied c.args.rules)) c.args.room.now c.args.most p c.lead_turn.new.version c.args.self.now.version c.in-Leading.lead c.lead_turn.new.lead c.in-Leading.asked
-    c.lead_turn.new.asked c.lead_turn.result (c.lead_turn.ensures.after (judge_of (option_copied c.args.rules)) p w) c.lead_turn.ensures.published c.lead_turn.ensures.late)
+    (tells_lead (judges_of c.args.terms.now) c.args.room.now c.args.terms.now.most p c.lead_turn.new.version c.args.self.now.version c.in-Leading.lead c.lead_turn.new.lead c.in-Leading.asked
+    c.lead_turn.new.asked c.lead_turn.result (c.lead_turn.ensures.after (judges_of c.args.terms.now) p w) c.lead_turn.ensures.published c.lead_turn.ensures.late)
 
 pub follow_turn-requires-after_bounds : goal.follow_turn-requires-after_bounds
 follow_turn-requires-after_bounds g c κs within = (
-  c.args.most,
+  c.args.terms.now.most,
   c.requires.works.0,
-  subst (λ s. WorksAt (judge_of (option_copied c.args.rules)) c.args.room.now c.args.most c.requires.works.0 c.args.self.now.version c.args.self.now.buf s) c.in-Reading.is c.requires.works.1,
+  subst (λ s. WorksAt (judges_of c.args.terms.now) c.args.room.now c.args.terms.now.most c.requires.works.0 c.args.self.now.version c.args.self.now.buf s) c.in-Reading.is c.requires.works.1,
 )
 
 pub returns-in-Reading-clause-one : goal.returns-in-Reading-clause-one

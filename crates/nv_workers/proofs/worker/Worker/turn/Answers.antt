@@ -1,6 +1,5 @@
 use Rattle.std.proofs.Common.{◌∙◌, ap, inl, inr, arith}
-use Rattle.std.specs.Option.{option_copied}
-use Rattle.nv_replay.specs.Follow.{judge_of}
+use Rattle.nv_workers.specs.Terms.{judges_of}
 use Rattle.nv_replay.specs.Sequence.{is_on}
 use Rattle.nv_replay.specs.Versions.{Running}
 use Rattle.nv_threads.specs.Threads.{Proc}
@@ -31,10 +30,10 @@ returns-in-Waits-clause-last g c = (c.in-Waits.ensures.after c.requires.works.0 
 
 pub promote-requires-clause-can : goal.promote-requires-clause-can
 promote-requires-clause-can g c κs within =
-    (judge_of (option_copied c.args.rules), c.args.most, c.requires.works.0, c.in-Leads.ensures.after c.requires.works.0 c.requires.works.1)
+    (judges_of c.args.terms.now, c.args.terms.now.most, c.requires.works.0, c.in-Leads.ensures.after c.requires.works.0 c.requires.works.1)
 
 pub returns-in-Leads-clause-works : goal.returns-in-Leads-clause-works
-returns-in-Leads-clause-works g c = λ p f. c.promote.ensures.works (judge_of (option_copied c.args.rules)) c.args.most p (c.in-Leads.ensures.after p f)
+returns-in-Leads-clause-works g c = λ p f. c.promote.ensures.works (judges_of c.args.terms.now) c.args.terms.now.most p (c.in-Leads.ensures.after p f)
 
 pub returns-in-Leads-clause-last : goal.returns-in-Leads-clause-last
 returns-in-Leads-clause-last g c = took_stays c.step.new.self.seat c.promote.new.self.seat c.promote.ensures.leads
@@ -45,10 +44,10 @@ returns-in-Leads-clause-tells g c =
 
 pub hand_over-requires-clause-can : goal.hand_over-requires-clause-can
 hand_over-requires-clause-can g c κs within =
-    (judge_of (option_copied c.args.rules), c.args.most, c.requires.works.0, c.in-Hands.ensures.after c.requires.works.0 c.requires.works.1)
+    (judges_of c.args.terms.now, c.args.terms.now.most, c.requires.works.0, c.in-Hands.ensures.after c.requires.works.0 c.requires.works.1)
 
 pub returns-in-Hands-clause-works : goal.returns-in-Hands-clause-works
-returns-in-Hands-clause-works g c = λ p f. c.hand_over.ensures.works (judge_of (option_copied c.args.rules)) c.args.most p (c.in-Hands.ensures.after p f)
+returns-in-Hands-clause-works g c = λ p f. c.hand_over.ensures.works (judges_of c.args.terms.now) c.args.terms.now.most p (c.in-Hands.ensures.after p f)
 
 pub returns-in-Hands-clause-tells : goal.returns-in-Hands-clause-tells
 returns-in-Hands-clause-tells g c =
@@ -58,10 +57,10 @@ returns-in-Hands-clause-tells g c =
 
 pub depart-requires-clause-can : goal.depart-requires-clause-can
 depart-requires-clause-can g c κs within =
-    (judge_of (option_copied c.args.rules), c.args.most, c.requires.works.0, c.in-Leaves.ensures.after c.requires.works.0 c.requires.works.1)
+    (judges_of c.args.terms.now, c.args.terms.now.most, c.requires.works.0, c.in-Leaves.ensures.after c.requires.works.0 c.requires.works.1)
 
 pub returns-in-Leaves-clause-works : goal.returns-in-Leaves-clause-works
-returns-in-Leaves-clause-works g c = λ p f. c.depart.ensures.works (judge_of (option_copied c.args.rules)) c.args.most p (c.in-Leaves.ensures.after p f)
+returns-in-Leaves-clause-works g c = λ p f. c.depart.ensures.works (judges_of c.args.terms.now) c.args.terms.now.most p (c.in-Leaves.ensures.after p f)
 
 pub returns-in-Leaves-clause-tells : goal.returns-in-Leaves-clause-tells
 returns-in-Leaves-clause-tells g c = ap (λ (v : Running Proc). is_on v.at.fate) c.depart.ensures.same ∙ c.in-Leaves.ensures.tells
