@@ -10,7 +10,7 @@ pub struct Seed {
 impl Seed {
     /// The generator with this number.
     pub fn new(number: u32) -> Seed {
-        let spread = u64::from(number).wrapping_mul(0x9e37_79b9_7f4a_7c15);
+        let spread = (u64::from(number) + 1).wrapping_mul(0x9e37_79b9_7f4a_7c15);
         Seed { state: spread | 1 }
     }
 
