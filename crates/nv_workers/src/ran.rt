@@ -90,11 +90,12 @@ pub fn gather<K: SyscallKernel>(
 {
     let (mut versions, mut left) = lists_for(alloc, workers.len())?;
     take_apart(workers, &mut versions, &mut left);
-    Ok(Ran {
+    let ran = Ran {
         room,
         left,
         versions,
-    })
+    };
+    Ok(ran)
 }
 
 // Empty lists, with memory for what is left of so many workers.
