@@ -1,5 +1,5 @@
 //! A run: versions beside each other on threads of the host, each with its seat in one room.
-//! Types: `Terms`, `Worker`, `Turn`, `Ran`; functions `staff`, `run_all`, `end`.
+//! Types: `Terms`, `Worker`, `Turn`, `Ran`; functions `staff`, `run_all`, `gather`, `end`.
 //! Proved, if it returns: the log and the standings are the sequential monitor's with the room's planned lengths, whichever
 //! thread took which turn; the spans of all versions cover the log.
 //! Above: the top call.
@@ -14,7 +14,7 @@ mod staffing;
 mod terms;
 mod worker;
 
-pub use ran::{NotRun, Ran, end, run_all};
+pub use ran::{NotRun, Ran, end, gather, run_all};
 pub use staffing::staff;
 pub use terms::Terms;
 pub use worker::{Turn, Worker};

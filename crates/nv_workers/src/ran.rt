@@ -73,6 +73,26 @@ pub fn run_all<R: Threads + Wait + Sync, K: SyscallKernel, G: Gate + Sync>(
     })
 }
 
+/// What is left of workers that have taken their turns one by one, once all have left.
+pub fn gather<K: SyscallKernel>(
+    alloc: Global,
+    room: Room<K>,
+    workers: Vec<Worker<K>>,
+) -> Result<Ran<K>, AllocError>
+    requires gone { AreGone workers.items }
+    ensures room { IfOk result (λ r. r.room ≡ room) }
+    ensures apart { IfOk result (λ r. AreApart workers.items r.versions.items r.left.items) }
+{
+    let (mut versions, mut left) = lists_for(alloc, workers.len())?;
+    take_apart(workers, &mut versions, &mut left);
+    let ran = Ran {
+        room,
+        left,
+        versions,
+    };
+    Ok(ran)
+}
+
 // Empty lists, with memory for what is left of so many workers.
 fn lists_for<K: SyscallKernel>(
     alloc: Global,

@@ -8,4 +8,4 @@ mod runs;
 #[cfg(test)]
 mod tests;
 
-pub use runs::{beside, kernel, one_by_one, program};
+pub use runs::{BUDGET, MOST_EVENTS, beside, kernel, one_by_one, program, versions};

@@ -17,11 +17,13 @@ use std::alloc::{AllocError, Global};
 use std::sync::Wait;
 use std::thread::Threads;
 
-const MEMORY: u32 = 1_048_576;
+const MEMORY: u32 = 147_456;
 
-const BUDGET: u32 = 1_000_000;
+/// The instructions that a version may do.
+pub const BUDGET: u32 = 10_000;
 
-const MOST_EVENTS: u32 = 1_000;
+/// The events that a log may get.
+pub const MOST_EVENTS: u32 = 1_000;
 
 /// A program that makes so many calls getuid, and then does this.
 pub fn program(alloc: Global, calls: u32, then: &str) -> Result<String, AllocError> {
@@ -39,7 +41,8 @@ fn version(alloc: Global, index: u32, text: &str) -> Option<Version>
     Version::make(alloc, index, process, true).ok()
 }
 
-fn versions(alloc: Global, texts: &[String]) -> Option<Vec<Version>>
+/// The versions of these programs, as they are made.
+pub fn versions(alloc: Global, texts: &[String]) -> Option<Vec<Version>>
     requires { length texts.now ≤ 8 }
     ensures fresh { IfSome result (λ versions. AreFresh threads 0 versions.items) }
     ensures each { IfSome result (λ versions. length versions.items ≡ length texts.now) }
