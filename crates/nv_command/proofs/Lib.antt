@@ -1,4 +1,4 @@
-mod Apps
+pub mod Apps
 mod Matches
 mod Lines
 pub mod Within

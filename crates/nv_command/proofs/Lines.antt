@@ -1,11 +1,13 @@
 -- What a line asks for, from what its parts are.
-use Rattle.std.proofs.Common.{◌≡◌, ◌<◌, ◌≤◌, ◌-◌, refl, sym, ap, ap₂, ◌∙◌, subst, arith, ℕ, List, [], ◌∷◌, length, take, drop, Option, None, Some, option_and_then, string_bytes, String, Global, Result, Ok, Err}
-use Rattle.std.specs.Prelude.{IfErr, IsSome, slice_index_or}
+use Rattle.std.proofs.Common.{◌≡◌, ◌<◌, ◌≤◌, ◌-◌, refl, sym, ap, ap₂, ◌∙◌, subst, arith, ℕ, List, [], ◌∷◌, length, take, drop, Option, None, Some, option_and_then, false, string_bytes, String, Global, Result, Ok, Err}
+use Rattle.std.specs.Prelude.{option_map, IfErr, IsSome, slice_index_or}
 use Rattle.std.specs.Result.{IsErrAnd}
 use Rattle.std.proofs.Math.Seq.{take-length}
 use Rattle.clap.specs.Walk.{Row, Text}
 use Rattle.clap.specs.Simple.{App}
-use Rattle.nv_command.specs.Words.{ring_of, memory_of, budget_of, calls_of, threads_of, limits_of, Name, Command as Line, rows_of_line, texts, asked_by, name_of, name_in, command_of}
+use Rattle.nv_command.specs.Simple.{run_app, record_app, replay_app, inspect_app, rules_app, asm_app, gen_app}
+use Rattle.nv_command.specs.Tables.{app_named, asked_of}
+use Rattle.nv_command.specs.Words.{NamesRun, NamesRules, NamesAsm, NamesGen, NamesRecord, NamesReplay, NamesInspect, Runs, Uses, Generates, Records, Replays, Inspects, plan_of, report_plan_of, rules_job_of, asm_job_of, number_in, trail_of, look_of, run_line, rules_line, asm_line, gen_line, record_line, replay_line, inspect_line, ring_of, memory_of, budget_of, calls_of, threads_of, limits_of, Name, Command as Line, rows_of_line, texts, asked_by, name_of, name_in, command_of}
 use Rattle.nv_command.specs.Seen.{IsRefused}
 use Rattle.nv_command.specs.declared.asked.LineFault.{LineFault}
 use Rattle.nv_command.specs.declared.asked.LineFault.TheVariants.{Usage, Memory}
@@ -40,15 +42,30 @@ module _ (rows : List Row) where
           unfolding limits_of
           all_limits threads h = rw (← r, ← m, ← b, ← c, ← h) refl
 
--- what a line is read as, from what `clap` matches of it
-module _ {X : Type 0} (read : List Row → Option X) (command app : App) (words : List Text) (e : app ≡ command) where
-  pub line_is : (rows : List Row) (x : Option X) → rows_of_line app words ≡ Some rows → x ≡ read rows → option_and_then read (rows_of_line command words) ≡ x
-  line_is rows x h p =
-      let r : rows_of_line command words ≡ Some rows = subst (λ (a : App). rows_of_line a words ≡ Some rows) e h in
-      rw r (sym p)
+map_then : {X Y Z : Type 0} (f : Y → Z) (g : X → Option Y) (x : Option X) → option_map f (option_and_then g x) ≡ option_and_then (λ x. option_map f (g x)) x
+map_then f g None = refl
+map_then f g (Some x) = refl
 
-  pub no_line : rows_of_line app words ≡ None → option_and_then read (rows_of_line command words) ≡ None
-  no_line h = let r : rows_of_line command words ≡ None = subst (λ (a : App). rows_of_line a words ≡ None) e h in rw r refl
+asked_is : (words : List Text) (name : Name) → asked_by words name ≡ option_and_then (asked_of name) (rows_of_line (app_named name) words)
+unfolding run_line rules_line asm_line gen_line record_line replay_line inspect_line
+asked_is words NamesRun = map_then Runs report_plan_of (rows_of_line run_app words)
+asked_is words NamesRules = map_then Uses rules_job_of (rows_of_line rules_app words)
+asked_is words NamesAsm = map_then Uses asm_job_of (rows_of_line asm_app words)
+asked_is words NamesGen = map_then Generates number_in (rows_of_line gen_app words)
+asked_is words NamesRecord = map_then Records (plan_of false) (rows_of_line record_app words)
+asked_is words NamesReplay = map_then Replays trail_of (rows_of_line replay_app words)
+asked_is words NamesInspect = map_then Inspects look_of (rows_of_line inspect_app words)
+
+-- what a line asks for, from what `clap` matches of it
+module _ (words : List Text) (name : Name) (app : App) (e : app ≡ app_named name) where
+  asked_as : (rows : Option (List Row)) → rows_of_line app words ≡ rows → asked_by words name ≡ option_and_then (asked_of name) rows
+  asked_as rows h = asked_is words name ∙ ap (option_and_then (asked_of name)) (ap (λ (a : App). rows_of_line a words) (sym e) ∙ h)
+
+  pub line_is : (rows : List Row) → rows_of_line app words ≡ Some rows → asked_by words name ≡ asked_of name rows
+  line_is rows h = asked_as (Some rows) h
+
+  pub no_line : rows_of_line app words ≡ None → asked_by words name ≡ None
+  no_line h = asked_as None h
 
 -- what holds of each error that `?` may hand on
 pub error_by : {T E : Type 0} (r : Result T E) (P Q : E → Type 0) → ((e : E) → P e → Q e) → IsErrAnd r P → IfErr r Q

@@ -1,4 +1,5 @@
 pub mod Faults
 pub mod Simple
 pub mod Words
+pub mod Tables
 pub mod Seen

@@ -9,6 +9,7 @@ mod asked;
 mod limits;
 mod looks;
 mod matching;
+mod names;
 mod numbers;
 mod parts;
 mod reading;

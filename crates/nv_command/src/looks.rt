@@ -1,18 +1,16 @@
 // What is shown of a version that follows a trace.
-ghost use Rattle.std.specs.Prelude.{◌≡◌, ℕ, ◌≤◌, ◌+◌, None, Some, IfOk, IfErr, IfSome, option_map};
+ghost use Rattle.std.specs.Prelude.{◌≡◌, ℕ, ◌≤◌, ◌+◌, None, Some, IfSome, option_map};
 ghost use Rattle.std.specs.Option.{ForSome};
 ghost use Rattle.clap.specs.Matches.{found_of};
 ghost use Rattle.clap.specs.Walk.{rows_of};
-ghost use Rattle.nv_command.specs.Words.{texts, point_from, point_of, range_of, dump_from, dump_of, look_of, inspect_line};
+ghost use Rattle.nv_command.specs.Words.{point_from, point_of, range_of, dump_from, dump_of, look_of};
 ghost use Rattle.nv_command.specs.Seen.{point_view, look_view};
 
-use crate::asked::{LineFault, Look, Point};
-use crate::matching::{matched, text};
+use crate::asked::{Look, Point};
+use crate::matching::text;
 use crate::numbers::number_between;
-use crate::simple::inspect_command;
 use crate::trails::trail;
 use clap::ArgMatches;
-use std::alloc::Global;
 
 // The most instructions after which a version is shown.
 const MOST_COUNT: u32 = 1_000_000_000;
@@ -80,25 +78,13 @@ fn dump(matches: &ArgMatches<'_>) -> Option<Option<(u32, u32)>>
     dump_from(text(matches, "dump"), text(matches, "length"))
 }
 
+/// What is shown, by the options of the version, the point and the bytes.
 #[tactic(auto, unfolding(crate::specs::Words::look_of))]
-fn look<'a>(matches: &ArgMatches<'a>) -> Option<Look<'a>>
+pub fn look<'a>(matches: &ArgMatches<'a>) -> Option<Look<'a>>
     ensures { option_map look_view result ≡ look_of (rows_of (found_of matches.now)) }
 {
     let trail = trail(matches)?;
     let point = point(matches)?;
     let dump = dump(matches)?;
     Some(Look { trail, point, dump })
-}
-
-/// Reads the words of `inspect`.
-pub fn read_inspect<'a>(alloc: Global, words: &'a [String]) -> Result<Look<'a>, LineFault>
-    ensures look { IfOk result (λ look. inspect_line (texts words.entry.now) ≡ Some (look_view look)) }
-    ensures refused { IfErr result (λ fault. fault ≡ LineFault.Usage → inspect_line (texts words.entry.now) ≡ None) }
-{
-    let command = inspect_command(alloc)?;
-    let matches = matched(command, words)?;
-    match look(&matches) {
-        Some(look) => Ok(look),
-        None => Err(LineFault::Usage),
-    }
 }

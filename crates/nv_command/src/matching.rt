@@ -2,23 +2,29 @@
 ghost use Rattle.std.specs.Prelude.{◌≡◌, None, Some, true, IfOk, IfErr, option_map};
 ghost use Rattle.clap.specs.Matches.{found_of};
 ghost use Rattle.clap.specs.Walk.{rows_of, first_of, all_of};
-ghost use Rattle.clap.specs.Simple.{app_of};
 ghost use Rattle.clap.specs.Faults.{is_simple_and_free};
+ghost use Rattle.nv_command.specs.Tables.{app_by};
 ghost use Rattle.nv_command.specs.Words.{texts, rows_of_line, is_set};
 ghost use Rattle.nv_command.specs.Seen.{names_view};
 ghost use Rattle.nv_command.specs.declared.asked.LineFault.{LineFault};
 
 use crate::LineFault;
-use clap::{ArgMatches, Command};
+use crate::simple::{Form, command};
+use clap::ArgMatches;
+use std::alloc::Global;
 
 /// The matches of the words from the command's name on.
-pub fn matched<'a>(command: Command<'a>, words: &'a [String]) -> Result<ArgMatches<'a>, LineFault>
-    requires { is_simple_and_free (app_of command) ≡ true }
-    ensures rows { IfOk result (λ matches. rows_of_line (app_of command.entry) (texts words.entry.now) ≡ Some (rows_of (found_of matches))) }
-    ensures refused { IfErr result (λ fault. fault ≡ LineFault.Usage → rows_of_line (app_of command.entry) (texts words.entry.now) ≡ None) }
+pub fn matched<'a>(
+    alloc: Global,
+    form: &Form,
+    words: &'a [String],
+) -> Result<ArgMatches<'a>, LineFault>
+    requires { is_simple_and_free (app_by form.now) ≡ true }
+    ensures rows { IfOk result (λ matches. rows_of_line (app_by form.now) (texts words.entry.now) ≡ Some (rows_of (found_of matches))) }
+    ensures refused { IfErr result (λ fault. fault ≡ LineFault.Usage → rows_of_line (app_by form.now) (texts words.entry.now) ≡ None) }
 {
-    let matches = command.try_get_matches_from(words)?;
-    Ok(matches)
+    let command = command(alloc, form)?;
+    Ok(command.try_get_matches_from(words)?)
 }
 
 /// The first value of an argument.

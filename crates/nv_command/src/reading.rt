@@ -2,16 +2,17 @@
 ghost use Rattle.std.specs.Prelude.{◌≡◌, ◌≤◌, None, Some, IfOk, IfErr, IfSome, IsSome, option_and_then, option_map, length};
 ghost use Rattle.clap.specs.Matches.{found_of};
 ghost use Rattle.clap.specs.Walk.{rows_of};
-ghost use Rattle.nv_command.specs.Words.{texts, versions_of, plan_of, rules_job_of, asm_job_of, number_in, run_line, record_line, rules_line, asm_line, gen_line, asked_by, name_of, command_of};
-ghost use Rattle.nv_command.specs.Seen.{names_view, parts_view, plan_view, job_view, command_view, IsRefused};
+ghost use Rattle.nv_command.specs.Words.{texts, NamesRun, NamesRules, NamesAsm, NamesGen, NamesRecord, NamesReplay, NamesInspect, versions_of, plan_of, asked_by, name_of, command_of};
+ghost use Rattle.nv_command.specs.Tables.{name_view, asked_of};
+ghost use Rattle.nv_command.specs.Seen.{names_view, parts_view, plan_view, command_view, IsRefused};
 
 use crate::asked::{Command, Job, LineFault, Run, Tool};
-use crate::looks::read_inspect;
+use crate::looks::look;
 use crate::matching::{is_set, matched, text, values};
+use crate::names::Name;
 use crate::numbers::{limits, number_between};
 use crate::parts::Parts;
-use crate::simple::{asm_command, gen_command, record_command, rules_command, run_command};
-use crate::trails::read_replay;
+use crate::trails::trail;
 use clap::ArgMatches;
 use std::alloc::{AllocError, Global};
 
@@ -67,35 +68,36 @@ fn kept<'a>(alloc: Global, parts: Parts<'_, 'a>) -> Result<Run<'a>, LineFault>
     })
 }
 
-// Reads the words of `run`.
-fn read_run<'a>(alloc: Global, words: &'a [String]) -> Result<Run<'a>, LineFault>
-    ensures plan { IfOk result (λ plan. run_line (texts words.entry.now) ≡ Some (plan_view plan)) }
-    ensures refused { IfErr result (λ fault. fault ≡ LineFault.Usage → run_line (texts words.entry.now) ≡ None) }
+// A run, from what is matched of its words.
+fn planned<'a>(alloc: Global, matches: &ArgMatches<'a>, json: bool) -> Result<Run<'a>, LineFault>
+    ensures plan { IfOk result (λ plan. plan_of json (rows_of (found_of matches.now)) ≡ Some (plan_view plan)) }
+    ensures refused { IfErr result (λ fault. fault ≡ LineFault.Usage → plan_of json (rows_of (found_of matches.now)) ≡ None) }
 {
-    let command = run_command(alloc)?;
-    let matches = matched(command, words)?;
-    match parts_of(&matches, is_set(&matches, "json")) {
+    match parts_of(matches, json) {
         Some(parts) => kept(alloc, parts),
         None => Err(LineFault::Usage),
     }
 }
 
-// Reads the words of `record`.
-fn read_record<'a>(alloc: Global, words: &'a [String]) -> Result<Run<'a>, LineFault>
-    ensures plan { IfOk result (λ plan. record_line (texts words.entry.now) ≡ Some (plan_view plan)) }
-    ensures refused { IfErr result (λ fault. fault ≡ LineFault.Usage → record_line (texts words.entry.now) ≡ None) }
+fn run<'a>(alloc: Global, matches: &ArgMatches<'a>) -> Result<Command<'a>, LineFault>
+    ensures command { IfOk result (λ command. asked_of NamesRun (rows_of (found_of matches.now)) ≡ Some (command_view command)) }
+    ensures refused { IfErr result (λ fault. fault ≡ LineFault.Usage → asked_of NamesRun (rows_of (found_of matches.now)) ≡ None) }
 {
-    let command = record_command(alloc)?;
-    let matches = matched(command, words)?;
-    match parts_of(&matches, false) {
-        Some(parts) => kept(alloc, parts),
-        None => Err(LineFault::Usage),
-    }
+    let run = planned(alloc, matches, is_set(matches, "json"))?;
+    Ok(Command::Run(run))
+}
+
+fn record<'a>(alloc: Global, matches: &ArgMatches<'a>) -> Result<Command<'a>, LineFault>
+    ensures command { IfOk result (λ command. asked_of NamesRecord (rows_of (found_of matches.now)) ≡ Some (command_view command)) }
+    ensures refused { IfErr result (λ fault. fault ≡ LineFault.Usage → asked_of NamesRecord (rows_of (found_of matches.now)) ≡ None) }
+{
+    let run = planned(alloc, matches, false)?;
+    Ok(Command::Record(run))
 }
 
 #[tactic(auto, unfolding(crate::specs::Words::rules_job_of))]
-fn rules_job<'a>(matches: &ArgMatches<'a>) -> Option<Job<'a>>
-    ensures { option_map job_view result ≡ rules_job_of (rows_of (found_of matches.now)) }
+fn rules<'a>(matches: &ArgMatches<'a>) -> Option<Command<'a>>
+    ensures { option_map command_view result ≡ asked_of NamesRules (rows_of (found_of matches.now)) }
 {
     let file = text(matches, "file")?;
     let tool = if is_set(matches, "asm") {
@@ -103,64 +105,69 @@ fn rules_job<'a>(matches: &ArgMatches<'a>) -> Option<Job<'a>>
     } else {
         Tool::CheckRules
     };
-    Some(Job { tool, file })
-}
-
-// Reads the words of `rules`.
-fn read_rules<'a>(alloc: Global, words: &'a [String]) -> Result<Job<'a>, LineFault>
-    ensures job { IfOk result (λ job. rules_line (texts words.entry.now) ≡ Some (job_view job)) }
-    ensures refused { IfErr result (λ fault. fault ≡ LineFault.Usage → rules_line (texts words.entry.now) ≡ None) }
-{
-    let command = rules_command(alloc)?;
-    let matches = matched(command, words)?;
-    match rules_job(&matches) {
-        Some(job) => Ok(job),
-        None => Err(LineFault::Usage),
-    }
+    Some(Command::Use(Job { tool, file }))
 }
 
 #[tactic(auto, unfolding(crate::specs::Words::asm_job_of))]
-fn asm_job<'a>(matches: &ArgMatches<'a>) -> Option<Job<'a>>
-    ensures { option_map job_view result ≡ asm_job_of (rows_of (found_of matches.now)) }
+fn asm<'a>(matches: &ArgMatches<'a>) -> Option<Command<'a>>
+    ensures { option_map command_view result ≡ asked_of NamesAsm (rows_of (found_of matches.now)) }
 {
     let file = text(matches, "file")?;
-    Some(Job {
-        tool: Tool::Assemble,
-        file,
-    })
-}
-
-// Reads the words of `asm`.
-fn read_asm<'a>(alloc: Global, words: &'a [String]) -> Result<Job<'a>, LineFault>
-    ensures job { IfOk result (λ job. asm_line (texts words.entry.now) ≡ Some (job_view job)) }
-    ensures refused { IfErr result (λ fault. fault ≡ LineFault.Usage → asm_line (texts words.entry.now) ≡ None) }
-{
-    let command = asm_command(alloc)?;
-    let matches = matched(command, words)?;
-    match asm_job(&matches) {
-        Some(job) => Ok(job),
-        None => Err(LineFault::Usage),
-    }
+    let tool = Tool::Assemble;
+    Some(Command::Use(Job { tool, file }))
 }
 
 #[tactic(auto, unfolding(crate::specs::Words::number_in))]
-fn number(matches: &ArgMatches<'_>) -> Option<u32>
-    ensures { result ≡ number_in (rows_of (found_of matches.now)) }
+fn generate<'a>(matches: &ArgMatches<'a>) -> Option<Command<'a>>
+    ensures { option_map command_view result ≡ asked_of NamesGen (rows_of (found_of matches.now)) }
 {
-    number_between(0, MOST_NUMBER, text(matches, "number")?)
+    let number = number_between(0, MOST_NUMBER, text(matches, "number")?)?;
+    Some(Command::Generate(number))
 }
 
-// Reads the words of `gen`.
-fn read_gen(alloc: Global, words: &[String]) -> Result<u32, LineFault>
-    ensures number { IfOk result (λ number. gen_line (texts words.now) ≡ Some number) }
-    ensures refused { IfErr result (λ fault. fault ≡ LineFault.Usage → gen_line (texts words.now) ≡ None) }
+fn replay<'a>(matches: &ArgMatches<'a>) -> Option<Command<'a>>
+    ensures { option_map command_view result ≡ asked_of NamesReplay (rows_of (found_of matches.now)) }
 {
-    let command = gen_command(alloc)?;
-    let matches = matched(command, words)?;
-    match number(&matches) {
-        Some(number) => Ok(number),
-        None => Err(LineFault::Usage),
+    Some(Command::Replay(trail(matches)?))
+}
+
+fn inspect<'a>(matches: &ArgMatches<'a>) -> Option<Command<'a>>
+    ensures { option_map command_view result ≡ asked_of NamesInspect (rows_of (found_of matches.now)) }
+{
+    Some(Command::Inspect(look(matches)?))
+}
+
+// The words are refused where they ask for nothing.
+fn unless_none(command: Option<Command<'_>>) -> Result<Command<'_>, LineFault>
+    ensures command { IfOk result (λ asked. command.entry ≡ Some asked) }
+    ensures refused { IfErr result (λ fault. (fault ≡ LineFault.Usage) × (command.entry ≡ None)) }
+{
+    command.ok_or(LineFault::Usage)
+}
+
+// What the matches of a command's words ask for.
+fn asked<'a>(alloc: Global, name: Name, matches: &ArgMatches<'a>) -> Result<Command<'a>, LineFault>
+    ensures command { IfOk result (λ command. asked_of (name_view name) (rows_of (found_of matches.now)) ≡ Some (command_view command)) }
+    ensures refused { IfErr result (λ fault. fault ≡ LineFault.Usage → asked_of (name_view name) (rows_of (found_of matches.now)) ≡ None) }
+{
+    match name {
+        Name::Run => run(alloc, matches),
+        Name::Record => record(alloc, matches),
+        Name::Rules => unless_none(rules(matches)),
+        Name::Asm => unless_none(asm(matches)),
+        Name::Gen => unless_none(generate(matches)),
+        Name::Replay => unless_none(replay(matches)),
+        Name::Inspect => unless_none(inspect(matches)),
     }
+}
+
+// Reads the words of a command, from its name on.
+fn read_words<'a>(alloc: Global, name: Name, words: &'a [String]) -> Result<Command<'a>, LineFault>
+    ensures command { IfOk result (λ command. asked_by (texts words.entry.now) (name_view name) ≡ Some (command_view command)) }
+    ensures refused { IfErr result (λ fault. fault ≡ LineFault.Usage → asked_by (texts words.entry.now) (name_view name) ≡ None) }
+{
+    let matches = matched(alloc, &name.form(), words)?;
+    asked(alloc, name, &matches)
 }
 
 // Reads the words from a command's name on.
@@ -169,15 +176,9 @@ fn read_named<'a>(alloc: Global, name: &str, words: &'a [String]) -> Result<Comm
     ensures refused { IfErr result (λ fault. fault ≡ LineFault.Usage → option_and_then (asked_by (texts words.entry.now)) (name_of name.now) ≡ None) }
     ensures named { IfErr result (λ fault. fault ≡ LineFault.Memory → IsSome (name_of name.now)) }
 {
-    match name {
-        "run" => Ok(Command::Run(read_run(alloc, words)?)),
-        "rules" => Ok(Command::Use(read_rules(alloc, words)?)),
-        "asm" => Ok(Command::Use(read_asm(alloc, words)?)),
-        "gen" => Ok(Command::Generate(read_gen(alloc, words)?)),
-        "record" => Ok(Command::Record(read_record(alloc, words)?)),
-        "replay" => Ok(Command::Replay(read_replay(alloc, words)?)),
-        "inspect" => Ok(Command::Inspect(read_inspect(alloc, words)?)),
-        _ => Err(LineFault::Usage),
+    match Name::of(name) {
+        Some(name) => read_words(alloc, name, words),
+        None => Err(LineFault::Usage),
     }
 }
 

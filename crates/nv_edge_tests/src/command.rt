@@ -1,338 +1,247 @@
 // The values of options, which no answer tells, and words with blanks. All else of a line is told by rows.
-use nv_command::{Command, Limits, Point, Trail, read};
+use nv_command::{Command, Limits, Look, Point, Run, Trail, read};
 use std::alloc::{AllocError, Global};
 use std::test::Fail;
 
-fn words_of(alloc: Global, words: &[&str]) -> Result<Vec<String>, AllocError> {
-    let mut owned = Vec::new(alloc);
-    for word in words {
-        owned.push(String::from_str(alloc, word)?)?;
+// Lines, with `|` between their words, and what they ask for.
+const LINES: [(&str, &str); 40] = [
+    // What isn't named is usual.
+    (
+        "varan|run|--script|s|v",
+        "run s - 256 1048576 10000000 65536 8 text|v",
+    ),
+    // A row splits its words at blanks.
+    (
+        "varan|run|--script|s| v|v v",
+        "run s - 256 1048576 10000000 65536 8 text| v|v v",
+    ),
+    ("varan|run|--script|s|--ring| 2|v", "refused"),
+    ("varan|run|--script|s|--ring|2 |v", "refused"),
+    (
+        "varan|run|--script|s|--ring|2|v",
+        "run s - 2 1048576 10000000 65536 8 text|v",
+    ),
+    (
+        "varan|run|--script|s|--ring|1024|v",
+        "run s - 1024 1048576 10000000 65536 8 text|v",
+    ),
+    (
+        "varan|run|--script|s|--ring|0000000000000000000002|v",
+        "run s - 2 1048576 10000000 65536 8 text|v",
+    ),
+    (
+        "varan|run|--script|s|--memory|131072|v",
+        "run s - 256 131072 10000000 65536 8 text|v",
+    ),
+    (
+        "varan|run|--script|s|--memory|135168|v",
+        "run s - 256 135168 10000000 65536 8 text|v",
+    ),
+    (
+        "varan|run|--script|s|--memory|16777216|v",
+        "run s - 256 16777216 10000000 65536 8 text|v",
+    ),
+    (
+        "varan|run|--script|s|--budget|1|v",
+        "run s - 256 1048576 1 65536 8 text|v",
+    ),
+    (
+        "varan|run|--script|s|--budget|1000000000|v",
+        "run s - 256 1048576 1000000000 65536 8 text|v",
+    ),
+    (
+        "varan|run|--script|s|--calls|1|v",
+        "run s - 256 1048576 10000000 1 8 text|v",
+    ),
+    (
+        "varan|run|--script|s|--calls|131072|v",
+        "run s - 256 1048576 10000000 131072 8 text|v",
+    ),
+    (
+        "varan|run|--script|s|--threads|1|v",
+        "run s - 256 1048576 10000000 65536 1 text|v",
+    ),
+    (
+        "varan|run|--script|s|--threads|8|v",
+        "run s - 256 1048576 10000000 65536 8 text|v",
+    ),
+    (
+        "varan|record|--script|s|--rules|r|--ring|4|--memory=135168|--budget|5|--calls|6|--threads|7|v",
+        "record s r 4 135168 5 6 7 text|v",
+    ),
+    (
+        "varan|replay|--script|s|t|v",
+        "replay s - t v 1048576 10000000 1",
+    ),
+    (
+        "varan|replay|t|--script=s|v",
+        "replay s - t v 1048576 10000000 1",
+    ),
+    (
+        "varan|replay|--index=7|--rules|b|--memory|131072|--script|a|--budget|1|--|-t|--index",
+        "replay a b -t --index 131072 1 7",
+    ),
+    (
+        "varan|replay|--script|s|--index|0|t|v",
+        "replay s - t v 1048576 10000000 0",
+    ),
+    (
+        "varan|replay|--script|s|--index|1|t|v",
+        "replay s - t v 1048576 10000000 1",
+    ),
+    (
+        "varan|replay|--script|s|--index|7|t|v",
+        "replay s - t v 1048576 10000000 7",
+    ),
+    (
+        "varan|replay|--script|s|--index|007|t|v",
+        "replay s - t v 1048576 10000000 7",
+    ),
+    (
+        "varan|inspect|t|--count|4|--rules=r|--budget|3|v|--index|0|--memory|131072|--script|s",
+        "inspect s r t v 131072 3 0 count 4 -",
+    ),
+    (
+        "varan|inspect|--script|s|t|v|--stamp|0",
+        "inspect s - t v 1048576 10000000 1 stamp 0 -",
+    ),
+    (
+        "varan|inspect|--script|s|t|v|--stamp=007",
+        "inspect s - t v 1048576 10000000 1 stamp 7 -",
+    ),
+    (
+        "varan|inspect|--script|s|t|v|--stamp|4294967295",
+        "inspect s - t v 1048576 10000000 1 stamp 4294967295 -",
+    ),
+    (
+        "varan|inspect|--script|s|t|v|--call|0",
+        "inspect s - t v 1048576 10000000 1 call 0 -",
+    ),
+    (
+        "varan|inspect|--script|s|t|v|--call|64",
+        "inspect s - t v 1048576 10000000 1 call 64 -",
+    ),
+    (
+        "varan|inspect|--script|s|t|v|--call|4294967295",
+        "inspect s - t v 1048576 10000000 1 call 4294967295 -",
+    ),
+    (
+        "varan|inspect|--script|s|t|v|--count|1",
+        "inspect s - t v 1048576 10000000 1 count 1 -",
+    ),
+    (
+        "varan|inspect|--script|s|t|v|--count|1000000000",
+        "inspect s - t v 1048576 10000000 1 count 1000000000 -",
+    ),
+    (
+        "varan|inspect|--script|s|t|v|--budget|1|--count|2",
+        "inspect s - t v 1048576 1 1 count 2 -",
+    ),
+    (
+        "varan|inspect|--script|s|t|v|--length|4|--stamp|2|--dump|65572",
+        "inspect s - t v 1048576 10000000 1 stamp 2 65572+4",
+    ),
+    (
+        "varan|inspect|--script|s|t|v|--length|1|--stamp|2|--dump|0",
+        "inspect s - t v 1048576 10000000 1 stamp 2 0+1",
+    ),
+    (
+        "varan|inspect|--script|s|t|v|--length|4096|--stamp|2|--dump|0",
+        "inspect s - t v 1048576 10000000 1 stamp 2 0+4096",
+    ),
+    (
+        "varan|inspect|--script|s|t|v|--length|4096|--stamp|2|--dump|4294963199",
+        "inspect s - t v 1048576 10000000 1 stamp 2 4294963199+4096",
+    ),
+    (
+        "varan|inspect|--script|s|t|v|--length|1|--stamp|2|--dump|4294967294",
+        "inspect s - t v 1048576 10000000 1 stamp 2 4294967294+1",
+    ),
+    // As above with all that a run may name, as JSON.
+    (
+        "varan|run|--json|--script|s|--rules|r|--ring|4|--memory|135168|--budget|5|--calls|6|--threads|7|a|b",
+        "run s r 4 135168 5 6 7 JSON|a|b",
+    ),
+];
+
+fn words_of(alloc: Global, line: &str) -> Result<Vec<String>, AllocError> {
+    let mut words = Vec::new(alloc);
+    for word in line.split('|') {
+        words.push(String::from_str(alloc, word)?)?;
     }
-    Ok(owned)
+    Ok(words)
 }
 
-fn are(names: &[&str], expected: &[&str]) -> bool {
-    for (name, other) in names.iter().zip(expected) {
-        if *name != *other {
-            return false;
-        }
-    }
-    names.len() == expected.len()
+fn tell_limits(alloc: Global, limits: &Limits) -> Result<String, AllocError> {
+    let Limits {
+        ring,
+        memory,
+        budget,
+        calls,
+        threads,
+        ..
+    } = limits;
+    format!(in alloc; "{ring} {memory} {budget} {calls} {threads}")
 }
 
-// Whether the words ask for a run of this script and of these versions, as JSON or not.
-fn is_run(
-    alloc: Global,
-    words: &[&str],
-    script: &str,
-    versions: &[&str],
-    json: bool,
-) -> Result<bool, AllocError> {
-    let words = words_of(alloc, words)?;
-    match read(alloc, &words) {
-        Ok(Command::Run(run)) => Ok(
-            run.script == script && are(&run.versions, versions) && run.json == json,
-        ),
-        _ => Ok(false),
-    }
-}
-
-// The limits of a run with one option more.
-fn limits_with(alloc: Global, option: &str, value: &str) -> Result<Option<Limits>, AllocError> {
-    let words = words_of(
-        alloc,
-        &["varan", "run", "--script", "s", option, value, "v"],
+fn tell_run(alloc: Global, run: &Run<'_>) -> Result<String, AllocError> {
+    let limits = tell_limits(alloc, &run.limits)?;
+    let form = if run.json { "JSON" } else { "text" };
+    let mut text = format!(in alloc;
+        "{} {} {limits} {form}",
+        run.script,
+        run.rules.unwrap_or("-")
     )?;
-    match read(alloc, &words) {
-        Ok(Command::Run(run)) => Ok(Some(run.limits)),
-        _ => Ok(None),
+    for version in &run.versions {
+        text.push_str("|")?;
+        text.push_str(version)?;
     }
+    Ok(text)
 }
 
-#[test]
-fn usual_limits(rt: HostRuntime) -> Result<(), Fail> {
-    let words = words_of(rt.alloc(), &["varan", "run", "--script", "s", "v"])?;
-    let Ok(Command::Run(run)) = read(rt.alloc(), &words) else {
-        panic!(rt; "refused");
-    };
-    assert_eq!(rt; run.limits.ring, 256);
-    assert_eq!(rt; run.limits.memory, 1_048_576);
-    assert_eq!(rt; run.limits.budget, 10_000_000);
-    assert_eq!(rt; run.limits.calls, 65_536);
-    assert_eq!(rt; run.limits.threads, 8);
-    Ok(())
-}
-
-// A row splits its words at blanks.
-#[test]
-fn names_with_blanks(rt: HostRuntime) -> Result<(), Fail> {
-    let words = ["varan", "run", "--script", "s", " v", "v v"];
-    assert!(rt; is_run(rt.alloc(), &words, "s", &[" v", "v v"], false)?);
-    Ok(())
-}
-
-#[test]
-fn numbers(rt: HostRuntime) -> Result<(), Fail> {
-    let accepted = [
-        ("--ring", "2", 2),
-        ("--ring", "1024", 1024),
-        ("--ring", "0000000000000000000002", 2),
-        ("--memory", "131072", 131_072),
-        ("--memory", "135168", 135_168),
-        ("--memory", "16777216", 16_777_216),
-        ("--budget", "1", 1),
-        ("--budget", "1000000000", 1_000_000_000),
-        ("--calls", "1", 1),
-        ("--calls", "131072", 131_072),
-        ("--threads", "1", 1),
-        ("--threads", "8", 8),
-    ];
-    for (option, value, expected) in accepted {
-        let limits = limits_with(rt.alloc(), option, value)?.expect(&rt, option);
-        let number = match option {
-            "--ring" => limits.ring,
-            "--memory" => limits.memory,
-            "--budget" => limits.budget,
-            "--calls" => limits.calls,
-            _ => limits.threads,
-        };
-        assert_eq!(rt; number, expected);
-    }
-    let refused = [("--ring", " 2"), ("--ring", "2 ")];
-    for (option, value) in refused {
-        assert!(rt; limits_with(rt.alloc(), option, value)?.is_none());
-    }
-    Ok(())
-}
-
-#[test]
-fn options_of_recorded_runs(rt: HostRuntime) -> Result<(), Fail> {
-    let words = words_of(
-        rt.alloc(),
-        &[
-            "varan",
-            "record",
-            "--script",
-            "s",
-            "--rules",
-            "r",
-            "--ring",
-            "4",
-            "--memory=135168",
-            "--budget",
-            "5",
-            "--calls",
-            "6",
-            "--threads",
-            "7",
-            "v",
-        ],
+fn tell_trail(alloc: Global, trail: &Trail<'_>) -> Result<String, AllocError> {
+    let rules = trail.rules.unwrap_or("-");
+    let files = format!(in alloc;
+        "{} {rules} {} {}",
+        trail.script, trail.trace, trail.version
     )?;
-    let Ok(Command::Record(run)) = read(rt.alloc(), &words) else {
-        panic!(rt; "refused");
-    };
-    assert_eq!(rt; run.rules, Some("r"));
-    assert_eq!(rt; run.limits.ring, 4);
-    assert_eq!(rt; run.limits.memory, 135_168);
-    assert_eq!(rt; run.limits.budget, 5);
-    assert_eq!(rt; run.limits.calls, 6);
-    assert_eq!(rt; run.limits.threads, 7);
-    Ok(())
+    format!(in alloc; "{files} {} {} {}", trail.memory, trail.budget, trail.index)
 }
 
-fn are_same(trail: &Trail<'_>, expected: &Trail<'_>) -> bool {
-    let script = trail.script == expected.script;
-    let rules = are_same_rules(trail.rules, expected.rules);
-    let trace = trail.trace == expected.trace;
-    let version = trail.version == expected.version;
-    let limits = trail.memory == expected.memory && trail.budget == expected.budget;
-    script && rules && trace && version && limits && trail.index == expected.index
-}
-
-fn are_same_rules(rules: Option<&str>, expected: Option<&str>) -> bool {
-    match (rules, expected) {
-        (Some(rules), Some(expected)) => rules == expected,
-        (None, None) => true,
-        _ => false,
+fn tell_point(alloc: Global, point: Point) -> Result<String, AllocError> {
+    match point {
+        Point::Stamp(stamp) => format!(in alloc; "stamp {stamp}"),
+        Point::Call(number) => format!(in alloc; "call {number}"),
+        Point::Count(count) => format!(in alloc; "count {count}"),
     }
 }
 
-fn is_replay(alloc: Global, words: &[&str], expected: &Trail<'_>) -> Result<bool, AllocError> {
-    let words = words_of(alloc, words)?;
-    match read(alloc, &words) {
-        Ok(Command::Replay(trail)) => Ok(are_same(&trail, expected)),
-        _ => Ok(false),
+fn tell_look(alloc: Global, look: &Look<'_>) -> Result<String, AllocError> {
+    let trail = tell_trail(alloc, &look.trail)?;
+    let point = tell_point(alloc, look.point)?;
+    match look.dump {
+        Some((address, length)) => format!(in alloc; "{trail} {point} {address}+{length}"),
+        None => format!(in alloc; "{trail} {point} -"),
+    }
+}
+
+// What a line asks for, as a text.
+fn tell(alloc: Global, words: &[String]) -> Result<String, AllocError> {
+    match read(alloc, words) {
+        Ok(Command::Run(run)) => format!(in alloc; "run {}", tell_run(alloc, &run)?),
+        Ok(Command::Record(run)) => format!(in alloc; "record {}", tell_run(alloc, &run)?),
+        Ok(Command::Replay(trail)) => format!(in alloc; "replay {}", tell_trail(alloc, &trail)?),
+        Ok(Command::Inspect(look)) => format!(in alloc; "inspect {}", tell_look(alloc, &look)?),
+        _ => String::from_str(alloc, "refused"),
     }
 }
 
 #[test]
-fn replayed_traces(rt: HostRuntime) -> Result<(), Fail> {
-    let usual = Trail {
-        script: "s",
-        rules: None,
-        trace: "t",
-        version: "v",
-        memory: 1_048_576,
-        budget: 10_000_000,
-        index: 1,
-    };
-    assert!(rt;
-        is_replay(
-            rt.alloc(),
-            &["varan", "replay", "--script", "s", "t", "v"],
-            &usual
-        )?
-    );
-    assert!(rt;
-        is_replay(
-            rt.alloc(),
-            &["varan", "replay", "t", "--script=s", "v"],
-            &usual
-        )?
-    );
-    let full = Trail {
-        script: "a",
-        rules: Some("b"),
-        trace: "-t",
-        version: "--index",
-        memory: 131_072,
-        budget: 1,
-        index: 7,
-    };
-    let words = [
-        "varan",
-        "replay",
-        "--index=7",
-        "--rules",
-        "b",
-        "--memory",
-        "131072",
-        "--script",
-        "a",
-        "--budget",
-        "1",
-        "--",
-        "-t",
-        "--index",
-    ];
-    assert!(rt; is_replay(rt.alloc(), &words, &full)?);
-    Ok(())
-}
-
-// The index of a version that is replayed with this word.
-fn index_of(alloc: Global, text: &str) -> Result<Option<u32>, AllocError> {
-    let words = words_of(
-        alloc,
-        &[
-            "varan", "replay", "--script", "s", "--index", text, "t", "v",
-        ],
-    )?;
-    match read(alloc, &words) {
-        Ok(Command::Replay(trail)) => Ok(Some(trail.index)),
-        _ => Ok(None),
-    }
-}
-
-#[test]
-fn indexes(rt: HostRuntime) -> Result<(), Fail> {
-    for (text, index) in [("0", 0), ("1", 1), ("7", 7), ("007", 7)] {
-        assert_eq!(rt; index_of(rt.alloc(), text)?.expect(&rt, text), index);
-    }
-    Ok(())
-}
-
-// What `inspect` is asked for with these options more.
-fn look_with(
-    alloc: Global,
-    options: &[&str],
-) -> Result<Option<(Point, Option<(u32, u32)>)>, AllocError> {
-    let mut words = words_of(alloc, &["varan", "inspect", "--script", "s", "t", "v"])?;
-    for option in options {
-        words.push(String::from_str(alloc, option)?)?;
-    }
-    match read(alloc, &words) {
-        Ok(Command::Inspect(look)) => Ok(Some((look.point, look.dump))),
-        _ => Ok(None),
-    }
-}
-
-#[test]
-fn trails_of_looks(rt: HostRuntime) -> Result<(), Fail> {
-    let expected = Trail {
-        script: "s",
-        rules: Some("r"),
-        trace: "t",
-        version: "v",
-        memory: 131_072,
-        budget: 3,
-        index: 0,
-    };
-    let words = words_of(
-        rt.alloc(),
-        &[
-            "varan",
-            "inspect",
-            "t",
-            "--count",
-            "4",
-            "--rules=r",
-            "--budget",
-            "3",
-            "v",
-            "--index",
-            "0",
-            "--memory",
-            "131072",
-            "--script",
-            "s",
-        ],
-    )?;
-    let Ok(Command::Inspect(look)) = read(rt.alloc(), &words) else {
-        panic!(rt; "refused");
-    };
-    assert!(rt; are_same(&look.trail, &expected));
-    assert_eq!(rt; look.point, Point::Count(4));
-    assert!(rt; look.dump.is_none());
-    Ok(())
-}
-
-#[test]
-fn points(rt: HostRuntime) -> Result<(), Fail> {
-    let accepted: [(&[&str], Point); 9] = [
-        (&["--stamp", "0"], Point::Stamp(0)),
-        (&["--stamp=007"], Point::Stamp(7)),
-        (&["--stamp", "4294967295"], Point::Stamp(4_294_967_295)),
-        (&["--call", "0"], Point::Call(0)),
-        (&["--call", "64"], Point::Call(64)),
-        (&["--call", "4294967295"], Point::Call(4_294_967_295)),
-        (&["--count", "1"], Point::Count(1)),
-        (&["--count", "1000000000"], Point::Count(1_000_000_000)),
-        (&["--budget", "1", "--count", "2"], Point::Count(2)),
-    ];
-    for (options, expected) in accepted {
-        let (point, dump) = look_with(rt.alloc(), options)?.expect(&rt, "refused");
-        assert_eq!(rt; point, expected);
-        assert!(rt; dump.is_none());
-    }
-    Ok(())
-}
-
-#[test]
-fn dumps(rt: HostRuntime) -> Result<(), Fail> {
-    let accepted = [
-        ("65572", "4", 65_572, 4),
-        ("0", "1", 0, 1),
-        ("0", "4096", 0, 4096),
-        ("4294963199", "4096", 4_294_963_199, 4096),
-        ("4294967294", "1", 4_294_967_294, 1),
-    ];
-    for (address, length, from, bytes) in accepted {
-        let options = ["--length", length, "--stamp", "2", "--dump", address];
-        let (point, dump) = look_with(rt.alloc(), &options)?.expect(&rt, "refused");
-        assert_eq!(rt; point, Point::Stamp(2));
-        let (first, count) = dump.expect(&rt, "no bytes");
-        assert_eq!(rt; first, from);
-        assert_eq!(rt; count, bytes);
+fn lines_ask_for_what_they_say(rt: HostRuntime) -> Result<(), Fail> {
+    for (line, wanted) in &LINES {
+        let words = words_of(rt.alloc(), line)?;
+        let told = tell(rt.alloc(), &words)?;
+        assert_eq!(rt; told.as_str(), *wanted);
     }
     Ok(())
 }

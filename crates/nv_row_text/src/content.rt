@@ -25,14 +25,15 @@ fn put_line(texts: &Texts, line: &[u8], out: &mut Vec<u8>) -> Result<(), RowFaul
     match line {
         [b'|', text @ ..] => put_text(texts, text, 0, out),
         [b'*', rest @ ..] => put_repeated(texts, rest, out),
-        _ => match split_field(line) {
-            (word, Some(numbers)) => {
-                let numbers = texts.expanded(numbers)?;
-                put_numbers(texts, word, &numbers, out)
-            }
-            (_, None) => Err(RowFault::Number),
-        },
+        _ => put_field(texts, line, out),
     }
+}
+
+// A word, and the numbers of its kind.
+fn put_field(texts: &Texts, line: &[u8], out: &mut Vec<u8>) -> Result<(), RowFault> {
+    let (word, numbers) = split_field(line);
+    let numbers = texts.expanded(numbers.ok_or(RowFault::Number)?)?;
+    put_numbers(texts, word, &numbers, out)
 }
 
 // A text, and a newline unless the text ends with a `$`.
@@ -65,13 +66,22 @@ fn put_numbers(
     out: &mut Vec<u8>,
 ) -> Result<(), RowFault> {
     for number in numbers.split(|byte| *byte == b' ') {
-        match word {
-            b"hex" => put_hex(texts, number, out)?,
-            b"word" => put_word(texts, number, out)?,
-            _ => put_int(number, out)?,
-        }
+        put_number(texts, word, number, out)?;
     }
     Ok(())
+}
+
+fn put_number(
+    texts: &Texts,
+    word: &[u8],
+    number: &[u8],
+    out: &mut Vec<u8>,
+) -> Result<(), RowFault> {
+    match word {
+        b"hex" => put_hex(texts, number, out),
+        b"word" => put_word(texts, number, out),
+        _ => put_int(number, out),
+    }
 }
 
 /// The bytes of hexadecimal digits.

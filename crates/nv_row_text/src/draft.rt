@@ -71,11 +71,18 @@ impl Draft {
         field: &Field,
         rest: &[u8],
     ) -> Result<bool, RowFault> {
+        match kind_of(field.word) {
+            Some(kind) => {
+                self.add_file(texts, kind, field, rest)?;
+                Ok(true)
+            }
+            None => self.take_output(texts, field),
+        }
+    }
+
+    // Takes a field that says what has to be written, if it is one.
+    fn take_output(&mut self, texts: &Texts, field: &Field) -> Result<bool, RowFault> {
         match field.word {
-            b"file" => self.add_file(texts, Kind::Plain, field, rest)?,
-            b"code" => self.add_file(texts, Kind::Code, field, rest)?,
-            b"asm" => self.add_file(texts, Kind::Assembler, field, rest)?,
-            b"rules" => self.add_file(texts, Kind::Rules, field, rest)?,
             b"out" => self.row.wanted.whole = Some(content_of(texts, &field.content)?),
             b"begins" => self.row.wanted.begin = content_of(texts, &field.content)?,
             b"ends" => self.row.wanted.end = content_of(texts, &field.content)?,
@@ -134,10 +141,7 @@ impl Draft {
     // Changes the file whose name comes first.
     fn add_change(&mut self, texts: &Texts, word: &[u8], rest: &[u8]) -> Result<(), RowFault> {
         let (name, rest) = split_field(rest);
-        let change = match word {
-            b"set" => set_of(texts, rest.unwrap_or(&[]))?,
-            _ => Change::Cut(size_of(rest.unwrap_or(&[]))?),
-        };
+        let change = change_of(texts, word, rest.unwrap_or(&[]))?;
         for file in self.row.files.iter_mut() {
             if file.name.as_bytes() == name {
                 return Ok(file.changes.push(change)?);
@@ -147,12 +151,29 @@ impl Draft {
     }
 }
 
-/// The text of these bytes.
-pub fn text_of(alloc: Global, bytes: &[u8]) -> Result<String, RowFault> {
+// How a field's file comes from its bytes, if it is one of a file.
+fn kind_of(word: &[u8]) -> Option<Kind> {
+    match word {
+        b"file" => Some(Kind::Plain),
+        b"code" => Some(Kind::Code),
+        b"asm" => Some(Kind::Assembler),
+        b"rules" => Some(Kind::Rules),
+        _ => None,
+    }
+}
+
+/// These bytes as a text.
+pub fn str_of(bytes: &[u8]) -> Result<&str, RowFault> {
     match str::from_utf8(bytes) {
-        Ok(text) => Ok(String::from_str(alloc, text)?),
+        Ok(text) => Ok(text),
         Err(_) => Err(RowFault::Name),
     }
+}
+
+/// The text of these bytes.
+pub fn text_of(alloc: Global, bytes: &[u8]) -> Result<String, RowFault> {
+    let text = str_of(bytes)?;
+    Ok(String::from_str(alloc, text)?)
 }
 
 // Words with spaces between them; none in an empty text.
@@ -192,6 +213,13 @@ fn takes_of(digits: &[u8]) -> Result<usize, RowFault> {
 fn status_of(digits: &[u8]) -> Result<u8, RowFault> {
     let status = number(digits).ok_or(RowFault::Number)?;
     u8::try_from(status).map_err(|_| RowFault::Number)
+}
+
+fn change_of(texts: &Texts, word: &[u8], rest: &[u8]) -> Result<Change, RowFault> {
+    match word {
+        b"set" => set_of(texts, rest),
+        _ => Ok(Change::Cut(size_of(rest)?)),
+    }
 }
 
 // A place, and the hexadecimal digits of the bytes that stand there.

@@ -1,7 +1,7 @@
 // Rows from entries.
 use crate::RowFault;
 use crate::content::content_of;
-use crate::draft::{Draft, text_of};
+use crate::draft::{Draft, str_of, text_of};
 use crate::entry::{Entry, Field};
 use crate::row::Row;
 use crate::texts::Texts;
@@ -50,9 +50,10 @@ impl Reader {
     }
 
     fn read_one(&self, entry: &Entry, fields: &[Field]) -> Result<Vec<Row>, RowFault> {
-        let mut rows = Vec::new(self.texts.alloc());
         let name = text_of(self.texts.alloc(), entry.head.rest)?;
-        rows.push(self.row_of(name, fields)?)?;
+        let row = self.row_of(name, fields)?;
+        let mut rows = Vec::new(self.texts.alloc());
+        rows.push(row)?;
         Ok(rows)
     }
 
@@ -66,12 +67,24 @@ impl Reader {
         let mut rows = Vec::new(self.texts.alloc());
         let known = self.texts.len();
         for line in &table.content {
-            self.name_columns(table.rest, line)?;
-            let name = name_of(self.texts.alloc(), entry.head.rest, line)?;
-            rows.push(self.row_of(name, fields)?)?;
+            let row = self.read_line(entry.head.rest, fields, table.rest, line)?;
+            rows.push(row)?;
             self.texts.truncate(known);
         }
         Ok(rows)
+    }
+
+    // The row of a table's line.
+    fn read_line(
+        &mut self,
+        name: &[u8],
+        fields: &[Field],
+        head: &[u8],
+        line: &[u8],
+    ) -> Result<Row, RowFault> {
+        self.name_columns(head, line)?;
+        let name = name_of(self.texts.alloc(), name, line)?;
+        self.row_of(name, fields)
     }
 
     // Names the columns of a table's line.
@@ -81,14 +94,18 @@ impl Reader {
         };
         let mut columns = line.split(|byte| *byte == b'|');
         for name in head.split(|byte| *byte == b'|') {
-            let column = columns.next().ok_or(RowFault::Columns)?;
-            let content = self.texts.expanded(trim(column))?;
-            self.texts.define(trim(name), content)?;
+            self.name_column(trim(name), columns.next())?;
         }
         match columns.next() {
             Some(_) => Err(RowFault::Columns),
             None => Ok(()),
         }
+    }
+
+    fn name_column(&mut self, name: &[u8], column: Option<&[u8]>) -> Result<(), RowFault> {
+        let column = column.ok_or(RowFault::Columns)?;
+        let content = self.texts.expanded(trim(column))?;
+        self.texts.define(name, content)
     }
 
     fn row_of(&self, name: String, fields: &[Field]) -> Result<Row, RowFault> {
@@ -102,9 +119,7 @@ impl Reader {
 
 // The name of the row of a table's line.
 fn name_of(alloc: Global, name: &[u8], line: &[u8]) -> Result<String, RowFault> {
-    let mut text = text_of(alloc, name)?;
-    let line = text_of(alloc, line)?;
-    text.push_str(" ")?;
-    text.push_str(line.as_str())?;
-    Ok(text)
+    let name = str_of(name)?;
+    let line = str_of(line)?;
+    Ok(format!(in alloc; "{name} {line}")?)
 }

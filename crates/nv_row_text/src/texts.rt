@@ -9,6 +9,19 @@ struct Named {
     content: Vec<u8>,
 }
 
+// What a `$` stands for.
+#[derive(Clone, Copy)]
+enum Escape<'a> {
+    /// `$n`.
+    Newline,
+    /// `$#`.
+    Count,
+    /// `$xHH`, by its two digits.
+    Byte(&'a [u8]),
+    /// `$[NAME]`.
+    Named(&'a [u8]),
+}
+
 /// Texts with names. Of two with one name the later counts.
 #[derive(Drop)]
 pub struct Texts {
@@ -67,44 +80,46 @@ impl Texts {
         }
     }
 
-    // Puts out what a `$` before these bytes stands for, and gives the bytes after it.
-    fn put_escape<'a>(
+    // Puts out what an escape stands for.
+    fn put_escape(
         &self,
-        part: &'a [u8],
+        escape: Escape<'_>,
         count: u32,
         out: &mut Vec<u8>,
-    ) -> Result<&'a [u8], RowFault> {
-        match part {
-            [b'n', rest @ ..] => {
-                out.push(b'\n')?;
-                Ok(rest)
+    ) -> Result<(), RowFault> {
+        match escape {
+            Escape::Newline => Ok(out.push(b'\n')?),
+            Escape::Count => put_decimal(count, out),
+            Escape::Byte(digits) => self.put_byte(digits, out),
+            Escape::Named(name) => self.put_named(name, out),
+        }
+    }
+
+    // Puts out what a `$` before these bytes stands for, and what comes after it.
+    fn put_part(&self, part: &[u8], count: u32, out: &mut Vec<u8>) -> Result<(), RowFault> {
+        match escape_of(part) {
+            Some((escape, plain)) => {
+                self.put_escape(escape, count, out)?;
+                Ok(out.extend_from_slice(plain)?)
             }
-            [b'#', rest @ ..] => {
-                put_decimal(count, out)?;
-                Ok(rest)
-            }
-            [b'x', high, low, rest @ ..] => {
-                self.put_byte(&[*high, *low], out)?;
-                Ok(rest)
-            }
-            [b'[', rest @ ..] => {
-                let (name, after) = cut(rest, b']');
-                self.put_named(name, out)?;
-                after.ok_or(RowFault::Escape)
-            }
-            _ => Err(RowFault::Escape),
+            None => Err(RowFault::Escape),
         }
     }
 
     /// Puts out a text: `$n` in it is a newline, `$xHH` a byte, `$[NAME]` the text of this name, and `$#` the count.
     pub fn put(&self, text: &[u8], count: u32, out: &mut Vec<u8>) -> Result<(), RowFault> {
-        let mut parts = text.split(|byte| *byte == b'$');
-        if let Some(first) = parts.next() {
-            out.extend_from_slice(first)?;
+        let (plain, rest) = cut(text, b'$');
+        out.extend_from_slice(plain)?;
+        match rest {
+            Some(rest) => self.put_parts(rest, count, out),
+            None => Ok(()),
         }
-        for part in parts {
-            let plain = self.put_escape(part, count, out)?;
-            out.extend_from_slice(plain)?;
+    }
+
+    // Puts out what stands after the first `$` of a text.
+    fn put_parts(&self, rest: &[u8], count: u32, out: &mut Vec<u8>) -> Result<(), RowFault> {
+        for part in rest.split(|byte| *byte == b'$') {
+            self.put_part(part, count, out)?;
         }
         Ok(())
     }
@@ -114,6 +129,23 @@ impl Texts {
         let mut out = Vec::new(self.alloc);
         self.put(text, 0, &mut out)?;
         Ok(out)
+    }
+}
+
+// What a `$` before these bytes stands for, and the bytes after it.
+fn escape_of(part: &[u8]) -> Option<(Escape<'_>, &[u8])> {
+    match part {
+        [b'n', rest @ ..] => Some((Escape::Newline, rest)),
+        [b'#', rest @ ..] => Some((Escape::Count, rest)),
+        [b'x', rest @ ..] => {
+            let (digits, rest) = rest.split_at_checked(2)?;
+            Some((Escape::Byte(digits), rest))
+        }
+        [b'[', rest @ ..] => {
+            let (name, rest) = cut(rest, b']');
+            Some((Escape::Named(name), rest?))
+        }
+        _ => None,
     }
 }
 

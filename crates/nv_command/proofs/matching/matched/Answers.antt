@@ -1,16 +1,20 @@
 use Rattle.clap.specs.Simple.{app_of}
+use Rattle.nv_command.specs.Tables.{app_by}
 use Rattle.nv_command.specs.Words.{texts}
 use Rattle.nv_command.proofs.Lines.{error_by}
-use Rattle.nv_command.proofs.Matches.{simple, taken, refused}
+use Rattle.nv_command.proofs.Matches.{simple, simple_too, taken, refused}
 use Rattle.nv_command.proofs.matching.matched.Goals as goal
 
 pub returns-clause-rows : goal.returns-clause-rows
 returns-clause-rows c =
-    let app = app_of c.args.command in
-    taken app (texts c.args.words.now) _ (c.in_ok-matches.ensures.kinds c.requires) (c.in_ok-matches.ensures.matches (simple app c.requires)).0
+    let held = app_of c.in_ok-command.command in
+    let plain = simple_too held (app_by c.args.form.now) c.in_ok-command.ensures c.requires in
+    taken held _ c.in_ok-command.ensures (texts c.args.words.now) _ (c.in_ok-try_get_matches_from.ensures.kinds plain) (c.in_ok-try_get_matches_from.ensures.matches (simple held plain)).0
 
-pub returns-in_err-matches-clause-refused : goal.returns-in_err-matches-clause-refused
-returns-in_err-matches-clause-refused c =
-    error_by c.from_residual.result _ _
-    (λ fault is. refused (app_of c.args.command) (texts c.args.words.now) _ fault is (c.in_err-matches.ensures.kinds c.requires))
-    c.from_residual.ensures.1
+pub returns-in_err-try_get_matches_from-clause-refused : goal.returns-in_err-try_get_matches_from-clause-refused
+returns-in_err-try_get_matches_from-clause-refused c =
+    let held = app_of c.in_ok-command.command in
+    let plain = simple_too held (app_by c.args.form.now) c.in_ok-command.ensures c.requires in
+    error_by c.from_residual-in_err-try_get_matches_from.result _ _
+    (λ fault is. refused held _ c.in_ok-command.ensures (texts c.args.words.now) _ fault is (c.in_err-try_get_matches_from.ensures.kinds plain))
+    c.from_residual-in_err-try_get_matches_from.ensures.1

@@ -1,0 +1,123 @@
+// The commands' names, and the arguments of each.
+use crate::simple::{Form, Kind};
+
+/// The name of a command.
+#[derive(Clone, Copy)]
+pub enum Name {
+    Run,
+    Rules,
+    Asm,
+    Gen,
+    Record,
+    Replay,
+    Inspect,
+}
+
+// The options of a run that is reported or recorded.
+const RUN_OPTIONS: [(&str, Kind); 7] = [
+    ("script", Kind::Needed),
+    ("rules", Kind::Value),
+    ("ring", Kind::Value),
+    ("memory", Kind::Value),
+    ("budget", Kind::Value),
+    ("calls", Kind::Value),
+    ("threads", Kind::Value),
+];
+
+// The options of a version that follows a trace.
+const TRAIL_OPTIONS: [(&str, Kind); 5] = [
+    ("script", Kind::Needed),
+    ("rules", Kind::Value),
+    ("memory", Kind::Value),
+    ("budget", Kind::Value),
+    ("index", Kind::Value),
+];
+
+const RUN: Form = Form {
+    name: "run",
+    options: &RUN_OPTIONS,
+    rest: &[("json", Kind::Flag), ("version", Kind::Files)],
+};
+
+const RULES: Form = Form {
+    name: "rules",
+    options: &[("asm", Kind::Flag)],
+    rest: &[("file", Kind::File)],
+};
+
+const ASM: Form = Form {
+    name: "asm",
+    options: &[],
+    rest: &[("file", Kind::File)],
+};
+
+const GEN: Form = Form {
+    name: "gen",
+    options: &[],
+    rest: &[("number", Kind::File)],
+};
+
+const RECORD: Form = Form {
+    name: "record",
+    options: &RUN_OPTIONS,
+    rest: &[("version", Kind::Files)],
+};
+
+const REPLAY: Form = Form {
+    name: "replay",
+    options: &TRAIL_OPTIONS,
+    rest: &[("trace", Kind::File), ("version", Kind::File)],
+};
+
+const INSPECT: Form = Form {
+    name: "inspect",
+    options: &TRAIL_OPTIONS,
+    rest: &[
+        ("stamp", Kind::Value),
+        ("call", Kind::Value),
+        ("count", Kind::Value),
+        ("dump", Kind::Value),
+        ("length", Kind::Value),
+        ("trace", Kind::File),
+        ("version", Kind::File),
+    ],
+};
+
+impl Name {
+    ghost use Rattle.std.specs.Prelude.{◌≡◌, true, option_map};
+    ghost use Rattle.clap.specs.Faults.{is_simple_and_free};
+    ghost use Rattle.nv_command.specs.Words.{name_of};
+    ghost use Rattle.nv_command.specs.Tables.{name_view, app_by, app_named};
+
+    /// The command that a word names.
+    pub fn of(word: &str) -> Option<Name>
+        ensures { option_map name_view result ≡ name_of word.now }
+    {
+        match word {
+            "run" => Some(Name::Run),
+            "rules" => Some(Name::Rules),
+            "asm" => Some(Name::Asm),
+            "gen" => Some(Name::Gen),
+            "record" => Some(Name::Record),
+            "replay" => Some(Name::Replay),
+            "inspect" => Some(Name::Inspect),
+            _ => None,
+        }
+    }
+
+    /// Its name and its arguments.
+    pub fn form(self) -> Form
+        ensures named { app_by result ≡ app_named (name_view self) }
+        ensures simple { is_simple_and_free (app_by result) ≡ true }
+    {
+        match self {
+            Name::Run => RUN,
+            Name::Rules => RULES,
+            Name::Asm => ASM,
+            Name::Gen => GEN,
+            Name::Record => RECORD,
+            Name::Replay => REPLAY,
+            Name::Inspect => INSPECT,
+        }
+    }
+}
