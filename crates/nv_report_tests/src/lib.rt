@@ -1,10 +1,6 @@
-//! Tests of accounts by the plain monitor, and of the report's JSON form, which is read back and compared with the run.
-//! Proved: that the tests do nothing undefined. What they assert is run.
+//! A test of the report's JSON form where a version wanted memory, which no command line brings about. The other fates are rows of nv_rows.
+//! Proved: that the test does nothing undefined. What it asserts is run.
 #![tactic(auto)]
-
-mod runs;
-
-pub use runs::{alone, pair, starved};
 
 #[cfg(test)]
 mod tests;

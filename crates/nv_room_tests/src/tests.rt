@@ -1,4 +1,5 @@
 ghost use Rattle.std.specs.Prelude.{◌<◌, ◌≤◌};
+ghost use Rattle.nv_room_runs.specs.Scripts.{AreCalls};
 
 use nv_room_runs::{
     Script, change_leader, clone, exit_group, getuid, hand_over, kernel, of_thread, run, write,
@@ -7,12 +8,31 @@ use std::alloc::Global;
 use std::process::Abort;
 use std::thread::Threads;
 
-// One lead publishes 99 getuid calls and exit_group, and each reader has the 100 events.
-fn all_see_all<R: Threads + Sync + Abort>(rt: &R, alloc: Global, versions: u32, places: u32)
+// Each reader has all events of the script.
+fn all_see<R: Threads + Sync + Abort>(
+    rt: &R,
+    alloc: Global,
+    script: &Script,
+    versions: u32,
+    places: u32,
+)
     requires versions { (0 < versions) × (versions ≤ 8) }
     requires places { (2 ≤ places) × (places ≤ 1024) }
+    requires calls { AreCalls script.now }
 {
-    let script = Script {
+    let kernel = kernel(alloc).expect(rt, "memory");
+    let ended = run(rt, alloc, kernel, script, versions, places).expect(rt, "memory");
+    assert_eq!(rt; ended.seen.len(), versions as usize);
+    for seen in ended.seen.iter() {
+        assert_eq!(rt; *seen, script.events);
+    }
+}
+
+// 99 getuid calls and exit_group.
+fn asking<R: Abort>(rt: &R, alloc: Global) -> Script
+    ensures { AreCalls result }
+{
+    Script {
         opening: getuid(alloc).expect(rt, "memory"),
         first: getuid(alloc).expect(rt, "memory"),
         second: getuid(alloc).expect(rt, "memory"),
@@ -20,21 +40,14 @@ fn all_see_all<R: Threads + Sync + Abort>(rt: &R, alloc: Global, versions: u32, 
         events: 100,
         each: 100,
         most: 10_000_000,
-    };
-    let kernel = kernel(alloc).expect(rt, "memory");
-    let ended = run(rt, alloc, kernel, &script, versions, places).expect(rt, "memory");
-    assert_eq!(rt; ended.seen.len(), versions as usize);
-    for seen in ended.seen.iter() {
-        assert_eq!(rt; *seen, 100);
     }
 }
 
-// One lead publishes 49 writes of 4,096 bytes and exit_group: the payloads go round the pool, which has room for one and a half in a room of two places.
-fn all_see_writes<R: Threads + Sync + Abort>(rt: &R, alloc: Global, versions: u32, places: u32)
-    requires versions { (0 < versions) × (versions ≤ 8) }
-    requires places { (2 ≤ places) × (places ≤ 1024) }
+// 49 writes of 4,096 bytes and exit_group: the payloads go round the pool, which has room for one and a half in a room of two places.
+fn writing<R: Abort>(rt: &R, alloc: Global) -> Script
+    ensures { AreCalls result }
 {
-    let script = Script {
+    Script {
         opening: write(alloc, 4096).expect(rt, "memory"),
         first: write(alloc, 4096).expect(rt, "memory"),
         second: write(alloc, 4096).expect(rt, "memory"),
@@ -42,44 +55,47 @@ fn all_see_writes<R: Threads + Sync + Abort>(rt: &R, alloc: Global, versions: u3
         events: 50,
         each: 50,
         most: 10_000_000,
-    };
-    let kernel = kernel(alloc).expect(rt, "memory");
-    let ended = run(rt, alloc, kernel, &script, versions, places).expect(rt, "memory");
-    assert_eq!(rt; ended.seen.len(), versions as usize);
-    for seen in ended.seen.iter() {
-        assert_eq!(rt; *seen, 50);
+    }
+}
+
+// Thread 100 makes thread 101, their calls alternate 50 times, and exit_group ends both.
+fn alternating<R: Abort>(rt: &R, alloc: Global) -> Script
+    ensures { AreCalls result }
+{
+    Script {
+        opening: clone(alloc).expect(rt, "memory"),
+        first: getuid(alloc).expect(rt, "memory"),
+        second: of_thread(getuid(alloc).expect(rt, "memory"), 101),
+        last: exit_group(alloc).expect(rt, "memory"),
+        events: 102,
+        each: 102,
+        most: 10_000_000,
+    }
+}
+
+#[test]
+fn one_to_seven_readers(rt: HostRuntime) {
+    let script = asking(&rt, rt.alloc());
+    for versions in 2..=8 {
+        all_see(&rt, rt.alloc(), &script, versions, 2);
+        all_see(&rt, rt.alloc(), &script, versions, 1024);
     }
 }
 
 #[test]
 fn largest_payloads(rt: HostRuntime) {
-    all_see_writes(&rt, rt.alloc(), 2, 2);
-    all_see_writes(&rt, rt.alloc(), 4, 2);
-    all_see_writes(&rt, rt.alloc(), 4, 1024);
+    let script = writing(&rt, rt.alloc());
+    all_see(&rt, rt.alloc(), &script, 2, 2);
+    all_see(&rt, rt.alloc(), &script, 4, 2);
+    all_see(&rt, rt.alloc(), &script, 4, 1024);
 }
 
 #[test]
-fn one_reader(rt: HostRuntime) {
-    all_see_all(&rt, rt.alloc(), 2, 2);
-    all_see_all(&rt, rt.alloc(), 2, 1024);
-}
-
-#[test]
-fn two_readers(rt: HostRuntime) {
-    all_see_all(&rt, rt.alloc(), 3, 2);
-    all_see_all(&rt, rt.alloc(), 3, 1024);
-}
-
-#[test]
-fn four_readers(rt: HostRuntime) {
-    all_see_all(&rt, rt.alloc(), 5, 2);
-    all_see_all(&rt, rt.alloc(), 5, 1024);
-}
-
-#[test]
-fn seven_readers(rt: HostRuntime) {
-    all_see_all(&rt, rt.alloc(), 8, 2);
-    all_see_all(&rt, rt.alloc(), 8, 1024);
+fn two_threads(rt: HostRuntime) {
+    let script = alternating(&rt, rt.alloc());
+    all_see(&rt, rt.alloc(), &script, 2, 2);
+    all_see(&rt, rt.alloc(), &script, 3, 2);
+    all_see(&rt, rt.alloc(), &script, 4, 16);
 }
 
 // Version 0 retires after three events, version 1 takes the lead and closes after five, and version 2 reads all.
@@ -91,10 +107,7 @@ fn promote(rt: HostRuntime) {
     let kernel = kernel(alloc).expect(&rt, "memory");
     let ended = change_leader(alloc, kernel, &call, &last).expect(&rt, "memory");
     match ended {
-        Some(ended) => {
-            assert_eq!(rt; ended.seen.len(), 3);
-            assert_eq!(rt; ended.seen.as_slice(), [3, 5, 5].as_slice());
-        }
+        Some(ended) => assert_eq!(rt; ended.seen.as_slice(), [3, 5, 5].as_slice()),
         None => assert!(rt; false),
     }
 }
@@ -117,14 +130,11 @@ fn hands_over_at_a_planned_length(rt: HostRuntime) {
 #[test]
 fn each_leads_in_its_turn(rt: HostRuntime) {
     let alloc = rt.alloc();
+    let asking = asking(&rt, alloc);
     let script = Script {
-        opening: getuid(alloc).expect(&rt, "memory"),
-        first: getuid(alloc).expect(&rt, "memory"),
-        second: getuid(alloc).expect(&rt, "memory"),
-        last: exit_group(alloc).expect(&rt, "memory"),
         events: 25,
         each: 3,
-        most: 10_000_000,
+        ..asking
     };
     let kernel = kernel(alloc).expect(&rt, "memory");
     let ended = run(&rt, alloc, kernel, &script, 8, 4).expect(&rt, "memory");
@@ -132,39 +142,4 @@ fn each_leads_in_its_turn(rt: HostRuntime) {
         ended.seen.as_slice(),
         [3, 6, 9, 12, 15, 18, 21, 25].as_slice()
     );
-}
-
-// Thread 100 makes thread 101, their calls alternate 50 times, and exit_group ends both: each reader has the 102 events in order.
-fn two_threads_alternate<R: Threads + Sync + Abort>(
-    rt: &R,
-    alloc: Global,
-    versions: u32,
-    places: u32,
-)
-    requires versions { (0 < versions) × (versions ≤ 8) }
-    requires places { (2 ≤ places) × (places ≤ 1024) }
-{
-    let call = getuid(alloc).expect(rt, "memory");
-    let script = Script {
-        opening: clone(alloc).expect(rt, "memory"),
-        first: getuid(alloc).expect(rt, "memory"),
-        second: of_thread(call, 101),
-        last: exit_group(alloc).expect(rt, "memory"),
-        events: 102,
-        each: 102,
-        most: 10_000_000,
-    };
-    let kernel = kernel(alloc).expect(rt, "memory");
-    let ended = run(rt, alloc, kernel, &script, versions, places).expect(rt, "memory");
-    assert_eq!(rt; ended.seen.len(), versions as usize);
-    for seen in ended.seen.iter() {
-        assert_eq!(rt; *seen, 102);
-    }
-}
-
-#[test]
-fn two_threads(rt: HostRuntime) {
-    two_threads_alternate(&rt, rt.alloc(), 2, 2);
-    two_threads_alternate(&rt, rt.alloc(), 3, 2);
-    two_threads_alternate(&rt, rt.alloc(), 4, 16);
 }
