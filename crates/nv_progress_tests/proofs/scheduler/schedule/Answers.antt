@@ -8,9 +8,9 @@ loop-init c = record { on = all_here (judges_of c.args.terms.now) c.args.room.no
 pub loop-preserved : goal.loop-preserved
 loop-preserved c =
     let i = c.loop.invariant in
-    let on = c.turn_of.ensures in record {
-      on = all_then (judges_of c.args.terms.now) c.args.room.now c.args.terms.now.most c.args.workers.now c.loop.workers c.turn_of.new.workers i.on on;
-      can = all_can (judges_of c.args.terms.now) c.args.room.now c.args.terms.now.most c.loop.workers c.turn_of.new.workers on i.can;
+    let on = c.turn_of-turn.ensures.on in record {
+      on = all_then (judges_of c.args.terms.now) c.args.room.now c.args.terms.now.most c.args.workers.now c.loop.workers c.turn_of-turn.new.workers i.on on;
+      can = all_can (judges_of c.args.terms.now) c.args.room.now c.args.terms.now.most c.loop.workers c.turn_of-turn.new.workers on i.can;
     }
 
 pub returns-in_default-clause-on : goal.returns-in_default-clause-on
