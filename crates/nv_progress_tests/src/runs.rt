@@ -5,10 +5,11 @@ use crate::cases::Case;
 use crate::scheduler::{Ending, schedule};
 use crate::seed::Seed;
 use nv_kernel::ScriptKernel;
+use nv_outside::OpenGate;
 use nv_replay::Account;
 use nv_room::Room;
-use nv_workers::{end, gather, staff};
-use nv_workers_tests::{kernel, versions};
+use nv_workers::{Terms, end, gather, staff};
+use nv_workers_tests::{MOST_EVENTS, kernel, versions};
 use std::alloc::{AllocError, Global};
 
 /// How a run went.
@@ -34,7 +35,13 @@ pub fn scheduled(alloc: Global, case: &Case, seed: &mut Seed) -> Result<Course, 
     let count = case.texts.len() as u32;
     let (room, readers, lead) = Room::make(alloc, kernel, count, case.places, &case.hands)?;
     let mut workers = staff(alloc, versions, readers, lead)?;
-    match schedule(&mut workers, &room, case.rules.as_ref(), &case.hands, seed) {
+    let terms = Terms {
+        rules: case.rules.as_ref(),
+        gate: &OpenGate,
+        most: MOST_EVENTS,
+        hands: case.hands.as_slice(),
+    };
+    match schedule(&mut workers, &room, &terms, seed) {
         Ending::AllLeft => {
             let ran = gather(alloc, room, workers)?;
             Ok(Course::Ended(end(ran)))

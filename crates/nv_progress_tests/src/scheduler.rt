@@ -1,17 +1,14 @@
 //! The scheduler.
 ghost use Rattle.std.specs.Prelude.{◌≡◌, ◌<◌, IfSome};
-ghost use Rattle.std.specs.Option.{option_copied};
-ghost use Rattle.nv_replay.specs.Follow.{judge_of};
-ghost use Rattle.nv_room.specs.Seats.{hands_of};
+ghost use Rattle.nv_workers.specs.Terms.{AreOfRoom, judges_of};
 ghost use Rattle.nv_workers.specs.Rounds.{CanAll, AllOn, AreGone};
 ghost use Rattle.nv_progress_tests.specs.Endings.{GoneIfLeft};
 
 use crate::seed::Seed;
-use nv_bpf::Filter;
 use nv_kernel::ScriptKernel;
 use nv_outside::OpenGate;
 use nv_room::Room;
-use nv_workers::{Turn, Worker};
+use nv_workers::{Terms, Turn, Worker};
 use nv_workers_tests::{BUDGET, MOST_EVENTS};
 
 /// How the turns of a run ended.
@@ -92,13 +89,12 @@ const MOST_TURNS: u32 = 8 * 8 * (MOST_EVENTS + 4 * 16 + 4 + BUDGET) + 8;
 pub(crate) fn schedule(
     workers: &mut [Worker<ScriptKernel>],
     room: &Room<ScriptKernel>,
-    rules: Option<&Filter>,
-    hands: &Vec<u32>,
+    terms: &Terms<'_, OpenGate>,
     seed: &mut Seed,
 ) -> Ending
-    requires can { CanAll (judge_of (option_copied rules)) room.now 1000 workers.old }
-    requires hands { hands_of room.now ≡ hands.now.items }
-    ensures on { AllOn (judge_of (option_copied rules.entry)) room.now 1000 workers.old workers.new }
+    requires can { CanAll (judges_of terms.now) room.now terms.now.most workers.old }
+    requires terms { AreOfRoom room.now terms.now }
+    ensures on { AllOn (judges_of terms.now) room.now terms.now.most workers.old workers.new }
     ensures gone { GoneIfLeft result workers.new }
 {
     let mut states = States::new();
@@ -106,9 +102,9 @@ pub(crate) fn schedule(
     for _ in 0..MOST_TURNS {
         let start = choose(seed, last);
         let Some(index) = states.ready_from(start) else {
-            return last_turns(workers, room, rules, hands);
+            return last_turns(workers, room, terms);
         };
-        let turn = turn_of(workers, index, room, rules, hands);
+        let turn = turn_of(workers, index, room, terms);
         states.note(index, turn);
         last = index;
     }
@@ -129,39 +125,37 @@ fn turn_of(
     workers: &mut [Worker<ScriptKernel>],
     index: usize,
     room: &Room<ScriptKernel>,
-    rules: Option<&Filter>,
-    hands: &Vec<u32>,
+    terms: &Terms<'_, OpenGate>,
 ) -> Turn
-    requires can { CanAll (judge_of (option_copied rules)) room.now 1000 workers.old }
-    requires hands { hands_of room.now ≡ hands.now.items }
-    ensures on { AllOn (judge_of (option_copied rules.entry)) room.now 1000 workers.old workers.new }
+    requires can { CanAll (judges_of terms.now) room.now terms.now.most workers.old }
+    requires terms { AreOfRoom room.now terms.now }
+    ensures on { AllOn (judges_of terms.now) room.now terms.now.most workers.old workers.new }
 {
     let Some((first, others)) = workers.split_first_mut() else {
         return Turn::Done;
     };
     if index == 0 {
-        return first.turn(room, rules, &OpenGate, MOST_EVENTS, hands);
+        return first.turn(room, terms);
     }
-    turn_of(others, index - 1, room, rules, hands)
+    turn_of(others, index - 1, room, terms)
 }
 
 // Whether all have left: each has a last turn, in which nothing happens to a worker that has.
 fn last_turns(
     workers: &mut [Worker<ScriptKernel>],
     room: &Room<ScriptKernel>,
-    rules: Option<&Filter>,
-    hands: &Vec<u32>,
+    terms: &Terms<'_, OpenGate>,
 ) -> Ending
-    requires can { CanAll (judge_of (option_copied rules)) room.now 1000 workers.old }
-    requires hands { hands_of room.now ≡ hands.now.items }
-    ensures on { AllOn (judge_of (option_copied rules.entry)) room.now 1000 workers.old workers.new }
+    requires can { CanAll (judges_of terms.now) room.now terms.now.most workers.old }
+    requires terms { AreOfRoom room.now terms.now }
+    ensures on { AllOn (judges_of terms.now) room.now terms.now.most workers.old workers.new }
     ensures gone { GoneIfLeft result workers.new }
 {
     let Some((first, others)) = workers.split_first_mut() else {
         return Ending::AllLeft;
     };
-    let own = first.turn(room, rules, &OpenGate, MOST_EVENTS, hands);
-    let rest = last_turns(others, room, rules, hands);
+    let own = first.turn(room, terms);
+    let rest = last_turns(others, room, terms);
     match own {
         Turn::Done => rest,
         Turn::Moved | Turn::Ahead | Turn::Waiting => Ending::AllWait,
