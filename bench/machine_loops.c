@@ -144,7 +144,7 @@ CALLED uint32_t run(Regs *g, Memory *m, uint32_t count) {
     return count;
 }
 
-/* the words of crates/nv_machine_loops */
+/* the words of crates/nv_machine_bench */
 static const uint32_t COUNT[] = {0x400002b7, 0xfff28293, 0xfe029ee3, 0x00000073};
 static const uint32_t MEMORY[] = {0x00020437, 0x000103b7, 0x0003a303, 0x00130313, 0x0063a023, 0x00438393, 0xfe8398e3, 0xfe9ff06f};
 static const uint32_t CALLS[] = {0x00040137, 0x00c000ef, 0x00128293, 0xff9ff06f, 0xff010113, 0x00112623, 0x00350513, 0x00c12083, 0x01010113, 0x00008067};

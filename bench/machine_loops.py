@@ -1,7 +1,7 @@
 #!/usr/bin/env python3
 """Times the guest machine beside a plain C interpreter of the same design.
 
-Builds crates/nv_machine_loops with `rt run` and bench/machine_loops.c with `gcc -O2`, with `step` as a call of its own and
+Builds crates/nv_machine_bench with `rt run` and bench/machine_loops.c with `gcc -O2`, with `step` as a call of its own and
 compiled into the loop. Runs the three in turn on three guests, and prints the medians and the best of their processor times,
 and how many times the machine's time they took. All must print the same.
 """
@@ -13,7 +13,7 @@ import sys
 import tempfile
 
 TOP = os.path.dirname(os.path.dirname(os.path.abspath(__file__)))
-CRATE = os.path.join(TOP, "crates", "nv_machine_loops")
+CRATE = os.path.join(TOP, "crates", "nv_machine_bench")
 STEPS = 50_000_000
 
 
@@ -28,7 +28,7 @@ def main():
     runs = int(sys.argv[1]) if len(sys.argv) > 1 else 11
     subprocess.run(["rt", "run", "--", "count", "1"], cwd=CRATE, check=True, capture_output=True)
     with tempfile.TemporaryDirectory() as room:
-        programs = {"proved machine": os.path.join(CRATE, "out", "nv_machine_loops")}
+        programs = {"proved machine": os.path.join(CRATE, "out", "nv_machine_bench")}
         for name, flags in (("C, step called", []), ("C, step inlined", ["-DINLINE"])):
             programs[name] = os.path.join(room, "machine_loops" + "".join(flags))
             source = os.path.join(TOP, "bench", "machine_loops.c")

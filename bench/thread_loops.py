@@ -1,7 +1,7 @@
 #!/usr/bin/env python3
 """Times the turns of a process beside the machine's steps alone.
 
-Builds crates/nv_machine_loops, which calls `step` in a loop, and crates/nv_thread_loops, which calls `Process::advance`, with
+Builds crates/nv_machine_bench, which calls `step` in a loop, and crates/nv_thread_bench, which calls `Process::advance`, with
 `rt run`. Both run a guest that counts down (`addi`, `bne`) for the same number of instructions: the first as it is, the second
 in one thread and in eight that take turns. Runs the three in turn, and prints the medians and the best of their processor times
 in millions of instructions a second, and the speed of each against `step`. With valgrind it also prints the host instructions of
@@ -42,8 +42,8 @@ def counted(words):
 
 def main():
     runs = int(sys.argv[1]) if len(sys.argv) > 1 else 11
-    machine = built("nv_machine_loops", "count", "1")
-    threads = built("nv_thread_loops", "one", "1")
+    machine = built("nv_machine_bench", "count", "1")
+    threads = built("nv_thread_bench", "one", "1")
     programs = {"step": [machine, "count"], "advance, one thread": [threads, "one"], "advance, eight threads": [threads, "eight"]}
     times = {name: [] for name in programs}
     for _ in range(runs):

@@ -4,7 +4,7 @@ use Rattle.std.specs.Char.{digit_value, is_ascii_digit, is_ascii_hexdigit}
 use Rattle.std.specs.List.{list_all}
 use Rattle.std.specs.Str.Parse.{AllDigits}
 use Rattle.std.proofs.lemmas.Bool.Decides.{nat_tests}
-use Rattle.nv_asm.specs.Small.{IsDigits}
+use Rattle.nv_asm.specs.inner.Small.{IsDigits}
 
 record IsDigit (radix byte : ℕ) : Type 0 where
   value : digit_value byte < radix

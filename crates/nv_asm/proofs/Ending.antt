@@ -5,23 +5,23 @@ use Rattle.std.proofs.lemmas.Bool.{and_from}
 use Rattle.std.proofs.lemmas.Bool.Decides.{nat_tests}
 use Rattle.nv_text.specs.Lines.{lines}
 use Rattle.nv_text.specs.Names.{defined}
-use Rattle.nv_elf.specs.Elf.{Range, Executable, range_extent, shares, overlap_from, holds_entry, is_entry}
-use Rattle.nv_elf.specs.Written.{is_program, is_sound, bytes_in}
+use Rattle.nv_elf.specs.Elf.{Range, Executable, range_extent, shares, overlap_from, holds_entry, can_be_entry}
+use Rattle.nv_elf.specs.Written.{is_program, is_sound, range_bytes}
 use Rattle.nv_asm.specs.declared.fault.AsmCause.{AsmCause}
 use Rattle.nv_asm.specs.declared.fault.AsmCause.TheVariants as cause
 use Rattle.nv_asm.specs.declared.fault.AsmFault.{AsmFault}
 use Rattle.nv_asm.specs.declared.fault.AsmFault.TheVariants as fault
 use Rattle.nv_asm.specs.declared.place.Label.{Label}
 use Rattle.nv_asm.specs.declared.place.Section.TheVariants as section
-use Rattle.nv_asm.specs.Places.{Placed, placed, start}
-use Rattle.nv_asm.specs.Assembled.{Whole, whole_of, first_cause, meaning, meaning_by, program, text_base, data_base, text_range, data_ranges, section_bytes, assembled}
-use Rattle.nv_asm.specs.Known.{known}
-use Rattle.nv_asm.specs.Programs.{fault_of, IsLaidText, IsEntryAt}
+use Rattle.nv_asm.specs.Places.{Placed, placed, nothing_reached}
+use Rattle.nv_asm.specs.Assembled.{Whole, whole_of, first_cause, meaning, meaning_by, laid_program, text_base, data_base, text_range, data_ranges, section_bytes, assembled}
+use Rattle.nv_asm.specs.inner.Known.{known}
+use Rattle.nv_asm.specs.inner.Programs.{fault_found, IsLaidText, IsEntryAt}
 
 -- ---- what the first pass knows
 
 abbrev placed_text : List ℕ → List Placed
-placed_text text = placed 0 start (lines text)
+placed_text text = placed 0 nothing_reached (lines text)
 
 -- the first pass has found every label and the text section's length
 pub record IsKnown (names : List (List ℕ × Label)) (text_len : ℕ) (text : List ℕ) : Type 0 where
@@ -44,12 +44,12 @@ assembled-known names text_len text h = ap (λ w. meaning w (placed_text text)) 
 
 -- ---- a text with a fault
 
-by-fault : (w : Whole) (ps : List Placed) (found : Option (ℕ × AsmCause)) (f : AsmFault) → fault_of found ≡ Some f → meaning_by w ps found ≡ Err f
+by-fault : (w : Whole) (ps : List Placed) (found : Option (ℕ × AsmCause)) (f : AsmFault) → fault_found found ≡ Some f → meaning_by w ps found ≡ Err f
 by-fault w ps (Some x) f e = cc
 by-fault w ps None f e = cc
 
 pub assembled-fault : (names : List (List ℕ × Label)) (text_len : ℕ) (text : List ℕ) (f : AsmFault) → IsKnown names text_len text
-    → fault_of (first_cause (known names text_len) (placed_text text)) ≡ Some f → assembled text ≡ Err f
+    → fault_found (first_cause (known names text_len) (placed_text text)) ≡ Some f → assembled text ≡ Err f
 assembled-fault names text_len text f h e =
     assembled-known names text_len text h ∙ by-fault (known names text_len) (placed_text text) (first_cause (known names text_len) (placed_text text)) f e
 
@@ -69,11 +69,11 @@ assembled-short names text_len text h e short =
 abbrev pub image : ℕ → ℕ → List ℕ → List ℕ → Executable
 image text_len entry text contents = record { entry = entry; ranges = text_range text ∷ data_ranges text_len contents }
 
-by-program : (w : Whole) (ps : List Placed) (found : Option (ℕ × AsmCause)) → found ≡ None → 4 ≤ w.text_len → meaning_by w ps found ≡ Ok (program w ps)
+by-program : (w : Whole) (ps : List Placed) (found : Option (ℕ × AsmCause)) → found ≡ None → 4 ≤ w.text_len → meaning_by w ps found ≡ Ok (laid_program w ps)
 by-program w ps (Some x) e h = cc
 by-program w ps None e h = let is : nat_lt w.text_len 4 ≡ false = grind (arith, nat_tests) in rw is refl
 
-program-image : (w : Whole) (ps : List Placed) (text contents : List ℕ) (entry : ℕ) → IsLaidText w ps text contents entry → program w ps ≡ image w.text_len entry text contents
+program-image : (w : Whole) (ps : List Placed) (text contents : List ℕ) (entry : ℕ) → IsLaidText w ps text contents entry → laid_program w ps ≡ image w.text_len entry text contents
 program-image w ps text contents entry h =
     ap (λ e. image w.text_len e (section_bytes w section.Text ps) (section_bytes w section.Data ps)) h.entry_is
     ∙ ap (λ t. image w.text_len entry t (section_bytes w section.Data ps)) h.text_bytes
@@ -97,10 +97,10 @@ base-near n = omega arith
 range-sound : (address size n : ℕ) → 0 < size → n ≤ size → address + size < 2 ^ 32 → (nat_lt 0 size && (nat_le n size && nat_lt (address + size) (2 ^ 32))) ≡ true
 range-sound address size n some within ends = grind (arith, nat_tests)
 
-entry-first : (entry : ℕ) (r : Range) (rs : List Range) → (entry % 4 == 0) ≡ true → holds_entry entry (range_extent r) ≡ true → is_entry range_extent entry (r ∷ rs) ≡ true
+entry-first : (entry : ℕ) (r : Range) (rs : List Range) → (entry % 4 == 0) ≡ true → holds_entry entry (range_extent r) ≡ true → can_be_entry range_extent entry (r ∷ rs) ≡ true
 entry-first entry r rs aligned held = rw (aligned, held) refl
 
-entry-held : (n entry : ℕ) (text : List ℕ) (rs : List Range) → length text ≡ n → 4 ≤ n → IsEntryAt n entry → is_entry range_extent entry (text_range text ∷ rs) ≡ true
+entry-held : (n entry : ℕ) (text : List ℕ) (rs : List Range) → length text ≡ n → 4 ≤ n → IsEntryAt n entry → can_be_entry range_extent entry (text_range text ∷ rs) ≡ true
 entry-held n entry text rs long some h =
     let least : text_base ≤ entry = h.least in
     let most : entry + 4 ≤ text_base + length text = omega arith in
@@ -109,9 +109,6 @@ entry-held n entry text rs long some h =
     let begins : nat_le text_base entry ≡ true = grind (arith, nat_tests) in
     let end : nat_le (entry + 4) (text_base + length text) ≡ true = grind (arith, nat_tests) in
     entry-first entry (text_range text) rs aligned (and_from (nat_le text_base entry) (nat_le (entry + 4) (text_base + length text)) begins end)
-
-apart-one : (r : Range) → is_none (overlap_from range_extent 0 (r ∷ [])) ≡ true
-apart-one r = refl
 
 apart-two : (r s : Range) → shares (range_extent r) (range_extent s) ≡ false → is_none (overlap_from range_extent 0 (r ∷ s ∷ [])) ≡ true
 apart-two r s e = rw e refl
@@ -139,6 +136,6 @@ image-program n entry text (b ∷ bs) long some short h =
     and_from (list_all is_sound (r ∷ s ∷ [])) _ (and_from (is_sound r) _ sound (and_from (is_sound s) true sound-2 refl))
     (and_from (is_none (overlap_from range_extent 0 (r ∷ s ∷ []))) _ apart (entry-held n entry text (s ∷ []) long some h))
 
-pub image-small : (n entry : ℕ) (text contents : List ℕ) → length text + length contents ≤ 1048576 → bytes_in (image n entry text contents).ranges ≤ 1048576
+pub image-small : (n entry : ℕ) (text contents : List ℕ) → length text + length contents ≤ 1048576 → range_bytes (image n entry text contents).ranges ≤ 1048576
 image-small n entry text [] short = omega arith
 image-small n entry text (b ∷ bs) short = omega arith

@@ -13,10 +13,10 @@ use Rattle.nv_asm.specs.declared.place.Section.TheVariants as section
 use Rattle.nv_asm.specs.declared.place.Reached.{Reached}
 use Rattle.nv_asm.specs.declared.place.Label.{Label}
 use Rattle.nv_asm.specs.Statements.{Word, Code, Fixed, Branch, Jump, Load, Statement, Blank, Text, Data, Bytes, Zero, Words, Entry, Instruction, OffInstruction, OffData, OffWords, loading}
-use Rattle.nv_asm.specs.Programs.{IsEntryAt}
+use Rattle.nv_asm.specs.inner.Programs.{IsEntryAt}
 use Rattle.nv_asm.proofs.Passing.{before-is, placed-line, placed-none}
-use Rattle.nv_asm.specs.Places.{Placed, here, begin, size, code_size, past, counted, stated, place, after, placed, placed_line}
-use Rattle.nv_asm.specs.Assembled.{Whole, base, address, address_of, is_entry, is_entry_place, distance, word_value, code_words, le_words, lacks, content, is_twice, is_long, padding, padded, laid_by, laid, cause_of, bytes_of, laid_in, section_bytes, entry_past, entry_of}
+use Rattle.nv_asm.specs.Places.{Placed, here, begin, size, code_size, past, or_blank, stated, place, after, placed, placed_line}
+use Rattle.nv_asm.specs.Assembled.{Whole, base, address, address_of, is_entry, is_entry_place, distance, word_value, code_words, le_words, lacks, content, is_twice, is_long, padding_before, padded, laid_by, laid, cause_of, bytes_or_none, laid_in, section_bytes, entry_past, entry_address}
 
 -- a line that isn't faulty
 pub record IsLaid (w : Whole) (p : Placed) (bytes : List ℕ) : Type 0 where
@@ -26,15 +26,15 @@ pub record IsLaid (w : Whole) (p : Placed) (bytes : List ℕ) : Type 0 where
   pub known : lacks w statement ≡ false
   pub content : content w (address w.text_len (place p)) statement ≡ Some inner
   pub short : is_long (after p) ≡ false
-  pub all : bytes ≡ padding p ++ inner
+  pub all : bytes ≡ padding_before p ++ inner
 
 pub laid-inverts : (w : Whole) (p : Placed) (bytes : List ℕ) → laid w p ≡ Ok bytes → IsLaid w p bytes
 unfolding laid
 laid-inverts w p bytes e = first (is_twice w p.line p.label) p.read refl e where
   fourth : (s : Statement) (inner : List ℕ) (long : Bool) → p.read ≡ Ok s → lacks w s ≡ false → content w (address w.text_len (place p)) s ≡ Some inner → is_long (after p) ≡ long
-      → (if long then Err cause.Range else Ok (padding p ++ inner)) ≡ Ok bytes → IsLaid w p bytes
+      → (if long then Err cause.Range else Ok (padding_before p ++ inner)) ≡ Ok bytes → IsLaid w p bytes
   fourth s inner true r k o l h = cc
-  fourth s inner false r k o l h = let same : padding p ++ inner ≡ bytes = cc in record { statement = s; inner = inner; read = r; known = k; content = o; short = l; all = sym same }
+  fourth s inner false r k o l h = let same : padding_before p ++ inner ≡ bytes = cc in record { statement = s; inner = inner; read = r; known = k; content = o; short = l; all = sym same }
 
   third : (s : Statement) (o : Option (List ℕ)) → p.read ≡ Ok s → lacks w s ≡ false → content w (address w.text_len (place p)) s ≡ o → padded p o ≡ Ok bytes → IsLaid w p bytes
   third s None r k o h = cc
@@ -71,7 +71,7 @@ causes-none w n before left e = ap (λ ps. first_fault n (causes w ps)) (placed-
 
 pub bytes-line : (w : Whole) (s : Section) (a b : LinesLeft) (n : ℕ) (before : Reached) (line : List ℕ) → IsNextLine a n line b
     → section_bytes w s (placed a.before before a.left)
-    ≡ laid_in s (placed_line n before line).before.section (bytes_of (laid w (placed_line n before line))) ++ section_bytes w s (placed b.before (after (placed_line n before line)) b.left)
+    ≡ laid_in s (placed_line n before line).before.section (bytes_or_none (laid w (placed_line n before line))) ++ section_bytes w s (placed b.before (after (placed_line n before line)) b.left)
 unfolding section_bytes
 bytes-line w s a b n before line next = ap (section_bytes w s) (placed-line a b n before line next)
 
@@ -80,14 +80,14 @@ unfolding section_bytes
 bytes-none w s n before left e = ap (section_bytes w s) (placed-none n before left e)
 
 pub entry-line : (w : Whole) (entry : ℕ) (a b : LinesLeft) (n : ℕ) (before : Reached) (line : List ℕ) → IsNextLine a n line b
-    → entry_of w entry (placed a.before before a.left)
-    ≡ entry_of w (entry_past w entry (stated (placed_line n before line))) (placed b.before (after (placed_line n before line)) b.left)
-unfolding entry_of
-entry-line w entry a b n before line next = ap (entry_of w entry) (placed-line a b n before line next)
+    → entry_address w entry (placed a.before before a.left)
+    ≡ entry_address w (entry_past w entry (stated (placed_line n before line))) (placed b.before (after (placed_line n before line)) b.left)
+unfolding entry_address
+entry-line w entry a b n before line next = ap (entry_address w entry) (placed-line a b n before line next)
 
-pub entry-none : (w : Whole) (entry n : ℕ) (before : Reached) (left : List (List ℕ)) → left ≡ [] → entry_of w entry (placed n before left) ≡ entry
-unfolding entry_of
-entry-none w entry n before left e = ap (entry_of w entry) (placed-none n before left e)
+pub entry-none : (w : Whole) (entry n : ℕ) (before : Reached) (left : List (List ℕ)) → left ≡ [] → entry_address w entry (placed n before left) ≡ entry
+unfolding entry_address
+entry-none w entry n before left e = ap (entry_address w entry) (placed-none n before left e)
 
 -- ---- lengths
 
@@ -191,19 +191,6 @@ entry-past w entry (OffWords ws) k h = h
 abbrev padding-from : Statement → ℕ → ℕ
 padding-from s n = begin s n - n
 
-begin-up : (s : Statement) (n : ℕ) → n ≤ begin s n
-begin-up Blank n = omega arith
-begin-up Text n = omega arith
-begin-up Data n = omega arith
-begin-up (Bytes bs) n = omega arith
-begin-up (Zero k) n = omega arith
-begin-up (Words ws) n = omega arith
-begin-up (Entry l) n = omega arith
-begin-up (Instruction c) n = omega arith
-begin-up OffInstruction n = omega arith
-begin-up OffData n = omega arith
-begin-up (OffWords ws) n = omega arith
-
 -- how long the sections are after a line
 pub record Grows (w : Whole) (p : Placed) (before : Reached) (bytes : List ℕ) : Type 0 where
   pub text : (after p).text_len ≡ before.text_len + length (laid_in section.Text before.section bytes)
@@ -213,9 +200,9 @@ grows : (w : Whole) (p : Placed) (bytes : List ℕ) → IsLaid w p bytes → Gro
 grows w p bytes h = by_section p.before.section p.before.text_len p.before.data_len refl where
   long : length bytes ≡ padding-from (stated p) (here p.before) + size (stated p)
   long =
-      let s : stated p ≡ h.statement = ap counted h.read in
+      let s : stated p ≡ h.statement = ap or_blank h.read in
       let inner : length h.inner ≡ size (stated p) = length-content w (address w.text_len (place p)) h.statement h.inner h.content ∙ ap size (sym s) in
-      omega (arith, ap length h.all, length-append (padding p) h.inner, length-replicate {A = ℕ} (padding-from (stated p) (here p.before)) 0, inner)
+      omega (arith, ap length h.all, length-append (padding_before p) h.inner, length-replicate {A = ℕ} (padding-from (stated p) (here p.before)) 0, inner)
 
   by_section : (s : Section) (t d : ℕ) → p.before ≡ (record { section = s; text_len = t; data_len = d }) → Grows w p p.before bytes
   by_section section.Text t d e =
@@ -242,7 +229,7 @@ grows-line w n before line bytes e = grows w (placed_line n before line) bytes (
 pub entry-kept : (w : Whole) (p : Placed) (bytes : List ℕ) (entry : ℕ) → laid w p ≡ Ok bytes → IsEntryAt w.text_len entry → IsEntryAt w.text_len (entry_past w entry (stated p))
 entry-kept w p bytes entry e h =
     let laid : IsLaid w p bytes = laid-inverts w p bytes e in
-    subst (λ s. IsEntryAt w.text_len (entry_past w entry s)) (sym (ap counted laid.read)) (entry-past w entry laid.statement laid.known h)
+    subst (λ s. IsEntryAt w.text_len (entry_past w entry s)) (sym (ap or_blank laid.read)) (entry-past w entry laid.statement laid.known h)
 
 pub short-line : (w : Whole) (p : Placed) (bytes : List ℕ) → laid w p ≡ Ok bytes → (after p).text_len + (after p).data_len ≤ 1048576
 short-line w p bytes e = let short = (laid-inverts w p bytes e).short in grind (arith, nat_tests)
@@ -255,6 +242,6 @@ bytes-more w s a b n r q line bytes old new next ok more is =
     let p : Placed = placed_line n r line in
     let later : List ℕ = section_bytes w s (placed b.before (after p) b.left) in
     ap (λ x. new ++ section_bytes w s (placed b.before x b.left)) is ∙ ap (λ t. t ++ later) more ∙ append_assoc old (laid_in s r.section bytes) later
-    ∙ ap (λ x. old ++ (laid_in s r.section (bytes_of x) ++ later)) (sym ok)
-    ∙ ap (λ (reached : Reached). old ++ (laid_in s reached.section (bytes_of (laid w p)) ++ later)) (sym (before-is n r line))
+    ∙ ap (λ x. old ++ (laid_in s r.section (bytes_or_none x) ++ later)) (sym ok)
+    ∙ ap (λ (reached : Reached). old ++ (laid_in s reached.section (bytes_or_none (laid w p)) ++ later)) (sym (before-is n r line))
     ∙ ap (λ x. old ++ x) (sym (bytes-line w s a b n r line next))

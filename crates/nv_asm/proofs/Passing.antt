@@ -10,9 +10,9 @@ use Rattle.nv_asm.specs.declared.place.Section.{Section}
 use Rattle.nv_asm.specs.declared.place.Section.TheVariants as section
 use Rattle.nv_asm.specs.Statements.{Statement, Blank, Text, Data, Bytes, Zero, Words, Entry, Instruction, OffInstruction, OffData, OffWords}
 use Rattle.nv_asm.specs.Places.{Placed, begin, size, past, stated, place, after, placed, placed_line, ended, marked}
-use Rattle.nv_asm.specs.Bounds.{most_of}
-use Rattle.nv_asm.specs.Lines.{IsSmall}
-use Rattle.nv_asm.specs.Known.{found}
+use Rattle.nv_asm.specs.inner.Bounds.{most_of}
+use Rattle.nv_asm.specs.inner.Lines.{IsSmall}
+use Rattle.nv_asm.specs.inner.Known.{defined_among}
 
 -- ---- names
 
@@ -23,7 +23,7 @@ or_known None p false d = refl
 
 -- a further name is known, and no longer among the rest
 pub found-defined : (before now rest : List (List ℕ × Label)) (label name : List ℕ) (d : Label)
-    → ((other : List ℕ) → defined now other ≡ knowing before label d other) → found before (defining (Some label) d rest) name ≡ found now rest name
+    → ((other : List ℕ) → defined now other ≡ knowing before label d other) → defined_among before (defining (Some label) d rest) name ≡ defined_among now rest name
 unfolding defined
 found-defined before now rest label name d h =
     or_known (defined before name) (defined rest name) (bytes_eq name label) d ∙ ap (λ o. option_or o (defined rest name)) (sym (h name))
@@ -32,23 +32,13 @@ or_none : (o : Option Label) → option_or o None ≡ o
 or_none None = refl
 or_none (Some x) = refl
 
-pub found-none : (before rest : List (List ℕ × Label)) (name : List ℕ) → before ≡ [] → found before rest name ≡ defined rest name
+pub found-none : (before rest : List (List ℕ × Label)) (name : List ℕ) → before ≡ [] → defined_among before rest name ≡ defined rest name
 unfolding defined
-found-none before rest name e = ap (λ ls. found ls rest name) e
+found-none before rest name e = ap (λ ls. defined_among ls rest name) e
 
-pub found-all : (before rest : List (List ℕ × Label)) (name : List ℕ) → rest ≡ [] → found before rest name ≡ defined before name
+pub found-all : (before rest : List (List ℕ × Label)) (name : List ℕ) → rest ≡ [] → defined_among before rest name ≡ defined before name
 unfolding defined
-found-all before rest name e = ap (λ ls. found before ls name) e ∙ or_none (defined before name)
-
--- a bound on the places of names that are known
-pub knows-more : (names now : List (List ℕ × Label)) (label : List ℕ) (d : Label) (most : ℕ) → ((other : List ℕ) → defined now other ≡ knowing names label d other)
-    → ((name : List ℕ) → IfSome (defined names name) (λ (l : Label). l.place.offset < most)) → d.place.offset < most
-    → (name : List ℕ) → IfSome (defined now name) (λ (l : Label). l.place.offset < most)
-knows-more names now label d most is old small name = step (defined now name) (defined names name) (bytes_eq name label) (is name) (old name) where
-  step : (o p : Option Label) (b : Bool) → o ≡ option_or p (if b then Some d else None) → IfSome p (λ (l : Label). l.place.offset < most) → IfSome o (λ (l : Label). l.place.offset < most)
-  step o (Some l) b e h = rw e h
-  step o None true e h = rw e small
-  step o None false e h = rw e tt
+found-all before rest name e = ap (λ ls. defined_among before ls name) e ∙ or_none (defined before name)
 
 pub knows-none : (names : List (List ℕ × Label)) (most : ℕ) → names ≡ [] → (name : List ℕ) → IfSome (defined names name) (λ (l : Label). l.place.offset < most)
 unfolding defined

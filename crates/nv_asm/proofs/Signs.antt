@@ -4,7 +4,7 @@ use Rattle.std.specs.Prelude.{pos, neg_ℤ}
 use Rattle.std.proofs.lemmas.Int.{ints}
 use Rattle.std.proofs.lemmas.Bool.Decides.{nat_tests}
 use Rattle.nv_asm.specs.Numbers.{magnitude, literal}
-use Rattle.nv_asm.specs.Small.{small, small_signed, with_sign}
+use Rattle.nv_asm.specs.inner.Small.{small, small_signed, with_sign}
 
 one-minus : (n : ℕ) → option_map (with_sign true) (small n) ≡ small_signed (neg_ℤ (pos n))
 one-minus n = grind (arith, ints, nat_tests)

@@ -8,7 +8,7 @@ use Rattle.nv_asm.specs.declared.strings.Where.TheVariants.{Outside}
 use Rattle.nv_asm.specs.Strings.{quoted, string, mark, at_end, comment_place}
 use Rattle.nv_asm.specs.declared.code.Statement.{Statement}
 use Rattle.nv_asm.specs.Places.{line_parts, size}
-use Rattle.nv_asm.specs.Views.{view, texts}
+use Rattle.nv_asm.specs.inner.Views.{view, operand_texts}
 
 abbrev pub Shorter : ℕ → Option (List ℕ) → Type 0
 Shorter most o = IfSome o (λ bs. length bs ≤ most)
@@ -104,9 +104,9 @@ pub widen-ok : {E : Type 0} (r : Result (Option Statement) E) (a b : ℕ) → a 
 widen-ok (Ok o) a b le h = widen-some o a b le h
 widen-ok (Err e) a b le h = tt
 
-length-texts : (xs : List (Bor (List ℕ))) → length (texts xs) ≡ length xs
+length-texts : (xs : List (Bor (List ℕ))) → length (operand_texts xs) ≡ length xs
 length-texts [] = refl
 length-texts (x ∷ xs) = omega (arith, length-texts xs)
 
-pub operands-few : (xs : List (Bor (List ℕ))) (rest : List ℕ) → texts xs ≡ operands rest → length xs ≤ length rest + 1
+pub operands-few : (xs : List (Bor (List ℕ))) (rest : List ℕ) → operand_texts xs ≡ operands rest → length xs ≤ length rest + 1
 operands-few xs rest e = omega (arith, length-texts xs, ap length e, operands-le rest)

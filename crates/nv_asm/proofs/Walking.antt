@@ -2,7 +2,7 @@
 use Rattle.std.proofs.Common.{◌≡◌, ℕ, ◌+◌, ◌<◌, ◌≤◌, Bool, true, false, ◌&&◌, ◌||◌, Bor, List, [], ◌∷◌, ◌++◌, length, map, drop, get_or, refl, ap, sym, ◌∙◌, append_assoc, append-nil, arith}
 use Rattle.std.specs.List.{list_all}
 use Rattle.std.proofs.lemmas.List.{at_drop_more, at_drop_all}
-use Rattle.nv_asm.specs.Views.{texts}
+use Rattle.nv_asm.specs.inner.Views.{operand_texts}
 
 abbrev pub Gathers : {X A : Type 0} → (List X → List A) → (X → List A) → Type 0
 Gathers {X = X} g h = (x : X) (xs : List X) → g (x ∷ xs) ≡ h x ++ g xs
@@ -32,7 +32,7 @@ abbrev pub none_given : Bor (List ℕ)
 none_given = record { ref_ptr = (0, 0); now = [] }
 
 abbrev all_from : (List ℕ → Bool) → List (Bor (List ℕ)) → Bool
-all_from p xs = list_all p (texts xs)
+all_from p xs = list_all p (operand_texts xs)
 
 pub all-not : (p : List ℕ → Bool) (xs : List (Bor (List ℕ))) (i : ℕ) → i < length xs → p (get_or xs i none_given).now ≡ false → all_from p (drop i xs) ≡ false
 all-not p xs i inside e = at_drop_more (all_from p) xs i none_given inside ∙ ap (λ b. b && all_from p (drop (i + 1) xs)) e
@@ -43,6 +43,6 @@ all-later p xs i inside e = at_drop_more (all_from p) xs i none_given inside ∙
 pub all-end : (p : List ℕ → Bool) (xs : List (Bor (List ℕ))) (i : ℕ) → length xs ≤ i → all_from p (drop i xs) ≡ true
 all-end p xs i past = at_drop_all (all_from p) xs i past
 
-pub length-texts : {A : Type 0} (f : List ℕ → A) (xs : List (Bor (List ℕ))) → length (map f (texts xs)) ≡ length xs
+pub length-texts : {A : Type 0} (f : List ℕ → A) (xs : List (Bor (List ℕ))) → length (map f (operand_texts xs)) ≡ length xs
 length-texts f [] = refl
 length-texts f (x ∷ xs) = omega (arith, length-texts f xs)

@@ -17,7 +17,7 @@ use Rattle.nv_asm.specs.declared.place.Place.{Place}
 use Rattle.nv_asm.specs.declared.place.Label.{Label}
 use Rattle.nv_asm.specs.declared.place.Reached.{Reached}
 use Rattle.nv_asm.specs.Statements.{Word, Value, Address, Code, Fixed, Branch, Jump, Load, Statement, Bytes, Zero, Words, Entry, Instruction, OffInstruction, OffData, OffWords, insn, loading}
-use Rattle.nv_asm.specs.Places.{here, Placed, stated, place, after, placed, start, ended, marked, begin}
+use Rattle.nv_asm.specs.Places.{here, Placed, stated, place, after, placed, nothing_reached, ended, marked, begin}
 
 -- what a line needs of all others: where each label is first defined, and how long the text section is
 pub record Whole : Type 0 where
@@ -120,12 +120,12 @@ abbrev pub is_long : Reached → Bool
 is_long r = nat_lt 1048576 (r.text_len + r.data_len)
 
 -- zeros up to where the statement begins
-abbrev pub padding : Placed → List ℕ
-padding p = replicate (begin (stated p) (here p.before) - here p.before) 0
+abbrev pub padding_before : Placed → List ℕ
+padding_before p = replicate (begin (stated p) (here p.before) - here p.before) 0
 
 abbrev pub padded : Placed → Option (List ℕ) → Result (List ℕ) AsmCause
 padded p None = Err cause.Range
-padded p (Some bytes) = if is_long (after p) then Err cause.Range else Ok (padding p ++ bytes)
+padded p (Some bytes) = if is_long (after p) then Err cause.Range else Ok (padding_before p ++ bytes)
 
 abbrev pub laid_by : Whole → Placed → Result Statement AsmCause → Result (List ℕ) AsmCause
 laid_by w p (Err c) = Err c
@@ -141,9 +141,9 @@ abbrev pub cause_of : Result (List ℕ) AsmCause → Option AsmCause
 cause_of (Ok bytes) = None
 cause_of (Err c) = Some c
 
-abbrev pub bytes_of : Result (List ℕ) AsmCause → List ℕ
-bytes_of (Ok bytes) = bytes
-bytes_of (Err c) = []
+abbrev pub bytes_or_none : Result (List ℕ) AsmCause → List ℕ
+bytes_or_none (Ok bytes) = bytes
+bytes_or_none (Err c) = []
 
 -- the bytes that a line adds to a section
 abbrev pub laid_in : Section → Section → List ℕ → List ℕ
@@ -152,16 +152,16 @@ laid_in section.Data section.Data bytes = bytes
 laid_in _ _ bytes = []
 
 unfoldable pub section_bytes : Whole → Section → List Placed → List ℕ
-section_bytes w s ps = flat_map (λ p. laid_in s p.before.section (bytes_of (laid w p))) ps
+section_bytes w s ps = flat_map (λ p. laid_in s p.before.section (bytes_or_none (laid w p))) ps
 
 -- the last entry that is named
 abbrev pub entry_past : Whole → ℕ → Statement → ℕ
 entry_past w entry (Entry name) = address_of w name
 entry_past w entry _ = entry
 
-unfoldable pub entry_of : Whole → ℕ → List Placed → ℕ
-entry_of w entry [] = entry
-entry_of w entry (p ∷ ps) = entry_of w (entry_past w entry (stated p)) ps
+unfoldable pub entry_address : Whole → ℕ → List Placed → ℕ
+entry_address w entry [] = entry
+entry_address w entry (p ∷ ps) = entry_address w (entry_past w entry (stated p)) ps
 
 -- text may be read and executed, data read and written
 abbrev pub text_range : List ℕ → Range
@@ -171,8 +171,8 @@ abbrev pub data_ranges : ℕ → List ℕ → List Range
 data_ranges text_len [] = []
 data_ranges text_len (b ∷ bs) = record { address = data_base text_len; size = length (b ∷ bs); read = true; write = true; execute = false; bytes = b ∷ bs } ∷ []
 
-abbrev pub program : Whole → List Placed → Executable
-program w ps = record { entry = entry_of w text_base ps; ranges = text_range (section_bytes w section.Text ps) ∷ data_ranges w.text_len (section_bytes w section.Data ps) }
+abbrev pub laid_program : Whole → List Placed → Executable
+laid_program w ps = record { entry = entry_address w text_base ps; ranges = text_range (section_bytes w section.Text ps) ∷ data_ranges w.text_len (section_bytes w section.Data ps) }
 
 abbrev pub first_cause : Whole → List Placed → Option (ℕ × AsmCause)
 first_cause w ps = first_fault 0 (map (λ p. cause_of (laid w p)) ps)
@@ -180,17 +180,17 @@ first_cause w ps = first_fault 0 (map (λ p. cause_of (laid w p)) ps)
 -- a text too short for an instruction is a fault of line 1
 abbrev pub meaning_by : Whole → List Placed → Option (ℕ × AsmCause) → Result Executable AsmFault
 meaning_by w ps (Some f) = Err (fault.Line (line_number f.0) f.1)
-meaning_by w ps None = if nat_lt w.text_len 4 then Err (fault.Line 1 cause.Range) else Ok (program w ps)
+meaning_by w ps None = if nat_lt w.text_len 4 then Err (fault.Line 1 cause.Range) else Ok (laid_program w ps)
 
 unfoldable pub meaning : Whole → List Placed → Result Executable AsmFault
 meaning w ps = meaning_by w ps (first_cause w ps)
 
 abbrev pub whole_of : List Placed → Whole
-whole_of ps = record { find = defined (definitions (map marked ps)); text_len = (ended start ps).text_len }
+whole_of ps = record { find = defined (definitions (map marked ps)); text_len = (ended nothing_reached ps).text_len }
 
 abbrev pub assembled_lines : List Placed → Result Executable AsmFault
 assembled_lines ps = meaning (whole_of ps) ps
 
 -- the program of a text, or its first fault
 unfoldable pub assembled : List ℕ → Result Executable AsmFault
-assembled text = assembled_lines (placed 0 start (lines text))
+assembled text = assembled_lines (placed 0 nothing_reached (lines text))

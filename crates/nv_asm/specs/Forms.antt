@@ -4,7 +4,7 @@ use Rattle.nv_isa.specs.declared.op.Op.{Op}
 use Rattle.nv_isa.specs.declared.op.Op.TheVariants as op
 use Rattle.nv_isa.specs.declared.op.Form.{Form}
 use Rattle.nv_isa.specs.declared.op.Form.TheVariants as form
-use Rattle.nv_isa.specs.Table.{row}
+use Rattle.nv_isa.specs.Table.{encoding}
 use Rattle.nv_asm.specs.declared.forms.Order.{Order}
 use Rattle.nv_asm.specs.declared.forms.Order.TheVariants as order
 use Rattle.nv_asm.specs.declared.forms.Shape.{Shape}
@@ -27,7 +27,7 @@ same_form _ _ = false
 
 -- the form of the operation's words
 abbrev pub has_form : Form → Op → Bool
-has_form f o = same_form (row o).form f
+has_form f o = same_form (encoding o).form f
 
 -- the operands of a shape are those of its operation
 abbrev pub is_lawful_shape : Shape → Bool

@@ -1,13 +1,9 @@
 pub mod Numbers
-pub mod Small
 pub mod Forms
 pub mod Strings
 pub mod Statements
-pub mod Bounds
-pub mod Views
 pub mod Places
-pub mod Lines
 pub mod Assembled
-pub mod Known
 pub mod Programs
 pub mod Faults
+pub mod inner

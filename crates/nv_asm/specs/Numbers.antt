@@ -17,13 +17,13 @@ registers =
     (codes "t6", 31) ∷ []
 
 -- x0 to x31
-abbrev pub numbered : List ℕ → Option ℕ
-numbered (x ∷ d ∷ []) = if (x == 120) && is_digit d then Some (d - 48) else None
-numbered (x ∷ d ∷ e ∷ []) = if (x == 120) && nat_le 49 d && is_digit d && is_digit e && nat_lt (10 * (d - 48) + (e - 48)) 32 then Some (10 * (d - 48) + (e - 48)) else None
-numbered _ = None
+abbrev pub numbered_register : List ℕ → Option ℕ
+numbered_register (x ∷ d ∷ []) = if (x == 120) && is_digit d then Some (d - 48) else None
+numbered_register (x ∷ d ∷ e ∷ []) = if (x == 120) && nat_le 49 d && is_digit d && is_digit e && nat_lt (10 * (d - 48) + (e - 48)) 32 then Some (10 * (d - 48) + (e - 48)) else None
+numbered_register _ = None
 
-unfoldable pub register : List ℕ → Option ℕ
-register text = option_or (numbered text) (defined registers text)
+unfoldable pub register_named : List ℕ → Option ℕ
+register_named text = option_or (numbered_register text) (defined registers text)
 
 abbrev pub decimal : List ℕ → Option ℕ
 decimal digits = if list_all is_ascii_digit digits && nat_lt 0 (length digits) then Some (digits_value 10 digits) else None

@@ -36,9 +36,9 @@ in_section section.Data (Ok s) = among_data s
 in_section _ r = r
 
 -- a statement that can't be read is passed over
-abbrev pub counted : Result Statement AsmCause → Statement
-counted (Ok s) = s
-counted (Err c) = Blank
+abbrev pub or_blank : Result Statement AsmCause → Statement
+or_blank (Ok s) = s
+or_blank (Err c) = Blank
 
 abbrev pub code_size : Code → ℕ
 code_size (Fixed words) = 4 * length words
@@ -74,7 +74,7 @@ pub record Placed : Type 0 where
   pub before : Reached
 
 abbrev pub stated : Placed → Statement
-stated p = counted p.read
+stated p = or_blank p.read
 
 abbrev pub place : Placed → Place
 place p = record { section = p.before.section; offset = begin (stated p) (here p.before) }
@@ -97,8 +97,8 @@ unfoldable pub placed : ℕ → Reached → List (List ℕ) → List Placed
 placed n before [] = []
 placed n before (line ∷ lines) = placed_line n before line ∷ placed (n + 1) (after (placed_line n before line)) lines
 
-abbrev pub start : Reached
-start = record { section = section.Text; text_len = 0; data_len = 0 }
+abbrev pub nothing_reached : Reached
+nothing_reached = record { section = section.Text; text_len = 0; data_len = 0 }
 
 -- how far the text has come after its last line
 unfoldable pub ended : Reached → List Placed → Reached

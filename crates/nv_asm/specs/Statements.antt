@@ -16,7 +16,7 @@ use Rattle.nv_asm.specs.declared.forms.Shape.{Shape}
 use Rattle.nv_asm.specs.declared.forms.Shape.TheVariants as shape
 use Rattle.nv_asm.specs.declared.forms.Kind.{Kind}
 use Rattle.nv_asm.specs.declared.forms.Kind.TheVariants as kind
-use Rattle.nv_asm.specs.Numbers.{register, is_number, number, number_of_8_bits, number_of_12_bits, number_of_32_bits}
+use Rattle.nv_asm.specs.Numbers.{register_named, is_number, number, number_of_8_bits, number_of_12_bits, number_of_32_bits}
 use Rattle.nv_asm.specs.Forms.{kinds, flags}
 use Rattle.nv_asm.specs.Strings.{string}
 
@@ -95,7 +95,7 @@ enclosed (b ∷ bs) = closed bs
 
 -- the number and the register of `imm(rs1)`
 abbrev pub base_register : List ℕ → Option ℕ
-base_register text = option_and_then register (enclosed (rest_after is_not_open text))
+base_register text = option_and_then register_named (enclosed (rest_after is_not_open text))
 
 abbrev pub displacement : List ℕ → Option (Option ℤ)
 displacement text = number_of_12_bits (prefix is_not_open text)
@@ -106,87 +106,87 @@ sole_register text = if length (prefix is_not_open text) == 0 then base_register
 
 unfoldable pub registers_of : Op → List ℕ → List ℕ → List ℕ → Option Statement
 registers_of o a b c = do
-  rd ← register a
-  rs1 ← register b
-  rs2 ← register c
+  rd ← register_named a
+  rs1 ← register_named b
+  rs2 ← register_named c
   Some (single (insn o rd rs1 rs2 (pos 0)))
 
 unfoldable pub immediate_of : Op → List ℕ → List ℕ → List ℕ → Option Statement
 immediate_of o a b c = do
-  rd ← register a
-  rs1 ← register b
+  rd ← register_named a
+  rs1 ← register_named b
   n ← number_of_12_bits c
   Some (with_number n (λ z. single (insn o rd rs1 0 z)))
 
 unfoldable pub shift_of : Op → List ℕ → List ℕ → List ℕ → Option Statement
 shift_of o a b c = do
-  rd ← register a
-  rs1 ← register b
+  rd ← register_named a
+  rs1 ← register_named b
   n ← number (pos 0) (pos 31) c
   Some (with_number n (λ z. single (insn o rd rs1 0 z)))
 
 unfoldable pub load_of : Op → List ℕ → List ℕ → Option Statement
 load_of o a b = do
-  rd ← register a
+  rd ← register_named a
   rs1 ← base_register b
   n ← displacement b
   Some (with_number n (λ z. single (insn o rd rs1 0 z)))
 
 unfoldable pub store_of : Op → List ℕ → List ℕ → Option Statement
 store_of o a b = do
-  rs2 ← register a
+  rs2 ← register_named a
   rs1 ← base_register b
   n ← displacement b
   Some (with_number n (λ z. single (insn o 0 rs1 rs2 z)))
 
-unfoldable pub reserved_of : Op → Order → List ℕ → List ℕ → Option Statement
-reserved_of o x a b = do
-  rd ← register a
+unfoldable pub reserved_statement : Op → Order → List ℕ → List ℕ → Option Statement
+reserved_statement o x a b = do
+  rd ← register_named a
   rs1 ← sole_register b
   Some (single (insn o rd rs1 0 (flags x)))
 
 unfoldable pub atomic_of : Op → Order → List ℕ → List ℕ → List ℕ → Option Statement
 atomic_of o x a b c = do
-  rd ← register a
-  rs2 ← register b
+  rd ← register_named a
+  rs2 ← register_named b
   rs1 ← sole_register c
   Some (single (insn o rd rs1 rs2 (flags x)))
 
 unfoldable pub branch_of : Op → List ℕ → List ℕ → List ℕ → Option Statement
 branch_of o a b c = do
-  rs1 ← register a
-  rs2 ← register b
+  rs1 ← register_named a
+  rs2 ← register_named b
   target ← name c
   Some (Instruction (Branch o rs1 rs2 target))
 
 unfoldable pub jump_and_link_of : List ℕ → List ℕ → Option Statement
 jump_and_link_of a b = do
-  rd ← register a
+  rd ← register_named a
   target ← name b
   Some (Instruction (Jump rd target))
 
 unfoldable pub upper_number_of : Op → List ℕ → List ℕ → Option Statement
 upper_number_of o a b = do
-  rd ← register a
+  rd ← register_named a
   n ← number (pos 0) (pos 0xfffff) b
   Some (with_number n (λ z. single (insn o rd 0 0 (cast_signed w32 (4096 * cast_unsigned w32 z)))))
 
 unfoldable pub load_number_of : List ℕ → List ℕ → Option Statement
 load_number_of a b = do
-  rd ← register a
+  rd ← register_named a
   n ← number_of_32_bits b
   Some (with_number n (λ z. Instruction (Fixed (loading rd (cast_unsigned w32 z)))))
 
 unfoldable pub load_address_of : List ℕ → List ℕ → Option Statement
 load_address_of a b = do
-  rd ← register a
+  rd ← register_named a
   target ← name b
   Some (Instruction (Load rd target))
 
 unfoldable pub move_of : List ℕ → List ℕ → Option Statement
 move_of a b = do
-  rd ← register a
-  rs1 ← register b
+  rd ← register_named a
+  rs1 ← register_named b
   Some (single (insn op.Addi rd rs1 0 (pos 0)))
 
 unfoldable pub jump_of : List ℕ → Option Statement
@@ -199,8 +199,8 @@ zeros (Some z) = Zero (cast_unsigned w32 z)
 unfoldable pub zeros_of : List ℕ → Option Statement
 zeros_of a = option_map zeros (number (pos 0) (pos 1048576) a)
 
-unfoldable pub entry_of : List ℕ → Option Statement
-entry_of a = option_map Entry (name a)
+unfoldable pub entry_statement : List ℕ → Option Statement
+entry_statement a = option_map Entry (name a)
 
 -- the statement of these operands, where they are of the shape
 abbrev pub of_none : Shape → Option Statement
@@ -212,13 +212,13 @@ of_none _ = None
 abbrev pub of_one : Shape → List ℕ → Option Statement
 of_one shape.Jump a = jump_of a
 of_one shape.Zero a = zeros_of a
-of_one shape.Entry a = entry_of a
+of_one shape.Entry a = entry_statement a
 of_one _ a = None
 
 abbrev pub of_two : Shape → List ℕ → List ℕ → Option Statement
 of_two (shape.Load o) a b = load_of o a b
 of_two (shape.Store o) a b = store_of o a b
-of_two (shape.Reserved o x) a b = reserved_of o x a b
+of_two (shape.Reserved o x) a b = reserved_statement o x a b
 of_two (shape.Upper o) a b = upper_number_of o a b
 of_two shape.JumpAndLink a b = jump_and_link_of a b
 of_two shape.LoadNumber a b = load_number_of a b
@@ -248,14 +248,14 @@ abbrev pub is_within : Option (Option ℤ) → Bool
 is_within read = is_some (unwrap_or read None)
 
 -- the number that was read
-abbrev pub value_of : Option (Option ℤ) → ℤ
-value_of read = unwrap_or (unwrap_or read None) (pos 0)
+abbrev pub number_or_zero : Option (Option ℤ) → ℤ
+number_or_zero read = unwrap_or (unwrap_or read None) (pos 0)
 
 abbrev pub is_byte : List ℕ → Bool
 is_byte text = is_within (number_of_8_bits text)
 
 abbrev pub byte_of : List ℕ → ℕ
-byte_of text = cast_unsigned w8 (value_of (number_of_8_bits text))
+byte_of text = cast_unsigned w8 (number_or_zero (number_of_8_bits text))
 
 abbrev pub bytes_within : List (List ℕ) → Statement
 bytes_within os = if list_all is_byte os then Bytes (map byte_of os) else OffData
@@ -271,7 +271,7 @@ abbrev pub is_word : List ℕ → Bool
 is_word text = is_name text || is_within (number_of_32_bits text)
 
 unfoldable pub word_of : List ℕ → Word
-word_of text = if is_name text then Address text else Value (cast_unsigned w32 (value_of (number_of_32_bits text)))
+word_of text = if is_name text then Address text else Value (cast_unsigned w32 (number_or_zero (number_of_32_bits text)))
 
 abbrev pub words_within : List (List ℕ) → Statement
 words_within os = if list_all is_word os then Words (map word_of os) else OffWords (map word_of os)
@@ -282,20 +282,20 @@ words_of os = if nat_lt 0 (length os) && list_all is_item os then Some (words_wi
 
 -- ---- statements
 
-abbrev pub read_of : Kind → List ℕ → Option Statement
-read_of (kind.Plain s) rest = formed s (operands rest)
-read_of kind.Bytes rest = bytes_of (operands rest)
-read_of kind.Words rest = words_of (operands rest)
-read_of kind.Ascii rest = option_map Bytes (string rest)
+abbrev pub kind_read : Kind → List ℕ → Option Statement
+kind_read (kind.Plain s) rest = formed s (operands rest)
+kind_read kind.Bytes rest = bytes_of (operands rest)
+kind_read kind.Words rest = words_of (operands rest)
+kind_read kind.Ascii rest = option_map Bytes (string rest)
 
 abbrev pub stated : Option Kind → List ℕ → Result Statement AsmCause
 stated None rest = Err cause.Mnemonic
-stated (Some k) rest = ok_or (read_of k rest) cause.Operand
+stated (Some k) rest = ok_or (kind_read k rest) cause.Operand
 
-abbrev pub begun : List ℕ → List ℕ → Result Statement AsmCause
-begun [] rest = Ok Blank
-begun (b ∷ bs) rest = stated (defined kinds (b ∷ bs)) rest
+abbrev pub statement_begun : List ℕ → List ℕ → Result Statement AsmCause
+statement_begun [] rest = Ok Blank
+statement_begun (b ∷ bs) rest = stated (defined kinds (b ∷ bs)) rest
 
 -- the statement of a first word and the rest after it, or why it has none
 unfoldable pub statement : List ℕ → List ℕ → Result Statement AsmCause
-statement word rest = begun word rest
+statement word rest = statement_begun word rest

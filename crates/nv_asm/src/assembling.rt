@@ -2,13 +2,14 @@
 ghost use Rattle.std.specs.Prelude.{◌≡◌, ◌^◌, ◌∷◌, true, not, ◌≢◌, ◌≤◌, ◌<◌, ◌+◌, ◌++◌, ◌%◌, Some, Ok, Err, IsTrue, IfOk, IfErr, OnOk, vec_len, length};
 ghost use Rattle.nv_text.specs.Lines.{lines};
 ghost use Rattle.nv_text.specs.Names.{defined};
-ghost use Rattle.nv_elf.specs.Elf.{range_of, executable_of};
-ghost use Rattle.nv_elf.specs.Written.{is_program, bytes_in};
+ghost use Rattle.nv_elf.specs.Elf.{segment_range, executable_of};
+ghost use Rattle.nv_elf.specs.Written.{is_program, range_bytes};
 ghost use Rattle.nv_asm.specs.declared.place.Section.TheVariants as section;
-ghost use Rattle.nv_asm.specs.Places.{placed, placed_line, start};
-ghost use Rattle.nv_asm.specs.Assembled.{laid, laid_in, first_cause, section_bytes, entry_of, text_base, text_range, data_ranges, assembled};
-ghost use Rattle.nv_asm.specs.Known.{known, IsWithin};
-ghost use Rattle.nv_asm.specs.Programs.{program_view, fault_of, IsLaidText, AddsLine, IsEntryAt};
+ghost use Rattle.nv_asm.specs.Places.{placed, placed_line, nothing_reached};
+ghost use Rattle.nv_asm.specs.Assembled.{laid, laid_in, first_cause, section_bytes, entry_address, text_base, text_range, data_ranges, assembled};
+ghost use Rattle.nv_asm.specs.inner.Known.{known, IsWithin};
+ghost use Rattle.nv_asm.specs.Programs.{program_view};
+ghost use Rattle.nv_asm.specs.inner.Programs.{fault_found, IsLaidText, AddsLine, IsEntryAt};
 
 use crate::fault::{AsmCause, AsmFault};
 use crate::labels::{START, labels};
@@ -69,8 +70,8 @@ fn lay_line(
 // The second pass: the bytes of a text's lines, or its first fault.
 fn lay(alloc: Global, names: &Names<Label>, text_len: u128, text: &[u8]) -> Result<Laid, AsmFault>
     requires { IsWithin names.now text_len }
-    ensures laid { IfOk result (λ l. IsLaidText (known names.now text_len) (placed 0 start (lines text.now)) l.text.items l.data.items l.entry) }
-    ensures fault { IfErr result (λ fault. fault ≢ AsmFault.Memory → fault_of (first_cause (known names.now text_len) (placed 0 start (lines text.now))) ≡ Some fault) }
+    ensures laid { IfOk result (λ l. IsLaidText (known names.now text_len) (placed 0 nothing_reached (lines text.now)) l.text.items l.data.items l.entry) }
+    ensures fault { IfErr result (λ fault. fault ≢ AsmFault.Memory → fault_found (first_cause (known names.now text_len) (placed 0 nothing_reached (lines text.now))) ≡ Some fault) }
 {
     let mut out = Laid {
         text: Vec::new(alloc),
@@ -90,7 +91,7 @@ fn lay(alloc: Global, names: &Names<Label>, text_len: u128, text: &[u8]) -> Resu
 fn segment(address: u32, write: bool, bytes: Vec<u8>) -> Segment
     requires low { address < 2 ^ 31 }
     requires short { length bytes.items ≤ 1048576 }
-    ensures { range_of result ≡ record { address = address; size = length bytes.items; read = true; write = write; execute = not write; bytes = bytes.items } }
+    ensures { segment_range result ≡ record { address = address; size = length bytes.items; read = true; write = write; execute = not write; bytes = bytes.items } }
 {
     Segment {
         address,
@@ -130,7 +131,7 @@ pub fn assemble(alloc: Global, text: &[u8]) -> Result<Program, AsmFault>
     ensures program { result ≢ Err AsmFault.Memory → program_view result ≡ assembled text.now }
     // so `nv_elf::write` takes it
     ensures sound { IfOk result (λ program. IsTrue (is_program (executable_of program))) }
-    ensures small { IfOk result (λ program. bytes_in (executable_of program).ranges ≤ 1048576) }
+    ensures small { IfOk result (λ program. range_bytes (executable_of program).ranges ≤ 1048576) }
 {
     let (names, text_len) = labels(alloc, text)?;
     let laid = lay(alloc, &names, text_len, text)?;

@@ -2,12 +2,12 @@
 ghost use Rattle.std.specs.Prelude.{◌≡◌, ◌≤◌, ◌^◌, ℕ, List, IfOk, OnOk, length};
 ghost use Rattle.nv_text.specs.Lines.{lines};
 ghost use Rattle.nv_text.specs.Names.{defined, defining};
-ghost use Rattle.nv_asm.specs.Places.{after, marked, placed, placed_line, size, start, stated};
-ghost use Rattle.nv_asm.specs.Bounds.{most_of};
+ghost use Rattle.nv_asm.specs.Places.{after, marked, placed, placed_line, size, nothing_reached, stated};
+ghost use Rattle.nv_asm.specs.inner.Bounds.{most_of};
 ghost use Rattle.nv_asm.specs.declared.place.Label.{Label};
-ghost use Rattle.nv_asm.specs.Lines.{placed_view, IsSmall};
+ghost use Rattle.nv_asm.specs.inner.Lines.{placed_view, IsSmall};
 ghost use Rattle.nv_asm.specs.Assembled.{Whole, whole_of};
-ghost use Rattle.nv_asm.specs.Known.{IsWithin, found, IsBelow};
+ghost use Rattle.nv_asm.specs.inner.Known.{IsWithin, defined_among, IsBelow};
 
 use crate::place::{Label, Reached, Section};
 use crate::placed::{Placed, placed_line};
@@ -24,7 +24,7 @@ pub const START: Reached = Reached {
 // Defines the line's label, if it has one that isn't defined yet.
 fn define<'a>(names: &mut Names<'a, Label>, placed: &Placed<'a>) -> Result<(), AllocError>
     requires { IsSmall placed.now.before }
-    ensures known { OnOk result ((rest : List (List ℕ × Label)) (name : List ℕ) → found names.old (defining (placed_view placed.now).label (marked (placed_view placed.now)).1 rest) name ≡ found names.new rest name) }
+    ensures known { OnOk result ((rest : List (List ℕ × Label)) (name : List ℕ) → defined_among names.old (defining (placed_view placed.now).label (marked (placed_view placed.now)).1 rest) name ≡ defined_among names.new rest name) }
     ensures below { OnOk result (IsBelow (2 ^ 121) names.old → IsBelow (2 ^ 121) names.new) }
 {
     let Some(name) = placed.label else {
@@ -49,7 +49,7 @@ fn take_up<'a>(
     requires { IsSmall before }
     ensures reached { IfOk result (λ reached. reached ≡ after (placed_line line before content.now)) }
     ensures small { IfOk result (λ reached. size (stated (placed_line line before content.now)) ≤ most_of (length content.now)) }
-    ensures known { OnOk result ((rest : List (List ℕ × Label)) (name : List ℕ) → found names.old (defining (placed_line line before content.now).label (marked (placed_line line before content.now)).1 rest) name ≡ found names.new rest name) }
+    ensures known { OnOk result ((rest : List (List ℕ × Label)) (name : List ℕ) → defined_among names.old (defining (placed_line line before content.now).label (marked (placed_line line before content.now)).1 rest) name ≡ defined_among names.new rest name) }
     ensures below { OnOk result (IsBelow (2 ^ 121) names.old → IsBelow (2 ^ 121) names.new) }
 {
     let placed = placed_line(alloc, line, before, content)?;
@@ -59,9 +59,9 @@ fn take_up<'a>(
 
 /// What each label is first defined as, and how long the text section is.
 pub fn labels<'a>(alloc: Global, text: &'a [u8]) -> Result<(Names<'a, Label>, u128), AllocError>
-    ensures names { IfOk result (λ found. (name : List ℕ) → defined found.0 name ≡ (whole_of (placed 0 start (lines text.now))).find name) }
-    ensures text_len { IfOk result (λ found. found.1 ≡ (whole_of (placed 0 start (lines text.now))).text_len) }
-    ensures within { IfOk result (λ found. IsWithin found.0 found.1) }
+    ensures names { IfOk result (λ defined_among. (name : List ℕ) → defined defined_among.0 name ≡ (whole_of (placed 0 nothing_reached (lines text.now))).find name) }
+    ensures text_len { IfOk result (λ defined_among. defined_among.1 ≡ (whole_of (placed 0 nothing_reached (lines text.now))).text_len) }
+    ensures within { IfOk result (λ defined_among. IsWithin defined_among.0 defined_among.1) }
 {
     let mut names = Names::new(alloc);
     let mut reached = START;

@@ -4,13 +4,13 @@ ghost use Rattle.std.specs.List.{list_any};
 ghost use Rattle.std.specs.Int.{w32, to_le_bytes};
 ghost use Rattle.nv_text.specs.Names.{defined};
 ghost use Rattle.nv_isa.specs.declared.op.Op.TheVariants as op;
-ghost use Rattle.nv_isa.specs.Spelling.{encoded, low};
+ghost use Rattle.nv_isa.specs.Spelling.{encoded, low_bits};
 ghost use Rattle.nv_asm.specs.Statements.{insn, word_of};
-ghost use Rattle.nv_asm.specs.Views.{view, code_view, word_view, words_view, texts};
+ghost use Rattle.nv_asm.specs.inner.Views.{view, code_view, word_view, words_view, operand_texts};
 ghost use Rattle.nv_asm.specs.Places.{stated};
-ghost use Rattle.nv_asm.specs.Lines.{placed_view, laid_view, IsSmall};
-ghost use Rattle.nv_asm.specs.Assembled.{data_base, address, address_of, is_undefined, is_entry, is_entry_place, word_lacks, code_lacks, lacks, distance, word_value, code_words, le_words, content, is_twice, is_long, padding, laid_by, laid, entry_past};
-ghost use Rattle.nv_asm.specs.Known.{known, IsWithin};
+ghost use Rattle.nv_asm.specs.inner.Lines.{placed_view, laid_view, IsSmall};
+ghost use Rattle.nv_asm.specs.Assembled.{data_base, address, address_of, is_undefined, is_entry, is_entry_place, word_lacks, code_lacks, lacks, distance, word_value, code_words, le_words, content, is_twice, is_long, padding_before, laid_by, laid, entry_past};
+ghost use Rattle.nv_asm.specs.inner.Known.{known, IsWithin};
 
 use crate::code::{Branch, Code, Insns, Statement, Word};
 use crate::fault::AsmCause;
@@ -99,7 +99,7 @@ fn word_lacks(names: &Names<Label>, text_len: u128, word: Word<'_>) -> bool
 }
 
 fn some_word_lacks(names: &Names<Label>, text_len: u128, operands: &[&[u8]]) -> bool
-    ensures { result ≡ list_any (word_lacks (known names.now text_len)) (map word_of (texts operands.now)) }
+    ensures { result ≡ list_any (word_lacks (known names.now text_len)) (map word_of (operand_texts operands.now)) }
 {
     for operand in operands {
         if word_lacks(names, text_len, word_of(operand)) {
@@ -144,7 +144,7 @@ fn distance(most: u128, at: u128, target: u128) -> Option<i32>
     requires target { target < 2 ^ 122 }
     ensures value { result ≡ distance most at target }
     ensures within { IfSome result (λ z. (neg_ℤ (pos most) ≤ℤ z) × (z ≤ℤ pos (most - 2))) }
-    ensures even { IfSome result (λ z. low 1 z ≡ 0) }
+    ensures even { IfSome result (λ z. low_bits 1 z ≡ 0) }
 {
     if at > target + most || target + 2 > at + most || (at + target) % 2 != 0 {
         return None;
@@ -158,7 +158,7 @@ fn distance(most: u128, at: u128, target: u128) -> Option<i32>
 
 fn branch_word(branch: Branch<'_>, imm: i32) -> u32
     requires within { (neg_ℤ (pos 4096) ≤ℤ imm) × (imm ≤ℤ pos 4094) }
-    requires even { low 1 imm ≡ 0 }
+    requires even { low_bits 1 imm ≡ 0 }
     ensures { result ≡ encoded (insn branch.entry.op 0 branch.entry.rs1 branch.entry.rs2 imm) }
 {
     encode(&Insn {
@@ -172,7 +172,7 @@ fn branch_word(branch: Branch<'_>, imm: i32) -> u32
 
 fn jump_word(rd: Register, imm: i32) -> u32
     requires within { (neg_ℤ (pos 1048576) ≤ℤ imm) × (imm ≤ℤ pos 1048574) }
-    requires even { low 1 imm ≡ 0 }
+    requires even { low_bits 1 imm ≡ 0 }
     ensures { result ≡ encoded (insn op.Jal rd.number 0 0 imm) }
 {
     encode(&Insn {
@@ -244,7 +244,7 @@ fn words_bytes(
     operands: &[&[u8]],
 ) -> Result<Vec<u8>, AllocError>
     requires { IsWithin names.now text_len }
-    ensures { IfOk result (λ bytes. bytes.items ≡ le_words (map (word_value (known names.now text_len)) (map word_of (texts operands.now)))) }
+    ensures { IfOk result (λ bytes. bytes.items ≡ le_words (map (word_value (known names.now text_len)) (map word_of (operand_texts operands.now)))) }
 {
     let mut bytes = Vec::new(alloc);
     for operand in operands {
@@ -306,9 +306,9 @@ fn is_long(reached: Reached) -> bool
 }
 
 // Zeros up to where the statement begins.
-fn padding(alloc: Global, placed: &Placed<'_>) -> Result<Vec<u8>, AllocError>
+fn padding_before(alloc: Global, placed: &Placed<'_>) -> Result<Vec<u8>, AllocError>
     requires { IsSmall placed.now.before }
-    ensures { IfOk result (λ bytes. bytes.items ≡ padding (placed_view placed.now)) }
+    ensures { IfOk result (λ bytes. bytes.items ≡ padding_before (placed_view placed.now)) }
 {
     let count = placed.place().offset - placed.here();
     zeros(alloc, count as usize)
@@ -336,7 +336,7 @@ fn laid_statement(
     if is_long(placed.after()) {
         return Ok(Err(AsmCause::Range));
     }
-    let mut bytes = padding(alloc, placed)?;
+    let mut bytes = padding_before(alloc, placed)?;
     bytes.extend_from_slice(&content)?;
     Ok(Ok(bytes))
 }

@@ -6,8 +6,8 @@ ghost use Rattle.std.specs.Str.Parse.{digits_value, IsNumeral};
 ghost use Rattle.nv_text.specs.Names.{defined};
 ghost use Rattle.nv_text.specs.Lines.{is_digit};
 ghost use Rattle.std.specs.Char.{is_ascii_digit, is_ascii_hexdigit};
-ghost use Rattle.nv_asm.specs.Numbers.{registers, register, numbered, decimal, hexadecimal, magnitude, signed, literal, number, number_of_32_bits, is_number};
-ghost use Rattle.nv_asm.specs.Small.{small, small_signed, with_sign, IsDigits};
+ghost use Rattle.nv_asm.specs.Numbers.{registers, register_named, numbered_register, decimal, hexadecimal, magnitude, signed, literal, number, number_of_32_bits, is_number};
+ghost use Rattle.nv_asm.specs.inner.Small.{small, small_signed, with_sign, IsDigits};
 
 use nv_text::find;
 
@@ -69,8 +69,8 @@ fn is_digit(byte: u8) -> bool
 }
 
 // x0 to x31.
-fn numbered(text: &[u8]) -> Option<u8>
-    ensures value { result ≡ numbered text.now }
+fn numbered_register(text: &[u8]) -> Option<u8>
+    ensures value { result ≡ numbered_register text.now }
     ensures small { IfSome result (λ number. number < 32) }
 {
     match text {
@@ -84,11 +84,11 @@ fn numbered(text: &[u8]) -> Option<u8>
 }
 
 /// The register of a name.
-#[tactic(auto, unfolding(crate::specs::Numbers::register))]
+#[tactic(auto, unfolding(crate::specs::Numbers::register_named))]
 pub fn register_of(text: &[u8]) -> Option<Register>
-    ensures { option_map (λ r. r.number) result ≡ register text.now }
+    ensures { option_map (λ r. r.number) result ≡ register_named text.now }
 {
-    let number = match numbered(text) {
+    let number = match numbered_register(text) {
         Some(number) => number,
         None => named(text)?,
     };

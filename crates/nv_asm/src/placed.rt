@@ -2,10 +2,10 @@
 ghost use Rattle.std.specs.Prelude.{◌≡◌, ◌≤◌, ◌<◌, ◌+◌, ◌*◌, ◌^◌, length, IfOk};
 ghost use Rattle.nv_text.specs.Parts.{parts_of};
 ghost use Rattle.nv_asm.specs.Statements.{statement};
-ghost use Rattle.nv_asm.specs.Places.{here, filled, among_data, in_section, size, code_size, begin, past, stated, counted, place, after, line_parts, placed_parts, placed_line};
-ghost use Rattle.nv_asm.specs.Bounds.{most_of};
-ghost use Rattle.nv_asm.specs.Views.{view, code_view, result_view};
-ghost use Rattle.nv_asm.specs.Lines.{placed_view, IsSmall};
+ghost use Rattle.nv_asm.specs.Places.{here, filled, among_data, in_section, size, code_size, begin, past, stated, or_blank, place, after, line_parts, placed_parts, placed_line};
+ghost use Rattle.nv_asm.specs.inner.Bounds.{most_of};
+ghost use Rattle.nv_asm.specs.inner.Views.{view, code_view, result_view};
+ghost use Rattle.nv_asm.specs.inner.Lines.{placed_view, IsSmall};
 
 use crate::code::{Code, Insns, Statement};
 use crate::fault::AsmCause;
@@ -54,7 +54,7 @@ fn filled(section: Section, len: u128, reached: Reached) -> Reached
 
 fn among_data(statement: Statement<'_>) -> Result<Statement<'_>, AsmCause>
     ensures value { result_view result ≡ among_data (view statement.entry) }
-    ensures small { size (counted (result_view result)) ≤ size (view statement.entry) }
+    ensures small { size (or_blank (result_view result)) ≤ size (view statement.entry) }
 {
     match statement {
         Statement::Instruction(_) | Statement::OffInstruction => Err(AsmCause::Operand),
@@ -68,7 +68,7 @@ fn in_section<'a>(
     read: Result<Statement<'a>, AsmCause>,
 ) -> Result<Statement<'a>, AsmCause>
     ensures value { result_view result ≡ in_section section (result_view read.entry) }
-    ensures small { size (counted (result_view result)) ≤ size (counted (result_view read.entry)) }
+    ensures small { size (or_blank (result_view result)) ≤ size (or_blank (result_view read.entry)) }
 {
     match (section, read) {
         (Section::Data, Ok(statement)) => among_data(statement),

@@ -2,14 +2,14 @@
 ghost use Rattle.std.specs.Prelude.{◌≡◌, ◌≤◌, ◌<◌, ◌+◌, ◌*◌, ◌^◌, ℕ, ℤ, pos, neg_ℤ, ◌≤ℤ◌, IsTrue, [], ◌∷◌, map, length, option_map, option_and_then, IfOk, IfSome};
 ghost use Rattle.std.specs.List.{list_all, prefix_len};
 ghost use Rattle.std.specs.Int.{w32, cast_unsigned};
-ghost use Rattle.nv_isa.specs.Spelling.{encoded, Fits};
+ghost use Rattle.nv_isa.specs.Spelling.{encoded, HasWord};
 ghost use Rattle.nv_isa.specs.declared.op.Form.TheVariants as form;
 ghost use Rattle.nv_asm.specs.Numbers.{is_number, number_of_8_bits, number_of_12_bits, number_of_32_bits};
 ghost use Rattle.nv_asm.specs.Forms.{has_form, is_lawful, is_lawful_shape};
-ghost use Rattle.nv_asm.specs.Statements.{closed, enclosed, is_not_open, base_register, displacement, sole_register, name, upper_of, lower_of, loading, registers_of, immediate_of, shift_of, load_of, store_of, reserved_of, atomic_of, branch_of, jump_and_link_of, upper_number_of, load_number_of, load_address_of, move_of, jump_of, zeros_of, entry_of, of_none, of_one, of_two, of_three, formed, single, is_byte, byte_of, bytes_of, is_item, is_word, word_of, words_of, read_of, statement};
-ghost use Rattle.nv_asm.specs.Places.{size, counted};
-ghost use Rattle.nv_asm.specs.Bounds.{most_of};
-ghost use Rattle.nv_asm.specs.Views.{view, word_view, words_view, result_view, texts};
+ghost use Rattle.nv_asm.specs.Statements.{closed, enclosed, is_not_open, base_register, displacement, sole_register, name, upper_of, lower_of, loading, registers_of, immediate_of, shift_of, load_of, store_of, reserved_statement, atomic_of, branch_of, jump_and_link_of, upper_number_of, load_number_of, load_address_of, move_of, jump_of, zeros_of, entry_statement, of_none, of_one, of_two, of_three, formed, single, is_byte, byte_of, bytes_of, is_item, is_word, word_of, words_of, kind_read, statement};
+ghost use Rattle.nv_asm.specs.Places.{size, or_blank};
+ghost use Rattle.nv_asm.specs.inner.Bounds.{most_of};
+ghost use Rattle.nv_asm.specs.inner.Views.{view, word_view, words_view, result_view, operand_texts};
 
 use crate::code::{Branch, Code, Insns, Statement, Word};
 use crate::fault::AsmCause;
@@ -35,7 +35,7 @@ fn number_of_12_bits(text: &[u8]) -> Option<Option<i32>>
 }
 
 fn single<'a>(insn: Insn) -> Statement<'a>
-    requires { Fits insn }
+    requires { HasWord insn }
     ensures { view result ≡ single insn }
 {
     Statement::Instruction(Code::Fixed(Insns::One(encode(&insn))))
@@ -238,10 +238,10 @@ fn store<'a>(op: Op, rs2: &[u8], to: &[u8]) -> Option<Statement<'a>>
     }))
 }
 
-#[tactic(auto, unfolding(crate::specs::Statements::reserved_of))]
+#[tactic(auto, unfolding(crate::specs::Statements::reserved_statement))]
 fn reserved<'a>(op: Op, order: Order, rd: &[u8], at: &[u8]) -> Option<Statement<'a>>
     requires { IsTrue (has_form form.Reserve op) }
-    ensures value { option_map view result ≡ reserved_of op order rd.now at.now }
+    ensures value { option_map view result ≡ reserved_statement op order rd.now at.now }
     ensures small { IfSome result (λ s. size (view s) ≤ 1048576) }
 {
     let rd = register_of(rd)?;
@@ -390,9 +390,9 @@ fn zeros<'a>(count: &[u8]) -> Option<Statement<'a>>
     }
 }
 
-#[tactic(auto, unfolding(crate::specs::Statements::entry_of))]
+#[tactic(auto, unfolding(crate::specs::Statements::entry_statement))]
 fn entry(target: &[u8]) -> Option<Statement<'_>>
-    ensures value { option_map view result ≡ entry_of target.now }
+    ensures value { option_map view result ≡ entry_statement target.now }
     ensures small { IfSome result (λ s. size (view s) ≤ 1048576) }
 {
     Some(Statement::Entry(name(target)?))
@@ -459,7 +459,7 @@ fn of_three<'a>(shape: Shape, a: &[u8], b: &[u8], c: &'a [u8]) -> Option<Stateme
 #[tactic(auto, unfolding(crate::specs::Statements::formed))]
 fn formed<'a>(shape: Shape, operands: &[&'a [u8]]) -> Option<Statement<'a>>
     requires { IsTrue (is_lawful_shape shape) }
-    ensures value { option_map view result ≡ formed shape (texts operands.now) }
+    ensures value { option_map view result ≡ formed shape (operand_texts operands.now) }
     ensures small { IfSome result (λ s. size (view s) ≤ 1048576) }
 {
     match operands {
@@ -514,7 +514,7 @@ pub fn word_of(text: &[u8]) -> Word<'_>
 }
 
 fn are_numbers(operands: &[&[u8]]) -> bool
-    ensures { result ≡ list_all is_number (texts operands.now) }
+    ensures { result ≡ list_all is_number (operand_texts operands.now) }
 {
     for operand in operands {
         if !is_number(operand) {
@@ -525,7 +525,7 @@ fn are_numbers(operands: &[&[u8]]) -> bool
 }
 
 fn are_bytes(operands: &[&[u8]]) -> bool
-    ensures { result ≡ list_all is_byte (texts operands.now) }
+    ensures { result ≡ list_all is_byte (operand_texts operands.now) }
 {
     for operand in operands {
         if !is_byte(operand) {
@@ -536,7 +536,7 @@ fn are_bytes(operands: &[&[u8]]) -> bool
 }
 
 fn are_items(operands: &[&[u8]]) -> bool
-    ensures { result ≡ list_all is_item (texts operands.now) }
+    ensures { result ≡ list_all is_item (operand_texts operands.now) }
 {
     for operand in operands {
         if !is_item(operand) {
@@ -547,7 +547,7 @@ fn are_items(operands: &[&[u8]]) -> bool
 }
 
 fn are_words(operands: &[&[u8]]) -> bool
-    ensures { result ≡ list_all is_word (texts operands.now) }
+    ensures { result ≡ list_all is_word (operand_texts operands.now) }
 {
     for operand in operands {
         if !is_word(operand) {
@@ -558,7 +558,7 @@ fn are_words(operands: &[&[u8]]) -> bool
 }
 
 fn byte_list(alloc: Global, operands: &[&[u8]]) -> Result<Vec<u8>, AllocError>
-    ensures value { IfOk result (λ bytes. bytes.items ≡ map byte_of (texts operands.now)) }
+    ensures value { IfOk result (λ bytes. bytes.items ≡ map byte_of (operand_texts operands.now)) }
     ensures len { IfOk result (λ bytes. length bytes.items ≡ length operands.now) }
 {
     let mut bytes = Vec::new(alloc);
@@ -571,7 +571,7 @@ fn byte_list(alloc: Global, operands: &[&[u8]]) -> Result<Vec<u8>, AllocError>
 // The statement of `.byte`.
 #[tactic(auto, unfolding(crate::specs::Statements::bytes_of))]
 fn bytes<'a>(alloc: Global, operands: &[&[u8]]) -> Result<Option<Statement<'a>>, AllocError>
-    ensures value { IfOk result (λ found. option_map view found ≡ bytes_of (texts operands.now)) }
+    ensures value { IfOk result (λ found. option_map view found ≡ bytes_of (operand_texts operands.now)) }
     ensures small { IfOk result (λ found. IfSome found (λ s. size (view s) ≤ length operands.now)) }
 {
     if operands.is_empty() || !are_numbers(operands) {
@@ -586,7 +586,7 @@ fn bytes<'a>(alloc: Global, operands: &[&[u8]]) -> Result<Option<Statement<'a>>,
 // The statement of `.word`.
 #[tactic(auto, unfolding(crate::specs::Statements::words_of))]
 fn words(operands: Vec<&[u8]>) -> Option<Statement<'_>>
-    ensures value { option_map view result ≡ words_of (texts operands.entry.items) }
+    ensures value { option_map view result ≡ words_of (operand_texts operands.entry.items) }
     ensures small { IfSome result (λ s. size (view s) ≤ 4 * length operands.entry.items) }
 {
     if operands.is_empty() || !are_items(&operands) {
@@ -601,7 +601,7 @@ fn words(operands: Vec<&[u8]>) -> Option<Statement<'_>>
 // The statement of a kind, where its operands are of its form.
 fn read<'a>(alloc: Global, kind: Kind, rest: &'a [u8]) -> Result<Option<Statement<'a>>, AllocError>
     requires { IsTrue (is_lawful kind) }
-    ensures value { IfOk result (λ found. option_map view found ≡ read_of kind rest.now) }
+    ensures value { IfOk result (λ found. option_map view found ≡ kind_read kind rest.now) }
     ensures small { IfOk result (λ found. IfSome found (λ s. size (view s) ≤ most_of (length rest.now))) }
 {
     match kind {
@@ -629,7 +629,7 @@ pub fn statement_of<'a>(
     rest: &'a [u8],
 ) -> Result<Result<Statement<'a>, AsmCause>, AllocError>
     ensures value { IfOk result (λ stated. result_view stated ≡ statement word.now rest.now) }
-    ensures small { IfOk result (λ stated. size (counted (result_view stated)) ≤ most_of (length rest.now)) }
+    ensures small { IfOk result (λ stated. size (or_blank (result_view stated)) ≤ most_of (length rest.now)) }
 {
     if word.is_empty() {
         return Ok(Ok(Statement::Blank));

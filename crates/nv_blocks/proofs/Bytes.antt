@@ -5,7 +5,7 @@ use Rattle.std.proofs.lemmas.Bool.{cases_lt}
 use Rattle.std.proofs.lemmas.Bool.Decides.{nat_tests}
 use Rattle.std.proofs.lemmas.List.{ext_get_or, length-take, length-drop, length-append, length-replicate, get_or-take, get_or-drop, get_or_past, get_or_append_left, get_or-append_right, get_or-replicate}
 use Rattle.std.proofs.lemmas.List.FromFn.{length-map-range_with_len, get_or-map-range_with_len}
-use Rattle.nv_blocks.specs.Contents.{block_at, over, with_bytes, part_of}
+use Rattle.nv_blocks.specs.Contents.{block_at, overwritten, with_bytes, part_of}
 
 -- the value of a function at each number below a length, and past it where it is 0 there
 pub listed : (f : ℕ → ℕ) (len : ℕ) → ((p : ℕ) → len ≤ p → f p ≡ 0) → (p : ℕ) → get_or (map f (range_with_len 0 len)) p 0 ≡ f p
@@ -25,13 +25,13 @@ held_at [] k = refl
 held_at (b ∷ bs) zero = refl
 held_at (b ∷ bs) (suc k) = held_at bs k
 
-pub over_in : (place : ℕ) (bytes : List ℕ) (x p : ℕ) → place ≤ p → p < place + length bytes → over place bytes x p ≡ get_or bytes (p - place) 0
+pub over_in : (place : ℕ) (bytes : List ℕ) (x p : ℕ) → place ≤ p → p < place + length bytes → overwritten place bytes x p ≡ get_or bytes (p - place) 0
 over_in place bytes x p h l = grind (arith, nat_tests)
 
-pub over_below : (place : ℕ) (bytes : List ℕ) (x p : ℕ) → p < place → over place bytes x p ≡ x
+pub over_below : (place : ℕ) (bytes : List ℕ) (x p : ℕ) → p < place → overwritten place bytes x p ≡ x
 over_below place bytes x p h = grind (arith, nat_tests)
 
-pub over_past : (place : ℕ) (bytes : List ℕ) (x p : ℕ) → place + length bytes ≤ p → over place bytes x p ≡ x
+pub over_past : (place : ℕ) (bytes : List ℕ) (x p : ℕ) → place + length bytes ≤ p → overwritten place bytes x p ≡ x
 over_past place bytes x p h = grind (arith, nat_tests)
 
 -- what stands before a write, with the gap
@@ -50,7 +50,7 @@ prefix_at old place p h =
     ]
 
 -- a byte after a write
-pub with_bytes_at : (old : List ℕ) (place : ℕ) (bytes : List ℕ) (p : ℕ) → get_or (with_bytes old place bytes) p 0 ≡ over place bytes (get_or old p 0) p
+pub with_bytes_at : (old : List ℕ) (place : ℕ) (bytes : List ℕ) (p : ℕ) → get_or (with_bytes old place bytes) p 0 ≡ overwritten place bytes (get_or old p 0) p
 with_bytes_at old place bytes p =
     let before = prefix old place in
     let rest = drop (place + length bytes) old in
@@ -71,7 +71,7 @@ with_bytes_length old place bytes =
     omega (arith, prefix_length old place, length-append (prefix old place) bytes, length-append (prefix old place ++ bytes) (drop (place + length bytes) old), length-drop (place + length bytes) old)
 
 -- a write over the function's values
-pub written : (f g : ℕ → ℕ) (len place : ℕ) (bytes : List ℕ) → ((p : ℕ) → g p ≡ over place bytes (f p) p) → ((p : ℕ) → len ≤ p → f p ≡ 0)
+pub written : (f g : ℕ → ℕ) (len place : ℕ) (bytes : List ℕ) → ((p : ℕ) → g p ≡ overwritten place bytes (f p) p) → ((p : ℕ) → len ≤ p → f p ≡ 0)
     → map g (range_with_len 0 (max len (place + length bytes))) ≡ with_bytes (map f (range_with_len 0 len)) place bytes
 written f g len place bytes h z =
     let old = map f (range_with_len 0 len) in
@@ -79,15 +79,11 @@ written f g len place bytes h z =
     let long : length (map g (range_with_len 0 n)) ≡ n = length-map-range_with_len g 0 n in
     let before : length old ≡ len = length-map-range_with_len f 0 len in
     ext_get_or 0 (map g (range_with_len 0 n)) (with_bytes old place bytes) (long ∙ sym (with_bytes_length old place bytes ∙ ap (λ (m : ℕ). max m (place + length bytes)) before))
-    (λ i l. get_or-map-range_with_len g 0 n i i 0 (omega arith) (omega arith) ∙ h i ∙ ap (λ (x : ℕ). over place bytes x i) (sym (listed f len z i)) ∙ sym (with_bytes_at old place bytes i))
-
--- after a write the function is 0 past the new end
-pub zero_past : (f g : ℕ → ℕ) (len place : ℕ) (bytes : List ℕ) → ((p : ℕ) → g p ≡ over place bytes (f p) p) → ((p : ℕ) → len ≤ p → f p ≡ 0) → (p : ℕ) → max len (place + length bytes) ≤ p → g p ≡ 0
-zero_past f g len place bytes h z p l = h p ∙ over_past place bytes (f p) p (omega arith) ∙ z p (omega arith)
+    (λ i l. get_or-map-range_with_len g 0 n i i 0 (omega arith) (omega arith) ∙ h i ∙ ap (λ (x : ℕ). overwritten place bytes x i) (sym (listed f len z i)) ∙ sym (with_bytes_at old place bytes i))
 
 -- a write in two parts is the write of both
 pub over_more : (place done end : ℕ) (bytes : List ℕ) (x p : ℕ) → done ≤ end → end ≤ length bytes
-    → over (place + done) (take (end - done) (drop done bytes)) (over place (take done bytes) x p) p ≡ over place (take end bytes) x p
+    → overwritten (place + done) (take (end - done) (drop done bytes)) (overwritten place (take done bytes) x p) p ≡ overwritten place (take end bytes) x p
 over_more place done end bytes x p d e =
     let first = take done bytes in
     let second = take (end - done) (drop done bytes) in
@@ -96,14 +92,14 @@ over_more place done end bytes x p d e =
     let second_long : length second ≡ end - done = omega (arith, length-take (end - done) (drop done bytes), length-drop done bytes) in
     let both_long : length both ≡ end = omega (arith, length-take end bytes) in
     elim (cases_lt p (place + done)) [
-      | inl l ↦ over_below (place + done) second (over place first x p) p l ∙ elim (cases_lt p place) [
+      | inl l ↦ over_below (place + done) second (overwritten place first x p) p l ∙ elim (cases_lt p place) [
         | inl b ↦ over_below place first x p b ∙ sym (over_below place both x p b)
         | inr g ↦ over_in place first x p g (omega arith) ∙ get_or-take done bytes (p - place) 0 (omega arith) ∙ sym (over_in place both x p g (omega arith) ∙ get_or-take end bytes (p - place) 0 (omega arith))
       ]
       | inr g ↦ elim (cases_lt p (place + end)) [
-        | inl l ↦ over_in (place + done) second (over place first x p) p g (omega arith) ∙ get_or-take (end - done) (drop done bytes) (p - (place + done)) 0 (omega arith) ∙ get_or-drop done bytes (p - (place + done)) 0
+        | inl l ↦ over_in (place + done) second (overwritten place first x p) p g (omega arith) ∙ get_or-take (end - done) (drop done bytes) (p - (place + done)) 0 (omega arith) ∙ get_or-drop done bytes (p - (place + done)) 0
             ∙ ap (λ (n : ℕ). get_or bytes n 0) (omega arith) ∙ sym (over_in place both x p (omega arith) (omega arith) ∙ get_or-take end bytes (p - place) 0 (omega arith))
-        | inr m ↦ over_past (place + done) second (over place first x p) p (omega arith) ∙ over_past place first x p (omega arith) ∙ sym (over_past place both x p (omega arith))
+        | inr m ↦ over_past (place + done) second (overwritten place first x p) p (omega arith) ∙ over_past place first x p (omega arith) ∙ sym (over_past place both x p (omega arith))
       ]
     ]
 

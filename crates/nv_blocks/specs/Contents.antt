@@ -16,16 +16,16 @@ abbrev pub block_at : List (Option (List ℕ)) → ℕ → Option (List ℕ)
 block_at blocks k = slice_index_or blocks k None
 
 -- byte p of a file
-abbrev pub byte_at : List (Option (List ℕ)) → ℕ → ℕ
-byte_at blocks p = byte_in (block_at blocks (p / 4096)) (p % 4096)
+abbrev pub content_byte : List (Option (List ℕ)) → ℕ → ℕ
+content_byte blocks p = byte_in (block_at blocks (p / 4096)) (p % 4096)
 
 -- what stands at p after a write of these bytes at a place, where a byte stood before
-abbrev pub over : ℕ → List ℕ → ℕ → ℕ → ℕ
-over place bytes before p = if nat_le place p && nat_lt p (place + length bytes) then slice_index bytes (p - place) else before
+abbrev pub overwritten : ℕ → List ℕ → ℕ → ℕ → ℕ
+overwritten place bytes before p = if nat_le place p && nat_lt p (place + length bytes) then slice_index bytes (p - place) else before
 
 -- the blocks, of which a file has so many bytes
-abbrev pub content_of : List (Option (List ℕ)) → ℕ → Content
-content_of blocks len = record { bytes = map (byte_at blocks) (range_with_len 0 len); held = map is_some blocks }
+abbrev pub content_of_blocks : List (Option (List ℕ)) → ℕ → Content
+content_of_blocks blocks len = record { bytes = map (content_byte blocks) (range_with_len 0 len); held = map is_some blocks }
 
 -- the block of each byte of a range takes memory
 abbrev pub HoldsRange : List Bool → ℕ → ℕ → Type 0

@@ -1,6 +1,6 @@
 // One block: its bytes, or nothing yet.
 ghost use Rattle.std.specs.Prelude.{◌≡◌, ◌+◌, ◌≤◌, ◌<◌, ℕ, true, is_some, length, None, slice_index, IfOk, OnOk, OnErr, vec_len};
-ghost use Rattle.nv_blocks.specs.Contents.{byte_in, over};
+ghost use Rattle.nv_blocks.specs.Contents.{byte_in, overwritten};
 
 use std::alloc::{AllocError, Global};
 use std::marker::Model;
@@ -69,7 +69,7 @@ impl Block {
         requires held { is_some self.old ≡ true }
         requires inside { at + length bytes.now ≤ 4096 }
         ensures held { is_some self.new ≡ true }
-        ensures bytes { (j : ℕ) → byte_in self.new j ≡ over at bytes.now (byte_in self.old j) j }
+        ensures bytes { (j : ℕ) → byte_in self.new j ≡ overwritten at bytes.now (byte_in self.old j) j }
     {
         match &mut self.bytes {
             Some(held) => held[at..at + bytes.len()].copy_from_slice(bytes),

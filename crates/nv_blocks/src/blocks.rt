@@ -18,13 +18,13 @@ pub struct Blocks {
 
 impl Model for Blocks {
     ghost use Rattle.std.specs.Prelude.{◌≡◌, ℕ, ◌≤◌};
-    ghost use Rattle.nv_blocks.specs.Contents.{Content, content_of, byte_at};
+    ghost use Rattle.nv_blocks.specs.Contents.{Content, content_of_blocks, content_byte};
 
     ghost Value = { Content };
 
-    ghost view = { λ b. content_of b.blocks.items b.len };
+    ghost view = { λ b. content_of_blocks b.blocks.items b.len };
 
-    ghost invariant = { λ b. (p : ℕ) → b.len ≤ p → byte_at b.blocks.items p ≡ 0 };
+    ghost invariant = { λ b. (p : ℕ) → b.len ≤ p → content_byte b.blocks.items p ≡ 0 };
 }
 
 impl Blocks {

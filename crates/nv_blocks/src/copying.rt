@@ -1,13 +1,13 @@
 // Copies between bytes and the blocks that they lie in.
 ghost use Rattle.std.specs.Prelude.{◌≡◌, ℕ, ◌+◌, ◌≤◌, ◌<◌, ◌^◌, ◌/◌, ◌%◌, true, length, map, is_some, slice_index};
-ghost use Rattle.nv_blocks.specs.Contents.{byte_at, block_at, over, HoldsRange};
+ghost use Rattle.nv_blocks.specs.Contents.{content_byte, block_at, overwritten, HoldsRange};
 
 use crate::block::{BLOCK, Block};
 
 // Copies bytes that lie in one block.
 fn read_one(blocks: &[Block], place: usize, into: &mut [u8])
     requires { place % 4096 + length into.old ≤ 4096 }
-    ensures { (k : ℕ) → k < length into.old → slice_index into.new k ≡ byte_at blocks.now (place + k) }
+    ensures { (k : ℕ) → k < length into.old → slice_index into.new k ≡ content_byte blocks.now (place + k) }
 {
     let block = place / BLOCK;
     if block < blocks.len() {
@@ -20,7 +20,7 @@ fn read_one(blocks: &[Block], place: usize, into: &mut [u8])
 /// Copies the bytes from a place on.
 pub fn read(blocks: &[Block], from: usize, into: &mut [u8])
     requires { from + length into.old < 2 ^ 64 }
-    ensures { (k : ℕ) → k < length into.old → slice_index into.new k ≡ byte_at blocks.now (from + k) }
+    ensures { (k : ℕ) → k < length into.old → slice_index into.new k ≡ content_byte blocks.now (from + k) }
 {
     let mut done = 0;
     while done < into.len() {
@@ -36,7 +36,7 @@ fn write_one(blocks: &mut Vec<Block>, place: usize, bytes: &[u8])
     requires some { 0 < length bytes.now }
     requires held { is_some (block_at blocks.old.items (place / 4096)) ≡ true }
     requires inside { place % 4096 + length bytes.now ≤ 4096 }
-    ensures bytes { (p : ℕ) → byte_at blocks.new.items p ≡ over place bytes.now (byte_at blocks.old.items p) p }
+    ensures bytes { (p : ℕ) → content_byte blocks.new.items p ≡ overwritten place bytes.now (content_byte blocks.old.items p) p }
     ensures held { map is_some blocks.new.items ≡ map is_some blocks.old.items }
 {
     blocks[place / BLOCK].write_at(place % BLOCK, bytes);
@@ -46,7 +46,7 @@ fn write_one(blocks: &mut Vec<Block>, place: usize, bytes: &[u8])
 pub fn write(blocks: &mut Vec<Block>, place: usize, bytes: &[u8])
     requires fits { place + length bytes.now < 2 ^ 64 }
     requires held { HoldsRange (map is_some blocks.old.items) place (length bytes.now) }
-    ensures bytes { (p : ℕ) → byte_at blocks.new.items p ≡ over place bytes.now (byte_at blocks.old.items p) p }
+    ensures bytes { (p : ℕ) → content_byte blocks.new.items p ≡ overwritten place bytes.now (content_byte blocks.old.items p) p }
     ensures held { map is_some blocks.new.items ≡ map is_some blocks.old.items }
 {
     let mut done = 0;

@@ -1,6 +1,6 @@
 // Memory for blocks.
 ghost use Rattle.std.specs.Prelude.{◌≡◌, ℕ, ◌≤◌, ◌<◌, ◌⊎◌, true, is_some, OnOk, vec_len};
-ghost use Rattle.nv_blocks.specs.Contents.{byte_at, block_at};
+ghost use Rattle.nv_blocks.specs.Contents.{content_byte, block_at};
 
 use crate::block::Block;
 use std::alloc::{AllocError, Global};
@@ -25,7 +25,7 @@ fn hold_each(
     end: usize,
 ) -> Result<(), AllocError>
     requires { end ≤ vec_len blocks.old }
-    ensures same { (p : ℕ) → byte_at blocks.new.items p ≡ byte_at blocks.old.items p }
+    ensures same { (p : ℕ) → content_byte blocks.new.items p ≡ content_byte blocks.old.items p }
     ensures ok { OnOk result ((k : ℕ) → first ≤ k → k < end → is_some (block_at blocks.new.items k) ≡ true) }
     ensures others { (k : ℕ) → (k < first) ⊎ (end ≤ k) → block_at blocks.new.items k ≡ block_at blocks.old.items k }
 {
@@ -42,7 +42,7 @@ pub fn hold(
     first: usize,
     end: usize,
 ) -> Result<(), AllocError>
-    ensures same { (p : ℕ) → byte_at blocks.new.items p ≡ byte_at blocks.old.items p }
+    ensures same { (p : ℕ) → content_byte blocks.new.items p ≡ content_byte blocks.old.items p }
     ensures ok { OnOk result ((k : ℕ) → first ≤ k → k < end → is_some (block_at blocks.new.items k) ≡ true) }
     ensures others { (k : ℕ) → (k < first) ⊎ (end ≤ k) → block_at blocks.new.items k ≡ block_at blocks.old.items k }
 {

@@ -6,14 +6,14 @@ use Rattle.std.proofs.lemmas.Option.{same_Some, slice_get_read}
 use Rattle.nv_bpf.specs.declared.op.Op.{Op}
 use Rattle.nv_bpf.specs.declared.op.FilterFault.{FilterFault}
 use Rattle.nv_bpf.specs.declared.op.FilterFault.TheVariants as fault
-use Rattle.nv_bpf.specs.Verified.{op_fault, ops_fault, list_fault, or_later, unless, ends_in_return}
+use Rattle.nv_bpf.specs.Verified.{op_fault, ops_fault, list_fault, or_later_fault, unless, ends_in_return}
 
-pub or_later-none : (a b : Option FilterFault) → or_later a b ≡ None → (a ≡ None) × (b ≡ None)
+pub or_later-none : (a b : Option FilterFault) → or_later_fault a b ≡ None → (a ≡ None) × (b ≡ None)
 or_later-none None b h = (refl, h)
 or_later-none (Some f) b h = cc
 
 -- the first fault from a place on, at that place and after it
-pub ops_fault-drop : (n i : ℕ) (ops : List Op) (op : Op) → i < length ops → ops_fault n i (drop i ops) ≡ or_later (op_fault n i (get_or ops i op)) (ops_fault n (i + 1) (drop (i + 1) ops))
+pub ops_fault-drop : (n i : ℕ) (ops : List Op) (op : Op) → i < length ops → ops_fault n i (drop i ops) ≡ or_later_fault (op_fault n i (get_or ops i op)) (ops_fault n (i + 1) (drop (i + 1) ops))
 unfolding ops_fault
 ops_fault-drop n i ops op h = at_drop_more (λ l. ops_fault n i l) ops i op h
 
@@ -39,7 +39,7 @@ unless-none true f h = refl
 unless-none false f h = cc
 
 cases : (n most : ℕ) (zero few : Bool) (each end : Option FilterFault) → n == 0 ≡ zero → nat_lt most n ≡ few
-    → (if zero then Some fault.Empty else (if few then Some fault.TooLong else or_later each end)) ≡ None
+    → (if zero then Some fault.Empty else (if few then Some fault.TooLong else or_later_fault each end)) ≡ None
     → (0 < n) × (n ≤ most) × (each ≡ None) × (end ≡ None)
 cases n most true few each end e f h = cc
 cases n most false true each end e f h = cc

@@ -6,7 +6,7 @@ use Rattle.nv_bpf.specs.declared.op.FilterFault.{FilterFault}
 use Rattle.nv_bpf.specs.declared.op.FilterFault.TheVariants as fault
 use Rattle.nv_text.specs.Fields.{fields}
 use Rattle.nv_text.specs.Lines.{lines}
-use Rattle.nv_bpf.specs.Texts.{op_of_fields, op_of, ops_of, put_first, with_line, count_of, ops_after, ops_of_lines, ops_of_text}
+use Rattle.nv_bpf.specs.Texts.{op_of_fields, op_of, ops_of, put_first, with_line, line_count, ops_after, ops_of_lines, ops_of_text}
 use Rattle.nv_text.specs.Numbers.{number_of}
 use Rattle.nv_text.proofs.Laws.{fields-some}
 
@@ -87,7 +87,7 @@ pub ops_of_text-none : (most : ℕ) (text : List ℕ) → lines text ≡ [] → 
 unfolding ops_of_text
 ops_of_text-none most text e = ap (ops_of_lines most) e
 
-pub ops_of_text-count : (most : ℕ) (text line : List ℕ) (rest : List (List ℕ)) (r : Result ℕ FilterFault) → lines text ≡ line ∷ rest → r ≡ count_of most (number_of line)
+pub ops_of_text-count : (most : ℕ) (text line : List ℕ) (rest : List (List ℕ)) (r : Result ℕ FilterFault) → lines text ≡ line ∷ rest → r ≡ line_count most (number_of line)
     → ops_of_text most text ≡ ops_after r rest
 unfolding ops_of_text
 ops_of_text-count most text line rest r e f = ap (ops_of_lines most) e ∙ ap (λ s. ops_after s rest) (sym f)

@@ -10,7 +10,7 @@ use Rattle.nv_text.specs.Numbers.{decimal_of}
 use Rattle.nv_bpf.specs.declared.op.Op.{Op}
 use Rattle.nv_bpf.specs.Verified.{list_fault, ops_or}
 use Rattle.nv_bpf.proofs.FilterLaws.{list_fault-none}
-use Rattle.nv_bpf.specs.Texts.{op_of_fields, op_of, ops_of, put_first, with_line, count_of, ops_after, ops_of_lines, ops_of_text, filter_with, filter_of, op_text, text_of, FitsFields}
+use Rattle.nv_bpf.specs.Texts.{op_of_fields, op_of, ops_of, put_first, with_line, line_count, ops_after, ops_of_lines, ops_of_text, filter_with, filter_of, op_text, ops_text, FitsFields}
 use Rattle.nv_text.proofs.Laws.{lines-line}
 use Rattle.nv_bpf.proofs.Digits.{decimal-lacks, number_of-decimal, field-decimal}
 
@@ -71,25 +71,25 @@ ops_of-lines n (op ∷ ops) h =
     ap (λ o. with_line n o (ops_of (n + 1) (length ops) (map op_line ops))) (op_of-line op (All-head FitsFields op ops h))
     ∙ ap (put_first op) (ops_of-lines (n + 1) ops (All-tail FitsFields op ops h))
 
-count_of-length : (most n : ℕ) → 0 < n → n ≤ most → count_of most (Some n) ≡ Ok n
+count_of-length : (most n : ℕ) → 0 < n → n ≤ most → line_count most (Some n) ≡ Ok n
 count_of-length most n some few = grind (arith, nat_tests)
 
-lines-text : (ops : List Op) → length ops < 2 ^ 32 → All FitsFields ops → lines (text_of ops) ≡ decimal_of (length ops) ∷ map op_line ops
-unfolding text_of
+lines-text : (ops : List Op) → length ops < 2 ^ 32 → All FitsFields ops → lines (ops_text ops) ≡ decimal_of (length ops) ∷ map op_line ops
+unfolding ops_text
 lines-text ops small h =
     ap lines (append_assoc (decimal_of (length ops)) (10 ∷ []) (flat_map op_text ops))
     ∙ lines-line (decimal_of (length ops)) (flat_map op_text ops) (decimal-lacks 10 (length ops) (lit< tt) small)
     ∙ ap (λ ls. decimal_of (length ops) ∷ ls) (lines-ops ops h)
 
-ops_of_text-text : (most : ℕ) (ops : List Op) → 0 < length ops → length ops ≤ most → most < 2 ^ 32 → All FitsFields ops → ops_of_text most (text_of ops) ≡ Ok ops
+ops_of_text-text : (most : ℕ) (ops : List Op) → 0 < length ops → length ops ≤ most → most < 2 ^ 32 → All FitsFields ops → ops_of_text most (ops_text ops) ≡ Ok ops
 unfolding ops_of_text
 ops_of_text-text most ops some few small h =
     ap (ops_of_lines most) (lines-text ops (omega arith) h)
-    ∙ ap (λ r. ops_after (count_of most r) (map op_line ops)) (number_of-decimal (length ops) (omega arith))
+    ∙ ap (λ r. ops_after (line_count most r) (map op_line ops)) (number_of-decimal (length ops) (omega arith))
     ∙ ap (λ r. ops_after r (map op_line ops)) (count_of-length most (length ops) some few)
     ∙ ops_of-lines 2 ops h
 
-pub filter_of-text : (most : ℕ) (ops : List Op) → list_fault most ops ≡ None → most < 2 ^ 32 → All FitsFields ops → filter_of most (text_of ops) ≡ Ok ops
+pub filter_of-text : (most : ℕ) (ops : List Op) → list_fault most ops ≡ None → most < 2 ^ 32 → All FitsFields ops → filter_of most (ops_text ops) ≡ Ok ops
 unfolding filter_of
 filter_of-text most ops sound small h =
     let facts = list_fault-none most ops sound in

@@ -43,9 +43,9 @@ ops_of n (suc count) [] = Err fault.Count
 ops_of n (suc count) (l ∷ ls) = with_line n (op_of l) (ops_of (n + 1) count ls)
 
 -- how many lines follow the first one
-abbrev pub count_of : ℕ → Option ℕ → Result ℕ FilterFault
-count_of most None = Err (fault.Line 1)
-count_of most (Some count) = if count == 0 then Err fault.Empty else (if nat_lt most count then Err fault.TooLong else Ok count)
+abbrev pub line_count : ℕ → Option ℕ → Result ℕ FilterFault
+line_count most None = Err (fault.Line 1)
+line_count most (Some count) = if count == 0 then Err fault.Empty else (if nat_lt most count then Err fault.TooLong else Ok count)
 
 abbrev pub ops_after : Result ℕ FilterFault → List (List ℕ) → Result (List Op) FilterFault
 ops_after (Ok count) ls = ops_of 2 count ls
@@ -53,7 +53,7 @@ ops_after (Err f) ls = Err f
 
 abbrev pub ops_of_lines : ℕ → List (List ℕ) → Result (List Op) FilterFault
 ops_of_lines most [] = Err (fault.Line 1)
-ops_of_lines most (l ∷ ls) = ops_after (count_of most (number_of l)) ls
+ops_of_lines most (l ∷ ls) = ops_after (line_count most (number_of l)) ls
 
 -- the instructions of a text, which may have so many, or the first fault of its lines
 unfoldable pub ops_of_text : ℕ → List ℕ → Result (List Op) FilterFault
@@ -75,8 +75,8 @@ abbrev pub op_text : Op → List ℕ
 op_text op = ended_number op.code 32 ++ (ended_number op.jt 32 ++ (ended_number op.jf 32 ++ ended_number op.k 10))
 
 -- the text of a filter: each line ends with a newline, and no number has a leading zero
-unfoldable pub text_of : List Op → List ℕ
-text_of ops = ended_number (length ops) 10 ++ flat_map op_text ops
+unfoldable pub ops_text : List Op → List ℕ
+ops_text ops = ended_number (length ops) 10 ++ flat_map op_text ops
 
 -- each field is in its range
 pub record FitsFields (op : Op) : Type 0 where

@@ -45,14 +45,14 @@ is_return (Some ReturnConstant) = true
 is_return (Some ReturnAccumulator) = true
 is_return _ = false
 
-abbrev pub or_later : Option FilterFault → Option FilterFault → Option FilterFault
-or_later (Some f) later = Some f
-or_later None later = later
+abbrev pub or_later_fault : Option FilterFault → Option FilterFault → Option FilterFault
+or_later_fault (Some f) later = Some f
+or_later_fault None later = later
 
 -- the first fault of the instructions from i on, of n in all
 unfoldable pub ops_fault : ℕ → ℕ → List Op → Option FilterFault
 ops_fault n i [] = None
-ops_fault n i (op ∷ ops) = or_later (op_fault n i op) (ops_fault n (i + 1) ops)
+ops_fault n i (op ∷ ops) = or_later_fault (op_fault n i op) (ops_fault n (i + 1) ops)
 
 abbrev pub ends_in_return : List Op → Bool
 ends_in_return ops = is_return (option_and_then (λ op. action_of op.code) (slice_get ops (length ops - 1)))
@@ -60,7 +60,7 @@ ends_in_return ops = is_return (option_and_then (λ op. action_of op.code) (slic
 -- the first fault of a list that may have so many instructions
 unfoldable pub list_fault : ℕ → List Op → Option FilterFault
 list_fault most ops = if length ops == 0 then Some fault.Empty else (if nat_lt most (length ops) then Some fault.TooLong
-    else or_later (ops_fault (length ops) 0 ops) (unless (ends_in_return ops) fault.NoReturn))
+    else or_later_fault (ops_fault (length ops) 0 ops) (unless (ends_in_return ops) fault.NoReturn))
 
 abbrev pub ops_or : Option FilterFault → List Op → Result (List Op) FilterFault
 ops_or None ops = Ok ops

@@ -1,6 +1,6 @@
 // The reader of filters.
 ghost use Rattle.std.specs.Prelude.{◌≡◌, ◌≢◌, ◌<◌, ◌≤◌, ◌^◌, Ok, Err, [], ◌∷◌, length, IfOk, IfErr, IfSome};
-ghost use Rattle.nv_bpf.specs.Texts.{field, op_of_fields, op_of, ops_of, ops_of_text, filter_of, count_of};
+ghost use Rattle.nv_bpf.specs.Texts.{field, op_of_fields, op_of, ops_of, ops_of_text, filter_of, line_count};
 ghost use Rattle.nv_text.specs.Lines.{lines};
 ghost use Rattle.nv_text.specs.Numbers.{number_of};
 
@@ -44,7 +44,7 @@ fn read_op(line: &[u8]) -> Option<Op>
 }
 
 fn read_count(line: &[u8]) -> Result<u32, FilterFault>
-    ensures { result ≡ count_of MOST_OPS (number_of line.now) }
+    ensures { result ≡ line_count MOST_OPS (number_of line.now) }
 {
     match number(line) {
         None => Err(FilterFault::Line(1)),

@@ -1,6 +1,6 @@
 // The writer of filters.
 ghost use Rattle.std.specs.Prelude.{◌≡◌, ◌++◌, Ok, IfOk, OnOk, length};
-ghost use Rattle.nv_bpf.specs.Texts.{ended_number, op_text, text_of, filter_of, FitsFields};
+ghost use Rattle.nv_bpf.specs.Texts.{ended_number, op_text, ops_text, filter_of, FitsFields};
 
 use crate::{Filter, MOST_OPS, Op};
 use nv_text::decimal;
@@ -30,7 +30,7 @@ fn put_op(out: &mut Vec<u8>, op: Op) -> Result<(), AllocError>
 
 /// Writes the text of a filter, as `tcpdump -ddd` prints it.
 pub fn write(alloc: Global, filter: &Filter) -> Result<Vec<u8>, AllocError>
-    ensures text { IfOk result (λ text. text.items ≡ text_of filter.now) }
+    ensures text { IfOk result (λ text. text.items ≡ ops_text filter.now) }
     ensures read_back { IfOk result (λ text. filter_of MOST_OPS text.items ≡ Ok filter.now) }
 {
     let mut text = Vec::new(alloc);

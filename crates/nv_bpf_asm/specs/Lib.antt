@@ -1,4 +1,4 @@
 pub mod Statements
 pub mod Assembled
-pub mod Views
 pub mod Faults
+pub mod inner

@@ -2,7 +2,7 @@
 ghost use Rattle.std.specs.Prelude.{◌≡◌, ℕ, [], ◌∷◌, map, length, option_map, option_and_then, codes, IfOk};
 ghost use Rattle.std.specs.Option.{option_or};
 ghost use Rattle.nv_bpf_asm.specs.Statements.{after_prefix, closed, constant, between, of_event, plain, sum_of, return_of, load_of, load_index_of, jump_of, choice_of, branch_of, formed, statement};
-ghost use Rattle.nv_bpf_asm.specs.Views.{view, result_view};
+ghost use Rattle.nv_bpf_asm.specs.inner.Views.{view, result_view};
 
 use crate::fault::RuleCause;
 use crate::forms::{Form, form_of};

@@ -2,7 +2,7 @@
 ghost use Rattle.std.specs.Prelude.{◌≡◌};
 ghost use Rattle.nv_text.specs.Names.{defined};
 ghost use Rattle.nv_bpf_asm.specs.Assembled.{way, near_way, jump_op, branch_by, branch_op, op_of};
-ghost use Rattle.nv_bpf_asm.specs.Views.{view};
+ghost use Rattle.nv_bpf_asm.specs.inner.Views.{view};
 
 use crate::fault::RuleCause;
 use crate::label::Label;

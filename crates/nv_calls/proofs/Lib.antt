@@ -1,4 +1,3 @@
 pub mod SameLaws
 pub mod ShapeLaws
 pub mod LogLaws
-pub mod StartLaws

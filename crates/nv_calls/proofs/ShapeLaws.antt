@@ -4,7 +4,7 @@ use Rattle.std.specs.Prelude.{slice_index}
 use Rattle.std.proofs.lemmas.Bool.{and_parts}
 use Rattle.std.proofs.lemmas.Bool.Decides.{nat_tests}
 use Rattle.nv_calls.specs.declared.numbers.Syscall.{Syscall}
-use Rattle.nv_calls.specs.declared.numbers.Syscall.TheVariants.{Unlinkat, Openat, Write, Readv, Writev, Bind}
+use Rattle.nv_calls.specs.declared.numbers.Syscall.TheVariants.{Unlinkat, Openat, Write, Writev, Bind}
 use Rattle.nv_calls.specs.Calls.{Request}
 use Rattle.nv_calls.specs.Numbers.{syscall_of, has_range, hands_in, is_local}
 use Rattle.nv_calls.specs.Shapes.{are_plain, kept_slots, most_of_vectors, is_capacity, is_path, is_payload, is_shaped_as, is_shaped, IsShaped}
@@ -69,10 +69,3 @@ shaped-few c h = few_by c.bad (syscall_of c.nr) c (shaped-parts c h).payload
 
 pub shaped-empty : (c : Request) → IsShaped c → hands_in (syscall_of c.nr) ≡ false → length c.payload ≡ 0
 shaped-empty c h e = empty_by c.bad (syscall_of c.nr) c e (shaped-parts c h).payload
-
-capacity_by : (k : Syscall) (c : Request) → k ≡ Readv → is_capacity k c ≡ true → slice_index c.args 3 ≤ 4096
-capacity_by Readv c e h = let v = vectors_few c in let few : slice_index c.args 3 ≤ most_of_vectors c = grind (arith, nat_tests) in omega arith
-capacity_by _ c e h = cc
-
-pub shaped-capacity : (c : Request) → IsShaped c → syscall_of c.nr ≡ Readv → slice_index c.args 3 ≤ 4096
-shaped-capacity c h e = capacity_by (syscall_of c.nr) c e (shaped-parts c h).capacity

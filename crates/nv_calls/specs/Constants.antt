@@ -7,15 +7,15 @@ use Rattle.nv_calls.specs.Errors.{EFAULT, ERANGE}
 use Rattle.nv_calls.specs.Numbers.{syscall_of}
 
 -- a result that hands out nothing
-abbrev pub plain : ℤ → Response
-plain ret = record { ret = ret; payload = [] }
+abbrev pub result_alone : ℤ → Response
+result_alone ret = record { ret = ret; payload = [] }
 
 -- a field of utsname (uname(2)): 65 bytes, filled with 0
-abbrev pub field : List ℕ → List ℕ
-field name = name ++ replicate (65 - length name) 0
+abbrev pub utsname_field : List ℕ → List ℕ
+utsname_field name = name ++ replicate (65 - length name) 0
 
 unfoldable pub names : List ℕ
-names = field (codes "Linux") ++ field (codes "varan") ++ field (codes "5.15.0") ++ field (codes "#1") ++ field (codes "riscv32") ++ field
+names = utsname_field (codes "Linux") ++ utsname_field (codes "varan") ++ utsname_field (codes "5.15.0") ++ utsname_field (codes "#1") ++ utsname_field (codes "riscv32") ++ utsname_field
     (codes "(none)")
 
 -- uname(2)
@@ -24,21 +24,21 @@ system = record { ret = pos 0; payload = names }
 
 -- getcwd(2) with this size: the directory is `/`
 abbrev pub directory : ℕ → Response
-directory size = if nat_lt size 2 then plain ERANGE else record { ret = pos 2; payload = 47 ∷ 0 ∷ [] }
+directory size = if nat_lt size 2 then result_alone ERANGE else record { ret = pos 2; payload = 47 ∷ 0 ∷ [] }
 
 -- process 100 has parent 1 (getpid(2)), and 1000 is each id (getuid(2), getgid(2))
 abbrev pub process : Response
-process = plain (pos 100)
+process = result_alone (pos 100)
 
 abbrev pub parent : Response
-parent = plain (pos 1)
+parent = result_alone (pos 1)
 
 abbrev pub user : Response
-user = plain (pos 1000)
+user = result_alone (pos 1000)
 
 -- a call on memory that isn't the guest's
 abbrev pub unless_bad : Request → Response → Response
-unless_bad c reply = if c.bad then plain EFAULT else reply
+unless_bad c reply = if c.bad then result_alone EFAULT else reply
 
 abbrev pub constant_by : Syscall → Request → Option Response
 constant_by Getcwd c = Some (unless_bad c (directory (slice_index c.args 1)))

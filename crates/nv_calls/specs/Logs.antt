@@ -104,9 +104,3 @@ last_status (e ∷ f ∷ es) = last_status (f ∷ es)
 -- the exit status, where no thread lives
 abbrev pub ended_after : List Entry → Option ℕ
 ended_after log = if length (live_after log) == 0 then Some (last_status log) else None
-
--- two starts answer and print alike; as a fact with at most one proof, for ghost fields
-pub record SameStart (a b : Start) : Type 0 where
-  pub replies : (cs : List Request) (c : Request) → a.replies cs c ≡ b.replies cs c
-  pub console : (cs : List Request) → a.console cs ≡ b.console cs
-  pub connections : (cs : List Request) → a.connections cs ≡ b.connections cs

@@ -29,13 +29,13 @@ table =
     ∷ row 172 Getpid ∷ row 173 Getppid ∷ row 174 Getuid ∷ row 175 Geteuid ∷ row 176 Getgid ∷ row 177 Getegid ∷ row 198 Socket ∷ row 200 Bind
     ∷ row 201 Listen ∷ row 202 Accept ∷ row CLONE Clone ∷ row 242 Accept4 ∷ row 278 Getrandom ∷ row 403 ClockGettime64 ∷ []
 
-abbrev pub found : List Row → ℕ → Syscall
-found [] nr = Unknown
-found (row ∷ rows) nr = if nr == row.nr then row.syscall else found rows nr
+abbrev pub syscall_in : List Row → ℕ → Syscall
+syscall_in [] nr = Unknown
+syscall_in (row ∷ rows) nr = if nr == row.nr then row.syscall else syscall_in rows nr
 
 -- the call of a number
 unfoldable pub syscall_of : ℕ → Syscall
-syscall_of nr = found table nr
+syscall_of nr = syscall_in table nr
 
 -- what each argument of a call is, by the call's man page
 abbrev pub slots_by : Syscall → List Slot

@@ -13,7 +13,7 @@ use Rattle.nv_replay.specs.Lead.{Leader}
 use Rattle.nv_replay.specs.Sequence.{Account}
 use Rattle.nv_replay.specs.Hands.{is_handed}
 use Rattle.nv_replay.specs.Monitor.{Part, Run, part, begun, after_lead, tracked_by, leads_on, turn_by, turn_of, turn_in, turn, lines_of, sequence}
-use Rattle.nv_replay.specs.Versions.{Running, process_of, standing_of}
+use Rattle.nv_replay.specs.Version.{Running, process_of, standing_of}
 
 module _ {P : Type 0} (g : Behaviour P) (judges : ℕ → Judge) (start : Start) (most : ℕ) (cuts : ℕ → Option ℕ) (hands : List ℕ) where
   after_parts : (m : Run P) (i : ℕ) (order : List ℕ) (v : Part P) (f : Follower P) (l : Leader P) (b : Bool) → length (after_lead m i order v f l b).parts ≡ length m.parts

@@ -12,7 +12,7 @@ use Rattle.nv_command.specs.Words.{texts}
 use Rattle.nv_command.specs.declared.asked.LineFault.{LineFault}
 use Rattle.nv_command.specs.declared.asked.LineFault.TheVariants as line
 use Rattle.nv_jobs.specs.Due.{Answers, Says, Completes, Rejects, IsUntouched, Shows}
-use Rattle.nv_jobs.specs.Outcome.{Outcome, Source, status_of, text_of, ended_with}
+use Rattle.nv_jobs.specs.Outcome.{Outcome, Source, outcome_status, text_of, ended_with}
 use Rattle.nv_jobs.specs.Tasks.{fault_outcome}
 use Rattle.nv_jobs.proofs.Statuses.{completes-of, rejects-of, never_six}
 use Rattle.nv_cli.specs.Program.{Given, Begins, EndsWith, ProgramAnswers}
@@ -117,7 +117,7 @@ fault_shown line.Memory source still = still.0
 
 -- there are no words
 pub fault_answers : {words : Given} (fault : LineFault) {source : Source} {a c : Option (List ℕ)} {f status g : ℕ} → words ≡ Err fault → IsUntouched source
-    → Says (text_of (fault_outcome fault)) (status_of (fault_outcome fault)) a f status c g → ProgramAnswers words source a f status c g
+    → Says (text_of (fault_outcome fault)) (outcome_status (fault_outcome fault)) a f status c g → ProgramAnswers words source a f status c g
 fault_answers {words = words} fault {source = source} {a = a} {c = c} {f = f} {status = status} {g = g} is still says =
     subst (λ (w : Given). ProgramAnswers w source a f status c g) (sym is) (record {
       outcome = fault_outcome fault;

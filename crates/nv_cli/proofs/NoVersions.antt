@@ -8,7 +8,7 @@ use Rattle.nv_replay.specs.Covers.{Covers}
 use Rattle.nv_replay.specs.Follow.{Judge}
 use Rattle.nv_replay.specs.Monitor.{begun, turn, account_of, sequence}
 use Rattle.nv_replay.specs.Sequence.{cuts_of}
-use Rattle.nv_replay.specs.Versions.{Running}
+use Rattle.nv_replay.specs.Version.{Running}
 use Rattle.nv_replay.proofs.Settled.{stage_rests}
 use Rattle.nv_workers.specs.Ends.{IsAccount}
 

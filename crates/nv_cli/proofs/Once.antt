@@ -8,7 +8,7 @@ use Rattle.nv_replay.specs.Follow.{Follower, Judge, fresh, follow}
 use Rattle.nv_replay.specs.Sequence.{Account, leads, turn, sequence_from}
 use Rattle.nv_replay.specs.Sequence as plain
 use Rattle.nv_replay.specs.Monitor.{sequence}
-use Rattle.nv_replay.specs.Accounts.{AreSettled}
+use Rattle.nv_replay.specs.Account.{AreSettled}
 use Rattle.nv_replay.specs.Covers.{AreEnded}
 use Rattle.nv_replay.proofs.Unplanned.{no_hands}
 

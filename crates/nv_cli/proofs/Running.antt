@@ -9,31 +9,31 @@ use Rattle.nv_replay.specs.Follow.{judge_of}
 use Rattle.nv_replay.specs.Monitor.{sequence}
 use Rattle.nv_replay.specs.Sequence.{Account, cuts_of}
 use Rattle.nv_replay.specs.Survivors.{SurvivorsAgree}
-use Rattle.nv_replay.specs.Versions.{Running, process_of, standing_of}
+use Rattle.nv_replay.specs.Version.{Running, process_of, standing_of}
 use Rattle.nv_script.specs.Scripts.{Setup}
 use Rattle.nv_threads.proofs.ThreadLaws.{thread_laws}
 use Rattle.nv_threads.specs.Threads.{Proc, threads}
 use Rattle.nv_workers.specs.Ends.{IsAccount}
-use Rattle.nv_jobs.specs.Account.{IsRunOf, begun}
+use Rattle.nv_jobs.specs.Account.{IsRunOf, process_begun}
 use Rattle.nv_jobs.specs.Refusals.{IsPlanned}
 use Rattle.nv_cli.proofs.Once.{settled_unplanned}
 
 -- versions that begin with these machines, and the script's planned lengths
 pub run_of : (limits : Limits) (setup : Setup) (rules : Option (List Op)) (machines : List Machine) (hands : List ℕ) (olds news : List (Running Proc)) (log : List Entry) → IsPlanned setup hands
-    → IsAccount threads (judge_of rules) (start_of_script setup) limits.calls hands olds news log → map process_of olds ≡ map (begun limits) machines
+    → IsAccount threads (judge_of rules) (start_of_script setup) limits.calls hands olds news log → map process_of olds ≡ map (process_begun limits) machines
     → IsRunOf limits setup rules machines (record { log = log; lines = map standing_of news })
 run_of limits setup rules machines hands olds news log planned a are =
     let start = start_of_script setup in
     let cuts = cuts_of (map standing_of news) in
     let account : Account = record { log = log; lines = map standing_of news } in
-    let is : account ≡ sequence threads (judge_of rules) start limits.calls cuts setup.hands (map (begun limits) machines) =
+    let is : account ≡ sequence threads (judge_of rules) start limits.calls cuts setup.hands (map (process_begun limits) machines) =
     a.account ∙ ap (λ (hs : List ℕ). sequence threads (judge_of rules) start limits.calls cuts hs (map process_of olds)) planned.same
     ∙ ap (λ (ps : List Proc). sequence threads (judge_of rules) start limits.calls cuts setup.hands ps) are in
     record {
       is_account = is;
       settled = a.settled;
       covers = a.covers;
-      unplanned = settled_unplanned threads (judge_of rules) start limits.calls cuts thread_laws setup.hands (map (begun limits) machines) account is a.settled;
+      unplanned = settled_unplanned threads (judge_of rules) start limits.calls cuts thread_laws setup.hands (map (process_begun limits) machines) account is a.settled;
       survivor = subst (λ (ps : List Proc). SurvivorsAgree threads start limits.calls setup.hands ps (map standing_of news) log) are
           (subst (λ (hs : List ℕ). SurvivorsAgree threads start limits.calls hs (map process_of olds) (map standing_of news) log) planned.same a.survivor);
     }

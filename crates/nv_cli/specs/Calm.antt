@@ -7,8 +7,8 @@ use Rattle.nv_command.specs.Words.{Command, command_of}
 use Rattle.nv_jobs.specs.Due.{IsAccepted, IsRefused, IsDone}
 
 -- what the sink tells
-abbrev pub told_by : CalmSink → Option (List ℕ)
-told_by sink = if is_over sink then None else Some (kept_of sink)
+abbrev pub sink_told : CalmSink → Option (List ℕ)
+sink_told sink = if is_over sink then None else Some (kept_of sink)
 
 -- files that are told and accepted: the command does its work, or memory is wanted
 abbrev pub CompletesCalmly : List (List ℕ) → (List ℕ → Told) → ℕ → Type 0

@@ -8,21 +8,21 @@ use Rattle.nv_jobs.specs.Outcome.{Outcome}
 -- What is due: refused words owe the line of usage, a command owes what one of the parts below says, or memory is wanted after its name.
 use Rattle.nv_jobs.specs.Due.{IsDue, OwesAny, Owes}
 -- What the words ask for, and the command that they name.
-use Rattle.nv_command.specs.Words.{command_of, name_in}
+use Rattle.nv_command.specs.Words.{command_of, command_name}
 -- What the source tells of a file's name, and what may be found there.
 use Rattle.nv_outside.specs.Told.{Told}
 use Rattle.nv_jobs.specs.Found.{AreFound, Agrees}
 -- A run owes what it comes to over files that agree with what is told: the first that is refused is named, or an account is reported.
 use Rattle.nv_jobs.specs.Due.{RunOwes, RunComesTo}
-use Rattle.nv_jobs.specs.Prepared.{prepared, version_of}
+use Rattle.nv_jobs.specs.Prepared.{prepared, version_from}
 -- The account is the sequential monitor's over the script's kernel, the rules, the machines of the versions and the script's planned lengths.
-use Rattle.nv_jobs.specs.Account.{IsRunOf, begun}
+use Rattle.nv_jobs.specs.Account.{IsRunOf, process_begun}
 use Rattle.nv_sockets.specs.Serving.{start_of_script}
 use Rattle.nv_replay.specs.Follow.{judge_of}
 use Rattle.nv_replay.specs.Monitor.{sequence}
 -- Each version has one fate, and each event lies in exactly one of the spans that they led; where no length is planned each led at most one.
 use Rattle.nv_replay.specs.Covers.{AreEnded, Covers}
-use Rattle.nv_replay.specs.Accounts.{AreSettled}
+use Rattle.nv_replay.specs.Account.{AreSettled}
 -- A version that exited without a rewrite would come to the same log alone.
 use Rattle.nv_replay.specs.Survivors.{SurvivorsAgree}
 -- A command over one file owes what it makes of the file.
@@ -49,7 +49,7 @@ use Rattle.nv_inspect.specs.Shown.{show_text}
 use Rattle.nv_jobs.specs.Due.{Shows, IsUntouched}
 -- What was written and the status: a text with its status, or a prefix of it, a count that rose and 6.
 use Rattle.nv_jobs.specs.Due.{Says}
-use Rattle.nv_jobs.specs.Outcome.{text_of, status_of, ended_with}
+use Rattle.nv_jobs.specs.Outcome.{text_of, outcome_status, ended_with}
 use Rattle.nv_jobs.specs.Causes.{cause_text}
 use Rattle.nv_report.specs.Report.{report_text}
 use Rattle.nv_report.specs.Json.{json_text}
@@ -64,117 +64,117 @@ use Rattle.nv_jobs.specs.Due.{Rejects, IsRefused}
 use Rattle.nv_cli.specs.Program.{ProgramAnswers, IsDueOf, EndsWith}
 -- And what these stand on, by crate and file. (.ci/headline.py --write makes the lines from here on.)
 use Rattle.nv_calls.specs.Answers.{most_out_by, answer_slot}
-use Rattle.nv_calls.specs.Calls.{Request, Response, Entry, status_of as nv_calls_status_of, is_same}
-use Rattle.nv_calls.specs.Constants.{plain, field, names, system, directory, process, parent, user, unless_bad, constant_by, constant_of}
+use Rattle.nv_calls.specs.Calls.{Request, Response, Entry, status_of, is_same}
+use Rattle.nv_calls.specs.Constants.{result_alone, utsname_field, names, system, directory, process, parent, user, unless_bad, constant_by, constant_of}
 use Rattle.nv_calls.specs.Errors.{ENOENT, EBADF, EAGAIN, EFAULT, EEXIST, ENOTDIR, EINVAL, EMFILE, ENOTTY, EFBIG, ENOSPC, ESPIPE, EPIPE, ERANGE, ENAMETOOLONG, ENOSYS, ENOTSOCK, EADDRINUSE, ENOTCONN}
 use Rattle.nv_calls.specs.Limits.{MOST_BYTES, MOST_VECTORS, MOST_PATH, MOST_ADDRESS, FIRST_THREAD, MOST_THREADS, MOST_EVENTS}
 use Rattle.nv_calls.specs.Logs.{made, child_of, with_child, live_next, live_from, live_after, Written, Start, call_of, calls_of, served, output_of, connections_of}
-use Rattle.nv_calls.specs.Numbers.{CLONE, EXIT, EXIT_GROUP, Row, row, table, found, syscall_of, slots_by, has_range, is_of_threads, is_local}
+use Rattle.nv_calls.specs.Numbers.{CLONE, EXIT, EXIT_GROUP, Row, row, table, syscall_in, syscall_of, slots_by, has_range, is_of_threads, is_local}
 use Rattle.nv_calls.specs.Shapes.{is_plain, are_plain, kept_slots, most_of_vectors, is_capacity, is_path, is_payload, is_shaped_as, is_shaped}
-use Rattle.nv_text.specs.Fields.{is_space, is_not_space, word_of, without_first, rest_of, fields}
+use Rattle.nv_text.specs.Fields.{is_space, is_not_space, first_word, without_first, rest_of, fields}
 use Rattle.nv_text.specs.Lines.{is_newline, lines, line_number, is_blank, is_not_blank, trim_start, trim_end, trim, is_comma, operands_of, operands, is_letter, is_digit, is_name_byte, begins_name, is_name, Parts, prefix, rest_after, line_with, after_name, parted, line_of}
 use Rattle.nv_text.specs.Names.{defined, defining, definitions, or_later, first_fault}
 use Rattle.nv_text.specs.Numbers.{number_of, decimal_of, paired, unhexed}
 use Rattle.nv_bytes.specs.Fields.{field_at}
 use Rattle.nv_outside.specs.Counts.{raised, Rose}
-use Rattle.nv_outside.specs.Files.{Answers as nv_outside_Answers, KeepsFaults}
+use Rattle.nv_outside.specs.Files.{GotTold, KeepsFaults}
 use Rattle.nv_outside.specs.Sink.{Writes, faults_by_write, faults_by}
 use Rattle.nv_outside.specs.Told.{MayFail, Grows}
-use Rattle.nv_isa.specs.Spelling.{low, spelled, encoded}
-use Rattle.nv_isa.specs.Table.{Row as nv_isa_Row, with_op, row as nv_isa_row, table as nv_isa_table, belongs, row_of, field as nv_isa_field, signed, rd_of, rs1_of, rs2_of, immediate, rd_in, rs1_in, rs2_in, insn_of, decoded}
+use Rattle.nv_isa.specs.Spelling.{low_bits, spelled, encoded}
+use Rattle.nv_isa.specs.Table.{Encoding, with_op, encoding, encodings, belongs, row_of, bits, signed_value, rd_of, rs1_of, rs2_of, immediate, rd_in, rs1_in, rs2_in, insn_of, decoded}
 use Rattle.nv_memory.specs.Bytes.{bytes_at, put, little, little_bytes, byte_count}
-use Rattle.nv_memory.specs.Cells.{byte_at}
+use Rattle.nv_memory.specs.Cells.{memory_byte}
 use Rattle.nv_memory.specs.Image.{Image, value_at, stored, cut}
-use Rattle.nv_memory.specs.Regions.{allows, covers, holds, has_range as nv_memory_has_range, set_end}
+use Rattle.nv_memory.specs.Region.{allows, covers, holds, lies_in, set_end}
 use Rattle.nv_machine.specs.Effects.{sum, difference, is_below_signed, as_number, shifted_copies, upper_half, divided, remainder, divided_unsigned, remainder_unsigned, multiplied, computed, is_taken, sign_extended, combined}
-use Rattle.nv_machine.specs.Guest.{Machine, StepResult, fault, with_memory, register, immediate_word, next, gets, jumps, branches, gets_loaded, width_of, extended, loads, stores, with_immediate, between_registers, compares, word_at, with_word, is_word, is_reserved, load_reserved, store_conditional, combines, effect, executed, fetched, guest_step}
-use Rattle.nv_machine.specs.Registers.{Registers, written, fresh}
-use Rattle.nv_elf.specs.Elf.{Range, Executable, ElfOf, entry_at, table_at, table_len, has_magic, has_class, has_versions, has_table, file_fault, header_at, headers_from, headers_of, is_loadable, loadables_of, is_interpreted, table_fault, is_outside, Extent, extent_of, shares, overlap_from, holds_entry, is_entry, overlap_fault, loadables_fault, fault_of, range_in, executable_in, answer, elf_of}
+use Rattle.nv_machine.specs.Guest.{Machine, StepResult, fault, with_memory, register, immediate_word, next_address, gets, jumps, branches, gets_loaded, width_of, extended, loads, stores, with_immediate, between_registers, compares, word_at, with_word, is_word_at, is_reserved, load_reserved, store_conditional, combines, effect, executed, fetched, guest_step}
+use Rattle.nv_machine.specs.Registers.{Registers, written, fresh_registers}
+use Rattle.nv_elf.specs.Elf.{Range, Executable, ElfOf, entry_at, table_at, table_len, has_magic, has_class, has_versions, has_table, file_fault, header_at, headers_from, headers_of, is_loadable, loadables_of, is_interpreted, table_fault, is_outside, Extent, extent_of, shares, overlap_from, holds_entry, can_be_entry, overlap_fault, loadables_fault, elf_fault, range_in, executable_in, elf_unless, elf_of}
 use Rattle.nv_elf.specs.Faults.{elf_text}
-use Rattle.nv_elf.specs.Written.{file_header, flags_of, program_header, padding, table_from, contents_from, contents_at, file_of}
-use Rattle.nv_guest.specs.Answers.{with_byte, with_bytes, targets_with, targets_at, scattered}
+use Rattle.nv_elf.specs.Written.{file_header, flags_of, program_header, padding, table_from, contents_from, contents_at, elf_bytes}
+use Rattle.nv_guest.specs.Answers.{with_byte, with_each_byte, targets_with, targets_at, scattered}
 use Rattle.nv_guest.specs.Block.{strings, addresses, words, all_arguments, strings_start, stack_pointer, stack_words, with_block}
-use Rattle.nv_guest.specs.Calls.{argument, number, kept, all_kept, values, values_with, out_of, vector_count, first_bytes, bytes_in, address_in, path_in, vectors_in, capacity_in, Handed, refused, with_payload, with_capacity, with_out, handed, call_by, call_at, stored_at, memory_after, past, answered}
+use Rattle.nv_guest.specs.Calls.{argument, call_number, kept, all_kept, values, values_with, out_of, vector_count, first_bytes, written_bytes, address_in, path_in, vectors_in, capacity_in, Handed, refused, with_payload, with_capacity, with_out, handed, call_by, call_at, stored_at, memory_after, past_call, with_answer}
 use Rattle.nv_guest.specs.Faults.{guest_text}
 use Rattle.nv_guest.specs.Guest.{one_thread}
 use Rattle.nv_guest.specs.Heap.{moved}
 use Rattle.nv_guest.specs.Load.{first_beyond, with_ranges, region_of, highest, heap_start, data_region, regions_of, first_bytes as nv_guest_first_bytes, first_machine, Loaded, loaded_if, loaded}
-use Rattle.nv_guest.specs.Paths.{byte_at as nv_guest_byte_at, path_with, path_at}
-use Rattle.nv_guest.specs.Threads.{Threaded, regs_at, with_regs, machine_at, with_machine, answered_at, with_stack, with_pointer, child_regs, child_of as nv_guest_child_of, cloned, dropped, without, unreserved, unreserved_each, released, last_region, is_break, break_after, with_break}
-use Rattle.nv_guest.specs.Vectors.{part_of, vector_at, prefix_of, usable, usable_by, usable_at, parts_with, parts_at, capacity, joined}
+use Rattle.nv_guest.specs.Paths.{byte_at, path_with, path_at}
+use Rattle.nv_guest.specs.Threads.{Threaded, regs_at, with_regs, machine_at, with_machine, answered_at, with_stack, with_pointer, child_regs, child_thread, cloned, dropped, without, unreserved, unreserved_each, released, last_region, is_break, break_after, with_break}
+use Rattle.nv_guest.specs.Vectors.{vector_part, vector_at, prefix_of, usable, usable_by, usable_at, parts_with, parts_at, capacity, joined_parts}
 use Rattle.nv_threads.specs.Behaviours.{Behaviour}
-use Rattle.nv_threads.specs.Threads.{TaskState, Task, tid_of, tids, state_at, with_state, is_running, is_asking, asks, waits_at, lesser, Proc, turn_length, started, count_of, greatest, machine, least_above, least, or_else, next_tid, released as nv_threads_released, passed, replied, broken, brk, operation, least_waiter, woken_one, woken_by, woken, woke, waiting, futex_on, futex_by, futex, own_answer, local, asking, called, faulted, ran, ended_by, stepped, counted, instruction, wanted, moves, moves_task, can_move, unless_live, is_on, turn_step, unless_came, steps, most_passes, most_steps, advanced, no_call, call_in, over, left_by, goes_on, with_child as nv_threads_with_child, outcome_of, answered_as, answered_by, waiting_calls, is_sole, threads}
-use Rattle.nv_blocks.specs.Contents.{with_bytes as nv_blocks_with_bytes}
+use Rattle.nv_threads.specs.Threads.{TaskState, Task, task_tid, task_tids, state_at, with_state, is_running, is_asking, asks, waits_at, lesser, Proc, turn_length, started, count_of, greatest, machine, least_above, least, or_else, next_tid, all_unreserved, turn_passed, turn_replied, broken, brk, operation, least_waiter, woken_one, woken_by, woken, woke, waiting, futex_on, futex_by, futex, own_answer, local, asking, called, faulted, ran, ended_by, turn_stepped, one_run, instruction, wanted, moves, moves_task, can_move, unless_live, is_on, turn_step, unless_came, steps, most_passes, most_steps, advanced, no_call, call_in, exited, left_by, goes_on, with_child_task, after_call, answered_as, answered_by, waiting_calls, is_sole, threads}
+use Rattle.nv_blocks.specs.Contents.{with_bytes}
 use Rattle.nv_fs.specs.Closes.{with_descriptor, close_open, close_of, free_descriptor, shared_at, share, dup_open, dup_of, dup_onto, dup3_of}
 use Rattle.nv_fs.specs.Ends.{free_pipe, with_empty, with_ends, free_above, pipe_on, pipe_from, pipe_of}
 use Rattle.nv_fs.specs.Fetched.{hand_out, read_input, read_file, pipe_at, with_pipe, read_pipe, read_target, read_open, read_of}
-use Rattle.nv_fs.specs.Names.{Resolved, is_cwd, is_open_at, is_absolute, name_in as nv_fs_name_in, is_named, file_of as nv_fs_file_of, component_of, name_of, resolved}
-use Rattle.nv_fs.specs.Opened.{has_flag, opened, open_file, truncated, free_file, with_file, create, open_at_descriptor, is_refused, open_unless, open_resolved, open_at_of, unlinked, unlink_file, unlink_resolved, unlink_at_of}
+use Rattle.nv_fs.specs.Names.{Resolved, is_cwd, is_open_at, is_absolute, name_in, is_named, file_of, component_of, name_of, resolved}
+use Rattle.nv_fs.specs.Opened.{has_flag, opened, open_file, truncated, free_file, with_file, create, open_at_descriptor, exclusive_error, open_unless, open_resolved, open_at_of, unlinked, unlink_file, unlink_resolved, unlink_at_of}
 use Rattle.nv_fs.specs.Seeks.{bytes_of, plus_signed, base_of, seek_to, seek_from, seek_target, seek_open, seek_of}
 use Rattle.nv_fs.specs.Starts.{first_descriptors, first_opens, first_state}
-use Rattle.nv_fs.specs.States.{Inode, FileState, Answer, answer as nv_fs_answer, only, numbered, open_of, is_open, one_way, is_target, opens_to, has_open, is_number, is_shared, file_at, is_kept, is_pipe, least_free, with_at, free_open, install, moved_to}
+use Rattle.nv_fs.specs.States.{Inode, FileState, Answer, answer, only, numbered, open_of, is_open, one_way, is_target, opens_to, has_open, is_numbered, is_shared, file_at, is_kept, is_pipe, least_free, with_at, free_open, install, moved_to}
 use Rattle.nv_fs.specs.Stored.{write_console, with_content, start_of, write_at, write_pipe, write_target, write_open, write_of}
 use Rattle.nv_fs.specs.Told.{told_by, told_of, opened_as}
-use Rattle.nv_script.specs.Entries.{Entry as nv_script_Entry, form_of, is_printable, is_argument, is_file_byte, is_dots, is_file_name, kinds, in_form, kind_of, shaped, argument as nv_script_argument, file_with, file_of as nv_script_file_of, clock_fits, clock_entry, clock_with, clock_of, is_hand, hand_entry, hand_with, is_port, connection_entry, connection_with, connection_of, entry_by, entry_with, is_passed_over, entry_of}
-use Rattle.nv_script.specs.Scripts.{Named, Incoming, Setup, Draft, blank, has_name, with_argument, with_input, with_file as nv_script_with_file, with_clock, with_seed, has_hand, with_hand, with_connection, with_entry, with_result, with_line, onward, drafted, no_clock, setup_with, finished, finished_result, no_form, script_in, script_of_lines, script_of}
-use Rattle.nv_script.specs.Texts.{cause_word, fault_text}
-use Rattle.nv_kernel.specs.Crew.{Crew, first_crew, may_clone, clone_as, clone_of, exit_of, over as nv_kernel_over}
-use Rattle.nv_kernel.specs.Serving.{State, Served, replied as nv_kernel_replied, always, of_files, of_crew, counted as nv_kernel_counted, arg, second, time_bytes, time_of, next_random, high_byte, randoms, random_after, randomly, control, unless_many, clock, answered as nv_kernel_answered, unless_bad as nv_kernel_unless_bad, serve, inode_from, first_state as nv_kernel_first_state}
-use Rattle.nv_sockets.specs.Serving.{of_open, unless_many as nv_sockets_unless_many, answered as nv_sockets_answered, unless_bad as nv_sockets_unless_bad, or_own, State as nv_sockets_State, Served as nv_sockets_Served, beside, joined as nv_sockets_joined, serve as nv_sockets_serve, state_after, reply_of, written as nv_sockets_written, start_at, link_from, port_from, first_net, first_state as nv_sockets_first_state}
-use Rattle.nv_sockets.specs.Sockets.{Link, Net, Answer as nv_sockets_Answer, answer as nv_sockets_answer, only as nv_sockets_only, no_sockets, socket_at, fault_of as nv_sockets_fault_of, on_socket, with_socket, free_place, opened as nv_sockets_opened, are_flags, is_stream, is_tcp, made_at, socket_of, port_by, port_in, is_size, has_port, is_used, bind_to, bind_socket, bind_of, listen_socket, listen_of, waits_at as nv_sockets_waits_at, next_at, with_accepted, accept_next, accept_socket, accept_flagged, accept_of, link_at, input_of, output_of as nv_sockets_output_of, read_link, read_socket, with_output, write_link, write_socket, close_socket}
-use Rattle.nv_sockets.specs.Texts.{count_text, line_text, lines_text}
+use Rattle.nv_script.specs.Entry.{Entry as nv_script_Entry, form_of, is_printable, is_argument, is_file_byte, is_dots, is_file_name, entry_kinds, in_form, kind_of, shaped, argument_entry, file_with, file_entry, clock_fits, clock_entry, clock_with, clock_of, is_hand, hand_entry, hand_with, is_port, connection_entry, connection_with, connection_of, entry_by, entry_with, is_passed_over, entry_of}
+use Rattle.nv_script.specs.Scripts.{Named, Incoming, Setup, Draft, blank, has_name, with_argument, with_input, with_named_file, with_clock, with_seed, has_hand, with_hand, with_connection, with_entry, with_result, with_script_line, onward, drafted, no_clock, setup_with, finished, finished_result, no_form, script_in, script_of_lines, script_of}
+use Rattle.nv_script.specs.Texts.{cause_word, script_fault_text}
+use Rattle.nv_kernel.specs.Crew.{Crew, first_crew, may_clone, clone_as, clone_of, exit_of, with_none_live}
+use Rattle.nv_kernel.specs.Serving.{State, Served, replied, always, of_files, of_crew, counted, request_arg, second, time_bytes, time_of, next_random, high_byte, randoms, random_after, randomly, control, unless_many, clock, answered, unless_bad as nv_kernel_unless_bad, serve, named_inode, first_state as nv_kernel_first_state}
+use Rattle.nv_sockets.specs.Serving.{of_open, unless_many as nv_sockets_unless_many, answered as nv_sockets_answered, unless_bad as nv_sockets_unless_bad, or_own, State as nv_sockets_State, Served as nv_sockets_Served, beside, joined, serve as nv_sockets_serve, state_after, reply_of, link_written, start_at, link_from, port_from, first_net, first_state as nv_sockets_first_state}
+use Rattle.nv_sockets.specs.Sockets.{Link, Net, Answer as nv_sockets_Answer, answer as nv_sockets_answer, only as nv_sockets_only, no_sockets, socket_at, fault_of, on_socket, with_socket, free_place, socket_opened, are_flags, is_stream, is_tcp, made_at, socket_of, port_by, port_in, is_size, has_port, is_used, bind_to, bind_socket, bind_of, listen_socket, listen_of, waits_at_port, next_at, with_accepted, accept_next, accept_socket, accept_flagged, accept_of, link_at, input_of, link_output, read_link, read_socket, with_output, write_link, write_socket, close_socket}
+use Rattle.nv_sockets.specs.Texts.{connection_count_text, connection_text, connection_texts}
 use Rattle.nv_bpf.specs.Actions.{actions, action_of}
 use Rattle.nv_bpf.specs.Faults.{filter_text}
-use Rattle.nv_bpf.specs.Texts.{at_most, field as nv_bpf_field, op_with, op_of_fields, op_of, put_first, with_line as nv_bpf_with_line, ops_of, count_of as nv_bpf_count_of, ops_after, ops_of_lines, ops_of_text, filter_with, filter_of, ended_number, op_text, text_of as nv_bpf_text_of}
-use Rattle.nv_bpf.specs.Verified.{unless, constant_fault, action_fault, fault_by, op_fault, is_return, or_later as nv_bpf_or_later, ops_fault, ends_in_return, list_fault, ops_or, verified}
-use Rattle.nv_rules.specs.Pairs.{argument_words, call_words, pair_words}
-use Rattle.nv_rules.specs.Values.{FilterState, start, held, with_held, other, operand_of, computed as nv_rules_computed, holds as nv_rules_holds, Effect, goes_with, ends_without, acted, gone_on, stepped as nv_rules_stepped, returned_from, returned, value_of}
+use Rattle.nv_bpf.specs.Texts.{at_most, field, op_with, op_of_fields, op_of, put_first, with_line, ops_of, line_count, ops_after, ops_of_lines, ops_of_text, filter_with, filter_of, ended_number, op_text, ops_text}
+use Rattle.nv_bpf.specs.Verified.{unless, constant_fault, action_fault, fault_by, op_fault, is_return, or_later_fault, ops_fault, ends_in_return, list_fault, ops_or, verified}
+use Rattle.nv_rules.specs.Pair.{argument_words, call_words, pair_words}
+use Rattle.nv_rules.specs.Values.{FilterState, filter_start, held, with_register, other, operand_of, calculated, comparison_holds, Effect, goes_with, ends_without, acted, gone_on, stepped, returned_from, returned, value_of}
 use Rattle.nv_rules.specs.Verdicts.{verdict_of}
-use Rattle.nv_replay.specs.Accounts.{IsSettled}
+use Rattle.nv_replay.specs.Account.{IsSettled}
 use Rattle.nv_replay.specs.Covers.{times, led_times}
-use Rattle.nv_replay.specs.Follow.{Follower, fresh as nv_replay_fresh, Judge, no_rules, consumed, judged, refusal_of, permit_by, refusal_by, met, decided, on_next, next as nv_replay_next, is_exited}
+use Rattle.nv_replay.specs.Follow.{Follower, fresh, Judge, no_rules, consumed, judged, refusal_of, permit_by, refusal_by, met, decided, on_next, follow_next, is_exited}
 use Rattle.nv_replay.specs.Hands.{has, is_handed, unless_handed, next_or_hand, lead_to_hand}
 use Rattle.nv_replay.specs.Lead.{Leader, is_cut, is_memory, cut_of, logged, led, unless_ended, next_call}
-use Rattle.nv_replay.specs.Monitor.{Part, Run, numbers, part, begun as nv_replay_begun, with_span, led_line, after_lead, tracked_by, leads_on, turn_by, turn_of, turn_in, turn, line_of as nv_replay_line_of, lines_of, account_of}
-use Rattle.nv_replay.specs.Permits.{Permit, given, failed, passed as nv_replay_passed, permit}
-use Rattle.nv_replay.specs.Sequence.{Account, is_on as nv_replay_is_on, cuts_of}
+use Rattle.nv_replay.specs.Monitor.{Part, Run, numbers, part, begun, with_span, led_line, after_lead, tracked_by, leads_on, turn_by, turn_of, turn_in, turn, told_standing, lines_of, account_of}
+use Rattle.nv_replay.specs.Permits.{Permit, given, failed, passed, permit}
+use Rattle.nv_replay.specs.Sequence.{Account, is_going, cuts_of}
 use Rattle.nv_replay.specs.Settling.{stage}
 use Rattle.nv_replay.specs.Survivors.{alone, IsSurvivor, HasNoClone}
 use Rattle.nv_replay.specs.Tracks.{is_in, is_led, retraced_by, tracked, track_on, track_next, track}
 use Rattle.nv_report.specs.Events.{payload_text, call_text, result_text, event_text}
-use Rattle.nv_report.specs.Json.{natural, integer, list_value, hex_value, word_value, payload_value, event_value, span_value, led_value, version_members, version_value, report_object, report_value}
+use Rattle.nv_report.specs.Json.{natural, integer, list_value, hex_value, word_json, payload_value, event_value, span_value, led_value, version_members, version_value, report_object, report_value}
 use Rattle.nv_report.specs.Numbers.{number_text, hex_digit, hex_pair, hex_text}
-use Rattle.nv_report.specs.Report.{head_text, count_text as nv_report_count_text, fates_text}
-use Rattle.nv_report.specs.Versions.{kind_text, fault_text as nv_report_fault_text, refusal_text, fate_text, end_text, prefix_text, seen_text, span_text, next_span_text, led_text, rewrites_text, rest_text, line_text as nv_report_line_text, lines_text as nv_report_lines_text}
-use Rattle.nv_asm.specs.Assembled.{Whole, text_base, data_base, base, address, address_of, is_undefined, is_entry_place, is_entry as nv_asm_is_entry, word_lacks, code_lacks, lacks, distance, word_value as nv_asm_word_value, code_words, le_words, content, is_earlier, is_twice, is_long, padding as nv_asm_padding, padded, laid_by, laid, cause_of, bytes_of as nv_asm_bytes_of, laid_in, section_bytes, entry_past, entry_of as nv_asm_entry_of, text_range, data_ranges, program, first_cause, meaning_by, meaning, whole_of, assembled_lines, assembled}
+use Rattle.nv_report.specs.Report.{head_text, count_text, fates_text}
+use Rattle.nv_report.specs.Versions.{kind_text, fault_text, refusal_text, fate_text, end_text, prefix_text, seen_text, span_text, next_span_text, led_text, rewrites_text, rest_text, line_text, lines_text}
+use Rattle.nv_asm.specs.Assembled.{Whole, text_base, data_base, base, address, address_of, is_undefined, is_entry_place, is_entry, word_lacks, code_lacks, lacks, distance, word_value, code_words, le_words, content, is_earlier, is_twice, is_long, padding_before, padded, laid_by, laid, cause_of, bytes_or_none, laid_in, section_bytes, entry_past, entry_address, text_range, data_ranges, laid_program, first_cause, meaning_by, meaning, whole_of, assembled_lines, assembled}
 use Rattle.nv_asm.specs.Faults.{asm_word, asm_text}
-use Rattle.nv_asm.specs.Forms.{same_form, has_form, flags, each_order, kinds as nv_asm_kinds}
-use Rattle.nv_asm.specs.Numbers.{registers, numbered as nv_asm_numbered, register as nv_asm_register, decimal, hexadecimal, magnitude, signed as nv_asm_signed, literal, is_number as nv_asm_is_number, within, number as nv_asm_number, number_of_12_bits, number_of_32_bits, number_of_8_bits}
-use Rattle.nv_asm.specs.Places.{here_by, here, filled, among_data, in_section, counted as nv_asm_counted, code_size, size, begin, past as nv_asm_past, Placed, stated, place, after, line_parts, placed_parts, placed_line, placed, start as nv_asm_start, ended, marked}
-use Rattle.nv_asm.specs.Statements.{Word, Code, Statement, insn, single, with_number, upper_of, lower_of, loading, name, is_not_open, closed, enclosed, base_register, displacement, sole_register, registers_of, immediate_of, shift_of, load_of, store_of, reserved_of, atomic_of, branch_of, jump_and_link_of, upper_number_of, load_number_of, load_address_of, move_of, jump_of, zeros, zeros_of, entry_of as nv_asm_Statements_entry_of, of_none, of_one, of_two, of_three, formed, is_within, value_of as nv_asm_value_of, is_byte, byte_of, bytes_within, bytes_of as nv_asm_Statements_bytes_of, is_item, is_word as nv_asm_is_word, word_of as nv_asm_word_of, words_within, words_of, read_of as nv_asm_read_of, stated as nv_asm_stated, begun as nv_asm_begun, statement}
-use Rattle.nv_asm.specs.Strings.{escape, at_end, escaped_mark, mark, quoted, string, next as nv_asm_next, comment_place}
+use Rattle.nv_asm.specs.Forms.{same_form, has_form, flags, each_order, kinds}
+use Rattle.nv_asm.specs.Numbers.{registers, numbered_register, register_named, decimal, hexadecimal, magnitude, signed, literal, is_number, within, number, number_of_12_bits, number_of_32_bits, number_of_8_bits}
+use Rattle.nv_asm.specs.Places.{here_by, here, filled, among_data, in_section, or_blank, code_size, size, begin, past, Placed, stated, place, after, line_parts, placed_parts, placed_line, placed, nothing_reached, ended, marked}
+use Rattle.nv_asm.specs.Statements.{Word, Code, Statement, insn, single, with_number, upper_of, lower_of, loading, name, is_not_open, closed, enclosed, base_register, displacement, sole_register, registers_of, immediate_of, shift_of, load_of, store_of, reserved_statement, atomic_of, branch_of, jump_and_link_of, upper_number_of, load_number_of, load_address_of, move_of, jump_of, zeros, zeros_of, entry_statement, of_none, of_one, of_two, of_three, formed, is_within, number_or_zero, is_byte, byte_of, bytes_within, bytes_of as nv_asm_bytes_of, is_item, is_word, word_of, words_within, words_of, kind_read, stated as nv_asm_stated, statement_begun, statement}
+use Rattle.nv_asm.specs.Strings.{escape, at_end, escaped_mark, mark, quoted, string, next, comment_place}
 use Rattle.nv_bpf_asm.specs.Assembled.{is_not_comment, line_parts as nv_bpf_asm_line_parts, word_count, count, labels, Find, is_earlier as nv_bpf_asm_is_earlier, is_twice as nv_bpf_asm_is_twice, way, near_way, jump_by, jump_op, branch_by, branch_op, op_of as nv_bpf_asm_op_of, op_after, some_op, op_of_word, op_of_parts, op_of_line, put_first as nv_bpf_asm_put_first, with_line as nv_bpf_asm_with_line, ops_of as nv_bpf_asm_ops_of, of_filter, filter_with as nv_bpf_asm_filter_with, assembled as nv_bpf_asm_assembled}
 use Rattle.nv_bpf_asm.specs.Faults.{rule_word, rules_text}
-use Rattle.nv_bpf_asm.specs.Statements.{Statement as nv_bpf_asm_Statement, forms, after_prefix, closed as nv_bpf_asm_closed, constant, between, of_event, plain as nv_bpf_asm_plain, sum_of, return_of, load_of as nv_bpf_asm_load_of, load_index_of, jump_of as nv_bpf_asm_jump_of, choice_of, branch_of as nv_bpf_asm_branch_of, formed as nv_bpf_asm_formed, stated as nv_bpf_asm_stated, statement as nv_bpf_asm_statement}
-use Rattle.nv_gen.specs.Made.{Numbers, numbers_of, Call, Ending, Course, text_of as nv_gen_text_of, asks as nv_gen_asks, calls_at, calls_to, course, courses_to, script, rules, Totals, field as nv_gen_field, summary}
-use Rattle.nv_gen.specs.Programs.{sets, points, ecall, ebreak, write_insns, getuid_insns, exit_insns, insns_of, last_insns, insns, word_of as nv_gen_word_of, code_of, block, segment_bytes, text_range as nv_gen_text_range, program as nv_gen_program, programs_to, programs}
+use Rattle.nv_bpf_asm.specs.Statements.{Statement as nv_bpf_asm_Statement, forms, after_prefix, closed as nv_bpf_asm_closed, constant, between, of_event, plain, sum_of, return_of, load_of as nv_bpf_asm_load_of, load_index_of, jump_of as nv_bpf_asm_jump_of, choice_of, branch_of as nv_bpf_asm_branch_of, formed as nv_bpf_asm_formed, stated as nv_bpf_asm_stated, statement as nv_bpf_asm_statement}
+use Rattle.nv_gen.specs.Made.{Numbers, numbers_of, Call, Ending, Course, write_text, calls_getuid, calls_at, calls_to, course, courses_to, script, rules, Totals, named_number, summary}
+use Rattle.nv_gen.specs.Programs.{sets, points, ecall, ebreak, write_insns, getuid_insns, exit_insns, insns_of, last_insns, insns, insn_bytes, code_of, block, segment_bytes, course_range, program, programs_to, programs}
 use Rattle.nv_trace.specs.Checks.{is_live, is_reply, entry_fault, faults_after}
 use Rattle.nv_trace.specs.Faults.{has_head, head_fault, event_fault, events_fault}
 use Rattle.nv_trace.specs.Held.{count_in, bad_in, sent_in, came_in, size_in, request_in, response_in, entry_in, entries_in, log_in}
 use Rattle.nv_trace.specs.Texts.{trace_text, check_text}
-use Rattle.nv_trace.specs.Trace.{numbers as nv_trace_numbers, bit, arg as nv_trace_arg, fields_of, event_bytes, head_bytes}
+use Rattle.nv_trace.specs.Trace.{number_bytes, bit, arg, fields_of, event_bytes, head_bytes}
 use Rattle.nv_retrace.specs.Points.{place_of, events_to, budget_to}
-use Rattle.nv_inspect.specs.Firsts.{firsts}
-use Rattle.nv_inspect.specs.Shown.{word_text, end_text as nv_inspect_end_text, place_text, head_text as nv_inspect_head_text, register_text, registers_text, counter_text, thread_text, live_text, threads_text, opened_text, named_text, descriptor_as, descriptor_text, descriptors_text, cell_text, byte_text, row_text, line_text as nv_inspect_line_text, dump_text}
+use Rattle.nv_inspect.specs.Firsts.{texts_below}
+use Rattle.nv_inspect.specs.Shown.{word_text, standing_text, place_text, heading_text, register_text, registers_text, counter_text, thread_text, live_text, threads_text, opened_text, named_text, descriptor_as, descriptor_text, descriptors_text, cell_text, byte_text, row_text, memory_line, dump_text}
 use Rattle.nv_command.specs.Simple.{option_rule, flag_rule, file_rule, files_rule, required, simple_app, run_options, run_app, record_app, trail_options, look_options, trail_files, replay_app, inspect_app, rules_app, asm_app, gen_app}
-use Rattle.nv_command.specs.Words.{texts, unless_faulty, rows_of_line, number_between, number_within, in_pages, ring_of, memory_of, budget_of, calls_of as nv_command_calls_of, threads_of, Limits, usual, limits_of, versions_of, is_set, Plan, plan_of, report_plan_of, index_of, Trail, trail_of, Point, point_from, point_of, range_of, dump_from, dump_of, Look, look_of, Job, rules_job_of, asm_job_of, number_in, Command, Name, name_of as nv_command_name_of, run_line, rules_line, asm_line, gen_line, record_line, replay_line, inspect_line, asked_by, after_program}
+use Rattle.nv_command.specs.Words.{texts, unless_faulty, rows_of_line, number_between, number_within, in_pages, ring_of, memory_of, budget_of, calls_asked, threads_asked, Limits, usual, limits_of, versions_asked, is_set, Plan, plan_of, report_plan_of, index_of, Trail, trail_of, Point, point_from, point_of, range_of, dump_from, dump_of, Look, look_of, Job, rules_job_of, asm_job_of, number_in, Command, Name, name_spelt, run_line, rules_line, asm_line, gen_line, record_line, replay_line, inspect_line, asked_by, after_program}
 use Rattle.nv_jobs.specs.Due.{made_outcome, lack_outcome, traced_outcome, files_after, shown_of, IsReady, IsMade, IsTraced, IsRefusedAt, IsRefusedFor, IsRefusedOn, IsReport}
 use Rattle.nv_jobs.specs.Found.{FILE_LIMIT, TRACE_LIMIT, is_longer, TookMore, TookLong, Found, IsReadWithin, IsLongerThan, AgreesWithin, AllAgree, AgreesIf, Finds, found_within, found_of, finds_of}
-use Rattle.nv_jobs.specs.Made.{accepted_text, of_filter as nv_jobs_of_filter, of_rules, of_program, used, unless_refused}
-use Rattle.nv_jobs.specs.Outcome.{account_text, totals_of, name_of as nv_jobs_name_of, name_on, Source, source_of}
-use Rattle.nv_jobs.specs.Prepared.{VersionOf, of_loaded, of_elf, Prepared, read_at, with_machine as nv_jobs_with_machine, version_then, versions_from, judged_by, rules_then, after_rules, after_script}
+use Rattle.nv_jobs.specs.Made.{accepted_text, accepted_filter, of_rules, of_program, used, unless_refused}
+use Rattle.nv_jobs.specs.Outcome.{account_text, totals_of, name_at, name_on, Source, source_of}
+use Rattle.nv_jobs.specs.Prepared.{VersionOf, of_loaded, of_elf, Prepared, read_at, with_first_machine, version_then, versions_from, judged_by, rules_then, after_rules, after_script}
 use Rattle.nv_jobs.specs.Replayed.{counts_text}
 use Rattle.nv_jobs.specs.Tasks.{fault_outcome}
-use Rattle.nv_jobs.specs.Traced.{TraceFinds, AreTraceFound, trace_finds_of, Lack, then_with, bytes_at as nv_jobs_bytes_at, of_script, script_at, of_filter as nv_jobs_Traced_of_filter, rules_at, unless_unsound, unless_faulty as nv_jobs_unless_faulty, of_trace, log_at, trail_limits, of_version, machine_at as nv_jobs_machine_at, Traced, after_log, after_filter, after_setup}
-use Rattle.nv_jobs.specs.Tracing.{point_of as nv_jobs_point_of}
+use Rattle.nv_jobs.specs.Traced.{TraceFinds, AreTraceFound, trace_finds_of, Lack, then_with, bytes_found, of_script, script_at, traced_rules, rules_at, unless_unsound, log_unless_faulty, of_trace, log_at, trail_limits, traced_version, machine_traced, Traced, after_log, after_filter, after_setup}
+use Rattle.nv_jobs.specs.Tracing.{trace_point}
 use Rattle.nv_cli.specs.Program.{Given, AreRefused, Begins}

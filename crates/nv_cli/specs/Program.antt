@@ -8,7 +8,7 @@ use Rattle.nv_outside.specs.declared.sink.Put.TheVariants.{Whole, Failed}
 use Rattle.nv_command.specs.Words.{texts, command_of}
 use Rattle.nv_command.specs.declared.asked.LineFault.{LineFault}
 use Rattle.nv_jobs.specs.Due.{IsDue, IsUntouched, Shows}
-use Rattle.nv_jobs.specs.Outcome.{Outcome, Source, status_of, text_of, ended_with}
+use Rattle.nv_jobs.specs.Outcome.{Outcome, Source, outcome_status, text_of, ended_with}
 use Rattle.nv_jobs.specs.Tasks.{fault_outcome}
 
 -- the words of the process, or why there are none
@@ -45,4 +45,4 @@ pub record ProgramAnswers (words : Given) (source : Source) (before : Option (Li
   pub due : IsDueOf words source.holds outcome
   pub shown : Shows outcome source
   pub unread : AreRefused words → IsUntouched source
-  pub ends : EndsWith (text_of outcome) (status_of outcome) before faults status after later_faults
+  pub ends : EndsWith (text_of outcome) (outcome_status outcome) before faults status after later_faults

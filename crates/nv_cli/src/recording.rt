@@ -3,14 +3,14 @@ ghost use Rattle.std.specs.Prelude.{◌≡◌, ◌≤◌, [], List, ℕ, Some, l
 ghost use Rattle.nv_command.specs.Seen.{limits_view, plan_view};
 ghost use Rattle.nv_command.specs.Words.{Records, command_of};
 ghost use Rattle.nv_machine.specs.Guest.{Machine};
-ghost use Rattle.nv_replay.specs.Accounts.{AreFresh};
-ghost use Rattle.nv_replay.specs.Versions.{standing_of, process_of};
+ghost use Rattle.nv_replay.specs.Account.{AreFresh};
+ghost use Rattle.nv_replay.specs.Version.{standing_of, process_of};
 ghost use Rattle.nv_threads.specs.Threads.{threads};
 ghost use Rattle.nv_trace.specs.Trace.{trace_of};
-ghost use Rattle.nv_jobs.specs.Account.{begun, run_status};
+ghost use Rattle.nv_jobs.specs.Account.{process_begun, run_status};
 ghost use Rattle.nv_jobs.specs.Due.{Answers, Says};
 ghost use Rattle.nv_jobs.specs.Outcome.{source_of};
-ghost use Rattle.nv_jobs.specs.Ran.{RecordSays};
+ghost use Rattle.nv_jobs.specs.inner.Ran.{RecordSays};
 ghost use Rattle.nv_jobs.specs.Refusals.{IsPlanned};
 
 use crate::beside::run;
@@ -50,7 +50,7 @@ fn record_versions<R: Threads + Wait + Sync, S: Sink, G: Gate + Sync>(
     requires fresh { AreFresh threads 0 versions.items }
     requires few { length versions.items ≤ 8 }
     requires planned { IsPlanned kernel.setup hands.now.items }
-    ensures { (machines : List Machine) → map process_of versions.items ≡ map (begun (limits_view limits)) machines
+    ensures { (machines : List Machine) → map process_of versions.items ≡ map (process_begun (limits_view limits)) machines
         → RecordSays (limits_view limits) kernel.setup (option_map (λ f. f.now) rules.entry) machines (S.told sink.old) (S.faults sink.old) result (S.told sink.new) (S.faults sink.new) }
 {
     let Ok(account) = run(rt, alloc, versions, rules, kernel, gate, limits, hands) else {

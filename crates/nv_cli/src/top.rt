@@ -2,9 +2,9 @@
 ghost use Rattle.std.specs.Prelude.{◌≡◌, ◌≤◌, ◌++◌, [], List, ℕ, Some, codes, length, sum_by, map, option_map};
 ghost use Rattle.nv_machine.specs.Guest.{Machine};
 ghost use Rattle.nv_threads.specs.Threads.{threads};
-ghost use Rattle.nv_replay.specs.Versions.{standing_of, process_of};
-ghost use Rattle.nv_replay.specs.Accounts.{AreFresh};
-ghost use Rattle.nv_jobs.specs.Account.{begun, run_status};
+ghost use Rattle.nv_replay.specs.Version.{standing_of, process_of};
+ghost use Rattle.nv_replay.specs.Account.{AreFresh};
+ghost use Rattle.nv_jobs.specs.Account.{process_begun, run_status};
 ghost use Rattle.nv_command.specs.Words.{Runs, Uses, command_of, texts};
 ghost use Rattle.nv_command.specs.Seen.{limits_view, plan_view};
 ghost use Rattle.nv_calls.specs.Logs.{output_of, connections_of};
@@ -14,12 +14,13 @@ ghost use Rattle.nv_sockets.specs.Serving.{start_of_script};
 ghost use Rattle.nv_sockets.specs.Texts.{connections_text};
 ghost use Rattle.nv_outside.specs.Sink.{Puts};
 ghost use Rattle.nv_jobs.specs.Due.{Says, Answers, Completes, Rejects};
-ghost use Rattle.nv_jobs.specs.Ran.{Wrote, Tells, RunSays};
+ghost use Rattle.nv_jobs.specs.Ran.{Wrote, Tells};
+ghost use Rattle.nv_jobs.specs.inner.Ran.{RunSays};
 ghost use Rattle.nv_jobs.specs.Refusals.{IsPlanned};
-ghost use Rattle.nv_gen.specs.Plans.{totals_in};
+ghost use Rattle.nv_gen.specs.Measures.{totals_in};
 ghost use Rattle.nv_jobs.specs.Generated.{IsGenerated};
-ghost use Rattle.nv_jobs.specs.Summing.{SumsUp};
-ghost use Rattle.nv_jobs.specs.Outcome.{NotAccepted, totals_of, name_of, outcome_of, text_of, source_of};
+ghost use Rattle.nv_jobs.specs.inner.Summing.{SumsUp};
+ghost use Rattle.nv_jobs.specs.Outcome.{NotAccepted, totals_of, name_at, outcome_of, text_of, source_of};
 
 use crate::beside::run;
 use crate::recording::record;
@@ -95,7 +96,7 @@ fn run_versions<R: Threads + Wait + Sync, S: Sink, G: Gate + Sync>(
     requires fresh { AreFresh threads 0 versions.items }
     requires few { length versions.items ≤ 8 }
     requires planned { IsPlanned kernel.setup hands.now.items }
-    ensures { (machines : List Machine) → map process_of versions.items ≡ map (begun (limits_view limits)) machines
+    ensures { (machines : List Machine) → map process_of versions.items ≡ map (process_begun (limits_view limits)) machines
         → RunSays (limits_view limits) json kernel.setup (option_map (λ f. f.now) rules.entry) machines (S.told sink.old) (S.faults sink.old) result (S.told sink.new) (S.faults sink.new) }
 {
     let Ok(account) = run(rt, alloc, versions, rules, kernel, gate, limits, hands) else {

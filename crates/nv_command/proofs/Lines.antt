@@ -7,8 +7,8 @@ use Rattle.clap.specs.Walk.{Row, Text}
 use Rattle.clap.specs.Simple.{App}
 use Rattle.nv_command.specs.Simple.{run_app, record_app, replay_app, inspect_app, rules_app, asm_app, gen_app}
 use Rattle.nv_command.specs.Tables.{app_named, asked_of}
-use Rattle.nv_command.specs.Words.{NamesRun, NamesRules, NamesAsm, NamesGen, NamesRecord, NamesReplay, NamesInspect, Runs, Uses, Generates, Records, Replays, Inspects, plan_of, report_plan_of, rules_job_of, asm_job_of, number_in, trail_of, look_of, run_line, rules_line, asm_line, gen_line, record_line, replay_line, inspect_line, ring_of, memory_of, budget_of, calls_of, threads_of, limits_of, Name, Command as Line, rows_of_line, texts, asked_by, name_of, name_in, command_of}
-use Rattle.nv_command.specs.Seen.{IsRefused}
+use Rattle.nv_command.specs.Words.{NamesRun, NamesRules, NamesAsm, NamesGen, NamesRecord, NamesReplay, NamesInspect, Runs, Uses, Generates, Records, Replays, Inspects, plan_of, report_plan_of, rules_job_of, asm_job_of, number_in, trail_of, look_of, run_line, rules_line, asm_line, gen_line, record_line, replay_line, inspect_line, ring_of, memory_of, budget_of, calls_asked, threads_asked, limits_of, Name, Command as Line, rows_of_line, texts, asked_by, name_spelt, command_name, command_of}
+use Rattle.nv_command.specs.Seen.{WordsRefused}
 use Rattle.nv_command.specs.declared.asked.LineFault.{LineFault}
 use Rattle.nv_command.specs.declared.asked.LineFault.TheVariants.{Usage, Memory}
 
@@ -28,16 +28,16 @@ module _ (rows : List Row) where
       no_budget h = rw (← r, ← m, ← h) refl
 
       module _ (budget : ℕ) (b : Some budget ≡ budget_of rows) where
-        pub no_calls : None ≡ calls_of rows → None ≡ limits_of rows
+        pub no_calls : None ≡ calls_asked rows → None ≡ limits_of rows
         unfolding limits_of
         no_calls h = rw (← r, ← m, ← b, ← h) refl
 
-        module _ (calls : ℕ) (c : Some calls ≡ calls_of rows) where
-          pub no_threads : None ≡ threads_of rows → None ≡ limits_of rows
+        module _ (calls : ℕ) (c : Some calls ≡ calls_asked rows) where
+          pub no_threads : None ≡ threads_asked rows → None ≡ limits_of rows
           unfolding limits_of
           no_threads h = rw (← r, ← m, ← b, ← c, ← h) refl
 
-          pub all_limits : (threads : ℕ) → Some threads ≡ threads_of rows
+          pub all_limits : (threads : ℕ) → Some threads ≡ threads_asked rows
               → Some (record { ring = ring; memory = memory; budget = budget; calls = calls; threads = threads }) ≡ limits_of rows
           unfolding limits_of
           all_limits threads h = rw (← r, ← m, ← b, ← c, ← h) refl
@@ -79,23 +79,23 @@ short (w ∷ []) h = refl
 short (w ∷ v ∷ ws) h = absurd (omega arith)
 
 module _ (word : String Global) (name : List ℕ) (is : name ≡ string_bytes word) where
-  pub name_at : (words : List (String Global)) → 2 ≤ length words → word ≡ slice_index_or words 1 word → name_in (texts words) ≡ name_of name
+  pub name_at : (words : List (String Global)) → 2 ≤ length words → word ≡ slice_index_or words 1 word → command_name (texts words) ≡ name_spelt name
   name_at [] le at = absurd (omega arith)
   name_at (p ∷ []) le at = absurd (omega arith)
-  name_at (p ∷ w ∷ ws) le at = ap name_of (sym (is ∙ ap string_bytes at))
+  name_at (p ∷ w ∷ ws) le at = ap name_spelt (sym (is ∙ ap string_bytes at))
 
   pub named_is : (words : List (String Global)) → 2 ≤ length words → word ≡ slice_index_or words 1 word
-      → command_of (texts words) ≡ option_and_then (asked_by (texts (take (length words - 1) (drop 1 words)))) (name_of name)
+      → command_of (texts words) ≡ option_and_then (asked_by (texts (take (length words - 1) (drop 1 words)))) (name_spelt name)
   unfolding command_of
   named_is [] le at = absurd (omega arith)
   named_is (p ∷ []) le at = absurd (omega arith)
   named_is (p ∷ w ∷ ws) le at =
       let n : length (p ∷ w ∷ ws) - 1 ≡ length (w ∷ ws) = omega arith in
       let rest : take (length (p ∷ w ∷ ws) - 1) (w ∷ ws) ≡ w ∷ ws = ap (λ k. take k (w ∷ ws)) n ∙ take-length (w ∷ ws) in
-      ap₂ (λ (ts : List (String Global)) (t : List ℕ). option_and_then (asked_by (texts ts)) (name_of t)) (sym rest) (sym (is ∙ ap string_bytes at))
+      ap₂ (λ (ts : List (String Global)) (t : List ℕ). option_and_then (asked_by (texts ts)) (name_spelt t)) (sym rest) (sym (is ∙ ap string_bytes at))
 
-pub faulty : {T : Type 0} (r : Result T LineFault) (words : List Text) (name : Option Name) (asked : Option Line) → command_of words ≡ asked → name_in words ≡ name
-    → IfErr r (λ fault. fault ≡ Usage → asked ≡ None) → IfErr r (λ fault. fault ≡ Memory → IsSome name) → IfErr r (λ fault. IsRefused fault words)
+pub faulty : {T : Type 0} (r : Result T LineFault) (words : List Text) (name : Option Name) (asked : Option Line) → command_of words ≡ asked → command_name words ≡ name
+    → IfErr r (λ fault. fault ≡ Usage → asked ≡ None) → IfErr r (λ fault. fault ≡ Memory → IsSome name) → IfErr r (λ fault. WordsRefused fault words)
 faulty (Ok x) words name asked is named refused memory = tt
 faulty (Err Usage) words name asked is named refused memory = is ∙ refused refl
 faulty (Err Memory) words name asked is named refused memory = subst (λ (n : Option Name). IsSome n) (sym named) (memory refl)

@@ -5,7 +5,7 @@ use Rattle.std.proofs.lemmas.Bool.Decides.{nat_tests}
 use Rattle.clap.specs.Walk.{Row, Text, first_of}
 use Rattle.nv_text.specs.Numbers.{number_of}
 use Rattle.nv_command.specs.Simple.{gen_app}
-use Rattle.nv_command.specs.Words.{Name, NamesRun, NamesRules, NamesAsm, NamesGen, NamesRecord, NamesReplay, NamesInspect, Plan, Job, Trail, Look, Runs, Uses, Generates, Records, Replays, Inspects, number_between, number_in, rows_of_line, run_line, rules_line, asm_line, gen_line, record_line, replay_line, inspect_line, asked_by, after_program, command_of, name_in}
+use Rattle.nv_command.specs.Words.{Name, NamesRun, NamesRules, NamesAsm, NamesGen, NamesRecord, NamesReplay, NamesInspect, Plan, Job, Trail, Look, Runs, Uses, Generates, Records, Replays, Inspects, number_between, number_in, rows_of_line, run_line, rules_line, asm_line, gen_line, record_line, replay_line, inspect_line, asked_by, after_program, command_of, command_name}
 
 kept_within : (k n : ℕ) (b : Bool) → (b ≡ true → k ≤ 999999) → cond b (Some k) None ≡ Some n → n ≤ 999999
 kept_within k n true within h = let e : k ≡ n = cc in let le : k ≤ 999999 = within refl in omega arith
@@ -68,4 +68,4 @@ named_within words (Some NamesInspect) n h = absurd (inspects_none (inspect_line
 -- a number that is asked for has at most six digits
 pub generated_within : (words : List Text) (n : ℕ) → command_of words ≡ Some (Generates n) → n ≤ 999999
 unfolding command_of
-generated_within words n h = named_within (after_program words) (name_in words) n h
+generated_within words n h = named_within (after_program words) (command_name words) n h

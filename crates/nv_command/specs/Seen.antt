@@ -2,7 +2,7 @@
 use Rattle.std.specs.Prelude.{◌≡◌, List, Option, None, map, option_map, IsSome}
 use Rattle.std.specs.Borrow.{Bor}
 use Rattle.clap.specs.Walk.{Text}
-use Rattle.nv_command.specs.Words.{Limits, Plan, Job as FileJob, Trail as TraceTrail, Point as TracePoint, AtStamp, AtCall, AtCount, Look as TraceLook, Command as Line, Runs, Uses, Generates, Records, Replays, Inspects, command_of, name_in}
+use Rattle.nv_command.specs.Words.{Limits, Plan, Job as FileJob, Trail as TraceTrail, Point as TracePoint, AtStamp, AtCall, AtCount, Look as TraceLook, Command as Line, Runs, Uses, Generates, Records, Replays, Inspects, command_of, command_name}
 use Rattle.nv_command.specs.declared.limits.Limits.{Limits as Held}
 use Rattle.nv_command.specs.declared.asked.Run.{Run}
 use Rattle.nv_command.specs.declared.parts.Parts.{Parts}
@@ -64,6 +64,6 @@ command_view (command.Replay trail) = Replays (trail_view trail)
 command_view (command.Inspect look) = Inspects (look_view look)
 
 -- the words are refused; or they name a command, and memory ran out while its words were read
-abbrev pub IsRefused : LineFault → List Text → Type 0
-IsRefused Usage words = command_of words ≡ None
-IsRefused Memory words = IsSome (name_in words)
+abbrev pub WordsRefused : LineFault → List Text → Type 0
+WordsRefused Usage words = command_of words ≡ None
+WordsRefused Memory words = IsSome (command_name words)

@@ -47,11 +47,11 @@ memory_of rows = option_and_then in_pages (number_within 1048576 131072 16777216
 unfoldable pub budget_of : List Row → Option ℕ
 budget_of rows = number_within 10000000 1 1000000000 (first_of (codes "budget") rows)
 
-unfoldable pub calls_of : List Row → Option ℕ
-calls_of rows = number_within 65536 1 131072 (first_of (codes "calls") rows)
+unfoldable pub calls_asked : List Row → Option ℕ
+calls_asked rows = number_within 65536 1 131072 (first_of (codes "calls") rows)
 
-unfoldable pub threads_of : List Row → Option ℕ
-threads_of rows = number_within 8 1 8 (first_of (codes "threads") rows)
+unfoldable pub threads_asked : List Row → Option ℕ
+threads_asked rows = number_within 8 1 8 (first_of (codes "threads") rows)
 
 -- the limits of a run: places of the ring, bytes of a guest, instructions of a version, events of the log, threads of the host
 pub record Limits : Type 0 where
@@ -69,11 +69,11 @@ unfoldable pub limits_of : List Row → Option Limits
 limits_of rows =
     option_and_then (λ ring. option_and_then (λ memory. option_and_then (λ budget. option_and_then (λ calls. option_map (λ threads.
     record { ring = ring; memory = memory; budget = budget; calls = calls; threads = threads })
-    (threads_of rows)) (calls_of rows)) (budget_of rows)) (memory_of rows)) (ring_of rows)
+    (threads_asked rows)) (calls_asked rows)) (budget_of rows)) (memory_of rows)) (ring_of rows)
 
 -- at most eight versions
-unfoldable pub versions_of : List Row → Option (List Text)
-versions_of rows = option_and_then (λ names. if nat_le (length names) 8 then Some names else None) (all_of (codes "version") rows)
+unfoldable pub versions_asked : List Row → Option (List Text)
+versions_asked rows = option_and_then (λ names. if nat_le (length names) 8 then Some names else None) (all_of (codes "version") rows)
 
 -- the flag stands on the line
 abbrev pub is_set : Text → List Row → Bool
@@ -91,7 +91,7 @@ unfoldable pub plan_of : Bool → List Row → Option Plan
 plan_of json rows =
     option_and_then (λ script. option_and_then (λ versions. option_map (λ limits.
     record { script = script; rules = first_of (codes "rules") rows; versions = versions; limits = limits; json = json })
-    (limits_of rows)) (versions_of rows)) (first_of (codes "script") rows)
+    (limits_of rows)) (versions_asked rows)) (first_of (codes "script") rows)
 
 -- the plan of a run that is reported
 abbrev pub report_plan_of : List Row → Option Plan
@@ -195,8 +195,8 @@ pub data Name : Type 0 where
   NamesReplay : Name
   NamesInspect : Name
 
-abbrev pub name_of : Text → Option Name
-name_of word =
+abbrev pub name_spelt : Text → Option Name
+name_spelt word =
     if bytes_eq word (codes "run") then Some NamesRun
     else (if bytes_eq word (codes "rules") then Some NamesRules
     else (if bytes_eq word (codes "asm") then Some NamesAsm
@@ -244,9 +244,9 @@ asked_by words NamesReplay = option_map Replays (replay_line words)
 asked_by words NamesInspect = option_map Inspects (inspect_line words)
 
 -- the second word names the command, the first one the program
-abbrev pub name_in : List Text → Option Name
-name_in (program ∷ word ∷ words) = name_of word
-name_in _ = None
+abbrev pub command_name : List Text → Option Name
+command_name (program ∷ word ∷ words) = name_spelt word
+command_name _ = None
 
 abbrev pub after_program : List Text → List Text
 after_program [] = []
@@ -254,4 +254,4 @@ after_program (program ∷ words) = words
 
 -- what the words ask for, if they are accepted
 unfoldable pub command_of : List Text → Option Command
-command_of words = option_and_then (asked_by (after_program words)) (name_in words)
+command_of words = option_and_then (asked_by (after_program words)) (command_name words)

@@ -86,12 +86,12 @@ const INSPECT: Form = Form {
 impl Name {
     ghost use Rattle.std.specs.Prelude.{◌≡◌, true, option_map};
     ghost use Rattle.clap.specs.Faults.{is_simple_and_free};
-    ghost use Rattle.nv_command.specs.Words.{name_of};
+    ghost use Rattle.nv_command.specs.Words.{name_spelt};
     ghost use Rattle.nv_command.specs.Tables.{name_view, app_by, app_named};
 
     /// The command that a word names.
     pub fn of(word: &str) -> Option<Name>
-        ensures { option_map name_view result ≡ name_of word.now }
+        ensures { option_map name_view result ≡ name_spelt word.now }
     {
         match word {
             "run" => Some(Name::Run),

@@ -2,7 +2,7 @@
 ghost use Rattle.std.specs.Prelude.{◌≡◌, ◌≤◌, ◌%◌, IfSome, option_map};
 ghost use Rattle.clap.specs.Matches.{found_of};
 ghost use Rattle.clap.specs.Walk.{rows_of};
-ghost use Rattle.nv_command.specs.Words.{number_between, number_within, in_pages, ring_of, memory_of, budget_of, calls_of, threads_of, limits_of, index_of};
+ghost use Rattle.nv_command.specs.Words.{number_between, number_within, in_pages, ring_of, memory_of, budget_of, calls_asked, threads_asked, limits_of, index_of};
 ghost use Rattle.nv_command.specs.Seen.{limits_view};
 
 use crate::limits::Limits;
@@ -71,17 +71,17 @@ pub fn budget(matches: &ArgMatches<'_>) -> Option<u32>
     number_within(10_000_000, 1, 1_000_000_000, text(matches, "budget"))
 }
 
-#[tactic(auto, unfolding(crate::specs::Words::calls_of))]
+#[tactic(auto, unfolding(crate::specs::Words::calls_asked))]
 fn calls(matches: &ArgMatches<'_>) -> Option<u32>
-    ensures number { result ≡ calls_of (rows_of (found_of matches.now)) }
+    ensures number { result ≡ calls_asked (rows_of (found_of matches.now)) }
     ensures range { IfSome result (λ number. (1 ≤ number) × (number ≤ 131072)) }
 {
     number_within(65_536, 1, 131_072, text(matches, "calls"))
 }
 
-#[tactic(auto, unfolding(crate::specs::Words::threads_of))]
+#[tactic(auto, unfolding(crate::specs::Words::threads_asked))]
 fn threads(matches: &ArgMatches<'_>) -> Option<u32>
-    ensures number { result ≡ threads_of (rows_of (found_of matches.now)) }
+    ensures number { result ≡ threads_asked (rows_of (found_of matches.now)) }
     ensures range { IfSome result (λ number. (1 ≤ number) × (number ≤ 8)) }
 {
     number_within(8, 1, 8, text(matches, "threads"))

@@ -2,9 +2,9 @@
 ghost use Rattle.std.specs.Prelude.{◌≡◌, ◌≤◌, None, Some, IfOk, IfErr, IfSome, IsSome, option_and_then, option_map, length};
 ghost use Rattle.clap.specs.Matches.{found_of};
 ghost use Rattle.clap.specs.Walk.{rows_of};
-ghost use Rattle.nv_command.specs.Words.{texts, NamesRun, NamesRules, NamesAsm, NamesGen, NamesRecord, NamesReplay, NamesInspect, versions_of, plan_of, asked_by, name_of, command_of};
+ghost use Rattle.nv_command.specs.Words.{texts, NamesRun, NamesRules, NamesAsm, NamesGen, NamesRecord, NamesReplay, NamesInspect, versions_asked, plan_of, asked_by, name_spelt, command_of};
 ghost use Rattle.nv_command.specs.Tables.{name_view, asked_of};
-ghost use Rattle.nv_command.specs.Seen.{names_view, parts_view, plan_view, command_view, IsRefused};
+ghost use Rattle.nv_command.specs.Seen.{names_view, parts_view, plan_view, command_view, WordsRefused};
 
 use crate::asked::{Command, Job, LineFault, Run, Tool};
 use crate::looks::look;
@@ -23,9 +23,9 @@ const MOST_VERSIONS: usize = 8;
 const MOST_NUMBER: u32 = 999_999;
 
 // The names of the versions, where they aren't too many.
-#[tactic(auto, unfolding(crate::specs::Words::versions_of))]
+#[tactic(auto, unfolding(crate::specs::Words::versions_asked))]
 fn names<'m, 'a>(matches: &'m ArgMatches<'a>) -> Option<&'m [&'a str]>
-    ensures names { option_map (λ names. names_view names.now) result ≡ versions_of (rows_of (found_of matches.entry.now)) }
+    ensures names { option_map (λ names. names_view names.now) result ≡ versions_asked (rows_of (found_of matches.entry.now)) }
     ensures few { IfSome result (λ names. length names.now ≤ 8) }
 {
     let names = values(matches, "version")?;
@@ -172,9 +172,9 @@ fn read_words<'a>(alloc: Global, name: Name, words: &'a [String]) -> Result<Comm
 
 // Reads the words from a command's name on.
 fn read_named<'a>(alloc: Global, name: &str, words: &'a [String]) -> Result<Command<'a>, LineFault>
-    ensures command { IfOk result (λ command. option_and_then (asked_by (texts words.entry.now)) (name_of name.now) ≡ Some (command_view command)) }
-    ensures refused { IfErr result (λ fault. fault ≡ LineFault.Usage → option_and_then (asked_by (texts words.entry.now)) (name_of name.now) ≡ None) }
-    ensures named { IfErr result (λ fault. fault ≡ LineFault.Memory → IsSome (name_of name.now)) }
+    ensures command { IfOk result (λ command. option_and_then (asked_by (texts words.entry.now)) (name_spelt name.now) ≡ Some (command_view command)) }
+    ensures refused { IfErr result (λ fault. fault ≡ LineFault.Usage → option_and_then (asked_by (texts words.entry.now)) (name_spelt name.now) ≡ None) }
+    ensures named { IfErr result (λ fault. fault ≡ LineFault.Memory → IsSome (name_spelt name.now)) }
 {
     match Name::of(name) {
         Some(name) => read_words(alloc, name, words),
@@ -185,7 +185,7 @@ fn read_named<'a>(alloc: Global, name: &str, words: &'a [String]) -> Result<Comm
 /// Reads the words of a command line: the program's name, the command's name, and the words of that command.
 pub fn read<'a>(alloc: Global, words: &'a [String]) -> Result<Command<'a>, LineFault>
     ensures command { IfOk result (λ command. command_of (texts words.entry.now) ≡ Some (command_view command)) }
-    ensures fault { IfErr result (λ fault. IsRefused fault (texts words.entry.now)) }
+    ensures fault { IfErr result (λ fault. WordsRefused fault (texts words.entry.now)) }
 {
     if words.len() < 2 {
         return Err(LineFault::Usage);

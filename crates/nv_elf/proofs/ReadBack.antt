@@ -6,8 +6,8 @@ use Rattle.std.proofs.lemmas.Bool.Decides.{nat_tests}
 use Rattle.byteorder.specs.Numbers.{little_number-reads_back}
 use Rattle.nv_bytes.specs.Fields.{field_at}
 use Rattle.nv_elf.specs.declared.header.ProgramHeader.{ProgramHeader}
-use Rattle.nv_elf.specs.Elf.{Range, Executable, elf_of, Accepted, file_fault, table_fault, loadables_fault, has_magic, has_class, has_versions, has_table, headers_of, loadables_of, entry_at, is_loadable, range_in, range_extent, overlap_from, is_entry}
-use Rattle.nv_elf.specs.Written.{is_program, is_sound, bytes_in, file_header, table_from, contents_from, contents_at, end_from, file_of}
+use Rattle.nv_elf.specs.Elf.{Range, Executable, elf_of, Accepted, file_fault, table_fault, loadables_fault, has_magic, has_class, has_versions, has_table, headers_of, loadables_of, entry_at, is_loadable, range_in, range_extent, overlap_from, can_be_entry}
+use Rattle.nv_elf.specs.Written.{is_program, is_sound, range_bytes, file_header, table_from, contents_from, contents_at, end_from, elf_bytes}
 use Rattle.nv_elf.proofs.Tables.{headers_for, headers-read, ranges-read, length-table_from, length-contents_from, filter-headers_for, length-headers_for, none-interpreted, none-outside, overlap-same, entry-same, end-above, end-below}
 
 -- what a program is
@@ -28,7 +28,7 @@ unfolding is_program
 program-apart p sound = none-from_test (overlap_from range_extent 0 p.ranges)
     (and_parts (is_none (overlap_from range_extent 0 p.ranges)) _ (and_parts (list_all is_sound p.ranges) _ (and_parts (nat_le (length p.ranges) 16) _ sound).1).1).0
 
-pub program-entry : (p : Executable) → is_program p ≡ true → is_entry range_extent p.entry p.ranges ≡ true
+pub program-entry : (p : Executable) → is_program p ≡ true → can_be_entry range_extent p.entry p.ranges ≡ true
 unfolding is_program
 program-entry p sound =
     (and_parts (is_none (overlap_from range_extent 0 p.ranges)) _ (and_parts (list_all is_sound p.ranges) _ (and_parts (nat_le (length p.ranges) 16) _ sound).1).1).1
@@ -133,8 +133,8 @@ read-as p b place sound file headers entry ranges inside =
       ranges,
     ) refl
 
-pub elf_of-file_of : (p : Executable) → is_program p ≡ true → p.entry < 2 ^ 32 → bytes_in p.ranges ≤ 1_073_741_824 → elf_of (file_of p) ≡ Accepted p
-unfolding file_of
+pub elf_of-file_of : (p : Executable) → is_program p ≡ true → p.entry < 2 ^ 32 → range_bytes p.ranges ≤ 1_073_741_824 → elf_of (elf_bytes p) ≡ Accepted p
+unfolding elf_bytes
 elf_of-file_of p sound entry small =
     let count : ℕ = length p.ranges in
     let place : ℕ = contents_at count in
@@ -166,7 +166,7 @@ elf_of-file_of p sound entry small =
     read-as p (header ++ (table ++ contents)) place sound file headers (entry-first p.entry count (table ++ contents) (omega arith)) ranges (omega arith)
 
 -- a written file has a few thousand bytes more than its program at most, and so offsets of 32 bits
-pub end-fits : (p : Executable) → is_program p ≡ true → bytes_in p.ranges ≤ 1_073_741_824 → end_from (contents_at (length p.ranges)) p.ranges < 2 ^ 32
+pub end-fits : (p : Executable) → is_program p ≡ true → range_bytes p.ranges ≤ 1_073_741_824 → end_from (contents_at (length p.ranges)) p.ranges < 2 ^ 32
 end-fits p sound small =
     let few = program-few p sound in
     let below = end-below (contents_at (length p.ranges)) p.ranges in

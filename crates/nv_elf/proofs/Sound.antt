@@ -8,7 +8,7 @@ use Rattle.std.proofs.lemmas.List.{length-map}
 use Rattle.nv_elf.specs.declared.header.ProgramHeader.{ProgramHeader}
 use Rattle.nv_elf.specs.declared.program.ElfFault.{ElfFault}
 use Rattle.nv_elf.specs.declared.program.ElfFault.TheVariants.{Entry}
-use Rattle.nv_elf.specs.Elf.{Range, Executable, Extent, elf_of, ElfOf, Refused, Accepted, answer, fault_of, executable_in, file_fault, table_fault, loadables_fault, overlap_fault, headers_of, loadables_of, entry_at, is_loadable, is_interpreted, is_outside, range_in, extent_of, range_extent, shares, overlap_from, holds_entry, is_entry}
+use Rattle.nv_elf.specs.Elf.{Range, Executable, Extent, elf_of, ElfOf, Refused, Accepted, elf_unless, elf_fault, executable_in, file_fault, table_fault, loadables_fault, overlap_fault, headers_of, loadables_of, entry_at, is_loadable, is_interpreted, is_outside, range_in, extent_of, range_extent, shares, overlap_from, holds_entry, can_be_entry}
 use Rattle.nv_elf.specs.Written.{is_program, is_sound}
 
 none-first : {A : Type 0} (x y : Option A) → option_or x y ≡ None → (x ≡ None) × (y ≡ None)
@@ -19,7 +19,7 @@ none-mapped : {A B : Type 0} (f : A → B) (x : Option A) → option_map f x ≡
 none-mapped f None e = refl
 none-mapped f (Some x) e = cc
 
-answer-accepted : (fault : Option ElfFault) (image p : Executable) → answer fault image ≡ Accepted p → (fault ≡ None) × (image ≡ p)
+answer-accepted : (fault : Option ElfFault) (image p : Executable) → elf_unless fault image ≡ Accepted p → (fault ≡ None) × (image ≡ p)
 answer-accepted None image p e = (refl, cc)
 answer-accepted (Some fault) image p e = cc
 
@@ -70,17 +70,17 @@ unfolding table_fault
 few-kept headers loadables e = grind (arith, nat_tests)
 
 loadables-kept : (len entry : ℕ) (headers : List ProgramHeader) → loadables_fault len entry headers ≡ None →
-    (position_from (is_outside len) 0 headers ≡ None) × (overlap_from extent_of 0 headers ≡ None) × (is_entry extent_of entry headers ≡ true)
+    (position_from (is_outside len) 0 headers ≡ None) × (overlap_from extent_of 0 headers ≡ None) × (can_be_entry extent_of entry headers ≡ true)
 unfolding loadables_fault
 loadables-kept len entry headers e =
     let outside = none-first (option_map _ (position_from (is_outside len) 0 headers)) _ e in
     let apart = none-first (overlap_fault (overlap_from extent_of 0 headers)) _ outside.1 in
-    (none-mapped _ _ outside.0, none-mapped _ _ apart.0, held (is_entry extent_of entry headers) Entry apart.1) where
+    (none-mapped _ _ outside.0, none-mapped _ _ apart.0, held (can_be_entry extent_of entry headers) Entry apart.1) where
       held : (x : Bool) (fault : ElfFault) → cond x None (Some fault) ≡ None → x ≡ true
       held true fault h = refl
       held false fault h = cc
 
-image-program : (b : List ℕ) → fault_of b ≡ None → is_program (executable_in b) ≡ true
+image-program : (b : List ℕ) → elf_fault b ≡ None → is_program (executable_in b) ≡ true
 unfolding is_program
 image-program b none =
     let file = none-first (file_fault b) _ none in
@@ -92,11 +92,11 @@ image-program b none =
     let most : nat_le (length ranges) 16 ≡ true = grind (arith, nat_tests) in
     let sound : list_all is_sound ranges ≡ true = ranges-sound b 0 (loadables_of b) (loadable-all (headers_of b)) kept.0 in
     let apart : is_none (overlap_from range_extent 0 ranges) ≡ true = ap is_none (overlap-kept b 0 (loadables_of b) ∙ kept.1) in
-    let entry : is_entry range_extent (entry_at b) ranges ≡ true = ap (λ held. (entry_at b % 4 == 0) && held) (held-kept b (entry_at b) (loadables_of b)) ∙ kept.2 in
+    let entry : can_be_entry range_extent (entry_at b) ranges ≡ true = ap (λ held. (entry_at b % 4 == 0) && held) (held-kept b (entry_at b) (loadables_of b)) ∙ kept.2 in
     and_from (nat_le (length ranges) 16) _ most (and_from (list_all is_sound ranges) _ sound (and_from (is_none (overlap_from range_extent 0 ranges)) _ apart entry))
 
 pub is_program-accepted : (b : List ℕ) (p : Executable) → elf_of b ≡ Accepted p → is_program p ≡ true
 unfolding elf_of
 is_program-accepted b p e =
-    let given = answer-accepted (fault_of b) (executable_in b) p e in
+    let given = answer-accepted (elf_fault b) (executable_in b) p e in
     subst (λ (q : Executable). is_program q ≡ true) given.1 (image-program b given.0)

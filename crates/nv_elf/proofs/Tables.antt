@@ -13,8 +13,8 @@ use Rattle.byteorder.specs.Numbers.{little_number-reads_back}
 use Rattle.nv_bytes.specs.Fields.{field_at}
 use Rattle.nv_bytes.proofs.FieldLaws.{field_at-append}
 use Rattle.nv_elf.specs.declared.header.ProgramHeader.{ProgramHeader}
-use Rattle.nv_elf.specs.Elf.{Range, Extent, header_at, headers_from, is_loadable, is_interpreted, is_outside, extent_of, range_extent, shares, overlap_from, holds_entry, is_entry, range_in}
-use Rattle.nv_elf.specs.Written.{is_sound, bytes_in, flags_of, program_header, padding, table_from, contents_from, end_from}
+use Rattle.nv_elf.specs.Elf.{Range, Extent, header_at, headers_from, is_loadable, is_interpreted, is_outside, extent_of, range_extent, shares, overlap_from, holds_entry, can_be_entry, range_in}
+use Rattle.nv_elf.specs.Written.{is_sound, range_bytes, flags_of, program_header, padding, table_from, contents_from, end_from}
 
 -- the program header of a range whose bytes stand at a place
 abbrev pub header_for : ℕ → Range → ProgramHeader
@@ -48,11 +48,11 @@ end-above place [] = omega arith
 end-above place (r ∷ ranges) = let next : end_from place (r ∷ ranges) ≡ end_from (after place r) ranges = refl in omega (arith, end-above (after place r) ranges)
 
 -- the end is after the bytes and at most three bytes of padding for each range
-pub end-below : (place : ℕ) (ranges : List Range) → end_from place ranges ≤ place + bytes_in ranges + 3 * length ranges
+pub end-below : (place : ℕ) (ranges : List Range) → end_from place ranges ≤ place + range_bytes ranges + 3 * length ranges
 end-below place [] = omega arith
 end-below place (r ∷ ranges) =
     let next : end_from place (r ∷ ranges) ≡ end_from (after place r) ranges = refl in
-    let all : bytes_in (r ∷ ranges) ≡ length r.bytes + bytes_in ranges = sum_by-cons (λ x. length x.bytes) r ranges in
+    let all : range_bytes (r ∷ ranges) ≡ length r.bytes + range_bytes ranges = sum_by-cons (λ x. length x.bytes) r ranges in
     omega (arith, end-below (after place r) ranges, padding-lt place)
 
 -- the rights stand in the flags
@@ -215,5 +215,5 @@ held-same : (entry place : ℕ) (ranges : List Range) →
 held-same entry place [] = refl
 held-same entry place (r ∷ ranges) = rw ((rights r.read r.write r.execute).3, held-same entry (after place r) ranges) refl
 
-pub entry-same : (entry place : ℕ) (ranges : List Range) → is_entry extent_of entry (headers_for place ranges) ≡ is_entry range_extent entry ranges
+pub entry-same : (entry place : ℕ) (ranges : List Range) → can_be_entry extent_of entry (headers_for place ranges) ≡ can_be_entry range_extent entry ranges
 entry-same entry place ranges = ap (λ held. (entry % 4 == 0) && held) (held-same entry place ranges)

@@ -2,7 +2,7 @@
 use Rattle.std.specs.Prelude.{ℕ, List, [], ◌∷◌, ◌++◌, Bool, ◌&&◌, if◌then◌else◌, nat_lt, nat_le, is_none, ◌+◌, ◌-◌, ◌*◌, ◌%◌, ◌^◌, length, replicate, sum_by}
 use Rattle.std.specs.List.{list_all}
 use Rattle.byteorder.specs.Endian.{little_bytes}
-use Rattle.nv_elf.specs.Elf.{Range, Executable, range_extent, overlap_from, is_entry}
+use Rattle.nv_elf.specs.Elf.{Range, Executable, range_extent, overlap_from, can_be_entry}
 
 -- some size, no more bytes than that, and an end that has 32 bits
 abbrev pub is_sound : Range → Bool
@@ -10,11 +10,11 @@ is_sound r = nat_lt 0 r.size && (nat_le (length r.bytes) r.size && nat_lt (r.add
 
 -- what every program that a file holds meets
 unfoldable pub is_program : Executable → Bool
-is_program p = nat_le (length p.ranges) 16 && (list_all is_sound p.ranges && (is_none (overlap_from range_extent 0 p.ranges) && is_entry range_extent p.entry p.ranges))
+is_program p = nat_le (length p.ranges) 16 && (list_all is_sound p.ranges && (is_none (overlap_from range_extent 0 p.ranges) && can_be_entry range_extent p.entry p.ranges))
 
 -- how many bytes the ranges have together
-abbrev pub bytes_in : List Range → ℕ
-bytes_in ranges = sum_by (λ r. length r.bytes) ranges
+abbrev pub range_bytes : List Range → ℕ
+range_bytes ranges = sum_by (λ r. length r.bytes) ranges
 
 -- e_ident, e_type, e_machine, e_version, e_entry, e_phoff, e_shoff, e_flags, e_ehsize, e_phentsize, e_phnum, e_shentsize, e_shnum and e_shstrndx
 unfoldable pub file_header : ℕ → ℕ → List ℕ
@@ -71,5 +71,5 @@ abbrev pub contents_at : ℕ → ℕ
 contents_at count = 52 + 32 * count
 
 -- the file header, the program headers and the bytes
-unfoldable pub file_of : Executable → List ℕ
-file_of p = file_header p.entry (length p.ranges) ++ (table_from (contents_at (length p.ranges)) p.ranges ++ contents_from (contents_at (length p.ranges)) p.ranges)
+unfoldable pub elf_bytes : Executable → List ℕ
+elf_bytes p = file_header p.entry (length p.ranges) ++ (table_from (contents_at (length p.ranges)) p.ranges ++ contents_from (contents_at (length p.ranges)) p.ranges)

@@ -1,7 +1,7 @@
 // The reader of version files.
 ghost use Rattle.std.specs.Prelude.{◌≡◌, ◌≤◌, ◌<◌, ◌+◌, ◌*◌, ◌⊎◌, Some, None, IsTrue, IfSome, IfOk, IfErr, OnOk, MatchResult, All, length, filter, map, false, vec_len};
 ghost use Rattle.std.specs.List.{list_any, position_from};
-ghost use Rattle.nv_elf.specs.Elf.{file_fault, table_fault, loadables_fault, has_magic, has_class, has_versions, has_table, headers_from, headers_of, is_loadable, is_interpreted, is_outside, extent_of, shares, holds_entry, overlap_from, is_entry, range_in, range_of, elf_of, executable_of, Accepted, Refused};
+ghost use Rattle.nv_elf.specs.Elf.{file_fault, table_fault, loadables_fault, has_magic, has_class, has_versions, has_table, headers_from, headers_of, is_loadable, is_interpreted, is_outside, extent_of, shares, holds_entry, overlap_from, can_be_entry, range_in, segment_range, elf_of, executable_of, Accepted, Refused};
 ghost use Rattle.nv_elf.specs.Written.{is_program};
 ghost use Rattle.nv_elf.specs.declared.program.ElfFault.TheVariants.{Memory};
 
@@ -173,8 +173,8 @@ fn is_held(loadables: &[ProgramHeader], entry: u32) -> bool
     loadables.iter().any(|header| header.holds_entry(entry))
 }
 
-fn is_entry(loadables: &[ProgramHeader], entry: u32) -> bool
-    ensures { result ≡ is_entry extent_of entry loadables.now }
+fn can_be_entry(loadables: &[ProgramHeader], entry: u32) -> bool
+    ensures { result ≡ can_be_entry extent_of entry loadables.now }
 {
     entry % 4 == 0 && is_held(loadables, entry)
 }
@@ -199,7 +199,7 @@ fn check_loadables(loadables: &[ProgramHeader], len: usize, entry: u32) -> Resul
     if let Some((lower, higher)) = first_overlap(loadables) {
         return Err(ElfFault::Overlap(lower as u32, higher as u32));
     }
-    if !is_entry(loadables, entry) {
+    if !can_be_entry(loadables, entry) {
         return Err(ElfFault::Entry);
     }
     Ok(())
@@ -211,7 +211,7 @@ fn segments(
     loadables: &[ProgramHeader],
 ) -> Result<Vec<Segment>, AllocError>
     requires { All (λ header. is_outside (length bytes.now) header ≡ false) loadables.now }
-    ensures { IfOk result (λ segments. map range_of segments.items ≡ map (range_in bytes.now) loadables.now) }
+    ensures { IfOk result (λ segments. map segment_range segments.items ≡ map (range_in bytes.now) loadables.now) }
 {
     let mut segments = Vec::new(alloc);
     for header in loadables {

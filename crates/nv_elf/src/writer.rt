@@ -1,8 +1,8 @@
 // The writer of version files.
 ghost use Rattle.std.specs.Prelude.{◌≡◌, ◌<◌, ◌≤◌, ◌+◌, ◌++◌, ◌^◌, IsTrue, IfOk, OnOk, length, map, replicate};
 ghost use Rattle.byteorder.specs.Endian.{little_bytes};
-ghost use Rattle.nv_elf.specs.Elf.{elf_of, range_of, executable_of, Accepted};
-ghost use Rattle.nv_elf.specs.Written.{is_program, bytes_in, file_header, flags_of, program_header, padding, contents_at, end_from, table_from, contents_from, file_of};
+ghost use Rattle.nv_elf.specs.Elf.{elf_of, segment_range, executable_of, Accepted};
+ghost use Rattle.nv_elf.specs.Written.{is_program, range_bytes, file_header, flags_of, program_header, padding, contents_at, end_from, table_from, contents_from, elf_bytes};
 
 use crate::header::{FILE_HEADER_LENGTH, PROGRAM_HEADER_LENGTH};
 use crate::{Program, Segment};
@@ -45,7 +45,7 @@ fn push_file_header(out: &mut Vec<u8>, entry: u32, count: u16) -> Result<(), All
 }
 
 fn flags(segment: &Segment) -> u32
-    ensures { result ≡ flags_of (range_of segment.now) }
+    ensures { result ≡ flags_of (segment_range segment.now) }
 {
     (if segment.read { 4 } else { 0 })
         + (if segment.write { 2 } else { 0 })
@@ -53,7 +53,7 @@ fn flags(segment: &Segment) -> u32
 }
 
 fn push_program_header(out: &mut Vec<u8>, segment: &Segment, offset: u32) -> Result<(), AllocError>
-    ensures { OnOk result (out.new.items ≡ out.old.items ++ program_header offset (range_of segment.now)) }
+    ensures { OnOk result (out.new.items ≡ out.old.items ++ program_header offset (segment_range segment.now)) }
 {
     push_word(out, 1)?;
     push_word(out, offset)?;
@@ -84,8 +84,8 @@ fn push_bytes(out: &mut Vec<u8>, bytes: &[u8]) -> Result<(), AllocError>
 }
 
 fn push_table(out: &mut Vec<u8>, segments: &[Segment], place: usize) -> Result<(), AllocError>
-    requires { end_from place (map range_of segments.now) < 2 ^ 32 }
-    ensures { OnOk result (out.new.items ≡ out.old.items ++ table_from place (map range_of segments.now)) }
+    requires { end_from place (map segment_range segments.now) < 2 ^ 32 }
+    ensures { OnOk result (out.new.items ≡ out.old.items ++ table_from place (map segment_range segments.now)) }
 {
     let mut place = place;
     for segment in segments {
@@ -97,7 +97,7 @@ fn push_table(out: &mut Vec<u8>, segments: &[Segment], place: usize) -> Result<(
 }
 
 fn push_contents(out: &mut Vec<u8>, segments: &[Segment]) -> Result<(), AllocError>
-    ensures { OnOk result (out.new.items ≡ out.old.items ++ contents_from (length out.old.items) (map range_of segments.now)) }
+    ensures { OnOk result (out.new.items ≡ out.old.items ++ contents_from (length out.old.items) (map segment_range segments.now)) }
 {
     for segment in segments {
         push_bytes(out, &segment.bytes)?;
@@ -108,9 +108,9 @@ fn push_contents(out: &mut Vec<u8>, segments: &[Segment]) -> Result<(), AllocErr
 /// Writes a program as a version file.
 pub fn write(alloc: Global, program: &Program) -> Result<Vec<u8>, AllocError>
     requires sound { IsTrue (is_program (executable_of program.now)) }
-    requires small { bytes_in (executable_of program.now).ranges ≤ 1_073_741_824 }
+    requires small { range_bytes (executable_of program.now).ranges ≤ 1_073_741_824 }
 
-    ensures file { IfOk result (λ file. file.items ≡ file_of (executable_of program.now)) }
+    ensures file { IfOk result (λ file. file.items ≡ elf_bytes (executable_of program.now)) }
 
     ensures read_back { IfOk result (λ file. elf_of file.items ≡ Accepted (executable_of program.now)) }
 {

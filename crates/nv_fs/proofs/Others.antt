@@ -7,7 +7,7 @@ use Rattle.nv_blocks.specs.Contents.{Content}
 use Rattle.nv_fs.specs.declared.disk.MemoryFile.{MemoryFile}
 use Rattle.nv_fs.specs.declared.disk.FileSystem.TheInside.{Inside}
 use Rattle.nv_fs.specs.Reserved.{Disk}
-use Rattle.nv_fs.specs.Kept.{is_held, IsOutside, IsBeside}
+use Rattle.nv_fs.specs.Kept.{takes_memory, IsOutside, IsBeside}
 use Rattle.nv_fs.specs.Views.{held_of, disk_of}
 use Rattle.nv_fs.proofs.Places.{held_is}
 
@@ -23,8 +23,8 @@ same_file xs i k f g l h e =
 
 pub beside : (a : Inside) (d : Disk) (i place n : ℕ) (f : MemoryFile) (v : Content) → disk_of a ≡ d → i < length a.files.items → f ≡ get_or a.files.items i f
     → ((k : ℕ) → IsOutside place n k → get_or v.held k false ≡ get_or f.bytes.held k false)
-    → (j k : ℕ) → IsBeside i place n j k → get_or (get_or (map held_of (set a.files.items i (record { name = f.name; bytes = v }))) j []) k false ≡ is_held d j k
-beside a d i place n f v view l h outside j k b = by (j == i) refl ∙ ap (λ (e : Disk). is_held e j k) view
+    → (j k : ℕ) → IsBeside i place n j k → get_or (get_or (map held_of (set a.files.items i (record { name = f.name; bytes = v }))) j []) k false ≡ takes_memory d j k
+beside a d i place n f v view l h outside j k b = by (j == i) refl ∙ ap (λ (e : Disk). takes_memory e j k) view
   where
     by : (t : Bool) → (j == i) ≡ t → get_or (get_or (map held_of (set a.files.items i (record { name = f.name; bytes = v }))) j []) k false ≡ get_or (get_or (map held_of a.files.items) j []) k false
     by true e =

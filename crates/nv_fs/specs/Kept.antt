@@ -8,12 +8,12 @@ use Rattle.nv_fs.specs.Stored.{start_of}
 use Rattle.nv_fs.specs.Reserved.{Disk}
 
 -- whether block k of file j takes memory
-abbrev pub is_held : Disk → ℕ → ℕ → Bool
-is_held d j k = slice_index_or (slice_index_or d.reserved.contents j []) k false
+abbrev pub takes_memory : Disk → ℕ → ℕ → Bool
+takes_memory d j k = slice_index_or (slice_index_or d.reserved.contents j []) k false
 
 -- every block of every file takes memory as before
 abbrev pub KeepsBlocks : Disk → Disk → Type 0
-KeepsBlocks old new = (j k : ℕ) → is_held new j k ≡ is_held old j k
+KeepsBlocks old new = (j k : ℕ) → takes_memory new j k ≡ takes_memory old j k
 
 -- block k lies before the blocks of n bytes from a place on, or after them
 abbrev pub IsOutside : ℕ → ℕ → ℕ → Type 0
@@ -24,14 +24,14 @@ abbrev pub IsBeside : ℕ → ℕ → ℕ → ℕ → ℕ → Type 0
 IsBeside i place n j k = j ≡ i → IsOutside place n k
 
 -- block k of file j is none of those that a write of n bytes to a target touches
-abbrev pub IsUntouched : FileState → OpenFile → Target → ℕ → ℕ → ℕ → Type 0
-IsUntouched s o (File i) n j k = IsBeside i (start_of s o i) (min n (1048576 - start_of s o i)) j k
-IsUntouched s o _ n j k = Unit {0}
+abbrev pub IsUntouchedBlock : FileState → OpenFile → Target → ℕ → ℕ → ℕ → Type 0
+IsUntouchedBlock s o (File i) n j k = IsBeside i (start_of s o i) (min n (1048576 - start_of s o i)) j k
+IsUntouchedBlock s o _ n j k = Unit {0}
 
 abbrev pub IsUntouchedOf : FileState → Option (ℕ × OpenFile) → ℕ → ℕ → ℕ → Type 0
 IsUntouchedOf s None n j k = Unit {0}
-IsUntouchedOf s (Some o) n j k = IsUntouched s o.1 o.1.target n j k
+IsUntouchedOf s (Some o) n j k = IsUntouchedBlock s o.1 o.1.target n j k
 
 -- every block of every file takes memory as before, but for those that a write of n bytes to a descriptor touches
 abbrev pub KeepsOthers : Disk → Disk → ℕ → ℕ → Type 0
-KeepsOthers old new fd n = (j k : ℕ) → IsUntouchedOf old.state (open_of old.state fd) n j k → is_held new j k ≡ is_held old j k
+KeepsOthers old new fd n = (j k : ℕ) → IsUntouchedOf old.state (open_of old.state fd) n j k → takes_memory new j k ≡ takes_memory old j k

@@ -41,9 +41,9 @@ open_at_descriptor s (Some fd) name None flags = create s fd name flags
 open_at_descriptor s (Some fd) name (Some i) flags = open_file (truncated s i flags) fd i flags
 
 -- O_CREAT is 64 and O_EXCL 128
-abbrev pub is_refused : Option ℕ → ℕ → Option ℤ
-is_refused (Some i) flags = if has_flag flags 64 && has_flag flags 128 then Some EEXIST else None
-is_refused None flags = if has_flag flags 64 then None else Some ENOENT
+abbrev pub exclusive_error : Option ℕ → ℕ → Option ℤ
+exclusive_error (Some i) flags = if has_flag flags 64 && has_flag flags 128 then Some EEXIST else None
+exclusive_error None flags = if has_flag flags 64 then None else Some ENOENT
 
 abbrev pub open_unless : Option ℤ → FileState → List ℕ → Option ℕ → ℕ → Answer
 open_unless (Some error) s name file flags = only s error
@@ -53,7 +53,7 @@ abbrev pub open_resolved : FileState → Resolved → ℕ → Answer
 open_resolved s (Refused error) flags = only s error
 open_resolved s (Named name) flags =
     if flags % 4 == 3 then only s EINVAL
-    else open_unless (is_refused (file_of s name) flags) s name (file_of s name) flags
+    else open_unless (exclusive_error (file_of s name) flags) s name (file_of s name) flags
 
 -- openat(2)
 unfoldable pub open_at_of : FileState → ℤ → List ℕ → ℕ → Answer

@@ -63,13 +63,13 @@ opens_to target (Some o) = is_target target o.1.target
 unfoldable pub has_open : FileState → Target → Bool
 has_open s target = list_any (λ d. opens_to target (numbered s.opens d)) s.descriptors
 
-abbrev pub is_number : ℕ → Option ℕ → Bool
-is_number i None = false
-is_number i (Some j) = j == i
+abbrev pub is_numbered : ℕ → Option ℕ → Bool
+is_numbered i None = false
+is_numbered i (Some j) = j == i
 
 -- the number of an open file is in use where a descriptor has it, that of a file where it has a name or is open, that of a pipe where an end is open
 unfoldable pub is_shared : FileState → ℕ → Bool
-is_shared s i = list_any (is_number i) s.descriptors
+is_shared s i = list_any (is_numbered i) s.descriptors
 
 -- the file of a number; without name and bytes where there is none
 abbrev pub file_at : FileState → ℕ → Inode

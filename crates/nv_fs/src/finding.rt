@@ -1,7 +1,7 @@
 // Which descriptors, open files, files and pipes are in use.
 ghost use Rattle.std.specs.Prelude.{◌≡◌, ◌<◌, ◌≤◌, length, is_none, IfSome, slice_index_or, None};
 ghost use Rattle.std.specs.List.{position_from, list_any};
-ghost use Rattle.nv_fs.specs.States.{numbered, open_of, opens_to, has_open, is_number, is_shared, is_kept, is_pipe, free_open};
+ghost use Rattle.nv_fs.specs.States.{numbered, open_of, opens_to, has_open, is_numbered, is_shared, is_kept, is_pipe, free_open};
 ghost use Rattle.nv_fs.specs.Closes.{free_descriptor};
 ghost use Rattle.nv_fs.specs.Opened.{free_file};
 ghost use Rattle.nv_fs.specs.Ends.{free_pipe};
@@ -56,8 +56,8 @@ fn any_opens(descriptors: &[Option<usize>], opens: &[OpenFile], target: Target) 
         .any(|number| opens_to(opens, *number, target))
 }
 
-fn is_number(number: Option<usize>, i: usize) -> bool
-    ensures { result ≡ is_number i number }
+fn is_numbered(number: Option<usize>, i: usize) -> bool
+    ensures { result ≡ is_numbered i number }
 {
     match number {
         Some(j) => j == i,
@@ -66,9 +66,9 @@ fn is_number(number: Option<usize>, i: usize) -> bool
 }
 
 fn any_is(descriptors: &[Option<usize>], i: usize) -> bool
-    ensures { result ≡ list_any (is_number i) descriptors.now }
+    ensures { result ≡ list_any (is_numbered i) descriptors.now }
 {
-    descriptors.iter().any(|number| is_number(*number, i))
+    descriptors.iter().any(|number| is_numbered(*number, i))
 }
 
 #[tactic(auto, unfolding(crate::specs::States::open_of, crate::specs::States::has_open, crate::specs::States::is_shared, crate::specs::States::is_kept, crate::specs::States::is_pipe, crate::specs::Closes::free_descriptor))]

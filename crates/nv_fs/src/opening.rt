@@ -1,7 +1,7 @@
 // openat and unlinkat.
 ghost use Rattle.std.specs.Prelude.{◌≡◌, ◌+◌, ◌≤◌, ◌<◌, [], None, length, OnOk, vec_capacity};
 ghost use Rattle.nv_fs.specs.States.{answer, with_at};
-ghost use Rattle.nv_fs.specs.Opened.{open_at_of, unlink_at_of, opened, has_flag, truncated, with_file, create, is_refused, open_file, open_at_descriptor, open_unless, unlinked};
+ghost use Rattle.nv_fs.specs.Opened.{open_at_of, unlink_at_of, opened, has_flag, truncated, with_file, create, exclusive_error, open_file, open_at_descriptor, open_unless, unlinked};
 ghost use Rattle.nv_fs.specs.Stored.{with_content};
 ghost use Rattle.nv_fs.specs.Kept.{KeepsBlocks};
 ghost use Rattle.nv_fs.specs.Reserved.{CanOpen, HasOpens};
@@ -45,7 +45,7 @@ fn opened(i: usize, flags: u32) -> OpenFile
 
 // Why a name isn't opened, by whether there is a file of it.
 fn refusal(file: Option<usize>, flags: u32) -> Option<i32>
-    ensures { result ≡ is_refused file flags }
+    ensures { result ≡ exclusive_error file flags }
 {
     match file {
         Some(_) if has_flag(flags, O_CREAT) && has_flag(flags, O_EXCL) => Some(EEXIST),
@@ -162,7 +162,7 @@ impl FileSystem {
 
     fn open_named(&mut self, name: &[u8], file: Option<usize>, flags: u32) -> i32
         requires ready { CanOpen self.old name.now }
-        ensures { open_unless (is_refused file flags) self.old.state name.now file flags ≡ answer self.new.state result [] }
+        ensures { open_unless (exclusive_error file flags) self.old.state name.now file flags ≡ answer self.new.state result [] }
     {
         if let Some(error) = refusal(file, flags) {
             return error;

@@ -5,7 +5,7 @@ ghost use Rattle.nv_fs.specs.States.{answer};
 ghost use Rattle.nv_fs.specs.Seeks.{bytes_of};
 ghost use Rattle.nv_fs.specs.Fetched.{pipe_at, with_pipe};
 ghost use Rattle.nv_fs.specs.Stored.{write_of, write_console, write_at, write_pipe, write_target, with_content, start_of};
-ghost use Rattle.nv_fs.specs.Kept.{is_held, KeepsBlocks, KeepsOthers, IsBeside, IsUntouched};
+ghost use Rattle.nv_fs.specs.Kept.{takes_memory, KeepsBlocks, KeepsOthers, IsBeside, IsUntouchedBlock};
 ghost use Rattle.nv_fs.specs.Reserved.{CanWrite, IsReserved, HasBlocks};
 
 use crate::disk::FileSystem;
@@ -143,7 +143,7 @@ impl FileSystem {
         requires { place + n < 2 ^ 64 }
         ensures state { self.new.state ≡ self.old.state }
         ensures ok { OnOk result (HasBlocks self.new i place n) }
-        ensures others { (j k : ℕ) → IsBeside i place n j k → is_held self.new j k ≡ is_held self.old j k }
+        ensures others { (j k : ℕ) → IsBeside i place n j k → takes_memory self.new j k ≡ takes_memory self.old j k }
     {
         if i < self.files.as_slice().len() {
             self.files[i].bytes.reserve(place, n)
@@ -167,7 +167,7 @@ impl FileSystem {
     fn reserve_file(&mut self, description: OpenFile, i: usize, n: usize) -> Result<(), AllocError>
         ensures state { self.new.state ≡ self.old.state }
         ensures ok { OnOk result (HasBlocks self.new i (start_of self.old.state description i) (min n (1048576 - start_of self.old.state description i))) }
-        ensures others { (j k : ℕ) → IsBeside i (start_of self.old.state description i) (min n (1048576 - start_of self.old.state description i)) j k → is_held self.new j k ≡ is_held self.old j k }
+        ensures others { (j k : ℕ) → IsBeside i (start_of self.old.state description i) (min n (1048576 - start_of self.old.state description i)) j k → takes_memory self.new j k ≡ takes_memory self.old j k }
     {
         let start = self.start_of(description, i);
         if start >= FILE {
@@ -191,7 +191,7 @@ impl FileSystem {
     fn reserve_target(&mut self, description: OpenFile, n: usize) -> Result<(), AllocError>
         ensures state { self.new.state ≡ self.old.state }
         ensures ok { OnOk result (IsReserved self.new description description.target n) }
-        ensures others { (j k : ℕ) → IsUntouched self.old.state description description.target n j k → is_held self.new j k ≡ is_held self.old j k }
+        ensures others { (j k : ℕ) → IsUntouchedBlock self.old.state description description.target n j k → takes_memory self.new j k ≡ takes_memory self.old j k }
     {
         match description.target {
             Target::Console => self.reserve_console(n),

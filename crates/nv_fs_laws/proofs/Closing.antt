@@ -10,7 +10,7 @@ use Rattle.nv_calls.specs.Errors.{EBADF, EINVAL}
 use Rattle.nv_fs.specs.States.{FileState, Answer, only, open_of, numbered, opens_to, is_kept, is_pipe, has_open, file_at}
 use Rattle.nv_fs.specs.Closes.{close_of, close_open, dup3_of, dup_onto, shared_at, with_descriptor}
 use Rattle.nv_fs_laws.specs.Tables.{number_at, HeldBeside, OpenBeside}
-use Rattle.nv_fs_laws.specs.Calls.{IsRefused, OthersKeep, LetsGo}
+use Rattle.nv_fs_laws.specs.Calls.{ChangesNothing, OthersKeep, LetsGo}
 use Rattle.nv_fs_laws.proofs.Lookups.{put_or_not}
 use Rattle.nv_fs_laws.proofs.Holding.{shared_at as found_shared, shared_by, open_at, open_by, open_is}
 use Rattle.nv_fs_laws.proofs.Cases.{by_test}
@@ -76,14 +76,14 @@ module _ (s : FileState) (fd : ℕ) (x : Option ℕ) (beside : (number : ℕ) �
     same_pipes = refl;
   }
 
-pub close_lets_go : (s : FileState) (fd : ℕ) → IsRefused s (close_of s fd) ⊎ LetsGo s (close_of s fd).state fd
+pub close_lets_go : (s : FileState) (fd : ℕ) → ChangesNothing s (close_of s fd) ⊎ LetsGo s (close_of s fd).state fd
 unfolding close_of
 close_lets_go s fd = by (open_of s fd)
   where
     none : get_or (set s.descriptors fd None) fd None ≡ None
     none = ⊎_elim (λ q. q) (λ q. q.0) (put_or_not s.descriptors fd None None)
 
-    by : (o : Option (ℕ × OpenFile)) → IsRefused s (close_open s fd o) ⊎ LetsGo s (close_open s fd o).state fd
+    by : (o : Option (ℕ × OpenFile)) → ChangesNothing s (close_open s fd o) ⊎ LetsGo s (close_open s fd o).state fd
     by None = inl record { same = refl; error = refl }
     by (Some o) = inr (lets_go s fd None (λ number e. let clash : Some number ≡ None = sym e ∙ none in cc))
 
@@ -98,14 +98,14 @@ onto s from to o other e = lets_go s to (Some o.0) beside
 
 -- a call that closes a descriptor, where it isn't refused
 abbrev Closed : FileState → ℕ → Answer → Type 0
-Closed s fd a = IsRefused s a ⊎ LetsGo s a.state fd
+Closed s fd a = ChangesNothing s a ⊎ LetsGo s a.state fd
 
 onto_another : (s : FileState) (from to : ℕ) → from ≢ to → (o : Option (ℕ × OpenFile)) → open_of s from ≡ o → Closed s to (dup_onto s o to)
 onto_another s from to other None e = inl record { same = refl; error = refl }
 onto_another s from to other (Some o) e =
     by_test (Closed s to) (nat_lt 63 to) (only s EBADF) (shared_at s to o.0) (inl record { same = refl; error = refl }) (inr (onto s from to o other e))
 
-pub dup3_lets_go : (s : FileState) (from to flags : ℕ) → IsRefused s (dup3_of s from to flags) ⊎ LetsGo s (dup3_of s from to flags).state to
+pub dup3_lets_go : (s : FileState) (from to flags : ℕ) → ChangesNothing s (dup3_of s from to flags) ⊎ LetsGo s (dup3_of s from to flags).state to
 unfolding dup3_of
 dup3_lets_go s from to flags =
     by_test (Closed s to) (not ((flags == 0) || (flags == 524288))) (only s EINVAL) _ (inl record { same = refl; error = refl }) (by (from == to) refl)

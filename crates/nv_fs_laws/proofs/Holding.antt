@@ -6,10 +6,10 @@ use Rattle.std.proofs.lemmas.List.{get_or-set_same, get_or-set_other}
 use Rattle.nv_fs.specs.declared.open_file.OpenFile.{OpenFile}
 use Rattle.nv_fs.specs.declared.open_file.Target.{Target}
 use Rattle.nv_fs.specs.declared.open_file.Target.TheVariants.{Input, Console, File, Reader, Writer}
-use Rattle.nv_fs.specs.States.{FileState, Inode, open_of, numbered, opens_to, is_target, is_number, is_shared, is_kept, is_pipe, has_open, file_at, free_open, install, with_at}
+use Rattle.nv_fs.specs.States.{FileState, Inode, open_of, numbered, opens_to, is_target, is_numbered, is_shared, is_kept, is_pipe, has_open, file_at, free_open, install, with_at}
 use Rattle.nv_fs.specs.Opened.{free_file}
 use Rattle.nv_fs.specs.Ends.{free_pipe}
-use Rattle.nv_fs_laws.specs.Tables.{number_at, StandsIn, IsSound}
+use Rattle.nv_fs_laws.specs.Tables.{number_at, StandsIn, AreSoundTables}
 use Rattle.nv_fs_laws.specs.Calls.{TakesNew}
 use Rattle.nv_fs_laws.proofs.Lookups.{some_is, past_end, with_other, with_same, passes_at, passes, least_is_near, least_is_free}
 
@@ -18,21 +18,21 @@ pub unless : (b : Bool) → (b ≡ true → ⊥) → b ≡ false
 unless true h = absurd (h refl)
 unless false h = refl
 
-pub number_is : (number : ℕ) (o : Option ℕ) → is_number number o ≡ true → o ≡ Some number
+pub number_is : (number : ℕ) (o : Option ℕ) → is_numbered number o ≡ true → o ≡ Some number
 number_is number None h = cc
 number_is number (Some j) h = ap Some (eqb-true j number h)
 
-pub is_the_number : (number : ℕ) (o : Option ℕ) → o ≡ Some number → is_number number o ≡ true
-is_the_number number o e = subst (λ (q : Option ℕ). is_number number q ≡ true) (sym e) (eq-eqb number number refl)
+pub is_the_number : (number : ℕ) (o : Option ℕ) → o ≡ Some number → is_numbered number o ≡ true
+is_the_number number o e = subst (λ (q : Option ℕ). is_numbered number q ≡ true) (sym e) (eq-eqb number number refl)
 
 -- a number is in use where a descriptor has it
 pub shared_at : (s : FileState) (number : ℕ) → is_shared s number ≡ true → (d : ℕ) × (number_at s d ≡ Some number)
 unfolding is_shared
-shared_at s number h = let r = passes_at (is_number number) s.descriptors h in (r.0, number_is number _ r.1)
+shared_at s number h = let r = passes_at (is_numbered number) s.descriptors h in (r.0, number_is number _ r.1)
 
 pub shared_by : (s : FileState) (number d : ℕ) → number_at s d ≡ Some number → is_shared s number ≡ true
 unfolding is_shared
-shared_by s number d e = passes (is_number number) s.descriptors d refl (is_the_number number _ e)
+shared_by s number d e = passes (is_numbered number) s.descriptors d refl (is_the_number number _ e)
 
 pub open_at : (s : FileState) (t : Target) → has_open s t ≡ true → (d : ℕ) × (opens_to t (open_of s d) ≡ true)
 unfolding has_open open_of
@@ -84,11 +84,11 @@ stands_too files pipes (Writer i) Console h k = cc
 stands_too files pipes (Writer i) (File j) h k = cc
 stands_too files pipes (Writer i) (Reader j) h k = cc
 
-pub stands : (s : FileState) (fd : ℕ) (o : ℕ × OpenFile) → IsSound s → open_of s fd ≡ Some o → StandsIn (length s.files) (length s.pipes) o.1.target
+pub stands : (s : FileState) (fd : ℕ) (o : ℕ × OpenFile) → AreSoundTables s → open_of s fd ≡ Some o → StandsIn (length s.files) (length s.pipes) o.1.target
 stands s fd o h e = h.opens o.0 o.1 (open_is s fd o e).1
 
 -- what is open stands in the tables
-pub open_stands : (s : FileState) (t : Target) → IsSound s → has_open s t ≡ true → StandsIn (length s.files) (length s.pipes) t
+pub open_stands : (s : FileState) (t : Target) → AreSoundTables s → has_open s t ≡ true → StandsIn (length s.files) (length s.pipes) t
 open_stands s t h k = let r = open_at s t k in by r.0 (open_of s r.0) refl r.1
   where
     by : (d : ℕ) (o : Option (ℕ × OpenFile)) → open_of s d ≡ o → opens_to t o ≡ true → StandsIn (length s.files) (length s.pipes) t
@@ -96,7 +96,7 @@ open_stands s t h k = let r = open_at s t k in by r.0 (open_of s r.0) refl r.1
     by d (Some o) e q = stands_too (length s.files) (length s.pipes) t o.1.target q (stands s d o h e)
 
 -- the numbers just after the tables, and so the least free ones, are in no use
-pub open_is_free : (s : FileState) → IsSound s → is_shared s (free_open s) ≡ false
+pub open_is_free : (s : FileState) → AreSoundTables s → is_shared s (free_open s) ≡ false
 unfolding free_open
 open_is_free s h = least_is_free (is_shared s) (length s.opens) 0 (unless _ used)
   where
@@ -107,7 +107,7 @@ pub free_open_near : (s : FileState) → free_open s ≤ length s.opens
 unfolding free_open
 free_open_near s = omega (arith, least_is_near (is_shared s) (length s.opens) 0)
 
-pub file_is_free : (s : FileState) → IsSound s → is_kept s (free_file s) ≡ false
+pub file_is_free : (s : FileState) → AreSoundTables s → is_kept s (free_file s) ≡ false
 unfolding free_file is_kept
 file_is_free s h = least_is_free (is_kept s) (length s.files) 0 (unless _ used)
   where
@@ -121,7 +121,7 @@ pub free_file_near : (s : FileState) → free_file s ≤ length s.files
 unfolding free_file
 free_file_near s = omega (arith, least_is_near (is_kept s) (length s.files) 0)
 
-pub pipe_is_free : (s : FileState) → IsSound s → is_pipe s (free_pipe s) ≡ false
+pub pipe_is_free : (s : FileState) → AreSoundTables s → is_pipe s (free_pipe s) ≡ false
 unfolding free_pipe is_pipe
 pipe_is_free s h = least_is_free (is_pipe s) (length s.pipes) 0 (unless _ used)
   where
@@ -141,7 +141,7 @@ found_still opens n o None h q = refl
 found_still opens n o (Some j) h q = ap (option_map (λ x. (j, x))) (with_other opens n o h j (λ e. q (ap Some e)))
 
 -- a free descriptor takes a new open file
-pub takes_new : (s : FileState) (fd : ℕ) (o : OpenFile) → IsSound s → fd < length s.descriptors → number_at s fd ≡ None → TakesNew s (install s fd o) fd
+pub takes_new : (s : FileState) (fd : ℕ) (o : OpenFile) → AreSoundTables s → fd < length s.descriptors → number_at s fd ≡ None → TakesNew s (install s fd o) fd
 unfolding install open_of
 takes_new s fd o h l free = record {
   free = free;

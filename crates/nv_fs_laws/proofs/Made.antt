@@ -8,14 +8,14 @@ use Rattle.std.proofs.lemmas.List.{get_or-set_same, get_or-set_other}
 use Rattle.nv_fs.specs.declared.open_file.OpenFile.{OpenFile}
 use Rattle.nv_fs.specs.declared.open_file.Target.TheVariants.{File, Reader, Writer}
 use Rattle.nv_calls.specs.Errors.{ENOENT, EBADF, EEXIST, ENOTDIR, EINVAL, EMFILE, ENOSPC, ENAMETOOLONG}
-use Rattle.nv_fs.specs.States.{one_way, FileState, Inode, Answer, only, open_of, numbered, opens_to, is_number, is_shared, is_kept, file_at, free_open, install}
+use Rattle.nv_fs.specs.States.{one_way, FileState, Inode, Answer, only, open_of, numbered, opens_to, is_numbered, is_shared, is_kept, file_at, free_open, install}
 use Rattle.nv_fs.specs.Closes.{dup_of, dup_open, share, free_descriptor}
 use Rattle.nv_fs.specs.Ends.{pipe_of, pipe_from, pipe_on, free_pipe, free_above, with_empty}
 use Rattle.nv_fs.specs.Names.{Resolved, Refused, Named, resolved, name_of, name_in, component_of, file_of, is_open_at, is_cwd, is_absolute}
-use Rattle.nv_fs.specs.Opened.{open_at_of, open_resolved, open_unless, open_at_descriptor, open_file, opened, create, truncated, with_file, free_file, is_refused, has_flag}
+use Rattle.nv_fs.specs.Opened.{open_at_of, open_resolved, open_unless, open_at_descriptor, open_file, opened, create, truncated, with_file, free_file, exclusive_error, has_flag}
 use Rattle.nv_fs.specs.Stored.{with_content}
-use Rattle.nv_fs_laws.specs.Tables.{number_at, IsSound}
-use Rattle.nv_fs_laws.specs.Calls.{is_error, IsRefused, TakesNew, HasOpened, HasDoubled, HasPiped}
+use Rattle.nv_fs_laws.specs.Tables.{number_at, AreSoundTables}
+use Rattle.nv_fs_laws.specs.Calls.{is_error, ChangesNothing, TakesNew, HasOpened, HasDoubled, HasPiped}
 use Rattle.nv_fs_laws.proofs.Lookups.{some_is, or_none, is_inside, put_or_not, get_drop, with_or_other, with_or_same, first_is}
 use Rattle.nv_fs_laws.proofs.Holding.{open_is, file_is_free, free_file_near, pipe_is_free, free_pipe_near, takes_new, is_installed}
 use Rattle.nv_fs_laws.proofs.Sound.{with_pipe_is_sound, first_end_is_sound, emptied_is_sound, with_file_is_sound}
@@ -47,7 +47,7 @@ above_at s fd other e = by (position_from is_none 0 (drop (fd + 1) s.descriptors
 -- tables with the same descriptors and open files
 same_shared : (s t : FileState) (number : ℕ) → t.descriptors ≡ s.descriptors → is_shared t number ≡ is_shared s number
 unfolding is_shared
-same_shared s t number e = ap (list_any (is_number number)) e
+same_shared s t number e = ap (list_any (is_numbered number)) e
 
 same_open : (s t : FileState) (fd : ℕ) → t.descriptors ≡ s.descriptors → t.opens ≡ s.opens → open_of t fd ≡ open_of s fd
 unfolding open_of
@@ -62,7 +62,7 @@ takes_from s t after fd e f new = record {
   others = λ d other. new.others d other ∙ same_open s t d e f;
 }
 
-refused : (s : FileState) (e : ℤ) → IsTrue (is_error e) → IsRefused s (only s e)
+refused : (s : FileState) (e : ℤ) → IsTrue (is_error e) → ChangesNothing s (only s e)
 refused s e h = record { same = refl; error = h }
 
 -- openat: a refusal is an error
@@ -87,7 +87,7 @@ abbrev Unless : Option ℤ → Type 0
 Unless None = Unit {0}
 Unless (Some error) = IsTrue (is_error error)
 
-refused_is_error : (file : Option ℕ) (flags : ℕ) → Unless (is_refused file flags)
+refused_is_error : (file : Option ℕ) (flags : ℕ) → Unless (exclusive_error file flags)
 refused_is_error (Some i) flags = by_test Unless (has_flag flags 64 && has_flag flags 128) (Some EEXIST) None refl tt
 refused_is_error None flags = by_test Unless (has_flag flags 64) None (Some ENOENT) tt refl
 
@@ -95,7 +95,7 @@ refused_is_error None flags = by_test Unless (has_flag flags 64) None (Some ENOE
 abbrev Ready : FileState → FileState → ℕ → Type 0
 Ready s t i = (j : ℕ) → IsTrue (is_kept s j) → ((file_at t j).name ≡ (file_at s j).name) × ((j ≡ i) ⊎ (file_at t j ≡ file_at s j))
 
-opens_on : (s t : FileState) (fd i flags : ℕ) → t.descriptors ≡ s.descriptors → t.opens ≡ s.opens → t.pipes ≡ s.pipes → IsSound t → Ready s t i
+opens_on : (s t : FileState) (fd i flags : ℕ) → t.descriptors ≡ s.descriptors → t.opens ≡ s.opens → t.pipes ≡ s.pipes → AreSoundTables t → Ready s t i
     → fd < length s.descriptors → number_at s fd ≡ None → HasOpened s (open_file t fd i flags)
 unfolding install
 opens_on s t fd i flags e f g h ready l free =
@@ -129,14 +129,14 @@ emptied_ready s i j kept = elim (cases_eq j i) [
     there : (file_at (with_content s i []) i).name ≡ (file_at s i).name
     there = ⊎_elim (ap (λ (f : Inode). f.name)) (λ q. ap (λ (f : Inode). f.name) (q.0 ∙ sym q.1)) (put_or_not s.files i new none)
 
-opens_file : (s : FileState) (fd i flags : ℕ) → IsSound s → fd < length s.descriptors → number_at s fd ≡ None → HasOpened s (open_file (truncated s i flags) fd i flags)
+opens_file : (s : FileState) (fd i flags : ℕ) → AreSoundTables s → fd < length s.descriptors → number_at s fd ≡ None → HasOpened s (open_file (truncated s i flags) fd i flags)
 opens_file s fd i flags h l free = by (has_flag flags 512 && not (flags % 4 == 0)) (emptied_is_sound s i flags h)
   where
-    by : (b : Bool) → IsSound (cond b (with_content s i []) s) → HasOpened s (open_file (cond b (with_content s i []) s) fd i flags)
+    by : (b : Bool) → AreSoundTables (cond b (with_content s i []) s) → HasOpened s (open_file (cond b (with_content s i []) s) fd i flags)
     by true h = opens_on s (with_content s i []) fd i flags refl refl refl h (emptied_ready s i) l free
     by false h = opens_on s s fd i flags refl refl refl h (λ j kept. (refl, inr refl)) l free
 
-made_ready : (s : FileState) (name : List ℕ) → IsSound s → Ready s (with_file s (free_file s) name) (free_file s)
+made_ready : (s : FileState) (name : List ℕ) → AreSoundTables s → Ready s (with_file s (free_file s) name) (free_file s)
 made_ready s name h j kept = (ap (λ (f : Inode). f.name) same, inr same)
   where
     same : file_at (with_file s (free_file s) name) j ≡ file_at s j
@@ -144,14 +144,14 @@ made_ready s name h j kept = (ap (λ (f : Inode). f.name) same, inr same)
         (λ is. let clash : true ≡ false = sym kept ∙ ap (is_kept s) is ∙ file_is_free s h in cc)
 
 abbrev Opened : FileState → Answer → Type 0
-Opened s a = IsRefused s a ⊎ HasOpened s a
+Opened s a = ChangesNothing s a ⊎ HasOpened s a
 
-makes_file : (s : FileState) (fd : ℕ) (name : List ℕ) (flags : ℕ) → IsSound s → fd < length s.descriptors → number_at s fd ≡ None → Opened s (create s fd name flags)
+makes_file : (s : FileState) (fd : ℕ) (name : List ℕ) (flags : ℕ) → AreSoundTables s → fd < length s.descriptors → number_at s fd ≡ None → Opened s (create s fd name flags)
 makes_file s fd name flags h l free =
     by_test (Opened s) (nat_le 256 (free_file s)) (only s ENOSPC) (open_file (with_file s (free_file s) name) fd (free_file s) flags) (inl (refused s ENOSPC refl))
     (inr (opens_on s (with_file s (free_file s) name) fd (free_file s) flags refl refl refl (with_file_is_sound s name h) (made_ready s name h) l free))
 
-pub opens_new : (s : FileState) (dir : ℤ) (path : List ℕ) (flags : ℕ) → IsSound s → IsRefused s (open_at_of s dir path flags) ⊎ HasOpened s (open_at_of s dir path flags)
+pub opens_new : (s : FileState) (dir : ℤ) (path : List ℕ) (flags : ℕ) → AreSoundTables s → ChangesNothing s (open_at_of s dir path flags) ⊎ HasOpened s (open_at_of s dir path flags)
 unfolding open_at_of
 opens_new s dir path flags h = by (resolved s dir path) (refusal_is_error s dir path)
   where
@@ -167,15 +167,15 @@ opens_new s dir path flags h = by (resolved s dir path) (refusal_is_error s dir 
     by : (r : Resolved) → Fails r → Opened s (open_resolved s r flags)
     by (Refused error) f = inl (refused s error f)
     by (Named name) f =
-        by_test (Opened s) (flags % 4 == 3) (only s EINVAL) (open_unless (is_refused (file_of s name) flags) s name (file_of s name) flags) (inl (refused s EINVAL refl))
-        (unless (is_refused (file_of s name) flags) name (file_of s name) (refused_is_error (file_of s name) flags))
+        by_test (Opened s) (flags % 4 == 3) (only s EINVAL) (open_unless (exclusive_error (file_of s name) flags) s name (file_of s name) flags) (inl (refused s EINVAL refl))
+        (unless (exclusive_error (file_of s name) flags) name (file_of s name) (refused_is_error (file_of s name) flags))
 
 -- dup
-pub doubles : (s : FileState) (fd : ℕ) → IsRefused s (dup_of s fd) ⊎ HasDoubled s fd (dup_of s fd)
+pub doubles : (s : FileState) (fd : ℕ) → ChangesNothing s (dup_of s fd) ⊎ HasDoubled s fd (dup_of s fd)
 unfolding dup_of open_of
 doubles s fd = by (open_of s fd) refl
   where
-    onto : (to : Option ℕ) (o : ℕ × OpenFile) → open_of s fd ≡ Some o → free_descriptor s ≡ to → IsRefused s (share s to o.0) ⊎ HasDoubled s fd (share s to o.0)
+    onto : (to : Option ℕ) (o : ℕ × OpenFile) → open_of s fd ≡ Some o → free_descriptor s ≡ to → ChangesNothing s (share s to o.0) ⊎ HasDoubled s fd (share s to o.0)
     onto None o e f = inl (refused s EMFILE refl)
     onto (Some to) o e f =
         let r = free_at s to f in inr record {
@@ -188,7 +188,7 @@ doubles s fd = by (open_of s fd) refl
           pipes = refl;
         }
 
-    by : (o : Option (ℕ × OpenFile)) → open_of s fd ≡ o → IsRefused s (dup_open s o) ⊎ HasDoubled s fd (dup_open s o)
+    by : (o : Option (ℕ × OpenFile)) → open_of s fd ≡ o → ChangesNothing s (dup_open s o) ⊎ HasDoubled s fd (dup_open s o)
     by None e = inl (refused s EBADF refl)
     by (Some o) e = onto (free_descriptor s) o e refl
 
@@ -201,7 +201,7 @@ free_between : (s : FileState) (reading writing : ℕ) → writing ≢ reading �
 unfolding install
 free_between s reading writing other free = get_or-set_other s.descriptors reading writing (Some (free_open (with_empty s (free_pipe s)))) None other ∙ free
 
-has_piped : (s : FileState) (reading writing : ℕ) → IsSound s → reading < length s.descriptors → number_at s reading ≡ None → reading < writing → writing < length s.descriptors → number_at s writing ≡ None
+has_piped : (s : FileState) (reading writing : ℕ) → AreSoundTables s → reading < length s.descriptors → number_at s reading ≡ None → reading < writing → writing < length s.descriptors → number_at s writing ≡ None
     → HasPiped s (pipe_on s reading (Some writing))
 unfolding install
 has_piped s reading writing h l free above l' free' =
@@ -228,18 +228,18 @@ has_piped s reading writing h l free above l' free' =
     }
 
 abbrev Piped : FileState → Answer → Type 0
-Piped s a = IsRefused s a ⊎ HasPiped s a
+Piped s a = ChangesNothing s a ⊎ HasPiped s a
 
-pub pipes : (s : FileState) (flags : ℕ) → IsSound s → IsRefused s (pipe_of s flags) ⊎ HasPiped s (pipe_of s flags)
+pub pipes : (s : FileState) (flags : ℕ) → AreSoundTables s → ChangesNothing s (pipe_of s flags) ⊎ HasPiped s (pipe_of s flags)
 unfolding pipe_of
 pipes s flags h = by_test (Piped s) (bit_and flags 526336 == flags) (pipe_from s (free_descriptor s)) (only s EINVAL) (by (free_descriptor s) refl) (inl (refused s EINVAL refl))
   where
-    on : (reading : ℕ) (writing : Option ℕ) → free_descriptor s ≡ Some reading → free_above s reading ≡ writing → IsRefused s (pipe_on s reading writing) ⊎ HasPiped s (pipe_on s reading writing)
+    on : (reading : ℕ) (writing : Option ℕ) → free_descriptor s ≡ Some reading → free_above s reading ≡ writing → ChangesNothing s (pipe_on s reading writing) ⊎ HasPiped s (pipe_on s reading writing)
     on reading None e f = inl (refused s EMFILE refl)
     on reading (Some writing) e f =
         let a = free_at s reading e in
         let b = above_at s reading writing f in inr (has_piped s reading writing h a.0 a.1 b.0 b.1 b.2)
 
-    by : (reading : Option ℕ) → free_descriptor s ≡ reading → IsRefused s (pipe_from s reading) ⊎ HasPiped s (pipe_from s reading)
+    by : (reading : Option ℕ) → free_descriptor s ≡ reading → ChangesNothing s (pipe_from s reading) ⊎ HasPiped s (pipe_from s reading)
     by None e = inl (refused s EMFILE refl)
     by (Some reading) e = on reading (free_above s reading) e refl

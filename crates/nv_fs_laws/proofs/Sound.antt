@@ -12,11 +12,11 @@ use Rattle.nv_fs.specs.Starts.{first_state, first_descriptors, first_opens}
 use Rattle.nv_fs.specs.Closes.{close_of, close_open, dup_of, dup_open, dup3_of, dup_onto, share, shared_at, free_descriptor, with_descriptor}
 use Rattle.nv_fs.specs.Ends.{pipe_of, pipe_from, pipe_on, free_pipe, free_above, with_empty, with_ends}
 use Rattle.nv_fs.specs.Names.{Resolved, Refused, Named, resolved, file_of, is_named}
-use Rattle.nv_fs.specs.Opened.{open_at_of, open_resolved, open_unless, open_at_descriptor, open_file, opened, create, truncated, with_file, free_file, is_refused, has_flag, unlink_at_of, unlink_resolved, unlink_file}
+use Rattle.nv_fs.specs.Opened.{open_at_of, open_resolved, open_unless, open_at_descriptor, open_file, opened, create, truncated, with_file, free_file, exclusive_error, has_flag, unlink_at_of, unlink_resolved, unlink_file}
 use Rattle.nv_fs.specs.Seeks.{seek_of}
 use Rattle.nv_fs.specs.Fetched.{read_of}
 use Rattle.nv_fs.specs.Stored.{write_of, with_content}
-use Rattle.nv_fs_laws.specs.Tables.{StandsIn, IsSound}
+use Rattle.nv_fs_laws.specs.Tables.{StandsIn, AreSoundTables}
 use Rattle.nv_fs_laws.proofs.Lookups.{some_is, is_inside, set_other, set_same, put_or_not, with_other, with_same, with_longer, with_inside, first_is}
 use Rattle.nv_fs_laws.proofs.Holding.{open_is, stands, free_open_near, free_file_near, free_pipe_near}
 use Rattle.nv_fs_laws.proofs.Cases.{by_test, seek_cases, read_cases, write_cases}
@@ -29,8 +29,8 @@ stands_on f g p q (File i) a b h = omega (arith, h)
 stands_on f g p q (Reader k) a b h = omega (arith, h)
 stands_on f g p q (Writer k) a b h = omega (arith, h)
 
-pub grown : (s : FileState) (files : List Inode) (pipes : List (List ℕ)) (input console : List ℕ) → IsSound s → length s.files ≤ length files → length s.pipes ≤ length pipes
-    → IsSound record { descriptors = s.descriptors; opens = s.opens; files = files; pipes = pipes; input = input; console = console }
+pub grown : (s : FileState) (files : List Inode) (pipes : List (List ℕ)) (input console : List ℕ) → AreSoundTables s → length s.files ≤ length files → length s.pipes ≤ length pipes
+    → AreSoundTables record { descriptors = s.descriptors; opens = s.opens; files = files; pipes = pipes; input = input; console = console }
 grown s files pipes input console h a b = record {
   count = h.count;
   descriptors = h.descriptors;
@@ -38,7 +38,7 @@ grown s files pipes input console h a b = record {
 }
 
 -- a descriptor lets go, or has a number of the table
-freed : (s : FileState) (fd : ℕ) → IsSound s → IsSound (with_descriptor s fd None)
+freed : (s : FileState) (fd : ℕ) → AreSoundTables s → AreSoundTables (with_descriptor s fd None)
 freed s fd h = record {
   count = length-set s.descriptors fd None ∙ h.count;
   descriptors = λ d n e. elim (cases_eq d fd) [
@@ -68,7 +68,7 @@ number_after ds fd d number n e = elim (cases_eq d fd) [
           | inr not_there ↦ (let clash : Some n ≡ None = sym e' ∙ not_there.0 in cc)
         ]
 
-had : (s : FileState) (fd number : ℕ) → IsSound s → number < length s.opens → IsSound (with_descriptor s fd (Some number))
+had : (s : FileState) (fd number : ℕ) → AreSoundTables s → number < length s.opens → AreSoundTables (with_descriptor s fd (Some number))
 had s fd number h l = record {
   count = length-set s.descriptors fd (Some number) ∙ h.count;
   descriptors = λ d n e. elim (number_after s.descriptors fd d number n e) [
@@ -79,7 +79,7 @@ had s fd number h l = record {
 }
 
 -- a new open file of what stands in the tables
-installed : (s : FileState) (fd : ℕ) (o : OpenFile) → IsSound s → StandsIn (length s.files) (length s.pipes) o.target → IsSound (install s fd o)
+installed : (s : FileState) (fd : ℕ) (o : OpenFile) → AreSoundTables s → StandsIn (length s.files) (length s.pipes) o.target → AreSoundTables (install s fd o)
 unfolding install
 installed s fd o h there =
     let n = free_open s in
@@ -96,7 +96,7 @@ installed s fd o h there =
     }
 
 -- an open file moves
-moves : (s : FileState) (fd : ℕ) (o : ℕ × OpenFile) (offset : ℕ) → IsSound s → open_of s fd ≡ Some o → IsSound (moved_to s o.0 o.1 offset)
+moves : (s : FileState) (fd : ℕ) (o : ℕ × OpenFile) (offset : ℕ) → AreSoundTables s → open_of s fd ≡ Some o → AreSoundTables (moved_to s o.0 o.1 offset)
 moves s fd o offset h e =
     let new : OpenFile = record (o.1) { offset = offset } in
     let l = is_inside s.opens o.0 o.1 (open_is s fd o e).1 in record {
@@ -108,11 +108,11 @@ moves s fd o offset h e =
       ];
     }
 
-kept : (s : FileState) (i : ℕ) (f : Inode) → IsSound s → IsSound (record s { files = set s.files i f })
+kept : (s : FileState) (i : ℕ) (f : Inode) → AreSoundTables s → AreSoundTables (record s { files = set s.files i f })
 kept s i f h = grown s (set s.files i f) s.pipes s.input s.console h (omega (arith, length-set s.files i f)) (omega arith)
 
 abbrev Sound : Answer → Type 0
-Sound a = IsSound a.state
+Sound a = AreSoundTables a.state
 
 -- the first tables
 none_left : (n d : ℕ) → get_or (replicate n None) d None ≡ (let none : Option ℕ = None in none)
@@ -120,7 +120,7 @@ none_left zero d = refl
 none_left (suc n) zero = refl
 none_left (suc n) (suc d) = none_left n d
 
-pub first_is_sound : (input : List ℕ) (files : List Inode) → IsSound (first_state input files)
+pub first_is_sound : (input : List ℕ) (files : List Inode) → AreSoundTables (first_state input files)
 unfolding first_descriptors
 first_is_sound input files = record { count = refl; descriptors = named; opens = standing }
   where
@@ -136,62 +136,62 @@ first_is_sound input files = record { count = refl; descriptors = named; opens =
     standing (suc (suc n)) o e = cc
 
 -- close, dup and dup3
-pub closed_is_sound : (s : FileState) (fd : ℕ) → IsSound s → IsSound (close_of s fd).state
+pub closed_is_sound : (s : FileState) (fd : ℕ) → AreSoundTables s → AreSoundTables (close_of s fd).state
 unfolding close_of
 closed_is_sound s fd h = by (open_of s fd)
   where
-    by : (o : Option (ℕ × OpenFile)) → IsSound (close_open s fd o).state
+    by : (o : Option (ℕ × OpenFile)) → AreSoundTables (close_open s fd o).state
     by None = h
     by (Some o) = freed s fd h
 
 in_table : (s : FileState) (fd : ℕ) (o : ℕ × OpenFile) → open_of s fd ≡ Some o → o.0 < length s.opens
 in_table s fd o e = is_inside s.opens o.0 o.1 (open_is s fd o e).1
 
-pub doubled_is_sound : (s : FileState) (fd : ℕ) → IsSound s → IsSound (dup_of s fd).state
+pub doubled_is_sound : (s : FileState) (fd : ℕ) → AreSoundTables s → AreSoundTables (dup_of s fd).state
 unfolding dup_of
 doubled_is_sound s fd h = by (open_of s fd) refl
   where
-    onto : (q : Option ℕ) (number : ℕ) → number < length s.opens → IsSound (share s q number).state
+    onto : (q : Option ℕ) (number : ℕ) → number < length s.opens → AreSoundTables (share s q number).state
     onto None number l = h
     onto (Some to) number l = had s to number h l
 
-    by : (o : Option (ℕ × OpenFile)) → open_of s fd ≡ o → IsSound (dup_open s o).state
+    by : (o : Option (ℕ × OpenFile)) → open_of s fd ≡ o → AreSoundTables (dup_open s o).state
     by None e = h
     by (Some o) e = onto (free_descriptor s) o.0 (in_table s fd o e)
 
-pub moved_onto_is_sound : (s : FileState) (from to flags : ℕ) → IsSound s → IsSound (dup3_of s from to flags).state
+pub moved_onto_is_sound : (s : FileState) (from to flags : ℕ) → AreSoundTables s → AreSoundTables (dup3_of s from to flags).state
 unfolding dup3_of
 moved_onto_is_sound s from to flags h =
     by_test Sound (not ((flags == 0) || (flags == 524288))) (only s EINVAL) _ h (by_test Sound (from == to) (only s EINVAL) (dup_onto s (open_of s from) to) h (by (open_of s from) refl))
   where
-    by : (o : Option (ℕ × OpenFile)) → open_of s from ≡ o → IsSound (dup_onto s o to).state
+    by : (o : Option (ℕ × OpenFile)) → open_of s from ≡ o → AreSoundTables (dup_onto s o to).state
     by None e = h
     by (Some o) e = by_test Sound (nat_lt 63 to) (only s EBADF) (shared_at s to o.0) h (had s to o.0 h (in_table s from o e))
 
 -- pipe
-pub with_pipe_is_sound : (s : FileState) → IsSound s → IsSound (with_empty s (free_pipe s))
+pub with_pipe_is_sound : (s : FileState) → AreSoundTables s → AreSoundTables (with_empty s (free_pipe s))
 with_pipe_is_sound s h = grown s s.files (with_at s.pipes (free_pipe s) []) s.input s.console h (omega arith) (with_longer s.pipes (free_pipe s) [] (free_pipe_near s))
 
 pub pipe_there : (s : FileState) → free_pipe s < length (with_empty s (free_pipe s)).pipes
 pipe_there s = with_inside s.pipes (free_pipe s) [] (free_pipe_near s)
 
-pub first_end_is_sound : (s : FileState) (fd : ℕ) → IsSound s → IsSound (install (with_empty s (free_pipe s)) fd (one_way (Reader (free_pipe s)) true))
+pub first_end_is_sound : (s : FileState) (fd : ℕ) → AreSoundTables s → AreSoundTables (install (with_empty s (free_pipe s)) fd (one_way (Reader (free_pipe s)) true))
 first_end_is_sound s fd h = installed (with_empty s (free_pipe s)) fd (one_way (Reader (free_pipe s)) true) (with_pipe_is_sound s h) (pipe_there s)
 
-second_end_is_sound : (s : FileState) (reading writing : ℕ) → IsSound s → IsSound (with_ends s (free_pipe s) reading writing)
+second_end_is_sound : (s : FileState) (reading writing : ℕ) → AreSoundTables s → AreSoundTables (with_ends s (free_pipe s) reading writing)
 unfolding install
 second_end_is_sound s reading writing h =
     installed (install (with_empty s (free_pipe s)) reading (one_way (Reader (free_pipe s)) true)) writing (one_way (Writer (free_pipe s)) false) (first_end_is_sound s reading h) (pipe_there s)
 
-pub piped_is_sound : (s : FileState) (flags : ℕ) → IsSound s → IsSound (pipe_of s flags).state
+pub piped_is_sound : (s : FileState) (flags : ℕ) → AreSoundTables s → AreSoundTables (pipe_of s flags).state
 unfolding pipe_of
 piped_is_sound s flags h = by_test Sound (bit_and flags 526336 == flags) (pipe_from s (free_descriptor s)) (only s EINVAL) (by (free_descriptor s)) h
   where
-    on : (reading : ℕ) (writing : Option ℕ) → IsSound (pipe_on s reading writing).state
+    on : (reading : ℕ) (writing : Option ℕ) → AreSoundTables (pipe_on s reading writing).state
     on reading None = h
     on reading (Some writing) = second_end_is_sound s reading writing h
 
-    by : (reading : Option ℕ) → IsSound (pipe_from s reading).state
+    by : (reading : Option ℕ) → AreSoundTables (pipe_from s reading).state
     by None = h
     by (Some reading) = on reading (free_above s reading)
 
@@ -200,10 +200,10 @@ file_inside : (s : FileState) (name : List ℕ) (i : ℕ) → file_of s name ≡
 unfolding file_of
 file_inside s name i e = let r = first_is (λ f. is_named name f.name) s.files 0 i e in omega (arith, r.1, is_inside s.files r.0 r.2 r.3)
 
-pub emptied_is_sound : (s : FileState) (i flags : ℕ) → IsSound s → IsSound (truncated s i flags)
+pub emptied_is_sound : (s : FileState) (i flags : ℕ) → AreSoundTables s → AreSoundTables (truncated s i flags)
 emptied_is_sound s i flags h = by (has_flag flags 512 && not (flags % 4 == 0))
   where
-    by : (b : Bool) → IsSound (cond b (with_content s i []) s)
+    by : (b : Bool) → AreSoundTables (cond b (with_content s i []) s)
     by true = kept s i (record { name = (file_at s i).name; bytes = [] }) h
     by false = h
 
@@ -214,50 +214,50 @@ emptied_files s i flags = by (has_flag flags 512 && not (flags % 4 == 0))
     by true = length-set s.files i (record { name = (file_at s i).name; bytes = [] })
     by false = refl
 
-pub with_file_is_sound : (s : FileState) (name : List ℕ) → IsSound s → IsSound (with_file s (free_file s) name)
+pub with_file_is_sound : (s : FileState) (name : List ℕ) → AreSoundTables s → AreSoundTables (with_file s (free_file s) name)
 with_file_is_sound s name h = grown s (with_at s.files (free_file s) (record { name = Some name; bytes = [] })) s.pipes s.input s.console h (with_longer s.files (free_file s) (record { name = Some name; bytes = [] }) (free_file_near s)) (omega arith)
 
-made : (s : FileState) (fd : ℕ) (name : List ℕ) (flags : ℕ) → IsSound s → IsSound (create s fd name flags).state
+made : (s : FileState) (fd : ℕ) (name : List ℕ) (flags : ℕ) → AreSoundTables s → AreSoundTables (create s fd name flags).state
 made s fd name flags h =
     by_test Sound (nat_le 256 (free_file s)) (only s ENOSPC) (open_file (with_file s (free_file s) name) fd (free_file s) flags) h
     (installed (with_file s (free_file s) name) fd (opened (free_file s) flags) (with_file_is_sound s name h) (with_inside s.files (free_file s) (record { name = Some name; bytes = [] }) (free_file_near s)))
 
-pub opened_is_sound : (s : FileState) (dir : ℤ) (path : List ℕ) (flags : ℕ) → IsSound s → IsSound (open_at_of s dir path flags).state
+pub opened_is_sound : (s : FileState) (dir : ℤ) (path : List ℕ) (flags : ℕ) → AreSoundTables s → AreSoundTables (open_at_of s dir path flags).state
 unfolding open_at_of
 opened_is_sound s dir path flags h = by (resolved s dir path)
   where
-    at : (fd : Option ℕ) (name : List ℕ) (file : Option ℕ) → file_of s name ≡ file → IsSound (open_at_descriptor s fd name file flags).state
+    at : (fd : Option ℕ) (name : List ℕ) (file : Option ℕ) → file_of s name ≡ file → AreSoundTables (open_at_descriptor s fd name file flags).state
     at None name file e = h
     at (Some fd) name None e = made s fd name flags h
     at (Some fd) name (Some i) e = installed (truncated s i flags) fd (opened i flags) (emptied_is_sound s i flags h) (omega (arith, file_inside s name i e, emptied_files s i flags))
 
-    unless : (q : Option ℤ) (name : List ℕ) → IsSound (open_unless q s name (file_of s name) flags).state
+    unless : (q : Option ℤ) (name : List ℕ) → AreSoundTables (open_unless q s name (file_of s name) flags).state
     unless None name = at (free_descriptor s) name (file_of s name) refl
     unless (Some error) name = h
 
-    by : (r : Resolved) → IsSound (open_resolved s r flags).state
+    by : (r : Resolved) → AreSoundTables (open_resolved s r flags).state
     by (Refused error) = h
-    by (Named name) = by_test Sound (flags % 4 == 3) (only s EINVAL) (open_unless (is_refused (file_of s name) flags) s name (file_of s name) flags) h (unless (is_refused (file_of s name) flags) name)
+    by (Named name) = by_test Sound (flags % 4 == 3) (only s EINVAL) (open_unless (exclusive_error (file_of s name) flags) s name (file_of s name) flags) h (unless (exclusive_error (file_of s name) flags) name)
 
-pub unlinked_is_sound : (s : FileState) (dir : ℤ) (path : List ℕ) (flags : ℕ) → IsSound s → IsSound (unlink_at_of s dir path flags).state
+pub unlinked_is_sound : (s : FileState) (dir : ℤ) (path : List ℕ) (flags : ℕ) → AreSoundTables s → AreSoundTables (unlink_at_of s dir path flags).state
 unfolding unlink_at_of
 unlinked_is_sound s dir path flags h = by (resolved s dir path)
   where
-    gone : (file : Option ℕ) → IsSound (unlink_file s file).state
+    gone : (file : Option ℕ) → AreSoundTables (unlink_file s file).state
     gone None = h
     gone (Some i) = kept s i (record { name = None; bytes = (file_at s i).bytes }) h
 
-    by : (r : Resolved) → IsSound (unlink_resolved s r flags).state
+    by : (r : Resolved) → AreSoundTables (unlink_resolved s r flags).state
     by (Refused error) = h
     by (Named name) = by_test Sound (flags == 0) (unlink_file s (file_of s name)) (only s EINVAL) (gone (file_of s name)) h
 
 -- _llseek, read and write
-pub sought_is_sound : (s : FileState) (fd high low whence : ℕ) → IsSound s → IsSound (seek_of s fd high low whence).state
-sought_is_sound s fd high low whence h = seek_cases IsSound s fd h (λ o offset e. moves s fd o offset h e) high low whence
+pub sought_is_sound : (s : FileState) (fd high low whence : ℕ) → AreSoundTables s → AreSoundTables (seek_of s fd high low whence).state
+sought_is_sound s fd high low whence h = seek_cases AreSoundTables s fd h (λ o offset e. moves s fd o offset h e) high low whence
 
-pub read_is_sound : (s : FileState) (fd count : ℕ) → IsSound s → IsSound (read_of s fd count).state
+pub read_is_sound : (s : FileState) (fd count : ℕ) → AreSoundTables s → AreSoundTables (read_of s fd count).state
 read_is_sound s fd count h =
-    read_cases IsSound s fd h (λ o offset e. moves s fd o offset h e)
+    read_cases AreSoundTables s fd h (λ o offset e. moves s fd o offset h e)
     (λ n. grown s s.files s.pipes (drop n s.input) s.console h (omega arith) (omega arith))
     (λ o k bytes e t. grown s s.files (set s.pipes k bytes) s.input s.console h (omega arith) (omega (arith, length-set s.pipes k bytes)))
     count
@@ -266,9 +266,9 @@ same_open : (s : FileState) (fd i : ℕ) (content : List ℕ) (o : ℕ × OpenFi
 unfolding open_of
 same_open s fd i content o e = e
 
-pub written_is_sound : (s : FileState) (fd : ℕ) (bytes : List ℕ) → IsSound s → IsSound (write_of s fd bytes).state
+pub written_is_sound : (s : FileState) (fd : ℕ) (bytes : List ℕ) → AreSoundTables s → AreSoundTables (write_of s fd bytes).state
 written_is_sound s fd bytes h =
-    write_cases IsSound s fd h
+    write_cases AreSoundTables s fd h
     (λ printed. grown s s.files s.pipes s.input printed h (omega arith) (omega arith))
     (λ o i offset content e t. let f : Inode = record { name = (file_at s i).name; bytes = content } in moves (with_content s i content) fd o offset (kept s i f h) (same_open s fd i content o e))
     (λ o k content e t. grown s s.files (set s.pipes k content) s.input s.console h (omega arith) (omega (arith, length-set s.pipes k content)))

@@ -11,7 +11,7 @@ is_error (pos n) = false
 is_error (negsuc n) = true
 
 -- the call is refused, and changes nothing
-pub record IsRefused (before : FileState) (answer : Answer) : Type 0 where
+pub record ChangesNothing (before : FileState) (answer : Answer) : Type 0 where
   pub same : answer.state ≡ before
   pub error : IsTrue (is_error answer.ret)
 

@@ -17,7 +17,7 @@ StandsIn files pipes (Writer k) = k < pipes
 StandsIn files pipes _ = Unit {0}
 
 -- there are 64 descriptors, and each number in a table stands in the table that it is of
-pub record IsSound (s : FileState) : Type 0 where
+pub record AreSoundTables (s : FileState) : Type 0 where
   pub count : length s.descriptors ≡ 64
   pub descriptors : (fd number : ℕ) → number_at s fd ≡ Some number → number < length s.opens
   pub opens : (number : ℕ) (o : OpenFile) → slice_get s.opens number ≡ Some o → StandsIn (length s.files) (length s.pipes) o.target

@@ -4,16 +4,16 @@ use Rattle.std.specs.List.{flat_map}
 use Rattle.std.proofs.lemmas.Grind.{flat_map-append}
 use Rattle.std.proofs.lemmas.List.{map-append}
 use Rattle.nv_elf.specs.Elf.{Accepted, elf_of}
-use Rattle.nv_gen.specs.Plans.{read_of}
+use Rattle.nv_gen.specs.Measures.{file_read_as}
 use Rattle.nv_gen.specs.Made.{Numbers, Call, calls_to, calls_at, course, courses_to}
-use Rattle.nv_gen.specs.Programs.{insns_of, code_of, calls_code, word_of, program, programs_to}
+use Rattle.nv_gen.specs.Programs.{insns_of, code_of, calls_code, insn_bytes, program, programs_to}
 
 pub calls_to-next : (p : Numbers) (version writes : ℕ) → calls_to p version (writes + 1) ≡ calls_to p version writes ++ calls_at p version (writes + 1)
 unfolding calls_to
 calls_to-next p version writes = ap (λ k. calls_to p version k) (add-one writes)
 
 pub calls_code-append : (xs ys : List Call) → calls_code (xs ++ ys) ≡ calls_code xs ++ calls_code ys
-calls_code-append xs ys = ap code_of (flat_map-append insns_of xs ys) ∙ flat_map-append word_of (flat_map insns_of xs) (flat_map insns_of ys)
+calls_code-append xs ys = ap code_of (flat_map-append insns_of xs ys) ∙ flat_map-append insn_bytes (flat_map insns_of xs) (flat_map insns_of ys)
 
 pub calls_code-none : (code : List ℕ) (p : Numbers) (version : ℕ) → code ≡ code ++ calls_code (calls_to p version 0)
 unfolding calls_to
@@ -40,8 +40,8 @@ pub accepted-none : (k : Numbers) → map Accepted (programs_to k 0) ≡ []
 unfolding courses_to
 accepted-none k = refl
 
-pub versions-next : (k : Numbers) (count : ℕ) (files after : List (Vec ℕ Global)) (file : Vec ℕ Global) → map read_of files ≡ map Accepted (programs_to k count)
-    → elf_of file.items ≡ Accepted (program k (course k count)) → after ≡ files ++ file ∷ [] → map read_of after ≡ map Accepted (programs_to k (count + 1))
+pub versions-next : (k : Numbers) (count : ℕ) (files after : List (Vec ℕ Global)) (file : Vec ℕ Global) → map file_read_as files ≡ map Accepted (programs_to k count)
+    → elf_of file.items ≡ Accepted (program k (course k count)) → after ≡ files ++ file ∷ [] → map file_read_as after ≡ map Accepted (programs_to k (count + 1))
 versions-next k count files after file made read more =
-    ap (map read_of) more ∙ map-append read_of files (file ∷ []) ∙ ap (λ m. m ++ read_of file ∷ []) made
+    ap (map file_read_as) more ∙ map-append file_read_as files (file ∷ []) ∙ ap (λ m. m ++ file_read_as file ∷ []) made
     ∙ ap (λ r. map Accepted (programs_to k count) ++ r ∷ []) read ∙ sym (accepted-next k count)

@@ -1,3 +1,3 @@
 pub mod Made
 pub mod Programs
-pub mod Plans
+pub mod Measures

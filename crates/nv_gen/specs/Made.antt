@@ -30,15 +30,15 @@ pub record Course : Type 0 where
   pub ending : Ending
 
 -- the bytes of each write
-abbrev pub text_of : Numbers → List ℕ
-text_of p = replicate p.size p.byte
+abbrev pub write_text : Numbers → List ℕ
+write_text p = replicate p.size p.byte
 
 -- versions from 1 on call getuid before each write whose number is a multiple of 16
-abbrev pub asks : ℕ → ℕ → Bool
-asks version write = nat_le 1 version && (write % 16 == 0)
+abbrev pub calls_getuid : ℕ → ℕ → Bool
+calls_getuid version write = nat_le 1 version && (write % 16 == 0)
 
 abbrev pub calls_at : Numbers → ℕ → ℕ → List Call
-calls_at p version write = if asks version write then Getuid ∷ Write (text_of p) ∷ [] else Write (text_of p) ∷ []
+calls_at p version write = if calls_getuid version write then Getuid ∷ Write (write_text p) ∷ [] else Write (write_text p) ∷ []
 
 -- the calls of the first writes, which are numbered from 1
 unfoldable pub calls_to : Numbers → ℕ → ℕ → List Call
@@ -75,10 +75,10 @@ pub record Totals : Type 0 where
   pub exited : ℕ
   pub rewrites : ℕ
 
-abbrev pub field : List ℕ → ℕ → List ℕ
-field name value = name ++ decimal value
+abbrev pub named_number : List ℕ → ℕ → List ℕ
+named_number name value = name ++ decimal value
 
 -- the line that sums the run of a number up
 unfoldable pub summary : ℕ → Totals → List ℕ
-summary n o = field (codes "gen ") n ++ field (codes " versions ") (numbers_of n).versions ++ field (codes " output ") o.output ++ field (codes " log ") o.log
-    ++ field (codes " exited ") o.exited ++ field (codes " rewrites ") o.rewrites ++ codes "\n"
+summary n o = named_number (codes "gen ") n ++ named_number (codes " versions ") (numbers_of n).versions ++ named_number (codes " output ") o.output ++ named_number (codes " log ") o.log
+    ++ named_number (codes " exited ") o.exited ++ named_number (codes " rewrites ") o.rewrites ++ codes "\n"

@@ -46,11 +46,11 @@ abbrev pub insns : Course → List Insn
 insns c = flat_map insns_of c.calls ++ last_insns c.ending
 
 -- the bytes of an instruction
-unfoldable pub word_of : Insn → List ℕ
-word_of i = little_bytes 4 (encoded i)
+unfoldable pub insn_bytes : Insn → List ℕ
+insn_bytes i = little_bytes 4 (encoded i)
 
 abbrev pub code_of : List Insn → List ℕ
-code_of is = flat_map word_of is
+code_of is = flat_map insn_bytes is
 
 -- the bytes of the instructions of calls
 abbrev pub calls_code : List Call → List ℕ
@@ -64,12 +64,12 @@ block byte = replicate 64 byte
 abbrev pub segment_bytes : Numbers → Course → List ℕ
 segment_bytes k c = block k.byte ++ code_of (insns c)
 
-abbrev pub text_range : Numbers → Course → Range
-text_range k c = record { address = 65536; size = length (segment_bytes k c); read = true; write = false; execute = true; bytes = segment_bytes k c }
+abbrev pub course_range : Numbers → Course → Range
+course_range k c = record { address = 65536; size = length (segment_bytes k c); read = true; write = false; execute = true; bytes = segment_bytes k c }
 
 -- the one range, with the entry at the code
 unfoldable pub program : Numbers → Course → Executable
-program k c = record { entry = 65600; ranges = text_range k c ∷ [] }
+program k c = record { entry = 65600; ranges = course_range k c ∷ [] }
 
 -- the programs of the first versions
 abbrev pub programs_to : Numbers → ℕ → List Executable

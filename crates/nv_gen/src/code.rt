@@ -1,11 +1,11 @@
 // The instructions of a version.
 ghost use Rattle.std.specs.Prelude.{◌≡◌, ◌≤◌, ◌<◌, ◌+◌, ◌*◌, ◌++◌, ◌==◌, OnOk, [], ◌∷◌, length, vec_len};
-ghost use Rattle.nv_isa.specs.Spelling.{Fits};
+ghost use Rattle.nv_isa.specs.Spelling.{HasWord};
 ghost use Rattle.nv_gen.specs.Made.{calls_at, calls_to, course};
-ghost use Rattle.nv_gen.specs.Plans.{numbers_in};
-ghost use Rattle.nv_gen.specs.Programs.{sets, points, ecall, ebreak, word_of, code_of, write_insns, getuid_insns, exit_insns, insns, calls_code};
+ghost use Rattle.nv_gen.specs.Measures.{numbers_in};
+ghost use Rattle.nv_gen.specs.Programs.{sets, points, ecall, ebreak, insn_bytes, code_of, write_insns, getuid_insns, exit_insns, insns, calls_code};
 
-use crate::plan::Plan;
+use crate::measures::Measures;
 use nv_calls::EXIT_GROUP;
 use nv_isa::{Insn, Op, encode};
 use std::alloc::AllocError;
@@ -33,7 +33,7 @@ const ASKS_EVERY: u32 = 16;
 fn set(rd: u8, value: u8) -> Insn
     requires { rd < 32 }
     ensures insn { result ≡ sets rd value }
-    ensures fits { Fits result }
+    ensures fits { HasWord result }
 {
     Insn {
         op: Op::Addi,
@@ -47,7 +47,7 @@ fn set(rd: u8, value: u8) -> Insn
 fn point(rd: u8) -> Insn
     requires { rd < 32 }
     ensures insn { result ≡ points rd }
-    ensures fits { Fits result }
+    ensures fits { HasWord result }
 {
     Insn {
         op: Op::Lui,
@@ -61,7 +61,7 @@ fn point(rd: u8) -> Insn
 #[tactic(auto, using(crate::proofs::Fitting::fitting))]
 fn call() -> Insn
     ensures insn { result ≡ ecall }
-    ensures fits { Fits result }
+    ensures fits { HasWord result }
 {
     Insn {
         op: Op::Ecall,
@@ -75,7 +75,7 @@ fn call() -> Insn
 #[tactic(auto, using(crate::proofs::Fitting::fitting))]
 fn breakpoint() -> Insn
     ensures insn { result ≡ ebreak }
-    ensures fits { Fits result }
+    ensures fits { HasWord result }
 {
     Insn {
         op: Op::Ebreak,
@@ -86,10 +86,10 @@ fn breakpoint() -> Insn
     }
 }
 
-#[tactic(auto, unfolding(crate::specs::Programs::word_of))]
+#[tactic(auto, unfolding(crate::specs::Programs::insn_bytes))]
 fn push(code: &mut Vec<u8>, insn: &Insn) -> Result<(), AllocError>
-    requires { Fits insn.now }
-    ensures word { OnOk result (code.new.items ≡ code.old.items ++ word_of insn.now) }
+    requires { HasWord insn.now }
+    ensures word { OnOk result (code.new.items ≡ code.old.items ++ insn_bytes insn.now) }
     ensures len { OnOk result (vec_len code.new ≡ vec_len code.old + 4) }
 {
     code.extend_from_slice(&encode(insn).to_le_bytes())
@@ -127,46 +127,56 @@ fn push_exit(code: &mut Vec<u8>, status: u8) -> Result<(), AllocError>
 }
 
 // Write number `write` of a version, from 1.
-fn push_turn(code: &mut Vec<u8>, plan: &Plan, version: u32, write: u32) -> Result<(), AllocError>
-    ensures code { OnOk result (code.new.items ≡ code.old.items ++ calls_code (calls_at (numbers_in plan.now) version write)) }
+fn push_turn(
+    code: &mut Vec<u8>,
+    measures: &Measures,
+    version: u32,
+    write: u32,
+) -> Result<(), AllocError>
+    ensures code { OnOk result (code.new.items ≡ code.old.items ++ calls_code (calls_at (numbers_in measures.now) version write)) }
     ensures least { OnOk result (vec_len code.old ≤ vec_len code.new) }
     ensures most { OnOk result (vec_len code.new ≤ vec_len code.old + 28) }
 {
     if version >= 1 && write % ASKS_EVERY == 0 {
         push_getuid(code)?;
     }
-    push_write(code, plan.size)
+    push_write(code, measures.size)
 }
 
 // The first writes of a version.
-fn push_writes(code: &mut Vec<u8>, plan: &Plan, version: u32, writes: u32) -> Result<(), AllocError>
+fn push_writes(
+    code: &mut Vec<u8>,
+    measures: &Measures,
+    version: u32,
+    writes: u32,
+) -> Result<(), AllocError>
     requires few { writes < 10000 }
     requires short { vec_len code.old ≤ 64 }
-    ensures code { OnOk result (code.new.items ≡ code.old.items ++ calls_code (calls_to (numbers_in plan.now) version writes)) }
+    ensures code { OnOk result (code.new.items ≡ code.old.items ++ calls_code (calls_to (numbers_in measures.now) version writes)) }
     ensures least { OnOk result (vec_len code.old ≤ vec_len code.new) }
     ensures most { OnOk result (vec_len code.new ≤ vec_len code.old + 28 * writes) }
 {
     for made in 0..writes {
-        push_turn(code, plan, version, made + 1)?;
+        push_turn(code, measures, version, made + 1)?;
     }
     Ok(())
 }
 
 /// The code of a version, after the bytes that it writes.
 #[tactic(auto, unfolding(crate::specs::Made::course))]
-pub fn push_code(code: &mut Vec<u8>, plan: &Plan, version: u32) -> Result<(), AllocError>
-    requires version { version < plan.now.versions }
+pub fn push_code(code: &mut Vec<u8>, measures: &Measures, version: u32) -> Result<(), AllocError>
+    requires version { version < measures.now.versions }
     requires short { vec_len code.old ≤ 64 }
-    ensures code { OnOk result (code.new.items ≡ code.old.items ++ code_of (insns (course (numbers_in plan.now) version))) }
+    ensures code { OnOk result (code.new.items ≡ code.old.items ++ code_of (insns (course (numbers_in measures.now) version))) }
     ensures least { OnOk result (vec_len code.old + 4 ≤ vec_len code.new) }
     ensures most { OnOk result (vec_len code.new ≤ 300_000) }
 {
-    if version + 1 == plan.versions {
-        push_writes(code, plan, version, plan.writes)?;
+    if version + 1 == measures.versions {
+        push_writes(code, measures, version, measures.writes)?;
         push_exit(code, 0)
     } else {
-        let writes = plan.writes * (version + 1) / plan.versions;
-        push_writes(code, plan, version, writes)?;
+        let writes = measures.writes * (version + 1) / measures.versions;
+        push_writes(code, measures, version, writes)?;
         push(code, &breakpoint())
     }
 }

@@ -6,7 +6,7 @@
 
 mod code;
 mod made;
-mod plan;
+mod measures;
 mod totals;
 mod version;
 

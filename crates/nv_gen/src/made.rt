@@ -2,10 +2,10 @@
 ghost use Rattle.std.specs.Prelude.{◌≡◌, ◌≤◌, IfOk, All, length, map};
 ghost use Rattle.nv_elf.specs.Elf.{Accepted};
 ghost use Rattle.nv_gen.specs.Made.{numbers_of, script, rules};
-ghost use Rattle.nv_gen.specs.Plans.{numbers_in, read_of};
+ghost use Rattle.nv_gen.specs.Measures.{numbers_in, file_read_as};
 ghost use Rattle.nv_gen.specs.Programs.{programs, programs_to};
 
-use crate::plan::Plan;
+use crate::measures::Measures;
 use crate::version::version;
 use std::alloc::{AllocError, Global};
 
@@ -22,13 +22,13 @@ pub struct Made {
     pub rules: Vec<u8>,
 }
 
-fn versions(alloc: Global, plan: &Plan) -> Result<Vec<Vec<u8>>, AllocError>
-    ensures programs { IfOk result (λ made. map read_of made.items ≡ map Accepted (programs_to (numbers_in plan.now) plan.now.versions)) }
+fn versions(alloc: Global, measures: &Measures) -> Result<Vec<Vec<u8>>, AllocError>
+    ensures programs { IfOk result (λ made. map file_read_as made.items ≡ map Accepted (programs_to (numbers_in measures.now) measures.now.versions)) }
     ensures short { IfOk result (λ made. All (λ file. length file.items ≤ 4_194_304) made.items) }
 {
     let mut files = Vec::new(alloc);
-    for index in 0..plan.versions {
-        files.push(version(alloc, plan, index)?)?;
+    for index in 0..measures.versions {
+        files.push(version(alloc, measures, index)?)?;
     }
     Ok(files)
 }
@@ -36,14 +36,14 @@ fn versions(alloc: Global, plan: &Plan) -> Result<Vec<Vec<u8>>, AllocError>
 /// Makes the large run of a number.
 pub fn make(alloc: Global, number: u32) -> Result<Made, AllocError>
     requires { number ≤ 999_999 }
-    ensures versions { IfOk result (λ made. map read_of made.versions.items ≡ map Accepted (programs number)) }
+    ensures versions { IfOk result (λ made. map file_read_as made.versions.items ≡ map Accepted (programs number)) }
     ensures short { IfOk result (λ made. All (λ file. length file.items ≤ 4_194_304) made.versions.items) }
     ensures script { IfOk result (λ made. made.script.items ≡ script) }
     ensures rules { IfOk result (λ made. made.rules.items ≡ rules) }
 {
-    let plan = Plan::of(number);
+    let measures = Measures::of(number);
     Ok(Made {
-        versions: versions(alloc, &plan)?,
+        versions: versions(alloc, &measures)?,
         script: SCRIPT.as_bytes().to_vec(alloc)?,
         rules: RULES.as_bytes().to_vec(alloc)?,
     })

@@ -1,9 +1,9 @@
 // The line that sums a run up.
 ghost use Rattle.std.specs.Prelude.{◌≡◌, ◌++◌, IfOk, OnOk};
-ghost use Rattle.nv_gen.specs.Made.{field, summary};
-ghost use Rattle.nv_gen.specs.Plans.{totals_in};
+ghost use Rattle.nv_gen.specs.Made.{named_number, summary};
+ghost use Rattle.nv_gen.specs.Measures.{totals_in};
 
-use crate::plan::Plan;
+use crate::measures::Measures;
 use itoa::Buffer;
 use std::alloc::{AllocError, Global};
 
@@ -21,7 +21,7 @@ pub struct Totals {
 }
 
 fn push_field(text: &mut Vec<u8>, name: &[u8], value: u64) -> Result<(), AllocError>
-    ensures { OnOk result (text.new.items ≡ text.old.items ++ field name.now value) }
+    ensures { OnOk result (text.new.items ≡ text.old.items ++ named_number name.now value) }
 {
     let mut buffer = Buffer::new();
     text.extend_from_slice(name)?;
@@ -33,7 +33,7 @@ fn push_field(text: &mut Vec<u8>, name: &[u8], value: u64) -> Result<(), AllocEr
 pub fn summary(alloc: Global, number: u32, totals: &Totals) -> Result<Vec<u8>, AllocError>
     ensures { IfOk result (λ line. line.items ≡ summary number (totals_in totals.now)) }
 {
-    let versions = Plan::of(number).versions;
+    let versions = Measures::of(number).versions;
     let mut line = Vec::new(alloc);
     push_field(&mut line, b"gen ", u64::from(number))?;
     push_field(&mut line, b" versions ", u64::from(versions))?;

@@ -6,10 +6,10 @@ use Rattle.std.proofs.lemmas.List.{get_or-set_same, get_or-set_other, length-set
 use Rattle.nv_calls.specs.Numbers.{syscall_of}
 use Rattle.nv_memory.specs.declared.region.Right.TheVariants.{Read}
 use Rattle.nv_memory.specs.Bytes.{bytes_at}
-use Rattle.nv_memory.specs.Regions.{holds}
+use Rattle.nv_memory.specs.Region.{holds}
 use Rattle.nv_memory.specs.Image.{Image}
 use Rattle.nv_machine.specs.Guest.{Machine}
-use Rattle.nv_guest.specs.Calls.{call_at, answered, call_by, handed, memory_after}
+use Rattle.nv_guest.specs.Calls.{call_at, with_answer, call_by, handed, memory_after}
 use Rattle.nv_gen.specs.Made.{Write, Getuid}
 use Rattle.nv_gen_laws.specs.Making.{request_of, exit_request}
 use Rattle.nv_gen_laws.proofs.Steps.{state, next-is}
@@ -56,8 +56,8 @@ unfolding syscall_of
 calls-exit x pc memory status a0 a7 = call-by (state x pc memory) 100 94 a7 ∙ rw (a7, a0) refl
 
 pub answered-state : (x : List ℕ) (pc : ℕ) (memory : Image) (ret : ℤ) (bytes : List ℕ) (nr : ℕ) → slice_index x 17 ≡ nr → memory_after (syscall_of nr) (state x pc memory) bytes ≡ memory → pc + 4 < 2 ^ 32
-    → answered (state x pc memory) ret bytes ≡ state (slice_set x 10 (cast_unsigned w32 ret)) (pc + 4) memory
-unfolding answered
+    → with_answer (state x pc memory) ret bytes ≡ state (slice_set x 10 (cast_unsigned w32 ret)) (pc + 4) memory
+unfolding with_answer
 answered-state x pc memory ret bytes nr is kept below = rw (is, kept, next-is pc below) refl
 
 pub keeps-write : (m : Machine) (bytes : List ℕ) → memory_after (syscall_of 64) m bytes ≡ m.memory

@@ -6,7 +6,7 @@ use Rattle.byteorder.specs.Numbers.{little_number-reads_back}
 use Rattle.nv_isa.specs.declared.op.Insn.{Insn}
 use Rattle.nv_isa.specs.Spelling.{encoded}
 use Rattle.nv_memory.specs.Bytes.{put, bytes_at, little}
-use Rattle.nv_gen.specs.Programs.{word_of}
+use Rattle.nv_gen.specs.Programs.{insn_bytes}
 
 -- the list stands in the bytes from an address on
 abbrev pub Carries : List ℕ → ℕ → List ℕ → Type 0
@@ -38,7 +38,7 @@ bytes-carried bytes a (suc n) (x ∷ xs) few all =
     ap (λ y. y ∷ bytes_at bytes (a + 1) n) first ∙ ap (λ ys. x ∷ ys) rest
 
 -- the number of an instruction's four bytes is its word
-pub word-carried : (bytes : List ℕ) (pc : ℕ) (i : Insn) (rest : List ℕ) → encoded i < 2 ^ 32 → Carries bytes pc (word_of i ++ rest) → little (bytes_at bytes pc 4) ≡ encoded i
-unfolding word_of
+pub word-carried : (bytes : List ℕ) (pc : ℕ) (i : Insn) (rest : List ℕ) → encoded i < 2 ^ 32 → Carries bytes pc (insn_bytes i ++ rest) → little (bytes_at bytes pc 4) ≡ encoded i
+unfolding insn_bytes
 word-carried bytes pc i rest small all =
-    ap little (bytes-carried bytes pc 4 (word_of i ++ rest) (omega arith) all) ∙ little_number-reads_back 4 (encoded i) rest small
+    ap little (bytes-carried bytes pc 4 (insn_bytes i ++ rest) (omega arith) all) ∙ little_number-reads_back 4 (encoded i) rest small

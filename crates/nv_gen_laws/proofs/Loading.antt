@@ -9,7 +9,7 @@ use Rattle.nv_memory.specs.Image.{Image}
 use Rattle.nv_machine.specs.Guest.{Machine}
 use Rattle.nv_guest.specs.Block.{all_arguments, stack_pointer, strings_start, words, stack_words, strings}
 use Rattle.nv_guest.specs.Load.{IsMemorySize, NoRoomForArguments, Ready, loaded, loaded_if, first_beyond, first_machine, first_bytes, regions_of}
-use Rattle.nv_gen.specs.Made.{Numbers, Course, text_of}
+use Rattle.nv_gen.specs.Made.{Numbers, Course, write_text}
 use Rattle.nv_gen.specs.Programs.{program, segment_bytes, block, code_of, insns}
 use Rattle.nv_gen_laws.specs.Making.{Does}
 use Rattle.nv_gen_laws.proofs.Calling.{AreRegisters, are-set, HoldsText}
@@ -83,17 +83,17 @@ unfolding registers-at
 registers-are pointer = are-set (replicate 32 0) 2 pointer (omega arith) (record { count = refl; zero_first = refl })
 
 -- the bytes of each write stand in the text range
-text-held : (k : Numbers) (c : Course) (memory : Image) → AreSmall k → IsText memory (65536 + length (segment_bytes k c)) → Carries memory.bytes 65536 (segment_bytes k c) → HoldsText memory (text_of k)
+text-held : (k : Numbers) (c : Course) (memory : Image) → AreSmall k → IsText memory (65536 + length (segment_bytes k c)) → Carries memory.bytes 65536 (segment_bytes k c) → HoldsText memory (write_text k)
 unfolding block
 text-held k c memory small text all =
     let size = small.size in
-    let long : length (text_of k) ≡ k.size = length-replicate k.size k.byte in
+    let long : length (write_text k) ≡ k.size = length-replicate k.size k.byte in
     let room : length (block k.byte) ≡ 64 = refl in
     let whole = length-append (block k.byte) (code_of (insns c)) in
     let prefix : take k.size (segment_bytes k c) ≡ take k.size (block k.byte) = take-append-le k.size (block k.byte) (code_of (insns c)) (omega arith) in
     record {
       few = omega arith;
-      right = text.read 65536 (length (text_of k)) (omega arith) (omega arith);
+      right = text.read 65536 (length (write_text k)) (omega arith) (omega arith);
       there = ap (bytes_at memory.bytes 65536) long ∙ bytes-carried memory.bytes 65536 k.size (segment_bytes k c) (omega arith) all ∙ prefix ∙ take-replicate k.size 64 k.byte size;
     }
 

@@ -6,7 +6,7 @@ use Rattle.nv_text.specs.Numbers.{number_of}
 use Rattle.nv_bpf.specs.Actions.{actions, action_of}
 use Rattle.nv_bpf.specs.Texts.{field, op_of, ops_of, ops_of_text, filter_of}
 use Rattle.nv_bpf.specs.Verified.{op_fault, ops_fault, list_fault}
-use Rattle.nv_script.specs.Entries.{form_of}
+use Rattle.nv_script.specs.Entry.{form_of}
 use Rattle.nv_script.specs.Scripts.{drafted, script_of}
 use Rattle.nv_gen.specs.Made.{script, rules}
 use Rattle.nv_gen_laws.specs.Texts.{bare, asks_beside_writes}

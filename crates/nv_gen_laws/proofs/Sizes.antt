@@ -6,8 +6,8 @@ use Rattle.std.proofs.lemmas.Grind.{flat_map-append}
 use Rattle.std.proofs.Math.Nat.{mul-le-mul_left, div-le_of_le-mul}
 use Rattle.nv_isa.specs.declared.op.Insn.{Insn}
 use Rattle.nv_memory.specs.Image.{Image}
-use Rattle.nv_gen.specs.Made.{Numbers, numbers_of, Call, Write, Getuid, Ending, Breaks, Exits, Course, text_of, asks, calls_at, calls_to, course}
-use Rattle.nv_gen.specs.Programs.{insns_of, last_insns, word_of, code_of, block, segment_bytes}
+use Rattle.nv_gen.specs.Made.{Numbers, numbers_of, Call, Write, Getuid, Ending, Breaks, Exits, Course, write_text, calls_getuid, calls_at, calls_to, course}
+use Rattle.nv_gen.specs.Programs.{insns_of, last_insns, insn_bytes, code_of, block, segment_bytes}
 use Rattle.nv_gen_laws.proofs.Calling.{HoldsText}
 use Rattle.nv_gen_laws.proofs.Courses.{HoldsTexts, IsShort}
 use Rattle.nv_gen_laws.proofs.Standing.{AreShort}
@@ -28,37 +28,37 @@ short-append [] ys short more = more
 short-append (Write bytes ∷ xs) ys short more = (short.0, short-append xs ys short.1 more)
 short-append (Getuid ∷ xs) ys short more = short-append xs ys short more
 
-short-at : (k : Numbers) (b : Bool) → AreSmall k → AreShort (cond b (Getuid ∷ Write (text_of k) ∷ []) (Write (text_of k) ∷ []))
+short-at : (k : Numbers) (b : Bool) → AreSmall k → AreShort (cond b (Getuid ∷ Write (write_text k) ∷ []) (Write (write_text k) ∷ []))
 short-at k true small = let h = length-replicate k.size k.byte in let s = small.size in (omega arith, tt)
 short-at k false small = let h = length-replicate k.size k.byte in let s = small.size in (omega arith, tt)
 
 short-to : (k : Numbers) (i writes : ℕ) → AreSmall k → AreShort (calls_to k i writes)
 unfolding calls_to
 short-to k i zero small = tt
-short-to k i (suc writes) small = short-append (calls_to k i writes) (calls_at k i (writes + 1)) (short-to k i writes small) (short-at k (asks i (writes + 1)) small)
+short-to k i (suc writes) small = short-append (calls_to k i writes) (calls_at k i (writes + 1)) (short-to k i writes small) (short-at k (calls_getuid i (writes + 1)) small)
 
 texts-append : (memory : Image) (xs ys : List Call) → HoldsTexts memory xs → HoldsTexts memory ys → HoldsTexts memory (xs ++ ys)
 texts-append memory [] ys texts more = more
 texts-append memory (Write bytes ∷ xs) ys texts more = (texts.0, texts-append memory xs ys texts.1 more)
 texts-append memory (Getuid ∷ xs) ys texts more = texts-append memory xs ys texts more
 
-texts-at : (memory : Image) (k : Numbers) (b : Bool) → HoldsText memory (text_of k) → HoldsTexts memory (cond b (Getuid ∷ Write (text_of k) ∷ []) (Write (text_of k) ∷ []))
+texts-at : (memory : Image) (k : Numbers) (b : Bool) → HoldsText memory (write_text k) → HoldsTexts memory (cond b (Getuid ∷ Write (write_text k) ∷ []) (Write (write_text k) ∷ []))
 texts-at memory k true text = (text, tt)
 texts-at memory k false text = (text, tt)
 
-texts-to : (memory : Image) (k : Numbers) (i writes : ℕ) → HoldsText memory (text_of k) → HoldsTexts memory (calls_to k i writes)
+texts-to : (memory : Image) (k : Numbers) (i writes : ℕ) → HoldsText memory (write_text k) → HoldsTexts memory (calls_to k i writes)
 unfolding calls_to
 texts-to memory k i zero text = tt
-texts-to memory k i (suc writes) text = texts-append memory (calls_to k i writes) (calls_at k i (writes + 1)) (texts-to memory k i writes text) (texts-at memory k (asks i (writes + 1)) text)
+texts-to memory k i (suc writes) text = texts-append memory (calls_to k i writes) (calls_at k i (writes + 1)) (texts-to memory k i writes text) (texts-at memory k (calls_getuid i (writes + 1)) text)
 
 -- ---- lengths
 
 length-code : (is : List Insn) → length (code_of is) ≡ 4 * length is
-unfolding word_of
+unfolding insn_bytes
 length-code [] = refl
-length-code (i ∷ is) = let h = length-code is in omega (arith, length-append (word_of i) (code_of is))
+length-code (i ∷ is) = let h = length-code is in omega (arith, length-append (insn_bytes i) (code_of is))
 
-insns-at : (k : Numbers) (b : Bool) → length (flat_map insns_of (cond b (Getuid ∷ Write (text_of k) ∷ []) (Write (text_of k) ∷ []))) ≤ 7
+insns-at : (k : Numbers) (b : Bool) → length (flat_map insns_of (cond b (Getuid ∷ Write (write_text k) ∷ []) (Write (write_text k) ∷ []))) ≤ 7
 insns-at k true = omega arith
 insns-at k false = omega arith
 
@@ -67,7 +67,7 @@ unfolding calls_to
 insns-to k i zero = omega arith
 insns-to k i (suc writes) =
     let before = insns-to k i writes in
-    let here = insns-at k (asks i (writes + 1)) in
+    let here = insns-at k (calls_getuid i (writes + 1)) in
     let parts : length (flat_map insns_of (calls_to k i writes ++ calls_at k i (writes + 1)))
     ≡ length (flat_map insns_of (calls_to k i writes)) + length (flat_map insns_of (calls_at k i (writes + 1))) =
     ap length (flat_map-append insns_of (calls_to k i writes) (calls_at k i (writes + 1)))
@@ -94,7 +94,7 @@ length-segment k i writes ending few =
 pub record Part (k : Numbers) (c : Course) : Type 0 where
   pub short : AreShort c.calls
   pub last : IsShort c.ending
-  pub texts : (memory : Image) → HoldsText memory (text_of k) → HoldsTexts memory c.calls
+  pub texts : (memory : Image) → HoldsText memory (write_text k) → HoldsTexts memory c.calls
   pub few : length (segment_bytes k c) ≤ 300000
 
 part-few : (w i v : ℕ) → w < 10000 → i < v → w * (i + 1) / v < 10000

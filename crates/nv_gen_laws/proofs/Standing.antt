@@ -2,13 +2,13 @@
 use Rattle.std.proofs.Common.{◌≡◌, ℕ, ◌+◌, ◌^◌, ◌<◌, ◌≤◌, true, List, [], ◌∷◌, ◌++◌, Ok, length, refl, ap, subst, length-append, arith}
 use Rattle.std.specs.List.{flat_map}
 use Rattle.nv_isa.specs.declared.op.Insn.{Insn}
-use Rattle.nv_isa.specs.Spelling.{Fits, encoded}
+use Rattle.nv_isa.specs.Spelling.{HasWord, encoded}
 use Rattle.nv_isa.proofs.Inverse.{encoded-lt}
 use Rattle.nv_memory.specs.declared.region.Right.TheVariants.{Read, Execute}
-use Rattle.nv_memory.specs.Regions.{holds}
+use Rattle.nv_memory.specs.Region.{holds}
 use Rattle.nv_memory.specs.Image.{Image}
 use Rattle.nv_gen.specs.Made.{Call, Write, Getuid, Ending, Breaks, Exits}
-use Rattle.nv_gen.specs.Programs.{insns_of, last_insns, word_of, code_of}
+use Rattle.nv_gen.specs.Programs.{insns_of, last_insns, insn_bytes, code_of}
 use Rattle.nv_gen.proofs.Fitting.{fits-sets, fits-points, fits-ecall, fits-ebreak}
 use Rattle.nv_gen_laws.proofs.Courses.{Stand, IsShort}
 use Rattle.nv_gen_laws.proofs.Carrying.{Carries, carries-after, word-carried}
@@ -21,23 +21,23 @@ pub record IsText (memory : Image) (end : ℕ) : Type 0 where
 
 abbrev pub AllFit : List Insn → Type 0
 AllFit [] = Unit {0}
-AllFit (i ∷ is) = Fits i × AllFit is
+AllFit (i ∷ is) = HasWord i × AllFit is
 
-word-small : (i : Insn) → Fits i → encoded i < 2 ^ 32
+word-small : (i : Insn) → HasWord i → encoded i < 2 ^ 32
 unfolding encoded
 word-small i fits = encoded-lt i fits
 
-length-word : (i : Insn) → length (word_of i) ≡ 4
-unfolding word_of
+length-word : (i : Insn) → length (insn_bytes i) ≡ 4
+unfolding insn_bytes
 length-word i = refl
 
 pub stand : (memory : Image) (end pc : ℕ) (is : List Insn) → IsText memory end → 65536 ≤ pc → pc + length (code_of is) ≤ end → AllFit is → Carries memory.bytes pc (code_of is) → Stand memory pc is
 stand memory end pc [] text above inside fit all = tt
 stand memory end pc (i ∷ is) text above inside fit all =
     let four = length-word i in
-    let long = length-append (word_of i) (code_of is) in
+    let long = length-append (insn_bytes i) (code_of is) in
     let below = text.below in
-    let next : Carries memory.bytes (pc + 4) (code_of is) = subst (λ (n : ℕ). Carries memory.bytes (pc + n) (code_of is)) four (carries-after memory.bytes pc (word_of i) (code_of is) all) in (
+    let next : Carries memory.bytes (pc + 4) (code_of is) = subst (λ (n : ℕ). Carries memory.bytes (pc + n) (code_of is)) four (carries-after memory.bytes pc (insn_bytes i) (code_of is) all) in (
       record { word = rw (text.execute pc above (omega arith)) (ap (λ w. Ok w) (word-carried memory.bytes pc i (code_of is) (word-small i fit.0) all)); below = omega arith },
       stand memory end (pc + 4) is text (omega arith) (omega arith) fit.1 next,
     )

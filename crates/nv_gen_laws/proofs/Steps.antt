@@ -3,7 +3,7 @@ use Rattle.std.proofs.Common.{◌≡◌, ℕ, suc, ◌+◌, ◌%◌, ◌^◌, �
 use Rattle.std.specs.Prelude.{pos, slice_index, slice_set}
 use Rattle.std.specs.Int.{w32, cast_unsigned}
 use Rattle.nv_isa.specs.declared.op.Insn.{Insn}
-use Rattle.nv_isa.specs.Spelling.{Fits, encoded}
+use Rattle.nv_isa.specs.Spelling.{HasWord, encoded}
 use Rattle.nv_isa.proofs.Inverse.{decoded-encoded}
 use Rattle.nv_memory.specs.declared.region.Access.{Access}
 use Rattle.nv_memory.specs.declared.region.Width.TheVariants.{Four}
@@ -28,7 +28,7 @@ pub record StandsAt (memory : Image) (pc : ℕ) (i : Insn) : Type 0 where
   pub word : value_at memory pc Four Execute ≡ Ok (encoded i)
   pub below : pc + 4 < 2 ^ 32
 
-step-at : (x : List ℕ) (pc : ℕ) (memory : Image) (i : Insn) → Fits i → StandsAt memory pc i → guest_step (state x pc memory) ≡ effect i.op i (state x pc memory)
+step-at : (x : List ℕ) (pc : ℕ) (memory : Image) (i : Insn) → HasWord i → StandsAt memory pc i → guest_step (state x pc memory) ≡ effect i.op i (state x pc memory)
 unfolding guest_step
 step-at x pc memory i fits stands =
     ap (λ (r : Result ℕ Access). fetched r (state x pc memory)) stands.word ∙ ap (λ (d : Option Insn). executed d (state x pc memory)) (decoded-encoded i fits)

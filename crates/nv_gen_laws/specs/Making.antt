@@ -5,7 +5,7 @@ use Rattle.nv_machine.specs.declared.outcome.Stepped.{Stepped}
 use Rattle.nv_machine.specs.declared.outcome.Stepped.TheVariants as ends
 use Rattle.nv_machine.specs.declared.outcome.FaultKind.TheVariants as kinds
 use Rattle.nv_machine.specs.Guest.{Machine}
-use Rattle.nv_guest.specs.Calls.{call_at, answered}
+use Rattle.nv_guest.specs.Calls.{call_at, with_answer}
 use Rattle.nv_guest.specs.Threads.{run}
 use Rattle.nv_gen.specs.Made.{Call, Write, Getuid, Ending, Breaks, Exits, Course}
 
@@ -28,7 +28,7 @@ pub record Asks (m : Machine) (asked : Request) (Later : Machine → Type 0) : T
   pub at : Machine
   pub stops : Stops m ends.Call at
   pub call : call_at at 100 ≡ asked
-  pub later : (ret : ℤ) (bytes : List ℕ) → Later (answered at ret bytes)
+  pub later : (ret : ℤ) (bytes : List ℕ) → Later (with_answer at ret bytes)
 
 -- it goes on to a breakpoint
 pub record Halts (m : Machine) : Type 0 where

@@ -5,18 +5,18 @@ use Rattle.std.proofs.lemmas.Bool.{cases_lt}
 use Rattle.nv_memory.specs.Image.{Image}
 use Rattle.nv_guest.specs.declared.vectors.Part.{Part}
 use Rattle.nv_guest.specs.Vectors.{vector_at, prefix_of}
-use Rattle.nv_guest.specs.Answers.{with_byte, with_bytes, targets_with, targets_at, scattered}
+use Rattle.nv_guest.specs.Answers.{with_byte, with_each_byte, targets_with, targets_at, scattered}
 
 pub bytes-more : (memory : Image) (bytes : List ℕ) (i at next : ℕ) → i < length bytes → next ≡ at + 1
-    → with_bytes (with_byte memory at (get_or bytes i 0)) next (drop (i + 1) bytes) ≡ with_bytes memory at (drop i bytes)
-unfolding with_bytes
+    → with_each_byte (with_byte memory at (get_or bytes i 0)) next (drop (i + 1) bytes) ≡ with_each_byte memory at (drop i bytes)
+unfolding with_each_byte
 bytes-more memory bytes i at next inside after =
-    ap (λ n. with_bytes (with_byte memory at (get_or bytes i 0)) n (drop (i + 1) bytes)) after
-    ∙ sym (at_drop_more (λ rest. with_bytes memory at rest) bytes i 0 inside)
+    ap (λ n. with_each_byte (with_byte memory at (get_or bytes i 0)) n (drop (i + 1) bytes)) after
+    ∙ sym (at_drop_more (λ rest. with_each_byte memory at rest) bytes i 0 inside)
 
-pub bytes-all : (memory : Image) (bytes : List ℕ) (i at : ℕ) → length bytes ≤ i → with_bytes memory at (drop i bytes) ≡ memory
-unfolding with_bytes
-bytes-all memory bytes i at past = at_drop_all (λ rest. with_bytes memory at rest) bytes i past
+pub bytes-all : (memory : Image) (bytes : List ℕ) (i at : ℕ) → length bytes ≤ i → with_each_byte memory at (drop i bytes) ≡ memory
+unfolding with_each_byte
+bytes-all memory bytes i at past = at_drop_all (λ rest. with_each_byte memory at rest) bytes i past
 
 targets-here : (memory : Image) (count most at : ℕ) → 0 < count → (most == 0) ≡ false
     → targets_at memory count most at ≡ targets_with (option_map (prefix_of most) (vector_at memory at)) (λ size. targets_at memory (count - 1) (most - size) (at + 8))
@@ -62,12 +62,12 @@ take-least size n bytes e =
     ]
 
 pub scattered-more : (memory : Image) (parts : List Part) (bytes prefix later : List ℕ) (i n : ℕ) (d : Part) → i < length parts → n ≡ min (get_or parts i d).size (length bytes) → prefix ≡ take n bytes → later ≡ drop n bytes
-    → scattered (with_bytes memory (get_or parts i d).address prefix) (drop (i + 1) parts) later ≡ scattered memory (drop i parts) bytes
+    → scattered (with_each_byte memory (get_or parts i d).address prefix) (drop (i + 1) parts) later ≡ scattered memory (drop i parts) bytes
 unfolding scattered
 scattered-more memory parts bytes prefix later i n d inside least first back =
     let taken = take-least (get_or parts i d).size n bytes least in
-    ap (λ xs. scattered (with_bytes memory (get_or parts i d).address xs) (drop (i + 1) parts) later) (first ∙ taken.0)
-    ∙ ap (λ xs. scattered (with_bytes memory (get_or parts i d).address (take (get_or parts i d).size bytes)) (drop (i + 1) parts) xs) (back ∙ taken.1)
+    ap (λ xs. scattered (with_each_byte memory (get_or parts i d).address xs) (drop (i + 1) parts) later) (first ∙ taken.0)
+    ∙ ap (λ xs. scattered (with_each_byte memory (get_or parts i d).address (take (get_or parts i d).size bytes)) (drop (i + 1) parts) xs) (back ∙ taken.1)
     ∙ sym (at_drop_more (λ rest. scattered memory rest bytes) parts i d inside)
 
 pub scattered-all : (memory : Image) (parts : List Part) (bytes : List ℕ) (i : ℕ) → length parts ≤ i → scattered memory (drop i parts) bytes ≡ memory

@@ -5,12 +5,12 @@ use Rattle.nv_elf.specs.Elf.{Range, Executable}
 use Rattle.nv_memory.specs.declared.region.Region.{Region}
 use Rattle.nv_memory.specs.Bytes.{put}
 use Rattle.nv_memory.proofs.BytesLaws.{length_put}
-use Rattle.nv_memory.specs.Regions.{AreRegions}
+use Rattle.nv_memory.specs.Region.{AreRegions}
 use Rattle.nv_memory.specs.Image as memories
 use Rattle.nv_guest.specs.Block.{stack_pointer, strings_start, words, stack_words, strings}
 use Rattle.nv_guest.specs.Load.{IsMemorySize, first_beyond, first_bytes, with_ranges, heap_start, region_of, data_region, regions_of}
 use Rattle.nv_guest.specs.Threads.{last_region}
-use Rattle.nv_guest.specs.Heap.{IsClear, HasHeap, first_heap}
+use Rattle.nv_guest.specs.inner.Heap.{IsClear, HasHeap, first_heap}
 use Rattle.nv_guest.proofs.Placed.{IsPlaced, EndBy, regions_lie, ends_below}
 
 length_ranges : (bytes : List ℕ) (rs : List Range) → length (with_ranges bytes rs) ≡ length bytes

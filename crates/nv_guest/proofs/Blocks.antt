@@ -9,9 +9,9 @@ use Rattle.nv_memory.specs.declared.region.Region.{Region}
 use Rattle.nv_memory.specs.declared.region.Right.{Right}
 use Rattle.nv_memory.specs.declared.region.Right.TheVariants.{Write}
 use Rattle.nv_memory.specs.Bytes.{put}
-use Rattle.nv_memory.specs.Regions.{covers, holds}
+use Rattle.nv_memory.specs.Region.{covers, holds}
 use Rattle.nv_memory.specs.Image.{Image, allowed, stored}
-use Rattle.nv_guest.specs.Answers.{with_byte, with_bytes}
+use Rattle.nv_guest.specs.Answers.{with_byte, with_each_byte}
 
 in_one : (rs : List Region) (a n b m : ℕ) (right : Right) → a ≤ b → b + m ≤ a + n → list_any (covers a n right) rs ≡ true → list_any (covers b m right) rs ≡ true
 in_one [] a n b m right h k t = t
@@ -37,13 +37,13 @@ one_byte memory at b low held =
     ap (λ x. if x then stored memory at (b ∷ []) else memory) is ∙ ap (λ x. if x then record memory { bytes = set memory.bytes at b } else memory) held
 
 block : (memory : Image) (at : ℕ) (bytes : List ℕ) → at + length bytes < 2 ^ 32 → holds memory.regions at (length bytes) Write ≡ true
-    → with_bytes memory at bytes ≡ record memory { bytes = put memory.bytes at bytes }
-unfolding with_bytes
+    → with_each_byte memory at bytes ≡ record memory { bytes = put memory.bytes at bytes }
+unfolding with_each_byte
 block memory at [] low held = refl
 block memory at (b ∷ bs) low held =
     let first = part_held memory.regions at (suc (length bs)) at 1 Write (omega arith) (omega arith) (omega arith) held in
     let rest = part_held memory.regions at (suc (length bs)) (at + 1) (length bs) Write (omega arith) (omega arith) (omega arith) held in
-    ap (λ (m : Image). with_bytes m (at + 1) bs) (one_byte memory at b (omega arith) first)
+    ap (λ (m : Image). with_each_byte m (at + 1) bs) (one_byte memory at b (omega arith) first)
     ∙ block (record memory { bytes = set memory.bytes at b }) (at + 1) bs (omega arith) rest
 
 module _ (memory : Image) (at : ℕ) (bytes : List ℕ) where
@@ -55,11 +55,11 @@ module _ (memory : Image) (at : ℕ) (bytes : List ℕ) where
 
   -- where the memory takes all bytes at once, they are all stored
   pub stored_all : (r : Result (Unit {0}) Access) (new : Image) → at + length bytes < 2 ^ 32 → r ≡ allowed memory at (length bytes) Write → new ≡ stored memory at bytes → is_ok r ≡ true
-      → new ≡ with_bytes memory at bytes
+      → new ≡ with_each_byte memory at bytes
   stored_all r new low answers is ok =
       by (holds memory.regions at (length bytes) Write) refl
     where
-      by : (b : Bool) → holds memory.regions at (length bytes) Write ≡ b → new ≡ with_bytes memory at bytes
+      by : (b : Bool) → holds memory.regions at (length bytes) Write ≡ b → new ≡ with_each_byte memory at bytes
       by true h = is ∙ ap after h ∙ sym (block memory at bytes low h)
       by false h = (let refuses : is_ok r ≡ false = ap is_ok (answers ∙ ap answer h) in cc)
 

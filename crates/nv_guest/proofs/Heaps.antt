@@ -6,11 +6,12 @@ use Rattle.std.proofs.lemmas.Bool.Decides.{nat_tests}
 use Rattle.nv_memory.specs.declared.region.Region.{Region}
 use Rattle.nv_memory.specs.Bytes.{put}
 use Rattle.nv_memory.proofs.BytesLaws.{length_put}
-use Rattle.nv_memory.specs.Regions.{AreRegions, Apart, set_end, start_of, end_of}
+use Rattle.nv_memory.specs.Region.{AreRegions, Apart, set_end, region_start, end_of}
 use Rattle.nv_memory.specs.Image.{Image, cut}
 use Rattle.nv_guest.specs.declared.heap.Heap.{Heap}
 use Rattle.nv_guest.specs.Threads.{last_region, is_break, with_break}
-use Rattle.nv_guest.specs.Heap.{IsClear, HasHeap, moved}
+use Rattle.nv_guest.specs.Heap.{moved}
+use Rattle.nv_guest.specs.inner.Heap.{IsClear, HasHeap}
 
 apart_from : (r : Region) (rs : List Region) (n end start limit : ℕ) → length rs ≡ n + 1 → AllByRecursion (Apart r) rs → (r.end ≤ start) ⊎ (limit ≤ r.start) → (last_region rs).start ≡ start → end ≤ limit
     → AllByRecursion (Apart r) (set_end rs n end)
@@ -61,7 +62,7 @@ end_is_last (r ∷ []) (suc n) l = absurd (omega (arith, l))
 end_is_last (r ∷ s ∷ rs) zero l = absurd (omega (arith, l))
 end_is_last (r ∷ s ∷ rs) (suc n) l = end_is_last (s ∷ rs) n (omega (arith, l))
 
-pub start_is_last : (rs : List Region) (n : ℕ) → length rs ≡ n + 1 → start_of rs n ≡ (last_region rs).start
+pub start_is_last : (rs : List Region) (n : ℕ) → length rs ≡ n + 1 → region_start rs n ≡ (last_region rs).start
 start_is_last [] n l = absurd (omega (arith, l))
 start_is_last (r ∷ []) zero l = refl
 start_is_last (r ∷ []) (suc n) l = absurd (omega (arith, l))

@@ -6,11 +6,11 @@ use Rattle.std.specs.List.{AllByRecursion, list_any, position_from}
 use Rattle.std.proofs.lemmas.Bool.{and_parts, cases_Bool, or_left, or_right, eqb-true}
 use Rattle.std.proofs.lemmas.Bool.Decides.{nat_tests}
 use Rattle.std.proofs.lemmas.List.Elements.{All-from_recursion}
-use Rattle.nv_elf.specs.Elf.{Range, Executable, range_of, range_extent, shares, overlap_from, is_entry}
+use Rattle.nv_elf.specs.Elf.{Range, Executable, segment_range, range_extent, shares, overlap_from, can_be_entry}
 use Rattle.nv_elf.specs.Written.{is_program}
 use Rattle.nv_elf.specs.declared.program.Segment.{Segment}
 use Rattle.nv_memory.specs.declared.region.Region.{Region}
-use Rattle.nv_memory.specs.Regions.{Apart, AreRegions, has_range}
+use Rattle.nv_memory.specs.Region.{Apart, AreRegions, lies_in}
 use Rattle.nv_guest.specs.Load.{first_beyond, highest, heap_start, region_of, data_region, regions_of, IsMemorySize}
 
 -- what the loader uses of a program
@@ -27,8 +27,8 @@ pub program_is_placed : (p : Executable) → IsTrue (is_program p) → IsPlaced 
 unfolding is_program
 program_is_placed p h =
     let one = and_parts (nat_le (length p.ranges) 16) _ h in
-    let two = and_parts _ (is_none (overlap_from range_extent 0 p.ranges) && is_entry range_extent p.entry p.ranges) one.1 in
-    let three = and_parts (is_none (overlap_from range_extent 0 p.ranges)) (is_entry range_extent p.entry p.ranges) two.1 in
+    let two = and_parts _ (is_none (overlap_from range_extent 0 p.ranges) && can_be_entry range_extent p.entry p.ranges) one.1 in
+    let three = and_parts (is_none (overlap_from range_extent 0 p.ranges)) (can_be_entry range_extent p.entry p.ranges) two.1 in
     let four = and_parts (p.entry % 4 == 0) _ three.1 in
     record { few = grind (arith, nat_tests); apart = none_of _ three.0; entry = eqb-true _ _ four.0 }
 
@@ -107,31 +107,31 @@ regions_lie p size ok placed none =
     lie size (size - 65536) (heap_start p.ranges) p.ranges 0 (omega arith) below ends (end_later p.ranges _ _ above (end_by_highest p.ranges)) placed.apart
 
 -- each segment ends at the limit or below it
-segments_end : (segments : List Segment) (limit : ℕ) → EndBy limit (map range_of segments) → AllByRecursion (λ segment. segment.address + segment.size ≤ limit) segments
+segments_end : (segments : List Segment) (limit : ℕ) → EndBy limit (map segment_range segments) → AllByRecursion (λ segment. segment.address + segment.size ≤ limit) segments
 segments_end [] limit h = tt
 segments_end (s ∷ ss) limit h = (h.0, segments_end ss limit h.1)
 
-pub segments_end_by : (segments : List Segment) (limit : ℕ) → first_beyond (map range_of segments) limit 0 ≡ None → All (λ segment. segment.address + segment.size ≤ limit) segments
-segments_end_by segments limit none = All-from_recursion _ segments (segments_end segments limit (end_by (map range_of segments) limit 0 none))
+pub segments_end_by : (segments : List Segment) (limit : ℕ) → first_beyond (map segment_range segments) limit 0 ≡ None → All (λ segment. segment.address + segment.size ≤ limit) segments
+segments_end_by segments limit none = All-from_recursion _ segments (segments_end segments limit (end_by (map segment_range segments) limit 0 none))
 
 -- the bytes of a segment lie in one of these regions
 abbrev LiesIn : List Region → Segment → Type 0
-LiesIn regions s = IsTrue (list_any (has_range s.address (length s.bytes.items)) regions)
+LiesIn regions s = IsTrue (list_any (lies_in s.address (length s.bytes.items)) regions)
 
 lies_on : (r : Region) (regions : List Region) (segments : List Segment) → AllByRecursion (LiesIn regions) segments → AllByRecursion (LiesIn (r ∷ regions)) segments
 lies_on r regions [] h = tt
 lies_on r regions (s ∷ ss) h = (or_right _ _ h.0, lies_on r regions ss h.1)
 
-in_own : (s : Segment) → has_range s.address (length s.bytes.items) (region_of (range_of s)) ≡ true
+in_own : (s : Segment) → lies_in s.address (length s.bytes.items) (region_of (segment_range s)) ≡ true
 in_own s = let fits : length s.bytes.items ≤ s.size = omega (arith, s.fits) in grind (arith, nat_tests)
 
-all_lie : (segments : List Segment) (others : List Region) → AllByRecursion (LiesIn (map region_of (map range_of segments) ++ others)) segments
+all_lie : (segments : List Segment) (others : List Region) → AllByRecursion (LiesIn (map region_of (map segment_range segments) ++ others)) segments
 all_lie [] others = tt
 all_lie (s ∷ ss) others =
-    (or_left _ _ (in_own s), lies_on (region_of (range_of s)) (map region_of (map range_of ss) ++ others) ss (all_lie ss others))
+    (or_left _ _ (in_own s), lies_on (region_of (segment_range s)) (map region_of (map segment_range ss) ++ others) ss (all_lie ss others))
 
-pub segments_lie : (segments : List Segment) (size : ℕ) → All (λ s. IsTrue (list_any (has_range s.address (length s.bytes.items)) (regions_of (map range_of segments) size))) segments
-segments_lie segments size = All-from_recursion _ segments (all_lie segments (data_region (size - 65536) size ∷ data_region (heap_start (map range_of segments)) (heap_start (map range_of segments)) ∷ []))
+pub segments_lie : (segments : List Segment) (size : ℕ) → All (λ s. IsTrue (list_any (lies_in s.address (length s.bytes.items)) (regions_of (map segment_range segments) size))) segments
+segments_lie segments size = All-from_recursion _ segments (all_lie segments (data_region (size - 65536) size ∷ data_region (heap_start (map segment_range segments)) (heap_start (map segment_range segments)) ∷ []))
 
 -- each range ends at the heap's start or below it
 pub ends_below : (ranges : List Range) → EndBy (heap_start ranges) ranges

@@ -4,7 +4,7 @@ use Rattle.nv_machine.specs.declared.outcome.FaultKind.{FaultKind}
 use Rattle.nv_machine.specs.declared.outcome.Stepped.TheVariants.{On, Call, Fault}
 use Rattle.nv_machine.specs.declared.outcome.Stepped.{Stepped}
 use Rattle.nv_machine.specs.Guest.{Machine, StepResult, guest_step}
-use Rattle.nv_guest.specs.Threads.{run, Ran, more, unless_stopped}
+use Rattle.nv_guest.specs.Threads.{run, MachineRan, more, unless_stopped}
 
 run_here : (most count : ℕ) (m : Machine) → count < most → run (most - count) m ≡ unless_stopped (run (most - (count + 1))) (guest_step m)
 unfolding run
@@ -12,7 +12,7 @@ run_here most count m h =
     let n : most - count ≡ suc (most - (count + 1)) = omega arith in
     rw n refl
 
-twice : (n : ℕ) (r : Ran) → more n (more 1 r) ≡ more (n + 1) r
+twice : (n : ℕ) (r : MachineRan) → more n (more 1 r) ≡ more (n + 1) r
 twice n r = let e : n + (1 + r.0) ≡ (n + 1) + r.0 = omega arith in ap (λ k. (k, r.1, r.2)) e
 
 pub run_more : (most count : ℕ) (m after : Machine) → count < most → guest_step m ≡ (On, after)
@@ -30,11 +30,11 @@ pub run_ends : (most count n : ℕ) (m : Machine) → most - count ≡ 0 → cou
 unfolding run
 run_ends most count n m h e = rw (h, e) refl
 
-one_by : (o : StepResult) (r : Ran) → r ≡ unless_stopped (run 0) o → (r.1, r.2) ≡ o
+one_by : (o : StepResult) (r : MachineRan) → r ≡ unless_stopped (run 0) o → (r.1, r.2) ≡ o
 unfolding run
-one_by (On, x) r h = ap (λ (q : Ran). (q.1, q.2)) h
-one_by (Call, x) r h = ap (λ (q : Ran). (q.1, q.2)) h
-one_by (Fault kind, x) r h = ap (λ (q : Ran). (q.1, q.2)) h
+one_by (On, x) r h = ap (λ (q : MachineRan). (q.1, q.2)) h
+one_by (Call, x) r h = ap (λ (q : MachineRan). (q.1, q.2)) h
+one_by (Fault kind, x) r h = ap (λ (q : MachineRan). (q.1, q.2)) h
 
 -- one instruction
 pub run_one : (m after : Machine) (n : ℕ) (s : Stepped) → (n, s, after) ≡ run 1 m → (s, after) ≡ guest_step m

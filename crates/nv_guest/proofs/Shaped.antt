@@ -10,13 +10,13 @@ use Rattle.nv_calls.specs.Shapes.{is_path, is_shaped_as, is_shaped, IsShaped}
 use Rattle.nv_memory.specs.declared.region.Right.{Right}
 use Rattle.nv_memory.specs.declared.region.Right.TheVariants.{Read, Write}
 use Rattle.nv_memory.specs.Bytes.{bytes_at}
-use Rattle.nv_memory.specs.Regions.{holds}
+use Rattle.nv_memory.specs.Region.{holds}
 use Rattle.nv_memory.specs.Image.{Image}
 use Rattle.nv_machine.specs.Guest.{Machine}
 use Rattle.nv_guest.specs.declared.vectors.Part.{Part}
 use Rattle.nv_guest.specs.Paths.{byte_at, path_with, path_at}
-use Rattle.nv_guest.specs.Vectors.{vector_at, prefix_of, usable_by, usable_at, parts_with, parts_at, capacity, joined}
-use Rattle.nv_guest.specs.Calls.{argument, number, out_of, vector_count, bytes_in, address_in, path_in, vectors_in, capacity_in, Handed, refused, with_payload, with_capacity, with_out, handed, call_by, call_at}
+use Rattle.nv_guest.specs.Vectors.{vector_at, prefix_of, usable_by, usable_at, parts_with, parts_at, capacity, joined_parts}
+use Rattle.nv_guest.specs.Calls.{argument, call_number, out_of, vector_count, written_bytes, address_in, path_in, vectors_in, capacity_in, Handed, refused, with_payload, with_capacity, with_out, handed, call_by, call_at}
 
 pub length-bytes_at : (bytes : List ℕ) (a n : ℕ) → length (bytes_at bytes a n) ≡ n
 length-bytes_at bytes a zero = refl
@@ -93,15 +93,15 @@ counted memory right true count most at = tested (parts_at memory right count mo
     tested (Some ps) h = grind (arith, nat_tests)
 counted memory right false count most at = refl
 
-length-joined : (memory : Image) (parts : List Part) → length (joined memory parts) ≡ capacity parts
+length-joined : (memory : Image) (parts : List Part) → length (joined_parts memory parts) ≡ capacity parts
 length-joined memory [] = refl
 length-joined memory (part ∷ parts) =
-    length-append (bytes_at memory.bytes part.address part.size) (joined memory parts)
-    ∙ ap (λ n. n + length (joined memory parts)) (length-bytes_at memory.bytes part.address part.size)
+    length-append (bytes_at memory.bytes part.address part.size) (joined_parts memory parts)
+    ∙ ap (λ n. n + length (joined_parts memory parts)) (length-bytes_at memory.bytes part.address part.size)
     ∙ ap (λ n. part.size + n) (length-joined memory parts)
 
 gathered : (memory : Image) (o : Option (List Part)) (most : ℕ) → IfSome o (λ ps. nat_le (capacity ps) most ≡ true)
-    → IfSome (option_map (joined memory) o) (λ bytes. nat_le (length bytes) most ≡ true)
+    → IfSome (option_map (joined_parts memory) o) (λ bytes. nat_le (length bytes) most ≡ true)
 gathered memory None most h = tt
 gathered memory (Some parts) most h = rw (length-joined memory parts) h
 
@@ -134,7 +134,7 @@ Fit k m tid h = is_shaped_as k (call_by k m tid h) ≡ true
 shaped-by : (k : Syscall) (m : Machine) (tid : ℕ) → Fit k m tid (handed k m)
 shaped-by Unlinkat m tid = by_payload (Fit Unlinkat m tid) (IsPathBy 256) (path_in m) (path-fits 256 m.memory (argument m 1)) refl (λ bytes h. path-is bytes h)
 shaped-by Openat m tid = by_payload (Fit Openat m tid) (IsPathBy 256) (path_in m) (path-fits 256 m.memory (argument m 1)) refl (λ bytes h. path-is bytes h)
-shaped-by WriteCall m tid = by_payload (Fit WriteCall m tid) (λ xs. (length xs == min (argument m 2) 4096) ≡ true) (bytes_in m)
+shaped-by WriteCall m tid = by_payload (Fit WriteCall m tid) (λ xs. (length xs == min (argument m 2) 4096) ≡ true) (written_bytes m)
     (written_in m.memory.bytes (argument m 1) (min (argument m 2) 4096) (holds m.memory.regions (argument m 1) (min (argument m 2) 4096) Read)) refl (λ bytes h. h)
 shaped-by Bind m tid = by_payload (Fit Bind m tid) (λ xs. (length xs == min (argument m 2) 16) ≡ true) (address_in m)
     (written_in m.memory.bytes (argument m 1) (min (argument m 2) 16) (holds m.memory.regions (argument m 1) (min (argument m 2) 16) Read)) refl (λ bytes h. h)
@@ -151,6 +151,6 @@ shaped-by Getrandom m tid = by_out (Fit Getrandom m tid) m.memory (out_of Getran
 shaped-by ClockGettime64 m tid = by_out (Fit ClockGettime64 m tid) m.memory (out_of ClockGettime64 m) refl refl
 shaped-by _ m tid = refl
 
-pub call_is_shaped : (m : Machine) (tid : ℕ) → is_local (number m) ≡ false → IsShaped (call_at m tid)
+pub call_is_shaped : (m : Machine) (tid : ℕ) → is_local (call_number m) ≡ false → IsShaped (call_at m tid)
 unfolding is_shaped call_at
-call_is_shaped m tid logged = rw logged (shaped-by (syscall_of (number m)) m tid)
+call_is_shaped m tid logged = rw logged (shaped-by (syscall_of (call_number m)) m tid)

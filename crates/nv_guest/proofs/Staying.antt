@@ -10,22 +10,22 @@ use Rattle.nv_memory.specs.declared.region.Width.TheVariants.{Four}
 use Rattle.nv_memory.specs.declared.region.Right.TheVariants.{Read, Write, Execute}
 use Rattle.nv_memory.specs.Bytes.{put, little_bytes, byte_count}
 use Rattle.nv_memory.proofs.BytesLaws.{length_put}
-use Rattle.nv_memory.specs.Regions.{AreRegions, holds}
+use Rattle.nv_memory.specs.Region.{AreRegions, holds}
 use Rattle.nv_memory.specs.Image.{Image, stored, value_at}
 use Rattle.nv_machine.specs.declared.outcome.Stepped.TheVariants.{On, Call, Fault}
 use Rattle.nv_machine.specs.declared.outcome.FaultKind.TheVariants as kinds
 use Rattle.nv_machine.specs.Effects.{sum, combined}
-use Rattle.nv_machine.specs.Guest.{Machine, StepResult, fault, stores, is_word, is_reserved, store_conditional, word_at, combines, effect, executed, fetched, guest_step, register, immediate_word, width_of}
+use Rattle.nv_machine.specs.Guest.{Machine, StepResult, fault, stores, is_word_at, is_reserved, store_conditional, word_at, combines, effect, executed, fetched, guest_step, register, immediate_word, width_of}
 use Rattle.nv_calls.specs.declared.numbers.Syscall.{Syscall}
 use Rattle.nv_calls.specs.declared.numbers.Syscall.TheVariants.{Readv}
 use Rattle.nv_calls.specs.Numbers.{syscall_of}
 use Rattle.nv_guest.specs.declared.heap.Heap.{Heap}
 use Rattle.nv_guest.specs.declared.vectors.Part.{Part}
-use Rattle.nv_guest.specs.Answers.{with_byte, with_bytes, scattered, targets_at}
-use Rattle.nv_guest.specs.Calls.{number, argument, vector_count, out_of, stored_at, memory_after, answered}
-use Rattle.nv_guest.specs.Threads.{Threaded, Ran, tids, run, unless_stopped, last_region}
-use Rattle.nv_guest.specs.Heap.{HasHeap, IsClear}
-use Rattle.nv_guest.specs.Guest.{machine}
+use Rattle.nv_guest.specs.Answers.{with_byte, with_each_byte, scattered, targets_at}
+use Rattle.nv_guest.specs.Calls.{call_number, argument, vector_count, out_of, stored_at, memory_after, with_answer}
+use Rattle.nv_guest.specs.Threads.{Threaded, MachineRan, tids, run, unless_stopped, last_region}
+use Rattle.nv_guest.specs.inner.Heap.{HasHeap, IsClear}
+use Rattle.nv_guest.specs.Guest.{machine_with}
 use Rattle.std.specs.Prelude.{Contains}
 use Rattle.nv_machine.specs.Registers.{Registers}
 
@@ -65,16 +65,16 @@ byte_stays : (a : Image) (at b : ℕ) → Stays a (with_byte a at b)
 unfolding with_byte
 byte_stays a at b = cond_stays (nat_lt at (2 ^ 32)) a _ _ (stored_stays a at (b ∷ [])) (stays a)
 
-bytes_stay : (a : Image) (at : ℕ) (bytes : List ℕ) → Stays a (with_bytes a at bytes)
-unfolding with_bytes
+bytes_stay : (a : Image) (at : ℕ) (bytes : List ℕ) → Stays a (with_each_byte a at bytes)
+unfolding with_each_byte
 bytes_stay a at [] = stays a
-bytes_stay a at (b ∷ bs) = then_stays a (with_byte a at b) (with_bytes (with_byte a at b) (at + 1) bs) (byte_stays a at b) (bytes_stay (with_byte a at b) (at + 1) bs)
+bytes_stay a at (b ∷ bs) = then_stays a (with_byte a at b) (with_each_byte (with_byte a at b) (at + 1) bs) (byte_stays a at b) (bytes_stay (with_byte a at b) (at + 1) bs)
 
 scattered_stays : (a : Image) (parts : List Part) (bytes : List ℕ) → Stays a (scattered a parts bytes)
 unfolding scattered
 scattered_stays a [] bytes = stays a
 scattered_stays a (p ∷ ps) bytes =
-    let b = with_bytes a p.address (take p.size bytes) in
+    let b = with_each_byte a p.address (take p.size bytes) in
     then_stays a b (scattered b ps (drop p.size bytes)) (bytes_stay a p.address (take p.size bytes)) (scattered_stays b ps (drop p.size bytes))
 
 at_stays : (a : Image) (part : Option Part) (bytes : List ℕ) → Stays a (stored_at a part bytes)
@@ -85,9 +85,9 @@ after_stays : (k : Syscall) (m : Machine) (bytes : List ℕ) → Stays m.memory 
 after_stays Readv m bytes = scattered_stays m.memory (targets_at m.memory (vector_count m) (length bytes) (argument m 1)) bytes
 after_stays k m bytes = at_stays m.memory (out_of k m) bytes
 
-pub answered_stays : (m : Machine) (ret : ℤ) (bytes : List ℕ) → Stays m.memory (answered m ret bytes).memory
-unfolding answered
-answered_stays m ret bytes = after_stays (syscall_of (number m)) m bytes
+pub answered_stays : (m : Machine) (ret : ℤ) (bytes : List ℕ) → Stays m.memory (with_answer m ret bytes).memory
+unfolding with_answer
+answered_stays m ret bytes = after_stays (syscall_of (call_number m)) m bytes
 
 -- ---- instructions
 
@@ -109,12 +109,12 @@ tried_by false c m x y h k = stays m.memory
 conditional_stays : (i : Insn) (m : Machine) → Stays m.memory (store_conditional i m).1.memory
 conditional_stays i m =
     let a = register m.regs i.rs1 in
-    tried_by (is_word m.memory a Write) (is_reserved m.regs.reserved a) m _ _ (put_stays m.memory a (little_bytes 4 (register m.regs i.rs2))) (stays m.memory)
+    tried_by (is_word_at m.memory a Write) (is_reserved m.regs.reserved a) m _ _ (put_stays m.memory a (little_bytes 4 (register m.regs i.rs2))) (stays m.memory)
 
 combines_stay : (o : Op) (i : Insn) (m : Machine) → Stays m.memory (combines o i m).1.memory
 combines_stay o i m =
     let a = register m.regs i.rs1 in
-    store_by (is_word m.memory a Write && holds m.memory.regions a 4 Read) m _ (put_stays m.memory a (little_bytes 4 (combined o (word_at m.memory a) (register m.regs i.rs2))))
+    store_by (is_word_at m.memory a Write && holds m.memory.regions a 4 Read) m _ (put_stays m.memory a (little_bytes 4 (combined o (word_at m.memory a) (register m.regs i.rs2))))
 
 effect_stays : (o : Op) (i : Insn) (m : Machine) → Stays m.memory (effect o i m).1.memory
 effect_stays Sb i m = stores_stay Sb i m
@@ -156,11 +156,11 @@ run_stays (suc most) m = unless_stays most m (guest_step m) (step_stays m) (run_
 
 -- ---- what the calls of a guest say
 
-pub ran_stays : (most : ℕ) (r : Registers) (a : Image) (x : Ran) → run most (machine r a) ≡ x → Stays a x.2.memory
-ran_stays most r a x h = subst (λ (y : Ran). Stays a y.2.memory) h (run_stays most (machine r a))
+pub ran_stays : (most : ℕ) (r : Registers) (a : Image) (x : MachineRan) → run most (machine_with r a) ≡ x → Stays a x.2.memory
+ran_stays most r a x h = subst (λ (y : MachineRan). Stays a y.2.memory) h (run_stays most (machine_with r a))
 
-pub gave_stays : (r : Registers) (a : Image) (ret : ℤ) (bytes : List ℕ) (m : Machine) → m ≡ answered (machine r a) ret bytes → Stays a m.memory
-gave_stays r a ret bytes m h = subst (λ (y : Machine). Stays a y.memory) (sym h) (answered_stays (machine r a) ret bytes)
+pub gave_stays : (r : Registers) (a : Image) (ret : ℤ) (bytes : List ℕ) (m : Machine) → m ≡ with_answer (machine_with r a) ret bytes → Stays a m.memory
+gave_stays r a ret bytes m h = subst (λ (y : Machine). Stays a y.memory) (sym h) (answered_stays (machine_with r a) ret bytes)
 
 pub lives_in : (g h : Threaded) (tid : ℕ) → g ≡ h → Contains (tids h.threads) tid → Contains (tids g.threads) tid
 lives_in g h tid e c = subst (λ (x : Threaded). Contains (tids x.threads) tid) (sym e) c

@@ -6,7 +6,7 @@ use Rattle.nv_memory.specs.Bytes.{bytes_at}
 use Rattle.nv_memory.specs.Image.{Image}
 use Rattle.nv_guest.specs.declared.vectors.Part.{Part}
 use Rattle.nv_guest.specs.Paths.{byte_at, path_with, path_at}
-use Rattle.nv_guest.specs.Vectors.{usable_at, parts_with, parts_at, capacity, joined}
+use Rattle.nv_guest.specs.Vectors.{usable_at, parts_with, parts_at, capacity, joined_parts}
 
 path-here : (memory : Image) (most at : ℕ) → 0 < most → path_at most memory at ≡ path_with (byte_at memory at) (path_at (most - 1) memory (at + 1))
 unfolding path_at
@@ -91,7 +91,7 @@ capacity-more before now part (Some parts) e = ap Some (sym (add_assoc before pa
 
 -- bytes read before a part and those after it
 pub joined-more : (memory : Image) (before now : List ℕ) (part : Part) (parts : Option (List Part)) → now ≡ before ++ bytes_at memory.bytes part.address part.size
-    → option_map (λ later. before ++ joined memory later) (option_map (λ later. part ∷ later) parts) ≡ option_map (λ later. now ++ joined memory later) parts
+    → option_map (λ later. before ++ joined_parts memory later) (option_map (λ later. part ∷ later) parts) ≡ option_map (λ later. now ++ joined_parts memory later) parts
 joined-more memory before now part None e = refl
 joined-more memory before now part (Some parts) e =
-    ap Some (sym (append_assoc before (bytes_at memory.bytes part.address part.size) (joined memory parts)) ∙ ap (λ prefix. prefix ++ joined memory parts) (sym e))
+    ap Some (sym (append_assoc before (bytes_at memory.bytes part.address part.size) (joined_parts memory parts)) ∙ ap (λ prefix. prefix ++ joined_parts memory parts) (sym e))

@@ -9,9 +9,9 @@ unfoldable pub with_byte : Image → ℕ → ℕ → Image
 with_byte memory at b = if nat_lt at (2 ^ 32) then stored memory at (b ∷ []) else memory
 
 -- bytes from an address on, each by itself
-unfoldable pub with_bytes : Image → ℕ → List ℕ → Image
-with_bytes memory at [] = memory
-with_bytes memory at (b ∷ bs) = with_bytes (with_byte memory at b) (at + 1) bs
+unfoldable pub with_each_byte : Image → ℕ → List ℕ → Image
+with_each_byte memory at [] = memory
+with_each_byte memory at (b ∷ bs) = with_each_byte (with_byte memory at b) (at + 1) bs
 
 abbrev pub targets_with : Option Part → (ℕ → List Part) → List Part
 targets_with None later = []
@@ -26,4 +26,4 @@ targets_at memory (suc count) most at = if most == 0 then []
 -- bytes over parts, in order
 unfoldable pub scattered : Image → List Part → List ℕ → Image
 scattered memory [] bytes = memory
-scattered memory (part ∷ parts) bytes = scattered (with_bytes memory part.address (take part.size bytes)) parts (drop part.size bytes)
+scattered memory (part ∷ parts) bytes = scattered (with_each_byte memory part.address (take part.size bytes)) parts (drop part.size bytes)

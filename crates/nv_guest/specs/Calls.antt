@@ -11,23 +11,23 @@ use Rattle.nv_calls.specs.Answers.{most_out_by, answer_slot}
 use Rattle.nv_calls.specs.Numbers.{syscall_of, slots_by}
 use Rattle.nv_memory.specs.declared.region.Right.TheVariants.{Read, Write}
 use Rattle.nv_memory.specs.Bytes.{bytes_at}
-use Rattle.nv_memory.specs.Regions.{holds}
+use Rattle.nv_memory.specs.Region.{holds}
 use Rattle.nv_memory.specs.Image.{Image}
 use Rattle.nv_machine.specs.Registers.{Registers, written}
-use Rattle.nv_machine.specs.Guest.{Machine, register, next}
+use Rattle.nv_machine.specs.Guest.{Machine, register, next_address}
 use Rattle.nv_guest.specs.declared.calls.Checked.{Checked}
 use Rattle.nv_guest.specs.declared.vectors.Part.{Part}
 use Rattle.nv_guest.specs.Paths.{path_at}
-use Rattle.nv_guest.specs.Vectors.{parts_at, capacity, joined}
-use Rattle.nv_guest.specs.Answers.{with_bytes, targets_at, scattered}
+use Rattle.nv_guest.specs.Vectors.{parts_at, capacity, joined_parts}
+use Rattle.nv_guest.specs.Answers.{with_each_byte, targets_at, scattered}
 
 -- argument n, which is in register a0 + n
 abbrev pub argument : Machine → ℕ → ℕ
 argument m n = register m.regs (10 + n)
 
 -- the number of the call, in a7
-abbrev pub number : Machine → ℕ
-number m = register m.regs 17
+abbrev pub call_number : Machine → ℕ
+call_number m = register m.regs 17
 
 -- ---- the arguments
 
@@ -66,8 +66,8 @@ first_bytes most m = if holds m.memory.regions (argument m 1) (min (argument m 2
     then Some (bytes_at m.memory.bytes (argument m 1) (min (argument m 2) most)) else None
 
 -- the first bytes of a write
-abbrev pub bytes_in : Machine → Option (List ℕ)
-bytes_in m = first_bytes MOST_BYTES m
+abbrev pub written_bytes : Machine → Option (List ℕ)
+written_bytes m = first_bytes MOST_BYTES m
 
 -- the first bytes of a socket's address (bind(2))
 abbrev pub address_in : Machine → Option (List ℕ)
@@ -79,7 +79,7 @@ path_in m = path_at MOST_PATH m.memory (argument m 1)
 
 -- the first bytes that vectors name
 abbrev pub vectors_in : Machine → Option (List ℕ)
-vectors_in m = option_map (joined m.memory) (parts_at m.memory Read (vector_count m) MOST_BYTES (argument m 1))
+vectors_in m = option_map (joined_parts m.memory) (parts_at m.memory Read (vector_count m) MOST_BYTES (argument m 1))
 
 -- how many bytes vectors can hold, as far as a call moves them
 abbrev pub capacity_in : Machine → Option ℕ
@@ -117,25 +117,25 @@ with_out memory (Some part) = if holds memory.regions part.address part.size Wri
 abbrev pub handed : Syscall → Machine → Handed
 handed Unlinkat m = with_payload (path_in m)
 handed Openat m = with_payload (path_in m)
-handed WriteCall m = with_payload (bytes_in m)
+handed WriteCall m = with_payload (written_bytes m)
 handed Bind m = with_payload (address_in m)
 handed Writev m = with_payload (vectors_in m)
 handed Readv m = with_capacity (capacity_in m)
 handed k m = with_out m.memory (out_of k m)
 
 abbrev pub call_by : Syscall → Machine → ℕ → Handed → Request
-call_by k m tid h = record { tid = tid; nr = number m; args = values_with k m h.capacity; bad = h.bad; payload = h.payload }
+call_by k m tid h = record { tid = tid; nr = call_number m; args = values_with k m h.capacity; bad = h.bad; payload = h.payload }
 
 -- the call that the machine asks for
 unfoldable pub call_at : Machine → ℕ → Request
-call_at m tid = call_by (syscall_of (number m)) m tid (handed (syscall_of (number m)) m)
+call_at m tid = call_by (syscall_of (call_number m)) m tid (handed (syscall_of (call_number m)) m)
 
 -- ---- the answer
 
 -- the bytes of an answer from an address on; the kernel hands out no more than its place has, so none falls past it
 abbrev pub stored_at : Image → Option Part → List ℕ → Image
 stored_at memory None bytes = memory
-stored_at memory (Some part) bytes = with_bytes memory part.address bytes
+stored_at memory (Some part) bytes = with_each_byte memory part.address bytes
 
 -- the memory with the bytes of an answer, as far as they may be written; a call without a place for them stores none
 abbrev pub memory_after : Syscall → Machine → List ℕ → Image
@@ -143,9 +143,9 @@ memory_after Readv m bytes = scattered m.memory (targets_at m.memory (vector_cou
 memory_after k m bytes = stored_at m.memory (out_of k m) bytes
 
 -- the registers with the result in a0, past the call
-abbrev pub past : Registers → ℕ → Registers
-past regs value = record regs { x = written regs.x 10 value; pc = next regs }
+abbrev pub past_call : Registers → ℕ → Registers
+past_call regs value = record regs { x = written regs.x 10 value; pc = next_address regs }
 
 -- the machine with this result and these bytes as the answer
-unfoldable pub answered : Machine → ℤ → List ℕ → Machine
-answered m ret bytes = record { regs = past m.regs (cast_unsigned w32 ret); memory = memory_after (syscall_of (number m)) m bytes }
+unfoldable pub with_answer : Machine → ℤ → List ℕ → Machine
+with_answer m ret bytes = record { regs = past_call m.regs (cast_unsigned w32 ret); memory = memory_after (syscall_of (call_number m)) m bytes }

@@ -8,3 +8,4 @@ pub mod Answers
 pub mod Threads
 pub mod Heap
 pub mod Faults
+pub mod inner

@@ -1,7 +1,7 @@
 -- Paths, as a call hands them in: bytes up to a 0 byte, each of which lies in some region that may be read.
 use Rattle.std.specs.Prelude.{ℕ, zero, suc, ◌+◌, ◌^◌, ◌&&◌, List, [], ◌∷◌, Option, Some, None, option_map, if◌then◌else◌, ◌==◌, nat_lt, slice_index}
 use Rattle.nv_memory.specs.declared.region.Right.TheVariants.{Read}
-use Rattle.nv_memory.specs.Regions.{holds}
+use Rattle.nv_memory.specs.Region.{holds}
 use Rattle.nv_memory.specs.Image.{Image}
 
 -- the byte at an address, where it may be read

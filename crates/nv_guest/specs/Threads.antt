@@ -1,13 +1,13 @@
 -- A guest with several threads, which share its memory.
 use Rattle.std.specs.Prelude.{ℕ, zero, suc, ◌+◌, ◌-◌, ◌/◌, ◌%◌, ℤ, ◌==◌, ◌&&◌, nat_le, Bool, true, false, List, [], ◌∷◌, ◌++◌, length, map, None, if◌then◌else◌}
 use Rattle.nv_memory.specs.declared.region.Region.{Region}
-use Rattle.nv_memory.specs.Regions.{set_end}
+use Rattle.nv_memory.specs.Region.{set_end}
 use Rattle.nv_memory.specs.Image.{Image, cut}
-use Rattle.nv_machine.specs.Registers.{Registers, fresh, written}
+use Rattle.nv_machine.specs.Registers.{Registers, fresh_registers, written}
 use Rattle.nv_machine.specs.declared.outcome.Stepped.{Stepped}
 use Rattle.nv_machine.specs.declared.outcome.Stepped.TheVariants.{On, Call, Fault}
 use Rattle.nv_machine.specs.Guest.{Machine, register, guest_step}
-use Rattle.nv_guest.specs.Calls.{past, answered}
+use Rattle.nv_guest.specs.Calls.{past_call, with_answer}
 use Rattle.nv_guest.specs.declared.guest.Thread.{Thread}
 use Rattle.nv_guest.specs.declared.outcome.Asked.{Asked}
 use Rattle.nv_guest.specs.declared.outcome.Asked.TheVariants.{Local, Logged}
@@ -24,13 +24,13 @@ abbrev pub tids : List Thread → List ℕ
 tids threads = map tid_of threads
 
 -- where a thread stands in the list; the length where it doesn't live
-abbrev pub place_of : List Thread → ℕ → ℕ
-place_of [] tid = 0
-place_of (t ∷ ts) tid = if t.tid == tid then 0 else suc (place_of ts tid)
+abbrev pub thread_place : List Thread → ℕ → ℕ
+thread_place [] tid = 0
+thread_place (t ∷ ts) tid = if t.tid == tid then 0 else suc (thread_place ts tid)
 
 -- the registers of a thread
 abbrev pub regs_at : List Thread → ℕ → Registers
-regs_at [] tid = fresh 0
+regs_at [] tid = fresh_registers 0
 regs_at (t ∷ ts) tid = if t.tid == tid then t.regs else regs_at ts tid
 
 -- the threads with other registers for one
@@ -47,26 +47,26 @@ abbrev pub with_machine : Threaded → ℕ → Machine → Threaded
 with_machine g tid m = record { threads = with_regs g.threads tid m.regs; memory = m.memory }
 
 -- whether a call is the process's own
-abbrev pub asked_by : Bool → Asked
-asked_by true = Local
-asked_by false = Logged
+abbrev pub asked_as : Bool → Asked
+asked_as true = Local
+asked_as false = Logged
 
 -- ---- running
 
 -- how many instructions were run, how that ended, and the machine at that point
-abbrev pub Ran : Type 0
-Ran = ℕ × Stepped × Machine
+abbrev pub MachineRan : Type 0
+MachineRan = ℕ × Stepped × Machine
 
-abbrev pub more : ℕ → Ran → Ran
+abbrev pub more : ℕ → MachineRan → MachineRan
 more n r = (n + r.0, r.1, r.2)
 
-abbrev pub unless_stopped : (Machine → Ran) → Stepped × Machine → Ran
+abbrev pub unless_stopped : (Machine → MachineRan) → Stepped × Machine → MachineRan
 unless_stopped run (On, m) = more 1 (run m)
 unless_stopped run (Call, m) = (1, Call, m)
 unless_stopped run (Fault kind, m) = (1, Fault kind, m)
 
 -- at most so many instructions, up to the first that ends in a call or a fault
-unfoldable pub run : ℕ → Machine → Ran
+unfoldable pub run : ℕ → Machine → MachineRan
 run zero m = (0, On, m)
 run (suc most) m = unless_stopped (run most) (guest_step m)
 
@@ -74,7 +74,7 @@ run (suc most) m = unless_stopped (run most) (guest_step m)
 
 -- the guest once a thread has this result and these bytes as the answer to its call
 abbrev pub answered_at : Threaded → ℕ → ℤ → List ℕ → Threaded
-answered_at g tid ret bytes = with_machine g tid (answered (machine_at g tid) ret bytes)
+answered_at g tid ret bytes = with_machine g tid (with_answer (machine_at g tid) ret bytes)
 
 -- clone(2): the stack and, with CLONE_SETTLS (0x80000), the thread's pointer of a new thread are those that its parent gave in a1 and a3
 abbrev pub with_stack : ℕ → List ℕ → List ℕ
@@ -85,13 +85,13 @@ with_pointer flags pointer x = if (flags / 0x80000) % 2 == 1 then written x 4 po
 
 -- a new thread goes on after its parent's call, with the result 0 and without a reservation
 unfoldable pub child_regs : Registers → Registers
-child_regs regs = record (past regs 0) { x = with_pointer (register regs 10) (register regs 13) (with_stack (register regs 11) (past regs 0).x); reserved = None }
+child_regs regs = record (past_call regs 0) { x = with_pointer (register regs 10) (register regs 13) (with_stack (register regs 11) (past_call regs 0).x); reserved = None }
 
-abbrev pub child_of : List Thread → ℕ → ℕ → Thread
-child_of threads tid child = record { tid = child; regs = child_regs (regs_at threads tid) }
+abbrev pub child_thread : List Thread → ℕ → ℕ → Thread
+child_thread threads tid child = record { tid = child; regs = child_regs (regs_at threads tid) }
 
 abbrev pub cloned : Threaded → ℕ → ℕ → Threaded
-cloned g tid child = record g { threads = g.threads ++ child_of g.threads tid child ∷ [] }
+cloned g tid child = record g { threads = g.threads ++ child_thread g.threads tid child ∷ [] }
 
 abbrev pub dropped : List Thread → ℕ → List Thread
 dropped [] tid = []

@@ -4,16 +4,16 @@ use Rattle.nv_bytes.specs.Fields.{field_at}
 use Rattle.nv_memory.specs.declared.region.Right.{Right}
 use Rattle.nv_memory.specs.declared.region.Right.TheVariants.{Read}
 use Rattle.nv_memory.specs.Bytes.{bytes_at}
-use Rattle.nv_memory.specs.Regions.{holds}
+use Rattle.nv_memory.specs.Region.{holds}
 use Rattle.nv_memory.specs.Image.{Image}
 use Rattle.nv_guest.specs.declared.vectors.Part.{Part}
 
-abbrev pub part_of : List ℕ → Part
-part_of bytes = record { address = field_at 4 bytes 0; size = field_at 4 bytes 4 }
+abbrev pub vector_part : List ℕ → Part
+vector_part bytes = record { address = field_at 4 bytes 0; size = field_at 4 bytes 4 }
 
 -- the vector at an address, where it may be read
 unfoldable pub vector_at : Image → ℕ → Option Part
-vector_at memory at = if nat_lt at (2 ^ 32) && holds memory.regions at 8 Read then Some (part_of (bytes_at memory.bytes at 8)) else None
+vector_at memory at = if nat_lt at (2 ^ 32) && holds memory.regions at 8 Read then Some (vector_part (bytes_at memory.bytes at 8)) else None
 
 -- the first bytes of a part, at most so many
 abbrev pub prefix_of : ℕ → Part → Part
@@ -47,6 +47,6 @@ capacity [] = 0
 capacity (part ∷ parts) = part.size + capacity parts
 
 -- the bytes of parts, joined
-abbrev pub joined : Image → List Part → List ℕ
-joined memory [] = []
-joined memory (part ∷ parts) = bytes_at memory.bytes part.address part.size ++ joined memory parts
+abbrev pub joined_parts : Image → List Part → List ℕ
+joined_parts memory [] = []
+joined_parts memory (part ∷ parts) = bytes_at memory.bytes part.address part.size ++ joined_parts memory parts

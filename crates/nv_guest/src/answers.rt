@@ -1,7 +1,7 @@
 // Answers in the guest's memory.
 ghost use Rattle.std.specs.Prelude.{◌≡◌, ◌≤◌, length, min, take, option_map, true, false};
 ghost use Rattle.nv_guest.specs.Vectors.{vector_at, prefix_of};
-ghost use Rattle.nv_guest.specs.Answers.{with_byte, with_bytes, targets_at, scattered};
+ghost use Rattle.nv_guest.specs.Answers.{with_byte, with_each_byte, targets_at, scattered};
 
 use crate::vectors::{Part, vector_at};
 use nv_memory::Memory;
@@ -18,7 +18,7 @@ fn store_byte(memory: &mut Memory, at: usize, byte: u8)
 
 // Stores bytes from an address on, each by itself.
 fn store_each(memory: &mut Memory, address: u32, bytes: &[u8])
-    ensures { memory.new ≡ with_bytes memory.old address bytes.now }
+    ensures { memory.new ≡ with_each_byte memory.old address bytes.now }
 {
     for (i, byte) in bytes.iter().enumerate() {
         store_byte(memory, address as usize + i, *byte);
@@ -27,7 +27,7 @@ fn store_each(memory: &mut Memory, address: u32, bytes: &[u8])
 
 // Stores bytes from an address on, where all of them may be written, and tells whether they may.
 fn store_all(memory: &mut Memory, address: u32, bytes: &[u8]) -> bool
-    ensures stored { result ≡ true → memory.new ≡ with_bytes memory.old address bytes.now }
+    ensures stored { result ≡ true → memory.new ≡ with_each_byte memory.old address bytes.now }
     ensures refused { result ≡ false → memory.new ≡ memory.old }
 {
     if bytes.len() > (u32::MAX - address) as usize {
@@ -38,7 +38,7 @@ fn store_all(memory: &mut Memory, address: u32, bytes: &[u8]) -> bool
 
 /// Stores bytes from an address on. Each that may not be written is dropped.
 pub fn store_bytes(memory: &mut Memory, address: u32, bytes: &[u8])
-    ensures { memory.new ≡ with_bytes memory.old address bytes.now }
+    ensures { memory.new ≡ with_each_byte memory.old address bytes.now }
 {
     if store_all(memory, address, bytes) {
         return;

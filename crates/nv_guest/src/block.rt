@@ -2,7 +2,7 @@
 ghost use Rattle.std.specs.Prelude.{◌≡◌, ◌≤◌, ◌<◌, ◌+◌, ◌-◌, ◌*◌, ◌^◌, ◌++◌, ◌∷◌, [], ℕ, Some, None, IfSome, IsTrue, nat_le, if◌then◌else◌, length};
 ghost use Rattle.std.specs.List.{list_any};
 ghost use Rattle.nv_memory.specs.Bytes.{put, little_bytes};
-ghost use Rattle.nv_memory.specs.Regions.{has_range};
+ghost use Rattle.nv_memory.specs.Region.{lies_in};
 ghost use Rattle.nv_guest.specs.Block.{strings, addresses, words, all_arguments, strings_start, stack_pointer, stack_words, with_block};
 ghost use Rattle.nv_guest.specs.Load.{texts_of, IsMemorySize};
 
@@ -43,7 +43,7 @@ pub fn place_block(arguments: &[Vec<u8>], size: u32) -> Option<Block>
 pub fn write_block(memory: &mut Memory, arguments: &[Vec<u8>], block: Block)
     requires words { block.pointer + 4 * (length arguments.now + 6) ≤ block.start }
     requires fits { block.start + length (strings (all_arguments (texts_of arguments.now))) < 2 ^ 32 }
-    requires inside { IsTrue (list_any (has_range block.pointer (block.start + length (strings (all_arguments (texts_of arguments.now))) - block.pointer)) memory.old.regions) }
+    requires inside { IsTrue (list_any (lies_in block.pointer (block.start + length (strings (all_arguments (texts_of arguments.now))) - block.pointer)) memory.old.regions) }
     ensures { memory.new ≡ record memory.old { bytes = with_block memory.old.bytes block.pointer block.start (all_arguments (texts_of arguments.now)) } }
 {
     write_words(memory, arguments, block.pointer, block.start);
@@ -54,7 +54,7 @@ pub fn write_block(memory: &mut Memory, arguments: &[Vec<u8>], block: Block)
 fn write_words(memory: &mut Memory, arguments: &[Vec<u8>], pointer: u32, start: u32)
     requires fits { pointer + 4 * (length arguments.now + 6) < 2 ^ 32 }
     requires texts { start + length (strings (all_arguments (texts_of arguments.now))) < 2 ^ 32 }
-    requires inside { IsTrue (list_any (has_range pointer (4 * (length arguments.now + 6))) memory.old.regions) }
+    requires inside { IsTrue (list_any (lies_in pointer (4 * (length arguments.now + 6))) memory.old.regions) }
     ensures { memory.new ≡ record memory.old { bytes = put memory.old.bytes pointer (words (stack_words start (all_arguments (texts_of arguments.now)))) } }
 {
     let count = arguments.len() as u32;
@@ -67,7 +67,7 @@ fn write_words(memory: &mut Memory, arguments: &[Vec<u8>], pointer: u32, start: 
 // Writes the strings of all arguments.
 fn write_texts(memory: &mut Memory, arguments: &[Vec<u8>], start: u32)
     requires fits { start + length (strings (all_arguments (texts_of arguments.now))) < 2 ^ 32 }
-    requires inside { IsTrue (list_any (has_range start (length (strings (all_arguments (texts_of arguments.now))))) memory.old.regions) }
+    requires inside { IsTrue (list_any (lies_in start (length (strings (all_arguments (texts_of arguments.now))))) memory.old.regions) }
     ensures { memory.new ≡ record memory.old { bytes = put memory.old.bytes start (strings (all_arguments (texts_of arguments.now))) } }
 {
     memory.fill(start, &NAME);
@@ -97,7 +97,7 @@ fn strings_size(arguments: &[Vec<u8>]) -> Option<u32>
 
 // Writes a word.
 fn write_word(memory: &mut Memory, at: u32, value: u32)
-    requires { IsTrue (list_any (has_range at 4) memory.old.regions) }
+    requires { IsTrue (list_any (lies_in at 4) memory.old.regions) }
     ensures { memory.new ≡ record memory.old { bytes = put memory.old.bytes at (little_bytes 4 value) } }
 {
     memory.fill(at, &word_bytes(value));
@@ -118,7 +118,7 @@ fn word_bytes(value: u32) -> [u8; 4]
 fn write_addresses(memory: &mut Memory, arguments: &[Vec<u8>], start: u32, first: u32)
     requires fits { start + 4 * length arguments.now < 2 ^ 32 }
     requires strings { first + length (strings (texts_of arguments.now)) < 2 ^ 32 }
-    requires inside { IsTrue (list_any (has_range start (4 * length arguments.now)) memory.old.regions) }
+    requires inside { IsTrue (list_any (lies_in start (4 * length arguments.now)) memory.old.regions) }
     ensures { memory.new ≡ record memory.old { bytes = put memory.old.bytes start (words (addresses first (texts_of arguments.now))) } }
 {
     let mut at = start;
@@ -134,7 +134,7 @@ fn write_addresses(memory: &mut Memory, arguments: &[Vec<u8>], start: u32, first
 #[tactic(auto, using(crate::proofs::Strings::next_string, nv_memory::proofs::BytesLaws::put_append, nv_memory::proofs::RegionsLaws::part_of))]
 fn write_strings(memory: &mut Memory, arguments: &[Vec<u8>], start: u32)
     requires fits { start + length (strings (texts_of arguments.now)) < 2 ^ 32 }
-    requires inside { IsTrue (list_any (has_range start (length (strings (texts_of arguments.now)))) memory.old.regions) }
+    requires inside { IsTrue (list_any (lies_in start (length (strings (texts_of arguments.now)))) memory.old.regions) }
     ensures { memory.new ≡ record memory.old { bytes = put memory.old.bytes start (strings (texts_of arguments.now)) } }
 {
     let mut at = start;
@@ -149,7 +149,7 @@ fn write_strings(memory: &mut Memory, arguments: &[Vec<u8>], start: u32)
 #[tactic(auto, using(nv_memory::proofs::BytesLaws::put_append, nv_memory::proofs::RegionsLaws::part_of))]
 fn write_string(memory: &mut Memory, text: &[u8], at: u32)
     requires fits { at + length text.now + 1 < 2 ^ 32 }
-    requires inside { IsTrue (list_any (has_range at (length text.now + 1)) memory.old.regions) }
+    requires inside { IsTrue (list_any (lies_in at (length text.now + 1)) memory.old.regions) }
     ensures { memory.new ≡ record memory.old { bytes = put memory.old.bytes at (text.now ++ 0 ∷ []) } }
 {
     memory.fill(at, text);

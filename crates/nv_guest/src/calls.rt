@@ -1,11 +1,11 @@
 // What a call hands over, and where its answer goes.
 ghost use Rattle.std.specs.Prelude.{◌≡◌, ◌≤◌, length, Some};
-ghost use Rattle.nv_guest.specs.Guest.{machine, machine_by};
+ghost use Rattle.nv_guest.specs.Guest.{machine_with, machine_by};
 ghost use Rattle.nv_calls.specs.Calls.{request};
 ghost use Rattle.nv_calls.specs.Numbers.{is_local};
 ghost use Rattle.nv_calls.specs.Shapes.{IsShaped};
-ghost use Rattle.nv_guest.specs.Threads.{asked_by};
-ghost use Rattle.nv_guest.specs.Calls.{argument, number, call_at, kept, values, values_with, out_of, vector_count, path_in, first_bytes, vectors_in, capacity_in, refused, with_payload, with_capacity, with_out, handed, handed_as, memory_after};
+ghost use Rattle.nv_guest.specs.Threads.{asked_as};
+ghost use Rattle.nv_guest.specs.Calls.{argument, call_number, call_at, kept, values, values_with, out_of, vector_count, path_in, first_bytes, vectors_in, capacity_in, refused, with_payload, with_capacity, with_out, handed, handed_as, memory_after};
 
 use crate::answers::{read_targets, scatter, store_bytes};
 use crate::outcome::{Asked, asked_of};
@@ -210,7 +210,7 @@ impl Caller<'_> {
     /// The call of the thread with this number.
     pub(crate) fn ask(&self, tid: u32, call: &mut Call) -> Asked
         requires { MOST_BYTES ≤ call.old.payload.capacity }
-        ensures asked { result ≡ asked_by (is_local (number (machine_by self.now))) }
+        ensures asked { result ≡ asked_as (is_local (call_number (machine_by self.now))) }
         ensures shaped { result ≡ Asked.Logged → IsShaped (request call.new) }
         ensures call { request call.new ≡ call_at (machine_by self.now) tid }
         ensures capacity { call.new.payload.capacity ≡ call.old.payload.capacity }
@@ -228,7 +228,7 @@ impl Caller<'_> {
 
 // The bytes of readv's answer, over its vectors.
 fn scatter_out(regs: &Regs, memory: &mut Memory, bytes: &[u8])
-    ensures { memory.new ≡ memory_after Syscall.Readv (machine regs.now memory.old) bytes.now }
+    ensures { memory.new ≡ memory_after Syscall.Readv (machine_with regs.now memory.old) bytes.now }
 {
     let mut targets = [Part {
         address: 0,
@@ -249,7 +249,7 @@ fn vectors_of(caller: Caller<'_>) -> (u32, u32)
 
 /// Stores the bytes of the answer where the call wants them.
 pub(crate) fn copy_out(regs: &Regs, memory: &mut Memory, syscall: Syscall, bytes: &[u8])
-    ensures { memory.new ≡ memory_after syscall (machine regs.now memory.old) bytes.now }
+    ensures { memory.new ≡ memory_after syscall (machine_with regs.now memory.old) bytes.now }
 {
     match syscall {
         Syscall::Readv => scatter_out(regs, memory, bytes),

@@ -36,7 +36,7 @@ pub struct Guest {
 }
 
 impl Model for Guest {
-    ghost use Rattle.nv_guest.specs.Heap.{HasHeap};
+    ghost use Rattle.nv_guest.specs.inner.Heap.{HasHeap};
     ghost use Rattle.nv_guest.specs.Threads.{Threaded};
 
     ghost Value = { Threaded };
@@ -47,10 +47,10 @@ impl Model for Guest {
 }
 
 impl Guest {
-    ghost use Rattle.nv_guest.specs.Calls.{call_at, number};
+    ghost use Rattle.nv_guest.specs.Calls.{call_at, call_number};
     ghost use Rattle.nv_machine.specs.Guest.{guest_step};
     ghost use Rattle.nv_guest.specs.Heap.{moved};
-    ghost use Rattle.nv_guest.specs.Threads.{tids, machine_at, with_machine, run, answered_at, cloned, without, released, asked_by, break_after};
+    ghost use Rattle.nv_guest.specs.Threads.{tids, machine_at, with_machine, run, answered_at, cloned, without, released, asked_as, break_after};
     ghost use Rattle.nv_calls.specs.Calls.{request};
     ghost use Rattle.nv_calls.specs.Numbers.{is_local};
     ghost use Rattle.nv_calls.specs.Shapes.{IsShaped};
@@ -104,7 +104,7 @@ impl Guest {
     pub fn call_of(&self, tid: u32, call: &mut Call) -> Asked
         requires lives { Contains (tids self.now.threads) tid }
         requires capacity { MOST_BYTES ≤ call.old.payload.capacity }
-        ensures asked { result ≡ asked_by (is_local (number (machine_at self.now tid))) }
+        ensures asked { result ≡ asked_as (is_local (call_number (machine_at self.now tid))) }
         ensures shaped { result ≡ Asked.Logged → IsShaped (request call.new) }
         ensures call { request call.new ≡ call_at (machine_at self.now tid) tid }
         ensures capacity { call.new.payload.capacity ≡ call.old.payload.capacity }

@@ -1,7 +1,8 @@
 // The heap, which is the last region of the memory.
 ghost use Rattle.std.specs.Prelude.{◌≡◌};
 ghost use Rattle.nv_guest.specs.Threads.{break_after};
-ghost use Rattle.nv_guest.specs.Heap.{HasHeap, moved};
+ghost use Rattle.nv_guest.specs.Heap.{moved};
+ghost use Rattle.nv_guest.specs.inner.Heap.{HasHeap};
 
 use nv_memory::Memory;
 

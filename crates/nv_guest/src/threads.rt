@@ -1,9 +1,9 @@
 // One thread among the others.
 ghost use Rattle.std.specs.Prelude.{◌≡◌, ◌<◌, ◌≤◌, length, Contains};
 ghost use Rattle.nv_machine.specs.Guest.{register};
-ghost use Rattle.nv_guest.specs.Guest.{machine};
-ghost use Rattle.nv_guest.specs.Calls.{answered, past};
-ghost use Rattle.nv_guest.specs.Threads.{tids, place_of, run, child_regs, with_stack, with_pointer, unreserved_each};
+ghost use Rattle.nv_guest.specs.Guest.{machine_with};
+ghost use Rattle.nv_guest.specs.Calls.{with_answer, past_call};
+ghost use Rattle.nv_guest.specs.Threads.{tids, thread_place, run, child_regs, with_stack, with_pointer, unreserved_each};
 
 use crate::calls::{NUMBER, copy_out};
 use crate::guest::Thread;
@@ -23,7 +23,7 @@ const SET_POINTER: u32 = 0x80000;
 /// Where the thread stands.
 pub(crate) fn place(threads: &[Thread], tid: u32) -> usize
     requires { Contains (tids threads.now) tid }
-    ensures place { result ≡ place_of threads.now tid }
+    ensures place { result ≡ thread_place threads.now tid }
     ensures inside { result < length threads.now }
 {
     for (i, thread) in threads.iter().enumerate() {
@@ -39,7 +39,7 @@ pub(crate) fn place(threads: &[Thread], tid: u32) -> usize
 #[inline(never)]
 pub(crate) fn run_on(regs: &mut Regs, memory: &mut Memory, most: u32) -> (u32, Stepped)
     ensures few { result.0 ≤ most }
-    ensures ran { run most (machine regs.old memory.old) ≡ (result.0, result.1, machine regs.new memory.new) }
+    ensures ran { run most (machine_with regs.old memory.old) ≡ (result.0, result.1, machine_with regs.new memory.new) }
 {
     for count in 0..most {
         match step(regs, memory) {
@@ -53,7 +53,7 @@ pub(crate) fn run_on(regs: &mut Regs, memory: &mut Memory, most: u32) -> (u32, S
 
 /// Stores the bytes of the answer, puts the result into a0 and goes past the call.
 pub(crate) fn answer_to(regs: &mut Regs, memory: &mut Memory, ret: i32, payload: &[u8])
-    ensures { machine regs.new memory.new ≡ answered (machine regs.old memory.old) ret payload.now }
+    ensures { machine_with regs.new memory.new ≡ with_answer (machine_with regs.old memory.old) ret payload.now }
 {
     let syscall = Syscall::of(regs.get(NUMBER));
     copy_out(regs, memory, syscall, payload);
@@ -62,7 +62,7 @@ pub(crate) fn answer_to(regs: &mut Regs, memory: &mut Memory, ret: i32, payload:
 
 // Puts the result into a0 and goes past the call.
 fn go_past(regs: &mut Regs, value: u32)
-    ensures { regs.new ≡ past regs.old value }
+    ensures { regs.new ≡ past_call regs.old value }
 {
     regs.set(10, value);
     regs.pc = regs.pc.wrapping_add(4);

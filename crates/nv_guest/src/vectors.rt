@@ -2,8 +2,8 @@
 ghost use Rattle.std.specs.Prelude.{◌≡◌, ◌≤◌, ◌^◌, ◌<◌, length, take, option_map, IsTrue, IfSome};
 ghost use Rattle.nv_memory.specs.declared.region.Right.TheVariants.{Read, Write};
 ghost use Rattle.nv_memory.specs.Bytes.{bytes_at};
-ghost use Rattle.nv_memory.specs.Regions.{holds};
-ghost use Rattle.nv_guest.specs.Vectors.{vector_at, usable_at, parts_at, capacity, joined};
+ghost use Rattle.nv_memory.specs.Region.{holds};
+ghost use Rattle.nv_guest.specs.Vectors.{vector_at, usable_at, parts_at, capacity, joined_parts};
 
 use nv_bytes::u32_at;
 use nv_memory::{Memory, Right};
@@ -77,7 +77,7 @@ fn copy_part(memory: &Memory, part: Part, out: &mut [u8])
 /// where one may not be read.
 pub fn gather(memory: &Memory, address: u32, count: u32, out: &mut [u8]) -> Option<usize>
     requires { length out.old < 2 ^ 32 }
-    ensures bytes { option_map (λ filled. take filled out.new) result ≡ option_map (joined memory.now) (parts_at memory.now Read count (length out.old) address) }
+    ensures bytes { option_map (λ filled. take filled out.new) result ≡ option_map (joined_parts memory.now) (parts_at memory.now Read count (length out.old) address) }
     ensures inside { IfSome result (λ filled. filled ≤ length out.old) }
 {
     let mut filled = 0usize;

@@ -3,34 +3,34 @@ use Rattle.std.proofs.Common.{◌≡◌, ℕ, zero, suc, ◌+◌, ◌-◌, ◌<�
 use Rattle.nv_outside.specs.Sink.{Puts}
 use Rattle.nv_outside.specs.declared.sink.Put.TheVariants.{Whole, Failed}
 use Rattle.nv_outside.proofs.Writing.{puts-is, puts-then, puts-failed}
-use Rattle.nv_inspect.specs.Firsts.{firsts}
+use Rattle.nv_inspect.specs.Firsts.{texts_below}
 
-pub firsts-none : (text : ℕ → List ℕ) → firsts text 0 ≡ []
-unfolding firsts
+pub firsts-none : (text : ℕ → List ℕ) → texts_below text 0 ≡ []
+unfolding texts_below
 firsts-none text = refl
 
-firsts-one : (text : ℕ → List ℕ) (n : ℕ) → firsts text n ++ text n ≡ firsts text (n + 1)
-unfolding firsts
-firsts-one text n = let e : suc n ≡ n + 1 = omega arith in ap (firsts text) e
+firsts-one : (text : ℕ → List ℕ) (n : ℕ) → texts_below text n ++ text n ≡ texts_below text (n + 1)
+unfolding texts_below
+firsts-one text n = let e : suc n ≡ n + 1 = omega arith in ap (texts_below text) e
 
 -- those of more numbers begin with those of fewer
-further : (text : ℕ → List ℕ) (n k : ℕ) → (rest : List ℕ) × (firsts text (k + n) ≡ firsts text n ++ rest)
-unfolding firsts
-further text n zero = let e : 0 + n ≡ n = omega arith in ([], ap (firsts text) e ∙ sym (append-nil (firsts text n)))
+further : (text : ℕ → List ℕ) (n k : ℕ) → (rest : List ℕ) × (texts_below text (k + n) ≡ texts_below text n ++ rest)
+unfolding texts_below
+further text n zero = let e : 0 + n ≡ n = omega arith in ([], ap (texts_below text) e ∙ sym (append-nil (texts_below text n)))
 further text n (suc k) =
     let more = further text n k in
     let e : suc k + n ≡ suc (k + n) = omega arith in
-    (more.0 ++ text (k + n), ap (firsts text) e ∙ ap (λ t. t ++ text (k + n)) more.1 ∙ append_assoc (firsts text n) more.0 (text (k + n)))
+    (more.0 ++ text (k + n), ap (texts_below text) e ∙ ap (λ t. t ++ text (k + n)) more.1 ∙ append_assoc (texts_below text n) more.0 (text (k + n)))
 
 module _ (text : ℕ → List ℕ) where
-  pub puts-next : {a b c : Option (List ℕ)} {f g h : ℕ} (n : ℕ) → Puts a f (firsts text n) Whole b g → Puts b g (text n) Whole c h → Puts a f (firsts text (n + 1)) Whole c h
+  pub puts-next : {a b c : Option (List ℕ)} {f g h : ℕ} (n : ℕ) → Puts a f (texts_below text n) Whole b g → Puts b g (text n) Whole c h → Puts a f (texts_below text (n + 1)) Whole c h
   puts-next n p q = puts-is (firsts-one text n) (puts-then p q)
 
-  pub puts-short : {a b c : Option (List ℕ)} {f g h : ℕ} (n m : ℕ) → n < m → Puts a f (firsts text n) Whole b g → Puts b g (text n) Failed c h → Puts a f (firsts text m) Failed c h
+  pub puts-short : {a b c : Option (List ℕ)} {f g h : ℕ} (n m : ℕ) → n < m → Puts a f (texts_below text n) Whole b g → Puts b g (text n) Failed c h → Puts a f (texts_below text m) Failed c h
   puts-short n m less p q =
       let more = further text (n + 1) (m - (n + 1)) in
       let e : (m - (n + 1)) + (n + 1) ≡ m = omega arith in
-      puts-is (ap (λ t. t ++ more.0) (firsts-one text n) ∙ sym more.1 ∙ ap (firsts text) e) (puts-failed more.0 (puts-then p q))
+      puts-is (ap (λ t. t ++ more.0) (firsts-one text n) ∙ sym more.1 ∙ ap (texts_below text) e) (puts-failed more.0 (puts-then p q))
 
-  pub puts-every : {a b : Option (List ℕ)} {f g : ℕ} (n m : ℕ) → n ≡ m → Puts a f (firsts text n) Whole b g → Puts a f (firsts text m) Whole b g
-  puts-every n m e p = puts-is (ap (firsts text) e) p
+  pub puts-every : {a b : Option (List ℕ)} {f g : ℕ} (n m : ℕ) → n ≡ m → Puts a f (texts_below text n) Whole b g → Puts a f (texts_below text m) Whole b g
+  puts-every n m e p = puts-is (ap (texts_below text) e) p

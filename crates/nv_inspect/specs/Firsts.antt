@@ -2,6 +2,6 @@
 use Rattle.std.specs.Prelude.{ℕ, zero, suc, List, [], ◌++◌}
 
 -- the texts of the numbers below n, in order
-unfoldable pub firsts : (ℕ → List ℕ) → ℕ → List ℕ
-firsts text zero = []
-firsts text (suc n) = firsts text n ++ text n
+unfoldable pub texts_below : (ℕ → List ℕ) → ℕ → List ℕ
+texts_below text zero = []
+texts_below text (suc n) = texts_below text n ++ text n

@@ -4,10 +4,10 @@ use Rattle.std.specs.Fmt.{decimal}
 use Rattle.std.specs.Int.{w32, to_be_bytes}
 use Rattle.std.specs.List.{concat}
 use Rattle.nv_memory.specs.Image.{Image}
-use Rattle.nv_memory.specs.Cells.{byte_at}
+use Rattle.nv_memory.specs.Cells.{memory_byte}
 use Rattle.nv_machine.specs.Registers.{Registers}
 use Rattle.nv_guest.specs.Threads.{Threaded, machine_at}
-use Rattle.nv_threads.specs.Threads.{Proc, tids, state_at, count_of, greatest}
+use Rattle.nv_threads.specs.Threads.{Proc, task_tids, state_at, count_of, greatest}
 use Rattle.nv_fs.specs.States.{FileState}
 use Rattle.nv_fs.specs.Told.{opened_as}
 use Rattle.nv_fs.specs.declared.telling.Opened.{Opened}
@@ -16,23 +16,23 @@ use Rattle.nv_replay.specs.declared.fate.Fate.{Fate}
 use Rattle.nv_replay.specs.Follow.{Follower}
 use Rattle.nv_report.specs.Numbers.{hex_pair, hex_text}
 use Rattle.nv_report.specs.Versions.{fate_text}
-use Rattle.nv_inspect.specs.Firsts.{firsts}
+use Rattle.nv_inspect.specs.Firsts.{texts_below}
 
 -- eight hexadecimal digits
 abbrev pub word_text : ℕ → List ℕ
 word_text n = hex_text (to_be_bytes w32 n)
 
 -- how the version ended, or that it is in step with the log so far
-abbrev pub end_text : Option Fate → List ℕ
-end_text None = codes "in step"
-end_text (Some fate) = fate_text fate
+abbrev pub standing_text : Option Fate → List ℕ
+standing_text None = codes "in step"
+standing_text (Some fate) = fate_text fate
 
 abbrev pub place_text : ℕ → ℕ → List ℕ
 place_text seen count = concat (codes "at seen " ∷ decimal seen ∷ codes " count " ∷ decimal count ∷ codes " " ∷ [])
 
 -- the events that it has seen, the instructions that it has run, and its end
-abbrev pub head_text : ℕ → ℕ → Option Fate → List ℕ
-head_text seen count fate = place_text seen count ++ (end_text fate ++ codes "\n")
+abbrev pub heading_text : ℕ → ℕ → Option Fate → List ℕ
+heading_text seen count fate = place_text seen count ++ (standing_text fate ++ codes "\n")
 
 -- ---- threads
 
@@ -40,7 +40,7 @@ abbrev pub register_text : Registers → ℕ → List ℕ
 register_text r n = codes " " ++ word_text (slice_index r.x n)
 
 abbrev pub registers_text : Registers → List ℕ
-registers_text r = codes "x" ++ (firsts (register_text r) 32 ++ codes "\n")
+registers_text r = codes "x" ++ (texts_below (register_text r) 32 ++ codes "\n")
 
 abbrev pub counter_text : ℕ → ℕ → List ℕ
 counter_text tid pc = concat (codes "thread " ∷ decimal tid ∷ codes " pc " ∷ []) ++ (word_text pc ++ codes "\n")
@@ -55,7 +55,7 @@ live_text p tid = if is_some (state_at p.tasks tid) then thread_text p.guest tid
 
 -- the threads that live, in the order of their numbers
 abbrev pub threads_text : Proc → List ℕ
-threads_text p = firsts (live_text p) (greatest (tids p.tasks) + 1)
+threads_text p = texts_below (live_text p) (greatest (task_tids p.tasks) + 1)
 
 -- ---- descriptors
 
@@ -79,7 +79,7 @@ abbrev pub descriptor_text : FileState → ℕ → List ℕ
 descriptor_text s fd = descriptor_as fd (opened_as s fd)
 
 abbrev pub descriptors_text : FileState → List ℕ
-descriptors_text s = firsts (descriptor_text s) 64
+descriptors_text s = texts_below (descriptor_text s) 64
 
 -- ---- memory
 
@@ -88,26 +88,26 @@ cell_text None = codes "--"
 cell_text (Some byte) = hex_pair byte
 
 abbrev pub byte_text : Image → ℕ → ℕ → List ℕ
-byte_text memory address i = codes " " ++ cell_text (byte_at memory (address + i))
+byte_text memory address i = codes " " ++ cell_text (memory_byte memory (address + i))
 
 -- so many bytes from an address on
 abbrev pub row_text : Image → ℕ → ℕ → List ℕ
-row_text memory address length = codes "mem " ++ (word_text address ++ (firsts (byte_text memory address) length ++ codes "\n"))
+row_text memory address length = codes "mem " ++ (word_text address ++ (texts_below (byte_text memory address) length ++ codes "\n"))
 
 -- sixteen bytes a line, the last line shorter
-abbrev pub line_text : Image → ℕ → ℕ → ℕ → List ℕ
-line_text memory address length i = row_text memory (address + 16 * i) (min 16 (length - 16 * i))
+abbrev pub memory_line : Image → ℕ → ℕ → ℕ → List ℕ
+memory_line memory address length i = row_text memory (address + 16 * i) (min 16 (length - 16 * i))
 
 abbrev pub dump_text : Image → Option (ℕ × ℕ) → List ℕ
 dump_text memory None = []
-dump_text memory (Some range) = firsts (line_text memory range.0 range.1) ((range.1 + 15) / 16)
+dump_text memory (Some range) = texts_below (memory_line memory range.0 range.1) ((range.1 + 15) / 16)
 
 -- ---- the whole
 
 abbrev pub show_text : Follower Proc → FileState → Option (ℕ × ℕ) → List ℕ
 show_text at files dump =
     let p = at.process in
-    head_text at.seen (count_of p) at.fate ++ (threads_text p ++ (descriptors_text files ++ dump_text p.guest.memory dump))
+    heading_text at.seen (count_of p) at.fate ++ (threads_text p ++ (descriptors_text files ++ dump_text p.guest.memory dump))
 
 -- a dump that is asked for has 1 to 4,096 bytes and ends at an address
 abbrev pub IsDump : Option (ℕ × ℕ) → Type 0

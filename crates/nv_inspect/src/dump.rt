@@ -1,8 +1,8 @@
 // Bytes of the memory.
 ghost use Rattle.std.specs.Prelude.{◌≡◌, ◌+◌, ◌*◌, ◌≤◌, ◌<◌, Some};
 ghost use Rattle.nv_outside.specs.Sink.{Puts};
-ghost use Rattle.nv_inspect.specs.Firsts.{firsts};
-ghost use Rattle.nv_inspect.specs.Shown.{cell_text, byte_text, row_text, line_text, dump_text, IsDump};
+ghost use Rattle.nv_inspect.specs.Firsts.{texts_below};
+ghost use Rattle.nv_inspect.specs.Shown.{cell_text, byte_text, row_text, memory_line, dump_text, IsDump};
 
 use crate::threads::put_word;
 use nv_memory::Memory;
@@ -32,7 +32,7 @@ fn put_byte<S: Sink>(sink: &mut S, memory: &Memory, address: u32, i: u32) -> Put
 
 fn put_bytes<S: Sink>(sink: &mut S, memory: &Memory, address: u32, length: u32) -> Put
     requires { address + length ≤ 4_294_967_295 }
-    ensures { Puts (S.told sink.old) (S.faults sink.old) (firsts (byte_text memory.now address) length) result (S.told sink.new) (S.faults sink.new) }
+    ensures { Puts (S.told sink.old) (S.faults sink.old) (texts_below (byte_text memory.now address) length) result (S.told sink.new) (S.faults sink.new) }
 {
     for i in 0..length {
         match put_byte(sink, memory, address, i) {
@@ -64,7 +64,7 @@ fn put_row<S: Sink>(sink: &mut S, memory: &Memory, address: u32, length: u32) ->
 fn put_line<S: Sink>(sink: &mut S, memory: &Memory, address: u32, length: u32, i: u32) -> Put
     requires ends { address + length ≤ 4_294_967_295 }
     requires inside { 16 * i < length }
-    ensures { Puts (S.told sink.old) (S.faults sink.old) (line_text memory.now address length i) result (S.told sink.new) (S.faults sink.new) }
+    ensures { Puts (S.told sink.old) (S.faults sink.old) (memory_line memory.now address length i) result (S.told sink.new) (S.faults sink.new) }
 {
     let done = ROW * i;
     put_row(sink, memory, address + done, ROW.min(length - done))

@@ -1,7 +1,7 @@
 // Where the version stands.
 ghost use Rattle.std.specs.Prelude.{◌≡◌};
 ghost use Rattle.nv_outside.specs.Sink.{Puts};
-ghost use Rattle.nv_inspect.specs.Shown.{end_text, place_text, head_text};
+ghost use Rattle.nv_inspect.specs.Shown.{standing_text, place_text, heading_text};
 
 use itoa::Buffer;
 use nv_outside::{Put, Sink, put_all, put_pieces};
@@ -27,7 +27,7 @@ fn put_place<S: Sink>(sink: &mut S, seen: u32, count: u32) -> Put
 
 /// How the version ended, or that it is in step.
 pub fn put_end<S: Sink>(sink: &mut S, fate: Option<Fate>) -> Put
-    ensures { Puts (S.told sink.old) (S.faults sink.old) (end_text fate) result (S.told sink.new) (S.faults sink.new) }
+    ensures { Puts (S.told sink.old) (S.faults sink.old) (standing_text fate) result (S.told sink.new) (S.faults sink.new) }
 {
     match fate {
         Some(fate) => put_fate(sink, fate),
@@ -37,7 +37,7 @@ pub fn put_end<S: Sink>(sink: &mut S, fate: Option<Fate>) -> Put
 
 /// The events seen, the instructions run, and the end.
 pub fn put_head<S: Sink>(sink: &mut S, seen: u32, count: u32, fate: Option<Fate>) -> Put
-    ensures { Puts (S.told sink.old) (S.faults sink.old) (head_text seen count fate) result (S.told sink.new) (S.faults sink.new) }
+    ensures { Puts (S.told sink.old) (S.faults sink.old) (heading_text seen count fate) result (S.told sink.new) (S.faults sink.new) }
 {
     match put_place(sink, seen, count) {
         Put::Whole => {}

@@ -2,7 +2,7 @@
 ghost use Rattle.std.specs.Prelude.{◌≡◌, ◌<◌, Contains};
 ghost use Rattle.nv_outside.specs.Sink.{Puts};
 ghost use Rattle.nv_guest.specs.Threads.{tids};
-ghost use Rattle.nv_inspect.specs.Firsts.{firsts};
+ghost use Rattle.nv_inspect.specs.Firsts.{texts_below};
 ghost use Rattle.nv_inspect.specs.Shown.{word_text, register_text, registers_text, counter_text, thread_text, live_text, threads_text};
 
 use itoa::Buffer;
@@ -30,7 +30,7 @@ fn put_register<S: Sink>(sink: &mut S, regs: &Regs, n: u8) -> Put
 }
 
 fn put_each_register<S: Sink>(sink: &mut S, regs: &Regs) -> Put
-    ensures { Puts (S.told sink.old) (S.faults sink.old) (firsts (register_text regs.now) 32) result (S.told sink.new) (S.faults sink.new) }
+    ensures { Puts (S.told sink.old) (S.faults sink.old) (texts_below (register_text regs.now) 32) result (S.told sink.new) (S.faults sink.new) }
 {
     for n in 0..32 {
         match put_register(sink, regs, n) {

@@ -9,23 +9,23 @@ use Rattle.nv_isa.specs.declared.op.Op.{Op}
 use Rattle.nv_isa.specs.declared.op.Form.{Form}
 use Rattle.nv_isa.specs.declared.op.Form.TheVariants.{Register, Immediate, Shift, Store, Branch, Upper, Jump, Whole, Atomic, Reserve}
 use Rattle.nv_isa.specs.declared.op.Insn.{Insn}
-use Rattle.nv_isa.specs.Table.{Row, row, table, row_of, belongs, signed, insn_of, decoded}
-use Rattle.nv_isa.specs.Spelling.{low, InBits, FitsForm, Fits}
+use Rattle.nv_isa.specs.Table.{Encoding, encoding, encodings, row_of, belongs, signed_value, insn_of, decoded}
+use Rattle.nv_isa.specs.Spelling.{low_bits, InBits, FitsForm, HasWord}
 use Rattle.nv_isa.proofs.Signs.{low-signed_13, low-signed_21, low-signed_32}
-use Rattle.nv_isa.specs.Fields.{named, key_of}
+use Rattle.nv_isa.specs.inner.Fields.{encoding_named, key_of}
 use Rattle.nv_isa.proofs.Masks.{row_of-named}
 use Rattle.nv_isa.proofs.Inverse.{found, all_own}
 
-in_bits_12 : (n : ℕ) → n < 2 ^ 12 → InBits 12 (signed 12 n)
+in_bits_12 : (n : ℕ) → n < 2 ^ 12 → InBits 12 (signed_value 12 n)
 in_bits_12 n h = record { least = grind (arith, ints, nat_tests); most = grind (arith, ints, nat_tests) }
 
-in_bits_13 : (n : ℕ) → n < 2 ^ 13 → InBits 13 (signed 13 n)
+in_bits_13 : (n : ℕ) → n < 2 ^ 13 → InBits 13 (signed_value 13 n)
 in_bits_13 n h = record { least = grind (arith, ints, nat_tests); most = grind (arith, ints, nat_tests) }
 
-in_bits_21 : (n : ℕ) → n < 2 ^ 21 → InBits 21 (signed 21 n)
+in_bits_21 : (n : ℕ) → n < 2 ^ 21 → InBits 21 (signed_value 21 n)
 in_bits_21 n h = record { least = grind (arith, ints, nat_tests); most = grind (arith, ints, nat_tests) }
 
-in_bits_32 : (n : ℕ) → n < 2 ^ 32 → InBits 32 (signed 32 n)
+in_bits_32 : (n : ℕ) → n < 2 ^ 32 → InBits 32 (signed_value 32 n)
 in_bits_32 n h = record { least = grind (arith, ints, nat_tests); most = grind (arith, ints, nat_tests) }
 
 amount : (n : ℕ) → n < 32 → (pos 0 ≤ℤ pos n) × (pos n <ℤ pos 32)
@@ -34,14 +34,14 @@ amount n h = (grind (arith, ints), grind (arith, ints))
 flags : (n : ℕ) → n < 4 → (pos 0 ≤ℤ pos n) × (pos n <ℤ pos 4)
 flags n h = (grind (arith, ints), grind (arith, ints))
 
-even_13 : (n : ℕ) → n < 2 ^ 13 → n % 2 ≡ 0 → low 1 (signed 13 n) ≡ 0
-even_13 n h e = let m : low 13 (signed 13 n) ≡ n = low-signed_13 n h in omega arith
+even_13 : (n : ℕ) → n < 2 ^ 13 → n % 2 ≡ 0 → low_bits 1 (signed_value 13 n) ≡ 0
+even_13 n h e = let m : low_bits 13 (signed_value 13 n) ≡ n = low-signed_13 n h in omega arith
 
-even_21 : (n : ℕ) → n < 2 ^ 21 → n % 2 ≡ 0 → low 1 (signed 21 n) ≡ 0
-even_21 n h e = let m : low 21 (signed 21 n) ≡ n = low-signed_21 n h in omega arith
+even_21 : (n : ℕ) → n < 2 ^ 21 → n % 2 ≡ 0 → low_bits 1 (signed_value 21 n) ≡ 0
+even_21 n h e = let m : low_bits 21 (signed_value 21 n) ≡ n = low-signed_21 n h in omega arith
 
-round_32 : (n : ℕ) → n < 2 ^ 32 → n % 2 ^ 12 ≡ 0 → low 12 (signed 32 n) ≡ 0
-round_32 n h e = let m : low 32 (signed 32 n) ≡ n = low-signed_32 n h in omega arith
+round_32 : (n : ℕ) → n < 2 ^ 32 → n % 2 ^ 12 ≡ 0 → low_bits 12 (signed_value 32 n) ≡ 0
+round_32 n h e = let m : low_bits 32 (signed_value 32 n) ≡ n = low-signed_32 n h in omega arith
 
 abbrev IsRead : Form → Type 0
 IsRead f = (o : Op) (w : ℕ) → FitsForm f (insn_of o f w)
@@ -103,25 +103,25 @@ unfolding insn_of
 op_of_insn o f w = refl
 
 -- a decoded instruction fits
-pub decoded-fits : (w : ℕ) (i : Insn) → decoded w ≡ Some i → Fits i
+pub decoded-fits : (w : ℕ) (i : Insn) → decoded w ≡ Some i → HasWord i
 unfolding decoded row_of
 decoded-fits w i e = go (row_of w) refl e
   where
-    go : (o : Option Row) → row_of w ≡ o → option_map (λ (r : Row). insn_of r.op r.form w) o ≡ Some i → Fits i
+    go : (o : Option Encoding) → row_of w ≡ o → option_map (λ (r : Encoding). insn_of r.op r.form w) o ≡ Some i → HasWord i
     go None is h = (cc)
     go (Some r) is h =
-        let own : (belongs w r ≡ true) × (r ≡ row r.op) = found w table r all_own is in
-        let same : insn_of r.op (row r.op).form w ≡ i = ap (λ (x : Row). insn_of r.op x.form w) (sym own.1) ∙ (let s : insn_of r.op r.form w ≡ i = cc in s) in
-        let op : i.op ≡ r.op = sym (ap (λ (x : Insn). x.op) same) ∙ op_of_insn r.op (row r.op).form w in
-        subst (λ (o : Op). FitsForm (row o).form i) (sym op) (subst (λ (x : Insn). FitsForm (row r.op).form x) same (fits_form (row r.op).form r.op w))
+        let own : (belongs w r ≡ true) × (r ≡ encoding r.op) = found w encodings r all_own is in
+        let same : insn_of r.op (encoding r.op).form w ≡ i = ap (λ (x : Encoding). insn_of r.op x.form w) (sym own.1) ∙ (let s : insn_of r.op r.form w ≡ i = cc in s) in
+        let op : i.op ≡ r.op = sym (ap (λ (x : Insn). x.op) same) ∙ op_of_insn r.op (encoding r.op).form w in
+        subst (λ (o : Op). FitsForm (encoding o).form i) (sym op) (subst (λ (x : Insn). FitsForm (encoding r.op).form x) same (fits_form (encoding r.op).form r.op w))
 
 -- the form of a decoded instruction is that of its operation
-pub decoded-operation : (w : ℕ) → w < 2 ^ 32 → (k : Option (Op × Form)) → option_map key_of (named (bit_and w 127) (bit_and (w / 2 ^ 12) 7) (w / 2 ^ 25) w) ≡ k → decoded w ≡ option_map (λ (o : Op). insn_of o (row o).form w) (option_map (λ (x : Op × Form). x.0) k)
+pub decoded-operation : (w : ℕ) → w < 2 ^ 32 → (k : Option (Op × Form)) → option_map key_of (encoding_named (bit_and w 127) (bit_and (w / 2 ^ 12) 7) (w / 2 ^ 25) w) ≡ k → decoded w ≡ option_map (λ (o : Op). insn_of o (encoding o).form w) (option_map (λ (x : Op × Form). x.0) k)
 unfolding decoded row_of
 decoded-operation w b k e = go (row_of w) refl (rw (row_of-named w b) (rw (and_mask w 7, and_mask (w / 2 ^ 12) 3) at e))
   where
-    go : (o : Option Row) → row_of w ≡ o → option_map key_of o ≡ k → option_map (λ (r : Row). insn_of r.op r.form w) o ≡ option_map (λ (o : Op). insn_of o (row o).form w) (option_map (λ (x : Op × Form). x.0) k)
+    go : (o : Option Encoding) → row_of w ≡ o → option_map key_of o ≡ k → option_map (λ (r : Encoding). insn_of r.op r.form w) o ≡ option_map (λ (o : Op). insn_of o (encoding o).form w) (option_map (λ (x : Op × Form). x.0) k)
     go None is h = rw (← h) refl
     go (Some r) is h =
-        let own : (belongs w r ≡ true) × (r ≡ row r.op) = found w table r all_own is in
-        rw (← h) (ap (λ (x : Row). Some (insn_of r.op x.form w)) own.1)
+        let own : (belongs w r ≡ true) × (r ≡ encoding r.op) = found w encodings r all_own is in
+        rw (← h) (ap (λ (x : Encoding). Some (insn_of r.op x.form w)) own.1)

@@ -9,8 +9,8 @@ use Rattle.nv_isa.specs.declared.op.Op.TheVariants.{Lui}
 use Rattle.nv_isa.specs.declared.op.Form.{Form}
 use Rattle.nv_isa.specs.declared.op.Form.TheVariants.{Register, Immediate, Shift, Store, Branch, Upper, Jump, Whole, Atomic, Reserve}
 use Rattle.nv_isa.specs.declared.op.Insn.{Insn}
-use Rattle.nv_isa.specs.Table.{Row, row, table, row_of, belongs, signed, immediate, insn_of, rd_in, rs1_in, rs2_in, decoded}
-use Rattle.nv_isa.specs.Spelling.{low, FitsForm, spelled, encoded, Fits}
+use Rattle.nv_isa.specs.Table.{Encoding, encoding, encodings, row_of, belongs, signed_value, immediate, insn_of, rd_in, rs1_in, rs2_in, decoded}
+use Rattle.nv_isa.specs.Spelling.{low_bits, FitsForm, spelled, encoded, HasWord}
 use Rattle.nv_isa.proofs.Masks.{under_opcode, under_funct3, under_funct7, under_funct5, under_reserve, under_all, has_kind}
 use Rattle.nv_isa.proofs.Apart.{only_row}
 use Rattle.nv_isa.proofs.Signs.{low-signed_12, low-signed_13, low-signed_21, low-signed_32, signed-low_12, signed-low_13, signed-low_21, signed-low_32, low_5, low_2}
@@ -27,13 +27,13 @@ mask_of Whole = 0xffffffff
 mask_of Atomic = 0xf800707f
 mask_of Reserve = 0xf9f0707f
 
-pub mask-row : (o : Op) → (row o).mask ≡ mask_of (row o).form
-unfolding row
+pub mask-row : (o : Op) → (encoding o).mask ≡ mask_of (encoding o).form
+unfolding encoding
 mask-row Lui = refl
 mask-row _ = refl
 
-pub kind_of_row : (o : Op) → has_kind (mask_of (row o).form) (row o).value ≡ true
-unfolding row
+pub kind_of_row : (o : Op) → has_kind (mask_of (encoding o).form) (encoding o).value ≡ true
+unfolding encoding
 kind_of_row Lui = refl
 kind_of_row _ = refl
 
@@ -85,7 +85,7 @@ read_immediate : (v : ℕ) (i : Insn) → has_kind (mask_of Immediate) v ≡ tru
 read_immediate v i k b h =
     let v_is : v ≡ v / 2 ^ 12 % 2 ^ 3 * 2 ^ 12 + v % 2 ^ 7 = eqb-true _ _ k in
     let w : ℕ = v + spelled Immediate i in
-    let m : ℕ = low 12 i.imm in
+    let m : ℕ = low_bits 12 i.imm in
     let m_small : m < 2 ^ 12 = omega arith in
     let s : Six w (v % 2 ^ 7) i.rd (v / 2 ^ 12 % 2 ^ 3) i.rs1 (m % 2 ^ 5) (m / 2 ^ 5) =
     six w (v % 2 ^ 7) i.rd (v / 2 ^ 12 % 2 ^ 3) i.rs1 (m % 2 ^ 5) (m / 2 ^ 5) (omega arith) (omega arith) (omega arith) (omega arith) (omega arith) (omega arith) (omega arith) in
@@ -100,7 +100,7 @@ read_shift : (v : ℕ) (i : Insn) → has_kind (mask_of Shift) v ≡ true → v 
 read_shift v i k b h =
     let v_is : v ≡ v / 2 ^ 25 * 2 ^ 25 + (v / 2 ^ 12 % 2 ^ 3 * 2 ^ 12 + v % 2 ^ 7) = eqb-true _ _ k in
     let w : ℕ = v + spelled Shift i in
-    let m : ℕ = low 5 i.imm in
+    let m : ℕ = low_bits 5 i.imm in
     let m_small : m < 2 ^ 5 = omega arith in
     let s : Six w (v % 2 ^ 7) i.rd (v / 2 ^ 12 % 2 ^ 3) i.rs1 (m) (v / 2 ^ 25) =
     six w (v % 2 ^ 7) i.rd (v / 2 ^ 12 % 2 ^ 3) i.rs1 (m) (v / 2 ^ 25) (omega arith) (omega arith) (omega arith) (omega arith) (omega arith) (omega arith) (omega arith) in
@@ -114,7 +114,7 @@ read_store : (v : ℕ) (i : Insn) → has_kind (mask_of Store) v ≡ true → v 
 read_store v i k b h =
     let v_is : v ≡ v / 2 ^ 12 % 2 ^ 3 * 2 ^ 12 + v % 2 ^ 7 = eqb-true _ _ k in
     let w : ℕ = v + spelled Store i in
-    let m : ℕ = low 12 i.imm in
+    let m : ℕ = low_bits 12 i.imm in
     let m_small : m < 2 ^ 12 = omega arith in
     let s : Six w (v % 2 ^ 7) (m % 2 ^ 5) (v / 2 ^ 12 % 2 ^ 3) i.rs1 i.rs2 (m / 2 ^ 5) =
     six w (v % 2 ^ 7) (m % 2 ^ 5) (v / 2 ^ 12 % 2 ^ 3) i.rs1 i.rs2 (m / 2 ^ 5) (omega arith) (omega arith) (omega arith) (omega arith) (omega arith) (omega arith) (omega arith) in
@@ -129,7 +129,7 @@ read_branch : (v : ℕ) (i : Insn) → has_kind (mask_of Branch) v ≡ true → 
 read_branch v i k b h =
     let v_is : v ≡ v / 2 ^ 12 % 2 ^ 3 * 2 ^ 12 + v % 2 ^ 7 = eqb-true _ _ k in
     let w : ℕ = v + spelled Branch i in
-    let m : ℕ = low 13 i.imm in
+    let m : ℕ = low_bits 13 i.imm in
     let m_small : m < 2 ^ 13 = omega arith in
     let s : Six w (v % 2 ^ 7) (m / 2 ^ 11 % 2 + 2 * (m / 2 % 2 ^ 4)) (v / 2 ^ 12 % 2 ^ 3) i.rs1 i.rs2 (m / 2 ^ 5 % 2 ^ 6 + 2 ^ 6 * (m / 2 ^ 12)) =
     six w (v % 2 ^ 7) (m / 2 ^ 11 % 2 + 2 * (m / 2 % 2 ^ 4)) (v / 2 ^ 12 % 2 ^ 3) i.rs1 i.rs2 (m / 2 ^ 5 % 2 ^ 6 + 2 ^ 6 * (m / 2 ^ 12)) (omega arith) (omega arith) (omega arith) (omega arith) (omega arith) (omega arith) (omega arith) in
@@ -145,7 +145,7 @@ read_upper : (v : ℕ) (i : Insn) → has_kind (mask_of Upper) v ≡ true → v 
 read_upper v i k b h =
     let v_is : v ≡ v % 2 ^ 7 = eqb-true _ _ k in
     let w : ℕ = v + spelled Upper i in
-    let m : ℕ = low 32 i.imm in
+    let m : ℕ = low_bits 32 i.imm in
     let m_small : m < 2 ^ 32 = omega arith in
     let s : Six w (v % 2 ^ 7) i.rd (m / 2 ^ 12 % 2 ^ 3) (m / 2 ^ 15 % 2 ^ 5) (m / 2 ^ 20 % 2 ^ 5) (m / 2 ^ 25) =
     six w (v % 2 ^ 7) i.rd (m / 2 ^ 12 % 2 ^ 3) (m / 2 ^ 15 % 2 ^ 5) (m / 2 ^ 20 % 2 ^ 5) (m / 2 ^ 25) (omega arith) (omega arith) (omega arith) (omega arith) (omega arith) (omega arith) (omega arith) in
@@ -161,7 +161,7 @@ read_jump : (v : ℕ) (i : Insn) → has_kind (mask_of Jump) v ≡ true → v < 
 read_jump v i k b h =
     let v_is : v ≡ v % 2 ^ 7 = eqb-true _ _ k in
     let w : ℕ = v + spelled Jump i in
-    let m : ℕ = low 21 i.imm in
+    let m : ℕ = low_bits 21 i.imm in
     let m_small : m < 2 ^ 21 = omega arith in
     let s : Six w (v % 2 ^ 7) i.rd (m / 2 ^ 12 % 2 ^ 3) (m / 2 ^ 15 % 2 ^ 5) (m / 2 ^ 11 % 2 + 2 * (m / 2 % 2 ^ 4)) (m / 2 ^ 5 % 2 ^ 6 + 2 ^ 6 * (m / 2 ^ 20)) =
     six w (v % 2 ^ 7) i.rd (m / 2 ^ 12 % 2 ^ 3) (m / 2 ^ 15 % 2 ^ 5) (m / 2 ^ 11 % 2 + 2 * (m / 2 % 2 ^ 4)) (m / 2 ^ 5 % 2 ^ 6 + 2 ^ 6 * (m / 2 ^ 20)) (omega arith) (omega arith) (omega arith) (omega arith) (omega arith) (omega arith) (omega arith) in
@@ -184,7 +184,7 @@ read_atomic : (v : ℕ) (i : Insn) → has_kind (mask_of Atomic) v ≡ true → 
 read_atomic v i k b h =
     let v_is : v ≡ v / 2 ^ 27 * 2 ^ 27 + (v / 2 ^ 12 % 2 ^ 3 * 2 ^ 12 + v % 2 ^ 7) = eqb-true _ _ k in
     let w : ℕ = v + spelled Atomic i in
-    let m : ℕ = low 2 i.imm in
+    let m : ℕ = low_bits 2 i.imm in
     let m_small : m < 2 ^ 2 = omega arith in
     let s : Six w (v % 2 ^ 7) i.rd (v / 2 ^ 12 % 2 ^ 3) i.rs1 i.rs2 (v / 2 ^ 27 * 2 ^ 2 + m) =
     six w (v % 2 ^ 7) i.rd (v / 2 ^ 12 % 2 ^ 3) i.rs1 i.rs2 (v / 2 ^ 27 * 2 ^ 2 + m) (omega arith) (omega arith) (omega arith) (omega arith) (omega arith) (omega arith) (omega arith) in
@@ -200,7 +200,7 @@ read_reserve : (v : ℕ) (i : Insn) → has_kind (mask_of Reserve) v ≡ true �
 read_reserve v i k b h =
     let v_is : v ≡ v / 2 ^ 27 * 2 ^ 27 + (v / 2 ^ 12 % 2 ^ 3 * 2 ^ 12 + v % 2 ^ 7) = eqb-true _ _ k in
     let w : ℕ = v + spelled Reserve i in
-    let m : ℕ = low 2 i.imm in
+    let m : ℕ = low_bits 2 i.imm in
     let m_small : m < 2 ^ 2 = omega arith in
     let s : Six w (v % 2 ^ 7) i.rd (v / 2 ^ 12 % 2 ^ 3) i.rs1 0 (v / 2 ^ 27 * 2 ^ 2 + m) =
     six w (v % 2 ^ 7) i.rd (v / 2 ^ 12 % 2 ^ 3) i.rs1 0 (v / 2 ^ 27 * 2 ^ 2 + m) (omega arith) (omega arith) (omega arith) (omega arith) (omega arith) (omega arith) (omega arith) in
@@ -224,36 +224,36 @@ read_back Whole = read_whole
 read_back Atomic = read_atomic
 read_back Reserve = read_reserve
 
-small : (o : Op) → (row o).value < 2 ^ 32
-unfolding row
+small : (o : Op) → (encoding o).value < 2 ^ 32
+unfolding encoding
 small Lui = lit< tt
 small _ = lit< tt
 
-pub of_row : (i : Insn) → Fits i → ReadBack (row i.op).form (row i.op).value i
-of_row i h = read_back (row i.op).form (row i.op).value i (kind_of_row i.op) (small i.op) h
+pub of_row : (i : Insn) → HasWord i → ReadBack (encoding i.op).form (encoding i.op).value i
+of_row i h = read_back (encoding i.op).form (encoding i.op).value i (kind_of_row i.op) (small i.op) h
 
-pub encoded-lt : (i : Insn) → Fits i → (row i.op).value + spelled (row i.op).form i < 2 ^ 32
+pub encoded-lt : (i : Insn) → HasWord i → (encoding i.op).value + spelled (encoding i.op).form i < 2 ^ 32
 encoded-lt i h = (of_row i h).bound
 
-pub op_of_row : (o : Op) → (row o).op ≡ o
-unfolding row
+pub op_of_row : (o : Op) → (encoding o).op ≡ o
+unfolding encoding
 op_of_row Lui = refl
 op_of_row _ = refl
 
 -- what is encoded is read again
-pub decoded-encoded : (i : Insn) → Fits i → decoded (encoded i) ≡ Some i
+pub decoded-encoded : (i : Insn) → HasWord i → decoded (encoded i) ≡ Some i
 unfolding encoded decoded
 decoded-encoded i h =
-    let w : ℕ = (row i.op).value + spelled (row i.op).form i in
-    let back : ReadBack (row i.op).form (row i.op).value i = of_row i h in
-    let b : belongs w (row i.op) ≡ true = eq-eqb _ _ (rw (mask-row i.op) back.under) in
+    let w : ℕ = (encoding i.op).value + spelled (encoding i.op).form i in
+    let back : ReadBack (encoding i.op).form (encoding i.op).value i = of_row i h in
+    let b : belongs w (encoding i.op) ≡ true = eq-eqb _ _ (rw (mask-row i.op) back.under) in
     rw (only_row w i.op b, op_of_row i.op) (ap (λ (x : Insn). Some x) back.read)
 
 -- the word that an instruction was read from is its word
 abbrev WrittenBack : Form → Type 0
 WrittenBack f = (o : Op) (w v : ℕ) → w < 2 ^ 32 → bit_and w (mask_of f) ≡ v → v + spelled f (insn_of o f w) ≡ w
 
-low-low : (z : ℤ) (m : ℕ) → low 12 z ≡ m → low 5 z ≡ m % 2 ^ 5
+low-low : (z : ℤ) (m : ℕ) → low_bits 12 z ≡ m → low_bits 5 z ≡ m % 2 ^ 5
 low-low z m e = omega arith
 
 write_register : WrittenBack Register
@@ -275,7 +275,7 @@ write_immediate : WrittenBack Immediate
 unfolding insn_of
 write_immediate o w v b e =
     let n : ℕ = w / 2 ^ 20 % 2 ^ 12 in
-    let m : low 12 (signed 12 n) ≡ n = low-signed_12 n (omega arith) in
+    let m : low_bits 12 (signed_value 12 n) ≡ n = low-signed_12 n (omega arith) in
     let u : v ≡ w / 2 ^ 12 % 2 ^ 3 * 2 ^ 12 + w % 2 ^ 7 = sym e ∙ under_funct3 w in
     omega arith
 
@@ -283,8 +283,8 @@ write_store : WrittenBack Store
 unfolding insn_of
 write_store o w v b e =
     let n : ℕ = 2 ^ 5 * (w / 2 ^ 25 % 2 ^ 7) + w / 2 ^ 7 % 2 ^ 5 in
-    let m : low 12 (signed 12 n) ≡ n = low-signed_12 n (omega arith) in
-    let m5 : low 5 (signed 12 n) ≡ n % 2 ^ 5 = low-low (signed 12 n) n m in
+    let m : low_bits 12 (signed_value 12 n) ≡ n = low-signed_12 n (omega arith) in
+    let m5 : low_bits 5 (signed_value 12 n) ≡ n % 2 ^ 5 = low-low (signed_value 12 n) n m in
     let u : v ≡ w / 2 ^ 12 % 2 ^ 3 * 2 ^ 12 + w % 2 ^ 7 = sym e ∙ under_funct3 w in
     omega arith
 
@@ -292,7 +292,7 @@ write_branch : WrittenBack Branch
 unfolding insn_of
 write_branch o w v b e =
     let n : ℕ = 2 ^ 12 * (w / 2 ^ 31 % 2 ^ 1) + 2 ^ 11 * (w / 2 ^ 7 % 2 ^ 1) + 2 ^ 5 * (w / 2 ^ 25 % 2 ^ 6) + 2 * (w / 2 ^ 8 % 2 ^ 4) in
-    let m : low 13 (signed 13 n) ≡ n = low-signed_13 n (omega arith) in
+    let m : low_bits 13 (signed_value 13 n) ≡ n = low-signed_13 n (omega arith) in
     let u : v ≡ w / 2 ^ 12 % 2 ^ 3 * 2 ^ 12 + w % 2 ^ 7 = sym e ∙ under_funct3 w in
     omega arith
 
@@ -300,7 +300,7 @@ write_upper : WrittenBack Upper
 unfolding insn_of
 write_upper o w v b e =
     let n : ℕ = 2 ^ 12 * (w / 2 ^ 12 % 2 ^ 20) in
-    let m : low 32 (signed 32 n) ≡ n = low-signed_32 n (omega arith) in
+    let m : low_bits 32 (signed_value 32 n) ≡ n = low-signed_32 n (omega arith) in
     let u : v ≡ w % 2 ^ 7 = sym e ∙ under_opcode w in
     omega arith
 
@@ -308,7 +308,7 @@ write_jump : WrittenBack Jump
 unfolding insn_of
 write_jump o w v b e =
     let n : ℕ = 2 ^ 20 * (w / 2 ^ 31 % 2 ^ 1) + 2 ^ 12 * (w / 2 ^ 12 % 2 ^ 8) + 2 ^ 11 * (w / 2 ^ 20 % 2 ^ 1) + 2 * (w / 2 ^ 21 % 2 ^ 10) in
-    let m : low 21 (signed 21 n) ≡ n = low-signed_21 n (omega arith) in
+    let m : low_bits 21 (signed_value 21 n) ≡ n = low-signed_21 n (omega arith) in
     let u : v ≡ w % 2 ^ 7 = sym e ∙ under_opcode w in
     omega arith
 
@@ -337,14 +337,14 @@ write_back Atomic = write_atomic
 write_back Reserve = write_reserve
 
 -- each row of the table is that of its operation
-abbrev pub IsOwn : Row → Type 0
-IsOwn r = r ≡ row r.op
+abbrev pub IsOwn : Encoding → Type 0
+IsOwn r = r ≡ encoding r.op
 
-pub all_own : AllByRecursion IsOwn table
-unfolding table row
+pub all_own : AllByRecursion IsOwn encodings
+unfolding encodings encoding
 all_own = (refl, (refl, (refl, (refl, (refl, (refl, (refl, (refl, (refl, (refl, (refl, (refl, (refl, (refl, (refl, (refl, (refl, (refl, (refl, (refl, (refl, (refl, (refl, (refl, (refl, (refl, (refl, (refl, (refl, (refl, (refl, (refl, (refl, (refl, (refl, (refl, (refl, (refl, (refl, (refl, (refl, (refl, (refl, (refl, (refl, (refl, (refl, (refl, (refl, (refl, (refl, (refl, (refl, (refl, (refl, (refl, (refl, (refl, (refl, tt)))))))))))))))))))))))))))))))))))))))))))))))))))))))))))
 
-pub found : (w : ℕ) (rs : List Row) (r : Row) → AllByRecursion IsOwn rs → find (belongs w) rs ≡ Some r → (belongs w r ≡ true) × (r ≡ row r.op)
+pub found : (w : ℕ) (rs : List Encoding) (r : Encoding) → AllByRecursion IsOwn rs → find (belongs w) rs ≡ Some r → (belongs w r ≡ true) × (r ≡ encoding r.op)
 found w [] r all e = (cc)
 found w (x ∷ xs) r all e = elim (cases_Bool (belongs w x)) [
   | inl is_in ↦
@@ -358,18 +358,18 @@ pub encoded-decoded : (w : ℕ) (i : Insn) → w < 2 ^ 32 → decoded w ≡ Some
 unfolding decoded row_of encoded insn_of
 encoded-decoded w i b e = go (row_of w) refl e
   where
-    go : (o : Option Row) → row_of w ≡ o → option_map (λ (r : Row). insn_of r.op r.form w) o ≡ Some i → encoded i ≡ w
+    go : (o : Option Encoding) → row_of w ≡ o → option_map (λ (r : Encoding). insn_of r.op r.form w) o ≡ Some i → encoded i ≡ w
     go None is h = (cc)
     go (Some r) is h =
-        let own : (belongs w r ≡ true) × (r ≡ row r.op) = found w table r all_own is in
+        let own : (belongs w r ≡ true) × (r ≡ encoding r.op) = found w encodings r all_own is in
         let same : insn_of r.op r.form w ≡ i = cc in
-        let b2 : belongs w (row r.op) ≡ true = subst (λ (x : Row). belongs w x ≡ true) own.1 own.0 in
-        let under : bit_and w (mask_of (row r.op).form) ≡ (row r.op).value = rw (← mask-row r.op) (eqb-true _ _ b2) in
-        let same2 : insn_of r.op (row r.op).form w ≡ i = ap (λ (x : Row). insn_of r.op x.form w) (sym own.1) ∙ same in
-        rw (← same2) (write_back (row r.op).form r.op w (row r.op).value b under)
+        let b2 : belongs w (encoding r.op) ≡ true = subst (λ (x : Encoding). belongs w x ≡ true) own.1 own.0 in
+        let under : bit_and w (mask_of (encoding r.op).form) ≡ (encoding r.op).value = rw (← mask-row r.op) (eqb-true _ _ b2) in
+        let same2 : insn_of r.op (encoding r.op).form w ≡ i = ap (λ (x : Encoding). insn_of r.op x.form w) (sym own.1) ∙ same in
+        rw (← same2) (write_back (encoding r.op).form r.op w (encoding r.op).value b under)
 
-pub one_row : (word : ℕ) (a b : Op) → belongs word (row a) ≡ true → belongs word (row b) ≡ true → a ≡ b
+pub one_row : (word : ℕ) (a b : Op) → belongs word (encoding a) ≡ true → belongs word (encoding b) ≡ true → a ≡ b
 one_row word a b in_a in_b =
-    let e : Some (row a) ≡ Some (row b) = sym (only_row word a in_a) ∙ only_row word b in_b in
-    let f : row a ≡ row b = cc in
-    sym (op_of_row a) ∙ ap (λ (r : Row). r.op) f ∙ op_of_row b
+    let e : Some (encoding a) ≡ Some (encoding b) = sym (only_row word a in_a) ∙ only_row word b in_b in
+    let f : encoding a ≡ encoding b = cc in
+    sym (op_of_row a) ∙ ap (λ (r : Encoding). r.op) f ∙ op_of_row b

@@ -9,127 +9,127 @@ use Rattle.nv_isa.specs.declared.op.Form.TheVariants.{Register, Immediate, Shift
 use Rattle.nv_isa.specs.declared.op.Insn.{Insn}
 
 -- one line of the manual's listing: the bits that are given, their values, where the other bits go, and what it does
-pub record Row : Type 0 where
+pub record Encoding : Type 0 where
   pub mask : ℕ
   pub value : ℕ
   pub form : Form
   pub op : Op
 
 -- a row of four columns
-abbrev pub with_op : Op → ℕ → ℕ → Form → Row
+abbrev pub with_op : Op → ℕ → ℕ → Form → Encoding
 with_op o m v f = record { mask = m; value = v; form = f; op = o }
 
 -- the row of each operation: mask, value, form
-unfoldable pub row : Op → Row
-row Lui = with_op Lui 0x7f 0x37 Upper
-row Auipc = with_op Auipc 0x7f 0x17 Upper
-row Jal = with_op Jal 0x7f 0x6f Jump
-row Jalr = with_op Jalr 0x707f 0x67 Immediate
-row Beq = with_op Beq 0x707f 0x63 Branch
-row Bne = with_op Bne 0x707f 0x1063 Branch
-row Blt = with_op Blt 0x707f 0x4063 Branch
-row Bge = with_op Bge 0x707f 0x5063 Branch
-row Bltu = with_op Bltu 0x707f 0x6063 Branch
-row Bgeu = with_op Bgeu 0x707f 0x7063 Branch
-row Lb = with_op Lb 0x707f 0x3 Immediate
-row Lh = with_op Lh 0x707f 0x1003 Immediate
-row Lw = with_op Lw 0x707f 0x2003 Immediate
-row Lbu = with_op Lbu 0x707f 0x4003 Immediate
-row Lhu = with_op Lhu 0x707f 0x5003 Immediate
-row Sb = with_op Sb 0x707f 0x23 Store
-row Sh = with_op Sh 0x707f 0x1023 Store
-row Sw = with_op Sw 0x707f 0x2023 Store
-row Addi = with_op Addi 0x707f 0x13 Immediate
-row Slti = with_op Slti 0x707f 0x2013 Immediate
-row Sltiu = with_op Sltiu 0x707f 0x3013 Immediate
-row Xori = with_op Xori 0x707f 0x4013 Immediate
-row Ori = with_op Ori 0x707f 0x6013 Immediate
-row Andi = with_op Andi 0x707f 0x7013 Immediate
-row Slli = with_op Slli 0xfe00707f 0x1013 Shift
-row Srli = with_op Srli 0xfe00707f 0x5013 Shift
-row Srai = with_op Srai 0xfe00707f 0x40005013 Shift
-row Add = with_op Add 0xfe00707f 0x33 Register
-row Sub = with_op Sub 0xfe00707f 0x40000033 Register
-row Sll = with_op Sll 0xfe00707f 0x1033 Register
-row Slt = with_op Slt 0xfe00707f 0x2033 Register
-row Sltu = with_op Sltu 0xfe00707f 0x3033 Register
-row Xor = with_op Xor 0xfe00707f 0x4033 Register
-row Srl = with_op Srl 0xfe00707f 0x5033 Register
-row Sra = with_op Sra 0xfe00707f 0x40005033 Register
-row Or = with_op Or 0xfe00707f 0x6033 Register
-row And = with_op And 0xfe00707f 0x7033 Register
-row Fence = with_op Fence 0x707f 0xf Immediate
-row Ecall = with_op Ecall 0xffffffff 0x73 Whole
-row Ebreak = with_op Ebreak 0xffffffff 0x100073 Whole
-row Mul = with_op Mul 0xfe00707f 0x2000033 Register
-row Mulh = with_op Mulh 0xfe00707f 0x2001033 Register
-row Mulhsu = with_op Mulhsu 0xfe00707f 0x2002033 Register
-row Mulhu = with_op Mulhu 0xfe00707f 0x2003033 Register
-row Div = with_op Div 0xfe00707f 0x2004033 Register
-row Divu = with_op Divu 0xfe00707f 0x2005033 Register
-row Rem = with_op Rem 0xfe00707f 0x2006033 Register
-row Remu = with_op Remu 0xfe00707f 0x2007033 Register
-row LoadReserved = with_op LoadReserved 0xf9f0707f 0x1000202f Reserve
-row StoreConditional = with_op StoreConditional 0xf800707f 0x1800202f Atomic
-row AmoSwap = with_op AmoSwap 0xf800707f 0x800202f Atomic
-row AmoAdd = with_op AmoAdd 0xf800707f 0x202f Atomic
-row AmoXor = with_op AmoXor 0xf800707f 0x2000202f Atomic
-row AmoAnd = with_op AmoAnd 0xf800707f 0x6000202f Atomic
-row AmoOr = with_op AmoOr 0xf800707f 0x4000202f Atomic
-row AmoMin = with_op AmoMin 0xf800707f 0x8000202f Atomic
-row AmoMax = with_op AmoMax 0xf800707f 0xa000202f Atomic
-row AmoMinu = with_op AmoMinu 0xf800707f 0xc000202f Atomic
-row AmoMaxu = with_op AmoMaxu 0xf800707f 0xe000202f Atomic
+unfoldable pub encoding : Op → Encoding
+encoding Lui = with_op Lui 0x7f 0x37 Upper
+encoding Auipc = with_op Auipc 0x7f 0x17 Upper
+encoding Jal = with_op Jal 0x7f 0x6f Jump
+encoding Jalr = with_op Jalr 0x707f 0x67 Immediate
+encoding Beq = with_op Beq 0x707f 0x63 Branch
+encoding Bne = with_op Bne 0x707f 0x1063 Branch
+encoding Blt = with_op Blt 0x707f 0x4063 Branch
+encoding Bge = with_op Bge 0x707f 0x5063 Branch
+encoding Bltu = with_op Bltu 0x707f 0x6063 Branch
+encoding Bgeu = with_op Bgeu 0x707f 0x7063 Branch
+encoding Lb = with_op Lb 0x707f 0x3 Immediate
+encoding Lh = with_op Lh 0x707f 0x1003 Immediate
+encoding Lw = with_op Lw 0x707f 0x2003 Immediate
+encoding Lbu = with_op Lbu 0x707f 0x4003 Immediate
+encoding Lhu = with_op Lhu 0x707f 0x5003 Immediate
+encoding Sb = with_op Sb 0x707f 0x23 Store
+encoding Sh = with_op Sh 0x707f 0x1023 Store
+encoding Sw = with_op Sw 0x707f 0x2023 Store
+encoding Addi = with_op Addi 0x707f 0x13 Immediate
+encoding Slti = with_op Slti 0x707f 0x2013 Immediate
+encoding Sltiu = with_op Sltiu 0x707f 0x3013 Immediate
+encoding Xori = with_op Xori 0x707f 0x4013 Immediate
+encoding Ori = with_op Ori 0x707f 0x6013 Immediate
+encoding Andi = with_op Andi 0x707f 0x7013 Immediate
+encoding Slli = with_op Slli 0xfe00707f 0x1013 Shift
+encoding Srli = with_op Srli 0xfe00707f 0x5013 Shift
+encoding Srai = with_op Srai 0xfe00707f 0x40005013 Shift
+encoding Add = with_op Add 0xfe00707f 0x33 Register
+encoding Sub = with_op Sub 0xfe00707f 0x40000033 Register
+encoding Sll = with_op Sll 0xfe00707f 0x1033 Register
+encoding Slt = with_op Slt 0xfe00707f 0x2033 Register
+encoding Sltu = with_op Sltu 0xfe00707f 0x3033 Register
+encoding Xor = with_op Xor 0xfe00707f 0x4033 Register
+encoding Srl = with_op Srl 0xfe00707f 0x5033 Register
+encoding Sra = with_op Sra 0xfe00707f 0x40005033 Register
+encoding Or = with_op Or 0xfe00707f 0x6033 Register
+encoding And = with_op And 0xfe00707f 0x7033 Register
+encoding Fence = with_op Fence 0x707f 0xf Immediate
+encoding Ecall = with_op Ecall 0xffffffff 0x73 Whole
+encoding Ebreak = with_op Ebreak 0xffffffff 0x100073 Whole
+encoding Mul = with_op Mul 0xfe00707f 0x2000033 Register
+encoding Mulh = with_op Mulh 0xfe00707f 0x2001033 Register
+encoding Mulhsu = with_op Mulhsu 0xfe00707f 0x2002033 Register
+encoding Mulhu = with_op Mulhu 0xfe00707f 0x2003033 Register
+encoding Div = with_op Div 0xfe00707f 0x2004033 Register
+encoding Divu = with_op Divu 0xfe00707f 0x2005033 Register
+encoding Rem = with_op Rem 0xfe00707f 0x2006033 Register
+encoding Remu = with_op Remu 0xfe00707f 0x2007033 Register
+encoding LoadReserved = with_op LoadReserved 0xf9f0707f 0x1000202f Reserve
+encoding StoreConditional = with_op StoreConditional 0xf800707f 0x1800202f Atomic
+encoding AmoSwap = with_op AmoSwap 0xf800707f 0x800202f Atomic
+encoding AmoAdd = with_op AmoAdd 0xf800707f 0x202f Atomic
+encoding AmoXor = with_op AmoXor 0xf800707f 0x2000202f Atomic
+encoding AmoAnd = with_op AmoAnd 0xf800707f 0x6000202f Atomic
+encoding AmoOr = with_op AmoOr 0xf800707f 0x4000202f Atomic
+encoding AmoMin = with_op AmoMin 0xf800707f 0x8000202f Atomic
+encoding AmoMax = with_op AmoMax 0xf800707f 0xa000202f Atomic
+encoding AmoMinu = with_op AmoMinu 0xf800707f 0xc000202f Atomic
+encoding AmoMaxu = with_op AmoMaxu 0xf800707f 0xe000202f Atomic
 
 -- all rows
-unfoldable pub table : List Row
-table =
-    row Lui ∷ row Auipc ∷ row Jal ∷ row Jalr ∷ row Beq ∷ row Bne ∷ row Blt ∷ row Bge ∷
-    row Bltu ∷ row Bgeu ∷ row Lb ∷ row Lh ∷ row Lw ∷ row Lbu ∷ row Lhu ∷ row Sb ∷ row Sh ∷
-    row Sw ∷ row Addi ∷ row Slti ∷ row Sltiu ∷ row Xori ∷ row Ori ∷ row Andi ∷ row Slli ∷
-    row Srli ∷ row Srai ∷ row Add ∷ row Sub ∷ row Sll ∷ row Slt ∷ row Sltu ∷ row Xor ∷
-    row Srl ∷ row Sra ∷ row Or ∷ row And ∷ row Fence ∷ row Ecall ∷ row Ebreak ∷
-    row Mul ∷ row Mulh ∷ row Mulhsu ∷ row Mulhu ∷ row Div ∷ row Divu ∷ row Rem ∷ row Remu ∷
-    row LoadReserved ∷ row StoreConditional ∷ row AmoSwap ∷ row AmoAdd ∷ row AmoXor ∷ row AmoAnd ∷ row AmoOr ∷
-    row AmoMin ∷ row AmoMax ∷ row AmoMinu ∷ row AmoMaxu ∷ []
+unfoldable pub encodings : List Encoding
+encodings =
+    encoding Lui ∷ encoding Auipc ∷ encoding Jal ∷ encoding Jalr ∷ encoding Beq ∷ encoding Bne ∷ encoding Blt ∷ encoding Bge ∷
+    encoding Bltu ∷ encoding Bgeu ∷ encoding Lb ∷ encoding Lh ∷ encoding Lw ∷ encoding Lbu ∷ encoding Lhu ∷ encoding Sb ∷ encoding Sh ∷
+    encoding Sw ∷ encoding Addi ∷ encoding Slti ∷ encoding Sltiu ∷ encoding Xori ∷ encoding Ori ∷ encoding Andi ∷ encoding Slli ∷
+    encoding Srli ∷ encoding Srai ∷ encoding Add ∷ encoding Sub ∷ encoding Sll ∷ encoding Slt ∷ encoding Sltu ∷ encoding Xor ∷
+    encoding Srl ∷ encoding Sra ∷ encoding Or ∷ encoding And ∷ encoding Fence ∷ encoding Ecall ∷ encoding Ebreak ∷
+    encoding Mul ∷ encoding Mulh ∷ encoding Mulhsu ∷ encoding Mulhu ∷ encoding Div ∷ encoding Divu ∷ encoding Rem ∷ encoding Remu ∷
+    encoding LoadReserved ∷ encoding StoreConditional ∷ encoding AmoSwap ∷ encoding AmoAdd ∷ encoding AmoXor ∷ encoding AmoAnd ∷ encoding AmoOr ∷
+    encoding AmoMin ∷ encoding AmoMax ∷ encoding AmoMinu ∷ encoding AmoMaxu ∷ []
 
 -- a word belongs to a row where the word under the mask is the row's value
-abbrev pub belongs : ℕ → Row → Bool
+abbrev pub belongs : ℕ → Encoding → Bool
 belongs word r = bit_and word r.mask == r.value
 
 -- the row that the word belongs to
-unfoldable pub row_of : ℕ → Option Row
-row_of word = find (belongs word) table
+unfoldable pub row_of : ℕ → Option Encoding
+row_of word = find (belongs word) encodings
 
 -- bits high to low of a word
-abbrev pub field : ℕ → ℕ → ℕ → ℕ
-field word high low = word / 2 ^ low % 2 ^ (high + 1 - low)
+abbrev pub bits : ℕ → ℕ → ℕ → ℕ
+bits word high low = word / 2 ^ low % 2 ^ (high + 1 - low)
 
 -- a number of k bits, with its top bit as the sign
-abbrev pub signed : ℕ → ℕ → ℤ
-signed k n = if nat_lt n (2 ^ (k - 1)) then pos n else pos n -ℤ pos (2 ^ k)
+abbrev pub signed_value : ℕ → ℕ → ℤ
+signed_value k n = if nat_lt n (2 ^ (k - 1)) then pos n else pos n -ℤ pos (2 ^ k)
 
 abbrev pub rd_of : ℕ → ℕ
-rd_of word = field word 11 7
+rd_of word = bits word 11 7
 
 abbrev pub rs1_of : ℕ → ℕ
-rs1_of word = field word 19 15
+rs1_of word = bits word 19 15
 
 abbrev pub rs2_of : ℕ → ℕ
-rs2_of word = field word 24 20
+rs2_of word = bits word 24 20
 
 -- the immediate of each form
 abbrev pub immediate : Form → ℕ → ℤ
 immediate Register word = pos 0
-immediate Immediate word = signed 12 (field word 31 20)
-immediate Shift word = pos (field word 24 20)
-immediate Store word = signed 12 (2 ^ 5 * field word 31 25 + field word 11 7)
-immediate Branch word = signed 13 (2 ^ 12 * field word 31 31 + 2 ^ 11 * field word 7 7 + 2 ^ 5 * field word 30 25 + 2 * field word 11 8)
-immediate Upper word = signed 32 (2 ^ 12 * field word 31 12)
-immediate Jump word = signed 21 (2 ^ 20 * field word 31 31 + 2 ^ 12 * field word 19 12 + 2 ^ 11 * field word 20 20 + 2 * field word 30 21)
+immediate Immediate word = signed_value 12 (bits word 31 20)
+immediate Shift word = pos (bits word 24 20)
+immediate Store word = signed_value 12 (2 ^ 5 * bits word 31 25 + bits word 11 7)
+immediate Branch word = signed_value 13 (2 ^ 12 * bits word 31 31 + 2 ^ 11 * bits word 7 7 + 2 ^ 5 * bits word 30 25 + 2 * bits word 11 8)
+immediate Upper word = signed_value 32 (2 ^ 12 * bits word 31 12)
+immediate Jump word = signed_value 21 (2 ^ 20 * bits word 31 31 + 2 ^ 12 * bits word 19 12 + 2 ^ 11 * bits word 20 20 + 2 * bits word 30 21)
 immediate Whole word = pos 0
-immediate Atomic word = pos (field word 26 25)
-immediate Reserve word = pos (field word 26 25)
+immediate Atomic word = pos (bits word 26 25)
+immediate Reserve word = pos (bits word 26 25)
 
 -- the registers of each form, 0 where the form has none
 abbrev pub rd_in : Form → ℕ → ℕ

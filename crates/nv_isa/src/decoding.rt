@@ -1,9 +1,9 @@
 // Reads a word as an instruction: the operation by opcode, funct3 and funct7, then the fields by the form.
 ghost use Rattle.std.specs.Prelude.{◌≡◌, ℕ, ◌/◌, ◌%◌, ◌^◌, ◌<◌, ◌*◌, ◌+◌, ℤ, IfSome};
 ghost use Rattle.std.specs.Option.{option_map};
-ghost use Rattle.nv_isa.specs.Table.{decoded, insn_of, row, row_of};
-ghost use Rattle.nv_isa.specs.Fields.{named, key_of};
-ghost use Rattle.nv_isa.specs.Spelling.{Fits, FitsForm, HasSmallRegisters};
+ghost use Rattle.nv_isa.specs.Table.{decoded, insn_of, encoding, row_of};
+ghost use Rattle.nv_isa.specs.inner.Fields.{encoding_named, key_of};
+ghost use Rattle.nv_isa.specs.Spelling.{HasWord, FitsForm, HasSmallRegisters};
 
 use crate::fields::{immediate, rd, rs1, rs2};
 use crate::op::{Form, Insn, Op};
@@ -11,7 +11,7 @@ use crate::op::{Form, Insn, Op};
 /// The instruction that the word spells. `None`: it belongs to no row of the table.
 pub fn decode(word: u32) -> Option<Insn>
     ensures row { result ≡ decoded word }
-    ensures fits { IfSome result Fits }
+    ensures fits { IfSome result HasWord }
     ensures registers { IfSome result HasSmallRegisters }
 {
     let (op, form) = key(word & 127, word >> 12 & 7, word >> 25, word)?;
@@ -21,15 +21,15 @@ pub fn decode(word: u32) -> Option<Insn>
 /// The operation of the instruction that the word spells: with it the fields can be read one by one, from where its form has
 /// them. `None`: the word belongs to no row of the table.
 pub fn operation(word: u32) -> Option<Op>
-    ensures { decoded word ≡ option_map (λ op. insn_of op (row op).form word) result }
+    ensures { decoded word ≡ option_map (λ op. insn_of op (encoding op).form word) result }
 {
     let (op, _) = key(word & 127, word >> 12 & 7, word >> 25, word)?;
     Some(op)
 }
 
-#[tactic(auto, unfolding(crate::specs::Fields::named, crate::specs::Table::table, crate::specs::Table::row))]
+#[tactic(auto, unfolding(crate::specs::inner::Fields::encoding_named, crate::specs::Table::encodings, crate::specs::Table::encoding))]
 fn branch(funct3: u32) -> Option<(Op, Form)>
-    ensures { (funct7 word : ℕ) → option_map key_of (named 0x63 funct3 funct7 word) ≡ result }
+    ensures { (funct7 word : ℕ) → option_map key_of (encoding_named 0x63 funct3 funct7 word) ≡ result }
 {
     match funct3 {
         0 => Some((Op::Beq, Form::Branch)),
@@ -42,9 +42,9 @@ fn branch(funct3: u32) -> Option<(Op, Form)>
     }
 }
 
-#[tactic(auto, unfolding(crate::specs::Fields::named, crate::specs::Table::table, crate::specs::Table::row))]
+#[tactic(auto, unfolding(crate::specs::inner::Fields::encoding_named, crate::specs::Table::encodings, crate::specs::Table::encoding))]
 fn load(funct3: u32) -> Option<(Op, Form)>
-    ensures { (funct7 word : ℕ) → option_map key_of (named 0x03 funct3 funct7 word) ≡ result }
+    ensures { (funct7 word : ℕ) → option_map key_of (encoding_named 0x03 funct3 funct7 word) ≡ result }
 {
     match funct3 {
         0 => Some((Op::Lb, Form::Immediate)),
@@ -56,9 +56,9 @@ fn load(funct3: u32) -> Option<(Op, Form)>
     }
 }
 
-#[tactic(auto, unfolding(crate::specs::Fields::named, crate::specs::Table::table, crate::specs::Table::row))]
+#[tactic(auto, unfolding(crate::specs::inner::Fields::encoding_named, crate::specs::Table::encodings, crate::specs::Table::encoding))]
 fn store(funct3: u32) -> Option<(Op, Form)>
-    ensures { (funct7 word : ℕ) → option_map key_of (named 0x23 funct3 funct7 word) ≡ result }
+    ensures { (funct7 word : ℕ) → option_map key_of (encoding_named 0x23 funct3 funct7 word) ≡ result }
 {
     match funct3 {
         0 => Some((Op::Sb, Form::Store)),
@@ -68,9 +68,9 @@ fn store(funct3: u32) -> Option<(Op, Form)>
     }
 }
 
-#[tactic(auto, unfolding(crate::specs::Fields::named, crate::specs::Table::table, crate::specs::Table::row))]
+#[tactic(auto, unfolding(crate::specs::inner::Fields::encoding_named, crate::specs::Table::encodings, crate::specs::Table::encoding))]
 fn with_immediate(funct3: u32, funct7: u32) -> Option<(Op, Form)>
-    ensures { (word : ℕ) → option_map key_of (named 0x13 funct3 funct7 word) ≡ result }
+    ensures { (word : ℕ) → option_map key_of (encoding_named 0x13 funct3 funct7 word) ≡ result }
 {
     match (funct3, funct7) {
         (0, _) => Some((Op::Addi, Form::Immediate)),
@@ -86,9 +86,9 @@ fn with_immediate(funct3: u32, funct7: u32) -> Option<(Op, Form)>
     }
 }
 
-#[tactic(auto, unfolding(crate::specs::Fields::named, crate::specs::Table::table, crate::specs::Table::row))]
+#[tactic(auto, unfolding(crate::specs::inner::Fields::encoding_named, crate::specs::Table::encodings, crate::specs::Table::encoding))]
 fn between_registers(funct3: u32, funct7: u32) -> Option<(Op, Form)>
-    ensures { (word : ℕ) → option_map key_of (named 0x33 funct3 funct7 word) ≡ result }
+    ensures { (word : ℕ) → option_map key_of (encoding_named 0x33 funct3 funct7 word) ≡ result }
 {
     match (funct3, funct7) {
         (0, 0) => Some((Op::Add, Form::Register)),
@@ -113,9 +113,9 @@ fn between_registers(funct3: u32, funct7: u32) -> Option<(Op, Form)>
     }
 }
 
-#[tactic(auto, unfolding(crate::specs::Fields::named, crate::specs::Table::table, crate::specs::Table::row))]
+#[tactic(auto, unfolding(crate::specs::inner::Fields::encoding_named, crate::specs::Table::encodings, crate::specs::Table::encoding))]
 fn atomic(funct3: u32, funct7: u32, word: u32) -> Option<(Op, Form)>
-    ensures { option_map key_of (named 0x2f funct3 funct7 word) ≡ result }
+    ensures { option_map key_of (encoding_named 0x2f funct3 funct7 word) ≡ result }
 {
     match (funct3, funct7 / 4) {
         (2, 2) if word >> 20 & 31 == 0 => Some((Op::LoadReserved, Form::Reserve)),
@@ -133,9 +133,9 @@ fn atomic(funct3: u32, funct7: u32, word: u32) -> Option<(Op, Form)>
     }
 }
 
-#[tactic(auto, unfolding(crate::specs::Fields::named, crate::specs::Table::table, crate::specs::Table::row))]
+#[tactic(auto, unfolding(crate::specs::inner::Fields::encoding_named, crate::specs::Table::encodings, crate::specs::Table::encoding))]
 fn system(word: u32) -> Option<(Op, Form)>
-    ensures { (funct3 funct7 : ℕ) → option_map key_of (named 0x73 funct3 funct7 word) ≡ result }
+    ensures { (funct3 funct7 : ℕ) → option_map key_of (encoding_named 0x73 funct3 funct7 word) ≡ result }
 {
     match word {
         0x0000_0073 => Some((Op::Ecall, Form::Whole)),
@@ -144,9 +144,9 @@ fn system(word: u32) -> Option<(Op, Form)>
     }
 }
 
-#[tactic(auto, unfolding(crate::specs::Fields::named, crate::specs::Table::table, crate::specs::Table::row))]
+#[tactic(auto, unfolding(crate::specs::inner::Fields::encoding_named, crate::specs::Table::encodings, crate::specs::Table::encoding))]
 fn key(opcode: u32, funct3: u32, funct7: u32, word: u32) -> Option<(Op, Form)>
-    ensures { option_map key_of (named opcode funct3 funct7 word) ≡ result }
+    ensures { option_map key_of (encoding_named opcode funct3 funct7 word) ≡ result }
 {
     match opcode {
         0x37 => Some((Op::Lui, Form::Upper)),

@@ -1,13 +1,13 @@
 // Writes an instruction as a word.
 ghost use Rattle.std.specs.Prelude.{◌≡◌, ℕ, ◌/◌, ◌%◌, ◌^◌, ◌<◌, ◌*◌, ◌+◌, ℤ, Some};
-ghost use Rattle.nv_isa.specs.Table.{row, decoded};
-ghost use Rattle.nv_isa.specs.Spelling.{Fits, FitsForm, spelled, encoded};
+ghost use Rattle.nv_isa.specs.Table.{encoding, decoded};
+ghost use Rattle.nv_isa.specs.Spelling.{HasWord, FitsForm, spelled, encoded};
 
 use crate::op::{Form, Insn, Op};
 
 /// The one word that spells the instruction.
 pub fn encode(insn: &Insn) -> u32
-    requires { Fits insn.now }
+    requires { HasWord insn.now }
     ensures word { result ≡ encoded insn.now }
     ensures read { decoded result ≡ Some insn.now }
     ensures only { (word : ℕ) → word < 2 ^ 32 → decoded word ≡ Some insn.now → result ≡ word }
@@ -17,10 +17,10 @@ pub fn encode(insn: &Insn) -> u32
 }
 
 // The bits that are the same in each word of the operation, and the form of the others.
-#[tactic(auto, unfolding(crate::specs::Table::row))]
+#[tactic(auto, unfolding(crate::specs::Table::encoding))]
 fn fixed(op: Op) -> (u32, Form)
-    ensures value { result.0 ≡ (row op).value }
-    ensures form { result.1 ≡ (row op).form }
+    ensures value { result.0 ≡ (encoding op).value }
+    ensures form { result.1 ≡ (encoding op).form }
 {
     match op {
         Op::Lui => (0x37, Form::Upper),

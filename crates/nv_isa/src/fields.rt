@@ -1,6 +1,6 @@
 // Where a word keeps its registers, and the immediate of each form: the manual's sections 2.2, 2.3 and 8.1.
 ghost use Rattle.std.specs.Prelude.{◌≡◌, ℕ, ◌/◌, ◌%◌, ◌^◌, ◌<◌, ◌*◌, ◌+◌, ℤ};
-ghost use Rattle.nv_isa.specs.Table.{immediate, signed, rd_of, rs1_of, rs2_of};
+ghost use Rattle.nv_isa.specs.Table.{immediate, signed_value, rd_of, rs1_of, rs2_of};
 
 use crate::op::Form;
 
@@ -51,7 +51,7 @@ pub fn immediate(form: Form, word: u32) -> i32
 // In the form that is compiled into one shift.
 fn signed_12(bits: u32) -> i32
     requires { bits < 2 ^ 12 }
-    ensures { result ≡ signed 12 bits }
+    ensures { result ≡ signed_value 12 bits }
 {
     ((bits + 2048) % 4096) as i32 - 2048
 }

@@ -8,10 +8,11 @@ use Rattle.nv_jobs.specs.Prepared as prep
 use Rattle.nv_script.specs.Scripts.{Setup}
 use Rattle.nv_bpf.specs.declared.op.Op.{Op}
 use Rattle.nv_machine.specs.Guest.{Machine}
-use Rattle.nv_jobs.specs.Outcome.{Source, Outcome, Usage, NoMemory, NotRead, NotAccepted, Reported, Recorded, TraceTooLong, outcome_of, name_of, name_on, text_of, status_of}
+use Rattle.nv_jobs.specs.Outcome.{Source, Outcome, Usage, NoMemory, NotRead, NotAccepted, Reported, Recorded, TraceTooLong, outcome_of, name_at, name_on, text_of, outcome_status}
 use Rattle.nv_jobs.specs.Found.{TookLong, TookMore}
 use Rattle.nv_jobs.specs.Due.{RunComesTo, RecordComesTo, JobOwes, GenOwes, TrailOwes, traced_outcome, lack_outcome, Owes, OwesAny, IsDue, Shows, IsUntouched, Says, Answers}
-use Rattle.nv_jobs.specs.Ran.{Ran, RunSays, RanRecorded, RecordSays, Wrote, Tells}
+use Rattle.nv_jobs.specs.Ran.{Wrote, Tells}
+use Rattle.nv_jobs.specs.inner.Ran.{Ran, RunSays, RanRecorded, RecordSays}
 use Rattle.nv_jobs.specs.declared.refusal.Cause.{Cause}
 use Rattle.nv_jobs.specs.declared.refusal.Cause.TheVariants.{Long}
 use Rattle.nv_jobs.specs.declared.refusal.Cause.TheVariants as causes
@@ -19,14 +20,14 @@ use Rattle.nv_jobs.specs.declared.refusal.Place.{Place}
 use Rattle.nv_jobs.specs.declared.refusal.Place.TheVariants.{Script, Rules, Trace, Version}
 use Rattle.nv_jobs.specs.Traced.{Traced}
 use Rattle.nv_jobs.specs.Traced as lack
-use Rattle.nv_jobs.specs.Trails.{limit_of, TrailRefused, refused_outcome}
+use Rattle.nv_jobs.specs.inner.Trails.{limit_of, TrailRefused, refused_outcome}
 use Rattle.nv_jobs.specs.declared.refusal.Refusal.{Refusal}
 use Rattle.nv_jobs.specs.declared.refusal.Refusal.TheVariants.{Memory, Unreadable as Unread, Input}
-use Rattle.nv_command.specs.Words.{Name, Plan, Job, Trail, Command, Runs, Uses, Generates, Records, asked_by, after_program, command_of, name_in}
-use Rattle.nv_command.specs.Seen.{IsRefused}
+use Rattle.nv_command.specs.Words.{Name, Plan, Job, Trail, Command, Runs, Uses, Generates, Records, asked_by, after_program, command_of, command_name}
+use Rattle.nv_command.specs.Seen.{WordsRefused}
 use Rattle.nv_command.specs.declared.asked.LineFault.{LineFault}
 use Rattle.nv_command.specs.declared.asked.LineFault.TheVariants as line
-use Rattle.nv_jobs.specs.Summing.{SumsUp}
+use Rattle.nv_jobs.specs.inner.Summing.{SumsUp}
 use Rattle.nv_jobs.specs.Tasks.{fault_outcome}
 
 is_named : (name : Option Name) (asked : Name → Option Command) (command : Command) → option_and_then asked name ≡ Some command → IsSome name
@@ -34,9 +35,9 @@ is_named None asked command h = cc
 is_named (Some name) asked command h = refl
 
 -- words that are accepted name a command
-named : (words : List (List ℕ)) (command : Command) → command_of words ≡ Some command → IsSome (name_in words)
+named : (words : List (List ℕ)) (command : Command) → command_of words ≡ Some command → IsSome (command_name words)
 unfolding command_of
-named words command h = is_named (name_in words) (asked_by (after_program words)) command h
+named words command h = is_named (command_name words) (asked_by (after_program words)) command h
 
 pub unasked : (words : List (List ℕ)) (command : Command) → command_of words ≡ Some command → command_of words ≡ None → ⊥
 unasked words command asked none = let e : Some command ≡ None = sym asked ∙ none in cc
@@ -89,8 +90,8 @@ module _ (words : List (List ℕ)) (source : Source) (command : Command) (asked 
 
 -- a command over the files of a run answers their refusal, where it owes that
 module _ (words : List (List ℕ)) (source : Source) (plan : Plan) (command : Command) (asked : command_of words ≡ Some command)
-    (unread : (place : Place) → ComesTo plan source.holds (prep.Unreadable place) → Owes command source.holds (NotRead (name_of place plan)))
-    (unfit : (place : Place) (cause : Cause) → ComesTo plan source.holds (prep.Refused place cause) → Owes command source.holds (NotAccepted (name_of place plan) cause)) where
+    (unread : (place : Place) → ComesTo plan source.holds (prep.Unreadable place) → Owes command source.holds (NotRead (name_at place plan)))
+    (unfit : (place : Place) (cause : Cause) → ComesTo plan source.holds (prep.Refused place cause) → Owes command source.holds (NotAccepted (name_at place plan) cause)) where
   stopped_answers : (refusal : Refusal) → Refuses refusal source.holds plan source.faults source.later_faults source.taken source.later_taken
       → (before : Option (List ℕ)) (faults status : ℕ) (after : Option (List ℕ)) (later : ℕ) → Tells (outcome_of refusal plan) before faults status after later
       → Answers words source before faults status after later
@@ -102,15 +103,15 @@ module _ (words : List (List ℕ)) (source : Source) (plan : Plan) (command : Co
     says = says;
   }
   stopped_answers (Unread place) h before faults status after later says = record {
-    outcome = NotRead (name_of place plan);
-    due = is_due words source.holds command (NotRead (name_of place plan)) asked (unread place h.0);
+    outcome = NotRead (name_at place plan);
+    due = is_due words source.holds command (NotRead (name_at place plan)) asked (unread place h.0);
     shown = h.1;
     unread = asked_unread words source command asked;
     says = says;
   }
   stopped_answers (Input place cause) h before faults status after later says =
-      refused_answers words source command asked (name_of place plan) cause
-      (is_due words source.holds command (NotAccepted (name_of place plan) cause) asked (unfit place cause h.0)) h.1 h.2 before faults status after later says
+      refused_answers words source command asked (name_at place plan) cause
+      (is_due words source.holds command (NotAccepted (name_at place plan) cause) asked (unfit place cause h.0)) h.1 h.2 before faults status after later says
 
 -- a run that doesn't start answers its refusal
 pub refusal_answers : (refusal : Refusal) (words : List (List ℕ)) (source : Source) (plan : Plan) → command_of words ≡ Some (Runs plan)
@@ -119,8 +120,8 @@ pub refusal_answers : (refusal : Refusal) (words : List (List ℕ)) (source : So
     → Answers words source before faults status after later
 refusal_answers refusal words source plan asked =
     stopped_answers words source plan (Runs plan) asked
-    (λ place files. record { finds = files.finds; agree = files.agree; comes = subst (λ (p : Prepared). RunComesTo plan p (NotRead (name_of place plan))) (sym files.is) refl })
-    (λ place cause files. record { finds = files.finds; agree = files.agree; comes = subst (λ (p : Prepared). RunComesTo plan p (NotAccepted (name_of place plan) cause)) (sym files.is) refl })
+    (λ place files. record { finds = files.finds; agree = files.agree; comes = subst (λ (p : Prepared). RunComesTo plan p (NotRead (name_at place plan))) (sym files.is) refl })
+    (λ place cause files. record { finds = files.finds; agree = files.agree; comes = subst (λ (p : Prepared). RunComesTo plan p (NotAccepted (name_at place plan) cause)) (sym files.is) refl })
     refusal
 
 -- so does one that is recorded
@@ -130,8 +131,8 @@ pub record_refusal_answers : (refusal : Refusal) (words : List (List ℕ)) (sour
     → Answers words source before faults status after later
 record_refusal_answers refusal words source plan asked =
     stopped_answers words source plan (Records plan) asked
-    (λ place files. record { finds = files.finds; agree = files.agree; comes = subst (λ (p : Prepared). RecordComesTo plan p (NotRead (name_of place plan))) (sym files.is) refl })
-    (λ place cause files. record { finds = files.finds; agree = files.agree; comes = subst (λ (p : Prepared). RecordComesTo plan p (NotAccepted (name_of place plan) cause)) (sym files.is) refl })
+    (λ place files. record { finds = files.finds; agree = files.agree; comes = subst (λ (p : Prepared). RecordComesTo plan p (NotRead (name_at place plan))) (sym files.is) refl })
+    (λ place cause files. record { finds = files.finds; agree = files.agree; comes = subst (λ (p : Prepared). RecordComesTo plan p (NotAccepted (name_at place plan) cause)) (sym files.is) refl })
     refusal
 
 -- a command over one file answers that the file is refused
@@ -181,9 +182,9 @@ made_answers words source n asked kept taken before faults status after later s 
 }
 
 -- refused words, and no file that was read
-pub words_refused : (fault : LineFault) (words : List (List ℕ)) (source : Source) → IsRefused fault words → IsUntouched source
+pub words_refused : (fault : LineFault) (words : List (List ℕ)) (source : Source) → WordsRefused fault words → IsUntouched source
     → (before : Option (List ℕ)) (faults status : ℕ) (after : Option (List ℕ)) (later : ℕ)
-    → Says (text_of (fault_outcome fault)) (status_of (fault_outcome fault)) before faults status after later → Answers words source before faults status after later
+    → Says (text_of (fault_outcome fault)) (outcome_status (fault_outcome fault)) before faults status after later → Answers words source before faults status after later
 words_refused line.Usage words source refused still before faults status after later says = record {
   outcome = Usage;
   due = inl (subst (λ (command : Option Command). OwesAny command source.holds Usage) (sym refused) refl);
@@ -238,7 +239,7 @@ tells_lack trail place cause h = h
 module _ (words : List (List ℕ)) (source : Source) (command : Command) (asked : command_of words ≡ Some command)
     (before : Option (List ℕ)) (faults status : ℕ) (after : Option (List ℕ)) (later : ℕ) where
   -- an outcome that is owed and told
-  pub told_answers : (outcome : Outcome) → Owes command source.holds outcome → Shows outcome source → Says (text_of outcome) (status_of outcome) before faults status after later
+  pub told_answers : (outcome : Outcome) → Owes command source.holds outcome → Shows outcome source → Says (text_of outcome) (outcome_status outcome) before faults status after later
       → Answers words source before faults status after later
   told_answers outcome owed shown says = record {
     outcome = outcome;
@@ -260,7 +261,7 @@ module _ (words : List (List ℕ)) (source : Source) (command : Command) (asked 
 
   -- it is told, or memory was wanted
   pub wrote_answers : (outcome : Outcome) → Owes command source.holds outcome → Shows outcome source → source.later_faults ≡ source.faults
-      → Wrote (text_of outcome) (status_of outcome) before faults status after later → Answers words source before faults status after later
+      → Wrote (text_of outcome) (outcome_status outcome) before faults status after later → Answers words source before faults status after later
   wrote_answers outcome owed shown kept = ⊎_elim (told_answers outcome owed shown) (wanted_answers kept)
 
   -- a file that is refused

@@ -10,7 +10,7 @@ use Rattle.nv_command.specs.Words.{Limits, Plan}
 use Rattle.nv_script.specs.Scripts.{Setup, script_of}
 use Rattle.nv_script.specs.declared.fault.ScriptFault.{ScriptFault}
 use Rattle.nv_jobs.specs.Found.{Found, Whole, TooLong, Unread, Finds, Agrees, AgreesIf, AllAgree, AreFound, AgreesWithin, FILE_LIMIT, is_longer, found_within, found_of, finds_of}
-use Rattle.nv_jobs.specs.Prepared.{Prepared, Unreadable, Refused, Ready, VersionOf, Faulty, Loads, read_at, with_machine, version_then, versions_from, judged_by, rules_then, after_rules, after_script, version_of, prepared}
+use Rattle.nv_jobs.specs.Prepared.{Prepared, Unreadable, Refused, Ready, VersionOf, Faulty, Loads, read_at, with_first_machine, version_then, versions_from, judged_by, rules_then, after_rules, after_script, version_from, prepared}
 use Rattle.nv_jobs.specs.declared.refusal.Place.{Place}
 use Rattle.nv_jobs.specs.declared.refusal.Place.TheVariants.{Script, Rules, Version}
 
@@ -72,7 +72,7 @@ same_at place told found check other a same here there =
     (same_read place found check other same here) there) r)
     (same_found told found a)
 
-prefix_unread : (machine : Machine) (rest : Prepared) → IsUnread rest → IsUnread (with_machine machine rest)
+prefix_unread : (machine : Machine) (rest : Prepared) → IsUnread rest → IsUnread (with_first_machine machine rest)
 prefix_unread machine (Unreadable place) u = tt
 prefix_unread machine (Refused place cause) u = absurd u
 prefix_unread machine (Ready setup rules machines) u = absurd u
@@ -80,7 +80,7 @@ prefix_unread machine (Ready setup rules machines) u = absurd u
 same_then : (i : ℕ) (version : VersionOf) (rest other : Prepared) → ((IsUnread rest → ⊥) → (IsUnread other → ⊥) → rest ≡ other)
     → (IsUnread (version_then i rest version) → ⊥) → (IsUnread (version_then i other version) → ⊥) → version_then i rest version ≡ version_then i other version
 same_then i (Faulty cause) rest other same here there = refl
-same_then i (Loads machine) rest other same here there = ap (with_machine machine) (same (λ u. here (prefix_unread machine rest u)) (λ u. there (prefix_unread machine other u)))
+same_then i (Loads machine) rest other same here there = ap (with_first_machine machine) (same (λ u. here (prefix_unread machine rest u)) (λ u. there (prefix_unread machine other u)))
 
 abbrev told_finds : (List ℕ → Told) → List (List ℕ) → List Found
 told_finds holds names = map (λ name. found_of (holds name)) names
@@ -93,10 +93,10 @@ same_versions limits setup holds [] (found ∷ finds) i agree here there = absur
 same_versions limits setup holds (name ∷ names) [] i agree here there = absurd agree
 same_versions limits setup holds (name ∷ names) (found ∷ finds) i agree here there =
     same_at (Version i) (holds name) found
-    (λ bytes. version_then i (versions_from limits setup (i + 1) finds) (version_of limits setup bytes))
-    (λ bytes. version_then i (versions_from limits setup (i + 1) (told_finds holds names)) (version_of limits setup bytes))
+    (λ bytes. version_then i (versions_from limits setup (i + 1) finds) (version_from limits setup bytes))
+    (λ bytes. version_then i (versions_from limits setup (i + 1) (told_finds holds names)) (version_from limits setup bytes))
     agree.0
-    (λ bytes. same_then i (version_of limits setup bytes) (versions_from limits setup (i + 1) finds) (versions_from limits setup (i + 1) (told_finds holds names))
+    (λ bytes. same_then i (version_from limits setup bytes) (versions_from limits setup (i + 1) finds) (versions_from limits setup (i + 1) (told_finds holds names))
     (same_versions limits setup holds names finds (i + 1) agree.1))
     here there
 

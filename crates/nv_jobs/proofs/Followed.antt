@@ -7,7 +7,7 @@ use Rattle.nv_machine.specs.Guest.{Machine}
 use Rattle.nv_command.specs.Words.{Trail}
 use Rattle.nv_script.specs.Scripts.{Setup}
 use Rattle.nv_jobs.specs.Found.{Found, Unread, AgreesIf, AgreesWithin, FILE_LIMIT, TRACE_LIMIT, found_of, found_within}
-use Rattle.nv_jobs.specs.Traced.{Traced, TraceFinds, AreTraceFound, Lack, Unreadable, Refused, then_with, script_at, rules_at, log_at, machine_at, after_log, after_filter, after_setup, traced, trace_finds_of}
+use Rattle.nv_jobs.specs.Traced.{Traced, TraceFinds, AreTraceFound, Lack, Unreadable, Refused, then_with, script_at, rules_at, log_at, machine_traced, after_log, after_filter, after_setup, traced, trace_finds_of}
 use Rattle.nv_jobs.specs.declared.refusal.Place.{Place}
 use Rattle.nv_jobs.specs.declared.refusal.Place.TheVariants.{Script, Rules, Trace, Version}
 use Rattle.nv_jobs.proofs.Decided.{same_within}
@@ -43,7 +43,7 @@ module _ (trail : Trail) (holds : List ℕ → Told) (setup : Setup) where
       → after_log trail found setup filter log ≡ after_log trail (found_of (holds trail.version)) setup filter log
   same_version filter found a log here there =
       let with_machine : Machine → Result Traced Lack = λ machine. Ok (record { setup = setup; rules = filter; log = log; machine = machine }) in
-      same_step with_machine with_machine (λ machine no_lack none. refl) FILE_LIMIT (holds trail.version) found (machine_at trail setup) (Version trail.index) refl a here there
+      same_step with_machine with_machine (λ machine no_lack none. refl) FILE_LIMIT (holds trail.version) found (machine_traced trail setup) (Version trail.index) refl a here there
 
   same_log : (trace version : Found) → AgreesWithin TRACE_LIMIT (holds trail.trace) trace → AgreesWithin FILE_LIMIT (holds trail.version) version → (filter : Option (List Op))
       → (LacksRead (after_filter trail trace version setup filter) → ⊥) → (LacksRead (after_filter trail (found_within TRACE_LIMIT (holds trail.trace)) (found_of (holds trail.version)) setup filter) → ⊥)

@@ -6,7 +6,7 @@ use Rattle.std.proofs.lemmas.List.{length-map, take_more}
 use Rattle.std.proofs.lemmas.Option.{same_Some}
 use Rattle.nv_elf.specs.Elf.{Executable, Accepted}
 use Rattle.nv_gen.specs.Made.{numbers_of}
-use Rattle.nv_gen.specs.Plans.{read_of}
+use Rattle.nv_gen.specs.Measures.{file_read_as}
 use Rattle.nv_gen.specs.Programs.{programs}
 use Rattle.nv_gen_laws.specs.Texts.{bare}
 use Rattle.nv_gen_laws.specs.Versions.{program_at, FitsTheDefault}
@@ -18,21 +18,22 @@ use Rattle.nv_script.specs.Scripts.{Setup}
 use Rattle.nv_threads.specs.Threads.{Proc}
 use Rattle.nv_replay.specs.Lead.{is_memory}
 use Rattle.nv_replay.specs.Sequence.{Account}
-use Rattle.nv_replay.specs.Versions.{Running, process_of}
-use Rattle.nv_jobs.specs.Account.{IsRunOf, begun}
-use Rattle.nv_jobs.specs.Prepared.{VersionOf, Loads, of_elf, of_loaded, version_of}
-use Rattle.nv_jobs.specs.Generated.{Runs, IsFrom, AreFrom, IsMadeRun}
+use Rattle.nv_replay.specs.Version.{Running, process_of}
+use Rattle.nv_jobs.specs.Account.{IsRunOf, process_begun}
+use Rattle.nv_jobs.specs.Prepared.{VersionOf, Loads, of_elf, of_loaded, version_from}
+use Rattle.nv_jobs.specs.Generated.{IsMadeRun}
+use Rattle.nv_jobs.specs.inner.Generated.{Runs, IsFrom, AreFrom}
 use Rattle.nv_jobs.specs.Outcome.{Summed}
 use Rattle.nv_jobs.specs.Due.{GenOwes}
 
 -- what versions that are from files have
 pub record AreMade (setup : Setup) (files : List (Vec ℕ Global)) (versions : List (Running Proc)) : Type 0 where
   pub machines : List Machine
-  pub processes : map process_of versions ≡ map (begun usual) machines
-  pub loads : map (of_elf usual setup) (map read_of files) ≡ map Loads machines
+  pub processes : map process_of versions ≡ map (process_begun usual) machines
+  pub loads : map (of_elf usual setup) (map file_read_as files) ≡ map Loads machines
 
-reads : (setup : Setup) (file : Vec ℕ Global) → version_of usual setup file.items ≡ of_elf usual setup (read_of file)
-unfolding version_of
+reads : (setup : Setup) (file : Vec ℕ Global) → version_from usual setup file.items ≡ of_elf usual setup (file_read_as file)
+unfolding version_from
 reads setup file = refl
 
 pub all_made : (setup : Setup) (files : List (Vec ℕ Global)) (versions : List (Running Proc)) → AreFrom setup files versions → AreMade setup files versions
@@ -62,18 +63,18 @@ from_more setup (f ∷ files) [] file version all h = absurd all
 from_more setup (f ∷ files) (v ∷ versions) file version all h = (all.0, from_more setup files versions file version all.1 h)
 
 -- the files of a number's programs can be loaded
-here : (files : List (Vec ℕ Global)) (images : List Executable) (k : ℕ) (d : Vec ℕ Global) → map read_of files ≡ map Accepted images → k < length files
-    → (image : Executable) × (slice_get images k ≡ Some image) × (read_of (slice_index_or files k d) ≡ Accepted image)
+here : (files : List (Vec ℕ Global)) (images : List Executable) (k : ℕ) (d : Vec ℕ Global) → map file_read_as files ≡ map Accepted images → k < length files
+    → (image : Executable) × (slice_get images k ≡ Some image) × (file_read_as (slice_index_or files k d) ≡ Accepted image)
 here [] images k d e small = absurd (omega arith)
 here (file ∷ files) [] k d e small = cc
 here (file ∷ files) (image ∷ images) zero d e small = (image, refl, cc)
 here (file ∷ files) (image ∷ images) (suc k) d e small = here files images k d (cc) (omega arith)
 
-pub can_run : (n : ℕ) (files : List (Vec ℕ Global)) → ((version : ℕ) → version < (numbers_of n).versions → FitsTheDefault n version) → map read_of files ≡ map Accepted (programs n)
+pub can_run : (n : ℕ) (files : List (Vec ℕ Global)) → ((version : ℕ) → version < (numbers_of n).versions → FitsTheDefault n version) → map file_read_as files ≡ map Accepted (programs n)
     → All (λ file. Runs bare file.items) files
 can_run n files fits e k d small =
     let h = here files (programs n) k d e small in
-    let count : length files ≡ (numbers_of n).versions = sym (length-map files read_of) ∙ ap length e ∙ length-map (programs n) Accepted ∙ programs_counted n in
+    let count : length files ≡ (numbers_of n).versions = sym (length-map files file_read_as) ∙ ap length e ∙ length-map (programs n) Accepted ∙ programs_counted n in
     let inside : k < (numbers_of n).versions = omega arith in
     let f = fits k inside in
     let same : h.0 ≡ program_at n k = same_Some h.0 (program_at n k) (sym h.1 ∙ programs_listed n k inside) in
@@ -83,10 +84,10 @@ can_run n files fits e k d small =
     }
 
 -- a number's run has at most four versions
-pub few_made : (n : ℕ) (files : List (Vec ℕ Global)) → map read_of files ≡ map Accepted (programs n) → length files ≤ 8
+pub few_made : (n : ℕ) (files : List (Vec ℕ Global)) → map file_read_as files ≡ map Accepted (programs n) → length files ≤ 8
 unfolding numbers_of
 few_made n files e =
-    let count : length files ≡ (numbers_of n).versions = sym (length-map files read_of) ∙ ap length e ∙ length-map (programs n) Accepted ∙ programs_counted n in
+    let count : length files ≡ (numbers_of n).versions = sym (length-map files file_read_as) ∙ ap length e ∙ length-map (programs n) Accepted ∙ programs_counted n in
     omega arith
 
 -- one version more is made

@@ -7,12 +7,13 @@ use Rattle.nv_bpf.specs.declared.op.Op.{Op}
 use Rattle.nv_machine.specs.Guest.{Machine}
 use Rattle.nv_threads.specs.Behaviours.{Behaviour}
 use Rattle.nv_threads.specs.Threads.{Proc, threads}
-use Rattle.nv_replay.specs.Versions.{Running, IsFresh, process_of}
-use Rattle.nv_replay.specs.Accounts.{AreFresh}
-use Rattle.nv_jobs.specs.Account.{begun}
+use Rattle.nv_replay.specs.Version.{Running, IsFresh, process_of}
+use Rattle.nv_replay.specs.Account.{AreFresh}
+use Rattle.nv_jobs.specs.Account.{process_begun}
 use Rattle.nv_jobs.specs.Found.{Found, Whole, TooLong, Unread, Agrees, AgreesIf, AllAgree, IsReadOf, FILE_LIMIT, found_of}
-use Rattle.nv_jobs.specs.Prepared.{Prepared, Unreadable, Refused, Ready, read_at, with_machine, version_then, versions_from, judged_by, rules_then, after_rules, after_script, version_of}
-use Rattle.nv_jobs.specs.Refusals.{HasLoaded, AreLoaded, IsFault, ReadRefused, VersionRefused, VersionsRefused, VersionsCome, RestComes, HasRead, HasRules, RulesStop, RulesRefused, RestRefused, ComesTo, IsScriptRefusal, IsFilterRefusal, IsVersionRefusal, Refuses}
+use Rattle.nv_jobs.specs.Prepared.{Prepared, Unreadable, Refused, Ready, read_at, with_first_machine, version_then, versions_from, judged_by, rules_then, after_rules, after_script, version_from}
+use Rattle.nv_jobs.specs.Refusals.{ComesTo, Refuses}
+use Rattle.nv_jobs.specs.inner.Refusals.{HasLoaded, AreLoaded, IsFault, ReadRefused, VersionRefused, VersionsRefused, VersionsCome, RestComes, IsFilterRead, HasRules, RulesStop, RulesRefused, RestRefused, IsScriptRefusal, IsFilterRefusal, IsVersionRefusal}
 use Rattle.nv_jobs.proofs.Decided.{told_agrees}
 use Rattle.nv_jobs.specs.declared.refusal.Refusal.{Refusal}
 use Rattle.nv_jobs.specs.declared.refusal.Refusal.TheVariants as refusal
@@ -143,7 +144,7 @@ rules_faulty why holds named name bytes f f' t t' e kept r h = subst (λ (n : Op
     )
 
 -- rules that are named are read
-pub rules_read : (ops : List Op) (holds : List ℕ → Told) (named : Option (List ℕ)) (name : List ℕ) → named ≡ Some name → HasRead ops (holds name) → HasRules (Some ops) holds named
+pub rules_read : (ops : List Op) (holds : List ℕ → Told) (named : Option (List ℕ)) (name : List ℕ) → named ≡ Some name → IsFilterRead ops (holds name) → HasRules (Some ops) holds named
 rules_read ops holds named name e h = subst (λ (n : Option (List ℕ)). HasRules (Some ops) holds n) (sym e) h
 
 -- the refusal of the rules is that of the rest
@@ -211,17 +212,17 @@ module _ (limits : Limits) (setup : Setup) where
 
   -- a loaded version stands before what the others come to
   loaded_before : (v : Running Proc) (holds : List ℕ → Told) (name : List ℕ) (names : List (List ℕ)) (i : ℕ) (rest : Prepared) (l : HasLoaded limits setup v (holds name))
-      → VersionsCome limits setup holds (i + 1) names rest → VersionsCome limits setup holds i (name ∷ names) (with_machine l.machine rest)
+      → VersionsCome limits setup holds (i + 1) names rest → VersionsCome limits setup holds i (name ∷ names) (with_first_machine l.machine rest)
   loaded_before v holds name names i rest l r = record {
     finds = Whole l.bytes ∷ r.finds;
     agree = (l.read, r.agree);
-    is = ap (version_then i (versions_from limits setup (i + 1) r.finds)) l.loads ∙ ap (with_machine l.machine) r.is;
+    is = ap (version_then i (versions_from limits setup (i + 1) r.finds)) l.loads ∙ ap (with_first_machine l.machine) r.is;
   }
 
   -- what loaded versions come to
   pub record AreReady (vs : List (Running Proc)) (holds : List ℕ → Told) (i : ℕ) (names : List (List ℕ)) : Type 0 where
     pub machines : List Machine
-    pub processes : map process_of vs ≡ map (begun limits) machines
+    pub processes : map process_of vs ≡ map (process_begun limits) machines
     pub come : VersionsCome limits setup holds i names (Ready setup None machines)
 
   pub all_ready : (vs : List (Running Proc)) (holds : List ℕ → Told) (names : List (List ℕ)) (i : ℕ) → AreLoaded limits setup vs holds names → AreReady vs holds i names
@@ -240,7 +241,7 @@ module _ (limits : Limits) (setup : Setup) where
   -- what stops at the version after those that were loaded
   stops_next : (vs : List (Running Proc)) (holds : List ℕ → Told) (names : List (List ℕ)) (i k j : ℕ) (name : List ℕ) (found : Found) (whole : Prepared) → j ≡ i + k
       → AreLoaded limits setup vs holds (take k names) → slice_get names k ≡ Some name → Agrees (holds name) found
-      → ((rest : Prepared) → read_at (Version j) found (λ bytes. version_then j rest (version_of limits setup bytes)) ≡ whole) → ((machine : Machine) → with_machine machine whole ≡ whole)
+      → ((rest : Prepared) → read_at (Version j) found (λ bytes. version_then j rest (version_from limits setup bytes)) ≡ whole) → ((machine : Machine) → with_first_machine machine whole ≡ whole)
       → VersionsCome limits setup holds i names whole
   stops_next vs holds [] i k j name found whole is all at agrees stops stays = cc
   stops_next vs holds (n ∷ names) i zero j name found whole is all at agrees stops stays =
@@ -248,7 +249,7 @@ module _ (limits : Limits) (setup : Setup) where
       record {
         finds = found ∷ map (λ n. found_of (holds n)) names;
         agree = (subst (λ (x : List ℕ). Agrees (holds x) found) (sym (same_Some n name at)) agrees, all_told holds names);
-        is = subst (λ (x : ℕ). read_at (Version x) found (λ bytes. version_then x (versions_from limits setup (i + 1) (map (λ n. found_of (holds n)) names)) (version_of limits setup bytes)) ≡ whole) first
+        is = subst (λ (x : ℕ). read_at (Version x) found (λ bytes. version_then x (versions_from limits setup (i + 1) (map (λ n. found_of (holds n)) names)) (version_from limits setup bytes)) ≡ whole) first
             (stops (versions_from limits setup (i + 1) (map (λ n. found_of (holds n)) names)));
       }
   stops_next [] holds (n ∷ names) i (suc k) j name found whole is all at agrees stops stays = absurd all
@@ -257,7 +258,7 @@ module _ (limits : Limits) (setup : Setup) where
       subst (λ (x : Prepared). VersionsCome limits setup holds i (n ∷ names) x) (stays all.0.machine) (loaded_before v holds n names i whole all.0 rest)
 
   fault_stops : (found : Found) (j : ℕ) (cause : Cause) → IsFault limits setup found cause → (rest : Prepared)
-      → read_at (Version j) found (λ bytes. version_then j rest (version_of limits setup bytes)) ≡ Refused (Version j) cause
+      → read_at (Version j) found (λ bytes. version_then j rest (version_from limits setup bytes)) ≡ Refused (Version j) cause
   fault_stops (Whole bytes) j cause h rest = ap (version_then j rest) h
   fault_stops TooLong j cause h rest = ap (Refused (Version j)) (sym h)
   fault_stops Unread j cause h rest = absurd h

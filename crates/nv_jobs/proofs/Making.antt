@@ -4,12 +4,12 @@ use Rattle.std.specs.Prelude.{IfOk, IfErr}
 use Rattle.std.specs.Global.{Global}
 use Rattle.nv_outside.specs.Counts.{Rose}
 use Rattle.nv_outside.specs.Told.{Told, MayFail}
-use Rattle.nv_outside.specs.Files.{Answers, KeepsFaults}
+use Rattle.nv_outside.specs.Files.{GotTold, KeepsFaults}
 use Rattle.nv_outside.specs.declared.files.Got.{Got}
 use Rattle.nv_outside.specs.declared.files.Got.TheVariants.{Bytes}
 use Rattle.nv_jobs.specs.Found.{Whole, IsReadOf, TookLong}
 use Rattle.nv_jobs.specs.Made.{used, unless_refused}
-use Rattle.nv_jobs.specs.Unmade.{Makes, IsUnmade, IsReasonFor}
+use Rattle.nv_jobs.specs.inner.Unmade.{IsMadeOf, IsUnmade, IsReasonFor}
 use Rattle.nv_command.specs.declared.asked.Tool.{Tool}
 use Rattle.nv_jobs.specs.declared.refusal.Cause.{Cause}
 use Rattle.nv_jobs.specs.declared.refusal.Cause.TheVariants.{Long}
@@ -23,13 +23,13 @@ module _ (unmade : Unmade) (tool : Tool) (told : Told) (before now taken later :
   pub unreadable_by : unmade ≡ Unreadable → Rose before now × MayFail told
   unreadable_by e = subst (λ (u : Unmade). IsUnmade u tool told before now taken later) e h
 
-  pub refused_by : (cause : Cause) → unmade ≡ Refused cause → Makes tool told (Err (Refused cause)) × (now ≡ before) × (cause ≡ Long → TookLong taken later)
+  pub refused_by : (cause : Cause) → unmade ≡ Refused cause → IsMadeOf tool told (Err (Refused cause)) × (now ≡ before) × (cause ≡ Long → TookLong taken later)
   refused_by cause e = subst (λ (u : Unmade). IsUnmade u tool told before now taken later) e h
 
 -- the bytes that a read gave
-pub read_of : (got : Got) (bytes : Vec ℕ Global) (seen : List ℕ) (told : Told) → got ≡ Bytes bytes → seen ≡ bytes.items → Answers got told 4194304 → IsReadOf seen told
+pub read_of : (got : Got) (bytes : Vec ℕ Global) (seen : List ℕ) (told : Told) → got ≡ Bytes bytes → seen ≡ bytes.items → GotTold got told 4194304 → IsReadOf seen told
 read_of got bytes seen told is same a =
-    let b = subst (λ (x : Got). Answers x told 4194304) is a in
+    let b = subst (λ (x : Got). GotTold x told 4194304) is a in
     subst (λ (x : List ℕ). IsReadOf x told) (sym same) (record { short = b.0; there = b.2; same = b.1 })
 
 -- no read failed
@@ -37,7 +37,7 @@ pub kept_of : (got : Got) (bytes : Vec ℕ Global) (before now : ℕ) → got �
 kept_of got bytes before now is h = subst (λ (x : Got). KeepsFaults (Ok x) before now) is h
 
 pub making : (result : Result (Vec ℕ Global) Unmade) (tool : Tool) (told : Told) (bytes : List ℕ) → IsReadOf bytes told → IfOk result (λ text. used tool bytes ≡ Ok text.items)
-    → IfOk result (λ text. Makes tool told (Ok text.items))
+    → IfOk result (λ text. IsMadeOf tool told (Ok text.items))
 making (Ok text) tool told bytes read h = record { found = Whole bytes; agrees = read; is = ap unless_refused h }
 making (Err unmade) tool told bytes read h = tt
 

@@ -9,12 +9,12 @@ use Rattle.nv_outside.specs.declared.sink.Put.TheVariants.{Whole, Failed}
 use Rattle.nv_replay.specs.declared.standing.Standing.{Standing}
 use Rattle.nv_replay.specs.Follow.{is_exited}
 use Rattle.nv_replay.specs.Lead.{is_memory}
-use Rattle.nv_command.specs.Words.{Name, Plan, Job, Trail, Command, Runs, Uses, Generates, Records, Replays, Inspects, asked_by, after_program, command_of, name_in}
+use Rattle.nv_command.specs.Words.{Name, Plan, Job, Trail, Command, Runs, Uses, Generates, Records, Replays, Inspects, asked_by, after_program, command_of, command_name}
 use Rattle.nv_replay.specs.Follow.{follow, fresh, judge_of}
 use Rattle.nv_replay.specs.declared.fate.Fate.{Fate}
 use Rattle.nv_replay.specs.declared.fate.Fate.TheVariants.{Exited}
 use Rattle.nv_threads.specs.Threads.{threads}
-use Rattle.nv_jobs.specs.Account.{run_status, begun}
+use Rattle.nv_jobs.specs.Account.{run_status, process_begun}
 use Rattle.nv_jobs.specs.Replayed.{replay_status}
 use Rattle.nv_jobs.specs.Traced.{Traced, Lack, traced, trace_finds_of, trail_limits}
 use Rattle.nv_jobs.specs.Traced as lack
@@ -26,7 +26,7 @@ use Rattle.nv_jobs.proofs.Followed.{LacksRead, same_traced}
 use Rattle.nv_jobs.specs.Found.{Found, Unread, found_of, finds_of}
 use Rattle.nv_jobs.specs.Prepared.{Prepared, Unreadable, Refused, Ready, prepared}
 use Rattle.nv_jobs.specs.Made.{made_of}
-use Rattle.nv_jobs.specs.Outcome.{Source, Outcome, Usage, NoMemory, NotRead, NotAccepted, Reported, Made, Summed, Recorded, TraceTooLong, Replayed, Shown, status_of, ended_with}
+use Rattle.nv_jobs.specs.Outcome.{Source, Outcome, Usage, NoMemory, NotRead, NotAccepted, Reported, Made, Summed, Recorded, TraceTooLong, Replayed, Shown, outcome_status, ended_with}
 use Rattle.nv_jobs.specs.Due.{RunComesTo, RunOwes, JobOwes, Owes, OwesAny, IsDue, Shows, Answers, IsReady, IsMade, IsAccepted, IsRefusedAt, IsRefusedFor, IsRefused, IsReport, IsDone, Completes, Rejects, made_outcome, RecordComesTo, RecordOwes, TrailOwes, traced_outcome, lack_outcome, replayed, shown as shown_by, IsTraced, IsRefusedOn}
 use Rattle.nv_jobs.specs.declared.tools.Unmade.{Unmade}
 use Rattle.nv_jobs.specs.declared.tools.Unmade.TheVariants as unmade
@@ -121,27 +121,27 @@ refused_read (Refused place cause) refused u = u
 refused_read (Ready setup rules machines) refused u = u
 
 -- accepted files end with a status of the run, and a refused one with 4
-ready_status : (plan : Plan) (whole : Prepared) (outcome : Outcome) → IsReady whole → RunComesTo plan whole outcome → IsDone (Runs plan) (status_of outcome)
+ready_status : (plan : Plan) (whole : Prepared) (outcome : Outcome) → IsReady whole → RunComesTo plan whole outcome → IsDone (Runs plan) (outcome_status outcome)
 ready_status plan (Unreadable place) outcome ready comes = absurd ready
 ready_status plan (Refused place cause) outcome ready comes = absurd ready
-ready_status plan (Ready setup rules machines) outcome ready comes = run_done comes.0.lines (status_of outcome) (ap status_of comes.1)
+ready_status plan (Ready setup rules machines) outcome ready comes = run_done comes.0.lines (outcome_status outcome) (ap outcome_status comes.1)
 
-refused_status : (plan : Plan) (whole : Prepared) (outcome : Outcome) → IsRefusedAt whole → RunComesTo plan whole outcome → status_of outcome ≡ 4
+refused_status : (plan : Plan) (whole : Prepared) (outcome : Outcome) → IsRefusedAt whole → RunComesTo plan whole outcome → outcome_status outcome ≡ 4
 refused_status plan (Unreadable place) outcome refused comes = absurd refused
-refused_status plan (Refused place cause) outcome refused comes = ap status_of comes
+refused_status plan (Refused place cause) outcome refused comes = ap outcome_status comes
 refused_status plan (Ready setup rules machines) outcome refused comes = absurd refused
 
-record_ready_status : (plan : Plan) (whole : Prepared) (outcome : Outcome) → IsReady whole → RecordComesTo plan whole outcome → IsDone (Records plan) (status_of outcome)
+record_ready_status : (plan : Plan) (whole : Prepared) (outcome : Outcome) → IsReady whole → RecordComesTo plan whole outcome → IsDone (Records plan) (outcome_status outcome)
 record_ready_status plan (Unreadable place) outcome ready comes = absurd ready
 record_ready_status plan (Refused place cause) outcome ready comes = absurd ready
-record_ready_status plan (Ready setup rules machines) outcome ready comes = record_done comes.0.lines (status_of outcome) comes.3 (ap status_of comes.1)
+record_ready_status plan (Ready setup rules machines) outcome ready comes = record_done comes.0.lines (outcome_status outcome) comes.3 (ap outcome_status comes.1)
 
-record_refused_status : (plan : Plan) (whole : Prepared) (outcome : Outcome) → IsRefusedAt whole → RecordComesTo plan whole outcome → status_of outcome ≡ 4
+record_refused_status : (plan : Plan) (whole : Prepared) (outcome : Outcome) → IsRefusedAt whole → RecordComesTo plan whole outcome → outcome_status outcome ≡ 4
 record_refused_status plan (Unreadable place) outcome refused comes = absurd refused
-record_refused_status plan (Refused place cause) outcome refused comes = ap status_of comes
+record_refused_status plan (Refused place cause) outcome refused comes = ap outcome_status comes
 record_refused_status plan (Ready setup rules machines) outcome refused comes = absurd refused
 
-lack_status : (trail : Trail) (place : Place) (cause : Cause) → status_of (lack_outcome trail (lack.Refused place cause)) ≡ 4
+lack_status : (trail : Trail) (place : Place) (cause : Cause) → outcome_status (lack_outcome trail (lack.Refused place cause)) ≡ 4
 lack_status trail Trace Long = refl
 lack_status trail place cause = refl
 
@@ -155,24 +155,24 @@ module _ (trail : Trail) (made : Traced → Outcome) (outcome : Outcome) where
   lacking_read (Err (lack.Unreadable place)) refused u = absurd refused
   lacking_read (Err (lack.Refused place cause)) refused u = u
 
-  traced_status : (P : ℕ → Type 0) → ((files : Traced) → P (status_of (made files))) → (given : Result Traced Lack) → IsTraced given → outcome ≡ traced_outcome trail made given → P (status_of outcome)
-  traced_status P done (Ok files) is comes = subst (λ (o : Outcome). P (status_of o)) (sym comes) (done files)
+  traced_status : (P : ℕ → Type 0) → ((files : Traced) → P (outcome_status (made files))) → (given : Result Traced Lack) → IsTraced given → outcome ≡ traced_outcome trail made given → P (outcome_status outcome)
+  traced_status P done (Ok files) is comes = subst (λ (o : Outcome). P (outcome_status o)) (sym comes) (done files)
   traced_status P done (Err lack) is comes = absurd is
 
-  lacking_status : (given : Result Traced Lack) → IsRefusedOn given → outcome ≡ traced_outcome trail made given → status_of outcome ≡ 4
+  lacking_status : (given : Result Traced Lack) → IsRefusedOn given → outcome ≡ traced_outcome trail made given → outcome_status outcome ≡ 4
   lacking_status (Ok files) refused comes = absurd refused
   lacking_status (Err (lack.Unreadable place)) refused comes = absurd refused
-  lacking_status (Err (lack.Refused place cause)) refused comes = ap status_of comes ∙ lack_status trail place cause
+  lacking_status (Err (lack.Refused place cause)) refused comes = ap outcome_status comes ∙ lack_status trail place cause
 
-made_status : (job : Job) (made : Result (List ℕ) Unmade) (outcome : Outcome) → IsMade made → outcome ≡ made_outcome job made → status_of outcome ≡ 0
-made_status job (Ok text) outcome is comes = ap status_of comes
+made_status : (job : Job) (made : Result (List ℕ) Unmade) (outcome : Outcome) → IsMade made → outcome ≡ made_outcome job made → outcome_status outcome ≡ 0
+made_status job (Ok text) outcome is comes = ap outcome_status comes
 made_status job (Err reason) outcome is comes = absurd is
 
-unmade_status : (job : Job) (made : Result (List ℕ) Unmade) (outcome : Outcome) → IsRefusedFor made → outcome ≡ made_outcome job made → status_of outcome ≡ 4
+unmade_status : (job : Job) (made : Result (List ℕ) Unmade) (outcome : Outcome) → IsRefusedFor made → outcome ≡ made_outcome job made → outcome_status outcome ≡ 4
 unmade_status job (Ok text) outcome refused comes = absurd refused
 unmade_status job (Err unmade.Memory) outcome refused comes = absurd refused
 unmade_status job (Err unmade.Unreadable) outcome refused comes = absurd refused
-unmade_status job (Err (unmade.Refused cause)) outcome refused comes = ap status_of comes
+unmade_status job (Err (unmade.Refused cause)) outcome refused comes = ap outcome_status comes
 
 made_found : (job : Job) (found : Found) → IsMade (made_of job.tool found) → found ≡ Unread → ⊥
 made_found job found is e = subst (λ (f : Found). IsMade (made_of job.tool f)) e is
@@ -181,27 +181,27 @@ refused_found : (job : Job) (found : Found) → IsRefusedFor (made_of job.tool f
 refused_found job found refused e = subst (λ (f : Found). IsRefusedFor (made_of job.tool f)) e refused
 
 module _ (source : Source) (no_fault : Rose source.faults source.later_faults → ⊥) (outcome : Outcome) (shown : Shows outcome source) where
-  accepted_status : (command : Command) → Owes command source.holds outcome → IsAccepted command source.holds → IsDone command (status_of outcome)
+  accepted_status : (command : Command) → Owes command source.holds outcome → IsAccepted command source.holds → IsDone command (outcome_status outcome)
   accepted_status (Runs plan) owed accepted =
       ready_status plan (prepared plan.limits (finds_of source.holds plan)) outcome accepted
       (run_told source no_fault outcome shown plan owed (ready_read (prepared plan.limits (finds_of source.holds plan)) accepted))
   accepted_status (Uses job) owed accepted =
       made_status job (made_of job.tool (found_of (source.holds job.file))) outcome accepted
       (job_told source no_fault outcome shown job owed (made_found job (found_of (source.holds job.file)) accepted))
-  accepted_status (Generates n) owed accepted = ap status_of owed.comes
+  accepted_status (Generates n) owed accepted = ap outcome_status owed.comes
   accepted_status (Records plan) owed accepted =
       record_ready_status plan (prepared plan.limits (finds_of source.holds plan)) outcome accepted
       (record_told source no_fault outcome shown plan owed (ready_read (prepared plan.limits (finds_of source.holds plan)) accepted))
   accepted_status (Replays trail) owed accepted =
       traced_status trail (replayed trail) outcome (λ n. (n ≡ 0) ⊎ (n ≡ 1))
-      (λ files. replay_done (follow threads (judge_of files.rules trail.index) files.log (fresh (begun (trail_limits trail) files.machine))).fate _ refl)
+      (λ files. replay_done (follow threads (judge_of files.rules trail.index) files.log (fresh (process_begun (trail_limits trail) files.machine))).fate _ refl)
       (traced trail (trace_finds_of source.holds trail)) accepted
       (trail_told source no_fault outcome shown trail (replayed trail) owed (traced_read trail (replayed trail) outcome (traced trail (trace_finds_of source.holds trail)) accepted))
   accepted_status (Inspects look) owed accepted =
       traced_status look.trail (shown_by look) outcome (λ n. n ≡ 0) (λ files. refl) (traced look.trail (trace_finds_of source.holds look.trail)) accepted
       (trail_told source no_fault outcome shown look.trail (shown_by look) owed (traced_read look.trail (shown_by look) outcome (traced look.trail (trace_finds_of source.holds look.trail)) accepted))
 
-  rejected_status : (command : Command) → Owes command source.holds outcome → IsRefused command source.holds → status_of outcome ≡ 4
+  rejected_status : (command : Command) → Owes command source.holds outcome → IsRefused command source.holds → outcome_status outcome ≡ 4
   rejected_status (Runs plan) owed refused =
       refused_status plan (prepared plan.limits (finds_of source.holds plan)) outcome refused
       (run_told source no_fault outcome shown plan owed (refused_read (prepared plan.limits (finds_of source.holds plan)) refused))
@@ -221,25 +221,25 @@ module _ (source : Source) (no_fault : Rose source.faults source.later_faults �
 
 -- an outcome that is due and shown, and the status that the call ended with
 module _ (words : List (List ℕ)) (source : Source) (status : ℕ) (outcome : Outcome) (due : IsDue words source.holds outcome) (shown : Shows outcome source)
-    (put : Put) (ends : status ≡ ended_with put (status_of outcome)) where
+    (put : Put) (ends : status ≡ ended_with put (outcome_status outcome)) where
   -- what the words owe that name this command, unless memory is wanted
-  owes : (command : Command) → command_of words ≡ Some command → Owes command source.holds outcome ⊎ (status_of outcome ≡ 3)
+  owes : (command : Command) → command_of words ≡ Some command → Owes command source.holds outcome ⊎ (outcome_status outcome ≡ 3)
   owes command asked =
       ⊎_elim (λ (owed : OwesAny (command_of words) source.holds outcome). inl (subst (λ (c : Option Command). OwesAny c source.holds outcome) asked owed))
-      (λ (m : (outcome ≡ NoMemory) × IsSome (name_in words)). inr (ap status_of m.0)) due
+      (λ (m : (outcome ≡ NoMemory) × IsSome (command_name words)). inr (ap outcome_status m.0)) due
 
   pub completes-of : (faults later : ℕ) → (put ≡ Failed → Rose faults later) → Completes words source faults status later
   completes-of faults later rose = λ command asked accepted no_fault no_write.
-      let is : status ≡ status_of outcome = own put status (status_of outcome) ends (λ failed. no_write (rose failed)) in
+      let is : status ≡ outcome_status outcome = own put status (outcome_status outcome) ends (λ failed. no_write (rose failed)) in
       ⊎_elim (λ (owed : Owes command source.holds outcome). inl (subst (λ (n : ℕ). IsDone command n) (sym is) (accepted_status source no_fault outcome shown command owed accepted)))
-      (λ (three : status_of outcome ≡ 3). inr (is ∙ three)) (owes command asked)
+      (λ (three : outcome_status outcome ≡ 3). inr (is ∙ three)) (owes command asked)
 
   pub rejects-of : Rejects words source status
   rejects-of = λ command asked refused no_fault.
-      ⊎_elim (λ (is : status ≡ status_of outcome).
+      ⊎_elim (λ (is : status ≡ outcome_status outcome).
       ⊎_elim (λ (owed : Owes command source.holds outcome). inl (is ∙ rejected_status source no_fault outcome shown command owed refused))
-      (λ (three : status_of outcome ≡ 3). inr (inr (is ∙ three))) (owes command asked))
-      (λ (six : status ≡ 6). inr (inl six)) (own_or_six put status (status_of outcome) ends)
+      (λ (three : outcome_status outcome ≡ 3). inr (inr (is ∙ three))) (owes command asked))
+      (λ (six : status ≡ 6). inr (inl six)) (own_or_six put status (outcome_status outcome) ends)
 
 module _ {words : List (List ℕ)} {source : Source} {before after : Option (List ℕ)} {faults status later : ℕ} where
   pub completes-by : Answers words source before faults status after later → Completes words source faults status later
@@ -260,7 +260,7 @@ two_not_five n done five = ⊎_elim (λ is. omega arith) (λ is. omega arith) do
 two_not_six : (n : ℕ) → (n ≡ 0) ⊎ (n ≡ 1) → n ≡ 6 → ⊥
 two_not_six n done six = ⊎_elim (λ is. omega arith) (λ is. omega arith) done
 
-five : (outcome : Outcome) (put : Put) (source : Source) (n : ℕ) → Shows outcome source → n ≡ ended_with put (status_of outcome) → n ≡ 5 → Rose source.faults source.later_faults
+five : (outcome : Outcome) (put : Put) (source : Source) (n : ℕ) → Shows outcome source → n ≡ ended_with put (outcome_status outcome) → n ≡ 5 → Rose source.faults source.later_faults
 five (NotRead name) put source n shown ends is = shown
 five Usage Whole source n shown ends is = absurd (omega arith)
 five NoMemory Whole source n shown ends is = absurd (omega arith)
@@ -274,7 +274,7 @@ five (Replayed at) Whole source n shown ends is = absurd (two_not_five n (replay
 five (Shown text) Whole source n shown ends is = absurd (omega arith)
 five outcome Failed source n shown ends is = absurd (omega arith)
 
-six : (outcome : Outcome) (put : Put) (n : ℕ) → n ≡ ended_with put (status_of outcome) → n ≡ 6 → put ≡ Failed
+six : (outcome : Outcome) (put : Put) (n : ℕ) → n ≡ ended_with put (outcome_status outcome) → n ≡ 6 → put ≡ Failed
 six outcome Failed n ends is = refl
 six Usage Whole n ends is = absurd (omega arith)
 six NoMemory Whole n ends is = absurd (omega arith)
@@ -289,15 +289,15 @@ six (Replayed at) Whole n ends is = absurd (two_not_six n (replay_done at.fate n
 six (Shown text) Whole n ends is = absurd (omega arith)
 
 -- the status of a text is never that of a write fault
-pub never_six : (outcome : Outcome) → status_of outcome ≡ 6 → ⊥
-never_six outcome is = let failed : Whole ≡ Failed = six outcome Whole (status_of outcome) refl is in cc
+pub never_six : (outcome : Outcome) → outcome_status outcome ≡ 6 → ⊥
+never_six outcome is = let failed : Whole ≡ Failed = six outcome Whole (outcome_status outcome) refl is in cc
 
 -- a name of no command is refused
-nameless : (words : List (List ℕ)) → name_in words ≡ None → command_of words ≡ None
+nameless : (words : List (List ℕ)) → command_name words ≡ None → command_of words ≡ None
 unfolding command_of
 nameless words none = ap (option_and_then (asked_by (after_program words))) none
 
-is_nameless : (words : List (List ℕ)) → IsSome (name_in words) → name_in words ≡ None → ⊥
+is_nameless : (words : List (List ℕ)) → IsSome (command_name words) → command_name words ≡ None → ⊥
 is_nameless words is none = let h = subst (λ (name : Option Name). IsSome name) none is in cc
 
 module _ {words : List (List ℕ)} {source : Source} {before after : Option (List ℕ)} {faults status later : ℕ} (a : Answers words source before faults status after later) where
@@ -309,12 +309,12 @@ module _ {words : List (List ℕ)} {source : Source} {before after : Option (Lis
   six-by is = puts-rose a.says.written (six a.outcome a.says.put status a.says.ends is)
 
   -- words that name no command get 2, where no write failed
-  pub usage-by : name_in words ≡ None → (Rose faults later → ⊥) → status ≡ 2
+  pub usage-by : command_name words ≡ None → (Rose faults later → ⊥) → status ≡ 2
   usage-by none no_write =
-      let is : status ≡ status_of a.outcome = own a.says.put status (status_of a.outcome) a.says.ends (λ failed. no_write (puts-rose a.says.written failed)) in
+      let is : status ≡ outcome_status a.outcome = own a.says.put status (outcome_status a.outcome) a.says.ends (λ failed. no_write (puts-rose a.says.written failed)) in
       let refused : command_of words ≡ None = nameless words none in
-      ⊎_elim (λ (owed : OwesAny (command_of words) source.holds a.outcome). let usage : a.outcome ≡ Usage = subst (λ (c : Option Command). OwesAny c source.holds a.outcome) refused owed in is ∙ ap status_of usage)
-      (λ (m : (a.outcome ≡ NoMemory) × IsSome (name_in words)). absurd (is_nameless words m.1 none)) a.due
+      ⊎_elim (λ (owed : OwesAny (command_of words) source.holds a.outcome). let usage : a.outcome ≡ Usage = subst (λ (c : Option Command). OwesAny c source.holds a.outcome) refused owed in is ∙ ap outcome_status usage)
+      (λ (m : (a.outcome ≡ NoMemory) × IsSome (command_name words)). absurd (is_nameless words m.1 none)) a.due
 
 -- some element passes, of what is seen of a list
 pub any-map : {X Y : Type 0} (p : Y → Bool) (f : X → Y) (xs : List X) → list_any p (map f xs) ≡ list_any (λ x. p (f x)) xs

@@ -16,17 +16,17 @@ use Rattle.nv_trace.specs.declared.fault.CheckFault.{CheckFault}
 use Rattle.nv_trace.specs.declared.fault.CheckFault.TheVariants as checks
 use Rattle.nv_trace.specs.Trace.{IsRead}
 use Rattle.nv_trace.specs.Held.{log_in}
-use Rattle.nv_trace.specs.Faults.{trace_fault, IsRefused as IsNoTrace}
-use Rattle.nv_trace.specs.Checks.{check_fault, IsSound, StopsFor}
+use Rattle.nv_trace.specs.Faults.{trace_fault, IsFirstFault as IsNoTrace}
+use Rattle.nv_trace.specs.Checks.{check_fault, AreSoundEvents, StopsFor}
 use Rattle.nv_trace.proofs.Whole.{trace_faultless, trace_log}
 use Rattle.nv_trace.proofs.Sound.{faultless_is}
 use Rattle.nv_jobs.specs.Found.{Found, Whole, TooLong, Unread, AgreesIf, AgreesWithin, IsReadOf, IsReadWithin, FILE_LIMIT, TRACE_LIMIT, TookMore, found_of, found_within}
-use Rattle.nv_jobs.specs.Prepared.{Prepared, after_rules, judged_by, rules_then, VersionOf, Faulty, Loads, version_of}
+use Rattle.nv_jobs.specs.Prepared.{Prepared, after_rules, judged_by, rules_then, VersionOf, Faulty, Loads, version_from}
 use Rattle.nv_jobs.specs.Prepared as prepared
-use Rattle.nv_jobs.specs.Refusals.{ReadRefused, HasRules, RulesRefused, IsScriptRefusal, IsVersionRefusal}
-use Rattle.nv_jobs.specs.Traced.{Traced, TraceFinds, Lack, Unreadable, Refused, then_with, of_script, script_at, of_filter, rules_at, of_trace, log_at, unless_unsound, unless_faulty, trace_of_file, of_version, machine_at, trail_limits, after_log, after_filter, after_setup}
+use Rattle.nv_jobs.specs.inner.Refusals.{ReadRefused, HasRules, RulesRefused, IsScriptRefusal, IsVersionRefusal}
+use Rattle.nv_jobs.specs.Traced.{Traced, TraceFinds, Lack, Unreadable, Refused, then_with, of_script, script_at, traced_rules, rules_at, of_trace, log_at, unless_unsound, log_unless_faulty, trace_of_file, traced_version, machine_traced, trail_limits, after_log, after_filter, after_setup}
 use Rattle.nv_jobs.specs.Untraced.{IsByTrace, IsByCheck}
-use Rattle.nv_jobs.specs.Trails.{limit_of, Gives, StepRefused, IsTraceRefusal, TrailComes, TrailRefused}
+use Rattle.nv_jobs.specs.inner.Trails.{limit_of, Gives, StepRefused, IsTraceRefusal, TrailComes, TrailRefused}
 use Rattle.nv_jobs.specs.declared.refusal.Place.{Place}
 use Rattle.nv_jobs.specs.declared.refusal.Place.TheVariants.{Script, Rules, Trace, Version}
 use Rattle.nv_jobs.specs.declared.refusal.Cause.{Cause}
@@ -72,12 +72,12 @@ trace_refuses (refusal.Input at cause) setup told bytes f f' t t' r kept h = (
 
 -- a version is refused
 pub version_refuses : (why : Refusal) (trail : Trail) (limits : Limits) (setup : Setup) (told : Told) (bytes : List ℕ) (f f' t t' : ℕ) → limits ≡ trail_limits trail → IsReadOf bytes told → f' ≡ f
-    → IsVersionRefusal limits setup why (Version trail.index) bytes → StepRefused why (Version trail.index) (machine_at trail setup) told f f' t t'
+    → IsVersionRefusal limits setup why (Version trail.index) bytes → StepRefused why (Version trail.index) (machine_traced trail setup) told f f' t t'
 version_refuses refusal.Memory trail limits setup told bytes f f' t t' same r kept h = kept
 version_refuses (refusal.Unreadable at) trail limits setup told bytes f f' t t' same r kept h = absurd h
 version_refuses (refusal.Input at cause) trail limits setup told bytes f f' t t' same r kept h = (
   h.0,
-  record { found = Whole bytes; agrees = r; is = ap (λ (l : Limits). of_version trail.index (version_of l setup bytes)) (sym same) ∙ ap (of_version trail.index) h.2 ∙ ap (λ (p : Place). Err (Refused p cause)) (sym h.0) },
+  record { found = Whole bytes; agrees = r; is = ap (λ (l : Limits). traced_version trail.index (version_from l setup bytes)) (sym same) ∙ ap (traced_version trail.index) h.2 ∙ ap (λ (p : Place). Err (Refused p cause)) (sym h.0) },
   kept,
   λ e. absurd (h.1 e),
 )
@@ -94,9 +94,9 @@ pub rules_give : (holds : List ℕ → Told) (name : Option (List ℕ)) (rules :
 rules_give holds None None h = record { found = None; agrees = tt; is = refl }
 rules_give holds None (Some ops) h = absurd h
 rules_give holds (Some name) None h = absurd h
-rules_give holds (Some name) (Some ops) h = record { found = Some (Whole h.bytes); agrees = h.read; is = ap of_filter h.is }
+rules_give holds (Some name) (Some ops) h = record { found = Some (Whole h.bytes); agrees = h.read; is = ap traced_rules h.is }
 
-filter_unread : (r : Result (List Op) FilterFault) (place : Place) → rules_then (prepared.Refused Script causes.Long) r ≡ prepared.Unreadable place → of_filter r ≡ Err (Unreadable place)
+filter_unread : (r : Result (List Op) FilterFault) (place : Place) → rules_then (prepared.Refused Script causes.Long) r ≡ prepared.Unreadable place → traced_rules r ≡ Err (Unreadable place)
 filter_unread (Ok ops) place h = cc
 filter_unread (Err fault) place h = cc
 
@@ -107,7 +107,7 @@ stop_unread (Some TooLong) place h = cc
 stop_unread (Some Unread) place h = cc
 
 -- the rules that stop, and their place
-filter_refused : (r : Result (List Op) FilterFault) (place : Place) (cause : Cause) → rules_then (prepared.Unreadable Script) r ≡ prepared.Refused place cause → (of_filter r ≡ Err (Refused place cause)) × (place ≡ Rules)
+filter_refused : (r : Result (List Op) FilterFault) (place : Place) (cause : Cause) → rules_then (prepared.Unreadable Script) r ≡ prepared.Refused place cause → (traced_rules r ≡ Err (Refused place cause)) × (place ≡ Rules)
 filter_refused (Ok ops) place cause h = (cc, cc)
 filter_refused (Err fault) place cause h = (cc, cc)
 
@@ -159,7 +159,7 @@ module _ (trail : Trail) (holds : List ℕ → Told) where
         abbrev with_machine : Machine → Result Traced Lack
         with_machine machine = Ok (record { setup = setup; rules = filter; log = log; machine = machine })
 
-        version_decides : (given : Result Machine Lack) → Gives (machine_at trail setup) FILE_LIMIT (holds trail.version) given → TrailComes trail holds (then_with with_machine given)
+        version_decides : (given : Result Machine Lack) → Gives (machine_traced trail setup) FILE_LIMIT (holds trail.version) given → TrailComes trail holds (then_with with_machine given)
         version_decides given g =
             let finds : TraceFinds = record { script = script.found; rules = rules.found; trace = trace.found; version = g.found } in
             record {
@@ -170,11 +170,11 @@ module _ (trail : Trail) (holds : List ℕ → Told) where
             }
 
         -- the version decides
-        pub version_lacks : (lack : Lack) → Gives (machine_at trail setup) FILE_LIMIT (holds trail.version) (Err lack) → TrailComes trail holds (Err lack)
+        pub version_lacks : (lack : Lack) → Gives (machine_traced trail setup) FILE_LIMIT (holds trail.version) (Err lack) → TrailComes trail holds (Err lack)
         version_lacks lack g = version_decides (Err lack) g
 
         -- all files give what they are read for
-        pub all_give : (machine : Machine) → Gives (machine_at trail setup) FILE_LIMIT (holds trail.version) (Ok machine)
+        pub all_give : (machine : Machine) → Gives (machine_traced trail setup) FILE_LIMIT (holds trail.version) (Ok machine)
             → TrailComes trail holds (Ok (record { setup = setup; rules = filter; log = log; machine = machine }))
         all_give machine g = version_decides (Ok machine) g
 
@@ -220,15 +220,15 @@ rules_stop_it why trail holds holds' f0 f f' t0 t t' same fs ts comes h =
 -- ---- what a trace is
 
 trace_by : (setup : Setup) (bytes : List ℕ) (o : Option TraceFault) (log : List Entry) (p : Option CheckFault) → trace_fault bytes ≡ o → log_in bytes ≡ log → check_fault (start_of_script setup) log ≡ p
-    → trace_of_file setup bytes ≡ unless_faulty (unless_unsound log p) o
+    → trace_of_file setup bytes ≡ log_unless_faulty (unless_unsound log p) o
 unfolding trace_of_file
 trace_by setup bytes o log p fault is unsound =
-    ap (λ (f : Option TraceFault). unless_faulty (unless_unsound (log_in bytes) (check_fault (start_of_script setup) (log_in bytes))) f) fault
-    ∙ ap (λ (l : List Entry). unless_faulty (unless_unsound l (check_fault (start_of_script setup) l)) o) is
-    ∙ ap (λ (f : Option CheckFault). unless_faulty (unless_unsound log f) o) unsound
+    ap (λ (f : Option TraceFault). log_unless_faulty (unless_unsound (log_in bytes) (check_fault (start_of_script setup) (log_in bytes))) f) fault
+    ∙ ap (λ (l : List Entry). log_unless_faulty (unless_unsound l (check_fault (start_of_script setup) l)) o) is
+    ∙ ap (λ (f : Option CheckFault). log_unless_faulty (unless_unsound log f) o) unsound
 
 -- the trace of a log that the kernel comes to
-pub trace_given : (setup : Setup) (bytes : List ℕ) (log kept : List Entry) → IsRead log bytes → IsSound (start_of_script setup) log → kept ≡ log → trace_of_file setup bytes ≡ Ok kept
+pub trace_given : (setup : Setup) (bytes : List ℕ) (log kept : List Entry) → IsRead log bytes → AreSoundEvents (start_of_script setup) log → kept ≡ log → trace_of_file setup bytes ≡ Ok kept
 trace_given setup bytes log kept read sound same =
     trace_by setup bytes None log None (trace_faultless log bytes read.trace) (trace_log log bytes read.trace) (faultless_is (start_of_script setup) log sound) ∙ ap Ok (sym same)
 

@@ -1,6 +1,6 @@
 -- Why a file is refused, as the text that says so: each fault has its own.
 use Rattle.std.specs.Prelude.{ℕ, List, codes}
-use Rattle.nv_script.specs.Texts.{fault_text}
+use Rattle.nv_script.specs.Texts.{script_fault_text}
 use Rattle.nv_elf.specs.Faults.{elf_text}
 use Rattle.nv_guest.specs.Faults.{guest_text}
 use Rattle.nv_bpf.specs.Faults.{filter_text}
@@ -12,7 +12,7 @@ use Rattle.nv_jobs.specs.declared.refusal.Cause.TheVariants.{Long, Script, Elf, 
 
 abbrev pub cause_text : Cause → List ℕ
 cause_text Long = codes "long"
-cause_text (Script fault) = fault_text fault
+cause_text (Script fault) = script_fault_text fault
 cause_text (Elf fault) = elf_text fault
 cause_text (Guest fault) = guest_text fault
 cause_text (Filter fault) = filter_text fault

@@ -5,18 +5,18 @@ use Rattle.nv_outside.specs.Counts.{Rose}
 use Rattle.nv_outside.specs.Told.{Told}
 use Rattle.nv_outside.specs.Sink.{Puts}
 use Rattle.nv_outside.specs.declared.sink.Put.{Put}
-use Rattle.nv_command.specs.Words.{Plan, Job, Trail, Look, Command, Runs, Uses, Generates, Records, Replays, Inspects, usual, command_of, name_in}
+use Rattle.nv_command.specs.Words.{Plan, Job, Trail, Look, Command, Runs, Uses, Generates, Records, Replays, Inspects, usual, command_of, command_name}
 use Rattle.nv_bpf.specs.declared.op.Op.{Op}
 use Rattle.nv_machine.specs.Guest.{Machine}
 use Rattle.nv_script.specs.Scripts.{Setup}
 use Rattle.nv_replay.specs.Lead.{is_memory}
 use Rattle.nv_replay.specs.Sequence.{Account}
-use Rattle.nv_jobs.specs.Account.{IsRunOf, begun}
+use Rattle.nv_jobs.specs.Account.{IsRunOf, process_begun}
 use Rattle.nv_jobs.specs.Found.{Found, Finds, Agrees, AreFound, TookLong, TookMore, TRACE_LIMIT, found_of, finds_of}
 use Rattle.nv_jobs.specs.Prepared.{Prepared, Unreadable, Refused, Ready, prepared}
 use Rattle.nv_jobs.specs.Generated.{IsMadeRun}
 use Rattle.nv_jobs.specs.Made.{made_of}
-use Rattle.nv_jobs.specs.Outcome.{Outcome, Usage, NoMemory, NotRead, NotAccepted, Reported, Made, Summed, Recorded, TraceTooLong, Replayed, Shown, Source, name_of, name_on, text_of, status_of, ended_with}
+use Rattle.nv_jobs.specs.Outcome.{Outcome, Usage, NoMemory, NotRead, NotAccepted, Reported, Made, Summed, Recorded, TraceTooLong, Replayed, Shown, Source, name_at, name_on, text_of, outcome_status, ended_with}
 use Rattle.nv_calls.specs.Calls.{Entry}
 use Rattle.nv_calls.specs.Logs.{calls_of}
 use Rattle.nv_fs.specs.States.{FileState}
@@ -25,7 +25,7 @@ use Rattle.nv_replay.specs.Follow.{Follower, follow, fresh, judge_of}
 use Rattle.nv_retrace.specs.Points.{at_point}
 use Rattle.nv_sockets.specs.Serving.{first_state, state_after}
 use Rattle.nv_threads.specs.Threads.{Proc, threads}
-use Rattle.nv_jobs.specs.Tracing.{point_of}
+use Rattle.nv_jobs.specs.Tracing.{trace_point}
 use Rattle.nv_jobs.specs.Traced.{TraceFinds, AreTraceFound, Traced, Lack, trace_finds_of, traced, trail_limits}
 use Rattle.nv_jobs.specs.Traced as lack
 use Rattle.nv_jobs.specs.declared.refusal.Place.TheVariants.{Trace}
@@ -35,8 +35,8 @@ use Rattle.nv_jobs.specs.declared.tools.Unmade.TheVariants as unmade
 
 -- A run comes to its first file that can't be read or is refused, or else to an account of the sequential monitor.
 abbrev pub RunComesTo : Plan → Prepared → Outcome → Type 0
-RunComesTo plan (Unreadable place) outcome = outcome ≡ NotRead (name_of place plan)
-RunComesTo plan (Refused place cause) outcome = outcome ≡ NotAccepted (name_of place plan) cause
+RunComesTo plan (Unreadable place) outcome = outcome ≡ NotRead (name_at place plan)
+RunComesTo plan (Refused place cause) outcome = outcome ≡ NotAccepted (name_at place plan) cause
 RunComesTo plan (Ready setup rules machines) outcome =
     (account : Account) × (outcome ≡ Reported plan.json setup account) × IsRunOf plan.limits setup rules machines account
 
@@ -89,7 +89,7 @@ pub record TrailOwes (trail : Trail) (made : Traced → Outcome) (holds : List �
 
 -- The version follows the whole log, judged as the version with its number.
 abbrev pub replayed : Trail → Traced → Outcome
-replayed trail files = Replayed (follow threads (judge_of files.rules trail.index) files.log (fresh (begun (trail_limits trail) files.machine)))
+replayed trail files = Replayed (follow threads (judge_of files.rules trail.index) files.log (fresh (process_begun (trail_limits trail) files.machine)))
 
 -- the files of the kernel after so many events of the log
 abbrev pub files_after : Setup → List Entry → FileState
@@ -100,12 +100,12 @@ abbrev pub shown_of : Traced → Option (ℕ × ℕ) → Follower Proc → Outco
 shown_of files dump at = Shown (show_text at (files_after files.setup (take at.seen files.log)) dump)
 
 abbrev pub shown : Look → Traced → Outcome
-shown look files = shown_of files look.dump (at_point files.rules look.trail.index files.log (point_of look.point) look.trail.budget files.machine)
+shown look files = shown_of files look.dump (at_point files.rules look.trail.index files.log (trace_point look.point) look.trail.budget files.machine)
 
 -- A recorded run comes to its first file that can't be read or is refused, or else to an account of the sequential monitor, in which no version wanted memory.
 abbrev pub RecordComesTo : Plan → Prepared → Outcome → Type 0
-RecordComesTo plan (Unreadable place) outcome = outcome ≡ NotRead (name_of place plan)
-RecordComesTo plan (Refused place cause) outcome = outcome ≡ NotAccepted (name_of place plan) cause
+RecordComesTo plan (Unreadable place) outcome = outcome ≡ NotRead (name_at place plan)
+RecordComesTo plan (Refused place cause) outcome = outcome ≡ NotAccepted (name_at place plan) cause
 RecordComesTo plan (Ready setup rules machines) outcome =
     (account : Account) × (outcome ≡ Recorded account) × IsRunOf plan.limits setup rules machines account × (list_any (λ line. is_memory line.fate) account.lines ≡ false)
 
@@ -130,7 +130,7 @@ OwesAny (Some command) holds outcome = Owes command holds outcome
 
 -- What the words owe. Memory may be wanted instead, from the reading of a command's words on.
 abbrev pub IsDue : List (List ℕ) → (List ℕ → Told) → Outcome → Type 0
-IsDue words holds outcome = OwesAny (command_of words) holds outcome ⊎ ((outcome ≡ NoMemory) × IsSome (name_in words))
+IsDue words holds outcome = OwesAny (command_of words) holds outcome ⊎ ((outcome ≡ NoMemory) × IsSome (command_name words))
 
 -- no file was read
 abbrev pub IsUntouched : Source → Type 0
@@ -162,7 +162,7 @@ pub record Answers (words : List (List ℕ)) (source : Source) (before : Option 
   pub due : IsDue words source.holds outcome
   pub shown : Shows outcome source
   pub unread : command_of words ≡ None → IsUntouched source
-  pub says : Says (text_of outcome) (status_of outcome) before faults status after later_faults
+  pub says : Says (text_of outcome) (outcome_status outcome) before faults status after later_faults
 
 abbrev pub IsReady : Prepared → Type 0
 IsReady (Unreadable place) = ⊥

@@ -15,9 +15,6 @@ TRACE_LIMIT = 67108864
 abbrev pub is_longer : ℕ → List ℕ → Bool
 is_longer limit bytes = nat_lt limit (length bytes)
 
-abbrev pub is_long : List ℕ → Bool
-is_long bytes = is_longer FILE_LIMIT bytes
-
 -- more bytes than a file may have were taken, or the count stands at its last value
 abbrev pub TookMore : ℕ → ℕ → ℕ → Type 0
 TookMore limit before now = min (before + limit + 1) (2 ^ 64 - 1) ≤ now
@@ -44,9 +41,6 @@ IsReadOf bytes told = IsReadWithin FILE_LIMIT bytes told
 pub record IsLongerThan (limit : ℕ) (told : Told) : Type 0 where
   pub there : told ≢ Missing
   pub same : (content : List ℕ) → told ≡ Content content → is_longer limit content ≡ true
-
-abbrev pub IsLongOf : Told → Type 0
-IsLongOf told = IsLongerThan FILE_LIMIT told
 
 -- What may be found of a file with this limit, by what the source tells. A file whose content is told can be read.
 abbrev pub AgreesWithin : ℕ → Told → Found → Type 0

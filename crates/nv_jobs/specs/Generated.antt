@@ -1,6 +1,5 @@
 -- What the run of a number begins with.
-use Rattle.std.specs.Prelude.{◌≡◌, ◌≤◌, ℕ, List, [], ◌∷◌, Option, Some, Ok, length, map}
-use Rattle.std.proofs.Common.{Vec, Global}
+use Rattle.std.specs.Prelude.{◌≡◌, ◌≤◌, ℕ, List, [], Option, Some, Ok, length, map}
 use Rattle.nv_bpf.specs.declared.op.Op.{Op}
 use Rattle.nv_bpf.specs.Texts.{filter_of}
 use Rattle.nv_calls.specs.Calls.{Entry}
@@ -11,10 +10,10 @@ use Rattle.nv_machine.specs.Guest.{Machine}
 use Rattle.nv_command.specs.Words.{usual}
 use Rattle.nv_script.specs.Scripts.{Setup, script_of}
 use Rattle.nv_threads.specs.Threads.{Proc, threads}
-use Rattle.nv_replay.specs.Versions.{Running, process_of}
-use Rattle.nv_replay.specs.Accounts.{AreFresh}
-use Rattle.nv_jobs.specs.Account.{begun}
-use Rattle.nv_jobs.specs.Prepared.{Loads, of_elf, version_of}
+use Rattle.nv_replay.specs.Version.{Running, process_of}
+use Rattle.nv_replay.specs.Account.{AreFresh}
+use Rattle.nv_jobs.specs.Account.{process_begun}
+use Rattle.nv_jobs.specs.Prepared.{Loads, of_elf}
 
 -- Its script and its rules are read as files are, and its programs are loaded as those of files are, with the limits that a run usually has.
 pub record IsMadeRun (n : ℕ) (setup : Setup) (filter : Option (List Op)) (machines : List Machine) : Type 0 where
@@ -24,27 +23,11 @@ pub record IsMadeRun (n : ℕ) (setup : Setup) (filter : Option (List Op)) (mach
   pub filter_is : filter ≡ Some ops
   pub machines_are : map (of_elf usual setup) (map Accepted (programs n)) ≡ map Loads machines
 
--- the file loads this machine in a run that says nothing
-pub record Runs (setup : Setup) (file : List ℕ) : Type 0 where
-  pub machine : Machine
-  pub loads : version_of usual setup file ≡ Loads machine
-
--- the version is that of the file
-pub record IsFrom (setup : Setup) (file : List ℕ) (version : Running Proc) : Type 0 where
-  pub runs : Runs setup file
-  pub begins : version.at.process ≡ begun usual runs.machine
-
-abbrev pub AreFrom : Setup → List (Vec ℕ Global) → List (Running Proc) → Type 0
-AreFrom setup [] [] = Unit {0}
-AreFrom setup [] (version ∷ versions) = ⊥
-AreFrom setup (file ∷ files) [] = ⊥
-AreFrom setup (file ∷ files) (version ∷ versions) = IsFrom setup file.items version × AreFrom setup files versions
-
 -- a kernel, a filter and versions that are ready for the run of the number
 pub record IsGenerated (n : ℕ) (log : List Entry) (setup : Setup) (filter : Option (List Op)) (versions : List (Running Proc)) : Type 0 where
   pub empty : log ≡ []
   pub machines : List Machine
-  pub processes : map process_of versions ≡ map (begun usual) machines
+  pub processes : map process_of versions ≡ map (process_begun usual) machines
   pub run : IsMadeRun n setup filter machines
   pub fresh : AreFresh threads 0 versions
   pub few : length versions ≤ 8

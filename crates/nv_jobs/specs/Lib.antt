@@ -10,9 +10,7 @@ pub mod Generated
 pub mod Tracing
 pub mod Due
 pub mod Tasks
-pub mod Summing
 pub mod Ran
 pub mod Refusals
-pub mod Trails
-pub mod Unmade
 pub mod Untraced
+pub mod inner

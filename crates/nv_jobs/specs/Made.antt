@@ -3,11 +3,11 @@ use Rattle.std.specs.Prelude.{ℕ, List, ◌++◌, length, codes, Result, Ok, Er
 use Rattle.std.specs.Fmt.{decimal}
 use Rattle.nv_bpf.specs.declared.op.Op.{Op}
 use Rattle.nv_bpf.specs.declared.op.FilterFault.{FilterFault}
-use Rattle.nv_bpf.specs.Texts.{filter_of, text_of}
+use Rattle.nv_bpf.specs.Texts.{filter_of, ops_text}
 use Rattle.nv_bpf_asm.specs.declared.fault.RuleFault.{RuleFault}
 use Rattle.nv_bpf_asm.specs.Assembled.{assembled}
 use Rattle.nv_elf.specs.Elf.{Executable}
-use Rattle.nv_elf.specs.Written.{file_of}
+use Rattle.nv_elf.specs.Written.{elf_bytes}
 use Rattle.nv_asm.specs.declared.fault.AsmFault.{AsmFault}
 use Rattle.nv_asm.specs.Assembled as asm
 use Rattle.nv_jobs.specs.Found.{Found, Whole, TooLong, Unread}
@@ -22,21 +22,21 @@ use Rattle.nv_jobs.specs.declared.tools.Unmade.TheVariants.{Unreadable, Refused}
 abbrev pub accepted_text : ℕ → List ℕ
 accepted_text n = codes "ok " ++ (decimal n ++ codes "\n")
 
-abbrev pub of_filter : Result (List Op) FilterFault → Result (List ℕ) Cause
-of_filter (Ok ops) = Ok (accepted_text (length ops))
-of_filter (Err fault) = Err (Filter fault)
+abbrev pub accepted_filter : Result (List Op) FilterFault → Result (List ℕ) Cause
+accepted_filter (Ok ops) = Ok (accepted_text (length ops))
+accepted_filter (Err fault) = Err (Filter fault)
 
 abbrev pub of_rules : Result (List Op) RuleFault → Result (List ℕ) Cause
-of_rules (Ok ops) = Ok (text_of ops)
+of_rules (Ok ops) = Ok (ops_text ops)
 of_rules (Err fault) = Err (Rules fault)
 
 abbrev pub of_program : Result Executable AsmFault → Result (List ℕ) Cause
-of_program (Ok image) = Ok (file_of image)
+of_program (Ok image) = Ok (elf_bytes image)
 of_program (Err fault) = Err (Asm fault)
 
 -- a filter has at most 4096 instructions
 abbrev pub used : Tool → List ℕ → Result (List ℕ) Cause
-used CheckRules bytes = of_filter (filter_of 4096 bytes)
+used CheckRules bytes = accepted_filter (filter_of 4096 bytes)
 used AssembleRules bytes = of_rules (assembled 4096 bytes)
 used Assemble bytes = of_program (asm.assembled bytes)
 

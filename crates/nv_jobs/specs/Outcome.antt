@@ -76,29 +76,29 @@ text_of (TraceTooLong name) = concat (codes "varan: input " ∷ name ∷ codes "
 text_of (Replayed at) = replay_text at
 text_of (Shown text) = text
 
-abbrev pub status_of : Outcome → ℕ
-status_of Usage = 2
-status_of NoMemory = 3
-status_of (NotRead name) = 5
-status_of (NotAccepted name cause) = 4
-status_of (Reported json setup account) = run_status account.lines
-status_of (Made text) = 0
-status_of (Summed n setup account) = 0
-status_of (Recorded account) = run_status account.lines
-status_of (TraceTooLong name) = 4
-status_of (Replayed at) = replay_status at.fate
-status_of (Shown text) = 0
+abbrev pub outcome_status : Outcome → ℕ
+outcome_status Usage = 2
+outcome_status NoMemory = 3
+outcome_status (NotRead name) = 5
+outcome_status (NotAccepted name cause) = 4
+outcome_status (Reported json setup account) = run_status account.lines
+outcome_status (Made text) = 0
+outcome_status (Summed n setup account) = 0
+outcome_status (Recorded account) = run_status account.lines
+outcome_status (TraceTooLong name) = 4
+outcome_status (Replayed at) = replay_status at.fate
+outcome_status (Shown text) = 0
 
 -- a write fault takes the place of the other statuses
 abbrev pub ended_with : Put → ℕ → ℕ
 ended_with Whole status = status
 ended_with Failed status = 6
 
-abbrev pub name_of : Place → Plan → List ℕ
-name_of Script plan = plan.script
-name_of place.Rules plan = unwrap_or plan.rules []
-name_of place.Trace plan = []
-name_of (Version i) plan = unwrap_or (slice_get plan.versions i) []
+abbrev pub name_at : Place → Plan → List ℕ
+name_at Script plan = plan.script
+name_at place.Rules plan = unwrap_or plan.rules []
+name_at place.Trace plan = []
+name_at (Version i) plan = unwrap_or (slice_get plan.versions i) []
 
 -- the name of a file of a version that follows a trace
 abbrev pub name_on : Place → Trail → List ℕ
@@ -109,8 +109,8 @@ name_on (Version i) trail = trail.version
 
 abbrev pub outcome_of : Refusal → Plan → Outcome
 outcome_of refusal.Memory plan = NoMemory
-outcome_of (refusal.Unreadable place) plan = NotRead (name_of place plan)
-outcome_of (refusal.Input place cause) plan = NotAccepted (name_of place plan) cause
+outcome_of (refusal.Unreadable place) plan = NotRead (name_at place plan)
+outcome_of (refusal.Input place cause) plan = NotAccepted (name_at place plan) cause
 
 -- The file source of a call: what it tells of each name, and its counts before the call and after it.
 pub record Source : Type 0 where

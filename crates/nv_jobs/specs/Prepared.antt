@@ -34,8 +34,8 @@ of_elf limits setup (elf.Refused fault) = Faulty (Elf fault)
 of_elf limits setup (elf.Accepted image) = of_loaded (loaded image setup.arguments limits.memory)
 
 -- what a version file comes to; a guest has as many bytes as the limits say, and after its name the script's arguments
-unfoldable pub version_of : Limits → Setup → List ℕ → VersionOf
-version_of limits setup bytes = of_elf limits setup (elf_of bytes)
+unfoldable pub version_from : Limits → Setup → List ℕ → VersionOf
+version_from limits setup bytes = of_elf limits setup (elf_of bytes)
 
 -- The first file in reading order that can't be read or is refused; or else what the script says, the filter that judges followers,
 -- if there is one, and the machines of the versions.
@@ -51,20 +51,20 @@ read_at place TooLong check = Refused place Long
 read_at place Unread check = Unreadable place
 
 -- with the machine of the version before, which stands first
-abbrev pub with_machine : Machine → Prepared → Prepared
-with_machine machine (Unreadable place) = Unreadable place
-with_machine machine (Refused place cause) = Refused place cause
-with_machine machine (Ready setup rules rest) = Ready setup rules (machine ∷ rest)
+abbrev pub with_first_machine : Machine → Prepared → Prepared
+with_first_machine machine (Unreadable place) = Unreadable place
+with_first_machine machine (Refused place cause) = Refused place cause
+with_first_machine machine (Ready setup rules rest) = Ready setup rules (machine ∷ rest)
 
 abbrev pub version_then : ℕ → Prepared → VersionOf → Prepared
 version_then i rest (Faulty cause) = Refused (Version i) cause
-version_then i rest (Loads machine) = with_machine machine rest
+version_then i rest (Loads machine) = with_first_machine machine rest
 
 -- the versions from number i on
 abbrev pub versions_from : Limits → Setup → ℕ → List Found → Prepared
 versions_from limits setup i [] = Ready setup None []
 versions_from limits setup i (found ∷ finds) =
-    read_at (Version i) found (λ bytes. version_then i (versions_from limits setup (i + 1) finds) (version_of limits setup bytes))
+    read_at (Version i) found (λ bytes. version_then i (versions_from limits setup (i + 1) finds) (version_from limits setup bytes))
 
 -- a run with this filter
 abbrev pub judged_by : List Op → Prepared → Prepared

@@ -16,7 +16,7 @@ use Rattle.nv_trace.specs.Held.{log_in}
 use Rattle.nv_trace.specs.Faults.{trace_fault}
 use Rattle.nv_trace.specs.Checks.{check_fault}
 use Rattle.nv_jobs.specs.Found.{Found, Whole, TooLong, Unread, Agrees, AgreesIf, AgreesWithin, TRACE_LIMIT, found_of, found_within}
-use Rattle.nv_jobs.specs.Prepared.{VersionOf, Faulty, Loads, version_of}
+use Rattle.nv_jobs.specs.Prepared.{VersionOf, Faulty, Loads, version_from}
 use Rattle.nv_jobs.specs.declared.refusal.Place.{Place}
 use Rattle.nv_jobs.specs.declared.refusal.Place.TheVariants.{Script, Rules, Trace, Version}
 use Rattle.nv_jobs.specs.declared.refusal.Cause.{Cause}
@@ -56,56 +56,56 @@ then_with use_it (Ok x) = use_it x
 then_with use_it (Err lack) = Err lack
 
 -- the bytes that were found
-abbrev pub bytes_at : Place → Found → Result (List ℕ) Lack
-bytes_at place (Whole bytes) = Ok bytes
-bytes_at place TooLong = Err (Refused place causes.Long)
-bytes_at place Unread = Err (Unreadable place)
+abbrev pub bytes_found : Place → Found → Result (List ℕ) Lack
+bytes_found place (Whole bytes) = Ok bytes
+bytes_found place TooLong = Err (Refused place causes.Long)
+bytes_found place Unread = Err (Unreadable place)
 
 abbrev pub of_script : Result Setup ScriptFault → Result Setup Lack
 of_script (Ok setup) = Ok setup
 of_script (Err fault) = Err (Refused Script (causes.Script fault))
 
 abbrev pub script_at : Found → Result Setup Lack
-script_at found = then_with (λ bytes. of_script (script_of bytes)) (bytes_at Script found)
+script_at found = then_with (λ bytes. of_script (script_of bytes)) (bytes_found Script found)
 
-abbrev pub of_filter : Result (List Op) FilterFault → Result (Option (List Op)) Lack
-of_filter (Ok ops) = Ok (Some ops)
-of_filter (Err fault) = Err (Refused Rules (causes.Filter fault))
+abbrev pub traced_rules : Result (List Op) FilterFault → Result (Option (List Op)) Lack
+traced_rules (Ok ops) = Ok (Some ops)
+traced_rules (Err fault) = Err (Refused Rules (causes.Filter fault))
 
 -- no rules where none are named
 abbrev pub rules_at : Option Found → Result (Option (List Op)) Lack
 rules_at None = Ok None
-rules_at (Some found) = then_with (λ bytes. of_filter (filter_of 4096 bytes)) (bytes_at Rules found)
+rules_at (Some found) = then_with (λ bytes. traced_rules (filter_of 4096 bytes)) (bytes_found Rules found)
 
 abbrev pub unless_unsound : List Entry → Option CheckFault → Result (List Entry) Cause
 unless_unsound log None = Ok log
 unless_unsound log (Some fault) = Err (causes.Check fault)
 
-abbrev pub unless_faulty : Result (List Entry) Cause → Option TraceFault → Result (List Entry) Cause
-unless_faulty log None = log
-unless_faulty log (Some fault) = Err (causes.Trace fault)
+abbrev pub log_unless_faulty : Result (List Entry) Cause → Option TraceFault → Result (List Entry) Cause
+log_unless_faulty log None = log
+log_unless_faulty log (Some fault) = Err (causes.Trace fault)
 
 -- The log that is recorded in these bytes; or why they are no trace, or why a kernel over what the script says doesn't come to its events.
 unfoldable pub trace_of_file : Setup → List ℕ → Result (List Entry) Cause
-trace_of_file setup bytes = unless_faulty (unless_unsound (log_in bytes) (check_fault (start_of_script setup) (log_in bytes))) (trace_fault bytes)
+trace_of_file setup bytes = log_unless_faulty (unless_unsound (log_in bytes) (check_fault (start_of_script setup) (log_in bytes))) (trace_fault bytes)
 
 abbrev pub of_trace : Result (List Entry) Cause → Result (List Entry) Lack
 of_trace (Ok log) = Ok log
 of_trace (Err cause) = Err (Refused Trace cause)
 
 abbrev pub log_at : Setup → Found → Result (List Entry) Lack
-log_at setup found = then_with (λ bytes. of_trace (trace_of_file setup bytes)) (bytes_at Trace found)
+log_at setup found = then_with (λ bytes. of_trace (trace_of_file setup bytes)) (bytes_found Trace found)
 
 -- the limits of a version that follows a trace
 abbrev pub trail_limits : Trail → Limits
 trail_limits trail = record usual { memory = trail.memory; budget = trail.budget }
 
-abbrev pub of_version : ℕ → VersionOf → Result Machine Lack
-of_version i (Faulty cause) = Err (Refused (Version i) cause)
-of_version i (Loads machine) = Ok machine
+abbrev pub traced_version : ℕ → VersionOf → Result Machine Lack
+traced_version i (Faulty cause) = Err (Refused (Version i) cause)
+traced_version i (Loads machine) = Ok machine
 
-abbrev pub machine_at : Trail → Setup → Found → Result Machine Lack
-machine_at trail setup found = then_with (λ bytes. of_version trail.index (version_of (trail_limits trail) setup bytes)) (bytes_at (Version trail.index) found)
+abbrev pub machine_traced : Trail → Setup → Found → Result Machine Lack
+machine_traced trail setup found = then_with (λ bytes. traced_version trail.index (version_from (trail_limits trail) setup bytes)) (bytes_found (Version trail.index) found)
 
 -- what the script says, the filter that judges the version if there is one, the log, and the version's machine
 pub record Traced : Type 0 where
@@ -117,7 +117,7 @@ pub record Traced : Type 0 where
 -- after the log the version is read
 abbrev pub after_log : Trail → Found → Setup → Option (List Op) → List Entry → Result Traced Lack
 after_log trail version setup rules log =
-    then_with (λ machine. Ok (record { setup = setup; rules = rules; log = log; machine = machine })) (machine_at trail setup version)
+    then_with (λ machine. Ok (record { setup = setup; rules = rules; log = log; machine = machine })) (machine_traced trail setup version)
 
 -- after the rules the trace is read
 abbrev pub after_filter : Trail → Found → Found → Setup → Option (List Op) → Result Traced Lack

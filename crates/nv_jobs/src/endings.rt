@@ -3,7 +3,7 @@ ghost use Rattle.std.specs.Prelude.{◌≡◌, count_by, map};
 ghost use Rattle.std.specs.List.{list_any};
 ghost use Rattle.nv_replay.specs.Follow.{is_exited};
 ghost use Rattle.nv_replay.specs.Lead.{is_memory};
-ghost use Rattle.nv_replay.specs.Versions.{standing_of};
+ghost use Rattle.nv_replay.specs.Version.{standing_of};
 ghost use Rattle.nv_jobs.specs.Account.{run_status};
 ghost use Rattle.nv_jobs.specs.Due.{Says};
 ghost use Rattle.nv_jobs.specs.Outcome.{ended_with};

@@ -2,12 +2,13 @@
 ghost use Rattle.std.specs.Prelude.{◌≡◌, ◌≤◌, ◌<◌, All, IfOk, IfErr, IsTrue, length};
 ghost use Rattle.nv_gen.specs.Made.{script, rules};
 ghost use Rattle.nv_gen_laws.specs.Texts.{bare, asks_beside_writes};
-ghost use Rattle.nv_replay.specs.Accounts.{AreFresh};
-ghost use Rattle.nv_replay.specs.Versions.{IsFresh};
+ghost use Rattle.nv_replay.specs.Account.{AreFresh};
+ghost use Rattle.nv_replay.specs.Version.{IsFresh};
 ghost use Rattle.nv_script.specs.Scripts.{is_script};
 ghost use Rattle.nv_script.specs.Views.{setup_of};
 ghost use Rattle.nv_threads.specs.Threads.{threads};
-ghost use Rattle.nv_jobs.specs.Generated.{IsFrom, AreFrom, IsGenerated, Runs};
+ghost use Rattle.nv_jobs.specs.Generated.{IsGenerated};
+ghost use Rattle.nv_jobs.specs.inner.Generated.{IsFrom, AreFrom, Runs};
 ghost use Rattle.nv_jobs.specs.Refusals.{IsPlanned};
 ghost use Rattle.nv_jobs.specs.declared.refusal.Refusal.TheVariants.{Memory};
 

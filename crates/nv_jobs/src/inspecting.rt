@@ -4,17 +4,17 @@ ghost use Rattle.nv_command.specs.Words.{Inspects, command_of};
 ghost use Rattle.nv_command.specs.Seen.{look_view, point_view};
 ghost use Rattle.nv_inspect.specs.Shown.{show_text, IsDump};
 ghost use Rattle.nv_replay.specs.Follow.{follow, fresh, judge_of};
-ghost use Rattle.nv_replay.specs.Versions.{IsFresh};
+ghost use Rattle.nv_replay.specs.Version.{IsFresh};
 ghost use Rattle.nv_retrace.specs.Points.{events_to, budget_to};
 ghost use Rattle.nv_script.specs.Scripts.{is_script};
 ghost use Rattle.nv_script.specs.Views.{setup_of};
 ghost use Rattle.nv_sockets.specs.Serving.{start_of_script};
 ghost use Rattle.nv_threads.specs.Threads.{threads};
-ghost use Rattle.nv_trace.specs.Checks.{IsSound};
+ghost use Rattle.nv_trace.specs.Checks.{AreSoundEvents};
 ghost use Rattle.nv_jobs.specs.Due.{Answers, files_after};
 ghost use Rattle.nv_jobs.specs.Outcome.{source_of};
 ghost use Rattle.nv_jobs.specs.Ran.{Wrote};
-ghost use Rattle.nv_jobs.specs.Tracing.{point_of};
+ghost use Rattle.nv_jobs.specs.Tracing.{trace_point};
 
 use crate::endings::{MEMORY, ended, put_line};
 use crate::refusing::refuse_trail;
@@ -27,7 +27,7 @@ use nv_retrace::{TracePoint, bring, kernel_after};
 use std::alloc::Global;
 
 fn point(look: &Look<'_>) -> TracePoint
-    ensures { result ≡ point_of (point_view look.now.point) }
+    ensures { result ≡ trace_point (point_view look.now.point) }
 {
     match look.point {
         nv_command::Point::Stamp(stamp) => TracePoint::Stamp(stamp),
@@ -38,7 +38,7 @@ fn point(look: &Look<'_>) -> TracePoint
 
 // The instructions that the version has: a count is a point of its own, above the budget too.
 fn budget(look: &Look<'_>) -> u32
-    ensures is { result ≡ budget_to (point_of (point_view look.now.point)) look.now.trail.budget }
+    ensures is { result ≡ budget_to (trace_point (point_view look.now.point)) look.now.trail.budget }
     ensures few { result ≤ 1_000_000_000 }
 {
     match look.point {
@@ -58,7 +58,7 @@ fn show_at<S: Sink>(
     requires fresh { IsFresh threads traced.version.index traced.version }
     requires settled { traced.version.eager ≡ false }
     requires script { IsTrue (is_script (setup_of traced.script)) }
-    requires sound { IsSound (start_of_script (setup_of traced.script)) traced.kernel.log }
+    requires sound { AreSoundEvents (start_of_script (setup_of traced.script)) traced.kernel.log }
     requires dump { IsDump dump }
     ensures { let at = follow threads (judge_of traced.rules traced.version.index) (events_to point traced.kernel.log) (fresh traced.version.at.process) in
         Wrote (show_text at (files_after (setup_of traced.script) (take at.seen traced.kernel.log)) dump) 0

@@ -2,7 +2,7 @@
 ghost use Rattle.std.specs.Prelude.{◌≡◌, List, ℕ, Some};
 ghost use Rattle.nv_command.specs.Words.{Uses, command_of};
 ghost use Rattle.nv_jobs.specs.Due.{Answers, Says};
-ghost use Rattle.nv_jobs.specs.Outcome.{source_of, status_of, text_of};
+ghost use Rattle.nv_jobs.specs.Outcome.{source_of, outcome_status, text_of};
 ghost use Rattle.nv_jobs.specs.Tasks.{IsTaskOf, fault_outcome};
 
 use crate::endings::{MEMORY, USAGE, put_line};
@@ -37,7 +37,7 @@ fn use_file<F: Files, S: Sink>(
 
 /// Says that the words are refused, or that memory was wanted while they were read.
 pub fn refuse_words<S: Sink>(sink: &mut S, fault: LineFault) -> u8
-    ensures { Says (text_of (fault_outcome fault)) (status_of (fault_outcome fault)) (S.told sink.old) (S.faults sink.old) result (S.told sink.new) (S.faults sink.new) }
+    ensures { Says (text_of (fault_outcome fault)) (outcome_status (fault_outcome fault)) (S.told sink.old) (S.faults sink.old) result (S.told sink.new) (S.faults sink.new) }
 {
     match fault {
         LineFault::Usage => put_line(sink, b"varan: usage\n", USAGE),

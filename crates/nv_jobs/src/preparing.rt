@@ -5,12 +5,13 @@ ghost use Rattle.nv_guest.specs.Guest.{machine_of, one_thread};
 ghost use Rattle.nv_script.specs.Scripts.{script_of, is_script};
 ghost use Rattle.nv_script.specs.Views.{setup_of};
 ghost use Rattle.nv_threads.specs.Threads.{threads, started};
-ghost use Rattle.nv_replay.specs.Versions.{IsFresh};
-ghost use Rattle.nv_replay.specs.Accounts.{AreFresh};
+ghost use Rattle.nv_replay.specs.Version.{IsFresh};
+ghost use Rattle.nv_replay.specs.Account.{AreFresh};
 ghost use Rattle.nv_command.specs.Seen.{limits_view, names_view, rules_view, plan_view};
-ghost use Rattle.nv_jobs.specs.Prepared.{Loads, version_of};
+ghost use Rattle.nv_jobs.specs.Prepared.{Loads, version_from};
 ghost use Rattle.nv_jobs.specs.Found.{IsReadWithin};
-ghost use Rattle.nv_jobs.specs.Refusals.{ReadRefused, Refuses, IsScriptRefusal, IsFilterRefusal, HasRules, RulesRefused, IsVersionRefusal, VersionRefused, VersionsRefused, HasLoaded, AreLoaded, IsPlanned, IsPrepared};
+ghost use Rattle.nv_jobs.specs.Refusals.{Refuses, IsPlanned, IsPrepared};
+ghost use Rattle.nv_jobs.specs.inner.Refusals.{ReadRefused, IsScriptRefusal, IsFilterRefusal, HasRules, RulesRefused, IsVersionRefusal, VersionRefused, VersionsRefused, HasLoaded, AreLoaded};
 
 use crate::limits::FILE_LIMIT;
 use crate::refusal::{Cause, Place, Refusal};
@@ -104,7 +105,7 @@ pub fn read_rules<F: Files>(
 }
 
 // Loads a version file.
-#[tactic(auto, unfolding(crate::specs::Prepared::version_of))]
+#[tactic(auto, unfolding(crate::specs::Prepared::version_from))]
 pub fn load(
     alloc: Global,
     limits: Limits,
@@ -113,7 +114,7 @@ pub fn load(
     place: Place,
 ) -> Result<Guest, Refusal>
     requires { length bytes.now ≤ FILE_LIMIT }
-    ensures guest { IfOk result (λ guest. version_of (limits_view limits) (setup_of script.now) bytes.now ≡ Loads (machine_of guest)) }
+    ensures guest { IfOk result (λ guest. version_from (limits_view limits) (setup_of script.now) bytes.now ≡ Loads (machine_of guest)) }
     ensures alone { IfOk result (λ guest. guest ≡ one_thread (machine_of guest)) }
     ensures refused { IfErr result (λ refusal. IsVersionRefusal (limits_view limits) (setup_of script.now) refusal place bytes.now) }
 {

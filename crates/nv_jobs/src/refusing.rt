@@ -2,9 +2,9 @@
 ghost use Rattle.std.specs.Prelude.{◌≡◌};
 ghost use Rattle.nv_command.specs.Seen.{plan_view, trail_view};
 ghost use Rattle.nv_jobs.specs.Due.{Says};
-ghost use Rattle.nv_jobs.specs.Outcome.{NotAccepted, NotRead, name_of, name_on, outcome_of, text_of};
+ghost use Rattle.nv_jobs.specs.Outcome.{NotAccepted, NotRead, name_at, name_on, outcome_of, text_of};
 ghost use Rattle.nv_jobs.specs.Ran.{Wrote, Tells};
-ghost use Rattle.nv_jobs.specs.Trails.{refused_outcome};
+ghost use Rattle.nv_jobs.specs.inner.Trails.{refused_outcome};
 
 use crate::endings::{INPUT, MEMORY, READ_FAULT, ended, put_line};
 use crate::refusal::{Cause, Place, Refusal};
@@ -13,7 +13,7 @@ use nv_outside::{Sink, put_pieces};
 use std::alloc::Global;
 
 fn name<'a>(place: Place, plan: &Run<'a>) -> &'a str
-    ensures { result.now ≡ name_of place (plan_view plan.now) }
+    ensures { result.now ≡ name_at place (plan_view plan.now) }
 {
     match place {
         Place::Script => plan.script,

@@ -4,7 +4,7 @@ ghost use Rattle.nv_command.specs.Words.{Replays, command_of};
 ghost use Rattle.nv_command.specs.Seen.{trail_view};
 ghost use Rattle.nv_outside.specs.Sink.{Puts};
 ghost use Rattle.nv_replay.specs.Follow.{follow, fresh, judge_of};
-ghost use Rattle.nv_replay.specs.Versions.{IsFresh};
+ghost use Rattle.nv_replay.specs.Version.{IsFresh};
 ghost use Rattle.nv_threads.specs.Threads.{threads};
 ghost use Rattle.nv_jobs.specs.Due.{Answers, Says};
 ghost use Rattle.nv_jobs.specs.Outcome.{source_of};

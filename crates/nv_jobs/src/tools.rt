@@ -1,7 +1,7 @@
 // The commands over one file.
 ghost use Rattle.std.specs.Prelude.{◌≡◌, ◌≢◌, ◌≤◌, List, ℕ, Ok, Err, IfOk, IfErr, OnOk, length};
-ghost use Rattle.nv_jobs.specs.Made.{accepted_text, of_filter, of_rules, of_program, used};
-ghost use Rattle.nv_jobs.specs.Unmade.{Makes, IsUnmade, IsReasonFor};
+ghost use Rattle.nv_jobs.specs.Made.{accepted_text, accepted_filter, of_rules, of_program, used};
+ghost use Rattle.nv_jobs.specs.inner.Unmade.{IsMadeOf, IsUnmade, IsReasonFor};
 ghost use Rattle.nv_jobs.specs.declared.tools.Unmade.TheVariants.{Memory};
 ghost use Rattle.nv_bpf.specs.Texts.{filter_of};
 ghost use Rattle.nv_bpf_asm.specs.Assembled.{assembled};
@@ -55,8 +55,8 @@ fn accepted(alloc: Global, ops: u32) -> Result<Vec<u8>, Unmade>
 }
 
 fn check_rules(alloc: Global, bytes: &[u8]) -> Result<Vec<u8>, Unmade>
-    ensures text { IfOk result (λ text. of_filter (filter_of 4096 bytes.now) ≡ Ok text.items) }
-    ensures unmade { IfErr result (λ unmade. IsReasonFor unmade (of_filter (filter_of 4096 bytes.now))) }
+    ensures text { IfOk result (λ text. accepted_filter (filter_of 4096 bytes.now) ≡ Ok text.items) }
+    ensures unmade { IfErr result (λ unmade. IsReasonFor unmade (accepted_filter (filter_of 4096 bytes.now))) }
 {
     match nv_bpf::read(alloc, bytes) {
         Ok(filter) => accepted(alloc, filter.len()),
@@ -111,7 +111,7 @@ pub fn make<F: Files>(
     tool: Tool,
     file: &str,
 ) -> Result<Vec<u8>, Unmade>
-    ensures text { IfOk result (λ text. Makes tool (F.holds files.old file.now) (Ok text.items)) }
+    ensures text { IfOk result (λ text. IsMadeOf tool (F.holds files.old file.now) (Ok text.items)) }
     ensures faults { OnOk result (F.faults files.new ≡ F.faults files.old) }
     ensures unmade { IfErr result (λ unmade. IsUnmade unmade tool (F.holds files.old file.now)
         (F.faults files.old) (F.faults files.new) (F.taken files.old) (F.taken files.new)) }

@@ -4,10 +4,10 @@ ghost use Rattle.nv_command.specs.Seen.{limits_view, trail_view};
 ghost use Rattle.nv_script.specs.Scripts.{is_script};
 ghost use Rattle.nv_script.specs.Views.{setup_of};
 ghost use Rattle.nv_sockets.specs.Serving.{start_of_script};
-ghost use Rattle.nv_trace.specs.Checks.{IsSound};
+ghost use Rattle.nv_trace.specs.Checks.{AreSoundEvents};
 ghost use Rattle.nv_jobs.specs.Found.{FILE_LIMIT, TRACE_LIMIT};
-ghost use Rattle.nv_jobs.specs.Traced.{script_at, log_at, machine_at, trace_of_file, trail_limits};
-ghost use Rattle.nv_jobs.specs.Trails.{Gives, StepRefused, IsTraceRefusal, TrailRefused, IsFollower, IsTraced};
+ghost use Rattle.nv_jobs.specs.Traced.{script_at, log_at, machine_traced, trace_of_file, trail_limits};
+ghost use Rattle.nv_jobs.specs.inner.Trails.{Gives, StepRefused, IsTraceRefusal, TrailRefused, IsFollower, IsTraced};
 
 use crate::limits::{FILE_LIMIT, TRACE_LIMIT};
 use crate::preparing::{load, read_file, read_rules, script_in, version};
@@ -48,7 +48,7 @@ fn read_script<F: Files>(alloc: Global, files: &mut F, name: &str) -> Result<Scr
 fn kernel_in(alloc: Global, script: &Script, bytes: &[u8]) -> Result<SocketKernel, Refusal>
     requires script { IsTrue (is_script (setup_of script.now)) }
     ensures log { IfOk result (λ kernel. trace_of_file (setup_of script.now) bytes.now ≡ Ok kernel.log) }
-    ensures sound { IfOk result (λ kernel. IsSound (start_of_script (setup_of script.now)) kernel.log) }
+    ensures sound { IfOk result (λ kernel. AreSoundEvents (start_of_script (setup_of script.now)) kernel.log) }
     ensures refused { IfErr result (λ refusal. IsTraceRefusal refusal (setup_of script.now) bytes.now) }
 {
     let events = nv_trace::read(alloc, bytes)?;
@@ -65,7 +65,7 @@ fn read_log<F: Files>(
 ) -> Result<SocketKernel, Refusal>
     requires script { IsTrue (is_script (setup_of script.now)) }
     ensures log { IfOk result (λ kernel. Gives (log_at (setup_of script.now)) TRACE_LIMIT (F.holds files.old name.now) (Ok kernel.log)) }
-    ensures sound { IfOk result (λ kernel. IsSound (start_of_script (setup_of script.now)) kernel.log) }
+    ensures sound { IfOk result (λ kernel. AreSoundEvents (start_of_script (setup_of script.now)) kernel.log) }
     ensures refused { IfErr result (λ refusal. StepRefused refusal Place.Trace (log_at (setup_of script.now)) (F.holds files.old name.now)
         (F.faults files.old) (F.faults files.new) (F.taken files.old) (F.taken files.new)) }
     ensures same { (name : List ℕ) → F.holds files.new name ≡ F.holds files.old name }
@@ -99,7 +99,7 @@ fn read_follower<F: Files>(
 ) -> Result<Version, Refusal>
     requires budget { budget ≤ 1_000_000_000 }
     ensures version { IfOk result (λ version. IsFollower (trail_view trail.now) budget (setup_of script.now) version (F.holds files.old trail.now.version.now)) }
-    ensures refused { IfErr result (λ refusal. StepRefused refusal (Place.Version trail.now.index) (machine_at (trail_view trail.now) (setup_of script.now))
+    ensures refused { IfErr result (λ refusal. StepRefused refusal (Place.Version trail.now.index) (machine_traced (trail_view trail.now) (setup_of script.now))
         (F.holds files.old trail.now.version.now) (F.faults files.old) (F.faults files.new) (F.taken files.old) (F.taken files.new)) }
     ensures faults { OnOk result (F.faults files.new ≡ F.faults files.old) }
 {

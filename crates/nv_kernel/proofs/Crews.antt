@@ -10,7 +10,7 @@ use Rattle.nv_calls.specs.Numbers.{syscall_of, has_range}
 use Rattle.nv_calls.specs.Shapes.{IsShaped}
 use Rattle.nv_calls.specs.Logs.{made, with_child, IsNew}
 use Rattle.nv_fs.specs.States.{is_open}
-use Rattle.nv_kernel.specs.Crew.{Crew, IsCrew, clone_as, clone_of, may_clone, exit_of, over}
+use Rattle.nv_kernel.specs.Crew.{Crew, IsCrew, clone_as, clone_of, may_clone, exit_of, with_none_live}
 use Rattle.nv_kernel.proofs.CrewLaws.{clone_crew, exit_crew, clone_new}
 use Rattle.nv_kernel.proofs.ReplyLaws.{good}
 use Rattle.nv_kernel.specs.Serving.{State, Served, replied, counted, answered, serve, state_after}

@@ -3,7 +3,7 @@ use Rattle.std.proofs.Common.{◌≡◌, sym, subst, refl, ℕ, pos, ◌+◌, �
 use Rattle.std.proofs.lemmas.Bool.Decides.{nat_tests}
 use Rattle.nv_calls.specs.declared.numbers.Syscall.{Syscall}
 use Rattle.nv_calls.specs.Calls.{Request}
-use Rattle.nv_calls.specs.Constants.{plain, directory, names}
+use Rattle.nv_calls.specs.Constants.{result_alone, directory, names}
 use Rattle.nv_calls.specs.Errors.{ERANGE}
 use Rattle.nv_kernel.specs.Serving.{Served}
 use Rattle.nv_calls.specs.declared.numbers.Syscall.TheVariants.{Unlinkat, Openat, Write, Writev, Bind}
@@ -23,7 +23,7 @@ few_by false x y n p q = q
 pub directory_few : (size : ℕ) → length (directory size).payload ≤ min size 2
 directory_few size = by (nat_lt size 2) refl
   where
-    by : (b : Bool) → nat_lt size 2 ≡ b → length (cond b (plain ERANGE) (record { ret = pos 2; payload = 47 ∷ 0 ∷ [] })).payload ≤ min size 2
+    by : (b : Bool) → nat_lt size 2 ≡ b → length (cond b (result_alone ERANGE) (record { ret = pos 2; payload = 47 ∷ 0 ∷ [] })).payload ≤ min size 2
     by true h = omega arith
     by false h = let big : 2 ≤ size = grind (arith, nat_tests) in omega arith
 

@@ -1,11 +1,10 @@
 -- A kernel keeps its laws when it serves a call.
 use Rattle.std.proofs.Common.{◌≡◌, ◌≢◌, ◌∙◌, sym, ap, subst, refl, ℕ, ◌<◌, List, [], ◌∷◌, ◌++◌, length, Option, Some, None, cond}
-use Rattle.std.specs.Prelude.{◌==◌, Contains, slice_index, ◌%◌}
+use Rattle.std.specs.Prelude.{◌==◌, Contains}
 use Rattle.nv_calls.specs.Calls.{Request, Entry}
-use Rattle.nv_calls.specs.Logs.{Start, IsLawful, IsLegal, InRange, IsNew, made, served, child_of, live_after, live_next, last_status, ended_after}
-use Rattle.nv_calls.proofs.LogLaws.{lawful_more, legal_more, lawful_none, legal_none, live_more, status_more}
-use Rattle.nv_kernel.specs.Crew.{Crew, IsCrew, first_crew}
-use Rattle.nv_kernel.proofs.CrewLaws.{first_is}
+use Rattle.nv_calls.specs.Logs.{Start, IsLawful, IsLegal, InRange, IsNew, served, child_of, live_after, live_next, last_status, ended_after}
+use Rattle.nv_calls.proofs.LogLaws.{lawful_more, legal_more, live_more, status_more}
+use Rattle.nv_kernel.specs.Crew.{Crew, IsCrew}
 use Rattle.nv_kernel.specs.Ends.{end_next}
 use Rattle.nv_kernel.specs.Kernel.{Spare, IsSound}
 
@@ -39,16 +38,6 @@ kept_reserved start log log' len cap len' cap' spare spare' end crew crew' k h e
 pub kept_none : (start : Start) (log log' : List Entry) (len cap len' cap' : ℕ) (spare : Option Spare) (end : Option ℕ) (crew crew' : Crew)
     → IsSound start log len cap spare end crew → log' ≡ log → crew' ≡ crew → IsSound start log' len' cap' None end crew'
 kept_none start log log' len cap len' cap' spare end crew crew' k h e = kept_reserved start log log' len cap len' cap' spare None end crew crew' k h e (λ n. absurd (n refl))
-
-pub kept_first : (start : Start) (len cap : ℕ) (crew : Crew) → crew ≡ first_crew → IsSound start [] len cap None None crew
-kept_first start len cap crew e = record {
-  legal = legal_none start;
-  lawful = lawful_none;
-  reserved = λ h. absurd (h refl);
-  live = ap (λ (z : Crew). z.live) (sym e);
-  crew_is = subst IsCrew (sym e) first_is;
-  end_is = refl;
-}
 
 pub map_more : {A B : Type 0} (f : A → B) (xs : List A) (x : A) → Rattle.std.specs.Prelude.map f (xs ++ x ∷ []) ≡ Rattle.std.specs.Prelude.map f xs ++ f x ∷ []
 map_more f [] x = refl

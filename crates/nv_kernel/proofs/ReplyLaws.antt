@@ -5,7 +5,7 @@ use Rattle.std.proofs.lemmas.Option.{same_Some}
 use Rattle.nv_calls.specs.declared.numbers.Syscall.{Syscall}
 use Rattle.nv_calls.specs.declared.numbers.Syscall.TheVariants.{Getcwd, Uname, Getpid, Getppid, Getuid, Geteuid, Getgid, Getegid}
 use Rattle.nv_calls.specs.Calls.{Request, Response}
-use Rattle.nv_calls.specs.Constants.{plain, system, process, parent, user, constant_by, constant_of}
+use Rattle.nv_calls.specs.Constants.{result_alone, system, process, parent, user, constant_by, constant_of}
 use Rattle.nv_calls.specs.Errors.{EFAULT}
 use Rattle.nv_calls.specs.Numbers.{syscall_of, has_range}
 use Rattle.nv_calls.specs.Shapes.{IsShaped}
@@ -29,7 +29,7 @@ good_by true range h k = (let z : range ≡ true = k in cc)
 pub good : (c : Request) (k : Syscall) → IsShaped c → syscall_of c.nr ≡ k → has_range k ≡ false → c.bad ≡ false
 good c k h e r = good_by c.bad (has_range (syscall_of c.nr)) (ap has_range e ∙ r) (shaped-parts c h).bad
 
-range_by : (bad : Bool) (s : State) (x r : Response) → Some (cond bad (plain EFAULT) x) ≡ Some r → reply_of (cond bad (replied s EFAULT []) (always s x)) ≡ r
+range_by : (bad : Bool) (s : State) (x r : Response) → Some (cond bad (result_alone EFAULT) x) ≡ Some r → reply_of (cond bad (replied s EFAULT []) (always s x)) ≡ r
 range_by true s x r h = same_Some _ r h
 range_by false s x r h = same_Some _ r h
 

@@ -29,8 +29,8 @@ clone_of s flags = clone_as s (may_clone flags) (not (nat_lt (length s.live) MOS
 abbrev pub exit_of : Crew → ℕ → Crew
 exit_of s tid = record s { live = filter (λ t. not (t == tid)) s.live }
 
-abbrev pub over : Crew → Crew
-over s = record s { live = [] }
+abbrev pub with_none_live : Crew → Crew
+with_none_live s = record s { live = [] }
 
 -- each thread's number is one that was given
 abbrev pub IsCrew : Crew → Type 0

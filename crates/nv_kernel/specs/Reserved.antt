@@ -9,7 +9,7 @@ use Rattle.nv_fs.specs.Reserved.{Disk, CanOpen, CanPipe, CanWrite}
 use Rattle.nv_kernel.specs.declared.crew.LiveThreads.{LiveThreads}
 use Rattle.nv_kernel.specs.declared.devices.Devices.{Devices}
 use Rattle.nv_kernel.specs.Crew.{Crew}
-use Rattle.nv_kernel.specs.Serving.{State, arg}
+use Rattle.nv_kernel.specs.Serving.{State, request_arg}
 
 -- the threads that live as the definitions see them
 abbrev pub crew_of : LiveThreads → Crew
@@ -22,8 +22,8 @@ state_of d = record { files = d.files.state; crew = crew_of d.threads; served = 
 abbrev pub can_answer : Syscall → Disk → Request → Type 0
 can_answer Openat d c = CanOpen d c.payload
 can_answer Pipe2 d c = CanPipe d
-can_answer Write d c = CanWrite d (arg c 0) (length c.payload)
-can_answer Writev d c = CanWrite d (arg c 0) (length c.payload)
+can_answer Write d c = CanWrite d (request_arg c 0) (length c.payload)
+can_answer Writev d c = CanWrite d (request_arg c 0) (length c.payload)
 can_answer _ d c = Unit {0}
 
 -- there is memory for what the call leaves

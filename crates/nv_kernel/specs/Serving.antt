@@ -19,7 +19,7 @@ use Rattle.nv_fs.specs.Opened.{open_at_of, unlink_at_of}
 use Rattle.nv_fs.specs.Seeks.{seek_of}
 use Rattle.nv_fs.specs.Stored.{write_of}
 use Rattle.nv_script.specs.Scripts.{Named, Setup}
-use Rattle.nv_kernel.specs.Crew.{Crew, first_crew, clone_of, exit_of, over}
+use Rattle.nv_kernel.specs.Crew.{Crew, first_crew, clone_of, exit_of, with_none_live}
 
 -- ---- what the kernel holds
 
@@ -57,8 +57,8 @@ of_crew s a = record { state = record s { crew = a.1 }; ret = a.0; payload = [] 
 abbrev pub counted : Served → Served
 counted r = record r { state = record r.state { served = r.state.served + 1 } }
 
-abbrev pub arg : Request → ℕ → ℕ
-arg c i = slice_index c.args i
+abbrev pub request_arg : Request → ℕ → ℕ
+request_arg c i = slice_index c.args i
 
 -- ---- the clock (clock_gettime(2))
 
@@ -109,22 +109,22 @@ abbrev pub clock : State → ℕ → Served
 clock s id = if nat_lt 1 id then replied s EINVAL [] else replied s (pos 0) (time_bytes (time_of s))
 
 abbrev pub answered : Syscall → State → Request → Served
-answered Getcwd s c = always s (directory (arg c 1))
-answered Dup s c = of_files s (dup_of s.files (arg c 0))
-answered Dup3 s c = of_files s (dup3_of s.files (arg c 0) (arg c 1) (arg c 2))
-answered Ioctl s c = control s (arg c 0)
-answered Unlinkat s c = of_files s (unlink_at_of s.files (cast_signed w32 (arg c 0)) c.payload (arg c 2))
-answered Openat s c = of_files s (open_at_of s.files (cast_signed w32 (arg c 0)) c.payload (arg c 2))
-answered Close s c = of_files s (close_of s.files (arg c 0))
-answered Pipe2 s c = of_files s (pipe_of s.files (arg c 1))
-answered Llseek s c = of_files s (seek_of s.files (arg c 0) (arg c 1) (arg c 2) (arg c 4))
-answered Read s c = of_files s (read_of s.files (arg c 0) (arg c 2))
-answered Write s c = of_files s (write_of s.files (arg c 0) c.payload)
-answered Readv s c = unless_many s (arg c 2) (of_files s (read_of s.files (arg c 0) (arg c 3)))
-answered Writev s c = unless_many s (arg c 2) (of_files s (write_of s.files (arg c 0) c.payload))
+answered Getcwd s c = always s (directory (request_arg c 1))
+answered Dup s c = of_files s (dup_of s.files (request_arg c 0))
+answered Dup3 s c = of_files s (dup3_of s.files (request_arg c 0) (request_arg c 1) (request_arg c 2))
+answered Ioctl s c = control s (request_arg c 0)
+answered Unlinkat s c = of_files s (unlink_at_of s.files (cast_signed w32 (request_arg c 0)) c.payload (request_arg c 2))
+answered Openat s c = of_files s (open_at_of s.files (cast_signed w32 (request_arg c 0)) c.payload (request_arg c 2))
+answered Close s c = of_files s (close_of s.files (request_arg c 0))
+answered Pipe2 s c = of_files s (pipe_of s.files (request_arg c 1))
+answered Llseek s c = of_files s (seek_of s.files (request_arg c 0) (request_arg c 1) (request_arg c 2) (request_arg c 4))
+answered Read s c = of_files s (read_of s.files (request_arg c 0) (request_arg c 2))
+answered Write s c = of_files s (write_of s.files (request_arg c 0) c.payload)
+answered Readv s c = unless_many s (request_arg c 2) (of_files s (read_of s.files (request_arg c 0) (request_arg c 3)))
+answered Writev s c = unless_many s (request_arg c 2) (of_files s (write_of s.files (request_arg c 0) c.payload))
 answered Exit s c = of_crew s (pos 0, exit_of s.crew c.tid)
-answered ExitGroup s c = of_crew s (pos 0, over s.crew)
-answered Clone s c = of_crew s (clone_of s.crew (arg c 0))
+answered ExitGroup s c = of_crew s (pos 0, with_none_live s.crew)
+answered Clone s c = of_crew s (clone_of s.crew (request_arg c 0))
 answered Uname s c = always s system
 answered Getpid s c = always s process
 answered Getppid s c = always s parent
@@ -132,8 +132,8 @@ answered Getuid s c = always s user
 answered Geteuid s c = always s user
 answered Getgid s c = always s user
 answered Getegid s c = always s user
-answered Getrandom s c = randomly s (min (arg c 1) MOST_BYTES)
-answered ClockGettime64 s c = clock s (arg c 0)
+answered Getrandom s c = randomly s (min (request_arg c 1) MOST_BYTES)
+answered ClockGettime64 s c = clock s (request_arg c 0)
 answered _ s c = replied s ENOSYS []
 
 -- a call on memory that isn't the guest's answers EFAULT before every other check
@@ -158,13 +158,13 @@ reply_of r = record { ret = r.ret; payload = r.payload }
 abbrev pub start_at : State → Start
 start_at s = record { replies = λ cs c. reply_of (serve (state_after s cs) c); console = λ cs. (state_after s cs).files.console; connections = λ cs. [] }
 
-abbrev pub inode_from : Named → fs.Inode
-inode_from file = record { name = Some file.0; bytes = file.1 }
+abbrev pub named_inode : Named → fs.Inode
+named_inode file = record { name = Some file.0; bytes = file.1 }
 
 -- what a script gives: the input, the files, the clock and the generator's first state
 abbrev pub first_state : Setup → State
 first_state setup = record {
-  files = begun.first_state setup.input (map inode_from setup.files);
+  files = begun.first_state setup.input (map named_inode setup.files);
   crew = first_crew;
   served = 0;
   start = setup.seconds * second + setup.nanos;

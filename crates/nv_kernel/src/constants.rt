@@ -1,7 +1,7 @@
 // The calls whose reply is the same in every state.
 ghost use Rattle.std.specs.Prelude.{◌≡◌, ◌≤◌, [], ◌++◌, length, drop, option_map, pos, IfSome};
 ghost use Rattle.nv_calls.specs.Calls.{request};
-ghost use Rattle.nv_calls.specs.Constants.{constant_by, constant_of, directory, field, names};
+ghost use Rattle.nv_calls.specs.Constants.{constant_by, constant_of, directory, utsname_field, names};
 ghost use Rattle.nv_calls.specs.Limits.{MOST_BYTES};
 ghost use Rattle.nv_kernel.specs.EveryState.{IsAlwaysReplied};
 
@@ -37,7 +37,7 @@ fn put(out: &mut [u8], bytes: &[u8])
 // A field of utsname: a name, filled with 0.
 fn field(name: &[u8]) -> [u8; 65]
     requires { length name.now ≤ 65 }
-    ensures { result ≡ field name.now }
+    ensures { result ≡ utsname_field name.now }
 {
     let mut bytes = [0; 65];
     put(&mut bytes, name);

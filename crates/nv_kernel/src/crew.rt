@@ -1,7 +1,7 @@
 // The threads that live, as the kernel counts them.
 ghost use Rattle.std.specs.Prelude.{◌≡◌, ◌<◌, ◌≤◌, length, filter, ◌==◌, not};
 ghost use Rattle.nv_calls.specs.Limits.{MOST_EVENTS};
-ghost use Rattle.nv_kernel.specs.Crew.{may_clone, clone_of, exit_of, over, first_crew};
+ghost use Rattle.nv_kernel.specs.Crew.{may_clone, clone_of, exit_of, with_none_live, first_crew};
 ghost use Rattle.nv_kernel.specs.Reserved.{crew_of};
 
 use arrayvec::ArrayVec;
@@ -80,7 +80,7 @@ impl LiveThreads {
 
     /// exit_group(2).
     pub fn end_all(&mut self)
-        ensures { crew_of self.new ≡ over (crew_of self.old) }
+        ensures { crew_of self.new ≡ with_none_live (crew_of self.old) }
     {
         self.live.clear();
     }

@@ -7,7 +7,7 @@ ghost use Rattle.nv_script.specs.Views.{setup_of};
 ghost use Rattle.nv_fs.specs.Fetched.{read_of};
 ghost use Rattle.nv_fs.specs.Stored.{write_of};
 ghost use Rattle.nv_fs.specs.Reserved.{CanWrite};
-ghost use Rattle.nv_kernel.specs.Crew.{exit_of, over};
+ghost use Rattle.nv_kernel.specs.Crew.{exit_of, with_none_live};
 ghost use Rattle.nv_kernel.specs.Serving.{of_files, of_crew, second, answered, serve, first_state, control, unless_many, unless_bad, clock, randomly};
 ghost use Rattle.nv_kernel.specs.Reserved.{state_of, can_answer, CanAnswer, most_out};
 
@@ -128,7 +128,7 @@ impl Devices {
 
     // exit_group(2).
     fn end_all(&mut self) -> i32
-        ensures { of_crew (state_of self.old) (pos 0, over (state_of self.old).crew) ≡ record { state = state_of self.new; ret = result; payload = [] } }
+        ensures { of_crew (state_of self.old) (pos 0, with_none_live (state_of self.old).crew) ≡ record { state = state_of self.new; ret = result; payload = [] } }
     {
         self.threads.end_all();
         0

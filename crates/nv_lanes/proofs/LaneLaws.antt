@@ -14,7 +14,7 @@ use Rattle.std.proofs.lemmas.List.Sums.{sum_by-cons, sum_by-set}
 use Rattle.std.proofs.lemmas.Option.{same_Some}
 use Rattle.nv_calls.specs.Calls.{Entry}
 use Rattle.nv_calls.specs.Logs.{child_of}
-use Rattle.nv_lanes.specs.Lanes.{Holders, Taken, is_of, lane_of, free_lane, lane_in, with_holder, with_child, holders_by, holders_next, one_more, noted_by, noted, start, taken_from, taken_after, lanes_from, lanes_of, events_in, lane_at, earlier_at}
+use Rattle.nv_lanes.specs.Lanes.{Holders, Taken, is_of, lane_of, free_lane, lane_in, with_holder, with_child_lane, holders_by, holders_next, one_counted, noted_by, noted, start, taken_from, taken_after, lanes_from, lanes_of, events_in, lane_at, earlier_at}
 use Rattle.nv_lanes.proofs.Windows.{counts_apart}
 
 -- the threads that have lanes after a log
@@ -85,13 +85,13 @@ below_set : (holders : Holders) (found : Option ℕ) (holder : Option ℕ) → l
 below_set holders None holder = refl
 below_set holders (Some lane) holder = length-set holders lane holder
 
-child_keeps : (holders : Holders) (child : Option ℕ) → length (with_child holders child) ≡ length holders
+child_keeps : (holders : Holders) (child : Option ℕ) → length (with_child_lane holders child) ≡ length holders
 child_keeps holders None = refl
 child_keeps holders (Some child) = elim (is_some (lane_of holders child)) as (λ (b : Bool). length (cond b holders (with_holder holders (free_lane holders) (Some child))) ≡ length holders) [ true ↦ refl | false ↦ below_set holders (free_lane holders) (Some child) ]
 
 pub next_keeps : (holders : Holders) (e : Entry) → length (holders_next holders e) ≡ length holders
 unfolding holders_by
-next_keeps holders e = elim (e.call.nr == 93) as (λ (b : Bool). length (cond b (with_holder holders (lane_of holders e.call.tid) None) (with_child holders (child_of e))) ≡ length holders) [ true ↦ below_set holders (lane_of holders e.call.tid) None | false ↦ child_keeps holders (child_of e) ]
+next_keeps holders e = elim (e.call.nr == 93) as (λ (b : Bool). length (cond b (with_holder holders (lane_of holders e.call.tid) None) (with_child_lane holders (child_of e))) ≡ length holders) [ true ↦ below_set holders (lane_of holders e.call.tid) None | false ↦ child_keeps holders (child_of e) ]
 
 eight_from : (holders : Holders) (log : List Entry) → length (holders_from holders log) ≡ length holders
 eight_from holders [] = refl
@@ -120,10 +120,10 @@ bit_of b = cond b 1 0
 abbrev seen_in : ℕ → ℕ → ℕ
 seen_in lane l = cond (lane == l) 1 0
 
-one_more_at : (counts : List ℕ) (lane l : ℕ) → l < length counts → get_or (one_more counts lane) l 0 ≡ get_or counts l 0 + seen_in lane l
+one_more_at : (counts : List ℕ) (lane l : ℕ) → l < length counts → get_or (one_counted counts lane) l 0 ≡ get_or counts l 0 + seen_in lane l
 one_more_at counts lane l within = dite (ℕ_discrete lane l)
     (λ e. let c : seen_in lane l ≡ 1 = ap bit_of (eq-eqb lane l e) in
-    let here : get_or (one_more counts lane) l 0 ≡ get_or counts lane 0 + 1 = ap (λ (k : ℕ). get_or (one_more counts lane) k 0) (sym e) ∙ get_or-set_same counts lane (get_or counts lane 0 + 1) 0 (omega arith) in
+    let here : get_or (one_counted counts lane) l 0 ≡ get_or counts lane 0 + 1 = ap (λ (k : ℕ). get_or (one_counted counts lane) k 0) (sym e) ∙ get_or-set_same counts lane (get_or counts lane 0 + 1) 0 (omega arith) in
     let same : get_or counts lane 0 ≡ get_or counts l 0 = ap (λ (k : ℕ). get_or counts k 0) e in omega arith)
     (λ ne. let c : seen_in lane l ≡ 0 = ap bit_of (ne_eqb lane l ne) in
     let away = get_or-set_other counts lane l (get_or counts lane 0 + 1) 0 (λ q. ne (sym q)) in omega arith)

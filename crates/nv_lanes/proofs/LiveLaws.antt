@@ -10,7 +10,7 @@ use Rattle.std.proofs.lemmas.List.Filters.{length-filter_both}
 use Rattle.std.proofs.lemmas.Option.{same_Some}
 use Rattle.nv_calls.specs.Calls.{Entry}
 use Rattle.nv_calls.specs.Logs.{child_of, live_next, live_after, IsNew, MayFollow, IsLawful, with_child as with_new}
-use Rattle.nv_lanes.specs.Lanes.{Holders, is_of, lane_of, free_lane, with_holder, with_child, holders_by, holders_next, start, lives, taken_after, lane_at}
+use Rattle.nv_lanes.specs.Lanes.{Holders, is_of, lane_of, free_lane, with_holder, with_child_lane, holders_by, holders_next, start, lives, taken_after, lane_at}
 use Rattle.nv_lanes.proofs.LaneLaws.{next_keeps, holders_after, holders_of_taken, holders_push, lane_at_is}
 use Rattle.nv_calls.proofs.LogLaws.{live_more, slice_some}
 
@@ -164,7 +164,7 @@ some_of : (o : Option ℕ) → is_some o ≡ true → (k : ℕ) × (o ≡ Some k
 some_of None h = cc
 some_of (Some k) h = (k, refl)
 
-seated_child : (live : List ℕ) (holders : Holders) (child : ℕ) → Seated live holders → taken holders ≤ length live → length live < 8 → (Contains live child → ⊥) → Seated (live ++ child ∷ []) (with_child holders (Some child))
+seated_child : (live : List ℕ) (holders : Holders) (child : ℕ) → Seated live holders → taken holders ≤ length live → length live < 8 → (Contains live child → ⊥) → Seated (live ++ child ∷ []) (with_child_lane holders (Some child))
 unfolding lane_of free_lane
 seated_child live holders child s few less new =
     let longer = length-append live (child ∷ []) in
@@ -196,7 +196,7 @@ seated_child live holders child s few less new =
       few = inr (let a = taken_set holders lane (Some child) None at.2 in omega arith);
     }))
 
-seated_new : (live : List ℕ) (holders : Holders) (child : Option ℕ) → Seated live holders → taken holders ≤ length live → IsNew live child → Seated (with_new live child) (with_child holders child)
+seated_new : (live : List ℕ) (holders : Holders) (child : Option ℕ) → Seated live holders → taken holders ≤ length live → IsNew live child → Seated (with_new live child) (with_child_lane holders child)
 seated_new live holders None s less new = s
 seated_new live holders (Some child) s less new = seated_child live holders child s less new.0 new.1
 
@@ -210,8 +210,8 @@ seated_next n live holders e s m =
     (λ h. subst (λ (b : Bool). Seated (cond b [] (cond (e.call.nr == 93) (filter (λ t. not (t == tid)) live) (with_new live (child_of e)))) (holders_next holders e)) (sym h) (seated_none (holders_next holders e) (next_keeps holders e ∙ s.eight)))
     (λ h. subst (λ (b : Bool). Seated (cond b [] (cond (e.call.nr == 93) (filter (λ t. not (t == tid)) live) (with_new live (child_of e)))) (holders_next holders e)) (sym h)
     (by_test (e.call.nr == 93)
-    (λ x. subst (λ (b : Bool). Seated (cond b (filter (λ t. not (t == tid)) live) (with_new live (child_of e))) (cond b (with_holder holders (lane_of holders tid) None) (with_child holders (child_of e)))) (sym x) (seated_exit live holders tid s m.lives))
-    (λ x. subst (λ (b : Bool). Seated (cond b (filter (λ t. not (t == tid)) live) (with_new live (child_of e))) (cond b (with_holder holders (lane_of holders tid) None) (with_child holders (child_of e)))) (sym x) (seated_new live holders (child_of e) s less m.new))))
+    (λ x. subst (λ (b : Bool). Seated (cond b (filter (λ t. not (t == tid)) live) (with_new live (child_of e))) (cond b (with_holder holders (lane_of holders tid) None) (with_child_lane holders (child_of e)))) (sym x) (seated_exit live holders tid s m.lives))
+    (λ x. subst (λ (b : Bool). Seated (cond b (filter (λ t. not (t == tid)) live) (with_new live (child_of e))) (cond b (with_holder holders (lane_of holders tid) None) (with_child_lane holders (child_of e)))) (sym x) (seated_new live holders (child_of e) s less m.new))))
 
 -- along a log
 

@@ -35,22 +35,22 @@ with_holder holders None holder = holders
 with_holder holders (Some lane) holder = slice_set holders lane holder
 
 -- a new thread has the least free lane, unless it has one already
-abbrev pub with_child : Holders → Option ℕ → Holders
-with_child holders None = holders
-with_child holders (Some child) = if is_some (lane_of holders child) then holders else with_holder holders (free_lane holders) (Some child)
+abbrev pub with_child_lane : Holders → Option ℕ → Holders
+with_child_lane holders None = holders
+with_child_lane holders (Some child) = if is_some (lane_of holders child) then holders else with_holder holders (free_lane holders) (Some child)
 
 -- exit frees the lane of its thread
 unfoldable pub holders_by : Holders → ℕ → ℕ → ℤ → Holders
 holders_by holders tid nr ret =
     if nr == EXIT then with_holder holders (lane_of holders tid) None
-    else with_child holders (made nr ret)
+    else with_child_lane holders (made nr ret)
 
-abbrev pub one_more : List ℕ → ℕ → List ℕ
-one_more counts lane = slice_set counts lane (slice_index counts lane + 1)
+abbrev pub one_counted : List ℕ → ℕ → List ℕ
+one_counted counts lane = slice_set counts lane (slice_index counts lane + 1)
 
 -- after a call of this thread and number, with this result
 unfoldable pub noted_by : Taken → ℕ → ℕ → ℤ → Taken
-noted_by s tid nr ret = record { holders = holders_by s.holders tid nr ret; counts = one_more s.counts (lane_in s.holders tid) }
+noted_by s tid nr ret = record { holders = holders_by s.holders tid nr ret; counts = one_counted s.counts (lane_in s.holders tid) }
 
 abbrev pub holders_next : Holders → Entry → Holders
 holders_next holders e = holders_by holders e.call.tid e.call.nr e.reply.ret

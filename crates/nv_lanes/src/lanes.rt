@@ -2,7 +2,7 @@
 ghost use Rattle.std.specs.Prelude.{◌≡◌, ◌+◌, ◌<◌, ◌≤◌, length, IfSome, Some, None, sum, slice_index};
 ghost use Rattle.nv_calls.specs.Calls.{entry};
 ghost use Rattle.nv_calls.specs.Limits.{MOST_EVENTS};
-ghost use Rattle.nv_lanes.specs.Lanes.{is_of, lane_of, free_lane, lane_in, noted, noted_by, start, lives, with_holder, with_child};
+ghost use Rattle.nv_lanes.specs.Lanes.{is_of, lane_of, free_lane, lane_in, noted, noted_by, start, lives, with_holder, with_child_lane};
 
 use nv_calls::{EXIT, Event, FIRST_THREAD, MOST_THREADS, made};
 use std::marker::Model;
@@ -126,7 +126,7 @@ impl Lanes {
     }
 
     fn seat(&mut self, child: u32)
-        ensures { self.new ≡ record self.old { holders = with_child self.old.holders (Some child) } }
+        ensures { self.new ≡ record self.old { holders = with_child_lane self.old.holders (Some child) } }
     {
         if lane_among(&self.holders, child).is_some() {
             return;

@@ -9,7 +9,7 @@ use Rattle.nv_memory.specs.declared.region.Access.{Access}
 use Rattle.nv_memory.specs.declared.region.Width.TheVariants.{Four}
 use Rattle.nv_memory.specs.declared.region.Right.TheVariants.{Read, Write, Execute}
 use Rattle.nv_memory.specs.Bytes.{byte_count}
-use Rattle.nv_memory.specs.Regions.{holds}
+use Rattle.nv_memory.specs.Region.{holds}
 use Rattle.nv_memory.specs.Image.{value_at}
 use Rattle.nv_machine.specs.declared.outcome.Stepped.{Stepped}
 use Rattle.nv_machine.specs.declared.outcome.Stepped.TheVariants.{On}
@@ -17,7 +17,7 @@ use Rattle.nv_machine.specs.declared.outcome.Stepped.TheVariants as ends
 use Rattle.nv_machine.specs.declared.outcome.FaultKind.TheVariants as kinds
 use Rattle.nv_machine.specs.Registers.{Registers}
 use Rattle.nv_machine.specs.Effects.{sum, is_taken}
-use Rattle.nv_machine.specs.Guest.{Machine, StepResult, fault, with_memory, gets, jumps, branches, gets_loaded, loads, stores, compares, is_word, is_reserved, load_reserved, store_conditional, combines, register, immediate_word, next, width_of, extended, effect, executed, fetched, guest_step}
+use Rattle.nv_machine.specs.Guest.{Machine, StepResult, fault, with_memory, gets, jumps, branches, gets_loaded, loads, stores, compares, is_word_at, is_reserved, load_reserved, store_conditional, combines, register, immediate_word, next_address, width_of, extended, effect, executed, fetched, guest_step}
 
 abbrev Rests : StepResult → Machine → Type 0
 Rests o m = o.0 ≢ On → o.1 ≡ m
@@ -28,7 +28,7 @@ RegistersRest o r = o.0 ≢ On → o.1 ≡ r
 jumps_rest : (rd to : ℕ) (r : Registers) → RegistersRest (jumps rd to r) r
 jumps_rest rd to r = go (to % 4 == 0)
   where
-    go : (b : Bool) → RegistersRest (if b then gets rd (next r) to r else (ends.Fault kinds.Misaligned, r)) r
+    go : (b : Bool) → RegistersRest (if b then gets rd (next_address r) to r else (ends.Fault kinds.Misaligned, r)) r
     go true = λ n. absurd (n refl)
     go false = λ n. refl
 
@@ -46,9 +46,6 @@ loaded_rest rd (Err e) f r = λ n. refl
 
 with_memory_rests : (m : Machine) (o : Stepped × Registers) → RegistersRest o m.regs → Rests (with_memory m.memory o) m
 with_memory_rests m o h = λ n. ap (λ (r : Registers). record m { regs = r }) (h n)
-
-gets_rest : (rd v to : ℕ) (r : Registers) → RegistersRest (gets rd v to r) r
-gets_rest rd v to r = λ n. absurd (n refl)
 
 compares_rest : (o : Op) (i : Insn) (m : Machine) → Rests (with_memory m.memory (compares o i m.regs)) m
 compares_rest o i m = with_memory_rests m _ (branches_rest (is_taken o (register m.regs i.rs1) (register m.regs i.rs2)) (sum m.regs.pc (immediate_word i)) m.regs)
@@ -68,7 +65,7 @@ reserved_or_not true x r = λ n. absurd (n refl)
 reserved_or_not false x r = λ n. refl
 
 load_reserved_rests : (i : Insn) (m : Machine) → Rests (with_memory m.memory (load_reserved i m.regs m.memory)) m
-load_reserved_rests i m = with_memory_rests m _ (reserved_or_not (is_word m.memory (register m.regs i.rs1) Read) _ m.regs)
+load_reserved_rests i m = with_memory_rests m _ (reserved_or_not (is_word_at m.memory (register m.regs i.rs1) Read) _ m.regs)
 
 tried_or_not : (b c : Bool) (x y m : Machine) → Rests (if b then (if c then (ends.On, x) else (ends.On, y)) else fault kinds.Store m) m
 tried_or_not true true x y m = λ n. absurd (n refl)
@@ -76,10 +73,10 @@ tried_or_not true false x y m = λ n. absurd (n refl)
 tried_or_not false c x y m = λ n. refl
 
 store_conditional_rests : (i : Insn) (m : Machine) → Rests (store_conditional i m) m
-store_conditional_rests i m = tried_or_not (is_word m.memory (register m.regs i.rs1) Write) (is_reserved m.regs.reserved (register m.regs i.rs1)) _ _ m
+store_conditional_rests i m = tried_or_not (is_word_at m.memory (register m.regs i.rs1) Write) (is_reserved m.regs.reserved (register m.regs i.rs1)) _ _ m
 
 combines_rests : (o : Op) (i : Insn) (m : Machine) → Rests (combines o i m) m
-combines_rests o i m = stored_or_not (is_word m.memory (register m.regs i.rs1) Write && holds m.memory.regions (register m.regs i.rs1) 4 Read) _ m
+combines_rests o i m = stored_or_not (is_word_at m.memory (register m.regs i.rs1) Write && holds m.memory.regions (register m.regs i.rs1) 4 Read) _ m
 
 effect_rests : (o : Op) (i : Insn) (m : Machine) → Rests (effect o i m) m
 effect_rests Jal i m = with_memory_rests m _ (jumps_rest i.rd (sum m.regs.pc (immediate_word i)) m.regs)

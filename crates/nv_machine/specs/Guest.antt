@@ -13,7 +13,7 @@ use Rattle.nv_memory.specs.declared.region.Width.{Width}
 use Rattle.nv_memory.specs.declared.region.Width.TheVariants.{One, Two, Four}
 use Rattle.nv_memory.specs.declared.region.Right.TheVariants.{Read, Write, Execute}
 use Rattle.nv_memory.specs.Bytes.{bytes_at, little, put, little_bytes, byte_count}
-use Rattle.nv_memory.specs.Regions.{holds}
+use Rattle.nv_memory.specs.Region.{holds}
 use Rattle.nv_memory.specs.Image.{Image, value_at}
 use Rattle.nv_machine.specs.declared.outcome.FaultKind.{FaultKind}
 use Rattle.nv_machine.specs.declared.outcome.FaultKind.TheVariants as kinds
@@ -48,8 +48,8 @@ abbrev pub immediate_word : Insn → ℕ
 immediate_word i = cast_unsigned w32 i.imm
 
 -- the address of the next instruction
-abbrev pub next : Registers → ℕ
-next r = sum r.pc 4
+abbrev pub next_address : Registers → ℕ
+next_address r = sum r.pc 4
 
 -- a register gets a value, and the machine goes on at an address
 abbrev pub gets : ℕ → ℕ → ℕ → Registers → Stepped × Registers
@@ -57,15 +57,15 @@ gets rd value to r = (ends.On, record r { x = written r.x rd value; pc = to })
 
 -- a jump to an address that must be a multiple of 4
 abbrev pub jumps : ℕ → ℕ → Registers → Stepped × Registers
-jumps rd to r = if to % 4 == 0 then gets rd (next r) to r else (ends.Fault kinds.Misaligned, r)
+jumps rd to r = if to % 4 == 0 then gets rd (next_address r) to r else (ends.Fault kinds.Misaligned, r)
 
 -- a branch that may be taken, to an address that must then be a multiple of 4
 abbrev pub branches : Bool → ℕ → Registers → Stepped × Registers
-branches taken to r = if taken then (if to % 4 == 0 then (ends.On, record r { pc = to }) else (ends.Fault kinds.Misaligned, r)) else (ends.On, record r { pc = next r })
+branches taken to r = if taken then (if to % 4 == 0 then (ends.On, record r { pc = to }) else (ends.Fault kinds.Misaligned, r)) else (ends.On, record r { pc = next_address r })
 
 -- a register gets the number that was loaded, or the load is refused
 abbrev pub gets_loaded : ℕ → Result ℕ Access → (ℕ → ℕ) → Registers → Stepped × Registers
-gets_loaded rd (Ok value) f r = gets rd (f value) (next r) r
+gets_loaded rd (Ok value) f r = gets rd (f value) (next_address r) r
 gets_loaded rd (Err e) f r = (ends.Fault kinds.Load, r)
 
 -- how many bytes a load or a store moves
@@ -91,15 +91,15 @@ loads o i r memory = gets_loaded i.rd (value_at memory (sum (register r i.rs1) (
 -- a store, at rs1 and the immediate
 abbrev pub stores : Op → Insn → Machine → StepResult
 stores o i m = let a = sum (register m.regs i.rs1) (immediate_word i) in
-    if holds m.memory.regions a (byte_count (width_of o)) Write then (ends.On, record { regs = record m.regs { pc = next m.regs }; memory = record m.memory { bytes = put m.memory.bytes a (little_bytes (byte_count (width_of o)) (register m.regs i.rs2)) } }) else fault kinds.Store m
+    if holds m.memory.regions a (byte_count (width_of o)) Write then (ends.On, record { regs = record m.regs { pc = next_address m.regs }; memory = record m.memory { bytes = put m.memory.bytes a (little_bytes (byte_count (width_of o)) (register m.regs i.rs2)) } }) else fault kinds.Store m
 
 -- an operation with the immediate
 abbrev pub with_immediate : Op → Insn → Registers → Stepped × Registers
-with_immediate o i r = gets i.rd (computed o (register r i.rs1) (immediate_word i)) (next r) r
+with_immediate o i r = gets i.rd (computed o (register r i.rs1) (immediate_word i)) (next_address r) r
 
 -- an operation on two registers
 abbrev pub between_registers : Op → Insn → Registers → Stepped × Registers
-between_registers o i r = gets i.rd (computed o (register r i.rs1) (register r i.rs2)) (next r) r
+between_registers o i r = gets i.rd (computed o (register r i.rs1) (register r i.rs2)) (next_address r) r
 
 -- a branch by a comparison of two registers
 abbrev pub compares : Op → Insn → Registers → Stepped × Registers
@@ -114,8 +114,8 @@ abbrev pub with_word : Image → ℕ → ℕ → Image
 with_word memory a v = record memory { bytes = put memory.bytes a (little_bytes 4 v) }
 
 -- the address is a multiple of 4, and its word lies in a region with the right
-abbrev pub is_word : Image → ℕ → Right → Bool
-is_word memory a right = (a % 4 == 0) && holds memory.regions a 4 right
+abbrev pub is_word_at : Image → ℕ → Right → Bool
+is_word_at memory a right = (a % 4 == 0) && holds memory.regions a 4 right
 
 -- the address is reserved
 abbrev pub is_reserved : Option ℕ → ℕ → Bool
@@ -125,26 +125,26 @@ is_reserved (Some b) a = b == a
 -- LR.W: the word at rs1, whose address is reserved from then on
 abbrev pub load_reserved : Insn → Registers → Image → Stepped × Registers
 load_reserved i r memory = let a = register r i.rs1 in
-    if is_word memory a Read then gets i.rd (word_at memory a) (next r) (record r { reserved = Some a }) else (ends.Fault kinds.Load, r)
+    if is_word_at memory a Read then gets i.rd (word_at memory a) (next_address r) (record r { reserved = Some a }) else (ends.Fault kinds.Load, r)
 
 -- SC.W: rs2 is stored at rs1 and rd gets 0 where that address is reserved, else rd gets 1; the reservation ends
 abbrev pub store_conditional : Insn → Machine → StepResult
 store_conditional i m = let a = register m.regs i.rs1 in let released = record m.regs { reserved = None } in
-    if is_word m.memory a Write then (
-    if is_reserved m.regs.reserved a then with_memory (with_word m.memory a (register m.regs i.rs2)) (gets i.rd 0 (next m.regs) released)
-    else with_memory m.memory (gets i.rd 1 (next m.regs) released)) else fault kinds.Store m
+    if is_word_at m.memory a Write then (
+    if is_reserved m.regs.reserved a then with_memory (with_word m.memory a (register m.regs i.rs2)) (gets i.rd 0 (next_address m.regs) released)
+    else with_memory m.memory (gets i.rd 1 (next_address m.regs) released)) else fault kinds.Store m
 
 -- an atomic operation: rd gets the word at rs1, which becomes what the operation makes of it and rs2
 abbrev pub combines : Op → Insn → Machine → StepResult
 combines o i m = let a = register m.regs i.rs1 in
-    if is_word m.memory a Write && holds m.memory.regions a 4 Read then
-    with_memory (with_word m.memory a (combined o (word_at m.memory a) (register m.regs i.rs2))) (gets i.rd (word_at m.memory a) (next m.regs) m.regs)
+    if is_word_at m.memory a Write && holds m.memory.regions a 4 Read then
+    with_memory (with_word m.memory a (combined o (word_at m.memory a) (register m.regs i.rs2))) (gets i.rd (word_at m.memory a) (next_address m.regs) m.regs)
     else fault kinds.Store m
 
 -- the effect of an instruction
 abbrev pub effect : Op → Insn → Machine → StepResult
-effect Lui i m = with_memory m.memory (gets i.rd (immediate_word i) (next m.regs) m.regs)
-effect Auipc i m = with_memory m.memory (gets i.rd (sum m.regs.pc (immediate_word i)) (next m.regs) m.regs)
+effect Lui i m = with_memory m.memory (gets i.rd (immediate_word i) (next_address m.regs) m.regs)
+effect Auipc i m = with_memory m.memory (gets i.rd (sum m.regs.pc (immediate_word i)) (next_address m.regs) m.regs)
 effect Jal i m = with_memory m.memory (jumps i.rd (sum m.regs.pc (immediate_word i)) m.regs)
 effect Jalr i m = with_memory m.memory (jumps i.rd (sum (register m.regs i.rs1) (immediate_word i) / 2 * 2) m.regs)
 effect Beq i m = with_memory m.memory (compares Beq i m.regs)
@@ -180,7 +180,7 @@ effect Srl i m = with_memory m.memory (between_registers Srl i m.regs)
 effect Sra i m = with_memory m.memory (between_registers Sra i m.regs)
 effect Or i m = with_memory m.memory (between_registers Or i m.regs)
 effect And i m = with_memory m.memory (between_registers And i m.regs)
-effect Fence i m = with_memory m.memory (ends.On, record m.regs { pc = next m.regs })
+effect Fence i m = with_memory m.memory (ends.On, record m.regs { pc = next_address m.regs })
 effect Ecall i m = (ends.Call, m)
 effect Ebreak i m = fault kinds.Breakpoint m
 effect Mul i m = with_memory m.memory (between_registers Mul i m.regs)

@@ -12,5 +12,5 @@ abbrev pub written : List ℕ → ℕ → ℕ → List ℕ
 written x n v = if n == 0 then x else slice_set x n v
 
 -- all registers are 0, and nothing is reserved
-abbrev pub fresh : ℕ → Registers
-fresh pc = record { x = replicate 32 0; pc = pc; reserved = None }
+abbrev pub fresh_registers : ℕ → Registers
+fresh_registers pc = record { x = replicate 32 0; pc = pc; reserved = None }

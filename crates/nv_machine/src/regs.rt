@@ -1,6 +1,6 @@
 // The registers of a thread.
 ghost use Rattle.std.specs.Prelude.{◌≡◌, ◌%◌, ◌<◌, slice_index, Some, None};
-ghost use Rattle.nv_machine.specs.Registers.{fresh, written};
+ghost use Rattle.nv_machine.specs.Registers.{fresh_registers, written};
 
 use std::marker::Model;
 
@@ -28,7 +28,7 @@ impl Regs {
     /// All registers are 0, and nothing is reserved.
     pub fn new(pc: u32) -> Regs
         requires { pc % 4 ≡ 0 }
-        ensures { result ≡ fresh pc }
+        ensures { result ≡ fresh_registers pc }
     {
         Regs {
             x: [0; 32],

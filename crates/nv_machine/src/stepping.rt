@@ -1,8 +1,8 @@
 // One instruction: fetched, decoded and carried out, in the order of its faults.
 ghost use Rattle.std.specs.Prelude.{◌≡◌, ◌≢◌, ℕ, ◌+◌, ◌*◌, ◌/◌, ◌%◌, ◌^◌, ◌<◌};
-ghost use Rattle.nv_isa.specs.Table.{row, insn_of, immediate, rd_of, rs1_of, rs2_of};
+ghost use Rattle.nv_isa.specs.Table.{encoding, insn_of, immediate, rd_of, rs1_of, rs2_of};
 ghost use Rattle.nv_machine.specs.Effects.{sum, sign_extended};
-ghost use Rattle.nv_machine.specs.Guest.{gets, next, jumps, branches, loads, stores, with_immediate, between_registers, compares, load_reserved, store_conditional, combines, effect, guest_step, width_of, extended, Machine};
+ghost use Rattle.nv_machine.specs.Guest.{gets, next_address, jumps, branches, loads, stores, with_immediate, between_registers, compares, load_reserved, store_conditional, combines, effect, guest_step, width_of, extended, Machine};
 
 use crate::alu::{combine, compute, takes};
 use crate::outcome::{FaultKind, Stepped};
@@ -48,7 +48,7 @@ fn extend(op: Op, value: u32) -> u32
 
 fn advance(regs: &mut Regs, rd: u8, value: u32) -> Stepped
     requires { rd < 32 }
-    ensures { (result, regs.new) ≡ gets rd value (next regs.old) regs.old }
+    ensures { (result, regs.new) ≡ gets rd value (next_address regs.old) regs.old }
 {
     regs.set(rd, value);
     regs.pc = regs.pc.wrapping_add(4);
@@ -202,9 +202,9 @@ fn combine_word(regs: &mut Regs, memory: &mut Memory, op: Op, word: u32) -> Step
     }
 }
 
-#[tactic(auto, unfolding(nv_isa::specs::Table::insn_of, nv_isa::specs::Table::row))]
+#[tactic(auto, unfolding(nv_isa::specs::Table::insn_of, nv_isa::specs::Table::encoding))]
 fn execute(regs: &mut Regs, memory: &mut Memory, op: Op, word: u32) -> Stepped
-    ensures { (result, record { regs = regs.new; memory = memory.new }) ≡ effect op (insn_of op (row op).form word) (record { regs = regs.old; memory = memory.old }) }
+    ensures { (result, record { regs = regs.new; memory = memory.new }) ≡ effect op (insn_of op (encoding op).form word) (record { regs = regs.old; memory = memory.old }) }
 {
     match op {
         Op::Lui => {

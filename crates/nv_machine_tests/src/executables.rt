@@ -1,7 +1,7 @@
 // Files from outside, damaged ones, and a program written and read back.
 ghost use Rattle.std.specs.Prelude.{◌≤◌, ◌↔◌, IsTrue};
 ghost use Rattle.nv_elf.specs.Elf.{executable_of};
-ghost use Rattle.nv_elf.specs.Written.{bytes_in};
+ghost use Rattle.nv_elf.specs.Written.{range_bytes};
 
 use nv_bytes::put_u32;
 use nv_elf::{ElfFault, Program, Segment, read, write};
@@ -229,7 +229,7 @@ fn sixteen_segments(rt: HostRuntime) -> Result<(), Fail> {
 
 // The bytes of its segments are no more than a written file has room for.
 fn is_small(program: &Program) -> bool
-    ensures { IsTrue result ↔ (bytes_in (executable_of program.now).ranges ≤ 1_073_741_824) }
+    ensures { IsTrue result ↔ (range_bytes (executable_of program.now).ranges ≤ 1_073_741_824) }
 {
     let mut left = 1_073_741_824;
     for segment in &program.segments {

@@ -1,7 +1,7 @@
 -- The end of a region of a list.
 use Rattle.std.proofs.Common.{◌≡◌, ℕ, suc, zero, ◌<◌, ◌≤◌, List, [], ◌∷◌, length, get_or, set, refl, ap, arith}
 use Rattle.nv_memory.specs.declared.region.Region.{Region}
-use Rattle.nv_memory.specs.Regions.{end_of, set_end, AreRegions}
+use Rattle.nv_memory.specs.Region.{end_of, set_end, AreRegions}
 
 pub end_of_get : (rs : List Region) (i : ℕ) (d : Region) → i < length rs → end_of rs i ≡ (get_or rs i d).end
 end_of_get [] i d h = absurd (omega arith)

@@ -6,7 +6,7 @@ use Rattle.nv_memory.specs.declared.region.Width.{Width}
 use Rattle.nv_memory.specs.declared.region.Right.{Right}
 use Rattle.nv_memory.specs.declared.region.Right.TheVariants.{Read, Write}
 use Rattle.nv_memory.specs.Bytes.{bytes_at, put, little, byte_count}
-use Rattle.nv_memory.specs.Regions.{holds}
+use Rattle.nv_memory.specs.Region.{holds}
 
 pub record Image : Type 0 where
   -- the byte at each address from 0 on

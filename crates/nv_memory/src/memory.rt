@@ -2,9 +2,9 @@
 ghost use Rattle.std.specs.Prelude.{◌≡◌, ℕ, ◌+◌, ◌<◌, ◌≤◌, length, Ok, Err, IfOk, IfErr, is_ok, IsTrue, replicate};
 ghost use Rattle.std.specs.List.{list_any};
 ghost use Rattle.nv_memory.specs.Bytes.{bytes_at, put, little_bytes, byte_count};
-ghost use Rattle.nv_memory.specs.Regions.{holds, AreRegions, has_range, set_end, start_of, end_of};
+ghost use Rattle.nv_memory.specs.Region.{holds, AreRegions, lies_in, set_end, region_start, end_of};
 ghost use Rattle.nv_memory.specs.Image.{value_at, allowed, stored, copied, cut};
-ghost use Rattle.nv_memory.specs.Cells.{byte_at};
+ghost use Rattle.nv_memory.specs.Cells.{memory_byte};
 
 use crate::bytes::{clear, count, part, read, read_all, write, write_all};
 use crate::ranges::{end_at, has_address, is_held, move_end};
@@ -21,7 +21,7 @@ pub struct Memory {
 
 impl Model for Memory {
     ghost use Rattle.std.specs.Prelude.{length};
-    ghost use Rattle.nv_memory.specs.Regions.{AreRegions};
+    ghost use Rattle.nv_memory.specs.Region.{AreRegions};
     ghost use Rattle.nv_memory.specs.Image.{Image};
 
     ghost Value = { Image };
@@ -51,7 +51,7 @@ impl Memory {
     /// The byte at the address, where a region has it, whatever the region's rights are.
     #[tactic(auto, using(crate::proofs::Bounds::range_is_inside))]
     pub fn byte(&self, address: u32) -> Option<u8>
-        ensures { result ≡ byte_at self.now address }
+        ensures { result ≡ memory_byte self.now address }
     {
         if has_address(&self.regions, address) {
             Some(self.bytes[address as usize])
@@ -150,7 +150,7 @@ impl Memory {
     /// Writes the bytes at the address, whatever the region's rights are.
     #[tactic(auto, using(crate::proofs::Bounds::range_is_inside))]
     pub fn fill(&mut self, address: u32, bytes: &[u8])
-        requires { IsTrue (list_any (has_range address (length bytes.now)) self.old.regions) }
+        requires { IsTrue (list_any (lies_in address (length bytes.now)) self.old.regions) }
         ensures { self.new ≡ record self.old { bytes = put self.old.bytes address bytes.now } }
     {
         write_all(&mut self.bytes, address as usize, bytes);
@@ -160,7 +160,7 @@ impl Memory {
     #[tactic(auto, using(crate::proofs::Ends::end_is_inside, crate::proofs::BytesLaws::length_put))]
     pub fn resize(&mut self, region: usize, end: u32)
         requires known { region < length self.old.regions }
-        requires ordered { start_of self.old.regions region ≤ end }
+        requires ordered { region_start self.old.regions region ≤ end }
         requires fits { AreRegions (length self.old.bytes) (set_end self.old.regions region end) }
         ensures bytes { self.new.bytes ≡ cut self.old.bytes (end_of self.old.regions region) end }
         ensures regions { self.new.regions ≡ set_end self.old.regions region end }

@@ -1,7 +1,7 @@
 // Where a range lies, and where a region ends.
 ghost use Rattle.std.specs.Prelude.{◌≡◌, ℕ, ◌+◌, ◌<◌, ◌≤◌, length};
 ghost use Rattle.std.specs.List.{list_any};
-ghost use Rattle.nv_memory.specs.Regions.{holds, covers, allows, has_range, end_of, set_end};
+ghost use Rattle.nv_memory.specs.Region.{holds, covers, allows, lies_in, end_of, set_end};
 
 use crate::region::{Region, Right};
 
@@ -14,13 +14,13 @@ pub fn is_held(regions: &[Region], address: u32, length: usize, right: Right) ->
 
 // Whether some region has the address.
 pub fn has_address(regions: &[Region], address: u32) -> bool
-    ensures { result ≡ list_any (has_range address 1) regions.now }
+    ensures { result ≡ list_any (lies_in address 1) regions.now }
 {
     regions.iter().any(|r| is_address_in(r, address))
 }
 
 fn is_address_in(region: &Region, address: u32) -> bool
-    ensures { result ≡ has_range address 1 region.now }
+    ensures { result ≡ lies_in address 1 region.now }
 {
     region.start <= address && address < region.end
 }

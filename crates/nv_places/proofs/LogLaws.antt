@@ -5,7 +5,7 @@ use Rattle.nv_calls.specs.Calls.{Entry}
 use mathlib.Core.Option.{some}
 use lib.ListN.{get_elem?}
 use Rattle.nv_calls.specs.Logs.{InRange}
-use Rattle.nv_words.specs.Spell.{spell}
+use Rattle.nv_words.specs.Spelling.{spell}
 use Rattle.nv_words.proofs.SpellLaws.{event_of_spell}
 use Rattle.nv_words.specs.Read.{event_of}
 use Rattle.nv_lanes.specs.Lanes.{Holders, start, taken_after, lanes_of, lane_at, earlier_at, lane_in, events_in}

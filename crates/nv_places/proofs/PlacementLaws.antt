@@ -1,23 +1,22 @@
 -- The laws of where words stand.
-use Rattle.std.proofs.Common.{◌≡◌, ℕ, zero, suc, ◌+◌, ◌-◌, ◌*◌, ◌/◌, ◌%◌, ◌<◌, ◌≤◌, ◌≢◌, Bool, true, false, cond, List, [], ◌∷◌, ◌++◌, length, take, drop, get_or, length-append, mod-lt, mul-le-mul_right, suc-mul, lt_of_not-le, refl, sym, ap, subst, ◌∙◌, arith}
-use Rattle.std.specs.Prelude.{nat_lt, sum_by}
+use Rattle.std.proofs.Common.{◌≡◌, ℕ, suc, ◌+◌, ◌-◌, ◌*◌, ◌/◌, ◌%◌, ◌<◌, ◌≤◌, ◌≢◌, Bool, cond, List, [], ◌∷◌, ◌++◌, length, take, drop, get_or, mod-lt, mul-le-mul_right, suc-mul, lt_of_not-le, refl, sym, ap, subst, ◌∙◌, arith}
+use Rattle.std.specs.Prelude.{sum_by}
 use Rattle.std.proofs.lemmas.Nat.{same_from_place}
 use Rattle.std.proofs.lemmas.Bool.{lt-ltb, le-ltb}
-use Rattle.std.proofs.lemmas.List.{take-append-le, take-append-drop, length-take-le}
+use Rattle.std.proofs.lemmas.List.{take-append-le}
 use Rattle.std.proofs.lemmas.List.Sums.{sum_by-append, sum_by-take-drop, sum_by_more_le}
 use Rattle.std.proofs.Math.Seq.{take-add, take-length}
 use Rattle.std.proofs.Math.Nat.{add-mul-mod_self_left, mul_assoc, div-add-mod, le_of_lt, le_refl}
 use mathlib.Core.Logic.{dite}
 use native.Mathlib.Decide.{dec_le}
-use mathlib.Core.Option.{some, some-ne-none, some-injective}
+use mathlib.Core.Option.{some}
 use lib.ListN.{get_elem?}
 use Rattle.atomic_table.proofs.Lists.{one_turn}
-use Rattle.nv_pool.specs.Chunks.{chunks_for}
-use Rattle.nv_lanes.proofs.LiveLaws.{at_get, take_one_more, get_take}
+use Rattle.nv_lanes.proofs.LiveLaws.{at_get}
 use Rattle.nv_places.specs.Logs.{Log, lanes_after, lane, earlier}
 use Rattle.nv_places.proofs.LogLaws.{lane_below_8, lane_stays, earlier_stays, lane_begun, earlier_begun, lane_places_apart, earlier_is_count, earlier_was_count}
 use Rattle.nv_places.specs.Header.{header}
-use Rattle.nv_places.specs.Placement.{next_slot, pool_chunks, table_words, chunks, chunks_before, chunks_from, slot, pool_word, spot, place_of, Fits}
+use Rattle.nv_places.specs.Placement.{next_slot, pool_chunks, table_words, chunks, chunks_before, chunks_from, slot, pool_word, spot, word_place, Fits}
 
 -- The slots of the lanes
 
@@ -91,9 +90,6 @@ pool_apart n c s t j w lt near e =
 chunks_hold : (e : List ℕ) (j : ℕ) → 6 ≤ j → j < length e → j - 6 < 64 * chunks e
 chunks_hold e j six below = omega arith
 
-pub chunks_longer : (e x : List ℕ) → chunks e ≤ chunks (e ++ x)
-chunks_longer e x = let n = length-append e x in omega arith
-
 pub before_stays : (log more : Log) (i : ℕ) → i ≤ length log → chunks_before (log ++ more) i ≡ chunks_before log i
 unfolding chunks_before
 before_stays log more i h = ap (sum_by chunks) (take-append-le i log more h)
@@ -130,66 +126,62 @@ fits_later c log e f g le fits = record {
   chunks_are_few = let w = fits.chunks_are_few in let a = before_and_from log f in let b = before_and_from log g in let m = before_grows log f g le in omega arith;
 }
 
--- and so does the beginning of it
-pub fits_begun : (c : ℕ) (log : Log) (e x : List ℕ) (f : ℕ) → Fits c log (e ++ x) f → Fits c log e f
-fits_begun c log e x f fits = record { window = fits.window; chunks_are_few = let w = fits.chunks_are_few in let l = chunks_longer e x in omega arith }
-
 -- The places
 
-pub place_early : (n c : ℕ) (log : Log) (i j : ℕ) → j < 6 → place_of n c log i j ≡ slot n c (lane log i) (earlier log i % c) j
-unfolding place_of
+pub place_early : (n c : ℕ) (log : Log) (i j : ℕ) → j < 6 → word_place n c log i j ≡ slot n c (lane log i) (earlier log i % c) j
+unfolding word_place
 place_early n c log i j l = ap (λ (b : Bool). cond b (slot n c (lane log i) (earlier log i % c) j) (pool_word n c (chunks_before log i % pool_chunks c) j)) (lt-ltb j 6 l)
 
-pub place_late : (n c : ℕ) (log : Log) (i j : ℕ) → 6 ≤ j → place_of n c log i j ≡ pool_word n c (chunks_before log i % pool_chunks c) j
-unfolding place_of
+pub place_late : (n c : ℕ) (log : Log) (i j : ℕ) → 6 ≤ j → word_place n c log i j ≡ pool_word n c (chunks_before log i % pool_chunks c) j
+unfolding word_place
 place_late n c log i j l = ap (λ (b : Bool). cond b (slot n c (lane log i) (earlier log i % c) j) (pool_word n c (chunks_before log i % pool_chunks c) j)) (le-ltb j 6 l)
 
 table_holds_places : (n c : ℕ) → 8 * c * 6 + header n ≤ table_words n c
 unfolding table_words
 table_holds_places n c = let a : ℕ = 8 * c * 6 in let q : a + (8 * (n + 2)) ≤ a + 64 * pool_chunks c + (8 * (n + 2)) = omega arith in q
 
-early_below : (n c : ℕ) (log : Log) (i j : ℕ) → 0 < c → j < 6 → place_of n c log i j < 8 * c * 6 + header n
+early_below : (n c : ℕ) (log : Log) (i j : ℕ) → 0 < c → j < 6 → word_place n c log i j < 8 * c * 6 + header n
 early_below n c log i j pos l = let e = place_early n c log i j l in let b = slot_below n c (lane log i) (earlier log i % c) j (lane_below_8 log i) (mod-lt (earlier log i) pos) l in omega arith
 
-late_after : (n c : ℕ) (log : Log) (i j : ℕ) → 6 ≤ j → 8 * c * 6 + header n ≤ place_of n c log i j
+late_after : (n c : ℕ) (log : Log) (i j : ℕ) → 6 ≤ j → 8 * c * 6 + header n ≤ word_place n c log i j
 late_after n c log i j l = let e = place_late n c log i j l in let b = pool_after n c (chunks_before log i % pool_chunks c) j in omega arith
 
 -- it stands in the table
-pub place_inside : (n c : ℕ) (log : Log) (i j : ℕ) → 0 < c → place_of n c log i j < table_words n c
+pub place_inside : (n c : ℕ) (log : Log) (i j : ℕ) → 0 < c → word_place n c log i j < table_words n c
 place_inside n c log i j pos = dite (dec_le 6 j)
     (λ l. let e = place_late n c log i j l in let b = pool_inside n c (chunks_before log i % pool_chunks c) j in omega arith)
     (λ g. let b = early_below n c log i j pos (lt_of_not-le g) in let t = table_holds_places n c in omega arith)
 
 -- and after the owner, the head and the cursors
-pub place_after : (n c : ℕ) (log : Log) (i j k : ℕ) → k < header n → place_of n c log i j ≢ k
+pub place_after : (n c : ℕ) (log : Log) (i j k : ℕ) → k < header n → word_place n c log i j ≢ k
 place_after n c log i j k l e = dite (dec_le 6 j)
-    (λ s. let b = late_after n c log i j s in let a : ℕ = 8 * c * 6 in let b' : a + header n ≤ place_of n c log i j = b in omega arith)
+    (λ s. let b = late_after n c log i j s in let a : ℕ = 8 * c * 6 in let b' : a + header n ≤ word_place n c log i j = b in omega arith)
     (λ g. let q = place_early n c log i j (lt_of_not-le g) in let b = slot_late n c (lane log i) (earlier log i % c) j in omega arith)
 
 pub header_inside : (n c k : ℕ) → k < header n → k < table_words n c
 header_inside n c k l = let t = table_holds_places n c in let a : ℕ = 8 * c * 6 in let t' : a + header n ≤ table_words n c = t in omega arith
 
 -- a longer log moves no word
-pub place_stays : (n c : ℕ) (log more : Log) (i j : ℕ) → i < length log → place_of n c (log ++ more) i j ≡ place_of n c log i j
-unfolding place_of
+pub place_stays : (n c : ℕ) (log more : Log) (i j : ℕ) → i < length log → word_place n c (log ++ more) i j ≡ word_place n c log i j
+unfolding word_place
 place_stays n c log more i j l = λ k. spot n c (lane_stays log more i l k) (earlier_stays log more i l k % c) (before_stays log more i (le_of_lt l) k % pool_chunks c) j
 
 -- of an event that stands after the log, the first word alone tells where its words stand
-pub place_begun : (n c : ℕ) (log : Log) (e f : List ℕ) (j : ℕ) → 0 < length e → place_of n c (log ++ (e ++ f) ∷ []) (length log) j ≡ place_of n c (log ++ e ∷ []) (length log) j
-unfolding place_of
+pub place_begun : (n c : ℕ) (log : Log) (e f : List ℕ) (j : ℕ) → 0 < length e → word_place n c (log ++ (e ++ f) ∷ []) (length log) j ≡ word_place n c (log ++ e ∷ []) (length log) j
+unfolding word_place
 place_begun n c log e f j pos =
     let before : chunks_before (log ++ (e ++ f) ∷ []) (length log) ≡ chunks_before (log ++ e ∷ []) (length log) = before_stays log ((e ++ f) ∷ []) (length log) (le_refl (length log)) ∙ sym (before_stays log (e ∷ []) (length log) (le_refl (length log))) in
     λ k. spot n c (lane_begun log e f pos k) (earlier_begun log e f pos k % c) (before k % pool_chunks c) j
 
-early_late : (n c : ℕ) (log log' : Log) (i h j w : ℕ) → 0 < c → j < 6 → 6 ≤ w → place_of n c log i j ≢ place_of n c log' h w
-early_late n c log log' i h j w pos a b e = let x = early_below n c log i j pos a in let y = late_after n c log' h w b in let z : ℕ = 8 * c * 6 + header n in let x' : place_of n c log i j < z = x in let y' : z ≤ place_of n c log' h w = y in omega arith
+early_late : (n c : ℕ) (log log' : Log) (i h j w : ℕ) → 0 < c → j < 6 → 6 ≤ w → word_place n c log i j ≢ word_place n c log' h w
+early_late n c log log' i h j w pos a b e = let x = early_below n c log i j pos a in let y = late_after n c log' h w b in let z : ℕ = 8 * c * 6 + header n in let x' : word_place n c log i j < z = x in let y' : z ≤ word_place n c log' h w = y in omega arith
 
-late_less : (n c : ℕ) (log : Log) (i j w : ℕ) → 6 ≤ j → j < w → w < 518 → place_of n c log i j ≢ place_of n c log i w
+late_less : (n c : ℕ) (log : Log) (i j w : ℕ) → 6 ≤ j → j < w → w < 518 → word_place n c log i j ≢ word_place n c log i w
 late_less n c log i j w six lt b e =
     let s : ℕ = chunks_before log i in
     pool_apart n c s s j w (omega arith) (omega arith) (sym (place_late n c log i j six) ∙ e ∙ place_late n c log i w (omega arith))
 
-less_apart : (n c : ℕ) (log : Log) (i j w : ℕ) → 0 < c → j < w → w < 518 → place_of n c log i j ≢ place_of n c log i w
+less_apart : (n c : ℕ) (log : Log) (i j w : ℕ) → 0 < c → j < w → w < 518 → word_place n c log i j ≢ word_place n c log i w
 less_apart n c log i j w pos lt b e = dite (dec_le 6 j)
     (λ s. late_less n c log i j w s lt b e)
     (λ g. let early = lt_of_not-le g in dite (dec_le 6 w)
@@ -197,13 +189,13 @@ less_apart n c log i j w pos lt b e = dite (dec_le 6 j)
     (λ g'. let q = slots_apart n c (lane log i) (earlier log i % c) j (lane log i) (earlier log i % c) w (mod-lt (earlier log i) pos) (mod-lt (earlier log i) pos) early (lt_of_not-le g') (sym (place_early n c log i j early) ∙ e ∙ place_early n c log i w (lt_of_not-le g')) in let r = q.2 in omega arith))
 
 -- two words of one event
-pub words_apart : (n c : ℕ) (log : Log) (i j w : ℕ) → 0 < c → j < 518 → w < 518 → j ≢ w → place_of n c log i j ≢ place_of n c log i w
+pub words_apart : (n c : ℕ) (log : Log) (i j w : ℕ) → 0 < c → j < 518 → w < 518 → j ≢ w → word_place n c log i j ≢ word_place n c log i w
 words_apart n c log i j w pos a b ne e = dite (dec_le (suc j) w)
     (λ l. less_apart n c log i j w pos (let q : suc j ≤ w = l in omega arith) b e)
     (λ g. let l = lt_of_not-le g in less_apart n c log i w j pos (omega arith) a (sym e))
 
 -- words of two events in places
-early_apart : (n c : ℕ) (log : Log) (e : List ℕ) (i j w : ℕ) → i < length log → length log < i + c → j < 6 → w < 6 → place_of n c log i j ≢ place_of n c (log ++ e ∷ []) (length log) w
+early_apart : (n c : ℕ) (log : Log) (e : List ℕ) (i j w : ℕ) → i < length log → length log < i + c → j < 6 → w < 6 → word_place n c log i j ≢ word_place n c (log ++ e ∷ []) (length log) w
 early_apart n c log e i j w lt near a b q =
     let log' : Log = log ++ e ∷ [] in
     let h : ℕ = length log in
@@ -214,7 +206,7 @@ early_apart n c log e i j w lt near a b q =
 
 -- and in chunks
 late_apart : (n c : ℕ) (log : Log) (d e : List ℕ) (i j w : ℕ) → get_elem? log i ≡ some d → chunks_from log i + chunks e ≤ pool_chunks c → 6 ≤ j → 6 ≤ w → j < length d → w < length e
-    → place_of n c log i j ≢ place_of n c (log ++ e ∷ []) (length log) w
+    → word_place n c log i j ≢ word_place n c (log ++ e ∷ []) (length log) w
 late_apart n c log d e i j w at few a b jl wl q =
     let log' : Log = log ++ e ∷ [] in
     let h : ℕ = length log in
@@ -228,7 +220,7 @@ late_apart n c log d e i j w at few a b jl wl q =
     (sym (place_late n c log i j a) ∙ q ∙ place_late n c log' h w b ∙ ap (λ (k : ℕ). pool_word n c (k % pool_chunks c) w) (before_stays log (e ∷ []) h (le_refl h)))
 
 -- words of two events, the later of which stands after the log and fits while the earlier is kept
-pub places_apart : (n c : ℕ) (log : Log) (d e : List ℕ) (f i j w : ℕ) → f ≤ i → get_elem? log i ≡ some d → Fits c log e f → j < length d → w < length e → place_of n c log i j ≢ place_of n c (log ++ e ∷ []) (length log) w
+pub places_apart : (n c : ℕ) (log : Log) (d e : List ℕ) (f i j w : ℕ) → f ≤ i → get_elem? log i ≡ some d → Fits c log e f → j < length d → w < length e → word_place n c log i j ≢ word_place n c (log ++ e ∷ []) (length log) w
 places_apart n c log d e f i j w from at fits jl wl q =
     let a = at_get log i d d at in
     let lt : i < length log = a.0 in
@@ -243,27 +235,6 @@ places_apart n c log d e f i j w from at fits jl wl q =
     (λ t. early_late n c log (log ++ e ∷ []) i (length log) j w pos (lt_of_not-le g) t q)
     (λ g'. early_apart n c log e i j w lt near (lt_of_not-le g) (lt_of_not-le g') q))
 
--- two events of a log, of which those from f on are no more than the places and their chunks no more than the pool's
-pub events_apart : (n c : ℕ) (log : Log) (d e : List ℕ) (f i h j w : ℕ) → f ≤ i → i < h → get_elem? log i ≡ some d → get_elem? log h ≡ some e → length log ≤ f + c → chunks_from log f ≤ pool_chunks c → j < length d → w < length e
-    → place_of n c log i j ≢ place_of n c log h w
-events_apart n c log d e f i h j w from lt at_i at_h window few jl wl q =
-    let prefix : Log = take h log in
-    let rest : Log = drop (suc h) log in
-    let below : h < length log = (at_get log h e e at_h).0 in
-    let len : length prefix ≡ h = length-take-le h log (omega arith) in
-    let one : take (suc h) log ≡ prefix ++ e ∷ [] = take_one_more log h e at_h in
-    let whole : (prefix ++ e ∷ []) ++ rest ≡ log = ap (λ z. z ++ rest) (sym one) ∙ take-append-drop (suc h) log in
-    let whole' : prefix ++ drop h log ≡ log = take-append-drop h log in
-    let early : place_of n c log i j ≡ place_of n c prefix i j = ap (λ z. place_of n c z i j) (sym whole') ∙ place_stays n c prefix (drop h log) i j (omega arith) in
-    let late : place_of n c log h w ≡ place_of n c (prefix ++ e ∷ []) (length prefix) w = ap (λ z. place_of n c z h w) (sym whole) ∙ place_stays n c (prefix ++ e ∷ []) rest h w (let a = length-append prefix (e ∷ []) in omega arith) ∙ ap (λ k. place_of n c (prefix ++ e ∷ []) k w) (sym len) in
-    let at_prefix : get_elem? prefix i ≡ some d = get_take log h i lt ∙ at_i in
-    let s : (k : ℕ) → k ≤ h → chunks_before log k ≡ chunks_before prefix k = λ k l. ap (λ z. chunks_before z k) (sym whole') ∙ before_stays prefix (drop h log) k (omega arith) in
-    let fits : Fits c prefix e f = record {
-      window = omega arith;
-      chunks_are_few = let a = before_and_from prefix f in let b = before_and_from log f in let x = s f (omega arith) in let y = s h (le_refl h) in let z = before_next log h e at_h in let u : chunks_before prefix (length prefix) ≡ chunks_before prefix h = ap (chunks_before prefix) len in omega arith;
-    } in
-    places_apart n c prefix d e f i j w from at_prefix fits jl wl (sym early ∙ q ∙ late)
-
 -- the places of the lanes alone
 pub slot_after : (n c l k j h : ℕ) → h < header n → slot n c l k j ≢ h
 slot_after n c l k j h b e = let a = slot_late n c l k j in omega arith
@@ -272,13 +243,13 @@ pub slot_inside : (n c l k j : ℕ) → l < 8 → k < c → j < 6 → slot n c l
 slot_inside n c l k j a b d = let x = slot_below n c l k j a b d in let t = table_holds_places n c in omega arith
 
 -- word 1 of a place is a later word of no event
-pub second_apart : (n c l k : ℕ) (log : Log) (i j : ℕ) → l < 8 → k < c → 6 ≤ j → slot n c l k 1 ≢ place_of n c log i j
-second_apart n c l k log i j a b six e = let x = slot_below n c l k 1 a b (omega arith) in let y = late_after n c log i j six in let z : ℕ = 8 * c * 6 + header n in let x' : slot n c l k 1 < z = x in let y' : z ≤ place_of n c log i j = y in omega arith
+pub second_apart : (n c l k : ℕ) (log : Log) (i j : ℕ) → l < 8 → k < c → 6 ≤ j → slot n c l k 1 ≢ word_place n c log i j
+second_apart n c l k log i j a b six e = let x = slot_below n c l k 1 a b (omega arith) in let y = late_after n c log i j six in let z : ℕ = 8 * c * 6 + header n in let x' : slot n c l k 1 < z = x in let y' : z ≤ word_place n c log i j = y in omega arith
 
-pub place_next : (n c : ℕ) (log : Log) (i j : ℕ) → j < 6 → place_of n c log i j ≡ next_slot n c (lanes_after (take i log)) (lane log i) j
+pub place_next : (n c : ℕ) (log : Log) (i j : ℕ) → j < 6 → word_place n c log i j ≡ next_slot n c (lanes_after (take i log)) (lane log i) j
 place_next n c log i j l = place_early n c log i j l ∙ ap (λ (k : ℕ). slot n c (lane log i) (k % c) j) (earlier_was_count log i)
 
-pub place_last : (n c : ℕ) (log : Log) (e : List ℕ) (j : ℕ) → j < 6 → place_of n c (log ++ e ∷ []) (length log) j ≡ next_slot n c (lanes_after log) (lane (log ++ e ∷ []) (length log)) j
+pub place_last : (n c : ℕ) (log : Log) (e : List ℕ) (j : ℕ) → j < 6 → word_place n c (log ++ e ∷ []) (length log) j ≡ next_slot n c (lanes_after log) (lane (log ++ e ∷ []) (length log)) j
 place_last n c log e j l = place_early n c (log ++ e ∷ []) (length log) j l ∙ ap (λ (k : ℕ). slot n c (lane (log ++ e ∷ []) (length log)) (k % c) j) (earlier_is_count log e)
 
 -- How many words there are
@@ -297,6 +268,6 @@ spot_inside n c l k first j a b = dite (dec_le 6 j)
     (λ s. subst (λ (t : Bool). cond t (slot n c l k j) (pool_word n c first j) < table_words n c) (sym (le-ltb j 6 s)) (pool_inside n c first j))
     (λ g. let few = lt_of_not-le g in subst (λ (t : Bool). cond t (slot n c l k j) (pool_word n c first j) < table_words n c) (sym (lt-ltb j 6 few)) (slot_inside n c l k j a b few))
 
-pub place_is_spot : (n c : ℕ) (log : Log) (i j : ℕ) → place_of n c log i j ≡ spot n c (lane log i) (earlier log i % c) (chunks_before log i % pool_chunks c) j
-unfolding place_of
+pub place_is_spot : (n c : ℕ) (log : Log) (i j : ℕ) → word_place n c log i j ≡ spot n c (lane log i) (earlier log i % c) (chunks_before log i % pool_chunks c) j
+unfolding word_place
 place_is_spot n c log i j = refl

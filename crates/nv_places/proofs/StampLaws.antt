@@ -4,7 +4,7 @@ use mathlib.Core.Option.{some}
 use lib.ListN.{get_elem?}
 use Rattle.nv_calls.specs.Calls.{Entry}
 use Rattle.nv_calls.specs.Logs.{InRange, IsLawful}
-use Rattle.nv_words.specs.Spell.{low, pair, bit, spell}
+use Rattle.nv_words.specs.Spelling.{low, pair, flag_bit, spell}
 use Rattle.nv_places.specs.Logs.{Log, lane}
 use Rattle.nv_places.proofs.LogLaws.{lane_stays, lane_begun}
 use Rattle.nv_places.specs.Stamps.{Published, Begun, Stamp, Stamps}
@@ -47,6 +47,6 @@ stamps_published c second log w s l k a b =
 low_pair : (a b : ℕ) → a < 4294967296 → low (pair a b) ≡ a
 low_pair a b h = omega arith
 
-pub number_word : (e : Entry) → InRange e → (get_elem? (spell e) 1 ≡ some (pair e.stamp (bit e.call.bad))) × (low (pair e.stamp (bit e.call.bad)) ≡ e.stamp)
+pub number_word : (e : Entry) → InRange e → (get_elem? (spell e) 1 ≡ some (pair e.stamp (flag_bit e.call.bad))) × (low (pair e.stamp (flag_bit e.call.bad)) ≡ e.stamp)
 unfolding spell
-number_word e r = (refl, low_pair e.stamp (bit e.call.bad) (let s = r.stamp in omega arith))
+number_word e r = (refl, low_pair e.stamp (flag_bit e.call.bad) (let s = r.stamp in omega arith))

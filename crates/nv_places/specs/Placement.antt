@@ -34,8 +34,8 @@ abbrev pub spot : ℕ → ℕ → ℕ → ℕ → ℕ → ℕ → ℕ
 spot n c lane k first j = if nat_lt j 6 then slot n c lane k j else pool_word n c first j
 
 -- the word j of the event number i of the log
-unfoldable pub place_of : ℕ → ℕ → Log → ℕ → ℕ → ℕ
-place_of n c log i j = spot n c (lane log i) (earlier log i % c) (chunks_before log i % pool_chunks c) j
+unfoldable pub word_place : ℕ → ℕ → Log → ℕ → ℕ → ℕ
+word_place n c log i j = spot n c (lane log i) (earlier log i % c) (chunks_before log i % pool_chunks c) j
 
 -- an event may be written after the log while those from f on are kept
 pub record Fits (c : ℕ) (log : Log) (e : List ℕ) (f : ℕ) : Type 0 where
@@ -47,8 +47,8 @@ abbrev pub next_slot : ℕ → ℕ → Taken → ℕ → ℕ → ℕ
 next_slot n c taken lane j = slot n c lane (slice_index taken.counts lane % c) j
 
 -- as many bytes as the words after the sixth have: their chunks are the event's
-abbrev pub bytes_of : List ℕ → ℕ
-bytes_of e = 8 * (length e - 6)
+abbrev pub payload_size : List ℕ → ℕ
+payload_size e = 8 * (length e - 6)
 
 abbrev pub sizes : Log → List ℕ
-sizes log = map bytes_of log
+sizes log = map payload_size log

@@ -1,6 +1,6 @@
 -- What the places of the lanes tell of the order of events: word 1 of a place has an event's number in its low half.
 use Rattle.std.specs.Prelude.{◌≡◌, ◌≢◌, ℕ, ◌+◌, ◌%◌, ◌<◌, ◌≤◌, ◌⊎◌, Bool, true, List, [], ◌∷◌, ◌++◌, length, take, slice_index}
-use Rattle.nv_words.specs.Spell.{low}
+use Rattle.nv_words.specs.Spelling.{low}
 use Rattle.nv_lanes.specs.Lanes.{Taken, lives}
 use Rattle.nv_places.specs.Logs.{Log, lanes_after, lane, earlier}
 
@@ -27,8 +27,8 @@ abbrev pub IsStamped : ℕ → (ℕ → ℕ → ℕ) → Log → ℕ → Type 0
 IsStamped c second log i = low (second (lane log i) (earlier log i % c)) ≡ i
 
 -- what a reader that has seen these events finds in a lane: its own count, where the next place of the lane has it
-abbrev pub found : ℕ → (ℕ → ℕ → ℕ) → Log → ℕ → ℕ
-found c second seen l = low (second l (slice_index (lanes_after seen).counts l % c))
+abbrev pub found_in_lane : ℕ → (ℕ → ℕ → ℕ) → Log → ℕ → ℕ
+found_in_lane c second seen l = low (second l (slice_index (lanes_after seen).counts l % c))
 
 abbrev pub Lives : Log → ℕ → Type 0
 Lives seen l = lives (lanes_after seen) l ≡ true

@@ -1,7 +1,7 @@
 //! What a pool is asked.
 ghost use Rattle.std.specs.Prelude.{◌≡◌, ℕ, ◌+◌, ◌%◌, ◌<◌, ◌≤◌, ◌-◌, ◌⊎◌, ◌↔◌, ◌++◌, List, [], ◌∷◌, length, IfOk, IsTrue};
-ghost use Rattle.nv_pool.specs.Chunks.{chunks_of, chunks_before, chunks_from, first_chunk};
-ghost use Rattle.nv_pool.specs.Pools.{chunks_of_pool, places_of, count_of, Holds};
+ghost use Rattle.nv_pool.specs.Chunks.{chunks_of, chunks_of_first, chunks_of_rest, first_chunk};
+ghost use Rattle.nv_pool.specs.Pool.{chunks_of_pool, places_of, count_of, Holds};
 
 use crate::pool::Pool;
 use std::alloc::{AllocError, Global};
@@ -80,7 +80,7 @@ impl Pool {
         requires bytes { bytes ≤ 4096 }
         requires floor { floor ≤ count_of self.now }
         requires near { count_of self.now ≤ floor + places_of self.now }
-        ensures { (sizes : List ℕ) → Holds self.now sizes → IsTrue result ↔ (chunks_from sizes floor + chunks_of bytes ≤ chunks_of_pool self.now) }
+        ensures { (sizes : List ℕ) → Holds self.now sizes → IsTrue result ↔ (chunks_of_rest sizes floor + chunks_of bytes ≤ chunks_of_pool self.now) }
     {
         self.total - self.start(floor) + chunks_of(bytes) <= self.chunks
     }
@@ -104,7 +104,7 @@ impl Pool {
     fn start(&self, event: u32) -> u32
         requires event { event ≤ count_of self.now }
         requires near { count_of self.now ≤ event + places_of self.now }
-        ensures is { (sizes : List ℕ) → Holds self.now sizes → result ≡ chunks_before sizes event }
+        ensures is { (sizes : List ℕ) → Holds self.now sizes → result ≡ chunks_of_first sizes event }
         ensures most { result ≤ self.now.total }
     {
         let later = self.count - event;

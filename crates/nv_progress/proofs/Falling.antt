@@ -1,13 +1,13 @@
 -- Each step that gets on leaves one fewer.
 use Rattle.std.proofs.Common.{◌≡◌, ℕ, ◌+◌, ◌*◌, ◌≤◌, Bool, true, false, List, [], ◌∷◌, length, sym, refl, ap, subst, ⊎_elim, arith, length-append}
 use Rattle.std.specs.Prelude.{◌==◌, if◌then◌else◌}
-use Rattle.nv_words.specs.Spell.{low}
+use Rattle.nv_words.specs.Spelling.{low}
 use Rattle.nv_calls.specs.Limits.{MOST_EVENTS}
 use Rattle.nv_room.specs.declared.view.View.{View}
 use Rattle.nv_room.specs.declared.view.Role.{Role}
 use Rattle.nv_room.specs.declared.view.Role.TheVariants.{Reader, Lead, Opening, Leaving, Moving, Gone, Spent}
 use Rattle.nv_room.specs.Steps.{with_note, with_miss}
-use Rattle.nv_progress.specs.Steps.{turns_at, steps_left, Kind, looks_head, looks_owner, looks_cursor, probes, reads, writes, sees, publishes, takes, gives_up, leaves, opens, hands, moves, Goes, gets_on, Went, steps_on}
+use Rattle.nv_progress.specs.Steps.{turns_at, steps_left, Kind, looks_head, looks_owner, looks_cursor, probes, reads, writes, sees, publishes, takes, gives_up, leaves, opens, hands, moves, StepGives, gets_on, Went, steps_on}
 
 at_most_four : (role : Role) → turns_at role ≤ 4
 at_most_four Reader = omega arith
@@ -31,7 +31,7 @@ module _ {T : Type 0} (n : ℕ) where
   by_note true v l = same v (with_note l v) refl refl refl
   by_note false v l = same v (with_miss l v) refl refl refl
 
-  pub one_falls : (v w : View T) (k : Kind) → Goes n v w k → gets_on k + steps_left n w ≤ steps_left n v
+  pub one_falls : (v w : View T) (k : Kind) → StepGives n v w k → gets_on k + steps_left n w ≤ steps_left n v
   one_falls v w (looks_head r) g = same v w (ap (λ (z : View T). z.role) g) (ap (λ (z : View T). z.station) g) (ap (λ (z : View T). z.seen) g)
   one_falls v w (looks_owner r) g = same v w (ap (λ (z : View T). z.role) g) (ap (λ (z : View T). z.station) g) (ap (λ (z : View T). z.seen) g)
   one_falls v w (looks_cursor s r) g = same v w (ap (λ (z : View T). z.role) g) (ap (λ (z : View T). z.station) g) (ap (λ (z : View T). z.seen) g)

@@ -12,7 +12,7 @@ use Rattle.nv_words.proofs.SpellLaws.{prefix_length, prefix_same}
 use Rattle.nv_ring.specs.Places.{FitsAll, IsFull}
 use Rattle.nv_ring.proofs.Filling.{past_fit}
 use Rattle.nv_room.specs.declared.view.View.{View}
-use Rattle.nv_room.specs.declared.view.Plan.{Plan}
+use Rattle.nv_room.specs.declared.view.Layout.{Layout}
 use Rattle.nv_room.specs.declared.view.Role.{Role}
 use Rattle.nv_room.specs.declared.view.Role.TheVariants.{Reader, Lead, Opening, Leaving, Moving, Gone, Spent}
 use Rattle.nv_room.specs.Placement.{Log, pool_chunks, chunks_from}
@@ -31,7 +31,7 @@ full_unread c log seen pos full = dite (dec_le (length log) seen)
     full))
     (λ less. lt_of_not-le less)
 
-module _ {K : Type 0} (hist : K → List Entry) (beg : K → Start) (p : Plan K) (s : State (Option K) (View K)) (r : Rule hist beg p s) where
+module _ {K : Type 0} (hist : K → List Entry) (beg : K → Start) (p : Layout K) (s : State (Option K) (View K)) (r : Rule hist beg p s) where
   abbrev m : Moment
   m = moment r
 

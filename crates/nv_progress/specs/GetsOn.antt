@@ -7,7 +7,7 @@ use Rattle.nv_calls.specs.Calls.{Entry}
 use Rattle.nv_calls.specs.Logs.{Start}
 use Rattle.nv_ring.specs.Places.{FitsAll}
 use Rattle.nv_room.specs.declared.view.View.{View}
-use Rattle.nv_room.specs.declared.view.Plan.{Plan}
+use Rattle.nv_room.specs.declared.view.Layout.{Layout}
 use Rattle.nv_room.specs.declared.view.Role.{Role}
 use Rattle.nv_room.specs.declared.view.Role.TheVariants.{Reader, Lead, Opening, Leaving, Moving, Gone, Spent}
 use Rattle.nv_room.specs.Owner.{GONE, free, closed}
@@ -15,7 +15,7 @@ use Rattle.nv_room.specs.Room.{cursor, Moment, as_of, Live, Rule}
 use Rattle.nv_room.specs.Steps.{TellsEnd}
 
 -- the state of a room that meets the rule
-abbrev pub moment : {K : Type 0} {hist : K → List Entry} {beg : K → Start} {p : Plan K} {s : State (Option K) (View K)} → Rule hist beg p s → Moment
+abbrev pub moment : {K : Type 0} {hist : K → List Entry} {beg : K → Start} {p : Layout K} {s : State (Option K) (View K)} → Rule hist beg p s → Moment
 moment {s = s} r = as_of s.words r.log r.phase r.holder r.spans r.seating r.ready
 
 -- an event is published that the seat has still to see
@@ -27,7 +27,7 @@ abbrev pub HasPlace : {T : Type 0} → ℕ → Moment → View T → Type 0
 HasPlace c m v = (s : ℕ) → s ≢ v.station → s < length m.seating → FitsAll c m.log (cursor m.words s)
 
 -- the room is free, the seat has seen all events, and all lower stations have left: it is next to lead
-pub record IsNext {T : Type 0} (m : Moment) (v : View T) : Type 0 where
+pub record IsNextToLead {T : Type 0} (m : Moment) (v : View T) : Type 0 where
   pub is_free : m.phase ≡ free
   pub all_seen : length v.seen ≡ length m.log
   pub lower_gone : (s : ℕ) → s < v.station → GONE ≤ cursor m.words s
@@ -41,7 +41,7 @@ pub record IsOver {T : Type 0} (m : Moment) (v : View T) : Type 0 where
 -- the lead, leaves or moves waits for nobody.
 module _ {T : Type 0} (c : ℕ) (m : Moment) (v : View T) where
   abbrev pub CanGetOn : Role → Type 0
-  CanGetOn Reader = HasEvent m v ⊎ (IsNext m v ⊎ IsOver m v)
+  CanGetOn Reader = HasEvent m v ⊎ (IsNextToLead m v ⊎ IsOver m v)
   CanGetOn Lead = HasPlace c m v
   CanGetOn Opening = Unit {0}
   CanGetOn Leaving = Unit {0}
@@ -64,7 +64,7 @@ abbrev pub SomeSeat : {T : Type 0} → List (View T) → (View T → Type 0) →
 SomeSeat {T} views P = (j : ℕ) × (v : View T) × (get_elem? views j ≡ some v) × P v
 
 -- each version has its seat, as its worker holds it
-abbrev pub AllSeated : {T : Type 0} → Plan T → List (View T) → Type 0
+abbrev pub AllSeated : {T : Type 0} → Layout T → List (View T) → Type 0
 AllSeated p views = (version : ℕ) → version < p.versions → SomeSeat views (λ v. Live v.role × (v.version ≡ version))
 
 -- not all have left

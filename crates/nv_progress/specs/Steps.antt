@@ -39,21 +39,21 @@ pub data Kind : Type 0 where
 
 -- the view after such a step of a room of n stations, and when it is taken
 module _ {T : Type 0} (n : ℕ) (v w : View T) where
-  abbrev pub Goes : Kind → Type 0
-  Goes (looks_head r) = w ≡ head_seen v r
-  Goes (looks_owner r) = w ≡ owner_seen v r
-  Goes (looks_cursor s r) = w ≡ cursor_seen s v r
-  Goes (probes l r) = w ≡ probed_at l v r
-  Goes (reads r) = w ≡ word_seen v r
-  Goes (writes r) = w ≡ word_put v r
-  Goes sees = (length v.seen < MOST_EVENTS) × (w ≡ one_on v)
-  Goes publishes = (length v.seen < MOST_EVENTS) × (w ≡ one_out v)
-  Goes takes = (v.role ≡ Reader) × (w ≡ as_lead v)
-  Goes (gives_up r) = (v.role ≡ Lead) × (w ≡ as_leaving v r)
-  Goes leaves = ((v.role ≡ Reader) ⊎ (v.role ≡ Leaving)) × (w ≡ as_gone v)
-  Goes opens = (v.role ≡ Lead) × (w ≡ as_opening v)
-  Goes (hands r) = (v.role ≡ Opening) × (v.station < v.opened) × (v.opened < n) × (w ≡ as_moving v r)
-  Goes moves = (v.role ≡ Moving) × (w ≡ as_reader v)
+  abbrev pub StepGives : Kind → Type 0
+  StepGives (looks_head r) = w ≡ head_seen v r
+  StepGives (looks_owner r) = w ≡ owner_seen v r
+  StepGives (looks_cursor s r) = w ≡ cursor_seen s v r
+  StepGives (probes l r) = w ≡ probed_at l v r
+  StepGives (reads r) = w ≡ word_seen v r
+  StepGives (writes r) = w ≡ word_put v r
+  StepGives sees = (length v.seen < MOST_EVENTS) × (w ≡ one_on v)
+  StepGives publishes = (length v.seen < MOST_EVENTS) × (w ≡ one_out v)
+  StepGives takes = (v.role ≡ Reader) × (w ≡ as_lead v)
+  StepGives (gives_up r) = (v.role ≡ Lead) × (w ≡ as_leaving v r)
+  StepGives leaves = ((v.role ≡ Reader) ⊎ (v.role ≡ Leaving)) × (w ≡ as_gone v)
+  StepGives opens = (v.role ≡ Lead) × (w ≡ as_opening v)
+  StepGives (hands r) = (v.role ≡ Opening) × (v.station < v.opened) × (v.opened < n) × (w ≡ as_moving v r)
+  StepGives moves = (v.role ≡ Moving) × (w ≡ as_reader v)
 
 -- 1 for a step that gets on
 abbrev pub gets_on : Kind → ℕ
@@ -75,7 +75,7 @@ gets_on moves = 1
 -- the seat's view after steps of these kinds
 abbrev pub Went : {T : Type 0} → ℕ → View T → List Kind → View T → Type 0
 Went n v [] w = w ≡ v
-Went {T} n v (k ∷ ks) w = (u : View T) × Goes n v u k × Went n u ks w
+Went {T} n v (k ∷ ks) w = (u : View T) × StepGives n v u k × Went n u ks w
 
 -- how many of them got on
 abbrev pub steps_on : List Kind → ℕ

@@ -5,7 +5,7 @@ ghost use lib.ListN.{get_elem?};
 ghost use Rattle.atomic_table.specs.Table.{State};
 ghost use Rattle.nv_calls.specs.Limits.{MOST_EVENTS};
 ghost use Rattle.nv_room.specs.declared.view.View.{View};
-ghost use Rattle.nv_room.specs.declared.view.Plan.{Plan};
+ghost use Rattle.nv_room.specs.declared.view.Layout.{Layout};
 ghost use Rattle.nv_room.specs.Owner.{held, free};
 ghost use Rattle.nv_room.specs.Placement.{Log};
 ghost use Rattle.nv_room.specs.Room.{cursor, Leads, Rule};
@@ -17,19 +17,19 @@ use nv_calls::SyscallKernel;
 
 /// In each state of a room that meets its rule, each version's seat there and not all gone, some seat can get on.
 pub fn no_room_is_stuck<K: SyscallKernel>()
-    ensures { (p : Plan K) (s : State (Option K) (View K)) (r : Rule K.log K.start p s) → AllSeated p s.views → SomeStays s.views → SomeGetsOn p.places (moment r) s.views }
+    ensures { (p : Layout K) (s : State (Option K) (View K)) (r : Rule K.log K.start p s) → AllSeated p s.views → SomeStays s.views → SomeGetsOn p.places (moment r) s.views }
 {}
 
 /// Who keeps a lead from its place has an event to see, as the cursor tells at which the lead looked; while the room is held a seat leads it; and while it
 /// is free the lowest station left can get on.
 pub fn who_is_waited_for_can_get_on<K: SyscallKernel>()
-    ensures place { (p : Plan K) (s : State (Option K) (View K)) (r : Rule K.log K.start p s) → AllSeated p s.views → r.phase ≡ held
+    ensures place { (p : Layout K) (s : State (Option K) (View K)) (r : Rule K.log K.start p s) → AllSeated p s.views → r.phase ≡ held
         → (t : ℕ) → t ≢ r.holder → t < length r.seating → ¬ FitsAll p.places r.log (cursor s.words t)
         → SomeSeat s.views (λ v. (v.station ≡ t) × CanGetOn p.places (moment r) v v.role × HasEvent (moment r) v) }
     ensures looked { (c : ℕ) (log : Log) (seen : ℕ) → 0 < c → IsFull c log seen → seen < length log }
-    ensures lead { (p : Plan K) (s : State (Option K) (View K)) (r : Rule K.log K.start p s) → r.phase ≡ held
+    ensures lead { (p : Layout K) (s : State (Option K) (View K)) (r : Rule K.log K.start p s) → r.phase ≡ held
         → SomeSeat s.views (λ v. (v.station ≡ r.holder) × Leads v.role) }
-    ensures lower { (p : Plan K) (s : State (Option K) (View K)) (r : Rule K.log K.start p s) → AllSeated p s.views → r.phase ≡ free
+    ensures lower { (p : Layout K) (s : State (Option K) (View K)) (r : Rule K.log K.start p s) → AllSeated p s.views → r.phase ≡ free
         → (t : ℕ) → IsLowest (moment r) t
         → SomeSeat s.views (λ v. (get_elem? r.seating t ≡ some v.version) × CanGetOn p.places (moment r) v v.role) }
 {}

@@ -4,8 +4,8 @@ use Rattle.nv_calls.specs.declared.kernel.SyscallKernel.{Ghosts}
 use Rattle.nv_room.specs.declared.room.Room.{Room}
 use Rattle.nv_replay.specs.Follow.{Judge}
 use Rattle.nv_workers.specs.declared.worker.Worker.{Worker}
-use Rattle.nv_workers.specs.Workers.{IsGone}
-use Rattle.nv_workers.specs.Rounds.{WorkedOn, AllOn}
+use Rattle.nv_workers.specs.Worker.{IsGone}
+use Rattle.nv_workers.specs.inner.Rounds.{WorkedOn, AllOn}
 use Rattle.nv_workers.proofs.Rotating.{all_here}
 use Rattle.nv_progress_tests.specs.declared.scheduler.Ending.{Ending}
 use Rattle.nv_progress_tests.specs.declared.scheduler.Ending.TheVariants.{AllLeft, AllWait, TooMany}

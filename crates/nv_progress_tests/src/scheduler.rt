@@ -1,7 +1,7 @@
 //! The scheduler.
 ghost use Rattle.std.specs.Prelude.{◌≡◌, ◌<◌, IfSome};
 ghost use Rattle.nv_workers.specs.Terms.{AreOfRoom, judges_of};
-ghost use Rattle.nv_workers.specs.Rounds.{CanAll, AllOn, AreGone};
+ghost use Rattle.nv_workers.specs.inner.Rounds.{CanAll, AllOn, AreGone};
 ghost use Rattle.nv_progress_tests.specs.Endings.{GoneIfLeft};
 
 use crate::seed::Seed;

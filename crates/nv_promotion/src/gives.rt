@@ -1,7 +1,7 @@
 //! How a station leaves.
 ghost use Rattle.std.specs.Prelude.{◌≡◌, [], true, false, length, map};
 ghost use Rattle.nv_calls.specs.Logs.{live_after};
-ghost use Rattle.nv_words.specs.Spell.{spell};
+ghost use Rattle.nv_words.specs.Spelling.{spell};
 ghost use Rattle.nv_room.specs.Owner.{is_free, is_closed, owner_at};
 ghost use Rattle.nv_room.specs.Steps.{as_leaving, as_gone};
 ghost use Rattle.nv_room.specs.Seats.{IsOfRoom, IsLeadOf, IsLeftOf, view, lead_view, left_view, station_of_reader, version_of_reader, station_of_lead, version_of_lead, station_of_left, version_of_left, kernel_of, due_of};

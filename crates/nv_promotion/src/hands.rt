@@ -1,6 +1,6 @@
 //! How a lead gives up the lead at a planned length.
 ghost use Rattle.std.specs.Prelude.{◌≡◌, [], true, false, length};
-ghost use Rattle.nv_room.specs.Spans.{HasLed};
+ghost use Rattle.nv_room.specs.Spans.{LastHasEvent};
 ghost use Rattle.nv_room.specs.Room.{Has};
 ghost use Rattle.nv_room.specs.Steps.{as_opening, as_moving, as_reader};
 ghost use Rattle.nv_room.specs.Owner.{is_free, owner_at};
@@ -15,7 +15,7 @@ pub fn hand<K: SyscallKernel>(lead: Lead<K>, room: &Room<K>) -> Reader<K>
     requires of { IsLeadOf room.now lead }
     requires none_due { due_of lead ≡ false }
     requires planned { Has (hands_of room.now) (length (lead_view lead).seen) }
-    requires led { HasLed (lead_view lead).spans }
+    requires led { LastHasEvent (lead_view lead).spans }
     ensures of { IsOfRoom room.now result }
     ensures station { (station_of_reader result ≡ opened_of lead) × (version_of_reader result ≡ version_of_lead lead) }
     ensures view { view result ≡ as_reader (as_moving (as_opening (lead_view lead)) (view result).owner_last) }

@@ -1,6 +1,6 @@
 //! How a station takes the lead.
 ghost use Rattle.std.specs.Prelude.{◌≡◌, ◌<◌, false, length, map, Some};
-ghost use Rattle.nv_words.specs.Spell.{spell};
+ghost use Rattle.nv_words.specs.Spelling.{spell};
 ghost use Rattle.nv_room.specs.Steps.{as_lead};
 ghost use Rattle.nv_room.specs.Seats.{IsOfRoom, IsLeadOf, SameReader, view, lead_view, station_of_reader, version_of_reader, station_of_lead, version_of_lead, kernel_of, due_of, origin};
 ghost use Rattle.nv_promotion.specs.Lowers.{KeepsMarks, IsLower};

@@ -20,8 +20,8 @@ use Rattle.nv_replay.specs.Hands.{is_handed}
 use Rattle.nv_replay.specs.Sequence.{Account, cuts_of}
 use Rattle.nv_replay.specs.Monitor.{Part, Run, begun, after_lead, tracked_by, leads_on, turn, sequence}
 use Rattle.nv_replay.specs.Follow as following
-use Rattle.nv_replay.specs.Versions.{Running, process_of}
-use Rattle.nv_replay.specs.Accounts.{AreFresh}
+use Rattle.nv_replay.specs.Version.{Running, process_of}
+use Rattle.nv_replay.specs.Account.{AreFresh}
 use Rattle.nv_replay.specs.Survivors.{HasNoClone}
 use Rattle.nv_replay.specs.Survivors.{alone, SurvivorsAgree}
 use Rattle.nv_replay.proofs.Covering.{turn_keeps, stage_keeps}

@@ -14,7 +14,7 @@ use Rattle.nv_replay.specs.Lead.{Leader}
 use Rattle.nv_replay.specs.Tracks.{is_in}
 use Rattle.nv_replay.specs.Hands.{is_handed}
 use Rattle.nv_replay.specs.Sequence.{Account}
-use Rattle.nv_replay.specs.Monitor.{Part, Run, part, begun, after_lead, tracked_by, leads_on, turn_by, turn_of, turn_in, turn, line_of, lines_of, account_of, sequence}
+use Rattle.nv_replay.specs.Monitor.{Part, Run, part, begun, after_lead, tracked_by, leads_on, turn_by, turn_of, turn_in, turn, told_standing, lines_of, account_of, sequence}
 use Rattle.nv_replay.proofs.Settled.{stage_zero, stage_one}
 use Rattle.nv_replay.specs.Covers.{times, led_times, Covers}
 use Rattle.nv_replay.proofs.Numbers.{set_cases}
@@ -130,7 +130,7 @@ module _ {P : Type 0} (g : Behaviour P) (judges : ℕ → Judge) (start : Start)
   zero_below n = let h : nat_le 0 n ≡ true = grind (arith, nat_tests) in rw h refl
 
   line_led : (log : List Entry) (i : ℕ) (v : Part P) (o : Option Standing) → v.told ≡ o → ((line : Standing) → v.told ≡ Some line → line.led ≡ v.led)
-      → (line_of g judges start most cuts hands log i v o).led ≡ v.led
+      → (told_standing g judges start most cuts hands log i v o).led ≡ v.led
   line_led log i v None e h = refl
   line_led log i v (Some line) e h = h line e
 

@@ -11,7 +11,7 @@ use Rattle.nv_replay.specs.declared.fate.Fate.{Fate}
 use Rattle.nv_replay.specs.declared.fate.Fate.TheVariants.{Fault as Faulted, Memory}
 use Rattle.nv_machine.specs.declared.outcome.FaultKind.TheVariants.{Calls}
 use Rattle.nv_replay.specs.Settling.{stage}
-use Rattle.nv_replay.specs.Follow.{Follower, Judge, next, follow, IsInStep}
+use Rattle.nv_replay.specs.Follow.{Follower, Judge, follow_next, follow, IsInStep}
 use Rattle.nv_replay.specs.Lead.{Leader, is_cut, led, logged, unless_ended, next_call}
 use Rattle.nv_replay.proofs.Settled.{Reaches, reach_first, at_rest, stage_zero, stage_one}
 use Rattle.nv_replay.proofs.Falling.{size, follow_falls}
@@ -29,14 +29,14 @@ take_prefix_of (d ∷ log) more (suc n) h = ap (λ x. d ∷ x) (take_prefix_of l
 
 module _ {P : Type 0} (g : Behaviour P) (laws : IsProcess g) (judge : Judge) (log more : List Entry) where
   -- what follow comes to is reached, and rests
-  pub follow_reached : (s : Follower P) → Reaches (next g judge log) s (follow g judge log s)
+  pub follow_reached : (s : Follower P) → Reaches (follow_next g judge log) s (follow g judge log s)
   unfolding follow
   follow_reached s = record { steps = length log + g.calls_left s.process + 1; is = refl }
 
 module _ {P : Type 0} (g : Behaviour P) (laws : IsProcess g) (judge : Judge) (log : List Entry) where
-  pub follow_rests : (s : Follower P) → next g judge log (follow g judge log s) ≡ follow g judge log s
+  pub follow_rests : (s : Follower P) → follow_next g judge log (follow g judge log s) ≡ follow g judge log s
   unfolding follow size
-  follow_rests s = at_rest (next g judge log) (size g (length log)) (follow_falls g laws judge log)
+  follow_rests s = at_rest (follow_next g judge log) (size g (length log)) (follow_falls g laws judge log)
       (length log + g.calls_left s.process + 1) s (bound g laws judge log s s.fate refl)
 
 reach_by : {S : Type 0} (step : S → S) (n : ℕ) (s t u : S) → stage step n s ≡ t → Reaches step t u → Reaches step s u

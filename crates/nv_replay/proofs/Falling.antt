@@ -12,7 +12,7 @@ use Rattle.nv_machine.specs.declared.outcome.FaultKind.TheVariants.{Calls}
 use Rattle.nv_calls.specs.Logs.{Start, served}
 use Rattle.nv_replay.specs.Lead.{Leader, is_cut, logged, led, unless_ended, next_call}
 use Rattle.nv_replay.specs.Permits.{Permit, Give, Pass, No}
-use Rattle.nv_replay.specs.Follow.{Follower, Judge, decided, met, judged, consumed, permit_by, refusal_by, next, on_next}
+use Rattle.nv_replay.specs.Follow.{Follower, Judge, decided, met, judged, consumed, permit_by, refusal_by, follow_next, on_next}
 use Rattle.nv_replay.proofs.Settled.{Falls}
 
 abbrev pub one_if_on : Option Fate → ℕ
@@ -67,8 +67,8 @@ module _ {P : Type 0} (g : Behaviour P) (laws : IsProcess g) (judge : Judge) whe
   next_by log s None None h k = inl refl
   next_by log s (Some e) None h k = inr (decided_falls (length log) e s (within log s.seen e (sym h)) (sym k))
 
-  pub follow_falls : (log : List Entry) → Falls (next g judge log) (size g (length log))
-  unfolding next
+  pub follow_falls : (log : List Entry) → Falls (follow_next g judge log) (size g (length log))
+  unfolding follow_next
   follow_falls log = record { each = λ s. next_by log s (slice_get log s.seen) s.fate refl refl }
 
 -- what a leader can still do

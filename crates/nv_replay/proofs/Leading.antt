@@ -12,7 +12,7 @@ use Rattle.nv_calls.specs.Calls.{Entry}
 use Rattle.nv_calls.specs.Logs.{Start, served}
 use Rattle.nv_replay.specs.Follow.{is_exited}
 use Rattle.nv_replay.specs.Lead.{is_cut, is_memory, logged, next_call}
-use Rattle.nv_replay.specs.Versions.{Running, asking_by, asking_next, answered_by, leader_of}
+use Rattle.nv_replay.specs.Version.{Running, asking_by, asking_next, became_event, leader_of}
 
 module _ {P : Type 0} (g : Behaviour P) (most : ℕ) (r : Running P) where
   pub record AskedFor (n : Running P) (t : ℕ) : Type 0 where
@@ -127,7 +127,7 @@ module _ {P : Type 0} (g : Behaviour P) (replies : Start) (most : ℕ) (c : Opti
 
   -- the call was served
   pub lead_served : (n : Running P) (t : ℕ) → IsProcess g → r.at.seen ≡ length log → r.at.fate ≡ None → AskedFor g most r n t
-      → is_cut c (length log) ≡ false → leader_of (answered_by g (served replies log (g.call n.at.process t)) n)
+      → is_cut c (length log) ≡ false → leader_of (became_event g (served replies log (g.call n.at.process t)) n)
       (log ++ served replies log (g.call n.at.process t) ∷ []) ≡ next_call g replies most c (leader_of r log)
   lead_served n t laws s f a k =
       let m : nat_le most (length log) ≡ false = rw (← s) a.few in

@@ -3,7 +3,7 @@ use Rattle.std.proofs.Common.{◌≡◌, ◌≢◌, ◌∙◌, sym, ap, subst, r
 use Rattle.std.specs.Prelude.{slice_get, Contains, option_map}
 use Rattle.nv_calls.specs.Calls.{Entry}
 use Rattle.nv_calls.specs.Logs.{Start, served, IsLawful, IsLegal, live_after, child_of}
-use Rattle.nv_threads.specs.Behaviours.{Behaviour, IsProcess, IsStarted, event_of}
+use Rattle.nv_threads.specs.Behaviours.{Behaviour, IsProcess, IsStarted, event_answered}
 use Rattle.nv_threads.specs.declared.turns.Want.TheVariants.{Any}
 use Rattle.nv_threads.specs.declared.turns.Came.TheVariants.{Asked}
 use Rattle.nv_replay.specs.declared.fate.Fate.{Fate}
@@ -11,11 +11,11 @@ use Rattle.nv_replay.specs.declared.fate.Fate.TheVariants.{Exited}
 use Rattle.nv_replay.specs.declared.standing.Standing.{Standing}
 use Rattle.nv_replay.specs.Spans.{EndBy}
 use Rattle.nv_replay.specs.Settling.{stage}
-use Rattle.nv_replay.specs.Follow.{Follower, Judge, decided, consumed, follow, fresh, next, IsInStep, is_exited, no_rules}
+use Rattle.nv_replay.specs.Follow.{Follower, Judge, decided, consumed, follow, fresh, follow_next, IsInStep, is_exited, no_rules}
 use Rattle.nv_replay.specs.Lead.{Leader, lead, next_call}
 use Rattle.nv_replay.specs.Tracks.{track, track_next}
 use Rattle.nv_replay.specs.Hands.{is_handed, lead_to_hand}
-use Rattle.nv_replay.specs.Sequence.{is_on}
+use Rattle.nv_replay.specs.Sequence.{is_going}
 use Rattle.nv_replay.proofs.Settled.{Reaches, reach_here, stage_zero, stage_one, stage_rests}
 use Rattle.nv_replay.proofs.Extending.{follow_reached, get_prefix, stage_grows, in_step_on, reach_all, take_prefix_of}
 use Rattle.nv_replay.proofs.Stepping.{consumed_in_step, none_back, decided_in_step}
@@ -105,12 +105,12 @@ module _ {P : Type 0} (g : Behaviour P) (laws : IsProcess g) (start : Start) (mo
 
 module _ {P : Type 0} (g : Behaviour P) (laws : IsProcess g) (judge : Judge) (start : Start) (most : ℕ) (log : List Entry) where
   -- who follows without a rewrite makes no second thread
-  pub follows_alone : (n : ℕ) (s t : Follower P) → stage (next g judge log) n s ≡ t → IsTrueTo t → IsLawful log → IsChildless log → g.is_alone s.process ≡ true → g.is_alone t.process ≡ true
-  follows_alone zero s t h w law none al = subst (λ (x : Follower P). g.is_alone x.process ≡ true) (sym (stage_zero (next g judge log) s) ∙ h) al
+  pub follows_alone : (n : ℕ) (s t : Follower P) → stage (follow_next g judge log) n s ≡ t → IsTrueTo t → IsLawful log → IsChildless log → g.is_alone s.process ≡ true → g.is_alone t.process ≡ true
+  follows_alone zero s t h w law none al = subst (λ (x : Follower P). g.is_alone x.process ≡ true) (sym (stage_zero (follow_next g judge log) s) ∙ h) al
   follows_alone (suc n) s t h w law none al = elim (cases g laws judge start most log s) [
-    | inl e ↦ subst (λ (x : Follower P). g.is_alone x.process ≡ true) (sym (stage_rests (next g judge log) (suc n) s e) ∙ h) al
+    | inl e ↦ subst (λ (x : Follower P). g.is_alone x.process ≡ true) (sym (stage_rests (follow_next g judge log) (suc n) s e) ∙ h) al
     | inr (e, k, o, q) ↦
-        let h' : stage (next g judge log) n (decided g judge e s) ≡ t = ap (stage (next g judge log) n) (sym q) ∙ (sym (stage_one (next g judge log) n s) ∙ h) in
+        let h' : stage (follow_next g judge log) n (decided g judge e s) ≡ t = ap (stage (follow_next g judge log) n) (sym q) ∙ (sym (stage_one (follow_next g judge log) n s) ∙ h) in
         let w' = true_before g laws judge start most log n (decided g judge e s) t h' w in
         follows_alone n (decided g judge e s) t h' w law none (decided_alone g laws judge start most log s e al (none s.seen e k) w')
   ]

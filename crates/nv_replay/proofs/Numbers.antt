@@ -6,34 +6,34 @@ use Rattle.std.proofs.lemmas.Option.{same_Some}
 use Rattle.std.proofs.lemmas.Bool.Decides.{nat_tests}
 use Rattle.nv_replay.specs.declared.fate.Fate.{Fate}
 use Rattle.nv_replay.specs.Lead.{Leader}
-use Rattle.nv_replay.specs.Sequence.{is_on}
-use Rattle.nv_replay.specs.Hands.{has, above, is_handed}
+use Rattle.nv_replay.specs.Sequence.{is_going}
+use Rattle.nv_replay.specs.Hands.{has, count_above, is_handed}
 use Rattle.nv_replay.specs.Monitor.{numbers}
 
 one_below : (k n m : ℕ) → n ≤ m → (cond (nat_le k m) 0 1) ≤ (cond (nat_le k n) 0 1)
 one_below k n m l = grind (arith, nat_tests)
 
-pub above_later : (ks : List ℕ) (n m : ℕ) → n ≤ m → above ks m ≤ above ks n
+pub above_later : (ks : List ℕ) (n m : ℕ) → n ≤ m → count_above ks m ≤ count_above ks n
 above_later [] n m l = omega arith
 above_later (k ∷ ks) n m l = omega (arith, one_below k n m l, above_later ks n m l)
 
-here_less : (k n m : ℕ) (ks : List ℕ) → n < m → (k == m) ≡ true → above (k ∷ ks) m < above (k ∷ ks) n
+here_less : (k n m : ℕ) (ks : List ℕ) → n < m → (k == m) ≡ true → count_above (k ∷ ks) m < count_above (k ∷ ks) n
 here_less k n m ks l h =
     let a : nat_le k m ≡ true = grind (arith, nat_tests) in
     let b : nat_le k n ≡ false = grind (arith, nat_tests) in
     rw (a, b) (omega (arith, above_later ks n m (omega arith)))
 
-less_by : (k n m : ℕ) (ks : List ℕ) (b : Bool) → (k == m) ≡ b → n < m → (b || has ks m) ≡ true → (has ks m ≡ true → above ks m < above ks n)
-    → above (k ∷ ks) m < above (k ∷ ks) n
+less_by : (k n m : ℕ) (ks : List ℕ) (b : Bool) → (k == m) ≡ b → n < m → (b || has ks m) ≡ true → (has ks m ≡ true → count_above ks m < count_above ks n)
+    → count_above (k ∷ ks) m < count_above (k ∷ ks) n
 less_by k n m ks true e l h ih = here_less k n m ks l e
 less_by k n m ks false e l h ih = omega (arith, one_below k n m (omega arith), ih h)
 
 -- where the log has become as long as one of these numbers, fewer are above its length
-pub above_less : (ks : List ℕ) (n m : ℕ) → n < m → has ks m ≡ true → above ks m < above ks n
+pub above_less : (ks : List ℕ) (n m : ℕ) → n < m → has ks m ≡ true → count_above ks m < count_above ks n
 above_less [] n m l h = cc
 above_less (k ∷ ks) n m l h = less_by k n m ks (k == m) refl l h (above_less ks n m l)
 
-pub above_all : (ks : List ℕ) (n : ℕ) → above ks n ≤ length ks
+pub above_all : (ks : List ℕ) (n : ℕ) → count_above ks n ≤ length ks
 above_all [] n = omega arith
 above_all (k ∷ ks) n = let e : cond (nat_le k n) 0 1 ≤ 1 = grind (arith, nat_tests) in omega (arith, e, above_all ks n)
 
@@ -43,7 +43,7 @@ pub record HandedAt {P : Type 0} (hands : List ℕ) (from : ℕ) (l : Leader P) 
   pub planned : has hands (length l.log) ≡ true
 
 handed_by : {P : Type 0} (hands : List ℕ) (from : ℕ) (l : Leader P) (f : Option Fate) (b c : Bool) → l.fate ≡ f → nat_le (length l.log) from ≡ b
-    → has hands (length l.log) ≡ c → (is_on f && (not b && c)) ≡ true → HandedAt hands from l
+    → has hands (length l.log) ≡ c → (is_going f && (not b && c)) ≡ true → HandedAt hands from l
 handed_by hands from l None false true e h k z = record { on = e; grew = grind (arith, nat_tests); planned = k }
 handed_by hands from l None false false e h k z = cc
 handed_by hands from l None true c e h k z = cc
@@ -52,7 +52,7 @@ handed_by hands from l (Some x) b c e h k z = cc
 pub handed_at : {P : Type 0} (hands : List ℕ) (from : ℕ) (l : Leader P) → is_handed hands from l ≡ true → HandedAt hands from l
 handed_at hands from l h = handed_by hands from l l.fate (nat_le (length l.log) from) (has hands (length l.log)) refl refl refl h
 
-pub ended_not_handed : {P : Type 0} (hands : List ℕ) (from : ℕ) (l : Leader P) → is_on l.fate ≡ false → is_handed hands from l ≡ false
+pub ended_not_handed : {P : Type 0} (hands : List ℕ) (from : ℕ) (l : Leader P) → is_going l.fate ≡ false → is_handed hands from l ≡ false
 ended_not_handed hands from l h = rw h refl
 
 and_no : (b : Bool) → (b && false) ≡ false
@@ -60,7 +60,7 @@ and_no true = refl
 and_no false = refl
 
 pub none_planned : {P : Type 0} (from : ℕ) (l : Leader P) → is_handed [] from l ≡ false
-none_planned from l = rw (and_no (not (nat_le (length l.log) from))) (and_no (is_on l.fate))
+none_planned from l = rw (and_no (not (nat_le (length l.log) from))) (and_no (is_going l.fate))
 
 pub numbers_length : {P : Type 0} (i : ℕ) (ps : List P) → length (numbers i ps) ≡ length ps
 numbers_length i [] = refl

@@ -10,7 +10,7 @@ use Rattle.nv_replay.specs.declared.version.Followed.TheVariants.{Matched, Rewro
 use Rattle.nv_calls.specs.Numbers.{is_of_threads}
 use Rattle.nv_replay.specs.Permits.{Permit, Give, Pass, No, failed, passed}
 use Rattle.nv_replay.specs.Follow.{Follower, IsCounted, judged, refusal_of}
-use Rattle.nv_replay.specs.Versions.{Running}
+use Rattle.nv_replay.specs.Version.{Running}
 use Rattle.nv_replay.proofs.Following.{judged_give, judged_drop, judged_no}
 
 module _ {P : Type 0} (g : Behaviour P) (t value : ℕ) (e : Entry) where

@@ -8,11 +8,11 @@ use Rattle.nv_replay.specs.declared.fate.Fate.{Fate}
 use Rattle.nv_replay.specs.declared.standing.Standing.{Standing}
 use Rattle.nv_replay.specs.Spans.{EndBy}
 use Rattle.nv_replay.specs.Settling.{stage}
-use Rattle.nv_replay.specs.Follow.{Follower, Judge, follow, fresh, next, no_rules, is_exited}
+use Rattle.nv_replay.specs.Follow.{Follower, Judge, follow, fresh, follow_next, no_rules, is_exited}
 use Rattle.nv_replay.specs.Lead.{Leader, lead, next_call}
 use Rattle.nv_replay.specs.Tracks.{track, track_next}
-use Rattle.nv_replay.specs.Hands.{above, is_handed, lead_to_hand, next_or_hand}
-use Rattle.nv_replay.specs.Sequence.{is_on}
+use Rattle.nv_replay.specs.Hands.{count_above, is_handed, lead_to_hand, next_or_hand}
+use Rattle.nv_replay.specs.Sequence.{is_going}
 use Rattle.nv_replay.specs.Monitor.{Part, Run, part, begun, led_line, after_lead, tracked_by, leads_on, turn, sequence}
 use Rattle.nv_replay.proofs.Settled.{Reaches, reach_here, at_rest, stage_rests}
 use Rattle.nv_replay.proofs.Extending.{reach_all}
@@ -56,15 +56,15 @@ module _ {P : Type 0} (g : Behaviour P) (laws : IsProcess g) (judges : ℕ → J
     leader : Leader P
     reach : Reaches (next_call g start most None) first leader
     log : leader.log ≡ m.log
-    off : is_on leader.fate ≡ false
+    off : is_going leader.fate ≡ false
     order : m.order ≡ []
 
   -- it comes to itself over the log that it has seen
   stands : (log : List Entry) (s : Follower P) → s.seen ≡ length log → follow g (judges 0) log s ≡ s
   unfolding follow
-  stands log s e = stage_rests (next g (judges 0) log) _ s (rests g laws (judges 0) log s (inl (omega arith)))
+  stands log s e = stage_rests (follow_next g (judges 0) log) _ s (rests g laws (judges 0) log s (inl (omega arith)))
 
-  ends_off : (from : ℕ) (l : Leader P) (f : Option Fate) → l.fate ≡ f → is_handed hands from l ≡ false → next_or_hand g start most None hands from l ≡ l → is_on f ≡ false
+  ends_off : (from : ℕ) (l : Leader P) (f : Option Fate) → l.fate ≡ f → is_handed hands from l ≡ false → next_or_hand g start most None hands from l ≡ l → is_going f ≡ false
   ends_off from l (Some x) e h r = refl
   ends_off from l None e h r =
       let q : next_call g start most None l ≡ l = sym (next_unless g start most None hands from l h) ∙ r in
@@ -131,7 +131,7 @@ module _ {P : Type 0} (g : Behaviour P) (laws : IsProcess g) (judges : ℕ → J
     moves : Turn m ≡ m → ⊥
     moves e =
         let f = after_falls g judges start most free hands m 0 [] s.version s.at l (is_handed hands (length m.log) l) refl (grows g judges start most free hands m.log 0 s.at) in
-        let f' : turns_left hands m < 1 + above hands (length m.log) = subst (λ (x : Run P). turns_left hands x < 1 + above hands (length m.log)) (sym turned ∙ e) f in
+        let f' : turns_left hands m < 1 + count_above hands (length m.log) = subst (λ (x : Run P). turns_left hands x < 1 + count_above hands (length m.log)) (sym turned ∙ e) f in
         omega (arith, ap length s.order)
 
   turn_both : (m : Run P) → Both m → Both (Turn m)

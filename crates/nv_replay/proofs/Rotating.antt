@@ -8,16 +8,16 @@ use Rattle.nv_replay.specs.declared.fate.Fate.{Fate}
 use Rattle.nv_replay.specs.Settling.{stage}
 use Rattle.nv_replay.specs.Follow.{Follower, Judge, fresh, is_exited}
 use Rattle.nv_replay.specs.Lead.{Leader}
-use Rattle.nv_replay.specs.Sequence.{Account, is_on}
+use Rattle.nv_replay.specs.Sequence.{Account, is_going}
 use Rattle.nv_replay.proofs.Settled.{Reaches, reach_here, reached, at_rest, Falls}
-use Rattle.nv_replay.specs.Hands.{above, is_handed, lead_to_hand}
+use Rattle.nv_replay.specs.Hands.{count_above, is_handed, lead_to_hand}
 use Rattle.nv_replay.specs.Monitor.{Part, Run, numbers, begun, with_span, led_line, after_lead, tracked_by, leads_on, turn_by, turn_of, turn_in, turn, account_of, sequence}
 use Rattle.nv_replay.proofs.Numbers.{above_later, above_less, above_all, handed_at, numbers_length}
 use Rattle.nv_replay.proofs.Stretches.{hand_grows}
 
 -- versions that may lead, and planned lengths that are still to come
 abbrev pub turns_left : {P : Type 0} → List ℕ → Run P → ℕ
-turns_left hands m = length m.order + above hands (length m.log)
+turns_left hands m = length m.order + count_above hands (length m.log)
 
 module _ {P : Type 0} (g : Behaviour P) (judges : ℕ → Judge) (start : Start) (most : ℕ) (cuts : ℕ → Option ℕ) (hands : List ℕ) where
   abbrev leads : List Entry → ℕ → Follower P → Leader P
@@ -27,7 +27,7 @@ module _ {P : Type 0} (g : Behaviour P) (judges : ℕ → Judge) (start : Start)
   tracks log i v = tracked_by g judges start most cuts hands log i v
 
   pub after_falls : (m : Run P) (i : ℕ) (order : List ℕ) (v : Part P) (f : Follower P) (l : Leader P) (b : Bool) → is_handed hands (length m.log) l ≡ b
-      → length m.log ≤ length l.log → turns_left hands (after_lead m i order v f l b) < suc (length order) + above hands (length m.log)
+      → length m.log ≤ length l.log → turns_left hands (after_lead m i order v f l b) < suc (length order) + count_above hands (length m.log)
   after_falls m i order v f l true h k =
       let d = handed_at hands (length m.log) l h in
       omega (arith, length-append order (i ∷ []), above_less hands (length m.log) (length l.log) d.grew d.planned)
@@ -39,12 +39,12 @@ module _ {P : Type 0} (g : Behaviour P) (judges : ℕ → Judge) (start : Start)
       omega (arith, ap length m.1, length-append log m.0)
 
   by_falls : (m : Run P) (i : ℕ) (order : List ℕ) (v : Part P) (f : Follower P) (o : Option Fate)
-      → turns_left hands (turn_by g judges start most cuts hands m i order v f o) < suc (length order) + above hands (length m.log)
+      → turns_left hands (turn_by g judges start most cuts hands m i order v f o) < suc (length order) + count_above hands (length m.log)
   by_falls m i order v f (Some x) = omega arith
   by_falls m i order v f None = after_falls m i order v f (leads m.log i f) (is_handed hands (length m.log) (leads m.log i f)) refl (grows m.log i f)
 
   of_falls : (m : Run P) (i : ℕ) (order : List ℕ) (o : Option (Part P))
-      → turns_left hands (turn_of g judges start most cuts hands m i order o) < suc (length order) + above hands (length m.log)
+      → turns_left hands (turn_of g judges start most cuts hands m i order o) < suc (length order) + count_above hands (length m.log)
   of_falls m i order None = omega arith
   of_falls m i order (Some v) = by_falls m i order v (tracks m.log i v) (tracks m.log i v).fate
 

@@ -5,7 +5,7 @@ use Rattle.std.proofs.lemmas.Bool.Decides.{nat_tests}
 use Rattle.nv_calls.specs.Calls.{Request, Response, Entry, is_same}
 use Rattle.nv_calls.specs.Logs.{IsLawful, IsNew, live_next, live_from, live_after, child_of, made}
 use Rattle.nv_calls.proofs.SameLaws.{same_is}
-use Rattle.nv_threads.specs.Behaviours.{Behaviour, IsProcess, event_of}
+use Rattle.nv_threads.specs.Behaviours.{Behaviour, IsProcess, event_answered}
 use Rattle.nv_threads.specs.declared.turns.Want.TheVariants.{Only}
 use Rattle.nv_threads.specs.declared.turns.Came.{Came}
 use Rattle.nv_threads.specs.declared.turns.Came.TheVariants.{Asked, Fault}
@@ -122,12 +122,12 @@ module _ {P : Type 0} (g : Behaviour P) (laws : IsProcess g) (judge : Judge) whe
   given_live : (p : P) (t n : ℕ) (r : Response) → g.pending p t ≡ true → Contains (g.live p) t → is_of_threads (g.call p t).nr ≡ false
       → g.live (g.answered p t r) ≡ g.live p
   given_live p t n r h k q =
-      laws.live_answer p t n r h ∙ quiet_live (g.live p) (event_of g p t r n) q
+      laws.live_answer p t n r h ∙ quiet_live (g.live p) (event_answered g p t r n) q
 
   pub same_live : (p : P) (t : ℕ) (e : Entry) → g.pending p t ≡ true → Contains (g.live p) t → g.call p t ≡ e.call
       → g.live (g.answered p t e.reply) ≡ live_next (g.live p) e
   same_live p t e h k c =
-      let ev : event_of g p t e.reply e.stamp ≡ e = λ i. record { stamp = e.stamp; call = c i; reply = e.reply } in
+      let ev : event_answered g p t e.reply e.stamp ≡ e = λ i. record { stamp = e.stamp; call = c i; reply = e.reply } in
       laws.live_answer p t e.stamp e.reply h ∙ ap (live_next (g.live p)) ev
 
   judged_by : (log : List Entry) (e : Entry) (s : Follower P) (p : P) (t : ℕ) (f : Fate) (o : Permit) → slice_get log s.seen ≡ Some e

@@ -7,7 +7,7 @@ use Rattle.nv_threads.specs.Behaviours.{Behaviour, IsProcess}
 use Rattle.nv_replay.specs.declared.fate.Fate.{Fate}
 use Rattle.nv_replay.specs.Settling.{stage}
 use Rattle.nv_replay.specs.Lead.{Leader, next_call, lead, unless_ended}
-use Rattle.nv_replay.specs.Sequence.{is_on}
+use Rattle.nv_replay.specs.Sequence.{is_going}
 use Rattle.nv_replay.proofs.Settled.{Reaches, reach_here, reach_first, reached, at_rest, stage_zero, stage_one, stage_rests, Falls}
 use Rattle.nv_replay.proofs.Extending.{stage_grows}
 use Rattle.nv_replay.proofs.Falling.{lead_size, lead_falls}
@@ -31,15 +31,15 @@ module _ {P : Type 0} (g : Behaviour P) (start : Start) (most : ℕ) (cut : Opti
   unfolding next_or_hand
   handed_rests l h = rw h refl
 
-  fate_rests : (l : Leader P) (f : Option Fate) → is_on f ≡ false → unless_ended g start most cut l f ≡ l
+  fate_rests : (l : Leader P) (f : Option Fate) → is_going f ≡ false → unless_ended g start most cut l f ≡ l
   fate_rests l None h = cc
   fate_rests l (Some f) h = refl
 
-  call_rests : (l : Leader P) → is_on l.fate ≡ false → next_call g start most cut l ≡ l
+  call_rests : (l : Leader P) → is_going l.fate ≡ false → next_call g start most cut l ≡ l
   unfolding next_call
   call_rests l h = fate_rests l l.fate h
 
-  pub ended_rests : (l : Leader P) → is_on l.fate ≡ false → next_or_hand g start most cut hands from l ≡ l
+  pub ended_rests : (l : Leader P) → is_going l.fate ≡ false → next_or_hand g start most cut hands from l ≡ l
   ended_rests l h = elim (hand_cases l) [ inl e ↦ e | inr e ↦ e ∙ call_rests l h ]
 
   -- each stage is a stage of Lead

@@ -5,7 +5,7 @@ use Rattle.std.proofs.lemmas.Bool.Decides.{nat_tests}
 use Rattle.nv_calls.specs.Calls.{Entry, is_same}
 use Rattle.nv_calls.specs.Logs.{Start, served, IsLawful, IsLegal, child_of}
 use Rattle.nv_calls.proofs.SameLaws.{same_is}
-use Rattle.nv_threads.specs.Behaviours.{Behaviour, IsProcess, event_of}
+use Rattle.nv_threads.specs.Behaviours.{Behaviour, IsProcess, event_answered}
 use Rattle.nv_threads.specs.declared.turns.Want.TheVariants.{Any, Only}
 use Rattle.nv_threads.specs.declared.turns.Came.{Came}
 use Rattle.nv_threads.specs.declared.turns.Came.TheVariants.{Asked, Fault}
@@ -13,9 +13,9 @@ use Rattle.nv_replay.specs.declared.fate.Fate.{Fate}
 use Rattle.nv_replay.specs.declared.fate.Fate.TheVariants.{Exited, Fault as Faulted, Refused, Memory}
 use Rattle.nv_replay.specs.Settling.{stage}
 use Rattle.nv_replay.specs.Permits.{Permit, Give, Pass, No}
-use Rattle.nv_replay.specs.Follow.{Follower, Judge, decided, met, judged, consumed, permit_by, refusal_by, next, on_next, IsInStep}
+use Rattle.nv_replay.specs.Follow.{Follower, Judge, decided, met, judged, consumed, permit_by, refusal_by, follow_next, on_next, IsInStep}
 use Rattle.nv_replay.specs.Lead.{Leader, next_call}
-use Rattle.nv_replay.specs.Versions.{Running}
+use Rattle.nv_replay.specs.Version.{Running}
 use Rattle.nv_replay.proofs.Settled.{Reaches, reach_here, reach_first, stage_zero, stage_one, stage_rests}
 use Rattle.nv_replay.proofs.Falling.{within}
 use Rattle.nv_replay.proofs.Stepping.{decided_in_step}
@@ -149,30 +149,30 @@ module _ {P : Type 0} (g : Behaviour P) (laws : IsProcess g) (judge : Judge) (re
   next_cases s None None h k = inl refl
   next_cases s (Some e) None h k = inr (e, h, k, refl)
 
-  pub cases : (s : Follower P) → (next g judge log s ≡ s) ⊎
-      ((e : Entry) × (slice_get log s.seen ≡ Some e) × (s.fate ≡ None) × (next g judge log s ≡ decided g judge e s))
-  unfolding next
+  pub cases : (s : Follower P) → (follow_next g judge log s ≡ s) ⊎
+      ((e : Entry) × (slice_get log s.seen ≡ Some e) × (s.fate ≡ None) × (follow_next g judge log s ≡ decided g judge e s))
+  unfolding follow_next
   cases s = next_cases s (slice_get log s.seen) s.fate refl refl
 
-  later : (n : ℕ) (s : Follower P) → s.rewrites ≤ (stage (next g judge log) n s).rewrites
-  later zero s = rw (stage_zero (next g judge log) s) (omega arith)
-  later (suc n) s = rw (stage_one (next g judge log) n s)
+  later : (n : ℕ) (s : Follower P) → s.rewrites ≤ (stage (follow_next g judge log) n s).rewrites
+  later zero s = rw (stage_zero (follow_next g judge log) s) (omega arith)
+  later (suc n) s = rw (stage_one (follow_next g judge log) n s)
       (elim (cases s) [ inl e ↦ rw e (later n s) | inr (e, h, k, q) ↦ rw q (omega (arith, decided_more s e, later n (decided g judge e s))) ])
 
   fated : (s : Follower P) (f : Fate) (o : Option Entry) → s.fate ≡ Some f → on_next g judge log s o s.fate ≡ s
   fated s f o h = rw h refl
 
-  fate_rests : (s : Follower P) (f : Fate) → s.fate ≡ Some f → next g judge log s ≡ s
-  unfolding next
+  fate_rests : (s : Follower P) (f : Fate) → s.fate ≡ Some f → follow_next g judge log s ≡ s
+  unfolding follow_next
   fate_rests s f h = fated s f (slice_get log s.seen) h
 
-  well_by : (n : ℕ) (s t : Follower P) (f : Option Fate) → s.fate ≡ f → stage (next g judge log) n s ≡ t → is_well t.fate ≡ true
+  well_by : (n : ℕ) (s t : Follower P) (f : Option Fate) → s.fate ≡ f → stage (follow_next g judge log) n s ≡ t → is_well t.fate ≡ true
       → is_well s.fate ≡ true
   well_by n s t None k h w = rw k refl
-  well_by n s t (Some f) k h w = let e : s ≡ t = sym (stage_rests (next g judge log) n s (fate_rests s f k)) ∙ h in rw e w
+  well_by n s t (Some f) k h w = let e : s ≡ t = sym (stage_rests (follow_next g judge log) n s (fate_rests s f k)) ∙ h in rw e w
 
   -- who is true to the log in the end was so before
-  pub true_before : (n : ℕ) (s t : Follower P) → stage (next g judge log) n s ≡ t → IsTrueTo t → IsTrueTo s
+  pub true_before : (n : ℕ) (s t : Follower P) → stage (follow_next g judge log) n s ≡ t → IsTrueTo t → IsTrueTo s
   true_before n s t h w = record {
     rewrites = let a = later n s in let b : s.rewrites ≤ t.rewrites = subst (λ (x : Follower P). s.rewrites ≤ x.rewrites) h a in omega
         (arith, w.rewrites);
@@ -182,7 +182,7 @@ module _ {P : Type 0} (g : Behaviour P) (laws : IsProcess g) (judge : Judge) (re
   answered_alone : (s : Follower P) (e : Entry) (p : P) (u : ℕ) → g.is_alone p ≡ true → g.call p u ≡ e.call → child_of e ≡ None
       → g.is_alone (g.answered p u e.reply) ≡ true
   answered_alone s e p u al c k =
-      let ev : event_of g p u e.reply e.stamp ≡ e = λ i. record { stamp = e.stamp; call = c i; reply = e.reply } in
+      let ev : event_answered g p u e.reply e.stamp ≡ e = λ i. record { stamp = e.stamp; call = c i; reply = e.reply } in
       laws.alone_answer p u e.stamp e.reply al (ap child_of ev ∙ k)
 
   same_alone : (s : Follower P) (e : Entry) (p : P) (u : ℕ) (b : Bool) → is_same (g.call p u) e.call ≡ b → g.is_alone p ≡ true → child_of e ≡ None
@@ -204,16 +204,16 @@ module _ {P : Type 0} (g : Behaviour P) (laws : IsProcess g) (judge : Judge) (re
   decided_alone s e al k w = met_alone s e _ _ (laws.stays_alone s.process (Only e.call.tid) al) k w
 
   -- the induction along the log
-  pub copies : (n : ℕ) (s t : Follower P) → stage (next g judge log) n s ≡ t → IsTrueTo t → IsPlainLog → IsInStep g log s
+  pub copies : (n : ℕ) (s t : Follower P) → stage (follow_next g judge log) n s ≡ t → IsTrueTo t → IsPlainLog → IsInStep g log s
       → g.is_alone s.process ≡ true → Reaches (next_call g replies most None) (copied s) (copied t)
   copies zero s t h w pl i al = subst (λ (x : Follower P). Reaches (next_call g replies most None) (copied s) (copied x))
-      (sym (stage_zero (next g judge log) s) ∙ h) (reach_here (next_call g replies most None) (copied s))
+      (sym (stage_zero (follow_next g judge log) s) ∙ h) (reach_here (next_call g replies most None) (copied s))
   copies (suc n) s t h w pl i al = elim (cases s) [
     | inl e ↦ subst (λ (x : Follower P). Reaches (next_call g replies most None) (copied s) (copied x))
-        (sym (stage_rests (next g judge log) (suc n) s e) ∙ h) (reach_here (next_call g replies most None) (copied s))
+        (sym (stage_rests (follow_next g judge log) (suc n) s e) ∙ h) (reach_here (next_call g replies most None) (copied s))
     | inr (e, k, none, q) ↦
-        let h' : stage (next g judge log) n (decided g judge e s) ≡ t = ap (stage (next g judge log) n) (sym q) ∙
-        (sym (stage_one (next g judge log) n s) ∙ h) in
+        let h' : stage (follow_next g judge log) n (decided g judge e s) ≡ t = ap (stage (follow_next g judge log) n) (sym q) ∙
+        (sym (stage_one (follow_next g judge log) n s) ∙ h) in
         let w' = true_before n (decided g judge e s) t h' w in
         let go = copies n (decided g judge e s) t h' w pl (decided_in_step g laws judge log e s pl.lawful k i none)
         (decided_alone s e al (pl.childless s.seen e k) w') in

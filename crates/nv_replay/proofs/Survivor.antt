@@ -12,9 +12,9 @@ use Rattle.nv_threads.specs.declared.turns.Came.TheVariants.{Asked, Fault as Fau
 use Rattle.nv_replay.specs.declared.fate.Fate.{Fate}
 use Rattle.nv_replay.specs.declared.fate.Fate.TheVariants.{Exited, Fault, Refused, Memory}
 use Rattle.nv_replay.specs.Settling.{stage}
-use Rattle.nv_replay.specs.Follow.{Follower, Judge, fresh, next, IsInStep, is_exited}
+use Rattle.nv_replay.specs.Follow.{Follower, Judge, fresh, follow_next, IsInStep, is_exited}
 use Rattle.nv_replay.specs.Lead.{Leader, next_call, unless_ended, led, is_cut, is_memory}
-use Rattle.nv_replay.specs.Sequence.{is_on}
+use Rattle.nv_replay.specs.Sequence.{is_going}
 use Rattle.nv_replay.proofs.Settled.{Reaches, reach_here, reach_first, stage_zero, stage_one, stage_rests}
 use Rattle.nv_replay.proofs.Extending.{get_prefix, take_prefix_of}
 use Rattle.nv_replay.proofs.Stepping.{decided_in_step, made_none}
@@ -42,7 +42,7 @@ exited_is_well (Some (Fault a b c)) h = h
 exited_is_well (Some (Refused a b c d)) h = h
 exited_is_well (Some Memory) h = h
 
-pub exited_well : (f : Option Fate) → is_exited f ≡ true → is_on f ≡ false
+pub exited_well : (f : Option Fate) → is_exited f ≡ true → is_going f ≡ false
 exited_well None h = cc
 exited_well (Some f) h = refl
 
@@ -108,9 +108,9 @@ module _ {P : Type 0} (g : Behaviour P) (laws : IsProcess g) (replies : Start) (
   fresh_in_step log p s = record { within = omega arith; live = λ z. s.live; on = λ z. s.on; exited = λ z. cc }
 
 module _ {P : Type 0} (g : Behaviour P) (laws : IsProcess g) (judge : Judge) (replies : Start) (most : ℕ) (log : List Entry) where
-  pub stage_in_step : (n : ℕ) (s : Follower P) → IsLawful log → IsInStep g log s → IsInStep g log (stage (next g judge log) n s)
-  stage_in_step zero s l i = rw (stage_zero (next g judge log) s) i
-  stage_in_step (suc n) s l i = rw (stage_one (next g judge log) n s) (elim (cases g laws judge replies most log s) [
+  pub stage_in_step : (n : ℕ) (s : Follower P) → IsLawful log → IsInStep g log s → IsInStep g log (stage (follow_next g judge log) n s)
+  stage_in_step zero s l i = rw (stage_zero (follow_next g judge log) s) i
+  stage_in_step (suc n) s l i = rw (stage_one (follow_next g judge log) n s) (elim (cases g laws judge replies most log s) [
     | inl e ↦ rw e (stage_in_step n s l i)
     | inr (e, k, none, q) ↦ rw q (stage_in_step n _ l (decided_in_step g laws judge log e s l k i none))
   ])

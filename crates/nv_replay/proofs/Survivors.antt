@@ -9,12 +9,12 @@ use Rattle.nv_replay.specs.declared.fate.Fate.{Fate}
 use Rattle.nv_replay.specs.declared.standing.Standing.{Standing}
 use Rattle.nv_replay.specs.Spans.{EndBy}
 use Rattle.nv_replay.specs.Settling.{stage}
-use Rattle.nv_replay.specs.Follow.{Follower, Judge, follow, fresh, next, IsInStep, is_exited}
+use Rattle.nv_replay.specs.Follow.{Follower, Judge, follow, fresh, follow_next, IsInStep, is_exited}
 use Rattle.nv_replay.specs.Lead.{Leader, lead, next_call, is_memory, unless_ended}
 use Rattle.nv_replay.specs.Tracks.{track, track_next}
 use Rattle.nv_replay.specs.Hands.{has, is_handed, lead_to_hand}
-use Rattle.nv_replay.specs.Sequence.{is_on}
-use Rattle.nv_replay.specs.Monitor.{Part, Run, part, numbers, begun, led_line, after_lead, tracked_by, leads_on, turn, line_of, lines_of, account_of, sequence}
+use Rattle.nv_replay.specs.Sequence.{is_going}
+use Rattle.nv_replay.specs.Monitor.{Part, Run, part, numbers, begun, led_line, after_lead, tracked_by, leads_on, turn, told_standing, lines_of, account_of, sequence}
 use Rattle.nv_replay.proofs.Settled.{Reaches, reach_here, reached}
 use Rattle.nv_replay.proofs.Wholly.{lead_is}
 use Rattle.nv_replay.proofs.Extending.{follow_reached, in_step_on, reach_all, take_prefix_of}
@@ -255,17 +255,17 @@ module _ {P : Type 0} (g : Behaviour P) (laws : IsProcess g) (judges : ℕ → J
   }
 
   lines_at : (log : List Entry) (i : ℕ) (vs : List (Part P)) (k : ℕ) (line : Standing) → slice_get (lines_of g judges start most cuts hands log i vs) k ≡ Some line
-      → (v : Part P) × (slice_get vs k ≡ Some v) × (line_of g judges start most cuts hands log (i + k) v v.told ≡ line)
+      → (v : Part P) × (slice_get vs k ≡ Some v) × (told_standing g judges start most cuts hands log (i + k) v v.told ≡ line)
   lines_at log i [] k line h = cc
   lines_at log i (v ∷ vs) zero line h = let n : i ≡ i + 0 = omega arith in
-      (v, refl, ap (λ (x : ℕ). line_of g judges start most cuts hands log x v v.told) (sym n) ∙ same_Some (line_of g judges start most cuts hands log i v v.told) line h)
+      (v, refl, ap (λ (x : ℕ). told_standing g judges start most cuts hands log x v v.told) (sym n) ∙ same_Some (told_standing g judges start most cuts hands log i v v.told) line h)
   lines_at log i (v ∷ vs) (suc k) line h =
       let r = lines_at log (i + 1) vs k line h in
       let n : i + 1 + k ≡ i + suc k = omega arith in
-      (r.0, r.1, ap (λ (x : ℕ). line_of g judges start most cuts hands log x r.0 r.0.told) (sym n) ∙ r.2)
+      (r.0, r.1, ap (λ (x : ℕ). told_standing g judges start most cuts hands log x r.0 r.0.told) (sym n) ∙ r.2)
 
   exited_line : (m : Run P) (k : ℕ) (v : Part P) (line : Standing) (o : Option Standing) → Inv m → IsPlain start most m.log → slice_get m.parts k ≡ Some v → IsStarted g v.process
-      → v.told ≡ o → line_of g judges start most cuts hands m.log k v o ≡ line → is_exited line.fate ≡ true → line.rewrites ≡ 0 → alone_log v.process ≡ m.log
+      → v.told ≡ o → told_standing g judges start most cuts hands m.log k v o ≡ line → is_exited line.fate ≡ true → line.rewrites ≡ 0 → alone_log v.process ≡ m.log
   exited_line m k v line (Some l) s pl h so e q ex z =
       (s.told pl k v line h so (e ∙ ap Some q) ex).1 z
   exited_line m k v line None s pl h so e q ex z =
@@ -292,4 +292,4 @@ module _ {P : Type 0} (g : Behaviour P) (laws : IsProcess g) (judges : ℕ → J
       let n : 0 + k ≡ k = omega arith in
       let pp : p ≡ r.0.process = same_Some p r.0.process (sym h ∙ o.process k r.0 r.1) in
       ap alone_log pp ∙ exited_line m k r.0 line r.0.told s pl r.1 (subst (λ (x : P). IsStarted g x) pp so) refl
-      (ap (λ (x : ℕ). line_of g judges start most cuts hands m.log x r.0 r.0.told) (sym n) ∙ r.2) ex z
+      (ap (λ (x : ℕ). told_standing g judges start most cuts hands m.log x r.0 r.0.told) (sym n) ∙ r.2) ex z

@@ -12,15 +12,15 @@ use Rattle.nv_replay.specs.declared.fate.Fate.{Fate}
 use Rattle.nv_replay.specs.Settling.{stage}
 use Rattle.nv_replay.specs.Permits.{Permit, Give, Pass, No}
 use Rattle.nv_replay.specs.Spans.{EndBy}
-use Rattle.nv_replay.specs.Follow.{Follower, Judge, fresh, decided, met, judged, consumed, permit_by, refusal_by, next, on_next, follow}
-use Rattle.nv_replay.specs.Sequence.{is_on}
+use Rattle.nv_replay.specs.Follow.{Follower, Judge, fresh, decided, met, judged, consumed, permit_by, refusal_by, follow_next, on_next, follow}
+use Rattle.nv_replay.specs.Sequence.{is_going}
 use Rattle.nv_replay.proofs.Settled.{Reaches, reach_here, reach_first, reached, at_rest, stage_zero, stage_one, stage_rests, Falls}
 use Rattle.nv_replay.proofs.Extending.{get_prefix, follow_reached, follow_rests, reach_all}
 use Rattle.nv_replay.proofs.Falling.{size, decided_falls, consumed_falls, within}
 use Rattle.nv_replay.proofs.Wholes.{bound}
 use Rattle.nv_replay.specs.Tracks.{is_in, is_led, tracked, track_on, track_next, track, retraced_by}
 
-off_some : (f : Option Fate) → is_on f ≡ false → f ≡ None → ⊥
+off_some : (f : Option Fate) → is_going f ≡ false → f ≡ None → ⊥
 off_some None h e = cc
 off_some (Some x) h e = cc
 
@@ -69,7 +69,7 @@ module _ {P : Type 0} (g : Behaviour P) (laws : IsProcess g) (judge : Judge) (sp
   track_rests log s h = rests_on s (slice_get log s.seen) s.fate h
 
   -- what has ended within a part of the log has Track's value over each longer part
-  pub track_ended : (p : P) (at : Follower P) (read m : List Entry) → Reaches (track_next g judge spans read) (fresh p) at → is_on at.fate ≡ false → at ≡ track g judge spans (read ++ m) (fresh p)
+  pub track_ended : (p : P) (at : Follower P) (read m : List Entry) → Reaches (track_next g judge spans read) (fresh p) at → is_going at.fate ≡ false → at ≡ track g judge spans (read ++ m) (fresh p)
   unfolding track
   track_ended p at read m r e =
       let x = track_extended g judge spans read m r.steps (fresh p) at r.is in
@@ -131,13 +131,13 @@ module _ {P : Type 0} (g : Behaviour P) (judge : Judge) where
   on_seen log s None None = omega arith
   on_seen log s (Some e) None = decided_seen s e
 
-  pub next_seen : (log : List Entry) (s : Follower P) → s.seen ≤ (next g judge log s).seen
-  unfolding next
+  pub next_seen : (log : List Entry) (s : Follower P) → s.seen ≤ (follow_next g judge log s).seen
+  unfolding follow_next
   next_seen log s = on_seen log s (slice_get log s.seen) s.fate
 
-  pub stage_seen : (log : List Entry) (n : ℕ) (s : Follower P) → s.seen ≤ (stage (next g judge log) n s).seen
-  stage_seen log zero s = rw (stage_zero (next g judge log) s) (omega arith)
-  stage_seen log (suc n) s = rw (stage_one (next g judge log) n s) (omega (arith, next_seen log s, stage_seen log n (next g judge log s)))
+  pub stage_seen : (log : List Entry) (n : ℕ) (s : Follower P) → s.seen ≤ (stage (follow_next g judge log) n s).seen
+  stage_seen log zero s = rw (stage_zero (follow_next g judge log) s) (omega arith)
+  stage_seen log (suc n) s = rw (stage_one (follow_next g judge log) n s) (omega (arith, next_seen log s, stage_seen log n (follow_next g judge log s)))
 
   on_after : (spans : List (ℕ × ℕ)) (log : List Entry) (s : Follower P) (o : Option Entry) (f : Option Fate) → is_led spans s.seen ≡ false
       → track_on g judge spans s o f ≡ on_next g judge log s o f
@@ -146,18 +146,18 @@ module _ {P : Type 0} (g : Behaviour P) (judge : Judge) where
   on_after spans log s (Some e) None h = rw h refl
 
   -- after its parts a version follows
-  pub next_after : (spans : List (ℕ × ℕ)) (log : List Entry) (s : Follower P) → EndBy s.seen spans → track_next g judge spans log s ≡ next g judge log s
-  unfolding track_next next
+  pub next_after : (spans : List (ℕ × ℕ)) (log : List Entry) (s : Follower P) → EndBy s.seen spans → track_next g judge spans log s ≡ follow_next g judge log s
+  unfolding track_next follow_next
   next_after spans log s e = on_after spans log s (slice_get log s.seen) s.fate (not_led_after spans s.seen s.seen e (omega arith))
 
   pub stage_after : (spans : List (ℕ × ℕ)) (log : List Entry) (n : ℕ) (s t : Follower P) → EndBy s.seen spans
-      → stage (next g judge log) n s ≡ t → Reaches (track_next g judge spans log) s t
+      → stage (follow_next g judge log) n s ≡ t → Reaches (track_next g judge spans log) s t
   stage_after spans log zero s t e h = subst (λ (x : Follower P). Reaches (track_next g judge spans log) s x)
-      (sym (stage_zero (next g judge log) s) ∙ h) (reach_here (track_next g judge spans log) s)
+      (sym (stage_zero (follow_next g judge log) s) ∙ h) (reach_here (track_next g judge spans log) s)
   stage_after spans log (suc n) s t e h = reach_first (track_next g judge spans log) s t
       (subst (λ (x : Follower P). Reaches (track_next g judge spans log) x t) (sym (next_after spans log s e))
-      (stage_after spans log n (next g judge log s) t (ends_later spans s.seen (next g judge log s).seen e (next_seen log s))
-      (sym (stage_one (next g judge log) n s) ∙ h)))
+      (stage_after spans log n (follow_next g judge log s) t (ends_later spans s.seen (follow_next g judge log s).seen e (next_seen log s))
+      (sym (stage_one (follow_next g judge log) n s) ∙ h)))
 
 -- what it comes to over the log is what it comes to by following from after its parts
 pub track_from : {P : Type 0} (g : Behaviour P) (laws : IsProcess g) (judge : Judge) (spans : List (ℕ × ℕ)) (log : List Entry) (s t : Follower P)
@@ -195,13 +195,13 @@ module _ {P : Type 0} (g : Behaviour P) (judge : Judge) where
   on_within log s None None h l = l
   on_within log s (Some e) None h l = omega (arith, within log s.seen e h, decided_one s e)
 
-  next_within : (log : List Entry) (s : Follower P) → s.seen ≤ length log → (next g judge log s).seen ≤ length log
-  unfolding next
+  next_within : (log : List Entry) (s : Follower P) → s.seen ≤ length log → (follow_next g judge log s).seen ≤ length log
+  unfolding follow_next
   next_within log s l = on_within log s (slice_get log s.seen) s.fate refl l
 
-  stage_within : (log : List Entry) (n : ℕ) (s : Follower P) → s.seen ≤ length log → (stage (next g judge log) n s).seen ≤ length log
-  stage_within log zero s l = rw (stage_zero (next g judge log) s) l
-  stage_within log (suc n) s l = rw (stage_one (next g judge log) n s) (stage_within log n (next g judge log s) (next_within log s l))
+  stage_within : (log : List Entry) (n : ℕ) (s : Follower P) → s.seen ≤ length log → (stage (follow_next g judge log) n s).seen ≤ length log
+  stage_within log zero s l = rw (stage_zero (follow_next g judge log) s) l
+  stage_within log (suc n) s l = rw (stage_one (follow_next g judge log) n s) (stage_within log n (follow_next g judge log s) (next_within log s l))
 
   still_on : (laws : IsProcess g) (log : List Entry) (s : Follower P) (o : Option Entry) → slice_get log s.seen ≡ o → s.fate ≡ None
       → on_next g judge log s o s.fate ≡ s → o ≡ None
@@ -212,8 +212,8 @@ module _ {P : Type 0} (g : Behaviour P) (judge : Judge) where
       let l' : size g (length log) s < size g (length log) s = subst (λ (y : Follower P). size g (length log) y < size g (length log) s) d l in
       absurd (omega arith)
 
-  rests_past : (laws : IsProcess g) (log : List Entry) (s : Follower P) → s.fate ≡ None → next g judge log s ≡ s → slice_get log s.seen ≡ None
-  unfolding next
+  rests_past : (laws : IsProcess g) (log : List Entry) (s : Follower P) → s.fate ≡ None → follow_next g judge log s ≡ s → slice_get log s.seen ≡ None
+  unfolding follow_next
   rests_past laws log s n e = still_on laws log s (slice_get log s.seen) refl n e
 
 past_end : (log : List Entry) (i : ℕ) → slice_get log i ≡ None → length log ≤ i

@@ -11,7 +11,7 @@ use Rattle.nv_threads.specs.declared.turns.Came.TheVariants.{Asked}
 use Rattle.nv_replay.specs.declared.fate.Fate.TheVariants.{Memory, Exited}
 use Rattle.nv_replay.specs.Follow.{IsInStep}
 use Rattle.nv_replay.specs.Lead.{is_memory, next_call}
-use Rattle.nv_replay.specs.Versions.{Running, IsLeading, asking_next, answered_by, leader_of}
+use Rattle.nv_replay.specs.Version.{Running, IsLiveLeader, asking_next, became_event, leader_of}
 use Rattle.nv_replay.specs.Spans.{grown}
 use Rattle.nv_replay.proofs.Leading.{AskedFor, asking_cases, ending_cases, lead_dropped, lead_refused, lead_served}
 use Rattle.nv_replay.proofs.Stepping.{same_live, none_back, exited_some}
@@ -57,14 +57,14 @@ module _ {P : Type 0} (g : Behaviour P) (laws : IsProcess g) (replies : Start) (
         few = grind (arith, nat_tests);
       }
 
-  pub waits : (n : Running P) (t : ℕ) → IsLeading r → r.at.seen ≡ length log → IsInStep g log r.at → n ≡ asking_next g most r
+  pub waits : (n : Running P) (t : ℕ) → IsLiveLeader r → r.at.seen ≡ length log → IsInStep g log r.at → n ≡ asking_next g most r
       → n.asked ≡ Some t → Waits n t
   waits n t d s i h k =
       let a = asking_cases g most r n t d.none_asked h k in
       subst (λ (x : Running P). Waits x t) (sym a.new) (waits_at t d.on s i a.came a.few)
 
   -- it ended by a fault
-  pub turn_dropped : (n : Running P) → IsLeading r → r.at.seen ≡ length log → IsInStep g log r.at → n ≡ asking_next g most r
+  pub turn_dropped : (n : Running P) → IsLiveLeader r → r.at.seen ≡ length log → IsInStep g log r.at → n ≡ asking_next g most r
       → n.asked ≡ None → TookTurn g replies most r n log log
   turn_dropped n d s i h k =
       let e = ending_cases g most r n d.none_asked h k in record {
@@ -89,7 +89,7 @@ module _ {P : Type 0} (g : Behaviour P) (laws : IsProcess g) (replies : Start) (
         };
       }
 
-  refused_at : (n : Running P) (t : ℕ) → IsLeading r → r.at.seen ≡ length log → IsInStep g log r.at → AskedFor g most r n t
+  refused_at : (n : Running P) (t : ℕ) → IsLiveLeader r → r.at.seen ≡ length log → IsInStep g log r.at → AskedFor g most r n t
       → TookTurn g replies most r (record n { at = record n.at { fate = Some Memory } }) log log
   refused_at n t d s i a =
       let seen : n.at.seen ≡ r.at.seen = ap (λ (x : Running P). x.at.seen) a.new in record {
@@ -108,7 +108,7 @@ module _ {P : Type 0} (g : Behaviour P) (laws : IsProcess g) (replies : Start) (
       }
 
   -- memory was refused
-  pub turn_refused : (n m : Running P) (t : ℕ) → IsLeading r → r.at.seen ≡ length log → IsInStep g log r.at → n ≡ asking_next g most r
+  pub turn_refused : (n m : Running P) (t : ℕ) → IsLiveLeader r → r.at.seen ≡ length log → IsInStep g log r.at → n ≡ asking_next g most r
       → n.asked ≡ Some t → m ≡ record n { at = record n.at { fate = Some Memory } } → TookTurn g replies most r m log log
   turn_refused n m t d s i h k q =
       let a = asking_cases g most r n t d.none_asked h k in
@@ -116,9 +116,9 @@ module _ {P : Type 0} (g : Behaviour P) (laws : IsProcess g) (replies : Start) (
       subst T (sym q) (refused_at n t d s i a)
 
   -- the event that the call has become
-  served_at : (n : Running P) (t : ℕ) (e : Entry) → e ≡ served replies log (g.call n.at.process t) → IsLeading r → r.at.seen ≡ length log
+  served_at : (n : Running P) (t : ℕ) (e : Entry) → e ≡ served replies log (g.call n.at.process t) → IsLiveLeader r → r.at.seen ≡ length log
       → IsInStep g log r.at → AskedFor g most r n t → Waits n t → IsLawful (log ++ e ∷ [])
-      → TookTurn g replies most r (answered_by g e n) log (log ++ e ∷ [])
+      → TookTurn g replies most r (became_event g e n) log (log ++ e ∷ [])
   served_at n t e ee d s i a w law =
       let seen : n.at.seen ≡ r.at.seen = ap (λ (x : Running P). x.at.seen) a.new in
       let led : n.led ≡ r.led = ap (λ (x : Running P). x.led) a.new in
@@ -146,7 +146,7 @@ module _ {P : Type 0} (g : Behaviour P) (laws : IsProcess g) (replies : Start) (
       } in
       record {
         step = λ c q.
-            let T : Entry → Type 0 = λ x. leader_of (answered_by g x n) (log ++ x ∷ []) ≡ next_call g replies most c (leader_of r log) in
+            let T : Entry → Type 0 = λ x. leader_of (became_event g x n) (log ++ x ∷ []) ≡ next_call g replies most c (leader_of r log) in
             subst T (sym ee) (lead_served g replies most c r log n t laws s d.on a
             (q ∙ not_memory (g.ended (g.answered n.at.process e.call.tid e.reply))));
         same = λ z. let y : false ≡ true = sym (not_memory (g.ended (g.answered n.at.process e.call.tid e.reply))) ∙ z in cc;
@@ -163,16 +163,16 @@ module _ {P : Type 0} (g : Behaviour P) (laws : IsProcess g) (replies : Start) (
       }
 
   -- the call was served
-  pub turn_served : (n m : Running P) (t : ℕ) (new_log : List Entry) → IsLeading r → r.at.seen ≡ length log → IsInStep g log r.at
+  pub turn_served : (n m : Running P) (t : ℕ) (new_log : List Entry) → IsLiveLeader r → r.at.seen ≡ length log → IsInStep g log r.at
       → n ≡ asking_next g most r → n.asked ≡ Some t → new_log ≡ log ++ served replies log (g.call n.at.process t) ∷ []
-      → m ≡ answered_by g (served replies log (g.call n.at.process t)) n → IsLawful new_log → TookTurn g replies most r m log new_log
+      → m ≡ became_event g (served replies log (g.call n.at.process t)) n → IsLawful new_log → TookTurn g replies most r m log new_log
   turn_served n m t new_log d s i h k l q law =
       let a = asking_cases g most r n t d.none_asked h k in
       let w = waits n t d s i h k in
       let e : Entry = served replies log (g.call n.at.process t) in
       let x = served_at n t e refl d s i a w (subst IsLawful l law) in
       let T : Running P → List Entry → Type 0 = λ y z. TookTurn g replies most r y log z in
-      subst (λ (y : Running P). T y new_log) (sym q) (subst (λ (z : List Entry). T (answered_by g e n) z) (sym l) x)
+      subst (λ (y : Running P). T y new_log) (sym q) (subst (λ (z : List Entry). T (became_event g e n) z) (sym l) x)
 
 some_same : {X : Type 0} (a b : X) → Some a ≡ Some b → a ≡ b
 some_same a b h = cc

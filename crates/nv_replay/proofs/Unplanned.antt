@@ -7,14 +7,14 @@ use Rattle.nv_threads.specs.Behaviours.{Behaviour, IsProcess}
 use Rattle.nv_replay.specs.declared.fate.Fate.{Fate}
 use Rattle.nv_replay.specs.declared.standing.Standing.{Standing}
 use Rattle.nv_replay.specs.Settling.{stage}
-use Rattle.nv_replay.specs.Follow.{Follower, Judge, fresh, next, follow, is_exited}
+use Rattle.nv_replay.specs.Follow.{Follower, Judge, fresh, follow_next, follow, is_exited}
 use Rattle.nv_replay.specs.Lead.{Leader, lead}
-use Rattle.nv_replay.specs.Sequence.{Account, leads, is_on, follower_line, leader_line, sequence_from}
+use Rattle.nv_replay.specs.Sequence.{Account, leads, is_going, follower_line, leader_line, sequence_from}
 use Rattle.nv_replay.specs.Sequence as plain
 use Rattle.nv_replay.proofs.Settled.{Reaches, reach_here, reach_first}
 use Rattle.nv_replay.specs.Tracks.{track, track_next}
 use Rattle.nv_replay.specs.Hands.{is_handed, lead_to_hand}
-use Rattle.nv_replay.specs.Monitor.{Part, Run, numbers, part, begun, with_span, led_line, after_lead, tracked_by, leads_on, turn, line_of, lines_of, account_of, sequence}
+use Rattle.nv_replay.specs.Monitor.{Part, Run, numbers, part, begun, with_span, led_line, after_lead, tracked_by, leads_on, turn, told_standing, lines_of, account_of, sequence}
 use Rattle.nv_replay.proofs.Numbers.{none_planned, get_after, set_after}
 use Rattle.nv_replay.proofs.Stretches.{stage_same, leads_whole}
 use Rattle.nv_replay.proofs.Tracking.{next_after, follow_seen}
@@ -23,7 +23,7 @@ use Rattle.nv_replay.proofs.Rotating.{over_rests, empty_rests, dropped, led, seq
 -- who has led nothing follows
 pub track_none : {P : Type 0} (g : Behaviour P) (judge : Judge) (log : List Entry) (s : Follower P) → track g judge [] log s ≡ follow g judge log s
 unfolding track follow
-track_none {P = P} g judge log s = stage_same (track_next g judge [] log) (next g judge log)
+track_none {P = P} g judge log s = stage_same (track_next g judge [] log) (follow_next g judge log)
     (λ (x : Follower P). next_after g judge [] log x (record { each = λ i y h. cc })) (length log + g.calls_left s.process + 1) s
 
 module _ {P : Type 0} (g : Behaviour P) (laws : IsProcess g) (judges : ℕ → Judge) (start : Start) (most : ℕ) (cuts : ℕ → Option ℕ) where
@@ -33,7 +33,7 @@ module _ {P : Type 0} (g : Behaviour P) (laws : IsProcess g) (judges : ℕ → J
   abbrev lines : List Entry → ℕ → List (Part P) → List Standing
   lines log i vs = lines_of g judges start most cuts [] log i vs
 
-  untold : (log : List Entry) (i : ℕ) (p : P) → line_of g judges start most cuts [] log i (part p) None ≡ follower_line (follow g (judges i) log (fresh p))
+  untold : (log : List Entry) (i : ℕ) (p : P) → told_standing g judges start most cuts [] log i (part p) None ≡ follower_line (follow g (judges i) log (fresh p))
   untold log i p = ap (λ (f : Follower P). record { fate = f.fate; seen = f.seen; led = []; rewrites = f.rewrites }) (track_none g (judges i) log (fresh p))
 
   over_case : (ps : List P) (i : ℕ) (log : List Entry) → record { log = log; lines = lines log i (map part ps) } ≡ Seq ps i log true
@@ -58,7 +58,7 @@ module _ {P : Type 0} (g : Behaviour P) (laws : IsProcess g) (judges : ℕ → J
 
   next_comes : (prefix : List (Part P)) (x : Part P) (line : Standing) (m m1 : Run P) (r r1 : Account) → turn g judges start most cuts [] m ≡ m1
       → Comes (prefix ++ x ∷ []) m1 r1 → r ≡ record { log = r1.log; lines = line ∷ r1.lines }
-      → line_of g judges start most cuts [] r1.log (length prefix) x x.told ≡ line → Comes prefix m r
+      → told_standing g judges start most cuts [] r1.log (length prefix) x x.told ≡ line → Comes prefix m r
   next_comes prefix x line m m1 r r1 t c e l = rw e (record {
     last = c.last;
     reach = reach_first (turn g judges start most cuts []) m c.last (subst (λ (y : Run P). Reaches (turn g judges start most cuts []) y c.last) (sym t) c.reach);

@@ -6,7 +6,7 @@ use Rattle.nv_threads.specs.Behaviours.{Behaviour, IsProcess}
 use Rattle.nv_replay.specs.declared.fate.Fate.{Fate}
 use Rattle.nv_replay.specs.declared.fate.Fate.TheVariants.{Exited, Fault, Refused, Memory}
 use Rattle.nv_replay.specs.Lead.{Leader, is_cut, is_memory, cut_of, next_call, unless_ended, lead}
-use Rattle.nv_replay.specs.Sequence.{is_on}
+use Rattle.nv_replay.specs.Sequence.{is_going}
 use Rattle.nv_replay.proofs.Settled.{Reaches, reached}
 use Rattle.nv_replay.proofs.Falling.{lead_size, lead_falls}
 use Rattle.nv_replay.specs.Turns.{Suits}
@@ -55,7 +55,7 @@ module _ {P : Type 0} (g : Behaviour P) (laws : IsProcess g) (replies : Start) (
       (record { below = λ k h. s.below k (omega arith); end = λ h. let z = rw e at h in cc }, s.below n (omega arith))
   suits_now c f (Some x) n n' e grew same s = ended_now c f (Some x) n n' (is_memory (Some x)) refl e same (s.end refl)
 
-  rests_by : (c : Option ℕ) (s : Leader P) (f : Option Fate) → is_on f ≡ false → unless_ended g replies most c s f ≡ s
+  rests_by : (c : Option ℕ) (s : Leader P) (f : Option Fate) → is_going f ≡ false → unless_ended g replies most c s f ≡ s
   rests_by c s None h = cc
   rests_by c s (Some f) h = refl
 
@@ -64,7 +64,7 @@ module _ {P : Type 0} (g : Behaviour P) (laws : IsProcess g) (replies : Start) (
   bound s None h = rw (← h) (omega arith)
   bound s (Some f) h = rw (← h) (omega arith)
 
-  pub lead_is : (c : Option ℕ) (s t : Leader P) → Reaches (next_call g replies most c) s t → is_on t.fate ≡ false → t ≡ lead g replies most c s
+  pub lead_is : (c : Option ℕ) (s t : Leader P) → Reaches (next_call g replies most c) s t → is_going t.fate ≡ false → t ≡ lead g replies most c s
   unfolding lead next_call
   lead_is c s t r h = sym (reached (next_call g replies most c) (lead_size g) (lead_falls g laws replies most c)
       (g.calls_left s.process + 1) s (bound s s.fate refl) r.steps t r.is (rests_by c t t.fate h))

@@ -2,12 +2,12 @@
 use Rattle.std.specs.Prelude.{◌≡◌, ℕ, ◌+◌, false, nat_le, List, [], ◌∷◌, length, if◌then◌else◌}
 use Rattle.nv_calls.specs.Calls.{Entry}
 use Rattle.nv_replay.specs.declared.standing.Standing.{Standing}
-use Rattle.nv_replay.specs.Sequence.{is_on}
+use Rattle.nv_replay.specs.Sequence.{is_going}
 use Rattle.nv_replay.specs.Tracks.{is_in}
 
 abbrev pub AreEnded : List Standing → Type 0
 AreEnded [] = Unit {0}
-AreEnded (line ∷ lines) = (is_on line.fate ≡ false) × AreEnded lines
+AreEnded (line ∷ lines) = (is_going line.fate ≡ false) × AreEnded lines
 
 -- how many of these parts of a log have event n
 abbrev pub times : List (ℕ × ℕ) → ℕ → ℕ

@@ -10,7 +10,7 @@ use Rattle.nv_replay.specs.declared.fate.Fate.{Fate}
 use Rattle.nv_replay.specs.declared.fate.Fate.TheVariants.{Exited, Fault as Faulted, Refused}
 use Rattle.nv_bpf.specs.declared.op.Op.{Op}
 use Rattle.nv_rules.specs.declared.outcome.Verdict.{Verdict}
-use Rattle.nv_rules.specs.Pairs.{pair_words}
+use Rattle.nv_rules.specs.Pair.{pair_words}
 use Rattle.nv_rules.specs.Values.{value_of}
 use Rattle.nv_rules.specs.Verdicts.{verdict_of}
 use Rattle.nv_replay.specs.declared.version.Followed.{Followed}
@@ -81,12 +81,12 @@ module _ {P : Type 0} (g : Behaviour P) (judge : Judge) (log : List Entry) where
   on_next s None None = s
   on_next s (Some e) None = decided g judge e s
 
-  unfoldable pub next : Follower P → Follower P
-  next s = on_next s (slice_get log s.seen) s.fate
+  unfoldable pub follow_next : Follower P → Follower P
+  follow_next s = on_next s (slice_get log s.seen) s.fate
 
   -- as many decisions as there are events and calls, and one for a fault
   unfoldable pub follow : Follower P → Follower P
-  follow s = stage next (length log + g.calls_left s.process + 1) s
+  follow s = stage follow_next (length log + g.calls_left s.process + 1) s
 
 -- the event that a follower has to decide on next
 pub record IsNext {P : Type 0} (log : List Entry) (s : Follower P) (e : Entry) : Type 0 where

@@ -4,7 +4,7 @@ use Rattle.nv_calls.specs.Logs.{Start}
 use Rattle.nv_threads.specs.Behaviours.{Behaviour}
 use Rattle.nv_replay.specs.Settling.{stage}
 use Rattle.nv_replay.specs.Lead.{Leader, next_call}
-use Rattle.nv_replay.specs.Sequence.{is_on}
+use Rattle.nv_replay.specs.Sequence.{is_going}
 
 abbrev pub has : List ℕ → ℕ → Bool
 has [] n = false
@@ -15,13 +15,13 @@ abbrev pub stays : Bool → List ℕ → ℕ → Bool
 stays on hands n = on && not (has hands n)
 
 -- how many of these numbers are above n
-abbrev pub above : List ℕ → ℕ → ℕ
-above [] n = 0
-above (k ∷ ks) n = (if nat_le k n then 0 else 1) + above ks n
+abbrev pub count_above : List ℕ → ℕ → ℕ
+count_above [] n = 0
+count_above (k ∷ ks) n = (if nat_le k n then 0 else 1) + count_above ks n
 
 -- a leader that goes on and has just made the log, which was so long when it began, as long as one of these numbers
 abbrev pub is_handed : {P : Type 0} → List ℕ → ℕ → Leader P → Bool
-is_handed hands from l = is_on l.fate && (not (nat_le (length l.log) from) && has hands (length l.log))
+is_handed hands from l = is_going l.fate && (not (nat_le (length l.log) from) && has hands (length l.log))
 
 module _ {P : Type 0} (g : Behaviour P) (start : Start) (most : ℕ) (cut : Option ℕ) (hands : List ℕ) (from : ℕ) where
   abbrev pub unless_handed : Leader P → Bool → Leader P

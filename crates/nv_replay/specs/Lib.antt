@@ -3,14 +3,14 @@ pub mod Permits
 pub mod Follow
 pub mod Lead
 pub mod Spans
-pub mod Bounds
-pub mod Versions
+pub mod Version
 pub mod Sequence
 pub mod Turns
-pub mod Accounts
+pub mod Account
 pub mod Tracks
 pub mod Hands
 pub mod Monitor
 pub mod Unplanned
 pub mod Covers
 pub mod Survivors
+pub mod inner

@@ -91,13 +91,13 @@ module _ {P : Type 0} (g : Behaviour P) (judges : ℕ → Judge) (start : Start)
   turn m = turn_in m m.over m.order
 
   -- what there is to tell of version i: where it didn't end as the leader, what it comes to over the whole log
-  abbrev pub line_of : List Entry → ℕ → Part P → Option Standing → Standing
-  line_of log i v (Some line) = line
-  line_of log i v None = record { fate = (tracked_by log i v).fate; seen = (tracked_by log i v).seen; led = v.led; rewrites = (tracked_by log i v).rewrites }
+  abbrev pub told_standing : List Entry → ℕ → Part P → Option Standing → Standing
+  told_standing log i v (Some line) = line
+  told_standing log i v None = record { fate = (tracked_by log i v).fate; seen = (tracked_by log i v).seen; led = v.led; rewrites = (tracked_by log i v).rewrites }
 
   abbrev pub lines_of : List Entry → ℕ → List (Part P) → List Standing
   lines_of log i [] = []
-  lines_of log i (v ∷ vs) = line_of log i v v.told ∷ lines_of log (i + 1) vs
+  lines_of log i (v ∷ vs) = told_standing log i v v.told ∷ lines_of log (i + 1) vs
 
   abbrev pub account_of : Run P → Account
   account_of m = record { log = m.log; lines = lines_of m.log 0 m.parts }

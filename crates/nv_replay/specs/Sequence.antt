@@ -21,13 +21,13 @@ follower_line f = record { fate = f.fate; seen = f.seen; led = []; rewrites = f.
 abbrev pub leader_line : {P : Type 0} → Follower P → Leader P → Standing
 leader_line f l = record { fate = l.fate; seen = length l.log; led = (f.seen, length l.log) ∷ []; rewrites = f.rewrites }
 
-abbrev pub is_on : Option Fate → Bool
-is_on None = true
-is_on (Some fate) = false
+abbrev pub is_going : Option Fate → Bool
+is_going None = true
+is_going (Some fate) = false
 
 -- whether a version that followed the whole log leads on
 abbrev pub leads : {P : Type 0} → Bool → Follower P → Bool
-leads over f = not over && is_on f.fate
+leads over f = not over && is_going f.fate
 
 -- the cuts that an account tells: where a version wanted memory, and at which length of the log
 abbrev pub cuts_of : List Standing → ℕ → Option ℕ

@@ -6,13 +6,13 @@ use Rattle.nv_threads.specs.Behaviours.{Behaviour}
 use Rattle.nv_replay.specs.Follow.{IsInStep}
 use Rattle.nv_replay.specs.declared.fate.Fate.{Fate}
 use Rattle.nv_replay.specs.Lead.{is_cut, is_memory, cut_of, next_call}
-use Rattle.nv_replay.specs.Sequence.{is_on}
-use Rattle.nv_replay.specs.Versions.{Running, leader_of}
+use Rattle.nv_replay.specs.Sequence.{is_going}
+use Rattle.nv_replay.specs.Version.{Running, leader_of}
 
 -- a cut at which a leader with this end and so long a log can have come so far
 pub record Suits (c : Option ℕ) (f : Option Fate) (n : ℕ) : Type 0 where
   pub below : (k : ℕ) → k < n → is_cut c k ≡ false
-  pub end : is_on f ≡ false → c ≡ cut_of f n
+  pub end : is_going f ≡ false → c ≡ cut_of f n
 
 -- what a leader keeps, and how it stands to the log
 pub record LedOn {P : Type 0} (g : Behaviour P) (old new : Running P) (log new_log : List Entry) : Type 0 where

@@ -12,7 +12,7 @@ ghost use Rattle.nv_rules.specs.Verdicts.{verdict_of};
 ghost use Rattle.nv_replay.specs.Follow.{IsCounted, verdict_on, decided, met, consumed, judged, refusal_of, fresh, judge_of};
 ghost use Rattle.nv_replay.specs.Permits.{No, given, failed, passed, permit};
 ghost use Rattle.nv_replay.specs.Spans.{MOST_SPANS};
-ghost use Rattle.nv_replay.specs.Versions.{Running, IsFresh, IsFollowing, IsLeading, LedTo, asking_next, asking_by, answered_by, standing_of};
+ghost use Rattle.nv_replay.specs.Version.{Running, IsFresh, IsFollowing, IsLiveLeader, LedTo, asking_next, asking_by, became_event, standing_of};
 
 use crate::judging::{give_constant, judge};
 use crate::{Fate, Spans, Standing};
@@ -41,8 +41,8 @@ pub struct Version {
 impl Model for Version {
     ghost use Rattle.nv_threads.specs.Threads.{threads, Proc};
     ghost use Rattle.std.specs.Prelude.{◌+◌};
-    ghost use Rattle.nv_replay.specs.Bounds.{AreBounded};
-    ghost use Rattle.nv_replay.specs.Versions.{Running};
+    ghost use Rattle.nv_replay.specs.inner.Bounds.{AreBounded};
+    ghost use Rattle.nv_replay.specs.Version.{Running};
 
     ghost Value = { Running Proc };
 
@@ -275,7 +275,7 @@ impl Version {
 
     /// Gives up the lead, and follows from here on.
     pub fn end_lead(&mut self)
-        requires { IsLeading self.old }
+        requires { IsLiveLeader self.old }
         ensures { self.new ≡ record self.old { leading = false } }
     {
         self.leading = false;
@@ -284,7 +284,7 @@ impl Version {
     /// Comes to the leader's next call, or ends.
     #[tactic(auto, using(nv_threads::proofs::ThreadLaws::threads_keeps, nv_threads::proofs::ThreadLaws::threads_asked, crate::proofs::Leading::asking_fault, crate::proofs::Leading::asking_asked))]
     pub fn lead(&mut self, most: u32) -> Led
-        requires leading { IsLeading self.old }
+        requires leading { IsLiveLeader self.old }
         requires on { threads.ended self.old.at.process ≡ None }
         ensures new { self.new ≡ asking_next threads most self.old }
         ensures told { LedTo result self.new }
@@ -304,9 +304,9 @@ impl Version {
         Led::Dropped(fate)
     }
 
-    #[tactic(auto, using(nv_threads::proofs::ThreadLaws::threads_here), unfolding(crate::specs::Versions::asking_by))]
+    #[tactic(auto, using(nv_threads::proofs::ThreadLaws::threads_here), unfolding(crate::specs::Version::asking_by))]
     fn ask(&mut self, tid: u32, most: u32) -> Led
-        requires leading { IsLeading self.old }
+        requires leading { IsLiveLeader self.old }
         requires pending { threads.pending self.old.at.process tid ≡ true }
         ensures new { self.new ≡ asking_by threads most self.old self.old.at.process (Came.Asked tid) }
         ensures told { LedTo result self.new }
@@ -348,7 +348,7 @@ impl Version {
         requires same { (threads.call self.old.at.process event.now.call.tid).nr ≡ event.now.call.nr }
         requires new { IsNew (threads.live self.old.at.process) (child_of (entry event.now)) }
         requires below { self.old.at.seen < MOST_EVENTS }
-        ensures { self.new ≡ answered_by threads (entry event.now) self.old }
+        ensures { self.new ≡ became_event threads (entry event.now) self.old }
     {
         self.process.answer(
             event.call.tid,

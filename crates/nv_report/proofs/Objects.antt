@@ -5,7 +5,7 @@ use Rattle.serde_json.specs.View.{items_of}
 use Rattle.nv_calls.specs.Calls.{Entry, entry}
 use Rattle.nv_calls.specs.declared.calls.Event.{Event}
 use Rattle.nv_threads.specs.Threads.{Proc}
-use Rattle.nv_replay.specs.Versions.{Running, standing_of}
+use Rattle.nv_replay.specs.Version.{Running, standing_of}
 use Rattle.nv_report.specs.Json.{list_value, hex_value, event_value, version_value, report_object, report_value}
 
 items-map : {X Y : Type 0} (value_of : Y → Data) (f : X → Y) (xs : List X) → items_of (map (λ x. value_of (f x)) xs) ≡ items_of (map value_of (map f xs))

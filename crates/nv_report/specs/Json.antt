@@ -28,8 +28,8 @@ abbrev pub hex_value : List ℕ → Data
 hex_value bytes = string (encode_lower bytes)
 
 -- 32 bits as eight hexadecimal digits
-abbrev pub word_value : ℕ → Data
-word_value word = hex_value (to_be_bytes w32 word)
+abbrev pub word_json : ℕ → Data
+word_json word = hex_value (to_be_bytes w32 word)
 
 -- the bytes of a call and of its reply
 abbrev pub payload_value : List ℕ → List ℕ → Data
@@ -66,7 +66,7 @@ version_members (Some (Fault kind tid pc)) s =
     member (codes "fate") (string (codes "fault"))
     (member (codes "kind") (string (kind_text kind))
     (member (codes "led") (led_value s)
-    (member (codes "pc") (word_value pc)
+    (member (codes "pc") (word_json pc)
     (member (codes "rewrites") (natural s.rewrites)
     (member (codes "seen") (natural s.seen)
     (member (codes "tid") (natural tid) no_members))))))
@@ -78,7 +78,7 @@ version_members (Some (Refused tid nr stamp verdict)) s =
     (member (codes "seen") (natural s.seen)
     (member (codes "stamp") (natural stamp)
     (member (codes "tid") (natural tid)
-    (member (codes "verdict") (word_value verdict) no_members)))))))
+    (member (codes "verdict") (word_json verdict) no_members)))))))
 version_members (Some Memory) s =
     member (codes "fate") (string (codes "memory"))
     (member (codes "led") (led_value s)

@@ -2,7 +2,7 @@
 ghost use Rattle.std.specs.Prelude.{◌≡◌, IfOk, map, string_bytes};
 ghost use Rattle.serde_json.specs.View.{view};
 ghost use Rattle.nv_calls.specs.Logs.{output_of};
-ghost use Rattle.nv_replay.specs.Versions.{standing_of};
+ghost use Rattle.nv_replay.specs.Version.{standing_of};
 ghost use Rattle.nv_report.specs.Json.{report_object, report_value, json_text};
 
 use crate::items::{events, versions};

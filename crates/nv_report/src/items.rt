@@ -3,10 +3,10 @@ ghost use Rattle.std.specs.Prelude.{◌≡◌, None, Some, IfOk};
 ghost use Rattle.serde_json.specs.Data.{object};
 ghost use Rattle.serde_json.specs.View.{view};
 ghost use Rattle.nv_calls.specs.Calls.{entry};
-ghost use Rattle.nv_replay.specs.Versions.{standing_of};
+ghost use Rattle.nv_replay.specs.Version.{standing_of};
 ghost use Rattle.nv_report.specs.Json.{list_value, event_value, led_value, version_members, version_value};
 
-use crate::values::{numbers, payload_value, spans, word_value};
+use crate::values::{numbers, payload_value, spans, word_json};
 use crate::versions::name_of;
 use nv_calls::Event;
 use nv_replay::{Fate, Standing, Version};
@@ -78,7 +78,7 @@ fn faulted(
     ensures { IfOk result (λ value. view value ≡ object (version_members (Some (Fate.Fault kind tid pc)) standing.now)) }
 {
     let led = led_value(alloc, standing)?;
-    let pc = word_value(alloc, pc)?;
+    let pc = word_json(alloc, pc)?;
     json!(in alloc; {
         "fate": "fault",
         "kind": name_of(kind),
@@ -101,7 +101,7 @@ fn refused(
     ensures { IfOk result (λ value. view value ≡ object (version_members (Some (Fate.Refused tid nr stamp verdict)) standing.now)) }
 {
     let led = led_value(alloc, standing)?;
-    let verdict = word_value(alloc, verdict)?;
+    let verdict = word_json(alloc, verdict)?;
     json!(in alloc; {
         "fate": "refused",
         "led": led,

@@ -1,7 +1,7 @@
 // What the JSON form is made of.
 ghost use Rattle.std.specs.Prelude.{◌≡◌, IfOk};
 ghost use Rattle.serde_json.specs.View.{view};
-ghost use Rattle.nv_report.specs.Json.{natural, list_value, hex_value, word_value, payload_value, span_value};
+ghost use Rattle.nv_report.specs.Json.{natural, list_value, hex_value, word_json, payload_value, span_value};
 
 use serde_json::Value;
 use std::alloc::{AllocError, Global};
@@ -14,8 +14,8 @@ pub fn hex_value(alloc: Global, bytes: &[u8]) -> Result<Value, AllocError>
 }
 
 // 32 bits as hexadecimal digits.
-pub fn word_value(alloc: Global, word: u32) -> Result<Value, AllocError>
-    ensures { IfOk result (λ value. view value ≡ word_value word) }
+pub fn word_json(alloc: Global, word: u32) -> Result<Value, AllocError>
+    ensures { IfOk result (λ value. view value ≡ word_json word) }
 {
     hex_value(alloc, &word.to_be_bytes())
 }

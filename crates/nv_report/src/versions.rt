@@ -2,7 +2,7 @@
 ghost use Rattle.std.specs.Prelude.{◌≡◌, ◌+◌, ◌<◌, ◌^◌, ◌++◌, length, map};
 ghost use Rattle.std.specs.List.{flat_map};
 ghost use Rattle.nv_outside.specs.Sink.{Puts};
-ghost use Rattle.nv_replay.specs.Versions.{standing_of};
+ghost use Rattle.nv_replay.specs.Version.{standing_of};
 ghost use Rattle.nv_report.specs.Versions.{kind_text, fault_text, refusal_text, fate_text, end_text, seen_text, span_text, next_span_text, led_text, rewrites_text, prefix_text, rest_text, line_text, lines_text};
 
 use crate::numbers::put_hex;

@@ -3,7 +3,7 @@ ghost use Rattle.std.specs.Prelude.{◌≡◌, ◌++◌, length, map};
 ghost use Rattle.std.specs.List.{flat_map};
 ghost use Rattle.nv_outside.specs.Sink.{Puts};
 ghost use Rattle.nv_calls.specs.Logs.{output_of};
-ghost use Rattle.nv_replay.specs.Versions.{standing_of};
+ghost use Rattle.nv_replay.specs.Version.{standing_of};
 ghost use Rattle.nv_report.specs.Report.{head_text, count_text, fates_text, report_text};
 
 use crate::events::put_events;

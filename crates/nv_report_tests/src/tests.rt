@@ -1,7 +1,7 @@
 // A version that leads, and finds no memory for its first call.
 ghost use Rattle.std.specs.Prelude.{◌≡◌, [], IfSome};
 ghost use Rattle.nv_threads.specs.Threads.{threads};
-ghost use Rattle.nv_replay.specs.Versions.{IsFresh};
+ghost use Rattle.nv_replay.specs.Version.{IsFresh};
 
 use nv_guest::Guest;
 use nv_kernel::ScriptKernel;

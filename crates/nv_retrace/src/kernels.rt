@@ -3,7 +3,7 @@ ghost use Rattle.std.specs.Prelude.{◌≡◌, ◌≤◌, IsTrue, IfOk, length, 
 ghost use Rattle.nv_script.specs.Scripts.{is_script};
 ghost use Rattle.nv_script.specs.Views.{setup_of};
 ghost use Rattle.nv_sockets.specs.Serving.{start_of_script};
-ghost use Rattle.nv_trace.specs.Checks.{IsSound};
+ghost use Rattle.nv_trace.specs.Checks.{AreSoundEvents};
 
 use nv_calls::SyscallKernel;
 use nv_script::Script;
@@ -18,7 +18,7 @@ pub fn kernel_after(
     seen: usize,
 ) -> Result<SocketKernel, AllocError>
     requires script { IsTrue (is_script (setup_of script.now)) }
-    requires sound { IsSound (start_of_script (setup_of script.now)) kernel.now.log }
+    requires sound { AreSoundEvents (start_of_script (setup_of script.now)) kernel.now.log }
     requires inside { seen ≤ length kernel.now.log }
     ensures setup { IfOk result (λ k. k.setup ≡ setup_of script.now) }
     ensures log { IfOk result (λ k. k.log ≡ take seen kernel.now.log) }

@@ -9,8 +9,8 @@ use lib.ListN.{get_elem?}
 use Rattle.nv_calls.specs.Calls.{Entry, entry}
 use Rattle.nv_calls.specs.declared.calls.Event.{Event}
 use Rattle.nv_calls.proofs.LogLaws.{slice_some}
-use Rattle.nv_words.specs.Spell.{IsWhole, spell}
-use Rattle.nv_words.specs.Begins.{Begins}
+use Rattle.nv_words.specs.Spelling.{IsWhole, spell}
+use Rattle.nv_words.specs.Begins.{BeginsEvent}
 use Rattle.nv_words.proofs.SpellLaws.{spell_whole}
 use Rattle.nv_words.proofs.SpellLaws.{shorter}
 

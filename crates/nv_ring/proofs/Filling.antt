@@ -8,7 +8,7 @@ use Rattle.nv_room.specs.Placement.{Log, pool_chunks, chunks_from, Fits}
 use Rattle.nv_calls.specs.declared.kernel.SyscallKernel.{Ghosts}
 use Rattle.nv_room.specs.declared.room.Room.{Room}
 use Rattle.nv_room.specs.declared.room.Lead.{Lead}
-use Rattle.nv_room.specs.Seats.{lead_view, station_of_lead, opened_of, IsReady}
+use Rattle.nv_room.specs.Seats.{lead_view, station_of_lead, opened_of, NextFits}
 use Rattle.nv_ring.specs.Places.{FitsAll, IsFull}
 
 pub all_fit : (c : ℕ) (log : Log) (from kept : ℕ) → kept ≤ from → length log < kept + c → chunks_from log kept + 8 ≤ pool_chunks c → FitsAll c log from
@@ -39,7 +39,7 @@ ready_set c log own station x floors old near new s other below = dite (ℕ_disc
 
 -- a lead that has seen no event more and whose floors stay is as ready
 module _ {K : Type 0} {G : Ghosts K} where
-  pub ready_still : (room : Room K) (old new : Lead K G) → (lead_view new).seen ≡ (lead_view old).seen → (lead_view new).floors ≡ (lead_view old).floors → station_of_lead new ≡ station_of_lead old → opened_of new ≡ opened_of old → IsReady room old → IsReady room new
+  pub ready_still : (room : Room K) (old new : Lead K G) → (lead_view new).seen ≡ (lead_view old).seen → (lead_view new).floors ≡ (lead_view old).floors → station_of_lead new ≡ station_of_lead old → opened_of new ≡ opened_of old → NextFits room old → NextFits room new
   ready_still room old new seen floors station opened ready s words ne near short =
       subst (λ (fs : List ℕ). Fits room.places (lead_view new).seen words (get_or fs s 0)) (sym floors)
       (subst (λ (z : Log). Fits room.places z words (get_or (lead_view old).floors s 0)) (sym seen) (ready s words (λ e. ne (e ∙ sym station)) (subst (λ (z : ℕ). s < z) opened near) short))

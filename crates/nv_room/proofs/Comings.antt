@@ -15,7 +15,7 @@ use Rattle.nv_calls.specs.Logs.{Start}
 use Rattle.nv_calls.proofs.LogLaws.{lawful_none}
 use Rattle.nv_words.proofs.SpellLaws.{prefix_length}
 use Rattle.nv_room.specs.declared.view.View.{View}
-use Rattle.nv_room.specs.declared.view.Plan.{Plan}
+use Rattle.nv_room.specs.declared.view.Layout.{Layout}
 use Rattle.nv_room.specs.declared.view.Past.{Past}
 use Rattle.nv_room.specs.declared.view.Span.{Span}
 use Rattle.nv_room.specs.declared.view.Role.{Role}
@@ -25,9 +25,9 @@ use Rattle.nv_places.proofs.StampLaws.{stamps_first}
 use Rattle.nv_room.specs.Placement.{table_words, slot}
 use Rattle.std.proofs.lemmas.List.{length-replicate}
 use Rattle.nv_room.specs.Owner.{free}
-use Rattle.nv_room.specs.Spans.{of_station, of_version, IsLast, Opened}
-use Rattle.nv_room.specs.Room.{cursor, Moment, as_of, IsPast, Knows, Tag, tag, version_of, Has, Live, Leads, Out, Clash, Apart, Notes, second, Rule, first}
-use Rattle.nv_room.specs.Steps.{one_made, reader_of, past_of, joined, spent}
+use Rattle.nv_room.specs.Spans.{of_station, of_version, IsLastStation, Opened}
+use Rattle.nv_room.specs.Room.{cursor, Moment, as_of, IsPast, Knows, Tag, tag, version_of, Has, Live, Leads, Out, Clash, NoClash, Notes, stamp_word, Rule, first}
+use Rattle.nv_room.specs.Steps.{one_made, reader_of, past_of, rejoined, spent}
 use Rattle.nv_room.proofs.Lists.{at_end, at_below}
 use Rattle.nv_room.proofs.Placement.{slot_after}
 use Rattle.nv_room.proofs.Merges.{merge_turned, merge_cut, notes_none}
@@ -68,14 +68,14 @@ numbers_below a zero s v e = absurd (some-ne-none v (sym e))
 numbers_below a (suc n) zero v e = let q : a ≡ v = some-injective a v e in omega arith
 numbers_below a (suc n) (suc s) v e = let h = numbers_below (a + 1) n s v e in omega arith
 
-number_last : (n s : ℕ) → s < n → IsLast (numbers 0 n) s s
+number_last : (n s : ℕ) → s < n → IsLastStation (numbers 0 n) s s
 number_last n s b = record { has = number_from n s b; none_later = λ t l e. (let within = at_below (numbers 0 n) t s e in let long = length-numbers 0 n in let q : t ≡ s = some-injective t s (sym (number_from n t (omega arith)) ∙ e) in omega arith) }
 
 spent_left : (x y : Tag) → (x ≡ (Spent, 0, 0, [])) → ¬ Clash x y
 spent_left x y e c = subst (λ (z : Tag). Live z.0) e c.0
 
 -- the seat id takes back the seat other
-module _ (ts : List Tag) (id other s m u k : ℕ) (es gs : List ℕ) (a b : Role) (live : Live a) (live' : Live b) (at : get_elem? ts id ≡ some (a, s, m, es)) (at' : get_elem? ts other ≡ some (b, u, k, gs)) (old : Apart ts) where
+module _ (ts : List Tag) (id other s m u k : ℕ) (es gs : List ℕ) (a b : Role) (live : Live a) (live' : Live b) (at : get_elem? ts id ≡ some (a, s, m, es)) (at' : get_elem? ts other ≡ some (b, u, k, gs)) (old : NoClash ts) where
   abbrev js : List Tag
   js = set (set ts id (a, s, m, es ++ u ∷ [])) other (Spent, 0, 0, [])
 
@@ -94,7 +94,7 @@ module _ (ts : List Tag) (id other s m u k : ℕ) (es gs : List ℕ) (a b : Role
       (λ (q : (g.0 ≡ length es) × (u ≡ y.1)). absurd (ne (old h other y (b, u, k, gs) f at' (c.1, live', inl (sym q.1))))) (at_end es u y.1 g.0 g.1)) o.1)
       (λ (o : Out y.1 y.2 y.3 s). here (inr (inr o))) e) c.2
 
-  pub apart_join : Apart js
+  pub apart_join : NoClash js
   apart_join j h x y e f c = let p = unspent j x y e c in let q = unspent h y x f (flip x y c) in ⊎_elim
       (λ (l : (j ≡ id) × (Path Tag (a, s, m, es ++ u ∷ []) x)). ⊎_elim (λ (r : (h ≡ id) × (Path Tag (a, s, m, es ++ u ∷ []) y)). l.0 ∙ sym r.0)
       (λ (r : (h ≢ id) × (get_elem? ts h ≡ some y)). l.0 ∙ back h y q.0 r.1 (subst (λ (z : Tag). Clash z y) (λ i. sym l.1 i) c)) q.1)
@@ -103,7 +103,7 @@ module _ (ts : List Tag) (id other s m u k : ℕ) (es gs : List ℕ) (a b : Role
       (λ (r : (h ≢ id) × (get_elem? ts h ≡ some y)). old j h x y l.1 r.1 c) q.1) p.1
 
 -- station 0's seat id makes the station m
-module _ (ts : List Tag) (id m k : ℕ) (es : List ℕ) (a b : Role) (live : Live a) (pos : 0 < m) (none : es ≡ []) (at : get_elem? ts id ≡ some (a, 0, m, es)) (old : Apart ts) where
+module _ (ts : List Tag) (id m k : ℕ) (es : List ℕ) (a b : Role) (live : Live a) (pos : 0 < m) (none : es ≡ []) (at : get_elem? ts id ≡ some (a, 0, m, es)) (old : NoClash ts) where
   abbrev us : List Tag
   us = set ts id (a, 0, m + 1, es)
 
@@ -132,13 +132,13 @@ module _ (ts : List Tag) (id m k : ℕ) (es : List ℕ) (a b : Role) (live : Liv
       (λ (q : (h ≢ id) × (get_elem? ts h ≡ some y)). old j h x y p.1 q.1 c) (at_set ts id h (a, 0, m + 1, es) y f))
       (at_set ts id j (a, 0, m + 1, es) x e)
 
-  pub apart_split : Apart (us ++ (b, m, k, []) ∷ [])
+  pub apart_split : NoClash (us ++ (b, m, k, []) ∷ [])
   apart_split j h x y e f c = ⊎_elim
       (λ (e' : get_elem? us j ≡ some x). ⊎_elim (λ (f' : get_elem? us h ≡ some y). both j h x y e' f' c) (λ (f' : (h ≡ length us) × (Path Tag (b, m, k, []) y)). absurd (mixed j x e' (flip x (b, m, k, []) (subst (λ (z : Tag). Clash x z) (λ i. sym f'.1 i) c)))) (at_end us (b, m, k, []) y h f))
       (λ (e' : (j ≡ length us) × (Path Tag (b, m, k, []) x)). ⊎_elim (λ (f' : get_elem? us h ≡ some y). absurd (mixed h y f' (subst (λ (z : Tag). Clash z y) (λ i. sym e'.1 i) c))) (λ (f' : (h ≡ length us) × (Path Tag (b, m, k, []) y)). e'.0 ∙ sym f'.0) (at_end us (b, m, k, []) y h f))
       (at_end us (b, m, k, []) x j e)
 
-module _ {K : Type 0} (hist : K → List Entry) (beg : K → Start) (p : Plan K) where
+module _ {K : Type 0} (hist : K → List Entry) (beg : K → Start) (p : Layout K) where
   abbrev St : Type 0
   St = State (Option K) (View K)
 
@@ -156,7 +156,7 @@ module _ {K : Type 0} (hist : K → List Entry) (beg : K → Start) (p : Plan K)
       let fresh_cursor : cursor s.words t ≡ 0 = se.unmade_is_new t record { first = zeroth; other = pos; not_made = le_refl t; near = near } in
       let none_of : (z : ℕ) → of_station z r.spans ≡ [] = λ z. ap (of_station z) unled in
       let alone : (z : ℕ) → get_elem? r.seating z ≡ some t → z ≡ t = λ z e. let b : z < p.versions = (let y = at_below r.seating z t e in omega arith) in one_who r.seating z z z t (d.first z b) e refl in
-      let last : IsLast r.seating t t = record { has = d.first t near; none_later = λ z l e. let q : z ≡ t = alone z e in omega arith } in
+      let last : IsLastStation r.seating t t = record { has = d.first t near; none_later = λ z l e. let q : z ≡ t = alone z e in omega arith } in
       let mine' : Knows p m (one_made v) = record {
         seen_is_prefix = kn.seen_is_prefix;
         read_begins_next = kn.read_begins_next;
@@ -200,20 +200,20 @@ module _ {K : Type 0} (hist : K → List Entry) (beg : K → Start) (p : Plan K)
         merge = merge_cut n c s.words r.log r.phase vs (reader_of v) (merge_turned n c s.views id v (one_made v) at s.words s.words r.log r.phase r.merge (λ _ _. refl) (λ e. r.merge.lead_writes id v at e) (λ e. r.merge.notes id v at e) (λ l. r.merge.floors_wide id v at l))
             refl (notes_none r.log [] [] refl) (length-replicate (length v.floors) 0 ∙ r.merge.floors_wide id v at (subst Live (sym role) tt));
         held_has_lead = λ e. let h = lead_stays s.views id r.holder v (one_made v) at (λ q. (q, refl)) (r.held_has_lead e) in (h.0, h.1, at_longer vs (reader_of v ∷ []) h.0 h.1 h.2, h.3, h.4);
-        one_seat_a_version = subst Apart (sym path) (apart_split (map tag s.views) id t 0 es Reader Reader tt pos empty (at_map tag s.views id v at ∙ (λ i. some (role i, zeroth i, t, es))) r.one_seat_a_version);
+        one_seat_a_version = subst NoClash (sym path) (apart_split (map tag s.views) id t 0 es Reader Reader tt pos empty (at_map tag s.views id v at ∙ (λ i. some (role i, zeroth i, t, es))) r.one_seat_a_version);
         each_seat = λ j u e. ⊎_elim (λ (e' : get_elem? vs j ≡ some u). ⊎_elim (λ (y : (j ≡ id) × (one_made v ≡ u)). subst (Knows p m) y.1 mine') (λ (y : (j ≢ id) × (get_elem? s.views j ≡ some u)). r.each_seat j u y.1) (at_set s.views id j (one_made v) u e'))
             (λ (e' : (j ≡ length vs) × (reader_of v ≡ u)). subst (Knows p m) e'.1 cut) (at_end vs (reader_of v) u j e);
       }
 
   -- a seat takes in the seat w, which has left
-  pub joins : (id : ℕ) (v : View K) (other : ℕ) (w : View K) → Live v.role → w.role ≡ Gone → Joins RuleOf id v other w (joined v w) spent
+  pub joins : (id : ℕ) (v : View K) (other : ℕ) (w : View K) → Live v.role → w.role ≡ Gone → Joins RuleOf id v other w (rejoined v w) spent
   joins id v other w live gone s r at two at' = let n : ℕ = p.stations in let c : ℕ = p.places in let kn = r.each_seat id v at in let m : Moment = now hist beg p s r in
-      let there' : get_elem? s.views other ≡ some w = ⊎_elim (λ (q : (other ≡ id) × (joined v w ≡ w)). absurd (two q.0)) (λ (q : (other ≢ id) × (get_elem? s.views other ≡ some w)). q.1) (at_set s.views id other (joined v w) w at') in
+      let there' : get_elem? s.views other ≡ some w = ⊎_elim (λ (q : (other ≡ id) × (rejoined v w ≡ w)). absurd (two q.0)) (λ (q : (other ≢ id) × (get_elem? s.views other ≡ some w)). q.1) (at_set s.views id other (rejoined v w) w at') in
       let kw = r.each_seat other w there' in let iw = in_role hist beg p s r other w there' Gone gone in let sw = seated hist beg p s r other w there' Gone gone tt in let se = kn.seated live in
-      let vs : List (View K) = set s.views id (joined v w) in let es : List ℕ = map version_of v.ended in let gs : List ℕ = map version_of w.ended in let ts : List Tag = map tag s.views in
+      let vs : List (View K) = set s.views id (rejoined v w) in let es : List ℕ = map version_of v.ended in let gs : List ℕ = map version_of w.ended in let ts : List Tag = map tag s.views in
       let x : Past = past_of w in
       let told : IsPast m x = record { seen_is_prefix = kw.seen_is_prefix; read_begins_next = kw.read_begins_next; last = sw.last; cursor_is_gone = iw.cursor_is_gone; spans_are = sw.spans_are; before_later = iw.before_later } in
-      let mine : Knows p m (joined v w) = record {
+      let mine : Knows p m (rejoined v w) = record {
         seen_is_prefix = kn.seen_is_prefix;
         read_begins_next = kn.read_begins_next;
         floor_at_most_cursor = kn.floor_at_most_cursor;
@@ -225,7 +225,7 @@ module _ {K : Type 0} (hist : K → List Entry) (beg : K → Start) (p : Plan K)
         ended_is_past = λ i y e. ⊎_elim (λ (q : get_elem? v.ended i ≡ some y). kn.ended_is_past i y q) (λ (q : (i ≡ length v.ended) × (x ≡ y)). subst (IsPast m) q.1 told) (at_end v.ended x y i e);
       } in
       let over : Knows p m spent = record { seen_is_prefix = λ i y e. absurd (some-ne-none y (sym e)); read_begins_next = λ i y e. absurd (some-ne-none y (sym e)); floor_at_most_cursor = λ z l. zero-le; head_seen_at_most_head = zero-le; owner_seen_at_most_head = omega arith; opened_at_most_open = zero-le; in_role = refl; seated = λ l. absurd l; ended_is_past = λ i y e. absurd (some-ne-none y (sym e)) } in
-      let e₁ : map tag vs ≡ set ts id (v.role, v.version, v.made, es ++ w.version ∷ []) = map-set tag s.views id (joined v w) ∙ (λ k. set ts id (v.role, v.version, v.made, map-append version_of v.ended (x ∷ []) k)) in
+      let e₁ : map tag vs ≡ set ts id (v.role, v.version, v.made, es ++ w.version ∷ []) = map-set tag s.views id (rejoined v w) ∙ (λ k. set ts id (v.role, v.version, v.made, map-append version_of v.ended (x ∷ []) k)) in
       let path : map tag (set vs other spent) ≡ set (set ts id (v.role, v.version, v.made, es ++ w.version ∷ [])) other (Spent, 0, 0, []) = map-set tag vs other spent ∙ (λ k. set (e₁ k) other (Spent, 0, 0, [])) in record {
         log = r.log;
         events = r.events;
@@ -242,12 +242,12 @@ module _ {K : Type 0} (hist : K → List Entry) (beg : K → Start) (p : Plan K)
         led = r.led;
         doors = r.doors;
         turns = r.turns;
-        held_has_lead = λ e. lead_stays vs other r.holder w spent at' (λ q. absurd (subst Leads gone q)) (lead_stays s.views id r.holder v (joined v w) at (λ q. (q, refl)) (r.held_has_lead e));
-        merge = merge_turned n c vs other w spent at' s.words s.words r.log r.phase (merge_turned n c s.views id v (joined v w) at s.words s.words r.log r.phase r.merge (λ _ _. refl) (λ e. r.merge.lead_writes id v at e) (λ e. r.merge.notes id v at e) (λ l. r.merge.floors_wide id v at l))
+        held_has_lead = λ e. lead_stays vs other r.holder w spent at' (λ q. absurd (subst Leads gone q)) (lead_stays s.views id r.holder v (rejoined v w) at (λ q. (q, refl)) (r.held_has_lead e));
+        merge = merge_turned n c vs other w spent at' s.words s.words r.log r.phase (merge_turned n c s.views id v (rejoined v w) at s.words s.words r.log r.phase r.merge (λ _ _. refl) (λ e. r.merge.lead_writes id v at e) (λ e. r.merge.notes id v at e) (λ l. r.merge.floors_wide id v at l))
             (λ _ _. refl) (λ e. absurd e) (λ (e : Spent ≡ Reader). cc) (λ l. absurd l);
-        one_seat_a_version = subst Apart (sym path) (apart_join ts id other v.version v.made w.version w.made es gs v.role w.role live (subst Live (sym gone) tt) (at_map tag s.views id v at) (at_map tag s.views other w there') r.one_seat_a_version);
+        one_seat_a_version = subst NoClash (sym path) (apart_join ts id other v.version v.made w.version w.made es gs v.role w.role live (subst Live (sym gone) tt) (at_map tag s.views id v at) (at_map tag s.views other w there') r.one_seat_a_version);
         each_seat = λ j u e. ⊎_elim (λ (y : (j ≡ other) × (spent ≡ u)). subst (Knows p m) y.1 over)
-            (λ (y : (j ≢ other) × (get_elem? vs j ≡ some u)). ⊎_elim (λ (z : (j ≡ id) × (joined v w ≡ u)). subst (Knows p m) z.1 mine) (λ (z : (j ≢ id) × (get_elem? s.views j ≡ some u)). r.each_seat j u z.1) (at_set s.views id j (joined v w) u y.1))
+            (λ (y : (j ≢ other) × (get_elem? vs j ≡ some u)). ⊎_elim (λ (z : (j ≡ id) × (rejoined v w ≡ u)). subst (Knows p m) z.1 mine) (λ (z : (j ≢ id) × (get_elem? s.views j ≡ some u)). r.each_seat j u z.1) (at_set s.views id j (rejoined v w) u y.1))
             (at_set vs other j spent u e);
       }
 
@@ -286,7 +286,7 @@ module _ {K : Type 0} (hist : K → List Entry) (beg : K → Start) (p : Plan K)
     led = record { tile = refl; rise = tt; last_is_holders = λ xs x e. (let a = ap (λ (z : List Span). length z) e in let b = length-append xs (x ∷ []) in absurd (omega arith)); unled_is_free = λ e. refl };
     merge = record {
       writing = [];
-      stamps = stamps_first p.places (second p.stations p.places ws) (λ l k. zeros (slot p.stations p.places l k 1) (slot_after p.stations p.places l k 1 0 (omega arith)));
+      stamps = stamps_first p.places (stamp_word p.stations p.places ws) (λ l k. zeros (slot p.stations p.places l k 1) (slot_after p.stations p.places l k 1 0 (omega arith)));
       lead_writes = λ j v e role. absurd (subst (λ (z : View K). Leads z.role) (sym (one_at (first p) j v e).1) role);
       not_held = λ _. refl;
       notes = λ j v e _. subst (λ (z : View K). Notes [] z.seen z.noted z.missed z.read) (one_at (first p) j v e).1 (notes_none [] [] [] refl);

@@ -9,17 +9,17 @@ use Rattle.std.specs.Prelude.{Option}
 use Rattle.atomic_table.specs.Table.{State, Me, step, keeps, Allows}
 use Rattle.nv_calls.specs.Calls.{Entry}
 use Rattle.nv_calls.specs.Logs.{Start}
-use Rattle.nv_words.specs.Spell.{IsWhole}
+use Rattle.nv_words.specs.Spelling.{IsWhole}
 use Rattle.nv_words.specs.Begins.{Prefix}
 use Rattle.nv_words.proofs.SpellLaws.{prefix_length, whole_same}
 use Rattle.nv_room.specs.declared.view.View.{View}
-use Rattle.nv_room.specs.declared.view.Plan.{Plan}
+use Rattle.nv_room.specs.declared.view.Layout.{Layout}
 use Rattle.nv_room.specs.declared.view.Role.{Role}
 use Rattle.nv_room.specs.declared.view.Role.TheVariants.{Reader, Lead, Opening, Leaving, Moving, Gone, Spent}
-use Rattle.nv_room.specs.Placement.{Log, place_of}
+use Rattle.nv_room.specs.Placement.{Log, word_place}
 use Rattle.nv_room.specs.Owner.{GONE, held}
-use Rattle.nv_room.specs.Room.{cursor, Moment, as_of, Places, Doors, Led, InRole, IsSeated, Live, Leads, tag, Apart, Rule}
-use Rattle.nv_room.specs.Steps.{one_on, advanced, as_gone, left}
+use Rattle.nv_room.specs.Room.{cursor, Moment, as_of, Places, Doors, Led, InRole, IsSeated, Live, Leads, tag, NoClash, Rule}
+use Rattle.nv_room.specs.Steps.{one_on, goes_ahead, as_gone, left}
 use Rattle.nv_room.proofs.Lists.{at_below, there}
 use Rattle.nv_room.proofs.Placement.{place_after, header_inside}
 use Rattle.nv_places.specs.Header.{head_index, cursor_index}
@@ -49,8 +49,8 @@ module _ (n c : ℕ) (m : Moment) (i x : ℕ) (pl : Places n c m) (near : i < n)
   pub cursor_up : (s : ℕ) → cursor m.words s ≤ cursor ws' s
   cursor_up s = ⊎_elim (λ (y : (s ≡ i) × (cursor ws' s ≡ x)). let a : cursor m.words s ≡ cursor m.words i = ap (cursor m.words) y.0 in let b = y.1 in omega arith) (λ (y : (s ≢ i) × (cursor ws' s ≡ cursor m.words s)). let b = y.1 in omega arith) (cursor_set s)
 
-  place_else : (log : Log) (e j : ℕ) → get_or ws' (place_of n c log e j) 0 ≡ get_or m.words (place_of n c log e j) 0
-  place_else log e j = get_or-set_other m.words (cursor_index i) (place_of n c log e j) x 0 (place_after n c log e j (cursor_index i) (omega arith))
+  place_else : (log : Log) (e j : ℕ) → get_or ws' (word_place n c log e j) 0 ≡ get_or m.words (word_place n c log e j) 0
+  place_else log e j = get_or-set_other m.words (cursor_index i) (word_place n c log e j) x 0 (place_after n c log e j (cursor_index i) (omega arith))
 
   pub places_risen : (x ≤ length m.log) ⊎ (x ≡ GONE) → (m.phase ≡ held → i ≢ m.holder) → Places n c risen
   places_risen count unheld = record {
@@ -95,7 +95,7 @@ module _ (n c : ℕ) (m : Moment) (i x : ℕ) (pl : Places n c m) (near : i < n)
   own_risen u ne Gone other = tt
   own_risen u ne Spent other = tt
 
-module _ {K : Type 0} (hist : K → List Entry) (beg : K → Start) (p : Plan K) where
+module _ {K : Type 0} (hist : K → List Entry) (beg : K → Start) (p : Layout K) where
   abbrev St : Type 0
   St = State (Option K) (View K)
 
@@ -106,7 +106,7 @@ module _ {K : Type 0} (hist : K → List Entry) (beg : K → Start) (p : Plan K)
   M = Me (Option K) (View K)
 
   pub advances : (slots id new : ℕ) (me : M) → me.0.role ≡ Reader → IsWhole me.0.read → new ≡ length me.0.seen + 1
-      → Allows RuleOf slots id me (cursor_index me.0.station) (λ _. new) (λ _. advanced (step slots (cursor_index me.0.station) new 0 none) me new)
+      → Allows RuleOf slots id me (cursor_index me.0.station) (λ _. new) (λ _. goes_ahead (step slots (cursor_index me.0.station) new 0 none) me new)
   advances slots id new me role full is s r wide at _ = let v = me.0 in let n : ℕ = p.stations in let c : ℕ = p.places in let kn = r.each_seat id v at in let size : ℕ = length v.seen in let pl = r.places in
       let m : Moment = now hist beg p s r in let ir = in_role hist beg p s r id v at Reader role in let se = seated hist beg p s r id v at Reader role tt in let i : ℕ = v.station in let near : i < n = role_near hist beg p s r id v at Reader role tt in let mine : cursor s.words i ≡ size = ir.cursor_is_length in
       let six : 6 ≤ length v.read = full.0 in let one = there v.read 0 (omega arith) in let rd0 = kn.read_begins_next 0 one.0 one.1 in let e : List ℕ = rd0.0 in let len : ℕ = length r.log in let lt : size < len = at_below r.log size e rd0.1 in
@@ -117,7 +117,7 @@ module _ {K : Type 0} (hist : K → List Entry) (beg : K → Start) (p : Plan K)
         w,
         keeps,
         tt,
-        moved hist beg p s r (cursor_index i) new id me.1 keeps r.log r.phase r.holder r.spans r.seating r.ready r.events v w at (subst Apart (sym (same_tags hist beg p s.views id v w at refl)) r.one_seat_a_version) (λ e. lead_stays s.views id r.holder v w at (λ q. (q, refl)) (r.held_has_lead e)) (logged hist beg p s r) r.home
+        moved hist beg p s r (cursor_index i) new id me.1 keeps r.log r.phase r.holder r.spans r.seating r.ready r.events v w at (subst NoClash (sym (same_tags hist beg p s.views id v w at refl)) r.one_seat_a_version) (λ e. lead_stays s.views id r.holder v w at (λ q. (q, refl)) (r.held_has_lead e)) (logged hist beg p s r) r.home
             (places_risen n c m i new pl near up (inl (omega arith)) (λ e. not_held m i r.led ir.led_nothing e)) record { tile = r.led.tile; rise = r.led.rise; last_is_holders = r.led.last_is_holders; unled_is_free = r.led.unled_is_free }
             (doors_risen n c m i new pl near up p.versions (planned hist beg p) (last_near r.seating v.version i se.last) r.doors) r.turns on
             (λ j u ne f l. (own_risen n c m i new pl near up u (apart_from hist beg p s r j id u v f at ne live l) u.role (former_apart hist beg p s r j id u v f at ne live l i se.last.has), refl, (λ z. z), λ t q. cursor_else n c m i new pl near up t (apart_unmade hist beg p s r j id u v f at ne live l t q i se.last.has))) record {
@@ -141,8 +141,8 @@ module _ {K : Type 0} (hist : K → List Entry) (beg : K → Start) (p : Plan K)
       )
 
   pub advances_at : (slots id k new : ℕ) (me : M) → me.0.role ≡ Reader → IsWhole me.0.read → k ≡ cursor_index me.0.station → new ≡ length me.0.seen + 1
-      → Allows RuleOf slots id me k (λ _. new) (λ _. advanced (step slots k new 0 none) me new)
-  advances_at slots id k new me role full at is = subst (λ (z : ℕ). Allows RuleOf slots id me z (λ _. new) (λ _. advanced (step slots z new 0 none) me new)) (sym at) (advances slots id new me role full is)
+      → Allows RuleOf slots id me k (λ _. new) (λ _. goes_ahead (step slots k new 0 none) me new)
+  advances_at slots id k new me role full at is = subst (λ (z : ℕ). Allows RuleOf slots id me z (λ _. new) (λ _. goes_ahead (step slots z new 0 none) me new)) (sym at) (advances slots id new me role full is)
 
   -- what lets a station leave: it is no lower than the holder, and holds nothing
   pub record MayLeave (m : Moment) (station : ℕ) (wrote : List ℕ) : Type 0 where
@@ -168,7 +168,7 @@ module _ {K : Type 0} (hist : K → List Entry) (beg : K → Start) (p : Plan K)
       let may = may_leave m v r.led (prefix_length v.seen r.log kn.seen_is_prefix) v.role role kn.in_role in let count : cursor s.words i ≤ len = may.count in
       let up : cursor s.words i ≤ new = omega arith in let m' : Moment = risen n c m i new pl near up in let w : View K = as_gone v in let on = on_risen n c m i new pl near up (open_near hist beg p s r) in
       let low : r.holder ≤ i = dite (dec_le r.holder i) (λ le. le) (λ gt. let lt : i < r.holder = lt_of_not-le gt in let g = pl.lower_are_gone i lt in absurd (omega arith)) in
-      let tags : Apart (map tag (set s.views id w)) = subst Apart (sym (map-set tag s.views id w)) (apart_role hist beg p s r id v Gone at live) in (
+      let tags : NoClash (map tag (set s.views id w)) = subst NoClash (sym (map-set tag s.views id w)) (apart_role hist beg p s r id v Gone at live) in (
         w,
         keeps,
         tt,

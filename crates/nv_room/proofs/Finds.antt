@@ -2,21 +2,21 @@
 use Rattle.std.proofs.Common.{◌≡◌, ℕ, ◌%◌, ◌<◌, Bool, true, false, cond, List, [], ◌∷◌, ◌++◌, length, take, get_or, sym, refl, ap, ◌∙◌, subst, mod-lt, arith}
 use Rattle.std.specs.Prelude.{Option, Some, None, IsSome, ◌==◌}
 use Rattle.std.proofs.lemmas.Option.{same_Some}
-use Rattle.nv_words.specs.Spell.{low}
+use Rattle.nv_words.specs.Spelling.{low}
 use Rattle.nv_words.specs.Read.{event_of}
 use Rattle.nv_words.specs.Begins.{Prefix}
-use Rattle.nv_lanes.specs.Lanes.{Taken, lane_in}
+use Rattle.nv_lanes.specs.Lanes.{lane_in}
 use Rattle.nv_places.specs.Logs.{lanes_after, lane, earlier}
 use Rattle.atomic_table.proofs.Lists.{at_longer}
 use Rattle.nv_places.specs.declared.spot.Spot.{Spot}
 use Rattle.nv_places.proofs.LogLaws.{lane_is_taken, earlier_was_count}
 use Rattle.nv_places.proofs.PoolOfLog.{before_prefix}
 use Rattle.nv_room.specs.declared.view.View.{View}
-use Rattle.nv_room.specs.Placement.{Log, pool_chunks, table_words, chunks_before, slot, spot, place_of, next_slot}
+use Rattle.nv_room.specs.Placement.{Log, pool_chunks, chunks_before, slot, spot, word_place, next_slot}
 use Rattle.nv_room.specs.Steps.{probed_at, with_note, with_miss}
 use Rattle.nv_room.specs.Trails.{IsSpot, NotedAt}
 use Rattle.nv_room.proofs.Lists.{prefix_take}
-use Rattle.nv_room.proofs.Placement.{slot_inside, place_is_spot}
+use Rattle.nv_room.proofs.Placement.{place_is_spot}
 
 pub some_of : {A : Type 0} (o : Option A) → IsSome o → (x : A) × (o ≡ Some x)
 some_of None h = cc
@@ -31,7 +31,7 @@ spot_in c seen l s pos is = (
 )
 
 -- the words of the event after the seen list
-pub spot_word : (n c : ℕ) (log seen : Log) (l j : ℕ) (s : Spot) → Prefix seen log → l ≡ lane log (length seen) → IsSpot c seen l s → spot n c s.lane s.place s.first j ≡ place_of n c log (length seen) j
+pub spot_word : (n c : ℕ) (log seen : Log) (l j : ℕ) (s : Spot) → Prefix seen log → l ≡ lane log (length seen) → IsSpot c seen l s → spot n c s.lane s.place s.first j ≡ word_place n c log (length seen) j
 spot_word n c log seen l j s pre is at =
     let h : ℕ = length seen in
     let prefix : take h log ≡ seen = prefix_take seen log pre in
@@ -42,9 +42,6 @@ spot_word n c log seen l j s pre is at =
 -- word 1, which a probe looks at
 pub spot_second : (n c : ℕ) (seen : Log) (l : ℕ) (s : Spot) → IsSpot c seen l s → spot n c s.lane s.place s.first 1 ≡ next_slot n c (lanes_after seen) l 1
 spot_second n c seen l s at = λ k. slot n c (at.lane k) (at.place k) 1
-
-pub next_inside : (n c : ℕ) (t : Taken) (l j : ℕ) → 0 < c → l < 8 → j < 6 → next_slot n c t l j < table_words n c
-next_inside n c t l j pos b s = slot_inside n c l _ j b (mod-lt _ pos) s
 
 first_tid : (w : List ℕ) (word : ℕ) → length w ≡ 0 → (event_of (w ++ word ∷ [])).call.tid ≡ low word
 unfolding event_of

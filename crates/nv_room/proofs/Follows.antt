@@ -6,14 +6,14 @@ use mathlib.Core.Logic.{dite}
 use native.Mathlib.Decide.{ℕ_discrete}
 use Rattle.std.proofs.lemmas.Bool.{eq-eqb, ne_eqb}
 use Rattle.std.proofs.lemmas.List.{get_or_push, get_or_append_left, map-append, length-map}
-use Rattle.nv_words.specs.Spell.{low, high}
+use Rattle.nv_words.specs.Spelling.{low, high}
 use Rattle.nv_words.specs.Read.{event_of}
 use Rattle.nv_lanes.specs.Lanes.{Taken, noted_by, noted, taken_after}
 use Rattle.nv_lanes.proofs.LaneLaws.{taken_push, noted_all}
 use Rattle.nv_pool.specs.declared.pool.Pool.{Pool}
-use Rattle.nv_pool.specs.Pools.{Holds, count_of}
+use Rattle.nv_pool.specs.Pool.{Holds, count_of}
 use Rattle.nv_places.specs.Logs.{Log, entries, lanes_after}
-use Rattle.nv_places.specs.Placement.{bytes_of, sizes}
+use Rattle.nv_places.specs.Placement.{payload_size, sizes}
 use Rattle.nv_places.proofs.LogLaws.{entries_push, entries_length}
 
 -- the word at a place, kept when it comes
@@ -34,8 +34,8 @@ pub lanes_count : (lanes : Taken) (seen : Log) → lanes ≡ lanes_after seen �
 lanes_count lanes seen is = ap (λ (s : Taken). sum s.counts) is ∙ noted_all (entries seen) ∙ entries_length seen
 
 pub pool_count : (pool : Pool) (seen : Log) → Holds pool (sizes seen) → count_of pool ≡ length seen
-pool_count pool seen h = h.count ∙ length-map seen bytes_of
+pool_count pool seen h = h.count ∙ length-map seen payload_size
 
 -- the event's size is the last
 pub sizes_push : (seen : Log) (words : List ℕ) (n : ℕ) → n ≡ length words → sizes seen ++ 8 * (n - 6) ∷ [] ≡ sizes (seen ++ words ∷ [])
-sizes_push seen words n is = ap (λ (z : ℕ). sizes seen ++ 8 * (z - 6) ∷ []) is ∙ sym (map-append bytes_of seen (words ∷ []))
+sizes_push seen words n is = ap (λ (z : ℕ). sizes seen ++ 8 * (z - 6) ∷ []) is ∙ sym (map-append payload_size seen (words ∷ []))

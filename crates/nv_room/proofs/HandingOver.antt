@@ -11,18 +11,18 @@ use Rattle.atomic_table.specs.Table.{State, Me, step, keeps, gives, put_back, ho
 use Rattle.atomic_table.proofs.Lists.{set_here, at_longer}
 use Rattle.nv_calls.specs.Calls.{Entry}
 use Rattle.nv_calls.specs.Logs.{Start, IsLawful}
-use Rattle.nv_words.specs.Spell.{spell}
+use Rattle.nv_words.specs.Spelling.{spell}
 use Rattle.nv_words.proofs.SpellLaws.{prefix_same}
 use Rattle.nv_room.specs.declared.view.View.{View}
-use Rattle.nv_room.specs.declared.view.Plan.{Plan}
+use Rattle.nv_room.specs.declared.view.Layout.{Layout}
 use Rattle.nv_room.specs.declared.view.Span.{Span}
 use Rattle.nv_room.specs.declared.view.Role.TheVariants.{Reader, Lead, Opening, Moving}
 use Rattle.nv_places.specs.Header.{cursor_index}
 use Rattle.nv_room.specs.Owner.{GONE, Phase, held, free, owner_word, owner_at}
-use Rattle.nv_room.specs.Spans.{Tiles, Rising, of_station, of_version, handed_on, HasLed, IsLast, Opened}
+use Rattle.nv_room.specs.Spans.{Tiles, Rising, of_station, of_version, handed_on, LastHasEvent, IsLastStation, Opened}
 use Rattle.nv_room.specs.Planned.{below}
-use Rattle.nv_room.specs.Room.{cursor, Moment, as_of, Places, Doors, Turns, Led, Live, Leads, Has, tag, Apart, IsKernel, AtHome, Rule}
-use Rattle.nv_room.specs.Steps.{spare, as_opening, opens, as_moving, handed, as_reader, moved as moved_on}
+use Rattle.nv_room.specs.Room.{cursor, Moment, as_of, Places, Doors, Turns, Led, Live, Leads, Has, tag, NoClash, IsKernel, AtHome, Rule}
+use Rattle.nv_room.specs.Steps.{spare, as_opening, opens, as_moving, hands_over, as_reader, moves_over as moved_on}
 use Rattle.nv_room.proofs.Lists.{at_below, at_end, set_or}
 use Rattle.nv_room.proofs.Tiling.{last_apart, with_none, tiles_handed, rising_handed, handed_end, opened_handed, last_other, last_new}
 use Rattle.nv_room.proofs.Counts.{below_most, below_planned}
@@ -50,7 +50,7 @@ module _ (m : Moment) (l : Last m) where
     unled_is_free = λ e. let a = ap (λ (z : List Span). length z) (sym ends ∙ e) in let b = length-append l.before (x' ∷ []) in absurd (omega arith);
   }
 
-  turns_handed : (versions : ℕ) (hands : List ℕ) (ph : Phase) (len : ℕ) → Turns versions hands m.phase len m.spans m.seating → m.phase ≡ held → ph ≢ held → IsLast m.seating l.last.version l.last.station → Turns versions hands ph len (handed_on m.spans) (m.seating ++ l.last.version ∷ [])
+  turns_handed : (versions : ℕ) (hands : List ℕ) (ph : Phase) (len : ℕ) → Turns versions hands m.phase len m.spans m.seating → m.phase ≡ held → ph ≢ held → IsLastStation m.seating l.last.version l.last.station → Turns versions hands ph len (handed_on m.spans) (m.seating ++ l.last.version ∷ [])
   turns_handed versions hands ph len t is over last = record {
     who_is = λ i y e. at_longer m.seating (l.last.version ∷ []) y.station y.version (who_last m l m.seating x' refl refl t.who_is i y (ap (λ (z : List Span). get_elem? z i) (sym ends) ∙ e));
     opened = subst (Opened versions (m.seating ++ l.last.version ∷ [])) (sym ends) (opened_handed versions m.seating l.before l.last (t.unhanded is l.before l.last l.is) last (subst (Opened versions m.seating) l.is t.opened));
@@ -71,7 +71,7 @@ module _ (m : Moment) (l : Last m) where
   own_handed v e = ap handed_on (own_was m l (λ (x : Span). x.version) x' refl v e) ∙ handed_end (of_version v l.before) l.last ∙ sym (own_last m l (λ (x : Span). x.version) x' refl v e) ∙ ap (of_version v) (sym ends)
 
   -- the lead's own last span is the room's
-  has_led : (v : ℕ) → l.last.version ≡ v → HasLed (of_version v m.spans) → HasLed m.spans
+  has_led : (v : ℕ) → l.last.version ≡ v → LastHasEvent (of_version v m.spans) → LastHasEvent m.spans
   has_led v e h = (l.before, l.last, l.is, (let same : h.1 ≡ l.last = (last_apart h.0 (of_version v l.before) h.1 l.last (sym h.2 ∙ own_was m l (λ (x : Span). x.version) x' refl v e)).1 in subst (λ (z : Span). z.from < z.to) same h.3))
 
 no_words : (ws : List ℕ) → ((x : ℕ) → get_elem? ws 0 ≡ some x → ⊥) → ws ≡ []
@@ -81,7 +81,7 @@ no_words (x ∷ xs) h = absurd (h x refl)
 given : (st o n new : ℕ) → st < 16 → o ≤ 16 → new ≡ owner_word free st o n → owner_at new ≡ n
 given st o n new l b is = let q : new / 2048 ≡ n = omega arith in q
 
-module _ {K : Type 0} (hist : K → List Entry) (beg : K → Start) (p : Plan K) where
+module _ {K : Type 0} (hist : K → List Entry) (beg : K → Start) (p : Layout K) where
   abbrev St : Type 0
   St = State (Option K) (View K)
 
@@ -92,13 +92,13 @@ module _ {K : Type 0} (hist : K → List Entry) (beg : K → Start) (p : Plan K)
   M = Me (Option K) (View K)
 
   -- where a lead that has led an event comes to a planned length, a station is left
-  left_station : (s : St) (r : RuleOf s) (id : ℕ) (v : View K) → get_elem? s.views id ≡ some v → v.role ≡ Lead → Has (planned hist beg p) (length v.seen) → HasLed v.spans → length r.seating + 1 ≤ p.versions + below (planned hist beg p) (length r.log + 1)
+  left_station : (s : St) (r : RuleOf s) (id : ℕ) (v : View K) → get_elem? s.views id ≡ some v → v.role ≡ Lead → Has (planned hist beg p) (length v.seen) → LastHasEvent v.spans → length r.seating + 1 ≤ p.versions + below (planned hist beg p) (length r.log + 1)
   left_station s r id v at role plan led = let m : Moment = now hist beg p s r in let ir = in_role hist beg p s r id v at Lead role in let live : Live v.role = subst Live (sym role) tt in let se = (r.each_seat id v at).seated live in
       let l : Last m = last_span m r.led ir.is_held in let mine = lead_last hist beg p s r id v at live ir.is_holder l in
-      let a = r.turns.left_over ir.is_held (has_led m l v.version mine (subst HasLed se.spans_are led)) in
+      let a = r.turns.left_over ir.is_held (has_led m l v.version mine (subst LastHasEvent se.spans_are led)) in
       let b = below_planned (planned hist beg p) (length r.log) (subst (Has (planned hist beg p)) ir.seen_is_log plan) in omega arith
 
-  pub spares : (slots id k : ℕ) (me : M) → me.0.role ≡ Lead → Has (planned hist beg p) (length me.0.seen) → HasLed me.0.spans → Allows RuleOf slots id me k (λ x. x) (spare (step slots k 0 0 none) me)
+  pub spares : (slots id k : ℕ) (me : M) → me.0.role ≡ Lead → Has (planned hist beg p) (length me.0.seen) → LastHasEvent me.0.spans → Allows RuleOf slots id me k (λ x. x) (spare (step slots k 0 0 none) me)
   spares slots id k me role plan led s r wide at _ = let v = me.0 in let kn = r.each_seat id v at in let ir = in_role hist beg p s r id v at Lead role in let live : Live v.role = subst Live (sym role) tt in
       let a = left_station s r id v at role plan led in let b = below_most (planned hist beg p) (length r.log + 1) in let c = r.doors.all in let d = r.merge.floors_wide id v at live in let e = ir.opened_is in (
         v,
@@ -109,7 +109,7 @@ module _ {K : Type 0} (hist : K → List Entry) (beg : K → Start) (p : Plan K)
       )
 
   -- the first station that isn't open gets head as its cursor
-  pub opens_next : (slots id new : ℕ) (me : M) → me.0.role ≡ Lead → me.0.wrote ≡ [] → Has (planned hist beg p) (length me.0.seen) → HasLed me.0.spans → new ≡ length me.0.seen
+  pub opens_next : (slots id new : ℕ) (me : M) → me.0.role ≡ Lead → me.0.wrote ≡ [] → Has (planned hist beg p) (length me.0.seen) → LastHasEvent me.0.spans → new ≡ length me.0.seen
       → Allows RuleOf slots id me (cursor_index me.0.opened) (λ _. new) (λ _. opens (step slots (cursor_index me.0.opened) new 0 none) me new)
   opens_next slots id new me role quiet plan led is s r wide at _ = let v = me.0 in let n : ℕ = p.stations in let c : ℕ = p.places in let kn = r.each_seat id v at in let pl = r.places in let d = r.doors in let len : ℕ = length r.log in
       let m : Moment = now hist beg p s r in let ir = in_role hist beg p s r id v at Lead role in let live : Live v.role = subst Live (sym role) tt in let se = kn.seated live in
@@ -134,7 +134,7 @@ module _ {K : Type 0} (hist : K → List Entry) (beg : K → Start) (p : Plan K)
       let o = on_risen n c m i new pl near up (open_near hist beg p s r) in
       let on : Onward n m m' = record { near = o.near; cursors = o.cursors; longer = o.longer; more = o.more; wider = o.wider; seated = o.seated; begun = o.begun; gone_spans = o.gone_spans; gone_last = o.gone_last } in
       let w : View K = as_opening v in
-      let tags : Apart (map tag (set s.views id w)) = subst Apart (sym (map-set tag s.views id w)) (apart_role hist beg p s r id v Opening at live) in (
+      let tags : NoClash (map tag (set s.views id w)) = subst NoClash (sym (map-set tag s.views id w)) (apart_role hist beg p s r id v Opening at live) in (
         w,
         keeps,
         tt,
@@ -158,7 +158,7 @@ module _ {K : Type 0} (hist : K → List Entry) (beg : K → Start) (p : Plan K)
 
   -- the kernel goes home, and the new station opens
   pub hands_on : (slots id new : ℕ) (k : K) (me : M) → me.0.role ≡ Opening → me.1 ≡ (0, Some k) ∷ [] → map spell (hist k) ≡ me.0.seen → IsLawful (hist k) → ForSome me.0.start (λ s. beg k ≡ beg s.value) → new ≡ owner_word free me.0.station (me.0.opened + 1) (length me.0.seen)
-      → Allows RuleOf slots id me 0 (λ _. new) (λ _. handed (step slots 0 new 0 none) me new)
+      → Allows RuleOf slots id me 0 (λ _. new) (λ _. hands_over (step slots 0 new 0 none) me new)
   hands_on slots id new k me role carries tells law began is s r wide at _ = let v = me.0 in let n : ℕ = p.stations in let c : ℕ = p.places in let kn = r.each_seat id v at in let pl = r.places in let d = r.doors in let len : ℕ = length r.log in
       let m : Moment = now hist beg p s r in let ir = in_role hist beg p s r id v at Opening role in let live : Live v.role = subst Live (sym role) tt in let se = kn.seated live in let st : ℕ = v.station in let ws' : List ℕ = set s.words 0 new in
       let l : Last m = last_span m r.led ir.is_held in let mine : l.last.version ≡ v.version = lead_last hist beg p s r id v at live ir.is_holder l in
@@ -176,7 +176,7 @@ module _ {K : Type 0} (hist : K → List Entry) (beg : K → Start) (p : Plan K)
       (λ z ne l. dite (ℕ_discrete z (length r.seating)) (λ e. inr (let q : cursor s.words z ≡ cursor s.words (length r.seating) = ap (cursor s.words) e in omega arith)) (λ ne'. inl (ne, omega arith))) in
       let led : Led m' = led_handed m l ws' free whos' r.ready r.led in
       let turns : Turns p.versions (planned hist beg p) free len spans' whos' = subst (λ (z : ℕ). Turns p.versions (planned hist beg p) free len spans' (r.seating ++ z ∷ [])) mine (turns_handed m l p.versions (planned hist beg p) free len r.turns ir.is_held over
-      (subst (λ (z : ℕ). IsLast r.seating z l.last.station) (sym mine) (subst (λ (z : ℕ). IsLast r.seating v.version z) (ir.is_holder ∙ sym l.holders) se.last))) in
+      (subst (λ (z : ℕ). IsLastStation r.seating z l.last.station) (sym mine) (subst (λ (z : ℕ). IsLastStation r.seating v.version z) (ir.is_holder ∙ sym l.holders) se.last))) in
       let doors : Doors n p.versions (planned hist beg p) m' = record {
         all = d.all;
         least = let a = d.least in omega arith;
@@ -186,8 +186,8 @@ module _ {K : Type 0} (hist : K → List Entry) (beg : K → Start) (p : Plan K)
         shut = λ z a b. cur z ∙ d.shut z a b;
         planned = d.planned;
       } in
-      let at_lead : (x z : ℕ) → IsLast r.seating x z → GONE ≤ cursor s.words z → v.version ≢ x = λ x z a g e.
-      let same : z ≡ r.holder = one_last r.seating v.version z st (subst (λ (y : ℕ). IsLast r.seating y z) (sym e) a) se.last ∙ ir.is_holder in let b : cursor s.words z ≡ cursor s.words r.holder = ap (cursor s.words) same in omega arith in
+      let at_lead : (x z : ℕ) → IsLastStation r.seating x z → GONE ≤ cursor s.words z → v.version ≢ x = λ x z a g e.
+      let same : z ≡ r.holder = one_last r.seating v.version z st (subst (λ (y : ℕ). IsLastStation r.seating y z) (sym e) a) se.last ∙ ir.is_holder in let b : cursor s.words z ≡ cursor s.words r.holder = ap (cursor s.words) same in omega arith in
       let on : Onward n m m' = record {
         near = fit;
         cursors = λ z b. subst (λ (q : ℕ). cursor s.words z ≤ q) (sym (cur z)) (le_refl (cursor s.words z));
@@ -202,7 +202,7 @@ module _ {K : Type 0} (hist : K → List Entry) (beg : K → Start) (p : Plan K)
       let quiet : r.merge.writing ≡ [] = sym (r.merge.lead_writes id v at (subst Leads (sym role) tt)) ∙ ir.wrote_nothing in
       let unread : v.read ≡ [] = no_words v.read (λ x e. let q = kn.read_begins_next 0 x e in let b = at_below r.log (length v.seen) q.0 q.1 in omega arith) in
       let w : View K = as_moving v new in
-      let tags : Apart (map tag (set s.views id w)) = subst Apart (sym (map-set tag s.views id w)) (apart_role hist beg p s r id v Moving at live) in (
+      let tags : NoClash (map tag (set s.views id w)) = subst NoClash (sym (map-set tag s.views id w)) (apart_role hist beg p s r id v Moving at live) in (
         w,
         gives,
         tt,
@@ -235,7 +235,7 @@ module _ {K : Type 0} (hist : K → List Entry) (beg : K → Start) (p : Plan K)
                 start_is = se.start_is;
                 places_are = se.places_are;
                 opened_least = let a = se.opened_least in omega arith;
-                last = subst (λ (z : ℕ). IsLast whos' v.version z) (sym here) (last_new r.seating v.version);
+                last = subst (λ (z : ℕ). IsLastStation whos' v.version z) (sym here) (last_new r.seating v.version);
                 spans_are = ap handed_on se.spans_are ∙ own_handed m l v.version mine;
                 unmade_is_new = λ t u. cur t ∙ se.unmade_is_new t u;
                 others_are_gone = λ t has ne out. ⊎_elim
@@ -258,7 +258,7 @@ module _ {K : Type 0} (hist : K → List Entry) (beg : K → Start) (p : Plan K)
       let unread : v.read ≡ [] = no_words v.read (λ x e. let q = kn.read_begins_next 0 x e in let b = at_below r.log (length v.seen) q.0 q.1 in let full = ir.seen_is_log in omega arith) in
       let gone : cursor (set s.words (cursor_index i) new) i ≡ GONE = cursor_there n c m i new pl near up ∙ is in
       let m' : Moment = risen n c m i new pl near up in let w : View K = as_reader v in let on = on_risen n c m i new pl near up fit in
-      let tags : Apart (map tag (set s.views id w)) = subst Apart (sym (map-set tag s.views id w)) (apart_role hist beg p s r id v Reader at live) in (
+      let tags : NoClash (map tag (set s.views id w)) = subst NoClash (sym (map-set tag s.views id w)) (apart_role hist beg p s r id v Reader at live) in (
         w,
         keeps,
         tt,
@@ -285,7 +285,7 @@ module _ {K : Type 0} (hist : K → List Entry) (beg : K → Start) (p : Plan K)
       )
 
   -- the same at the words that the code computes
-  pub opens_at : (slots id k new : ℕ) (me : M) → me.0.role ≡ Lead → me.0.wrote ≡ [] → Has (planned hist beg p) (length me.0.seen) → HasLed me.0.spans → k ≡ cursor_index me.0.opened → new ≡ length me.0.seen
+  pub opens_at : (slots id k new : ℕ) (me : M) → me.0.role ≡ Lead → me.0.wrote ≡ [] → Has (planned hist beg p) (length me.0.seen) → LastHasEvent me.0.spans → k ≡ cursor_index me.0.opened → new ≡ length me.0.seen
       → Allows RuleOf slots id me k (λ _. new) (λ _. opens (step slots k new 0 none) me new)
   opens_at slots id k new me role quiet plan led at is = subst (λ (z : ℕ). Allows RuleOf slots id me z (λ _. new) (λ _. opens (step slots z new 0 none) me new)) (sym at) (opens_next slots id new me role quiet plan led is)
 

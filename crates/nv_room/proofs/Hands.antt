@@ -14,17 +14,17 @@ use Rattle.atomic_table.specs.Table.{State, Me, step, takes, gives, put_back, ho
 use Rattle.atomic_table.proofs.Lists.{set_here}
 use Rattle.nv_calls.specs.Calls.{Entry}
 use Rattle.nv_calls.specs.Logs.{Start, IsLawful, live_after}
-use Rattle.nv_words.specs.Spell.{spell}
+use Rattle.nv_words.specs.Spelling.{spell}
 use Rattle.nv_words.proofs.SpellLaws.{prefix_length, prefix_same}
 use Rattle.nv_room.specs.declared.view.View.{View}
-use Rattle.nv_room.specs.declared.view.Plan.{Plan}
+use Rattle.nv_room.specs.declared.view.Layout.{Layout}
 use Rattle.nv_room.specs.declared.view.Span.{Span}
 use Rattle.nv_room.specs.declared.view.Role.{Role}
 use Rattle.nv_room.specs.declared.view.Role.TheVariants.{Reader, Lead, Opening, Leaving, Moving, Gone, Spent}
-use Rattle.nv_room.specs.Placement.{Log, place_of}
+use Rattle.nv_room.specs.Placement.{Log, word_place}
 use Rattle.nv_room.specs.Owner.{GONE, Phase, held, free, closed, owner_word, owner_at}
-use Rattle.nv_room.specs.Spans.{span, Tiles, of_station, IsLast}
-use Rattle.nv_room.specs.Room.{cursor, Moment, as_of, Places, Doors, Turns, Led, Freed, InRole, Live, Leads, tag, Apart, IsKernel, AtHome, Rule}
+use Rattle.nv_room.specs.Spans.{span, Tiles, of_station, IsLastStation}
+use Rattle.nv_room.specs.Room.{cursor, Moment, as_of, Places, Doors, Turns, Led, Freed, InRole, Live, Leads, tag, NoClash, IsKernel, AtHome, Rule}
 use Rattle.nv_room.specs.Steps.{as_leaving, gave_up, span_begun, as_lead, took}
 use Rattle.nv_room.proofs.Lists.{at_below, at_end}
 use Rattle.nv_room.proofs.Placement.{place_after, header_inside}
@@ -43,8 +43,8 @@ module _ (n c : ℕ) (m : Moment) (new : ℕ) (pl : Places n c m) where
   pub same_cursor : (s : ℕ) → cursor (set m.words 0 new) s ≡ cursor m.words s
   same_cursor s = get_or-set_other m.words 0 (cursor_index s) new 0 (λ e. omega arith)
 
-  pub same_place : (log : Log) (i j : ℕ) → get_or (set m.words 0 new) (place_of n c log i j) 0 ≡ get_or m.words (place_of n c log i j) 0
-  same_place log i j = get_or-set_other m.words 0 (place_of n c log i j) new 0 (place_after n c log i j 0 (omega arith))
+  pub same_place : (log : Log) (i j : ℕ) → get_or (set m.words 0 new) (word_place n c log i j) 0 ≡ get_or m.words (word_place n c log i j) 0
+  same_place log i j = get_or-set_other m.words 0 (word_place n c log i j) new 0 (place_after n c log i j 0 (omega arith))
 
   pub places_owned : (ph : Phase) (h : ℕ) (spans : List Span) (seating : List ℕ) (ready : ℕ) → new ≡ owner_word ph h (length seating) (length m.log) → h < length seating → ((s : ℕ) → s < h → GONE ≤ cursor m.words s) → (ph ≡ held → cursor m.words h ≤ length m.log)
       → ((s : ℕ) → s ≢ h → s < length seating → ((s ≢ m.holder) × (s < length m.seating)) ⊎ (length m.log ≤ cursor m.words s)) → Places n c (as_of (set m.words 0 new) m.log ph h spans seating ready)
@@ -76,7 +76,7 @@ module _ (n c : ℕ) (m : Moment) (new : ℕ) (pl : Places n c m) where
     planned = d.planned;
   }
 
-module _ {K : Type 0} (hist : K → List Entry) (beg : K → Start) (p : Plan K) where
+module _ {K : Type 0} (hist : K → List Entry) (beg : K → Start) (p : Layout K) where
   abbrev St : Type 0
   St = State (Option K) (View K)
 
@@ -112,7 +112,7 @@ module _ {K : Type 0} (hist : K → List Entry) (beg : K → Start) (p : Plan K)
       let doors : Doors n p.versions (planned hist beg p) m' = doors_owned n c m new pl ph r.holder r.spans p.versions (planned hist beg p) (inl ir.none_ready) r.doors in
       let turns : Turns p.versions (planned hist beg p) ph (length r.log) r.spans r.seating = record { who_is = r.turns.who_is; opened = r.turns.opened; unhanded = λ e. absurd (over e); left_over = λ e. absurd (over e) } in
       let w : View K = as_leaving v new in
-      let tags : Apart (map tag (set s.views id w)) = subst Apart (sym (map-set tag s.views id w)) (apart_role hist beg p s r id v Leaving at (subst Live (sym role) tt)) in (
+      let tags : NoClash (map tag (set s.views id w)) = subst NoClash (sym (map-set tag s.views id w)) (apart_role hist beg p s r id v Leaving at (subst Live (sym role) tt)) in (
         w,
         gives,
         tt,
@@ -205,10 +205,10 @@ module _ {K : Type 0} (hist : K → List Entry) (beg : K → Start) (p : Plan K)
         longer = λ i x e. e;
         more = le_refl len;
         begun = λ i y e. ⊎_elim (λ (q : get_elem? r.spans i ≡ some y). inl (i, y, q, refl, refl)) (λ (q : (i ≡ length r.spans) × (new_span ≡ y)). inr (let f = ap (λ (z : Span). z.from) q.1 in omega arith)) (at_end r.spans new_span y i e);
-        gone_spans = λ x z l g. version_more_other x r.spans new_span (λ e. let at_mine : z ≡ st = one_last r.seating v.version z st (subst (λ (y : ℕ). IsLast r.seating y z) (sym e) l) se.last in let same : cursor s.words z ≡ cursor s.words st = ap (cursor s.words) at_mine in omega arith);
+        gone_spans = λ x z l g. version_more_other x r.spans new_span (λ e. let at_mine : z ≡ st = one_last r.seating v.version z st (subst (λ (y : ℕ). IsLastStation r.seating y z) (sym e) l) se.last in let same : cursor s.words z ≡ cursor s.words st = ap (cursor s.words) at_mine in omega arith);
       } in
       let w : View K = as_lead v in
-      let tags : Apart (map tag (set s.views id w)) = subst Apart (sym (map-set tag s.views id w)) (apart_role hist beg p s r id v Lead at (subst Live (sym role) tt)) in
+      let tags : NoClash (map tag (set s.views id w)) = subst NoClash (sym (map-set tag s.views id w)) (apart_role hist beg p s r id v Lead at (subst Live (sym role) tt)) in
       let spelt : map spell (hist k) ≡ r.log = ap (map spell) home.2 ∙ r.log_is_spelt in (
         w,
         takes 0 (Some k),

@@ -11,15 +11,15 @@ use Rattle.atomic_table.proofs.Lists.{at_map}
 use Rattle.nv_calls.specs.Calls.{Entry}
 use Rattle.nv_calls.specs.Logs.{Start}
 use Rattle.nv_calls.proofs.LogLaws.{lawful_range}
-use Rattle.nv_words.specs.Spell.{IsWhole, spell}
+use Rattle.nv_words.specs.Spelling.{IsWhole, spell}
 use Rattle.nv_words.specs.Begins.{Prefix}
 use Rattle.nv_words.proofs.SpellLaws.{prefix_length, prefix_same, whole_same, shorter}
 use Rattle.nv_room.specs.declared.view.View.{View}
-use Rattle.nv_room.specs.declared.view.Plan.{Plan}
+use Rattle.nv_room.specs.declared.view.Layout.{Layout}
 use Rattle.nv_room.specs.declared.view.Role.TheVariants.{Reader, Lead}
 use Rattle.nv_places.specs.Header.{head_index, cursor_index}
 use Rattle.nv_places.specs.Logs.{lane}
-use Rattle.nv_room.specs.Placement.{Log, place_of}
+use Rattle.nv_room.specs.Placement.{Log, word_place}
 use Rattle.nv_room.specs.Owner.{GONE, Phase, held, free, closed, is_held, is_free, is_closed, owner_at, opened_at, lower_marked, is_noted, note_of}
 use Rattle.nv_room.proofs.OwnerLaws.{and_both, marked}
 use Rattle.nv_room.specs.Spans.{Opened}
@@ -32,7 +32,7 @@ use Rattle.nv_room.proofs.Merges.{merge_turned}
 use Rattle.nv_room.proofs.Stays.{last_near, now, looked}
 use Rattle.nv_room.proofs.Seats.{prefix_more, holder_led, not_holder, not_held, in_role, seated, open_near, role_near, told}
 
-module _ {K : Type 0} (hist : K → List Entry) (beg : K → Start) (p : Plan K) where
+module _ {K : Type 0} (hist : K → List Entry) (beg : K → Start) (p : Layout K) where
   abbrev St : Type 0
   St = State (Option K) (View K)
 
@@ -173,7 +173,7 @@ module _ {K : Type 0} (hist : K → List Entry) (beg : K → Start) (p : Plan K)
 
   -- Reading a word of a place
 
-  pub reads_word : (slots id k l : ℕ) (me : M) → me.0.role ≡ Reader → ¬ IsWhole me.0.read → me.0.noted ≡ Some l → ((log : Log) → Prefix me.0.seen log → l ≡ lane log (length me.0.seen) → k ≡ place_of p.stations p.places log (length me.0.seen) (length me.0.read))
+  pub reads_word : (slots id k l : ℕ) (me : M) → me.0.role ≡ Reader → ¬ IsWhole me.0.read → me.0.noted ≡ Some l → ((log : Log) → Prefix me.0.seen log → l ≡ lane log (length me.0.seen) → k ≡ word_place p.stations p.places log (length me.0.seen) (length me.0.read))
       → Allows RuleOf slots id me k (λ x. x) (read_word (step slots k 0 0 none) me)
   reads_word slots id k l me role part before is s r wide at _ = let v = me.0 in let n : ℕ = p.stations in let c : ℕ = p.places in let kn = r.each_seat id v at in let m : ℕ = length v.seen in
       let nt = (r.merge.notes id v at role).noted_is_next l before in let got = there r.log m nt.0 in let e : List ℕ = got.0 in let ir = in_role hist beg p s r id v at Reader role in let se = seated hist beg p s r id v at Reader role tt in

@@ -6,21 +6,21 @@ use mathlib.Core.Option.{some, some-ne-none}
 use lib.ListN.{get_elem?}
 use Rattle.std.specs.Prelude.{Option, None}
 use Rattle.atomic_table.proofs.Lists.{at_set}
-use Rattle.nv_words.specs.Spell.{low}
+use Rattle.nv_words.specs.Spelling.{low}
 use Rattle.nv_places.specs.Logs.{lane, earlier}
 use Rattle.nv_places.proofs.LogLaws.{lane_stays}
 use Rattle.nv_places.specs.Stamps.{Stamp, Stamps}
 use Rattle.nv_places.proofs.StampLaws.{stamps_more, stamps_second}
 use Rattle.nv_room.specs.declared.view.View.{View}
 use Rattle.nv_room.specs.declared.view.Role.TheVariants.{Reader, Lead}
-use Rattle.nv_room.specs.Placement.{Log, header, slot, place_of}
+use Rattle.nv_room.specs.Placement.{Log, header, slot, word_place}
 use Rattle.nv_room.specs.Owner.{Phase, held}
-use Rattle.nv_room.specs.Room.{Live, Leads, Notes, Merge, second}
+use Rattle.nv_room.specs.Room.{Live, Leads, Notes, Merge, stamp_word}
 use Rattle.nv_room.proofs.Lists.{at_end}
 use Rattle.nv_room.proofs.Placement.{slot_after, slots_apart, place_early, second_apart}
 
 -- a word before the places
-pub second_kept : (n c k x : ℕ) (ws : List ℕ) → k < header n → (l j : ℕ) → second n c (set ws k x) l j ≡ second n c ws l j
+pub second_kept : (n c k x : ℕ) (ws : List ℕ) → k < header n → (l j : ℕ) → stamp_word n c (set ws k x) l j ≡ stamp_word n c ws l j
 second_kept n c k x ws h l j = get_or-set_other ws k (slot n c l j 1) x 0 (slot_after n c l j 1 k h)
 
 pub stamps_same : (c : ℕ) (f g : ℕ → ℕ → ℕ) (log : Log) (w : List ℕ) → ((l k : ℕ) → g l k ≡ f l k) → Stamps c f log w → Stamps c g log w
@@ -38,11 +38,11 @@ notes_stay log more seen noted missed read k = let n = length-append log more in
 
 module _ {T : Type 0} (n c : ℕ) (views : List (View T)) (id : ℕ) (v w : View T) (at : get_elem? views id ≡ some v) where
   -- the view of the seat id changes, and no word of a place
-  pub merge_turned : (ws ws' : List ℕ) (log : Log) (phase : Phase) (m : Merge n c ws log phase views) → ((l k : ℕ) → second n c ws' l k ≡ second n c ws l k)
+  pub merge_turned : (ws ws' : List ℕ) (log : Log) (phase : Phase) (m : Merge n c ws log phase views) → ((l k : ℕ) → stamp_word n c ws' l k ≡ stamp_word n c ws l k)
       → (Leads w.role → w.wrote ≡ m.writing) → (w.role ≡ Reader → Notes log w.seen w.noted w.missed w.read) → (Live w.role → length w.floors ≡ n) → Merge n c ws' log phase (set views id w)
   merge_turned ws ws' log phase m same leads reads wide = record {
     writing = m.writing;
-    stamps = stamps_same c (second n c ws) (second n c ws') log m.writing same m.stamps;
+    stamps = stamps_same c (stamp_word n c ws) (stamp_word n c ws') log m.writing same m.stamps;
     lead_writes = λ j u e role. ⊎_elim
         (λ (y : (j ≡ id) × (w ≡ u)). ap (λ (z : View T). z.wrote) (sym y.1) ∙ leads (subst (λ (z : View T). Leads z.role) (sym y.1) role))
         (λ (y : (j ≢ id) × (get_elem? views j ≡ some u)). m.lead_writes j u y.1 role)
@@ -60,7 +60,7 @@ module _ {T : Type 0} (n c : ℕ) (views : List (View T)) (id : ℕ) (v w : View
 
   -- the lead writes: `w` is its new view, and no other seat leads
   pub merge_written : (ws ws' : List ℕ) (log log' : Log) (phase : Phase) (m : Merge n c ws log phase views) (writing : List ℕ) → w.role ≡ Lead → w.wrote ≡ writing → phase ≡ held → length w.floors ≡ n
-      → ((j : ℕ) (u : View T) → j ≢ id → get_elem? views j ≡ some u → ¬ Leads u.role) → Stamps c (second n c ws') log' writing
+      → ((j : ℕ) (u : View T) → j ≢ id → get_elem? views j ≡ some u → ¬ Leads u.role) → Stamps c (stamp_word n c ws') log' writing
       → ((seen : Log) (noted : Option ℕ) (missed read : List ℕ) → Notes log seen noted missed read → Notes log' seen noted missed read) → Merge n c ws' log' phase (set views id w)
   merge_written ws ws' log log' phase m writing role is leads wide alone stamps on = record {
     writing = writing;
@@ -82,7 +82,7 @@ module _ {T : Type 0} (n c : ℕ) (views : List (View T)) (id : ℕ) (v w : View
 
 -- the lead comes or goes while nothing stands at head
 pub merge_phase : {T : Type 0} (n c : ℕ) (ws : List ℕ) (log : Log) (phase phase' : Phase) (views : List (View T)) (m : Merge n c ws log phase views) → m.writing ≡ [] → Merge n c ws log phase' views
-merge_phase n c ws log phase phase' views m e = record { writing = []; stamps = subst (Stamps c (second n c ws) log) e m.stamps; lead_writes = λ j v at role. m.lead_writes j v at role ∙ e; not_held = λ _. refl; notes = m.notes; floors_wide = m.floors_wide }
+merge_phase n c ws log phase phase' views m e = record { writing = []; stamps = subst (Stamps c (stamp_word n c ws) log) e m.stamps; lead_writes = λ j v at role. m.lead_writes j v at role ∙ e; not_held = λ _. refl; notes = m.notes; floors_wide = m.floors_wide }
 
 pub merged_quiet : {T : Type 0} (n c : ℕ) (ws : List ℕ) (log : Log) (phase phase' : Phase) (views : List (View T)) (m : Merge n c ws log phase views) (e : m.writing ≡ []) → (merge_phase n c ws log phase phase' views m e).writing ≡ []
 unfolding merge_phase
@@ -100,8 +100,8 @@ merge_cut {T} n c ws log phase views w m role notes wide = record {
 }
 
 -- the stamps after one more word of the event at head
-pub stamps_written : (n c : ℕ) (ws : List ℕ) (log : Log) (w : List ℕ) (k x : ℕ) → 0 < c → k < length ws → k ≡ place_of n c (log ++ (w ++ x ∷ []) ∷ []) (length log) (length w) → (length w ≡ 1 → low x ≡ length log)
-    → Stamps c (second n c ws) log w → Stamps c (second n c (set ws k x)) log (w ++ x ∷ [])
+pub stamps_written : (n c : ℕ) (ws : List ℕ) (log : Log) (w : List ℕ) (k x : ℕ) → 0 < c → k < length ws → k ≡ word_place n c (log ++ (w ++ x ∷ []) ∷ []) (length log) (length w) → (length w ≡ 1 → low x ≡ length log)
+    → Stamps c (stamp_word n c ws) log w → Stamps c (stamp_word n c (set ws k x)) log (w ++ x ∷ [])
 stamps_written n c ws log w k x pos here is number s =
     let log' : Log = log ++ (w ++ x ∷ []) ∷ [] in
     let h : ℕ = length log in
@@ -110,11 +110,11 @@ stamps_written n c ws log w k x pos here is number s =
     let inside : p < c = mod-lt (earlier log' h) pos in
     let early : length w < 6 → k ≡ slot n c top p (length w) = λ l. is ∙ place_early n c log' h (length w) l in
     dite (ℕ_discrete (length w) 1)
-    (λ one. stamps_second c (second n c ws) (second n c (set ws k x)) log w x one s (λ l j a b. dite (ℕ_discrete (slot n c l j 1) k)
+    (λ one. stamps_second c (stamp_word n c ws) (stamp_word n c (set ws k x)) log w x one s (λ l j a b. dite (ℕ_discrete (slot n c l j 1) k)
     (λ e. let q = slots_apart n c l j 1 top p (length w) b inside (omega arith) (omega arith) (e ∙ early (omega arith)) in inr (q.0, ap low (ap (λ (z : ℕ). get_or (set ws k x) z 0) e ∙ get_or-set_same ws k x 0 here) ∙ number one))
     (λ ne. inl (get_or-set_other ws k (slot n c l j 1) x 0 ne))))
     (λ other. λ l j a b. subst (λ (z : ℕ). Stamp log (w ++ x ∷ []) l (low z))
     (sym (get_or-set_other ws k (slot n c l j 1) x 0 (λ e. dite (dec_le 6 (length w))
     (λ six. second_apart n c l j log' h (length w) a b six (e ∙ is))
     (λ few. let lt = lt_of_not-le few in let q = slots_apart n c l j 1 top p (length w) b inside (omega arith) lt (e ∙ early lt) in other (sym q.2)))))
-    (stamps_more c (second n c ws) log w x s l j a b))
+    (stamps_more c (stamp_word n c ws) log w x s l j a b))

@@ -24,7 +24,3 @@ pub marks_all : (st : ℕ) (fs : List ℕ) → st ≤ length fs → ((s : ℕ) �
 marks_all zero fs long h = refl
 marks_all (suc st) [] long h = absurd (omega arith)
 marks_all (suc st) (f ∷ fs) long h = and_join (f == GONE) (lower_marked st fs) (eq-eqb f GONE (h zero (omega arith))) (marks_all st fs (omega arith) (λ s l. h (suc s) (omega arith)))
-
--- where no mark is taken back, all stations below stay marked
-pub lower_stays : (st : ℕ) (fs gs : List ℕ) → st ≤ length gs → ((s : ℕ) → get_or fs s 0 ≡ GONE → get_or gs s 0 ≡ GONE) → lower_marked st fs ≡ true → lower_marked st gs ≡ true
-lower_stays st fs gs long h e = marks_all st gs long (λ s l. h s (marked st fs e s l))

@@ -1,7 +1,7 @@
 -- What the owner word's parts are.
 use Rattle.std.proofs.Common.{◌≡◌, ℕ, ◌/◌, ◌%◌, ◌<◌, ◌≤◌, ◌⊎◌, Bool, true, false, eq-eqb, ne_eqb, List, refl, inl, inr, Some, arith}
 use Rattle.std.specs.Prelude.{Option, if◌then◌else◌}
-use Rattle.nv_room.specs.Owner.{Phase, held, free, closed, owner_word, owner_at, opened_at, is_held, is_free, is_closed, is_noted, note_of, noted}
+use Rattle.nv_room.specs.Owner.{Phase, held, free, closed, owner_word, owner_at, opened_at, is_held, is_free, is_closed, is_noted, note_of, note_after}
 
 pub data Found (n r : ℕ) : Phase → Type 0 where
   as_held : is_held r ≡ true → is_free r ≡ false → is_closed r ≡ false → (owner_at r ≡ 0) × (r < 2048) → Found n r held
@@ -24,5 +24,5 @@ noted_by true a k freed e = inl (refl, cc)
 noted_by false a k freed e = inr e
 
 -- the note is new, or was there
-pub noted_is : (freed : Option ℕ) (st : ℕ) (floors : List ℕ) (r k : ℕ) → noted freed st floors r ≡ Some k → ((is_noted st floors r ≡ true) × (note_of r ≡ k)) ⊎ (freed ≡ Some k)
+pub noted_is : (freed : Option ℕ) (st : ℕ) (floors : List ℕ) (r k : ℕ) → note_after freed st floors r ≡ Some k → ((is_noted st floors r ≡ true) × (note_of r ≡ k)) ⊎ (freed ≡ Some k)
 noted_is freed st floors r k e = noted_by (is_noted st floors r) (note_of r) k freed e

@@ -12,17 +12,17 @@ use Rattle.atomic_table.proofs.Lists.{at_map}
 use Rattle.nv_calls.specs.Calls.{Entry}
 use Rattle.nv_calls.specs.Logs.{Start, IsLawful}
 use Rattle.nv_calls.proofs.LogLaws.{lawful_range, slice_some}
-use Rattle.nv_words.specs.Spell.{low, spell}
+use Rattle.nv_words.specs.Spelling.{low, spell}
 use Rattle.nv_places.specs.Logs.{entries, lanes_after, lane}
 use Rattle.nv_places.proofs.LogLaws.{lane_below_8, entries_spelt}
-use Rattle.nv_places.specs.Stamps.{IsStamped, found, Lives}
+use Rattle.nv_places.specs.Stamps.{IsStamped, found_in_lane, Lives}
 use Rattle.nv_places.proofs.StampLaws.{number_word}
 use Rattle.nv_places.proofs.MergeLaws.{probe_hits, probe_misses, next_found, next_lives}
 use Rattle.nv_room.specs.declared.view.View.{View}
-use Rattle.nv_room.specs.declared.view.Plan.{Plan}
+use Rattle.nv_room.specs.declared.view.Layout.{Layout}
 use Rattle.nv_room.specs.declared.view.Role.TheVariants.{Reader}
 use Rattle.nv_room.specs.Placement.{Log, next_slot}
-use Rattle.nv_room.specs.Room.{cursor, Moment, Live, Leads, tag, Tag, Knows, Notes, Merge, second, Rule}
+use Rattle.nv_room.specs.Room.{cursor, Moment, Live, Leads, tag, Tag, Knows, Notes, Merge, stamp_word, Rule}
 use Rattle.nv_room.specs.Steps.{probed_at, probed}
 use Rattle.nv_room.proofs.Lists.{at_end, there, prefix_take}
 use Rattle.nv_room.proofs.Placement.{place_early, slots_apart}
@@ -41,7 +41,7 @@ module _ {T : Type 0} (l : ℕ) (v : View T) where
   abbrev miss : View T
   miss = record v { missed = v.missed ++ l ∷ [] }
 
-  knows_probed : (p : Plan T) (m : Moment) (x : ℕ) → Knows p m v → Knows p m (probed_at l v x)
+  knows_probed : (p : Layout T) (m : Moment) (x : ℕ) → Knows p m v → Knows p m (probed_at l v x)
   knows_probed p m x k = elim (low x == length v.seen) as (λ (b : Bool). Knows p m (cond b hit miss)) [
     | true ↦ record { seen_is_prefix = k.seen_is_prefix; read_begins_next = k.read_begins_next; floor_at_most_cursor = k.floor_at_most_cursor; head_seen_at_most_head = k.head_seen_at_most_head; owner_seen_at_most_head = k.owner_seen_at_most_head; opened_at_most_open = k.opened_at_most_open; in_role = k.in_role; seated = λ l. let q = k.seated l in record { start_is = q.start_is; places_are = q.places_are; opened_least = q.opened_least; last = q.last; spans_are = q.spans_are; unmade_is_new = q.unmade_is_new; others_are_gone = q.others_are_gone }; ended_is_past = k.ended_is_past }
     | false ↦ record { seen_is_prefix = k.seen_is_prefix; read_begins_next = k.read_begins_next; floor_at_most_cursor = k.floor_at_most_cursor; head_seen_at_most_head = k.head_seen_at_most_head; owner_seen_at_most_head = k.owner_seen_at_most_head; opened_at_most_open = k.opened_at_most_open; in_role = k.in_role; seated = λ l. let q = k.seated l in record { start_is = q.start_is; places_are = q.places_are; opened_least = q.opened_least; last = q.last; spans_are = q.spans_are; unmade_is_new = q.unmade_is_new; others_are_gone = q.others_are_gone }; ended_is_past = k.ended_is_past }
@@ -60,7 +60,7 @@ noted_hit log seen noted missed read l k more is = record { noted_is_next = λ j
 noted_miss : (log seen : Log) (noted : Option ℕ) (missed read : List ℕ) (l : ℕ) → Notes log seen noted missed read → length seen < length log → l ≢ lane log (length seen) → Notes log seen noted (missed ++ l ∷ []) read
 noted_miss log seen noted missed read l k more is = record { noted_is_next = k.noted_is_next; missed_is_not = λ j h. ⊎_elim (λ (q : get_elem? missed h.0 ≡ some j). k.missed_is_not j (h.0, q)) (λ (q : (h.0 ≡ length missed) × (l ≡ j)). (more, λ e. is (q.1 ∙ e))) (at_end missed l j h.0 h.1); unnoted_is_unread = k.unnoted_is_unread }
 
-module _ {K : Type 0} (hist : K → List Entry) (beg : K → Start) (p : Plan K) where
+module _ {K : Type 0} (hist : K → List Entry) (beg : K → Start) (p : Layout K) where
   abbrev St : Type 0
   St = State (Option K) (View K)
 
@@ -74,7 +74,7 @@ module _ {K : Type 0} (hist : K → List Entry) (beg : K → Start) (p : Plan K)
   lawful_entries s r = subst IsLawful (sym (ap entries (sym r.log_is_spelt) ∙ entries_spelt r.events (λ i e f. lawful_range r.events i e r.log_is_lawful f))) r.log_is_lawful
 
   -- the number of an event that a reader has still to see stands in its place
-  stamped : (s : St) (r : RuleOf s) (id : ℕ) (v : View K) → get_elem? s.views id ≡ some v → v.role ≡ Reader → length v.seen < length r.log → IsStamped p.places (second p.stations p.places s.words) r.log (length v.seen)
+  stamped : (s : St) (r : RuleOf s) (id : ℕ) (v : View K) → get_elem? s.views id ≡ some v → v.role ≡ Reader → length v.seen < length r.log → IsStamped p.places (stamp_word p.stations p.places s.words) r.log (length v.seen)
   stamped s r id v at role more = let n : ℕ = p.stations in let c : ℕ = p.places in let i : ℕ = length v.seen in let ir = in_role hist beg p s r id v at Reader role in let se = seated hist beg p s r id v at Reader role tt in
       let e = there r.log i more in
       let y = there r.events i (let q = ap length r.log_is_spelt in omega (arith, length-map r.events spell)) in
@@ -92,8 +92,8 @@ module _ {K : Type 0} (hist : K → List Entry) (beg : K → Start) (p : Plan K)
       let se = seated hist beg p s r id v at Reader role tt in let nt = mg.notes id v at role in let x : ℕ = get_or s.words k 0 in let pos : 0 < c = r.places.some_place in
       let more : i < length r.log = (let q = kn.head_seen_at_most_head in omega arith) in
       let prefix : take i r.log ≡ v.seen = prefix_take v.seen r.log kn.seen_is_prefix in
-      let sec : ℕ → ℕ → ℕ = second n c s.words in
-      let shown : found c sec v.seen l ≡ low x = ap (λ (z : ℕ). low (get_or s.words z 0)) (sym is) in
+      let sec : ℕ → ℕ → ℕ = stamp_word n c s.words in
+      let shown : found_in_lane c sec v.seen l ≡ low x = ap (λ (z : ℕ). low (get_or s.words z 0)) (sym is) in
       let stands = stamped s r id v at role more in
       let floors : length v.floors ≡ n = mg.floors_wide id v at (subst Live (sym role) tt) in
       let w : View K = probed_at l v x in
@@ -116,7 +116,7 @@ module _ {K : Type 0} (hist : K → List Entry) (beg : K → Start) (p : Plan K)
                 next_lives r.log v.seen (lawful_entries s r) prefix more,
                 λ h. ⊎_elim
                     (λ (q : get_elem? v.missed h.0 ≡ some (lane r.log i)). (nt.missed_is_not (lane r.log i) (h.0, q)).1 refl)
-                    (λ (q : (h.0 ≡ length v.missed) × (j ≡ lane r.log i)). ne (sym shown ∙ ap (found c sec v.seen) (same ∙ q.1) ∙ next_found c sec r.log v.seen prefix stands))
+                    (λ (q : (h.0 ≡ length v.missed) × (j ≡ lane r.log i)). ne (sym shown ∙ ap (found_in_lane c sec v.seen) (same ∙ q.1) ∙ next_found c sec r.log v.seen prefix stands))
                     (at_end v.missed j (lane r.log i) h.0 h.1),
               ),
             ),

@@ -12,18 +12,18 @@ use Rattle.atomic_table.proofs.Lists.{at_set, at_map}
 use Rattle.nv_calls.specs.Calls.{Entry}
 use Rattle.nv_calls.specs.Logs.{Start}
 use Rattle.nv_calls.proofs.LogLaws.{lawful_take}
-use Rattle.nv_words.specs.Spell.{spell}
+use Rattle.nv_words.specs.Spelling.{spell}
 use Rattle.nv_words.specs.Begins.{Prefix}
 use Rattle.nv_room.specs.declared.view.View.{View}
-use Rattle.nv_room.specs.declared.view.Plan.{Plan}
+use Rattle.nv_room.specs.declared.view.Layout.{Layout}
 use Rattle.nv_room.specs.declared.view.Span.{Span}
 use Rattle.nv_room.specs.declared.view.Role.{Role}
 use Rattle.nv_room.specs.declared.view.Role.TheVariants.{Reader, Lead, Opening, Leaving, Moving, Gone, Spent}
 use Rattle.nv_room.specs.Placement.{Log}
 use Rattle.nv_room.specs.Owner.{held, free}
-use Rattle.nv_room.specs.Spans.{Rising, of_station, IsLast}
-use Rattle.nv_room.specs.Room.{cursor, Moment, Doors, Led, InRole, Live, Leads, Unmade, IsSeated, Tag, tag, Clash, Apart, Rule}
-use Rattle.nv_room.specs.Steps.{Tells}
+use Rattle.nv_room.specs.Spans.{Rising, of_station, IsLastStation}
+use Rattle.nv_room.specs.Room.{cursor, Moment, Doors, Led, InRole, Live, Leads, Unmade, IsSeated, Tag, tag, Clash, NoClash, Rule}
+use Rattle.nv_room.specs.Steps.{SpellLawful}
 use Rattle.nv_room.proofs.Lists.{at_end, prefix_take}
 use Rattle.nv_room.proofs.Tiling.{last_of, tiles_none, below_last, of_more_own}
 use Rattle.nv_room.proofs.Counts.{below_most}
@@ -74,7 +74,7 @@ pub one_who : (seating : List ℕ) (s t v w : ℕ) → get_elem? seating s ≡ s
 one_who seating s t v w a b e = some-injective v w (sym a ∙ ap (get_elem? seating) e ∙ b)
 
 -- two last stations of one version are the same
-pub one_last : (seating : List ℕ) (v s t : ℕ) → IsLast seating v s → IsLast seating v t → s ≡ t
+pub one_last : (seating : List ℕ) (v s t : ℕ) → IsLastStation seating v s → IsLastStation seating v t → s ≡ t
 one_last seating v s t a b = dite (ℕ_discrete s t) (λ e. e) (λ ne. dite (dec_le s t) (λ le. absurd (a.none_later t (omega arith) b.has)) (λ gt. absurd (b.none_later s (lt_of_not-le gt) a.has)))
 
 -- a seat that is still to be made is of another station
@@ -101,8 +101,8 @@ leads_at n c m u Gone l k = absurd l
 leads_at n c m u Spent l k = absurd l
 
 -- a seat is set again with a tag that clashes with no more
-module _ (ts : List Tag) (id : ℕ) (a b : Tag) (at : get_elem? ts id ≡ some a) (less : (y : Tag) → Clash b y → Clash a y) (more : (y : Tag) → Clash y b → Clash y a) (old : Apart ts) where
-  pub apart_again : Apart (set ts id b)
+module _ (ts : List Tag) (id : ℕ) (a b : Tag) (at : get_elem? ts id ≡ some a) (less : (y : Tag) → Clash b y → Clash a y) (more : (y : Tag) → Clash y b → Clash y a) (old : NoClash ts) where
+  pub apart_again : NoClash (set ts id b)
   apart_again j h x y e f c = ⊎_elim
       (λ (p : (j ≡ id) × (Path Tag b x)). ⊎_elim (λ (q : (h ≡ id) × (Path Tag b y)). p.0 ∙ sym q.0)
       (λ (q : (h ≢ id) × (get_elem? ts h ≡ some y)). p.0 ∙ old id h a y at q.1 (less y (subst (λ (z : Tag). Clash z y) (λ i. sym p.1 i) c))) (at_set ts id h b y f))
@@ -110,7 +110,7 @@ module _ (ts : List Tag) (id : ℕ) (a b : Tag) (at : get_elem? ts id ≡ some a
       (λ (q : (h ≢ id) × (get_elem? ts h ≡ some y)). old j h x y p.1 q.1 c) (at_set ts id h b y f))
       (at_set ts id j b x e)
 
-module _ {K : Type 0} (hist : K → List Entry) (beg : K → Start) (p : Plan K) where
+module _ {K : Type 0} (hist : K → List Entry) (beg : K → Start) (p : Layout K) where
   abbrev St : Type 0
   St = State (Option K) (View K)
 
@@ -118,7 +118,7 @@ module _ {K : Type 0} (hist : K → List Entry) (beg : K → Start) (p : Plan K)
   RuleOf = Rule hist beg p
 
   -- a live seat whose role alone changes, as far as others see it
-  pub apart_role : (s : St) (r : RuleOf s) (id : ℕ) (v : View K) (role : Role) → get_elem? s.views id ≡ some v → Live v.role → Apart (set (map tag s.views) id (role, (tag v).1, (tag v).2, (tag v).3))
+  pub apart_role : (s : St) (r : RuleOf s) (id : ℕ) (v : View K) (role : Role) → get_elem? s.views id ≡ some v → Live v.role → NoClash (set (map tag s.views) id (role, (tag v).1, (tag v).2, (tag v).3))
   apart_role s r id v role at l = apart_again (map tag s.views) id (tag v) (role, (tag v).1, (tag v).2, (tag v).3) (at_map tag s.views id v at) (λ y c. (l, c.1, c.2)) (λ y c. (c.0, l, c.2)) r.one_seat_a_version
 
   -- two seats that are not spent have two versions
@@ -164,5 +164,5 @@ module _ {K : Type 0} (hist : K → List Entry) (beg : K → Start) (p : Plan K)
   none_ready s r ne = ⊎_elim (λ (q : r.ready ≡ length r.seating). q) (λ (q : (r.ready ≡ length r.seating + 1) × (r.phase ≡ held) × (cursor s.words (length r.seating) ≡ length r.log)). absurd (ne q.1)) r.doors.ready_is
 
   -- the first events of the log are lawful
-  pub told : (s : St) (r : RuleOf s) (xs : Log) → Prefix xs r.log → Tells xs
+  pub told : (s : St) (r : RuleOf s) (xs : Log) → Prefix xs r.log → SpellLawful xs
   told s r xs pre = (take (length xs) r.events, sym (take-map spell (length xs) r.events) ∙ ap (take (length xs)) r.log_is_spelt ∙ prefix_take xs r.log pre, lawful_take r.events (length xs) r.log_is_lawful)

@@ -12,9 +12,9 @@ use Rattle.atomic_table.proofs.Lists.{at_map, at_last}
 use Rattle.nv_calls.specs.Calls.{Entry}
 use Rattle.nv_calls.specs.Logs.{IsLawful}
 use Rattle.nv_calls.proofs.LogLaws.{lawful_range, lawful_few, slice_some}
-use Rattle.nv_words.specs.Spell.{spell, IsWhole, low, pair, bit}
+use Rattle.nv_words.specs.Spelling.{spell, IsWhole, low, pair, flag_bit}
 use Rattle.nv_places.proofs.StampLaws.{number_word}
-use Rattle.nv_words.specs.Begins.{Begins}
+use Rattle.nv_words.specs.Begins.{BeginsEvent}
 use Rattle.nv_words.proofs.SpellLaws.{spell_whole, shorter}
 use Rattle.nv_room.specs.Caches.{HasNext, AreOf}
 use Rattle.nv_room.specs.Placement.{Log}
@@ -53,7 +53,7 @@ due_words_are h n law = dite (dec_le (length h) n)
     (λ gt. let y = there h n (lt_of_not-le gt) in let e : Entry = y.0 in let may = law n e (slice_some h n e y.1) in let w = number_word e may.range in
     subst (AreOf n) (sym (at_get (map spell h) n (spell e) [] (at_map spell h n e y.1))) record {
       few = (spell_whole e (lawful_range h n e law y.1)).1;
-      number_is = λ x at. ap low (same_Some x (pair e.stamp (bit e.call.bad)) (sym at ∙ slice_some (spell e) 1 (pair e.stamp (bit e.call.bad)) w.0)) ∙ w.1 ∙ may.stamp;
+      number_is = λ x at. ap low (same_Some x (pair e.stamp (flag_bit e.call.bad)) (sym at ∙ slice_some (spell e) 1 (pair e.stamp (flag_bit e.call.bad)) w.0)) ∙ w.1 ∙ may.stamp;
     })
 
 -- the word i is one of at most so many
@@ -65,7 +65,7 @@ pub one_more : (wrote ws : List ℕ) (n i x : ℕ) → wrote ≡ take n ws → n
 one_more wrote ws n i x is same at = (λ k. is k ++ sym (get_or_from_slice_get ws i x 0 at) k ∷ []) ∙ ap (λ (z : ℕ). take z ws ++ get_or ws i 0 ∷ []) same ∙ sym (take_more ws i 0 (slice_get_within ws i x at))
 
 -- words that begin an event and aren't whole leave a place for one more
-pub begun_next : (words : List ℕ) → Begins words → HasNext words
+pub begun_next : (words : List ℕ) → BeginsEvent words → HasNext words
 begun_next words b part = let s = spell_whole b.0 b.1 in let l = shorter words (spell b.0) b.2 s.0 part in let m = s.1 in omega arith
 
 -- with no event due, the history is the seen list

@@ -6,8 +6,8 @@ use mathlib.Core.Option.{some, some-injective, some-ne-none}
 use lib.ListN.{get_elem?}
 use Rattle.nv_room.specs.declared.view.Span.{Span}
 use Rattle.atomic_table.proofs.Lists.{at_longer, at_last}
-use Rattle.nv_words.specs.Spell.{bit}
-use Rattle.nv_room.specs.Spans.{span, Tiles, Rising, kept_if, spans_with, of_station, of_version, grown, handed_on, IsLast, Opened}
+use Rattle.nv_words.specs.Spelling.{flag_bit}
+use Rattle.nv_room.specs.Spans.{span, Tiles, Rising, kept_if, spans_with, of_station, of_version, spans_grown, handed_on, IsLastStation, Opened}
 use Rattle.nv_room.proofs.Lists.{at_end, at_below}
 
 pub tiles_more : (a n s v : ℕ) (xs : List Span) → Tiles a xs n → Tiles a (xs ++ span s v n n ∷ []) n
@@ -17,7 +17,7 @@ tiles_more a n s v (x ∷ xs) t = (t.0, t.1, tiles_more x.to n s v xs t.2)
 pub tiles_none : (a n : ℕ) (xs : List Span) → Tiles a xs n → xs ≡ [] → a ≡ n
 tiles_none a n xs t e = subst (λ (z : List Span). Tiles a z n) e t
 
-pub grown_end : (xs : List Span) (x : Span) → grown (xs ++ x ∷ []) ≡ xs ++ (record x { to = x.to + 1 }) ∷ []
+pub grown_end : (xs : List Span) (x : Span) → spans_grown (xs ++ x ∷ []) ≡ xs ++ (record x { to = x.to + 1 }) ∷ []
 grown_end [] x = refl
 grown_end (y ∷ []) x = refl
 grown_end (y ∷ z ∷ zs) x = ap (λ (q : List Span). y ∷ q) (grown_end (z ∷ zs) x)
@@ -117,41 +117,41 @@ rising_handed low (y ∷ ys) x k = (k.0, rising_handed (y.station + 1) ys x k.1)
 
 pub opened_most : (next : ℕ) (seating : List ℕ) (xs : List Span) → Opened next seating xs → next ≤ length seating
 opened_most next seating [] o = omega arith
-opened_most next seating (x ∷ xs) o = let h = opened_most (next + bit x.handed) seating xs o.1 in omega arith
+opened_most next seating (x ∷ xs) o = let h = opened_most (next + flag_bit x.handed) seating xs o.1 in omega arith
 
-unhanded_adds : (x : Span) → x.handed ≡ false → bit x.handed ≡ 0
-unhanded_adds x e = ap bit e
+unhanded_adds : (x : Span) → x.handed ≡ false → flag_bit x.handed ≡ 0
+unhanded_adds x e = ap flag_bit e
 
 pub opened_more : (next : ℕ) (seating : List ℕ) (xs : List Span) (x : Span) → x.handed ≡ false → Opened next seating xs → Opened next seating (xs ++ x ∷ [])
 opened_more next seating [] x e o = (λ t. absurd (let q : true ≡ false = sym t ∙ e in cc), (let z = unhanded_adds x e in let w : next ≡ length seating = o in omega arith))
-opened_more next seating (y ∷ ys) x e o = (o.0, opened_more (next + bit y.handed) seating ys x e o.1)
+opened_more next seating (y ∷ ys) x e o = (o.0, opened_more (next + flag_bit y.handed) seating ys x e o.1)
 
 pub opened_grown : (next : ℕ) (seating : List ℕ) (xs : List Span) (x : Span) → Opened next seating (xs ++ x ∷ []) → Opened next seating (xs ++ (record x { to = x.to + 1 }) ∷ [])
 opened_grown next seating [] x o = (o.0, o.1)
-opened_grown next seating (y ∷ ys) x o = (o.0, opened_grown (next + bit y.handed) seating ys x o.1)
+opened_grown next seating (y ∷ ys) x o = (o.0, opened_grown (next + flag_bit y.handed) seating ys x o.1)
 
 -- the last span opens one more station
-pub opened_handed : (next : ℕ) (seating : List ℕ) (xs : List Span) (x : Span) → x.handed ≡ false → IsLast seating x.version x.station → Opened next seating (xs ++ x ∷ []) → Opened next (seating ++ x.version ∷ []) (xs ++ (record x { handed = true }) ∷ [])
+pub opened_handed : (next : ℕ) (seating : List ℕ) (xs : List Span) (x : Span) → x.handed ≡ false → IsLastStation seating x.version x.station → Opened next seating (xs ++ x ∷ []) → Opened next (seating ++ x.version ∷ []) (xs ++ (record x { handed = true }) ∷ [])
 opened_handed next seating [] x e last o = let all : next ≡ length seating = (let z = unhanded_adds x e in let w = o.1 in omega arith) in (
-  λ _. (subst (λ (z : List ℕ). IsLast z x.version x.station) (sym (take-append-le next seating (x.version ∷ []) (omega arith) ∙ take_all next seating (omega arith))) last, at_last seating x.version next (sym all)),
+  λ _. (subst (λ (z : List ℕ). IsLastStation z x.version x.station) (sym (take-append-le next seating (x.version ∷ []) (omega arith) ∙ take_all next seating (omega arith))) last, at_last seating x.version next (sym all)),
   (let z = length-append seating (x.version ∷ []) in omega arith),
 )
-opened_handed next seating (y ∷ ys) x e last o = let most = opened_most (next + bit y.handed) seating (ys ++ x ∷ []) o.1 in (
-  λ t. let w = o.0 t in (subst (λ (z : List ℕ). IsLast z y.version y.station) (sym (take-append-le next seating (x.version ∷ []) (omega arith))) w.0, at_longer seating (x.version ∷ []) next y.version w.1),
-  opened_handed (next + bit y.handed) seating ys x e last o.1,
+opened_handed next seating (y ∷ ys) x e last o = let most = opened_most (next + flag_bit y.handed) seating (ys ++ x ∷ []) o.1 in (
+  λ t. let w = o.0 t in (subst (λ (z : List ℕ). IsLastStation z y.version y.station) (sym (take-append-le next seating (x.version ∷ []) (omega arith))) w.0, at_longer seating (x.version ∷ []) next y.version w.1),
+  opened_handed (next + flag_bit y.handed) seating ys x e last o.1,
 )
 
 -- The stations of a version
 
 -- one more station, of another version
-pub last_other : (seating : List ℕ) (v w s : ℕ) → w ≢ v → IsLast seating v s → IsLast (seating ++ w ∷ []) v s
+pub last_other : (seating : List ℕ) (v w s : ℕ) → w ≢ v → IsLastStation seating v s → IsLastStation (seating ++ w ∷ []) v s
 last_other seating v w s ne l = record {
   has = at_longer seating (w ∷ []) s v l.has;
   none_later = λ t lt e. ⊎_elim (λ (q : get_elem? seating t ≡ some v). l.none_later t lt q) (λ (q : (t ≡ length seating) × (w ≡ v)). ne q.1) (at_end seating w v t e);
 }
 
 -- the new station is its version's last
-pub last_new : (seating : List ℕ) (v : ℕ) → IsLast (seating ++ v ∷ []) v (length seating)
+pub last_new : (seating : List ℕ) (v : ℕ) → IsLastStation (seating ++ v ∷ []) v (length seating)
 last_new seating v = record {
   has = at_last seating v (length seating) refl;
   none_later = λ t lt e. let b = at_below (seating ++ v ∷ []) t v e in let n = length-append seating (v ∷ []) in absurd (omega arith);

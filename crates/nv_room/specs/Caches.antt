@@ -1,6 +1,6 @@
 -- What a seat caches beside its view.
 use Rattle.std.specs.Prelude.{◌≡◌, ℕ, ◌<◌, ◌≤◌, List, length, slice_index_or, slice_get, Some}
-use Rattle.nv_words.specs.Spell.{IsWhole, low}
+use Rattle.nv_words.specs.Spelling.{IsWhole, low}
 
 -- none is above the view's of the same place
 abbrev pub AtMost : List ℕ → List ℕ → Type 0

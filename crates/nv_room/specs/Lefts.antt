@@ -9,8 +9,8 @@ use Rattle.nv_room.specs.declared.view.Span.{Span}
 use Rattle.nv_room.specs.declared.room.Room.{Room}
 use Rattle.nv_room.specs.declared.room.Left.{Left}
 use Rattle.nv_room.specs.Placement.{Log}
-use Rattle.nv_room.specs.Spans.{Tiles, Rising, of_version, Before, IsLast, Opened}
-use Rattle.nv_room.specs.Room.{Reads}
+use Rattle.nv_room.specs.Spans.{Tiles, Rising, of_version, Before, IsLastStation, Opened}
+use Rattle.nv_room.specs.Room.{AreOfNext}
 use Rattle.nv_room.specs.Steps.{past_of}
 use Rattle.nv_room.specs.Seats.{left_view}
 
@@ -36,9 +36,9 @@ module _ {K : Type 0} {G : Ghosts K} where
   pub record TellsOf (history : Log) (counts : List ℕ) (spans : List Span) (seating : List ℕ) (r : Left K G) : Type 0 where
     pub count : get_elem? counts r.version ≡ some (length (left_view r).seen)
     pub seen : (left_view r).seen ≡ take (length (left_view r).seen) history
-    pub read : Reads history (left_view r).seen (left_view r).read
+    pub read : AreOfNext history (left_view r).seen (left_view r).read
     pub led : (left_view r).spans ≡ of_version r.version spans
-    pub last : IsLast seating r.version r.station
+    pub last : IsLastStation seating r.version r.station
     pub before : Before spans r.station (left_view r).seen (left_view r).read
 
   -- The spans, each of an open station and its version, tile the history in order of station. The first stations are those of the versions;

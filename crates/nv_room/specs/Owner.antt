@@ -48,5 +48,5 @@ abbrev pub note_of : ℕ → ℕ
 note_of r = owner_at r
 
 -- the note of a free owner after a look at its word
-abbrev pub noted : Option ℕ → ℕ → List ℕ → ℕ → Option ℕ
-noted freed station floors r = if is_noted station floors r then Some (note_of r) else freed
+abbrev pub note_after : Option ℕ → ℕ → List ℕ → ℕ → Option ℕ
+note_after freed station floors r = if is_noted station floors r then Some (note_of r) else freed

@@ -2,4 +2,4 @@
 -- and when an event may be written. What changes when the places change is this file and the laws of proofs/Placement.
 pub use Rattle.nv_places.specs.Header.{header}
 pub use Rattle.nv_places.specs.Logs.{Log}
-pub use Rattle.nv_places.specs.Placement.{pool_chunks, table_words, chunks_before, chunks_from, slot, spot, place_of, next_slot, Fits, sizes}
+pub use Rattle.nv_places.specs.Placement.{pool_chunks, table_words, chunks_before, chunks_from, slot, spot, word_place, next_slot, Fits, sizes}

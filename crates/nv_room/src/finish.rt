@@ -1,7 +1,7 @@
 //! How a room ends: every version's seat comes back, and the kernel is taken out of its slot.
 ghost use Rattle.std.specs.Prelude.{◌≡◌, ℕ, ◌+◌, ◌<◌, ◌≤◌, [], length, map};
 ghost use Rattle.nv_calls.specs.Logs.{IsLegal, IsLawful};
-ghost use Rattle.nv_words.specs.Spell.{spell};
+ghost use Rattle.nv_words.specs.Spelling.{spell};
 ghost use Rattle.nv_room.specs.declared.view.Role.TheVariants.{Gone as IsGone};
 ghost use Rattle.nv_room.specs.Seats.{versions_of, origin, with_ended};
 ghost use Rattle.nv_room.specs.Lefts.{LeftsOf, IsEach, Counted, AllTell};
@@ -9,12 +9,12 @@ ghost use Rattle.nv_room.specs.Lefts.{LeftsOf, IsEach, Counted, AllTell};
 use crate::plays::TakeBack;
 use crate::room::{Left, Room};
 use crate::rule::RoomRule;
-use crate::view::{Plan, View};
+use crate::view::{Layout, View};
 use atomic_table::{Seat, Table};
 use nv_calls::SyscallKernel;
 use std::alloc::Global;
 
-type Board<K> = Table<Option<K>, View<K>, Plan<K>, RoomRule<K>, Global>;
+type Board<K> = Table<Option<K>, View<K>, Layout<K>, RoomRule<K>, Global>;
 
 /// What is left of a room: the kernel, and for each version how many events its seat saw.
 #[derive(Drop)]

@@ -1,7 +1,7 @@
 //! The steps with which a lead gives the kernel up, a reader takes it, and a station leaves.
 ghost use Rattle.std.specs.Prelude.{◌≡◌, ℕ, ◌<◌, ◌≤◌, ◌⊎◌, [], ◌∷◌, true, false, length, map, Some};
 ghost use Rattle.nv_calls.specs.Logs.{live_after};
-ghost use Rattle.nv_words.specs.Spell.{spell};
+ghost use Rattle.nv_words.specs.Spelling.{spell};
 ghost use Rattle.nv_room.specs.Owner.{free, closed, owner_word, owner_at, is_free, is_closed};
 ghost use Rattle.nv_room.specs.Steps.{as_leaving, as_lead, as_gone};
 ghost use Rattle.nv_room.specs.Seats.{IsOfRoom, IsLeadOf, IsLeavingOf, IsLeftOf, view, lead_view, leaving_view, left_view, station_of_reader, version_of_reader, station_of_lead, version_of_lead, station_of_leaving, version_of_leaving, station_of_left, version_of_left, kernel_of, due_of, origin};

@@ -2,7 +2,7 @@
 ghost use Rattle.std.specs.Prelude.{◌≡◌, ◌<◌, ◌≤◌, [], ◌∷◌, true, false, length};
 ghost use Rattle.nv_calls.specs.Logs.{IsLawful};
 ghost use Rattle.nv_room.specs.Owner.{is_free, owner_at, opened_at};
-ghost use Rattle.nv_room.specs.Spans.{HasLed};
+ghost use Rattle.nv_room.specs.Spans.{LastHasEvent};
 ghost use Rattle.nv_room.specs.Room.{Has};
 ghost use Rattle.nv_room.specs.Steps.{as_opening, as_moving, as_reader};
 ghost use Rattle.nv_room.specs.Seats.{IsOfRoom, IsLeadOf, IsOpeningOf, IsMovingOf, view, lead_view, opening_view, moving_view, due_of, hands_of};
@@ -19,7 +19,7 @@ impl<K: SyscallKernel> Room<K> {
         requires of { IsLeadOf self.now lead }
         requires none_due { due_of lead ≡ false }
         requires planned { Has (hands_of self.now) (length (lead_view lead).seen) }
-        requires led { HasLed (lead_view lead).spans }
+        requires led { LastHasEvent (lead_view lead).spans }
         ensures of { IsOpeningOf self.now result }
         ensures view { opening_view result ≡ as_opening (lead_view lead) }
     {

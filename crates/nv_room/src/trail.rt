@@ -1,7 +1,7 @@
 //! What a seat keeps of the events.
 ghost use Rattle.std.specs.Prelude.{◌≡◌, ℕ, ◌+◌, ◌<◌, ◌≤◌, ◌++◌, List, [], ◌∷◌, length, sum, if◌then◌else◌, ◌==◌};
 ghost use Rattle.std.specs.Int.{w32, cast_signed};
-ghost use Rattle.nv_words.specs.Spell.{low, high};
+ghost use Rattle.nv_words.specs.Spelling.{low, high};
 ghost use Rattle.nv_lanes.specs.Lanes.{noted_by};
 
 use nv_lanes::Lanes;

@@ -2,9 +2,9 @@
 ghost use Rattle.std.specs.Prelude.{◌≡◌, ℕ, ◌+◌, ◌<◌, ◌≤◌, ◌++◌, List, [], ◌∷◌, length, sum, cond, ◌==◌, IfOk};
 ghost use Rattle.std.specs.Int.{w32, cast_signed};
 ghost use Rattle.nv_calls.specs.Limits.{MOST_EVENTS};
-ghost use Rattle.nv_words.specs.Spell.{low, high};
+ghost use Rattle.nv_words.specs.Spelling.{low, high};
 ghost use Rattle.nv_lanes.specs.Lanes.{noted_by};
-ghost use Rattle.nv_pool.specs.Pools.{count_of};
+ghost use Rattle.nv_pool.specs.Pool.{count_of};
 ghost use Rattle.nv_room.specs.Trails.{Trails};
 
 use crate::trail::Trail;

@@ -7,7 +7,7 @@ use Rattle.nv_calls.specs.declared.kernel.SyscallKernel.{Ghosts}
 use Rattle.nv_room.specs.declared.room.Room.{Room}
 use Rattle.nv_room.specs.declared.room.Reader.{Reader}
 use Rattle.nv_room.specs.declared.room.Left.{Left}
-use Rattle.nv_room.specs.Seats.{FreshReaders, IsFresh, IsOfRoom, IsLeftOf, version_of_reader, version_of_left, versions_of}
+use Rattle.nv_room.specs.Seats.{FreshReaders, IsFreshReader, IsOfRoom, IsLeftOf, version_of_reader, version_of_left, versions_of}
 use Rattle.nv_room.specs.Lefts.{IsEach}
 use Rattle.nv_room_runs.specs.Backs.{LeftInOrder}
 
@@ -53,7 +53,7 @@ module _ {K : Type 0} {G : Ghosts K} where
     λ s near. let i : ℕ = versions_of room - suc s in let x = there ls i (omega arith) in let m = (h i x.0 x.1).1 in (i, x.0, x.1, omega arith),
   )
 
-  pub fresh_less : (room : Room K) (rs rest : List (Reader K G)) (r : Reader K G) → rs ≡ rest ++ r ∷ [] → FreshReaders room rs → FreshReaders room rest × IsFresh room (length rest + 1) r
+  pub fresh_less : (room : Room K) (rs rest : List (Reader K G)) (r : Reader K G) → rs ≡ rest ++ r ∷ [] → FreshReaders room rs → FreshReaders room rest × IsFreshReader room (length rest + 1) r
   fresh_less room rs rest r is old = (
     (λ i x f. old i x (ap (λ (z : List (Reader K G)). get_elem? z i) is ∙ at_longer rest (r ∷ []) i x f)),
     old (length rest) r (ap (λ (z : List (Reader K G)). get_elem? z (length rest)) is ∙ at_last rest r (length rest) refl),

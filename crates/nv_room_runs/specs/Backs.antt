@@ -10,8 +10,8 @@ use Rattle.nv_room.specs.Seats.{IsOfRoom, IsLeftOf, view, version_of_reader, ver
 
 module _ {K : Type 0} {G : Ghosts K} where
   -- it has read no word of an event that it has not seen
-  abbrev pub IsIdle : Room K → Reader K G → Type 0
-  IsIdle room r = IsOfRoom room r × ((view r).read ≡ [])
+  abbrev pub HasReadNothing : Room K → Reader K G → Type 0
+  HasReadNothing room r = IsOfRoom room r × ((view r).read ≡ [])
 
   -- the seats of the versions from 1 on, which have left, in order
   abbrev pub LeftInOrder : Room K → List (Left K G) → Type 0

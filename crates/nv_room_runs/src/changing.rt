@@ -6,7 +6,7 @@ ghost use Rattle.nv_calls.specs.Logs.{live_after, IsLegal};
 ghost use Rattle.nv_calls.specs.Shapes.{IsShaped};
 ghost use Rattle.nv_room.specs.Seats.{IsOfRoom, IsLeadOf, IsLeftOf, FreshReaders, view, due_of, kernel_of, origin, version_of_lead, version_of_left, version_of_reader, versions_of};
 ghost use Rattle.nv_room_runs.specs.Going.{GoesOn};
-ghost use Rattle.nv_room_runs.specs.Backs.{IsIdle};
+ghost use Rattle.nv_room_runs.specs.Backs.{HasReadNothing};
 
 use crate::lives::goes_on;
 use crate::running::publish_one;
@@ -56,7 +56,7 @@ fn two_readers<K: SyscallKernel>(
     mut readers: Vec<Reader<K>>,
 ) -> Option<(Reader<K>, Reader<K>)>
     requires { FreshReaders room.now readers.items × (length readers.items ≡ 2) }
-    ensures { IfSome result (λ r. IsIdle room.now r.0 × IsIdle room.now r.1 × (version_of_reader r.0 ≡ 1) × (version_of_reader r.1 ≡ 2)) }
+    ensures { IfSome result (λ r. HasReadNothing room.now r.0 × HasReadNothing room.now r.1 × (version_of_reader r.0 ≡ 1) × (version_of_reader r.1 ≡ 2)) }
 {
     let third = readers.pop()?;
     let second = readers.pop()?;
@@ -71,13 +71,13 @@ fn first_leads<K: SyscallKernel>(
     call: &Call,
 ) -> Option<Left<K>>
     requires lead { IsLeadOf room.now lead × (due_of lead ≡ false) }
-    requires third { IsIdle room.now third.old }
+    requires third { HasReadNothing room.now third.old }
     requires shaped { IsShaped (request call.now) }
     requires first { call.now.tid ≡ FIRST_THREAD }
     requires lives { Contains (live_after (K.log (kernel_of lead))) FIRST_THREAD }
     requires goes_on { GoesOn (request call.now) }
     ensures left { IfSome result (λ l. IsLeftOf room.now l × (version_of_left l ≡ version_of_lead lead)) }
-    ensures third { IsIdle room.now third.new × (version_of_reader third.new ≡ version_of_reader third.old) }
+    ensures third { HasReadNothing room.now third.new × (version_of_reader third.new ≡ version_of_reader third.old) }
 {
     if !publish_some(room, &mut lead, call, 3, 1) {
         return None;
@@ -98,14 +98,14 @@ fn second_leads<K: SyscallKernel>(
     call: &Call,
     last: &Call,
 ) -> Option<Left<K>>
-    requires second { IsIdle room.now second }
-    requires third { IsIdle room.now third.old }
+    requires second { HasReadNothing room.now second }
+    requires third { HasReadNothing room.now third.old }
     requires shaped { IsShaped (request call.now) × IsShaped (request last.now) }
     requires first { (call.now.tid ≡ FIRST_THREAD) × (last.now.tid ≡ FIRST_THREAD) }
     requires goes_on { GoesOn (request call.now) }
     requires ends { last.now.nr ≡ EXIT_GROUP }
     ensures left { IfSome result (λ l. IsLeftOf room.now l × (version_of_left l ≡ version_of_reader second)) }
-    ensures third { IsIdle room.now third.new × (version_of_reader third.new ≡ version_of_reader third.old) }
+    ensures third { HasReadNothing room.now third.new × (version_of_reader third.new ≡ version_of_reader third.old) }
 {
     if !read_some(room, &mut second, buf, 3) {
         return None;
@@ -126,7 +126,7 @@ fn reads_to_end<K: SyscallKernel>(
     mut third: Reader<K>,
     buf: &mut EventBuf,
 ) -> Option<Left<K>>
-    requires { IsIdle room.now third }
+    requires { HasReadNothing room.now third }
     ensures { IfSome result (λ l. IsLeftOf room.now l × (version_of_left l ≡ version_of_reader third)) }
 {
     if !read_some(room, &mut third, buf, 1) {

@@ -5,7 +5,7 @@ ghost use Rattle.nv_calls.specs.Logs.{IsLegal};
 ghost use Rattle.nv_calls.specs.Shapes.{IsShaped};
 ghost use Rattle.nv_room.specs.Seats.{IsLeftOf, IsFreshLead, FreshReaders, kernel_of, origin, hands_of, version_of_left, version_of_reader, versions_of};
 ghost use Rattle.nv_room_runs.specs.Going.{GoesOn};
-ghost use Rattle.nv_room_runs.specs.Backs.{IsIdle};
+ghost use Rattle.nv_room_runs.specs.Backs.{HasReadNothing};
 
 use crate::changing::{end_lead, publish_some, read_some, take_over};
 use crate::lives::goes_on;
@@ -53,7 +53,7 @@ pub fn hand_over<K: SyscallKernel>(
 
 fn one_reader<K: SyscallKernel>(room: &Room<K>, mut readers: Vec<Reader<K>>) -> Option<Reader<K>>
     requires { FreshReaders room.now readers.items × (length readers.items ≡ 1) }
-    ensures { IfSome result (λ r. IsIdle room.now r × (version_of_reader r ≡ 1)) }
+    ensures { IfSome result (λ r. HasReadNothing room.now r × (version_of_reader r ≡ 1)) }
 {
     let reader = readers.pop()?;
     Some(reader)
@@ -69,7 +69,7 @@ fn first_hands<K: SyscallKernel>(
     requires planned { hands_of room.now ≡ 1 ∷ [] }
     requires shaped { IsShaped (request call.now) }
     requires first { call.now.tid ≡ FIRST_THREAD }
-    ensures { IfSome result (λ r. IsIdle room.now r × (version_of_reader r ≡ 0)) }
+    ensures { IfSome result (λ r. HasReadNothing room.now r × (version_of_reader r ≡ 0)) }
 {
     lead.reserve(call).ok()?;
     let Placed::Ready = place(&mut lead, room) else {
@@ -90,7 +90,7 @@ fn second_leads<K: SyscallKernel>(
     call: &Call,
     last: &Call,
 ) -> Option<Left<K>>
-    requires second { IsIdle room.now second }
+    requires second { HasReadNothing room.now second }
     requires shaped { IsShaped (request call.now) × IsShaped (request last.now) }
     requires first { (call.now.tid ≡ FIRST_THREAD) × (last.now.tid ≡ FIRST_THREAD) }
     requires goes_on { GoesOn (request call.now) }
@@ -113,7 +113,7 @@ fn first_follows<K: SyscallKernel>(
     mut first: Reader<K>,
     buf: &mut EventBuf,
 ) -> Option<Left<K>>
-    requires { IsIdle room.now first }
+    requires { HasReadNothing room.now first }
     ensures { IfSome result (λ l. IsLeftOf room.now l × (version_of_left l ≡ version_of_reader first)) }
 {
     if !read_some(room, &mut first, buf, 2) {

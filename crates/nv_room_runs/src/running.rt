@@ -5,7 +5,7 @@ ghost use Rattle.nv_calls.specs.Calls.{request};
 ghost use Rattle.nv_calls.specs.Logs.{served, live_after, IsLegal, IsLawful};
 ghost use Rattle.nv_calls.specs.Shapes.{IsShaped};
 ghost use Rattle.nv_room.specs.Seats.{IsOfRoom, IsLeadOf, IsLeftOf, FreshReaders, view, due_of, kernel_of, origin, version_of_lead, version_of_left, version_of_reader, versions_of};
-ghost use Rattle.nv_room_runs.specs.Backs.{IsIdle, LeftInOrder};
+ghost use Rattle.nv_room_runs.specs.Backs.{HasReadNothing, LeftInOrder};
 ghost use Rattle.nv_room_runs.specs.Scripts.{AreCalls};
 
 use crate::lives::{can_call, goes_on};
@@ -84,7 +84,7 @@ fn follow_each<R: Threads + Sync, K: SyscallKernel>(
     ensures len { IfOk result (λ ls. length ls.items ≡ length readers.items) }
 {
     let station = move |reader: Reader<K>| -> Left<K>
-        requires { IsIdle room.now reader × AreCalls script.now }
+        requires { HasReadNothing room.now reader × AreCalls script.now }
         ensures { IsLeftOf room.entry.now result × (version_of_left result ≡ version_of_reader reader) }
     { follow(alloc, room, reader, script) };
     let back = thread::map_vec(rt, readers, &station)?;
@@ -98,7 +98,7 @@ fn follow<K: SyscallKernel>(
     mut reader: Reader<K>,
     script: &Script,
 ) -> Left<K>
-    requires of { IsIdle room.now reader }
+    requires of { HasReadNothing room.now reader }
     requires calls { AreCalls script.now }
     ensures of { IsLeftOf room.now result }
     ensures version { version_of_left result ≡ version_of_reader reader }
@@ -129,8 +129,8 @@ fn follow<K: SyscallKernel>(
 
 // Whether no lower station is left and the room is free since; an event that came between is seen.
 fn may_take<K: SyscallKernel>(room: &Room<K>, reader: &mut Reader<K>, buf: &mut EventBuf) -> bool
-    requires { IsIdle room.now reader.old }
-    ensures of { IsIdle room.now reader.new }
+    requires { HasReadNothing room.now reader.old }
+    ensures of { HasReadNothing room.now reader.new }
     ensures version { version_of_reader reader.new ≡ version_of_reader reader.old }
     ensures freed { OnTrue result ((view reader.new).freed ≡ Some (length (view reader.new).seen)) }
 {

@@ -2,7 +2,7 @@
 use Rattle.std.proofs.Common.{◌≡◌, ℕ, List, [], ◌∷◌, ◌++◌, length, get_or, drop, refl, ap, arith, subst}
 use Rattle.std.proofs.Math.Seq.{take-append_seam, drop-append_seam}
 use borrow.Rule.Slice.PartMut.{put_mid}
-use Rattle.nv_rules.specs.Pairs.{argument_words}
+use Rattle.nv_rules.specs.Pair.{argument_words}
 
 -- the words of six arguments
 pub argument_words-six : (args : List ℕ) → length args ≡ 6

@@ -12,8 +12,8 @@ use Rattle.nv_bpf.specs.declared.action.Action.TheVariants.{LoadWord, Load, Load
 use Rattle.nv_bpf.specs.Actions.{action_of}
 use Rattle.nv_bpf.specs.Verified.{unless, action_fault, fault_by, op_fault, list_fault, is_return, ends_in_return}
 use Rattle.nv_bpf.proofs.FilterLaws.{list_fault-none, list_fault-op}
-use Rattle.nv_rules.specs.Values.{FilterState, Effect, Ends, Goes, ends_without, computed, operand_of, holds, acted, stepped, gone_on, returned_from}
-use Rattle.nv_rules.specs.Machines.{IsUsable, IsKnown, IsSound}
+use Rattle.nv_rules.specs.Values.{FilterState, Effect, Ends, Goes, ends_without, calculated, operand_of, comparison_holds, acted, stepped, gone_on, returned_from}
+use Rattle.nv_rules.specs.inner.Machine.{IsUsable, IsKnown, IsSoundOp}
 
 unless-none : (b : Bool) (f : FilterFault) → unless b f ≡ None → b ≡ true
 unless-none true f h = refl
@@ -38,7 +38,7 @@ known None n i op h = cc
 known (Some a) n i op h = usable a n i op h
 
 -- an instruction without a fault is sound
-pub IsSound-op : (n i : ℕ) (op : Op) → op_fault n i op ≡ None → IsSound op
+pub IsSound-op : (n i : ℕ) (op : Op) → op_fault n i op ≡ None → IsSoundOp op
 unfolding op_fault
 IsSound-op n i op h = known (action_of op.code) n i op h
 
@@ -65,7 +65,7 @@ goes (Load r) n i m op pair s t h e = record { no_return = refl; within = inl cc
 goes (LoadScratch r) n i m op pair s t h e = record { no_return = refl; within = inl cc }
 goes (LoadLength r) n i m op pair s t h e = record { no_return = refl; within = inl cc }
 goes (Store r) n i m op pair s t h e = record { no_return = refl; within = inl cc }
-goes (Compute a o) n i m op pair s t h e = record { no_return = refl; within = inl (goes-ends_without (computed a s.accumulator (operand_of o op.k s)) s t m e) }
+goes (Compute a o) n i m op pair s t h e = record { no_return = refl; within = inl (goes-ends_without (calculated a s.accumulator (operand_of o op.k s)) s t m e) }
 goes Negate n i m op pair s t h e = record { no_return = refl; within = inl cc }
 goes Jump n i m op pair s t h e =
     let f = unless-none _ _ h in
@@ -77,7 +77,7 @@ goes (Branch c o) n i m op pair s t h e =
     let no_lt : i + 1 + op.jf < n = grind (arith, nat_tests) in
     record {
       no_return = refl;
-      within = inr (elim (goes-branch (holds c s.accumulator (operand_of o op.k s)) op.jt op.jf m s t e) [ inl p ↦ omega arith | inr p ↦ omega arith ]);
+      within = inr (elim (goes-branch (comparison_holds c s.accumulator (operand_of o op.k s)) op.jt op.jf m s t e) [ inl p ↦ omega arith | inr p ↦ omega arith ]);
     }
 goes ReturnConstant n i m op pair s t h e = cc
 goes ReturnAccumulator n i m op pair s t h e = cc
@@ -154,7 +154,7 @@ pub record Left (ops rest : List Op) (pair : List ℕ) (s : FilterState) (value 
   pub place : (i : ℕ) × (rest ≡ drop i ops)
   pub returns : returned_from pair 0 s rest ≡ value
 
-pub first-sound : (most : ℕ) (ops rest : List Op) (pair : List ℕ) (s : FilterState) (value : Option ℕ) → list_fault most ops ≡ None → Left ops rest pair s value → IsSound (first rest)
+pub first-sound : (most : ℕ) (ops rest : List Op) (pair : List ℕ) (s : FilterState) (value : Option ℕ) → list_fault most ops ≡ None → Left ops rest pair s value → IsSoundOp (first rest)
 first-sound most ops rest pair s value verified left =
     IsSound-op (length ops) left.place.0 (first rest) (list_fault-op most left.place.0 ops (first rest) verified (first-read ops rest left.place.0 left.place.1 left.some))
 

@@ -1,4 +1,4 @@
-pub mod Pairs
+pub mod Pair
 pub mod Values
-pub mod Machines
 pub mod Verdicts
+pub mod inner

@@ -19,16 +19,16 @@ pub record FilterState : Type 0 where
   pub index : ℕ
   pub scratch : List ℕ
 
-unfoldable pub start : FilterState
-start = record { accumulator = 0; index = 0; scratch = replicate 16 0 }
+unfoldable pub filter_start : FilterState
+filter_start = record { accumulator = 0; index = 0; scratch = replicate 16 0 }
 
 abbrev pub held : Register → FilterState → ℕ
 held Accumulator s = s.accumulator
 held Index s = s.index
 
-abbrev pub with_held : Register → ℕ → FilterState → FilterState
-with_held Accumulator n s = record s { accumulator = n }
-with_held Index n s = record s { index = n }
+abbrev pub with_register : Register → ℕ → FilterState → FilterState
+with_register Accumulator n s = record s { accumulator = n }
+with_register Index n s = record s { index = n }
 
 abbrev pub other : Register → Register
 other Accumulator = Index
@@ -39,21 +39,21 @@ operand_of operand.Constant k s = k
 operand_of operand.Index k s = s.index
 
 -- Arithmetic on words of 32 bits, without signs. A shift uses the low five bits of what it shifts by. A division by 0 has no result.
-abbrev pub computed : Arithmetic → ℕ → ℕ → Option ℕ
-computed Add a b = Some ((a + b) % 2 ^ 32)
-computed Subtract a b = Some ((a + (2 ^ 32 - b)) % 2 ^ 32)
-computed Multiply a b = Some (a * b % 2 ^ 32)
-computed Divide a b = if b == 0 then None else Some (a / b)
-computed Or a b = Some (bit_or a b)
-computed And a b = Some (bit_and a b)
-computed ShiftLeft a b = Some (a * 2 ^ (b % 32) % 2 ^ 32)
-computed ShiftRight a b = Some (a / 2 ^ (b % 32))
+abbrev pub calculated : Arithmetic → ℕ → ℕ → Option ℕ
+calculated Add a b = Some ((a + b) % 2 ^ 32)
+calculated Subtract a b = Some ((a + (2 ^ 32 - b)) % 2 ^ 32)
+calculated Multiply a b = Some (a * b % 2 ^ 32)
+calculated Divide a b = if b == 0 then None else Some (a / b)
+calculated Or a b = Some (bit_or a b)
+calculated And a b = Some (bit_and a b)
+calculated ShiftLeft a b = Some (a * 2 ^ (b % 32) % 2 ^ 32)
+calculated ShiftRight a b = Some (a / 2 ^ (b % 32))
 
-abbrev pub holds : Comparison → ℕ → ℕ → Bool
-holds Equal a b = a == b
-holds Greater a b = nat_lt b a
-holds AtLeast a b = nat_le b a
-holds CommonBit a b = not (bit_and a b == 0)
+abbrev pub comparison_holds : Comparison → ℕ → ℕ → Bool
+comparison_holds Equal a b = a == b
+comparison_holds Greater a b = nat_lt b a
+comparison_holds AtLeast a b = nat_le b a
+comparison_holds CommonBit a b = not (bit_and a b == 0)
 
 -- An instruction ends the filter with a value, or it goes past so many of those that follow it.
 pub data Effect : Type 0 where
@@ -61,7 +61,7 @@ pub data Effect : Type 0 where
   Goes : ℕ → FilterState → Effect
 
 abbrev pub goes_with : Register → ℕ → FilterState → Effect
-goes_with r n s = Goes 0 (with_held r n s)
+goes_with r n s = Goes 0 (with_register r n s)
 
 -- a filter whose arithmetic has no result ends with 0
 abbrev pub ends_without : Option ℕ → FilterState → Effect
@@ -74,10 +74,10 @@ acted (Load r) op pair s = goes_with r op.k s
 acted (LoadScratch r) op pair s = goes_with r (slice_index s.scratch op.k) s
 acted (LoadLength r) op pair s = goes_with r 132 s
 acted (Store r) op pair s = Goes 0 (record s { scratch = slice_set s.scratch op.k (held r s) })
-acted (Compute a o) op pair s = ends_without (computed a s.accumulator (operand_of o op.k s)) s
+acted (Compute a o) op pair s = ends_without (calculated a s.accumulator (operand_of o op.k s)) s
 acted Negate op pair s = goes_with Accumulator ((2 ^ 32 - s.accumulator) % 2 ^ 32) s
 acted Jump op pair s = Goes op.k s
-acted (Branch c o) op pair s = Goes (if holds c s.accumulator (operand_of o op.k s) then op.jt else op.jf) s
+acted (Branch c o) op pair s = Goes (if comparison_holds c s.accumulator (operand_of o op.k s) then op.jt else op.jf) s
 acted ReturnConstant op pair s = Ends op.k
 acted ReturnAccumulator op pair s = Ends s.accumulator
 acted (Copy r) op pair s = goes_with r (held (other r) s) s
@@ -98,7 +98,7 @@ returned_from pair (suc n) s (op ∷ ops) = returned_from pair n s ops
 returned_from pair zero s (op ∷ ops) = gone_on (stepped op pair s) (λ n t. returned_from pair n t ops)
 
 unfoldable pub returned : List Op → List ℕ → Option ℕ
-returned ops pair = returned_from pair 0 start ops
+returned ops pair = returned_from pair 0 filter_start ops
 
 -- the value of a filter on a pair
 abbrev pub value_of : List Op → List ℕ → ℕ

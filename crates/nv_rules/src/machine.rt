@@ -1,7 +1,7 @@
 // The machine of filters.
 ghost use Rattle.std.specs.Prelude.{◌≡◌, ℕ, List, Some, replicate, if◌then◌else◌};
-ghost use Rattle.nv_rules.specs.Values.{Goes, start, computed, goes_with, ends_without, holds, acted, stepped};
-ghost use Rattle.nv_rules.specs.Machines.{state_of, effect_of, IsUsable, IsSound};
+ghost use Rattle.nv_rules.specs.Values.{Goes, filter_start, calculated, goes_with, ends_without, comparison_holds, acted, stepped};
+ghost use Rattle.nv_rules.specs.inner.Machine.{state_of, effect_of, IsUsable, IsSoundOp};
 
 use crate::Pair;
 use nv_bpf::{Action, Arithmetic, Comparison, Op, Operand, Register, decode};
@@ -30,7 +30,7 @@ pub enum Step {
 // Arithmetic on words of 32 bits; a division by 0 has no result.
 #[inline(always)]
 fn compute(arithmetic: Arithmetic, a: u32, b: u32) -> Option<u32>
-    ensures { result ≡ computed arithmetic a b }
+    ensures { result ≡ calculated arithmetic a b }
 {
     match arithmetic {
         Arithmetic::Add => Some(a.wrapping_add(b)),
@@ -46,8 +46,8 @@ fn compute(arithmetic: Arithmetic, a: u32, b: u32) -> Option<u32>
 }
 
 #[inline(always)]
-fn holds(comparison: Comparison, a: u32, b: u32) -> bool
-    ensures { result ≡ holds comparison a b }
+fn comparison_holds(comparison: Comparison, a: u32, b: u32) -> bool
+    ensures { result ≡ comparison_holds comparison a b }
 {
     match comparison {
         Comparison::Equal => a == b,
@@ -58,9 +58,9 @@ fn holds(comparison: Comparison, a: u32, b: u32) -> bool
 }
 
 impl Registers {
-    #[tactic(auto, unfolding(crate::specs::Values::start))]
+    #[tactic(auto, unfolding(crate::specs::Values::filter_start))]
     pub fn new() -> Self
-        ensures { state_of result (replicate 16 0) ≡ start }
+        ensures { state_of result (replicate 16 0) ≡ filter_start }
     {
         Registers {
             accumulator: 0,
@@ -83,7 +83,7 @@ impl Registers {
     // The accumulator becomes the result with this second operand, if there is one.
     #[inline(always)]
     fn compute(&mut self, arithmetic: Arithmetic, b: u32) -> Step
-        ensures { (scratch : List ℕ) → effect_of result self.new scratch ≡ ends_without (computed arithmetic self.old.accumulator b) (state_of self.old scratch) }
+        ensures { (scratch : List ℕ) → effect_of result self.new scratch ≡ ends_without (calculated arithmetic self.old.accumulator b) (state_of self.old scratch) }
     {
         match compute(arithmetic, self.accumulator, b) {
             Some(value) => self.load(Register::Accumulator, value),
@@ -94,9 +94,9 @@ impl Registers {
     // Where to go on by a comparison with this second operand.
     #[inline(always)]
     fn branch(&self, comparison: Comparison, b: u32, op: &Op) -> Step
-        ensures { (scratch : List ℕ) → effect_of result self.now scratch ≡ Goes (if holds comparison self.now.accumulator b then op.now.jt else op.now.jf) (state_of self.now scratch) }
+        ensures { (scratch : List ℕ) → effect_of result self.now scratch ≡ Goes (if comparison_holds comparison self.now.accumulator b then op.now.jt else op.now.jf) (state_of self.now scratch) }
     {
-        let taken = holds(comparison, self.accumulator, b);
+        let taken = comparison_holds(comparison, self.accumulator, b);
         Step::Forward(u32::from(if taken { op.jt } else { op.jf }))
     }
 
@@ -134,7 +134,7 @@ impl Registers {
     /// Carries out an instruction of a filter.
     #[inline(always)]
     pub fn step(&mut self, scratch: &mut [u32; 16], op: &Op, pair: &Pair) -> Step
-        requires { IsSound op.now }
+        requires { IsSoundOp op.now }
         ensures { stepped op.now pair.now.words (state_of self.old scratch.old) ≡ Some (effect_of result self.new scratch.new) }
     {
         match decode(op.code) {

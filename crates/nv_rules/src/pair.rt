@@ -1,7 +1,7 @@
 // What a filter reads.
 ghost use Rattle.std.specs.Prelude.{◌≡◌};
 ghost use Rattle.nv_calls.specs.Calls.{request, entry};
-ghost use Rattle.nv_rules.specs.Pairs.{call_words, pair_words};
+ghost use Rattle.nv_rules.specs.Pair.{call_words, pair_words};
 
 use nv_calls::{Call, Event};
 

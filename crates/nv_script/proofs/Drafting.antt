@@ -3,11 +3,11 @@ use Rattle.std.proofs.Common.{◌≡◌, ℕ, ◌+◌, List, [], ◌∷◌, Opti
 use Rattle.nv_text.specs.Lines.{lines}
 use Rattle.nv_script.specs.declared.form.Form.{Form}
 use Rattle.nv_script.specs.declared.fault.ScriptCause.{ScriptCause}
-use Rattle.nv_script.specs.Entries.{form_of}
-use Rattle.nv_script.specs.Scripts.{Draft, with_line, onward, drafted, no_form, script_in, script_of_lines, script_of}
+use Rattle.nv_script.specs.Entry.{form_of}
+use Rattle.nv_script.specs.Scripts.{Draft, with_script_line, onward, drafted, no_form, script_in, script_of_lines, script_of}
 
 -- the step of a loop over the lines
-pub drafted-line : (form : Form) (n : ℕ) (left : List (List ℕ)) (line : List ℕ) (rest : List (List ℕ)) (draft : Draft) (r : Result Draft ScriptCause) → left ≡ line ∷ rest → r ≡ with_line form line draft
+pub drafted-line : (form : Form) (n : ℕ) (left : List (List ℕ)) (line : List ℕ) (rest : List (List ℕ)) (draft : Draft) (r : Result Draft ScriptCause) → left ≡ line ∷ rest → r ≡ with_script_line form line draft
     → drafted form n left draft ≡ onward n r (λ next. drafted form (n + 1) rest next)
 unfolding drafted
 drafted-line form n left line rest draft r e f =

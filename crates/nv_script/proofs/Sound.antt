@@ -7,7 +7,7 @@ use Rattle.std.proofs.lemmas.Bool.{and_parts, and_from, or_parts}
 use Rattle.std.proofs.lemmas.Bool.Decides.{nat_tests}
 use Rattle.std.proofs.lemmas.List.Folds.{list_all-append, list_any-append}
 use Rattle.std.proofs.lemmas.Slice.Eq.{bytes_eq-Decides}
-use Rattle.nv_text.specs.Fields.{word_of, rest_of, fields}
+use Rattle.nv_text.specs.Fields.{first_word, rest_of, fields}
 use Rattle.nv_text.specs.Numbers.{number_of, unhexed}
 use Rattle.nv_text.specs.Lines.{lines}
 use Rattle.nv_script.specs.declared.entry.Clock.{Clock}
@@ -17,8 +17,8 @@ use Rattle.nv_script.specs.declared.fault.ScriptCause.TheVariants.{Range, Twice,
 use Rattle.nv_script.specs.declared.fault.ScriptFault.{ScriptFault}
 use Rattle.nv_script.specs.declared.kind.Kind.{Kind}
 use Rattle.nv_script.specs.declared.kind.Kind.TheVariants as kind
-use Rattle.nv_script.specs.Entries.{Entry, Nothing, Argument, Input, File, Time, Seed, Hand, Connection, form_of, is_hand, hand_entry, hand_with, is_port, connection_entry, connection_with, connection_of, argument, is_argument, is_file_name, is_passed_over, clock_fits, clock_entry, clock_with, clock_of, file_with, file_of, shaped, entry_by, entry_with, entry_of, kind_of}
-use Rattle.nv_script.specs.Scripts.{Named, Incoming, Setup, Draft, blank, has_name, has_hand, with_argument, with_file, with_clock, with_seed, with_hand, with_connection, with_entry, with_result, with_line, onward, drafted, no_clock, finished, finished_result, script_in, script_of_lines, script_of, is_file, are_distinct, are_files, differ, are_hands, is_connection, are_connections, is_script}
+use Rattle.nv_script.specs.Entry.{Entry, Nothing, Argument, Input, File, Time, Seed, Hand, Connection, form_of, is_hand, hand_entry, hand_with, is_port, connection_entry, connection_with, connection_of, argument_entry, is_argument, is_file_name, is_passed_over, clock_fits, clock_entry, clock_with, clock_of, file_with, file_entry, shaped, entry_by, entry_with, entry_of, kind_of}
+use Rattle.nv_script.specs.Scripts.{Named, Incoming, Setup, Draft, blank, has_name, has_hand, with_argument, with_named_file, with_clock, with_seed, with_hand, with_connection, with_entry, with_result, with_script_line, onward, drafted, no_clock, finished, finished_result, script_in, script_of_lines, script_of, is_file, are_distinct, are_files, differ, are_hands, is_connection, are_connections, is_script}
 
 -- ---- the parts of the two tests
 
@@ -63,13 +63,6 @@ are_hands-from hands k =
 pub record ConnectionsKeep (connections : List Incoming) : Type 0 where
   pub few : length connections ≤ 64
   pub sound : list_all is_connection connections ≡ true
-
-pub connections-keep : (connections : List Incoming) → are_connections connections ≡ true → ConnectionsKeep connections
-unfolding are_connections
-connections-keep connections e =
-    let parts = and_parts (nat_le (length connections) 64) _ e in
-    let few : length connections ≤ 64 = grind (arith, nat_tests) in
-    record { few = few; sound = parts.1 }
 
 are_connections-from : (connections : List Incoming) → ConnectionsKeep connections → are_connections connections ≡ true
 unfolding are_connections
@@ -155,7 +148,7 @@ shaped-sound : (found : Option Entry) (e : Entry) → found_sound found ≡ true
 shaped-sound None e sound h = cc
 shaped-sound (Some f) e sound h = sound-along f e sound cc
 
-argument-sound : (text : List ℕ) → found_sound (argument text) ≡ true
+argument-sound : (text : List ℕ) → found_sound (argument_entry text) ≡ true
 argument-sound text = step (is_argument text) refl where
   step : (x : Bool) → is_argument text ≡ x → found_sound (cond x (Some (Argument text)) None) ≡ true
   step true sound = sound
@@ -172,7 +165,7 @@ file_with-sound name content = step (is_file_name name) content refl where
   step true (Some bytes) sound = sound
   step false content sound = refl
 
-file_of-sound : (texts : List (List ℕ)) → found_sound (file_of texts) ≡ true
+file_of-sound : (texts : List (List ℕ)) → found_sound (file_entry texts) ≡ true
 file_of-sound [] = refl
 file_of-sound (name ∷ []) = file_with-sound name (Some [])
 file_of-sound (name ∷ hex ∷ []) = file_with-sound name (unhexed hex)
@@ -229,10 +222,10 @@ connection_of-sound (port ∷ hex ∷ []) e h = connection_with-sound (number_of
 connection_of-sound (port ∷ hex ∷ more ∷ texts) e h = cc
 
 entry_by-sound : (k : Kind) (rest : List ℕ) (e : Entry) → entry_by k rest ≡ Ok e → entry_sound e ≡ true
-entry_by-sound kind.Argument rest e h = shaped-sound (argument rest) e (argument-sound rest) h
+entry_by-sound kind.Argument rest e h = shaped-sound (argument_entry rest) e (argument-sound rest) h
 entry_by-sound kind.Line rest e h = sound-along (Input (rest ++ codes "\n")) e refl cc
 entry_by-sound kind.Input rest e h = shaped-sound (option_map Input (unhexed rest)) e (input-sound (unhexed rest)) h
-entry_by-sound kind.File rest e h = shaped-sound (file_of (fields rest)) e (file_of-sound (fields rest)) h
+entry_by-sound kind.File rest e h = shaped-sound (file_entry (fields rest)) e (file_of-sound (fields rest)) h
 entry_by-sound kind.Clock rest e h = clock_of-sound (fields rest) e h
 entry_by-sound kind.Random rest e h = shaped-sound (option_map Seed (number_of rest)) e (seed-sound (number_of rest) (number_of-fits rest)) h
 entry_by-sound kind.Hand rest e h = hand_with-sound (number_of rest) e h
@@ -246,9 +239,9 @@ entry_with-sound (Some k) (Some rest) e h = entry_by-sound k rest e h
 entry_of-sound : (form : Form) (line : List ℕ) (e : Entry) → entry_of form line ≡ Ok e → entry_sound e ≡ true
 unfolding entry_of
 entry_of-sound form line e h = step (is_passed_over line) h where
-  step : (x : Bool) → cond x (Ok Nothing) (entry_with (kind_of form (word_of line)) (rest_of line)) ≡ Ok e → entry_sound e ≡ true
+  step : (x : Bool) → cond x (Ok Nothing) (entry_with (kind_of form (first_word line)) (rest_of line)) ≡ Ok e → entry_sound e ≡ true
   step true h = sound-along Nothing e refl cc
-  step false h = entry_with-sound (kind_of form (word_of line)) (rest_of line) e h
+  step false h = entry_with-sound (kind_of form (first_word line)) (rest_of line) e h
 
 -- ---- files with one more
 
@@ -355,8 +348,8 @@ argument-keeps text d e k sound h = step (nat_lt (length d.arguments) 256) refl 
 input-keeps : (d e : Draft) (bytes : List ℕ) → DraftKeeps d → record d { input = d.input ++ bytes } ≡ e → DraftKeeps e
 input-keeps d e bytes k same = keeps-along _ e (record { arguments = k.arguments; texts = k.texts; files = k.files; clock = k.clock; seed = k.seed; hands = k.hands; connections = k.connections }) same
 
-file-keeps : (name content : List ℕ) (d e : Draft) → DraftKeeps d → is_file_name name ≡ true → with_file name content d ≡ Ok e → DraftKeeps e
-unfolding with_file
+file-keeps : (name content : List ℕ) (d e : Draft) → DraftKeeps d → is_file_name name ≡ true → with_named_file name content d ≡ Ok e → DraftKeeps e
+unfolding with_named_file
 file-keeps name content d e k sound h = step (has_name name d.files) (nat_lt (length d.files) 256 && nat_le (length content) 1048576) refl refl h where
   step : (x y : Bool) → has_name name d.files ≡ x → (nat_lt (length d.files) 256 && nat_le (length content) 1048576) ≡ y
       → cond x (Err Twice) (cond y (Ok (record d { files = d.files ++ (name, content) ∷ [] })) (Err Long)) ≡ Ok e → DraftKeeps e
@@ -433,15 +426,15 @@ result-keeps : (r : Result Entry ScriptCause) (d e : Draft) → DraftKeeps d →
 result-keeps (Ok entry) d e k sound h = entry-keeps entry d e k (sound entry refl) h
 result-keeps (Err cause) d e k sound h = cc
 
-line-keeps : (form : Form) (line : List ℕ) (d e : Draft) → DraftKeeps d → with_line form line d ≡ Ok e → DraftKeeps e
-unfolding with_line
+line-keeps : (form : Form) (line : List ℕ) (d e : Draft) → DraftKeeps d → with_script_line form line d ≡ Ok e → DraftKeeps e
+unfolding with_script_line
 line-keeps form line d e k h = result-keeps (entry_of form line) d e k (entry_of-sound form line) h
 
 drafted-keeps : (form : Form) (n : ℕ) (lines : List (List ℕ)) (d e : Draft) → DraftKeeps d → drafted form n lines d ≡ Ok e → DraftKeeps e
 unfolding drafted
 drafted-keeps form n [] d e k h = keeps-along d e k cc
-drafted-keeps form n (line ∷ lines) d e k h = step (with_line form line d) refl h (drafted-keeps form (n + 1) lines) where
-  step : (r : Result Draft ScriptCause) → with_line form line d ≡ r → onward n r (λ next. drafted form (n + 1) lines next) ≡ Ok e
+drafted-keeps form n (line ∷ lines) d e k h = step (with_script_line form line d) refl h (drafted-keeps form (n + 1) lines) where
+  step : (r : Result Draft ScriptCause) → with_script_line form line d ≡ r → onward n r (λ next. drafted form (n + 1) lines next) ≡ Ok e
       → ((d e : Draft) → DraftKeeps d → drafted form (n + 1) lines d ≡ Ok e → DraftKeeps e) → DraftKeeps e
   step (Ok next) is h later = later next e (line-keeps form line d next k is) h
   step (Err cause) is h later = cc

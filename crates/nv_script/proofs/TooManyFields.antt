@@ -3,9 +3,9 @@ use Rattle.std.proofs.Common.{◌≡◌, ◌<◌, ℕ, List, [], ◌∷◌, None
 use Rattle.nv_text.specs.Fields.{fields}
 use Rattle.nv_text.proofs.Laws.{fields-some}
 use Rattle.nv_script.specs.declared.fault.ScriptCause.TheVariants.{Shape}
-use Rattle.nv_script.specs.Entries.{file_of, clock_of, connection_of}
+use Rattle.nv_script.specs.Entry.{file_entry, clock_of, connection_of}
 
-file_of-long : (name hex : List ℕ) (more : List (List ℕ)) → 0 < length more → file_of (name ∷ hex ∷ more) ≡ None
+file_of-long : (name hex : List ℕ) (more : List (List ℕ)) → 0 < length more → file_entry (name ∷ hex ∷ more) ≡ None
 file_of-long name hex [] some = absurd (omega arith)
 file_of-long name hex (text ∷ texts) some = refl
 
@@ -22,7 +22,7 @@ pub connection_of-three : (port hex rest : List ℕ) → connection_of (port ∷
 connection_of-three port hex rest = connection_of-long port hex (fields rest) (fields-some rest)
 
 -- three fields are no file
-pub file_of-three : (name hex rest : List ℕ) → file_of (name ∷ hex ∷ fields rest) ≡ None
+pub file_of-three : (name hex rest : List ℕ) → file_entry (name ∷ hex ∷ fields rest) ≡ None
 file_of-three name hex rest = file_of-long name hex (fields rest) (fields-some rest)
 
 -- four fields are no clock

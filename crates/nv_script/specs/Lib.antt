@@ -1,4 +1,5 @@
-pub mod Entries
+pub mod Entry
 pub mod Scripts
 pub mod Views
 pub mod Texts
+pub mod inner

@@ -9,7 +9,7 @@ use Rattle.nv_script.specs.declared.fault.ScriptCause.TheVariants as cause
 use Rattle.nv_script.specs.declared.fault.ScriptCause.TheVariants.{Twice, Long}
 use Rattle.nv_script.specs.declared.fault.ScriptFault.{ScriptFault}
 use Rattle.nv_script.specs.declared.fault.ScriptFault.TheVariants.{Line}
-use Rattle.nv_script.specs.Entries.{Entry, Nothing, Argument, Input, File, Time, Seed, Hand, Connection, form_of, is_argument, is_file_name, is_hand, is_port, entry_of}
+use Rattle.nv_script.specs.Entry.{Entry, Nothing, Argument, Input, File, Time, Seed, Hand, Connection, form_of, is_argument, is_file_name, is_hand, is_port, entry_of}
 
 -- a file's name and its content
 abbrev pub Named : Type 0
@@ -59,8 +59,8 @@ abbrev pub with_input : List ℕ → Draft → Result Draft ScriptCause
 with_input bytes draft = Ok (record draft { input = draft.input ++ bytes })
 
 -- each name once, and at most 256 files of at most 1,048,576 bytes
-unfoldable pub with_file : List ℕ → List ℕ → Draft → Result Draft ScriptCause
-with_file name content draft = if has_name name draft.files then Err Twice
+unfoldable pub with_named_file : List ℕ → List ℕ → Draft → Result Draft ScriptCause
+with_named_file name content draft = if has_name name draft.files then Err Twice
     else (if nat_lt (length draft.files) 256 && nat_le (length content) 1048576
     then Ok (record draft { files = draft.files ++ (name, content) ∷ [] })
     else Err Long)
@@ -93,7 +93,7 @@ abbrev pub with_entry : Entry → Draft → Result Draft ScriptCause
 with_entry Nothing draft = Ok draft
 with_entry (Argument text) draft = with_argument text draft
 with_entry (Input bytes) draft = with_input bytes draft
-with_entry (File name content) draft = with_file name content draft
+with_entry (File name content) draft = with_named_file name content draft
 with_entry (Time clock) draft = with_clock clock draft
 with_entry (Seed seed) draft = with_seed seed draft
 with_entry (Hand n) draft = with_hand n draft
@@ -103,8 +103,8 @@ abbrev pub with_result : Result Entry ScriptCause → Draft → Result Draft Scr
 with_result (Ok entry) draft = with_entry entry draft
 with_result (Err cause) draft = Err cause
 
-unfoldable pub with_line : Form → List ℕ → Draft → Result Draft ScriptCause
-with_line form line draft = with_result (entry_of form line) draft
+unfoldable pub with_script_line : Form → List ℕ → Draft → Result Draft ScriptCause
+with_script_line form line draft = with_result (entry_of form line) draft
 
 abbrev pub onward : ℕ → Result Draft ScriptCause → (Draft → Result Draft ScriptFault) → Result Draft ScriptFault
 onward n (Ok draft) later = later draft
@@ -113,7 +113,7 @@ onward n (Err cause) later = Err (Line (line_number n) cause)
 -- what lines after n others make of a draft, or the first faulty line
 unfoldable pub drafted : Form → ℕ → List (List ℕ) → Draft → Result Draft ScriptFault
 drafted form n [] draft = Ok draft
-drafted form n (line ∷ rest) draft = onward n (with_line form line draft) (λ next. drafted form (n + 1) rest next)
+drafted form n (line ∷ rest) draft = onward n (with_script_line form line draft) (λ next. drafted form (n + 1) rest next)
 
 -- ---- the whole text
 

@@ -14,6 +14,6 @@ cause_word Range = codes "range"
 cause_word Twice = codes "twice"
 cause_word Long = codes "long"
 
-abbrev pub fault_text : ScriptFault → List ℕ
-fault_text (Line n cause) = codes "line " ++ (decimal n ++ (codes " " ++ cause_word cause))
-fault_text Memory = codes "memory"
+abbrev pub script_fault_text : ScriptFault → List ℕ
+script_fault_text (Line n cause) = codes "line " ++ (decimal n ++ (codes " " ++ cause_word cause))
+script_fault_text Memory = codes "memory"

@@ -1,7 +1,8 @@
 // A script in the making.
 ghost use Rattle.std.specs.Prelude.{◌≡◌, false, ◌&&◌, nat_lt, nat_le, [], ◌∷◌, ◌++◌, length, codes, Ok, IfOk, OnOk};
-ghost use Rattle.nv_script.specs.Scripts.{blank, has_name, has_hand, with_argument, with_input, with_file, with_clock, with_seed, with_hand, with_connection, with_entry, finished};
-ghost use Rattle.nv_script.specs.Views.{view, became, setup_of};
+ghost use Rattle.nv_script.specs.Scripts.{blank, has_name, has_hand, with_argument, with_input, with_named_file, with_clock, with_seed, with_hand, with_connection, with_entry, finished};
+ghost use Rattle.nv_script.specs.Views.{setup_of};
+ghost use Rattle.nv_script.specs.inner.Views.{view, became};
 
 use crate::Script;
 use crate::entry::{Clock, Entry};
@@ -137,14 +138,14 @@ impl<'a> Draft<'a> {
         Ok(())
     }
 
-    #[tactic(auto, unfolding(crate::specs::Scripts::with_file))]
+    #[tactic(auto, unfolding(crate::specs::Scripts::with_named_file))]
     fn add_file(
         &mut self,
         alloc: Global,
         name: &'a [u8],
         content: Vec<u8>,
     ) -> Result<Result<(), ScriptCause>, AllocError>
-        ensures { IfOk result (λ added. became self.new added ≡ with_file name.now content.items self.old) }
+        ensures { IfOk result (λ added. became self.new added ≡ with_named_file name.now content.items self.old) }
     {
         if self.has_name(name) {
             return Ok(Err(ScriptCause::Twice));

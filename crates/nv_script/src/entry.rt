@@ -3,9 +3,9 @@ ghost use Rattle.std.specs.Prelude.{◌≡◌, option_map, IfOk};
 ghost use Rattle.std.specs.List.{list_all};
 ghost use Rattle.nv_text.specs.Fields.{fields};
 ghost use Rattle.nv_text.specs.Numbers.{number_of, unhexed};
-ghost use Rattle.nv_script.specs.Entries as rule;
-ghost use Rattle.nv_script.specs.Entries.{is_printable, is_argument, is_file_byte, is_dots, is_file_name, is_passed_over, argument, file_with, file_of, clock_entry, clock_with, clock_of, hand_entry, hand_with, connection_entry, connection_with, connection_of, shaped, entry_by, entry_of};
-ghost use Rattle.nv_script.specs.Views.{found_view, result_view};
+ghost use Rattle.nv_script.specs.Entry as rule;
+ghost use Rattle.nv_script.specs.Entry.{is_printable, is_argument, is_file_byte, is_dots, is_file_name, is_passed_over, argument_entry, file_with, file_entry, clock_entry, clock_with, clock_of, hand_entry, hand_with, connection_entry, connection_with, connection_of, shaped, entry_by, entry_of};
+ghost use Rattle.nv_script.specs.inner.Views.{found_view, result_view};
 
 use crate::fault::ScriptCause;
 use crate::form::Form;
@@ -56,7 +56,7 @@ fn are_printable(text: &[u8]) -> bool
     text.iter().all(|byte| *byte >= b' ' && *byte <= b'~')
 }
 
-#[tactic(auto, unfolding(crate::specs::Entries::is_argument))]
+#[tactic(auto, unfolding(crate::specs::Entry::is_argument))]
 fn is_argument(text: &[u8]) -> bool
     ensures { result ≡ is_argument text.now }
 {
@@ -76,7 +76,7 @@ fn is_dots(name: &[u8]) -> bool
     is(name, ".") || is(name, "..")
 }
 
-#[tactic(auto, unfolding(crate::specs::Entries::is_file_name))]
+#[tactic(auto, unfolding(crate::specs::Entry::is_file_name))]
 fn is_file_name(name: &[u8]) -> bool
     ensures { result ≡ is_file_name name.now }
 {
@@ -93,7 +93,7 @@ fn is_passed_over(line: &[u8]) -> bool
 }
 
 fn read_argument(text: &[u8]) -> Option<Entry<'_>>
-    ensures { found_view result ≡ argument text.now }
+    ensures { found_view result ≡ argument_entry text.now }
 {
     if is_argument(text) {
         Some(Entry::Argument(text))
@@ -122,7 +122,7 @@ fn file_with(name: &[u8], content: Option<Vec<u8>>) -> Option<Entry<'_>>
 
 // `NAME HEX` or `NAME`.
 fn read_file(alloc: Global, text: &[u8]) -> Result<Option<Entry<'_>>, AllocError>
-    ensures { IfOk result (λ entry. found_view entry ≡ file_of (fields text.now)) }
+    ensures { IfOk result (λ entry. found_view entry ≡ file_entry (fields text.now)) }
 {
     let (name, rest) = split_field(text);
     let Some(rest) = rest else {
@@ -270,7 +270,7 @@ fn entry_by(
 }
 
 /// What a line after the first says in a script of this form, or its first cause of those that the line has by itself.
-#[tactic(auto, unfolding(crate::specs::Entries::entry_of))]
+#[tactic(auto, unfolding(crate::specs::Entry::entry_of))]
 pub fn entry_of(
     alloc: Global,
     form: Form,

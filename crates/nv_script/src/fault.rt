@@ -1,6 +1,6 @@
 // Why a script is refused.
 ghost use Rattle.std.specs.Prelude.{◌≡◌, Some};
-ghost use Rattle.nv_script.specs.Texts.{cause_word, fault_text};
+ghost use Rattle.nv_script.specs.Texts.{cause_word, script_fault_text};
 ghost use Rattle.nv_script.specs.declared.fault.ScriptFault.TheVariants.{Memory};
 
 use std::alloc::{AllocError, AllocFailed};
@@ -56,7 +56,7 @@ impl fmt::Display for ScriptCause {
 }
 
 impl fmt::Display for ScriptFault {
-    ghost output = { λ fault. Some (fault_text fault) };
+    ghost output = { λ fault. Some (script_fault_text fault) };
 
     fn fmt<W: fmt::Write>(&self, f: &mut fmt::Formatter<W>) -> fmt::Result {
         match self {

@@ -1,6 +1,6 @@
 // The forms of a script.
 ghost use Rattle.std.specs.Prelude.{◌≡◌};
-ghost use Rattle.nv_script.specs.Entries.{form_of};
+ghost use Rattle.nv_script.specs.Entry.{form_of};
 
 use nv_text::is;
 
@@ -16,7 +16,7 @@ pub enum Form {
 }
 
 /// The form that a script's first line names.
-#[tactic(auto, unfolding(crate::specs::Entries::form_of))]
+#[tactic(auto, unfolding(crate::specs::Entry::form_of))]
 pub fn form_of(line: &[u8]) -> Option<Form>
     ensures { result ≡ form_of line.now }
 {

@@ -1,6 +1,6 @@
 // The words that begin a line.
 ghost use Rattle.std.specs.Prelude.{◌≡◌};
-ghost use Rattle.nv_script.specs.Entries.{in_form, kind_of};
+ghost use Rattle.nv_script.specs.Entry.{in_form, kind_of};
 
 use crate::form::Form;
 use nv_text::find;

@@ -1,8 +1,9 @@
 // The reader of scripts.
 ghost use Rattle.std.specs.Prelude.{◌≡◌, ◌⊎◌, Ok, Err, IsTrue, IfOk, IfErr};
 ghost use Rattle.nv_text.specs.Lines.{lines};
-ghost use Rattle.nv_script.specs.Scripts.{blank, with_line, drafted, script_of, is_script};
-ghost use Rattle.nv_script.specs.Views.{became, setup_of};
+ghost use Rattle.nv_script.specs.Scripts.{blank, with_script_line, drafted, script_of, is_script};
+ghost use Rattle.nv_script.specs.Views.{setup_of};
+ghost use Rattle.nv_script.specs.inner.Views.{became};
 ghost use Rattle.nv_script.specs.declared.fault.ScriptFault.TheVariants.{Memory};
 
 use crate::Script;
@@ -13,14 +14,14 @@ use crate::form::{Form, form_of};
 use nv_text::{Lines, line_number};
 use std::alloc::{AllocError, Global};
 
-#[tactic(auto, unfolding(crate::specs::Scripts::with_line))]
+#[tactic(auto, unfolding(crate::specs::Scripts::with_script_line))]
 fn add_line<'a>(
     draft: &mut Draft<'a>,
     alloc: Global,
     form: Form,
     line: &'a [u8],
 ) -> Result<Result<(), ScriptCause>, AllocError>
-    ensures { IfOk result (λ added. became draft.new added ≡ with_line form line.now draft.old) }
+    ensures { IfOk result (λ added. became draft.new added ≡ with_script_line form line.now draft.old) }
 {
     match entry_of(alloc, form, line)? {
         Ok(entry) => draft.add(alloc, entry),

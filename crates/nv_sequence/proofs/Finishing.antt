@@ -12,18 +12,19 @@ use Rattle.nv_replay.specs.Follow.{Follower, Judge, fresh, follow, IsInStep, is_
 use Rattle.nv_replay.specs.Lead.{Leader, cut_of}
 use Rattle.nv_replay.specs.Tracks.{track, track_next}
 use Rattle.nv_replay.specs.Spans.{EndBy}
-use Rattle.nv_replay.specs.Hands.{has, above, is_handed}
-use Rattle.nv_replay.specs.Sequence.{Account, is_on, cuts_of}
-use Rattle.nv_replay.specs.Monitor.{Part, Run, part, numbers, begun, turn, line_of, lines_of, account_of, sequence}
-use Rattle.nv_replay.specs.Versions.{Running, IsFresh, leader_of, standing_of, process_of}
+use Rattle.nv_replay.specs.Hands.{has, count_above, is_handed}
+use Rattle.nv_replay.specs.Sequence.{Account, is_going, cuts_of}
+use Rattle.nv_replay.specs.Monitor.{Part, Run, part, numbers, begun, turn, told_standing, lines_of, account_of, sequence}
+use Rattle.nv_replay.specs.Version.{Running, IsFresh, leader_of, standing_of, process_of}
 use Rattle.nv_replay.proofs.Settled.{Reaches, reach_here}
 use Rattle.nv_replay.proofs.Falling.{within}
-use Rattle.nv_replay.specs.Accounts.{AreFresh}
+use Rattle.nv_replay.specs.Account.{AreFresh}
 use Rattle.nv_replay.specs.Covers.{AreEnded}
-use Rattle.nv_sequence.specs.Rests.{AreInStep, AreRested, IsRested}
+use Rattle.nv_sequence.specs.inner.Rests.{AreInStep, AreRested, IsRested}
 use Rattle.nv_replay.specs.Turns.{Suits}
-use Rattle.nv_sequence.specs.Passing.{HasLed, HadLead, TurnDone, HadTurn, NextTurn, IsReady, IsIdle, followed, given_up, turned_of, order_of, goes_on}
-use Rattle.nv_replay.specs.Accounts as accounts
+use Rattle.nv_sequence.specs.Passing.{HasLed, HadLead, TurnDone, MayHaveTurn, followed, given_up, turned_of}
+use Rattle.nv_sequence.specs.inner.Passing.{HadTurn, NextTurn, FirstMayHaveTurn, order_of, turn_goes_on}
+use Rattle.nv_replay.specs.Account as accounts
 use Rattle.nv_sequence.specs.declared.leading.Turned.{Turned}
 use Rattle.nv_sequence.specs.declared.leading.Turned.TheVariants.{Left, GaveUp, Exited}
 use Rattle.nv_replay.proofs.Numbers.{has_within, has_numbers, distinct_numbers, numbers_length, numbers_map, map_at, some_at, IsDistinct, has_here, above_all, above_later, above_less, handed_at, eq_same}
@@ -74,10 +75,10 @@ module _ {P : Type 0} (g : Behaviour P) (laws : IsProcess g) (judges : ℕ → J
 
   turned : (vs news : List (Running P)) (i : ℕ) (order new_order : List ℕ) (log new_log : List Entry) (on : Bool) (v w : Running P) (r : Turned) (p : P) (o : Option Fate)
       → G vs (i ∷ order) log false → slice_get vs i ≡ Some v → slice_get ps i ≡ Some p → v.index ≡ i → (follow g (judges v.index) log v.at).fate ≡ o
-      → TurnDone g start most hands (followed g judges log v) w log new_log r o → news ≡ set vs i w → new_order ≡ order_of order i r → on ≡ goes_on r → A news new_order new_log on
+      → TurnDone g start most hands (followed g judges log v) w log new_log r o → news ≡ set vs i w → new_order ≡ order_of order i r → on ≡ turn_goes_on r → A news new_order new_log on
   turned vs news i order new_order log new_log on v w r p (Some x) a h hp n fx d pt l q =
       let lo : new_order ≡ order = l ∙ ap (order_of order i) d.2 in
-      let up : on ≡ true = q ∙ ap goes_on d.2 in record {
+      let up : on ≡ true = q ∙ ap turn_goes_on d.2 in record {
         over = false;
         goes = moved (set vs i w) news order new_order new_log false pt lo
             (passed_by g laws judges start most hands ps vs i order log new_log v w p x a h hp fx d.0 d.1 d.3);
@@ -89,7 +90,7 @@ module _ {P : Type 0} (g : Behaviour P) (laws : IsProcess g) (judges : ℕ → J
       let led' = subst (λ (m : ℕ). HasLed g start most hands (accounts.with_span (record v { at = follow g (judges m) log v.at }) (length log)) e log new_log) n d.led in
       let fx' : (follow g (judges i) log v.at).fate ≡ None = ap (λ (m : ℕ). (follow g (judges m) log v.at).fate) (sym n) ∙ fx in
       let lo : new_order ≡ order_of order i (turned_of e.at.fate) = l ∙ ap (order_of order i) d.turned in
-      let up : on ≡ not (is_exited e.at.fate) = q ∙ (ap goes_on d.turned ∙ goes_off e.at.fate) in record {
+      let up : on ≡ not (is_exited e.at.fate) = q ∙ (ap turn_goes_on d.turned ∙ goes_off e.at.fate) in record {
         over = is_exited e.at.fate;
         goes = moved (set vs i (given_up e)) news (order_of order i (turned_of e.at.fate)) new_order new_log (is_exited e.at.fate) (pt ∙ ap (set vs i) d.then) lo
             (led_by g laws judges start most hands ps vs i order log new_log v e p a h hp fx' led');
@@ -111,22 +112,22 @@ module _ {P : Type 0} (g : Behaviour P) (laws : IsProcess g) (judges : ℕ → J
       let s = a.each i p.0 t.before p.1 t.at in
       turned vs news i order new_order log new_log on t.before t.after t.result p.0 (follow g (judges t.before.index) log t.before.at).fate a t.at p.1 s.index refl t.done t.put t.left t.goes
 
-  led_fewer : (i : ℕ) (order : List ℕ) (log new_log : List Entry) (e : Running P) (b : Bool) → is_on e.at.fate ≡ b → is_handed hands (length log) (leader_of e new_log) ≡ b
-      → length log ≤ length new_log → length (order_of order i (turned_of e.at.fate)) + above hands (length new_log) < suc (length order) + above hands (length log)
+  led_fewer : (i : ℕ) (order : List ℕ) (log new_log : List Entry) (e : Running P) (b : Bool) → is_going e.at.fate ≡ b → is_handed hands (length log) (leader_of e new_log) ≡ b
+      → length log ≤ length new_log → length (order_of order i (turned_of e.at.fate)) + count_above hands (length new_log) < suc (length order) + count_above hands (length log)
   led_fewer i order log new_log e true h k l =
       let d = handed_at hands (length log) (leader_of e new_log) k in
-      subst (λ (x : Option Fate). length (order_of order i (turned_of x)) + above hands (length new_log) < suc (length order) + above hands (length log)) (sym (none_on e.at.fate h))
+      subst (λ (x : Option Fate). length (order_of order i (turned_of x)) + count_above hands (length new_log) < suc (length order) + count_above hands (length log)) (sym (none_on e.at.fate h))
       (omega (arith, length-append order (i ∷ []), above_less hands (length log) (length new_log) d.grew d.planned))
   led_fewer i order log new_log e false h k l =
-      subst (λ (x : List ℕ). length x + above hands (length new_log) < suc (length order) + above hands (length log)) (sym (order_off e.at.fate order i h))
+      subst (λ (x : List ℕ). length x + count_above hands (length new_log) < suc (length order) + count_above hands (length log)) (sym (order_off e.at.fate order i h))
       (omega (arith, above_later hands (length log) (length new_log) l))
 
   turned_fewer : (vs : List (Running P)) (i : ℕ) (order new_order : List ℕ) (log new_log : List Entry) (v w : Running P) (r : Turned) (p : P) (o : Option Fate)
       → G vs (i ∷ order) log false → slice_get vs i ≡ Some v → slice_get ps i ≡ Some p → v.index ≡ i → (follow g (judges v.index) log v.at).fate ≡ o
       → TurnDone g start most hands (followed g judges log v) w log new_log r o → new_order ≡ order_of order i r
-      → length new_order + above hands (length new_log) < suc (length order) + above hands (length log)
+      → length new_order + count_above hands (length new_log) < suc (length order) + count_above hands (length log)
   turned_fewer vs i order new_order log new_log v w r p (Some x) a h hp n fx d l =
-      let lo : new_order ≡ order = l ∙ ap (order_of order i) d.2 in omega (arith, ap length lo, ap (λ (y : List Entry). above hands (length y)) d.1)
+      let lo : new_order ≡ order = l ∙ ap (order_of order i) d.2 in omega (arith, ap length lo, ap (λ (y : List Entry). count_above hands (length y)) d.1)
   turned_fewer vs i order new_order log new_log v w r p None a h hp n fx d l =
       let e = d.end in
       let led' = subst (λ (m : ℕ). HasLed g start most hands (accounts.with_span (record v { at = follow g (judges m) log v.at }) (length log)) e log new_log) n d.led in
@@ -134,7 +135,7 @@ module _ {P : Type 0} (g : Behaviour P) (laws : IsProcess g) (judges : ℕ → J
       let lo : new_order ≡ order_of order i (turned_of e.at.fate) = l ∙ ap (order_of order i) d.turned in
       let ld = has_led g laws (judges i) start most hands i p v e log new_log (a.each i p v hp h) (a.waits i v h (has_here i order)) e fx' led' in
       let long : length log ≤ length new_log = omega (arith, ap length ld.longer, length-append log ld.more) in
-      omega (arith, ap length lo, led_fewer i order log new_log e (is_on e.at.fate) refl led'.handed long)
+      omega (arith, ap length lo, led_fewer i order log new_log e (is_going e.at.fate) refl led'.handed long)
 
   one_most : (b : Bool) → (if b then 1 else 0) ≤ 1
   one_most true = omega arith
@@ -143,9 +144,9 @@ module _ {P : Type 0} (g : Behaviour P) (laws : IsProcess g) (judges : ℕ → J
   -- what is left to do, and whether the loop goes on, falls
   pub fewer : (vs news : List (Running P)) (order new_order : List ℕ) (log new_log : List Entry) (on : Bool) → G vs order log false
       → NextTurn g judges start most hands vs news order new_order log new_log on
-      → length new_order + above hands (length new_log) + (if on then 1 else 0) < length order + above hands (length log) + 1
+      → length new_order + count_above hands (length new_log) + (if on then 1 else 0) < length order + count_above hands (length log) + 1
   fewer vs news [] new_order log new_log on a t =
-      rw (t.3) (omega (arith, ap length t.2, ap (λ (y : List Entry). above hands (length y)) t.1))
+      rw (t.3) (omega (arith, ap length t.2, ap (λ (y : List Entry). count_above hands (length y)) t.1))
   fewer vs news (i ∷ order) new_order log new_log on a t =
       let l : i < length ps = (let z = within vs i t.before t.at in omega (arith, a.same)) in
       let p = some_at ps i l in
@@ -153,7 +154,7 @@ module _ {P : Type 0} (g : Behaviour P) (laws : IsProcess g) (judges : ℕ → J
       omega (arith, one_most on, turned_fewer vs i order new_order log new_log t.before t.after t.result p.0 (follow g (judges t.before.index) log t.before.at).fate a t.at p.1 s.index refl t.done t.left)
 
   -- the order's first may have its turn
-  pub ready : (vs : List (Running P)) (order : List ℕ) (log : List Entry) → length hands ≤ 8 → G vs order log false → IsReady g log vs order
+  pub ready : (vs : List (Running P)) (order : List ℕ) (log : List Entry) → length hands ≤ 8 → G vs order log false → FirstMayHaveTurn g log vs order
   ready vs [] log few a = tt
   ready vs (i ∷ order) log few a =
       let v = some_at vs i (a.known i (has_here i order)) in
@@ -217,7 +218,7 @@ module _ {P : Type 0} (g : Behaviour P) (laws : IsProcess g) (judges : ℕ → J
       (suits_by (cut_of f.fate f.seen) v.at f v.at.fate refl (suits_end f.fate f.seen) (follow_more g laws (judges v.index) log v.at) (λ z. fated_follow g laws (judges v.index) log v.at z))
 
   line_is : (cuts : ℕ → Option ℕ) (k : ℕ) (q : P) (u : Running P) (log : List Entry) (b : Bool) → u.leading ≡ b → Stands g hands (judges k) k q u log
-      → line_of g judges start most cuts hands log k (part_of q u) (told_by u b) ≡ standing_of (followed g judges log u)
+      → told_standing g judges start most cuts hands log k (part_of q u) (told_by u b) ≡ standing_of (followed g judges log u)
   line_is cuts k q u log true e s = ap (λ (x : Follower P). standing_of (record u { at = x })) (sym (fated_follow g laws (judges u.index) log u.at (off_some u.at.fate (s.ended e))))
   line_is cuts k q u log false e s =
       let t : track g (judges k) u.led log (fresh q) ≡ follow g (judges u.index) log u.at = track_from g laws (judges k) u.led log (fresh q) u.at (s.reach e) s.past
@@ -263,7 +264,7 @@ module _ {P : Type 0} (g : Behaviour P) (laws : IsProcess g) (judges : ℕ → J
   none_waits k (i ∷ order) e h = cc
 
   fated_by : (vs : List (Running P)) (order : List ℕ) (log : List Entry) (over : Bool) (k : ℕ) (v : Running P) (p : P) → G vs order log over → Ended vs order over
-      → slice_get vs k ≡ Some v → slice_get ps k ≡ Some p → IsInStep g log (followed g judges log v).at → (o d : Option Fate) → v.at.fate ≡ o → (followed g judges log v).at.fate ≡ d → is_on d ≡ false
+      → slice_get vs k ≡ Some v → slice_get ps k ≡ Some p → IsInStep g log (followed g judges log v).at → (o d : Option Fate) → v.at.fate ≡ o → (followed g judges log v).at.fate ≡ d → is_going d ≡ false
   fated_by vs order log over k v p a z h hp st o (Some y) e q = refl
   fated_by vs order log over k v p a z h hp st (Some x) None e q =
       let w : follow g (judges v.index) log v.at ≡ v.at = fated_follow g laws (judges v.index) log v.at (λ n. let b : Some x ≡ None = sym e ∙ n in cc) in
@@ -272,7 +273,7 @@ module _ {P : Type 0} (g : Behaviour P) (laws : IsProcess g) (judges : ℕ → J
   fated_by vs order log over k v p a (inl n) h hp st None None e q =
       absurd (alive_not log (follow g (judges v.index) log v.at) st (a.dead n) (followed_seen g laws (judges v.index) log v.at (a.each k p v hp h).in_step.within q) q)
 
-  all_settled : (us : List (Running P)) → ((k : ℕ) (u : Running P) → slice_get us k ≡ Some u → is_on u.at.fate ≡ false) → AreEnded (map standing_of us)
+  all_settled : (us : List (Running P)) → ((k : ℕ) (u : Running P) → slice_get us k ≡ Some u → is_going u.at.fate ≡ false) → AreEnded (map standing_of us)
   all_settled [] f = tt
   all_settled (u ∷ us) f = (f 0 u refl, all_settled us (λ k w h. f (suc k) w h))
 
@@ -291,7 +292,7 @@ module _ {P : Type 0} (g : Behaviour P) (laws : IsProcess g) (judges : ℕ → J
       let b = map_back (followed g judges log) vs k w h in
       let p = some_at ps k (let y = within vs k b.0 b.1 in omega (arith, a.same)) in
       let i : IsInStep g log (followed g judges log b.0).at = subst (λ (x : Running P). IsInStep g log x.at) (sym b.2) (in_step_at (News log vs) log k w st' h) in
-      ap (λ (x : Running P). is_on x.at.fate) (sym b.2) ∙ fated_by vs order log over k b.0 p.0 a z b.1 p.1 i b.0.at.fate (followed g judges log b.0).at.fate refl refl))
+      ap (λ (x : Running P). is_going x.at.fate) (sym b.2) ∙ fated_by vs order log over k b.0 p.0 a z b.1 p.1 i b.0.at.fate (followed g judges log b.0).at.fate refl refl))
 
   rested_by : (us : List (Running P)) (log : List Entry) → ((k : ℕ) (u : Running P) → slice_get us k ≡ Some u → IsRested g log u) → AreRested g log us
   rested_by [] log f = tt

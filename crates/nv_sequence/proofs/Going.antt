@@ -10,13 +10,14 @@ use Rattle.nv_replay.specs.declared.fate.Fate.TheVariants as fates
 use Rattle.nv_replay.specs.Follow.{Follower, Judge, follow, IsInStep, is_exited}
 use Rattle.nv_replay.specs.Lead.{Leader}
 use Rattle.nv_replay.specs.Hands.{has, is_handed}
-use Rattle.nv_replay.specs.Sequence.{is_on}
+use Rattle.nv_replay.specs.Sequence.{is_going}
 use Rattle.nv_replay.specs.Monitor.{Run, begun, led_line, after_lead, with_span, leads_on, turn}
-use Rattle.nv_replay.specs.Versions.{Running, leader_of, standing_of}
+use Rattle.nv_replay.specs.Version.{Running, leader_of, standing_of}
 use Rattle.nv_replay.proofs.Settled.{Reaches, reach_on}
 use Rattle.nv_replay.specs.Turns.{Suits}
-use Rattle.nv_sequence.specs.Passing.{HasLed, followed, given_up, turned_of, order_of, goes_on}
-use Rattle.nv_replay.specs.Accounts as accounts
+use Rattle.nv_sequence.specs.Passing.{HasLed, followed, given_up, turned_of}
+use Rattle.nv_sequence.specs.inner.Passing.{order_of, turn_goes_on}
+use Rattle.nv_replay.specs.Account as accounts
 use Rattle.nv_sequence.specs.declared.leading.Turned.TheVariants.{Exited}
 use Rattle.nv_replay.proofs.Numbers.{length_set, set_cases, set_same, get_set, get_other, IsDistinct, has_here, has_after, has_other, has_last, has_prefix, has_either, distinct_last, eq_self, eq_same}
 use Rattle.nv_replay.proofs.Rotating.{dropped, led}
@@ -44,14 +45,14 @@ so_by {P} cuts vs i v w h a s k x true e q =
     subst (λ (y : Running P). Suits (cuts k) y.at.fate y.at.seen) vx (subst (λ (j : ℕ). Suits (cuts j) v.at.fate v.at.seen) ik s)
 so_by cuts vs i v w h a s k x false e q = a k x (get_other vs i w k e ∙ q)
 
-pub order_off : (f : Option Fate) (order : List ℕ) (i : ℕ) → is_on f ≡ false → order_of order i (turned_of f) ≡ order
+pub order_off : (f : Option Fate) (order : List ℕ) (i : ℕ) → is_going f ≡ false → order_of order i (turned_of f) ≡ order
 order_off None order i h = cc
 order_off (Some (fates.Exited s)) order i h = refl
 order_off (Some (fates.Fault a b c)) order i h = refl
 order_off (Some (fates.Refused a b c d)) order i h = refl
 order_off (Some fates.Memory) order i h = refl
 
-pub goes_off : (f : Option Fate) → goes_on (turned_of f) ≡ not (is_exited f)
+pub goes_off : (f : Option Fate) → turn_goes_on (turned_of f) ≡ not (is_exited f)
 goes_off None = refl
 goes_off (Some (fates.Exited s)) = refl
 goes_off (Some (fates.Fault a b c)) = refl
@@ -153,7 +154,7 @@ module _ {P : Type 0} (g : Behaviour P) (laws : IsProcess g) (judges : ℕ → J
       ))
 
   -- the turn of the definition, where the version has led
-  after_is : (vs : List (Running P)) (i : ℕ) (order : List ℕ) (log new_log : List Entry) (v e : Running P) (p : P) (b : Bool) (rewrites : ℕ) → is_on e.at.fate ≡ b
+  after_is : (vs : List (Running P)) (i : ℕ) (order : List ℕ) (log new_log : List Entry) (v e : Running P) (p : P) (b : Bool) (rewrites : ℕ) → is_going e.at.fate ≡ b
       → slice_get ps i ≡ Some p → e.led ≡ v.led ++ (length log, length new_log) ∷ [] → e.at.seen ≡ length new_log → (f : Follower P) → e.at.rewrites ≡ f.rewrites → v.leading ≡ false
       → after_lead (run_of ps vs (i ∷ order) log false) i order (part_of p v) f (leader_of e new_log) b
       ≡ run_of ps (set vs i (given_up e)) (order_of order i (turned_of e.at.fate)) new_log (is_exited e.at.fate)
@@ -179,7 +180,7 @@ module _ {P : Type 0} (g : Behaviour P) (laws : IsProcess g) (judges : ℕ → J
         parts = (ap (set (parts_of ps vs) i) part ∙ sym (parts_set ps vs i p (given_up e) hp)) j;
       })
 
-  led_order : (order : List ℕ) (i : ℕ) (f : Option Fate) (b : Bool) → is_on f ≡ b → (k : ℕ) → has (order_of order i (turned_of f)) k ≡ true
+  led_order : (order : List ℕ) (i : ℕ) (f : Option Fate) (b : Bool) → is_going f ≡ b → (k : ℕ) → has (order_of order i (turned_of f)) k ≡ true
       → (has order k ≡ true) ⊎ ((i ≡ k) × (not b ≡ false))
   led_order order i f true h k n = elim (has_either order i k (subst (λ (x : Option Fate). has (order_of order i (turned_of x)) k ≡ true) (none_on f h) n)) [
     | inl o ↦ inl o
@@ -187,22 +188,22 @@ module _ {P : Type 0} (g : Behaviour P) (laws : IsProcess g) (judges : ℕ → J
   ]
   led_order order i f false h k n = inl (subst (λ (x : List ℕ). has x k ≡ true) (order_off f order i h) n)
 
-  led_kept : (order : List ℕ) (i : ℕ) (f : Option Fate) (b : Bool) → is_on f ≡ b → (k : ℕ) → has order k ≡ true → has (order_of order i (turned_of f)) k ≡ true
+  led_kept : (order : List ℕ) (i : ℕ) (f : Option Fate) (b : Bool) → is_going f ≡ b → (k : ℕ) → has order k ≡ true → has (order_of order i (turned_of f)) k ≡ true
   led_kept order i f true h k n = subst (λ (x : Option Fate). has (order_of order i (turned_of x)) k ≡ true) (sym (none_on f h)) (has_prefix order i k n)
   led_kept order i f false h k n = subst (λ (x : List ℕ). has x k ≡ true) (sym (order_off f order i h)) n
 
   led_own : (order : List ℕ) (i : ℕ) (f : Option Fate) → f ≡ None → has (order_of order i (turned_of f)) i ≡ true
   led_own order i f h = subst (λ (x : Option Fate). has (order_of order i (turned_of x)) i ≡ true) (sym h) (has_last order i)
 
-  led_distinct : (order : List ℕ) (i : ℕ) (f : Option Fate) (b : Bool) → is_on f ≡ b → IsDistinct order → has order i ≡ false → IsDistinct (order_of order i (turned_of f))
+  led_distinct : (order : List ℕ) (i : ℕ) (f : Option Fate) (b : Bool) → is_going f ≡ b → IsDistinct order → has order i ≡ false → IsDistinct (order_of order i (turned_of f))
   led_distinct order i f true h d n = subst (λ (x : Option Fate). IsDistinct (order_of order i (turned_of x))) (sym (none_on f h)) (distinct_last order i d n)
   led_distinct order i f false h d n = subst IsDistinct (sym (order_off f order i h)) d
 
-  led_short : (order : List ℕ) (i : ℕ) (f : Option Fate) (b : Bool) → is_on f ≡ b → length order < 8 → length (order_of order i (turned_of f)) ≤ 8
+  led_short : (order : List ℕ) (i : ℕ) (f : Option Fate) (b : Bool) → is_going f ≡ b → length order < 8 → length (order_of order i (turned_of f)) ≤ 8
   led_short order i f true h l = subst (λ (x : Option Fate). length (order_of order i (turned_of x)) ≤ 8) (sym (none_on f h)) (omega (arith, length-append order (i ∷ [])))
   led_short order i f false h l = subst (λ (x : List ℕ). length x ≤ 8) (sym (order_off f order i h)) (omega arith)
 
-  stands_by : (i : ℕ) (p : P) (v e : Running P) (log new_log : List Entry) (b : Bool) → is_on e.at.fate ≡ b
+  stands_by : (i : ℕ) (p : P) (v e : Running P) (log new_log : List Entry) (b : Bool) → is_going e.at.fate ≡ b
       → (s : Stands g hands (judges i) i p v log) → v.leading ≡ false → (follow g (judges i) log v.at).fate ≡ None
       → HasLed g start most hands (accounts.with_span (record v { at = follow g (judges i) log v.at }) (length log)) e log new_log → Stands g hands (judges i) i p (given_up e) new_log
   stands_by i p v e log new_log true h s idle n d =
@@ -225,10 +226,10 @@ module _ {P : Type 0} (g : Behaviour P) (laws : IsProcess g) (judges : ℕ → J
       let more_seen : v.at.seen ≤ e.at.seen = omega (arith, follow_more g laws (judges i) log v.at, ld.seen, d.on.seen, ap length ld.longer, length-append log ld.more) in
       let on_before : (v.at.fate ≡ None → ⊥) → e.at ≡ v.at = λ z. absurd (z (ap (λ (x : Follower P). x.fate) (sym (fated_follow g laws (judges i) log v.at z)) ∙ n)) in
       changed vs i order (order_of order i (turned_of e.at.fate)) log new_log ld.more (is_exited e.at.fate) v (given_up e) p a h hp ld.longer
-      (stands_by i p v e log new_log (is_on e.at.fate) refl s idle n d)
-      (λ k x. led_order order i e.at.fate (is_on e.at.fate) refl k x)
-      (λ k x. led_kept order i e.at.fate (is_on e.at.fate) refl k x) (λ x. led_own order i e.at.fate x)
-      (led_distinct order i e.at.fate (is_on e.at.fate) refl a.distinct.1 a.distinct.0) (led_short order i e.at.fate (is_on e.at.fate) refl (let q = a.short in omega arith))
+      (stands_by i p v e log new_log (is_going e.at.fate) refl s idle n d)
+      (λ k x. led_order order i e.at.fate (is_going e.at.fate) refl k x)
+      (λ k x. led_kept order i e.at.fate (is_going e.at.fate) refl k x) (λ x. led_own order i e.at.fate x)
+      (led_distinct order i e.at.fate (is_going e.at.fate) refl a.distinct.1 a.distinct.0) (led_short order i e.at.fate (is_going e.at.fate) refl (let q = a.short in omega arith))
       (λ z. ap live_after (sym (take_all new_log) ∙ ap (λ (x : ℕ). take x new_log) (sym d.on.seen)) ∙ d.on.in_step.exited z)
       (λ cuts so.
       let own = so i (given_up e) (get_set vs i v (given_up e) h) in
@@ -238,5 +239,5 @@ module _ {P : Type 0} (g : Behaviour P) (laws : IsProcess g) (judges : ℕ → J
         λ k y q. so_by cuts vs i v (given_up e) h so (suits_by (cuts i) v.at e.at v.at.fate refl own more_seen on_before) k y (i == k) refl q,
         T ∙ (ap (λ (l : Leader P). after_lead m i order (part_of p v) f l (is_handed hands (length log) l)) lw
             ∙ (ap (λ (b : Bool). after_lead m i order (part_of p v) f (leader_of e new_log) b) d.handed
-            ∙ after_is vs i order log new_log v e p (is_on e.at.fate) 0 refl hp ld.led d.on.seen f ld.rewrites idle)),
+            ∙ after_is vs i order log new_log v e p (is_going e.at.fate) 0 refl hp ld.led d.on.seen f ld.rewrites idle)),
       ))

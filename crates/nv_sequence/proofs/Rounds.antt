@@ -11,15 +11,16 @@ use Rattle.nv_replay.specs.Settling.{stage}
 use Rattle.nv_replay.specs.Follow.{Follower, Judge, fresh, follow, IsInStep, is_exited}
 use Rattle.nv_replay.specs.Lead.{Leader, is_cut, cut_of, next_call}
 use Rattle.nv_replay.specs.Tracks.{track, track_next}
-use Rattle.nv_replay.specs.Hands.{has, above, is_handed, lead_to_hand}
-use Rattle.nv_replay.specs.Sequence.{is_on}
+use Rattle.nv_replay.specs.Hands.{has, count_above, is_handed, lead_to_hand}
+use Rattle.nv_replay.specs.Sequence.{is_going}
 use Rattle.nv_replay.specs.Monitor.{Part, Run, begun, led_line, after_lead, with_span, leads_on, turn}
-use Rattle.nv_replay.specs.Versions.{Running, leader_of, standing_of}
+use Rattle.nv_replay.specs.Version.{Running, leader_of, standing_of}
 use Rattle.nv_replay.proofs.Settled.{Reaches, reach_on}
 use Rattle.nv_replay.proofs.Extending.{follow_reached, in_step_on, reach_all}
 use Rattle.nv_replay.specs.Turns.{Suits}
-use Rattle.nv_sequence.specs.Passing.{HasLed, HadLead, TurnDone, HadTurn, NextTurn, followed, given_up, turned_of, order_of, goes_on}
-use Rattle.nv_replay.specs.Accounts as accounts
+use Rattle.nv_sequence.specs.Passing.{HasLed, HadLead, TurnDone, followed, given_up, turned_of}
+use Rattle.nv_sequence.specs.inner.Passing.{HadTurn, NextTurn, order_of, turn_goes_on}
+use Rattle.nv_replay.specs.Account as accounts
 use Rattle.nv_sequence.specs.declared.leading.Turned.{Turned}
 use Rattle.nv_sequence.specs.declared.leading.Turned.TheVariants.{Left, GaveUp, Exited}
 use Rattle.nv_replay.proofs.Numbers.{above_later, above_less, handed_at, get_set, length_set, set_cases, set_same, some_at, IsDistinct, has_here, has_after, has_other, has_last, has_prefix, has_either, distinct_last, eq_self}
@@ -70,11 +71,11 @@ module _ {P : Type 0} (g : Behaviour P) (hands : List ℕ) where
   pub record Stands (judge : Judge) (k : ℕ) (p : P) (v : Running P) (log : List Entry) : Type 0 where
     pub index : v.index ≡ k
     pub asked : v.leading ≡ false → v.asked ≡ None
-    pub ended : v.leading ≡ true → is_on v.at.fate ≡ false
+    pub ended : v.leading ≡ true → is_going v.at.fate ≡ false
     pub reach : v.leading ≡ false → Reaches (track_next g judge v.led log) (fresh p) v.at
     pub past : EndBy v.at.seen v.led
     pub in_step : IsInStep g log v.at
-    pub few : v.leading ≡ false → length v.led + above hands (length log) ≤ length hands
+    pub few : v.leading ≡ false → length v.led + count_above hands (length log) ≤ length hands
 
   -- the log has become longer
   pub stands_on : (judge : Judge) (k : ℕ) (p : P) (v : Running P) (log more : List Entry) → Stands judge k p v log → Stands judge k p v (log ++ more)
@@ -163,10 +164,10 @@ module _ {P : Type 0} (g : Behaviour P) (laws : IsProcess g) (judge : Judge) (st
       subst (λ (x : ℕ). EndBy x e.led) (sym n) (subst (λ (x : List (ℕ × ℕ)). EndBy (length new_log) x) (sym d.led) b)
 
   -- it has ended as the leader
-  pub ended_leader : (e : Running P) → Led e → HasLed g start most hands (accounts.with_span u (length log)) e log new_log → is_on e.at.fate ≡ false
+  pub ended_leader : (e : Running P) → Led e → HasLed g start most hands (accounts.with_span u (length log)) e log new_log → is_going e.at.fate ≡ false
       → Stands g hands judge k p (given_up e) new_log
   ended_leader e d h o =
-      let yes_leading : not (is_on e.at.fate) ≡ true = ap not o in record {
+      let yes_leading : not (is_going e.at.fate) ≡ true = ap not o in record {
         index = h.on.index ∙ s.index;
         asked = λ z. let y : true ≡ false = sym yes_leading ∙ z in cc;
         ended = λ z. o;
@@ -188,10 +189,10 @@ module _ {P : Type 0} (g : Behaviour P) (laws : IsProcess g) (judge : Judge) (st
       let at : record { process = e.at.process; seen = length new_log; rewrites = f.rewrites; fate = None } ≡ e.at = λ j. record
       { process = e.at.process; seen = sym h.on.seen j; rewrites = sym d.rewrites j; fate = sym o j } in
       let b = subst (λ (x : Follower P). Reaches (track_next g judge (v.led ++ (length log, length new_log) ∷ []) new_log) (fresh p) x) at a in
-      let hd = handed_at hands (length log) (leader_of e new_log) (h.handed ∙ ap is_on o) in record {
+      let hd = handed_at hands (length log) (leader_of e new_log) (h.handed ∙ ap is_going o) in record {
         index = h.on.index ∙ s.index;
         asked = λ z. h.on.asked o;
-        ended = λ z. let y : false ≡ true = sym (ap (λ (x : Option Fate). not (is_on x)) o) ∙ z in cc;
+        ended = λ z. let y : false ≡ true = sym (ap (λ (x : Option Fate). not (is_going x)) o) ∙ z in cc;
         reach = λ z. subst (λ (x : List (ℕ × ℕ)). Reaches (track_next g judge x new_log) (fresh p) e.at) (sym d.led) b;
         past = ends_at e d h.on.seen;
         in_step = h.on.in_step;

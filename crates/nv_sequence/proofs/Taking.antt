@@ -5,8 +5,8 @@ use Rattle.nv_calls.specs.Calls.{Entry}
 use Rattle.nv_calls.specs.Logs.{Start}
 use Rattle.nv_threads.specs.Behaviours.{Behaviour, IsProcess}
 use Rattle.nv_replay.specs.declared.fate.Fate.{Fate}
-use Rattle.nv_replay.specs.Follow.{Judge, Follower, follow, next, no_rules}
-use Rattle.nv_replay.specs.Versions.{Running, IsLeading}
+use Rattle.nv_replay.specs.Follow.{Judge, Follower, follow, follow_next, no_rules}
+use Rattle.nv_replay.specs.Version.{Running, IsLiveLeader}
 use Rattle.nv_replay.proofs.Fates.{fate_if}
 use Rattle.nv_replay.proofs.Fates as fates
 use Rattle.nv_sequence.specs.declared.leading.Turned.{Turned}

@@ -8,8 +8,8 @@ use Rattle.nv_threads.specs.Behaviours.{Behaviour, IsProcess}
 use Rattle.nv_replay.specs.declared.fate.Fate.{Fate}
 use Rattle.nv_replay.specs.Follow.{IsInStep}
 use Rattle.nv_replay.specs.Lead.{Leader, cut_of}
-use Rattle.nv_replay.specs.Sequence.{is_on}
-use Rattle.nv_replay.specs.Versions.{Running, IsLeading, leader_of}
+use Rattle.nv_replay.specs.Sequence.{is_going}
+use Rattle.nv_replay.specs.Version.{Running, IsLiveLeader, leader_of}
 use Rattle.nv_replay.proofs.Settled.{Reaches, reach_here, reach_on}
 use Rattle.nv_replay.proofs.Falling.{lead_size, next_call_falls}
 use Rattle.nv_replay.specs.Hands.{has, stays, is_handed, next_or_hand}
@@ -27,7 +27,7 @@ and_no false = refl
 module _ {P : Type 0} (g : Behaviour P) (laws : IsProcess g) (replies : Start) (most : ℕ) (hands : List ℕ) where
   pub record LedSo (start now : Running P) (first log : List Entry) (on : Bool) : Type 0 where
     pub goes : on ≡ true → (now.at.fate ≡ None) × (is_handed hands (length first) (leader_of now log) ≡ false)
-    pub stops : on ≡ false → is_handed hands (length first) (leader_of now log) ≡ is_on now.at.fate
+    pub stops : on ≡ false → is_handed hands (length first) (leader_of now log) ≡ is_going now.at.fate
     pub longer : length first ≤ length log
     pub reach : (c : Option ℕ) → Suits c now.at.fate (length log) → Reaches (next_or_hand g replies most c hands (length first)) (leader_of start first) (leader_of now log)
     pub led : LedOn g start now first log
@@ -35,9 +35,9 @@ module _ {P : Type 0} (g : Behaviour P) (laws : IsProcess g) (replies : Start) (
   not_here : (l : Leader P) → is_handed hands (length l.log) l ≡ false
   not_here l =
       let k : nat_le (length l.log) (length l.log) ≡ true = grind (arith, nat_tests) in
-      rw k (and_no (is_on l.fate))
+      rw k (and_no (is_going l.fate))
 
-  pub led_here : (start : Running P) (first : List Entry) → IsLeading start → start.at.seen ≡ length first
+  pub led_here : (start : Running P) (first : List Entry) → IsLiveLeader start → start.at.seen ≡ length first
       → IsInStep g first start.at → LedSo start start first first true
   led_here start first d s i = record {
     goes = λ h. (d.on, not_here (leader_of start first));
@@ -58,14 +58,14 @@ module _ {P : Type 0} (g : Behaviour P) (laws : IsProcess g) (replies : Start) (
   -- whether it goes on, after one more call
   record GoesOn (new : Running P) (first new_log : List Entry) (on : Bool) : Type 0 where
     goes : on ≡ true → (new.at.fate ≡ None) × (is_handed hands (length first) (leader_of new new_log) ≡ false)
-    stops : on ≡ false → is_handed hands (length first) (leader_of new new_log) ≡ is_on new.at.fate
+    stops : on ≡ false → is_handed hands (length first) (leader_of new new_log) ≡ is_going new.at.fate
 
   goes_by : (new : Running P) (first new_log : List Entry) (on : Bool) (f : Option Fate) (b : Bool) → new.at.fate ≡ f → has hands (length new_log) ≡ b
-      → (new.at.fate ≡ None → length first < length new_log) → on ≡ stays (is_on new.at.fate) hands (length new_log) → GoesOn new first new_log on
+      → (new.at.fate ≡ None → length first < length new_log) → on ≡ stays (is_going new.at.fate) hands (length new_log) → GoesOn new first new_log on
   goes_by new first new_log on (Some x) b e h l o =
-      let off : on ≡ false = o ∙ ap (λ (y : Option Fate). stays (is_on y) hands (length new_log)) e in record {
+      let off : on ≡ false = o ∙ ap (λ (y : Option Fate). stays (is_going y) hands (length new_log)) e in record {
         goes = λ z. let k : false ≡ true = sym off ∙ z in cc;
-        stops = λ z. ended_not_handed hands (length first) (leader_of new new_log) (ap is_on e) ∙ sym (ap is_on e);
+        stops = λ z. ended_not_handed hands (length first) (leader_of new new_log) (ap is_going e) ∙ sym (ap is_going e);
       }
   goes_by new first new_log on None true e h l o =
       let lt = l e in
@@ -78,15 +78,15 @@ module _ {P : Type 0} (g : Behaviour P) (laws : IsProcess g) (replies : Start) (
     stops = λ z. let y = rw (e, h) at o in let q : true ≡ false = sym y ∙ z in cc;
   }
 
-  longer_by : (f : Option Fate) (a b c : ℕ) → a ≤ b → (f ≡ None → c ≡ b + 1) → (is_on f ≡ false → b ≤ c) → a ≤ c
+  longer_by : (f : Option Fate) (a b c : ℕ) → a ≤ b → (f ≡ None → c ≡ b + 1) → (is_going f ≡ false → b ≤ c) → a ≤ c
   longer_by None a b c l h k = let e = h refl in omega arith
   longer_by (Some x) a b c l h k = let e = k refl in omega arith
 
   pub led_on : (start now new : Running P) (first log new_log : List Entry) (on : Bool) → LedSo start now first log true
-      → TookTurn g replies most now new log new_log → on ≡ stays (is_on new.at.fate) hands new.at.seen → LedSo start new first new_log on
+      → TookTurn g replies most now new log new_log → on ≡ stays (is_going new.at.fate) hands new.at.seen → LedSo start new first new_log on
   led_on start now new first log new_log on s t o =
       let n = (s.goes refl).0 in
-      let w : on ≡ stays (is_on new.at.fate) hands (length new_log) = o ∙ ap (stays (is_on new.at.fate) hands) t.on.seen in
+      let w : on ≡ stays (is_going new.at.fate) hands (length new_log) = o ∙ ap (stays (is_going new.at.fate) hands) t.on.seen in
       let go = goes_by new first new_log on new.at.fate (has hands (length new_log)) refl refl (λ z. let k = t.grew z in let l = s.longer in omega arith) w in record {
         goes = go.goes;
         stops = go.stops;
@@ -108,7 +108,7 @@ module _ {P : Type 0} (g : Behaviour P) (laws : IsProcess g) (replies : Start) (
         };
       }
 
-  rests_if : (c : Option ℕ) (first : List Entry) (l : Leader P) (b : Bool) → is_on l.fate ≡ b → is_handed hands (length first) l ≡ b
+  rests_if : (c : Option ℕ) (first : List Entry) (l : Leader P) (b : Bool) → is_going l.fate ≡ b → is_handed hands (length first) l ≡ b
       → next_or_hand g replies most c hands (length first) l ≡ l
   rests_if c first l true h k = handed_rests g replies most c hands (length first) l k
   rests_if c first l false h k = ended_rests g replies most c hands (length first) l h
@@ -116,7 +116,7 @@ module _ {P : Type 0} (g : Behaviour P) (laws : IsProcess g) (replies : Start) (
   pub led_whole : (start now : Running P) (first log : List Entry) → LedSo start now first log false → HasLed g replies most hands start now first log
   led_whole start now first log s = record {
     whole = λ c h. hand_is g replies most c hands (length first) laws (leader_of start first) (leader_of now log) (s.reach c h)
-        (rests_if c first (leader_of now log) (is_on now.at.fate) refl (s.stops refl));
+        (rests_if c first (leader_of now log) (is_going now.at.fate) refl (s.stops refl));
     on = s.led;
     handed = s.stops refl;
   }

@@ -5,10 +5,10 @@ ghost use Rattle.nv_calls.specs.Limits.{MOST_EVENTS};
 ghost use Rattle.nv_threads.specs.Threads.{threads};
 ghost use Rattle.nv_replay.specs.Follow.{IsInStep, follow, judge_of};
 ghost use Rattle.nv_replay.specs.Hands.{has, stays};
-ghost use Rattle.nv_replay.specs.Sequence.{is_on};
-ghost use Rattle.nv_replay.specs.Versions.{IsLeading, answered_by};
+ghost use Rattle.nv_replay.specs.Sequence.{is_going};
+ghost use Rattle.nv_replay.specs.Version.{IsLiveLeader, became_event};
 ghost use Rattle.nv_replay.specs.Turns.{TookTurn};
-ghost use Rattle.nv_sequence.specs.Passing.{HasLed, TurnDone, IsIdle, followed, given_up, turned_of};
+ghost use Rattle.nv_sequence.specs.Passing.{HasLed, TurnDone, MayHaveTurn, followed, given_up, turned_of};
 
 use nv_bpf::Filter;
 use nv_calls::SyscallKernel;
@@ -33,7 +33,7 @@ pub fn take_turn<K: SyscallKernel>(
     most: u32,
     hands: &[u32],
 ) -> Turned
-    requires idle { IsIdle threads (K.log kernel.old) version.old }
+    requires idle { MayHaveTurn threads (K.log kernel.old) version.old }
     requires most { most ≤ MOST_EVENTS }
     ensures turn { let judges = judge_of (option_map (λ f. f.now) rules.entry) in
         TurnDone threads (K.start kernel.old) most hands.now (followed threads judges (K.log kernel.old) version.old) version.new
@@ -68,7 +68,7 @@ fn end_turn(version: &mut Version) -> Turned
 
 /// Leads until the version ends, or until it has made the log as long as one of `hands`.
 pub fn lead_all<K: SyscallKernel>(version: &mut Version, kernel: &mut K, most: u32, hands: &[u32])
-    requires leading { IsLeading version.old }
+    requires leading { IsLiveLeader version.old }
     requires seen { version.old.at.seen ≡ length (K.log kernel.old) }
     requires in_step { IsInStep threads (K.log kernel.old) version.old.at }
     requires most { most ≤ MOST_EVENTS }
@@ -88,13 +88,13 @@ fn next_call<K: SyscallKernel>(
     most: u32,
     hands: &[u32],
 ) -> bool
-    requires leading { IsLeading version.old }
+    requires leading { IsLiveLeader version.old }
     requires seen { version.old.at.seen ≡ length (K.log kernel.old) }
     requires in_step { IsInStep threads (K.log kernel.old) version.old.at }
     requires most { most ≤ MOST_EVENTS }
     ensures turn { TookTurn threads (K.start kernel.old) most version.old version.new (K.log kernel.old) (K.log kernel.new) }
     ensures start { K.start kernel.new ≡ K.start kernel.old }
-    ensures on { result ≡ stays (is_on version.new.at.fate) hands.now version.new.at.seen }
+    ensures on { result ≡ stays (is_going version.new.at.fate) hands.now version.new.at.seen }
 {
     one_call(version, kernel, most) && !is_planned(hands, version.standing().seen)
 }
@@ -107,13 +107,13 @@ fn is_planned(hands: &[u32], length: u32) -> bool
 
 /// One call is served and logged, or the version ends; whether it goes on.
 fn one_call<K: SyscallKernel>(version: &mut Version, kernel: &mut K, most: u32) -> bool
-    requires leading { IsLeading version.old }
+    requires leading { IsLiveLeader version.old }
     requires seen { version.old.at.seen ≡ length (K.log kernel.old) }
     requires in_step { IsInStep threads (K.log kernel.old) version.old.at }
     requires most { most ≤ MOST_EVENTS }
     ensures turn { TookTurn threads (K.start kernel.old) most version.old version.new (K.log kernel.old) (K.log kernel.new) }
     ensures start { K.start kernel.new ≡ K.start kernel.old }
-    ensures on { result ≡ is_on version.new.at.fate }
+    ensures on { result ≡ is_going version.new.at.fate }
 {
     match version.lead(most) {
         Led::Dropped(_) => false,
@@ -140,7 +140,7 @@ fn serve_call<K: SyscallKernel>(version: &mut Version, kernel: &mut K, tid: u32)
     ensures log { K.log kernel.new ≡ K.log kernel.old ++ served (K.start kernel.old) (K.log kernel.old) (threads.call version.old.at.process tid) ∷ [] }
     ensures start { K.start kernel.new ≡ K.start kernel.old }
     ensures lawful { IsLawful (K.log kernel.new) }
-    ensures version { version.new ≡ answered_by threads (served (K.start kernel.old) (K.log kernel.old) (threads.call version.old.at.process tid)) version.old }
+    ensures version { version.new ≡ became_event threads (served (K.start kernel.old) (K.log kernel.old) (threads.call version.old.at.process tid)) version.old }
 {
     kernel.serve(version.pending(tid));
     let at = version.standing().seen as usize;

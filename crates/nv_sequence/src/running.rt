@@ -5,12 +5,13 @@ ghost use Rattle.nv_threads.specs.Threads.{threads};
 ghost use Rattle.nv_replay.specs.Follow.{judge_of, IsInStep};
 ghost use Rattle.nv_replay.specs.Sequence.{cuts_of};
 ghost use Rattle.nv_replay.specs.Monitor.{sequence, numbers};
-ghost use Rattle.nv_replay.specs.Versions.{standing_of, process_of};
-ghost use Rattle.nv_replay.specs.Accounts.{AreFresh};
+ghost use Rattle.nv_replay.specs.Version.{standing_of, process_of};
+ghost use Rattle.nv_replay.specs.Account.{AreFresh};
 ghost use Rattle.nv_replay.specs.Covers.{AreEnded, Covers};
-ghost use Rattle.nv_sequence.specs.Rests.{AreRested, IsRested, AreInStep};
+ghost use Rattle.nv_sequence.specs.inner.Rests.{AreRested, IsRested, AreInStep};
 ghost use Rattle.nv_replay.specs.Survivors.{SurvivorsAgree};
-ghost use Rattle.nv_sequence.specs.Passing.{IsReady, NextTurn, followed};
+ghost use Rattle.nv_sequence.specs.Passing.{followed};
+ghost use Rattle.nv_sequence.specs.inner.Passing.{FirstMayHaveTurn, NextTurn};
 
 use crate::{Turned, take_turn};
 use arrayvec::ArrayVec;
@@ -94,7 +95,7 @@ fn one_turn<K: SyscallKernel>(
     most: u32,
     hands: &[u32],
 ) -> bool
-    requires ready { IsReady threads (K.log kernel.old) versions.old order.old.items }
+    requires ready { FirstMayHaveTurn threads (K.log kernel.old) versions.old order.old.items }
     requires most { most ≤ MOST_EVENTS }
     ensures turn { NextTurn threads (judge_of (option_map (λ f. f.now) rules.entry)) (K.start kernel.old) most hands.now versions.old versions.new order.old.items order.new.items
         (K.log kernel.old) (K.log kernel.new) result }

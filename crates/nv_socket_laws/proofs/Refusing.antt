@@ -13,28 +13,28 @@ use Rattle.nv_fs.specs.Fetched.{read_of, read_open}
 use Rattle.nv_fs.specs.declared.open_file.OpenFile.{OpenFile}
 use Rattle.nv_fs.specs.States.{FileState, open_of, numbered, only}
 use Rattle.nv_fs.specs.Stored.{write_of, write_open}
-use Rattle.nv_fs_laws.specs.Tables.{IsSound}
+use Rattle.nv_fs_laws.specs.Tables.{AreSoundTables}
 use Rattle.nv_kernel.specs.Serving as kernel
 use Rattle.nv_kernel.specs.Serving.{serve}
 use Rattle.nv_sockets.specs.declared.socket.Socket.{Socket}
 use Rattle.nv_sockets.specs.Sockets.{Net, Answer, socket_at}
 use Rattle.nv_sockets.specs.Serving.{State, of_open, unless_many, answered, unless_bad}
-use Rattle.nv_socket_laws.specs.Refused.{IsRefused}
+use Rattle.nv_socket_laws.specs.Refused.{ChangesCountAlone}
 
 -- a descriptor from 64 on is that of no file
-far : (s : FileState) (fd : ℕ) → IsSound s → 64 ≤ fd → open_of s fd ≡ None
+far : (s : FileState) (fd : ℕ) → AreSoundTables s → 64 ≤ fd → open_of s fd ≡ None
 unfolding open_of
 far s fd h l = let n = h.count in ap (numbered s.opens) (get_or_past s.descriptors fd None (omega arith))
 
-read_far : (s : FileState) (fd n : ℕ) → IsSound s → 64 ≤ fd → read_of s fd n ≡ only s EBADF
+read_far : (s : FileState) (fd n : ℕ) → AreSoundTables s → 64 ≤ fd → read_of s fd n ≡ only s EBADF
 unfolding read_of
 read_far s fd n h l = ap (λ (o : Option (ℕ × OpenFile)). read_open s o (min n 4096)) (far s fd h l)
 
-write_far : (s : FileState) (fd : ℕ) (bytes : List ℕ) → IsSound s → 64 ≤ fd → write_of s fd bytes ≡ only s EBADF
+write_far : (s : FileState) (fd : ℕ) (bytes : List ℕ) → AreSoundTables s → 64 ≤ fd → write_of s fd bytes ≡ only s EBADF
 unfolding write_of
 write_far s fd bytes h l = ap (λ (o : Option (ℕ × OpenFile)). write_open s o bytes) (far s fd h l)
 
-close_far : (s : FileState) (fd : ℕ) → IsSound s → 64 ≤ fd → close_of s fd ≡ only s EBADF
+close_far : (s : FileState) (fd : ℕ) → AreSoundTables s → 64 ≤ fd → close_of s fd ≡ only s EBADF
 unfolding close_of
 close_far s fd h l = ap (close_open s fd) (far s fd h l)
 
@@ -65,13 +65,13 @@ many_few count found a h = by (nat_lt 1024 count) refl h
 abbrev Errs : kernel.State → kernel.Served → Type 0
 Errs s r = r ≡ kernel.replied s EBADF []
 
-refused_as : (s : kernel.State) (r : kernel.Served) → Errs s r → IsRefused s (kernel.counted r)
-refused_as s r h = subst (λ (z : kernel.Served). IsRefused s (kernel.counted z)) (sym h) (record { state = refl; error = refl; payload = refl })
+refused_as : (s : kernel.State) (r : kernel.Served) → Errs s r → ChangesCountAlone s (kernel.counted r)
+refused_as s r h = subst (λ (z : kernel.Served). ChangesCountAlone s (kernel.counted z)) (sym h) (record { state = refl; error = refl; payload = refl })
 
 many_refused : (s : kernel.State) (count : ℕ) (r : kernel.Served) → nat_lt 1024 count ≡ false → Errs s r → Errs s (kernel.unless_many s count r)
 many_refused s count r h e = ap (λ (b : Bool). cond {A = kernel.Served} b (kernel.replied s EINVAL []) r) h ∙ e
 
-module _ (s : State) (c : Request) (h : IsSound s.own.files) where
+module _ (s : State) (c : Request) (h : AreSoundTables s.own.files) where
   abbrev fd : ℕ
   fd = slice_index c.args 0
 
@@ -84,7 +84,7 @@ module _ (s : State) (c : Request) (h : IsSound s.own.files) where
   wrote : 64 ≤ fd → Errs s.own (kernel.of_files s.own (write_of s.own.files fd c.payload))
   wrote l = ap (kernel.of_files s.own) (write_far s.own.files fd c.payload h l)
 
-  by_kind : (k : Syscall) (a : Answer) → answered k s.net c ≡ Some a → IsRefused s.own (kernel.counted (kernel.answered k s.own c))
+  by_kind : (k : Syscall) (a : Answer) → answered k s.net c ≡ Some a → ChangesCountAlone s.own (kernel.counted (kernel.answered k s.own c))
   by_kind call.Socket a e = record { state = refl; error = refl; payload = refl }
   by_kind call.Bind a e = record { state = refl; error = refl; payload = refl }
   by_kind call.Listen a e = record { state = refl; error = refl; payload = refl }
@@ -101,11 +101,11 @@ module _ (s : State) (c : Request) (h : IsSound s.own.files) where
       refused_as s.own _ (many_refused s.own (slice_index c.args 2) _ few.0 (wrote (open_far s.net fd _ a few.1)))
   by_kind _ a e = cc
 
-pub refusing : (s : State) (c : Request) (a : Answer) → IsSound s.own.files → unless_bad s.net c ≡ Some a → IsRefused s.own (kernel.serve s.own c)
+pub refusing : (s : State) (c : Request) (a : Answer) → AreSoundTables s.own.files → unless_bad s.net c ≡ Some a → ChangesCountAlone s.own (kernel.serve s.own c)
 unfolding serve
 refusing s c a h e = by c.bad e
   where
     by : (b : Bool) → cond {A = Option Answer} b None (answered (syscall_of c.nr) s.net c) ≡ Some a
-        → IsRefused s.own (kernel.counted (cond {A = kernel.Served} b (kernel.replied s.own EFAULT []) (kernel.answered (syscall_of c.nr) s.own c)))
+        → ChangesCountAlone s.own (kernel.counted (cond {A = kernel.Served} b (kernel.replied s.own EFAULT []) (kernel.answered (syscall_of c.nr) s.own c)))
     by true g = cc
     by false g = by_kind s c h (syscall_of c.nr) a g

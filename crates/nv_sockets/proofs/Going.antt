@@ -10,7 +10,7 @@ use Rattle.nv_kernel.proofs.Going as was
 use Rattle.nv_kernel.proofs.Keeping.{map_more}
 use Rattle.nv_sockets.specs.Kernel.{links_after}
 use Rattle.nv_sockets.specs.Sockets.{Answer}
-use Rattle.nv_sockets.specs.Serving.{State, Served, unless_bad, or_own, beside, joined, serve, state_after, reply_of, written, first_state, start_of_script}
+use Rattle.nv_sockets.specs.Serving.{State, Served, unless_bad, or_own, beside, joined, serve, state_after, reply_of, link_written, first_state, start_of_script}
 
 -- a call by the answer of the kernel without sockets and what takes its place
 pub serve_is : (s : State) (c : Request) (r : kernel.Served) (a : Answer) → kernel.serve s.own c ≡ r → or_own s.net r.ret r.payload (unless_bad s.net c) ≡ a → serve s c ≡ beside r.state a
@@ -52,6 +52,6 @@ pub output_is : (setup : Setup) (log : List Entry) → output_of (start_of_scrip
 unfolding start_of_script
 output_is setup log = refl
 
-pub connections_is : (setup : Setup) (log : List Entry) → connections_of (start_of_script setup) log ≡ map written (links_after setup log)
+pub connections_is : (setup : Setup) (log : List Entry) → connections_of (start_of_script setup) log ≡ map link_written (links_after setup log)
 unfolding start_of_script
 connections_is setup log = refl

@@ -6,7 +6,7 @@ use Rattle.std.specs.Prelude.{vec_capacity, slice_index}
 use Rattle.std.proofs.lemmas.List.{map-set, get_or-map, set-get_or, get_or-set_same, length-set, length-map}
 use Rattle.nv_sockets.specs.declared.connection.Connection.{Connection}
 use Rattle.nv_sockets.specs.declared.sockets.Sockets.TheInside.{Inside}
-use Rattle.nv_sockets.specs.Sockets.{Link, Net, link_at, output_of, with_output}
+use Rattle.nv_sockets.specs.Sockets.{Link, Net, link_at, link_output, with_output}
 use Rattle.nv_sockets.specs.Reserved.{Buffered}
 use Rattle.nv_sockets.specs.Views.{link_of, capacity_of, net_of, buffered_of}
 
@@ -31,10 +31,10 @@ output_changed a w i c v bytes view l h e =
     link_changed a w i (record c { output = v }) (record (link_at w.net i) { output = bytes }) view
     (λ j. record { port = (link_is a w i c view l h j).port; input = (link_is a w i c view l h j).input; output = e j })
 
-pub output_is : (a : Inside) (w : Buffered) (i : ℕ) (c : Connection) → buffered_of a ≡ w → i < length a.connections.items → c ≡ get_or a.connections.items i c → c.output.items ≡ output_of w.net i
+pub output_is : (a : Inside) (w : Buffered) (i : ℕ) (c : Connection) → buffered_of a ≡ w → i < length a.connections.items → c ≡ get_or a.connections.items i c → c.output.items ≡ link_output w.net i
 output_is a w i c view l h = ap (λ (z : Link). z.output) (link_is a w i c view l h)
 
-pub output_same : (net : Net) (i : ℕ) → with_output net i (output_of net i) ≡ net
+pub output_same : (net : Net) (i : ℕ) → with_output net i (link_output net i) ≡ net
 output_same net i = ap (λ (z : List Link). record net { links = z }) (set-get_or net.links i _)
 
 pub capacity_is : (xs : List Connection) (i : ℕ) (c : Connection) → i < length xs → vec_capacity c.output ≡ slice_index (map capacity_of (set xs i c)) i

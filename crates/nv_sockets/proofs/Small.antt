@@ -11,7 +11,7 @@ use Rattle.nv_calls.specs.Numbers.{syscall_of}
 use Rattle.nv_kernel.specs.Reserved.{most_out}
 use Rattle.nv_sockets.specs.declared.socket.Socket.{Socket}
 use Rattle.nv_sockets.specs.declared.socket.Socket.TheVariants.{Fresh, Bound, Listening, Connected}
-use Rattle.nv_sockets.specs.Sockets.{Net, Answer, answer, only, socket_at, on_socket, with_socket, free_place, is_tcp, made_at, socket_of, is_size, port_in, is_used, bind_to, bind_socket, bind_of, listen_socket, listen_of, next_at, accept_next, are_flags, accept_socket, accept_flagged, accept_of, input_of, output_of, with_output, read_socket, write_link, write_socket, close_socket}
+use Rattle.nv_sockets.specs.Sockets.{Net, Answer, answer, only, socket_at, on_socket, with_socket, free_place, is_tcp, made_at, socket_of, is_size, port_in, is_used, bind_to, bind_socket, bind_of, listen_socket, listen_of, next_at, accept_next, are_flags, accept_socket, accept_flagged, accept_of, input_of, link_output, with_output, read_socket, write_link, write_socket, close_socket}
 use Rattle.nv_sockets.specs.Serving.{of_open, unless_many, answered, unless_bad, or_own}
 
 by_test : (b : Bool) (x y : Answer) (n : ℕ) → length x.payload ≤ n → length y.payload ≤ n → length (cond b x y).payload ≤ n
@@ -82,8 +82,8 @@ read_small net fd n (Connected i read) = take_small n (drop read (input_of net i
 write_link_small : (net : Net) (limit i : ℕ) (bytes : List ℕ) (n : ℕ) → length (write_link net limit i bytes).payload ≤ n
 write_link_small net limit i bytes n =
     by_test (length bytes == 0) (only net (pos 0)) _ n (omega arith)
-    (by_test (nat_le limit (length (output_of net i))) (only net ENOSPC)
-    (let part = take (limit - length (output_of net i)) bytes in answer (with_output net i (output_of net i ++ part)) (pos (length part)) []) n (omega arith) (omega arith))
+    (by_test (nat_le limit (length (link_output net i))) (only net ENOSPC)
+    (let part = take (limit - length (link_output net i)) bytes in answer (with_output net i (link_output net i ++ part)) (pos (length part)) []) n (omega arith) (omega arith))
 
 write_small : (net : Net) (bytes : List ℕ) (s : Socket) (n : ℕ) → length (write_socket net bytes s).payload ≤ n
 write_small net bytes Fresh n = omega arith

@@ -4,10 +4,10 @@ use Rattle.nv_calls.specs.declared.numbers.Syscall.{Syscall}
 use Rattle.nv_calls.specs.declared.numbers.Syscall.TheVariants.{Write, Writev}
 use Rattle.nv_calls.specs.Calls.{Request}
 use Rattle.nv_calls.specs.Numbers.{syscall_of}
-use Rattle.nv_kernel.specs.Serving.{arg}
+use Rattle.nv_kernel.specs.Serving.{request_arg}
 use Rattle.nv_sockets.specs.declared.socket.Socket.{Socket}
 use Rattle.nv_sockets.specs.declared.socket.Socket.TheVariants.{Fresh, Bound, Listening, Connected}
-use Rattle.nv_sockets.specs.Sockets.{Net, socket_at, output_of}
+use Rattle.nv_sockets.specs.Sockets.{Net, socket_at, link_output}
 
 -- the sockets, and how many bytes that are written to each connection have memory
 pub record Buffered : Type 0 where
@@ -15,12 +15,12 @@ pub record Buffered : Type 0 where
   pub buffers : List ℕ
 
 -- a connection has memory for so many bytes in all
-abbrev pub Holds : Buffered → ℕ → ℕ → Type 0
-Holds w i n = i < length w.net.links → n ≤ slice_index w.buffers i
+abbrev pub HasMemory : Buffered → ℕ → ℕ → Type 0
+HasMemory w i n = i < length w.net.links → n ≤ slice_index w.buffers i
 
 -- there is memory for n more bytes of a connection, as far as they fit
 abbrev pub HoldsMore : Buffered → ℕ → ℕ → Type 0
-HoldsMore w i n = Holds w i (length (output_of w.net i) + min n (1048576 - length (output_of w.net i)))
+HoldsMore w i n = HasMemory w i (length (link_output w.net i) + min n (1048576 - length (link_output w.net i)))
 
 abbrev pub CanWriteTo : Buffered → Option Socket → ℕ → Type 0
 CanWriteTo w None n = Unit {0}
@@ -34,8 +34,8 @@ unfoldable pub CanWrite : Buffered → ℕ → ℕ → Type 0
 CanWrite w fd n = CanWriteTo w (socket_at w.net fd) n
 
 abbrev pub can_send : Syscall → Buffered → Request → Type 0
-can_send Write w c = CanWrite w (arg c 0) (length c.payload)
-can_send Writev w c = CanWrite w (arg c 0) (length c.payload)
+can_send Write w c = CanWrite w (request_arg c 0) (length c.payload)
+can_send Writev w c = CanWrite w (request_arg c 0) (length c.payload)
 can_send _ w c = Unit {0}
 
 -- there is memory for what the call writes to a connection

@@ -8,7 +8,7 @@ use Rattle.nv_calls.specs.Logs.{Start, Written}
 use Rattle.nv_calls.specs.Numbers.{syscall_of}
 use Rattle.nv_script.specs.Scripts.{Incoming, Setup}
 use Rattle.nv_kernel.specs.Serving as kernel
-use Rattle.nv_kernel.specs.Serving.{arg}
+use Rattle.nv_kernel.specs.Serving.{request_arg}
 use Rattle.nv_sockets.specs.declared.socket.Socket.{Socket}
 use Rattle.nv_sockets.specs.Sockets.{Link, Net, Answer, answer, no_sockets, socket_at, socket_of, bind_of, listen_of, accept_of, read_socket, write_socket, close_socket}
 
@@ -24,16 +24,16 @@ unless_many count found = if nat_lt MOST_VECTORS count then None else found
 
 -- what takes the place of the kernel's own answer, where something does
 abbrev pub answered : Syscall → Net → Request → Option Answer
-answered call.Socket net c = Some (socket_of net (arg c 0) (arg c 1) (arg c 2))
-answered call.Bind net c = Some (bind_of net (arg c 0) (arg c 2) c.payload)
-answered call.Listen net c = Some (listen_of net (arg c 0))
-answered call.Accept net c = Some (accept_of net (arg c 0) 0)
-answered call.Accept4 net c = Some (accept_of net (arg c 0) (arg c 3))
-answered call.Close net c = of_open net (arg c 0) (close_socket net (arg c 0))
-answered call.Read net c = of_open net (arg c 0) (read_socket net (arg c 0) (min (arg c 2) MOST_BYTES))
-answered call.Readv net c = unless_many (arg c 2) (of_open net (arg c 0) (read_socket net (arg c 0) (min (arg c 3) MOST_BYTES)))
-answered call.Write net c = of_open net (arg c 0) (write_socket net c.payload)
-answered call.Writev net c = unless_many (arg c 2) (of_open net (arg c 0) (write_socket net c.payload))
+answered call.Socket net c = Some (socket_of net (request_arg c 0) (request_arg c 1) (request_arg c 2))
+answered call.Bind net c = Some (bind_of net (request_arg c 0) (request_arg c 2) c.payload)
+answered call.Listen net c = Some (listen_of net (request_arg c 0))
+answered call.Accept net c = Some (accept_of net (request_arg c 0) 0)
+answered call.Accept4 net c = Some (accept_of net (request_arg c 0) (request_arg c 3))
+answered call.Close net c = of_open net (request_arg c 0) (close_socket net (request_arg c 0))
+answered call.Read net c = of_open net (request_arg c 0) (read_socket net (request_arg c 0) (min (request_arg c 2) MOST_BYTES))
+answered call.Readv net c = unless_many (request_arg c 2) (of_open net (request_arg c 0) (read_socket net (request_arg c 0) (min (request_arg c 3) MOST_BYTES)))
+answered call.Write net c = of_open net (request_arg c 0) (write_socket net c.payload)
+answered call.Writev net c = unless_many (request_arg c 2) (of_open net (request_arg c 0) (write_socket net c.payload))
 answered _ net c = None
 
 -- a call on memory that isn't the guest's keeps the kernel's own answer
@@ -79,15 +79,15 @@ abbrev pub reply_of : Served → Response
 reply_of r = record { ret = r.ret; payload = r.payload }
 
 -- what was written to a connection
-abbrev pub written : Link → Written
-written link = record { port = link.port; bytes = link.output }
+abbrev pub link_written : Link → Written
+link_written link = record { port = link.port; bytes = link.output }
 
 -- how the kernel goes on from a state
 abbrev pub start_at : State → Start
 start_at s = record {
   replies = λ cs c. reply_of (serve (state_after s cs) c);
   console = λ cs. (state_after s cs).own.files.console;
-  connections = λ cs. map written (state_after s cs).net.links;
+  connections = λ cs. map link_written (state_after s cs).net.links;
 }
 
 -- a connection to which nothing was written

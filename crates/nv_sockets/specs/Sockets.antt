@@ -60,8 +60,8 @@ unfoldable pub free_place : Net → Option ℕ
 free_place net = position_from is_none 0 net.sockets
 
 -- a new socket at a place; its descriptor is the result
-abbrev pub opened : Net → ℕ → Socket → Answer
-opened net place socket = answer (record net { sockets = slice_set net.sockets place (Some socket) }) (pos (64 + place)) []
+abbrev pub socket_opened : Net → ℕ → Socket → Answer
+socket_opened net place socket = answer (record net { sockets = slice_set net.sockets place (Some socket) }) (pos (64 + place)) []
 
 -- ---- socket(2)
 
@@ -79,7 +79,7 @@ is_tcp domain kind protocol = (domain == 2) && (is_stream kind && ((protocol == 
 
 abbrev pub made_at : Net → Option ℕ → Answer
 made_at net None = only net EMFILE
-made_at net (Some place) = opened net place Fresh
+made_at net (Some place) = socket_opened net place Fresh
 
 unfoldable pub socket_of : Net → ℕ → ℕ → ℕ → Answer
 socket_of net domain kind protocol = if is_tcp domain kind protocol then made_at net (free_place net) else only net EINVAL
@@ -134,13 +134,13 @@ listen_of net fd = on_socket net fd (socket_at net fd) (listen_socket net fd)
 
 -- ---- accept(2)
 
-abbrev pub waits_at : ℕ → Option ℕ → Bool
-waits_at port None = false
-waits_at port (Some other) = other == port
+abbrev pub waits_at_port : ℕ → Option ℕ → Bool
+waits_at_port port None = false
+waits_at_port port (Some other) = other == port
 
 -- the first connection that waits at the port, in the script's order
 unfoldable pub next_at : Net → ℕ → Option ℕ
-next_at net port = position_from (waits_at port) 0 net.waiting
+next_at net port = position_from (waits_at_port port) 0 net.waiting
 
 -- the connection waits no longer
 abbrev pub with_accepted : Net → ℕ → Net
@@ -150,7 +150,7 @@ with_accepted net i = record net { waiting = slice_set net.waiting i None }
 abbrev pub accept_next : Net → Option ℕ → Option ℕ → Answer
 accept_next net None next = only net EMFILE
 accept_next net (Some place) None = only net EAGAIN
-accept_next net (Some place) (Some i) = opened (with_accepted net i) place (Connected i 0)
+accept_next net (Some place) (Some i) = socket_opened (with_accepted net i) place (Connected i 0)
 
 abbrev pub accept_socket : Net → Socket → Answer
 accept_socket net Fresh = only net EINVAL
@@ -173,8 +173,8 @@ link_at net i = slice_index_or net.links i record { port = 0; input = []; output
 abbrev pub input_of : Net → ℕ → List ℕ
 input_of net i = (link_at net i).input
 
-abbrev pub output_of : Net → ℕ → List ℕ
-output_of net i = (link_at net i).output
+abbrev pub link_output : Net → ℕ → List ℕ
+link_output net i = (link_at net i).output
 
 -- at most n bytes of what is left
 abbrev pub read_link : Net → ℕ → ℕ → ℕ → ℕ → Answer
@@ -197,8 +197,8 @@ with_output net i bytes = record net { links = slice_set net.links i (record (li
 abbrev pub write_link : Net → ℕ → ℕ → List ℕ → Answer
 write_link net limit i bytes =
     if length bytes == 0 then only net (pos 0)
-    else (if nat_le limit (length (output_of net i)) then only net ENOSPC
-    else (let part = take (limit - length (output_of net i)) bytes in answer (with_output net i (output_of net i ++ part)) (pos (length part)) []))
+    else (if nat_le limit (length (link_output net i)) then only net ENOSPC
+    else (let part = take (limit - length (link_output net i)) bytes in answer (with_output net i (link_output net i ++ part)) (pos (length part)) []))
 
 abbrev pub write_socket : Net → List ℕ → Socket → Answer
 write_socket net bytes Fresh = only net EPIPE

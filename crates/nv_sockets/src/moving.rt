@@ -1,9 +1,9 @@
 // read, write and close of sockets, and the calls by their numbers.
 ghost use Rattle.std.specs.Prelude.{◌≡◌, ◌+◌, ◌≤◌, ◌<◌, [], ◌++◌, Some, min, length, OnOk};
 ghost use Rattle.nv_calls.specs.Calls.{request};
-ghost use Rattle.nv_sockets.specs.Sockets.{answer, input_of, output_of, read_link, read_socket, with_output, write_link, write_socket, close_socket};
+ghost use Rattle.nv_sockets.specs.Sockets.{answer, input_of, link_output, read_link, read_socket, with_output, write_link, write_socket, close_socket};
 ghost use Rattle.nv_sockets.specs.Serving.{of_open, unless_many, answered, or_own};
-ghost use Rattle.nv_sockets.specs.Reserved.{Holds, HoldsMore, CanWriteTo, CanWrite, can_send};
+ghost use Rattle.nv_sockets.specs.Reserved.{HasMemory, HoldsMore, CanWriteTo, CanWrite, can_send};
 
 use crate::parts::{append, hand_out, prefix, refuse, reserve_to};
 use crate::socket::Socket;
@@ -29,7 +29,7 @@ impl Sockets {
 
     // What was written to a connection.
     fn output(&self, i: usize) -> &[u8]
-        ensures { result.now ≡ output_of self.now.net i }
+        ensures { result.now ≡ link_output self.now.net i }
     {
         if i < self.connections.len() {
             self.connections[i].output.as_slice()
@@ -66,8 +66,8 @@ impl Sockets {
     }
 
     fn append_to(&mut self, i: usize, bytes: &[u8])
-        requires { Holds self.old i (length (output_of self.old.net i) + length bytes.now) }
-        ensures { self.new.net ≡ with_output self.old.net i (output_of self.old.net i ++ bytes.now) }
+        requires { HasMemory self.old i (length (link_output self.old.net i) + length bytes.now) }
+        ensures { self.new.net ≡ with_output self.old.net i (link_output self.old.net i ++ bytes.now) }
     {
         if i < self.connections.as_slice().len() {
             append(&mut self.connections[i].output, bytes);
@@ -209,7 +209,7 @@ impl Sockets {
 
     fn reserve_output(&mut self, i: usize, most: usize) -> Result<(), AllocError>
         ensures net { self.new.net ≡ self.old.net }
-        ensures ok { OnOk result (Holds self.new i most) }
+        ensures ok { OnOk result (HasMemory self.new i most) }
     {
         if i < self.connections.as_slice().len() {
             reserve_to(&mut self.connections[i].output, most)

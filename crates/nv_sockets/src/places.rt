@@ -1,7 +1,7 @@
 // What a descriptor names, which are free, and which ports are in use.
 ghost use Rattle.std.specs.Prelude.{◌≡◌, ◌<◌, ◌≤◌, [], length, is_none, IfSome, slice_index_or, None};
 ghost use Rattle.std.specs.List.{position_from, list_any};
-ghost use Rattle.nv_sockets.specs.Sockets.{answer, fault_of, socket_at, with_socket, free_place, opened, has_port, is_used, waits_at, next_at, with_accepted};
+ghost use Rattle.nv_sockets.specs.Sockets.{answer, fault_of, socket_at, with_socket, free_place, socket_opened, has_port, is_used, waits_at_port, next_at, with_accepted};
 
 use crate::socket::Socket;
 use crate::sockets::{FIRST_SOCKET, Sockets};
@@ -44,8 +44,8 @@ fn any_has_port(sockets: &[Option<Socket>], port: u32) -> bool
     sockets.iter().any(|socket| has_port(*socket, port))
 }
 
-fn waits_at(waiting: Option<u32>, port: u32) -> bool
-    ensures { result ≡ waits_at port waiting }
+fn waits_at_port(waiting: Option<u32>, port: u32) -> bool
+    ensures { result ≡ waits_at_port port waiting }
 {
     match waiting {
         Some(other) => other == port,
@@ -54,10 +54,12 @@ fn waits_at(waiting: Option<u32>, port: u32) -> bool
 }
 
 fn first_at(waiting: &[Option<u32>], port: u32) -> Option<usize>
-    ensures is { result ≡ position_from (waits_at port) 0 waiting.now }
+    ensures is { result ≡ position_from (waits_at_port port) 0 waiting.now }
     ensures inside { IfSome result (λ i. i < length waiting.now) }
 {
-    waiting.iter().position(|waiting| waits_at(*waiting, port))
+    waiting
+        .iter()
+        .position(|waiting| waits_at_port(*waiting, port))
 }
 
 /// The error of a call whose descriptor isn't that of an open socket.
@@ -101,7 +103,7 @@ impl Sockets {
     /// A new socket at this place; the answer is its descriptor.
     pub(crate) fn install(&mut self, place: usize, socket: Socket) -> i32
         requires { place < 64 }
-        ensures { opened self.old.net place socket ≡ answer self.new.net result [] }
+        ensures { socket_opened self.old.net place socket ≡ answer self.new.net result [] }
     {
         self.sockets[place] = Some(socket);
         (FIRST_SOCKET as usize + place) as i32

@@ -3,7 +3,7 @@ ghost use Rattle.std.specs.Prelude.{◌≡◌, ◌+◌, ◌<◌, ◌^◌, length
 ghost use Rattle.nv_calls.specs.Logs.{connections_of};
 ghost use Rattle.nv_outside.specs.Sink.{Puts};
 ghost use Rattle.nv_sockets.specs.Serving.{start_of_script};
-ghost use Rattle.nv_sockets.specs.Texts.{count_text, line_text, lines_text, connections_text};
+ghost use Rattle.nv_sockets.specs.Texts.{connection_count_text, connection_text, connection_texts, connections_text};
 ghost use Rattle.nv_sockets.specs.Views.{written_of};
 
 use crate::connection::Connection;
@@ -12,7 +12,7 @@ use itoa::Buffer;
 use nv_outside::{Put, Sink, put_pieces};
 
 fn put_count<S: Sink>(sink: &mut S, connections: usize) -> Put
-    ensures { Puts (S.told sink.old) (S.faults sink.old) (count_text connections) result (S.told sink.new) (S.faults sink.new) }
+    ensures { Puts (S.told sink.old) (S.faults sink.old) (connection_count_text connections) result (S.told sink.new) (S.faults sink.new) }
 {
     let mut buffer = Buffer::new();
     put_pieces(
@@ -26,13 +26,13 @@ fn put_count<S: Sink>(sink: &mut S, connections: usize) -> Put
 }
 
 fn put_line<S: Sink>(sink: &mut S, index: usize, connection: &Connection) -> Put
-    ensures { Puts (S.told sink.old) (S.faults sink.old) (line_text index (written_of connection.now)) result (S.told sink.new) (S.faults sink.new) }
+    ensures { Puts (S.told sink.old) (S.faults sink.old) (connection_text index (written_of connection.now)) result (S.told sink.new) (S.faults sink.new) }
 {
     put_written(sink, index, connection.port, connection.output.as_slice())
 }
 
 fn put_written<S: Sink>(sink: &mut S, index: usize, port: u32, output: &[u8]) -> Put
-    ensures { Puts (S.told sink.old) (S.faults sink.old) (line_text index (record { port = port; bytes = output.now })) result (S.told sink.new) (S.faults sink.new) }
+    ensures { Puts (S.told sink.old) (S.faults sink.old) (connection_text index (record { port = port; bytes = output.now })) result (S.told sink.new) (S.faults sink.new) }
 {
     let mut first = Buffer::new();
     let mut second = Buffer::new();
@@ -56,7 +56,7 @@ fn put_written<S: Sink>(sink: &mut S, index: usize, port: u32, output: &[u8]) ->
 // Each connection, with the numbers from `first` on.
 fn put_lines<S: Sink>(sink: &mut S, first: usize, connections: &[Connection]) -> Put
     requires { first + length connections.now < 2 ^ 64 }
-    ensures { Puts (S.told sink.old) (S.faults sink.old) (lines_text first (map written_of connections.now)) result (S.told sink.new) (S.faults sink.new) }
+    ensures { Puts (S.told sink.old) (S.faults sink.old) (connection_texts first (map written_of connections.now)) result (S.told sink.new) (S.faults sink.new) }
 {
     match connections.split_first() {
         None => Put::Whole,

@@ -9,8 +9,8 @@ is_space b = b == 32
 abbrev pub is_not_space : ℕ → Bool
 is_not_space b = not (is_space b)
 
-abbrev pub word_of : List ℕ → List ℕ
-word_of line = prefix is_not_space line
+abbrev pub first_word : List ℕ → List ℕ
+first_word line = prefix is_not_space line
 
 abbrev pub without_first : List ℕ → Option (List ℕ)
 without_first [] = None

@@ -3,11 +3,6 @@ use Rattle.std.specs.Prelude.{ℕ, ◌+◌, List, [], ◌∷◌, Option, Some, N
 use Rattle.std.specs.Option.{option_or}
 use denote.Ref.{Bor}
 
--- where a name is defined: the line and its place
-pub record Definition (P : Type 0) : Type 0 where
-  pub line : ℕ
-  pub place : P
-
 -- the first definition of a name in a list
 unfoldable pub defined : {D : Type 0} → List (List ℕ × D) → List ℕ → Option D
 defined [] name = None

@@ -2,7 +2,7 @@
 ghost use Rattle.std.specs.Prelude.{◌≡◌, ◌<◌, ◌≤◌, ◌==◌, not, [], ◌∷◌, length, option_map, MatchOption, IfSome};
 ghost use Rattle.std.specs.List.{prefix_len, slice_split};
 ghost use Rattle.nv_text.specs.Lines.{prefix, rest_after};
-ghost use Rattle.nv_text.specs.Fields.{without_first, word_of, rest_of, fields};
+ghost use Rattle.nv_text.specs.Fields.{without_first, first_word, rest_of, fields};
 
 fn place_of(text: &[u8], byte: u8) -> usize
     ensures count { result ≡ prefix_len (λ b. not (b == byte)) text.now }
@@ -28,7 +28,7 @@ pub fn cut(text: &[u8], byte: u8) -> (&[u8], Option<&[u8]>)
 /// The first field, and the rest after its space, if there is one.
 #[tactic(auto, unfolding(crate::specs::Fields::fields))]
 pub fn split_field(text: &[u8]) -> (&[u8], Option<&[u8]>)
-    ensures word { result.0.now ≡ word_of text.now }
+    ensures word { result.0.now ≡ first_word text.now }
     ensures rest { option_map (λ rest. rest.now) result.1 ≡ rest_of text.now }
     ensures fields { MatchOption result.1 (fields text.now ≡ result.0.now ∷ []) (λ rest. fields text.now ≡ result.0.now ∷ fields rest.now) }
 {

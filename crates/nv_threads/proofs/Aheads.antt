@@ -2,7 +2,7 @@
 use Rattle.std.proofs.Common.{◌≡◌, ◌∙◌, sym, ap, subst, refl, ℕ, Bool, true, false, cond, ◌==◌, ◌||◌, List, [], ◌∷◌, length, Some, None, arith}
 use Rattle.std.specs.List.{list_any}
 use Rattle.std.proofs.lemmas.Bool.Decides.{nat_tests}
-use Rattle.nv_threads.specs.Threads.{Proc, TaskState, Runs, Asks, Waits, Task, tids, state_at, is_asking, asks, moves, moves_task, can_move, advanced, threads}
+use Rattle.nv_threads.specs.Threads.{Proc, TaskState, Runs, Asks, Waits, Task, task_tids, state_at, is_asking, asks, moves, moves_task, can_move, advanced, threads}
 use Rattle.nv_threads.specs.Ahead.{IsUnasked, HasGone, Known}
 use Rattle.nv_threads.specs.declared.turns.Ahead.{Ahead}
 use Rattle.nv_threads.specs.declared.turns.Ahead.TheVariants as ahead
@@ -70,17 +70,17 @@ not_gone ahead.Stays p q tid h k = h
 not_gone ahead.Goes p q tid h k = let z = none_asks p.tasks tid h.0.none in cc
 not_gone (ahead.Comes came) p q tid h k = let z = none_asks p.tasks tid h.0.none in cc
 
-ended_by : (p q : Proc) (b : Bool) → (length p.tasks == 0) ≡ b → tids q.tasks ≡ tids p.tasks → cond b (Some p.status) None ≡ None → cond (length q.tasks == 0) (Some q.status) None ≡ None
+ended_by : (p q : Proc) (b : Bool) → (length p.tasks == 0) ≡ b → task_tids q.tasks ≡ task_tids p.tasks → cond b (Some p.status) None ≡ None → cond (length q.tasks == 0) (Some q.status) None ≡ None
 ended_by p q true e h k = cc
 ended_by p q false e h k = let z : (length q.tasks == 0) ≡ false = ap (λ n. n == 0) (same_length p q h) ∙ e in rw z refl
 
-lives_on : (p q : Proc) → tids q.tasks ≡ tids p.tasks → threads.ended p ≡ None → threads.ended q ≡ None
+lives_on : (p q : Proc) → task_tids q.tasks ≡ task_tids p.tasks → threads.ended p ≡ None → threads.ended q ≡ None
 unfolding threads
 lives_on p q h k = ended_by p q (length p.tasks == 0) refl h k
 
-same_tids : (w : Want) (p q : Proc) (came : Came) → advanced w p ≡ (came, q) → tids q.tasks ≡ tids p.tasks
+same_tids : (w : Want) (p q : Proc) (came : Came) → advanced w p ≡ (came, q) → task_tids q.tasks ≡ task_tids p.tasks
 unfolding threads
-same_tids w p q came h = ap (λ (r : Came × Proc). tids r.1.tasks) (sym h) ∙ threads_live p w
+same_tids w p q came h = ap (λ (r : Came × Proc). task_tids r.1.tasks) (sym h) ∙ threads_live p w
 
 pub same_end : (a : Ahead) (p q : Proc) → HasGone p a q → threads.ended q ≡ threads.ended p
 same_end ahead.Stays p q h = ap (λ (x : Proc). threads.ended x) h

@@ -6,11 +6,11 @@ use Rattle.nv_machine.specs.Registers.{Registers}
 use Rattle.nv_machine.specs.Guest.{Machine, guest_step}
 use Rattle.nv_machine.specs.declared.outcome.Stepped.{Stepped}
 use Rattle.nv_machine.specs.declared.outcome.Stepped.TheVariants.{On, Call, Fault as Faults}
-use Rattle.nv_guest.specs.Threads.{Threaded, Ran, run, more, unless_stopped, with_regs, with_machine, machine_at}
+use Rattle.nv_guest.specs.Threads.{Threaded, MachineRan, run, more, unless_stopped, with_regs, with_machine, machine_at}
 use Rattle.nv_guest.specs.Threads as guests
 use Rattle.nv_guest.proofs.ThreadLaws.{tids_stay, regs_written, regs_twice}
-use Rattle.nv_threads.specs.Threads.{Proc, tids, state_at, is_asking, is_running, machine, ran, ended_by, stepped, counted, instruction, wanted, can_move, is_on, turn_step}
-use Rattle.nv_threads.specs.Process.{are_apart}
+use Rattle.nv_threads.specs.Threads.{Proc, task_tids, state_at, is_asking, is_running, machine, ran, ended_by, turn_stepped, one_run, instruction, wanted, can_move, is_on, turn_step}
+use Rattle.nv_threads.specs.inner.Process.{are_apart}
 use Rattle.nv_threads.specs.Going.{Goes, moved_on, burst}
 use Rattle.nv_threads.specs.declared.turns.Came.{Came}
 use Rattle.nv_threads.specs.declared.turns.Want.{Want}
@@ -24,7 +24,7 @@ pub record CanRun (w : Want) (n : ℕ) (p : Proc) : Type 0 where
   pub runs : is_running (state_at p.tasks p.turn) ≡ true
   pub slice : n ≤ p.slice
   pub left : n ≤ p.left
-  pub apart : are_apart (tids p.tasks) ≡ true
+  pub apart : are_apart (task_tids p.tasks) ≡ true
   pub lives : Contains (guests.tids p.guest.threads) p.turn
 
 and_both : (a b : Bool) → (a && b) ≡ true → (a ≡ true) × (b ≡ true)
@@ -51,12 +51,12 @@ same_wanted : (w : Want) (p q : Proc) → q.turn ≡ p.turn → wanted w q ≡ w
 same_wanted Any p q h = h
 same_wanted (Only t) p q h = refl
 
-next_can : (w : Want) (n : ℕ) (p : Proc) (m : Machine) → CanRun w (suc n) p → CanRun w n (ran (counted p) m)
+next_can : (w : Want) (n : ℕ) (p : Proc) (m : Machine) → CanRun w (suc n) p → CanRun w n (ran (one_run p) m)
 next_can w n p m c =
     let s = c.slice in
     let l = c.left in
     record {
-      not_asked = ap (λ k. is_asking (state_at p.tasks k)) (same_wanted w p (ran (counted p) m) refl) ∙ c.not_asked;
+      not_asked = ap (λ k. is_asking (state_at p.tasks k)) (same_wanted w p (ran (one_run p) m) refl) ∙ c.not_asked;
       moves = c.moves;
       runs = c.runs;
       slice = omega arith;
@@ -66,10 +66,10 @@ next_can w n p m c =
     }
 
 -- the machine of the turn's thread after an instruction
-machine_is : (p : Proc) (m : Machine) → Contains (guests.tids p.guest.threads) p.turn → machine (ran (counted p) m) ≡ m
+machine_is : (p : Proc) (m : Machine) → Contains (guests.tids p.guest.threads) p.turn → machine (ran (one_run p) m) ≡ m
 machine_is p m c = ap (λ (r : Registers). record { regs = r; memory = m.memory }) (regs_written p.guest.threads p.turn m.regs c)
 
-moved_twice : (p : Proc) (m : Machine) (r : Ran) → moved_on r (ran (counted p) m) ≡ moved_on (more 1 r) p
+moved_twice : (p : Proc) (m : Machine) (r : MachineRan) → moved_on r (ran (one_run p) m) ≡ moved_on (more 1 r) p
 moved_twice p m r =
     let s : (p.slice - 1) - r.0 ≡ p.slice - (1 + r.0) = omega arith in
     let l : (p.left - 1) - r.0 ≡ p.left - (1 + r.0) = omega arith in
@@ -77,9 +77,9 @@ moved_twice p m r =
     ∙ (ap (λ n. record p { guest = with_machine p.guest p.turn r.2; slice = n; left = (p.left - 1) - r.0 }) s
     ∙ ap (λ n. record p { guest = with_machine p.guest p.turn r.2; slice = p.slice - (1 + r.0); left = n }) l)
 
-further : (n : ℕ) (p : Proc) (m : Machine) → Contains (guests.tids p.guest.threads) p.turn → burst n (ran (counted p) m) ≡ ended_by (run n m).1 (moved_on (more 1 (run n m)) p)
+further : (n : ℕ) (p : Proc) (m : Machine) → Contains (guests.tids p.guest.threads) p.turn → burst n (ran (one_run p) m) ≡ ended_by (run n m).1 (moved_on (more 1 (run n m)) p)
 further n p m c =
-    ap (λ (x : Machine). ended_by (run n x).1 (moved_on (run n x) (ran (counted p) m))) (machine_is p m c)
+    ap (λ (x : Machine). ended_by (run n x).1 (moved_on (run n x) (ran (one_run p) m))) (machine_is p m c)
     ∙ ap (ended_by (run n m).1) (moved_twice p m (run n m))
 
 run_none : (m : Machine) → run 0 m ≡ (0, On, m)
@@ -89,15 +89,15 @@ run_none m = refl
 goes_by : (w : Want) (n : ℕ) (p : Proc) (s : Stepped) (m : Machine) → guest_step (machine p) ≡ (s, m) → CanRun w (suc n) p
     → ((q : Proc) → CanRun w n q → 0 < n → Goes w q (burst n q).0 (burst n q).1)
     → Goes w p (ended_by (unless_stopped (run n) (s, m)).1 (moved_on (unless_stopped (run n) (s, m)) p)).0 (ended_by (unless_stopped (run n) (s, m)).1 (moved_on (unless_stopped (run n) (s, m)) p)).1
-goes_by w n p Call m e c go = goes w p (ended_by Call (ran (counted p) m)) c.apart (step_is w n p c ∙ ap (λ (r : Stepped × Machine). stepped r (counted p)) e)
-goes_by w n p (Faults kind) m e c go = goes w p (ended_by (Faults kind) (ran (counted p) m)) c.apart (step_is w n p c ∙ ap (λ (r : Stepped × Machine). stepped r (counted p)) e)
+goes_by w n p Call m e c go = goes w p (ended_by Call (ran (one_run p) m)) c.apart (step_is w n p c ∙ ap (λ (r : Stepped × Machine). turn_stepped r (one_run p)) e)
+goes_by w n p (Faults kind) m e c go = goes w p (ended_by (Faults kind) (ran (one_run p) m)) c.apart (step_is w n p c ∙ ap (λ (r : Stepped × Machine). turn_stepped r (one_run p)) e)
 goes_by w zero p On m e c go =
-    let q : Proc = ran (counted p) m in
-    let first : Goes w p None q = goes_on_by w p q c.apart (step_is w 0 p c ∙ ap (λ (r : Stepped × Machine). stepped r (counted p)) e) in
-    subst (λ (r : Ran). Goes w p (ended_by r.1 (moved_on (more 1 r) p)).0 (ended_by r.1 (moved_on (more 1 r) p)).1) (sym (run_none m)) first
+    let q : Proc = ran (one_run p) m in
+    let first : Goes w p None q = goes_on_by w p q c.apart (step_is w 0 p c ∙ ap (λ (r : Stepped × Machine). turn_stepped r (one_run p)) e) in
+    subst (λ (r : MachineRan). Goes w p (ended_by r.1 (moved_on (more 1 r) p)).0 (ended_by r.1 (moved_on (more 1 r) p)).1) (sym (run_none m)) first
 goes_by w (suc n) p On m e c go =
-    let q : Proc = ran (counted p) m in
-    let first : Goes w p None q = goes_on_by w p q c.apart (step_is w (suc n) p c ∙ ap (λ (r : Stepped × Machine). stepped r (counted p)) e) in
+    let q : Proc = ran (one_run p) m in
+    let first : Goes w p None q = goes_on_by w p q c.apart (step_is w (suc n) p c ∙ ap (λ (r : Stepped × Machine). turn_stepped r (one_run p)) e) in
     let rest = go q (next_can w (suc n) p m c) (omega arith) in
     let all = goes_further w p q (burst (suc n) q).1 (burst (suc n) q).0 first rest in
     subst (λ (r : Option Came × Proc). Goes w p r.0 r.1) (further (suc n) p m c.lives) all
@@ -109,5 +109,5 @@ run_next n m = refl
 pub burst_goes : (w : Want) (n : ℕ) (p : Proc) → CanRun w n p → 0 < n → Goes w p (burst n p).0 (burst n p).1
 burst_goes w zero p c h = absurd (omega arith)
 burst_goes w (suc n) p c h =
-    subst (λ (r : Ran). Goes w p (ended_by r.1 (moved_on r p)).0 (ended_by r.1 (moved_on r p)).1) (sym (run_next n (machine p)))
+    subst (λ (r : MachineRan). Goes w p (ended_by r.1 (moved_on r p)).0 (ended_by r.1 (moved_on r p)).1) (sym (run_next n (machine p)))
     (goes_by w n p (guest_step (machine p)).0 (guest_step (machine p)).1 refl c (burst_goes w n))

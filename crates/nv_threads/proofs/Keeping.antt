@@ -9,9 +9,9 @@ use Rattle.nv_machine.specs.Guest.{Machine}
 use Rattle.nv_guest.specs.Threads as guests
 use Rattle.nv_guest.proofs.ThreadLaws.{tids_stay}
 use Rattle.nv_guest.proofs.Releasing.{tids_released}
-use Rattle.nv_threads.specs.Threads.{TaskState, Task, Proc, tids, passed, unless_live, state_at, with_state, is_running, is_asking}
+use Rattle.nv_threads.specs.Threads.{TaskState, Task, Proc, task_tids, turn_passed, unless_live, state_at, with_state, is_running, is_asking}
 use Rattle.nv_threads.proofs.Quiet.{same_tids}
-use Rattle.nv_threads.specs.Process.{are_apart, IsOwn, AreOwn, HaveCapacity, IsSound}
+use Rattle.nv_threads.specs.inner.Process.{are_apart, IsOwn, AreOwn, HaveCapacity, IsSoundProcess}
 use Rattle.nv_threads.proofs.Orders.{at_prefix, after, either, Next, Higher, Lowest, next_is}
 
 running_some : (s : Option TaskState) → is_running s ≡ true → is_some s ≡ true
@@ -22,34 +22,34 @@ asking_some : (s : Option TaskState) → is_asking s ≡ true → is_some s ≡ 
 asking_some None h = cc
 asking_some (Some s) h = refl
 
-pub lives_by : (ts : List Task) (t : ℕ) → is_some (state_at ts t) ≡ true → Contains (tids ts) t
+pub lives_by : (ts : List Task) (t : ℕ) → is_some (state_at ts t) ≡ true → Contains (task_tids ts) t
 lives_by [] t h = cc
 lives_by (x ∷ ts) t h = by (x.tid == t) refl h (lives_by ts t)
   where
-    by : (b : Bool) → (x.tid == t) ≡ b → is_some (cond b (Some x.state) (state_at ts t)) ≡ true → (is_some (state_at ts t) ≡ true → Contains (tids ts) t) → Contains (tids (x ∷ ts)) t
+    by : (b : Bool) → (x.tid == t) ≡ b → is_some (cond b (Some x.state) (state_at ts t)) ≡ true → (is_some (state_at ts t) ≡ true → Contains (task_tids ts) t) → Contains (task_tids (x ∷ ts)) t
     by true e h go = (0, omega arith, grind (arith, nat_tests))
-    by false e h go = after x.tid (tids ts) t (go h)
+    by false e h go = after x.tid (task_tids ts) t (go h)
 
-pub state_by : (ts : List Task) (t : ℕ) → Contains (tids ts) t → is_some (state_at ts t) ≡ true
+pub state_by : (ts : List Task) (t : ℕ) → Contains (task_tids ts) t → is_some (state_at ts t) ≡ true
 state_by [] t (k, h, e) = absurd (omega arith)
-state_by (x ∷ ts) t c = ⊎_elim (λ (e : x.tid ≡ t). (let z : (x.tid == t) ≡ true = grind (arith, nat_tests) in rw z refl)) (λ (c : Contains (tids ts) t). by (x.tid == t) (state_by ts t c)) (either x.tid (tids ts) t c)
+state_by (x ∷ ts) t c = ⊎_elim (λ (e : x.tid ≡ t). (let z : (x.tid == t) ≡ true = grind (arith, nat_tests) in rw z refl)) (λ (c : Contains (task_tids ts) t). by (x.tid == t) (state_by ts t c)) (either x.tid (task_tids ts) t c)
   where
     by : (b : Bool) → is_some (state_at ts t) ≡ true → is_some (cond b (Some x.state) (state_at ts t)) ≡ true
     by true h = refl
     by false h = h
 
-pub running_lives : (ts : List Task) (t : ℕ) → is_running (state_at ts t) ≡ true → Contains (tids ts) t
+pub running_lives : (ts : List Task) (t : ℕ) → is_running (state_at ts t) ≡ true → Contains (task_tids ts) t
 running_lives ts t h = lives_by ts t (running_some (state_at ts t) h)
 
-pub asking_lives : (ts : List Task) (t : ℕ) → is_asking (state_at ts t) ≡ true → Contains (tids ts) t
+pub asking_lives : (ts : List Task) (t : ℕ) → is_asking (state_at ts t) ≡ true → Contains (task_tids ts) t
 asking_lives ts t h = lives_by ts t (asking_some (state_at ts t) h)
 
-pub some_live : (ts : List Task) (t : ℕ) → Contains (tids ts) t → 0 < length ts
+pub some_live : (ts : List Task) (t : ℕ) → Contains (task_tids ts) t → 0 < length ts
 some_live [] t (k, h, e) = absurd (omega arith)
 some_live (x ∷ ts) t c = omega arith
 
 -- a live thread is one of the guest's
-pub guest_lives : (count budget : ℕ) (ts : List Task) (g : List ℕ) (cs : List Call) (t : ℕ) → IsSound count budget ts g cs → Contains (tids ts) t → Contains g t
+pub guest_lives : (count budget : ℕ) (ts : List Task) (g : List ℕ) (cs : List Call) (t : ℕ) → IsSoundProcess count budget ts g cs → Contains (task_tids ts) t → Contains g t
 guest_lives count budget ts g cs t k c = subst (λ (xs : List ℕ). Contains xs t) (sym (k.same (some_live ts t c))) c
 
 -- ---- the guest goes on
@@ -58,13 +58,13 @@ pub tids_after : (g h : guests.Threaded) (t : ℕ) (m : Machine) → h ≡ guest
     → guests.tids h.threads ≡ guests.tids g.threads
 tids_after g h t m e = ap (λ (x : guests.Threaded). guests.tids x.threads) e ∙ tids_stay g.threads t m.regs
 
-pub with_guest : (count budget : ℕ) (ts : List Task) (g h : List ℕ) (cs : List Call) → IsSound count budget ts g cs → h ≡ g → IsSound count budget ts h cs
+pub with_guest : (count budget : ℕ) (ts : List Task) (g h : List ℕ) (cs : List Call) → IsSoundProcess count budget ts g cs → h ≡ g → IsSoundProcess count budget ts h cs
 with_guest count budget ts g h cs k e = record { within = k.within; same = λ n. e ∙ k.same n; apart = k.apart; own = k.own; eight = k.eight; capacity = k.capacity }
 
-pub guest_released : (count budget : ℕ) (ts : List Task) (g h : guests.Threaded) (cs : List Call) → IsSound count budget ts (guests.tids g.threads) cs → h ≡ guests.released g → IsSound count budget ts (guests.tids h.threads) cs
+pub guest_released : (count budget : ℕ) (ts : List Task) (g h : guests.Threaded) (cs : List Call) → IsSoundProcess count budget ts (guests.tids g.threads) cs → h ≡ guests.released g → IsSoundProcess count budget ts (guests.tids h.threads) cs
 guest_released count budget ts g h cs k e = with_guest _ _ _ _ _ _ k (ap (λ (x : guests.Threaded). guests.tids x.threads) e ∙ tids_released g.threads)
 
-pub with_count : (count more budget : ℕ) (ts : List Task) (g : List ℕ) (cs : List Call) → IsSound count budget ts g cs → more ≤ budget → IsSound more budget ts g cs
+pub with_count : (count more budget : ℕ) (ts : List Task) (g : List ℕ) (cs : List Call) → IsSoundProcess count budget ts g cs → more ≤ budget → IsSoundProcess more budget ts g cs
 with_count count more budget ts g cs k e = record { within = e; same = k.same; apart = k.apart; own = k.own; eight = k.eight; capacity = k.capacity }
 
 -- ---- a thread's state changes
@@ -85,7 +85,7 @@ length_with (x ∷ ts) t s = by (x.tid == t) (length_with ts t s)
     by true go = refl
     by false go = ap suc go
 
-pub with_task : (count budget : ℕ) (ts : List Task) (g : List ℕ) (cs : List Call) (t : ℕ) (s : TaskState) → IsSound count budget ts g cs → IsOwn t s → IsSound count budget (with_state ts t s) g cs
+pub with_task : (count budget : ℕ) (ts : List Task) (g : List ℕ) (cs : List Call) (t : ℕ) (s : TaskState) → IsSoundProcess count budget ts g cs → IsOwn t s → IsSoundProcess count budget (with_state ts t s) g cs
 with_task count budget ts g cs t s k o = record {
   within = k.within;
   same = λ n. k.same (subst (λ m. 0 < m) (length_with ts t s) n) ∙ sym (same_tids ts t s);
@@ -107,7 +107,7 @@ capacity_at [] i d h l = absurd (omega arith)
 capacity_at (x ∷ cs) zero d h l = h.0
 capacity_at (x ∷ cs) (suc i) d h l = capacity_at cs i d h.1 (omega arith)
 
-pub with_call : (count budget : ℕ) (ts : List Task) (g : List ℕ) (cs : List Call) (i : ℕ) (c : Call) → IsSound count budget ts g cs → 4096 ≤ c.payload.capacity → IsSound count budget ts g (set cs i c)
+pub with_call : (count budget : ℕ) (ts : List Task) (g : List ℕ) (cs : List Call) (i : ℕ) (c : Call) → IsSoundProcess count budget ts g cs → 4096 ≤ c.payload.capacity → IsSoundProcess count budget ts g (set cs i c)
 with_call count budget ts g cs i c k r = record { within = k.within; same = k.same; apart = k.apart; own = k.own; eight = length-set cs i c ∙ k.eight; capacity = capacity_with cs i c k.capacity r }
 
 pub map_set : (cs : List Call) (i : ℕ) (c : Call) → map request (set cs i c) ≡ set (map request cs) i (request c)
@@ -121,16 +121,16 @@ next_lives : (k : ℕ) (ts : List ℕ) (y : ℕ) → Next k ts y → Contains ts
 next_lives k ts y (Higher up inside all) = inside
 next_lives k ts y (Lowest all inside low) = inside
 
-someone : (ts : List Task) → (tids ts ≡ [] → ⊥) → (r : ℕ) × Contains (tids ts) r
+someone : (ts : List Task) → (task_tids ts ≡ [] → ⊥) → (r : ℕ) × Contains (task_tids ts) r
 someone [] h = absurd (h refl)
-someone (t ∷ ts) h = (t.tid, at_prefix t.tid (tids ts))
+someone (t ∷ ts) h = (t.tid, at_prefix t.tid (task_tids ts))
 
-turn_lives_by : (p : Proc) (b : Bool) → is_some (state_at p.tasks p.turn) ≡ b → (tids p.tasks ≡ [] → ⊥)
-    → is_some (state_at (cond b p (passed p)).tasks (cond b p (passed p)).turn) ≡ true
+turn_lives_by : (p : Proc) (b : Bool) → is_some (state_at p.tasks p.turn) ≡ b → (task_tids p.tasks ≡ [] → ⊥)
+    → is_some (state_at (cond b p (turn_passed p)).tasks (cond b p (turn_passed p)).turn) ≡ true
 turn_lives_by p true e h = e
 turn_lives_by p false e h =
     let r = someone p.tasks h in
-    state_by p.tasks (passed p).turn (next_lives p.turn (tids p.tasks) (passed p).turn (next_is p.turn (tids p.tasks) r.0 r.1))
+    state_by p.tasks (turn_passed p).turn (next_lives p.turn (task_tids p.tasks) (turn_passed p).turn (next_is p.turn (task_tids p.tasks) r.0 r.1))
 
-pub turn_lives : (p : Proc) → (tids p.tasks ≡ [] → ⊥) → is_some (state_at (unless_live p).tasks (unless_live p).turn) ≡ true
+pub turn_lives : (p : Proc) → (task_tids p.tasks ≡ [] → ⊥) → is_some (state_at (unless_live p).tasks (unless_live p).turn) ≡ true
 turn_lives p h = turn_lives_by p (is_some (state_at p.tasks p.turn)) refl h

@@ -8,9 +8,10 @@ use Rattle.nv_calls.specs.Calls.{Request, request}
 use Rattle.nv_calls.specs.Shapes.{IsShaped}
 use Rattle.nv_guest.specs.Threads as guests
 use Rattle.nv_guest.specs.declared.guest.Thread.{Thread as GuestThread}
-use Rattle.nv_threads.specs.Threads.{TaskState, Runs, Asks, Waits, Task as Thread, tids, state_at, is_asking, call_in}
-use Rattle.nv_threads.specs.Process.{are_apart, IsOwn, AreOwn, HaveCapacity, IsSound}
-use Rattle.nv_threads.specs.Tables.{place_of, state_by, thread_by, threads_of}
+use Rattle.nv_threads.specs.Threads.{TaskState, Runs, Asks, Waits, Task as Thread, task_tids, state_at, is_asking, call_in}
+use Rattle.nv_threads.specs.inner.Process.{are_apart, IsOwn, AreOwn, HaveCapacity, IsSoundProcess}
+use Rattle.nv_threads.specs.Tasks.{state_by, thread_by, threads_of}
+use Rattle.nv_threads.specs.inner.Tasks.{task_place}
 use Rattle.nv_threads.proofs.ThreadLaws.{others, tids_filter, tids_child}
 use Rattle.nv_threads.specs.declared.tasks.Doing.{Doing}
 use Rattle.nv_threads.specs.declared.tasks.Doing.TheVariants as doing
@@ -79,26 +80,26 @@ own_more (x ∷ ts) child a = (a.0, own_more ts child a.1)
 
 -- ---- one thread leaves
 
-keep_all : (t : ℕ) (ts : List Thread) → list_any (λ u. u == t) (tids ts) ≡ false → filter (others t) ts ≡ ts
+keep_all : (t : ℕ) (ts : List Thread) → list_any (λ u. u == t) (task_tids ts) ≡ false → filter (others t) ts ≡ ts
 keep_all t [] h = refl
-keep_all t (x ∷ ts) h = let p = or_none (x.tid == t) (list_any (λ u. u == t) (tids ts)) h in rw p.0 (ap (λ rest. x ∷ rest) (keep_all t ts p.1))
+keep_all t (x ∷ ts) h = let p = or_none (x.tid == t) (list_any (λ u. u == t) (task_tids ts)) h in rw p.0 (ap (λ rest. x ∷ rest) (keep_all t ts p.1))
 
 same_any : (t s : ℕ) (xs : List ℕ) → t ≡ s → list_any (λ u. u == t) xs ≡ false → list_any (λ u. u == s) xs ≡ false
 same_any t s xs e h = subst (λ (n : ℕ). list_any (λ u. u == n) xs ≡ false) e h
 
-removed_by : (ts : List Task) (cs : List Request) (t : Task) (c : Request) (tid : ℕ) (b : Bool) → (t.tid == tid) ≡ b → are_apart (tids (threads_of (t ∷ ts) (c ∷ cs))) ≡ true
-    → (are_apart (tids (threads_of ts cs)) ≡ true → remove (threads_of ts cs) (place_of ts tid) ≡ filter (others tid) (threads_of ts cs))
-    → remove (threads_of (t ∷ ts) (c ∷ cs)) (cond b 0 (suc (place_of ts tid))) ≡ cond (not b) (thread_by t c ∷ filter (others tid) (threads_of ts cs)) (filter (others tid) (threads_of ts cs))
+removed_by : (ts : List Task) (cs : List Request) (t : Task) (c : Request) (tid : ℕ) (b : Bool) → (t.tid == tid) ≡ b → are_apart (task_tids (threads_of (t ∷ ts) (c ∷ cs))) ≡ true
+    → (are_apart (task_tids (threads_of ts cs)) ≡ true → remove (threads_of ts cs) (task_place ts tid) ≡ filter (others tid) (threads_of ts cs))
+    → remove (threads_of (t ∷ ts) (c ∷ cs)) (cond b 0 (suc (task_place ts tid))) ≡ cond (not b) (thread_by t c ∷ filter (others tid) (threads_of ts cs)) (filter (others tid) (threads_of ts cs))
 removed_by ts cs t c tid true e a go =
-    let p = and_both (not (list_any (λ u. u == t.tid) (tids (threads_of ts cs)))) (are_apart (tids (threads_of ts cs))) a in
+    let p = and_both (not (list_any (λ u. u == t.tid) (task_tids (threads_of ts cs)))) (are_apart (task_tids (threads_of ts cs))) a in
     let z : t.tid ≡ tid = grind (arith, nat_tests) in
-    sym (keep_all tid (threads_of ts cs) (same_any t.tid tid (tids (threads_of ts cs)) z (not_true _ p.0)))
+    sym (keep_all tid (threads_of ts cs) (same_any t.tid tid (task_tids (threads_of ts cs)) z (not_true _ p.0)))
 removed_by ts cs t c tid false e a go =
-    let p = and_both (not (list_any (λ u. u == t.tid) (tids (threads_of ts cs)))) (are_apart (tids (threads_of ts cs))) a in
+    let p = and_both (not (list_any (λ u. u == t.tid) (task_tids (threads_of ts cs)))) (are_apart (task_tids (threads_of ts cs))) a in
     ap (λ rest. thread_by t c ∷ rest) (go p.1)
 
-pub removed_is : (ts : List Task) (cs : List Request) (tid : ℕ) → length ts ≤ length cs → are_apart (tids (threads_of ts cs)) ≡ true
-    → remove (threads_of ts cs) (place_of ts tid) ≡ filter (others tid) (threads_of ts cs)
+pub removed_is : (ts : List Task) (cs : List Request) (tid : ℕ) → length ts ≤ length cs → are_apart (task_tids (threads_of ts cs)) ≡ true
+    → remove (threads_of ts cs) (task_place ts tid) ≡ filter (others tid) (threads_of ts cs)
 removed_is [] cs tid h a = refl
 removed_is (t ∷ ts) [] tid h a = absurd (omega arith)
 removed_is (t ∷ ts) (c ∷ cs) tid h a = removed_by ts cs t c tid (t.tid == tid) refl a (removed_is ts cs tid (omega arith))
@@ -141,25 +142,25 @@ more_tids (x ∷ gs) g = ap (λ rest. x.tid ∷ rest) (more_tids gs g)
 
 -- ---- what is kept
 
-pub with_more : (count budget : ℕ) (ts : List Thread) (g h : List ℕ) (cs : List Call) (t child : ℕ) → IsSound count budget ts g cs → Contains (tids ts) t → (Contains (tids ts) child → ⊥) → h ≡ g ++ child ∷ []
-    → IsSound count budget (ts ++ record { tid = child; state = Runs } ∷ []) h cs
+pub with_more : (count budget : ℕ) (ts : List Thread) (g h : List ℕ) (cs : List Call) (t child : ℕ) → IsSoundProcess count budget ts g cs → Contains (task_tids ts) t → (Contains (task_tids ts) child → ⊥) → h ≡ g ++ child ∷ []
+    → IsSoundProcess count budget (ts ++ record { tid = child; state = Runs } ∷ []) h cs
 with_more count budget ts g h cs t child k l n e = record {
   within = k.within;
   same = λ _. e ∙ (ap (λ xs. xs ++ child ∷ []) (k.same (some_live ts t l)) ∙ sym (tids_child ts child));
-  apart = ap are_apart (tids_child ts child) ∙ apart_more (tids ts) child k.apart n;
+  apart = ap are_apart (tids_child ts child) ∙ apart_more (task_tids ts) child k.apart n;
   own = own_more ts child k.own;
   eight = k.eight;
   capacity = k.capacity;
 }
 
-pub with_less : (count budget : ℕ) (ts : List Thread) (gs : List GuestThread) (h : List ℕ) (cs ds : List Call) (t : ℕ) → IsSound count budget ts (guests.tids gs) cs → Contains (tids ts) t
-    → h ≡ guests.tids (guests.dropped gs t) → length ds ≡ 8 → HaveCapacity ds → IsSound count budget (filter (others t) ts) h ds
+pub with_less : (count budget : ℕ) (ts : List Thread) (gs : List GuestThread) (h : List ℕ) (cs ds : List Call) (t : ℕ) → IsSoundProcess count budget ts (guests.tids gs) cs → Contains (task_tids ts) t
+    → h ≡ guests.tids (guests.dropped gs t) → length ds ≡ 8 → HaveCapacity ds → IsSoundProcess count budget (filter (others t) ts) h ds
 with_less count budget ts gs h cs ds t k l e n r =
     let same = k.same (some_live ts t l) in
     record {
       within = k.within;
       same = λ _. e ∙ (dropped_tids gs t (ap are_apart same ∙ k.apart) ∙ (ap (λ xs. filter (λ u. not (u == t)) xs) same ∙ sym (tids_filter ts t)));
-      apart = ap are_apart (tids_filter ts t) ∙ apart_filter t (tids ts) k.apart;
+      apart = ap are_apart (tids_filter ts t) ∙ apart_filter t (task_tids ts) k.apart;
       own = own_filter t ts k.own;
       eight = n;
       capacity = r;
@@ -202,14 +203,14 @@ asked_as t c h = by t.doing h
 
 asked_by : (t : Task) (ts : List Task) (c d : Request) (cs : List Request) (tid : ℕ) (b : Bool)
     → is_asking (cond b (Some (state_by t.doing c)) (state_at (threads_of ts cs) tid)) ≡ true
-    → (is_asking (state_at (threads_of ts cs) tid) ≡ true → call_in (state_at (threads_of ts cs) tid) ≡ get_or cs (place_of ts tid) d)
-    → call_in (cond b (Some (state_by t.doing c)) (state_at (threads_of ts cs) tid)) ≡ get_or (c ∷ cs) (cond b 0 (suc (place_of ts tid))) d
+    → (is_asking (state_at (threads_of ts cs) tid) ≡ true → call_in (state_at (threads_of ts cs) tid) ≡ get_or cs (task_place ts tid) d)
+    → call_in (cond b (Some (state_by t.doing c)) (state_at (threads_of ts cs) tid)) ≡ get_or (c ∷ cs) (cond b 0 (suc (task_place ts tid))) d
 asked_by t ts c d cs tid true h go = asked_as t c h
 asked_by t ts c d cs tid false h go = go h
 
 -- the call that a thread waits for is the one at its place
 pub asked_call : (ts : List Task) (cs : List Request) (tid : ℕ) (d : Request) → length ts ≤ length cs → is_asking (state_at (threads_of ts cs) tid) ≡ true
-    → call_in (state_at (threads_of ts cs) tid) ≡ get_or cs (place_of ts tid) d
+    → call_in (state_at (threads_of ts cs) tid) ≡ get_or cs (task_place ts tid) d
 asked_call [] cs tid d l h = cc
 asked_call (t ∷ ts) [] tid d l h = absurd (omega arith)
 asked_call (t ∷ ts) (c ∷ cs) tid d l h = asked_by t ts c d cs tid (t.tid == tid) h (asked_call ts cs tid d (omega arith))

@@ -5,15 +5,15 @@ use Rattle.nv_memory.specs.declared.region.Width.TheVariants.{Four}
 use Rattle.nv_memory.specs.declared.region.Right.TheVariants.{Read}
 use Rattle.nv_memory.specs.Image.{value_at}
 use Rattle.nv_guest.specs.Calls.{argument}
-use Rattle.nv_threads.specs.Threads.{Proc, TaskState, Runs, Waits, Task, tids, asks, waiting_calls, with_state, next_tid, passed, machine, operation, least_waiter, woken_one, woken_by, woken, woke, waiting, futex_on, futex_by, own_answer, released, local}
+use Rattle.nv_threads.specs.Threads.{Proc, TaskState, Runs, Waits, Task, task_tids, asks, waiting_calls, with_state, next_tid, turn_passed, machine, operation, least_waiter, woken_one, woken_by, woken, woke, waiting, futex_on, futex_by, own_answer, all_unreserved, local}
 
 -- ---- states
 
-pub same_tids : (ts : List Task) (tid : ℕ) (s : TaskState) → tids (with_state ts tid s) ≡ tids ts
+pub same_tids : (ts : List Task) (tid : ℕ) (s : TaskState) → task_tids (with_state ts tid s) ≡ task_tids ts
 same_tids [] tid s = refl
 same_tids (t ∷ ts) tid s = by (t.tid == tid) (same_tids ts tid s)
   where
-    by : (b : Bool) → tids (with_state ts tid s) ≡ tids ts → tids (cond b (record t { state = s } ∷ ts) (t ∷ with_state ts tid s)) ≡ tids (t ∷ ts)
+    by : (b : Bool) → task_tids (with_state ts tid s) ≡ task_tids ts → task_tids (cond b (record t { state = s } ∷ ts) (t ∷ with_state ts tid s)) ≡ task_tids (t ∷ ts)
     by true go = refl
     by false go = ap (λ rest. t.tid ∷ rest) go
 
@@ -47,20 +47,20 @@ calls_same (t ∷ ts) tid s h = by (t.tid == tid) (calls_same ts tid s h)
 -- ---- from one process to the next
 
 pub record Quiet (p q : Proc) : Type 0 where
-  pub live : tids q.tasks ≡ tids p.tasks
+  pub live : task_tids q.tasks ≡ task_tids p.tasks
   pub calls : waiting_calls q.tasks ≤ waiting_calls p.tasks
   pub left : q.left ≡ p.left
-  pub turn : (q.turn ≡ p.turn) ⊎ (q.turn ≡ next_tid p.turn (tids p.tasks))
+  pub turn : (q.turn ≡ p.turn) ⊎ (q.turn ≡ next_tid p.turn (task_tids p.tasks))
 
 as_before : (p q : Proc) → q.tasks ≡ p.tasks → q.left ≡ p.left → q.turn ≡ p.turn → Quiet p q
-as_before p q t l u = record { live = ap tids t; calls = rw t (omega arith); left = l; turn = inl u }
+as_before p q t l u = record { live = ap task_tids t; calls = rw t (omega arith); left = l; turn = inl u }
 
 quiet_if : (p x y : Proc) (b : Bool) → Quiet p x → Quiet p y → Quiet p (cond b x y)
 quiet_if p x y true h k = h
 quiet_if p x y false h k = k
 
 record Still (p q : Proc) : Type 0 where
-  live : tids q.tasks ≡ tids p.tasks
+  live : task_tids q.tasks ≡ task_tids p.tasks
   calls : waiting_calls q.tasks ≤ waiting_calls p.tasks
   left : q.left ≡ p.left
   turn : q.turn ≡ p.turn
@@ -89,7 +89,7 @@ waiting_quiet p address = record {
   turn = inr (ap (next_tid p.turn) (same_tids p.tasks p.turn (Waits address)));
 }
 
-pub passed_quiet : (p : Proc) → Quiet p (passed p)
+pub passed_quiet : (p : Proc) → Quiet p (turn_passed p)
 passed_quiet p = record { live = refl; calls = omega arith; left = refl; turn = inr refl }
 
 futex_quiet : (p : Proc) (op address value : ℕ) (r : Result ℕ Access) → Quiet p (futex_on p op address value r)
@@ -111,7 +111,7 @@ own_quiet nr p =
     (quiet_if p _ _ (nr == 422) (futex_by_quiet p (operation (argument (machine p) 1)) (argument (machine p) 0) (argument (machine p) 2) (argument (machine p) 3))
     (quiet_if p _ _ (nr == 124) (record { live = refl; calls = omega arith; left = refl; turn = inr refl }) (as_before p _ refl refl refl)))
 
-released_quiet : (p q : Proc) → Quiet p q → Quiet p (released q)
+released_quiet : (p q : Proc) → Quiet p q → Quiet p (all_unreserved q)
 released_quiet p q h = record { live = h.live; calls = h.calls; left = h.left; turn = h.turn }
 
 pub local_quiet : (nr : ℕ) (p : Proc) → Quiet p (local nr p)

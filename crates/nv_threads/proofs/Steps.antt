@@ -7,9 +7,9 @@ use Rattle.nv_machine.specs.Guest.{Machine, guest_step}
 use Rattle.nv_machine.specs.declared.outcome.FaultKind.TheVariants.{Budget, Deadlock}
 use Rattle.nv_machine.specs.declared.outcome.Stepped.{Stepped}
 use Rattle.nv_machine.specs.declared.outcome.Stepped.TheVariants.{On, Call, Fault as Faults}
-use Rattle.nv_guest.specs.Calls.{number}
-use Rattle.nv_threads.specs.Threads.{Proc, tid_of, tids, state_at, is_asking, passed, machine, ran, ended_by, counted, instruction, wanted, can_move, unless_live, is_on, faulted, turn_step, unless_came, steps, most_passes, most_steps, advanced}
-use Rattle.nv_threads.specs.Process.{are_apart}
+use Rattle.nv_guest.specs.Calls.{call_number}
+use Rattle.nv_threads.specs.Threads.{Proc, task_tid, task_tids, state_at, is_asking, turn_passed, machine, ran, ended_by, one_run, instruction, wanted, can_move, unless_live, is_on, faulted, turn_step, unless_came, steps, most_passes, most_steps, advanced}
+use Rattle.nv_threads.specs.inner.Process.{are_apart}
 use Rattle.nv_threads.specs.Going.{passes, height, Goes}
 use Rattle.nv_threads.proofs.ThreadLaws.{step_is, called_is}
 use Rattle.nv_threads.specs.declared.turns.Came.{Came}
@@ -18,13 +18,13 @@ use Rattle.nv_threads.specs.declared.turns.Want.{Want}
 use Rattle.nv_threads.proofs.Nearing.{aim_is, passes_fall, passes_few}
 
 -- as many threads
-pub same_length : (p q : Proc) → tids q.tasks ≡ tids p.tasks → length q.tasks ≡ length p.tasks
-same_length p q h = sym (length-map q.tasks tid_of) ∙ (ap length h ∙ length-map p.tasks tid_of)
+pub same_length : (p q : Proc) → task_tids q.tasks ≡ task_tids p.tasks → length q.tasks ≡ length p.tasks
+same_length p q h = sym (length-map q.tasks task_tid) ∙ (ap length h ∙ length-map p.tasks task_tid)
 
 product : (n k : ℕ) → suc n * k ≡ n * k + k
 product n k = grind arith
 
-height_less : (w : Want) (p q : Proc) → tids q.tasks ≡ tids p.tasks → p.left ≡ suc q.left → height w q < height w p
+height_less : (w : Want) (p q : Proc) → task_tids q.tasks ≡ task_tids p.tasks → p.left ≡ suc q.left → height w q < height w p
 unfolding height
 height_less w p q h e =
     let n = same_length p q h in
@@ -33,7 +33,7 @@ height_less w p q h e =
     let all : p.left * most_passes p.tasks ≡ q.left * most_passes p.tasks + most_passes p.tasks = ap (λ (m : ℕ). m * most_passes p.tasks) e ∙ product q.left (most_passes p.tasks) in
     omega (arith, few, same, all)
 
-height_passed : (w : Want) (p : Proc) → passes w (passed p) < passes w p → height w (passed p) < height w p
+height_passed : (w : Want) (p : Proc) → passes w (turn_passed p) < passes w p → height w (turn_passed p) < height w p
 unfolding height
 height_passed w p h = omega (arith, h)
 
@@ -45,9 +45,9 @@ height_few w p =
     let all : (p.left + 1) * most_passes p.tasks ≡ p.left * most_passes p.tasks + most_passes p.tasks = ap (λ (m : ℕ). m * most_passes p.tasks) same ∙ product p.left (most_passes p.tasks) in
     omega (arith, few, all)
 
-left_by : (p : Proc) (s : Stepped) (m : Machine) → (ended_by s (ran (counted p) m)).1.left ≡ p.left - 1
+left_by : (p : Proc) (s : Stepped) (m : Machine) → (ended_by s (ran (one_run p) m)).1.left ≡ p.left - 1
 left_by p On m = refl
-left_by p Call m = let q : Proc = ran (counted p) m in (called_is q (number (machine q)) (is_local (number (machine q)))).left
+left_by p Call m = let q : Proc = ran (one_run p) m in (called_is q (call_number (machine q)) (is_local (call_number (machine q)))).left
 left_by p (Faults kind) m = refl
 
 stays_not : (a b : Bool) → a ≡ false → b ≡ false → (a || b) ≡ false
@@ -57,14 +57,14 @@ came_not : (came : Came) (p q : Proc) → ◌≡◌ {A = Option Came × Proc} (S
 came_not came p q e = let z : Some came ≡ None = ap (λ (r : Option Came × Proc). r.0) e in cc
 
 falls_by : (w : Want) (p q : Proc) (b1 b2 b3 b4 : Bool) → is_asking (state_at p.tasks (wanted w p)) ≡ b1 → can_move w p ≡ b2 → is_on p ≡ b3 → (p.left == 0) ≡ b4
-    → tids q.tasks ≡ tids p.tasks → are_apart (tids p.tasks) ≡ true
-    → cond b1 (Some (Asked (wanted w p)), p) (cond (not b2) (faulted Deadlock (unless_live p)) (cond (not b3) (None, passed p) (cond b4 (faulted Budget p) (instruction p)))) ≡ (None, q)
+    → task_tids q.tasks ≡ task_tids p.tasks → are_apart (task_tids p.tasks) ≡ true
+    → cond b1 (Some (Asked (wanted w p)), p) (cond (not b2) (faulted Deadlock (unless_live p)) (cond (not b3) (None, turn_passed p) (cond b4 (faulted Budget p) (instruction p)))) ≡ (None, q)
     → height w q < height w p
 falls_by w p q true b2 b3 b4 h1 h2 h3 h4 l a e = absurd (came_not _ p q e)
 falls_by w p q false false b3 b4 h1 h2 h3 h4 l a e = absurd (came_not _ (unless_live p) q e)
 falls_by w p q false true false b4 h1 h2 h3 h4 l a e =
     let f = height_passed w p (passes_fall w p (stays_not _ _ h1 h3) (aim_is w p.tasks h2 a)) in
-    let z : passed p ≡ q = ap (λ (r : Option Came × Proc). r.1) e in
+    let z : turn_passed p ≡ q = ap (λ (r : Option Came × Proc). r.1) e in
     subst (λ (x : Proc). height w x < height w p) z f
 falls_by w p q false true true true h1 h2 h3 h4 l a e = absurd (came_not _ p q e)
 falls_by w p q false true true false h1 h2 h3 h4 l a e =
@@ -73,16 +73,16 @@ falls_by w p q false true true false h1 h2 h3 h4 l a e =
     let n : q.left ≡ p.left - 1 = ap (λ (x : Proc). x.left) (sym z) ∙ left_by p (guest_step (machine p)).0 (guest_step (machine p)).1 in
     height_less w p q l (omega (arith, n, some))
 
-pub falls : (w : Want) (p q : Proc) → are_apart (tids p.tasks) ≡ true → turn_step w p ≡ (None, q) → (height w q < height w p) × (tids q.tasks ≡ tids p.tasks)
+pub falls : (w : Want) (p q : Proc) → are_apart (task_tids p.tasks) ≡ true → turn_step w p ≡ (None, q) → (height w q < height w p) × (task_tids q.tasks ≡ task_tids p.tasks)
 unfolding turn_step
 falls w p q a e =
-    let l : tids q.tasks ≡ tids p.tasks = ap (λ (r : Option Came × Proc). tids r.1.tasks) (sym e) ∙ (step_is w p).live in
+    let l : task_tids q.tasks ≡ task_tids p.tasks = ap (λ (r : Option Came × Proc). task_tids r.1.tasks) (sym e) ∙ (step_is w p).live in
     (falls_by w p q (is_asking (state_at p.tasks (wanted w p))) (can_move w p) (is_on p) (p.left == 0) refl refl refl refl l a e, l)
 
 -- ---- more steps than enough make no difference
 
-enough_by : (w : Want) (n m : ℕ) (p : Proc) (r : Option Came × Proc) → turn_step w p ≡ r → are_apart (tids p.tasks) ≡ true → height w p < suc n → height w p < suc m
-    → ((q : Proc) → are_apart (tids q.tasks) ≡ true → height w q < n → height w q < m → steps w n q ≡ steps w m q)
+enough_by : (w : Want) (n m : ℕ) (p : Proc) (r : Option Came × Proc) → turn_step w p ≡ r → are_apart (task_tids p.tasks) ≡ true → height w p < suc n → height w p < suc m
+    → ((q : Proc) → are_apart (task_tids q.tasks) ≡ true → height w q < n → height w q < m → steps w n q ≡ steps w m q)
     → unless_came (steps w n) r ≡ unless_came (steps w m) r
 enough_by w n m p (None, q) e a h k go =
     let f = falls w p q a e in
@@ -90,7 +90,7 @@ enough_by w n m p (None, q) e a h k go =
     go q (ap are_apart f.1 ∙ a) (omega arith) (omega arith)
 enough_by w n m p (Some came, q) e a h k go = refl
 
-pub enough : (w : Want) (n m : ℕ) (p : Proc) → are_apart (tids p.tasks) ≡ true → height w p < n → height w p < m → steps w n p ≡ steps w m p
+pub enough : (w : Want) (n m : ℕ) (p : Proc) → are_apart (task_tids p.tasks) ≡ true → height w p < n → height w p < m → steps w n p ≡ steps w m p
 unfolding steps
 enough w zero m p a h k = absurd (omega arith)
 enough w (suc n) zero p a h k = absurd (omega arith)
@@ -104,7 +104,7 @@ whole : (w : Want) (p : Proc) → advanced w p ≡ steps w (suc (most_steps p)) 
 unfolding advanced
 whole w p = refl
 
-pub goes_on_by : (w : Want) (p q : Proc) → are_apart (tids p.tasks) ≡ true → turn_step w p ≡ (None, q) → Goes w p None q
+pub goes_on_by : (w : Want) (p q : Proc) → are_apart (task_tids p.tasks) ≡ true → turn_step w p ≡ (None, q) → Goes w p None q
 goes_on_by w p q a e =
     let f = falls w p q a e in
     let lower = f.0 in
@@ -119,14 +119,11 @@ goes_further w p q r None h k = (k.0 ∙ h.0, (let a = h.1 in let b = k.1 in ome
 goes_further w p q r (Some came) h k = sym h.0 ∙ k
 
 -- a turn step as a whole
-pub goes : (w : Want) (p : Proc) (r : Option Came × Proc) → are_apart (tids p.tasks) ≡ true → turn_step w p ≡ r → Goes w p r.0 r.1
+pub goes : (w : Want) (p : Proc) (r : Option Came × Proc) → are_apart (task_tids p.tasks) ≡ true → turn_step w p ≡ r → Goes w p r.0 r.1
 goes w p (None, q) a e = goes_on_by w p q a e
 goes w p (Some came, q) a e = comes_by w p q came e
 
 -- ---- the rules one by one
-
-rule_asked : (w : Want) (p : Proc) (b : Bool) (rest : Option Came × Proc) → b ≡ true → cond b (Some (Asked (wanted w p)), p) rest ≡ (Some (Asked (wanted w p)), p)
-rule_asked w p b rest h = rw h refl
 
 pub step_asked : (w : Want) (p : Proc) → is_asking (state_at p.tasks (wanted w p)) ≡ true → turn_step w p ≡ (Some (Asked (wanted w p)), p)
 unfolding turn_step
@@ -136,7 +133,7 @@ pub step_stuck : (w : Want) (p : Proc) → is_asking (state_at p.tasks (wanted w
 unfolding turn_step
 step_stuck w p h k = rw (h, k) refl
 
-pub step_passes : (w : Want) (p : Proc) → is_asking (state_at p.tasks (wanted w p)) ≡ false → can_move w p ≡ true → is_on p ≡ false → turn_step w p ≡ (None, passed p)
+pub step_passes : (w : Want) (p : Proc) → is_asking (state_at p.tasks (wanted w p)) ≡ false → can_move w p ≡ true → is_on p ≡ false → turn_step w p ≡ (None, turn_passed p)
 unfolding turn_step
 step_passes w p h k o = rw (h, k, o) refl
 

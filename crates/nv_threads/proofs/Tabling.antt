@@ -3,15 +3,16 @@ use Rattle.std.proofs.Common.{◌≡◌, ◌∙◌, ap, refl, ℕ, suc, ◌≤�
 use Rattle.std.specs.Prelude.{is_some}
 use Rattle.std.specs.List.{list_any}
 use Rattle.nv_calls.specs.Calls.{Request}
-use Rattle.nv_threads.specs.Threads.{TaskState, Runs, Asks, Task as Thread, tids, state_at, with_state, is_running, is_asking, moves, moves_task, asks, waits_at, least_waiter, lesser, no_call}
-use Rattle.nv_threads.specs.Tables.{numbers, doing_at, with_doing, place_of, state_by, thread_by, moves_by, can_move_by, any_asks_by, waits_by, waiter_by, threads_of, is_runs, is_asks}
+use Rattle.nv_threads.specs.Threads.{TaskState, Runs, Asks, Task as Thread, task_tids, state_at, with_state, is_running, is_asking, moves, moves_task, asks, waits_at, least_waiter, lesser, no_call}
+use Rattle.nv_threads.specs.Tasks.{state_by, thread_by, threads_of}
+use Rattle.nv_threads.specs.inner.Tasks.{task_numbers, doing_at, with_doing, task_place, moves_by, can_move_by, any_asks_by, waits_by, waiter_by, is_runs, is_asks}
 use Rattle.nv_threads.specs.declared.tasks.Doing.{Doing}
 use Rattle.nv_threads.specs.declared.tasks.Doing.TheVariants as doing
 use Rattle.nv_threads.specs.declared.tasks.Task.{Task}
 use Rattle.nv_threads.specs.declared.turns.Want.{Want}
 use Rattle.nv_threads.specs.declared.turns.Want.TheVariants.{Any, Only}
 
-pub tids_of : (ts : List Task) (cs : List Request) → tids (threads_of ts cs) ≡ numbers ts
+pub tids_of : (ts : List Task) (cs : List Request) → task_tids (threads_of ts cs) ≡ task_numbers ts
 tids_of [] cs = refl
 tids_of (t ∷ ts) [] = ap (λ rest. t.tid ∷ rest) (tids_of ts [])
 tids_of (t ∷ ts) (c ∷ cs) = ap (λ rest. t.tid ∷ rest) (tids_of ts cs)
@@ -102,14 +103,14 @@ module _ (d : Doing) (s : TaskState) (each : (c : Request) → state_by d c ≡ 
 
 -- a thread asks: its call is the one at its place
 asks_by : (t : Task) (ts : List Task) (c r : Request) (cs : List Request) (tid : ℕ) (b : Bool)
-    → threads_of (with_doing ts tid doing.Asks) (set cs (place_of ts tid) r) ≡ with_state (threads_of ts cs) tid (Asks r)
-    → threads_of (cond b (record t { doing = doing.Asks } ∷ ts) (t ∷ with_doing ts tid doing.Asks)) (set (c ∷ cs) (cond b 0 (suc (place_of ts tid))) r)
+    → threads_of (with_doing ts tid doing.Asks) (set cs (task_place ts tid) r) ≡ with_state (threads_of ts cs) tid (Asks r)
+    → threads_of (cond b (record t { doing = doing.Asks } ∷ ts) (t ∷ with_doing ts tid doing.Asks)) (set (c ∷ cs) (cond b 0 (suc (task_place ts tid))) r)
     ≡ cond b (record (thread_by t c) { state = Asks r } ∷ threads_of ts cs) (thread_by t c ∷ with_state (threads_of ts cs) tid (Asks r))
 asks_by t ts c r cs tid true go = refl
 asks_by t ts c r cs tid false go = ap (λ rest. thread_by t c ∷ rest) go
 
 pub asks_of : (ts : List Task) (cs : List Request) (tid : ℕ) (r : Request) → length ts ≤ length cs
-    → threads_of (with_doing ts tid doing.Asks) (set cs (place_of ts tid) r) ≡ with_state (threads_of ts cs) tid (Asks r)
+    → threads_of (with_doing ts tid doing.Asks) (set cs (task_place ts tid) r) ≡ with_state (threads_of ts cs) tid (Asks r)
 asks_of [] cs tid r h = refl
 asks_of (t ∷ ts) [] tid r h = absurd (omega arith)
 asks_of (t ∷ ts) (c ∷ cs) tid r h = asks_by t ts c r cs tid (t.tid == tid) (asks_of ts cs tid r (omega arith))
@@ -124,12 +125,12 @@ runs_as t c r h = ap (λ (s : TaskState). record { tid = t.tid; state = s }) (by
     by (doing.Waits a) h = cc
 
 unread_by : (t : Task) (ts : List Task) (c r : Request) (cs : List Request) (tid : ℕ) (b : Bool) → is_runs (cond b (Some t.doing) (doing_at ts tid)) ≡ true
-    → (is_runs (doing_at ts tid) ≡ true → threads_of ts (set cs (place_of ts tid) r) ≡ threads_of ts cs)
-    → threads_of (t ∷ ts) (set (c ∷ cs) (cond b 0 (suc (place_of ts tid))) r) ≡ threads_of (t ∷ ts) (c ∷ cs)
+    → (is_runs (doing_at ts tid) ≡ true → threads_of ts (set cs (task_place ts tid) r) ≡ threads_of ts cs)
+    → threads_of (t ∷ ts) (set (c ∷ cs) (cond b 0 (suc (task_place ts tid))) r) ≡ threads_of (t ∷ ts) (c ∷ cs)
 unread_by t ts c r cs tid true h go = ap (λ (x : Thread). x ∷ threads_of ts cs) (runs_as t c r h)
 unread_by t ts c r cs tid false h go = ap (λ rest. thread_by t c ∷ rest) (go h)
 
-pub unread : (ts : List Task) (cs : List Request) (tid : ℕ) (r : Request) → is_runs (doing_at ts tid) ≡ true → threads_of ts (set cs (place_of ts tid) r) ≡ threads_of ts cs
+pub unread : (ts : List Task) (cs : List Request) (tid : ℕ) (r : Request) → is_runs (doing_at ts tid) ≡ true → threads_of ts (set cs (task_place ts tid) r) ≡ threads_of ts cs
 unread [] cs tid r h = refl
 unread (t ∷ ts) [] tid r h = refl
 unread (t ∷ ts) (c ∷ cs) tid r h = unread_by t ts c r cs tid (t.tid == tid) h (unread ts cs tid r)

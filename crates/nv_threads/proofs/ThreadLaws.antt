@@ -10,9 +10,9 @@ use Rattle.nv_machine.specs.Guest.{Machine, guest_step}
 use Rattle.nv_machine.specs.declared.outcome.FaultKind.TheVariants.{Budget, Deadlock}
 use Rattle.nv_machine.specs.declared.outcome.Stepped.{Stepped}
 use Rattle.nv_machine.specs.declared.outcome.Stepped.TheVariants.{On, Call, Fault as Faults}
-use Rattle.nv_guest.specs.Calls.{number}
+use Rattle.nv_guest.specs.Calls.{call_number}
 use Rattle.nv_threads.specs.Behaviours.{IsProcess}
-use Rattle.nv_threads.specs.Threads.{Proc, TaskState, Runs, Asks, Waits, Task, tids, state_at, with_state, is_asking, asks, waiting_calls, next_tid, passed, machine, local, asking, called, ran, ended_by, counted, instruction, wanted, moves, moves_task, can_move, unless_live, is_on, faulted, turn_step, unless_came, steps, most_steps, advanced, over, left_by, goes_on, with_child, outcome_of, answered_by, call_in, is_sole, threads}
+use Rattle.nv_threads.specs.Threads.{Proc, TaskState, Runs, Asks, Waits, Task, task_tids, state_at, with_state, is_asking, asks, waiting_calls, next_tid, turn_passed, machine, local, asking, called, ran, ended_by, one_run, instruction, wanted, moves, moves_task, can_move, unless_live, is_on, faulted, turn_step, unless_came, steps, most_steps, advanced, exited, left_by, goes_on, with_child_task, after_call, answered_by, call_in, is_sole, threads}
 use Rattle.nv_threads.proofs.Quiet.{Quiet, same_tids, calls_more, local_quiet, passed_quiet}
 use Rattle.nv_threads.specs.declared.turns.Came.{Came}
 use Rattle.nv_threads.specs.declared.turns.Came.TheVariants.{Asked}
@@ -24,16 +24,16 @@ use Rattle.nv_threads.specs.declared.turns.Want.TheVariants.{Any, Only}
 -- what a turn step comes to
 pub record Step (w : Want) (p : Proc) (r : Option Came × Proc) : Type 0 where
   pub asked : (t : ℕ) → r.0 ≡ Some (Asked t) → (t ≡ wanted w p) × (is_asking (state_at p.tasks t) ≡ true) × (r.1 ≡ p)
-  pub live : tids r.1.tasks ≡ tids p.tasks
+  pub live : task_tids r.1.tasks ≡ task_tids p.tasks
   pub calls : r.1.left + waiting_calls r.1.tasks ≤ p.left + waiting_calls p.tasks
-  pub turn : (r.1.turn ≡ p.turn) ⊎ (r.1.turn ≡ next_tid p.turn (tids p.tasks))
+  pub turn : (r.1.turn ≡ p.turn) ⊎ (r.1.turn ≡ next_tid p.turn (task_tids p.tasks))
 
 -- one call more at most
 pub record Louder (p q : Proc) : Type 0 where
-  pub live : tids q.tasks ≡ tids p.tasks
+  pub live : task_tids q.tasks ≡ task_tids p.tasks
   pub calls : waiting_calls q.tasks ≤ waiting_calls p.tasks + 1
   pub left : q.left ≡ p.left
-  pub turn : (q.turn ≡ p.turn) ⊎ (q.turn ≡ next_tid p.turn (tids p.tasks))
+  pub turn : (q.turn ≡ p.turn) ⊎ (q.turn ≡ next_tid p.turn (task_tids p.tasks))
 
 louder : (p q : Proc) → Quiet p q → Louder p q
 louder p q h = record { live = h.live; calls = omega (arith, h.calls); left = h.left; turn = h.turn }
@@ -42,20 +42,20 @@ pub called_is : (p : Proc) (n : ℕ) (b : Bool) → Louder p (cond b (local n p)
 called_is p n true = louder p _ (local_quiet n p)
 called_is p n false = record { live = same_tids p.tasks p.turn _; calls = calls_more p.tasks p.turn _; left = refl; turn = inl refl }
 
-ends : (w : Want) (p : Proc) (s : Stepped) (m : Machine) → 0 < p.left → Step w p (ended_by s (ran (counted p) m))
+ends : (w : Want) (p : Proc) (s : Stepped) (m : Machine) → 0 < p.left → Step w p (ended_by s (ran (one_run p) m))
 ends w p On m h = record { asked = λ t e. cc; live = refl; calls = omega (arith, h); turn = inl refl }
 ends w p Call m h =
-    let q : Proc = ran (counted p) m in
-    let l : Louder q (called q) = called_is q (number (machine q)) (is_local (number (machine q))) in
+    let q : Proc = ran (one_run p) m in
+    let l : Louder q (called q) = called_is q (call_number (machine q)) (is_local (call_number (machine q))) in
     record { asked = λ t e. cc; live = l.live; calls = omega (arith, h, l.calls, l.left); turn = l.turn }
 ends w p (Faults kind) m h = record { asked = λ t e. cc; live = refl; calls = omega (arith, h); turn = inl refl }
 
-live_or : (p : Proc) (b : Bool) → Quiet p (cond b p (passed p))
+live_or : (p : Proc) (b : Bool) → Quiet p (cond b p (turn_passed p))
 live_or p true = record { live = refl; calls = omega arith; left = refl; turn = inl refl }
 live_or p false = passed_quiet p
 
 by_rules : (w : Want) (p : Proc) (b1 b2 b3 b4 : Bool) → is_asking (state_at p.tasks (wanted w p)) ≡ b1 → (p.left == 0) ≡ b4
-    → Step w p (cond b1 (Some (Asked (wanted w p)), p) (cond (not b2) (faulted Deadlock (unless_live p)) (cond (not b3) (None, passed p) (cond b4 (faulted Budget p) (instruction p)))))
+    → Step w p (cond b1 (Some (Asked (wanted w p)), p) (cond (not b2) (faulted Deadlock (unless_live p)) (cond (not b3) (None, turn_passed p) (cond b4 (faulted Budget p) (instruction p)))))
 by_rules w p true b2 b3 b4 h k = record {
   asked = λ t e. (let z : wanted w p ≡ t = cc in (sym z, subst (λ (x : ℕ). is_asking (state_at p.tasks x) ≡ true) z h, refl));
   live = refl;
@@ -77,7 +77,7 @@ step_is w p = by_rules w p (is_asking (state_at p.tasks (wanted w p))) (can_move
 
 record Gone (w : Want) (p : Proc) (r : Came × Proc) : Type 0 where
   asked : (t : ℕ) → r.0 ≡ Asked t → (t ≡ wanted w r.1) × (is_asking (state_at r.1.tasks t) ≡ true)
-  live : tids r.1.tasks ≡ tids p.tasks
+  live : task_tids r.1.tasks ≡ task_tids p.tasks
   calls : r.1.left + waiting_calls r.1.tasks ≤ p.left + waiting_calls p.tasks
 
 gone_by : (w : Want) (n : ℕ) (p : Proc) (r : Option Came × Proc) → Step w p r → ((q : Proc) → Gone w q (steps w n q)) → Gone w p (unless_came (steps w n) r)
@@ -109,11 +109,11 @@ at_once w q h = at_once_by w q (most_steps q) (is_asking (state_at q.tasks (want
 
 -- ---- where a thread lives, and where it has a call
 
-lives_at : (ts : List Task) (t : ℕ) → is_asking (state_at ts t) ≡ true → Contains (tids ts) t
+lives_at : (ts : List Task) (t : ℕ) → is_asking (state_at ts t) ≡ true → Contains (task_tids ts) t
 lives_at [] t h = cc
 lives_at (x ∷ ts) t h = by (x.tid == t) refl h (lives_at ts t)
   where
-    by : (b : Bool) → (x.tid == t) ≡ b → is_asking (cond b (Some x.state) (state_at ts t)) ≡ true → (is_asking (state_at ts t) ≡ true → Contains (tids ts) t) → Contains (tids (x ∷ ts)) t
+    by : (b : Bool) → (x.tid == t) ≡ b → is_asking (cond b (Some x.state) (state_at ts t)) ≡ true → (is_asking (state_at ts t) ≡ true → Contains (task_tids ts) t) → Contains (task_tids (x ∷ ts)) t
     by true e h go = (0, omega arith, grind (arith, nat_tests))
     by false e h go = let (k, i, z) = go h in (suc k, omega arith, z)
 
@@ -169,54 +169,54 @@ calls_child : (ts : List Task) (child : ℕ) → waiting_calls (ts ++ record { t
 calls_child [] child = refl
 calls_child (x ∷ ts) child = ap (λ n. cond (asks x) 1 0 + n) (calls_child ts child)
 
-pub tids_child : (ts : List Task) (child : ℕ) → tids (ts ++ record { tid = child; state = Runs } ∷ []) ≡ tids ts ++ child ∷ []
+pub tids_child : (ts : List Task) (child : ℕ) → task_tids (ts ++ record { tid = child; state = Runs } ∷ []) ≡ task_tids ts ++ child ∷ []
 tids_child [] child = refl
 tids_child (x ∷ ts) child = ap (λ rest. x.tid ∷ rest) (tids_child ts child)
 
-pub tids_filter : (ts : List Task) (t : ℕ) → tids (filter (others t) ts) ≡ filter (λ u. not (u == t)) (tids ts)
+pub tids_filter : (ts : List Task) (t : ℕ) → task_tids (filter (others t) ts) ≡ filter (λ u. not (u == t)) (task_tids ts)
 tids_filter [] t = refl
 tids_filter (x ∷ ts) t = by (others t x) (tids_filter ts t)
   where
-    by : (b : Bool) → tids (filter (others t) ts) ≡ filter (λ u. not (u == t)) (tids ts)
-        → tids (cond b (x ∷ filter (others t) ts) (filter (others t) ts)) ≡ cond b (x.tid ∷ filter (λ u. not (u == t)) (tids ts)) (filter (λ u. not (u == t)) (tids ts))
+    by : (b : Bool) → task_tids (filter (others t) ts) ≡ filter (λ u. not (u == t)) (task_tids ts)
+        → task_tids (cond b (x ∷ filter (others t) ts) (filter (others t) ts)) ≡ cond b (x.tid ∷ filter (λ u. not (u == t)) (task_tids ts)) (filter (λ u. not (u == t)) (task_tids ts))
     by true go = ap (λ rest. x.tid ∷ rest) go
     by false go = go
 
-child_tids : (p : Proc) (t : ℕ) (m : Option ℕ) → tids (with_child p t m).tasks ≡ more_live (tids p.tasks) m
+child_tids : (p : Proc) (t : ℕ) (m : Option ℕ) → task_tids (with_child_task p t m).tasks ≡ more_live (task_tids p.tasks) m
 child_tids p t None = refl
 child_tids p t (Some child) = tids_child p.tasks child
 
-child_calls : (p : Proc) (t : ℕ) (m : Option ℕ) → is_asking (state_at p.tasks t) ≡ true → waiting_calls (with_state (with_child p t m).tasks t Runs) + 1 ≤ waiting_calls p.tasks
+child_calls : (p : Proc) (t : ℕ) (m : Option ℕ) → is_asking (state_at p.tasks t) ≡ true → waiting_calls (with_state (with_child_task p t m).tasks t Runs) + 1 ≤ waiting_calls p.tasks
 child_calls p t None h = calls_fewer p.tasks t h
 child_calls p t (Some child) h =
     let few = calls_fewer (p.tasks ++ record { tid = child; state = Runs } ∷ []) t (asking_still p.tasks _ t h) in
     let same = calls_child p.tasks child in
     omega (arith, few, same)
 
-child_left : (p : Proc) (t : ℕ) (m : Option ℕ) → (with_child p t m).left ≡ p.left
+child_left : (p : Proc) (t : ℕ) (m : Option ℕ) → (with_child_task p t m).left ≡ p.left
 child_left p t None = refl
 child_left p t (Some child) = refl
 
-child_turn : (p : Proc) (t : ℕ) (m : Option ℕ) → (with_child p t m).turn ≡ p.turn
+child_turn : (p : Proc) (t : ℕ) (m : Option ℕ) → (with_child_task p t m).turn ≡ p.turn
 child_turn p t None = refl
 child_turn p t (Some child) = refl
 
 answer_live : (p : Proc) (t : ℕ) (c : Request) (r : Response) (b94 b93 : Bool)
-    → tids (cond b94 (over p (status_of c)) (cond b93 (left_by p t (status_of c)) (goes_on (with_child p t (made c.nr r.ret)) t r))).tasks
-    ≡ cond b94 [] (cond b93 (filter (λ u. not (u == t)) (tids p.tasks)) (more_live (tids p.tasks) (made c.nr r.ret)))
+    → task_tids (cond b94 (exited p (status_of c)) (cond b93 (left_by p t (status_of c)) (goes_on (with_child_task p t (made c.nr r.ret)) t r))).tasks
+    ≡ cond b94 [] (cond b93 (filter (λ u. not (u == t)) (task_tids p.tasks)) (more_live (task_tids p.tasks) (made c.nr r.ret)))
 answer_live p t c r true b93 = refl
 answer_live p t c r false true = tids_filter p.tasks t
 answer_live p t c r false false = same_tids _ t Runs ∙ child_tids p t (made c.nr r.ret)
 
 answer_falls : (p : Proc) (t : ℕ) (c : Request) (r : Response) (b94 b93 : Bool) (q : Proc)
-    → q ≡ cond b94 (over p (status_of c)) (cond b93 (left_by p t (status_of c)) (goes_on (with_child p t (made c.nr r.ret)) t r))
+    → q ≡ cond b94 (exited p (status_of c)) (cond b93 (left_by p t (status_of c)) (goes_on (with_child_task p t (made c.nr r.ret)) t r))
     → is_asking (state_at p.tasks t) ≡ true → q.left + waiting_calls q.tasks < p.left + waiting_calls p.tasks
 answer_falls p t c r true b93 q e h = rw e (omega (arith, some_call p.tasks t h))
 answer_falls p t c r false true q e h = rw e (omega (arith, calls_left_out p.tasks t h))
 answer_falls p t c r false false q e h = rw e (omega (arith, child_calls p t (made c.nr r.ret) h, child_left p t (made c.nr r.ret)))
 
 answer_turn : (p : Proc) (t : ℕ) (c : Request) (r : Response) (b94 b93 : Bool)
-    → (cond b94 (over p (status_of c)) (cond b93 (left_by p t (status_of c)) (goes_on (with_child p t (made c.nr r.ret)) t r))).turn ≡ p.turn
+    → (cond b94 (exited p (status_of c)) (cond b93 (left_by p t (status_of c)) (goes_on (with_child_task p t (made c.nr r.ret)) t r))).turn ≡ p.turn
 answer_turn p t c r true b93 = refl
 answer_turn p t c r false true = refl
 answer_turn p t c r false false = child_turn p t (made c.nr r.ret)
@@ -229,7 +229,7 @@ next_alone [] h = refl
 next_alone (t ∷ []) h = let z : t ≡ 100 = grind (arith, nat_tests) in rw z refl
 next_alone (t ∷ u ∷ ts) h = cc
 
-can_same : (ts : List Task) → is_sole (tids ts) ≡ true → is_asking (state_at ts 100) ≡ false → list_any (moves_task Any) ts ≡ list_any (moves_task (Only 100)) ts
+can_same : (ts : List Task) → is_sole (task_tids ts) ≡ true → is_asking (state_at ts 100) ≡ false → list_any (moves_task Any) ts ≡ list_any (moves_task (Only 100)) ts
 can_same [] h k = refl
 can_same (t ∷ []) h k = by t.state (rw h at k)
   where
@@ -240,22 +240,22 @@ can_same (t ∷ []) h k = by t.state (rw h at k)
 can_same (t ∷ u ∷ ts) h k = cc
 
 record IsAlone (p : Proc) : Type 0 where
-  sole : is_sole (tids p.tasks) ≡ true
+  sole : is_sole (task_tids p.tasks) ≡ true
   turn : p.turn ≡ 100
 
 both : (a b : Bool) → (a && b) ≡ true → (a ≡ true) × (b ≡ true)
 both true b h = (refl, h)
 both false b h = cc
 
-alone_parts : (p : Proc) → (is_sole (tids p.tasks) && (p.turn == 100)) ≡ true → IsAlone p
-alone_parts p h = let a = both (is_sole (tids p.tasks)) (p.turn == 100) h in let b = a.1 in record { sole = a.0; turn = grind (arith, nat_tests) }
+alone_parts : (p : Proc) → (is_sole (task_tids p.tasks) && (p.turn == 100)) ≡ true → IsAlone p
+alone_parts p h = let a = both (is_sole (task_tids p.tasks)) (p.turn == 100) h in let b = a.1 in record { sole = a.0; turn = grind (arith, nat_tests) }
 
-alone_whole : (p : Proc) → IsAlone p → (is_sole (tids p.tasks) && (p.turn == 100)) ≡ true
+alone_whole : (p : Proc) → IsAlone p → (is_sole (task_tids p.tasks) && (p.turn == 100)) ≡ true
 alone_whole p a = let b : (p.turn == 100) ≡ true = (let t = a.turn in grind (arith, nat_tests)) in rw (a.sole, b) refl
 
 abbrev rules_by : Want → ℕ → Proc → Bool → Option Came × Proc
 rules_by w n p can = cond (is_asking (state_at p.tasks n)) (Some (Asked n), p)
-    (cond (not can) (faulted Deadlock (unless_live p)) (cond (not (is_on p)) (None, passed p) (cond (p.left == 0) (faulted Budget p) (instruction p))))
+    (cond (not can) (faulted Deadlock (unless_live p)) (cond (not (is_on p)) (None, turn_passed p) (cond (p.left == 0) (faulted Budget p) (instruction p))))
 
 same_by : (p : Proc) (b a c : Bool) (rest : Bool → Option Came × Proc) → (b ≡ false → a ≡ c) → cond b (Some (Asked 100), p) (rest a) ≡ cond b (Some (Asked 100), p) (rest c)
 same_by p true a c rest h = refl
@@ -266,11 +266,11 @@ unfolding turn_step
 step_same p a =
     ap (λ n. rules_by Any n p (can_move Any p)) a.turn
     ∙ same_by p (is_asking (state_at p.tasks 100)) (can_move Any p) (can_move (Only 100) p)
-    (λ can. cond (not can) (faulted Deadlock (unless_live p)) (cond (not (is_on p)) (None, passed p) (cond (p.left == 0) (faulted Budget p) (instruction p)))) (can_same p.tasks a.sole)
+    (λ can. cond (not can) (faulted Deadlock (unless_live p)) (cond (not (is_on p)) (None, turn_passed p) (cond (p.left == 0) (faulted Budget p) (instruction p)))) (can_same p.tasks a.sole)
 
-turn_alone : (p q : Proc) → IsAlone p → (q.turn ≡ p.turn) ⊎ (q.turn ≡ next_tid p.turn (tids p.tasks)) → q.turn ≡ 100
+turn_alone : (p q : Proc) → IsAlone p → (q.turn ≡ p.turn) ⊎ (q.turn ≡ next_tid p.turn (task_tids p.tasks)) → q.turn ≡ 100
 turn_alone p q a (inl same) = same ∙ a.turn
-turn_alone p q a (inr next) = next ∙ (ap (λ n. next_tid n (tids p.tasks)) a.turn ∙ next_alone (tids p.tasks) a.sole)
+turn_alone p q a (inr next) = next ∙ (ap (λ n. next_tid n (task_tids p.tasks)) a.turn ∙ next_alone (task_tids p.tasks) a.sole)
 
 step_alone : (w : Want) (p : Proc) (r : Option Came × Proc) → Step w p r → IsAlone p → IsAlone r.1
 step_alone w p r s a = record { sole = ap is_sole s.live ∙ a.sole; turn = turn_alone p r.1 a s.turn }
@@ -331,11 +331,11 @@ answer_sole live t m false false h k = rw k h
 abbrev pub ended_as : List Task → ℕ → Option ℕ
 ended_as tasks status = cond (length tasks == 0) (Some status) None
 
-pub none_lives : (tasks : List Task) (status : ℕ) → tids tasks ≡ [] → ended_as tasks status ≡ None → ⊥
+pub none_lives : (tasks : List Task) (status : ℕ) → task_tids tasks ≡ [] → ended_as tasks status ≡ None → ⊥
 none_lives [] status h k = cc
 none_lives (t ∷ ts) status h k = cc
 
-ended_lives : (tasks : List Task) (status s : ℕ) → ended_as tasks status ≡ Some s → tids tasks ≡ []
+ended_lives : (tasks : List Task) (status s : ℕ) → ended_as tasks status ≡ Some s → task_tids tasks ≡ []
 ended_lives [] status s h = refl
 ended_lives (t ∷ ts) status s h = let z : (length (t ∷ ts) == 0) ≡ false = grind (arith, nat_tests) in let k = rw z at h in cc
 
@@ -351,18 +351,18 @@ thread_laws = record {
   only = λ p t u c h. ((gone_is (Only t) p).asked u h).0;
   any = λ p t e h. (let g = gone_is Any p in subst (λ (ts : List ℕ). Contains ts t) g.live (lives_at (advanced Any p).1.tasks t (g.asked t h).1));
   keeps = λ p w. (gone_is w p).calls;
-  falls = λ p t r h. (let c = call_in (state_at p.tasks t) in answer_falls p t c r (c.nr == 94) (c.nr == 93) (outcome_of p t c.nr (status_of c) r) refl h);
+  falls = λ p t r h. (let c = call_in (state_at p.tasks t) in answer_falls p t c r (c.nr == 94) (c.nr == 93) (after_call p t c.nr (status_of c) r) refl h);
   live_after = λ p w. (gone_is w p).live;
   live_answer = λ p t n r h. (let c = call_in (state_at p.tasks t) in answer_live p t c r (c.nr == 94) (c.nr == 93));
   ended = λ p h e. none_lives p.tasks p.status h e;
   lives = λ p s e. ended_lives p.tasks p.status s e;
-  sole = λ p t h c. sole_at (tids p.tasks) t (alone_parts p h).sole c;
+  sole = λ p t h c. sole_at (task_tids p.tasks) t (alone_parts p h).sole c;
   alone = λ p h. ap (λ (r : Came × Proc). r.0) (advanced_same p (alone_parts p h));
   alone_after = λ p h. ap (λ (r : Came × Proc). r.1) (advanced_same p (alone_parts p h));
   stays_alone = λ p w h. alone_whole (advanced w p).1 (advanced_alone w p (alone_parts p h));
   alone_answer = λ p t n r h k. (let c = call_in (state_at p.tasks t) in let a = alone_parts p h in
       alone_whole (answered_by p t c r) (record {
-        sole = ap is_sole (answer_live p t c r (c.nr == 94) (c.nr == 93)) ∙ answer_sole (tids p.tasks) t (made c.nr r.ret) (c.nr == 94) (c.nr == 93) a.sole k;
+        sole = ap is_sole (answer_live p t c r (c.nr == 94) (c.nr == 93)) ∙ answer_sole (task_tids p.tasks) t (made c.nr r.ret) (c.nr == 94) (c.nr == 93) a.sole k;
         turn = answer_turn p t c r (c.nr == 94) (c.nr == 93) ∙ a.turn;
       }));
 }
@@ -391,7 +391,7 @@ pub threads_here : (p : Proc) (t : ℕ) → threads.pending p t ≡ true → Con
 unfolding threads
 threads_here p t h = lives_at p.tasks t h
 
-on_by : (tasks : List Task) (status t : ℕ) → Contains (tids tasks) t → ended_as tasks status ≡ None
+on_by : (tasks : List Task) (status t : ℕ) → Contains (task_tids tasks) t → ended_as tasks status ≡ None
 on_by [] status t (k, h, e) = absurd (omega arith)
 on_by (x ∷ ts) status t c = let z : (length (x ∷ ts) == 0) ≡ false = grind (arith, nat_tests) in rw z refl
 

@@ -3,16 +3,17 @@ use Rattle.std.proofs.Common.{◌≡◌, ◌∙◌, sym, ap, subst, refl, ℕ, z
 use Rattle.std.specs.Prelude.{Contains}
 use Rattle.std.specs.List.{refill}
 use Rattle.nv_calls.specs.Calls.{Request}
-use Rattle.nv_threads.specs.Threads.{Proc, TaskState, Runs, Task as Thread, state_at, is_running, tids, with_state, waits_at, lesser, least_waiter, woken_one, woken_by, woken}
-use Rattle.nv_threads.specs.Tables.{numbers, with_doing, state_by, threads_of}
+use Rattle.nv_threads.specs.Threads.{Proc, TaskState, Runs, Task as Thread, state_at, is_running, task_tids, with_state, waits_at, lesser, least_waiter, woken_one, woken_by, woken}
+use Rattle.nv_threads.specs.Tasks.{state_by, threads_of}
+use Rattle.nv_threads.specs.inner.Tasks.{task_numbers, with_doing}
 use Rattle.nv_threads.specs.declared.tasks.Doing.{Doing}
 use Rattle.nv_threads.specs.declared.tasks.Task.{Task}
 use Rattle.nv_threads.proofs.Orders.{at_prefix, after, min_is}
 use Rattle.nv_threads.proofs.Places.{refilled, length_doing}
 use Rattle.nv_threads.proofs.Tabling.{tids_of, doing_of}
 
-pub lives_there : (items seen : List Task) (cs : List Request) (t : ℕ) → seen ≡ items → Contains (tids (threads_of items cs)) t → Contains (numbers seen) t
-lives_there items seen cs t e h = subst (λ (ts : List Task). Contains (numbers ts) t) (sym e) (subst (λ (ns : List ℕ). Contains ns t) (tids_of items cs) h)
+pub lives_there : (items seen : List Task) (cs : List Request) (t : ℕ) → seen ≡ items → Contains (task_tids (threads_of items cs)) t → Contains (task_numbers seen) t
+lives_there items seen cs t e h = subst (λ (ts : List Task). Contains (task_numbers ts) t) (sym e) (subst (λ (ns : List ℕ). Contains ns t) (tids_of items cs) h)
 
 pub table_written : (items seen now : List Task) (t : ℕ) (d : Doing) → seen ≡ items → now ≡ with_doing seen t d → refill (length items) items now ≡ with_doing items t d
 table_written items seen now t d e w =
@@ -25,17 +26,17 @@ state_written items seen now cs t d s each e w = ap (λ (ts : List Task). thread
 
 -- ---- waking
 
-waiter_by : (a : ℕ) (x : Thread) (ts : List Thread) (b : Bool) (o : Option ℕ) (t : ℕ) → (o ≡ Some t → Contains (tids ts) t) → ((u : ℕ) → o ≡ Some u → Contains (tids ts) u)
-    → cond b (Some (lesser x.tid o)) o ≡ Some t → Contains (tids (x ∷ ts)) t
-waiter_by a x ts true None t go all h = let z : x.tid ≡ t = cc in subst (λ n. Contains (tids (x ∷ ts)) n) z (at_prefix x.tid (tids ts))
+waiter_by : (a : ℕ) (x : Thread) (ts : List Thread) (b : Bool) (o : Option ℕ) (t : ℕ) → (o ≡ Some t → Contains (task_tids ts) t) → ((u : ℕ) → o ≡ Some u → Contains (task_tids ts) u)
+    → cond b (Some (lesser x.tid o)) o ≡ Some t → Contains (task_tids (x ∷ ts)) t
+waiter_by a x ts true None t go all h = let z : x.tid ≡ t = cc in subst (λ n. Contains (task_tids (x ∷ ts)) n) z (at_prefix x.tid (task_tids ts))
 waiter_by a x ts true (Some u) t go all h =
     let z : min x.tid u ≡ t = cc in
-    subst (λ n. Contains (tids (x ∷ ts)) n) z
-    (⊎_elim (λ (e : min x.tid u ≡ x.tid). subst (λ n. Contains (tids (x ∷ ts)) n) (sym e) (at_prefix x.tid (tids ts)))
-    (λ (e : min x.tid u ≡ u). subst (λ n. Contains (tids (x ∷ ts)) n) (sym e) (after x.tid (tids ts) u (all u refl))) (min_is x.tid u))
-waiter_by a x ts false o t go all h = after x.tid (tids ts) t (go h)
+    subst (λ n. Contains (task_tids (x ∷ ts)) n) z
+    (⊎_elim (λ (e : min x.tid u ≡ x.tid). subst (λ n. Contains (task_tids (x ∷ ts)) n) (sym e) (at_prefix x.tid (task_tids ts)))
+    (λ (e : min x.tid u ≡ u). subst (λ n. Contains (task_tids (x ∷ ts)) n) (sym e) (after x.tid (task_tids ts) u (all u refl))) (min_is x.tid u))
+waiter_by a x ts false o t go all h = after x.tid (task_tids ts) t (go h)
 
-pub waiter_lives : (a : ℕ) (ts : List Thread) (t : ℕ) → least_waiter a ts ≡ Some t → Contains (tids ts) t
+pub waiter_lives : (a : ℕ) (ts : List Thread) (t : ℕ) → least_waiter a ts ≡ Some t → Contains (task_tids ts) t
 waiter_lives a [] t h = cc
 waiter_lives a (x ∷ ts) t h = waiter_by a x ts (waits_at a x.state) (least_waiter a ts) t (waiter_lives a ts t) (waiter_lives a ts) h
 

@@ -26,8 +26,8 @@ pub record Behaviour (P : Type 0) : Type 0 where
   pub is_alone : P → Bool
 
 -- the event that an answer makes of a thread's call
-abbrev pub event_of : {P : Type 0} → Behaviour P → P → ℕ → Response → ℕ → Entry
-event_of g p t r n = record { stamp = n; call = g.call p t; reply = r }
+abbrev pub event_answered : {P : Type 0} → Behaviour P → P → ℕ → Response → ℕ → Entry
+event_answered g p t r n = record { stamp = n; call = g.call p t; reply = r }
 
 pub record IsProcess {P : Type 0} (g : Behaviour P) : Type 0 where
   -- an asked call is pending, is of that thread, and is asked again at once
@@ -43,7 +43,7 @@ pub record IsProcess {P : Type 0} (g : Behaviour P) : Type 0 where
   -- the live threads change as a history says
   pub live_after : (p : P) (w : Want) → g.live (g.after p w) ≡ g.live p
   pub live_answer : (p : P) (t n : ℕ) (r : Response) → g.pending p t ≡ true
-      → g.live (g.answered p t r) ≡ live_next (g.live p) (event_of g p t r n)
+      → g.live (g.answered p t r) ≡ live_next (g.live p) (event_answered g p t r n)
   pub ended : (p : P) → g.live p ≡ [] → g.ended p ≡ None → ⊥
   pub lives : (p : P) (s : ℕ) → g.ended p ≡ Some s → g.live p ≡ []
   -- one thread alone is the first, and whichever is wanted
@@ -51,7 +51,7 @@ pub record IsProcess {P : Type 0} (g : Behaviour P) : Type 0 where
   pub alone : (p : P) → g.is_alone p ≡ true → g.came p Any ≡ g.came p (Only FIRST_THREAD)
   pub alone_after : (p : P) → g.is_alone p ≡ true → g.after p Any ≡ g.after p (Only FIRST_THREAD)
   pub stays_alone : (p : P) (w : Want) → g.is_alone p ≡ true → g.is_alone (g.after p w) ≡ true
-  pub alone_answer : (p : P) (t n : ℕ) (r : Response) → g.is_alone p ≡ true → child_of (event_of g p t r n) ≡ None
+  pub alone_answer : (p : P) (t n : ℕ) (r : Response) → g.is_alone p ≡ true → child_of (event_answered g p t r n) ≡ None
       → g.is_alone (g.answered p t r) ≡ true
 
 -- a process as it was made: the first thread alone lives, and it has made no call

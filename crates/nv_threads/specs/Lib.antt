@@ -1,6 +1,6 @@
 pub mod Behaviours
-pub mod Process
 pub mod Threads
-pub mod Tables
+pub mod Tasks
 pub mod Going
 pub mod Ahead
+pub mod inner

@@ -16,7 +16,7 @@ use Rattle.nv_machine.specs.declared.outcome.FaultKind.{FaultKind}
 use Rattle.nv_machine.specs.declared.outcome.FaultKind.TheVariants.{Budget, Deadlock}
 use Rattle.nv_machine.specs.declared.outcome.Stepped.{Stepped}
 use Rattle.nv_machine.specs.declared.outcome.Stepped.TheVariants.{On, Call, Fault as Faults}
-use Rattle.nv_guest.specs.Calls.{argument, number, call_at}
+use Rattle.nv_guest.specs.Calls.{argument, call_number, call_at}
 use Rattle.nv_guest.specs.Guest.{one_thread}
 use Rattle.nv_guest.specs.Heap.{moved}
 use Rattle.nv_guest.specs.Threads.{break_after, Threaded, machine_at, with_machine, answered_at, cloned, without, released as released_guest}
@@ -39,11 +39,11 @@ pub record Task : Type 0 where
   pub tid : ℕ
   pub state : TaskState
 
-abbrev pub tid_of : Task → ℕ
-tid_of t = t.tid
+abbrev pub task_tid : Task → ℕ
+task_tid t = t.tid
 
-abbrev pub tids : List Task → List ℕ
-tids tasks = map tid_of tasks
+abbrev pub task_tids : List Task → List ℕ
+task_tids tasks = map task_tid tasks
 
 -- the state of a thread, where it lives
 abbrev pub state_at : List Task → ℕ → Option TaskState
@@ -133,24 +133,24 @@ unfoldable pub next_tid : ℕ → List ℕ → ℕ
 next_tid turn live = or_else (least_above turn live) (or_else (least live) turn)
 
 -- no thread has a reservation
-abbrev pub released : Proc → Proc
-released p = record p { guest = released_guest p.guest }
+abbrev pub all_unreserved : Proc → Proc
+all_unreserved p = record p { guest = released_guest p.guest }
 
 -- the next thread has the turn, and each reservation ends
-abbrev pub passed : Proc → Proc
-passed p = record p { guest = released_guest p.guest; turn = next_tid p.turn (tids p.tasks); slice = turn_length }
+abbrev pub turn_passed : Proc → Proc
+turn_passed p = record p { guest = released_guest p.guest; turn = next_tid p.turn (task_tids p.tasks); slice = turn_length }
 
 -- ---- the process's own calls, of the turn's thread
 
-abbrev pub replied : Proc → ℤ → Proc
-replied p ret = record p { guest = answered_at p.guest p.turn ret [] }
+abbrev pub turn_replied : Proc → ℤ → Proc
+turn_replied p ret = record p { guest = answered_at p.guest p.turn ret [] }
 
 -- brk(2)
 abbrev pub broken : Proc → ℕ → Proc
 broken p address = record p { guest = record p.guest { memory = moved p.guest.memory address } }
 
 abbrev pub brk : Proc → Proc
-brk p = replied (broken p (argument (machine p) 0)) (cast_signed w32 (break_after p.guest.memory (argument (machine p) 0)))
+brk p = turn_replied (broken p (argument (machine p) 0)) (cast_signed w32 (break_after p.guest.memory (argument (machine p) 0)))
 
 -- futex(2): FUTEX_PRIVATE_FLAG, 128, makes no difference
 abbrev pub operation : ℕ → ℕ
@@ -174,22 +174,22 @@ woken zero address p = (0, p)
 woken (suc n) address p = woken_by (woken n address) p (least_waiter address p.tasks)
 
 abbrev pub woke : ℕ × Proc → Proc
-woke r = replied r.1 (pos r.0)
+woke r = turn_replied r.1 (pos r.0)
 
 abbrev pub waiting : Proc → ℕ → Proc
-waiting p address = passed (record p { tasks = with_state p.tasks p.turn (Waits address) })
+waiting p address = turn_passed (record p { tasks = with_state p.tasks p.turn (Waits address) })
 
 -- the word at the address may be another
 abbrev pub futex_on : Proc → ℕ → ℕ → ℕ → Result ℕ Access → Proc
-futex_on p op address value (Err e) = replied p EFAULT
+futex_on p op address value (Err e) = turn_replied p EFAULT
 futex_on p op address value (Ok word) = if op == 1 then woke (woken (min value (length p.tasks)) address p)
-    else if word == value then waiting p address else replied p EAGAIN
+    else if word == value then waiting p address else turn_replied p EAGAIN
 
 -- FUTEX_WAIT, 0, without a timeout, and FUTEX_WAKE, 1
 abbrev pub futex_by : Proc → ℕ → ℕ → ℕ → ℕ → Proc
 futex_by p op address value timeout =
-    if nat_lt 1 op || (op == 0 && not (timeout == 0)) then replied p ENOSYS
-    else if not (address % 4 == 0) then replied p EINVAL
+    if nat_lt 1 op || (op == 0 && not (timeout == 0)) then turn_replied p ENOSYS
+    else if not (address % 4 == 0) then turn_replied p EINVAL
     else futex_on p op address value (value_at p.guest.memory address Four Read)
 
 abbrev pub futex : Proc → Proc
@@ -197,11 +197,11 @@ futex p = futex_by p (operation (argument (machine p) 1)) (argument (machine p) 
 
 -- sched_yield(2), set_tid_address(2) and gettid(2) beside these
 unfoldable pub own_answer : ℕ → Proc → Proc
-own_answer nr p = if nr == 214 then brk p else if nr == 422 then futex p else if nr == 124 then passed (replied p (pos 0)) else replied p (cast_signed w32 p.turn)
+own_answer nr p = if nr == 214 then brk p else if nr == 422 then futex p else if nr == 124 then turn_passed (turn_replied p (pos 0)) else turn_replied p (cast_signed w32 p.turn)
 
 -- the answer ends each reservation
 abbrev pub local : ℕ → Proc → Proc
-local nr p = released (own_answer nr p)
+local nr p = all_unreserved (own_answer nr p)
 
 -- ---- going on
 
@@ -210,7 +210,7 @@ abbrev pub asking : Proc → Proc
 asking p = record p { tasks = with_state p.tasks p.turn (Asks (call_at (machine p) p.turn)) }
 
 abbrev pub called : Proc → Proc
-called p = if is_local (number (machine p)) then local (number (machine p)) p else asking p
+called p = if is_local (call_number (machine p)) then local (call_number (machine p)) p else asking p
 
 -- a fault of the turn's thread, at the instruction that faulted or wasn't run
 abbrev pub faulted : FaultKind → Proc → Option Came × Proc
@@ -224,15 +224,15 @@ ended_by On p = (None, p)
 ended_by Call p = (None, called p)
 ended_by (Faults kind) p = faulted kind p
 
-abbrev pub stepped : Stepped × Machine → Proc → Option Came × Proc
-stepped r p = ended_by r.0 (ran p r.1)
+abbrev pub turn_stepped : Stepped × Machine → Proc → Option Came × Proc
+turn_stepped r p = ended_by r.0 (ran p r.1)
 
-abbrev pub counted : Proc → Proc
-counted p = record p { slice = p.slice - 1; left = p.left - 1 }
+abbrev pub one_run : Proc → Proc
+one_run p = record p { slice = p.slice - 1; left = p.left - 1 }
 
 -- one instruction of the turn's thread
 abbrev pub instruction : Proc → Option Came × Proc
-instruction p = stepped (guest_step (machine p)) (counted p)
+instruction p = turn_stepped (guest_step (machine p)) (one_run p)
 
 -- the thread whose call is wanted next
 abbrev pub wanted : Want → Proc → ℕ
@@ -254,7 +254,7 @@ can_move w p = list_any (moves_task w) p.tasks
 
 -- a thread that has ended has the turn no longer
 abbrev pub unless_live : Proc → Proc
-unless_live p = if is_some (state_at p.tasks p.turn) then p else passed p
+unless_live p = if is_some (state_at p.tasks p.turn) then p else turn_passed p
 
 -- the turn's thread runs and has instructions left
 abbrev pub is_on : Proc → Bool
@@ -265,7 +265,7 @@ unfoldable pub turn_step : Want → Proc → Option Came × Proc
 turn_step w p =
     if is_asking (state_at p.tasks (wanted w p)) then (Some (Asked (wanted w p)), p)
     else if not (can_move w p) then faulted Deadlock (unless_live p)
-    else if not (is_on p) then (None, passed p)
+    else if not (is_on p) then (None, turn_passed p)
     else if p.left == 0 then faulted Budget p
     else instruction p
 
@@ -299,8 +299,8 @@ call_in (Some (Asks call)) = call
 call_in s = no_call
 
 -- exit_group(2)
-abbrev pub over : Proc → ℕ → Proc
-over p status = record p { tasks = []; status = status }
+abbrev pub exited : Proc → ℕ → Proc
+exited p status = record p { tasks = []; status = status }
 
 -- exit(2)
 abbrev pub left_by : Proc → ℕ → ℕ → Proc
@@ -310,20 +310,20 @@ abbrev pub goes_on : Proc → ℕ → Response → Proc
 goes_on p tid r = record p { guest = answered_at p.guest tid r.ret r.payload; tasks = with_state p.tasks tid Runs }
 
 -- clone(2)
-abbrev pub with_child : Proc → ℕ → Option ℕ → Proc
-with_child p tid None = p
-with_child p tid (Some child) = record p { guest = cloned p.guest tid child; tasks = p.tasks ++ record { tid = child; state = Runs } ∷ [] }
+abbrev pub with_child_task : Proc → ℕ → Option ℕ → Proc
+with_child_task p tid None = p
+with_child_task p tid (Some child) = record p { guest = cloned p.guest tid child; tasks = p.tasks ++ record { tid = child; state = Runs } ∷ [] }
 
 -- the answer to a call with this number, whose first argument ends in this byte
-abbrev pub outcome_of : Proc → ℕ → ℕ → ℕ → Response → Proc
-outcome_of p tid nr status r =
-    if nr == EXIT_GROUP then over p status
+abbrev pub after_call : Proc → ℕ → ℕ → ℕ → Response → Proc
+after_call p tid nr status r =
+    if nr == EXIT_GROUP then exited p status
     else if nr == EXIT then left_by p tid status
-    else goes_on (with_child p tid (made nr r.ret)) tid r
+    else goes_on (with_child_task p tid (made nr r.ret)) tid r
 
 -- the answer ends each reservation
 abbrev pub answered_as : Proc → ℕ → ℕ → ℕ → Response → Proc
-answered_as p tid nr status r = released (outcome_of p tid nr status r)
+answered_as p tid nr status r = all_unreserved (after_call p tid nr status r)
 
 abbrev pub answered_by : Proc → ℕ → Request → Response → Proc
 answered_by p tid c r = answered_as p tid c.nr (status_of c) r
@@ -345,8 +345,8 @@ threads = record {
   call = λ p t. record (call_in (state_at p.tasks t)) { tid = t };
   pc = λ p t. (machine_at p.guest t).regs.pc;
   answered = λ p t r. answered_by p t (call_in (state_at p.tasks t)) r;
-  live = λ p. tids p.tasks;
+  live = λ p. task_tids p.tasks;
   ended = λ p. if length p.tasks == 0 then Some p.status else None;
   calls_left = λ p. p.left + waiting_calls p.tasks;
-  is_alone = λ p. is_sole (tids p.tasks) && (p.turn == FIRST_THREAD);
+  is_alone = λ p. is_sole (task_tids p.tasks) && (p.turn == FIRST_THREAD);
 }

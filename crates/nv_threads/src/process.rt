@@ -6,9 +6,9 @@ ghost use Rattle.nv_calls.specs.Shapes.{IsShaped};
 ghost use Rattle.nv_guest.specs.Guest.{machine_of, one_thread};
 ghost use Rattle.nv_guest.specs.Threads.{break_after, tids as guest_tids};
 ghost use Rattle.nv_threads.specs.Behaviours.{IsStarted};
-ghost use Rattle.nv_threads.specs.Threads.{threads, started, count_of, greatest, state_at, is_running, is_asking, wanted, can_move, is_on, faulted, unless_live, passed, released, replied, own_answer, local, woken_one, woken, waiting, operation, futex, futex_by, futex_on, called, machine, tids, over, left_by, brk, broken, with_child, goes_on, outcome_of, answered_as};
+ghost use Rattle.nv_threads.specs.Threads.{threads, started, count_of, greatest, state_at, is_running, is_asking, wanted, can_move, is_on, faulted, unless_live, turn_passed, all_unreserved, turn_replied, own_answer, local, woken_one, woken, waiting, operation, futex, futex_by, futex_on, called, machine, task_tids, exited, left_by, brk, broken, with_child_task, goes_on, after_call, answered_as};
 ghost use Rattle.nv_threads.specs.Going.{Goes, burst};
-ghost use Rattle.nv_threads.specs.Process.{HaveCapacity};
+ghost use Rattle.nv_threads.specs.inner.Process.{HaveCapacity};
 ghost use Rattle.nv_threads.specs.Ahead.{HasGone};
 
 use crate::tasks::{
@@ -48,15 +48,15 @@ impl Model for Process {
     ghost use Rattle.std.specs.Prelude.{◌-◌, map};
     ghost use Rattle.nv_calls.specs.Calls.{request};
     ghost use Rattle.nv_guest.specs.Threads.{tids};
-    ghost use Rattle.nv_threads.specs.Process.{IsSound};
-    ghost use Rattle.nv_threads.specs.Tables.{threads_of};
+    ghost use Rattle.nv_threads.specs.inner.Process.{IsSoundProcess};
+    ghost use Rattle.nv_threads.specs.Tasks.{threads_of};
     ghost use Rattle.nv_threads.specs.Threads.{Proc};
 
     ghost Value = { Proc };
 
     ghost view = { λ p. record { guest = p.guest; tasks = threads_of p.tasks.items (map request p.calls.items); turn = p.turn; slice = p.slice; left = p.budget - p.count; budget = p.budget; status = p.status } };
 
-    ghost invariant = { λ p. IsSound p.count p.budget (threads_of p.tasks.items (map request p.calls.items)) (tids p.guest.threads) p.calls.items };
+    ghost invariant = { λ p. IsSoundProcess p.count p.budget (threads_of p.tasks.items (map request p.calls.items)) (tids p.guest.threads) p.calls.items };
 }
 
 #[tactic(auto, unfolding(crate::specs::Threads::threads))]
@@ -102,7 +102,7 @@ impl Process {
 
     /// The first rule that applies; the instructions of a turn are run at once.
     fn go(&mut self, want: Want) -> Option<Came>
-        requires { tids self.old.tasks ≢ [] }
+        requires { task_tids self.old.tasks ≢ [] }
         ensures { Goes want self.old result self.new }
     {
         let wanted = self.wanted(want);
@@ -170,7 +170,7 @@ impl Process {
 
     /// The next thread has the turn, and each reservation ends.
     fn pass(&mut self)
-        ensures { self.new ≡ passed self.old }
+        ensures { self.new ≡ turn_passed self.old }
     {
         self.turn = next_tid(&self.tasks, self.turn);
         self.slice = TURN;
@@ -179,7 +179,7 @@ impl Process {
 
     /// Each reservation ends.
     fn release(&mut self)
-        ensures { self.new ≡ released self.old }
+        ensures { self.new ≡ all_unreserved self.old }
     {
         self.guest.release();
     }
@@ -198,7 +198,7 @@ impl Process {
 
     /// No thread can bring the process on.
     fn stop(&mut self) -> Came
-        requires { tids self.old.tasks ≢ [] }
+        requires { task_tids self.old.tasks ≢ [] }
         ensures { faulted FaultKind.Deadlock (unless_live self.old) ≡ (Some result, self.new) }
     {
         self.leave_ended();
@@ -280,7 +280,7 @@ impl Process {
 
     fn reply(&mut self, ret: i32)
         requires { is_running (state_at self.old.tasks self.old.turn) ≡ true }
-        ensures { self.new ≡ replied self.old ret }
+        ensures { self.new ≡ turn_replied self.old ret }
     {
         self.guest.answer(self.turn, ret, &[]);
     }
@@ -371,7 +371,7 @@ impl Process {
     }
 
     fn wake_one(&mut self, tid: u32)
-        requires { Contains (tids self.old.tasks) tid }
+        requires { Contains (task_tids self.old.tasks) tid }
         ensures { self.new ≡ woken_one self.old tid }
     {
         self.guest.answer(tid, 0, &[]);
@@ -419,7 +419,7 @@ impl Process {
 
     /// The greatest number of a thread that lives; 0 where none does.
     pub fn highest(&self) -> u32
-        ensures { result ≡ greatest (tids self.now.tasks) }
+        ensures { result ≡ greatest (task_tids self.now.tasks) }
     {
         highest(&self.tasks)
     }
@@ -438,8 +438,8 @@ impl Process {
 
     /// The answer to a call with this number, whose first argument ends in this byte. Each reservation ends with it.
     fn answer_as(&mut self, tid: u32, nr: u32, status: u8, ret: i32, payload: &[u8])
-        requires lives { Contains (tids self.old.tasks) tid }
-        requires new { IsNew (tids self.old.tasks) (made nr ret) }
+        requires lives { Contains (task_tids self.old.tasks) tid }
+        requires new { IsNew (task_tids self.old.tasks) (made nr ret) }
         ensures { self.new ≡ answered_as self.old tid nr status (record { ret = ret; payload = payload.now }) }
     {
         self.settle(tid, nr, status, ret, payload);
@@ -448,9 +448,9 @@ impl Process {
 
     /// What the answer does to the threads.
     fn settle(&mut self, tid: u32, nr: u32, status: u8, ret: i32, payload: &[u8])
-        requires lives { Contains (tids self.old.tasks) tid }
-        requires new { IsNew (tids self.old.tasks) (made nr ret) }
-        ensures { self.new ≡ outcome_of self.old tid nr status (record { ret = ret; payload = payload.now }) }
+        requires lives { Contains (task_tids self.old.tasks) tid }
+        requires new { IsNew (task_tids self.old.tasks) (made nr ret) }
+        ensures { self.new ≡ after_call self.old tid nr status (record { ret = ret; payload = payload.now }) }
     {
         match nr {
             EXIT_GROUP => self.end(status),
@@ -464,9 +464,9 @@ impl Process {
 
     /// The thread that an answer to clone makes, if it does.
     fn start(&mut self, tid: u32, nr: u32, ret: i32)
-        requires lives { Contains (tids self.old.tasks) tid }
-        requires new { IsNew (tids self.old.tasks) (made nr ret) }
-        ensures { self.new ≡ with_child self.old tid (made nr ret) }
+        requires lives { Contains (task_tids self.old.tasks) tid }
+        requires new { IsNew (task_tids self.old.tasks) (made nr ret) }
+        ensures { self.new ≡ with_child_task self.old tid (made nr ret) }
     {
         if let Some(child) = made(nr, ret) {
             self.start_child(tid, child);
@@ -475,7 +475,7 @@ impl Process {
 
     /// The whole process has ended.
     fn end(&mut self, status: u8)
-        ensures { self.new ≡ over self.old status }
+        ensures { self.new ≡ exited self.old status }
     {
         self.tasks.clear();
         self.status = status;
@@ -483,7 +483,7 @@ impl Process {
 
     /// The thread has ended.
     fn exit(&mut self, tid: u32, status: u8)
-        requires { Contains (tids self.old.tasks) tid }
+        requires { Contains (task_tids self.old.tasks) tid }
         ensures { self.new ≡ left_by self.old tid status }
     {
         self.guest.end_thread(tid);
@@ -495,9 +495,9 @@ impl Process {
 
     /// The thread has made another.
     fn start_child(&mut self, tid: u32, child: u32)
-        requires lives { Contains (tids self.old.tasks) tid }
-        requires new { IsNew (tids self.old.tasks) (Some child) }
-        ensures { self.new ≡ with_child self.old tid (Some child) }
+        requires lives { Contains (task_tids self.old.tasks) tid }
+        requires new { IsNew (task_tids self.old.tasks) (Some child) }
+        ensures { self.new ≡ with_child_task self.old tid (Some child) }
     {
         self.guest.clone_thread(tid, child);
         self.tasks.push(Task {
@@ -507,7 +507,7 @@ impl Process {
     }
 
     fn resume(&mut self, tid: u32, ret: i32, payload: &[u8])
-        requires { Contains (tids self.old.tasks) tid }
+        requires { Contains (task_tids self.old.tasks) tid }
         ensures { self.new ≡ goes_on self.old tid (record { ret = ret; payload = payload.now }) }
     {
         self.guest.answer(tid, ret, payload);

@@ -1,7 +1,7 @@
 // The threads of a process, and what each does.
 ghost use Rattle.std.specs.Prelude.{◌≡◌, ◌<◌, nat_lt, length, Contains, Some, is_some, if◌then◌else◌};
 ghost use Rattle.nv_threads.specs.Threads.{lesser, next_tid, greatest};
-ghost use Rattle.nv_threads.specs.Tables.{doing_at, with_doing, place_of, numbers, moves_by, can_move_by, any_asks_by, waits_by, waiter_by, is_runs, is_asks};
+ghost use Rattle.nv_threads.specs.inner.Tasks.{doing_at, with_doing, task_place, task_numbers, moves_by, can_move_by, any_asks_by, waits_by, waiter_by, is_runs, is_asks};
 
 use crate::Want;
 
@@ -52,7 +52,7 @@ pub(crate) fn lives(tasks: &[Task], tid: u32) -> bool
 
 /// The greatest number of a thread that lives; 0 where none does.
 pub(crate) fn highest(tasks: &[Task]) -> u32
-    ensures { result ≡ greatest (numbers tasks.now) }
+    ensures { result ≡ greatest (task_numbers tasks.now) }
 {
     let mut most = 0;
     let mut i = tasks.len();
@@ -85,8 +85,8 @@ pub(crate) fn asks(tasks: &[Task], tid: u32) -> bool
 
 /// Where the thread stands.
 pub(crate) fn place(tasks: &[Task], tid: u32) -> usize
-    requires { Contains (numbers tasks.now) tid }
-    ensures place { result ≡ place_of tasks.now tid }
+    requires { Contains (task_numbers tasks.now) tid }
+    ensures place { result ≡ task_place tasks.now tid }
     ensures inside { result < length tasks.now }
 {
     for (i, task) in tasks.iter().enumerate() {
@@ -99,7 +99,7 @@ pub(crate) fn place(tasks: &[Task], tid: u32) -> usize
 
 /// The thread does this from here on.
 pub(crate) fn set_doing(tasks: &mut [Task], tid: u32, doing: Doing)
-    requires { Contains (numbers tasks.old) tid }
+    requires { Contains (task_numbers tasks.old) tid }
     ensures { tasks.new ≡ with_doing tasks.old tid doing }
 {
     let place = place(tasks, tid);
@@ -152,7 +152,7 @@ fn is_call(doing: Doing) -> bool
 /// The thread with the next higher number, or the least.
 #[tactic(auto, unfolding(crate::specs::Threads::next_tid))]
 pub(crate) fn next_tid(tasks: &[Task], turn: u32) -> u32
-    ensures { result ≡ next_tid turn (numbers tasks.now) }
+    ensures { result ≡ next_tid turn (task_numbers tasks.now) }
 {
     let mut least = None;
     let mut above = None;

@@ -15,7 +15,7 @@ use Rattle.nv_calls.specs.Calls.{Entry}
 use Rattle.nv_calls.specs.Held.{AreBytes}
 use Rattle.nv_calls.specs.Logs.{InRange}
 use Rattle.nv_trace.specs.declared.fault.TraceFault.{TraceFault}
-use Rattle.nv_trace.specs.Trace.{numbers, bit, arg, fields_of, event_bytes}
+use Rattle.nv_trace.specs.Trace.{number_bytes, bit, arg, fields_of, event_bytes}
 use Rattle.nv_trace.specs.Held.{bad_in, sent_in, came_in, size_in, request_in, response_in, entry_in}
 use Rattle.nv_trace.specs.Faults.{event_fault}
 use Rattle.nv_trace.proofs.Numbers.{length-numbers, field-numbers, words_at, numbers-words, field-below, below_drop, take_sum}
@@ -54,9 +54,9 @@ module _ (e : Entry) (rest : List ℕ) (ok : InRange e) where
   abbrev payloads : List ℕ
   payloads = e.call.payload ++ (e.reply.payload ++ rest)
 
-  parted : all ≡ numbers (fields_of e) ++ payloads
+  parted : all ≡ number_bytes (fields_of e) ++ payloads
   unfolding event_bytes
-  parted = append_assoc (numbers (fields_of e)) (e.call.payload ++ e.reply.payload) rest ∙ ap (λ t. numbers (fields_of e) ++ t) (append_assoc e.call.payload e.reply.payload rest)
+  parted = append_assoc (number_bytes (fields_of e)) (e.call.payload ++ e.reply.payload) rest ∙ ap (λ t. number_bytes (fields_of e) ++ t) (append_assoc e.call.payload e.reply.payload rest)
 
   arg_fits : (i : ℕ) → arg e i < 4294967296
   arg_fits i = below_at e.call.args 4294967296 i ok.args (omega arith)
@@ -86,7 +86,7 @@ module _ (e : Entry) (rest : List ℕ) (ok : InRange e) where
   came_back = field 11 (omega arith) short_reply
 
   behind_fields : drop 48 all ≡ payloads
-  behind_fields = ap (drop 48) parted ∙ drop_at (numbers (fields_of e)) payloads 48 (length-numbers (fields_of e))
+  behind_fields = ap (drop 48) parted ∙ drop_at (number_bytes (fields_of e)) payloads 48 (length-numbers (fields_of e))
 
   behind_call : drop (48 + length e.call.payload) all ≡ e.reply.payload ++ rest
   behind_call = sym (drop-drop (length e.call.payload) 48 all) ∙ ap (drop (length e.call.payload)) behind_fields ∙ drop_at e.call.payload (e.reply.payload ++ rest) (length e.call.payload) refl
@@ -125,7 +125,7 @@ module _ (e : Entry) (rest : List ℕ) (ok : InRange e) where
 
   length-event : length (event_bytes e) ≡ 48 + (length e.call.payload + length e.reply.payload)
   unfolding event_bytes
-  length-event = omega (arith, length-append (numbers (fields_of e)) (e.call.payload ++ e.reply.payload), length-append e.call.payload e.reply.payload, length-numbers (fields_of e))
+  length-event = omega (arith, length-append (number_bytes (fields_of e)) (e.call.payload ++ e.reply.payload), length-append e.call.payload e.reply.payload, length-numbers (fields_of e))
 
   pub event_behind : drop (size_in all) all ≡ rest
   event_behind = drop_at (event_bytes e) rest (size_in all) (length-event ∙ sym size_is)
@@ -200,8 +200,8 @@ module _ (bytes : List ℕ) (below : (i : ℕ) → get_or bytes i 0 < 256) (is :
   unfolding event_bytes
   event_whole place =
       let inside = is.inside in
-      let words : numbers (words_at 0 12 bytes) ≡ take 48 bytes = numbers-words 12 0 bytes (omega arith) below in
-      let fields : numbers (fields_of (entry_in place bytes)) ≡ take 48 bytes = ap numbers (fields_there place) ∙ words in
+      let words : number_bytes (words_at 0 12 bytes) ≡ take 48 bytes = numbers-words 12 0 bytes (omega arith) below in
+      let fields : number_bytes (fields_of (entry_in place bytes)) ≡ take 48 bytes = ap number_bytes (fields_there place) ∙ words in
       let parts = parts_there place in
       (λ i. fields i ++ parts i) ∙ sym (take_sum 48 (sent_in bytes + came_in bytes) bytes)
 

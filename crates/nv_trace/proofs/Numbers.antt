@@ -6,21 +6,21 @@ use Rattle.byteorder.specs.Endian.{little_number, little_bytes}
 use Rattle.byteorder.specs.Numbers.{little_from-lt}
 use Rattle.nv_bytes.specs.Fields.{field_at}
 use Rattle.nv_bytes.proofs.FieldLaws.{field_at-append, field_at-little_bytes}
-use Rattle.nv_trace.specs.Trace.{numbers}
+use Rattle.nv_trace.specs.Trace.{number_bytes}
 
-pub length-numbers : (ns : List ℕ) → length (numbers ns) ≡ 4 * length ns
-unfolding numbers
+pub length-numbers : (ns : List ℕ) → length (number_bytes ns) ≡ 4 * length ns
+unfolding number_bytes
 length-numbers [] = refl
 length-numbers (n ∷ ns) = let rest = length-numbers ns in omega arith
 
 -- a number that was written is read back
-pub field-numbers : (ns rest : List ℕ) (k : ℕ) → k < length ns → get_or ns k 0 < 256 ^ 4 → field_at 4 (numbers ns ++ rest) (4 * k) ≡ get_or ns k 0
-unfolding numbers
+pub field-numbers : (ns rest : List ℕ) (k : ℕ) → k < length ns → get_or ns k 0 < 256 ^ 4 → field_at 4 (number_bytes ns ++ rest) (4 * k) ≡ get_or ns k 0
+unfolding number_bytes
 field-numbers [] rest k less fits = absurd (omega arith)
-field-numbers (n ∷ ns) rest zero less fits = field_at-little_bytes 4 n (numbers ns ++ rest) fits
+field-numbers (n ∷ ns) rest zero less fits = field_at-little_bytes 4 n (number_bytes ns ++ rest) fits
 field-numbers (n ∷ ns) rest (suc k) less fits =
     let on : 4 * suc k ≡ 4 + 4 * k = omega arith in
-    ap (field_at 4 (numbers (n ∷ ns) ++ rest)) on ∙ field_at-append 4 (little_bytes 4 n) (numbers ns ++ rest) (4 * k) ∙ field-numbers ns rest k (omega arith) fits
+    ap (field_at 4 (number_bytes (n ∷ ns) ++ rest)) on ∙ field_at-append 4 (little_bytes 4 n) (number_bytes ns ++ rest) (4 * k) ∙ field-numbers ns rest k (omega arith) fits
 
 -- the numbers in the fields from a place on
 abbrev pub words_at : ℕ → ℕ → List ℕ → List ℕ
@@ -62,8 +62,8 @@ length_drop (suc n) m [] h = absurd (omega arith)
 length_drop (suc n) m (b ∷ bs) h = length_drop n m bs (omega arith)
 
 -- the bytes of the fields are those of the numbers in them
-pub numbers-words : (n place : ℕ) (bs : List ℕ) → place + 4 * n ≤ length bs → ((i : ℕ) → get_or bs i 0 < 256) → numbers (words_at place n bs) ≡ take (4 * n) (drop place bs)
-unfolding numbers field_at
+pub numbers-words : (n place : ℕ) (bs : List ℕ) → place + 4 * n ≤ length bs → ((i : ℕ) → get_or bs i 0 < 256) → number_bytes (words_at place n bs) ≡ take (4 * n) (drop place bs)
+unfolding number_bytes field_at
 numbers-words zero place bs long below = refl
 numbers-words (suc n) place bs long below =
     let first = four (drop place bs) (length_drop place 4 bs (omega arith)) (below_drop place bs below) in

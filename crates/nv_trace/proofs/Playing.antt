@@ -11,7 +11,7 @@ use Rattle.nv_calls.specs.Shapes.{is_shaped}
 use Rattle.nv_calls.proofs.LogLaws.{take_whole}
 use Rattle.nv_trace.specs.declared.fault.CheckFault.{CheckFault}
 use Rattle.nv_trace.specs.declared.fault.CheckFault.TheVariants.{Ended, Shape, Thread, Reply, Memory}
-use Rattle.nv_trace.specs.Checks.{AreStamped, IsSound, is_live, is_reply, entry_fault, faults_after, check_fault, left_by, left_at, Stops, StopsFor}
+use Rattle.nv_trace.specs.Checks.{AreStamped, AreSoundEvents, is_live, is_reply, entry_fault, faults_after, check_fault, served_before, left_at, StopsAtFault, StopsFor}
 use Rattle.nv_trace.proofs.Sound.{faults_append, here, reply_is, sound_is, unsound_is}
 
 ended_is : (b : Bool) (n : ℕ) → is_some (cond b (Some n) None) ≡ b
@@ -117,14 +117,14 @@ unfolding entry_fault
 placed start log e fault h = placed_by (length log) _ _ _ _ fault h
 
 module _ (start : Start) (events : List Entry) (i : ℕ) (e : Entry) (at : slice_get events i ≡ Some e) where
-  left_here : (fault : CheckFault) → IsAt i fault → left_at start (take i events) e fault ≡ left_by start events fault
+  left_here : (fault : CheckFault) → IsAt i fault → left_at start (take i events) e fault ≡ served_before start events fault
   left_here fault at_end = refl
   left_here fault at_shape = refl
   left_here fault at_thread = refl
   left_here fault at_reply = ap (λ t. take i events ++ map (λ f. served start (take i events) f.call) t) (sym (one_there events i e at))
 
   -- what was served at the fault of this event
-  pub left_is : (fault : CheckFault) → entry_fault start (take i events) e ≡ Some fault → left_at start (take i events) e fault ≡ left_by start events fault
+  pub left_is : (fault : CheckFault) → entry_fault start (take i events) e ≡ Some fault → left_at start (take i events) e fault ≡ served_before start events fault
   left_is fault h = left_here fault (subst (λ n. IsAt n fault) (length_before events i e at) (placed start (take i events) e fault h))
 
   -- the first fault is this event's
@@ -161,7 +161,7 @@ pub length_played : (events log : List Entry) (i : ℕ) → log ≡ take i event
 length_played events log i is less = ap length is ∙ length-take-le i events (omega arith)
 
 module _ (start : Start) (events : List Entry) (i : ℕ) (e : Entry) (at : slice_get events i ≡ Some e) (log : List Entry) (is : log ≡ take i events) (none : check_fault start log ≡ None) where
-  stopped : (fault : CheckFault) (later : List Entry) → entry_fault start log e ≡ Some fault → later ≡ left_at start log e fault → Stops start events fault later
+  stopped : (fault : CheckFault) (later : List Entry) → entry_fault start log e ≡ Some fault → later ≡ left_at start log e fault → StopsAtFault start events fault later
   stopped fault later h left =
       let here : entry_fault start (take i events) e ≡ Some fault = subst (λ (z : List Entry). entry_fault start z e ≡ Some fault) is h in
       let clear : check_fault start (take i events) ≡ None = subst (λ (z : List Entry). check_fault start z ≡ None) is none in
@@ -199,5 +199,5 @@ module _ (start : Start) (events : List Entry) (i : ℕ) (now : Start) (log : Li
   pub all_served : log ≡ events
   all_served = p.log_is ∙ take_all i events past
 
-  pub all_sound : AreStamped events → IsSound start events
+  pub all_sound : AreStamped events → AreSoundEvents start events
   all_sound stamped = sound_is start events stamped (subst (λ (z : List Entry). check_fault start z ≡ None) all_served p.faultless)

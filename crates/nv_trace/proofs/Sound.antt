@@ -13,7 +13,7 @@ use Rattle.nv_calls.specs.Logs.{Start, served, calls_of, live_after, IsLegal}
 use Rattle.nv_calls.specs.Shapes.{is_shaped, IsShaped}
 use Rattle.nv_calls.proofs.LogLaws.{at_more, take_left, take_whole, legal_none, legal_more}
 use Rattle.nv_trace.specs.declared.fault.CheckFault.{CheckFault}
-use Rattle.nv_trace.specs.Checks.{AreStamped, IsSound, is_live, is_reply, entry_fault, faults_after, check_fault}
+use Rattle.nv_trace.specs.Checks.{AreStamped, AreSoundEvents, is_live, is_reply, entry_fault, faults_after, check_fault}
 
 or_none : {A : Type 0} (a b : Option A) → option_or a b ≡ None → (a ≡ None) × (b ≡ None)
 or_none None b h = (refl, h)
@@ -105,10 +105,10 @@ module _ (start : Start) where
       assoc None b c = refl
       assoc (Some a) b c = refl
 
-  pub sound_none : IsSound start []
+  pub sound_none : AreSoundEvents start []
   sound_none = record { legal = legal_none start; shaped = λ i e h. cc; live = λ i e h. cc }
 
-  pub sound_more : (log : List Entry) (e : Entry) → IsSound start log → MayCome start log e → IsSound start (log ++ e ∷ [])
+  pub sound_more : (log : List Entry) (e : Entry) → AreSoundEvents start log → MayCome start log e → AreSoundEvents start (log ++ e ∷ [])
   sound_more log e ok m = record {
     legal = subst (λ (x : Entry). IsLegal start (log ++ x ∷ [])) (sym m.legal) (legal_more start log e.call ok.legal);
     shaped = λ i x h. ⊎_elim (λ (q : slice_get log i ≡ Some x). ok.shaped i x q) (λ (q : (i ≡ length log) × (e ≡ x)). subst (λ (y : Entry). IsShaped y.call) q.1 m.shaped) (at_more log e x i h);
@@ -123,20 +123,20 @@ module _ (start : Start) where
         (at_more log e x i h);
   }
 
-  sound_after : (es log : List Entry) → AreStamped (log ++ es) → IsSound start log → faults_after start log es ≡ None → IsSound start (log ++ es)
-  sound_after [] log stamps ok h = subst (IsSound start) (sym (append-nil log)) ok
+  sound_after : (es log : List Entry) → AreStamped (log ++ es) → AreSoundEvents start log → faults_after start log es ≡ None → AreSoundEvents start (log ++ es)
+  sound_after [] log stamps ok h = subst (AreSoundEvents start) (sym (append-nil log)) ok
   sound_after (e ∷ es) log stamps ok h =
       let both = or_none (entry_fault start log e) _ h in
       let m = may_come start log e (stamps (length log) e (here log es e)) both.0 in
       let assoc : (log ++ e ∷ []) ++ es ≡ log ++ (e ∷ es) = append_assoc log (e ∷ []) es in
-      subst (IsSound start) assoc (sound_after es (log ++ e ∷ []) (subst AreStamped (sym assoc) stamps) (sound_more log e ok m) both.1)
+      subst (AreSoundEvents start) assoc (sound_after es (log ++ e ∷ []) (subst AreStamped (sym assoc) stamps) (sound_more log e ok m) both.1)
 
   -- events without a fault are sound
-  pub sound_is : (events : List Entry) → AreStamped events → check_fault start events ≡ None → IsSound start events
+  pub sound_is : (events : List Entry) → AreStamped events → check_fault start events ≡ None → AreSoundEvents start events
   unfolding check_fault
   sound_is events stamps h = sound_after events [] stamps sound_none h
 
-  come : (log es : List Entry) (e : Entry) → IsSound start (log ++ e ∷ es) → MayCome start log e
+  come : (log es : List Entry) (e : Entry) → AreSoundEvents start (log ++ e ∷ es) → MayCome start log e
   come log es e ok =
       let at = here log es e in
       let before : take (length log) (log ++ e ∷ es) ≡ log = take_whole log (e ∷ es) in
@@ -146,17 +146,17 @@ module _ (start : Start) where
         legal = subst (λ (z : List Entry). e ≡ served start z e.call) before (ok.legal (length log) e at);
       }
 
-  faultless_after : (es log : List Entry) → IsSound start (log ++ es) → faults_after start log es ≡ None
+  faultless_after : (es log : List Entry) → AreSoundEvents start (log ++ es) → faults_after start log es ≡ None
   faultless_after [] log ok = refl
   faultless_after (e ∷ es) log ok =
       let assoc : (log ++ e ∷ []) ++ es ≡ log ++ (e ∷ es) = append_assoc log (e ∷ []) es in
       ap (λ o. option_or o (faults_after start (log ++ e ∷ []) es)) (comes_faultless start log e (come log es e ok))
-      ∙ faultless_after es (log ++ e ∷ []) (subst (IsSound start) (sym assoc) ok)
+      ∙ faultless_after es (log ++ e ∷ []) (subst (AreSoundEvents start) (sym assoc) ok)
 
   -- sound events have no fault
-  pub faultless_is : (events : List Entry) → IsSound start events → check_fault start events ≡ None
+  pub faultless_is : (events : List Entry) → AreSoundEvents start events → check_fault start events ≡ None
   unfolding check_fault
   faultless_is events ok = faultless_after events [] ok
 
-  pub unsound_is : (events : List Entry) (fault : CheckFault) → check_fault start events ≡ Some fault → IsSound start events → ⊥
+  pub unsound_is : (events : List Entry) (fault : CheckFault) → check_fault start events ≡ Some fault → AreSoundEvents start events → ⊥
   unsound_is events fault h ok = let none = faultless_is events ok in let bad : Some fault ≡ None = sym h ∙ none in cc

@@ -12,9 +12,9 @@ use Rattle.nv_bytes.proofs.FieldLaws.{field_at-append}
 use Rattle.nv_calls.specs.Calls.{Entry}
 use Rattle.nv_trace.specs.declared.fault.TraceFault.{TraceFault}
 use Rattle.nv_trace.specs.declared.fault.TraceFault.TheVariants.{Extra}
-use Rattle.nv_trace.specs.Trace.{numbers, event_bytes, head_bytes, trace_of, AreRecordable, IsRecordable, IsTrace, IsRead, IsPrefixFree}
+use Rattle.nv_trace.specs.Trace.{number_bytes, event_bytes, head_bytes, trace_of, AreRecordable, IsRecordable, IsTrace, IsRead, IsPrefixFree}
 use Rattle.nv_trace.specs.Held.{count_in, size_in, entries_in, log_in}
-use Rattle.nv_trace.specs.Faults.{has_head, head_fault, event_fault, events_fault, trace_fault, IsRefused}
+use Rattle.nv_trace.specs.Faults.{has_head, head_fault, event_fault, events_fault, trace_fault, IsFirstFault}
 use Rattle.nv_trace.proofs.Numbers.{field-numbers, numbers-words, below_drop, take_sum}
 use Rattle.nv_trace.proofs.Back.{entry_back, event_behind, event_faultless, is_there, event_whole, entry_in_range}
 
@@ -41,12 +41,12 @@ entries_back (e ∷ es) place rest each =
     ∙ ap (λ t. e ∷ t) (entries_back es (place + 1) rest each.2)
 
 length-head : (count : ℕ) → length (head_bytes count) ≡ 12
-unfolding head_bytes numbers
+unfolding head_bytes number_bytes
 length-head count = refl
 
 count_back : (count : ℕ) (rest : List ℕ) → count < 4294967296 → count_in (head_bytes count ++ rest) ≡ count
 unfolding head_bytes
-count_back count rest fits = field_at-append 4 (codes "VARANTR1") (numbers (count ∷ []) ++ rest) 0 ∙ field-numbers (count ∷ []) rest 0 (omega arith) fits
+count_back count rest fits = field_at-append 4 (codes "VARANTR1") (number_bytes (count ∷ []) ++ rest) 0 ∙ field-numbers (count ∷ []) rest 0 (omega arith) fits
 
 magic_back : (count : ℕ) (rest : List ℕ) → bytes_eq (codes "VARANTR1") (take 8 (head_bytes count ++ rest)) ≡ true
 unfolding head_bytes
@@ -163,7 +163,7 @@ unfolding head_bytes
 head_whole bytes below is =
     let long = is.long in
     let magic = is.magic in
-    let count : numbers (count_in bytes ∷ []) ≡ take 4 (drop 8 bytes) = numbers-words 1 8 bytes (omega arith) below in
+    let count : number_bytes (count_in bytes ∷ []) ≡ take 4 (drop 8 bytes) = numbers-words 1 8 bytes (omega arith) below in
     (λ i. magic i ++ count i) ∙ sym (take_sum 8 4 bytes)
 
 pub log_whole : (bytes : List ℕ) → ((i : ℕ) → get_or bytes i 0 < 256) → trace_fault bytes ≡ None → IsTrace (log_in bytes) bytes
@@ -190,7 +190,7 @@ read_is log bytes below h is = record {
     log_trace : IsTrace log bytes
     log_trace = let w = log_whole bytes below h in record { recordable = rw is (w.recordable); same = w.same ∙ ap trace_of (sym is) }
 
-pub refused_is : (bytes : List ℕ) (fault : TraceFault) → trace_fault bytes ≡ Some fault → IsRefused bytes fault
+pub refused_is : (bytes : List ℕ) (fault : TraceFault) → trace_fault bytes ≡ Some fault → IsFirstFault bytes fault
 refused_is bytes fault h = record { first = h; no_trace = λ log trace. let bad : Some fault ≡ None = sym h ∙ trace_faultless log bytes trace in cc }
 
 head_refused : (bytes : List ℕ) (fault : TraceFault) → head_fault bytes ≡ Some fault → trace_fault bytes ≡ Some fault
@@ -198,7 +198,7 @@ unfolding trace_fault
 head_refused bytes fault h = ap (λ o. option_or o (events_fault (count_in bytes) 0 (drop 12 bytes))) h
 
 -- what the head refuses
-pub refused_head : (bytes : List ℕ) (fault : TraceFault) → head_fault bytes ≡ Some fault → IsRefused bytes fault
+pub refused_head : (bytes : List ℕ) (fault : TraceFault) → head_fault bytes ≡ Some fault → IsFirstFault bytes fault
 refused_head bytes fault h = refused_is bytes fault (head_refused bytes fault h)
 
 -- what the events behind the head come to

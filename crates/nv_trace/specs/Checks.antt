@@ -15,7 +15,7 @@ abbrev pub AreStamped : List Entry → Type 0
 AreStamped events = (i : ℕ) (e : Entry) → slice_get events i ≡ Some e → e.stamp ≡ i
 
 -- The events are what a kernel from this start answers, each is a call that a guest can make, and its thread lives after the events before it.
-pub record IsSound (start : Start) (events : List Entry) : Type 0 where
+pub record AreSoundEvents (start : Start) (events : List Entry) : Type 0 where
   pub legal : IsLegal start events
   pub shaped : (i : ℕ) (e : Entry) → slice_get events i ≡ Some e → IsShaped e.call
   pub live : (i : ℕ) (e : Entry) → slice_get events i ≡ Some e → Contains (live_after (take i events)) e.call.tid
@@ -48,18 +48,18 @@ abbrev pub served_at : Start → List Entry → ℕ → List Entry
 served_at start events i = map (λ e. served start (take i events) e.call) (take 1 (drop i events))
 
 -- What was served up to a fault: the events before its place, and the one there where the kernel answers it otherwise.
-abbrev pub left_by : Start → List Entry → CheckFault → List Entry
-left_by start events (Ended i) = take i events
-left_by start events (Shape i) = take i events
-left_by start events (Thread i) = take i events
-left_by start events (Reply i) = take i events ++ served_at start events i
-left_by start events Memory = []
+abbrev pub served_before : Start → List Entry → CheckFault → List Entry
+served_before start events (Ended i) = take i events
+served_before start events (Shape i) = take i events
+served_before start events (Thread i) = take i events
+served_before start events (Reply i) = take i events ++ served_at start events i
+served_before start events Memory = []
 
 -- this is the first fault of the events, which aren't sound, and the kernel has served this log
-pub record Stops (start : Start) (events : List Entry) (fault : CheckFault) (log : List Entry) : Type 0 where
+pub record StopsAtFault (start : Start) (events : List Entry) (fault : CheckFault) (log : List Entry) : Type 0 where
   pub first : check_fault start events ≡ Some fault
-  pub unsound : IsSound start events → ⊥
-  pub left : log ≡ left_by start events fault
+  pub unsound : AreSoundEvents start events → ⊥
+  pub left : log ≡ served_before start events fault
 
 -- for want of memory the kernel has served the first events alone, each with its reply
 pub record StopsShort (start : Start) (events : List Entry) (log : List Entry) : Type 0 where
@@ -69,7 +69,7 @@ pub record StopsShort (start : Start) (events : List Entry) (log : List Entry) :
 
 abbrev pub StopsFor : Start → List Entry → CheckFault → List Entry → Type 0
 StopsFor start events Memory log = StopsShort start events log
-StopsFor start events fault log = Stops start events fault log
+StopsFor start events fault log = StopsAtFault start events fault log
 
 -- the same of one event after a log
 abbrev pub left_at : Start → List Entry → Entry → CheckFault → List Entry

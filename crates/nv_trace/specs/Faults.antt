@@ -34,6 +34,6 @@ unfoldable pub trace_fault : List ℕ → Option TraceFault
 trace_fault bytes = option_or (head_fault bytes) (events_fault (count_in bytes) 0 (drop 12 bytes))
 
 -- this is the first fault of the bytes, which are no log's trace
-pub record IsRefused (bytes : List ℕ) (fault : TraceFault) : Type 0 where
+pub record IsFirstFault (bytes : List ℕ) (fault : TraceFault) : Type 0 where
   pub first : trace_fault bytes ≡ Some fault
   pub no_trace : (log : List Entry) → IsTrace log bytes → ⊥

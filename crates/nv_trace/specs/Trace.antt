@@ -8,8 +8,8 @@ use Rattle.nv_calls.specs.Limits.{MOST_EVENTS}
 use Rattle.nv_calls.specs.Logs.{InRange}
 
 -- each number in four bytes, the lowest first
-unfoldable pub numbers : List ℕ → List ℕ
-numbers ns = flat_map (little_bytes 4) ns
+unfoldable pub number_bytes : List ℕ → List ℕ
+number_bytes ns = flat_map (little_bytes 4) ns
 
 abbrev pub bit : Bool → ℕ
 bit false = 0
@@ -27,11 +27,11 @@ fields_of e =
 
 -- the fields, and then the bytes of the call and of the reply
 unfoldable pub event_bytes : Entry → List ℕ
-event_bytes e = numbers (fields_of e) ++ (e.call.payload ++ e.reply.payload)
+event_bytes e = number_bytes (fields_of e) ++ (e.call.payload ++ e.reply.payload)
 
 -- what a trace begins with, and how many events it has
 unfoldable pub head_bytes : ℕ → List ℕ
-head_bytes count = codes "VARANTR1" ++ numbers (count ∷ [])
+head_bytes count = codes "VARANTR1" ++ number_bytes (count ∷ [])
 
 -- the trace of a log
 unfoldable pub trace_of : List Entry → List ℕ

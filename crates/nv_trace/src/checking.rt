@@ -3,7 +3,7 @@ ghost use Rattle.std.specs.Prelude.{◌≡◌, ◌<◌, ◌≤◌, ◌⊎◌, �
 ghost use Rattle.nv_calls.specs.Calls.{Entry, entry, response};
 ghost use Rattle.nv_calls.specs.Logs.{live_after};
 ghost use Rattle.nv_calls.specs.Limits.{MOST_EVENTS};
-ghost use Rattle.nv_trace.specs.Checks.{AreStamped, IsSound, is_reply, entry_fault, left_at, StopsFor};
+ghost use Rattle.nv_trace.specs.Checks.{AreStamped, AreSoundEvents, is_reply, entry_fault, left_at, StopsFor};
 ghost use Rattle.nv_trace.specs.declared.fault.CheckFault.TheVariants.{Memory};
 
 use crate::CheckFault;
@@ -70,7 +70,7 @@ pub fn check<K: SyscallKernel>(kernel: &mut K, events: &[Event]) -> Result<(), C
     ensures start { K.start kernel.new ≡ K.start kernel.old }
 
     // the events are what the kernel comes to, and it has served them all
-    ensures sound { OnOk result (IsSound (K.start kernel.old) (map entry events.now)) }
+    ensures sound { OnOk result (AreSoundEvents (K.start kernel.old) (map entry events.now)) }
     ensures served { OnOk result (K.log kernel.new ≡ map entry events.now) }
 
     // they aren't, and this is the first fault; or memory is wanted

@@ -4,7 +4,7 @@ ghost use Rattle.nv_calls.specs.Calls.{entry, request, response};
 ghost use Rattle.nv_calls.specs.Limits.{MOST_BYTES, MOST_EVENTS};
 ghost use Rattle.nv_trace.specs.Trace.{IsRead};
 ghost use Rattle.nv_trace.specs.Held.{count_in, sent_in, came_in, size_in, request_in, response_in, entry_in, entries_in};
-ghost use Rattle.nv_trace.specs.Faults.{has_head, head_fault, event_fault, events_fault, IsRefused};
+ghost use Rattle.nv_trace.specs.Faults.{has_head, head_fault, event_fault, events_fault, IsFirstFault};
 ghost use Rattle.nv_trace.specs.declared.fault.TraceFault.TheVariants.{Memory};
 
 use crate::TraceFault;
@@ -164,7 +164,7 @@ pub fn read(alloc: Global, bytes: &[u8]) -> Result<Vec<Event>, TraceFault>
     ensures log { IfOk result (λ events. IsRead (map entry events.items) bytes.now) }
 
     // they are no trace, and this is their first fault; want of memory is the one free answer
-    ensures fault { IfErr result (λ fault. (fault ≡ Memory) ⊎ IsRefused bytes.now fault) }
+    ensures fault { IfErr result (λ fault. (fault ≡ Memory) ⊎ IsFirstFault bytes.now fault) }
 {
     let count = count_events(bytes)?;
     read_events(alloc, after(bytes, HEAD), count)

@@ -4,16 +4,16 @@ ghost use Rattle.std.specs.List.{flat_map};
 ghost use Rattle.nv_outside.specs.Sink.{Puts};
 ghost use Rattle.nv_calls.specs.Calls.{entry};
 ghost use Rattle.nv_calls.specs.Logs.{InRange};
-ghost use Rattle.nv_trace.specs.Trace.{AreRecordable, IsRecordable, numbers, event_bytes, head_bytes, trace_of};
+ghost use Rattle.nv_trace.specs.Trace.{AreRecordable, IsRecordable, number_bytes, event_bytes, head_bytes, trace_of};
 
 use crate::fields::fields_of;
 use nv_calls::Event;
 use nv_outside::{Put, Sink, put_all};
 
 // Each number in four bytes.
-#[tactic(auto, unfolding(crate::specs::Trace::numbers))]
+#[tactic(auto, unfolding(crate::specs::Trace::number_bytes))]
 fn put_numbers<S: Sink>(sink: &mut S, values: &[u32]) -> Put
-    ensures { Puts (S.told sink.old) (S.faults sink.old) (numbers values.now) result (S.told sink.new) (S.faults sink.new) }
+    ensures { Puts (S.told sink.old) (S.faults sink.old) (number_bytes values.now) result (S.told sink.new) (S.faults sink.new) }
 {
     for value in values {
         match put_all(sink, &value.to_le_bytes()) {

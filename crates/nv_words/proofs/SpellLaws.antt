@@ -19,9 +19,9 @@ use Rattle.byteorder.specs.Endian.{little_from, little_bytes}
 use Rattle.nv_calls.specs.Held.{AreBytes}
 use Rattle.nv_calls.specs.Calls.{Entry}
 use Rattle.nv_calls.specs.Logs.{InRange}
-use Rattle.nv_words.specs.Spell.{low, high, pair, bit, packed, spell, payload_words, IsWhole}
-use Rattle.nv_words.specs.Read.{sent_of, came_of, halves, event_of, IsRead}
-use Rattle.nv_words.specs.Begins.{Prefix, Begins}
+use Rattle.nv_words.specs.Spelling.{low, high, pair, flag_bit, packed, spell, payload_words, IsWhole}
+use Rattle.nv_words.specs.Read.{sent_of, came_of, halves, event_of, IsEventRead}
+use Rattle.nv_words.specs.Begins.{Prefix, BeginsEvent}
 
 -- Packed bytes
 
@@ -160,7 +160,7 @@ six_args (a ∷ b ∷ c ∷ d ∷ e ∷ f ∷ []) n h =
     λ i. x.0 i ∷ x.1 i ∷ y.0 i ∷ y.1 i ∷ z.0 i ∷ z.1 i ∷ []
 six_args (a ∷ b ∷ c ∷ d ∷ e ∷ f ∷ g ∷ l) n h = absurd (omega arith)
 
-bit_back : (b : Bool) → (bit b == 1) ≡ b
+bit_back : (b : Bool) → (flag_bit b == 1) ≡ b
 bit_back false = refl
 bit_back true = refl
 
@@ -180,11 +180,11 @@ event_of_spell e ok =
     let all : List ℕ = flat_map (little_bytes 8) (packed (a ++ b)) in
     let parts = two_parts a b all (prefix_of_packed (a ++ b) (bytes_below a b ok.call_bytes ok.reply_bytes)) in
     let first = split_pair e.call.tid e.call.nr ok.tid in
-    let second = split_pair e.stamp (bit e.call.bad) ok.stamp in
+    let second = split_pair e.stamp (flag_bit e.call.bad) ok.stamp in
     let fifth = split_pair (of_z w32 e.reply.ret) (length a + 65536 * length b) (ret_fits e ok) in
     let sizes = sizes_of_spell e ok in
     let args = six_args e.call.args ok.six ok.args in
-    let bad : (high (pair e.stamp (bit e.call.bad)) == 1) ≡ e.call.bad = ap (λ (z : ℕ). z == 1) second.1 ∙ bit_back e.call.bad in
+    let bad : (high (pair e.stamp (flag_bit e.call.bad)) == 1) ≡ e.call.bad = ap (λ (z : ℕ). z == 1) second.1 ∙ bit_back e.call.bad in
     let ret : cast_signed w32 (low (pair (of_z w32 e.reply.ret) (length a + 65536 * length b))) ≡ e.reply.ret = ap (cast_signed w32) fifth.0 ∙ to_z-of_z w32 e.reply.ret ok.ret in
     let left : take (sent_of (spell e)) all ≡ a = ap (λ (z : ℕ). take z all) sizes.0 ∙ parts.0 in
     let right : take (came_of (spell e)) (drop (sent_of (spell e)) all) ≡ b = (λ i. take (sizes.1 i) (drop (sizes.0 i) all)) ∙ parts.1 in
@@ -238,7 +238,7 @@ pub spell_alone : (e f : Entry) → InRange e → InRange f → Prefix (spell e)
 spell_alone e f oke okf p = spell_one e f oke okf (whole_is (spell e) f okf (spell_whole e oke).0 p)
 
 -- the lengths that whole words tell are those of the payload's words
-pub sizes_fit : (words : List ℕ) → IsWhole words → Begins words → (sent_of words + came_of words ≤ 4096) × (sent_of words + came_of words + 48 ≤ 8 * length words)
+pub sizes_fit : (words : List ℕ) → IsWhole words → BeginsEvent words → (sent_of words + came_of words ≤ 4096) × (sent_of words + came_of words + 48 ≤ 8 * length words)
 sizes_fit words w b =
     let e : Entry = b.0 in
     let is = whole_is words e b.1 w b.2 in
@@ -250,9 +250,9 @@ sizes_fit words w b =
     (omega arith, omega arith)
 
 -- whole words that begin a spelling are read back
-pub read_whole : (words : List ℕ) → IsWhole words → Begins words → IsRead (event_of words) words
+pub read_whole : (words : List ℕ) → IsWhole words → BeginsEvent words → IsEventRead (event_of words) words
 read_whole words w b =
     let e : Entry = b.0 in
     let is = whole_is words e b.1 w b.2 in
     let same : e ≡ event_of words = sym (event_of_spell e b.1) ∙ ap event_of (sym is) in
-    subst (λ (f : Entry). IsRead f words) same (record { spelt = sym is; range = b.1 })
+    subst (λ (f : Entry). IsEventRead f words) same (record { spelt = sym is; range = b.1 })

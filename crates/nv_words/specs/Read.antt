@@ -5,7 +5,7 @@ use Rattle.std.specs.Int.{w32, cast_signed}
 use Rattle.byteorder.specs.Endian.{little_bytes}
 use Rattle.nv_calls.specs.Calls.{Entry}
 use Rattle.nv_calls.specs.Logs.{InRange}
-use Rattle.nv_words.specs.Spell.{low, high, spell}
+use Rattle.nv_words.specs.Spelling.{low, high, spell}
 
 abbrev pub sent_of : List ℕ → ℕ
 sent_of words = high (slice_index words 5) % 65536
@@ -13,8 +13,8 @@ sent_of words = high (slice_index words 5) % 65536
 abbrev pub came_of : List ℕ → ℕ
 came_of words = high (slice_index words 5) / 65536
 
-abbrev pub bytes_of : List ℕ → List ℕ
-bytes_of words = flat_map (little_bytes 8) (drop 6 words)
+abbrev pub payload_of : List ℕ → List ℕ
+payload_of words = flat_map (little_bytes 8) (drop 6 words)
 
 abbrev pub halves : ℕ → List ℕ → List ℕ
 halves word rest = low word ∷ high word ∷ rest
@@ -27,15 +27,15 @@ event_of words = record {
     nr = high (slice_index words 0);
     args = halves (slice_index words 2) (halves (slice_index words 3) (halves (slice_index words 4) []));
     bad = high (slice_index words 1) == 1;
-    payload = take (sent_of words) (bytes_of words);
+    payload = take (sent_of words) (payload_of words);
   };
   reply = record {
     ret = cast_signed w32 (low (slice_index words 5));
-    payload = take (came_of words) (drop (sent_of words) (bytes_of words));
+    payload = take (came_of words) (drop (sent_of words) (payload_of words));
   };
 }
 
 -- the event is in range and spelt so
-pub record IsRead (e : Entry) (words : List ℕ) : Type 0 where
+pub record IsEventRead (e : Entry) (words : List ℕ) : Type 0 where
   pub spelt : spell e ≡ words
   pub range : InRange e

@@ -3,7 +3,7 @@ ghost use Rattle.std.specs.Prelude.{◌≡◌, ℕ, ◌+◌, ◌*◌, ◌/◌, �
 ghost use Rattle.std.specs.List.{flat_map};
 ghost use Rattle.byteorder.specs.Endian.{little_bytes};
 ghost use Rattle.nv_calls.specs.Calls.{entry};
-ghost use Rattle.nv_words.specs.Spell.{low as low_of, high as high_of};
+ghost use Rattle.nv_words.specs.Spelling.{low as low_of, high as high_of};
 ghost use Rattle.nv_words.specs.Read.{event_of, sent_of, came_of};
 
 use byteorder::{ByteOrder, LittleEndian};

@@ -5,30 +5,30 @@ use mathlib.Core.Option.{some, some-injective, some-ne-none}
 use lib.ListN.{get_elem?}
 use Rattle.nv_calls.specs.Calls.{Entry}
 use Rattle.nv_calls.specs.Logs.{InRange, IsLawful, IsLegal, Start}
-use Rattle.nv_words.specs.Spell.{spell}
+use Rattle.nv_words.specs.Spelling.{spell}
 use Rattle.nv_words.proofs.SpellLaws.{spell_alone, spell_length}
 use Rattle.nv_room.specs.declared.view.View.{View}
 use Rattle.nv_room.specs.declared.view.Span.{Span}
 use Rattle.nv_room.specs.Placement.{Log}
-use Rattle.nv_room.specs.Spans.{Tiles, Rising, of_version, Before, IsLast, Opened}
-use Rattle.nv_room.specs.Room.{Reads}
+use Rattle.nv_room.specs.Spans.{Tiles, Rising, of_version, Before, IsLastStation, Opened}
+use Rattle.nv_room.specs.Room.{AreOfNext}
 use Rattle.nv_threads.specs.Threads.{Proc, threads}
 use Rattle.nv_threads.proofs.ThreadLaws.{thread_laws}
 use Rattle.nv_replay.specs.Follow.{Judge}
-use Rattle.nv_replay.specs.Versions.{Running}
-use Rattle.nv_replay.specs.Accounts.{AreFresh}
+use Rattle.nv_replay.specs.Version.{Running}
+use Rattle.nv_replay.specs.Account.{AreFresh}
 use Rattle.nv_replay.proofs.Survivor.{lawful_prefix}
-use Rattle.nv_workers.specs.Ends.{Leaving, spelt, IsSpelling, IsFinished, IsDone, IsAccount}
-use Rattle.nv_workers.specs.Working.{told_by, HasEnded}
+use Rattle.nv_workers.specs.Ends.{Leaving, spelt, IsSpelling, IsFinished, HasRunAll, IsAccount}
+use Rattle.nv_workers.specs.Working.{leaving_of, HasEnded}
 use Rattle.nv_workers.proofs.Spelt.{same_spelt, long_as}
 use Rattle.nv_workers.proofs.Told.{accounts}
 
 -- what the seat of version k tells, in terms of the whole history
 pub record IsTold {T : Type 0} (history : Log) (spans : List Span) (seating : List ℕ) (k : ℕ) (w : View T) : Type 0 where
   pub seen : w.seen ≡ take (length w.seen) history
-  pub read : Reads history w.seen w.read
+  pub read : AreOfNext history w.seen w.read
   pub led : w.spans ≡ of_version k spans
-  pub last : IsLast seating k w.station
+  pub last : IsLastStation seating k w.station
   pub before : Before spans w.station w.seen w.read
 
 -- the spans of so many versions tile the history in order of station
@@ -62,7 +62,7 @@ spelt_at [] n e q = absurd (some-ne-none e (sym q))
 spelt_at (x ∷ h) zero e q = some-injective (spell x) e q
 spelt_at (x ∷ h) (suc n) e q = spelt_at h n e q
 
-words_by : (h : List Entry) (seen : Log) (read : List ℕ) → Reads (map spell h) seen read → (more : List ℕ) × (spelt spell (slice_get h (length seen)) ≡ read ++ more)
+words_by : (h : List Entry) (seen : Log) (read : List ℕ) → AreOfNext (map spell h) seen read → (more : List ℕ) × (spelt spell (slice_get h (length seen)) ≡ read ++ more)
 words_by h seen [] r = (spelt spell (slice_get h (length seen)), refl)
 words_by h seen (x ∷ xs) r =
     let a = r 0 x refl in
@@ -98,7 +98,7 @@ module _ (judges : ℕ → Judge) {T : Type 0} (start : Start) (most : ℕ) (han
   seen_by k = take (length (w k).seen) h
 
   abbrev left : ℕ → Leaving
-  left k = told_by (seen_by k) (w k)
+  left k = leaving_of (seen_by k) (w k)
 
   spelt_by : (k : ℕ) → k < n → map spell (seen_by k) ≡ (w k).seen
   spelt_by k l = take_spelt (length (w k).seen) h ∙ sym (told.each k l).seen
@@ -136,10 +136,10 @@ module _ (judges : ℕ → Judge) {T : Type 0} (start : Start) (most : ℕ) (han
   lawful_by : (k : ℕ) → IsLawful (seen_by k)
   lawful_by k = lawful_prefix (seen_by k) (drop (length (w k).seen) h) (subst IsLawful (sym (take-append-drop (length (w k).seen) h)) law)
 
-  done_by : (k : ℕ) (p : Proc) (v : Running Proc) → k < n → HasEnded judges start most hands k p v (w k) → IsDone threads judges start most hands InRange spell k p v (left k)
+  done_by : (k : ℕ) (p : Proc) (v : Running Proc) → k < n → HasEnded judges start most hands k p v (w k) → HasRunAll threads judges start most hands InRange spell k p v (left k)
   done_by k p v l e =
       let same : e.log ≡ seen_by k = same_spelt e.log (seen_by k) e.lawful (lawful_by k) (e.spelt ∙ sym (spelt_by k l)) in
-      subst (λ (x : List Entry). IsDone threads judges start most hands InRange spell k p v (told_by x (w k))) same e.done
+      subst (λ (x : List Entry). HasRunAll threads judges start most hands InRange spell k p v (leaving_of x (w k))) same e.done
 
   -- all versions have ended, and the room has told of them
   pub ending : (olds news : List (Running Proc)) → AreFresh threads 0 olds → length news ≡ length olds → length news ≡ n → IsLegal start h

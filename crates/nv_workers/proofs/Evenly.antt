@@ -1,7 +1,7 @@
 -- Workers in stretches.
 use Rattle.std.proofs.Common.{◌≡◌, ◌∙◌, ap, ℕ, zero, suc, ◌+◌, ◌-◌, ◌*◌, ◌/◌, ◌%◌, ◌<◌, ◌≤◌, arith, refl, min}
 use Rattle.std.proofs.Math.Nat.{mod-lt, div-add-mod, le-div_iff_mul-le}
-use Rattle.nv_workers.specs.Dealing.{AreEven}
+use Rattle.nv_workers.specs.inner.Dealing.{AreEven}
 
 -- r stretches of the larger size, and k of q
 shared : (q r k : ℕ) → r * (q + min 1 r) + k * q ≡ (r + k) * q + r

@@ -7,27 +7,27 @@ use lib.ListN.{get_elem?}
 use Rattle.nv_calls.specs.Calls.{Entry}
 use Rattle.nv_calls.specs.Logs.{IsLawful, IsLegal}
 use Rattle.nv_calls.specs.declared.kernel.SyscallKernel.{Ghosts}
-use Rattle.nv_words.specs.Spell.{spell}
+use Rattle.nv_words.specs.Spelling.{spell}
 use Rattle.nv_room.specs.declared.view.View.{View}
 use Rattle.nv_room.specs.declared.view.Span.{Span}
 use Rattle.nv_room.specs.declared.room.Room.{Room}
 use Rattle.nv_replay.specs.Follow.{Judge}
 use Rattle.nv_room.specs.declared.room.Left.{Left}
 use Rattle.nv_room.specs.Placement.{Log}
-use Rattle.nv_room.specs.Spans.{Before, of_version, IsLast, Opened}
+use Rattle.nv_room.specs.Spans.{Before, of_version, IsLastStation, Opened}
 use Rattle.nv_room.specs.Seats.{IsLeftOf, left_view, version_of_left, versions_of, origin, hands_of, first_view}
 use Rattle.nv_room.specs.Lefts.{IsEach, TellsOf, AllTell}
 use Rattle.nv_threads.specs.Threads.{Proc, threads}
-use Rattle.nv_replay.specs.Versions.{Running}
-use Rattle.nv_replay.specs.Accounts.{AreFresh}
+use Rattle.nv_replay.specs.Version.{Running}
+use Rattle.nv_replay.specs.Account.{AreFresh}
 use Rattle.nv_workers.specs.declared.worker.Seat.{Seat}
 use Rattle.nv_workers.specs.declared.worker.Seat.TheVariants.{Reading, Leading, Gone, Moving}
 use Rattle.nv_workers.specs.declared.worker.Worker.{Worker}
 use Rattle.nv_workers.specs.Ends.{IsAccount}
 use Rattle.nv_workers.specs.Working.{HasEnded}
-use Rattle.nv_workers.specs.Workers.{WorksAt, version_of_seat, IsGone}
-use Rattle.nv_workers.specs.Rounds.{CanAll, WorkedOn, AllOn, AreGone}
-use Rattle.nv_workers.specs.New.{IsNew, AreNew}
+use Rattle.nv_workers.specs.Worker.{WorksAt, version_of_seat, IsGone}
+use Rattle.nv_workers.specs.inner.Rounds.{CanAll, WorkedOn, AllOn, AreGone}
+use Rattle.nv_workers.specs.Staffing.{IsNewWorker, AreNew}
 use Rattle.nv_workers.specs.Ran.{AreApart, HasRun, HaveRun, AllRan}
 use Rattle.nv_workers.proofs.Ending.{IsTold, AreTold, ending}
 
@@ -73,7 +73,7 @@ module _ (judges : ℕ → Judge) {K : Type 0} {G : Ghosts K} (room : Room K) (m
   fresh_new i (f ∷ fs) [] n = absurd n
   fresh_new i (f ∷ fs) (w ∷ ws) n = (n.0.fresh, fresh_new (i + 1) fs ws n.1)
 
-  ran_one : (i : ℕ) (f v : Running Proc) (w w2 : Worker K G) (l : Left K G) → IsNew room i f w → WorkedOn judges room most w w2 → w2.version ≡ v → w2.seat ≡ Gone l → HasRun judges room most i f v l
+  ran_one : (i : ℕ) (f v : Running Proc) (w w2 : Worker K G) (l : Left K G) → IsNewWorker room i f w → WorkedOn judges room most w w2 → w2.version ≡ v → w2.seat ≡ Gone l → HasRun judges room most i f v l
   ran_one i f v w w2 l n on same gone =
       let p : Proc = f.at.process in
       let a : WorksAt judges room most p w2.version w2.buf w2.seat = on.works p (n.works judges most) in
@@ -186,7 +186,7 @@ module _ (judges : ℕ → Judge) {K : Type 0} {G : Ghosts K} (room : Room K) (m
     seen = t.seen;
     read = t.read;
     led = t.led ∙ ap (λ (j : ℕ). of_version j spans) at;
-    last = (let L : ℕ → ℕ → Type 0 = λ j s. IsLast seating j s in subst (λ (s : ℕ). L k s) (sym l.station_is) (subst (λ (j : ℕ). L j l.station) at t.last));
+    last = (let L : ℕ → ℕ → Type 0 = λ j s. IsLastStation seating j s in subst (λ (s : ℕ). L k s) (sym l.station_is) (subst (λ (j : ℕ). L j l.station) at t.last));
     before = subst (λ (s : ℕ). Before spans s (left_view l).seen (left_view l).read) (sym l.station_is) t.before;
   }
 

@@ -8,7 +8,7 @@ use Rattle.nv_replay.specs.declared.fate.Fate.{Fate}
 use Rattle.nv_replay.specs.Follow.{Follower, Judge, IsInStep, is_exited}
 use Rattle.nv_replay.specs.Lead.{Leader}
 use Rattle.nv_replay.specs.Hands.{is_handed}
-use Rattle.nv_replay.specs.Sequence.{is_on}
+use Rattle.nv_replay.specs.Sequence.{is_going}
 use Rattle.nv_replay.specs.Monitor.{Part, Run, begun, after_lead, tracked_by, leads_on, turn, lines_of, account_of, sequence}
 use Rattle.nv_replay.proofs.Settled.{Reaches, reach_here, reach_first, stage_rests}
 use Rattle.nv_workers.proofs.Stations.{SpanFrom, Tile, WentBy, LedBy, after_station, AreSeats}
@@ -17,7 +17,7 @@ use Rattle.nv_replay.proofs.Tracking.{track_ended}
 use Rattle.nv_replay.proofs.Rotating.{over_rests, empty_rests, dropped, led, sequence_is}
 use Rattle.nv_replay.proofs.Turning.{take_all}
 
-some_of : (f : Option Fate) → is_on f ≡ false → (x : Fate) × (f ≡ Some x)
+some_of : (f : Option Fate) → is_going f ≡ false → (x : Fate) × (f ≡ Some x)
 some_of None h = cc
 some_of (Some x) h = (x, refl)
 
@@ -50,11 +50,6 @@ module _ {P : Type 0} (g : Behaviour P) (laws : IsProcess g) (judges : ℕ → J
 
   abbrev tracks : List Entry → ℕ → Part P → Follower P
   tracks log i v = tracked_by g judges start most cuts hands log i v
-
-  -- what a version that went by told is what it comes to over the whole log
-  pub went_line : (k i : ℕ) (v : Part P) (w : Went k i v) → w.at ≡ tracks h i v
-  went_line k i v w = subst (λ (y : List Entry). w.at ≡ tracks y i v) (sym w.prefix)
-      (track_ended g laws (judges i) v.led v.process w.at w.read w.rest (record { steps = w.steps; is = w.reach }) w.ended)
 
   -- where the definition comes to
   pub record Ends (m last : Run P) : Type 0 where

@@ -13,12 +13,12 @@ use Rattle.nv_replay.specs.declared.fate.Fate.TheVariants.{Memory}
 use Rattle.nv_replay.specs.Follow.{Follower, Judge, decided, fresh, IsInStep}
 use Rattle.nv_replay.specs.Lead.{Leader}
 use Rattle.nv_replay.specs.Tracks.{track_next}
-use Rattle.nv_replay.specs.Hands.{has, above, is_handed, next_or_hand, lead_to_hand}
-use Rattle.nv_replay.specs.Sequence.{is_on}
+use Rattle.nv_replay.specs.Hands.{has, count_above, is_handed, next_or_hand, lead_to_hand}
+use Rattle.nv_replay.specs.Sequence.{is_going}
 use Rattle.nv_replay.specs.Spans.{EndBy}
-use Rattle.nv_replay.specs.Versions.{Running, IsLeading, asking_next, asking_by, answered_by, leader_of}
+use Rattle.nv_replay.specs.Version.{Running, IsLiveLeader, asking_next, asking_by, became_event, leader_of}
 use Rattle.nv_replay.specs.Turns.{TookTurn, Suits}
-use Rattle.nv_replay.specs.Accounts.{with_span}
+use Rattle.nv_replay.specs.Account.{with_span}
 use Rattle.nv_replay.proofs.Settled.{Reaches, reach_here, reach_on}
 use Rattle.nv_replay.proofs.Extending.{in_step_on, take_prefix_of}
 use Rattle.nv_replay.proofs.Stepping.{decided_in_step}
@@ -31,8 +31,8 @@ use Rattle.nv_replay.proofs.Numbers.{above_all, above_later, above_less, handed_
 use Rattle.nv_replay.proofs.Surviving.{length_take}
 use Rattle.nv_replay.proofs.Turning.{get_last, take_all, turn_dropped, turn_refused, turn_served}
 use Rattle.nv_replay.proofs.Wholly.{suits_now}
-use Rattle.nv_workers.specs.Ends.{IsStage, IsCutOf, tracked, begun, TakesLead, HandedOver, AreHanded, HasLedFrom}
-use Rattle.nv_workers.specs.Turns.{held_list, IsReading, IsServing, IsAsking}
+use Rattle.nv_workers.specs.Ends.{IsStage, IsCutOf, version_tracked, leader_begun, TakesLead, HandedOver, AreHanded, HasLedFrom}
+use Rattle.nv_workers.specs.Turns.{held_list, IsReaders, IsServing, IsAsking}
 
 pub reaches : {S : Type 0} (step : S → S) (s t : S) → IsStage step s t → Reaches step s t
 reaches step s t r = record { steps = r.steps; is = r.is }
@@ -65,13 +65,13 @@ and_no false = refl
 
 -- a leader goes on where no length is planned
 pub stays_unplanned : {P : Type 0} (hands : List ℕ) (from : ℕ) (l : Leader P) → has hands (length l.log) ≡ false → is_handed hands from l ≡ false
-stays_unplanned hands from l h = rw (h, and_no (not (nat_le (length l.log) from))) (and_no (is_on l.fate))
+stays_unplanned hands from l h = rw (h, and_no (not (nat_le (length l.log) from))) (and_no (is_going l.fate))
 
 -- and where it has served no call
 pub stays_here : {P : Type 0} (hands : List ℕ) (l : Leader P) → is_handed hands (length l.log) l ≡ false
 stays_here hands l =
     let k : nat_le (length l.log) (length l.log) ≡ true = grind (arith, nat_tests) in
-    rw k (and_no (is_on l.fate))
+    rw k (and_no (is_going l.fate))
 
 -- it gives up the lead where it has served one and this length is planned
 pub hands_planned : {P : Type 0} (hands : List ℕ) (from : ℕ) (l : Leader P) → l.fate ≡ None → from < length l.log → has hands (length l.log) ≡ true → is_handed hands from l ≡ true
@@ -84,7 +84,7 @@ module _ {P : Type 0} (g : Behaviour P) (laws : IsProcess g) (judges : ℕ → J
   Handed i p led log = AreHanded g judges replies most hands i p led log
 
   abbrev Reading : ℕ → P → Running P → List Entry → Option Entry → Type 0
-  Reading i p v log held = IsReading g judges replies most hands i p v log held
+  Reading i p v log held = IsReaders g judges replies most hands i p v log held
 
   -- the log has become longer
   pub handed_longer : (i : ℕ) (p : P) (led : List (ℕ × ℕ)) (log more : List Entry) → Handed i p led log → Handed i p led (log ++ more)
@@ -100,7 +100,7 @@ module _ {P : Type 0} (g : Behaviour P) (laws : IsProcess g) (judges : ℕ → J
         planned = h.planned;
         takes = subst (λ (x : List Entry). TakesLead g judges i p prefix x) (sym a) h.takes;
         process = h.process;
-        lead = λ c u. ap (λ (x : List Entry). lead_to_hand g replies most c hands from (begun g judges i p prefix x)) a
+        lead = λ c u. ap (λ (x : List Entry). lead_to_hand g replies most c hands from (leader_begun g judges i p prefix x)) a
             ∙ (h.lead c u ∙ ap (λ (x : List Entry). record { process = h.process; log = x; fate = None }) (sym b));
       }
 
@@ -181,7 +181,7 @@ module _ {P : Type 0} (g : Behaviour P) (laws : IsProcess g) (judges : ℕ → J
     led_same : new.led ≡ v.led
     led_same = ap (λ (x : Running P). x.led) k
 
-    few_on : v.at.seen ≤ new.at.seen → length new.led + above hands new.at.seen ≤ length hands
+    few_on : v.at.seen ≤ new.at.seen → length new.led + count_above hands new.at.seen ≤ length hands
     few_on l = let f = r.few in omega (arith, ap length led_same, above_later hands v.at.seen new.at.seen l)
 
     after_on : v.at.seen ≤ new.at.seen → EndBy new.at.seen new.led
@@ -242,16 +242,16 @@ module _ {P : Type 0} (g : Behaviour P) (laws : IsProcess g) (judges : ℕ → J
       let q : Reaches (track_next g (judges i) v.led log) (fresh p) v.at = subst (λ (x : List Entry). Reaches (track_next g (judges i) v.led x) (fresh p) v.at) (append-nil log)
       (reaches (track_next g (judges i) v.led (log ++ [])) (fresh p) v.at r.stage) in
       let rest : track_next g (judges i) v.led log v.at ≡ v.at = next_after g (judges i) v.led log v.at r.past ∙ rests g laws (judges i) log v.at (inl (omega (arith, r.seen))) in
-      let f : v.at ≡ tracked g judges i p v.led log = track_is g laws (judges i) v.led log (fresh p) v.at q rest in
+      let f : v.at ≡ version_tracked g judges i p v.led log = track_is g laws (judges i) v.led log (fresh p) v.at q rest in
       let all : take (length log) log ≡ log = take_all log in
-      let f' : v.at ≡ tracked g judges i p v.led (take (length log) log) = f ∙ ap (λ (x : List Entry). tracked g judges i p v.led x) (sym all) in
+      let f' : v.at ≡ version_tracked g judges i p v.led (take (length log) log) = f ∙ ap (λ (x : List Entry). version_tracked g judges i p v.led x) (sym all) in
       let T : List Entry → Type 0 = λ x. TakesLead g judges i p v.led x in
       let t : T log = record {
         on = ap (λ (x : Follower P). x.fate) (sym f) ∙ r.on;
         seen = ap (λ (x : Follower P). x.seen) (sym f) ∙ r.seen;
         in_step = subst (λ (x : Follower P). IsInStep g log x) f r.in_step;
       } in
-      let b : begun g judges i p v.led (take (length log) log) ≡ leader_of (with_span v (length log)) log = λ j. record { process = ((sym f') j).process; log = all j; fate = (sym r.on) j } in record {
+      let b : leader_begun g judges i p v.led (take (length log) log) ≡ leader_of (with_span v (length log)) log = λ j. record { process = ((sym f') j).process; log = all j; fate = (sym r.on) j } in record {
         on = r.on;
         none_asked = r.none_asked;
         handed = stays_here hands (leader_of (with_span v (length log)) log);
@@ -259,13 +259,13 @@ module _ {P : Type 0} (g : Behaviour P) (laws : IsProcess g) (judges : ℕ → J
           index = r.index;
           handed = r.handed;
           past = subst (λ (n : ℕ). EndBy n v.led) r.seen r.past;
-          few = subst (λ (n : ℕ). length v.led + above hands n ≤ length hands) r.seen r.few;
+          few = subst (λ (n : ℕ). length v.led + count_above hands n ≤ length hands) r.seen r.few;
           within = omega arith;
           takes = subst T (sym all) t;
           stage = λ c u.
-              subst (λ (x : Leader P). IsStage (next_or_hand g replies most c hands (length log)) (begun g judges i p v.led (take (length log) log)) x) b
-              (is_stage (next_or_hand g replies most c hands (length log)) (begun g judges i p v.led (take (length log) log)) (begun g judges i p v.led (take (length log) log))
-              (reach_here (next_or_hand g replies most c hands (length log)) (begun g judges i p v.led (take (length log) log))));
+              subst (λ (x : Leader P). IsStage (next_or_hand g replies most c hands (length log)) (leader_begun g judges i p v.led (take (length log) log)) x) b
+              (is_stage (next_or_hand g replies most c hands (length log)) (leader_begun g judges i p v.led (take (length log) log)) (leader_begun g judges i p v.led (take (length log) log))
+              (reach_here (next_or_hand g replies most c hands (length log)) (leader_begun g judges i p v.led (take (length log) log))));
           rewrites = ap (λ (x : Follower P). x.rewrites) f';
           seen = r.seen;
           span = refl;
@@ -286,7 +286,7 @@ module _ {P : Type 0} (g : Behaviour P) (laws : IsProcess g) (judges : ℕ → J
   leads_on i p v new led from log more s t =
       let o = s.led_from in
       let prefix : take from (log ++ more) ≡ take from log = take_prefix_of log more from o.within in
-      let start : Leader P = begun g judges i p led (take from log) in record {
+      let start : Leader P = leader_begun g judges i p led (take from log) in record {
         index = t.on.index ∙ o.index;
         handed = handed_longer i p led log more o.handed;
         past = o.past;
@@ -299,15 +299,15 @@ module _ {P : Type 0} (g : Behaviour P) (laws : IsProcess g) (judges : ℕ → J
             let r = reaches step start (leader_of v log) (o.stage c (is_cut_of c v.at.fate (length log) a.0)) in
             let one : step (leader_of v log) ≡ leader_of new (log ++ more) = next_unless g replies most c hands from (leader_of v log) s.handed ∙ sym (t.step c a.1) in
             let r' = subst (λ (x : Leader P). Reaches step start x) one (reach_on step start (leader_of v log) r) in
-            subst (λ (x : List Entry). IsStage step (begun g judges i p led x) (leader_of new (log ++ more))) (sym prefix) (is_stage step start (leader_of new (log ++ more)) r');
-        rewrites = t.on.rewrites ∙ (o.rewrites ∙ ap (λ (x : List Entry). (tracked g judges i p led x).rewrites) (sym prefix));
+            subst (λ (x : List Entry). IsStage step (leader_begun g judges i p led x) (leader_of new (log ++ more))) (sym prefix) (is_stage step start (leader_of new (log ++ more)) r');
+        rewrites = t.on.rewrites ∙ (o.rewrites ∙ ap (λ (x : List Entry). (version_tracked g judges i p led x).rewrites) (sym prefix));
         seen = t.on.seen;
         span = t.on.span led from (o.span ∙ ap (λ (m : ℕ). led ++ (from, m) ∷ []) (sym o.seen)) ∙ ap (λ (m : ℕ). led ++ (from, m) ∷ []) t.on.seen;
         leading = t.on.leading ∙ o.leading;
         in_step = t.on.in_step;
       }
 
-  pub leading : (i : ℕ) (p : P) (v : Running P) (led : List (ℕ × ℕ)) (from : ℕ) (log : List Entry) → Serving i p v led from log → IsLeading v
+  pub leading : (i : ℕ) (p : P) (v : Running P) (led : List (ℕ × ℕ)) (from : ℕ) (log : List Entry) → Serving i p v led from log → IsLiveLeader v
   leading i p v led from log s = record { on = s.on; leading = s.led_from.leading; none_asked = s.none_asked }
 
   same_log : (i : ℕ) (p : P) (new : Running P) (led : List (ℕ × ℕ)) (from : ℕ) (log : List Entry) → Led i p new led from (log ++ []) → Led i p new led from log
@@ -332,7 +332,7 @@ module _ {P : Type 0} (g : Behaviour P) (laws : IsProcess g) (judges : ℕ → J
 
   -- the call was served, published and answered
   pub publishes : (i : ℕ) (p : P) (v new : Running P) (t : ℕ) (led : List (ℕ × ℕ)) (from : ℕ) (log : List Entry) → Asking i p v led from log → v.asked ≡ Some t
-      → new ≡ answered_by g (served replies log (g.call v.at.process t)) v → IsLawful (log ++ served replies log (g.call v.at.process t) ∷ [])
+      → new ≡ became_event g (served replies log (g.call v.at.process t)) v → IsLawful (log ++ served replies log (g.call v.at.process t) ∷ [])
       → Led i p new led from (log ++ served replies log (g.call v.at.process t) ∷ [])
   publishes i p v new t led from log s a k law =
       let e = served replies log (g.call v.at.process t) in
@@ -356,8 +356,8 @@ module _ {P : Type 0} (g : Behaviour P) (laws : IsProcess g) (judges : ℕ → J
         process = v.at.process;
         lead = λ c u.
             let u' : IsCutOf c v.at.fate (length log) = subst (λ (x : Option Fate). IsCutOf c x (length log)) (sym n) u in
-            let r = reaches (next_or_hand g replies most c hands from) (begun g judges i p led (take from log)) l (s.stage c u') in
-            sym (hand_is g replies most c hands from laws (begun g judges i p led (take from log)) l r (handed_rests g replies most c hands from l hd)) ∙ l0;
+            let r = reaches (next_or_hand g replies most c hands from) (leader_begun g judges i p led (take from log)) l (s.stage c u') in
+            sym (hand_is g replies most c hands from laws (leader_begun g judges i p led (take from log)) l r (handed_rests g replies most c hands from l hd)) ∙ l0;
       }
 
   pub gives_up : (i : ℕ) (p : P) (v : Running P) (led : List (ℕ × ℕ)) (from : ℕ) (log : List Entry) → IsServing g judges replies most hands true i p v led from log
@@ -368,13 +368,13 @@ module _ {P : Type 0} (g : Behaviour P) (laws : IsProcess g) (judges : ℕ → J
       let n = sv.on in
       let m = hd.grew in
       let h = hd.planned in
-      let free : IsCutOf None v.at.fate (length log) = record { below = λ j l. refl; end = λ z. let y : true ≡ false = ap is_on (sym n) ∙ z in cc } in
-      let l0 : Leader P = begun g judges i p led (take from log) in
+      let free : IsCutOf None v.at.fate (length log) = record { below = λ j l. refl; end = λ z. let y : true ≡ false = ap is_going (sym n) ∙ z in cc } in
+      let l0 : Leader P = leader_begun g judges i p led (take from log) in
       let st = s.stage None free in
       let r = stage_leads g replies most None hands from st.steps l0 (leader_of v log) st.is in
-      let x = hands_over g (judges i) replies most None led (take from log) p (tracked g judges i p led (take from log)) r.steps (leader_of v log)
+      let x = hands_over g (judges i) replies most None led (take from log) p (version_tracked g judges i p led (take from log)) r.steps (leader_of v log)
       (track_reached g laws (judges i) led (take from log) (fresh p)) s.takes.seen s.takes.on r.is n in
-      let at : record { process = v.at.process; seen = length log; rewrites = (tracked g judges i p led (take from log)).rewrites; fate = None } ≡ v.at = λ j. record
+      let at : record { process = v.at.process; seen = length log; rewrites = (version_tracked g judges i p led (take from log)).rewrites; fate = None } ≡ v.at = λ j. record
       { process = v.at.process; seen = sym s.seen j; rewrites = sym s.rewrites j; fate = sym n j } in
       let long : length (take from log) ≡ from = length_take log from s.within in
       let sp : led ++ (length (take from log), length log) ∷ [] ≡ v.led = ap (λ (y : ℕ). led ++ (y, length log) ∷ []) long ∙ sym s.span in
@@ -397,7 +397,7 @@ module _ {P : Type 0} (g : Behaviour P) (laws : IsProcess g) (judges : ℕ → J
         in_step = s.in_step;
         handed = handed_same i p (led ++ (from, length log) ∷ []) v.led log s.span over;
         past = subst (λ (y : ℕ). EndBy y v.led) (sym s.seen) (subst (λ (y : List (ℕ × ℕ)). EndBy (length log) y) (sym s.span) (span_end led from from (length log) s.past s.within));
-        few = (let f = s.few in omega (arith, s.seen, ap (above hands) s.seen, ap length s.span, length-append led ((from, length log) ∷ []), above_less hands from (length log) m h));
+        few = (let f = s.few in omega (arith, s.seen, ap (count_above hands) s.seen, ap length s.span, length-append led ((from, length log) ∷ []), above_less hands from (length log) m h));
         stage = subst (λ (y : List Entry). IsStage (track_next g (judges i) v.led y) (fresh p) v.at) (sym (append-nil log)) (is_stage (track_next g (judges i) v.led log) (fresh p) v.at x');
       }
 

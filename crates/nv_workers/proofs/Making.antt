@@ -5,10 +5,10 @@ use Rattle.nv_room.specs.declared.room.Reader.{Reader}
 use Rattle.nv_room.specs.declared.room.Lead.{Lead}
 use Rattle.nv_room.specs.Seats.{version_of_reader}
 use Rattle.nv_threads.specs.Threads.{Proc, threads}
-use Rattle.nv_replay.specs.Versions.{Running, IsFresh}
-use Rattle.nv_replay.specs.Accounts.{with_span}
+use Rattle.nv_replay.specs.Version.{Running, IsFresh}
+use Rattle.nv_replay.specs.Account.{with_span}
 use Rattle.nv_workers.specs.declared.worker.Seat.TheVariants.{Reading, Leading}
-use Rattle.nv_workers.specs.New.{LeadsAnew, ReadsAnew}
+use Rattle.nv_workers.specs.Staffing.{LeadsAnew, ReadsAnew}
 use Rattle.nv_workers.proofs.Moving.{fresh_leads, fresh_follows}
 
 module _ {K : Type 0} {G : Ghosts K} where

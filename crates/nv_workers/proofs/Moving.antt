@@ -5,25 +5,25 @@ use mathlib.Core.Option.{some}
 use Rattle.nv_calls.specs.Calls.{Entry}
 use Rattle.nv_calls.specs.Logs.{IsLawful, Start}
 use Rattle.nv_calls.specs.declared.kernel.SyscallKernel.{Ghosts}
-use Rattle.nv_words.specs.Spell.{spell}
+use Rattle.nv_words.specs.Spelling.{spell}
 use Rattle.nv_room.specs.declared.view.View.{View}
 use Rattle.nv_room.specs.declared.view.Span.{Span}
 use Rattle.nv_room.specs.declared.room.Room.{Room}
 use Rattle.nv_room.specs.declared.room.Reader.{Reader}
 use Rattle.nv_room.specs.declared.room.Lead.{Lead}
-use Rattle.nv_room.specs.Spans.{span, handed_on, HasLed}
+use Rattle.nv_room.specs.Spans.{span, handed_on, LastHasEvent}
 use Rattle.nv_room.specs.Room.{Has}
 use Rattle.nv_room.specs.Steps.{as_gone, as_leaving, as_lead}
-use Rattle.nv_room.specs.Seats.{IsOfRoom, IsLeadOf, view, lead_view, station_of_lead, version_of_reader, version_of_lead, kernel_of, due_of, origin, hands_of, IsFreshLead, IsFresh as IsFreshReader}
+use Rattle.nv_room.specs.Seats.{IsOfRoom, IsLeadOf, view, lead_view, station_of_lead, version_of_reader, version_of_lead, kernel_of, due_of, origin, hands_of, IsFreshLead, IsFreshReader}
 use Rattle.nv_threads.specs.Threads.{Proc, threads}
 use Rattle.nv_threads.proofs.ThreadLaws.{thread_laws}
 use Rattle.nv_replay.specs.Follow.{Judge}
 use Rattle.nv_replay.specs.Hands.{has}
-use Rattle.nv_replay.specs.Versions.{Running, IsFresh, IsFollowing, IsLeading, leader_of}
-use Rattle.nv_replay.specs.Accounts.{with_span}
+use Rattle.nv_replay.specs.Version.{Running, IsFresh, IsFollowing, IsLiveLeader, leader_of}
+use Rattle.nv_replay.specs.Account.{with_span}
 use Rattle.nv_replay.proofs.Numbers.{eq_same, handed_at}
 use Rattle.nv_workers.specs.Ends.{ends_of, AreHandedOn}
-use Rattle.nv_workers.specs.Turns.{IsReading, IsServing}
+use Rattle.nv_workers.specs.Turns.{IsReaders, IsServing}
 use Rattle.nv_workers.specs.Working.{HasEnded, FollowsOn, LeadsOn}
 use Rattle.nv_workers.proofs.Keeping.{takes, reads_first, gives_up}
 use Rattle.nv_workers.proofs.Spanned.{map_append}
@@ -108,7 +108,7 @@ module _ (judges : ℕ → Judge) where
     abbrev log : List Entry
     log = G.log (kernel_of l)
 
-    pub leads_now : IsLeading v
+    pub leads_now : IsLiveLeader v
     leads_now = record { on = f.serves.on; leading = f.serves.led_from.leading; none_asked = f.serves.none_asked }
 
     long_seen : length (lead_view l).seen ≡ length log
@@ -119,7 +119,7 @@ module _ (judges : ℕ → Judge) where
     planned_now = has_at (hands_of room) (length (lead_view l).seen) (ap (has (hands_of room)) long_seen ∙ (handed_at (hands_of room) f.from (leader_of v log) f.serves.handed).planned)
 
     -- it has published an event
-    pub led_now : HasLed (lead_view l).spans
+    pub led_now : LastHasEvent (lead_view l).spans
     led_now = (
       f.before,
       span (station_of_lead l) (version_of_lead l) f.from (length (lead_view l).seen),
@@ -133,7 +133,7 @@ module _ (judges : ℕ → Judge) where
     gives_lead r new buf of version seen read spans k =
         let last : Span = span (station_of_lead l) (version_of_lead l) f.from (length (lead_view l).seen) in
         let all : (view r).spans ≡ f.before ++ (record last { handed = true }) ∷ [] = spans ∙ (ap handed_on f.spans ∙ handed_last f.before last) in
-        let R : ℕ → Running Proc → Type 0 = λ i x. IsReading threads judges (G.start (origin room)) most (hands_of room) i p x log None in
+        let R : ℕ → Running Proc → Type 0 = λ i x. IsReaders threads judges (G.start (origin room)) most (hands_of room) i p x log None in
         let reading : R (version_of_lead l) (record v { leading = false }) = gives_up threads thread_laws judges (G.start (origin room)) most (hands_of room) (version_of_lead l) p v
         (map ends_of f.before) f.from log f.serves in
         record {
@@ -162,7 +162,7 @@ module _ (judges : ℕ → Judge) where
 
   -- Workers as they are made
 
-  reads_none : (start : Start) (most : ℕ) (hands : List ℕ) (v : Running Proc) (i : ℕ) → IsFresh threads i v → IsReading threads judges start most hands i v.at.process v [] None
+  reads_none : (start : Start) (most : ℕ) (hands : List ℕ) (v : Running Proc) (i : ℕ) → IsFresh threads i v → IsReaders threads judges start most hands i v.at.process v [] None
   reads_none start most hands v i f = reads_first threads thread_laws judges start most hands i v.at.process v f.index (record { live = f.started.live; on = f.started.on }) f.at f.not_led f.idle f.none_asked
 
   module _ {K : Type 0} {G : Ghosts K} (room : Room K) (most : ℕ) (v : Running Proc) where
@@ -176,7 +176,7 @@ module _ (judges : ℕ → Judge) where
       holds = ap (λ (x : View K). x.read) n.3;
       led = f.not_led ∙ sym (ap (λ (x : View K). map ends_of x.spans) n.3);
       handed_on = subst (λ (x : View K). AreHandedOn x.spans) (sym n.3) tt;
-      reading = subst (λ (j : ℕ). IsReading threads judges (G.start (origin room)) most (hands_of room) j v.at.process v [] None) (sym n.2) (reads_none (G.start (origin room)) most (hands_of room) v i f);
+      reading = subst (λ (j : ℕ). IsReaders threads judges (G.start (origin room)) most (hands_of room) j v.at.process v [] None) (sym n.2) (reads_none (G.start (origin room)) most (hands_of room) v i f);
     }
 
     pub fresh_leads : (l : Lead K G) (new : Running Proc) → IsFresh threads 0 v → IsFreshLead room l → G.log (kernel_of l) ≡ []

@@ -7,12 +7,12 @@ use Rattle.nv_calls.specs.declared.kernel.SyscallKernel.{Ghosts}
 use Rattle.nv_room.specs.declared.room.Room.{Room}
 use Rattle.nv_room.specs.declared.room.Reader.{Reader}
 use Rattle.nv_room.specs.declared.room.Lead.{Lead}
-use Rattle.nv_room.specs.Seats.{IsFresh as IsFreshReader, version_of_reader, FreshReaders, IsFreshLead, kernel_of, origin}
+use Rattle.nv_room.specs.Seats.{IsFreshReader, version_of_reader, FreshReaders, IsFreshLead, kernel_of, origin}
 use Rattle.nv_threads.specs.Threads.{Proc, threads}
-use Rattle.nv_replay.specs.Versions.{Running, IsFresh}
-use Rattle.nv_replay.specs.Accounts.{AreFresh}
+use Rattle.nv_replay.specs.Version.{Running, IsFresh}
+use Rattle.nv_replay.specs.Account.{AreFresh}
 use Rattle.nv_workers.specs.declared.worker.Worker.{Worker}
-use Rattle.nv_workers.specs.New.{IsNew, AreNew, AreAsMade, AreNewSeats, LeadsAnew, ReadsAnew, StaffsAnew, IsNewReader}
+use Rattle.nv_workers.specs.Staffing.{IsNewWorker, AreNew, AreAsMade, AreNewSeats, LeadsAnew, ReadsAnew, StaffsAnew, IsNewReader}
 
 fresh_prefix : (i : ℕ) (vs : List (Running Proc)) (v : Running Proc) → AreFresh threads i (vs ++ v ∷ []) → AreFresh threads i vs
 fresh_prefix i [] v f = tt
@@ -47,14 +47,14 @@ module _ {K : Type 0} {G : Ghosts K} where
   at_last [] r = refl
   at_last (p ∷ rs) r = at_last rs r
 
-  new_more : (room : Room K) (i : ℕ) (fs : List (Running Proc)) (ws : List (Worker K G)) (f : Running Proc) (w : Worker K G) → AreNew room i fs ws → IsNew room (i + length fs) f w
+  new_more : (room : Room K) (i : ℕ) (fs : List (Running Proc)) (ws : List (Worker K G)) (f : Running Proc) (w : Worker K G) → AreNew room i fs ws → IsNewWorker room (i + length fs) f w
       → AreNew room i (fs ++ f ∷ []) (ws ++ w ∷ [])
-  new_more room i [] [] f w n m = let z : i + 0 ≡ i = omega arith in (subst (λ (j : ℕ). IsNew room j f w) z m, tt)
+  new_more room i [] [] f w n m = let z : i + 0 ≡ i = omega arith in (subst (λ (j : ℕ). IsNewWorker room j f w) z m, tt)
   new_more room i [] (u ∷ ws) f w n m = absurd n
   new_more room i (e ∷ fs) [] f w n m = absurd n
   new_more room i (e ∷ fs) (u ∷ ws) f w n m =
       let z : i + suc (length fs) ≡ i + 1 + length fs = omega arith in
-      (n.0, new_more room (i + 1) fs ws f w n.1 (subst (λ (j : ℕ). IsNew room j f w) z m))
+      (n.0, new_more room (i + 1) fs ws f w n.1 (subst (λ (j : ℕ). IsNewWorker room j f w) z m))
 
   prefix_made : (room : Room K) (rs : List (Reader K G)) (r : Reader K G) (l : Lead K G) → AreAsMade room (rs ++ r ∷ []) l → AreAsMade room rs l
   prefix_made room rs r l a = record { readers = λ k q e. a.readers k q (at_prefix rs r q k e); lead = a.lead }
@@ -103,7 +103,7 @@ module _ {K : Type 0} {G : Ghosts K} where
       let q : IsFreshReader room (length rs + 1) r = last_made room rs r l b in
       let at = q.2 in
       let z : version_of_reader r ≡ 0 + length vs = omega arith in
-      let one : IsNew room (0 + length vs) v w = subst (λ (j : ℕ). IsNew room j v w) z (n room (own_version room (length rs + 1) r q)) in
+      let one : IsNewWorker room (0 + length vs) v w = subst (λ (j : ℕ). IsNewWorker room j v w) z (n room (own_version room (length rs + 1) r q)) in
       subst (λ (x : List (Running Proc)). AreNew room 0 x (ws ++ w ∷ [])) (sym e) (new_more room 0 vs ws v w (s room (prefix_made room rs r l b)) one)
 
   -- what the making of a room gives

@@ -4,7 +4,7 @@ use Rattle.nv_calls.specs.declared.kernel.SyscallKernel.{Ghosts}
 use Rattle.nv_room.specs.declared.room.Room.{Room}
 use Rattle.nv_replay.specs.Follow.{Judge}
 use Rattle.nv_workers.specs.declared.worker.Worker.{Worker}
-use Rattle.nv_workers.specs.Rounds.{WorkedOn, CanAll, AllOn}
+use Rattle.nv_workers.specs.inner.Rounds.{WorkedOn, CanAll, AllOn}
 
 module _ (judges : ℕ → Judge) {K : Type 0} {G : Ghosts K} (room : Room K) (most : ℕ) where
   pub can_prefix : (n : ℕ) (ws : List (Worker K G)) → CanAll judges room most ws → CanAll judges room most (take n ws)

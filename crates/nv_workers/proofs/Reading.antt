@@ -5,12 +5,12 @@ use Rattle.std.specs.Prelude.{is_some, Contains}
 use Rattle.nv_calls.specs.Calls.{Entry}
 use Rattle.nv_calls.specs.Logs.{InRange, IsLawful, IsNew, MayFollow, Start, child_of, live_after}
 use Rattle.nv_calls.specs.declared.kernel.SyscallKernel.{Ghosts}
-use Rattle.nv_words.specs.Spell.{spell, IsWhole}
+use Rattle.nv_words.specs.Spelling.{spell, IsWhole}
 use Rattle.nv_words.proofs.SpellLaws.{spell_one, spell_whole}
 use Rattle.nv_room.specs.declared.view.View.{View}
 use Rattle.nv_room.specs.declared.room.Room.{Room}
 use Rattle.nv_room.specs.declared.room.Reader.{Reader}
-use Rattle.nv_room.specs.Steps.{Tells, TellsEnd, one_on}
+use Rattle.nv_room.specs.Steps.{SpellLawful, TellsEnd, one_on}
 use Rattle.nv_room.specs.Seats.{IsOfRoom, SameReader, view, version_of_reader, origin, hands_of}
 use Rattle.nv_threads.specs.Threads.{Proc, threads}
 use Rattle.nv_threads.proofs.ThreadLaws.{thread_laws}
@@ -20,14 +20,14 @@ use Rattle.nv_replay.specs.declared.version.Followed.{Followed}
 use Rattle.nv_replay.specs.declared.version.Followed.TheVariants.{Matched, Rewrote, Skipped, Dropped}
 use Rattle.nv_replay.specs.Follow.{Follower, Judge, IsCounted, decided, fresh}
 use Rattle.nv_replay.specs.Tracks.{track_next}
-use Rattle.nv_replay.specs.Sequence.{is_on}
-use Rattle.nv_replay.specs.Versions.{Running}
+use Rattle.nv_replay.specs.Sequence.{is_going}
+use Rattle.nv_replay.specs.Version.{Running}
 use Rattle.nv_replay.proofs.Turning.{get_last}
 use Rattle.nv_replay.proofs.Extending.{take_prefix_of}
 use Rattle.nv_replay.proofs.Survivor.{lawful_prefix}
 use Rattle.nv_workers.specs.Ends.{IsStage, ends_of, AreHandedOn}
-use Rattle.nv_workers.specs.Turns.{held_list, IsReading}
-use Rattle.nv_workers.specs.Working.{Holds, HasEnded, FollowsOn}
+use Rattle.nv_workers.specs.Turns.{held_list, IsReaders}
+use Rattle.nv_workers.specs.Working.{HoldsNext, HasEnded, FollowsOn}
 use Rattle.nv_workers.specs.Follows.{AfterTurn, IsWaiting}
 use Rattle.nv_workers.specs.declared.follows.Next.{Next}
 use Rattle.nv_workers.specs.declared.follows.Next.TheVariants.{Moved, Ahead, Waits, Leads, Hands, Leaves, Left}
@@ -47,9 +47,9 @@ seen_by (Rewrote w) t old new (inr h) k = cc
 seen_by (Dropped f) t old new (inl h) k = cc
 seen_by (Dropped f) t old new (inr h) k = cc
 
-pub off_from : (o f : Option Fate) → is_some o ≡ true → o ≡ f → is_on f ≡ false
+pub off_from : (o f : Option Fate) → is_some o ≡ true → o ≡ f → is_going f ≡ false
 off_from None f h e = cc
-off_from (Some x) f h e = ap is_on (sym e)
+off_from (Some x) f h e = ap is_going (sym e)
 
 module _ (judges : ℕ → Judge) (most : ℕ) where
   -- a reader's version with the event that is held
@@ -62,11 +62,11 @@ module _ (judges : ℕ → Judge) (most : ℕ) where
     pub words : buf ≡ spell event
     pub led : v.led ≡ map ends_of w.spans
     pub handed_on : AreHandedOn w.spans
-    pub reading : IsReading threads judges start most hands i p v log (Some event)
+    pub reading : IsReaders threads judges start most hands i p v log (Some event)
 
   held_by : (start : Start) (hands : List ℕ) {T : Type 0} (i : ℕ) (p : Proc) (v : Running Proc) (w : View T) (buf : List ℕ) (log : List Entry) (next : Option Entry)
-      → map spell log ≡ w.seen → IsLawful (log ++ held_list next) → Holds true w.read buf next → v.led ≡ map ends_of w.spans → AreHandedOn w.spans
-      → IsReading threads judges start most hands i p v log next → Held start hands i p v w buf
+      → map spell log ≡ w.seen → IsLawful (log ++ held_list next) → HoldsNext true w.read buf next → v.led ≡ map ends_of w.spans → AreHandedOn w.spans
+      → IsReaders threads judges start most hands i p v log next → Held start hands i p v w buf
   held_by start hands i p v w buf log None s l h n o r = absurd h
   held_by start hands i p v w buf log (Some e) s l h n o r = record { log = log; event = e; spelt = s; lawful = l; read = h.0; words = h.1; led = n; handed_on = o; reading = r }
 
@@ -109,12 +109,12 @@ module _ (judges : ℕ → Judge) (most : ℕ) where
 
     -- Rewrote: the event stays
     pub rewrote : (new : Running Proc) → new ≡ record v { at = decided threads (judges i) h.event v.at } → new.at.seen ≡ v.at.seen
-        → new.at.fate ≡ None → IsReading threads judges start most hands i p new h.log (Some h.event)
+        → new.at.fate ≡ None → IsReaders threads judges start most hands i p new h.log (Some h.event)
     rewrote new k s n = reads_held threads thread_laws judges start most hands i p v new h.log h.event (Some h.event) h.reading (inr refl) h.lawful k s n
 
     -- Matched or Skipped: the event is consumed
     pub consumes : (new : Running Proc) → new ≡ record v { at = decided threads (judges i) h.event v.at } → new.at.seen ≡ v.at.seen + 1
-        → new.at.fate ≡ None → IsReading threads judges start most hands i p new (h.log ++ h.event ∷ []) None
+        → new.at.fate ≡ None → IsReaders threads judges start most hands i p new (h.log ++ h.event ∷ []) None
     consumes new k s n = reads_on threads thread_laws judges start most hands i p v new h.log h.event (Some h.event) h.reading (inr refl) h.lawful k s n
 
     stage_now : (new : Running Proc) → new ≡ record v { at = decided threads (judges i) h.event v.at }
@@ -135,7 +135,7 @@ module _ (judges : ℕ → Judge) (most : ℕ) where
 
     -- it exited with the event, which is consumed
     pub exits : (new : Running Proc) → new ≡ record v { at = decided threads (judges i) h.event v.at }
-        → new.at.seen ≡ v.at.seen + 1 → is_on new.at.fate ≡ false → HasEnded judges start most hands i p new (one_on w)
+        → new.at.seen ≡ v.at.seen + 1 → is_going new.at.fate ≡ false → HasEnded judges start most hands i p new (one_on w)
     exits new k n e = record {
       log = h.log ++ h.event ∷ [];
       spelt = spelt_on;
@@ -157,7 +157,7 @@ module _ (judges : ℕ → Judge) (most : ℕ) where
 
     -- it was dropped at the event, whose words stay read
     pub dropped : (new : Running Proc) → new ≡ record v { at = decided threads (judges i) h.event v.at }
-        → new.at.seen ≡ v.at.seen → is_on new.at.fate ≡ false → HasEnded judges start most hands i p new w
+        → new.at.seen ≡ v.at.seen → is_going new.at.fate ≡ false → HasEnded judges start most hands i p new w
     dropped new k n e = record {
       log = h.log;
       spelt = h.spelt;
@@ -179,7 +179,7 @@ module _ (judges : ℕ → Judge) (most : ℕ) where
 
   module _ (i : ℕ) (p : Proc) (v : Running Proc) (log : List Entry) (seen : List (List ℕ)) where
     -- the event that was read follows the log
-    pub read_next : map spell log ≡ seen → IsLawful log → (words : List ℕ) → Tells (seen ++ words ∷ [])
+    pub read_next : map spell log ≡ seen → IsLawful log → (words : List ℕ) → SpellLawful (seen ++ words ∷ [])
         → (e : Entry) × (spell e ≡ words) × IsLawful (log ++ e ∷ [])
     read_next s l words (h, spelt, law) =
         let q = parted h seen words spelt in
@@ -188,7 +188,7 @@ module _ (judges : ℕ → Judge) (most : ℕ) where
         (q.last, q.words_are, subst (λ (x : List Entry). IsLawful (x ++ q.last ∷ [])) same lawful)
 
     -- a version without a fate stands where threads live
-    pub goes_on : (start : Start) (hands : List ℕ) → map spell log ≡ seen → IsLawful log → IsReading threads judges start most hands i p v log None → TellsEnd seen → ⊥
+    pub goes_on : (start : Start) (hands : List ℕ) → map spell log ≡ seen → IsLawful log → IsReaders threads judges start most hands i p v log None → TellsEnd seen → ⊥
     goes_on start hands s l r (h, spelt, law, dead) =
         let same : h ≡ log = same_spelt h log law l (spelt ∙ sym s) in
         never_closed threads thread_laws judges start most hands i p v log r (subst (λ (x : List Entry). live_after x ≡ []) same dead)
@@ -230,17 +230,17 @@ module _ (judges : ℕ → Judge) (most : ℕ) where
           holds = ap (λ (x : View K). x.read) w;
           led = led_now start (hands_of room) (version_of_reader r) p v (view r) buf held new by_held ∙ sym (ap (λ (x : View K). map ends_of x.spans) w);
           handed_on = subst (λ (x : View K). AreHandedOn x.spans) (sym w) held.handed_on;
-          reading = subst (λ (i : ℕ). IsReading threads judges start most (hands_of room) i p new log None) (sym same.3)
+          reading = subst (λ (i : ℕ). IsReaders threads judges start most (hands_of room) i p new log None) (sym same.3)
               (consumes start (hands_of room) (version_of_reader r) p v (view r) buf held new by_held h o);
         }
 
-    pub after_exit : (r2 : Reader K G) → SameReader r r2 → view r2 ≡ one_on (view r) → new.at.seen ≡ v.at.seen + 1 → is_on new.at.fate ≡ false
+    pub after_exit : (r2 : Reader K G) → SameReader r r2 → view r2 ≡ one_on (view r) → new.at.seen ≡ v.at.seen + 1 → is_going new.at.fate ≡ false
         → HasEnded judges start most (hands_of room) (version_of_reader r2) p new (view r2)
     after_exit r2 same w n o =
         subst (λ (i : ℕ). HasEnded judges start most (hands_of room) i p new (view r2)) (sym same.3) (subst (λ (x : View K). HasEnded judges start most (hands_of room) (version_of_reader r) p new x) (sym w)
         (exits start (hands_of room) (version_of_reader r) p v (view r) buf held new by_held n o))
 
-    pub after_drop : new.at.seen ≡ v.at.seen → is_on new.at.fate ≡ false → HasEnded judges start most (hands_of room) (version_of_reader r) p new (view r)
+    pub after_drop : new.at.seen ≡ v.at.seen → is_going new.at.fate ≡ false → HasEnded judges start most (hands_of room) (version_of_reader r) p new (view r)
     after_drop n o = dropped start (hands_of room) (version_of_reader r) p v (view r) buf held new by_held n o
 
   -- a reader's version where no word of a further event is read
@@ -251,15 +251,15 @@ module _ (judges : ℕ → Judge) (most : ℕ) where
     pub read : w.read ≡ []
     pub led : v.led ≡ map ends_of w.spans
     pub handed_on : AreHandedOn w.spans
-    pub reading : IsReading threads judges start most hands i p v log None
+    pub reading : IsReaders threads judges start most hands i p v log None
 
-  holds_none : (read buf read2 buf2 : List ℕ) (next : Option Entry) → Holds false read buf next → read2 ≡ [] → Holds false read2 buf2 next
+  holds_none : (read buf read2 buf2 : List ℕ) (next : Option Entry) → HoldsNext false read buf next → read2 ≡ [] → HoldsNext false read2 buf2 next
   holds_none read buf read2 buf2 None h e = e
   holds_none read buf read2 buf2 (Some x) h e = absurd h
 
   bare_by : (st : Start) (hands : List ℕ) {T : Type 0} (i : ℕ) (p : Proc) (v : Running Proc) (w : View T) (buf : List ℕ) (log : List Entry) (next : Option Entry)
-      → map spell log ≡ w.seen → IsLawful (log ++ held_list next) → Holds false w.read buf next → v.led ≡ map ends_of w.spans → AreHandedOn w.spans
-      → IsReading threads judges st most hands i p v log next → Bare st hands i p v w
+      → map spell log ≡ w.seen → IsLawful (log ++ held_list next) → HoldsNext false w.read buf next → v.led ≡ map ends_of w.spans → AreHandedOn w.spans
+      → IsReaders threads judges st most hands i p v log next → Bare st hands i p v w
   bare_by st hands i p v w buf log None s l h n o r = record { log = log; spelt = s; lawful = subst IsLawful (append-nil log) l; read = h; led = n; handed_on = o; reading = r }
   bare_by st hands i p v w buf log (Some e) s l h n o r = absurd h
 
@@ -282,7 +282,7 @@ module _ (judges : ℕ → Judge) (most : ℕ) where
       holds = holds_none (view r).read buf (view r2).read buf2 f.next f.holds read;
       led = f.led ∙ sym (ap (map ends_of) spans);
       handed_on = subst AreHandedOn (sym spans) f.handed_on;
-      reading = subst (λ (i : ℕ). IsReading threads judges (G.start (origin room)) most (hands_of room) i p v f.log f.next) (sym same.3) f.reading;
+      reading = subst (λ (i : ℕ). IsReaders threads judges (G.start (origin room)) most (hands_of room) i p v f.log f.next) (sym same.3) f.reading;
     }
 
     pub found_waiting : (r2 : Reader K G) (buf2 : List ℕ) (next : Next) → IsWaiting next → IsOfRoom room r2 → SameReader r r2 → (view r2).seen ≡ (view r).seen → (view r2).spans ≡ (view r).spans
@@ -296,11 +296,11 @@ module _ (judges : ℕ → Judge) (most : ℕ) where
     found_waiting r2 buf2 Left w of same seen spans read = absurd w
 
     pub found_event : (r2 : Reader K G) (words : List ℕ) → IsOfRoom room r2 → SameReader r r2 → (view r2).seen ≡ (view r).seen
-        → (view r2).spans ≡ (view r).spans → (view r2).read ≡ words → Tells ((view r2).seen ++ words ∷ []) → FollowsOn judges room most p v r2 true words
+        → (view r2).spans ≡ (view r).spans → (view r2).read ≡ words → SpellLawful ((view r2).seen ++ words ∷ []) → FollowsOn judges room most p v r2 true words
     found_event r2 words of same seen spans read tells =
         let spelt : map spell bare.log ≡ (view r2).seen = bare.spelt ∙ sym seen in
         let n = read_next (version_of_reader r) p v bare.log (view r2).seen spelt bare.lawful words tells in
-        let reading : IsReading threads judges (G.start (origin room)) most (hands_of room) (version_of_reader r) p v bare.log (Some n.0) = with_next_held threads thread_laws judges (G.start (origin room)) most (hands_of room) (version_of_reader r) p v bare.log n.0 bare.reading in
+        let reading : IsReaders threads judges (G.start (origin room)) most (hands_of room) (version_of_reader r) p v bare.log (Some n.0) = with_next_held threads thread_laws judges (G.start (origin room)) most (hands_of room) (version_of_reader r) p v bare.log n.0 bare.reading in
         record {
           of = of;
           log = bare.log;
@@ -310,5 +310,5 @@ module _ (judges : ℕ → Judge) (most : ℕ) where
           holds = (read ∙ sym n.1, sym n.1);
           led = bare.led ∙ sym (ap (map ends_of) spans);
           handed_on = subst AreHandedOn (sym spans) bare.handed_on;
-          reading = subst (λ (i : ℕ). IsReading threads judges (G.start (origin room)) most (hands_of room) i p v bare.log (Some n.0)) (sym same.3) reading;
+          reading = subst (λ (i : ℕ). IsReaders threads judges (G.start (origin room)) most (hands_of room) i p v bare.log (Some n.0)) (sym same.3) reading;
         }

@@ -6,8 +6,8 @@ use Rattle.nv_replay.specs.Follow.{Judge}
 use Rattle.nv_workers.specs.declared.worker.Turn.{Turn}
 use Rattle.nv_workers.specs.declared.worker.Turn.TheVariants.{Moved, Ahead, Waiting, Done}
 use Rattle.nv_workers.specs.declared.worker.Worker.{Worker}
-use Rattle.nv_workers.specs.Workers.{IsLast}
-use Rattle.nv_workers.specs.Rounds.{CanWork, WorkedOn, CanAll, AllOn, GoneIf, both_of}
+use Rattle.nv_workers.specs.Worker.{IsLast}
+use Rattle.nv_workers.specs.inner.Rounds.{CanWork, WorkedOn, CanAll, AllOn, GoneIf, both_of}
 
 module _ (judges : ℕ → Judge) {K : Type 0} {G : Ghosts K} (room : Room K) (most : ℕ) where
   pub can_on : (old new : Worker K G) → WorkedOn judges room most old new → CanWork judges room most old → CanWork judges room most new

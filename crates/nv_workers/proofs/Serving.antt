@@ -4,12 +4,12 @@ use Rattle.std.proofs.lemmas.List.{map-append}
 use Rattle.nv_calls.specs.Calls.{Entry}
 use Rattle.nv_calls.specs.Logs.{IsLawful, Start, served}
 use Rattle.nv_calls.specs.declared.kernel.SyscallKernel.{Ghosts}
-use Rattle.nv_words.specs.Spell.{spell}
+use Rattle.nv_words.specs.Spelling.{spell}
 use Rattle.nv_room.specs.declared.view.View.{View}
 use Rattle.nv_room.specs.declared.view.Span.{Span}
 use Rattle.nv_room.specs.declared.room.Room.{Room}
 use Rattle.nv_room.specs.declared.room.Lead.{Lead}
-use Rattle.nv_room.specs.Spans.{span, grown}
+use Rattle.nv_room.specs.Spans.{span, spans_grown}
 use Rattle.nv_room.specs.Seats.{IsLeadOf, SameLead, lead_view, station_of_lead, version_of_lead, kernel_of, due_of, origin, stations_of, versions_of, hands_of}
 use Rattle.nv_threads.specs.Threads.{Proc, threads}
 use Rattle.nv_threads.proofs.ThreadLaws.{thread_laws}
@@ -17,15 +17,15 @@ use Rattle.nv_replay.specs.declared.fate.Fate.TheVariants.{Memory}
 use Rattle.nv_replay.specs.declared.fate.Fate.{Fate}
 use Rattle.nv_replay.specs.Follow.{Judge}
 use Rattle.nv_replay.specs.Hands.{has}
-use Rattle.nv_replay.specs.Sequence.{is_on}
-use Rattle.nv_replay.specs.Versions.{Running, asking_next, answered_by}
+use Rattle.nv_replay.specs.Sequence.{is_going}
+use Rattle.nv_replay.specs.Version.{Running, asking_next, became_event}
 use Rattle.nv_replay.proofs.Turning.{Waits as IsWaiting, waits}
 use Rattle.nv_workers.specs.Ends.{ends_of, AreHandedOn, HasLedFrom}
 use Rattle.nv_workers.specs.Turns.{IsServing, IsAsking}
 use Rattle.nv_workers.specs.Working.{Serves, HasEnded, LeadsOn}
 use Rattle.nv_workers.specs.declared.follows.Next.{Next}
 use Rattle.nv_workers.specs.declared.follows.Next.TheVariants.{Moved, Ahead, Waits, Leads, Hands, Leaves, Left}
-use Rattle.nv_workers.specs.LeadsOn.{AfterLead, HasPublished, IsLate, next_after}
+use Rattle.nv_workers.specs.inner.Leads.{AfterLead, HasPublished, IsLate, next_after}
 use Rattle.nv_workers.proofs.Spelt.{long_as}
 use Rattle.nv_workers.proofs.Spanned.{map_append}
 use Rattle.nv_workers.proofs.Keeping.{asking_on, leading, drops, refuses, publishes, serves_on, serves_to}
@@ -56,7 +56,7 @@ pub late_next : {K : Type 0} {G : Ghosts K} (room : Room K) (old new : Lead K G)
 late_next room old new o b next e = subst (λ (x : Next). IsLate room old new x) (sym e) (late_by room old new o b)
 
 -- the last of these spans has one event more
-pub grown_last : (xs : List Span) (s v a b : ℕ) → grown (xs ++ span s v a b ∷ []) ≡ xs ++ span s v a (b + 1) ∷ []
+pub grown_last : (xs : List Span) (s v a b : ℕ) → spans_grown (xs ++ span s v a b ∷ []) ≡ xs ++ span s v a (b + 1) ∷ []
 grown_last [] s v a b = refl
 grown_last (x ∷ []) s v a b = refl
 grown_last (x ∷ y ∷ xs) s v a b = ap (λ l. x ∷ l) (grown_last (y ∷ xs) s v a b)
@@ -65,7 +65,7 @@ module _ (judges : ℕ → Judge) where
   -- a leader with its fate
   ended_lead : {T : Type 0} (start : Start) (most : ℕ) (hands : List ℕ) (i s u : ℕ) (p : Proc) (v : Running Proc) (w : View T) (before : List Span) (from : ℕ) (log : List Entry) → map spell log ≡ w.seen
       → IsLawful log → w.spans ≡ before ++ span s u from (length w.seen) ∷ [] → w.station ≡ s → AreHandedOn before
-      → HasLedFrom threads judges start most hands i p v (map ends_of before) from log → is_on v.at.fate ≡ false → HasEnded judges start most hands i p v w
+      → HasLedFrom threads judges start most hands i p v (map ends_of before) from log → is_going v.at.fate ≡ false → HasEnded judges start most hands i p v w
   ended_lead start most hands i s u p v w before from log sp law spans at on led e =
       let long : length w.seen ≡ length log = sym (ap (λ (x : List (List ℕ)). length x) sp) ∙ long_as log in
       let told : v.led ≡ map ends_of w.spans = led.span ∙ (ap (λ (n : ℕ). map ends_of before ++ (from, n) ∷ []) (sym long)
@@ -96,11 +96,11 @@ module _ (judges : ℕ → Judge) where
   led_on : (most : ℕ) (hands : List ℕ) (i : ℕ) (p : Proc) (v new : Running Proc) (t : ℕ) (led : List (ℕ × ℕ)) (from : ℕ) (log log2 : List Entry) (start start' : Start) → start' ≡ start
       → IsAsking threads judges start most hands i p v led from log → v.asked ≡ Some t
       → log2 ≡ log ++ served start' log (threads.call v.at.process t) ∷ []
-      → new ≡ answered_by threads (served start' log (threads.call v.at.process t)) v → IsLawful log2
+      → new ≡ became_event threads (served start' log (threads.call v.at.process t)) v → IsLawful log2
       → HasLedFrom threads judges start most hands i p new led from log2
   led_on most hands i p v new t led from log log2 start start' s a k l n law =
       let T : Start → Type 0 = λ x. log2 ≡ log ++ served x log (threads.call v.at.process t) ∷ [] in
-      let N : Start → Type 0 = λ x. new ≡ answered_by threads (served x log (threads.call v.at.process t)) v in
+      let N : Start → Type 0 = λ x. new ≡ became_event threads (served x log (threads.call v.at.process t)) v in
       let l' : T start = subst T s l in
       let n' : N start = subst N s n in
       let d = publishes threads thread_laws judges start most hands i p v new t led from log a k n' (subst IsLawful l' law) in
@@ -164,7 +164,7 @@ module _ (judges : ℕ → Judge) where
         (ap (λ (x : View K). x.seen) w) (ap (λ (x : View K). x.wrote) w) (ap (λ (x : View K). x.spans) w)
 
     pub drops_lead : LeadsOn judges room most p v false l None → (new : Running Proc) → new ≡ asking_next threads most v → new.asked ≡ None
-        → is_on new.at.fate ≡ false → HasEnded judges start most hands (version_of_lead l) p new (lead_view l)
+        → is_going new.at.fate ≡ false → HasEnded judges start most hands (version_of_lead l) p new (lead_view l)
     drops_lead f new k n e =
         ended_lead start most hands (version_of_lead l) (station_of_lead l) (version_of_lead l) p new (lead_view l) f.before f.from (G.log (kernel_of l)) f.spelt f.lawful f.spans l.station_is f.handed_on
         (drops threads thread_laws judges start most hands (version_of_lead l) p v new (map ends_of f.before) f.from (G.log (kernel_of l)) f.serves k n) e
@@ -204,14 +204,14 @@ module _ (judges : ℕ → Judge) where
       -- there was no memory for it
       pub refused_lead : (new : Running Proc) → new ≡ record v { at = record v.at { fate = Some Memory } } → HasEnded judges start most hands (version_of_lead l) p new (lead_view l)
       refused_lead new k = ended_lead start most hands (version_of_lead l) (station_of_lead l) (version_of_lead l) p new (lead_view l) f.before f.from log f.spelt f.lawful f.spans l.station_is f.handed_on
-          (refuses threads thread_laws judges start most hands (version_of_lead l) p v new t led f.from log asking f.serves.1 k) (ap (λ (x : Running Proc). is_on x.at.fate) k)
+          (refuses threads thread_laws judges start most hands (version_of_lead l) p v new t led f.from log asking f.serves.1 k) (ap (λ (x : Running Proc). is_going x.at.fate) k)
 
       -- it was served and published
       module _ (l2 : Lead K G) (new : Running Proc) (same : SameLead l l2)
           (is : G.log (kernel_of l2) ≡ log ++ served (G.start (kernel_of l)) log (threads.call v.at.process t) ∷ [])
           (seen : (lead_view l2).seen ≡ (lead_view l).seen ++ spell (served (G.start (kernel_of l)) log (threads.call v.at.process t)) ∷ [])
-          (spans : (lead_view l2).spans ≡ grown (lead_view l).spans) (law : IsLawful (G.log (kernel_of l2)))
-          (k : new ≡ answered_by threads (served (G.start (kernel_of l)) log (threads.call v.at.process t)) v) where
+          (spans : (lead_view l2).spans ≡ spans_grown (lead_view l).spans) (law : IsLawful (G.log (kernel_of l2)))
+          (k : new ≡ became_event threads (served (G.start (kernel_of l)) log (threads.call v.at.process t)) v) where
         abbrev event : Entry
         event = served (G.start (kernel_of l)) log (threads.call v.at.process t)
 
@@ -222,7 +222,7 @@ module _ (judges : ℕ → Judge) where
         long_now = ap (λ (x : List (List ℕ)). length x) seen ∙ length-append (lead_view l).seen (spell event ∷ [])
 
         spans_now : (lead_view l2).spans ≡ f.before ++ span (station_of_lead l2) (version_of_lead l2) f.from (length (lead_view l2).seen) ∷ []
-        spans_now = spans ∙ (ap grown f.spans ∙ (grown_last f.before (station_of_lead l) (version_of_lead l) f.from (length (lead_view l).seen)
+        spans_now = spans ∙ (ap spans_grown f.spans ∙ (grown_last f.before (station_of_lead l) (version_of_lead l) f.from (length (lead_view l).seen)
             ∙ (λ j. f.before ++ span (sym same.2 j) (sym same.3 j) f.from (sym long_now j) ∷ [])))
 
         led_now : HasLedFrom threads judges start most hands (version_of_lead l) p new led f.from (G.log (kernel_of l2))
@@ -235,7 +235,7 @@ module _ (judges : ℕ → Judge) where
         none_asked : new.asked ≡ None
         none_asked = ap (λ (x : Running Proc). x.asked) k
 
-        ended_now : IsLeadOf room l2 → due_of l2 ≡ false → is_on new.at.fate ≡ false
+        ended_now : IsLeadOf room l2 → due_of l2 ≡ false → is_going new.at.fate ≡ false
             → IsLeadOf room l2 × (due_of l2 ≡ false) × HasEnded judges start most hands (version_of_lead l2) p new (lead_view l2)
         ended_now of due e = (
           of,
@@ -262,7 +262,7 @@ module _ (judges : ℕ → Judge) where
 
         after_by : (o : Option Fate) (b : Bool) → new.at.fate ≡ o → has hands new.at.seen ≡ b → IsLeadOf room l2 → due_of l2 ≡ false → (lead_view l2).wrote ≡ []
             → G.start (kernel_of l2) ≡ G.start (kernel_of l) → AfterLead judges room most p new l2 None (next_after o b)
-        after_by (Some x) b e h of due wrote st = ended_now of due (ap is_on e)
+        after_by (Some x) b e h of due wrote st = ended_now of due (ap is_going e)
         after_by None true e h of due wrote st = (
           leads_now true (serves_to threads thread_laws judges start most hands (version_of_lead l) p new led f.from (G.log (kernel_of l2)) led_now e none_asked grew
               (ap (has hands) (sym led_now.seen) ∙ h)) of due wrote st,

@@ -6,7 +6,7 @@ use mathlib.Core.Option.{some, some-injective, some-ne-none}
 use lib.ListN.{get_elem?}
 use Rattle.nv_room.specs.declared.view.Span.{Span}
 use Rattle.nv_room.specs.Spans.{Tiles, Rising, kept_if, of_station, of_version, Opens, Opened}
-use Rattle.nv_words.specs.Spell.{bit}
+use Rattle.nv_words.specs.Spelling.{flag_bit}
 use Rattle.nv_workers.specs.Ends.{ends_of, AreHandedOn}
 use Rattle.nv_workers.proofs.Stations.{SpanFrom, Tile}
 
@@ -221,13 +221,13 @@ handed_prefix (y ∷ prefix) x back a = handed_prefix prefix x back a.1
 
 module _ (seating : List ℕ) where
   opened_if : (x : Span) (xs : List Span) (next m : ℕ) (b : Bool) → x.handed ≡ b → (x.handed ≡ true → Opens next seating x) → next ≤ m
-      → ((n : ℕ) → n ≡ next + bit b → n ≤ m → (j : ℕ) × (y : Span) × (get_elem? xs j ≡ some y) × Opens m seating y)
+      → ((n : ℕ) → n ≡ next + flag_bit b → n ≤ m → (j : ℕ) × (y : Span) × (get_elem? xs j ≡ some y) × Opens m seating y)
       → (j : ℕ) × (y : Span) × (get_elem? (x ∷ xs) j ≡ some y) × Opens m seating y
   opened_if x xs next m true e o l ih = elim (cases_lt next m) [
-    | inl k ↦ (let r = ih (next + bit true) refl (omega arith) in (suc r.0, r.1, r.2, r.3))
+    | inl k ↦ (let r = ih (next + flag_bit true) refl (omega arith) in (suc r.0, r.1, r.2, r.3))
     | inr k ↦ (let q : next ≡ m = omega arith in (0, x, refl, subst (λ (n : ℕ). Opens n seating x) q (o e)))
   ]
-  opened_if x xs next m false e o l ih = let r = ih (next + bit false) refl (omega arith) in (suc r.0, r.1, r.2, r.3)
+  opened_if x xs next m false e o l ih = let r = ih (next + flag_bit false) refl (omega arith) in (suc r.0, r.1, r.2, r.3)
 
   -- each later station was opened by a span
   pub opened_at : (xs : List Span) (next m : ℕ) → Opened next seating xs → next ≤ m → m < length seating
@@ -236,16 +236,16 @@ module _ (seating : List ℕ) where
   opened_at (x ∷ xs) next m o l b = opened_if x xs next m x.handed refl o.0 l
       (λ n e k. opened_at xs n m (subst (λ (z : ℕ). Opened z seating xs) (sym e) o.1) k b)
 
-  none_if : (x : Span) (next : ℕ) (b : Bool) → x.handed ≡ b → next ≤ x.station → (x.handed ≡ true → Opens next seating x) → next + bit x.handed ≡ next
+  none_if : (x : Span) (next : ℕ) (b : Bool) → x.handed ≡ b → next ≤ x.station → (x.handed ≡ true → Opens next seating x) → next + flag_bit x.handed ≡ next
   none_if x next true e l o = let t = taken_at next seating x.station x.version (o e).0.has in absurd (let u = t.0 in omega arith)
-  none_if x next false e l o = let z : bit x.handed ≡ bit false = ap bit e in omega (arith, z)
+  none_if x next false e l o = let z : flag_bit x.handed ≡ flag_bit false = ap flag_bit e in omega (arith, z)
 
   -- spans of no open station open none
   pub none_opened : (xs : List Span) (next k : ℕ) → Rising k xs → next ≤ k → Opened next seating xs → next ≡ length seating
   none_opened [] next k r l o = o
   none_opened (x ∷ xs) next k r l o =
       let lx = r.0 in
-      let e : next + bit x.handed ≡ next = none_if x next x.handed refl (omega arith) o.0 in
+      let e : next + flag_bit x.handed ≡ next = none_if x next x.handed refl (omega arith) o.0 in
       none_opened xs next (x.station + 1) r.1 (omega arith) (subst (λ (z : ℕ). Opened z seating xs) e o.1)
 
   module _ (versions : ℕ) (spans : List Span) (first : (k : ℕ) → k < versions → get_elem? seating k ≡ some k) (opened : Opened versions seating spans) where

@@ -8,7 +8,7 @@ use Rattle.nv_replay.specs.Follow.{Follower, Judge, fresh, IsInStep, is_exited}
 use Rattle.nv_replay.specs.Lead.{Leader}
 use Rattle.nv_replay.specs.Tracks.{track_next}
 use Rattle.nv_replay.specs.Hands.{is_handed}
-use Rattle.nv_replay.specs.Sequence.{is_on}
+use Rattle.nv_replay.specs.Sequence.{is_going}
 use Rattle.nv_replay.specs.Monitor.{Part, Run, after_lead, tracked_by, leads_on}
 
 -- one station's spans lead from x to y
@@ -35,7 +35,7 @@ module _ {P : Type 0} (g : Behaviour P) (judges : ℕ → Judge) (start : Start)
     pub at : Follower P
     pub steps : ℕ
     pub reach : stage (track_next g (judges i) v.led read) steps (fresh v.process) ≡ at
-    pub ended : is_on at.fate ≡ false
+    pub ended : is_going at.fate ≡ false
 
   -- station k's seat led: where it took the lead, its version was in step with the whole log
   pub record LedBy (k i : ℕ) (v : Part P) : Type 0 where

@@ -7,15 +7,15 @@ use Rattle.nv_room.specs.declared.room.Lead.{Lead}
 use Rattle.nv_room.specs.Seats.{view, lead_view}
 use Rattle.nv_threads.specs.Threads.{Proc}
 use Rattle.nv_replay.specs.Follow.{Judge}
-use Rattle.nv_replay.specs.Versions.{Running}
+use Rattle.nv_replay.specs.Version.{Running}
 use Rattle.nv_workers.specs.declared.follows.Next.{Next}
 use Rattle.nv_workers.specs.declared.follows.Next.TheVariants.{Moved, Ahead, Waits, Leads, Hands, Leaves, Left}
 use Rattle.nv_workers.specs.declared.worker.Seat.{Seat}
 use Rattle.nv_workers.specs.declared.worker.Seat.TheVariants.{Reading, Leading, Gone, Moving}
 use Rattle.nv_workers.specs.Follows.{AfterTurn, HasGrown, IsIdle}
-use Rattle.nv_workers.specs.LeadsOn.{AfterLead, HasPublished, IsLate}
-use Rattle.nv_workers.specs.Workers.{IsGone, TookLead}
-use Rattle.nv_workers.specs.Stepping.{Reads, AfterStep, StepTells}
+use Rattle.nv_workers.specs.inner.Leads.{AfterLead, HasPublished, IsLate}
+use Rattle.nv_workers.specs.Worker.{IsGone, TookLead}
+use Rattle.nv_workers.specs.inner.Stepping.{IsReadingSeat, AfterStep, StepTells}
 use Rattle.nv_workers.proofs.Serving.{leads_fate}
 
 module _ (judges : ℕ → Judge) {K : Type 0} {G : Ghosts K} (room : Room K) (most : ℕ) (p : Proc) (v : Running Proc) where
@@ -50,7 +50,7 @@ module _ (judges : ℕ → Judge) {K : Type 0} {G : Ghosts K} (room : Room K) (m
   tells_lead old l l2 asked asked2 Left a published late = absurd a
 
 module _ {K : Type 0} {G : Ghosts K} where
-  pub took_from : (s s2 t : Seat K G) → Reads s → TookLead s2 t → TookLead s t
+  pub took_from : (s s2 t : Seat K G) → IsReadingSeat s → TookLead s2 t → TookLead s t
   took_from (Reading r held) (Reading r2 held2) (Leading l asked) a b = tt
   took_from (Reading r held) (Reading r2 held2) (Reading r3 held3) a b = absurd b
   took_from (Reading r held) (Reading r2 held2) (Gone l) a b = absurd b

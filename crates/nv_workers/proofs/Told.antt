@@ -14,11 +14,11 @@ use Rattle.nv_replay.specs.Follow.{Judge, fresh, is_exited}
 use Rattle.nv_replay.specs.Lead.{Leader, is_cut, cut_of}
 use Rattle.nv_replay.specs.Tracks.{track_next, track}
 use Rattle.nv_replay.specs.Hands.{has, is_handed, next_or_hand, lead_to_hand}
-use Rattle.nv_replay.specs.Sequence.{Account, is_on, cuts_of}
-use Rattle.nv_replay.specs.Monitor.{Part, led_line, tracked_by, line_of, lines_of, sequence}
+use Rattle.nv_replay.specs.Sequence.{Account, is_going, cuts_of}
+use Rattle.nv_replay.specs.Monitor.{Part, led_line, tracked_by, told_standing, lines_of, sequence}
 use Rattle.nv_replay.specs.Covers.{AreEnded, Covers}
-use Rattle.nv_replay.specs.Versions.{Running, leader_of, standing_of, process_of}
-use Rattle.nv_replay.specs.Accounts.{AreFresh}
+use Rattle.nv_replay.specs.Version.{Running, leader_of, standing_of, process_of}
+use Rattle.nv_replay.specs.Account.{AreFresh}
 use Rattle.nv_replay.proofs.Settled.{Reaches}
 use Rattle.nv_replay.proofs.Numbers.{some_at, map_at, ended_not_handed, eq_same}
 use Rattle.nv_replay.proofs.Falling.{within}
@@ -31,8 +31,8 @@ use Rattle.nv_replay.proofs.Covering.{covers}
 use Rattle.nv_replay.proofs.Agreeing.{survivors}
 use Rattle.nv_room.specs.declared.view.Span.{Span}
 use Rattle.nv_room.specs.Spans.{Rising, of_station, of_version, Opened, Opens as Opens'}
-use Rattle.nv_words.specs.Spell.{bit}
-use Rattle.nv_workers.specs.Ends.{IsCutOf, ends_of, AreHandedOn, Leaving, IsSpelling, spelt, IsFinished, tracked, begun, TakesLead, HandedOver, HasLedFrom, IsDroppedAt, HasFollowed, HasLeft, IsDone, IsAccount}
+use Rattle.nv_words.specs.Spelling.{flag_bit}
+use Rattle.nv_workers.specs.Ends.{IsCutOf, ends_of, AreHandedOn, Leaving, IsSpelling, spelt, IsFinished, version_tracked, leader_begun, TakesLead, HandedOver, HasLedFrom, IsDroppedAt, HasFollowed, LeftWith, HasRunAll, IsAccount}
 use Rattle.nv_workers.proofs.Prefixes.{with_next, take_within}
 use Rattle.nv_workers.proofs.Keeping.{reaches, split_last, hands_planned}
 use Rattle.nv_workers.proofs.Stations.{WentBy, LedBy}
@@ -72,7 +72,7 @@ untold (Some v) = untold_by v.leading where
 module _ {P : Type 0} (g : Behaviour P) (laws : IsProcess g) (judges : ℕ → Judge) (start : Start) (most : ℕ) (hands : List ℕ) (fits : Entry → Type 0) (spell : Entry → List ℕ)
     (sp : IsSpelling fits spell) (olds news : List (Running P)) (h : List Entry) (left : ℕ → Leaving) (fin : IsFinished spell h (length news) left)
     (long : length news ≡ length olds) (fit : (k : ℕ) (e : Entry) → slice_get h k ≡ Some e → fits e)
-    (done : (k : ℕ) (old new : Running P) → slice_get olds k ≡ Some old → slice_get news k ≡ Some new → IsDone g judges start most hands fits spell k old.at.process new (left k)) where
+    (done : (k : ℕ) (old new : Running P) → slice_get olds k ≡ Some old → slice_get news k ≡ Some new → HasRunAll g judges start most hands fits spell k old.at.process new (left k)) where
   abbrev cuts : ℕ → Option ℕ
   cuts = cuts_of (map standing_of news)
 
@@ -106,7 +106,7 @@ module _ {P : Type 0} (g : Behaviour P) (laws : IsProcess g) (judges : ℕ → J
     new : Running P
     at_old : slice_get olds i ≡ Some old
     at_new : slice_get news i ≡ Some new
-    is : IsDone g judges start most hands fits spell i old.at.process new (left i)
+    is : HasRunAll g judges start most hands fits spell i old.at.process new (left i)
 
   ran : (i : ℕ) → i < length news → Ran i
   ran i l =
@@ -210,7 +210,7 @@ module _ {P : Type 0} (g : Behaviour P) (laws : IsProcess g) (judges : ℕ → J
     abbrev p : P
     p = r.old.at.process
 
-    no_leader : HasLeft g judges start most hands fits spell i p r.new (left i) → ⊥
+    no_leader : LeftWith g judges start most hands fits spell i p r.new (left i) → ⊥
     no_leader d =
         let e : of_version i fin.spans ≡ d.prefix ++ d.last ∷ [] = sym (fin.led i (is_version k l)) ∙ d.spans in
         let a : get_elem? (of_version i fin.spans) (length d.prefix) ≡ some d.last = ap (λ (z : List Span). get_elem? z (length d.prefix)) e ∙ after_at d.prefix [] d.last in
@@ -294,7 +294,7 @@ module _ {P : Type 0} (g : Behaviour P) (laws : IsProcess g) (judges : ℕ → J
       out : Goal led
       over : is_handed hands out.from out.end ≡ x.handed
       line : tells (suc k) iv ≡ told_by g judges start most cuts hands h own total who tells (record { process = pv; led = led; told = None })
-          (tracked g judges iv pv led (take out.from out.log)) out.end out.from x.handed
+          (version_tracked g judges iv pv led (take out.from out.log)) out.end out.from x.handed
 
     seen_to : (to : ℕ) → to ≤ length (left iv).seen → to ≤ rv.new.at.seen
     seen_to to m = let c = rv.is.count in omega arith
@@ -313,8 +313,8 @@ module _ {P : Type 0} (g : Behaviour P) (laws : IsProcess g) (judges : ℕ → J
         let T : List Entry → Type 0 = λ y. TakesLead g judges iv pv parts y in
         let t : T (take x.from log) = subst T (sym tk) d.takes in
         let end : Leader P = record { process = d.process; log = log; fate = None } in
-        let lead : lead_to_hand g start most (cuts iv) hands (length (take x.from log)) (begun g judges iv pv parts (take x.from log)) ≡ end =
-        (λ j. lead_to_hand g start most (cuts iv) hands (long_from j) (begun g judges iv pv parts (tk j))) ∙ d.lead (cuts iv) (cut_above iv x.to rv.new rv.at_new (seen_to x.to w)) in
+        let lead : lead_to_hand g start most (cuts iv) hands (length (take x.from log)) (leader_begun g judges iv pv parts (take x.from log)) ≡ end =
+        (λ j. lead_to_hand g start most (cuts iv) hands (long_from j) (leader_begun g judges iv pv parts (tk j))) ∙ d.lead (cuts iv) (cut_above iv x.to rv.new rv.at_new (seen_to x.to w)) in
         let over : is_handed hands x.from end ≡ true = hands_planned hands x.from end refl (omega arith) (ap (has hands) long_log ∙ d.planned) in
         let o : Goal parts = record {
           from = x.from;
@@ -335,11 +335,11 @@ module _ {P : Type 0} (g : Behaviour P) (laws : IsProcess g) (judges : ℕ → J
           out = o;
           over = over ∙ sym hd;
           line = none ∙ ap (told_by g judges start most cuts hands h own total who tells (record { process = pv; led = parts; told = None })
-              (tracked g judges iv pv parts (take x.from log)) end x.from) (sym hd);
+              (version_tracked g judges iv pv parts (take x.from log)) end x.from) (sym hd);
         }
 
     -- it ended as the leader here
-    ended_out : (d : HasLeft g judges start most hands fits spell iv pv rv.new (left iv)) → d.prefix ≡ before → d.last ≡ x → tells (suc k) iv ≡ Some (standing_of rv.new) → Out parts
+    ended_out : (d : LeftWith g judges start most hands fits spell iv pv rv.new (left iv)) → d.prefix ≡ before → d.last ≡ x → tells (suc k) iv ≡ Some (standing_of rv.new) → Out parts
     ended_out d fe le told =
         let f = fin.prefix iv (is_version k l) in
         let seen : List Entry = (left iv).seen in
@@ -353,16 +353,16 @@ module _ {P : Type 0} (g : Behaviour P) (laws : IsProcess g) (judges : ℕ → J
         let t = s.takes in
         let long_from : length (take x.from seen) ≡ x.from = length_take seen x.from s.within in
         let end : Leader P = leader_of v seen in
-        let ended : is_on v.at.fate ≡ false = rv.is.ended in
+        let ended : is_going v.at.fate ≡ false = rv.is.ended in
         let su = suits_end v.at.fate v.at.seen in
         let c : IsCutOf (cuts iv) v.at.fate (length seen) = (let e = cut_is iv v rv.at_new in record {
           below = λ j m. ap (λ (y : Option ℕ). is_cut y j) e ∙ su.below j (let n = s.seen in omega arith);
           end = λ z. e ∙ ap (cut_of v.at.fate) s.seen;
         }) in
-        let rc = reaches (next_or_hand g start most (cuts iv) hands x.from) (begun g judges iv pv parts (take x.from seen)) end (s.stage (cuts iv) c) in
-        let lead : lead_to_hand g start most (cuts iv) hands (length (take x.from seen)) (begun g judges iv pv parts (take x.from seen)) ≡ end =
-        ap (λ (n : ℕ). lead_to_hand g start most (cuts iv) hands n (begun g judges iv pv parts (take x.from seen))) long_from
-        ∙ sym (hand_is g start most (cuts iv) hands x.from laws (begun g judges iv pv parts (take x.from seen)) end rc (ended_rests g start most (cuts iv) hands x.from end ended)) in
+        let rc = reaches (next_or_hand g start most (cuts iv) hands x.from) (leader_begun g judges iv pv parts (take x.from seen)) end (s.stage (cuts iv) c) in
+        let lead : lead_to_hand g start most (cuts iv) hands (length (take x.from seen)) (leader_begun g judges iv pv parts (take x.from seen)) ≡ end =
+        ap (λ (n : ℕ). lead_to_hand g start most (cuts iv) hands n (leader_begun g judges iv pv parts (take x.from seen))) long_from
+        ∙ sym (hand_is g start most (cuts iv) hands x.from laws (leader_begun g judges iv pv parts (take x.from seen)) end rc (ended_rests g start most (cuts iv) hands x.from end ended)) in
         let dead : is_exited v.at.fate ≡ true → live_after seen ≡ [] = λ z. ap live_after (sym (ap (λ (m : ℕ). take m seen) s.seen ∙ take_all seen)) ∙ s.in_step.exited z in
         let o : Goal parts = record {
           from = x.from;
@@ -379,13 +379,13 @@ module _ {P : Type 0} (g : Behaviour P) (laws : IsProcess g) (judges : ℕ → J
           end_log = refl;
           exited = dead;
         } in
-        let line : standing_of v ≡ led_line (record { process = pv; led = parts; told = None }) (tracked g judges iv pv parts (take x.from seen)) x.from end =
+        let line : standing_of v ≡ led_line (record { process = pv; led = parts; told = None }) (version_tracked g judges iv pv parts (take x.from seen)) x.from end =
         λ j. record { fate = v.at.fate; seen = s.seen j; led = s.span j; rewrites = s.rewrites j } in
         record {
           out = o;
           over = ended_not_handed hands x.from end ended ∙ sym hd;
           line = told ∙ (ap Some line ∙ ap (told_by g judges start most cuts hands h own total who tells (record { process = pv; led = parts; told = None })
-              (tracked g judges iv pv parts (take x.from seen)) end x.from) (sym hd));
+              (version_tracked g judges iv pv parts (take x.from seen)) end x.from) (sym hd));
         }
 
     -- what is told after the station
@@ -402,12 +402,12 @@ module _ {P : Type 0} (g : Behaviour P) (laws : IsProcess g) (judges : ℕ → J
         handed_out over hd (tells_is (nat_le (suc k) (left iv).station) refl ∙ told_none (nat_le (suc k) (left iv).station) d.idle)
 
     -- the span that it ended with as the leader
-    last_at : (d : HasLeft g judges start most hands fits spell iv pv rv.new (left iv)) → (j : ℕ) × (get_elem? fin.spans j ≡ some d.last)
+    last_at : (d : LeftWith g judges start most hands fits spell iv pv rv.new (left iv)) → (j : ℕ) × (get_elem? fin.spans j ≡ some d.last)
     last_at d =
         let e : of_version iv fin.spans ≡ d.prefix ++ d.last ∷ [] = sym (fin.led iv (is_version k l)) ∙ d.spans in
         from_version iv fin.spans (length d.prefix) d.last (ap (λ (z : List Span). get_elem? z (length d.prefix)) e ∙ after_at d.prefix [] d.last)
 
-    left_led : HasLeft g judges start most hands fits spell iv pv rv.new (left iv) → Out parts
+    left_led : LeftWith g judges start most hands fits spell iv pv rv.new (left iv) → Out parts
     left_led d = elim (split_last d.prefix before later d.last x (sym d.spans ∙ split)) [
       | inl (fe, le) ↦ (
           let s : (left iv).station ≡ k = sym d.station ∙ (ap (λ (y : Span). y.station) le ∙ at) in
@@ -564,21 +564,21 @@ module _ {P : Type 0} (g : Behaviour P) (laws : IsProcess g) (judges : ℕ → J
     led_tells : TellsOn g judges start most cuts hands h own total who tells (ran (who k) (is_version k l)).old.at.process k (inr here_out.out)
     led_tells = (
       here_out.line ∙ ap (told_by g judges start most cuts hands h own total who tells (seat g judges start most cuts hands h own total who tells (ran (who k) (is_version k l)).old.at.process k)
-          (tracked g judges (who k) (ran (who k) (is_version k l)).old.at.process (below k (who k)) (take here_out.out.from here_out.out.log)) here_out.out.end here_out.out.from) (sym here_out.over),
+          (version_tracked g judges (who k) (ran (who k) (is_version k l)).old.at.process (below k (who k)) (take here_out.out.from here_out.out.log)) here_out.out.end here_out.out.from) (sym here_out.over),
       λ j q. other_told k j l q,
     )
 
     led_step : (n c : ℕ) (b : Bool) → x.handed ≡ b → (x.handed ≡ true → Opens' (k + suc c) fin.seating x)
-        → OpensHere n (k + 1) (c + bit b) → OpensHere (suc n) k (suc c)
+        → OpensHere n (k + 1) (c + flag_bit b) → OpensHere (suc n) k (suc c)
     led_step n c true hd o rec =
         let w : who (k + suc c) ≡ who k = who_is fin.seating (k + suc c) x.version (o hd).1 ∙ version k l ys xs x all at one_here in
-        let z : c + bit true ≡ suc c = omega arith in (
+        let z : c + flag_bit true ≡ suc c = omega arith in (
           (ran (who k) (is_version k l)).old.at.process,
           process_at k l,
           (inr here_out.out, led_tells, inl (here_out.over ∙ hd, w, subst (λ (y : ℕ). OpensHere n (k + 1) y) z rec)),
         )
     led_step n c false hd o rec =
-        let z : c + bit false ≡ c = omega arith in (
+        let z : c + flag_bit false ≡ c = omega arith in (
           (ran (who k) (is_version k l)).old.at.process,
           process_at k l,
           (inr here_out.out, led_tells, inr (here_out.over ∙ hd, subst (λ (y : ℕ). OpensHere n (k + 1) y) z rec)),
@@ -612,10 +612,10 @@ module _ {P : Type 0} (g : Behaviour P) (laws : IsProcess g) (judges : ℕ → J
         let l : k < total = omega arith in
         let a = rise.0 in
         let at : x.station ≡ k = omega arith in
-        let j : k + suc c + bit x.handed ≡ k + 1 + (c + bit x.handed) = omega arith in
+        let j : k + suc c + flag_bit x.handed ≡ k + 1 + (c + flag_bit x.handed) = omega arith in
         let low' : AreBelow (k + 1) (ys ++ x ∷ []) = below_last (k + 1) ys x (below_more k ys low) (omega arith) in
         let rise' : Rising (k + 1) xs = subst (λ (z : ℕ). Rising (z + 1) xs) at rise.1 in
-        let r = opens n (k + 1) (c + bit x.handed) (ys ++ x ∷ []) xs (all ∙ sym (append_assoc ys (x ∷ []) xs)) low' rise' (subst (λ (z : ℕ). Opened z fin.seating xs) j o.1) (omega arith)
+        let r = opens n (k + 1) (c + flag_bit x.handed) (ys ++ x ∷ []) xs (all ∙ sym (append_assoc ys (x ∷ []) xs)) low' rise' (subst (λ (z : ℕ). Opened z fin.seating xs) j o.1) (omega arith)
         (led_after k l ys xs x all low at rise.1 e) in
         (led_step k l ys xs x all low at rise.1 e n c x.handed refl o.0 r.0, r.1))
   ]
@@ -627,21 +627,21 @@ module _ {P : Type 0} (g : Behaviour P) (laws : IsProcess g) (judges : ℕ → J
   map_long (x ∷ xs) = ap suc (map_long xs)
 
   lines_by : (i : ℕ) (vs : List (Part P)) (us : List (Running P)) → length vs ≡ length us
-      → ((k : ℕ) (v : Part P) (u : Running P) → slice_get vs k ≡ Some v → slice_get us k ≡ Some u → line_of g judges start most cuts hands h (i + k) v v.told ≡ standing_of u)
+      → ((k : ℕ) (v : Part P) (u : Running P) → slice_get vs k ≡ Some v → slice_get us k ≡ Some u → told_standing g judges start most cuts hands h (i + k) v v.told ≡ standing_of u)
       → lines_of g judges start most cuts hands h i vs ≡ map standing_of us
   lines_by i [] [] m f = refl
   lines_by i [] (u ∷ us) m f = absurd (omega arith)
   lines_by i (v ∷ vs) [] m f = absurd (omega arith)
   lines_by i (v ∷ vs) (u ∷ us) m f =
       let z : i + 0 ≡ i = omega arith in
-      let one : line_of g judges start most cuts hands h i v v.told ≡ standing_of u = subst (λ (j : ℕ). line_of g judges start most cuts hands h j v v.told ≡ standing_of u) z (f 0 v u refl refl) in
+      let one : told_standing g judges start most cuts hands h i v v.told ≡ standing_of u = subst (λ (j : ℕ). told_standing g judges start most cuts hands h j v v.told ≡ standing_of u) z (f 0 v u refl refl) in
       let rest = lines_by (i + 1) vs us (omega arith) (λ k w x a b.
-      let y : i + suc k ≡ i + 1 + k = omega arith in subst (λ (j : ℕ). line_of g judges start most cuts hands h j w w.told ≡ standing_of x) y (f (suc k) w x a b)) in
+      let y : i + suc k ≡ i + 1 + k = omega arith in subst (λ (j : ℕ). told_standing g judges start most cuts hands h j w w.told ≡ standing_of x) y (f (suc k) w x a b)) in
       λ j. one j ∷ rest j
 
   -- the line of a version
   line_at : (i : ℕ) (l : i < length news) (v : Part P) → v.process ≡ (ran i l).old.at.process → v.led ≡ (ran i l).new.led → v.told ≡ tells total i
-      → line_of g judges start most cuts hands h i v v.told ≡ standing_of (ran i l).new
+      → told_standing g judges start most cuts hands h i v v.told ≡ standing_of (ran i l).new
   line_at i l v vp vl vt =
       let x = ran i l in
       let p : P = x.old.at.process in
@@ -650,19 +650,19 @@ module _ {P : Type 0} (g : Behaviour P) (laws : IsProcess g) (judges : ℕ → J
         | inl d ↦ (
             let none : v.told ≡ None = vt ∙ (T true ∙ ap (λ (y : Bool). told_if x.new y (nat_le total (left i).station)) d.idle) in
             let f = fell i l p x.new d in
-            let a : x.new.at ≡ tracked g judges i p x.new.led h = subst (λ (y : List Entry). x.new.at ≡ tracked g judges i p x.new.led y) (sym f.prefix)
+            let a : x.new.at ≡ version_tracked g judges i p x.new.led h = subst (λ (y : List Entry). x.new.at ≡ version_tracked g judges i p x.new.led y) (sym f.prefix)
             (track_ended g laws (judges i) x.new.led p x.new.at f.read f.rest f.reach x.is.ended) in
             let b : tracked_by g judges start most cuts hands h i v ≡ x.new.at = (λ j. track g (judges i) (vl j) h (fresh (vp j))) ∙ sym a in
-            ap (line_of g judges start most cuts hands h i v) none ∙ (λ j. record { fate = (b j).fate; seen = (b j).seen; led = vl j; rewrites = (b j).rewrites }))
+            ap (told_standing g judges start most cuts hands h i v) none ∙ (λ j. record { fate = (b j).fate; seen = (b j).seen; led = vl j; rewrites = (b j).rewrites }))
         | inr d ↦ (
             let at = (fin.last i l).has in
             let m = place_below fin.seating (left i).station i at in
             let b : nat_le total (left i).station ≡ false = grind (arith, nat_tests) in
             let told : v.told ≡ Some (standing_of x.new) = vt ∙ (T true ∙ (λ j. told_if x.new (d.led.leading j) (b j))) in
-            ap (line_of g judges start most cuts hands h i v) told)
+            ap (told_standing g judges start most cuts hands h i v) told)
       ]
 
-  all_ended : (us : List (Running P)) → ((k : ℕ) (u : Running P) → slice_get us k ≡ Some u → is_on u.at.fate ≡ false) → AreEnded (map standing_of us)
+  all_ended : (us : List (Running P)) → ((k : ℕ) (u : Running P) → slice_get us k ≡ Some u → is_going u.at.fate ≡ false) → AreEnded (map standing_of us)
   all_ended [] f = tt
   all_ended (u ∷ us) f = (f 0 u refl, all_ended us (λ k w q. f (suc k) w q))
 
@@ -683,7 +683,7 @@ module _ {P : Type 0} (g : Behaviour P) (laws : IsProcess g) (judges : ℕ → J
       let xu : x.new ≡ u = same_Some x.new u (sym x.at_new ∙ b) in
       let led : w.0.led ≡ x.new.led = w.3 ∙ (o.1 k ∙ (ap (map ends_of) (sym (fin.led k l)) ∙ sym x.is.spans)) in
       let line = line_at k l w.0 w.2 led w.4 in
-      (λ j. line_of g judges start most cuts hands h (zk j) (sym vw j) (sym vw j).told) ∙ (line ∙ ap standing_of xu)) in
+      (λ j. told_standing g judges start most cuts hands h (zk j) (sym vw j) (sym vw j).told) ∙ (line ∙ ap standing_of xu)) in
       let same : record { log = h; lines = map standing_of news } ≡ record { log = h; lines = lines_of g judges start most cuts hands h 0 r.last.parts } = ap (λ (x : List Standing). record { log = h; lines = x }) (sym lines) in
       ◌∙◌ {b = record { log = h; lines = lines_of g judges start most cuts hands h 0 r.last.parts }} same r.told
 
@@ -694,7 +694,7 @@ module _ {P : Type 0} (g : Behaviour P) (laws : IsProcess g) (judges : ℕ → J
         settled = all_ended news (λ k u q.
             let x = ran k (within news k u q) in
             let xu : x.new ≡ u = same_Some x.new u (sym x.at_new ∙ q) in
-            subst (λ (y : Running P). is_on y.at.fate ≡ false) xu x.is.ended);
+            subst (λ (y : Running P). is_going y.at.fate ≡ false) xu x.is.ended);
         covers = subst (λ (x : Account). Covers x.lines x.log) (sym e) (covers g judges start most cuts hands ps);
         survivor = survivors g laws start most hands judges olds (map standing_of news) h fresh e law legal;
       }

@@ -5,20 +5,20 @@ use lib.ListN.{get_elem?}
 use Rattle.nv_calls.specs.Calls.{Entry}
 use Rattle.nv_calls.specs.Logs.{Start}
 use Rattle.nv_room.specs.declared.view.Span.{Span}
-use Rattle.nv_room.specs.Spans.{Tiles, Rising, of_version, IsLast, Opened}
+use Rattle.nv_room.specs.Spans.{Tiles, Rising, of_version, IsLastStation, Opened}
 use Rattle.nv_threads.specs.Behaviours.{Behaviour}
 use Rattle.nv_replay.specs.declared.fate.Fate.{Fate}
 use Rattle.nv_replay.specs.Settling.{stage}
 use Rattle.nv_replay.specs.Follow.{Follower, Judge, fresh, IsInStep}
 use Rattle.nv_replay.specs.Lead.{Leader, is_cut, cut_of}
 use Rattle.nv_replay.specs.Tracks.{track_next, track}
-use Rattle.nv_replay.specs.Hands.{has, above, next_or_hand, lead_to_hand}
-use Rattle.nv_replay.specs.Sequence.{is_on, cuts_of}
+use Rattle.nv_replay.specs.Hands.{has, count_above, next_or_hand, lead_to_hand}
+use Rattle.nv_replay.specs.Sequence.{is_going, cuts_of}
 use Rattle.nv_replay.specs.Monitor.{sequence}
 use Rattle.nv_replay.specs.Spans.{EndBy}
 use Rattle.nv_replay.specs.Covers.{AreEnded, Covers}
 use Rattle.nv_replay.specs.Survivors.{SurvivorsAgree}
-use Rattle.nv_replay.specs.Versions.{Running, leader_of, standing_of, process_of}
+use Rattle.nv_replay.specs.Version.{Running, leader_of, standing_of, process_of}
 
 -- a state after any number of steps
 pub record IsStage {S : Type 0} (step : S → S) (s t : S) : Type 0 where
@@ -28,7 +28,7 @@ pub record IsStage {S : Type 0} (step : S → S) (s t : S) : Type 0 where
 -- a cut at which a leader with this end and so long a log can have come so far
 pub record IsCutOf (c : Option ℕ) (f : Option Fate) (n : ℕ) : Type 0 where
   pub below : (k : ℕ) → k < n → is_cut c k ≡ false
-  pub end : is_on f ≡ false → c ≡ cut_of f n
+  pub end : is_going f ≡ false → c ≡ cut_of f n
 
 abbrev pub ends_of : Span → ℕ × ℕ
 ends_of x = (x.from, x.to)
@@ -67,24 +67,24 @@ pub record IsFinished (spell : Entry → List ℕ) (h : List Entry) (versions : 
   pub first : (k : ℕ) → k < versions → get_elem? seating k ≡ some k
   pub opened : Opened versions seating spans
   pub led : (k : ℕ) → k < versions → (left k).spans ≡ of_version k spans
-  pub last : (k : ℕ) → k < versions → IsLast seating k (left k).station
+  pub last : (k : ℕ) → k < versions → IsLastStation seating k (left k).station
   pub before : (k : ℕ) → k < versions → (j : ℕ) (x : Span) → get_elem? spans j ≡ some x → (left k).station < x.station
       → (length (left k).seen ≤ x.from) × (0 < length (left k).words → length (left k).seen < x.from)
 
 module _ {P : Type 0} (g : Behaviour P) (judges : ℕ → Judge) where
   -- version i, fresh with the process p, over this log, of which it led these parts
-  abbrev pub tracked : ℕ → P → List (ℕ × ℕ) → List Entry → Follower P
-  tracked i p led log = track g (judges i) led log (fresh p)
+  abbrev pub version_tracked : ℕ → P → List (ℕ × ℕ) → List Entry → Follower P
+  version_tracked i p led log = track g (judges i) led log (fresh p)
 
   -- it takes the lead of this log, in step with the whole of it
   pub record TakesLead (i : ℕ) (p : P) (led : List (ℕ × ℕ)) (log : List Entry) : Type 0 where
-    pub on : (tracked i p led log).fate ≡ None
-    pub seen : (tracked i p led log).seen ≡ length log
-    pub in_step : IsInStep g log (tracked i p led log)
+    pub on : (version_tracked i p led log).fate ≡ None
+    pub seen : (version_tracked i p led log).seen ≡ length log
+    pub in_step : IsInStep g log (version_tracked i p led log)
 
   -- version i where it takes the lead of this log
-  abbrev pub begun : ℕ → P → List (ℕ × ℕ) → List Entry → Leader P
-  begun i p led log = record { process = (tracked i p led log).process; log = log; fate = None }
+  abbrev pub leader_begun : ℕ → P → List (ℕ × ℕ) → List Entry → Leader P
+  leader_begun i p led log = record { process = (version_tracked i p led log).process; log = log; fate = None }
 
 module _ {P : Type 0} (g : Behaviour P) (judges : ℕ → Judge) (replies : Start) (most : ℕ) (hands : List ℕ) where
   -- after the parts that it led before, it led the log from one length to another, and there it gave up the lead
@@ -95,7 +95,7 @@ module _ {P : Type 0} (g : Behaviour P) (judges : ℕ → Judge) (replies : Star
     pub takes : TakesLead g judges i p led (take from log)
     pub process : P
     pub lead : (c : Option ℕ) → IsCutOf c None to
-        → lead_to_hand g replies most c hands from (begun g judges i p led (take from log)) ≡ record { process = process; log = take to log; fate = None }
+        → lead_to_hand g replies most c hands from (leader_begun g judges i p led (take from log)) ≡ record { process = process; log = take to log; fate = None }
 
   -- so it led each of these parts
   abbrev pub AreHanded : ℕ → P → List (ℕ × ℕ) → List Entry → Type 0
@@ -107,12 +107,12 @@ module _ {P : Type 0} (g : Behaviour P) (judges : ℕ → Judge) (replies : Star
     pub index : v.index ≡ i
     pub handed : AreHanded i p led log
     pub past : EndBy from led
-    pub few : length led + above hands from ≤ length hands
+    pub few : length led + count_above hands from ≤ length hands
     pub within : from ≤ length log
     pub takes : TakesLead g judges i p led (take from log)
     pub stage : (c : Option ℕ) → IsCutOf c v.at.fate (length log)
-        → IsStage (next_or_hand g replies most c hands from) (begun g judges i p led (take from log)) (leader_of v log)
-    pub rewrites : v.at.rewrites ≡ (tracked g judges i p led (take from log)).rewrites
+        → IsStage (next_or_hand g replies most c hands from) (leader_begun g judges i p led (take from log)) (leader_of v log)
+    pub rewrites : v.at.rewrites ≡ (version_tracked g judges i p led (take from log)).rewrites
     pub seen : v.at.seen ≡ length log
     pub span : v.led ≡ led ++ (from, length log) ∷ []
     pub leading : v.leading ≡ true
@@ -134,7 +134,7 @@ module _ {P : Type 0} (g : Behaviour P) (judges : ℕ → Judge) (replies : Star
     pub stage : IsStage (track_next g (judges i) v.led l.seen) (fresh p) v.at ⊎ IsDroppedAt i p v l
 
   -- it ended as the leader
-  pub record HasLeft (i : ℕ) (p : P) (v : Running P) (l : Leaving) : Type 0 where
+  pub record LeftWith (i : ℕ) (p : P) (v : Running P) (l : Leaving) : Type 0 where
     pub prefix : List Span
     pub last : Span
     pub spans : l.spans ≡ prefix ++ last ∷ []
@@ -144,11 +144,11 @@ module _ {P : Type 0} (g : Behaviour P) (judges : ℕ → Judge) (replies : Star
     pub led : HasLedFrom g judges replies most hands i p v (map ends_of prefix) last.from l.seen
 
   -- run_all, of version i, fresh with the process p before and v after, and its Left
-  pub record IsDone (i : ℕ) (p : P) (v : Running P) (l : Leaving) : Type 0 where
-    pub ended : is_on v.at.fate ≡ false
+  pub record HasRunAll (i : ℕ) (p : P) (v : Running P) (l : Leaving) : Type 0 where
+    pub ended : is_going v.at.fate ≡ false
     pub count : v.at.seen ≡ length l.seen
     pub spans : v.led ≡ map ends_of l.spans
-    pub told : HasFollowed i p v l ⊎ HasLeft i p v l
+    pub told : HasFollowed i p v l ⊎ LeftWith i p v l
 
 module _ {P : Type 0} (g : Behaviour P) (judges : ℕ → Judge) (start : Start) (most : ℕ) (hands : List ℕ) where
   -- the account of versions that ran beside each other: the log and the standings are those of the monitor that runs one at a time

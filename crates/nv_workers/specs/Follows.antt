@@ -9,13 +9,13 @@ use Rattle.nv_room.specs.Seats.{IsOfRoom, view, version_of_reader, origin, hands
 use Rattle.nv_promotion.specs.Lowers.{IsAlive}
 use Rattle.nv_threads.specs.Threads.{Proc}
 use Rattle.nv_replay.specs.Follow.{Judge}
-use Rattle.nv_replay.specs.Versions.{Running}
+use Rattle.nv_replay.specs.Version.{Running}
 use Rattle.nv_workers.specs.declared.follows.Next.{Next}
 use Rattle.nv_workers.specs.declared.follows.Next.TheVariants.{Moved, Ahead, Waits, Leads, Hands, Leaves, Left}
 use Rattle.nv_workers.specs.declared.follows.Found.{Found}
 use Rattle.nv_workers.specs.declared.follows.Found.TheVariants.{Event, Held, Free}
-use Rattle.nv_words.specs.Spell.{IsWhole}
-use Rattle.nv_room.specs.Steps.{Tells}
+use Rattle.nv_words.specs.Spelling.{IsWhole}
+use Rattle.nv_room.specs.Steps.{SpellLawful}
 use Rattle.nv_workers.specs.Working.{FollowsOn, HasEnded}
 
 -- head and the owner were looked at; a station leads, or none does and a lower station, which was looked at after that, has still to leave
@@ -52,7 +52,7 @@ IsIdle old new Waits = HasWaited old new
 IsIdle old new next = Unit {0}
 
 abbrev pub IsFound : {T : Type 0} → View T → View T → List ℕ → Found → Type 0
-IsFound old new words Event = (new.seen ≡ old.seen) × (new.spans ≡ old.spans) × (new.read ≡ words) × IsWhole words × Tells (new.seen ++ words ∷ [])
+IsFound old new words Event = (new.seen ≡ old.seen) × (new.spans ≡ old.spans) × (new.read ≡ words) × IsWhole words × SpellLawful (new.seen ++ words ∷ [])
 IsFound old new words Held = (new.seen ≡ old.seen) × (new.spans ≡ old.spans) × (new.read ≡ []) × HasWaited old new
 IsFound old new words Free = (new.seen ≡ old.seen) × (new.spans ≡ old.spans) × (new.read ≡ []) × (new.freed ≡ Some (length new.seen))
 

@@ -5,10 +5,7 @@ pub mod Working
 pub mod Growing
 pub mod Follows
 pub mod Publishing
-pub mod LeadsOn
-pub mod Workers
-pub mod Stepping
-pub mod Rounds
-pub mod Dealing
-pub mod New
+pub mod Worker
+pub mod Staffing
 pub mod Ran
+pub mod inner

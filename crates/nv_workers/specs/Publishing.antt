@@ -4,13 +4,13 @@ use Rattle.nv_calls.specs.Calls.{Entry}
 use Rattle.nv_calls.specs.Logs.{served, live_after, IsLawful}
 use Rattle.nv_calls.specs.Limits.{MOST_EVENTS}
 use Rattle.nv_calls.specs.declared.kernel.SyscallKernel.{Ghosts}
-use Rattle.nv_words.specs.Spell.{spell}
+use Rattle.nv_words.specs.Spelling.{spell}
 use Rattle.nv_threads.specs.Threads.{Proc, threads}
-use Rattle.nv_replay.specs.Versions.{Running, answered_by}
+use Rattle.nv_replay.specs.Version.{Running, became_event}
 use Rattle.nv_room.specs.declared.room.Room.{Room}
 use Rattle.nv_room.specs.declared.room.Lead.{Lead}
-use Rattle.nv_room.specs.Spans.{grown}
-use Rattle.nv_room.specs.Seats.{IsLeadOf, SameLead, IsReady, lead_view, kernel_of, due_of}
+use Rattle.nv_room.specs.Spans.{spans_grown}
+use Rattle.nv_room.specs.Seats.{IsLeadOf, SameLead, NextFits, lead_view, kernel_of, due_of}
 
 -- the event that a call becomes which thread t of the version asks
 abbrev pub event_of : {K : Type 0} {G : Ghosts K} → Running Proc → Lead K G → ℕ → Entry
@@ -20,7 +20,7 @@ module _ {K : Type 0} {G : Ghosts K} (room : Room K) (v : Running Proc) (l : Lea
   -- thread t asks a call that the kernel is ready for, and the event has a place
   pub record CanPublish : Type 0 where
     pub of : IsLeadOf room l
-    pub placed : IsReady room l
+    pub placed : NextFits room l
     pub none_due : due_of l ≡ false
     pub none_wrote : (lead_view l).wrote ≡ []
     pub asked : v.asked ≡ Some t
@@ -41,5 +41,5 @@ module _ {K : Type 0} {G : Ghosts K} (room : Room K) (v : Running Proc) (l : Lea
     pub log : G.log (kernel_of l2) ≡ G.log (kernel_of l) ++ event_of v l t ∷ []
     pub lawful : IsLawful (G.log (kernel_of l2))
     pub seen : (lead_view l2).seen ≡ (lead_view l).seen ++ spell (event_of v l t) ∷ []
-    pub spans : (lead_view l2).spans ≡ grown (lead_view l).spans
-    pub version : v2 ≡ answered_by threads (event_of v l t) v
+    pub spans : (lead_view l2).spans ≡ spans_grown (lead_view l).spans
+    pub version : v2 ≡ became_event threads (event_of v l t) v

@@ -6,8 +6,8 @@ use Rattle.nv_room.specs.declared.room.Left.{Left}
 use Rattle.nv_room.specs.Seats.{IsLeftOf, left_view, version_of_left, versions_of, origin, hands_of}
 use Rattle.nv_threads.specs.Threads.{Proc, threads}
 use Rattle.nv_replay.specs.Follow.{Judge}
-use Rattle.nv_replay.specs.Versions.{Running}
-use Rattle.nv_replay.specs.Accounts.{AreFresh}
+use Rattle.nv_replay.specs.Version.{Running}
+use Rattle.nv_replay.specs.Account.{AreFresh}
 use Rattle.nv_workers.specs.declared.worker.Seat.TheVariants.{Gone}
 use Rattle.nv_workers.specs.declared.worker.Worker.{Worker}
 use Rattle.nv_workers.specs.Working.{HasEnded}

@@ -6,8 +6,8 @@ use Rattle.nv_threads.specs.Behaviours.{Behaviour}
 use Rattle.nv_replay.specs.Spans.{EndBy}
 use Rattle.nv_replay.specs.Follow.{Judge, fresh, IsInStep}
 use Rattle.nv_replay.specs.Tracks.{track_next}
-use Rattle.nv_replay.specs.Hands.{above, is_handed}
-use Rattle.nv_replay.specs.Versions.{Running, asking_next, leader_of}
+use Rattle.nv_replay.specs.Hands.{count_above, is_handed}
+use Rattle.nv_replay.specs.Version.{Running, asking_next, leader_of}
 use Rattle.nv_workers.specs.Ends.{IsStage, AreHanded, HasLedFrom}
 
 abbrev pub held_list : Option Entry → List Entry
@@ -16,7 +16,7 @@ held_list (Some e) = e ∷ []
 
 module _ {P : Type 0} (g : Behaviour P) (judges : ℕ → Judge) (replies : Start) (most : ℕ) (hands : List ℕ) where
   -- a reader's version; `held` is the log's next event where it is read and not yet consumed
-  pub record IsReading (i : ℕ) (p : P) (v : Running P) (log : List Entry) (held : Option Entry) : Type 0 where
+  pub record IsReaders (i : ℕ) (p : P) (v : Running P) (log : List Entry) (held : Option Entry) : Type 0 where
     pub index : v.index ≡ i
     pub on : v.at.fate ≡ None
     pub idle : v.leading ≡ false
@@ -25,7 +25,7 @@ module _ {P : Type 0} (g : Behaviour P) (judges : ℕ → Judge) (replies : Star
     pub in_step : IsInStep g log v.at
     pub handed : AreHanded g judges replies most hands i p v.led log
     pub past : EndBy v.at.seen v.led
-    pub few : length v.led + above hands v.at.seen ≤ length hands
+    pub few : length v.led + count_above hands v.at.seen ≤ length hands
     pub stage : IsStage (track_next g (judges i) v.led (log ++ held_list held)) (fresh p) v.at
 
   -- a leader's version between two calls; `over` says that it has just led to a planned length

@@ -3,7 +3,7 @@ use Rattle.std.specs.Prelude.{◌≡◌, ℕ, Bool, true, false, List, [], ◌�
 use Rattle.nv_calls.specs.Calls.{Entry}
 use Rattle.nv_calls.specs.Logs.{InRange, IsLawful, Start}
 use Rattle.nv_calls.specs.declared.kernel.SyscallKernel.{Ghosts}
-use Rattle.nv_words.specs.Spell.{spell}
+use Rattle.nv_words.specs.Spelling.{spell}
 use Rattle.nv_room.specs.declared.view.View.{View}
 use Rattle.nv_room.specs.declared.view.Span.{Span}
 use Rattle.nv_room.specs.declared.room.Room.{Room}
@@ -13,20 +13,20 @@ use Rattle.nv_room.specs.Spans.{span}
 use Rattle.nv_room.specs.Seats.{IsOfRoom, IsLeadOf, view, lead_view, version_of_reader, station_of_lead, version_of_lead, kernel_of, due_of, origin, hands_of}
 use Rattle.nv_threads.specs.Threads.{Proc, threads}
 use Rattle.nv_replay.specs.Follow.{Judge}
-use Rattle.nv_replay.specs.Versions.{Running}
-use Rattle.nv_workers.specs.Ends.{Leaving, ends_of, AreHandedOn, IsDone}
-use Rattle.nv_workers.specs.Turns.{held_list, IsReading, IsServing, IsAsking}
+use Rattle.nv_replay.specs.Version.{Running}
+use Rattle.nv_workers.specs.Ends.{Leaving, ends_of, AreHandedOn, HasRunAll}
+use Rattle.nv_workers.specs.Turns.{held_list, IsReaders, IsServing, IsAsking}
 
 -- what a seat that saw this log tells once it has left
-abbrev pub told_by : {T : Type 0} → List Entry → View T → Leaving
-told_by log w = record { station = w.station; seen = log; words = w.read; spans = w.spans }
+abbrev pub leaving_of : {T : Type 0} → List Entry → View T → Leaving
+leaving_of log w = record { station = w.station; seen = log; words = w.read; spans = w.spans }
 
 -- the next event is read whole, stands in the buffer, and is not consumed; or no word of it is read
-abbrev pub Holds : Bool → List ℕ → List ℕ → Option Entry → Type 0
-Holds false read buf None = read ≡ []
-Holds false read buf (Some e) = ⊥
-Holds true read buf None = ⊥
-Holds true read buf (Some e) = (read ≡ spell e) × (buf ≡ spell e)
+abbrev pub HoldsNext : Bool → List ℕ → List ℕ → Option Entry → Type 0
+HoldsNext false read buf None = read ≡ []
+HoldsNext false read buf (Some e) = ⊥
+HoldsNext true read buf None = ⊥
+HoldsNext true read buf (Some e) = (read ≡ spell e) × (buf ≡ spell e)
 
 -- version i has its fate. Its seat has seen as many events as it has, and tells the spans that it led
 pub record HasEnded (judges : ℕ → Judge) {T : Type 0} (start : Start) (most : ℕ) (hands : List ℕ) (i : ℕ) (p : Proc) (v : Running Proc) (w : View T) : Type 0 where
@@ -35,7 +35,7 @@ pub record HasEnded (judges : ℕ → Judge) {T : Type 0} (start : Start) (most 
   pub lawful : IsLawful log
   pub count : v.at.seen ≡ length w.seen
   pub led : v.led ≡ map ends_of w.spans
-  pub done : IsDone threads judges start most hands InRange spell i p v (told_by log w)
+  pub done : HasRunAll threads judges start most hands InRange spell i p v (leaving_of log w)
 
 -- a leader's version has no call asked, or that of this thread; `over` says that it has just led to a planned length
 abbrev pub Serves : (ℕ → Judge) → Proc → Running Proc → ℕ → Start → ℕ → List ℕ → Bool → List (ℕ × ℕ) → ℕ → List Entry → Option ℕ → Type 0
@@ -50,10 +50,10 @@ module _ (judges : ℕ → Judge) {K : Type 0} {G : Ghosts K} (room : Room K) (m
     pub next : Option Entry
     pub spelt : map spell log ≡ (view r).seen
     pub lawful : IsLawful (log ++ held_list next)
-    pub holds : Holds held (view r).read buf next
+    pub holds : HoldsNext held (view r).read buf next
     pub led : v.led ≡ map ends_of (view r).spans
     pub handed_on : AreHandedOn (view r).spans
-    pub reading : IsReading threads judges (G.start (origin room)) most (hands_of room) (version_of_reader r) p v log next
+    pub reading : IsReaders threads judges (G.start (origin room)) most (hands_of room) (version_of_reader r) p v log next
 
   -- a version without a fate that was fresh with the process p, and its lead; where it is over, it gives up the lead next
   pub record LeadsOn (over : Bool) (l : Lead K G) (asked : Option ℕ) : Type 0 where

@@ -1,8 +1,8 @@
 //! Workers dealt to host threads.
 ghost use Rattle.std.specs.Prelude.{◌≤◌, ◌<◌};
 ghost use Rattle.nv_workers.specs.Terms.{AreOfRoom, judges_of};
-ghost use Rattle.nv_workers.specs.Rounds.{CanAll, AllOn};
-ghost use Rattle.nv_workers.specs.Dealing.{AreEven};
+ghost use Rattle.nv_workers.specs.inner.Rounds.{CanAll, AllOn};
+ghost use Rattle.nv_workers.specs.inner.Dealing.{AreEven};
 
 use crate::running::{Parts, rotate_while_moving};
 use crate::terms::Terms;

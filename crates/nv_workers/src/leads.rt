@@ -8,7 +8,7 @@ ghost use Rattle.nv_workers.specs.Terms.{AreOfRoom};
 ghost use Rattle.nv_workers.specs.Working.{LeadsOn};
 ghost use Rattle.nv_workers.specs.Growing.{OneMoreAtMost};
 ghost use Rattle.nv_workers.specs.Publishing.{CanPublish, IsPublished};
-ghost use Rattle.nv_workers.specs.LeadsOn.{AfterLead, HasPublished, IsLate, next_after};
+ghost use Rattle.nv_workers.specs.inner.Leads.{AfterLead, HasPublished, IsLate, next_after};
 
 use crate::follows::Next;
 use crate::terms::Terms;

@@ -2,12 +2,12 @@
 ghost use Rattle.std.specs.Prelude.{◌≡◌, ◌≤◌, ◌<◌, ◌+◌, ◌++◌, ℕ, List, [], length, vec_len, vec_capacity, IfOk, IfErr};
 ghost use Rattle.nv_threads.specs.Threads.{Proc, threads};
 ghost use Rattle.nv_replay.specs.Follow.{Judge};
-ghost use Rattle.nv_replay.specs.Versions.{Running};
+ghost use Rattle.nv_replay.specs.Version.{Running};
 ghost use Rattle.nv_room.specs.Seats.{versions_of, hands_of, origin};
 ghost use Rattle.nv_workers.specs.Ends.{IsAccount};
 ghost use Rattle.nv_workers.specs.Terms.{AreOfRoom, judges_of};
-ghost use Rattle.nv_workers.specs.Rounds.{CanAll, AllOn, AreGone};
-ghost use Rattle.nv_workers.specs.New.{AreNew};
+ghost use Rattle.nv_workers.specs.inner.Rounds.{CanAll, AllOn, AreGone};
+ghost use Rattle.nv_workers.specs.Staffing.{AreNew};
 ghost use Rattle.nv_workers.specs.Ran.{AllRan, AreApart};
 
 use crate::dealing::deal;

@@ -1,7 +1,7 @@
 //! Workers on host threads.
 ghost use Rattle.std.specs.Prelude.{◌≡◌};
 ghost use Rattle.nv_workers.specs.Terms.{AreOfRoom, judges_of};
-ghost use Rattle.nv_workers.specs.Rounds.{CanAll, AllOn, AreGone, GoneIf, both_of};
+ghost use Rattle.nv_workers.specs.inner.Rounds.{CanAll, AllOn, AreGone, GoneIf, both_of};
 
 use crate::terms::Terms;
 use crate::worker::{Turn, Worker};

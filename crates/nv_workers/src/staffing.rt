@@ -1,8 +1,8 @@
 //! The workers of a room.
 ghost use Rattle.std.specs.Prelude.{◌≡◌, ◌+◌, length, IfOk};
 ghost use Rattle.nv_threads.specs.Threads.{threads};
-ghost use Rattle.nv_replay.specs.Accounts.{AreFresh};
-ghost use Rattle.nv_workers.specs.New.{AreNewSeats, StaffsAnew};
+ghost use Rattle.nv_replay.specs.Account.{AreFresh};
+ghost use Rattle.nv_workers.specs.Staffing.{AreNewSeats, StaffsAnew};
 
 use crate::worker::Worker;
 use nv_calls::SyscallKernel;

@@ -2,15 +2,15 @@
 ghost use Rattle.std.specs.Prelude.{◌≡◌, ℕ, List, None, true, false, length, Some, IfOk};
 ghost use Rattle.nv_threads.specs.Threads.{Proc, threads};
 ghost use Rattle.nv_replay.specs.Follow.{Judge};
-ghost use Rattle.nv_replay.specs.Versions.{IsFresh, Running};
+ghost use Rattle.nv_replay.specs.Version.{IsFresh, Running};
 ghost use Rattle.nv_room.specs.Seats.{IsLeadOf, IsLeftOf, version_of_lead, version_of_reader, version_of_left, view, lead_view, left_view, due_of};
 ghost use Rattle.nv_room.specs.Steps.{as_gone, as_leaving};
 ghost use Rattle.nv_workers.specs.Terms.{AreOfRoom, judges_of};
 ghost use Rattle.nv_workers.specs.Working.{FollowsOn, LeadsOn};
 ghost use Rattle.nv_workers.specs.Growing.{OneMoreAtMost};
-ghost use Rattle.nv_workers.specs.Workers.{Works, WorksAt, IsGone, IsLast, TookLead, TurnTells, version_of, version_of_seat, seen_by};
-ghost use Rattle.nv_workers.specs.Stepping.{CanLead, CanHand, CanLeave, AfterStep, StepTells};
-ghost use Rattle.nv_workers.specs.New.{IsNewLead, IsNewReader, LeadsAnew, ReadsAnew};
+ghost use Rattle.nv_workers.specs.Worker.{Works, WorksAt, IsGone, IsLast, TookLead, TurnTells, version_of, version_of_seat, seen_by};
+ghost use Rattle.nv_workers.specs.inner.Stepping.{CanLead, CanHand, CanLeave, AfterStep, StepTells};
+ghost use Rattle.nv_workers.specs.Staffing.{IsNewLead, IsNewReader, LeadsAnew, ReadsAnew};
 
 use crate::follows::{Next, follow_turn};
 use crate::leads::lead_turn;

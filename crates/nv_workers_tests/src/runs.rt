@@ -1,8 +1,8 @@
 //! Runs of small programs.
 ghost use Rattle.std.specs.Prelude.{◌≡◌, ◌≤◌, ◌<◌, [], IfSome, length, vec_len};
 ghost use Rattle.nv_threads.specs.Threads.{threads};
-ghost use Rattle.nv_replay.specs.Versions.{IsFresh};
-ghost use Rattle.nv_replay.specs.Accounts.{AreFresh};
+ghost use Rattle.nv_replay.specs.Version.{IsFresh};
+ghost use Rattle.nv_replay.specs.Account.{AreFresh};
 
 use nv_bpf::Filter;
 use nv_calls::SyscallKernel;

@@ -1,7 +1,7 @@
 use Rattle.std.proofs.Common.{◌≡◌, ◌≤◌, Ok, Err, true, ap, sym, subst, ◌∙◌}
 use Rattle.std.proofs.lemmas.Result.{err_from_is_err_and}
 use Rattle.nv_elf.specs.Elf.{Executable}
-use Rattle.nv_elf.specs.Written.{is_program, bytes_in}
+use Rattle.nv_elf.specs.Written.{is_program, range_bytes}
 use Rattle.nv_asm.proofs.Ending.{IsKnown, assembled-fault, assembled-short, assembled-program, image-program, image-small}
 use Rattle.nv_asm.proofs.assembling.assemble.Goals as goal
 
@@ -33,5 +33,5 @@ returns-clause-sound c =
 pub returns-clause-small : goal.returns-clause-small
 returns-clause-small c =
     let l = c.in_ok-laid.laid in
-    subst (λ (p : Executable). bytes_in p.ranges ≤ 1048576) (sym c.in_ok-program.ensures)
+    subst (λ (p : Executable). range_bytes p.ranges ≤ 1048576) (sym c.in_ok-program.ensures)
     (image-small c.in_ok-names.text_len l.entry l.text.items l.data.items c.in_ok-laid.ensures.laid.short)

@@ -1,7 +1,7 @@
 use Rattle.std.proofs.Common.{◌+◌, ap, sym, subst, ◌∙◌, arith}
 use Rattle.nv_asm.specs.declared.place.Reached.{Reached}
 use Rattle.nv_asm.specs.Places.{Placed}
-use Rattle.nv_asm.specs.Lines.{IsSmall}
+use Rattle.nv_asm.specs.inner.Lines.{IsSmall}
 use Rattle.nv_asm.proofs.Passing.{before-is}
 use Rattle.nv_asm.proofs.assembling.lay_line.Goals as goal
 

@@ -1,8 +1,8 @@
 use Rattle.std.proofs.Common.{◌+◌, ◌^◌, ap, sym, ◌∙◌, arith}
 use Rattle.nv_text.specs.Lines.{lines, LinesLeft}
 use Rattle.nv_asm.specs.declared.place.Reached.{Reached}
-use Rattle.nv_asm.specs.Known.{found}
-use Rattle.nv_asm.specs.Places.{Placed, placed, placed_line, after, start, ended}
+use Rattle.nv_asm.specs.inner.Known.{defined_among}
+use Rattle.nv_asm.specs.Places.{Placed, placed, placed_line, after, nothing_reached, ended}
 use Rattle.nv_asm.proofs.Passing.{names_of, weight, found-none, found-all, knows-none, names-line, names-none, ended-line, ended-none, weight-line, filled-small}
 use Rattle.nv_asm.proofs.labels.labels.Goals as goal
 
@@ -10,9 +10,9 @@ pub loop-line-init : goal.loop-line-init
 loop-line-init c =
     let begins = c.into_iter-line-iterator.ensures.into_iter_gives ∙ c.of-line-items.ensures in
     record {
-      named = λ name. ap (λ (s : LinesLeft). found c.new-names.result (names_of (placed s.before start s.left)) name) begins ∙ found-none c.new-names.result (names_of (placed 0 start (lines c.args.text.now))) name c.new-names.ensures;
+      named = λ name. ap (λ (s : LinesLeft). defined_among c.new-names.result (names_of (placed s.before nothing_reached s.left)) name) begins ∙ found-none c.new-names.result (names_of (placed 0 nothing_reached (lines c.args.text.now))) name c.new-names.ensures;
       places = knows-none c.new-names.result (2 ^ 121) c.new-names.ensures;
-      ends = ap (λ (s : LinesLeft). ended start (placed s.before start s.left)) begins;
+      ends = ap (λ (s : LinesLeft). ended nothing_reached (placed s.before nothing_reached s.left)) begins;
       filled = omega (arith, ap (λ (s : LinesLeft). weight s.left) begins);
     }
 
@@ -31,9 +31,9 @@ loop-line-preserved c =
     let filled = ap (λ (r : Reached). r.text_len + r.data_len) now.reached in
     record {
       named = λ name.
-          ap (λ r. found c.take_up.new.names (names_of (placed left.before r left.left)) name) now.reached
+          ap (λ r. defined_among c.take_up.new.names (names_of (placed left.before r left.left)) name) now.reached
           ∙ sym (now.known (names_of (placed left.before (after p) left.left)) name)
-          ∙ ap (λ ls. found c.loop-line.names ls name) (sym (names-line c.loop-line.line-iterator left n before first next))
+          ∙ ap (λ ls. defined_among c.loop-line.names ls name) (sym (names-line c.loop-line.line-iterator left n before first next))
           ∙ c.loop-line.invariant.named name;
       places = now.below c.loop-line.invariant.places;
       ends = ap (λ r. ended r (placed left.before r left.left)) now.reached ∙ sym (ended-line c.loop-line.line-iterator left n before first next) ∙ c.loop-line.invariant.ends;

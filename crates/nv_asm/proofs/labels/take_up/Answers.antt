@@ -1,6 +1,6 @@
 use Rattle.std.proofs.Common.{ap, sym, subst, ◌∙◌}
 use Rattle.nv_asm.specs.Places.{Placed}
-use Rattle.nv_asm.specs.Lines.{IsSmall}
+use Rattle.nv_asm.specs.inner.Lines.{IsSmall}
 use Rattle.nv_asm.proofs.Passing.{before-is}
 use Rattle.nv_asm.proofs.labels.take_up.Goals as goal
 

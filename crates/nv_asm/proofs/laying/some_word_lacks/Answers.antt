@@ -1,14 +1,14 @@
 use Rattle.std.proofs.Common.{ℕ, Bool, List, Bor, map, ap, refl, sym, ◌∙◌}
 use Rattle.std.specs.List.{list_any}
 use Rattle.nv_asm.specs.Statements.{word_of}
-use Rattle.nv_asm.specs.Views.{texts}
+use Rattle.nv_asm.specs.inner.Views.{operand_texts}
 use Rattle.nv_asm.specs.Assembled.{Whole, word_lacks}
-use Rattle.nv_asm.specs.Known.{known}
+use Rattle.nv_asm.specs.inner.Known.{known}
 use Rattle.nv_asm.proofs.Walking.{test-here, test-later, test-end, none_given}
 use Rattle.nv_asm.proofs.laying.some_word_lacks.Goals as goal
 
 abbrev some : Whole → List (Bor (List ℕ)) → Bool
-some w xs = list_any (word_lacks w) (map word_of (texts xs))
+some w xs = list_any (word_lacks w) (map word_of (operand_texts xs))
 
 abbrev one : Whole → Bor (List ℕ) → Bool
 one w x = word_lacks w (word_of x.now)

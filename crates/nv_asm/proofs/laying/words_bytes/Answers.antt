@@ -1,14 +1,14 @@
 use Rattle.std.proofs.Common.{ℕ, List, ◌++◌, ◌+◌, Bor, map, drop, ap, refl, ◌∙◌}
 use Rattle.std.specs.Int.{w32, to_le_bytes}
 use Rattle.nv_asm.specs.Statements.{word_of}
-use Rattle.nv_asm.specs.Views.{texts}
+use Rattle.nv_asm.specs.inner.Views.{operand_texts}
 use Rattle.nv_asm.specs.Assembled.{Whole, word_value, le_words}
-use Rattle.nv_asm.specs.Known.{known}
+use Rattle.nv_asm.specs.inner.Known.{known}
 use Rattle.nv_asm.proofs.Walking.{rest-more, rest-end, none_given}
 use Rattle.nv_asm.proofs.laying.words_bytes.Goals as goal
 
 abbrev bytes : Whole → List (Bor (List ℕ)) → List ℕ
-bytes w xs = le_words (map (word_value w) (map word_of (texts xs)))
+bytes w xs = le_words (map (word_value w) (map word_of (operand_texts xs)))
 
 abbrev one : Whole → Bor (List ℕ) → List ℕ
 one w x = to_le_bytes w32 (word_value w (word_of x.now))

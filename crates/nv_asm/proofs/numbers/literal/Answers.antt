@@ -1,7 +1,7 @@
 use Rattle.std.proofs.Common.{rules, Some, sym, ap, ◌∙◌, option_map}
 use Rattle.std.proofs.lemmas.List.{take_rest}
 use Rattle.nv_asm.specs.Numbers.{magnitude}
-use Rattle.nv_asm.specs.Small.{small}
+use Rattle.nv_asm.specs.inner.Small.{small}
 use Rattle.nv_asm.proofs.Signs.{literal-signed}
 use Rattle.nv_asm.proofs.numbers.literal.Goals as goal
 

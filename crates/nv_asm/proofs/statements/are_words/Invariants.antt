@@ -1,8 +1,8 @@
 use Rattle.std.proofs.Common.{◌≡◌, drop}
 use Rattle.std.specs.List.{list_all}
 use Rattle.nv_asm.specs.Statements.{is_word}
-use Rattle.nv_asm.specs.Views.{texts}
+use Rattle.nv_asm.specs.inner.Views.{operand_texts}
 use Rattle.nv_asm.proofs.statements.are_words.Given as goal
 
 abbrev pub invariant-loop-operand : goal.invariant-loop-operand
-invariant-loop-operand l = list_all is_word (texts (drop l.operand-index l.operands)) ≡ list_all is_word (texts l.operands)
+invariant-loop-operand l = list_all is_word (operand_texts (drop l.operand-index l.operands)) ≡ list_all is_word (operand_texts l.operands)

@@ -1,11 +1,11 @@
 use Rattle.std.proofs.Common.{ℕ, List, [], ◌∷◌, ◌++◌, Bor, length, map, drop, ◌+◌, ap, refl, ◌∙◌}
 use Rattle.nv_asm.specs.Statements.{byte_of}
-use Rattle.nv_asm.specs.Views.{texts}
+use Rattle.nv_asm.specs.inner.Views.{operand_texts}
 use Rattle.nv_asm.proofs.Walking.{rest-more, rest-end, none_given, length-texts}
 use Rattle.nv_asm.proofs.statements.byte_list.Goals as goal
 
 abbrev bytes : List (Bor (List ℕ)) → List ℕ
-bytes xs = map byte_of (texts xs)
+bytes xs = map byte_of (operand_texts xs)
 
 abbrev one : Bor (List ℕ) → List ℕ
 one x = byte_of x.now ∷ []

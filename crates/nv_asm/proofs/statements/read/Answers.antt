@@ -1,6 +1,6 @@
 use Rattle.std.proofs.Common.{◌≡◌, ◌*◌, ◌≤◌, Some, option_map, length, ap, sym, subst, ◌∙◌, arith}
 use Rattle.nv_asm.specs.Strings.{string}
-use Rattle.nv_asm.specs.Bounds.{most_of}
+use Rattle.nv_asm.specs.inner.Bounds.{most_of}
 use Rattle.nv_asm.proofs.Sizes.{Shorter, string-shorter, widen-some, widen-ok, operands-few}
 use Rattle.nv_asm.proofs.statements.read.Goals as goal
 

@@ -1,7 +1,7 @@
 use Rattle.std.proofs.Common.{sym, ap, ◌∙◌, ◌+◌, length, drop}
 use Rattle.std.proofs.lemmas.List.{at_drop_all}
 use Rattle.nv_bpf.specs.declared.op.Op.{Op}
-use Rattle.nv_bpf.specs.Verified.{ops_fault, or_later}
+use Rattle.nv_bpf.specs.Verified.{ops_fault, or_later_fault}
 use Rattle.nv_bpf.proofs.FilterLaws.{ops_fault-drop}
 use Rattle.nv_bpf.proofs.filter.ops_fault.Goals as goal
 
@@ -13,14 +13,14 @@ returns-in-Some c =
     let ops = c.args.ops.now in
     let i = c.loop-i.i in
     sym (c.loop-i.invariant ∙ ops_fault-drop (length ops) i ops none_given c.loop-i-test.true
-    ∙ ap (λ r. or_later r (ops_fault (length ops) (i + 1) (drop (i + 1) ops))) (sym c.op_fault.ensures ∙ c.in-Some.is))
+    ∙ ap (λ r. or_later_fault r (ops_fault (length ops) (i + 1) (drop (i + 1) ops))) (sym c.op_fault.ensures ∙ c.in-Some.is))
 
 pub loop-i-preserved : goal.loop-i-preserved
 loop-i-preserved c =
     let ops = c.args.ops.now in
     let i = c.loop-i.i in
     c.loop-i.invariant ∙ ops_fault-drop (length ops) i ops none_given c.loop-i-test.true
-    ∙ ap (λ r. or_later r (ops_fault (length ops) (i + 1) (drop (i + 1) ops))) (sym c.op_fault.ensures ∙ c.in_default.is)
+    ∙ ap (λ r. or_later_fault r (ops_fault (length ops) (i + 1) (drop (i + 1) ops))) (sym c.op_fault.ensures ∙ c.in_default.is)
 
 pub returns : goal.returns
 unfolding ops_fault

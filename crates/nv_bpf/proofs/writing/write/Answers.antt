@@ -5,7 +5,7 @@ use Rattle.std.proofs.lemmas.List.Elements.{All-more, All-nil}
 use Rattle.std.proofs.lemmas.Option.{get_or_from_slice_get}
 use Rattle.nv_bpf.specs.declared.op.Op.{Op}
 use Rattle.nv_bpf.specs.declared.op.TheConstants.{MOST_OPS}
-use Rattle.nv_bpf.specs.Texts.{ended_number, op_text, text_of, filter_of, FitsFields}
+use Rattle.nv_bpf.specs.Texts.{ended_number, op_text, ops_text, filter_of, FitsFields}
 use Rattle.nv_bpf.proofs.ReadBack.{filter_of-text}
 use Rattle.nv_bpf.proofs.writing.write.Goals as goal
 
@@ -34,8 +34,8 @@ loop-place-preserved c =
 whole : (c : goal.After-loop-place) → take c.loop-place.place c.args.filter.now ≡ c.args.filter.now
 whole c = take_all c.loop-place.place c.args.filter.now (omega (arith, c.len-count.ensures.count))
 
-text : (c : goal.After-loop-place) → c.loop-place.text.items ≡ text_of c.args.filter.now
-unfolding text_of
+text : (c : goal.After-loop-place) → c.loop-place.text.items ≡ ops_text c.args.filter.now
+unfolding ops_text
 text c = c.loop-place.invariant.text ∙ ap (λ taken. ended_number (length c.args.filter.now) 10 ++ flat_map op_text taken) (whole c)
 
 pub returns-clause-text : goal.returns-clause-text

@@ -1,7 +1,7 @@
 use Rattle.std.proofs.Common.{◌∙◌, ap, subst, sym, List, map}
 use Rattle.nv_outside.proofs.Writing.{puts-is}
 use Rattle.nv_threads.specs.Threads.{Proc}
-use Rattle.nv_replay.specs.Versions.{Running, standing_of}
+use Rattle.nv_replay.specs.Version.{Running, standing_of}
 use Rattle.nv_trace.specs.Trace.{IsRecordable, trace_of}
 use Rattle.nv_trace.proofs.Recording.{lawful_recordable}
 use Rattle.nv_jobs.specs.Account.{run_status}

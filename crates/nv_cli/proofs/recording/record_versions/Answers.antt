@@ -2,7 +2,7 @@ use Rattle.std.proofs.Common.{◌≡◌, ◌∙◌, ap, sym, inl, inr, List, map
 use Rattle.std.specs.List.{list_any}
 use Rattle.nv_command.specs.Seen.{limits_view}
 use Rattle.nv_replay.specs.Lead.{is_memory}
-use Rattle.nv_replay.specs.Versions.{Running, standing_of}
+use Rattle.nv_replay.specs.Version.{Running, standing_of}
 use Rattle.nv_threads.specs.Threads.{Proc}
 use Rattle.nv_cli.proofs.Running.{run_of}
 use Rattle.nv_cli.proofs.recording.record_versions.Goals as goal

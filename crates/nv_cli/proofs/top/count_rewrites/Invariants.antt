@@ -1,6 +1,6 @@
 use Rattle.std.proofs.Common.{◌≡◌, ◌≤◌, ◌*◌, take}
 use Rattle.std.specs.Prelude.{sum_by}
-use Rattle.nv_replay.specs.Versions.{standing_of}
+use Rattle.nv_replay.specs.Version.{standing_of}
 use Rattle.nv_cli.proofs.top.count_rewrites.Given as goal
 
 abbrev pub invariant-loop-version : goal.invariant-loop-version

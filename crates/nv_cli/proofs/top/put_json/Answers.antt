@@ -1,7 +1,7 @@
 use Rattle.std.proofs.Common.{◌∙◌, ◌++◌, ap, inl, inr, codes, List, ℕ, map}
 use Rattle.nv_outside.proofs.Writing.{puts-is}
 use Rattle.nv_threads.specs.Threads.{Proc}
-use Rattle.nv_replay.specs.Versions.{Running, standing_of}
+use Rattle.nv_replay.specs.Version.{Running, standing_of}
 use Rattle.nv_jobs.specs.Account.{run_status}
 use Rattle.nv_jobs.specs.Outcome.{ended_with}
 use Rattle.nv_cli.proofs.top.put_json.Goals as goal

@@ -1,7 +1,7 @@
 use Rattle.std.proofs.Common.{◌++◌, codes, inl, inr, ⊎_elim, subst, map, option_map}
 use Rattle.nv_calls.specs.Logs.{Start, output_of, connections_of}
 use Rattle.nv_command.specs.Seen.{limits_view}
-use Rattle.nv_replay.specs.Versions.{standing_of}
+use Rattle.nv_replay.specs.Version.{standing_of}
 use Rattle.nv_report.specs.Json.{json_text}
 use Rattle.nv_report.specs.Report.{report_text}
 use Rattle.nv_sockets.specs.Texts.{connections_text}

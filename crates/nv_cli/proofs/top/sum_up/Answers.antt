@@ -7,11 +7,11 @@ use Rattle.nv_sockets.specs.Serving.{start_of_script}
 use Rattle.nv_replay.specs.Follow.{judge_of}
 use Rattle.nv_replay.specs.Lead.{is_memory}
 use Rattle.nv_replay.specs.Sequence.{Account, cuts_of}
-use Rattle.nv_replay.specs.Versions.{Running, process_of, standing_of}
+use Rattle.nv_replay.specs.Version.{Running, process_of, standing_of}
 use Rattle.nv_threads.specs.Threads.{Proc}
 use Rattle.nv_command.specs.Seen.{limits_view}
 use Rattle.nv_command.specs.Words.{Limits}
-use Rattle.nv_jobs.specs.Account.{begun}
+use Rattle.nv_jobs.specs.Account.{process_begun}
 use Rattle.nv_jobs.specs.Due.{Says}
 use Rattle.nv_jobs.specs.Outcome.{NoMemory, Summed, totals_of}
 use Rattle.nv_cli.proofs.Counted.{few_lines}
@@ -41,8 +41,8 @@ returns-in-Ok-summary g c =
     let made = c.requires.made in
     let limits = limits_view c.usual-limits.result in
     let rules = option_map (λ f. f.now) c.as_ref.result in
-    let begin : map process_of c.args.made.versions.items ≡ map (begun limits) made.machines =
-    made.processes ∙ ap (λ (x : Limits). map (begun x) made.machines) (sym c.usual-limits.ensures) in
+    let begin : map process_of c.args.made.versions.items ≡ map (process_begun limits) made.machines =
+    made.processes ∙ ap (λ (x : Limits). map (process_begun x) made.machines) (sym c.usual-limits.ensures) in
     let run = run_of limits setup rules made.machines c.args.made.hands.items c.args.made.versions.items c.in-Ok.account.versions.items log c.requires.planned c.in-Ok.ensures.account begin in
     let never : list_any (λ line. is_memory line.fate) lines ≡ false =
     ap (λ (versions : List (Running Proc)). list_any (λ line. is_memory line.fate) (map standing_of versions)) (sym c.deref.ensures.value) ∙ sym c.starved.ensures ∙ c.if-starved.false in

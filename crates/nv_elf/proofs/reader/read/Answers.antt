@@ -1,6 +1,6 @@
 use Rattle.std.proofs.Common.{◌≡◌, sym, ◌∙◌, ap, refl, inr, filter, length, arith}
 use Rattle.std.proofs.lemmas.Result.{err_from_is_err_and}
-use Rattle.nv_elf.specs.Elf.{headers_of, loadables_of, is_loadable, range_in, range_of, Accepted}
+use Rattle.nv_elf.specs.Elf.{headers_of, loadables_of, is_loadable, range_in, segment_range, Accepted}
 use Rattle.std.proofs.lemmas.List.{length-map}
 use Rattle.nv_elf.proofs.ReadBack.{program-few}
 use Rattle.nv_elf.proofs.Sound.{is_program-accepted}
@@ -47,4 +47,4 @@ pub returns-clause-few : goal.returns-clause-few
 returns-clause-few c =
     let segments = c.in_ok-segments.segments in
     let few = program-few _ (returns-clause-sound c) in
-    omega (arith, few, length-map segments.items range_of, segments.ok.0)
+    omega (arith, few, length-map segments.items segment_range, segments.ok.0)

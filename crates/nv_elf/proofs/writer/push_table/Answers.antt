@@ -1,5 +1,5 @@
 use Rattle.std.proofs.Common.{◌≡◌, ◌+◌, sym, ◌∙◌, append_assoc, ap, arith, length, map, drop, ◌++◌}
-use Rattle.nv_elf.specs.Elf.{range_of}
+use Rattle.nv_elf.specs.Elf.{segment_range}
 use Rattle.nv_elf.specs.Written.{padding, table_from, end_from, program_header}
 use Rattle.nv_elf.proofs.Writing.{table-at, end-at, after-below}
 use Rattle.nv_elf.proofs.writer.push_table.Goals as goal

@@ -1,11 +1,11 @@
 use Rattle.std.proofs.Common.{ap, sym, ◌∙◌, map, arith}
 use Rattle.std.proofs.lemmas.Grind.{common_steps}
-use Rattle.nv_gen.specs.Plans.{read_of}
+use Rattle.nv_gen.specs.Measures.{file_read_as}
 use Rattle.nv_gen.proofs.Appending.{accepted-none, versions-next}
 use Rattle.nv_gen.proofs.made.versions.Goals as goal
 
 pub loop-index-init : goal.loop-index-init
-loop-index-init c = record { programs = ap (map read_of) c.new-files.ensures.items ∙ sym (accepted-none _); short = grind (arith, common_steps) }
+loop-index-init c = record { programs = ap (map file_read_as) c.new-files.ensures.items ∙ sym (accepted-none _); short = grind (arith, common_steps) }
 
 pub loop-index-preserved : goal.loop-index-preserved
 loop-index-preserved c = record {

@@ -1,7 +1,7 @@
 use Rattle.std.proofs.Common.{◌≡◌, ◌∙◌, sym, subst, ℕ, List, length, arith}
 use Rattle.nv_memory.specs.declared.region.Region.{Region}
 use Rattle.nv_memory.specs.Image.{Image}
-use Rattle.nv_guest.specs.Heap.{HasHeap}
+use Rattle.nv_guest.specs.inner.Heap.{HasHeap}
 use Rattle.nv_guest.proofs.Heaps.{are_moved, start_is_last, heap_moved, moved_is}
 use Rattle.nv_guest.proofs.heap.move_heap.Goals as goal
 

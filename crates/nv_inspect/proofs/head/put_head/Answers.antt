@@ -1,10 +1,10 @@
 use Rattle.std.proofs.Common.{◌++◌, codes}
 use Rattle.nv_outside.proofs.Writing.{puts-then, puts-failed}
-use Rattle.nv_inspect.specs.Shown.{end_text}
+use Rattle.nv_inspect.specs.Shown.{standing_text}
 use Rattle.nv_inspect.proofs.head.put_head.Goals as goal
 
 pub returns-in-Failed : goal.returns-in-Failed
-returns-in-Failed g c = puts-failed (end_text c.args.fate ++ codes "\n") c.in-Failed.ensures
+returns-in-Failed g c = puts-failed (standing_text c.args.fate ++ codes "\n") c.in-Failed.ensures
 
 pub returns-in-Whole-put_end : goal.returns-in-Whole-put_end
 returns-in-Whole-put_end g c = puts-then c.in-Whole.ensures (puts-then c.in-Whole-put_end.ensures c.put_all.ensures)

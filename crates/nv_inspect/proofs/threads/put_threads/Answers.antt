@@ -2,7 +2,7 @@ use Rattle.std.proofs.Common.{◌≡◌, ◌<◌, ◌+◌, sym, arith}
 use Rattle.nv_outside.proofs.Writing.{puts-is, puts-none}
 use Rattle.nv_inspect.specs.Shown.{live_text}
 use Rattle.nv_inspect.proofs.Writes.{firsts-none, puts-next, puts-short, puts-every}
-use Rattle.nv_threads.specs.Threads.{greatest, tids}
+use Rattle.nv_threads.specs.Threads.{greatest, task_tids}
 use Rattle.nv_inspect.proofs.threads.put_threads.Goals as goal
 
 pub loop-tid-init : goal.loop-tid-init
@@ -12,7 +12,7 @@ pub loop-tid-preserved : goal.loop-tid-preserved
 loop-tid-preserved g c = puts-next (live_text c.args.process.now) c.loop-tid.tid c.loop-tid.invariant c.in-Whole.ensures
 
 pub returns-in-Failed : goal.returns-in-Failed
-returns-in-Failed g c = let less : c.loop-tid.tid < greatest (tids c.args.process.now.tasks) + 1 = omega arith in puts-short (live_text c.args.process.now) c.loop-tid.tid (greatest (tids c.args.process.now.tasks) + 1) less c.loop-tid.invariant c.in-Failed.ensures
+returns-in-Failed g c = let less : c.loop-tid.tid < greatest (task_tids c.args.process.now.tasks) + 1 = omega arith in puts-short (live_text c.args.process.now) c.loop-tid.tid (greatest (task_tids c.args.process.now.tasks) + 1) less c.loop-tid.invariant c.in-Failed.ensures
 
 pub returns : goal.returns
-returns g c = let same : c.loop-tid.tid ≡ (greatest (tids c.args.process.now.tasks) + 1) = omega arith in puts-every (live_text c.args.process.now) c.loop-tid.tid (greatest (tids c.args.process.now.tasks) + 1) same c.loop-tid.invariant
+returns g c = let same : c.loop-tid.tid ≡ (greatest (task_tids c.args.process.now.tasks) + 1) = omega arith in puts-every (live_text c.args.process.now) c.loop-tid.tid (greatest (task_tids c.args.process.now.tasks) + 1) same c.loop-tid.invariant

@@ -3,26 +3,26 @@ use Rattle.nv_memory.specs.Image.{Image}
 use Rattle.nv_guest.specs.Threads.{Threaded}
 use Rattle.nv_threads.specs.Threads.{Proc, count_of}
 use Rattle.nv_outside.proofs.Writing.{puts-is, puts-then, puts-failed}
-use Rattle.nv_inspect.specs.Shown.{head_text, threads_text, descriptors_text, dump_text}
+use Rattle.nv_inspect.specs.Shown.{heading_text, threads_text, descriptors_text, dump_text}
 use Rattle.nv_inspect.proofs.whole.show.Goals as goal
 
 pub returns-in-Failed : goal.returns-in-Failed
 returns-in-Failed g c =
     let v = c.args.version.now in
-    let head : head_text c.standing-told.result.now.seen c.count.result c.standing-told.result.now.fate ≡ head_text v.at.seen (count_of v.at.process) v.at.fate = (λ i. head_text (c.standing-told.ensures i).seen ((c.count.ensures ∙ ap count_of c.process-running.ensures) i) (c.standing-told.ensures i).fate) in
+    let head : heading_text c.standing-told.result.now.seen c.count.result c.standing-told.result.now.fate ≡ heading_text v.at.seen (count_of v.at.process) v.at.fate = (λ i. heading_text (c.standing-told.ensures i).seen ((c.count.ensures ∙ ap count_of c.process-running.ensures) i) (c.standing-told.ensures i).fate) in
     puts-failed (threads_text v.at.process ++ (descriptors_text c.args.files.now.state ++ dump_text v.at.process.guest.memory c.args.dump)) (puts-is head c.in-Failed.ensures)
 
 pub returns-in-Failed-put_threads : goal.returns-in-Failed-put_threads
 returns-in-Failed-put_threads g c =
     let v = c.args.version.now in
-    let head : head_text c.standing-told.result.now.seen c.count.result c.standing-told.result.now.fate ≡ head_text v.at.seen (count_of v.at.process) v.at.fate = (λ i. head_text (c.standing-told.ensures i).seen ((c.count.ensures ∙ ap count_of c.process-running.ensures) i) (c.standing-told.ensures i).fate) in
+    let head : heading_text c.standing-told.result.now.seen c.count.result c.standing-told.result.now.fate ≡ heading_text v.at.seen (count_of v.at.process) v.at.fate = (λ i. heading_text (c.standing-told.ensures i).seen ((c.count.ensures ∙ ap count_of c.process-running.ensures) i) (c.standing-told.ensures i).fate) in
     puts-then (puts-is head c.in-Whole.ensures)
     (puts-failed (descriptors_text c.args.files.now.state ++ dump_text v.at.process.guest.memory c.args.dump) (puts-is (ap threads_text c.process-running.ensures) c.in-Failed-put_threads.ensures))
 
 pub returns-in-Failed-put_descriptors : goal.returns-in-Failed-put_descriptors
 returns-in-Failed-put_descriptors g c =
     let v = c.args.version.now in
-    let head : head_text c.standing-told.result.now.seen c.count.result c.standing-told.result.now.fate ≡ head_text v.at.seen (count_of v.at.process) v.at.fate = (λ i. head_text (c.standing-told.ensures i).seen ((c.count.ensures ∙ ap count_of c.process-running.ensures) i) (c.standing-told.ensures i).fate) in
+    let head : heading_text c.standing-told.result.now.seen c.count.result c.standing-told.result.now.fate ≡ heading_text v.at.seen (count_of v.at.process) v.at.fate = (λ i. heading_text (c.standing-told.ensures i).seen ((c.count.ensures ∙ ap count_of c.process-running.ensures) i) (c.standing-told.ensures i).fate) in
     puts-then (puts-is head c.in-Whole.ensures)
     (puts-then (puts-is (ap threads_text c.process-running.ensures) c.in-Whole-put_threads.ensures)
     (puts-failed (dump_text v.at.process.guest.memory c.args.dump) c.in-Failed-put_descriptors.ensures))
@@ -30,7 +30,7 @@ returns-in-Failed-put_descriptors g c =
 pub returns-in-Whole-put_descriptors : goal.returns-in-Whole-put_descriptors
 returns-in-Whole-put_descriptors g c =
     let v = c.args.version.now in
-    let head : head_text c.standing-told.result.now.seen c.count.result c.standing-told.result.now.fate ≡ head_text v.at.seen (count_of v.at.process) v.at.fate = (λ i. head_text (c.standing-told.ensures i).seen ((c.count.ensures ∙ ap count_of c.process-running.ensures) i) (c.standing-told.ensures i).fate) in
+    let head : heading_text c.standing-told.result.now.seen c.count.result c.standing-told.result.now.fate ≡ heading_text v.at.seen (count_of v.at.process) v.at.fate = (λ i. heading_text (c.standing-told.ensures i).seen ((c.count.ensures ∙ ap count_of c.process-running.ensures) i) (c.standing-told.ensures i).fate) in
     let memory = c.memory.ensures ∙ ap (λ (t : Threaded). t.memory) (c.guest.ensures ∙ ap (λ (p : Proc). p.guest) c.process-running.ensures) in
     puts-then (puts-is head c.in-Whole.ensures)
     (puts-then (puts-is (ap threads_text c.process-running.ensures) c.in-Whole-put_threads.ensures)

@@ -1,7 +1,7 @@
 use Rattle.std.proofs.Common.{◌≡◌, ◌+◌, ◌≤◌, count_by, drop}
 use Rattle.nv_threads.specs.Threads.{Proc}
 use Rattle.nv_replay.specs.Follow.{is_exited}
-use Rattle.nv_replay.specs.Versions.{Running, standing_of}
+use Rattle.nv_replay.specs.Version.{Running, standing_of}
 use Rattle.nv_jobs.proofs.endings.count_exited.Given as goal
 
 abbrev pub invariant-loop-version : goal.invariant-loop-version

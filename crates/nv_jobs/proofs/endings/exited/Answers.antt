@@ -1,7 +1,7 @@
 use Rattle.std.proofs.Common.{◌∙◌, sym}
 use Rattle.nv_replay.specs.Follow.{is_exited}
 use Rattle.nv_replay.specs.declared.standing.Standing.{Standing}
-use Rattle.nv_replay.specs.Versions.{standing_of}
+use Rattle.nv_replay.specs.Version.{standing_of}
 use Rattle.nv_jobs.proofs.Statuses.{any-map}
 use Rattle.nv_jobs.proofs.endings.exited.Goals as goal
 

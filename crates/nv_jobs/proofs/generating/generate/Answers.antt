@@ -1,7 +1,7 @@
 use Rattle.std.proofs.Common.{◌≡◌, ◌≤◌, ◌∙◌, ap, sym, subst, length, map, ℕ, List, Vec, Global, Some, arith}
 use Rattle.std.specs.Prelude.{All}
 use Rattle.nv_elf.specs.Elf.{Accepted}
-use Rattle.nv_gen.specs.Plans.{read_of}
+use Rattle.nv_gen.specs.Measures.{file_read_as}
 use Rattle.nv_gen.specs.Programs.{programs}
 use Rattle.nv_gen_laws.specs.Texts.{bare, asks_beside_writes}
 use Rattle.nv_gen_laws.proofs.Reading.{script_read, rules_read}
@@ -9,7 +9,8 @@ use Rattle.nv_command.specs.Words.{usual}
 use Rattle.nv_script.specs.Scripts.{Setup}
 use Rattle.nv_script.specs.Views.{setup_of}
 use Rattle.nv_jobs.specs.Prepared.{of_elf}
-use Rattle.nv_jobs.specs.Generated.{Runs, IsGenerated}
+use Rattle.nv_jobs.specs.Generated.{IsGenerated}
+use Rattle.nv_jobs.specs.inner.Generated.{Runs}
 use Rattle.nv_jobs.proofs.Loaded.{can_run, all_made, few_made, length-made}
 use Rattle.nv_jobs.proofs.Planned.{planned_by}
 use Rattle.nv_jobs.proofs.generating.generate.Goals as goal
@@ -30,7 +31,7 @@ returns-clause-ready c =
     let versions = c.in_ok-versions.versions.items in
     let from = c.in_ok-versions.ensures.versions in
     let made = all_made bare files versions from in
-    let read : map read_of files ≡ map Accepted (programs n) = ap (map read_of) c.deref-3.ensures.value ∙ c.in_ok-made.ensures.versions in
+    let read : map file_read_as files ≡ map Accepted (programs n) = ap (map file_read_as) c.deref-3.ensures.value ∙ c.in_ok-made.ensures.versions in
     let is = c.in_ok-kernel.ensures in
     subst (λ (setup : Setup). IsGenerated n c.in_ok-kernel.kernel.log setup (Some c.in_ok-rules.rules) versions) (sym (is.1 ∙ c.in_ok-script.ensures.script))
     (record {

@@ -1,6 +1,6 @@
 use Rattle.std.proofs.Common.{◌≡◌, subst, List, ℕ, length, take, arith}
 use Rattle.nv_gen_laws.specs.Texts.{bare}
-use Rattle.nv_jobs.specs.Generated.{IsFrom}
+use Rattle.nv_jobs.specs.inner.Generated.{IsFrom}
 use Rattle.nv_jobs.proofs.Loaded.{made_next, length-made}
 use Rattle.nv_jobs.proofs.Loading.{fresh_next, length-prefix}
 use Rattle.nv_jobs.proofs.generating.read_versions.Goals as goal

@@ -9,7 +9,7 @@ use Rattle.nv_threads.specs.Threads.{Proc, threads, started}
 use Rattle.nv_jobs.specs.Due.{shown, shown_of, traced_outcome}
 use Rattle.nv_jobs.specs.Outcome.{source_of}
 use Rattle.nv_jobs.specs.Traced.{Traced}
-use Rattle.nv_jobs.specs.Tracing.{point_of}
+use Rattle.nv_jobs.specs.Tracing.{trace_point}
 use Rattle.nv_jobs.proofs.Commands.{wrote_answers, trail_refusal_answers}
 use Rattle.nv_jobs.proofs.inspecting.inspect.Goals as goal
 
@@ -20,7 +20,7 @@ returns-in-Ok g c = λ words asked.
     let traced = c.in-Ok.traced in
     let ready = c.in-Ok.ensures.ready in
     let log = traced.kernel.log in
-    let point = point_of look.point in
+    let point = trace_point look.point in
     let files : Traced = record { setup = setup_of traced.script; rules = traced.rules; log = log; machine = ready.machine } in
     let by : ℕ → TracePoint → Proc → Follower Proc = λ i p process. follow threads (judge_of traced.rules i) (events_to p log) (fresh process) in
     let at = by traced.version.index c.point.result traced.version.at.process in

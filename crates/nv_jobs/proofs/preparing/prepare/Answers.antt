@@ -8,7 +8,8 @@ use Rattle.nv_script.specs.Scripts.{Setup, script_of}
 use Rattle.nv_script.specs.Views.{setup_of}
 use Rattle.nv_jobs.specs.Found.{IsReadOf}
 use Rattle.nv_jobs.specs.Prepared.{Ready}
-use Rattle.nv_jobs.specs.Refusals.{AreLoaded, HasRules, IsPrepared, RulesRefused, VersionsRefused}
+use Rattle.nv_jobs.specs.Refusals.{IsPrepared}
+use Rattle.nv_jobs.specs.inner.Refusals.{AreLoaded, HasRules, RulesRefused, VersionsRefused}
 use Rattle.nv_jobs.proofs.Loading.{all_ready, script_unread, script_refuses, script_accepted, rules_ready, rest_by_rules, rest_by_versions, run_refused, length-loaded}
 use Rattle.nv_jobs.proofs.Planned.{planned_by}
 use Rattle.nv_jobs.proofs.preparing.prepare.Goals as goal

@@ -4,7 +4,7 @@ use Rattle.nv_guest.specs.Guest.{machine_of}
 use Rattle.nv_command.specs.Seen.{limits_view}
 use Rattle.nv_script.specs.Views.{setup_of}
 use Rattle.nv_jobs.specs.Found.{IsReadOf}
-use Rattle.nv_jobs.specs.Prepared.{version_of}
+use Rattle.nv_jobs.specs.Prepared.{version_from}
 use Rattle.nv_jobs.specs.declared.refusal.Place.TheVariants.{Version}
 use Rattle.nv_jobs.proofs.Loading.{version_faulty}
 use Rattle.nv_jobs.proofs.preparing.read_version.Goals as goal
@@ -15,7 +15,7 @@ returns-clause-version g c = record {
   read = c.in_ok-bytes.ensures.bytes;
   machine = machine_of c.in_ok-guest.guest;
   begins = c.in_ok-version.ensures.process;
-  loads = ap (version_of (limits_view c.args.limits) (setup_of c.args.script.now)) (sym c.deref.ensures.value) ∙ c.in_ok-guest.ensures.guest;
+  loads = ap (version_from (limits_view c.args.limits) (setup_of c.args.script.now)) (sym c.deref.ensures.value) ∙ c.in_ok-guest.ensures.guest;
 }
 
 pub returns-in_err-guest-clause-refused : goal.returns-in_err-guest-clause-refused

@@ -4,7 +4,7 @@ use Rattle.nv_outside.specs.Told.{Told}
 use Rattle.std.specs.Borrow.{Bor}
 use Rattle.nv_command.specs.Seen.{limits_view, names_view}
 use Rattle.nv_script.specs.Views.{setup_of}
-use Rattle.nv_jobs.specs.Refusals.{HasLoaded}
+use Rattle.nv_jobs.specs.inner.Refusals.{HasLoaded}
 use Rattle.nv_jobs.proofs.Loading.{versions_refused, loaded_next, fresh_next, length-prefix, length-loaded}
 use Rattle.nv_jobs.proofs.preparing.read_versions.Goals as goal
 

@@ -1,9 +1,9 @@
 use Rattle.std.proofs.Common.{◌≡◌, ◌≤◌, ℕ, List, take}
 use Rattle.nv_threads.specs.Threads.{threads}
-use Rattle.nv_replay.specs.Accounts.{AreFresh}
+use Rattle.nv_replay.specs.Account.{AreFresh}
 use Rattle.nv_command.specs.Seen.{limits_view, names_view}
 use Rattle.nv_script.specs.Views.{setup_of}
-use Rattle.nv_jobs.specs.Refusals.{AreLoaded}
+use Rattle.nv_jobs.specs.inner.Refusals.{AreLoaded}
 use Rattle.nv_jobs.proofs.preparing.read_versions.Given as goal
 
 abbrev pub invariant-loop-index : goal.invariant-loop-index

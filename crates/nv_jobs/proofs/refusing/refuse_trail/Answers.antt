@@ -3,7 +3,7 @@ use Rattle.nv_command.specs.Seen.{trail_view}
 use Rattle.nv_jobs.specs.Due.{Says}
 use Rattle.nv_jobs.specs.Ran.{Wrote, Tells}
 use Rattle.nv_jobs.specs.Outcome.{NotAccepted, NotRead, text_of}
-use Rattle.nv_jobs.specs.Trails.{refused_outcome}
+use Rattle.nv_jobs.specs.inner.Trails.{refused_outcome}
 use Rattle.nv_jobs.specs.declared.refusal.Refusal.{Refusal}
 use Rattle.nv_jobs.proofs.Commands.{tells_lack}
 use Rattle.nv_jobs.proofs.refusing.refuse_trail.Goals as goal

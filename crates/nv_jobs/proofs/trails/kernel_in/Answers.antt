@@ -5,7 +5,7 @@ use Rattle.nv_calls.specs.Calls.{entry}
 use Rattle.nv_calls.specs.Logs.{Start}
 use Rattle.nv_script.specs.Views.{setup_of}
 use Rattle.nv_sockets.specs.Serving.{start_of_script}
-use Rattle.nv_trace.specs.Checks.{AreStamped, IsSound}
+use Rattle.nv_trace.specs.Checks.{AreStamped, AreSoundEvents}
 use Rattle.nv_trace.specs.Trace.{IsRead}
 use Rattle.nv_trace.proofs.Recording.{recordable_stamped}
 use Rattle.nv_jobs.proofs.Trailing.{trace_given, trace_refused, check_refused}
@@ -31,4 +31,4 @@ returns-clause-log c =
     let setup = setup_of c.args.script.now in
     let read = subst (λ (events : List Event). IsRead (map entry events) c.args.bytes.now) (sym c.deref.ensures.value) c.in_ok-events.ensures.log in
     trace_given setup c.args.bytes.now (map entry c.deref.result.now) c.check.new.kernel.log read
-    (subst (λ (start : Start). IsSound start (map entry c.deref.result.now)) (ap start_of_script c.in_ok-kernel.ensures.1) c.in_ok-check.ensures.sound) c.in_ok-check.ensures.served
+    (subst (λ (start : Start). AreSoundEvents start (map entry c.deref.result.now)) (ap start_of_script c.in_ok-kernel.ensures.1) c.in_ok-check.ensures.sound) c.in_ok-check.ensures.served

@@ -5,8 +5,8 @@ use Rattle.nv_command.specs.Words.{Limits}
 use Rattle.nv_guest.specs.Guest.{machine_of}
 use Rattle.nv_script.specs.Views.{setup_of}
 use Rattle.nv_jobs.specs.Found.{Whole, IsReadOf}
-use Rattle.nv_jobs.specs.Prepared.{version_of}
-use Rattle.nv_jobs.specs.Traced.{machine_at, of_version}
+use Rattle.nv_jobs.specs.Prepared.{version_from}
+use Rattle.nv_jobs.specs.Traced.{machine_traced, traced_version}
 use Rattle.nv_jobs.specs.declared.refusal.Place.TheVariants.{Version}
 use Rattle.nv_jobs.proofs.Trailing.{read_refuses, version_refuses}
 use Rattle.nv_jobs.proofs.trails.read_follower.Goals as goal
@@ -14,7 +14,7 @@ use Rattle.nv_jobs.proofs.trails.read_follower.Goals as goal
 pub returns-in_err-bytes-clause-refused : goal.returns-in_err-bytes-clause-refused
 returns-in_err-bytes-clause-refused g c =
     let p = err_from_is_err_and c.from_residual.result c.from_residual.ensures.1 in
-    rw (p.1, p.2) (read_refuses _ (Version c.args.trail.now.index) (machine_at (trail_view c.args.trail.now) (setup_of c.args.script.now)) (g.F.Files.holds c.args.files.now c.args.trail.now.version.now)
+    rw (p.1, p.2) (read_refuses _ (Version c.args.trail.now.index) (machine_traced (trail_view c.args.trail.now) (setup_of c.args.script.now)) (g.F.Files.holds c.args.files.now c.args.trail.now.version.now)
     _ _ _ _ refl refl c.in_err-bytes.ensures.refused)
 
 pub returns-in_err-guest-clause-refused : goal.returns-in_err-guest-clause-refused
@@ -38,7 +38,7 @@ returns-clause-version g c =
       gives = record {
         found = Whole c.deref.result.now;
         agrees = read;
-        is = ap (of_version c.args.trail.now.index) (ap (λ (limits : Limits). version_of limits setup c.deref.result.now) (sym c.limits.ensures) ∙ c.in_ok-guest.ensures.guest);
+        is = ap (traced_version c.args.trail.now.index) (ap (λ (limits : Limits). version_from limits setup c.deref.result.now) (sym c.limits.ensures) ∙ c.in_ok-guest.ensures.guest);
       };
       begins = c.in_ok-version.ensures.process;
       fresh = c.in_ok-version.ensures.fresh;

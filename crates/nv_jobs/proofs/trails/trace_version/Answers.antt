@@ -4,9 +4,9 @@ use Rattle.nv_command.specs.Seen.{trail_view}
 use Rattle.nv_outside.specs.Told.{Told}
 use Rattle.nv_script.specs.Views.{setup_of}
 use Rattle.nv_jobs.specs.Found.{TRACE_LIMIT}
-use Rattle.nv_jobs.specs.Refusals.{HasRules}
-use Rattle.nv_jobs.specs.Traced.{script_at, log_at, machine_at}
-use Rattle.nv_jobs.specs.Trails.{IsFollower}
+use Rattle.nv_jobs.specs.inner.Refusals.{HasRules}
+use Rattle.nv_jobs.specs.Traced.{script_at, log_at, machine_traced}
+use Rattle.nv_jobs.specs.inner.Trails.{IsFollower}
 use Rattle.nv_jobs.specs.declared.refusal.Place.TheVariants.{Script, Trace, Version}
 use Rattle.nv_jobs.proofs.Trailing.{step_stops, rules_stop_it, rules_give, gives_still, script_lacks, rules_lack, log_lacks, version_lacks, all_give}
 use Rattle.nv_jobs.proofs.trails.trace_version.Goals as goal
@@ -56,7 +56,7 @@ returns-in_err-version-clause-refused g c =
     let faults = c.in_ok-kernel.ensures.faults ∙ c.in_ok-rules.ensures.faults ∙ c.in_ok-script.ensures.faults in
     let taken : g.F.Files.taken c.args.files.now ≤ g.F.Files.taken c.read_log.new.files = omega (arith, c.in_ok-script.ensures.taken, c.in_ok-rules.ensures.taken, c.in_ok-kernel.ensures.taken) in
     let p = err_from_is_err_and c.from_residual-in_err-version.result c.from_residual-in_err-version.ensures.1 in
-    rw (p.1, p.2) (step_stops _ trail holds (Version trail.index) (machine_at trail setup) (holds trail.version) (g.F.Files.holds c.read_log.new.files trail.version) _ _ _ _ _ _ (ap (λ (h : List ℕ → Told). h trail.version) still) faults taken
+    rw (p.1, p.2) (step_stops _ trail holds (Version trail.index) (machine_traced trail setup) (holds trail.version) (g.F.Files.holds c.read_log.new.files trail.version) _ _ _ _ _ _ (ap (λ (h : List ℕ → Told). h trail.version) still) faults taken
     (version_lacks trail holds setup c.in_ok-script.ensures.script c.in_ok-rules.rules rules c.in_ok-kernel.kernel.log trace) c.in_err-version.ensures.refused)
 
 pub returns-clause-ready : goal.returns-clause-ready

@@ -1,8 +1,8 @@
 use Rattle.std.proofs.Common.{arith, sym, ap, subst, ◌∙◌, ◌≡◌, ◌<◌, ◌+◌, ◌++◌, ◌∷◌, [], ℕ, List, length, length-append}
 use Rattle.std.specs.Prelude.{IsSome}
-use Rattle.nv_words.specs.Begins.{Begins}
-use Rattle.nv_words.specs.Spell.{IsWhole}
-use Rattle.nv_room.specs.Steps.{Tells}
+use Rattle.nv_words.specs.Begins.{BeginsEvent}
+use Rattle.nv_words.specs.Spelling.{IsWhole}
+use Rattle.nv_room.specs.Steps.{SpellLawful}
 use Rattle.nv_room.specs.Seats.{view}
 use Rattle.nv_lamport.proofs.Reading.{begins_short}
 use Rattle.nv_lamport.proofs.Keeping.{keeps_reading}
@@ -21,7 +21,7 @@ loop-i-preserved g c = let i = c.loop-i.invariant in let e = c.read_word-word.en
       read = read;
       at = at;
       part = c.in-More.ensures.whole;
-      short = (let s = begins_short c.put.new.self (subst Begins read e.begins) c.in-More.ensures.whole in omega arith);
+      short = (let s = begins_short c.put.new.self (subst BeginsEvent read e.begins) c.in-More.ensures.whole in omega arith);
     }
 
 pub returns-in-Whole-clause-read : goal.returns-in-Whole-clause-read
@@ -33,5 +33,5 @@ returns-in-Whole-clause-read g c = let i = c.loop-i.invariant in let e = c.read_
       published = subst (λ w. length w.seen < w.head_last) (sym v) i.ahead;
       read = read;
       whole = c.in-Whole.ensures.whole;
-      lawful = subst (λ (z : List (List ℕ)). Tells (z ++ c.put.new.self ∷ [])) (sym same) (subst (λ (z : List ℕ). Tells ((view c.loop-i.reader).seen ++ z ∷ [])) read (e.lawful (subst IsWhole (sym read) c.in-Whole.ensures.whole)));
+      lawful = subst (λ (z : List (List ℕ)). SpellLawful (z ++ c.put.new.self ∷ [])) (sym same) (subst (λ (z : List ℕ). SpellLawful ((view c.loop-i.reader).seen ++ z ∷ [])) read (e.lawful (subst IsWhole (sym read) c.in-Whole.ensures.whole)));
     }

@@ -2,7 +2,7 @@ use Rattle.std.proofs.Common.{sym, subst, arith, rules}
 use Rattle.std.proofs.lemmas.List.{take_at}
 use Rattle.std.specs.Option.{option_copied}
 use Rattle.nv_replay.specs.Follow.{judge_of}
-use Rattle.nv_workers.specs.Rounds.{CanAll, AllOn, AreGone}
+use Rattle.nv_workers.specs.inner.Rounds.{CanAll, AllOn, AreGone}
 use Rattle.nv_workers.specs.Ran.{AreApart, AllRan}
 use Rattle.nv_workers.proofs.Finishing.{can_new, all_ran}
 use Rattle.nv_workers.proofs.NewSeats.{as_made}

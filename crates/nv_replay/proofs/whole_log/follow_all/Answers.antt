@@ -5,7 +5,7 @@ use Rattle.nv_calls.specs.Logs.{IsNew, child_of}
 use Rattle.nv_threads.specs.Threads.{threads, Proc}
 use Rattle.nv_threads.proofs.ThreadLaws.{thread_laws}
 use Rattle.nv_replay.specs.Follow.{decided, judge_of}
-use Rattle.nv_replay.specs.Versions.{Running}
+use Rattle.nv_replay.specs.Version.{Running}
 use Rattle.nv_replay.proofs.Falling.{decided_falls, within}
 use Rattle.nv_replay.proofs.Wholes.{goes_here, goes_on, whole, length_map}
 use Rattle.nv_replay.proofs.whole_log.follow_all.Goals as goal

@@ -1,6 +1,6 @@
 use Rattle.std.proofs.Common.{◌≡◌, map, take}
 use Rattle.serde_json.specs.View.{view}
-use Rattle.nv_replay.specs.Versions.{standing_of}
+use Rattle.nv_replay.specs.Version.{standing_of}
 use Rattle.nv_report.specs.Json.{version_value}
 use Rattle.nv_report.proofs.items.versions.Given as goal
 

@@ -1,7 +1,7 @@
 use Rattle.std.proofs.Common.{◌+◌, List, map, sym, ap}
 use Rattle.nv_outside.proofs.Writing.{puts-is, puts-then, puts-failed}
 use Rattle.nv_threads.specs.Threads.{Proc}
-use Rattle.nv_replay.specs.Versions.{Running, standing_of}
+use Rattle.nv_replay.specs.Version.{Running, standing_of}
 use Rattle.nv_report.specs.Versions.{line_text, lines_text}
 use Rattle.nv_report.proofs.versions.+put_lines.Goals as goal
 

@@ -1,7 +1,7 @@
 use Rattle.std.proofs.Common.{map, sym, ap}
 use Rattle.std.proofs.lemmas.List.{length-map}
 use Rattle.nv_outside.proofs.Writing.{puts-is, puts-then, puts-failed}
-use Rattle.nv_replay.specs.Versions.{standing_of}
+use Rattle.nv_replay.specs.Version.{standing_of}
 use Rattle.nv_report.specs.Versions.{lines_text}
 use Rattle.nv_report.specs.Report.{count_text}
 use Rattle.nv_report.proofs.whole.put_fates.Goals as goal

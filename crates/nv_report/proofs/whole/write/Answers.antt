@@ -5,7 +5,7 @@ use Rattle.nv_outside.proofs.Writing.{puts-is, puts-then, puts-failed}
 use Rattle.nv_calls.specs.Calls.{entry}
 use Rattle.nv_calls.specs.Logs.{output_of}
 use Rattle.nv_threads.specs.Threads.{Proc}
-use Rattle.nv_replay.specs.Versions.{Running, standing_of}
+use Rattle.nv_replay.specs.Version.{Running, standing_of}
 use Rattle.nv_report.specs.Events.{event_text}
 use Rattle.nv_report.specs.Report.{head_text, fates_text}
 use Rattle.nv_report.proofs.Texts.{flat_map-events}

@@ -4,7 +4,7 @@ use Rattle.nv_calls.specs.Logs.{IsLawful}
 use Rattle.nv_calls.proofs.LogLaws.{lawful_take}
 use Rattle.nv_threads.specs.Threads.{Proc, threads}
 use Rattle.nv_replay.specs.Follow.{Follower, IsInStep, follow, judge_of}
-use Rattle.nv_replay.specs.Versions.{Running, IsFresh}
+use Rattle.nv_replay.specs.Version.{Running, IsFresh}
 use Rattle.nv_retrace.specs.Points.{place_of, events_to}
 use Rattle.nv_retrace.specs.declared.points.TracePoint.{TracePoint}
 use Rattle.nv_retrace.specs.declared.points.TracePoint.TheVariants.{Stamp, Call, Count}

@@ -3,7 +3,7 @@ use Rattle.std.specs.Prelude.{slice_get}
 use Rattle.std.proofs.lemmas.Option.{same_Some, slice_get-get_or}
 use Rattle.nv_calls.specs.Calls.{Entry, entry}
 use Rattle.nv_calls.specs.Logs.{InRange, IsLawful}
-use Rattle.nv_words.specs.Spell.{spell, bit}
+use Rattle.nv_words.specs.Spelling.{spell, flag_bit}
 use Rattle.nv_room.specs.Seats.{lead_view, kernel_of}
 use Rattle.nv_ring.proofs.Events.{entry_at, spelt_at, last_spelt, one_more, as_long, take_len}
 use Rattle.nv_ring.proofs.Filling.{ready_still}
@@ -13,7 +13,7 @@ pub count-words-requires : goal.count-words-requires
 count-words-requires g c =
     let l = c.args.lead.now in
     let log : List Entry = g.K.SyscallKernel.log (kernel_of l) in
-    let long : length log ≡ l.seen + 1 = l.longer ∙ ap (λ b. l.seen + bit b) c.requires.due in
+    let long : length log ≡ l.seen + 1 = l.longer ∙ ap (λ b. l.seen + flag_bit b) c.requires.due in
     let at : c.seen-at.result ≡ l.seen = sym c.seen-at.ensures.count ∙ l.seen_is in
     let law : IsLawful log = subst IsLawful (ap g.K.SyscallKernel.log c.kernel.ensures) c.history.ensures.lawful in
     let here = entry_at c.history.result.now log c.seen-at.result c.index-history-at.result (c.history.ensures.log ∙ ap g.K.SyscallKernel.log c.kernel.ensures) (omega arith) c.index-history-at.is in
@@ -24,7 +24,7 @@ word-next-requires g c =
     let l = c.args.lead.now in
     let log : List Entry = g.K.SyscallKernel.log (kernel_of l) in
     let i = c.loop-i.invariant in
-    let long : length log ≡ l.seen + 1 = l.longer ∙ ap (λ b. l.seen + bit b) c.requires.due in
+    let long : length log ≡ l.seen + 1 = l.longer ∙ ap (λ b. l.seen + flag_bit b) c.requires.due in
     let at : c.seen-at.result ≡ l.seen = sym c.seen-at.ensures.count ∙ l.seen_is in
     let law : IsLawful log = subst IsLawful (ap g.K.SyscallKernel.log c.kernel.ensures) c.history.ensures.lawful in
     let near : c.seen-at.result < length log = omega arith in
@@ -41,7 +41,7 @@ write_word-requires-clause-next g c κs within =
     let l = c.args.lead.now in
     let log : List Entry = g.K.SyscallKernel.log (kernel_of l) in
     let i = c.loop-i.invariant in
-    let long : length log ≡ l.seen + 1 = l.longer ∙ ap (λ b. l.seen + bit b) c.requires.due in
+    let long : length log ≡ l.seen + 1 = l.longer ∙ ap (λ b. l.seen + flag_bit b) c.requires.due in
     let at : c.seen-at.result ≡ l.seen = sym c.seen-at.ensures.count ∙ l.seen_is in
     let near : c.seen-at.result < length log = omega arith in
     let first = entry_at c.history.result.now log c.seen-at.result c.index-history-at.result (c.history.ensures.log ∙ ap g.K.SyscallKernel.log c.kernel.ensures) near c.index-history-at.is in
@@ -54,7 +54,7 @@ write_word-requires-clause-word g c κs within =
     let l = c.args.lead.now in
     let log : List Entry = g.K.SyscallKernel.log (kernel_of l) in
     let i = c.loop-i.invariant in
-    let long : length log ≡ l.seen + 1 = l.longer ∙ ap (λ b. l.seen + bit b) c.requires.due in
+    let long : length log ≡ l.seen + 1 = l.longer ∙ ap (λ b. l.seen + flag_bit b) c.requires.due in
     let at : c.seen-at.result ≡ l.seen = sym c.seen-at.ensures.count ∙ l.seen_is in
     let near : c.seen-at.result < length log = omega arith in
     let first = entry_at c.history.result.now log c.seen-at.result c.index-history-at.result (c.history.ensures.log ∙ ap g.K.SyscallKernel.log c.kernel.ensures) near c.index-history-at.is in
@@ -76,7 +76,7 @@ loop-i-preserved g c =
     let log : List Entry = g.K.SyscallKernel.log (kernel_of l) in
     let i = c.loop-i.invariant in
     let w = c.write_word.ensures in
-    let long : length log ≡ l.seen + 1 = l.longer ∙ ap (λ b. l.seen + bit b) c.requires.due in
+    let long : length log ≡ l.seen + 1 = l.longer ∙ ap (λ b. l.seen + flag_bit b) c.requires.due in
     let at : c.seen-at.result ≡ l.seen = sym c.seen-at.ensures.count ∙ l.seen_is in
     let near : c.seen-at.result < length log = omega arith in
     let first = entry_at c.history.result.now log c.seen-at.result c.index-history-at.result (c.history.ensures.log ∙ ap g.K.SyscallKernel.log c.kernel.ensures) near c.index-history-at.is in
@@ -102,7 +102,7 @@ returns-clause-whole g c =
     let l = c.args.lead.now in
     let log : List Entry = g.K.SyscallKernel.log (kernel_of l) in
     let i = c.loop-i.invariant in
-    let long : length log ≡ l.seen + 1 = l.longer ∙ ap (λ b. l.seen + bit b) c.requires.due in
+    let long : length log ≡ l.seen + 1 = l.longer ∙ ap (λ b. l.seen + flag_bit b) c.requires.due in
     let at : c.seen-at.result ≡ l.seen = sym c.seen-at.ensures.count ∙ l.seen_is in
     let first = entry_at c.history.result.now log c.seen-at.result c.index-history-at.result (c.history.ensures.log ∙ ap g.K.SyscallKernel.log c.kernel.ensures) (omega arith) c.index-history-at.is in
     let e : Entry = entry c.index-history-at.result in

@@ -1,7 +1,7 @@
 use Rattle.std.proofs.Common.{◌≡◌, take}
 use Rattle.std.specs.Prelude.{true, slice_get, Some}
 use Rattle.nv_calls.specs.Calls.{Entry}
-use Rattle.nv_words.specs.Spell.{spell}
+use Rattle.nv_words.specs.Spelling.{spell}
 use Rattle.nv_room.specs.Seats.{IsLeadOf, SameLead, lead_view, kernel_of, due_of}
 use Rattle.nv_ring.proofs.writes.write_event.Given as goal
 

@@ -1,5 +1,5 @@
 use Rattle.std.proofs.Common.{rules, arith, refl, sym, ap, ◌≡◌, ◌∙◌, subst, [], ◌∷◌, ◌++◌, length}
-use Rattle.nv_room.specs.Steps.{past_of, joined}
+use Rattle.nv_room.specs.Steps.{past_of, rejoined}
 use Rattle.nv_room.specs.Seats.{with_ended}
 use Rattle.nv_room.proofs.Comings.{joins}
 use Rattle.nv_room.specs.Room.{Live}
@@ -18,7 +18,7 @@ join_seat-requires g c = let i = c.loop-one.invariant in let r = c.in-Some.one i
 pub loop-one-preserved : goal.loop-one-preserved
 loop-one-preserved g c = let i = c.loop-one.invariant in let r = c.in-Some.one in let e = c.join_seat.ensures in let is = c.in-Some.ensures.items in
     let old = c.loop-one.seat.me.0.ended in let now : c.join_seat.new.seat.me.0.ended ≡ old ++ past_of r.seat.me.0 ∷ [] = ap (λ m. m.0.ended) e.2 in record {
-      same = (e.0 ∙ i.same.0, e.1 ∙ i.same.1, ap (λ m. m.0) e.2 ∙ ap (λ v. joined v r.seat.me.0) i.same.2 ∙ ap (with_ended c.args.seat.now.me.0) (sym now));
+      same = (e.0 ∙ i.same.0, e.1 ∙ i.same.1, ap (λ m. m.0) e.2 ∙ ap (λ v. rejoined v r.seat.me.0) i.same.2 ∙ ap (with_ended c.args.seat.now.me.0) (sym now));
       back = one_back _ _ _ _ _ r _ _ _ _ _ is refl now r.seen_is refl i.back;
     }
 

@@ -1,4 +1,4 @@
-use Rattle.nv_rules.specs.Pairs.{pair_words}
+use Rattle.nv_rules.specs.Pair.{pair_words}
 use Rattle.nv_rules.proofs.Laying.{put_mid-after}
 use Rattle.nv_rules.proofs.pair.pair_of.Goals as goal
 

@@ -1,7 +1,7 @@
 use Rattle.std.proofs.Common.{◌≡◌, Some, ap, sym, ◌∙◌, arith, unwrap_or}
 use Rattle.nv_bpf.proofs.FilterLaws.{list_fault-none}
 use Rattle.nv_rules.specs.Values.{returned, returned_from, stepped, Goes}
-use Rattle.nv_rules.specs.Machines.{state_of, effect_of}
+use Rattle.nv_rules.specs.inner.Machine.{state_of, effect_of}
 use Rattle.nv_rules.proofs.Steps.{first, first-sound, first-ends, first-within, first-goes}
 use Rattle.nv_rules.proofs.running.value.Goals as goal
 

@@ -1,6 +1,6 @@
 use Rattle.std.proofs.Common.{length}
 use Rattle.nv_rules.specs.Values.{returned}
-use Rattle.nv_rules.specs.Machines.{state_of}
+use Rattle.nv_rules.specs.inner.Machine.{state_of}
 use Rattle.nv_rules.proofs.Steps.{Left}
 use Rattle.nv_rules.proofs.running.value.Given as goal
 

@@ -1,5 +1,5 @@
 use Rattle.std.proofs.Common.{◌∷◌, sym, ap, ◌∙◌}
-use Rattle.nv_script.specs.Entries.{clock_of}
+use Rattle.nv_script.specs.Entry.{clock_of}
 use Rattle.nv_script.proofs.TooManyFields.{clock_of-four}
 use Rattle.nv_script.proofs.entry.read_clock.Goals as goal
 

@@ -1,5 +1,5 @@
 use Rattle.std.proofs.Common.{◌∷◌, sym, ap, ◌∙◌}
-use Rattle.nv_script.specs.Entries.{connection_of}
+use Rattle.nv_script.specs.Entry.{connection_of}
 use Rattle.nv_script.proofs.TooManyFields.{connection_of-three}
 use Rattle.nv_script.proofs.entry.read_connection.Goals as goal
 

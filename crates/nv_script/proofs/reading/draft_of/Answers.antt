@@ -2,7 +2,7 @@ use Rattle.std.proofs.Common.{Ok, Err, inr, sym, ap, ◌∙◌}
 use Rattle.nv_text.specs.Lines.{line_number}
 use Rattle.nv_script.specs.declared.fault.ScriptFault.TheVariants as fault
 use Rattle.nv_script.specs.Scripts.{drafted}
-use Rattle.nv_script.specs.Views.{became}
+use Rattle.nv_script.specs.inner.Views.{became}
 use Rattle.nv_script.proofs.Drafting.{drafted-line, drafted-none}
 use Rattle.nv_script.proofs.reading.draft_of.Goals as goal
 

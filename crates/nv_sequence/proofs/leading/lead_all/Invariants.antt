@@ -1,7 +1,7 @@
 use Rattle.std.proofs.Common.{◌≡◌}
 use Rattle.nv_threads.specs.Threads.{threads}
 use Rattle.nv_threads.proofs.ThreadLaws.{thread_laws}
-use Rattle.nv_replay.specs.Versions.{leader_of}
+use Rattle.nv_replay.specs.Version.{leader_of}
 use Rattle.nv_replay.proofs.Falling.{lead_size}
 use Rattle.nv_sequence.proofs.Wholly.{LedSo}
 use Rattle.nv_sequence.proofs.leading.lead_all.Given as goal

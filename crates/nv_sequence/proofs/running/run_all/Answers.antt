@@ -4,14 +4,14 @@ use Rattle.nv_calls.specs.Logs.{Start, IsLegal}
 use Rattle.nv_threads.specs.Threads.{threads, Proc}
 use Rattle.nv_threads.proofs.ThreadLaws.{thread_laws}
 use Rattle.nv_replay.specs.Follow.{judge_of}
-use Rattle.nv_replay.specs.Hands.{above}
+use Rattle.nv_replay.specs.Hands.{count_above}
 use Rattle.nv_replay.specs.Monitor.{numbers}
-use Rattle.nv_replay.specs.Versions.{process_of, standing_of}
+use Rattle.nv_replay.specs.Version.{process_of, standing_of}
 use Rattle.nv_replay.specs.Sequence.{Account, cuts_of}
 use Rattle.nv_replay.specs.Covers.{Covers}
 use Rattle.nv_replay.proofs.Covering.{covers}
 use Rattle.nv_replay.proofs.Agreeing.{survivors}
-use Rattle.nv_sequence.specs.Passing.{NextTurn}
+use Rattle.nv_sequence.specs.inner.Passing.{NextTurn}
 use Rattle.nv_sequence.proofs.Finishing.{first_after, goes_now, ready, next_round, fewer, rested, account_is, settled}
 use Rattle.nv_sequence.proofs.running.run_all.Goals as goal
 
@@ -44,8 +44,8 @@ loop-on-smaller g c =
     c.one_turn-on.new.order.items log new_log c.one_turn-on.result
     (goes_now threads thread_laws (judge_of (option_map (λ f. f.now) c.args.rules)) start c.args.most c.args.hands.now ps c.loop-on.versions c.loop-on.order.items log c.loop-on.on c.loop-on.invariant.0 c.loop-on-test.true)
     (subst N c.loop-on.invariant.1 c.one_turn-on.ensures.turn) in
-    let D : Bool → Type 0 = λ b. length c.one_turn-on.new.order.items + above c.args.hands.now (length new_log) + (if c.one_turn-on.result then 1 else 0)
-    < length c.loop-on.order.items + above c.args.hands.now (length log) + (if b then 1 else 0) in
+    let D : Bool → Type 0 = λ b. length c.one_turn-on.new.order.items + count_above c.args.hands.now (length new_log) + (if c.one_turn-on.result then 1 else 0)
+    < length c.loop-on.order.items + count_above c.args.hands.now (length log) + (if b then 1 else 0) in
     subst D (sym c.loop-on-test.true) f
 
 pub loop-on-preserved : goal.loop-on-preserved

@@ -3,8 +3,8 @@ use Rattle.std.specs.Prelude.{if◌then◌else◌}
 use Rattle.nv_threads.specs.Threads.{threads}
 use Rattle.nv_threads.proofs.ThreadLaws.{thread_laws}
 use Rattle.nv_replay.specs.Follow.{judge_of}
-use Rattle.nv_replay.specs.Hands.{above}
-use Rattle.nv_replay.specs.Versions.{process_of}
+use Rattle.nv_replay.specs.Hands.{count_above}
+use Rattle.nv_replay.specs.Version.{process_of}
 use Rattle.nv_sequence.proofs.Going.{After}
 use Rattle.nv_sequence.proofs.running.run_all.Given as goal
 
@@ -14,4 +14,4 @@ invariant-loop-on g l =
     (g.K.SyscallKernel.log l.kernel) l.on × (g.K.SyscallKernel.start l.kernel ≡ g.K.SyscallKernel.start l.initial.kernel)
 
 abbrev pub decreases-loop-on : goal.decreases-loop-on
-decreases-loop-on g l = length l.order.items + above l.hands (length (g.K.SyscallKernel.log l.kernel)) + (if l.on then 1 else 0)
+decreases-loop-on g l = length l.order.items + count_above l.hands (length (g.K.SyscallKernel.log l.kernel)) + (if l.on then 1 else 0)

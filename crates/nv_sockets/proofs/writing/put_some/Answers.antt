@@ -1,6 +1,6 @@
 use Rattle.std.proofs.Common.{◌∙◌, sym, map}
 use Rattle.nv_outside.proofs.Writing.{puts-none, puts-is, puts-then, puts-failed}
-use Rattle.nv_sockets.specs.Texts.{lines_text}
+use Rattle.nv_sockets.specs.Texts.{connection_texts}
 use Rattle.nv_sockets.specs.Views.{written_of}
 use Rattle.nv_sockets.proofs.Lines.{no_text, some_text}
 use Rattle.nv_sockets.proofs.writing.put_some.Goals as goal
@@ -14,4 +14,4 @@ returns-in-Whole g c = puts-is (some_text c.args.connections.now (sym c.is_empty
 pub returns-in-Failed : goal.returns-in-Failed
 returns-in-Failed g c =
     puts-is (some_text c.args.connections.now (sym c.is_empty.ensures ∙ c.if-is_empty.false))
-    (puts-failed (lines_text 0 (map written_of c.args.connections.now)) c.in-Failed.ensures)
+    (puts-failed (connection_texts 0 (map written_of c.args.connections.now)) c.in-Failed.ensures)

@@ -1,5 +1,5 @@
 use Rattle.std.proofs.Common.{◌≡◌, length}
-use Rattle.nv_threads.specs.Process.{HaveCapacity}
+use Rattle.nv_threads.specs.inner.Process.{HaveCapacity}
 use Rattle.nv_threads.proofs.process.eight_calls.Given as goal
 
 abbrev pub invariant-loop : goal.invariant-loop

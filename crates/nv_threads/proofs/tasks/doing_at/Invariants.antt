@@ -1,5 +1,5 @@
 use Rattle.std.proofs.Common.{◌≡◌, drop}
-use Rattle.nv_threads.specs.Tables.{doing_at}
+use Rattle.nv_threads.specs.inner.Tasks.{doing_at}
 use Rattle.nv_threads.proofs.tasks.doing_at.Given as goal
 
 abbrev pub invariant-loop-task : goal.invariant-loop-task

@@ -1,5 +1,5 @@
 use Rattle.std.proofs.Common.{◌≡◌, ◌≤◌, drop, length}
-use Rattle.nv_threads.specs.Tables.{waiter_by}
+use Rattle.nv_threads.specs.inner.Tasks.{waiter_by}
 use Rattle.nv_threads.proofs.tasks.least_waiter.Given as goal
 
 abbrev pub invariant-loop-i : goal.invariant-loop-i

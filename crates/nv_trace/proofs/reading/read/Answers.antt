@@ -8,7 +8,7 @@ use Rattle.nv_trace.specs.declared.fault.TraceFault.{TraceFault}
 use Rattle.nv_trace.specs.declared.fault.TraceFault.TheVariants.{Memory}
 use Rattle.nv_trace.specs.Trace.{IsRead}
 use Rattle.nv_trace.specs.Held.{count_in, entries_in}
-use Rattle.nv_trace.specs.Faults.{head_fault, events_fault, IsRefused}
+use Rattle.nv_trace.specs.Faults.{head_fault, events_fault, IsFirstFault}
 use Rattle.nv_trace.proofs.Whole.{read_is, refused_is, refused_head, trace_by_events, log_by_events}
 use Rattle.nv_trace.proofs.reading.read.Goals as goal
 
@@ -22,7 +22,7 @@ log_of (Err fault) bytes below head none is = tt
 
 fault_of : (r : Result (Vec Event) TraceFault) (bytes : List ℕ) → head_fault bytes ≡ None
     → MatchResult r (λ _. events_fault (count_in bytes) 0 (drop 12 bytes) ≡ None) (λ fault. (fault ≡ Memory) ⊎ (events_fault (count_in bytes) 0 (drop 12 bytes) ≡ Some fault))
-    → IfErr r (λ fault. (fault ≡ Memory) ⊎ IsRefused bytes fault)
+    → IfErr r (λ fault. (fault ≡ Memory) ⊎ IsFirstFault bytes fault)
 fault_of (Ok events) bytes head none = tt
 fault_of (Err fault) bytes head which = ⊎_elim
     (λ (m : fault ≡ Memory). inl m)

@@ -1,12 +1,12 @@
 use Rattle.std.proofs.Common.{arith, sym, ap, refl, Bool, true, false, ◌∙◌, ◌≡◌, ℕ, ◌+◌, ◌*◌, ◌-◌, ◌++◌, length, slice_index}
 use Rattle.nv_calls.specs.Calls.{entry}
 use Rattle.byteorder.specs.Endian.{little_from}
-use Rattle.nv_words.specs.Spell.{spell, bit}
+use Rattle.nv_words.specs.Spelling.{spell, flag_bit}
 use Rattle.nv_words.proofs.SpellLaws.{spell_length, spell_late}
 use mir.Val.{bool_byte}
 use Rattle.nv_words.proofs.spelling.word.Goals as goal
 
-bit_is : (b : Bool) → bool_byte b ≡ bit b
+bit_is : (b : Bool) → bool_byte b ≡ flag_bit b
 bit_is false = refl
 bit_is true = refl
 

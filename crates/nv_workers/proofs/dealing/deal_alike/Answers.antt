@@ -2,7 +2,7 @@ use Rattle.std.proofs.Common.{sym, subst, drop, get_or}
 use denote.Exit.{no}
 use denote.Param.Send.{sendable, param_send, param_sync, arg_send, arg_sync}
 use Rattle.nv_workers.specs.Terms.{judges_of}
-use Rattle.nv_workers.specs.Rounds.{CanAll, WorkedOn}
+use Rattle.nv_workers.specs.inner.Rounds.{CanAll, WorkedOn}
 use Rattle.nv_words.proofs.buf.EventBuf.TheSendSync.{the_send as buf_send}
 use Rattle.nv_workers.proofs.worker.Seat.TheSendSync.{the_field_send as seat_send}
 use Rattle.nv_workers.proofs.Sending.{version_send}

@@ -7,7 +7,7 @@ use Rattle.nv_workers.specs.Terms.{judges_of}
 use Rattle.nv_workers.specs.Working.{FollowsOn}
 use Rattle.nv_replay.specs.declared.standing.Standing.{Standing}
 use Rattle.nv_replay.proofs.Wholes.{none_from}
-use Rattle.nv_replay.specs.Sequence.{is_on}
+use Rattle.nv_replay.specs.Sequence.{is_going}
 use Rattle.nv_workers.proofs.Reading.{longer, seen_by, off_from, after_rewrote, after_drop, after_exit, after_consumed, held_of, whole_buf, whole_read, event_is, stamp_is, is_below, is_live, is_new}
 use Rattle.nv_workers.proofs.Growing.{one_more}
 use Rattle.nv_workers.proofs.follows.decide.Goals as goal
@@ -57,7 +57,7 @@ returns-in-Dropped-clause-after g c = λ most p f.
     let t = c.in-Dropped.ensures.told in (
       f.of,
       after_drop (judges_of c.args.terms.now) most c.args.room.now p c.args.version.now c.args.reader.now c.args.buf.now f (entry c.event-event.result.now)
-          c.event-event.ensures.spelt c.event-event.ensures.range c.follow.new.self c.follow.ensures.new t.0 (ap is_on t.2),
+          c.event-event.ensures.spelt c.event-event.ensures.range c.follow.new.self c.follow.ensures.new t.0 (ap is_going t.2),
     )
 
 pub returns-then-is_some-clause-after : goal.returns-then-is_some-clause-after

@@ -1,6 +1,6 @@
 use Rattle.std.proofs.Common.{sym, subst, Bool}
 use Rattle.nv_workers.specs.Terms.{judges_of}
-use Rattle.nv_replay.specs.Versions.{Running}
+use Rattle.nv_replay.specs.Version.{Running}
 use Rattle.nv_threads.specs.Threads.{Proc}
 use Rattle.nv_workers.specs.Working.{FollowsOn}
 use Rattle.nv_workers.specs.Follows.{AfterTurn}

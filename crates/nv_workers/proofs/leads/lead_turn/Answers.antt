@@ -1,5 +1,5 @@
 use Rattle.std.proofs.Common.{subst, ap, ℕ, Option, false}
-use Rattle.nv_replay.specs.Sequence.{is_on}
+use Rattle.nv_replay.specs.Sequence.{is_going}
 use Rattle.nv_workers.specs.Working.{LeadsOn}
 use Rattle.nv_workers.proofs.Serving.{drops_lead, asks_lead}
 use Rattle.nv_workers.proofs.leads.lead_turn.Goals as goal
@@ -13,7 +13,7 @@ pub returns-in-Dropped-clause-after : goal.returns-in-Dropped-clause-after
 returns-in-Dropped-clause-after g c = λ j p f.
     let f0 = subst (λ (o : Option ℕ). LeadsOn j c.args.room.now c.args.terms.now.most p c.args.version.now false c.args.lead.now o) c.in-None.is f in
     let t = c.in-Dropped.ensures.told in
-    (f0.of, f0.none_due, drops_lead j c.args.room.now c.args.terms.now.most p c.args.version.now c.args.lead.now f0 c.lead.new.self c.lead.ensures.new t.0 (ap is_on t.1))
+    (f0.of, f0.none_due, drops_lead j c.args.room.now c.args.terms.now.most p c.args.version.now c.args.lead.now f0 c.lead.new.self c.lead.ensures.new t.0 (ap is_going t.1))
 
 pub returns-in-Asked-clause-after : goal.returns-in-Asked-clause-after
 returns-in-Asked-clause-after g c = λ j p f.

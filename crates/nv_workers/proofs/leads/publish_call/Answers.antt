@@ -6,8 +6,8 @@ use Rattle.nv_calls.proofs.LogLaws.{take_whole}
 use Rattle.nv_threads.specs.Threads.{threads, Proc}
 use Rattle.nv_threads.proofs.ThreadLaws.{threads_own}
 use Rattle.nv_replay.specs.declared.standing.Standing.{Standing}
-use Rattle.nv_words.specs.Spell.{spell}
-use Rattle.nv_replay.specs.Versions.{answered_by}
+use Rattle.nv_words.specs.Spelling.{spell}
+use Rattle.nv_replay.specs.Version.{became_event}
 use Rattle.nv_room.specs.Seats.{kernel_of, lead_view}
 use Rattle.nv_replay.proofs.Turning.{event_is, get_last}
 use Rattle.nv_workers.proofs.leads.publish_call.Goals as goal
@@ -95,5 +95,5 @@ returns g c =
       lawful = subst IsLawful (ap g.K.SyscallKernel.log c.kernel.ensures) c.history.ensures.lawful;
       seen = p.seen ∙ ap (λ (a : Request). (lead_view c.args.lead.now).seen ++ spell (served start log a) ∷ []) call;
       spans = p.spans;
-      version = c.answered.ensures ∙ ap (λ (x : Entry). answered_by threads x c.args.version.now) (e ∙ ap (served start log) call);
+      version = c.answered.ensures ∙ ap (λ (x : Entry). became_event threads x c.args.version.now) (e ∙ ap (served start log) call);
     }

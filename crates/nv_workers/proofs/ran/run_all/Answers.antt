@@ -1,7 +1,7 @@
 use Rattle.std.proofs.Common.{sym, subst, arith}
 use Rattle.std.proofs.lemmas.List.{take_at}
 use Rattle.nv_workers.specs.Terms.{judges_of}
-use Rattle.nv_workers.specs.Rounds.{CanAll, AllOn, AreGone}
+use Rattle.nv_workers.specs.inner.Rounds.{CanAll, AllOn, AreGone}
 use Rattle.nv_workers.specs.Ran.{AreApart}
 use Rattle.nv_workers.proofs.Finishing.{can_new, all_ran}
 use Rattle.nv_workers.proofs.ran.run_all.Goals as goal

@@ -1,6 +1,6 @@
 use Rattle.std.proofs.Common.{sym, subst, ◌∷◌}
 use Rattle.nv_workers.specs.declared.worker.Turn.{Turn}
-use Rattle.nv_workers.specs.Rounds.{GoneIf}
+use Rattle.nv_workers.specs.inner.Rounds.{GoneIf}
 use Rattle.nv_workers.proofs.Rotating.{gone_both}
 use Rattle.nv_workers.proofs.running.+round.Goals as goal
 

@@ -1,5 +1,5 @@
 use Rattle.nv_workers.specs.Terms.{judges_of}
-use Rattle.nv_workers.specs.Rounds.{CanAll, AllOn}
+use Rattle.nv_workers.specs.inner.Rounds.{CanAll, AllOn}
 use Rattle.nv_workers.proofs.running.rotate_while_moving.Given as goal
 
 abbrev pub invariant-loop : goal.invariant-loop

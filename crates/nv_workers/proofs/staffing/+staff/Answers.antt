@@ -1,5 +1,5 @@
 use Rattle.std.proofs.Common.{◌≡◌, sym, subst, ◌∷◌, ◌++◌, [], length, arith, rules}
-use Rattle.nv_workers.specs.New.{StaffsAnew}
+use Rattle.nv_workers.specs.Staffing.{StaffsAnew}
 use Rattle.nv_workers.proofs.NewSeats.{none_is, prefix_length, prefix_readers, fresh_reader, prefix_seats, reader_seat, versions_prefix, version_last, staffs_one, staffs_more}
 use Rattle.nv_workers.proofs.staffing.+staff.Goals as goal
 

@@ -1,7 +1,7 @@
 use Rattle.std.proofs.Common.{◌≡◌, ◌++◌, ◌∷◌, [], sym, subst, ◌+◌, length, arith, rules, length-append, ap}
 use Rattle.nv_threads.specs.Threads.{threads}
-use Rattle.nv_replay.specs.Versions.{IsFresh}
-use Rattle.nv_replay.specs.Accounts.{AreFresh}
+use Rattle.nv_replay.specs.Version.{IsFresh}
+use Rattle.nv_replay.specs.Account.{AreFresh}
 use Rattle.nv_workers_tests.proofs.Fresh.{fresh_more}
 use Rattle.nv_workers_tests.proofs.runs.versions.Goals as goal
 

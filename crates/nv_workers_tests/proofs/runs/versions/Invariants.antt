@@ -1,6 +1,6 @@
 use Rattle.std.proofs.Common.{◌≡◌, length}
 use Rattle.nv_threads.specs.Threads.{threads}
-use Rattle.nv_replay.specs.Accounts.{AreFresh}
+use Rattle.nv_replay.specs.Account.{AreFresh}
 use Rattle.nv_workers_tests.proofs.runs.versions.Given as goal
 
 abbrev pub invariant-loop-index : goal.invariant-loop-index

@@ -1,6 +1,6 @@
 use Rattle.std.proofs.Common.{◌≡◌, ◌∙◌, ap, ℕ, ◌+◌, ◌-◌, List, ◌++◌, length, drop, min, Option, arith}
 use Rattle.std.proofs.lemmas.List.{length-take}
-use Rattle.nv_blocks.specs.Contents.{Content, byte_at, part_of}
+use Rattle.nv_blocks.specs.Contents.{Content, content_byte, part_of}
 use Rattle.nv_blocks.proofs.Bytes.{part_is}
 use Rattle.nv_blocks.proofs.blocks.Blocks.read_at.Goals as goal
 
@@ -11,8 +11,8 @@ part c =
     let from = c.args.from in
     let short = length-take c.min-got.result c.args.into.now in
     let long : length c.read.new.into ≡ min n (c.self.inside.len - from) = omega arith in
-    part_is (byte_at c.self.inside.blocks.items) c.self.inside.len from n c.read.new.into long
-    (λ k l. c.read.ensures k (omega arith) ∙ ap (λ (bs : List (Option (List ℕ))). byte_at bs (from + k)) c.deref.ensures.value)
+    part_is (content_byte c.self.inside.blocks.items) c.self.inside.len from n c.read.new.into long
+    (λ k l. c.read.ensures k (omega arith) ∙ ap (λ (bs : List (Option (List ℕ))). content_byte bs (from + k)) c.deref.ensures.value)
     ∙ ap (λ (z : Content). part_of z.bytes from n) c.self.view_is
 
 pub returns-clause-count : goal.returns-clause-count

@@ -6,7 +6,7 @@ use Rattle.nv_threads.specs.Ahead.{Known}
 use Rattle.nv_threads.proofs.Aheads.{known_as}
 use Rattle.nv_replay.specs.Permits.{given}
 use Rattle.nv_replay.specs.Follow.{refusal_of}
-use Rattle.nv_replay.specs.Versions.{Running}
+use Rattle.nv_replay.specs.Version.{Running}
 use Rattle.nv_replay.proofs.Following.{not_given, was_given}
 use Rattle.nv_replay.proofs.Obeying.{obeyed, is_refused, is_answered}
 use Rattle.nv_replay.proofs.version.Version.allow.Goals as goal

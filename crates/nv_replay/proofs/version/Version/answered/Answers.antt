@@ -3,7 +3,7 @@ use Rattle.nv_calls.specs.Calls.{Response}
 use Rattle.nv_threads.specs.Threads.{threads, Proc}
 use Rattle.nv_threads.specs.Ahead.{Known}
 use Rattle.nv_threads.proofs.ThreadLaws.{threads_falls}
-use Rattle.nv_replay.specs.Versions.{Running}
+use Rattle.nv_replay.specs.Version.{Running}
 use Rattle.nv_replay.proofs.Spanning.{grown_end}
 use Rattle.nv_replay.proofs.version.Version.answered.Goals as goal
 

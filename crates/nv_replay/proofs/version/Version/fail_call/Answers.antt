@@ -6,7 +6,7 @@ use Rattle.nv_threads.specs.Threads.{threads, Proc}
 use Rattle.nv_threads.specs.Ahead.{Known}
 use Rattle.nv_calls.specs.Numbers.{is_of_threads}
 use Rattle.nv_replay.specs.Permits.{failed}
-use Rattle.nv_replay.specs.Versions.{Running}
+use Rattle.nv_replay.specs.Version.{Running}
 use Rattle.nv_replay.proofs.Obeying.{obeyed, is_refused, is_answered, failed_far, failed_threads, failed_gives}
 use Rattle.nv_replay.proofs.version.Version.fail_call.Goals as goal
 use Rattle.nv_replay.proofs.version.Version.fail_call.Goals.{then-error-gt-MOST_ERROR-via-then-error-gt-MOST_ERROR, then-error-gt-MOST_ERROR-via-else-error-gt-MOST_ERROR+then-is_of_threads}

@@ -8,7 +8,7 @@ use Rattle.nv_threads.specs.declared.turns.Want.TheVariants.{Only}
 use Rattle.nv_rules.specs.declared.outcome.Verdict.{Verdict}
 use Rattle.nv_rules.specs.Verdicts.{verdict_of}
 use Rattle.nv_replay.specs.Follow.{Follower, IsCounted, decided, judge_of}
-use Rattle.nv_replay.specs.Versions.{Running}
+use Rattle.nv_replay.specs.Version.{Running}
 use Rattle.nv_replay.proofs.Following.{decided_fault, decided_asked}
 use Rattle.nv_replay.proofs.Obeying.{told_again}
 use Rattle.nv_replay.proofs.version.Version.follow.Goals as goal

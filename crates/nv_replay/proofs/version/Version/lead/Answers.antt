@@ -1,6 +1,6 @@
 use Rattle.std.proofs.Common.{◌∙◌, sym, ap}
 use Rattle.nv_threads.specs.Threads.{threads, Proc}
-use Rattle.nv_replay.specs.Versions.{Running, asking_next}
+use Rattle.nv_replay.specs.Version.{Running, asking_next}
 use Rattle.nv_replay.proofs.Leading.{asking_fault, asking_asked}
 use Rattle.nv_replay.proofs.version.Version.lead.Goals as goal
 

@@ -5,7 +5,7 @@ use Rattle.nv_rules.specs.Verdicts.{verdict_of}
 use Rattle.nv_threads.specs.Threads.{threads, Proc}
 use Rattle.nv_replay.specs.Permits.{permit}
 use Rattle.nv_replay.specs.Follow.{Follower, IsCounted, judged, judge_of, refusal_of}
-use Rattle.nv_replay.specs.Versions.{Running}
+use Rattle.nv_replay.specs.Version.{Running}
 use Rattle.nv_replay.proofs.Following.{met_same, met_other}
 use Rattle.nv_replay.proofs.version.Version.meet.Goals as goal
 

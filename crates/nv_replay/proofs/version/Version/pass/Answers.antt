@@ -2,7 +2,7 @@ use Rattle.std.proofs.Common.{◌∙◌, sym, ap, refl, ◌+◌}
 use Rattle.nv_calls.specs.Calls.{entry}
 use Rattle.nv_threads.specs.Threads.{threads, Proc}
 use Rattle.nv_replay.specs.Permits.{passed}
-use Rattle.nv_replay.specs.Versions.{Running}
+use Rattle.nv_replay.specs.Version.{Running}
 use Rattle.nv_replay.proofs.Obeying.{obeyed, is_refused, is_passed, passed_not, passed_drops}
 use Rattle.nv_replay.proofs.version.Version.pass.Goals as goal
 

@@ -2,7 +2,7 @@ use Rattle.std.proofs.Common.{arith, refl, sym, ap, ◌≡◌, ◌∙◌, ◌<�
 use Rattle.std.specs.Prelude.{Some, None}
 use mathlib.Core.Option.{some-injective}
 use Rattle.nv_calls.specs.Logs.{IsLegal}
-use Rattle.nv_words.specs.Spell.{spell}
+use Rattle.nv_words.specs.Spelling.{spell}
 use Rattle.nv_room.specs.Lefts.{LeftsOf, AllTell}
 use Rattle.nv_room.proofs.Back.{last_left, fewer}
 use Rattle.nv_room.proofs.Placement.{header_inside}

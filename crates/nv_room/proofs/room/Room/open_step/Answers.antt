@@ -1,9 +1,9 @@
 use Rattle.std.proofs.Common.{arith, sym, ap, ◌∙◌, ◌+◌, ◌<◌, ◌≡◌, [], ℕ, List, length, subst}
 use Rattle.std.proofs.lemmas.List.{nil_from_length}
 use Rattle.std.specs.Option.{ForSome}
-use Rattle.nv_words.specs.Spell.{bit}
+use Rattle.nv_words.specs.Spelling.{flag_bit}
 use Rattle.nv_places.specs.Header.{head_index, cursor_index}
-use Rattle.nv_room.specs.Spans.{HasLed}
+use Rattle.nv_room.specs.Spans.{LastHasEvent}
 use Rattle.nv_room.specs.Room.{Has}
 use Rattle.nv_room.specs.Trails.{Trails}
 use Rattle.nv_room.specs.Steps.{as_opening}
@@ -20,7 +20,7 @@ store-requires g c = let room = c.args.self.now in let l = c.args.lead in let o 
     let near : l.opened < room.stations = (let a = l.opened_is in let b = t.1 in let d = o.3 in omega arith) in (
       c.load-head.ensures.0 ∙ o.0,
       subst (λ (z : ℕ). cursor_index l.opened < z) (sym room.sizes.2) (header_inside _ _ (cursor_index l.opened) (omega arith)),
-      opens_at _ _ _ _ _ _ _ _ (ap (λ m. m.0.role) e ∙ l.role) (ap (λ m. m.0.wrote) e ∙ nil_from_length _ (l.wrote_is ∙ l.quiet c.requires.none_due)) (subst (λ m. Has room.table.shared.key.hands.value.items (length m.0.seen)) (sym e) c.requires.planned) (subst (λ m. HasLed m.0.spans) (sym e) c.requires.led)
+      opens_at _ _ _ _ _ _ _ _ (ap (λ m. m.0.role) e ∙ l.role) (ap (λ m. m.0.wrote) e ∙ nil_from_length _ (l.wrote_is ∙ l.quiet c.requires.none_due)) (subst (λ m. Has room.table.shared.key.hands.value.items (length m.0.seen)) (sym e) c.requires.planned) (subst (λ m. LastHasEvent m.0.spans) (sym e) c.requires.led)
           (ap cursor_index (sym l.opened_is ∙ sym (ap (λ m. m.0.opened) e))) (sym l.seen_is ∙ sym (ap (λ m. length m.0.seen) e)),
     )
 
@@ -35,6 +35,6 @@ invariant_of-result g c = let l = c.args.lead in let h = g.K.SyscallKernel.log l
       seen_is = ap (λ m. length m.0.seen) e ∙ l.seen_is;
       few = l.few.0;
       trail_is = subst (λ m. Trails m.0.places l.trail m.0.seen []) (sym e) (subst (λ (z : List ℕ). Trails l.seat.me.0.places l.trail l.seat.me.0.seen z) quiet l.trail_is);
-      history = whole_history h l.seen l.seat.me.0.seen l.history (l.longer ∙ ap (λ b. l.seen + bit b) c.requires.none_due ∙ omega arith) ∙ sym (ap (λ m. m.0.seen) e);
+      history = whole_history h l.seen l.seat.me.0.seen l.history (l.longer ∙ ap (λ b. l.seen + flag_bit b) c.requires.none_due ∙ omega arith) ∙ sym (ap (λ m. m.0.seen) e);
       began = subst (λ m. ForSome m.0.start (λ s. g.K.SyscallKernel.start l.kernel ≡ g.K.SyscallKernel.start s.value)) (sym e) l.began;
     }

@@ -4,8 +4,8 @@ use Rattle.std.specs.Option.{ForSome}
 use Rattle.std.proofs.lemmas.List.{length-map, take_all}
 use Rattle.std.proofs.lemmas.Option.{same_Some}
 use Rattle.atomic_table.specs.Table.{rest}
-use Rattle.nv_words.specs.Spell.{spell}
-use Rattle.nv_pool.specs.Pools.{Holds}
+use Rattle.nv_words.specs.Spelling.{spell}
+use Rattle.nv_pool.specs.Pool.{Holds}
 use Rattle.nv_places.specs.Logs.{lanes_after}
 use Rattle.nv_room.specs.Placement.{pool_chunks, sizes}
 use Rattle.nv_room.specs.Owner.{owner_word, held}

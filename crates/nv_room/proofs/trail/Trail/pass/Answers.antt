@@ -1,5 +1,5 @@
 use Rattle.std.proofs.Common.{arith, subst, ◌∙◌}
-use Rattle.nv_pool.specs.Pools.{Holds}
+use Rattle.nv_pool.specs.Pool.{Holds}
 use Rattle.nv_room.specs.Placement.{sizes}
 use Rattle.nv_room.proofs.Follows.{lanes_passed, sizes_push}
 use Rattle.nv_room.proofs.trail.Trail.pass.Goals as goal

@@ -5,8 +5,9 @@ use Rattle.std.proofs.lemmas.Int.{to_z-of_z}
 use Rattle.nv_calls.specs.declared.calls.Call.{Call}
 use Rattle.nv_calls.specs.Calls.{request, Request, Response, status_of}
 use Rattle.nv_calls.specs.Logs.{made, IsNew}
-use Rattle.nv_threads.specs.Tables.{threads_of, place_of}
-use Rattle.nv_threads.specs.Threads.{Proc, tids, state_at, is_asking, call_in, answered_as, threads}
+use Rattle.nv_threads.specs.Tasks.{threads_of}
+use Rattle.nv_threads.specs.inner.Tasks.{task_place}
+use Rattle.nv_threads.specs.Threads.{Proc, task_tids, state_at, is_asking, call_in, answered_as, threads}
 use Rattle.nv_threads.specs.declared.tasks.Task.{Task}
 use Rattle.nv_threads.proofs.Keeping.{asking_lives}
 use Rattle.nv_threads.proofs.Leaving.{asked_call, map_at}
@@ -16,7 +17,7 @@ use Rattle.nv_threads.proofs.process.Process.answer.Goals as goal
 pub place-place-requires : goal.place-place-requires
 unfolding threads
 place-place-requires c = lives_there c.self.inside.tasks.items c.deref.result.now (map request c.self.inside.calls.items) c.args.tid c.deref.ensures.0
-    (subst (λ (p : Proc). Contains (tids p.tasks) c.args.tid) (sym c.self.view_is) (asking_lives c.args.self.now.tasks c.args.tid c.requires.pending))
+    (subst (λ (p : Proc). Contains (task_tids p.tasks) c.args.tid) (sym c.self.view_is) (asking_lives c.args.self.now.tasks c.args.tid c.requires.pending))
 
 pub answer_as-requires-clause-lives : goal.answer_as-requires-clause-lives
 unfolding threads
@@ -28,7 +29,7 @@ answer_as-requires-clause-new c =
     let i = c.self.inside in
     let cs = map request i.calls.items in
     let asks : is_asking (state_at (threads_of i.tasks.items cs) c.args.tid) ≡ true = subst (λ (p : Proc). is_asking (state_at p.tasks c.args.tid) ≡ true) (sym c.self.view_is) c.requires.pending in
-    let at : c.place-place.result ≡ place_of i.tasks.items c.args.tid = c.place-place.ensures.place ∙ ap (λ (ts : List Task). place_of ts c.args.tid) c.deref.ensures.0 in
+    let at : c.place-place.result ≡ task_place i.tasks.items c.args.tid = c.place-place.ensures.place ∙ ap (λ (ts : List Task). task_place ts c.args.tid) c.deref.ensures.0 in
     let long : length i.tasks.items ≤ length cs = (let n = length-map i.calls.items request in omega (arith, ap length c.deref.ensures.0, c.deref.ensures.1, c.self.invariant.eight, n)) in
     let d : Call = c.index.result.now in
     let call : call_in (state_at c.args.self.now.tasks c.args.tid) ≡ request d
@@ -36,8 +37,8 @@ answer_as-requires-clause-new c =
     ∙ (asked_call i.tasks.items cs c.args.tid (request d) long asks
     ∙ (ap (λ k. get_or cs k (request d)) (sym at)
     ∙ (map_at i.calls.items c.place-place.result d ∙ ap request (sym c.index.ensures)))) in
-    subst (λ (n : ℕ). IsNew (tids c.args.self.now.tasks) (made n (to_z w32 (of_z w32 c.args.ret)))) (ap (λ (q : Request). q.nr) call)
-    (subst (λ (r : ℤ). IsNew (tids c.args.self.now.tasks) (made (call_in (state_at c.args.self.now.tasks c.args.tid)).nr r)) (sym (to_z-of_z w32 c.args.ret c.ranges.ret)) c.requires.new)
+    subst (λ (n : ℕ). IsNew (task_tids c.args.self.now.tasks) (made n (to_z w32 (of_z w32 c.args.ret)))) (ap (λ (q : Request). q.nr) call)
+    (subst (λ (r : ℤ). IsNew (task_tids c.args.self.now.tasks) (made (call_in (state_at c.args.self.now.tasks c.args.tid)).nr r)) (sym (to_z-of_z w32 c.args.ret c.ranges.ret)) c.requires.new)
 
 pub returns : goal.returns
 unfolding threads
@@ -45,7 +46,7 @@ returns c =
     let i = c.self.inside in
     let cs = map request i.calls.items in
     let asks : is_asking (state_at (threads_of i.tasks.items cs) c.args.tid) ≡ true = subst (λ (p : Proc). is_asking (state_at p.tasks c.args.tid) ≡ true) (sym c.self.view_is) c.requires.pending in
-    let at : c.place-place.result ≡ place_of i.tasks.items c.args.tid = c.place-place.ensures.place ∙ ap (λ (ts : List Task). place_of ts c.args.tid) c.deref.ensures.0 in
+    let at : c.place-place.result ≡ task_place i.tasks.items c.args.tid = c.place-place.ensures.place ∙ ap (λ (ts : List Task). task_place ts c.args.tid) c.deref.ensures.0 in
     let long : length i.tasks.items ≤ length cs = (let n = length-map i.calls.items request in omega (arith, ap length c.deref.ensures.0, c.deref.ensures.1, c.self.invariant.eight, n)) in
     let d : Call = c.index.result.now in
     let first : call_in (state_at c.args.self.now.tasks c.args.tid) ≡ request d

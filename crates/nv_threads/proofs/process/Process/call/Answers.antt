@@ -6,11 +6,12 @@ use Rattle.nv_calls.specs.Calls.{request, Request}
 use Rattle.nv_calls.specs.Numbers.{is_local}
 use Rattle.nv_machine.specs.Guest.{Machine}
 use Rattle.nv_machine.specs.Registers.{Registers}
-use Rattle.nv_guest.specs.Calls.{call_at, number}
+use Rattle.nv_guest.specs.Calls.{call_at, call_number}
 use Rattle.nv_guest.specs.Threads as guests
 use Rattle.nv_guest.specs.declared.outcome.Asked.TheVariants.{Local, Logged}
-use Rattle.nv_threads.specs.Process.{IsSound}
-use Rattle.nv_threads.specs.Tables.{threads_of, place_of, with_doing}
+use Rattle.nv_threads.specs.inner.Process.{IsSoundProcess}
+use Rattle.nv_threads.specs.Tasks.{threads_of}
+use Rattle.nv_threads.specs.inner.Tasks.{task_place, with_doing}
 use Rattle.nv_threads.specs.Threads.{Proc, Task as Thread, Asks, state_at, with_state, is_running, machine, local, asking, called}
 use Rattle.nv_threads.specs.declared.tasks.Doing.TheVariants as doing
 use Rattle.nv_threads.specs.declared.tasks.Task.{Task}
@@ -19,11 +20,11 @@ use Rattle.nv_threads.proofs.Tabling.{running_of, unread, asks_of}
 use Rattle.nv_threads.proofs.Writing.{lives_there, table_written}
 use Rattle.nv_threads.proofs.process.Process.call.Goals as goal
 
-logged_is : (b : Bool) → guests.asked_by b ≡ Logged → b ≡ false
+logged_is : (b : Bool) → guests.asked_as b ≡ Logged → b ≡ false
 logged_is true h = cc
 logged_is false h = refl
 
-local_is : (b : Bool) → guests.asked_by b ≡ Local → b ≡ true
+local_is : (b : Bool) → guests.asked_as b ≡ Local → b ≡ true
 local_is true h = refl
 local_is false h = cc
 
@@ -31,7 +32,7 @@ own_tid : (m : Machine) (t : ℕ) → (call_at m t).tid ≡ t
 unfolding call_at
 own_tid m t = refl
 
-called_by : (p : Proc) (b : Bool) → is_local (number (machine p)) ≡ b → called p ≡ cond b (local (number (machine p)) p) (asking p)
+called_by : (p : Proc) (b : Bool) → is_local (call_number (machine p)) ≡ b → called p ≡ cond b (local (call_number (machine p)) p) (asking p)
 called_by p b e = rw e refl
 
 pub place-place-requires : goal.place-place-requires
@@ -82,7 +83,7 @@ invariant_of-self c =
     let inside : c.place-place.result < length i.calls.items = omega (arith, few, c.place-place.ensures.inside, c.self.invariant.eight) in
     let capacity : 4096 ≤ c.call_of.new.call.payload.capacity = subst (λ (n : ℕ). 4096 ≤ n) (sym c.in-Logged.ensures.capacity)
     (subst (λ (k : Call). 4096 ≤ k.payload.capacity) (sym c.index_mut.ensures.value) (capacity_at i.calls.items c.place-place.result c.index_mut.result.now c.self.invariant.capacity inside)) in
-    let at : c.place-place.result ≡ place_of i.tasks.items i.turn = c.place-place.ensures.place ∙ ap (λ (ts : List Task). place_of ts i.turn) c.deref.ensures.0 in
+    let at : c.place-place.result ≡ task_place i.tasks.items i.turn = c.place-place.ensures.place ∙ ap (λ (ts : List Task). task_place ts i.turn) c.deref.ensures.0 in
     let r : Request = request c.call_of.new.call in
     let long : length i.tasks.items ≤ length cs = (let n = length-map i.calls.items request in omega (arith, ap length c.deref.ensures.0, c.deref.ensures.1, c.self.invariant.eight, n)) in
     let is : threads_of (refill (length i.tasks.items) i.tasks.items c.set_doing.new.tasks) (map request (set i.calls.items c.place-place.result c.call_of.new.call)) ≡ with_state (threads_of i.tasks.items cs) i.turn (Asks r)
@@ -90,7 +91,7 @@ invariant_of-self c =
     ∙ (ap (threads_of (with_doing i.tasks.items i.turn doing.Asks)) (map_set i.calls.items c.place-place.result c.call_of.new.call ∙ ap (λ (k : ℕ). set cs k r) at)
     ∙ asks_of i.tasks.items cs i.turn r long) in
     let own = ap (λ (q : Request). q.tid) c.in-Logged.ensures.call ∙ own_tid (guests.machine_at i.guest i.turn) i.turn in
-    subst (λ (ts : List Thread). IsSound i.count i.budget ts (guests.tids i.guest.threads) (set i.calls.items c.place-place.result c.call_of.new.call)) (sym is)
+    subst (λ (ts : List Thread). IsSoundProcess i.count i.budget ts (guests.tids i.guest.threads) (set i.calls.items c.place-place.result c.call_of.new.call)) (sym is)
     (with_call _ _ _ _ _ c.place-place.result c.call_of.new.call (with_task _ _ _ _ _ i.turn (Asks r) c.self.invariant (own, c.in-Logged.ensures.shaped refl)) capacity)
 
 pub invariant_of-self-in-Local : goal.invariant_of-self-in-Local
@@ -99,7 +100,7 @@ invariant_of-self-in-Local c =
     let cs = map request i.calls.items in
     let runs : is_running (state_at (threads_of i.tasks.items cs) i.turn) ≡ true = subst (λ (p : Proc). is_running (state_at p.tasks p.turn) ≡ true) (sym c.self.view_is) c.requires in
     let lives = running_lives (threads_of i.tasks.items cs) i.turn runs in
-    let at : c.place-place.result ≡ place_of i.tasks.items i.turn = c.place-place.ensures.place ∙ ap (λ (ts : List Task). place_of ts i.turn) c.deref.ensures.0 in
+    let at : c.place-place.result ≡ task_place i.tasks.items i.turn = c.place-place.ensures.place ∙ ap (λ (ts : List Task). task_place ts i.turn) c.deref.ensures.0 in
     let unread_is : threads_of i.tasks.items (map request (set i.calls.items c.place-place.result c.call_of.new.call)) ≡ threads_of i.tasks.items cs
     = ap (threads_of i.tasks.items) (map_set i.calls.items c.place-place.result c.call_of.new.call ∙ ap (λ (k : ℕ). set cs k (request c.call_of.new.call)) at)
     ∙ unread i.tasks.items cs i.turn (request c.call_of.new.call) (sym (running_of i.tasks.items cs i.turn) ∙ runs) in
@@ -107,7 +108,7 @@ invariant_of-self-in-Local c =
     let inside : c.place-place.result < length i.calls.items = omega (arith, few, c.place-place.ensures.inside, c.self.invariant.eight) in
     let capacity : 4096 ≤ c.call_of.new.call.payload.capacity = subst (λ (n : ℕ). 4096 ≤ n) (sym c.in-Local.ensures.capacity)
     (subst (λ (k : Call). 4096 ≤ k.payload.capacity) (sym c.index_mut.ensures.value) (capacity_at i.calls.items c.place-place.result c.index_mut.result.now c.self.invariant.capacity inside)) in
-    subst (λ (ts : List Thread). IsSound i.count i.budget ts (guests.tids i.guest.threads) (set i.calls.items c.place-place.result c.call_of.new.call)) (sym unread_is)
+    subst (λ (ts : List Thread). IsSoundProcess i.count i.budget ts (guests.tids i.guest.threads) (set i.calls.items c.place-place.result c.call_of.new.call)) (sym unread_is)
     (with_call _ _ _ _ _ c.place-place.result c.call_of.new.call c.self.invariant capacity)
 
 pub answer_local-requires : goal.answer_local-requires
@@ -116,7 +117,7 @@ answer_local-requires c =
     let cs = map request i.calls.items in
     let runs : is_running (state_at (threads_of i.tasks.items cs) i.turn) ≡ true = subst (λ (p : Proc). is_running (state_at p.tasks p.turn) ≡ true) (sym c.self.view_is) c.requires in
     let lives = running_lives (threads_of i.tasks.items cs) i.turn runs in
-    let at : c.place-place.result ≡ place_of i.tasks.items i.turn = c.place-place.ensures.place ∙ ap (λ (ts : List Task). place_of ts i.turn) c.deref.ensures.0 in
+    let at : c.place-place.result ≡ task_place i.tasks.items i.turn = c.place-place.ensures.place ∙ ap (λ (ts : List Task). task_place ts i.turn) c.deref.ensures.0 in
     let unread_is : threads_of i.tasks.items (map request (set i.calls.items c.place-place.result c.call_of.new.call)) ≡ threads_of i.tasks.items cs
     = ap (threads_of i.tasks.items) (map_set i.calls.items c.place-place.result c.call_of.new.call ∙ ap (λ (k : ℕ). set cs k (request c.call_of.new.call)) at)
     ∙ unread i.tasks.items cs i.turn (request c.call_of.new.call) (sym (running_of i.tasks.items cs i.turn) ∙ runs) in
@@ -128,7 +129,7 @@ returns-in-Logged c =
     let cs = map request i.calls.items in
     let runs : is_running (state_at (threads_of i.tasks.items cs) i.turn) ≡ true = subst (λ (p : Proc). is_running (state_at p.tasks p.turn) ≡ true) (sym c.self.view_is) c.requires in
     let lives = running_lives (threads_of i.tasks.items cs) i.turn runs in
-    let at : c.place-place.result ≡ place_of i.tasks.items i.turn = c.place-place.ensures.place ∙ ap (λ (ts : List Task). place_of ts i.turn) c.deref.ensures.0 in
+    let at : c.place-place.result ≡ task_place i.tasks.items i.turn = c.place-place.ensures.place ∙ ap (λ (ts : List Task). task_place ts i.turn) c.deref.ensures.0 in
     let r : Request = request c.call_of.new.call in
     let long : length i.tasks.items ≤ length cs = (let n = length-map i.calls.items request in omega (arith, ap length c.deref.ensures.0, c.deref.ensures.1, c.self.invariant.eight, n)) in
     let is : threads_of (refill (length i.tasks.items) i.tasks.items c.set_doing.new.tasks) (map request (set i.calls.items c.place-place.result c.call_of.new.call)) ≡ with_state (threads_of i.tasks.items cs) i.turn (Asks r)
@@ -136,7 +137,7 @@ returns-in-Logged c =
     ∙ (ap (threads_of (with_doing i.tasks.items i.turn doing.Asks)) (map_set i.calls.items c.place-place.result c.call_of.new.call ∙ ap (λ (k : ℕ). set cs k r) at)
     ∙ asks_of i.tasks.items cs i.turn r long) in
     let v : Proc = record { guest = i.guest; tasks = threads_of i.tasks.items cs; turn = i.turn; slice = i.slice; left = i.budget - i.count; budget = i.budget; status = i.status } in
-    let mine = logged_is (is_local (number (machine v))) (sym c.in-Logged.ensures.asked) in
+    let mine = logged_is (is_local (call_number (machine v))) (sym c.in-Logged.ensures.asked) in
     ap (λ (ts : List Thread). record v { tasks = ts }) is
     ∙ (ap (λ (q : Request). record v { tasks = with_state v.tasks v.turn (Asks q) }) c.in-Logged.ensures.call
     ∙ (sym (called_by v false mine) ∙ ap (λ (p : Proc). called p) c.self.view_is))
@@ -147,13 +148,13 @@ returns-in-Local c =
     let cs = map request i.calls.items in
     let runs : is_running (state_at (threads_of i.tasks.items cs) i.turn) ≡ true = subst (λ (p : Proc). is_running (state_at p.tasks p.turn) ≡ true) (sym c.self.view_is) c.requires in
     let lives = running_lives (threads_of i.tasks.items cs) i.turn runs in
-    let at : c.place-place.result ≡ place_of i.tasks.items i.turn = c.place-place.ensures.place ∙ ap (λ (ts : List Task). place_of ts i.turn) c.deref.ensures.0 in
+    let at : c.place-place.result ≡ task_place i.tasks.items i.turn = c.place-place.ensures.place ∙ ap (λ (ts : List Task). task_place ts i.turn) c.deref.ensures.0 in
     let unread_is : threads_of i.tasks.items (map request (set i.calls.items c.place-place.result c.call_of.new.call)) ≡ threads_of i.tasks.items cs
     = ap (threads_of i.tasks.items) (map_set i.calls.items c.place-place.result c.call_of.new.call ∙ ap (λ (k : ℕ). set cs k (request c.call_of.new.call)) at)
     ∙ unread i.tasks.items cs i.turn (request c.call_of.new.call) (sym (running_of i.tasks.items cs i.turn) ∙ runs) in
     let v : Proc = record { guest = i.guest; tasks = threads_of i.tasks.items cs; turn = i.turn; slice = i.slice; left = i.budget - i.count; budget = i.budget; status = i.status } in
-    let mine = local_is (is_local (number (machine v))) (sym c.in-Local.ensures.asked) in
-    let nr : c.get-nr.result ≡ number (machine v) = c.get-nr.ensures ∙ ap (λ (x : Registers). number (record { regs = x; memory = v.guest.memory })) c.regs.ensures in
+    let mine = local_is (is_local (call_number (machine v))) (sym c.in-Local.ensures.asked) in
+    let nr : c.get-nr.result ≡ call_number (machine v) = c.get-nr.ensures ∙ ap (λ (x : Registers). call_number (record { regs = x; memory = v.guest.memory })) c.regs.ensures in
     c.answer_local.ensures
     ∙ (ap (λ (ts : List Thread). local c.get-nr.result (record v { tasks = ts })) unread_is
     ∙ (ap (λ (n : ℕ). local n v) nr

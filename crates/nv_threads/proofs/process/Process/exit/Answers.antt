@@ -4,10 +4,11 @@ use Rattle.std.proofs.lemmas.List.{length-map}
 use Rattle.nv_calls.specs.declared.calls.Call.{Call}
 use Rattle.nv_calls.specs.Calls.{request, Request}
 use Rattle.nv_guest.specs.Threads as guests
-use Rattle.nv_threads.specs.Process.{IsSound}
-use Rattle.nv_threads.specs.Tables.{threads_of, place_of}
+use Rattle.nv_threads.specs.inner.Process.{IsSoundProcess}
+use Rattle.nv_threads.specs.Tasks.{threads_of}
+use Rattle.nv_threads.specs.inner.Tasks.{task_place}
 use Rattle.nv_threads.proofs.ThreadLaws.{others}
-use Rattle.nv_threads.specs.Threads.{Proc, Task as Thread, tids, left_by}
+use Rattle.nv_threads.specs.Threads.{Proc, Task as Thread, task_tids, left_by}
 use Rattle.nv_threads.specs.declared.tasks.Task.{Task}
 use Rattle.nv_threads.proofs.Keeping.{capacity_at}
 use Rattle.nv_threads.proofs.Leaving.{with_less, removed_of, removed_is, capacity_more, capacity_less, map_more, map_less}
@@ -20,7 +21,7 @@ blank = record { tid = 0; nr = 0; args = []; bad = false; payload = record { byt
 
 pub place-place-requires : goal.place-place-requires
 place-place-requires c = lives_there c.self.inside.tasks.items c.deref.result.now (map request c.self.inside.calls.items) c.args.tid c.deref.ensures.0
-    (subst (λ (p : Proc). Contains (tids p.tasks) c.args.tid) (sym c.self.view_is) c.requires)
+    (subst (λ (p : Proc). Contains (task_tids p.tasks) c.args.tid) (sym c.self.view_is) c.requires)
 
 pub invariant_of-self : goal.invariant_of-self
 invariant_of-self c =
@@ -28,8 +29,8 @@ invariant_of-self c =
     let cs = map request i.calls.items in
     let place = c.place-place.result in
     let x : Call = get_or i.calls.items place blank in
-    let lives : Contains (tids (threads_of i.tasks.items cs)) c.args.tid = subst (λ (p : Proc). Contains (tids p.tasks) c.args.tid) (sym c.self.view_is) c.requires in
-    let at : place ≡ place_of i.tasks.items c.args.tid = c.place-place.ensures.place ∙ ap (λ (ts : List Task). place_of ts c.args.tid) c.deref.ensures.0 in
+    let lives : Contains (task_tids (threads_of i.tasks.items cs)) c.args.tid = subst (λ (p : Proc). Contains (task_tids p.tasks) c.args.tid) (sym c.self.view_is) c.requires in
+    let at : place ≡ task_place i.tasks.items c.args.tid = c.place-place.ensures.place ∙ ap (λ (ts : List Task). task_place ts c.args.tid) c.deref.ensures.0 in
     let few : length c.deref.result.now ≤ 8 = c.deref.ensures.1 in
     let same : length c.deref.result.now ≡ length i.tasks.items = ap length c.deref.ensures.0 in
     let here : place < length i.tasks.items = omega (arith, same, c.place-place.ensures.inside) in
@@ -48,8 +49,8 @@ invariant_of-self c =
     let gs = ap (λ (g : guests.Threaded). guests.tids g.threads) c.end_thread.ensures in
     let eight : length (remove i.calls.items place ++ x ∷ []) ≡ 8 = ap length (sym new) ∙ (c.to_end.auto.calls ∙ (ap length c.deref_mut.ensures.value ∙ c.self.invariant.eight)) in
     let capacity = capacity_more (remove i.calls.items place) x (capacity_less i.calls.items place c.self.invariant.capacity) (capacity_at i.calls.items place blank c.self.invariant.capacity there) in
-    subst (λ (ds : List Call). IsSound i.count i.budget (threads_of c.remove.new.self.items (map request (take i.calls.len (c.to_end.new.calls ++ drop (length c.to_end.new.calls) i.calls.items)))) (guests.tids c.end_thread.new.self.threads) ds) (sym all)
-    (subst (λ (ts : List Thread). IsSound i.count i.budget ts (guests.tids c.end_thread.new.self.threads) (remove i.calls.items place ++ x ∷ [])) (sym is)
+    subst (λ (ds : List Call). IsSoundProcess i.count i.budget (threads_of c.remove.new.self.items (map request (take i.calls.len (c.to_end.new.calls ++ drop (length c.to_end.new.calls) i.calls.items)))) (guests.tids c.end_thread.new.self.threads) ds) (sym all)
+    (subst (λ (ts : List Thread). IsSoundProcess i.count i.budget ts (guests.tids c.end_thread.new.self.threads) (remove i.calls.items place ++ x ∷ [])) (sym is)
     (with_less _ _ _ i.guest.threads _ _ (remove i.calls.items place ++ x ∷ []) c.args.tid c.self.invariant lives gs eight capacity))
 
 pub returns : goal.returns
@@ -58,8 +59,8 @@ returns c =
     let cs = map request i.calls.items in
     let place = c.place-place.result in
     let x : Call = get_or i.calls.items place blank in
-    let lives : Contains (tids (threads_of i.tasks.items cs)) c.args.tid = subst (λ (p : Proc). Contains (tids p.tasks) c.args.tid) (sym c.self.view_is) c.requires in
-    let at : place ≡ place_of i.tasks.items c.args.tid = c.place-place.ensures.place ∙ ap (λ (ts : List Task). place_of ts c.args.tid) c.deref.ensures.0 in
+    let lives : Contains (task_tids (threads_of i.tasks.items cs)) c.args.tid = subst (λ (p : Proc). Contains (task_tids p.tasks) c.args.tid) (sym c.self.view_is) c.requires in
+    let at : place ≡ task_place i.tasks.items c.args.tid = c.place-place.ensures.place ∙ ap (λ (ts : List Task). task_place ts c.args.tid) c.deref.ensures.0 in
     let few : length c.deref.result.now ≤ 8 = c.deref.ensures.1 in
     let same : length c.deref.result.now ≡ length i.tasks.items = ap length c.deref.ensures.0 in
     let here : place < length i.tasks.items = omega (arith, same, c.place-place.ensures.inside) in

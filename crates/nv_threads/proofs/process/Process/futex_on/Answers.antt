@@ -2,7 +2,7 @@ use Rattle.std.proofs.Common.{◌≡◌, ◌∙◌, sym, ap, subst, true, length
 use Rattle.std.proofs.lemmas.Int.{to_z_pos}
 use Rattle.std.proofs.lemmas.Bool.Decides.{nat_tests}
 use Rattle.nv_calls.specs.Calls.{request}
-use Rattle.nv_threads.specs.Threads.{Proc, state_at, is_running, woken, woke, replied}
+use Rattle.nv_threads.specs.Threads.{Proc, state_at, is_running, woken, woke, turn_replied}
 use Rattle.nv_threads.proofs.Tabling.{length_of}
 use Rattle.nv_threads.proofs.Writing.{woken_runs}
 use Rattle.nv_threads.proofs.process.Process.futex_on.Goals as goal
@@ -20,5 +20,5 @@ returns-then-op-eq1 c =
     let most : c.min.result ≡ min c.args.value (length c.args.self.now.tasks) = c.min.ensures ∙ ap (min c.args.value) len in
     let small : c.wake-count.result ≤ 8 = omega (arith, c.wake-count.ensures.few, c.min.ensures, c.len-most.ensures.fits) in
     let count : to_z w32 c.wake-count.result ≡ pos c.wake-count.result = to_z_pos w32 c.wake-count.result (omega arith) in
-    rw op (c.reply.ensures ∙ (ap (replied c.wake-count.new.self) count
+    rw op (c.reply.ensures ∙ (ap (turn_replied c.wake-count.new.self) count
     ∙ (sym (ap woke c.wake-count.ensures.woken) ∙ ap (λ (k : ℕ). woke (woken k c.args.address c.args.self.now)) most)))

@@ -1,7 +1,7 @@
 use Rattle.std.proofs.Common.{◌∙◌, sym, ap, map}
 use Rattle.nv_calls.specs.Calls.{request}
 use Rattle.nv_threads.specs.Threads.{Proc, state_at, is_asking}
-use Rattle.nv_threads.specs.Tables.{doing_at, is_asks}
+use Rattle.nv_threads.specs.inner.Tasks.{doing_at, is_asks}
 use Rattle.nv_threads.proofs.Tabling.{asking_of}
 use Rattle.nv_threads.proofs.process.Process.is_asking.Goals as goal
 

@@ -1,7 +1,7 @@
 use Rattle.std.proofs.Common.{◌∙◌, sym, ap, ◌==◌, ◌&&◌, not, map}
 use Rattle.nv_calls.specs.Calls.{request}
 use Rattle.nv_threads.specs.Threads.{Proc, is_on}
-use Rattle.nv_threads.specs.Tables.{doing_at, is_runs}
+use Rattle.nv_threads.specs.inner.Tasks.{doing_at, is_runs}
 use Rattle.nv_threads.proofs.Tabling.{running_of}
 use Rattle.nv_threads.proofs.process.Process.is_on.Goals as goal
 

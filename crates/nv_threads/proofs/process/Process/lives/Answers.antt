@@ -3,7 +3,8 @@ use Rattle.std.specs.Prelude.{Contains, is_some}
 use Rattle.nv_calls.specs.Calls.{request}
 use Rattle.nv_guest.specs.Threads as guests
 use Rattle.nv_threads.specs.Threads.{Proc, state_at}
-use Rattle.nv_threads.specs.Tables.{doing_at, threads_of}
+use Rattle.nv_threads.specs.Tasks.{threads_of}
+use Rattle.nv_threads.specs.inner.Tasks.{doing_at}
 use Rattle.nv_threads.proofs.Keeping.{lives_by, guest_lives}
 use Rattle.nv_threads.proofs.Tabling.{live_of}
 use Rattle.nv_threads.proofs.process.Process.lives.Goals as goal

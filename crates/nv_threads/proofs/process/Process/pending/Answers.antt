@@ -4,8 +4,9 @@ use Rattle.std.proofs.lemmas.List.{length-map}
 use Rattle.nv_calls.specs.declared.calls.Call.{Call}
 use Rattle.nv_calls.specs.Calls.{request, Request}
 use Rattle.nv_calls.specs.Shapes.{IsShaped}
-use Rattle.nv_threads.specs.Tables.{threads_of, place_of}
-use Rattle.nv_threads.specs.Threads.{Proc, tids, state_at, is_asking, call_in, threads}
+use Rattle.nv_threads.specs.Tasks.{threads_of}
+use Rattle.nv_threads.specs.inner.Tasks.{task_place}
+use Rattle.nv_threads.specs.Threads.{Proc, task_tids, state_at, is_asking, call_in, threads}
 use Rattle.nv_threads.specs.declared.tasks.Task.{Task}
 use Rattle.nv_threads.proofs.Keeping.{asking_lives}
 use Rattle.nv_threads.proofs.Leaving.{asked_call, map_at, own_call}
@@ -18,7 +19,7 @@ with_tid q t e = λ j. record q { tid = e j }
 pub place-requires : goal.place-requires
 unfolding threads
 place-requires c = lives_there c.self.inside.tasks.items c.deref.result.now (map request c.self.inside.calls.items) c.args.tid c.deref.ensures.0
-    (subst (λ (p : Proc). Contains (tids p.tasks) c.args.tid) (sym c.self.view_is) (asking_lives c.args.self.now.tasks c.args.tid c.requires))
+    (subst (λ (p : Proc). Contains (task_tids p.tasks) c.args.tid) (sym c.self.view_is) (asking_lives c.args.self.now.tasks c.args.tid c.requires))
 
 pub returns-clause-call : goal.returns-clause-call
 unfolding threads
@@ -26,7 +27,7 @@ returns-clause-call c =
     let i = c.self.inside in
     let cs = map request i.calls.items in
     let asks : is_asking (state_at (threads_of i.tasks.items cs) c.args.tid) ≡ true = subst (λ (p : Proc). is_asking (state_at p.tasks c.args.tid) ≡ true) (sym c.self.view_is) c.requires in
-    let at : c.place.result ≡ place_of i.tasks.items c.args.tid = c.place.ensures.place ∙ ap (λ (ts : List Task). place_of ts c.args.tid) c.deref.ensures.0 in
+    let at : c.place.result ≡ task_place i.tasks.items c.args.tid = c.place.ensures.place ∙ ap (λ (ts : List Task). task_place ts c.args.tid) c.deref.ensures.0 in
     let long : length i.tasks.items ≤ length cs = (let n = length-map i.calls.items request in omega (arith, ap length c.deref.ensures.0, c.deref.ensures.1, c.self.invariant.eight, n)) in
     let d : Call = c.index.result.now in
     let call : call_in (state_at (threads_of i.tasks.items cs) c.args.tid) ≡ request d
@@ -44,7 +45,7 @@ returns-clause-shaped c =
     let i = c.self.inside in
     let cs = map request i.calls.items in
     let asks : is_asking (state_at (threads_of i.tasks.items cs) c.args.tid) ≡ true = subst (λ (p : Proc). is_asking (state_at p.tasks c.args.tid) ≡ true) (sym c.self.view_is) c.requires in
-    let at : c.place.result ≡ place_of i.tasks.items c.args.tid = c.place.ensures.place ∙ ap (λ (ts : List Task). place_of ts c.args.tid) c.deref.ensures.0 in
+    let at : c.place.result ≡ task_place i.tasks.items c.args.tid = c.place.ensures.place ∙ ap (λ (ts : List Task). task_place ts c.args.tid) c.deref.ensures.0 in
     let long : length i.tasks.items ≤ length cs = (let n = length-map i.calls.items request in omega (arith, ap length c.deref.ensures.0, c.deref.ensures.1, c.self.invariant.eight, n)) in
     let d : Call = c.index.result.now in
     let call : call_in (state_at (threads_of i.tasks.items cs) c.args.tid) ≡ request d

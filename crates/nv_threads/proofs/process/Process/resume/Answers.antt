@@ -4,9 +4,9 @@ use Rattle.std.specs.Int.{w32}
 use Rattle.std.proofs.lemmas.Int.{to_z-of_z}
 use Rattle.nv_calls.specs.Calls.{request}
 use Rattle.nv_guest.specs.Threads as guests
-use Rattle.nv_threads.specs.Process.{IsSound}
-use Rattle.nv_threads.specs.Tables.{threads_of}
-use Rattle.nv_threads.specs.Threads.{Proc, Task, Runs, tids, with_state, goes_on}
+use Rattle.nv_threads.specs.inner.Process.{IsSoundProcess}
+use Rattle.nv_threads.specs.Tasks.{threads_of}
+use Rattle.nv_threads.specs.Threads.{Proc, Task, Runs, task_tids, with_state, goes_on}
 use Rattle.nv_threads.specs.declared.tasks.Doing.TheVariants as doing
 use Rattle.nv_threads.proofs.Keeping.{tids_after, with_guest, with_task}
 use Rattle.nv_threads.proofs.Writing.{lives_there, state_written}
@@ -14,12 +14,12 @@ use Rattle.nv_threads.proofs.process.Process.resume.Goals as goal
 
 pub set_doing-requires : goal.set_doing-requires
 set_doing-requires c = lives_there c.self.inside.tasks.items c.deref_mut.result.now (map request c.self.inside.calls.items) c.args.tid c.deref_mut.ensures.value
-    (subst (λ (p : Proc). Contains (tids p.tasks) c.args.tid) (sym c.self.view_is) c.requires)
+    (subst (λ (p : Proc). Contains (task_tids p.tasks) c.args.tid) (sym c.self.view_is) c.requires)
 
 pub invariant_of-self : goal.invariant_of-self
 invariant_of-self c =
     let is = state_written c.self.inside.tasks.items c.deref_mut.result.now c.set_doing.new.tasks (map request c.self.inside.calls.items) c.args.tid doing.Runs Runs (λ _. refl) c.deref_mut.ensures.value c.set_doing.ensures in
-    subst (λ (ts : List Task). IsSound c.self.inside.count c.self.inside.budget ts (guests.tids c.answer.new.self.threads) c.self.inside.calls.items) (sym is)
+    subst (λ (ts : List Task). IsSoundProcess c.self.inside.count c.self.inside.budget ts (guests.tids c.answer.new.self.threads) c.self.inside.calls.items) (sym is)
     (with_task _ _ _ _ _ c.args.tid Runs (with_guest _ _ _ _ _ _ c.self.invariant (tids_after c.self.inside.guest c.answer.new.self c.args.tid _ c.answer.ensures)) tt)
 
 pub returns : goal.returns

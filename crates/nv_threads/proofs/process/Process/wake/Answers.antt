@@ -1,7 +1,7 @@
 use Rattle.std.proofs.Common.{◌∙◌, sym, ap, map, arith}
 use Rattle.nv_calls.specs.Calls.{request}
 use Rattle.nv_threads.specs.Threads.{Proc, least_waiter}
-use Rattle.nv_threads.specs.Tables.{waiter_by}
+use Rattle.nv_threads.specs.inner.Tasks.{waiter_by}
 use Rattle.nv_threads.proofs.Tabling.{waiter_of}
 use Rattle.nv_threads.proofs.Writing.{waiter_lives, woken_more, woken_stops, woken_ends}
 use Rattle.nv_threads.proofs.process.Process.wake.Goals as goal

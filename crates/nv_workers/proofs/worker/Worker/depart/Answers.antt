@@ -1,5 +1,5 @@
 use Rattle.std.proofs.Common.{sym, subst}
-use Rattle.nv_workers.specs.Stepping.{CanLeave}
+use Rattle.nv_workers.specs.inner.Stepping.{CanLeave}
 use Rattle.nv_workers.proofs.worker.Worker.depart.Goals as goal
 
 pub vacate-left-requires-clause-can : goal.vacate-left-requires-clause-can

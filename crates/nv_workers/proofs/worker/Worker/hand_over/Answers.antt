@@ -1,7 +1,7 @@
 use Rattle.std.proofs.Common.{◌≡◌, ◌∙◌, sym, subst, ℕ, Option, true}
 use Rattle.nv_workers.specs.declared.worker.Seat.TheVariants.{Leading}
 use Rattle.nv_workers.specs.Working.{LeadsOn}
-use Rattle.nv_workers.specs.Stepping.{CanHand}
+use Rattle.nv_workers.specs.inner.Stepping.{CanHand}
 use Rattle.nv_workers.proofs.worker.Worker.hand_over.Goals as goal
 
 pub give_lead-reader-requires-clause-leads : goal.give_lead-reader-requires-clause-leads

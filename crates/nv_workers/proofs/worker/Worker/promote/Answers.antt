@@ -1,6 +1,6 @@
 use Rattle.std.proofs.Common.{◌≡◌, ◌∙◌, sym, subst}
 use Rattle.nv_workers.specs.declared.worker.Seat.TheVariants.{Reading}
-use Rattle.nv_workers.specs.Stepping.{CanLead}
+use Rattle.nv_workers.specs.inner.Stepping.{CanLead}
 use Rattle.nv_workers.proofs.worker.Worker.promote.Goals as goal
 
 pub returns-clause-works : goal.returns-clause-works

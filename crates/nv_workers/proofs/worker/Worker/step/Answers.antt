@@ -1,8 +1,8 @@
 use Rattle.std.proofs.Common.{sym, subst}
 use Rattle.nv_workers.specs.Terms.{judges_of}
 use Rattle.nv_workers.specs.declared.worker.Seat.TheVariants.{Reading, Leading}
-use Rattle.nv_workers.specs.Workers.{WorksAt, seen_by}
-use Rattle.nv_workers.specs.Stepping.{StepTells}
+use Rattle.nv_workers.specs.Worker.{WorksAt, seen_by}
+use Rattle.nv_workers.specs.inner.Stepping.{StepTells}
 use Rattle.nv_workers.proofs.Stepping.{after_read, tells_read, tells_lead}
 use Rattle.nv_workers.specs.Growing.{OneMoreAtMost}
 use Rattle.nv_workers.proofs.worker.Worker.step.Goals as goal

@@ -1,7 +1,7 @@
 use Rattle.std.proofs.Common.{◌∙◌, ap, inl, inr, arith}
 use Rattle.nv_workers.specs.Terms.{judges_of}
-use Rattle.nv_replay.specs.Sequence.{is_on}
-use Rattle.nv_replay.specs.Versions.{Running}
+use Rattle.nv_replay.specs.Sequence.{is_going}
+use Rattle.nv_replay.specs.Version.{Running}
 use Rattle.nv_threads.specs.Threads.{Proc}
 use Rattle.nv_workers.proofs.Stepping.{took_from, took_stays}
 use Rattle.nv_workers.proofs.Rotating.{read_grown}
@@ -63,7 +63,7 @@ pub returns-in-Leaves-clause-works : goal.returns-in-Leaves-clause-works
 returns-in-Leaves-clause-works g c = λ p f. c.depart.ensures.works (judges_of c.args.terms.now) c.args.terms.now.most p (c.in-Leaves.ensures.after p f)
 
 pub returns-in-Leaves-clause-tells : goal.returns-in-Leaves-clause-tells
-returns-in-Leaves-clause-tells g c = ap (λ (v : Running Proc). is_on v.at.fate) c.depart.ensures.same ∙ c.in-Leaves.ensures.tells
+returns-in-Leaves-clause-tells g c = ap (λ (v : Running Proc). is_going v.at.fate) c.depart.ensures.same ∙ c.in-Leaves.ensures.tells
 
 pub returns-in-Left-clause-works : goal.returns-in-Left-clause-works
 returns-in-Left-clause-works g c = λ p f. (c.in-Left.ensures.after p f).0

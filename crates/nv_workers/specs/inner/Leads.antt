@@ -1,0 +1,52 @@
+-- What a leader's turn comes to.
+use Rattle.std.specs.Prelude.{◌≡◌, ◌<◌, ℕ, Bool, true, false, length, Option, Some, None}
+use Rattle.nv_calls.specs.declared.kernel.SyscallKernel.{Ghosts}
+use Rattle.nv_room.specs.declared.view.View.{View}
+use Rattle.nv_room.specs.declared.room.Room.{Room}
+use Rattle.nv_room.specs.declared.room.Lead.{Lead}
+use Rattle.nv_room.specs.Seats.{IsLeadOf, lead_view, version_of_lead, due_of, origin, hands_of}
+use Rattle.nv_ring.specs.Places.{WaitsFor}
+use Rattle.nv_threads.specs.Threads.{Proc}
+use Rattle.nv_replay.specs.declared.fate.Fate.{Fate}
+use Rattle.nv_replay.specs.Follow.{Judge}
+use Rattle.nv_replay.specs.Version.{Running}
+use Rattle.nv_workers.specs.declared.follows.Next.{Next}
+use Rattle.nv_workers.specs.declared.follows.Next.TheVariants.{Moved, Ahead, Waits, Leads, Hands, Leaves, Left}
+use Rattle.nv_workers.specs.Working.{LeadsOn, HasEnded}
+
+-- what comes next for a leader with this fate, where its length is planned or not
+abbrev pub next_after : Option Fate → Bool → Next
+next_after (Some fate) planned = Leaves
+next_after None true = Hands
+next_after None false = Moved
+
+module _ (judges : ℕ → Judge) {K : Type 0} {G : Ghosts K} (room : Room K) (most : ℕ) (p : Proc) (v : Running Proc) (l : Lead K G) (asked : Option ℕ) where
+  abbrev pub AfterLead : Next → Type 0
+  AfterLead Moved = LeadsOn judges room most p v false l asked
+  AfterLead Ahead = ⊥
+  AfterLead Waits = LeadsOn judges room most p v false l asked
+  AfterLead Leads = ⊥
+  AfterLead Hands = LeadsOn judges room most p v true l asked × (asked ≡ None)
+  AfterLead Leaves = IsLeadOf room l × (due_of l ≡ false) × HasEnded judges (G.start (origin room)) most (hands_of room) (version_of_lead l) p v (lead_view l)
+  AfterLead Left = ⊥
+
+-- a turn after which the version leads on, or gives up the lead, has published an event
+abbrev pub HasPublished : {T : Type 0} → View T → View T → Next → Type 0
+HasPublished w w2 Moved = length w.seen < length w2.seen
+HasPublished w w2 Ahead = Unit {0}
+HasPublished w w2 Waits = Unit {0}
+HasPublished w w2 Leads = Unit {0}
+HasPublished w w2 Hands = length w.seen < length w2.seen
+HasPublished w w2 Leaves = Unit {0}
+HasPublished w w2 Left = Unit {0}
+
+module _ {K : Type 0} {G : Ghosts K} (room : Room K) (old new : Lead K G) where
+  -- a turn that waits shows which station it waits for
+  abbrev pub IsLate : Next → Type 0
+  IsLate Waits = (s : ℕ) × WaitsFor room old new s
+  IsLate Moved = Unit {0}
+  IsLate Ahead = ⊥
+  IsLate Leads = ⊥
+  IsLate Hands = Unit {0}
+  IsLate Leaves = Unit {0}
+  IsLate Left = ⊥
