@@ -9,7 +9,7 @@ import re
 import sys
 
 TOP = pathlib.Path(__file__).resolve().parent.parent
-LEFT_OUT = re.compile(r"_(tests|bench|loops|laws|runs|support)$|^nv_(row_text|rows|refusing)$")
+LEFT_OUT = re.compile(r"_(tests|bench|laws|runs|support)$|^nv_(row_text|rows|refusing)$")
 CALL = re.compile(r"^( *)pub fn (\w+)(?:<[^{;]*?>)?\(([^{;]*?)\)(?: -> ([^{;]*?))?(?=\s*(?:requires|ensures|where|\{))", re.M | re.S)
 OWNER = re.compile(r"^impl(?:<[^>]*>)? (\w+)", re.M)
 
