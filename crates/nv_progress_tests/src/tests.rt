@@ -8,7 +8,7 @@ use nv_workers_tests::{kernel, one_by_one};
 use std::alloc::Global;
 use std::process::Abort;
 
-const ROOMS: u32 = 20;
+const ROOMS: u32 = 1_000;
 
 const SCHEDULES: u32 = 3;
 
