@@ -1,31 +1,22 @@
 #!/usr/bin/env python3
-"""Runs each instruction of RV32IMA on edge values under qemu-riscv32, and compares what it did with the rows of crates/nv_machine_tests/src/steps: results.rt has the
-instructions of RV32I and M, atomics.rt those of A.
+"""Runs each instruction of RV32IMA on edge values under qemu-riscv32, and compares what it did with the tables of crates/nv_rows/data/instructions.
 
 Needs riscv64-unknown-elf-as and -ld (Debian's package binutils-riscv64-unknown-elf) and qemu-riscv32 (qemu-user).
-bench/instruction_results.py says which rows differ; with --print results or --print atomics it prints the rows. In results.rt, one an instruction and operands:
+bench/instruction_results.py says which lines differ; with --print it prints all. A line has the instruction, what it finds and what it leaves, as the head of its table
+says. What it finds stands as numbers; what it leaves as it lies in memory, least byte first. x7 and x29 are 5a5a5a5a before.
 
-    kind word x5 x6 x7 pc memory instruction
-
-with numbers in hexadecimal, modulo 2^32. x5 and x6 are before the instruction, the others behind it. x7 is 5a5a5a5a before; pc is how far it moved; memory
-is eight bytes, MEMORY before. In rows of the kind `pc`, x5 and x7 are counted from the instruction's address; in rows of the kind `at`, x5 is counted from the
-memory's start; those of the kind `is` are as they are.
-
-In atomics.rt a row has up to three instructions, one behind the other:
-
-    before x6 x7 x29 after words instructions
-
-with eight bytes of memory before and after, x6 before, and x7 and x29 after, which are 5a5a5a5a before. x5 is the address of the first word of the memory, x28 that of the
-second.
+- `between registers` and `from the pc`: x5 and x6, then x7 and how far the pc moved. From the pc x5 and x7 are counted from the instruction's address.
+- `in memory`: x5, counted from the memory's start, and x6, then x7 and the eight bytes of memory, which are MEMORY before.
+- `atomic instructions`: up to three, one behind the other. Two words of memory and x6, then x7, x29 and the eight bytes of memory. x5 is the address of the first word,
+  x28 that of the second.
 """
 import pathlib
-import re
 import struct
 import subprocess
 import sys
 import tempfile
 
-TESTS = pathlib.Path(__file__).resolve().parent.parent / "crates/nv_machine_tests/src/steps"
+ROWS = pathlib.Path(__file__).resolve().parent.parent / "crates/nv_rows/data/instructions"
 BEFORE = 0x5A5A5A5A
 MEMORY = bytes.fromhex("80ff7f01fe00817e")
 EDGES = [0, 1, 0x7FFFFFFF, 0x80000000, 0xFFFFFFFF, 0x12345678]
@@ -178,16 +169,22 @@ records: .zero {size * len(texts)}
 def line_of(row, record):
     kind, text, x5, x6 = row
     x7, pc, moved = struct.unpack_from("<IIi", record)
-    x7 = (x7 - pc) % 2**32 if kind == "pc" else x7
-    word = struct.unpack_from("<I", record, 20)[0]
-    return f"{kind} {word:08x} {x5:x} {x6:x} {x7:x} {moved % 2**32:x} {record[12:20].hex()} {text}"
+    text = text.replace(".+12", "there").replace(".-8", "back")
+    memory, left, way = record[12:20], record[:4].hex(), record[8:12].hex()
+    if kind == "at":
+        assert moved == 4
+        return f"|{text} | {x5:#x} | {x6:#x} | {left} | {memory.hex()}"
+    assert memory == MEMORY
+    if kind == "pc":
+        return f"|{text} | {x5:#x} | {struct.pack('<I', (x7 - pc) % 2**32).hex()} | {way}"
+    return f"|{text} | {x5:#x} | {x6:#x} | {left} | {way}"
 
 
 def line_of_course(row, record):
     first, second, x6, instructions = row
-    x7, x29 = struct.unpack_from("<II", record)
-    words = ",".join(f"{word:08x}" for word in struct.unpack_from("<III", record, 16)[: instructions.count(";") + 1])
-    return f"{struct.pack('<II', first, second).hex()} {x6:x} {x7:x} {x29:x} {record[8:16].hex()} {words} {instructions}"
+    found = f"{first:#x} | {second:#x} | {x6:#x}"
+    left = f"{record[:4].hex()} | {record[4:8].hex()} | {record[8:16].hex()}"
+    return f"|{instructions.replace('; ', '$n')} | {found} | {left}"
 
 
 def lines_of(rows, text, size, line, room):
@@ -195,25 +192,24 @@ def lines_of(rows, text, size, line, room):
     return [line(row, record) for row, record in zip(rows, written, strict=True)]
 
 
+def kept():
+    """The lines of the tables: those with columns, which begin with a bar."""
+    return [line for line in ROWS.read_text().split("\n") if line.startswith("|") and " | " in line]
+
+
 def main():
     with tempfile.TemporaryDirectory() as name:
         room = pathlib.Path(name)
-        tables = {
-            "results": lines_of(list(cases()), text_of, 24, line_of, room),
-            "atomics": lines_of(list(courses()), text_of_course, 28, line_of_course, room),
-        }
+        lines = lines_of(list(cases()), text_of, 24, line_of, room) + lines_of(list(courses()), text_of_course, 28, line_of_course, room)
     if sys.argv[1:2] == ["--print"]:
-        print("\n".join(tables[sys.argv[2]]))
+        print("\n".join(lines))
         return
-    wrong = False
-    for table, lines in tables.items():
-        kept = re.search(r'= "\n(.*?)\n";', (TESTS / f"{table}.rt").read_text(), re.S)[1].split("\n")
-        differ = [line for line in lines if line not in kept]
-        for line in differ:
-            print(f"not kept: {line}")
-        print(f"{table}: {len(lines)} results, {len(kept)} kept, {len(differ)} differ")
-        wrong = wrong or differ != [] or len(kept) != len(lines)
-    sys.exit(wrong)
+    there = kept()
+    differ = [line for line in lines if line not in there]
+    for line in differ:
+        print(f"not kept: {line}")
+    print(f"{len(lines)} results, {len(there)} kept, {len(differ)} differ")
+    sys.exit(differ != [] or len(there) != len(lines))
 
 
 main()

@@ -1,8 +1,6 @@
-//! Tests of files and their blocks.
-//! Proved: that the tests do nothing undefined. What they assert is run.
+//! A test of the console's end, which no row reaches. All else of files and pipes is rows of nv_rows.
+//! Proved: that the test does nothing undefined. What it asserts is run.
 #![tactic(auto)]
 
 #[cfg(test)]
-mod blocks;
-#[cfg(test)]
-mod files;
+mod console;

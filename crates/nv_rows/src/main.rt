@@ -14,7 +14,7 @@ use std::{fs, io};
 use tally::Tally;
 
 // The files with rows, by what they are about. One may include the texts of those before it.
-const SUBJECTS: [&str; 26] = [
+const SUBJECTS: [&str; 28] = [
     "common",
     "calls",
     "memory",
@@ -22,6 +22,7 @@ const SUBJECTS: [&str; 26] = [
     "flags",
     "numbers",
     "files",
+    "files_in_turn",
     "scripts",
     "script_texts",
     "alone",
@@ -37,6 +38,7 @@ const SUBJECTS: [&str; 26] = [
     "built_guests",
     "built",
     "atomics",
+    "instructions",
     "sockets",
     "reports",
     "traces",
