@@ -6,6 +6,7 @@
 #![tactic(auto)]
 
 mod bytes;
+mod code;
 mod memory;
 mod ranges;
 mod region;

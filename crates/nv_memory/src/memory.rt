@@ -7,6 +7,7 @@ ghost use Rattle.nv_memory.specs.Image.{value_at, allowed, stored, copied, cut};
 ghost use Rattle.nv_memory.specs.Cells.{memory_byte};
 
 use crate::bytes::{clear, count, part, read, read_all, write, write_all};
+use crate::code::Code;
 use crate::ranges::{end_at, has_address, is_held, move_end};
 use crate::region::{Access, Region, Right, Width};
 use std::alloc::{AllocError, Global};
@@ -17,18 +18,21 @@ use std::marker::Model;
 pub struct Memory {
     bytes: Vec<u8>,
     regions: Vec<Region>,
+    // what the first region says of a fetch, so that most don't ask the regions
+    code: Code,
 }
 
 impl Model for Memory {
     ghost use Rattle.std.specs.Prelude.{length};
     ghost use Rattle.nv_memory.specs.Region.{AreRegions};
     ghost use Rattle.nv_memory.specs.Image.{Image};
+    ghost use Rattle.nv_memory.specs.inner.Code.{IsCode};
 
     ghost Value = { Image };
 
     ghost view = { λ m. record { bytes = m.bytes.items; regions = m.regions.items } };
 
-    ghost invariant = { λ m. AreRegions (length m.bytes.items) m.regions.items };
+    ghost invariant = { λ m. AreRegions (length m.bytes.items) m.regions.items × IsCode m.code m.regions.items };
 }
 
 impl Memory {
@@ -38,7 +42,12 @@ impl Memory {
         ensures { IfOk result (λ m. m ≡ record { bytes = replicate size 0; regions = regions.items }) }
     {
         let bytes = vec![in alloc; 0; size as usize]?;
-        Ok(Memory { bytes, regions })
+        let code = Code::of(&regions);
+        Ok(Memory {
+            bytes,
+            regions,
+            code,
+        })
     }
 
     /// Whether the range is empty or lies in one region with the right.
@@ -68,10 +77,29 @@ impl Memory {
     }
 
     /// The four bytes of an instruction, in little-endian order.
+    #[tactic(auto, using(crate::proofs::Bounds::in_one))]
     pub fn fetch(&self, address: u32) -> Result<u32, Access>
         ensures { result ≡ value_at self.now address Width.Four Right.Execute }
     {
-        self.read_with(address, Width::Four, Right::Execute)
+        if self.may_fetch(address) {
+            Ok(read(&self.bytes, address as usize, Width::Four))
+        } else {
+            Err(Access(address))
+        }
+    }
+
+    fn may_fetch(&self, address: u32) -> bool
+        ensures { result ≡ holds self.now.regions address 4 Right.Execute }
+    {
+        self.code.has(address) || self.asks_regions(address)
+    }
+
+    // Out of line, since few fetches come here and the machine's loop has no registers for a search.
+    #[inline(never)]
+    fn asks_regions(&self, address: u32) -> bool
+        ensures { result ≡ holds self.now.regions address 4 Right.Execute }
+    {
+        is_held(&self.regions, address, 4, Right::Execute)
     }
 
     #[tactic(auto, using(crate::proofs::Bounds::held_is_inside))]
@@ -170,5 +198,6 @@ impl Memory {
             clear(&mut self.bytes, end as usize, before as usize);
         }
         move_end(&mut self.regions, region, end);
+        self.code = Code::of(&self.regions);
     }
 }
