@@ -1,13 +1,14 @@
 /* A plain switch interpreter of RV32I of the same design as nv_machine: regions with rights, searched at each access, and
    no cache of decoded words. It runs one of three guests for a number of instructions and prints where it came. With INLINE
-   defined, the compiler may put `step` into the loop that calls it. */
+   defined, the compiler may put `step` into the loop that calls it; with CODE, the addresses of the first region are kept for
+   fetches, as nv_memory keeps them. */
 #include <stdint.h>
 #include <stdio.h>
 #include <stdlib.h>
 #include <string.h>
 
 typedef struct { uint32_t start, end; int read, write, execute; } Region;
-typedef struct { uint8_t *bytes; Region *regions; int count; } Memory;
+typedef struct { uint8_t *bytes; Region *regions; int count; uint32_t start, stop; } Memory;
 typedef struct { uint32_t x[32]; uint32_t pc; } Regs;
 enum { READ, WRITE, EXECUTE };
 enum { ON, CALL, ILLEGAL, MISALIGNED, FETCH, LOAD, STORE, BREAKPOINT };
@@ -21,6 +22,13 @@ static inline int holds(const Memory *m, uint32_t a, uint32_t len, int right) {
     return 0;
 }
 
+static inline int can_fetch(const Memory *m, uint32_t a) {
+#ifdef CODE
+    if (m->start <= a && a < m->stop) return 1;
+#endif
+    return holds(m, a, 4, EXECUTE);
+}
+
 static inline uint32_t get(const uint8_t *p, int n) { uint32_t v = 0; memcpy(&v, p, n); return v; }
 
 #define CALLED __attribute__((noinline))
@@ -32,7 +40,7 @@ static inline uint32_t get(const uint8_t *p, int n) { uint32_t v = 0; memcpy(&v,
 
 STEP int step(Regs *g, Memory *m) {
     uint32_t pc = g->pc;
-    if (!holds(m, pc, 4, EXECUTE)) return FETCH;
+    if (!can_fetch(m, pc)) return FETCH;
     uint32_t w = get(m->bytes + pc, 4);
     uint32_t rd = w >> 7 & 31, rs2 = w >> 20 & 31, f3 = w >> 12 & 7, f7 = w >> 25;
     uint32_t a = g->x[w >> 15 & 31], b = g->x[rs2], v = 0, next = pc + 4;
@@ -161,7 +169,7 @@ int main(int argc, char **argv) {
     r[1] = (Region){0x10000, 0x20000, 1, 1, 0};
     r[2] = (Region){0x30000, 0x40000, 1, 1, 0};
     r[3] = (Region){0x20000, 0x20000, 1, 1, 0};
-    Memory m = {calloc(0x40000, 1), r, 4};
+    Memory m = {calloc(0x40000, 1), r, 4, r[0].start, r[0].end - 3};
     memcpy(m.bytes + 0x8000, words, size);
     Regs g = {{0}, 0x8000};
     uint32_t done = run(&g, &m, count);

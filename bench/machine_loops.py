@@ -1,9 +1,12 @@
 #!/usr/bin/env python3
 """Times the guest machine beside a plain C interpreter of the same design.
 
-Builds crates/nv_machine_bench with `rt run` and bench/machine_loops.c with `gcc -O2`, with `step` as a call of its own and
-compiled into the loop. Runs the three in turn on three guests, and prints the medians and the best of their processor times,
-and how many times the machine's time they took. All must print the same.
+    bench/machine_loops.py [RUNS] [--before PROGRAM]
+
+Takes the program of crates/nv_machine_bench as `rt ci` built it, or builds it with `rt run` where there is none, and bench/machine_loops.c with `gcc -O2`: with `step` as a call of
+its own, compiled into the loop, and as a call with the addresses of the code kept for fetches as nv_memory keeps them. Runs all in turn on three guests, and prints the medians and
+the best of their processor times, and how many times the machine's time they took. All must print the same. `--before` names another build of the machine's program, as one
+from before a change.
 """
 import os
 import resource
@@ -14,6 +17,7 @@ import tempfile
 
 TOP = os.path.dirname(os.path.dirname(os.path.abspath(__file__)))
 CRATE = os.path.join(TOP, "crates", "nv_machine_bench")
+PROGRAM = os.path.join(CRATE, "out", "nv_machine_bench")
 STEPS = 50_000_000
 
 
@@ -25,16 +29,21 @@ def timed(program, guest):
 
 
 def main():
-    runs = int(sys.argv[1]) if len(sys.argv) > 1 else 11
-    subprocess.run(["rt", "run", "--", "count", "1"], cwd=CRATE, check=True, capture_output=True)
+    words = sys.argv[1:]
+    before = words.pop(words.index("--before") + 1) if "--before" in words else None
+    runs = int(words[0]) if words[:1] not in ([], ["--before"]) else 11
+    if not os.path.exists(PROGRAM):
+        subprocess.run(["rt", "run", "--", "count", "1"], cwd=CRATE, check=True, capture_output=True)
     with tempfile.TemporaryDirectory() as room:
-        programs = {"proved machine": os.path.join(CRATE, "out", "nv_machine_bench")}
-        for name, flags in (("C, step called", []), ("C, step inlined", ["-DINLINE"])):
+        programs = {"proved machine": PROGRAM}
+        if before:
+            programs["machine before"] = before
+        for name, flags in (("C, step called", []), ("C, step inlined", ["-DINLINE"]), ("C, called, code kept", ["-DCODE"])):
             programs[name] = os.path.join(room, "machine_loops" + "".join(flags))
             source = os.path.join(TOP, "bench", "machine_loops.c")
             subprocess.run(["gcc", "-O2", *flags, "-o", programs[name], source], check=True)
         print(f"{STEPS} instructions, {runs} runs, load {os.getloadavg()[0]:.1f}")
-        print("guest    program            median   best      times the machine's: median  best")
+        print("guest    program                median   best      times the machine's: median  best")
         for guest in ("count", "memory", "calls"):
             times = {name: [] for name in programs}
             wrote = set()
@@ -47,7 +56,7 @@ def main():
             ours = times["proved machine"]
             for name, took in times.items():
                 a, b = statistics.median(took), min(took)
-                print(f"{guest:8} {name:16}  {a:.3f} s  {b:.3f} s  {a / statistics.median(ours):21.2f}  {b / min(ours):.2f}")
+                print(f"{guest:8} {name:20}  {a:.3f} s  {b:.3f} s  {a / statistics.median(ours):21.2f}  {b / min(ours):.2f}")
 
 
 if __name__ == "__main__":

@@ -4,6 +4,9 @@
 // write their cursors, in sequential order. Nothing is spelt, served or proved here.
 //
 //   gcc -O2 -pthread bench/ring_layout.c -o /tmp/ring_layout && /tmp/ring_layout
+//
+// With a number of readers and of runs it passes as many events so many times by places of six words and a cursor an event, and prints nothing:
+// bench/ring_speed.py takes the time.
 #include <pthread.h>
 #include <sched.h>
 #include <stdatomic.h>
@@ -81,11 +84,24 @@ static int by_size(const void *a, const void *b)
     return (x > y) - (x < y);
 }
 
-int main(void)
+static int pass(unsigned given, int runs)
+{
+    if (given > MOST)
+        return 1;
+    readers = given;
+    stride = WORDS;
+    for (int i = 0; i < runs; i++)
+        run();
+    return 0;
+}
+
+int main(int argc, char **argv)
 {
     enum { FORMS = 3 };
     double took[FORMS][RUNS];
     table = aligned_alloc(64, 8 * (LINE * (2 + MOST) + PLACES * 8));
+    if (argc == 3)
+        return pass(atoi(argv[1]), atoi(argv[2]));
     printf("| Readers | Six words, ns an event | Eight aligned | Eight / six | Six, a cursor a look | A look / an event |\n|---|---|---|---|---|---|\n");
     for (readers = 0; readers <= MOST; readers++) {
         for (unsigned i = 0; i < RUNS; i++)

@@ -1,11 +1,14 @@
 #!/usr/bin/env python3
-"""Times the turns of a process beside the machine's steps alone.
+"""Times the machine's loop in each program that has it: `step` in a bare loop, the turns of a process, and the whole monitor.
 
-Builds crates/nv_machine_bench, which calls `step` in a loop, and crates/nv_thread_bench, which calls `Process::advance`, with
-`rt run`. Both run a guest that counts down (`addi`, `bne`) for the same number of instructions: the first as it is, the second
-in one thread and in eight that take turns. Runs the three in turn, and prints the medians and the best of their processor times
-in millions of instructions a second, and the speed of each against `step`. With valgrind it also prints the host instructions of
-each guest instruction, which don't depend on the load of the machine.
+    bench/thread_loops.py [RUNS]
+
+A guest that counts down (`addi`, `bne`) runs for the same number of instructions as crates/nv_machine_bench calls `step`, as crates/nv_thread_bench calls `Process::advance`, in one
+thread and in eight that take turns, and as one version under `varan run` on one thread. Beside them the plain C interpreter of bench/machine_loops.c, with `step` as a call of its own
+and compiled into the loop. Runs them in turn (11 times by default), and prints the medians and the best of their processor times in millions of instructions a second, the speed
+of each against `step`, and how many times its time C takes. With valgrind it also prints the host instructions of each guest instruction, which don't depend on the load.
+
+Takes the programs as `rt ci` built them, or builds those that aren't there with `rt run`.
 """
 import os
 import re
@@ -14,6 +17,9 @@ import shutil
 import statistics
 import subprocess
 import sys
+import tempfile
+
+from worker_speed import EXIT, PROGRAM, compute, image
 
 TOP = os.path.dirname(os.path.dirname(os.path.abspath(__file__)))
 STEPS = 50_000_000
@@ -22,8 +28,42 @@ COUNTED = 2_000_000
 
 def built(crate, *words):
     folder = os.path.join(TOP, "crates", crate)
-    subprocess.run(["rt", "run", "--", *words], cwd=folder, check=True, capture_output=True)
-    return os.path.join(folder, "out", crate)
+    program = os.path.join(folder, "out", crate)
+    if not os.path.exists(program):
+        subprocess.run(["rt", "run", "--", *words], cwd=folder, check=True, capture_output=True)
+    return program
+
+
+class Programs:
+    """What runs the guest, by name: the words of a run of so many instructions."""
+
+    def __init__(self, room):
+        self.room = room
+        machine, threads = built("nv_machine_bench", "count", "1"), built("nv_thread_bench", "one", "1")
+        self.write("s", b"varan-script 1\n")
+        self.words = {
+            "step": lambda steps: [machine, "count", str(steps)],
+            "advance, one thread": lambda steps: [threads, "one", str(steps)],
+            "advance, eight threads": lambda steps: [threads, "eight", str(steps)],
+            "varan run": self.run_of,
+        }
+        for name, flags in (("C, step called", []), ("C, step inlined", ["-DINLINE"])):
+            program = os.path.join(room, "machine_loops" + "".join(flags))
+            subprocess.run(["gcc", "-O2", *flags, "-o", program, os.path.join(TOP, "bench", "machine_loops.c")], check=True)
+            self.words[name] = lambda steps, program=program: [program, "count", str(steps)]
+
+    def write(self, name, content):
+        path = os.path.join(self.room, name)
+        with open(path, "wb") as file:
+            file.write(content)
+        return path
+
+    def run_of(self, steps):
+        """A version that does so many instructions, and a few before and after them."""
+        version = os.path.join(self.room, f"v{steps}")
+        if not os.path.exists(version):
+            self.write(f"v{steps}", image(compute(steps // 2) + EXIT))
+        return [PROGRAM, "run", "--threads", "1", "--budget", "1000000000", "--script", os.path.join(self.room, "s"), version]
 
 
 def timed(words):
@@ -40,24 +80,29 @@ def counted(words):
     return int(re.search(r"Collected : (\d+)", ran.stderr).group(1))
 
 
-def main():
-    runs = int(sys.argv[1]) if len(sys.argv) > 1 else 11
-    machine = built("nv_machine_bench", "count", "1")
-    threads = built("nv_thread_bench", "one", "1")
-    programs = {"step": [machine, "count"], "advance, one thread": [threads, "one"], "advance, eight threads": [threads, "eight"]}
-    times = {name: [] for name in programs}
-    for _ in range(runs):
-        for name, words in programs.items():
-            times[name].append(timed([*words, str(STEPS)]))
-    base = times["step"]
-    print(f"{STEPS} instructions, {runs} runs, load {os.getloadavg()[0]:.1f}")
-    print("program                 M/s: median  best   against step: median  best   host instructions")
+def print_table(programs, times):
+    base, called, inlined = (times[name] for name in ("step", "C, step called", "C, step inlined"))
+    print("| Program | M/s: median, best | Against `step`: median, best | C called / it: median, best | C inlined / it: median, best | Host instructions |")
+    print("|---|---|---|---|---|---|")
     for name, took in times.items():
-        a, b = statistics.median(took), min(took)
         host = ""
         if shutil.which("valgrind"):
-            host = f"{(counted([*programs[name], str(2 * COUNTED)]) - counted([*programs[name], str(COUNTED)])) / COUNTED:.1f}"
-        print(f"{name:22} {STEPS / a / 1e6:12.1f} {STEPS / b / 1e6:6.1f} {statistics.median(base) / a:21.2f} {min(base) / b:5.2f} {host:>19}")
+            host = f"{(counted(programs.words[name](2 * COUNTED)) - counted(programs.words[name](COUNTED))) / COUNTED:.1f}"
+        a, b = statistics.median(took), min(took)
+        ratios = [f"{statistics.median(other) / a:.2f}, {min(other) / b:.2f}" for other in (base, called, inlined)]
+        print(f"| {name} | {STEPS / a / 1e6:.1f}, {STEPS / b / 1e6:.1f} | {' | '.join(ratios)} | {host} |", flush=True)
+
+
+def main():
+    runs = int(sys.argv[1]) if len(sys.argv) > 1 else 11
+    with tempfile.TemporaryDirectory() as room:
+        programs = Programs(room)
+        times = {name: [] for name in programs.words}
+        for _ in range(runs):
+            for name, words in programs.words.items():
+                times[name].append(timed(words(STEPS)))
+        print(f"{STEPS} instructions, {runs} runs, load {os.getloadavg()[0]:.1f}\n")
+        print_table(programs, times)
 
 
 if __name__ == "__main__":

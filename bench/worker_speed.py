@@ -1,16 +1,17 @@
 #!/usr/bin/env python3
 """How versions run beside each other.
 
-The built program runs guests of this script, from outside; each figure is the median of five runs, and each ratio is of figures that were
-taken in turns. Build the program first: `cd crates/varan && rt run -- run --script data/s data/v`. With `--before PROGRAM` the last table
-also times another build of the program, as one from before a change.
+The program as `rt ci` built it runs guests of this script, from outside; each figure is the median of five runs (or as many as RUNS says), and each ratio is of figures that were
+taken in turns. With `--before PROGRAM` the last table also times another program with the same words, as a build from before a change.
 
 - Versions that compute, between 1,000 calls and before their only one, and versions that write 65,535 bytes, one a call: k equal ones
-  against one.
+  against one. Those that compute between calls also in processes of their own, which share nothing: what the host gives to as many at once. Those
+  that compute before their only call also on one thread, and two of them over a ring of two places.
 - A tenth of the writes over rings of 256, 2 and 1,024 places, and on one thread.
 - A leader beside a slow follower: the leader makes 1,000 calls at once and then computes; the follower computes as much, a part before each
   call. Where the leader waits for nobody the run takes as long as the follower computes, and else as long as both.
 - Seven followers that wait for a leader which computes: the processor time of all against the wall time.
+- One version that writes against the plain monitor on one thread (crates/nv_sequence_bench), with the same report.
 """
 import os
 import resource
@@ -23,7 +24,10 @@ import time
 
 TOP = os.path.dirname(os.path.dirname(os.path.abspath(__file__)))
 PROGRAM = os.path.join(TOP, "crates", "varan", "out", "varan")
+PLAIN = os.path.join(TOP, "crates", "nv_sequence_bench", "out", "nv_sequence_bench")
 RUNS = int(os.environ.get("RUNS", "5"))
+# In the place of options: each guest in a process of its own.
+APART = ("apart",)
 
 ZERO, A0, A1, A2, A7, S0, S1, T0 = 0, 10, 11, 12, 17, 8, 9, 5
 ECALL = 0x00000073
@@ -99,21 +103,36 @@ class Bench:
             with open(os.path.join(folder, name), "wb") as file:
                 file.write(content)
 
+    def words(self, guests, options, program):
+        words = [program]
+        if program != PLAIN:
+            words += ["run", "--script", os.path.join(self.folder, "s"), "--budget", "1000000000", *options]
+        return words + [os.path.join(self.folder, guest) for guest in guests]
+
+    def check(self, report, count):
+        with open(report, "rb") as file:
+            fates = file.read().split(b"fates ")[1].splitlines()[1:]
+        if len(fates) != count or not all(b" exited 0 " in fate for fate in fates):
+            sys.exit(f"another report: {fates}")
+
     def once(self, guests, options=(), program=PROGRAM):
-        words = [program, "run", "--script", os.path.join(self.folder, "s"), "--budget", "1000000000"]
-        words += list(options) + [os.path.join(self.folder, guest) for guest in guests]
+        """Wall and processor seconds of a run of these guests beside each other; with APART of as many runs of one each, at once."""
+        runs = [[guest] for guest in guests] if options is APART else [guests]
+        options = () if options is APART else options
+        reports = [os.path.join(self.folder, f"report{n}") for n in range(len(runs))]
         before = resource.getrusage(resource.RUSAGE_CHILDREN)
         begun = time.perf_counter()
-        with open(os.path.join(self.folder, "report"), "wb") as report:
-            status = subprocess.run(words, stdout=report).returncode
+        started = []
+        for run, report in zip(runs, reports):
+            with open(report, "wb") as file:
+                started.append(subprocess.Popen(self.words(run, options, program), stdout=file))
+        statuses = [process.wait() for process in started]
         took = time.perf_counter() - begun
         after = resource.getrusage(resource.RUSAGE_CHILDREN)
-        if status != 0:
-            sys.exit(f"status {status} of {words}")
-        with open(os.path.join(self.folder, "report"), "rb") as report:
-            fates = report.read().split(b"fates ")[1].splitlines()[1:]
-        if len(fates) != len(guests) or not all(b" exited 0 " in fate for fate in fates):
-            sys.exit(f"another report: {fates}")
+        if any(statuses):
+            sys.exit(f"statuses {statuses} of {guests}")
+        for run, report in zip(runs, reports):
+            self.check(report, len(run))
         spent = after.ru_utime + after.ru_stime - before.ru_utime - before.ru_stime
         return took, spent
 
@@ -134,8 +153,10 @@ def main():
     print("| Run | Seconds | Against the first | Processor seconds |\n|---|---|---|---|")
     with tempfile.TemporaryDirectory() as folder:
         bench = Bench(folder)
-        bench.table([(f"{k} that compute between calls", ["between"] * k, (), PROGRAM) for k in (1, 2, 4, 8)])
-        bench.table([(f"{k} that compute before their one call", ["computes"] * k, (), PROGRAM) for k in (1, 2)])
+        bench.table([(f"{k} that compute between calls", ["between"] * k, (), PROGRAM) for k in (1, 2, 4, 8)]
+                    + [(f"{k} in processes of their own", ["between"] * k, APART, PROGRAM) for k in (2, 4, 8)])
+        bench.table([(f"{k} that compute before their one call", ["computes"] * k, (), PROGRAM) for k in (1, 2, 4, 8)]
+                    + [("2, one thread", ["computes"] * 2, ("--threads", "1"), PROGRAM), ("2, ring of 2", ["computes"] * 2, ("--ring", "2"), PROGRAM)])
         bench.table([(f"{k} that write", ["writes"] * k, (), PROGRAM) for k in (1, 2, 4, 8)])
         bench.table([(f"8 that write a tenth, ring of {n}", ["few"] * 8, ("--ring", str(n)), PROGRAM) for n in (256, 2, 1024)]
                     + [("8 that write a tenth, one thread", ["few"] * 8, ("--threads", "1"), PROGRAM)])
@@ -144,9 +165,11 @@ def main():
         bench.table([("slow leader alone", ["slow"], (), PROGRAM),
                      ("with one quick follower", ["slow", "quick"], (), PROGRAM),
                      ("with seven quick followers", ["slow"] + ["quick"] * 7, (), PROGRAM)])
-        rows = [("1 that writes, one thread", ["writes"], ("--threads", "1"), PROGRAM), ("1 that writes", ["writes"], (), PROGRAM)]
+        rows = [("1 that writes, by the plain monitor", ["writes"], (), PLAIN),
+                ("1 that writes, one thread", ["writes"], ("--threads", "1"), PROGRAM),
+                ("1 that writes", ["writes"], (), PROGRAM)]
         if before:
-            rows.insert(0, ("1 that writes, the other build", ["writes"], (), before))
+            rows.append(("1 that writes, the other build", ["writes"], (), before))
         bench.table(rows)
 
 

@@ -1,0 +1,67 @@
+//! Runs one version by the plain monitor, and writes its report; bench/worker_speed.py takes the time beside that of `varan run` on one thread.
+//! Proved: that nothing undefined is done.
+#![tactic(auto)]
+
+ghost use Rattle.std.specs.Prelude.{◌≡◌, [], IfSome};
+ghost use Rattle.nv_threads.specs.Threads.{threads};
+ghost use Rattle.nv_replay.specs.Version.{IsFresh};
+
+mod output;
+
+use anyhow::{Result, bail};
+use nv_calls::MOST_EVENTS;
+use nv_guest::Guest;
+use nv_outside::{Gathering, Put};
+use nv_replay::{Account, Version};
+use nv_sockets::SocketKernel;
+use nv_threads::Process;
+use output::Output;
+use std::alloc::Global;
+use std::{env, fs};
+
+// What `varan run` gives a version, unless its words say otherwise.
+const MEMORY: u32 = 1_048_576;
+
+const BUDGET: u32 = 10_000_000;
+
+fn version(alloc: Global, file: &[u8]) -> Option<Version>
+    ensures { IfSome result (IsFresh threads 0) }
+{
+    let program = nv_elf::read(alloc, file).ok()?;
+    let guest = Guest::make(alloc, &program, &[], MEMORY).ok()?;
+    let process = Process::make(alloc, guest, BUDGET).ok()?;
+    Version::make(alloc, 0, process, false).ok()
+}
+
+fn kernel(alloc: Global) -> Option<SocketKernel>
+    ensures { IfSome result (λ kernel. kernel.log ≡ []) }
+{
+    let script = nv_script::read(alloc, b"varan-script 1\n").ok()?;
+    SocketKernel::make(alloc, &script).ok()
+}
+
+fn account(alloc: Global, file: &[u8]) -> Option<Account<SocketKernel>> {
+    let version = version(alloc, file)?;
+    let kernel = kernel(alloc)?;
+    let versions = vec![in alloc; version].ok()?;
+    let hands = Vec::new(alloc);
+    Some(nv_sequence::run(versions, None, kernel, MOST_EVENTS, &hands))
+}
+
+fn main(rt: HostRuntime) -> Result<()> {
+    let words: Vec<String> = env::args(&rt)?.collect(rt.alloc())?;
+    let [_, name] = words.as_slice() else {
+        bail!("a version's file");
+    };
+    let file = fs::read(&rt, name.as_str())?;
+    let Some(account) = account(rt.alloc(), &file) else {
+        bail!("no version, or no memory");
+    };
+    let mut sink = Gathering::make(Output::make(&rt));
+    let put = nv_report::write(&mut sink, &account);
+    let (_, last) = sink.finish();
+    if put != Put::Whole || last != Put::Whole {
+        bail!("a failed write");
+    }
+    Ok(())
+}
