@@ -5,8 +5,8 @@
 //
 //   gcc -O2 -pthread bench/ring_layout.c -o /tmp/ring_layout && /tmp/ring_layout
 //
-// With a number of readers and of runs it passes as many events so many times by places of six words and a cursor an event, and prints nothing:
-// bench/ring_speed.py takes the time.
+// With a number of readers and of multiplications it passes the events once, by places of six words and a cursor an event, and prints nothing: the writer
+// multiplies so often before each event, as a lead serves a call. bench/ring_speed.py takes the time.
 #include <pthread.h>
 #include <sched.h>
 #include <stdatomic.h>
@@ -18,7 +18,7 @@
 enum { PLACES = 64, WORDS = 6, LINE = 8, EVENTS = 1000000, RUNS = 9, MOST = 2 };
 
 static _Atomic uint64_t *table;
-static unsigned stride, readers;
+static unsigned stride, readers, works;
 static int once_a_look;
 
 static _Atomic uint64_t *place(uint64_t event) { return table + LINE * (2 + MOST) + (event % PLACES) * stride; }
@@ -45,6 +45,15 @@ static void *read_all(void *given)
     return (void *)(uintptr_t)sum;
 }
 
+static void work(void)
+{
+    uint64_t x = 1;
+    for (unsigned i = 0; i < works; i++) {
+        x = x * 3 + 1;
+        __asm__ volatile("" : "+r"(x));
+    }
+}
+
 static void write_all(void)
 {
     uint64_t floors[MOST] = {0};
@@ -55,6 +64,7 @@ static void write_all(void)
                 if (event - floors[r] >= PLACES)
                     sched_yield();
             }
+        work();
         _Atomic uint64_t *words = place(event);
         for (unsigned i = 0; i < WORDS; i++)
             words[i] = event + i;
@@ -84,14 +94,14 @@ static int by_size(const void *a, const void *b)
     return (x > y) - (x < y);
 }
 
-static int pass(unsigned given, int runs)
+static int pass(unsigned given, unsigned multiplications)
 {
     if (given > MOST)
         return 1;
     readers = given;
+    works = multiplications;
     stride = WORDS;
-    for (int i = 0; i < runs; i++)
-        run();
+    run();
     return 0;
 }
 

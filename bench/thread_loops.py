@@ -1,12 +1,14 @@
 #!/usr/bin/env python3
 """Times the machine's loop in each program that has it: `step` in a bare loop, the turns of a process, and the whole monitor.
 
-    bench/thread_loops.py [RUNS]
+    bench/thread_loops.py [RUNS] [--before PROGRAM]
 
 A guest that counts down (`addi`, `bne`) runs for the same number of instructions as crates/nv_machine_bench calls `step`, as crates/nv_thread_bench calls `Process::advance`, in one
 thread and in eight that take turns, and as one version under `varan run` on one thread. Beside them the plain C interpreter of bench/machine_loops.c, with `step` as a call of its own
 and compiled into the loop. Runs them in turn (11 times by default), and prints the medians and the best of their processor times in millions of instructions a second, the speed
 of each against `step`, and how many times its time C takes. With valgrind it also prints the host instructions of each guest instruction, which don't depend on the load.
+
+Then a guest that reads, whose calls crates/nv_thread_bench answers with 4,096 bytes: nanoseconds an answer. `--before` names another build of that program, as one from before a change.
 
 Takes the programs as `rt ci` built them, or builds those that aren't there with `rt run`.
 """
@@ -93,8 +95,27 @@ def print_table(programs, times):
         print(f"| {name} | {STEPS / a / 1e6:.1f}, {STEPS / b / 1e6:.1f} | {' | '.join(ratios)} | {host} |", flush=True)
 
 
+# Instructions of the guest that reads: four an answer. A program that stores byte by byte is some hundred times slower.
+READS = {"answers": 4_000_000, "answers, the other build": 400_000}
+
+
+def print_answers(runs, before):
+    threads = built("nv_thread_bench", "one", "1")
+    programs = {"answers": threads, **({"answers, the other build": before} if before else {})}
+    times = {name: [] for name in programs}
+    for _ in range(runs):
+        for name, program in programs.items():
+            idle = timed([program, "answers", "4"])
+            times[name].append((timed([program, "answers", str(READS[name])]) - idle) / (READS[name] / 4))
+    print("\n| An answer of 4,096 bytes | ns: median, best |\n|---|---|")
+    for name, took in times.items():
+        print(f"| {name} | {statistics.median(took) * 1e9:.1f}, {min(took) * 1e9:.1f} |")
+
+
 def main():
-    runs = int(sys.argv[1]) if len(sys.argv) > 1 else 11
+    words = sys.argv[1:]
+    before = words.pop(words.index("--before") + 1) if "--before" in words else None
+    runs = int(words[0]) if words[:1] not in ([], ["--before"]) else 11
     with tempfile.TemporaryDirectory() as room:
         programs = Programs(room)
         times = {name: [] for name in programs.words}
@@ -103,6 +124,7 @@ def main():
                 times[name].append(timed(words(STEPS)))
         print(f"{STEPS} instructions, {runs} runs, load {os.getloadavg()[0]:.1f}\n")
         print_table(programs, times)
+    print_answers(runs, before)
 
 
 if __name__ == "__main__":

@@ -1,9 +1,9 @@
 -- Seven threads beside the first.
-use Rattle.std.proofs.Common.{◌≡◌, ◌∙◌, sym, ap, subst, refl, ℕ, zero, suc, ◌+◌, ◌<◌, ◌≤◌, ◌⊎◌, inl, inr, ⊎_elim, Bool, true, false, cond, ◌==◌, not, List, [], ◌∷◌, ◌++◌, length, ℤ, pos, Option, Some, None, arith}
+use Rattle.std.proofs.Common.{◌≡◌, refl, ℕ, zero, suc, ◌+◌, ◌<◌, ◌≤◌, ◌⊎◌, inl, inr, ⊎_elim, true, false, ◌==◌, List, [], ◌∷◌, ◌++◌, length, ℤ, pos, Some, arith}
 use Rattle.std.specs.Prelude.{Contains}
 use Rattle.std.proofs.lemmas.Bool.Decides.{nat_tests}
-use Rattle.nv_calls.specs.Calls.{Entry, Response}
-use Rattle.nv_calls.specs.Logs.{made, child_of, live_next, IsNew}
+use Rattle.nv_calls.specs.Calls.{Entry}
+use Rattle.nv_calls.specs.Logs.{made, live_next, IsNew}
 use Rattle.nv_calls.specs.Numbers.{CLONE}
 use Rattle.nv_thread_bench.specs.Firsts.{firsts}
 

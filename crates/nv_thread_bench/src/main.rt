@@ -1,4 +1,4 @@
-//! Runs a guest of one or of eight threads for a number of instructions, and prints where it came; bench/thread_loops.py
+//! Runs a guest of one or of eight threads, or one that reads, for a number of instructions, and prints where it came; bench/thread_loops.py
 //! takes the time. Proved: that nothing undefined is done.
 #![tactic(auto)]
 
@@ -39,10 +39,25 @@ static EIGHT: [u8; 140] = [
     0x93, 0x82, 0xf2, 0xff, 0xe3, 0x9e, 0x02, 0xfe, 0x73, 0x00, 0x00, 0x00,
 ];
 
+// Reads 4,096 bytes to below the stack pointer, again and again.
+static READS: [u8; 108] = [
+    0x7f, 0x45, 0x4c, 0x46, 0x01, 0x01, 0x01, 0x00, 0x00, 0x00, 0x00, 0x00, 0x00, 0x00, 0x00, 0x00,
+    0x02, 0x00, 0xf3, 0x00, 0x01, 0x00, 0x00, 0x00, 0x00, 0x00, 0x01, 0x00, 0x34, 0x00, 0x00, 0x00,
+    0x00, 0x00, 0x00, 0x00, 0x00, 0x00, 0x00, 0x00, 0x34, 0x00, 0x20, 0x00, 0x01, 0x00, 0x00, 0x00,
+    0x00, 0x00, 0x00, 0x00, 0x01, 0x00, 0x00, 0x00, 0x54, 0x00, 0x00, 0x00, 0x00, 0x00, 0x01, 0x00,
+    0x00, 0x00, 0x01, 0x00, 0x18, 0x00, 0x00, 0x00, 0x18, 0x00, 0x00, 0x00, 0x05, 0x00, 0x00, 0x00,
+    0x04, 0x00, 0x00, 0x00, 0x37, 0x16, 0x00, 0x00, 0xb3, 0x05, 0xc1, 0x40, 0x13, 0x05, 0x00, 0x00,
+    0x93, 0x08, 0xf0, 0x03, 0x73, 0x00, 0x00, 0x00, 0x6f, 0xf0, 0x5f, 0xff,
+];
+
+/// The number of the call read.
+const READ: u32 = 63;
+
 fn file_of(name: &str) -> Option<&'static [u8]> {
     match name {
         "one" => Some(&ONE),
         "eight" => Some(&EIGHT),
+        "answers" => Some(&READS),
         _ => None,
     }
 }
@@ -62,13 +77,39 @@ fn start(process: &mut Process)
     }
 }
 
+/// Answers the next call, if it is a read, with these bytes.
+fn answer_read(process: &mut Process, bytes: &[u8]) -> bool {
+    if process.ended().is_some() {
+        return false;
+    }
+    let Came::Asked(tid) = process.advance(Want::Any) else {
+        return false;
+    };
+    if process.pending(tid).nr != READ {
+        return false;
+    }
+    process.answer(tid, 4096, bytes);
+    true
+}
+
+/// How many reads of the process were answered, before it ran out of its instructions.
+fn answer_reads(process: &mut Process) -> u32 {
+    let bytes = [0x5a; 4096];
+    for done in 0..u32::MAX {
+        if !answer_read(process, &bytes) {
+            return done;
+        }
+    }
+    u32::MAX
+}
+
 fn main(rt: HostRuntime) -> Result<()> {
     let words: Vec<String> = env::args(&rt)?.collect(rt.alloc())?;
     let [_, name, count] = words.as_slice() else {
         bail!("a guest and a number of instructions");
     };
     let (Some(file), Some(count)) = (file_of(name), number(count.as_bytes())) else {
-        bail!("one or eight, and a number");
+        bail!("one, eight or answers, and a number");
     };
     if count > 1_000_000_000 {
         bail!("at most 1000000000 instructions");
@@ -82,6 +123,11 @@ fn main(rt: HostRuntime) -> Result<()> {
     let mut process = Process::make(rt.alloc(), guest, count)?;
     if name.as_str() == "eight" {
         start(&mut process);
+    }
+    if name.as_str() == "answers" {
+        let answers = answer_reads(&mut process);
+        println!(rt; "{name}: {answers}")?;
+        return Ok(());
     }
     if process.ended().is_none() {
         let came = process.advance(Want::Any);
