@@ -2,9 +2,8 @@
 ghost use Rattle.std.specs.Prelude.{◌≡◌};
 ghost use Rattle.nv_guest.specs.Guest.{machine_of, one_thread};
 
-use nv_calls::{Bytes, Call};
-use nv_guest::{Asked, Guest, GuestFault};
-use nv_machine::{FaultKind, Stepped};
+use nv_guest::{Guest, GuestFault};
+use nv_machine::Stepped;
 use nv_memory::{Right, Width};
 use std::alloc::{AllocError, Global};
 use std::test::Fail;
@@ -19,10 +18,6 @@ static FILE: [u8; 96] = [
     0x04, 0x00, 0x00, 0x00, 0xb7, 0x08, 0x00, 0x00, 0x93, 0x88, 0xe8, 0x05, 0x73, 0x00, 0x00, 0x00,
 ];
 
-fn text(alloc: Global, bytes: &[u8]) -> Result<Vec<u8>, AllocError> {
-    bytes.to_vec(alloc)
-}
-
 fn zeros(alloc: Global, count: usize) -> Result<Vec<u8>, AllocError> {
     vec![in alloc; 0; count]
 }
@@ -32,7 +27,10 @@ fn zeros(alloc: Global, count: usize) -> Result<Vec<u8>, AllocError> {
 fn argument_block(rt: HostRuntime) -> Result<(), Fail> {
     let alloc = rt.alloc();
     let program = nv_elf::read(alloc, &FILE)?;
-    let arguments = vec![in alloc; text(alloc, b"ab")?, text(alloc, b"c")?]?;
+    let arguments = vec![in alloc;
+        Vec::from_slice(alloc, b"ab")?,
+        Vec::from_slice(alloc, b"c")?,
+    ]?;
     let guest = Guest::make(alloc, &program, &arguments, 0x40000)?;
     assert_eq!(rt; guest.pc(100), 0x10000);
     assert_eq!(rt; guest.regs(100).get(2), 0x3ffd0);
@@ -47,33 +45,6 @@ fn argument_block(rt: HostRuntime) -> Result<(), Fail> {
     assert!(rt; !guest.memory().holds(0x10000, 1, Right::Write));
     assert!(rt; guest.memory().holds(0x30000, 0x10000, Right::Write));
     assert!(rt; !guest.memory().holds(0x2fffc, 8, Right::Write));
-    Ok(())
-}
-
-#[test]
-fn one_call(rt: HostRuntime) -> Result<(), Fail> {
-    let alloc = rt.alloc();
-    let program = nv_elf::read(alloc, &FILE)?;
-    let mut guest = Guest::make(alloc, &program, &[], 0x40000)?;
-    assert_eq!(rt; guest.step(100), Stepped::On);
-    assert_eq!(rt; guest.step(100), Stepped::On);
-    assert_eq!(rt; guest.step(100), Stepped::Call);
-    assert_eq!(rt; guest.pc(100), 0x10008);
-    let mut call = Call {
-        tid: 0,
-        nr: 0,
-        args: [1; 6],
-        bad: true,
-        payload: Bytes::make(alloc, 4096)?,
-    };
-    assert_eq!(rt; guest.call_of(100, &mut call), Asked::Logged);
-    assert_eq!(rt; call.nr, 94);
-    assert_eq!(rt; call.args, [0; 6]);
-    assert!(rt; !call.bad);
-    guest.answer(100, -38, &[]);
-    assert_eq!(rt; guest.regs(100).get(10), 0xffff_ffda);
-    assert_eq!(rt; guest.step(100), Stepped::Fault(FaultKind::Fetch));
-    assert_eq!(rt; guest.pc(100), 0x1000c);
     Ok(())
 }
 
@@ -143,7 +114,7 @@ fn breaks(rt: HostRuntime) -> Result<(), Fail> {
 
 // FILE with another program: `lui a0, 0x11`, `addi a1, x0, 85` and `sw a1, 0(a0)`.
 fn storing_file(alloc: Global) -> Result<Vec<u8>, AllocError> {
-    let mut file = text(alloc, &FILE)?;
+    let mut file = Vec::from_slice(alloc, &FILE)?;
     let code = b"\x37\x15\x01\0\x93\x05\x50\x05\x23\x20\xb5\0";
     for (i, byte) in code.iter().enumerate() {
         if let Some(place) = file.get_mut(84 + i) {
