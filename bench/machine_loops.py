@@ -8,11 +8,11 @@ its own, compiled into the loop, and as a call with the addresses of the code ke
 the best of their processor times, and how many times the machine's time they took. All must print the same. `--before` names another build of the machine's program, as one
 from before a change.
 """
+import argparse
 import os
 import resource
 import statistics
 import subprocess
-import sys
 import tempfile
 
 TOP = os.path.dirname(os.path.dirname(os.path.abspath(__file__)))
@@ -29,9 +29,11 @@ def timed(program, guest):
 
 
 def main():
-    words = sys.argv[1:]
-    before = words.pop(words.index("--before") + 1) if "--before" in words else None
-    runs = int(words[0]) if words[:1] not in ([], ["--before"]) else 11
+    wanted = argparse.ArgumentParser()
+    wanted.add_argument("runs", nargs="?", type=int, default=11)
+    wanted.add_argument("--before")
+    given = wanted.parse_args()
+    runs, before = given.runs, given.before
     if not os.path.exists(PROGRAM):
         subprocess.run(["rt", "run", "--", "count", "1"], cwd=CRATE, check=True, capture_output=True)
     with tempfile.TemporaryDirectory() as room:
@@ -49,9 +51,9 @@ def main():
             wrote = set()
             for _ in range(runs):
                 for name, program in programs.items():
-                    took, words = timed(program, guest)
+                    took, text = timed(program, guest)
                     times[name].append(took)
-                    wrote.add(words)
+                    wrote.add(text)
             assert len(wrote) == 1, wrote
             ours = times["proved machine"]
             for name, took in times.items():

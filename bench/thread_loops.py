@@ -1,17 +1,19 @@
 #!/usr/bin/env python3
 """Times the machine's loop in each program that has it: `step` in a bare loop, the turns of a process, and the whole monitor.
 
-    bench/thread_loops.py [RUNS] [--before PROGRAM]
+    bench/thread_loops.py [RUNS] [--before FOLDER] [--answers PROGRAM]
 
 A guest that counts down (`addi`, `bne`) runs for the same number of instructions as crates/nv_machine_bench calls `step`, as crates/nv_thread_bench calls `Process::advance`, in one
 thread and in eight that take turns, and as one version under `varan run` on one thread. Beside them the plain C interpreter of bench/machine_loops.c, with `step` as a call of its own
 and compiled into the loop. Runs them in turn (11 times by default), and prints the medians and the best of their processor times in millions of instructions a second, the speed
 of each against `step`, and how many times its time C takes. With valgrind it also prints the host instructions of each guest instruction, which don't depend on the load.
 
-Then a guest that reads, whose calls crates/nv_thread_bench answers with 4,096 bytes: nanoseconds an answer. `--before` names another build of that program, as one from before a change.
+Then a guest that reads, whose calls crates/nv_thread_bench answers with 4,096 bytes: nanoseconds an answer. `--before` names a folder with other builds of varan and nv_thread_bench, as
+from before a change, whose loops are timed as well, and `--answers` another build of nv_thread_bench that answers.
 
 Takes the programs as `rt ci` built them, or builds those that aren't there with `rt run`.
 """
+import argparse
 import os
 import re
 import resource
@@ -39,7 +41,7 @@ def built(crate, *words):
 class Programs:
     """What runs the guest, by name: the words of a run of so many instructions."""
 
-    def __init__(self, room):
+    def __init__(self, room, before):
         self.room = room
         machine, threads = built("nv_machine_bench", "count", "1"), built("nv_thread_bench", "one", "1")
         self.write("s", b"varan-script 1\n")
@@ -47,8 +49,12 @@ class Programs:
             "step": lambda steps: [machine, "count", str(steps)],
             "advance, one thread": lambda steps: [threads, "one", str(steps)],
             "advance, eight threads": lambda steps: [threads, "eight", str(steps)],
-            "varan run": self.run_of,
+            "varan run": lambda steps: self.run_of(PROGRAM, steps),
         }
+        if before:
+            other = os.path.join(before, "nv_thread_bench")
+            self.words["advance, one thread, before"] = lambda steps: [other, "one", str(steps)]
+            self.words["varan run, before"] = lambda steps: self.run_of(os.path.join(before, "varan"), steps)
         for name, flags in (("C, step called", []), ("C, step inlined", ["-DINLINE"])):
             program = os.path.join(room, "machine_loops" + "".join(flags))
             subprocess.run(["gcc", "-O2", *flags, "-o", program, os.path.join(TOP, "bench", "machine_loops.c")], check=True)
@@ -60,12 +66,12 @@ class Programs:
             file.write(content)
         return path
 
-    def run_of(self, steps):
+    def run_of(self, program, steps):
         """A version that does so many instructions, and a few before and after them."""
         version = os.path.join(self.room, f"v{steps}")
         if not os.path.exists(version):
             self.write(f"v{steps}", image(compute(steps // 2) + EXIT))
-        return [PROGRAM, "run", "--threads", "1", "--budget", "1000000000", "--script", os.path.join(self.room, "s"), version]
+        return [program, "run", "--threads", "1", "--budget", "1000000000", "--script", os.path.join(self.room, "s"), version]
 
 
 def timed(words):
@@ -99,9 +105,9 @@ def print_table(programs, times):
 READS = {"answers": 4_000_000, "answers, the other build": 400_000}
 
 
-def print_answers(runs, before):
+def print_answers(runs, other):
     threads = built("nv_thread_bench", "one", "1")
-    programs = {"answers": threads, **({"answers, the other build": before} if before else {})}
+    programs = {"answers": threads, **({"answers, the other build": other} if other else {})}
     times = {name: [] for name in programs}
     for _ in range(runs):
         for name, program in programs.items():
@@ -113,18 +119,21 @@ def print_answers(runs, before):
 
 
 def main():
-    words = sys.argv[1:]
-    before = words.pop(words.index("--before") + 1) if "--before" in words else None
-    runs = int(words[0]) if words[:1] not in ([], ["--before"]) else 11
+    wanted = argparse.ArgumentParser()
+    wanted.add_argument("runs", nargs="?", type=int, default=11)
+    wanted.add_argument("--before")
+    wanted.add_argument("--answers")
+    given = wanted.parse_args()
+    runs = given.runs
     with tempfile.TemporaryDirectory() as room:
-        programs = Programs(room)
+        programs = Programs(room, given.before)
         times = {name: [] for name in programs.words}
         for _ in range(runs):
             for name, words in programs.words.items():
                 times[name].append(timed(words(STEPS)))
         print(f"{STEPS} instructions, {runs} runs, load {os.getloadavg()[0]:.1f}\n")
         print_table(programs, times)
-    print_answers(runs, before)
+    print_answers(runs, given.answers)
 
 
 if __name__ == "__main__":

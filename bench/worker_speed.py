@@ -1,8 +1,8 @@
 #!/usr/bin/env python3
 """How versions run beside each other.
 
-The program as `rt ci` built it runs guests of this script, from outside; each figure is the median of five runs (or as many as RUNS says), and each ratio is of figures that were
-taken in turns. With `--before PROGRAM` the last table also times another program with the same words, as a build from before a change.
+The program as `rt ci` built it runs guests of this script, from outside; each figure is the median or the best of five runs (or as many as RUNS says), and each ratio is of figures that
+were taken in turns. With `--before PROGRAM` the last table also times another program with the same words, as a build from before a change.
 
 - Versions that compute, between 1,000 calls and before their only one, and versions that write 65,535 bytes, one a call: k equal ones
   against one. Those that compute between calls also in processes of their own, which share nothing: what the host gives to as many at once. Those
@@ -11,6 +11,7 @@ taken in turns. With `--before PROGRAM` the last table also times another progra
 - A leader beside a slow follower: the leader makes 1,000 calls at once and then computes; the follower computes as much, a part before each
   call. Where the leader waits for nobody the run takes as long as the follower computes, and else as long as both.
 - Seven followers that wait for a leader which computes: the processor time of all against the wall time.
+- Versions of 16 MiB that exit at once: what comes before the first instruction.
 - One version that writes against the plain monitor on one thread (crates/nv_sequence_bench), with the same report.
 """
 import os
@@ -93,6 +94,7 @@ GUESTS = {
     "between": image(loop(S0, CALLS, compute(TURNS // CALLS) + ASK) + EXIT),
     "slow": image(loop(S0, 10, compute(TURNS // 10) + ASK) + EXIT),
     "quick": image(loop(S0, 10, ASK) + EXIT),
+    "exits": image(EXIT),
 }
 
 
@@ -137,20 +139,21 @@ class Bench:
         return took, spent
 
     def table(self, rows):
-        """Medians of the rows, whose runs take turns, each against the first: seconds, and processor seconds."""
+        """Medians and bests of the rows, whose runs take turns, each against the first: seconds, and median processor seconds."""
         times = [[] for _ in rows]
         for _ in range(RUNS):
             for row, (name, guests, options, program) in enumerate(rows):
                 times[row].append(self.once(guests, options, program))
         walls = [statistics.median(wall for wall, _ in row) for row in times]
         spent = [statistics.median(cpu for _, cpu in row) for row in times]
-        for (name, _, _, _), wall, cpu in zip(rows, walls, spent):
-            print(f"| {name} | {wall:.3f} | {wall / walls[0]:.2f} | {cpu:.3f} |", flush=True)
+        bests = [min(wall for wall, _ in row) for row in times]
+        for (name, _, _, _), wall, best, cpu in zip(rows, walls, bests, spent):
+            print(f"| {name} | {wall:.3f}, {best:.3f} | {wall / walls[0]:.2f}, {best / bests[0]:.2f} | {cpu:.3f} |", flush=True)
 
 
 def main():
     before = sys.argv[sys.argv.index("--before") + 1] if "--before" in sys.argv else None
-    print("| Run | Seconds | Against the first | Processor seconds |\n|---|---|---|---|")
+    print("| Run | Seconds: median, best | Against the first: median, best | Processor seconds |\n|---|---|---|---|")
     with tempfile.TemporaryDirectory() as folder:
         bench = Bench(folder)
         bench.table([(f"{k} that compute between calls", ["between"] * k, (), PROGRAM) for k in (1, 2, 4, 8)]
@@ -165,6 +168,8 @@ def main():
         bench.table([("slow leader alone", ["slow"], (), PROGRAM),
                      ("with one quick follower", ["slow", "quick"], (), PROGRAM),
                      ("with seven quick followers", ["slow"] + ["quick"] * 7, (), PROGRAM)])
+        bench.table([(f"{k} of 16 MiB that exit at once", ["exits"] * k, ("--memory", "16777216"), PROGRAM) for k in (1, 2, 4, 8)]
+                    + [("8 of 1 MiB that exit at once", ["exits"] * 8, (), PROGRAM)])
         rows = [("1 that writes, by the plain monitor", ["writes"], (), PLAIN),
                 ("1 that writes, one thread", ["writes"], ("--threads", "1"), PROGRAM),
                 ("1 that writes", ["writes"], (), PROGRAM)]
