@@ -6,11 +6,11 @@ ghost use Rattle.nv_replay.specs.Follow.{judge_of};
 ghost use Rattle.nv_workers.specs.Ends.{IsAccount};
 
 use nv_bpf::Filter;
-use nv_calls::SyscallKernel;
 use nv_command::Limits;
 use nv_outside::Gate;
 use nv_replay::{Account, Version};
 use nv_room::Room;
+use nv_served::SyscallKernel;
 use nv_workers::{Terms, end, run_all, staff};
 use std::alloc::{AllocError, Global};
 use std::sync::Wait;
@@ -33,7 +33,7 @@ pub fn run<R: Threads + Wait + Sync, K: SyscallKernel, G: Gate + Sync>(
     requires empty { K.log kernel ≡ [] }
     requires hands { length hands.now.items ≤ 8 }
     ensures start { IfOk result (λ r. K.start r.kernel ≡ K.start kernel) }
-    ensures account { IfOk result (λ r. IsAccount threads (judge_of (option_map (λ f. f.now) rules.entry)) (K.start kernel) limits.calls hands.now.items versions.items r.versions.items (K.log r.kernel)) }
+    ensures account { IfOk result (λ r. IsAccount threads (judge_of (option_map (λ f. f.now) rules.entry)) (K.known r.kernel) limits.calls hands.now.items versions.items r.versions.items (K.log r.kernel)) }
 {
     if versions.is_empty() {
         return Ok(Account { kernel, versions });

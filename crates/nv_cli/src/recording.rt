@@ -15,11 +15,11 @@ ghost use Rattle.nv_jobs.specs.Refusals.{IsPlanned};
 
 use crate::beside::run;
 use nv_bpf::Filter;
-use nv_calls::SyscallKernel;
 use nv_command::{Limits, Run};
 use nv_jobs::{MEMORY, Prepared, ended, prepare, put_line, refuse, starved, status};
 use nv_outside::{Files, Gate, Sink};
 use nv_replay::{Account, Version};
+use nv_served::SyscallKernel;
 use nv_sockets::SocketKernel;
 use std::alloc::Global;
 use std::sync::Wait;

@@ -25,7 +25,6 @@ ghost use Rattle.nv_jobs.specs.Outcome.{NotAccepted, totals_of, name_at, outcome
 use crate::beside::run;
 use crate::recording::record;
 use nv_bpf::Filter;
-use nv_calls::SyscallKernel;
 use nv_command::{Command, Limits, Run};
 use nv_gen::Totals;
 use nv_jobs::{
@@ -34,6 +33,7 @@ use nv_jobs::{
 };
 use nv_outside::{Files, Gate, Put, Sink, put_pieces};
 use nv_replay::{Account, Version};
+use nv_served::SyscallKernel;
 use nv_sockets::{SocketKernel, write_connections};
 use std::alloc::Global;
 use std::sync::Wait;
@@ -41,7 +41,7 @@ use std::thread::Threads;
 
 // Writes the JSON form of the report, and a newline.
 fn put_json<K: SyscallKernel, S: Sink>(alloc: Global, account: &Account<K>, sink: &mut S) -> u8
-    ensures { Wrote (json_text (output_of (K.start account.now.kernel) (K.log account.now.kernel))
+    ensures { Wrote (json_text (output_of (K.known account.now.kernel) (K.log account.now.kernel))
         (record { log = K.log account.now.kernel; lines = map standing_of account.now.versions.items }) ++ codes "\n")
         (run_status (map standing_of account.now.versions.items)) (S.told sink.old) (S.faults sink.old) result (S.told sink.new) (S.faults sink.new) }
 {
@@ -161,7 +161,7 @@ fn count_rewrites(versions: &[Version]) -> u64
 // What a run came to.
 fn totals<K: SyscallKernel>(account: &Account<K>) -> Totals
     requires { length account.now.versions.items ≤ 8 }
-    ensures { totals_in result ≡ totals_of (output_of (K.start account.now.kernel) (K.log account.now.kernel)) (record { log = K.log account.now.kernel; lines = map standing_of account.now.versions.items }) }
+    ensures { totals_in result ≡ totals_of (output_of (K.known account.now.kernel) (K.log account.now.kernel)) (record { log = K.log account.now.kernel; lines = map standing_of account.now.versions.items }) }
 {
     Totals {
         output: account.kernel.output().len() as u64,

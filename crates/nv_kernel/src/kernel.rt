@@ -4,15 +4,17 @@ ghost use Rattle.nv_calls.specs.Calls.{request};
 ghost use Rattle.nv_calls.specs.Limits.{MOST_EVENTS};
 ghost use Rattle.nv_calls.specs.Shapes.{IsShaped};
 ghost use Rattle.nv_calls.specs.Logs.{calls_of, served, live_after};
+ghost use Rattle.nv_served.specs.Learning.{GoesOn};
 ghost use Rattle.nv_script.specs.Scripts.{is_script};
 ghost use Rattle.nv_script.specs.Views.{setup_of};
 ghost use Rattle.nv_kernel.specs.Serving.{first_state, state_after};
 
 use crate::devices::Devices;
 use crate::spare::{blank, fill, keep, next_end};
-use nv_calls::{Bytes, Call, Event, MOST_BYTES, SyscallKernel};
+use nv_calls::{Bytes, Call, Event, MOST_BYTES};
 use nv_fs::FileSystem;
 use nv_script::Script;
+use nv_served::{Scripted, SyscallKernel};
 use std::alloc::{AllocError, Global};
 use std::marker::Model;
 use std::snapshot::Snapshot;
@@ -84,12 +86,16 @@ impl SyscallKernel for ScriptKernel {
 
     ghost start = { λ k. start_of_script k.setup };
 
+    // A script tells all that comes.
+    ghost known = { λ k. start_of_script k.setup };
+
     ghost is_ready = { CanServe };
 
     fn reserve(&mut self, call: &Call) -> Result<(), AllocError>
         requires shaped { IsShaped (request call.now) }
         ensures log { self.new.log ≡ self.old.log }
         ensures start { start_of_script self.new.setup ≡ start_of_script self.old.setup }
+        ensures known { GoesOn self.old.log (start_of_script self.old.setup) (start_of_script self.new.setup) }
         ensures ready { OnOk result (CanServe self.new (request call.now)) }
         ensures setup { self.new.setup ≡ self.old.setup }
     {
@@ -108,6 +114,7 @@ impl SyscallKernel for ScriptKernel {
         requires few { length self.old.log < MOST_EVENTS }
         ensures log { self.new.log ≡ self.old.log ++ served (start_of_script self.old.setup) self.old.log (request call.now) ∷ [] }
         ensures start { start_of_script self.new.setup ≡ start_of_script self.old.setup }
+        ensures known { start_of_script self.new.setup ≡ start_of_script self.old.setup }
         ensures setup { self.new.setup ≡ self.old.setup }
     {
         let Some(mut event) = self.spare.take() else {
@@ -131,4 +138,10 @@ impl SyscallKernel for ScriptKernel {
     fn ended(&self) -> Option<u8> {
         self.end
     }
+}
+
+impl Scripted for ScriptKernel {
+    ghost use Rattle.std.specs.Prelude.{refl};
+
+    ghost nothing_new = { λ k. refl };
 }

@@ -3,8 +3,8 @@ ghost use Rattle.std.specs.Prelude.{◌≡◌, ◌<◌, [], length, IsSome};
 ghost use Rattle.nv_room.specs.Seats.{IsOfRoom, SameReader, view};
 ghost use Rattle.nv_lamport.specs.Polls.{HasRead, HasFound, IsPolled};
 
-use nv_calls::SyscallKernel;
 use nv_room::{Owner, Reader, Room};
+use nv_served::SyscallKernel;
 use nv_words::{EventBuf, Spelt};
 
 /// What a poll gave.

@@ -13,7 +13,7 @@ ghost use Rattle.nv_ring.specs.Places.{FitsAll, IsFull};
 ghost use Rattle.nv_progress.specs.GetsOn.{moment, AllSeated, CanGetOn, HasEvent, IsLowest, SomeGetsOn, SomeSeat, SomeStays};
 ghost use Rattle.nv_progress.specs.Steps.{Kind, Went, steps_left, steps_on};
 
-use nv_calls::SyscallKernel;
+use nv_served::SyscallKernel;
 
 /// In each state of a room that meets its rule, each version's seat there and not all gone, some seat can get on.
 pub fn no_room_is_stuck<K: SyscallKernel>()

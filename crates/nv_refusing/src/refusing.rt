@@ -1,10 +1,12 @@
 // A kernel over another one, with the reservations that are refused.
 ghost use Rattle.std.specs.Prelude.{◌≡◌, IsTrue, IsErr, OnOk};
 ghost use Rattle.nv_calls.specs.Calls.{request};
+ghost use Rattle.nv_served.specs.Learning.{GoesOn};
 ghost use Rattle.nv_calls.specs.Shapes.{IsShaped};
 ghost use Rattle.nv_refusing.specs.Refusing.{is_refused};
 
-use nv_calls::{Call, Event, SyscallKernel};
+use nv_calls::{Call, Event};
+use nv_served::SyscallKernel;
 use std::alloc::AllocError;
 
 /// A kernel that has no memory for some of the calls: those whose reservation has one of the numbers, counted from 0.
@@ -52,12 +54,15 @@ impl<K: SyscallKernel> SyscallKernel for RefusingKernel<K> {
 
     ghost start = { λ k. K.start k.inner };
 
+    ghost known = { λ k. K.known k.inner };
+
     ghost is_ready = { λ k. K.is_ready k.inner };
 
     fn reserve(&mut self, call: &Call) -> Result<(), AllocError>
         requires shaped { IsShaped (request call.now) }
         ensures log { K.log (inner_of self.new) ≡ K.log (inner_of self.old) }
         ensures start { K.start (inner_of self.new) ≡ K.start (inner_of self.old) }
+        ensures known { GoesOn (K.log (inner_of self.old)) (K.known (inner_of self.old)) (K.known (inner_of self.new)) }
         ensures ready { OnOk result (K.is_ready (inner_of self.new) (request call.now)) }
         ensures refused { IsTrue (is_refused (refused_of self.old) (asked_of self.old)) → IsErr result }
         ensures numbers { refused_of self.new ≡ refused_of self.old }

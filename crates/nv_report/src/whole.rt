@@ -9,14 +9,14 @@ ghost use Rattle.nv_report.specs.Report.{head_text, count_text, fates_text, repo
 use crate::events::put_events;
 use crate::versions::put_lines;
 use itoa::Buffer;
-use nv_calls::SyscallKernel;
 use nv_outside::{Put, Sink, put_pieces};
 use nv_replay::{Account, Version};
+use nv_served::SyscallKernel;
 
 /// Writes the report of a run. It takes no memory.
 pub fn write<S: Sink, K: SyscallKernel>(sink: &mut S, account: &Account<K>) -> Put
     ensures { Puts (S.told sink.old) (S.faults sink.old)
-        (report_text (output_of (K.start account.now.kernel) (K.log account.now.kernel))
+        (report_text (output_of (K.known account.now.kernel) (K.log account.now.kernel))
         (record { log = K.log account.now.kernel; lines = map standing_of account.now.versions.items }))
         result (S.told sink.new) (S.faults sink.new) }
 {

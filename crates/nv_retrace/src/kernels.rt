@@ -5,8 +5,8 @@ ghost use Rattle.nv_script.specs.Views.{setup_of};
 ghost use Rattle.nv_sockets.specs.Serving.{start_of_script};
 ghost use Rattle.nv_trace.specs.Checks.{AreSoundEvents};
 
-use nv_calls::SyscallKernel;
 use nv_script::Script;
+use nv_served::SyscallKernel;
 use nv_sockets::SocketKernel;
 use std::alloc::{AllocError, Global};
 

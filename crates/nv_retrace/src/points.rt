@@ -7,8 +7,9 @@ ghost use Rattle.nv_replay.specs.Version.{IsFresh};
 ghost use Rattle.nv_retrace.specs.Points.{place_of, events_to};
 
 use nv_bpf::Filter;
-use nv_calls::{Event, SyscallKernel};
+use nv_calls::Event;
 use nv_replay::{Version, follow_all};
+use nv_served::SyscallKernel;
 
 /// A point of a log for a version that follows it.
 #[derive(Clone, Copy, Debug, PartialEq, Eq)]

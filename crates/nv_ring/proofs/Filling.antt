@@ -5,7 +5,7 @@ use native.Mathlib.Decide.{ℕ_discrete, dec_le}
 use Rattle.nv_places.proofs.PlacementLaws.{before_and_from, fits_later}
 use Rattle.nv_places.proofs.PoolOfLog.{fits_by_pool}
 use Rattle.nv_room.specs.Placement.{Log, pool_chunks, chunks_from, Fits}
-use Rattle.nv_calls.specs.declared.kernel.SyscallKernel.{Ghosts}
+use Rattle.nv_served.specs.declared.kernel.SyscallKernel.{Ghosts}
 use Rattle.nv_room.specs.declared.room.Room.{Room}
 use Rattle.nv_room.specs.declared.room.Lead.{Lead}
 use Rattle.nv_room.specs.Seats.{lead_view, station_of_lead, opened_of, NextFits}

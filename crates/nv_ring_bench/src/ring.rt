@@ -3,8 +3,8 @@ ghost use Rattle.std.specs.Prelude.{◌≡◌, ◌<◌, ◌≤◌, IfOk};
 ghost use Rattle.nv_calls.specs.Limits.{MOST_EVENTS};
 ghost use Rattle.nv_room_runs.specs.Scripts.{AreCalls};
 
-use nv_calls::SyscallKernel;
 use nv_room_runs::{Script, exit_group, kernel, serve_all, write};
+use nv_served::SyscallKernel;
 use std::alloc::{AllocError, Global};
 use std::thread::Threads;
 

@@ -2,6 +2,7 @@
 ghost use Rattle.std.specs.Prelude.{◌≡◌, ◌+◌, ◌<◌, ◌≤◌, ◌++◌, [], ◌∷◌, true, false, length, slice_index, OnOk, Contains, IsTrue, ◌↔◌};
 ghost use Rattle.nv_calls.specs.Calls.{request};
 ghost use Rattle.nv_calls.specs.Logs.{served, live_after, IsLawful};
+ghost use Rattle.nv_served.specs.Learning.{GoesOn};
 ghost use Rattle.nv_calls.specs.Shapes.{IsShaped};
 ghost use Rattle.nv_calls.specs.Limits.{MOST_BYTES, MOST_EVENTS};
 ghost use Rattle.nv_room.specs.Seats.{view, lead_view, station_of_reader, version_of_reader, station_of_lead, version_of_lead, opened_of, stations_of, versions_of, places_of, kernel_of, due_of, SameLead};
@@ -11,7 +12,8 @@ ghost use Rattle.nv_room.specs.Placement.{pool_chunks, chunks_from};
 ghost use Rattle.nv_places.specs.Logs.{lanes_after};
 
 use crate::room::{Lead, Reader, Room};
-use nv_calls::{Call, SyscallKernel};
+use nv_calls::Call;
+use nv_served::SyscallKernel;
 use std::alloc::AllocError;
 
 impl<K: SyscallKernel> Lead<K> {
@@ -58,6 +60,7 @@ impl<K: SyscallKernel> Lead<K> {
         ensures due { due_of self.new ≡ due_of self.old }
         ensures log { K.log (kernel_of self.new) ≡ K.log (kernel_of self.old) }
         ensures start { K.start (kernel_of self.new) ≡ K.start (kernel_of self.old) }
+        ensures known { GoesOn (K.log (kernel_of self.old)) (K.known (kernel_of self.old)) (K.known (kernel_of self.new)) }
         ensures ready { OnOk result (K.is_ready (kernel_of self.new) (request call.now)) }
     {
         self.kernel.reserve(call)
@@ -73,8 +76,9 @@ impl<K: SyscallKernel> Lead<K> {
         ensures same { SameLead self.old self.new }
         ensures view { lead_view self.new ≡ lead_view self.old }
         ensures due { due_of self.new ≡ true }
-        ensures log { K.log (kernel_of self.new) ≡ K.log (kernel_of self.old) ++ served (K.start (kernel_of self.old)) (K.log (kernel_of self.old)) (request call.now) ∷ [] }
+        ensures log { K.log (kernel_of self.new) ≡ K.log (kernel_of self.old) ++ served (K.known (kernel_of self.old)) (K.log (kernel_of self.old)) (request call.now) ∷ [] }
         ensures start { K.start (kernel_of self.new) ≡ K.start (kernel_of self.old) }
+        ensures known { K.known (kernel_of self.new) ≡ K.known (kernel_of self.old) }
     {
         self.kernel.serve(call);
         let _log = self.kernel.history();

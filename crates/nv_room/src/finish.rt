@@ -11,7 +11,7 @@ use crate::room::{Left, Room};
 use crate::rule::RoomRule;
 use crate::view::{Layout, View};
 use atomic_table::{Seat, Table};
-use nv_calls::SyscallKernel;
+use nv_served::SyscallKernel;
 use std::alloc::Global;
 
 type Board<K> = Table<Option<K>, View<K>, Layout<K>, RoomRule<K>, Global>;
@@ -54,7 +54,7 @@ impl<K: SyscallKernel> Room<K> {
     pub fn finish(self, mut left: Vec<Left<K>>) -> Ended<K>
         requires { IsEach self left.items }
         ensures start { K.start result.kernel ≡ K.start (origin self) }
-        ensures legal { IsLegal (K.start (origin self)) (K.log result.kernel) }
+        ensures legal { IsLegal (K.known result.kernel) (K.log result.kernel) }
         ensures lawful { IsLawful (K.log result.kernel) }
         ensures left { AllTell (map spell (K.log result.kernel)) result.seen.items left.items }
         ensures wide { length result.seen.items ≡ versions_of self }

@@ -10,11 +10,12 @@ ghost use Rattle.nv_room_runs.specs.Backs.{HasReadNothing};
 
 use crate::lives::goes_on;
 use crate::running::publish_one;
-use nv_calls::{Call, EXIT_GROUP, FIRST_THREAD, SyscallKernel};
+use nv_calls::{Call, EXIT_GROUP, FIRST_THREAD};
 use nv_lamport::{Polled, poll_merged};
 use nv_promotion::{Lower, close, leave, lower_gone, retire, take};
 use nv_ring::advance;
 use nv_room::{Ended, Lead, Left, Reader, Room};
+use nv_served::SyscallKernel;
 use nv_words::EventBuf;
 use std::alloc::{AllocError, Global};
 
@@ -31,7 +32,7 @@ pub fn change_leader<K: SyscallKernel>(
     requires first { (call.now.tid ≡ FIRST_THREAD) × (last.now.tid ≡ FIRST_THREAD) }
     requires goes_on { GoesOn (request call.now) }
     requires ends { last.now.nr ≡ EXIT_GROUP }
-    ensures { IfOk result (λ o. IfSome o (λ e. IsLegal (K.start kernel) (K.log e.kernel))) }
+    ensures { IfOk result (λ o. IfSome o (λ e. IsLegal (K.known e.kernel) (K.log e.kernel))) }
 {
     let mut buf = EventBuf::make(alloc)?;
     let hands = Vec::new(alloc);
@@ -260,7 +261,7 @@ fn end_three<K: SyscallKernel>(
 ) -> Result<Ended<K>, AllocError>
     requires of { IsLeftOf room first × IsLeftOf room second × IsLeftOf room third }
     requires versions_are { (version_of_left first ≡ 0) × (version_of_left second ≡ 1) × (version_of_left third ≡ 2) × (versions_of room ≡ 3) }
-    ensures legal { IfOk result (λ e. IsLegal (K.start (origin room)) (K.log e.kernel)) }
+    ensures legal { IfOk result (λ e. IsLegal (K.known e.kernel) (K.log e.kernel)) }
 {
     let mut left = Vec::with_capacity(alloc, 3)?;
     left.push(third)?;

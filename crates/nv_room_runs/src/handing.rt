@@ -9,11 +9,12 @@ ghost use Rattle.nv_room_runs.specs.Backs.{HasReadNothing};
 
 use crate::changing::{end_lead, publish_some, read_some, take_over};
 use crate::lives::goes_on;
-use nv_calls::{Call, EXIT_GROUP, FIRST_THREAD, SyscallKernel};
+use nv_calls::{Call, EXIT_GROUP, FIRST_THREAD};
 use nv_lamport::{Polled, poll_merged};
 use nv_promotion::{Lower, hand, leave, lower_gone};
 use nv_ring::{Placed, place, publish};
 use nv_room::{Ended, Lead, Left, Reader, Room};
+use nv_served::SyscallKernel;
 use nv_words::EventBuf;
 use std::alloc::{AllocError, Global};
 
@@ -30,7 +31,7 @@ pub fn hand_over<K: SyscallKernel>(
     requires first { (call.now.tid ≡ FIRST_THREAD) × (last.now.tid ≡ FIRST_THREAD) }
     requires goes_on { GoesOn (request call.now) }
     requires ends { last.now.nr ≡ EXIT_GROUP }
-    ensures { IfOk result (λ o. IfSome o (λ e. IsLegal (K.start kernel) (K.log e.kernel))) }
+    ensures { IfOk result (λ o. IfSome o (λ e. IsLegal (K.known e.kernel) (K.log e.kernel))) }
 {
     let mut buf = EventBuf::make(alloc)?;
     let mut hands = Vec::with_capacity(alloc, 1)?;
@@ -133,7 +134,7 @@ fn end_two<K: SyscallKernel>(
 ) -> Result<Ended<K>, AllocError>
     requires of { IsLeftOf room first × IsLeftOf room second }
     requires versions_are { (version_of_left first ≡ 0) × (version_of_left second ≡ 1) × (versions_of room ≡ 2) }
-    ensures legal { IfOk result (λ e. IsLegal (K.start (origin room)) (K.log e.kernel)) }
+    ensures legal { IfOk result (λ e. IsLegal (K.known e.kernel) (K.log e.kernel)) }
 {
     let mut left = Vec::with_capacity(alloc, 2)?;
     left.push(second)?;

@@ -10,11 +10,12 @@ ghost use Rattle.nv_room_runs.specs.Scripts.{AreCalls};
 
 use crate::lives::{can_call, goes_on};
 use crate::script::Script;
-use nv_calls::{Call, FIRST_THREAD, MOST_EVENTS, SyscallKernel};
+use nv_calls::{Call, FIRST_THREAD, MOST_EVENTS};
 use nv_lamport::{Polled, poll_merged};
 use nv_promotion::{Lower, close, leave, lower_gone, retire, take};
 use nv_ring::{Placed, advance, place, publish};
 use nv_room::{Ended, Lead, Leaving, Left, Moving, Opening, Reader, Room};
+use nv_served::SyscallKernel;
 use nv_words::EventBuf;
 use std::alloc::{AllocError, Global};
 use std::thread;
@@ -34,7 +35,7 @@ pub fn run<R: Threads + Sync, K: SyscallKernel>(
     requires empty { K.log kernel ≡ [] }
     requires calls { AreCalls script.now }
     ensures start { IfOk result (λ e. K.start e.kernel ≡ K.start kernel) }
-    ensures legal { IfOk result (λ e. IsLegal (K.start kernel) (K.log e.kernel)) }
+    ensures legal { IfOk result (λ e. IsLegal (K.known e.kernel) (K.log e.kernel)) }
     ensures lawful { IfOk result (λ e. IsLawful (K.log e.kernel)) }
     ensures wide { IfOk result (λ e. length e.seen.items ≡ versions) }
 {
@@ -62,7 +63,7 @@ fn end_all<K: SyscallKernel>(
     requires first { IsLeftOf room first × (version_of_left first ≡ 0) }
     requires others { LeftInOrder room others.items × (length others.items + 1 ≡ versions_of room) }
     ensures start { IfOk result (λ e. K.start e.kernel ≡ K.start (origin room)) }
-    ensures legal { IfOk result (λ e. IsLegal (K.start (origin room)) (K.log e.kernel)) }
+    ensures legal { IfOk result (λ e. IsLegal (K.known e.kernel) (K.log e.kernel)) }
     ensures lawful { IfOk result (λ e. IsLawful (K.log e.kernel)) }
     ensures wide { IfOk result (λ e. length e.seen.items ≡ versions_of room) }
 {
@@ -227,7 +228,7 @@ pub(crate) fn publish_one<K: SyscallKernel>(
     ensures of { IsLeadOf room.now lead.new }
     ensures due { due_of lead.new ≡ false }
     ensures version { version_of_lead lead.new ≡ version_of_lead lead.old }
-    ensures log { OnTrue result (K.log (kernel_of lead.new) ≡ K.log (kernel_of lead.old) ++ served (K.start (kernel_of lead.old)) (K.log (kernel_of lead.old)) (request call.now) ∷ []) }
+    ensures log { OnTrue result (K.log (kernel_of lead.new) ≡ K.log (kernel_of lead.old) ++ served (K.known (kernel_of lead.new)) (K.log (kernel_of lead.old)) (request call.now) ∷ []) }
 {
     if lead.seen() >= MOST_EVENTS || lead.reserve(call).is_err() {
         return false;

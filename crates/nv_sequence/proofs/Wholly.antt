@@ -108,6 +108,12 @@ module _ {P : Type 0} (g : Behaviour P) (laws : IsProcess g) (replies : Start) (
         };
       }
 
+  -- a version that leads on is a live leader
+  pub live_leader : (start now : Running P) (first log : List Entry) → LedSo start now first log true → IsLiveLeader start → IsLiveLeader now
+  live_leader start now first log s d =
+      let on = (s.goes refl).0 in
+      record { on = on; leading = s.led.leading ∙ d.leading; none_asked = s.led.asked on }
+
   rests_if : (c : Option ℕ) (first : List Entry) (l : Leader P) (b : Bool) → is_going l.fate ≡ b → is_handed hands (length first) l ≡ b
       → next_or_hand g replies most c hands (length first) l ≡ l
   rests_if c first l true h k = handed_rests g replies most c hands (length first) l k

@@ -1,5 +1,5 @@
 -- A version's turn: it follows the log so far, and leads from there.
-use Rattle.std.specs.Prelude.{◌≡◌, ℕ, ◌<◌, false, not, List, length, Option, Some, None}
+use Rattle.std.specs.Prelude.{◌≡◌, ℕ, ◌<◌, false, not, List, ◌++◌, length, Option, Some, None}
 use Rattle.nv_calls.specs.Calls.{Entry}
 use Rattle.nv_calls.specs.Logs.{Start}
 use Rattle.nv_threads.specs.Behaviours.{Behaviour}
@@ -14,6 +14,10 @@ use Rattle.nv_replay.specs.Account.{with_span}
 use Rattle.nv_replay.specs.Turns.{Suits, LedOn}
 use Rattle.nv_sequence.specs.declared.leading.Turned.{Turned}
 use Rattle.nv_sequence.specs.declared.leading.Turned.TheVariants.{Left, GaveUp, Exited}
+
+-- a log and what it has become
+abbrev pub Grows : List Entry → List Entry → Type 0
+Grows old new = (more : List Entry) × (new ≡ old ++ more)
 
 -- all of Lead, to its end or to a planned length, with each cut that suits where it has come to
 pub record HasLed {P : Type 0} (g : Behaviour P) (start : Start) (most : ℕ) (hands : List ℕ) (old new : Running P) (log new_log : List Entry) : Type 0 where

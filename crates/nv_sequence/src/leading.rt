@@ -2,17 +2,18 @@
 ghost use Rattle.std.specs.Prelude.{◌≡◌, ◌≤◌, ◌<◌, ◌++◌, [], ◌∷◌, Some, None, true, false, length, Contains, option_map};
 ghost use Rattle.nv_calls.specs.Logs.{served, live_after, IsLawful};
 ghost use Rattle.nv_calls.specs.Limits.{MOST_EVENTS};
+ghost use Rattle.nv_served.specs.Learning.{FromAny};
 ghost use Rattle.nv_threads.specs.Threads.{threads};
 ghost use Rattle.nv_replay.specs.Follow.{IsInStep, follow, judge_of};
 ghost use Rattle.nv_replay.specs.Hands.{has, stays};
 ghost use Rattle.nv_replay.specs.Sequence.{is_going};
 ghost use Rattle.nv_replay.specs.Version.{IsLiveLeader, became_event};
 ghost use Rattle.nv_replay.specs.Turns.{TookTurn};
-ghost use Rattle.nv_sequence.specs.Passing.{HasLed, TurnDone, MayHaveTurn, followed, given_up, turned_of};
+ghost use Rattle.nv_sequence.specs.Passing.{Grows, HasLed, TurnDone, MayHaveTurn, followed, given_up, turned_of};
 
 use nv_bpf::Filter;
-use nv_calls::SyscallKernel;
 use nv_replay::{Fate, Led, Version, follow_all};
+use nv_served::SyscallKernel;
 
 /// What has become of a version at its turn.
 #[derive(Clone, Copy, Debug, PartialEq, Eq, Drop)]
@@ -36,8 +37,10 @@ pub fn take_turn<K: SyscallKernel>(
     requires idle { MayHaveTurn threads (K.log kernel.old) version.old }
     requires most { most ≤ MOST_EVENTS }
     ensures turn { let judges = judge_of (option_map (λ f. f.now) rules.entry) in
-        TurnDone threads (K.start kernel.old) most hands.now (followed threads judges (K.log kernel.old) version.old) version.new
-        (K.log kernel.old) (K.log kernel.new) result (follow threads (judges version.old.index) (K.log kernel.old) version.old.at).fate }
+        FromAny (K.log kernel.new) (λ start. TurnDone threads start most hands.now (followed threads judges (K.log kernel.old) version.old) version.new
+        (K.log kernel.old) (K.log kernel.new) result (follow threads (judges version.old.index) (K.log kernel.old) version.old.at).fate) }
+    ensures grows { Grows (K.log kernel.old) (K.log kernel.new) }
+    ensures lawful { IsLawful (K.log kernel.new) }
     ensures start { K.start kernel.new ≡ K.start kernel.old }
 {
     follow_all(version, rules, kernel.history());
@@ -67,14 +70,22 @@ fn end_turn(version: &mut Version) -> Turned
 }
 
 /// Leads until the version ends, or until it has made the log as long as one of `hands`.
-pub fn lead_all<K: SyscallKernel>(version: &mut Version, kernel: &mut K, most: u32, hands: &[u32])
+pub fn lead_all<K: SyscallKernel>(
+    version: &mut Version,
+    kernel: &mut K,
+    most: u32,
+    hands: &[u32],
+)
     requires leading { IsLiveLeader version.old }
     requires seen { version.old.at.seen ≡ length (K.log kernel.old) }
     requires in_step { IsInStep threads (K.log kernel.old) version.old.at }
     requires most { most ≤ MOST_EVENTS }
-    ensures led { HasLed threads (K.start kernel.old) most hands.now version.old version.new (K.log kernel.old) (K.log kernel.new) }
+    ensures led { FromAny (K.log kernel.new) (λ start. HasLed threads start most hands.now version.old version.new (K.log kernel.old) (K.log kernel.new)) }
+    ensures grows { Grows (K.log kernel.old) (K.log kernel.new) }
+    ensures lawful { IsLawful (K.log kernel.new) }
     ensures start { K.start kernel.new ≡ K.start kernel.old }
 {
+    let _log = kernel.history();
     let mut on = true;
     while on {
         on = next_call(version, kernel, most, hands);
@@ -91,8 +102,11 @@ fn next_call<K: SyscallKernel>(
     requires leading { IsLiveLeader version.old }
     requires seen { version.old.at.seen ≡ length (K.log kernel.old) }
     requires in_step { IsInStep threads (K.log kernel.old) version.old.at }
+    requires lawful { IsLawful (K.log kernel.old) }
     requires most { most ≤ MOST_EVENTS }
-    ensures turn { TookTurn threads (K.start kernel.old) most version.old version.new (K.log kernel.old) (K.log kernel.new) }
+    ensures turn { FromAny (K.log kernel.new) (λ start. TookTurn threads start most version.old version.new (K.log kernel.old) (K.log kernel.new)) }
+    ensures grows { Grows (K.log kernel.old) (K.log kernel.new) }
+    ensures lawful { IsLawful (K.log kernel.new) }
     ensures start { K.start kernel.new ≡ K.start kernel.old }
     ensures on { result ≡ stays (is_going version.new.at.fate) hands.now version.new.at.seen }
 {
@@ -110,8 +124,11 @@ fn one_call<K: SyscallKernel>(version: &mut Version, kernel: &mut K, most: u32) 
     requires leading { IsLiveLeader version.old }
     requires seen { version.old.at.seen ≡ length (K.log kernel.old) }
     requires in_step { IsInStep threads (K.log kernel.old) version.old.at }
+    requires lawful { IsLawful (K.log kernel.old) }
     requires most { most ≤ MOST_EVENTS }
-    ensures turn { TookTurn threads (K.start kernel.old) most version.old version.new (K.log kernel.old) (K.log kernel.new) }
+    ensures turn { FromAny (K.log kernel.new) (λ start. TookTurn threads start most version.old version.new (K.log kernel.old) (K.log kernel.new)) }
+    ensures grows { Grows (K.log kernel.old) (K.log kernel.new) }
+    ensures lawful { IsLawful (K.log kernel.new) }
     ensures start { K.start kernel.new ≡ K.start kernel.old }
     ensures on { result ≡ is_going version.new.at.fate }
 {
@@ -137,10 +154,10 @@ fn serve_call<K: SyscallKernel>(version: &mut Version, kernel: &mut K, tid: u32)
     requires seen { version.old.at.seen ≡ length (K.log kernel.old) }
     requires few { length (K.log kernel.old) < MOST_EVENTS }
     requires ready { K.is_ready kernel.old (threads.call version.old.at.process tid) }
-    ensures log { K.log kernel.new ≡ K.log kernel.old ++ served (K.start kernel.old) (K.log kernel.old) (threads.call version.old.at.process tid) ∷ [] }
+    ensures log { K.log kernel.new ≡ K.log kernel.old ++ served (K.known kernel.old) (K.log kernel.old) (threads.call version.old.at.process tid) ∷ [] }
     ensures start { K.start kernel.new ≡ K.start kernel.old }
     ensures lawful { IsLawful (K.log kernel.new) }
-    ensures version { version.new ≡ became_event threads (served (K.start kernel.old) (K.log kernel.old) (threads.call version.old.at.process tid)) version.old }
+    ensures version { version.new ≡ became_event threads (served (K.known kernel.old) (K.log kernel.old) (threads.call version.old.at.process tid)) version.old }
 {
     kernel.serve(version.pending(tid));
     let at = version.standing().seen as usize;

@@ -1,6 +1,8 @@
 // The versions in order.
 ghost use Rattle.std.specs.Prelude.{◌≡◌, ◌≤◌, ◌+◌, ◌++◌, [], ℕ, length, map, option_map};
 ghost use Rattle.nv_calls.specs.Limits.{MOST_EVENTS};
+ghost use Rattle.nv_calls.specs.Logs.{IsLawful};
+ghost use Rattle.nv_served.specs.Learning.{FromAny};
 ghost use Rattle.nv_threads.specs.Threads.{threads};
 ghost use Rattle.nv_replay.specs.Follow.{judge_of, IsInStep};
 ghost use Rattle.nv_replay.specs.Sequence.{cuts_of};
@@ -10,14 +12,14 @@ ghost use Rattle.nv_replay.specs.Account.{AreFresh};
 ghost use Rattle.nv_replay.specs.Covers.{AreEnded, Covers};
 ghost use Rattle.nv_sequence.specs.inner.Rests.{AreRested, IsRested, AreInStep};
 ghost use Rattle.nv_replay.specs.Survivors.{SurvivorsAgree};
-ghost use Rattle.nv_sequence.specs.Passing.{followed};
+ghost use Rattle.nv_sequence.specs.Passing.{Grows, followed};
 ghost use Rattle.nv_sequence.specs.inner.Passing.{FirstMayHaveTurn, NextTurn};
 
 use crate::{Turned, take_turn};
 use arrayvec::ArrayVec;
 use nv_bpf::Filter;
-use nv_calls::SyscallKernel;
 use nv_replay::{Account, Version, follow_all};
+use nv_served::SyscallKernel;
 
 /// The whole monitor: the versions lead in order, the others follow the log, judged by the rules if there are any. A version that
 /// ends leaves the order, one that has made the log as long as one of `hands` goes to its end; once the process has ended, or
@@ -35,11 +37,11 @@ pub fn run<K: SyscallKernel>(
     requires hands { length hands.now.items ≤ 8 }
     requires empty { K.log kernel ≡ [] }
     ensures account { record { log = K.log result.kernel; lines = map standing_of result.versions.items }
-        ≡ sequence threads (judge_of (option_map (λ f. f.now) rules.entry)) (K.start kernel) most (cuts_of (map standing_of result.versions.items)) hands.now.items (map process_of versions.items) }
+        ≡ sequence threads (judge_of (option_map (λ f. f.now) rules.entry)) (K.known result.kernel) most (cuts_of (map standing_of result.versions.items)) hands.now.items (map process_of versions.items) }
     ensures start { K.start result.kernel ≡ K.start kernel }
     ensures settled { AreEnded (map standing_of result.versions.items) }
     ensures covers { Covers (map standing_of result.versions.items) (K.log result.kernel) }
-    ensures survivor { SurvivorsAgree threads (K.start kernel) most hands.now.items (map process_of versions.items) (map standing_of result.versions.items) (K.log result.kernel) }
+    ensures survivor { SurvivorsAgree threads (K.known result.kernel) most hands.now.items (map process_of versions.items) (map standing_of result.versions.items) (K.log result.kernel) }
 {
     run_all(&mut versions, rules, &mut kernel, most, hands.as_slice());
     Account { kernel, versions }
@@ -58,11 +60,11 @@ fn run_all<K: SyscallKernel>(
     requires hands { length hands.now ≤ 8 }
     requires empty { K.log kernel.old ≡ [] }
     ensures account { record { log = K.log kernel.new; lines = map standing_of versions.new }
-        ≡ sequence threads (judge_of (option_map (λ f. f.now) rules.entry)) (K.start kernel.old) most (cuts_of (map standing_of versions.new)) hands.now (map process_of versions.old) }
+        ≡ sequence threads (judge_of (option_map (λ f. f.now) rules.entry)) (K.known kernel.new) most (cuts_of (map standing_of versions.new)) hands.now (map process_of versions.old) }
     ensures start { K.start kernel.new ≡ K.start kernel.old }
     ensures settled { AreEnded (map standing_of versions.new) }
     ensures covers { Covers (map standing_of versions.new) (K.log kernel.new) }
-    ensures survivor { SurvivorsAgree threads (K.start kernel.old) most hands.now (map process_of versions.old) (map standing_of versions.new) (K.log kernel.new) }
+    ensures survivor { SurvivorsAgree threads (K.known kernel.new) most hands.now (map process_of versions.old) (map standing_of versions.new) (K.log kernel.new) }
 {
     let mut order = ArrayVec::new();
     fill(&mut order, versions, 0);
@@ -96,9 +98,12 @@ fn one_turn<K: SyscallKernel>(
     hands: &[u32],
 ) -> bool
     requires ready { FirstMayHaveTurn threads (K.log kernel.old) versions.old order.old.items }
+    requires lawful { IsLawful (K.log kernel.old) }
     requires most { most ≤ MOST_EVENTS }
-    ensures turn { NextTurn threads (judge_of (option_map (λ f. f.now) rules.entry)) (K.start kernel.old) most hands.now versions.old versions.new order.old.items order.new.items
-        (K.log kernel.old) (K.log kernel.new) result }
+    ensures turn { FromAny (K.log kernel.new) (λ start. NextTurn threads (judge_of (option_map (λ f. f.now) rules.entry)) start most hands.now versions.old versions.new order.old.items order.new.items
+        (K.log kernel.old) (K.log kernel.new) result) }
+    ensures grows { Grows (K.log kernel.old) (K.log kernel.new) }
+    ensures lawful { IsLawful (K.log kernel.new) }
     ensures start { K.start kernel.new ≡ K.start kernel.old }
 {
     if order.is_empty() {
@@ -116,7 +121,11 @@ fn one_turn<K: SyscallKernel>(
 }
 
 /// Each version follows the log to its end, or as far as it goes.
-fn follow_rest<K: SyscallKernel>(versions: &mut [Version], rules: Option<&Filter>, kernel: &K)
+fn follow_rest<K: SyscallKernel>(
+    versions: &mut [Version],
+    rules: Option<&Filter>,
+    kernel: &K,
+)
     requires rested { AreRested threads (K.log kernel.now) versions.old }
     ensures new { versions.new ≡ map (followed threads (judge_of (option_map (λ f. f.now) rules.entry)) (K.log kernel.now)) versions.old }
     ensures in_step { AreInStep threads (K.log kernel.now) versions.new }

@@ -9,7 +9,8 @@ ghost use Rattle.nv_trace.specs.declared.fault.CheckFault.TheVariants.{Memory};
 use crate::CheckFault;
 use crate::live::{first_thread, lives, note};
 use arrayvec::ArrayVec;
-use nv_calls::{Event, MOST_THREADS, Reply, SyscallKernel, shaped};
+use nv_calls::{Event, MOST_THREADS, Reply, shaped};
+use nv_served::{Scripted, SyscallKernel};
 
 fn is_reply(reply: &Reply, other: &Reply) -> bool
     ensures { result ≡ is_reply (response reply.now) (response other.now) }
@@ -28,7 +29,7 @@ fn has_got(history: &[Event], reply: &Reply) -> bool
 }
 
 // Serves the call of the next event, unless the event has a fault before.
-fn play<K: SyscallKernel>(
+fn play<K: SyscallKernel + Scripted>(
     kernel: &mut K,
     live: &mut ArrayVec<u32, MOST_THREADS>,
     event: &Event,
@@ -63,7 +64,10 @@ fn play<K: SyscallKernel>(
 }
 
 /// Has the kernel serve the calls of the events, up to the first event that it doesn't come to.
-pub fn check<K: SyscallKernel>(kernel: &mut K, events: &[Event]) -> Result<(), CheckFault>
+pub fn check<K: SyscallKernel + Scripted>(
+    kernel: &mut K,
+    events: &[Event],
+) -> Result<(), CheckFault>
     requires empty { K.log kernel.old ≡ [] }
     requires few { length events.now ≤ MOST_EVENTS }
     requires stamped { AreStamped (map entry events.now) }

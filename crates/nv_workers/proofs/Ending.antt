@@ -5,6 +5,7 @@ use mathlib.Core.Option.{some, some-injective, some-ne-none}
 use lib.ListN.{get_elem?}
 use Rattle.nv_calls.specs.Calls.{Entry}
 use Rattle.nv_calls.specs.Logs.{InRange, IsLawful, IsLegal, Start}
+use Rattle.nv_served.proofs.LearningLaws.{legal_take}
 use Rattle.nv_words.specs.Spelling.{spell}
 use Rattle.nv_words.proofs.SpellLaws.{spell_alone, spell_length}
 use Rattle.nv_room.specs.declared.view.View.{View}
@@ -136,16 +137,16 @@ module _ (judges : ℕ → Judge) {T : Type 0} (start : Start) (most : ℕ) (han
   lawful_by : (k : ℕ) → IsLawful (seen_by k)
   lawful_by k = lawful_prefix (seen_by k) (drop (length (w k).seen) h) (subst IsLawful (sym (take-append-drop (length (w k).seen) h)) law)
 
-  done_by : (k : ℕ) (p : Proc) (v : Running Proc) → k < n → HasEnded judges start most hands k p v (w k) → HasRunAll threads judges start most hands InRange spell k p v (left k)
-  done_by k p v l e =
+  done_by : IsLegal start h → (k : ℕ) (p : Proc) (v : Running Proc) → k < n → HasEnded judges most hands k p v (w k) → HasRunAll threads judges start most hands InRange spell k p v (left k)
+  done_by legal k p v l e =
       let same : e.log ≡ seen_by k = same_spelt e.log (seen_by k) e.lawful (lawful_by k) (e.spelt ∙ sym (spelt_by k l)) in
-      subst (λ (x : List Entry). HasRunAll threads judges start most hands InRange spell k p v (leaving_of x (w k))) same e.done
+      subst (λ (x : List Entry). HasRunAll threads judges start most hands InRange spell k p v (leaving_of x (w k))) same (e.done start (subst (IsLegal start) (sym same) (legal_take start h (length (w k).seen) legal)))
 
   -- all versions have ended, and the room has told of them
   pub ending : (olds news : List (Running Proc)) → AreFresh threads 0 olds → length news ≡ length olds → length news ≡ n → IsLegal start h
       → ((k : ℕ) (old new : Running Proc) → slice_get olds k ≡ Some old → slice_get news k ≡ Some new
-      → HasEnded judges start most hands k old.at.process new (w k)) → IsAccount threads judges start most hands olds news h
+      → HasEnded judges most hands k old.at.process new (w k)) → IsAccount threads judges start most hands olds news h
   ending olds news fresh long all legal e =
       accounts threads thread_laws judges start most hands InRange spell spelling olds news h left (subst (λ (m : ℕ). IsFinished spell h m left) (sym all) finished) long
       (λ k x q. (law k x q).range)
-      (λ k old new a b. done_by k old.at.process new (let m = slice_below news k new b in omega arith) (e k old new a b)) fresh law legal
+      (λ k old new a b. done_by legal k old.at.process new (let m = slice_below news k new b in omega arith) (e k old new a b)) fresh law legal

@@ -5,8 +5,8 @@ use Rattle.std.specs.Prelude.{slice_get}
 use mathlib.Core.Option.{some, some-injective}
 use lib.ListN.{get_elem?}
 use Rattle.nv_calls.specs.Calls.{Entry}
-use Rattle.nv_calls.specs.Logs.{IsLawful, IsLegal}
-use Rattle.nv_calls.specs.declared.kernel.SyscallKernel.{Ghosts}
+use Rattle.nv_calls.specs.Logs.{IsLawful, IsLegal, Start}
+use Rattle.nv_served.specs.declared.kernel.SyscallKernel.{Ghosts}
 use Rattle.nv_words.specs.Spelling.{spell}
 use Rattle.nv_room.specs.declared.view.View.{View}
 use Rattle.nv_room.specs.declared.view.Span.{Span}
@@ -15,7 +15,7 @@ use Rattle.nv_replay.specs.Follow.{Judge}
 use Rattle.nv_room.specs.declared.room.Left.{Left}
 use Rattle.nv_room.specs.Placement.{Log}
 use Rattle.nv_room.specs.Spans.{Before, of_version, IsLastStation, Opened}
-use Rattle.nv_room.specs.Seats.{IsLeftOf, left_view, version_of_left, versions_of, origin, hands_of, first_view}
+use Rattle.nv_room.specs.Seats.{IsLeftOf, left_view, version_of_left, versions_of, hands_of, first_view}
 use Rattle.nv_room.specs.Lefts.{IsEach, TellsOf, AllTell}
 use Rattle.nv_threads.specs.Threads.{Proc, threads}
 use Rattle.nv_replay.specs.Version.{Running}
@@ -82,8 +82,8 @@ module _ (judges : ℕ → Judge) {K : Type 0} {G : Ghosts K} (room : Room K) (m
       record {
         of = b.0;
         version = at;
-        ended = subst (λ (j : ℕ). HasEnded judges (G.start (origin room)) most (hands_of room) j p v (left_view l)) at
-            (subst (λ (u : Running Proc). HasEnded judges (G.start (origin room)) most (hands_of room) (version_of_left l) p u (left_view l)) same b.1);
+        ended = subst (λ (j : ℕ). HasEnded judges most (hands_of room) j p v (left_view l)) at
+            (subst (λ (u : Running Proc). HasEnded judges most (hands_of room) (version_of_left l) p u (left_view l)) same b.1);
       }
 
   have_run : (i : ℕ) (fs : List (Running Proc)) (ws us : List (Worker K G)) (vs : List (Running Proc)) (ls : List (Left K G))
@@ -166,18 +166,18 @@ module _ (judges : ℕ → Judge) {K : Type 0} {G : Ghosts K} (room : Room K) (m
   )
 
   ended_at : (d : View K) (i : ℕ) (fs vs : List (Running Proc)) (ls : List (Left K G)) → HaveRun judges room most i fs vs ls → (k : ℕ) (old new : Running Proc)
-      → slice_get fs k ≡ Some old → slice_get vs k ≡ Some new → HasEnded judges (G.start (origin room)) most (hands_of room) (i + k) old.at.process new (view_at d ls k)
+      → slice_get fs k ≡ Some old → slice_get vs k ≡ Some new → HasEnded judges most (hands_of room) (i + k) old.at.process new (view_at d ls k)
   ended_at d i [] vs ls r k old new a b = cc
   ended_at d i (f ∷ fs) [] ls r k old new a b = absurd r
   ended_at d i (f ∷ fs) (v ∷ vs) [] r k old new a b = absurd r
   ended_at d i (f ∷ fs) (v ∷ vs) (l ∷ ls) r zero old new a b =
       let z : i ≡ i + 0 = omega arith in
-      subst (λ (j : ℕ). HasEnded judges (G.start (origin room)) most (hands_of room) j old.at.process new (left_view l)) z
-      (subst (λ (x : Running Proc). HasEnded judges (G.start (origin room)) most (hands_of room) i x.at.process new (left_view l)) (same_Some f old a)
-      (subst (λ (x : Running Proc). HasEnded judges (G.start (origin room)) most (hands_of room) i f.at.process x (left_view l)) (same_Some v new b) r.0.ended))
+      subst (λ (j : ℕ). HasEnded judges most (hands_of room) j old.at.process new (left_view l)) z
+      (subst (λ (x : Running Proc). HasEnded judges most (hands_of room) i x.at.process new (left_view l)) (same_Some f old a)
+      (subst (λ (x : Running Proc). HasEnded judges most (hands_of room) i f.at.process x (left_view l)) (same_Some v new b) r.0.ended))
   ended_at d i (f ∷ fs) (v ∷ vs) (l ∷ ls) r (suc k) old new a b =
       let z : i + 1 + k ≡ i + suc k = omega arith in
-      subst (λ (j : ℕ). HasEnded judges (G.start (origin room)) most (hands_of room) j old.at.process new (view_at d ls k)) z (ended_at d (i + 1) fs vs ls r.1 k old new a b)
+      subst (λ (j : ℕ). HasEnded judges most (hands_of room) j old.at.process new (view_at d ls k)) z (ended_at d (i + 1) fs vs ls r.1 k old new a b)
 
   -- what the seat of version k tells
   told_one : (history : Log) (counts : List ℕ) (spans : List Span) (seating : List ℕ) (k : ℕ) (l : Left K G) → version_of_left l ≡ k → TellsOf history counts spans seating l
@@ -207,13 +207,13 @@ module _ (judges : ℕ → Judge) {K : Type 0} {G : Ghosts K} (room : Room K) (m
   }
 
   -- what `end` promises
-  pub accounted : (h : List Entry) (counts : List ℕ) (fs vs : List (Running Proc)) (ls : List (Left K G)) → AllRan judges room most fs vs ls → IsLawful h → IsLegal (G.start (origin room)) h
+  pub accounted : (start : Start) (h : List Entry) (counts : List ℕ) (fs vs : List (Running Proc)) (ls : List (Left K G)) → AllRan judges room most fs vs ls → IsLawful h → IsLegal start h
       → AllTell (map spell h) counts ls → length counts ≡ versions_of room
-      → IsAccount threads judges (G.start (origin room)) most (hands_of room) fs vs h
-  accounted h counts fs vs ls a law legal t wide =
+      → IsAccount threads judges start most (hands_of room) fs vs h
+  accounted start h counts fs vs ls a law legal t wide =
       let d : View K = first_view room 0 in
       let long = long_run judges room most 0 fs vs ls a.ran in
       let all : length vs ≡ versions_of room = long.1 ∙ (sym long.0 ∙ a.all) in
-      ending judges (G.start (origin room)) most (hands_of room) h (versions_of room) (view_at d ls) law (told_by d (map spell h) counts fs vs ls a t wide) fs vs a.fresh long.1 all legal
+      ending judges start most (hands_of room) h (versions_of room) (view_at d ls) law (told_by d (map spell h) counts fs vs ls a t wide) fs vs a.fresh long.1 all legal
       (λ k old new o n. let z : 0 + k ≡ k = omega arith in
-      subst (λ (j : ℕ). HasEnded judges (G.start (origin room)) most (hands_of room) j old.at.process new (view_at d ls k)) z (ended_at d 0 fs vs ls a.ran k old new o n))
+      subst (λ (j : ℕ). HasEnded judges most (hands_of room) j old.at.process new (view_at d ls k)) z (ended_at d 0 fs vs ls a.ran k old new o n))

@@ -1,6 +1,6 @@
 -- Workers as they are made.
 use Rattle.std.proofs.Common.{◌≡◌, refl, ℕ, List, false, None}
-use Rattle.nv_calls.specs.declared.kernel.SyscallKernel.{Ghosts}
+use Rattle.nv_served.specs.declared.kernel.SyscallKernel.{Ghosts}
 use Rattle.nv_room.specs.declared.room.Reader.{Reader}
 use Rattle.nv_room.specs.declared.room.Lead.{Lead}
 use Rattle.nv_room.specs.Seats.{version_of_reader}
@@ -17,7 +17,7 @@ module _ {K : Type 0} {G : Ghosts K} where
   leads_anew v new l buf f k = λ room m. record {
     fresh = f;
     version = m.fresh.version;
-    works = λ judges most. fresh_leads judges room most v l new f m.fresh m.log m.start k;
+    works = λ judges most. fresh_leads judges room most v l new f m.fresh m.log k;
   }
 
   pub reads_anew : (v : Running Proc) (r : Reader K G) (buf : List ℕ) → IsFresh threads (version_of_reader r) v

@@ -3,8 +3,10 @@ use Rattle.std.proofs.Common.{◌≡◌, ◌∙◌, sym, ap, subst, refl, ℕ, s
 use Rattle.std.specs.Prelude.{◌==◌, ◌||◌}
 use mathlib.Core.Option.{some}
 use Rattle.nv_calls.specs.Calls.{Entry}
-use Rattle.nv_calls.specs.Logs.{IsLawful, Start}
-use Rattle.nv_calls.specs.declared.kernel.SyscallKernel.{Ghosts}
+use Rattle.nv_calls.specs.Logs.{IsLawful}
+use Rattle.nv_served.specs.Learning.{FromAny}
+use Rattle.nv_served.proofs.LearningLaws.{as_told, legal_told}
+use Rattle.nv_served.specs.declared.kernel.SyscallKernel.{Ghosts}
 use Rattle.nv_words.specs.Spelling.{spell}
 use Rattle.nv_room.specs.declared.view.View.{View}
 use Rattle.nv_room.specs.declared.view.Span.{Span}
@@ -14,10 +16,10 @@ use Rattle.nv_room.specs.declared.room.Lead.{Lead}
 use Rattle.nv_room.specs.Spans.{span, handed_on, LastHasEvent}
 use Rattle.nv_room.specs.Room.{Has}
 use Rattle.nv_room.specs.Steps.{as_gone, as_leaving, as_lead}
-use Rattle.nv_room.specs.Seats.{IsOfRoom, IsLeadOf, view, lead_view, station_of_lead, version_of_reader, version_of_lead, kernel_of, due_of, origin, hands_of, IsFreshLead, IsFreshReader}
+use Rattle.nv_room.specs.Seats.{IsOfRoom, IsLeadOf, view, lead_view, station_of_lead, version_of_reader, version_of_lead, kernel_of, due_of, hands_of, IsFreshLead, IsFreshReader}
 use Rattle.nv_threads.specs.Threads.{Proc, threads}
 use Rattle.nv_threads.proofs.ThreadLaws.{thread_laws}
-use Rattle.nv_replay.specs.Follow.{Judge}
+use Rattle.nv_replay.specs.Follow.{Follower, Judge}
 use Rattle.nv_replay.specs.Hands.{has}
 use Rattle.nv_replay.specs.Version.{Running, IsFresh, IsFollowing, IsLiveLeader, leader_of}
 use Rattle.nv_replay.specs.Account.{with_span}
@@ -28,7 +30,7 @@ use Rattle.nv_workers.specs.Working.{HasEnded, FollowsOn, LeadsOn}
 use Rattle.nv_workers.proofs.Keeping.{takes, reads_first, gives_up}
 use Rattle.nv_workers.proofs.Spanned.{map_append}
 use Rattle.nv_workers.proofs.Spelt.{same_spelt, long_as}
-use Rattle.nv_workers.proofs.Reading.{bare}
+use Rattle.nv_workers.proofs.Reading.{bare, bare_reading}
 
 no_length : (xs : List ℕ) → length xs ≡ 0 → xs ≡ []
 no_length [] h = refl
@@ -54,36 +56,36 @@ all_handed [] x a h = (h, tt)
 all_handed (y ∷ xs) x a h = (a.0, all_handed xs x a.1 h)
 
 module _ (judges : ℕ → Judge) where
-  module _ {T : Type 0} (start : Start) (most : ℕ) (hands : List ℕ) (i : ℕ) (p : Proc) (v : Running Proc) (w : View T) where
-    pub gone_now : HasEnded judges start most hands i p v w → HasEnded judges start most hands i p v (as_gone w)
+  module _ {T : Type 0} (most : ℕ) (hands : List ℕ) (i : ℕ) (p : Proc) (v : Running Proc) (w : View T) where
+    pub gone_now : HasEnded judges most hands i p v w → HasEnded judges most hands i p v (as_gone w)
     gone_now h = record { log = h.log; spelt = h.spelt; lawful = h.lawful; count = h.count; led = h.led; done = h.done }
 
-    pub given_now : (word : ℕ) → HasEnded judges start most hands i p v w → HasEnded judges start most hands i p v (as_gone (as_leaving w word))
+    pub given_now : (word : ℕ) → HasEnded judges most hands i p v w → HasEnded judges most hands i p v (as_gone (as_leaving w word))
     given_now word h = record { log = h.log; spelt = h.spelt; lawful = h.lawful; count = h.count; led = h.led; done = h.done }
 
   module _ {K : Type 0} {G : Ghosts K} (room : Room K) (most : ℕ) (p : Proc) (v : Running Proc) (r : Reader K G) (buf : List ℕ) where
     pub follows_now : FollowsOn judges room most p v r false buf → IsFollowing v
-    follows_now f = let b = bare judges most room p v r buf f in record { on = b.reading.on; idle = b.reading.idle }
+    follows_now f = let b = bare_reading judges most room p v r buf f in record { on = b.on; idle = b.idle }
 
     -- it has led no more parts than lengths are planned
     pub few_led : FollowsOn judges room most p v r false buf → length v.led ≤ length (hands_of room)
-    few_led f = let b = bare judges most room p v r buf f in let q = b.reading.few in omega arith
+    few_led f = let b = bare_reading judges most room p v r buf f in let q = b.few in omega arith
 
     pub takes_lead : FollowsOn judges room most p v r false buf → (l : Lead K G) (new : Running Proc) → IsLeadOf room l
         → version_of_lead l ≡ version_of_reader r → lead_view l ≡ as_lead (view r) → due_of l ≡ false
-        → map spell (G.log (kernel_of l)) ≡ (view r).seen → G.start (kernel_of l) ≡ G.start (origin room) → IsLawful (G.log (kernel_of l))
+        → map spell (G.log (kernel_of l)) ≡ (view r).seen → IsLawful (G.log (kernel_of l))
         → new ≡ with_span v v.at.seen → LeadsOn judges room most p new false l None
-    takes_lead f l new of version w due spelt start law k =
+    takes_lead f l new of version w due spelt law k =
         let b = bare judges most room p v r buf f in
         let log : List Entry = G.log (kernel_of l) in
         let before : List Span = (view r).spans in
         let same : b.log ≡ log = same_spelt b.log log b.lawful law (b.spelt ∙ sym spelt) in
-        let S : ℕ → List Entry → List (ℕ × ℕ) → Type 0 = λ i x led. IsServing threads judges (G.start (origin room)) most (hands_of room) false i p (with_span v (length x)) led (length x) x in
-        let s : S (version_of_reader r) b.log v.led = takes threads thread_laws judges (G.start (origin room)) most (hands_of room) (version_of_reader r) p v b.log b.reading in
+        let S : ℕ → List Entry → List (ℕ × ℕ) → Type 0 = λ i x led. FromAny x (λ start. IsServing threads judges start most (hands_of room) false i p (with_span v (length x)) led (length x) x) in
+        let s : S (version_of_reader r) b.log v.led = λ start legal. takes threads thread_laws judges start most (hands_of room) (version_of_reader r) p v b.log (b.reading start legal) in
         let s1 : S (version_of_reader r) b.log (map ends_of before) = subst (λ (x : List (ℕ × ℕ)). S (version_of_reader r) b.log x) b.led s in
         let s2 : S (version_of_lead l) log (map ends_of before) = subst (λ (i : ℕ). S i log (map ends_of before)) (sym version)
         (subst (λ (x : List Entry). S (version_of_reader r) x (map ends_of before)) same s1) in
-        let long : v.at.seen ≡ length log = b.reading.seen ∙ ap (λ (x : List Entry). length x) same in
+        let long : v.at.seen ≡ length log = (bare_reading judges most room p v r buf f).seen ∙ ap (λ (x : List Entry). length x) same in
         let new' : with_span v (length log) ≡ new = sym (k ∙ ap (λ (n : ℕ). with_span v n) long) in
         let seen : (lead_view l).seen ≡ (view r).seen = ap (λ (x : View K). x.seen) w in
         let as_long : length (view r).seen ≡ length log = sym (ap (λ (x : List (List ℕ)). length x) spelt) ∙ long_as log in
@@ -96,27 +98,30 @@ module _ (judges : ℕ → Judge) where
           none_wrote = no_length (lead_view l).wrote (l.wrote_is ∙ l.quiet due);
           before = before;
           from = length log;
-          start = start;
           spelt = spelt ∙ sym seen;
           lawful = law;
           spans = spans ∙ (λ i. before ++ span (at i) (who i) (as_long i) (length (sym seen i)) ∷ []);
           handed_on = b.handed_on;
-          serves = subst (λ (x : Running Proc). IsServing threads judges (G.start (origin room)) most (hands_of room) false (version_of_lead l) p x (map ends_of before) (length log) log) new' s2;
+          serves = subst (λ (x : Running Proc). FromAny log (λ start. IsServing threads judges start most (hands_of room) false (version_of_lead l) p x (map ends_of before) (length log) log)) new' s2;
         }
 
   module _ {K : Type 0} {G : Ghosts K} (room : Room K) (most : ℕ) (p : Proc) (v : Running Proc) (l : Lead K G) (f : LeadsOn judges room most p v true l None) where
     abbrev log : List Entry
     log = G.log (kernel_of l)
 
+    -- what holds from whatever start
+    abbrev serving : IsServing threads judges (as_told log) most (hands_of room) true (version_of_lead l) p v (map ends_of f.before) f.from log
+    serving = f.serves (as_told log) (legal_told log f.lawful)
+
     pub leads_now : IsLiveLeader v
-    leads_now = record { on = f.serves.on; leading = f.serves.led_from.leading; none_asked = f.serves.none_asked }
+    leads_now = record { on = serving.on; leading = serving.led_from.leading; none_asked = serving.none_asked }
 
     long_seen : length (lead_view l).seen ≡ length log
     long_seen = sym (ap (λ (x : List (List ℕ)). length x) f.spelt) ∙ long_as log
 
     -- the log has come to a planned length
     pub planned_now : Has (hands_of room) (length (lead_view l).seen)
-    planned_now = has_at (hands_of room) (length (lead_view l).seen) (ap (has (hands_of room)) long_seen ∙ (handed_at (hands_of room) f.from (leader_of v log) f.serves.handed).planned)
+    planned_now = has_at (hands_of room) (length (lead_view l).seen) (ap (has (hands_of room)) long_seen ∙ (handed_at (hands_of room) f.from (leader_of v log) serving.handed).planned)
 
     -- it has published an event
     pub led_now : LastHasEvent (lead_view l).spans
@@ -124,7 +129,7 @@ module _ (judges : ℕ → Judge) where
       f.before,
       span (station_of_lead l) (version_of_lead l) f.from (length (lead_view l).seen),
       f.spans,
-      (let g = (handed_at (hands_of room) f.from (leader_of v log) f.serves.handed).grew in omega (arith, long_seen)),
+      (let g = (handed_at (hands_of room) f.from (leader_of v log) serving.handed).grew in omega (arith, long_seen)),
     )
 
     -- the version follows on from here
@@ -133,9 +138,9 @@ module _ (judges : ℕ → Judge) where
     gives_lead r new buf of version seen read spans k =
         let last : Span = span (station_of_lead l) (version_of_lead l) f.from (length (lead_view l).seen) in
         let all : (view r).spans ≡ f.before ++ (record last { handed = true }) ∷ [] = spans ∙ (ap handed_on f.spans ∙ handed_last f.before last) in
-        let R : ℕ → Running Proc → Type 0 = λ i x. IsReaders threads judges (G.start (origin room)) most (hands_of room) i p x log None in
-        let reading : R (version_of_lead l) (record v { leading = false }) = gives_up threads thread_laws judges (G.start (origin room)) most (hands_of room) (version_of_lead l) p v
-        (map ends_of f.before) f.from log f.serves in
+        let R : ℕ → Running Proc → Type 0 = λ i x. FromAny log (λ start. IsReaders threads judges start most (hands_of room) i p x log None) in
+        let reading : R (version_of_lead l) (record v { leading = false }) = λ start legal. gives_up threads thread_laws judges start most (hands_of room) (version_of_lead l) p v
+        (map ends_of f.before) f.from log (f.serves start legal) in
         record {
           of = of;
           log = log;
@@ -143,27 +148,27 @@ module _ (judges : ℕ → Judge) where
           spelt = f.spelt ∙ sym seen;
           lawful = subst IsLawful (sym (append-nil log)) f.lawful;
           holds = read;
-          led = ap (λ (x : Running Proc). x.led) k ∙ (f.serves.led_from.span ∙ (ap (λ (n : ℕ). map ends_of f.before ++ (f.from, n) ∷ []) (sym long_seen)
+          led = ap (λ (x : Running Proc). x.led) k ∙ (serving.led_from.span ∙ (ap (λ (n : ℕ). map ends_of f.before ++ (f.from, n) ∷ []) (sym long_seen)
               ∙ (sym (map_append ends_of f.before ((record last { handed = true }) ∷ [])) ∙ ap (map ends_of) (sym all))));
           handed_on = subst AreHandedOn (sym all) (all_handed f.before (record last { handed = true }) f.handed_on refl);
           reading = subst (λ (i : ℕ). R i new) (sym version) (subst (λ (x : Running Proc). R (version_of_lead l) x) (sym k) reading);
         }
 
-  module _ {T : Type 0} (start : Start) (most : ℕ) (hands : List ℕ) (p : Proc) (v : Running Proc) (i j : ℕ) (w w2 : View T) (same : j ≡ i) where
+  module _ {T : Type 0} (most : ℕ) (hands : List ℕ) (p : Proc) (v : Running Proc) (i j : ℕ) (w w2 : View T) (same : j ≡ i) where
     -- the seat of a reader that has ended has left
-    pub left_ended : w2 ≡ as_gone w → HasEnded judges start most hands i p v w → HasEnded judges start most hands j p v w2
-    left_ended is h = subst (λ (k : ℕ). HasEnded judges start most hands k p v w2) (sym same)
-        (subst (λ (x : View T). HasEnded judges start most hands i p v x) (sym is) (gone_now start most hands i p v w h))
+    pub left_ended : w2 ≡ as_gone w → HasEnded judges most hands i p v w → HasEnded judges most hands j p v w2
+    left_ended is h = subst (λ (k : ℕ). HasEnded judges most hands k p v w2) (sym same)
+        (subst (λ (x : View T). HasEnded judges most hands i p v x) (sym is) (gone_now most hands i p v w h))
 
     -- the seat of a leader that has ended has left
-    pub given_ended : (word : ℕ) → w2 ≡ as_gone (as_leaving w word) → HasEnded judges start most hands i p v w → HasEnded judges start most hands j p v w2
-    given_ended word is h = subst (λ (k : ℕ). HasEnded judges start most hands k p v w2) (sym same)
-        (subst (λ (x : View T). HasEnded judges start most hands i p v x) (sym is) (given_now start most hands i p v w word h))
+    pub given_ended : (word : ℕ) → w2 ≡ as_gone (as_leaving w word) → HasEnded judges most hands i p v w → HasEnded judges most hands j p v w2
+    given_ended word is h = subst (λ (k : ℕ). HasEnded judges most hands k p v w2) (sym same)
+        (subst (λ (x : View T). HasEnded judges most hands i p v x) (sym is) (given_now most hands i p v w word h))
 
   -- Workers as they are made
 
-  reads_none : (start : Start) (most : ℕ) (hands : List ℕ) (v : Running Proc) (i : ℕ) → IsFresh threads i v → IsReaders threads judges start most hands i v.at.process v [] None
-  reads_none start most hands v i f = reads_first threads thread_laws judges start most hands i v.at.process v f.index (record { live = f.started.live; on = f.started.on }) f.at f.not_led f.idle f.none_asked
+  reads_none : (most : ℕ) (hands : List ℕ) (v : Running Proc) (i : ℕ) → IsFresh threads i v → FromAny [] (λ start. IsReaders threads judges start most hands i v.at.process v [] None)
+  reads_none most hands v i f = λ start legal. reads_first threads thread_laws judges start most hands i v.at.process v f.index (record { live = f.started.live; on = f.started.on }) f.at f.not_led f.idle f.none_asked
 
   module _ {K : Type 0} {G : Ghosts K} (room : Room K) (most : ℕ) (v : Running Proc) where
     pub fresh_follows : (i : ℕ) (r : Reader K G) (buf : List ℕ) → IsFresh threads i v → IsFreshReader room i r → FollowsOn judges room most v.at.process v r false buf
@@ -176,16 +181,16 @@ module _ (judges : ℕ → Judge) where
       holds = ap (λ (x : View K). x.read) n.3;
       led = f.not_led ∙ sym (ap (λ (x : View K). map ends_of x.spans) n.3);
       handed_on = subst (λ (x : View K). AreHandedOn x.spans) (sym n.3) tt;
-      reading = subst (λ (j : ℕ). IsReaders threads judges (G.start (origin room)) most (hands_of room) j v.at.process v [] None) (sym n.2) (reads_none (G.start (origin room)) most (hands_of room) v i f);
+      reading = subst (λ (j : ℕ). FromAny [] (λ start. IsReaders threads judges start most (hands_of room) j v.at.process v [] None)) (sym n.2) (reads_none most (hands_of room) v i f);
     }
 
     pub fresh_leads : (l : Lead K G) (new : Running Proc) → IsFresh threads 0 v → IsFreshLead room l → G.log (kernel_of l) ≡ []
-        → G.start (kernel_of l) ≡ G.start (origin room) → new ≡ with_span v v.at.seen → LeadsOn judges room most v.at.process new false l None
-    fresh_leads l new f n log start k =
-        let S : ℕ → List Entry → List (ℕ × ℕ) → Running Proc → Type 0 = λ i x led w. IsServing threads judges (G.start (origin room)) most (hands_of room) false i v.at.process w led 0 x in
-        let first = reads_none (G.start (origin room)) most (hands_of room) v 0 f in
-        let s : S 0 [] v.led (with_span v 0) = takes threads thread_laws judges (G.start (origin room)) most (hands_of room) 0 v.at.process v [] first in
-        let none : v.at.seen ≡ 0 = first.seen in
+        → new ≡ with_span v v.at.seen → LeadsOn judges room most v.at.process new false l None
+    fresh_leads l new f n log k =
+        let S : ℕ → List Entry → List (ℕ × ℕ) → Running Proc → Type 0 = λ i x led w. FromAny x (λ start. IsServing threads judges start most (hands_of room) false i v.at.process w led 0 x) in
+        let first = reads_none most (hands_of room) v 0 f in
+        let s : S 0 [] v.led (with_span v 0) = λ start legal. takes threads thread_laws judges start most (hands_of room) 0 v.at.process v [] (first start legal) in
+        let none : v.at.seen ≡ 0 = ap (λ (x : Follower Proc). x.seen) f.at in
         let new' : with_span v 0 ≡ new = sym (k ∙ ap (λ (m : ℕ). with_span v m) none) in
         let s' : S 0 [] [] new = subst (λ (w : Running Proc). S 0 [] [] w) new' (subst (λ (x : List (ℕ × ℕ)). S 0 [] x (with_span v 0)) f.not_led s) in
         record {
@@ -194,7 +199,6 @@ module _ (judges : ℕ → Judge) where
           none_wrote = n.wrote;
           before = [];
           from = 0;
-          start = start;
           spelt = ap (map spell) log ∙ sym n.seen;
           lawful = subst IsLawful (sym log) (λ j e h. cc);
           spans = n.spans ∙ (λ i. span (sym n.station i) (sym n.version i) 0 (length (sym n.seen i)) ∷ []);

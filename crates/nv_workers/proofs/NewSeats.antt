@@ -3,11 +3,11 @@ use Rattle.std.proofs.Common.{◌≡◌, ◌∙◌, sym, ap, subst, refl, ℕ, z
 use Rattle.std.specs.Option.{MatchOption}
 use mathlib.Core.Option.{some}
 use lib.ListN.{get_elem?}
-use Rattle.nv_calls.specs.declared.kernel.SyscallKernel.{Ghosts}
+use Rattle.nv_served.specs.declared.kernel.SyscallKernel.{Ghosts}
 use Rattle.nv_room.specs.declared.room.Room.{Room}
 use Rattle.nv_room.specs.declared.room.Reader.{Reader}
 use Rattle.nv_room.specs.declared.room.Lead.{Lead}
-use Rattle.nv_room.specs.Seats.{IsFreshReader, version_of_reader, FreshReaders, IsFreshLead, kernel_of, origin}
+use Rattle.nv_room.specs.Seats.{IsFreshReader, version_of_reader, FreshReaders, IsFreshLead, kernel_of}
 use Rattle.nv_threads.specs.Threads.{Proc, threads}
 use Rattle.nv_replay.specs.Version.{Running, IsFresh}
 use Rattle.nv_replay.specs.Account.{AreFresh}
@@ -107,6 +107,5 @@ module _ {K : Type 0} {G : Ghosts K} where
       subst (λ (x : List (Running Proc)). AreNew room 0 x (ws ++ w ∷ [])) (sym e) (new_more room 0 vs ws v w (s room (prefix_made room rs r l b)) one)
 
   -- what the making of a room gives
-  pub as_made : (room : Room K) (rs : List (Reader K G)) (l : Lead K G) (k : K) → origin room ≡ k → FreshReaders room rs → IsFreshLead room l
-      → G.log (kernel_of l) ≡ [] → G.start (kernel_of l) ≡ G.start k → AreAsMade room rs l
-  as_made room rs l k o r f log start = record { readers = r; lead = record { fresh = f; log = log; start = start ∙ sym (ap G.start o) } }
+  pub as_made : (room : Room K) (rs : List (Reader K G)) (l : Lead K G) → FreshReaders room rs → IsFreshLead room l → G.log (kernel_of l) ≡ [] → AreAsMade room rs l
+  as_made room rs l r f log = record { readers = r; lead = record { fresh = f; log = log } }

@@ -1,17 +1,19 @@
 -- A reader's version with the event that its seat has read.
-use Rattle.std.proofs.Common.{◌≡◌, ◌∙◌, sym, ap, subst, refl, ℕ, ◌+◌, ◌<◌, ◌⊎◌, inl, inr, true, false, List, [], ◌∷◌, ◌++◌, map, length, take, Option, Some, None, arith, append-nil, length-append}
+use Rattle.std.proofs.Common.{◌≡◌, ◌∙◌, sym, ap, subst, refl, ℕ, ◌+◌, ◌<◌, ◌⊎◌, inl, inr, Bool, true, false, List, [], ◌∷◌, ◌++◌, map, length, take, Option, Some, None, arith, append-nil, length-append}
 use Rattle.std.proofs.lemmas.List.{map-append}
 use Rattle.std.specs.Prelude.{is_some, Contains}
 use Rattle.nv_calls.specs.Calls.{Entry}
-use Rattle.nv_calls.specs.Logs.{InRange, IsLawful, IsNew, MayFollow, Start, child_of, live_after}
-use Rattle.nv_calls.specs.declared.kernel.SyscallKernel.{Ghosts}
+use Rattle.nv_calls.specs.Logs.{InRange, IsLawful, IsNew, MayFollow, child_of, live_after}
+use Rattle.nv_served.specs.Learning.{FromAny}
+use Rattle.nv_served.proofs.LearningLaws.{as_told, legal_told, legal_front}
+use Rattle.nv_served.specs.declared.kernel.SyscallKernel.{Ghosts}
 use Rattle.nv_words.specs.Spelling.{spell, IsWhole}
 use Rattle.nv_words.proofs.SpellLaws.{spell_one, spell_whole}
 use Rattle.nv_room.specs.declared.view.View.{View}
 use Rattle.nv_room.specs.declared.room.Room.{Room}
 use Rattle.nv_room.specs.declared.room.Reader.{Reader}
 use Rattle.nv_room.specs.Steps.{SpellLawful, TellsEnd, one_on}
-use Rattle.nv_room.specs.Seats.{IsOfRoom, SameReader, view, version_of_reader, origin, hands_of}
+use Rattle.nv_room.specs.Seats.{IsOfRoom, SameReader, view, version_of_reader, hands_of}
 use Rattle.nv_threads.specs.Threads.{Proc, threads}
 use Rattle.nv_threads.proofs.ThreadLaws.{thread_laws}
 use Rattle.nv_replay.specs.declared.fate.Fate.{Fate}
@@ -52,8 +54,16 @@ off_from None f h e = cc
 off_from (Some x) f h e = ap is_going (sym e)
 
 module _ (judges : ℕ → Judge) (most : ℕ) where
+  -- a version that has ended has its fate
+  pub has_ended : {T : Type 0} (hands : List ℕ) (i : ℕ) (p : Proc) (v : Running Proc) (w : View T) → HasEnded judges most hands i p v w → is_going v.at.fate ≡ false
+  has_ended hands i p v w h = (h.done (as_told h.log) (legal_told h.log h.lawful)).ended
+
+  -- a version that follows on has none
+  pub follows_fate : {K : Type 0} {G : Ghosts K} (room : Room K) (p : Proc) (v : Running Proc) (r : Reader K G) (held : Bool) (buf : List ℕ) → FollowsOn judges room most p v r held buf → v.at.fate ≡ None
+  follows_fate room p v r held buf f = (f.reading (as_told f.log) (legal_told f.log (lawful_prefix f.log (held_list f.next) f.lawful))).on
+
   -- a reader's version with the event that is held
-  pub record Held (start : Start) (hands : List ℕ) {T : Type 0} (i : ℕ) (p : Proc) (v : Running Proc) (w : View T) (buf : List ℕ) : Type 0 where
+  pub record Held (hands : List ℕ) {T : Type 0} (i : ℕ) (p : Proc) (v : Running Proc) (w : View T) (buf : List ℕ) : Type 0 where
     pub log : List Entry
     pub event : Entry
     pub spelt : map spell log ≡ w.seen
@@ -62,19 +72,23 @@ module _ (judges : ℕ → Judge) (most : ℕ) where
     pub words : buf ≡ spell event
     pub led : v.led ≡ map ends_of w.spans
     pub handed_on : AreHandedOn w.spans
-    pub reading : IsReaders threads judges start most hands i p v log (Some event)
+    pub reading : FromAny log (λ start. IsReaders threads judges start most hands i p v log (Some event))
 
-  held_by : (start : Start) (hands : List ℕ) {T : Type 0} (i : ℕ) (p : Proc) (v : Running Proc) (w : View T) (buf : List ℕ) (log : List Entry) (next : Option Entry)
+  held_by : (hands : List ℕ) {T : Type 0} (i : ℕ) (p : Proc) (v : Running Proc) (w : View T) (buf : List ℕ) (log : List Entry) (next : Option Entry)
       → map spell log ≡ w.seen → IsLawful (log ++ held_list next) → HoldsNext true w.read buf next → v.led ≡ map ends_of w.spans → AreHandedOn w.spans
-      → IsReaders threads judges start most hands i p v log next → Held start hands i p v w buf
-  held_by start hands i p v w buf log None s l h n o r = absurd h
-  held_by start hands i p v w buf log (Some e) s l h n o r = record { log = log; event = e; spelt = s; lawful = l; read = h.0; words = h.1; led = n; handed_on = o; reading = r }
+      → FromAny log (λ start. IsReaders threads judges start most hands i p v log next) → Held hands i p v w buf
+  held_by hands i p v w buf log None s l h n o r = absurd h
+  held_by hands i p v w buf log (Some e) s l h n o r = record { log = log; event = e; spelt = s; lawful = l; read = h.0; words = h.1; led = n; handed_on = o; reading = r }
 
   module _ {K : Type 0} {G : Ghosts K} (room : Room K) (p : Proc) (v : Running Proc) (r : Reader K G) (buf : List ℕ) where
-    pub held_of : FollowsOn judges room most p v r true buf → Held (G.start (origin room)) (hands_of room) (version_of_reader r) p v (view r) buf
-    held_of f = held_by (G.start (origin room)) (hands_of room) (version_of_reader r) p v (view r) buf f.log f.next f.spelt f.lawful f.holds f.led f.handed_on f.reading
+    pub held_of : FollowsOn judges room most p v r true buf → Held (hands_of room) (version_of_reader r) p v (view r) buf
+    held_of f = held_by (hands_of room) (version_of_reader r) p v (view r) buf f.log f.next f.spelt f.lawful f.holds f.led f.handed_on f.reading
 
-  module _ (start : Start) (hands : List ℕ) {T : Type 0} (i : ℕ) (p : Proc) (v : Running Proc) (w : View T) (buf : List ℕ) (h : Held start hands i p v w buf) where
+  module _ (hands : List ℕ) {T : Type 0} (i : ℕ) (p : Proc) (v : Running Proc) (w : View T) (buf : List ℕ) (h : Held hands i p v w buf) where
+    -- what holds from whatever start
+    pub held_reading : IsReaders threads judges (as_told h.log) most hands i p v h.log (Some h.event)
+    held_reading = h.reading (as_told h.log) (legal_told h.log (lawful_prefix h.log (h.event ∷ []) h.lawful))
+
     may : MayFollow (length h.log) (live_after (take (length h.log) (h.log ++ h.event ∷ []))) h.event
     may = h.lawful (length h.log) h.event (get_last h.log h.event)
 
@@ -89,16 +103,16 @@ module _ (judges : ℕ → Judge) (most : ℕ) where
     event_is e s r = spell_one e h.event r may.range (s ∙ h.words)
 
     pub stamp_is : h.event.stamp ≡ v.at.seen
-    stamp_is = may.stamp ∙ sym h.reading.seen
+    stamp_is = may.stamp ∙ sym held_reading.seen
 
     pub is_below : v.at.seen < 131072
-    is_below = rw (h.reading.seen) may.few
+    is_below = rw (held_reading.seen) may.few
 
     lives_as : threads.live v.at.process ≡ live_after (take (length h.log) (h.log ++ h.event ∷ []))
     lives_as =
-        let all : take v.at.seen h.log ≡ take (length h.log) (h.log ++ h.event ∷ []) = ap (λ (n : ℕ). take n h.log) h.reading.seen
+        let all : take v.at.seen h.log ≡ take (length h.log) (h.log ++ h.event ∷ []) = ap (λ (n : ℕ). take n h.log) held_reading.seen
         ∙ sym (take_prefix_of h.log (h.event ∷ []) (length h.log) (omega arith)) in
-        h.reading.in_step.live h.reading.on ∙ ap live_after all
+        held_reading.in_step.live held_reading.on ∙ ap live_after all
 
     pub is_live : Contains (threads.live v.at.process) h.event.call.tid
     is_live = subst (λ (x : List ℕ). Contains x h.event.call.tid) (sym lives_as) may.lives
@@ -109,20 +123,21 @@ module _ (judges : ℕ → Judge) (most : ℕ) where
 
     -- Rewrote: the event stays
     pub rewrote : (new : Running Proc) → new ≡ record v { at = decided threads (judges i) h.event v.at } → new.at.seen ≡ v.at.seen
-        → new.at.fate ≡ None → IsReaders threads judges start most hands i p new h.log (Some h.event)
-    rewrote new k s n = reads_held threads thread_laws judges start most hands i p v new h.log h.event (Some h.event) h.reading (inr refl) h.lawful k s n
+        → new.at.fate ≡ None → FromAny h.log (λ start. IsReaders threads judges start most hands i p new h.log (Some h.event))
+    rewrote new k s n = λ start legal. reads_held threads thread_laws judges start most hands i p v new h.log h.event (Some h.event) (h.reading start legal) (inr refl) h.lawful k s n
 
     -- Matched or Skipped: the event is consumed
     pub consumes : (new : Running Proc) → new ≡ record v { at = decided threads (judges i) h.event v.at } → new.at.seen ≡ v.at.seen + 1
-        → new.at.fate ≡ None → IsReaders threads judges start most hands i p new (h.log ++ h.event ∷ []) None
-    consumes new k s n = reads_on threads thread_laws judges start most hands i p v new h.log h.event (Some h.event) h.reading (inr refl) h.lawful k s n
+        → new.at.fate ≡ None → FromAny (h.log ++ h.event ∷ []) (λ start. IsReaders threads judges start most hands i p new (h.log ++ h.event ∷ []) None)
+    consumes new k s n = λ start legal.
+        reads_on threads thread_laws judges start most hands i p v new h.log h.event (Some h.event) (h.reading start (legal_front start h.log (h.event ∷ []) legal)) (inr refl) h.lawful k s n
 
     stage_now : (new : Running Proc) → new ≡ record v { at = decided threads (judges i) h.event v.at }
         → IsStage (track_next threads (judges i) new.led (h.log ++ h.event ∷ [])) (fresh p) new.at
-    stage_now new k = (decides threads thread_laws judges start most hands i p v new h.log h.event (Some h.event) h.reading (inr refl) h.lawful k).0
+    stage_now new k = (decides threads thread_laws judges (as_told h.log) most hands i p v new h.log h.event (Some h.event) held_reading (inr refl) h.lawful k).0
 
     idle_now : (new : Running Proc) → new ≡ record v { at = decided threads (judges i) h.event v.at } → new.leading ≡ false
-    idle_now new k = ap (λ (x : Running Proc). x.leading) k ∙ h.reading.idle
+    idle_now new k = ap (λ (x : Running Proc). x.leading) k ∙ held_reading.idle
 
     led_now : (new : Running Proc) → new ≡ record v { at = decided threads (judges i) h.event v.at } → new.led ≡ map ends_of w.spans
     led_now new k = ap (λ (x : Running Proc). x.led) k ∙ h.led
@@ -135,21 +150,21 @@ module _ (judges : ℕ → Judge) (most : ℕ) where
 
     -- it exited with the event, which is consumed
     pub exits : (new : Running Proc) → new ≡ record v { at = decided threads (judges i) h.event v.at }
-        → new.at.seen ≡ v.at.seen + 1 → is_going new.at.fate ≡ false → HasEnded judges start most hands i p new (one_on w)
+        → new.at.seen ≡ v.at.seen + 1 → is_going new.at.fate ≡ false → HasEnded judges most hands i p new (one_on w)
     exits new k n e = record {
       log = h.log ++ h.event ∷ [];
       spelt = spelt_on;
       lawful = h.lawful;
-      count = omega (arith, n, h.reading.seen, long_seen, length-append w.seen (w.read ∷ []));
+      count = omega (arith, n, held_reading.seen, long_seen, length-append w.seen (w.read ∷ []));
       led = led_now new k;
-      done = record {
+      done = λ start legal. record {
         ended = e;
-        count = omega (arith, n, h.reading.seen, length-append h.log (h.event ∷ []));
+        count = omega (arith, n, held_reading.seen, length-append h.log (h.event ∷ []));
         spans = led_now new k;
         told = inl (record {
           idle = idle_now new k;
           handed_on = h.handed_on;
-          handed = parts_on threads thread_laws judges start most hands i p v new h.log h.event (Some h.event) h.reading (inr refl) h.lawful k;
+          handed = parts_on threads thread_laws judges start most hands i p v new h.log h.event (Some h.event) (h.reading start (legal_front start h.log (h.event ∷ []) legal)) (inr refl) h.lawful k;
           stage = inl (stage_now new k);
         });
       };
@@ -157,21 +172,21 @@ module _ (judges : ℕ → Judge) (most : ℕ) where
 
     -- it was dropped at the event, whose words stay read
     pub dropped : (new : Running Proc) → new ≡ record v { at = decided threads (judges i) h.event v.at }
-        → new.at.seen ≡ v.at.seen → is_going new.at.fate ≡ false → HasEnded judges start most hands i p new w
+        → new.at.seen ≡ v.at.seen → is_going new.at.fate ≡ false → HasEnded judges most hands i p new w
     dropped new k n e = record {
       log = h.log;
       spelt = h.spelt;
       lawful = lawful_prefix h.log (h.event ∷ []) h.lawful;
-      count = n ∙ (h.reading.seen ∙ sym long_seen);
+      count = n ∙ (held_reading.seen ∙ sym long_seen);
       led = led_now new k;
-      done = record {
+      done = λ start legal. record {
         ended = e;
-        count = n ∙ h.reading.seen;
+        count = n ∙ held_reading.seen;
         spans = led_now new k;
         told = inl (record {
           idle = idle_now new k;
           handed_on = h.handed_on;
-          handed = parts_still threads thread_laws judges start most hands i p v new h.log h.event (Some h.event) h.reading (inr refl) h.lawful k;
+          handed = parts_still threads thread_laws judges start most hands i p v new h.log h.event (Some h.event) (h.reading start legal) (inr refl) h.lawful k;
           stage = inr (record { event = h.event; fit = may.range; words = h.read; stage = stage_now new k });
         });
       };
@@ -188,21 +203,18 @@ module _ (judges : ℕ → Judge) (most : ℕ) where
         (q.last, q.words_are, subst (λ (x : List Entry). IsLawful (x ++ q.last ∷ [])) same lawful)
 
     -- a version without a fate stands where threads live
-    pub goes_on : (start : Start) (hands : List ℕ) → map spell log ≡ seen → IsLawful log → IsReaders threads judges start most hands i p v log None → TellsEnd seen → ⊥
-    goes_on start hands s l r (h, spelt, law, dead) =
+    pub goes_on : (hands : List ℕ) → map spell log ≡ seen → IsLawful log → IsReaders threads judges (as_told log) most hands i p v log None → TellsEnd seen → ⊥
+    goes_on hands s l r (h, spelt, law, dead) =
         let same : h ≡ log = same_spelt h log law l (spelt ∙ sym s) in
-        never_closed threads thread_laws judges start most hands i p v log r (subst (λ (x : List Entry). live_after x ≡ []) same dead)
+        never_closed threads thread_laws judges (as_told log) most hands i p v log r (subst (λ (x : List Entry). live_after x ≡ []) same dead)
 
   module _ {K : Type 0} {G : Ghosts K} (room : Room K) (p : Proc) (v : Running Proc) (r : Reader K G) (buf : List ℕ) (f : FollowsOn judges room most p v r true buf) (e : Entry) (s : spell e ≡ buf) (n : InRange e) (new : Running Proc) (k : new ≡ record v { at = decided threads (judges v.index) e v.at }) where
-    abbrev start : Start
-    start = G.start (origin room)
-
-    held : Held start (hands_of room) (version_of_reader r) p v (view r) buf
+    held : Held (hands_of room) (version_of_reader r) p v (view r) buf
     held = held_of room p v r buf f
 
     by_held : new ≡ record v { at = decided threads (judges (version_of_reader r)) held.event v.at }
-    by_held = k ∙ ap (λ (i : ℕ). record v { at = decided threads (judges i) e v.at }) held.reading.index
-        ∙ ap (λ (x : Entry). record v { at = decided threads (judges (version_of_reader r)) x v.at }) (event_is start (hands_of room) (version_of_reader r) p v (view r) buf held e s n)
+    by_held = k ∙ ap (λ (i : ℕ). record v { at = decided threads (judges i) e v.at }) (held_reading (hands_of room) (version_of_reader r) p v (view r) buf held).index
+        ∙ ap (λ (x : Entry). record v { at = decided threads (judges (version_of_reader r)) x v.at }) (event_is (hands_of room) (version_of_reader r) p v (view r) buf held e s n)
 
     pub after_rewrote : new.at.seen ≡ v.at.seen → new.at.fate ≡ None → FollowsOn judges room most p new r true buf
     after_rewrote h o = record {
@@ -212,9 +224,9 @@ module _ (judges : ℕ → Judge) (most : ℕ) where
       spelt = held.spelt;
       lawful = held.lawful;
       holds = (held.read, held.words);
-      led = led_now start (hands_of room) (version_of_reader r) p v (view r) buf held new by_held;
+      led = led_now (hands_of room) (version_of_reader r) p v (view r) buf held new by_held;
       handed_on = held.handed_on;
-      reading = rewrote start (hands_of room) (version_of_reader r) p v (view r) buf held new by_held h o;
+      reading = rewrote (hands_of room) (version_of_reader r) p v (view r) buf held new by_held h o;
     }
 
     pub after_consumed : (r2 : Reader K G) → IsOfRoom room r2 → SameReader r r2 → view r2 ≡ one_on (view r) → new.at.seen ≡ v.at.seen + 1
@@ -225,50 +237,54 @@ module _ (judges : ℕ → Judge) (most : ℕ) where
           of = of;
           log = log;
           next = None;
-          spelt = spelt_on start (hands_of room) (version_of_reader r) p v (view r) buf held ∙ sym (ap (λ (x : View K). x.seen) w);
+          spelt = spelt_on (hands_of room) (version_of_reader r) p v (view r) buf held ∙ sym (ap (λ (x : View K). x.seen) w);
           lawful = subst IsLawful (sym (append-nil log)) held.lawful;
           holds = ap (λ (x : View K). x.read) w;
-          led = led_now start (hands_of room) (version_of_reader r) p v (view r) buf held new by_held ∙ sym (ap (λ (x : View K). map ends_of x.spans) w);
+          led = led_now (hands_of room) (version_of_reader r) p v (view r) buf held new by_held ∙ sym (ap (λ (x : View K). map ends_of x.spans) w);
           handed_on = subst (λ (x : View K). AreHandedOn x.spans) (sym w) held.handed_on;
-          reading = subst (λ (i : ℕ). IsReaders threads judges start most (hands_of room) i p new log None) (sym same.3)
-              (consumes start (hands_of room) (version_of_reader r) p v (view r) buf held new by_held h o);
+          reading = subst (λ (i : ℕ). FromAny log (λ start. IsReaders threads judges start most (hands_of room) i p new log None)) (sym same.3)
+              (consumes (hands_of room) (version_of_reader r) p v (view r) buf held new by_held h o);
         }
 
     pub after_exit : (r2 : Reader K G) → SameReader r r2 → view r2 ≡ one_on (view r) → new.at.seen ≡ v.at.seen + 1 → is_going new.at.fate ≡ false
-        → HasEnded judges start most (hands_of room) (version_of_reader r2) p new (view r2)
+        → HasEnded judges most (hands_of room) (version_of_reader r2) p new (view r2)
     after_exit r2 same w n o =
-        subst (λ (i : ℕ). HasEnded judges start most (hands_of room) i p new (view r2)) (sym same.3) (subst (λ (x : View K). HasEnded judges start most (hands_of room) (version_of_reader r) p new x) (sym w)
-        (exits start (hands_of room) (version_of_reader r) p v (view r) buf held new by_held n o))
+        subst (λ (i : ℕ). HasEnded judges most (hands_of room) i p new (view r2)) (sym same.3) (subst (λ (x : View K). HasEnded judges most (hands_of room) (version_of_reader r) p new x) (sym w)
+        (exits (hands_of room) (version_of_reader r) p v (view r) buf held new by_held n o))
 
-    pub after_drop : new.at.seen ≡ v.at.seen → is_going new.at.fate ≡ false → HasEnded judges start most (hands_of room) (version_of_reader r) p new (view r)
-    after_drop n o = dropped start (hands_of room) (version_of_reader r) p v (view r) buf held new by_held n o
+    pub after_drop : new.at.seen ≡ v.at.seen → is_going new.at.fate ≡ false → HasEnded judges most (hands_of room) (version_of_reader r) p new (view r)
+    after_drop n o = dropped (hands_of room) (version_of_reader r) p v (view r) buf held new by_held n o
 
   -- a reader's version where no word of a further event is read
-  pub record Bare (start : Start) (hands : List ℕ) {T : Type 0} (i : ℕ) (p : Proc) (v : Running Proc) (w : View T) : Type 0 where
+  pub record Bare (hands : List ℕ) {T : Type 0} (i : ℕ) (p : Proc) (v : Running Proc) (w : View T) : Type 0 where
     pub log : List Entry
     pub spelt : map spell log ≡ w.seen
     pub lawful : IsLawful log
     pub read : w.read ≡ []
     pub led : v.led ≡ map ends_of w.spans
     pub handed_on : AreHandedOn w.spans
-    pub reading : IsReaders threads judges start most hands i p v log None
+    pub reading : FromAny log (λ start. IsReaders threads judges start most hands i p v log None)
 
   holds_none : (read buf read2 buf2 : List ℕ) (next : Option Entry) → HoldsNext false read buf next → read2 ≡ [] → HoldsNext false read2 buf2 next
   holds_none read buf read2 buf2 None h e = e
   holds_none read buf read2 buf2 (Some x) h e = absurd h
 
-  bare_by : (st : Start) (hands : List ℕ) {T : Type 0} (i : ℕ) (p : Proc) (v : Running Proc) (w : View T) (buf : List ℕ) (log : List Entry) (next : Option Entry)
+  bare_by : (hands : List ℕ) {T : Type 0} (i : ℕ) (p : Proc) (v : Running Proc) (w : View T) (buf : List ℕ) (log : List Entry) (next : Option Entry)
       → map spell log ≡ w.seen → IsLawful (log ++ held_list next) → HoldsNext false w.read buf next → v.led ≡ map ends_of w.spans → AreHandedOn w.spans
-      → IsReaders threads judges st most hands i p v log next → Bare st hands i p v w
-  bare_by st hands i p v w buf log None s l h n o r = record { log = log; spelt = s; lawful = subst IsLawful (append-nil log) l; read = h; led = n; handed_on = o; reading = r }
-  bare_by st hands i p v w buf log (Some e) s l h n o r = absurd h
+      → FromAny log (λ start. IsReaders threads judges start most hands i p v log next) → Bare hands i p v w
+  bare_by hands i p v w buf log None s l h n o r = record { log = log; spelt = s; lawful = subst IsLawful (append-nil log) l; read = h; led = n; handed_on = o; reading = r }
+  bare_by hands i p v w buf log (Some e) s l h n o r = absurd h
 
   module _ {K : Type 0} {G : Ghosts K} (room : Room K) (p : Proc) (v : Running Proc) (r : Reader K G) (buf : List ℕ) (f : FollowsOn judges room most p v r false buf) where
-    pub bare : Bare (G.start (origin room)) (hands_of room) (version_of_reader r) p v (view r)
-    bare = bare_by (G.start (origin room)) (hands_of room) (version_of_reader r) p v (view r) buf f.log f.next f.spelt f.lawful f.holds f.led f.handed_on f.reading
+    pub bare : Bare (hands_of room) (version_of_reader r) p v (view r)
+    bare = bare_by (hands_of room) (version_of_reader r) p v (view r) buf f.log f.next f.spelt f.lawful f.holds f.led f.handed_on f.reading
+
+    -- what holds from whatever start
+    pub bare_reading : IsReaders threads judges (as_told bare.log) most (hands_of room) (version_of_reader r) p v bare.log None
+    bare_reading = bare.reading (as_told bare.log) (legal_told bare.log bare.lawful)
 
     pub lives_on : TellsEnd (view r).seen → ⊥
-    lives_on t = goes_on (version_of_reader r) p v bare.log (view r).seen (G.start (origin room)) (hands_of room) bare.spelt bare.lawful bare.reading t
+    lives_on t = goes_on (version_of_reader r) p v bare.log (view r).seen (hands_of room) bare.spelt bare.lawful bare_reading t
 
     -- where no event is found the version follows on as it stands
     pub found_none : (r2 : Reader K G) (buf2 : List ℕ) → IsOfRoom room r2 → SameReader r r2 → (view r2).seen ≡ (view r).seen → (view r2).spans ≡ (view r).spans → (view r2).read ≡ []
@@ -282,7 +298,7 @@ module _ (judges : ℕ → Judge) (most : ℕ) where
       holds = holds_none (view r).read buf (view r2).read buf2 f.next f.holds read;
       led = f.led ∙ sym (ap (map ends_of) spans);
       handed_on = subst AreHandedOn (sym spans) f.handed_on;
-      reading = subst (λ (i : ℕ). IsReaders threads judges (G.start (origin room)) most (hands_of room) i p v f.log f.next) (sym same.3) f.reading;
+      reading = subst (λ (i : ℕ). FromAny f.log (λ start. IsReaders threads judges start most (hands_of room) i p v f.log f.next)) (sym same.3) f.reading;
     }
 
     pub found_waiting : (r2 : Reader K G) (buf2 : List ℕ) (next : Next) → IsWaiting next → IsOfRoom room r2 → SameReader r r2 → (view r2).seen ≡ (view r).seen → (view r2).spans ≡ (view r).spans
@@ -300,7 +316,8 @@ module _ (judges : ℕ → Judge) (most : ℕ) where
     found_event r2 words of same seen spans read tells =
         let spelt : map spell bare.log ≡ (view r2).seen = bare.spelt ∙ sym seen in
         let n = read_next (version_of_reader r) p v bare.log (view r2).seen spelt bare.lawful words tells in
-        let reading : IsReaders threads judges (G.start (origin room)) most (hands_of room) (version_of_reader r) p v bare.log (Some n.0) = with_next_held threads thread_laws judges (G.start (origin room)) most (hands_of room) (version_of_reader r) p v bare.log n.0 bare.reading in
+        let reading : FromAny bare.log (λ start. IsReaders threads judges start most (hands_of room) (version_of_reader r) p v bare.log (Some n.0)) = λ start legal.
+        with_next_held threads thread_laws judges start most (hands_of room) (version_of_reader r) p v bare.log n.0 (bare.reading start legal) in
         record {
           of = of;
           log = bare.log;
@@ -310,5 +327,5 @@ module _ (judges : ℕ → Judge) (most : ℕ) where
           holds = (read ∙ sym n.1, sym n.1);
           led = bare.led ∙ sym (ap (map ends_of) spans);
           handed_on = subst AreHandedOn (sym spans) bare.handed_on;
-          reading = subst (λ (i : ℕ). IsReaders threads judges (G.start (origin room)) most (hands_of room) i p v bare.log (Some n.0)) (sym same.3) reading;
+          reading = subst (λ (i : ℕ). FromAny bare.log (λ start. IsReaders threads judges start most (hands_of room) i p v bare.log (Some n.0))) (sym same.3) reading;
         }

@@ -2,15 +2,17 @@
 use Rattle.std.proofs.Common.{◌≡◌, ◌∙◌, sym, ap, subst, ℕ, ◌+◌, ◌<◌, ◌≤◌, inr, refl, Bool, true, false, List, [], ◌∷◌, ◌++◌, map, length, Option, Some, None, arith, length-append}
 use Rattle.std.proofs.lemmas.List.{map-append}
 use Rattle.nv_calls.specs.Calls.{Entry}
-use Rattle.nv_calls.specs.Logs.{IsLawful, Start, served}
-use Rattle.nv_calls.specs.declared.kernel.SyscallKernel.{Ghosts}
+use Rattle.nv_calls.specs.Logs.{IsLawful, IsLegal, Start, served}
+use Rattle.nv_served.specs.Learning.{FromAny}
+use Rattle.nv_served.proofs.LearningLaws.{as_told, legal_told, legal_front, legal_last}
+use Rattle.nv_served.specs.declared.kernel.SyscallKernel.{Ghosts}
 use Rattle.nv_words.specs.Spelling.{spell}
 use Rattle.nv_room.specs.declared.view.View.{View}
 use Rattle.nv_room.specs.declared.view.Span.{Span}
 use Rattle.nv_room.specs.declared.room.Room.{Room}
 use Rattle.nv_room.specs.declared.room.Lead.{Lead}
 use Rattle.nv_room.specs.Spans.{span, spans_grown}
-use Rattle.nv_room.specs.Seats.{IsLeadOf, SameLead, lead_view, station_of_lead, version_of_lead, kernel_of, due_of, origin, stations_of, versions_of, hands_of}
+use Rattle.nv_room.specs.Seats.{IsLeadOf, SameLead, lead_view, station_of_lead, version_of_lead, kernel_of, due_of, stations_of, versions_of, hands_of}
 use Rattle.nv_threads.specs.Threads.{Proc, threads}
 use Rattle.nv_threads.proofs.ThreadLaws.{thread_laws}
 use Rattle.nv_replay.specs.declared.fate.Fate.TheVariants.{Memory}
@@ -63,10 +65,11 @@ grown_last (x ∷ y ∷ xs) s v a b = ap (λ l. x ∷ l) (grown_last (y ∷ xs) 
 
 module _ (judges : ℕ → Judge) where
   -- a leader with its fate
-  ended_lead : {T : Type 0} (start : Start) (most : ℕ) (hands : List ℕ) (i s u : ℕ) (p : Proc) (v : Running Proc) (w : View T) (before : List Span) (from : ℕ) (log : List Entry) → map spell log ≡ w.seen
+  ended_lead : {T : Type 0} (most : ℕ) (hands : List ℕ) (i s u : ℕ) (p : Proc) (v : Running Proc) (w : View T) (before : List Span) (from : ℕ) (log : List Entry) → map spell log ≡ w.seen
       → IsLawful log → w.spans ≡ before ++ span s u from (length w.seen) ∷ [] → w.station ≡ s → AreHandedOn before
-      → HasLedFrom threads judges start most hands i p v (map ends_of before) from log → is_going v.at.fate ≡ false → HasEnded judges start most hands i p v w
-  ended_lead start most hands i s u p v w before from log sp law spans at on led e =
+      → FromAny log (λ start. HasLedFrom threads judges start most hands i p v (map ends_of before) from log) → is_going v.at.fate ≡ false → HasEnded judges most hands i p v w
+  ended_lead most hands i s u p v w before from log sp law spans at on leads e =
+      let led = leads (as_told log) (legal_told log law) in
       let long : length w.seen ≡ length log = sym (ap (λ (x : List (List ℕ)). length x) sp) ∙ long_as log in
       let told : v.led ≡ map ends_of w.spans = led.span ∙ (ap (λ (n : ℕ). map ends_of before ++ (from, n) ∷ []) (sym long)
       ∙ (sym (map_append ends_of before (span s u from (length w.seen) ∷ [])) ∙ ap (map ends_of) (sym spans))) in
@@ -76,7 +79,7 @@ module _ (judges : ℕ → Judge) where
         lawful = law;
         count = led.seen ∙ sym long;
         led = told;
-        done = record {
+        done = λ start legal. record {
           ended = e;
           count = led.seen;
           spans = told;
@@ -87,23 +90,24 @@ module _ (judges : ℕ → Judge) where
             handed_on = on;
             kept = refl;
             station = sym at;
-            led = led;
+            led = leads start legal;
           });
         };
       }
 
-  -- the call was served, by a start that is this one
-  led_on : (most : ℕ) (hands : List ℕ) (i : ℕ) (p : Proc) (v new : Running Proc) (t : ℕ) (led : List (ℕ × ℕ)) (from : ℕ) (log log2 : List Entry) (start start' : Start) → start' ≡ start
-      → IsAsking threads judges start most hands i p v led from log → v.asked ≡ Some t
-      → log2 ≡ log ++ served start' log (threads.call v.at.process t) ∷ []
-      → new ≡ became_event threads (served start' log (threads.call v.at.process t)) v → IsLawful log2
-      → HasLedFrom threads judges start most hands i p new led from log2
-  led_on most hands i p v new t led from log log2 start start' s a k l n law =
-      let T : Start → Type 0 = λ x. log2 ≡ log ++ served x log (threads.call v.at.process t) ∷ [] in
-      let N : Start → Type 0 = λ x. new ≡ became_event threads (served x log (threads.call v.at.process t)) v in
-      let l' : T start = subst T s l in
-      let n' : N start = subst N s n in
-      let d = publishes threads thread_laws judges start most hands i p v new t led from log a k n' (subst IsLawful l' law) in
+  -- the call was served, and became the same event as from any start of which the longer log is legal
+  led_on : (most : ℕ) (hands : List ℕ) (i : ℕ) (p : Proc) (v new : Running Proc) (t : ℕ) (led : List (ℕ × ℕ)) (from : ℕ) (log log2 : List Entry) (known : Start)
+      → FromAny log (λ start. IsAsking threads judges start most hands i p v led from log) → v.asked ≡ Some t
+      → log2 ≡ log ++ served known log (threads.call v.at.process t) ∷ []
+      → new ≡ became_event threads (served known log (threads.call v.at.process t)) v → IsLawful log2
+      → FromAny log2 (λ start. HasLedFrom threads judges start most hands i p new led from log2)
+  led_on most hands i p v new t led from log log2 known a k l n law = λ start legal.
+      let e : Entry = served known log (threads.call v.at.process t) in
+      let whole : IsLegal start (log ++ e ∷ []) = subst (IsLegal start) l legal in
+      let s : e ≡ served start log (threads.call v.at.process t) = legal_last start log e whole in
+      let l' : log2 ≡ log ++ served start log (threads.call v.at.process t) ∷ [] = l ∙ ap (λ (x : Entry). log ++ x ∷ []) s in
+      let n' : new ≡ became_event threads (served start log (threads.call v.at.process t)) v = n ∙ ap (λ (x : Entry). became_event threads x v) s in
+      let d = publishes threads thread_laws judges start most hands i p v new t led from log (a start (legal_front start log (e ∷ []) whole)) k n' (subst IsLawful l' law) in
       subst (λ (x : List Entry). HasLedFrom threads judges start most hands i p new led from x) (sym l') d
 
   of_same : {K : Type 0} {G : Ghosts K} (room : Room K) (l l2 : Lead K G) → IsLeadOf room l → SameLead l l2 → lead_view l2 ≡ lead_view l → IsLeadOf room l2
@@ -123,51 +127,48 @@ module _ (judges : ℕ → Judge) where
   serves_fate p v i start most hands over led from log (Some t) s = asking_on threads thread_laws judges start most hands i p v led from log t s.0 s.1
 
   module _ {K : Type 0} {G : Ghosts K} (room : Room K) (most : ℕ) (p : Proc) (v : Running Proc) (l : Lead K G) where
-    abbrev start : Start
-    start = G.start (origin room)
-
     abbrev hands : List ℕ
     hands = hands_of room
 
     -- a version that leads on has no fate
     pub leads_fate : (over : Bool) (asked : Option ℕ) → LeadsOn judges room most p v over l asked → v.at.fate ≡ None
-    leads_fate over asked f = serves_fate p v (version_of_lead l) start most hands over (map ends_of f.before) f.from (G.log (kernel_of l)) asked f.serves
+    leads_fate over asked f =
+        let log = G.log (kernel_of l) in
+        serves_fate p v (version_of_lead l) (as_told log) most hands over (map ends_of f.before) f.from log asked (f.serves (as_told log) (legal_told log f.lawful))
 
     -- looks and reserves leave what counts
     pub moved_lead : (asked : Option ℕ) → LeadsOn judges room most p v false l asked → (l2 : Lead K G) → IsLeadOf room l2 → SameLead l l2 → due_of l2 ≡ due_of l
-        → G.log (kernel_of l2) ≡ G.log (kernel_of l) → G.start (kernel_of l2) ≡ G.start (kernel_of l) → (lead_view l2).seen ≡ (lead_view l).seen
+        → G.log (kernel_of l2) ≡ G.log (kernel_of l) → (lead_view l2).seen ≡ (lead_view l).seen
         → (lead_view l2).wrote ≡ (lead_view l).wrote → (lead_view l2).spans ≡ (lead_view l).spans → LeadsOn judges room most p v false l2 asked
-    moved_lead asked f l2 of same due log st seen wrote spans = record {
+    moved_lead asked f l2 of same due log seen wrote spans = record {
       of = of;
       none_due = due ∙ f.none_due;
       none_wrote = wrote ∙ f.none_wrote;
       before = f.before;
       from = f.from;
-      start = st ∙ f.start;
       spelt = ap (map spell) log ∙ (f.spelt ∙ sym seen);
       lawful = subst IsLawful (sym log) f.lawful;
       spans = spans ∙ (f.spans ∙ (λ i. f.before ++ span (sym same.2 i) (sym same.3 i) f.from (length (sym seen i)) ∷ []));
       handed_on = f.handed_on;
-      serves = (let S : ℕ → List Entry → Type 0 = λ s x. Serves judges p v s start most hands false (map ends_of f.before) f.from x asked in
+      serves = (let S : ℕ → List Entry → Type 0 = λ s x. FromAny x (λ start. Serves judges p v s start most hands false (map ends_of f.before) f.from x asked) in
           subst (λ (s : ℕ). S s (G.log (kernel_of l2))) (sym same.3) (subst (λ (x : List Entry). S (version_of_lead l) x) (sym log) f.serves));
     }
 
     pub placed_lead : (asked : Option ℕ) → LeadsOn judges room most p v false l asked → (l2 : Lead K G) → IsLeadOf room l2 → SameLead l l2 → due_of l2 ≡ due_of l
         → kernel_of l2 ≡ kernel_of l → (lead_view l2).seen ≡ (lead_view l).seen → (lead_view l2).wrote ≡ (lead_view l).wrote
         → (lead_view l2).spans ≡ (lead_view l).spans → LeadsOn judges room most p v false l2 asked
-    placed_lead asked f l2 of same due kernel seen wrote spans = moved_lead asked f l2 of same due (ap G.log kernel) (ap G.start kernel) seen wrote spans
+    placed_lead asked f l2 of same due kernel seen wrote spans = moved_lead asked f l2 of same due (ap G.log kernel) seen wrote spans
 
     pub reserved_lead : (asked : Option ℕ) → LeadsOn judges room most p v false l asked → (l2 : Lead K G) → SameLead l l2 → lead_view l2 ≡ lead_view l
-        → due_of l2 ≡ due_of l → G.log (kernel_of l2) ≡ G.log (kernel_of l) → G.start (kernel_of l2) ≡ G.start (kernel_of l)
-        → LeadsOn judges room most p v false l2 asked
-    reserved_lead asked f l2 same w due log st = moved_lead asked f l2 (of_same room l l2 f.of same w) same due log st
+        → due_of l2 ≡ due_of l → G.log (kernel_of l2) ≡ G.log (kernel_of l) → LeadsOn judges room most p v false l2 asked
+    reserved_lead asked f l2 same w due log = moved_lead asked f l2 (of_same room l l2 f.of same w) same due log
         (ap (λ (x : View K). x.seen) w) (ap (λ (x : View K). x.wrote) w) (ap (λ (x : View K). x.spans) w)
 
     pub drops_lead : LeadsOn judges room most p v false l None → (new : Running Proc) → new ≡ asking_next threads most v → new.asked ≡ None
-        → is_going new.at.fate ≡ false → HasEnded judges start most hands (version_of_lead l) p new (lead_view l)
+        → is_going new.at.fate ≡ false → HasEnded judges most hands (version_of_lead l) p new (lead_view l)
     drops_lead f new k n e =
-        ended_lead start most hands (version_of_lead l) (station_of_lead l) (version_of_lead l) p new (lead_view l) f.before f.from (G.log (kernel_of l)) f.spelt f.lawful f.spans l.station_is f.handed_on
-        (drops threads thread_laws judges start most hands (version_of_lead l) p v new (map ends_of f.before) f.from (G.log (kernel_of l)) f.serves k n) e
+        ended_lead most hands (version_of_lead l) (station_of_lead l) (version_of_lead l) p new (lead_view l) f.before f.from (G.log (kernel_of l)) f.spelt f.lawful f.spans l.station_is f.handed_on
+        (λ start legal. drops threads thread_laws judges start most hands (version_of_lead l) p v new (map ends_of f.before) f.from (G.log (kernel_of l)) (f.serves start legal) k n) e
 
     pub asks_lead : LeadsOn judges room most p v false l None → (new : Running Proc) (t : ℕ) → new ≡ asking_next threads most v → new.asked ≡ Some t
         → LeadsOn judges room most p new false l (Some t)
@@ -177,12 +178,11 @@ module _ (judges : ℕ → Judge) where
       none_wrote = f.none_wrote;
       before = f.before;
       from = f.from;
-      start = f.start;
       spelt = f.spelt;
       lawful = f.lawful;
       spans = f.spans;
       handed_on = f.handed_on;
-      serves = (record { before = v; serving = f.serves; asking = k }, a);
+      serves = λ start legal. (record { before = v; serving = f.serves start legal; asking = k }, a);
     }
 
     module _ (t : ℕ) (f : LeadsOn judges room most p v false l (Some t)) where
@@ -192,28 +192,38 @@ module _ (judges : ℕ → Judge) where
       abbrev pub led : List (ℕ × ℕ)
       led = map ends_of f.before
 
-      abbrev pub asking : IsAsking threads judges start most hands (version_of_lead l) p v led f.from log
-      asking = f.serves.0
+      -- what holds from whatever start
+      abbrev pub told : Start
+      told = as_told log
+
+      abbrev pub serving : Serves judges p v (version_of_lead l) told most hands false led f.from log (Some t)
+      serving = f.serves told (legal_told log f.lawful)
+
+      abbrev pub asking : IsAsking threads judges told most hands (version_of_lead l) p v led f.from log
+      asking = serving.0
+
+      pub asked_now : v.asked ≡ Some t
+      asked_now = serving.1
 
       -- what is known of a call that is asked
-      pub waits_lead : IsWaiting threads thread_laws start most asking.before log v t
-      waits_lead = waits threads thread_laws start most asking.before log v t
-          (leading threads thread_laws judges start most hands (version_of_lead l) p asking.before led f.from log asking.serving) asking.serving.led_from.seen
-          asking.serving.led_from.in_step asking.asking f.serves.1
+      pub waits_lead : IsWaiting threads thread_laws told most asking.before log v t
+      waits_lead = waits threads thread_laws told most asking.before log v t
+          (leading threads thread_laws judges told most hands (version_of_lead l) p asking.before led f.from log asking.serving) asking.serving.led_from.seen
+          asking.serving.led_from.in_step asking.asking asked_now
 
       -- there was no memory for it
-      pub refused_lead : (new : Running Proc) → new ≡ record v { at = record v.at { fate = Some Memory } } → HasEnded judges start most hands (version_of_lead l) p new (lead_view l)
-      refused_lead new k = ended_lead start most hands (version_of_lead l) (station_of_lead l) (version_of_lead l) p new (lead_view l) f.before f.from log f.spelt f.lawful f.spans l.station_is f.handed_on
-          (refuses threads thread_laws judges start most hands (version_of_lead l) p v new t led f.from log asking f.serves.1 k) (ap (λ (x : Running Proc). is_going x.at.fate) k)
+      pub refused_lead : (new : Running Proc) → new ≡ record v { at = record v.at { fate = Some Memory } } → HasEnded judges most hands (version_of_lead l) p new (lead_view l)
+      refused_lead new k = ended_lead most hands (version_of_lead l) (station_of_lead l) (version_of_lead l) p new (lead_view l) f.before f.from log f.spelt f.lawful f.spans l.station_is f.handed_on
+          (λ start legal. refuses threads thread_laws judges start most hands (version_of_lead l) p v new t led f.from log (f.serves start legal).0 asked_now k) (ap (λ (x : Running Proc). is_going x.at.fate) k)
 
       -- it was served and published
       module _ (l2 : Lead K G) (new : Running Proc) (same : SameLead l l2)
-          (is : G.log (kernel_of l2) ≡ log ++ served (G.start (kernel_of l)) log (threads.call v.at.process t) ∷ [])
-          (seen : (lead_view l2).seen ≡ (lead_view l).seen ++ spell (served (G.start (kernel_of l)) log (threads.call v.at.process t)) ∷ [])
+          (is : G.log (kernel_of l2) ≡ log ++ served (G.known (kernel_of l)) log (threads.call v.at.process t) ∷ [])
+          (seen : (lead_view l2).seen ≡ (lead_view l).seen ++ spell (served (G.known (kernel_of l)) log (threads.call v.at.process t)) ∷ [])
           (spans : (lead_view l2).spans ≡ spans_grown (lead_view l).spans) (law : IsLawful (G.log (kernel_of l2)))
-          (k : new ≡ became_event threads (served (G.start (kernel_of l)) log (threads.call v.at.process t)) v) where
+          (k : new ≡ became_event threads (served (G.known (kernel_of l)) log (threads.call v.at.process t)) v) where
         abbrev event : Entry
-        event = served (G.start (kernel_of l)) log (threads.call v.at.process t)
+        event = served (G.known (kernel_of l)) log (threads.call v.at.process t)
 
         spelt_now : map spell (G.log (kernel_of l2)) ≡ (lead_view l2).seen
         spelt_now = ap (map spell) is ∙ (map-append spell log (event ∷ []) ∙ (ap (λ (x : List (List ℕ)). x ++ spell event ∷ []) f.spelt ∙ sym seen))
@@ -225,8 +235,11 @@ module _ (judges : ℕ → Judge) where
         spans_now = spans ∙ (ap spans_grown f.spans ∙ (grown_last f.before (station_of_lead l) (version_of_lead l) f.from (length (lead_view l).seen)
             ∙ (λ j. f.before ++ span (sym same.2 j) (sym same.3 j) f.from (sym long_now j) ∷ [])))
 
-        led_now : HasLedFrom threads judges start most hands (version_of_lead l) p new led f.from (G.log (kernel_of l2))
-        led_now = led_on most hands (version_of_lead l) p v new t led f.from log (G.log (kernel_of l2)) start (G.start (kernel_of l)) f.start asking f.serves.1 is k law
+        led_now : FromAny (G.log (kernel_of l2)) (λ start. HasLedFrom threads judges start most hands (version_of_lead l) p new led f.from (G.log (kernel_of l2)))
+        led_now = led_on most hands (version_of_lead l) p v new t led f.from log (G.log (kernel_of l2)) (G.known (kernel_of l)) (λ start legal. (f.serves start legal).0) asked_now is k law
+
+        seen_now : new.at.seen ≡ length (G.log (kernel_of l2))
+        seen_now = let log2 = G.log (kernel_of l2) in (led_now (as_told log2) (legal_told log2 law)).seen
 
         -- it has served one call at least
         grew : f.from < length (G.log (kernel_of l2))
@@ -236,45 +249,44 @@ module _ (judges : ℕ → Judge) where
         none_asked = ap (λ (x : Running Proc). x.asked) k
 
         ended_now : IsLeadOf room l2 → due_of l2 ≡ false → is_going new.at.fate ≡ false
-            → IsLeadOf room l2 × (due_of l2 ≡ false) × HasEnded judges start most hands (version_of_lead l2) p new (lead_view l2)
+            → IsLeadOf room l2 × (due_of l2 ≡ false) × HasEnded judges most hands (version_of_lead l2) p new (lead_view l2)
         ended_now of due e = (
           of,
           due,
-          subst (λ (i : ℕ). HasEnded judges start most hands i p new (lead_view l2)) (sym same.3)
-              (ended_lead start most hands (version_of_lead l) (station_of_lead l2) (version_of_lead l2) p new (lead_view l2) f.before f.from (G.log (kernel_of l2)) spelt_now law spans_now l2.station_is f.handed_on led_now e),
+          subst (λ (i : ℕ). HasEnded judges most hands i p new (lead_view l2)) (sym same.3)
+              (ended_lead most hands (version_of_lead l) (station_of_lead l2) (version_of_lead l2) p new (lead_view l2) f.before f.from (G.log (kernel_of l2)) spelt_now law spans_now l2.station_is f.handed_on led_now e),
         )
 
-        leads_now : (over : Bool) → IsServing threads judges start most hands over (version_of_lead l) p new led f.from (G.log (kernel_of l2))
-            → IsLeadOf room l2 → due_of l2 ≡ false → (lead_view l2).wrote ≡ [] → G.start (kernel_of l2) ≡ G.start (kernel_of l) → LeadsOn judges room most p new over l2 None
-        leads_now over sv of due wrote st = record {
+        leads_now : (over : Bool) → FromAny (G.log (kernel_of l2)) (λ start. IsServing threads judges start most hands over (version_of_lead l) p new led f.from (G.log (kernel_of l2)))
+            → IsLeadOf room l2 → due_of l2 ≡ false → (lead_view l2).wrote ≡ [] → LeadsOn judges room most p new over l2 None
+        leads_now over sv of due wrote = record {
           of = of;
           none_due = due;
           none_wrote = wrote;
           before = f.before;
           from = f.from;
-          start = st ∙ f.start;
           spelt = spelt_now;
           lawful = law;
           spans = spans_now;
           handed_on = f.handed_on;
-          serves = subst (λ (i : ℕ). IsServing threads judges start most hands over i p new led f.from (G.log (kernel_of l2))) (sym same.3) sv;
+          serves = subst (λ (i : ℕ). FromAny (G.log (kernel_of l2)) (λ start. IsServing threads judges start most hands over i p new led f.from (G.log (kernel_of l2)))) (sym same.3) sv;
         }
 
         after_by : (o : Option Fate) (b : Bool) → new.at.fate ≡ o → has hands new.at.seen ≡ b → IsLeadOf room l2 → due_of l2 ≡ false → (lead_view l2).wrote ≡ []
-            → G.start (kernel_of l2) ≡ G.start (kernel_of l) → AfterLead judges room most p new l2 None (next_after o b)
-        after_by (Some x) b e h of due wrote st = ended_now of due (ap is_going e)
-        after_by None true e h of due wrote st = (
-          leads_now true (serves_to threads thread_laws judges start most hands (version_of_lead l) p new led f.from (G.log (kernel_of l2)) led_now e none_asked grew
-              (ap (has hands) (sym led_now.seen) ∙ h)) of due wrote st,
+            → AfterLead judges room most p new l2 None (next_after o b)
+        after_by (Some x) b e h of due wrote = ended_now of due (ap is_going e)
+        after_by None true e h of due wrote = (
+          leads_now true (λ start legal. serves_to threads thread_laws judges start most hands (version_of_lead l) p new led f.from (G.log (kernel_of l2)) (led_now start legal) e none_asked grew
+              (ap (has hands) (sym seen_now) ∙ h)) of due wrote,
           refl,
         )
-        after_by None false e h of due wrote st =
-            leads_now false (serves_on threads thread_laws judges start most hands (version_of_lead l) p new led f.from (G.log (kernel_of l2)) led_now e none_asked
-            (ap (has hands) (sym led_now.seen) ∙ h)) of due wrote st
+        after_by None false e h of due wrote =
+            leads_now false (λ start legal. serves_on threads thread_laws judges start most hands (version_of_lead l) p new led f.from (G.log (kernel_of l2)) (led_now start legal) e none_asked
+            (ap (has hands) (sym seen_now) ∙ h)) of due wrote
 
         -- what comes next
         pub after_served : (planned : List ℕ) (next : Next) → hands_of room ≡ planned → next ≡ next_after new.at.fate (has planned new.at.seen) → IsLeadOf room l2 → due_of l2 ≡ false
-            → (lead_view l2).wrote ≡ [] → G.start (kernel_of l2) ≡ G.start (kernel_of l) → AfterLead judges room most p new l2 None next
-        after_served planned next hd is of due wrote st =
+            → (lead_view l2).wrote ≡ [] → AfterLead judges room most p new l2 None next
+        after_served planned next hd is of due wrote =
             let q : next ≡ next_after new.at.fate (has hands new.at.seen) = is ∙ ap (λ (x : List ℕ). next_after new.at.fate (has x new.at.seen)) (sym hd) in
-            subst (λ (x : Next). AfterLead judges room most p new l2 None x) (sym q) (after_by new.at.fate (has hands new.at.seen) refl refl of due wrote st)
+            subst (λ (x : Next). AfterLead judges room most p new l2 None x) (sym q) (after_by new.at.fate (has hands new.at.seen) refl refl of due wrote)

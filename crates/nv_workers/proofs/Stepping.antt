@@ -1,12 +1,13 @@
 -- What a turn comes to, by seat.
-use Rattle.std.proofs.Common.{inl, ℕ, Bool, true, false, List, Option}
-use Rattle.nv_calls.specs.declared.kernel.SyscallKernel.{Ghosts}
+use Rattle.std.proofs.Common.{◌≡◌, inl, ℕ, Bool, true, false, List, Option}
+use Rattle.nv_served.specs.declared.kernel.SyscallKernel.{Ghosts}
 use Rattle.nv_room.specs.declared.room.Room.{Room}
 use Rattle.nv_room.specs.declared.room.Reader.{Reader}
 use Rattle.nv_room.specs.declared.room.Lead.{Lead}
-use Rattle.nv_room.specs.Seats.{view, lead_view}
+use Rattle.nv_room.specs.Seats.{view, lead_view, left_view, version_of_reader, version_of_lead, version_of_left, hands_of}
 use Rattle.nv_threads.specs.Threads.{Proc}
 use Rattle.nv_replay.specs.Follow.{Judge}
+use Rattle.nv_replay.specs.Sequence.{is_going}
 use Rattle.nv_replay.specs.Version.{Running}
 use Rattle.nv_workers.specs.declared.follows.Next.{Next}
 use Rattle.nv_workers.specs.declared.follows.Next.TheVariants.{Moved, Ahead, Waits, Leads, Hands, Leaves, Left}
@@ -14,8 +15,9 @@ use Rattle.nv_workers.specs.declared.worker.Seat.{Seat}
 use Rattle.nv_workers.specs.declared.worker.Seat.TheVariants.{Reading, Leading, Gone, Moving}
 use Rattle.nv_workers.specs.Follows.{AfterTurn, HasGrown, IsIdle}
 use Rattle.nv_workers.specs.inner.Leads.{AfterLead, HasPublished, IsLate}
-use Rattle.nv_workers.specs.Worker.{IsGone, TookLead}
+use Rattle.nv_workers.specs.Worker.{WorksAt, IsGone, TookLead}
 use Rattle.nv_workers.specs.inner.Stepping.{IsReadingSeat, AfterStep, StepTells}
+use Rattle.nv_workers.proofs.Reading.{has_ended, follows_fate}
 use Rattle.nv_workers.proofs.Serving.{leads_fate}
 
 module _ (judges : ℕ → Judge) {K : Type 0} {G : Ghosts K} (room : Room K) (most : ℕ) (p : Proc) (v : Running Proc) where
@@ -31,12 +33,12 @@ module _ (judges : ℕ → Judge) {K : Type 0} {G : Ghosts K} (room : Room K) (m
 
   pub tells_read : (old : Running Proc) (r r2 : Reader K G) (held held2 : Bool) (buf : List ℕ) (next : Next) → AfterTurn judges room most p v r2 held2 buf next
       → HasGrown (view r) (view r2) old v next → IsIdle (view r) (view r2) next → StepTells room next old v (Reading r held) (Reading r2 held2)
-  tells_read old r r2 held held2 buf Moved a grown idle = (grown, a.reading.on)
-  tells_read old r r2 held held2 buf Ahead a grown idle = (idle, a.reading.on)
-  tells_read old r r2 held held2 buf Waits a grown idle = (idle, a.reading.on)
+  tells_read old r r2 held held2 buf Moved a grown idle = (grown, follows_fate judges most room p v r2 held2 buf a)
+  tells_read old r r2 held held2 buf Ahead a grown idle = (idle, follows_fate judges most room p v r2 held2 buf a)
+  tells_read old r r2 held held2 buf Waits a grown idle = (idle, follows_fate judges most room p v r2 held2 buf a)
   tells_read old r r2 held held2 buf Leads a grown idle = tt
   tells_read old r r2 held held2 buf Hands a grown idle = absurd a
-  tells_read old r r2 held held2 buf Leaves a grown idle = a.1.done.ended
+  tells_read old r r2 held held2 buf Leaves a grown idle = has_ended judges most (hands_of room) (version_of_reader r2) p v (view r2) a.1
   tells_read old r r2 held held2 buf Left a grown idle = absurd a
 
   pub tells_lead : (old : Running Proc) (l l2 : Lead K G) (asked asked2 : Option ℕ) (next : Next) → AfterLead judges room most p v l2 asked2 next
@@ -46,8 +48,14 @@ module _ (judges : ℕ → Judge) {K : Type 0} {G : Ghosts K} (room : Room K) (m
   tells_lead old l l2 asked asked2 Waits a published late = (late, leads_fate judges room most p v l2 false asked2 a)
   tells_lead old l l2 asked asked2 Leads a published late = absurd a
   tells_lead old l l2 asked asked2 Hands a published late = (published, leads_fate judges room most p v l2 true asked2 a.0)
-  tells_lead old l l2 asked asked2 Leaves a published late = a.2.done.ended
+  tells_lead old l l2 asked asked2 Leaves a published late = has_ended judges most (hands_of room) (version_of_lead l2) p v (lead_view l2) a.2
   tells_lead old l l2 asked asked2 Left a published late = absurd a
+
+  pub gone_ended : (buf : List ℕ) (s : Seat K G) → WorksAt judges room most p v buf s → IsGone s → is_going v.at.fate ≡ false
+  gone_ended buf (Reading r held) w g = absurd g
+  gone_ended buf (Leading l asked) w g = absurd g
+  gone_ended buf (Gone l) w g = has_ended judges most (hands_of room) (version_of_left l) p v (left_view l) w.1
+  gone_ended buf Moving w g = absurd g
 
 module _ {K : Type 0} {G : Ghosts K} where
   pub took_from : (s s2 t : Seat K G) → IsReadingSeat s → TookLead s2 t → TookLead s t

@@ -3,7 +3,7 @@ use Rattle.std.specs.Prelude.{◌≡◌, ◌<◌, ◌++◌, ℕ, true, false, []
 use Rattle.nv_calls.specs.Calls.{Entry}
 use Rattle.nv_calls.specs.Logs.{served, live_after, IsLawful}
 use Rattle.nv_calls.specs.Limits.{MOST_EVENTS}
-use Rattle.nv_calls.specs.declared.kernel.SyscallKernel.{Ghosts}
+use Rattle.nv_served.specs.declared.kernel.SyscallKernel.{Ghosts}
 use Rattle.nv_words.specs.Spelling.{spell}
 use Rattle.nv_threads.specs.Threads.{Proc, threads}
 use Rattle.nv_replay.specs.Version.{Running, became_event}
@@ -14,7 +14,7 @@ use Rattle.nv_room.specs.Seats.{IsLeadOf, SameLead, NextFits, lead_view, kernel_
 
 -- the event that a call becomes which thread t of the version asks
 abbrev pub event_of : {K : Type 0} {G : Ghosts K} → Running Proc → Lead K G → ℕ → Entry
-event_of {K} {G} v l t = served (G.start (kernel_of l)) (G.log (kernel_of l)) (threads.call v.at.process t)
+event_of {K} {G} v l t = served (G.known (kernel_of l)) (G.log (kernel_of l)) (threads.call v.at.process t)
 
 module _ {K : Type 0} {G : Ghosts K} (room : Room K) (v : Running Proc) (l : Lead K G) (t : ℕ) where
   -- thread t asks a call that the kernel is ready for, and the event has a place
@@ -37,7 +37,6 @@ module _ {K : Type 0} {G : Ghosts K} (room : Room K) (v : Running Proc) (l : Lea
     pub same : SameLead l l2
     pub due : due_of l2 ≡ false
     pub wrote : (lead_view l2).wrote ≡ []
-    pub start : G.start (kernel_of l2) ≡ G.start (kernel_of l)
     pub log : G.log (kernel_of l2) ≡ G.log (kernel_of l) ++ event_of v l t ∷ []
     pub lawful : IsLawful (G.log (kernel_of l2))
     pub seen : (lead_view l2).seen ≡ (lead_view l).seen ++ spell (event_of v l t) ∷ []

@@ -1,10 +1,10 @@
 -- Workers as they are made.
 use Rattle.std.specs.Prelude.{◌≡◌, ℕ, ◌+◌, List, [], ◌∷◌}
-use Rattle.nv_calls.specs.declared.kernel.SyscallKernel.{Ghosts}
+use Rattle.nv_served.specs.declared.kernel.SyscallKernel.{Ghosts}
 use Rattle.nv_room.specs.declared.room.Room.{Room}
 use Rattle.nv_room.specs.declared.room.Reader.{Reader}
 use Rattle.nv_room.specs.declared.room.Lead.{Lead}
-use Rattle.nv_room.specs.Seats.{IsFreshLead, IsFreshReader, FreshReaders, kernel_of, version_of_reader, origin}
+use Rattle.nv_room.specs.Seats.{IsFreshLead, IsFreshReader, FreshReaders, kernel_of, version_of_reader}
 use Rattle.nv_threads.specs.Threads.{Proc, threads}
 use Rattle.nv_replay.specs.Follow.{Judge}
 use Rattle.nv_replay.specs.Version.{Running, IsFresh}
@@ -16,7 +16,6 @@ module _ {K : Type 0} {G : Ghosts K} where
   pub record IsLeadAsMade (room : Room K) (l : Lead K G) : Type 0 where
     pub fresh : IsFreshLead room l
     pub log : G.log (kernel_of l) ≡ []
-    pub start : G.start (kernel_of l) ≡ G.start (origin room)
 
   abbrev pub IsNewLead : Lead K G → Type 0
   IsNewLead l = (room : Room K) × IsLeadAsMade room l

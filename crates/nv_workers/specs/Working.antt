@@ -2,7 +2,8 @@
 use Rattle.std.specs.Prelude.{◌≡◌, ℕ, Bool, true, false, List, [], ◌∷◌, ◌++◌, map, length, Option, Some, None}
 use Rattle.nv_calls.specs.Calls.{Entry}
 use Rattle.nv_calls.specs.Logs.{InRange, IsLawful, Start}
-use Rattle.nv_calls.specs.declared.kernel.SyscallKernel.{Ghosts}
+use Rattle.nv_served.specs.Learning.{FromAny}
+use Rattle.nv_served.specs.declared.kernel.SyscallKernel.{Ghosts}
 use Rattle.nv_words.specs.Spelling.{spell}
 use Rattle.nv_room.specs.declared.view.View.{View}
 use Rattle.nv_room.specs.declared.view.Span.{Span}
@@ -10,7 +11,7 @@ use Rattle.nv_room.specs.declared.room.Room.{Room}
 use Rattle.nv_room.specs.declared.room.Reader.{Reader}
 use Rattle.nv_room.specs.declared.room.Lead.{Lead}
 use Rattle.nv_room.specs.Spans.{span}
-use Rattle.nv_room.specs.Seats.{IsOfRoom, IsLeadOf, view, lead_view, version_of_reader, station_of_lead, version_of_lead, kernel_of, due_of, origin, hands_of}
+use Rattle.nv_room.specs.Seats.{IsOfRoom, IsLeadOf, view, lead_view, version_of_reader, station_of_lead, version_of_lead, kernel_of, due_of, hands_of}
 use Rattle.nv_threads.specs.Threads.{Proc, threads}
 use Rattle.nv_replay.specs.Follow.{Judge}
 use Rattle.nv_replay.specs.Version.{Running}
@@ -29,13 +30,13 @@ HoldsNext true read buf None = ⊥
 HoldsNext true read buf (Some e) = (read ≡ spell e) × (buf ≡ spell e)
 
 -- version i has its fate. Its seat has seen as many events as it has, and tells the spans that it led
-pub record HasEnded (judges : ℕ → Judge) {T : Type 0} (start : Start) (most : ℕ) (hands : List ℕ) (i : ℕ) (p : Proc) (v : Running Proc) (w : View T) : Type 0 where
+pub record HasEnded (judges : ℕ → Judge) {T : Type 0} (most : ℕ) (hands : List ℕ) (i : ℕ) (p : Proc) (v : Running Proc) (w : View T) : Type 0 where
   pub log : List Entry
   pub spelt : map spell log ≡ w.seen
   pub lawful : IsLawful log
   pub count : v.at.seen ≡ length w.seen
   pub led : v.led ≡ map ends_of w.spans
-  pub done : HasRunAll threads judges start most hands InRange spell i p v (leaving_of log w)
+  pub done : FromAny log (λ start. HasRunAll threads judges start most hands InRange spell i p v (leaving_of log w))
 
 -- a leader's version has no call asked, or that of this thread; `over` says that it has just led to a planned length
 abbrev pub Serves : (ℕ → Judge) → Proc → Running Proc → ℕ → Start → ℕ → List ℕ → Bool → List (ℕ × ℕ) → ℕ → List Entry → Option ℕ → Type 0
@@ -53,7 +54,7 @@ module _ (judges : ℕ → Judge) {K : Type 0} {G : Ghosts K} (room : Room K) (m
     pub holds : HoldsNext held (view r).read buf next
     pub led : v.led ≡ map ends_of (view r).spans
     pub handed_on : AreHandedOn (view r).spans
-    pub reading : IsReaders threads judges (G.start (origin room)) most (hands_of room) (version_of_reader r) p v log next
+    pub reading : FromAny log (λ start. IsReaders threads judges start most (hands_of room) (version_of_reader r) p v log next)
 
   -- a version without a fate that was fresh with the process p, and its lead; where it is over, it gives up the lead next
   pub record LeadsOn (over : Bool) (l : Lead K G) (asked : Option ℕ) : Type 0 where
@@ -62,9 +63,8 @@ module _ (judges : ℕ → Judge) {K : Type 0} {G : Ghosts K} (room : Room K) (m
     pub none_wrote : (lead_view l).wrote ≡ []
     pub before : List Span
     pub from : ℕ
-    pub start : G.start (kernel_of l) ≡ G.start (origin room)
     pub spelt : map spell (G.log (kernel_of l)) ≡ (lead_view l).seen
     pub lawful : IsLawful (G.log (kernel_of l))
     pub spans : (lead_view l).spans ≡ before ++ span (station_of_lead l) (version_of_lead l) from (length (lead_view l).seen) ∷ []
     pub handed_on : AreHandedOn before
-    pub serves : Serves judges p v (version_of_lead l) (G.start (origin room)) most (hands_of room) over (map ends_of before) from (G.log (kernel_of l)) asked
+    pub serves : FromAny (G.log (kernel_of l)) (λ start. Serves judges p v (version_of_lead l) start most (hands_of room) over (map ends_of before) from (G.log (kernel_of l)) asked)

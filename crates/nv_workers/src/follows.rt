@@ -9,13 +9,13 @@ ghost use Rattle.nv_workers.specs.Growing.{OneMoreAtMost};
 ghost use Rattle.nv_workers.specs.Follows.{AfterTurn, HasGrown, IsIdle, IsBusy, IsFound, IsWaiting};
 
 use crate::terms::Terms;
-use nv_calls::SyscallKernel;
 use nv_lamport::{Polled, poll_merged};
 use nv_outside::{Gate, VersionNumber};
 use nv_promotion::{Lower, lower_gone};
 use nv_replay::{Followed, Version};
 use nv_ring::advance;
 use nv_room::{Reader, Room};
+use nv_served::SyscallKernel;
 use nv_words::EventBuf;
 
 /// What comes next for a station.

@@ -14,10 +14,10 @@ use crate::dealing::deal;
 use crate::running::rotate;
 use crate::terms::Terms;
 use crate::worker::{Seat, Worker};
-use nv_calls::SyscallKernel;
 use nv_outside::Gate;
 use nv_replay::{Account, Version};
 use nv_room::{Ended, Left, Room};
+use nv_served::SyscallKernel;
 use std::alloc::{AllocError, Global};
 use std::sync::Wait;
 use std::thread::Threads;
@@ -153,7 +153,7 @@ pub fn end<K: SyscallKernel>(ran: Ran<K>) -> Account<K>
     requires { (judges : ℕ → Judge) × (most : ℕ) × (fresh : List (Running Proc)) × AllRan judges ran.room most fresh ran.versions.items ran.left.items }
     ensures start { K.start result.kernel ≡ K.start (origin ran.room) }
     ensures account { (judges : ℕ → Judge) (most : ℕ) (fresh : List (Running Proc)) → AllRan judges ran.room most fresh ran.versions.items ran.left.items
-        → IsAccount threads judges (K.start (origin ran.room)) most (hands_of ran.room) fresh result.versions.items (K.log result.kernel) }
+        → IsAccount threads judges (K.known result.kernel) most (hands_of ran.room) fresh result.versions.items (K.log result.kernel) }
 {
     let Ran {
         room,

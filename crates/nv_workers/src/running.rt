@@ -5,9 +5,9 @@ ghost use Rattle.nv_workers.specs.inner.Rounds.{CanAll, AllOn, AreGone, GoneIf, 
 
 use crate::terms::Terms;
 use crate::worker::{Turn, Worker};
-use nv_calls::SyscallKernel;
 use nv_outside::Gate;
 use nv_room::Room;
+use nv_served::SyscallKernel;
 use std::sync::Wait;
 use std::sync::atomic::{AtomicU64, Ordering};
 use std::thread::yield_now;

@@ -5,9 +5,9 @@ ghost use Rattle.nv_replay.specs.Account.{AreFresh};
 ghost use Rattle.nv_workers.specs.Staffing.{AreNewSeats, StaffsAnew};
 
 use crate::worker::Worker;
-use nv_calls::SyscallKernel;
 use nv_replay::Version;
 use nv_room::{Lead, Reader};
+use nv_served::SyscallKernel;
 use std::alloc::{AllocError, Global};
 
 /// A worker for each version, in order, with the seats of a room as it was made: the first version leads, the others read.

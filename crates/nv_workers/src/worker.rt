@@ -15,11 +15,11 @@ ghost use Rattle.nv_workers.specs.Staffing.{IsNewLead, IsNewReader, LeadsAnew, R
 use crate::follows::{Next, follow_turn};
 use crate::leads::lead_turn;
 use crate::terms::Terms;
-use nv_calls::SyscallKernel;
 use nv_outside::Gate;
 use nv_promotion::{close, hand, leave, retire, take};
 use nv_replay::Version;
 use nv_room::{Lead, Left, Reader, Room};
+use nv_served::SyscallKernel;
 use nv_words::EventBuf;
 use std::alloc::{AllocError, Global};
 use std::mem;

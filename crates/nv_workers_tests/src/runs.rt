@@ -5,12 +5,12 @@ ghost use Rattle.nv_replay.specs.Version.{IsFresh};
 ghost use Rattle.nv_replay.specs.Account.{AreFresh};
 
 use nv_bpf::Filter;
-use nv_calls::SyscallKernel;
 use nv_guest::Guest;
 use nv_kernel::ScriptKernel;
 use nv_outside::Gate;
 use nv_replay::{Account, Version};
 use nv_room::Room;
+use nv_served::SyscallKernel;
 use nv_threads::Process;
 use nv_workers::{Terms, end, run_all, staff};
 use std::alloc::{AllocError, Global};

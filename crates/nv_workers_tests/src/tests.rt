@@ -3,11 +3,11 @@ ghost use Rattle.nv_refusing.specs.Refusing.{inner_of};
 
 use crate::runs::{beside, kernel, one_by_one, program};
 use nv_bpf::Filter;
-use nv_calls::SyscallKernel;
 use nv_kernel::ScriptKernel;
 use nv_outside::{MemorySink, OpenGate, Put};
 use nv_refusing::RefusingKernel;
 use nv_replay::Account;
+use nv_served::SyscallKernel;
 use std::alloc::Global;
 use std::process::Abort;
 use std::sync::Wait;

@@ -1,10 +1,10 @@
 -- What a leader's turn comes to.
 use Rattle.std.specs.Prelude.{◌≡◌, ◌<◌, ℕ, Bool, true, false, length, Option, Some, None}
-use Rattle.nv_calls.specs.declared.kernel.SyscallKernel.{Ghosts}
+use Rattle.nv_served.specs.declared.kernel.SyscallKernel.{Ghosts}
 use Rattle.nv_room.specs.declared.view.View.{View}
 use Rattle.nv_room.specs.declared.room.Room.{Room}
 use Rattle.nv_room.specs.declared.room.Lead.{Lead}
-use Rattle.nv_room.specs.Seats.{IsLeadOf, lead_view, version_of_lead, due_of, origin, hands_of}
+use Rattle.nv_room.specs.Seats.{IsLeadOf, lead_view, version_of_lead, due_of, hands_of}
 use Rattle.nv_ring.specs.Places.{WaitsFor}
 use Rattle.nv_threads.specs.Threads.{Proc}
 use Rattle.nv_replay.specs.declared.fate.Fate.{Fate}
@@ -27,7 +27,7 @@ module _ (judges : ℕ → Judge) {K : Type 0} {G : Ghosts K} (room : Room K) (m
   AfterLead Waits = LeadsOn judges room most p v false l asked
   AfterLead Leads = ⊥
   AfterLead Hands = LeadsOn judges room most p v true l asked × (asked ≡ None)
-  AfterLead Leaves = IsLeadOf room l × (due_of l ≡ false) × HasEnded judges (G.start (origin room)) most (hands_of room) (version_of_lead l) p v (lead_view l)
+  AfterLead Leaves = IsLeadOf room l × (due_of l ≡ false) × HasEnded judges most (hands_of room) (version_of_lead l) p v (lead_view l)
   AfterLead Left = ⊥
 
 -- a turn after which the version leads on, or gives up the lead, has published an event

@@ -7,20 +7,20 @@ use Rattle.nv_cli.proofs.beside.run.Goals as goal
 
 pub returns-then-is_empty-clause-account : goal.returns-then-is_empty-clause-account
 returns-then-is_empty-clause-account g c =
-    no_versions threads (judge_of (option_map (λ f. f.now) c.args.rules)) (g.K.SyscallKernel.start c.args.kernel) c.args.limits.calls c.args.hands.now.items c.args.versions.items (g.K.SyscallKernel.log c.args.kernel)
+    no_versions threads (judge_of (option_map (λ f. f.now) c.args.rules)) (g.K.SyscallKernel.known c.args.kernel) c.args.limits.calls c.args.hands.now.items c.args.versions.items (g.K.SyscallKernel.log c.args.kernel)
     (search rules) c.requires.empty
 
 pub staff-requires-clause-seats : goal.staff-requires-clause-seats
 staff-requires-clause-seats g c κs within =
     let m = c.in_ok-room.ensures in
-    (c.in_ok-room.room, as_made c.in_ok-room.room c.in_ok-room.readers.items c.in_ok-room.lead _ m.origin m.readers.1 m.lead m.log m.start)
+    (c.in_ok-room.room, as_made c.in_ok-room.room c.in_ok-room.readers.items c.in_ok-room.lead m.readers.1 m.lead m.log)
 
 pub run_all-requires-clause-new : goal.run_all-requires-clause-new
 run_all-requires-clause-new g c κs within =
     let m = c.in_ok-room.ensures in (
       c.args.versions.items,
       c.in_ok-workers.ensures.new c.in_ok-room.room
-          (as_made c.in_ok-room.room c.in_ok-room.readers.items c.in_ok-room.lead _ m.origin m.readers.1 m.lead m.log m.start),
+          (as_made c.in_ok-room.room c.in_ok-room.readers.items c.in_ok-room.lead m.readers.1 m.lead m.log),
     )
 
 pub run_all-requires-clause-terms : goal.run_all-requires-clause-terms
@@ -33,5 +33,5 @@ end-requires-after_bounds g c κs within =
       c.args.limits.calls,
       c.args.versions.items,
       c.in_ok-ran.ensures.ran c.args.versions.items (c.in_ok-workers.ensures.new c.in_ok-room.room
-          (as_made c.in_ok-room.room c.in_ok-room.readers.items c.in_ok-room.lead _ m.origin m.readers.1 m.lead m.log m.start)),
+          (as_made c.in_ok-room.room c.in_ok-room.readers.items c.in_ok-room.lead m.readers.1 m.lead m.log)),
     )

@@ -1,9 +1,12 @@
-use Rattle.std.proofs.Common.{◌≡◌, ◌∙◌, ap, sym, inl, inr, List, map, option_map, false}
+use Rattle.std.proofs.Common.{◌≡◌, ◌∙◌, ap, sym, subst, inl, inr, List, map, option_map, false}
 use Rattle.std.specs.List.{list_any}
+use Rattle.nv_calls.specs.Logs.{Start}
 use Rattle.nv_command.specs.Seen.{limits_view}
+use Rattle.nv_replay.specs.Follow.{judge_of}
 use Rattle.nv_replay.specs.Lead.{is_memory}
 use Rattle.nv_replay.specs.Version.{Running, standing_of}
-use Rattle.nv_threads.specs.Threads.{Proc}
+use Rattle.nv_threads.specs.Threads.{Proc, threads}
+use Rattle.nv_workers.specs.Ends.{IsAccount}
 use Rattle.nv_cli.proofs.Running.{run_of}
 use Rattle.nv_cli.proofs.recording.record_versions.Goals as goal
 
@@ -19,11 +22,12 @@ returns g c = λ machines are.
     let lines = map standing_of c.in-Ok.account.versions.items in
     let limits = limits_view c.args.limits in
     let rules = option_map (λ f. f.now) c.args.rules in
+    let told = subst (λ (start : Start). IsAccount threads (judge_of rules) start limits.calls c.args.hands.now.items c.args.versions.items c.in-Ok.account.versions.items log) c.in-Ok.ensures.start c.in-Ok.ensures.account in
     let never : list_any (λ line. is_memory line.fate) lines ≡ false =
     ap (λ (versions : List (Running Proc)). list_any (λ line. is_memory line.fate) (map standing_of versions)) (sym c.deref.ensures.value) ∙ sym c.starved.ensures ∙ c.if-starved.false in
     inl (record {
       account = record { log = log; lines = lines };
-      is_run = run_of limits c.args.kernel.setup rules machines c.args.hands.now.items c.args.versions.items c.in-Ok.account.versions.items log c.requires.planned c.in-Ok.ensures.account are;
+      is_run = run_of limits c.args.kernel.setup rules machines c.args.hands.now.items c.args.versions.items c.in-Ok.account.versions.items log c.requires.planned told are;
       never_starved = never;
       says = c.put_trace.ensures;
     })

@@ -8,7 +8,8 @@ use Rattle.nv_replay.specs.Follow.{judge_of}
 use Rattle.nv_replay.specs.Lead.{is_memory}
 use Rattle.nv_replay.specs.Sequence.{Account, cuts_of}
 use Rattle.nv_replay.specs.Version.{Running, process_of, standing_of}
-use Rattle.nv_threads.specs.Threads.{Proc}
+use Rattle.nv_threads.specs.Threads.{Proc, threads}
+use Rattle.nv_workers.specs.Ends.{IsAccount}
 use Rattle.nv_command.specs.Seen.{limits_view}
 use Rattle.nv_command.specs.Words.{Limits}
 use Rattle.nv_jobs.specs.Account.{process_begun}
@@ -27,7 +28,7 @@ returns-then-starved g c = record { outcome = NoMemory; owed = inr refl; says = 
 
 pub totals-requires-after_bounds : goal.totals-requires-after_bounds
 totals-requires-after_bounds g c κs =
-    few_lines (judge_of (option_map (λ f. f.now) c.as_ref.result)) (start_of_script c.args.made.kernel.setup) c.usual-limits.result.calls
+    few_lines (judge_of (option_map (λ f. f.now) c.as_ref.result)) (start_of_script c.in-Ok.account.kernel.setup) c.usual-limits.result.calls
     (cuts_of (map standing_of c.in-Ok.account.versions.items)) c.args.made.hands.items c.args.made.versions.items c.in-Ok.account.versions.items c.in-Ok.account.kernel.log
     c.in-Ok.ensures.account.account c.requires.made.few
 
@@ -43,7 +44,8 @@ returns-in-Ok-summary g c =
     let rules = option_map (λ f. f.now) c.as_ref.result in
     let begin : map process_of c.args.made.versions.items ≡ map (process_begun limits) made.machines =
     made.processes ∙ ap (λ (x : Limits). map (process_begun x) made.machines) (sym c.usual-limits.ensures) in
-    let run = run_of limits setup rules made.machines c.args.made.hands.items c.args.made.versions.items c.in-Ok.account.versions.items log c.requires.planned c.in-Ok.ensures.account begin in
+    let told = subst (λ (start : Start). IsAccount threads (judge_of rules) start limits.calls c.args.made.hands.items c.args.made.versions.items c.in-Ok.account.versions.items log) c.in-Ok.ensures.start c.in-Ok.ensures.account in
+    let run = run_of limits setup rules made.machines c.args.made.hands.items c.args.made.versions.items c.in-Ok.account.versions.items log c.requires.planned told begin in
     let never : list_any (λ line. is_memory line.fate) lines ≡ false =
     ap (λ (versions : List (Running Proc)). list_any (λ line. is_memory line.fate) (map standing_of versions)) (sym c.deref.ensures.value) ∙ sym c.starved.ensures ∙ c.if-starved.false in
     let text : c.deref-in-Ok-summary.result.now ≡ summary n (totals_of (output_of (start_of_script setup) log) account) =

@@ -11,7 +11,7 @@ use Rattle.nv_progress_tests.proofs.runs.scheduled.Goals as goal
 pub staff-requires-clause-seats : goal.staff-requires-clause-seats
 staff-requires-clause-seats c κs =
     let m = c.in_ok-room.ensures in
-    (c.in_ok-room.room, as_made c.in_ok-room.room c.in_ok-room.readers.items c.in_ok-room.lead _ m.origin m.readers.1 m.lead m.log m.start)
+    (c.in_ok-room.room, as_made c.in_ok-room.room c.in_ok-room.readers.items c.in_ok-room.lead m.readers.1 m.lead m.log)
 
 pub schedule-requires-clause-can : goal.schedule-requires-clause-can
 schedule-requires-clause-can c =
@@ -20,7 +20,7 @@ schedule-requires-clause-can c =
     subst (λ ws. CanAll judges c.in_ok-room.room 1000 ws) (sym c.deref_mut.ensures.value)
     (can_new judges c.in_ok-room.room 1000 0 c.in-Some-versions.versions.items c.in_ok-workers.workers.items
     (c.in_ok-workers.ensures.new c.in_ok-room.room
-    (as_made c.in_ok-room.room c.in_ok-room.readers.items c.in_ok-room.lead _ m.origin m.readers.1 m.lead m.log m.start)))
+    (as_made c.in_ok-room.room c.in_ok-room.readers.items c.in_ok-room.lead m.readers.1 m.lead m.log)))
 
 pub schedule-requires-clause-terms : goal.schedule-requires-clause-terms
 schedule-requires-clause-terms c = record { most = omega arith; hands = search rules }
@@ -42,7 +42,7 @@ end-requires-after_bounds c κs =
     let judges = judge_of (option_copied c.as_ref.result) in
     let ran = c.in_ok-ran-in-AllLeft.ran in
     let new = c.in_ok-workers.ensures.new c.in_ok-room.room
-    (as_made c.in_ok-room.room c.in_ok-room.readers.items c.in_ok-room.lead _ m.origin m.readers.1 m.lead m.log m.start) in
+    (as_made c.in_ok-room.room c.in_ok-room.readers.items c.in_ok-room.lead m.readers.1 m.lead m.log) in
     let on = subst (λ ws. AllOn judges c.in_ok-room.room 1000 ws c.schedule.new.workers) c.deref_mut.ensures.value c.in-AllLeft.ensures.on in
     let apart = subst (λ ws. AreApart ws ran.versions.items ran.left.items)
     (take_at c.schedule.new.workers _ c.in_ok-workers.workers.len (omega (arith, same, len))) c.in_ok-ran-in-AllLeft.ensures.apart in (

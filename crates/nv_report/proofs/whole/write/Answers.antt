@@ -14,7 +14,7 @@ use Rattle.nv_report.proofs.whole.write.Goals as goal
 pub returns-in-Failed : goal.returns-in-Failed
 returns-in-Failed g c =
     let log = g.K.SyscallKernel.log c.args.account.now.kernel in
-    let output = output_of (g.K.SyscallKernel.start c.args.account.now.kernel) log in
+    let output = output_of (g.K.SyscallKernel.known c.args.account.now.kernel) log in
     let n = sym (length-map c.history-events.result.now entry) ∙ ap length c.history-events.ensures.log in
     let head = puts-is (ap (λ text. head_text text (length c.history-events.result.now)) c.output.ensures ∙ ap (head_text output) n)
     c.in-Failed.ensures in
@@ -23,7 +23,7 @@ returns-in-Failed g c =
 pub returns-in-Whole-put_events : goal.returns-in-Whole-put_events
 returns-in-Whole-put_events g c =
     let log = g.K.SyscallKernel.log c.args.account.now.kernel in
-    let output = output_of (g.K.SyscallKernel.start c.args.account.now.kernel) log in
+    let output = output_of (g.K.SyscallKernel.known c.args.account.now.kernel) log in
     let n = sym (length-map c.history-events.result.now entry) ∙ ap length c.history-events.ensures.log in
     let head = puts-is (ap (λ text. head_text text (length c.history-events.result.now)) c.output.ensures ∙ ap (head_text output) n)
     c.in-Whole.ensures in
@@ -35,7 +35,7 @@ returns-in-Whole-put_events g c =
 pub returns-in-Failed-put_events : goal.returns-in-Failed-put_events
 returns-in-Failed-put_events g c =
     let log = g.K.SyscallKernel.log c.args.account.now.kernel in
-    let output = output_of (g.K.SyscallKernel.start c.args.account.now.kernel) log in
+    let output = output_of (g.K.SyscallKernel.known c.args.account.now.kernel) log in
     let n = sym (length-map c.history-events.result.now entry) ∙ ap length c.history-events.ensures.log in
     let head = puts-is (ap (λ text. head_text text (length c.history-events.result.now)) c.output.ensures ∙ ap (head_text output) n)
     c.in-Whole.ensures in

@@ -11,6 +11,6 @@ loop-event-preserved g c =
     let i = c.loop-event.invariant in
     let p = c.publish_one.ensures in
     let log : List Entry = g.K.SyscallKernel.log (kernel_of c.loop-event.lead) in
-    let e : Entry = served (g.K.SyscallKernel.start (kernel_of c.loop-event.lead)) log (request c.args.call.now) in
+    let e : Entry = served (g.K.SyscallKernel.known (kernel_of c.publish_one.new.lead)) log (request c.args.call.now) in
     let more : g.K.SyscallKernel.log (kernel_of c.publish_one.new.lead) ≡ log ++ e ∷ [] = c.if-not-publish_one.ensures.log in
     record { of = p.of; due = p.due; version = p.version ∙ i.version; lives = subst (λ (z : List Entry). Contains (live_after z) 100) (sym more) (lives_on log e 100 c.requires.goes_on i.lives) }

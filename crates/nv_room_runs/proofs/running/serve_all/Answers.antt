@@ -13,7 +13,7 @@ loop-event-preserved g c =
     let i = c.loop-event.invariant in
     let log : List Entry = g.K.SyscallKernel.log c.reserve.new.self in
     let same : log ≡ g.K.SyscallKernel.log c.loop-event.kernel = c.reserve.ensures.log in
-    let e : Entry = served (g.K.SyscallKernel.start c.reserve.new.self) log (request c.args.script.now.first) in
+    let e : Entry = served (g.K.SyscallKernel.known c.reserve.new.self) log (request c.args.script.now.first) in
     let more : g.K.SyscallKernel.log c.serve.new.self ≡ log ++ e ∷ [] = c.serve.ensures.log in
     let before : Contains (live_after log) 100 = subst (λ (z : List Entry). Contains (live_after z) 100) (sym same) i.lives in
     record {

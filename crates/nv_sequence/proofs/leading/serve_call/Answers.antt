@@ -47,7 +47,7 @@ answered-requires-clause-new g c =
     let log : List Entry = g.K.SyscallKernel.log c.args.kernel.now in
     let e = event_is c.history.result.now _ _ _ c.index-history-at.result (c.history.ensures.log ∙ c.serve.ensures.log)
     ((ap (λ (x : Standing). x.seen) c.standing.ensures) ∙ c.requires.seen) c.index-history-at.is in
-    let last : Entry = served (g.K.SyscallKernel.start c.args.kernel.now) log (request c.pending.result.now) in
+    let last : Entry = served (g.K.SyscallKernel.known c.args.kernel.now) log (request c.pending.result.now) in
     let may = subst IsLawful c.serve.ensures.log c.history.ensures.lawful (length log) last (get_last log last) in
     let new : IsNew (live_after log) (child_of last) = subst (λ (x : List Entry). IsNew (live_after x) (child_of last)) (take_whole log (last ∷ [])) may.new in
     subst (λ (x : Entry). IsNew (threads.live c.args.version.now.at.process) (child_of x)) (sym e) (subst (λ (x : List ℕ). IsNew x (child_of last)) (sym c.requires.live) new)

@@ -8,42 +8,48 @@ use Rattle.nv_workers.specs.Working.{FollowsOn}
 use Rattle.nv_replay.specs.declared.standing.Standing.{Standing}
 use Rattle.nv_replay.proofs.Wholes.{none_from}
 use Rattle.nv_replay.specs.Sequence.{is_going}
-use Rattle.nv_workers.proofs.Reading.{longer, seen_by, off_from, after_rewrote, after_drop, after_exit, after_consumed, held_of, whole_buf, whole_read, event_is, stamp_is, is_below, is_live, is_new}
+use Rattle.nv_workers.proofs.Reading.{longer, seen_by, off_from, after_rewrote, after_drop, after_exit, after_consumed, held_of, whole_buf, whole_read, event_is, stamp_is, is_below, is_live, is_new, held_reading}
 use Rattle.nv_workers.proofs.Growing.{one_more}
 use Rattle.nv_workers.proofs.follows.decide.Goals as goal
 
 pub event-event-requires : goal.event-event-requires
 event-event-requires g c =
     let h = held_of (judges_of c.args.terms.now) c.requires.follows.0 c.args.room.now c.requires.follows.1 c.args.version.now c.args.reader.now c.args.buf.now c.requires.follows.2 in
-    whole_buf (judges_of c.args.terms.now) _ _ _ _ _ _ _ _ h
+    whole_buf (judges_of c.args.terms.now) _ _ _ _ _ _ _ h
+
+pub follow-requires-clause-following : goal.follow-requires-clause-following
+follow-requires-clause-following g c =
+    let h = held_of (judges_of c.args.terms.now) c.requires.follows.0 c.args.room.now c.requires.follows.1 c.args.version.now c.args.reader.now c.args.buf.now c.requires.follows.2 in
+    let r = held_reading (judges_of c.args.terms.now) _ _ _ _ _ _ _ h in
+    record { on = r.on; idle = r.idle }
 
 pub follow-requires-clause-stamp : goal.follow-requires-clause-stamp
 follow-requires-clause-stamp g c =
     let h = held_of (judges_of c.args.terms.now) c.requires.follows.0 c.args.room.now c.requires.follows.1 c.args.version.now c.args.reader.now c.args.buf.now c.requires.follows.2 in
-    let e = event_is (judges_of c.args.terms.now) _ _ _ _ _ _ _ _ h (entry c.event-event.result.now) c.event-event.ensures.spelt c.event-event.ensures.range in
-    ap (λ (x : Entry). x.stamp) e ∙ stamp_is (judges_of c.args.terms.now) _ _ _ _ _ _ _ _ h
+    let e = event_is (judges_of c.args.terms.now) _ _ _ _ _ _ _ h (entry c.event-event.result.now) c.event-event.ensures.spelt c.event-event.ensures.range in
+    ap (λ (x : Entry). x.stamp) e ∙ stamp_is (judges_of c.args.terms.now) _ _ _ _ _ _ _ h
 
 pub follow-requires-clause-below : goal.follow-requires-clause-below
 follow-requires-clause-below g c =
     let h = held_of (judges_of c.args.terms.now) c.requires.follows.0 c.args.room.now c.requires.follows.1 c.args.version.now c.args.reader.now c.args.buf.now c.requires.follows.2 in
-    is_below (judges_of c.args.terms.now) _ _ _ _ _ _ _ _ h
+    is_below (judges_of c.args.terms.now) _ _ _ _ _ _ _ h
 
 pub follow-requires-clause-lives : goal.follow-requires-clause-lives
 follow-requires-clause-lives g c =
     let h = held_of (judges_of c.args.terms.now) c.requires.follows.0 c.args.room.now c.requires.follows.1 c.args.version.now c.args.reader.now c.args.buf.now c.requires.follows.2 in
-    let e = event_is (judges_of c.args.terms.now) _ _ _ _ _ _ _ _ h (entry c.event-event.result.now) c.event-event.ensures.spelt c.event-event.ensures.range in
-    subst (λ (x : Entry). Contains (threads.live c.args.version.now.at.process) x.call.tid) (sym e) (is_live (judges_of c.args.terms.now) _ _ _ _ _ _ _ _ h)
+    let e = event_is (judges_of c.args.terms.now) _ _ _ _ _ _ _ h (entry c.event-event.result.now) c.event-event.ensures.spelt c.event-event.ensures.range in
+    subst (λ (x : Entry). Contains (threads.live c.args.version.now.at.process) x.call.tid) (sym e) (is_live (judges_of c.args.terms.now) _ _ _ _ _ _ _ h)
 
 pub follow-requires-clause-new : goal.follow-requires-clause-new
 follow-requires-clause-new g c =
     let h = held_of (judges_of c.args.terms.now) c.requires.follows.0 c.args.room.now c.requires.follows.1 c.args.version.now c.args.reader.now c.args.buf.now c.requires.follows.2 in
-    let e = event_is (judges_of c.args.terms.now) _ _ _ _ _ _ _ _ h (entry c.event-event.result.now) c.event-event.ensures.spelt c.event-event.ensures.range in
-    subst (λ (x : Entry). IsNew (threads.live c.args.version.now.at.process) (child_of x)) (sym e) (is_new (judges_of c.args.terms.now) _ _ _ _ _ _ _ _ h)
+    let e = event_is (judges_of c.args.terms.now) _ _ _ _ _ _ _ h (entry c.event-event.result.now) c.event-event.ensures.spelt c.event-event.ensures.range in
+    subst (λ (x : Entry). IsNew (threads.live c.args.version.now.at.process) (child_of x)) (sym e) (is_new (judges_of c.args.terms.now) _ _ _ _ _ _ _ h)
 
 pub advance-requires-clause-polled : goal.advance-requires-clause-polled
 advance-requires-clause-polled g c κs within =
     let h = held_of (judges_of c.args.terms.now) c.requires.follows.0 c.args.room.now c.requires.follows.1 c.args.version.now c.args.reader.now c.args.buf.now c.requires.follows.2 in
-    whole_read (judges_of c.args.terms.now) _ _ _ _ _ _ _ _ h
+    whole_read (judges_of c.args.terms.now) _ _ _ _ _ _ _ h
 
 pub returns-in-Rewrote-clause-after : goal.returns-in-Rewrote-clause-after
 returns-in-Rewrote-clause-after g c = λ most p f.

@@ -4,7 +4,7 @@ use Rattle.nv_replay.specs.Version.{Running}
 use Rattle.nv_threads.specs.Threads.{Proc}
 use Rattle.nv_workers.specs.Working.{FollowsOn}
 use Rattle.nv_workers.specs.Follows.{AfterTurn}
-use Rattle.nv_workers.proofs.Reading.{lives_on, found_event, found_waiting}
+use Rattle.nv_workers.proofs.Reading.{lives_on, found_none, found_event, found_waiting}
 use Rattle.nv_workers.proofs.Growing.{none_more, one_after}
 use Rattle.nv_workers.proofs.follows.follow_turn.Goals as goal
 
@@ -44,6 +44,16 @@ returns-in-Held-clause-after g c = λ most p f.
     (found_waiting judges most c.args.room.now p c.args.version.now c.args.reader.now c.args.buf.now
     (subst (λ (b : Bool). FollowsOn judges c.args.room.now most p c.args.version.now c.args.reader.now b c.args.buf.now) c.if-held.false f)
     c.find_event.new.reader c.find_event.new.buf c.go_ahead.result c.go_ahead.ensures.waits e.of e.same e.found.0 e.found.1 e.found.2))
+
+pub returns-in-Free-clause-after : goal.returns-in-Free-clause-after
+returns-in-Free-clause-after g c = λ most p f.
+    let judges = judges_of c.args.terms.now in
+    let e = c.in-Free.ensures in (
+      found_none judges most c.args.room.now p c.args.version.now c.args.reader.now c.args.buf.now
+          (subst (λ (b : Bool). FollowsOn judges c.args.room.now most p c.args.version.now c.args.reader.now b c.args.buf.now) c.if-held.false f)
+          c.find_event.new.reader c.find_event.new.buf e.of e.same e.found.0 e.found.1 e.found.2,
+      e.found.3,
+    )
 
 pub returns-in-Event-clause-one : goal.returns-in-Event-clause-one
 returns-in-Event-clause-one g c = one_after _ _ _ c.in-Event.ensures.found.0 c.decide-in-Event.ensures.one

@@ -51,7 +51,7 @@ answered-requires-clause-new g c =
     let grows = ap g.K.SyscallKernel.log c.kernel.ensures ∙ c.publish.ensures.log in
     let e = event_is c.history.result.now _ _ _ c.index-history-at.result (c.history.ensures.log ∙ grows)
     ((ap (λ (x : Standing). x.seen) c.standing.ensures) ∙ c.requires.seen) c.index-history-at.is in
-    let last : Entry = served (g.K.SyscallKernel.start (kernel_of c.args.lead.now)) log (request c.pending.result.now) in
+    let last : Entry = served (g.K.SyscallKernel.known (kernel_of c.args.lead.now)) log (request c.pending.result.now) in
     let may = subst IsLawful grows c.history.ensures.lawful (length log) last (get_last log last) in
     let new : IsNew (live_after log) (child_of last) = subst (λ (x : List Entry). IsNew (live_after x) (child_of last)) (take_whole log (last ∷ [])) may.new in
     subst (λ (x : Entry). IsNew (threads.live c.args.version.now.at.process) (child_of x)) (sym e) (subst (λ (x : List ℕ). IsNew x (child_of last)) (sym c.requires.live) new)
@@ -81,7 +81,7 @@ pending-requires g c = c.requires.pending
 pub returns : goal.returns
 returns g c =
     let p = c.publish.ensures in
-    let start = g.K.SyscallKernel.start (kernel_of c.args.lead.now) in
+    let known = g.K.SyscallKernel.known (kernel_of c.args.lead.now) in
     let log = g.K.SyscallKernel.log (kernel_of c.args.lead.now) in
     let call = c.pending.ensures.call in
     let e = event_is c.history.result.now _ _ _ c.index-history-at.result (c.history.ensures.log ∙ (ap g.K.SyscallKernel.log c.kernel.ensures ∙ p.log))
@@ -90,10 +90,9 @@ returns g c =
       same = p.same;
       due = p.due;
       wrote = p.wrote;
-      start = p.start;
-      log = p.log ∙ ap (λ (a : Request). log ++ served start log a ∷ []) call;
+      log = p.log ∙ ap (λ (a : Request). log ++ served known log a ∷ []) call;
       lawful = subst IsLawful (ap g.K.SyscallKernel.log c.kernel.ensures) c.history.ensures.lawful;
-      seen = p.seen ∙ ap (λ (a : Request). (lead_view c.args.lead.now).seen ++ spell (served start log a) ∷ []) call;
+      seen = p.seen ∙ ap (λ (a : Request). (lead_view c.args.lead.now).seen ++ spell (served known log a) ∷ []) call;
       spans = p.spans;
-      version = c.answered.ensures ∙ ap (λ (x : Entry). became_event threads x c.args.version.now) (e ∙ ap (served start log) call);
+      version = c.answered.ensures ∙ ap (λ (x : Entry). became_event threads x c.args.version.now) (e ∙ ap (served known log) call);
     }

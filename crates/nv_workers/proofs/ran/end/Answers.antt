@@ -9,4 +9,4 @@ finish-kernel-requires-after_bounds g c κs within =
 pub returns-clause-account : goal.returns-clause-account
 returns-clause-account g c = λ judges most fresh ran.
     let f = c.finish-kernel.ensures in
-    accounted judges c.args.ran.room most (g.K.SyscallKernel.log c.finish-kernel.result.kernel) c.finish-kernel.result.seen.items fresh c.args.ran.versions.items c.args.ran.left.items ran f.lawful f.legal f.left f.wide
+    accounted judges c.args.ran.room most (g.K.SyscallKernel.known c.finish-kernel.result.kernel) (g.K.SyscallKernel.log c.finish-kernel.result.kernel) c.finish-kernel.result.seen.items fresh c.args.ran.versions.items c.args.ran.left.items ran f.lawful f.legal f.left f.wide

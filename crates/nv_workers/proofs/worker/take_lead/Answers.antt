@@ -6,7 +6,7 @@ use Rattle.nv_workers.proofs.worker.take_lead.Goals as goal
 pub returns-clause-leads : goal.returns-clause-leads
 returns-clause-leads g c = λ j most p buf f.
     let t = c.take-lead.ensures in
-    takes_lead j c.args.room.now most p c.args.version.now c.args.reader buf f c.take-lead.result c.begin_lead.new.self t.of t.station.1 t.view t.due t.log t.start
+    takes_lead j c.args.room.now most p c.args.version.now c.args.reader buf f c.take-lead.result c.begin_lead.new.self t.of t.station.1 t.view t.due t.log
     (subst IsLawful (ap g.K.SyscallKernel.log c.kernel.ensures) c.history-log.ensures.lawful) c.begin_lead.ensures
 
 pub begin_lead-requires-clause-following : goal.begin_lead-requires-clause-following

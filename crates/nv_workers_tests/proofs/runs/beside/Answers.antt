@@ -7,14 +7,14 @@ use Rattle.nv_workers_tests.proofs.runs.beside.Goals as goal
 pub staff-requires-clause-seats : goal.staff-requires-clause-seats
 staff-requires-clause-seats g c κs within =
     let m = c.in_ok-room.ensures in
-    (c.in_ok-room.room, as_made c.in_ok-room.room c.in_ok-room.readers.items c.in_ok-room.lead _ m.origin m.readers.1 m.lead m.log m.start)
+    (c.in_ok-room.room, as_made c.in_ok-room.room c.in_ok-room.readers.items c.in_ok-room.lead m.readers.1 m.lead m.log)
 
 pub run_all-requires-clause-new : goal.run_all-requires-clause-new
 run_all-requires-clause-new g c κs within =
     let m = c.in_ok-room.ensures in (
       c.in-Some.versions.items,
       c.in_ok-workers.ensures.new c.in_ok-room.room
-          (as_made c.in_ok-room.room c.in_ok-room.readers.items c.in_ok-room.lead _ m.origin m.readers.1 m.lead m.log m.start),
+          (as_made c.in_ok-room.room c.in_ok-room.readers.items c.in_ok-room.lead m.readers.1 m.lead m.log),
     )
 
 pub run_all-requires-clause-terms : goal.run_all-requires-clause-terms
@@ -27,5 +27,5 @@ end-requires-after_bounds g c κs within =
       1000,
       c.in-Some.versions.items,
       c.in_ok-ran.ensures.ran c.in-Some.versions.items (c.in_ok-workers.ensures.new c.in_ok-room.room
-          (as_made c.in_ok-room.room c.in_ok-room.readers.items c.in_ok-room.lead _ m.origin m.readers.1 m.lead m.log m.start)),
+          (as_made c.in_ok-room.room c.in_ok-room.readers.items c.in_ok-room.lead m.readers.1 m.lead m.log)),
     )

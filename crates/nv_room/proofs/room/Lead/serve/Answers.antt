@@ -16,7 +16,7 @@ pub invariant_of-self-clause-next_words : goal.invariant_of-self-clause-next_wor
 invariant_of-self-clause-next_words g c = due_words_are _ c.args.self.now.seen c.history-log.ensures.lawful
 
 pub invariant_of-self-clause-history : goal.invariant_of-self-clause-history
-invariant_of-self-clause-history g c = let l = c.args.self.now in let h : List Entry = g.K.SyscallKernel.log l.kernel in let x : Entry = served (g.K.SyscallKernel.start l.kernel) h (request c.args.call.now) in
+invariant_of-self-clause-history g c = let l = c.args.self.now in let h : List Entry = g.K.SyscallKernel.log l.kernel in let x : Entry = served (g.K.SyscallKernel.known l.kernel) h (request c.args.call.now) in
     let long : length h ≡ l.seen + 0 = l.longer ∙ ap (λ b. l.seen + flag_bit b) c.requires.none_due in
     let near : l.seen ≤ length (map spell h) = omega (arith, length-map h spell) in
     ap (λ (z : List Entry). take l.seen (map spell z)) c.serve.ensures.log ∙ ap (take l.seen) (map-append spell h (x ∷ [])) ∙ take-append-le l.seen (map spell h) (spell x ∷ []) near ∙ l.history

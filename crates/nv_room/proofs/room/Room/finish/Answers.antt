@@ -1,7 +1,6 @@
 use Rattle.std.proofs.Common.{arith, refl, sym, ap, ◌≡◌, ◌∙◌, ◌<◌, subst, ℕ, length, map, set}
 use Rattle.std.specs.Prelude.{Some, None}
 use mathlib.Core.Option.{some-injective}
-use Rattle.nv_calls.specs.Logs.{IsLegal}
 use Rattle.nv_words.specs.Spelling.{spell}
 use Rattle.nv_room.specs.Lefts.{LeftsOf, AllTell}
 use Rattle.nv_room.proofs.Back.{last_left, fewer}
@@ -43,6 +42,3 @@ returns-clause-left g c = let room = c.args.self in let all = c.args.left.items 
     let a = at_last_state g.K.SyscallKernel.log g.K.SyscallKernel.start room.table.shared.key _ c.join_all.new.seat.me.0 _ _ c.close_with-closed.ensures.values.2 (ap (λ v. v.role) same ∙ base.role) each in
     let q : Some a.kernel ≡ Some c.in-Some-take.kernel = some-injective (Some a.kernel) (Some c.in-Some-take.kernel) (sym a.out ∙ c.in-Some-take.ensures.value) in let e : a.kernel ≡ c.in-Some-take.kernel = cc in
     subst (λ k. AllTell (map spell (g.K.SyscallKernel.log k)) (set c.join_all.new.counts.items base.version base.seen) all) e (all_tell room.versions room.table.shared.table_id all rest base _ _ _ _ is seats counted (sym room.memory) refl room.table.shared.key.versions room.table.shared.key.start.value c.join_all.new.seat.me.0 _ room.sizes.4 same a)
-
-pub returns-clause-legal : goal.returns-clause-legal
-returns-clause-legal g c = subst (λ z. IsLegal z (g.K.SyscallKernel.log c.in-Some-take.kernel)) (returns-clause-start g c) c.history-log.ensures.legal

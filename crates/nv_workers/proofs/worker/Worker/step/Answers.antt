@@ -1,9 +1,9 @@
 use Rattle.std.proofs.Common.{sym, subst}
 use Rattle.nv_workers.specs.Terms.{judges_of}
 use Rattle.nv_workers.specs.declared.worker.Seat.TheVariants.{Reading, Leading}
-use Rattle.nv_workers.specs.Worker.{WorksAt, seen_by}
+use Rattle.nv_workers.specs.Worker.{WorksAt, IsGone, seen_by}
 use Rattle.nv_workers.specs.inner.Stepping.{StepTells}
-use Rattle.nv_workers.proofs.Stepping.{after_read, tells_read, tells_lead}
+use Rattle.nv_workers.proofs.Stepping.{after_read, tells_read, tells_lead, gone_ended}
 use Rattle.nv_workers.specs.Growing.{OneMoreAtMost}
 use Rattle.nv_workers.proofs.worker.Worker.step.Goals as goal
 
@@ -20,6 +20,12 @@ returns-in-Reading-clause-tells g c =
     subst (λ s. StepTells c.args.room.now c.follow_turn.result c.args.self.now.version c.follow_turn.new.version s (Reading c.follow_turn.new.reader c.follow_turn.new.held)) (sym c.in-Reading.is)
     (tells_read (judges_of c.args.terms.now) c.args.room.now c.args.terms.now.most p c.follow_turn.new.version c.args.self.now.version c.in-Reading.reader c.follow_turn.new.reader c.in-Reading.held
     c.follow_turn.new.held c.follow_turn.new.buf c.follow_turn.result (c.follow_turn.ensures.after c.args.terms.now.most p w) c.follow_turn.ensures.grown c.follow_turn.ensures.idle)
+
+pub returns-in-Gone-clause-tells : goal.returns-in-Gone-clause-tells
+returns-in-Gone-clause-tells g c =
+    let p = c.requires.works.0 in
+    gone_ended (judges_of c.args.terms.now) c.args.room.now c.args.terms.now.most p c.args.self.now.version c.args.self.now.buf c.args.self.now.seat c.requires.works.1
+    (subst (λ s. IsGone s) (sym c.in-Gone.is) tt)
 
 pub returns-in-Leading-clause-tells : goal.returns-in-Leading-clause-tells
 returns-in-Leading-clause-tells g c =

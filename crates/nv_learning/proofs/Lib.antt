@@ -1,0 +1,2 @@
+mod Learned
+mod Sounds

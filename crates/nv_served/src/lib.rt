@@ -1,0 +1,10 @@
+//! The trait of a kernel that answers system calls.
+//! Types: `SyscallKernel`, `Scripted`.
+//! A kernel's laws are clauses of the trait: the log grows by just the call served, with the reply that what the kernel knows
+//! gives, and what it learns from outside changes nothing that was served.
+//! Above: kernels, the room, runs and what tells of them.
+#![tactic(auto)]
+
+mod kernel;
+
+pub use kernel::{Scripted, SyscallKernel};
