@@ -1,5 +1,5 @@
 -- Instructions one after another.
-use Rattle.std.proofs.Common.{◌≡◌, ◌∙◌, ap, refl, ℕ, suc, ◌+◌, ◌-◌, ◌<◌, arith}
+use Rattle.std.proofs.Common.{◌≡◌, ◌≢◌, ◌∙◌, ap, refl, ℕ, suc, ◌+◌, ◌-◌, ◌<◌, arith}
 use Rattle.nv_machine.specs.declared.outcome.FaultKind.{FaultKind}
 use Rattle.nv_machine.specs.declared.outcome.Stepped.TheVariants.{On, Call, Fault}
 use Rattle.nv_machine.specs.declared.outcome.Stepped.{Stepped}
@@ -25,6 +25,11 @@ run_calls most count m after h e = ap (more count) (run_here most count m h ∙ 
 pub run_faults : (most count : ℕ) (m after : Machine) (kind : FaultKind) → count < most → guest_step m ≡ (Fault kind, after)
     → more count (run (most - count) m) ≡ (count + 1, Fault kind, after)
 run_faults most count m after kind h e = ap (more count) (run_here most count m h ∙ ap (unless_stopped (run (most - (count + 1)))) e)
+
+pub run_stops : (most count : ℕ) (m after : Machine) (s : Stepped) → count < most → s ≢ On → guest_step m ≡ (s, after) → more count (run (most - count) m) ≡ (count + 1, s, after)
+run_stops most count m after On h n e = absurd (n refl)
+run_stops most count m after Call h n e = run_calls most count m after h e
+run_stops most count m after (Fault kind) h n e = run_faults most count m after kind h e
 
 pub run_ends : (most count n : ℕ) (m : Machine) → most - count ≡ 0 → count + 0 ≡ n → more count (run (most - count) m) ≡ (n, On, m)
 unfolding run

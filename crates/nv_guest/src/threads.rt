@@ -1,9 +1,9 @@
 // One thread among the others.
-ghost use Rattle.std.specs.Prelude.{◌≡◌, ◌<◌, ◌≤◌, length, Contains};
-ghost use Rattle.nv_machine.specs.Guest.{register};
+ghost use Rattle.std.specs.Prelude.{◌≡◌, ◌≢◌, ◌-◌, ◌<◌, ◌≤◌, length, Contains};
+ghost use Rattle.nv_machine.specs.Guest.{register, guest_step};
 ghost use Rattle.nv_guest.specs.Guest.{machine_with};
 ghost use Rattle.nv_guest.specs.Calls.{with_answer, past_call};
-ghost use Rattle.nv_guest.specs.Threads.{tids, thread_place, run, child_regs, with_stack, with_pointer, unreserved_each};
+ghost use Rattle.nv_guest.specs.Threads.{tids, thread_place, run, more, child_regs, with_stack, with_pointer, unreserved_each};
 
 use crate::calls::{NUMBER, copy_out};
 use crate::guest::Thread;
@@ -35,20 +35,33 @@ pub(crate) fn place(threads: &[Thread], tid: u32) -> usize
 }
 
 /// Runs at most so many instructions, up to the first that ends in a call or a fault, and gives how many were run
-/// and how the last one ended. A function of its own for the compiler: one call a turn, with the machine's registers for its loop alone.
-#[inline(never)]
+/// and how the last one ended.
 pub(crate) fn run_on(regs: &mut Regs, memory: &mut Memory, most: u32) -> (u32, Stepped)
     ensures few { result.0 ≤ most }
     ensures ran { run most (machine_with regs.old memory.old) ≡ (result.0, result.1, machine_with regs.new memory.new) }
 {
+    let count = run_through(regs, memory, most);
+    if count == most {
+        return (most, Stepped::On);
+    }
+    (count + 1, step(regs, memory))
+}
+
+// The instructions before the first that ends in a call or a fault, and how many these are. Since that one changes nothing, its end can be
+// asked for once more. A function of its own for the compiler: one call a turn, with the machine's registers for its loop alone.
+#[inline(never)]
+fn run_through(regs: &mut Regs, memory: &mut Memory, most: u32) -> u32
+    ensures few { result ≤ most }
+    ensures ran { run most (machine_with regs.old memory.old) ≡ more result (run (most - result) (machine_with regs.new memory.new)) }
+    ensures stops { result < most → (guest_step (machine_with regs.new memory.new)).0 ≢ Stepped.On }
+{
     for count in 0..most {
         match step(regs, memory) {
             Stepped::On => {}
-            Stepped::Call => return (count + 1, Stepped::Call),
-            Stepped::Fault(kind) => return (count + 1, Stepped::Fault(kind)),
+            _ => return count,
         }
     }
-    (most, Stepped::On)
+    most
 }
 
 /// Stores the bytes of the answer, puts the result into a0 and goes past the call.

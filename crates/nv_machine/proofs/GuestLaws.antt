@@ -1,5 +1,5 @@
 -- A step that ends in a call or a fault leaves the machine as it was.
-use Rattle.std.proofs.Common.{◌≡◌, ◌≢◌, Bool, true, false, ℕ, Option, Some, None, Result, Ok, Err, ◌*◌, ◌/◌, ◌%◌, ◌==◌, refl, ap, ◌∙◌}
+use Rattle.std.proofs.Common.{◌≡◌, ◌≢◌, Bool, true, false, ℕ, Option, Some, None, Result, Ok, Err, ◌*◌, ◌/◌, ◌%◌, ◌==◌, refl, sym, ap, ◌∙◌}
 use Rattle.std.specs.Prelude.{if◌then◌else◌, ◌&&◌}
 use Rattle.nv_isa.specs.declared.op.Op.{Op}
 use Rattle.nv_isa.specs.declared.op.Op.TheVariants.{LoadReserved, StoreConditional, AmoSwap, AmoAdd, AmoXor, AmoAnd, AmoOr, AmoMin, AmoMax, AmoMinu, AmoMaxu, Jal, Jalr, Beq, Bne, Blt, Bge, Bltu, Bgeu, Lb, Lh, Lw, Lbu, Lhu, Sb, Sh, Sw, Ecall, Ebreak}
@@ -8,9 +8,10 @@ use Rattle.nv_isa.specs.Table.{decoded}
 use Rattle.nv_memory.specs.declared.region.Access.{Access}
 use Rattle.nv_memory.specs.declared.region.Width.TheVariants.{Four}
 use Rattle.nv_memory.specs.declared.region.Right.TheVariants.{Read, Write, Execute}
-use Rattle.nv_memory.specs.Bytes.{byte_count}
+use Rattle.nv_memory.specs.Bytes.{byte_count, bytes_at, little}
+use Rattle.nv_memory.specs.Insns.{insn_at}
 use Rattle.nv_memory.specs.Region.{holds}
-use Rattle.nv_memory.specs.Image.{value_at}
+use Rattle.nv_memory.specs.Image.{Image, value_at}
 use Rattle.nv_machine.specs.declared.outcome.Stepped.{Stepped}
 use Rattle.nv_machine.specs.declared.outcome.Stepped.TheVariants.{On}
 use Rattle.nv_machine.specs.declared.outcome.Stepped.TheVariants as ends
@@ -110,11 +111,6 @@ effect_rests AmoMinu i m = combines_rests AmoMinu i m
 effect_rests AmoMaxu i m = combines_rests AmoMaxu i m
 effect_rests _ i m = λ n. absurd (n refl)
 
--- an instruction that ends in no `On` has changed nothing
-pub instruction_rests : (s : Stepped) (a m : Machine) (o : Op) (i : Insn) → (s, a) ≡ effect o i m → s ≢ On → a ≡ m
-instruction_rests s a m o i e n =
-    ap (λ (o : StepResult). o.1) e ∙ effect_rests o i m (λ h. n (ap (λ (o : StepResult). o.0) e ∙ h))
-
 executed_rests : (d : Option Insn) (m : Machine) → Rests (executed d m) m
 executed_rests None m = λ n. refl
 executed_rests (Some i) m = effect_rests i.op i m
@@ -123,7 +119,32 @@ fetched_rests : (l : Result ℕ Access) (m : Machine) → Rests (fetched l m) m
 fetched_rests (Ok w) m = executed_rests (decoded w) m
 fetched_rests (Err e) m = λ n. refl
 
+-- what a step does once its instruction is found, or isn't
+abbrev pub found_effect : Result (Option Insn) Access → Machine → StepResult
+found_effect (Ok found) m = executed found m
+found_effect (Err e) m = fault kinds.Fetch m
+
+-- an instruction that was found is what the step does
+found_is : (b : Bool) (w a : ℕ) (found : Result (Option Insn) Access) (m : Machine) → found ≡ (if b then Ok (decoded w) else Err (record { 0 = a })) → fetched (if b then Ok w else Err (record { 0 = a })) m ≡ found_effect found m
+found_is true w a found m e = rw e refl
+found_is false w a found m e = rw e refl
+
+pub found_step : (m : Machine) (found : Result (Option Insn) Access) → found ≡ insn_at m.memory m.regs.pc → guest_step m ≡ found_effect found m
+unfolding guest_step
+found_step m found e = found_is (holds m.memory.regions m.regs.pc 4 Execute) (little (bytes_at m.memory.bytes m.regs.pc 4)) m.regs.pc found m e
+
+-- the same where finding it has kept the memory
+pub found_anew : (regs : Registers) (memory after : Image) (found : Result (Option Insn) Access) → found ≡ insn_at memory regs.pc → after ≡ memory → guest_step (record { regs = regs; memory = memory }) ≡ found_effect found (record { regs = regs; memory = after })
+found_anew regs memory after found e same = found_step (record { regs = regs; memory = memory }) found e ∙ ap (λ (x : Image). found_effect found (record { regs = regs; memory = x })) (sym same)
+
+pub known_step : (m : Machine) (i : Insn) → insn_at m.memory m.regs.pc ≡ Ok (Some i) → guest_step m ≡ effect i.op i m
+known_step m i e = found_step m (Ok (Some i)) (sym e)
+
 -- what ends in no `On` has changed nothing
 pub step_rests : (m : Machine) → (guest_step m).0 ≢ On → (guest_step m).1 ≡ m
 unfolding guest_step
 step_rests m = fetched_rests (value_at m.memory m.regs.pc Four Execute) m
+
+-- the same of a step's end and machine
+pub rests : (s : Stepped) (a m : Machine) → (s, a) ≡ guest_step m → s ≢ On → a ≡ m
+rests s a m e n = ap (λ (o : StepResult). o.1) e ∙ step_rests m (λ h. n (ap (λ (o : StepResult). o.0) e ∙ h))

@@ -1,29 +1,38 @@
 // One instruction: fetched, decoded and carried out, in the order of its faults.
-ghost use Rattle.std.specs.Prelude.{◌≡◌, ◌≢◌, ℕ, ◌+◌, ◌*◌, ◌/◌, ◌%◌, ◌^◌, ◌<◌};
-ghost use Rattle.nv_isa.specs.Table.{encoding, insn_of, immediate, rd_of, rs1_of, rs2_of};
+ghost use Rattle.std.specs.Prelude.{◌≡◌, pos, ◌≢◌, ℕ, ◌+◌, ◌*◌, ◌/◌, ◌%◌, ◌^◌, ◌<◌};
+ghost use Rattle.nv_isa.specs.Spelling.{HasSmallRegisters};
 ghost use Rattle.nv_machine.specs.Effects.{sum, sign_extended};
 ghost use Rattle.nv_machine.specs.Guest.{gets, next_address, jumps, branches, loads, stores, with_immediate, between_registers, compares, load_reserved, store_conditional, combines, effect, guest_step, width_of, extended, Machine};
 
 use crate::alu::{combine, compute, takes};
 use crate::outcome::{FaultKind, Stepped};
 use crate::regs::Regs;
-use nv_isa::{Form, Op, immediate, operation, rd, rs1, rs2};
+use nv_isa::{Insn, Op};
 use nv_memory::{Memory, Right, Width};
 
-/// Carries out one instruction. After a call and after a fault nothing has changed.
-#[tactic(auto, unfolding(crate::specs::Guest::guest_step, nv_isa::specs::Table::insn_of), using(crate::proofs::GuestLaws::step_rests))]
+/// Carries out one instruction. After a call and after a fault nothing has changed. It is inlined into each loop over it.
+#[inline(always)]
 pub fn step(regs: &mut Regs, memory: &mut Memory) -> Stepped
     ensures step { (result, record { regs = regs.new; memory = memory.new }) ≡ guest_step (record { regs = regs.old; memory = memory.old }) }
     ensures registers_rest { result ≢ Stepped.On → regs.new ≡ regs.old }
     ensures memory_rests { result ≢ Stepped.On → memory.new ≡ memory.old }
 {
-    let Ok(word) = memory.fetch(regs.pc) else {
-        return Stepped::Fault(FaultKind::Fetch);
-    };
-    let Some(op) = operation(word) else {
-        return Stepped::Fault(FaultKind::Illegal);
-    };
-    execute(regs, memory, op, word)
+    match memory.known(regs.pc) {
+        Some(insn) => execute(regs, memory, insn.op, insn),
+        None => step_anew(regs, memory),
+    }
+}
+
+// A step whose instruction isn't known yet. A function of its own for the compiler, since few steps come here.
+#[inline(never)]
+fn step_anew(regs: &mut Regs, memory: &mut Memory) -> Stepped
+    ensures { (result, record { regs = regs.new; memory = memory.new }) ≡ guest_step (record { regs = regs.old; memory = memory.old }) }
+{
+    match memory.insn(regs.pc) {
+        Ok(Some(insn)) => execute(regs, memory, insn.op, insn),
+        Ok(None) => Stepped::Fault(FaultKind::Illegal),
+        Err(_) => Stepped::Fault(FaultKind::Fetch),
+    }
 }
 
 fn width(op: Op) -> Width
@@ -82,60 +91,56 @@ fn branch(regs: &mut Regs, taken: bool, to: u32) -> Stepped
     Stepped::On
 }
 
-#[tactic(auto, unfolding(nv_isa::specs::Table::insn_of))]
-fn compare(regs: &mut Regs, op: Op, word: u32) -> Stepped
-    ensures { (result, regs.new) ≡ compares op (insn_of op Form.Branch word) regs.old }
+#[inline(always)]
+fn compare(regs: &mut Regs, op: Op, insn: Insn) -> Stepped
+    requires { HasSmallRegisters insn }
+    ensures { (result, regs.new) ≡ compares op insn regs.old }
 {
-    let taken = takes(op, regs.get(rs1(word)), regs.get(rs2(word)));
-    let to = regs.pc.wrapping_add_signed(immediate(Form::Branch, word));
+    let taken = takes(op, regs.get(insn.rs1), regs.get(insn.rs2));
+    let to = regs.pc.wrapping_add_signed(insn.imm);
     branch(regs, taken, to)
 }
 
-#[tactic(auto, unfolding(nv_isa::specs::Table::insn_of))]
-fn with_immediate(regs: &mut Regs, op: Op, word: u32) -> Stepped
-    ensures { (result, regs.new) ≡ with_immediate op (insn_of op Form.Immediate word) regs.old }
+#[inline(always)]
+fn with_immediate(regs: &mut Regs, op: Op, insn: Insn) -> Stepped
+    requires { HasSmallRegisters insn }
+    ensures { (result, regs.new) ≡ with_immediate op insn regs.old }
 {
-    let by = immediate(Form::Immediate, word).cast_unsigned();
-    let value = compute(op, regs.get(rs1(word)), by);
-    advance(regs, rd(word), value)
+    let by = insn.imm.cast_unsigned();
+    let value = compute(op, regs.get(insn.rs1), by);
+    advance(regs, insn.rd, value)
 }
 
-#[tactic(auto, unfolding(nv_isa::specs::Table::insn_of))]
-fn shift(regs: &mut Regs, op: Op, word: u32) -> Stepped
-    ensures { (result, regs.new) ≡ with_immediate op (insn_of op Form.Shift word) regs.old }
+#[inline(always)]
+fn between_registers(regs: &mut Regs, op: Op, insn: Insn) -> Stepped
+    requires { HasSmallRegisters insn }
+    ensures { (result, regs.new) ≡ between_registers op insn regs.old }
 {
-    let by = immediate(Form::Shift, word).cast_unsigned();
-    let value = compute(op, regs.get(rs1(word)), by);
-    advance(regs, rd(word), value)
+    let value = compute(op, regs.get(insn.rs1), regs.get(insn.rs2));
+    advance(regs, insn.rd, value)
 }
 
-#[tactic(auto, unfolding(nv_isa::specs::Table::insn_of))]
-fn between_registers(regs: &mut Regs, op: Op, word: u32) -> Stepped
-    ensures { (result, regs.new) ≡ between_registers op (insn_of op Form.Register word) regs.old }
+#[inline(always)]
+fn load(regs: &mut Regs, memory: &Memory, op: Op, insn: Insn) -> Stepped
+    requires { HasSmallRegisters insn }
+    ensures { (result, regs.new) ≡ loads op insn regs.old memory.now }
 {
-    let value = compute(op, regs.get(rs1(word)), regs.get(rs2(word)));
-    advance(regs, rd(word), value)
-}
-
-#[tactic(auto, unfolding(nv_isa::specs::Table::insn_of))]
-fn load(regs: &mut Regs, memory: &Memory, op: Op, word: u32) -> Stepped
-    ensures { (result, regs.new) ≡ loads op (insn_of op Form.Immediate word) regs.old memory.now }
-{
-    let offset = immediate(Form::Immediate, word);
-    let address = regs.get(rs1(word)).wrapping_add_signed(offset);
+    let offset = insn.imm;
+    let address = regs.get(insn.rs1).wrapping_add_signed(offset);
     match memory.load(address, width(op)) {
-        Ok(value) => advance(regs, rd(word), extend(op, value)),
+        Ok(value) => advance(regs, insn.rd, extend(op, value)),
         Err(_) => Stepped::Fault(FaultKind::Load),
     }
 }
 
-#[tactic(auto, unfolding(nv_isa::specs::Table::insn_of))]
-fn store(regs: &mut Regs, memory: &mut Memory, op: Op, word: u32) -> Stepped
-    ensures { (result, record { regs = regs.new; memory = memory.new }) ≡ stores op (insn_of op Form.Store word) (record { regs = regs.old; memory = memory.old }) }
+#[inline(always)]
+fn store(regs: &mut Regs, memory: &mut Memory, op: Op, insn: Insn) -> Stepped
+    requires { HasSmallRegisters insn }
+    ensures { (result, record { regs = regs.new; memory = memory.new }) ≡ stores op insn (record { regs = regs.old; memory = memory.old }) }
 {
-    let offset = immediate(Form::Store, word);
-    let address = regs.get(rs1(word)).wrapping_add_signed(offset);
-    let value = regs.get(rs2(word));
+    let offset = insn.imm;
+    let address = regs.get(insn.rs1).wrapping_add_signed(offset);
+    let value = regs.get(insn.rs2);
     match memory.store(address, width(op), value) {
         Ok(()) => {
             regs.pc = regs.pc.wrapping_add(4);
@@ -146,11 +151,11 @@ fn store(regs: &mut Regs, memory: &mut Memory, op: Op, word: u32) -> Stepped
 }
 
 #[inline(never)]
-#[tactic(auto, unfolding(nv_isa::specs::Table::insn_of))]
-fn reserve(regs: &mut Regs, memory: &Memory, op: Op, word: u32) -> Stepped
-    ensures { (result, regs.new) ≡ load_reserved (insn_of op Form.Reserve word) regs.old memory.now }
+fn reserve(regs: &mut Regs, memory: &Memory, insn: Insn) -> Stepped
+    requires { HasSmallRegisters insn }
+    ensures { (result, regs.new) ≡ load_reserved insn regs.old memory.now }
 {
-    let address = regs.get(rs1(word));
+    let address = regs.get(insn.rs1);
     if address % 4 != 0 {
         return Stepped::Fault(FaultKind::Load);
     }
@@ -158,19 +163,21 @@ fn reserve(regs: &mut Regs, memory: &Memory, op: Op, word: u32) -> Stepped
         return Stepped::Fault(FaultKind::Load);
     };
     regs.reserve(address);
-    advance(regs, rd(word), value)
+    advance(regs, insn.rd, value)
 }
 
 #[inline(never)]
-#[tactic(auto, unfolding(nv_isa::specs::Table::insn_of))]
-fn store_reserved(regs: &mut Regs, memory: &mut Memory, op: Op, word: u32) -> Stepped
-    ensures { (result, record { regs = regs.new; memory = memory.new }) ≡ store_conditional (insn_of op Form.Atomic word) (record { regs = regs.old; memory = memory.old }) }
+fn store_reserved(regs: &mut Regs, memory: &mut Memory, rd: u8, rs1: u8, rs2: u8) -> Stepped
+    requires rd { rd < 32 }
+    requires rs1 { rs1 < 32 }
+    requires rs2 { rs2 < 32 }
+    ensures { (result, record { regs = regs.new; memory = memory.new }) ≡ store_conditional (record { op = Op.StoreConditional; rd = rd; rs1 = rs1; rs2 = rs2; imm = pos 0 }) (record { regs = regs.old; memory = memory.old }) }
 {
-    let address = regs.get(rs1(word));
+    let address = regs.get(rs1);
     if address % 4 != 0 || !memory.holds(address, 4, Right::Write) {
         return Stepped::Fault(FaultKind::Store);
     }
-    let value = regs.get(rs2(word));
+    let value = regs.get(rs2);
     let succeeds = match regs.reserved() {
         Some(reserved) => reserved == address,
         None => false,
@@ -178,82 +185,102 @@ fn store_reserved(regs: &mut Regs, memory: &mut Memory, op: Op, word: u32) -> St
     regs.release();
     if succeeds {
         let _ = memory.store(address, Width::Four, value);
-        return advance(regs, rd(word), 0);
+        return advance(regs, rd, 0);
     }
-    advance(regs, rd(word), 1)
+    advance(regs, rd, 1)
 }
 
 #[inline(never)]
-#[tactic(auto, unfolding(nv_isa::specs::Table::insn_of))]
-fn combine_word(regs: &mut Regs, memory: &mut Memory, op: Op, word: u32) -> Stepped
-    ensures { (result, record { regs = regs.new; memory = memory.new }) ≡ combines op (insn_of op Form.Atomic word) (record { regs = regs.old; memory = memory.old }) }
+fn combine_word(regs: &mut Regs, memory: &mut Memory, op: Op, rd: u8, rs1: u8, rs2: u8) -> Stepped
+    requires rd { rd < 32 }
+    requires rs1 { rs1 < 32 }
+    requires rs2 { rs2 < 32 }
+    ensures { (result, record { regs = regs.new; memory = memory.new }) ≡ combines op (record { op = op; rd = rd; rs1 = rs1; rs2 = rs2; imm = pos 0 }) (record { regs = regs.old; memory = memory.old }) }
 {
-    let address = regs.get(rs1(word));
+    let address = regs.get(rs1);
     if address % 4 != 0 || !memory.holds(address, 4, Right::Write) {
         return Stepped::Fault(FaultKind::Store);
     }
-    let value = regs.get(rs2(word));
+    let value = regs.get(rs2);
     match memory.load(address, Width::Four) {
         Ok(old) => {
             let _ = memory.store(address, Width::Four, combine(op, old, value));
-            advance(regs, rd(word), old)
+            advance(regs, rd, old)
         }
         Err(_) => Stepped::Fault(FaultKind::Store),
     }
 }
 
-#[tactic(auto, unfolding(nv_isa::specs::Table::insn_of, nv_isa::specs::Table::encoding))]
-fn execute(regs: &mut Regs, memory: &mut Memory, op: Op, word: u32) -> Stepped
-    ensures { (result, record { regs = regs.new; memory = memory.new }) ≡ effect op (insn_of op (encoding op).form word) (record { regs = regs.old; memory = memory.old }) }
+// Each operation has an arm of its own, and what it calls is inlined there, so that nothing asks for the operation again.
+#[inline(always)]
+fn execute(regs: &mut Regs, memory: &mut Memory, op: Op, insn: Insn) -> Stepped
+    requires { HasSmallRegisters insn }
+    ensures { (result, record { regs = regs.new; memory = memory.new }) ≡ effect op insn (record { regs = regs.old; memory = memory.old }) }
 {
     match op {
         Op::Lui => {
-            let value = immediate(Form::Upper, word).cast_unsigned();
-            advance(regs, rd(word), value)
+            let value = insn.imm.cast_unsigned();
+            advance(regs, insn.rd, value)
         }
         Op::Auipc => {
-            let value = regs.pc.wrapping_add_signed(immediate(Form::Upper, word));
-            advance(regs, rd(word), value)
+            let value = regs.pc.wrapping_add_signed(insn.imm);
+            advance(regs, insn.rd, value)
         }
         Op::Jal => {
-            let to = regs.pc.wrapping_add_signed(immediate(Form::Jump, word));
-            jump(regs, rd(word), to)
+            let to = regs.pc.wrapping_add_signed(insn.imm);
+            jump(regs, insn.rd, to)
         }
         Op::Jalr => {
-            let offset = immediate(Form::Immediate, word);
-            let to = regs.get(rs1(word)).wrapping_add_signed(offset);
-            jump(regs, rd(word), to / 2 * 2)
+            let offset = insn.imm;
+            let to = regs.get(insn.rs1).wrapping_add_signed(offset);
+            jump(regs, insn.rd, to / 2 * 2)
         }
-        Op::Beq | Op::Bne | Op::Blt | Op::Bge | Op::Bltu | Op::Bgeu => compare(regs, op, word),
-        Op::Lb | Op::Lh | Op::Lw | Op::Lbu | Op::Lhu => load(regs, memory, op, word),
-        Op::Sb | Op::Sh | Op::Sw => store(regs, memory, op, word),
-        Op::Addi | Op::Slti | Op::Sltiu | Op::Xori | Op::Ori | Op::Andi => {
-            with_immediate(regs, op, word)
-        }
-        Op::Slli | Op::Srli | Op::Srai => shift(regs, op, word),
-        Op::Add
-        | Op::Sub
-        | Op::Sll
-        | Op::Slt
-        | Op::Sltu
-        | Op::Xor
-        | Op::Srl
-        | Op::Sra
-        | Op::Or
-        | Op::And
-        | Op::Mul
-        | Op::Mulh
-        | Op::Mulhsu
-        | Op::Mulhu
-        | Op::Div
-        | Op::Divu
-        | Op::Rem
-        | Op::Remu => between_registers(regs, op, word),
+        Op::Beq => compare(regs, Op::Beq, insn),
+        Op::Bne => compare(regs, Op::Bne, insn),
+        Op::Blt => compare(regs, Op::Blt, insn),
+        Op::Bge => compare(regs, Op::Bge, insn),
+        Op::Bltu => compare(regs, Op::Bltu, insn),
+        Op::Bgeu => compare(regs, Op::Bgeu, insn),
+        Op::Lb => load(regs, memory, Op::Lb, insn),
+        Op::Lh => load(regs, memory, Op::Lh, insn),
+        Op::Lw => load(regs, memory, Op::Lw, insn),
+        Op::Lbu => load(regs, memory, Op::Lbu, insn),
+        Op::Lhu => load(regs, memory, Op::Lhu, insn),
+        Op::Sb => store(regs, memory, Op::Sb, insn),
+        Op::Sh => store(regs, memory, Op::Sh, insn),
+        Op::Sw => store(regs, memory, Op::Sw, insn),
+        Op::Addi => with_immediate(regs, Op::Addi, insn),
+        Op::Slti => with_immediate(regs, Op::Slti, insn),
+        Op::Sltiu => with_immediate(regs, Op::Sltiu, insn),
+        Op::Xori => with_immediate(regs, Op::Xori, insn),
+        Op::Ori => with_immediate(regs, Op::Ori, insn),
+        Op::Andi => with_immediate(regs, Op::Andi, insn),
+        Op::Slli => with_immediate(regs, Op::Slli, insn),
+        Op::Srli => with_immediate(regs, Op::Srli, insn),
+        Op::Srai => with_immediate(regs, Op::Srai, insn),
+        Op::Add => between_registers(regs, Op::Add, insn),
+        Op::Sub => between_registers(regs, Op::Sub, insn),
+        Op::Sll => between_registers(regs, Op::Sll, insn),
+        Op::Slt => between_registers(regs, Op::Slt, insn),
+        Op::Sltu => between_registers(regs, Op::Sltu, insn),
+        Op::Xor => between_registers(regs, Op::Xor, insn),
+        Op::Srl => between_registers(regs, Op::Srl, insn),
+        Op::Sra => between_registers(regs, Op::Sra, insn),
+        Op::Or => between_registers(regs, Op::Or, insn),
+        Op::And => between_registers(regs, Op::And, insn),
+        Op::Mul => between_registers(regs, Op::Mul, insn),
+        Op::Mulh => between_registers(regs, Op::Mulh, insn),
+        Op::Mulhsu => between_registers(regs, Op::Mulhsu, insn),
+        Op::Mulhu => between_registers(regs, Op::Mulhu, insn),
+        Op::Div => between_registers(regs, Op::Div, insn),
+        Op::Divu => between_registers(regs, Op::Divu, insn),
+        Op::Rem => between_registers(regs, Op::Rem, insn),
+        Op::Remu => between_registers(regs, Op::Remu, insn),
         Op::Fence => branch(regs, false, 0),
         Op::Ecall => Stepped::Call,
         Op::Ebreak => Stepped::Fault(FaultKind::Breakpoint),
-        Op::LoadReserved => reserve(regs, memory, op, word),
-        Op::StoreConditional => store_reserved(regs, memory, op, word),
+        Op::LoadReserved => reserve(regs, memory, insn),
+        Op::StoreConditional => store_reserved(regs, memory, insn.rd, insn.rs1, insn.rs2),
         Op::AmoSwap
         | Op::AmoAdd
         | Op::AmoXor
@@ -262,6 +289,6 @@ fn execute(regs: &mut Regs, memory: &mut Memory, op: Op, word: u32) -> Stepped
         | Op::AmoMin
         | Op::AmoMax
         | Op::AmoMinu
-        | Op::AmoMaxu => combine_word(regs, memory, op, word),
+        | Op::AmoMaxu => combine_word(regs, memory, op, insn.rd, insn.rs1, insn.rs2),
     }
 }

@@ -1,6 +1,7 @@
 // Bytes at an address.
 ghost use Rattle.std.specs.Prelude.{◌≡◌, ℕ, ◌+◌, ◌-◌, ◌≤◌, length, replicate};
 ghost use Rattle.nv_memory.specs.Bytes.{bytes_at, put, little, little_bytes, byte_count};
+ghost use Rattle.nv_memory.specs.Image.{cut};
 
 use crate::region::Width;
 
@@ -68,6 +69,16 @@ pub fn clear(bytes: &mut [u8], from: usize, to: usize)
 {
     for i in from..to {
         bytes[i] = 0;
+    }
+}
+
+// Writes 0 from a new end to below the one before it, where that was higher.
+pub fn cut(bytes: &mut [u8], before: usize, end: usize)
+    requires { before ≤ length bytes.old }
+    ensures { bytes.new ≡ cut bytes.old before end }
+{
+    if end < before {
+        clear(bytes, end, before);
     }
 }
 

@@ -1,15 +1,16 @@
 //! A guest's memory: bytes, and regions with their rights.
 //! Types: `Width`, `Access`, `Right`, `Region`, `Memory`.
 //! Proved: a load, store or copy is that of the list of bytes; it is refused where no region has the range with the right,
-//! and then nothing has changed.
+//! and then nothing has changed; an instruction that is known is what its word spells.
 //! Above: the machine and the guest.
 #![tactic(auto)]
 
 mod bytes;
-mod code;
+mod decoded;
 mod memory;
 mod ranges;
 mod region;
+mod rights;
 
 pub use memory::Memory;
 pub use region::{Access, Region, Right, Width};

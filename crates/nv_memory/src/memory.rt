@@ -1,15 +1,19 @@
 // The memory of a guest.
-ghost use Rattle.std.specs.Prelude.{◌≡◌, ℕ, ◌+◌, ◌<◌, ◌≤◌, length, Ok, Err, IfOk, IfErr, is_ok, IsTrue, replicate};
+ghost use Rattle.std.specs.Prelude.{◌≡◌, ℕ, ◌+◌, ◌<◌, ◌≤◌, length, Ok, Err, IfOk, IfErr, IfSome, is_ok, IsTrue, replicate, Some, ◌%◌};
 ghost use Rattle.std.specs.List.{list_any};
 ghost use Rattle.nv_memory.specs.Bytes.{bytes_at, put, little_bytes, byte_count};
 ghost use Rattle.nv_memory.specs.Region.{holds, AreRegions, lies_in, set_end, region_start, end_of};
 ghost use Rattle.nv_memory.specs.Image.{value_at, allowed, stored, copied, cut};
 ghost use Rattle.nv_memory.specs.Cells.{memory_byte};
+ghost use Rattle.nv_memory.specs.Insns.{insn_at};
+ghost use Rattle.nv_isa.specs.Spelling.{HasSmallRegisters};
 
-use crate::bytes::{clear, count, part, read, read_all, write, write_all};
-use crate::code::Code;
-use crate::ranges::{end_at, has_address, is_held, move_end};
+use crate::bytes::{count, cut, part, read, read_all, write, write_all};
+use crate::decoded::Decoded;
+use crate::ranges::{end_at, has_address, is_held, move_end, region_at};
 use crate::region::{Access, Region, Right, Width};
+use crate::rights::Rights;
+use nv_isa::{Insn, decode};
 use std::alloc::{AllocError, Global};
 use std::marker::Model;
 
@@ -18,21 +22,24 @@ use std::marker::Model;
 pub struct Memory {
     bytes: Vec<u8>,
     regions: Vec<Region>,
-    // what the first region says of a fetch, so that most don't ask the regions
-    code: Code,
+    // instructions of words that were executed, so that most steps decode none
+    decoded: Decoded,
+    // what may be done with the memory's parts, so that most loads and stores don't ask the regions
+    rights: Rights,
 }
 
 impl Model for Memory {
-    ghost use Rattle.std.specs.Prelude.{length};
+    ghost use Rattle.std.specs.Prelude.{length, ◌+◌, ◌*◌};
     ghost use Rattle.nv_memory.specs.Region.{AreRegions};
     ghost use Rattle.nv_memory.specs.Image.{Image};
-    ghost use Rattle.nv_memory.specs.inner.Code.{IsCode};
+    ghost use Rattle.nv_memory.specs.inner.Decoded.{AreDecoded};
+    ghost use Rattle.nv_memory.specs.inner.Rights.{AreParts};
 
     ghost Value = { Image };
 
     ghost view = { λ m. record { bytes = m.bytes.items; regions = m.regions.items } };
 
-    ghost invariant = { λ m. AreRegions (length m.bytes.items) m.regions.items × IsCode m.code m.regions.items };
+    ghost invariant = { λ m. AreRegions (length m.bytes.items) m.regions.items × AreDecoded m.decoded.start m.decoded.insns.items m.bytes.items m.regions.items × AreParts m.regions.items m.decoded.start (m.decoded.start + 4 * length m.decoded.insns.items) m.rights.parts.items };
 }
 
 impl Memory {
@@ -42,11 +49,20 @@ impl Memory {
         ensures { IfOk result (λ m. m ≡ record { bytes = replicate size 0; regions = regions.items }) }
     {
         let bytes = vec![in alloc; 0; size as usize]?;
-        let code = Code::of(&regions);
+        let decoded = Decoded::make(alloc, &regions)?;
+        let mut rights = Rights::make(alloc, size)?;
+        rights.look(
+            &regions,
+            decoded.start as usize,
+            decoded.stop(),
+            0,
+            size as usize,
+        );
         Ok(Memory {
             bytes,
             regions,
-            code,
+            decoded,
+            rights,
         })
     }
 
@@ -70,36 +86,62 @@ impl Memory {
     }
 
     /// The number at the address, in little-endian order and with zeros above.
+    #[inline(always)]
+    #[tactic(auto, using(crate::proofs::Bounds::held_is_inside))]
     pub fn load(&self, address: u32, width: Width) -> Result<u32, Access>
         ensures { result ≡ value_at self.now address width Right.Read }
     {
-        self.read_with(address, width, Right::Read)
-    }
-
-    /// The four bytes of an instruction, in little-endian order.
-    #[tactic(auto, using(crate::proofs::Bounds::in_one))]
-    pub fn fetch(&self, address: u32) -> Result<u32, Access>
-        ensures { result ≡ value_at self.now address Width.Four Right.Execute }
-    {
-        if self.may_fetch(address) {
-            Ok(read(&self.bytes, address as usize, Width::Four))
+        if self.may_read(address, count(width)) {
+            Ok(read(&self.bytes, address as usize, width))
         } else {
             Err(Access(address))
         }
     }
 
-    fn may_fetch(&self, address: u32) -> bool
-        ensures { result ≡ holds self.now.regions address 4 Right.Execute }
+    #[inline(always)]
+    #[tactic(auto, using(crate::proofs::Parts::read_held))]
+    fn may_read(&self, address: u32, length: usize) -> bool
+        ensures { result ≡ holds self.now.regions address length Right.Read }
     {
-        self.code.has(address) || self.asks_regions(address)
+        self.rights.reads(address, length) || self.asks_regions(address, length)
     }
 
-    // Out of line, since few fetches come here and the machine's loop has no registers for a search.
+    // Out of line, since few loads come here and the machine's loop has no registers for a search.
     #[inline(never)]
-    fn asks_regions(&self, address: u32) -> bool
-        ensures { result ≡ holds self.now.regions address 4 Right.Execute }
+    fn asks_regions(&self, address: u32, length: usize) -> bool
+        ensures { result ≡ holds self.now.regions address length Right.Read }
     {
-        is_held(&self.regions, address, 4, Right::Execute)
+        is_held(&self.regions, address, length, Right::Read)
+    }
+
+    /// The four bytes of an instruction, in little-endian order.
+    pub fn fetch(&self, address: u32) -> Result<u32, Access>
+        ensures { result ≡ value_at self.now address Width.Four Right.Execute }
+    {
+        self.read_with(address, Width::Four, Right::Execute)
+    }
+
+    /// The instruction at the address, where its word was executed since it was last written.
+    pub fn known(&self, address: u32) -> Option<Insn>
+        requires { address % 4 ≡ 0 }
+        ensures insn { IfSome result (λ insn. insn_at self.now address ≡ Ok (Some insn)) }
+        ensures registers { IfSome result HasSmallRegisters }
+    {
+        self.decoded.at(address)
+    }
+
+    /// The instruction at the address, which is known from then on.
+    pub fn insn(&mut self, address: u32) -> Result<Option<Insn>, Access>
+        requires { address % 4 ≡ 0 }
+        ensures insn { result ≡ insn_at self.old address }
+        ensures registers { IfOk result (λ found. IfSome found HasSmallRegisters) }
+        ensures same { self.new ≡ self.old }
+    {
+        let found = decode(self.fetch(address)?);
+        if let Some(insn) = found {
+            self.decoded.keep(address, insn);
+        }
+        Ok(found)
     }
 
     #[tactic(auto, using(crate::proofs::Bounds::held_is_inside))]
@@ -114,13 +156,31 @@ impl Memory {
     }
 
     /// Writes the low bytes of the number at the address, in little-endian order.
-    #[tactic(auto, using(crate::proofs::Bounds::held_is_inside))]
+    #[inline(always)]
+    #[tactic(auto, using(crate::proofs::Bounds::held_is_inside, crate::proofs::Parts::write_held))]
     pub fn store(&mut self, address: u32, width: Width, value: u32) -> Result<(), Access>
+        ensures answer { result ≡ allowed self.old address (byte_count width) Right.Write }
+        ensures after { self.new ≡ stored self.old address (little_bytes (byte_count width) value) }
+    {
+        if self.rights.writes(address, count(width)) {
+            write(&mut self.bytes, address as usize, width, value);
+            Ok(())
+        } else {
+            self.store_by_regions(address, width, value)
+        }
+    }
+
+    // Out of line, as `asks_regions`. Code that is written is decoded anew.
+    #[inline(never)]
+    #[tactic(auto, using(crate::proofs::Bounds::held_is_inside))]
+    fn store_by_regions(&mut self, address: u32, width: Width, value: u32) -> Result<(), Access>
         ensures answer { result ≡ allowed self.old address (byte_count width) Right.Write }
         ensures after { self.new ≡ stored self.old address (little_bytes (byte_count width) value) }
     {
         if is_held(&self.regions, address, count(width), Right::Write) {
             write(&mut self.bytes, address as usize, width, value);
+            self.decoded
+                .forget(address as usize, address as usize + count(width));
             Ok(())
         } else {
             Err(Access(address))
@@ -168,6 +228,8 @@ impl Memory {
         if is_held(&self.regions, address, bytes.len(), Right::Write) {
             if bytes.len() > 0 {
                 write_all(&mut self.bytes, address as usize, bytes);
+                self.decoded
+                    .forget(address as usize, address as usize + bytes.len());
             }
             Ok(())
         } else {
@@ -182,6 +244,8 @@ impl Memory {
         ensures { self.new ≡ record self.old { bytes = put self.old.bytes address bytes.now } }
     {
         write_all(&mut self.bytes, address as usize, bytes);
+        self.decoded
+            .forget(address as usize, address as usize + bytes.len());
     }
 
     /// Moves the end of the region at this place of the list. Bytes that leave it become 0.
@@ -194,10 +258,12 @@ impl Memory {
         ensures regions { self.new.regions ≡ set_end self.old.regions region end }
     {
         let before = end_at(&self.regions, region);
-        if end < before {
-            clear(&mut self.bytes, end as usize, before as usize);
-        }
+        cut(&mut self.bytes, before as usize, end as usize);
         move_end(&mut self.regions, region, end);
-        self.code = Code::of(&self.regions);
+        let (low, high) = (before.min(end) as usize, before.max(end) as usize);
+        self.decoded.forget(low, high);
+        let (start, stop) = (self.decoded.start as usize, self.decoded.stop());
+        let moved = region_at(&self.regions, region);
+        self.rights.look(&[moved], start, stop, low, high);
     }
 }

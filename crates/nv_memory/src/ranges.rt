@@ -1,6 +1,7 @@
 // Where a range lies, and where a region ends.
 ghost use Rattle.std.specs.Prelude.{◌≡◌, ℕ, ◌+◌, ◌<◌, ◌≤◌, length};
 ghost use Rattle.std.specs.List.{list_any};
+ghost use Rattle.nv_memory.specs.inner.Rights.{IsOneOf};
 ghost use Rattle.nv_memory.specs.Region.{holds, covers, allows, lies_in, end_of, set_end};
 
 use crate::region::{Region, Right};
@@ -27,7 +28,7 @@ fn is_address_in(region: &Region, address: u32) -> bool
 
 // The first region is tried before the loop over the others: a guest's code is most often there, and a fetch from it then
 // goes straight through.
-fn is_in_one(regions: &[Region], address: u32, length: usize, right: Right) -> bool
+pub fn is_in_one(regions: &[Region], address: u32, length: usize, right: Right) -> bool
     ensures { result ≡ list_any (covers address length right) regions.now }
 {
     match regions {
@@ -69,6 +70,15 @@ pub fn end_at(regions: &[Region], region: usize) -> u32
     ensures { result ≡ end_of regions.now region }
 {
     regions[region].end
+}
+
+// The region at this place: what it covers is covered by one of them.
+#[tactic(auto, using(crate::proofs::Parts::covered_at))]
+pub fn region_at(regions: &[Region], region: usize) -> Region
+    requires { region < length regions.now }
+    ensures { IsOneOf regions.now result }
+{
+    regions[region]
 }
 
 // Moves the end of the region.

@@ -1,17 +1,18 @@
-//! Runs a guest of one or of eight threads, or one that reads, for a number of instructions, and prints where it came; bench/thread_loops.py
-//! takes the time. Proved: that nothing undefined is done.
+//! Runs a guest of one or of eight threads, or one that reads, for a number of instructions, and prints where it came; or the guest of a
+//! file, which reads another file. bench/thread_loops.py takes the time. Proved: that nothing undefined is done.
 #![tactic(auto)]
 
 ghost use Rattle.std.specs.Prelude.{◌≡◌, ◌≤◌, None};
 ghost use Rattle.nv_threads.specs.Threads.{threads};
 ghost use Rattle.nv_thread_bench.specs.Firsts.{firsts};
+ghost use Rattle.nv_guest.specs.Load.{IsMemorySize};
 
 use anyhow::{Result, bail};
 use nv_calls::{CLONE, FIRST_THREAD, MOST_THREADS};
 use nv_guest::Guest;
 use nv_text::number;
 use nv_threads::{Came, Process, Want};
-use std::env;
+use std::{env, fs};
 
 // Counts down from 2^30.
 static ONE: [u8; 140] = [
@@ -52,6 +53,9 @@ static READS: [u8; 108] = [
 
 /// The number of the call read.
 const READ: u32 = 63;
+
+/// The number of the call write.
+const WRITE: u32 = 64;
 
 fn file_of(name: &str) -> Option<&'static [u8]> {
     match name {
@@ -103,8 +107,83 @@ fn answer_reads(process: &mut Process) -> u32 {
     u32::MAX
 }
 
+/// Answers the next call: a read gets the next bytes of the input, and what is written is let go.
+fn answer_next(process: &mut Process, input: &[u8], at: &mut usize) -> bool {
+    if process.ended().is_some() {
+        return false;
+    }
+    let Came::Asked(tid) = process.advance(Want::Any) else {
+        return false;
+    };
+    let call = process.pending(tid);
+    let (nr, size) = (call.nr, call.args[2]);
+    if nr == READ {
+        let rest = input.get(*at..).unwrap_or(&[]);
+        let count = rest.len().min(size as usize).min(4096);
+        *at = at.saturating_add(count);
+        process.answer(tid, count as i32, &rest[..count]);
+        return true;
+    }
+    if nr == WRITE {
+        process.answer(tid, size.cast_signed(), &[]);
+        return true;
+    }
+    process.answer(tid, -38, &[]);
+    true
+}
+
+/// Runs the process until it ends or faults, and gives how many of its calls were answered.
+fn answer_all(process: &mut Process, input: &[u8]) -> u32 {
+    let mut at = 0;
+    for done in 0..u32::MAX {
+        if !answer_next(process, input, &mut at) {
+            return done;
+        }
+    }
+    u32::MAX
+}
+
+/// The bytes of a memory of 1, 4 or 16 MiB.
+fn memory_size(mib: u32) -> u32
+    ensures { IsMemorySize result }
+{
+    match mib {
+        1 => 0x10_0000,
+        4 => 0x40_0000,
+        _ => 0x100_0000,
+    }
+}
+
+/// Runs the guest of a file on the bytes of another, and prints how many instructions it took.
+fn run_file(rt: &HostRuntime, name: &str, mib: u32, count: u32, input: &str) -> Result<()>
+    requires { count ≤ 1000000000 }
+{
+    let file = fs::read(rt, name)?;
+    let input = fs::read(rt, input)?;
+    let Ok(program) = nv_elf::read(rt.alloc(), &file) else {
+        bail!("the file is refused");
+    };
+    let Ok(guest) = Guest::make(rt.alloc(), &program, &[], memory_size(mib)) else {
+        bail!("the program is refused");
+    };
+    let mut process = Process::make(rt.alloc(), guest, count)?;
+    let calls = answer_all(&mut process, &input);
+    let (instructions, status) = (process.count(), process.ended());
+    println!(rt; "{calls} calls, {instructions} instructions, status {status:?}")?;
+    Ok(())
+}
+
 fn main(rt: HostRuntime) -> Result<()> {
     let words: Vec<String> = env::args(&rt)?.collect(rt.alloc())?;
+    if let [_, name, mib, count, input] = words.as_slice() {
+        let (Some(mib), Some(count)) = (number(mib.as_bytes()), number(count.as_bytes())) else {
+            bail!("a file, 1, 4 or 16 MiB, a number of instructions, and a file that it reads");
+        };
+        if count > 1_000_000_000 {
+            bail!("at most 1000000000 instructions");
+        }
+        return run_file(&rt, name, mib, count, input);
+    }
     let [_, name, count] = words.as_slice() else {
         bail!("a guest and a number of instructions");
     };

@@ -1,5 +1,4 @@
-use Rattle.std.proofs.Common.{◌∙◌, ap, arith, None}
-use Rattle.nv_guest.specs.declared.guest.Thread.{Thread}
+use Rattle.std.proofs.Common.{◌∙◌, arith}
 use Rattle.nv_guest.proofs.Releasing.{one_written, all_first}
 use Rattle.nv_guest.proofs.threads.release_each.Goals as goal
 

@@ -1,11 +1,23 @@
-use Rattle.std.proofs.Common.{ap}
-use Rattle.nv_isa.specs.Table.{encoding, insn_of}
+use Rattle.std.proofs.Common.{ap, ◌∙◌, sym}
+use Rattle.nv_memory.specs.Insns.{insn_at}
+use Rattle.nv_machine.specs.Registers.{Registers}
 use Rattle.nv_machine.specs.Guest.{Machine}
-use Rattle.nv_machine.proofs.GuestLaws.{instruction_rests}
+use Rattle.nv_machine.proofs.GuestLaws.{known_step, rests}
 use Rattle.nv_machine.proofs.stepping.step.Goals as goal
 
-pub returns-clause-registers_rest : goal.returns-clause-registers_rest
-returns-clause-registers_rest c = λ n. ap (λ (m : Machine). m.regs) (instruction_rests c.execute.result (record { regs = c.execute.new.regs; memory = c.execute.new.memory }) (record { regs = c.args.regs.now; memory = c.args.memory.now }) c.in-Some.op (insn_of c.in-Some.op (encoding c.in-Some.op).form c.in-Ok.word) c.execute.ensures n)
+pub returns-in-Some-clause-step : goal.returns-in-Some-clause-step
+returns-in-Some-clause-step c =
+    let there = ap (λ (r : Registers). insn_at c.args.memory.now r.pc) (sym c.regs.view_is) in
+    c.execute.ensures ∙ sym (known_step (record { regs = c.args.regs.now; memory = c.args.memory.now }) c.in-Some.insn (there ∙ c.in-Some.ensures.insn))
 
-pub returns-clause-memory_rests : goal.returns-clause-memory_rests
-returns-clause-memory_rests c = λ n. ap (λ (m : Machine). m.memory) (instruction_rests c.execute.result (record { regs = c.execute.new.regs; memory = c.execute.new.memory }) (record { regs = c.args.regs.now; memory = c.args.memory.now }) c.in-Some.op (insn_of c.in-Some.op (encoding c.in-Some.op).form c.in-Ok.word) c.execute.ensures n)
+pub returns-in-Some-clause-registers_rest : goal.returns-in-Some-clause-registers_rest
+returns-in-Some-clause-registers_rest c = λ n. ap (λ (m : Machine). m.regs) (rests c.execute.result (record { regs = c.execute.new.regs; memory = c.execute.new.memory }) (record { regs = c.args.regs.now; memory = c.args.memory.now }) (returns-in-Some-clause-step c) n)
+
+pub returns-in-Some-clause-memory_rests : goal.returns-in-Some-clause-memory_rests
+returns-in-Some-clause-memory_rests c = λ n. ap (λ (m : Machine). m.memory) (rests c.execute.result (record { regs = c.execute.new.regs; memory = c.execute.new.memory }) (record { regs = c.args.regs.now; memory = c.args.memory.now }) (returns-in-Some-clause-step c) n)
+
+pub returns-in-None-clause-registers_rest : goal.returns-in-None-clause-registers_rest
+returns-in-None-clause-registers_rest c = λ n. ap (λ (m : Machine). m.regs) (rests c.step_anew.result (record { regs = c.step_anew.new.regs; memory = c.step_anew.new.memory }) (record { regs = c.args.regs.now; memory = c.args.memory.now }) c.step_anew.ensures n)
+
+pub returns-in-None-clause-memory_rests : goal.returns-in-None-clause-memory_rests
+returns-in-None-clause-memory_rests c = λ n. ap (λ (m : Machine). m.memory) (rests c.step_anew.result (record { regs = c.step_anew.new.regs; memory = c.step_anew.new.memory }) (record { regs = c.args.regs.now; memory = c.args.memory.now }) c.step_anew.ensures n)
