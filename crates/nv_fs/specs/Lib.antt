@@ -11,3 +11,4 @@ pub mod Starts
 pub mod Views
 pub mod Told
 pub mod Kept
+pub mod Waits

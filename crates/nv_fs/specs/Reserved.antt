@@ -8,13 +8,14 @@ use Rattle.nv_fs.specs.States.{FileState, open_of}
 use Rattle.nv_fs.specs.Fetched.{pipe_at}
 use Rattle.nv_fs.specs.Stored.{start_of}
 
--- how many elements each table has memory for, how long a new name may be, how many bytes the console and each pipe have memory for, and which blocks of each file take memory
+-- how many elements each table has memory for, how long a new name may be, how many bytes the console, what is left of the input, and each pipe have memory for, and which blocks of each file take memory
 pub record Reserved : Type 0 where
   pub opens : ℕ
   pub files : ℕ
   pub pipes : ℕ
   pub name : ℕ
   pub console : ℕ
+  pub input : ℕ
   pub contents : List (List Bool)
   pub buffers : List ℕ
 

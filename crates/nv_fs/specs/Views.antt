@@ -1,5 +1,5 @@
 -- What calls see of the tables.
-use Rattle.std.specs.Prelude.{ℕ, Bool, List, [], map, drop, None, option_map, slice_index_or, vec_capacity}
+use Rattle.std.specs.Prelude.{ℕ, ◌-◌, Bool, List, [], map, drop, None, option_map, slice_index_or, vec_capacity}
 use Rattle.std.specs.Global.{Vec}
 use Rattle.nv_fs.specs.declared.disk.MemoryFile.{MemoryFile}
 use Rattle.nv_fs.specs.declared.disk.FileSystem.TheInside.{Inside}
@@ -39,6 +39,7 @@ reserved_of k = record {
   pipes = vec_capacity k.pipes;
   name = vec_capacity k.name;
   console = vec_capacity k.console;
+  input = vec_capacity k.input - k.taken;
   contents = map held_of k.files.items;
   buffers = map capacity_of k.pipes.items;
 }

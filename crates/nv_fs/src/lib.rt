@@ -6,6 +6,7 @@
 #![tactic(auto)]
 
 mod closing;
+mod coming;
 mod disk;
 mod ends;
 mod finding;

@@ -4,3 +4,4 @@ pub mod Small
 pub mod Going
 pub mod Threads
 pub mod Lines
+pub mod Inputs

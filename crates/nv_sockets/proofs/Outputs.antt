@@ -19,7 +19,7 @@ link_is a w i c view l h = ap link_of h ∙ sym (get_or-map link_of a.connection
 pub capacity_at : (a : Inside) (w : Buffered) (i : ℕ) (c : Connection) → buffered_of a ≡ w → i < length a.connections.items → c ≡ get_or a.connections.items i c → vec_capacity c.output ≡ slice_index w.buffers i
 capacity_at a w i c view l h = ap capacity_of h ∙ sym (get_or-map capacity_of a.connections.items i c 0 l) ∙ ap (λ (z : Buffered). slice_index z.buffers i) view
 
-link_changed : (a : Inside) (w : Buffered) (i : ℕ) (c : Connection) (link : Link) → buffered_of a ≡ w → link_of c ≡ link → net_of (record a { connections = with_item a.connections i c }) ≡ record w.net { links = set w.net.links i link }
+pub link_changed : (a : Inside) (w : Buffered) (i : ℕ) (c : Connection) (link : Link) → buffered_of a ≡ w → link_of c ≡ link → net_of (record a { connections = with_item a.connections i c }) ≡ record w.net { links = set w.net.links i link }
 link_changed a w i c link view h =
     ap (λ (z : List Link). record (net_of a) { links = z }) (map-set link_of a.connections.items i c ∙ ap (λ (z : Link). set (map link_of a.connections.items) i z) h)
     ∙ ap (λ (e : Buffered). record e.net { links = set e.net.links i link }) view

@@ -4,3 +4,4 @@ pub mod Reserved
 pub mod Views
 pub mod Kernel
 pub mod Texts
+pub mod Coming

@@ -9,10 +9,13 @@ use Rattle.nv_sockets.specs.declared.socket.Socket.{Socket}
 use Rattle.nv_sockets.specs.declared.socket.Socket.TheVariants.{Fresh, Bound, Listening, Connected}
 use Rattle.nv_sockets.specs.Sockets.{Net, socket_at, link_output}
 
--- the sockets, and how many bytes that are written to each connection have memory
+-- the sockets; how many bytes that are written to each connection, and that come over it, have memory; and how many connections have, and their ports
 pub record Buffered : Type 0 where
   pub net : Net
   pub buffers : List ℕ
+  pub inputs : List ℕ
+  pub places : ℕ
+  pub waits : ℕ
 
 -- a connection has memory for so many bytes in all
 abbrev pub HasMemory : Buffered → ℕ → ℕ → Type 0

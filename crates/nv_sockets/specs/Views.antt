@@ -14,6 +14,9 @@ link_of c = record { port = c.port; input = c.input.items; output = c.output.ite
 abbrev pub capacity_of : Connection → ℕ
 capacity_of c = vec_capacity c.output
 
+abbrev pub input_capacity_of : Connection → ℕ
+input_capacity_of c = vec_capacity c.input
+
 abbrev pub written_of : Connection → Written
 written_of c = record { port = c.port; bytes = c.output.items }
 
@@ -25,4 +28,10 @@ abbrev pub net_of : Inside → Net
 net_of s = record { sockets = s.sockets; waiting = s.waiting.items; links = map link_of s.connections.items }
 
 abbrev pub buffered_of : Inside → Buffered
-buffered_of s = record { net = net_of s; buffers = map capacity_of s.connections.items }
+buffered_of s = record {
+  net = net_of s;
+  buffers = map capacity_of s.connections.items;
+  inputs = map input_capacity_of s.connections.items;
+  places = vec_capacity s.connections;
+  waits = vec_capacity s.waiting;
+}

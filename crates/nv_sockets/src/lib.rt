@@ -1,5 +1,5 @@
 //! The kernel of a run: nv_kernel's, and sockets over the connections that a script states.
-//! Types: `Connection`, `SocketKernel`.
+//! Types: `Connection`, `SocketKernel`; below it `Host`, `Sockets` and `Socket`, on which kernels stand.
 //! Proved: it meets the laws of `SyscallKernel` with the definition of serving with sockets; `write_connections` writes
 //! just the text of what each connection was sent.
 //! Above: the commands.
@@ -7,6 +7,7 @@
 
 mod accepting;
 mod binding;
+mod coming;
 mod connection;
 mod host;
 mod kernel;
@@ -17,6 +18,10 @@ mod socket;
 mod sockets;
 mod writing;
 
+pub use binding::are_flags;
 pub use connection::Connection;
+pub use host::Host;
 pub use kernel::SocketKernel;
+pub use socket::Socket;
+pub use sockets::Sockets;
 pub use writing::write_connections;

@@ -1,5 +1,5 @@
 // read, write and close of sockets, and the calls by their numbers.
-ghost use Rattle.std.specs.Prelude.{◌≡◌, ◌+◌, ◌≤◌, ◌<◌, [], ◌++◌, Some, min, length, OnOk};
+ghost use Rattle.std.specs.Prelude.{◌≡◌, ◌+◌, ◌≤◌, ◌<◌, [], ◌++◌, Some, min, nat_le, length, OnOk};
 ghost use Rattle.nv_calls.specs.Calls.{request};
 ghost use Rattle.nv_sockets.specs.Sockets.{answer, input_of, link_output, read_link, read_socket, with_output, write_link, write_socket, close_socket};
 ghost use Rattle.nv_sockets.specs.Serving.{of_open, unless_many, answered, or_own};
@@ -25,6 +25,13 @@ impl Sockets {
         } else {
             &[]
         }
+    }
+
+    /// Whether so many bytes are all that has come over a connection.
+    pub fn is_read(&self, i: usize, read: usize) -> bool
+        ensures { result ≡ nat_le (length (input_of self.now.net i)) read }
+    {
+        self.input(i).len() <= read
     }
 
     // What was written to a connection.

@@ -72,7 +72,7 @@ pub fn fault_of(fd: u32) -> i32
 #[tactic(auto, unfolding(crate::specs::Sockets::socket_at, crate::specs::Sockets::free_place, crate::specs::Sockets::is_used, crate::specs::Sockets::next_at))]
 impl Sockets {
     /// The socket of a descriptor.
-    pub(crate) fn at(&self, fd: u32) -> Option<Socket>
+    pub fn at(&self, fd: u32) -> Option<Socket>
         ensures is { result ≡ socket_at self.now.net fd }
         ensures low { IfSome result (λ _. 64 ≤ fd) }
         ensures high { IfSome result (λ _. fd < 128) }
@@ -93,7 +93,7 @@ impl Sockets {
     }
 
     /// The place of the least descriptor that is free.
-    pub(crate) fn free_place(&self) -> Option<usize>
+    pub fn free_place(&self) -> Option<usize>
         ensures is { result ≡ free_place self.now.net }
         ensures inside { IfSome result (λ place. place < 64) }
     {
@@ -117,7 +117,7 @@ impl Sockets {
     }
 
     /// The first connection that waits at the port.
-    pub(crate) fn next_at(&self, port: u32) -> Option<usize>
+    pub fn next_at(&self, port: u32) -> Option<usize>
         ensures is { result ≡ next_at self.now.net port }
         ensures inside { IfSome result (λ i. i < length self.now.net.waiting) }
     {

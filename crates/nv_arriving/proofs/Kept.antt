@@ -1,0 +1,141 @@
+-- A kernel whose input arrives keeps what always holds, where more comes and where a call is served.
+use Rattle.std.proofs.Common.{◌≡◌, ◌∙◌, sym, ap, subst, refl, ℕ, zero, suc, ◌+◌, ◌<◌, ◌≤◌, Bool, true, false, List, [], ◌∷◌, ◌++◌, length, take, drop, map, Option, Some, None, arith, length-append, length-drop}
+use Rattle.std.proofs.lemmas.List.{length-map}
+use Rattle.nv_calls.specs.Calls.{Request, Entry}
+use Rattle.nv_calls.specs.Logs.{Start, calls_of, call_of}
+use Rattle.nv_script.specs.Scripts.{Setup}
+use Rattle.nv_served.specs.Learning.{GoesOn}
+use Rattle.nv_served.proofs.LearningLaws.{legal_on, goes_on_same}
+use Rattle.nv_kernel.specs.Crew.{Crew}
+use Rattle.nv_kernel.specs.Kernel.{Spare, IsSound}
+use Rattle.nv_kernel.specs.Serving as kernel
+use Rattle.nv_kernel.proofs.Going.{count_is}
+use Rattle.nv_kernel.proofs.Crews.{few_clones_after}
+use Rattle.nv_kernel.proofs.Keeping.{map_more}
+use Rattle.nv_sockets.specs.Serving.{State, Served, serve}
+use Rattle.nv_sockets.proofs.Going.{own_next}
+use Rattle.nv_arriving.specs.declared.waiting.Want.{Want}
+use Rattle.nv_arriving.specs.declared.arrivals.Arrival as code
+use Rattle.nv_arriving.specs.Arrivals.{Arrival, in_vain}
+use Rattle.nv_arriving.specs.Arriving.{Standing, Stage, wants, taken, ready_for, answer_next, serve_next, first_stage, stage_after, Satisfied, start_of_arrivals}
+use Rattle.nv_arriving.specs.Kernel.{after, Grew}
+use Rattle.nv_arriving.proofs.Coming.{drop_front, taken_few, with_more, after_more, satisfied_last, satisfied_more, stage_last, goes_on}
+use Rattle.nv_arriving.specs.Views.{arrival_of}
+use Rattle.nv_arriving.proofs.Steps.{drop_map, take_map}
+use Rattle.nv_arriving.proofs.Sides.{crew_still, served_still}
+
+-- ---- where more comes
+
+pub few_more : (used : ℕ) (before now : List Arrival) → used ≤ length before → Grew before now → used ≤ length now
+few_more used before now h g = omega (arith, h, ap (λ z. length z) g, length-append before (after before now))
+
+module _ (setup : Setup) (before now : List Arrival) (log : List Entry) where
+  goes_by : (over : Bool) → (over ≡ false → Satisfied (first_stage setup before) (calls_of log)) → (over ≡ true → now ≡ before) → Grew before now
+      → GoesOn log (start_of_arrivals setup before) (start_of_arrivals setup now)
+  goes_by true h same g = goes_on_same log (start_of_arrivals setup before) (start_of_arrivals setup now) (ap (start_of_arrivals setup) (same refl))
+  goes_by false h same g = subst (λ z. GoesOn log (start_of_arrivals setup before) (start_of_arrivals setup z)) (sym g) (goes_on setup before (after before now) log (h refl))
+
+  stage_by : (s : Standing) (used : ℕ) (over : Bool) → used ≤ length before → record { here = s; rest = drop used before } ≡ stage_after (first_stage setup before) (calls_of log)
+      → (over ≡ false → Satisfied (first_stage setup before) (calls_of log)) → (over ≡ true → now ≡ before) → Grew before now
+      → record { here = s; rest = drop used now } ≡ stage_after (first_stage setup now) (calls_of log)
+  stage_by s used true few is h same g = subst (λ z. record { here = s; rest = drop used z } ≡ stage_after (first_stage setup z) (calls_of log)) (sym (same refl)) is
+  stage_by s used false few is h same g =
+      let more : List Arrival = after before now in
+      ap (λ z. record { here = s; rest = drop used z }) g
+      ∙ (ap (λ z. record { here = s; rest = z }) (drop_front used before more few)
+      ∙ (ap (λ (z : Stage). with_more z more) is
+      ∙ (sym (after_more (first_stage setup before) more (calls_of log) (h refl))
+      ∙ ap (λ z. stage_after (first_stage setup z) (calls_of log)) (sym g))))
+
+  satisfied_by : (over over' : Bool) → (over ≡ false → Satisfied (first_stage setup before) (calls_of log)) → (over' ≡ false → over ≡ false) → Grew before now
+      → over' ≡ false → Satisfied (first_stage setup now) (calls_of log)
+  satisfied_by over over' h was g e =
+      subst (λ z. Satisfied (first_stage setup z) (calls_of log)) (sym g) (satisfied_more (first_stage setup before) (after before now) (calls_of log) (h (was e)))
+
+pub goes : (setup : Setup) (before now : List Arrival) (log : List Entry) (over : Bool) → (over ≡ false → Satisfied (first_stage setup before) (calls_of log)) → (over ≡ true → now ≡ before) → Grew before now
+    → GoesOn log (start_of_arrivals setup before) (start_of_arrivals setup now)
+goes setup before now log = goes_by setup before now log
+
+pub staged : (setup : Setup) (before now : List Arrival) (log log' : List Entry) (s : Standing) (used : ℕ) (over : Bool) → log' ≡ log → used ≤ length before
+    → record { here = s; rest = drop used before } ≡ stage_after (first_stage setup before) (calls_of log)
+    → (over ≡ false → Satisfied (first_stage setup before) (calls_of log)) → (over ≡ true → now ≡ before) → Grew before now
+    → record { here = s; rest = drop used now } ≡ stage_after (first_stage setup now) (calls_of log')
+staged setup before now log log' s used over e few is h same g = stage_by setup before now log s used over few is h same g ∙ ap (λ z. stage_after (first_stage setup now) (calls_of z)) (sym e)
+
+pub satisfied : (setup : Setup) (before now : List Arrival) (log log' : List Entry) (over over' : Bool) → log' ≡ log → (over ≡ false → Satisfied (first_stage setup before) (calls_of log)) → (over' ≡ false → over ≡ false) → Grew before now
+    → over' ≡ false → Satisfied (first_stage setup now) (calls_of log')
+satisfied setup before now log log' over over' e h was g o = subst (λ z. Satisfied (first_stage setup now) (calls_of z)) (sym e) (satisfied_by setup before now log over over' h was g o)
+
+pub sound_on : (s t : Start) (log : List Entry) (len cap : ℕ) (spare : Option Spare) (end : Option ℕ) (crew : Crew) → GoesOn log s t → IsSound s log len cap spare end crew → IsSound t log len cap spare end crew
+sound_on s t log len cap spare end crew on k = record {
+  legal = legal_on log s t on k.legal;
+  lawful = k.lawful;
+  reserved = k.reserved;
+  live = k.live;
+  crew_is = k.crew_is;
+  end_is = k.end_is;
+}
+
+-- ---- where a call is served
+
+pub served_more : (g : Stage) (c : Request) → (serve_next g c).here.state.own.served ≡ g.here.state.own.served + 1
+served_more g c =
+    let r : State = (ready_for g c).state in
+    let n = ap (λ (z : kernel.State). z.served) (own_next r c) ∙ count_is r.own (c ∷ []) in
+    omega (arith, n, served_still g.here (take (taken g c) g.rest))
+
+pub clones_more : (g : Stage) (c : Request) → (serve_next g c).here.state.own.crew.clones ≤ g.here.state.own.crew.clones + 1
+clones_more g c =
+    let r : State = (ready_for g c).state in
+    let n = ap (λ (z : kernel.State). z.crew.clones) (own_next r c) in
+    let few = few_clones_after r.own (c ∷ []) in
+    omega (arith, n, few, ap (λ (z : Crew). z.clones) (crew_still g.here (take (taken g c) g.rest)))
+
+pub served_after : (g : Stage) (cs : List Request) → (stage_after g cs).here.state.own.served ≡ g.here.state.own.served + length cs
+served_after g [] = omega arith
+served_after g (c ∷ cs) = omega (arith, served_after (serve_next g c) cs, served_more g c)
+
+pub clones_after : (g : Stage) (cs : List Request) → (stage_after g cs).here.state.own.crew.clones ≤ g.here.state.own.crew.clones + length cs
+clones_after g [] = omega arith
+clones_after g (c ∷ cs) = omega (arith, clones_after (serve_next g c) cs, clones_more g c)
+
+pub log_served : (setup : Setup) (came : List Arrival) (log : List Entry) → (stage_after (first_stage setup came) (calls_of log)).here.state.own.served ≡ length log
+log_served setup came log = omega (arith, served_after (first_stage setup came) (calls_of log), length-map log call_of)
+
+pub log_clones : (setup : Setup) (came : List Arrival) (log : List Entry) → (stage_after (first_stage setup came) (calls_of log)).here.state.own.crew.clones ≤ length log
+log_clones setup came log = omega (arith, clones_after (first_stage setup came) (calls_of log), length-map log call_of)
+
+-- one more call had what it waits for
+pub satisfied_served : (g : Stage) (log : List Entry) (e : Entry) (over : Bool) → (over ≡ false → Satisfied g (calls_of log))
+    → (over ≡ false → in_vain (wants (stage_after g (calls_of log)).here e.call) (stage_after g (calls_of log)).rest ≡ false) → over ≡ false → Satisfied g (calls_of (log ++ e ∷ []))
+satisfied_served g log e over h k o = subst (Satisfied g) (sym (map_more call_of log e)) (satisfied_last g (calls_of log) e.call (h o) (k o))
+
+plus_suc : (m n : ℕ) → suc m + n ≡ suc (m + n)
+plus_suc m n = omega arith
+
+zero_plus : (n : ℕ) → 0 + n ≡ n
+zero_plus n = omega arith
+
+drop_empty : (n : ℕ) → drop {A = Arrival} n [] ≡ []
+drop_empty zero = refl
+drop_empty (suc n) = refl
+
+pub drop_more : (m n : ℕ) (xs : List Arrival) → drop (m + n) xs ≡ drop n (drop m xs)
+drop_more zero n xs = ap (λ k. drop k xs) (zero_plus n)
+drop_more (suc m) n [] = ap (λ k. drop k []) (plus_suc m n) ∙ sym (drop_empty n)
+drop_more (suc m) n (x ∷ xs) = ap (λ k. drop k (x ∷ xs)) (plus_suc m n) ∙ drop_more m n xs
+
+pub taken_inside : (g : Stage) (c : Request) (used : ℕ) (came : List Arrival) → used ≤ length came → g.rest ≡ drop used came → used + taken g c ≤ length came
+taken_inside g c used came h e = omega (arith, h, taken_few (wants g.here c) g.rest, ap (λ z. length z) e, length-drop used came)
+
+-- ---- which of those that came the call takes in
+
+pub count_is_taken : (s : Standing) (c : Request) (came rest : List code.Arrival) (used count : ℕ) → rest ≡ drop used came → count ≡ taken record { here = s; rest = map arrival_of rest } c
+    → count ≡ taken record { here = s; rest = drop used (map arrival_of came) } c
+count_is_taken s c came rest used count r n = n ∙ ap (λ z. taken record { here = s; rest = z } c) (ap (map arrival_of) r ∙ drop_map came used)
+
+pub first_is : (s : Standing) (c : Request) (came rest first : List code.Arrival) (used count : ℕ) → rest ≡ drop used came → count ≡ taken record { here = s; rest = map arrival_of rest } c → first ≡ take count rest
+    → map arrival_of first ≡ take (taken record { here = s; rest = drop used (map arrival_of came) } c) (drop used (map arrival_of came))
+first_is s c came rest first used count r n f =
+    ap (map arrival_of) f ∙ (take_map rest count
+    ∙ (λ i. take (count_is_taken s c came rest used count r n i) ((ap (map arrival_of) r ∙ drop_map came used) i)))

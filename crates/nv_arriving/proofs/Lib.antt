@@ -1,0 +1,6 @@
+pub mod Coming
+pub mod Taken
+pub mod Sides
+pub mod Steps
+pub mod Staged
+pub mod Kept

@@ -1,0 +1,126 @@
+-- What arrives changes of what the kernel holds only the input, the connections and what is over.
+use Rattle.std.proofs.Common.{◌≡◌, ◌∙◌, sym, ap, subst, refl, ℕ, zero, suc, ◌+◌, ◌<◌, ◌≤◌, Bool, true, false, List, [], ◌∷◌, ◌++◌, length, take, drop, map, Option, Some, None, arith, append-nil, append_assoc, length-append}
+use Rattle.nv_calls.specs.declared.numbers.Syscall.{Syscall}
+use Rattle.nv_calls.specs.declared.numbers.Syscall.TheVariants as call
+use Rattle.nv_calls.specs.Calls.{Request}
+use Rattle.nv_calls.specs.Numbers.{syscall_of}
+use Rattle.nv_fs.specs.declared.open_file.OpenFile.{OpenFile}
+use Rattle.nv_fs.specs.declared.open_file.Target.{Target}
+use Rattle.nv_fs.specs.declared.open_file.Target.TheVariants as target
+use Rattle.nv_fs.specs.States.{FileState, open_of}
+use Rattle.nv_fs.specs.Reserved.{Disk, Reserved, IsReserved, IsReservedOf, CanWrite}
+use Rattle.nv_kernel.specs.Crew.{Crew}
+use Rattle.nv_kernel.specs.Reserved.{can_answer, CanAnswer}
+use Rattle.nv_kernel.specs.Serving.{request_arg}
+use Rattle.std.specs.Prelude.{if◌then◌else◌}
+use Rattle.nv_sockets.specs.Reserved.{Buffered, can_send, CanSend}
+use Rattle.nv_arriving.specs.declared.waiting.Want.{Want}
+use Rattle.nv_arriving.specs.Arrivals.{Arrival, Input, InputEnd, ClientsEnd, Connect, Data, End}
+use Rattle.nv_arriving.specs.Arriving.{Standing, wants_as, wants, arrive, arrive_all}
+use Rattle.nv_arriving.specs.Reserved.{input_bytes, CanTakeIn, IsSameBut}
+
+-- ---- the memory for a call stays
+
+abbrev with_in : Disk → List ℕ → ℕ → Disk
+with_in d x y = record { state = record d.state { input = x }; reserved = record d.reserved { input = y } }
+
+target_in : (d : Disk) (x : List ℕ) (y : ℕ) (o : OpenFile) (t : Target) (n : ℕ) → IsReserved d o t n → IsReserved (with_in d x y) o t n
+target_in d x y o target.Console n h = h
+target_in d x y o (target.File i) n h = h
+target_in d x y o (target.Writer k) n h = h
+target_in d x y o _ n h = h
+
+found_in : (d : Disk) (x : List ℕ) (y : ℕ) (o : Option (ℕ × OpenFile)) (n : ℕ) → IsReservedOf d o n → IsReservedOf (with_in d x y) o n
+found_in d x y None n h = h
+found_in d x y (Some o) n h = target_in d x y o.1 o.1.target n h
+
+write_in : (d : Disk) (x : List ℕ) (y fd n : ℕ) → CanWrite d fd n → CanWrite (with_in d x y) fd n
+unfolding CanWrite open_of
+write_in d x y fd n h = found_in d x y (open_of d.state fd) n h
+
+call_in : (k : Syscall) (d : Disk) (x : List ℕ) (y : ℕ) (c : Request) → can_answer k d c → can_answer k (with_in d x y) c
+call_in call.Openat d x y c h = record { opens = h.opens; files = h.files; name = h.name }
+call_in call.Pipe2 d x y c h = record { opens = h.opens; pipes = h.pipes }
+call_in call.Write d x y c h = write_in d x y (request_arg c 0) (length c.payload) h
+call_in call.Writev d x y c h = write_in d x y (request_arg c 0) (length c.payload) h
+call_in _ d x y c h = h
+
+pub can_still : (d e : Disk) (c : Request) → e.state ≡ record d.state { input = e.state.input } → e.reserved ≡ record d.reserved { input = e.reserved.input } → CanAnswer d c → CanAnswer e c
+can_still d e c s r h =
+    let same : with_in d e.state.input e.reserved.input ≡ e = λ i. record { state = sym s i; reserved = sym r i } in
+    subst (λ (z : Disk). CanAnswer z c) same (call_in (syscall_of c.nr) d e.state.input e.reserved.input c h)
+
+pub same_but_none : (d : Disk) → IsSameBut d d
+same_but_none d = record { state = refl; reserved = refl; room = omega arith }
+
+pub same_but_more : (d e f : Disk) → IsSameBut d e → IsSameBut e f → IsSameBut d f
+same_but_more d e f h k = record {
+  state = k.state ∙ ap (λ (z : FileState). record z { input = f.state.input }) h.state;
+  reserved = k.reserved ∙ ap (λ (z : Reserved). record z { input = f.reserved.input }) h.reserved;
+  room = omega (arith, h.room, k.room);
+}
+
+-- ---- what arrives
+
+pub arrive_last : (s : Standing) (xs : List Arrival) (a : Arrival) → arrive_all s (xs ++ a ∷ []) ≡ arrive (arrive_all s xs) a
+arrive_last s [] a = refl
+arrive_last s (x ∷ xs) a = arrive_last (arrive s x) xs a
+
+crew_same : (s : Standing) (a : Arrival) → (arrive s a).state.own.crew ≡ s.state.own.crew
+crew_same s (Input bytes) = refl
+crew_same s InputEnd = refl
+crew_same s ClientsEnd = refl
+crew_same s (Connect port) = refl
+crew_same s (Data i bytes) = refl
+crew_same s (End i) = refl
+
+pub crew_still : (s : Standing) (xs : List Arrival) → (arrive_all s xs).state.own.crew ≡ s.state.own.crew
+crew_still s [] = refl
+crew_still s (x ∷ xs) = crew_still (arrive s x) xs ∙ crew_same s x
+
+served_same : (s : Standing) (a : Arrival) → (arrive s a).state.own.served ≡ s.state.own.served
+served_same s (Input bytes) = refl
+served_same s InputEnd = refl
+served_same s ClientsEnd = refl
+served_same s (Connect port) = refl
+served_same s (Data i bytes) = refl
+served_same s (End i) = refl
+
+pub served_still : (s : Standing) (xs : List Arrival) → (arrive_all s xs).state.own.served ≡ s.state.own.served
+served_still s [] = refl
+served_still s (x ∷ xs) = served_still (arrive s x) xs ∙ served_same s x
+
+pub input_more : (s : Standing) (a : Arrival) → length (arrive s a).state.own.files.input ≡ length s.state.own.files.input + input_bytes (a ∷ [])
+input_more s (Input bytes) = omega (arith, length-append s.state.own.files.input bytes)
+input_more s InputEnd = omega arith
+input_more s ClientsEnd = omega arith
+input_more s (Connect port) = omega arith
+input_more s (Data i bytes) = omega arith
+input_more s (End i) = omega arith
+
+pub bytes_first : (a : Arrival) (xs : List Arrival) → input_bytes (a ∷ xs) ≡ input_bytes (a ∷ []) + input_bytes xs
+bytes_first (Input bytes) xs = omega arith
+bytes_first InputEnd xs = omega arith
+bytes_first ClientsEnd xs = omega arith
+bytes_first (Connect port) xs = omega arith
+bytes_first (Data i bytes) xs = omega arith
+bytes_first (End i) xs = omega arith
+
+pub bytes_last : (xs : List Arrival) (a : Arrival) → input_bytes (xs ++ a ∷ []) ≡ input_bytes xs + input_bytes (a ∷ [])
+bytes_last [] a = omega arith
+bytes_last (x ∷ xs) a = omega (arith, bytes_first x (xs ++ a ∷ []), bytes_first x xs, bytes_last xs a)
+
+-- ---- a call that waits sends nothing
+
+sends_as : (k : Syscall) (s : Standing) (c : Request) (b : Buffered) (w : Want) → wants_as k s c ≡ Some w → can_send k b c
+sends_as call.Write s c b w h = cc
+sends_as call.Writev s c b w h = cc
+sends_as _ s c b w h = tt
+
+sends_by : (bad : Bool) (s : Standing) (c : Request) (b : Buffered) (w : Want) → (if bad then None else wants_as (syscall_of c.nr) s c) ≡ Some w → CanSend b c
+sends_by true s c b w h = cc
+sends_by false s c b w h = sends_as (syscall_of c.nr) s c b w h
+
+pub sends_nothing : (s : Standing) (c : Request) (b : Buffered) (w : Want) → wants s c ≡ Some w → CanSend b c
+unfolding wants
+sends_nothing s c b w h = sends_by c.bad s c b w h

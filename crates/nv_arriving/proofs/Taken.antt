@@ -1,0 +1,65 @@
+-- How many arrivals a call takes in, by those that were looked at; and what grows.
+use Rattle.std.proofs.Common.{◌≡◌, ◌∙◌, sym, ap, subst, refl, ℕ, zero, suc, ◌+◌, ◌<◌, ◌≤◌, Bool, true, false, ◌||◌, List, [], ◌∷◌, ◌++◌, length, take, drop, map, Option, Some, None, arith, append-nil, append_assoc, length-append}
+use Rattle.std.specs.Prelude.{if◌then◌else◌}
+use Rattle.nv_arriving.specs.declared.waiting.Want.{Want}
+use Rattle.nv_arriving.specs.Arrivals.{Arrival, ends, any_ends, until, taken_for, in_vain}
+use Rattle.nv_arriving.specs.Kernel.{after, Grew}
+use Rattle.nv_arriving.proofs.Coming.{drop_front, any_more}
+
+-- none of the first ends the wait
+pub any_none : (w : Want) (xs ys : List Arrival) → any_ends w xs ≡ false → any_ends w (xs ++ ys) ≡ any_ends w ys
+any_none w [] ys h = refl
+any_none w (a ∷ xs) ys h = by (ends w a) refl h (any_none w xs ys) where
+  by : (b : Bool) → ends w a ≡ b → (b || any_ends w xs) ≡ false → (any_ends w xs ≡ false → any_ends w (xs ++ ys) ≡ any_ends w ys) → any_ends w (a ∷ (xs ++ ys)) ≡ any_ends w ys
+  by true e k next = cc
+  by false e k next = ap (λ (b : Bool). b || any_ends w (xs ++ ys)) e ∙ next k
+
+pub any_last : (w : Want) (xs : List Arrival) (a : Arrival) → ends w a ≡ true → any_ends w (xs ++ a ∷ []) ≡ true
+any_last w [] a h = ap (λ (b : Bool). b || false) h
+any_last w (x ∷ xs) a h = by (ends w x) (any_last w xs a h) where
+  by : (b : Bool) → any_ends w (xs ++ a ∷ []) ≡ true → (b || any_ends w (xs ++ a ∷ [])) ≡ true
+  by true k = refl
+  by false k = k
+
+pub any_back : (w : Want) (xs ys : List Arrival) → any_ends w ys ≡ true → any_ends w (xs ++ ys) ≡ true
+any_back w [] ys h = h
+any_back w (x ∷ xs) ys h = by (ends w x) (any_back w xs ys h) where
+  by : (b : Bool) → any_ends w (xs ++ ys) ≡ true → (b || any_ends w (xs ++ ys)) ≡ true
+  by true k = refl
+  by false k = k
+
+pub until_none : (w : Want) (xs ys : List Arrival) → any_ends w xs ≡ false → until w (xs ++ ys) ≡ length xs + until w ys
+until_none w [] ys h = omega arith
+until_none w (a ∷ xs) ys h = by (ends w a) refl h (until_none w xs ys) where
+  by : (b : Bool) → ends w a ≡ b → (b || any_ends w xs) ≡ false → (any_ends w xs ≡ false → until w (xs ++ ys) ≡ length xs + until w ys) → until w (a ∷ (xs ++ ys)) ≡ suc (length xs) + until w ys
+  by true e k next = cc
+  by false e k next = let n = next k in omega (arith, n, ap (λ (b : Bool). if b then 1 else suc (until w (xs ++ ys))) e)
+
+-- ---- what grows
+
+pub drop_all : {A : Type 0} (xs ys : List A) → drop (length xs) (xs ++ ys) ≡ ys
+drop_all [] ys = refl
+drop_all (x ∷ xs) ys = drop_all xs ys
+
+pub grew_by : {A : Type 0} (before now more : List A) → now ≡ before ++ more → Grew before now
+grew_by before now more h = h ∙ ap (λ z. before ++ z) (sym (ap (drop (length before)) h ∙ drop_all before more))
+
+pub grew_same : {A : Type 0} (before now : List A) → now ≡ before → Grew before now
+grew_same before now h = grew_by before now [] (h ∙ sym (append-nil before))
+
+pub grew_more : {A : Type 0} (before now last more : List A) → Grew before now → last ≡ now ++ more → Grew before last
+grew_more before now last more h k = grew_by before last (after before now ++ more) (k ∙ (ap (λ z. z ++ more) h ∙ append_assoc before (after before now) more))
+
+pub after_more : {A : Type 0} (before now more : List A) → Grew before now → after before (now ++ more) ≡ after before now ++ more
+after_more before now more h = ap (λ z. drop (length before) (z ++ more)) h ∙ (ap (drop (length before)) (append_assoc before (after before now) more) ∙ drop_all before (after before now ++ more))
+
+pub grew_still : {A : Type 0} (before now last : List A) → Grew before now → last ≡ now → Grew before last
+grew_still before now last h e = grew_by before last (after before now) (e ∙ h)
+
+-- what a call waits for was heard
+pub learned : (w : Want) (used : ℕ) (before now : List Arrival) → used ≤ length before → Grew before now → any_ends w (after before now) ≡ true → any_ends w (drop used now) ≡ true
+learned w used before now h g e =
+    ap (λ z. any_ends w (drop used z)) g ∙ (ap (any_ends w) (drop_front used before (after before now) h) ∙ any_back w (drop used before) (after before now) e)
+
+pub not_waits : (w : Want) (xs : List Arrival) → any_ends w xs ≡ true → in_vain (Some w) xs ≡ false
+not_waits w xs h = ap (λ (b : Bool). if b then false else true) h

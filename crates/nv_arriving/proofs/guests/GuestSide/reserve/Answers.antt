@@ -1,0 +1,15 @@
+use Rattle.std.proofs.Common.{◌≡◌, ◌∙◌, ap, sym}
+use Rattle.std.proofs.lemmas.Result.{on_ok_weaker}
+use Rattle.nv_calls.specs.Calls.{request}
+use Rattle.nv_kernel.specs.Reserved.{CanAnswer}
+use Rattle.nv_fs.specs.States.{FileState}
+use Rattle.nv_fs.specs.Reserved.{Disk}
+use Rattle.nv_arriving.proofs.Sides.{can_still}
+use Rattle.nv_arriving.proofs.guests.GuestSide.reserve.Goals as goal
+
+pub returns-clause-ready : goal.returns-clause-ready
+returns-clause-ready c =
+    let d : Disk = c.reserve.new.self.devices.files in
+    let e : Disk = c.reserve_input.new.self in
+    let s : e.state ≡ record d.state { input = e.state.input } = c.reserve_input.ensures.state ∙ ap (λ (z : FileState). record d.state { input = z.input }) (sym c.reserve_input.ensures.state) in
+    on_ok_weaker {Q = CanAnswer e (request c.args.call.now)} c.reserve_input.result (λ _. can_still d e (request c.args.call.now) s c.reserve_input.ensures.reserved c.in_ok-reserve.ensures.ready) c.reserve_input.ensures.ok

@@ -1,0 +1,5 @@
+pub mod Arrivals
+pub mod Arriving
+pub mod Reserved
+pub mod Views
+pub mod Kernel

@@ -1,0 +1,169 @@
+// The kernel, with the log of the calls that it served.
+ghost use Rattle.std.specs.Prelude.{◌≡◌, ◌≤◌, [], IsTrue, IfOk, length, map, take};
+ghost use Rattle.nv_calls.specs.Calls.{request};
+ghost use Rattle.nv_script.specs.Scripts.{is_script};
+ghost use Rattle.nv_script.specs.Views.{setup_of};
+ghost use Rattle.nv_arriving.specs.Arriving.{taken};
+ghost use Rattle.nv_arriving.specs.Views.{arrival_of, standing_of};
+
+use crate::arrivals::{Arrival, Outside, rest};
+use crate::guests::GuestSide;
+use crate::waiting::taken_for;
+use nv_calls::{Bytes, Call, Event, MOST_BYTES};
+use nv_kernel::spare::{blank, fill, keep, next_end};
+use nv_script::Script;
+use nv_served::SyscallKernel;
+use std::alloc::{AllocError, Global};
+use std::marker::Model;
+use std::snapshot::Snapshot;
+
+/// The kernel of a process with sockets, over what a script gives and what comes from outside.
+#[derive(Drop)]
+pub struct ArrivingKernel<O: Outside> {
+    alloc: Global,
+    script: Snapshot<Script>,
+    guests: GuestSide,
+    outside: O,
+    /// What has come from outside.
+    came: Vec<Arrival>,
+    /// How many of these the guests' side has.
+    used: usize,
+    /// Nothing more comes from outside.
+    over: bool,
+    log: Vec<Event>,
+    /// Where a call's bytes are put before its event has them.
+    out: Bytes,
+    spare: Option<Event>,
+    end: Option<u8>,
+}
+
+impl<O: Outside> Model for ArrivingKernel<O> {
+    ghost use Rattle.std.specs.Prelude.{◌≡◌, ◌≤◌, false, map, drop, option_map, vec_len, vec_capacity};
+    ghost use Rattle.nv_calls.specs.Calls.{entry};
+    ghost use Rattle.nv_calls.specs.Logs.{calls_of};
+    ghost use Rattle.nv_script.specs.Views.{setup_of};
+    ghost use Rattle.nv_kernel.specs.Kernel.{IsSound, spare_of};
+    ghost use Rattle.nv_kernel.specs.Reserved.{crew_of};
+    ghost use Rattle.nv_arriving.specs.Arriving.{start_of_arrivals, first_stage, stage_after, Satisfied};
+    ghost use Rattle.nv_arriving.specs.Kernel.{KernelState};
+    ghost use Rattle.nv_arriving.specs.Views.{arrival_of, standing_of};
+
+    ghost Value = { KernelState };
+
+    ghost view = { λ k. record {
+        log = map entry k.log.items;
+        setup = setup_of k.script.value;
+        came = map arrival_of k.came.items;
+        over = k.over;
+        spare = option_map spare_of k.spare;
+        disk = k.guests.host.devices.files;
+        buffered = k.guests.host.sockets
+    } };
+
+    ghost invariant = { λ k. IsSound (start_of_arrivals (setup_of k.script.value) (map arrival_of k.came.items)) (map entry k.log.items) (vec_len k.log) (vec_capacity k.log) (option_map spare_of k.spare) k.end (crew_of k.guests.host.devices.threads)
+        × (record { here = standing_of k.guests; rest = drop k.used (map arrival_of k.came.items) } ≡ stage_after (first_stage (setup_of k.script.value) (map arrival_of k.came.items)) (calls_of (map entry k.log.items)))
+        × (k.used ≤ vec_len k.came)
+        × (k.over ≡ false → Satisfied (first_stage (setup_of k.script.value) (map arrival_of k.came.items)) (calls_of (map entry k.log.items)))
+        × (k.out.capacity ≡ 4096) };
+}
+
+// How many of those that have come a call takes in.
+fn taken(guests: &GuestSide, rest: &[Arrival], call: &Call) -> usize
+    ensures is { result ≡ taken (record { here = standing_of guests.now; rest = map arrival_of rest.now }) (request call.now) }
+    ensures few { result ≤ length rest.now }
+{
+    taken_for(guests.wants(call), rest)
+}
+
+// The first of them.
+fn first(rest: &[Arrival], count: usize) -> &[Arrival]
+    requires { count ≤ length rest.now }
+    ensures { result.now ≡ take count rest.now }
+{
+    &rest[..count]
+}
+
+impl<O: Outside> ArrivingKernel<O> {
+    /// A kernel that has served nothing, over what the script gives and this outside.
+    pub fn make(alloc: Global, script: &Script, outside: O) -> Result<ArrivingKernel<O>, AllocError>
+        requires script { IsTrue (is_script (setup_of script.now)) }
+        ensures { IfOk result (λ k. (k.log ≡ []) × (k.setup ≡ setup_of script.now) × (k.came ≡ [])) }
+    {
+        let guests = GuestSide::make(alloc, script)?;
+        let out = Bytes::make(alloc, MOST_BYTES)?;
+        Ok(ArrivingKernel {
+            alloc,
+            script: Snapshot::of(script),
+            guests,
+            outside,
+            came: Vec::new(alloc),
+            used: 0,
+            over: false,
+            log: Vec::new(alloc),
+            out,
+            spare: None,
+            end: None,
+        })
+    }
+}
+
+impl<O: Outside> SyscallKernel for ArrivingKernel<O> {
+    ghost use Rattle.nv_arriving.specs.Arriving.{start_of_arrivals};
+    ghost use Rattle.nv_arriving.specs.Kernel.{CanServe};
+
+    ghost log = { λ k. k.log };
+
+    ghost start = { λ k. start_of_arrivals k.setup [] };
+
+    // What has come, taken in or not.
+    ghost known = { λ k. start_of_arrivals k.setup k.came };
+
+    ghost is_ready = { CanServe };
+
+    fn reserve(&mut self, call: &Call) -> Result<(), AllocError> {
+        self.spare = None;
+        let event = blank(self.alloc, call)?;
+        self.log.reserve(1)?;
+        let want = self.guests.wants(call);
+        self.outside.learn(
+            self.alloc,
+            &mut self.came,
+            self.used,
+            &mut self.over,
+            want,
+        )?;
+        let rest = rest(&self.came, self.used);
+        let count = taken(&self.guests, rest, call);
+        self.guests.reserve(call, first(rest, count))?;
+        self.spare = Some(event);
+        Ok(())
+    }
+
+    fn serve(&mut self, call: &Call) {
+        let Some(mut event) = self.spare.take() else {
+            unreachable!()
+        };
+        let stamp = self.log.as_slice().len() as u32;
+        let rest = rest(&self.came, self.used);
+        let count = taken(&self.guests, rest, call);
+        let ret = self
+            .guests
+            .answer(call, first(rest, count), &mut self.out);
+        self.used += count;
+        fill(&mut event, call, stamp, ret, &self.out);
+        self.end = next_end(self.guests.host.is_over(), call);
+        keep(&mut self.log, event);
+    }
+
+    fn history(&self) -> &[Event] {
+        self.log.as_slice()
+    }
+
+    fn output(&self) -> &[u8] {
+        self.guests.host.devices.files.console()
+    }
+
+    fn ended(&self) -> Option<u8> {
+        self.end
+    }
+}
