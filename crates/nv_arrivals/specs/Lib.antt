@@ -1,0 +1,7 @@
+pub mod Arrivals
+pub mod Reading
+pub mod Writing
+pub mod Order
+pub mod Pieces
+pub mod Views
+pub mod inner

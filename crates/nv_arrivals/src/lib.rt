@@ -1,0 +1,22 @@
+//! What comes from outside while a run goes on, one arrival after another.
+//! Types: `Arrival`, `ArrivalCause`, `Order`. Functions: `read` and `put_line` (an arrival's line each way), `piece` (plain input cut into arrivals).
+//! Proved: a line is read and written exactly, and what was written is read back; `Order` takes what may come after what came;
+//! plain input is cut at each newline and after 2,000 bytes.
+//! Above: scripts.
+#![tactic(auto)]
+
+mod arrival;
+mod laws;
+mod order;
+mod pieces;
+mod reading;
+mod word;
+mod writing;
+
+pub use arrival::{Arrival, ArrivalCause, MOST_ARRIVAL, MOST_CLIENTS};
+pub use laws::plain_input_comes;
+pub use order::Order;
+pub use pieces::piece;
+pub use reading::read;
+pub use word::is_word;
+pub use writing::put_line;

@@ -1,0 +1,38 @@
+// The words that begin an arrival's line.
+ghost use Rattle.std.specs.Prelude.{◌≡◌, is_some};
+ghost use Rattle.nv_arrivals.specs.Reading.{word_of, is_word};
+
+use nv_text::find;
+
+/// What an arrival's line is about.
+#[derive(Clone, Copy, Debug, PartialEq, Eq)]
+pub enum Word {
+    Line,
+    Input,
+    Connect,
+    Data,
+    End,
+}
+
+const WORDS: [(&str, Word); 5] = [
+    ("line", Word::Line),
+    ("input", Word::Input),
+    ("connect", Word::Connect),
+    ("data", Word::Data),
+    ("end", Word::End),
+];
+
+/// What a line that begins with this word is about.
+#[tactic(auto, unfolding(crate::specs::Reading::words))]
+pub fn word_of(word: &[u8]) -> Option<Word>
+    ensures { result ≡ word_of word.now }
+{
+    find(&WORDS, word)
+}
+
+/// Whether a line that begins with this word is an arrival's.
+pub fn is_word(word: &[u8]) -> bool
+    ensures { result ≡ is_word word.now }
+{
+    word_of(word).is_some()
+}
