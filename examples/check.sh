@@ -200,7 +200,7 @@ else
 fi
 
 cd ../service
-for version in service_1 service_2 service_3; do
+for version in service_1 service_2 service_3 service_4; do
     "$program" asm "$version.s" >"$work/$version"
 done
 row 0 expected/rules rules --asm rules.txt
@@ -212,6 +212,8 @@ row 0 expected/patched_without_rules run --script script "$work/service_1" "$wor
 row 0 expected/patched run --script script --rules "$work/rules" "$work/service_1" "$work/service_3"
 row 0 expected/all run --script script --rules "$work/rules" "$work/service_2" "$work/service_3" "$work/service_1"
 row 0 expected/live_update run --script update --rules "$work/rules" "$work/service_1" "$work/service_3"
+"$program" rules --asm takes.txt >"$work/takes"
+row 0 expected/other_texts run --script script --rules "$work/takes" "$work/service_2" "$work/service_4"
 row 0 expected/bad_live_update run --script update "$work/service_1" "$work/service_2"
 record 0 "$work/trace" --script script "$work/service_1"
 record 0 "$work/trace_2" --script script "$work/service_2" "$work/service_1"

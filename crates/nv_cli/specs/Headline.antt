@@ -136,10 +136,11 @@ use Rattle.nv_replay.specs.Follow.{Follower, fresh, Judge, no_rules, consumed, j
 use Rattle.nv_replay.specs.Hands.{has, is_handed, unless_handed, next_or_hand, lead_to_hand}
 use Rattle.nv_replay.specs.Lead.{Leader, is_cut, is_memory, cut_of, logged, led, unless_ended, next_call}
 use Rattle.nv_replay.specs.Monitor.{Part, Run, numbers, part, begun, with_span, led_line, after_lead, tracked_by, leads_on, turn_by, turn_of, turn_in, turn, told_standing, lines_of, account_of}
-use Rattle.nv_replay.specs.Permits.{Permit, given, failed, passed, permit}
+use Rattle.nv_replay.specs.Permits.{Permit, given, failed, passed, took, permit}
 use Rattle.nv_replay.specs.Sequence.{Account, is_going, cuts_of}
 use Rattle.nv_replay.specs.Settling.{stage}
 use Rattle.nv_replay.specs.Survivors.{alone, IsSurvivor, HasNoClone}
+use Rattle.nv_replay.specs.Taking.{is_alike, is_through, is_writing, fits, all_written, result_by, taken}
 use Rattle.nv_replay.specs.Tracks.{is_in, is_led, retraced_by, tracked, track_on, track_next, track}
 use Rattle.nv_report.specs.Events.{payload_text, call_text, result_text, event_text}
 use Rattle.nv_report.specs.Json.{natural, integer, list_value, hex_value, word_json, payload_value, event_value, span_value, led_value, version_members, version_value, report_object, report_value}

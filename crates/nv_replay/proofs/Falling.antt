@@ -11,7 +11,7 @@ use Rattle.nv_replay.specs.declared.fate.Fate.TheVariants.{Exited, Fault as Faul
 use Rattle.nv_machine.specs.declared.outcome.FaultKind.TheVariants.{Calls}
 use Rattle.nv_calls.specs.Logs.{Start, served}
 use Rattle.nv_replay.specs.Lead.{Leader, is_cut, logged, led, unless_ended, next_call}
-use Rattle.nv_replay.specs.Permits.{Permit, Give, Pass, No}
+use Rattle.nv_replay.specs.Permits.{Permit, Give, Pass, Consume, No}
 use Rattle.nv_replay.specs.Follow.{Follower, Judge, decided, met, judged, consumed, permit_by, refusal_by, follow_next, on_next}
 use Rattle.nv_replay.proofs.Settled.{Falls}
 
@@ -38,6 +38,7 @@ module _ {P : Type 0} (g : Behaviour P) (laws : IsProcess g) (judge : Judge) whe
   unfolding size judged
   judged_falls n s p t f (Give r) l e h k = omega (arith, laws.falls p t r h)
   judged_falls n s p t f Pass l e h k = omega arith
+  judged_falls n s p t f (Consume r) l e h k = omega (arith, laws.falls p t r h)
   judged_falls n s p t f No l e h k = rw e (omega arith)
 
   pub consumed_falls : (n : ℕ) (s : Follower P) (p : P) (t : ℕ) (r : Response) → s.seen < n → s.fate ≡ None → g.pending p t ≡ true

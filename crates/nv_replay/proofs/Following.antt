@@ -8,7 +8,7 @@ use Rattle.nv_threads.specs.declared.turns.Came.TheVariants.{Asked, Fault}
 use Rattle.nv_machine.specs.declared.outcome.FaultKind.{FaultKind}
 use Rattle.nv_replay.specs.declared.fate.Fate.{Fate}
 use Rattle.nv_replay.specs.declared.fate.Fate.TheVariants.{Fault as Faulted}
-use Rattle.nv_replay.specs.Permits.{Permit, Give, Pass, No, HasGiven}
+use Rattle.nv_replay.specs.Permits.{Permit, Give, Pass, Consume, No, HasGiven}
 use Rattle.nv_replay.specs.Follow.{Follower, Judge, decided, met, judged, consumed, permit_by, refusal_by}
 
 module _ {P : Type 0} (g : Behaviour P) (judge : Judge) (e : Entry) (s : Follower P) where
@@ -16,6 +16,7 @@ module _ {P : Type 0} (g : Behaviour P) (judge : Judge) (e : Entry) (s : Followe
   unfolding judged
   judged_again q p t f (Give r) = refl
   judged_again q p t f Pass = refl
+  judged_again q p t f (Consume r) = refl
   judged_again q p t f No = refl
 
   -- the process before is of no account
@@ -55,6 +56,11 @@ module _ {P : Type 0} (g : Behaviour P) (s : Follower P) (p : P) (t : ℕ) (f : 
   pub judged_drop : (o : Permit) → o ≡ Pass → judged g s p t f o ≡ record s { process = p; seen = s.seen + 1; rewrites = s.rewrites + 1 }
   unfolding judged
   judged_drop o h = rw h refl
+
+  pub judged_consume : (o : Permit) (r : Response) → o ≡ Consume r
+      → judged g s p t f o ≡ record s { process = g.answered p t r; seen = s.seen + 1; rewrites = s.rewrites + 1 }
+  unfolding judged
+  judged_consume o r h = rw h refl
 
   pub judged_no : (o : Permit) → o ≡ No → judged g s p t f o ≡ record s { process = p; fate = Some f }
   unfolding judged

@@ -25,3 +25,4 @@ pub mod Survivors
 pub mod OneVersion
 pub mod Agreeing
 mod Rows
+mod TakingRows

@@ -6,12 +6,12 @@ use Rattle.nv_calls.specs.Calls.{Request, Response, Entry}
 use Rattle.nv_threads.specs.Behaviours.{Behaviour}
 use Rattle.nv_rules.specs.declared.outcome.Verdict.{Verdict}
 use Rattle.nv_replay.specs.declared.version.Followed.{Followed}
-use Rattle.nv_replay.specs.declared.version.Followed.TheVariants.{Matched, Rewrote, Skipped, Dropped}
+use Rattle.nv_replay.specs.declared.version.Followed.TheVariants.{Matched, Rewrote, Skipped, Took, Dropped}
 use Rattle.nv_calls.specs.Numbers.{is_of_threads}
-use Rattle.nv_replay.specs.Permits.{Permit, Give, Pass, No, failed, passed}
+use Rattle.nv_replay.specs.Permits.{Permit, Give, Pass, Consume, No, failed, passed}
 use Rattle.nv_replay.specs.Follow.{Follower, IsCounted, judged, refusal_of}
 use Rattle.nv_replay.specs.Version.{Running}
-use Rattle.nv_replay.proofs.Following.{judged_give, judged_drop, judged_no}
+use Rattle.nv_replay.proofs.Following.{judged_give, judged_drop, judged_consume, judged_no}
 
 module _ {P : Type 0} (g : Behaviour P) (t value : ℕ) (e : Entry) where
   -- as the call is permitted
@@ -29,6 +29,10 @@ module _ {P : Type 0} (g : Behaviour P) (t value : ℕ) (e : Entry) where
   pub is_passed : (o : Request → Permit) (r n : Running P) → o (g.call r.at.process t) ≡ Pass
       → n ≡ record r { at = record r.at { seen = r.at.seen + 1; rewrites = r.at.rewrites + 1 } } → n ≡ obeyed o r
   is_passed o r n h k = k ∙ ap (λ (x : Follower P). record r { at = x }) (sym (judged_drop g r.at r.at.process t _ _ h))
+
+  pub is_taken : (o : Request → Permit) (r n : Running P) (reply : Response) → o (g.call r.at.process t) ≡ Consume reply
+      → n ≡ record r { at = record r.at { process = g.answered r.at.process t reply; seen = r.at.seen + 1; rewrites = r.at.rewrites + 1 } } → n ≡ obeyed o r
+  is_taken o r n reply h k = k ∙ ap (λ (x : Follower P). record r { at = x }) (sym (judged_consume g r.at r.at.process t _ _ reply h))
 
 -- errors end at 4,095
 pub failed_far : (c : Request) (k : ℕ) → 4095 < k → failed c k ≡ No
@@ -61,5 +65,6 @@ passed_drops e h = rw h refl
 pub told_again : {P : Type 0} (v : Verdict) (f : Followed) (a b n : Follower P) → a.seen ≡ b.seen → a.rewrites ≡ b.rewrites → IsCounted v f a n → IsCounted v f b n
 told_again v Matched a b n h k t = (t.0 ∙ ap (λ x. x + 1) h, t.1 ∙ k)
 told_again v (Rewrote w) a b n h k t = (t.0 ∙ h, t.1 ∙ ap (λ x. x + 1) k, t.2, t.3)
-told_again v Skipped a b n h k t = (t.0 ∙ ap (λ x. x + 1) h, t.1 ∙ ap (λ x. x + 1) k, t.2)
+told_again v Skipped a b n h k t = (t.0 ∙ ap (λ x. x + 1) h, t.1 ∙ ap (λ x. x + 1) k, t.2, t.3)
+told_again v Took a b n h k t = (t.0 ∙ ap (λ x. x + 1) h, t.1 ∙ ap (λ x. x + 1) k, t.2, t.3)
 told_again v (Dropped fate) a b n h k t = (t.0 ∙ h, t.1 ∙ k, t.2)

@@ -12,10 +12,11 @@ use Rattle.nv_threads.specs.declared.turns.Came.TheVariants.{Asked, Fault}
 use Rattle.nv_replay.specs.declared.fate.Fate.{Fate}
 use Rattle.nv_replay.specs.declared.fate.Fate.TheVariants.{Exited}
 use Rattle.nv_rules.specs.declared.outcome.Verdict.{Verdict}
-use Rattle.nv_rules.specs.declared.outcome.Verdict.TheVariants.{Allow, Errno, Skip, Refuse}
+use Rattle.nv_rules.specs.declared.outcome.Verdict.TheVariants.{Allow, Errno, Skip, Take, Refuse}
 use Rattle.nv_rules.specs.Verdicts.{verdict_of}
 use Rattle.nv_calls.specs.Numbers.{syscall_of, is_of_threads}
-use Rattle.nv_replay.specs.Permits.{Permit, Give, Pass, No, permit, given}
+use Rattle.nv_replay.specs.Permits.{Permit, Give, Pass, Consume, No, permit, given, took}
+use Rattle.nv_replay.specs.Taking.{is_alike, fits, result_by, taken}
 use Rattle.nv_calls.specs.Constants.{constant_of}
 use Rattle.nv_replay.specs.Follow.{Follower, Judge, decided, met, judged, consumed, permit_by, refusal_by, IsInStep, is_exited}
 use Rattle.nv_replay.proofs.Falling.{within}
@@ -52,6 +53,7 @@ pass_quiet c e (Errno k) h = elim (nat_le k 4095 && not (is_of_threads c.nr)) as
     (λ b. cond b (Give (record { ret = pos 0 -ℤ pos k; payload = [] })) No ≡ Pass
     → is_of_threads e.call.nr ≡ false) [ true ↦ λ q. cc | false ↦ λ q. cc ] h
 pass_quiet c e Skip h = elim (is_of_threads e.call.nr) as (λ b. cond b No Pass ≡ Pass → b ≡ false) [ true ↦ λ q. cc | false ↦ λ q. refl ] h
+pass_quiet c e Take h = elim (taken c e) as (λ o. took e o ≡ Pass → is_of_threads e.call.nr ≡ false) [ None ↦ λ k. cc | Some x ↦ λ k. cc ] h
 pass_quiet c e (Refuse v) h = cc
 
 or_true : (a b c : Bool) → (a || b || c) ≡ true → (a ≡ true) ⊎ ((b ≡ true) ⊎ (c ≡ true))
@@ -96,7 +98,44 @@ give_quiet c e Allow r h = constant_quiet c (is_of_threads c.nr) r refl h
 give_quiet c e (Errno k) r h = errno_quiet (nat_le k 4095) (is_of_threads c.nr) (record { ret = pos 0 -ℤ pos k; payload = [] }) r h
 give_quiet c e Skip r h = elim (is_of_threads e.call.nr) as (λ b. cond b No Pass ≡ Give r
     → is_of_threads c.nr ≡ false) [ true ↦ λ q. cc | false ↦ λ q. cc ] h
+give_quiet c e Take r h = elim (taken c e) as (λ o. took e o ≡ Give r → is_of_threads c.nr ≡ false) [ None ↦ λ k. cc | Some x ↦ λ k. cc ] h
 give_quiet c e (Refuse v) r h = cc
+
+-- a call that takes an event moves no thread, and has its number
+pub record IsQuiet (c : Request) (e : Entry) : Type 0 where
+  pub call : is_of_threads c.nr ≡ false
+  pub event : is_of_threads e.call.nr ≡ false
+
+alike_quiet : (c : Request) (e : Entry) (a b d f : Bool) → (a && b && d && not f) ≡ true → (c.nr == e.call.nr) ≡ b → is_of_threads c.nr ≡ f → IsQuiet c e
+alike_quiet c e true true true false h k q =
+    let n : c.nr ≡ e.call.nr = is_number c.nr e.call.nr k in
+    record { call = q; event = sym (ap is_of_threads n) ∙ q }
+alike_quiet c e true true true true h k q = cc
+alike_quiet c e true true false f h k q = cc
+alike_quiet c e true false d f h k q = cc
+alike_quiet c e false b d f h k q = cc
+
+taken_if : (c : Request) (e : Entry) (ret : ℤ) (a b : Bool) (o : Option ℤ) → cond (a && b) o None ≡ Some ret → a ≡ true
+taken_if c e ret true b o h = refl
+taken_if c e ret false b o h = cc
+
+pub taken_quiet : (c : Request) (e : Entry) (ret : ℤ) → taken c e ≡ Some ret → IsQuiet c e
+unfolding taken
+taken_quiet c e ret h =
+    let a : is_alike c e.call ≡ true = taken_if c e ret (is_alike c e.call) (fits (syscall_of c.nr) c e) (result_by (syscall_of c.nr) c e) h in
+    alike_quiet c e _ _ _ _ a refl refl
+
+took_quiet : (c : Request) (e : Entry) (r : Response) (o : Option ℤ) → taken c e ≡ o → took e o ≡ Consume r → IsQuiet c e
+took_quiet c e r None k h = cc
+took_quiet c e r (Some ret) k h = taken_quiet c e ret k
+
+consume_quiet : (c : Request) (e : Entry) (v : Verdict) (r : Response) → permit c e v ≡ Consume r → IsQuiet c e
+consume_quiet c e Allow r h = elim (constant_of c) as (λ o. given o ≡ Consume r → IsQuiet c e) [ None ↦ λ k. cc | Some x ↦ λ k. cc ] h
+consume_quiet c e (Errno k) r h = elim (nat_le k 4095 && not (is_of_threads c.nr)) as
+    (λ b. cond b (Give (record { ret = pos 0 -ℤ pos k; payload = [] })) No ≡ Consume r → IsQuiet c e) [ true ↦ λ q. cc | false ↦ λ q. cc ] h
+consume_quiet c e Skip r h = elim (is_of_threads e.call.nr) as (λ b. cond b No Pass ≡ Consume r → IsQuiet c e) [ true ↦ λ q. cc | false ↦ λ q. cc ] h
+consume_quiet c e Take r h = took_quiet c e r (taken c e) refl h
+consume_quiet c e (Refuse v) r h = cc
 
 -- one more event of a log
 pub live_more : (live : List ℕ) (log : List Entry) (i : ℕ) (e : Entry) → slice_get log i ≡ Some e
@@ -133,22 +172,29 @@ module _ {P : Type 0} (g : Behaviour P) (laws : IsProcess g) (judge : Judge) whe
   judged_by : (log : List Entry) (e : Entry) (s : Follower P) (p : P) (t : ℕ) (f : Fate) (o : Permit) → slice_get log s.seen ≡ Some e
       → IsInStep g log s → s.fate ≡ None → g.live p ≡ g.live s.process → g.pending p t ≡ true → Contains (g.live p) t
       → (o ≡ Pass → is_of_threads e.call.nr ≡ false) → ((r : Response) → o ≡ Give r → is_of_threads (g.call p t).nr ≡ false)
-      → is_exited (Some f) ≡ false → IsInStep g log (judged g s p t f o)
+      → ((r : Response) → o ≡ Consume r → IsQuiet (g.call p t) e) → is_exited (Some f) ≡ false → IsInStep g log (judged g s p t f o)
   unfolding judged
-  judged_by log e s p t f (Give r) h i n l q c a b x =
+  judged_by log e s p t f (Give r) h i n l q c a b d x =
       let k = given_live p t 0 r q c (b r refl) ∙ l in record {
         within = i.within;
         live = λ m. k ∙ i.live n;
         on = λ m. still_on s.process (g.answered p t r) (g.ended (g.answered p t r)) refl k (i.on n);
         exited = λ m. let z = rw n at m in cc;
       }
-  judged_by log e s p t f Pass h i n l q c a b x = record {
+  judged_by log e s p t f Pass h i n l q c a b d x = record {
     within = omega (arith, within log s.seen e h);
     live = λ m. l ∙ (i.live n ∙ (sym (quiet_live (live_after (take s.seen log)) e (a refl)) ∙ sym (live_more (100 ∷ []) log s.seen e h)));
     on = λ m. still_on s.process p (g.ended p) refl l (i.on n);
     exited = λ m. let z = rw n at m in cc;
   }
-  judged_by log e s p t f No h i n l q c a b x = record {
+  judged_by log e s p t f (Consume r) h i n l q c a b d x =
+      let k = given_live p t 0 r q c (d r refl).call ∙ l in record {
+        within = omega (arith, within log s.seen e h);
+        live = λ m. k ∙ (i.live n ∙ (sym (quiet_live (live_after (take s.seen log)) e (d r refl).event) ∙ sym (live_more (100 ∷ []) log s.seen e h)));
+        on = λ m. still_on s.process (g.answered p t r) (g.ended (g.answered p t r)) refl k (i.on n);
+        exited = λ m. let z = rw n at m in cc;
+      }
+  judged_by log e s p t f No h i n l q c a b d x = record {
     within = i.within;
     live = λ m. cc;
     on = λ m. cc;
@@ -159,7 +205,7 @@ module _ {P : Type 0} (g : Behaviour P) (laws : IsProcess g) (judge : Judge) whe
       → IsInStep g log s → s.fate ≡ None → g.live p ≡ g.live s.process → g.pending p t ≡ true → Contains (g.live p) t
       → is_exited (Some f) ≡ false → IsInStep g log (judged g s p t f (permit (g.call p t) e v))
   judged_in_step log e s p t f v h i n l q c x = judged_by log e s p t f (permit (g.call p t) e v) h i n l q c (pass_quiet (g.call p t) e v)
-      (give_quiet (g.call p t) e v) x
+      (give_quiet (g.call p t) e v) (consume_quiet (g.call p t) e v) x
 
   pub consumed_in_step : (log : List Entry) (e : Entry) (s : Follower P) (p : P) (t : ℕ) → slice_get log s.seen ≡ Some e → IsInStep g log s
       → s.fate ≡ None → g.live p ≡ g.live s.process → g.pending p t ≡ true → Contains (g.live p) t → g.call p t ≡ e.call

@@ -12,7 +12,7 @@ use Rattle.nv_threads.specs.declared.turns.Came.TheVariants.{Asked, Fault}
 use Rattle.nv_replay.specs.declared.fate.Fate.{Fate}
 use Rattle.nv_replay.specs.declared.fate.Fate.TheVariants.{Exited, Fault as Faulted, Refused, Memory}
 use Rattle.nv_replay.specs.Settling.{stage}
-use Rattle.nv_replay.specs.Permits.{Permit, Give, Pass, No}
+use Rattle.nv_replay.specs.Permits.{Permit, Give, Pass, Consume, No}
 use Rattle.nv_replay.specs.Follow.{Follower, Judge, decided, met, judged, consumed, permit_by, refusal_by, follow_next, on_next, IsInStep}
 use Rattle.nv_replay.specs.Lead.{Leader, next_call}
 use Rattle.nv_replay.specs.Version.{Running}
@@ -93,6 +93,7 @@ module _ {P : Type 0} (g : Behaviour P) (laws : IsProcess g) (judge : Judge) (re
   unfolding judged
   judged_not s p t f (Give r) w h = omega (arith, h.rewrites)
   judged_not s p t f Pass w h = omega (arith, h.rewrites)
+  judged_not s p t f (Consume r) w h = omega (arith, h.rewrites)
   judged_not s p t f No w h = let z : false ≡ true = sym w ∙ h.well in cc
 
   same_copied : (s : Follower P) (e : Entry) (u : ℕ) (b : Bool) → is_same (g.call (g.after s.process (Only e.call.tid)) u) e.call ≡ b
@@ -127,6 +128,7 @@ module _ {P : Type 0} (g : Behaviour P) (laws : IsProcess g) (judge : Judge) (re
   unfolding judged
   judged_more s p t f (Give r) = omega arith
   judged_more s p t f Pass = omega arith
+  judged_more s p t f (Consume r) = omega arith
   judged_more s p t f No = omega arith
 
   met_more : (s : Follower P) (e : Entry) (p : P) (came : Came) → s.rewrites ≤ (met g judge e s p came).rewrites

@@ -1,20 +1,19 @@
 -- A version over a log of which it has led parts: what it has come to holds over each longer log, and after its parts it follows.
-use Rattle.std.proofs.Common.{◌≡◌, ◌≢◌, ◌∙◌, sym, ap, subst, refl, ℕ, zero, suc, ◌+◌, ◌<◌, ◌≤◌, ◌⊎◌, inl, inr, Bool, true, false, List, [], ◌∷◌, ◌++◌, length, Option, Some, None, arith, cond}
+use Rattle.std.proofs.Common.{◌≡◌, ◌∙◌, sym, ap, subst, refl, ℕ, zero, suc, ◌+◌, ◌<◌, ◌≤◌, ◌⊎◌, inl, inr, Bool, true, false, List, [], ◌∷◌, ◌++◌, length, Option, Some, None, arith, cond}
 use Rattle.std.specs.Prelude.{slice_get, not, ◌&&◌, ◌||◌, nat_le}
 use Rattle.std.proofs.lemmas.Bool.Decides.{nat_tests}
 use Rattle.nv_calls.specs.Calls.{Entry, is_same}
-use Rattle.nv_calls.specs.Logs.{Start}
 use Rattle.nv_threads.specs.Behaviours.{Behaviour, IsProcess}
-use Rattle.nv_threads.specs.declared.turns.Want.TheVariants.{Any, Only}
+use Rattle.nv_threads.specs.declared.turns.Want.TheVariants.{Any}
 use Rattle.nv_threads.specs.declared.turns.Came.{Came}
 use Rattle.nv_threads.specs.declared.turns.Came.TheVariants.{Asked, Fault}
 use Rattle.nv_replay.specs.declared.fate.Fate.{Fate}
 use Rattle.nv_replay.specs.Settling.{stage}
-use Rattle.nv_replay.specs.Permits.{Permit, Give, Pass, No}
+use Rattle.nv_replay.specs.Permits.{Permit, Give, Pass, Consume, No}
 use Rattle.nv_replay.specs.Spans.{EndBy}
 use Rattle.nv_replay.specs.Follow.{Follower, Judge, fresh, decided, met, judged, consumed, permit_by, refusal_by, follow_next, on_next, follow}
 use Rattle.nv_replay.specs.Sequence.{is_going}
-use Rattle.nv_replay.proofs.Settled.{Reaches, reach_here, reach_first, reached, at_rest, stage_zero, stage_one, stage_rests, Falls}
+use Rattle.nv_replay.proofs.Settled.{Reaches, reach_here, reach_first, reached, stage_zero, stage_one, stage_rests, Falls}
 use Rattle.nv_replay.proofs.Extending.{get_prefix, follow_reached, follow_rests, reach_all}
 use Rattle.nv_replay.proofs.Falling.{size, decided_falls, consumed_falls, within}
 use Rattle.nv_replay.proofs.Wholes.{bound}
@@ -112,6 +111,7 @@ module _ {P : Type 0} (g : Behaviour P) (judge : Judge) where
   unfolding judged
   judged_seen s p t f (Give r) = omega arith
   judged_seen s p t f Pass = omega arith
+  judged_seen s p t f (Consume r) = omega arith
   judged_seen s p t f No = omega arith
 
   met_seen : (s : Follower P) (e : Entry) (p : P) (came : Came) → s.seen ≤ (met g judge e s p came).seen
@@ -175,6 +175,7 @@ module _ {P : Type 0} (g : Behaviour P) (judge : Judge) where
   unfolding judged
   judged_one s p t f (Give r) = omega arith
   judged_one s p t f Pass = omega arith
+  judged_one s p t f (Consume r) = omega arith
   judged_one s p t f No = omega arith
 
   met_one : (s : Follower P) (e : Entry) (p : P) (came : Came) → (met g judge e s p came).seen ≤ s.seen + 1

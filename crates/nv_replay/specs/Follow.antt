@@ -10,12 +10,13 @@ use Rattle.nv_replay.specs.declared.fate.Fate.{Fate}
 use Rattle.nv_replay.specs.declared.fate.Fate.TheVariants.{Exited, Fault as Faulted, Refused}
 use Rattle.nv_bpf.specs.declared.op.Op.{Op}
 use Rattle.nv_rules.specs.declared.outcome.Verdict.{Verdict}
+use Rattle.nv_rules.specs.declared.outcome.Verdict.TheVariants.{Skip, Take}
 use Rattle.nv_rules.specs.Pair.{pair_words}
 use Rattle.nv_rules.specs.Values.{value_of}
 use Rattle.nv_rules.specs.Verdicts.{verdict_of}
 use Rattle.nv_replay.specs.declared.version.Followed.{Followed}
-use Rattle.nv_replay.specs.declared.version.Followed.TheVariants.{Matched, Rewrote, Skipped, Dropped}
-use Rattle.nv_replay.specs.Permits.{Permit, Give, Pass, No, permit}
+use Rattle.nv_replay.specs.declared.version.Followed.TheVariants.{Matched, Rewrote, Skipped, Took, Dropped}
+use Rattle.nv_replay.specs.Permits.{Permit, Give, Pass, Consume, No, permit}
 use Rattle.nv_replay.specs.Settling.{stage}
 
 -- the process, the events consumed, the rewrites, and the end if there is one
@@ -49,6 +50,7 @@ consumed g s p = record s { process = p; seen = s.seen + 1; fate = option_map Ex
 unfoldable pub judged : {P : Type 0} → Behaviour P → Follower P → P → ℕ → Fate → Permit → Follower P
 judged g s p t refused (Give reply) = record s { process = g.answered p t reply; rewrites = s.rewrites + 1 }
 judged g s p t refused Pass = record s { process = p; seen = s.seen + 1; rewrites = s.rewrites + 1 }
+judged g s p t refused (Consume reply) = record s { process = g.answered p t reply; seen = s.seen + 1; rewrites = s.rewrites + 1 }
 judged g s p t refused No = record s { process = p; fate = Some refused }
 
 -- the call is refused in place of the event, by this value
@@ -105,7 +107,8 @@ verdict_on g judge e s = verdict_of (judge (g.call (g.after s.process (Only e.ca
 abbrev pub IsCounted : {P : Type 0} → Verdict → Followed → Follower P → Follower P → Type 0
 IsCounted v Matched old new = (new.seen ≡ old.seen + 1) × (new.rewrites ≡ old.rewrites)
 IsCounted v (Rewrote verdict) old new = (new.seen ≡ old.seen) × (new.rewrites ≡ old.rewrites + 1) × (new.fate ≡ None) × (verdict ≡ v)
-IsCounted v Skipped old new = (new.seen ≡ old.seen + 1) × (new.rewrites ≡ old.rewrites + 1) × (new.fate ≡ None)
+IsCounted v Skipped old new = (new.seen ≡ old.seen + 1) × (new.rewrites ≡ old.rewrites + 1) × (new.fate ≡ None) × (v ≡ Skip)
+IsCounted v Took old new = (new.seen ≡ old.seen + 1) × (new.rewrites ≡ old.rewrites + 1) × (new.fate ≡ None) × (v ≡ Take)
 IsCounted v (Dropped fate) old new = (new.seen ≡ old.seen) × (new.rewrites ≡ old.rewrites) × (new.fate ≡ Some fate)
 
 abbrev pub is_exited : Option Fate → Bool

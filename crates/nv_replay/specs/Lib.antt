@@ -1,4 +1,5 @@
 pub mod Settling
+pub mod Taking
 pub mod Permits
 pub mod Follow
 pub mod Lead

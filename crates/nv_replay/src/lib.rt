@@ -11,6 +11,7 @@ mod judging;
 mod laws;
 mod spans;
 mod standing;
+mod taking;
 mod version;
 mod whole_log;
 

@@ -1,7 +1,7 @@
 // A version of the guest, as follower and as leader.
 ghost use Rattle.std.specs.Prelude.{◌≡◌, ◌≢◌, [], ◌∷◌, ◌+◌, ◌<◌, ◌++◌, length, Some, None, IfOk, IfSome, Contains, true, false, option_map, IsTrue, ◌↔◌};
 ghost use Rattle.nv_calls.specs.Calls.{request, entry};
-ghost use Rattle.nv_calls.specs.Logs.{IsNew, child_of};
+ghost use Rattle.nv_calls.specs.Logs.{IsNew, child_of, made};
 ghost use Rattle.nv_calls.specs.Shapes.{IsShaped};
 ghost use Rattle.nv_threads.specs.Behaviours.{IsStarted};
 ghost use Rattle.nv_threads.specs.Threads.{threads};
@@ -10,11 +10,13 @@ ghost use Rattle.nv_calls.specs.Constants.{constant_of};
 ghost use Rattle.nv_calls.specs.Limits.{MOST_EVENTS};
 ghost use Rattle.nv_rules.specs.Verdicts.{verdict_of};
 ghost use Rattle.nv_replay.specs.Follow.{IsCounted, verdict_on, decided, met, consumed, judged, refusal_of, fresh, judge_of};
-ghost use Rattle.nv_replay.specs.Permits.{No, given, failed, passed, permit};
+ghost use Rattle.nv_replay.specs.Permits.{No, given, failed, passed, took, permit};
 ghost use Rattle.nv_replay.specs.Spans.{MOST_SPANS};
+ghost use Rattle.nv_replay.specs.Taking.{taken};
 ghost use Rattle.nv_replay.specs.Version.{Running, IsFresh, IsFollowing, IsLiveLeader, LedTo, asking_next, asking_by, became_event, standing_of};
 
 use crate::judging::{give_constant, judge};
+use crate::taking::taken;
 use crate::{Fate, Spans, Standing};
 use nv_bpf::Filter;
 use nv_calls::{Bytes, Call, Event, MOST_BYTES, is_of_threads, same};
@@ -60,6 +62,8 @@ pub enum Followed {
     Rewrote(Verdict),
     /// The event was passed over; its call stays.
     Skipped,
+    /// Its call was answered by the event, though it is another.
+    Took,
     /// It has ended.
     Dropped(Fate),
 }
@@ -164,6 +168,7 @@ impl Version {
             Verdict::Allow => self.allow(tid, event, value),
             Verdict::Errno(error) => self.fail_call(tid, event, value, error),
             Verdict::Skip => self.pass(tid, event, value),
+            Verdict::Take => self.take(tid, event, value),
             Verdict::Refuse(_) => self.refuse(tid, event, value),
         }
     }
@@ -222,6 +227,47 @@ impl Version {
         self.standing.seen += 1;
         self.standing.rewrites += 1;
         Followed::Skipped
+    }
+
+    /// The event is consumed, and its reply answers the call, where the call may take it.
+    fn take(&mut self, tid: u32, event: &Event, value: u32) -> Followed
+        requires following { IsFollowing self.old }
+        requires pending { threads.pending self.old.at.process tid ≡ true }
+        requires below { self.old.at.seen < MOST_EVENTS }
+        ensures new { let call = threads.call self.old.at.process tid in
+            self.new ≡ record self.old {
+              at = judged threads self.old.at self.old.at.process tid (refusal_of call (entry event.now) value)
+                  (took (entry event.now) (taken call (entry event.now)));
+            } }
+        ensures told { IsCounted Verdict.Take result self.old.at self.new.at }
+    {
+        match taken(self.process.pending(tid), event) {
+            Some(ret) => self.take_as(tid, event, ret),
+            None => self.refuse(tid, event, value),
+        }
+    }
+
+    // Takes the event's reply, with this result.
+    fn take_as(&mut self, tid: u32, event: &Event, ret: i32) -> Followed
+        requires following { IsFollowing self.old }
+        requires pending { threads.pending self.old.at.process tid ≡ true }
+        requires below { self.old.at.seen < MOST_EVENTS }
+        requires new { IsNew (threads.live self.old.at.process) (made (threads.call self.old.at.process tid).nr ret) }
+        ensures new { let reply = record (entry event.now).reply { ret = ret } in
+            self.new ≡ record self.old {
+              at = record self.old.at {
+                process = threads.answered self.old.at.process tid reply;
+                seen = self.old.at.seen + 1;
+                rewrites = self.old.at.rewrites + 1;
+              };
+            } }
+        ensures told { IsCounted Verdict.Take result self.old.at self.new.at }
+    {
+        self.process
+            .answer(tid, ret, event.reply.payload.as_slice());
+        self.standing.seen += 1;
+        self.standing.rewrites += 1;
+        Followed::Took
     }
 
     fn refuse(&mut self, tid: u32, event: &Event, value: u32) -> Followed

@@ -14,7 +14,7 @@ use std::{fs, io};
 use tally::Tally;
 
 // The files with rows, by what they are about. One may include the texts of those before it.
-const SUBJECTS: [&str; 28] = [
+const SUBJECTS: [&str; 29] = [
     "common",
     "calls",
     "memory",
@@ -27,6 +27,7 @@ const SUBJECTS: [&str; 28] = [
     "script_texts",
     "alone",
     "several",
+    "taken",
     "ahead",
     "refusals",
     "command_lines",

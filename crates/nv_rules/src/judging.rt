@@ -12,6 +12,7 @@ pub fn verdict(value: u32) -> Verdict
         0x7fff => Verdict::Allow,
         0x0005 => Verdict::Errno((value % 65536) as u16),
         0x0006 => Verdict::Skip,
+        0x0007 => Verdict::Take,
         _ => Verdict::Refuse(value),
     }
 }

@@ -9,6 +9,8 @@ pub enum Verdict {
     Errno(u16),
     /// The event is passed over.
     Skip,
+    /// The event is consumed, and its reply answers the call.
+    Take,
     /// The difference isn't permitted: the filter's whole value.
     Refuse(u32),
 }

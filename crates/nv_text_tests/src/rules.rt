@@ -213,7 +213,9 @@ fn verdicts(rt: HostRuntime) {
         (0x00060000, Verdict::Skip),
         (0x0006abcd, Verdict::Skip),
         (0, Verdict::Refuse(0)),
-        (0x00070000, Verdict::Refuse(0x70000)),
+        (0x00070000, Verdict::Take),
+        (0x0007abcd, Verdict::Take),
+        (0x00080000, Verdict::Refuse(0x80000)),
         (0xffffffff, Verdict::Refuse(0xffffffff)),
     ] {
         assert_eq!(rt; verdict(value), want, "of {value:x}");

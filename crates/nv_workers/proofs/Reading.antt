@@ -19,7 +19,7 @@ use Rattle.nv_threads.proofs.ThreadLaws.{thread_laws}
 use Rattle.nv_replay.specs.declared.fate.Fate.{Fate}
 use Rattle.nv_rules.specs.declared.outcome.Verdict.{Verdict}
 use Rattle.nv_replay.specs.declared.version.Followed.{Followed}
-use Rattle.nv_replay.specs.declared.version.Followed.TheVariants.{Matched, Rewrote, Skipped, Dropped}
+use Rattle.nv_replay.specs.declared.version.Followed.TheVariants.{Matched, Rewrote, Skipped, Took, Dropped}
 use Rattle.nv_replay.specs.Follow.{Follower, Judge, IsCounted, decided, fresh}
 use Rattle.nv_replay.specs.Tracks.{track_next}
 use Rattle.nv_replay.specs.Sequence.{is_going}
@@ -41,13 +41,16 @@ use Rattle.nv_workers.proofs.Spelt.{same_spelt, long_as, parted}
 pub longer : (old new : List (List ℕ)) (read : List ℕ) → new ≡ old ++ read ∷ [] → length old < length new
 longer old new read e = omega (arith, length-append old (read ∷ []), ap (λ (x : List (List ℕ)). length x) e)
 
-pub seen_by : (x : Followed) (t : Verdict) (old new : Follower Proc) → (x ≡ Matched) ⊎ (x ≡ Skipped) → IsCounted t x old new → new.seen ≡ old.seen + 1
+pub seen_by : (x : Followed) (t : Verdict) (old new : Follower Proc) → (x ≡ Matched) ⊎ ((x ≡ Skipped) ⊎ (x ≡ Took)) → IsCounted t x old new → new.seen ≡ old.seen + 1
 seen_by Matched t old new h k = k.0
 seen_by Skipped t old new h k = k.0
+seen_by Took t old new h k = k.0
 seen_by (Rewrote w) t old new (inl h) k = cc
-seen_by (Rewrote w) t old new (inr h) k = cc
+seen_by (Rewrote w) t old new (inr (inl h)) k = cc
+seen_by (Rewrote w) t old new (inr (inr h)) k = cc
 seen_by (Dropped f) t old new (inl h) k = cc
-seen_by (Dropped f) t old new (inr h) k = cc
+seen_by (Dropped f) t old new (inr (inl h)) k = cc
+seen_by (Dropped f) t old new (inr (inr h)) k = cc
 
 pub off_from : (o f : Option Fate) → is_some o ≡ true → o ≡ f → is_going f ≡ false
 off_from None f h e = cc

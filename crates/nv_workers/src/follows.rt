@@ -140,7 +140,7 @@ fn decide<K: SyscallKernel, G: Gate>(
     match version.follow(terms.rules, event) {
         Followed::Rewrote(_) => Next::Moved,
         Followed::Dropped(_) => Next::Leaves,
-        Followed::Matched | Followed::Skipped => {
+        Followed::Matched | Followed::Skipped | Followed::Took => {
             advance(reader, room);
             *held = false;
             terms.gate.after_take(follower(reader), event.stamp);
