@@ -1,3 +1,9 @@
 pub mod Lists
 pub mod Stuck
 pub mod Falling
+mod Played
+mod Lasting
+mod Waiting
+mod LeadWaiting
+mod Windows
+mod Rooms

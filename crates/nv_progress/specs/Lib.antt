@@ -1,2 +1,4 @@
 pub mod GetsOn
 pub mod Steps
+pub mod Plays
+pub mod Traces

@@ -14,4 +14,5 @@ pub mod Monitor
 pub mod Unplanned
 pub mod Covers
 pub mod Survivors
+pub mod Rewrites
 pub mod inner

@@ -1,5 +1,5 @@
 // A version of the guest, as follower and as leader.
-ghost use Rattle.std.specs.Prelude.{◌≡◌, ◌≢◌, [], ◌∷◌, ◌+◌, ◌<◌, ◌++◌, length, Some, None, IfOk, IfSome, Contains, true, false, option_map, IsTrue, ◌↔◌};
+ghost use Rattle.std.specs.Prelude.{◌≡◌, ◌≢◌, [], ◌∷◌, ◌+◌, ◌<◌, ◌≤◌, ◌++◌, length, Some, None, IfOk, IfSome, Contains, true, false, option_map, IsTrue, ◌↔◌};
 ghost use Rattle.nv_calls.specs.Calls.{request, entry};
 ghost use Rattle.nv_calls.specs.Logs.{IsNew, child_of, made};
 ghost use Rattle.nv_calls.specs.Shapes.{IsShaped};
@@ -13,6 +13,7 @@ ghost use Rattle.nv_replay.specs.Follow.{IsCounted, verdict_on, decided, met, co
 ghost use Rattle.nv_replay.specs.Permits.{No, given, failed, passed, took, permit};
 ghost use Rattle.nv_replay.specs.Spans.{MOST_SPANS};
 ghost use Rattle.nv_replay.specs.Taking.{taken};
+ghost use Rattle.nv_replay.specs.Rewrites.{MOST_REWRITES};
 ghost use Rattle.nv_replay.specs.Version.{Running, IsFresh, IsFollowing, IsLiveLeader, LedTo, asking_next, asking_by, became_event, standing_of};
 
 use crate::judging::{give_constant, judge};
@@ -421,6 +422,14 @@ impl Version {
         ensures { result.now ≡ self.now.at.process }
     {
         self.process.process()
+    }
+
+    /// How many of its calls were rewritten; for each an instruction of the budget ran, or an event was seen.
+    pub fn rewrites(&self) -> u32
+        ensures is { result ≡ self.now.at.rewrites }
+        ensures few { result ≤ MOST_REWRITES }
+    {
+        self.standing.rewrites
     }
 
     /// What there is to tell of it.

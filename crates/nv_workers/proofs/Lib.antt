@@ -21,3 +21,4 @@ pub mod Finishing
 pub mod NewSeats
 pub mod Sending
 pub mod Growing
+pub mod Measure

@@ -12,17 +12,17 @@ use Rattle.nv_workers.specs.Staffing.{LeadsAnew, ReadsAnew}
 use Rattle.nv_workers.proofs.Moving.{fresh_leads, fresh_follows}
 
 module _ {K : Type 0} {G : Ghosts K} where
-  pub leads_anew : (v new : Running Proc) (l : Lead K G) (buf : List ℕ) → IsFresh threads 0 v → new ≡ with_span v v.at.seen
-      → LeadsAnew v l (record { version = new; seat = Leading l None; buf = buf })
-  leads_anew v new l buf f k = λ room m. record {
+  pub leads_anew : (v new : Running Proc) (l : Lead K G) (buf : List ℕ) (spare : ℕ) → IsFresh threads 0 v → new ≡ with_span v v.at.seen
+      → LeadsAnew v l (record { version = new; seat = Leading l None; buf = buf; spare = spare })
+  leads_anew v new l buf spare f k = λ room m. record {
     fresh = f;
     version = m.fresh.version;
     works = λ judges most. fresh_leads judges room most v l new f m.fresh m.log k;
   }
 
-  pub reads_anew : (v : Running Proc) (r : Reader K G) (buf : List ℕ) → IsFresh threads (version_of_reader r) v
-      → ReadsAnew v r (record { version = v; seat = Reading r false; buf = buf })
-  reads_anew v r buf f = λ room m. record {
+  pub reads_anew : (v : Running Proc) (r : Reader K G) (buf : List ℕ) (spare : ℕ) → IsFresh threads (version_of_reader r) v
+      → ReadsAnew v r (record { version = v; seat = Reading r false; buf = buf; spare = spare })
+  reads_anew v r buf spare f = λ room m. record {
     fresh = f;
     version = refl;
     works = λ judges most. fresh_follows judges room most v (version_of_reader r) r buf f m;

@@ -8,4 +8,5 @@ pub mod Publishing
 pub mod Worker
 pub mod Staffing
 pub mod Ran
+pub mod Measure
 pub mod inner

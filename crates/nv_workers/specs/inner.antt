@@ -3,3 +3,4 @@ pub mod Dealing
 pub mod Leads
 pub mod Rounds
 pub mod Stepping
+pub mod Spares

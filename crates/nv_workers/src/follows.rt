@@ -1,5 +1,5 @@
 //! A reader's turn.
-ghost use Rattle.std.specs.Prelude.{◌≡◌, ℕ, [], true, length};
+ghost use Rattle.std.specs.Prelude.{◌≡◌, ◌≤◌, ℕ, [], true, length};
 ghost use Rattle.nv_threads.specs.Threads.{Proc};
 ghost use Rattle.nv_room.specs.Seats.{IsOfRoom, SameReader, view, version_of_reader};
 ghost use Rattle.nv_room.specs.Steps.{TellsEnd};
@@ -7,6 +7,7 @@ ghost use Rattle.nv_workers.specs.Terms.{judges_of};
 ghost use Rattle.nv_workers.specs.Working.{FollowsOn};
 ghost use Rattle.nv_workers.specs.Growing.{OneMoreAtMost};
 ghost use Rattle.nv_workers.specs.Follows.{AfterTurn, HasGrown, IsIdle, IsBusy, IsFound, IsWaiting};
+ghost use Rattle.nv_workers.specs.inner.Spares.{HasSpared};
 
 use crate::terms::Terms;
 use nv_lamport::{Polled, poll_merged};
@@ -53,6 +54,7 @@ pub(crate) fn follow_turn<K: SyscallKernel, G: Gate>(
     reader: &mut Reader<K>,
     held: &mut bool,
     buf: &mut EventBuf,
+    spare: &mut u32,
     room: &Room<K>,
     terms: &Terms<'_, G>,
 ) -> Next
@@ -62,6 +64,8 @@ pub(crate) fn follow_turn<K: SyscallKernel, G: Gate>(
     ensures grown { HasGrown (view reader.old) (view reader.new) version.old version.new result }
     ensures idle { IsIdle (view reader.old) (view reader.new) result }
     ensures one { OneMoreAtMost (length (view reader.old).seen) (length (view reader.new).seen) }
+    ensures rewrites { version.old.at.rewrites ≤ version.new.at.rewrites }
+    ensures spare { HasSpared spare.old spare.new result }
 {
     if *held {
         return decide(version, reader, held, buf, room, terms);
@@ -71,7 +75,7 @@ pub(crate) fn follow_turn<K: SyscallKernel, G: Gate>(
             *held = true;
             decide(version, reader, held, buf, room, terms)
         }
-        Found::Held => go_ahead(version),
+        Found::Held => go_ahead(version, spare),
         Found::Free => Next::Leads,
     }
 }
@@ -80,12 +84,17 @@ pub(crate) fn follow_turn<K: SyscallKernel, G: Gate>(
 // for the event, and the others of its thread have their turns.
 const STEPS: u32 = 10;
 
-// While its station waits, a version goes on towards its next call.
-fn go_ahead(version: &mut Version) -> Next
+// While its station waits, a version goes on towards its next call, in `spare` turns at most.
+fn go_ahead(version: &mut Version, spare: &mut u32) -> Next
     ensures same { version.new ≡ version.old }
     ensures waits { IsWaiting result }
+    ensures spare { HasSpared spare.old spare.new result }
 {
+    let Some(left) = spare.checked_sub(1) else {
+        return Next::Waits;
+    };
     if version.run_ahead(STEPS) {
+        *spare = left;
         Next::Ahead
     } else {
         Next::Waits
@@ -135,6 +144,7 @@ fn decide<K: SyscallKernel, G: Gate>(
     ensures grown { HasGrown (view reader.old) (view reader.new) version.old version.new result }
     ensures busy { IsBusy result }
     ensures one { OneMoreAtMost (length (view reader.old).seen) (length (view reader.new).seen) }
+    ensures rewrites { version.old.at.rewrites ≤ version.new.at.rewrites }
 {
     let event = buf.event();
     match version.follow(terms.rules, event) {

@@ -1,5 +1,5 @@
 //! A leader's turn.
-ghost use Rattle.std.specs.Prelude.{◌≡◌, ℕ, Some, None, false, length};
+ghost use Rattle.std.specs.Prelude.{◌≡◌, ◌≤◌, ℕ, Some, None, false, length};
 ghost use Rattle.nv_threads.specs.Threads.{Proc};
 ghost use Rattle.nv_replay.specs.Follow.{Judge};
 ghost use Rattle.nv_replay.specs.Hands.{has};
@@ -33,6 +33,7 @@ pub(crate) fn lead_turn<K: SyscallKernel, G: Gate>(
     ensures published { HasPublished (lead_view lead.old) (lead_view lead.new) result }
     ensures late { IsLate room.now lead.old lead.new result }
     ensures one { OneMoreAtMost (length (lead_view lead.old).seen) (length (lead_view lead.new).seen) }
+    ensures rewrites { version.old.at.rewrites ≤ version.new.at.rewrites }
 {
     match *asked {
         Some(tid) => serve(version, lead, asked, tid, room, terms),
@@ -63,6 +64,7 @@ fn serve<K: SyscallKernel, G: Gate>(
     ensures published { HasPublished (lead_view lead.old) (lead_view lead.new) result }
     ensures late { IsLate room.now lead.old lead.new result }
     ensures one { OneMoreAtMost (length (lead_view lead.old).seen) (length (lead_view lead.new).seen) }
+    ensures rewrites { version.old.at.rewrites ≤ version.new.at.rewrites }
 {
     if let Placed::Waiting(_) = place(lead, room) {
         return Next::Waits;

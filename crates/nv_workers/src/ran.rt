@@ -139,6 +139,7 @@ fn take_apart<K: SyscallKernel>(
             version,
             seat,
             buf: _,
+            spare: _,
         } = worker;
         let Seat::Gone { left: gone } = seat else {
             unreachable!()

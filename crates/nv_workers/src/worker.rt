@@ -1,5 +1,5 @@
 //! A version with its seat.
-ghost use Rattle.std.specs.Prelude.{◌≡◌, ℕ, List, None, true, false, length, Some, IfOk};
+ghost use Rattle.std.specs.Prelude.{◌≡◌, ◌≤◌, ℕ, List, None, true, false, length, Some, IfOk};
 ghost use Rattle.nv_threads.specs.Threads.{Proc, threads};
 ghost use Rattle.nv_replay.specs.Follow.{Judge};
 ghost use Rattle.nv_replay.specs.Version.{IsFresh, Running};
@@ -7,9 +7,11 @@ ghost use Rattle.nv_room.specs.Seats.{IsLeadOf, IsLeftOf, version_of_lead, versi
 ghost use Rattle.nv_room.specs.Steps.{as_gone, as_leaving};
 ghost use Rattle.nv_workers.specs.Terms.{AreOfRoom, judges_of};
 ghost use Rattle.nv_workers.specs.Working.{FollowsOn, LeadsOn};
-ghost use Rattle.nv_workers.specs.Growing.{OneMoreAtMost};
+ghost use Rattle.nv_workers.specs.Growing.{OneMoreAtMost, SparesOn};
+ghost use Rattle.nv_workers.specs.Measure.{Falls, seat_left};
 ghost use Rattle.nv_workers.specs.Worker.{Works, WorksAt, IsGone, IsLast, TookLead, TurnTells, version_of, version_of_seat, seen_by};
 ghost use Rattle.nv_workers.specs.inner.Stepping.{CanLead, CanHand, CanLeave, AfterStep, StepTells};
+ghost use Rattle.nv_workers.specs.inner.Spares.{HasSpared};
 ghost use Rattle.nv_workers.specs.Staffing.{IsNewLead, IsNewReader, LeadsAnew, ReadsAnew};
 
 use crate::follows::{Next, follow_turn};
@@ -55,6 +57,9 @@ pub struct Worker<K: SyscallKernel> {
     pub(crate) version: Version,
     pub(crate) seat: Seat<K>,
     pub(crate) buf: EventBuf,
+    /// In so many turns its version may still go on while it waits. They never run out: each of them runs instructions of the
+    /// version's budget, of which there are fewer.
+    pub(crate) spare: u32,
 }
 
 impl<K: SyscallKernel> Worker<K> {
@@ -67,7 +72,13 @@ impl<K: SyscallKernel> Worker<K> {
         let buf = EventBuf::make(alloc)?;
         version.begin_lead();
         let seat = Seat::Leading { lead, asked: None };
-        Ok(Worker { version, seat, buf })
+        let spare = u32::MAX;
+        Ok(Worker {
+            version,
+            seat,
+            buf,
+            spare,
+        })
     }
 
     /// A version that follows, with the reader of its station as it was made; memory is for one event.
@@ -85,7 +96,13 @@ impl<K: SyscallKernel> Worker<K> {
             reader,
             held: false,
         };
-        Ok(Worker { version, seat, buf })
+        let spare = u32::MAX;
+        Ok(Worker {
+            version,
+            seat,
+            buf,
+            spare,
+        })
     }
 
     /// One turn: at most one event is consumed or served. A version that was a stage of its run, fresh with some process, is one
@@ -98,9 +115,15 @@ impl<K: SyscallKernel> Worker<K> {
         ensures last { IsLast result self.new.seat }
         ensures tells { TurnTells room.now result self.old.version self.new.version self.old.seat self.new.seat }
         ensures one { OneMoreAtMost (seen_by self.old.seat) (seen_by self.new.seat) }
+        ensures rewrites { self.old.version.at.rewrites ≤ self.new.version.at.rewrites }
+        ensures spare { SparesOn result self.old.spare self.new.spare }
+        ensures falls { Falls result self.old self.new }
     {
         match self.step(room, terms) {
-            Next::Moved => Turn::Moved,
+            Next::Moved => {
+                let _few = self.version.rewrites();
+                Turn::Moved
+            }
             Next::Ahead => Turn::Ahead,
             Next::Waits => Turn::Waiting,
             Next::Leads => {
@@ -127,6 +150,9 @@ impl<K: SyscallKernel> Worker<K> {
         ensures version { version_of self.new ≡ version_of self.old }
         ensures tells { StepTells room.now result self.old.version self.new.version self.old.seat self.new.seat }
         ensures one { OneMoreAtMost (seen_by self.old.seat) (seen_by self.new.seat) }
+        ensures rewrites { self.old.version.at.rewrites ≤ self.new.version.at.rewrites }
+        ensures spare { HasSpared self.old.spare self.new.spare result }
+        ensures seat { seat_left self.new.seat ≡ seat_left self.old.seat }
     {
         match &mut self.seat {
             Seat::Reading { reader, held } => follow_turn(
@@ -134,6 +160,7 @@ impl<K: SyscallKernel> Worker<K> {
                 reader,
                 held,
                 &mut self.buf,
+                &mut self.spare,
                 room,
                 terms,
             ),
@@ -152,6 +179,8 @@ impl<K: SyscallKernel> Worker<K> {
         ensures seen { seen_by self.new.seat ≡ seen_by self.old.seat }
         ensures leads { TookLead self.old.seat self.new.seat }
         ensures on { self.new.version.at.fate ≡ None }
+        ensures rewrites { self.new.version.at.rewrites ≡ self.old.version.at.rewrites }
+        ensures spare { self.new.spare ≡ self.old.spare }
     {
         let seat = mem::replace(&mut self.seat, Seat::Moving);
         let Seat::Reading { reader, held: _ } = seat else {
@@ -170,6 +199,8 @@ impl<K: SyscallKernel> Worker<K> {
         ensures seen { seen_by self.new.seat ≡ seen_by self.old.seat }
         ensures stays { ¬ IsGone self.new.seat }
         ensures fate { self.new.version.at.fate ≡ self.old.version.at.fate }
+        ensures rewrites { self.new.version.at.rewrites ≡ self.old.version.at.rewrites }
+        ensures spare { self.new.spare ≡ self.old.spare }
     {
         let seat = mem::replace(&mut self.seat, Seat::Moving);
         let Seat::Leading { lead, asked: _ } = seat else {
@@ -189,6 +220,7 @@ impl<K: SyscallKernel> Worker<K> {
         ensures seen { seen_by self.new.seat ≡ seen_by self.old.seat }
         ensures gone { IsGone self.new.seat }
         ensures same { self.new.version ≡ self.old.version }
+        ensures spare { self.new.spare ≡ self.old.spare }
     {
         let seat = mem::replace(&mut self.seat, Seat::Moving);
         let left = vacate(seat, room);
@@ -218,6 +250,7 @@ fn take_lead<K: SyscallKernel>(version: &mut Version, reader: Reader<K>, room: &
     ensures version { version_of_lead result ≡ version_of_reader reader }
     ensures seen { (lead_view result).seen ≡ (view reader).seen }
     ensures on { version.new.at.fate ≡ None }
+    ensures rewrites { version.new.at.rewrites ≡ version.old.at.rewrites }
 {
     version.begin_lead();
     let lead = take(reader, room);
@@ -232,6 +265,7 @@ fn give_lead<K: SyscallKernel>(version: &mut Version, lead: Lead<K>, room: &Room
     ensures version { version_of_reader result ≡ version_of_lead lead }
     ensures seen { (view result).seen ≡ (lead_view lead).seen }
     ensures fate { version.new.at.fate ≡ version.old.at.fate }
+    ensures rewrites { version.new.at.rewrites ≡ version.old.at.rewrites }
 {
     version.end_lead();
     hand(lead, room)

@@ -9,7 +9,7 @@ use Rattle.nv_replay.specs.declared.standing.Standing.{Standing}
 use Rattle.nv_replay.proofs.Wholes.{none_from}
 use Rattle.nv_replay.specs.Sequence.{is_going}
 use Rattle.nv_workers.proofs.Reading.{longer, seen_by, off_from, after_rewrote, after_drop, after_exit, after_consumed, held_of, whole_buf, whole_read, event_is, stamp_is, is_below, is_live, is_new, held_reading}
-use Rattle.nv_workers.proofs.Growing.{one_more}
+use Rattle.nv_workers.proofs.Growing.{one_more, counted_rises}
 use Rattle.nv_workers.proofs.follows.decide.Goals as goal
 
 pub event-event-requires : goal.event-event-requires
@@ -92,3 +92,15 @@ returns-then-is_some-clause-one g c = one_more _ _ _ (ap (λ w. w.seen) c.advanc
 
 pub returns-else-is_some-clause-one : goal.returns-else-is_some-clause-one
 returns-else-is_some-clause-one g c = one_more _ _ _ (ap (λ w. w.seen) c.advance.ensures.view)
+
+pub returns-in-Rewrote-clause-rewrites : goal.returns-in-Rewrote-clause-rewrites
+returns-in-Rewrote-clause-rewrites g c = counted_rises _ _ c.args.version.now.at c.follow.new.self.at c.follow.ensures.told
+
+pub returns-in-Dropped-clause-rewrites : goal.returns-in-Dropped-clause-rewrites
+returns-in-Dropped-clause-rewrites g c = counted_rises _ _ c.args.version.now.at c.follow.new.self.at c.follow.ensures.told
+
+pub returns-then-is_some-clause-rewrites : goal.returns-then-is_some-clause-rewrites
+returns-then-is_some-clause-rewrites g c = counted_rises _ _ c.args.version.now.at c.follow.new.self.at c.follow.ensures.told
+
+pub returns-else-is_some-clause-rewrites : goal.returns-else-is_some-clause-rewrites
+returns-else-is_some-clause-rewrites g c = counted_rises _ _ c.args.version.now.at c.follow.new.self.at c.follow.ensures.told

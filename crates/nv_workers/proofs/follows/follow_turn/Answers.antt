@@ -1,4 +1,4 @@
-use Rattle.std.proofs.Common.{sym, subst, Bool}
+use Rattle.std.proofs.Common.{sym, ap, subst, Bool, arith}
 use Rattle.nv_workers.specs.Terms.{judges_of}
 use Rattle.nv_replay.specs.Version.{Running}
 use Rattle.nv_threads.specs.Threads.{Proc}
@@ -63,3 +63,8 @@ returns-in-Held-clause-one g c = none_more _ _ c.in-Held.ensures.found.0
 
 pub returns-in-Free-clause-one : goal.returns-in-Free-clause-one
 returns-in-Free-clause-one g c = none_more _ _ c.in-Free.ensures.found.0
+
+pub returns-in-Held-clause-rewrites : goal.returns-in-Held-clause-rewrites
+returns-in-Held-clause-rewrites g c =
+    let a = ap (λ (v : Running Proc). v.at.rewrites) c.go_ahead.ensures.same in
+    omega arith

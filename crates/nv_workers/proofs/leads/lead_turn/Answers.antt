@@ -1,9 +1,11 @@
-use Rattle.std.proofs.Common.{subst, ap, ℕ, Option, false}
+use Rattle.std.proofs.Common.{subst, ap, ℕ, Option, false, arith}
 use Rattle.nv_replay.specs.Sequence.{is_going}
 use Rattle.nv_served.proofs.LearningLaws.{as_told, legal_told}
 use Rattle.nv_room.specs.Seats.{kernel_of}
 use Rattle.nv_workers.specs.Working.{LeadsOn}
 use Rattle.nv_workers.proofs.Serving.{drops_lead, asks_lead}
+use Rattle.nv_threads.specs.Threads.{threads}
+use Rattle.nv_workers.proofs.Growing.{asked_rises}
 use Rattle.nv_workers.proofs.leads.lead_turn.Goals as goal
 
 pub lead-requires-clause-on : goal.lead-requires-clause-on
@@ -37,3 +39,12 @@ returns-in-Asked-clause-after g c = λ j p f.
     let f0 = subst (λ (o : Option ℕ). LeadsOn j c.args.room.now c.args.terms.now.most p c.args.version.now false c.args.lead.now o) c.in-None.is f in
     let t = c.in-Asked.ensures.told in
     c.serve-in-Asked.ensures.after j p (asks_lead j c.args.room.now c.args.terms.now.most p c.args.version.now c.args.lead.now f0 c.lead.new.self c.in-Asked.tid c.lead.ensures.new t.0)
+
+pub returns-in-Dropped-clause-rewrites : goal.returns-in-Dropped-clause-rewrites
+returns-in-Dropped-clause-rewrites g c = asked_rises threads c.args.terms.now.most c.args.version.now c.lead.new.self c.lead.ensures.new
+
+pub returns-in-Asked-clause-rewrites : goal.returns-in-Asked-clause-rewrites
+returns-in-Asked-clause-rewrites g c =
+    let a = asked_rises threads c.args.terms.now.most c.args.version.now c.lead.new.self c.lead.ensures.new in
+    let b = c.serve-in-Asked.ensures.rewrites in
+    omega arith

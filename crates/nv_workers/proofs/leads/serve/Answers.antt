@@ -4,6 +4,8 @@ use Rattle.nv_workers.specs.Working.{LeadsOn}
 use Rattle.nv_workers.proofs.Serving.{grew_lead, placed_lead, reserved_lead, asked_now, waits_lead, refused_lead, after_served, published_next, late_next}
 use Rattle.nv_ring.proofs.Filling.{ready_still}
 use Rattle.nv_workers.proofs.Growing.{none_more, one_more, one_after}
+use Rattle.nv_threads.specs.Threads.{Proc}
+use Rattle.nv_replay.specs.Version.{Running}
 use Rattle.nv_workers.proofs.leads.serve.Goals as goal
 
 pub returns-in-Waiting-clause-after : goal.returns-in-Waiting-clause-after
@@ -76,3 +78,13 @@ returns-then-is_err-clause-one g c = none_more _ _ (ap (λ w. w.seen) c.reserve.
 
 pub returns-clause-one : goal.returns-clause-one
 returns-clause-one g c = one_after _ _ _ (ap (λ w. w.seen) c.reserve.ensures.view ∙ c.in_default.ensures.seen) (one_more _ _ _ c.publish_call.ensures.seen)
+
+pub returns-then-is_err-clause-rewrites : goal.returns-then-is_err-clause-rewrites
+returns-then-is_err-clause-rewrites g c =
+    let a = ap (λ (v : Running Proc). v.at.rewrites) c.refuse_memory.ensures in
+    omega arith
+
+pub returns-clause-rewrites : goal.returns-clause-rewrites
+returns-clause-rewrites g c =
+    let a = ap (λ (v : Running Proc). v.at.rewrites) c.publish_call.ensures.version in
+    omega arith

@@ -13,6 +13,8 @@ returns-in-Reading-clause-works g c = λ judges most p v buf l.
 pub returns-in-Leading-clause-works : goal.returns-in-Leading-clause-works
 returns-in-Leading-clause-works g c = λ judges most p v buf l.
     let h = subst (λ s. CanLeave judges c.args.room.now p v most s) c.in-Leading.is l in
-    let e = c.give_up.ensures in
-    (e.of, given_ended judges most (hands_of c.args.room.now) p v (version_of_lead c.in-Leading.lead) (version_of_left c.give_up.result) (lead_view c.in-Leading.lead) (left_view c.give_up.result) e.version
-    (left_view c.give_up.result).owner_last e.view h.2)
+    let e = c.give_up.ensures in (
+      e.of,
+      given_ended judges most (hands_of c.args.room.now) p v (version_of_lead c.in-Leading.lead) (version_of_left c.give_up.result) (lead_view c.in-Leading.lead) (left_view c.give_up.result) e.version
+          (left_view c.give_up.result).owner_last e.view h.2,
+    )

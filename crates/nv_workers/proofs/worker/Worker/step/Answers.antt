@@ -1,10 +1,11 @@
-use Rattle.std.proofs.Common.{sym, subst}
+use Rattle.std.proofs.Common.{sym, ap, subst}
 use Rattle.nv_workers.specs.Terms.{judges_of}
 use Rattle.nv_workers.specs.declared.worker.Seat.TheVariants.{Reading, Leading}
 use Rattle.nv_workers.specs.Worker.{WorksAt, IsGone, seen_by}
 use Rattle.nv_workers.specs.inner.Stepping.{StepTells}
 use Rattle.nv_workers.proofs.Stepping.{after_read, tells_read, tells_lead, gone_ended}
 use Rattle.nv_workers.specs.Growing.{OneMoreAtMost}
+use Rattle.nv_workers.specs.Measure.{seat_left}
 use Rattle.nv_workers.proofs.worker.Worker.step.Goals as goal
 
 pub returns-in-Reading-clause-after : goal.returns-in-Reading-clause-after
@@ -49,3 +50,9 @@ returns-in-Reading-clause-one g c =
 pub returns-in-Leading-clause-one : goal.returns-in-Leading-clause-one
 returns-in-Leading-clause-one g c =
     subst (λ s. OneMoreAtMost (seen_by s) (seen_by (Leading c.lead_turn.new.lead c.lead_turn.new.asked))) (sym c.in-Leading.is) c.lead_turn.ensures.one
+
+pub returns-in-Reading-clause-seat : goal.returns-in-Reading-clause-seat
+returns-in-Reading-clause-seat g c = sym (ap seat_left c.in-Reading.is)
+
+pub returns-in-Leading-clause-seat : goal.returns-in-Leading-clause-seat
+returns-in-Leading-clause-seat g c = sym (ap seat_left c.in-Leading.is)

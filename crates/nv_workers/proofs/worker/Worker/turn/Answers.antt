@@ -5,6 +5,7 @@ use Rattle.nv_replay.specs.Version.{Running}
 use Rattle.nv_threads.specs.Threads.{Proc}
 use Rattle.nv_workers.proofs.Stepping.{took_from, took_stays}
 use Rattle.nv_workers.proofs.Rotating.{read_grown}
+use Rattle.nv_workers.proofs.Measure.{works_few, hands_lead, leaves_some, zero_gone, at_most_two, took_one, gone_none, moved_falls, ahead_falls, seat_falls, hands_falls, stays_level}
 use Rattle.nv_workers.proofs.worker.Worker.turn.Goals as goal
 
 pub returns-in-Moved-clause-works : goal.returns-in-Moved-clause-works
@@ -88,3 +89,101 @@ returns-in-Leaves-clause-one g c =
     let one = c.in-Leaves.ensures.one in
     let same = c.depart.ensures.seen in
     (omega arith, omega arith)
+
+pub returns-in-Leads-clause-rewrites : goal.returns-in-Leads-clause-rewrites
+returns-in-Leads-clause-rewrites g c =
+    let a = c.in-Leads.ensures.rewrites in
+    let b = c.promote.ensures.rewrites in
+    omega arith
+
+pub returns-in-Hands-clause-rewrites : goal.returns-in-Hands-clause-rewrites
+returns-in-Hands-clause-rewrites g c =
+    let a = c.in-Hands.ensures.rewrites in
+    let b = c.hand_over.ensures.rewrites in
+    omega arith
+
+pub returns-in-Leaves-clause-rewrites : goal.returns-in-Leaves-clause-rewrites
+returns-in-Leaves-clause-rewrites g c =
+    let a = c.in-Leaves.ensures.rewrites in
+    let b = ap (λ (v : Running Proc). v.at.rewrites) c.depart.ensures.same in
+    omega arith
+
+pub returns-in-Moved-clause-falls : goal.returns-in-Moved-clause-falls
+returns-in-Moved-clause-falls g c =
+    let e = c.in-Moved.ensures in
+    let most = c.rewrites-few.ensures.few in
+    let is = c.rewrites-few.ensures.is in
+    let few = works_few (judges_of c.args.terms.now) c.args.room.now c.args.terms.now.most c.requires.works.0 c.step.new.self.version c.step.new.self.buf c.step.new.self.seat (e.after c.requires.works.0 c.requires.works.1).0 in
+    moved_falls _ _ _ _ _ _ _ _ e.one e.rewrites few e.tells.0 (omega arith) e.spare e.seat
+
+pub returns-in-Ahead-clause-falls : goal.returns-in-Ahead-clause-falls
+returns-in-Ahead-clause-falls g c =
+    let e = c.in-Ahead.ensures in
+    let few = works_few (judges_of c.args.terms.now) c.args.room.now c.args.terms.now.most c.requires.works.0 c.step.new.self.version c.step.new.self.buf c.step.new.self.seat (e.after c.requires.works.0 c.requires.works.1).0 in
+    ahead_falls _ _ _ _ _ _ _ _ e.one e.rewrites few e.spare e.seat
+
+pub returns-in-Waits-clause-falls : goal.returns-in-Waits-clause-falls
+returns-in-Waits-clause-falls g c =
+    let e = c.in-Waits.ensures in
+    let few = works_few (judges_of c.args.terms.now) c.args.room.now c.args.terms.now.most c.requires.works.0 c.step.new.self.version c.step.new.self.buf c.step.new.self.seat (e.after c.requires.works.0 c.requires.works.1).0 in
+    let spare = e.spare in
+    let seat = e.seat in
+    stays_level _ _ _ _ _ _ _ _ e.one e.rewrites few (omega arith) (omega arith)
+
+pub returns-in-Left-clause-falls : goal.returns-in-Left-clause-falls
+returns-in-Left-clause-falls g c =
+    let e = c.in-Left.ensures in
+    let few = works_few (judges_of c.args.terms.now) c.args.room.now c.args.terms.now.most c.requires.works.0 c.step.new.self.version c.step.new.self.buf c.step.new.self.seat (e.after c.requires.works.0 c.requires.works.1).0 in
+    let spare = e.spare in
+    let seat = e.seat in
+    let none = gone_none c.step.new.self.seat (e.after c.requires.works.0 c.requires.works.1).1 in (
+      stays_level _ _ _ _ _ _ _ _ e.one e.rewrites few (omega arith) (omega arith),
+      λ stood. absurd (stood (zero_gone (judges_of c.args.terms.now) c.args.room.now c.args.terms.now.most c.requires.works.0 c.args.self.now.version c.args.self.now.buf c.args.self.now.seat c.requires.works.1 (omega arith))),
+    )
+
+pub returns-in-Leads-clause-falls : goal.returns-in-Leads-clause-falls
+returns-in-Leads-clause-falls g c =
+    let e = c.in-Leads.ensures in
+    let w = c.promote.ensures.works (judges_of c.args.terms.now) c.args.terms.now.most c.requires.works.0 (e.after c.requires.works.0 c.requires.works.1) in
+    let few = works_few (judges_of c.args.terms.now) c.args.room.now c.args.terms.now.most c.requires.works.0 c.promote.new.self.version c.promote.new.self.buf c.promote.new.self.seat w in
+    let seen = c.promote.ensures.seen in
+    let one = e.one in
+    let rises = e.rewrites in
+    let kept = c.promote.ensures.rewrites in
+    let took = took_one c.step.new.self.seat c.promote.new.self.seat c.promote.ensures.leads in
+    let seat = e.seat in
+    seat_falls _ _ _ _ _ _ _ _ (omega arith, omega arith) (omega arith) few (c.promote.ensures.spare ∙ e.spare) (omega arith)
+
+pub returns-in-Hands-clause-falls : goal.returns-in-Hands-clause-falls
+returns-in-Hands-clause-falls g c =
+    let e = c.in-Hands.ensures in
+    let can = e.after c.requires.works.0 c.requires.works.1 in
+    let w = c.hand_over.ensures.works (judges_of c.args.terms.now) c.args.terms.now.most c.requires.works.0 can in
+    let few = works_few (judges_of c.args.terms.now) c.args.room.now c.args.terms.now.most c.requires.works.0 c.hand_over.new.self.version c.hand_over.new.self.buf c.hand_over.new.self.seat w in
+    let seen = c.hand_over.ensures.seen in
+    let one = e.one in
+    let rises = e.rewrites in
+    let kept = c.hand_over.ensures.rewrites in
+    let was = hands_lead (judges_of c.args.terms.now) c.args.room.now c.args.terms.now.most c.requires.works.0 c.step.new.self.version c.step.new.self.buf c.step.new.self.seat can in
+    let now = at_most_two c.hand_over.new.self.seat in
+    let seat = e.seat in
+    let grew = e.tells.0 in
+    hands_falls _ _ _ _ _ _ _ _ (omega arith, omega arith) (omega arith) few (omega arith) (c.hand_over.ensures.spare ∙ e.spare) (omega arith)
+
+pub returns-in-Leaves-clause-falls : goal.returns-in-Leaves-clause-falls
+returns-in-Leaves-clause-falls g c =
+    let e = c.in-Leaves.ensures in
+    let can = e.after c.requires.works.0 c.requires.works.1 in
+    let w = c.depart.ensures.works (judges_of c.args.terms.now) c.args.terms.now.most c.requires.works.0 can in
+    let few = works_few (judges_of c.args.terms.now) c.args.room.now c.args.terms.now.most c.requires.works.0 c.depart.new.self.version c.depart.new.self.buf c.depart.new.self.seat w in
+    let seen = c.depart.ensures.seen in
+    let one = e.one in
+    let rises = e.rewrites in
+    let kept = ap (λ (v : Running Proc). v.at.rewrites) c.depart.ensures.same in
+    let none = gone_none c.depart.new.self.seat c.depart.ensures.gone in
+    let some = leaves_some (judges_of c.args.terms.now) c.args.room.now c.args.terms.now.most c.requires.works.0 c.step.new.self.version c.step.new.self.buf c.step.new.self.seat can in
+    let seat = e.seat in
+    let spare = c.depart.ensures.spare ∙ e.spare in (
+      stays_level _ _ _ _ _ _ _ _ (omega arith, omega arith) (omega arith) few (omega arith) (omega arith),
+      λ stood. seat_falls _ _ _ _ _ _ _ _ (omega arith, omega arith) (omega arith) few spare (omega arith),
+    )

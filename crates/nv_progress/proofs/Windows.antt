@@ -1,0 +1,41 @@
+-- In each state some seat's turn doesn't wait.
+use Rattle.std.proofs.Common.{◌≡◌, ℕ, List, subst}
+use mathlib.Core.Option.{some}
+use lib.ListN.{get_elem?}
+use Rattle.std.specs.Prelude.{Option}
+use Rattle.atomic_table.specs.Table.{State}
+use Rattle.nv_calls.specs.Calls.{Entry}
+use Rattle.nv_calls.specs.Logs.{Start}
+use Rattle.nv_room.specs.declared.view.View.{View}
+use Rattle.nv_room.specs.declared.view.Layout.{Layout}
+use Rattle.nv_room.specs.declared.view.Role.{Role}
+use Rattle.nv_room.specs.declared.view.Role.TheVariants.{Reader, Lead, Opening, Leaving, Moving, Gone, Spent}
+use Rattle.nv_room.specs.Room.{Moment, Rule}
+use Rattle.nv_progress.specs.GetsOn.{moment, AllSeated, CanGetOn, SomeStays, Stays}
+use Rattle.nv_progress.specs.Traces.{NeedNotWait}
+use Rattle.nv_progress.proofs.Stuck.{not_stuck}
+use Rattle.nv_progress.proofs.Waiting.{no_reader_waits}
+use Rattle.nv_progress.proofs.LeadWaiting.{no_lead_waits}
+
+can_stays : {T : Type 0} (c : ℕ) (m : Moment) (v : View T) (role : Role) → CanGetOn c m v role → Stays role
+can_stays c m v Reader k = tt
+can_stays c m v Lead k = tt
+can_stays c m v Opening k = tt
+can_stays c m v Leaving k = tt
+can_stays c m v Moving k = tt
+can_stays c m v Gone k = absurd k
+can_stays c m v Spent k = absurd k
+
+pub some_need_not : {K : Type 0} (hist : K → List Entry) (beg : K → Start) (p : Layout K) (s : State (Option K) (View K)) (r : Rule hist beg p s) → AllSeated p s.views → SomeStays s.views
+    → (j : ℕ) × (v : View K) × (get_elem? s.views j ≡ some v) × NeedNotWait hist beg p s j v
+some_need_not hist beg p s r all some_stays =
+    let o = not_stuck hist beg p s r all some_stays in (
+      o.0,
+      o.1,
+      o.2,
+      record {
+        reads_on = λ is xs last w t looks end waits. no_reader_waits hist beg p xs s last r o.0 o.1 w t looks o.2 is (subst (CanGetOn p.places (moment r) o.1) is o.3) end waits;
+        leads_on = λ is xs last w t looks end waits. no_lead_waits hist beg p xs s last r o.0 o.1 w t looks o.2 is (subst (CanGetOn p.places (moment r) o.1) is o.3) end waits;
+        stays = can_stays p.places (moment r) o.1 o.1.role o.3;
+      },
+    )

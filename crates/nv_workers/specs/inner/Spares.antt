@@ -1,0 +1,13 @@
+-- In how many turns a version may still go on while it waits.
+use Rattle.std.specs.Prelude.{◌≡◌, ◌<◌, ℕ}
+use Rattle.nv_workers.specs.declared.follows.Next.{Next}
+use Rattle.nv_workers.specs.declared.follows.Next.TheVariants.{Moved, Ahead, Waits, Leads, Hands, Leaves, Left}
+
+abbrev pub HasSpared : ℕ → ℕ → Next → Type 0
+HasSpared old new Moved = new ≡ old
+HasSpared old new Ahead = new < old
+HasSpared old new Waits = new ≡ old
+HasSpared old new Leads = new ≡ old
+HasSpared old new Hands = new ≡ old
+HasSpared old new Leaves = new ≡ old
+HasSpared old new Left = new ≡ old
