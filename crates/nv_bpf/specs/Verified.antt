@@ -22,13 +22,13 @@ constant_fault ShiftLeft i k = unless (nat_le k 31) (fault.Shift i)
 constant_fault ShiftRight i k = unless (nat_le k 31) (fault.Shift i)
 constant_fault _ i k = None
 
--- the fault of instruction i of n, by what it does; the pair has 132 bytes, the scratch memory sixteen words
+-- the fault of instruction i of n, by what it does; the pair has 140 bytes, the scratch memory sixteen words
 abbrev pub action_fault : Action → ℕ → ℕ → Op → Option FilterFault
 action_fault Jump n i op = unless (nat_lt (i + 1 + op.k) n) (fault.Jump i)
 action_fault (Branch c s) n i op = unless (nat_lt (i + 1 + op.jt) n && nat_lt (i + 1 + op.jf) n) (fault.Jump i)
 action_fault (LoadScratch r) n i op = unless (nat_le op.k 15) (fault.Scratch i)
 action_fault (Store r) n i op = unless (nat_le op.k 15) (fault.Scratch i)
-action_fault LoadWord n i op = unless (op.k % 4 == 0 && nat_le op.k 128) (fault.Offset i)
+action_fault LoadWord n i op = unless (op.k % 4 == 0 && nat_le op.k 136) (fault.Offset i)
 action_fault (Compute a Constant) n i op = constant_fault a i op.k
 action_fault _ n i op = None
 

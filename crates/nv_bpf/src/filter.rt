@@ -83,7 +83,7 @@ fn action_fault(action: Action, count: usize, i: u32, op: Op) -> Option<FilterFa
             FilterFault::Jump(i)
         }
         Action::LoadScratch(_) | Action::Store(_) if op.k > 15 => FilterFault::Scratch(i),
-        Action::LoadWord if op.k % 4 != 0 || op.k > 128 => FilterFault::Offset(i),
+        Action::LoadWord if op.k % 4 != 0 || op.k > 136 => FilterFault::Offset(i),
         Action::Compute(arithmetic, Operand::Constant) => {
             return constant_fault(arithmetic, i, op.k);
         }
