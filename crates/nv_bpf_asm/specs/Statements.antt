@@ -63,8 +63,8 @@ return_of text = if bytes_eq text (codes "a") then Some (Plain 0x16 0) else (
 unfoldable pub load_of : List ℕ → Option Statement
 load_of text = if bytes_eq text (codes "len") then Some (Plain 0x80 0) else (
     if bytes_eq text (codes "version") then Some (Plain 0x20 128) else (
-    if bytes_eq text (codes "bytes") then Some (Plain 0x20 132) else (
-    if bytes_eq text (codes "event.bytes") then Some (Plain 0x20 136) else
+    if bytes_eq text (codes "bytes") then Some (Plain 0x20 136) else (
+    if bytes_eq text (codes "event.bytes") then Some (Plain 0x20 140) else
     option_or (plain 0x00 (constant text)) (option_or (plain 0x60 (between (codes "M[") text))
     (option_or (plain 0x20 (between (codes "[") text)) (plain 0x20 (option_and_then of_event (between (codes "event[") text))))))))
 

@@ -119,10 +119,10 @@ fn load<'a>(operand: &[u8]) -> Option<Statement<'a>>
         return Some(Statement::Plain(0x20, 128));
     }
     if is(operand, "bytes") {
-        return Some(Statement::Plain(0x20, 132));
+        return Some(Statement::Plain(0x20, 136));
     }
     if is(operand, "event.bytes") {
-        return Some(Statement::Plain(0x20, 136));
+        return Some(Statement::Plain(0x20, 140));
     }
     if let Some(k) = constant(operand) {
         return Some(Statement::Plain(0x00, k));

@@ -15,5 +15,6 @@ call_words nr args = nr ∷ 0x400000f3 ∷ 0 ∷ 0 ∷ argument_words args
 abbrev pub count_word : List ℕ → ℕ
 count_word payload = min (length payload) (2 ^ 32 - 1)
 
+-- no filter reads the word before the counts, which is at 132, the length that `ld len` gives
 unfoldable pub pair_words : Request → Entry → ℕ → List ℕ
-pair_words c e version = call_words c.nr c.args ++ (call_words e.call.nr e.call.args ++ version ∷ count_word c.payload ∷ count_word e.call.payload ∷ [])
+pair_words c e version = call_words c.nr c.args ++ (call_words e.call.nr e.call.args ++ version ∷ 0 ∷ count_word c.payload ∷ count_word e.call.payload ∷ [])

@@ -11,7 +11,7 @@ const ARCHITECTURE: u32 = 0x4000_00f3;
 /// A follower's call, the leader's event, the version, and how many bytes each call hands in, as a filter reads them.
 #[derive(Clone, Copy, Debug, PartialEq, Eq)]
 pub struct Pair {
-    pub words: [u32; 35],
+    pub words: [u32; 36],
 }
 
 fn call_words(nr: u32, args: &[u32; 6]) -> [u32; 16]
@@ -32,9 +32,10 @@ fn count_word(payload: &Bytes) -> u32
 pub fn pair_of(call: &Call, event: &Event, version: u32) -> Pair
     ensures { result.words ≡ pair_words (request call.now) (entry event.now) version }
 {
-    let mut words = [version; 35];
-    words[33] = count_word(&call.payload);
-    words[34] = count_word(&event.call.payload);
+    let mut words = [0; 36];
+    words[32] = version;
+    words[34] = count_word(&call.payload);
+    words[35] = count_word(&event.call.payload);
     words[..16].copy_from_slice(&call_words(call.nr, &call.args));
     words[16..32].copy_from_slice(&call_words(event.call.nr, &event.call.args));
     Pair { words }

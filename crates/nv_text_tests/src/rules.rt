@@ -8,14 +8,14 @@ use std::test::Fail;
 // The words that the filters here read: each call's number and its third argument, the version, and how many bytes each call hands in, which is
 // the third argument of a write that is whole.
 fn pair(follower: (u32, u32), leader: (u32, u32), version: u32) -> Pair {
-    let mut words = [0; 35];
+    let mut words = [0; 36];
     words[0] = follower.0;
     words[8] = follower.1;
     words[16] = leader.0;
     words[24] = leader.1;
     words[32] = version;
-    words[33] = follower.1;
-    words[34] = leader.1;
+    words[34] = follower.1;
+    words[35] = leader.1;
     Pair { words }
 }
 
@@ -78,8 +78,8 @@ fn values_of_instructions(rt: HostRuntime) {
         ("3\n129 0 0 0\n135 0 0 0\n22 0 0 0\n", 132),
         ("2\n32 0 0 128\n22 0 0 0\n", 3),
         // how many bytes the calls hand in
-        ("2\n32 0 0 132\n22 0 0 0\n", 10),
-        ("2\n32 0 0 136\n22 0 0 0\n", 20),
+        ("2\n32 0 0 136\n22 0 0 0\n", 10),
+        ("2\n32 0 0 140\n22 0 0 0\n", 20),
     ] {
         expect_value(&rt, rt.alloc(), text, &pair((64, 10), (94, 20), 3), want);
     }
@@ -260,7 +260,7 @@ fn words_of_a_pair(rt: HostRuntime) -> Result<(), Fail> {
     let pair = pair_of(&follower, &event, 7);
     let want = [
         63, 0x400000f3, 0, 0, 1, 0, 2, 0, 3, 0, 4, 0, 5, 0, 6, 0, 64, 0x400000f3, 0, 0, 10, 0, 20,
-        0, 30, 0, 40, 0, 50, 0, 60, 0, 7, 5, 3,
+        0, 30, 0, 40, 0, 50, 0, 60, 0, 7, 0, 5, 3,
     ];
     assert_eq!(rt; pair.words, want);
     Ok(())
