@@ -4,7 +4,8 @@
     parting.py [--program PROGRAM] --script S [--rules R] [--memory N] [--budget N] [--index I] TRACE VERSION
 
 The words but --program (usually `varan`) are those of `varan replay`. docs/PARTING.md says how it is read. Wants jq, for strace.jq.
-Status: 0 where the version is in step or exited, 1 where it parts or breaks, 2 for a faulty command line; where `varan` refuses a file its line is printed, and the status is that of `varan`.
+Status: 0 where the version is in step or exited, 1 where it parts or breaks, 2 for a faulty command line or where a program isn't there, the trace can't be read or a command takes
+longer than SECONDS; where `varan` refuses a file its line is told on standard error, and the status is that of `varan`.
 """
 import argparse
 import dataclasses
@@ -14,6 +15,7 @@ import struct
 import subprocess
 import sys
 
+SECONDS = 120
 STRACE = pathlib.Path(__file__).resolve().parent / "strace.jq"
 UNLINKAT, OPENAT, WRITE, READV, WRITEV, BIND = 35, 56, 64, 65, 66, 200
 # The arguments of each call that are values, from 0: those that are compared (docs/RULES.md). Addresses and what isn't used aren't.
@@ -129,10 +131,29 @@ class State:
         return Call(tid, nr, args, sent, False)
 
 
+def stop(why):
+    print(f"parting.py: {why}", file=sys.stderr)
+    sys.exit(2)
+
+
+def ended(words, given=None):
+    """The command once it has ended; where it can't be begun or takes too long, a sentence in its place."""
+    try:
+        return subprocess.run(words, input=given, stdout=subprocess.PIPE, text=True, timeout=SECONDS)
+    except FileNotFoundError:
+        stop(f"there is no program {words[0]}" + (" (Debian: jq)" if words[0] == "jq" else " (--program names another)"))
+    except OSError as error:
+        stop(f"{words[0]} can't be begun: {error.strerror}")
+    except subprocess.TimeoutExpired:
+        stop(f"{words[0]} takes longer than {SECONDS} seconds, and was ended")
+
+
 def printed(calls):
     """The calls as strace prints them."""
     log = [{"tid": c.tid, "nr": c.nr, "args": c.args, "ret": c.ret, "payload": (c.sent + c.got).hex(), "stamp": 0} for c in calls]
-    done = subprocess.run(["jq", "-r", "-f", STRACE], input=json.dumps({"log": log}), stdout=subprocess.PIPE, text=True, check=True)
+    done = ended(["jq", "-r", "-f", STRACE], json.dumps({"log": log}))
+    if done.returncode:
+        stop(f"jq ended with {done.returncode}")
     return done.stdout.splitlines()
 
 
@@ -166,11 +187,23 @@ def bytes_difference(one, other):
 
 
 def run(words):
-    done = subprocess.run(words, stdout=subprocess.PIPE, text=True)
+    done = ended(words)
     if done.stdout.startswith("varan: "):
-        print(done.stdout, end="")
+        print(done.stdout, end="", file=sys.stderr)
         sys.exit(done.returncode)
+    if not done.stdout:
+        stop(f"{words[0]} wrote nothing, and ended with {done.returncode}")
     return done.stdout.splitlines()
+
+
+def event_of(trace, place):
+    """The event of the trace at this place."""
+    try:
+        return read_trace(trace)[place]
+    except OSError as error:
+        stop(f"{trace} can't be read: {error.strerror}")
+    except (struct.error, IndexError):
+        stop(f"{trace} has no whole event {place}")
 
 
 def main():
@@ -190,7 +223,7 @@ def main():
         print(line)
         return 0
     seen = int(end[end.index("seen") + 1])
-    logged = read_trace(words.trace)[seen]
+    logged = event_of(words.trace, seen)
     print(f"event    {seen}, of thread {logged.tid}; rewrites before it: {end[-1]}")
     if end[0] == "fault":
         print("log     ", *printed([logged]))
@@ -209,4 +242,5 @@ def main():
     return 1
 
 
-sys.exit(main())
+if __name__ == "__main__":
+    sys.exit(main())
