@@ -147,6 +147,39 @@ is_for_want() {
     esac
 }
 
+# sized WORD..: the bytes of the program's greatest allocation, and how many threads it starts.
+sized() {
+    under=(env "LD_PRELOAD=$work/failing.so" "SIZED=$work/sized")
+    started "$@" >/dev/null
+    under=()
+    cat "$work/sized"
+}
+
+# on_threads COUNT WORD..: a run of eight versions on so many threads starts one less beside its first.
+on_threads() {
+    local count=$1 created
+    shift
+    rows=$((rows + 1))
+    read -r _ created < <(sized run --threads "$count" "$@")
+    if [ "$created" != $((count - 1)) ]; then
+        echo "check.sh: $created threads are started in place of $((count - 1)): varan run --threads $count $*"
+        wrong=$((wrong + 1))
+    fi
+}
+
+# ring_grows WORD..: the table of a run grows by the same for each place of its ring.
+ring_grows() {
+    local small middle large
+    rows=$((rows + 1))
+    read -r small _ < <(sized run --ring 256 "$@")
+    read -r middle _ < <(sized run --ring 512 "$@")
+    read -r large _ < <(sized run --ring 1024 "$@")
+    if [ "$middle" -le "$small" ] || [ $((large - middle)) != $((2 * (middle - small))) ]; then
+        echo "check.sh: tables of $small, $middle and $large bytes by rings of 256, 512 and 1024 places: varan run $*"
+        wrong=$((wrong + 1))
+    fi
+}
+
 # record STATUS TRACE WORD..: records a run.
 record() {
     local wanted=$1 trace=$2 status=0
@@ -244,7 +277,7 @@ unwritten rules "$missing"
 unwritten asm $'\xff'
 unwritten "${long[@]}"
 # calls of the host that fail once
-if has cc gcc "calls of the host that fail once, and want of memory"; then
+if has cc gcc "calls of the host that fail once, want of memory, rings and threads"; then
     cc -O1 -shared -fPIC -o "$work/failing.so" "$here/../bench/hostile_parts/failing.c"
     failing open:0 says 5 'varan: read script' run --script script --rules "$work/filter" "$work/hi"
     failing open:1 says 5 "varan: read $work/filter" run --script script --rules "$work/filter" "$work/hi"
@@ -262,6 +295,11 @@ if has cc gcc "calls of the host that fail once, and want of memory"; then
     wanting 3 asm hi.s
     wanting "3 7" run --threads 1 --script script "$work/hi"
     wanting 3 record --threads 1 --script script "$work/hi"
+    # the ring and the threads that the options ask for; the memory of the version is smaller than the rings
+    ring_grows --script script --memory 196608 "$work/hi"
+    for count in 1 2 3 8; do
+        on_threads "$count" --script script "$work"/{hi,hi,hi,hi,hi,hi,hi,hi}
+    done
 fi
 
 cd ../service
