@@ -24,6 +24,7 @@ ghost use Rattle.nv_progress.specs.GetsOn.{moment, AllSeated, CanGetOn, HasEvent
 ghost use Rattle.nv_progress.specs.Steps.{Kind, looks_head, looks_owner, looks_cursor, looks_spare, probes, reads, writes, sees, publishes, takes, gives_up, leaves, opens, hands, moves, StepGives, Went, steps_left, steps_on};
 ghost use Rattle.nv_progress.specs.Plays.{Does, MayDo};
 ghost use Rattle.nv_progress.specs.Traces.{NeedNotWait};
+ghost use Rattle.nv_progress.specs.Runs.{IsFair, IsRun, TakesTurns, Windows, all_left};
 
 use nv_served::SyscallKernel;
 
@@ -97,4 +98,18 @@ pub fn the_room_allows_these_steps<K: SyscallKernel>()
     ensures hands { (p : Layout K) (id : ℕ) (me : Me (Option K) (View K)) (k : K) → me.0.role ≡ Opening → me.1 ≡ (0, Some k) ∷ [] → map spell (K.log k) ≡ me.0.seen → IsLawful (K.log k)
         → ForSome me.0.start (λ s. K.start k ≡ K.start s.value) → MayDo K.log K.start p id me (λ _. hands (owner_word free me.0.station (me.0.opened + 1) (length me.0.seen))) }
     ensures moves { (p : Layout K) (id : ℕ) (me : Me (Option K) (View K)) → me.0.role ≡ Moving → MayDo K.log K.start p id me (λ _. moves) }
+{}
+
+/// A run comes to a moment at which all seats have left, where no moment comes after which none of the seats that can get on has a turn; that is so where
+/// each seat that hasn't left has turns again and again.
+pub fn every_run_ends<K: SyscallKernel>()
+    ensures fair { (p : Layout K) (state : ℕ → State (Option K) (View K)) (left : ℕ → ℕ → ℕ) → IsRun K.log K.start p state left → IsFair K.log K.start p state left → (i : ℕ) × (SomeStays (state i).views → ⊥) }
+    ensures turns { (p : Layout K) (state : ℕ → State (Option K) (View K)) (left : ℕ → ℕ → ℕ) → IsRun K.log K.start p state left → TakesTurns K.log K.start p state left → (i : ℕ) × (SomeStays (state i).views → ⊥) }
+{}
+
+/// In each window in which all seats that haven't left have a turn, fewer steps and turns are left; so there are no more windows than that before all have left.
+pub fn each_window_leaves_less<K: SyscallKernel>()
+    ensures falls { (p : Layout K) (state : ℕ → State (Option K) (View K)) (left : ℕ → ℕ → ℕ) → IsRun K.log K.start p state left → (n a b : ℕ) → Windows K.log K.start p state left n a b → SomeStays (state b).views → n + all_left K.log K.start p state left b ≤ all_left K.log K.start p state left a }
+    ensures few { (p : Layout K) (state : ℕ → State (Option K) (View K)) (left : ℕ → ℕ → ℕ) → IsRun K.log K.start p state left → (n b : ℕ) → Windows K.log K.start p state left n 0 b → SomeStays (state b).views → n ≤ all_left K.log K.start p state left 0 }
+    ensures most { (p : Layout K) (state : ℕ → State (Option K) (View K)) (left : ℕ → ℕ → ℕ) (most : ℕ) → ((j : ℕ) → left 0 j ≤ most) → all_left K.log K.start p state left 0 ≤ length (state 0).views * (MOST_EVENTS + 4 * p.stations + 4 + most) }
 {}
