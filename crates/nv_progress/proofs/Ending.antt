@@ -28,7 +28,7 @@ use Rattle.nv_progress.proofs.Waiting.{own_step as reader_step, saw_now, saw_can
 use Rattle.nv_progress.proofs.LeadWaiting.{own_step as lead_step, place_now}
 use Rattle.nv_progress.proofs.Windows.{can_stays, need_not}
 use Rattle.nv_progress.proofs.Kept.{same_role, same_version, live_on, stayed}
-use Rattle.nv_progress.proofs.Sums.{steps_fall, some_or_none, turns_stay, turns_fall}
+use Rattle.nv_progress.proofs.Sums.{steps_fall, some_left, some_or_none, turns_stay, turns_fall}
 
 module _ {K : Type 0} (hist : K → List Entry) (beg : K → Start) (p : Layout K) where
   abbrev St : Type 0
@@ -234,8 +234,8 @@ module _ {K : Type 0} (hist : K → List Entry) (beg : K → Start) (p : Layout 
       let f = one_less a w.0 c.0 le c.1 (w.1.1 c.0) in
       omega arith
 
-  pub few_windows : (n b : ℕ) → Windows hist beg p state left n 0 b → SomeStays (state b).views → n ≤ left_at 0
-  few_windows n b w some_stays = let q = windows_fall n 0 b w some_stays in omega arith
+  pub few_windows : (n b : ℕ) → Windows hist beg p state left n 0 b → SomeStays (state b).views → n < left_at 0
+  few_windows n b w some_stays = let q = windows_fall n 0 b w some_stays in let some = some_left p.stations (state b).views some_stays in omega arith
 
   ends_by : (m a : ℕ) → IsFair hist beg p state left → left_at a ≤ m → (i : ℕ) × (SomeStays (state i).views → ⊥)
   ends_by zero a fair le = ⊎_elim

@@ -9,7 +9,7 @@ use Rattle.nv_room.specs.declared.view.View.{View}
 use Rattle.nv_room.specs.declared.view.Role.{Role}
 use Rattle.nv_room.specs.declared.view.Role.TheVariants.{Reader, Lead, Opening, Leaving, Moving, Gone, Spent}
 use Rattle.nv_progress.specs.GetsOn.{Stays, SomeStays}
-use Rattle.nv_progress.specs.Steps.{steps_left}
+use Rattle.nv_progress.specs.Steps.{steps_left, turns_at}
 use Rattle.nv_calls.specs.Limits.{MOST_EVENTS}
 use Rattle.nv_progress.proofs.Falling.{at_most_four}
 use Rattle.nv_progress.specs.Runs.{steps_of, turns_of}
@@ -23,12 +23,30 @@ stays_or_not Moving = inl tt
 stays_or_not Gone = inr (λ s. s)
 stays_or_not Spent = inr (λ s. s)
 
+stays_some : (role : Role) → Stays role → 0 < turns_at role
+stays_some Reader s = omega arith
+stays_some Lead s = omega arith
+stays_some Opening s = omega arith
+stays_some Leaving s = omega arith
+stays_some Moving s = omega arith
+stays_some Gone s = absurd s
+stays_some Spent s = absurd s
+
 module _ {T : Type 0} where
   -- one seat's step, of g that get on
   pub steps_fall : (n : ℕ) (vs : List (View T)) (id g : ℕ) (v w : View T) → get_elem? vs id ≡ some v → g + steps_left n w ≤ steps_left n v → g + steps_of n (set vs id w) ≤ steps_of n vs
   steps_fall n [] id g v w at le = absurd (some-ne-none v (sym at))
   steps_fall n (x ∷ xs) zero g v w at le = let e = ap (λ (z : View T). steps_left n z) (some-injective x v at) in omega arith
   steps_fall n (x ∷ xs) (suc id) g v w at le = let q = steps_fall n xs id g v w at le in omega arith
+
+  left_some : (n : ℕ) (vs : List (View T)) (j : ℕ) (v : View T) → get_elem? vs j ≡ some v → Stays v.role → 0 < steps_of n vs
+  left_some n [] j v at s = absurd (some-ne-none v (sym at))
+  left_some n (x ∷ xs) zero v at s = let a = stays_some v.role s in let e = ap (λ (z : View T). turns_at z.role) (some-injective x v at) in omega arith
+  left_some n (x ∷ xs) (suc j) v at s = let q = left_some n xs j v at s in omega arith
+
+  -- who has still to leave has a step left
+  pub some_left : (n : ℕ) (vs : List (View T)) → SomeStays vs → 0 < steps_of n vs
+  some_left n vs q = left_some n vs q.0 q.1 q.2 q.3
 
   none_more : (x : View T) (xs : List (View T)) → (Stays x.role → ⊥) → (SomeStays xs → ⊥) → (j : ℕ) (v : View T) → get_elem? (x ∷ xs) j ≡ some v → Stays v.role → ⊥
   none_more x xs first others zero v at s = first (subst (λ (z : View T). Stays z.role) (sym (some-injective x v at)) s)

@@ -107,9 +107,9 @@ pub fn every_run_ends<K: SyscallKernel>()
     ensures turns { (p : Layout K) (state : ℕ → State (Option K) (View K)) (left : ℕ → ℕ → ℕ) → IsRun K.log K.start p state left → TakesTurns K.log K.start p state left → (i : ℕ) × (SomeStays (state i).views → ⊥) }
 {}
 
-/// In each window in which all seats that haven't left have a turn, fewer steps and turns are left; so there are no more windows than that before all have left.
+/// In each window in which all seats that haven't left have a turn, fewer steps and turns are left; so all have left after as many windows as were left of them at the start.
 pub fn each_window_leaves_less<K: SyscallKernel>()
     ensures falls { (p : Layout K) (state : ℕ → State (Option K) (View K)) (left : ℕ → ℕ → ℕ) → IsRun K.log K.start p state left → (n a b : ℕ) → Windows K.log K.start p state left n a b → SomeStays (state b).views → n + all_left K.log K.start p state left b ≤ all_left K.log K.start p state left a }
-    ensures few { (p : Layout K) (state : ℕ → State (Option K) (View K)) (left : ℕ → ℕ → ℕ) → IsRun K.log K.start p state left → (n b : ℕ) → Windows K.log K.start p state left n 0 b → SomeStays (state b).views → n ≤ all_left K.log K.start p state left 0 }
+    ensures few { (p : Layout K) (state : ℕ → State (Option K) (View K)) (left : ℕ → ℕ → ℕ) → IsRun K.log K.start p state left → (n b : ℕ) → Windows K.log K.start p state left n 0 b → SomeStays (state b).views → n < all_left K.log K.start p state left 0 }
     ensures most { (p : Layout K) (state : ℕ → State (Option K) (View K)) (left : ℕ → ℕ → ℕ) (most : ℕ) → ((j : ℕ) → left 0 j ≤ most) → all_left K.log K.start p state left 0 ≤ length (state 0).views * (MOST_EVENTS + 4 * p.stations + 4 + most) }
 {}
