@@ -179,6 +179,12 @@ def difference(logged, own):
     return bytes_difference(logged.sent, own.sent)
 
 
+def is_taken(logged, own):
+    """Whether the calls are writes to one descriptor with other bytes, of which the event's wrote all or failed: what the verdict Take lets through (docs/RULES.md)."""
+    same = logged.nr == own.nr and logged.nr in (WRITE, WRITEV) and logged.args[0] == own.args[0] and not logged.bad and not own.bad
+    return same and logged.sent != own.sent and (logged.ret < 0 or logged.ret == len(logged.sent))
+
+
 def bytes_difference(one, other):
     if one == other:
         return []
@@ -239,6 +245,8 @@ def main():
     # What the version's call would give isn't known.
     print("version ", of_version.rsplit(" = ", 1)[0])
     print(*difference(logged, own), sep="\n")
+    if is_taken(logged, own):
+        print("rule     other bytes in the same write: `ret #take` gives it the event's answer")
     return 1
 
 

@@ -127,7 +127,7 @@ use Rattle.nv_bpf.specs.Actions.{actions, action_of}
 use Rattle.nv_bpf.specs.Faults.{filter_text}
 use Rattle.nv_bpf.specs.Texts.{at_most, field, op_with, op_of_fields, op_of, put_first, with_line, ops_of, line_count, ops_after, ops_of_lines, ops_of_text, filter_with, filter_of, ended_number, op_text, ops_text}
 use Rattle.nv_bpf.specs.Verified.{unless, constant_fault, action_fault, fault_by, op_fault, is_return, or_later_fault, ops_fault, ends_in_return, list_fault, ops_or, verified}
-use Rattle.nv_rules.specs.Pair.{argument_words, call_words, pair_words}
+use Rattle.nv_rules.specs.Pair.{argument_words, call_words, count_word, pair_words}
 use Rattle.nv_rules.specs.Values.{FilterState, filter_start, held, with_register, other, operand_of, calculated, comparison_holds, Effect, goes_with, ends_without, acted, gone_on, stepped, returned_from, returned, value_of}
 use Rattle.nv_rules.specs.Verdicts.{verdict_of}
 use Rattle.nv_replay.specs.Account.{IsSettled}
