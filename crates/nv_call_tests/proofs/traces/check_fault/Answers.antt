@@ -3,7 +3,7 @@ use Rattle.nv_calls.specs.declared.calls.Event.{Event}
 use Rattle.nv_calls.specs.Calls.{entry}
 use Rattle.nv_trace.specs.Checks.{AreStamped}
 use Rattle.nv_trace.proofs.Recording.{recordable_stamped}
-use Rattle.nv_trace_tests.proofs.traces.check_fault.Goals as goal
+use Rattle.nv_call_tests.proofs.traces.check_fault.Goals as goal
 
 pub check-requires-clause-stamped : goal.check-requires-clause-stamped
 check-requires-clause-stamped c κs =

@@ -1,7 +1,7 @@
 use Rattle.std.proofs.Common.{◌≡◌, ◌+◌, map, drop}
 use Rattle.nv_elf.specs.Elf.{segment_range}
 use Rattle.nv_elf.specs.Written.{range_bytes}
-use Rattle.nv_machine_tests.proofs.executables.is_small.Given as goal
+use Rattle.nv_call_tests.proofs.executables.is_small.Given as goal
 
 -- what is left is less by the bytes of the segments so far
 abbrev pub invariant-loop-segment : goal.invariant-loop-segment
