@@ -43,7 +43,7 @@ use Rattle.nv_trace.specs.Checks.{check_fault}
 use Rattle.nv_jobs.specs.Due.{replayed, shown}
 use Rattle.nv_replay.specs.Follow.{follow}
 use Rattle.nv_jobs.specs.Replayed.{replay_text, replay_status}
-use Rattle.nv_retrace.specs.Points.{at_point}
+use Rattle.nv_inspect.specs.Points.{at_point}
 use Rattle.nv_inspect.specs.Shown.{show_text}
 -- What the source's counts show.
 use Rattle.nv_jobs.specs.Due.{Shows, IsUntouched}
@@ -164,8 +164,8 @@ use Rattle.nv_trace.specs.Faults.{has_head, head_fault, event_fault, events_faul
 use Rattle.nv_trace.specs.Held.{count_in, bad_in, sent_in, came_in, size_in, request_in, response_in, entry_in, entries_in, log_in}
 use Rattle.nv_trace.specs.Texts.{trace_text, check_text}
 use Rattle.nv_trace.specs.Trace.{number_bytes, bit, arg, fields_of, event_bytes, head_bytes}
-use Rattle.nv_retrace.specs.Points.{place_of, events_to, budget_to}
 use Rattle.nv_inspect.specs.Firsts.{texts_below}
+use Rattle.nv_inspect.specs.Points.{place_of, events_to, budget_to}
 use Rattle.nv_inspect.specs.Shown.{word_text, standing_text, place_text, heading_text, register_text, registers_text, counter_text, thread_text, live_text, threads_text, opened_text, named_text, descriptor_as, descriptor_text, descriptors_text, cell_text, byte_text, row_text, memory_line, dump_text}
 use Rattle.nv_command.specs.Simple.{option_rule, flag_rule, file_rule, files_rule, required, simple_app, run_options, run_app, record_app, trail_options, look_options, trail_files, replay_app, inspect_app, rules_app, asm_app, gen_app}
 use Rattle.nv_command.specs.Words.{texts, unless_faulty, rows_of_line, number_between, number_within, in_pages, ring_of, memory_of, budget_of, calls_asked, threads_asked, Limits, usual, limits_of, versions_asked, is_set, Plan, plan_of, report_plan_of, index_of, Trail, trail_of, Point, point_from, point_of, range_of, dump_from, dump_of, Look, look_of, Job, rules_job_of, asm_job_of, number_in, Command, Name, name_spelt, run_line, rules_line, asm_line, gen_line, record_line, replay_line, inspect_line, asked_by, after_program}

@@ -5,8 +5,8 @@ use Rattle.nv_calls.specs.Calls.{Entry}
 use Rattle.nv_machine.specs.Guest.{Machine}
 use Rattle.nv_threads.specs.Threads.{Proc, threads, started}
 use Rattle.nv_replay.specs.Follow.{Follower, follow, fresh, judge_of}
-use Rattle.nv_retrace.specs.declared.points.TracePoint.{TracePoint}
-use Rattle.nv_retrace.specs.declared.points.TracePoint.TheVariants.{Stamp, Call, Count}
+use Rattle.nv_inspect.specs.declared.points.TracePoint.{TracePoint}
+use Rattle.nv_inspect.specs.declared.points.TracePoint.TheVariants.{Stamp, Call, Count}
 
 -- the place of the first event of a number; the length where there is none
 abbrev pub place_of : ℕ → List Entry → ℕ

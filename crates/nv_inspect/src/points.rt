@@ -4,7 +4,7 @@ ghost use Rattle.nv_calls.specs.Calls.{entry};
 ghost use Rattle.nv_threads.specs.Threads.{threads};
 ghost use Rattle.nv_replay.specs.Follow.{follow, fresh, judge_of};
 ghost use Rattle.nv_replay.specs.Version.{IsFresh};
-ghost use Rattle.nv_retrace.specs.Points.{place_of, events_to};
+ghost use Rattle.nv_inspect.specs.Points.{place_of, events_to};
 
 use nv_bpf::Filter;
 use nv_calls::Event;

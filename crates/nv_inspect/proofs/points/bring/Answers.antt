@@ -5,10 +5,10 @@ use Rattle.nv_calls.proofs.LogLaws.{lawful_take}
 use Rattle.nv_threads.specs.Threads.{Proc, threads}
 use Rattle.nv_replay.specs.Follow.{Follower, IsInStep, follow, judge_of}
 use Rattle.nv_replay.specs.Version.{Running, IsFresh}
-use Rattle.nv_retrace.specs.Points.{place_of, events_to}
-use Rattle.nv_retrace.specs.declared.points.TracePoint.{TracePoint}
-use Rattle.nv_retrace.specs.declared.points.TracePoint.TheVariants.{Stamp, Call, Count}
-use Rattle.nv_retrace.proofs.points.bring.Goals as goal
+use Rattle.nv_inspect.specs.Points.{place_of, events_to}
+use Rattle.nv_inspect.specs.declared.points.TracePoint.{TracePoint}
+use Rattle.nv_inspect.specs.declared.points.TracePoint.TheVariants.{Stamp, Call, Count}
+use Rattle.nv_inspect.proofs.points.bring.Goals as goal
 
 lawful_to : (point : TracePoint) (log : List Entry) → IsLawful log → IsLawful (events_to point log)
 lawful_to (Stamp n) log ok = lawful_take log n ok

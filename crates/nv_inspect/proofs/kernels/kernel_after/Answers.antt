@@ -7,8 +7,8 @@ use Rattle.nv_calls.proofs.LogLaws.{at_prefix}
 use Rattle.nv_sockets.specs.Serving.{start_of_script}
 use Rattle.nv_script.specs.Views.{setup_of}
 use Rattle.nv_trace.proofs.Playing.{item_at, take_next}
-use Rattle.nv_retrace.proofs.Prefixes.{map_take}
-use Rattle.nv_retrace.proofs.kernels.kernel_after.Goals as goal
+use Rattle.nv_inspect.proofs.Prefixes.{map_take}
+use Rattle.nv_inspect.proofs.kernels.kernel_after.Goals as goal
 
 -- the event in a place of the history is the log's
 at_log : (h : List Event) (log : List Entry) (seen i : ℕ) (x : Event) → map entry h ≡ log → i < length (take seen h) → x ≡ get_or (take seen h) i x → slice_get log i ≡ Some (entry x)
