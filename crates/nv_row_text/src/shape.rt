@@ -5,10 +5,8 @@ use crate::entry::Field;
 /// Refuses fields of which a part would be passed over: one that stands a second time, one with words or content that say nothing, and
 /// one without the content that it is for.
 pub fn check(fields: &[Field]) -> Result<(), RowFault> {
-    let mut place = 0;
-    for field in fields {
+    for (place, field) in fields.iter().enumerate() {
         check_field(fields.get(..place).unwrap_or(&[]), field)?;
-        place += 1;
     }
     Ok(())
 }
