@@ -9,7 +9,8 @@ use Rattle.nv_served.specs.Learning.{GoesOn}
 use Rattle.nv_sockets.specs.Serving as sockets
 use Rattle.nv_sockets.specs.Serving.{State, serve, reply_of, start_of_script, first_state}
 use Rattle.nv_arriving.specs.declared.waiting.Want.{Want}
-use Rattle.nv_arriving.specs.Arrivals.{Arrival, ends, any_ends, until, taken_for, in_vain}
+use Rattle.nv_arrivals.specs.Arrivals.{Arrival}
+use Rattle.nv_arriving.specs.Arrivals.{ends, any_ends, until, taken_for, in_vain}
 use Rattle.nv_arriving.specs.Arriving.{Standing, Stage, wants, arrive_all, taken, ready_for, with_state, answer_next, serve_next, stage_after, Satisfied, start_at, first_standing, first_stage, start_of_arrivals}
 
 -- ---- what comes later
@@ -70,7 +71,7 @@ next_more : (g : Stage) (more : List Arrival) (c : Request) → in_vain (wants g
 next_more g more c h =
     let r = ready_more g more c h in
     let d : drop (taken (with_more g more) c) (g.rest ++ more) ≡ drop (taken g c) g.rest ++ more =
-        ap (λ (n : ℕ). drop n (g.rest ++ more)) (taken_more (wants g.here c) g.rest more h) ∙ drop_front (taken g c) g.rest more (taken_few (wants g.here c) g.rest) in
+    ap (λ (n : ℕ). drop n (g.rest ++ more)) (taken_more (wants g.here c) g.rest more h) ∙ drop_front (taken g c) g.rest more (taken_few (wants g.here c) g.rest) in
     λ i. record { here = with_state (r i) (serve (r i).state c).state; rest = d i }
 
 -- calls that all had what they waited for
@@ -124,7 +125,7 @@ goes_on_at g more log h = record {
       let front = calls_of (take i log) in
       let s = satisfied_front g log i h in
       let a : answer_next (stage_after (with_more g more) front) e.call ≡ answer_next (stage_after g front) e.call =
-          ap (λ (z : Stage). answer_next z e.call) (after_more g more front s) ∙ answer_more (stage_after g front) more e.call (satisfied_at g log i e h f) in
+      ap (λ (z : Stage). answer_next z e.call) (after_more g more front s) ∙ answer_more (stage_after g front) more e.call (satisfied_at g log i e h f) in
       λ j. record { stamp = length (take i log); call = e.call; reply = reply_of (a j) };
   console = λ i. ap (λ (z : Stage). z.here.state.own.files.console) (after_more g more (calls_of (take i log)) (satisfied_front g log i h));
   connections = λ i. ap (λ (z : Stage). map sockets.link_written z.here.state.net.links) (after_more g more (calls_of (take i log)) (satisfied_front g log i h));

@@ -15,12 +15,13 @@ use Rattle.nv_kernel.proofs.Keeping.{map_more}
 use Rattle.nv_sockets.specs.Serving.{State, Served, serve}
 use Rattle.nv_sockets.proofs.Going.{own_next}
 use Rattle.nv_arriving.specs.declared.waiting.Want.{Want}
-use Rattle.nv_arriving.specs.declared.arrivals.Arrival as code
-use Rattle.nv_arriving.specs.Arrivals.{Arrival, in_vain}
+use Rattle.nv_arrivals.specs.declared.arrival.Arrival as code
+use Rattle.nv_arrivals.specs.Arrivals.{Arrival}
+use Rattle.nv_arriving.specs.Arrivals.{in_vain}
 use Rattle.nv_arriving.specs.Arriving.{Standing, Stage, wants, taken, ready_for, answer_next, serve_next, first_stage, stage_after, Satisfied, start_of_arrivals}
 use Rattle.nv_arriving.specs.Kernel.{after, Grew}
 use Rattle.nv_arriving.proofs.Coming.{drop_front, taken_few, with_more, after_more, satisfied_last, satisfied_more, stage_last, goes_on}
-use Rattle.nv_arriving.specs.Views.{arrival_of}
+use Rattle.nv_arrivals.specs.Views.{view as arrival_of}
 use Rattle.nv_arriving.proofs.Steps.{drop_map, take_map}
 use Rattle.nv_arriving.proofs.Sides.{crew_still, served_still}
 

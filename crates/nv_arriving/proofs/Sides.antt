@@ -13,11 +13,15 @@ use Rattle.nv_kernel.specs.Crew.{Crew}
 use Rattle.nv_kernel.specs.Reserved.{can_answer, CanAnswer}
 use Rattle.nv_kernel.specs.Serving.{request_arg}
 use Rattle.std.specs.Prelude.{if◌then◌else◌}
-use Rattle.nv_sockets.specs.Reserved.{Buffered, can_send, CanSend}
+use Rattle.nv_sockets.specs.declared.socket.Socket.{Socket}
+use Rattle.nv_sockets.specs.declared.socket.Socket.TheVariants as socket
+use Rattle.nv_sockets.specs.Sockets.{socket_at}
+use Rattle.nv_sockets.specs.Reserved as sockets
+use Rattle.nv_sockets.specs.Reserved.{Buffered, can_send, CanSend, CanWriteTo}
 use Rattle.nv_arriving.specs.declared.waiting.Want.{Want}
-use Rattle.nv_arriving.specs.Arrivals.{Arrival, Input, InputEnd, ClientsEnd, Connect, Data, End}
+use Rattle.nv_arrivals.specs.Arrivals.{Arrival, Input, InputEnd, ClientsEnd, Connect, Data, End}
 use Rattle.nv_arriving.specs.Arriving.{Standing, wants_as, wants, arrive, arrive_all}
-use Rattle.nv_arriving.specs.Reserved.{input_bytes, CanTakeIn, IsSameBut}
+use Rattle.nv_arriving.specs.Reserved.{input_bytes, IsSameBut, with_memory}
 
 -- ---- the memory for a call stays
 
@@ -124,3 +128,33 @@ sends_by false s c b w h = sends_as (syscall_of c.nr) s c b w h
 pub sends_nothing : (s : Standing) (c : Request) (b : Buffered) (w : Want) → wants s c ≡ Some w → CanSend b c
 unfolding wants
 sends_nothing s c b w h = sends_by c.bad s c b w h
+
+-- what arrives leaves the memory for what the call writes, or the call writes nothing
+pub sends_after : (s : Standing) (c : Request) (b after : Buffered) (n : ℕ) → (wants s c ≡ None → n ≡ 0) → (n ≡ 0 → after ≡ b) → CanSend b c → CanSend after c
+sends_after s c b after n none same h = by (wants s c) refl where
+  by : (o : Option Want) → wants s c ≡ o → CanSend after c
+  by None e = subst (λ (z : Buffered). CanSend z c) (sym (same (none e))) h
+  by (Some w) e = sends_nothing s c after w e
+
+abbrev with_rooms : Buffered → List ℕ → ℕ → ℕ → Buffered
+with_rooms w inputs places waits = record w { inputs = inputs; places = places; waits = waits }
+
+socket_in : (w : Buffered) (inputs : List ℕ) (places waits : ℕ) (o : Option Socket) (n : ℕ) → CanWriteTo w o n → CanWriteTo (with_rooms w inputs places waits) o n
+socket_in w inputs places waits None n h = h
+socket_in w inputs places waits (Some socket.Fresh) n h = h
+socket_in w inputs places waits (Some (socket.Bound port)) n h = h
+socket_in w inputs places waits (Some (socket.Listening port)) n h = h
+socket_in w inputs places waits (Some (socket.Connected i read)) n h = h
+
+send_in : (w : Buffered) (inputs : List ℕ) (places waits fd n : ℕ) → sockets.CanWrite w fd n → sockets.CanWrite (with_rooms w inputs places waits) fd n
+unfolding sockets.CanWrite
+send_in w inputs places waits fd n h = socket_in w inputs places waits (socket_at w.net fd) n h
+
+send_as : (k : Syscall) (w : Buffered) (inputs : List ℕ) (places waits : ℕ) (c : Request) → can_send k w c → can_send k (with_rooms w inputs places waits) c
+send_as call.Write w inputs places waits c h = send_in w inputs places waits (request_arg c 0) (length c.payload) h
+send_as call.Writev w inputs places waits c h = send_in w inputs places waits (request_arg c 0) (length c.payload) h
+send_as _ w inputs places waits c h = h
+
+-- memory of what comes is none of what is written
+pub send_still : (w v : Buffered) (c : Request) → v ≡ with_memory w v → CanSend w c → CanSend v c
+send_still w v c same h = subst (λ (z : Buffered). CanSend z c) (sym same) (send_as (syscall_of c.nr) w v.inputs v.places v.waits c h)

@@ -9,7 +9,7 @@ use Rattle.nv_sockets.specs.Serving.{State, Served, serve, reply_of}
 use Rattle.nv_sockets.proofs.Going.{log_count, log_clones, own_next}
 use Rattle.nv_kernel.specs.Serving as kernel
 use Rattle.nv_kernel.proofs.Keeping.{map_more}
-use Rattle.nv_arriving.specs.Arrivals.{Arrival}
+use Rattle.nv_arrivals.specs.Arrivals.{Arrival}
 use Rattle.nv_arriving.specs.Arriving.{Standing, Stage, first_stage, stage_after, answer_next, serve_next, start_of_arrivals}
 use Rattle.nv_arriving.proofs.Coming.{stage_last}
 

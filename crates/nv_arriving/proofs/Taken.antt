@@ -2,7 +2,8 @@
 use Rattle.std.proofs.Common.{◌≡◌, ◌∙◌, sym, ap, subst, refl, ℕ, zero, suc, ◌+◌, ◌<◌, ◌≤◌, Bool, true, false, ◌||◌, List, [], ◌∷◌, ◌++◌, length, take, drop, map, Option, Some, None, arith, append-nil, append_assoc, length-append}
 use Rattle.std.specs.Prelude.{if◌then◌else◌}
 use Rattle.nv_arriving.specs.declared.waiting.Want.{Want}
-use Rattle.nv_arriving.specs.Arrivals.{Arrival, ends, any_ends, until, taken_for, in_vain}
+use Rattle.nv_arrivals.specs.Arrivals.{Arrival}
+use Rattle.nv_arriving.specs.Arrivals.{ends, any_ends, until, taken_for, in_vain}
 use Rattle.nv_arriving.specs.Kernel.{after, Grew}
 use Rattle.nv_arriving.proofs.Coming.{drop_front, any_more}
 

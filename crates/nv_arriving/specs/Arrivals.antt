@@ -1,16 +1,8 @@
--- What comes from outside while a run goes on, and which of it ends a wait.
+-- Which of what comes from outside ends a wait.
 use Rattle.std.specs.Prelude.{ℕ, suc, Bool, true, false, ◌||◌, ◌==◌, List, [], ◌∷◌, Option, Some, None, if◌then◌else◌}
+use Rattle.nv_arrivals.specs.Arrivals.{Arrival, Input, InputEnd, ClientsEnd, Connect, Data, End}
 use Rattle.nv_arriving.specs.declared.waiting.Want.{Want}
 use Rattle.nv_arriving.specs.declared.waiting.Want.TheVariants as want
-
--- bytes for descriptor 0, and their end; no more clients; a client that connects to a port; a client's bytes, and that it has sent all
-pub data Arrival : Type 0 where
-  Input : List ℕ → Arrival
-  InputEnd : Arrival
-  ClientsEnd : Arrival
-  Connect : ℕ → Arrival
-  Data : ℕ → List ℕ → Arrival
-  End : ℕ → Arrival
 
 -- a call that waits for this waits no longer once that has come
 abbrev pub ends : Want → Arrival → Bool

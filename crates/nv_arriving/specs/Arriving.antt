@@ -17,7 +17,8 @@ use Rattle.nv_sockets.specs.Coming.{connected, with_data}
 use Rattle.nv_sockets.specs.Serving.{State, Served, serve, first_state, reply_of, link_written}
 use Rattle.nv_arriving.specs.declared.waiting.Want.{Want}
 use Rattle.nv_arriving.specs.declared.waiting.Want.TheVariants as want
-use Rattle.nv_arriving.specs.Arrivals.{Arrival, Input, InputEnd, ClientsEnd, Connect, Data, End, taken_for, in_vain}
+use Rattle.nv_arrivals.specs.Arrivals.{Arrival, Input, InputEnd, ClientsEnd, Connect, Data, End}
+use Rattle.nv_arriving.specs.Arrivals.{taken_for, in_vain}
 
 -- What the kernel holds, and what won't come any more: bytes for descriptor 0, clients, and bytes of each connection.
 pub record Standing : Type 0 where

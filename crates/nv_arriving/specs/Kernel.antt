@@ -2,15 +2,15 @@
 use Rattle.std.specs.Prelude.{◌≡◌, ℕ, Bool, true, false, List, take, drop, length, ◌++◌, Option}
 use Rattle.nv_calls.specs.Calls.{Request, Entry}
 use Rattle.nv_calls.specs.Logs.{calls_of}
-use Rattle.nv_fs.specs.Reserved.{Disk}
 use Rattle.nv_script.specs.Scripts.{Setup}
 use Rattle.nv_kernel.specs.Kernel.{Spare, CanHold}
 use Rattle.nv_kernel.specs.Reserved as kernel
-use Rattle.nv_sockets.specs.Reserved.{Buffered, CanSend}
+use Rattle.nv_sockets.specs.Reserved.{CanSend}
 use Rattle.nv_arriving.specs.declared.waiting.Want.{Want}
-use Rattle.nv_arriving.specs.Arrivals.{Arrival, any_ends, in_vain}
+use Rattle.nv_arrivals.specs.Arrivals.{Arrival}
+use Rattle.nv_arriving.specs.Arrivals.{any_ends, in_vain}
 use Rattle.nv_arriving.specs.Arriving.{Stage, first_stage, stage_after, wants, taken}
-use Rattle.nv_arriving.specs.Reserved.{CanTakeIn}
+use Rattle.nv_arriving.specs.Reserved.{Room, CanTakeIn}
 
 -- The log, what the script gave, all that has come, whether nothing more comes, the memory of the event that is made for the next call, and the files and the sockets with theirs.
 pub record KernelState : Type 0 where
@@ -19,8 +19,7 @@ pub record KernelState : Type 0 where
   pub came : List Arrival
   pub over : Bool
   pub spare : Option Spare
-  pub disk : Disk
-  pub buffered : Buffered
+  pub room : Room
 
 -- what the calls served left
 abbrev pub stage_of : KernelState → Stage
@@ -29,9 +28,9 @@ stage_of k = stage_after (first_stage k.setup k.came) (calls_of k.log)
 -- there is memory for the event of a call, for what it takes in and for what it leaves, and it doesn't wait in vain while more may come
 pub record CanServe (k : KernelState) (c : Request) : Type 0 where
   pub event : CanHold k.spare c
-  pub takes : CanTakeIn k.disk (take (taken (stage_of k) c) (stage_of k).rest)
-  pub answer : kernel.CanAnswer k.disk c
-  pub sends : CanSend k.buffered c
+  pub takes : CanTakeIn k.room (take (taken (stage_of k) c) (stage_of k).rest)
+  pub answer : kernel.CanAnswer k.room.disk c
+  pub sends : CanSend k.room.buffered c
   pub waits : k.over ≡ false → in_vain (wants (stage_of k).here c) (stage_of k).rest ≡ false
 
 -- more stands behind what was there

@@ -2,23 +2,11 @@
 ghost use Rattle.std.specs.Prelude.{◌≡◌, ◌≤◌, true, false, IfOk, OnOk, map, drop, vec_len};
 ghost use Rattle.nv_arriving.specs.Arrivals.{any_ends, in_vain};
 ghost use Rattle.nv_arriving.specs.Kernel.{after, Grew};
-ghost use Rattle.nv_arriving.specs.Views.{arrival_of};
+ghost use Rattle.nv_arrivals.specs.Views.{view as arrival_of};
 
 use crate::waiting::{Want, any_ends, ends};
+use nv_arrivals::Arrival;
 use std::alloc::{AllocError, Global};
-
-/// What comes from outside.
-#[derive(Drop)]
-pub enum Arrival {
-    /// Bytes for descriptor 0.
-    Input(Vec<u8>),
-    /// Nothing more comes for descriptor 0.
-    InputEnd,
-    /// No more clients connect.
-    ClientsEnd,
-    /// The client of this number has sent all.
-    End(u32),
-}
 
 // Those that the guests' side doesn't have.
 pub(crate) fn rest(came: &Vec<Arrival>, used: usize) -> &[Arrival]
@@ -34,7 +22,12 @@ pub trait Outside: Send + Drop {
     fn next(&mut self, alloc: Global) -> Result<Option<Arrival>, AllocError>;
 
     /// Asks for arrivals until one ends the wait, and tells whether nothing more comes.
-    fn hear(&mut self, alloc: Global, came: &mut Vec<Arrival>, want: Want) -> Result<bool, AllocError>
+    fn hear(
+        &mut self,
+        alloc: Global,
+        came: &mut Vec<Arrival>,
+        want: Want,
+    ) -> Result<bool, AllocError>
         ensures grew { Grew (map arrival_of came.old.items) (map arrival_of came.new.items) }
         ensures ended { IfOk result (λ over. over ≡ false → any_ends want (after (map arrival_of came.old.items) (map arrival_of came.new.items)) ≡ true) }
     {

@@ -1,5 +1,5 @@
 // The guests' side: what the kernel holds, and what won't come any more.
-ghost use Rattle.std.specs.Prelude.{◌≡◌, ◌≤◌, ◌<◌, ◌-◌, ◌^◌, min, length, map, true, [], ◌∷◌, slice_set, OnOk, IfOk};
+ghost use Rattle.std.specs.Prelude.{◌≡◌, ◌≤◌, ◌<◌, ◌+◌, ◌++◌, List, length, map, true, false, [], ◌∷◌, None, slice_set, vec_len, vec_capacity, OnOk, IfOk};
 ghost use Rattle.nv_calls.specs.Calls.{request};
 ghost use Rattle.nv_calls.specs.Limits.{MOST_BYTES, MOST_EVENTS};
 ghost use Rattle.nv_script.specs.Views.{setup_of};
@@ -7,11 +7,14 @@ ghost use Rattle.nv_kernel.specs.Reserved.{CanAnswer, most_out};
 ghost use Rattle.nv_sockets.specs.Reserved.{CanSend};
 ghost use Rattle.nv_sockets.specs.Serving.{serve};
 ghost use Rattle.nv_arriving.specs.Arriving.{Standing, wants_input, is_over, wants_data, read_wants, wants_client, accept_wants, wants_as, wants, arrive, arrive_all, with_state, first_standing};
-ghost use Rattle.nv_arriving.specs.Reserved.{input_bytes, CanTakeIn, IsSameBut};
-ghost use Rattle.nv_arriving.specs.Views.{arrival_of, standing_of};
+ghost use Rattle.nv_arriving.specs.Reserved.{CanTakeIn, HasRoom, IsSameBut, with_memory};
+ghost use Rattle.nv_arrivals.specs.Arrivals as spec;
+ghost use Rattle.nv_arrivals.specs.Views.{view as arrival_of};
+ghost use Rattle.nv_arriving.specs.Views.{standing_of, room_of, capacity_of};
 
-use crate::arrivals::Arrival;
+use crate::reserving::{connects, counts, input_bytes, keep, reserve_data};
 use crate::waiting::Want;
+use nv_arrivals::Arrival;
 use nv_calls::{Bytes, Call, MOST_BYTES, MOST_VECTORS, Syscall};
 use nv_script::Script;
 use nv_sockets::{Host, Socket, are_flags};
@@ -24,6 +27,35 @@ pub struct GuestSide {
     pub input_over: bool,
     pub clients_over: bool,
     pub overs: Vec<bool>,
+    alloc: Global,
+    /// Where what clients send goes that will connect, that of the last one first.
+    kept: Vec<Vec<u8>>,
+}
+
+// One more, of which not all has come.
+fn add_going(overs: &mut Vec<bool>)
+    requires { vec_len overs.old < vec_capacity overs.old }
+    ensures items { overs.new.items ≡ overs.old.items ++ false ∷ [] }
+    ensures len { vec_len overs.new ≡ vec_len overs.old + 1 }
+    ensures capacity { vec_capacity overs.old ≤ vec_capacity overs.new }
+{
+    match overs.push(false) {
+        Ok(()) => {}
+        Err(_) => unreachable!(),
+    }
+}
+
+// The last of those that are kept, with nothing in it.
+fn take_last(kept: &mut Vec<Vec<u8>>) -> Vec<u8>
+    requires { 0 < vec_len kept.old }
+    ensures empty { result.items ≡ [] }
+    ensures rest { map capacity_of kept.old.items ≡ map capacity_of kept.new.items ++ vec_capacity result ∷ [] }
+{
+    let Some(mut last) = kept.pop() else {
+        unreachable!()
+    };
+    last.clear();
+    last
 }
 
 // So many connections of which all has come.
@@ -50,6 +82,8 @@ impl GuestSide {
             input_over: false,
             clients_over: false,
             overs,
+            alloc,
+            kept: Vec::new(alloc),
         })
     }
 
@@ -149,33 +183,52 @@ impl GuestSide {
     fn end(&mut self, i: usize)
         ensures others { self.new ≡ record self.old { overs = self.new.overs } }
         ensures overs { self.new.overs.items ≡ slice_set self.old.overs.items i true }
+        ensures len { vec_len self.new.overs ≡ vec_len self.old.overs }
+        ensures capacity { vec_capacity self.new.overs ≡ vec_capacity self.old.overs }
     {
         if i < self.overs.as_slice().len() {
             self.overs[i] = true;
         }
     }
 
+    // One more client connects, for which there is memory.
+    fn connect(&mut self, port: u32)
+        requires { HasRoom (room_of self.old) (spec.Connect port ∷ []) }
+        ensures standing { standing_of self.new ≡ arrive (standing_of self.old) (spec.Connect port) }
+        ensures devices { self.new.host.devices ≡ self.old.host.devices }
+        ensures room { (xs : List spec.Arrival) → HasRoom (room_of self.old) (spec.Connect port ∷ xs) → HasRoom (room_of self.new) xs }
+    {
+        let input = take_last(&mut self.kept);
+        self.host.sockets.connect(port, input, Vec::new(self.alloc));
+        add_going(&mut self.overs);
+    }
+
     // One more arrives, for which there is memory.
     fn arrive(&mut self, arrival: &Arrival)
-        requires { CanTakeIn self.old.host.devices.files (arrival_of arrival.now ∷ []) }
+        requires { HasRoom (room_of self.old) (arrival_of arrival.now ∷ []) }
         ensures standing { standing_of self.new ≡ arrive (standing_of self.old) (arrival_of arrival.now) }
         ensures disk { IsSameBut self.old.host.devices.files self.new.host.devices.files }
-        ensures sockets { self.new.host.sockets ≡ self.old.host.sockets }
+        ensures room { (xs : List spec.Arrival) → HasRoom (room_of self.old) (arrival_of arrival.now ∷ xs) → HasRoom (room_of self.new) xs }
     {
         match arrival {
             Arrival::Input(bytes) => self.host.devices.files.take_in(bytes.as_slice()),
             Arrival::InputEnd => self.input_over = true,
             Arrival::ClientsEnd => self.clients_over = true,
+            Arrival::Connect(port) => self.connect(*port),
+            Arrival::Data(client, bytes) => self
+                .host
+                .sockets
+                .add_data(*client as usize, bytes.as_slice()),
             Arrival::End(client) => self.end(*client as usize),
         }
     }
 
     // These arrive, for which there is memory.
     fn arrive_all(&mut self, arrivals: &[Arrival])
-        requires { CanTakeIn self.old.host.devices.files (map arrival_of arrivals.now) }
+        requires { CanTakeIn (room_of self.old) (map arrival_of arrivals.now) }
         ensures standing { standing_of self.new ≡ arrive_all (standing_of self.old) (map arrival_of arrivals.now) }
         ensures disk { IsSameBut self.old.host.devices.files self.new.host.devices.files }
-        ensures sockets { self.new.host.sockets ≡ self.old.host.sockets }
+        ensures none { length arrivals.now ≡ 0 → self.new.host.sockets ≡ self.old.host.sockets }
     {
         for arrival in arrivals {
             self.arrive(arrival);
@@ -184,7 +237,8 @@ impl GuestSide {
 
     /// The result of a call that takes in these, with the bytes that it hands out.
     pub(crate) fn answer(&mut self, call: &Call, arrivals: &[Arrival], out: &mut Bytes) -> i32
-        requires takes { CanTakeIn self.old.host.devices.files (map arrival_of arrivals.now) }
+        requires takes { CanTakeIn (room_of self.old) (map arrival_of arrivals.now) }
+        requires waits { wants (standing_of self.old) (request call.now) ≡ None → length arrivals.now ≡ 0 }
         requires ready { CanAnswer self.old.host.devices.files (request call.now) }
         requires sends { CanSend self.old.host.sockets (request call.now) }
         requires few { (standing_of self.old).state.own.served < MOST_EVENTS }
@@ -200,35 +254,48 @@ impl GuestSide {
         self.host.answer(call, out)
     }
 
+    // Memory for these.
+    fn reserve_room(&mut self, arrivals: &[Arrival]) -> Result<(), AllocError>
+        ensures standing { standing_of self.new ≡ standing_of self.old }
+        ensures state { self.new.host.devices.files.state ≡ self.old.host.devices.files.state }
+        ensures reserved { self.new.host.devices.files.reserved ≡ record self.old.host.devices.files.reserved { input = self.new.host.devices.files.reserved.input } }
+        ensures sockets { self.new.host.sockets ≡ with_memory self.old.host.sockets self.new.host.sockets }
+        ensures takes { OnOk result (HasRoom (room_of self.new) (map arrival_of arrivals.now)) }
+    {
+        let clients = connects(arrivals);
+        let table = self.host.sockets.connections().len();
+        let counts = counts(self.alloc, arrivals, table + clients)?;
+        let bytes = input_bytes(arrivals)?;
+        self.host.devices.files.reserve_input(bytes)?;
+        self.host.sockets.reserve_clients(clients)?;
+        self.overs.reserve(clients)?;
+        self.kept = keep(self.alloc, counts.as_slice(), clients)?;
+        reserve_data(&mut self.host.sockets, arrivals, counts.as_slice())
+    }
+
+    // Memory for these, where there are some.
+    fn reserve_some(&mut self, arrivals: &[Arrival]) -> Result<(), AllocError>
+        ensures standing { standing_of self.new ≡ standing_of self.old }
+        ensures state { self.new.host.devices.files.state ≡ self.old.host.devices.files.state }
+        ensures reserved { self.new.host.devices.files.reserved ≡ record self.old.host.devices.files.reserved { input = self.new.host.devices.files.reserved.input } }
+        ensures sockets { self.new.host.sockets ≡ with_memory self.old.host.sockets self.new.host.sockets }
+        ensures takes { OnOk result (CanTakeIn (room_of self.new) (map arrival_of arrivals.now)) }
+    {
+        if arrivals.is_empty() {
+            return Ok(());
+        }
+        self.reserve_room(arrivals)
+    }
+
     /// Memory for what the call leaves, and for these, which it takes in.
     pub(crate) fn reserve(&mut self, call: &Call, arrivals: &[Arrival]) -> Result<(), AllocError>
         requires few { length call.now.payload.bytes ≤ MOST_BYTES }
         ensures standing { standing_of self.new ≡ standing_of self.old }
-        ensures takes { OnOk result (CanTakeIn self.new.host.devices.files (map arrival_of arrivals.now)) }
+        ensures takes { OnOk result (CanTakeIn (room_of self.new) (map arrival_of arrivals.now)) }
         ensures ready { OnOk result (CanAnswer self.new.host.devices.files (request call.now)) }
         ensures sends { OnOk result (CanSend self.new.host.sockets (request call.now)) }
     {
-        let count = input_bytes(arrivals);
-        if count == usize::MAX {
-            return Err(AllocError);
-        }
         self.host.reserve(call)?;
-        self.host.devices.files.reserve_input(count)
+        self.reserve_some(arrivals)
     }
-}
-
-// How many bytes come for descriptor 0; 2^64 - 1, where they are more.
-fn input_bytes(arrivals: &[Arrival]) -> usize
-    ensures { result ≡ min (input_bytes (map arrival_of arrivals.now)) (2 ^ 64 - 1) }
-{
-    let mut count: usize = 0;
-    for arrival in arrivals {
-        match arrival {
-            Arrival::Input(bytes) => count = count.saturating_add(bytes.as_slice().len()),
-            Arrival::InputEnd => {}
-            Arrival::ClientsEnd => {}
-            Arrival::End(_) => {}
-        }
-    }
-    count
 }

@@ -3,16 +3,21 @@ ghost use Rattle.std.specs.Prelude.{◌≡◌, ◌≤◌, [], IsTrue, IfOk, leng
 ghost use Rattle.nv_calls.specs.Calls.{request};
 ghost use Rattle.nv_script.specs.Scripts.{is_script};
 ghost use Rattle.nv_script.specs.Views.{setup_of};
+ghost use Rattle.nv_sockets.specs.Views.{link_of};
 ghost use Rattle.nv_arriving.specs.Arriving.{taken};
-ghost use Rattle.nv_arriving.specs.Views.{arrival_of, standing_of};
+ghost use Rattle.nv_arriving.specs.Kernel.{stage_of};
+ghost use Rattle.nv_arrivals.specs.Views.{view as arrival_of};
+ghost use Rattle.nv_arriving.specs.Views.{standing_of};
 
-use crate::arrivals::{Arrival, Outside, rest};
+use crate::arrivals::{Outside, rest};
 use crate::guests::GuestSide;
 use crate::waiting::taken_for;
+use nv_arrivals::Arrival;
 use nv_calls::{Bytes, Call, Event, MOST_BYTES};
 use nv_kernel::spare::{blank, fill, keep, next_end};
 use nv_script::Script;
 use nv_served::SyscallKernel;
+use nv_sockets::Connection;
 use std::alloc::{AllocError, Global};
 use std::marker::Model;
 use std::snapshot::Snapshot;
@@ -46,18 +51,18 @@ impl<O: Outside> Model for ArrivingKernel<O> {
     ghost use Rattle.nv_kernel.specs.Reserved.{crew_of};
     ghost use Rattle.nv_arriving.specs.Arriving.{start_of_arrivals, first_stage, stage_after, Satisfied};
     ghost use Rattle.nv_arriving.specs.Kernel.{KernelState};
-    ghost use Rattle.nv_arriving.specs.Views.{arrival_of, standing_of};
+    ghost use Rattle.nv_arrivals.specs.Views.{view as arrival_of};
+    ghost use Rattle.nv_arriving.specs.Views.{standing_of, room_of};
 
     ghost Value = { KernelState };
 
     ghost view = { λ k. record {
-        log = map entry k.log.items;
-        setup = setup_of k.script.value;
-        came = map arrival_of k.came.items;
-        over = k.over;
-        spare = option_map spare_of k.spare;
-        disk = k.guests.host.devices.files;
-        buffered = k.guests.host.sockets
+      log = map entry k.log.items;
+      setup = setup_of k.script.value;
+      came = map arrival_of k.came.items;
+      over = k.over;
+      spare = option_map spare_of k.spare;
+      room = room_of k.guests;
     } };
 
     ghost invariant = { λ k. IsSound (start_of_arrivals (setup_of k.script.value) (map arrival_of k.came.items)) (map entry k.log.items) (vec_len k.log) (vec_capacity k.log) (option_map spare_of k.spare) k.end (crew_of k.guests.host.devices.threads)
@@ -105,6 +110,13 @@ impl<O: Outside> ArrivingKernel<O> {
             end: None,
         })
     }
+
+    /// The connections, those of the script first, each with what was written to it.
+    pub fn connections(&self) -> &[Connection]
+        ensures { map link_of result.now ≡ (stage_of self.now).here.state.net.links }
+    {
+        self.guests.host.sockets.connections()
+    }
 }
 
 impl<O: Outside> SyscallKernel for ArrivingKernel<O> {
@@ -125,13 +137,7 @@ impl<O: Outside> SyscallKernel for ArrivingKernel<O> {
         let event = blank(self.alloc, call)?;
         self.log.reserve(1)?;
         let want = self.guests.wants(call);
-        self.outside.learn(
-            self.alloc,
-            &mut self.came,
-            self.used,
-            &mut self.over,
-            want,
-        )?;
+        self.outside.learn(self.alloc, &mut self.came, self.used, &mut self.over, want)?;
         let rest = rest(&self.came, self.used);
         let count = taken(&self.guests, rest, call);
         self.guests.reserve(call, first(rest, count))?;
@@ -146,9 +152,7 @@ impl<O: Outside> SyscallKernel for ArrivingKernel<O> {
         let stamp = self.log.as_slice().len() as u32;
         let rest = rest(&self.came, self.used);
         let count = taken(&self.guests, rest, call);
-        let ret = self
-            .guests
-            .answer(call, first(rest, count), &mut self.out);
+        let ret = self.guests.answer(call, first(rest, count), &mut self.out);
         self.used += count;
         fill(&mut event, call, stamp, ret, &self.out);
         self.end = next_end(self.guests.host.is_over(), call);

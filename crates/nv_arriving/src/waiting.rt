@@ -2,9 +2,9 @@
 ghost use Rattle.std.specs.Prelude.{◌≡◌, ◌≤◌, ◌<◌, length, map, IfSome};
 ghost use Rattle.std.specs.List.{list_any, position_from};
 ghost use Rattle.nv_arriving.specs.Arrivals.{ends, any_ends, until, taken_for};
-ghost use Rattle.nv_arriving.specs.Views.{arrival_of};
+ghost use Rattle.nv_arrivals.specs.Views.{view as arrival_of};
 
-use crate::arrivals::Arrival;
+use nv_arrivals::Arrival;
 
 /// What a call waits for.
 #[derive(Clone, Copy)]
@@ -23,21 +23,20 @@ pub(crate) fn ends(want: Want, arrival: &Arrival) -> bool
 {
     match want {
         Want::Input => match arrival {
-            Arrival::Input(_) => true,
-            Arrival::InputEnd => true,
+            Arrival::Input(_) | Arrival::InputEnd => true,
             Arrival::ClientsEnd => false,
-            Arrival::End(_) => false,
+            Arrival::Connect(_) | Arrival::Data(_, _) | Arrival::End(_) => false,
         },
-        Want::Client(_) => match arrival {
-            Arrival::Input(_) => false,
-            Arrival::InputEnd => false,
+        Want::Client(port) => match arrival {
+            Arrival::Input(_) | Arrival::InputEnd => false,
             Arrival::ClientsEnd => true,
-            Arrival::End(_) => false,
+            Arrival::Connect(other) => *other == port,
+            Arrival::Data(_, _) | Arrival::End(_) => false,
         },
         Want::Data(i) => match arrival {
-            Arrival::Input(_) => false,
-            Arrival::InputEnd => false,
-            Arrival::ClientsEnd => false,
+            Arrival::Input(_) | Arrival::InputEnd | Arrival::ClientsEnd => false,
+            Arrival::Connect(_) => false,
+            Arrival::Data(client, _) => *client as usize == i,
             Arrival::End(client) => *client as usize == i,
         },
     }

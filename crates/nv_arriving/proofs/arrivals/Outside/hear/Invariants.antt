@@ -1,6 +1,6 @@
 use Rattle.std.proofs.Common.{map}
 use Rattle.nv_arriving.specs.Kernel.{Grew}
-use Rattle.nv_arriving.specs.Views.{arrival_of}
+use Rattle.nv_arrivals.specs.Views.{view as arrival_of}
 use Rattle.nv_arriving.proofs.arrivals.Outside.hear.Given as goal
 
 abbrev pub invariant-loop : goal.invariant-loop

@@ -1,7 +1,8 @@
 use Rattle.std.proofs.Common.{◌≡◌, ◌∙◌, ◌≤◌, ap, sym, refl, List, length, map, drop, true, false, Some, arith}
 use Rattle.std.proofs.lemmas.List.{length-map}
-use Rattle.nv_arriving.specs.Arrivals.{Arrival, any_ends, in_vain}
-use Rattle.nv_arriving.specs.Views.{arrival_of}
+use Rattle.nv_arrivals.specs.Arrivals.{Arrival}
+use Rattle.nv_arriving.specs.Arrivals.{any_ends, in_vain}
+use Rattle.nv_arrivals.specs.Views.{view as arrival_of}
 use Rattle.nv_arriving.proofs.Steps.{drop_map}
 use Rattle.nv_arriving.proofs.Taken.{learned, not_waits}
 use Rattle.nv_arriving.proofs.arrivals.Outside.learn.Goals.{then-over-via-then-over, then-over-via-else-over+then-any_ends}
@@ -13,8 +14,8 @@ returns-then-over-clause-waits g c = λ h. elim c.then-over.branch [
   | then-over-via-else-over+then-any_ends w ↦
       ap (λ o. in_vain o (drop c.args.used (map arrival_of c.args.came.now.items))) c.in-Some.is
       ∙ not_waits c.in-Some.want (drop c.args.used (map arrival_of c.args.came.now.items))
-          (ap (any_ends c.in-Some.want) (sym (ap (map arrival_of) w.rest.ensures ∙ drop_map c.args.came.now.items c.args.used)) ∙ (sym w.any_ends.ensures ∙ w.if-any_ends.true))
-  ]
+      (ap (any_ends c.in-Some.want) (sym (ap (map arrival_of) w.rest.ensures ∙ drop_map c.args.came.now.items c.args.used)) ∙ (sym w.any_ends.ensures ∙ w.if-any_ends.true))
+]
 
 pub returns-clause-waits : goal.returns-clause-waits
 returns-clause-waits g c = λ h.

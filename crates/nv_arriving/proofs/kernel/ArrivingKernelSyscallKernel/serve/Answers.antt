@@ -1,5 +1,5 @@
 use Rattle.std.proofs.Common.{rules, ◌≡◌, ◌∙◌, sym, ap, subst, refl, ℕ, ℤ, Bool, false, ◌+◌, ◌<◌, ◌≤◌, ◌==◌, ◌++◌, ◌∷◌, [], List, Option, None, length, map, take, drop, arith, to_z, of_z, w32}
-use Rattle.std.proofs.lemmas.List.{length-map}
+use Rattle.std.proofs.lemmas.List.{length-map, length-take}
 use Rattle.std.specs.Prelude.{Contains, option_map, vec_len, vec_capacity}
 use Rattle.nv_calls.specs.Calls.{Entry, Request, Response, entry, request}
 use Rattle.nv_calls.specs.Logs.{InRange, IsNew, made, child_of, served, live_after, live_next, calls_of}
@@ -13,11 +13,13 @@ use Rattle.nv_kernel.proofs.Few.{together_few}
 use Rattle.nv_kernel.proofs.Keeping.{kept_served, map_more}
 use Rattle.nv_sockets.specs.Serving.{State, Served, serve, reply_of}
 use Rattle.nv_sockets.proofs.Threads.{ThreadStep, thread_step}
-use Rattle.nv_arriving.specs.Arrivals.{Arrival, in_vain}
+use Rattle.nv_arrivals.specs.Arrivals.{Arrival}
+use Rattle.nv_arriving.specs.Arrivals.{taken_for, in_vain}
 use Rattle.nv_arriving.specs.Arriving.{Standing, Stage, wants, taken, ready_for, arrive_all, with_state, answer_next, serve_next, first_stage, stage_after, Satisfied, start_of_arrivals}
 use Rattle.nv_arriving.specs.Kernel.{KernelState, stage_of}
 use Rattle.nv_arriving.specs.Reserved.{CanTakeIn}
-use Rattle.nv_arriving.specs.Views.{arrival_of, standing_of}
+use Rattle.nv_arrivals.specs.Views.{view as arrival_of}
+use Rattle.nv_arriving.specs.Views.{standing_of, room_of}
 use Rattle.nv_arriving.proofs.Kept.{log_served, log_clones, satisfied_served, drop_more, taken_inside, count_is_taken, first_is}
 use Rattle.nv_arriving.proofs.Sides.{crew_still}
 use Rattle.nv_arriving.proofs.Staged.{reply_is, log_more}
@@ -29,9 +31,14 @@ answer-ret-requires-clause-takes g c =
     let call : Request = request c.args.call.now in
     let here : Standing = standing_of c.self.inside.guests in
     let first = first_is here call c.self.inside.came.items c.rest-rest.result.now c.first.result.now c.self.inside.used c.taken-count.result c.rest-rest.ensures c.taken-count.ensures.is c.first.ensures in
-    let takes = subst (λ (k : KernelState). CanTakeIn k.disk (take (taken (stage_of k) call) (stage_of k).rest)) (sym c.self.view_is) c.requires.ready.takes in
-    subst (CanTakeIn c.self.inside.guests.host.devices.files) (sym first)
-    (subst (λ (z : Stage). CanTakeIn c.self.inside.guests.host.devices.files (take (taken z call) z.rest)) (sym c.self.invariant.1) takes)
+    let takes = subst (λ (k : KernelState). CanTakeIn k.room (take (taken (stage_of k) call) (stage_of k).rest)) (sym c.self.view_is) c.requires.ready.takes in
+    subst (CanTakeIn (room_of c.self.inside.guests)) (sym first)
+    (subst (λ (z : Stage). CanTakeIn (room_of c.self.inside.guests) (take (taken z call) z.rest)) (sym c.self.invariant.1) takes)
+
+pub answer-ret-requires-clause-waits : goal.answer-ret-requires-clause-waits
+answer-ret-requires-clause-waits g c = λ e.
+    let none = ap (λ o. taken_for o (map arrival_of c.rest-rest.result.now)) e in
+    omega (arith, ap length c.first.ensures, length-take c.taken-count.result c.rest-rest.result.now, c.taken-count.ensures.is, none)
 
 pub answer-ret-requires-clause-few : goal.answer-ret-requires-clause-few
 answer-ret-requires-clause-few g c =
@@ -168,8 +175,8 @@ invariant_of-self g c = (
       (subst (λ (z : _). IsSound (start_of_arrivals (setup g c) (came g c)) (log g c ++ event g c ∷ []) (vec_len c.keep.new.log) (vec_capacity c.keep.new.log) (option_map spare_of z) (end_next (length (crew' g c).live == 0) (call g c)) (crew' g c)) (sym c.take.ensures.after) (kept g c))),
   next g c,
   (let few : c.self.inside.used ≤ length (came g c) = omega (arith, c.self.invariant.2, length-map c.self.inside.came.items arrival_of) in
-   let inside = taken_inside (mine g c) (call g c) c.self.inside.used (came g c) few refl in
-   omega (arith, inside, count g c, length-map c.self.inside.came.items arrival_of)),
+      let inside = taken_inside (mine g c) (call g c) c.self.inside.used (came g c) few refl in
+      omega (arith, inside, count g c, length-map c.self.inside.came.items arrival_of)),
   (λ o. subst (λ z. Satisfied (first_stage (setup g c) (came g c)) (calls_of z)) (sym (all g c))
       (satisfied_served (first_stage (setup g c) (came g c)) (log g c) (event g c) c.self.inside.over c.self.invariant.3 (waits g c) o)),
   c.answer-ret.ensures.capacity ∙ c.self.invariant.4,
