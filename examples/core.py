@@ -51,7 +51,11 @@ class Version:
                 self.threads[-1].x = [int(word, 16) for word in rest]
 
     def inspect(self, dump):
-        done = subprocess.run(self.command + dump, stdout=subprocess.PIPE, text=True)
+        try:
+            done = subprocess.run(self.command + dump, stdout=subprocess.PIPE, text=True)
+        except OSError as fault:
+            print(f"core.py: {self.command[0]}: {fault.strerror}", file=sys.stderr)
+            sys.exit(2)
         if done.returncode:
             print(done.stdout, end="")
             sys.exit(done.returncode)
