@@ -64,7 +64,7 @@ def of_line(word):
     for heading, lines in sections("REFUSALS.md"):
         if heading.startswith(f"`varan: {word}"):
             table = [text for where, cure in rows(lines) for text in (f"  where {where}", f"      do: {cure}")]
-            return table or ["  " + line for line in lines if line.strip()]
+            return table + ["  " + line for line in lines if line.strip() and not line.startswith("|")]
     return []
 
 
