@@ -1,7 +1,7 @@
 #!/usr/bin/env bash
 # Runs the examples but those of guests/, and compares: the assembler texts hello, service and server with the reports of expected/, and the server in C with
 # what its clients got under Linux (server/expected); gives the program files and outputs of the host that fail; does the commands of
-# docs/TUTORIAL.md, PARTING.md, TRACES.md, REFUSALS.md, INSPECT.md and GUESTS.md; tries the scripts of this folder; and has docs/varan.1 formatted.
+# docs/TUTORIAL.md, PARTING.md, TRACES.md, REFUSALS.md, SCRIPT.md, INSPECT.md and GUESTS.md; tries the scripts of this folder; and has docs/varan.1 formatted.
 # check.sh [PROGRAM]: crates/varan/out/varan where no program is named.
 # Status: 0 where all is the same, 1 where something differs, 2 where the program isn't built.
 set -eu
@@ -351,6 +351,7 @@ digits() {
 
 page_with TRACES.md xxd
 page_with REFUSALS.md python3
+page_with SCRIPT.md python3
 page_with INSPECT.md gdb-multiarch riscv64-unknown-elf-gcc
 page_with GUESTS.md riscv64-unknown-elf-gcc qemu-riscv32
 
