@@ -1,10 +1,13 @@
 #!/usr/bin/env python3
-"""Says which must-fail edits show nothing of a contract, by what `rt ci` told of each: edits.py LOG, at the top of the repository.
+"""Says which must-fail edits show nothing of a contract, by what `rt ci` told of each, at the top of the repository.
 
-An edit shows nothing where it can't be applied or read, where it is refused only since a proof file names what it took away, and where what is refused
-first is a condition of a call or a bound on the way to the clause. docs/EDITS.md names those whose condition is the rule itself.
-It writes a line for each edit that shows nothing, for each that the log doesn't tell of, and for each line of docs/EDITS.md that is of no use.
-Status: 0 where there is no such line, else 1.
+    .ci/edits.py LOG           writes a line for each edit that shows nothing, for each that the log doesn't tell of, and for each line of docs/EDITS.md that is of no use
+    .ci/edits.py --all LOG     writes for each edit what refused it
+
+An edit counts where the prover refuses it at something that is listed here: a goal of an `ensures`, a type's or a loop's invariant, the rule of the table that
+stations share, or a law where the edit changes a definition. Whatever else is said of it, or nothing, is a reason why it doesn't count. docs/EDITS.md has the same
+as a table, and names those edits that count though something else refuses them.
+Status: 0 where there is no line to write, else 1.
 """
 import os
 import re
@@ -12,61 +15,122 @@ import sys
 
 # What the gate says of an edit: its name, what it came to, and what the prover said first of what isn't proved.
 TOLD = re.compile(r"rt: must-fail (\w+/[\w.-]+)\.edit: ([^:(]*)(.*)")
+REFUSED = "refused, as it must be"
 LACKS_A_NAME = "(only because a proof file names"
 AT_A_LIMIT = "(only by a limit of the prover"
-# What is no clause: what a call requires, and that a number, an index or a divisor is within its bounds.
-CONDITION = re.compile(r"requires holds at|`([\w.-]+-)?(requires|overflow_|bounds-|slice_bounds-|offset_bounds-|nonzero_|prove-)")
-# But where a seat writes to the table that stations share, and where that table is made, what the call requires is the table's rule.
-RULE = re.compile(r"`(store|exchange|new-made)-requires")
+
+# A goal that no answer of a proof file is for: `note: src/x.rt:1:2: it is not proved that WHAT (`GOAL`)`, and maybe why. rt cuts what is said at 160 bytes.
+OPEN_GOAL = re.compile(r": note: src/\S+:\d+:\d+: (?:it is not proved that )?(.*)")
+GOAL = re.compile(r"\(`([\w.'-]+)(`\))?")
+# An answer or a lemma that doesn't prove its goal: `proofs/f/Answers.antt:1:2: error: `GOAL`: WHY`.
+ANSWER = re.compile(r": (?:\./)?proofs/\S+:\d+:\d+: error: `([^`]*)`: (.*)")
+# The prover's search stopped before it knew. After a goal's name nothing else but this and a counterexample is said, so the sign before it is enough.
+GAVE_UP = re.compile(r"`\); `|gave up|broke off|given up after|ran out of|stopped at|outgrew the memory limit")
+
+CLAUSE, INVARIANT, LOOP, RULE, LAW = "a clause", "a type's invariant", "a loop's invariant", "the table's rule", "a law"
+COUNTS = [
+    (CLAUSE, re.compile(r"returns($|-)")),
+    (INVARIANT, re.compile(r"invariant_of-")),
+    (LOOP, re.compile(r"loop(-\S*)?-(init|preserved)($|-)")),
+    # Where a seat writes to the table that stations share, and where that table is made, what the call requires is the table's rule.
+    (RULE, re.compile(r"(store|exchange|new-made)-requires($|-)")),
+]
+# The same by the words before a goal's name, which may be cut off.
+WORDS = [
+    (CLAUSE, "what the function ensures holds when it returns"),
+    (INVARIANT, "the `invariant` of the struct's"),
+    (INVARIANT, "the `invariant` holds of the struct's fields"),
+    (INVARIANT, "the struct's ghost fields"),
+    (LOOP, "the invariant of the loop holds"),
+]
+# Names of what is no clause: what a call requires, and that a number, an index or a divisor is within its bounds, and that a loop ends.
+CONDITION = re.compile(r"(^|-)(requires|overflow_|bounds-|slice_bounds-|offset_bounds-|nonzero_|prove-)|-smaller$")
 ROW = re.compile(r"\| `(\w+/[\w.-]+)` \|")
 
 
-def fault_of(came_to, said, is_rule):
-    """Returns why an edit shows nothing, or None."""
-    if not came_to.startswith("refused"):
-        return f"{came_to}{said}"
+def kind_of(goal, words):
+    """What a goal is of, of what counts; None for all else."""
+    by_name = next((kind for kind, name in COUNTS if name.match(goal)), None)
+    return by_name or next((kind for kind, said in WORDS if said in words), None)
+
+
+def shown_by(came_to, said, is_of_specs):
+    """What an edit shows, and None; or None, and why it shows nothing."""
+    if came_to.strip() != REFUSED:
+        return None, f"{came_to}{said}"
     if said.startswith(LACKS_A_NAME):
-        return "only a name is missing: change a value and keep the names"
+        return None, "only a name is missing: change a value and keep the names"
     if said.startswith(AT_A_LIMIT):
-        return "only a limit of the prover refuses it"
-    if CONDITION.search(said) and not RULE.search(said) and not is_rule:
-        return f"a condition on the way refuses it, and no clause{said}"
-    return None
+        return None, "only a limit of the prover refuses it"
+    at_goal, at_answer = OPEN_GOAL.match(said), ANSWER.match(said)
+    if at_goal:
+        words, found = at_goal[1], GOAL.search(at_goal[1])
+        goal = found[1] if found else ""
+        is_unsure = GAVE_UP.search(words) and "allow values" not in words
+    elif at_answer:
+        goal, words = at_answer[1], ""
+        is_unsure = GAVE_UP.search(at_answer[2])
+    else:
+        return None, f"no goal is named{said}"
+    if is_unsure:
+        return None, f"the search gave up, so nothing says that it is false{said}"
+    kind = kind_of(goal, words)
+    if kind is None and at_answer and is_of_specs and not CONDITION.search(goal):
+        kind = LAW
+    if kind is None and (CONDITION.search(goal) or not goal):
+        return None, f"a condition or a bound on the way refuses it, and no clause{said}"
+    return (kind, None) if kind else (None, f"what refuses it is none of what counts{said}")
 
 
 def edits_of(folder):
-    """Returns the edits that stand in the crates, as CRATE/NAME."""
-    found = set()
+    """Returns the edits that stand in the crates, as CRATE/NAME, and whether each changes a definition."""
+    found = {}
     for crate in os.listdir(folder):
-        if os.path.isdir(f"{folder}/{crate}/must-fail"):
-            names = os.listdir(f"{folder}/{crate}/must-fail")
-            found |= {f"{crate}/{it.removesuffix('.edit')}" for it in names if it.endswith(".edit")}
+        place = f"{folder}/{crate}/must-fail"
+        for it in os.listdir(place) if os.path.isdir(place) else []:
+            if it.endswith(".edit"):
+                with open(f"{place}/{it}", encoding="utf-8", errors="replace") as text:
+                    found[f"{crate}/{it.removesuffix('.edit')}"] = "\nfile: specs/" in "\n" + text.read()
     return found
 
 
-def faults_in(lines, edits, rules):
-    """Returns a line for each edit that shows nothing or isn't told of, and for each name among the rules that is of no use."""
-    told = {it[1]: it for it in map(TOLD.match, lines) if it}
-    for name, it in sorted(told.items()):
-        why = fault_of(it[2], it[3], name in rules)
-        if why:
+def told_in(lines):
+    """What the log says of each edit, by its name: what it came to, and what was said."""
+    return {it[1]: (it[2], it[3]) for it in map(TOLD.match, lines) if it}
+
+
+def faults_in(lines, edits, named):
+    """Returns a line for each edit that shows nothing or isn't told of, and for each name that docs/EDITS.md has and that is of no use."""
+    told = told_in(lines)
+    whys = {name: shown_by(*it, edits.get(name, False))[1] for name, it in told.items()}
+    for name, why in sorted(whys.items()):
+        if why and not (name in named and told[name][0].strip() == REFUSED):
             yield f"{name}: {why}"
-    for name in sorted(edits - told.keys()):
+    for name in sorted(edits.keys() - told.keys()):
         yield f"{name}: the run says nothing of it"
-    for name in sorted(rules):
-        if name not in told or not CONDITION.search(told[name][3]):
-            yield f"{name}: docs/EDITS.md names it, and no condition refuses it"
+    for name in sorted(named):
+        if name not in told or not whys[name]:
+            yield f"{name}: docs/EDITS.md names it, and it counts without"
 
 
-def main(log):
+def main(words):
+    if len(words) not in (1, 2) or words[:-1] not in ([], ["--all"]):
+        sys.exit(__doc__)
     with open("docs/EDITS.md", encoding="utf-8") as page:
-        rules = set(ROW.findall(page.read()))
-    with open(log, encoding="utf-8", errors="replace") as lines:
-        faults = list(faults_in(lines, edits_of("crates"), rules))
+        named = set(ROW.findall(page.read()))
+    edits = edits_of("crates")
+    with open(words[-1], encoding="utf-8", errors="replace") as log:
+        lines = log.readlines()
+    if words[0] == "--all":
+        for name, it in sorted(told_in(lines).items()):
+            kind, why = shown_by(*it, edits.get(name, False))
+            print(f"{name}: {kind or 'NOTHING'}{it[1].rstrip() if kind else ': ' + why.rstrip()}")
+        return 0
+    faults = list(faults_in(lines, edits, named))
     for it in faults:
-        print(f"edits.py: {it}")
+        print(f"edits.py: {it.rstrip()}")
     return 1 if faults else 0
 
 
 if __name__ == "__main__":
-    sys.exit(main(sys.argv[1]))
+    sys.exit(main(sys.argv[1:]))

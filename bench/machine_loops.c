@@ -7,6 +7,8 @@
 #include <stdlib.h>
 #include <string.h>
 
+#include "machine_guests.h"
+
 typedef struct { uint32_t start, end; int read, write, execute; } Region;
 typedef struct { uint8_t *bytes; Region *regions; int count; uint32_t start, stop; } Memory;
 typedef struct { uint32_t x[32]; uint32_t pc; } Regs;
@@ -152,17 +154,10 @@ CALLED uint32_t run(Regs *g, Memory *m, uint32_t count) {
     return count;
 }
 
-/* the words of crates/nv_machine_bench */
-static const uint32_t COUNT[] = {0x400002b7, 0xfff28293, 0xfe029ee3, 0x00000073};
-static const uint32_t MEMORY[] = {0x00020437, 0x000103b7, 0x0003a303, 0x00130313, 0x0063a023, 0x00438393, 0xfe8398e3, 0xfe9ff06f};
-static const uint32_t CALLS[] = {0x00040137, 0x00c000ef, 0x00128293, 0xff9ff06f, 0xff010113, 0x00112623, 0x00350513, 0x00c12083, 0x01010113, 0x00008067};
-
 int main(int argc, char **argv) {
     if (argc != 3) return 1;
-    const uint32_t *words = COUNT;
-    size_t size = sizeof COUNT;
-    if (!strcmp(argv[1], "memory")) { words = MEMORY; size = sizeof MEMORY; }
-    if (!strcmp(argv[1], "calls")) { words = CALLS; size = sizeof CALLS; }
+    size_t size;
+    const uint32_t *words = guest_words(argv[1], &size);
     uint32_t count = strtoul(argv[2], 0, 10);
     Region *r = malloc(4 * sizeof *r);
     r[0] = (Region){0x8000, 0x9000, 1, 1, 1};

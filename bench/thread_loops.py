@@ -4,8 +4,8 @@
     bench/thread_loops.py [RUNS] [--before FOLDER] [--answers PROGRAM]
 
 A guest that counts down (`addi`, `bne`) runs for the same number of instructions as crates/nv_machine_bench calls `step`, as crates/nv_thread_bench calls `Process::advance`, in one
-thread and in eight that take turns, and as one version under `varan run` on one thread. Beside them the plain C interpreter of bench/machine_loops.c, with `step` as a call of its own
-and compiled into the loop. Runs them in turn (11 times by default), and prints the medians and the best of their processor times in millions of instructions a second, the speed
+thread and in eight that take turns, and as one version under `varan run` on one thread. Beside them the plain C interpreters of bench/machine_loops.c, with `step` as a call of its own
+and compiled into the loop, and of bench/machine_decoded.c, which decodes once. Runs them in turn (11 times by default), and prints the medians and the best of their processor times in millions of instructions a second, the speed
 of each against `step`, and how many times its time C takes. With valgrind it also prints the host instructions of each guest instruction, which don't depend on the load.
 
 Then a guest that reads, whose calls crates/nv_thread_bench answers with 4,096 bytes: nanoseconds an answer. `--before` names a folder with other builds of varan and nv_thread_bench, as
@@ -55,9 +55,10 @@ class Programs:
             other = os.path.join(before, "nv_thread_bench")
             self.words["advance, one thread, before"] = lambda steps: [other, "one", str(steps)]
             self.words["varan run, before"] = lambda steps: self.run_of(os.path.join(before, "varan"), steps)
-        for name, flags in (("C, step called", []), ("C, step inlined", ["-DINLINE"])):
-            program = os.path.join(room, "machine_loops" + "".join(flags))
-            subprocess.run(["gcc", "-O2", *flags, "-o", program, os.path.join(TOP, "bench", "machine_loops.c")], check=True)
+        for name, source, flags in (
+                ("C, step called", "machine_loops.c", []), ("C, step inlined", "machine_loops.c", ["-DINLINE"]), ("C, decoding once", "machine_decoded.c", [])):
+            program = os.path.join(room, source + "".join(flags))
+            subprocess.run(["gcc", "-O2", *flags, "-o", program, os.path.join(TOP, "bench", source)], check=True)
             self.words[name] = lambda steps, program=program: [program, "count", str(steps)]
 
     def write(self, name, content):
@@ -89,15 +90,15 @@ def counted(words):
 
 
 def print_table(programs, times):
-    base, called, inlined = (times[name] for name in ("step", "C, step called", "C, step inlined"))
-    print("| Program | M/s: median, best | Against `step`: median, best | C called / it: median, best | C inlined / it: median, best | Host instructions |")
-    print("|---|---|---|---|---|---|")
+    bases = [times[name] for name in ("step", "C, step called", "C, step inlined", "C, decoding once")]
+    print("| Program | M/s: median, best | Against `step`: median, best | C called / it: median, best | C inlined / it: median, best | C decoding once / it: median, best | Host instructions |")
+    print("|---|---|---|---|---|---|---|")
     for name, took in times.items():
         host = ""
         if shutil.which("valgrind"):
             host = f"{(counted(programs.words[name](2 * COUNTED)) - counted(programs.words[name](COUNTED))) / COUNTED:.1f}"
         a, b = statistics.median(took), min(took)
-        ratios = [f"{statistics.median(other) / a:.2f}, {min(other) / b:.2f}" for other in (base, called, inlined)]
+        ratios = [f"{statistics.median(other) / a:.2f}, {min(other) / b:.2f}" for other in bases]
         print(f"| {name} | {STEPS / a / 1e6:.1f}, {STEPS / b / 1e6:.1f} | {' | '.join(ratios)} | {host} |", flush=True)
 
 

@@ -3,7 +3,8 @@
 # what its clients got under Linux (server/expected); gives the program files and outputs of the host that fail; does the commands of
 # docs/TUTORIAL.md, PARTING.md, TRACES.md, REFUSALS.md, SCRIPT.md, INSPECT.md and GUESTS.md; tries the scripts of this folder; and has docs/varan.1 formatted.
 # check.sh [PROGRAM]: crates/varan/out/varan where no program is named.
-# Status: 0 where all is the same, 1 where something differs, 2 where the program isn't built.
+# It wants jq, cc and groff (Debian: jq, gcc, groff-base). What wants one that isn't there is left out, and a line with `left out` tells it.
+# Status: 0 where nothing differs, 1 where something does, 2 where the program isn't built.
 set -eu
 program=$(realpath -m "${1:-$(dirname "$0")/../crates/varan/out/varan}")
 cd "$(dirname "$0")"
@@ -19,6 +20,14 @@ rows=0
 wrong=0
 # what the program is started by, where it isn't the shell
 under=()
+
+# has TOOL PACKAGE WHAT: whether the tool is on this machine; where it isn't, this is left out.
+has() {
+    if ! command -v "$1" >/dev/null; then
+        echo "check.sh: left out: $3, for want of $1 (Debian: $2)"
+        return 1
+    fi
+}
 
 # row STATUS EXPECTED WORD..: what the program writes with these words is the file EXPECTED, and its status this.
 row() {
@@ -75,10 +84,12 @@ unwritten() {
 
 # failing CALL COMMAND..: one of the functions here, where this call of the C library fails once (bench/hostile_parts/failing.c).
 failing() {
+    local status=0
     under=(env "LD_PRELOAD=$work/failing.so" "FAILING=$1" "COUNTED=$work/counted")
     shift
-    "$@"
+    "$@" || status=$?
     under=()
+    return "$status"
 }
 
 # stopped N WORD..: where write N fails, from 0, the status is 6, the writes before it stand, and none comes after it.
@@ -95,6 +106,80 @@ stopped() {
     fi
 }
 
+# wanting STATUSES WORD..: where each allocation fails in turn, the program ends as where none does, with 3 and `varan: memory`, or with 7 and the fate `memory` of
+# its one version; and it ends with each of these statuses at least once.
+wanting() {
+    local needed=$1 count number status came=' ' usual=0
+    shift
+    "$program" "$@" >"$work/whole" || usual=$?
+    failing alloc:-1 ended "$usual" "$@" >"$work/written"
+    read -r count _ <"$work/counted"
+    for ((number = 0; number < count; number++)); do
+        status=0
+        failing "alloc:$number" started "$@" >"$work/written" || status=$?
+        came+="$status "
+        rows=$((rows + 1))
+        if ! is_for_want "$status" "$usual"; then
+            echo "check.sh: status $status where allocation $number fails: varan $*"
+            wrong=$((wrong + 1))
+        fi
+    done
+    for status in $needed; do
+        if [[ $came != *" $status "* ]]; then
+            echo "check.sh: no want of memory ends with $status: varan $*"
+            wrong=$((wrong + 1))
+        fi
+    done
+}
+
+# started WORD..: the program, as the rows start it.
+started() {
+    ${under[@]+"${under[@]}"} "$program" "$@"
+}
+
+# is_for_want STATUS USUAL: whether what was written is what this status says, where an allocation failed and else the status is USUAL.
+is_for_want() {
+    case $1 in
+    "$2") cmp -s "$work/whole" "$work/written" ;;
+    3) [ "$(cat "$work/written")" = 'varan: memory' ] ;;
+    7) [[ $(sed -n '/^fates /,$p' "$work/written") == $'fates 1\n0 memory seen '* ]] ;;
+    *) false ;;
+    esac
+}
+
+# sized WORD..: the bytes of the program's greatest allocation, and how many threads it starts.
+sized() {
+    under=(env "LD_PRELOAD=$work/failing.so" "SIZED=$work/sized")
+    started "$@" >/dev/null
+    under=()
+    cat "$work/sized"
+}
+
+# on_threads COUNT WORD..: a run of eight versions on so many threads starts one less beside its first.
+on_threads() {
+    local count=$1 created
+    shift
+    rows=$((rows + 1))
+    read -r _ created < <(sized run --threads "$count" "$@")
+    if [ "$created" != $((count - 1)) ]; then
+        echo "check.sh: $created threads are started in place of $((count - 1)): varan run --threads $count $*"
+        wrong=$((wrong + 1))
+    fi
+}
+
+# ring_grows WORD..: the table of a run grows by the same for each place of its ring.
+ring_grows() {
+    local small middle large
+    rows=$((rows + 1))
+    read -r small _ < <(sized run --ring 256 "$@")
+    read -r middle _ < <(sized run --ring 512 "$@")
+    read -r large _ < <(sized run --ring 1024 "$@")
+    if [ "$middle" -le "$small" ] || [ $((large - middle)) != $((2 * (middle - small))) ]; then
+        echo "check.sh: tables of $small, $middle and $large bytes by rings of 256, 512 and 1024 places: varan run $*"
+        wrong=$((wrong + 1))
+    fi
+}
+
 # record STATUS TRACE WORD..: records a run.
 record() {
     local wanted=$1 trace=$2 status=0
@@ -105,6 +190,16 @@ record() {
         echo "check.sh: status $status in place of $wanted: varan record $*"
         wrong=$((wrong + 1))
     fi
+}
+
+# record_again TRACE WORD..: the same trace is recorded on one thread, on eight, and with a ring of two places.
+record_again() {
+    local trace=$1 option
+    shift
+    for option in --threads=1 --threads=8 --ring=2; do
+        record 0 "$work/again" "$option" "$@"
+        same "$trace" "$work/again"
+    done
 }
 
 # same FILE FILE: two files are the same.
@@ -182,7 +277,7 @@ unwritten rules "$missing"
 unwritten asm $'\xff'
 unwritten "${long[@]}"
 # calls of the host that fail once
-if command -v cc >/dev/null; then
+if has cc gcc "calls of the host that fail once, want of memory, rings and threads"; then
     cc -O1 -shared -fPIC -o "$work/failing.so" "$here/../bench/hostile_parts/failing.c"
     failing open:0 says 5 'varan: read script' run --script script --rules "$work/filter" "$work/hi"
     failing open:1 says 5 "varan: read $work/filter" run --script script --rules "$work/filter" "$work/hi"
@@ -195,8 +290,16 @@ if command -v cc >/dev/null; then
     stopped 0 asm $'\xff'
     stopped 0 "${long[@]}"
     stopped 1 "${long[@]}"
-else
-    echo "check.sh: there is no cc, so calls of the host that fail once weren't tried"
+    # want of memory: in the words, which are read before they are refused; for the command itself; and of the one version of a run
+    wanting 3 asm $'\xff'
+    wanting 3 asm hi.s
+    wanting "3 7" run --threads 1 --script script "$work/hi"
+    wanting 3 record --threads 1 --script script "$work/hi"
+    # the ring and the threads that the options ask for; the memory of the version is smaller than the rings
+    ring_grows --script script --memory 196608 "$work/hi"
+    for count in 1 2 3 8; do
+        on_threads "$count" --script script "$work"/{hi,hi,hi,hi,hi,hi,hi,hi}
+    done
 fi
 
 cd ../service
@@ -218,6 +321,7 @@ row 0 expected/bad_live_update run --script update "$work/service_1" "$work/serv
 record 0 "$work/trace" --script script "$work/service_1"
 record 0 "$work/trace_2" --script script "$work/service_2" "$work/service_1"
 same "$work/trace" "$work/trace_2"
+record_again "$work/trace" --script script "$work/service_2" "$work/service_1"
 record 1 "$work/broken" --script script "$work/service_2"
 says 0 'replay exited 0 seen 10 rewrites 0' replay --script script "$work/trace" "$work/service_1"
 says 1 'replay fault load 100 0001006c seen 5 rewrites 0' replay --script script "$work/trace" "$work/service_2"
@@ -245,6 +349,7 @@ row 0 expected/bad_live_update run --script update "$work/server_1" "$work/serve
 record 0 "$work/trace" --script script "$work/server_1"
 record 0 "$work/trace_2" --script update "$work/server_1" "$work/server_2"
 same "$work/trace" "$work/trace_2"
+record_again "$work/trace" --script update "$work/server_1" "$work/server_2"
 says 0 'replay exited 0 seen 31 rewrites 0' replay --script script "$work/trace" "$work/server_1"
 says 1 'replay fault load 100 000100b8 seen 17 rewrites 0' replay --script script "$work/trace" "$work/server_2"
 says 0 'replay exited 0 seen 31 rewrites 0' replay --script script "$work/trace" "$work/server_3"
@@ -282,6 +387,7 @@ served 0 expected/clients_1 $'0 exited 0 seen 115 led 0-47,59-115 rewrites 0\n1 
 record 0 "$work/trace" --script scripts/clients built/server_1
 record 0 "$work/trace_2" --script scripts/update built/server_1 built/server_2
 same "$work/trace" "$work/trace_2"
+record_again "$work/trace" --script scripts/update built/server_1 built/server_2
 says 0 'replay exited 0 seen 115 rewrites 0' replay --script scripts/clients "$work/trace" built/server_1
 says 1 'replay fault load 100 000107dc seen 59 rewrites 0' replay --script scripts/clients "$work/trace" built/server_2
 says 0 'replay exited 0 seen 115 rewrites 0' replay --script scripts/clients "$work/trace" built/server_3
@@ -291,7 +397,7 @@ row 0 expected/inspected_before inspect --script scripts/clients --stamp 59 --du
 row 0 expected/inspected_parted inspect --script scripts/clients --stamp 60 --dump 1048240 --length 208 "$work/trace" built/server_4
 row 0 expected/inspected_fault inspect --script scripts/clients --stamp 60 "$work/trace" built/server_2
 
-if command -v jq >/dev/null; then
+if has jq jq "strace.jq"; then
     calls expected/calls --script scripts/clients built/server_1
     cd "$here/../crates/nv_examples/data/service"
     calls expected/calls --script script "$work/service_2" "$work/service_1"
@@ -299,16 +405,17 @@ if command -v jq >/dev/null; then
     calls expected/calls --script script "$work/server_2" "$work/server_1"
     cd ../hello
     calls expected/calls --script script "$work/hi"
-    page TUTORIAL.md
-    page PARTING.md
-else
-    echo "check.sh: there is no jq, so strace.jq and the pages that want it weren't tried"
 fi
 
-if command -v groff >/dev/null; then
+page TUTORIAL.md
+page PARTING.md
+
+if has groff groff-base "the form of docs/varan.1"; then
     rows=$((rows + 1))
     # groff tells a fault of the page on standard error alone
-    if [ -n "$(groff -mandoc -Tutf8 -ww -z "$here/../docs/varan.1" 2>&1 | tee /dev/stderr)" ]; then
+    said=$(groff -mandoc -Tutf8 -ww -z "$here/../docs/varan.1" 2>&1) || said+=" (status $?)"
+    if [ -n "$said" ]; then
+        echo "$said"
         echo "check.sh: docs/varan.1 isn't formatted without a warning"
         wrong=$((wrong + 1))
     fi

@@ -6,13 +6,19 @@
 
 A command is a line `$ ..` of an indented block. It goes on over lines `> ..`, and what it prints stands below it, up to the next command or the end of the block. There a line `..` stands for
 lines that are left out, and ` ..` at the end of a line for the rest of it. All commands are done in one shell, in copies of docs/, examples/ and the data of the gate's examples, so nothing is changed here.
-Those that want the compiler for guests are passed over where it isn't on this machine, and told.
+Those that want a program of the host that isn't there (WANTED) are left out, and a line with `left out` tells how many, and the Debian package.
 
-The last line says how many commands there were and how many printed something else. Status: 0 where none did, 1 where one did, 2 where the program isn't built.
+The last line says how many commands there were and how many printed something else. Status: 0 where none did, 1 where one did or where they took longer than SECONDS,
+2 where the program isn't built, the page can't be read or the words are others. Whatever the commands started is ended with them.
 """
+import collections
+import contextlib
+import functools
+import os
 import pathlib
 import re
 import shutil
+import signal
 import subprocess
 import sys
 import tempfile
@@ -20,7 +26,13 @@ import tempfile
 TOP = pathlib.Path(__file__).resolve().parent.parent
 COPIED = ["docs", "examples", "crates/nv_examples/data"]
 INDENT = "    "
-COMPILER = "riscv64-unknown-elf-"
+COMPILER = "riscv64-unknown-elf-gcc"
+# What a command may want of the host: how its text shows that, the program, and the Debian packages.
+WANTED = [
+    (re.compile(r"build\.sh|riscv64-unknown-elf-"), COMPILER, "gcc-riscv64-unknown-elf, picolibc-riscv64-unknown-elf"),
+    (re.compile(r"\bjq\b|\bparting\.py\b|\$PARTING\b"), "jq", "jq"),
+    (re.compile(r"\bxxd\b"), "xxd", "xxd"),
+]
 # Printed between the commands; no command prints it.
 MARK = "---- the next command ----"
 SECONDS = 300
@@ -34,8 +46,24 @@ class Command:
         self.first = self.end = first
         self.printed = []
 
-    def wants_compiler(self):
-        return COMPILER in self.text or "build.sh" in self.text
+    def lacks(self):
+        """The first program that the command wants and that isn't on this machine, with its packages; or None."""
+        return next(((tool, packages) for sign, tool, packages in WANTED if sign.search(self.text) and not is_there(tool)), None)
+
+
+class TooLong(Exception):
+    pass
+
+
+@functools.cache
+def is_there(tool):
+    """Whether the host has the program; the compiler, whether it has its library too."""
+    if shutil.which(tool) is None:
+        return False
+    if tool != COMPILER:
+        return True
+    words = [tool, "--specs=picolibc.specs", "-march=rv32ima", "-mabi=ilp32", "-E", "-"]
+    return subprocess.run(words, input=b"#include <stdio.h>\n", stdout=subprocess.DEVNULL, stderr=subprocess.DEVNULL).returncode == 0
 
 
 def block_ends(lines, at):
@@ -91,27 +119,68 @@ def do(commands, program):
         for command in commands:
             lines += [command.text, "next"]
         (place / "commands").write_text("\n".join(lines) + "\n")
-        done = subprocess.run(["bash", "commands"], cwd=place, stdin=subprocess.DEVNULL, stdout=subprocess.PIPE, stderr=subprocess.STDOUT, timeout=SECONDS)
-    printed = done.stdout.decode(errors="replace").split(MARK + "\n")[:-1]
+        said = ended(["bash", "commands"], place)
+    printed = said.decode(errors="replace").split(MARK + "\n")[:-1]
     return [text.rstrip("\n").split("\n") if text.strip() else [] for text in printed]
 
 
+def ended(words, place):
+    """What the command prints, in a group of its own, whose processes are all ended where it takes too long, or where this script is ended."""
+    begun = subprocess.Popen(words, cwd=place, stdin=subprocess.DEVNULL, stdout=subprocess.PIPE, stderr=subprocess.STDOUT, start_new_session=True)
+    try:
+        return begun.communicate(timeout=SECONDS)[0]
+    except subprocess.TimeoutExpired:
+        raise TooLong from None
+    finally:
+        with contextlib.suppress(ProcessLookupError):
+            os.killpg(begun.pid, signal.SIGKILL)
+        begun.wait()
+
+
+def stop(why):
+    print(f"follow.py: {why}")
+    sys.exit(2)
+
+
+def read(page):
+    try:
+        return page.read_text().split("\n")
+    except (OSError, UnicodeDecodeError) as error:
+        stop(f"{page} can't be read: {getattr(error, 'strerror', None) or error}")
+
+
+def kept(commands, page):
+    """The commands whose programs are there. Of the others it tells how many there are."""
+    lacking = collections.Counter(filter(None, (command.lacks() for command in commands)))
+    for (tool, packages), count in lacking.items():
+        print(f"follow.py: left out: {count} commands of {page.name}, for want of {tool} (Debian: {packages})")
+    return [command for command in commands if not command.lacks()]
+
+
 def main():
+    # A signal to end unwinds as Ctrl-C does, so that what was started is ended too.
+    signal.signal(signal.SIGTERM, lambda *_: sys.exit(1))
     words = sys.argv[1:]
     is_writing = words[:1] == ["--write"]
-    page = pathlib.Path(words[is_writing])
-    program = pathlib.Path(words[is_writing + 1] if len(words) > is_writing + 1 else TOP / "crates/varan/out/varan").resolve()
-    if not program.exists():
-        print(f"follow.py: {program} isn't built")
-        return 2
-    lines = page.read_text().split("\n")
-    commands = read_commands(lines)
-    if shutil.which(COMPILER + "gcc") is None:
-        passed = [command for command in commands if command.wants_compiler()]
-        commands = [command for command in commands if not command.wants_compiler()]
-        print(f"follow.py: {COMPILER}gcc isn't on this machine: {len(passed)} commands passed over")
+    words = words[is_writing:]
+    if len(words) not in (1, 2):
+        stop("the words are [--write] PAGE [PROGRAM]")
+    page = pathlib.Path(words[0])
+    program = pathlib.Path(words[1] if len(words) > 1 else TOP / "crates/varan/out/varan").resolve()
+    if not os.access(program, os.X_OK) or program.is_dir():
+        stop(f"{program} isn't built")
+    lines = read(page)
+    commands = kept(read_commands(lines), page)
+    try:
+        done = do(commands, program)
+    except TooLong:
+        print(f"follow.py: {page}: the commands take longer than {SECONDS} seconds, and were ended")
+        return 1
+    if len(done) != len(commands):
+        print(f"follow.py: {page}: the shell ended in command {len(done) + 1}: {commands[len(done)].text}")
+        return 1
     wrong = 0
-    for command, printed in reversed(list(zip(commands, do(commands, program), strict=True))):
+    for command, printed in reversed(list(zip(commands, done))):
         if is_printed(command.printed, printed):
             continue
         wrong += 1
@@ -125,4 +194,5 @@ def main():
     return 1 if wrong and not is_writing else 0
 
 
-sys.exit(main())
+if __name__ == "__main__":
+    sys.exit(main())

@@ -6,7 +6,8 @@
 
 The arguments but --program (default `varan`) are those of `varan run`, or of `varan replay` with a trace. Of a run it makes the trace by itself, and shows each version.
 docs/PARTING.md says how it is read. Needs jq, for strace.jq.
-Status: 0 where the version is in step or exited, 1 where it parts or breaks, 2 for a faulty command line; where `varan` refuses a file its line is printed, and the status is that of `varan`.
+Status: 0 where the version is in step or exited, 1 where it parts or breaks, 2 for a faulty command line or where a program isn't there, the trace can't be read or a command takes
+longer than SECONDS; where `varan` refuses a file its line goes to standard error, and the status is that of `varan`.
 """
 import argparse
 import dataclasses
@@ -20,6 +21,7 @@ import tempfile
 # The options that `run` and `replay` share, and those of `run` alone; and how a trace begins.
 OPTIONS, OF_RUN = ["--script", "--rules", "--memory", "--budget"], ["--calls", "--ring", "--threads"]
 MAGIC = b"VARANTR1"
+SECONDS = 120
 STRACE = pathlib.Path(__file__).resolve().parent / "strace.jq"
 UNLINKAT, OPENAT, WRITE, READV, WRITEV, BIND = 35, 56, 64, 65, 66, 200
 # The arguments of each call that are values, from 0: those that are compared (docs/RULES.md). Addresses and what isn't used aren't.
@@ -135,10 +137,29 @@ class State:
         return Call(tid, nr, args, sent, False)
 
 
+def stop(why):
+    print(f"parting.py: {why}", file=sys.stderr)
+    sys.exit(2)
+
+
+def ended(words, given=None, is_text=True):
+    """The command once it has ended; where it can't be begun or takes too long, a sentence in its place."""
+    try:
+        return subprocess.run(words, input=given, stdout=subprocess.PIPE, text=is_text, timeout=SECONDS)
+    except FileNotFoundError:
+        stop(f"there is no program {words[0]}" + (" (Debian: jq)" if words[0] == "jq" else " (--program names another)"))
+    except OSError as error:
+        stop(f"{words[0]} can't be begun: {error.strerror}")
+    except subprocess.TimeoutExpired:
+        stop(f"{words[0]} takes longer than {SECONDS} seconds, and was ended")
+
+
 def printed(calls):
     """The calls as strace prints them."""
     log = [{"tid": c.tid, "nr": c.nr, "args": c.args, "ret": c.ret, "payload": (c.sent + c.got).hex(), "stamp": 0} for c in calls]
-    done = subprocess.run(["jq", "-r", "-f", STRACE], input=json.dumps({"log": log}), stdout=subprocess.PIPE, text=True, check=True)
+    done = ended(["jq", "-r", "-f", STRACE], json.dumps({"log": log}))
+    if done.returncode:
+        stop(f"jq ended with {done.returncode}")
     return done.stdout.splitlines()
 
 
@@ -164,6 +185,12 @@ def difference(logged, own):
     return bytes_difference(logged.sent, own.sent)
 
 
+def is_taken(logged, own):
+    """Whether the calls are writes to one descriptor with other bytes, of which the event's wrote all or failed: what the verdict Take lets through (docs/RULES.md)."""
+    same = logged.nr == own.nr and logged.nr in (WRITE, WRITEV) and logged.args[0] == own.args[0] and not logged.bad and not own.bad
+    return same and logged.sent != own.sent and (logged.ret < 0 or logged.ret == len(logged.sent))
+
+
 def bytes_difference(one, other):
     if one == other:
         return []
@@ -172,11 +199,23 @@ def bytes_difference(one, other):
 
 
 def run(words):
-    done = subprocess.run(words, stdout=subprocess.PIPE, text=True)
+    done = ended(words)
     if done.stdout.startswith("varan: "):
-        print(done.stdout, end="")
+        print(done.stdout, end="", file=sys.stderr)
         sys.exit(done.returncode)
+    if not done.stdout:
+        stop(f"{words[0]} wrote nothing, and ended with {done.returncode}")
     return done.stdout.splitlines()
+
+
+def event_of(trace, place):
+    """The event of the trace at this place."""
+    try:
+        return read_trace(trace)[place]
+    except OSError as error:
+        stop(f"{trace} can't be read: {error.strerror}")
+    except (struct.error, IndexError):
+        stop(f"{trace} has no whole event {place}")
 
 
 def is_trace(path):
@@ -188,10 +227,10 @@ def is_trace(path):
 
 
 def recorded(program, given, versions, path):
-    """Records the run of these versions; what is refused is printed, and ends this."""
-    done = subprocess.run([program, "record", *given, *versions], stdout=subprocess.PIPE)
+    """Records the run of these versions; where it is refused the line goes to standard error, and ends this."""
+    done = ended([program, "record", *given, *versions], is_text=False)
     if not done.stdout.startswith(MAGIC):
-        print(done.stdout.decode(errors="replace"), end="")
+        print(done.stdout.decode(errors="replace"), end="", file=sys.stderr)
         sys.exit(done.returncode or 1)
     pathlib.Path(path).write_bytes(done.stdout)
 
@@ -239,7 +278,7 @@ def compare(program, given, trace, version):
         print(line)
         return 0
     seen = int(end[end.index("seen") + 1])
-    logged = read_trace(trace)[seen]
+    logged = event_of(trace, seen)
     print(f"event    {seen}, of thread {logged.tid}; rewrites before it: {end[-1]}")
     if end[0] == "fault":
         print("log     ", *printed([logged]))
@@ -255,7 +294,10 @@ def compare(program, given, trace, version):
     # What the version's call would give isn't known.
     print("version ", of_version.rsplit(" = ", 1)[0])
     print(*difference(logged, own), sep="\n")
+    if is_taken(logged, own):
+        print("rule     other bytes in the same write: `ret #take` gives it the event's answer")
     return 1
 
 
-sys.exit(main())
+if __name__ == "__main__":
+    sys.exit(main())

@@ -6,6 +6,7 @@
 NAME .. are the versions' names in their order; without them they are numbered. docs/REPORT.md has the report's JSON form. A lane shows what the version led (thick), what it followed (thin), and where and how it
 ended; how many of its calls rules rewrote is told at its end, since a report doesn't say which. A log of more events than there are columns is drawn in bins of as many events each: there the height of a
 mark is the share of its call.
+Status: 0 where the picture is written; 1 where standard input is no such report, which is told on standard error, as is a line by which `varan` refuses its words or a file.
 """
 import collections
 import json
@@ -189,4 +190,30 @@ def draw(report, names):
     return picture.whole(LEFT + WIDTH + RIGHT, round(bottom + AXIS + LEGEND), f"{len(versions)} versions over {length} events")
 
 
-print(draw(json.load(sys.stdin), sys.argv[1:]))
+def report_of(text):
+    """The report in a text; None where it is none, which is told."""
+    refused = [line for line in text.splitlines() if line.startswith("varan: ")]
+    if refused:
+        print(*refused, sep="\n", file=sys.stderr)
+        return None
+    try:
+        report = json.loads(text)
+    except ValueError as error:
+        print(f"timeline.py: standard input is no report in JSON (varan run --json ..): {error}", file=sys.stderr)
+        return None
+    if not isinstance(report, dict) or not {"log", "fates"} <= report.keys():
+        print("timeline.py: standard input is no report of `varan run --json`: it has no log or no fates", file=sys.stderr)
+        return None
+    return report
+
+
+def main():
+    report = report_of(sys.stdin.read())
+    if report is None:
+        return 1
+    print(draw(report, sys.argv[1:]))
+    return 0
+
+
+if __name__ == "__main__":
+    sys.exit(main())

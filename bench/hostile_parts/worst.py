@@ -12,6 +12,9 @@ MOST = 131_072
 FILE = 4_194_304
 EXIT = "li a0, 0\nli a7, 94\necall\n"
 
+# At 0x1F000: `auipc s1, 0`, `lw t0, 10(s1)`, and for ever `sw t0, 10(s1)`, which writes over the half of itself and of what follows, and a jump back to it.
+WRITES_OVER_ITSELF = [0x00000497, 0x00A4A283, 0x0054A523, 0xFFDFF06F]
+
 
 class Compared:
     """Compares what is written, piece by piece, with the pieces that are due."""
@@ -64,13 +67,18 @@ def loop(count, body, before=""):
     return f"{before}li s0, {count}\nagain: {body}addi s0, s0, -1\nbne s0, zero, again\n"
 
 
-def many_segments(words):
-    """A version of 16 segments, a page apart, with the code in the last at 0x1F000."""
+def many_segments(words, rights=5):
+    """A version of 16 segments, a page apart, with the code in the last at 0x1F000, which has these rights."""
     code = struct.pack(f"<{len(words)}I", *words)
     head = image([])[:24] + struct.pack("<I", 0x1F000) + image([])[28:44] + struct.pack("<HHHH", 16, 0, 0, 0)
     table = b"".join(
-        struct.pack("<IIIIIIII", 1, 52 + 16 * 32, 0x10000 + 0x1000 * i, 0, len(code), len(code), 5 if i == 15 else 6, 4) for i in range(16))
+        struct.pack("<IIIIIIII", 1, 52 + 16 * 32, 0x10000 + 0x1000 * i, 0, len(code), len(code), rights if i == 15 else 6, 4) for i in range(16))
     return head + table + code
+
+
+def code_of(file, size):
+    """The same version, of one segment, which has so many bytes and may be read, written and executed."""
+    return file[:72] + struct.pack("<II", size, 7) + file[80:]
 
 
 def available():
@@ -308,6 +316,13 @@ class Worst:
         fates = ["exited 0 seen 1 led 0-1 rewrites 0"] + ["exited 0 seen 1 led - rewrites 0"] * 7
         self.row("8 versions of 4 MiB in 16 MiB", 8, ["run", "--script", "s", "--memory", "16777216", *["v"] * 8], report(b"", 1, [(94, [0], 0)], fates))
 
+    def versions_of_code(self):
+        """Eight versions in the largest memory, of which all but the stack is one range that may be executed and written."""
+        write("s", SCRIPT)
+        write("v", code_of(image([0x05E00893, 0x00000073]), 16 * MIB - 65_536 - 0x10000))
+        fates = ["exited 0 seen 1 led 0-1 rewrites 0"] + ["exited 0 seen 1 led - rewrites 0"] * 7
+        self.row("8 versions of 16 MiB of code", 8, ["run", "--script", "s", "--memory", "16777216", *["v"] * 8], report(b"", 1, [(94, [0], 0)], fates))
+
     # Calls
 
     def payloads(self):
@@ -407,14 +422,30 @@ class Worst:
             write("v", many_segments([0x00012283, 0xFFDFF06F]))
             due = report(b"", 0, [], ["fault budget 100 0001f000 seen 0 led 0-0 rewrites 0"])
             self.row("16 segments: a load from the stack, a jump", budget, ["run", "--script", "s", "--budget", str(budget), "v"], due, status=1)
+            write("v", many_segments(WRITES_OVER_ITSELF, rights=7))
+            due = report(b"", 0, [], ["fault budget 100 0001f008 seen 0 led 0-0 rewrites 0"])
+            self.row("16 segments: a store over itself and over its jump", budget, ["run", "--script", "s", "--budget", str(budget), "v"], due, status=1)
         for memory, count in ((1 << 20, 500), (1 << 22, 500), (1 << 24, 500), (1 << 24, 1_000), (1 << 24, 2_000)):
             self.moved_break(memory, count)
+        for count in (500, 1_000, 2_000):
+            self.moved_break_behind_code(count)
 
     def moved_break(self, memory, count):
         top = memory - 65_536
         self.assembled("v", "li a0, 0\nli a7, 214\necall\nmv s1, a0\n" + loop(count, f"li a0, {top}\necall\nmv a0, s1\necall\n") + EXIT)
         due = report(b"", 1, [(94, [0], 0)], ["exited 0 seen 1 led 0-1 rewrites 0"])
         self.row(f"brk up and down, {memory // MIB} MiB", count, ["run", "--script", "s", "--memory", str(memory), "v"], due)
+
+    def moved_break_behind_code(self, count):
+        """Half of the memory is code, of which an instruction is written anew each time that the break goes up over the other half and down."""
+        top = 16 * MIB - 65_536
+        body = f"li a0, {top}\necall\nsw t0, 0(s2)\nwritten: nop\nmv a0, s1\necall\n"
+        self.assembled("v", "li a0, 0\nli a7, 214\necall\nmv s1, a0\nla s2, written\nlw t0, 0(s2)\n" + loop(count, body) + EXIT)
+        with open("v", "rb") as file:
+            version = file.read()
+        write("v", code_of(version, 8 * MIB - 0x10000))
+        due = report(b"", 1, [(94, [0], 0)], ["exited 0 seen 1 led 0-1 rewrites 0"])
+        self.row("brk up and down, 16 MiB, half of it code", count, ["run", "--script", "s", "--memory", "16777216", "v"], due)
 
     def generated(self):
         """The made run with the most events."""
@@ -423,6 +454,6 @@ class Worst:
 
     def run(self):
         print(f"{'worst case':58}{'size':>12}{'CPU s':>9}{'MiB':>11}  of its payload")
-        for part in (self.words, self.files, self.rules, self.texts, self.last_event, self.handed, self.traces, self.large_versions, self.payloads, self.vectors, self.gaps,
+        for part in (self.words, self.files, self.rules, self.texts, self.last_event, self.handed, self.traces, self.large_versions, self.versions_of_code, self.payloads, self.vectors, self.gaps,
                      self.instructions, self.generated):
             part()

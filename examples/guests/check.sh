@@ -4,6 +4,10 @@
 set -eu
 cd "$(dirname "$0")"
 program=${1:-../../crates/varan/out/varan}
+if [ ! -x "$program" ]; then
+    echo "check.sh: $program isn't built: cd crates/varan && rt run -- run --script data/s data/v"
+    exit 2
+fi
 report=$(mktemp)
 trace=$(mktemp)
 trap 'rm -f "$report" "$trace"' EXIT

@@ -6,10 +6,9 @@ use Rattle.std.specs.Fmt.{digit_glyph}
 use Rattle.std.proofs.lemmas.Bool.Decides.{nat_tests}
 use Rattle.std.proofs.lemmas.List.{take_all, take_more, flat_map_more}
 use Rattle.std.proofs.lemmas.List.Elements.{All-nil, All-cons}
-use Rattle.nv_text.specs.Numbers.{unhexed, pair_of, hex_pair_of}
+use Rattle.nv_text.specs.Numbers.{unhexed, pair_of, hex_pair_of, hex_of}
 use Rattle.nv_text.proofs.Pairs.{pair-step, rest-ends}
 use Rattle.nv_arrivals.specs.Arrivals.{AreBytes}
-use Rattle.nv_arrivals.specs.Writing.{hex_of}
 
 glyph-is : (v : ℕ) → v < 16 → is_ascii_hexdigit (digit_glyph false v) ≡ true
 glyph-is v small = grind (arith, nat_tests)

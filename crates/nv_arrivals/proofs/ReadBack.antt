@@ -8,10 +8,10 @@ use Rattle.std.proofs.lemmas.List.Elements.{All-append}
 use Rattle.std.proofs.lemmas.Slice.Eq.{bytes_eq-Decides}
 use Rattle.nv_text.specs.Fields.{first_word, rest_of}
 use Rattle.nv_text.specs.Names.{defined}
-use Rattle.nv_text.specs.Numbers.{number_of, unhexed, decimal_of}
+use Rattle.nv_text.specs.Numbers.{number_of, unhexed, decimal_of, hex_of}
 use Rattle.nv_arrivals.specs.Arrivals.{Arrival, Input, InputEnd, ClientsEnd, Connect, Data, End, is_sized, is_port, is_arrival, AreBytes, BringsBytes}
 use Rattle.nv_arrivals.specs.Reading.{words, is_word, sized, bytes_of, line_arrival, input_with, connect_with, data_with, data_parts, data_in, end_with, end_of, arrival_of}
-use Rattle.nv_arrivals.specs.Writing.{front, is_line, hex_of, input_text, line_text}
+use Rattle.nv_arrivals.specs.Writing.{front, is_line, input_text, line_text}
 use Rattle.nv_arrivals.proofs.Digits.{decimal-lacks, number_of-decimal}
 use Rattle.nv_arrivals.proofs.Hex.{unhexed-hex, hex-lacks}
 use Rattle.nv_arrivals.proofs.Texts.{Lacks, plain, word-first, word-rest, line-whole, front-lacks}

@@ -6,9 +6,10 @@ use Rattle.std.proofs.lemmas.Bool.Decides.{nat_tests}
 use Rattle.std.proofs.lemmas.List.{take_all, take_more}
 use Rattle.std.proofs.lemmas.List.Elements.{All-head, All-tail, All-nil, All-cons}
 use Rattle.nv_text.specs.Fields.{is_not_space, without_first, first_word, rest_of}
+use Rattle.nv_text.specs.Numbers.{hex_of}
 use Rattle.std.proofs.Common.{Fits, w8}
 use Rattle.nv_arrivals.specs.Arrivals.{AreBytes}
-use Rattle.nv_arrivals.specs.Writing.{is_printable, front, is_line, hex_of, input_text}
+use Rattle.nv_arrivals.specs.Writing.{is_printable, front, is_line, input_text}
 
 abbrev pub Lacks : ℕ → ℕ → Type 0
 Lacks byte c = (c == byte) ≡ false

@@ -1,7 +1,7 @@
 -- The line of an arrival.
 use Rattle.std.specs.Prelude.{ℕ, Bool, ◌&&◌, List, ◌++◌, if◌then◌else◌, ◌==◌, nat_le, ◌-◌, length, take, get_or, codes}
-use Rattle.std.specs.List.{list_all, flat_map}
-use Rattle.nv_text.specs.Numbers.{decimal_of, hex_pair_of}
+use Rattle.std.specs.List.{list_all}
+use Rattle.nv_text.specs.Numbers.{decimal_of, hex_of}
 use Rattle.nv_arrivals.specs.Arrivals.{Arrival, Input, InputEnd, ClientsEnd, Connect, Data, End}
 
 -- 0x20 to 0x7E
@@ -15,10 +15,6 @@ front bytes = take (length bytes - 1) bytes
 -- a printable text and its newline
 unfoldable pub is_line : List ℕ → Bool
 is_line bytes = (get_or bytes (length bytes - 1) 0 == 10) && list_all is_printable (front bytes)
-
--- two digits a byte, in lower case
-abbrev pub hex_of : List ℕ → List ℕ
-hex_of bytes = flat_map hex_pair_of bytes
 
 -- a text as it stands, where it is one
 abbrev pub input_text : List ℕ → List ℕ

@@ -1,10 +1,10 @@
 // The writer of an arrival's line.
 ghost use Rattle.std.specs.Prelude.{◌≡◌, ◌++◌, ◌==◌, ◌&&◌, OnOk, Ok, true, length, codes};
 ghost use Rattle.std.specs.List.{list_all};
-ghost use Rattle.nv_text.specs.Numbers.{decimal_of};
+ghost use Rattle.nv_text.specs.Numbers.{decimal_of, hex_of};
 ghost use Rattle.nv_arrivals.specs.Arrivals.{AreBytes, is_arrival};
 ghost use Rattle.nv_arrivals.specs.Reading.{arrival_of};
-ghost use Rattle.nv_arrivals.specs.Writing.{is_printable, is_line, hex_of, input_text, line_text};
+ghost use Rattle.nv_arrivals.specs.Writing.{is_printable, is_line, input_text, line_text};
 ghost use Rattle.nv_arrivals.specs.Views.{view};
 
 use crate::arrival::Arrival;

@@ -86,7 +86,7 @@ impl GuestSide {
         match socket {
             None => self.wants_input(fd, most),
             Some(Socket::Fresh) | Some(Socket::Bound(_)) | Some(Socket::Listening(_)) => None,
-            Some(Socket::Connected(i, read)) => self.wants_data(i, read, most),
+            Some(Socket::Connected { connection, at }) => self.wants_data(connection, at, most),
         }
     }
 
@@ -112,7 +112,7 @@ impl GuestSide {
             } else {
                 None
             },
-            Some(Socket::Fresh) | Some(Socket::Bound(_)) | Some(Socket::Connected(_, _)) => None,
+            Some(Socket::Fresh) | Some(Socket::Bound(_)) | Some(Socket::Connected { .. }) => None,
             None => None,
         }
     }

@@ -73,11 +73,6 @@ loading rd n = encoded (insn op.Lui rd 0 0 (cast_signed w32 (4096 * upper_of n))
 
 -- ---- operands
 
-infixl 10 ◌>>=◌
-abbrev pub ◌>>=◌ : {A B : Type 0} → Option A → (A → Option B) → Option B
-(Some x) >>= f = f x
-None >>= f = None
-
 -- a label's name
 abbrev pub name : List ℕ → Option (List ℕ)
 name text = if is_name text then Some text else None

@@ -28,13 +28,15 @@ pub const TEXT_BASE: u32 = 0x1_0000;
 /// How many bytes both sections may have together.
 pub const MOST_BYTES: u128 = 1_048_576;
 
-/// Where the data section begins.
+// How many bytes a page of memory has.
+const PAGE: u128 = 4096;
+
+/// Where the data section begins: at a page.
 pub fn data_base(text_len: u128) -> u128
     requires { text_len < 2 ^ 120 }
     ensures { result ≡ data_base text_len }
 {
-    let end = u128::from(TEXT_BASE) + text_len;
-    end + (4096 - end % 4096) % 4096
+    (u128::from(TEXT_BASE) + text_len).next_multiple_of(PAGE)
 }
 
 #[tactic(auto, unfolding(crate::specs::Assembled::address))]

@@ -1,5 +1,5 @@
 -- Which instructions are a filter: the first fault of a list of instructions, or the list.
-use Rattle.std.specs.Prelude.{◌≡◌, ℕ, Bool, true, false, ◌&&◌, List, [], ◌∷◌, Option, Some, None, Result, Ok, Err, if◌then◌else◌, ◌==◌, nat_lt, nat_le, ◌+◌, ◌-◌, ◌%◌, length, slice_get, option_and_then}
+use Rattle.std.specs.Prelude.{◌≡◌, ℕ, Bool, true, false, ◌&&◌, not, List, [], ◌∷◌, Option, Some, None, Result, Ok, Err, if◌then◌else◌, ◌==◌, nat_lt, nat_le, ◌+◌, ◌-◌, ◌%◌, length, slice_get, option_and_then}
 use Rattle.nv_bpf.specs.declared.op.Op.{Op}
 use Rattle.nv_bpf.specs.declared.op.FilterFault.{FilterFault}
 use Rattle.nv_bpf.specs.declared.op.FilterFault.TheVariants as fault
@@ -22,13 +22,17 @@ constant_fault ShiftLeft i k = unless (nat_le k 31) (fault.Shift i)
 constant_fault ShiftRight i k = unless (nat_le k 31) (fault.Shift i)
 constant_fault _ i k = None
 
--- the fault of instruction i of n, by what it does; the pair has 132 bytes, the scratch memory sixteen words
+-- where a word that a filter reads begins: the pair has 132 bytes, and from 136 on two words more stand beside it
+abbrev pub is_word : ℕ → Bool
+is_word k = (k % 4 == 0) && (nat_le k 140 && not (k == 132))
+
+-- the fault of instruction i of n, by what it does; the scratch memory has sixteen words
 abbrev pub action_fault : Action → ℕ → ℕ → Op → Option FilterFault
 action_fault Jump n i op = unless (nat_lt (i + 1 + op.k) n) (fault.Jump i)
 action_fault (Branch c s) n i op = unless (nat_lt (i + 1 + op.jt) n && nat_lt (i + 1 + op.jf) n) (fault.Jump i)
 action_fault (LoadScratch r) n i op = unless (nat_le op.k 15) (fault.Scratch i)
 action_fault (Store r) n i op = unless (nat_le op.k 15) (fault.Scratch i)
-action_fault LoadWord n i op = unless (op.k % 4 == 0 && nat_le op.k 128) (fault.Offset i)
+action_fault LoadWord n i op = unless (is_word op.k) (fault.Offset i)
 action_fault (Compute a Constant) n i op = constant_fault a i op.k
 action_fault _ n i op = None
 

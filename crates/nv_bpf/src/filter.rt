@@ -1,6 +1,6 @@
 // Filters and their verifier.
 ghost use Rattle.std.specs.Prelude.{◌≡◌, ◌<◌, ◌+◌, ◌^◌, None, length, nat_lt, slice_get};
-ghost use Rattle.nv_bpf.specs.Verified.{op_fault, action_fault, constant_fault, ops_fault, ends_in_return, list_fault, verified, is_return};
+ghost use Rattle.nv_bpf.specs.Verified.{op_fault, action_fault, is_word, constant_fault, ops_fault, ends_in_return, list_fault, verified, is_return};
 ghost use Rattle.nv_bpf.specs.Actions.{action_of};
 
 use crate::{Action, Arithmetic, FilterFault, MOST_OPS, Op, Operand, decode};
@@ -73,6 +73,13 @@ fn is_within(count: usize, i: u32, forward: u32) -> bool
     u64::from(i) + 1 + u64::from(forward) < count as u64
 }
 
+// Whether a word that a filter reads begins there. At 132, the length of the calls and the version's number, none does.
+fn is_word(k: u32) -> bool
+    ensures { result ≡ is_word k }
+{
+    k % 4 == 0 && k <= 140 && k != 132
+}
+
 fn action_fault(action: Action, count: usize, i: u32, op: Op) -> Option<FilterFault>
     ensures { result ≡ action_fault action count i op }
 {
@@ -83,7 +90,7 @@ fn action_fault(action: Action, count: usize, i: u32, op: Op) -> Option<FilterFa
             FilterFault::Jump(i)
         }
         Action::LoadScratch(_) | Action::Store(_) if op.k > 15 => FilterFault::Scratch(i),
-        Action::LoadWord if op.k % 4 != 0 || op.k > 128 => FilterFault::Offset(i),
+        Action::LoadWord if !is_word(op.k) => FilterFault::Offset(i),
         Action::Compute(arithmetic, Operand::Constant) => {
             return constant_fault(arithmetic, i, op.k);
         }

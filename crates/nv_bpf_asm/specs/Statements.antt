@@ -55,14 +55,18 @@ plain code k = option_map (λ n. Plain code n) k
 unfoldable pub sum_of : ℕ → ℕ → List ℕ → Option Statement
 sum_of by_constant by_index text = if bytes_eq text (codes "x") then Some (Plain by_index 0) else plain by_constant (constant text)
 
+-- `a`, the value by which a call takes the event's answer, or a constant
 unfoldable pub return_of : List ℕ → Option Statement
-return_of text = if bytes_eq text (codes "a") then Some (Plain 0x16 0) else plain 0x06 (constant text)
+return_of text = if bytes_eq text (codes "a") then Some (Plain 0x16 0) else (
+    if bytes_eq text (codes "#take") then Some (Plain 0x06 0x00070000) else plain 0x06 (constant text))
 
 unfoldable pub load_of : List ℕ → Option Statement
 load_of text = if bytes_eq text (codes "len") then Some (Plain 0x80 0) else (
-    if bytes_eq text (codes "version") then Some (Plain 0x20 128) else
+    if bytes_eq text (codes "version") then Some (Plain 0x20 128) else (
+    if bytes_eq text (codes "bytes") then Some (Plain 0x20 136) else (
+    if bytes_eq text (codes "event.bytes") then Some (Plain 0x20 140) else
     option_or (plain 0x00 (constant text)) (option_or (plain 0x60 (between (codes "M[") text))
-    (option_or (plain 0x20 (between (codes "[") text)) (plain 0x20 (option_and_then of_event (between (codes "event[") text))))))
+    (option_or (plain 0x20 (between (codes "[") text)) (plain 0x20 (option_and_then of_event (between (codes "event[") text))))))))
 
 unfoldable pub load_index_of : List ℕ → Option Statement
 load_index_of text = if bytes_eq text (codes "len") then Some (Plain 0x81 0) else option_or (plain 0x01 (constant text)) (plain 0x61 (between (codes "M[") text))

@@ -9,6 +9,9 @@ use crate::forms::{Form, form_of};
 use nv_text::{is, is_name, number, operands};
 use std::alloc::{AllocError, Global};
 
+// the value by which a call takes the event's answer
+const TAKE: u32 = 0x0007_0000;
+
 /// The instruction of a line, with the labels that it goes to.
 #[derive(Clone, Copy)]
 pub enum Statement<'a> {
@@ -89,6 +92,9 @@ fn return_value<'a>(operand: &[u8]) -> Option<Statement<'a>>
     if is(operand, "a") {
         return Some(Statement::Plain(0x16, 0));
     }
+    if is(operand, "#take") {
+        return Some(Statement::Plain(0x06, TAKE));
+    }
     plain(0x06, constant(operand))
 }
 
@@ -111,6 +117,12 @@ fn load<'a>(operand: &[u8]) -> Option<Statement<'a>>
     }
     if is(operand, "version") {
         return Some(Statement::Plain(0x20, 128));
+    }
+    if is(operand, "bytes") {
+        return Some(Statement::Plain(0x20, 136));
+    }
+    if is(operand, "event.bytes") {
+        return Some(Statement::Plain(0x20, 140));
     }
     if let Some(k) = constant(operand) {
         return Some(Statement::Plain(0x00, k));

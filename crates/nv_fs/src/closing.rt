@@ -6,7 +6,8 @@ ghost use Rattle.nv_fs.specs.Closes.{close_of, dup_of, dup3_of};
 use crate::disk::{DESCRIPTORS, FileSystem};
 use nv_calls::errors::{EBADF, EINVAL, EMFILE};
 
-const O_CLOEXEC: u32 = 0x80000;
+/// A flag that changes nothing here.
+pub const O_CLOEXEC: u32 = 0x80000;
 
 #[tactic(auto, unfolding(crate::specs::Closes::close_of, crate::specs::Closes::dup_of, crate::specs::Closes::dup3_of))]
 impl FileSystem {

@@ -24,7 +24,7 @@ pub struct MemoryFile {
 #[derive(Drop)]
 pub struct FileSystem {
     pub(crate) alloc: Global,
-    pub(crate) descriptors: [Option<usize>; 64],
+    pub(crate) descriptors: [Option<usize>; DESCRIPTORS],
     pub(crate) opens: Vec<OpenFile>,
     pub(crate) files: Vec<MemoryFile>,
     pub(crate) pipes: Vec<Vec<u8>>,
@@ -56,10 +56,10 @@ fn zeros(alloc: Global, n: usize) -> Result<Vec<u8>, AllocError>
 }
 
 #[tactic(auto, unfolding(crate::specs::Starts::first_descriptors))]
-fn first_descriptors() -> [Option<usize>; 64]
+fn first_descriptors() -> [Option<usize>; DESCRIPTORS]
     ensures { result ≡ first_descriptors }
 {
-    let mut descriptors = [None; 64];
+    let mut descriptors = [None; DESCRIPTORS];
     descriptors[0] = Some(0);
     descriptors[1] = Some(1);
     descriptors[2] = Some(1);

@@ -8,16 +8,19 @@ ghost use Rattle.nv_fs.specs.Kept.{KeepsBlocks};
 ghost use Rattle.nv_fs.specs.Reserved.{CanPipe};
 ghost use Rattle.nv_fs.specs.Views.{items_of};
 
+use crate::closing::O_CLOEXEC;
 use crate::disk::FileSystem;
 use crate::finding::first_free;
 use crate::open_file::{OpenFile, Target};
-use crate::tables::refuse;
+use crate::parts::refuse;
 use nv_calls::Bytes;
 use nv_calls::errors::{EINVAL, EMFILE};
 use std::alloc::{AllocError, Global};
 
-/// O_CLOEXEC and O_NONBLOCK, which change nothing here.
-const FLAGS: u32 = 0x80800;
+const O_NONBLOCK: u32 = 0x800;
+
+/// The flags that change nothing here.
+const FLAGS: u32 = O_NONBLOCK | O_CLOEXEC;
 
 // Both numbers in four bytes each.
 fn pair(reading: u32, writing: u32) -> [u8; 8]

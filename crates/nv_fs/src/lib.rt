@@ -1,5 +1,5 @@
 //! Files as guests' calls see them: descriptors, shared open files, files in memory, pipes and the console.
-//! Types: `FileSystem`, `Opened`.
+//! Types: `FileSystem`, `Opened`; module `parts`: parts of bytes, and bytes for which there is memory.
 //! Proved: each call gives the answer, the bytes and the state of its definition; the `reserve_` calls change nothing that
 //! can be seen, and the call after them can't fail.
 //! Above: both kernels, inspection.
@@ -12,6 +12,7 @@ mod ends;
 mod finding;
 mod open_file;
 mod opening;
+pub mod parts;
 mod reading;
 mod resolving;
 mod seeking;
@@ -19,5 +20,5 @@ mod tables;
 mod telling;
 mod writing;
 
-pub use disk::FileSystem;
+pub use disk::{DESCRIPTORS, FileSystem};
 pub use telling::Opened;

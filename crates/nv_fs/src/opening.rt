@@ -8,7 +8,7 @@ ghost use Rattle.nv_fs.specs.Reserved.{CanOpen, HasOpens};
 
 use crate::disk::{FileSystem, MemoryFile};
 use crate::open_file::{OpenFile, Target};
-use crate::tables::append;
+use crate::parts::append;
 use nv_blocks::Blocks;
 use nv_calls::errors::{EEXIST, EINVAL, EMFILE, ENOENT, ENOSPC};
 use std::alloc::AllocError;

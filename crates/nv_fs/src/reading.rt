@@ -6,7 +6,7 @@ ghost use Rattle.nv_fs.specs.Fetched.{read_of, read_input, read_file, read_pipe,
 
 use crate::disk::{FileSystem, MemoryFile};
 use crate::open_file::{OpenFile, Target};
-use crate::tables::{hand_out, refuse};
+use crate::parts::{hand_out, refuse};
 use nv_calls::errors::{EAGAIN, EBADF};
 use nv_calls::{Bytes, MOST_BYTES};
 

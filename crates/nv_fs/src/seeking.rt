@@ -5,7 +5,7 @@ ghost use Rattle.nv_fs.specs.Seeks.{seek_of, base_of, plus_signed, seek_from, Su
 
 use crate::disk::FileSystem;
 use crate::open_file::{OpenFile, Target};
-use crate::tables::refuse;
+use crate::parts::refuse;
 use nv_calls::Bytes;
 use nv_calls::errors::{EBADF, EINVAL, ESPIPE};
 

@@ -1,5 +1,5 @@
 // What the calls read of the tables, and how they change them.
-ghost use Rattle.std.specs.Prelude.{◌≡◌, ◌+◌, ◌<◌, ◌≤◌, ◌++◌, [], length, take, drop, min, max, is_some, vec_len, vec_capacity, OnOk};
+ghost use Rattle.std.specs.Prelude.{◌≡◌, ◌+◌, ◌<◌, ◌≤◌, length, is_some, vec_len, vec_capacity};
 ghost use Rattle.nv_fs.specs.States.{install, moved_to, file_at, with_at};
 ghost use Rattle.nv_fs.specs.Closes.{with_descriptor};
 ghost use Rattle.nv_fs.specs.Seeks.{bytes_of};
@@ -8,75 +8,6 @@ ghost use Rattle.nv_fs.specs.Reserved.{HasOpens};
 
 use crate::disk::FileSystem;
 use crate::open_file::OpenFile;
-use nv_calls::Bytes;
-use std::alloc::AllocError;
-
-/// At most so many bytes from a place on.
-pub fn part(bytes: &[u8], from: usize, most: usize) -> &[u8]
-    ensures part { result.now ≡ take most (drop from bytes.now) }
-    ensures few { length result.now ≤ most }
-    ensures inside { from + length result.now ≤ max from (length bytes.now) }
-{
-    let rest = after(bytes, from);
-    prefix(rest, most)
-}
-
-/// The bytes from a place on.
-fn after(bytes: &[u8], from: usize) -> &[u8]
-    ensures { result.now ≡ drop from bytes.now }
-{
-    &bytes[from.min(bytes.len())..]
-}
-
-/// At most so many bytes.
-pub fn prefix(bytes: &[u8], most: usize) -> &[u8]
-    ensures part { result.now ≡ take most bytes.now }
-    ensures few { length result.now ≡ min most (length bytes.now) }
-{
-    &bytes[..most.min(bytes.len())]
-}
-
-/// An answer that hands out nothing.
-pub fn refuse(out: &mut Bytes, result_is: i32) -> i32
-    ensures ret { result ≡ result_is }
-    ensures out { out.new ≡ record { bytes = []; capacity = out.old.capacity } }
-{
-    out.set(&[]);
-    result_is
-}
-
-/// Hands out at most so many bytes from a place on, and tells how many.
-pub fn hand_out(bytes: &[u8], from: usize, most: usize, out: &mut Bytes) -> usize
-    requires { most ≤ out.old.capacity }
-    ensures out { out.new ≡ record { bytes = take most (drop from bytes.now); capacity = out.old.capacity } }
-    ensures ret { result ≡ length out.new.bytes }
-    ensures few { result ≤ most }
-    ensures inside { from + result ≤ max from (length bytes.now) }
-{
-    let part = part(bytes, from, most);
-    out.set(part);
-    part.len()
-}
-
-/// Adds bytes for which there is memory.
-pub fn append(held: &mut Vec<u8>, bytes: &[u8])
-    requires { vec_len held.old + length bytes.now ≤ vec_capacity held.old }
-    ensures { held.new.items ≡ held.old.items ++ bytes.now }
-{
-    match held.extend_from_slice(bytes) {
-        Ok(()) => {}
-        Err(_) => unreachable!(),
-    }
-}
-
-/// Memory for so many elements in all.
-pub fn reserve_to(held: &mut Vec<u8>, most: usize) -> Result<(), AllocError>
-    ensures items { held.new.items ≡ held.old.items }
-    ensures ok { OnOk result (most ≤ vec_capacity held.new) }
-{
-    let more = most.saturating_sub(held.len());
-    held.reserve(more)
-}
 
 fn put_open(opens: &mut Vec<OpenFile>, i: usize, description: OpenFile)
     requires inside { i ≤ vec_len opens.old }

@@ -10,7 +10,7 @@ ghost use Rattle.nv_fs.specs.Reserved.{CanWrite, IsReserved, HasBlocks};
 
 use crate::disk::FileSystem;
 use crate::open_file::{OpenFile, Target};
-use crate::tables::{append, prefix, reserve_to};
+use crate::parts::{append, prefix, reserve_to};
 use nv_calls::errors::{EAGAIN, EBADF, EFBIG, ENOSPC, EPIPE};
 use std::alloc::AllocError;
 

@@ -15,11 +15,31 @@ pub struct LiveThreads {
     pub clones: u32,
 }
 
-// The flags that a call to clone may have (clone(2)).
+// What a thread shares with the others of its process (clone(2)): all of it is needed.
+const SHARED: u32 = CLONE_VM | CLONE_FS | CLONE_FILES | CLONE_SIGHAND | CLONE_THREAD;
+
+const CLONE_VM: u32 = 0x100;
+
+const CLONE_FS: u32 = 0x200;
+
+const CLONE_FILES: u32 = 0x400;
+
+const CLONE_SIGHAND: u32 = 0x800;
+
+const CLONE_THREAD: u32 = 0x10000;
+
+const CLONE_SYSVSEM: u32 = 0x40000;
+
+const CLONE_SETTLS: u32 = 0x80000;
+
+// The flags that a call to clone may have.
 fn may_clone(flags: u32) -> bool
     ensures { result ≡ may_clone flags }
 {
-    flags == 0x10F00 || flags == 0x50F00 || flags == 0x90F00 || flags == 0xD0F00
+    flags == SHARED
+        || flags == SHARED | CLONE_SYSVSEM
+        || flags == SHARED | CLONE_SETTLS
+        || flags == SHARED | CLONE_SYSVSEM | CLONE_SETTLS
 }
 
 // The threads without one of them.

@@ -7,9 +7,9 @@ use Rattle.nv_room.specs.declared.view.View.{View}
 use Rattle.nv_room.specs.declared.view.Role.{Role}
 use Rattle.nv_room.specs.declared.view.Role.TheVariants.{Reader, Lead, Opening, Leaving, Moving, Gone, Spent}
 use Rattle.nv_room.specs.Steps.{with_note, with_miss}
-use Rattle.nv_progress.specs.Steps.{turns_at, steps_left, Kind, looks_head, looks_owner, looks_cursor, probes, reads, writes, sees, publishes, takes, gives_up, leaves, opens, hands, moves, StepGives, gets_on, Went, steps_on}
+use Rattle.nv_progress.specs.Steps.{turns_at, steps_left, Kind, looks_head, looks_owner, looks_cursor, looks_spare, probes, reads, writes, sees, publishes, takes, gives_up, leaves, opens, hands, moves, StepGives, gets_on, Went, steps_on}
 
-at_most_four : (role : Role) → turns_at role ≤ 4
+pub at_most_four : (role : Role) → turns_at role ≤ 4
 at_most_four Reader = omega arith
 at_most_four Lead = omega arith
 at_most_four Opening = omega arith
@@ -35,6 +35,7 @@ module _ {T : Type 0} (n : ℕ) where
   one_falls v w (looks_head r) g = same v w (ap (λ (z : View T). z.role) g) (ap (λ (z : View T). z.station) g) (ap (λ (z : View T). z.seen) g)
   one_falls v w (looks_owner r) g = same v w (ap (λ (z : View T). z.role) g) (ap (λ (z : View T). z.station) g) (ap (λ (z : View T). z.seen) g)
   one_falls v w (looks_cursor s r) g = same v w (ap (λ (z : View T). z.role) g) (ap (λ (z : View T). z.station) g) (ap (λ (z : View T). z.seen) g)
+  one_falls v w (looks_spare r) g = same v w (ap (λ (z : View T). z.role) g) (ap (λ (z : View T). z.station) g) (ap (λ (z : View T). z.seen) g)
   one_falls v w (probes l r) g = subst (λ (z : View T). 0 + steps_left n z ≤ steps_left n v) (sym g) (by_note (low r == length v.seen) v l)
   one_falls v w (reads r) g = same v w (ap (λ (z : View T). z.role) g) (ap (λ (z : View T). z.station) g) (ap (λ (z : View T). z.seen) g)
   one_falls v w (writes r) g = same v w (ap (λ (z : View T). z.role) g) (ap (λ (z : View T). z.station) g) (ap (λ (z : View T). z.seen) g)

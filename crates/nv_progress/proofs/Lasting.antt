@@ -22,7 +22,7 @@ use Rattle.nv_room.specs.Room.{cursor, InRole, IsLeading, Freed, Live, Leads, Ru
 use Rattle.nv_room.proofs.Placement.{place_after, fits_later}
 use Rattle.nv_room.proofs.Seats.{apart_from}
 use Rattle.nv_progress.specs.GetsOn.{moment, HasEvent, HasPlace, IsNextToLead, IsOver, CanGetOn}
-use Rattle.nv_progress.specs.Steps.{Kind, looks_head, looks_owner, looks_cursor, probes, reads, writes, sees, publishes, takes, gives_up, leaves, opens, hands, moves}
+use Rattle.nv_progress.specs.Steps.{Kind, looks_head, looks_owner, looks_cursor, looks_spare, probes, reads, writes, sees, publishes, takes, gives_up, leaves, opens, hands, moves}
 use Rattle.nv_progress.specs.Plays.{Plays, written, Does}
 
 -- a word that rises lowers none
@@ -85,6 +85,7 @@ module _ {K : Type 0} (hist : K → List Entry) (beg : K → Start) (p : Layout 
   quiet st own next (looks_head x) q un nt = still s.words
   quiet st own next (looks_owner x) q un nt = still s.words
   quiet st own next (looks_cursor t x) q un nt = still s.words
+  quiet st own next (looks_spare x) q un nt = still s.words
   quiet st own next (probes l x) q un nt = still s.words
   quiet st own next (reads x) q un nt = still s.words
   quiet st own next (writes x) q un nt = absurd (un (subst Leads (sym q.0) tt))
@@ -105,6 +106,7 @@ module _ {K : Type 0} (hist : K → List Entry) (beg : K → Start) (p : Layout 
   head_up st own next (looks_head x) q = le_refl (get_or s.words head_index 0)
   head_up st own next (looks_owner x) q = le_refl (get_or s.words head_index 0)
   head_up st own next (looks_cursor t x) q = le_refl (get_or s.words head_index 0)
+  head_up st own next (looks_spare x) q = le_refl (get_or s.words head_index 0)
   head_up st own next (probes l x) q = le_refl (get_or s.words head_index 0)
   head_up st own next (reads x) q = le_refl (get_or s.words head_index 0)
   head_up st own next (writes x) q =

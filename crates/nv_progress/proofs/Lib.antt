@@ -6,4 +6,7 @@ mod Lasting
 mod Waiting
 mod LeadWaiting
 mod Windows
+mod Kept
+mod Sums
+mod Ending
 mod Rooms

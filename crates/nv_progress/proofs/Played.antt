@@ -12,7 +12,7 @@ use Rattle.nv_room.specs.declared.view.Role.TheVariants.{Opening}
 use Rattle.nv_room.specs.Room.{InRole, IsOpening, Rule}
 use Rattle.nv_room.proofs.Counts.{below_most}
 use Rattle.nv_progress.specs.GetsOn.{moment}
-use Rattle.nv_progress.specs.Steps.{Kind, looks_head, looks_owner, looks_cursor, probes, reads, writes, sees, publishes, takes, gives_up, leaves, opens, hands, moves, StepGives}
+use Rattle.nv_progress.specs.Steps.{Kind, looks_head, looks_owner, looks_cursor, looks_spare, probes, reads, writes, sees, publishes, takes, gives_up, leaves, opens, hands, moves, StepGives}
 use Rattle.nv_progress.specs.Plays.{Plays, Does}
 
 module _ {K : Type 0} (hist : K → List Entry) (beg : K → Start) (p : Layout K) (s : State (Option K) (View K)) (r : Rule hist beg p s) where
@@ -31,10 +31,11 @@ module _ {K : Type 0} (hist : K → List Entry) (beg : K → Start) (p : Layout 
 
   gives : (step : Step (Option K)) (m m' : Me (Option K) (View K)) (id : ℕ) (k : Kind) → get_elem? s.views id ≡ some m.0 → Plays hist beg step m m' k → StepGives p.stations m.0 m'.0 k
   gives step m m' id (looks_head x) at q = ap (λ (z : Me (Option K) (View K)). z.0) q.0
-  gives step m m' id (looks_owner x) at q = ap (λ (z : Me (Option K) (View K)). z.0) q.0
+  gives step m m' id (looks_owner x) at q = ap (λ (z : Me (Option K) (View K)). z.0) q.1.0
   gives step m m' id (looks_cursor t x) at q = ap (λ (z : Me (Option K) (View K)). z.0) (q.1.1 t q.0).0
-  gives step m m' id (probes l x) at q = ap (λ (z : Me (Option K) (View K)). z.0) (q.2 l q.0 q.1).0
-  gives step m m' id (reads x) at q = ap (λ (z : Me (Option K) (View K)). z.0) q.0
+  gives step m m' id (looks_spare x) at q = ap (λ (z : Me (Option K) (View K)). z.0) q.1.0
+  gives step m m' id (probes l x) at q = ap (λ (z : Me (Option K) (View K)). z.0) (q.3 l q.1 q.2).0
+  gives step m m' id (reads x) at q = ap (λ (z : Me (Option K) (View K)). z.0) q.1.0
   gives step m m' id (writes x) at q = ap (λ (z : Me (Option K) (View K)). z.0) q.1
   gives step m m' id sees at q = (q.1.2, ap (λ (z : Me (Option K) (View K)). z.0) q.1.0)
   gives step m m' id publishes at q = (q.1, ap (λ (z : Me (Option K) (View K)). z.0) q.2)

@@ -1,5 +1,5 @@
 -- In each state some seat's turn doesn't wait.
-use Rattle.std.proofs.Common.{◌≡◌, ℕ, List, subst}
+use Rattle.std.proofs.Common.{◌≡◌, ℕ, List, refl}
 use mathlib.Core.Option.{some}
 use lib.ListN.{get_elem?}
 use Rattle.std.specs.Prelude.{Option}
@@ -12,12 +12,13 @@ use Rattle.nv_room.specs.declared.view.Role.{Role}
 use Rattle.nv_room.specs.declared.view.Role.TheVariants.{Reader, Lead, Opening, Leaving, Moving, Gone, Spent}
 use Rattle.nv_room.specs.Room.{Moment, Rule}
 use Rattle.nv_progress.specs.GetsOn.{moment, AllSeated, CanGetOn, SomeStays, Stays}
-use Rattle.nv_progress.specs.Traces.{NeedNotWait}
+use Rattle.nv_progress.specs.Steps.{Kind}
+use Rattle.nv_progress.specs.Traces.{Trace, GetsOnByNone, HasToWait, NeedNotWait}
 use Rattle.nv_progress.proofs.Stuck.{not_stuck}
 use Rattle.nv_progress.proofs.Waiting.{no_reader_waits}
 use Rattle.nv_progress.proofs.LeadWaiting.{no_lead_waits}
 
-can_stays : {T : Type 0} (c : ℕ) (m : Moment) (v : View T) (role : Role) → CanGetOn c m v role → Stays role
+pub can_stays : {T : Type 0} (c : ℕ) (m : Moment) (v : View T) (role : Role) → CanGetOn c m v role → Stays role
 can_stays c m v Reader k = tt
 can_stays c m v Lead k = tt
 can_stays c m v Opening k = tt
@@ -26,16 +27,19 @@ can_stays c m v Moving k = tt
 can_stays c m v Gone k = absurd k
 can_stays c m v Spent k = absurd k
 
+module _ {K : Type 0} (hist : K → List Entry) (beg : K → Start) (p : Layout K) (s : State (Option K) (View K)) (r : Rule hist beg p s) (j : ℕ) (v : View K) (at : get_elem? s.views j ≡ some v) where
+  by_role : (role : Role) → v.role ≡ role → CanGetOn p.places (moment r) v role → (xs : List (ℕ × Kind)) (last : State (Option K) (View K)) (w : View K) → Trace hist beg p xs s last → GetsOnByNone j xs → get_elem? last.views j ≡ some w → HasToWait p.places v w role → ⊥
+  by_role Reader is can xs last w t on end waits = no_reader_waits hist beg p xs s last r j v w t on at is can end waits
+  by_role Lead is can xs last w t on end waits = no_lead_waits hist beg p xs s last r j v w t on at is can end waits
+  by_role Opening is can xs last w t on end waits = waits
+  by_role Leaving is can xs last w t on end waits = waits
+  by_role Moving is can xs last w t on end waits = waits
+  by_role Gone is can xs last w t on end waits = can
+  by_role Spent is can xs last w t on end waits = can
+
+  pub need_not : CanGetOn p.places (moment r) v v.role → NeedNotWait hist beg p s j v
+  need_not can = record { turns = by_role v.role refl can; stays = can_stays p.places (moment r) v v.role can }
+
 pub some_need_not : {K : Type 0} (hist : K → List Entry) (beg : K → Start) (p : Layout K) (s : State (Option K) (View K)) (r : Rule hist beg p s) → AllSeated p s.views → SomeStays s.views
     → (j : ℕ) × (v : View K) × (get_elem? s.views j ≡ some v) × NeedNotWait hist beg p s j v
-some_need_not hist beg p s r all some_stays =
-    let o = not_stuck hist beg p s r all some_stays in (
-      o.0,
-      o.1,
-      o.2,
-      record {
-        reads_on = λ is xs last w t looks end waits. no_reader_waits hist beg p xs s last r o.0 o.1 w t looks o.2 is (subst (CanGetOn p.places (moment r) o.1) is o.3) end waits;
-        leads_on = λ is xs last w t looks end waits. no_lead_waits hist beg p xs s last r o.0 o.1 w t looks o.2 is (subst (CanGetOn p.places (moment r) o.1) is o.3) end waits;
-        stays = can_stays p.places (moment r) o.1 o.1.role o.3;
-      },
-    )
+some_need_not hist beg p s r all some_stays = let o = not_stuck hist beg p s r all some_stays in (o.0, o.1, o.2, need_not hist beg p s r o.0 o.1 o.2 o.3)

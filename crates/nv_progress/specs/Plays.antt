@@ -1,5 +1,5 @@
 -- What a step of a room tells of its seat and of the words.
-use Rattle.std.specs.Prelude.{◌≡◌, ◌⊎◌, ℕ, ◌+◌, ◌<◌, List, ◌++◌, [], ◌∷◌, length, slice_set, Option, Some}
+use Rattle.std.specs.Prelude.{◌≡◌, ◌⊎◌, ℕ, ◌+◌, ◌<◌, List, ◌++◌, [], ◌∷◌, length, slice_set, slice_index_or, Option, Some}
 use mathlib.Core.Option.{some}
 use lib.ListN.{get_elem?}
 use Rattle.atomic_table.specs.Table.{State, Me, Step}
@@ -14,17 +14,18 @@ use Rattle.nv_room.specs.declared.view.Role.TheVariants.{Reader, Lead, Opening, 
 use Rattle.nv_room.specs.Owner.{GONE, held, owner_word}
 use Rattle.nv_room.specs.Placement.{word_place, next_slot}
 use Rattle.nv_room.specs.Room.{Rule}
-use Rattle.nv_room.specs.Steps.{looked_head, looked_owner, looked_cursor, read_word, probed, goes_ahead, wrote_word, published, gave_up, took, opens as opened_next, hands_over, moves_over, left}
-use Rattle.nv_progress.specs.Steps.{Kind, looks_head, looks_owner, looks_cursor, probes, reads, writes, sees, publishes, takes, gives_up, leaves, opens, hands, moves}
+use Rattle.nv_room.specs.Steps.{looked_head, looked_owner, looked_cursor, spare, read_word, probed, goes_ahead, wrote_word, published, gave_up, took, opens as opened_next, hands_over, moves_over, left}
+use Rattle.nv_progress.specs.Steps.{Kind, looks_head, looks_owner, looks_cursor, looks_spare, probes, reads, writes, sees, publishes, takes, gives_up, leaves, opens, hands, moves}
 
 -- what the room asks of the seat before such a step, and what its play tells of the seat after it
 module _ {K : Type 0} (hist : K → List Entry) (beg : K → Start) (st : Step (Option K)) (m m' : Me (Option K) (View K)) where
   abbrev pub Plays : Kind → Type 0
   Plays (looks_head r) = looked_head st m r m'
-  Plays (looks_owner r) = looked_owner st m r m'
+  Plays (looks_owner r) = (m.0.role ≡ Reader) × looked_owner st m r m'
   Plays (looks_cursor s r) = (st.word ≡ cursor_index s) × looked_cursor st m r m'
-  Plays (probes l r) = (l < 8) × (st.word ≡ next_slot (length m.0.floors) m.0.places (lanes_after m.0.seen) l 1) × probed st m r m'
-  Plays (reads r) = read_word st m r m'
+  Plays (looks_spare r) = (m.0.role ≡ Lead) × spare st m r m'
+  Plays (probes l r) = (m.0.role ≡ Reader) × (l < 8) × (st.word ≡ next_slot (length m.0.floors) m.0.places (lanes_after m.0.seen) l 1) × probed st m r m'
+  Plays (reads r) = (m.0.role ≡ Reader) × read_word st m r m'
   Plays (writes r) = (m.0.role ≡ Lead) × wrote_word st m r m'
   Plays sees = (m.0.role ≡ Reader) × goes_ahead st m (length m.0.seen + 1) m'
   Plays publishes = (m.0.role ≡ Lead) × (length m.0.seen < MOST_EVENTS) × published st m (length m.0.seen + 1) m'
@@ -41,6 +42,7 @@ module _ {T : Type 0} (p : Layout T) (v : View T) (ws : List ℕ) where
   written (looks_head r) = ws
   written (looks_owner r) = ws
   written (looks_cursor s r) = ws
+  written (looks_spare r) = ws
   written (probes l r) = ws
   written (reads r) = ws
   written (writes r) = slice_set ws (word_place p.stations p.places (v.seen ++ (v.wrote ++ r ∷ []) ∷ []) (length v.seen) (length v.wrote)) r
@@ -66,3 +68,7 @@ pub record Does {K : Type 0} (hist : K → List Entry) (beg : K → Start) (p : 
 -- the seat id, with this view and these slots, may take such a step, to a state that meets the rule
 abbrev pub Goes : {K : Type 0} → (K → List Entry) → (K → Start) → Layout K → State (Option K) (View K) → ℕ → Me (Option K) (View K) → Kind → Type 0
 Goes {K} hist beg p s id me k = (u : State (Option K) (View K)) × Rule hist beg p u × ((d : Does hist beg p s u id k) × (d.me.0 ≡ me.0))
+
+-- it may in each state that meets the rule and has it so; what it finds there is the state's
+abbrev pub MayDo : {K : Type 0} → (K → List Entry) → (K → Start) → Layout K → ℕ → Me (Option K) (View K) → (List ℕ → Kind) → Type 0
+MayDo {K} hist beg p id me kind = (s : State (Option K) (View K)) → Rule hist beg p s → get_elem? s.views id ≡ some me.0 → ((i : ℕ) → slice_index_or s.words i 0 < 18446744073709551616) → Goes hist beg p s id me (kind s.words)

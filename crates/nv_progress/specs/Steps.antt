@@ -20,11 +20,12 @@ turns_at Spent = 0
 abbrev pub steps_left : {T : Type 0} → ℕ → View T → ℕ
 steps_left n v = (MOST_EVENTS - length v.seen) + 4 * (n - v.station) + turns_at v.role
 
--- what a step does: it looks at a word, at a station's cursor, or at a lane; it reads or writes a word; or it gets on
+-- what a step does: it looks at a word, at a station's cursor, or at a lane, or where nothing moves; it reads or writes a word; or it gets on
 pub data Kind : Type 0 where
   looks_head : ℕ → Kind
   looks_owner : ℕ → Kind
   looks_cursor : ℕ → ℕ → Kind
+  looks_spare : ℕ → Kind
   probes : ℕ → ℕ → Kind
   reads : ℕ → Kind
   writes : ℕ → Kind
@@ -43,6 +44,7 @@ module _ {T : Type 0} (n : ℕ) (v w : View T) where
   StepGives (looks_head r) = w ≡ head_seen v r
   StepGives (looks_owner r) = w ≡ owner_seen v r
   StepGives (looks_cursor s r) = w ≡ cursor_seen s v r
+  StepGives (looks_spare r) = w ≡ v
   StepGives (probes l r) = w ≡ probed_at l v r
   StepGives (reads r) = w ≡ word_seen v r
   StepGives (writes r) = w ≡ word_put v r
@@ -60,6 +62,7 @@ abbrev pub gets_on : Kind → ℕ
 gets_on (looks_head r) = 0
 gets_on (looks_owner r) = 0
 gets_on (looks_cursor s r) = 0
+gets_on (looks_spare r) = 0
 gets_on (probes l r) = 0
 gets_on (reads r) = 0
 gets_on (writes r) = 0

@@ -1,22 +1,30 @@
 // What holds of each state of a room.
-ghost use Rattle.std.specs.Prelude.{◌≡◌, ◌≢◌, ◌⊎◌, Some, slice_index_or, ℕ, ◌+◌, ◌*◌, ◌<◌, ◌≤◌, List, Option, length};
+ghost use Rattle.std.specs.Prelude.{◌≡◌, ◌≢◌, ◌⊎◌, Some, slice_index_or, ℕ, ◌+◌, ◌*◌, ◌<◌, ◌≤◌, List, [], ◌∷◌, ◌++◌, map, Option, length};
+ghost use Rattle.std.specs.Option.{ForSome};
 ghost use mathlib.Core.Option.{some};
 ghost use lib.ListN.{get_elem?};
 ghost use Rattle.atomic_table.specs.Table.{Me, State};
 ghost use Rattle.nv_calls.specs.Limits.{MOST_EVENTS};
+ghost use Rattle.nv_calls.specs.Logs.{IsLawful, live_after};
+ghost use Rattle.nv_words.specs.Begins.{Prefix};
+ghost use Rattle.nv_words.specs.Spelling.{IsWhole, low, spell};
+ghost use Rattle.nv_places.specs.Header.{head_index, owner_index};
+ghost use Rattle.nv_places.specs.Logs.{lane, lanes_after};
+ghost use Rattle.nv_places.specs.Stamps.{Lives};
 ghost use Rattle.nv_room.specs.declared.view.View.{View};
 ghost use Rattle.nv_room.specs.declared.view.Layout.{Layout};
-ghost use Rattle.nv_room.specs.declared.view.Role.TheVariants.{Lead, Leaving, Reader};
-ghost use Rattle.nv_room.specs.Owner.{held, free};
-ghost use Rattle.nv_room.specs.Placement.{Log};
-ghost use Rattle.nv_room.specs.Room.{cursor, Leads, Rule};
+ghost use Rattle.nv_room.specs.declared.view.Role.TheVariants.{Lead, Leaving, Moving, Opening, Reader};
+ghost use Rattle.nv_room.specs.Owner.{Phase, closed, free, held, owner_word};
+ghost use Rattle.nv_room.specs.Placement.{Fits, Log, next_slot, word_place};
+ghost use Rattle.nv_room.specs.Room.{Has, Leads, Rule, cursor};
+ghost use Rattle.nv_room.specs.Spans.{LastHasEvent};
+ghost use Rattle.nv_room.specs.Steps.{SpellLawful};
 ghost use Rattle.nv_ring.specs.Places.{FitsAll, IsFull};
 ghost use Rattle.nv_progress.specs.GetsOn.{moment, AllSeated, CanGetOn, HasEvent, IsLowest, SomeGetsOn, SomeSeat, SomeStays};
-ghost use Rattle.nv_progress.specs.Steps.{Kind, looks_head, leaves, sees, takes, StepGives, Went, steps_left, steps_on};
-ghost use Rattle.nv_progress.specs.Plays.{Does, Goes};
-ghost use Rattle.nv_words.specs.Spelling.{IsWhole};
-ghost use Rattle.nv_places.specs.Header.{head_index};
-ghost use Rattle.nv_progress.specs.Traces.{IsCursorLook, IsLook, LeadWaits, NeedNotWait, OnlyDoes, Trace, Waits};
+ghost use Rattle.nv_progress.specs.Steps.{Kind, looks_head, looks_owner, looks_cursor, looks_spare, probes, reads, writes, sees, publishes, takes, gives_up, leaves, opens, hands, moves, StepGives, Went, steps_left, steps_on};
+ghost use Rattle.nv_progress.specs.Plays.{Does, MayDo};
+ghost use Rattle.nv_progress.specs.Traces.{NeedNotWait};
+ghost use Rattle.nv_progress.specs.Runs.{IsFair, IsRun, TakesTurns, Windows, all_left};
 
 use nv_served::SyscallKernel;
 
@@ -57,12 +65,9 @@ pub fn who_can_get_on_still_can<K: SyscallKernel>()
         → (j : ℕ) (v : View K) → j ≢ id → get_elem? s.views j ≡ some v → CanGetOn p.places (moment r) v v.role → (get_elem? next.views j ≡ some v) × CanGetOn p.places (moment after) v v.role }
 {}
 
-/// A reader or a lead that could get on when its turn began doesn't find that it has to wait, whatever steps the others take in between.
+/// A seat that could get on when its turn began doesn't find that it has to wait, whatever steps the others take in between, unless it gets on.
 pub fn who_can_get_on_does_not_wait<K: SyscallKernel>()
-    ensures reader { (p : Layout K) (xs : List (ℕ × Kind)) (s last : State (Option K) (View K)) (r : Rule K.log K.start p s) (j : ℕ) (v w : View K) → Trace K.log K.start p xs s last → OnlyDoes IsLook j xs
-        → get_elem? s.views j ≡ some v → v.role ≡ Reader → CanGetOn p.places (moment r) v Reader → get_elem? last.views j ≡ some w → ¬ Waits v w }
-    ensures lead { (p : Layout K) (xs : List (ℕ × Kind)) (s last : State (Option K) (View K)) (r : Rule K.log K.start p s) (j : ℕ) (v w : View K) → Trace K.log K.start p xs s last → OnlyDoes IsCursorLook j xs
-        → get_elem? s.views j ≡ some v → v.role ≡ Lead → CanGetOn p.places (moment r) v Lead → get_elem? last.views j ≡ some w → ¬ LeadWaits p.places v w }
+    ensures { (p : Layout K) (s : State (Option K) (View K)) (r : Rule K.log K.start p s) (j : ℕ) (v : View K) → get_elem? s.views j ≡ some v → CanGetOn p.places (moment r) v v.role → NeedNotWait K.log K.start p s j v }
 {}
 
 /// In each state of a room some seat that has still to leave doesn't wait in its next turn, whatever steps the others take until then and in between.
@@ -71,10 +76,40 @@ pub fn some_turn_does_not_wait<K: SyscallKernel>()
         → (j : ℕ) × (v : View K) × (get_elem? s.views j ≡ some v) × NeedNotWait K.log K.start p s j v }
 {}
 
-/// What the room's rule allows of a look at head, of seeing an event, of taking the lead and of leaving is such a step; of the other kinds it isn't said.
+/// What the room's rule allows of each kind of step, where the seat meets what the room asks of it, is such a step.
 pub fn the_room_allows_these_steps<K: SyscallKernel>()
-    ensures head { (p : Layout K) (s : State (Option K) (View K)) → Rule K.log K.start p s → (id : ℕ) (me : Me (Option K) (View K)) → get_elem? s.views id ≡ some me.0 → ((i : ℕ) → slice_index_or s.words i 0 < 18446744073709551616) → Goes K.log K.start p s id me (looks_head (slice_index_or s.words head_index 0)) }
-    ensures sees { (p : Layout K) (s : State (Option K) (View K)) → Rule K.log K.start p s → (id : ℕ) (me : Me (Option K) (View K)) → get_elem? s.views id ≡ some me.0 → ((i : ℕ) → slice_index_or s.words i 0 < 18446744073709551616) → me.0.role ≡ Reader → IsWhole me.0.read → Goes K.log K.start p s id me sees }
-    ensures takes { (p : Layout K) (s : State (Option K) (View K)) → Rule K.log K.start p s → (id : ℕ) (me : Me (Option K) (View K)) → get_elem? s.views id ≡ some me.0 → ((i : ℕ) → slice_index_or s.words i 0 < 18446744073709551616) → me.0.role ≡ Reader → me.0.freed ≡ Some (length me.0.seen) → Goes K.log K.start p s id me takes }
-    ensures leaves { (p : Layout K) (s : State (Option K) (View K)) → Rule K.log K.start p s → (id : ℕ) (me : Me (Option K) (View K)) → get_elem? s.views id ≡ some me.0 → ((i : ℕ) → slice_index_or s.words i 0 < 18446744073709551616) → (me.0.role ≡ Reader) ⊎ (me.0.role ≡ Leaving) → Goes K.log K.start p s id me leaves }
+    ensures head { (p : Layout K) (id : ℕ) (me : Me (Option K) (View K)) → MayDo K.log K.start p id me (λ ws. looks_head (slice_index_or ws head_index 0)) }
+    ensures owner { (p : Layout K) (id : ℕ) (me : Me (Option K) (View K)) → me.0.role ≡ Reader → MayDo K.log K.start p id me (λ ws. looks_owner (slice_index_or ws owner_index 0)) }
+    ensures cursor { (p : Layout K) (id : ℕ) (me : Me (Option K) (View K)) (t : ℕ) → t < p.stations → MayDo K.log K.start p id me (λ ws. looks_cursor t (cursor ws t)) }
+    ensures spare { (p : Layout K) (id : ℕ) (me : Me (Option K) (View K)) → me.0.role ≡ Lead → Has p.hands.value.items (length me.0.seen) → LastHasEvent me.0.spans → MayDo K.log K.start p id me (λ ws. looks_spare (slice_index_or ws head_index 0)) }
+    ensures probes { (p : Layout K) (id : ℕ) (me : Me (Option K) (View K)) (l : ℕ) → me.0.role ≡ Reader → l < 8 → Lives me.0.seen l → length me.0.seen < me.0.head_last
+        → MayDo K.log K.start p id me (λ ws. probes l (slice_index_or ws (next_slot p.stations p.places (lanes_after me.0.seen) l 1) 0)) }
+    ensures reads { (p : Layout K) (id : ℕ) (me : Me (Option K) (View K)) (i l : ℕ) → me.0.role ≡ Reader → ¬ IsWhole me.0.read → me.0.noted ≡ Some l
+        → ((log : Log) → Prefix me.0.seen log → l ≡ lane log (length me.0.seen) → i ≡ word_place p.stations p.places log (length me.0.seen) (length me.0.read)) → MayDo K.log K.start p id me (λ ws. reads (slice_index_or ws i 0)) }
+    ensures writes { (p : Layout K) (id : ℕ) (me : Me (Option K) (View K)) (x : ℕ) → me.0.role ≡ Lead → length me.0.wrote < 518 → (length me.0.wrote ≡ 1 → low x ≡ length me.0.seen)
+        → ((t : ℕ) → t ≢ me.0.station → t < me.0.opened → Fits p.places me.0.seen (me.0.wrote ++ x ∷ []) (slice_index_or me.0.floors t 0)) → MayDo K.log K.start p id me (λ _. writes x) }
+    ensures sees { (p : Layout K) (id : ℕ) (me : Me (Option K) (View K)) → me.0.role ≡ Reader → IsWhole me.0.read → MayDo K.log K.start p id me (λ _. sees) }
+    ensures publishes { (p : Layout K) (id : ℕ) (me : Me (Option K) (View K)) → me.0.role ≡ Lead → IsWhole me.0.wrote → length me.0.seen < MOST_EVENTS → SpellLawful (me.0.seen ++ me.0.wrote ∷ []) → MayDo K.log K.start p id me (λ _. publishes) }
+    ensures takes { (p : Layout K) (id : ℕ) (me : Me (Option K) (View K)) → me.0.role ≡ Reader → me.0.freed ≡ Some (length me.0.seen) → MayDo K.log K.start p id me (λ _. takes) }
+    ensures gives_up { (p : Layout K) (id : ℕ) (me : Me (Option K) (View K)) (k : K) (ph : Phase) → me.0.role ≡ Lead → me.1 ≡ (0, Some k) ∷ [] → me.0.wrote ≡ [] → map spell (K.log k) ≡ me.0.seen → IsLawful (K.log k)
+        → ForSome me.0.start (λ s. K.start k ≡ K.start s.value) → ph ≢ held → (ph ≡ closed → live_after (K.log k) ≡ []) → MayDo K.log K.start p id me (λ _. gives_up (owner_word ph me.0.station me.0.opened (length me.0.seen))) }
+    ensures leaves { (p : Layout K) (id : ℕ) (me : Me (Option K) (View K)) → (me.0.role ≡ Reader) ⊎ (me.0.role ≡ Leaving) → MayDo K.log K.start p id me (λ _. leaves) }
+    ensures opens { (p : Layout K) (id : ℕ) (me : Me (Option K) (View K)) → me.0.role ≡ Lead → me.0.wrote ≡ [] → Has p.hands.value.items (length me.0.seen) → LastHasEvent me.0.spans → MayDo K.log K.start p id me (λ _. opens) }
+    ensures hands { (p : Layout K) (id : ℕ) (me : Me (Option K) (View K)) (k : K) → me.0.role ≡ Opening → me.1 ≡ (0, Some k) ∷ [] → map spell (K.log k) ≡ me.0.seen → IsLawful (K.log k)
+        → ForSome me.0.start (λ s. K.start k ≡ K.start s.value) → MayDo K.log K.start p id me (λ _. hands (owner_word free me.0.station (me.0.opened + 1) (length me.0.seen))) }
+    ensures moves { (p : Layout K) (id : ℕ) (me : Me (Option K) (View K)) → me.0.role ≡ Moving → MayDo K.log K.start p id me (λ _. moves) }
+{}
+
+/// A run comes to a moment at which all seats have left, where no moment comes after which none of the seats that can get on has a turn; that is so where
+/// each seat that hasn't left has turns again and again.
+pub fn every_run_ends<K: SyscallKernel>()
+    ensures fair { (p : Layout K) (state : ℕ → State (Option K) (View K)) (left : ℕ → ℕ → ℕ) → IsRun K.log K.start p state left → IsFair K.log K.start p state left → (i : ℕ) × (SomeStays (state i).views → ⊥) }
+    ensures turns { (p : Layout K) (state : ℕ → State (Option K) (View K)) (left : ℕ → ℕ → ℕ) → IsRun K.log K.start p state left → TakesTurns K.log K.start p state left → (i : ℕ) × (SomeStays (state i).views → ⊥) }
+{}
+
+/// In each window in which all seats that haven't left have a turn, fewer steps and turns are left; so all have left after as many windows as were left of them at the start.
+pub fn each_window_leaves_less<K: SyscallKernel>()
+    ensures falls { (p : Layout K) (state : ℕ → State (Option K) (View K)) (left : ℕ → ℕ → ℕ) → IsRun K.log K.start p state left → (n a b : ℕ) → Windows K.log K.start p state left n a b → SomeStays (state b).views → n + all_left K.log K.start p state left b ≤ all_left K.log K.start p state left a }
+    ensures few { (p : Layout K) (state : ℕ → State (Option K) (View K)) (left : ℕ → ℕ → ℕ) → IsRun K.log K.start p state left → (n b : ℕ) → Windows K.log K.start p state left n 0 b → SomeStays (state b).views → n < all_left K.log K.start p state left 0 }
+    ensures most { (p : Layout K) (state : ℕ → State (Option K) (View K)) (left : ℕ → ℕ → ℕ) (most : ℕ) → ((j : ℕ) → left 0 j ≤ most) → all_left K.log K.start p state left 0 ≤ length (state 0).views * (MOST_EVENTS + 4 * p.stations + 4 + most) }
 {}

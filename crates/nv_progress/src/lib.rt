@@ -5,7 +5,7 @@
 mod laws;
 
 pub use laws::{
-    each_step_is_counted, no_room_is_stuck, no_seat_gets_on_for_ever, some_turn_does_not_wait,
-    the_room_allows_these_steps, who_can_get_on_does_not_wait, who_can_get_on_still_can,
-    who_is_waited_for_can_get_on,
+    each_step_is_counted, each_window_leaves_less, every_run_ends, no_room_is_stuck,
+    no_seat_gets_on_for_ever, some_turn_does_not_wait, the_room_allows_these_steps,
+    who_can_get_on_does_not_wait, who_can_get_on_still_can, who_is_waited_for_can_get_on,
 };

@@ -14,7 +14,7 @@ use std::{fs, io};
 use tally::Tally;
 
 // The files with rows, by what they are about. One may include the texts of those before it.
-const SUBJECTS: [&str; 29] = [
+const SUBJECTS: [&str; 30] = [
     "common",
     "calls",
     "memory",
@@ -40,6 +40,7 @@ const SUBJECTS: [&str; 29] = [
     "built",
     "atomics",
     "instructions",
+    "written_code",
     "sockets",
     "reports",
     "traces",

@@ -68,6 +68,7 @@ abbrev pub ends_without : Option ℕ → FilterState → Effect
 ends_without None s = Ends 0
 ends_without (Some n) s = goes_with Accumulator n s
 
+-- the length is that of the calls and the version's number, without the words after them
 abbrev pub acted : Action → Op → List ℕ → FilterState → Effect
 acted LoadWord op pair s = goes_with Accumulator (slice_index pair (op.k / 4)) s
 acted (Load r) op pair s = goes_with r op.k s

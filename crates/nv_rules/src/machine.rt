@@ -6,8 +6,8 @@ ghost use Rattle.nv_rules.specs.inner.Machine.{state_of, effect_of, IsUsable, Is
 use crate::Pair;
 use nv_bpf::{Action, Arithmetic, Comparison, Op, Operand, Register, decode};
 
-/// The length of a pair in bytes.
-const PAIR_BYTES: u32 = 132;
+/// What a filter is told as the length: the bytes of the calls and the version's number, without the words after them.
+const LENGTH: u32 = 132;
 
 /// The registers. The scratch memory stands apart, so that the compiler keeps them out of memory.
 #[derive(Clone, Copy)]
@@ -109,7 +109,7 @@ impl Registers {
             Action::LoadWord => self.load(Register::Accumulator, pair.words[(op.k / 4) as usize]),
             Action::Load(register) => self.load(register, op.k),
             Action::LoadScratch(register) => self.load(register, scratch[op.k as usize]),
-            Action::LoadLength(register) => self.load(register, PAIR_BYTES),
+            Action::LoadLength(register) => self.load(register, LENGTH),
             Action::Store(Register::Accumulator) => {
                 scratch[op.k as usize] = self.accumulator;
                 Step::Next

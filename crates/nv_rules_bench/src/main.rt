@@ -36,7 +36,7 @@ fn adding_filter(alloc: Global, count: u32) -> Result<Result<Filter, FilterFault
 
 // The sum of the values for the versions below a number.
 fn sum_of_values(filter: &Filter, versions: u32) -> u32 {
-    let mut pair = Pair { words: [0; 33] };
+    let mut pair = Pair { words: [0; 36] };
     let mut sum = 0u32;
     for version in 0..versions {
         pair.words[32] = version;

@@ -9,7 +9,7 @@ use std::fmt;
 /// Why a line of a script is refused. Of several causes the first in this order is told.
 #[derive(Clone, Copy, Debug, PartialEq, Eq)]
 pub enum ScriptCause {
-    /// The first line is neither `varan-script 1` nor `varan-script 2`, or there is none.
+    /// The first line is none of `varan-script 1`, `varan-script 2` and `varan-script 3`, or there is none.
     Form,
     /// The first word is none of a script's of this form.
     Word,
@@ -19,7 +19,7 @@ pub enum ScriptCause {
     Range,
     /// A second clock or seed, or a file's name or a length to hand over at that was used before.
     Twice,
-    /// More than 256 arguments, 256 files or 8 lengths to hand over at, or a file of more than 1,048,576 bytes.
+    /// More than 256 arguments, 256 files, 8 lengths to hand over at or 64 connections, or more than 1,048,576 bytes in a file or over a connection.
     Long,
 }
 

@@ -5,3 +5,4 @@ pub mod Going
 pub mod Threads
 pub mod Lines
 pub mod Inputs
+pub mod Rooms

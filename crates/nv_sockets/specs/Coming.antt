@@ -1,5 +1,5 @@
 -- Clients that connect while a run goes on, and what they send.
-use Rattle.std.specs.Prelude.{ℕ, ◌+◌, ◌≤◌, ◌<◌, List, [], ◌∷◌, ◌++◌, length, Some, slice_index, slice_set}
+use Rattle.std.specs.Prelude.{ℕ, ◌+◌, ◌≤◌, ◌<◌, ◌==◌, List, [], ◌∷◌, ◌++◌, length, Some, slice_index, slice_set, if◌then◌else◌}
 use Rattle.nv_sockets.specs.Sockets.{Net, link_at, input_of}
 use Rattle.nv_sockets.specs.Reserved.{Buffered}
 
@@ -9,6 +9,10 @@ connected net port = record net { waiting = net.waiting ++ Some port ∷ []; lin
 
 abbrev pub with_data : Net → ℕ → List ℕ → Net
 with_data net i bytes = record net { links = slice_set net.links i (record (link_at net i) { input = input_of net i ++ bytes }) }
+
+-- how many of the bytes that come over connection i come over connection j
+abbrev pub came_over : ℕ → List ℕ → ℕ → ℕ
+came_over i bytes j = if i == j then length bytes else 0
 
 -- there is memory for n more bytes of what comes over a connection
 abbrev pub HasInput : Buffered → ℕ → ℕ → Type 0

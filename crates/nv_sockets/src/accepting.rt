@@ -20,7 +20,13 @@ impl Sockets {
             return EAGAIN;
         };
         self.leave_queue(i);
-        self.install(place, Socket::Connected(i, 0))
+        self.install(
+            place,
+            Socket::Connected {
+                connection: i,
+                at: 0,
+            },
+        )
     }
 
     fn accept_socket(&mut self, socket: Socket) -> i32
@@ -28,7 +34,7 @@ impl Sockets {
     {
         match socket {
             Socket::Listening(port) => self.accept_next(port),
-            Socket::Fresh | Socket::Bound(_) | Socket::Connected(_, _) => EINVAL,
+            Socket::Fresh | Socket::Bound(_) | Socket::Connected { .. } => EINVAL,
         }
     }
 

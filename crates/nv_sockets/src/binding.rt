@@ -7,25 +7,41 @@ use crate::socket::Socket;
 use crate::sockets::Sockets;
 use nv_calls::errors::{EADDRINUSE, EINVAL, EMFILE};
 
+const AF_INET: u32 = 2;
+
+const IPPROTO_TCP: u32 = 6;
+
+const SOCK_STREAM: u32 = 1;
+
+const SOCK_NONBLOCK: u32 = 0x800;
+
+const SOCK_CLOEXEC: u32 = 0x80000;
+
 // SOCK_STREAM with or without SOCK_NONBLOCK and SOCK_CLOEXEC, which change nothing here.
 fn is_stream(kind: u32) -> bool
     ensures { result ≡ is_stream kind }
 {
-    kind == 1 || kind == 0x801 || kind == 0x80001 || kind == 0x80801
+    kind == SOCK_STREAM
+        || kind == SOCK_STREAM | SOCK_NONBLOCK
+        || kind == SOCK_STREAM | SOCK_CLOEXEC
+        || kind == SOCK_STREAM | SOCK_NONBLOCK | SOCK_CLOEXEC
 }
 
 // A stream of AF_INET, by TCP or with no protocol named.
 fn is_tcp(domain: u32, kind: u32, protocol: u32) -> bool
     ensures { result ≡ is_tcp domain kind protocol }
 {
-    domain == 2 && is_stream(kind) && (protocol == 0 || protocol == 6)
+    domain == AF_INET && is_stream(kind) && (protocol == 0 || protocol == IPPROTO_TCP)
 }
 
 /// Whether there is no flag but SOCK_NONBLOCK and SOCK_CLOEXEC, which change nothing here.
 pub fn are_flags(flags: u32) -> bool
     ensures { result ≡ are_flags flags }
 {
-    flags == 0 || flags == 0x800 || flags == 0x80000 || flags == 0x80800
+    flags == 0
+        || flags == SOCK_NONBLOCK
+        || flags == SOCK_CLOEXEC
+        || flags == SOCK_NONBLOCK | SOCK_CLOEXEC
 }
 
 fn is_size(size: u32) -> bool
@@ -39,7 +55,7 @@ fn port_by(a: u8, b: u8, c: u8, d: u8) -> Option<u32>
     ensures { result ≡ port_by a b c d }
 {
     if a == 2 && b == 0 {
-        Some(u32::from(c) * 256 + u32::from(d))
+        Some(u32::from(u16::from_be_bytes([c, d])))
     } else {
         None
     }
@@ -91,7 +107,7 @@ impl Sockets {
     {
         match socket {
             Socket::Fresh => {}
-            Socket::Bound(_) | Socket::Listening(_) | Socket::Connected(_, _) => return EINVAL,
+            Socket::Bound(_) | Socket::Listening(_) | Socket::Connected { .. } => return EINVAL,
         }
         if !is_size(size) {
             return EINVAL;
@@ -121,7 +137,7 @@ impl Sockets {
                 0
             }
             Socket::Listening(_) => 0,
-            Socket::Fresh | Socket::Connected(_, _) => EINVAL,
+            Socket::Fresh | Socket::Connected { .. } => EINVAL,
         }
     }
 

@@ -1,6 +1,6 @@
 // Clients that connect while a run goes on, and what they send.
-ghost use Rattle.std.specs.Prelude.{◌≡◌, ◌≤◌, ◌<◌, ◌+◌, Some, [], ◌∷◌, ◌++◌, length, vec_len, vec_capacity, OnOk};
-ghost use Rattle.nv_sockets.specs.Coming.{connected, with_data, HasInput, HasPlaces};
+ghost use Rattle.std.specs.Prelude.{◌≡◌, ◌≤◌, ◌<◌, ◌+◌, ℕ, Some, [], ◌∷◌, ◌++◌, length, vec_len, vec_capacity, OnOk};
+ghost use Rattle.nv_sockets.specs.Coming.{connected, with_data, came_over, HasInput, HasPlaces};
 
 use crate::connection::Connection;
 use crate::sockets::Sockets;
@@ -43,7 +43,8 @@ fn add(held: &mut Vec<u8>, bytes: &[u8])
 impl Sockets {
     /// Memory for so many bytes more of what comes over a connection.
     pub fn reserve_data(&mut self, i: usize, count: usize) -> Result<(), AllocError>
-        ensures net { self.new.net ≡ self.old.net }
+        ensures others { self.new ≡ record self.old { inputs = self.new.inputs } }
+        ensures keeps { (j n : ℕ) → HasInput self.old j n → HasInput self.new j n }
         ensures ok { OnOk result (HasInput self.new i count) }
     {
         if i < self.connections.as_slice().len() {
@@ -56,7 +57,8 @@ impl Sockets {
     /// More has come over a connection.
     pub fn add_data(&mut self, i: usize, bytes: &[u8])
         requires { HasInput self.old i (length bytes.now) }
-        ensures { self.new.net ≡ with_data self.old.net i bytes.now }
+        ensures others { self.new ≡ record self.old { net = with_data self.old.net i bytes.now; inputs = self.new.inputs } }
+        ensures keeps { (j n : ℕ) → HasInput self.old j (came_over i bytes.now j + n) → HasInput self.new j n }
     {
         if i < self.connections.as_slice().len() {
             add(&mut self.connections[i].input, bytes);
@@ -65,7 +67,7 @@ impl Sockets {
 
     /// Memory for so many more connections.
     pub fn reserve_clients(&mut self, count: usize) -> Result<(), AllocError>
-        ensures net { self.new.net ≡ self.old.net }
+        ensures others { self.new ≡ record self.old { places = self.new.places; waits = self.new.waits } }
         ensures ok { OnOk result (HasPlaces self.new count) }
     {
         self.waiting.reserve(count)?;
@@ -80,6 +82,10 @@ impl Sockets {
         ensures net { self.new.net ≡ connected self.old.net port }
         ensures inputs { self.new.inputs ≡ self.old.inputs ++ vec_capacity input ∷ [] }
         ensures buffers { self.new.buffers ≡ self.old.buffers ++ vec_capacity output ∷ [] }
+        ensures places { self.old.places ≤ self.new.places }
+        ensures waits { self.old.waits ≤ self.new.waits }
+        ensures keeps { (j n : ℕ) → j < length self.old.net.links → HasInput self.old j n → HasInput self.new j n }
+        ensures own { (n : ℕ) → n ≤ vec_capacity input → HasInput self.new (length self.old.net.links) n }
     {
         add_waiting(&mut self.waiting, port);
         add_connection(

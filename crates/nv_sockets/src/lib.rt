@@ -12,7 +12,6 @@ mod connection;
 mod host;
 mod kernel;
 mod moving;
-mod parts;
 mod places;
 mod socket;
 mod sockets;

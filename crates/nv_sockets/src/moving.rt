@@ -5,11 +5,11 @@ ghost use Rattle.nv_sockets.specs.Sockets.{answer, input_of, link_output, read_l
 ghost use Rattle.nv_sockets.specs.Serving.{of_open, unless_many, answered, or_own};
 ghost use Rattle.nv_sockets.specs.Reserved.{HasMemory, HoldsMore, CanWriteTo, CanWrite, can_send};
 
-use crate::parts::{append, hand_out, prefix, refuse, reserve_to};
 use crate::socket::Socket;
 use crate::sockets::Sockets;
 use nv_calls::errors::{ENOSPC, ENOTCONN, EPIPE};
 use nv_calls::{Bytes, Call, MOST_BYTES, MOST_VECTORS, Syscall};
+use nv_fs::parts::{append, hand_out, prefix, refuse, reserve_to};
 use std::alloc::AllocError;
 
 /// How many bytes a connection takes in all.
@@ -54,7 +54,13 @@ impl Sockets {
         ensures capacity { out.new.capacity ≡ out.old.capacity }
     {
         let got = hand_out(self.input(i), read, n, out);
-        self.put(fd, Some(Socket::Connected(i, read + got)));
+        self.put(
+            fd,
+            Some(Socket::Connected {
+                connection: i,
+                at: read + got,
+            }),
+        );
         got as i32
     }
 
@@ -67,7 +73,9 @@ impl Sockets {
         ensures capacity { out.new.capacity ≡ out.old.capacity }
     {
         match socket {
-            Socket::Connected(i, read) => self.read_connection(fd, i, read, n, out),
+            Socket::Connected { connection, at } => self.read_connection(
+                fd, connection, at, n, out,
+            ),
             Socket::Fresh | Socket::Bound(_) | Socket::Listening(_) => refuse(out, ENOTCONN),
         }
     }
@@ -102,7 +110,7 @@ impl Sockets {
         ensures { write_socket self.old.net bytes.now socket ≡ answer self.new.net result [] }
     {
         match socket {
-            Socket::Connected(i, _) => self.write_connection(i, bytes),
+            Socket::Connected { connection, .. } => self.write_connection(connection, bytes),
             Socket::Fresh | Socket::Bound(_) | Socket::Listening(_) => EPIPE,
         }
     }
@@ -241,7 +249,7 @@ impl Sockets {
         ensures ok { OnOk result (CanWrite self.new fd n) }
     {
         match self.at(fd) {
-            Some(Socket::Connected(i, _)) => self.reserve_connection(i, n),
+            Some(Socket::Connected { connection, .. }) => self.reserve_connection(connection, n),
             Some(Socket::Fresh) | Some(Socket::Bound(_)) | Some(Socket::Listening(_)) => Ok(()),
             None => Ok(()),
         }

@@ -33,7 +33,7 @@ fn has_port(socket: Option<Socket>, port: u32) -> bool
         Some(Socket::Bound(other)) => other == port,
         Some(Socket::Listening(other)) => other == port,
         Some(Socket::Fresh) => false,
-        Some(Socket::Connected(_, _)) => false,
+        Some(Socket::Connected { .. }) => false,
         None => false,
     }
 }

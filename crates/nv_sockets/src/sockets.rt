@@ -6,19 +6,20 @@ ghost use Rattle.nv_sockets.specs.Views.{link_of, incoming_of};
 
 use crate::connection::Connection;
 use crate::socket::Socket;
+use nv_fs::DESCRIPTORS;
 use std::alloc::{AllocError, Global};
 use std::marker::Model;
 
 /// How many descriptors sockets have.
 pub const SOCKETS: usize = 64;
 
-/// The first of them.
-pub const FIRST_SOCKET: u32 = 64;
+/// The first of them, after those of files.
+pub const FIRST_SOCKET: u32 = DESCRIPTORS as u32;
 
 /// The sockets of a run, with the descriptors that name them, and the connections. Each connection waits at its port until it is accepted.
 #[derive(Drop)]
 pub struct Sockets {
-    pub(crate) sockets: [Option<Socket>; 64],
+    pub(crate) sockets: [Option<Socket>; SOCKETS],
     pub(crate) waiting: Vec<Option<u32>>,
     pub(crate) connections: Vec<Connection>,
 }
@@ -34,10 +35,10 @@ impl Model for Sockets {
 }
 
 #[tactic(auto, unfolding(crate::specs::Sockets::no_sockets))]
-fn no_sockets() -> [Option<Socket>; 64]
+fn no_sockets() -> [Option<Socket>; SOCKETS]
     ensures { result ≡ no_sockets }
 {
-    [None; 64]
+    [None; SOCKETS]
 }
 
 // The port of each connection.

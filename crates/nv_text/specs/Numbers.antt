@@ -1,6 +1,6 @@
 -- What the texts of numbers and bytes stand for.
 use Rattle.std.specs.Prelude.{ℕ, List, [], ◌∷◌, false, Option, Some, None, ◌&&◌, if◌then◌else◌, ◌==◌, nat_lt, ◌+◌, ◌*◌, ◌/◌, ◌%◌, ◌^◌, length}
-use Rattle.std.specs.List.{list_all}
+use Rattle.std.specs.List.{list_all, flat_map}
 use Rattle.std.specs.Char.{digit_value, is_ascii_digit, is_ascii_hexdigit}
 use Rattle.std.specs.Fmt.{decimal, digit_glyph}
 use Rattle.std.specs.Str.Parse.{digits_value}
@@ -32,3 +32,7 @@ unhexed text = if (length text % 2 == 0) && list_all is_ascii_hexdigit text then
 -- the two hexadecimal digits of a byte, in lower case
 abbrev pub hex_pair_of : ℕ → List ℕ
 hex_pair_of byte = digit_glyph false (byte / 16) ∷ digit_glyph false (byte % 16) ∷ []
+
+-- two hexadecimal digits for each byte
+abbrev pub hex_of : List ℕ → List ℕ
+hex_of bytes = flat_map hex_pair_of bytes

@@ -5,14 +5,17 @@ use std::alloc::{AllocError, Global};
 use std::process::Abort;
 use std::test::Fail;
 
-// The words that the filters here read: each call's number and its third argument, and the version.
+// The words that the filters here read: each call's number and its third argument, the version, and how many bytes each call hands in, which is
+// the third argument of a write that is whole.
 fn pair(follower: (u32, u32), leader: (u32, u32), version: u32) -> Pair {
-    let mut words = [0; 33];
+    let mut words = [0; 36];
     words[0] = follower.0;
     words[8] = follower.1;
     words[16] = leader.0;
     words[24] = leader.1;
     words[32] = version;
+    words[34] = follower.1;
+    words[35] = leader.1;
     Pair { words }
 }
 
@@ -74,6 +77,9 @@ fn values_of_instructions(rt: HostRuntime) {
         ("2\n128 0 0 0\n22 0 0 0\n", 132),
         ("3\n129 0 0 0\n135 0 0 0\n22 0 0 0\n", 132),
         ("2\n32 0 0 128\n22 0 0 0\n", 3),
+        // how many bytes the calls hand in
+        ("2\n32 0 0 136\n22 0 0 0\n", 10),
+        ("2\n32 0 0 140\n22 0 0 0\n", 20),
     ] {
         expect_value(&rt, rt.alloc(), text, &pair((64, 10), (94, 20), 3), want);
     }
@@ -222,31 +228,39 @@ fn verdicts(rt: HostRuntime) {
     }
 }
 
-fn call(alloc: Global, nr: u32, args: [u32; 6]) -> Result<Call, AllocError> {
+fn bytes_of(alloc: Global, text: &str) -> Result<Bytes, AllocError> {
+    let mut bytes = Bytes::make(alloc, 16)?;
+    if text.len() <= bytes.capacity() {
+        bytes.set(text.as_bytes());
+    }
+    Ok(bytes)
+}
+
+fn call(alloc: Global, nr: u32, args: [u32; 6], payload: &str) -> Result<Call, AllocError> {
     Ok(Call {
         tid: 100,
         nr,
         args,
         bad: false,
-        payload: Bytes::make(alloc, 0)?,
+        payload: bytes_of(alloc, payload)?,
     })
 }
 
 #[test]
 fn words_of_a_pair(rt: HostRuntime) -> Result<(), Fail> {
-    let follower = call(rt.alloc(), 63, [1, 2, 3, 4, 5, 6])?;
+    let follower = call(rt.alloc(), 63, [1, 2, 3, 4, 5, 6], "green")?;
     let event = Event {
         stamp: 9,
-        call: call(rt.alloc(), 64, [10, 20, 30, 40, 50, 60])?,
+        call: call(rt.alloc(), 64, [10, 20, 30, 40, 50, 60], "red")?,
         reply: Reply {
             ret: -11,
-            payload: Bytes::make(rt.alloc(), 0)?,
+            payload: bytes_of(rt.alloc(), "as")?,
         },
     };
     let pair = pair_of(&follower, &event, 7);
     let want = [
         63, 0x400000f3, 0, 0, 1, 0, 2, 0, 3, 0, 4, 0, 5, 0, 6, 0, 64, 0x400000f3, 0, 0, 10, 0, 20,
-        0, 30, 0, 40, 0, 50, 0, 60, 0, 7,
+        0, 30, 0, 40, 0, 50, 0, 60, 0, 7, 0, 5, 3,
     ];
     assert_eq!(rt; pair.words, want);
     Ok(())

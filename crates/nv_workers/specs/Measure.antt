@@ -10,6 +10,13 @@ use Rattle.nv_workers.specs.declared.worker.Turn.TheVariants.{Moved, Ahead, Wait
 use Rattle.nv_workers.specs.declared.worker.Worker.{Worker}
 use Rattle.nv_workers.specs.Worker.{IsGone, seen_by}
 
+-- in so many turns a version may go on while it waits, and so many may get on in all, as its worker is made
+abbrev pub MOST_AHEAD : ℕ
+MOST_AHEAD = 1000000000
+
+abbrev pub MOST_TURNS : ℕ
+MOST_TURNS = 2 * MOST_EVENTS + MOST_REWRITES + MOST_AHEAD + 2
+
 module _ {K : Type 0} {G : Ghosts K} where
   -- a reader may still take the lead, and each seat has to leave
   abbrev pub seat_left : Seat K G → ℕ

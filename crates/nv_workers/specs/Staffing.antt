@@ -1,5 +1,5 @@
 -- Workers as they are made.
-use Rattle.std.specs.Prelude.{◌≡◌, ℕ, ◌+◌, List, [], ◌∷◌}
+use Rattle.std.specs.Prelude.{◌≡◌, ℕ, ◌+◌, ◌≤◌, List, [], ◌∷◌}
 use Rattle.nv_served.specs.declared.kernel.SyscallKernel.{Ghosts}
 use Rattle.nv_room.specs.declared.room.Room.{Room}
 use Rattle.nv_room.specs.declared.room.Reader.{Reader}
@@ -10,6 +10,7 @@ use Rattle.nv_replay.specs.Follow.{Judge}
 use Rattle.nv_replay.specs.Version.{Running, IsFresh}
 use Rattle.nv_workers.specs.declared.worker.Worker.{Worker}
 use Rattle.nv_workers.specs.Worker.{Works, version_of}
+use Rattle.nv_workers.specs.Measure.{MOST_TURNS, turns_left}
 
 module _ {K : Type 0} {G : Ghosts K} where
   -- the lead as the room's making gave it
@@ -28,6 +29,7 @@ module _ {K : Type 0} {G : Ghosts K} where
     pub fresh : IsFresh threads i v
     pub version : version_of w ≡ i
     pub works : (judges : ℕ → Judge) (most : ℕ) → Works judges room most v.at.process w
+    pub few : turns_left w ≤ MOST_TURNS
 
   -- of the room that made the lead
   abbrev pub LeadsAnew : Running Proc → Lead K G → Worker K G → Type 0

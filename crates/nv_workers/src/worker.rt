@@ -51,14 +51,17 @@ pub(crate) enum Seat<K: SyscallKernel> {
     Moving,
 }
 
+// In how many turns a version may go on while it waits: each of them runs an instruction of its budget at least, of which there
+// are no more.
+const MOST_AHEAD: u32 = 1_000_000_000;
+
 /// A version with its seat in a room.
 #[derive(Drop)]
 pub struct Worker<K: SyscallKernel> {
     pub(crate) version: Version,
     pub(crate) seat: Seat<K>,
     pub(crate) buf: EventBuf,
-    /// In so many turns its version may still go on while it waits. They never run out: each of them runs instructions of the
-    /// version's budget, of which there are fewer.
+    /// In so many turns its version may still go on while it waits.
     pub(crate) spare: u32,
 }
 
@@ -72,7 +75,7 @@ impl<K: SyscallKernel> Worker<K> {
         let buf = EventBuf::make(alloc)?;
         version.begin_lead();
         let seat = Seat::Leading { lead, asked: None };
-        let spare = u32::MAX;
+        let spare = MOST_AHEAD;
         Ok(Worker {
             version,
             seat,
@@ -96,7 +99,7 @@ impl<K: SyscallKernel> Worker<K> {
             reader,
             held: false,
         };
-        let spare = u32::MAX;
+        let spare = MOST_AHEAD;
         Ok(Worker {
             version,
             seat,

@@ -20,7 +20,7 @@ effect_of (Forward n) r scratch = Goes n (state_of r scratch)
 
 -- the places that an instruction reads or writes are there
 abbrev pub IsUsable : Action → ℕ → Type 0
-IsUsable LoadWord k = k / 4 < 33
+IsUsable LoadWord k = k / 4 < 36
 IsUsable (LoadScratch r) k = k < 16
 IsUsable (Store r) k = k < 16
 IsUsable _ k = Unit {0}

@@ -1,5 +1,5 @@
 use Rattle.std.proofs.Common.{◌≡◌, ◌++◌, take}
-use Rattle.nv_arrivals.specs.Writing.{hex_of}
+use Rattle.nv_text.specs.Numbers.{hex_of}
 use Rattle.nv_arrivals.proofs.writing.put_hex.Given as goal
 
 -- the bytes so far are written

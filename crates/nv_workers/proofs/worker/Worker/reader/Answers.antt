@@ -2,4 +2,4 @@ use Rattle.nv_workers.proofs.Making.{reads_anew}
 use Rattle.nv_workers.proofs.worker.Worker.reader.Goals as goal
 
 pub returns : goal.returns
-returns g c = reads_anew c.args.version c.args.reader c.in_ok-buf.buf 4294967295 c.requires.fresh
+returns g c = reads_anew c.args.version c.args.reader c.in_ok-buf.buf c.requires.fresh

@@ -1,0 +1,10 @@
+pub mod Lookups
+pub mod Holding
+pub mod Cases
+pub mod Sound
+pub mod Made
+pub mod Closing
+pub mod Within
+pub mod Refusing
+pub mod States
+pub mod Constants

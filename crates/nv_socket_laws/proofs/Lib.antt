@@ -1,3 +1,0 @@
-pub mod Refusing
-pub mod States
-pub mod Constants

@@ -1,5 +1,0 @@
-use Rattle.nv_socket_laws.proofs.Constants.{always-given}
-use Rattle.nv_socket_laws.proofs.laws.a_constant_reply_is_given_in_every_state.Goals as goal
-
-pub returns : goal.returns
-returns c = always-given
