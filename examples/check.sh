@@ -423,19 +423,6 @@ fi
 
 # ---- pages that need more of the host, and the scripts of this folder
 
-# page_with PAGE TOOL..: as page, where these tools are on this machine.
-page_with() {
-    local it=$1 tool
-    shift
-    for tool in "$@"; do
-        if ! command -v "$tool" >/dev/null; then
-            echo "check.sh: left out: docs/$it, for want of $tool"
-            return
-        fi
-    done
-    page "$it"
-}
-
 # told STATUS EXPECTED COMMAND..: what a script of this folder prints is the file EXPECTED, and its status this.
 told() {
     local wanted=$1 expected=$2 status=0
@@ -456,11 +443,12 @@ digits() {
     od -An -v -tx1 "$1" | tr -d ' \n'
 }
 
-page_with TRACES.md xxd
-page_with REFUSALS.md python3
-page_with SCRIPT.md python3
-page_with INSPECT.md gdb-multiarch riscv64-unknown-elf-gcc
-page_with GUESTS.md riscv64-unknown-elf-gcc qemu-riscv32
+for it in TRACES REFUSALS SCRIPT INSPECT; do
+    page "$it.md"
+done
+if has riscv64-unknown-elf-gcc gcc-riscv64-unknown-elf docs/GUESTS.md && has qemu-riscv32 qemu-user docs/GUESTS.md; then
+    page GUESTS.md
+fi
 
 # script.py: four clients by their bytes, as strace saw them and as they were captured; the server's script of its files; and a script as text
 mkdir "$work/sent"
