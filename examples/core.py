@@ -6,7 +6,8 @@
 
 The arguments after CORE are those of `varan inspect` (docs/INSPECT.md) without --dump and --length; `varan` is the program unless another is named. CORE gets the registers
 of each thread, and the memory that `inspect` shows: from the first byte of the executable's segments on, up to the end of the heap, and the stack. It prints the line `at` of `inspect`.
-Status: 0; 1 where the version has ended at the point, and has no state; 2 for a faulty command line; where `varan` refuses a file its line is printed, and the status is that of `varan`.
+Status: 0; 1 where the version has ended at the point, and has no state; 2 for a faulty command line; where `varan` refuses a file its line goes to standard error, and
+the status is that of `varan`.
 """
 import argparse
 import dataclasses
@@ -57,7 +58,7 @@ class Version:
             print(f"core.py: {self.command[0]}: {fault.strerror}", file=sys.stderr)
             sys.exit(2)
         if done.returncode:
-            print(done.stdout, end="")
+            print(done.stdout, end="", file=sys.stderr)
             sys.exit(done.returncode)
         return done.stdout.splitlines()
 
@@ -159,7 +160,7 @@ def main():
     version = Version([given.program, "inspect", *options, given.trace, given.version])
     print(version.at)
     if not version.threads:
-        print("core.py: the version has ended there")
+        print("core.py: the version has ended there", file=sys.stderr)
         return 1
     words = version.at.split()
     # gdb takes the first thread.
