@@ -5,10 +5,13 @@
     .ci/edits.py --all LOG     writes for each edit what refused it
 
 An edit counts where the prover refuses it at something that is listed here: a goal of an `ensures`, a type's or a loop's invariant, the rule of the table that
-stations share, or a law where the edit changes a definition. Whatever else is said of it, or nothing, is a reason why it doesn't count. docs/EDITS.md has the same
-as a table, and names those edits that count though something else refuses them.
+stations share, or a law where the edit changes a definition. Where the search gave up at such a goal, it counts if the edit changes values alone: then the text as it stands
+is the right value in the wrong one's place, and the same search proves that. Whatever else is said of it, or nothing, is a reason why it doesn't count. docs/EDITS.md has the same
+as a table, and names those edits that count though something else refuses them: a condition that is the rule itself, and an answer or a lemma of a proof file, or a
+goal at which the search gave up, that was tried with the right value; and those of the last kind that weren't tried yet.
 Status: 0 where there is no line to write, else 1.
 """
+import dataclasses
 import os
 import re
 import sys
@@ -46,6 +49,22 @@ WORDS = [
 # Names of what is no clause: what a call requires, and that a number, an index or a divisor is within its bounds, and that a loop ends.
 CONDITION = re.compile(r"(^|-)(requires|overflow_|bounds-|slice_bounds-|offset_bounds-|nonzero_|prove-)|-smaller$")
 ROW = re.compile(r"\| `(\w+/[\w.-]+)` \|")
+UNSURE = "the search gave up, so nothing says that it is false"
+WORD = re.compile(r"\w+|[^\w\s]")
+
+
+@dataclasses.dataclass
+class Edit:
+    """What a file of must-fail/ changes: a definition; and whether it changes words one for one, and adds and drops none."""
+
+    changes_definition: bool = False
+    changes_values: bool = False
+
+    @classmethod
+    def of(cls, text):
+        old, new = re.findall(r"(?m)^old: (.*)$", text), re.findall(r"(?m)^new:(.*)$", text)
+        pairs = zip(old, new) if len(old) == len(new) else [("a", "")]
+        return cls("\nfile: specs/" in "\n" + text, all(len(WORD.findall(a)) == len(WORD.findall(b)) for a, b in pairs))
 
 
 def kind_of(goal, words):
@@ -54,7 +73,7 @@ def kind_of(goal, words):
     return by_name or next((kind for kind, said in WORDS if said in words), None)
 
 
-def shown_by(came_to, said, is_of_specs):
+def shown_by(came_to, said, edit):
     """What an edit shows, and None; or None, and why it shows nothing."""
     if came_to.strip() != REFUSED:
         return None, f"{came_to}{said}"
@@ -72,10 +91,10 @@ def shown_by(came_to, said, is_of_specs):
         is_unsure = GAVE_UP.search(at_answer[2])
     else:
         return None, f"no goal is named{said}"
-    if is_unsure:
-        return None, f"the search gave up, so nothing says that it is false{said}"
+    if is_unsure and not edit.changes_values:
+        return None, f"{UNSURE}{said}"
     kind = kind_of(goal, words)
-    if kind is None and at_answer and is_of_specs and not CONDITION.search(goal):
+    if kind is None and at_answer and edit.changes_definition and not CONDITION.search(goal):
         kind = LAW
     if kind is None and (CONDITION.search(goal) or not goal):
         return None, f"a condition or a bound on the way refuses it, and no clause{said}"
@@ -83,14 +102,14 @@ def shown_by(came_to, said, is_of_specs):
 
 
 def edits_of(folder):
-    """Returns the edits that stand in the crates, as CRATE/NAME, and whether each changes a definition."""
+    """Returns the edits that stand in the crates, by their names as CRATE/NAME."""
     found = {}
     for crate in os.listdir(folder):
         place = f"{folder}/{crate}/must-fail"
         for it in os.listdir(place) if os.path.isdir(place) else []:
             if it.endswith(".edit"):
                 with open(f"{place}/{it}", encoding="utf-8", errors="replace") as text:
-                    found[f"{crate}/{it.removesuffix('.edit')}"] = "\nfile: specs/" in "\n" + text.read()
+                    found[f"{crate}/{it.removesuffix('.edit')}"] = Edit.of(text.read())
     return found
 
 
@@ -99,34 +118,55 @@ def told_in(lines):
     return {it[1]: (it[2], it[3]) for it in map(TOLD.match, lines) if it}
 
 
-def faults_in(lines, edits, named):
-    """Returns a line for each edit that shows nothing or isn't told of, and for each name that docs/EDITS.md has and that is of no use."""
+@dataclasses.dataclass
+class Page:
+    """The names on docs/EDITS.md: of edits that a condition may refuse, of those that were tried with the right value, and of those that are to be tried."""
+
+    conditions: set = dataclasses.field(default_factory=set)
+    tried: set = dataclasses.field(default_factory=set)
+    untried: set = dataclasses.field(default_factory=set)
+
+    @classmethod
+    def of(cls, text):
+        parts = {part.partition("\n")[0]: set(ROW.findall(part)) for part in text.split("\n## ")}
+        return cls(*(parts.get(title, set()) for title in ("Conditions that are the rule", "Tried with a right value", "Not tried yet")))
+
+    def takes(self, name, why, said):
+        """Whether an edit counts by the page."""
+        is_unsure = why.startswith(UNSURE)
+        return name in self.conditions or name in self.tried and (is_unsure or ANSWER.match(said)) or name in self.untried and is_unsure
+
+
+def faults_in(lines, edits, page):
+    """Returns a line for each edit that shows nothing or isn't told of, and for each name of the page that is of no use."""
     told = told_in(lines)
-    whys = {name: shown_by(*it, edits.get(name, False))[1] for name, it in told.items()}
+    whys = {name: shown_by(*it, edits.get(name, Edit()))[1] for name, it in told.items()}
     for name, why in sorted(whys.items()):
-        if why and not (name in named and told[name][0].strip() == REFUSED):
+        if why and not (told[name][0].strip() == REFUSED and page.takes(name, why, told[name][1])):
             yield f"{name}: {why}"
     for name in sorted(edits.keys() - told.keys()):
         yield f"{name}: the run says nothing of it"
-    for name in sorted(named):
+    for name in sorted(page.conditions | page.untried):
         if name not in told or not whys[name]:
             yield f"{name}: docs/EDITS.md names it, and it counts without"
+    for name in sorted(page.tried - edits.keys()):
+        yield f"{name}: docs/EDITS.md names it, and there is no such edit"
 
 
 def main(words):
     if len(words) not in (1, 2) or words[:-1] not in ([], ["--all"]):
         sys.exit(__doc__)
-    with open("docs/EDITS.md", encoding="utf-8") as page:
-        named = set(ROW.findall(page.read()))
+    with open("docs/EDITS.md", encoding="utf-8") as text:
+        page = Page.of(text.read())
     edits = edits_of("crates")
     with open(words[-1], encoding="utf-8", errors="replace") as log:
         lines = log.readlines()
     if words[0] == "--all":
         for name, it in sorted(told_in(lines).items()):
-            kind, why = shown_by(*it, edits.get(name, False))
+            kind, why = shown_by(*it, edits.get(name, Edit()))
             print(f"{name}: {kind or 'NOTHING'}{it[1].rstrip() if kind else ': ' + why.rstrip()}")
         return 0
-    faults = list(faults_in(lines, edits, named))
+    faults = list(faults_in(lines, edits, page))
     for it in faults:
         print(f"edits.py: {it.rstrip()}")
     return 1 if faults else 0

@@ -34,6 +34,7 @@ WANTED = [
     (re.compile(r"build\.sh|riscv64-unknown-elf-"), COMPILER, "gcc-riscv64-unknown-elf, picolibc-riscv64-unknown-elf"),
     (re.compile(r"\bjq\b|\bparting\.py\b|\$PARTING\b"), "jq", "jq"),
     (re.compile(r"\bxxd\b"), "xxd", "xxd"),
+    (re.compile(r"\bqemu-riscv32\b"), "qemu-riscv32", "qemu-user"),
 ]
 # Printed between the commands; no command prints it.
 MARK = "---- the next command ----"

@@ -73,6 +73,12 @@ loading rd n = encoded (insn op.Lui rd 0 0 (cast_signed w32 (4096 * upper_of n))
 
 -- ---- operands
 
+-- a step of a `do` block: what comes after it, of the value that there is
+infixl 10 ◌>>=◌
+abbrev pub ◌>>=◌ : {A B : Type 0} → Option A → (A → Option B) → Option B
+(Some x) >>= f = f x
+None >>= f = None
+
 -- a label's name
 abbrev pub name : List ℕ → Option (List ℕ)
 name text = if is_name text then Some text else None

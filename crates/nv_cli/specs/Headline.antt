@@ -43,7 +43,7 @@ use Rattle.nv_trace.specs.Checks.{check_fault}
 use Rattle.nv_jobs.specs.Due.{replayed, shown}
 use Rattle.nv_replay.specs.Follow.{follow}
 use Rattle.nv_jobs.specs.Replayed.{replay_text, replay_status}
-use Rattle.nv_retrace.specs.Points.{at_point}
+use Rattle.nv_inspect.specs.Points.{at_point}
 use Rattle.nv_inspect.specs.Shown.{show_text}
 -- What the source's counts show.
 use Rattle.nv_jobs.specs.Due.{Shows, IsUntouched}
@@ -74,7 +74,7 @@ use Rattle.nv_calls.specs.Shapes.{is_plain, are_plain, kept_slots, most_of_vecto
 use Rattle.nv_text.specs.Fields.{is_space, is_not_space, first_word, without_first, rest_of, fields}
 use Rattle.nv_text.specs.Lines.{is_newline, lines, line_number, is_blank, is_not_blank, trim_start, trim_end, trim, is_comma, operands_of, operands, is_letter, is_digit, is_name_byte, begins_name, is_name, Parts, prefix, rest_after, line_with, after_name, parted, line_of}
 use Rattle.nv_text.specs.Names.{defined, defining, definitions, or_later, first_fault}
-use Rattle.nv_text.specs.Numbers.{number_of, decimal_of, paired, unhexed}
+use Rattle.nv_text.specs.Numbers.{number_of, decimal_of, paired, unhexed, hex_pair_of, hex_of}
 use Rattle.nv_bytes.specs.Fields.{field_at}
 use Rattle.nv_outside.specs.Counts.{raised, Rose}
 use Rattle.nv_outside.specs.Files.{GotTold, KeepsFaults}
@@ -144,7 +144,7 @@ use Rattle.nv_replay.specs.Taking.{is_alike, is_through, is_writing, fits, all_w
 use Rattle.nv_replay.specs.Tracks.{is_in, is_led, retraced_by, tracked, track_on, track_next, track}
 use Rattle.nv_report.specs.Events.{payload_text, call_text, result_text, event_text}
 use Rattle.nv_report.specs.Json.{natural, integer, list_value, hex_value, word_json, payload_value, event_value, span_value, led_value, version_members, version_value, report_object, report_value}
-use Rattle.nv_report.specs.Numbers.{number_text, hex_digit, hex_pair, hex_text}
+use Rattle.nv_report.specs.Numbers.{number_text}
 use Rattle.nv_report.specs.Report.{head_text, count_text, fates_text}
 use Rattle.nv_report.specs.Versions.{kind_text, fault_text, refusal_text, fate_text, end_text, prefix_text, seen_text, span_text, next_span_text, led_text, rewrites_text, rest_text, line_text, lines_text}
 use Rattle.nv_asm.specs.Assembled.{Whole, text_base, data_base, base, address, address_of, is_undefined, is_entry_place, is_entry, word_lacks, code_lacks, lacks, distance, word_value, code_words, le_words, content, is_earlier, is_twice, is_long, padding_before, padded, laid_by, laid, cause_of, bytes_or_none, laid_in, section_bytes, entry_past, entry_address, text_range, data_ranges, laid_program, first_cause, meaning_by, meaning, whole_of, assembled_lines, assembled}
@@ -164,8 +164,8 @@ use Rattle.nv_trace.specs.Faults.{has_head, head_fault, event_fault, events_faul
 use Rattle.nv_trace.specs.Held.{count_in, bad_in, sent_in, came_in, size_in, request_in, response_in, entry_in, entries_in, log_in}
 use Rattle.nv_trace.specs.Texts.{trace_text, check_text}
 use Rattle.nv_trace.specs.Trace.{number_bytes, bit, arg, fields_of, event_bytes, head_bytes}
-use Rattle.nv_retrace.specs.Points.{place_of, events_to, budget_to}
 use Rattle.nv_inspect.specs.Firsts.{texts_below}
+use Rattle.nv_inspect.specs.Points.{place_of, events_to, budget_to}
 use Rattle.nv_inspect.specs.Shown.{word_text, standing_text, place_text, heading_text, register_text, registers_text, counter_text, thread_text, live_text, threads_text, opened_text, named_text, descriptor_as, descriptor_text, descriptors_text, cell_text, byte_text, row_text, memory_line, dump_text}
 use Rattle.nv_command.specs.Simple.{option_rule, flag_rule, file_rule, files_rule, required, simple_app, run_options, run_app, record_app, trail_options, look_options, trail_files, replay_app, inspect_app, rules_app, asm_app, gen_app}
 use Rattle.nv_command.specs.Words.{texts, unless_faulty, rows_of_line, number_between, number_within, in_pages, ring_of, memory_of, budget_of, calls_asked, threads_asked, Limits, usual, limits_of, versions_asked, is_set, Plan, plan_of, report_plan_of, index_of, Trail, trail_of, Point, point_from, point_of, range_of, dump_from, dump_of, Look, look_of, Job, rules_job_of, asm_job_of, number_in, Command, Name, name_spelt, run_line, rules_line, asm_line, gen_line, record_line, replay_line, inspect_line, asked_by, after_program}

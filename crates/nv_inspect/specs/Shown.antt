@@ -14,13 +14,13 @@ use Rattle.nv_fs.specs.declared.telling.Opened.{Opened}
 use Rattle.nv_fs.specs.declared.telling.Opened.TheVariants.{Closed, Input, Console, File, PipeRead, PipeWrite}
 use Rattle.nv_replay.specs.declared.fate.Fate.{Fate}
 use Rattle.nv_replay.specs.Follow.{Follower}
-use Rattle.nv_report.specs.Numbers.{hex_pair, hex_text}
+use Rattle.nv_text.specs.Numbers.{hex_pair_of, hex_of}
 use Rattle.nv_report.specs.Versions.{fate_text}
 use Rattle.nv_inspect.specs.Firsts.{texts_below}
 
 -- eight hexadecimal digits
 abbrev pub word_text : ℕ → List ℕ
-word_text n = hex_text (to_be_bytes w32 n)
+word_text n = hex_of (to_be_bytes w32 n)
 
 -- how the version ended, or that it is in step with the log so far
 abbrev pub standing_text : Option Fate → List ℕ
@@ -85,7 +85,7 @@ descriptors_text s = texts_below (descriptor_text s) 64
 
 abbrev pub cell_text : Option ℕ → List ℕ
 cell_text None = codes "--"
-cell_text (Some byte) = hex_pair byte
+cell_text (Some byte) = hex_pair_of byte
 
 abbrev pub byte_text : Image → ℕ → ℕ → List ℕ
 byte_text memory address i = codes " " ++ cell_text (memory_byte memory (address + i))

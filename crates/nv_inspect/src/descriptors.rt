@@ -4,10 +4,8 @@ ghost use Rattle.nv_outside.specs.Sink.{Puts};
 ghost use Rattle.nv_inspect.specs.Shown.{opened_text, named_text, descriptor_text, descriptors_text};
 
 use itoa::Buffer;
-use nv_fs::{FileSystem, Opened};
+use nv_fs::{DESCRIPTORS, FileSystem, Opened};
 use nv_outside::{Put, Sink, put_all, put_pieces};
-
-const DESCRIPTORS: u32 = 64;
 
 fn put_file<S: Sink>(sink: &mut S, offset: u64, size: u64) -> Put
     ensures { Puts (S.told sink.old) (S.faults sink.old) (opened_text (Opened.File offset size)) result (S.told sink.new) (S.faults sink.new) }
@@ -65,7 +63,7 @@ fn put_descriptor<S: Sink>(sink: &mut S, files: &FileSystem, fd: u32) -> Put
 pub fn put_descriptors<S: Sink>(sink: &mut S, files: &FileSystem) -> Put
     ensures { Puts (S.told sink.old) (S.faults sink.old) (descriptors_text files.now.state) result (S.told sink.new) (S.faults sink.new) }
 {
-    for fd in 0..DESCRIPTORS {
+    for fd in 0..DESCRIPTORS as u32 {
         match put_descriptor(sink, files, fd) {
             Put::Whole => {}
             Put::Failed => return Put::Failed,

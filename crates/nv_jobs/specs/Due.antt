@@ -22,7 +22,7 @@ use Rattle.nv_calls.specs.Logs.{calls_of}
 use Rattle.nv_fs.specs.States.{FileState}
 use Rattle.nv_inspect.specs.Shown.{show_text}
 use Rattle.nv_replay.specs.Follow.{Follower, follow, fresh, judge_of}
-use Rattle.nv_retrace.specs.Points.{at_point}
+use Rattle.nv_inspect.specs.Points.{at_point}
 use Rattle.nv_sockets.specs.Serving.{first_state, state_after}
 use Rattle.nv_threads.specs.Threads.{Proc, threads}
 use Rattle.nv_jobs.specs.Tracing.{trace_point}

@@ -15,10 +15,9 @@ use crate::refusing::refuse_trail;
 use crate::trails::{TracedVersion, trace_version};
 use itoa::Buffer;
 use nv_command::Trail;
-use nv_inspect::put_end;
+use nv_inspect::{TracePoint, bring, put_end};
 use nv_outside::{Files, Put, Sink, put_all, put_pieces};
 use nv_replay::{Fate, Standing, Version};
-use nv_retrace::{TracePoint, bring};
 use std::alloc::Global;
 
 fn put_counts<S: Sink>(sink: &mut S, seen: u32, rewrites: u32) -> Put

@@ -3,11 +3,12 @@ use Rattle.std.specs.Prelude.{ℕ, ℤ, List, [], ◌∷◌, ◌++◌, if◌then
 use Rattle.std.specs.Fmt.{signed_decimal}
 use Rattle.std.specs.List.{flat_map, concat}
 use Rattle.nv_calls.specs.Calls.{Entry}
-use Rattle.nv_report.specs.Numbers.{number_text, hex_text}
+use Rattle.nv_text.specs.Numbers.{hex_of}
+use Rattle.nv_report.specs.Numbers.{number_text}
 
 -- the bytes of a call and of its reply, after a space where there are any
 abbrev pub payload_text : List ℕ → List ℕ → List ℕ
-payload_text call reply = if length call == 0 && length reply == 0 then [] else codes " " ++ (hex_text call ++ hex_text reply)
+payload_text call reply = if length call == 0 && length reply == 0 then [] else codes " " ++ (hex_of call ++ hex_of reply)
 
 -- stamp, thread, number and arguments
 abbrev pub call_text : Entry → List ℕ

@@ -8,7 +8,7 @@ use Rattle.nv_machine.specs.declared.outcome.FaultKind.TheVariants.{Illegal, Mis
 use Rattle.nv_replay.specs.declared.fate.Fate.{Fate}
 use Rattle.nv_replay.specs.declared.fate.Fate.TheVariants.{Exited, Fault, Refused, Memory}
 use Rattle.nv_replay.specs.declared.standing.Standing.{Standing}
-use Rattle.nv_report.specs.Numbers.{hex_text}
+use Rattle.nv_text.specs.Numbers.{hex_of}
 
 abbrev pub kind_text : FaultKind → List ℕ
 kind_text Illegal = codes "illegal"
@@ -30,8 +30,8 @@ refusal_text tid nr stamp = concat (codes "refused " ∷ decimal tid ∷ codes "
 
 abbrev pub fate_text : Fate → List ℕ
 fate_text (Exited code) = concat (codes "exited " ∷ decimal code ∷ [])
-fate_text (Fault kind tid pc) = fault_text kind tid ++ hex_text (to_be_bytes w32 pc)
-fate_text (Refused tid nr stamp verdict) = refusal_text tid nr stamp ++ hex_text (to_be_bytes w32 verdict)
+fate_text (Fault kind tid pc) = fault_text kind tid ++ hex_of (to_be_bytes w32 pc)
+fate_text (Refused tid nr stamp verdict) = refusal_text tid nr stamp ++ hex_of (to_be_bytes w32 verdict)
 fate_text Memory = codes "memory"
 
 -- nothing of a version that hasn't ended

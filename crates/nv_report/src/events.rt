@@ -3,7 +3,7 @@ ghost use Rattle.std.specs.Prelude.{◌≡◌, ◌++◌, codes};
 ghost use Rattle.std.specs.List.{flat_map};
 ghost use Rattle.nv_outside.specs.Sink.{Puts};
 ghost use Rattle.nv_calls.specs.Calls.{entry};
-ghost use Rattle.nv_report.specs.Numbers.{hex_text};
+ghost use Rattle.nv_text.specs.Numbers.{hex_of};
 ghost use Rattle.nv_report.specs.Events.{call_text, result_text, payload_text, event_text};
 
 use crate::numbers::{put_hex, put_numbers};
@@ -80,7 +80,7 @@ fn put_payload<S: Sink>(sink: &mut S, call: &[u8], reply: &[u8]) -> Put
 
 // A space, and the bytes of a call and of its reply.
 fn put_bytes<S: Sink>(sink: &mut S, call: &[u8], reply: &[u8]) -> Put
-    ensures { Puts (S.told sink.old) (S.faults sink.old) (codes " " ++ (hex_text call.now ++ hex_text reply.now)) result (S.told sink.new) (S.faults sink.new) }
+    ensures { Puts (S.told sink.old) (S.faults sink.old) (codes " " ++ (hex_of call.now ++ hex_of reply.now)) result (S.told sink.new) (S.faults sink.new) }
 {
     match put_all(sink, b" ") {
         Put::Whole => {}

@@ -1,11 +1,12 @@
 // Numbers, in decimal and as hexadecimal digits.
-ghost use Rattle.std.specs.Prelude.{◌≡◌, ◌<◌};
 ghost use Rattle.std.specs.List.{flat_map};
 ghost use Rattle.nv_outside.specs.Sink.{Puts};
-ghost use Rattle.nv_report.specs.Numbers.{number_text, hex_digit, hex_text};
+ghost use Rattle.nv_text.specs.Numbers.{hex_of};
+ghost use Rattle.nv_report.specs.Numbers.{number_text};
 
 use itoa::Buffer;
 use nv_outside::{Put, Sink, put_all, put_pieces};
+use nv_text::hex_pair;
 
 // Each number with a space after it.
 pub fn put_numbers<S: Sink>(sink: &mut S, numbers: &[u32]) -> Put
@@ -23,24 +24,13 @@ pub fn put_numbers<S: Sink>(sink: &mut S, numbers: &[u32]) -> Put
 
 /// Writes each byte as two hexadecimal digits.
 pub fn put_hex<S: Sink>(sink: &mut S, bytes: &[u8]) -> Put
-    ensures { Puts (S.told sink.old) (S.faults sink.old) (hex_text bytes.now) result (S.told sink.new) (S.faults sink.new) }
+    ensures { Puts (S.told sink.old) (S.faults sink.old) (hex_of bytes.now) result (S.told sink.new) (S.faults sink.new) }
 {
     for byte in bytes {
-        match put_all(sink, &[digit(*byte / 16), digit(*byte % 16)]) {
+        match put_all(sink, &hex_pair(*byte)) {
             Put::Whole => {}
             Put::Failed => return Put::Failed,
         }
     }
     Put::Whole
-}
-
-fn digit(value: u8) -> u8
-    requires { value < 16 }
-    ensures { result ≡ hex_digit value }
-{
-    if value < 10 {
-        b'0' + value
-    } else {
-        b'a' + (value - 10)
-    }
 }

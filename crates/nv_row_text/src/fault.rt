@@ -16,6 +16,10 @@ pub enum RowFault {
     Name,
     /// What should be a number, and isn't one of its kind.
     Number,
+    /// A name, or a field that stands once, for the second time.
+    Twice,
+    /// A field that says nothing without content, and has none.
+    Empty,
     /// A line of a table that has more or fewer columns than its head.
     Columns,
     Memory,
@@ -29,6 +33,8 @@ impl fmt::Display for RowFault {
             RowFault::Escape => write!(f, "a $ that stands for nothing"),
             RowFault::Name => write!(f, "an unknown name"),
             RowFault::Number => write!(f, "not a number"),
+            RowFault::Twice => write!(f, "a name or a field that stands twice"),
+            RowFault::Empty => write!(f, "a field without its content"),
             RowFault::Columns => write!(f, "a table's line of other columns"),
             RowFault::Memory => write!(f, "no memory"),
         }

@@ -4,21 +4,35 @@ use crate::content::content_of;
 use crate::draft::{Draft, str_of, text_of};
 use crate::entry::{Entry, Field};
 use crate::row::Row;
+use crate::shape::check;
 use crate::texts::Texts;
 use nv_text::{is, trim};
 use std::alloc::Global;
 
-/// Reads entries in their order, since a row may include the texts before it.
+/// Reads entries in their order, since a row may include the texts before it, and no two rows have one name.
 #[derive(Drop)]
 pub struct Reader {
     texts: Texts,
+    names: Vec<String>,
 }
 
 impl Reader {
     pub fn new(alloc: Global) -> Self {
         Reader {
             texts: Texts::new(alloc),
+            names: Vec::new(alloc),
         }
+    }
+
+    // Takes the name of one more row.
+    fn add_name(&mut self, name: &str) -> Result<(), RowFault> {
+        if self.names.iter().any(|known| known.as_str() == name) {
+            return Err(RowFault::Twice);
+        }
+        Ok(
+            self.names
+                .push(String::from_str(self.texts.alloc(), name)?)?,
+        )
     }
 
     /// The rows of an entry: none where it is a text with a name, and one for each line of its table where it has one.
@@ -49,7 +63,7 @@ impl Reader {
         }
     }
 
-    fn read_one(&self, entry: &Entry, fields: &[Field]) -> Result<Vec<Row>, RowFault> {
+    fn read_one(&mut self, entry: &Entry, fields: &[Field]) -> Result<Vec<Row>, RowFault> {
         let name = text_of(self.texts.alloc(), entry.head.rest)?;
         let row = self.row_of(name, fields)?;
         let mut rows = Vec::new(self.texts.alloc());
@@ -64,12 +78,15 @@ impl Reader {
         fields: &[Field],
         table: &Field,
     ) -> Result<Vec<Row>, RowFault> {
+        if table.content.is_empty() {
+            return Err(RowFault::Empty);
+        }
         let mut rows = Vec::new(self.texts.alloc());
         let known = self.texts.len();
         for line in &table.content {
-            let row = self.read_line(entry.head.rest, fields, table.rest, line)?;
-            rows.push(row)?;
+            let row = self.read_line(entry.head.rest, fields, table.rest, line);
             self.texts.truncate(known);
+            rows.push(row?)?;
         }
         Ok(rows)
     }
@@ -108,7 +125,9 @@ impl Reader {
         self.texts.define(name, content)
     }
 
-    fn row_of(&self, name: String, fields: &[Field]) -> Result<Row, RowFault> {
+    fn row_of(&mut self, name: String, fields: &[Field]) -> Result<Row, RowFault> {
+        self.add_name(name.as_str())?;
+        check(fields)?;
         let mut draft = Draft::new(self.texts.alloc(), name);
         for field in fields {
             draft.take(&self.texts, field)?;

@@ -22,7 +22,7 @@ enum Escape<'a> {
     Named(&'a [u8]),
 }
 
-/// Texts with names. Of two with one name the later counts.
+/// Texts with names. A name stands once.
 #[derive(Drop)]
 pub struct Texts {
     alloc: Global,
@@ -50,18 +50,21 @@ impl Texts {
         self.texts.truncate(count);
     }
 
+    fn knows(&self, name: &[u8]) -> bool {
+        self.find(name).is_some()
+    }
+
     pub fn define(&mut self, name: &[u8], content: Vec<u8>) -> Result<(), RowFault> {
+        if self.knows(name) {
+            return Err(RowFault::Twice);
+        }
         let name = name.to_vec(self.alloc)?;
         self.texts.push(Named { name, content })?;
         Ok(())
     }
 
     fn find(&self, name: &[u8]) -> Option<&[u8]> {
-        let found = self
-            .texts
-            .iter()
-            .rev()
-            .find(|text| text.name.as_slice() == name);
+        let found = self.texts.iter().find(|text| text.name.as_slice() == name);
         found.map(|text| text.content.as_slice())
     }
 

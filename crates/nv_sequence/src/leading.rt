@@ -70,12 +70,7 @@ fn end_turn(version: &mut Version) -> Turned
 }
 
 /// Leads until the version ends, or until it has made the log as long as one of `hands`.
-pub fn lead_all<K: SyscallKernel>(
-    version: &mut Version,
-    kernel: &mut K,
-    most: u32,
-    hands: &[u32],
-)
+pub fn lead_all<K: SyscallKernel>(version: &mut Version, kernel: &mut K, most: u32, hands: &[u32])
     requires leading { IsLiveLeader version.old }
     requires seen { version.old.at.seen ≡ length (K.log kernel.old) }
     requires in_step { IsInStep threads (K.log kernel.old) version.old.at }

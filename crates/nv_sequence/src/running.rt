@@ -121,11 +121,7 @@ fn one_turn<K: SyscallKernel>(
 }
 
 /// Each version follows the log to its end, or as far as it goes.
-fn follow_rest<K: SyscallKernel>(
-    versions: &mut [Version],
-    rules: Option<&Filter>,
-    kernel: &K,
-)
+fn follow_rest<K: SyscallKernel>(versions: &mut [Version], rules: Option<&Filter>, kernel: &K)
     requires rested { AreRested threads (K.log kernel.now) versions.old }
     ensures new { versions.new ≡ map (followed threads (judge_of (option_map (λ f. f.now) rules.entry)) (K.log kernel.now)) versions.old }
     ensures in_step { AreInStep threads (K.log kernel.now) versions.new }

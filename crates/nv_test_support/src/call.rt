@@ -96,6 +96,18 @@ fn names(words: &[&str], option: &str) -> bool {
     words.iter().any(|word| word.starts_with(option))
 }
 
+fn is_record(words: &[&str]) -> bool {
+    match words.get(1) {
+        Some(command) => *command == "record",
+        None => false,
+    }
+}
+
+// Whether no byte of the answer may depend on the timing: of a run, and of its trace.
+fn is_run(words: &[&str]) -> bool {
+    names(words, "run") || is_record(words)
+}
+
 // The words with one more after the command's name.
 fn with_option<'a>(
     alloc: Global,
@@ -112,8 +124,8 @@ fn with_option<'a>(
     Ok(longer)
 }
 
-/// Calls the monitor with these words. A run is done again on one thread, on eight, and with a ring of two places, unless its
-/// words say how many: an answer that isn't the first one's is given in its place, with the status 255.
+/// Calls the monitor with these words. A run, recorded or not, is done again on one thread, on eight, and with a ring of two places,
+/// unless its words say how many: an answer that isn't the first one's is given in its place, with the status 255.
 pub fn monitor<R: Threads + Wait + Sync>(
     rt: &R,
     alloc: Global,
@@ -123,7 +135,7 @@ pub fn monitor<R: Threads + Wait + Sync>(
     requires { 0 < outside.most }
 {
     let answered = monitor_through(rt, alloc, words, outside, &OpenGate)?;
-    if !names(words, "run") {
+    if !is_run(words) {
         return Ok(answered);
     }
     for (name, option) in TIMING {

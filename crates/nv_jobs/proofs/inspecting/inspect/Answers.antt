@@ -2,8 +2,8 @@ use Rattle.std.proofs.Common.{◌≡◌, ◌∙◌, ap, sym, ℕ}
 use Rattle.nv_command.specs.Words.{Inspects}
 use Rattle.nv_command.specs.Seen.{look_view}
 use Rattle.nv_replay.specs.Follow.{Follower, follow, fresh, judge_of}
-use Rattle.nv_retrace.specs.Points.{at_point, events_to}
-use Rattle.nv_retrace.specs.declared.points.TracePoint.{TracePoint}
+use Rattle.nv_inspect.specs.Points.{at_point, events_to}
+use Rattle.nv_inspect.specs.declared.points.TracePoint.{TracePoint}
 use Rattle.nv_script.specs.Views.{setup_of}
 use Rattle.nv_threads.specs.Threads.{Proc, threads, started}
 use Rattle.nv_jobs.specs.Due.{shown, shown_of, traced_outcome}

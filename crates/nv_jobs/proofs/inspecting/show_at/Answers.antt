@@ -5,7 +5,7 @@ use Rattle.nv_fs.specs.States.{FileState}
 use Rattle.nv_inspect.specs.Shown.{show_text}
 use Rattle.nv_outside.proofs.Writing.{puts-is}
 use Rattle.nv_replay.specs.Follow.{Follower, follow, fresh, judge_of}
-use Rattle.nv_retrace.specs.Points.{events_to}
+use Rattle.nv_inspect.specs.Points.{events_to}
 use Rattle.nv_script.specs.Scripts.{Setup}
 use Rattle.nv_script.specs.Views.{setup_of}
 use Rattle.nv_threads.specs.Threads.{Proc, threads}
