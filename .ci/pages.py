@@ -3,7 +3,7 @@
 
 docs/varan.1: its options are those of nv_command/specs/Simple.antt, command by command, its limits those of Words.antt; docs/REFUSALS.md
 gives the same limits, and README.md and it name no other option. Each page that README.md lists is there, and each page of docs/ is listed. crates.txt: each crate stands after those that it uses; docs/ARCHITECTURE.md names each.
-docs/REFUSALS.md: no cure is empty.
+docs/REFUSALS.md: no cure is empty. The pages that a user reads first have no line of more than 200 characters.
 """
 import os
 import re
@@ -11,6 +11,9 @@ import sys
 
 MANUAL = "docs/varan.1"
 ROOT = os.path.dirname(os.path.dirname(os.path.abspath(__file__)))
+# the pages that a user reads first, and how long their lines are at most
+FIRST = ("README.md", "CHANGELOG.md", *(f"docs/{it}" for it in ("TUTORIAL.md", "GUESTS.md", "SCRIPT.md", "REPORT.md", "RULES.md", "REFUSALS.md", "TRACES.md", "INSPECT.md", "PARTING.md", "varan.1")))
+MOST = 200
 COMMANDS = ("run", "record", "replay", "inspect", "rules", "asm", "gen")
 # what stands on a page for another program's option
 OTHERS = {"help", "version", "anew", "program"}
@@ -101,12 +104,18 @@ def cures(wrong):
             wrong.append(f"docs/REFUSALS.md says nothing to do: {line.split('|')[1].strip()}")
 
 
+def long_lines(wrong):
+    for path in FIRST:
+        wrong += [f"{path}:{at}: a line of {len(line)} characters" for at, line in enumerate(read(path).split("\n"), 1) if len(line) > MOST]
+
+
 if __name__ == "__main__":
     wrong = []
     options(wrong)
     listed(wrong)
     crates(wrong)
     cures(wrong)
+    long_lines(wrong)
     if wrong:
         sys.exit("\n".join(f"pages: {it}" for it in wrong))
     print("pages: options, limits, pages, crates and cures stand as the code has them")
