@@ -1,7 +1,8 @@
 """Reads the definitions of all crates' specs/ and the types of their src/, and what each cites by name.
 
 A name counts as cited where a declaration, a clause or a field has it and doesn't bind it itself (a parameter, a pattern, λ). A type of the code
-(`declared.` in an import) cites the types of its fields and its Model's view; a trait cites what its clauses name.
+(`declared.` in an import) cites the types of its fields and its Model's view; a trait cites what its clauses name. A `do` block cites the
+operator that its steps stand for.
 """
 import glob
 import os
@@ -12,6 +13,7 @@ WORD = re.compile(r"[^\s(){}\[\],;:.|\"]+")
 USE = re.compile(r"(?m)^[ \t]*(pub )?(?:ghost )?use ([^\s{;]+?)(?:\.\{([^}]*)\}|\s+as\s+([^\s;]+))?;?[ \t]*$")
 DECLARED = re.compile(r"(?:(?:abbrev|unfoldable) )?(?:pub )?(record|data) (\S+)|(?:(?:abbrev|unfoldable) )?(?:pub )?([^\s({]+) :(?: |$)")
 FIELD = re.compile(r"\s*(?:pub )?([^\s({]+) : ")
+STEP = ">>="
 
 
 def read(path):
@@ -232,7 +234,7 @@ class House:
                     module = ""
                 else:
                     module = word if word in scope.aliases and word not in bound else ""
-                    found.add(None if word in bound else self.named(scope, word))
+                    found.add(None if word in bound else self.named(scope, STEP if word == "do" else word))
                 previous = word
         return found - {None}
 

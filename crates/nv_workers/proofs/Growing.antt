@@ -9,7 +9,7 @@ use Rattle.nv_machine.specs.declared.outcome.FaultKind.TheVariants.{Calls}
 use Rattle.nv_replay.specs.declared.fate.Fate.TheVariants.{Fault as Faulted}
 use Rattle.nv_rules.specs.declared.outcome.Verdict.{Verdict}
 use Rattle.nv_replay.specs.declared.version.Followed.{Followed}
-use Rattle.nv_replay.specs.declared.version.Followed.TheVariants.{Matched, Rewrote, Skipped, Dropped}
+use Rattle.nv_replay.specs.declared.version.Followed.TheVariants.{Matched, Rewrote, Skipped, Took, Dropped}
 use Rattle.nv_replay.specs.Follow.{Follower, IsCounted}
 use Rattle.nv_replay.specs.Version.{Running, asking_by, asking_next}
 use Rattle.nv_workers.specs.Growing.{OneMoreAtMost}
@@ -32,6 +32,7 @@ pub counted_rises : {P : Type 0} (x : Followed) (t : Verdict) (old new : Followe
 counted_rises Matched t old new k = let a = k.1 in omega arith
 counted_rises (Rewrote w) t old new k = let a = k.1 in omega arith
 counted_rises Skipped t old new k = let a = k.1 in omega arith
+counted_rises Took t old new k = let a = k.1 in omega arith
 counted_rises (Dropped f) t old new k = let a = k.1 in omega arith
 
 -- nor does a leader that comes to its next call
