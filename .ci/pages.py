@@ -1,18 +1,22 @@
 #!/usr/bin/env python3
 """Holds pages against the code.
 
-docs/OPTIONS.md: its options are those of nv_command/specs/Simple.antt, command by command, its limits those of Words.antt; docs/REFUSALS.md and docs/varan.1
-give the same limits, and README.md and they name no other option. crates.txt: each crate stands after those that it uses; docs/ARCHITECTURE.md names each.
-docs/REFUSALS.md: no cure is empty.
+docs/varan.1: its options are those of nv_command/specs/Simple.antt, command by command, its limits those of Words.antt; docs/REFUSALS.md
+gives the same limits, and README.md and it name no other option. Each page that README.md lists is there, and each page of docs/ is listed. crates.txt: each crate stands after those that it uses; docs/ARCHITECTURE.md names each.
+docs/REFUSALS.md: no cure is empty. The pages that a user reads first have no line of more than 200 characters.
 """
 import os
 import re
 import sys
 
+MANUAL = "docs/varan.1"
 ROOT = os.path.dirname(os.path.dirname(os.path.abspath(__file__)))
+# the pages that a user reads first, and how long their lines are at most
+FIRST = ("README.md", "CHANGELOG.md", *(f"docs/{it}" for it in ("TUTORIAL.md", "GUESTS.md", "SCRIPT.md", "REPORT.md", "RULES.md", "REFUSALS.md", "TRACES.md", "INSPECT.md", "PARTING.md", "varan.1")))
+MOST = 200
 COMMANDS = ("run", "record", "replay", "inspect", "rules", "asm", "gen")
 # what stands on a page for another program's option
-OTHERS = {"help", "version", "anew"}
+OTHERS = {"help", "version", "anew", "program"}
 
 
 def read(path):
@@ -24,12 +28,16 @@ def digits(text):
     return text.replace(",", "")
 
 
-def table_of(page):
-    """Each option's row: (its commands, from, to, usually)."""
-    rows = {}
-    for it in re.finditer(r"(?m)^\| `--(\w+)` \| ([^|]*) \| ([^|]*?) ?\| ([^|]*?) ?\| ([^|]*?) ?\|", page):
-        rows[it.group(1)] = (tuple(it.group(2).split(", ")), it.group(3).strip(), it.group(4).strip(), it.group(5).strip())
-    return rows
+def options_in(manual):
+    """Each option of the manual page: (its commands, from, to, default)."""
+    options = {}
+    for name, lines in re.findall(r"(?m)^\.It Fl -(\w+)\b.*\n((?:(?!\.It |\.El).*\n)*)", manual):
+        text = " ".join(lines.split())
+        commands = re.match(r"For ([\w, ]+)\.", text)
+        limits = re.search(r"From ([\d,]+) to ([\d,]+)(?: less the length)?(?:, default ([\d,]+))?\.", text)
+        low, high, usual = limits.groups() if limits else ("", "", "")
+        options[name] = (tuple(commands[1].split(", ")) if commands else (), low, high, usual or "")
+    return options
 
 
 def options_by_command(specs):
@@ -49,32 +57,34 @@ def limits_in(specs):
 
 
 def options(wrong):
-    rows = table_of(read("docs/OPTIONS.md"))
+    rows = options_in(read(MANUAL))
     by_command = options_by_command(read("crates/nv_command/specs/Simple.antt"))
     for name in sorted({*rows, *(one for found in by_command.values() for one in found)}):
         of = tuple(it for it in COMMANDS if name in by_command[it])
         if name not in rows or rows[name][0] != of:
-            wrong.append(f"docs/OPTIONS.md: --{name} is an option of {', '.join(of) or 'no command'}")
+            wrong.append(f"{MANUAL}: --{name} is an option of {', '.join(of) or 'no command'}")
     for name, (least, most, usual) in limits_in(read("crates/nv_command/specs/Words.antt")).items():
-        _, low, high, usually = rows.get(name, ("", "", "", ""))
-        if (digits(low), digits(high)) != (least, most) or usual and digits(usually) != usual:
-            wrong.append(f"docs/OPTIONS.md: --{name} is from {least} to {most}, usually {usual or 'none'}, by nv_command/specs/Words.antt")
-    refusals, manual = read("docs/REFUSALS.md"), read("docs/varan.1")
-    for name, (_, low, high, usually) in rows.items():
-        if low and high[-1:].isdigit() and low != "0" and f"`--{name}` from {low} to {high}" not in refusals:
+        _, low, high, default = rows.get(name, ("", "", "", ""))
+        if (digits(low), digits(high)) != (least, most) or usual and digits(default) != usual:
+            wrong.append(f"{MANUAL}: --{name} is from {least} to {most}, default {usual or 'none'}, by nv_command/specs/Words.antt")
+    refusals = read("docs/REFUSALS.md")
+    for name, (_, low, high, _) in rows.items():
+        if low and low != "0" and f"`--{name}` from {low} to {high}" not in refusals:
             wrong.append(f"docs/REFUSALS.md doesn't say: `--{name}` from {low} to {high}")
-        said = re.search(rf"(?m)^\.It Fl -{name}\b.*\n((?:(?!\.It |\.El).*\n)*)", manual)
-        text = " ".join(said.group(1).split()) if said else ""
-        if not said and not re.search(rf"Fl -{name}\b", manual):
-            wrong.append(f"docs/varan.1 has no --{name}")
-        if said and low and low != "0" and high[-1:].isdigit() and name != "dump":
-            if f"{low} to {high}" not in text or usually[:1].isdigit() and f"usually {usually}" not in text:
-                wrong.append(f"docs/varan.1 doesn't say of --{name}: {low} to {high}, usually {usually}")
-    for path in ("README.md", "docs/REFUSALS.md", "docs/varan.1"):
+    for path in ("README.md", "docs/REFUSALS.md", MANUAL):
         for name in sorted(set(re.findall(r"--(\w+)|\bFl -(\w+)", read(path)))):
             name = name[0] or name[1]
             if name not in rows and name not in OTHERS:
-                wrong.append(f"{path} names --{name}, which docs/OPTIONS.md hasn't")
+                wrong.append(f"{path} names --{name}, which {MANUAL} hasn't among its options")
+
+
+def listed(wrong):
+    """The pages that the last table of README.md lists are those of docs/."""
+    table = read("README.md").partition("\n## Pages\n")[2]
+    names = {it for row in re.findall(r"(?m)^\| ([^|]*) \|", table) for it in re.findall(r"[A-Z]{3,}|varan\.1", row)}
+    there = {it.removesuffix(".md") for it in os.listdir(f"{ROOT}/docs") if it.endswith((".md", ".1"))}
+    for name in sorted(names ^ there):
+        wrong.append(f"README.md lists {name}, which isn't there" if name in names else f"README.md doesn't list docs/{name}")
 
 
 def crates(wrong):
@@ -94,11 +104,18 @@ def cures(wrong):
             wrong.append(f"docs/REFUSALS.md says nothing to do: {line.split('|')[1].strip()}")
 
 
+def long_lines(wrong):
+    for path in FIRST:
+        wrong += [f"{path}:{at}: a line of {len(line)} characters" for at, line in enumerate(read(path).split("\n"), 1) if len(line) > MOST]
+
+
 if __name__ == "__main__":
     wrong = []
     options(wrong)
+    listed(wrong)
     crates(wrong)
     cures(wrong)
+    long_lines(wrong)
     if wrong:
         sys.exit("\n".join(f"pages: {it}" for it in wrong))
-    print("pages: options, limits, crates and cures stand as the code has them")
+    print("pages: options, limits, pages, crates and cures stand as the code has them")

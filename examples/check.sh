@@ -1,7 +1,7 @@
 #!/usr/bin/env bash
 # Runs the examples but those of guests/, and compares: the assembler texts hello, service and server with the reports of expected/, and the server in C with
 # what its clients got under Linux (server/expected); gives the program files and outputs of the host that fail; does the commands of
-# docs/TUTORIAL.md and docs/PARTING.md; and has docs/varan.1 formatted.
+# docs/TUTORIAL.md, PARTING.md, TRACES.md, REFUSALS.md, SCRIPT.md, INSPECT.md and GUESTS.md; tries the scripts of this folder; and has docs/varan.1 formatted.
 # check.sh [PROGRAM]: crates/varan/out/varan where no program is named.
 # It wants jq, cc and groff (Debian: jq, gcc, groff-base). What wants one that isn't there is left out, and a line with `left out` tells it.
 # Status: 0 where nothing differs, 1 where something does, 2 where the program isn't built.
@@ -420,6 +420,118 @@ if has groff groff-base "the form of docs/varan.1"; then
         wrong=$((wrong + 1))
     fi
 fi
+
+# ---- pages that need more of the host, and the scripts of this folder
+
+# told STATUS EXPECTED COMMAND..: what a script of this folder prints is the file EXPECTED, and its status this.
+told() {
+    local wanted=$1 expected=$2 status=0
+    shift 2
+    rows=$((rows + 1))
+    "$@" >"$work/told" || status=$?
+    if ! diff "$expected" "$work/told"; then
+        echo "check.sh: other text than $expected: $*"
+        wrong=$((wrong + 1))
+    elif [ "$status" != "$wanted" ]; then
+        echo "check.sh: status $status in place of $wanted: $*"
+        wrong=$((wrong + 1))
+    fi
+}
+
+# digits FILE: its bytes as hexadecimal digits.
+digits() {
+    od -An -v -tx1 "$1" | tr -d ' \n'
+}
+
+for it in TRACES REFUSALS SCRIPT INSPECT; do
+    page "$it.md"
+done
+if has riscv64-unknown-elf-gcc gcc-riscv64-unknown-elf docs/GUESTS.md && has qemu-riscv32 qemu-user docs/GUESTS.md; then
+    page GUESTS.md
+fi
+
+# script.py: four clients by their bytes, as strace saw them and as they were captured; the server's script of its files; and a script as text
+mkdir "$work/sent"
+printf 'GET /a HTTP/1.0\r\n\r\n' >"$work/sent/1"
+printf 'GET /b HTTP/1.1\r\nHost: example.org\r\nConnection: close\r\n\r\n' >"$work/sent/2"
+: >"$work/sent/3"
+printf 'BAD\xff\0\r\n\r\n' >"$work/sent/4"
+{
+    echo varan-script 3
+    for client in 1 2 3 4; do
+        echo "connect 8123 $(digits "$work/sent/$client")"
+    done | sed 's/ $//'
+} >"$work/clients"
+cat >"$work/as_text" <<'END'
+varan-script 3
+connect 8123 "GET /a HTTP/1.0\r\n\r\n"
+connect 8123 "GET /b HTTP/1.1\r\nHost: example.org\r\nConnection: close\r\n\r\n"
+connect 8123 ""
+connect 8123 "BAD\xff\x00\r\n\r\n"
+END
+told 0 "$work/clients" "$here/script.py" --client 8123 "$work/sent/1" --client 8123 "$work/sent/2" --client 8123 "$work/sent/3" --client 8123 "$work/sent/4"
+told 0 "$work/clients" "$here/script.py" --strace "$here/captures/strace"
+told 0 "$work/clients" "$here/script.py" --capture "$here/captures/tshark"
+told 0 "$work/as_text" "$here/script.py" --text "$work/clients"
+# a text that strace cut, and a capture that lacks the first bytes of a client
+sed 's/", 8192/"..., 8192/' "$here/captures/strace" >"$work/cut_short"
+told 1 /dev/null "$here/script.py" --strace "$work/cut_short" 2>/dev/null
+grep -v '474554202f622048' "$here/captures/tshark" >"$work/lacking"
+told 1 /dev/null "$here/script.py" --capture "$work/lacking" 2>/dev/null
+# the server's script, of the files that its lines have
+cd "$here/server"
+mkdir "$work/files"
+client=0
+options=(--arg 8080)
+while read -r word name bytes; do
+    if [ "$word" = file ] || [ "$word" = connect ]; then
+        place=$work/files/$name
+        [ "$word" = file ] || place=$work/files/client_$((++client))
+        printf '%b' "$(sed 's/../\\x&/g' <<<"$bytes")" >"$place"
+        [ "$word" = file ] && options+=(--file "$place") || options+=(--client "$name" "$place")
+    fi
+done <scripts/clients
+grep -v '^#' scripts/clients >"$work/bare"
+told 0 "$work/bare" "$here/script.py" "${options[@]}"
+
+# explain.py: a refusal with its row, every cause that the manual page has, and one that isn't there
+cat >"$work/overlap" <<'END'
+  Versions: segments 1 and 2 share an address
+      do: mend the linker file
+END
+told 0 "$work/overlap" "$here/explain.py" 'varan: input hi: overlap 1 2'
+causes=(long 'line 1 form' 'line 3 word' 'line 3 shape' 'line 3 range' 'line 3 twice' 'line 3 long' 'line 3' empty 'too long' count 'code 3' 'jump 3' 'scratch 3' 'offset 3' 'zero 3'
+    'shift 3' 'no return' 'line 3 operand' 'line 3 label' 'line 3 far' 'line 3 mnemonic' short magic class type machine flags header interpreted 'outside 3' 'overlap 1 2' entry 'no room 3'
+    'no room 0' arguments 'short 3' 'field 3' extra 'ended 3' 'shape 3' 'thread 3' 'reply 3')
+rows=$((rows + 1))
+if ! "$here/explain.py" 'varan: usage' 'varan: memory' 'varan: read x' "${causes[@]/#/varan: input x: }" >"$work/told"; then
+    grep 'have nothing on this' "$work/told"
+    echo "check.sh: the pages don't explain a refusal"
+    wrong=$((wrong + 1))
+fi
+rows=$((rows + 1))
+if "$here/explain.py" 'varan: input x: nothing known' >"$work/told"; then
+    echo "check.sh: explain.py explains what isn't there"
+    wrong=$((wrong + 1))
+fi
+
+# core.py: the line of inspect, the registers that expected/inspected_fault has, and the request that was read, at its place in the core file
+"$program" record --script scripts/clients built/server_1 >"$work/trace"
+head -n 1 expected/inspected_fault >"$work/at"
+told 0 "$work/at" "$here/core.py" --program "$program" "$work/core" --script scripts/clients --stamp 60 "$work/trace" built/server_2
+{
+    sed -n 's/^thread 100 pc //p' expected/inspected_fault
+    sed -n 's/^x 00000000 //p' expected/inspected_fault | tr ' ' '\n'
+} >"$work/registers"
+# four headers, the head of the note, and what stands before the registers
+od -An -v -tx4 -w4 -j$((52 + 4 * 32 + 20 + 72)) -N128 "$work/core" | tr -d ' ' >"$work/in_core"
+same "$work/registers" "$work/in_core"
+# the data are the third segment, from 0x12970 on, and lie on the file's fourth page
+printf 'GET\0/\0HTTP/1.0\r\n\r\n' >"$work/request"
+dd if="$work/core" of="$work/in_core" bs=1 skip=$((0x3000 + 0x12ab8 - 0x12970)) count=18 status=none
+same "$work/request" "$work/in_core"
+printf 'varan-script 1\n' >"$work/other"
+told 4 /dev/null "$here/core.py" --program "$program" "$work/core" --script scripts/clients --stamp 60 "$work/trace" "$work/other" 2>/dev/null
 
 echo "check.sh: $rows rows, $wrong wrong"
 [ "$wrong" = 0 ]

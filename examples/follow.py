@@ -29,6 +29,8 @@ INDENT = "    "
 COMPILER = "riscv64-unknown-elf-gcc"
 # What a command may want of the host: how its text shows that, the program, and the Debian packages.
 WANTED = [
+    (re.compile(r"\bgdb-multiarch\b"), "gdb-multiarch", "gdb-multiarch"),
+    (re.compile(r"\bdebug/"), COMPILER, "gcc-riscv64-unknown-elf, picolibc-riscv64-unknown-elf"),
     (re.compile(r"build\.sh|riscv64-unknown-elf-"), COMPILER, "gcc-riscv64-unknown-elf, picolibc-riscv64-unknown-elf"),
     (re.compile(r"\bjq\b|\bparting\.py\b|\$PARTING\b"), "jq", "jq"),
     (re.compile(r"\bxxd\b"), "xxd", "xxd"),

@@ -1,11 +1,13 @@
 #!/usr/bin/env python3
-"""Shows where a version parts from a recorded run: the event of the log and the version's own call one above the other, as strace prints calls, and what differs first.
+"""Shows where a version parts from a run: the event of the log and the version's own call one above the other, as strace prints calls, and what differs first.
 
+    parting.py [--program PROGRAM] --script S [options of varan run] V1 V2 ..
     parting.py [--program PROGRAM] --script S [--rules R] [--memory N] [--budget N] [--index I] TRACE VERSION
 
-The words but --program (usually `varan`) are those of `varan replay`. docs/PARTING.md says how it is read. Wants jq, for strace.jq.
+The arguments but --program (default `varan`) are those of `varan run`, or of `varan replay` with a trace. Of a run it makes the trace by itself, and shows each version.
+docs/PARTING.md says how it is read. Needs jq, for strace.jq.
 Status: 0 where the version is in step or exited, 1 where it parts or breaks, 2 for a faulty command line or where a program isn't there, the trace can't be read or a command takes
-longer than SECONDS; where `varan` refuses a file its line is told on standard error, and the status is that of `varan`.
+longer than SECONDS; where `varan` refuses a file its line goes to standard error, and the status is that of `varan`.
 """
 import argparse
 import dataclasses
@@ -14,7 +16,11 @@ import pathlib
 import struct
 import subprocess
 import sys
+import tempfile
 
+# The options that `run` and `replay` share, and those of `run` alone; and how a trace begins.
+OPTIONS, OF_RUN = ["--script", "--rules", "--memory", "--budget"], ["--calls", "--ring", "--threads"]
+MAGIC = b"VARANTR1"
 SECONDS = 120
 STRACE = pathlib.Path(__file__).resolve().parent / "strace.jq"
 UNLINKAT, OPENAT, WRITE, READV, WRITEV, BIND = 35, 56, 64, 65, 66, 200
@@ -136,10 +142,10 @@ def stop(why):
     sys.exit(2)
 
 
-def ended(words, given=None):
+def ended(words, given=None, is_text=True):
     """The command once it has ended; where it can't be begun or takes too long, a sentence in its place."""
     try:
-        return subprocess.run(words, input=given, stdout=subprocess.PIPE, text=True, timeout=SECONDS)
+        return subprocess.run(words, input=given, stdout=subprocess.PIPE, text=is_text, timeout=SECONDS)
     except FileNotFoundError:
         stop(f"there is no program {words[0]}" + (" (Debian: jq)" if words[0] == "jq" else " (--program names another)"))
     except OSError as error:
@@ -212,24 +218,67 @@ def event_of(trace, place):
         stop(f"{trace} has no whole event {place}")
 
 
-def main():
-    parser = argparse.ArgumentParser(description="Shows where a version parts from a recorded run.")
-    parser.add_argument("--program", default="varan")
-    options = ["--script", "--rules", "--memory", "--budget", "--index"]
-    for name in options:
-        parser.add_argument(name, required=name == "--script")
-    parser.add_argument("trace")
-    parser.add_argument("version")
-    words = parser.parse_args()
-    given = [word for name in options if getattr(words, name[2:]) is not None for word in (name, getattr(words, name[2:]))]
+def is_trace(path):
+    try:
+        with open(path, "rb") as file:
+            return file.read(len(MAGIC)) == MAGIC
+    except OSError:
+        return False
 
-    [line] = run([words.program, "replay", *given, words.trace, words.version])
+
+def recorded(program, given, versions, path):
+    """Records the run of these versions; where it is refused the line goes to standard error, and ends this."""
+    done = ended([program, "record", *given, *versions], is_text=False)
+    if not done.stdout.startswith(MAGIC):
+        print(done.stdout.decode(errors="replace"), end="", file=sys.stderr)
+        sys.exit(done.returncode or 1)
+    pathlib.Path(path).write_bytes(done.stdout)
+
+
+def arguments():
+    parser = argparse.ArgumentParser(description="Shows where a version parts from a run.")
+    parser.add_argument("--program", default="varan")
+    for name in [*OPTIONS, *OF_RUN, "--index"]:
+        parser.add_argument(name, required=name == "--script")
+    parser.add_argument("files", nargs="+", metavar="TRACE VERSION, or V1 V2 ..")
+    words = parser.parse_args()
+    with_trace = is_trace(words.files[0])
+    if with_trace and len(words.files) != 2:
+        parser.error("one version with a trace")
+    if any(getattr(words, name[2:]) is not None for name in (OF_RUN if with_trace else ["--index"])):
+        parser.error("--calls, --ring and --threads are for a run, --index for a trace")
+    return words, with_trace
+
+
+def given_of(words, names):
+    """The options with these names that stand on the command line."""
+    return [word for name in names if getattr(words, name[2:]) is not None for word in (name, getattr(words, name[2:]))]
+
+
+def main():
+    words, with_trace = arguments()
+    given = given_of(words, OPTIONS)
+    if with_trace:
+        return compare(words.program, given + given_of(words, ["--index"]), *words.files)
+    status = 0
+    with tempfile.TemporaryDirectory() as place:
+        trace = f"{place}/trace"
+        recorded(words.program, given + given_of(words, OF_RUN), words.files, trace)
+        for number, version in enumerate(words.files):
+            print(f"version {number}, {version}", flush=True)
+            status = max(status, compare(words.program, [*given, "--index", str(number)], trace, version))
+    return status
+
+
+def compare(program, given, trace, version):
+    """Shows where a version parts from a trace, and answers the status."""
+    [line] = run([program, "replay", *given, trace, version])
     end = line.split()[1:]
     if end[0] in ("in", "exited"):
         print(line)
         return 0
     seen = int(end[end.index("seen") + 1])
-    logged = event_of(words.trace, seen)
+    logged = event_of(trace, seen)
     print(f"event    {seen}, of thread {logged.tid}; rewrites before it: {end[-1]}")
     if end[0] == "fault":
         print("log     ", *printed([logged]))
@@ -237,7 +286,7 @@ def main():
         return 1
 
     def inspect(dump):
-        return run([words.program, "inspect", *given, "--stamp", str(seen + 1), *dump, words.trace, words.version])
+        return run([program, "inspect", *given, "--stamp", str(seen + 1), *dump, trace, version])
 
     own = State(inspect, logged.tid).call(logged.tid)
     of_log, of_version = printed([logged, own])

@@ -2,7 +2,7 @@
 # Builds the guests by the stock compiler and picolibc (Debian: gcc-riscv64-unknown-elf and picolibc-riscv64-unknown-elf), and says which of them
 # the repository has otherwise. It changes nothing there.
 # build.sh --write: puts them into built/, and their text into the rows of nv_rows.
-# Status 1: a guest is otherwise. 2: other words. 3: the compiler or the library isn't on this machine.
+# Status 1: a guest is otherwise. 2: other arguments. 3: the compiler or the library isn't on this machine.
 set -eu
 cd "$(dirname "$0")"
 if [ "$*" != "" ] && [ "$*" != --write ]; then
@@ -10,25 +10,14 @@ if [ "$*" != "" ] && [ "$*" != --write ]; then
     exit 2
 fi
 
-compiler=${CC_GUEST:-riscv64-unknown-elf-gcc}
-machine="-march=rv32ima -mabi=ilp32"
-if ! command -v "$compiler" >/dev/null; then
-    echo "build.sh: $compiler isn't on this machine" >&2
-    exit 3
-fi
-if ! echo '#include <stdio.h>' | "$compiler" --specs=picolibc.specs $machine -E - >/dev/null 2>&1; then
-    echo "build.sh: picolibc isn't on this machine" >&2
-    exit 3
-fi
 made=$(mktemp -d)
 trap 'rm -rf "$made"' EXIT
 
-# build NAME SOURCE..
+# build NAME SOURCE..: linked without line numbers (-s). A build that keeps them may be laid out otherwise: for addr2line and gdb take one by cc, and run that.
 build() {
     local name=$1
     shift
-    "$compiler" --specs=picolibc.specs -DPICOLIBC_INTEGER_PRINTF_SCANF $machine -std=gnu11 -Os -Wall -Wextra -ffunction-sections \
-        -fdata-sections -nostartfiles -T guest.ld -Wl,-z,max-page-size=4096 -s -o "$made/$name" start.S linux.c "$@"
+    ./cc -s "$@" -o "$made/$name"
 }
 
 build heap heap.c

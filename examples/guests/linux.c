@@ -1,19 +1,28 @@
 /*
- * What picolibc wants of its system, by Linux's calls for 32-bit RISC-V: the number in a7, the arguments in a0 to a5, the result in a0,
+ * What picolibc needs of its system, by Linux's calls for 32-bit RISC-V: the number in a7, the arguments in a0 to a5, the result in a0,
  * errors as -1 to -4,095 (syscall(2)). And the standard streams: output is written at each newline, or where the buffer is full.
+ *
+ * The linker leaves out what a program doesn't use. Where varan and Linux have a call for a function, that one is made. Where varan has none, the function
+ * does it by others, or answers as a system would that keeps no modes, owners, times and signals. Nothing here needs more of the C library than errno, so
+ * that a guest is laid out the same with and without what it doesn't use.
  */
 #include "linux.h"
+#include "unix.h"
 #include <errno.h>
 #include <fcntl.h>
 #include <stdint.h>
 #include <stdio.h>
+#include <sys/time.h>
+#include <sys/times.h>
 #include <sys/types.h>
+#include <time.h>
 #include <unistd.h>
 
-enum { UNLINKAT = 35, OPENAT = 56, CLOSE = 57, LLSEEK = 62, READ = 63, WRITE = 64, EXIT_GROUP = 94, BRK = 214 };
+enum { IOCTL = 29, UNLINKAT = 35, OPENAT = 56, CLOSE = 57, LLSEEK = 62, READ = 63, WRITE = 64, EXIT_GROUP = 94, KILL = 129, GETPID = 172 };
+enum { BRK = 214, RENAMEAT2 = 276, CLOCK_GETTIME64 = 403 };
 
-/* Linux's number for the working directory, its flags of openat and its numbers of errors, where picolibc's differ. */
-enum { LINUX_AT_FDCWD = -100 };
+/* Linux's number for the working directory, its flags of openat and its numbers of errors, where picolibc's differ; and numbers that picolibc hasn't. */
+enum { LINUX_AT_FDCWD = -100, LINUX_TCGETS = 0x5401, LINUX_CLOCK_REALTIME = 0, LINUX_CLOCK_MONOTONIC = 1 };
 enum { LINUX_O_CREAT = 0x40, LINUX_O_EXCL = 0x80, LINUX_O_TRUNC = 0x200, LINUX_O_APPEND = 0x400 };
 enum { LINUX_ENAMETOOLONG = 36, LINUX_ENOSYS = 38 };
 
@@ -150,4 +159,108 @@ void _exit(int status)
     flush(stderr);
     for (;;)
         call(EXIT_GROUP, status, 0, 0, 0, 0);
+}
+
+/* ---- time */
+
+/* The 64 bits of the nanoseconds are two words, of which the upper one is 0. */
+struct time64 {
+    int64_t seconds;
+    int32_t nanoseconds, upper;
+};
+
+int gettimeofday(struct timeval *now, void *zone)
+{
+    (void)zone;
+    struct time64 time;
+    if (answer(call(CLOCK_GETTIME64, LINUX_CLOCK_REALTIME, (long)&time, 0, 0, 0)) < 0)
+        return -1;
+    now->tv_sec = time.seconds;
+    now->tv_usec = time.nanoseconds / 1000;
+    return 0;
+}
+
+/* varan has no clock of a process: the time that went by stands for it. */
+clock_t times(struct tms *used)
+{
+    struct time64 time;
+    if (answer(call(CLOCK_GETTIME64, LINUX_CLOCK_MONOTONIC, (long)&time, 0, 0, 0)) < 0)
+        return -1;
+    clock_t ticks = time.seconds * CLOCKS_PER_SEC + time.nanoseconds / (1000000000 / CLOCKS_PER_SEC);
+    *used = (struct tms){.tms_utime = ticks};
+    return ticks;
+}
+
+/* ---- files */
+
+/* What can be opened is a file of 0644 with one name; its size is where its end is. */
+int stat(const char *restrict path, struct stat *restrict about)
+{
+    int fd = open(path, O_RDONLY);
+    if (fd < 0)
+        return -1;
+    off_t size = lseek(fd, 0, SEEK_END);
+    close(fd);
+    about->st_dev = about->st_ino = about->st_uid = about->st_gid = about->st_rdev = 0;
+    about->st_mode = S_IFREG | 0644;
+    about->st_nlink = 1;
+    about->st_size = size < 0 ? 0 : size;
+    about->st_atim.tv_sec = about->st_mtim.tv_sec = about->st_ctim.tv_sec = 0;
+    about->st_atim.tv_nsec = about->st_mtim.tv_nsec = about->st_ctim.tv_nsec = 0;
+    about->st_blksize = about->st_blocks = 0;
+    return 0;
+}
+
+/* There are no links. */
+int lstat(const char *restrict path, struct stat *restrict about)
+{
+    return stat(path, about);
+}
+
+int fchmod(int fd, mode_t mode)
+{
+    (void)fd;
+    (void)mode;
+    return 0;
+}
+
+int fchown(int fd, uid_t owner, gid_t group)
+{
+    (void)fd;
+    (void)owner;
+    (void)group;
+    return 0;
+}
+
+int utime(const char *path, const struct utimbuf *times)
+{
+    (void)path;
+    (void)times;
+    return 0;
+}
+
+/* ENOSYS under varan. */
+int rename(const char *old, const char *new)
+{
+    return answer(call(RENAMEAT2, LINUX_AT_FDCWD, (long)old, LINUX_AT_FDCWD, (long)new, 0));
+}
+
+/* A terminal is what answers TCGETS. */
+int isatty(int fd)
+{
+    char settings[64];
+    return answer(call(IOCTL, fd, LINUX_TCGETS, (long)settings, 0, 0)) == 0;
+}
+
+/* ---- processes */
+
+int getpid(void)
+{
+    return call(GETPID, 0, 0, 0, 0, 0);
+}
+
+/* ENOSYS under varan. picolibc's raise comes here for a signal that nobody handles. */
+int kill(int process, int signal)
+{
+    return answer(call(KILL, process, signal, 0, 0, 0));
 }

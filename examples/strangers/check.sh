@@ -118,5 +118,9 @@ beside bzip2 "$samples/sample1.ref" "exited exited" "$samples/sample1.bz2" -d
 beside bzip2 "$samples/sample2.ref" "exited exited" "$samples/sample2.bz2" -d
 beside bzip2 "$samples/sample3.ref" "exited exited" "$samples/sample3.bz2" -ds
 
+# the commands of README.md
+rows=$((rows + 1))
+../follow.py README.md "$program" || wrong=$((wrong + 1))
+
 echo "check.sh: $rows comparisons, $wrong wrong"
 [ "$wrong" = 0 ]

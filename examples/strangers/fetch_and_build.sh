@@ -7,7 +7,6 @@ set -eu
 cd "$(dirname "$0")"
 
 compiler=${CC_GUEST:-riscv64-unknown-elf-gcc}
-machine="-march=rv32ima -mabi=ilp32"
 mirror=${DEBIAN_MIRROR:-http://deb.debian.org/debian}
 keys=/usr/share/keyrings/debian-archive-keyring.gpg
 lua=5.4.4-3+deb12u1
@@ -22,7 +21,7 @@ for tool in apt-get dpkg-source patch "$compiler"; do
     command -v "$tool" >/dev/null || missing "$tool isn't on this machine"
 done
 [ -e "$keys" ] || missing "the package debian-archive-keyring isn't on this machine"
-echo '#include <stdio.h>' | "$compiler" --specs=picolibc.specs $machine -E - >/dev/null 2>&1 || missing "picolibc isn't on this machine"
+echo '#include <stdio.h>' | "$compiler" --specs=picolibc.specs -E - >/dev/null 2>&1 || missing "picolibc isn't on this machine"
 
 # apt WORD..: apt-get with a list of sources and a state of its own.
 apt() {
@@ -50,12 +49,11 @@ unpack() {
     fi
 }
 
-# build PROGRAM WORD..: with these words for the compiler.
+# build PROGRAM ARGUMENT..: with these arguments for the compiler, and with a printf that has floating point.
 build() {
     local program=$1
     shift
-    "$compiler" --specs=picolibc.specs $machine -std=gnu11 -Os -ffunction-sections -fdata-sections -nostartfiles -T ../guests/guest.ld \
-        -Wl,-z,max-page-size=4096 -s -include more_calls.h -o "out/$program" ../guests/start.S ../guests/linux.c more_calls.c "$@"
+    ../guests/cc -s -w -DPICOLIBC_DOUBLE_PRINTF_SCANF -include unix.h -o "out/$program" "$@"
 }
 
 # sources FOLDER NAME..: the C files of these names.

@@ -1,4 +1,4 @@
-/* Calls that programs for Unix make and that picolibc's headers leave out. Every source is compiled with this one before it. */
+/* Functions of Unix that linux.c has and picolibc's headers leave out: `cc -include unix.h` puts them before every source of a program that needs them. */
 #ifndef __ASSEMBLER__
 #include <sys/stat.h>
 #include <utime.h>

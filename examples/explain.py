@@ -1,0 +1,98 @@
+#!/usr/bin/env python3
+"""Explains a refusal of `varan`: what it means and what to do, by the tables of docs/REFUSALS.md and docs/ASSEMBLER.md.
+
+    explain.py 'varan: input hi: no room 0'     explains this line
+    varan .. | explain.py                       passes everything on, and explains a refusal on standard error
+
+Status: 0 where there was nothing to explain or all was explained, 1 where the pages have no row for a refusal.
+"""
+import pathlib
+import re
+import sys
+
+DOCS = pathlib.Path(__file__).resolve().parent.parent / "docs"
+REFUSAL = re.compile(r"varan: (?:input (?P<file>.*): (?P<cause>.*)|(?P<line>usage|memory|read) ?.*)")
+# In a cause of the pages these letters stand for numbers.
+NUMBERS = "NIAB"
+
+
+def sections(page):
+    """Each heading of a page with its lines."""
+    parts = re.split(r"(?m)^#+ (.*)\n", (DOCS / page).read_text(encoding="utf-8"))
+    return list(zip(parts[1::2], (part.split("\n") for part in parts[2::2])))
+
+
+def rows(lines):
+    """The rows of a section's tables, without their heads."""
+    cells = [[cell.strip() for cell in line.strip("|").split(" | ")] for line in lines if line.startswith("| ")]
+    return [row for row in cells if row[-1] != "What to do"]
+
+
+def numbers_of(pattern, cause):
+    """The numbers that the letters of a page's cause stand for, or None where it is another cause."""
+    if pattern == cause:
+        return {}
+    form = re.sub(r"\\?[%s]\b" % NUMBERS, lambda it: rf"(?P<{it.group()[-1]}>\d+)", re.escape(pattern))
+    found = re.fullmatch(form, cause)
+    return found and found.groupdict()
+
+
+def causes():
+    """Each row of a cause: the kind of file, the cause, its meaning and its cure."""
+    for heading, lines in sections("REFUSALS.md"):
+        for row in rows(lines):
+            if len(row) == 3 and row[0].startswith("`") and not row[0].startswith("`varan:"):
+                yield re.sub(r" \(.*", "", heading), row[0].strip("`"), row[1], row[2]
+    for heading, lines in sections("ASSEMBLER.md"):
+        if heading == "Why a text is refused":
+            for row in rows(lines):
+                yield "Assembler texts", f"line N {row[0].strip('`')}", row[1], row[2]
+
+
+def of_cause(cause):
+    found = []
+    for kind, pattern, means, cure in causes():
+        numbers = numbers_of(pattern, cause)
+        if numbers is not None:
+            means = re.sub(r"\b[%s]\b" % NUMBERS, lambda it: numbers.get(it.group(), it.group()), means)
+            found += [f"  {kind}: {means}", f"      do: {cure}"]
+    return found
+
+
+def of_line(word):
+    """What the section of a line says that has no cause."""
+    for heading, lines in sections("REFUSALS.md"):
+        if heading.startswith(f"`varan: {word}"):
+            table = [text for where, cure in rows(lines) for text in (f"  where {where}", f"      do: {cure}")]
+            return table + ["  " + line for line in lines if line.strip() and not line.startswith("|")]
+    return []
+
+
+def explained(line):
+    """The lines that explain a refusal, none where the pages have nothing; None where the line is no refusal."""
+    refusal = REFUSAL.fullmatch(line.rstrip("\n"))
+    if not refusal:
+        return None
+    return of_cause(refusal["cause"]) if refusal["cause"] else of_line(refusal["line"])
+
+
+def passed_on():
+    """The lines of standard input, each of which goes on to standard output as it is."""
+    for line in sys.stdin.buffer:
+        sys.stdout.buffer.write(line)
+        sys.stdout.buffer.flush()
+        yield line.decode(errors="replace")
+
+
+def main():
+    status = 0
+    for line in sys.argv[1:] or passed_on():
+        found = explained(line)
+        if found == [] or found is None and sys.argv[1:]:
+            found, status = [f"  explain.py: the pages have nothing on this: {line.rstrip()}"], 1
+        if found:
+            print("\n".join(found), file=sys.stdout if sys.argv[1:] else sys.stderr)
+    return status
+
+
+sys.exit(main())
