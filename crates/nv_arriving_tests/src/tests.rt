@@ -1,4 +1,5 @@
-use nv_arriving::{Arrival, ArrivingKernel, Outside};
+use nv_arrivals::Arrival;
+use nv_arriving::{ArrivingKernel, Outside};
 use nv_outside::OpenGate;
 use nv_replay::Account;
 use nv_served::SyscallKernel;
