@@ -75,14 +75,16 @@ build_mini_httpd() {
     done
 }
 
+# Of dash's patches the one for the bug alone is applied: another adds a file to its Makefile, and with it other calls.
 build_dash() {
     source_of dash
+    rm -rf out/dash_debian_source
+    cp -a out/dash_original_source out/dash_debian_source
+    patch -s -d out/dash_debian_source -p1 <out/dash_original_source/debian/patches/0009-dash-Fix-stack-overflow-from-infinite-recursion-in-s.patch
     local patched
     for patched in original debian; do
         (
             cd out/dash_${patched}_source
-            # the files that the patches make older than their sources are those that their authors made
-            touch aclocal.m4 && touch configure Makefile.in src/Makefile.in config.h.in
             ./configure --host=riscv32-linux-musl --disable-dependency-tracking --disable-fnmatch --disable-lineno \
                 CC="$cc" CC_FOR_BUILD=cc CFLAGS="${words[*]}"
             make -s
