@@ -10,7 +10,7 @@ cd "$(dirname "$0")"
 cc=$PWD/../guests/libc/cc
 mirror=${DEBIAN_MIRROR:-http://deb.debian.org/debian}
 keys=/usr/share/keyrings/debian-archive-keyring.gpg
-words=(-Os -ffunction-sections -fdata-sections -w)
+words=(-Os -ffunction-sections -fdata-sections -w "-ffile-prefix-map=$PWD/=")
 declare -A version=([mini-httpd]=1.30-3 [dash]=0.5.12-2 [sqlite3]=3.40.1-2+deb12u2 [expat]=2.5.0-1+deb12u2 [libmicrohttpd]=0.9.75-6)
 
 missing() {
@@ -117,7 +117,7 @@ build_expat() {
         local source=out/expat_${patched}_source/expat/lib
         compile "expat_$patched" -DHAVE_EXPAT_CONFIG_H -I"$PWD/out/include" -I"$PWD/$source" -I"$PWD" \
             "$source"/{xmlparse,xmltok,xmlrole}.c service.c answer_xml.c
-        link "expat_$patched" 262144 out/objects/expat_$patched/*.o
+        link "expat_$patched" 65536 out/objects/expat_$patched/*.o
     done
 }
 
