@@ -1,7 +1,7 @@
 #!/usr/bin/env bash
 # Fetches programs of Debian 12 that are for Linux and builds each of them unchanged, as its authors published it (_original) and with Debian's
 # patches (_debian), over the C library of ../guests/libc: out/NAME for varan, and out/NAME_linux, the same objects over the library as it is.
-# programs.sh [NAME..]: mini_httpd, dash, sqlite, expat, libmicrohttpd; all where none is named.
+# programs.sh [NAME..]: mini_httpd, dash, sqlite, expat, libmicrohttpd, lua5.4; all where none is named.
 # DEBIAN_MIRROR names another mirror than http://deb.debian.org/debian.
 # Status 3: a tool, the library or the network is missing, or the mirror has other versions of the packages by now.
 set -eu
@@ -11,7 +11,7 @@ cc=$PWD/../guests/libc/cc
 mirror=${DEBIAN_MIRROR:-http://deb.debian.org/debian}
 keys=/usr/share/keyrings/debian-archive-keyring.gpg
 words=(-Os -ffunction-sections -fdata-sections -w "-ffile-prefix-map=$PWD/=")
-declare -A version=([mini-httpd]=1.30-3 [dash]=0.5.12-2 [sqlite3]=3.40.1-2+deb12u2 [expat]=2.5.0-1+deb12u2 [libmicrohttpd]=0.9.75-6)
+declare -A version=([mini-httpd]=1.30-3 [dash]=0.5.12-2 [sqlite3]=3.40.1-2+deb12u2 [expat]=2.5.0-1+deb12u2 [libmicrohttpd]=0.9.75-6 [lua5.4]=5.4.4-3+deb12u1)
 
 missing() {
     echo "programs.sh: $1" >&2
@@ -137,12 +137,29 @@ build_libmicrohttpd() {
     done
 }
 
+build_lua5.4() {
+    source_of lua5.4
+    # Debian makes this header when it builds, for each of its machines.
+    mkdir -p out/include
+    echo '#define DEB_HOST_MULTIARCH "riscv32-linux-musl"' >out/include/lua5.4-deb-multiarch.h
+    local patched name
+    for patched in original debian; do
+        local sources=()
+        for name in lapi lauxlib lbaselib lcode lcorolib lctype ldblib ldebug ldo ldump lfunc lgc linit liolib llex lmathlib lmem loadlib lobject \
+            lopcodes loslib lparser lstate lstring lstrlib ltable ltablib ltm lua lundump lutf8lib lvm lzio; do
+            sources+=("out/lua5.4_${patched}_source/src/$name.c")
+        done
+        compile "lua5.4_$patched" -DLUA_USE_POSIX -I"$PWD/out/include" "${sources[@]}"
+        link "lua5.4_$patched" 262144 out/objects/lua5.4_$patched/*.o
+    done
+}
+
 for tool in apt-get dpkg-source patch make cc; do
     command -v "$tool" >/dev/null || missing "$tool isn't on this machine"
 done
 [ -e "$keys" ] || missing "the package debian-archive-keyring isn't on this machine"
 [ -e ../guests/libc/out/guest/lib/libguest.a ] || missing "the C library isn't built: ../guests/libc/build.sh"
-for name in "${@:-mini_httpd dash sqlite expat libmicrohttpd}"; do
+for name in "${@:-mini_httpd dash sqlite expat libmicrohttpd lua5.4}"; do
     for program in $name; do
         "build_$program"
     done
