@@ -121,7 +121,9 @@ static void processes(void)
     pid_t child = fork();
     if (child == 0) {
         kept = 7;
-        close(ends[0]);
+        for (int fd = 3; fd < 64; fd++)
+            if (fd != ends[1])
+                close(fd);
         if (fork() == 0) {
             write(ends[1], "first ", 6);
             _exit(4);

@@ -12,7 +12,7 @@ static struct descriptor descriptors[DESCRIPTORS] = {{.is_open = true}, {.is_ope
 
 struct descriptor *descriptor_of(long fd)
 {
-    return fd >= 0 && fd < DESCRIPTORS && descriptors[fd].is_open ? &descriptors[fd] : NULL;
+    return fd >= 0 && fd < DESCRIPTORS && descriptors[fd].is_open && !descriptors[fd].kept ? &descriptors[fd] : NULL;
 }
 
 struct descriptor *opened(long fd, enum kind kind)
@@ -54,6 +54,12 @@ static void keep_for_parent(long fd)
     descriptors[fd].is_inherited = false;
 }
 
+/* Whether a child keeps here what its parent has at another number: the child itself has nothing there. */
+static bool is_kept(long fd)
+{
+    return fd >= 0 && fd < DESCRIPTORS && descriptors[fd].kept;
+}
+
 /* At a child's end: what it opened is closed, and what it closed is its parent's again. */
 void return_descriptors(void)
 {
@@ -71,7 +77,7 @@ long close_descriptor(long fd)
 {
     struct descriptor *closed = descriptor_of(fd);
     if (!closed)
-        return KERNEL(SYS_close, fd);
+        return is_kept(fd) ? -EBADF : KERNEL(SYS_close, fd);
     if (closed->is_inherited && closed->kind != ANY_FILE) {
         closed->is_open = false;
         return 0;
@@ -150,6 +156,8 @@ static long copied(long fd, long number, bool closes_on_exec)
 
 long copy_onto(long fd, long number, long flags)
 {
+    if (is_kept(fd) || is_kept(number))
+        return is_kept(fd) ? -EBADF : -EBUSY;
     if (descriptor_of(fd) && number >= 0 && number < FIRST_SOCKET && number != fd)
         keep_for_parent(number);
     long result = KERNEL(SYS_dup3, fd, number, flags);
