@@ -1,7 +1,7 @@
 #!/usr/bin/env bash
-# Runs the examples but those of guests/, and compares: the assembler texts hello, service and server with the reports of expected/, and the server in C with
-# what its clients got under Linux (server/expected); gives the program files and outputs of the host that fail; does the commands of
-# docs/TUTORIAL.md, PARTING.md, TRACES.md, REFUSALS.md, SCRIPT.md, INSPECT.md and GUESTS.md; tries the scripts of this folder; and has docs/varan.1 formatted.
+# Runs the examples but those of guests/, and compares: the assembler texts hello, service and server with the reports of expected/, and the server in C and
+# two programs of Debian with what their clients got under Linux (server/expected, strangers/expected); gives the program files and outputs of the host that fail; does the
+# commands of docs/TUTORIAL.md, PARTING.md, TRACES.md, REFUSALS.md, SCRIPT.md, INSPECT.md and GUESTS.md; tries the scripts of this folder; and has docs/varan.1 formatted.
 # check.sh [PROGRAM]: crates/varan/out/varan where no program is named.
 # It wants jq, cc and groff (Debian: jq, gcc, groff-base). What wants one that isn't there is left out, and a line with `left out` tells it.
 # Status: 0 where nothing differs, 1 where something does, 2 where the program isn't built.
@@ -220,7 +220,7 @@ served() {
     if ! sed -n '/^connections /,$p' "$work/written" | cmp "$clients" -; then
         echo "check.sh: clients got something else than $clients: varan run $*"
         wrong=$((wrong + 1))
-    elif [ "$(sed -n '/^fates /,/^connections /p' "$work/written" | sed '1d;$d;s/\(fault load 100\) [0-9a-f]*/\1/')" != "$fates" ]; then
+    elif [ "$(sed -n '/^fates /,/^connections /p' "$work/written" | sed '1d;$d;s/\(fault [a-z]* 100\) [0-9a-f]*/\1/')" != "$fates" ]; then
         echo "check.sh: other fates: varan run $*"
         sed -n '/^fates /,/^connections /p' "$work/written"
         wrong=$((wrong + 1))
@@ -396,6 +396,22 @@ says 0 'replay exited 0 seen 115 rewrites 11' replay --script scripts/clients --
 row 0 expected/inspected_before inspect --script scripts/clients --stamp 59 --dump 76504 --length 18 "$work/trace" built/server_4
 row 0 expected/inspected_parted inspect --script scripts/clients --stamp 60 --dump 1048240 --length 208 "$work/trace" built/server_4
 row 0 expected/inspected_fault inspect --script scripts/clients --stamp 60 "$work/trace" built/server_2
+
+# Two programs of Debian, each with its bug and with Debian's patch: alone, and the patched one after the other.
+cd "$here/strangers"
+large=(--memory 4194304 --budget 100000000)
+led='0 exited 0 seen 334 led 0-334 rewrites 0'
+broke='0 fault load 100 seen 180 led 0-180 rewrites 0'
+served 0 expected/mini_httpd "$led" "${large[@]}" --script scripts/mini_httpd built/mini_httpd_debian
+served 1 expected/mini_httpd_alone "$broke" "${large[@]}" --script scripts/mini_httpd built/mini_httpd_original
+served 0 expected/mini_httpd "$broke"$'\n1 exited 0 seen 334 led 180-334 rewrites 0' "${large[@]}" \
+    --script scripts/mini_httpd built/mini_httpd_original built/mini_httpd_debian
+led='0 exited 0 seen 71 led 0-71 rewrites 0'
+broke='0 fault store 100 seen 40 led 0-40 rewrites 0'
+served 0 expected/expat "$led" "${large[@]}" --script scripts/expat built/expat_debian
+served 1 expected/expat_alone "$broke" "${large[@]}" --script scripts/expat built/expat_original
+served 0 expected/expat "$broke"$'\n1 exited 0 seen 71 led 40-71 rewrites 0' "${large[@]}" --script scripts/expat built/expat_original built/expat_debian
+cd "$here/server"
 
 if has jq jq "strace.jq"; then
     calls expected/calls --script scripts/clients built/server_1

@@ -1,0 +1,66 @@
+#!/usr/bin/env bash
+# Builds answers.c over the guests' library and over the library as it is, and compares what the first writes under varan with what the second
+# writes under Linux, by qemu-riscv32; and looks at a server that polls (polled.c), and at what a full stack and what can't be had end with.
+# check.sh [PROGRAM]: crates/varan/out/varan where no program is named.
+# Status: 0 where all is so, 1 where something isn't, 2 where the program isn't built, 3 where a tool or the library is missing.
+set -eu
+program=$(realpath -m "${1:-$(dirname "$0")/../../../crates/varan/out/varan}")
+cd "$(dirname "$0")"
+[ -x "$program" ] || { echo "check.sh: $program isn't built: cd crates/varan && rt run -- run --script data/s data/v"; exit 2; }
+for tool in qemu-riscv32 xxd; do
+    command -v $tool >/dev/null || { echo "check.sh: $tool isn't on this machine"; exit 3; }
+done
+work=$(mktemp -d)
+trap 'rm -rf "$work"' EXIT
+wrong=0
+
+# console WORD..: what the guest of the script writes; the report stands in the file report.
+console() {
+    "$program" run --memory 8388608 --script "$work/script" "$@" >"$work/report" || true
+    sed 1d "$work/report" | head -c "$(sed -n '1s/^output //p' "$work/report")"
+}
+
+# ends TEXT: the report has this line of its one version.
+ends() {
+    grep -q "^0 $1" "$work/report" || { echo "check.sh: not $1:"; sed -n '/^fates/,$p' "$work/report"; wrong=1; }
+}
+
+echo 'varan-script 1' >"$work/script"
+./cc -O1 -o "$work/guest" answers.c
+./cc --linux -O1 -o "$work/linux" answers.c
+(cd "$work" && qemu-riscv32 linux </dev/null) >"$work/expected"
+console "$work/guest" >"$work/written"
+cmp "$work/expected" "$work/written" || { diff "$work/expected" "$work/written"; wrong=1; }
+ends 'exited 0 '
+
+# a stack that is full, at the size that the program is linked with
+echo 'int deep(int n) { volatile char b[1000]; b[0] = 1; return n ? deep(n - 1) + b[0] : 0; } int main(void) { return deep(400) != 400; }' >"$work/deep.c"
+./cc --stack 262144 -o "$work/guest" "$work/deep.c"
+console "$work/guest" >"$work/written"
+ends 'fault store '
+./cc --stack 524288 -o "$work/guest" "$work/deep.c"
+console "$work/guest" >"$work/written"
+ends 'exited 0 '
+
+echo '#include <unistd.h>
+int main(void) { execl("/bin/true", "true", (char *)0); return 0; }' >"$work/exec.c"
+./cc -o "$work/guest" "$work/exec.c"
+[ "$(console "$work/guest")" = "guest: exec: there is no other program" ] || { echo "check.sh: exec says something else"; wrong=1; }
+ends 'exited 127 '
+
+# a server that polls: three clients, of whom one says nothing; it ends where none is left
+{
+    echo 'varan-script 3'
+    for text in 'hello' '' 'more bytes than are read at once'; do
+        echo "connect 90 $(printf %s "$text" | xxd -p -c 0)" | sed 's/ $//'
+    done
+} >"$work/script"
+./cc -o "$work/guest" polled.c
+console "$work/guest" >"$work/written"
+ends 'exited 0 '
+printf 'connections 3\nconnection 0 90 20\n7f000001:40001 HELLO\nconnection 1 90 15\n7f000001:40002 \nconnection 2 90 47\n%s\n' \
+    '7f000001:40003 MORE BYTES THAN ARE READ AT ONCE' >"$work/expected"
+sed -n '/^connections /,$p' "$work/report" | diff "$work/expected" - || { echo "check.sh: the clients of polled.c get something else"; wrong=1; }
+
+[ "$wrong" = 0 ] && echo "check.sh: the answers are Linux's"
+exit $wrong

@@ -1,0 +1,97 @@
+/* What the parts of this layer share: the calls that go to the kernel, the table of descriptors, and the parts of the other files. */
+#include <stdbool.h>
+#include <stddef.h>
+#include <stdint.h>
+
+/* ---- calls of the kernel */
+
+/* The call of this number: its result, or an error as -1 to -4,095. */
+long kernel_call(long number, long a, long b, long c, long d, long e, long f);
+
+#define KERNEL_SIX(n, a, b, c, d, e, f, ...) \
+    kernel_call((n), (long)(a), (long)(b), (long)(c), (long)(d), (long)(e), (long)(f))
+/* The same, where the arguments that are left out are 0. */
+#define KERNEL(...) KERNEL_SIX(__VA_ARGS__, 0, 0, 0, 0, 0, 0, 0)
+
+/* Every call of the C library comes here (calls.c). */
+long guest_call(long number, long a, long b, long c, long d, long e, long f);
+
+/* ---- descriptors (descriptors.c, sockets.c) */
+
+enum { DESCRIPTORS = 128, FIRST_SOCKET = 64, ONLY_DIRECTORY = -100 };
+enum kind { ANY_FILE, NEW_SOCKET, LISTENER, CONNECTION };
+
+struct descriptor {
+    bool is_open, closes_on_exec, waits_not;
+    bool is_inherited;   /* a child has it of its parent, and hasn't closed it */
+    enum kind kind;
+    unsigned short port; /* of a socket: its own */
+    unsigned short peer; /* of a connection: the client's */
+    int taken;           /* of a listener: the connection that a poll found, or 0 */
+    int kept;            /* the number by which a child keeps what it closed for its parent, or 0 */
+    uint64_t inode;
+};
+
+/* The descriptor of this number, or a null pointer where it isn't open. */
+struct descriptor *descriptor_of(long fd);
+/* A number that the kernel has given. */
+struct descriptor *opened(long fd, enum kind kind);
+
+long open_file(const char *path, long flags, long mode);
+long remove_file(const char *path, long flags);
+long close_descriptor(long fd);
+long copy_descriptor(long fd, long least, bool closes_on_exec);
+long copy_onto(long fd, long number, long flags);
+long make_pipe(int *ends, long flags);
+long control_descriptor(long fd, long command, long argument);
+long control_device(long fd, unsigned long request, int *argument);
+long file_status(long directory, const char *path, long flags, void *status);
+long can_access(const char *path);
+long change_directory(const char *path);
+long move_at(long number, long fd, void *bytes, long length, uint64_t offset);
+long send_file(long to, long from, int64_t *offset, long length);
+
+long new_socket(long domain, long type, long protocol);
+long bind_socket(long fd, const unsigned char *address, long length);
+long listen_at(long fd, long backlog);
+long accept_client(long fd, void *address, unsigned *length, long flags);
+long own_address(long fd, void *address, unsigned *length);
+long peer_address(long fd, void *address, unsigned *length);
+long socket_option(long fd, long level, long name, int *value, unsigned *length);
+long connect_socket(long fd);
+long on_connection(long fd);
+struct pollfd;
+long poll_descriptors(struct pollfd *asked, long count, const int64_t *timeout);
+long select_descriptors(long count, void *readable, void *writable, void *special, const int64_t *timeout);
+void not_quiet(void);
+
+/* A child begins, with its parent's descriptors; and ends. */
+void inherit_descriptors(void);
+void return_descriptors(void);
+
+/* ---- memory (memory.c) */
+
+long map_pages(long address, unsigned long length, long flags, long fd, unsigned long page);
+long unmap_pages(unsigned long address, unsigned long length);
+unsigned long heap_start(void);
+void *pages_at_end(unsigned long length);
+
+/* ---- processes and signals (processes.c, signals.c) */
+
+long process_number(void);
+long parent_number(void);
+long fork_process(void);
+_Noreturn void end_process(long status);
+_Noreturn void end_by_signal(int signal);
+/* Nothing will come any more: what Linux would wait for has no end, and the process ends. */
+_Noreturn void end_of_waiting(void);
+/* Says on descriptor 2 what can't be had, and ends the process. */
+_Noreturn void cannot(const char *what);
+long wait_for_child(long which, long process, void *info, long options);
+
+long set_handler(long signal, const void *new, void *old);
+long set_mask(long how, const uint64_t *set, uint64_t *old);
+long pending_signals(uint64_t *set);
+long wait_for_signal(const uint64_t *set);
+long send_signal(long process, long signal);
+void raise_signal(int signal);

@@ -1,0 +1,208 @@
+/*
+ * Sockets: addresses, options, and which of them can be read and written. A connection always can. A listener can be read while a client waits
+ * for it: the layer accepts one to see, and keeps it for the accept that follows.
+ */
+#include "guest.h"
+#include <errno.h>
+#include <poll.h>
+#include <string.h>
+#include <sys/select.h>
+#include <sys/socket.h>
+#include <sys/syscall.h>
+
+enum { FIRST_PEER = 40001, MOST_QUIET = 16 };
+
+/* How many connections were accepted, and how many polls in a row found nothing, with no other call between them. */
+static unsigned accepted, quiet;
+
+void not_quiet(void)
+{
+    quiet = 0;
+}
+
+long new_socket(long domain, long type, long protocol)
+{
+    if (domain != AF_INET)
+        return -EAFNOSUPPORT;
+    if ((type & 15) != SOCK_STREAM)
+        return -ESOCKTNOSUPPORT;
+    long fd = KERNEL(SYS_socket, domain, type, protocol);
+    if (fd < 0)
+        return fd;
+    struct descriptor *socket = opened(fd, NEW_SOCKET);
+    socket->waits_not = type & SOCK_NONBLOCK;
+    socket->closes_on_exec = type & SOCK_CLOEXEC;
+    return fd;
+}
+
+long bind_socket(long fd, const unsigned char *address, long length)
+{
+    long result = KERNEL(SYS_bind, fd, address, length);
+    if (result == 0)
+        descriptor_of(fd)->port = address[2] << 8 | address[3];
+    return result;
+}
+
+long listen_at(long fd, long backlog)
+{
+    long result = KERNEL(SYS_listen, fd, backlog);
+    if (result == 0)
+        descriptor_of(fd)->kind = LISTENER;
+    return result;
+}
+
+/* ---- addresses */
+
+/* 127.0.0.1 and this port, as much of it as there is room for. */
+static void write_address(unsigned port, void *address, unsigned *length)
+{
+    unsigned char whole[16] = {AF_INET, 0, port >> 8, port & 255, 127, 0, 0, 1};
+    if (!address || !length)
+        return;
+    memcpy(address, whole, *length < sizeof whole ? *length : sizeof whole);
+    *length = sizeof whole;
+}
+
+long own_address(long fd, void *address, unsigned *length)
+{
+    struct descriptor *socket = descriptor_of(fd);
+    if (!socket || socket->kind == ANY_FILE)
+        return socket ? -ENOTSOCK : -EBADF;
+    write_address(socket->port, address, length);
+    return 0;
+}
+
+long peer_address(long fd, void *address, unsigned *length)
+{
+    struct descriptor *socket = descriptor_of(fd);
+    if (!socket || socket->kind == ANY_FILE)
+        return socket ? -ENOTSOCK : -EBADF;
+    if (socket->kind != CONNECTION)
+        return -ENOTCONN;
+    write_address(socket->peer, address, length);
+    return 0;
+}
+
+/* ---- connections */
+
+/* Whether a client waits for this listener: one that does is kept. */
+static bool has_client(long fd, struct descriptor *listener)
+{
+    if (listener->taken)
+        return true;
+    long client = KERNEL(SYS_accept4, fd, 0, 0, 0);
+    listener->taken = client > 0 ? client : 0;
+    return client > 0;
+}
+
+long accept_client(long fd, void *address, unsigned *length, long flags)
+{
+    struct descriptor *listener = descriptor_of(fd);
+    if (!listener || listener->kind == ANY_FILE)
+        return listener ? -ENOTSOCK : -EBADF;
+    if (listener->kind != LISTENER || flags & ~(SOCK_NONBLOCK | SOCK_CLOEXEC))
+        return -EINVAL;
+    long client = listener->taken ? listener->taken : KERNEL(SYS_accept4, fd, 0, 0, 0);
+    if (client == -EAGAIN && !listener->waits_not)
+        end_of_waiting();
+    if (client < 0)
+        return client;
+    listener->taken = 0;
+    struct descriptor *connection = opened(client, CONNECTION);
+    connection->waits_not = flags & SOCK_NONBLOCK;
+    connection->closes_on_exec = flags & SOCK_CLOEXEC;
+    connection->port = listener->port;
+    connection->peer = FIRST_PEER + accepted++;
+    write_address(connection->peer, address, length);
+    return client;
+}
+
+/* 0 where the number is a connection. */
+long on_connection(long fd)
+{
+    struct descriptor *socket = descriptor_of(fd);
+    if (!socket || socket->kind == ANY_FILE)
+        return socket ? -ENOTSOCK : -EBADF;
+    return socket->kind == CONNECTION ? 0 : -ENOTCONN;
+}
+
+long connect_socket(long fd)
+{
+    struct descriptor *socket = descriptor_of(fd);
+    if (!socket || socket->kind == ANY_FILE)
+        return socket ? -ENOTSOCK : -EBADF;
+    return socket->kind == CONNECTION ? -EISCONN : -ECONNREFUSED;
+}
+
+long socket_option(long fd, long level, long name, int *value, unsigned *length)
+{
+    struct descriptor *socket = descriptor_of(fd);
+    if (!socket || socket->kind == ANY_FILE)
+        return socket ? -ENOTSOCK : -EBADF;
+    if (*length < sizeof *value)
+        return -EINVAL;
+    *value = level == SOL_SOCKET && name == SO_TYPE ? SOCK_STREAM : 0;
+    if (level == SOL_SOCKET && name == SO_ACCEPTCONN)
+        *value = socket->kind == LISTENER;
+    *length = sizeof *value;
+    return 0;
+}
+
+/* ---- poll and select */
+
+static short events_of(long fd, short wanted)
+{
+    struct descriptor *asked = descriptor_of(fd);
+    if (!asked)
+        return POLLNVAL;
+    if (asked->kind == LISTENER)
+        return has_client(fd, asked) ? wanted & (POLLIN | POLLRDNORM) : 0;
+    if (asked->kind == NEW_SOCKET)
+        return POLLHUP;
+    return wanted & (POLLIN | POLLRDNORM | POLLOUT | POLLWRNORM);
+}
+
+/* What a poll answers that found so many. One that finds nothing and has no end, and one too many that found nothing, end the service. */
+static long found(long count, const int64_t *timeout)
+{
+    quiet = count ? 0 : quiet + 1;
+    if (!count && (!timeout || quiet > MOST_QUIET))
+        end_of_waiting();
+    return count;
+}
+
+long poll_descriptors(struct pollfd *asked, long count, const int64_t *timeout)
+{
+    long ready = 0;
+    for (long i = 0; i < count; i++) {
+        asked[i].revents = asked[i].fd < 0 ? 0 : events_of(asked[i].fd, asked[i].events);
+        ready += asked[i].revents != 0;
+    }
+    return found(ready, timeout);
+}
+
+/* Leaves in a set the descriptors for which one of the events holds. Answers how many, or -EBADF. */
+static long keep_ready(long count, fd_set *set, short wanted)
+{
+    long ready = 0;
+    for (long fd = 0; set && fd < count; fd++) {
+        if (!FD_ISSET(fd, set))
+            continue;
+        short events = events_of(fd, wanted);
+        if (events & POLLNVAL)
+            return -EBADF;
+        if (events)
+            ready++;
+        else
+            FD_CLR(fd, set);
+    }
+    return ready;
+}
+
+long select_descriptors(long count, void *readable, void *writable, void *special, const int64_t *timeout)
+{
+    long reads = keep_ready(count, readable, POLLIN), writes = keep_ready(count, writable, POLLOUT), specials = keep_ready(count, special, 0);
+    if (reads < 0 || writes < 0 || specials < 0)
+        return -EBADF;
+    return found(reads + writes + specials, timeout);
+}
