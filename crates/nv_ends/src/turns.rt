@@ -1,0 +1,28 @@
+//! A turn as the law of runs counts it.
+ghost use Rattle.std.specs.Prelude.{ℕ};
+ghost use Rattle.nv_threads.specs.Threads.{Proc};
+ghost use Rattle.nv_room.specs.declared.view.View.{View};
+ghost use Rattle.nv_room.specs.Seats.{places_of};
+ghost use Rattle.nv_progress.specs.Runs.{ComesTo};
+ghost use Rattle.nv_workers.specs.Measure.{turns_left};
+ghost use Rattle.nv_workers.specs.Terms.{AreOfRoom, judges_of};
+ghost use Rattle.nv_workers.specs.Worker.{Works};
+ghost use Rattle.nv_ends.specs.Views.{HasView};
+
+use nv_outside::Gate;
+use nv_room::Room;
+use nv_served::SyscallKernel;
+use nv_workers::{Terms, Turn, Worker};
+
+/// A turn of a worker. It leaves fewer turns than it found, or the worker's seat waits for another, as its views before and after show.
+pub fn counted_turn<K: SyscallKernel, G: Gate>(
+    worker: &mut Worker<K>,
+    room: &Room<K>,
+    terms: &Terms<'_, G>,
+) -> Turn
+    requires works { (p : Proc) × Works (judges_of terms.now) room.now terms.now.most p worker.old }
+    requires terms { AreOfRoom room.now terms.now }
+    ensures { (v w : View K) → HasView worker.old.seat v → HasView worker.new.seat w → ComesTo (places_of room.now) (turns_left worker.old) (turns_left worker.new) v w }
+{
+    worker.turn(room, terms)
+}
