@@ -1,5 +1,5 @@
-//! What the room's rule and its steps say of progress: no state is stuck, and no seat gets on for ever.
-//! That a seat takes its next step is the host's part: nothing here says that a thread runs.
+//! What the room's rule and its steps say of progress: no state is stuck, no seat gets on for ever, and a run ends where turns come again and again.
+//! That they come is the host's part: nothing here says that a thread runs.
 #![tactic(auto)]
 
 mod laws;
