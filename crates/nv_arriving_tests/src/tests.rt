@@ -65,7 +65,13 @@ fn pairs_come(rt: HostRuntime) {
         (b'g', 2, b"".as_slice()),
     ] {
         for told in [false, true] {
-            let plain = one_by_one(alloc, kernel_from(&rt, alloc, first, told), &texts, None, &hands);
+            let plain = one_by_one(
+                alloc,
+                kernel_from(&rt, alloc, first, told),
+                &texts,
+                None,
+                &hands,
+            );
             let account = plain.expect(&rt, "a run");
             assert_eq!(&rt; account.kernel.history().len(), events);
             assert_eq!(&rt; account.kernel.output(), output);
