@@ -1,3 +1,5 @@
+ghost use Rattle.std.specs.Prelude.{◌≡◌, []};
+
 use nv_arrivals::Arrival;
 use nv_arriving::{ArrivingKernel, Outside};
 use nv_outside::OpenGate;
