@@ -1,0 +1,7 @@
+pub mod Source
+pub mod MemorySource
+pub mod Buffer
+pub mod Taking
+pub mod Incoming
+pub mod Transcript
+pub mod Live

@@ -1,0 +1,100 @@
+// What comes, read from a source.
+ghost use Rattle.std.specs.Prelude.{◌≡◌, ◌<◌, ◌++◌, ◌∷◌, [], ℕ, List, Some, None, IfOk, length, drop, true, false, is_some};
+ghost use Rattle.nv_arrivals.specs.Arrivals.{Input};
+ghost use Rattle.nv_live.specs.Incoming.{source_in, held_of, stop_of, TakesOn};
+ghost use Rattle.nv_live.specs.Taking.{Took, stop_by, IsFirst};
+
+use crate::buffer::Buffer;
+use crate::{Read, Source};
+use std::alloc::{AllocError, Global};
+
+/// Why nothing more comes.
+#[derive(Clone, Copy, Debug, PartialEq, Eq)]
+pub enum Stopped {
+    /// A read gave nothing.
+    Ended,
+    /// A read failed.
+    Unreadable,
+}
+
+/// What comes, read from a source.
+#[derive(Drop)]
+pub struct Incoming<I> {
+    source: I,
+    buffer: Buffer,
+    stopped: Option<Stopped>,
+}
+
+fn stop_by(read: Read) -> Option<Stopped>
+    ensures { result ≡ stop_by read }
+{
+    match read {
+        Read::Count(0) => Some(Stopped::Ended),
+        Read::Count(_) => None,
+        Read::Failed => Some(Stopped::Unreadable),
+    }
+}
+
+impl<I: Source> Incoming<I> {
+    pub fn make(alloc: Global, source: I) -> Result<Incoming<I>, AllocError>
+        ensures source { IfOk result (λ incoming. source_in incoming ≡ source) }
+        ensures held { IfOk result (λ incoming. held_of incoming ≡ []) }
+        ensures going { IfOk result (λ incoming. stop_of incoming ≡ None) }
+    {
+        Ok(Incoming {
+            source,
+            buffer: Buffer::make(alloc)?,
+            stopped: None,
+        })
+    }
+
+    pub fn stopped(&self) -> Option<Stopped>
+        ensures { result ≡ stop_of self.now }
+    {
+        self.stopped
+    }
+
+    // Reads once. Nothing more comes where that gives nothing.
+    fn read_more(&mut self)
+        requires going { stop_of self.old ≡ None }
+        requires empty { held_of self.old ≡ [] }
+        ensures took { TakesOn I.took I.faults self.old self.new (λ arrivals. arrivals) }
+        ensures some { stop_of self.new ≡ None → 0 < length (held_of self.new) }
+    {
+        let read = self.buffer.refill(&mut self.source);
+        self.stopped = stop_by(read);
+    }
+
+    /// Whether something is held, which is read where nothing was.
+    pub fn has_more(&mut self) -> bool
+        ensures took { TakesOn I.took I.faults self.old self.new (λ arrivals. arrivals) }
+        ensures some { result ≡ true → 0 < length (held_of self.new) }
+        ensures over { result ≡ false → is_some (stop_of self.new) ≡ true }
+        ensures stays { is_some (stop_of self.old) ≡ true → (result ≡ false) × (self.new ≡ self.old) }
+    {
+        if self.stopped.is_some() {
+            return false;
+        }
+        if self.buffer.is_empty() {
+            self.read_more();
+            return self.stopped.is_none();
+        }
+        true
+    }
+
+    /// The bytes that come first.
+    pub fn first(&self, alloc: Global) -> Result<Vec<u8>, AllocError>
+        requires { 0 < length (held_of self.now) }
+        ensures { IfOk result (λ bytes. IsFirst bytes.items (held_of self.now)) }
+    {
+        self.buffer.first(alloc)
+    }
+
+    /// Takes the bytes that come first.
+    pub fn pass(&mut self)
+        requires { 0 < length (held_of self.old) }
+        ensures took { (bytes : List ℕ) → IsFirst bytes (held_of self.old) → TakesOn I.took I.faults self.old self.new (λ arrivals. arrivals ++ Input bytes ∷ []) }
+    {
+        let _count = self.buffer.pass();
+    }
+}
