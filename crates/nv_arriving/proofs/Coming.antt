@@ -41,7 +41,7 @@ not_vain : (b : Bool) → (if b then false else true) ≡ false → b ≡ true
 not_vain true h = refl
 not_vain false h = cc
 
-taken_more : (o : Option Want) (xs more : List Arrival) → in_vain o xs ≡ false → taken_for o (xs ++ more) ≡ taken_for o xs
+pub taken_more : (o : Option Want) (xs more : List Arrival) → in_vain o xs ≡ false → taken_for o (xs ++ more) ≡ taken_for o xs
 taken_more None xs more h = refl
 taken_more (Some w) xs more h = until_more w xs more (not_vain (any_ends w xs) h)
 
@@ -67,7 +67,7 @@ ready_more g more c h =
 answer_more : (g : Stage) (more : List Arrival) (c : Request) → in_vain (wants g.here c) g.rest ≡ false → answer_next (with_more g more) c ≡ answer_next g c
 answer_more g more c h = ap (λ (s : Standing). serve s.state c) (ready_more g more c h)
 
-next_more : (g : Stage) (more : List Arrival) (c : Request) → in_vain (wants g.here c) g.rest ≡ false → serve_next (with_more g more) c ≡ with_more (serve_next g c) more
+pub next_more : (g : Stage) (more : List Arrival) (c : Request) → in_vain (wants g.here c) g.rest ≡ false → serve_next (with_more g more) c ≡ with_more (serve_next g c) more
 next_more g more c h =
     let r = ready_more g more c h in
     let d : drop (taken (with_more g more) c) (g.rest ++ more) ≡ drop (taken g c) g.rest ++ more =

@@ -5,3 +5,4 @@ pub mod Rooms
 pub mod Steps
 pub mod Staged
 pub mod Kept
+pub mod Doings

@@ -3,3 +3,4 @@ pub mod Arriving
 pub mod Reserved
 pub mod Views
 pub mod Kernel
+pub mod Doings

@@ -8,10 +8,12 @@
 mod arrivals;
 mod guests;
 mod kernel;
+mod laws;
 mod reserving;
 mod waiting;
 
 pub use arrivals::Outside;
 pub use guests::GuestSide;
 pub use kernel::ArrivingKernel;
+pub use laws::doings_go_on;
 pub use waiting::Want;

@@ -1,0 +1,20 @@
+// What holds of what is done outside.
+ghost use Rattle.std.specs.Prelude.{◌≡◌, ◌++◌, List};
+ghost use Rattle.nv_calls.specs.Calls.{Entry};
+ghost use Rattle.nv_calls.specs.Logs.{calls_of};
+ghost use Rattle.nv_script.specs.Scripts.{Setup};
+ghost use Rattle.nv_arrivals.specs.Arrivals.{Arrival};
+ghost use Rattle.nv_arriving.specs.Arriving.{first_stage, stage_after, Satisfied};
+ghost use Rattle.nv_arriving.specs.Doings.{doings, doings_from, takings};
+
+/// What a front of a log does outside is a front of what the log does; where no call waited in vain, what comes later changes nothing
+/// of it; and what comes is taken in once and in its order, up to what is left.
+#[tactic(auto, using(crate::proofs::Doings::doings_front, crate::proofs::Doings::doings_more, crate::proofs::Doings::doings_taken))]
+pub fn doings_go_on()
+    ensures front { (setup : Setup) (arrivals : List Arrival) (front back : List Entry)
+        → doings setup arrivals (front ++ back) ≡ doings setup arrivals front ++ doings_from (stage_after (first_stage setup arrivals) (calls_of front)) (calls_of back) }
+    ensures later { (setup : Setup) (arrivals more : List Arrival) (log : List Entry) → Satisfied (first_stage setup arrivals) (calls_of log)
+        → doings setup (arrivals ++ more) log ≡ doings setup arrivals log }
+    ensures taken { (setup : Setup) (arrivals : List Arrival) (log : List Entry)
+        → takings (doings setup arrivals log) ++ (stage_after (first_stage setup arrivals) (calls_of log)).rest ≡ arrivals }
+{}
