@@ -1,10 +1,11 @@
-// What holds of what is done outside.
-ghost use Rattle.std.specs.Prelude.{◌≡◌, ◌++◌, List};
+// What holds of what comes and of what is done outside.
+ghost use Rattle.std.specs.Prelude.{◌≡◌, ◌++◌, [], List};
 ghost use Rattle.nv_calls.specs.Calls.{Entry};
 ghost use Rattle.nv_calls.specs.Logs.{calls_of};
 ghost use Rattle.nv_script.specs.Scripts.{Setup};
 ghost use Rattle.nv_arrivals.specs.Arrivals.{Arrival};
-ghost use Rattle.nv_arriving.specs.Arriving.{first_stage, stage_after, Satisfied};
+ghost use Rattle.nv_sockets.specs.Serving.{start_of_script};
+ghost use Rattle.nv_arriving.specs.Arriving.{first_stage, stage_after, start_of_arrivals, Satisfied};
 ghost use Rattle.nv_arriving.specs.Doings.{doings, doings_from, takings};
 
 /// What a front of a log does outside is a front of what the log does; where no call waited in vain, what comes later changes nothing
@@ -17,4 +18,10 @@ pub fn doings_go_on()
         → doings setup (arrivals ++ more) log ≡ doings setup arrivals log }
     ensures taken { (setup : Setup) (arrivals : List Arrival) (log : List Entry)
         → takings (doings setup arrivals log) ++ (stage_after (first_stage setup arrivals) (calls_of log)).rest ≡ arrivals }
+{}
+
+/// Where nothing comes, a kernel goes on as that of the script does.
+#[tactic(auto, using(crate::proofs::Coming::same_start))]
+pub fn nothing_comes()
+    ensures { (setup : Setup) → start_of_arrivals setup [] ≡ start_of_script setup }
 {}

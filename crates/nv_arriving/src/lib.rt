@@ -15,5 +15,5 @@ mod waiting;
 pub use arrivals::Outside;
 pub use guests::GuestSide;
 pub use kernel::ArrivingKernel;
-pub use laws::doings_go_on;
+pub use laws::{doings_go_on, nothing_comes};
 pub use waiting::Want;
