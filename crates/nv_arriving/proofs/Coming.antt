@@ -1,9 +1,9 @@
 -- What comes later changes nothing of calls none of which waited in vain; and where nothing comes, all is as it was.
-use Rattle.std.proofs.Common.{◌≡◌, ◌∙◌, sym, ap, subst, refl, ℕ, zero, suc, ◌+◌, ◌<◌, ◌≤◌, Bool, true, false, ◌||◌, List, [], ◌∷◌, ◌++◌, length, take, drop, map, Option, Some, None, arith, append-nil, length-append}
+use Rattle.std.proofs.Common.{◌≡◌, ◌∙◌, sym, ap, subst, refl, ℕ, zero, suc, ◌≤◌, Bool, true, false, ◌||◌, List, [], ◌∷◌, ◌++◌, length, take, drop, map, Option, Some, None, arith}
 use Rattle.std.specs.Prelude.{slice_get, if◌then◌else◌}
 use Rattle.std.proofs.lemmas.Option.{same_Some}
-use Rattle.nv_calls.specs.Calls.{Request, Response, Entry}
-use Rattle.nv_calls.specs.Logs.{Start, calls_of, call_of}
+use Rattle.nv_calls.specs.Calls.{Request, Entry}
+use Rattle.nv_calls.specs.Logs.{calls_of}
 use Rattle.nv_script.specs.Scripts.{Setup}
 use Rattle.nv_served.specs.Learning.{GoesOn}
 use Rattle.nv_sockets.specs.Serving as sockets

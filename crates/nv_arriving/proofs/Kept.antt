@@ -1,5 +1,5 @@
 -- A kernel whose input arrives keeps what always holds, where more comes and where a call is served.
-use Rattle.std.proofs.Common.{◌≡◌, ◌∙◌, sym, ap, subst, refl, ℕ, zero, suc, ◌+◌, ◌<◌, ◌≤◌, Bool, true, false, List, [], ◌∷◌, ◌++◌, length, take, drop, map, Option, Some, None, arith, length-append, length-drop}
+use Rattle.std.proofs.Common.{◌≡◌, ◌∙◌, sym, ap, subst, refl, ℕ, zero, suc, ◌+◌, ◌≤◌, Bool, true, false, List, [], ◌∷◌, ◌++◌, length, take, drop, map, Option, arith, length-append, length-drop}
 use Rattle.std.proofs.lemmas.List.{length-map}
 use Rattle.nv_calls.specs.Calls.{Request, Entry}
 use Rattle.nv_calls.specs.Logs.{Start, calls_of, call_of}
@@ -12,15 +12,14 @@ use Rattle.nv_kernel.specs.Serving as kernel
 use Rattle.nv_kernel.proofs.Going.{count_is}
 use Rattle.nv_kernel.proofs.Crews.{few_clones_after}
 use Rattle.nv_kernel.proofs.Keeping.{map_more}
-use Rattle.nv_sockets.specs.Serving.{State, Served, serve}
+use Rattle.nv_sockets.specs.Serving.{State}
 use Rattle.nv_sockets.proofs.Going.{own_next}
-use Rattle.nv_arriving.specs.declared.waiting.Want.{Want}
 use Rattle.nv_arrivals.specs.declared.arrival.Arrival as code
 use Rattle.nv_arrivals.specs.Arrivals.{Arrival}
 use Rattle.nv_arriving.specs.Arrivals.{in_vain}
-use Rattle.nv_arriving.specs.Arriving.{Standing, Stage, wants, taken, ready_for, answer_next, serve_next, first_stage, stage_after, Satisfied, start_of_arrivals}
+use Rattle.nv_arriving.specs.Arriving.{Standing, Stage, wants, taken, ready_for, serve_next, first_stage, stage_after, Satisfied, start_of_arrivals}
 use Rattle.nv_arriving.specs.Kernel.{after, Grew}
-use Rattle.nv_arriving.proofs.Coming.{drop_front, taken_few, with_more, after_more, satisfied_last, satisfied_more, stage_last, goes_on}
+use Rattle.nv_arriving.proofs.Coming.{drop_front, taken_few, with_more, after_more, satisfied_last, satisfied_more, goes_on}
 use Rattle.nv_arrivals.specs.Views.{view as arrival_of}
 use Rattle.nv_arriving.proofs.Steps.{drop_map, take_map}
 use Rattle.nv_arriving.proofs.Sides.{crew_still, served_still}

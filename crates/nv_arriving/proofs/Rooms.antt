@@ -1,14 +1,14 @@
 -- The memory for what comes, as one after another arrives.
-use Rattle.std.proofs.Common.{◌≡◌, ◌≢◌, ◌∙◌, sym, ap, subst, refl, ℕ, zero, suc, ◌+◌, ◌-◌, ◌<◌, ◌≤◌, ◌==◌, ◌||◌, Bool, true, false, List, [], ◌∷◌, ◌++◌, length, Some, ◌⊎◌, inl, inr, ⊎_elim, arith, length-append}
-use Rattle.std.specs.Prelude.{slice_index, slice_set}
+use Rattle.std.proofs.Common.{◌≡◌, ◌≢◌, ◌∙◌, sym, ap, subst, refl, ℕ, suc, ◌+◌, ◌-◌, ◌<◌, ◌≤◌, ◌==◌, ◌||◌, Bool, true, false, List, [], ◌∷◌, ◌++◌, length, Some, ◌⊎◌, inl, inr, ⊎_elim, arith, length-append}
+use Rattle.std.specs.Prelude.{slice_index}
 use Rattle.std.proofs.lemmas.Bool.{cases_eq, cases_lt}
 use Rattle.std.proofs.lemmas.List.{length-set, get_or_append_left, get_or_push}
 use Rattle.nv_fs.specs.Reserved.{Disk}
-use Rattle.nv_sockets.specs.Sockets.{Link, Net}
+use Rattle.nv_sockets.specs.Sockets.{Net}
 use Rattle.nv_sockets.specs.Reserved.{Buffered}
-use Rattle.nv_sockets.specs.Coming.{connected, with_data, came_over, HasInput, HasPlaces}
+use Rattle.nv_sockets.specs.Coming.{connected, with_data, came_over, HasInput}
 use Rattle.nv_arrivals.specs.Arrivals.{Arrival, Input, InputEnd, ClientsEnd, Connect, Data, End}
-use Rattle.nv_arriving.specs.Reserved.{Room, input_bytes, connects, data_of, sends, HasKept, HasRoom, CanTakeIn}
+use Rattle.nv_arriving.specs.Reserved.{Room, input_bytes, connects, data_of, sends, HasRoom, CanTakeIn}
 use Rattle.nv_arriving.proofs.Sides.{bytes_first}
 
 -- ---- one, and the others

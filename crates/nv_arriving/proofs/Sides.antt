@@ -1,5 +1,5 @@
 -- What arrives changes of what the kernel holds only the input, the connections and what is over.
-use Rattle.std.proofs.Common.{◌≡◌, ◌∙◌, sym, ap, subst, refl, ℕ, zero, suc, ◌+◌, ◌<◌, ◌≤◌, Bool, true, false, List, [], ◌∷◌, ◌++◌, length, take, drop, map, Option, Some, None, arith, append-nil, append_assoc, length-append}
+use Rattle.std.proofs.Common.{◌≡◌, ◌∙◌, sym, ap, subst, refl, ℕ, ◌+◌, Bool, true, false, List, [], ◌∷◌, ◌++◌, length, Option, Some, None, arith, length-append}
 use Rattle.nv_calls.specs.declared.numbers.Syscall.{Syscall}
 use Rattle.nv_calls.specs.declared.numbers.Syscall.TheVariants as call
 use Rattle.nv_calls.specs.Calls.{Request}
@@ -9,7 +9,6 @@ use Rattle.nv_fs.specs.declared.open_file.Target.{Target}
 use Rattle.nv_fs.specs.declared.open_file.Target.TheVariants as target
 use Rattle.nv_fs.specs.States.{FileState, open_of}
 use Rattle.nv_fs.specs.Reserved.{Disk, Reserved, IsReserved, IsReservedOf, CanWrite}
-use Rattle.nv_kernel.specs.Crew.{Crew}
 use Rattle.nv_kernel.specs.Reserved.{can_answer, CanAnswer}
 use Rattle.nv_kernel.specs.Serving.{request_arg}
 use Rattle.std.specs.Prelude.{if◌then◌else◌}

@@ -1,16 +1,12 @@
 -- What a kernel answers and shows, by the stage after the calls served.
-use Rattle.std.proofs.Common.{◌≡◌, ◌∙◌, sym, ap, refl, ℕ, ◌+◌, ◌≤◌, Bool, true, List, [], ◌∷◌, ◌++◌, length, map, arith}
-use Rattle.std.specs.Global.{Vec}
-use Rattle.std.proofs.lemmas.List.{length-map}
+use Rattle.std.proofs.Common.{◌≡◌, ◌∙◌, ap, refl, Bool, true, List, [], ◌∷◌, ◌++◌, map}
 use Rattle.nv_calls.specs.Calls.{Request, Entry}
 use Rattle.nv_calls.specs.Logs.{calls_of, call_of, output_of}
-use Rattle.nv_script.specs.Scripts.{Setup, Incoming}
-use Rattle.nv_sockets.specs.Serving.{State, Served, serve, reply_of}
-use Rattle.nv_sockets.proofs.Going.{log_count, log_clones, own_next}
-use Rattle.nv_kernel.specs.Serving as kernel
+use Rattle.nv_script.specs.Scripts.{Setup}
+use Rattle.nv_sockets.specs.Serving.{reply_of}
 use Rattle.nv_kernel.proofs.Keeping.{map_more}
 use Rattle.nv_arrivals.specs.Arrivals.{Arrival}
-use Rattle.nv_arriving.specs.Arriving.{Standing, Stage, first_stage, stage_after, answer_next, serve_next, start_of_arrivals}
+use Rattle.nv_arriving.specs.Arriving.{Stage, first_stage, stage_after, answer_next, serve_next, start_of_arrivals}
 use Rattle.nv_arriving.proofs.Coming.{stage_last}
 
 pub output_is : (setup : Setup) (came : List Arrival) (log : List Entry) → output_of (start_of_arrivals setup came) log ≡ (stage_after (first_stage setup came) (calls_of log)).here.state.own.files.console

@@ -1,11 +1,11 @@
 -- How many arrivals a call takes in, by those that were looked at; and what grows.
-use Rattle.std.proofs.Common.{◌≡◌, ◌∙◌, sym, ap, subst, refl, ℕ, zero, suc, ◌+◌, ◌<◌, ◌≤◌, Bool, true, false, ◌||◌, List, [], ◌∷◌, ◌++◌, length, take, drop, map, Option, Some, None, arith, append-nil, append_assoc, length-append}
+use Rattle.std.proofs.Common.{◌≡◌, ◌∙◌, sym, ap, refl, ℕ, suc, ◌+◌, ◌≤◌, Bool, true, false, ◌||◌, List, [], ◌∷◌, ◌++◌, length, drop, Some, arith, append-nil, append_assoc}
 use Rattle.std.specs.Prelude.{if◌then◌else◌}
 use Rattle.nv_arriving.specs.declared.waiting.Want.{Want}
 use Rattle.nv_arrivals.specs.Arrivals.{Arrival}
-use Rattle.nv_arriving.specs.Arrivals.{ends, any_ends, until, taken_for, in_vain}
+use Rattle.nv_arriving.specs.Arrivals.{ends, any_ends, until, in_vain}
 use Rattle.nv_arriving.specs.Kernel.{after, Grew}
-use Rattle.nv_arriving.proofs.Coming.{drop_front, any_more}
+use Rattle.nv_arriving.proofs.Coming.{drop_front}
 
 -- none of the first ends the wait
 pub any_none : (w : Want) (xs ys : List Arrival) → any_ends w xs ≡ false → any_ends w (xs ++ ys) ≡ any_ends w ys

@@ -2,17 +2,16 @@
 use Rattle.std.specs.Prelude.{◌≡◌, ℕ, Bool, true, false, not, ◌&&◌, ◌==◌, nat_lt, nat_le, List, [], ◌∷◌, ◌++◌, length, take, drop, map, Option, Some, None, is_some, is_none, slice_index_or, slice_set, if◌then◌else◌}
 use Rattle.nv_calls.specs.declared.numbers.Syscall.{Syscall}
 use Rattle.nv_calls.specs.declared.numbers.Syscall.TheVariants as call
-use Rattle.nv_calls.specs.Calls.{Request, Entry}
+use Rattle.nv_calls.specs.Calls.{Request}
 use Rattle.nv_calls.specs.Limits.{MOST_VECTORS}
 use Rattle.nv_calls.specs.Logs.{Start}
 use Rattle.nv_calls.specs.Numbers.{syscall_of}
 use Rattle.nv_fs.specs.Waits.{waits_on_input}
 use Rattle.nv_script.specs.Scripts.{Setup}
-use Rattle.nv_kernel.specs.Serving as kernel
 use Rattle.nv_kernel.specs.Serving.{request_arg}
 use Rattle.nv_sockets.specs.declared.socket.Socket.{Socket}
 use Rattle.nv_sockets.specs.declared.socket.Socket.TheVariants.{Fresh, Bound, Listening, Connected}
-use Rattle.nv_sockets.specs.Sockets.{Net, socket_at, are_flags, free_place, next_at, link_at, input_of}
+use Rattle.nv_sockets.specs.Sockets.{Net, socket_at, are_flags, free_place, next_at, input_of}
 use Rattle.nv_sockets.specs.Coming.{connected, with_data}
 use Rattle.nv_sockets.specs.Serving.{State, Served, serve, first_state, reply_of, link_written}
 use Rattle.nv_arriving.specs.declared.waiting.Want.{Want}

@@ -1,14 +1,13 @@
 -- What a kernel whose input arrives keeps from call to call.
-use Rattle.std.specs.Prelude.{◌≡◌, ℕ, Bool, true, false, List, take, drop, length, ◌++◌, Option}
+use Rattle.std.specs.Prelude.{◌≡◌, Bool, false, List, take, drop, length, ◌++◌, Option}
 use Rattle.nv_calls.specs.Calls.{Request, Entry}
 use Rattle.nv_calls.specs.Logs.{calls_of}
 use Rattle.nv_script.specs.Scripts.{Setup}
 use Rattle.nv_kernel.specs.Kernel.{Spare, CanHold}
 use Rattle.nv_kernel.specs.Reserved as kernel
 use Rattle.nv_sockets.specs.Reserved.{CanSend}
-use Rattle.nv_arriving.specs.declared.waiting.Want.{Want}
 use Rattle.nv_arrivals.specs.Arrivals.{Arrival}
-use Rattle.nv_arriving.specs.Arrivals.{any_ends, in_vain}
+use Rattle.nv_arriving.specs.Arrivals.{in_vain}
 use Rattle.nv_arriving.specs.Arriving.{Stage, first_stage, stage_after, wants, taken}
 use Rattle.nv_arriving.specs.Reserved.{Room, CanTakeIn}
 

@@ -1,4 +1,4 @@
-use Rattle.std.proofs.Common.{◌≡◌, ◌∙◌, ap, refl, List, map, take, arith}
+use Rattle.std.proofs.Common.{◌∙◌, ap, refl, List, map, take, arith}
 use Rattle.nv_arrivals.specs.Arrivals.{Arrival}
 use Rattle.nv_arrivals.specs.Views.{view as arrival_of}
 use Rattle.nv_arriving.specs.Reserved.{input_bytes}

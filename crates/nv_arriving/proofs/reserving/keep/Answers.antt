@@ -1,4 +1,4 @@
-use Rattle.std.proofs.Common.{◌≡◌, ◌∙◌, sym, ap, subst, refl, ℕ, suc, ◌+◌, ◌-◌, ◌<◌, ◌≤◌, ◌++◌, ◌∷◌, [], List, length, map, arith, length-append}
+use Rattle.std.proofs.Common.{◌≡◌, ◌∙◌, sym, ap, subst, ℕ, suc, ◌-◌, ◌≤◌, ◌++◌, ◌∷◌, [], List, length, map, arith, length-append}
 use Rattle.std.specs.Prelude.{slice_index, vec_capacity}
 use Rattle.std.proofs.lemmas.List.{length-map}
 use Rattle.nv_kernel.proofs.Keeping.{map_more}

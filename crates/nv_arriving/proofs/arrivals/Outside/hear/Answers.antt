@@ -1,8 +1,8 @@
-use Rattle.std.proofs.Common.{◌≡◌, ◌∙◌, ap, sym, refl, [], ◌∷◌, ◌++◌, List, map, true}
+use Rattle.std.proofs.Common.{◌≡◌, ◌∙◌, ap, sym, refl, [], ◌∷◌, ◌++◌, List, map}
 use Rattle.nv_kernel.proofs.Keeping.{map_more}
 use Rattle.nv_arrivals.specs.Arrivals.{Arrival}
 use Rattle.nv_arriving.specs.Arrivals.{any_ends}
-use Rattle.nv_arriving.specs.Kernel.{after, Grew}
+use Rattle.nv_arriving.specs.Kernel.{after}
 use Rattle.nv_arrivals.specs.Views.{view as arrival_of}
 use Rattle.nv_arriving.proofs.Taken.{grew_same, grew_still, grew_more, after_more, any_last}
 use Rattle.nv_arriving.proofs.arrivals.Outside.hear.Given.{Over}

@@ -1,4 +1,4 @@
-use Rattle.std.proofs.Common.{◌≡◌, ◌∙◌, ◌≤◌, ap, sym, refl, List, length, map, drop, true, false, Some, arith}
+use Rattle.std.proofs.Common.{◌∙◌, ◌≤◌, ap, sym, List, length, map, drop, arith}
 use Rattle.std.proofs.lemmas.List.{length-map}
 use Rattle.nv_arrivals.specs.Arrivals.{Arrival}
 use Rattle.nv_arriving.specs.Arrivals.{any_ends, in_vain}

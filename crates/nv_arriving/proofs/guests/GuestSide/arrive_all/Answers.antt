@@ -1,8 +1,8 @@
-use Rattle.std.proofs.Common.{◌≡◌, ◌∙◌, ap, sym, subst, refl, ℕ, ◌+◌, ◌≤◌, ◌++◌, ◌∷◌, [], List, length, map, take, drop, arith}
+use Rattle.std.proofs.Common.{◌∙◌, ap, sym, subst, refl, ◌+◌, List, map, take, drop, arith}
 use Rattle.nv_arrivals.specs.Arrivals.{Arrival}
 use Rattle.nv_arrivals.specs.Views.{view as arrival_of}
 use Rattle.nv_arriving.specs.Arriving.{Standing, arrive, arrive_all}
-use Rattle.nv_arriving.specs.Reserved.{CanTakeIn, HasRoom}
+use Rattle.nv_arriving.specs.Reserved.{CanTakeIn}
 use Rattle.nv_arriving.specs.Views.{standing_of, room_of}
 use Rattle.nv_arriving.proofs.Rooms.{room_first, can_take}
 use Rattle.nv_arriving.proofs.Sides.{arrive_last, same_but_none, same_but_more}

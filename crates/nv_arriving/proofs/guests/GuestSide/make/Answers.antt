@@ -1,4 +1,4 @@
-use Rattle.std.proofs.Common.{◌≡◌, ◌∙◌, ap, false, Bool, List, map, true}
+use Rattle.std.proofs.Common.{◌∙◌, ap, false, Bool, map, true}
 use Rattle.nv_sockets.specs.Views.{incoming_of}
 use Rattle.nv_sockets.proofs.Begun.{Stated}
 use Rattle.nv_arriving.proofs.Staged.{all_true}

@@ -1,25 +1,19 @@
-use Rattle.std.proofs.Common.{◌≡◌, ◌∙◌, ◌≤◌, ap, sym, subst, refl, ℕ, ◌+◌, Bool, true, false, List, length, map, take, drop, Option, arith}
-use Rattle.std.specs.Prelude.{vec_len}
+use Rattle.std.proofs.Common.{◌≡◌, ◌∙◌, ◌≤◌, ap, sym, subst, refl, true, false, List, length, map, take, drop, arith}
 use Rattle.std.proofs.lemmas.List.{length-map}
 use Rattle.nv_calls.specs.Calls.{Entry, Request, entry, request}
-use Rattle.nv_calls.specs.Logs.{calls_of, Start}
 use Rattle.nv_calls.proofs.ShapeLaws.{shaped-few}
 use Rattle.nv_script.specs.Scripts.{Setup}
 use Rattle.nv_script.specs.Views.{setup_of}
 use Rattle.nv_served.specs.Learning.{GoesOn}
-use Rattle.nv_kernel.specs.Reserved.{crew_of}
-use Rattle.nv_kernel.specs.Crew.{Crew}
 use Rattle.nv_kernel.proofs.Keeping.{kept_reserved, kept_none}
 use Rattle.nv_arrivals.specs.Arrivals.{Arrival}
 use Rattle.nv_arriving.specs.Arrivals.{in_vain}
-use Rattle.nv_arriving.specs.Arriving.{Standing, Stage, wants, taken, first_stage, stage_after, Satisfied, start_of_arrivals}
-use Rattle.nv_arriving.specs.Kernel.{KernelState, CanServe, Grew}
+use Rattle.nv_arriving.specs.Arriving.{Standing, Stage, wants, taken, start_of_arrivals}
+use Rattle.nv_arriving.specs.Kernel.{KernelState}
 use Rattle.nv_arriving.specs.Reserved.{CanTakeIn}
 use Rattle.nv_arrivals.specs.Views.{view as arrival_of}
 use Rattle.nv_arriving.specs.Views.{standing_of, room_of}
 use Rattle.nv_arriving.proofs.Kept.{few_more, goes, staged, satisfied, sound_on, first_is}
-use Rattle.nv_arriving.proofs.Steps.{drop_map, take_map}
-use Rattle.nv_arriving.proofs.kernel.ArrivingKernelSyscallKernel.reserve.Given.{Over}
 use Rattle.nv_arriving.proofs.kernel.ArrivingKernelSyscallKernel.reserve.Goals as goal
 
 pub blank-requires : goal.blank-requires
