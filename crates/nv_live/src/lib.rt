@@ -10,6 +10,8 @@ mod incoming;
 mod live;
 mod memory_source;
 mod source;
+#[cfg(test)]
+mod tests;
 mod transcript;
 
 pub use incoming::Stopped;
