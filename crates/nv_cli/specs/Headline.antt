@@ -3,7 +3,7 @@
 
 -- The clause `answers`: the call came to an outcome that is due, the counts of the source show it, and it said so.
 use Rattle.nv_jobs.specs.Due.{Answers}
--- What a call may come to: usage, want of memory, a file not read, a file not accepted, a report, a command's text, a summary, a trace, a rehearsal, what an inspection shows.
+-- What a call may come to: usage, want of memory, a file not read, a file not accepted, a report, a command's text, a summary, a trace, a rehearsal, what an inspection shows, a help text.
 use Rattle.nv_jobs.specs.Outcome.{Outcome}
 -- What is due: refused words owe the line of usage, a command owes what one of the parts below says, or memory is wanted after its name.
 use Rattle.nv_jobs.specs.Due.{IsDue, OwesAny, Owes}
@@ -45,6 +45,8 @@ use Rattle.nv_replay.specs.Follow.{follow}
 use Rattle.nv_jobs.specs.Replayed.{replay_text, replay_status}
 use Rattle.nv_inspect.specs.Points.{at_point}
 use Rattle.nv_inspect.specs.Shown.{show_text}
+-- `help` owes how a command is used, its options and an example, or how each is used.
+use Rattle.nv_command.specs.Help.{help_of}
 -- What the source's counts show.
 use Rattle.nv_jobs.specs.Due.{Shows, IsUntouched}
 -- What was written and the status: a text with its status, or a prefix of it, a count that rose and 6.
@@ -167,8 +169,9 @@ use Rattle.nv_trace.specs.Trace.{number_bytes, bit, arg, fields_of, event_bytes,
 use Rattle.nv_inspect.specs.Firsts.{texts_below}
 use Rattle.nv_inspect.specs.Points.{place_of, events_to, budget_to}
 use Rattle.nv_inspect.specs.Shown.{word_text, standing_text, place_text, heading_text, register_text, registers_text, counter_text, thread_text, live_text, threads_text, opened_text, named_text, descriptor_as, descriptor_text, descriptors_text, cell_text, byte_text, row_text, memory_line, dump_text}
-use Rattle.nv_command.specs.Simple.{option_rule, flag_rule, file_rule, files_rule, required, simple_app, run_options, run_app, record_app, trail_options, look_options, trail_files, replay_app, inspect_app, rules_app, asm_app, gen_app}
-use Rattle.nv_command.specs.Words.{texts, unless_faulty, rows_of_line, number_between, number_within, in_pages, ring_of, memory_of, budget_of, calls_asked, threads_asked, Limits, usual, limits_of, versions_asked, is_set, Plan, plan_of, report_plan_of, index_of, Trail, trail_of, Point, point_from, point_of, range_of, dump_from, dump_of, Look, look_of, Job, rules_job_of, asm_job_of, number_in, Command, Name, name_spelt, run_line, rules_line, asm_line, gen_line, record_line, replay_line, inspect_line, asked_by, after_program}
+use Rattle.nv_command.specs.Help.{usage_line, script_help, rules_help, ring_help, memory_help, budget_help, calls_help, threads_help, json_help, index_help, stamp_help, call_help, count_help, dump_help, length_help, asm_help, option_lines, example_line, more_help, help_lines}
+use Rattle.nv_command.specs.Simple.{option_rule, flag_rule, file_rule, files_rule, word_rule, required, simple_app, run_options, run_app, record_app, trail_options, look_options, trail_files, replay_app, inspect_app, rules_app, asm_app, gen_app, help_app}
+use Rattle.nv_command.specs.Words.{texts, unless_faulty, rows_of_line, number_between, number_within, in_pages, ring_of, memory_of, budget_of, calls_asked, threads_asked, Limits, usual, limits_of, versions_asked, is_set, Plan, plan_of, report_plan_of, index_of, Trail, trail_of, Point, point_from, point_of, range_of, dump_from, dump_of, Look, look_of, Job, rules_job_of, asm_job_of, number_in, Name, name_spelt, topic_from, topic_of, Command, run_line, rules_line, asm_line, gen_line, record_line, replay_line, inspect_line, help_line, asked_by, after_program}
 use Rattle.nv_jobs.specs.Due.{made_outcome, lack_outcome, traced_outcome, files_after, shown_of, IsReady, IsMade, IsTraced, IsRefusedAt, IsRefusedFor, IsRefusedOn, IsReport}
 use Rattle.nv_jobs.specs.Found.{FILE_LIMIT, TRACE_LIMIT, is_longer, TookMore, TookLong, Found, IsReadWithin, IsLongerThan, AgreesWithin, AllAgree, AgreesIf, Finds, found_within, found_of, finds_of}
 use Rattle.nv_jobs.specs.Made.{accepted_text, accepted_filter, of_rules, of_program, used, unless_refused}

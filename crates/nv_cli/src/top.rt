@@ -248,6 +248,7 @@ fn answer<R: Threads + Wait + Sync, F: Files, S: Sink, G: Gate + Sync>(
         Ok(Command::Generate(number)) => do_generate(rt, alloc, number, sink, gate),
         Ok(Command::Replay(trail)) => answer_alone(alloc, files, sink, Task::Replay(trail)),
         Ok(Command::Inspect(look)) => answer_alone(alloc, files, sink, Task::Inspect(look)),
+        Ok(Command::Help(topic)) => answer_alone(alloc, files, sink, Task::Help(topic)),
         Err(fault) => answer_alone(alloc, files, sink, Task::Refuse(fault)),
     }
 }

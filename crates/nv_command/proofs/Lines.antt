@@ -5,9 +5,9 @@ use Rattle.std.specs.Result.{IsErrAnd}
 use Rattle.std.proofs.Math.Seq.{take-length}
 use Rattle.clap.specs.Walk.{Row, Text}
 use Rattle.clap.specs.Simple.{App}
-use Rattle.nv_command.specs.Simple.{run_app, record_app, replay_app, inspect_app, rules_app, asm_app, gen_app}
+use Rattle.nv_command.specs.Simple.{run_app, record_app, replay_app, inspect_app, rules_app, asm_app, gen_app, help_app}
 use Rattle.nv_command.specs.Tables.{app_named, asked_of}
-use Rattle.nv_command.specs.Words.{NamesRun, NamesRules, NamesAsm, NamesGen, NamesRecord, NamesReplay, NamesInspect, Runs, Uses, Generates, Records, Replays, Inspects, plan_of, report_plan_of, rules_job_of, asm_job_of, number_in, trail_of, look_of, run_line, rules_line, asm_line, gen_line, record_line, replay_line, inspect_line, ring_of, memory_of, budget_of, calls_asked, threads_asked, limits_of, Name, Command as Line, rows_of_line, texts, asked_by, name_spelt, command_name, command_of}
+use Rattle.nv_command.specs.Words.{NamesRun, NamesRules, NamesAsm, NamesGen, NamesRecord, NamesReplay, NamesInspect, NamesHelp, Runs, Uses, Generates, Records, Replays, Inspects, Helps, plan_of, report_plan_of, rules_job_of, asm_job_of, number_in, trail_of, look_of, topic_of, run_line, rules_line, asm_line, gen_line, record_line, replay_line, inspect_line, help_line, ring_of, memory_of, budget_of, calls_asked, threads_asked, limits_of, Name, Command as Line, rows_of_line, texts, asked_by, name_spelt, command_name, command_of}
 use Rattle.nv_command.specs.Seen.{WordsRefused}
 use Rattle.nv_command.specs.declared.asked.LineFault.{LineFault}
 use Rattle.nv_command.specs.declared.asked.LineFault.TheVariants.{Usage, Memory}
@@ -47,7 +47,7 @@ map_then f g None = refl
 map_then f g (Some x) = refl
 
 asked_is : (words : List Text) (name : Name) → asked_by words name ≡ option_and_then (asked_of name) (rows_of_line (app_named name) words)
-unfolding run_line rules_line asm_line gen_line record_line replay_line inspect_line
+unfolding run_line rules_line asm_line gen_line record_line replay_line inspect_line help_line
 asked_is words NamesRun = map_then Runs report_plan_of (rows_of_line run_app words)
 asked_is words NamesRules = map_then Uses rules_job_of (rows_of_line rules_app words)
 asked_is words NamesAsm = map_then Uses asm_job_of (rows_of_line asm_app words)
@@ -55,6 +55,7 @@ asked_is words NamesGen = map_then Generates number_in (rows_of_line gen_app wor
 asked_is words NamesRecord = map_then Records (plan_of false) (rows_of_line record_app words)
 asked_is words NamesReplay = map_then Replays trail_of (rows_of_line replay_app words)
 asked_is words NamesInspect = map_then Inspects look_of (rows_of_line inspect_app words)
+asked_is words NamesHelp = map_then Helps topic_of (rows_of_line help_app words)
 
 -- what a line asks for, from what `clap` matches of it
 module _ (words : List Text) (name : Name) (app : App) (e : app ≡ app_named name) where

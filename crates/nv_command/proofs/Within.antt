@@ -5,7 +5,7 @@ use Rattle.std.proofs.lemmas.Bool.Decides.{nat_tests}
 use Rattle.clap.specs.Walk.{Row, Text, first_of}
 use Rattle.nv_text.specs.Numbers.{number_of}
 use Rattle.nv_command.specs.Simple.{gen_app}
-use Rattle.nv_command.specs.Words.{Name, NamesRun, NamesRules, NamesAsm, NamesGen, NamesRecord, NamesReplay, NamesInspect, Plan, Job, Trail, Look, Runs, Uses, Generates, Records, Replays, Inspects, number_between, number_in, rows_of_line, run_line, rules_line, asm_line, gen_line, record_line, replay_line, inspect_line, asked_by, after_program, command_of, command_name}
+use Rattle.nv_command.specs.Words.{Name, NamesRun, NamesRules, NamesAsm, NamesGen, NamesRecord, NamesReplay, NamesInspect, NamesHelp, Plan, Job, Trail, Look, Runs, Uses, Generates, Records, Replays, Inspects, Helps, number_between, number_in, rows_of_line, run_line, rules_line, asm_line, gen_line, record_line, replay_line, inspect_line, help_line, asked_by, after_program, command_of, command_name}
 
 kept_within : (k n : ℕ) (b : Bool) → (b ≡ true → k ≤ 999999) → cond b (Some k) None ≡ Some n → n ≤ 999999
 kept_within k n true within h = let e : k ≡ n = cc in let le : k ≤ 999999 = within refl in omega arith
@@ -51,6 +51,10 @@ inspects_none : (look : Option Look) (n : ℕ) → option_map Inspects look ≡ 
 inspects_none None n h = cc
 inspects_none (Some look) n h = cc
 
+helps_none : (topic : Option (Option Name)) (n : ℕ) → option_map Helps topic ≡ Some (Generates n) → ⊥
+helps_none None n h = cc
+helps_none (Some topic) n h = cc
+
 same_number : (number : Option ℕ) (n : ℕ) → option_map Generates number ≡ Some (Generates n) → number ≡ Some n
 same_number None n h = cc
 same_number (Some k) n h = cc
@@ -64,6 +68,7 @@ named_within words (Some NamesGen) n h = line_within words n (same_number (gen_l
 named_within words (Some NamesRecord) n h = absurd (records_none (record_line words) n h)
 named_within words (Some NamesReplay) n h = absurd (replays_none (replay_line words) n h)
 named_within words (Some NamesInspect) n h = absurd (inspects_none (inspect_line words) n h)
+named_within words (Some NamesHelp) n h = absurd (helps_none (help_line words) n h)
 
 -- a number that is asked for has at most six digits
 pub generated_within : (words : List Text) (n : ℕ) → command_of words ≡ Some (Generates n) → n ≤ 999999

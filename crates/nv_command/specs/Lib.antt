@@ -3,3 +3,4 @@ pub mod Simple
 pub mod Words
 pub mod Tables
 pub mod Seen
+pub mod Help

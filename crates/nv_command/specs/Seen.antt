@@ -2,7 +2,8 @@
 use Rattle.std.specs.Prelude.{◌≡◌, List, Option, None, map, option_map, IsSome}
 use Rattle.std.specs.Borrow.{Bor}
 use Rattle.clap.specs.Walk.{Text}
-use Rattle.nv_command.specs.Words.{Limits, Plan, Job as FileJob, Trail as TraceTrail, Point as TracePoint, AtStamp, AtCall, AtCount, Look as TraceLook, Command as Line, Runs, Uses, Generates, Records, Replays, Inspects, command_of, command_name}
+use Rattle.nv_command.specs.Words.{Limits, Plan, Job as FileJob, Trail as TraceTrail, Point as TracePoint, AtStamp, AtCall, AtCount, Look as TraceLook, Command as Line, Runs, Uses, Generates, Records, Replays, Inspects, Helps, command_of, command_name}
+use Rattle.nv_command.specs.Tables.{name_view}
 use Rattle.nv_command.specs.declared.limits.Limits.{Limits as Held}
 use Rattle.nv_command.specs.declared.asked.Run.{Run}
 use Rattle.nv_command.specs.declared.parts.Parts.{Parts}
@@ -62,6 +63,7 @@ command_view (command.Generate number) = Generates number
 command_view (command.Record run) = Records (plan_view run)
 command_view (command.Replay trail) = Replays (trail_view trail)
 command_view (command.Inspect look) = Inspects (look_view look)
+command_view (command.Help topic) = Helps (option_map name_view topic)
 
 -- the words are refused; or they name a command, and memory ran out while its words were read
 abbrev pub WordsRefused : LineFault → List Text → Type 0

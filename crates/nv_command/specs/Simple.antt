@@ -20,6 +20,10 @@ file_rule name = record (new_rule name) { required = true }
 abbrev pub files_rule : Text → Rule
 files_rule name = record (new_rule name) { required = true; action = Some Append }
 
+-- one of them, or none
+abbrev pub word_rule : Text → Rule
+word_rule name = new_rule name
+
 abbrev pub required : Rule → Rule
 required rule = record rule { required = true }
 
@@ -83,3 +87,6 @@ asm_app = simple_app (codes "asm") (file_rule (codes "file") ∷ [])
 
 abbrev pub gen_app : App
 gen_app = simple_app (codes "gen") (file_rule (codes "number") ∷ [])
+
+abbrev pub help_app : App
+help_app = simple_app (codes "help") (word_rule (codes "command") ∷ [])

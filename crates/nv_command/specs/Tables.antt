@@ -3,10 +3,10 @@ use Rattle.std.specs.Prelude.{List, ◌++◌, map, Option, option_map, false}
 use Rattle.std.specs.Borrow.{Bor}
 use Rattle.clap.specs.Walk.{Row, Rule, Text}
 use Rattle.clap.specs.Simple.{App, on_top}
-use Rattle.nv_command.specs.Simple.{option_rule, required, flag_rule, file_rule, files_rule, simple_app, run_app, record_app, replay_app, inspect_app, rules_app, asm_app, gen_app}
-use Rattle.nv_command.specs.Words.{Name, NamesRun, NamesRules, NamesAsm, NamesGen, NamesRecord, NamesReplay, NamesInspect, Command, Runs, Uses, Generates, Records, Replays, Inspects, plan_of, report_plan_of, rules_job_of, asm_job_of, number_in, trail_of, look_of}
+use Rattle.nv_command.specs.Simple.{option_rule, required, flag_rule, file_rule, files_rule, word_rule, simple_app, run_app, record_app, replay_app, inspect_app, rules_app, asm_app, gen_app, help_app}
+use Rattle.nv_command.specs.Words.{Name, NamesRun, NamesRules, NamesAsm, NamesGen, NamesRecord, NamesReplay, NamesInspect, NamesHelp, Command, Runs, Uses, Generates, Records, Replays, Inspects, Helps, plan_of, report_plan_of, rules_job_of, asm_job_of, number_in, trail_of, look_of, topic_of}
 use Rattle.nv_command.specs.declared.simple.Kind.{Kind}
-use Rattle.nv_command.specs.declared.simple.Kind.TheVariants.{Value, Needed, Flag, File, Files}
+use Rattle.nv_command.specs.declared.simple.Kind.TheVariants.{Value, Needed, Flag, File, Files, Word}
 use Rattle.nv_command.specs.declared.simple.Form.{Form}
 use Rattle.nv_command.specs.declared.names.Name.{Name as Named}
 use Rattle.nv_command.specs.declared.names.Name.TheVariants as name
@@ -17,6 +17,7 @@ rule_by Needed name = required (option_rule name)
 rule_by Flag name = flag_rule name
 rule_by File name = file_rule name
 rule_by Files name = files_rule name
+rule_by Word name = word_rule name
 
 abbrev pub rules_by : List (Bor Text × Kind) → List Rule
 rules_by arguments = map (λ argument. rule_by argument.1 argument.0.now) arguments
@@ -36,6 +37,7 @@ name_view name.Gen = NamesGen
 name_view name.Record = NamesRecord
 name_view name.Replay = NamesReplay
 name_view name.Inspect = NamesInspect
+name_view name.Help = NamesHelp
 
 -- what `clap` knows of a command
 abbrev pub app_named : Name → App
@@ -46,6 +48,7 @@ app_named NamesGen = gen_app
 app_named NamesRecord = record_app
 app_named NamesReplay = replay_app
 app_named NamesInspect = inspect_app
+app_named NamesHelp = help_app
 
 -- what the matches of a command's words ask for
 abbrev pub asked_of : Name → List Row → Option Command
@@ -56,3 +59,4 @@ asked_of NamesGen rows = option_map Generates (number_in rows)
 asked_of NamesRecord rows = option_map Records (plan_of false rows)
 asked_of NamesReplay rows = option_map Replays (trail_of rows)
 asked_of NamesInspect rows = option_map Inspects (look_of rows)
+asked_of NamesHelp rows = option_map Helps (topic_of rows)

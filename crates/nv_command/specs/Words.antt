@@ -8,7 +8,7 @@ use Rattle.clap.specs.Simple.{App, matches_of}
 use Rattle.clap.specs.Kinds.{Kinds}
 use Rattle.clap.specs.Faults.{fault_of}
 use Rattle.nv_text.specs.Numbers.{number_of}
-use Rattle.nv_command.specs.Simple.{run_app, record_app, replay_app, inspect_app, rules_app, asm_app, gen_app}
+use Rattle.nv_command.specs.Simple.{run_app, record_app, replay_app, inspect_app, rules_app, asm_app, gen_app, help_app}
 use Rattle.nv_command.specs.declared.asked.Tool.{Tool}
 use Rattle.nv_command.specs.declared.asked.Tool.TheVariants.{CheckRules, AssembleRules, Assemble}
 
@@ -177,14 +177,6 @@ asm_job_of rows = option_map (λ file. record { tool = Assemble; file = file }) 
 unfoldable pub number_in : List Row → Option ℕ
 number_in rows = option_and_then (number_between 0 999999) (first_of (codes "number") rows)
 
-pub data Command : Type 0 where
-  Runs : Plan → Command
-  Uses : Job → Command
-  Generates : (number : ℕ) → Command
-  Records : Plan → Command
-  Replays : Trail → Command
-  Inspects : Look → Command
-
 -- the names of the commands
 pub data Name : Type 0 where
   NamesRun : Name
@@ -194,6 +186,7 @@ pub data Name : Type 0 where
   NamesRecord : Name
   NamesReplay : Name
   NamesInspect : Name
+  NamesHelp : Name
 
 abbrev pub name_spelt : Text → Option Name
 name_spelt word =
@@ -203,7 +196,25 @@ name_spelt word =
     else (if bytes_eq word (codes "gen") then Some NamesGen
     else (if bytes_eq word (codes "record") then Some NamesRecord
     else (if bytes_eq word (codes "replay") then Some NamesReplay
-    else (if bytes_eq word (codes "inspect") then Some NamesInspect else None))))))
+    else (if bytes_eq word (codes "inspect") then Some NamesInspect
+    else (if bytes_eq word (codes "help") then Some NamesHelp else None)))))))
+
+-- what help is asked for: a command, or all of them where none is named
+abbrev pub topic_from : Option Text → Option (Option Name)
+topic_from None = Some None
+topic_from (Some word) = option_map Some (name_spelt word)
+
+unfoldable pub topic_of : List Row → Option (Option Name)
+topic_of rows = topic_from (first_of (codes "command") rows)
+
+pub data Command : Type 0 where
+  Runs : Plan → Command
+  Uses : Job → Command
+  Generates : (number : ℕ) → Command
+  Records : Plan → Command
+  Replays : Trail → Command
+  Inspects : Look → Command
+  Helps : (topic : Option Name) → Command
 
 -- the words of `run`, from its name on
 unfoldable pub run_line : List Text → Option Plan
@@ -233,6 +244,10 @@ replay_line words = option_and_then trail_of (rows_of_line replay_app words)
 unfoldable pub inspect_line : List Text → Option Look
 inspect_line words = option_and_then look_of (rows_of_line inspect_app words)
 
+-- the words of `help`
+unfoldable pub help_line : List Text → Option (Option Name)
+help_line words = option_and_then topic_of (rows_of_line help_app words)
+
 -- what the words from the command's name on ask for
 abbrev pub asked_by : List Text → Name → Option Command
 asked_by words NamesRun = option_map Runs (run_line words)
@@ -242,6 +257,7 @@ asked_by words NamesGen = option_map Generates (gen_line words)
 asked_by words NamesRecord = option_map Records (record_line words)
 asked_by words NamesReplay = option_map Replays (replay_line words)
 asked_by words NamesInspect = option_map Inspects (inspect_line words)
+asked_by words NamesHelp = option_map Helps (help_line words)
 
 -- the second word names the command, the first one the program
 abbrev pub command_name : List Text → Option Name

@@ -7,6 +7,7 @@ ghost use Rattle.nv_command.specs.declared.asked.Point.TheVariants.{Count};
 ghost use Rattle.nv_command.specs.Faults.{line_fault};
 
 use crate::Limits;
+use crate::names::Name;
 use clap::Error;
 use clap::error::ErrorKind;
 use std::alloc::{AllocError, AllocFailed};
@@ -96,6 +97,8 @@ pub enum Command<'a> {
     Record(Run<'a>),
     Replay(Trail<'a>),
     Inspect(Look<'a>),
+    /// `help`: how this command is used, or each of them.
+    Help(Option<Name>),
 }
 
 /// Why a line gives no command.

@@ -11,6 +11,7 @@ pub enum Name {
     Record,
     Replay,
     Inspect,
+    Help,
 }
 
 // The options of a run that is reported or recorded.
@@ -83,6 +84,12 @@ const INSPECT: Form = Form {
     ],
 };
 
+const HELP: Form = Form {
+    name: "help",
+    options: &[],
+    rest: &[("command", Kind::Word)],
+};
+
 impl Name {
     ghost use Rattle.std.specs.Prelude.{◌≡◌, true, option_map};
     ghost use Rattle.clap.specs.Faults.{is_simple_and_free};
@@ -101,6 +108,7 @@ impl Name {
             "record" => Some(Name::Record),
             "replay" => Some(Name::Replay),
             "inspect" => Some(Name::Inspect),
+            "help" => Some(Name::Help),
             _ => None,
         }
     }
@@ -118,6 +126,7 @@ impl Name {
             Name::Record => RECORD,
             Name::Replay => REPLAY,
             Name::Inspect => INSPECT,
+            Name::Help => HELP,
         }
     }
 }

@@ -2,7 +2,7 @@
 ghost use Rattle.std.specs.Prelude.{◌≡◌, ◌≤◌, None, Some, IfOk, IfErr, IfSome, IsSome, option_and_then, option_map, length};
 ghost use Rattle.clap.specs.Matches.{found_of};
 ghost use Rattle.clap.specs.Walk.{rows_of};
-ghost use Rattle.nv_command.specs.Words.{texts, NamesRun, NamesRules, NamesAsm, NamesGen, NamesRecord, NamesReplay, NamesInspect, versions_asked, plan_of, asked_by, name_spelt, command_of};
+ghost use Rattle.nv_command.specs.Words.{texts, NamesRun, NamesRules, NamesAsm, NamesGen, NamesRecord, NamesReplay, NamesInspect, NamesHelp, versions_asked, plan_of, topic_from, asked_by, name_spelt, command_of};
 ghost use Rattle.nv_command.specs.Tables.{name_view, asked_of};
 ghost use Rattle.nv_command.specs.Seen.{names_view, parts_view, plan_view, command_view, WordsRefused};
 
@@ -137,6 +137,23 @@ fn inspect<'a>(matches: &ArgMatches<'a>) -> Option<Command<'a>>
     Some(Command::Inspect(look(matches)?))
 }
 
+// The command that the word names, or all of them where there is no word.
+fn topic_from(word: Option<&str>) -> Option<Option<Name>>
+    ensures { option_map (λ topic. option_map name_view topic) result ≡ topic_from (option_map (λ word. word.now) word.entry) }
+{
+    match word {
+        Some(word) => Some(Some(Name::of(word)?)),
+        None => Some(None),
+    }
+}
+
+#[tactic(auto, unfolding(crate::specs::Words::topic_of))]
+fn help<'a>(matches: &ArgMatches<'a>) -> Option<Command<'a>>
+    ensures { option_map command_view result ≡ asked_of NamesHelp (rows_of (found_of matches.now)) }
+{
+    Some(Command::Help(topic_from(text(matches, "command"))?))
+}
+
 // The words are refused where they ask for nothing.
 fn unless_none(command: Option<Command<'_>>) -> Result<Command<'_>, LineFault>
     ensures command { IfOk result (λ asked. command.entry ≡ Some asked) }
@@ -158,6 +175,7 @@ fn asked<'a>(alloc: Global, name: Name, matches: &ArgMatches<'a>) -> Result<Comm
         Name::Gen => unless_none(generate(matches)),
         Name::Replay => unless_none(replay(matches)),
         Name::Inspect => unless_none(inspect(matches)),
+        Name::Help => unless_none(help(matches)),
     }
 }
 

@@ -2,7 +2,7 @@
 ghost use Rattle.std.specs.Prelude.{◌≡◌, [], false, IfOk};
 ghost use Rattle.clap.specs.Walk.{rule_of};
 ghost use Rattle.clap.specs.Simple.{app_of, with_rule};
-ghost use Rattle.nv_command.specs.Simple.{option_rule, flag_rule, file_rule, files_rule, required, simple_app};
+ghost use Rattle.nv_command.specs.Simple.{option_rule, flag_rule, file_rule, files_rule, word_rule, required, simple_app};
 ghost use Rattle.nv_command.specs.Tables.{rule_by, rules_by, app_by, with_rules};
 
 use clap::{Arg, ArgAction, Command};
@@ -21,6 +21,8 @@ pub enum Kind {
     File,
     /// One or more of them.
     Files,
+    /// One of them, or none.
+    Word,
 }
 
 /// A command, by its name and its arguments.
@@ -61,6 +63,13 @@ fn files<'a>(alloc: Global, name: &'a str) -> Arg<'a>
         .action(ArgAction::Append)
 }
 
+fn word<'a>(alloc: Global, name: &'a str) -> Arg<'a>
+    ensures rule { rule_of result ≡ word_rule name.entry.now }
+    ensures local { result.global ≡ false }
+{
+    Arg::new(alloc, name)
+}
+
 fn needed<'a>(alloc: Global, name: &'a str) -> Arg<'a>
     ensures rule { rule_of result ≡ required (option_rule name.entry.now) }
     ensures local { result.global ≡ false }
@@ -78,6 +87,7 @@ fn argument<'a>(alloc: Global, name: &'a str, kind: Kind) -> Arg<'a>
         Kind::Flag => flag(alloc, name),
         Kind::File => file(alloc, name),
         Kind::Files => files(alloc, name),
+        Kind::Word => word(alloc, name),
     }
 }
 

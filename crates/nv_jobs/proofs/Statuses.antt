@@ -9,7 +9,7 @@ use Rattle.nv_outside.specs.declared.sink.Put.TheVariants.{Whole, Failed}
 use Rattle.nv_replay.specs.declared.standing.Standing.{Standing}
 use Rattle.nv_replay.specs.Follow.{is_exited}
 use Rattle.nv_replay.specs.Lead.{is_memory}
-use Rattle.nv_command.specs.Words.{Name, Plan, Job, Trail, Command, Runs, Uses, Generates, Records, Replays, Inspects, asked_by, after_program, command_of, command_name}
+use Rattle.nv_command.specs.Words.{Name, Plan, Job, Trail, Command, Runs, Uses, Generates, Records, Replays, Inspects, Helps, asked_by, after_program, command_of, command_name}
 use Rattle.nv_replay.specs.Follow.{follow, fresh, judge_of}
 use Rattle.nv_replay.specs.declared.fate.Fate.{Fate}
 use Rattle.nv_replay.specs.declared.fate.Fate.TheVariants.{Exited}
@@ -26,7 +26,7 @@ use Rattle.nv_jobs.proofs.Followed.{LacksRead, same_traced}
 use Rattle.nv_jobs.specs.Found.{Found, Unread, found_of, finds_of}
 use Rattle.nv_jobs.specs.Prepared.{Prepared, Unreadable, Refused, Ready, prepared}
 use Rattle.nv_jobs.specs.Made.{made_of}
-use Rattle.nv_jobs.specs.Outcome.{Source, Outcome, Usage, NoMemory, NotRead, NotAccepted, Reported, Made, Summed, Recorded, TraceTooLong, Replayed, Shown, outcome_status, ended_with}
+use Rattle.nv_jobs.specs.Outcome.{Source, Outcome, Usage, NoMemory, NotRead, NotAccepted, Reported, Made, Summed, Recorded, TraceTooLong, Replayed, Shown, Helped, outcome_status, ended_with}
 use Rattle.nv_jobs.specs.Due.{RunComesTo, RunOwes, JobOwes, Owes, OwesAny, IsDue, Shows, Answers, IsReady, IsMade, IsAccepted, IsRefusedAt, IsRefusedFor, IsRefused, IsReport, IsDone, Completes, Rejects, made_outcome, RecordComesTo, RecordOwes, TrailOwes, traced_outcome, lack_outcome, replayed, shown as shown_by, IsTraced, IsRefusedOn}
 use Rattle.nv_jobs.specs.declared.tools.Unmade.{Unmade}
 use Rattle.nv_jobs.specs.declared.tools.Unmade.TheVariants as unmade
@@ -200,6 +200,7 @@ module _ (source : Source) (no_fault : Rose source.faults source.later_faults �
   accepted_status (Inspects look) owed accepted =
       traced_status look.trail (shown_by look) outcome (λ n. n ≡ 0) (λ files. refl) (traced look.trail (trace_finds_of source.holds look.trail)) accepted
       (trail_told source no_fault outcome shown look.trail (shown_by look) owed (traced_read look.trail (shown_by look) outcome (traced look.trail (trace_finds_of source.holds look.trail)) accepted))
+  accepted_status (Helps topic) owed accepted = ap outcome_status owed
 
   rejected_status : (command : Command) → Owes command source.holds outcome → IsRefused command source.holds → outcome_status outcome ≡ 4
   rejected_status (Runs plan) owed refused =
@@ -218,6 +219,7 @@ module _ (source : Source) (no_fault : Rose source.faults source.later_faults �
   rejected_status (Inspects look) owed refused =
       lacking_status look.trail (shown_by look) outcome (traced look.trail (trace_finds_of source.holds look.trail)) refused
       (trail_told source no_fault outcome shown look.trail (shown_by look) owed (lacking_read look.trail (shown_by look) outcome (traced look.trail (trace_finds_of source.holds look.trail)) refused))
+  rejected_status (Helps topic) owed refused = absurd refused
 
 -- an outcome that is due and shown, and the status that the call ended with
 module _ (words : List (List ℕ)) (source : Source) (status : ℕ) (outcome : Outcome) (due : IsDue words source.holds outcome) (shown : Shows outcome source)
@@ -272,6 +274,7 @@ five (Recorded account) Whole source n shown ends is = absurd (not_five n (run_d
 five (TraceTooLong name) Whole source n shown ends is = absurd (omega arith)
 five (Replayed at) Whole source n shown ends is = absurd (two_not_five n (replay_done at.fate n ends) is)
 five (Shown text) Whole source n shown ends is = absurd (omega arith)
+five (Helped topic) Whole source n shown ends is = absurd (omega arith)
 five outcome Failed source n shown ends is = absurd (omega arith)
 
 six : (outcome : Outcome) (put : Put) (n : ℕ) → n ≡ ended_with put (outcome_status outcome) → n ≡ 6 → put ≡ Failed
@@ -287,6 +290,7 @@ six (Recorded account) Whole n ends is = absurd (not_six n (run_done account.lin
 six (TraceTooLong name) Whole n ends is = absurd (omega arith)
 six (Replayed at) Whole n ends is = absurd (two_not_six n (replay_done at.fate n ends) is)
 six (Shown text) Whole n ends is = absurd (omega arith)
+six (Helped topic) Whole n ends is = absurd (omega arith)
 
 -- the status of a text is never that of a write fault
 pub never_six : (outcome : Outcome) → outcome_status outcome ≡ 6 → ⊥

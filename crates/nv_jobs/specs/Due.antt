@@ -5,7 +5,7 @@ use Rattle.nv_outside.specs.Counts.{Rose}
 use Rattle.nv_outside.specs.Told.{Told}
 use Rattle.nv_outside.specs.Sink.{Puts}
 use Rattle.nv_outside.specs.declared.sink.Put.{Put}
-use Rattle.nv_command.specs.Words.{Plan, Job, Trail, Look, Command, Runs, Uses, Generates, Records, Replays, Inspects, usual, command_of, command_name}
+use Rattle.nv_command.specs.Words.{Plan, Job, Trail, Look, Command, Runs, Uses, Generates, Records, Replays, Inspects, Helps, usual, command_of, command_name}
 use Rattle.nv_bpf.specs.declared.op.Op.{Op}
 use Rattle.nv_machine.specs.Guest.{Machine}
 use Rattle.nv_script.specs.Scripts.{Setup}
@@ -16,7 +16,7 @@ use Rattle.nv_jobs.specs.Found.{Found, Finds, Agrees, AreFound, TookLong, TookMo
 use Rattle.nv_jobs.specs.Prepared.{Prepared, Unreadable, Refused, Ready, prepared}
 use Rattle.nv_jobs.specs.Generated.{IsMadeRun}
 use Rattle.nv_jobs.specs.Made.{made_of}
-use Rattle.nv_jobs.specs.Outcome.{Outcome, Usage, NoMemory, NotRead, NotAccepted, Reported, Made, Summed, Recorded, TraceTooLong, Replayed, Shown, Source, name_at, name_on, text_of, outcome_status, ended_with}
+use Rattle.nv_jobs.specs.Outcome.{Outcome, Usage, NoMemory, NotRead, NotAccepted, Reported, Made, Summed, Recorded, TraceTooLong, Replayed, Shown, Helped, Source, name_at, name_on, text_of, outcome_status, ended_with}
 use Rattle.nv_calls.specs.Calls.{Entry}
 use Rattle.nv_calls.specs.Logs.{calls_of}
 use Rattle.nv_fs.specs.States.{FileState}
@@ -122,6 +122,7 @@ Owes (Generates n) holds outcome = GenOwes n outcome
 Owes (Records plan) holds outcome = RecordOwes plan holds outcome
 Owes (Replays trail) holds outcome = TrailOwes trail (replayed trail) holds outcome
 Owes (Inspects look) holds outcome = TrailOwes look.trail (shown look) holds outcome
+Owes (Helps topic) holds outcome = outcome ≡ Helped topic
 
 -- words that are refused owe the line of usage
 abbrev pub OwesAny : Option Command → (List ℕ → Told) → Outcome → Type 0
@@ -149,6 +150,7 @@ Shows (Recorded account) source = source.later_faults ≡ source.faults
 Shows (TraceTooLong name) source = (source.later_faults ≡ source.faults) × TookMore TRACE_LIMIT source.taken source.later_taken
 Shows (Replayed at) source = source.later_faults ≡ source.faults
 Shows (Shown text) source = source.later_faults ≡ source.faults
+Shows (Helped topic) source = IsUntouched source
 
 -- A text was written with its status; or a write failed, its count rose, a prefix of the text was written, and the status is 6.
 pub record Says (text : List ℕ) (text_status : ℕ) (before : Option (List ℕ)) (faults : ℕ) (status : ℕ) (after : Option (List ℕ)) (later_faults : ℕ) : Type 0 where
@@ -185,6 +187,7 @@ IsAccepted (Generates n) holds = Unit {0}
 IsAccepted (Records plan) holds = IsReady (prepared plan.limits (finds_of holds plan))
 IsAccepted (Replays trail) holds = IsTraced (traced trail (trace_finds_of holds trail))
 IsAccepted (Inspects look) holds = IsTraced (traced look.trail (trace_finds_of holds look.trail))
+IsAccepted (Helps topic) holds = Unit {0}
 
 abbrev pub IsRefusedAt : Prepared → Type 0
 IsRefusedAt (Unreadable place) = ⊥
@@ -210,6 +213,7 @@ IsRefused (Generates n) holds = ⊥
 IsRefused (Records plan) holds = IsRefusedAt (prepared plan.limits (finds_of holds plan))
 IsRefused (Replays trail) holds = IsRefusedOn (traced trail (trace_finds_of holds trail))
 IsRefused (Inspects look) holds = IsRefusedOn (traced look.trail (trace_finds_of holds look.trail))
+IsRefused (Helps topic) holds = ⊥
 
 -- a run that does its work ends with the status of its versions' fates, which is one of three
 abbrev pub IsReport : ℕ → Type 0
@@ -223,6 +227,7 @@ IsDone (Generates n) status = status ≡ 0
 IsDone (Records plan) status = (status ≡ 0) ⊎ (status ≡ 1)
 IsDone (Replays trail) status = (status ≡ 0) ⊎ (status ≡ 1)
 IsDone (Inspects look) status = status ≡ 0
+IsDone (Helps topic) status = status ≡ 0
 
 -- Files that are told and accepted, and no fault: the command does its work, or memory is wanted.
 abbrev pub Completes : List (List ℕ) → Source → ℕ → ℕ → ℕ → Type 0

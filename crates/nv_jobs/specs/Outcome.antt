@@ -1,11 +1,12 @@
 -- What a call of the monitor may come to, and what is then written.
-use Rattle.std.specs.Prelude.{ℕ, Bool, true, false, List, [], ◌∷◌, ◌++◌, codes, length, count_by, sum_by, slice_get, unwrap_or}
+use Rattle.std.specs.Prelude.{ℕ, Option, Bool, true, false, List, [], ◌∷◌, ◌++◌, codes, length, count_by, sum_by, slice_get, unwrap_or}
 use Rattle.std.specs.List.{concat}
 use Rattle.nv_gen.specs.Made as gen
 use Rattle.nv_outside.specs.Told.{Told}
 use Rattle.nv_outside.specs.declared.sink.Put.{Put}
 use Rattle.nv_outside.specs.declared.sink.Put.TheVariants.{Whole, Failed}
-use Rattle.nv_command.specs.Words.{Plan, Trail}
+use Rattle.nv_command.specs.Help.{help_of}
+use Rattle.nv_command.specs.Words.{Name, Plan, Trail}
 use Rattle.nv_calls.specs.Logs.{output_of, connections_of}
 use Rattle.nv_script.specs.Scripts.{Setup}
 use Rattle.nv_sockets.specs.Serving.{start_of_script}
@@ -46,6 +47,8 @@ pub data Outcome : Type 0 where
   Replayed : Follower Proc → Outcome
   -- what a version shows at a point of a trace
   Shown : List ℕ → Outcome
+  -- how a command is used, or each of them
+  Helped : Option Name → Outcome
 
 -- the report of an account, with what was written to the connections, or its JSON form and a newline
 abbrev pub account_text : Bool → Setup → Account → List ℕ
@@ -75,6 +78,7 @@ text_of (Recorded account) = trace_of account.log
 text_of (TraceTooLong name) = concat (codes "varan: input " ∷ name ∷ codes ": " ∷ cause_text Long ∷ codes "\n" ∷ [])
 text_of (Replayed at) = replay_text at
 text_of (Shown text) = text
+text_of (Helped topic) = help_of topic
 
 abbrev pub outcome_status : Outcome → ℕ
 outcome_status Usage = 2
@@ -88,6 +92,7 @@ outcome_status (Recorded account) = run_status account.lines
 outcome_status (TraceTooLong name) = 4
 outcome_status (Replayed at) = replay_status at.fate
 outcome_status (Shown text) = 0
+outcome_status (Helped topic) = 0
 
 -- a write fault takes the place of the other statuses
 abbrev pub ended_with : Put → ℕ → ℕ

@@ -1,18 +1,19 @@
 // The commands that need no other threads.
-ghost use Rattle.std.specs.Prelude.{◌≡◌, List, ℕ, Some};
+ghost use Rattle.std.specs.Prelude.{◌≡◌, List, ℕ, Some, option_map};
+ghost use Rattle.nv_command.specs.Tables.{name_view};
 ghost use Rattle.nv_command.specs.Words.{Uses, command_of};
 ghost use Rattle.nv_jobs.specs.Due.{Answers, Says};
-ghost use Rattle.nv_jobs.specs.Outcome.{source_of, outcome_status, text_of};
+ghost use Rattle.nv_jobs.specs.Outcome.{Helped, source_of, outcome_status, text_of};
 ghost use Rattle.nv_jobs.specs.Tasks.{IsTaskOf, fault_outcome};
 
-use crate::endings::{MEMORY, USAGE, put_line};
+use crate::endings::{MEMORY, USAGE, ended, put_line};
 use crate::inspecting::inspect;
 use crate::refusing::{put_input, put_unread};
 use crate::replaying::replay;
 use crate::task::Task;
 use crate::tools::{Unmade, make};
-use nv_command::{LineFault, Tool};
-use nv_outside::{Files, Sink};
+use nv_command::{LineFault, Name, Tool, help_text};
+use nv_outside::{Files, Sink, put_pieces};
 use std::alloc::Global;
 
 // Does the command over one file, and says what it came to.
@@ -45,6 +46,14 @@ pub fn refuse_words<S: Sink>(sink: &mut S, fault: LineFault) -> u8
     }
 }
 
+// Says how a command is used, or each of them.
+fn help<S: Sink>(sink: &mut S, topic: Option<Name>) -> u8
+    ensures { Says (text_of (Helped (option_map name_view topic))) 0 (S.told sink.old) (S.faults sink.old) result (S.told sink.new) (S.faults sink.new) }
+{
+    let put = put_pieces(sink, help_text(topic));
+    ended(put, 0)
+}
+
 /// Does what a line asks for, where that needs no other threads, and says what it came to. Refused words read no file.
 pub fn answer_alone<F: Files, S: Sink>(
     alloc: Global,
@@ -61,5 +70,6 @@ pub fn answer_alone<F: Files, S: Sink>(
         Task::Use(job) => use_file(alloc, files, sink, job.tool, job.file),
         Task::Replay(trail) => replay(alloc, files, sink, &trail),
         Task::Inspect(look) => inspect(alloc, files, sink, &look),
+        Task::Help(topic) => help(sink, topic),
     }
 }

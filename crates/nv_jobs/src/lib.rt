@@ -1,6 +1,6 @@
 //! What the top call owes (specs/Due), the reading and refusing of files, and the commands that need no other threads.
 //! Types: `Task`, `Prepared`, `Refusal`, `Place`, `Cause`; function `answer_alone`.
-//! Proved: the first file in order that can't be read or is refused is named; `asm`, `rules`, `replay`, `inspect` and
+//! Proved: the first file in order that can't be read or is refused is named; `asm`, `rules`, `replay`, `inspect`, `help` and
 //! refused words are answered as they are owed, without waiting; each ending says its text with its status.
 //! Above: the top call.
 #![tactic(auto)]

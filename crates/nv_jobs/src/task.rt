@@ -1,5 +1,5 @@
 // What a line asks for that needs no other threads.
-use nv_command::{Job, LineFault, Look, Trail};
+use nv_command::{Job, LineFault, Look, Name, Trail};
 
 /// What a line asks for that needs no other threads, or why it asks for nothing.
 #[derive(Clone, Copy)]
@@ -12,4 +12,6 @@ pub enum Task<'a> {
     Replay(Trail<'a>),
     /// A version at a point of a trace.
     Inspect(Look<'a>),
+    /// How a command is used, or each of them.
+    Help(Option<Name>),
 }

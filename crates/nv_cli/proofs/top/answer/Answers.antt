@@ -38,3 +38,7 @@ returns-in-Ok-Replay g c =
 pub returns-in-Ok-Inspect : goal.returns-in-Ok-Inspect
 returns-in-Ok-Inspect g c =
     c.answer_alone-in-Ok-Inspect.ensures (texts c.args.words.now) (c.in-Ok-Inspect.ensures.command ∙ ap (λ (x : Command). Some (command_view x)) c.in-Ok-Inspect.field-0-is)
+
+pub returns-in-Ok-Help : goal.returns-in-Ok-Help
+returns-in-Ok-Help g c =
+    c.answer_alone-in-Ok-Help.ensures (texts c.args.words.now) (c.in-Ok-Help.ensures.command ∙ ap (λ (x : Command). Some (command_view x)) c.in-Ok-Help.field-0-is)
