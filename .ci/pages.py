@@ -1,7 +1,8 @@
 #!/usr/bin/env python3
 """Holds pages against the code.
 
-docs/varan.1: its options are those of nv_command/specs/Simple.antt, command by command, its limits those of Words.antt; docs/REFUSALS.md
+docs/varan.1: its options are those of nv_command/specs/Simple.antt, command by command, its limits those of Words.antt, and so are those of
+what `help` writes (Help.antt); README.md and docs/REFUSALS.md have each command's usage as `help` does; docs/REFUSALS.md
 gives the same limits, and README.md and it name no other option. Each page that README.md lists is there, and each page of docs/ is listed. crates.txt: each crate stands after those that it uses; docs/ARCHITECTURE.md names each.
 docs/REFUSALS.md: no cure is empty. The pages that a user reads first have no line of more than 200 characters.
 """
@@ -14,7 +15,7 @@ ROOT = os.path.dirname(os.path.dirname(os.path.abspath(__file__)))
 # the pages that a user reads first, and how long their lines are at most
 FIRST = ("README.md", "CHANGELOG.md", *(f"docs/{it}" for it in ("TUTORIAL.md", "GUESTS.md", "SCRIPT.md", "REPORT.md", "RULES.md", "REFUSALS.md", "TRACES.md", "INSPECT.md", "PARTING.md", "varan.1")))
 MOST = 200
-COMMANDS = ("run", "record", "replay", "inspect", "rules", "asm", "gen")
+COMMANDS = ("run", "record", "replay", "inspect", "rules", "asm", "gen", "help")
 # what stands on a page for another program's option
 OTHERS = {"help", "version", "anew", "program"}
 
@@ -78,6 +79,37 @@ def options(wrong):
                 wrong.append(f"{path} names --{name}, which {MANUAL} hasn't among its options")
 
 
+def options_helped(specs):
+    """What `help` says of each option: (its commands, from, to, default)."""
+    of_command = {name.lower(): re.findall(r"\b(\w+)_help\b", lines) for name, lines in re.findall(r"(?m)^option_lines Names(\w+) = (.*)$", specs)}
+    options = {}
+    for name, word, meaning in re.findall(r'(?m)^(\w+)_help = codes "  --(\w+)\b(.*)\\n"$', specs):
+        limits = re.search(r": (\d+) to (\d+)(?: less the length)?(?:, default (\d+))?$", meaning)
+        low, high, usual = limits.groups() if limits else ("", "", "")
+        commands = tuple(it for it in COMMANDS if name in of_command[it])
+        options[word] = (commands, low, high, usual or "")
+    return options
+
+
+def helped(wrong):
+    """What `help` writes has the manual page's options, and each command's usage stands in README.md and docs/REFUSALS.md."""
+    specs, page = read("crates/nv_command/specs/Help.antt"), "nv_command/specs/Help.antt"
+    helped = options_helped(specs)
+    rows = {name: (commands, *map(digits, limits)) for name, (commands, *limits) in options_in(read(MANUAL)).items()}
+    for name in sorted({*rows, *helped}):
+        if rows.get(name) != helped.get(name):
+            wrong.append(f"{page}: --{name} is {rows.get(name, 'no option')} in {MANUAL}, and {helped.get(name, 'no option')} here")
+    usage = dict(re.findall(r'(?m)^usage_line Names(\w+) = codes "(.*)\\n"$', specs))
+    if sorted(it.lower() for it in usage) != sorted(COMMANDS):
+        wrong.append(f"{page}: the usage of {', '.join(usage)} is there, of the commands {', '.join(COMMANDS)}")
+    readme, refusals = read("README.md"), read("docs/REFUSALS.md")
+    for text in usage.values():
+        if not re.search(rf"(?m)^    {re.escape(text)}(?: >|  )", readme):
+            wrong.append(f"README.md hasn't the usage: {text}")
+        if f"`{text}`" not in refusals:
+            wrong.append(f"docs/REFUSALS.md hasn't the usage: {text}")
+
+
 def listed(wrong):
     """The pages that the last table of README.md lists are those of docs/."""
     table = read("README.md").partition("\n## Pages\n")[2]
@@ -112,6 +144,7 @@ def long_lines(wrong):
 if __name__ == "__main__":
     wrong = []
     options(wrong)
+    helped(wrong)
     listed(wrong)
     crates(wrong)
     cures(wrong)
