@@ -2,7 +2,7 @@ ghost use Rattle.std.specs.Prelude.{◌≡◌, []};
 
 use nv_arrivals::Arrival;
 use nv_arriving::{ArrivingKernel, Outside};
-use nv_outside::OpenGate;
+use nv_workers::OpenGate;
 use nv_replay::Account;
 use nv_served::SyscallKernel;
 use nv_workers_tests::{beside, one_by_one};

@@ -7,11 +7,10 @@ ghost use Rattle.nv_workers.specs.Ends.{IsAccount};
 
 use nv_bpf::Filter;
 use nv_command::Limits;
-use nv_outside::Gate;
 use nv_replay::{Account, Version};
 use nv_room::Room;
 use nv_served::SyscallKernel;
-use nv_workers::{Terms, end, run_all, staff};
+use nv_workers::{Gate, Terms, end, run_all, staff};
 use std::alloc::{AllocError, Global};
 use std::sync::Wait;
 use std::thread::Threads;

@@ -31,10 +31,11 @@ use nv_jobs::{
     MEMORY, Prepared, Task, answer_alone, count_exited, ended, generate, prepare, put_line, refuse,
     starved, status,
 };
-use nv_outside::{Files, Gate, Put, Sink, put_pieces};
+use nv_outside::{Files, Put, Sink, put_pieces};
 use nv_replay::{Account, Version};
 use nv_served::SyscallKernel;
 use nv_sockets::{SocketKernel, write_connections};
+use nv_workers::Gate;
 use std::alloc::Global;
 use std::sync::Wait;
 use std::thread::Threads;

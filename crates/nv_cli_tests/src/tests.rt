@@ -1,4 +1,4 @@
-use nv_outside::{Gate, VersionNumber};
+use nv_workers::{Gate, VersionNumber};
 use nv_test_support::{Outside, image, monitor_through};
 use std::alloc::{AllocError, Global};
 use std::sync::atomic::{AtomicU64, Ordering};

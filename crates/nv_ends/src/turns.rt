@@ -9,10 +9,9 @@ ghost use Rattle.nv_workers.specs.Terms.{AreOfRoom, judges_of};
 ghost use Rattle.nv_workers.specs.Worker.{Works};
 ghost use Rattle.nv_ends.specs.Views.{HasView};
 
-use nv_outside::Gate;
 use nv_room::Room;
 use nv_served::SyscallKernel;
-use nv_workers::{Terms, Turn, Worker};
+use nv_workers::{Gate, Terms, Turn, Worker};
 
 /// A turn of a worker. It leaves fewer turns than it found, or the worker's seat waits for another, as its views before and after show.
 pub fn counted_turn<K: SyscallKernel, G: Gate>(

@@ -4,7 +4,7 @@
 
 mod shelf;
 
-use nv_outside::OpenGate;
+use nv_workers::OpenGate;
 use nv_test_support::{Answered, Outside, monitor_through};
 use shelf::Shelf;
 use std::alloc::{AllocError, Global};

@@ -79,12 +79,15 @@ impl ScriptKernel {
 }
 
 impl SyscallKernel for ScriptKernel {
+    ghost use Rattle.nv_script.specs.Scripts.{Setup};
     ghost use Rattle.nv_kernel.specs.Kernel.{CanServe};
     ghost use Rattle.nv_kernel.specs.Serving.{start_of_script};
 
     ghost log = { λ k. k.log };
 
-    ghost start = { λ k. start_of_script k.setup };
+    ghost Beginning = { Setup };
+
+    ghost start = { λ k. k.setup };
 
     // A script tells all that comes.
     ghost known = { λ k. start_of_script k.setup };
@@ -94,10 +97,9 @@ impl SyscallKernel for ScriptKernel {
     fn reserve(&mut self, call: &Call) -> Result<(), AllocError>
         requires shaped { IsShaped (request call.now) }
         ensures log { self.new.log ≡ self.old.log }
-        ensures start { start_of_script self.new.setup ≡ start_of_script self.old.setup }
+        ensures start { self.new.setup ≡ self.old.setup }
         ensures known { GoesOn self.old.log (start_of_script self.old.setup) (start_of_script self.new.setup) }
         ensures ready { OnOk result (CanServe self.new (request call.now)) }
-        ensures setup { self.new.setup ≡ self.old.setup }
     {
         self.spare = None;
         let event = blank(self.alloc, call)?;
@@ -113,9 +115,8 @@ impl SyscallKernel for ScriptKernel {
         requires lives { Contains (live_after self.old.log) call.now.tid }
         requires few { length self.old.log < MOST_EVENTS }
         ensures log { self.new.log ≡ self.old.log ++ served (start_of_script self.old.setup) self.old.log (request call.now) ∷ [] }
-        ensures start { start_of_script self.new.setup ≡ start_of_script self.old.setup }
+        ensures start { self.new.setup ≡ self.old.setup }
         ensures known { start_of_script self.new.setup ≡ start_of_script self.old.setup }
-        ensures setup { self.new.setup ≡ self.old.setup }
     {
         let Some(mut event) = self.spare.take() else {
             unreachable!()
@@ -142,6 +143,9 @@ impl SyscallKernel for ScriptKernel {
 
 impl Scripted for ScriptKernel {
     ghost use Rattle.std.specs.Prelude.{refl};
+    ghost use Rattle.nv_kernel.specs.Serving.{start_of_script};
+
+    ghost told = { start_of_script };
 
     ghost nothing_new = { λ k. refl };
 }

@@ -111,7 +111,10 @@ impl<O: Outside> SyscallKernel for LearningKernel<O> {
 
     ghost log = { λ k. k.log };
 
-    ghost start = { λ k. from_given [] };
+    // It is made over nothing that differs from run to run.
+    ghost Beginning = { Unit {0} };
+
+    ghost start = { λ k. tt };
 
     ghost known = { λ k. from_given (given_by k.log k.kept) };
 

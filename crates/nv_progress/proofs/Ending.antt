@@ -8,7 +8,6 @@ use Rattle.std.specs.Prelude.{Option}
 use Rattle.atomic_table.specs.Table.{State}
 use Rattle.atomic_table.proofs.Lists.{set_here, set_else}
 use Rattle.nv_calls.specs.Calls.{Entry}
-use Rattle.nv_calls.specs.Logs.{Start}
 use Rattle.nv_room.specs.declared.view.View.{View}
 use Rattle.nv_room.specs.declared.view.Layout.{Layout}
 use Rattle.nv_room.specs.declared.view.Role.{Role}
@@ -30,7 +29,7 @@ use Rattle.nv_progress.proofs.Windows.{can_stays, need_not}
 use Rattle.nv_progress.proofs.Kept.{same_role, same_version, live_on, stayed}
 use Rattle.nv_progress.proofs.Sums.{steps_fall, some_left, some_or_none, turns_stay, turns_fall}
 
-module _ {K : Type 0} (hist : K → List Entry) (beg : K → Start) (p : Layout K) where
+module _ {K B : Type 0} (hist : K → List Entry) (beg : K → B) (p : Layout K) where
   abbrev St : Type 0
   St = State (Option K) (View K)
 
@@ -96,7 +95,7 @@ module _ {K : Type 0} (hist : K → List Entry) (beg : K → Start) (p : Layout 
   all_on [] s s' j t none c = subst (CanStill j) (sym t) c
   all_on (x ∷ xs) s s' j t none c = all_on xs t.0 s' j t.4 none.1 (one_on s t.0 t.1 j x.0 x.1 t.2 t.3 none.0 c)
 
-module _ {K : Type 0} (hist : K → List Entry) (beg : K → Start) (p : Layout K) (state : ℕ → State (Option K) (View K)) (left : ℕ → ℕ → ℕ) (run : IsRun hist beg p state left) where
+module _ {K B : Type 0} (hist : K → List Entry) (beg : K → B) (p : Layout K) (state : ℕ → State (Option K) (View K)) (left : ℕ → ℕ → ℕ) (run : IsRun hist beg p state left) where
   rule_at : (i : ℕ) → Rule hist beg p (state i)
   rule_at zero = run.begins
   rule_at (suc i) = ⊎_elim (λ (e : state (suc i) ≡ state i). subst (Rule hist beg p) (sym e) (rule_at i))

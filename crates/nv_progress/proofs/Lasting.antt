@@ -8,7 +8,6 @@ use Rattle.std.specs.Prelude.{Option}
 use Rattle.atomic_table.specs.Table.{State, Me, Step}
 use Rattle.atomic_table.proofs.Lists.{set_else}
 use Rattle.nv_calls.specs.Calls.{Entry}
-use Rattle.nv_calls.specs.Logs.{Start}
 use Rattle.nv_words.proofs.SpellLaws.{prefix_length, prefix_same}
 use Rattle.nv_places.specs.Header.{owner_index, head_index, cursor_index}
 use Rattle.nv_ring.specs.Places.{FitsAll}
@@ -61,7 +60,7 @@ risen ws i x le = record {
   cursors = λ t. set_up ws (cursor_index i) x (cursor_index t) le;
 }
 
-module _ {K : Type 0} (hist : K → List Entry) (beg : K → Start) (p : Layout K) (s : State (Option K) (View K)) (r : Rule hist beg p s) (u : View K) (id : ℕ) (at : get_elem? s.views id ≡ some u) where
+module _ {K B : Type 0} (hist : K → List Entry) (beg : K → B) (p : Layout K) (s : State (Option K) (View K)) (r : Rule hist beg p s) (u : View K) (id : ℕ) (at : get_elem? s.views id ≡ some u) where
   pub role_of : (role : Role) → u.role ≡ role → InRole p.stations p.places (moment r) u role
   role_of role is = subst (InRole p.stations p.places (moment r) u) is (r.each_seat id u at).in_role
 
@@ -127,7 +126,7 @@ module _ {K : Type 0} (hist : K → List Entry) (beg : K → Start) (p : Layout 
   taker : (st : Step (Option K)) (own : List (ℕ × Option K)) (next : Me (Option K) (View K)) (k : Kind) → Plays hist beg st (u, own) next k → k ≡ takes → (u.role ≡ Reader) × Freed (moment r) u.station u.opened (length u.seen)
   taker st own next k q is = let t = subst (Plays hist beg st (u, own) next) is q in (t.0, (role_of Reader t.0).freed_stays (length u.seen) t.1)
 
-module _ {K : Type 0} (hist : K → List Entry) (beg : K → Start) (p : Layout K) (s s' : State (Option K) (View K)) (r : Rule hist beg p s) (r' : Rule hist beg p s') (id : ℕ) (k : Kind) (d : Does hist beg p s s' id k) (j : ℕ) (v : View K) (ne : j ≢ id) (at : get_elem? s.views j ≡ some v) where
+module _ {K B : Type 0} (hist : K → List Entry) (beg : K → B) (p : Layout K) (s s' : State (Option K) (View K)) (r : Rule hist beg p s) (r' : Rule hist beg p s') (id : ℕ) (k : Kind) (d : Does hist beg p s s' id k) (j : ℕ) (v : View K) (ne : j ≢ id) (at : get_elem? s.views j ≡ some v) where
   abbrev u : View K
   u = d.me.0
 

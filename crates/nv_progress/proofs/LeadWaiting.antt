@@ -8,7 +8,6 @@ use Rattle.std.specs.Prelude.{Option}
 use Rattle.atomic_table.specs.Table.{State}
 use Rattle.atomic_table.proofs.Lists.{set_here}
 use Rattle.nv_calls.specs.Calls.{Entry}
-use Rattle.nv_calls.specs.Logs.{Start}
 use Rattle.nv_words.proofs.SpellLaws.{prefix_same}
 use Rattle.nv_ring.specs.Places.{FitsAll, IsFull}
 use Rattle.nv_room.specs.declared.view.View.{View}
@@ -35,7 +34,7 @@ fits_not_full c log from fits full =
     let few = f.chunks_are_few in
     ⊎_elim (λ (a : from + c ≤ length log). absurd (omega arith)) (λ (a : pool_chunks c < chunks_from log from + 8). absurd (omega arith)) full
 
-module _ {K : Type 0} (hist : K → List Entry) (beg : K → Start) (p : Layout K) (j : ℕ) (old : View K) where
+module _ {K B : Type 0} (hist : K → List Entry) (beg : K → B) (p : Layout K) (j : ℕ) (old : View K) where
   -- it is at its station still, and since then it looked at no other open station's cursor last that keeps it from its place
   pub record SawPlace (s : State (Option K) (View K)) (r : Rule hist beg p s) (v : View K) : Type 0 where
     pub can : HasPlace p.places (moment r) v
@@ -150,9 +149,9 @@ module _ {K : Type 0} (hist : K → List Entry) (beg : K → Start) (p : Layout 
       (λ ne. along xs t.0 s' t.1 v w t.4 looks.1 (at_after hist beg p s t.0 r t.1 x.0 x.1 t.2 j v ne at) is
       record { can = place_on hist beg p s t.0 r t.1 x.0 x.1 t.2 j v ne at is saw.can; station = saw.station; opened = saw.opened; seen = saw.seen; cursor = saw.cursor } end waits)
 
-pub place_now : {K : Type 0} (hist : K → List Entry) (beg : K → Start) (p : Layout K) (j : ℕ) (s : State (Option K) (View K)) (r : Rule hist beg p s) (v : View K) → HasPlace p.places (moment r) v → SawPlace hist beg p j v s r v
+pub place_now : {K B : Type 0} (hist : K → List Entry) (beg : K → B) (p : Layout K) (j : ℕ) (s : State (Option K) (View K)) (r : Rule hist beg p s) (v : View K) → HasPlace p.places (moment r) v → SawPlace hist beg p j v s r v
 place_now hist beg p j s r v can = record { can = can; station = refl; opened = refl; seen = refl; cursor = inl refl }
 
-pub no_lead_waits : {K : Type 0} (hist : K → List Entry) (beg : K → Start) (p : Layout K) (xs : List (ℕ × Kind)) (s s' : State (Option K) (View K)) (r : Rule hist beg p s) (j : ℕ) (v w : View K) → Trace hist beg p xs s s' → GetsOnByNone j xs
+pub no_lead_waits : {K B : Type 0} (hist : K → List Entry) (beg : K → B) (p : Layout K) (xs : List (ℕ × Kind)) (s s' : State (Option K) (View K)) (r : Rule hist beg p s) (j : ℕ) (v w : View K) → Trace hist beg p xs s s' → GetsOnByNone j xs
     → get_elem? s.views j ≡ some v → v.role ≡ Lead → CanGetOn p.places (moment r) v Lead → get_elem? s'.views j ≡ some w → LeadWaits p.places v w → ⊥
 no_lead_waits hist beg p xs s s' r j v w t looks at is can end waits = along hist beg p j v xs s s' r v w t looks at is (place_now hist beg p j s r v can) end waits

@@ -5,7 +5,6 @@ use lib.ListN.{get_elem?}
 use Rattle.std.specs.Prelude.{Option}
 use Rattle.atomic_table.specs.Table.{State, Me, Step}
 use Rattle.nv_calls.specs.Calls.{Entry}
-use Rattle.nv_calls.specs.Logs.{Start}
 use Rattle.nv_room.specs.declared.view.View.{View}
 use Rattle.nv_room.specs.declared.view.Layout.{Layout}
 use Rattle.nv_room.specs.declared.view.Role.TheVariants.{Opening}
@@ -15,7 +14,7 @@ use Rattle.nv_progress.specs.GetsOn.{moment}
 use Rattle.nv_progress.specs.Steps.{Kind, looks_head, looks_owner, looks_cursor, looks_spare, probes, reads, writes, sees, publishes, takes, gives_up, leaves, opens, hands, moves, StepGives}
 use Rattle.nv_progress.specs.Plays.{Plays, Does}
 
-module _ {K : Type 0} (hist : K → List Entry) (beg : K → Start) (p : Layout K) (s : State (Option K) (View K)) (r : Rule hist beg p s) where
+module _ {K B : Type 0} (hist : K → List Entry) (beg : K → B) (p : Layout K) (s : State (Option K) (View K)) (r : Rule hist beg p s) where
   -- a seat that gives up the lead goes to a station above its own, which the room has
   opens_on : (v : View K) (id : ℕ) → get_elem? s.views id ≡ some v → v.role ≡ Opening → (v.station < v.opened) × (v.opened < p.stations)
   opens_on v id at is =

@@ -8,7 +8,7 @@ use Rattle.std.specs.Option.{ForSome}
 use Rattle.atomic_table.specs.Table.{State, Me, Step, step, Allows}
 use Rattle.nv_calls.specs.Calls.{Entry}
 use Rattle.nv_calls.specs.Limits.{MOST_EVENTS}
-use Rattle.nv_calls.specs.Logs.{IsLawful, Start, live_after}
+use Rattle.nv_calls.specs.Logs.{IsLawful, live_after}
 use Rattle.nv_words.specs.Begins.{Prefix}
 use Rattle.nv_words.specs.Spelling.{IsWhole, low, spell}
 use Rattle.nv_places.specs.Header.{owner_index, head_index, cursor_index}
@@ -31,7 +31,7 @@ use Rattle.nv_room.proofs.Writes.{publishes as allows_publish, writes_word}
 use Rattle.nv_progress.specs.Steps.{Kind, looks_head, looks_owner, looks_cursor, looks_spare, probes, reads, writes, sees, publishes, takes, gives_up, leaves, opens, hands, moves}
 use Rattle.nv_progress.specs.Plays.{Plays, written, Goes}
 
-module _ {K : Type 0} (hist : K → List Entry) (beg : K → Start) (p : Layout K) (id : ℕ) (me : Me (Option K) (View K)) (s : State (Option K) (View K)) (r : Rule hist beg p s) (at : get_elem? s.views id ≡ some me.0) (wide : (i : ℕ) → get_or s.words i 0 < 18446744073709551616) where
+module _ {K B : Type 0} (hist : K → List Entry) (beg : K → B) (p : Layout K) (id : ℕ) (me : Me (Option K) (View K)) (s : State (Option K) (View K)) (r : Rule hist beg p s) (at : get_elem? s.views id ≡ some me.0) (wide : (i : ℕ) → get_or s.words i 0 < 18446744073709551616) where
   abbrev slots : ℕ
   slots = length s.homes
 

@@ -7,7 +7,6 @@ use mathlib.Core.Option.{some}
 use lib.ListN.{get_elem?}
 use Rattle.atomic_table.specs.Table.{State}
 use Rattle.nv_calls.specs.Calls.{Entry}
-use Rattle.nv_calls.specs.Logs.{Start}
 use Rattle.nv_words.proofs.SpellLaws.{prefix_length, prefix_same}
 use Rattle.nv_ring.specs.Places.{FitsAll, IsFull}
 use Rattle.nv_ring.proofs.Filling.{past_fit}
@@ -31,7 +30,7 @@ full_unread c log seen pos full = dite (dec_le (length log) seen)
     full))
     (λ less. lt_of_not-le less)
 
-module _ {K : Type 0} (hist : K → List Entry) (beg : K → Start) (p : Layout K) (s : State (Option K) (View K)) (r : Rule hist beg p s) where
+module _ {K B : Type 0} (hist : K → List Entry) (beg : K → B) (p : Layout K) (s : State (Option K) (View K)) (r : Rule hist beg p s) where
   abbrev m : Moment
   m = moment r
 

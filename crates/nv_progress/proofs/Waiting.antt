@@ -9,7 +9,6 @@ use Rattle.std.proofs.lemmas.Bool.{eqb-true}
 use Rattle.atomic_table.specs.Table.{State}
 use Rattle.atomic_table.proofs.Lists.{set_here}
 use Rattle.nv_calls.specs.Calls.{Entry}
-use Rattle.nv_calls.specs.Logs.{Start}
 use Rattle.nv_room.specs.declared.view.View.{View}
 use Rattle.nv_room.specs.declared.view.Layout.{Layout}
 use Rattle.nv_room.specs.declared.view.Role.TheVariants.{Reader, Lead}
@@ -146,7 +145,7 @@ by_probe : {T : Type 0} (l x : ℕ) (v : View T) (b : Bool) → (cond b (with_no
 by_probe l x v true = refl
 by_probe l x v false = refl
 
-module _ {K : Type 0} (hist : K → List Entry) (beg : K → Start) (p : Layout K) (j : ℕ) (old : View K) where
+module _ {K B : Type 0} (hist : K → List Entry) (beg : K → B) (p : Layout K) (j : ℕ) (old : View K) where
   -- a step of the seat itself by which it doesn't get on
   pub own_step : (s s' : State (Option K) (View K)) (r : Rule hist beg p s) (r' : Rule hist beg p s') (k : Kind) (d : Does hist beg p s s' j k) (v : View K) → d.me.0 ≡ v → gets_on k ≡ 0 → Finds s.words k → v.role ≡ Reader → Saw old (moment r) v
       → (d.next.0.role ≡ Reader) × Saw old (moment r') d.next.0
@@ -234,7 +233,7 @@ saw_now c m v can = ⊎_elim
 pub saw_can : {T : Type 0} (c : ℕ) (m : Moment) (old v : View T) → Saw old m v → CanGetOn c m v Reader
 saw_can c m old v saw = ⊎_elim (λ (a : SawEvent old m v). inl a.can) (λ (b : SawFree old m v ⊎ SawClosed old m v). inr (⊎_elim (λ (a : SawFree old m v). inl a.can) (λ (a : SawClosed old m v). inr a.can) b)) saw
 
-pub no_reader_waits : {K : Type 0} (hist : K → List Entry) (beg : K → Start) (p : Layout K) (xs : List (ℕ × Kind)) (s s' : State (Option K) (View K)) (r : Rule hist beg p s) (j : ℕ) (v w : View K) → Trace hist beg p xs s s' → GetsOnByNone j xs
+pub no_reader_waits : {K B : Type 0} (hist : K → List Entry) (beg : K → B) (p : Layout K) (xs : List (ℕ × Kind)) (s s' : State (Option K) (View K)) (r : Rule hist beg p s) (j : ℕ) (v w : View K) → Trace hist beg p xs s s' → GetsOnByNone j xs
     → get_elem? s.views j ≡ some v → v.role ≡ Reader → CanGetOn p.places (moment r) v Reader → get_elem? s'.views j ≡ some w → Waits v w → ⊥
 no_reader_waits hist beg p xs s s' r j v w t looks at is can end waits =
     along hist beg p j v xs s s' r v w t looks at is (saw_now p.places (moment r) v can) end waits

@@ -5,7 +5,6 @@ use lib.ListN.{get_elem?}
 use Rattle.std.specs.Prelude.{Option}
 use Rattle.atomic_table.specs.Table.{State}
 use Rattle.nv_calls.specs.Calls.{Entry}
-use Rattle.nv_calls.specs.Logs.{Start}
 use Rattle.nv_room.specs.declared.view.View.{View}
 use Rattle.nv_room.specs.declared.view.Layout.{Layout}
 use Rattle.nv_room.specs.declared.view.Role.{Role}
@@ -27,7 +26,7 @@ can_stays c m v Moving k = tt
 can_stays c m v Gone k = absurd k
 can_stays c m v Spent k = absurd k
 
-module _ {K : Type 0} (hist : K → List Entry) (beg : K → Start) (p : Layout K) (s : State (Option K) (View K)) (r : Rule hist beg p s) (j : ℕ) (v : View K) (at : get_elem? s.views j ≡ some v) where
+module _ {K B : Type 0} (hist : K → List Entry) (beg : K → B) (p : Layout K) (s : State (Option K) (View K)) (r : Rule hist beg p s) (j : ℕ) (v : View K) (at : get_elem? s.views j ≡ some v) where
   by_role : (role : Role) → v.role ≡ role → CanGetOn p.places (moment r) v role → (xs : List (ℕ × Kind)) (last : State (Option K) (View K)) (w : View K) → Trace hist beg p xs s last → GetsOnByNone j xs → get_elem? last.views j ≡ some w → HasToWait p.places v w role → ⊥
   by_role Reader is can xs last w t on end waits = no_reader_waits hist beg p xs s last r j v w t on at is can end waits
   by_role Lead is can xs last w t on end waits = no_lead_waits hist beg p xs s last r j v w t on at is can end waits
@@ -40,6 +39,6 @@ module _ {K : Type 0} (hist : K → List Entry) (beg : K → Start) (p : Layout 
   pub need_not : CanGetOn p.places (moment r) v v.role → NeedNotWait hist beg p s j v
   need_not can = record { turns = by_role v.role refl can; stays = can_stays p.places (moment r) v v.role can }
 
-pub some_need_not : {K : Type 0} (hist : K → List Entry) (beg : K → Start) (p : Layout K) (s : State (Option K) (View K)) (r : Rule hist beg p s) → AllSeated p s.views → SomeStays s.views
+pub some_need_not : {K B : Type 0} (hist : K → List Entry) (beg : K → B) (p : Layout K) (s : State (Option K) (View K)) (r : Rule hist beg p s) → AllSeated p s.views → SomeStays s.views
     → (j : ℕ) × (v : View K) × (get_elem? s.views j ≡ some v) × NeedNotWait hist beg p s j v
 some_need_not hist beg p s r all some_stays = let o = not_stuck hist beg p s r all some_stays in (o.0, o.1, o.2, need_not hist beg p s r o.0 o.1 o.2 o.3)

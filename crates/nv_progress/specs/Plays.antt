@@ -4,7 +4,6 @@ use mathlib.Core.Option.{some}
 use lib.ListN.{get_elem?}
 use Rattle.atomic_table.specs.Table.{State, Me, Step}
 use Rattle.nv_calls.specs.Calls.{Entry}
-use Rattle.nv_calls.specs.Logs.{Start}
 use Rattle.nv_calls.specs.Limits.{MOST_EVENTS}
 use Rattle.nv_places.specs.Header.{owner_index, head_index, cursor_index}
 use Rattle.nv_places.specs.Logs.{lanes_after}
@@ -18,7 +17,7 @@ use Rattle.nv_room.specs.Steps.{looked_head, looked_owner, looked_cursor, spare,
 use Rattle.nv_progress.specs.Steps.{Kind, looks_head, looks_owner, looks_cursor, looks_spare, probes, reads, writes, sees, publishes, takes, gives_up, leaves, opens, hands, moves}
 
 -- what the room asks of the seat before such a step, and what its play tells of the seat after it
-module _ {K : Type 0} (hist : K → List Entry) (beg : K → Start) (st : Step (Option K)) (m m' : Me (Option K) (View K)) where
+module _ {K B : Type 0} (hist : K → List Entry) (beg : K → B) (st : Step (Option K)) (m m' : Me (Option K) (View K)) where
   abbrev pub Plays : Kind → Type 0
   Plays (looks_head r) = looked_head st m r m'
   Plays (looks_owner r) = (m.0.role ≡ Reader) × looked_owner st m r m'
@@ -56,7 +55,7 @@ module _ {T : Type 0} (p : Layout T) (v : View T) (ws : List ℕ) where
   written moves = slice_set ws (cursor_index v.former) GONE
 
 -- the seat id takes a step of this kind, and the other seats stay as they are
-pub record Does {K : Type 0} (hist : K → List Entry) (beg : K → Start) (p : Layout K) (s s' : State (Option K) (View K)) (id : ℕ) (kind : Kind) : Type 0 where
+pub record Does {K B : Type 0} (hist : K → List Entry) (beg : K → B) (p : Layout K) (s s' : State (Option K) (View K)) (id : ℕ) (kind : Kind) : Type 0 where
   pub step : Step (Option K)
   pub me : Me (Option K) (View K)
   pub next : Me (Option K) (View K)
@@ -66,9 +65,9 @@ pub record Does {K : Type 0} (hist : K → List Entry) (beg : K → Start) (p : 
   pub views : s'.views ≡ slice_set s.views id next.0
 
 -- the seat id, with this view and these slots, may take such a step, to a state that meets the rule
-abbrev pub Goes : {K : Type 0} → (K → List Entry) → (K → Start) → Layout K → State (Option K) (View K) → ℕ → Me (Option K) (View K) → Kind → Type 0
+abbrev pub Goes : {K B : Type 0} → (K → List Entry) → (K → B) → Layout K → State (Option K) (View K) → ℕ → Me (Option K) (View K) → Kind → Type 0
 Goes {K} hist beg p s id me k = (u : State (Option K) (View K)) × Rule hist beg p u × ((d : Does hist beg p s u id k) × (d.me.0 ≡ me.0))
 
 -- it may in each state that meets the rule and has it so; what it finds there is the state's
-abbrev pub MayDo : {K : Type 0} → (K → List Entry) → (K → Start) → Layout K → ℕ → Me (Option K) (View K) → (List ℕ → Kind) → Type 0
+abbrev pub MayDo : {K B : Type 0} → (K → List Entry) → (K → B) → Layout K → ℕ → Me (Option K) (View K) → (List ℕ → Kind) → Type 0
 MayDo {K} hist beg p id me kind = (s : State (Option K) (View K)) → Rule hist beg p s → get_elem? s.views id ≡ some me.0 → ((i : ℕ) → slice_index_or s.words i 0 < 18446744073709551616) → Goes hist beg p s id me (kind s.words)

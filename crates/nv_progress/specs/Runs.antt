@@ -4,7 +4,6 @@ use mathlib.Core.Option.{some}
 use lib.ListN.{get_elem?}
 use Rattle.atomic_table.specs.Table.{State}
 use Rattle.nv_calls.specs.Calls.{Entry}
-use Rattle.nv_calls.specs.Logs.{Start}
 use Rattle.nv_room.specs.declared.view.View.{View}
 use Rattle.nv_room.specs.declared.view.Layout.{Layout}
 use Rattle.nv_room.specs.Room.{Rule}
@@ -26,7 +25,7 @@ turns_of left zero = 0
 turns_of left (suc j) = left j + turns_of left j
 
 -- The room's state at each moment, and how many turns of the worker with the seat j may still get on, as its last turn until then left it.
-module _ {K : Type 0} (hist : K → List Entry) (beg : K → Start) (p : Layout K) (state : ℕ → State (Option K) (View K)) (left : ℕ → ℕ → ℕ) where
+module _ {K B : Type 0} (hist : K → List Entry) (beg : K → B) (p : Layout K) (state : ℕ → State (Option K) (View K)) (left : ℕ → ℕ → ℕ) where
   -- between two moments one seat takes a step, or the room stays as it is
   abbrev pub Passes : ℕ → Type 0
   Passes i = (state (suc i) ≡ state i) ⊎ (Rule hist beg p (state (suc i)) × ((id : ℕ) × (kind : Kind) × Does hist beg p (state i) (state (suc i)) id kind × Finds (state i).words kind))

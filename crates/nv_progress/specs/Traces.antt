@@ -4,7 +4,6 @@ use mathlib.Core.Option.{some}
 use lib.ListN.{get_elem?}
 use Rattle.atomic_table.specs.Table.{State}
 use Rattle.nv_calls.specs.Calls.{Entry}
-use Rattle.nv_calls.specs.Logs.{Start}
 use Rattle.nv_calls.specs.Limits.{MOST_EVENTS}
 use Rattle.nv_places.specs.Header.{owner_index, head_index}
 use Rattle.nv_ring.specs.Places.{IsFull}
@@ -37,7 +36,7 @@ Finds ws (hands r) = Unit {0}
 Finds ws moves = Unit {0}
 
 -- steps of these seats and kinds, each to a state that meets the rule
-module _ {K : Type 0} (hist : K → List Entry) (beg : K → Start) (p : Layout K) where
+module _ {K B : Type 0} (hist : K → List Entry) (beg : K → B) (p : Layout K) where
   abbrev pub Trace : List (ℕ × Kind) → State (Option K) (View K) → State (Option K) (View K) → Type 0
   Trace [] s s' = s' ≡ s
   Trace (x ∷ xs) s s' = (u : State (Option K) (View K)) × Rule hist beg p u × Does hist beg p s u x.0 x.1 × Finds s.words x.1 × Trace xs u s'
@@ -73,7 +72,7 @@ module _ {T : Type 0} (c : ℕ) (old new : View T) where
   HasToWait Spent = ⊥
 
 -- whatever steps the others take, the seat j with this view doesn't wait while it doesn't get on; and it has still to leave
-module _ {K : Type 0} (hist : K → List Entry) (beg : K → Start) (p : Layout K) (s : State (Option K) (View K)) (j : ℕ) (v : View K) where
+module _ {K B : Type 0} (hist : K → List Entry) (beg : K → B) (p : Layout K) (s : State (Option K) (View K)) (j : ℕ) (v : View K) where
   pub record NeedNotWait : Type 0 where
     pub turns : (xs : List (ℕ × Kind)) (last : State (Option K) (View K)) (w : View K) → Trace hist beg p xs s last → GetsOnByNone j xs → get_elem? last.views j ≡ some w → ¬ HasToWait p.places v w v.role
     pub stays : Stays v.role

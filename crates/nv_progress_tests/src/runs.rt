@@ -5,10 +5,9 @@ use crate::cases::Case;
 use crate::scheduler::{Ending, schedule};
 use crate::seed::Seed;
 use nv_kernel::ScriptKernel;
-use nv_outside::OpenGate;
 use nv_replay::Account;
 use nv_room::Room;
-use nv_workers::{Terms, end, gather, staff};
+use nv_workers::{OpenGate, Terms, end, gather, staff};
 use nv_workers_tests::{MOST_EVENTS, kernel, versions};
 use std::alloc::{AllocError, Global};
 

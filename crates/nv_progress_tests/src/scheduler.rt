@@ -6,9 +6,8 @@ ghost use Rattle.nv_progress_tests.specs.Endings.{GoneIfLeft};
 
 use crate::seed::Seed;
 use nv_kernel::ScriptKernel;
-use nv_outside::OpenGate;
 use nv_room::Room;
-use nv_workers::{Terms, Turn, Worker};
+use nv_workers::{OpenGate, Terms, Turn, Worker};
 use nv_workers_tests::{BUDGET, MOST_EVENTS};
 
 /// How the turns of a run ended.

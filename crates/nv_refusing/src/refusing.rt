@@ -52,6 +52,8 @@ impl<K: SyscallKernel> SyscallKernel for RefusingKernel<K> {
 
     ghost log = { λ k. K.log k.inner };
 
+    ghost Beginning = { K.Beginning };
+
     ghost start = { λ k. K.start k.inner };
 
     ghost known = { λ k. K.known k.inner };

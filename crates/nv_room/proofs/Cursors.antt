@@ -8,7 +8,6 @@ use lib.Seq.{map-set}
 use Rattle.std.specs.Prelude.{Option}
 use Rattle.atomic_table.specs.Table.{State, Me, step, keeps, Allows}
 use Rattle.nv_calls.specs.Calls.{Entry}
-use Rattle.nv_calls.specs.Logs.{Start}
 use Rattle.nv_words.specs.Spelling.{IsWhole}
 use Rattle.nv_words.specs.Begins.{Prefix}
 use Rattle.nv_words.proofs.SpellLaws.{prefix_length, whole_same}
@@ -95,7 +94,7 @@ module _ (n c : ℕ) (m : Moment) (i x : ℕ) (pl : Places n c m) (near : i < n)
   own_risen u ne Gone other = tt
   own_risen u ne Spent other = tt
 
-module _ {K : Type 0} (hist : K → List Entry) (beg : K → Start) (p : Layout K) where
+module _ {K B : Type 0} (hist : K → List Entry) (beg : K → B) (p : Layout K) where
   abbrev St : Type 0
   St = State (Option K) (View K)
 

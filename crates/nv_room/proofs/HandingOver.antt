@@ -10,7 +10,7 @@ use Rattle.std.specs.Option.{ForSome}
 use Rattle.atomic_table.specs.Table.{State, Me, step, keeps, gives, put_back, homes_after, Allows}
 use Rattle.atomic_table.proofs.Lists.{set_here, at_longer}
 use Rattle.nv_calls.specs.Calls.{Entry}
-use Rattle.nv_calls.specs.Logs.{Start, IsLawful}
+use Rattle.nv_calls.specs.Logs.{IsLawful}
 use Rattle.nv_words.specs.Spelling.{spell}
 use Rattle.nv_words.proofs.SpellLaws.{prefix_same}
 use Rattle.nv_room.specs.declared.view.View.{View}
@@ -81,7 +81,7 @@ no_words (x ∷ xs) h = absurd (h x refl)
 given : (st o n new : ℕ) → st < 16 → o ≤ 16 → new ≡ owner_word free st o n → owner_at new ≡ n
 given st o n new l b is = let q : new / 2048 ≡ n = omega arith in q
 
-module _ {K : Type 0} (hist : K → List Entry) (beg : K → Start) (p : Layout K) where
+module _ {K B : Type 0} (hist : K → List Entry) (beg : K → B) (p : Layout K) where
   abbrev St : Type 0
   St = State (Option K) (View K)
 

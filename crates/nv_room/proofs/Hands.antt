@@ -13,7 +13,7 @@ use Rattle.std.specs.declared.snapshot.Snapshot.{Snapshot}
 use Rattle.atomic_table.specs.Table.{State, Me, step, takes, gives, put_back, homes_after, Allows}
 use Rattle.atomic_table.proofs.Lists.{set_here}
 use Rattle.nv_calls.specs.Calls.{Entry}
-use Rattle.nv_calls.specs.Logs.{Start, IsLawful, live_after}
+use Rattle.nv_calls.specs.Logs.{IsLawful, live_after}
 use Rattle.nv_words.specs.Spelling.{spell}
 use Rattle.nv_words.proofs.SpellLaws.{prefix_length, prefix_same}
 use Rattle.nv_room.specs.declared.view.View.{View}
@@ -76,7 +76,7 @@ module _ (n c : ℕ) (m : Moment) (new : ℕ) (pl : Places n c m) where
     planned = d.planned;
   }
 
-module _ {K : Type 0} (hist : K → List Entry) (beg : K → Start) (p : Layout K) where
+module _ {K B : Type 0} (hist : K → List Entry) (beg : K → B) (p : Layout K) where
   abbrev St : Type 0
   St = State (Option K) (View K)
 

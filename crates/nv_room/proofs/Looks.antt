@@ -9,7 +9,6 @@ use Rattle.std.specs.Prelude.{Option, Some, None}
 use Rattle.atomic_table.specs.Table.{State, Me, step, keeps, Allows}
 use Rattle.atomic_table.proofs.Lists.{at_map}
 use Rattle.nv_calls.specs.Calls.{Entry}
-use Rattle.nv_calls.specs.Logs.{Start}
 use Rattle.nv_calls.proofs.LogLaws.{lawful_range}
 use Rattle.nv_words.specs.Spelling.{IsWhole, spell}
 use Rattle.nv_words.specs.Begins.{Prefix}
@@ -32,7 +31,7 @@ use Rattle.nv_room.proofs.Merges.{merge_turned}
 use Rattle.nv_room.proofs.Stays.{last_near, now, looked}
 use Rattle.nv_room.proofs.Seats.{prefix_more, holder_led, not_holder, not_held, in_role, seated, open_near, role_near, told}
 
-module _ {K : Type 0} (hist : K → List Entry) (beg : K → Start) (p : Layout K) where
+module _ {K B : Type 0} (hist : K → List Entry) (beg : K → B) (p : Layout K) where
   abbrev St : Type 0
   St = State (Option K) (View K)
 

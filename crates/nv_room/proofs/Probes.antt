@@ -10,7 +10,7 @@ use Rattle.std.proofs.lemmas.Option.{same_Some}
 use Rattle.atomic_table.specs.Table.{State, Me, step, keeps, Allows}
 use Rattle.atomic_table.proofs.Lists.{at_map}
 use Rattle.nv_calls.specs.Calls.{Entry}
-use Rattle.nv_calls.specs.Logs.{Start, IsLawful}
+use Rattle.nv_calls.specs.Logs.{IsLawful}
 use Rattle.nv_calls.proofs.LogLaws.{lawful_range, slice_some}
 use Rattle.nv_words.specs.Spelling.{low, spell}
 use Rattle.nv_places.specs.Logs.{entries, lanes_after, lane}
@@ -60,7 +60,7 @@ noted_hit log seen noted missed read l k more is = record { noted_is_next = λ j
 noted_miss : (log seen : Log) (noted : Option ℕ) (missed read : List ℕ) (l : ℕ) → Notes log seen noted missed read → length seen < length log → l ≢ lane log (length seen) → Notes log seen noted (missed ++ l ∷ []) read
 noted_miss log seen noted missed read l k more is = record { noted_is_next = k.noted_is_next; missed_is_not = λ j h. ⊎_elim (λ (q : get_elem? missed h.0 ≡ some j). k.missed_is_not j (h.0, q)) (λ (q : (h.0 ≡ length missed) × (l ≡ j)). (more, λ e. is (q.1 ∙ e))) (at_end missed l j h.0 h.1); unnoted_is_unread = k.unnoted_is_unread }
 
-module _ {K : Type 0} (hist : K → List Entry) (beg : K → Start) (p : Layout K) where
+module _ {K B : Type 0} (hist : K → List Entry) (beg : K → B) (p : Layout K) where
   abbrev St : Type 0
   St = State (Option K) (View K)
 

@@ -10,7 +10,6 @@ use Rattle.std.specs.Prelude.{Option}
 use Rattle.atomic_table.specs.Table.{State}
 use Rattle.atomic_table.proofs.Lists.{at_set, at_map}
 use Rattle.nv_calls.specs.Calls.{Entry}
-use Rattle.nv_calls.specs.Logs.{Start}
 use Rattle.nv_calls.proofs.LogLaws.{lawful_take}
 use Rattle.nv_words.specs.Spelling.{spell}
 use Rattle.nv_words.specs.Begins.{Prefix}
@@ -110,7 +109,7 @@ module _ (ts : List Tag) (id : ℕ) (a b : Tag) (at : get_elem? ts id ≡ some a
       (λ (q : (h ≢ id) × (get_elem? ts h ≡ some y)). old j h x y p.1 q.1 c) (at_set ts id h b y f))
       (at_set ts id j b x e)
 
-module _ {K : Type 0} (hist : K → List Entry) (beg : K → Start) (p : Layout K) where
+module _ {K B : Type 0} (hist : K → List Entry) (beg : K → B) (p : Layout K) where
   abbrev St : Type 0
   St = State (Option K) (View K)
 

@@ -2,7 +2,8 @@
 ghost use Rattle.std.specs.Prelude.{◌<◌};
 
 use nv_cli::varan;
-use nv_outside::{File, Gate, MemoryFiles, MemorySink, OpenGate};
+use nv_outside::{File, MemoryFiles, MemorySink};
+use nv_workers::{Gate, OpenGate};
 use std::alloc::{AllocError, Global};
 use std::sync::Wait;
 use std::thread::Threads;

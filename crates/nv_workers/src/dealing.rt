@@ -4,10 +4,10 @@ ghost use Rattle.nv_workers.specs.Terms.{AreOfRoom, judges_of};
 ghost use Rattle.nv_workers.specs.inner.Rounds.{CanAll, AllOn};
 ghost use Rattle.nv_workers.specs.inner.Dealing.{AreEven};
 
+use crate::gate::Gate;
 use crate::running::{Parts, rotate_while_moving};
 use crate::terms::Terms;
 use crate::worker::Worker;
-use nv_outside::Gate;
 use nv_room::Room;
 use nv_served::SyscallKernel;
 use std::sync::Wait;

@@ -9,9 +9,9 @@ ghost use Rattle.nv_workers.specs.Growing.{OneMoreAtMost};
 ghost use Rattle.nv_workers.specs.Follows.{AfterTurn, HasGrown, IsIdle, IsBusy, IsFound, IsWaiting};
 ghost use Rattle.nv_workers.specs.inner.Spares.{HasSpared};
 
+use crate::gate::{Gate, VersionNumber};
 use crate::terms::Terms;
 use nv_lamport::{Polled, poll_merged};
-use nv_outside::{Gate, VersionNumber};
 use nv_promotion::{Lower, lower_gone};
 use nv_replay::{Followed, Version};
 use nv_ring::advance;

@@ -11,8 +11,8 @@ ghost use Rattle.nv_workers.specs.Publishing.{CanPublish, IsPublished};
 ghost use Rattle.nv_workers.specs.inner.Leads.{AfterLead, HasPublished, IsLate, next_after};
 
 use crate::follows::Next;
+use crate::gate::{Gate, VersionNumber};
 use crate::terms::Terms;
-use nv_outside::{Gate, VersionNumber};
 use nv_replay::{Led, Version};
 use nv_ring::{Placed, place, publish};
 use nv_room::{Lead, Room};
@@ -74,13 +74,13 @@ fn serve<K: SyscallKernel, G: Gate>(
         return Next::Leaves;
     }
     terms.gate.before_publish(leader(lead), lead.seen());
-    publish_call(version, lead, tid, room);
+    publish_call(version, lead, tid, room, terms.gate);
     *asked = None;
     next_of(version, terms.hands)
 }
 
 // The version that leads, whatever its station's number is.
-fn leader<K: SyscallKernel>(lead: &Lead<K>) -> VersionNumber
+pub(crate) fn leader<K: SyscallKernel>(lead: &Lead<K>) -> VersionNumber
     ensures { result.0 ≡ version_of_lead lead.now }
 {
     VersionNumber(lead.version())
@@ -106,16 +106,19 @@ fn is_planned(hands: &[u32], length: u32) -> bool
 }
 
 // The call that the version asked is served, published and answered.
-fn publish_call<K: SyscallKernel>(
+fn publish_call<K: SyscallKernel, G: Gate>(
     version: &mut Version,
     lead: &mut Lead<K>,
     tid: u32,
     room: &Room<K>,
+    gate: &G,
 )
     requires { CanPublish room.now version.old lead.old tid }
     ensures { IsPublished room.now version.old lead.old tid version.new lead.new }
 {
     publish(lead, room, version.pending(tid));
     let at = version.standing().seen as usize;
-    version.answered(&lead.kernel().history()[at]);
+    let event = &lead.kernel().history()[at];
+    version.answered(event);
+    gate.after_publish(leader(lead), event);
 }

@@ -1,5 +1,5 @@
 //! A run: versions beside each other on threads of the host, each with its seat in one room.
-//! Types: `Terms`, `Worker`, `Turn`, `Ran`; functions `staff`, `run_all`, `gather`, `end`.
+//! Types: `Terms`, the trait `Gate`, `Worker`, `Turn`, `Ran`; functions `staff`, `run_all`, `gather`, `end`.
 //! Proved, if it returns: the log and the standings are the sequential monitor's with the room's planned lengths, whichever
 //! thread took which turn; the spans of all versions cover the log.
 //! Above: the top call.
@@ -7,6 +7,7 @@
 
 mod dealing;
 mod follows;
+mod gate;
 mod leads;
 mod ran;
 mod running;
@@ -14,6 +15,7 @@ mod staffing;
 mod terms;
 mod worker;
 
+pub use gate::{Gate, OpenGate, VersionNumber};
 pub use ran::{NotRun, Ran, end, gather, run_all};
 pub use staffing::staff;
 pub use terms::Terms;

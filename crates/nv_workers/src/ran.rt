@@ -11,10 +11,10 @@ ghost use Rattle.nv_workers.specs.Staffing.{AreNew};
 ghost use Rattle.nv_workers.specs.Ran.{AllRan, AreApart};
 
 use crate::dealing::deal;
+use crate::gate::Gate;
 use crate::running::rotate;
 use crate::terms::Terms;
 use crate::worker::{Seat, Worker};
-use nv_outside::Gate;
 use nv_replay::{Account, Version};
 use nv_room::{Ended, Left, Room};
 use nv_served::SyscallKernel;

@@ -3,9 +3,9 @@ ghost use Rattle.std.specs.Prelude.{◌≡◌};
 ghost use Rattle.nv_workers.specs.Terms.{AreOfRoom, judges_of};
 ghost use Rattle.nv_workers.specs.inner.Rounds.{CanAll, AllOn, AreGone, GoneIf, both_of};
 
+use crate::gate::Gate;
 use crate::terms::Terms;
 use crate::worker::{Turn, Worker};
-use nv_outside::Gate;
 use nv_room::Room;
 use nv_served::SyscallKernel;
 use std::sync::Wait;

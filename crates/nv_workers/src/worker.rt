@@ -15,11 +15,11 @@ ghost use Rattle.nv_workers.specs.inner.Spares.{HasSpared};
 ghost use Rattle.nv_workers.specs.Staffing.{IsNewLead, IsNewReader, LeadsAnew, ReadsAnew};
 
 use crate::follows::{Next, follow_turn};
-use crate::leads::lead_turn;
+use crate::gate::{Gate, VersionNumber};
+use crate::leads::{lead_turn, leader};
 use crate::terms::Terms;
-use nv_outside::Gate;
 use nv_promotion::{close, hand, leave, retire, take};
-use nv_replay::Version;
+use nv_replay::{Standing, Version};
 use nv_room::{Lead, Left, Reader, Room};
 use nv_served::SyscallKernel;
 use nv_words::EventBuf;
@@ -130,7 +130,7 @@ impl<K: SyscallKernel> Worker<K> {
             Next::Ahead => Turn::Ahead,
             Next::Waits => Turn::Waiting,
             Next::Leads => {
-                self.promote(room);
+                self.promote(room, terms.gate);
                 Turn::Moved
             }
             Next::Hands => {
@@ -138,7 +138,7 @@ impl<K: SyscallKernel> Worker<K> {
                 Turn::Moved
             }
             Next::Leaves => {
-                self.depart(room);
+                self.depart(room, terms.gate);
                 Turn::Done
             }
             Next::Left => Turn::Done,
@@ -175,7 +175,7 @@ impl<K: SyscallKernel> Worker<K> {
 
     // The reader's seat becomes the lead. Out of line, so that a turn's frame has no seat in it.
     #[inline(never)]
-    fn promote(&mut self, room: &Room<K>)
+    fn promote<G: Gate>(&mut self, room: &Room<K>, gate: &G)
         requires can { (judges : ℕ → Judge) × (most : ℕ) × (p : Proc) × CanLead judges room.now p self.old.version most self.old.buf self.old.seat }
         ensures works { (judges : ℕ → Judge) (most : ℕ) (p : Proc) → CanLead judges room.now p self.old.version most self.old.buf self.old.seat → Works judges room.now most p self.new }
         ensures version { version_of self.new ≡ version_of self.old }
@@ -190,6 +190,7 @@ impl<K: SyscallKernel> Worker<K> {
             unreachable!()
         };
         let lead = take_lead(&mut self.version, reader, room);
+        gate.at_lead(leader(&lead), lead.seen());
         self.seat = Seat::Leading { lead, asked: None };
     }
 
@@ -216,7 +217,7 @@ impl<K: SyscallKernel> Worker<K> {
 
     // The seat leaves. Out of line as well.
     #[inline(never)]
-    fn depart(&mut self, room: &Room<K>)
+    fn depart<G: Gate>(&mut self, room: &Room<K>, gate: &G)
         requires can { (judges : ℕ → Judge) × (most : ℕ) × (p : Proc) × CanLeave judges room.now p self.old.version most self.old.seat }
         ensures works { (judges : ℕ → Judge) (most : ℕ) (p : Proc) → CanLeave judges room.now p self.old.version most self.old.seat → Works judges room.now most p self.new }
         ensures version { version_of self.new ≡ version_of self.old }
@@ -226,21 +227,32 @@ impl<K: SyscallKernel> Worker<K> {
         ensures spare { self.new.spare ≡ self.old.spare }
     {
         let seat = mem::replace(&mut self.seat, Seat::Moving);
-        let left = vacate(seat, room);
+        let left = vacate(seat, self.version.standing(), room, gate);
         self.seat = Seat::Gone { left };
     }
 }
 
 // The seat of a version that has its fate leaves.
-fn vacate<K: SyscallKernel>(seat: Seat<K>, room: &Room<K>) -> Left<K>
+fn vacate<K: SyscallKernel, G: Gate>(
+    seat: Seat<K>,
+    standing: &Standing,
+    room: &Room<K>,
+    gate: &G,
+) -> Left<K>
     requires can { (judges : ℕ → Judge) × (most : ℕ) × (p : Proc) × (v : Running Proc) × CanLeave judges room.now p v most seat }
     ensures works { (judges : ℕ → Judge) (most : ℕ) (p : Proc) (v : Running Proc) (buf : List ℕ) → CanLeave judges room.now p v most seat → WorksAt judges room.now most p v buf (Seat.Gone result) }
     ensures version { version_of_left result ≡ version_of_seat seat }
     ensures seen { length (left_view result).seen ≡ seen_by seat }
 {
     match seat {
-        Seat::Reading { reader, held: _ } => leave(reader, room),
-        Seat::Leading { lead, asked: _ } => give_up(lead, room),
+        Seat::Reading { reader, held: _ } => {
+            gate.at_end(VersionNumber(reader.version()), standing);
+            leave(reader, room)
+        }
+        Seat::Leading { lead, asked: _ } => {
+            gate.at_end(leader(&lead), standing);
+            give_up(lead, room)
+        }
         Seat::Gone { .. } | Seat::Moving => unreachable!(),
     }
 }

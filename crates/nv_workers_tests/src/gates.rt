@@ -1,6 +1,6 @@
 use crate::runs::{beside, kernel, program};
 use crate::tests::{EXITS, alike};
-use nv_outside::{Gate, VersionNumber};
+use nv_workers::{Gate, VersionNumber};
 use std::process::Abort;
 use std::sync::atomic::{AtomicU64, Ordering};
 use std::thread::yield_now;

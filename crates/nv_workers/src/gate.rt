@@ -1,0 +1,37 @@
+// What workers tell while a run goes on, and where they may be held.
+
+use nv_calls::Event;
+use nv_replay::Standing;
+
+/// The number of a version of a run, from 0. The station that the version's seat is at may have another number.
+#[derive(Clone, Copy, Debug, PartialEq, Eq, Drop)]
+pub struct VersionNumber(pub u32);
+
+/// Each call is made by the thread that has the version's turn; `version` is the same also where the version's seat has gone on at
+/// another station.
+pub trait Gate {
+    /// The version leads, and its next event will have this stamp.
+    fn before_publish(&self, version: VersionNumber, stamp: u32);
+
+    /// The version has consumed the event with this stamp.
+    fn after_take(&self, version: VersionNumber, stamp: u32);
+
+    /// The version leads, and has served this event.
+    fn after_publish(&self, _version: VersionNumber, _event: &Event) {}
+
+    /// The version leads from the event with this stamp on, in place of one that led before.
+    fn at_lead(&self, _version: VersionNumber, _stamp: u32) {}
+
+    /// The version has ended, and leaves next.
+    fn at_end(&self, _version: VersionNumber, _standing: &Standing) {}
+}
+
+/// The gate that holds nobody.
+#[derive(Clone, Copy, Debug)]
+pub struct OpenGate;
+
+impl Gate for OpenGate {
+    fn before_publish(&self, _version: VersionNumber, _stamp: u32) {}
+
+    fn after_take(&self, _version: VersionNumber, _stamp: u32) {}
+}
