@@ -79,6 +79,7 @@ impl ScriptKernel {
 }
 
 impl SyscallKernel for ScriptKernel {
+    ghost use Rattle.std.specs.Coded.{codes};
     ghost use Rattle.nv_script.specs.Scripts.{Setup};
     ghost use Rattle.nv_kernel.specs.Kernel.{CanServe};
     ghost use Rattle.nv_kernel.specs.Serving.{start_of_script};
@@ -86,6 +87,8 @@ impl SyscallKernel for ScriptKernel {
     ghost log = { λ k. k.log };
 
     ghost Beginning = { Setup };
+
+    ghost beginning_code = { Prim.hlevel codes };
 
     ghost start = { λ k. k.setup };
 

@@ -54,6 +54,8 @@ impl<K: SyscallKernel> SyscallKernel for RefusingKernel<K> {
 
     ghost Beginning = { K.Beginning };
 
+    ghost beginning_code = { K.beginning_code };
+
     ghost start = { λ k. K.start k.inner };
 
     ghost known = { λ k. K.known k.inner };

@@ -90,6 +90,7 @@ impl SocketKernel {
 }
 
 impl SyscallKernel for SocketKernel {
+    ghost use Rattle.std.specs.Coded.{codes};
     ghost use Rattle.nv_script.specs.Scripts.{Setup};
     ghost use Rattle.nv_sockets.specs.Kernel.{CanServe};
     ghost use Rattle.nv_sockets.specs.Serving.{start_of_script};
@@ -97,6 +98,8 @@ impl SyscallKernel for SocketKernel {
     ghost log = { λ k. k.log };
 
     ghost Beginning = { Setup };
+
+    ghost beginning_code = { Prim.hlevel codes };
 
     ghost start = { λ k. k.setup };
 
