@@ -3,9 +3,9 @@ use Rattle.std.specs.Prelude.{ℕ, List, [], ◌∷◌}
 use Rattle.nv_bpf.specs.declared.op.Op.{Op}
 use Rattle.nv_script.specs.Scripts.{Setup}
 
--- no arguments, no input, no files, a clock that stands at 0, the seed 0, no change of the leader planned, and no connection
+-- no arguments, no input, no files, a clock that stands at 0, the seed 0, no change of the leader planned, no connection, and nothing that comes
 abbrev pub bare : Setup
-bare = record { arguments = []; input = []; files = []; seconds = 0; nanos = 0; step = 0; seed = 0; hands = []; connections = [] }
+bare = record { arguments = []; input = []; files = []; seconds = 0; nanos = 0; step = 0; seed = 0; hands = []; connections = []; arrivals = [] }
 
 abbrev pub op : ℕ → ℕ → ℕ → ℕ → Op
 op code jt jf k = record { code = code; jt = jt; jf = jf; k = k }

@@ -1,3 +1,6 @@
 pub mod Sound
 pub mod TooManyFields
 pub mod Drafting
+pub mod Transcripts
+pub mod OtherForms
+pub mod NoArrivals

@@ -10,6 +10,12 @@ use Rattle.std.proofs.lemmas.Slice.Eq.{bytes_eq-Decides}
 use Rattle.nv_text.specs.Fields.{first_word, rest_of, fields}
 use Rattle.nv_text.specs.Numbers.{number_of, unhexed}
 use Rattle.nv_text.specs.Lines.{lines}
+use Rattle.nv_arrivals.specs.declared.arrival.ArrivalCause.{ArrivalCause}
+use Rattle.nv_arrivals.specs.Arrivals.{Arrival, is_arrival}
+use Rattle.nv_arrivals.specs.Reading.{arrival_of}
+use Rattle.nv_arrivals.specs.Order.{Came, nothing_came, admitted, after, are_arrivals}
+use Rattle.nv_arrivals.proofs.Sound.{arrival_of-sound}
+use Rattle.nv_arrivals.proofs.Orderly.{after-more, after-none, are_arrivals-from}
 use Rattle.nv_script.specs.declared.entry.Clock.{Clock}
 use Rattle.nv_script.specs.declared.form.Form.{Form}
 use Rattle.nv_script.specs.declared.fault.ScriptCause.{ScriptCause}
@@ -17,8 +23,8 @@ use Rattle.nv_script.specs.declared.fault.ScriptCause.TheVariants.{Range, Twice,
 use Rattle.nv_script.specs.declared.fault.ScriptFault.{ScriptFault}
 use Rattle.nv_script.specs.declared.kind.Kind.{Kind}
 use Rattle.nv_script.specs.declared.kind.Kind.TheVariants as kind
-use Rattle.nv_script.specs.Entry.{Entry, Nothing, Argument, Input, File, Time, Seed, Hand, Connection, form_of, is_hand, hand_entry, hand_with, is_port, connection_entry, connection_with, connection_of, argument_entry, is_argument, is_file_name, is_passed_over, clock_fits, clock_entry, clock_with, clock_of, file_with, file_entry, shaped, entry_by, entry_with, entry_of, kind_of}
-use Rattle.nv_script.specs.Scripts.{Named, Incoming, Setup, Draft, blank, has_name, has_hand, with_argument, with_named_file, with_clock, with_seed, with_hand, with_connection, with_entry, with_result, with_script_line, onward, drafted, no_clock, finished, finished_result, script_in, script_of_lines, script_of, is_file, are_distinct, are_files, differ, are_hands, is_connection, are_connections, is_script}
+use Rattle.nv_script.specs.Entry.{Entry, Nothing, Argument, Input, File, Time, Seed, Hand, Connection, Arrives, arrives, begins_arrival, form_of, is_hand, hand_entry, hand_with, is_port, connection_entry, connection_with, connection_of, argument_entry, is_argument, is_file_name, is_passed_over, clock_fits, clock_entry, clock_with, clock_of, file_with, file_entry, shaped, entry_by, entry_with, entry_of, kind_of}
+use Rattle.nv_script.specs.Scripts.{Named, Incoming, Setup, Draft, blank, has_name, has_hand, with_argument, with_named_file, with_clock, with_seed, with_hand, with_connection, with_came, with_arrival, with_entry, with_result, with_script_line, onward, drafted, no_clock, finished, finished_result, script_in, script_of_lines, script_of, is_file, are_distinct, are_files, differ, are_hands, is_connection, are_connections, is_script}
 
 -- ---- the parts of the two tests
 
@@ -80,6 +86,7 @@ pub record ScriptKeeps (setup : Setup) : Type 0 where
   pub seed : setup.seed < 2 ^ 32
   pub hands : are_hands setup.hands ≡ true
   pub connections : are_connections setup.connections ≡ true
+  pub arrivals : are_arrivals setup.arrivals ≡ true
 
 pub script-keeps : (setup : Setup) → is_script setup ≡ true → ScriptKeeps setup
 unfolding is_script
@@ -92,12 +99,13 @@ script-keeps setup e =
     let g = and_parts (nat_le setup.step 1000000000) _ f.1 in
     let h = and_parts (nat_lt setup.seed (2 ^ 32)) _ g.1 in
     let i = and_parts (are_hands setup.hands) _ h.1 in
+    let j = and_parts (are_connections setup.connections) _ i.1 in
     let arguments : length setup.arguments ≤ 256 = grind (arith, nat_tests) in
     let seconds : setup.seconds < 2 ^ 32 = grind (arith, nat_tests) in
     let nanos : setup.nanos ≤ 999999999 = grind (arith, nat_tests) in
     let step : setup.step ≤ 1000000000 = grind (arith, nat_tests) in
     let seed : setup.seed < 2 ^ 32 = grind (arith, nat_tests) in
-    record { arguments = arguments; texts = b.0; files = c.0; seconds = seconds; nanos = nanos; step = step; seed = seed; hands = i.0; connections = i.1 }
+    record { arguments = arguments; texts = b.0; files = c.0; seconds = seconds; nanos = nanos; step = step; seed = seed; hands = i.0; connections = j.0; arrivals = j.1 }
 
 pub is_script-from : (setup : Setup) → ScriptKeeps setup → is_script setup ≡ true
 unfolding is_script
@@ -107,28 +115,30 @@ is_script-from setup k =
     let nanos : nat_le setup.nanos 999999999 ≡ true = grind (arith, nat_tests) in
     let step : nat_le setup.step 1000000000 ≡ true = grind (arith, nat_tests) in
     let seed : nat_lt setup.seed (2 ^ 32) ≡ true = grind (arith, nat_tests) in
-    and_from _ _ arguments (and_from _ _ k.texts (and_from _ _ k.files (and_from _ _ seconds (and_from _ _ nanos (and_from _ _ step (and_from _ _ seed (and_from _ _ k.hands k.connections)))))))
+    and_from _ _ arguments (and_from _ _ k.texts (and_from _ _ k.files (and_from _ _ seconds (and_from _ _ nanos (and_from _ _ step (and_from _ _ seed (and_from _ _ k.hands (and_from _ _ k.connections k.arrivals))))))))
 
 -- ---- what a line says
 
-abbrev clock_sound : Clock → Bool
+abbrev pub clock_sound : Clock → Bool
 clock_sound clock = nat_lt clock.seconds (2 ^ 32) && clock_fits clock
 
-abbrev seed_sound : ℕ → Bool
+abbrev pub seed_sound : ℕ → Bool
 seed_sound seed = nat_lt seed (2 ^ 32)
 
-abbrev entry_sound : Entry → Bool
-entry_sound Nothing = true
-entry_sound (Argument text) = is_argument text
-entry_sound (Input bytes) = true
-entry_sound (File name content) = is_file_name name
-entry_sound (Time clock) = clock_sound clock
-entry_sound (Seed seed) = seed_sound seed
-entry_sound (Hand n) = is_hand n
-entry_sound (Connection port input) = is_port port
+-- what an entry of a line that says nothing of what comes keeps to
+abbrev pub stated_sound : Entry → Bool
+stated_sound Nothing = true
+stated_sound (Argument text) = is_argument text
+stated_sound (Input bytes) = true
+stated_sound (File name content) = is_file_name name
+stated_sound (Time clock) = clock_sound clock
+stated_sound (Seed seed) = seed_sound seed
+stated_sound (Hand n) = is_hand n
+stated_sound (Connection port input) = is_port port
+stated_sound (Arrives a) = false
 
-sound-along : (e f : Entry) → entry_sound e ≡ true → e ≡ f → entry_sound f ≡ true
-sound-along e f h same = ap entry_sound (sym same) ∙ h
+pub stated-along : (e f : Entry) → stated_sound e ≡ true → e ≡ f → stated_sound f ≡ true
+stated-along e f h same = ap stated_sound (sym same) ∙ h
 
 number_of-fits : (text : List ℕ) (n : ℕ) → number_of text ≡ Some n → nat_lt n (2 ^ 32) ≡ true
 unfolding number_of
@@ -142,11 +152,11 @@ number_of-fits text n e = step (list_all is_ascii_digit text && nat_lt 0 (length
 -- an optional entry, in its shape
 abbrev found_sound : Option Entry → Bool
 found_sound None = true
-found_sound (Some e) = entry_sound e
+found_sound (Some e) = stated_sound e
 
-shaped-sound : (found : Option Entry) (e : Entry) → found_sound found ≡ true → shaped found ≡ Ok e → entry_sound e ≡ true
+shaped-sound : (found : Option Entry) (e : Entry) → found_sound found ≡ true → shaped found ≡ Ok e → stated_sound e ≡ true
 shaped-sound None e sound h = cc
-shaped-sound (Some f) e sound h = sound-along f e sound cc
+shaped-sound (Some f) e sound h = stated-along f e sound cc
 
 argument-sound : (text : List ℕ) → found_sound (argument_entry text) ≡ true
 argument-sound text = step (is_argument text) refl where
@@ -171,19 +181,19 @@ file_of-sound (name ∷ []) = file_with-sound name (Some [])
 file_of-sound (name ∷ hex ∷ []) = file_with-sound name (unhexed hex)
 file_of-sound (name ∷ hex ∷ more ∷ texts) = refl
 
-clock_entry-sound : (clock : Clock) (e : Entry) → nat_lt clock.seconds (2 ^ 32) ≡ true → clock_entry clock ≡ Ok e → entry_sound e ≡ true
+clock_entry-sound : (clock : Clock) (e : Entry) → nat_lt clock.seconds (2 ^ 32) ≡ true → clock_entry clock ≡ Ok e → stated_sound e ≡ true
 clock_entry-sound clock e seconds h = step (clock_fits clock) refl h where
-  step : (x : Bool) → clock_fits clock ≡ x → cond x (Ok (Time clock)) (Err Range) ≡ Ok e → entry_sound e ≡ true
-  step true fits h = sound-along (Time clock) e (and_from _ _ seconds fits) cc
+  step : (x : Bool) → clock_fits clock ≡ x → cond x (Ok (Time clock)) (Err Range) ≡ Ok e → stated_sound e ≡ true
+  step true fits h = stated-along (Time clock) e (and_from _ _ seconds fits) cc
   step false fits h = cc
 
-clock_with-sound : (seconds nanos step : Option ℕ) (e : Entry) → ((n : ℕ) → seconds ≡ Some n → nat_lt n (2 ^ 32) ≡ true) → clock_with seconds nanos step ≡ Ok e → entry_sound e ≡ true
+clock_with-sound : (seconds nanos step : Option ℕ) (e : Entry) → ((n : ℕ) → seconds ≡ Some n → nat_lt n (2 ^ 32) ≡ true) → clock_with seconds nanos step ≡ Ok e → stated_sound e ≡ true
 clock_with-sound None nanos step e fits h = cc
 clock_with-sound (Some s) None step e fits h = cc
 clock_with-sound (Some s) (Some n) None e fits h = cc
 clock_with-sound (Some s) (Some n) (Some t) e fits h = clock_entry-sound (record { seconds = s; nanos = n; step = t }) e (fits s refl) h
 
-clock_of-sound : (texts : List (List ℕ)) (e : Entry) → clock_of texts ≡ Ok e → entry_sound e ≡ true
+clock_of-sound : (texts : List (List ℕ)) (e : Entry) → clock_of texts ≡ Ok e → stated_sound e ≡ true
 clock_of-sound [] e h = cc
 clock_of-sound (s ∷ []) e h = cc
 clock_of-sound (s ∷ n ∷ []) e h = cc
@@ -194,36 +204,36 @@ seed-sound : (seed : Option ℕ) → ((n : ℕ) → seed ≡ Some n → nat_lt n
 seed-sound None fits = refl
 seed-sound (Some n) fits = fits n refl
 
-hand_entry-sound : (n : ℕ) (e : Entry) → hand_entry n ≡ Ok e → entry_sound e ≡ true
+hand_entry-sound : (n : ℕ) (e : Entry) → hand_entry n ≡ Ok e → stated_sound e ≡ true
 hand_entry-sound n e h = step (is_hand n) refl h where
-  step : (x : Bool) → is_hand n ≡ x → cond x (Ok (Hand n)) (Err Range) ≡ Ok e → entry_sound e ≡ true
-  step true fits h = sound-along (Hand n) e fits cc
+  step : (x : Bool) → is_hand n ≡ x → cond x (Ok (Hand n)) (Err Range) ≡ Ok e → stated_sound e ≡ true
+  step true fits h = stated-along (Hand n) e fits cc
   step false fits h = cc
 
-hand_with-sound : (found : Option ℕ) (e : Entry) → hand_with found ≡ Ok e → entry_sound e ≡ true
+hand_with-sound : (found : Option ℕ) (e : Entry) → hand_with found ≡ Ok e → stated_sound e ≡ true
 hand_with-sound None e h = cc
 hand_with-sound (Some n) e h = hand_entry-sound n e h
 
-connection_entry-sound : (port : ℕ) (input : List ℕ) (e : Entry) → connection_entry port input ≡ Ok e → entry_sound e ≡ true
+connection_entry-sound : (port : ℕ) (input : List ℕ) (e : Entry) → connection_entry port input ≡ Ok e → stated_sound e ≡ true
 connection_entry-sound port input e h = step (is_port port) refl h where
-  step : (x : Bool) → is_port port ≡ x → cond x (Ok (Connection port input)) (Err Range) ≡ Ok e → entry_sound e ≡ true
-  step true fits h = sound-along (Connection port input) e fits cc
+  step : (x : Bool) → is_port port ≡ x → cond x (Ok (Connection port input)) (Err Range) ≡ Ok e → stated_sound e ≡ true
+  step true fits h = stated-along (Connection port input) e fits cc
   step false fits h = cc
 
-connection_with-sound : (port : Option ℕ) (input : Option (List ℕ)) (e : Entry) → connection_with port input ≡ Ok e → entry_sound e ≡ true
+connection_with-sound : (port : Option ℕ) (input : Option (List ℕ)) (e : Entry) → connection_with port input ≡ Ok e → stated_sound e ≡ true
 connection_with-sound None input e h = cc
 connection_with-sound (Some port) None e h = cc
 connection_with-sound (Some port) (Some input) e h = connection_entry-sound port input e h
 
-connection_of-sound : (texts : List (List ℕ)) (e : Entry) → connection_of texts ≡ Ok e → entry_sound e ≡ true
+connection_of-sound : (texts : List (List ℕ)) (e : Entry) → connection_of texts ≡ Ok e → stated_sound e ≡ true
 connection_of-sound [] e h = cc
 connection_of-sound (port ∷ []) e h = connection_with-sound (number_of port) (Some []) e h
 connection_of-sound (port ∷ hex ∷ []) e h = connection_with-sound (number_of port) (unhexed hex) e h
 connection_of-sound (port ∷ hex ∷ more ∷ texts) e h = cc
 
-entry_by-sound : (k : Kind) (rest : List ℕ) (e : Entry) → entry_by k rest ≡ Ok e → entry_sound e ≡ true
+entry_by-sound : (k : Kind) (rest : List ℕ) (e : Entry) → entry_by k rest ≡ Ok e → stated_sound e ≡ true
 entry_by-sound kind.Argument rest e h = shaped-sound (argument_entry rest) e (argument-sound rest) h
-entry_by-sound kind.Line rest e h = sound-along (Input (rest ++ codes "\n")) e refl cc
+entry_by-sound kind.Line rest e h = stated-along (Input (rest ++ codes "\n")) e refl cc
 entry_by-sound kind.Input rest e h = shaped-sound (option_map Input (unhexed rest)) e (input-sound (unhexed rest)) h
 entry_by-sound kind.File rest e h = shaped-sound (file_entry (fields rest)) e (file_of-sound (fields rest)) h
 entry_by-sound kind.Clock rest e h = clock_of-sound (fields rest) e h
@@ -231,17 +241,41 @@ entry_by-sound kind.Random rest e h = shaped-sound (option_map Seed (number_of r
 entry_by-sound kind.Hand rest e h = hand_with-sound (number_of rest) e h
 entry_by-sound kind.Connect rest e h = connection_of-sound (fields rest) e h
 
-entry_with-sound : (k : Option Kind) (rest : Option (List ℕ)) (e : Entry) → entry_with k rest ≡ Ok e → entry_sound e ≡ true
+pub entry_with-sound : (k : Option Kind) (rest : Option (List ℕ)) (e : Entry) → entry_with k rest ≡ Ok e → stated_sound e ≡ true
 entry_with-sound None rest e h = cc
 entry_with-sound (Some k) None e h = cc
 entry_with-sound (Some k) (Some rest) e h = entry_by-sound k rest e h
 
+-- what any entry keeps to
+abbrev entry_sound : Entry → Bool
+entry_sound (Arrives a) = is_arrival a
+entry_sound e = stated_sound e
+
+sound-along : (e f : Entry) → entry_sound e ≡ true → e ≡ f → entry_sound f ≡ true
+sound-along e f h same = ap entry_sound (sym same) ∙ h
+
+stated-sound : (e : Entry) → stated_sound e ≡ true → entry_sound e ≡ true
+stated-sound Nothing h = h
+stated-sound (Argument text) h = h
+stated-sound (Input bytes) h = h
+stated-sound (File name content) h = h
+stated-sound (Time clock) h = h
+stated-sound (Seed seed) h = h
+stated-sound (Hand n) h = h
+stated-sound (Connection port input) h = h
+stated-sound (Arrives a) h = cc
+
+arrives-sound : (r : Result Arrival ArrivalCause) (e : Entry) → ((a : Arrival) → r ≡ Ok a → is_arrival a ≡ true) → arrives r ≡ Ok e → entry_sound e ≡ true
+arrives-sound (Ok a) e sound h = sound-along (Arrives a) e (sound a refl) cc
+arrives-sound (Err c) e sound h = cc
+
 entry_of-sound : (form : Form) (line : List ℕ) (e : Entry) → entry_of form line ≡ Ok e → entry_sound e ≡ true
 unfolding entry_of
-entry_of-sound form line e h = step (is_passed_over line) h where
-  step : (x : Bool) → cond x (Ok Nothing) (entry_with (kind_of form (first_word line)) (rest_of line)) ≡ Ok e → entry_sound e ≡ true
-  step true h = sound-along Nothing e refl cc
-  step false h = entry_with-sound (kind_of form (first_word line)) (rest_of line) e h
+entry_of-sound form line e h = step (is_passed_over line) (begins_arrival form line) h where
+  step : (x y : Bool) → cond x (Ok Nothing) (cond y (arrives (arrival_of line)) (entry_with (kind_of form (first_word line)) (rest_of line))) ≡ Ok e → entry_sound e ≡ true
+  step true y h = sound-along Nothing e refl cc
+  step false true h = arrives-sound (arrival_of line) e (arrival_of-sound line) h
+  step false false h = stated-sound e (entry_with-sound (kind_of form (first_word line)) (rest_of line) e h)
 
 -- ---- files with one more
 
@@ -310,9 +344,21 @@ connections-more connections more k room sound = record {
   sound = list_all-append is_connection connections (more ∷ []) ∙ and_from _ _ k.sound (and_from _ _ sound refl);
 }
 
+-- ---- arrivals, with one more
+
+pub record ArrivalsKeep (arrivals : List Arrival) (now : Came) : Type 0 where
+  pub sound : list_all is_arrival arrivals ≡ true
+  pub orderly : after arrivals nothing_came ≡ Ok now
+
+arrivals-more : (arrivals : List Arrival) (a : Arrival) (now next : Came) → ArrivalsKeep arrivals now → is_arrival a ≡ true → admitted a now ≡ Ok next → ArrivalsKeep (arrivals ++ a ∷ []) next
+arrivals-more arrivals a now next k sound h = record {
+  sound = list_all-append is_arrival arrivals (a ∷ []) ∙ and_from _ _ k.sound (and_from _ _ sound refl);
+  orderly = after-more arrivals a nothing_came now next k.orderly h;
+}
+
 -- ---- drafts
 
-record DraftKeeps (draft : Draft) : Type 0 where
+pub record DraftKeeps (draft : Draft) : Type 0 where
   pub arguments : length draft.arguments ≤ 256
   pub texts : list_all is_argument draft.arguments ≡ true
   pub files : FilesKeep draft.files
@@ -320,9 +366,10 @@ record DraftKeeps (draft : Draft) : Type 0 where
   pub seed : seed_sound (unwrap_or draft.seed 0) ≡ true
   pub hands : HandsKeep draft.hands
   pub connections : ConnectionsKeep draft.connections
+  pub arrivals : ArrivalsKeep draft.arrivals draft.came
 
-blank-keeps : DraftKeeps blank
-blank-keeps = record { arguments = omega arith; texts = refl; files = record { few = omega arith; sound = refl; distinct = refl }; clock = refl; seed = refl; hands = record { few = omega arith; sound = refl; apart = refl }; connections = record { few = omega arith; sound = refl } }
+pub blank-keeps : DraftKeeps blank
+blank-keeps = record { arguments = omega arith; texts = refl; files = record { few = omega arith; sound = refl; distinct = refl }; clock = refl; seed = refl; hands = record { few = omega arith; sound = refl; apart = refl }; connections = record { few = omega arith; sound = refl }; arrivals = record { sound = refl; orderly = after-none nothing_came } }
 
 keeps-along : (d e : Draft) → DraftKeeps d → d ≡ e → DraftKeeps e
 keeps-along d e k same = subst DraftKeeps same k
@@ -342,11 +389,12 @@ argument-keeps text d e k sound h = step (nat_lt (length d.arguments) 256) refl 
         seed = k.seed;
         hands = k.hands;
         connections = k.connections;
+        arrivals = k.arrivals;
       }) cc
   step false room h = cc
 
 input-keeps : (d e : Draft) (bytes : List ℕ) → DraftKeeps d → record d { input = d.input ++ bytes } ≡ e → DraftKeeps e
-input-keeps d e bytes k same = keeps-along _ e (record { arguments = k.arguments; texts = k.texts; files = k.files; clock = k.clock; seed = k.seed; hands = k.hands; connections = k.connections }) same
+input-keeps d e bytes k same = keeps-along _ e (record { arguments = k.arguments; texts = k.texts; files = k.files; clock = k.clock; seed = k.seed; hands = k.hands; connections = k.connections; arrivals = k.arrivals }) same
 
 file-keeps : (name content : List ℕ) (d e : Draft) → DraftKeeps d → is_file_name name ≡ true → with_named_file name content d ≡ Ok e → DraftKeeps e
 unfolding with_named_file
@@ -366,6 +414,7 @@ file-keeps name content d e k sound h = step (has_name name d.files) (nat_lt (le
         seed = k.seed;
         hands = k.hands;
         connections = k.connections;
+        arrivals = k.arrivals;
       }) cc
   step false false new room h = cc
 
@@ -373,13 +422,13 @@ clock-keeps : (clock : Clock) (d e : Draft) → DraftKeeps d → clock_sound clo
 clock-keeps clock d e k sound h = step (is_some d.clock) h where
   step : (x : Bool) → cond x (Err Twice) (Ok (record d { clock = Some clock })) ≡ Ok e → DraftKeeps e
   step true h = cc
-  step false h = keeps-along (record d { clock = Some clock }) e (record { arguments = k.arguments; texts = k.texts; files = k.files; clock = sound; seed = k.seed; hands = k.hands; connections = k.connections }) cc
+  step false h = keeps-along (record d { clock = Some clock }) e (record { arguments = k.arguments; texts = k.texts; files = k.files; clock = sound; seed = k.seed; hands = k.hands; connections = k.connections; arrivals = k.arrivals }) cc
 
 seed-keeps : (seed : ℕ) (d e : Draft) → DraftKeeps d → seed_sound seed ≡ true → with_seed seed d ≡ Ok e → DraftKeeps e
 seed-keeps seed d e k sound h = step (is_some d.seed) h where
   step : (x : Bool) → cond x (Err Twice) (Ok (record d { seed = Some seed })) ≡ Ok e → DraftKeeps e
   step true h = cc
-  step false h = keeps-along (record d { seed = Some seed }) e (record { arguments = k.arguments; texts = k.texts; files = k.files; clock = k.clock; seed = sound; hands = k.hands; connections = k.connections }) cc
+  step false h = keeps-along (record d { seed = Some seed }) e (record { arguments = k.arguments; texts = k.texts; files = k.files; clock = k.clock; seed = sound; hands = k.hands; connections = k.connections; arrivals = k.arrivals }) cc
 
 hand-keeps : (n : ℕ) (d e : Draft) → DraftKeeps d → is_hand n ≡ true → with_hand n d ≡ Ok e → DraftKeeps e
 hand-keeps n d e k sound h = step (has_hand n d.hands) (nat_lt (length d.hands) 8) refl refl h where
@@ -389,7 +438,7 @@ hand-keeps n d e k sound h = step (has_hand n d.hands) (nat_lt (length d.hands) 
   step false true new room h =
       let below : length d.hands < 8 = grind (arith, nat_tests) in
       keeps-along (record d { hands = d.hands ++ n ∷ [] }) e
-      (record { arguments = k.arguments; texts = k.texts; files = k.files; clock = k.clock; seed = k.seed; hands = hands-more d.hands n k.hands below sound new; connections = k.connections }) cc
+      (record { arguments = k.arguments; texts = k.texts; files = k.files; clock = k.clock; seed = k.seed; hands = hands-more d.hands n k.hands below sound new; connections = k.connections; arrivals = k.arrivals }) cc
   step false false new room h = cc
 
 connection-keeps : (port : ℕ) (input : List ℕ) (d e : Draft) → DraftKeeps d → is_port port ≡ true → with_connection port input d ≡ Ok e → DraftKeeps e
@@ -409,8 +458,26 @@ connection-keeps port input d e k sound h = step (nat_lt (length d.connections) 
         seed = k.seed;
         hands = k.hands;
         connections = connections-more d.connections (port, input) k.connections below (and_from _ _ sound parts.1);
+        arrivals = k.arrivals;
       }) cc
   step false room h = cc
+
+arrival-keeps : (a : Arrival) (d e : Draft) → DraftKeeps d → is_arrival a ≡ true → with_arrival a d ≡ Ok e → DraftKeeps e
+arrival-keeps a d e k sound h = step (admitted a d.came) refl h where
+  step : (r : Result Came ArrivalCause) → admitted a d.came ≡ r → with_came a r d ≡ Ok e → DraftKeeps e
+  step (Ok next) is h =
+      keeps-along (record d { arrivals = d.arrivals ++ a ∷ []; came = next }) e
+      (record {
+        arguments = k.arguments;
+        texts = k.texts;
+        files = k.files;
+        clock = k.clock;
+        seed = k.seed;
+        hands = k.hands;
+        connections = k.connections;
+        arrivals = arrivals-more d.arrivals a d.came next k.arrivals sound is;
+      }) cc
+  step (Err c) is h = cc
 
 entry-keeps : (entry : Entry) (d e : Draft) → DraftKeeps d → entry_sound entry ≡ true → with_entry entry d ≡ Ok e → DraftKeeps e
 entry-keeps Nothing d e k sound h = keeps-along d e k cc
@@ -421,6 +488,7 @@ entry-keeps (Time clock) d e k sound h = clock-keeps clock d e k sound h
 entry-keeps (Seed seed) d e k sound h = seed-keeps seed d e k sound h
 entry-keeps (Hand n) d e k sound h = hand-keeps n d e k sound h
 entry-keeps (Connection port input) d e k sound h = connection-keeps port input d e k sound h
+entry-keeps (Arrives a) d e k sound h = arrival-keeps a d e k sound h
 
 result-keeps : (r : Result Entry ScriptCause) (d e : Draft) → DraftKeeps d → ((entry : Entry) → r ≡ Ok entry → entry_sound entry ≡ true) → with_result r d ≡ Ok e → DraftKeeps e
 result-keeps (Ok entry) d e k sound h = entry-keeps entry d e k (sound entry refl) h
@@ -430,7 +498,7 @@ line-keeps : (form : Form) (line : List ℕ) (d e : Draft) → DraftKeeps d → 
 unfolding with_script_line
 line-keeps form line d e k h = result-keeps (entry_of form line) d e k (entry_of-sound form line) h
 
-drafted-keeps : (form : Form) (n : ℕ) (lines : List (List ℕ)) (d e : Draft) → DraftKeeps d → drafted form n lines d ≡ Ok e → DraftKeeps e
+pub drafted-keeps : (form : Form) (n : ℕ) (lines : List (List ℕ)) (d e : Draft) → DraftKeeps d → drafted form n lines d ≡ Ok e → DraftKeeps e
 unfolding drafted
 drafted-keeps form n [] d e k h = keeps-along d e k cc
 drafted-keeps form n (line ∷ lines) d e k h = step (with_script_line form line d) refl h (drafted-keeps form (n + 1) lines) where
@@ -449,7 +517,7 @@ finished-keeps d k =
     let nanos : (unwrap_or d.clock no_clock).nanos ≤ 999999999 = grind (arith, nat_tests) in
     let step : (unwrap_or d.clock no_clock).step ≤ 1000000000 = grind (arith, nat_tests) in
     let seed : unwrap_or d.seed 0 < 2 ^ 32 = grind (arith, nat_tests) in
-    record { arguments = k.arguments; texts = k.texts; files = are_files-from d.files k.files; seconds = seconds; nanos = nanos; step = step; seed = seed; hands = are_hands-from d.hands k.hands; connections = are_connections-from d.connections k.connections }
+    record { arguments = k.arguments; texts = k.texts; files = are_files-from d.files k.files; seconds = seconds; nanos = nanos; step = step; seed = seed; hands = are_hands-from d.hands k.hands; connections = are_connections-from d.connections k.connections; arrivals = are_arrivals-from d.arrivals d.came k.arrivals.sound k.arrivals.orderly }
 
 finished-script : (r : Result Draft ScriptFault) (s : Setup) → ((d : Draft) → r ≡ Ok d → DraftKeeps d) → finished_result r ≡ Ok s → is_script s ≡ true
 finished-script (Ok d) s keeps h =

@@ -1,13 +1,17 @@
 -- What a line of a script says, by itself.
-use Rattle.std.specs.Prelude.{ℕ, Bool, true, not, ◌&&◌, ◌||◌, List, [], ◌∷◌, ◌++◌, Option, Some, None, Result, Ok, Err, if◌then◌else◌, ◌==◌, nat_lt, nat_le, length, bytes_eq, codes, option_map}
+use Rattle.std.specs.Prelude.{ℕ, Bool, true, false, not, ◌&&◌, ◌||◌, List, [], ◌∷◌, ◌++◌, Option, Some, None, Result, Ok, Err, if◌then◌else◌, ◌==◌, nat_lt, nat_le, length, bytes_eq, codes, option_map}
 use Rattle.std.specs.Option.{ok_or}
 use Rattle.std.specs.List.{list_all}
 use Rattle.nv_text.specs.Numbers.{number_of, unhexed}
 use Rattle.nv_text.specs.Fields.{first_word, rest_of, fields}
 use Rattle.nv_text.specs.Names.{defined}
+use Rattle.nv_arrivals.specs.declared.arrival.ArrivalCause.{ArrivalCause}
+use Rattle.nv_arrivals.specs.declared.arrival.ArrivalCause.TheVariants as arrival
+use Rattle.nv_arrivals.specs.Arrivals.{Arrival}
+use Rattle.nv_arrivals.specs.Reading.{is_word as is_arrival_word, arrival_of}
 use Rattle.nv_script.specs.declared.entry.Clock.{Clock}
 use Rattle.nv_script.specs.declared.fault.ScriptCause.{ScriptCause}
-use Rattle.nv_script.specs.declared.fault.ScriptCause.TheVariants.{Word, Shape, Range}
+use Rattle.nv_script.specs.declared.fault.ScriptCause.TheVariants.{Word, Shape, Range, Twice, Long}
 use Rattle.nv_script.specs.declared.form.Form.{Form}
 use Rattle.nv_script.specs.declared.form.Form.TheVariants as form
 use Rattle.nv_script.specs.declared.kind.Kind.{Kind}
@@ -28,15 +32,18 @@ pub data Entry : Type 0 where
   Hand : ℕ → Entry
   -- a connection's port and what it sends
   Connection : ℕ → List ℕ → Entry
+  -- what comes next
+  Arrives : Arrival → Entry
 
--- ---- the three forms
+-- ---- the four forms
 
 -- the form that a first line names
 unfoldable pub form_of : List ℕ → Option Form
 form_of line = if bytes_eq line (codes "varan-script 1") then Some form.First
     else (if bytes_eq line (codes "varan-script 2") then Some form.Second
     else (if bytes_eq line (codes "varan-script 3") then Some form.Third
-    else None))
+    else (if bytes_eq line (codes "varan-script 4") then Some form.Fourth
+    else None)))
 
 -- ---- arguments and names of files
 
@@ -66,7 +73,7 @@ entry_kinds =
     (codes "clock", kind.Clock) ∷ (codes "random", kind.Random) ∷ (codes "hand", kind.Hand) ∷
     (codes "connect", kind.Connect) ∷ []
 
--- a script of the first form has no `hand`, and one of the third alone has `connect`
+-- a script of the first form has no `hand`, and one of the first two has no `connect`
 abbrev pub in_form : Form → Option Kind → Option Kind
 in_form form.First (Some kind.Hand) = None
 in_form form.First (Some kind.Connect) = None
@@ -157,6 +164,23 @@ abbrev pub is_passed_over : List ℕ → Bool
 is_passed_over [] = true
 is_passed_over (b ∷ bs) = b == 35
 
--- what a line after the first says, or its first cause of these three
+abbrev pub cause_of : ArrivalCause → ScriptCause
+cause_of arrival.Word = Word
+cause_of arrival.Shape = Shape
+cause_of arrival.Range = Range
+cause_of arrival.Twice = Twice
+cause_of arrival.Long = Long
+
+abbrev pub arrives : Result Arrival ArrivalCause → Result Entry ScriptCause
+arrives (Ok a) = Ok (Arrives a)
+arrives (Err c) = Err (cause_of c)
+
+-- in a script of the fourth form, and in no other, the words of arrivals say what comes next
+abbrev pub begins_arrival : Form → List ℕ → Bool
+begins_arrival form.Fourth line = is_arrival_word (first_word line)
+begins_arrival f line = false
+
+-- what a line after the first says, or its first cause of those that it has by itself
 unfoldable pub entry_of : Form → List ℕ → Result Entry ScriptCause
-entry_of f line = if is_passed_over line then Ok Nothing else entry_with (kind_of f (first_word line)) (rest_of line)
+entry_of f line = if is_passed_over line then Ok Nothing
+    else (if begins_arrival f line then arrives (arrival_of line) else entry_with (kind_of f (first_word line)) (rest_of line))

@@ -1,5 +1,6 @@
 pub mod Entry
 pub mod Scripts
+pub mod Transcripts
 pub mod Views
 pub mod Texts
 pub mod inner

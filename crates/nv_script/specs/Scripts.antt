@@ -2,6 +2,9 @@
 use Rattle.std.specs.Prelude.{ℕ, Bool, true, not, ◌&&◌, List, [], ◌∷◌, ◌++◌, Option, Some, None, is_some, unwrap_or, Result, Ok, Err, if◌then◌else◌, nat_lt, nat_le, ◌+◌, ◌^◌, ◌==◌, length, bytes_eq}
 use Rattle.std.specs.List.{list_all, list_any}
 use Rattle.nv_text.specs.Lines.{lines, line_number}
+use Rattle.nv_arrivals.specs.declared.arrival.ArrivalCause.{ArrivalCause}
+use Rattle.nv_arrivals.specs.Arrivals.{Arrival}
+use Rattle.nv_arrivals.specs.Order.{Came, nothing_came, admitted, are_arrivals}
 use Rattle.nv_script.specs.declared.entry.Clock.{Clock}
 use Rattle.nv_script.specs.declared.form.Form.{Form}
 use Rattle.nv_script.specs.declared.fault.ScriptCause.{ScriptCause}
@@ -9,7 +12,7 @@ use Rattle.nv_script.specs.declared.fault.ScriptCause.TheVariants as cause
 use Rattle.nv_script.specs.declared.fault.ScriptCause.TheVariants.{Twice, Long}
 use Rattle.nv_script.specs.declared.fault.ScriptFault.{ScriptFault}
 use Rattle.nv_script.specs.declared.fault.ScriptFault.TheVariants.{Line}
-use Rattle.nv_script.specs.Entry.{Entry, Nothing, Argument, Input, File, Time, Seed, Hand, Connection, form_of, is_argument, is_file_name, is_hand, is_port, entry_of}
+use Rattle.nv_script.specs.Entry.{Entry, Nothing, Argument, Input, File, Time, Seed, Hand, Connection, Arrives, form_of, is_argument, is_file_name, is_hand, is_port, cause_of, entry_of}
 
 -- a file's name and its content
 abbrev pub Named : Type 0
@@ -30,6 +33,7 @@ pub record Setup : Type 0 where
   pub seed : ℕ
   pub hands : List ℕ
   pub connections : List Incoming
+  pub arrivals : List Arrival
 
 -- ---- line after line
 
@@ -42,9 +46,12 @@ pub record Draft : Type 0 where
   pub seed : Option ℕ
   pub hands : List ℕ
   pub connections : List Incoming
+  -- what comes, and what has come with it
+  pub arrivals : List Arrival
+  pub came : Came
 
 abbrev pub blank : Draft
-blank = record { arguments = []; input = []; files = []; clock = None; seed = None; hands = []; connections = [] }
+blank = record { arguments = []; input = []; files = []; clock = None; seed = None; hands = []; connections = []; arrivals = []; came = nothing_came }
 
 abbrev pub has_name : List ℕ → List Named → Bool
 has_name name files = list_any (λ file. bytes_eq name file.0) files
@@ -89,6 +96,14 @@ with_connection port input draft = if nat_lt (length draft.connections) 64 && na
     then Ok (record draft { connections = draft.connections ++ (port, input) ∷ [] })
     else Err Long
 
+abbrev pub with_came : Arrival → Result Came ArrivalCause → Draft → Result Draft ScriptCause
+with_came a (Ok now) draft = Ok (record draft { arrivals = draft.arrivals ++ a ∷ []; came = now })
+with_came a (Err c) draft = Err (cause_of c)
+
+-- what may come after those before it
+abbrev pub with_arrival : Arrival → Draft → Result Draft ScriptCause
+with_arrival a draft = with_came a (admitted a draft.came) draft
+
 abbrev pub with_entry : Entry → Draft → Result Draft ScriptCause
 with_entry Nothing draft = Ok draft
 with_entry (Argument text) draft = with_argument text draft
@@ -98,6 +113,7 @@ with_entry (Time clock) draft = with_clock clock draft
 with_entry (Seed seed) draft = with_seed seed draft
 with_entry (Hand n) draft = with_hand n draft
 with_entry (Connection port input) draft = with_connection port input draft
+with_entry (Arrives a) draft = with_arrival a draft
 
 abbrev pub with_result : Result Entry ScriptCause → Draft → Result Draft ScriptCause
 with_result (Ok entry) draft = with_entry entry draft
@@ -132,6 +148,7 @@ setup_with clock draft = record {
   seed = unwrap_or draft.seed 0;
   hands = draft.hands;
   connections = draft.connections;
+  arrivals = draft.arrivals;
 }
 
 abbrev pub finished : Draft → Setup
@@ -187,8 +204,8 @@ is_connection connection = is_port connection.0 && nat_le (length connection.1) 
 unfoldable pub are_connections : List Incoming → Bool
 are_connections connections = nat_le (length connections) 64 && list_all is_connection connections
 
--- at most 256 arguments, files, lengths and connections as above, and numbers within their limits
+-- at most 256 arguments, files, lengths, connections and arrivals as above, and numbers within their limits
 unfoldable pub is_script : Setup → Bool
 is_script setup = nat_le (length setup.arguments) 256 && (list_all is_argument setup.arguments && (are_files setup.files
     && (nat_lt setup.seconds (2 ^ 32) && (nat_le setup.nanos 999999999 && (nat_le setup.step 1000000000 && (nat_lt setup.seed (2 ^ 32) && (are_hands setup.hands
-    && are_connections setup.connections)))))))
+    && (are_connections setup.connections && are_arrivals setup.arrivals))))))))

@@ -1,6 +1,7 @@
 -- The code's values as the definitions see them.
 use Rattle.std.specs.Prelude.{map}
 use Rattle.nv_script.specs.declared.script.Script.{Script}
+use Rattle.nv_arrivals.specs.Views.{view}
 use Rattle.nv_script.specs.Scripts.{Setup}
 
 -- what a script says, as lists
@@ -15,4 +16,5 @@ setup_of script = record {
   seed = script.seed;
   hands = script.hands.items;
   connections = map (λ connection. (connection.0, connection.1.items)) script.connections.items;
+  arrivals = map view script.arrivals.items;
 }

@@ -1,12 +1,14 @@
 // A script in the making.
 ghost use Rattle.std.specs.Prelude.{◌≡◌, false, ◌&&◌, nat_lt, nat_le, [], ◌∷◌, ◌++◌, length, codes, Ok, IfOk, OnOk};
-ghost use Rattle.nv_script.specs.Scripts.{blank, has_name, has_hand, with_argument, with_input, with_named_file, with_clock, with_seed, with_hand, with_connection, with_entry, finished};
+ghost use Rattle.nv_arrivals.specs.Views as came;
+ghost use Rattle.nv_script.specs.Scripts.{blank, has_name, has_hand, with_argument, with_input, with_named_file, with_clock, with_seed, with_hand, with_connection, with_arrival, with_entry, finished};
 ghost use Rattle.nv_script.specs.Views.{setup_of};
 ghost use Rattle.nv_script.specs.inner.Views.{view, became};
 
 use crate::Script;
-use crate::entry::{Clock, Entry};
+use crate::entry::{Clock, Entry, cause_of};
 use crate::fault::ScriptCause;
+use nv_arrivals::{Arrival, Order};
 use nv_text::Names;
 use std::alloc::{AllocError, Global};
 use std::marker::Model;
@@ -40,11 +42,14 @@ pub struct Draft<'a> {
     seed: Option<u32>,
     hands: Vec<u32>,
     connections: Vec<(u32, Vec<u8>)>,
+    arrivals: Vec<Arrival>,
+    order: Order,
 }
 
 impl<'a> Model for Draft<'a> {
     ghost use Rattle.std.specs.Prelude.{◌≡◌, ℕ, List, is_some, map};
     ghost use Rattle.nv_text.specs.Names.{defined};
+    ghost use Rattle.nv_arrivals.specs.Views as came;
     ghost use Rattle.nv_script.specs.Scripts as rule;
 
     ghost Value = { rule.Draft };
@@ -57,6 +62,8 @@ impl<'a> Model for Draft<'a> {
       seed = draft.seed;
       hands = draft.hands.items;
       connections = map (λ connection. (connection.0, connection.1.items)) draft.connections.items;
+      arrivals = map came.view draft.arrivals.items;
+      came = draft.order;
     } };
 
     ghost invariant = { λ draft. (name : List ℕ) → is_some (defined draft.names name) ≡ rule.has_name name (map (λ file. (file.0.items, file.1.items)) draft.files.items) };
@@ -75,6 +82,8 @@ impl<'a> Draft<'a> {
             seed: None,
             hands: Vec::new(alloc),
             connections: Vec::new(alloc),
+            arrivals: Vec::new(alloc),
+            order: Order::new(alloc),
         }
     }
 
@@ -219,6 +228,18 @@ impl<'a> Draft<'a> {
         Ok(Ok(()))
     }
 
+    fn add_arrival(&mut self, arrival: Arrival) -> Result<Result<(), ScriptCause>, AllocError>
+        ensures { IfOk result (λ added. became self.new added ≡ with_arrival (came.view arrival) self.old) }
+    {
+        match self.order.admit(&arrival)? {
+            Ok(()) => {
+                self.arrivals.push(arrival)?;
+                Ok(Ok(()))
+            }
+            Err(cause) => Ok(Err(cause_of(cause))),
+        }
+    }
+
     /// Takes in what a line says.
     pub fn add(
         &mut self,
@@ -243,6 +264,7 @@ impl<'a> Draft<'a> {
             Entry::Seed(seed) => Ok(self.add_seed(seed)),
             Entry::Hand(hand) => self.add_hand(hand),
             Entry::Connection(port, input) => self.add_connection(port, input),
+            Entry::Arrives(arrival) => self.add_arrival(arrival),
         }
     }
 
@@ -259,6 +281,8 @@ impl<'a> Draft<'a> {
             seed,
             hands,
             connections,
+            arrivals,
+            order: _,
         } = self;
         let clock = clock.unwrap_or(NO_CLOCK);
         Script {
@@ -271,6 +295,7 @@ impl<'a> Draft<'a> {
             seed: seed.unwrap_or(0),
             hands,
             connections,
+            arrivals,
         }
     }
 }

@@ -1,15 +1,18 @@
 // What a line of a script says.
 ghost use Rattle.std.specs.Prelude.{◌≡◌, option_map, IfOk};
 ghost use Rattle.std.specs.List.{list_all};
-ghost use Rattle.nv_text.specs.Fields.{fields};
+ghost use Rattle.nv_text.specs.Fields.{first_word, rest_of, fields};
 ghost use Rattle.nv_text.specs.Numbers.{number_of, unhexed};
 ghost use Rattle.nv_script.specs.Entry as rule;
-ghost use Rattle.nv_script.specs.Entry.{is_printable, is_argument, is_file_byte, is_dots, is_file_name, is_passed_over, argument_entry, file_with, file_entry, clock_entry, clock_with, clock_of, hand_entry, hand_with, connection_entry, connection_with, connection_of, shaped, entry_by, entry_of};
+ghost use Rattle.nv_script.specs.Entry.{is_printable, is_argument, is_file_byte, is_dots, is_file_name, is_passed_over, argument_entry, file_with, file_entry, clock_entry, clock_with, clock_of, hand_entry, hand_with, connection_entry, connection_with, connection_of, shaped, entry_by, entry_with, cause_of, arrives, begins_arrival, kind_of, entry_of};
+ghost use Rattle.nv_arrivals.specs.Reading.{arrival_of};
+ghost use Rattle.nv_arrivals.specs.Views as came;
 ghost use Rattle.nv_script.specs.inner.Views.{found_view, result_view};
 
 use crate::fault::ScriptCause;
 use crate::form::Form;
 use crate::kind::{Kind, kind_of};
+use nv_arrivals::{Arrival, ArrivalCause};
 use nv_text::{is, number, split_field, unhex};
 use std::alloc::{AllocError, Global};
 
@@ -38,6 +41,8 @@ pub enum Entry<'a> {
     Hand(u32),
     /// A connection's port and what it sends.
     Connection(u32, Vec<u8>),
+    /// What comes next.
+    Arrives(Arrival),
 }
 
 const MOST_NANOS: u32 = 999_999_999;
@@ -269,6 +274,67 @@ fn entry_by(
     }
 }
 
+// A line that says nothing of what comes.
+fn stated(
+    alloc: Global,
+    form: Form,
+    line: &[u8],
+) -> Result<Result<Entry<'_>, ScriptCause>, AllocError>
+    ensures { IfOk result (λ entry. result_view entry ≡ entry_with (kind_of form (first_word line.now)) (rest_of line.now)) }
+{
+    let (word, rest) = split_field(line);
+    match (kind_of(form, word), rest) {
+        (None, _) => Ok(Err(ScriptCause::Word)),
+        (Some(_), None) => Ok(Err(ScriptCause::Shape)),
+        (Some(kind), Some(rest)) => entry_by(alloc, kind, rest),
+    }
+}
+
+/// The cause of a script's line for that of an arrival's.
+pub fn cause_of(cause: ArrivalCause) -> ScriptCause
+    ensures { result ≡ cause_of cause }
+{
+    match cause {
+        ArrivalCause::Word => ScriptCause::Word,
+        ArrivalCause::Shape => ScriptCause::Shape,
+        ArrivalCause::Range => ScriptCause::Range,
+        ArrivalCause::Twice => ScriptCause::Twice,
+        ArrivalCause::Long => ScriptCause::Long,
+    }
+}
+
+fn arrives<'a>(arrival: Result<Arrival, ArrivalCause>) -> Result<Entry<'a>, ScriptCause>
+    ensures { result_view result ≡ arrives (came.result_view arrival) }
+{
+    match arrival {
+        Ok(arrival) => Ok(Entry::Arrives(arrival)),
+        Err(cause) => Err(cause_of(cause)),
+    }
+}
+
+// The line of an arrival.
+fn read_arrival<'a>(
+    alloc: Global,
+    line: &[u8],
+) -> Result<Result<Entry<'a>, ScriptCause>, AllocError>
+    ensures { IfOk result (λ entry. result_view entry ≡ arrives (arrival_of line.now)) }
+{
+    Ok(arrives(nv_arrivals::read(alloc, line)?))
+}
+
+// Whether a line says what comes next.
+fn begins_arrival(form: Form, line: &[u8]) -> bool
+    ensures { result ≡ begins_arrival form line.now }
+{
+    match form {
+        Form::Fourth => {
+            let (word, _) = split_field(line);
+            nv_arrivals::is_word(word)
+        }
+        Form::First | Form::Second | Form::Third => false,
+    }
+}
+
 /// What a line after the first says in a script of this form, or its first cause of those that the line has by itself.
 #[tactic(auto, unfolding(crate::specs::Entry::entry_of))]
 pub fn entry_of(
@@ -281,10 +347,8 @@ pub fn entry_of(
     if is_passed_over(line) {
         return Ok(Ok(Entry::Nothing));
     }
-    let (word, rest) = split_field(line);
-    match (kind_of(form, word), rest) {
-        (None, _) => Ok(Err(ScriptCause::Word)),
-        (Some(_), None) => Ok(Err(ScriptCause::Shape)),
-        (Some(kind), Some(rest)) => entry_by(alloc, kind, rest),
+    if begins_arrival(form, line) {
+        return read_arrival(alloc, line);
     }
+    stated(alloc, form, line)
 }

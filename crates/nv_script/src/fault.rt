@@ -9,17 +9,18 @@ use std::fmt;
 /// Why a line of a script is refused. Of several causes the first in this order is told.
 #[derive(Clone, Copy, Debug, PartialEq, Eq)]
 pub enum ScriptCause {
-    /// The first line is none of `varan-script 1`, `varan-script 2` and `varan-script 3`, or there is none.
+    /// The first line is none of `varan-script 1` to `varan-script 4`, or there is none.
     Form,
     /// The first word is none of a script's of this form.
     Word,
     /// Wrong fields, a byte off its range, or a number or a hexadecimal text that isn't one.
     Shape,
-    /// A number off its limits.
+    /// A number off its limits, or a client that hasn't come.
     Range,
-    /// A second clock or seed, or a file's name or a length to hand over at that was used before.
+    /// A second clock or seed, a file's name or a length to hand over at that was used before, or what comes after its end.
     Twice,
-    /// More than 256 arguments, 256 files, 8 lengths to hand over at or 64 connections, or more than 1,048,576 bytes in a file or over a connection.
+    /// More than 256 arguments, 256 files, 8 lengths to hand over at, 64 connections or 65,536 clients, more than 1,048,576 bytes in a file or over a
+    /// connection, or more than 2,000 in an arrival.
     Long,
 }
 

@@ -11,8 +11,10 @@ pub enum Form {
     First,
     /// `varan-script 2`: every line but `connect`.
     Second,
-    /// `varan-script 3`: every line.
+    /// `varan-script 3`: every line but those of arrivals.
     Third,
+    /// `varan-script 4`: what comes from outside are arrivals, which come one after another.
+    Fourth,
 }
 
 /// The form that a script's first line names.
@@ -26,6 +28,8 @@ pub fn form_of(line: &[u8]) -> Option<Form>
         Some(Form::Second)
     } else if is(line, "varan-script 3") {
         Some(Form::Third)
+    } else if is(line, "varan-script 4") {
+        Some(Form::Fourth)
     } else {
         None
     }

@@ -29,13 +29,13 @@ const KINDS: [(&str, Kind); 8] = [
     ("connect", Kind::Connect),
 ];
 
-// Scripts of the first form have no `hand`, and those of the third alone have `connect`.
+// Scripts of the first form have no `hand`, and those of the first two no `connect`.
 fn in_form(form: Form, kind: Option<Kind>) -> Option<Kind>
     ensures { result ≡ in_form form kind }
 {
     match kind {
         Some(Kind::Hand) if form == Form::First => None,
-        Some(Kind::Connect) if form != Form::Third => None,
+        Some(Kind::Connect) if form == Form::First || form == Form::Second => None,
         kind => kind,
     }
 }

@@ -1,4 +1,5 @@
 // What a script says.
+use nv_arrivals::Arrival;
 
 /// What a run begins with. The limits that every script is within are `is_script` of specs/Scripts.antt.
 #[derive(Drop)]
@@ -21,4 +22,6 @@ pub struct Script {
     pub hands: Vec<u32>,
     /// The connections that come, each by the port that it comes to and what it sends, in the script's order.
     pub connections: Vec<(u32, Vec<u8>)>,
+    /// What comes one after another, in a script of the fourth form.
+    pub arrivals: Vec<Arrival>,
 }

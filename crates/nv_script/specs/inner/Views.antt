@@ -3,6 +3,7 @@ use Rattle.std.specs.Prelude.{◌++◌, Option, Result, Ok, Err, option_map, cod
 use Rattle.nv_script.specs.declared.entry.Entry.{Entry}
 use Rattle.nv_script.specs.declared.entry.Entry.TheVariants as code
 use Rattle.nv_script.specs.declared.fault.ScriptCause.{ScriptCause}
+use Rattle.nv_arrivals.specs.Views as came
 use Rattle.nv_script.specs.Entry as rule
 use Rattle.nv_script.specs.Scripts.{Draft}
 
@@ -16,6 +17,7 @@ view (code.Clock clock) = rule.Time clock
 view (code.Seed seed) = rule.Seed seed
 view (code.Hand hand) = rule.Hand hand
 view (code.Connection port input) = rule.Connection port input.items
+view (code.Arrives arrival) = rule.Arrives (came.view arrival)
 
 abbrev pub found_view : Option Entry → Option rule.Entry
 found_view found = option_map view found

@@ -1,0 +1,26 @@
+// What holds of the texts of scripts.
+ghost use Rattle.std.specs.Prelude.{◌≡◌, [], ◌++◌, ◌∷◌, ◌==◌, not, ℕ, List, Ok, true, false, bytes_eq, codes};
+ghost use Rattle.std.specs.List.{All, list_all};
+ghost use Rattle.nv_text.specs.Lines.{lines};
+ghost use Rattle.nv_arrivals.specs.Arrivals.{Arrival, is_arrival, BringsBytes};
+ghost use Rattle.nv_arrivals.specs.Order.{are_orderly};
+ghost use Rattle.nv_script.specs.Scripts.{Setup, script_of};
+ghost use Rattle.nv_script.specs.Transcripts.{lines_of, continued_by, IsTranscript, says_what_comes};
+
+/// The text of a script, and after it the lines of what may come after that script's own arrivals, is the script with these arrivals as well.
+#[tactic(auto, using(crate::proofs::Transcripts::transcript))]
+pub fn transcripts_are_scripts()
+    ensures { (text : List ℕ) (setup : Setup) (arrivals : List Arrival) → IsTranscript text setup → list_all is_arrival arrivals ≡ true → All BringsBytes arrivals → are_orderly (setup.arrivals ++ arrivals) ≡ true → IsTranscript (text ++ lines_of arrivals) (continued_by arrivals setup) }
+{}
+
+/// A script of any form of which no line says what comes is, with `varan-script 4` as its first line, the same script of the fourth form.
+#[tactic(auto, using(crate::proofs::OtherForms::other_form))]
+pub fn other_forms_begin_transcripts()
+    ensures { (first body : List ℕ) (setup : Setup) → All (λ b. (b == 10) ≡ false) first → list_all (λ line. not (says_what_comes line)) (lines body) ≡ true → script_of (first ++ 10 ∷ body) ≡ Ok setup → script_of (codes "varan-script 4\n" ++ body) ≡ Ok setup }
+{}
+
+/// Nothing comes in a script whose first line isn't `varan-script 4`.
+#[tactic(auto, using(crate::proofs::NoArrivals::no_arrivals))]
+pub fn other_forms_have_no_arrivals()
+    ensures { (text first : List ℕ) (rest : List (List ℕ)) (setup : Setup) → lines text ≡ first ∷ rest → bytes_eq first (codes "varan-script 4") ≡ false → script_of text ≡ Ok setup → setup.arrivals ≡ [] }
+{}
