@@ -38,11 +38,12 @@ fn play<K: SyscallKernel + Scripted>(
     requires few { length (K.log kernel.old) < MOST_EVENTS }
     requires stamp { event.now.stamp ≡ length (K.log kernel.old) }
     ensures start { K.start kernel.new ≡ K.start kernel.old }
-    ensures fault { MatchResult result (λ _. entry_fault (K.start kernel.old) (K.log kernel.old) (entry event.now) ≡ None)
-        (λ fault. (fault ≡ Memory) ⊎ (entry_fault (K.start kernel.old) (K.log kernel.old) (entry event.now) ≡ Some fault)) }
+    ensures known { K.known kernel.new ≡ K.known kernel.old }
+    ensures fault { MatchResult result (λ _. entry_fault (K.known kernel.old) (K.log kernel.old) (entry event.now) ≡ None)
+        (λ fault. (fault ≡ Memory) ⊎ (entry_fault (K.known kernel.old) (K.log kernel.old) (entry event.now) ≡ Some fault)) }
     ensures comes { OnOk result (K.log kernel.new ≡ K.log kernel.old ++ entry event.now ∷ []) }
     ensures live { OnOk result (live.new.items ≡ live_after (K.log kernel.new)) }
-    ensures left { IfErr result (λ fault. K.log kernel.new ≡ left_at (K.start kernel.old) (K.log kernel.old) (entry event.now) fault) }
+    ensures left { IfErr result (λ fault. K.log kernel.new ≡ left_at (K.known kernel.old) (K.log kernel.old) (entry event.now) fault) }
 {
     let stamp = event.stamp;
     if kernel.ended().is_some() {
@@ -74,11 +75,11 @@ pub fn check<K: SyscallKernel + Scripted>(
     ensures start { K.start kernel.new ≡ K.start kernel.old }
 
     // the events are what the kernel comes to, and it has served them all
-    ensures sound { OnOk result (AreSoundEvents (K.start kernel.old) (map entry events.now)) }
+    ensures sound { OnOk result (AreSoundEvents (K.known kernel.old) (map entry events.now)) }
     ensures served { OnOk result (K.log kernel.new ≡ map entry events.now) }
 
     // they aren't, and this is the first fault; or memory is wanted
-    ensures stops { IfErr result (λ fault. StopsFor (K.start kernel.old) (map entry events.now) fault (K.log kernel.new)) }
+    ensures stops { IfErr result (λ fault. StopsFor (K.known kernel.old) (map entry events.now) fault (K.log kernel.new)) }
 {
     let mut live = first_thread();
     for event in events {
