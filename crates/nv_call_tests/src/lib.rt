@@ -1,10 +1,12 @@
 //! Tests of single calls, by vectors from outside and for what no row of nv_rows tells.
-//! Modules: `fields`, `numbers`, `filters`, `rules`, `scripts`: the texts; `memory`, `instructions`, `steps`, `executables`, `guests`: the
+//! Modules: `fields`, `numbers`, `filters`, `rules`, `scripts`, `arrivals`: the texts; `memory`, `instructions`, `steps`, `executables`, `guests`: the
 //! guest and its machine; `console`: the end of the console; `lanes`, `pool`, `places`: where events stand; `outside`: files and sinks in
 //! memory; `assembler`: long texts; `made`: runs made from a number; `traces`; `command`: the words of a line.
 //! Proved: that the tests do nothing undefined. What they assert is run.
 #![tactic(auto)]
 
+#[cfg(test)]
+mod arrivals;
 #[cfg(test)]
 mod assembler;
 #[cfg(test)]
