@@ -5,40 +5,40 @@ use Rattle.std.specs.Result.{IsErrAnd}
 use Rattle.std.proofs.Math.Seq.{take-length}
 use Rattle.clap.specs.Walk.{Row, Text}
 use Rattle.clap.specs.Simple.{App}
-use Rattle.nv_command.specs.Simple.{run_app, record_app, replay_app, inspect_app, rules_app, asm_app, gen_app, help_app}
+use Rattle.nv_command.specs.Simple.{run_app, serve_app, record_app, replay_app, inspect_app, rules_app, asm_app, gen_app, help_app}
 use Rattle.nv_command.specs.Tables.{app_named, asked_of}
-use Rattle.nv_command.specs.Words.{NamesRun, NamesRules, NamesAsm, NamesGen, NamesRecord, NamesReplay, NamesInspect, NamesHelp, Runs, Uses, Generates, Records, Replays, Inspects, Helps, plan_of, report_plan_of, rules_job_of, asm_job_of, number_in, trail_of, look_of, topic_of, run_line, rules_line, asm_line, gen_line, record_line, replay_line, inspect_line, help_line, ring_of, memory_of, budget_of, calls_asked, threads_asked, limits_of, Name, Command as Line, rows_of_line, texts, asked_by, name_spelt, command_name, command_of}
+use Rattle.nv_command.specs.Words.{NamesRun, NamesServe, NamesRules, NamesAsm, NamesGen, NamesRecord, NamesReplay, NamesInspect, NamesHelp, Runs, Serves, Uses, Generates, Records, Replays, Inspects, Helps, plan_of, report_plan_of, service_of, rules_job_of, asm_job_of, number_in, trail_of, look_of, topic_of, run_line, serve_line, rules_line, asm_line, gen_line, record_line, replay_line, inspect_line, help_line, Limits, ring_of, memory_of, budget_of, calls_asked, threads_asked, limits_of, Name, Command as Line, rows_of_line, texts, asked_by, name_spelt, command_name, command_of}
 use Rattle.nv_command.specs.Seen.{WordsRefused}
 use Rattle.nv_command.specs.declared.asked.LineFault.{LineFault}
 use Rattle.nv_command.specs.declared.asked.LineFault.TheVariants.{Usage, Memory}
 
-module _ (rows : List Row) where
-  pub no_ring : None ≡ ring_of rows → None ≡ limits_of rows
+module _ (defaults : Limits) (rows : List Row) where
+  pub no_ring : None ≡ ring_of defaults rows → None ≡ limits_of defaults rows
   unfolding limits_of
   no_ring h = rw (← h) refl
 
-  module _ (ring : ℕ) (r : Some ring ≡ ring_of rows) where
-    pub no_memory : None ≡ memory_of rows → None ≡ limits_of rows
+  module _ (ring : ℕ) (r : Some ring ≡ ring_of defaults rows) where
+    pub no_memory : None ≡ memory_of defaults rows → None ≡ limits_of defaults rows
     unfolding limits_of
     no_memory h = rw (← r, ← h) refl
 
-    module _ (memory : ℕ) (m : Some memory ≡ memory_of rows) where
-      pub no_budget : None ≡ budget_of rows → None ≡ limits_of rows
+    module _ (memory : ℕ) (m : Some memory ≡ memory_of defaults rows) where
+      pub no_budget : None ≡ budget_of defaults rows → None ≡ limits_of defaults rows
       unfolding limits_of
       no_budget h = rw (← r, ← m, ← h) refl
 
-      module _ (budget : ℕ) (b : Some budget ≡ budget_of rows) where
-        pub no_calls : None ≡ calls_asked rows → None ≡ limits_of rows
+      module _ (budget : ℕ) (b : Some budget ≡ budget_of defaults rows) where
+        pub no_calls : None ≡ calls_asked defaults rows → None ≡ limits_of defaults rows
         unfolding limits_of
         no_calls h = rw (← r, ← m, ← b, ← h) refl
 
-        module _ (calls : ℕ) (c : Some calls ≡ calls_asked rows) where
-          pub no_threads : None ≡ threads_asked rows → None ≡ limits_of rows
+        module _ (calls : ℕ) (c : Some calls ≡ calls_asked defaults rows) where
+          pub no_threads : None ≡ threads_asked defaults rows → None ≡ limits_of defaults rows
           unfolding limits_of
           no_threads h = rw (← r, ← m, ← b, ← c, ← h) refl
 
-          pub all_limits : (threads : ℕ) → Some threads ≡ threads_asked rows
-              → Some (record { ring = ring; memory = memory; budget = budget; calls = calls; threads = threads }) ≡ limits_of rows
+          pub all_limits : (threads : ℕ) → Some threads ≡ threads_asked defaults rows
+              → Some (record { ring = ring; memory = memory; budget = budget; calls = calls; threads = threads }) ≡ limits_of defaults rows
           unfolding limits_of
           all_limits threads h = rw (← r, ← m, ← b, ← c, ← h) refl
 
@@ -47,8 +47,9 @@ map_then f g None = refl
 map_then f g (Some x) = refl
 
 asked_is : (words : List Text) (name : Name) → asked_by words name ≡ option_and_then (asked_of name) (rows_of_line (app_named name) words)
-unfolding run_line rules_line asm_line gen_line record_line replay_line inspect_line help_line
+unfolding run_line serve_line rules_line asm_line gen_line record_line replay_line inspect_line help_line
 asked_is words NamesRun = map_then Runs report_plan_of (rows_of_line run_app words)
+asked_is words NamesServe = map_then Serves service_of (rows_of_line serve_app words)
 asked_is words NamesRules = map_then Uses rules_job_of (rows_of_line rules_app words)
 asked_is words NamesAsm = map_then Uses asm_job_of (rows_of_line asm_app words)
 asked_is words NamesGen = map_then Generates number_in (rows_of_line gen_app words)

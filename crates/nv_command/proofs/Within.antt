@@ -5,7 +5,7 @@ use Rattle.std.proofs.lemmas.Bool.Decides.{nat_tests}
 use Rattle.clap.specs.Walk.{Row, Text, first_of}
 use Rattle.nv_text.specs.Numbers.{number_of}
 use Rattle.nv_command.specs.Simple.{gen_app}
-use Rattle.nv_command.specs.Words.{Name, NamesRun, NamesRules, NamesAsm, NamesGen, NamesRecord, NamesReplay, NamesInspect, NamesHelp, Plan, Job, Trail, Look, Runs, Uses, Generates, Records, Replays, Inspects, Helps, number_between, number_in, rows_of_line, run_line, rules_line, asm_line, gen_line, record_line, replay_line, inspect_line, help_line, asked_by, after_program, command_of, command_name}
+use Rattle.nv_command.specs.Words.{Name, NamesRun, NamesServe, NamesRules, NamesAsm, NamesGen, NamesRecord, NamesReplay, NamesInspect, NamesHelp, Plan, Service, Job, Trail, Look, Runs, Serves, Uses, Generates, Records, Replays, Inspects, Helps, number_between, number_in, rows_of_line, run_line, serve_line, rules_line, asm_line, gen_line, record_line, replay_line, inspect_line, help_line, asked_by, after_program, command_of, command_name}
 
 kept_within : (k n : ℕ) (b : Bool) → (b ≡ true → k ≤ 999999) → cond b (Some k) None ≡ Some n → n ≤ 999999
 kept_within k n true within h = let e : k ≡ n = cc in let le : k ≤ 999999 = within refl in omega arith
@@ -35,6 +35,10 @@ runs_none : (plan : Option Plan) (n : ℕ) → option_map Runs plan ≡ Some (Ge
 runs_none None n h = cc
 runs_none (Some plan) n h = cc
 
+serves_none : (service : Option Service) (n : ℕ) → option_map Serves service ≡ Some (Generates n) → ⊥
+serves_none None n h = cc
+serves_none (Some service) n h = cc
+
 uses_none : (job : Option Job) (n : ℕ) → option_map Uses job ≡ Some (Generates n) → ⊥
 uses_none None n h = cc
 uses_none (Some job) n h = cc
@@ -62,6 +66,7 @@ same_number (Some k) n h = cc
 named_within : (words : List Text) (name : Option Name) (n : ℕ) → option_and_then (asked_by words) name ≡ Some (Generates n) → n ≤ 999999
 named_within words None n h = cc
 named_within words (Some NamesRun) n h = absurd (runs_none (run_line words) n h)
+named_within words (Some NamesServe) n h = absurd (serves_none (serve_line words) n h)
 named_within words (Some NamesRules) n h = absurd (uses_none (rules_line words) n h)
 named_within words (Some NamesAsm) n h = absurd (uses_none (asm_line words) n h)
 named_within words (Some NamesGen) n h = line_within words n (same_number (gen_line words) n h)

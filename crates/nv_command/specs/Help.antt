@@ -2,10 +2,11 @@
 use Rattle.std.specs.Prelude.{List, [], ◌∷◌, ◌++◌, Option, None, Some, codes}
 use Rattle.std.specs.List.{concat}
 use Rattle.clap.specs.Walk.{Text}
-use Rattle.nv_command.specs.Words.{Name, NamesRun, NamesRules, NamesAsm, NamesGen, NamesRecord, NamesReplay, NamesInspect, NamesHelp}
+use Rattle.nv_command.specs.Words.{Name, NamesRun, NamesServe, NamesRules, NamesAsm, NamesGen, NamesRecord, NamesReplay, NamesInspect, NamesHelp}
 
 abbrev pub usage_line : Name → Text
 usage_line NamesRun = codes "varan run --script S [options] V1 [V2 .. V8]\n"
+usage_line NamesServe = codes "varan serve [options] V1 [V2 .. V8]\n"
 usage_line NamesRecord = codes "varan record --script S [options] V1 [V2 .. V8]\n"
 usage_line NamesReplay = codes "varan replay --script S [options] TRACE V\n"
 usage_line NamesInspect = codes "varan inspect --script S [options] POINT TRACE V\n"
@@ -17,6 +18,9 @@ usage_line NamesHelp = codes "varan help [COMMAND]\n"
 -- the line of each option
 abbrev pub script_help : Text
 script_help = codes "  --script S      the script; it must be given\n"
+
+abbrev pub start_help : Text
+start_help = codes "  --script S      the script; default none\n"
 
 abbrev pub rules_help : Text
 rules_help = codes "  --rules FILE    a rule file that judges the calls of followers which differ\n"
@@ -30,14 +34,26 @@ memory_help = codes "  --memory BYTES  memory of a version, in pages of 4096: 13
 abbrev pub budget_help : Text
 budget_help = codes "  --budget N      instructions of a version: 1 to 1000000000, default 10000000\n"
 
+abbrev pub long_budget_help : Text
+long_budget_help = codes "  --budget N      instructions of a version: 1 to 1000000000, default 1000000000\n"
+
 abbrev pub calls_help : Text
 calls_help = codes "  --calls N       events of the log: 1 to 131072, default 65536\n"
+
+abbrev pub many_calls_help : Text
+many_calls_help = codes "  --calls N       events of the log: 1 to 131072, default 131072\n"
 
 abbrev pub threads_help : Text
 threads_help = codes "  --threads N     host threads that run the versions: 1 to 8, default 8\n"
 
 abbrev pub json_help : Text
 json_help = codes "  --json          the report is written as JSON\n"
+
+abbrev pub clients_help : Text
+clients_help = codes "  --clients       clients come and go by lines on standard input and output\n"
+
+abbrev pub log_help : Text
+log_help = codes "  --log           each event is told on standard error\n"
 
 abbrev pub index_help : Text
 index_help = codes "  --index N       number of the version that rules see: 0 to 7, default 1\n"
@@ -63,6 +79,8 @@ asm_help = codes "  --asm           a rule text is assembled\n"
 -- those of a command
 abbrev pub option_lines : Name → List Text
 option_lines NamesRun = script_help ∷ rules_help ∷ ring_help ∷ memory_help ∷ budget_help ∷ calls_help ∷ threads_help ∷ json_help ∷ []
+option_lines NamesServe =
+    start_help ∷ rules_help ∷ ring_help ∷ memory_help ∷ long_budget_help ∷ many_calls_help ∷ threads_help ∷ clients_help ∷ log_help ∷ []
 option_lines NamesRecord = script_help ∷ rules_help ∷ ring_help ∷ memory_help ∷ budget_help ∷ calls_help ∷ threads_help ∷ []
 option_lines NamesReplay = script_help ∷ rules_help ∷ memory_help ∷ budget_help ∷ index_help ∷ []
 option_lines NamesInspect = script_help ∷ rules_help ∷ memory_help ∷ budget_help ∷ index_help ∷ stamp_help ∷ call_help ∷ count_help ∷ dump_help ∷ length_help ∷ []
@@ -73,6 +91,7 @@ option_lines NamesHelp = []
 
 abbrev pub example_line : Name → Text
 example_line NamesRun = codes "example: varan run --script clients update old\n"
+example_line NamesServe = codes "example: varan serve --clients update old\n"
 example_line NamesRecord = codes "example: varan record --script clients old > trace\n"
 example_line NamesReplay = codes "example: varan replay --script clients trace patch\n"
 example_line NamesInspect = codes "example: varan inspect --script clients --stamp 60 trace patch\n"
@@ -87,6 +106,7 @@ more_help = codes "varan help COMMAND writes the options of a command, and an ex
 abbrev pub help_lines : Option Name → List Text
 help_lines None =
     usage_line NamesRun
+    ∷ usage_line NamesServe
     ∷ usage_line NamesRecord
     ∷ usage_line NamesReplay
     ∷ usage_line NamesInspect

@@ -2,10 +2,11 @@
 use Rattle.std.specs.Prelude.{◌≡◌, List, Option, None, map, option_map, IsSome}
 use Rattle.std.specs.Borrow.{Bor}
 use Rattle.clap.specs.Walk.{Text}
-use Rattle.nv_command.specs.Words.{Limits, Plan, Job as FileJob, Trail as TraceTrail, Point as TracePoint, AtStamp, AtCall, AtCount, Look as TraceLook, Command as Line, Runs, Uses, Generates, Records, Replays, Inspects, Helps, command_of, command_name}
+use Rattle.nv_command.specs.Words.{Limits, Parts as LineParts, Plan, Service as LineService, Job as FileJob, Trail as TraceTrail, Point as TracePoint, AtStamp, AtCall, AtCount, Look as TraceLook, Command as Line, Runs, Serves, Uses, Generates, Records, Replays, Inspects, Helps, command_of, command_name}
 use Rattle.nv_command.specs.Tables.{name_view}
 use Rattle.nv_command.specs.declared.limits.Limits.{Limits as Held}
 use Rattle.nv_command.specs.declared.asked.Run.{Run}
+use Rattle.nv_command.specs.declared.asked.Service.{Service}
 use Rattle.nv_command.specs.declared.parts.Parts.{Parts}
 use Rattle.nv_command.specs.declared.asked.Job.{Job}
 use Rattle.nv_command.specs.declared.asked.Trail.{Trail}
@@ -31,8 +32,18 @@ rules_view rules = option_map (λ name. name.now) rules
 abbrev pub plan_view : Run → Plan
 plan_view run = record { script = run.script.now; rules = rules_view run.rules; versions = names_view run.versions.items; limits = limits_view run.limits; json = run.json }
 
-abbrev pub parts_view : Parts → Plan
-parts_view parts = record { script = parts.script.now; rules = rules_view parts.rules; versions = names_view parts.names.now; limits = limits_view parts.limits; json = parts.json }
+abbrev pub service_view : Service → LineService
+service_view service = record {
+  script = option_map (λ name. name.now) service.script;
+  rules = rules_view service.rules;
+  versions = names_view service.versions.items;
+  limits = limits_view service.limits;
+  clients = service.clients;
+  log = service.log;
+}
+
+abbrev pub parts_view : Parts → LineParts
+parts_view parts = record { rules = rules_view parts.rules; versions = names_view parts.names.now; limits = limits_view parts.limits }
 
 abbrev pub job_view : Job → FileJob
 job_view job = record { tool = job.tool; file = job.file.now }
@@ -58,6 +69,7 @@ look_view look = record { trail = trail_view look.trail; point = point_view look
 
 abbrev pub command_view : Command → Line
 command_view (command.Run run) = Runs (plan_view run)
+command_view (command.Serve service) = Serves (service_view service)
 command_view (command.Use job) = Uses (job_view job)
 command_view (command.Generate number) = Generates number
 command_view (command.Record run) = Records (plan_view run)

@@ -31,11 +31,10 @@ required rule = record rule { required = true }
 abbrev pub simple_app : Text → List Rule → App
 simple_app name rules = record { top = record (new_shape name) { rules = rules; disable_help_flag = true }; subs = [] }
 
--- the options of a run that is reported or recorded
+-- the options that `run`, `record` and `serve` share
 abbrev pub run_options : List Rule
 run_options =
-    required (option_rule (codes "script"))
-    ∷ option_rule (codes "rules")
+    option_rule (codes "rules")
     ∷ option_rule (codes "ring")
     ∷ option_rule (codes "memory")
     ∷ option_rule (codes "budget")
@@ -44,10 +43,15 @@ run_options =
     ∷ []
 
 abbrev pub run_app : App
-run_app = simple_app (codes "run") (run_options ++ (flag_rule (codes "json") ∷ files_rule (codes "version") ∷ []))
+run_app = simple_app (codes "run") (run_options ++ (required (option_rule (codes "script")) ∷ flag_rule (codes "json") ∷ files_rule (codes "version") ∷ []))
 
 abbrev pub record_app : App
-record_app = simple_app (codes "record") (run_options ++ (files_rule (codes "version") ∷ []))
+record_app = simple_app (codes "record") (run_options ++ (required (option_rule (codes "script")) ∷ files_rule (codes "version") ∷ []))
+
+abbrev pub serve_app : App
+serve_app =
+    simple_app (codes "serve")
+    (run_options ++ (option_rule (codes "script") ∷ flag_rule (codes "clients") ∷ flag_rule (codes "log") ∷ files_rule (codes "version") ∷ []))
 
 -- the options of a version that follows a trace
 abbrev pub trail_options : List Rule

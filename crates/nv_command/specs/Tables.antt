@@ -3,8 +3,8 @@ use Rattle.std.specs.Prelude.{List, ◌++◌, map, Option, option_map, false}
 use Rattle.std.specs.Borrow.{Bor}
 use Rattle.clap.specs.Walk.{Row, Rule, Text}
 use Rattle.clap.specs.Simple.{App, on_top}
-use Rattle.nv_command.specs.Simple.{option_rule, required, flag_rule, file_rule, files_rule, word_rule, simple_app, run_app, record_app, replay_app, inspect_app, rules_app, asm_app, gen_app, help_app}
-use Rattle.nv_command.specs.Words.{Name, NamesRun, NamesRules, NamesAsm, NamesGen, NamesRecord, NamesReplay, NamesInspect, NamesHelp, Command, Runs, Uses, Generates, Records, Replays, Inspects, Helps, plan_of, report_plan_of, rules_job_of, asm_job_of, number_in, trail_of, look_of, topic_of}
+use Rattle.nv_command.specs.Simple.{option_rule, required, flag_rule, file_rule, files_rule, word_rule, simple_app, run_app, serve_app, record_app, replay_app, inspect_app, rules_app, asm_app, gen_app, help_app}
+use Rattle.nv_command.specs.Words.{Name, NamesRun, NamesServe, NamesRules, NamesAsm, NamesGen, NamesRecord, NamesReplay, NamesInspect, NamesHelp, Command, Runs, Serves, Uses, Generates, Records, Replays, Inspects, Helps, plan_of, report_plan_of, service_of, rules_job_of, asm_job_of, number_in, trail_of, look_of, topic_of}
 use Rattle.nv_command.specs.declared.simple.Kind.{Kind}
 use Rattle.nv_command.specs.declared.simple.Kind.TheVariants.{Value, Needed, Flag, File, Files, Word}
 use Rattle.nv_command.specs.declared.simple.Form.{Form}
@@ -31,6 +31,7 @@ app_by form = simple_app form.name.now (rules_by form.options.now ++ rules_by fo
 
 abbrev pub name_view : Named → Name
 name_view name.Run = NamesRun
+name_view name.Serve = NamesServe
 name_view name.Rules = NamesRules
 name_view name.Asm = NamesAsm
 name_view name.Gen = NamesGen
@@ -42,6 +43,7 @@ name_view name.Help = NamesHelp
 -- what `clap` knows of a command
 abbrev pub app_named : Name → App
 app_named NamesRun = run_app
+app_named NamesServe = serve_app
 app_named NamesRules = rules_app
 app_named NamesAsm = asm_app
 app_named NamesGen = gen_app
@@ -53,6 +55,7 @@ app_named NamesHelp = help_app
 -- what the matches of a command's words ask for
 abbrev pub asked_of : Name → List Row → Option Command
 asked_of NamesRun rows = option_map Runs (report_plan_of rows)
+asked_of NamesServe rows = option_map Serves (service_of rows)
 asked_of NamesRules rows = option_map Uses (rules_job_of rows)
 asked_of NamesAsm rows = option_map Uses (asm_job_of rows)
 asked_of NamesGen rows = option_map Generates (number_in rows)

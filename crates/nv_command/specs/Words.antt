@@ -8,7 +8,7 @@ use Rattle.clap.specs.Simple.{App, matches_of}
 use Rattle.clap.specs.Kinds.{Kinds}
 use Rattle.clap.specs.Faults.{fault_of}
 use Rattle.nv_text.specs.Numbers.{number_of}
-use Rattle.nv_command.specs.Simple.{run_app, record_app, replay_app, inspect_app, rules_app, asm_app, gen_app, help_app}
+use Rattle.nv_command.specs.Simple.{run_app, serve_app, record_app, replay_app, inspect_app, rules_app, asm_app, gen_app, help_app}
 use Rattle.nv_command.specs.declared.asked.Tool.{Tool}
 use Rattle.nv_command.specs.declared.asked.Tool.TheVariants.{CheckRules, AssembleRules, Assemble}
 
@@ -38,21 +38,6 @@ number_within usual least most (Some text) = number_between least most text
 abbrev pub in_pages : ℕ → Option ℕ
 in_pages n = if n % 4096 == 0 then Some n else None
 
-unfoldable pub ring_of : List Row → Option ℕ
-ring_of rows = number_within 256 2 1024 (first_of (codes "ring") rows)
-
-unfoldable pub memory_of : List Row → Option ℕ
-memory_of rows = option_and_then in_pages (number_within 1048576 131072 16777216 (first_of (codes "memory") rows))
-
-unfoldable pub budget_of : List Row → Option ℕ
-budget_of rows = number_within 10000000 1 1000000000 (first_of (codes "budget") rows)
-
-unfoldable pub calls_asked : List Row → Option ℕ
-calls_asked rows = number_within 65536 1 131072 (first_of (codes "calls") rows)
-
-unfoldable pub threads_asked : List Row → Option ℕ
-threads_asked rows = number_within 8 1 8 (first_of (codes "threads") rows)
-
 -- the limits of a run: places of the ring, bytes of a guest, instructions of a version, events of the log, threads of the host
 pub record Limits : Type 0 where
   pub ring : ℕ
@@ -65,11 +50,31 @@ pub record Limits : Type 0 where
 abbrev pub usual : Limits
 usual = record { ring = 256; memory = 1048576; budget = 10000000; calls = 65536; threads = 8 }
 
-unfoldable pub limits_of : List Row → Option Limits
-limits_of rows =
+-- those of a service whose line names none: a run's, but with as many instructions and events as an option may ask for
+abbrev pub service_usual : Limits
+service_usual = record usual { budget = 1000000000; calls = 131072 }
+
+-- each limit that a line asks for; the default's where its option isn't given
+unfoldable pub ring_of : Limits → List Row → Option ℕ
+ring_of defaults rows = number_within defaults.ring 2 1024 (first_of (codes "ring") rows)
+
+unfoldable pub memory_of : Limits → List Row → Option ℕ
+memory_of defaults rows = option_and_then in_pages (number_within defaults.memory 131072 16777216 (first_of (codes "memory") rows))
+
+unfoldable pub budget_of : Limits → List Row → Option ℕ
+budget_of defaults rows = number_within defaults.budget 1 1000000000 (first_of (codes "budget") rows)
+
+unfoldable pub calls_asked : Limits → List Row → Option ℕ
+calls_asked defaults rows = number_within defaults.calls 1 131072 (first_of (codes "calls") rows)
+
+unfoldable pub threads_asked : Limits → List Row → Option ℕ
+threads_asked defaults rows = number_within defaults.threads 1 8 (first_of (codes "threads") rows)
+
+unfoldable pub limits_of : Limits → List Row → Option Limits
+limits_of defaults rows =
     option_and_then (λ ring. option_and_then (λ memory. option_and_then (λ budget. option_and_then (λ calls. option_map (λ threads.
     record { ring = ring; memory = memory; budget = budget; calls = calls; threads = threads })
-    (threads_asked rows)) (calls_asked rows)) (budget_of rows)) (memory_of rows)) (ring_of rows)
+    (threads_asked defaults rows)) (calls_asked defaults rows)) (budget_of defaults rows)) (memory_of defaults rows)) (ring_of defaults rows)
 
 -- at most eight versions
 unfoldable pub versions_asked : List Row → Option (List Text)
@@ -79,7 +84,18 @@ versions_asked rows = option_and_then (λ names. if nat_le (length names) 8 then
 abbrev pub is_set : Text → List Row → Bool
 is_set name rows = option_map_or (λ text. bytes_eq text (codes "true")) (first_of name rows) false
 
--- what a run is asked for; no rules where no file of them is named
+-- what the lines of a run and of a service share; no rules where no file of them is named
+pub record Parts : Type 0 where
+  pub rules : Option (List ℕ)
+  pub versions : List (List ℕ)
+  pub limits : Limits
+
+unfoldable pub parts_of : Limits → List Row → Option Parts
+parts_of defaults rows =
+    option_and_then (λ versions. option_map (λ limits. record { rules = first_of (codes "rules") rows; versions = versions; limits = limits })
+    (limits_of defaults rows)) (versions_asked rows)
+
+-- what a run is asked for
 pub record Plan : Type 0 where
   pub script : List ℕ
   pub rules : Option (List ℕ)
@@ -89,13 +105,36 @@ pub record Plan : Type 0 where
 
 unfoldable pub plan_of : Bool → List Row → Option Plan
 plan_of json rows =
-    option_and_then (λ script. option_and_then (λ versions. option_map (λ limits.
-    record { script = script; rules = first_of (codes "rules") rows; versions = versions; limits = limits; json = json })
-    (limits_of rows)) (versions_asked rows)) (first_of (codes "script") rows)
+    option_and_then (λ script. option_map (λ parts.
+    record { script = script; rules = parts.rules; versions = parts.versions; limits = parts.limits; json = json })
+    (parts_of usual rows)) (first_of (codes "script") rows)
 
 -- the plan of a run that is reported
 abbrev pub report_plan_of : List Row → Option Plan
 report_plan_of rows = plan_of (is_set (codes "json") rows) rows
+
+-- what a service is asked for, a run whose input comes from outside: no script where none is named; whether clients come and go by lines on
+-- standard input and output; whether each event is told on standard error
+pub record Service : Type 0 where
+  pub script : Option (List ℕ)
+  pub rules : Option (List ℕ)
+  pub versions : List (List ℕ)
+  pub limits : Limits
+  pub clients : Bool
+  pub log : Bool
+
+unfoldable pub service_of : List Row → Option Service
+service_of rows =
+    option_map (λ parts.
+    record {
+      script = first_of (codes "script") rows;
+      rules = parts.rules;
+      versions = parts.versions;
+      limits = parts.limits;
+      clients = is_set (codes "clients") rows;
+      log = is_set (codes "log") rows;
+    })
+    (parts_of service_usual rows)
 
 -- the index that a version has in its rules
 unfoldable pub index_of : List Row → Option ℕ
@@ -116,7 +155,7 @@ trail_of rows =
     option_and_then (λ script. option_and_then (λ trace. option_and_then (λ version.
     option_and_then (λ memory. option_and_then (λ budget. option_map (λ index.
     record { script = script; rules = first_of (codes "rules") rows; trace = trace; version = version; memory = memory; budget = budget; index = index })
-    (index_of rows)) (budget_of rows)) (memory_of rows))
+    (index_of rows)) (budget_of usual rows)) (memory_of usual rows))
     (first_of (codes "version") rows)) (first_of (codes "trace") rows)) (first_of (codes "script") rows)
 
 -- a point of a trace: before the event of this place; before the first event of this number; after so many instructions of the version
@@ -180,6 +219,7 @@ number_in rows = option_and_then (number_between 0 999999) (first_of (codes "num
 -- the names of the commands
 pub data Name : Type 0 where
   NamesRun : Name
+  NamesServe : Name
   NamesRules : Name
   NamesAsm : Name
   NamesGen : Name
@@ -191,13 +231,14 @@ pub data Name : Type 0 where
 abbrev pub name_spelt : Text → Option Name
 name_spelt word =
     if bytes_eq word (codes "run") then Some NamesRun
+    else (if bytes_eq word (codes "serve") then Some NamesServe
     else (if bytes_eq word (codes "rules") then Some NamesRules
     else (if bytes_eq word (codes "asm") then Some NamesAsm
     else (if bytes_eq word (codes "gen") then Some NamesGen
     else (if bytes_eq word (codes "record") then Some NamesRecord
     else (if bytes_eq word (codes "replay") then Some NamesReplay
     else (if bytes_eq word (codes "inspect") then Some NamesInspect
-    else (if bytes_eq word (codes "help") then Some NamesHelp else None)))))))
+    else (if bytes_eq word (codes "help") then Some NamesHelp else None))))))))
 
 -- what help is asked for: a command, or all of them where none is named
 abbrev pub topic_from : Option Text → Option (Option Name)
@@ -209,6 +250,7 @@ topic_of rows = topic_from (first_of (codes "command") rows)
 
 pub data Command : Type 0 where
   Runs : Plan → Command
+  Serves : Service → Command
   Uses : Job → Command
   Generates : (number : ℕ) → Command
   Records : Plan → Command
@@ -219,6 +261,10 @@ pub data Command : Type 0 where
 -- the words of `run`, from its name on
 unfoldable pub run_line : List Text → Option Plan
 run_line words = option_and_then report_plan_of (rows_of_line run_app words)
+
+-- the words of `serve`
+unfoldable pub serve_line : List Text → Option Service
+serve_line words = option_and_then service_of (rows_of_line serve_app words)
 
 -- the words of `rules`
 unfoldable pub rules_line : List Text → Option Job
@@ -251,6 +297,7 @@ help_line words = option_and_then topic_of (rows_of_line help_app words)
 -- what the words from the command's name on ask for
 abbrev pub asked_by : List Text → Name → Option Command
 asked_by words NamesRun = option_map Runs (run_line words)
+asked_by words NamesServe = option_map Serves (serve_line words)
 asked_by words NamesRules = option_map Uses (rules_line words)
 asked_by words NamesAsm = option_map Uses (asm_line words)
 asked_by words NamesGen = option_map Generates (gen_line words)

@@ -26,6 +26,23 @@ pub struct Run<'a> {
     ghost few: { length versions.items ≤ 8 },
 }
 
+/// Versions whose input comes from outside while they run.
+#[derive(Drop)]
+pub struct Service<'a> {
+    /// The script, if one is named.
+    pub script: Option<&'a str>,
+    /// The file of a filter that judges followers, if one is named.
+    pub rules: Option<&'a str>,
+    /// One to eight names, in the order in which they were given.
+    pub versions: Vec<&'a str>,
+    pub limits: Limits,
+    /// Clients come and go by lines on standard input and output.
+    pub clients: bool,
+    /// Each event is told on standard error.
+    pub log: bool,
+    ghost few: { length versions.items ≤ 8 },
+}
+
 /// What is done with the one file that a command names.
 #[derive(Clone, Copy, Debug, PartialEq, Eq)]
 pub enum Tool {
@@ -90,6 +107,7 @@ pub struct Look<'a> {
 #[derive(Drop)]
 pub enum Command<'a> {
     Run(Run<'a>),
+    Serve(Service<'a>),
     Use(Job<'a>),
     /// `gen N`: the large run that is made from this number, 0 to 999,999.
     Generate(u32),

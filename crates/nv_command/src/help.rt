@@ -8,6 +8,8 @@ use crate::names::Name;
 
 const RUN_USAGE: &[u8] = b"varan run --script S [options] V1 [V2 .. V8]\n";
 
+const SERVE_USAGE: &[u8] = b"varan serve [options] V1 [V2 .. V8]\n";
+
 const RECORD_USAGE: &[u8] = b"varan record --script S [options] V1 [V2 .. V8]\n";
 
 const REPLAY_USAGE: &[u8] = b"varan replay --script S [options] TRACE V\n";
@@ -24,6 +26,8 @@ const HELP_USAGE: &[u8] = b"varan help [COMMAND]\n";
 
 const SCRIPT: &[u8] = b"  --script S      the script; it must be given\n";
 
+const START: &[u8] = b"  --script S      the script; default none\n";
+
 const RULES: &[u8] =
     b"  --rules FILE    a rule file that judges the calls of followers which differ\n";
 
@@ -35,11 +39,21 @@ const MEMORY: &[u8] =
 const BUDGET: &[u8] =
     b"  --budget N      instructions of a version: 1 to 1000000000, default 10000000\n";
 
+const LONG_BUDGET: &[u8] =
+    b"  --budget N      instructions of a version: 1 to 1000000000, default 1000000000\n";
+
 const CALLS: &[u8] = b"  --calls N       events of the log: 1 to 131072, default 65536\n";
+
+const MANY_CALLS: &[u8] = b"  --calls N       events of the log: 1 to 131072, default 131072\n";
 
 const THREADS: &[u8] = b"  --threads N     host threads that run the versions: 1 to 8, default 8\n";
 
 const JSON: &[u8] = b"  --json          the report is written as JSON\n";
+
+const CLIENTS: &[u8] =
+    b"  --clients       clients come and go by lines on standard input and output\n";
+
+const LOG: &[u8] = b"  --log           each event is told on standard error\n";
 
 const INDEX: &[u8] = b"  --index N       number of the version that rules see: 0 to 7, default 1\n";
 
@@ -68,6 +82,20 @@ const RUN_HELP: [&[u8]; 10] = [
     THREADS,
     JSON,
     b"example: varan run --script clients update old\n",
+];
+
+const SERVE_HELP: [&[u8]; 11] = [
+    SERVE_USAGE,
+    START,
+    RULES,
+    RING,
+    MEMORY,
+    LONG_BUDGET,
+    MANY_CALLS,
+    THREADS,
+    CLIENTS,
+    LOG,
+    b"example: varan serve --clients update old\n",
 ];
 
 const RECORD_HELP: [&[u8]; 9] = [
@@ -119,8 +147,9 @@ const GEN_HELP: [&[u8]; 2] = [GEN_USAGE, b"example: varan gen 7\n"];
 
 const HELP_HELP: [&[u8]; 2] = [HELP_USAGE, b"example: varan help run\n"];
 
-const ALL_HELP: [&[u8]; 9] = [
+const ALL_HELP: [&[u8]; 10] = [
     RUN_USAGE,
+    SERVE_USAGE,
     RECORD_USAGE,
     REPLAY_USAGE,
     INSPECT_USAGE,
@@ -137,6 +166,7 @@ fn command_help(name: Name) -> &'static [&'static [u8]]
 {
     match name {
         Name::Run => &RUN_HELP,
+        Name::Serve => &SERVE_HELP,
         Name::Record => &RECORD_HELP,
         Name::Replay => &REPLAY_HELP,
         Name::Inspect => &INSPECT_HELP,

@@ -23,7 +23,7 @@ pub struct Limits {
 
 impl Limits {
     ghost use Rattle.std.specs.Prelude.{◌≡◌};
-    ghost use Rattle.nv_command.specs.Words.{usual};
+    ghost use Rattle.nv_command.specs.Words.{usual, service_usual};
     ghost use Rattle.nv_command.specs.Seen.{limits_view};
 
     /// The limits of a run whose line names none.
@@ -36,6 +36,20 @@ impl Limits {
             budget: 10_000_000,
             calls: 65_536,
             threads: 8,
+        }
+    }
+
+    /// The limits of a service whose line names none: it runs as long as an option may ask for.
+    pub fn of_service() -> Limits
+        ensures { limits_view result ≡ service_usual }
+    {
+        let usual = Limits::usual();
+        Limits {
+            ring: usual.ring,
+            memory: usual.memory,
+            budget: 1_000_000_000,
+            calls: 131_072,
+            threads: usual.threads,
         }
     }
 }

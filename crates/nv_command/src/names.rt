@@ -5,6 +5,7 @@ use crate::simple::{Form, Kind};
 #[derive(Clone, Copy)]
 pub enum Name {
     Run,
+    Serve,
     Rules,
     Asm,
     Gen,
@@ -14,9 +15,8 @@ pub enum Name {
     Help,
 }
 
-// The options of a run that is reported or recorded.
-const RUN_OPTIONS: [(&str, Kind); 7] = [
-    ("script", Kind::Needed),
+// The options that `run`, `record` and `serve` share.
+const RUN_OPTIONS: [(&str, Kind); 6] = [
     ("rules", Kind::Value),
     ("ring", Kind::Value),
     ("memory", Kind::Value),
@@ -37,7 +37,22 @@ const TRAIL_OPTIONS: [(&str, Kind); 5] = [
 const RUN: Form = Form {
     name: "run",
     options: &RUN_OPTIONS,
-    rest: &[("json", Kind::Flag), ("version", Kind::Files)],
+    rest: &[
+        ("script", Kind::Needed),
+        ("json", Kind::Flag),
+        ("version", Kind::Files),
+    ],
+};
+
+const SERVE: Form = Form {
+    name: "serve",
+    options: &RUN_OPTIONS,
+    rest: &[
+        ("script", Kind::Value),
+        ("clients", Kind::Flag),
+        ("log", Kind::Flag),
+        ("version", Kind::Files),
+    ],
 };
 
 const RULES: Form = Form {
@@ -61,7 +76,7 @@ const GEN: Form = Form {
 const RECORD: Form = Form {
     name: "record",
     options: &RUN_OPTIONS,
-    rest: &[("version", Kind::Files)],
+    rest: &[("script", Kind::Needed), ("version", Kind::Files)],
 };
 
 const REPLAY: Form = Form {
@@ -102,6 +117,7 @@ impl Name {
     {
         match word {
             "run" => Some(Name::Run),
+            "serve" => Some(Name::Serve),
             "rules" => Some(Name::Rules),
             "asm" => Some(Name::Asm),
             "gen" => Some(Name::Gen),
@@ -120,6 +136,7 @@ impl Name {
     {
         match self {
             Name::Run => RUN,
+            Name::Serve => SERVE,
             Name::Rules => RULES,
             Name::Asm => ASM,
             Name::Gen => GEN,

@@ -45,57 +45,62 @@ fn in_pages(bytes: u32) -> Option<u32>
 }
 
 #[tactic(auto, unfolding(crate::specs::Words::ring_of))]
-fn ring(matches: &ArgMatches<'_>) -> Option<u32>
-    ensures number { result ≡ ring_of (rows_of (found_of matches.now)) }
+fn ring(defaults: Limits, matches: &ArgMatches<'_>) -> Option<u32>
+    ensures number { result ≡ ring_of (limits_view defaults) (rows_of (found_of matches.now)) }
     ensures range { IfSome result (λ number. (2 ≤ number) × (number ≤ 1024)) }
 {
-    number_within(256, 2, 1024, text(matches, "ring"))
+    number_within(defaults.ring, 2, 1024, text(matches, "ring"))
 }
 
 /// Bytes of a guest's memory, in whole pages.
 #[tactic(auto, unfolding(crate::specs::Words::memory_of))]
-pub fn memory(matches: &ArgMatches<'_>) -> Option<u32>
-    ensures number { result ≡ memory_of (rows_of (found_of matches.now)) }
+pub fn memory(defaults: Limits, matches: &ArgMatches<'_>) -> Option<u32>
+    ensures number { result ≡ memory_of (limits_view defaults) (rows_of (found_of matches.now)) }
     ensures range { IfSome result (λ number. (131072 ≤ number) × (number ≤ 16777216) × (number % 4096 ≡ 0)) }
 {
-    let bytes = number_within(1_048_576, 131_072, 16_777_216, text(matches, "memory"))?;
+    let bytes = number_within(
+        defaults.memory,
+        131_072,
+        16_777_216,
+        text(matches, "memory"),
+    )?;
     in_pages(bytes)
 }
 
 /// Instructions of a version.
 #[tactic(auto, unfolding(crate::specs::Words::budget_of))]
-pub fn budget(matches: &ArgMatches<'_>) -> Option<u32>
-    ensures number { result ≡ budget_of (rows_of (found_of matches.now)) }
+pub fn budget(defaults: Limits, matches: &ArgMatches<'_>) -> Option<u32>
+    ensures number { result ≡ budget_of (limits_view defaults) (rows_of (found_of matches.now)) }
     ensures range { IfSome result (λ number. (1 ≤ number) × (number ≤ 1000000000)) }
 {
-    number_within(10_000_000, 1, 1_000_000_000, text(matches, "budget"))
+    number_within(defaults.budget, 1, 1_000_000_000, text(matches, "budget"))
 }
 
 #[tactic(auto, unfolding(crate::specs::Words::calls_asked))]
-fn calls(matches: &ArgMatches<'_>) -> Option<u32>
-    ensures number { result ≡ calls_asked (rows_of (found_of matches.now)) }
+fn calls(defaults: Limits, matches: &ArgMatches<'_>) -> Option<u32>
+    ensures number { result ≡ calls_asked (limits_view defaults) (rows_of (found_of matches.now)) }
     ensures range { IfSome result (λ number. (1 ≤ number) × (number ≤ 131072)) }
 {
-    number_within(65_536, 1, 131_072, text(matches, "calls"))
+    number_within(defaults.calls, 1, 131_072, text(matches, "calls"))
 }
 
 #[tactic(auto, unfolding(crate::specs::Words::threads_asked))]
-fn threads(matches: &ArgMatches<'_>) -> Option<u32>
-    ensures number { result ≡ threads_asked (rows_of (found_of matches.now)) }
+fn threads(defaults: Limits, matches: &ArgMatches<'_>) -> Option<u32>
+    ensures number { result ≡ threads_asked (limits_view defaults) (rows_of (found_of matches.now)) }
     ensures range { IfSome result (λ number. (1 ≤ number) × (number ≤ 8)) }
 {
-    number_within(8, 1, 8, text(matches, "threads"))
+    number_within(defaults.threads, 1, 8, text(matches, "threads"))
 }
 
-/// The limits of a run.
-pub fn limits(matches: &ArgMatches<'_>) -> Option<Limits>
-    ensures { option_map limits_view result ≡ limits_of (rows_of (found_of matches.now)) }
+/// The limits of a run or of a service: where an option isn't given, the default.
+pub fn limits(defaults: Limits, matches: &ArgMatches<'_>) -> Option<Limits>
+    ensures { option_map limits_view result ≡ limits_of (limits_view defaults) (rows_of (found_of matches.now)) }
 {
-    let ring = ring(matches)?;
-    let memory = memory(matches)?;
-    let budget = budget(matches)?;
-    let calls = calls(matches)?;
-    let threads = threads(matches)?;
+    let ring = ring(defaults, matches)?;
+    let memory = memory(defaults, matches)?;
+    let budget = budget(defaults, matches)?;
+    let calls = calls(defaults, matches)?;
+    let threads = threads(defaults, matches)?;
     Some(Limits {
         ring,
         memory,

@@ -1,15 +1,13 @@
-// What a run is asked for, as it is matched.
+// What the lines of a run and of a service share, as it is matched.
 ghost use Rattle.std.specs.Prelude.{◌≤◌, length};
 
 use crate::limits::Limits;
 
-/// The parts of a run's line.
+/// The parts that both have.
 #[derive(Clone, Copy)]
 pub struct Parts<'m, 'a> {
-    pub script: &'a str,
     pub rules: Option<&'a str>,
     pub names: &'m [&'a str],
     pub limits: Limits,
-    pub json: bool,
     ghost few: { length names.now ≤ 8 },
 }

@@ -2,11 +2,12 @@
 ghost use Rattle.std.specs.Prelude.{◌≡◌, ◌≤◌, None, Some, IfOk, IfErr, IfSome, IsSome, option_and_then, option_map, length};
 ghost use Rattle.clap.specs.Matches.{found_of};
 ghost use Rattle.clap.specs.Walk.{rows_of};
-ghost use Rattle.nv_command.specs.Words.{texts, NamesRun, NamesRules, NamesAsm, NamesGen, NamesRecord, NamesReplay, NamesInspect, NamesHelp, versions_asked, plan_of, topic_from, asked_by, name_spelt, command_of};
+ghost use Rattle.nv_command.specs.Words.{texts, NamesRun, NamesServe, NamesRules, NamesAsm, NamesGen, NamesRecord, NamesReplay, NamesInspect, NamesHelp, versions_asked, usual, service_usual, parts_of, plan_of, service_of, topic_from, asked_by, name_spelt, command_of};
 ghost use Rattle.nv_command.specs.Tables.{name_view, asked_of};
-ghost use Rattle.nv_command.specs.Seen.{names_view, parts_view, plan_view, command_view, WordsRefused};
+ghost use Rattle.nv_command.specs.Seen.{names_view, limits_view, parts_view, plan_view, service_view, command_view, WordsRefused};
 
-use crate::asked::{Command, Job, LineFault, Run, Tool};
+use crate::asked::{Command, Job, LineFault, Run, Service, Tool};
+use crate::limits::Limits;
 use crate::looks::look;
 use crate::matching::{is_set, matched, text, values};
 use crate::names::Name;
@@ -36,47 +37,54 @@ fn names<'m, 'a>(matches: &'m ArgMatches<'a>) -> Option<&'m [&'a str]>
     }
 }
 
-#[tactic(auto, unfolding(crate::specs::Words::plan_of))]
-fn parts_of<'m, 'a>(matches: &'m ArgMatches<'a>, json: bool) -> Option<Parts<'m, 'a>>
-    ensures { option_map parts_view result ≡ plan_of json (rows_of (found_of matches.entry.now)) }
+#[tactic(auto, unfolding(crate::specs::Words::parts_of))]
+fn parts_of<'m, 'a>(defaults: Limits, matches: &'m ArgMatches<'a>) -> Option<Parts<'m, 'a>>
+    ensures { option_map parts_view result ≡ parts_of (limits_view defaults) (rows_of (found_of matches.entry.now)) }
 {
-    let script = text(matches, "script")?;
     let rules = text(matches, "rules");
     let names = names(matches)?;
-    let limits = limits(matches)?;
+    let limits = limits(defaults, matches)?;
     Some(Parts {
-        script,
         rules,
         names,
         limits,
-        json,
     })
 }
 
-// The run keeps the names in a list of its own.
-fn kept<'a>(alloc: Global, parts: Parts<'_, 'a>) -> Result<Run<'a>, LineFault>
-    ensures plan { IfOk result (λ plan. plan_view plan ≡ parts_view parts.entry) }
-    ensures memory { IfErr result (λ fault. fault ≡ LineFault.Memory) }
-{
-    let versions = parts.names.to_vec(alloc)?;
-    Ok(Run {
-        script: parts.script,
-        rules: parts.rules,
-        versions,
-        limits: parts.limits,
-        json: parts.json,
-    })
-}
-
-// A run, from what is matched of its words.
+// A run, from what is matched of its words; it keeps the names in a list of its own.
+#[tactic(auto, unfolding(crate::specs::Words::plan_of))]
 fn planned<'a>(alloc: Global, matches: &ArgMatches<'a>, json: bool) -> Result<Run<'a>, LineFault>
     ensures plan { IfOk result (λ plan. plan_of json (rows_of (found_of matches.now)) ≡ Some (plan_view plan)) }
     ensures refused { IfErr result (λ fault. fault ≡ LineFault.Usage → plan_of json (rows_of (found_of matches.now)) ≡ None) }
 {
-    match parts_of(matches, json) {
-        Some(parts) => kept(alloc, parts),
-        None => Err(LineFault::Usage),
-    }
+    let script = text(matches, "script").ok_or(LineFault::Usage)?;
+    let parts = parts_of(Limits::usual(), matches).ok_or(LineFault::Usage)?;
+    let versions = parts.names.to_vec(alloc)?;
+    Ok(Run {
+        script,
+        rules: parts.rules,
+        versions,
+        limits: parts.limits,
+        json,
+    })
+}
+
+// A service, likewise.
+#[tactic(auto, unfolding(crate::specs::Words::service_of))]
+fn served<'a>(alloc: Global, matches: &ArgMatches<'a>) -> Result<Service<'a>, LineFault>
+    ensures service { IfOk result (λ service. service_of (rows_of (found_of matches.now)) ≡ Some (service_view service)) }
+    ensures refused { IfErr result (λ fault. fault ≡ LineFault.Usage → service_of (rows_of (found_of matches.now)) ≡ None) }
+{
+    let parts = parts_of(Limits::of_service(), matches).ok_or(LineFault::Usage)?;
+    let versions = parts.names.to_vec(alloc)?;
+    Ok(Service {
+        script: text(matches, "script"),
+        rules: parts.rules,
+        versions,
+        limits: parts.limits,
+        clients: is_set(matches, "clients"),
+        log: is_set(matches, "log"),
+    })
 }
 
 fn run<'a>(alloc: Global, matches: &ArgMatches<'a>) -> Result<Command<'a>, LineFault>
@@ -85,6 +93,14 @@ fn run<'a>(alloc: Global, matches: &ArgMatches<'a>) -> Result<Command<'a>, LineF
 {
     let run = planned(alloc, matches, is_set(matches, "json"))?;
     Ok(Command::Run(run))
+}
+
+fn serve<'a>(alloc: Global, matches: &ArgMatches<'a>) -> Result<Command<'a>, LineFault>
+    ensures command { IfOk result (λ command. asked_of NamesServe (rows_of (found_of matches.now)) ≡ Some (command_view command)) }
+    ensures refused { IfErr result (λ fault. fault ≡ LineFault.Usage → asked_of NamesServe (rows_of (found_of matches.now)) ≡ None) }
+{
+    let service = served(alloc, matches)?;
+    Ok(Command::Serve(service))
 }
 
 fn record<'a>(alloc: Global, matches: &ArgMatches<'a>) -> Result<Command<'a>, LineFault>
@@ -169,6 +185,7 @@ fn asked<'a>(alloc: Global, name: Name, matches: &ArgMatches<'a>) -> Result<Comm
 {
     match name {
         Name::Run => run(alloc, matches),
+        Name::Serve => serve(alloc, matches),
         Name::Record => record(alloc, matches),
         Name::Rules => unless_none(rules(matches)),
         Name::Asm => unless_none(asm(matches)),

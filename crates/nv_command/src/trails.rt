@@ -6,6 +6,7 @@ ghost use Rattle.nv_command.specs.Words.{trail_of};
 ghost use Rattle.nv_command.specs.Seen.{trail_view};
 
 use crate::asked::Trail;
+use crate::limits::Limits;
 use crate::matching::text;
 use crate::numbers::{budget, index, memory};
 use clap::ArgMatches;
@@ -19,8 +20,9 @@ pub fn trail<'a>(matches: &ArgMatches<'a>) -> Option<Trail<'a>>
     let rules = text(matches, "rules");
     let trace = text(matches, "trace")?;
     let version = text(matches, "version")?;
-    let memory = memory(matches)?;
-    let budget = budget(matches)?;
+    let usual = Limits::usual();
+    let memory = memory(usual, matches)?;
+    let budget = budget(usual, matches)?;
     let index = index(matches)?;
     Some(Trail {
         script,

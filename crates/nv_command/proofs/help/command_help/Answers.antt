@@ -7,6 +7,9 @@ use Rattle.nv_command.proofs.help.command_help.Goals as goal
 pub returns-in-Run : goal.returns-in-Run
 returns-in-Run c = ap (λ (name : Name). help_of (Some (name_view name))) (sym c.in-Run.is)
 
+pub returns-in-Serve : goal.returns-in-Serve
+returns-in-Serve c = ap (λ (name : Name). help_of (Some (name_view name))) (sym c.in-Serve.is)
+
 pub returns-in-Record : goal.returns-in-Record
 returns-in-Record c = ap (λ (name : Name). help_of (Some (name_view name))) (sym c.in-Record.is)
 
