@@ -15,7 +15,7 @@ ROOT = os.path.dirname(os.path.dirname(os.path.abspath(__file__)))
 # the pages that a user reads first, and how long their lines are at most
 FIRST = ("README.md", "CHANGELOG.md", *(f"docs/{it}" for it in ("TUTORIAL.md", "GUESTS.md", "SCRIPT.md", "REPORT.md", "RULES.md", "REFUSALS.md", "TRACES.md", "INSPECT.md", "PARTING.md", "varan.1")))
 MOST = 200
-COMMANDS = ("run", "record", "replay", "inspect", "rules", "asm", "gen", "help")
+COMMANDS = ("run", "serve", "record", "replay", "inspect", "rules", "asm", "gen", "help")
 # what stands on a page for another program's option
 OTHERS = {"help", "version", "anew", "program"}
 
@@ -30,14 +30,14 @@ def digits(text):
 
 
 def options_in(manual):
-    """Each option of the manual page: (its commands, from, to, default)."""
+    """Each option of the manual page: (its commands, from, to, default, default for serve)."""
     options = {}
     for name, lines in re.findall(r"(?m)^\.It Fl -(\w+)\b.*\n((?:(?!\.It |\.El).*\n)*)", manual):
         text = " ".join(lines.split())
         commands = re.match(r"For ([\w, ]+)\.", text)
-        limits = re.search(r"From ([\d,]+) to ([\d,]+)(?: less the length)?(?:, default ([\d,]+))?\.", text)
-        low, high, usual = limits.groups() if limits else ("", "", "")
-        options[name] = (tuple(commands[1].split(", ")) if commands else (), low, high, usual or "")
+        limits = re.search(r"From ([\d,]+) to ([\d,]+)(?: less the length)?(?:, default ([\d,]+)(?:, for serve ([\d,]+))?)?\.", text)
+        low, high, usual, served = limits.groups() if limits else ("", "", "", "")
+        options[name] = (tuple(commands[1].split(", ")) if commands else (), low, high, usual or "", served or usual or "")
     return options
 
 
@@ -51,10 +51,17 @@ def options_by_command(specs):
 
 
 def limits_in(specs):
-    """Each option's (least, most, usual) as the definitions have it."""
-    found = {name: (least, most, usual) for usual, least, most, name in re.findall(r'number_within (\d+) (\d+) (\d+) \(first_of \(codes "(\w+)"\)', specs)}
-    found.update({name: (least, most, "") for least, most, name in re.findall(r"number_between (\d+) (\d+) (\w+)\)", specs)})
+    """Each option's (least, most, usual, usual of a service) as the definitions have it."""
+    usual = defaults_in(specs, r"usual = record")
+    served = usual | defaults_in(specs, r"service_usual = record usual")
+    found = {name: (least, most, usual.get(it, it), served.get(it, it)) for it, least, most, name in re.findall(r'number_within (?:defaults\.)?(\w+) (\d+) (\d+) \(first_of \(codes "(\w+)"\)', specs)}
+    found.update({name: (least, most, "", "") for least, most, name in re.findall(r"number_between (\d+) (\d+) (\w+)\)", specs)})
     return found
+
+
+def defaults_in(specs, head):
+    """The numbers of a record of limits."""
+    return dict(re.findall(r"(\w+) = (\d+)", re.search(rf"(?m)^{head} \{{(.*)\}}$", specs)[1]))
 
 
 def options(wrong):
@@ -64,12 +71,12 @@ def options(wrong):
         of = tuple(it for it in COMMANDS if name in by_command[it])
         if name not in rows or rows[name][0] != of:
             wrong.append(f"{MANUAL}: --{name} is an option of {', '.join(of) or 'no command'}")
-    for name, (least, most, usual) in limits_in(read("crates/nv_command/specs/Words.antt")).items():
-        _, low, high, default = rows.get(name, ("", "", "", ""))
-        if (digits(low), digits(high)) != (least, most) or usual and digits(default) != usual:
-            wrong.append(f"{MANUAL}: --{name} is from {least} to {most}, default {usual or 'none'}, by nv_command/specs/Words.antt")
+    for name, (least, most, usual, served) in limits_in(read("crates/nv_command/specs/Words.antt")).items():
+        _, *limits = rows.get(name, ("", "", "", "", ""))
+        if list(map(digits, limits)) != [least, most, usual, served]:
+            wrong.append(f"{MANUAL}: --{name} is from {least} to {most}, default {usual or 'none'}, for serve {served or 'none'}, by nv_command/specs/Words.antt")
     refusals = read("docs/REFUSALS.md")
-    for name, (_, low, high, _) in rows.items():
+    for name, (_, low, high, _, _) in rows.items():
         if low and low != "0" and f"`--{name}` from {low} to {high}" not in refusals:
             wrong.append(f"docs/REFUSALS.md doesn't say: `--{name}` from {low} to {high}")
     for path in ("README.md", "docs/REFUSALS.md", MANUAL):
@@ -80,22 +87,29 @@ def options(wrong):
 
 
 def options_helped(specs):
-    """What `help` says of each option: (its commands, from, to, default)."""
-    of_command = {name.lower(): re.findall(r"\b(\w+)_help\b", lines) for name, lines in re.findall(r"(?m)^option_lines Names(\w+) = (.*)$", specs)}
-    options = {}
+    """What `help` says of each option, command by command: (from, to, default)."""
+    lines = {}
     for name, word, meaning in re.findall(r'(?m)^(\w+)_help = codes "  --(\w+)\b(.*)\\n"$', specs):
         limits = re.search(r": (\d+) to (\d+)(?: less the length)?(?:, default (\d+))?$", meaning)
-        low, high, usual = limits.groups() if limits else ("", "", "")
-        commands = tuple(it for it in COMMANDS if name in of_command[it])
-        options[word] = (commands, low, high, usual or "")
+        lines[name] = (word, tuple(it or "" for it in limits.groups()) if limits else ("", "", ""))
+    options = {}
+    for command, names in re.findall(r"(?m)^option_lines Names(\w+) =((?:.|\n )*)", specs):
+        for name in re.findall(r"\b(\w+)_help\b", names):
+            word, limits = lines[name]
+            options.setdefault(word, {})[command.lower()] = limits
     return options
+
+
+def by_command(commands, low, high, usual, served):
+    """An option of the manual page, command by command: (from, to, default)."""
+    return {it: tuple(map(digits, (low, high, served if it == "serve" else usual))) for it in commands}
 
 
 def helped(wrong):
     """What `help` writes has the manual page's options, and each command's usage stands in README.md and docs/REFUSALS.md."""
     specs, page = read("crates/nv_command/specs/Help.antt"), "nv_command/specs/Help.antt"
     helped = options_helped(specs)
-    rows = {name: (commands, *map(digits, limits)) for name, (commands, *limits) in options_in(read(MANUAL)).items()}
+    rows = {name: by_command(*row) for name, row in options_in(read(MANUAL)).items()}
     for name in sorted({*rows, *helped}):
         if rows.get(name) != helped.get(name):
             wrong.append(f"{page}: --{name} is {rows.get(name, 'no option')} in {MANUAL}, and {helped.get(name, 'no option')} here")

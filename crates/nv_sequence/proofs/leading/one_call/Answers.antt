@@ -22,28 +22,28 @@ returns-then-is_err-clause-turn g c = λ start legal.
 
 pub serve_call-requires-clause-lives : goal.serve_call-requires-clause-lives
 serve_call-requires-clause-lives g c κs within =
-    let w = waits threads thread_laws (g.K.SyscallKernel.start c.args.kernel.now) c.args.most c.args.version.now
+    let w = waits threads thread_laws (g.K.SyscallKernel.known c.args.kernel.now) c.args.most c.args.version.now
     (g.K.SyscallKernel.log c.args.kernel.now) c.lead.new.self c.in-Asked.tid c.requires.leading c.requires.seen c.requires.in_step
     c.lead.ensures.new c.in-Asked.ensures.told.0 in
     w.lives
 
 pub serve_call-requires-clause-live : goal.serve_call-requires-clause-live
 serve_call-requires-clause-live g c κs within =
-    let w = waits threads thread_laws (g.K.SyscallKernel.start c.args.kernel.now) c.args.most c.args.version.now
+    let w = waits threads thread_laws (g.K.SyscallKernel.known c.args.kernel.now) c.args.most c.args.version.now
     (g.K.SyscallKernel.log c.args.kernel.now) c.lead.new.self c.in-Asked.tid c.requires.leading c.requires.seen c.requires.in_step
     c.lead.ensures.new c.in-Asked.ensures.told.0 in
     rw (c.reserve.ensures.log) w.live
 
 pub serve_call-requires-clause-seen : goal.serve_call-requires-clause-seen
 serve_call-requires-clause-seen g c κs within =
-    let w = waits threads thread_laws (g.K.SyscallKernel.start c.args.kernel.now) c.args.most c.args.version.now
+    let w = waits threads thread_laws (g.K.SyscallKernel.known c.args.kernel.now) c.args.most c.args.version.now
     (g.K.SyscallKernel.log c.args.kernel.now) c.lead.new.self c.in-Asked.tid c.requires.leading c.requires.seen c.requires.in_step
     c.lead.ensures.new c.in-Asked.ensures.told.0 in
     rw (c.reserve.ensures.log) w.seen
 
 pub serve_call-requires-clause-few : goal.serve_call-requires-clause-few
 serve_call-requires-clause-few g c κs within =
-    let w = waits threads thread_laws (g.K.SyscallKernel.start c.args.kernel.now) c.args.most c.args.version.now
+    let w = waits threads thread_laws (g.K.SyscallKernel.known c.args.kernel.now) c.args.most c.args.version.now
     (g.K.SyscallKernel.log c.args.kernel.now) c.lead.new.self c.in-Asked.tid c.requires.leading c.requires.seen c.requires.in_step
     c.lead.ensures.new c.in-Asked.ensures.told.0 in
     rw (c.reserve.ensures.log) (omega (arith, w.few, c.requires.most))
