@@ -24,7 +24,8 @@ pub fn put_events<S: Sink>(sink: &mut S, log: &[Event]) -> Put
     Put::Whole
 }
 
-fn put_event<S: Sink>(sink: &mut S, event: &Event) -> Put
+/// Writes an event as a line of the log.
+pub fn put_event<S: Sink>(sink: &mut S, event: &Event) -> Put
     ensures { Puts (S.told sink.old) (S.faults sink.old) (event_text (entry event.now)) result (S.told sink.new) (S.faults sink.new) }
 {
     match put_call(sink, event) {
