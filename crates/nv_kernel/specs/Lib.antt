@@ -4,3 +4,4 @@ pub mod Reserved
 pub mod Kernel
 pub mod Crew
 pub mod EveryState
+pub mod Codes

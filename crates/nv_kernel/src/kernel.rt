@@ -79,7 +79,7 @@ impl ScriptKernel {
 }
 
 impl SyscallKernel for ScriptKernel {
-    ghost use Rattle.std.specs.Coded.{codes};
+    ghost use Rattle.nv_kernel.specs.Codes.{setup_code};
     ghost use Rattle.nv_script.specs.Scripts.{Setup};
     ghost use Rattle.nv_kernel.specs.Kernel.{CanServe};
     ghost use Rattle.nv_kernel.specs.Serving.{start_of_script};
@@ -88,7 +88,7 @@ impl SyscallKernel for ScriptKernel {
 
     ghost Beginning = { Setup };
 
-    ghost beginning_code = { Prim.hlevel codes };
+    ghost beginning_code = { setup_code };
 
     ghost start = { λ k. k.setup };
 

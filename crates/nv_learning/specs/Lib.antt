@@ -1,3 +1,4 @@
 pub mod Given
 pub mod Sound
 pub mod Kernel
+pub mod Codes

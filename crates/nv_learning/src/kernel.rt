@@ -106,7 +106,7 @@ fn answer(kept: &mut Option<Option<u8>>, call: &Call, out: &mut Bytes) -> i32
 }
 
 impl<O: Outside> SyscallKernel for LearningKernel<O> {
-    ghost use Rattle.std.specs.Coded.{codes};
+    ghost use Rattle.nv_learning.specs.Codes.{nothing_code};
     ghost use Rattle.nv_learning.specs.Given.{from_given, given_by};
     ghost use Rattle.nv_learning.specs.Kernel.{CanServe};
 
@@ -115,7 +115,7 @@ impl<O: Outside> SyscallKernel for LearningKernel<O> {
     // It is made over nothing that differs from run to run.
     ghost Beginning = { Unit {0} };
 
-    ghost beginning_code = { Prim.hlevel codes };
+    ghost beginning_code = { nothing_code };
 
     ghost start = { λ k. tt };
 

@@ -90,7 +90,7 @@ impl SocketKernel {
 }
 
 impl SyscallKernel for SocketKernel {
-    ghost use Rattle.std.specs.Coded.{codes};
+    ghost use Rattle.nv_kernel.specs.Codes.{setup_code};
     ghost use Rattle.nv_script.specs.Scripts.{Setup};
     ghost use Rattle.nv_sockets.specs.Kernel.{CanServe};
     ghost use Rattle.nv_sockets.specs.Serving.{start_of_script};
@@ -99,7 +99,7 @@ impl SyscallKernel for SocketKernel {
 
     ghost Beginning = { Setup };
 
-    ghost beginning_code = { Prim.hlevel codes };
+    ghost beginning_code = { setup_code };
 
     ghost start = { λ k. k.setup };
 
