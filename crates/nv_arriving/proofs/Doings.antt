@@ -7,7 +7,8 @@ use Rattle.nv_sockets.specs.Serving.{serve}
 use Rattle.nv_arrivals.specs.Arrivals.{Arrival}
 use Rattle.nv_arriving.specs.Arrivals.{in_vain}
 use Rattle.nv_arriving.specs.Arriving.{Stage, wants, taken, ready_for, answer_next, serve_next, first_stage, stage_after, Satisfied}
-use Rattle.nv_arriving.specs.Doings.{Said, Doing, Takes, Says, said, doings_of, doings_from, doings, takings}
+use Rattle.nv_arrivals.specs.Doings.{Said, Doing, Takes, Says, takings}
+use Rattle.nv_arriving.specs.Doings.{said, doings_of, doings_from, doings}
 use Rattle.nv_arriving.proofs.Coming.{take_front, taken_few, taken_more, with_more, ready_more, next_more}
 
 -- ---- a front of the calls
@@ -35,7 +36,7 @@ of_more g more c h =
     let t : take (taken (with_more g more) c) (g.rest ++ more) ≡ take (taken g c) g.rest =
     ap (λ (n : ℕ). take n (g.rest ++ more)) (taken_more (wants g.here c) g.rest more h) ∙ take_front (taken g c) g.rest more (taken_few (wants g.here c) g.rest) in
     let r = ready_more g more c h in
-    λ i. map Takes (t i) ++ map Says (said (r i).state (serve (r i).state c).state)
+    λ i. map Takes (t i) ++ map Says (said (r i).state c (serve (r i).state c).ret (serve (r i).state c).state)
 
 from_more : (g : Stage) (more : List Arrival) (cs : List Request) → Satisfied g cs → doings_from (with_more g more) cs ≡ doings_from g cs
 from_more g more [] h = refl
@@ -51,23 +52,23 @@ doings_more setup arrivals more log h = from_more (first_stage setup arrivals) m
 
 -- ---- what is taken in
 
-takings_both : (xs ys : List Doing) → takings (xs ++ ys) ≡ takings xs ++ takings ys
+pub takings_both : (xs ys : List Doing) → takings (xs ++ ys) ≡ takings xs ++ takings ys
 takings_both [] ys = refl
 takings_both (Takes a ∷ xs) ys = ap (λ (z : List Arrival). a ∷ z) (takings_both xs ys)
 takings_both (Says s ∷ xs) ys = takings_both xs ys
 
-takings_all : (xs : List Arrival) → takings (map Takes xs) ≡ xs
+pub takings_all : (xs : List Arrival) → takings (map Takes xs) ≡ xs
 takings_all [] = refl
 takings_all (a ∷ xs) = ap (λ (z : List Arrival). a ∷ z) (takings_all xs)
 
-takings_none : (xs : List Said) → takings (map Says xs) ≡ []
+pub takings_none : (xs : List Said) → takings (map Says xs) ≡ []
 takings_none [] = refl
 takings_none (s ∷ xs) = takings_none xs
 
 takings_of : (g : Stage) (c : Request) → takings (doings_of g c) ≡ take (taken g c) g.rest
 takings_of g c =
     let front : List Arrival = take (taken g c) g.rest in
-    let says : List Said = said (ready_for g c).state (answer_next g c).state in
+    let says : List Said = said (ready_for g c).state c (answer_next g c).ret (answer_next g c).state in
     takings_both (map Takes front) (map Says says)
     ∙ ((λ i. takings_all front i ++ takings_none says i) ∙ append-nil front)
 

@@ -5,4 +5,6 @@ pub mod Rooms
 pub mod Steps
 pub mod Staged
 pub mod Kept
+pub mod Telling
 pub mod Doings
+pub mod Told

@@ -1,8 +1,10 @@
 -- How many arrivals a call takes in, by those that were looked at; and what grows.
-use Rattle.std.proofs.Common.{◌≡◌, ◌∙◌, sym, ap, refl, ℕ, suc, ◌+◌, ◌≤◌, Bool, true, false, ◌||◌, List, [], ◌∷◌, ◌++◌, length, drop, Some, arith, append-nil, append_assoc}
+use Rattle.std.proofs.Common.{◌≡◌, ◌∙◌, sym, ap, refl, ℕ, zero, suc, ◌+◌, ◌≤◌, Bool, true, false, ◌||◌, List, [], ◌∷◌, ◌++◌, length, drop, map, Some, arith, append-nil, append_assoc, length-append}
 use Rattle.std.specs.Prelude.{if◌then◌else◌}
 use Rattle.nv_arriving.specs.declared.waiting.Want.{Want}
+use Rattle.nv_kernel.proofs.Keeping.{map_more}
 use Rattle.nv_arrivals.specs.Arrivals.{Arrival}
+use Rattle.nv_arrivals.specs.Doings.{Takes}
 use Rattle.nv_arriving.specs.Arrivals.{ends, any_ends, until, in_vain}
 use Rattle.nv_arriving.specs.Kernel.{after, Grew}
 use Rattle.nv_arriving.proofs.Coming.{drop_front}
@@ -42,6 +44,12 @@ pub drop_all : {A : Type 0} (xs ys : List A) → drop (length xs) (xs ++ ys) ≡
 drop_all [] ys = refl
 drop_all (x ∷ xs) ys = drop_all xs ys
 
+pub drop_past : {A : Type 0} (n : ℕ) (xs : List A) → length xs ≤ n → drop n xs ≡ []
+drop_past zero [] h = refl
+drop_past (suc n) [] h = refl
+drop_past zero (x ∷ xs) h = absurd (omega arith)
+drop_past (suc n) (x ∷ xs) h = drop_past n xs (omega arith)
+
 pub grew_by : {A : Type 0} (before now more : List A) → now ≡ before ++ more → Grew before now
 grew_by before now more h = h ∙ ap (λ z. before ++ z) (sym (ap (drop (length before)) h ∙ drop_all before more))
 
@@ -64,3 +72,24 @@ learned w used before now h g e =
 
 pub not_waits : (w : Want) (xs : List Arrival) → any_ends w xs ≡ true → in_vain (Some w) xs ≡ false
 not_waits w xs h = ap (λ (b : Bool). if b then false else true) h
+
+pub waits_on : (w : Want) (xs : List Arrival) → any_ends w xs ≡ false → in_vain (Some w) xs ≡ false → ⊥
+waits_on w xs h k = let e = sym (ap (λ (b : Bool). if b then false else true) h) ∙ k in cc
+
+-- what was heard, with one more
+pub takes_more : (before now : List Arrival) (a : Arrival) → Grew before now → map Takes (after before now) ++ Takes a ∷ [] ≡ map Takes (after before (now ++ a ∷ []))
+takes_more before now a h = sym (map_more Takes (after before now) a) ∙ ap (map Takes) (sym (after_more before now (a ∷ []) h))
+
+-- none of what was heard ends the wait but the last
+pub until_all_of : (w : Want) (xs : List Arrival) → any_ends w xs ≡ false → until w xs ≡ length xs
+until_all_of w xs h = let n = ap (until w) (append-nil xs) in let m = until_none w xs [] h in omega (arith, n, m)
+
+one_by : (w : Want) (a : Arrival) (b : Bool) → ends w a ≡ b → until w (a ∷ []) ≡ 1
+one_by w a true h = ap (λ (z : Bool). if z then 1 else suc (until w [])) h
+one_by w a false h = ap (λ (z : Bool). if z then 1 else suc (until w [])) h
+
+pub until_last : (w : Want) (xs : List Arrival) (a : Arrival) → any_ends w xs ≡ false → until w (xs ++ a ∷ []) ≡ length (xs ++ a ∷ [])
+until_last w xs a h = until_none w xs (a ∷ []) h ∙ (ap (λ (n : ℕ). length xs + n) (one_by w a (ends w a) refl) ∙ sym (length-append xs (a ∷ [])))
+
+pub any_none_last : (w : Want) (xs : List Arrival) (a : Arrival) → any_ends w xs ≡ false → ends w a ≡ false → any_ends w (xs ++ a ∷ []) ≡ false
+any_none_last w xs a h k = any_none w xs (a ∷ []) h ∙ ap (λ (b : Bool). b || false) k

@@ -1,29 +1,20 @@
 -- What a run does outside, in order: event by event, the arrivals that its call takes in, then what it says.
-use Rattle.std.specs.Prelude.{ℕ, suc, List, [], ◌∷◌, ◌++◌, take, map, Option, Some, None}
+use Rattle.std.specs.Prelude.{ℕ, ℤ, pos, negsuc, List, [], ◌∷◌, ◌++◌, take, map, Option, Some, None}
+use Rattle.nv_calls.specs.declared.numbers.Syscall.{Syscall}
+use Rattle.nv_calls.specs.declared.numbers.Syscall.TheVariants as call
 use Rattle.nv_calls.specs.Calls.{Request, Entry}
 use Rattle.nv_calls.specs.Logs.{calls_of}
+use Rattle.nv_calls.specs.Numbers.{syscall_of}
 use Rattle.nv_script.specs.Scripts.{Setup}
+use Rattle.nv_kernel.specs.Serving.{request_arg}
 use Rattle.nv_sockets.specs.declared.socket.Socket.{Socket}
-use Rattle.nv_sockets.specs.declared.socket.Socket.TheVariants.{Connected}
-use Rattle.nv_sockets.specs.Sockets.{Link}
+use Rattle.nv_sockets.specs.declared.socket.Socket.TheVariants.{Fresh, Bound, Listening, Connected}
+use Rattle.nv_sockets.specs.Sockets.{Net, socket_at, link_output}
 use Rattle.nv_sockets.specs.Serving.{State}
 use Rattle.nv_arrivals.specs.Arrivals.{Arrival}
+use Rattle.nv_arrivals.specs.Doings.{Said, Accepted, Sent, Closed, Printed, Doing, Takes, Says}
 use Rattle.nv_arriving.specs.Arriving.{Stage, taken, ready_for, answer_next, serve_next, first_stage}
 use Rattle.nv_arriving.specs.Kernel.{after}
-
-pub data Said : Type 0 where
-  -- this client is accepted
-  Accepted : ℕ → Said
-  -- bytes for this client
-  Sent : ℕ → List ℕ → Said
-  -- this client's descriptor is closed
-  Closed : ℕ → Said
-  -- bytes for the console
-  Printed : List ℕ → Said
-
-pub data Doing : Type 0 where
-  Takes : Arrival → Doing
-  Says : Said → Doing
 
 -- ---- what a call says, by what it finds and what it leaves
 
@@ -32,45 +23,60 @@ abbrev pub of_bytes : (List ℕ → Said) → List ℕ → List Said
 of_bytes say [] = []
 of_bytes say (byte ∷ bytes) = say (byte ∷ bytes) ∷ []
 
-abbrev pub accepted_by : ℕ → Option ℕ → Option ℕ → List Said
-accepted_by i (Some port) None = Accepted i ∷ []
-accepted_by i _ _ = []
+-- the socket of the descriptor that is a call's result
+abbrev pub socket_by : Net → ℤ → Option Socket
+socket_by net (pos fd) = socket_at net fd
+socket_by net (negsuc n) = None
 
--- which connections wait no longer, the first of them having the number i
-abbrev pub accepted : ℕ → List (Option ℕ) → List (Option ℕ) → List Said
-accepted i [] now = []
-accepted i (w ∷ before) [] = []
-accepted i (w ∷ before) (v ∷ now) = accepted_by i w v ++ accepted (suc i) before now
+-- the connection of this socket is accepted
+abbrev pub accepted_as : Option Socket → List Said
+accepted_as None = []
+accepted_as (Some Fresh) = []
+accepted_as (Some (Bound port)) = []
+accepted_as (Some (Listening port)) = []
+accepted_as (Some (Connected i read)) = Accepted i ∷ []
 
--- what was written to the connections, the first of them having the number i
-abbrev pub sent : ℕ → List Link → List Link → List Said
-sent i [] now = []
-sent i (a ∷ before) [] = []
-sent i (a ∷ before) (b ∷ now) = of_bytes (Sent i) (after a.output b.output) ++ sent (suc i) before now
+-- what accept(2) and accept4(2) answered names a connection now
+abbrev pub accepted : Syscall → Option Socket → List Said
+accepted call.Accept made = accepted_as made
+accepted call.Accept4 made = accepted_as made
+accepted _ made = []
 
-abbrev pub closed_by : Option Socket → Option Socket → List Said
-closed_by (Some (Connected i read)) None = Closed i ∷ []
-closed_by _ _ = []
+-- what was written to the connection of a socket; nothing where it has none
+abbrev pub written : Net → Option Socket → List ℕ
+written net None = []
+written net (Some Fresh) = []
+written net (Some (Bound port)) = []
+written net (Some (Listening port)) = []
+written net (Some (Connected i read)) = link_output net i
 
--- which connections have no descriptor any more
-abbrev pub closed : List (Option Socket) → List (Option Socket) → List Said
-closed [] now = []
-closed (s ∷ before) [] = []
-closed (s ∷ before) (t ∷ now) = closed_by s t ++ closed before now
+-- bytes for the connection of a socket
+abbrev pub sent : Option Socket → List ℕ → List Said
+sent None bytes = []
+sent (Some Fresh) bytes = []
+sent (Some (Bound port)) bytes = []
+sent (Some (Listening port)) bytes = []
+sent (Some (Connected i read)) bytes = of_bytes (Sent i) bytes
 
--- a call that finds this and leaves that has said this
-abbrev pub said : State → State → List Said
-said before now =
-    accepted 0 before.net.waiting now.net.waiting
-    ++ (sent 0 before.net.links now.net.links
-    ++ (closed before.net.sockets now.net.sockets
+-- a connection's descriptor, of which this was the socket, is none's now
+abbrev pub closed : Option Socket → Option Socket → List Said
+closed (Some (Connected i read)) None = Closed i ∷ []
+closed _ _ = []
+
+-- A call that finds this, has this result and leaves that has said this. What it sends and closes is the socket of its first argument.
+abbrev pub said : State → Request → ℤ → State → List Said
+said before c ret now =
+    let socket = socket_at before.net (request_arg c 0) in
+    accepted (syscall_of c.nr) (socket_by now.net ret)
+    ++ (sent socket (after (written before.net socket) (written now.net socket))
+    ++ (closed socket (socket_at now.net (request_arg c 0))
     ++ of_bytes Printed (after before.own.files.console now.own.files.console)))
 
 -- ---- from call to call
 
 -- what a call does outside: it takes in what it waits for, is served, and says what it says
 abbrev pub doings_of : Stage → Request → List Doing
-doings_of g c = map Takes (take (taken g c) g.rest) ++ map Says (said (ready_for g c).state (answer_next g c).state)
+doings_of g c = map Takes (take (taken g c) g.rest) ++ map Says (said (ready_for g c).state c (answer_next g c).ret (answer_next g c).state)
 
 abbrev pub doings_from : Stage → List Request → List Doing
 doings_from g [] = []
@@ -79,9 +85,3 @@ doings_from g (c ∷ cs) = doings_of g c ++ doings_from (serve_next g c) cs
 -- what a log does outside over a script, as far as this has come
 unfoldable pub doings : Setup → List Arrival → List Entry → List Doing
 doings setup arrivals log = doings_from (first_stage setup arrivals) (calls_of log)
-
--- those that were taken in
-abbrev pub takings : List Doing → List Arrival
-takings [] = []
-takings (Takes a ∷ xs) = a ∷ takings xs
-takings (Says s ∷ xs) = takings xs

@@ -11,21 +11,30 @@ use Rattle.nv_arriving.specs.Arrivals.{in_vain}
 use Rattle.nv_arriving.specs.Arriving.{Stage, first_stage, stage_after, wants, taken}
 use Rattle.nv_arriving.specs.Reserved.{Room, CanTakeIn}
 
--- The log, what the script gave, all that has come, whether nothing more comes, the memory of the event that is made for the next call, and the files and the sockets with theirs.
-pub record KernelState : Type 0 where
+-- what a kernel is made over: what the script gives, and the outside as it was then
+pub record Begun (O : Type 0) : Type 0 where
+  pub setup : Setup
+  pub outside : O
+
+-- The log, what the script gave, the outside as the kernel was made and as it is, all that has come, whether something of it was heard before its call was served
+-- or was more than that took in, whether nothing more comes, the memory of the event that is made for the next call, and the files and the sockets with theirs.
+pub record KernelState (O : Type 0) : Type 0 where
   pub log : List Entry
   pub setup : Setup
+  pub begun : O
+  pub outside : O
   pub came : List Arrival
+  pub late : Bool
   pub over : Bool
   pub spare : Option Spare
   pub room : Room
 
 -- what the calls served left
-abbrev pub stage_of : KernelState → Stage
+abbrev pub stage_of : {O : Type 0} → KernelState O → Stage
 stage_of k = stage_after (first_stage k.setup k.came) (calls_of k.log)
 
 -- there is memory for the event of a call, for what it takes in and for what it leaves, and it doesn't wait in vain while more may come
-pub record CanServe (k : KernelState) (c : Request) : Type 0 where
+pub record CanServe {O : Type 0} (k : KernelState O) (c : Request) : Type 0 where
   pub event : CanHold k.spare c
   pub takes : CanTakeIn k.room (take (taken (stage_of k) c) (stage_of k).rest)
   pub answer : kernel.CanAnswer k.room.disk c

@@ -3,4 +3,7 @@ pub mod Arriving
 pub mod Reserved
 pub mod Views
 pub mod Kernel
+pub mod Beginnings
+pub mod Telling
 pub mod Doings
+pub mod Marks

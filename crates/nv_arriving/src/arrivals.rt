@@ -1,11 +1,13 @@
-// What comes from outside.
-ghost use Rattle.std.specs.Prelude.{◌≡◌, ◌≤◌, true, false, IfOk, OnOk, map, drop, vec_len};
-ghost use Rattle.nv_arriving.specs.Arrivals.{any_ends, in_vain};
-ghost use Rattle.nv_arriving.specs.Kernel.{after, Grew};
+// What is heard from outside.
+ghost use Rattle.std.specs.Prelude.{◌≡◌, ◌≤◌, ◌<◌, ◌++◌, ◌∷◌, [], true, false, IfOk, OnOk, length, map, drop, vec_len, vec_capacity};
+ghost use Rattle.nv_arrivals.specs.Doings.{Takes};
 ghost use Rattle.nv_arrivals.specs.Views.{view as arrival_of};
+ghost use Rattle.nv_arriving.specs.Arrivals.{any_ends, in_vain, until};
+ghost use Rattle.nv_arriving.specs.Kernel.{after, Grew};
+ghost use Rattle.nv_arriving.specs.Telling.{Adds};
 
 use crate::waiting::{Want, any_ends, ends};
-use nv_arrivals::Arrival;
+use nv_arrivals::{Arrival, Outside};
 use std::alloc::{AllocError, Global};
 
 // Those that the guests' side doesn't have.
@@ -16,57 +18,69 @@ pub(crate) fn rest(came: &Vec<Arrival>, used: usize) -> &[Arrival]
     &came.as_slice()[used..]
 }
 
-/// Where arrivals come from. Nothing is promised of `next`.
-pub trait Outside: Send + Drop {
-    /// The next arrival, which may be waited for; nothing where there will be none any more.
-    fn next(&mut self, alloc: Global) -> Result<Option<Arrival>, AllocError>;
-
-    /// Asks for arrivals until one ends the wait, and tells whether nothing more comes.
-    fn hear(
-        &mut self,
-        alloc: Global,
-        came: &mut Vec<Arrival>,
-        want: Want,
-    ) -> Result<bool, AllocError>
-        ensures grew { Grew (map arrival_of came.old.items) (map arrival_of came.new.items) }
-        ensures ended { IfOk result (λ over. over ≡ false → any_ends want (after (map arrival_of came.old.items) (map arrival_of came.new.items)) ≡ true) }
-    {
-        for _ in 0..u64::MAX {
-            came.reserve(1)?;
-            let Some(arrival) = self.next(alloc)? else {
-                return Ok(true);
-            };
-            let last = ends(want, &arrival);
-            came.push(arrival)?;
-            if last {
-                return Ok(false);
-            }
-        }
-        Ok(true)
+// One more, for which there is memory.
+fn add(came: &mut Vec<Arrival>, arrival: Arrival)
+    requires { vec_len came.old < vec_capacity came.old }
+    ensures { came.new.items ≡ came.old.items ++ arrival ∷ [] }
+{
+    match came.push(arrival) {
+        Ok(()) => {}
+        Err(_) => unreachable!(),
     }
+}
 
-    /// Asks for what a call waits for, unless that has come or nothing more comes.
-    fn learn(
-        &mut self,
-        alloc: Global,
-        came: &mut Vec<Arrival>,
-        used: usize,
-        over: &mut bool,
-        want: Option<Want>,
-    ) -> Result<(), AllocError>
-        requires { used ≤ vec_len came.old }
-        ensures grew { Grew (map arrival_of came.old.items) (map arrival_of came.new.items) }
-        ensures over { over.new ≡ false → over.old ≡ false }
-        ensures same { over.old ≡ true → came.new.items ≡ came.old.items }
-        ensures waits { OnOk result (over.new ≡ false → in_vain want (drop used (map arrival_of came.new.items)) ≡ false) }
-    {
-        let Some(want) = want else {
-            return Ok(());
+/// Asks for arrivals until one ends the wait, and tells whether nothing more comes.
+pub(crate) fn hear<O: Outside>(
+    outside: &mut O,
+    alloc: Global,
+    came: &mut Vec<Arrival>,
+    want: Want,
+) -> Result<bool, AllocError>
+    ensures grew { Grew (map arrival_of came.old.items) (map arrival_of came.new.items) }
+    ensures did { Adds O.did outside.old outside.new (map Takes (after (map arrival_of came.old.items) (map arrival_of came.new.items))) }
+    ensures ended { IfOk result (λ over. over ≡ false → any_ends want (after (map arrival_of came.old.items) (map arrival_of came.new.items)) ≡ true) }
+    ensures until { until want (after (map arrival_of came.old.items) (map arrival_of came.new.items)) ≡ length (after (map arrival_of came.old.items) (map arrival_of came.new.items)) }
+{
+    for _ in 0..u64::MAX {
+        came.reserve(1)?;
+        let Some(arrival) = outside.next(alloc)? else {
+            return Ok(true);
         };
-        if *over || any_ends(want, rest(came, used)) {
-            return Ok(());
+        let last = ends(want, &arrival);
+        add(came, arrival);
+        if last {
+            return Ok(false);
         }
-        *over = self.hear(alloc, came, want)?;
-        Ok(())
     }
+    Ok(true)
+}
+
+/// Asks for what a call waits for, unless that has come or nothing more comes.
+pub(crate) fn learn<O: Outside>(
+    outside: &mut O,
+    alloc: Global,
+    came: &mut Vec<Arrival>,
+    used: usize,
+    over: &mut bool,
+    want: Option<Want>,
+) -> Result<(), AllocError>
+    requires { used ≤ vec_len came.old }
+    ensures grew { Grew (map arrival_of came.old.items) (map arrival_of came.new.items) }
+    ensures did { Adds O.did outside.old outside.new (map Takes (after (map arrival_of came.old.items) (map arrival_of came.new.items))) }
+    ensures over { over.new ≡ false → over.old ≡ false }
+    ensures same { over.old ≡ true → came.new.items ≡ came.old.items }
+    ensures asks { in_vain want (drop used (map arrival_of came.old.items)) ≡ false → outside.new ≡ outside.old }
+    ensures waits { OnOk result (over.new ≡ false → in_vain want (drop used (map arrival_of came.new.items)) ≡ false) }
+{
+    let Some(want) = want else {
+        return Ok(());
+    };
+    if *over {
+        return Ok(());
+    }
+    if any_ends(want, rest(came, used)) {
+        return Ok(());
+    }
+    *over = hear(outside, alloc, came, want)?;
+    Ok(())
 }

@@ -7,14 +7,18 @@ ghost use Rattle.nv_kernel.specs.Reserved.{CanAnswer, most_out};
 ghost use Rattle.nv_sockets.specs.Reserved.{CanSend};
 ghost use Rattle.nv_sockets.specs.Serving.{serve};
 ghost use Rattle.nv_arriving.specs.Arriving.{Standing, wants_input, is_over, wants_data, read_wants, wants_client, accept_wants, wants_as, wants, arrive, arrive_all, with_state, first_standing};
+ghost use Rattle.nv_arriving.specs.Doings.{said};
+ghost use Rattle.nv_arriving.specs.Telling.{Adds};
 ghost use Rattle.nv_arriving.specs.Reserved.{CanTakeIn, HasRoom, IsSameBut, with_memory};
 ghost use Rattle.nv_arrivals.specs.Arrivals as spec;
+ghost use Rattle.nv_arrivals.specs.Doings.{Says};
 ghost use Rattle.nv_arrivals.specs.Views.{view as arrival_of};
 ghost use Rattle.nv_arriving.specs.Views.{standing_of, room_of, capacity_of};
 
 use crate::reserving::{connects, counts, input_bytes, keep, reserve_data};
+use crate::saying::Mark;
 use crate::waiting::Want;
-use nv_arrivals::Arrival;
+use nv_arrivals::{Arrival, Outside};
 use nv_calls::{Bytes, Call, MOST_BYTES, MOST_VECTORS, Syscall};
 use nv_script::Script;
 use nv_sockets::{Host, Socket, are_flags};
@@ -235,8 +239,14 @@ impl GuestSide {
         }
     }
 
-    /// The result of a call that takes in these, with the bytes that it hands out.
-    pub(crate) fn answer(&mut self, call: &Call, arrivals: &[Arrival], out: &mut Bytes) -> i32
+    /// The result of a call that takes in these, with the bytes that it hands out. What it does is said outside.
+    pub(crate) fn answer<O: Outside>(
+        &mut self,
+        call: &Call,
+        arrivals: &[Arrival],
+        out: &mut Bytes,
+        outside: &mut O,
+    ) -> i32
         requires takes { CanTakeIn (room_of self.old) (map arrival_of arrivals.now) }
         requires waits { wants (standing_of self.old) (request call.now) ≡ None → length arrivals.now ≡ 0 }
         requires ready { CanAnswer self.old.host.devices.files (request call.now) }
@@ -247,11 +257,15 @@ impl GuestSide {
         ensures answer { serve (arrive_all (standing_of self.old) (map arrival_of arrivals.now)).state (request call.now)
             ≡ record { state = (standing_of self.new).state; ret = result; payload = out.new.bytes } }
         ensures standing { standing_of self.new ≡ with_state (arrive_all (standing_of self.old) (map arrival_of arrivals.now)) (standing_of self.new).state }
+        ensures said { Adds O.did outside.old outside.new (map Says (said (arrive_all (standing_of self.old) (map arrival_of arrivals.now)).state (request call.now) result (standing_of self.new).state)) }
         ensures capacity { out.new.capacity ≡ out.old.capacity }
         ensures few { length out.new.bytes ≤ most_out (request call.now) }
     {
         self.arrive_all(arrivals);
-        self.host.answer(call, out)
+        let mark = Mark::of(&self.host, call);
+        let ret = self.host.answer(call, out);
+        mark.say(outside, &self.host, call, ret);
+        ret
     }
 
     // Memory for these.

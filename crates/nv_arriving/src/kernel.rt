@@ -1,18 +1,19 @@
 // The kernel, with the log of the calls that it served.
-ghost use Rattle.std.specs.Prelude.{◌≡◌, ◌≤◌, [], IsTrue, IfOk, length, map, take};
+ghost use Rattle.std.specs.Prelude.{◌≡◌, ◌≤◌, [], false, IsTrue, IfOk, length, map, take, vec_len};
 ghost use Rattle.nv_calls.specs.Calls.{request};
 ghost use Rattle.nv_script.specs.Scripts.{is_script};
 ghost use Rattle.nv_script.specs.Views.{setup_of};
 ghost use Rattle.nv_sockets.specs.Views.{link_of};
 ghost use Rattle.nv_arriving.specs.Arriving.{taken};
 ghost use Rattle.nv_arriving.specs.Kernel.{stage_of};
+ghost use Rattle.nv_arriving.specs.Telling.{Tells};
 ghost use Rattle.nv_arrivals.specs.Views.{view as arrival_of};
 ghost use Rattle.nv_arriving.specs.Views.{standing_of};
 
-use crate::arrivals::{Outside, rest};
+use crate::arrivals::{learn, rest};
 use crate::guests::GuestSide;
 use crate::waiting::taken_for;
-use nv_arrivals::Arrival;
+use nv_arrivals::{Arrival, Outside};
 use nv_calls::{Bytes, Call, Event, MOST_BYTES};
 use nv_kernel::spare::{blank, fill, keep, next_end};
 use nv_script::Script;
@@ -28,11 +29,15 @@ pub struct ArrivingKernel<O: Outside> {
     alloc: Global,
     script: Snapshot<Script>,
     guests: GuestSide,
+    /// The outside as it was when the kernel was made.
+    begun: Snapshot<O>,
     outside: O,
     /// What has come from outside.
     came: Vec<Arrival>,
     /// How many of these the guests' side has.
     used: usize,
+    /// Something was heard for a call that was then not served, or was more than the served call took in.
+    late: bool,
     /// Nothing more comes from outside.
     over: bool,
     log: Vec<Event>,
@@ -51,15 +56,19 @@ impl<O: Outside> Model for ArrivingKernel<O> {
     ghost use Rattle.nv_kernel.specs.Reserved.{crew_of};
     ghost use Rattle.nv_arriving.specs.Arriving.{start_of_arrivals, first_stage, stage_after, Satisfied};
     ghost use Rattle.nv_arriving.specs.Kernel.{KernelState};
+    ghost use Rattle.nv_arriving.specs.Telling.{Tells};
     ghost use Rattle.nv_arrivals.specs.Views.{view as arrival_of};
     ghost use Rattle.nv_arriving.specs.Views.{standing_of, room_of};
 
-    ghost Value = { KernelState };
+    ghost Value = { KernelState O };
 
     ghost view = { λ k. record {
       log = map entry k.log.items;
       setup = setup_of k.script.value;
+      begun = k.begun.value;
+      outside = k.outside;
       came = map arrival_of k.came.items;
+      late = k.late;
       over = k.over;
       spare = option_map spare_of k.spare;
       room = room_of k.guests;
@@ -69,7 +78,8 @@ impl<O: Outside> Model for ArrivingKernel<O> {
         × (record { here = standing_of k.guests; rest = drop k.used (map arrival_of k.came.items) } ≡ stage_after (first_stage (setup_of k.script.value) (map arrival_of k.came.items)) (calls_of (map entry k.log.items)))
         × (k.used ≤ vec_len k.came)
         × (k.over ≡ false → Satisfied (first_stage (setup_of k.script.value) (map arrival_of k.came.items)) (calls_of (map entry k.log.items)))
-        × (k.out.capacity ≡ 4096) };
+        × (k.out.capacity ≡ 4096)
+        × Tells O.did k.begun.value k.outside (setup_of k.script.value) (map arrival_of k.came.items) (map entry k.log.items) k.late };
 }
 
 // How many of those that have come a call takes in.
@@ -88,21 +98,32 @@ fn first(rest: &[Arrival], count: usize) -> &[Arrival]
     &rest[..count]
 }
 
+// Some that came was not taken in by the call that it was heard for, or is not now.
+fn is_late(late: bool, came: &Vec<Arrival>, used: usize) -> bool
+    ensures still { result ≡ false → late ≡ false }
+    ensures all { result ≡ false → vec_len came.now ≤ used }
+{
+    late || used < came.len()
+}
+
 impl<O: Outside> ArrivingKernel<O> {
     /// A kernel that has served nothing, over what the script gives and this outside.
     pub fn make(alloc: Global, script: &Script, outside: O) -> Result<ArrivingKernel<O>, AllocError>
         requires script { IsTrue (is_script (setup_of script.now)) }
-        ensures { IfOk result (λ k. (k.log ≡ []) × (k.setup ≡ setup_of script.now) × (k.came ≡ [])) }
+        ensures { IfOk result (λ k. (k.log ≡ []) × (k.setup ≡ setup_of script.now) × (k.came ≡ []) × (k.begun ≡ outside) × (k.outside ≡ outside) × (k.late ≡ false)) }
     {
         let guests = GuestSide::make(alloc, script)?;
         let out = Bytes::make(alloc, MOST_BYTES)?;
+        let begun = Snapshot::of(&outside);
         Ok(ArrivingKernel {
             alloc,
             script: Snapshot::of(script),
             guests,
+            begun,
             outside,
             came: Vec::new(alloc),
             used: 0,
+            late: false,
             over: false,
             log: Vec::new(alloc),
             out,
@@ -117,15 +138,38 @@ impl<O: Outside> ArrivingKernel<O> {
     {
         self.guests.host.sockets.connections()
     }
+
+    /// The outside, with what it tells: all that came was taken in its order, and all that the log says was said in its order.
+    pub fn outside(&self) -> &O
+        ensures is { result.now ≡ self.now.outside }
+        ensures told { Tells O.did self.now.begun self.now.outside self.now.setup self.now.came self.now.log self.now.late }
+    {
+        &self.outside
+    }
+
+    /// The outside of a kernel that is done with, with what it tells.
+    pub fn into_outside(self) -> O
+        ensures is { result ≡ self.outside }
+        ensures told { Tells O.did self.begun self.outside self.setup self.came self.log self.late }
+    {
+        self.outside
+    }
 }
 
-impl<O: Outside> SyscallKernel for ArrivingKernel<O> {
+impl<O: Outside + Send> SyscallKernel for ArrivingKernel<O> {
+    ghost use Rattle.std.specs.Coded.{codes};
+    ghost use Rattle.nv_kernel.specs.Codes.{setup_code};
     ghost use Rattle.nv_arriving.specs.Arriving.{start_of_arrivals};
-    ghost use Rattle.nv_arriving.specs.Kernel.{CanServe};
+    ghost use Rattle.nv_arriving.specs.Beginnings.{begun_code};
+    ghost use Rattle.nv_arriving.specs.Kernel.{Begun, CanServe};
 
     ghost log = { λ k. k.log };
 
-    ghost start = { λ k. start_of_arrivals k.setup [] };
+    ghost Beginning = { Begun O };
+
+    ghost beginning_code = { begun_code setup_code (Prim.search codes) };
+
+    ghost start = { λ k. record { setup = k.setup; outside = k.begun } };
 
     // What has come, taken in or not.
     ghost known = { λ k. start_of_arrivals k.setup k.came };
@@ -137,7 +181,14 @@ impl<O: Outside> SyscallKernel for ArrivingKernel<O> {
         let event = blank(self.alloc, call)?;
         self.log.reserve(1)?;
         let want = self.guests.wants(call);
-        self.outside.learn(self.alloc, &mut self.came, self.used, &mut self.over, want)?;
+        learn(
+            &mut self.outside,
+            self.alloc,
+            &mut self.came,
+            self.used,
+            &mut self.over,
+            want,
+        )?;
         let rest = rest(&self.came, self.used);
         let count = taken(&self.guests, rest, call);
         self.guests.reserve(call, first(rest, count))?;
@@ -152,8 +203,11 @@ impl<O: Outside> SyscallKernel for ArrivingKernel<O> {
         let stamp = self.log.as_slice().len() as u32;
         let rest = rest(&self.came, self.used);
         let count = taken(&self.guests, rest, call);
-        let ret = self.guests.answer(call, first(rest, count), &mut self.out);
+        let ret = self
+            .guests
+            .answer(call, first(rest, count), &mut self.out, &mut self.outside);
         self.used += count;
+        self.late = is_late(self.late, &self.came, self.used);
         fill(&mut event, call, stamp, ret, &self.out);
         self.end = next_end(self.guests.host.is_over(), call);
         keep(&mut self.log, event);

@@ -6,7 +6,8 @@ ghost use Rattle.nv_script.specs.Scripts.{Setup};
 ghost use Rattle.nv_arrivals.specs.Arrivals.{Arrival};
 ghost use Rattle.nv_sockets.specs.Serving.{start_of_script};
 ghost use Rattle.nv_arriving.specs.Arriving.{first_stage, stage_after, start_of_arrivals, Satisfied};
-ghost use Rattle.nv_arriving.specs.Doings.{doings, doings_from, takings};
+ghost use Rattle.nv_arrivals.specs.Doings.{takings};
+ghost use Rattle.nv_arriving.specs.Doings.{doings, doings_from};
 
 /// What a front of a log does outside is a front of what the log does; where no call waited in vain, what comes later changes nothing
 /// of it; and what comes is taken in once and in its order, up to what is left.

@@ -1,5 +1,5 @@
 //! The kernel of a run whose input arrives: what comes from outside isn't known when it is made.
-//! Types: `Want`, `Outside` (who gives one arrival after another), `GuestSide`, `ArrivingKernel`.
+//! Types: `Want`, `GuestSide`, `ArrivingKernel`.
 //! Proved: it meets the laws of `SyscallKernel`, though it takes from outside in the middle of a run; what comes later changes
 //! nothing of what was served; where nothing comes, it is the kernel of scripts.
 //! Above: nothing yet.
@@ -10,9 +10,9 @@ mod guests;
 mod kernel;
 mod laws;
 mod reserving;
+mod saying;
 mod waiting;
 
-pub use arrivals::Outside;
 pub use guests::GuestSide;
 pub use kernel::ArrivingKernel;
 pub use laws::{doings_go_on, nothing_comes};

@@ -6,4 +6,4 @@ use Rattle.nv_arriving.proofs.Staged.{output_is}
 use Rattle.nv_arriving.proofs.kernel.ArrivingKernelSyscallKernel.output.Goals as goal
 
 pub returns : goal.returns
-returns g c = c.console.ensures ∙ ap (λ (s : Stage). s.here.state.own.files.console) c.self.invariant.1 ∙ sym (output_is _ _ _) ∙ ap (λ (k : KernelState). output_of (start_of_arrivals k.setup k.came) k.log) c.self.view_is
+returns g c = c.console.ensures ∙ ap (λ (s : Stage). s.here.state.own.files.console) c.self.invariant.1 ∙ sym (output_is _ _ _) ∙ ap (λ (k : KernelState g.row.O.Denot). output_of (start_of_arrivals k.setup k.came) k.log) c.self.view_is

@@ -14,6 +14,7 @@ use Rattle.nv_arriving.specs.Reserved.{CanTakeIn}
 use Rattle.nv_arrivals.specs.Views.{view as arrival_of}
 use Rattle.nv_arriving.specs.Views.{standing_of, room_of}
 use Rattle.nv_arriving.proofs.Kept.{few_more, goes, staged, satisfied, sound_on, first_is}
+use Rattle.nv_arriving.proofs.Told.{told_heard}
 use Rattle.nv_arriving.proofs.kernel.ArrivingKernelSyscallKernel.reserve.Goals as goal
 
 pub blank-requires : goal.blank-requires
@@ -38,11 +39,12 @@ invariant_of-self-in_err-learn g c =
       (let more = few_more c.self.inside.used before now few c.learn.ensures.grew in omega (arith, more, length-map c.learn.new.came.items arrival_of)),
       satisfied setup before now log _ c.self.inside.over c.learn.new.over h k.3 c.learn.ensures.over c.learn.ensures.grew,
       k.4,
+      told_heard g.O.Outside.did c.self.inside.begun.value setup c.self.inside.outside c.learn.new.outside before now log _ c.self.inside.over c.self.inside.late h k.3 same c.learn.ensures.grew c.learn.ensures.did k.5,
     )
 
 pub returns-in_err-learn-clause-known : goal.returns-in_err-learn-clause-known
 returns-in_err-learn-clause-known g c =
-    subst (λ (k : KernelState). GoesOn k.log (start_of_arrivals k.setup k.came) (start_of_arrivals (setup_of c.self.inside.script.value) (map arrival_of c.learn.new.came.items))) c.self.view_is
+    subst (λ (k : KernelState g.row.O.Denot). GoesOn k.log (start_of_arrivals k.setup k.came) (start_of_arrivals (setup_of c.self.inside.script.value) (map arrival_of c.learn.new.came.items))) c.self.view_is
     (goes (setup_of c.self.inside.script.value) (map arrival_of c.self.inside.came.items) (map arrival_of c.learn.new.came.items) (map entry c.self.inside.log.items) c.self.inside.over c.self.invariant.3
     (λ o. ap (map arrival_of) (c.learn.ensures.same o)) c.learn.ensures.grew)
 
@@ -63,11 +65,12 @@ invariant_of-self-in_err-reserve-2 g c =
       (let more = few_more c.self.inside.used before now few c.learn.ensures.grew in omega (arith, more, length-map c.learn.new.came.items arrival_of)),
       satisfied setup before now log _ c.self.inside.over c.learn.new.over h k.3 c.learn.ensures.over c.learn.ensures.grew,
       k.4,
+      told_heard g.O.Outside.did c.self.inside.begun.value setup c.self.inside.outside c.learn.new.outside before now log _ c.self.inside.over c.self.inside.late h k.3 same c.learn.ensures.grew c.learn.ensures.did k.5,
     )
 
 pub returns-in_err-reserve-2-clause-known : goal.returns-in_err-reserve-2-clause-known
 returns-in_err-reserve-2-clause-known g c =
-    subst (λ (k : KernelState). GoesOn k.log (start_of_arrivals k.setup k.came) (start_of_arrivals (setup_of c.self.inside.script.value) (map arrival_of c.learn.new.came.items))) c.self.view_is
+    subst (λ (k : KernelState g.row.O.Denot). GoesOn k.log (start_of_arrivals k.setup k.came) (start_of_arrivals (setup_of c.self.inside.script.value) (map arrival_of c.learn.new.came.items))) c.self.view_is
     (goes (setup_of c.self.inside.script.value) (map arrival_of c.self.inside.came.items) (map arrival_of c.learn.new.came.items) (map entry c.self.inside.log.items) c.self.inside.over c.self.invariant.3
     (λ o. ap (map arrival_of) (c.learn.ensures.same o)) c.learn.ensures.grew)
 
@@ -89,11 +92,12 @@ invariant_of-self-2 g c =
       (let more = few_more c.self.inside.used before now few c.learn.ensures.grew in omega (arith, more, length-map c.learn.new.came.items arrival_of)),
       satisfied setup before now log _ c.self.inside.over c.learn.new.over h k.3 c.learn.ensures.over c.learn.ensures.grew,
       k.4,
+      told_heard g.O.Outside.did c.self.inside.begun.value setup c.self.inside.outside c.learn.new.outside before now log _ c.self.inside.over c.self.inside.late h k.3 same c.learn.ensures.grew c.learn.ensures.did k.5,
     )
 
 pub returns-clause-known : goal.returns-clause-known
 returns-clause-known g c =
-    subst (λ (k : KernelState). GoesOn k.log (start_of_arrivals k.setup k.came) (start_of_arrivals (setup_of c.self.inside.script.value) (map arrival_of c.learn.new.came.items))) c.self.view_is
+    subst (λ (k : KernelState g.row.O.Denot). GoesOn k.log (start_of_arrivals k.setup k.came) (start_of_arrivals (setup_of c.self.inside.script.value) (map arrival_of c.learn.new.came.items))) c.self.view_is
     (goes (setup_of c.self.inside.script.value) (map arrival_of c.self.inside.came.items) (map arrival_of c.learn.new.came.items) (map entry c.self.inside.log.items) c.self.inside.over c.self.invariant.3
     (λ o. ap (map arrival_of) (c.learn.ensures.same o)) c.learn.ensures.grew)
 

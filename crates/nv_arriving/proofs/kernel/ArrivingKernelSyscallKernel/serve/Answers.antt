@@ -16,6 +16,9 @@ use Rattle.nv_sockets.proofs.Threads.{ThreadStep, thread_step}
 use Rattle.nv_arrivals.specs.Arrivals.{Arrival}
 use Rattle.nv_arriving.specs.Arrivals.{taken_for, in_vain}
 use Rattle.nv_arriving.specs.Arriving.{Standing, Stage, wants, taken, ready_for, arrive_all, with_state, answer_next, serve_next, first_stage, stage_after, Satisfied, start_of_arrivals}
+use Rattle.nv_arrivals.specs.Doings.{Said, Says}
+use Rattle.nv_arriving.specs.Doings.{said}
+use Rattle.nv_arriving.specs.Telling.{Adds}
 use Rattle.nv_arriving.specs.Kernel.{KernelState, stage_of}
 use Rattle.nv_arriving.specs.Reserved.{CanTakeIn}
 use Rattle.nv_arrivals.specs.Views.{view as arrival_of}
@@ -23,6 +26,8 @@ use Rattle.nv_arriving.specs.Views.{standing_of, room_of}
 use Rattle.nv_arriving.proofs.Kept.{log_served, log_clones, satisfied_served, drop_more, taken_inside, count_is_taken, first_is}
 use Rattle.nv_arriving.proofs.Sides.{crew_still}
 use Rattle.nv_arriving.proofs.Staged.{reply_is, log_more}
+use Rattle.nv_arriving.proofs.Taken.{drop_past}
+use Rattle.nv_arriving.proofs.Told.{told_served}
 use Rattle.nv_arriving.proofs.kernel.ArrivingKernelSyscallKernel.serve.Given.{Over}
 use Rattle.nv_arriving.proofs.kernel.ArrivingKernelSyscallKernel.serve.Goals as goal
 
@@ -31,7 +36,7 @@ answer-ret-requires-clause-takes g c =
     let call : Request = request c.args.call.now in
     let here : Standing = standing_of c.self.inside.guests in
     let first = first_is here call c.self.inside.came.items c.rest-rest.result.now c.first.result.now c.self.inside.used c.taken-count.result c.rest-rest.ensures c.taken-count.ensures.is c.first.ensures in
-    let takes = subst (λ (k : KernelState). CanTakeIn k.room (take (taken (stage_of k) call) (stage_of k).rest)) (sym c.self.view_is) c.requires.ready.takes in
+    let takes = subst (λ (k : KernelState g.row.O.Denot). CanTakeIn k.room (take (taken (stage_of k) call) (stage_of k).rest)) (sym c.self.view_is) c.requires.ready.takes in
     subst (CanTakeIn (room_of c.self.inside.guests)) (sym first)
     (subst (λ (z : Stage). CanTakeIn (room_of c.self.inside.guests) (take (taken z call) z.rest)) (sym c.self.invariant.1) takes)
 
@@ -42,14 +47,14 @@ answer-ret-requires-clause-waits g c = λ e.
 
 pub answer-ret-requires-clause-few : goal.answer-ret-requires-clause-few
 answer-ret-requires-clause-few g c =
-    let past = ap (λ (k : KernelState). length k.log) c.self.view_is in
+    let past = ap (λ (k : KernelState g.row.O.Denot). length k.log) c.self.view_is in
     let count = ap (λ (z : Stage). z.here.state.own.served) c.self.invariant.1 in
     let calls = log_served (setup_of c.self.inside.script.value) (map arrival_of c.self.inside.came.items) (map entry c.self.inside.log.items) in
     omega (arith, past, count, calls, c.requires.few)
 
 pub answer-ret-requires-clause-clones : goal.answer-ret-requires-clause-clones
 answer-ret-requires-clause-clones g c =
-    let past = ap (λ (k : KernelState). length k.log) c.self.view_is in
+    let past = ap (λ (k : KernelState g.row.O.Denot). length k.log) c.self.view_is in
     let count = ap (λ (z : Stage). z.here.state.own.crew.clones) c.self.invariant.1 in
     let calls = log_clones (setup_of c.self.inside.script.value) (map arrival_of c.self.inside.came.items) (map entry c.self.inside.log.items) in
     omega (arith, past, count, calls, c.requires.few)
@@ -123,6 +128,20 @@ module _ (g : Over) (c : goal.After-keep g) where
   next : record { here = standing_of c.answer-ret.new.self; rest = drop (c.self.inside.used + c.taken-count.result) came } ≡ stage_after (first_stage setup came) (calls_of (map entry c.keep.new.log.items))
   next = next_mine ∙ (ap (λ (z : Stage). serve_next z call) c.self.invariant.1 ∙ (sym (log_more (first_stage setup came) log event) ∙ ap (λ z. stage_after (first_stage setup came) (calls_of z)) (sym all)))
 
+  -- what is said
+  ready : (arrive_all mine.here (map arrival_of c.first.result.now)).state ≡ here
+  ready = ap (λ z. (arrive_all mine.here z).state) first ∙ ap (λ (z : Stage). (ready_for z call).state) c.self.invariant.1
+
+  says : Adds g.O.Outside.did c.self.inside.outside c.answer-ret.new.outside (map Says (said here call (serve here call).ret (serve here call).state))
+  says = subst (λ (z : List Said). Adds g.O.Outside.did c.self.inside.outside c.answer-ret.new.outside (map Says z))
+      (λ j. said (ready j) call (sym answer j).ret (sym answer j).state) c.answer-ret.ensures.said
+
+  -- where all that came is taken in, none is left
+  left_none : c.is_late-self-inside.result ≡ false → drop (taken stage call) stage.rest ≡ []
+  left_none o =
+      let few : length came ≤ c.self.inside.used + c.taken-count.result = omega (arith, c.is_late-self-inside.ensures.all o, length-map c.self.inside.came.items arrival_of) in
+      sym (ap (λ (z : Stage). z.rest) (next_mine ∙ ap (λ (z : Stage). serve_next z call) c.self.invariant.1)) ∙ drop_past (c.self.inside.used + c.taken-count.result) came few
+
   -- the threads that live
   abbrev crew' : Crew
   crew' = (standing_of c.answer-ret.new.self).state.own.crew
@@ -152,7 +171,7 @@ module _ (g : Over) (c : goal.After-keep g) where
   next_live = ap (λ (z : Crew). z.live) (sym after) ∙ step.live ∙ (λ i. live_next (sym threads i) record { stamp = length log; call = call; reply = record { ret = sym ret i; payload = ((start_of_arrivals setup came).replies (calls_of log) call).payload } })
 
   past : log ≡ c.args.self.now.log
-  past = ap (λ (k : KernelState). k.log) c.self.view_is
+  past = ap (λ (k : KernelState g.row.O.Denot). k.log) c.self.view_is
 
   kept : IsSound (start_of_arrivals setup came) (log ++ event ∷ []) (vec_len c.keep.new.log) (vec_capacity c.keep.new.log) None (end_next (length crew'.live == 0) call) crew'
   kept =
@@ -166,7 +185,7 @@ module _ (g : Over) (c : goal.After-keep g) where
   end = ap (λ (b : Bool). end_next b call) (sym c.is_over.ensures) ∙ sym c.next_end-self-inside.ensures
 
   waits : c.self.inside.over ≡ false → in_vain (wants stage.here call) stage.rest ≡ false
-  waits = subst (λ (k : KernelState). k.over ≡ false → in_vain (wants (stage_of k).here call) (stage_of k).rest ≡ false) (sym c.self.view_is) c.requires.ready.waits
+  waits = subst (λ (k : KernelState g.row.O.Denot). k.over ≡ false → in_vain (wants (stage_of k).here call) (stage_of k).rest ≡ false) (sym c.self.view_is) c.requires.ready.waits
 
 pub invariant_of-self : goal.invariant_of-self
 invariant_of-self g c = (
@@ -180,7 +199,9 @@ invariant_of-self g c = (
   (λ o. subst (λ z. Satisfied (first_stage (setup g c) (came g c)) (calls_of z)) (sym (all g c))
       (satisfied_served (first_stage (setup g c) (came g c)) (log g c) (event g c) c.self.inside.over c.self.invariant.3 (waits g c) o)),
   c.answer-ret.ensures.capacity ∙ c.self.invariant.4,
+  told_served g.O.Outside.did c.self.inside.begun.value (setup g c) (came g c) (log g c) (event g c) c.self.inside.outside c.answer-ret.new.outside (map entry c.keep.new.log.items) c.self.inside.late c.is_late-self-inside.result
+      (all g c) c.is_late-self-inside.ensures.still (left_none g c) (says g c) c.self.invariant.5,
 )
 
 pub returns-clause-log : goal.returns-clause-log
-returns-clause-log g c = all g c ∙ ap (λ (k : KernelState). k.log ++ served (start_of_arrivals k.setup k.came) k.log (call g c) ∷ []) c.self.view_is
+returns-clause-log g c = all g c ∙ ap (λ (k : KernelState g.row.O.Denot). k.log ++ served (start_of_arrivals k.setup k.came) k.log (call g c) ∷ []) c.self.view_is

@@ -1,0 +1,147 @@
+// What a call says outside once it is served.
+ghost use Rattle.std.specs.Prelude.{◌≡◌, length, map, drop};
+ghost use Rattle.nv_calls.specs.Calls.{request};
+ghost use Rattle.nv_arrivals.specs.Doings.{Says, Printed};
+ghost use Rattle.nv_sockets.specs.Kernel.{state_of};
+ghost use Rattle.nv_sockets.specs.Serving.{State};
+ghost use Rattle.nv_sockets.specs.Sockets.{link_output};
+ghost use Rattle.nv_arriving.specs.Doings.{of_bytes, socket_by, accepted_as, accepted, written, sent, closed, said};
+ghost use Rattle.nv_arriving.specs.Marks.{mark_of};
+ghost use Rattle.nv_arriving.specs.Telling.{Adds};
+
+use nv_arrivals::{Outside, Said};
+use nv_calls::{Call, Syscall};
+use nv_sockets::{Host, Socket, Sockets};
+
+/// What a call may change that is said outside, as it stands.
+#[derive(Clone, Copy)]
+pub struct Mark {
+    /// How many bytes are on the console.
+    console: usize,
+    /// The socket of the call's first argument.
+    socket: Option<Socket>,
+    /// How many bytes were written to its connection.
+    written: usize,
+}
+
+// What stands behind so many bytes.
+fn behind(bytes: &[u8], count: usize) -> &[u8]
+    ensures { result.now ≡ drop count bytes.now }
+{
+    if count < bytes.len() {
+        &bytes[count..]
+    } else {
+        &[]
+    }
+}
+
+fn output(sockets: &Sockets, i: usize) -> &[u8]
+    ensures { result.now ≡ link_output sockets.now.net i }
+{
+    let connections = sockets.connections();
+    if i < connections.len() {
+        connections[i].output.as_slice()
+    } else {
+        &[]
+    }
+}
+
+// What was written to the connection of a socket.
+fn written(sockets: &Sockets, socket: Option<Socket>) -> &[u8]
+    ensures { result.now ≡ written sockets.now.net socket }
+{
+    match socket {
+        Some(Socket::Connected { connection, .. }) => output(sockets, connection),
+        Some(Socket::Fresh) | Some(Socket::Bound(_)) | Some(Socket::Listening(_)) => &[],
+        None => &[],
+    }
+}
+
+// The socket of the descriptor that is a call's result.
+fn socket_by(sockets: &Sockets, ret: i32) -> Option<Socket>
+    ensures { result ≡ socket_by sockets.now.net ret }
+{
+    if ret < 0 {
+        return None;
+    }
+    sockets.at(ret as u32)
+}
+
+fn say_accepted_as<O: Outside>(outside: &mut O, socket: Option<Socket>)
+    ensures { Adds O.did outside.old outside.new (map Says (accepted_as socket)) }
+{
+    match socket {
+        Some(Socket::Connected { connection, .. }) => outside.say(&Said::Accepted(connection)),
+        Some(Socket::Fresh) | Some(Socket::Bound(_)) | Some(Socket::Listening(_)) => {}
+        None => {}
+    }
+}
+
+fn say_accepted<O: Outside>(outside: &mut O, syscall: Syscall, made: Option<Socket>)
+    ensures { Adds O.did outside.old outside.new (map Says (accepted syscall made)) }
+{
+    match syscall {
+        Syscall::Accept | Syscall::Accept4 => say_accepted_as(outside, made),
+        _ => {}
+    }
+}
+
+fn say_sent<O: Outside>(outside: &mut O, socket: Option<Socket>, bytes: &[u8])
+    ensures { Adds O.did outside.old outside.new (map Says (sent socket bytes.now)) }
+{
+    match socket {
+        Some(Socket::Connected { connection, .. }) => if !bytes.is_empty() {
+            outside.say(&Said::Sent(connection, bytes));
+        },
+        Some(Socket::Fresh) | Some(Socket::Bound(_)) | Some(Socket::Listening(_)) => {}
+        None => {}
+    }
+}
+
+fn say_closed<O: Outside>(outside: &mut O, before: Option<Socket>, now: Option<Socket>)
+    ensures { Adds O.did outside.old outside.new (map Says (closed before now)) }
+{
+    match (before, now) {
+        (Some(Socket::Connected { connection, .. }), None) => {
+            outside.say(&Said::Closed(connection));
+        }
+        _ => {}
+    }
+}
+
+fn say_printed<O: Outside>(outside: &mut O, bytes: &[u8])
+    ensures { Adds O.did outside.old outside.new (map Says (of_bytes Printed bytes.now)) }
+{
+    if !bytes.is_empty() {
+        outside.say(&Said::Printed(bytes));
+    }
+}
+
+impl Mark {
+    /// As it stands before the call.
+    pub(crate) fn of(host: &Host, call: &Call) -> Mark
+        ensures { result ≡ mark_of (state_of host.now) (request call.now) }
+    {
+        let socket = host.sockets.at(call.args[0]);
+        Mark {
+            console: host.devices.files.console().len(),
+            socket,
+            written: written(&host.sockets, socket).len(),
+        }
+    }
+
+    /// Says what the call did that had this result and left this.
+    pub(crate) fn say<O: Outside>(&self, outside: &mut O, host: &Host, call: &Call, ret: i32)
+        ensures { (before : State) → self.now ≡ mark_of before (request call.now) → Adds O.did outside.old outside.new (map Says (said before (request call.now) ret (state_of host.now))) }
+    {
+        let sockets = &host.sockets;
+        say_accepted(outside, Syscall::of(call.nr), socket_by(sockets, ret));
+        say_sent(
+            outside,
+            self.socket,
+            behind(written(sockets, self.socket), self.written),
+        );
+        say_closed(outside, self.socket, sockets.at(call.args[0]));
+        say_printed(outside, behind(host.devices.files.console(), self.console));
+    }
+}
