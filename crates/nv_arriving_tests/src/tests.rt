@@ -1,10 +1,12 @@
 ghost use Rattle.std.specs.Prelude.{◌≡◌, []};
+ghost use Rattle.nv_arriving_tests.specs.Transcript.{Wrote};
 
-use nv_arrivals::Arrival;
-use nv_arriving::{ArrivingKernel, Outside};
-use nv_workers::OpenGate;
+use crate::transcript::Transcript;
+use nv_arrivals::{Arrival, Outside, Said};
+use nv_arriving::ArrivingKernel;
 use nv_replay::Account;
 use nv_served::SyscallKernel;
+use nv_workers::OpenGate;
 use nv_workers_tests::{beside, one_by_one};
 use std::alloc::{AllocError, Global};
 use std::process::Abort;
@@ -14,10 +16,13 @@ use std::process::Abort;
 struct Pairs {
     next: u8,
     told: bool,
+    done: Transcript,
 }
 
-impl Outside for Pairs {
-    fn next(&mut self, alloc: Global) -> Result<Option<Arrival>, AllocError> {
+impl Pairs {
+    fn come(&mut self, alloc: Global) -> Result<Option<Arrival>, AllocError>
+        ensures { self.new.done ≡ self.old.done }
+    {
         let letter = self.next;
         if letter > b'e' {
             if self.told {
@@ -32,6 +37,22 @@ impl Outside for Pairs {
     }
 }
 
+impl Outside for Pairs {
+    ghost did = { λ first now done. Wrote first.done now.done done };
+
+    fn next(&mut self, alloc: Global) -> Result<Option<Arrival>, AllocError> {
+        let came = self.come(alloc)?;
+        if let Some(arrival) = &came {
+            self.done.take(arrival);
+        }
+        Ok(came)
+    }
+
+    fn say(&mut self, said: &Said<'_>) {
+        self.done.say(said);
+    }
+}
+
 // It reads the input by at most 8 bytes up to its end, writes what it read, and exits with how many reads gave bytes.
 const ECHOES: &str =
     ".text\nli s0, 0\nnext: li a7, 63\nli a0, 0\nmv a1, sp\nli a2, 8\necall\nbeq a0, zero, done\naddi s0, s0, 1\nmv a2, a0\nli a7, 64\nli a0, 1\nmv a1, sp\necall\nj next\ndone: mv a0, s0\nli a7, 94\necall\n";
@@ -40,10 +61,15 @@ fn kernel_from<R: Abort>(rt: &R, alloc: Global, first: u8, told: bool) -> Arrivi
     ensures { result.log ≡ [] }
 {
     let script = nv_script::read(alloc, b"varan-script 1\n").expect(rt, "a script");
-    ArrivingKernel::make(alloc, &script, Pairs { next: first, told }).expect(rt, "a kernel")
+    let pairs = Pairs {
+        next: first,
+        told,
+        done: Transcript::new(alloc),
+    };
+    ArrivingKernel::make(alloc, &script, pairs).expect(rt, "a kernel")
 }
 
-fn text_of<R: Abort, O: Outside>(
+fn text_of<R: Abort, O: Outside + Send>(
     rt: &R,
     alloc: Global,
     account: Option<Account<ArrivingKernel<O>>>,
@@ -61,12 +87,18 @@ fn pairs_come(rt: HostRuntime) {
         String::from_str(alloc, ECHOES).expect(&rt, "memory"),
         String::from_str(alloc, ECHOES).expect(&rt, "memory"),
     ];
-    for (first, events, output) in [
-        (b'a', 8, b"abcdef".as_slice()),
-        (b'e', 4, b"ef".as_slice()),
-        (b'g', 2, b"".as_slice()),
+    for (first, events, output, done) in [
+        (
+            b'a',
+            8,
+            b"abcdef".as_slice(),
+            b"<ab>ab<cd>cd<ef>ef<.".as_slice(),
+        ),
+        (b'e', 4, b"ef".as_slice(), b"<ef>ef<.".as_slice()),
+        (b'g', 2, b"".as_slice(), b"<.".as_slice()),
     ] {
         for told in [false, true] {
+            let done = if told { done } else { &done[..done.len() - 2] };
             let plain = one_by_one(
                 alloc,
                 kernel_from(&rt, alloc, first, told),
@@ -78,6 +110,7 @@ fn pairs_come(rt: HostRuntime) {
             assert_eq!(&rt; account.kernel.history().len(), events);
             assert_eq!(&rt; account.kernel.output(), output);
             assert_eq!(&rt; account.kernel.ended(), Some((events / 2 - 1) as u8));
+            assert_eq!(&rt; account.kernel.outside().done.text.as_slice(), done);
             let plain = text_of(&rt, alloc, Some(account));
             for threads in [1, 2] {
                 let account = beside(
@@ -91,7 +124,9 @@ fn pairs_come(rt: HostRuntime) {
                     2,
                     threads,
                 );
-                assert_eq!(&rt; text_of(&rt, alloc, account.ok()).as_str(), plain.as_str());
+                let account = account.expect(&rt, "a run");
+                assert_eq!(&rt; account.kernel.outside().done.text.as_slice(), done);
+                assert_eq!(&rt; text_of(&rt, alloc, Some(account)).as_str(), plain.as_str());
             }
         }
     }
@@ -102,6 +137,7 @@ fn pairs_come(rt: HostRuntime) {
 #[derive(Drop)]
 struct Clients {
     next: u32,
+    done: Transcript,
 }
 
 fn data(alloc: Global, client: u32, bytes: &[u8]) -> Result<Option<Arrival>, AllocError> {
@@ -109,8 +145,10 @@ fn data(alloc: Global, client: u32, bytes: &[u8]) -> Result<Option<Arrival>, All
     Ok(Some(Arrival::Data(client, bytes)))
 }
 
-impl Outside for Clients {
-    fn next(&mut self, alloc: Global) -> Result<Option<Arrival>, AllocError> {
+impl Clients {
+    fn come(&mut self, alloc: Global) -> Result<Option<Arrival>, AllocError>
+        ensures { self.new.done ≡ self.old.done }
+    {
         let place = self.next;
         self.next = place.saturating_add(1);
         match place {
@@ -130,6 +168,22 @@ impl Outside for Clients {
     }
 }
 
+impl Outside for Clients {
+    ghost did = { λ first now done. Wrote first.done now.done done };
+
+    fn next(&mut self, alloc: Global) -> Result<Option<Arrival>, AllocError> {
+        let came = self.come(alloc)?;
+        if let Some(arrival) = &came {
+            self.done.take(arrival);
+        }
+        Ok(came)
+    }
+
+    fn say(&mut self, said: &Said<'_>) {
+        self.done.say(said);
+    }
+}
+
 // A server at port 80 that sends each client what it sent, by at most 8 bytes up to its end, and exits with how many clients there
 // were, where no more come.
 const SERVES: &str =
@@ -143,8 +197,16 @@ fn server<R: Abort>(rt: &R, alloc: Global) -> ArrivingKernel<Clients>
     ensures { result.log ≡ [] }
 {
     let script = nv_script::read(alloc, b"varan-script 1\n").expect(rt, "a script");
-    ArrivingKernel::make(alloc, &script, Clients { next: 0 }).expect(rt, "a kernel")
+    let clients = Clients {
+        next: 0,
+        done: Transcript::new(alloc),
+    };
+    ArrivingKernel::make(alloc, &script, clients).expect(rt, "a kernel")
 }
+
+// What is done while they are served: each is answered before the next thing is asked for.
+const SERVED: &[u8] =
+    b"<+>+0<+<1:one <0:zero>0:zero<0.>-0>+1>1:one <1:more>1:more<1.>-1<+<2:lost<+>+3<3.>-3";
 
 // What each client was sent, by the account.
 fn assert_sent<R: Abort>(rt: &R, kernel: &ArrivingKernel<Clients>) {
@@ -179,6 +241,7 @@ fn clients_come(rt: HostRuntime) {
         assert_eq!(&rt; account.kernel.output(), b"".as_slice());
         assert_eq!(&rt; account.kernel.ended(), Some(3));
         assert_sent(&rt, &account.kernel);
+        assert_eq!(&rt; account.kernel.outside().done.text.as_slice(), SERVED);
         let plain = text_of(&rt, alloc, Some(account));
         for threads in [1, 2] {
             let account = beside(
@@ -194,6 +257,7 @@ fn clients_come(rt: HostRuntime) {
             );
             let account = account.expect(&rt, "a run");
             assert_sent(&rt, &account.kernel);
+            assert_eq!(&rt; account.kernel.outside().done.text.as_slice(), SERVED);
             assert_eq!(&rt; text_of(&rt, alloc, Some(account)).as_str(), plain.as_str());
         }
     }
