@@ -1,3 +1,4 @@
 pub mod Taking
 pub mod Noting
+pub mod Doing
 pub mod InMemory

@@ -17,8 +17,10 @@ held_of incoming = held_in incoming.buffer
 abbrev pub stop_of : {I : Type 0} → Incoming I → Option Stopped
 stop_of incoming = incoming.stopped
 
--- whatever arrivals were taken before, these are taken then; the first two tell what a source gave and how often it failed
+-- between these two these arrivals were taken; the first two tell what a source gave and how often it failed
+abbrev pub HasTaken : {I : Type 0} → (I → Option (List (List ℕ))) → (I → ℕ) → Incoming I → Incoming I → List Arrival → Type 0
+HasTaken took faults first later arrivals = Took (took first.source) (took later.source) (faults first.source) (faults later.source) later.stopped (held_of later) arrivals
+
+-- whatever arrivals were taken before, these are taken then
 abbrev pub TakesOn : {I : Type 0} → (I → Option (List (List ℕ))) → (I → ℕ) → Incoming I → Incoming I → (List Arrival → List Arrival) → Type 0
-TakesOn took faults old new then_taken = (before : Option (List (List ℕ))) (count : ℕ) (arrivals : List Arrival)
-    → Took before (took old.source) count (faults old.source) old.stopped (held_of old) arrivals
-    → Took before (took new.source) count (faults new.source) new.stopped (held_of new) (then_taken arrivals)
+TakesOn took faults old new then_taken = (first : Incoming _) (arrivals : List Arrival) → HasTaken took faults first old arrivals → HasTaken took faults first new (then_taken arrivals)

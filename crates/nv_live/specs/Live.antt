@@ -1,25 +1,64 @@
--- A live run's outside, by its parts.
-use Rattle.std.specs.Prelude.{List, [], ◌∷◌, ◌++◌, Option, None, Some, Result, Ok, Err}
+-- The outside of a live run: what was taken, what was said, and the transcript.
+use Rattle.std.specs.Prelude.{ℕ, List, [], ◌∷◌, ◌++◌, Option, None, Some, Result, Ok, Err}
+use Rattle.std.specs.List.{flat_map}
 use Rattle.std.specs.declared.alloc.AllocError.{AllocError}
 use Rattle.nv_arrivals.specs.declared.arrival.Arrival as code
-use Rattle.nv_arrivals.specs.Arrivals.{Arrival}
+use Rattle.nv_arrivals.specs.Doings.{Doing, Takes, Said, Accepted, Sent, Closed, Printed, takings, sayings}
 use Rattle.nv_arrivals.specs.Views.{view}
+use Rattle.nv_outside.specs.declared.sink.Put.{Put}
+use Rattle.nv_outside.specs.declared.sink.Put.TheVariants.{Whole, Failed}
 use Rattle.nv_live.specs.declared.incoming.Incoming.{Incoming}
+use Rattle.nv_live.specs.declared.incoming.Stopped.{Stopped}
+use Rattle.nv_live.specs.declared.incoming.Stopped.TheVariants.{Unwritten}
 use Rattle.nv_live.specs.declared.transcript.Transcript.{Transcript}
+use Rattle.nv_live.specs.declared.writer.Writer.{Writer}
 use Rattle.nv_live.specs.declared.live.Live.{Live}
+use Rattle.nv_live.specs.Incoming.{HasTaken}
+use Rattle.nv_live.specs.Transcript.{lines_of}
+use Rattle.nv_live.specs.Writer.{Written}
 
-abbrev pub incoming_of : {I T : Type 0} → Live I T → Incoming I
+abbrev pub incoming_of : {I O T : Type 0} → Live I O T → Incoming I
 incoming_of live = live.incoming
 
-abbrev pub transcript_of : {I T : Type 0} → Live I T → Transcript T
+abbrev pub out_of : {I O T : Type 0} → Live I O T → Writer O
+out_of live = live.out
+
+abbrev pub transcript_of : {I O T : Type 0} → Live I O T → Transcript T
 transcript_of live = live.transcript
 
--- what was handed on, with this answer
-abbrev pub with_next : Result (Option code.Arrival) AllocError → List Arrival → List Arrival
-with_next (Ok (Some arrival)) arrivals = arrivals ++ view arrival ∷ []
-with_next (Ok None) arrivals = arrivals
-with_next (Err error) arrivals = arrivals
+-- what stopped the source, or else a failed write of what is said
+abbrev pub stop_with : Option Stopped → Put → Option Stopped
+stop_with (Some stopped) put = Some stopped
+stop_with None Failed = Some Unwritten
+stop_with None Whole = None
 
-abbrev pub with_taken : Result code.Arrival AllocError → List Arrival → List Arrival
-with_taken (Ok arrival) arrivals = arrivals ++ view arrival ∷ []
-with_taken (Err error) arrivals = arrivals
+-- why nothing more comes
+abbrev pub stop_in : {I O T : Type 0} → Live I O T → Option Stopped
+stop_in live = stop_with live.incoming.stopped live.out.put
+
+-- the bytes for the console; a plain run has no clients
+abbrev pub plain_bytes : Said → List ℕ
+plain_bytes (Printed bytes) = bytes
+plain_bytes (Accepted i) = []
+plain_bytes (Sent i bytes) = []
+plain_bytes (Closed i) = []
+
+abbrev pub plain_text : List Said → List ℕ
+plain_text said = flat_map plain_bytes said
+
+-- Between these two this was done, in order: what was taken comes of the source, what was said stands in the sink beside it, and the lines of what was taken stand in the transcript.
+pub record Did {I O T : Type 0} (took : I → Option (List (List ℕ))) (unread : I → ℕ) (said : O → Option (List ℕ)) (unsaid : O → ℕ) (noted : T → Option (List ℕ)) (unnoted : T → ℕ)
+    (first later : Live I O T) (done : List Doing) : Type 0 where
+  pub taken : HasTaken took unread first.incoming later.incoming (takings done)
+  pub written : Written said unsaid first.out later.out (plain_text (sayings done))
+  pub lines : Written noted unnoted first.transcript.writer later.transcript.writer (lines_of (takings done))
+
+-- whatever was done before, this is done then
+abbrev pub DoesOn : {I O T : Type 0} → (I → Option (List (List ℕ))) → (I → ℕ) → (O → Option (List ℕ)) → (O → ℕ) → (T → Option (List ℕ)) → (T → ℕ) → Live I O T → Live I O T → List Doing → Type 0
+DoesOn took unread said unsaid noted unnoted old new more = (first : Live _ _ _) (done : List Doing)
+    → Did took unread said unsaid noted unnoted first old done → Did took unread said unsaid noted unnoted first new (done ++ more)
+
+-- the first of what was held; nothing where memory was wanted
+abbrev pub took_first : Result code.Arrival AllocError → List Doing
+took_first (Ok arrival) = Takes (view arrival) ∷ []
+took_first (Err error) = []

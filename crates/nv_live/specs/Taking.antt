@@ -7,7 +7,7 @@ use Rattle.nv_outside.specs.Counts.{raised}
 use Rattle.nv_live.specs.declared.source.Read.{Read}
 use Rattle.nv_live.specs.declared.source.Read.TheVariants.{Count, Failed}
 use Rattle.nv_live.specs.declared.incoming.Stopped.{Stopped}
-use Rattle.nv_live.specs.declared.incoming.Stopped.TheVariants.{Ended, Unreadable}
+use Rattle.nv_live.specs.declared.incoming.Stopped.TheVariants.{Ended, Unreadable, Unwritten}
 use Rattle.nv_live.specs.Source.{Gave}
 
 -- why nothing more comes after a read
@@ -19,6 +19,7 @@ stop_by Failed = Some Unreadable
 abbrev pub faults_by_stop : Option Stopped → ℕ → ℕ
 faults_by_stop (Some Unreadable) faults = raised faults 1
 faults_by_stop (Some Ended) faults = faults
+faults_by_stop (Some Unwritten) faults = faults
 faults_by_stop None faults = faults
 
 -- The bytes of the reads, cut at each newline and after 2,000, are the arrivals so far, in order, and after them the pieces of what is held: nothing that was read is lost or made up.

@@ -15,6 +15,8 @@ pub enum Stopped {
     Ended,
     /// A read failed.
     Unreadable,
+    /// A write of what is said failed.
+    Unwritten,
 }
 
 /// What comes, read from a source.
@@ -52,6 +54,17 @@ impl<I: Source> Incoming<I> {
         ensures { result ≡ stop_of self.now }
     {
         self.stopped
+    }
+
+    pub fn finish(self) -> I
+        ensures { result ≡ source_in self }
+    {
+        let Incoming {
+            source,
+            buffer: _,
+            stopped: _,
+        } = self;
+        source
     }
 
     // Reads once. Nothing more comes where that gives nothing.

@@ -1,7 +1,8 @@
-//! The outside of a live run: what comes, as arrivals, and its transcript.
+//! The outside of a live run, both ways: what comes, as arrivals, with its transcript, and what is said.
 //! Types: the trait `Source`; `Live`, `Stopped`; in memory `MemorySource`.
 //! Proved: the arrivals that are handed on are the bytes that the reads gave, cut as plain input is, none lost and none made up; the transcript has just
-//! their lines, each before its arrival is handed on, or a prefix of them where the count of faults rose.
+//! their lines, each before its arrival is handed on, or a prefix of them where the count of faults rose; the bytes for the console stand in the sink
+//! of what is said, in order, or a prefix of them where its count of faults rose, and then nothing more comes.
 //! Above: nothing yet.
 #![tactic(auto)]
 
@@ -13,6 +14,7 @@ mod source;
 #[cfg(test)]
 mod tests;
 mod transcript;
+mod writer;
 
 pub use incoming::Stopped;
 pub use live::Live;

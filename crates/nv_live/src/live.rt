@@ -1,57 +1,108 @@
 // The outside of a live run.
-ghost use Rattle.std.specs.Prelude.{◌≡◌, ◌<◌, [], Ok, None, IfOk, length, true, is_some};
-ghost use Rattle.nv_outside.specs.Sink.{Puts};
-ghost use Rattle.nv_live.specs.Incoming.{source_in, held_of, stop_of, TakesOn};
-ghost use Rattle.nv_live.specs.Live.{incoming_of, transcript_of, with_next, with_taken};
-ghost use Rattle.nv_live.specs.Taking.{Took};
-ghost use Rattle.nv_live.specs.Transcript.{lines_of, sink_in, told_of, NotesOn};
+ghost use Rattle.std.specs.Prelude.{◌≡◌, ◌<◌, ◌∷◌, [], Ok, None, IfOk, length, true, is_some};
+ghost use Rattle.nv_arrivals.specs.Doings.{Says};
+ghost use Rattle.nv_arrivals.specs.Views.{said_view, taking};
+ghost use Rattle.nv_live.specs.Incoming.{source_in, held_of, stop_of};
+ghost use Rattle.nv_live.specs.Live.{incoming_of, out_of, transcript_of, stop_in, Did, DoesOn, took_first, plain_bytes};
+ghost use Rattle.nv_live.specs.Transcript.{writer_in};
+ghost use Rattle.nv_live.specs.Writer.{sink_in, put_of};
 
 use crate::Source;
 use crate::incoming::{Incoming, Stopped};
 use crate::transcript::Transcript;
-use nv_arrivals::Arrival;
+use crate::writer::Writer;
+use nv_arrivals::{Arrival, Outside, Said};
 use nv_outside::{Put, Sink};
 use std::alloc::{AllocError, Global};
 
-/// What comes, and the transcript of what came.
+/// What comes, the transcript of what came, and what is said: of that the bytes for the console alone, since a plain run has no clients.
 #[derive(Drop)]
-pub struct Live<I, T> {
+pub struct Live<I, O, T> {
     incoming: Incoming<I>,
+    out: Writer<O>,
     transcript: Transcript<T>,
 }
 
-impl<I: Source, T: Sink> Live<I, T> {
-    /// Nothing was read yet. The transcript may have its head.
-    pub fn make(alloc: Global, source: I, transcript: T) -> Result<Live<I, T>, AllocError>
-    where
-        T: Drop,
-        ensures took { IfOk result (λ live. Took (I.took source) (I.took (source_in (incoming_of live))) (I.faults source) (I.faults (source_in (incoming_of live))) (stop_of (incoming_of live)) (held_of (incoming_of live)) []) }
-        ensures noted { IfOk result (λ live. Puts (T.told transcript) (T.faults transcript) (lines_of []) (told_of (transcript_of live)) (T.told (sink_in (transcript_of live))) (T.faults (sink_in (transcript_of live)))) }
-        ensures going { IfOk result (λ live. stop_of (incoming_of live) ≡ None) }
+// The bytes for the console.
+fn plain_bytes<'a>(said: &'a Said<'_>) -> &'a [u8]
+    ensures { result.now ≡ plain_bytes (said_view said.now) }
+{
+    match said {
+        Said::Printed(bytes) => bytes,
+        Said::Accepted(_) | Said::Sent(..) | Said::Closed(_) => &[],
+    }
+}
+
+impl<I: Source, O: Sink + Drop, T: Sink + Drop> Live<I, O, T> {
+    /// Nothing was read yet and nothing said. The transcript may have its head.
+    pub fn make(
+        alloc: Global,
+        source: I,
+        out: O,
+        transcript: T,
+    ) -> Result<Live<I, O, T>, AllocError>
+        ensures did { IfOk result (λ live. Did I.took I.faults O.told O.faults T.told T.faults live live []) }
+        ensures source { IfOk result (λ live. source_in (incoming_of live) ≡ source) }
+        ensures out { IfOk result (λ live. sink_in (out_of live) ≡ out) }
+        ensures transcript { IfOk result (λ live. sink_in (writer_in (transcript_of live)) ≡ transcript) }
+        ensures going { IfOk result (λ live. stop_in live ≡ None) }
     {
         Ok(Live {
             incoming: Incoming::make(alloc, source)?,
+            out: Writer::make(out),
             transcript: Transcript::make(alloc, transcript),
         })
     }
 
+    /// What it was made over.
+    pub fn finish(self) -> (I, O, T)
+        ensures source { result.0 ≡ source_in (incoming_of self) }
+        ensures out { result.1 ≡ sink_in (out_of self) }
+        ensures transcript { result.2 ≡ sink_in (writer_in (transcript_of self)) }
+    {
+        let Live {
+            incoming,
+            out,
+            transcript,
+        } = self;
+        (incoming.finish(), out.finish(), transcript.finish())
+    }
+
     /// Why nothing more comes.
     pub fn stopped(&self) -> Option<Stopped>
-        ensures { result ≡ stop_of (incoming_of self.now) }
+        ensures { result ≡ stop_in self.now }
     {
-        self.incoming.stopped()
+        match (self.incoming.stopped(), self.out.put()) {
+            (Some(stopped), _) => Some(stopped),
+            (None, Put::Failed) => Some(Stopped::Unwritten),
+            (None, Put::Whole) => None,
+        }
+    }
+
+    /// What is said is written into this.
+    pub fn out(&self) -> &O
+        ensures { result.now ≡ sink_in (out_of self.now) }
+    {
+        self.out.sink()
+    }
+
+    /// Whether all that was said is written.
+    pub fn said(&self) -> Put
+        ensures { result ≡ put_of (out_of self.now) }
+    {
+        self.out.put()
     }
 
     /// What the transcript is written into.
     pub fn transcript(&self) -> &T
-        ensures { result.now ≡ sink_in (transcript_of self.now) }
+        ensures { result.now ≡ sink_in (writer_in (transcript_of self.now)) }
     {
         self.transcript.sink()
     }
 
     /// Whether the transcript is whole.
     pub fn told(&self) -> Put
-        ensures { result ≡ told_of (transcript_of self.now) }
+        ensures { result ≡ put_of (writer_in (transcript_of self.now)) }
     {
         self.transcript.told()
     }
@@ -59,8 +110,7 @@ impl<I: Source, T: Sink> Live<I, T> {
     // Takes the first of what is held.
     fn take_first(&mut self, alloc: Global) -> Result<Arrival, AllocError>
         requires { 0 < length (held_of (incoming_of self.old)) }
-        ensures took { TakesOn I.took I.faults (incoming_of self.old) (incoming_of self.new) (with_taken result) }
-        ensures noted { NotesOn T.told T.faults (transcript_of self.old) (transcript_of self.new) (with_taken result) }
+        ensures { DoesOn I.took I.faults O.told O.faults T.told T.faults self.old self.new (took_first result) }
     {
         let bytes = self.incoming.first(alloc)?;
         let arrival = Arrival::Input(bytes);
@@ -68,18 +118,25 @@ impl<I: Source, T: Sink> Live<I, T> {
         self.incoming.pass();
         Ok(arrival)
     }
+}
 
-    /// The next arrival, which may be waited for; its line stands in the transcript before. Nothing where nothing more comes.
-    pub fn next(&mut self, alloc: Global) -> Result<Option<Arrival>, AllocError>
-        ensures took { TakesOn I.took I.faults (incoming_of self.old) (incoming_of self.new) (with_next result) }
-        ensures noted { NotesOn T.told T.faults (transcript_of self.old) (transcript_of self.new) (with_next result) }
-        ensures over { result ≡ Ok None → is_some (stop_of (incoming_of self.new)) ≡ true }
-        ensures stays { is_some (stop_of (incoming_of self.old)) ≡ true → (result ≡ Ok None) × (self.new ≡ self.old) }
+impl<I: Source, O: Sink + Drop, T: Sink + Drop> Outside for Live<I, O, T> {
+    ghost did = { λ first later done. Did I.took I.faults O.told O.faults T.told T.faults first later done };
+
+    /// Its line stands in the transcript before it is handed on.
+    fn next(&mut self, alloc: Global) -> Result<Option<Arrival>, AllocError>
+        ensures took { DoesOn I.took I.faults O.told O.faults T.told T.faults self.old self.new (taking result) }
+        ensures over { result ≡ Ok None → is_some (stop_in self.new) ≡ true }
+        ensures stays { is_some (stop_in self.old) ≡ true → (result ≡ Ok None) × (self.new ≡ self.old) }
     {
-        if !self.incoming.has_more() {
+        if self.stopped().is_some() || !self.incoming.has_more() {
             return Ok(None);
         }
         let arrival = self.take_first(alloc)?;
         Ok(Some(arrival))
+    }
+
+    fn say(&mut self, said: &Said<'_>) {
+        self.out.write(plain_bytes(said));
     }
 }

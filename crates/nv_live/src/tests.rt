@@ -1,17 +1,33 @@
-// What comes of reads in memory, and its transcript.
+// What comes of reads in memory, its transcript, and what is said.
 use crate::{Live, MemorySource, Stopped};
-use nv_arrivals::Arrival;
+use nv_arrivals::{Arrival, Outside, Said};
 use nv_outside::{MemorySink, Put};
-use std::alloc::Global;
+use std::alloc::{AllocError, Global};
 use std::test::Fail;
 
+type Tried = Live<MemorySource, MemorySink, MemorySink>;
+
 // Reads of `hello\nwor`, `ld` and nothing.
-fn greeting(alloc: Global) -> Result<MemorySource, Fail> {
+fn greeting(alloc: Global) -> Result<MemorySource, AllocError> {
     let mut reads = Vec::new(alloc);
     for bytes in [b"hello\nwor".as_slice(), b"ld".as_slice(), b"".as_slice()] {
         reads.push(bytes.to_vec(alloc)?)?;
     }
     Ok(MemorySource::make(reads))
+}
+
+// A sink of which all writes are taken, three bytes each.
+fn whole(alloc: Global) -> Result<MemorySink, AllocError> {
+    MemorySink::make(alloc, 1000, 3, Vec::new(alloc))
+}
+
+// A sink whose second write fails; the first takes eight bytes.
+fn failing(alloc: Global) -> Result<MemorySink, AllocError> {
+    MemorySink::make(alloc, 1000, 8, vec![in alloc; 1]?)
+}
+
+fn greeted(alloc: Global, out: MemorySink, transcript: MemorySink) -> Result<Tried, AllocError> {
+    Live::make(alloc, greeting(alloc)?, out, transcript)
 }
 
 fn is_input(arrival: &Option<Arrival>, bytes: &[u8]) -> bool {
@@ -23,8 +39,7 @@ fn is_input(arrival: &Option<Arrival>, bytes: &[u8]) -> bool {
 
 #[test]
 fn reads_come_as_lines_and_parts(rt: HostRuntime) -> Result<(), Fail> {
-    let sink = MemorySink::make(rt.alloc(), 1000, 3, Vec::new(rt.alloc()))?;
-    let mut live = Live::make(rt.alloc(), greeting(rt.alloc())?, sink)?;
+    let mut live = greeted(rt.alloc(), whole(rt.alloc())?, whole(rt.alloc())?)?;
     let first = live.next(rt.alloc())?;
     assert!(rt; is_input(&first, b"hello\n"));
     assert_eq!(rt; live.transcript().written(), b"line hello\n".as_slice());
@@ -44,22 +59,70 @@ fn reads_come_as_lines_and_parts(rt: HostRuntime) -> Result<(), Fail> {
 }
 
 #[test]
+fn bytes_for_the_console_are_written_in_order(rt: HostRuntime) -> Result<(), Fail> {
+    let mut live = greeted(rt.alloc(), whole(rt.alloc())?, whole(rt.alloc())?)?;
+    live.say(&Said::Printed(b"good "));
+    assert_eq!(rt; live.out().written(), b"good ".as_slice());
+    live.say(&Said::Accepted(0));
+    live.say(&Said::Sent(0, b"client"));
+    live.say(&Said::Closed(0));
+    let first = live.next(rt.alloc())?;
+    assert!(rt; is_input(&first, b"hello\n"));
+    live.say(&Said::Printed(b"morning\n"));
+    assert!(rt; live.said() == Put::Whole);
+    let (_, out, transcript) = live.finish();
+    assert_eq!(rt; out.written(), b"good morning\n".as_slice());
+    assert_eq!(rt; transcript.written(), b"line hello\n".as_slice());
+    Ok(())
+}
+
+#[test]
+fn failed_write_of_what_is_said_ends_what_comes(rt: HostRuntime) -> Result<(), Fail> {
+    let mut live = greeted(rt.alloc(), failing(rt.alloc())?, whole(rt.alloc())?)?;
+    let first = live.next(rt.alloc())?;
+    assert!(rt; is_input(&first, b"hello\n"));
+    live.say(&Said::Printed(b"good morning\n"));
+    assert!(rt; live.said() == Put::Failed);
+    assert!(rt; live.stopped() == Some(Stopped::Unwritten));
+    live.say(&Said::Printed(b"and more\n"));
+    let none = live.next(rt.alloc())?;
+    assert!(rt; none.is_none());
+    assert!(rt; live.told() == Put::Whole);
+    assert_eq!(rt; live.out().written(), b"good mor".as_slice());
+    assert_eq!(rt; live.transcript().written(), b"line hello\n".as_slice());
+    Ok(())
+}
+
+#[test]
+fn first_reason_to_stop_stays(rt: HostRuntime) -> Result<(), Fail> {
+    let source = MemorySource::make(Vec::new(rt.alloc()));
+    let mut live = Live::make(rt.alloc(), source, failing(rt.alloc())?, whole(rt.alloc())?)?;
+    let none = live.next(rt.alloc())?;
+    assert!(rt; none.is_none());
+    live.say(&Said::Printed(b"good morning\n"));
+    assert!(rt; live.said() == Put::Failed);
+    assert!(rt; live.stopped() == Some(Stopped::Unreadable));
+    Ok(())
+}
+
+#[test]
 fn transcript_ends_at_a_failed_write(rt: HostRuntime) -> Result<(), Fail> {
-    let sink = MemorySink::make(rt.alloc(), 1000, 8, vec![in rt.alloc(); 1]?)?;
-    let mut live = Live::make(rt.alloc(), greeting(rt.alloc())?, sink)?;
+    let mut live = greeted(rt.alloc(), whole(rt.alloc())?, failing(rt.alloc())?)?;
     let first = live.next(rt.alloc())?;
     assert!(rt; is_input(&first, b"hello\n"));
     assert!(rt; live.told() == Put::Failed);
     let second = live.next(rt.alloc())?;
     assert!(rt; is_input(&second, b"wor"));
+    live.say(&Said::Printed(b"still here\n"));
+    assert_eq!(rt; live.out().written(), b"still here\n".as_slice());
     assert_eq!(rt; live.transcript().written(), b"line hel".as_slice());
     Ok(())
 }
 
 #[test]
 fn failed_read_ends_what_comes(rt: HostRuntime) -> Result<(), Fail> {
-    let sink = MemorySink::make(rt.alloc(), 1000, 1000, Vec::new(rt.alloc()))?;
-    let mut live = Live::make(rt.alloc(), MemorySource::make(Vec::new(rt.alloc())), sink)?;
+    let source = MemorySource::make(Vec::new(rt.alloc()));
+    let mut live = Live::make(rt.alloc(), source, whole(rt.alloc())?, whole(rt.alloc())?)?;
     let none = live.next(rt.alloc())?;
     assert!(rt; none.is_none());
     assert!(rt; live.stopped() == Some(Stopped::Unreadable));

@@ -1,10 +1,10 @@
-use Rattle.std.proofs.Common.{◌≡◌, sym, ap, rules}
-use Rattle.nv_outside.proofs.Writing.{puts-is}
-use Rattle.nv_live.specs.Live.{with_taken}
-use Rattle.nv_live.specs.Transcript.{lines_of}
+use Rattle.std.proofs.Common.{refl}
+use Rattle.nv_arrivals.specs.Arrivals.{Input}
+use Rattle.nv_live.proofs.Doing.{did-take}
 use Rattle.nv_live.proofs.live.Live.take_first.Goals as goal
 
-pub returns-in_err-note-clause-noted : goal.returns-in_err-note-clause-noted
-returns-in_err-note-clause-noted g c = λ before count arrivals so_far.
-    let same : with_taken c.from_residual-in_err-note.result arrivals ≡ arrivals = search rules in
-    puts-is (ap lines_of (sym same)) (c.in_err-note.ensures.kept before count arrivals so_far)
+pub returns : goal.returns
+returns g c =
+    did-take g.I.Source.took g.I.Source.faults g.O.Sink.told g.O.Sink.faults g.T.Sink.told g.T.Sink.faults
+    c.args.self.now (record { incoming = c.pass.new.self; out = c.args.self.now.out; transcript = c.note.new.self }) (Input c.in_ok-bytes.bytes.items)
+    (c.pass.ensures.took c.in_ok-bytes.bytes.items c.in_ok-bytes.ensures) refl c.in_ok-note.ensures.noted

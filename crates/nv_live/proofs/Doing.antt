@@ -1,0 +1,90 @@
+-- How what is done outside goes on: what is read, what is taken and what is said.
+use Rattle.std.proofs.Common.{◌≡◌, ℕ, List, [], ◌∷◌, ◌++◌, Option, None, append-nil, append_assoc, refl, sym, ap, subst, ◌∙◌}
+use Rattle.std.proofs.lemmas.List.Concat.{flat_map-append}
+use Rattle.nv_arrivals.specs.Arrivals.{Arrival}
+use Rattle.nv_arrivals.specs.Doings.{Doing, Takes, Says, Said, takings, sayings}
+use Rattle.nv_outside.specs.Sink.{Puts}
+use Rattle.nv_outside.specs.declared.sink.Put.TheVariants.{Whole}
+use Rattle.nv_outside.proofs.Writing.{puts-is, puts-none}
+use Rattle.nv_live.specs.declared.incoming.Incoming.{Incoming}
+use Rattle.nv_live.specs.declared.writer.Writer.{Writer}
+use Rattle.nv_live.specs.declared.live.Live.{Live}
+use Rattle.nv_live.specs.Incoming.{held_of, HasTaken, TakesOn}
+use Rattle.nv_live.specs.Live.{plain_bytes, plain_text, Did, DoesOn}
+use Rattle.nv_live.specs.Transcript.{lines_of}
+use Rattle.nv_live.specs.Writer.{Written, WritesOn}
+use Rattle.nv_live.proofs.Noting.{lines-append}
+use Rattle.nv_live.proofs.Taking.{took_start}
+
+takings-append : (xs ys : List Doing) → takings (xs ++ ys) ≡ takings xs ++ takings ys
+takings-append [] ys = refl
+takings-append (Takes a ∷ xs) ys = ap (λ later. a ∷ later) (takings-append xs ys)
+takings-append (Says s ∷ xs) ys = takings-append xs ys
+
+sayings-append : (xs ys : List Doing) → sayings (xs ++ ys) ≡ sayings xs ++ sayings ys
+sayings-append [] ys = refl
+sayings-append (Takes a ∷ xs) ys = sayings-append xs ys
+sayings-append (Says s ∷ xs) ys = ap (λ later. s ∷ later) (sayings-append xs ys)
+
+plain-more : (xs ys : List Doing) → plain_text (sayings xs) ++ plain_text (sayings ys) ≡ plain_text (sayings (xs ++ ys))
+plain-more xs ys = sym (ap plain_text (sayings-append xs ys) ∙ flat_map-append plain_bytes (sayings xs) (sayings ys))
+
+lines-more : (xs ys : List Doing) → lines_of (takings xs) ++ lines_of (takings ys) ≡ lines_of (takings (xs ++ ys))
+lines-more xs ys = sym (ap lines_of (takings-append xs ys) ∙ lines-append (takings xs) (takings ys))
+
+module _ {I O T : Type 0} (took : I → Option (List (List ℕ))) (unread : I → ℕ) (said : O → Option (List ℕ)) (unsaid : O → ℕ) (noted : T → Option (List ℕ)) (unnoted : T → ℕ) where
+  -- nothing more, in a part that stays
+  still : {S : Type 0} (told : S → Option (List ℕ)) (faults : S → ℕ) (old new : Writer S) → new ≡ old → WritesOn told faults old new []
+  still told faults old new same = λ first earlier so_far.
+      puts-is (sym (append-nil earlier)) (subst (λ w. Written told faults first w earlier) (sym same) so_far)
+
+  none-written : {S : Type 0} (told : S → Option (List ℕ)) (faults : S → ℕ) (writer : Writer S) → writer.put ≡ Whole → Written told faults writer writer []
+  none-written told faults writer whole =
+      subst (λ put. Puts (told writer.sink) (faults writer.sink) [] put (told writer.sink) (faults writer.sink)) (sym whole) (puts-none (told writer.sink) (faults writer.sink))
+
+  -- at the beginning nothing was done
+  pub did-none : (live : Live I O T) → live.incoming.stopped ≡ None → held_of live.incoming ≡ [] → live.out.put ≡ Whole → live.transcript.writer.put ≡ Whole
+      → Did took unread said unsaid noted unnoted live live []
+  did-none live going empty whole told = record {
+    taken = took_start (took live.incoming.source) (took live.incoming.source) (unread live.incoming.source) (unread live.incoming.source) live.incoming.stopped (held_of live.incoming) refl refl going empty;
+    written = none-written said unsaid live.out whole;
+    lines = none-written noted unnoted live.transcript.writer told;
+  }
+
+  -- one thing after another
+  pub did-then : (a b c : Live I O T) (x y : List Doing) → DoesOn took unread said unsaid noted unnoted a b x → DoesOn took unread said unsaid noted unnoted b c y → DoesOn took unread said unsaid noted unnoted a c (x ++ y)
+  did-then a b c x y p q = λ first done d. subst (λ z. Did took unread said unsaid noted unnoted first c z) (append_assoc done x y) (q first (done ++ x) (p first done d))
+
+  -- what was done, by its parts
+  pub did-parts : (old new : Live I O T) (more : List Doing) → TakesOn took unread old.incoming new.incoming (λ arrivals. arrivals ++ takings more)
+      → WritesOn said unsaid old.out new.out (plain_text (sayings more)) → WritesOn noted unnoted old.transcript.writer new.transcript.writer (lines_of (takings more))
+      → DoesOn took unread said unsaid noted unnoted old new more
+  did-parts old new more takes says notes = λ first done d. record {
+    taken = subst (λ arrivals. HasTaken took unread first.incoming new.incoming arrivals) (sym (takings-append done more)) (takes first.incoming (takings done) d.taken);
+    written = puts-is (plain-more done more) (says first.out (plain_text (sayings done)) d.written);
+    lines = puts-is (lines-more done more) (notes first.transcript.writer (lines_of (takings done)) d.lines);
+  }
+
+  takes-none : (old new : Incoming I) → TakesOn took unread old new (λ arrivals. arrivals) → TakesOn took unread old new (λ arrivals. arrivals ++ [])
+  takes-none old new takes = λ first arrivals so_far.
+      subst (λ xs. HasTaken took unread first new xs) (sym (append-nil arrivals)) (takes first arrivals so_far)
+
+  -- more was read, and nothing was taken
+  pub did-read : (old new : Live I O T) → TakesOn took unread old.incoming new.incoming (λ arrivals. arrivals) → new.out ≡ old.out → new.transcript.writer ≡ old.transcript.writer
+      → DoesOn took unread said unsaid noted unnoted old new []
+  did-read old new takes out transcript =
+      did-parts old new [] (takes-none old.incoming new.incoming takes) (still said unsaid old.out new.out out) (still noted unnoted old.transcript.writer new.transcript.writer transcript)
+
+  -- an arrival was taken
+  pub did-take : (old new : Live I O T) (arrival : Arrival) → TakesOn took unread old.incoming new.incoming (λ arrivals. arrivals ++ arrival ∷ []) → new.out ≡ old.out
+      → WritesOn noted unnoted old.transcript.writer new.transcript.writer (lines_of (arrival ∷ [])) → DoesOn took unread said unsaid noted unnoted old new (Takes arrival ∷ [])
+  did-take old new arrival takes out notes = did-parts old new (Takes arrival ∷ []) takes (still said unsaid old.out new.out out) notes
+
+  -- something was said
+  pub did-say : (old new : Live I O T) (x : Said) → new.incoming ≡ old.incoming → WritesOn said unsaid old.out new.out (plain_bytes x) → new.transcript.writer ≡ old.transcript.writer
+      → DoesOn took unread said unsaid noted unnoted old new (Says x ∷ [])
+  did-say old new x incoming says transcript =
+      did-parts old new (Says x ∷ [])
+      (takes-none old.incoming new.incoming (λ first arrivals so_far. subst (λ n. HasTaken took unread first n arrivals) (sym incoming) so_far))
+      (λ first earlier so_far. puts-is (ap (λ t. earlier ++ t) (sym (append-nil (plain_bytes x)))) (says first earlier so_far))
+      (still noted unnoted old.transcript.writer new.transcript.writer transcript)
