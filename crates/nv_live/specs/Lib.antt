@@ -4,5 +4,6 @@ pub mod Buffer
 pub mod Taking
 pub mod Incoming
 pub mod Writer
+pub mod SaidLines
 pub mod Transcript
 pub mod Live

@@ -10,6 +10,7 @@ mod buffer;
 mod incoming;
 mod live;
 mod memory_source;
+mod said_lines;
 mod source;
 #[cfg(test)]
 mod tests;

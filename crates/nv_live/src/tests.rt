@@ -1,4 +1,5 @@
 // What comes of reads in memory, its transcript, and what is said.
+use crate::said_lines::SaidLines;
 use crate::{Live, MemorySource, Stopped};
 use nv_arrivals::{Arrival, Outside, Said};
 use nv_outside::{MemorySink, Put};
@@ -127,5 +128,35 @@ fn failed_read_ends_what_comes(rt: HostRuntime) -> Result<(), Fail> {
     assert!(rt; none.is_none());
     assert!(rt; live.stopped() == Some(Stopped::Unreadable));
     assert!(rt; live.transcript().written().is_empty());
+    Ok(())
+}
+
+#[test]
+fn what_is_said_is_lines(rt: HostRuntime) -> Result<(), Fail> {
+    let mut lines = SaidLines::make(whole(rt.alloc())?);
+    lines.say(&Said::Accepted(12));
+    lines.say(&Said::Sent(12, b"hi\n"));
+    lines.say(&Said::Printed(b"up"));
+    lines.say(&Said::Sent(12, b""));
+    lines.say(&Said::Closed(12));
+    assert!(rt; lines.put() == Put::Whole);
+    assert_eq!(rt;
+        lines.finish().written(),
+        b"accept 12\ndata 12 68690a\noutput 7570\nclose 12\n".as_slice()
+    );
+    Ok(())
+}
+
+#[test]
+fn a_line_has_at_most_two_thousand_bytes(rt: HostRuntime) -> Result<(), Fail> {
+    let sink = MemorySink::make(rt.alloc(), 10_000, 10_000, Vec::new(rt.alloc()))?;
+    let mut lines = SaidLines::make(sink);
+    let bytes = vec![in rt.alloc(); b'a'; 2001]?;
+    lines.say(&Said::Printed(&bytes));
+    let sink = lines.finish();
+    let text = sink.written();
+    assert_eq!(rt; text.len(), 7 + 4000 + 1 + 7 + 2 + 1);
+    assert!(rt; text.starts_with(b"output 6161"));
+    assert!(rt; text.ends_with(b"6161\noutput 61\n"));
     Ok(())
 }
