@@ -1,4 +1,5 @@
 pub mod Taking
+pub mod Coming
 pub mod Noting
 pub mod Doing
 pub mod Parts

@@ -33,11 +33,11 @@ held_drop bytes start end count fits =
 
 -- ---- what reads gave
 
-gave-none : (a : Option (List (List ℕ))) → Gave a [] a
+pub gave-none : (a : Option (List (List ℕ))) → Gave a [] a
 gave-none None = tt
 gave-none (Some a) = sym (append-nil a)
 
-gave-then : (a b c : Option (List (List ℕ))) (x y : List (List ℕ)) → Gave a x b → Gave b y c → Gave a (x ++ y) c
+pub gave-then : (a b c : Option (List (List ℕ))) (x y : List (List ℕ)) → Gave a x b → Gave b y c → Gave a (x ++ y) c
 gave-then a b None x y p q = tt
 gave-then None None (Some c) x y p q = q
 gave-then None (Some b) (Some c) x y p q = p

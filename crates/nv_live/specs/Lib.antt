@@ -5,5 +5,6 @@ pub mod Taking
 pub mod Incoming
 pub mod Writer
 pub mod SaidLines
+pub mod ComingLines
 pub mod Transcript
 pub mod Live

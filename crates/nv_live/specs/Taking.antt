@@ -7,7 +7,7 @@ use Rattle.nv_outside.specs.Counts.{raised}
 use Rattle.nv_live.specs.declared.source.Read.{Read}
 use Rattle.nv_live.specs.declared.source.Read.TheVariants.{Count, Failed}
 use Rattle.nv_live.specs.declared.incoming.Stopped.{Stopped}
-use Rattle.nv_live.specs.declared.incoming.Stopped.TheVariants.{Ended, Unreadable, Unwritten}
+use Rattle.nv_live.specs.declared.incoming.Stopped.TheVariants.{Ended, Unreadable}
 use Rattle.nv_live.specs.Source.{Gave}
 
 -- why nothing more comes after a read
@@ -18,9 +18,7 @@ stop_by Failed = Some Unreadable
 -- the count of faults of a source: once a read has failed no more is made
 abbrev pub faults_by_stop : Option Stopped → ℕ → ℕ
 faults_by_stop (Some Unreadable) faults = raised faults 1
-faults_by_stop (Some Ended) faults = faults
-faults_by_stop (Some Unwritten) faults = faults
-faults_by_stop None faults = faults
+faults_by_stop _ faults = faults
 
 -- The bytes of the reads, cut at each newline and after 2,000, are the arrivals so far, in order, and after them the pieces of what is held: nothing that was read is lost or made up.
 pub record Took (before now : Option (List (List ℕ))) (faults later_faults : ℕ) (stopped : Option Stopped) (held : List ℕ) (arrivals : List Arrival) : Type 0 where

@@ -43,7 +43,7 @@ impl Buffer {
         })
     }
 
-    fn held(&self) -> &[u8]
+    pub fn held(&self) -> &[u8]
         ensures { result.now ≡ held_in self.now }
     {
         &self.bytes[self.start..self.end]
@@ -67,6 +67,15 @@ impl Buffer {
         read
     }
 
+    /// Takes so many of the bytes.
+    #[tactic(auto, using(crate::proofs::Taking::held_drop))]
+    pub fn skip(&mut self, count: usize)
+        requires { count ≤ length (held_in self.old) }
+        ensures { held_in self.new ≡ drop count (held_in self.old) }
+    {
+        self.start += count;
+    }
+
     /// The bytes that come first.
     pub fn first(&self, alloc: Global) -> Result<Vec<u8>, AllocError>
         requires { 0 < length (held_in self.now) }
@@ -77,14 +86,13 @@ impl Buffer {
     }
 
     /// Takes the bytes that come first, and tells how many they were.
-    #[tactic(auto, using(crate::proofs::Taking::held_drop))]
     pub fn pass(&mut self) -> usize
         requires { 0 < length (held_in self.old) }
         ensures pieces { pieces 2000 (held_in self.old) ≡ take result (held_in self.old) ∷ pieces 2000 (drop result (held_in self.old)) }
         ensures rest { held_in self.new ≡ drop result (held_in self.old) }
     {
         let count = piece(self.held());
-        self.start += count;
+        self.skip(count);
         count
     }
 }

@@ -6,6 +6,7 @@ ghost use Rattle.nv_live.specs.Taking.{Took, stop_by, IsFirst};
 
 use crate::buffer::Buffer;
 use crate::{Read, Source};
+use nv_arrivals::ArrivalCause;
 use std::alloc::{AllocError, Global};
 
 /// Why nothing more comes.
@@ -17,6 +18,10 @@ pub enum Stopped {
     Unreadable,
     /// A write of what is said failed.
     Unwritten,
+    /// This line was refused.
+    Refused(u32, ArrivalCause),
+    /// The end came within this line.
+    CutOff(u32),
 }
 
 /// What comes, read from a source.

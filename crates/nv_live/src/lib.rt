@@ -7,6 +7,7 @@
 #![tactic(auto)]
 
 mod buffer;
+mod coming_lines;
 mod incoming;
 mod live;
 mod memory_source;

@@ -1,0 +1,12 @@
+use Rattle.std.proofs.Common.{◌≡◌, ◌-◌, Option, Some, true, is_some, length}
+use Rattle.nv_live.specs.ComingLines.{ComesOn}
+use Rattle.nv_live.proofs.coming_lines.ComingLines.has_line.Given as goal
+
+-- so far nothing was taken
+abbrev pub invariant-loop-self : goal.invariant-loop-self
+invariant-loop-self g l =
+    ComesOn g.I.Source.took g.I.Source.faults l.fn.self l.self (λ arrivals. arrivals) × (l.self.taken ≡ l.fn.self.taken)
+    × (is_some l.fn.self.stopped ≡ true → l.self ≡ l.fn.self)
+
+abbrev pub decreases-loop-self : goal.decreases-loop-self
+decreases-loop-self g l = 4096 - length l.self.line.items

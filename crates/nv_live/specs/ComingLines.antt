@@ -1,0 +1,92 @@
+-- What comes as lines.
+use Rattle.std.specs.Prelude.{◌≡◌, ◌==◌, not, ℕ, Bool, true, List, [], ◌∷◌, ◌++◌, Option, Some, None, Ok, length, map, filter, codes, if◌then◌else◌}
+use Rattle.std.specs.List.{concat, flat_map, list_all}
+use Rattle.nv_text.specs.Lines.{line_number}
+use Rattle.nv_arrivals.specs.Arrivals.{Arrival, is_arrival}
+use Rattle.nv_arrivals.specs.Order.{Came, nothing_came, after}
+use Rattle.nv_arrivals.specs.Reading.{arrival_of}
+use Rattle.nv_live.specs.declared.source.Read.{Read}
+use Rattle.nv_live.specs.declared.source.Read.TheVariants.{Count, Failed}
+use Rattle.nv_live.specs.declared.incoming.Stopped.{Stopped}
+use Rattle.nv_live.specs.declared.incoming.Stopped.TheVariants.{Ended, Unreadable, CutOff}
+use Rattle.nv_live.specs.declared.buffer.Buffer.{Buffer}
+use Rattle.nv_live.specs.declared.coming_lines.ComingLines.{ComingLines}
+use Rattle.nv_live.specs.Buffer.{held_in}
+use Rattle.nv_live.specs.Source.{Gave}
+use Rattle.nv_live.specs.Taking.{faults_by_stop}
+
+-- ---- the lines and what they say
+
+abbrev pub is_plain : ℕ → Bool
+is_plain b = not (b == 10)
+
+-- an empty line and one that begins with `#` say nothing
+abbrev pub is_passed : List ℕ → Bool
+is_passed [] = true
+is_passed (b ∷ bs) = b == 35
+
+abbrev pub says : List ℕ → Bool
+says line = not (is_passed line)
+
+-- each with its newline, one after another
+abbrev pub text_of : List (List ℕ) → List ℕ
+text_of lines = flat_map (λ line. line ++ codes "\n") lines
+
+-- the lines that say something say just these arrivals, in order
+abbrev pub Say : List (List ℕ) → List Arrival → Type 0
+Say lines arrivals = map arrival_of (filter says lines) ≡ map Ok arrivals
+
+-- why nothing more comes after a read, where so many lines were taken and so many bytes of the next are held: a last line without its newline is cut off
+abbrev pub stop_by_end : Read → ℕ → ℕ → Option Stopped
+stop_by_end (Count count) taken held = if count == 0 then (if held == 0 then Some Ended else Some (CutOff (line_number taken))) else None
+stop_by_end Failed taken held = Some Unreadable
+
+-- ---- what has come
+
+-- The bytes of the reads, joined, are the lines so far and then what is held; these lines say the arrivals, each of which may come after those before it.
+pub record Come (before now : Option (List (List ℕ))) (faults later_faults : ℕ) (stopped : Option Stopped) (line held : List ℕ) (came : Came) (taken : ℕ) (arrivals : List Arrival) : Type 0 where
+  pub reads : List (List ℕ)
+  pub lines : List (List ℕ)
+  pub gave : Gave before reads now
+  pub joined : concat reads ≡ text_of lines ++ (line ++ held)
+  pub plain : list_all (λ l. list_all is_plain l) (lines ++ line ∷ []) ≡ true
+  pub said : Say lines arrivals
+  pub limits : list_all is_arrival arrivals ≡ true
+  pub orderly : after arrivals nothing_came ≡ Ok came
+  pub numbered : taken ≡ length lines
+  pub counted : later_faults ≡ faults_by_stop stopped faults
+  -- at the end the last read gave nothing, and nothing is held
+  pub ended : stopped ≡ Some Ended → ((earlier : List (List ℕ)) × (reads ≡ earlier ++ [] ∷ [])) × (line ++ held ≡ [])
+
+abbrev pub source_from : {I : Type 0} → ComingLines I → I
+source_from coming = coming.source
+
+abbrev pub buffer_from : {I : Type 0} → ComingLines I → Buffer
+buffer_from coming = coming.buffer
+
+abbrev pub held_from : {I : Type 0} → ComingLines I → List ℕ
+held_from coming = held_in coming.buffer
+
+abbrev pub line_from : {I : Type 0} → ComingLines I → List ℕ
+line_from coming = coming.line.items
+
+abbrev pub order_from : {I : Type 0} → ComingLines I → Came
+order_from coming = coming.order
+
+abbrev pub taken_from : {I : Type 0} → ComingLines I → ℕ
+taken_from coming = coming.taken
+
+abbrev pub stop_from : {I : Type 0} → ComingLines I → Option Stopped
+stop_from coming = coming.stopped
+
+-- between these two these arrivals have come; the first two tell what a source gave and how often it failed
+abbrev pub HasCome : {I : Type 0} → (I → Option (List (List ℕ))) → (I → ℕ) → ComingLines I → ComingLines I → List Arrival → Type 0
+HasCome took faults first later arrivals = Come (took first.source) (took later.source) (faults first.source) (faults later.source) later.stopped later.line.items (held_in later.buffer) later.order later.taken arrivals
+
+-- whatever arrivals had come before, these have come then
+abbrev pub ComesOn : {I : Type 0} → (I → Option (List (List ℕ))) → (I → ℕ) → ComingLines I → ComingLines I → (List Arrival → List Arrival) → Type 0
+ComesOn took faults old new then_come = (first : ComingLines _) (arrivals : List Arrival) → HasCome took faults first old arrivals → HasCome took faults first new (then_come arrivals)
+
+-- a line's newline stands at the beginning of what is held
+abbrev pub IsWhole : List ℕ → Type 0
+IsWhole held = (rest : List ℕ) × (held ≡ 10 ∷ rest)

@@ -1,0 +1,232 @@
+// What comes as lines, read from a source.
+ghost use Rattle.std.specs.Prelude.{◌≡◌, ◌+◌, ◌-◌, ◌<◌, ◌≤◌, ◌++◌, ◌∷◌, ◌^◌, [], None, Some, Ok, IfOk, OnOk, OnErr, length, drop, true, false, is_some};
+ghost use Rattle.std.specs.List.{prefix_len};
+ghost use Rattle.nv_text.specs.Lines.{line_number};
+ghost use Rattle.nv_arrivals.specs.Arrivals.{is_arrival};
+ghost use Rattle.nv_arrivals.specs.Reading.{arrival_of};
+ghost use Rattle.nv_arrivals.specs.Views.{view, result_view};
+ghost use Rattle.nv_live.specs.ComingLines.{source_from, held_from, line_from, order_from, taken_from, stop_from, is_plain, is_passed, stop_by_end, ComesOn, HasCome, IsWhole};
+
+use crate::buffer::Buffer;
+use crate::{Read, Source, Stopped};
+use nv_arrivals::{Arrival, ArrivalCause, Order, read};
+use nv_text::line_number;
+use std::alloc::{AllocError, Global};
+
+// The most bytes of a line, with its newline.
+const MOST_LINE: usize = 4096;
+
+/// What comes as lines, read from a source.
+#[derive(Drop)]
+pub struct ComingLines<I> {
+    source: I,
+    buffer: Buffer,
+    // The bytes of the line that comes, which goes on in the buffer.
+    line: Vec<u8>,
+    order: Order,
+    // How many lines were taken.
+    taken: usize,
+    stopped: Option<Stopped>,
+}
+
+// Why nothing more comes after a read, where so many bytes of a line are held.
+fn stop_by_end(read: Read, taken: usize, held: usize) -> Option<Stopped>
+    ensures { result ≡ stop_by_end read taken held }
+{
+    match read {
+        Read::Failed => Some(Stopped::Unreadable),
+        Read::Count(0) if held == 0 => Some(Stopped::Ended),
+        Read::Count(0) => Some(Stopped::CutOff(line_number(taken))),
+        Read::Count(_) => None,
+    }
+}
+
+// How many of these bytes stand before a newline.
+fn before_newline(bytes: &[u8]) -> usize
+    ensures count { result ≡ prefix_len is_plain bytes.now }
+    ensures inside { result ≤ length bytes.now }
+{
+    bytes.iter().take_while(|byte| **byte != b'\n').count()
+}
+
+// Whether the line says nothing.
+fn is_passed(line: &[u8]) -> bool
+    ensures { result ≡ is_passed line.now }
+{
+    match line {
+        [] => true,
+        [first, ..] => *first == b'#',
+    }
+}
+
+impl<I: Source> ComingLines<I> {
+    pub fn make(alloc: Global, source: I) -> Result<ComingLines<I>, AllocError>
+        ensures source { IfOk result (λ coming. source_from coming ≡ source) }
+        ensures come { IfOk result (λ coming. HasCome I.took I.faults coming coming []) }
+        ensures going { IfOk result (λ coming. stop_from coming ≡ None) }
+    {
+        Ok(ComingLines {
+            source,
+            buffer: Buffer::make(alloc)?,
+            line: Vec::new(alloc),
+            order: Order::new(alloc),
+            taken: 0,
+            stopped: None,
+        })
+    }
+
+    pub fn stopped(&self) -> Option<Stopped>
+        ensures { result ≡ stop_from self.now }
+    {
+        self.stopped
+    }
+
+    pub fn finish(self) -> I
+        ensures { result ≡ source_from self }
+    {
+        let ComingLines {
+            source,
+            buffer: _,
+            line: _,
+            order: _,
+            taken: _,
+            stopped: _,
+        } = self;
+        source
+    }
+
+    // Whether something is held, which is read where nothing was.
+    fn has_more(&mut self) -> bool
+        ensures come { ComesOn I.took I.faults self.old self.new (λ arrivals. arrivals) }
+        ensures some { result ≡ true → 0 < length (held_from self.new) }
+        ensures over { result ≡ false → is_some (stop_from self.new) ≡ true }
+        ensures going { result ≡ true → stop_from self.new ≡ None }
+        ensures line { line_from self.new ≡ line_from self.old }
+        ensures taken { taken_from self.new ≡ taken_from self.old }
+        ensures stays { is_some (stop_from self.old) ≡ true → (result ≡ false) × (self.new ≡ self.old) }
+    {
+        if self.stopped.is_some() {
+            return false;
+        }
+        if self.buffer.is_empty() {
+            let read = self.buffer.refill(&mut self.source);
+            self.stopped = stop_by_end(read, self.taken, self.line.len());
+            return self.stopped.is_none();
+        }
+        true
+    }
+
+    // Moves what stands before a newline to the line.
+    fn gather(&mut self) -> Result<(), AllocError>
+        ensures come { ComesOn I.took I.faults self.old self.new (λ arrivals. arrivals) }
+        ensures line { OnOk result (length (line_from self.new) + length (held_from self.new) ≡ length (line_from self.old) + length (held_from self.old)) }
+        ensures whole { OnOk result (0 < length (held_from self.new) → IsWhole (held_from self.new)) }
+        ensures taken { taken_from self.new ≡ taken_from self.old }
+        ensures stop { stop_from self.new ≡ stop_from self.old }
+    {
+        let held = self.buffer.held();
+        let count = before_newline(held);
+        self.line.extend_from_slice(&held[..count])?;
+        self.buffer.skip(count);
+        Ok(())
+    }
+
+    /// Nothing more comes: the line is refused.
+    pub fn refuse(&mut self, cause: ArrivalCause)
+        requires { stop_from self.old ≡ None }
+        ensures come { ComesOn I.took I.faults self.old self.new (λ arrivals. arrivals) }
+        ensures stopped { stop_from self.new ≡ Some (Stopped.Refused (line_number (taken_from self.old)) cause) }
+        ensures taken { taken_from self.new ≡ taken_from self.old }
+    {
+        self.stopped = Some(Stopped::Refused(line_number(self.taken), cause));
+    }
+
+    // Whether a whole line is held, which is read where none was.
+    fn has_line(&mut self) -> Result<bool, AllocError>
+        ensures come { ComesOn I.took I.faults self.old self.new (λ arrivals. arrivals) }
+        ensures whole { result ≡ Ok true → IsWhole (held_from self.new) × (stop_from self.new ≡ None) }
+        ensures over { result ≡ Ok false → is_some (stop_from self.new) ≡ true }
+        ensures taken { taken_from self.new ≡ taken_from self.old }
+        ensures stays { is_some (stop_from self.old) ≡ true → (result ≡ Ok false) × (self.new ≡ self.old) }
+    {
+        while self.has_more() {
+            self.gather()?;
+            if self.line.len() >= MOST_LINE {
+                self.refuse(ArrivalCause::Long);
+                return Ok(false);
+            }
+            if !self.buffer.is_empty() {
+                return Ok(true);
+            }
+        }
+        Ok(false)
+    }
+
+    // Takes the line with its newline.
+    fn pass(&mut self)
+        requires whole { 0 < length (held_from self.old) }
+        requires more { taken_from self.old < 2 ^ 64 - 1 }
+        ensures source { source_from self.new ≡ source_from self.old }
+        ensures order { order_from self.new ≡ order_from self.old }
+        ensures stop { stop_from self.new ≡ stop_from self.old }
+        ensures taken { taken_from self.new ≡ taken_from self.old + 1 }
+        ensures line { line_from self.new ≡ [] }
+        ensures held { held_from self.new ≡ drop 1 (held_from self.old) }
+    {
+        self.line.clear();
+        self.buffer.skip(1);
+        self.taken += 1;
+    }
+
+    /// Whether a line that says something is held, which is read where none was.
+    pub fn find(&mut self) -> Result<bool, AllocError>
+        ensures come { ComesOn I.took I.faults self.old self.new (λ arrivals. arrivals) }
+        ensures whole { result ≡ Ok true → IsWhole (held_from self.new) × (stop_from self.new ≡ None) × (is_passed (line_from self.new) ≡ false) × (taken_from self.new < 2 ^ 64 - 1) }
+        ensures over { result ≡ Ok false → is_some (stop_from self.new) ≡ true }
+        ensures stays { is_some (stop_from self.old) ≡ true → (result ≡ Ok false) × (self.new ≡ self.old) }
+    {
+        while self.has_line()? {
+            if self.taken == usize::MAX {
+                self.refuse(ArrivalCause::Long);
+                return Ok(false);
+            }
+            if !is_passed(&self.line) {
+                return Ok(true);
+            }
+            self.pass();
+        }
+        Ok(false)
+    }
+
+    /// What the line says.
+    pub fn read(&self, alloc: Global) -> Result<Result<Arrival, ArrivalCause>, AllocError>
+        ensures arrival { IfOk result (λ read. result_view read ≡ arrival_of (line_from self.now)) }
+        ensures sound { IfOk result (λ read. IfOk read (λ arrival. is_arrival (view arrival) ≡ true)) }
+    {
+        read(alloc, &self.line)
+    }
+
+    /// Takes the line, whose arrival comes next, or refuses it.
+    pub fn admit(&mut self, arrival: &Arrival) -> Result<bool, AllocError>
+        requires whole { IsWhole (held_from self.old) }
+        requires going { stop_from self.old ≡ None }
+        requires says { is_passed (line_from self.old) ≡ false }
+        requires more { taken_from self.old < 2 ^ 64 - 1 }
+        requires arrival { arrival_of (line_from self.old) ≡ Ok (view arrival.now) }
+        requires sound { is_arrival (view arrival.now) ≡ true }
+        ensures took { result ≡ Ok true → ComesOn I.took I.faults self.old self.new (λ arrivals. arrivals ++ view arrival.now ∷ []) }
+        ensures refused { result ≡ Ok false → ComesOn I.took I.faults self.old self.new (λ arrivals. arrivals) × (is_some (stop_from self.new) ≡ true) }
+        ensures kept { OnErr result (self.new ≡ self.old) }
+    {
+        match self.order.admit(arrival)? {
+            Ok(()) => {
+                self.pass();
+                Ok(true)
+            }
+            Err(cause) => {
+                self.refuse(cause);
+                Ok(false)
+            }
+        }
+    }
+}
