@@ -1,10 +1,10 @@
 // The values of options, which no answer tells, and words with blanks. All else of a line is told by rows.
-use nv_command::{Command, Limits, Look, Point, Run, Trail, read};
+use nv_command::{Command, Limits, Look, Point, Run, Service, Trail, read};
 use std::alloc::{AllocError, Global};
 use std::test::Fail;
 
 // Lines, with `|` between their words, and what they ask for.
-const LINES: [(&str, &str); 40] = [
+const LINES: [(&str, &str); 46] = [
     // What isn't named is usual.
     (
         "varan|run|--script|s|v",
@@ -68,6 +68,31 @@ const LINES: [(&str, &str); 40] = [
     (
         "varan|record|--script|s|--rules|r|--ring|4|--memory=135168|--budget|5|--calls|6|--threads|7|v",
         "record s r 4 135168 5 6 7 text|v",
+    ),
+    // A service has no usual length.
+    (
+        "varan|serve|v",
+        "serve - - 256 1048576 1000000000 131072 8 - -|v",
+    ),
+    (
+        "varan|serve|v|--clients",
+        "serve - - 256 1048576 1000000000 131072 8 clients -|v",
+    ),
+    (
+        "varan|serve|--log|v",
+        "serve - - 256 1048576 1000000000 131072 8 - log|v",
+    ),
+    (
+        "varan|serve|--script=s|1|2|3|4|5|6|7|8",
+        "serve s - 256 1048576 1000000000 131072 8 - -|1|2|3|4|5|6|7|8",
+    ),
+    (
+        "varan|serve|--budget|10000000|--calls=65536|--|--clients|--log",
+        "serve - - 256 1048576 10000000 65536 8 - -|--clients|--log",
+    ),
+    (
+        "varan|serve|--clients|--script|s|--rules|r|--ring|4|--memory=135168|--budget|5|--calls|6|--threads|7|--log|a|b",
+        "serve s r 4 135168 5 6 7 clients log|a|b",
     ),
     (
         "varan|replay|--script|s|t|v",
@@ -187,12 +212,26 @@ fn tell_limits(alloc: Global, limits: &Limits) -> Result<String, AllocError> {
 fn tell_run(alloc: Global, run: &Run<'_>) -> Result<String, AllocError> {
     let limits = tell_limits(alloc, &run.limits)?;
     let form = if run.json { "JSON" } else { "text" };
-    let mut text = format!(in alloc;
+    let text = format!(in alloc;
         "{} {} {limits} {form}",
         run.script,
         run.rules.unwrap_or("-")
     )?;
-    for version in &run.versions {
+    with_versions(text, &run.versions)
+}
+
+fn tell_service(alloc: Global, service: &Service<'_>) -> Result<String, AllocError> {
+    let limits = tell_limits(alloc, &service.limits)?;
+    let script = service.script.unwrap_or("-");
+    let rules = service.rules.unwrap_or("-");
+    let clients = if service.clients { "clients" } else { "-" };
+    let log = if service.log { "log" } else { "-" };
+    let text = format!(in alloc; "{script} {rules} {limits} {clients} {log}")?;
+    with_versions(text, &service.versions)
+}
+
+fn with_versions(mut text: String, versions: &[&str]) -> Result<String, AllocError> {
+    for version in versions {
         text.push_str("|")?;
         text.push_str(version)?;
     }
@@ -229,6 +268,9 @@ fn tell_look(alloc: Global, look: &Look<'_>) -> Result<String, AllocError> {
 fn tell(alloc: Global, words: &[String]) -> Result<String, AllocError> {
     match read(alloc, words) {
         Ok(Command::Run(run)) => format!(in alloc; "run {}", tell_run(alloc, &run)?),
+        Ok(Command::Serve(service)) => {
+            format!(in alloc; "serve {}", tell_service(alloc, &service)?)
+        }
         Ok(Command::Record(run)) => format!(in alloc; "record {}", tell_run(alloc, &run)?),
         Ok(Command::Replay(trail)) => format!(in alloc; "replay {}", tell_trail(alloc, &trail)?),
         Ok(Command::Inspect(look)) => format!(in alloc; "inspect {}", tell_look(alloc, &look)?),
