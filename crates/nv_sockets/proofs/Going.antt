@@ -2,15 +2,14 @@
 use Rattle.std.proofs.Common.{◌≡◌, ◌∙◌, ap, refl, ℕ, ◌≤◌, List, [], ◌∷◌, ◌++◌, length, map, arith}
 use Rattle.std.proofs.lemmas.List.{length-map}
 use Rattle.nv_calls.specs.Calls.{Request, Entry}
-use Rattle.nv_calls.specs.Logs.{calls_of, call_of, output_of, connections_of}
+use Rattle.nv_calls.specs.Logs.{calls_of, call_of, output_of}
 use Rattle.nv_script.specs.Scripts.{Setup}
 use Rattle.nv_kernel.specs.Serving as kernel
 use Rattle.nv_kernel.proofs.Crews.{few_clones_after}
 use Rattle.nv_kernel.proofs.Going as was
 use Rattle.nv_kernel.proofs.Keeping.{map_more}
-use Rattle.nv_sockets.specs.Kernel.{links_after}
 use Rattle.nv_sockets.specs.Sockets.{Answer}
-use Rattle.nv_sockets.specs.Serving.{State, Served, unless_bad, or_own, beside, joined, serve, state_after, reply_of, link_written, first_state, start_of_script}
+use Rattle.nv_sockets.specs.Serving.{State, Served, unless_bad, or_own, beside, joined, serve, state_after, reply_of, first_state, start_of_script}
 
 -- a call by the answer of the kernel without sockets and what takes its place
 pub serve_is : (s : State) (c : Request) (r : kernel.Served) (a : Answer) → kernel.serve s.own c ≡ r → or_own s.net r.ret r.payload (unless_bad s.net c) ≡ a → serve s c ≡ beside r.state a
@@ -43,7 +42,7 @@ log_clones setup log =
     let h = few_clones_after (kernel.first_state setup) (calls_of log) in
     omega (arith, e, h, length-map log call_of)
 
--- the reply to a call, the console and the connections, by the state after the calls before
+-- the reply to a call and the console, by the state after the calls before
 pub reply_is : (setup : Setup) (log : List Entry) (c : Request) → (start_of_script setup).replies (calls_of log) c ≡ reply_of (serve (state_after (first_state setup) (calls_of log)) c)
 unfolding start_of_script
 reply_is setup log c = refl
@@ -51,7 +50,3 @@ reply_is setup log c = refl
 pub output_is : (setup : Setup) (log : List Entry) → output_of (start_of_script setup) log ≡ (state_after (first_state setup) (calls_of log)).own.files.console
 unfolding start_of_script
 output_is setup log = refl
-
-pub connections_is : (setup : Setup) (log : List Entry) → connections_of (start_of_script setup) log ≡ map link_written (links_after setup log)
-unfolding start_of_script
-connections_is setup log = refl

@@ -1,13 +1,10 @@
 // What was written to each connection, as a part of a report.
 ghost use Rattle.std.specs.Prelude.{◌≡◌, ◌+◌, ◌<◌, ◌^◌, length, map};
-ghost use Rattle.nv_calls.specs.Logs.{connections_of};
 ghost use Rattle.nv_outside.specs.Sink.{Puts};
-ghost use Rattle.nv_sockets.specs.Serving.{start_of_script};
 ghost use Rattle.nv_sockets.specs.Texts.{connection_count_text, connection_text, connection_texts, connections_text};
 ghost use Rattle.nv_sockets.specs.Views.{written_of};
 
 use crate::connection::Connection;
-use crate::kernel::SocketKernel;
 use itoa::Buffer;
 use nv_outside::{Put, Sink, put_pieces};
 
@@ -67,7 +64,8 @@ fn put_lines<S: Sink>(sink: &mut S, first: usize, connections: &[Connection]) ->
     }
 }
 
-fn put_some<S: Sink>(sink: &mut S, connections: &[Connection]) -> Put
+/// Writes how many connections there are, and of each its number, its port and what was written to it; nothing where there is none. It takes no memory.
+pub fn write_connections<S: Sink>(sink: &mut S, connections: &[Connection]) -> Put
     ensures { Puts (S.told sink.old) (S.faults sink.old) (connections_text (map written_of connections.now)) result (S.told sink.new) (S.faults sink.new) }
 {
     if connections.is_empty() {
@@ -77,12 +75,4 @@ fn put_some<S: Sink>(sink: &mut S, connections: &[Connection]) -> Put
         Put::Whole => put_lines(sink, 0, connections),
         Put::Failed => Put::Failed,
     }
-}
-
-/// Writes how many connections there are, and of each its number, its port and what was written to it; nothing where there is none. It takes no memory.
-pub fn write_connections<S: Sink>(sink: &mut S, kernel: &SocketKernel) -> Put
-    ensures { Puts (S.told sink.old) (S.faults sink.old) (connections_text (connections_of (start_of_script kernel.now.setup) kernel.now.log))
-        result (S.told sink.new) (S.faults sink.new) }
-{
-    put_some(sink, kernel.connections())
 }
