@@ -8,3 +8,4 @@ pub mod Kept
 pub mod Telling
 pub mod Doings
 pub mod Told
+pub mod Listing

@@ -29,6 +29,10 @@ pub record KernelState (O : Type 0) : Type 0 where
   pub spare : Option Spare
   pub room : Room
 
+-- what it was made over
+abbrev pub begun_in : {O : Type 0} → KernelState O → Begun O
+begun_in k = record { setup = k.setup; outside = k.begun }
+
 -- what the calls served left
 abbrev pub stage_of : {O : Type 0} → KernelState O → Stage
 stage_of k = stage_after (first_stage k.setup k.came) (calls_of k.log)

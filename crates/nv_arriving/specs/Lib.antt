@@ -7,3 +7,4 @@ pub mod Beginnings
 pub mod Telling
 pub mod Doings
 pub mod Marks
+pub mod Scripted

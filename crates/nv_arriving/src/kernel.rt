@@ -1,6 +1,10 @@
 // The kernel, with the log of the calls that it served.
-ghost use Rattle.std.specs.Prelude.{◌≡◌, ◌≤◌, [], false, IsTrue, IfOk, length, map, take, vec_len};
+ghost use Rattle.std.specs.Prelude.{◌≡◌, ◌≤◌, ◌<◌, ◌++◌, [], ◌∷◌, false, true, IsTrue, IfOk, OnOk, length, map, take, vec_len, Contains};
 ghost use Rattle.nv_calls.specs.Calls.{request};
+ghost use Rattle.nv_calls.specs.Limits.{MOST_EVENTS};
+ghost use Rattle.nv_calls.specs.Shapes.{IsShaped};
+ghost use Rattle.nv_calls.specs.Logs.{served, live_after};
+ghost use Rattle.nv_served.specs.Learning.{GoesOn};
 ghost use Rattle.nv_script.specs.Scripts.{is_script};
 ghost use Rattle.nv_script.specs.Views.{setup_of};
 ghost use Rattle.nv_sockets.specs.Views.{link_of};
@@ -12,9 +16,11 @@ ghost use Rattle.nv_arriving.specs.Views.{standing_of};
 
 use crate::arrivals::{learn, rest};
 use crate::guests::GuestSide;
+use crate::listed::{Nothing, copies};
 use crate::waiting::taken_for;
 use nv_arrivals::{Arrival, Outside};
 use nv_calls::{Bytes, Call, Event, MOST_BYTES};
+use nv_fs::FileSystem;
 use nv_kernel::spare::{blank, fill, keep, next_end};
 use nv_script::Script;
 use nv_served::SyscallKernel;
@@ -139,6 +145,13 @@ impl<O: Outside> ArrivingKernel<O> {
         self.guests.host.sockets.connections()
     }
 
+    /// The files, as the calls served left them.
+    pub fn files(&self) -> &FileSystem
+        ensures { result.now.state ≡ (stage_of self.now).here.state.own.files }
+    {
+        &self.guests.host.devices.files
+    }
+
     /// The outside, with what it tells: all that came was taken in its order, and all that the log says was said in its order.
     pub fn outside(&self) -> &O
         ensures is { result.now ≡ self.now.outside }
@@ -156,12 +169,45 @@ impl<O: Outside> ArrivingKernel<O> {
     }
 }
 
+impl ArrivingKernel<Nothing> {
+    /// A kernel that has served nothing, over what the script gives and lists. Nothing more comes.
+    pub(crate) fn listed(
+        alloc: Global,
+        script: &Script,
+    ) -> Result<ArrivingKernel<Nothing>, AllocError>
+        requires script { IsTrue (is_script (setup_of script.now)) }
+        ensures new { IfOk result (λ k. (k.log ≡ []) × (k.setup ≡ setup_of script.now)) }
+        ensures all { IfOk result (λ k. (k.came ≡ (setup_of script.now).arrivals) × (k.over ≡ true)) }
+    {
+        let guests = GuestSide::make(alloc, script)?;
+        let out = Bytes::make(alloc, MOST_BYTES)?;
+        let came = copies(alloc, script.arrivals.as_slice())?;
+        let outside = Nothing;
+        let begun = Snapshot::of(&outside);
+        Ok(ArrivingKernel {
+            alloc,
+            script: Snapshot::of(script),
+            guests,
+            begun,
+            outside,
+            came,
+            used: 0,
+            late: false,
+            over: true,
+            log: Vec::new(alloc),
+            out,
+            spare: None,
+            end: None,
+        })
+    }
+}
+
 impl<O: Outside + Send> SyscallKernel for ArrivingKernel<O> {
     ghost use Rattle.std.specs.Coded.{codes};
     ghost use Rattle.nv_kernel.specs.Codes.{setup_code};
     ghost use Rattle.nv_arriving.specs.Arriving.{start_of_arrivals};
     ghost use Rattle.nv_arriving.specs.Beginnings.{begun_code};
-    ghost use Rattle.nv_arriving.specs.Kernel.{Begun, CanServe};
+    ghost use Rattle.nv_arriving.specs.Kernel.{Begun, begun_in, CanServe};
 
     ghost log = { λ k. k.log };
 
@@ -169,14 +215,22 @@ impl<O: Outside + Send> SyscallKernel for ArrivingKernel<O> {
 
     ghost beginning_code = { begun_code setup_code (Prim.search codes) };
 
-    ghost start = { λ k. record { setup = k.setup; outside = k.begun } };
+    ghost start = { begun_in };
 
     // What has come, taken in or not.
     ghost known = { λ k. start_of_arrivals k.setup k.came };
 
     ghost is_ready = { CanServe };
 
-    fn reserve(&mut self, call: &Call) -> Result<(), AllocError> {
+    fn reserve(&mut self, call: &Call) -> Result<(), AllocError>
+        requires shaped { IsShaped (request call.now) }
+        ensures log { self.new.log ≡ self.old.log }
+        ensures start { begun_in self.new ≡ begun_in self.old }
+        ensures known { GoesOn self.old.log (start_of_arrivals self.old.setup self.old.came) (start_of_arrivals self.new.setup self.new.came) }
+        ensures ready { OnOk result (CanServe self.new (request call.now)) }
+        ensures over { self.old.over ≡ true → self.new.over ≡ true }
+        ensures came { self.old.over ≡ true → self.new.came ≡ self.old.came }
+    {
         self.spare = None;
         let event = blank(self.alloc, call)?;
         self.log.reserve(1)?;
@@ -196,7 +250,17 @@ impl<O: Outside + Send> SyscallKernel for ArrivingKernel<O> {
         Ok(())
     }
 
-    fn serve(&mut self, call: &Call) {
+    fn serve(&mut self, call: &Call)
+        requires ready { CanServe self.old (request call.now) }
+        requires shaped { IsShaped (request call.now) }
+        requires lives { Contains (live_after self.old.log) call.now.tid }
+        requires few { length self.old.log < MOST_EVENTS }
+        ensures log { self.new.log ≡ self.old.log ++ served (start_of_arrivals self.old.setup self.old.came) self.old.log (request call.now) ∷ [] }
+        ensures start { begun_in self.new ≡ begun_in self.old }
+        ensures known { start_of_arrivals self.new.setup self.new.came ≡ start_of_arrivals self.old.setup self.old.came }
+        ensures over { self.new.over ≡ self.old.over }
+        ensures came { self.new.came ≡ self.old.came }
+    {
         let Some(mut event) = self.spare.take() else {
             unreachable!()
         };

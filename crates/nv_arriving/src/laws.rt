@@ -7,6 +7,7 @@ ghost use Rattle.nv_arrivals.specs.Arrivals.{Arrival};
 ghost use Rattle.nv_sockets.specs.Serving.{start_of_script};
 ghost use Rattle.nv_arriving.specs.Arriving.{first_stage, stage_after, start_of_arrivals, Satisfied};
 ghost use Rattle.nv_arrivals.specs.Doings.{takings};
+ghost use Rattle.nv_arriving.specs.Scripted.{start_from};
 ghost use Rattle.nv_arriving.specs.Doings.{doings, doings_from};
 
 /// What a front of a log does outside is a front of what the log does; where no call waited in vain, what comes later changes nothing
@@ -25,4 +26,10 @@ pub fn doings_go_on()
 #[tactic(auto, using(crate::proofs::Coming::same_start))]
 pub fn nothing_comes()
     ensures { (setup : Setup) → start_of_arrivals setup [] ≡ start_of_script setup }
+{}
+
+/// Over a script that lists nothing, a kernel goes on as that of connections and files alone does.
+#[tactic(auto, using(crate::proofs::Listing::same_unlisted))]
+pub fn nothing_listed()
+    ensures { (setup : Setup) → setup.arrivals ≡ [] → start_from setup ≡ start_of_script setup }
 {}

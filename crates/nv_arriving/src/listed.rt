@@ -1,0 +1,45 @@
+// What a script lists, which has all come when the kernel is made.
+ghost use Rattle.std.specs.Prelude.{◌≡◌, IfOk, map};
+ghost use Rattle.nv_arrivals.specs.Views.{view as arrival_of};
+
+use nv_arrivals::{Arrival, Outside, Said};
+use std::alloc::{AllocError, Global};
+
+/// An outside from which nothing comes, and which tells nothing of what is said.
+#[derive(Drop)]
+pub struct Nothing;
+
+impl Outside for Nothing {
+    ghost did = { λ _ _ _. ⊥ };
+
+    fn next(&mut self, _alloc: Global) -> Result<Option<Arrival>, AllocError> {
+        Ok(None)
+    }
+
+    fn say(&mut self, _said: &Said<'_>) {}
+}
+
+// The same arrival, in memory of its own.
+fn copy(alloc: Global, arrival: &Arrival) -> Result<Arrival, AllocError>
+    ensures { IfOk result (λ made. arrival_of made ≡ arrival_of arrival.now) }
+{
+    Ok(match arrival {
+        Arrival::Input(bytes) => Arrival::Input(bytes.as_slice().to_vec(alloc)?),
+        Arrival::InputEnd => Arrival::InputEnd,
+        Arrival::ClientsEnd => Arrival::ClientsEnd,
+        Arrival::Connect(port) => Arrival::Connect(*port),
+        Arrival::Data(client, bytes) => Arrival::Data(*client, bytes.as_slice().to_vec(alloc)?),
+        Arrival::End(client) => Arrival::End(*client),
+    })
+}
+
+// The same arrivals, in memory of their own.
+pub(crate) fn copies(alloc: Global, arrivals: &[Arrival]) -> Result<Vec<Arrival>, AllocError>
+    ensures { IfOk result (λ made. map arrival_of made.items ≡ map arrival_of arrivals.now) }
+{
+    let mut made = Vec::new(alloc);
+    for arrival in arrivals {
+        made.push(copy(alloc, arrival)?)?;
+    }
+    Ok(made)
+}
