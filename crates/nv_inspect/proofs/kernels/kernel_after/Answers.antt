@@ -4,7 +4,7 @@ use Rattle.nv_calls.specs.declared.calls.Event.{Event}
 use Rattle.nv_calls.specs.Calls.{Entry, entry}
 use Rattle.nv_calls.specs.Logs.{Start, served, live_after, IsLegal, IsLawful}
 use Rattle.nv_calls.proofs.LogLaws.{at_prefix}
-use Rattle.nv_sockets.specs.Serving.{start_of_script}
+use Rattle.nv_arriving.specs.Scripted.{start_from}
 use Rattle.nv_script.specs.Views.{setup_of}
 use Rattle.nv_trace.proofs.Playing.{item_at, take_next}
 use Rattle.nv_inspect.proofs.Prefixes.{map_take}
@@ -55,8 +55,8 @@ serve-requires-clause-few c =
 pub loop-event-preserved : goal.loop-event-preserved
 loop-event-preserved c =
     let at = at_log c.history.result.now c.args.kernel.now.log c.args.seen c.loop-event.event-index c.event-item.result c.history.ensures.log c.loop-event-test.true c.event-item.is in
-    let setup = c.reserve.ensures.setup ∙ c.loop-event.invariant.1 in (
-      one_more (start_of_script (setup_of c.args.script.now)) (start_of_script c.reserve.new.self.setup) c.args.kernel.now.log c.reserve.new.self.log c.serve.new.self.log
-          c.loop-event.event-index (entry c.event-item.result) c.requires.sound.legal at (ap start_of_script setup) (c.reserve.ensures.log ∙ c.loop-event.invariant.0) c.serve.ensures.log,
-      c.serve.ensures.setup ∙ setup,
+    let setup = c.reserve.ensures.start ∙ c.loop-event.invariant.1 in (
+      one_more (start_from (setup_of c.args.script.now)) (start_from c.reserve.new.self.setup) c.args.kernel.now.log c.reserve.new.self.log c.serve.new.self.log
+          c.loop-event.event-index (entry c.event-item.result) c.requires.sound.legal at (ap start_from setup) (c.reserve.ensures.log ∙ c.loop-event.invariant.0) c.serve.ensures.log,
+      c.serve.ensures.start ∙ setup,
     )
