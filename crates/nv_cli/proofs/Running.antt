@@ -3,7 +3,7 @@ use Rattle.std.proofs.Common.{◌≡◌, ◌∙◌, ap, subst, ℕ, List, Option
 use Rattle.nv_bpf.specs.declared.op.Op.{Op}
 use Rattle.nv_calls.specs.Calls.{Entry}
 use Rattle.nv_command.specs.Words.{Limits}
-use Rattle.nv_sockets.specs.Serving.{start_of_script}
+use Rattle.nv_arriving.specs.Scripted.{start_from}
 use Rattle.nv_machine.specs.Guest.{Machine}
 use Rattle.nv_replay.specs.Follow.{judge_of}
 use Rattle.nv_replay.specs.Monitor.{sequence}
@@ -20,10 +20,10 @@ use Rattle.nv_cli.proofs.Once.{settled_unplanned}
 
 -- versions that begin with these machines, and the script's planned lengths
 pub run_of : (limits : Limits) (setup : Setup) (rules : Option (List Op)) (machines : List Machine) (hands : List ℕ) (olds news : List (Running Proc)) (log : List Entry) → IsPlanned setup hands
-    → IsAccount threads (judge_of rules) (start_of_script setup) limits.calls hands olds news log → map process_of olds ≡ map (process_begun limits) machines
+    → IsAccount threads (judge_of rules) (start_from setup) limits.calls hands olds news log → map process_of olds ≡ map (process_begun limits) machines
     → IsRunOf limits setup rules machines (record { log = log; lines = map standing_of news })
 run_of limits setup rules machines hands olds news log planned a are =
-    let start = start_of_script setup in
+    let start = start_from setup in
     let cuts = cuts_of (map standing_of news) in
     let account : Account = record { log = log; lines = map standing_of news } in
     let is : account ≡ sequence threads (judge_of rules) start limits.calls cuts setup.hands (map (process_begun limits) machines) =

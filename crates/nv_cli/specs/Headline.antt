@@ -17,7 +17,7 @@ use Rattle.nv_jobs.specs.Due.{RunOwes, RunComesTo}
 use Rattle.nv_jobs.specs.Prepared.{prepared, version_from}
 -- The account is the sequential monitor's over the script's kernel, the rules, the machines of the versions and the script's planned lengths.
 use Rattle.nv_jobs.specs.Account.{IsRunOf, process_begun}
-use Rattle.nv_sockets.specs.Serving.{start_of_script}
+use Rattle.nv_arriving.specs.Scripted.{start_from}
 use Rattle.nv_replay.specs.Follow.{judge_of}
 use Rattle.nv_replay.specs.Monitor.{sequence}
 -- Each version has one fate, and each event lies in exactly one of the spans that they led; where no length is planned each led at most one.
@@ -69,6 +69,7 @@ use Rattle.nv_calls.specs.Answers.{most_out_by, answer_slot}
 use Rattle.nv_calls.specs.Calls.{Request, Response, Entry, status_of, is_same}
 use Rattle.nv_calls.specs.Constants.{result_alone, utsname_field, names, system, directory, process, parent, user, unless_bad, constant_by, constant_of}
 use Rattle.nv_calls.specs.Errors.{ENOENT, EBADF, EAGAIN, EFAULT, EEXIST, ENOTDIR, EINVAL, EMFILE, ENOTTY, EFBIG, ENOSPC, ESPIPE, EPIPE, ERANGE, ENAMETOOLONG, ENOSYS, ENOTSOCK, EADDRINUSE, ENOTCONN}
+use Rattle.nv_calls.specs.Held.{Held}
 use Rattle.nv_calls.specs.Limits.{MOST_BYTES, MOST_VECTORS, MOST_PATH, MOST_ADDRESS, FIRST_THREAD, MOST_THREADS, MOST_EVENTS}
 use Rattle.nv_calls.specs.Logs.{made, child_of, with_child, live_next, live_from, live_after, Written, Start, call_of, calls_of, served, output_of, connections_of}
 use Rattle.nv_calls.specs.Numbers.{CLONE, EXIT, EXIT_GROUP, Row, row, table, syscall_in, syscall_of, slots_by, has_range, is_of_threads, is_local}
@@ -117,18 +118,26 @@ use Rattle.nv_fs.specs.Starts.{first_descriptors, first_opens, first_state}
 use Rattle.nv_fs.specs.States.{Inode, FileState, Answer, answer, only, numbered, open_of, is_open, one_way, is_target, opens_to, has_open, is_numbered, is_shared, file_at, is_kept, is_pipe, least_free, with_at, free_open, install, moved_to}
 use Rattle.nv_fs.specs.Stored.{write_console, with_content, start_of, write_at, write_pipe, write_target, write_open, write_of}
 use Rattle.nv_fs.specs.Told.{told_by, told_of, opened_as}
-use Rattle.nv_script.specs.Entry.{Entry as nv_script_Entry, form_of, is_printable, is_argument, is_file_byte, is_dots, is_file_name, entry_kinds, in_form, kind_of, shaped, argument_entry, file_with, file_entry, clock_fits, clock_entry, clock_with, clock_of, is_hand, hand_entry, hand_with, is_port, connection_entry, connection_with, connection_of, entry_by, entry_with, is_passed_over, entry_of}
-use Rattle.nv_script.specs.Scripts.{Named, Incoming, Setup, Draft, blank, has_name, with_argument, with_input, with_named_file, with_clock, with_seed, has_hand, with_hand, with_connection, with_entry, with_result, with_script_line, onward, drafted, no_clock, setup_with, finished, finished_result, no_form, script_in, script_of_lines, script_of}
+use Rattle.nv_fs.specs.Waits.{is_input, reads_input, waits_on_input}
+use Rattle.nv_arrivals.specs.Arrivals.{Arrival, is_port}
+use Rattle.nv_arrivals.specs.Order.{Came, nothing_came, input_going, input_ended, clients_ended, with_client, sending, client_ended, admitted}
+use Rattle.nv_arrivals.specs.Reading.{words as nv_arrivals_words, word_of, is_word, sized, bytes_of as nv_arrivals_bytes_of, line_arrival, input_with, connect_with, data_with, data_parts, data_in, end_with, end_of, arrival_by, arrival_with, arrival_of}
+use Rattle.nv_script.specs.Entry.{Entry as nv_script_Entry, form_of, is_printable, is_argument, is_file_byte, is_dots, is_file_name, entry_kinds, in_form, kind_of, shaped, argument_entry, file_with, file_entry, clock_fits, clock_entry, clock_with, clock_of, is_hand, hand_entry, hand_with, is_port as nv_script_is_port, connection_entry, connection_with, connection_of, entry_by, entry_with, is_passed_over, cause_of, arrives, begins_arrival, entry_of}
+use Rattle.nv_script.specs.Scripts.{Named, Incoming, Setup, Draft, blank, has_name, with_argument, with_input, with_named_file, with_clock, with_seed, has_hand, with_hand, with_connection, with_came, with_arrival, with_entry, with_result, with_script_line, onward, drafted, no_clock, setup_with, finished, finished_result, no_form, script_in, script_of_lines, script_of}
 use Rattle.nv_script.specs.Texts.{cause_word, script_fault_text}
 use Rattle.nv_kernel.specs.Crew.{Crew, first_crew, may_clone, clone_as, clone_of, exit_of, with_none_live}
 use Rattle.nv_kernel.specs.Serving.{State, Served, replied, always, of_files, of_crew, counted, request_arg, second, time_bytes, time_of, next_random, high_byte, randoms, random_after, randomly, control, unless_many, clock, answered, unless_bad as nv_kernel_unless_bad, serve, named_inode, first_state as nv_kernel_first_state}
-use Rattle.nv_sockets.specs.Serving.{of_open, unless_many as nv_sockets_unless_many, answered as nv_sockets_answered, unless_bad as nv_sockets_unless_bad, or_own, State as nv_sockets_State, Served as nv_sockets_Served, beside, joined, serve as nv_sockets_serve, state_after, reply_of, link_written, start_at, link_from, port_from, first_net, first_state as nv_sockets_first_state}
+use Rattle.nv_sockets.specs.Coming.{connected, with_data}
+use Rattle.nv_sockets.specs.Serving.{of_open, unless_many as nv_sockets_unless_many, answered as nv_sockets_answered, unless_bad as nv_sockets_unless_bad, or_own, State as nv_sockets_State, Served as nv_sockets_Served, beside, joined, serve as nv_sockets_serve, reply_of, link_written, link_from, port_from, first_net, first_state as nv_sockets_first_state}
 use Rattle.nv_sockets.specs.Sockets.{Link, Net, Answer as nv_sockets_Answer, answer as nv_sockets_answer, only as nv_sockets_only, no_sockets, socket_at, fault_of, on_socket, with_socket, free_place, socket_opened, are_flags, is_stream, is_tcp, made_at, socket_of, port_by, port_in, is_size, has_port, is_used, bind_to, bind_socket, bind_of, listen_socket, listen_of, waits_at_port, next_at, with_accepted, accept_next, accept_socket, accept_flagged, accept_of, link_at, input_of, link_output, read_link, read_socket, with_output, write_link, write_socket, close_socket}
 use Rattle.nv_sockets.specs.Texts.{connection_count_text, connection_text, connection_texts}
+use Rattle.nv_arriving.specs.Arrivals.{ends, until, taken_for}
+use Rattle.nv_arriving.specs.Arriving.{Standing, wants_input, is_over, wants_data, read_wants, wants_client, accept_wants, wants_as, wants, with_input as nv_arriving_with_input, with_net, arrive, arrive_all, Stage, taken, ready_for, with_state as nv_arriving_with_state, answer_next, serve_next, stage_after, start_at, first_standing, first_stage, start_of_arrivals}
+use Rattle.nv_arriving.specs.Scripted.{stage_from}
 use Rattle.nv_bpf.specs.Actions.{actions, action_of}
 use Rattle.nv_bpf.specs.Faults.{filter_text}
 use Rattle.nv_bpf.specs.Texts.{at_most, field, op_with, op_of_fields, op_of, put_first, with_line, ops_of, line_count, ops_after, ops_of_lines, ops_of_text, filter_with, filter_of, ended_number, op_text, ops_text}
-use Rattle.nv_bpf.specs.Verified.{unless, constant_fault, is_word, action_fault, fault_by, op_fault, is_return, or_later_fault, ops_fault, ends_in_return, list_fault, ops_or, verified}
+use Rattle.nv_bpf.specs.Verified.{unless, constant_fault, is_word as nv_bpf_is_word, action_fault, fault_by, op_fault, is_return, or_later_fault, ops_fault, ends_in_return, list_fault, ops_or, verified}
 use Rattle.nv_rules.specs.Pair.{argument_words, call_words, count_word, pair_words}
 use Rattle.nv_rules.specs.Values.{FilterState, filter_start, held, with_register, other, operand_of, calculated, comparison_holds, Effect, goes_with, ends_without, acted, gone_on, stepped, returned_from, returned, value_of}
 use Rattle.nv_rules.specs.Verdicts.{verdict_of}
@@ -142,19 +151,19 @@ use Rattle.nv_replay.specs.Permits.{Permit, given, failed, passed, took, permit}
 use Rattle.nv_replay.specs.Sequence.{Account, is_going, cuts_of}
 use Rattle.nv_replay.specs.Settling.{stage}
 use Rattle.nv_replay.specs.Survivors.{alone, IsSurvivor, HasNoClone}
-use Rattle.nv_replay.specs.Taking.{is_alike, is_through, is_writing, fits, all_written, result_by, taken}
+use Rattle.nv_replay.specs.Taking.{is_alike, is_through, is_writing, fits, all_written, result_by, taken as nv_replay_taken}
 use Rattle.nv_replay.specs.Tracks.{is_in, is_led, retraced_by, tracked, track_on, track_next, track}
 use Rattle.nv_report.specs.Events.{payload_text, call_text, result_text, event_text}
 use Rattle.nv_report.specs.Json.{natural, integer, list_value, hex_value, word_json, payload_value, event_value, span_value, led_value, version_members, version_value, report_object, report_value}
 use Rattle.nv_report.specs.Numbers.{number_text}
 use Rattle.nv_report.specs.Report.{head_text, count_text, fates_text}
 use Rattle.nv_report.specs.Versions.{kind_text, fault_text, refusal_text, fate_text, end_text, prefix_text, seen_text, span_text, next_span_text, led_text, rewrites_text, rest_text, line_text, lines_text}
-use Rattle.nv_asm.specs.Assembled.{Whole, text_base, data_base, base, address, address_of, is_undefined, is_entry_place, is_entry, word_lacks, code_lacks, lacks, distance, word_value, code_words, le_words, content, is_earlier, is_twice, is_long, padding_before, padded, laid_by, laid, cause_of, bytes_or_none, laid_in, section_bytes, entry_past, entry_address, text_range, data_ranges, laid_program, first_cause, meaning_by, meaning, whole_of, assembled_lines, assembled}
+use Rattle.nv_asm.specs.Assembled.{Whole, text_base, data_base, base, address, address_of, is_undefined, is_entry_place, is_entry, word_lacks, code_lacks, lacks, distance, word_value, code_words, le_words, content, is_earlier, is_twice, is_long, padding_before, padded, laid_by, laid, cause_of as nv_asm_cause_of, bytes_or_none, laid_in, section_bytes, entry_past, entry_address, text_range, data_ranges, laid_program, first_cause, meaning_by, meaning, whole_of, assembled_lines, assembled}
 use Rattle.nv_asm.specs.Faults.{asm_word, asm_text}
 use Rattle.nv_asm.specs.Forms.{same_form, has_form, flags, each_order, kinds}
 use Rattle.nv_asm.specs.Numbers.{registers, numbered_register, register_named, decimal, hexadecimal, magnitude, signed, literal, is_number, within, number, number_of_12_bits, number_of_32_bits, number_of_8_bits}
 use Rattle.nv_asm.specs.Places.{here_by, here, filled, among_data, in_section, or_blank, code_size, size, begin, past, Placed, stated, place, after, line_parts, placed_parts, placed_line, placed, nothing_reached, ended, marked}
-use Rattle.nv_asm.specs.Statements.{Word, Code, Statement, insn, single, with_number, upper_of, lower_of, loading, ◌>>=◌, name, is_not_open, closed, enclosed, base_register, displacement, sole_register, registers_of, immediate_of, shift_of, load_of, store_of, reserved_statement, atomic_of, branch_of, jump_and_link_of, upper_number_of, load_number_of, load_address_of, move_of, jump_of, zeros, zeros_of, entry_statement, of_none, of_one, of_two, of_three, formed, is_within, number_or_zero, is_byte, byte_of, bytes_within, bytes_of as nv_asm_bytes_of, is_item, is_word as nv_asm_is_word, word_of, words_within, words_of, kind_read, stated as nv_asm_stated, statement_begun, statement}
+use Rattle.nv_asm.specs.Statements.{Word, Code, Statement, insn, single, with_number, upper_of, lower_of, loading, ◌>>=◌, name, is_not_open, closed, enclosed, base_register, displacement, sole_register, registers_of, immediate_of, shift_of, load_of, store_of, reserved_statement, atomic_of, branch_of, jump_and_link_of, upper_number_of, load_number_of, load_address_of, move_of, jump_of, zeros, zeros_of, entry_statement, of_none, of_one, of_two, of_three, formed, is_within, number_or_zero, is_byte, byte_of, bytes_within, bytes_of as nv_asm_bytes_of, is_item, is_word as nv_asm_is_word, word_of as nv_asm_word_of, words_within, words_of, kind_read, stated as nv_asm_stated, statement_begun, statement}
 use Rattle.nv_asm.specs.Strings.{escape, at_end, escaped_mark, mark, quoted, string, next, comment_place}
 use Rattle.nv_bpf_asm.specs.Assembled.{is_not_comment, line_parts as nv_bpf_asm_line_parts, word_count, count, labels, Find, is_earlier as nv_bpf_asm_is_earlier, is_twice as nv_bpf_asm_is_twice, way, near_way, jump_by, jump_op, branch_by, branch_op, op_of as nv_bpf_asm_op_of, op_after, some_op, op_of_word, op_of_parts, op_of_line, put_first as nv_bpf_asm_put_first, with_line as nv_bpf_asm_with_line, ops_of as nv_bpf_asm_ops_of, of_filter, filter_with as nv_bpf_asm_filter_with, assembled as nv_bpf_asm_assembled}
 use Rattle.nv_bpf_asm.specs.Faults.{rule_word, rules_text}

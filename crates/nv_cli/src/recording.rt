@@ -14,13 +14,13 @@ ghost use Rattle.nv_jobs.specs.inner.Ran.{RecordSays};
 ghost use Rattle.nv_jobs.specs.Refusals.{IsPlanned};
 
 use crate::beside::run;
+use nv_arriving::ScriptedKernel;
 use nv_bpf::Filter;
 use nv_command::{Limits, Run};
 use nv_jobs::{MEMORY, Prepared, ended, prepare, put_line, refuse, starved, status};
 use nv_outside::{Files, Sink};
 use nv_replay::{Account, Version};
 use nv_served::SyscallKernel;
-use nv_sockets::SocketKernel;
 use nv_workers::Gate;
 use std::alloc::Global;
 use std::sync::Wait;
@@ -39,7 +39,7 @@ fn put_trace<K: SyscallKernel, S: Sink>(account: &Account<K>, sink: &mut S) -> u
 fn record_versions<R: Threads + Wait + Sync, S: Sink, G: Gate + Sync>(
     rt: &R,
     alloc: Global,
-    kernel: SocketKernel,
+    kernel: ScriptedKernel,
     rules: Option<&Filter>,
     versions: Vec<Version>,
     hands: &Vec<u32>,

@@ -10,7 +10,7 @@ ghost use Rattle.nv_command.specs.Seen.{limits_view, plan_view};
 ghost use Rattle.nv_calls.specs.Logs.{output_of, connections_of};
 ghost use Rattle.nv_report.specs.Report.{report_text};
 ghost use Rattle.nv_report.specs.Json.{json_text};
-ghost use Rattle.nv_sockets.specs.Serving.{start_of_script};
+ghost use Rattle.nv_arriving.specs.Scripted.{start_from};
 ghost use Rattle.nv_sockets.specs.Texts.{connections_text};
 ghost use Rattle.nv_outside.specs.Sink.{Puts};
 ghost use Rattle.nv_jobs.specs.Due.{Says, Answers, Completes, Rejects};
@@ -24,6 +24,7 @@ ghost use Rattle.nv_jobs.specs.Outcome.{NotAccepted, totals_of, name_at, outcome
 
 use crate::beside::run;
 use crate::recording::record;
+use nv_arriving::ScriptedKernel;
 use nv_bpf::Filter;
 use nv_command::{Command, Limits, Run};
 use nv_gen::Totals;
@@ -34,7 +35,7 @@ use nv_jobs::{
 use nv_outside::{Files, Put, Sink, put_pieces};
 use nv_replay::{Account, Version};
 use nv_served::SyscallKernel;
-use nv_sockets::{SocketKernel, write_connections};
+use nv_sockets::write_connections;
 use nv_workers::Gate;
 use std::alloc::Global;
 use std::sync::Wait;
@@ -56,24 +57,24 @@ fn put_json<K: SyscallKernel, S: Sink>(alloc: Global, account: &Account<K>, sink
 }
 
 // Writes the report, and after it what was written to the connections.
-fn put_whole<S: Sink>(account: &Account<SocketKernel>, sink: &mut S) -> Put
+fn put_whole<S: Sink>(account: &Account<ScriptedKernel>, sink: &mut S) -> Put
     ensures { Puts (S.told sink.old) (S.faults sink.old)
-        (report_text (output_of (start_of_script account.now.kernel.setup) account.now.kernel.log)
+        (report_text (output_of (start_from account.now.kernel.setup) account.now.kernel.log)
         (record { log = account.now.kernel.log; lines = map standing_of account.now.versions.items })
-        ++ connections_text (connections_of (start_of_script account.now.kernel.setup) account.now.kernel.log))
+        ++ connections_text (connections_of (start_from account.now.kernel.setup) account.now.kernel.log))
         result (S.told sink.new) (S.faults sink.new) }
 {
     match nv_report::write(sink, account) {
-        Put::Whole => write_connections(sink, &account.kernel),
+        Put::Whole => write_connections(sink, account.kernel.connections()),
         Put::Failed => Put::Failed,
     }
 }
 
 // Writes the report and the connections, and ends with the status of the run.
-fn put_report<S: Sink>(account: &Account<SocketKernel>, sink: &mut S) -> u8
-    ensures { Says (report_text (output_of (start_of_script account.now.kernel.setup) account.now.kernel.log)
+fn put_report<S: Sink>(account: &Account<ScriptedKernel>, sink: &mut S) -> u8
+    ensures { Says (report_text (output_of (start_from account.now.kernel.setup) account.now.kernel.log)
         (record { log = account.now.kernel.log; lines = map standing_of account.now.versions.items })
-        ++ connections_text (connections_of (start_of_script account.now.kernel.setup) account.now.kernel.log))
+        ++ connections_text (connections_of (start_from account.now.kernel.setup) account.now.kernel.log))
         (run_status (map standing_of account.now.versions.items)) (S.told sink.old) (S.faults sink.old) result (S.told sink.new) (S.faults sink.new) }
 {
     let put = put_whole(account, sink);
@@ -84,7 +85,7 @@ fn put_report<S: Sink>(account: &Account<SocketKernel>, sink: &mut S) -> u8
 fn run_versions<R: Threads + Wait + Sync, S: Sink, G: Gate + Sync>(
     rt: &R,
     alloc: Global,
-    kernel: SocketKernel,
+    kernel: ScriptedKernel,
     rules: Option<&Filter>,
     versions: Vec<Version>,
     hands: &Vec<u32>,

@@ -9,7 +9,7 @@ use Rattle.nv_machine.specs.Guest.{Machine}
 use Rattle.nv_command.specs.Words.{Limits, Trail}
 use Rattle.nv_script.specs.Scripts.{Setup}
 use Rattle.nv_calls.specs.Logs.{Start}
-use Rattle.nv_sockets.specs.Serving.{start_of_script}
+use Rattle.nv_arriving.specs.Scripted.{start_from}
 use Rattle.nv_trace.specs.declared.fault.TraceFault.{TraceFault}
 use Rattle.nv_trace.specs.declared.fault.TraceFault.TheVariants.{Memory as TraceMemory}
 use Rattle.nv_trace.specs.declared.fault.CheckFault.{CheckFault}
@@ -219,18 +219,18 @@ rules_stop_it why trail holds holds' f0 f f' t0 t t' same fs ts comes h =
 
 -- ---- what a trace is
 
-trace_by : (setup : Setup) (bytes : List ℕ) (o : Option TraceFault) (log : List Entry) (p : Option CheckFault) → trace_fault bytes ≡ o → log_in bytes ≡ log → check_fault (start_of_script setup) log ≡ p
+trace_by : (setup : Setup) (bytes : List ℕ) (o : Option TraceFault) (log : List Entry) (p : Option CheckFault) → trace_fault bytes ≡ o → log_in bytes ≡ log → check_fault (start_from setup) log ≡ p
     → trace_of_file setup bytes ≡ log_unless_faulty (unless_unsound log p) o
 unfolding trace_of_file
 trace_by setup bytes o log p fault is unsound =
-    ap (λ (f : Option TraceFault). log_unless_faulty (unless_unsound (log_in bytes) (check_fault (start_of_script setup) (log_in bytes))) f) fault
-    ∙ ap (λ (l : List Entry). log_unless_faulty (unless_unsound l (check_fault (start_of_script setup) l)) o) is
+    ap (λ (f : Option TraceFault). log_unless_faulty (unless_unsound (log_in bytes) (check_fault (start_from setup) (log_in bytes))) f) fault
+    ∙ ap (λ (l : List Entry). log_unless_faulty (unless_unsound l (check_fault (start_from setup) l)) o) is
     ∙ ap (λ (f : Option CheckFault). log_unless_faulty (unless_unsound log f) o) unsound
 
 -- the trace of a log that the kernel comes to
-pub trace_given : (setup : Setup) (bytes : List ℕ) (log kept : List Entry) → IsRead log bytes → AreSoundEvents (start_of_script setup) log → kept ≡ log → trace_of_file setup bytes ≡ Ok kept
+pub trace_given : (setup : Setup) (bytes : List ℕ) (log kept : List Entry) → IsRead log bytes → AreSoundEvents (start_from setup) log → kept ≡ log → trace_of_file setup bytes ≡ Ok kept
 trace_given setup bytes log kept read sound same =
-    trace_by setup bytes None log None (trace_faultless log bytes read.trace) (trace_log log bytes read.trace) (faultless_is (start_of_script setup) log sound) ∙ ap Ok (sym same)
+    trace_by setup bytes None log None (trace_faultless log bytes read.trace) (trace_log log bytes read.trace) (faultless_is (start_from setup) log sound) ∙ ap Ok (sym same)
 
 -- bytes that are no trace are refused
 pub trace_refused : (setup : Setup) (bytes : List ℕ) (fault : TraceFault) (why : Refusal) → IsByTrace fault why → (fault ≡ TraceMemory) ⊎ IsNoTrace bytes fault → IsTraceRefusal why setup bytes
@@ -240,7 +240,7 @@ trace_refused setup bytes fault (refusal.Input place cause) by h = (
   by.0,
   λ e. let other : causes.Trace fault ≡ causes.Long = sym by.1 ∙ e in cc,
   ⊎_elim (λ (e : fault ≡ TraceMemory). absurd (by.2 e))
-      (λ (r : IsNoTrace bytes fault). trace_by setup bytes (Some fault) (log_in bytes) (check_fault (start_of_script setup) (log_in bytes)) r.first refl refl) h
+      (λ (r : IsNoTrace bytes fault). trace_by setup bytes (Some fault) (log_in bytes) (check_fault (start_from setup) (log_in bytes)) r.first refl refl) h
       ∙ ap (λ (z : Cause). Err z) (sym by.1),
 )
 
@@ -250,7 +250,7 @@ stops_first start events checks.Memory log other h = absurd (other refl)
 stops_first start events fault log other h = h.first
 
 -- so is the trace of a log that the kernel doesn't come to
-pub check_refused : (setup : Setup) (bytes : List ℕ) (start : Start) (events log : List Entry) (fault : CheckFault) (why : Refusal) → IsByCheck fault why → IsRead events bytes → start ≡ start_of_script setup
+pub check_refused : (setup : Setup) (bytes : List ℕ) (start : Start) (events log : List Entry) (fault : CheckFault) (why : Refusal) → IsByCheck fault why → IsRead events bytes → start ≡ start_from setup
     → StopsFor start events fault log → IsTraceRefusal why setup bytes
 check_refused setup bytes start events log fault refusal.Memory by read same h = tt
 check_refused setup bytes start events log fault (refusal.Unreadable place) by read same h = by

@@ -5,7 +5,7 @@ use Rattle.nv_bpf.specs.declared.op.Op.{Op}
 use Rattle.nv_machine.specs.Guest.{Machine}
 use Rattle.nv_command.specs.Words.{Limits}
 use Rattle.nv_script.specs.Scripts.{Setup}
-use Rattle.nv_sockets.specs.Serving.{start_of_script}
+use Rattle.nv_arriving.specs.Scripted.{start_from}
 use Rattle.nv_threads.specs.Threads.{Proc, threads, started}
 use Rattle.nv_replay.specs.declared.standing.Standing.{Standing}
 use Rattle.nv_replay.specs.Follow.{is_exited, judge_of}
@@ -23,11 +23,11 @@ process_begun limits machine = started machine limits.budget
 -- The account is that of the sequential monitor over what the script says, its planned lengths, this filter and these machines, with at most as many events as the limits say and with the cuts that it tells.
 -- Each version has one fate, and each event lies in exactly one of the spans; where no length is planned each version led at most one. One that exited without a rewrite would come to this log alone.
 pub record IsRunOf (limits : Limits) (setup : Setup) (rules : Option (List Op)) (machines : List Machine) (account : Account) : Type 0 where
-  pub is_account : account ≡ sequence threads (judge_of rules) (start_of_script setup) limits.calls (cuts_of account.lines) setup.hands (map (process_begun limits) machines)
+  pub is_account : account ≡ sequence threads (judge_of rules) (start_from setup) limits.calls (cuts_of account.lines) setup.hands (map (process_begun limits) machines)
   pub settled : AreEnded account.lines
   pub covers : Covers account.lines account.log
   pub unplanned : setup.hands ≡ [] → AreSettled account.lines
-  pub survivor : SurvivorsAgree threads (start_of_script setup) limits.calls setup.hands (map (process_begun limits) machines) account.lines account.log
+  pub survivor : SurvivorsAgree threads (start_from setup) limits.calls setup.hands (map (process_begun limits) machines) account.lines account.log
 
 -- 0 where a version exited; else 7 where one wanted memory; else 1
 abbrev pub run_status : List Standing → ℕ

@@ -18,12 +18,11 @@ use Rattle.nv_jobs.specs.Generated.{IsMadeRun}
 use Rattle.nv_jobs.specs.Made.{made_of}
 use Rattle.nv_jobs.specs.Outcome.{Outcome, Usage, NoMemory, NotRead, NotAccepted, Reported, Made, Summed, Recorded, TraceTooLong, Replayed, Shown, Helped, Source, name_at, name_on, text_of, outcome_status, ended_with}
 use Rattle.nv_calls.specs.Calls.{Entry}
-use Rattle.nv_calls.specs.Logs.{calls_of}
 use Rattle.nv_fs.specs.States.{FileState}
 use Rattle.nv_inspect.specs.Shown.{show_text}
 use Rattle.nv_replay.specs.Follow.{Follower, follow, fresh, judge_of}
 use Rattle.nv_inspect.specs.Points.{at_point}
-use Rattle.nv_sockets.specs.Serving.{first_state, state_after}
+use Rattle.nv_arriving.specs.Scripted.{stage_from}
 use Rattle.nv_threads.specs.Threads.{Proc, threads}
 use Rattle.nv_jobs.specs.Tracing.{trace_point}
 use Rattle.nv_jobs.specs.Traced.{TraceFinds, AreTraceFound, Traced, Lack, trace_finds_of, traced, trail_limits}
@@ -93,7 +92,7 @@ replayed trail files = Replayed (follow threads (judge_of files.rules trail.inde
 
 -- the files of the kernel after so many events of the log
 abbrev pub files_after : Setup → List Entry → FileState
-files_after setup log = (state_after (first_state setup) (calls_of log)).own.files
+files_after setup log = (stage_from setup log).here.state.own.files
 
 -- the version at a point of the log, and the files after the events that it has seen
 abbrev pub shown_of : Traced → Option (ℕ × ℕ) → Follower Proc → Outcome

@@ -9,7 +9,7 @@ use Rattle.nv_command.specs.Help.{help_of}
 use Rattle.nv_command.specs.Words.{Name, Plan, Trail}
 use Rattle.nv_calls.specs.Logs.{output_of, connections_of}
 use Rattle.nv_script.specs.Scripts.{Setup}
-use Rattle.nv_sockets.specs.Serving.{start_of_script}
+use Rattle.nv_arriving.specs.Scripted.{start_from}
 use Rattle.nv_sockets.specs.Texts.{connections_text}
 use Rattle.nv_replay.specs.Follow.{Follower, is_exited}
 use Rattle.nv_threads.specs.Threads.{Proc}
@@ -52,9 +52,9 @@ pub data Outcome : Type 0 where
 
 -- the report of an account, with what was written to the connections, or its JSON form and a newline
 abbrev pub account_text : Bool → Setup → Account → List ℕ
-account_text true setup account = json_text (output_of (start_of_script setup) account.log) account ++ codes "\n"
+account_text true setup account = json_text (output_of (start_from setup) account.log) account ++ codes "\n"
 account_text false setup account =
-    report_text (output_of (start_of_script setup) account.log) account ++ connections_text (connections_of (start_of_script setup) account.log)
+    report_text (output_of (start_from setup) account.log) account ++ connections_text (connections_of (start_from setup) account.log)
 
 -- what a run came to that left this on the console
 abbrev pub totals_of : List ℕ → Account → gen.Totals
@@ -73,7 +73,7 @@ text_of (NotRead name) = concat (codes "varan: read " ∷ name ∷ codes "\n" �
 text_of (NotAccepted name cause) = concat (codes "varan: input " ∷ name ∷ codes ": " ∷ cause_text cause ∷ codes "\n" ∷ [])
 text_of (Reported json setup account) = account_text json setup account
 text_of (Made text) = text
-text_of (Summed n setup account) = gen.summary n (totals_of (output_of (start_of_script setup) account.log) account)
+text_of (Summed n setup account) = gen.summary n (totals_of (output_of (start_from setup) account.log) account)
 text_of (Recorded account) = trace_of account.log
 text_of (TraceTooLong name) = concat (codes "varan: input " ∷ name ∷ codes ": " ∷ cause_text Long ∷ codes "\n" ∷ [])
 text_of (Replayed at) = replay_text at

@@ -9,7 +9,7 @@ use Rattle.nv_machine.specs.Guest.{Machine}
 use Rattle.nv_command.specs.Words.{Limits, Trail, usual}
 use Rattle.nv_script.specs.Scripts.{Setup, script_of}
 use Rattle.nv_script.specs.declared.fault.ScriptFault.{ScriptFault}
-use Rattle.nv_sockets.specs.Serving.{start_of_script}
+use Rattle.nv_arriving.specs.Scripted.{start_from}
 use Rattle.nv_trace.specs.declared.fault.TraceFault.{TraceFault}
 use Rattle.nv_trace.specs.declared.fault.CheckFault.{CheckFault}
 use Rattle.nv_trace.specs.Held.{log_in}
@@ -87,7 +87,7 @@ log_unless_faulty log (Some fault) = Err (causes.Trace fault)
 
 -- The log that is recorded in these bytes; or why they are no trace, or why a kernel over what the script says doesn't come to its events.
 unfoldable pub trace_of_file : Setup → List ℕ → Result (List Entry) Cause
-trace_of_file setup bytes = log_unless_faulty (unless_unsound (log_in bytes) (check_fault (start_of_script setup) (log_in bytes))) (trace_fault bytes)
+trace_of_file setup bytes = log_unless_faulty (unless_unsound (log_in bytes) (check_fault (start_from setup) (log_in bytes))) (trace_fault bytes)
 
 abbrev pub of_trace : Result (List Entry) Cause → Result (List Entry) Lack
 of_trace (Ok log) = Ok log

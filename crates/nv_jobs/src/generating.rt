@@ -14,12 +14,12 @@ ghost use Rattle.nv_jobs.specs.declared.refusal.Refusal.TheVariants.{Memory};
 
 use crate::preparing::{Prepared, filter_in, load, script_in, version};
 use crate::refusal::{Place, Refusal};
+use nv_arriving::ScriptedKernel;
 use nv_bpf::Filter;
 use nv_command::Limits;
 use nv_gen_laws::{rules_are_read, script_is_read, versions_fit_the_default_memory};
 use nv_replay::Version;
 use nv_script::Script;
-use nv_sockets::SocketKernel;
 use std::alloc::Global;
 
 // The script of a made run, which is one.
@@ -99,7 +99,7 @@ pub fn generate(alloc: Global, number: u32) -> Result<Prepared, Refusal>
     let script = read_script(alloc, &made.script)?;
     let rules = read_rules(alloc, &made.rules)?;
     let versions = read_versions(alloc, &script, &made.versions)?;
-    let kernel = SocketKernel::make(alloc, &script)?;
+    let kernel = ScriptedKernel::make(alloc, &script)?;
     Ok(Prepared {
         kernel,
         rules: Some(rules),

@@ -8,7 +8,7 @@ ghost use Rattle.nv_replay.specs.Version.{IsFresh};
 ghost use Rattle.nv_inspect.specs.Points.{events_to, budget_to};
 ghost use Rattle.nv_script.specs.Scripts.{is_script};
 ghost use Rattle.nv_script.specs.Views.{setup_of};
-ghost use Rattle.nv_sockets.specs.Serving.{start_of_script};
+ghost use Rattle.nv_arriving.specs.Scripted.{start_from};
 ghost use Rattle.nv_threads.specs.Threads.{threads};
 ghost use Rattle.nv_trace.specs.Checks.{AreSoundEvents};
 ghost use Rattle.nv_jobs.specs.Due.{Answers, files_after};
@@ -57,7 +57,7 @@ fn show_at<S: Sink>(
     requires fresh { IsFresh threads traced.version.index traced.version }
     requires settled { traced.version.eager ≡ false }
     requires script { IsTrue (is_script (setup_of traced.script)) }
-    requires sound { AreSoundEvents (start_of_script (setup_of traced.script)) traced.kernel.log }
+    requires sound { AreSoundEvents (start_from (setup_of traced.script)) traced.kernel.log }
     requires dump { IsDump dump }
     ensures { let at = follow threads (judge_of traced.rules traced.version.index) (events_to point traced.kernel.log) (fresh traced.version.at.process) in
         Wrote (show_text at (files_after (setup_of traced.script) (take at.seen traced.kernel.log)) dump) 0

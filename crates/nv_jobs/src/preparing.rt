@@ -15,6 +15,7 @@ ghost use Rattle.nv_jobs.specs.inner.Refusals.{ReadRefused, IsScriptRefusal, IsF
 
 use crate::limits::FILE_LIMIT;
 use crate::refusal::{Cause, Place, Refusal};
+use nv_arriving::ScriptedKernel;
 use nv_bpf::{Filter, FilterFault};
 use nv_command::{Limits, Run};
 use nv_elf::ElfFault;
@@ -22,7 +23,6 @@ use nv_guest::{Guest, GuestFault};
 use nv_outside::{Files, Got};
 use nv_replay::Version;
 use nv_script::{Script, ScriptFault};
-use nv_sockets::SocketKernel;
 use nv_threads::Process;
 use std::alloc::Global;
 
@@ -30,7 +30,7 @@ use std::alloc::Global;
 /// log at which the leader hands over.
 #[derive(Drop)]
 pub struct Prepared {
-    pub kernel: SocketKernel,
+    pub kernel: ScriptedKernel,
     pub rules: Option<Filter>,
     pub versions: Vec<Version>,
     pub hands: Vec<u32>,
@@ -228,7 +228,7 @@ pub fn prepare<F: Files>(alloc: Global, files: &mut F, plan: &Run<'_>) -> Result
     };
     match read_versions(alloc, files, plan.limits, &script, &plan.versions) {
         Ok(versions) => {
-            let kernel = SocketKernel::make(alloc, &script)?;
+            let kernel = ScriptedKernel::make(alloc, &script)?;
             Ok(Prepared {
                 kernel,
                 rules,

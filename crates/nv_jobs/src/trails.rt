@@ -3,7 +3,7 @@ ghost use Rattle.std.specs.Prelude.{◌≡◌, ◌≤◌, List, ℕ, Ok, IsTrue,
 ghost use Rattle.nv_command.specs.Seen.{limits_view, trail_view};
 ghost use Rattle.nv_script.specs.Scripts.{is_script};
 ghost use Rattle.nv_script.specs.Views.{setup_of};
-ghost use Rattle.nv_sockets.specs.Serving.{start_of_script};
+ghost use Rattle.nv_arriving.specs.Scripted.{start_from};
 ghost use Rattle.nv_trace.specs.Checks.{AreSoundEvents};
 ghost use Rattle.nv_jobs.specs.Found.{FILE_LIMIT, TRACE_LIMIT};
 ghost use Rattle.nv_jobs.specs.Traced.{script_at, log_at, machine_traced, trace_of_file, trail_limits};
@@ -12,12 +12,12 @@ ghost use Rattle.nv_jobs.specs.inner.Trails.{Gives, StepRefused, IsTraceRefusal,
 use crate::limits::{FILE_LIMIT, TRACE_LIMIT};
 use crate::preparing::{load, read_file, read_rules, script_in, version};
 use crate::refusal::{Place, Refusal};
+use nv_arriving::ScriptedKernel;
 use nv_bpf::Filter;
 use nv_command::{Limits, Trail};
 use nv_outside::Files;
 use nv_replay::Version;
 use nv_script::Script;
-use nv_sockets::SocketKernel;
 use nv_trace::check;
 use std::alloc::Global;
 
@@ -27,7 +27,7 @@ use std::alloc::Global;
 pub struct TracedVersion {
     pub script: Script,
     pub rules: Option<Filter>,
-    pub kernel: SocketKernel,
+    pub kernel: ScriptedKernel,
     pub version: Version,
 }
 
@@ -45,14 +45,14 @@ fn read_script<F: Files>(alloc: Global, files: &mut F, name: &str) -> Result<Scr
 }
 
 // The kernel of the script, where it comes to the events of the trace in these bytes, which it has served.
-fn kernel_in(alloc: Global, script: &Script, bytes: &[u8]) -> Result<SocketKernel, Refusal>
+fn kernel_in(alloc: Global, script: &Script, bytes: &[u8]) -> Result<ScriptedKernel, Refusal>
     requires script { IsTrue (is_script (setup_of script.now)) }
     ensures log { IfOk result (λ kernel. trace_of_file (setup_of script.now) bytes.now ≡ Ok kernel.log) }
-    ensures sound { IfOk result (λ kernel. AreSoundEvents (start_of_script (setup_of script.now)) kernel.log) }
+    ensures sound { IfOk result (λ kernel. AreSoundEvents (start_from (setup_of script.now)) kernel.log) }
     ensures refused { IfErr result (λ refusal. IsTraceRefusal refusal (setup_of script.now) bytes.now) }
 {
     let events = nv_trace::read(alloc, bytes)?;
-    let mut kernel = SocketKernel::make(alloc, script)?;
+    let mut kernel = ScriptedKernel::make(alloc, script)?;
     check(&mut kernel, &events)?;
     Ok(kernel)
 }
@@ -62,10 +62,10 @@ fn read_log<F: Files>(
     files: &mut F,
     name: &str,
     script: &Script,
-) -> Result<SocketKernel, Refusal>
+) -> Result<ScriptedKernel, Refusal>
     requires script { IsTrue (is_script (setup_of script.now)) }
     ensures log { IfOk result (λ kernel. Gives (log_at (setup_of script.now)) TRACE_LIMIT (F.holds files.old name.now) (Ok kernel.log)) }
-    ensures sound { IfOk result (λ kernel. AreSoundEvents (start_of_script (setup_of script.now)) kernel.log) }
+    ensures sound { IfOk result (λ kernel. AreSoundEvents (start_from (setup_of script.now)) kernel.log) }
     ensures refused { IfErr result (λ refusal. StepRefused refusal Place.Trace (log_at (setup_of script.now)) (F.holds files.old name.now)
         (F.faults files.old) (F.faults files.new) (F.taken files.old) (F.taken files.new)) }
     ensures same { (name : List ℕ) → F.holds files.new name ≡ F.holds files.old name }

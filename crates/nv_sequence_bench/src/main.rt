@@ -9,11 +9,11 @@ ghost use Rattle.nv_replay.specs.Version.{IsFresh};
 mod output;
 
 use anyhow::{Result, bail};
+use nv_arriving::ScriptedKernel;
 use nv_calls::MOST_EVENTS;
 use nv_guest::Guest;
 use nv_outside::{Gathering, Put};
 use nv_replay::{Account, Version};
-use nv_sockets::SocketKernel;
 use nv_threads::Process;
 use output::Output;
 use std::alloc::Global;
@@ -33,14 +33,14 @@ fn version(alloc: Global, file: &[u8]) -> Option<Version>
     Version::make(alloc, 0, process, false).ok()
 }
 
-fn kernel(alloc: Global) -> Option<SocketKernel>
+fn kernel(alloc: Global) -> Option<ScriptedKernel>
     ensures { IfSome result (λ kernel. kernel.log ≡ []) }
 {
     let script = nv_script::read(alloc, b"varan-script 1\n").ok()?;
-    SocketKernel::make(alloc, &script).ok()
+    ScriptedKernel::make(alloc, &script).ok()
 }
 
-fn account(alloc: Global, file: &[u8]) -> Option<Account<SocketKernel>> {
+fn account(alloc: Global, file: &[u8]) -> Option<Account<ScriptedKernel>> {
     let version = version(alloc, file)?;
     let kernel = kernel(alloc)?;
     let versions = vec![in alloc; version].ok()?;

@@ -8,7 +8,7 @@ use Rattle.nv_calls.specs.Calls.{Entry}
 use Rattle.nv_machine.specs.Guest.{Machine}
 use Rattle.nv_replay.specs.Version.{Running, IsFresh}
 use Rattle.nv_script.specs.Scripts.{Setup}
-use Rattle.nv_sockets.specs.Serving.{start_of_script}
+use Rattle.nv_arriving.specs.Scripted.{start_from}
 use Rattle.nv_threads.specs.Threads.{Proc, threads, started}
 use Rattle.nv_trace.specs.Checks.{AreSoundEvents}
 use Rattle.nv_jobs.specs.Found.{Found, AgreesWithin, FILE_LIMIT, TRACE_LIMIT, TookMore}
@@ -79,4 +79,4 @@ pub record IsTraced (trail : Trail) (budget : ℕ) (holds : List ℕ → Told) (
   pub begins : version.at.process ≡ started machine budget
   pub fresh : IsFresh threads trail.index version
   pub settled : version.eager ≡ false
-  pub sound : AreSoundEvents (start_of_script setup) log
+  pub sound : AreSoundEvents (start_from setup) log

@@ -1,6 +1,7 @@
 use Rattle.std.proofs.Common.{◌≡◌, ◌∙◌, ap, sym, subst, inl, inr, List, map, option_map, false}
 use Rattle.std.specs.List.{list_any}
 use Rattle.nv_calls.specs.Logs.{Start}
+use Rattle.nv_arriving.specs.Scripted.{start_from}
 use Rattle.nv_command.specs.Seen.{limits_view}
 use Rattle.nv_replay.specs.Follow.{judge_of}
 use Rattle.nv_replay.specs.Lead.{is_memory}
@@ -22,7 +23,7 @@ returns g c = λ machines are.
     let lines = map standing_of c.in-Ok.account.versions.items in
     let limits = limits_view c.args.limits in
     let rules = option_map (λ f. f.now) c.args.rules in
-    let told = subst (λ (start : Start). IsAccount threads (judge_of rules) start limits.calls c.args.hands.now.items c.args.versions.items c.in-Ok.account.versions.items log) c.in-Ok.ensures.start c.in-Ok.ensures.account in
+    let told = subst (λ (start : Start). IsAccount threads (judge_of rules) start limits.calls c.args.hands.now.items c.args.versions.items c.in-Ok.account.versions.items log) (ap start_from c.in-Ok.ensures.start) c.in-Ok.ensures.account in
     let never : list_any (λ line. is_memory line.fate) lines ≡ false =
     ap (λ (versions : List (Running Proc)). list_any (λ line. is_memory line.fate) (map standing_of versions)) (sym c.deref.ensures.value) ∙ sym c.starved.ensures ∙ c.if-starved.false in
     inl (record {

@@ -1,5 +1,6 @@
-use Rattle.std.proofs.Common.{◌++◌, codes, inl, inr, ⊎_elim, subst, map, option_map}
+use Rattle.std.proofs.Common.{◌++◌, ap, codes, inl, inr, ⊎_elim, subst, map, option_map}
 use Rattle.nv_calls.specs.Logs.{Start, output_of, connections_of}
+use Rattle.nv_arriving.specs.Scripted.{start_from}
 use Rattle.nv_command.specs.Seen.{limits_view}
 use Rattle.nv_replay.specs.Follow.{judge_of}
 use Rattle.nv_replay.specs.Version.{standing_of}
@@ -21,11 +22,11 @@ returns-then-json g c = λ machines are.
     let setup = c.args.kernel.setup in
     let limits = limits_view c.args.limits in
     let rules = option_map (λ f. f.now) c.args.rules in
-    let told = subst (λ (start : Start). IsAccount threads (judge_of rules) start limits.calls c.args.hands.now.items c.args.versions.items c.in-Ok.account.versions.items log) c.in-Ok.ensures.start c.in-Ok.ensures.account in
+    let told = subst (λ (start : Start). IsAccount threads (judge_of rules) start limits.calls c.args.hands.now.items c.args.versions.items c.in-Ok.account.versions.items log) (ap start_from c.in-Ok.ensures.start) c.in-Ok.ensures.account in
     let says = subst
     (λ (s : Start). Wrote (json_text (output_of s log) (record { log = log; lines = lines }) ++ codes "\n")
     (run_status lines) (g.S.Sink.told c.args.sink.now) (g.S.Sink.faults c.args.sink.now) c.put_json.result (g.S.Sink.told c.put_json.new.sink) (g.S.Sink.faults c.put_json.new.sink))
-    c.in-Ok.ensures.start c.put_json.ensures in
+    (ap start_from c.in-Ok.ensures.start) c.put_json.ensures in
     ⊎_elim (λ said. inl (record {
       account = record { log = log; lines = lines };
       is_run = run_of limits setup rules machines c.args.hands.now.items c.args.versions.items c.in-Ok.account.versions.items log c.requires.planned told are;
@@ -39,12 +40,12 @@ returns g c = λ machines are.
     let setup = c.args.kernel.setup in
     let limits = limits_view c.args.limits in
     let rules = option_map (λ f. f.now) c.args.rules in
-    let told = subst (λ (start : Start). IsAccount threads (judge_of rules) start limits.calls c.args.hands.now.items c.args.versions.items c.in-Ok.account.versions.items log) c.in-Ok.ensures.start c.in-Ok.ensures.account in
+    let told = subst (λ (start : Start). IsAccount threads (judge_of rules) start limits.calls c.args.hands.now.items c.args.versions.items c.in-Ok.account.versions.items log) (ap start_from c.in-Ok.ensures.start) c.in-Ok.ensures.account in
     inl (record {
       account = record { log = log; lines = lines };
       is_run = run_of limits setup rules machines c.args.hands.now.items c.args.versions.items c.in-Ok.account.versions.items log c.requires.planned told are;
       says = rw c.if-json.false (subst
           (λ (s : Start). Says (report_text (output_of s log) (record { log = log; lines = lines }) ++ connections_text (connections_of s log))
           (run_status lines) (g.S.Sink.told c.args.sink.now) (g.S.Sink.faults c.args.sink.now) c.put_report.result (g.S.Sink.told c.put_report.new.sink) (g.S.Sink.faults c.put_report.new.sink))
-          c.in-Ok.ensures.start c.put_report.ensures);
+          (ap start_from c.in-Ok.ensures.start) c.put_report.ensures);
     })

@@ -3,11 +3,12 @@ use Rattle.std.specs.Prelude.{option_map}
 use Rattle.std.specs.List.{list_any}
 use Rattle.nv_calls.specs.Logs.{Start, output_of}
 use Rattle.nv_gen.specs.Made.{summary}
-use Rattle.nv_sockets.specs.Serving.{start_of_script}
+use Rattle.nv_arriving.specs.Scripted.{start_from}
 use Rattle.nv_replay.specs.Follow.{judge_of}
 use Rattle.nv_replay.specs.Lead.{is_memory}
 use Rattle.nv_replay.specs.Sequence.{Account, cuts_of}
 use Rattle.nv_replay.specs.Version.{Running, process_of, standing_of}
+use Rattle.nv_script.specs.Scripts.{Setup}
 use Rattle.nv_threads.specs.Threads.{Proc, threads}
 use Rattle.nv_workers.specs.Ends.{IsAccount}
 use Rattle.nv_command.specs.Seen.{limits_view}
@@ -28,7 +29,7 @@ returns-then-starved g c = record { outcome = NoMemory; owed = inr refl; says = 
 
 pub totals-requires-after_bounds : goal.totals-requires-after_bounds
 totals-requires-after_bounds g c κs =
-    few_lines (judge_of (option_map (λ f. f.now) c.as_ref.result)) (start_of_script c.in-Ok.account.kernel.setup) c.usual-limits.result.calls
+    few_lines (judge_of (option_map (λ f. f.now) c.as_ref.result)) (start_from c.in-Ok.account.kernel.setup) c.usual-limits.result.calls
     (cuts_of (map standing_of c.in-Ok.account.versions.items)) c.args.made.hands.items c.args.made.versions.items c.in-Ok.account.versions.items c.in-Ok.account.kernel.log
     c.in-Ok.ensures.account.account c.requires.made.few
 
@@ -44,12 +45,12 @@ returns-in-Ok-summary g c =
     let rules = option_map (λ f. f.now) c.as_ref.result in
     let begin : map process_of c.args.made.versions.items ≡ map (process_begun limits) made.machines =
     made.processes ∙ ap (λ (x : Limits). map (process_begun x) made.machines) (sym c.usual-limits.ensures) in
-    let told = subst (λ (start : Start). IsAccount threads (judge_of rules) start limits.calls c.args.made.hands.items c.args.made.versions.items c.in-Ok.account.versions.items log) c.in-Ok.ensures.start c.in-Ok.ensures.account in
+    let told = subst (λ (start : Start). IsAccount threads (judge_of rules) start limits.calls c.args.made.hands.items c.args.made.versions.items c.in-Ok.account.versions.items log) (ap start_from c.in-Ok.ensures.start) c.in-Ok.ensures.account in
     let run = run_of limits setup rules made.machines c.args.made.hands.items c.args.made.versions.items c.in-Ok.account.versions.items log c.requires.planned told begin in
     let never : list_any (λ line. is_memory line.fate) lines ≡ false =
     ap (λ (versions : List (Running Proc)). list_any (λ line. is_memory line.fate) (map standing_of versions)) (sym c.deref.ensures.value) ∙ sym c.starved.ensures ∙ c.if-starved.false in
-    let text : c.deref-in-Ok-summary.result.now ≡ summary n (totals_of (output_of (start_of_script setup) log) account) =
-    c.deref-in-Ok-summary.ensures.value ∙ c.in-Ok-summary.ensures ∙ ap (summary n) (c.totals.ensures ∙ ap (λ (start : Start). totals_of (output_of start log) account) c.in-Ok.ensures.start) in
+    let text : c.deref-in-Ok-summary.result.now ≡ summary n (totals_of (output_of (start_from setup) log) account) =
+    c.deref-in-Ok-summary.ensures.value ∙ c.in-Ok-summary.ensures ∙ ap (summary n) (c.totals.ensures ∙ ap (λ (s : Setup). totals_of (output_of (start_from s) log) account) c.in-Ok.ensures.start) in
     record {
       outcome = Summed n setup account;
       owed = inl (made_owes n setup c.args.made.rules rules made.machines limits account made.run c.as_ref.ensures.value c.usual-limits.ensures run never);

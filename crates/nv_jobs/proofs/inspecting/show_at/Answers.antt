@@ -25,7 +25,7 @@ returns g c =
     let is : c.bring.new.version.at ≡ at = c.bring.ensures.at ∙ ap by c.as_ref.ensures.value in
     let seen : c.standing.result.now.seen ≡ at.seen = ap (λ s. s.seen) c.standing.ensures ∙ ap (λ (a : Follower Proc). a.seen) is in
     let earlier = c.in-Ok.ensures in
-    let files = c.files.ensures.state ∙ ap₂ (λ (s : Setup) (l : List Entry). files_after s l) earlier.setup (earlier.log ∙ ap (λ n. take n log) seen) in
+    let files = c.files.ensures ∙ ap₂ (λ (s : Setup) (l : List Entry). files_after s l) earlier.setup (earlier.log ∙ ap (λ n. take n log) seen) in
     inl (record {
       put = c.show-put.result;
       ends = c.ended.ensures;
