@@ -203,7 +203,6 @@ impl ArrivingKernel<Nothing> {
 }
 
 impl<O: Outside + Send> SyscallKernel for ArrivingKernel<O> {
-    ghost use Rattle.std.specs.Coded.{codes};
     ghost use Rattle.nv_kernel.specs.Codes.{setup_code};
     ghost use Rattle.nv_arriving.specs.Arriving.{start_of_arrivals};
     ghost use Rattle.nv_arriving.specs.Beginnings.{begun_code};
@@ -213,7 +212,7 @@ impl<O: Outside + Send> SyscallKernel for ArrivingKernel<O> {
 
     ghost Beginning = { Begun O };
 
-    ghost beginning_code = { begun_code setup_code (Prim.search codes) };
+    ghost beginning_code = { begun_code setup_code O.code };
 
     ghost start = { begun_in };
 

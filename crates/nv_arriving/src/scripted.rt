@@ -65,7 +65,7 @@ impl ScriptedKernel {
 }
 
 impl SyscallKernel for ScriptedKernel {
-    ghost use Rattle.std.specs.Coded.{codes};
+    ghost use Rattle.nv_kernel.specs.Codes.{setup_code};
     ghost use Rattle.nv_script.specs.Scripts.{Setup};
     ghost use Rattle.nv_arriving.specs.Kernel.{CanServe};
     ghost use Rattle.nv_arriving.specs.Scripted.{start_from};
@@ -74,7 +74,7 @@ impl SyscallKernel for ScriptedKernel {
 
     ghost Beginning = { Setup };
 
-    ghost beginning_code = { Prim.hlevel codes };
+    ghost beginning_code = { setup_code };
 
     ghost start = { λ k. k.setup };
 
