@@ -5,5 +5,5 @@ use Rattle.nv_script.specs.Scripts.{Setup}
 use Rattle.nv_arriving.specs.Kernel.{Begun}
 
 -- as the pair of its fields
-abbrev pub begun_code : {O : Type 0} → Coded Setup → Coded O → Coded (Begun O)
-begun_code {O} setup outside = code_by (Setup × O) (coded× setup outside) (λ b. (b.setup, b.outside)) (λ p. record { setup = p.0; outside = p.1 }) (λ _. refl)
+abbrev pub begun_code : {T : Type 0} → Coded Setup → Coded T → Coded (Begun T)
+begun_code {T} setup told = code_by (Setup × T) (coded× setup told) (λ b. (b.setup, b.told)) (λ p. record { setup = p.0; told = p.1 }) (λ _. refl)

@@ -11,10 +11,10 @@ use Rattle.nv_arriving.specs.Arrivals.{in_vain}
 use Rattle.nv_arriving.specs.Arriving.{Stage, first_stage, stage_after, wants, taken}
 use Rattle.nv_arriving.specs.Reserved.{Room, CanTakeIn}
 
--- what a kernel is made over: what the script gives, and the outside as it was then
-pub record Begun (O : Type 0) : Type 0 where
+-- what a kernel is made over: what the script gives, and what the outside told then
+pub record Begun (T : Type 0) : Type 0 where
   pub setup : Setup
-  pub outside : O
+  pub told : T
 
 -- The log, what the script gave, the outside as the kernel was made and as it is, all that has come, whether something of it was heard before its call was served
 -- or was more than that took in, whether nothing more comes, the memory of the event that is made for the next call, and the files and the sockets with theirs.
@@ -30,8 +30,8 @@ pub record KernelState (O : Type 0) : Type 0 where
   pub room : Room
 
 -- what it was made over
-abbrev pub begun_in : {O : Type 0} → KernelState O → Begun O
-begun_in k = record { setup = k.setup; outside = k.begun }
+abbrev pub begun_in : {O T : Type 0} → (O → T) → KernelState O → Begun T
+begun_in told k = record { setup = k.setup; told = told k.begun }
 
 -- what the calls served left
 abbrev pub stage_of : {O : Type 0} → KernelState O → Stage

@@ -21,6 +21,7 @@ use crate::waiting::taken_for;
 use nv_arrivals::{Arrival, Outside};
 use nv_calls::{Bytes, Call, Event, MOST_BYTES};
 use nv_fs::FileSystem;
+use nv_live::Telling;
 use nv_kernel::spare::{blank, fill, keep, next_end};
 use nv_script::Script;
 use nv_served::SyscallKernel;
@@ -202,7 +203,7 @@ impl ArrivingKernel<Nothing> {
     }
 }
 
-impl<O: Outside + Send> SyscallKernel for ArrivingKernel<O> {
+impl<O: Outside + Telling + Send> SyscallKernel for ArrivingKernel<O> {
     ghost use Rattle.nv_kernel.specs.Codes.{setup_code};
     ghost use Rattle.nv_arriving.specs.Arriving.{start_of_arrivals};
     ghost use Rattle.nv_arriving.specs.Beginnings.{begun_code};
@@ -210,11 +211,11 @@ impl<O: Outside + Send> SyscallKernel for ArrivingKernel<O> {
 
     ghost log = { λ k. k.log };
 
-    ghost Beginning = { Begun O };
+    ghost Beginning = { Begun O.Told };
 
-    ghost beginning_code = { begun_code setup_code O.code };
+    ghost beginning_code = { begun_code setup_code O.told_code };
 
-    ghost start = { begun_in };
+    ghost start = { begun_in O.told };
 
     // What has come, taken in or not.
     ghost known = { λ k. start_of_arrivals k.setup k.came };
@@ -224,7 +225,7 @@ impl<O: Outside + Send> SyscallKernel for ArrivingKernel<O> {
     fn reserve(&mut self, call: &Call) -> Result<(), AllocError>
         requires shaped { IsShaped (request call.now) }
         ensures log { self.new.log ≡ self.old.log }
-        ensures start { begun_in self.new ≡ begun_in self.old }
+        ensures start { begun_in O.told self.new ≡ begun_in O.told self.old }
         ensures known { GoesOn self.old.log (start_of_arrivals self.old.setup self.old.came) (start_of_arrivals self.new.setup self.new.came) }
         ensures ready { OnOk result (CanServe self.new (request call.now)) }
         ensures over { self.old.over ≡ true → self.new.over ≡ true }
@@ -255,7 +256,7 @@ impl<O: Outside + Send> SyscallKernel for ArrivingKernel<O> {
         requires lives { Contains (live_after self.old.log) call.now.tid }
         requires few { length self.old.log < MOST_EVENTS }
         ensures log { self.new.log ≡ self.old.log ++ served (start_of_arrivals self.old.setup self.old.came) self.old.log (request call.now) ∷ [] }
-        ensures start { begun_in self.new ≡ begun_in self.old }
+        ensures start { begun_in O.told self.new ≡ begun_in O.told self.old }
         ensures known { start_of_arrivals self.new.setup self.new.came ≡ start_of_arrivals self.old.setup self.old.came }
         ensures over { self.new.over ≡ self.old.over }
         ensures came { self.new.came ≡ self.old.came }

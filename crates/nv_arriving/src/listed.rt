@@ -3,6 +3,7 @@ ghost use Rattle.std.specs.Prelude.{◌≡◌, IfOk, map};
 ghost use Rattle.nv_arrivals.specs.Views.{view as arrival_of};
 
 use nv_arrivals::{Arrival, Outside, Said};
+use nv_live::Telling;
 use std::alloc::{AllocError, Global};
 
 /// An outside from which nothing comes, and which tells nothing of what is said.
@@ -17,6 +18,16 @@ impl Outside for Nothing {
     }
 
     fn say(&mut self, _said: &Said<'_>) {}
+}
+
+impl Telling for Nothing {
+    ghost use Rattle.nv_live.specs.Telling.{nothing_code};
+
+    ghost Told = { Unit {0} };
+
+    ghost told_code = { nothing_code };
+
+    ghost told = { λ _. tt };
 }
 
 // The same arrival, in memory of its own.

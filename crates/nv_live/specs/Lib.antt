@@ -8,3 +8,4 @@ pub mod SaidLines
 pub mod ComingLines
 pub mod Transcript
 pub mod Live
+pub mod Telling

@@ -1,0 +1,25 @@
+-- What an outside tells of itself as plain data.
+use Rattle.std.specs.Prelude.{ℕ, List, Option}
+use Rattle.std.specs.Coded.{Coded, codes}
+use Rattle.nv_outside.specs.declared.sink.Put.{Put}
+use Rattle.nv_live.specs.declared.incoming.Stopped.{Stopped}
+
+-- of one that tells nothing
+pub nothing_code : Coded (Unit {0})
+nothing_code = hlevel codes
+
+-- of a live run's: what each read gave, what is held of it and why no more is read; what was said and what was noted, each with whether all of it was written; and how often each has failed
+pub record Told : Type 0 where
+  pub read : Option (List (List ℕ))
+  pub unread : ℕ
+  pub held : List ℕ
+  pub stopped : Option Stopped
+  pub said : Option (List ℕ)
+  pub unsaid : ℕ
+  pub saying : Put
+  pub noted : Option (List ℕ)
+  pub unnoted : ℕ
+  pub noting : Put
+
+pub told_code : Coded Told
+told_code = hlevel codes
