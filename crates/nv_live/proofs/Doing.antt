@@ -16,12 +16,12 @@ use Rattle.nv_live.specs.Writer.{Written, WritesOn}
 use Rattle.nv_live.proofs.Noting.{lines-append}
 use Rattle.nv_live.proofs.Taking.{took_start}
 
-takings-append : (xs ys : List Doing) → takings (xs ++ ys) ≡ takings xs ++ takings ys
+pub takings-append : (xs ys : List Doing) → takings (xs ++ ys) ≡ takings xs ++ takings ys
 takings-append [] ys = refl
 takings-append (Takes a ∷ xs) ys = ap (λ later. a ∷ later) (takings-append xs ys)
 takings-append (Says s ∷ xs) ys = takings-append xs ys
 
-sayings-append : (xs ys : List Doing) → sayings (xs ++ ys) ≡ sayings xs ++ sayings ys
+pub sayings-append : (xs ys : List Doing) → sayings (xs ++ ys) ≡ sayings xs ++ sayings ys
 sayings-append [] ys = refl
 sayings-append (Takes a ∷ xs) ys = sayings-append xs ys
 sayings-append (Says s ∷ xs) ys = ap (λ later. s ∷ later) (sayings-append xs ys)
@@ -29,7 +29,7 @@ sayings-append (Says s ∷ xs) ys = ap (λ later. s ∷ later) (sayings-append x
 plain-more : (xs ys : List Doing) → plain_text (sayings xs) ++ plain_text (sayings ys) ≡ plain_text (sayings (xs ++ ys))
 plain-more xs ys = sym (ap plain_text (sayings-append xs ys) ∙ flat_map-append plain_bytes (sayings xs) (sayings ys))
 
-lines-more : (xs ys : List Doing) → lines_of (takings xs) ++ lines_of (takings ys) ≡ lines_of (takings (xs ++ ys))
+pub lines-more : (xs ys : List Doing) → lines_of (takings xs) ++ lines_of (takings ys) ≡ lines_of (takings (xs ++ ys))
 lines-more xs ys = sym (ap lines_of (takings-append xs ys) ∙ lines-append (takings xs) (takings ys))
 
 module _ {I O T : Type 0} (took : I → Option (List (List ℕ))) (unread : I → ℕ) (said : O → Option (List ℕ)) (unsaid : O → ℕ) (noted : T → Option (List ℕ)) (unnoted : T → ℕ) where

@@ -8,4 +8,5 @@ pub mod SaidLines
 pub mod ComingLines
 pub mod Transcript
 pub mod Live
+pub mod Clients
 pub mod Telling

@@ -13,3 +13,7 @@ lines_of arrivals = flat_map (λ arrival. line_text arrival ++ codes "\n") arriv
 -- what its lines are written by
 abbrev pub writer_in : {T : Type 0} → Transcript T → Writer T
 writer_in transcript = transcript.writer
+
+-- the line that is ready
+abbrev pub text_in : {T : Type 0} → Transcript T → List ℕ
+text_in transcript = transcript.text.items

@@ -1,12 +1,15 @@
 //! The outside of a live run, both ways: what comes, as arrivals, with its transcript, and what is said.
-//! Types: the trait `Source`; `Live`, `Stopped`; in memory `MemorySource`.
-//! Proved: the arrivals that are handed on are the bytes that the reads gave, cut as plain input is, none lost and none made up; the transcript has just
-//! their lines, each before its arrival is handed on, or a prefix of them where the count of faults rose; the bytes for the console stand in the sink
-//! of what is said, in order, or a prefix of them where its count of faults rose, and then nothing more comes.
+//! Types: the trait `Source`; `Live` (plain input and the console's bytes), `Clients` (many clients by lines over one pipe each way), `Stopped`;
+//! in memory `MemorySource`.
+//! Proved: the arrivals that are handed on are the bytes that the reads gave, cut as plain input is, or what their lines say, each of which may come next,
+//! none lost and none made up; the transcript has just their lines, each before its arrival is handed on, or a prefix of them where the count of faults rose;
+//! what is said stands in its sink, in order, as bytes for the console or as lines, or a prefix where its count of faults rose; once that or the
+//! source has stopped nothing more comes.
 //! Above: nothing yet.
 #![tactic(auto)]
 
 mod buffer;
+mod clients;
 mod coming_lines;
 mod incoming;
 mod live;
@@ -18,6 +21,7 @@ mod tests;
 mod transcript;
 mod writer;
 
+pub use clients::Clients;
 pub use incoming::Stopped;
 pub use live::Live;
 pub use memory_source::MemorySource;

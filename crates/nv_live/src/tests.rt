@@ -1,7 +1,7 @@
 // What comes of reads in memory, its transcript, and what is said.
 use crate::said_lines::SaidLines;
-use crate::{Live, MemorySource, Stopped};
-use nv_arrivals::{Arrival, Outside, Said};
+use crate::{Clients, Live, MemorySource, Stopped};
+use nv_arrivals::{Arrival, ArrivalCause, Outside, Said};
 use nv_outside::{MemorySink, Put};
 use std::alloc::{AllocError, Global};
 use std::test::Fail;
@@ -158,5 +158,86 @@ fn a_line_has_at_most_two_thousand_bytes(rt: HostRuntime) -> Result<(), Fail> {
     assert_eq!(rt; text.len(), 7 + 4000 + 1 + 7 + 2 + 1);
     assert!(rt; text.starts_with(b"output 6161"));
     assert!(rt; text.ends_with(b"6161\noutput 61\n"));
+    Ok(())
+}
+
+// Lines in two reads, the second of which begins within a line, and the end.
+fn visits(alloc: Global, first: &[u8], second: &[u8]) -> Result<MemorySource, AllocError> {
+    let mut reads = Vec::new(alloc);
+    for bytes in [first, second, b"".as_slice()] {
+        reads.push(bytes.to_vec(alloc)?)?;
+    }
+    Ok(MemorySource::make(reads))
+}
+
+#[test]
+fn clients_come_and_are_answered_by_lines(rt: HostRuntime) -> Result<(), Fail> {
+    let source = visits(
+        rt.alloc(),
+        b"# two clients\n\nconnect 8080\ndata 0 68",
+        b"69\nend 0\nend clients\n",
+    )?;
+    let mut clients = Clients::make(rt.alloc(), source, whole(rt.alloc())?, whole(rt.alloc())?)?;
+    let first = clients.next(rt.alloc())?;
+    assert!(rt; matches!(first, Some(Arrival::Connect(8080))));
+    clients.say(&Said::Accepted(0));
+    let second = clients.next(rt.alloc())?;
+    match &second {
+        Some(Arrival::Data(0, bytes)) => assert_eq!(rt; bytes.as_slice(), b"hi".as_slice()),
+        _ => assert!(rt; false),
+    }
+    clients.say(&Said::Sent(0, b"yes"));
+    let third = clients.next(rt.alloc())?;
+    assert!(rt; matches!(third, Some(Arrival::End(0))));
+    let fourth = clients.next(rt.alloc())?;
+    assert!(rt; matches!(fourth, Some(Arrival::ClientsEnd)));
+    let none = clients.next(rt.alloc())?;
+    assert!(rt; none.is_none());
+    assert!(rt; clients.stopped() == Some(Stopped::Ended));
+    clients.say(&Said::Closed(0));
+    let (_, out, transcript) = clients.finish();
+    assert_eq!(rt;
+        out.written(),
+        b"accept 0\ndata 0 796573\nclose 0\n".as_slice()
+    );
+    assert_eq!(rt;
+        transcript.written(),
+        b"connect 8080\ndata 0 6869\nend 0\nend clients\n".as_slice()
+    );
+    Ok(())
+}
+
+// The reason after the first line, which comes.
+fn stopped_after(
+    alloc: Global,
+    first: &[u8],
+    second: &[u8],
+) -> Result<Option<Stopped>, AllocError> {
+    let mut clients = Clients::make(
+        alloc,
+        visits(alloc, first, second)?,
+        whole(alloc)?,
+        whole(alloc)?,
+    )?;
+    let came = clients.next(alloc)?;
+    let none = clients.next(alloc)?;
+    if came.is_none() || none.is_some() {
+        return Ok(None);
+    }
+    Ok(clients.stopped())
+}
+
+#[test]
+fn refused_lines_end_what_comes(rt: HostRuntime) -> Result<(), Fail> {
+    let alloc = rt.alloc();
+    let range = stopped_after(alloc, b"connect 80\n\ndata 1 68\n", b"end 0\n")?;
+    assert!(rt; range == Some(Stopped::Refused(3, ArrivalCause::Range)));
+    let word = stopped_after(alloc, b"connect 80\n", b"hello\n")?;
+    assert!(rt; word == Some(Stopped::Refused(2, ArrivalCause::Word)));
+    let cut = stopped_after(alloc, b"connect 80\nend", b" 0")?;
+    assert!(rt; cut == Some(Stopped::CutOff(2)));
+    let long = vec![in alloc; b'#'; 4096]?;
+    let refused = stopped_after(alloc, b"connect 80\n", &long)?;
+    assert!(rt; refused == Some(Stopped::Refused(2, ArrivalCause::Long)));
     Ok(())
 }

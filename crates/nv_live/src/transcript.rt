@@ -2,7 +2,7 @@
 ghost use Rattle.std.specs.Prelude.{◌≡◌, OnOk, OnErr, ◌∷◌, []};
 ghost use Rattle.nv_arrivals.specs.Views.{view};
 ghost use Rattle.nv_outside.specs.declared.sink.Put.TheVariants.{Whole};
-ghost use Rattle.nv_live.specs.Transcript.{lines_of, writer_in};
+ghost use Rattle.nv_live.specs.Transcript.{lines_of, writer_in, text_in};
 ghost use Rattle.nv_live.specs.Writer.{sink_in, put_of, WritesOn};
 
 use crate::writer::Writer;
@@ -48,14 +48,30 @@ impl<T: Sink> Transcript<T> {
         writer.finish()
     }
 
+    /// Makes the line of an arrival ready.
+    pub fn set(&mut self, arrival: &Arrival) -> Result<(), AllocError>
+        ensures text { OnOk result (text_in self.new ≡ lines_of (view arrival.now ∷ [])) }
+        ensures kept { writer_in self.new ≡ writer_in self.old }
+    {
+        self.text.clear();
+        put_line(&mut self.text, arrival)?;
+        Ok(())
+    }
+
+    /// Writes the line that is ready, unless a write has failed.
+    pub fn write(&mut self)
+        ensures { WritesOn T.told T.faults (writer_in self.old) (writer_in self.new) (text_in self.old) }
+    {
+        self.writer.write(self.text.as_slice());
+    }
+
     /// Writes the line of an arrival, unless a write has failed.
     pub fn note(&mut self, arrival: &Arrival) -> Result<(), AllocError>
         ensures noted { OnOk result (WritesOn T.told T.faults (writer_in self.old) (writer_in self.new) (lines_of (view arrival.now ∷ []))) }
         ensures kept { OnErr result (writer_in self.new ≡ writer_in self.old) }
     {
-        self.text.clear();
-        put_line(&mut self.text, arrival)?;
-        self.writer.write(self.text.as_slice());
+        self.set(arrival)?;
+        self.write();
         Ok(())
     }
 }

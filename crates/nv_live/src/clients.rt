@@ -1,0 +1,144 @@
+// The outside of a live run of many clients.
+ghost use Rattle.std.specs.Prelude.{◌≡◌, ◌-◌, ◌<◌, ◌^◌, [], Ok, None, IfOk, false, true, is_some};
+ghost use Rattle.nv_arrivals.specs.Arrivals.{is_arrival};
+ghost use Rattle.nv_arrivals.specs.Reading.{arrival_of};
+ghost use Rattle.nv_arrivals.specs.Views.{view, taking};
+ghost use Rattle.nv_live.specs.Clients.{coming_of, lines_out_of, transcript_from, stop_among, DidLines, DoesLines};
+ghost use Rattle.nv_live.specs.ComingLines.{source_from, held_from, line_from, taken_from, stop_from, is_passed, IsWhole};
+ghost use Rattle.nv_live.specs.SaidLines.{writer_of};
+ghost use Rattle.nv_live.specs.Transcript.{writer_in};
+ghost use Rattle.nv_live.specs.Writer.{sink_in, put_of};
+
+use crate::coming_lines::ComingLines;
+use crate::said_lines::SaidLines;
+use crate::transcript::Transcript;
+use crate::{Source, Stopped};
+use nv_arrivals::{Arrival, Outside, Said};
+use nv_outside::{Put, Sink};
+use std::alloc::{AllocError, Global};
+
+/// Many clients by lines over one pipe each way: what comes, the transcript of what came, and what is said.
+#[derive(Drop)]
+pub struct Clients<I, O, T> {
+    coming: ComingLines<I>,
+    out: SaidLines<O>,
+    transcript: Transcript<T>,
+}
+
+impl<I: Source, O: Sink + Drop, T: Sink + Drop> Clients<I, O, T> {
+    /// Nothing was read yet and nothing said. The transcript may have its head.
+    pub fn make(
+        alloc: Global,
+        source: I,
+        out: O,
+        transcript: T,
+    ) -> Result<Clients<I, O, T>, AllocError>
+        ensures did { IfOk result (λ clients. DidLines I.took I.faults O.told O.faults T.told T.faults clients clients []) }
+        ensures source { IfOk result (λ clients. source_from (coming_of clients) ≡ source) }
+        ensures out { IfOk result (λ clients. sink_in (writer_of (lines_out_of clients)) ≡ out) }
+        ensures transcript { IfOk result (λ clients. sink_in (writer_in (transcript_from clients)) ≡ transcript) }
+        ensures going { IfOk result (λ clients. stop_among clients ≡ None) }
+    {
+        Ok(Clients {
+            coming: ComingLines::make(alloc, source)?,
+            out: SaidLines::make(out),
+            transcript: Transcript::make(alloc, transcript),
+        })
+    }
+
+    /// What it was made over.
+    pub fn finish(self) -> (I, O, T)
+        ensures source { result.0 ≡ source_from (coming_of self) }
+        ensures out { result.1 ≡ sink_in (writer_of (lines_out_of self)) }
+        ensures transcript { result.2 ≡ sink_in (writer_in (transcript_from self)) }
+    {
+        let Clients {
+            coming,
+            out,
+            transcript,
+        } = self;
+        (coming.finish(), out.finish(), transcript.finish())
+    }
+
+    /// Why nothing more comes.
+    pub fn stopped(&self) -> Option<Stopped>
+        ensures { result ≡ stop_among self.now }
+    {
+        match (self.coming.stopped(), self.out.put()) {
+            (Some(stopped), _) => Some(stopped),
+            (None, Put::Failed) => Some(Stopped::Unwritten),
+            (None, Put::Whole) => None,
+        }
+    }
+
+    /// Whether all that was said is written.
+    pub fn said(&self) -> Put
+        ensures { result ≡ put_of (writer_of (lines_out_of self.now)) }
+    {
+        self.out.put()
+    }
+
+    /// Whether the transcript is whole.
+    pub fn told(&self) -> Put
+        ensures { result ≡ put_of (writer_in (transcript_from self.now)) }
+    {
+        self.transcript.told()
+    }
+
+    // Takes the arrival of the line that was found, or refuses it.
+    fn take(&mut self, arrival: Arrival) -> Result<Option<Arrival>, AllocError>
+        requires whole { IsWhole (held_from (coming_of self.old)) }
+        requires going { stop_from (coming_of self.old) ≡ None }
+        requires says { is_passed (line_from (coming_of self.old)) ≡ false }
+        requires more { taken_from (coming_of self.old) < 2 ^ 64 - 1 }
+        requires arrival { arrival_of (line_from (coming_of self.old)) ≡ Ok (view arrival) }
+        requires sound { is_arrival (view arrival) ≡ true }
+        ensures took { DoesLines I.took I.faults O.told O.faults T.told T.faults self.old self.new (taking result) }
+        ensures over { result ≡ Ok None → is_some (stop_among self.new) ≡ true }
+    {
+        self.transcript.set(&arrival)?;
+        if !self.coming.admit(&arrival)? {
+            return Ok(None);
+        }
+        self.transcript.write();
+        Ok(Some(arrival))
+    }
+
+    // Takes what the line that was found says, or refuses it.
+    fn take_line(&mut self, alloc: Global) -> Result<Option<Arrival>, AllocError>
+        requires whole { IsWhole (held_from (coming_of self.old)) }
+        requires going { stop_from (coming_of self.old) ≡ None }
+        requires says { is_passed (line_from (coming_of self.old)) ≡ false }
+        requires more { taken_from (coming_of self.old) < 2 ^ 64 - 1 }
+        ensures took { DoesLines I.took I.faults O.told O.faults T.told T.faults self.old self.new (taking result) }
+        ensures over { result ≡ Ok None → is_some (stop_among self.new) ≡ true }
+    {
+        match self.coming.read(alloc)? {
+            Ok(arrival) => self.take(arrival),
+            Err(cause) => {
+                self.coming.refuse(cause);
+                Ok(None)
+            }
+        }
+    }
+}
+
+impl<I: Source, O: Sink + Drop, T: Sink + Drop> Outside for Clients<I, O, T> {
+    ghost did = { λ first later done. DidLines I.took I.faults O.told O.faults T.told T.faults first later done };
+
+    /// Its line stands in the transcript before it is handed on.
+    fn next(&mut self, alloc: Global) -> Result<Option<Arrival>, AllocError>
+        ensures took { DoesLines I.took I.faults O.told O.faults T.told T.faults self.old self.new (taking result) }
+        ensures over { result ≡ Ok None → is_some (stop_among self.new) ≡ true }
+        ensures stays { is_some (stop_among self.old) ≡ true → (result ≡ Ok None) × (self.new ≡ self.old) }
+    {
+        if self.stopped().is_some() || !self.coming.find()? {
+            return Ok(None);
+        }
+        self.take_line(alloc)
+    }
+
+    fn say(&mut self, said: &Said<'_>) {
+        self.out.say(said);
+    }
+}
