@@ -18,6 +18,8 @@ use nv_outside::{Put, Sink};
 use std::alloc::{AllocError, Global};
 
 /// Many clients by lines over one pipe each way: what comes, the transcript of what came, and what is said.
+/// What comes are the lines of arrivals, as a script has them; empty lines and those that begin with `#` are passed over.
+/// What is said are the lines `accept N`, `data N HEX`, `close N`, and `output HEX` for the console.
 #[derive(Drop)]
 pub struct Clients<I, O, T> {
     coming: ComingLines<I>,

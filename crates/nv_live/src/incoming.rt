@@ -18,9 +18,9 @@ pub enum Stopped {
     Unreadable,
     /// A write of what is said failed.
     Unwritten,
-    /// This line was refused.
+    /// This line, counted from 1, was refused; one of more than 4,096 bytes with its newline is `Long`.
     Refused(u32, ArrivalCause),
-    /// The end came within this line.
+    /// The end came within this line, before its newline.
     CutOff(u32),
 }
 
