@@ -13,7 +13,7 @@ use Rattle.nv_live.specs.Incoming.{held_of, HasTaken, TakesOn}
 use Rattle.nv_live.specs.Live.{plain_bytes, plain_text, Did, DoesOn}
 use Rattle.nv_live.specs.Transcript.{lines_of}
 use Rattle.nv_live.specs.Writer.{Written, WritesOn}
-use Rattle.nv_live.proofs.Noting.{lines-append}
+use Rattle.nv_live.proofs.Noting.{lines-append, writes-none, writes-is, writes-then}
 use Rattle.nv_live.proofs.Taking.{took_start}
 
 pub takings-append : (xs ys : List Doing) → takings (xs ++ ys) ≡ takings xs ++ takings ys
@@ -43,12 +43,12 @@ module _ {I O T : Type 0} (took : I → Option (List (List ℕ))) (unread : I �
       subst (λ put. Puts (told writer.sink) (faults writer.sink) [] put (told writer.sink) (faults writer.sink)) (sym whole) (puts-none (told writer.sink) (faults writer.sink))
 
   -- at the beginning nothing was done
-  pub did-none : (live : Live I O T) → live.incoming.stopped ≡ None → held_of live.incoming ≡ [] → live.out.put ≡ Whole → live.transcript.writer.put ≡ Whole
+  pub did-none : (live : Live I O T) → live.incoming.stopped ≡ None → held_of live.incoming ≡ [] → live.out.put ≡ Whole
       → Did took unread said unsaid noted unnoted live live []
-  did-none live going empty whole told = record {
+  did-none live going empty whole = record {
     taken = took_start (took live.incoming.source) (took live.incoming.source) (unread live.incoming.source) (unread live.incoming.source) live.incoming.stopped (held_of live.incoming) refl refl going empty;
     written = none-written said unsaid live.out whole;
-    lines = none-written noted unnoted live.transcript.writer told;
+    lines = writes-none noted unnoted live.transcript.writer;
   }
 
   -- one thing after another
@@ -62,7 +62,7 @@ module _ {I O T : Type 0} (took : I → Option (List (List ℕ))) (unread : I �
   did-parts old new more takes says notes = λ first done d. record {
     taken = subst (λ arrivals. HasTaken took unread first.incoming new.incoming arrivals) (sym (takings-append done more)) (takes first.incoming (takings done) d.taken);
     written = puts-is (plain-more done more) (says first.out (plain_text (sayings done)) d.written);
-    lines = puts-is (lines-more done more) (notes first.transcript.writer (lines_of (takings done)) d.lines);
+    lines = writes-is noted unnoted first.transcript.writer new.transcript.writer _ _ (lines-more done more) (writes-then noted unnoted first.transcript.writer old.transcript.writer new.transcript.writer _ _ d.lines notes);
   }
 
   takes-none : (old new : Incoming I) → TakesOn took unread old new (λ arrivals. arrivals) → TakesOn took unread old new (λ arrivals. arrivals ++ [])

@@ -5,3 +5,4 @@ pub mod Doing
 pub mod Serving
 pub mod Parts
 pub mod InMemory
+pub mod Showing

@@ -14,6 +14,7 @@ use Rattle.nv_live.specs.Clients.{clients_text, DidLines, DoesLines}
 use Rattle.nv_live.specs.SaidLines.{said_lines}
 use Rattle.nv_live.specs.Transcript.{lines_of}
 use Rattle.nv_live.specs.Writer.{Written, WritesOn}
+use Rattle.nv_live.proofs.Noting.{writes-none, writes-is, writes-then}
 use Rattle.nv_live.proofs.Doing.{takings-append, sayings-append, lines-more}
 
 clients-more : (xs ys : List Doing) → clients_text (sayings xs) ++ clients_text (sayings ys) ≡ clients_text (sayings (xs ++ ys))
@@ -30,12 +31,12 @@ module _ {I O T : Type 0} (took : I → Option (List (List ℕ))) (unread : I �
       subst (λ put. Puts (told writer.sink) (faults writer.sink) [] put (told writer.sink) (faults writer.sink)) (sym whole) (puts-none (told writer.sink) (faults writer.sink))
 
   -- at the beginning nothing was done
-  pub did-none : (clients : Clients I O T) → HasCome took unread clients.coming clients.coming [] → clients.out.writer.put ≡ Whole → clients.transcript.writer.put ≡ Whole
+  pub did-none : (clients : Clients I O T) → HasCome took unread clients.coming clients.coming [] → clients.out.writer.put ≡ Whole
       → DidLines took unread said unsaid noted unnoted clients clients []
-  did-none clients come whole told = record {
+  did-none clients come whole = record {
     taken = come;
     written = none-written said unsaid clients.out.writer whole;
-    lines = none-written noted unnoted clients.transcript.writer told;
+    lines = writes-none noted unnoted clients.transcript.writer;
   }
 
   -- one thing after another
@@ -49,7 +50,7 @@ module _ {I O T : Type 0} (took : I → Option (List (List ℕ))) (unread : I �
   did-parts old new more takes says notes = λ first done d. record {
     taken = subst (λ arrivals. HasCome took unread first.coming new.coming arrivals) (sym (takings-append done more)) (takes first.coming (takings done) d.taken);
     written = puts-is (clients-more done more) (says first.out.writer (clients_text (sayings done)) d.written);
-    lines = puts-is (lines-more done more) (notes first.transcript.writer (lines_of (takings done)) d.lines);
+    lines = writes-is noted unnoted first.transcript.writer new.transcript.writer _ _ (lines-more done more) (writes-then noted unnoted first.transcript.writer old.transcript.writer new.transcript.writer _ _ d.lines notes);
   }
 
   takes-none : (old new : ComingLines I) → ComesOn took unread old new (λ arrivals. arrivals) → ComesOn took unread old new (λ arrivals. arrivals ++ [])

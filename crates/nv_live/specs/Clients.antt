@@ -11,7 +11,7 @@ use Rattle.nv_live.specs.ComingLines.{HasCome}
 use Rattle.nv_live.specs.Live.{stop_with}
 use Rattle.nv_live.specs.SaidLines.{said_lines}
 use Rattle.nv_live.specs.Transcript.{lines_of}
-use Rattle.nv_live.specs.Writer.{Written}
+use Rattle.nv_live.specs.Writer.{Written, WritesOn}
 
 abbrev pub coming_of : {I O T : Type 0} → Clients I O T → ComingLines I
 coming_of clients = clients.coming
@@ -34,7 +34,7 @@ pub record DidLines {I O T : Type 0} (took : I → Option (List (List ℕ))) (un
     (first later : Clients I O T) (done : List Doing) : Type 0 where
   pub taken : HasCome took unread first.coming later.coming (takings done)
   pub written : Written said unsaid first.out.writer later.out.writer (clients_text (sayings done))
-  pub lines : Written noted unnoted first.transcript.writer later.transcript.writer (lines_of (takings done))
+  pub lines : WritesOn noted unnoted first.transcript.writer later.transcript.writer (lines_of (takings done))
 
 -- whatever was done before, this is done then
 abbrev pub DoesLines : {I O T : Type 0} → (I → Option (List (List ℕ))) → (I → ℕ) → (O → Option (List ℕ)) → (O → ℕ) → (T → Option (List ℕ)) → (T → ℕ) → Clients I O T → Clients I O T → List Doing → Type 0

@@ -10,3 +10,4 @@ pub mod Transcript
 pub mod Live
 pub mod Clients
 pub mod Telling
+pub mod Run

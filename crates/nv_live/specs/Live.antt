@@ -15,7 +15,7 @@ use Rattle.nv_live.specs.declared.writer.Writer.{Writer}
 use Rattle.nv_live.specs.declared.live.Live.{Live}
 use Rattle.nv_live.specs.Incoming.{HasTaken}
 use Rattle.nv_live.specs.Transcript.{lines_of}
-use Rattle.nv_live.specs.Writer.{Written}
+use Rattle.nv_live.specs.Writer.{Written, WritesOn}
 
 abbrev pub incoming_of : {I O T : Type 0} → Live I O T → Incoming I
 incoming_of live = live.incoming
@@ -51,7 +51,7 @@ pub record Did {I O T : Type 0} (took : I → Option (List (List ℕ))) (unread 
     (first later : Live I O T) (done : List Doing) : Type 0 where
   pub taken : HasTaken took unread first.incoming later.incoming (takings done)
   pub written : Written said unsaid first.out later.out (plain_text (sayings done))
-  pub lines : Written noted unnoted first.transcript.writer later.transcript.writer (lines_of (takings done))
+  pub lines : WritesOn noted unnoted first.transcript.writer later.transcript.writer (lines_of (takings done))
 
 -- whatever was done before, this is done then
 abbrev pub DoesOn : {I O T : Type 0} → (I → Option (List (List ℕ))) → (I → ℕ) → (O → Option (List ℕ)) → (O → ℕ) → (T → Option (List ℕ)) → (T → ℕ) → Live I O T → Live I O T → List Doing → Type 0

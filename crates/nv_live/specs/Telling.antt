@@ -1,6 +1,7 @@
 -- What an outside tells of itself as plain data.
-use Rattle.std.specs.Prelude.{ℕ, List, Option}
+use Rattle.std.specs.Prelude.{ℕ, Bool, List, Option}
 use Rattle.std.specs.Coded.{Coded, codes}
+use Rattle.nv_arrivals.specs.Order.{Came}
 use Rattle.nv_outside.specs.declared.sink.Put.{Put}
 use Rattle.nv_live.specs.declared.incoming.Stopped.{Stopped}
 
@@ -8,11 +9,16 @@ use Rattle.nv_live.specs.declared.incoming.Stopped.{Stopped}
 pub nothing_code : Coded (Unit {0})
 nothing_code = hlevel codes
 
--- of a live run's: what each read gave, what is held of it and why no more is read; what was said and what was noted, each with whether all of it was written; and how often each has failed
+-- Of a live run: whether its streams have lines of clients; what each read gave, what is held of it, what has come by whole lines, and why no more is read;
+-- what was said and what was noted, each with whether all of it was written; and how often each of the three has failed.
 pub record Told : Type 0 where
+  pub clients : Bool
   pub read : Option (List (List ℕ))
   pub unread : ℕ
   pub held : List ℕ
+  pub line : List ℕ
+  pub order : Came
+  pub taken : ℕ
   pub stopped : Option Stopped
   pub said : Option (List ℕ)
   pub unsaid : ℕ

@@ -4,9 +4,12 @@ ghost use Rattle.nv_arrivals.specs.Arrivals.{is_arrival};
 ghost use Rattle.nv_arrivals.specs.Reading.{arrival_of};
 ghost use Rattle.nv_arrivals.specs.Views.{view, taking};
 ghost use Rattle.nv_live.specs.Clients.{coming_of, lines_out_of, transcript_from, stop_among, DidLines, DoesLines};
-ghost use Rattle.nv_live.specs.ComingLines.{source_from, held_from, line_from, taken_from, stop_from, is_passed, IsWhole};
+ghost use Rattle.nv_live.specs.ComingLines.{source_from, held_from, line_from, order_from, taken_from, stop_from, is_passed, IsWhole};
 ghost use Rattle.nv_live.specs.SaidLines.{writer_of};
 ghost use Rattle.nv_live.specs.Transcript.{writer_in};
+ghost use Rattle.nv_outside.specs.Sink.{Puts};
+ghost use Rattle.nv_outside.specs.declared.sink.Put.TheVariants.{Whole};
+ghost use Rattle.nv_arrivals.specs.Order.{nothing_came};
 ghost use Rattle.nv_live.specs.Writer.{sink_in, put_of};
 
 use crate::coming_lines::ComingLines;
@@ -28,23 +31,29 @@ pub struct Clients<I, O, T> {
 }
 
 impl<I: Source, O: Sink + Drop, T: Sink + Drop> Clients<I, O, T> {
-    /// Nothing was read yet and nothing said. The transcript may have its head.
+    /// Nothing was read yet and nothing said. The transcript begins with this text.
     pub fn make(
         alloc: Global,
         source: I,
         out: O,
         transcript: T,
+        head: &[u8],
     ) -> Result<Clients<I, O, T>, AllocError>
         ensures did { IfOk result (λ clients. DidLines I.took I.faults O.told O.faults T.told T.faults clients clients []) }
         ensures source { IfOk result (λ clients. source_from (coming_of clients) ≡ source) }
         ensures out { IfOk result (λ clients. sink_in (writer_of (lines_out_of clients)) ≡ out) }
-        ensures transcript { IfOk result (λ clients. sink_in (writer_in (transcript_from clients)) ≡ transcript) }
-        ensures going { IfOk result (λ clients. stop_among clients ≡ None) }
+        ensures head { IfOk result (λ clients. Puts (T.told transcript) (T.faults transcript) head.now (put_of (writer_in (transcript_from clients))) (T.told (sink_in (writer_in (transcript_from clients)))) (T.faults (sink_in (writer_in (transcript_from clients))))) }
+        ensures held { IfOk result (λ clients. held_from (coming_of clients) ≡ []) }
+        ensures line { IfOk result (λ clients. line_from (coming_of clients) ≡ []) }
+        ensures order { IfOk result (λ clients. order_from (coming_of clients) ≡ nothing_came) }
+        ensures taken { IfOk result (λ clients. taken_from (coming_of clients) ≡ 0) }
+        ensures going { IfOk result (λ clients. stop_from (coming_of clients) ≡ None) }
+        ensures whole { IfOk result (λ clients. put_of (writer_of (lines_out_of clients)) ≡ Whole) }
     {
         Ok(Clients {
             coming: ComingLines::make(alloc, source)?,
             out: SaidLines::make(out),
-            transcript: Transcript::make(alloc, transcript),
+            transcript: Transcript::make(alloc, transcript, head),
         })
     }
 

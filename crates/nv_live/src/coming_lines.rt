@@ -3,6 +3,7 @@ ghost use Rattle.std.specs.Prelude.{◌≡◌, ◌+◌, ◌-◌, ◌<◌, ◌≤
 ghost use Rattle.std.specs.List.{prefix_len};
 ghost use Rattle.nv_text.specs.Lines.{line_number};
 ghost use Rattle.nv_arrivals.specs.Arrivals.{is_arrival};
+ghost use Rattle.nv_arrivals.specs.Order.{nothing_came};
 ghost use Rattle.nv_arrivals.specs.Reading.{arrival_of};
 ghost use Rattle.nv_arrivals.specs.Views.{view, result_view};
 ghost use Rattle.nv_live.specs.ComingLines.{source_from, held_from, line_from, order_from, taken_from, stop_from, is_plain, is_passed, stop_by_end, ComesOn, HasCome, IsWhole};
@@ -63,6 +64,10 @@ impl<I: Source> ComingLines<I> {
     pub fn make(alloc: Global, source: I) -> Result<ComingLines<I>, AllocError>
         ensures source { IfOk result (λ coming. source_from coming ≡ source) }
         ensures come { IfOk result (λ coming. HasCome I.took I.faults coming coming []) }
+        ensures held { IfOk result (λ coming. held_from coming ≡ []) }
+        ensures line { IfOk result (λ coming. line_from coming ≡ []) }
+        ensures order { IfOk result (λ coming. order_from coming ≡ nothing_came) }
+        ensures taken { IfOk result (λ coming. taken_from coming ≡ 0) }
         ensures going { IfOk result (λ coming. stop_from coming ≡ None) }
     {
         Ok(ComingLines {

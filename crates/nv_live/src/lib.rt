@@ -1,5 +1,5 @@
 //! The outside of a live run, both ways: what comes, as arrivals, with its transcript, and what is said.
-//! Types: the trait `Source`; `Live` (plain input and the console's bytes), `Clients` (many clients by lines over one pipe each way), `Stopped`;
+//! Types: the trait `Source`; `Live` (plain input and the console's bytes), `Clients` (many clients by lines over one pipe each way), `Stopped`; `LiveRun` (either of them), `Streams`;
 //! in memory `MemorySource`.
 //! Proved: the arrivals that are handed on are the bytes that the reads gave, cut as plain input is, or what their lines say, each of which may come next,
 //! none lost and none made up; the transcript has just their lines, each before its arrival is handed on, or a prefix of them where the count of faults rose;
@@ -14,8 +14,11 @@ mod coming_lines;
 mod incoming;
 mod live;
 mod memory_source;
+mod run;
 mod said_lines;
 mod source;
+mod streams;
+mod telling;
 #[cfg(test)]
 mod tests;
 mod transcript;
@@ -25,4 +28,7 @@ pub use clients::Clients;
 pub use incoming::Stopped;
 pub use live::Live;
 pub use memory_source::MemorySource;
+pub use run::LiveRun;
 pub use source::{Read, Source};
+pub use streams::Streams;
+pub use telling::Telling;

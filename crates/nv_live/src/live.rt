@@ -5,6 +5,8 @@ ghost use Rattle.nv_arrivals.specs.Views.{said_view, taking};
 ghost use Rattle.nv_live.specs.Incoming.{source_in, held_of, stop_of};
 ghost use Rattle.nv_live.specs.Live.{incoming_of, out_of, transcript_of, stop_in, Did, DoesOn, took_first, plain_bytes};
 ghost use Rattle.nv_live.specs.Transcript.{writer_in};
+ghost use Rattle.nv_outside.specs.Sink.{Puts};
+ghost use Rattle.nv_outside.specs.declared.sink.Put.TheVariants.{Whole};
 ghost use Rattle.nv_live.specs.Writer.{sink_in, put_of};
 
 use crate::Source;
@@ -34,23 +36,26 @@ fn plain_bytes<'a>(said: &'a Said<'_>) -> &'a [u8]
 }
 
 impl<I: Source, O: Sink + Drop, T: Sink + Drop> Live<I, O, T> {
-    /// Nothing was read yet and nothing said. The transcript may have its head.
+    /// Nothing was read yet and nothing said. The transcript begins with this text.
     pub fn make(
         alloc: Global,
         source: I,
         out: O,
         transcript: T,
+        head: &[u8],
     ) -> Result<Live<I, O, T>, AllocError>
         ensures did { IfOk result (λ live. Did I.took I.faults O.told O.faults T.told T.faults live live []) }
         ensures source { IfOk result (λ live. source_in (incoming_of live) ≡ source) }
         ensures out { IfOk result (λ live. sink_in (out_of live) ≡ out) }
-        ensures transcript { IfOk result (λ live. sink_in (writer_in (transcript_of live)) ≡ transcript) }
-        ensures going { IfOk result (λ live. stop_in live ≡ None) }
+        ensures head { IfOk result (λ live. Puts (T.told transcript) (T.faults transcript) head.now (put_of (writer_in (transcript_of live))) (T.told (sink_in (writer_in (transcript_of live)))) (T.faults (sink_in (writer_in (transcript_of live))))) }
+        ensures held { IfOk result (λ live. held_of (incoming_of live) ≡ []) }
+        ensures going { IfOk result (λ live. stop_of (incoming_of live) ≡ None) }
+        ensures whole { IfOk result (λ live. put_of (out_of live) ≡ Whole) }
     {
         Ok(Live {
             incoming: Incoming::make(alloc, source)?,
             out: Writer::make(out),
-            transcript: Transcript::make(alloc, transcript),
+            transcript: Transcript::make(alloc, transcript, head),
         })
     }
 

@@ -28,7 +28,7 @@ fn failing(alloc: Global) -> Result<MemorySink, AllocError> {
 }
 
 fn greeted(alloc: Global, out: MemorySink, transcript: MemorySink) -> Result<Tried, AllocError> {
-    Live::make(alloc, greeting(alloc)?, out, transcript)
+    Live::make(alloc, greeting(alloc)?, out, transcript, b"")
 }
 
 fn is_input(arrival: &Option<Arrival>, bytes: &[u8]) -> bool {
@@ -97,7 +97,13 @@ fn failed_write_of_what_is_said_ends_what_comes(rt: HostRuntime) -> Result<(), F
 #[test]
 fn first_reason_to_stop_stays(rt: HostRuntime) -> Result<(), Fail> {
     let source = MemorySource::make(Vec::new(rt.alloc()));
-    let mut live = Live::make(rt.alloc(), source, failing(rt.alloc())?, whole(rt.alloc())?)?;
+    let mut live = Live::make(
+        rt.alloc(),
+        source,
+        failing(rt.alloc())?,
+        whole(rt.alloc())?,
+        b"",
+    )?;
     let none = live.next(rt.alloc())?;
     assert!(rt; none.is_none());
     live.say(&Said::Printed(b"good morning\n"));
@@ -123,7 +129,13 @@ fn transcript_ends_at_a_failed_write(rt: HostRuntime) -> Result<(), Fail> {
 #[test]
 fn failed_read_ends_what_comes(rt: HostRuntime) -> Result<(), Fail> {
     let source = MemorySource::make(Vec::new(rt.alloc()));
-    let mut live = Live::make(rt.alloc(), source, whole(rt.alloc())?, whole(rt.alloc())?)?;
+    let mut live = Live::make(
+        rt.alloc(),
+        source,
+        whole(rt.alloc())?,
+        whole(rt.alloc())?,
+        b"head\n",
+    )?;
     let none = live.next(rt.alloc())?;
     assert!(rt; none.is_none());
     assert!(rt; live.stopped() == Some(Stopped::Unreadable));
@@ -177,7 +189,13 @@ fn clients_come_and_are_answered_by_lines(rt: HostRuntime) -> Result<(), Fail> {
         b"# two clients\n\nconnect 8080\ndata 0 68",
         b"69\nend 0\nend clients\n",
     )?;
-    let mut clients = Clients::make(rt.alloc(), source, whole(rt.alloc())?, whole(rt.alloc())?)?;
+    let mut clients = Clients::make(
+        rt.alloc(),
+        source,
+        whole(rt.alloc())?,
+        whole(rt.alloc())?,
+        b"",
+    )?;
     let first = clients.next(rt.alloc())?;
     assert!(rt; matches!(first, Some(Arrival::Connect(8080))));
     clients.say(&Said::Accepted(0));

@@ -1,7 +1,7 @@
 // The transcript of what came.
 ghost use Rattle.std.specs.Prelude.{◌≡◌, OnOk, OnErr, ◌∷◌, []};
 ghost use Rattle.nv_arrivals.specs.Views.{view};
-ghost use Rattle.nv_outside.specs.declared.sink.Put.TheVariants.{Whole};
+ghost use Rattle.nv_outside.specs.Sink.{Puts};
 ghost use Rattle.nv_live.specs.Transcript.{lines_of, writer_in, text_in};
 ghost use Rattle.nv_live.specs.Writer.{sink_in, put_of, WritesOn};
 
@@ -19,12 +19,14 @@ pub struct Transcript<T> {
 }
 
 impl<T: Sink> Transcript<T> {
-    pub fn make(alloc: Global, sink: T) -> Transcript<T>
-        ensures sink { sink_in (writer_in result) ≡ sink }
-        ensures told { put_of (writer_in result) ≡ Whole }
+    /// A transcript that begins with this text.
+    pub fn make(alloc: Global, sink: T, head: &[u8]) -> Transcript<T>
+        ensures { Puts (T.told sink) (T.faults sink) head.now (put_of (writer_in result)) (T.told (sink_in (writer_in result))) (T.faults (sink_in (writer_in result))) }
     {
+        let mut writer = Writer::make(sink);
+        writer.write(head);
         Transcript {
-            writer: Writer::make(sink),
+            writer,
             text: Vec::new(alloc),
         }
     }

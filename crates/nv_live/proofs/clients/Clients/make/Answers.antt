@@ -5,4 +5,4 @@ pub returns-clause-did : goal.returns-clause-did
 returns-clause-did g c =
     did-none g.I.Source.took g.I.Source.faults g.O.Sink.told g.O.Sink.faults g.T.Sink.told g.T.Sink.faults
     (record { coming = c.in_ok-make.field-0; out = c.make-2.result; transcript = c.make-3.result })
-    c.in_ok-make.ensures.come c.make-2.ensures.put c.make-3.ensures.told
+    c.in_ok-make.ensures.come c.make-2.ensures.put

@@ -1,0 +1,40 @@
+use Rattle.std.proofs.Common.{refl, sym, ap, ◌∙◌, subst}
+use Rattle.nv_outside.specs.Sink.{Puts}
+use Rattle.nv_live.specs.Run.{IsBegun}
+use Rattle.nv_live.proofs.run.LiveRun.begin.Goals as goal
+
+pub returns-then-clients : goal.returns-then-clients
+returns-then-clients g c =
+    let e = c.in_ok-run.ensures in
+    record {
+      way = sym c.if-clients.true;
+      read = ap g.I.Source.took e.source;
+      unread_is = ap g.I.Source.faults e.source;
+      held = e.held;
+      line = e.line;
+      order = e.order;
+      taken = e.taken;
+      going = e.going;
+      said_is = ap g.O.Sink.told e.out;
+      unsaid_is = ap g.O.Sink.faults e.out;
+      saying = e.whole;
+      noted_is = e.head;
+    }
+
+pub returns : goal.returns
+returns g c =
+    let e = c.in_ok-run-2.ensures in
+    record {
+      way = sym c.if-clients.false;
+      read = ap g.I.Source.took e.source;
+      unread_is = ap g.I.Source.faults e.source;
+      held = e.held;
+      line = refl;
+      order = refl;
+      taken = refl;
+      going = e.going;
+      said_is = ap g.O.Sink.told e.out;
+      unsaid_is = ap g.O.Sink.faults e.out;
+      saying = e.whole;
+      noted_is = e.head;
+    }

@@ -1,0 +1,110 @@
+// The outside of a live run, of either way.
+ghost use Rattle.std.specs.Prelude.{◌≡◌, IfOk, Ok, None};
+ghost use Rattle.nv_outside.specs.Sink.{Puts};
+ghost use Rattle.nv_live.specs.Run.{input_of, output_of, notes_of, source_stop, stop_of_run, told_run, DidRun, IsBegun};
+ghost use Rattle.nv_live.specs.Writer.{sink_in, put_of};
+
+use crate::clients::Clients;
+use crate::incoming::Stopped;
+use crate::live::Live;
+use crate::streams::Streams;
+use crate::{Source, Telling};
+use nv_arrivals::{Arrival, Outside, Said};
+use nv_outside::{Put, Sink};
+use std::alloc::{AllocError, Global};
+
+/// The outside of a live run: plain input and output, or many clients by lines both ways.
+#[derive(Drop)]
+pub enum LiveRun<I, O, T> {
+    Plain(Live<I, O, T>),
+    Clients(Clients<I, O, T>),
+}
+
+impl<I: Source, O: Sink + Drop, T: Sink + Drop> LiveRun<I, O, T> {
+    /// Nothing was read yet and nothing said. The transcript begins with this text, as much of it as can be written.
+    pub fn begin(
+        alloc: Global,
+        clients: bool,
+        streams: Streams<I, O, T>,
+        head: &[u8],
+    ) -> Result<LiveRun<I, O, T>, AllocError>
+        ensures { IfOk result (λ run. IsBegun I.took I.faults O.told O.faults T.told T.faults clients head.now streams (told_run I.took I.faults O.told O.faults T.told T.faults run)) }
+    {
+        let Streams {
+            input,
+            output,
+            transcript,
+        } = streams;
+        if clients {
+            let run = Clients::make(alloc, input, output, transcript, head)?;
+            return Ok(LiveRun::Clients(run));
+        }
+        let run = Live::make(alloc, input, output, transcript, head)?;
+        Ok(LiveRun::Plain(run))
+    }
+
+    /// Why nothing more comes.
+    pub fn stopped(&self) -> Option<Stopped>
+        ensures { result ≡ stop_of_run self.now }
+    {
+        match self {
+            LiveRun::Plain(run) => run.stopped(),
+            LiveRun::Clients(run) => run.stopped(),
+        }
+    }
+
+    /// Whether the transcript is whole.
+    pub fn told(&self) -> Put
+        ensures { result ≡ put_of (notes_of self.now) }
+    {
+        match self {
+            LiveRun::Plain(run) => run.told(),
+            LiveRun::Clients(run) => run.told(),
+        }
+    }
+
+    /// The streams that it was made over.
+    pub fn finish(self) -> Streams<I, O, T>
+        ensures input { result.input ≡ input_of self }
+        ensures output { result.output ≡ sink_in (output_of self) }
+        ensures transcript { result.transcript ≡ sink_in (notes_of self) }
+    {
+        let (input, output, transcript) = match self {
+            LiveRun::Plain(run) => run.finish(),
+            LiveRun::Clients(run) => run.finish(),
+        };
+        Streams {
+            input,
+            output,
+            transcript,
+        }
+    }
+}
+
+impl<I: Source, O: Sink + Drop, T: Sink + Drop> Outside for LiveRun<I, O, T> {
+    ghost did = { λ first later done. DidRun I.took I.faults O.told O.faults T.told T.faults first later done };
+
+    fn next(&mut self, alloc: Global) -> Result<Option<Arrival>, AllocError> {
+        match self {
+            LiveRun::Plain(run) => run.next(alloc),
+            LiveRun::Clients(run) => run.next(alloc),
+        }
+    }
+
+    fn say(&mut self, said: &Said<'_>) {
+        match self {
+            LiveRun::Plain(run) => run.say(said),
+            LiveRun::Clients(run) => run.say(said),
+        }
+    }
+}
+
+impl<I: Source, O: Sink + Drop, T: Sink + Drop> Telling for LiveRun<I, O, T> {
+    ghost use Rattle.nv_live.specs.Telling.{Told as Telling, told_code};
+
+    ghost Told = { Telling };
+
+    ghost told_code = { told_code };
+
+    ghost told = { told_run I.took I.faults O.told O.faults T.told T.faults };
+}
