@@ -3,6 +3,7 @@ ghost use Rattle.nv_arriving_tests.specs.Transcript.{Wrote};
 
 use crate::transcript::Transcript;
 use nv_arrivals::{Arrival, Outside, Said};
+use nv_live::Telling;
 use nv_arriving::ArrivingKernel;
 use nv_replay::Account;
 use nv_served::SyscallKernel;
@@ -35,6 +36,16 @@ impl Pairs {
         self.next = letter + 2;
         Ok(Some(Arrival::Input(bytes)))
     }
+}
+
+impl Telling for Pairs {
+    ghost use Rattle.nv_live.specs.Telling.{nothing_code};
+
+    ghost Told = { Unit {0} };
+
+    ghost told_code = { nothing_code };
+
+    ghost told = { λ _. tt };
 }
 
 impl Outside for Pairs {
@@ -166,6 +177,16 @@ impl Clients {
             _ => Ok(None),
         }
     }
+}
+
+impl Telling for Clients {
+    ghost use Rattle.nv_live.specs.Telling.{nothing_code};
+
+    ghost Told = { Unit {0} };
+
+    ghost told_code = { nothing_code };
+
+    ghost told = { λ _. tt };
 }
 
 impl Outside for Clients {
