@@ -8,11 +8,12 @@ use Rattle.nv_bpf_asm.specs.Faults.{rules_text}
 use Rattle.nv_asm.specs.Faults.{asm_text}
 use Rattle.nv_trace.specs.Texts.{trace_text, check_text}
 use Rattle.nv_jobs.specs.declared.refusal.Cause.{Cause}
-use Rattle.nv_jobs.specs.declared.refusal.Cause.TheVariants.{Long, Script, Elf, Guest, Filter, Rules, Asm, Trace, Check}
+use Rattle.nv_jobs.specs.declared.refusal.Cause.TheVariants.{Long, Script, Comes, Elf, Guest, Filter, Rules, Asm, Trace, Check}
 
 abbrev pub cause_text : Cause → List ℕ
 cause_text Long = codes "long"
 cause_text (Script fault) = script_fault_text fault
+cause_text Comes = codes "comes"
 cause_text (Elf fault) = elf_text fault
 cause_text (Guest fault) = guest_text fault
 cause_text (Filter fault) = filter_text fault

@@ -5,7 +5,7 @@ use Rattle.nv_outside.specs.Counts.{Rose}
 use Rattle.nv_outside.specs.Told.{Told}
 use Rattle.nv_outside.specs.Sink.{Puts}
 use Rattle.nv_outside.specs.declared.sink.Put.{Put}
-use Rattle.nv_command.specs.Words.{Plan, Job, Trail, Look, Command, Runs, Uses, Generates, Records, Replays, Inspects, Helps, usual, command_of, command_name}
+use Rattle.nv_command.specs.Words.{Plan, Service, Job, Trail, Look, Command, Runs, Serves, Uses, Generates, Records, Replays, Inspects, Helps, usual, command_of, command_name}
 use Rattle.nv_bpf.specs.declared.op.Op.{Op}
 use Rattle.nv_machine.specs.Guest.{Machine}
 use Rattle.nv_script.specs.Scripts.{Setup}
@@ -14,9 +14,12 @@ use Rattle.nv_replay.specs.Sequence.{Account}
 use Rattle.nv_jobs.specs.Account.{IsRunOf, process_begun}
 use Rattle.nv_jobs.specs.Found.{Found, Finds, Agrees, AreFound, TookLong, TookMore, TRACE_LIMIT, found_of, finds_of}
 use Rattle.nv_jobs.specs.Prepared.{Prepared, Unreadable, Refused, Ready, prepared}
+use Rattle.nv_jobs.specs.Live.{Streams, Lived, AreLiveFound, live_prepared, live_finds_of, with_arrivals}
+use Rattle.nv_jobs.specs.declared.ending.Ending.{Ending}
+use Rattle.nv_arrivals.specs.Arrivals.{Arrival}
 use Rattle.nv_jobs.specs.Generated.{IsMadeRun}
 use Rattle.nv_jobs.specs.Made.{made_of}
-use Rattle.nv_jobs.specs.Outcome.{Outcome, Usage, NoMemory, NotRead, NotAccepted, Reported, Made, Summed, Recorded, TraceTooLong, Replayed, Shown, Helped, Source, name_at, name_on, text_of, outcome_status, ended_with}
+use Rattle.nv_jobs.specs.Outcome.{Outcome, Usage, NoMemory, NotRead, NotAccepted, Reported, Made, Summed, Recorded, TraceTooLong, Replayed, Shown, Helped, Served, Source, name_at, name_in, name_on, text_of, outcome_status, ended_with}
 use Rattle.nv_calls.specs.Calls.{Entry}
 use Rattle.nv_fs.specs.States.{FileState}
 use Rattle.nv_inspect.specs.Shown.{show_text}
@@ -113,6 +116,19 @@ pub record RecordOwes (plan : Plan) (holds : List ℕ → Told) (outcome : Outco
   pub agree : AreFound plan holds finds
   pub comes : RecordComesTo plan (prepared plan.limits finds) outcome
 
+-- A live run comes to its first file that can't be read or is refused, or else to an account of the sequential monitor over what its script says and what came.
+abbrev pub ServeComesTo : Service → Prepared → Outcome → Type 0
+ServeComesTo service (Unreadable place) outcome = outcome ≡ NotRead (name_in place service)
+ServeComesTo service (Refused place cause) outcome = outcome ≡ NotAccepted (name_in place service) cause
+ServeComesTo service (Ready setup rules machines) outcome =
+    (arrivals : List Arrival) × (account : Account) × (ending : Ending) × (outcome ≡ Served (with_arrivals setup arrivals) account ending)
+    × IsRunOf service.limits (with_arrivals setup arrivals) rules machines account
+
+pub record ServeOwes (service : Service) (holds : List ℕ → Told) (outcome : Outcome) : Type 0 where
+  pub finds : Finds
+  pub agree : AreLiveFound service holds finds
+  pub comes : ServeComesTo service (live_prepared service.limits finds) outcome
+
 -- what each command owes
 abbrev pub Owes : Command → (List ℕ → Told) → Outcome → Type 0
 Owes (Runs plan) holds outcome = RunOwes plan holds outcome
@@ -122,6 +138,7 @@ Owes (Records plan) holds outcome = RecordOwes plan holds outcome
 Owes (Replays trail) holds outcome = TrailOwes trail (replayed trail) holds outcome
 Owes (Inspects look) holds outcome = TrailOwes look.trail (shown look) holds outcome
 Owes (Helps topic) holds outcome = outcome ≡ Helped topic
+Owes (Serves service) holds outcome = ServeOwes service holds outcome
 
 -- words that are refused owe the line of usage
 abbrev pub OwesAny : Option Command → (List ℕ → Told) → Outcome → Type 0
@@ -150,6 +167,7 @@ Shows (TraceTooLong name) source = (source.later_faults ≡ source.faults) × To
 Shows (Replayed at) source = source.later_faults ≡ source.faults
 Shows (Shown text) source = source.later_faults ≡ source.faults
 Shows (Helped topic) source = IsUntouched source
+Shows (Served setup account ending) source = source.later_faults ≡ source.faults
 
 -- A text was written with its status; or a write failed, its count rose, a prefix of the text was written, and the status is 6.
 pub record Says (text : List ℕ) (text_status : ℕ) (before : Option (List ℕ)) (faults : ℕ) (status : ℕ) (after : Option (List ℕ)) (later_faults : ℕ) : Type 0 where
@@ -164,6 +182,23 @@ pub record Answers (words : List (List ℕ)) (source : Source) (before : Option 
   pub shown : Shows outcome source
   pub unread : command_of words ≡ None → IsUntouched source
   pub says : Says (text_of outcome) (outcome_status outcome) before faults status after later_faults
+
+-- What a live run that came to this did over its streams. Where memory was wanted they may be gone.
+abbrev pub ServedOver : Outcome → Streams → Option Streams → Type 0
+ServedOver (Served setup account ending) before None = ⊥
+ServedOver (Served setup account ending) before (Some after) = Lived setup account.log ending before after
+ServedOver NoMemory before later = (later ≡ Some before) ⊎ (later ≡ None)
+ServedOver outcome before later = later ≡ Some before
+
+-- no other command touches the streams of a live run
+abbrev pub Over : Option Command → Outcome → Streams → Option Streams → Type 0
+Over (Some (Serves service)) outcome before later = ServedOver outcome before later
+Over command outcome before later = later ≡ Some before
+
+-- The call answers, and over the streams of a live run does what its outcome tells.
+pub record AnswersOver (words : List (List ℕ)) (source : Source) (streams : Streams) (before : Option (List ℕ)) (faults : ℕ) (status : ℕ) (after : Option (List ℕ)) (later_faults : ℕ) (later : Option Streams) : Type 0 where
+  pub answers : Answers words source before faults status after later_faults
+  pub over : Over (command_of words) answers.outcome streams later
 
 abbrev pub IsReady : Prepared → Type 0
 IsReady (Unreadable place) = ⊥
@@ -187,6 +222,7 @@ IsAccepted (Records plan) holds = IsReady (prepared plan.limits (finds_of holds 
 IsAccepted (Replays trail) holds = IsTraced (traced trail (trace_finds_of holds trail))
 IsAccepted (Inspects look) holds = IsTraced (traced look.trail (trace_finds_of holds look.trail))
 IsAccepted (Helps topic) holds = Unit {0}
+IsAccepted (Serves service) holds = IsReady (live_prepared service.limits (live_finds_of holds service))
 
 abbrev pub IsRefusedAt : Prepared → Type 0
 IsRefusedAt (Unreadable place) = ⊥
@@ -213,6 +249,7 @@ IsRefused (Records plan) holds = IsRefusedAt (prepared plan.limits (finds_of hol
 IsRefused (Replays trail) holds = IsRefusedOn (traced trail (trace_finds_of holds trail))
 IsRefused (Inspects look) holds = IsRefusedOn (traced look.trail (trace_finds_of holds look.trail))
 IsRefused (Helps topic) holds = ⊥
+IsRefused (Serves service) holds = IsRefusedAt (live_prepared service.limits (live_finds_of holds service))
 
 -- a run that does its work ends with the status of its versions' fates, which is one of three
 abbrev pub IsReport : ℕ → Type 0
@@ -227,6 +264,8 @@ IsDone (Records plan) status = (status ≡ 0) ⊎ (status ≡ 1)
 IsDone (Replays trail) status = (status ≡ 0) ⊎ (status ≡ 1)
 IsDone (Inspects look) status = status ≡ 0
 IsDone (Helps topic) status = status ≡ 0
+-- where a stream of it has failed, that is its status
+IsDone (Serves service) status = IsReport status ⊎ ((status ≡ 5) ⊎ (status ≡ 6))
 
 -- Files that are told and accepted, and no fault: the command does its work, or memory is wanted.
 abbrev pub Completes : List (List ℕ) → Source → ℕ → ℕ → ℕ → Type 0

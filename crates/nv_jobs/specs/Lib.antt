@@ -8,6 +8,7 @@ pub mod Replayed
 pub mod Outcome
 pub mod Generated
 pub mod Tracing
+pub mod Live
 pub mod Due
 pub mod Tasks
 pub mod Ran

@@ -6,7 +6,7 @@ use Rattle.nv_outside.specs.Told.{Told}
 use Rattle.nv_outside.specs.declared.sink.Put.{Put}
 use Rattle.nv_outside.specs.declared.sink.Put.TheVariants.{Whole, Failed}
 use Rattle.nv_command.specs.Help.{help_of}
-use Rattle.nv_command.specs.Words.{Name, Plan, Trail}
+use Rattle.nv_command.specs.Words.{Name, Plan, Service, Trail}
 use Rattle.nv_calls.specs.Logs.{output_of, connections_of}
 use Rattle.nv_script.specs.Scripts.{Setup}
 use Rattle.nv_arriving.specs.Scripted.{start_from}
@@ -20,6 +20,8 @@ use Rattle.nv_report.specs.Json.{json_text}
 use Rattle.nv_jobs.specs.Account.{run_status}
 use Rattle.nv_jobs.specs.Causes.{cause_text}
 use Rattle.nv_jobs.specs.Replayed.{replay_text, replay_status}
+use Rattle.nv_jobs.specs.declared.ending.Ending.{Ending}
+use Rattle.nv_jobs.specs.declared.ending.Ending.TheVariants.{Finished, Unread, Unsaid, Untold}
 use Rattle.nv_jobs.specs.declared.refusal.Refusal.{Refusal}
 use Rattle.nv_jobs.specs.declared.refusal.Refusal.TheVariants as refusal
 use Rattle.nv_jobs.specs.declared.refusal.Place.{Place}
@@ -49,6 +51,8 @@ pub data Outcome : Type 0 where
   Shown : List ℕ → Outcome
   -- how a command is used, or each of them
   Helped : Option Name → Outcome
+  -- a live run has its account, over what its script says and what came
+  Served : Setup → Account → Ending → Outcome
 
 -- the report of an account, with what was written to the connections, or its JSON form and a newline
 abbrev pub account_text : Bool → Setup → Account → List ℕ
@@ -65,6 +69,20 @@ totals_of output account = record {
   rewrites = sum_by (λ line. line.rewrites) account.lines;
 }
 
+-- what failed of the streams of a live run, told behind its transcript
+abbrev pub ending_text : Ending → List ℕ
+ending_text Finished = []
+ending_text Unread = codes "# varan: read standard input\n"
+ending_text Unsaid = codes "# varan: write standard output\n"
+ending_text Untold = []
+
+-- what failed takes the place of the run's own status
+abbrev pub ending_status : Ending → ℕ → ℕ
+ending_status Finished status = status
+ending_status Unread status = 5
+ending_status Unsaid status = 6
+ending_status Untold status = 6
+
 -- what is written
 abbrev pub text_of : Outcome → List ℕ
 text_of Usage = codes "varan: usage\n"
@@ -79,6 +97,7 @@ text_of (TraceTooLong name) = concat (codes "varan: input " ∷ name ∷ codes "
 text_of (Replayed at) = replay_text at
 text_of (Shown text) = text
 text_of (Helped topic) = help_of topic
+text_of (Served setup account ending) = ending_text ending
 
 abbrev pub outcome_status : Outcome → ℕ
 outcome_status Usage = 2
@@ -93,6 +112,7 @@ outcome_status (TraceTooLong name) = 4
 outcome_status (Replayed at) = replay_status at.fate
 outcome_status (Shown text) = 0
 outcome_status (Helped topic) = 0
+outcome_status (Served setup account ending) = ending_status ending (run_status account.lines)
 
 -- a write fault takes the place of the other statuses
 abbrev pub ended_with : Put → ℕ → ℕ
@@ -105,6 +125,13 @@ name_at place.Rules plan = unwrap_or plan.rules []
 name_at place.Trace plan = []
 name_at (Version i) plan = unwrap_or (slice_get plan.versions i) []
 
+-- the name of a file of a live run; none of a script that isn't named
+abbrev pub name_in : Place → Service → List ℕ
+name_in Script service = unwrap_or service.script []
+name_in place.Rules service = unwrap_or service.rules []
+name_in place.Trace service = []
+name_in (Version i) service = unwrap_or (slice_get service.versions i) []
+
 -- the name of a file of a version that follows a trace
 abbrev pub name_on : Place → Trail → List ℕ
 name_on Script trail = trail.script
@@ -116,6 +143,11 @@ abbrev pub outcome_of : Refusal → Plan → Outcome
 outcome_of refusal.Memory plan = NoMemory
 outcome_of (refusal.Unreadable place) plan = NotRead (name_at place plan)
 outcome_of (refusal.Input place cause) plan = NotAccepted (name_at place plan) cause
+
+abbrev pub live_outcome_of : Refusal → Service → Outcome
+live_outcome_of refusal.Memory service = NoMemory
+live_outcome_of (refusal.Unreadable place) service = NotRead (name_in place service)
+live_outcome_of (refusal.Input place cause) service = NotAccepted (name_in place service) cause
 
 -- The file source of a call: what it tells of each name, and its counts before the call and after it.
 pub record Source : Type 0 where

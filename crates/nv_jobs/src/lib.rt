@@ -5,6 +5,7 @@
 //! Above: the top call.
 #![tactic(auto)]
 
+mod ending;
 mod endings;
 mod generating;
 mod inspecting;
@@ -18,6 +19,7 @@ mod task;
 mod tools;
 mod trails;
 
+pub use ending::Ending;
 pub use endings::{
     INPUT, MEMORY, READ_FAULT, USAGE, WRITE_FAULT, count_exited, ended, put_line, starved, status,
 };

@@ -30,6 +30,8 @@ pub enum Cause {
     Long,
     /// A script that isn't one.
     Script(ScriptFault),
+    /// A script that says what comes, where that is asked of standard input.
+    Comes,
     /// A version that is no file of a program.
     Elf(ElfFault),
     /// A version whose program has no room in a guest.
@@ -53,6 +55,7 @@ impl fmt::Display for Cause {
         match self {
             Cause::Long => f.write_str("long"),
             Cause::Script(fault) => write!(f, "{fault}"),
+            Cause::Comes => f.write_str("comes"),
             Cause::Elf(fault) => write!(f, "{fault}"),
             Cause::Guest(fault) => write!(f, "{fault}"),
             Cause::Filter(fault) => write!(f, "{fault}"),
