@@ -1,16 +1,22 @@
 -- What the words ask for, by what each command's words are.
-use Rattle.std.proofs.Common.{◌≡◌, ◌∙◌, sym, ap, ℕ, List, Option, Some, None, refl, inl, inr, ⊎_elim, subst, option_and_then}
+use Rattle.std.proofs.Common.{◌≡◌, ◌∙◌, sym, ap, ℕ, List, [], Option, Some, None, refl, inl, inr, ⊎_elim, subst, option_and_then}
 use Rattle.std.specs.Prelude.{IsSome}
 use Rattle.nv_outside.specs.Told.{Told}
-use Rattle.nv_jobs.specs.Refusals.{ComesTo, Refuses}
+use Rattle.nv_jobs.specs.Refusals.{ComesTo, LiveComesTo, Refuses, RefusesLive}
+use Rattle.nv_jobs.specs.Live.{Streams, with_arrivals}
+use Rattle.nv_jobs.specs.Account.{IsRunOf, run_status}
+use Rattle.nv_jobs.specs.declared.ending.Ending.{Ending}
+use Rattle.nv_jobs.specs.declared.ending.Ending.TheVariants.{Finished}
+use Rattle.nv_arrivals.specs.Arrivals.{Arrival}
+use Rattle.nv_replay.specs.Sequence.{Account}
 use Rattle.nv_jobs.specs.Prepared.{Prepared, Ready}
 use Rattle.nv_jobs.specs.Prepared as prep
 use Rattle.nv_script.specs.Scripts.{Setup}
 use Rattle.nv_bpf.specs.declared.op.Op.{Op}
 use Rattle.nv_machine.specs.Guest.{Machine}
-use Rattle.nv_jobs.specs.Outcome.{Source, Outcome, Usage, NoMemory, NotRead, NotAccepted, Reported, Recorded, TraceTooLong, outcome_of, name_at, name_on, text_of, outcome_status}
+use Rattle.nv_jobs.specs.Outcome.{Source, Outcome, Usage, NoMemory, NotRead, NotAccepted, Reported, Recorded, TraceTooLong, Served, outcome_of, live_outcome_of, name_at, name_in, name_on, text_of, outcome_status}
 use Rattle.nv_jobs.specs.Found.{TookLong, TookMore}
-use Rattle.nv_jobs.specs.Due.{RunComesTo, RecordComesTo, JobOwes, GenOwes, TrailOwes, traced_outcome, lack_outcome, Owes, OwesAny, IsDue, Shows, IsUntouched, Says, Answers}
+use Rattle.nv_jobs.specs.Due.{RunComesTo, RecordComesTo, ServeComesTo, ServeOwes, JobOwes, GenOwes, TrailOwes, traced_outcome, lack_outcome, Owes, OwesAny, IsDue, Shows, IsUntouched, Says, Answers, ServedOver, Over, AnswersOver}
 use Rattle.nv_jobs.specs.Ran.{Wrote, Tells}
 use Rattle.nv_jobs.specs.inner.Ran.{Ran, RunSays, RanRecorded, RecordSays}
 use Rattle.nv_jobs.specs.declared.refusal.Cause.{Cause}
@@ -23,7 +29,7 @@ use Rattle.nv_jobs.specs.Traced as lack
 use Rattle.nv_jobs.specs.inner.Trails.{limit_of, TrailRefused, refused_outcome}
 use Rattle.nv_jobs.specs.declared.refusal.Refusal.{Refusal}
 use Rattle.nv_jobs.specs.declared.refusal.Refusal.TheVariants.{Memory, Unreadable as Unread, Input}
-use Rattle.nv_command.specs.Words.{Name, Plan, Job, Trail, Command, Runs, Uses, Generates, Records, asked_by, after_program, command_of, command_name}
+use Rattle.nv_command.specs.Words.{Name, Plan, Service, Job, Trail, Command, Runs, Serves, Uses, Generates, Records, Replays, Inspects, Helps, asked_by, after_program, command_of, command_name}
 use Rattle.nv_command.specs.Seen.{WordsRefused}
 use Rattle.nv_command.specs.declared.asked.LineFault.{LineFault}
 use Rattle.nv_command.specs.declared.asked.LineFault.TheVariants as line
@@ -239,7 +245,7 @@ tells_lack trail place cause h = h
 module _ (words : List (List ℕ)) (source : Source) (command : Command) (asked : command_of words ≡ Some command)
     (before : Option (List ℕ)) (faults status : ℕ) (after : Option (List ℕ)) (later : ℕ) where
   -- an outcome that is owed and told
-  pub told_answers : (outcome : Outcome) → Owes command source.holds outcome → Shows outcome source → Says (text_of outcome) (outcome_status outcome) before faults status after later
+  abbrev pub told_answers : (outcome : Outcome) → Owes command source.holds outcome → Shows outcome source → Says (text_of outcome) (outcome_status outcome) before faults status after later
       → Answers words source before faults status after later
   told_answers outcome owed shown says = record {
     outcome = outcome;
@@ -250,7 +256,7 @@ module _ (words : List (List ℕ)) (source : Source) (command : Command) (asked 
   }
 
   -- memory was wanted
-  pub wanted_answers : source.later_faults ≡ source.faults → Says (text_of NoMemory) 3 before faults status after later → Answers words source before faults status after later
+  abbrev pub wanted_answers : source.later_faults ≡ source.faults → Says (text_of NoMemory) 3 before faults status after later → Answers words source before faults status after later
   wanted_answers kept says = record {
     outcome = NoMemory;
     due = memory_due words source.holds command asked;
@@ -269,6 +275,7 @@ module _ (words : List (List ℕ)) (source : Source) (command : Command) (asked 
       → (cause ≡ Long → TookMore (limit_of place) source.taken source.later_taken) → Tells (lack_outcome trail (lack.Refused place cause)) before faults status after later
       → Answers words source before faults status after later
   lack_answers trail Trace Long owed kept long says = wrote_answers (TraceTooLong trail.trace) owed (kept, long refl) kept says
+  lack_answers trail Trace causes.Comes owed kept long says = wrote_answers _ owed (kept, λ e. cc) kept says
   lack_answers trail Trace (causes.Script fault) owed kept long says = wrote_answers _ owed (kept, λ e. cc) kept says
   lack_answers trail Trace (causes.Elf fault) owed kept long says = wrote_answers _ owed (kept, λ e. cc) kept says
   lack_answers trail Trace (causes.Guest fault) owed kept long says = wrote_answers _ owed (kept, λ e. cc) kept says
@@ -290,3 +297,68 @@ module _ (words : List (List ℕ)) (source : Source) (command : Command) (asked 
       told_answers (NotRead (name_on place trail)) (owes _ (record { finds = h.0.finds; agree = h.0.agree; comes = sym (ap (traced_outcome trail made) h.0.is) })) h.1 says
   trail_refusal_answers (Input place cause) trail made owes h says =
       lack_answers trail place cause (owes _ (record { finds = h.0.finds; agree = h.0.agree; comes = sym (ap (traced_outcome trail made) h.0.is) })) h.1 h.2 says
+
+-- ---- a live run
+
+-- the files of a live run come to an outcome
+pub serve_owes : (service : Service) (holds : List ℕ → Told) (whole : Prepared) (outcome : Outcome) → LiveComesTo service holds whole → ServeComesTo service whole outcome → ServeOwes service holds outcome
+serve_owes service holds whole outcome files comes = record {
+  finds = files.finds;
+  agree = files.agree;
+  comes = subst (λ (p : Prepared). ServeComesTo service p outcome) (sym files.is) comes;
+}
+
+-- what a live run does over its streams that did nothing, where it came to another outcome
+pub nothing_over : (command : Option Command) (outcome : Outcome) (streams : Streams) → ((service : Service) → command ≡ Some (Serves service) → ⊥) → Over command outcome streams (Some (streams, Finished))
+nothing_over None outcome streams other = refl
+nothing_over (Some (Runs plan)) outcome streams other = refl
+nothing_over (Some (Serves service)) outcome streams other = absurd (other service refl)
+nothing_over (Some (Uses job)) outcome streams other = refl
+nothing_over (Some (Generates n)) outcome streams other = refl
+nothing_over (Some (Records plan)) outcome streams other = refl
+nothing_over (Some (Replays trail)) outcome streams other = refl
+nothing_over (Some (Inspects look)) outcome streams other = refl
+nothing_over (Some (Helps topic)) outcome streams other = refl
+
+module _ (words : List (List ℕ)) (source : Source) (service : Service) (asked : command_of words ≡ Some (Serves service))
+    (before : Option (List ℕ)) (faults status : ℕ) (after : Option (List ℕ)) (later : ℕ) where
+  -- versions that ran over what came have an outcome of the live run
+  abbrev pub served_answers : source.later_faults ≡ source.faults → (setup : Setup) (rules : Option (List Op)) (machines : List Machine) → LiveComesTo service source.holds (Ready setup rules machines)
+      → (arrivals : List Arrival) (account : Account) → IsRunOf service.limits (with_arrivals setup arrivals) rules machines account → Says [] (run_status account.lines) before faults status after later
+      → Answers words source before faults status after later
+  served_answers kept setup rules machines files arrivals account is_run says =
+      told_answers words source (Serves service) asked before faults status after later (Served (with_arrivals setup arrivals) account)
+      (serve_owes service source.holds (Ready setup rules machines) (Served (with_arrivals setup arrivals) account) files (arrivals, account, refl, is_run)) kept says
+
+  -- memory was wanted of a live run
+  abbrev pub starved_answers : source.later_faults ≡ source.faults → Says (text_of NoMemory) 3 before faults status after later → Answers words source before faults status after later
+  starved_answers kept says = wanted_answers words source (Serves service) asked before faults status after later kept says
+
+  -- what it did over its streams is that of a live run
+  pub over_served : (outcome : Outcome) (streams : Streams) (ended : Option (Streams × Ending)) → ServedOver outcome streams ended → Over (command_of words) outcome streams ended
+  over_served outcome streams ended over = subst (λ (command : Option Command). Over command outcome streams ended) (sym asked) over
+
+  module _ (streams : Streams) where
+    over_nothing : (a : Answers words source before faults status after later) → ServedOver a.outcome streams (Some (streams, Finished)) → AnswersOver words source streams before faults status after later (Some (streams, Finished))
+    over_nothing a over = record { answers = a; over = over_served a.outcome streams (Some (streams, Finished)) over }
+
+    wanted_over : source.later_faults ≡ source.faults → Says (text_of NoMemory) 3 before faults status after later → AnswersOver words source streams before faults status after later (Some (streams, Finished))
+    wanted_over kept says = over_nothing (starved_answers kept says) (inl refl)
+
+    unread_over : (name : List ℕ) → Owes (Serves service) source.holds (NotRead name) → Shows (NotRead name) source → Says (text_of (NotRead name)) 5 before faults status after later
+        → AnswersOver words source streams before faults status after later (Some (streams, Finished))
+    unread_over name owed shown says = over_nothing (told_answers words source (Serves service) asked before faults status after later (NotRead name) owed shown says) refl
+
+    unfit_over : (name : List ℕ) (cause : Cause) → Owes (Serves service) source.holds (NotAccepted name cause) → Shows (NotAccepted name cause) source
+        → Says (text_of (NotAccepted name cause)) 4 before faults status after later → AnswersOver words source streams before faults status after later (Some (streams, Finished))
+    unfit_over name cause owed shown says = over_nothing (told_answers words source (Serves service) asked before faults status after later (NotAccepted name cause) owed shown says) refl
+
+    -- a live run that doesn't start answers its refusal, and does nothing over its streams
+    pub live_refusal_answers : (refusal : Refusal) → RefusesLive refusal source.holds service source.faults source.later_faults source.taken source.later_taken
+        → Tells (live_outcome_of refusal service) before faults status after later → AnswersOver words source streams before faults status after later (Some (streams, Finished))
+    live_refusal_answers Memory h says = wanted_over h says
+    live_refusal_answers (Unread place) h says =
+        unread_over (name_in place service) (serve_owes service source.holds (prep.Unreadable place) (NotRead (name_in place service)) h.0 refl) h.1 says
+    live_refusal_answers (Input place cause) h says =
+        ⊎_elim (unfit_over (name_in place service) cause (serve_owes service source.holds (prep.Refused place cause) (NotAccepted (name_in place service) cause) h.0 refl) (h.1, h.2))
+        (wanted_over h.1) says

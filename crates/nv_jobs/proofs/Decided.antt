@@ -6,11 +6,13 @@ use Rattle.nv_bpf.specs.declared.op.Op.{Op}
 use Rattle.nv_bpf.specs.declared.op.FilterFault.{FilterFault}
 use Rattle.nv_bpf.specs.Texts.{filter_of}
 use Rattle.nv_machine.specs.Guest.{Machine}
-use Rattle.nv_command.specs.Words.{Limits, Plan}
+use Rattle.nv_command.specs.Words.{Limits, Plan, Service}
 use Rattle.nv_script.specs.Scripts.{Setup, script_of}
 use Rattle.nv_script.specs.declared.fault.ScriptFault.{ScriptFault}
 use Rattle.nv_jobs.specs.Found.{Found, Whole, TooLong, Unread, Finds, Agrees, AgreesIf, AllAgree, AreFound, AgreesWithin, FILE_LIMIT, is_longer, found_within, found_of, finds_of}
 use Rattle.nv_jobs.specs.Prepared.{Prepared, Unreadable, Refused, Ready, VersionOf, Faulty, Loads, read_at, with_first_machine, version_then, versions_from, judged_by, rules_then, after_rules, after_script, version_from, prepared}
+use Rattle.nv_jobs.specs.Live.{AgreesOrBare, AreLiveFound, bare_text, live_script, after_live_script, live_prepared, found_or_bare, live_finds_of}
+use Rattle.nv_jobs.specs.declared.refusal.Cause.{Cause}
 use Rattle.nv_jobs.specs.declared.refusal.Place.{Place}
 use Rattle.nv_jobs.specs.declared.refusal.Place.TheVariants.{Script, Rules, Version}
 
@@ -140,4 +142,33 @@ same_prepared holds plan finds agree here there =
     (λ setup. after_rules (told_rules holds plan.rules) (versions_from plan.limits setup 0 (told_finds holds plan.versions)))
     (λ setup. same_rules holds plan.rules finds.rules (versions_from plan.limits setup 0 finds.versions) (versions_from plan.limits setup 0 (told_finds holds plan.versions)) agree.rules
     (same_versions plan.limits setup holds plan.versions finds.versions 0 agree.versions)))
+    here there
+
+same_live_script : (read : Result Setup Cause) (versions other : Setup → Prepared) → ((setup : Setup) → (IsUnread (versions setup) → ⊥) → (IsUnread (other setup) → ⊥) → versions setup ≡ other setup)
+    → (IsUnread (after_live_script versions read) → ⊥) → (IsUnread (after_live_script other read) → ⊥) → after_live_script versions read ≡ after_live_script other read
+same_live_script (Ok setup) versions other same here there = same setup here there
+same_live_script (Err cause) versions other same here there = refl
+
+-- the same of a script that may not be named
+same_bare : (holds : List ℕ → Told) (name : Option (List ℕ)) (found : Found) (check other : List ℕ → Prepared) → AgreesOrBare holds name found
+    → ((bytes : List ℕ) → (IsUnread (check bytes) → ⊥) → (IsUnread (other bytes) → ⊥) → check bytes ≡ other bytes)
+    → (IsUnread (read_at Script found check) → ⊥) → (IsUnread (read_at Script (found_or_bare holds name) other) → ⊥) → read_at Script found check ≡ read_at Script (found_or_bare holds name) other
+same_bare holds None found check other agree same here there =
+    let whole = λ (e : found ≡ Whole bare_text). subst (λ (f : Found). (IsUnread (read_at Script f check) → ⊥) → read_at Script f check ≡ read_at Script (Whole bare_text) other) (sym e) (λ h. same bare_text h there) here in
+    whole agree
+same_bare holds (Some name) found check other agree same here there = same_at Script (holds name) found check other agree same here there
+
+-- the same of a live run
+pub same_live_prepared : (holds : List ℕ → Told) (service : Service) (finds : Finds) → AreLiveFound service holds finds
+    → (IsUnread (live_prepared service.limits finds) → ⊥) → (IsUnread (live_prepared service.limits (live_finds_of holds service)) → ⊥)
+    → live_prepared service.limits finds ≡ live_prepared service.limits (live_finds_of holds service)
+same_live_prepared holds service finds agree here there =
+    same_bare holds service.script finds.script
+    (λ bytes. after_live_script (λ setup. after_rules finds.rules (versions_from service.limits setup 0 finds.versions)) (live_script bytes))
+    (λ bytes. after_live_script (λ setup. after_rules (told_rules holds service.rules) (versions_from service.limits setup 0 (told_finds holds service.versions))) (live_script bytes))
+    agree.script
+    (λ bytes. same_live_script (live_script bytes) (λ setup. after_rules finds.rules (versions_from service.limits setup 0 finds.versions))
+    (λ setup. after_rules (told_rules holds service.rules) (versions_from service.limits setup 0 (told_finds holds service.versions)))
+    (λ setup. same_rules holds service.rules finds.rules (versions_from service.limits setup 0 finds.versions) (versions_from service.limits setup 0 (told_finds holds service.versions)) agree.rules
+    (same_versions service.limits setup holds service.versions finds.versions 0 agree.versions)))
     here there

@@ -1,4 +1,5 @@
 pub mod Loading
+pub mod LiveLoading
 pub mod Decided
 pub mod Followed
 pub mod Trailing

@@ -12,8 +12,8 @@ use Rattle.nv_replay.specs.Account.{AreFresh}
 use Rattle.nv_jobs.specs.Account.{process_begun}
 use Rattle.nv_jobs.specs.Found.{Found, Whole, TooLong, Unread, Agrees, AgreesIf, AllAgree, IsReadOf, FILE_LIMIT, found_of}
 use Rattle.nv_jobs.specs.Prepared.{Prepared, Unreadable, Refused, Ready, read_at, with_first_machine, version_then, versions_from, judged_by, rules_then, after_rules, after_script, version_from}
-use Rattle.nv_jobs.specs.Refusals.{ComesTo, Refuses}
-use Rattle.nv_jobs.specs.inner.Refusals.{HasLoaded, AreLoaded, IsFault, ReadRefused, VersionRefused, VersionsRefused, VersionsCome, RestComes, IsFilterRead, HasRules, RulesStop, RulesRefused, RestRefused, IsScriptRefusal, IsFilterRefusal, IsVersionRefusal}
+use Rattle.nv_jobs.specs.Refusals.{ComesTo, Stops, Refuses}
+use Rattle.nv_jobs.specs.inner.Refusals.{HasLoaded, AreLoaded, IsFault, ReadRefused, VersionRefused, VersionsRefused, VersionsCome, run_parts, RestComes, IsRest, IsFilterRead, HasRules, RulesStop, RulesRefused, RestRefused, IsScriptRefusal, IsFilterRefusal, IsVersionRefusal}
 use Rattle.nv_jobs.proofs.Decided.{told_agrees}
 use Rattle.nv_jobs.specs.declared.refusal.Refusal.{Refusal}
 use Rattle.nv_jobs.specs.declared.refusal.Refusal.TheVariants as refusal
@@ -22,7 +22,7 @@ use Rattle.nv_jobs.specs.declared.refusal.Place.TheVariants.{Script, Rules, Vers
 use Rattle.nv_jobs.specs.declared.refusal.Cause.{Cause}
 use Rattle.nv_jobs.specs.declared.refusal.Cause.TheVariants as causes
 use Rattle.nv_script.specs.Scripts.{Setup, script_of}
-use Rattle.nv_command.specs.Words.{Limits, Plan}
+use Rattle.nv_command.specs.Words.{Limits, Parts, Plan}
 
 pub fresh_more : {P : Type 0} (g : Behaviour P) (i n : ℕ) (rs : List (Running P)) (r : Running P) → AreFresh g i rs → n ≡ i + length rs → IsFresh g n r → AreFresh g i (rs ++ r ∷ [])
 fresh_more g i n [] r all e h = (subst (λ (z : ℕ). IsFresh g z r) (omega (arith, e)) h, tt)
@@ -53,7 +53,7 @@ rules_told holds (Some name) = told_agrees FILE_LIMIT (holds name)
 
 -- after an accepted script the rest decides
 pub script_accepted : (holds : List ℕ → Told) (plan : Plan) (bytes : List ℕ) (setup : Setup) (whole : Prepared) → IsReadOf bytes (holds plan.script)
-    → script_of bytes ≡ Ok setup → RestComes setup holds plan whole → ComesTo plan holds whole
+    → script_of bytes ≡ Ok setup → RestComes setup holds (run_parts plan) whole → ComesTo plan holds whole
 script_accepted holds plan bytes setup whole r ok v = record {
   finds = record { script = Whole bytes; rules = v.rules; versions = v.versions };
   agree = record { script = r; rules = v.rules_agree; versions = v.versions_agree };
@@ -78,23 +78,23 @@ rules_go holds (Some name) None h = absurd h
 rules_go holds (Some name) (Some ops) h = record { found = Some (Whole h.bytes); agree = h.read; is = λ rest. ap (rules_then rest) h.is }
 
 -- after rules that were read the versions decide
-pub rules_accepted : (holds : List ℕ → Told) (plan : Plan) (setup : Setup) (rules : Option (List Op)) (whole : Prepared) → HasRules rules holds plan.rules
-    → VersionsCome plan.limits setup holds 0 plan.versions whole → RestComes setup holds plan (with_rules rules whole)
-rules_accepted holds plan setup rules whole h v =
-    let r = rules_go holds plan.rules rules h in
+pub rules_accepted : (holds : List ℕ → Told) (parts : Parts) (setup : Setup) (rules : Option (List Op)) (whole : Prepared) → HasRules rules holds parts.rules
+    → VersionsCome parts.limits setup holds 0 parts.versions whole → RestComes setup holds parts (with_rules rules whole)
+rules_accepted holds parts setup rules whole h v =
+    let r = rules_go holds parts.rules rules h in
     record {
       rules = r.found;
       rules_agree = r.agree;
       versions = v.finds;
       versions_agree = v.agree;
-      is = r.is (versions_from plan.limits setup 0 v.finds) ∙ ap (with_rules rules) v.is;
+      is = r.is (versions_from parts.limits setup 0 v.finds) ∙ ap (with_rules rules) v.is;
     }
 
 -- versions that are ready are so with these rules
-pub rules_ready : (holds : List ℕ → Told) (plan : Plan) (setup : Setup) (rules : Option (List Op)) (machines : List Machine) → HasRules rules holds plan.rules
-    → VersionsCome plan.limits setup holds 0 plan.versions (Ready setup None machines) → RestComes setup holds plan (Ready setup rules machines)
-rules_ready holds plan setup None machines h v = rules_accepted holds plan setup None (Ready setup None machines) h v
-rules_ready holds plan setup (Some ops) machines h v = rules_accepted holds plan setup (Some ops) (Ready setup None machines) h v
+pub rules_ready : (holds : List ℕ → Told) (parts : Parts) (setup : Setup) (rules : Option (List Op)) (machines : List Machine) → HasRules rules holds parts.rules
+    → VersionsCome parts.limits setup holds 0 parts.versions (Ready setup None machines) → RestComes setup holds parts (Ready setup rules machines)
+rules_ready holds parts setup None machines h v = rules_accepted holds parts setup None (Ready setup None machines) h v
+rules_ready holds parts setup (Some ops) machines h v = rules_accepted holds parts setup (Some ops) (Ready setup None machines) h v
 
 unreadable_stays : (rules : Option (List Op)) (place : Place) → with_rules rules (Unreadable place) ≡ Unreadable place
 unreadable_stays None place = refl
@@ -105,14 +105,21 @@ refused_stays None place cause = refl
 refused_stays (Some ops) place cause = refl
 
 -- the rules decide
-pub rules_stop : (holds : List ℕ → Told) (plan : Plan) (setup : Setup) (whole : Prepared) → RulesStop holds plan.rules whole → RestComes setup holds plan whole
-rules_stop holds plan setup whole s = record {
+pub rules_stop : (holds : List ℕ → Told) (parts : Parts) (setup : Setup) (whole : Prepared) → RulesStop holds parts.rules whole → RestComes setup holds parts whole
+rules_stop holds parts setup whole s = record {
   rules = s.rules;
   rules_agree = s.agree;
-  versions = map (λ name. found_of (holds name)) plan.versions;
-  versions_agree = all_told holds plan.versions;
-  is = s.is (versions_from plan.limits setup 0 (map (λ name. found_of (holds name)) plan.versions));
+  versions = map (λ name. found_of (holds name)) parts.versions;
+  versions_agree = all_told holds parts.versions;
+  is = s.is (versions_from parts.limits setup 0 (map (λ name. found_of (holds name)) parts.versions));
 }
+
+-- What stops the reading of some files stops that of more, where no read failed before.
+pub stops_more : (Comes More : Prepared → Type 0) (refusal : Refusal) (f0 f f' t0 t t' : ℕ) → ((place : Place) → Comes (Unreadable place) → More (Unreadable place))
+    → ((place : Place) (cause : Cause) → Comes (Refused place cause) → More (Refused place cause)) → f ≡ f0 → t0 ≤ t → Stops Comes refusal f f' t t' → Stops More refusal f0 f' t0 t'
+stops_more Comes More refusal.Memory f0 f f' t0 t t' unread unfit fs ts h = h ∙ fs
+stops_more Comes More (refusal.Unreadable place) f0 f f' t0 t t' unread unfit fs ts h = (unread place h.0, omega (arith, fs, h.1))
+stops_more Comes More (refusal.Input place cause) f0 f f' t0 t t' unread unfit fs ts h = (unfit place cause h.0, h.1 ∙ fs, λ e. let long = h.2 e in omega (arith, ts, long))
 
 -- rules can't be read
 pub rules_unreadable : (refusal : Refusal) (holds : List ℕ → Told) (named : Option (List ℕ)) (name : List ℕ) (f f' t t' : ℕ) → named ≡ Some name
@@ -148,24 +155,19 @@ pub rules_read : (ops : List Op) (holds : List ℕ → Told) (named : Option (Li
 rules_read ops holds named name e h = subst (λ (n : Option (List ℕ)). HasRules (Some ops) holds n) (sym e) h
 
 -- the refusal of the rules is that of the rest
-pub rest_by_rules : (refusal : Refusal) (holds : List ℕ → Told) (plan : Plan) (setup : Setup) (f f' t t' : ℕ) → RulesRefused refusal holds plan.rules f f' t t' → RestRefused refusal setup holds plan f f' t t'
-rest_by_rules refusal.Memory holds plan setup f f' t t' h = h
-rest_by_rules (refusal.Unreadable place) holds plan setup f f' t t' h = (rules_stop holds plan setup (Unreadable place) h.0, h.1)
-rest_by_rules (refusal.Input place cause) holds plan setup f f' t t' h = (rules_stop holds plan setup (Refused place cause) h.0, h.1, h.2)
+pub rest_by_rules : (refusal : Refusal) (holds : List ℕ → Told) (parts : Parts) (setup : Setup) (f f' t t' : ℕ) → RulesRefused refusal holds parts.rules f f' t t' → RestRefused refusal setup holds parts f f' t t'
+rest_by_rules refusal holds parts setup f f' t t' h =
+    stops_more (RulesStop holds parts.rules) (RestComes setup holds parts) refusal f f f' t t t' (λ place. rules_stop holds parts setup (Unreadable place))
+    (λ place cause. rules_stop holds parts setup (Refused place cause)) refl (omega arith) h
 
 -- after rules that were read the refusal of the versions is that of the rest
-pub rest_by_versions : (refusal : Refusal) (holds : List ℕ → Told) (plan : Plan) (setup : Setup) (rules : Option (List Op)) (f0 f f' t0 t t' : ℕ) → HasRules rules holds plan.rules → f ≡ f0 → t0 ≤ t
-    → VersionsRefused plan.limits setup refusal holds plan.versions f f' t t' → RestRefused refusal setup holds plan f0 f' t0 t'
-rest_by_versions refusal.Memory holds plan setup rules f0 f f' t0 t t' r fs ts h = h ∙ fs
-rest_by_versions (refusal.Unreadable place) holds plan setup rules f0 f f' t0 t t' r fs ts h = (
-  subst (λ (w : Prepared). RestComes setup holds plan w) (unreadable_stays rules place) (rules_accepted holds plan setup rules (Unreadable place) r h.0),
-  omega (arith, fs, h.1),
-)
-rest_by_versions (refusal.Input place cause) holds plan setup rules f0 f f' t0 t t' r fs ts h = (
-  subst (λ (w : Prepared). RestComes setup holds plan w) (refused_stays rules place cause) (rules_accepted holds plan setup rules (Refused place cause) r h.0),
-  h.1 ∙ fs,
-  λ e. let long = h.2 e in omega (arith, ts, long),
-)
+pub rest_by_versions : (refusal : Refusal) (holds : List ℕ → Told) (parts : Parts) (setup : Setup) (rules : Option (List Op)) (f0 f f' t0 t t' : ℕ) → HasRules rules holds parts.rules → f ≡ f0 → t0 ≤ t
+    → VersionsRefused parts.limits setup refusal holds parts.versions f f' t t' → RestRefused refusal setup holds parts f0 f' t0 t'
+rest_by_versions refusal holds parts setup rules f0 f f' t0 t t' r fs ts h =
+    stops_more (VersionsCome parts.limits setup holds 0 parts.versions) (RestComes setup holds parts) refusal f0 f f' t0 t t'
+    (λ place v. subst (λ (w : Prepared). RestComes setup holds parts w) (unreadable_stays rules place) (rules_accepted holds parts setup rules (Unreadable place) r v))
+    (λ place cause v. subst (λ (w : Prepared). RestComes setup holds parts w) (refused_stays rules place cause) (rules_accepted holds parts setup rules (Refused place cause) r v))
+    fs ts h
 
 -- the script decides
 script_stops : (holds : List ℕ → Told) (plan : Plan) (found : Found) (whole : Prepared) → Agrees (holds plan.script) found
@@ -296,12 +298,25 @@ module _ (limits : Limits) (setup : Setup) where
 
 -- after an accepted script the refusal of the rest is that of the run
 pub run_refused : (refusal : Refusal) (holds : List ℕ → Told) (plan : Plan) (bytes : List ℕ) (setup : Setup) (f0 f f' t0 t t' : ℕ) → IsReadOf bytes (holds plan.script)
-    → script_of bytes ≡ Ok setup → f ≡ f0 → t0 ≤ t → RestRefused refusal setup holds plan f f' t t' → Refuses refusal holds plan f0 f' t0 t'
-run_refused refusal.Memory holds plan bytes setup f0 f f' t0 t t' r ok fs ts h = h ∙ fs
-run_refused (refusal.Unreadable place) holds plan bytes setup f0 f f' t0 t t' r ok fs ts h =
-    (script_accepted holds plan bytes setup (Unreadable place) r ok h.0, omega (arith, fs, h.1))
-run_refused (refusal.Input place cause) holds plan bytes setup f0 f f' t0 t t' r ok fs ts h = (
-  script_accepted holds plan bytes setup (Refused place cause) r ok h.0,
-  h.1 ∙ fs,
-  λ e. let long = h.2 e in omega (arith, ts, long),
-)
+    → script_of bytes ≡ Ok setup → f ≡ f0 → t0 ≤ t → RestRefused refusal setup holds (run_parts plan) f f' t t' → Refuses refusal holds plan f0 f' t0 t'
+run_refused refusal holds plan bytes setup f0 f f' t0 t t' r ok fs ts h =
+    stops_more (RestComes setup holds (run_parts plan)) (ComesTo plan holds) refusal f0 f f' t0 t t' (λ place. script_accepted holds plan bytes setup (Unreadable place) r ok)
+    (λ place cause. script_accepted holds plan bytes setup (Refused place cause) r ok) fs ts h
+
+-- what the rest comes to stays, where the source tells the same
+pub rest_still : (refusal : Refusal) (setup : Setup) (holds holds' : List ℕ → Told) (parts : Parts) (f f' t t' : ℕ) → holds' ≡ holds → RestRefused refusal setup holds' parts f f' t t'
+    → RestRefused refusal setup holds parts f f' t t'
+rest_still refusal setup holds holds' parts f f' t t' same h = subst (λ (z : List ℕ → Told). RestRefused refusal setup z parts f f' t t') same h
+
+-- rules and versions that are ready after a script
+pub rest_ready : (setup : Setup) (rules : Option (List Op)) (versions : List (Running Proc)) (holds : List ℕ → Told) (parts : Parts) → HasRules rules holds parts.rules
+    → AreLoaded parts.limits setup versions holds parts.versions → AreFresh threads 0 versions → length parts.versions ≤ 8 → IsRest setup rules versions holds parts
+rest_ready setup rules versions holds parts read loaded fresh few =
+    let ready = all_ready parts.limits setup versions holds parts.versions 0 loaded in
+    record {
+      machines = ready.machines;
+      processes = ready.processes;
+      comes = rules_ready holds parts setup rules ready.machines read ready.come;
+      fresh = fresh;
+      few = omega (arith, few, length-loaded parts.limits setup versions holds parts.versions loaded);
+    }

@@ -9,7 +9,7 @@ use Rattle.nv_outside.specs.declared.sink.Put.TheVariants.{Whole, Failed}
 use Rattle.nv_replay.specs.declared.standing.Standing.{Standing}
 use Rattle.nv_replay.specs.Follow.{is_exited}
 use Rattle.nv_replay.specs.Lead.{is_memory}
-use Rattle.nv_command.specs.Words.{Name, Plan, Job, Trail, Command, Runs, Uses, Generates, Records, Replays, Inspects, Helps, asked_by, after_program, command_of, command_name}
+use Rattle.nv_command.specs.Words.{Name, Plan, Service, Job, Trail, Command, Runs, Serves, Uses, Generates, Records, Replays, Inspects, Helps, asked_by, after_program, command_of, command_name}
 use Rattle.nv_replay.specs.Follow.{follow, fresh, judge_of}
 use Rattle.nv_replay.specs.declared.fate.Fate.{Fate}
 use Rattle.nv_replay.specs.declared.fate.Fate.TheVariants.{Exited}
@@ -26,11 +26,12 @@ use Rattle.nv_jobs.proofs.Followed.{LacksRead, same_traced}
 use Rattle.nv_jobs.specs.Found.{Found, Unread, found_of, finds_of}
 use Rattle.nv_jobs.specs.Prepared.{Prepared, Unreadable, Refused, Ready, prepared}
 use Rattle.nv_jobs.specs.Made.{made_of}
-use Rattle.nv_jobs.specs.Outcome.{Source, Outcome, Usage, NoMemory, NotRead, NotAccepted, Reported, Made, Summed, Recorded, TraceTooLong, Replayed, Shown, Helped, outcome_status, ended_with}
-use Rattle.nv_jobs.specs.Due.{RunComesTo, RunOwes, JobOwes, Owes, OwesAny, IsDue, Shows, Answers, IsReady, IsMade, IsAccepted, IsRefusedAt, IsRefusedFor, IsRefused, IsReport, IsDone, Completes, Rejects, made_outcome, RecordComesTo, RecordOwes, TrailOwes, traced_outcome, lack_outcome, replayed, shown as shown_by, IsTraced, IsRefusedOn}
+use Rattle.nv_jobs.specs.Outcome.{Source, Outcome, Usage, NoMemory, NotRead, NotAccepted, Reported, Made, Summed, Recorded, TraceTooLong, Replayed, Shown, Helped, Served, outcome_status, ended_with}
+use Rattle.nv_jobs.specs.Due.{RunComesTo, RunOwes, JobOwes, Owes, OwesAny, IsDue, Shows, Answers, IsReady, IsMade, IsAccepted, IsRefusedAt, IsRefusedFor, IsRefused, IsReport, IsDone, Completes, Rejects, made_outcome, RecordComesTo, RecordOwes, ServeComesTo, ServeOwes, TrailOwes, traced_outcome, lack_outcome, replayed, shown as shown_by, IsTraced, IsRefusedOn}
 use Rattle.nv_jobs.specs.declared.tools.Unmade.{Unmade}
 use Rattle.nv_jobs.specs.declared.tools.Unmade.TheVariants as unmade
-use Rattle.nv_jobs.proofs.Decided.{IsUnread, same_found, same_prepared}
+use Rattle.nv_jobs.specs.Live.{live_prepared, live_finds_of}
+use Rattle.nv_jobs.proofs.Decided.{IsUnread, same_found, same_prepared, same_live_prepared}
 
 -- a run has one of three statuses
 one_of : (exited memory : Bool) (n : ℕ) → n ≡ (if exited then 0 else (if memory then 7 else 1)) → IsReport n
@@ -92,6 +93,17 @@ module _ (source : Source) (no_fault : Rose source.faults source.later_faults �
       subst (λ (p : Prepared). RecordComesTo plan p outcome)
       (same_prepared source.holds plan r.finds r.agree (record_readable plan (prepared plan.limits r.finds) r.comes) told) r.comes
 
+  serve_readable : (service : Service) (whole : Prepared) → ServeComesTo service whole outcome → IsUnread whole → ⊥
+  serve_readable service (Unreadable place) comes u = readable _ comes
+  serve_readable service (Refused place cause) comes u = u
+  serve_readable service (Ready setup rules machines) comes u = u
+
+  serve_told : (service : Service) (r : ServeOwes service source.holds outcome) → (IsUnread (live_prepared service.limits (live_finds_of source.holds service)) → ⊥)
+      → ServeComesTo service (live_prepared service.limits (live_finds_of source.holds service)) outcome
+  serve_told service r told =
+      subst (λ (p : Prepared). ServeComesTo service p outcome)
+      (same_live_prepared source.holds service r.finds r.agree (serve_readable service (live_prepared service.limits r.finds) r.comes) told) r.comes
+
   module _ (trail : Trail) (made : Traced → Outcome) where
     trail_readable : (given : Result Traced Lack) → outcome ≡ traced_outcome trail made given → LacksRead given → ⊥
     trail_readable (Ok files) comes u = u
@@ -140,6 +152,16 @@ record_refused_status : (plan : Plan) (whole : Prepared) (outcome : Outcome) →
 record_refused_status plan (Unreadable place) outcome refused comes = absurd refused
 record_refused_status plan (Refused place cause) outcome refused comes = ap outcome_status comes
 record_refused_status plan (Ready setup rules machines) outcome refused comes = absurd refused
+
+serve_ready_status : (service : Service) (whole : Prepared) (outcome : Outcome) → IsReady whole → ServeComesTo service whole outcome → IsDone (Serves service) (outcome_status outcome)
+serve_ready_status service (Unreadable place) outcome ready comes = absurd ready
+serve_ready_status service (Refused place cause) outcome ready comes = absurd ready
+serve_ready_status service (Ready setup rules machines) outcome ready comes = run_done comes.1.lines (outcome_status outcome) (ap outcome_status comes.2)
+
+serve_refused_status : (service : Service) (whole : Prepared) (outcome : Outcome) → IsRefusedAt whole → ServeComesTo service whole outcome → outcome_status outcome ≡ 4
+serve_refused_status service (Unreadable place) outcome refused comes = absurd refused
+serve_refused_status service (Refused place cause) outcome refused comes = ap outcome_status comes
+serve_refused_status service (Ready setup rules machines) outcome refused comes = absurd refused
 
 lack_status : (trail : Trail) (place : Place) (cause : Cause) → outcome_status (lack_outcome trail (lack.Refused place cause)) ≡ 4
 lack_status trail Trace Long = refl
@@ -201,6 +223,9 @@ module _ (source : Source) (no_fault : Rose source.faults source.later_faults �
       traced_status look.trail (shown_by look) outcome (λ n. n ≡ 0) (λ files. refl) (traced look.trail (trace_finds_of source.holds look.trail)) accepted
       (trail_told source no_fault outcome shown look.trail (shown_by look) owed (traced_read look.trail (shown_by look) outcome (traced look.trail (trace_finds_of source.holds look.trail)) accepted))
   accepted_status (Helps topic) owed accepted = ap outcome_status owed
+  accepted_status (Serves service) owed accepted =
+      serve_ready_status service (live_prepared service.limits (live_finds_of source.holds service)) outcome accepted
+      (serve_told source no_fault outcome shown service owed (ready_read (live_prepared service.limits (live_finds_of source.holds service)) accepted))
 
   rejected_status : (command : Command) → Owes command source.holds outcome → IsRefused command source.holds → outcome_status outcome ≡ 4
   rejected_status (Runs plan) owed refused =
@@ -220,6 +245,9 @@ module _ (source : Source) (no_fault : Rose source.faults source.later_faults �
       lacking_status look.trail (shown_by look) outcome (traced look.trail (trace_finds_of source.holds look.trail)) refused
       (trail_told source no_fault outcome shown look.trail (shown_by look) owed (lacking_read look.trail (shown_by look) outcome (traced look.trail (trace_finds_of source.holds look.trail)) refused))
   rejected_status (Helps topic) owed refused = absurd refused
+  rejected_status (Serves service) owed refused =
+      serve_refused_status service (live_prepared service.limits (live_finds_of source.holds service)) outcome refused
+      (serve_told source no_fault outcome shown service owed (refused_read (live_prepared service.limits (live_finds_of source.holds service)) refused))
 
 -- an outcome that is due and shown, and the status that the call ended with
 module _ (words : List (List ℕ)) (source : Source) (status : ℕ) (outcome : Outcome) (due : IsDue words source.holds outcome) (shown : Shows outcome source)
@@ -275,6 +303,7 @@ five (TraceTooLong name) Whole source n shown ends is = absurd (omega arith)
 five (Replayed at) Whole source n shown ends is = absurd (two_not_five n (replay_done at.fate n ends) is)
 five (Shown text) Whole source n shown ends is = absurd (omega arith)
 five (Helped topic) Whole source n shown ends is = absurd (omega arith)
+five (Served setup account) Whole source n shown ends is = absurd (not_five n (run_done account.lines n ends) is)
 five outcome Failed source n shown ends is = absurd (omega arith)
 
 six : (outcome : Outcome) (put : Put) (n : ℕ) → n ≡ ended_with put (outcome_status outcome) → n ≡ 6 → put ≡ Failed
@@ -291,6 +320,7 @@ six (TraceTooLong name) Whole n ends is = absurd (omega arith)
 six (Replayed at) Whole n ends is = absurd (two_not_six n (replay_done at.fate n ends) is)
 six (Shown text) Whole n ends is = absurd (omega arith)
 six (Helped topic) Whole n ends is = absurd (omega arith)
+six (Served setup account) Whole n ends is = absurd (not_six n (run_done account.lines n ends) is)
 
 -- the status of a text is never that of a write fault
 pub never_six : (outcome : Outcome) → outcome_status outcome ≡ 6 → ⊥

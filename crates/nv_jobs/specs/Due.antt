@@ -16,6 +16,7 @@ use Rattle.nv_jobs.specs.Found.{Found, Finds, Agrees, AreFound, TookLong, TookMo
 use Rattle.nv_jobs.specs.Prepared.{Prepared, Unreadable, Refused, Ready, prepared}
 use Rattle.nv_jobs.specs.Live.{Streams, Lived, AreLiveFound, live_prepared, live_finds_of, with_arrivals}
 use Rattle.nv_jobs.specs.declared.ending.Ending.{Ending}
+use Rattle.nv_jobs.specs.declared.ending.Ending.TheVariants.{Finished}
 use Rattle.nv_arrivals.specs.Arrivals.{Arrival}
 use Rattle.nv_jobs.specs.Generated.{IsMadeRun}
 use Rattle.nv_jobs.specs.Made.{made_of}
@@ -121,7 +122,7 @@ abbrev pub ServeComesTo : Service → Prepared → Outcome → Type 0
 ServeComesTo service (Unreadable place) outcome = outcome ≡ NotRead (name_in place service)
 ServeComesTo service (Refused place cause) outcome = outcome ≡ NotAccepted (name_in place service) cause
 ServeComesTo service (Ready setup rules machines) outcome =
-    (arrivals : List Arrival) × (account : Account) × (ending : Ending) × (outcome ≡ Served (with_arrivals setup arrivals) account ending)
+    (arrivals : List Arrival) × (account : Account) × (outcome ≡ Served (with_arrivals setup arrivals) account)
     × IsRunOf service.limits (with_arrivals setup arrivals) rules machines account
 
 pub record ServeOwes (service : Service) (holds : List ℕ → Told) (outcome : Outcome) : Type 0 where
@@ -167,7 +168,7 @@ Shows (TraceTooLong name) source = (source.later_faults ≡ source.faults) × To
 Shows (Replayed at) source = source.later_faults ≡ source.faults
 Shows (Shown text) source = source.later_faults ≡ source.faults
 Shows (Helped topic) source = IsUntouched source
-Shows (Served setup account ending) source = source.later_faults ≡ source.faults
+Shows (Served setup account) source = source.later_faults ≡ source.faults
 
 -- A text was written with its status; or a write failed, its count rose, a prefix of the text was written, and the status is 6.
 pub record Says (text : List ℕ) (text_status : ℕ) (before : Option (List ℕ)) (faults : ℕ) (status : ℕ) (after : Option (List ℕ)) (later_faults : ℕ) : Type 0 where
@@ -184,19 +185,19 @@ pub record Answers (words : List (List ℕ)) (source : Source) (before : Option 
   pub says : Says (text_of outcome) (outcome_status outcome) before faults status after later_faults
 
 -- What a live run that came to this did over its streams. Where memory was wanted they may be gone.
-abbrev pub ServedOver : Outcome → Streams → Option Streams → Type 0
-ServedOver (Served setup account ending) before None = ⊥
-ServedOver (Served setup account ending) before (Some after) = Lived setup account.log ending before after
-ServedOver NoMemory before later = (later ≡ Some before) ⊎ (later ≡ None)
-ServedOver outcome before later = later ≡ Some before
+abbrev pub ServedOver : Outcome → Streams → Option (Streams × Ending) → Type 0
+ServedOver (Served setup account) before None = ⊥
+ServedOver (Served setup account) before (Some after) = Lived setup account.log after.1 before after.0
+ServedOver NoMemory before later = (later ≡ Some (before, Finished)) ⊎ (later ≡ None)
+ServedOver outcome before later = later ≡ Some (before, Finished)
 
 -- no other command touches the streams of a live run
-abbrev pub Over : Option Command → Outcome → Streams → Option Streams → Type 0
+abbrev pub Over : Option Command → Outcome → Streams → Option (Streams × Ending) → Type 0
 Over (Some (Serves service)) outcome before later = ServedOver outcome before later
-Over command outcome before later = later ≡ Some before
+Over command outcome before later = later ≡ Some (before, Finished)
 
 -- The call answers, and over the streams of a live run does what its outcome tells.
-pub record AnswersOver (words : List (List ℕ)) (source : Source) (streams : Streams) (before : Option (List ℕ)) (faults : ℕ) (status : ℕ) (after : Option (List ℕ)) (later_faults : ℕ) (later : Option Streams) : Type 0 where
+pub record AnswersOver (words : List (List ℕ)) (source : Source) (streams : Streams) (before : Option (List ℕ)) (faults : ℕ) (status : ℕ) (after : Option (List ℕ)) (later_faults : ℕ) (later : Option (Streams × Ending)) : Type 0 where
   pub answers : Answers words source before faults status after later_faults
   pub over : Over (command_of words) answers.outcome streams later
 
@@ -264,8 +265,7 @@ IsDone (Records plan) status = (status ≡ 0) ⊎ (status ≡ 1)
 IsDone (Replays trail) status = (status ≡ 0) ⊎ (status ≡ 1)
 IsDone (Inspects look) status = status ≡ 0
 IsDone (Helps topic) status = status ≡ 0
--- where a stream of it has failed, that is its status
-IsDone (Serves service) status = IsReport status ⊎ ((status ≡ 5) ⊎ (status ≡ 6))
+IsDone (Serves service) status = IsReport status
 
 -- Files that are told and accepted, and no fault: the command does its work, or memory is wanted.
 abbrev pub Completes : List (List ℕ) → Source → ℕ → ℕ → ℕ → Type 0

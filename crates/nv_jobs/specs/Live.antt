@@ -19,7 +19,7 @@ use Rattle.nv_outside.specs.declared.sink.Put.TheVariants.{Whole, Failed}
 use Rattle.nv_script.specs.Scripts.{Setup, script_of}
 use Rattle.nv_script.specs.declared.fault.ScriptFault.{ScriptFault}
 use Rattle.nv_jobs.specs.Found.{Found, Finds, Agrees, AgreesIf, AllAgree, found_of}
-use Rattle.nv_jobs.specs.Found as found
+use Rattle.nv_jobs.specs.Found as file
 use Rattle.nv_jobs.specs.Prepared.{Prepared, Refused, read_at, after_rules, versions_from}
 use Rattle.nv_jobs.specs.declared.ending.Ending.{Ending}
 use Rattle.nv_jobs.specs.declared.ending.Ending.TheVariants.{Finished, Unread, Unsaid, Untold}
@@ -72,7 +72,7 @@ live_prepared limits finds =
 
 -- a script that isn't named says nothing
 abbrev pub AgreesOrBare : (List ℕ → Told) → Option (List ℕ) → Found → Type 0
-AgreesOrBare holds None found = found ≡ found.Whole bare_text
+AgreesOrBare holds None found = found ≡ file.Whole bare_text
 AgreesOrBare holds (Some name) found = Agrees (holds name) found
 
 -- what is found agrees with what the source tells
@@ -83,7 +83,7 @@ pub record AreLiveFound (service : Service) (holds : List ℕ → Told) (finds :
 
 -- what is found of a script that is told, or isn't named
 abbrev pub found_or_bare : (List ℕ → Told) → Option (List ℕ) → Found
-found_or_bare holds None = found.Whole bare_text
+found_or_bare holds None = file.Whole bare_text
 found_or_bare holds (Some name) = found_of (holds name)
 
 abbrev pub live_finds_of : (List ℕ → Told) → Service → Finds

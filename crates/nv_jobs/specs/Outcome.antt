@@ -52,7 +52,7 @@ pub data Outcome : Type 0 where
   -- how a command is used, or each of them
   Helped : Option Name → Outcome
   -- a live run has its account, over what its script says and what came
-  Served : Setup → Account → Ending → Outcome
+  Served : Setup → Account → Outcome
 
 -- the report of an account, with what was written to the connections, or its JSON form and a newline
 abbrev pub account_text : Bool → Setup → Account → List ℕ
@@ -69,14 +69,7 @@ totals_of output account = record {
   rewrites = sum_by (λ line. line.rewrites) account.lines;
 }
 
--- what failed of the streams of a live run, told behind its transcript
-abbrev pub ending_text : Ending → List ℕ
-ending_text Finished = []
-ending_text Unread = codes "# varan: read standard input\n"
-ending_text Unsaid = codes "# varan: write standard output\n"
-ending_text Untold = []
-
--- what failed takes the place of the run's own status
+-- the status of a process that served: that of a stream that failed takes the place of the run's
 abbrev pub ending_status : Ending → ℕ → ℕ
 ending_status Finished status = status
 ending_status Unread status = 5
@@ -97,7 +90,7 @@ text_of (TraceTooLong name) = concat (codes "varan: input " ∷ name ∷ codes "
 text_of (Replayed at) = replay_text at
 text_of (Shown text) = text
 text_of (Helped topic) = help_of topic
-text_of (Served setup account ending) = ending_text ending
+text_of (Served setup account) = []
 
 abbrev pub outcome_status : Outcome → ℕ
 outcome_status Usage = 2
@@ -112,7 +105,7 @@ outcome_status (TraceTooLong name) = 4
 outcome_status (Replayed at) = replay_status at.fate
 outcome_status (Shown text) = 0
 outcome_status (Helped topic) = 0
-outcome_status (Served setup account ending) = ending_status ending (run_status account.lines)
+outcome_status (Served setup account) = run_status account.lines
 
 -- a write fault takes the place of the other statuses
 abbrev pub ended_with : Put → ℕ → ℕ

@@ -1,5 +1,5 @@
 //! What the top call owes (specs/Due), the reading and refusing of files, and the commands that need no other threads.
-//! Types: `Task`, `Prepared`, `Refusal`, `Place`, `Cause`; function `answer_alone`.
+//! Types: `Task`, `Prepared`, `LivePrepared`, `Refusal`, `Place`, `Cause`, `Ending`; function `answer_alone`.
 //! Proved: the first file in order that can't be read or is refused is named; `asm`, `rules`, `replay`, `inspect`, `help` and
 //! refused words are answered as they are owed, without waiting; each ending says its text with its status.
 //! Above: the top call.
@@ -11,6 +11,7 @@ mod generating;
 mod inspecting;
 mod jobs;
 mod limits;
+mod live;
 mod preparing;
 mod refusal;
 mod refusing;
@@ -19,13 +20,14 @@ mod task;
 mod tools;
 mod trails;
 
-pub use ending::Ending;
+pub use ending::{Ending, ending_status, how_ended};
 pub use endings::{
     INPUT, MEMORY, READ_FAULT, USAGE, WRITE_FAULT, count_exited, ended, put_line, starved, status,
 };
 pub use generating::generate;
 pub use jobs::{answer_alone, refuse_words};
+pub use live::{LivePrepared, prepare_live};
 pub use preparing::{Prepared, prepare};
 pub use refusal::{Cause, Place, Refusal};
-pub use refusing::refuse;
+pub use refusing::{refuse, refuse_live};
 pub use task::Task;

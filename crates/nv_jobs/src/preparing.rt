@@ -11,7 +11,7 @@ ghost use Rattle.nv_command.specs.Seen.{limits_view, names_view, rules_view, pla
 ghost use Rattle.nv_jobs.specs.Prepared.{Loads, version_from};
 ghost use Rattle.nv_jobs.specs.Found.{IsReadWithin};
 ghost use Rattle.nv_jobs.specs.Refusals.{Refuses, IsPlanned, IsPrepared};
-ghost use Rattle.nv_jobs.specs.inner.Refusals.{ReadRefused, IsScriptRefusal, IsFilterRefusal, HasRules, RulesRefused, IsVersionRefusal, VersionRefused, VersionsRefused, HasLoaded, AreLoaded};
+ghost use Rattle.nv_jobs.specs.inner.Refusals.{parts_with, ReadRefused, IsScriptRefusal, IsFilterRefusal, HasRules, RulesRefused, IsVersionRefusal, VersionRefused, VersionsRefused, HasLoaded, AreLoaded, IsRest, RestRefused};
 
 use crate::limits::FILE_LIMIT;
 use crate::refusal::{Cause, Place, Refusal};
@@ -209,6 +209,40 @@ fn read_versions<F: Files>(
     Ok(versions)
 }
 
+/// The filter that judges followers, and versions that haven't run.
+#[derive(Drop)]
+pub struct Rest {
+    pub rules: Option<Filter>,
+    pub versions: Vec<Version>,
+}
+
+// Reads what a run reads after its script: the rules, if they are named, and the versions in order.
+pub fn read_rest<F: Files>(
+    alloc: Global,
+    files: &mut F,
+    script: &Script,
+    limits: Limits,
+    rules_name: Option<&str>,
+    names: &[&str],
+) -> Result<Rest, Refusal>
+    requires { length names.now ≤ 8 }
+    ensures ready { IfOk result (λ rest. IsRest (setup_of script.now) rest.rules rest.versions.items (F.holds files.old)
+        (parts_with (limits_view limits) (rules_view rules_name.entry) (names_view names.now))) }
+    ensures refused { IfErr result (λ refusal. RestRefused refusal (setup_of script.now) (F.holds files.old)
+        (parts_with (limits_view limits) (rules_view rules_name.entry) (names_view names.now))
+        (F.faults files.old) (F.faults files.new) (F.taken files.old) (F.taken files.new)) }
+    ensures faults { OnOk result (F.faults files.new ≡ F.faults files.old) }
+{
+    let rules = match read_rules(alloc, files, rules_name) {
+        Ok(rules) => rules,
+        Err(refusal) => return Err(refusal),
+    };
+    match read_versions(alloc, files, limits, script, names) {
+        Ok(versions) => Ok(Rest { rules, versions }),
+        Err(refusal) => Err(refusal),
+    }
+}
+
 /// Reads the script, the rules if they are named, and the versions in order, and loads them. Each file is checked before the next is read.
 pub fn prepare<F: Files>(alloc: Global, files: &mut F, plan: &Run<'_>) -> Result<Prepared, Refusal>
     ensures ready { IfOk result (λ ready. IsPrepared ready.kernel.log ready.kernel.setup ready.rules ready.versions.items (F.holds files.old) (plan_view plan.now)) }
@@ -222,13 +256,17 @@ pub fn prepare<F: Files>(alloc: Global, files: &mut F, plan: &Run<'_>) -> Result
         Ok(script) => script,
         Err(refusal) => return Err(refusal),
     };
-    let rules = match read_rules(alloc, files, plan.rules) {
-        Ok(rules) => rules,
-        Err(refusal) => return Err(refusal),
-    };
-    match read_versions(alloc, files, plan.limits, &script, &plan.versions) {
-        Ok(versions) => {
+    match read_rest(
+        alloc,
+        files,
+        &script,
+        plan.limits,
+        plan.rules,
+        &plan.versions,
+    ) {
+        Ok(rest) => {
             let kernel = ScriptedKernel::make(alloc, &script)?;
+            let Rest { rules, versions } = rest;
             Ok(Prepared {
                 kernel,
                 rules,

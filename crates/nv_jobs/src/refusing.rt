@@ -1,14 +1,14 @@
 // What says that a file is refused.
 ghost use Rattle.std.specs.Prelude.{◌≡◌};
-ghost use Rattle.nv_command.specs.Seen.{plan_view, trail_view};
+ghost use Rattle.nv_command.specs.Seen.{plan_view, service_view, trail_view};
 ghost use Rattle.nv_jobs.specs.Due.{Says};
-ghost use Rattle.nv_jobs.specs.Outcome.{NotAccepted, NotRead, name_at, name_on, outcome_of, text_of};
+ghost use Rattle.nv_jobs.specs.Outcome.{NotAccepted, NotRead, name_at, name_in, name_on, outcome_of, live_outcome_of, text_of};
 ghost use Rattle.nv_jobs.specs.Ran.{Wrote, Tells};
 ghost use Rattle.nv_jobs.specs.inner.Trails.{refused_outcome};
 
 use crate::endings::{INPUT, MEMORY, READ_FAULT, ended, put_line};
 use crate::refusal::{Cause, Place, Refusal};
-use nv_command::{Run, Trail};
+use nv_command::{Run, Service, Trail};
 use nv_outside::{Sink, put_pieces};
 use std::alloc::Global;
 
@@ -31,6 +31,20 @@ fn name_on<'a>(place: Place, trail: &Trail<'a>) -> &'a str
         Place::Rules => trail.rules.unwrap_or(""),
         Place::Trace => trail.trace,
         Place::Version(_) => trail.version,
+    }
+}
+
+fn name_in<'a>(place: Place, service: &Service<'a>) -> &'a str
+    ensures { result.now ≡ name_in place (service_view service.now) }
+{
+    match place {
+        Place::Script => service.script.unwrap_or(""),
+        Place::Rules => service.rules.unwrap_or(""),
+        Place::Trace => "",
+        Place::Version(index) => service
+            .versions
+            .get(index as usize)
+            .map_or("", |name| *name),
     }
 }
 
@@ -70,6 +84,22 @@ pub fn refuse<S: Sink>(alloc: Global, sink: &mut S, refusal: Refusal, plan: &Run
         Refusal::Memory => put_line(sink, b"varan: memory\n", MEMORY),
         Refusal::Unreadable(place) => put_unread(sink, name(place, plan)),
         Refusal::Input(place, cause) => put_input(alloc, sink, name(place, plan), cause),
+    }
+}
+
+/// Says why a live run didn't start.
+pub fn refuse_live<S: Sink>(
+    alloc: Global,
+    sink: &mut S,
+    refusal: Refusal,
+    service: &Service<'_>,
+) -> u8
+    ensures { Tells (live_outcome_of refusal (service_view service.now)) (S.told sink.old) (S.faults sink.old) result (S.told sink.new) (S.faults sink.new) }
+{
+    match refusal {
+        Refusal::Memory => put_line(sink, b"varan: memory\n", MEMORY),
+        Refusal::Unreadable(place) => put_unread(sink, name_in(place, service)),
+        Refusal::Input(place, cause) => put_input(alloc, sink, name_in(place, service), cause),
     }
 }
 

@@ -1,19 +1,22 @@
 -- How the files of a run are read, and why a run doesn't start.
-use Rattle.std.specs.Prelude.{◌≡◌, ◌≢◌, ℕ, List, [], ◌∷◌, Option, None, Some, Ok, Err}
+use Rattle.std.specs.Prelude.{◌≡◌, ◌≢◌, ◌≤◌, ℕ, List, [], ◌∷◌, Option, None, Some, Ok, Err, length, map}
 use Rattle.nv_outside.specs.Counts.{Rose}
 use Rattle.nv_outside.specs.Told.{Told, MayFail}
-use Rattle.nv_command.specs.Words.{Limits, Plan}
+use Rattle.nv_command.specs.Words.{Limits, Parts, Plan, Service}
 use Rattle.nv_script.specs.Scripts.{Setup, script_of}
 use Rattle.nv_script.specs.declared.fault.ScriptFault.{ScriptFault}
 use Rattle.nv_bpf.specs.declared.op.Op.{Op}
 use Rattle.nv_bpf.specs.declared.op.FilterFault.{FilterFault}
 use Rattle.nv_bpf.specs.Texts.{filter_of}
 use Rattle.nv_machine.specs.Guest.{Machine}
-use Rattle.nv_threads.specs.Threads.{Proc}
-use Rattle.nv_replay.specs.Version.{Running}
+use Rattle.nv_threads.specs.Threads.{Proc, threads}
+use Rattle.nv_replay.specs.Version.{Running, process_of}
+use Rattle.nv_replay.specs.Account.{AreFresh}
 use Rattle.nv_jobs.specs.Account.{process_begun}
 use Rattle.nv_jobs.specs.Found.{Found, Whole, TooLong, Unread, Agrees, AgreesIf, AllAgree, IsReadOf, IsLongerThan, TookLong, TookMore}
-use Rattle.nv_jobs.specs.Prepared.{Prepared, Unreadable, Refused, Faulty, Loads, after_rules, version_from, versions_from}
+use Rattle.nv_jobs.specs.Live.{AgreesOrBare, live_script}
+use Rattle.nv_jobs.specs.Prepared.{Prepared, Unreadable, Refused, Ready, Faulty, Loads, read_at, after_rules, version_from, versions_from}
+use Rattle.nv_jobs.specs.Refusals.{Stops}
 use Rattle.nv_jobs.specs.declared.refusal.Place.{Place}
 use Rattle.nv_jobs.specs.declared.refusal.Place.TheVariants.{Script, Rules}
 use Rattle.nv_jobs.specs.declared.refusal.Cause.{Cause}
@@ -53,13 +56,31 @@ pub record VersionsCome (limits : Limits) (setup : Setup) (holds : List ℕ → 
   pub agree : AllAgree holds names finds
   pub is : versions_from limits setup i finds ≡ whole
 
+-- what is read after a script, with these limits
+abbrev pub parts_with : Limits → Option (List ℕ) → List (List ℕ) → Parts
+parts_with limits rules versions = record { rules = rules; versions = versions; limits = limits }
+
+abbrev pub run_parts : Plan → Parts
+run_parts plan = parts_with plan.limits plan.rules plan.versions
+
+abbrev pub live_parts : Service → Parts
+live_parts service = parts_with service.limits service.rules service.versions
+
 -- the same of the rules and the versions after a script
-pub record RestComes (setup : Setup) (holds : List ℕ → Told) (plan : Plan) (whole : Prepared) : Type 0 where
+pub record RestComes (setup : Setup) (holds : List ℕ → Told) (parts : Parts) (whole : Prepared) : Type 0 where
   pub rules : Option Found
-  pub rules_agree : AgreesIf holds plan.rules rules
+  pub rules_agree : AgreesIf holds parts.rules rules
   pub versions : List Found
-  pub versions_agree : AllAgree holds plan.versions versions
-  pub is : after_rules rules (versions_from plan.limits setup 0 versions) ≡ whole
+  pub versions_agree : AllAgree holds parts.versions versions
+  pub is : after_rules rules (versions_from parts.limits setup 0 versions) ≡ whole
+
+-- rules, and versions that are ready to run, to which the files after a script come
+pub record IsRest (setup : Setup) (rules : Option (List Op)) (versions : List (Running Proc)) (holds : List ℕ → Told) (parts : Parts) : Type 0 where
+  pub machines : List Machine
+  pub processes : map process_of versions ≡ map (process_begun parts.limits) machines
+  pub comes : RestComes setup holds parts (Ready setup rules machines)
+  pub fresh : AreFresh threads 0 versions
+  pub few : length versions ≤ 8
 
 -- the filter is that of the bytes that were read
 pub record IsFilterRead (ops : List Op) (told : Told) : Type 0 where
@@ -82,17 +103,11 @@ pub record RulesStop (holds : List ℕ → Told) (name : Option (List ℕ)) (who
 
 -- the rules can't be read or are refused, or memory is wanted
 abbrev pub RulesRefused : Refusal → (List ℕ → Told) → Option (List ℕ) → ℕ → ℕ → ℕ → ℕ → Type 0
-RulesRefused refusal.Memory holds name before now taken later = now ≡ before
-RulesRefused (refusal.Unreadable place) holds name before now taken later = RulesStop holds name (Unreadable place) × Rose before now
-RulesRefused (refusal.Input place cause) holds name before now taken later =
-    RulesStop holds name (Refused place cause) × (now ≡ before) × (cause ≡ Long → TookLong taken later)
+RulesRefused refusal holds name before now taken later = Stops (RulesStop holds name) refusal before now taken later
 
 -- the same of the rules and the versions after a script
-abbrev pub RestRefused : Refusal → Setup → (List ℕ → Told) → Plan → ℕ → ℕ → ℕ → ℕ → Type 0
-RestRefused refusal.Memory setup holds plan before now taken later = now ≡ before
-RestRefused (refusal.Unreadable place) setup holds plan before now taken later = RestComes setup holds plan (Unreadable place) × Rose before now
-RestRefused (refusal.Input place cause) setup holds plan before now taken later =
-    RestComes setup holds plan (Refused place cause) × (now ≡ before) × (cause ≡ Long → TookLong taken later)
+abbrev pub RestRefused : Refusal → Setup → (List ℕ → Told) → Parts → ℕ → ℕ → ℕ → ℕ → Type 0
+RestRefused refusal setup holds parts before now taken later = Stops (RestComes setup holds parts) refusal before now taken later
 
 -- the version is that of the bytes that were read
 pub record HasLoaded (limits : Limits) (setup : Setup) (version : Running Proc) (told : Told) : Type 0 where
@@ -130,7 +145,24 @@ AreLoaded limits setup (version ∷ versions) holds (name ∷ names) = HasLoaded
 
 -- the versions with these names can't be made
 abbrev pub VersionsRefused : Limits → Setup → Refusal → (List ℕ → Told) → List (List ℕ) → ℕ → ℕ → ℕ → ℕ → Type 0
-VersionsRefused limits setup refusal.Memory holds names before now taken later = now ≡ before
-VersionsRefused limits setup (refusal.Unreadable place) holds names before now taken later = VersionsCome limits setup holds 0 names (Unreadable place) × Rose before now
-VersionsRefused limits setup (refusal.Input place cause) holds names before now taken later =
-    VersionsCome limits setup holds 0 names (Refused place cause) × (now ≡ before) × (cause ≡ Long → TookLong taken later)
+VersionsRefused limits setup refusal holds names before now taken later = Stops (VersionsCome limits setup holds 0 names) refusal before now taken later
+
+-- ---- a live run's script
+
+-- the script says this, by its transcript's head, and nothing comes in it
+pub record IsLiveScript (head : List ℕ) (setup : Setup) (bytes : List ℕ) : Type 0 where
+  pub live : live_script bytes ≡ Ok setup
+  pub begins : script_of head ≡ Ok setup
+  pub none : setup.arrivals ≡ []
+
+-- it is refused, or memory is wanted
+abbrev pub IsLiveScriptRefusal : Refusal → List ℕ → Type 0
+IsLiveScriptRefusal refusal.Memory bytes = Unit {0}
+IsLiveScriptRefusal (refusal.Unreadable place) bytes = ⊥
+IsLiveScriptRefusal (refusal.Input place cause) bytes = (place ≡ Script) × (cause ≢ Long) × (live_script bytes ≡ Err cause)
+
+-- this is found of a script that may not be named, and stops the run
+pub record LiveScriptStops (holds : List ℕ → Told) (name : Option (List ℕ)) (whole : Prepared) : Type 0 where
+  pub found : Found
+  pub agrees : AgreesOrBare holds name found
+  pub is : (check : List ℕ → Prepared) → read_at Script found check ≡ whole
