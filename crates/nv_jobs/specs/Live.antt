@@ -1,5 +1,6 @@
 -- A live run: what its files come to, and what it does over standard input, standard output and its transcript.
-use Rattle.std.specs.Prelude.{◌≡◌, ℕ, ◌+◌, ◌-◌, Bool, false, not, ◌==◌, List, [], ◌∷◌, ◌++◌, Option, None, Some, option_map, Result, Ok, Err, if◌then◌else◌, codes, length, drop, map, prefix_len, get_or}
+use Rattle.std.specs.Prelude.{◌≡◌, ℕ, ◌+◌, ◌-◌, Bool, false, not, ◌==◌, List, [], ◌∷◌, ◌++◌, Option, None, Some, option_map, Result, Ok, Err, if◌then◌else◌, codes, length, drop, map, get_or}
+use Rattle.std.specs.List.{prefix_len}
 use Rattle.nv_arrivals.specs.Arrivals.{Arrival}
 use Rattle.nv_arrivals.specs.Doings.{Doing, Takes, takings, sayings}
 use Rattle.nv_arriving.specs.Arriving.{first_stage, stage_after}

@@ -1,5 +1,5 @@
 // How the files of a live run are read and loaded.
-ghost use Rattle.std.specs.Prelude.{◌≡◌, ◌≤◌, ◌==◌, not, true, [], List, ℕ, Some, Ok, IsTrue, IfOk, IfErr, OnOk, length, get_or, option_map};
+ghost use Rattle.std.specs.Prelude.{◌≡◌, ◌≤◌, ◌-◌, ◌==◌, not, true, [], List, ℕ, Some, Ok, IsTrue, IfOk, IfErr, OnOk, length, get_or, option_map};
 ghost use Rattle.std.specs.List.{prefix_len};
 ghost use Rattle.nv_script.specs.Scripts.{is_script};
 ghost use Rattle.nv_script.specs.Views.{setup_of};
