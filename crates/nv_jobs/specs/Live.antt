@@ -12,7 +12,7 @@ use Rattle.nv_live.specs.Live.{plain_text, stop_with}
 use Rattle.nv_live.specs.Taking.{Took}
 use Rattle.nv_live.specs.Transcript.{lines_of}
 use Rattle.nv_live.specs.declared.incoming.Stopped.{Stopped}
-use Rattle.nv_live.specs.declared.incoming.Stopped.TheVariants.{Ended, Unreadable, Unwritten}
+use Rattle.nv_live.specs.declared.incoming.Stopped.TheVariants as stop
 use Rattle.nv_outside.specs.Told.{Told}
 use Rattle.nv_outside.specs.Sink.{Puts}
 use Rattle.nv_outside.specs.declared.sink.Put.{Put}
@@ -23,7 +23,7 @@ use Rattle.nv_jobs.specs.Found.{Found, Finds, Agrees, AgreesIf, AllAgree, found_
 use Rattle.nv_jobs.specs.Found as file
 use Rattle.nv_jobs.specs.Prepared.{Prepared, Refused, read_at, after_rules, versions_from}
 use Rattle.nv_jobs.specs.declared.ending.Ending.{Ending}
-use Rattle.nv_jobs.specs.declared.ending.Ending.TheVariants.{Finished, Unread, Unsaid, Untold}
+use Rattle.nv_jobs.specs.declared.ending.Ending.TheVariants.{Finished, Unread, Unfit, Unsaid, Untold}
 use Rattle.nv_jobs.specs.declared.refusal.Place.TheVariants.{Script}
 use Rattle.nv_jobs.specs.declared.refusal.Cause.{Cause}
 use Rattle.nv_jobs.specs.declared.refusal.Cause.TheVariants as cause
@@ -105,12 +105,14 @@ pub record Streams : Type 0 where
   pub noted : Option (List ℕ)
   pub unnoted : ℕ
 
--- how a live run ended: a read or a write of it that failed, the first that stopped what comes before one of the transcript
+-- how a live run ended: a read or a write of it that failed, or a line that was refused or cut off; the first that stopped what comes before one of the transcript
 abbrev pub ending_of : Option Stopped → Put → Ending
-ending_of (Some Unreadable) noted = Unread
-ending_of (Some Unwritten) noted = Unsaid
-ending_of (Some Ended) Whole = Finished
-ending_of (Some Ended) Failed = Untold
+ending_of (Some stop.Unreadable) noted = Unread
+ending_of (Some (stop.Refused line cause)) noted = Unfit
+ending_of (Some (stop.CutOff line)) noted = Unfit
+ending_of (Some stop.Unwritten) noted = Unsaid
+ending_of (Some stop.Ended) Whole = Finished
+ending_of (Some stop.Ended) Failed = Untold
 ending_of None Whole = Finished
 ending_of None Failed = Untold
 

@@ -3,7 +3,7 @@ ghost use Rattle.std.specs.Prelude.{◌≡◌};
 ghost use Rattle.nv_jobs.specs.Live.{ending_of};
 ghost use Rattle.nv_jobs.specs.Outcome.{ending_status};
 
-use crate::endings::{READ_FAULT, WRITE_FAULT};
+use crate::endings::{INPUT, READ_FAULT, WRITE_FAULT};
 use nv_live::Stopped;
 use nv_outside::Put;
 
@@ -14,6 +14,8 @@ pub enum Ending {
     Finished,
     /// A read of standard input failed.
     Unread,
+    /// A line of standard input was refused, or its end came within one.
+    Unfit,
     /// A write to standard output failed.
     Unsaid,
     /// A write of the transcript failed.
@@ -26,9 +28,10 @@ pub fn how_ended(stopped: Option<Stopped>, told: Put) -> Ending
 {
     match (stopped, told) {
         (Some(Stopped::Unreadable), _) => Ending::Unread,
+        (Some(Stopped::Refused(_, _) | Stopped::CutOff(_)), _) => Ending::Unfit,
         (Some(Stopped::Unwritten), _) => Ending::Unsaid,
-        (_, Put::Whole) => Ending::Finished,
-        (_, Put::Failed) => Ending::Untold,
+        (Some(Stopped::Ended) | None, Put::Whole) => Ending::Finished,
+        (Some(Stopped::Ended) | None, Put::Failed) => Ending::Untold,
     }
 }
 
@@ -39,6 +42,7 @@ pub fn ending_status(ending: Ending, status: u8) -> u8
     match ending {
         Ending::Finished => status,
         Ending::Unread => READ_FAULT,
+        Ending::Unfit => INPUT,
         Ending::Unsaid | Ending::Untold => WRITE_FAULT,
     }
 }
