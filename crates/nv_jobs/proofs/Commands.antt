@@ -335,11 +335,11 @@ module _ (words : List (List ℕ)) (source : Source) (service : Service) (asked 
   starved_answers kept says = wanted_answers words source (Serves service) asked before faults status after later kept says
 
   -- what it did over its streams is that of a live run
-  pub over_served : (outcome : Outcome) (streams : Streams) (ended : Option (Streams × Ending)) → ServedOver outcome streams ended → Over (command_of words) outcome streams ended
+  pub over_served : (outcome : Outcome) (streams : Streams) (ended : Option (Streams × Ending)) → ServedOver service.clients outcome streams ended → Over (command_of words) outcome streams ended
   over_served outcome streams ended over = subst (λ (command : Option Command). Over command outcome streams ended) (sym asked) over
 
   module _ (streams : Streams) where
-    over_nothing : (a : Answers words source before faults status after later) → ServedOver a.outcome streams (Some (streams, Finished)) → AnswersOver words source streams before faults status after later (Some (streams, Finished))
+    over_nothing : (a : Answers words source before faults status after later) → ServedOver service.clients a.outcome streams (Some (streams, Finished)) → AnswersOver words source streams before faults status after later (Some (streams, Finished))
     over_nothing a over = record { answers = a; over = over_served a.outcome streams (Some (streams, Finished)) over }
 
     wanted_over : source.later_faults ≡ source.faults → Says (text_of NoMemory) 3 before faults status after later → AnswersOver words source streams before faults status after later (Some (streams, Finished))

@@ -1,5 +1,5 @@
 -- What a call of the monitor owes for its words and files, and what its answer shows.
-use Rattle.std.specs.Prelude.{◌≡◌, ◌⊎◌, ℕ, IsSome, false, List, take, Option, None, Some, Result, Ok, Err}
+use Rattle.std.specs.Prelude.{◌≡◌, ◌⊎◌, ℕ, IsSome, Bool, false, List, take, Option, None, Some, Result, Ok, Err}
 use Rattle.std.specs.List.{list_any}
 use Rattle.nv_outside.specs.Counts.{Rose}
 use Rattle.nv_outside.specs.Told.{Told}
@@ -184,16 +184,16 @@ pub record Answers (words : List (List ℕ)) (source : Source) (before : Option 
   pub unread : command_of words ≡ None → IsUntouched source
   pub says : Says (text_of outcome) (outcome_status outcome) before faults status after later_faults
 
--- What a live run that came to this did over its streams. Where memory was wanted they may be gone.
-abbrev pub ServedOver : Outcome → Streams → Option (Streams × Ending) → Type 0
-ServedOver (Served setup account) before None = ⊥
-ServedOver (Served setup account) before (Some after) = Lived setup account.log after.1 before after.0
-ServedOver NoMemory before later = (later ≡ Some (before, Finished)) ⊎ (later ≡ None)
-ServedOver outcome before later = later ≡ Some (before, Finished)
+-- What a live run that came to this did over its streams, which have lines of clients or not. Where memory was wanted they may be gone.
+abbrev pub ServedOver : Bool → Outcome → Streams → Option (Streams × Ending) → Type 0
+ServedOver clients (Served setup account) before None = ⊥
+ServedOver clients (Served setup account) before (Some after) = Lived clients setup account.log after.1 before after.0
+ServedOver clients NoMemory before later = (later ≡ Some (before, Finished)) ⊎ (later ≡ None)
+ServedOver clients outcome before later = later ≡ Some (before, Finished)
 
 -- no other command touches the streams of a live run
 abbrev pub Over : Option Command → Outcome → Streams → Option (Streams × Ending) → Type 0
-Over (Some (Serves service)) outcome before later = ServedOver outcome before later
+Over (Some (Serves service)) outcome before later = ServedOver service.clients outcome before later
 Over command outcome before later = later ≡ Some (before, Finished)
 
 -- The call answers, and over the streams of a live run does what its outcome tells.

@@ -8,8 +8,8 @@ use Rattle.nv_arriving.specs.Doings.{doings}
 use Rattle.nv_calls.specs.Calls.{Entry}
 use Rattle.nv_calls.specs.Logs.{calls_of}
 use Rattle.nv_command.specs.Words.{Limits, Service}
-use Rattle.nv_live.specs.Live.{plain_text, stop_with}
-use Rattle.nv_live.specs.Taking.{Took}
+use Rattle.nv_live.specs.Live.{stop_with}
+use Rattle.nv_live.specs.Run.{CameBy, said_text}
 use Rattle.nv_live.specs.Transcript.{lines_of}
 use Rattle.nv_live.specs.declared.incoming.Stopped.{Stopped}
 use Rattle.nv_live.specs.declared.incoming.Stopped.TheVariants as stop
@@ -118,18 +118,17 @@ ending_of None Failed = Untold
 
 -- A live run over these streams, by its log: each arrival was taken when the call that waited for it was made, and what a call says was said when it was served, before the next
 -- arrival was asked for. That order is exact unless memory was wanted for a call that had waited, so that a later call found what it had left.
--- The bytes are those of the streams: what was read, cut into arrivals; the bytes that were said; and the transcript, which begins with a text that says what the run began with.
-pub record Lived (setup : Setup) (log : List Entry) (ending : Ending) (before after : Streams) : Type 0 where
+-- The bytes are those of the streams: what was read, as plain input or as lines of clients; the bytes or the lines of what was said; and the transcript, which begins with a text that says what the run began with.
+pub record Lived (clients : Bool) (setup : Setup) (log : List Entry) (ending : Ending) (before after : Streams) : Type 0 where
   pub done : List Doing
   pub took_all : takings done ≡ setup.arrivals
   pub said_all : sayings done ≡ sayings (doings setup setup.arrivals log)
   pub late : Bool
   pub in_order : late ≡ false → done ≡ doings setup setup.arrivals log ++ map Takes (stage_after (first_stage setup setup.arrivals) (calls_of log)).rest
   pub stopped : Option Stopped
-  pub held : List ℕ
-  pub took : Took before.read after.read before.unread after.unread stopped held (takings done)
+  pub came : CameBy clients before.read after.read before.unread after.unread stopped (takings done)
   pub said : Put
-  pub written : Puts before.said before.unsaid (plain_text (sayings done)) said after.said after.unsaid
+  pub written : Puts before.said before.unsaid (said_text clients (sayings done)) said after.said after.unsaid
   pub head : List ℕ
   pub begins : script_of head ≡ Ok (with_arrivals setup [])
   pub told : Put

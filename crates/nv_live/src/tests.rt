@@ -236,6 +236,7 @@ fn stopped_after(
         visits(alloc, first, second)?,
         whole(alloc)?,
         whole(alloc)?,
+        b"",
     )?;
     let came = clients.next(alloc)?;
     let none = clients.next(alloc)?;
