@@ -3,8 +3,8 @@ ghost use Rattle.nv_arriving_tests.specs.Transcript.{Wrote};
 
 use crate::transcript::Transcript;
 use nv_arrivals::{Arrival, Outside, Said};
-use nv_live::Telling;
 use nv_arriving::ArrivingKernel;
+use nv_live::Telling;
 use nv_replay::Account;
 use nv_served::SyscallKernel;
 use nv_workers::OpenGate;
