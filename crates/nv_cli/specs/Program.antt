@@ -7,8 +7,11 @@ use Rattle.nv_outside.specs.declared.sink.Put.{Put}
 use Rattle.nv_outside.specs.declared.sink.Put.TheVariants.{Whole, Failed}
 use Rattle.nv_command.specs.Words.{texts, command_of}
 use Rattle.nv_command.specs.declared.asked.LineFault.{LineFault}
-use Rattle.nv_jobs.specs.Due.{IsDue, IsUntouched, Shows}
-use Rattle.nv_jobs.specs.Outcome.{Outcome, Source, outcome_status, text_of, ended_with}
+use Rattle.nv_jobs.specs.Due.{IsDue, IsUntouched, Over, Shows}
+use Rattle.nv_jobs.specs.Live.{Streams}
+use Rattle.nv_jobs.specs.Outcome.{Outcome, Source, outcome_status, text_of, ended_with, ending_status}
+use Rattle.nv_jobs.specs.declared.ending.Ending.{Ending}
+use Rattle.nv_jobs.specs.declared.ending.Ending.TheVariants.{Finished}
 use Rattle.nv_jobs.specs.Tasks.{fault_outcome}
 
 -- the words of the process, or why there are none
@@ -39,10 +42,21 @@ pub record EndsWith (text : List ℕ) (text_status : ℕ) (before : Option (List
   pub whole : put ≡ Whole → Grows before text after
   pub begun : put ≡ Failed → Begins before text after
 
+-- what was done over the streams of a live run; without words they stay as they are
+abbrev pub OverOf : Given → Outcome → Streams → Option (Streams × Ending) → Type 0
+OverOf (Ok words) outcome before later = Over (command_of (texts words.items)) outcome before later
+OverOf (Err fault) outcome before later = later ≡ Some (before, Finished)
+
+-- the status of a process whose streams are these, and that said something with this status
+abbrev pub exit_of : Option Ending → ℕ → ℕ
+exit_of None status = status
+exit_of (Some ending) status = ending_status ending status
+
 -- The program came to an outcome that is due, and ended with it. Where words are refused, or there are none, no file was read.
-pub record ProgramAnswers (words : Given) (source : Source) (before : Option (List ℕ)) (faults : ℕ) (status : ℕ) (after : Option (List ℕ)) (later_faults : ℕ) : Type 0 where
+pub record ProgramAnswers (words : Given) (source : Source) (streams : Streams) (before : Option (List ℕ)) (faults : ℕ) (status : ℕ) (after : Option (List ℕ)) (later_faults : ℕ) (later : Option (Streams × Ending)) : Type 0 where
   pub outcome : Outcome
   pub due : IsDueOf words source.holds outcome
   pub shown : Shows outcome source
   pub unread : AreRefused words → IsUntouched source
   pub ends : EndsWith (text_of outcome) (outcome_status outcome) before faults status after later_faults
+  pub over : OverOf words outcome streams later

@@ -9,9 +9,11 @@ mod beside;
 mod calm;
 mod process;
 mod recording;
+mod serving;
 mod top;
 
 pub use calm::varan_calmly;
 pub use nv_jobs::{Cause, Place, Refusal};
-pub use process::program;
+pub use process::{exit_status, program};
+pub use serving::Left;
 pub use top::varan;

@@ -1,34 +1,52 @@
 // The program: the top call over the words of the process, and what it writes.
-ghost use Rattle.std.specs.Prelude.{◌≡◌, ◌≢◌, IfOk};
+ghost use Rattle.std.specs.Prelude.{◌≡◌, ◌≢◌, IfOk, option_map};
 ghost use Rattle.nv_outside.specs.Gathering.{sink_of, held_of};
 ghost use Rattle.nv_command.specs.Words.{texts};
 ghost use Rattle.nv_jobs.specs.Outcome.{source_of};
 ghost use Rattle.nv_jobs.specs.Due.{Says, Completes, Rejects};
-ghost use Rattle.nv_cli.specs.Program.{ProgramAnswers};
+ghost use Rattle.nv_cli.specs.Program.{ProgramAnswers, exit_of};
+ghost use Rattle.nv_cli.specs.Streams.{streams_of, left_of};
 
+use crate::serving::Left;
 use crate::varan;
 use nv_command::LineFault;
-use nv_jobs::{WRITE_FAULT, ended, refuse_words};
+use nv_jobs::{Ending, WRITE_FAULT, ended, ending_status, refuse_words};
+use nv_live::{Source, Streams};
 use nv_outside::{Files, Gathering, Sink};
-use nv_workers::OpenGate;
+use nv_workers::Gate;
 use std::alloc::Global;
 use std::sync::Wait;
 use std::thread::Threads;
 
 // Does what the words ask for, or says why there are none.
-fn answer<R: Threads + Wait + Sync, F: Files, S: Sink>(
+fn answer<
+    R: Threads + Wait + Sync,
+    F: Files,
+    S: Sink,
+    G: Gate + Sync,
+    I: Source + Send,
+    O: Sink + Drop + Send,
+    T: Sink + Drop + Send,
+>(
     rt: &R,
     alloc: Global,
     words: Result<Vec<String>, LineFault>,
     files: &mut F,
     sink: &mut S,
-) -> u8
+    gate: &G,
+    streams: Streams<I, O, T>,
+) -> (u8, Left<I, O, T>)
     ensures { ProgramAnswers words (source_of F.holds F.faults F.taken files.old files.new)
-        (S.told sink.old) (S.faults sink.old) result (S.told sink.new) (S.faults sink.new) }
+        (streams_of I.took I.faults O.told O.faults T.told T.faults streams)
+        (S.told sink.old) (S.faults sink.old) result.0 (S.told sink.new) (S.faults sink.new)
+        (left_of I.took I.faults O.told O.faults T.told T.faults result.1) }
 {
     match words {
-        Ok(words) => varan(rt, alloc, &words, files, sink, &OpenGate),
-        Err(fault) => refuse_words(sink, fault),
+        Ok(words) => varan(rt, alloc, &words, files, sink, gate, streams),
+        Err(fault) => {
+            let status = refuse_words(sink, fault);
+            (status, Some((streams, Ending::Finished)))
+        }
     }
 }
 
@@ -45,26 +63,49 @@ fn finish<S: Sink>(sink: Gathering<S>, status: u8) -> (S, u8)
     (sink, ended(put, status))
 }
 
+/// The status of the process: that of a stream that failed, or else that of what was said.
+pub fn exit_status<I, O, T>(status: u8, left: &Left<I, O, T>) -> u8
+    ensures { result ≡ exit_of (option_map (λ l. l.1) left.now) status }
+{
+    match left {
+        Some((_, ending)) => ending_status(*ending, status),
+        None => status,
+    }
+}
+
 /// The monitor as a program, over the words of the process, or over why there are none: they aren't text, or memory was
-/// wanted for them. What it writes is gathered, and written at the latest before it returns. It gives the sink back, and the
-/// status of the process.
-pub fn program<R: Threads + Wait + Sync, F: Files, S: Sink>(
+/// wanted for them. What it writes is gathered, and written at the latest before it returns. It gives the sink back, the
+/// status of what it said, and what `varan` gives back of the streams; with these `exit_status` tells the status of the process.
+pub fn program<
+    R: Threads + Wait + Sync,
+    F: Files,
+    S: Sink,
+    G: Gate + Sync,
+    I: Source + Send,
+    O: Sink + Drop + Send,
+    T: Sink + Drop + Send,
+>(
     rt: &R,
     alloc: Global,
     words: Result<Vec<String>, LineFault>,
     files: &mut F,
     sink: S,
-) -> (S, u8)
-    // It comes to an outcome that the words and the files owe, and that stands on the sink at the end; or the write that failed was its last.
+    gate: &G,
+    streams: Streams<I, O, T>,
+) -> (S, u8, Left<I, O, T>)
+    // It comes to an outcome that the words and the files owe, and that stands on the sink at the end; or the write that failed was its last. So does what a live run does over its streams.
     ensures answers { ProgramAnswers words (source_of F.holds F.faults F.taken files.old files.new)
-        (S.told sink) (S.faults sink) result.1 (S.told result.0) (S.faults result.0) }
+        (streams_of I.took I.faults O.told O.faults T.told T.faults streams)
+        (S.told sink) (S.faults sink) result.1 (S.told result.0) (S.faults result.0)
+        (left_of I.took I.faults O.told O.faults T.told T.faults result.2) }
 
-    // what `varan` says of files that are accepted or refused, of the status to end with
+    // what `varan` says of files that are accepted or refused, of the status of what is said
     ensures completes { IfOk words (λ words. Completes (texts words.items) (source_of F.holds F.faults F.taken files.old files.new)
         (S.faults sink) result.1 (S.faults result.0)) }
     ensures rejects { IfOk words (λ words. Rejects (texts words.items) (source_of F.holds F.faults F.taken files.old files.new) result.1) }
 {
     let mut sink = Gathering::make(sink);
-    let status = answer(rt, alloc, words, files, &mut sink);
-    finish(sink, status)
+    let (status, left) = answer(rt, alloc, words, files, &mut sink, gate, streams);
+    let (sink, status) = finish(sink, status);
+    (sink, status, left)
 }

@@ -13,7 +13,8 @@ ghost use Rattle.nv_report.specs.Json.{json_text};
 ghost use Rattle.nv_arriving.specs.Scripted.{start_from};
 ghost use Rattle.nv_sockets.specs.Texts.{connections_text};
 ghost use Rattle.nv_outside.specs.Sink.{Puts};
-ghost use Rattle.nv_jobs.specs.Due.{Says, Answers, Completes, Rejects};
+ghost use Rattle.nv_jobs.specs.Due.{Says, Answers, AnswersOver, Completes, Rejects};
+ghost use Rattle.nv_cli.specs.Streams.{streams_of, left_of};
 ghost use Rattle.nv_jobs.specs.Ran.{Wrote, Tells};
 ghost use Rattle.nv_jobs.specs.inner.Ran.{RunSays};
 ghost use Rattle.nv_jobs.specs.Refusals.{IsPlanned};
@@ -24,14 +25,16 @@ ghost use Rattle.nv_jobs.specs.Outcome.{NotAccepted, totals_of, name_at, outcome
 
 use crate::beside::run;
 use crate::recording::record;
+use crate::serving::{Left, serve};
 use nv_arriving::ScriptedKernel;
 use nv_bpf::Filter;
 use nv_command::{Command, Limits, Run};
 use nv_gen::Totals;
 use nv_jobs::{
-    MEMORY, Prepared, Task, answer_alone, count_exited, ended, generate, prepare, put_line, refuse,
-    starved, status,
+    Ending, MEMORY, Prepared, Task, answer_alone, count_exited, ended, generate, prepare, put_line,
+    refuse, starved, status,
 };
+use nv_live::{Source, Streams};
 use nv_outside::{Files, Put, Sink, put_pieces};
 use nv_replay::{Account, Version};
 use nv_served::SyscallKernel;
@@ -231,19 +234,33 @@ fn do_generate<R: Threads + Wait + Sync, S: Sink, G: Gate + Sync>(
     }
 }
 
-// Does what the words ask for, and says what it came to.
-fn answer<R: Threads + Wait + Sync, F: Files, S: Sink, G: Gate + Sync>(
+// Does what the words ask for, and says what it came to. Only a live run takes the streams.
+fn answer<
+    R: Threads + Wait + Sync,
+    F: Files,
+    S: Sink,
+    G: Gate + Sync,
+    I: Source + Send,
+    O: Sink + Drop + Send,
+    T: Sink + Drop + Send,
+>(
     rt: &R,
     alloc: Global,
     words: &[String],
     files: &mut F,
     sink: &mut S,
     gate: &G,
-) -> u8
-    ensures { Answers (texts words.now) (source_of F.holds F.faults F.taken files.old files.new)
-        (S.told sink.old) (S.faults sink.old) result (S.told sink.new) (S.faults sink.new) }
+    streams: Streams<I, O, T>,
+) -> (u8, Left<I, O, T>)
+    ensures { AnswersOver (texts words.now) (source_of F.holds F.faults F.taken files.old files.new)
+        (streams_of I.took I.faults O.told O.faults T.told T.faults streams)
+        (S.told sink.old) (S.faults sink.old) result.0 (S.told sink.new) (S.faults sink.new)
+        (left_of I.took I.faults O.told O.faults T.told T.faults result.1) }
 {
-    match nv_command::read(alloc, words) {
+    let status = match nv_command::read(alloc, words) {
+        Ok(Command::Serve(service)) => {
+            return serve(rt, alloc, files, sink, gate, &service, streams);
+        }
         Ok(Command::Run(plan)) => do_run(rt, alloc, files, sink, gate, &plan),
         Ok(Command::Record(plan)) => record(rt, alloc, files, sink, gate, &plan),
         Ok(Command::Use(job)) => answer_alone(alloc, files, sink, Task::Use(job)),
@@ -252,29 +269,42 @@ fn answer<R: Threads + Wait + Sync, F: Files, S: Sink, G: Gate + Sync>(
         Ok(Command::Inspect(look)) => answer_alone(alloc, files, sink, Task::Inspect(look)),
         Ok(Command::Help(topic)) => answer_alone(alloc, files, sink, Task::Help(topic)),
         Err(fault) => answer_alone(alloc, files, sink, Task::Refuse(fault)),
-    }
+    };
+    (status, Some((streams, Ending::Finished)))
 }
 
 /// The monitor: it reads the words of a command line, does what they ask for and answers the status of the process. A run
-/// has its versions beside each other on threads of the host, so the call may wait for them.
-pub fn varan<R: Threads + Wait + Sync, F: Files, S: Sink, G: Gate + Sync>(
+/// has its versions beside each other on threads of the host, so the call may wait for them. A live run takes what comes from
+/// the streams, which are given back with how it ended, or are gone where memory was wanted; no other command touches them.
+pub fn varan<
+    R: Threads + Wait + Sync,
+    F: Files,
+    S: Sink,
+    G: Gate + Sync,
+    I: Source + Send,
+    O: Sink + Drop + Send,
+    T: Sink + Drop + Send,
+>(
     rt: &R,
     alloc: Global,
     words: &Vec<String>,
     files: &mut F,
     sink: &mut S,
     gate: &G,
-) -> u8
-    // It comes to an outcome that the words and the files owe, and says it: its status and what it writes are that outcome's.
-    ensures answers { Answers (texts words.now.items) (source_of F.holds F.faults F.taken files.old files.new)
-        (S.told sink.old) (S.faults sink.old) result (S.told sink.new) (S.faults sink.new) }
+    streams: Streams<I, O, T>,
+) -> (u8, Left<I, O, T>)
+    // It comes to an outcome that the words and the files owe, and says it: its status and what it writes are that outcome's, and so is what a live run does over its streams.
+    ensures answers { AnswersOver (texts words.now.items) (source_of F.holds F.faults F.taken files.old files.new)
+        (streams_of I.took I.faults O.told O.faults T.told T.faults streams)
+        (S.told sink.old) (S.faults sink.old) result.0 (S.told sink.new) (S.faults sink.new)
+        (left_of I.took I.faults O.told O.faults T.told T.faults result.1) }
 
     // Files that are accepted and no fault: the command's work is done, or memory is wanted.
     ensures completes { Completes (texts words.now.items) (source_of F.holds F.faults F.taken files.old files.new)
-        (S.faults sink.old) result (S.faults sink.new) }
+        (S.faults sink.old) result.0 (S.faults sink.new) }
 
     // A file that is refused is named, unless a read failed before, the line can't be written or memory is wanted.
-    ensures rejects { Rejects (texts words.now.items) (source_of F.holds F.faults F.taken files.old files.new) result }
+    ensures rejects { Rejects (texts words.now.items) (source_of F.holds F.faults F.taken files.old files.new) result.0 }
 {
-    answer(rt, alloc, words, files, sink, gate)
+    answer(rt, alloc, words, files, sink, gate, streams)
 }

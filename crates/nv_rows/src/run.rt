@@ -90,10 +90,10 @@ fn outside_of<'a>(row: &'a Row, files: &'a [(&'a str, &'a [u8])]) -> Outside<'a>
     ensures { 0 < result.most }
 {
     Outside {
-        files,
         failing_reads: &row.failing_reads,
         most: row.takes.max(1),
         failing_writes: &row.failing_writes,
+        ..Outside::calm(files)
     }
 }
 
@@ -140,10 +140,10 @@ fn cut_off<'a, R: Threads + Wait + Sync>(
 ) -> Result<Answered, AllocError> {
     let failing = [u32::try_from(place).unwrap_or(u32::MAX)];
     let outside = Outside {
-        files,
         failing_reads: &row.failing_reads,
         most: 1,
         failing_writes: &failing,
+        ..Outside::calm(files)
     };
     monitor_through(rt, alloc, words, outside, &OpenGate)
 }

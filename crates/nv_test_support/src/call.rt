@@ -1,7 +1,8 @@
 // Calls of the monitor over objects in memory.
 ghost use Rattle.std.specs.Prelude.{◌<◌};
 
-use nv_cli::varan;
+use nv_cli::{Left, exit_status, varan};
+use nv_live::{MemorySource, Streams};
 use nv_outside::{File, MemoryFiles, MemorySink};
 use nv_workers::{Gate, OpenGate};
 use std::alloc::{AllocError, Global};
@@ -18,17 +19,21 @@ const TIMING: [(&str, &str); 3] = [
     ("--ring", "--ring=2"),
 ];
 
-/// What a call finds outside: named files, the reads that fail, and a sink that takes `most` bytes a call and fails at these.
+/// What a call finds outside: named files, the reads that fail, and a sink that takes `most` bytes a call and fails at these;
+/// and for a live run what each read of its input gives, and the writes of its output and of its transcript that fail.
 #[derive(Clone, Copy)]
 pub struct Outside<'a> {
     pub files: &'a [(&'a str, &'a [u8])],
     pub failing_reads: &'a [u32],
     pub most: usize,
     pub failing_writes: &'a [u32],
+    pub input: &'a [&'a [u8]],
+    pub failing_says: &'a [u32],
+    pub failing_notes: &'a [u32],
 }
 
 impl<'a> Outside<'a> {
-    /// These files, of which each can be read, and a sink that never fails.
+    /// These files, of which each can be read, a sink that never fails, and nothing that comes.
     pub fn calm(files: &'a [(&'a str, &'a [u8])]) -> Outside<'a>
         ensures { 0 < result.most }
     {
@@ -37,15 +42,20 @@ impl<'a> Outside<'a> {
             failing_reads: &[],
             most: 4096,
             failing_writes: &[],
+            input: &[],
+            failing_says: &[],
+            failing_notes: &[],
         }
     }
 }
 
-/// The status, and the bytes that were written.
+/// The status of the process, the bytes that were written, and of a live run what it said and its transcript.
 #[derive(Drop)]
 pub struct Answered {
     pub status: u8,
     pub written: Vec<u8>,
+    pub said: Vec<u8>,
+    pub noted: Vec<u8>,
 }
 
 impl Answered {
@@ -73,6 +83,44 @@ fn files_of(alloc: Global, files: &[(&str, &[u8])]) -> Result<Vec<File>, AllocEr
     Ok(owned)
 }
 
+fn reads_of(alloc: Global, reads: &[&[u8]]) -> Result<MemorySource, AllocError> {
+    let mut owned = Vec::new(alloc);
+    for bytes in reads {
+        owned.push(bytes.to_vec(alloc)?)?;
+    }
+    Ok(MemorySource::make(owned))
+}
+
+// The streams of a live run.
+fn streams_of(
+    alloc: Global,
+    outside: Outside,
+) -> Result<Streams<MemorySource, MemorySink, MemorySink>, AllocError>
+    requires { 0 < outside.most }
+{
+    let says = outside.failing_says.to_vec(alloc)?;
+    let notes = outside.failing_notes.to_vec(alloc)?;
+    Ok(Streams {
+        input: reads_of(alloc, outside.input)?,
+        output: MemorySink::make(alloc, CAPACITY, outside.most, says)?,
+        transcript: MemorySink::make(alloc, CAPACITY, outside.most, notes)?,
+    })
+}
+
+// What stands in the output and in the transcript of a live run.
+fn told_by(
+    alloc: Global,
+    left: &Left<MemorySource, MemorySink, MemorySink>,
+) -> Result<(Vec<u8>, Vec<u8>), AllocError> {
+    match left {
+        Some((streams, _)) => Ok((
+            streams.output.written().to_vec(alloc)?,
+            streams.transcript.written().to_vec(alloc)?,
+        )),
+        None => Ok((Vec::new(alloc), Vec::new(alloc))),
+    }
+}
+
 /// Calls the monitor with these words, and with a gate that its versions pass.
 pub fn monitor_through<R: Threads + Wait + Sync, G: Gate + Sync>(
     rt: &R,
@@ -88,9 +136,16 @@ pub fn monitor_through<R: Threads + Wait + Sync, G: Gate + Sync>(
     let mut source = MemoryFiles::make(files, outside.failing_reads.to_vec(alloc)?);
     let failing = outside.failing_writes.to_vec(alloc)?;
     let mut sink = MemorySink::make(alloc, CAPACITY, outside.most, failing)?;
-    let status = varan(rt, alloc, &words, &mut source, &mut sink, gate);
+    let streams = streams_of(alloc, outside)?;
+    let (status, left) = varan(rt, alloc, &words, &mut source, &mut sink, gate, streams);
     let written = sink.written().to_vec(alloc)?;
-    Ok(Answered { status, written })
+    let (said, noted) = told_by(alloc, &left)?;
+    Ok(Answered {
+        status: exit_status(status, &left),
+        written,
+        said,
+        noted,
+    })
 }
 
 fn names(words: &[&str], option: &str) -> bool {
@@ -146,7 +201,7 @@ pub fn monitor<R: Threads + Wait + Sync>(
             if !again.is(&answered) {
                 return Ok(Answered {
                     status: 255,
-                    written: again.written,
+                    ..again
                 });
             }
         }

@@ -1,0 +1,78 @@
+-- A live run, step by step.
+use Rattle.std.specs.Prelude.{◌≡◌, ◌≤◌, ◌⊎◌, ℕ, Bool, List, [], Option, None, Some, Ok, IsTrue, length, map}
+use Rattle.nv_arrivals.specs.Arrivals.{Arrival}
+use Rattle.nv_arriving.specs.Arriving.{start_of_arrivals}
+use Rattle.nv_arriving.specs.Kernel.{KernelState, Begun}
+use Rattle.nv_bpf.specs.declared.op.Op.{Op}
+use Rattle.nv_command.specs.Words.{Limits}
+use Rattle.nv_live.specs.Run.{input_of, output_of, notes_of, stop_of_run, told_run, IsBegun}
+use Rattle.nv_live.specs.Telling.{Told}
+use Rattle.nv_live.specs.Writer.{sink_in, put_of}
+use Rattle.nv_live.specs.declared.run.LiveRun.{LiveRun}
+use Rattle.nv_live.specs.declared.streams.Streams.{Streams as Held}
+use Rattle.nv_machine.specs.Guest.{Machine}
+use Rattle.nv_replay.specs.Account.{AreFresh}
+use Rattle.nv_replay.specs.Follow.{judge_of}
+use Rattle.nv_replay.specs.Sequence.{Account}
+use Rattle.nv_replay.specs.Version.{process_of}
+use Rattle.nv_replay.specs.declared.account.Account.{Account as Ran}
+use Rattle.nv_script.specs.Scripts.{Setup, is_script, script_of}
+use Rattle.nv_script.specs.Views.{setup_of}
+use Rattle.nv_threads.specs.Threads.{threads}
+use Rattle.nv_workers.specs.Ends.{IsAccount}
+use Rattle.nv_jobs.specs.Account.{IsRunOf, process_begun, run_status}
+use Rattle.nv_jobs.specs.Due.{Says}
+use Rattle.nv_jobs.specs.Live.{Lived, Streams, with_arrivals, ending_of}
+use Rattle.nv_jobs.specs.Outcome.{NoMemory, text_of}
+use Rattle.nv_jobs.specs.Refusals.{IsPlanned}
+use Rattle.nv_jobs.specs.declared.ending.Ending.{Ending}
+use Rattle.nv_jobs.specs.declared.preparing.LivePrepared.{LivePrepared}
+
+-- a live run's files, with what its kernel and its versions ask of them
+pub record IsReadyToServe (prepared : LivePrepared) : Type 0 where
+  pub sound : IsTrue (is_script (setup_of prepared.script))
+  pub fresh : AreFresh threads 0 prepared.versions.items
+  pub few : length prepared.versions.items ≤ 8
+  pub planned : IsPlanned (setup_of prepared.script) prepared.script.hands.items
+
+module _ {I O T : Type 0} (took : I → Option (List (List ℕ))) (unread : I → ℕ) (said : O → Option (List ℕ)) (unsaid : O → ℕ) (noted : T → Option (List ℕ)) (unnoted : T → ℕ) where
+  -- what an outside of a live run tells of itself
+  abbrev pub told : LiveRun I O T → Told
+  told run = told_run took unread said unsaid noted unnoted run
+
+  -- a kernel that has served nothing, over these streams, of which the transcript has its head
+  pub record IsBegunOver (clients : Bool) (setup : Setup) (head : List ℕ) (streams : Held I O T) (k : KernelState (LiveRun I O T)) : Type 0 where
+    pub empty : k.log ≡ []
+    pub setup_is : k.setup ≡ setup
+    pub begun : IsBegun took unread said unsaid noted unnoted clients head streams (told k.begun)
+
+  -- the versions ran over what came
+  pub record RanOver (limits : Limits) (clients : Bool) (prepared : LivePrepared) (streams : Held I O T) (account : Ran (KernelState (LiveRun I O T))) : Type 0 where
+    pub begun : IsBegun took unread said unsaid noted unnoted clients prepared.head.items streams (told account.kernel.begun)
+    pub setup_is : account.kernel.setup ≡ setup_of prepared.script
+    pub account : IsAccount threads (judge_of prepared.rules) (start_of_arrivals account.kernel.setup account.kernel.came) limits.calls prepared.script.hands.items prepared.versions.items account.versions.items account.kernel.log
+
+-- what an outside leaves
+pub record HasLeft {I O T : Type 0} (live : LiveRun I O T) (streams : Held I O T) (ending : Ending) : Type 0 where
+  pub input : streams.input ≡ input_of live
+  pub output : streams.output ≡ sink_in (output_of live)
+  pub transcript : streams.transcript ≡ sink_in (notes_of live)
+  pub ends : ending ≡ ending_of (stop_of_run live) (put_of (notes_of live))
+
+-- The versions ran over what came, nothing was written beside their streams, and these are left.
+pub record Served (limits : Limits) (clients : Bool) (setup : Setup) (rules : Option (List Op)) (machines : List Machine) (streams : Streams) (before : Option (List ℕ)) (faults status : ℕ) (after : Option (List ℕ)) (later_faults : ℕ) (left : Option (Streams × Ending)) : Type 0 where
+  pub arrivals : List Arrival
+  pub account : Account
+  pub is_run : IsRunOf limits (with_arrivals setup arrivals) rules machines account
+  pub says : Says [] (run_status account.lines) before faults status after later_faults
+  pub later : Streams
+  pub ending : Ending
+  pub left_is : left ≡ Some (later, ending)
+  pub lived : Lived clients (with_arrivals setup arrivals) account.log ending streams later
+
+-- That is so, or memory was wanted and the streams are gone.
+abbrev pub ServeSays : Limits → Bool → LivePrepared → Streams → Option (List ℕ) → ℕ → ℕ → Option (List ℕ) → ℕ → Option (Streams × Ending) → Type 0
+ServeSays limits clients prepared streams before faults status after later_faults left = (machines : List Machine) → map process_of prepared.versions.items ≡ map (process_begun limits) machines
+    → script_of prepared.head.items ≡ Ok (setup_of prepared.script) → (setup_of prepared.script).arrivals ≡ []
+    → Served limits clients (setup_of prepared.script) prepared.rules machines streams before faults status after later_faults left
+    ⊎ (Says (text_of NoMemory) 3 before faults status after later_faults × (left ≡ None))

@@ -1,0 +1,163 @@
+// A live run.
+ghost use Rattle.std.specs.Prelude.{◌≡◌, List, ℕ, Some, IsTrue, IfOk};
+ghost use Rattle.nv_command.specs.Seen.{limits_view, service_view};
+ghost use Rattle.nv_command.specs.Words.{Serves, command_of};
+ghost use Rattle.nv_script.specs.Scripts.{is_script};
+ghost use Rattle.nv_script.specs.Views.{setup_of};
+ghost use Rattle.nv_jobs.specs.Due.{AnswersOver};
+ghost use Rattle.nv_cli.specs.Streams.{streams_of, left_of};
+ghost use Rattle.nv_jobs.specs.Outcome.{source_of};
+ghost use Rattle.nv_jobs.specs.Refusals.{IsPlanned};
+ghost use Rattle.nv_cli.specs.inner.Serving.{IsBegunOver, IsReadyToServe, HasLeft, RanOver, ServeSays};
+
+use crate::beside::run;
+use nv_arriving::ArrivingKernel;
+use nv_command::{Limits, Service};
+use nv_jobs::{Ending, LivePrepared, MEMORY, ending, prepare_live, put_line, refuse_live, status};
+use nv_live::{LiveRun, Source, Streams};
+use nv_outside::{Files, Sink};
+use nv_replay::Account;
+use nv_script::Script;
+use nv_workers::Gate;
+use std::alloc::{AllocError, Global};
+use std::sync::Wait;
+use std::thread::Threads;
+
+/// The streams of a live run as it left them, and how it ended; nothing where memory was wanted while it had them.
+pub type Left<I, O, T> = Option<(Streams<I, O, T>, Ending)>;
+
+// A kernel over what comes by these streams, of which the transcript gets its head.
+fn kernel_over<I: Source, O: Sink + Drop, T: Sink + Drop>(
+    alloc: Global,
+    script: &Script,
+    clients: bool,
+    head: &[u8],
+    streams: Streams<I, O, T>,
+) -> Result<ArrivingKernel<LiveRun<I, O, T>>, AllocError>
+    requires script { IsTrue (is_script (setup_of script.now)) }
+    ensures { IfOk result (λ k. IsBegunOver I.took I.faults O.told O.faults T.told T.faults clients (setup_of script.now) head.now streams k) }
+{
+    let live = LiveRun::begin(alloc, clients, streams, head)?;
+    ArrivingKernel::make(alloc, script, live)
+}
+
+// What a run has left of its streams.
+fn left_by<I: Source, O: Sink + Drop, T: Sink + Drop>(
+    live: LiveRun<I, O, T>,
+) -> (Streams<I, O, T>, Ending)
+    ensures { HasLeft live result.0 result.1 }
+{
+    let ending = how_ended(live.stopped(), live.told());
+    (live.finish(), ending)
+}
+
+// Runs the versions over what comes by these streams.
+fn run_over<
+    R: Threads + Wait + Sync,
+    G: Gate + Sync,
+    I: Source + Send,
+    O: Sink + Drop + Send,
+    T: Sink + Drop + Send,
+>(
+    rt: &R,
+    alloc: Global,
+    prepared: LivePrepared,
+    clients: bool,
+    streams: Streams<I, O, T>,
+    limits: Limits,
+    gate: &G,
+) -> Result<Account<ArrivingKernel<LiveRun<I, O, T>>>, AllocError>
+    requires ready { IsReadyToServe prepared }
+    ensures { IfOk result (RanOver I.took I.faults O.told O.faults T.told T.faults (limits_view limits) clients prepared streams) }
+{
+    let LivePrepared {
+        head,
+        script,
+        rules,
+        versions,
+    } = prepared;
+    let kernel = kernel_over(alloc, &script, clients, &head, streams)?;
+    run(
+        rt,
+        alloc,
+        versions,
+        rules.as_ref(),
+        kernel,
+        gate,
+        limits,
+        &script.hands,
+    )
+}
+
+// Runs the versions over what comes by these streams, and gives back what is left of them.
+fn serve_versions<
+    R: Threads + Wait + Sync,
+    S: Sink,
+    G: Gate + Sync,
+    I: Source + Send,
+    O: Sink + Drop + Send,
+    T: Sink + Drop + Send,
+>(
+    rt: &R,
+    alloc: Global,
+    prepared: LivePrepared,
+    clients: bool,
+    streams: Streams<I, O, T>,
+    limits: Limits,
+    sink: &mut S,
+    gate: &G,
+) -> (u8, Left<I, O, T>)
+    requires ready { IsReadyToServe prepared }
+    ensures { ServeSays (limits_view limits) clients prepared (streams_of I.took I.faults O.told O.faults T.told T.faults streams)
+        (S.told sink.old) (S.faults sink.old) result.0 (S.told sink.new) (S.faults sink.new) (left_of I.took I.faults O.told O.faults T.told T.faults result.1) }
+{
+    match run_over(rt, alloc, prepared, clients, streams, limits, gate) {
+        Ok(Account { kernel, versions }) => {
+            let left = left_by(kernel.into_outside());
+            (status(&versions), Some(left))
+        }
+        Err(_) => (put_line(sink, b"varan: memory\n", MEMORY), None),
+    }
+}
+
+/// Runs the versions of a service over what comes by these streams.
+pub fn serve<
+    R: Threads + Wait + Sync,
+    F: Files,
+    S: Sink,
+    G: Gate + Sync,
+    I: Source + Send,
+    O: Sink + Drop + Send,
+    T: Sink + Drop + Send,
+>(
+    rt: &R,
+    alloc: Global,
+    files: &mut F,
+    sink: &mut S,
+    gate: &G,
+    service: &Service<'_>,
+    streams: Streams<I, O, T>,
+) -> (u8, Left<I, O, T>)
+    ensures { (words : List (List ℕ)) → command_of words ≡ Some (Serves (service_view service.now))
+        → AnswersOver words (source_of F.holds F.faults F.taken files.old files.new)
+        (streams_of I.took I.faults O.told O.faults T.told T.faults streams)
+        (S.told sink.old) (S.faults sink.old) result.0 (S.told sink.new) (S.faults sink.new)
+        (left_of I.took I.faults O.told O.faults T.told T.faults result.1) }
+{
+    match prepare_live(alloc, files, service) {
+        Ok(prepared) => serve_versions(
+            rt,
+            alloc,
+            prepared,
+            service.clients,
+            streams,
+            service.limits,
+            sink,
+            gate,
+        ),
+        Err(refusal) => {
+            let status = refuse_live(alloc, sink, refusal, service);
+            (status, Some((streams, Ending::Finished)))
+        }
+    }
+}

@@ -1,0 +1,121 @@
+// What an operator is told on standard error while a live run goes on: comments of its transcript.
+
+use itoa::Buffer;
+use nv_calls::Event;
+use nv_outside::{CalmSink, Sink, put_all, put_pieces};
+use nv_replay::{Fate, Standing};
+use nv_report::{put_event, put_fate};
+use nv_workers::{Gate, VersionNumber};
+use std::alloc::Global;
+use std::io::{Stderr, Write};
+
+// The most bytes of a comment: an event's has two digits for each byte that it hands in or out.
+const LONGEST: usize = 1 << 15;
+
+/// What is told.
+#[derive(Clone, Copy, Debug, PartialEq, Eq)]
+pub enum Telling {
+    /// Nothing: the report of a run tells it all.
+    Nothing,
+    /// Who ended and who leads on.
+    Ends,
+    /// Each event as well.
+    Events,
+}
+
+/// Comments on standard error, each by one write, so that those of several versions don't mix.
+#[derive(Drop)]
+pub struct Notes {
+    alloc: Global,
+    stderr: Stderr,
+    telling: Telling,
+}
+
+fn put_end<S: Sink>(sink: &mut S, version: VersionNumber, fate: Fate, seen: u32) {
+    let mut number = Buffer::new();
+    let mut events = Buffer::new();
+    put_pieces(
+        sink,
+        &[b"# version ", number.format(version.0).as_bytes(), b" ended: "],
+    );
+    put_fate(sink, fate);
+    put_pieces(
+        sink,
+        &[b", after ", events.format(seen).as_bytes(), b" events\n"],
+    );
+}
+
+fn put_lead<S: Sink>(sink: &mut S, version: VersionNumber, stamp: u32) {
+    let mut number = Buffer::new();
+    let mut event = Buffer::new();
+    put_pieces(
+        sink,
+        &[
+            b"# version ",
+            number.format(version.0).as_bytes(),
+            b" leads from event ",
+            event.format(stamp).as_bytes(),
+            b"\n",
+        ],
+    );
+}
+
+impl Notes {
+    pub fn make(rt: &HostRuntime, telling: Telling) -> Notes {
+        Notes {
+            alloc: rt.alloc(),
+            stderr: rt.stderr(),
+            telling,
+        }
+    }
+
+    // A comment that can't be made or written is left out: the run goes on without it.
+    fn line(&self) -> Option<CalmSink> {
+        CalmSink::make(self.alloc, LONGEST).ok()
+    }
+
+    fn write(&self, line: &CalmSink) {
+        let mut stderr = &self.stderr;
+        let _wrote = stderr.write(line.written());
+    }
+}
+
+impl Gate for Notes {
+    fn before_publish(&self, _version: VersionNumber, _stamp: u32) {}
+
+    fn after_take(&self, _version: VersionNumber, _stamp: u32) {}
+
+    fn after_publish(&self, _version: VersionNumber, event: &Event) {
+        if self.telling != Telling::Events {
+            return;
+        }
+        if let Some(mut line) = self.line() {
+            put_all(&mut line, b"# ");
+            put_event(&mut line, event);
+            self.write(&line);
+        }
+    }
+
+    fn at_lead(&self, version: VersionNumber, stamp: u32) {
+        if self.telling == Telling::Nothing {
+            return;
+        }
+        if let Some(mut line) = self.line() {
+            put_lead(&mut line, version, stamp);
+            self.write(&line);
+        }
+    }
+
+    fn at_end(&self, version: VersionNumber, standing: &Standing) {
+        let Some(fate) = standing.fate else {
+            return;
+        };
+        if self.telling == Telling::Nothing {
+            return;
+        }
+        if let Some(mut line) = self.line() {
+            put_end(&mut line, version, fate, standing.seen);
+            self.write(&line);
+        }
+    }
+}
