@@ -27,6 +27,9 @@ impl Draft {
             failing_reads: Vec::new(alloc),
             takes: USUAL_TAKES,
             failing_writes: Vec::new(alloc),
+            input: Vec::new(alloc),
+            failing_says: Vec::new(alloc),
+            failing_notes: Vec::new(alloc),
             is_once: false,
             each_write_fails: false,
             status: 0,
@@ -34,6 +37,8 @@ impl Draft {
                 whole: None,
                 begin: Vec::new(alloc),
                 end: Vec::new(alloc),
+                said: Vec::new(alloc),
+                noted: Vec::new(alloc),
             },
         };
         Draft {
@@ -76,7 +81,19 @@ impl Draft {
                 self.add_file(texts, kind, field, rest)?;
                 Ok(true)
             }
-            None => self.take_output(texts, field),
+            None => self.take_stream(texts, field),
+        }
+    }
+
+    // Takes a field of what one read of a live run gives, or of what has to be written, if it is one.
+    fn take_stream(&mut self, texts: &Texts, field: &Field) -> Result<bool, RowFault> {
+        match field.word {
+            b"in" => {
+                let bytes = content_of(texts, &field.content)?;
+                self.row.input.push(bytes)?;
+                Ok(true)
+            }
+            _ => self.take_output(texts, field),
         }
     }
 
@@ -86,6 +103,8 @@ impl Draft {
             b"out" => self.row.wanted.whole = Some(content_of(texts, &field.content)?),
             b"begins" => self.row.wanted.begin = content_of(texts, &field.content)?,
             b"ends" => self.row.wanted.end = content_of(texts, &field.content)?,
+            b"said" => self.row.wanted.said = content_of(texts, &field.content)?,
+            b"noted" => self.row.wanted.noted = content_of(texts, &field.content)?,
             _ => return Ok(false),
         }
         Ok(true)
@@ -130,6 +149,8 @@ impl Draft {
         match word {
             b"failing-reads" => self.row.failing_reads = numbers_of(alloc, rest)?,
             b"failing-writes" => self.row.failing_writes = numbers_of(alloc, rest)?,
+            b"says-fail" => self.row.failing_says = numbers_of(alloc, rest)?,
+            b"notes-fail" => self.row.failing_notes = numbers_of(alloc, rest)?,
             b"takes" => self.row.takes = takes_of(rest)?,
             b"once" => self.row.is_once = true,
             b"each-write-fails" => self.row.each_write_fails = true,

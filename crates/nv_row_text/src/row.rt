@@ -38,6 +38,10 @@ pub struct Wanted {
     pub whole: Option<Vec<u8>>,
     pub begin: Vec<u8>,
     pub end: Vec<u8>,
+    /// What stands on the output of a live run.
+    pub said: Vec<u8>,
+    /// The transcript of a live run.
+    pub noted: Vec<u8>,
 }
 
 impl Wanted {
@@ -48,6 +52,11 @@ impl Wanted {
             None => true,
         };
         is_whole && written.starts_with(&self.begin) && written.ends_with(&self.end)
+    }
+
+    /// Whether these may be what a live run said and its transcript.
+    pub fn is_of_live_run(&self, said: &[u8], noted: &[u8]) -> bool {
+        self.said.as_slice() == said && self.noted.as_slice() == noted
     }
 }
 
@@ -64,6 +73,12 @@ pub struct Row {
     pub takes: usize,
     /// The numbers, from 0, of the writes that fail.
     pub failing_writes: Vec<u32>,
+    /// What the reads of a live run give, in order. A read after the last fails.
+    pub input: Vec<Vec<u8>>,
+    /// The numbers, from 0, of the writes of what a live run says that fail.
+    pub failing_says: Vec<u32>,
+    /// The numbers, from 0, of the writes of its transcript that fail.
+    pub failing_notes: Vec<u32>,
     /// A run isn't done again with other options of timing.
     pub is_once: bool,
     /// The call is done again for each byte of what was written, with a sink that takes a byte a write and fails at that one: the

@@ -38,18 +38,18 @@ fn is_file(word: &[u8]) -> bool {
 }
 
 fn stands_once(word: &[u8]) -> bool {
-    !matches!(word, b"set" | b"cut")
+    !matches!(word, b"set" | b"cut" | b"in")
 }
 
 // Whether no words follow it on its line.
 fn is_bare(word: &[u8]) -> bool {
     matches!(
         word,
-        b"out" | b"begins" | b"ends" | b"once" | b"each-write-fails"
+        b"out" | b"begins" | b"ends" | b"in" | b"said" | b"noted" | b"once" | b"each-write-fails"
     )
 }
 
-// Whether it says nothing without content. An `out` without any says that nothing is written.
+// Whether it says nothing without content. An `out` without any says that nothing is written, and an `in` that a read gives nothing.
 fn wants_content(word: &[u8]) -> bool {
-    matches!(word, b"begins" | b"ends")
+    matches!(word, b"begins" | b"ends" | b"said" | b"noted")
 }
