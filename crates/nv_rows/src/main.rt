@@ -14,7 +14,7 @@ use std::{fs, io};
 use tally::Tally;
 
 // The files with rows, by what they are about. One may include the texts of those before it.
-const SUBJECTS: [&str; 30] = [
+const SUBJECTS: [&str; 31] = [
     "common",
     "calls",
     "memory",
@@ -45,6 +45,7 @@ const SUBJECTS: [&str; 30] = [
     "reports",
     "traces",
     "trace_lines",
+    "live",
 ];
 
 fn main(rt: HostRuntime) -> io::Result<()> {

@@ -1,9 +1,9 @@
 // The call of a row.
 ghost use Rattle.std.specs.Prelude.{◌<◌};
 
-use nv_workers::OpenGate;
 use nv_row_text::{Change, Kind, Row, RowFile};
 use nv_test_support::{Answered, Outside, assembled, image, monitor, monitor_through};
+use nv_workers::OpenGate;
 use std::alloc::{AllocError, Global};
 use std::sync::Wait;
 use std::thread::Threads;
@@ -20,14 +20,23 @@ pub fn first_wrong<R: Threads + Wait + Sync>(
     for (file, content) in row.files.iter().zip(contents.iter()) {
         files.push((file.name.as_str(), content.as_slice()))?;
     }
-    let answered = call(rt, alloc, row, &words, &files)?;
-    if answered.status != row.status || !row.wanted.is(&answered.written) {
+    let input: Vec<&[u8]> = row.input.iter().map(|read| read.as_slice()).collect(alloc)?;
+    let outside = outside_of(row, &files, &input);
+    let answered = call(rt, alloc, row, &words, outside)?;
+    if !is_wanted(row, &answered) {
         return Ok(Some(answered));
     }
     if row.each_write_fails {
-        return first_wrong_write(rt, alloc, row, &words, &files, &answered.written);
+        return first_wrong_write(rt, alloc, &words, outside, &answered.written);
     }
     Ok(None)
+}
+
+// Whether the answer is what the row says.
+fn is_wanted(row: &Row, answered: &Answered) -> bool {
+    answered.status == row.status
+        && row.wanted.is(&answered.written)
+        && row.wanted.is_of_live_run(&answered.said, &answered.noted)
 }
 
 // The files of a row as the call finds them.
@@ -86,14 +95,21 @@ fn set_bytes(content: &mut [u8], place: usize, bytes: &[u8]) {
     }
 }
 
-fn outside_of<'a>(row: &'a Row, files: &'a [(&'a str, &'a [u8])]) -> Outside<'a>
+fn outside_of<'a>(
+    row: &'a Row,
+    files: &'a [(&'a str, &'a [u8])],
+    input: &'a [&'a [u8]],
+) -> Outside<'a>
     ensures { 0 < result.most }
 {
     Outside {
+        files,
         failing_reads: &row.failing_reads,
         most: row.takes.max(1),
         failing_writes: &row.failing_writes,
-        ..Outside::calm(files)
+        input,
+        failing_says: &row.failing_says,
+        failing_notes: &row.failing_notes,
     }
 }
 
@@ -102,9 +118,10 @@ fn call<R: Threads + Wait + Sync>(
     alloc: Global,
     row: &Row,
     words: &[&str],
-    files: &[(&str, &[u8])],
-) -> Result<Answered, AllocError> {
-    let outside = outside_of(row, files);
+    outside: Outside,
+) -> Result<Answered, AllocError>
+    requires { 0 < outside.most }
+{
     if row.is_once {
         return monitor_through(rt, alloc, words, outside, &OpenGate);
     }
@@ -112,16 +129,15 @@ fn call<R: Threads + Wait + Sync>(
 }
 
 // The first answer that isn't right where a sink takes a byte a write, and fails at the write of one of these bytes.
-fn first_wrong_write<'a, R: Threads + Wait + Sync>(
+fn first_wrong_write<R: Threads + Wait + Sync>(
     rt: &R,
     alloc: Global,
-    row: &'a Row,
     words: &[&str],
-    files: &'a [(&'a str, &'a [u8])],
+    outside: Outside,
     written: &[u8],
 ) -> Result<Option<Answered>, AllocError> {
     for place in 0..written.len() {
-        let answered = cut_off(rt, alloc, row, words, files, place)?;
+        let answered = cut_off(rt, alloc, words, outside, place)?;
         if answered.status != 6 || answered.written.as_slice() != &written[..place] {
             return Ok(Some(answered));
         }
@@ -130,20 +146,18 @@ fn first_wrong_write<'a, R: Threads + Wait + Sync>(
 }
 
 // The answer where a sink takes a byte a write, and fails at this one.
-fn cut_off<'a, R: Threads + Wait + Sync>(
+fn cut_off<R: Threads + Wait + Sync>(
     rt: &R,
     alloc: Global,
-    row: &'a Row,
     words: &[&str],
-    files: &'a [(&'a str, &'a [u8])],
+    outside: Outside,
     place: usize,
 ) -> Result<Answered, AllocError> {
     let failing = [u32::try_from(place).unwrap_or(u32::MAX)];
-    let outside = Outside {
-        failing_reads: &row.failing_reads,
+    let failing_there = Outside {
         most: 1,
         failing_writes: &failing,
-        ..Outside::calm(files)
+        ..outside
     };
-    monitor_through(rt, alloc, words, outside, &OpenGate)
+    monitor_through(rt, alloc, words, failing_there, &OpenGate)
 }

@@ -1,11 +1,18 @@
 // How many rows there were, and how many of them were wrong.
 use nv_row_text::{Row, RowFault};
 use nv_test_support::Answered;
+use std::alloc::{AllocError, Global};
 use std::io::Print;
 use std::{fmt, io};
 
 // How many bytes of what came are told.
 const MOST_TOLD: usize = 600;
+
+// The first of these bytes.
+fn told(alloc: Global, bytes: &[u8]) -> Result<String, AllocError> {
+    let first = bytes.get(..MOST_TOLD).unwrap_or(bytes);
+    String::from_utf8_lossy(alloc, first)
+}
 
 #[derive(Drop)]
 pub struct Tally {
@@ -31,12 +38,15 @@ impl Tally {
             return Ok(());
         };
         self.wrong = self.wrong.saturating_add(1);
+        let alloc = rt.alloc();
         let name = row.name.as_str();
         let status = answered.status;
-        let written = answered.written.as_slice();
-        let told = written.get(..MOST_TOLD).unwrap_or(written);
-        let told = String::from_utf8_lossy(rt.alloc(), told)?;
-        println!(rt; "wrong: {subject}: {name}: status {status}, {told:?}")
+        let written = told(alloc, &answered.written)?;
+        let said = told(alloc, &answered.said)?;
+        let noted = told(alloc, &answered.noted)?;
+        println!(rt;
+            "wrong: {subject}: {name}: status {status}, {written:?}, said {said:?}, noted {noted:?}"
+        )
     }
 
     /// Counts a row that isn't read.

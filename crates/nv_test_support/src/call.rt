@@ -60,7 +60,10 @@ pub struct Answered {
 
 impl Answered {
     fn is(&self, other: &Answered) -> bool {
-        self.status == other.status && self.written.as_slice() == other.written.as_slice()
+        self.status == other.status
+            && self.written.as_slice() == other.written.as_slice()
+            && self.said.as_slice() == other.said.as_slice()
+            && self.noted.as_slice() == other.noted.as_slice()
     }
 }
 
@@ -152,16 +155,16 @@ fn names(words: &[&str], option: &str) -> bool {
     words.iter().any(|word| word.starts_with(option))
 }
 
-fn is_record(words: &[&str]) -> bool {
+fn is_command(words: &[&str], name: &str) -> bool {
     match words.get(1) {
-        Some(command) => *command == "record",
+        Some(command) => *command == name,
         None => false,
     }
 }
 
-// Whether no byte of the answer may depend on the timing: of a run, and of its trace.
+// Whether no byte of the answer may depend on the timing: of a run, of its trace, and of a live run.
 fn is_run(words: &[&str]) -> bool {
-    names(words, "run") || is_record(words)
+    names(words, "run") || is_command(words, "record") || is_command(words, "serve")
 }
 
 // The words with one more after the command's name.
@@ -180,7 +183,7 @@ fn with_option<'a>(
     Ok(longer)
 }
 
-/// Calls the monitor with these words. A run, recorded or not, is done again on one thread, on eight, and with a ring of two places,
+/// Calls the monitor with these words. A run, recorded or live or neither, is done again on one thread, on eight, and with a ring of two places,
 /// unless its words say how many: an answer that isn't the first one's is given in its place, with the status 255.
 pub fn monitor<R: Threads + Wait + Sync>(
     rt: &R,
