@@ -45,11 +45,8 @@ const SUBJECTS: [&str; 31] = [
     "reports",
     "traces",
     "trace_lines",
-<<<<<<< HEAD
     "live",
-=======
     "arrivals",
->>>>>>> 211e92a6 (rows: runs over what comes while they go on)
 ];
 
 fn main(rt: HostRuntime) -> io::Result<()> {
