@@ -13,7 +13,9 @@ ghost use Rattle.nv_cli.specs.inner.Serving.{IsBegunOver, IsReadyToServe, HasLef
 use crate::beside::run;
 use nv_arriving::ArrivingKernel;
 use nv_command::{Limits, Service};
-use nv_jobs::{Ending, LivePrepared, MEMORY, ending, prepare_live, put_line, refuse_live, status};
+use nv_jobs::{
+    Ending, LivePrepared, MEMORY, how_ended, prepare_live, put_line, refuse_live, status,
+};
 use nv_live::{LiveRun, Source, Streams};
 use nv_outside::{Files, Sink};
 use nv_replay::Account;

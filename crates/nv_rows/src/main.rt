@@ -14,7 +14,7 @@ use std::{fs, io};
 use tally::Tally;
 
 // The files with rows, by what they are about. One may include the texts of those before it.
-const SUBJECTS: [&str; 31] = [
+const SUBJECTS: [&str; 32] = [
     "common",
     "calls",
     "memory",
