@@ -10,7 +10,7 @@ ghost use Rattle.nv_jobs.specs.Refusals.{IsLivePrepared, IsPlanned, RefusesLive,
 ghost use Rattle.nv_jobs.specs.inner.Refusals.{IsLiveScript, IsLiveScriptRefusal, LiveScriptStops};
 
 use crate::limits::FILE_LIMIT;
-use crate::preparing::{Rest, read_file, read_rest, script_in};
+use crate::preparing::{read_file, read_rest, script_in};
 use crate::refusal::{Cause, Place, Refusal};
 use nv_bpf::Filter;
 use nv_command::Service;
@@ -137,19 +137,19 @@ pub fn prepare_live<F: Files>(
     ensures faults { OnOk result (F.faults files.new ≡ F.faults files.old) }
 {
     let bytes = script_text(alloc, files, service.script)?;
-    let LiveScript { head, script } = live_script_in(alloc, &bytes)?;
-    let Rest { rules, versions } = read_rest(
+    let live = live_script_in(alloc, &bytes)?;
+    let rest = read_rest(
         alloc,
         files,
-        &script,
+        &live.script,
         service.limits,
         service.rules,
         &service.versions,
     )?;
     Ok(LivePrepared {
-        head,
-        script,
-        rules,
-        versions,
+        head: live.head,
+        script: live.script,
+        rules: rest.rules,
+        versions: rest.versions,
     })
 }

@@ -20,8 +20,8 @@ returns-in-Ok-read_versions-clause-ready g c =
     rest_ready setup c.in-Ok.rules versions holds (parts_with limits (rules_view c.args.rules_name) names) c.in-Ok.ensures.rules loaded c.in-Ok-read_versions.ensures.fresh
     (omega (arith, c.requires, length-map c.args.names.now (λ (name : Bor (List ℕ)). name.now)))
 
-pub returns-clause-refused : goal.returns-clause-refused
-returns-clause-refused g c =
+pub returns-in-Err-read_versions-clause-refused : goal.returns-in-Err-read_versions-clause-refused
+returns-in-Err-read_versions-clause-refused g c =
     let holds = g.F.Files.holds c.args.files.now in
     let limits = limits_view c.args.limits in
     let setup = setup_of c.args.script.now in
