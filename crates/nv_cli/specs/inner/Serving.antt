@@ -26,7 +26,7 @@ use Rattle.nv_jobs.specs.Live.{Lived, Streams, with_arrivals, ending_of}
 use Rattle.nv_jobs.specs.Outcome.{NoMemory, text_of}
 use Rattle.nv_jobs.specs.Refusals.{IsPlanned}
 use Rattle.nv_jobs.specs.declared.ending.Ending.{Ending}
-use Rattle.nv_jobs.specs.declared.preparing.LivePrepared.{LivePrepared}
+use Rattle.nv_jobs.specs.declared.live.LivePrepared.{LivePrepared}
 
 -- a live run's files, with what its kernel and its versions ask of them
 pub record IsReadyToServe (prepared : LivePrepared) : Type 0 where
@@ -50,7 +50,7 @@ module _ {I O T : Type 0} (took : I → Option (List (List ℕ))) (unread : I �
   pub record RanOver (limits : Limits) (clients : Bool) (prepared : LivePrepared) (streams : Held I O T) (account : Ran (KernelState (LiveRun I O T))) : Type 0 where
     pub begun : IsBegun took unread said unsaid noted unnoted clients prepared.head.items streams (told account.kernel.begun)
     pub setup_is : account.kernel.setup ≡ setup_of prepared.script
-    pub account : IsAccount threads (judge_of prepared.rules) (start_of_arrivals account.kernel.setup account.kernel.came) limits.calls prepared.script.hands.items prepared.versions.items account.versions.items account.kernel.log
+    pub is_account : IsAccount threads (judge_of prepared.rules) (start_of_arrivals account.kernel.setup account.kernel.came) limits.calls prepared.script.hands.items prepared.versions.items account.versions.items account.kernel.log
 
 -- what an outside leaves
 pub record HasLeft {I O T : Type 0} (live : LiveRun I O T) (streams : Held I O T) (ending : Ending) : Type 0 where
