@@ -49,7 +49,7 @@ fn left_by<I: Source, O: Sink + Drop, T: Sink + Drop>(
 ) -> (Streams<I, O, T>, Ending)
     ensures { HasLeft live result.0 result.1 }
 {
-    let ending = how_ended(live.stopped(), live.told());
+    let ending = how_ended(live.stopped(), live.said(), live.told());
     (live.finish(), ending)
 }
 

@@ -23,7 +23,7 @@ use Rattle.nv_jobs.specs.Found.{Found, Finds, Agrees, AgreesIf, AllAgree, found_
 use Rattle.nv_jobs.specs.Found as file
 use Rattle.nv_jobs.specs.Prepared.{Prepared, Refused, read_at, after_rules, versions_from}
 use Rattle.nv_jobs.specs.declared.ending.Ending.{Ending}
-use Rattle.nv_jobs.specs.declared.ending.Ending.TheVariants.{Finished, Unread, Unfit, Unsaid, Untold}
+use Rattle.nv_jobs.specs.declared.ending.Ending.TheVariants.{Finished, Unread, Refused as RefusedAt, CutOff as CutOffAt, Unsaid, Untold}
 use Rattle.nv_jobs.specs.declared.refusal.Place.TheVariants.{Script}
 use Rattle.nv_jobs.specs.declared.refusal.Cause.{Cause}
 use Rattle.nv_jobs.specs.declared.refusal.Cause.TheVariants as cause
@@ -105,16 +105,20 @@ pub record Streams : Type 0 where
   pub noted : Option (List ℕ)
   pub unnoted : ℕ
 
--- how a live run ended: a read or a write of it that failed, or a line that was refused or cut off; the first that stopped what comes before one of the transcript
-abbrev pub ending_of : Option Stopped → Put → Ending
-ending_of (Some stop.Unreadable) noted = Unread
-ending_of (Some (stop.Refused line cause)) noted = Unfit
-ending_of (Some (stop.CutOff line)) noted = Unfit
-ending_of (Some stop.Unwritten) noted = Unsaid
-ending_of (Some stop.Ended) Whole = Finished
-ending_of (Some stop.Ended) Failed = Untold
-ending_of None Whole = Finished
-ending_of None Failed = Untold
+-- a write to standard output that failed, or else one of the transcript
+abbrev pub ended_by_writes : Put → Put → Ending
+ended_by_writes Failed told = Unsaid
+ended_by_writes Whole Failed = Untold
+ended_by_writes Whole Whole = Finished
+
+-- How a live run ended: by a read that failed, or a line that was refused or cut off; or else by a write that failed. Once a write to standard output has failed nothing more is read.
+abbrev pub ending_of : Option Stopped → Put → Put → Ending
+ending_of (Some stop.Unreadable) said told = Unread
+ending_of (Some (stop.Refused line cause)) said told = RefusedAt line cause
+ending_of (Some (stop.CutOff line)) said told = CutOffAt line
+ending_of (Some stop.Unwritten) said told = ended_by_writes said told
+ending_of (Some stop.Ended) said told = ended_by_writes said told
+ending_of None said told = ended_by_writes said told
 
 -- A live run over these streams, by its log: each arrival was taken when the call that waited for it was made, and what a call says was said when it was served, before the next
 -- arrival was asked for. That order is exact unless memory was wanted for a call that had waited, so that a later call found what it had left.
@@ -133,4 +137,4 @@ pub record Lived (clients : Bool) (setup : Setup) (log : List Entry) (ending : E
   pub begins : script_of head ≡ Ok (with_arrivals setup [])
   pub told : Put
   pub noted : Puts before.noted before.unnoted (head ++ lines_of (takings done)) told after.noted after.unnoted
-  pub ends : ending ≡ ending_of (stop_with stopped said) told
+  pub ends : ending ≡ ending_of (stop_with stopped said) said told

@@ -21,7 +21,7 @@ use Rattle.nv_jobs.specs.Account.{run_status}
 use Rattle.nv_jobs.specs.Causes.{cause_text}
 use Rattle.nv_jobs.specs.Replayed.{replay_text, replay_status}
 use Rattle.nv_jobs.specs.declared.ending.Ending.{Ending}
-use Rattle.nv_jobs.specs.declared.ending.Ending.TheVariants.{Finished, Unread, Unfit, Unsaid, Untold}
+use Rattle.nv_jobs.specs.declared.ending.Ending.TheVariants.{Finished, Unread, Refused as RefusedAt, CutOff as CutOffAt, Unsaid, Untold}
 use Rattle.nv_jobs.specs.declared.refusal.Refusal.{Refusal}
 use Rattle.nv_jobs.specs.declared.refusal.Refusal.TheVariants as refusal
 use Rattle.nv_jobs.specs.declared.refusal.Place.{Place}
@@ -73,7 +73,8 @@ totals_of output account = record {
 abbrev pub ending_status : Ending → ℕ → ℕ
 ending_status Finished status = status
 ending_status Unread status = 5
-ending_status Unfit status = 4
+ending_status (RefusedAt line cause) status = 4
+ending_status (CutOffAt line) status = 4
 ending_status Unsaid status = 6
 ending_status Untold status = 6
 

@@ -1,9 +1,10 @@
 // How a live run ends.
 ghost use Rattle.std.specs.Prelude.{◌≡◌};
-ghost use Rattle.nv_jobs.specs.Live.{ending_of};
+ghost use Rattle.nv_jobs.specs.Live.{ended_by_writes, ending_of};
 ghost use Rattle.nv_jobs.specs.Outcome.{ending_status};
 
 use crate::endings::{INPUT, READ_FAULT, WRITE_FAULT};
+use nv_arrivals::ArrivalCause;
 use nv_live::Stopped;
 use nv_outside::Put;
 
@@ -14,24 +15,35 @@ pub enum Ending {
     Finished,
     /// A read of standard input failed.
     Unread,
-    /// A line of standard input was refused, or its end came within one.
-    Unfit,
+    /// This line of standard input, counted from 1, was refused.
+    Refused(u32, ArrivalCause),
+    /// Standard input ended within this line.
+    CutOff(u32),
     /// A write to standard output failed.
     Unsaid,
     /// A write of the transcript failed.
     Untold,
 }
 
-/// How a live run ended, by what stopped it and whether its transcript is whole.
-pub fn how_ended(stopped: Option<Stopped>, told: Put) -> Ending
-    ensures { result ≡ ending_of stopped told }
+fn ended_by_writes(said: Put, told: Put) -> Ending
+    ensures { result ≡ ended_by_writes said told }
 {
-    match (stopped, told) {
-        (Some(Stopped::Unreadable), _) => Ending::Unread,
-        (Some(Stopped::Refused(_, _) | Stopped::CutOff(_)), _) => Ending::Unfit,
-        (Some(Stopped::Unwritten), _) => Ending::Unsaid,
-        (Some(Stopped::Ended) | None, Put::Whole) => Ending::Finished,
-        (Some(Stopped::Ended) | None, Put::Failed) => Ending::Untold,
+    match (said, told) {
+        (Put::Failed, _) => Ending::Unsaid,
+        (Put::Whole, Put::Failed) => Ending::Untold,
+        (Put::Whole, Put::Whole) => Ending::Finished,
+    }
+}
+
+/// How a live run ended, by what stopped it, and whether all that was said and its transcript are written.
+pub fn how_ended(stopped: Option<Stopped>, said: Put, told: Put) -> Ending
+    ensures { result ≡ ending_of stopped said told }
+{
+    match stopped {
+        Some(Stopped::Unreadable) => Ending::Unread,
+        Some(Stopped::Refused(line, cause)) => Ending::Refused(line, cause),
+        Some(Stopped::CutOff(line)) => Ending::CutOff(line),
+        Some(Stopped::Ended | Stopped::Unwritten) | None => ended_by_writes(said, told),
     }
 }
 
@@ -42,7 +54,7 @@ pub fn ending_status(ending: Ending, status: u8) -> u8
     match ending {
         Ending::Finished => status,
         Ending::Unread => READ_FAULT,
-        Ending::Unfit => INPUT,
+        Ending::Refused(_, _) | Ending::CutOff(_) => INPUT,
         Ending::Unsaid | Ending::Untold => WRITE_FAULT,
     }
 }

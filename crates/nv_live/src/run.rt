@@ -53,6 +53,16 @@ impl<I: Source, O: Sink + Drop, T: Sink + Drop> LiveRun<I, O, T> {
         }
     }
 
+    /// Whether all that was said is written.
+    pub fn said(&self) -> Put
+        ensures { result ≡ put_of (output_of self.now) }
+    {
+        match self {
+            LiveRun::Plain(run) => run.said(),
+            LiveRun::Clients(run) => run.said(),
+        }
+    }
+
     /// Whether the transcript is whole.
     pub fn told(&self) -> Put
         ensures { result ≡ put_of (notes_of self.now) }

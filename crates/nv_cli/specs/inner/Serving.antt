@@ -57,7 +57,7 @@ pub record HasLeft {I O T : Type 0} (live : LiveRun I O T) (streams : Held I O T
   pub input : streams.input ≡ input_of live
   pub output : streams.output ≡ sink_in (output_of live)
   pub transcript : streams.transcript ≡ sink_in (notes_of live)
-  pub ends : ending ≡ ending_of (stop_of_run live) (put_of (notes_of live))
+  pub ends : ending ≡ ending_of (stop_of_run live) (put_of (output_of live)) (put_of (notes_of live))
 
 -- The versions ran over what came, nothing was written beside their streams, and these are left.
 pub record Served (limits : Limits) (clients : Bool) (setup : Setup) (rules : Option (List Op)) (machines : List Machine) (streams : Streams) (before : Option (List ℕ)) (faults status : ℕ) (after : Option (List ℕ)) (later_faults : ℕ) (left : Option (Streams × Ending)) : Type 0 where
