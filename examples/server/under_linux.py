@@ -56,6 +56,14 @@ def ask(port, sent):
     return got
 
 
+def report_end(ports, answers):
+    """The end of a report in which clients of these ports were written these answers (docs/REPORT.md)."""
+    text = f"connections {len(answers)}\n".encode()
+    for place, (port, got) in enumerate(zip(ports, answers)):
+        text += f"connection {place} {port} {len(got)}\n".encode() + got + b"\n"
+    return text
+
+
 def main():
     files, connections = read_script(HERE / "scripts/clients")
     for version in [1, 2, 3, 4]:
@@ -71,11 +79,9 @@ def main():
             finally:
                 server.kill()
                 server.wait()
-        text = f"connections {len(answers)}\n".encode()
-        for place, ((named, _), got) in enumerate(zip(connections, answers)):
-            text += f"connection {place} {named} {len(got)}\n".encode() + got + b"\n"
-        (HERE / f"expected/clients_{version}").write_bytes(text)
+        (HERE / f"expected/clients_{version}").write_bytes(report_end([named for named, _ in connections], answers))
         print(f"server_{version}:", "serves on" if ended is None else f"ended with {ended}")
 
 
-main()
+if __name__ == "__main__":
+    main()

@@ -1,0 +1,350 @@
+#!/usr/bin/env bash
+# Puts the examples before real clients, on 127.0.0.1, and compares what each of them got with what it gets under Linux (../guests/expected, ../server/expected).
+# Then the transcript of each run is run again: it comes to the same log and fates as the live run, and its clients are written the same bytes.
+# check.sh [PROGRAM]: crates/varan/out/varan where no program is named.
+# It wants python3, socat, xinetd and jq (Debian: packages of these names). What wants one that isn't there is left out, and a line with `left out` tells it.
+# Status: 0 where nothing differs, 1 where something does, 2 where the program isn't built.
+set -eu
+program=$(realpath -m "${1:-$(dirname "$0")/../../crates/varan/out/varan}")
+cd "$(dirname "$0")"
+here=$PWD
+guests=$here/../guests
+server=$here/../server
+if [ ! -x "$program" ]; then
+    echo "check.sh: $program isn't built: cd crates/varan && rt run -- run --script data/s data/v"
+    exit 2
+fi
+work=$(mktemp -d)
+started=()
+# the limits that a live run has
+largest=(--calls 131072 --budget 1000000000)
+rows=0
+wrong=0
+
+# finish: ends what was started, each process by its number.
+finish() {
+    local it
+    for it in ${started[@]+"${started[@]}"}; do
+        kill "$it" 2>/dev/null || true
+    done
+    rm -rf "$work"
+}
+trap finish EXIT
+
+# has TOOL WHAT: whether the tool is on this machine; where it isn't, this is left out.
+has() {
+    if ! PATH=$PATH:/usr/sbin command -v "$1" >/dev/null; then
+        echo "check.sh: left out: $2, for want of $1 (Debian: $1)"
+        return 1
+    fi
+}
+
+# bad TEXT..: something is wrong.
+bad() {
+    echo "check.sh: $*"
+    wrong=$((wrong + 1))
+}
+
+# is STATUS WANTED WHAT
+is() {
+    rows=$((rows + 1))
+    [ "$1" = "$2" ] || bad "$1 in place of $2: $3"
+}
+
+# same FILE FILE WHAT: two files are the same.
+same() {
+    rows=$((rows + 1))
+    cmp "$1" "$2" || bad "other bytes in $2 than in $1: $3"
+}
+
+# free_port: a port of 127.0.0.1 at which nobody listens.
+free_port() {
+    python3 -c 'import socket; it = socket.create_server(("127.0.0.1", 0)); print(it.getsockname()[1])'
+}
+
+# until_it COMMAND..: waits until it succeeds, for a minute at most.
+until_it() {
+    local tries
+    for ((tries = 0; tries < 1200; tries++)); do
+        "$@" && return
+        sleep 0.05
+    done
+    bad "it doesn't come to this: $*"
+    return 1
+}
+
+# listens PORT: whether somebody listens at the port of 127.0.0.1.
+listens() {
+    grep -q "0100007F:$(printf %04X "$1") 00000000:0000 0A" /proc/net/tcp
+}
+
+# there WHAT WORD..: whether the program takes these words; where it refuses them, this is left out.
+there() {
+    local what=$1 status=0
+    shift
+    "$program" "$@" </dev/null >"$work/console" 2>"$work/told" || status=$?
+    if [ "$status" = 2 ]; then
+        echo "check.sh: left out: $what, which this program has no words for"
+        return 1
+    fi
+}
+
+# fates_of FILE: how the versions ended, by the lines of a report.
+fates_of() {
+    sed -n 's/^\([0-7] [a-z].*\) seen .*$/\1/p' "$1" | sed 's/\(fault [a-z]* 100\) [0-9a-f]*/\1/'
+}
+
+# again TRANSCRIPT FATES V..: the run of a transcript succeeds, and comes to the log and the fates that the live run told; the fates are these.
+again() {
+    local transcript=$1 fates=$2 status=0
+    shift 2
+    "$program" run "${largest[@]}" --script "$transcript" "$@" >"$work/report" || status=$?
+    is "$status" 0 "the transcript's status, $*"
+    sed -n '/^log /,/^connections /p' "$work/report" | sed -n '/^[0-9]/p' >"$work/run"
+    sed -n 's/^# \([0-9].*\)/\1/p' "$transcript" >"$work/told"
+    same "$work/told" "$work/run" "the transcript's log and fates, $*"
+    is "$(fates_of "$work/told")" "$fates" "the fates, $*"
+}
+
+# ---- a service of lines, on standard input and output
+
+bad_service=$guests/built/service_2
+old_service=$guests/built/service_1
+services=$'0 fault load 100\n1 exited 0'
+
+# lines_again TRANSCRIPT: the transcript of a run that served the lines.
+lines_again() {
+    local size
+    again "$1" "$services" "$bad_service" "$old_service"
+    size=$(sed -n '1s/^output //p' "$work/report")
+    sed 1d "$work/report" | head -c "$size" >"$work/console"
+    same "$guests/expected/service" "$work/console" "the transcript's console"
+}
+
+# three_at PORT NAME: three clients at once are served, each by a run of its own, which left its transcript and its status.
+three_at() {
+    local it
+    "$here/clients.py" input "$1" "$work/lines" 3 >"$work/got" || bad "three clients by $2"
+    cat "$guests"/expected/{service,service,service} >"$work/wanted"
+    same "$work/wanted" "$work/got" "three clients by $2"
+    is "$(cd "$work" && echo "$2".*.status | wc -w)" 3 "runs by $2"
+    for it in "$work/$2".*.status; do
+        is "$(cat "$it")" 0 "a run by $2"
+        lines_again "${it%.status}"
+    done
+}
+
+# in_a_pipe: what came stands in the transcript, an arrival a line.
+in_a_pipe() {
+    local status=0
+    "$program" serve --log "$bad_service" "$old_service" < <(cat "$work/lines") >"$work/console" 2>"$work/transcript" || status=$?
+    is "$status" 0 "a service in a pipe"
+    same "$guests/expected/service" "$work/console" "a service in a pipe"
+    { echo varan-script 4; grep '^line ' "$guests/scripts/service"; } >"$work/wanted"
+    grep -v '^#' "$work/transcript" >"$work/arrived"
+    same "$work/wanted" "$work/arrived" "what came"
+    lines_again "$work/transcript"
+}
+
+by_socat() {
+    local port
+    port=$(free_port)
+    timeout 120 socat -t 30 "TCP-LISTEN:$port,bind=127.0.0.1,fork" "EXEC:$work/serve socat" &
+    started+=($!)
+    until_it listens "$port" || return 0
+    three_at "$port" socat
+}
+
+by_xinetd() {
+    local port
+    port=$(free_port)
+    cat >"$work/xinetd.conf" <<END
+service lines
+{
+    type = UNLISTED
+    socket_type = stream
+    protocol = tcp
+    bind = 127.0.0.1
+    port = $port
+    wait = no
+    user = $(id -un)
+    server = $work/serve
+    server_args = xinetd
+}
+END
+    PATH=$PATH:/usr/sbin timeout 120 xinetd -dontfork -f "$work/xinetd.conf" -pidfile "$work/xinetd.pid" -filelog "$work/xinetd.log" &
+    started+=($!)
+    until_it listens "$port" || return 0
+    three_at "$port" xinetd
+}
+
+plain() {
+    sed -n 's/^line //p' "$guests/scripts/service" >"$work/lines"
+    # a run, with its transcript and its status in files of their own
+    cat >"$work/serve" <<END
+#!/bin/sh
+"$program" serve --log "$bad_service" "$old_service" 2>"$work/\$1.\$\$"
+echo \$? >"$work/\$1.\$\$.status"
+END
+    chmod +x "$work/serve"
+    in_a_pipe
+    if has socat "a service by socat"; then
+        by_socat
+    fi
+    if has xinetd "a service by xinetd"; then
+        by_xinetd
+    fi
+}
+
+# ---- an HTTP server, its clients by listen.py
+
+bad_server=$server/built/server_2
+old_server=$server/built/server_1
+new_server=$server/built/server_3
+clients=$server/scripts/clients
+port=
+adapter=
+options=()
+
+# begun NAME V..: begins listen.py, with its options and these versions. It listens at the port; the transcripts are in a folder of that name.
+begun() {
+    local name=$1
+    shift
+    port=$(free_port)
+    mkdir "$work/$name"
+    timeout 300 "$here/../listen.py" --transcripts "$work/$name" ${options[@]+"${options[@]}"} "$port:8080" -- \
+        "$program" serve --clients --log --script "$work/setup" "$@" &
+    adapter=$!
+    started+=("$adapter")
+    until_it listens "$port"
+}
+
+# ended NAME: listen.py is told to end, and ends well.
+ended() {
+    local status=0
+    kill -TERM "$adapter"
+    wait "$adapter" || status=$?
+    is "$status" 0 "listen.py, $1"
+}
+
+# first N: what the first N clients get from version 1 under Linux.
+first() {
+    echo "connections $1"
+    sed -n "/^connection 0 /,/^connection $1 /p" "$server/expected/clients_1" | sed "/^connection $1 /d"
+}
+
+# got NAME WAY: each of the clients gets what it gets from version 1 under Linux.
+got() {
+    "$here/clients.py" "$2" "$port" "$clients" >"$work/got" || bad "the clients, $1"
+    same "$server/expected/clients_1" "$work/got" "the clients, $1"
+}
+
+# written NAME FILE: the run of the transcript writes the clients these bytes.
+written() {
+    rows=$((rows + 1))
+    "$here/clients.py" same "$2" "$work/report" || bad "the transcript's clients, $1"
+}
+
+# in_turn NAME FATES V..: the twelve clients, one after the other.
+in_turn() {
+    local name=$1 fates=$2
+    shift 2
+    begun "$name" "$@" || return 0
+    got "$name" turn
+    ended "$name"
+    again "$work/$name"/* "$fates" "$@"
+    sed -n '/^connections /,$p' "$work/report" >"$work/got"
+    same "$server/expected/clients_1" "$work/got" "the transcript's clients, $name"
+}
+
+# calls NAME V..: the calls of the transcript's run are those of version 1, as strace prints them.
+calls() {
+    local transcript
+    transcript=$(echo "$work/$1"/*)
+    shift
+    "$program" run --json "${largest[@]}" --script "$transcript" "$@" | jq -r -f "$here/../strace.jq" >"$work/calls"
+    same "$server/expected/calls" "$work/calls" "the calls, $*"
+}
+
+# All twelve at once, in whatever order they come.
+beside() {
+    begun beside "$bad_server" "$old_server" || return 0
+    got beside beside
+    ended beside
+    again "$work/beside"/* $'0 fault load 100\n1 exited 0' "$bad_server" "$old_server"
+    written beside "$server/expected/clients_1"
+}
+
+# A client leaves in the middle of its answer, before the others come.
+one_leaves() {
+    begun leave "$old_server" "$new_server" || return 0
+    "$here/clients.py" leave "$port" "$clients" || bad "the client that leaves"
+    got leave turn
+    ended leave
+    again "$work/leave"/* $'0 exited 0\n1 exited 0' "$old_server" "$new_server"
+}
+
+# Five clients a run: 0 to 4, 5 to 9 and the rest. The update breaks in the second one.
+anew() {
+    local run at=0 count=(5 5 2) fates=($'0 exited 0\n1 exited 0' $'0 fault load 100\n1 exited 0' $'0 exited 0\n1 exited 0')
+    options=(--each 5)
+    begun each "$bad_server" "$old_server" || return 0
+    options=()
+    got each turn
+    ended each
+    is "$(ls "$work/each" | wc -l)" 3 "how many runs have five clients each"
+    for run in "$work/each"/*; do
+        is "$(grep -c '^connect 8080$' "$run")" "${count[at]}" "the clients of run $at"
+        is "$(grep -c '^end clients$' "$run")" 1 "the ends of clients, run $at"
+        again "$run" "${fates[at]}" "$bad_server" "$old_server"
+        at=$((at + 1))
+    done
+}
+
+# have_come N FOLDER: N clients stand in the transcript of the folder.
+have_come() {
+    [ "$(cat "$2"/* | grep -c '^connect 8080$')" = "$1" ]
+}
+
+# SIGTERM while one client is slow and three wait behind it: all four are served.
+while_they_wait() {
+    local asking status=0
+    begun wait "$bad_server" "$old_server" || return 0
+    "$here/clients.py" slow "$port" "$clients" 4 >"$work/got" &
+    asking=$!
+    started+=("$asking")
+    until_it have_come 4 "$work/wait" || return 0
+    ended wait
+    wait "$asking" || status=$?
+    is "$status" 0 "the clients that wait"
+    first 4 >"$work/wanted"
+    same "$work/wanted" "$work/got" "the clients that wait"
+    again "$work/wait"/* $'0 exited 0\n1 exited 0' "$bad_server" "$old_server"
+    written wait "$work/wanted"
+}
+
+many_clients() {
+    local eight=("$bad_server" "$bad_server" "$old_server" "$new_server" "$bad_server" "$old_server" "$new_server" "$old_server")
+    { echo varan-script 4; grep '^\(arg\|file\) ' "$clients"; } >"$work/setup"
+    in_turn turn $'0 fault load 100\n1 exited 0' "$bad_server" "$old_server"
+    if has jq "the calls of a live run"; then
+        calls turn "$bad_server" "$old_server"
+    fi
+    in_turn eight $'0 fault load 100\n1 fault load 100\n2 exited 0\n3 exited 0\n4 fault load 100\n5 exited 0\n6 exited 0\n7 exited 0' "${eight[@]}"
+    beside
+    one_leaves
+    anew
+    while_they_wait
+}
+
+if ! has python3 "live services"; then
+    exit 0
+fi
+if there "a live service" serve "$old_service"; then
+    plain
+fi
+if there "a live service of many clients" serve --clients "$old_server"; then
+    many_clients
+fi
+echo "check.sh: $rows rows, $wrong wrong"
+[ "$wrong" = 0 ]
