@@ -1,6 +1,6 @@
 #!/usr/bin/env bash
 # Puts the examples before real clients, on 127.0.0.1, and compares what each of them got with what it gets under Linux (../guests/expected, ../server/expected).
-# Then the transcript of each run is run again: it comes to the same log and fates as the live run, and its clients are written the same bytes.
+# Then the transcript of each run is run again: it comes to the same log and fates as the live run, and its clients are written the same bytes. Does the commands of docs/LIVE.md, too.
 # check.sh [PROGRAM]: crates/varan/out/varan where no program is named.
 # It wants python3, socat, xinetd and jq (Debian: packages of these names). What wants one that isn't there is left out, and a line with `left out` tells it.
 # Status: 0 where nothing differs, 1 where something does, 2 where the program isn't built.
@@ -188,6 +188,9 @@ echo \$? >"$work/\$1.\$\$.status"
 END
     chmod +x "$work/serve"
     in_a_pipe
+    # the page's commands
+    rows=$((rows + 1))
+    "$here/../follow.py" "$here/../../docs/LIVE.md" "$program" || wrong=$((wrong + 1))
     if has socat "a service by socat"; then
         by_socat
     fi
