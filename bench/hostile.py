@@ -1,9 +1,9 @@
 #!/usr/bin/env python3
 """Gives the built program broken files, odd words, an outside that fails and the largest work that its limits allow, and looks at every answer.
 
-    bench/hostile.py [--program PATH] [broken] [edges] [failing] [worst]
+    bench/hostile.py [--program PATH] [broken] [edges] [failing] [live] [worst]
 
-PATH is crates/varan/out/varan where it isn't given (build it first: `rt run` in crates/varan); without a part all four are run. docs/HOSTILE.md
+PATH is crates/varan/out/varan where it isn't given (build it first: `rt run` in crates/varan); without a part all five are run. docs/HOSTILE.md
 says what each part does and what it has found. It ends with 1 where an answer is wrong; each such answer is printed, and its files are kept.
 
 What an answer has to be comes from the descriptions of the forms (hostile_parts/readers.py reads them) and from the answers that calls have, never
@@ -19,10 +19,11 @@ sys.dont_write_bytecode = True
 from hostile_parts.broken import Broken
 from hostile_parts.edges import Edges
 from hostile_parts.failing import Failing
+from hostile_parts.live import Live
 from hostile_parts.program import TOP, Program, Tally
 from hostile_parts.worst import Worst
 
-PARTS = {"broken": Broken, "edges": Edges, "failing": Failing, "worst": Worst}
+PARTS = {"broken": Broken, "edges": Edges, "failing": Failing, "live": Live, "worst": Worst}
 
 
 def main():

@@ -38,11 +38,11 @@ class Program:
     def __init__(self, path):
         self.path = path
         self.hard = resource.getrlimit(resource.RLIMIT_AS)[1]
-        self.errors = os.open("errors", os.O_RDWR | os.O_CREAT | os.O_TRUNC, 0o600)
+        self.errors = os.open("errors", os.O_RDWR | os.O_CREAT | os.O_TRUNC | os.O_APPEND, 0o600)
 
-    def start(self, words, actions, space, user, signals):
+    def start(self, words, actions, space, user, signals, given, last):
         resource.setrlimit(resource.RLIMIT_AS, (space, self.hard))
-        where = [(os.POSIX_SPAWN_OPEN, 0, "/dev/null", os.O_RDONLY, 0), *actions, (os.POSIX_SPAWN_DUP2, self.errors, 2)]
+        where = [(os.POSIX_SPAWN_OPEN, 0, given, os.O_RDONLY, 0), *actions, (os.POSIX_SPAWN_DUP2, self.errors, 2), *last]
         line = [self.path, *words]
         if user is None:
             return os.posix_spawn(self.path, line, os.environ, file_actions=where, setsigdef=signals)
@@ -53,15 +53,16 @@ class Program:
             os.execv(self.path, line)
         return child
 
-    def run(self, words, actions=None, space=SPACE, clock=CLOCK, take=None, user=None, signals=SIGNALS):
-        """Runs the program. Its standard output is what `actions` say, or else a pipe whose bytes are kept or handed to `take`."""
+    def run(self, words, actions=None, space=SPACE, clock=CLOCK, take=None, user=None, signals=SIGNALS, given="/dev/null", last=()):
+        """Runs the program. Its standard output is what `actions` say, or else a pipe whose bytes are kept or handed to `take`. Its standard input
+        is the file `given`; what `last` says is done to its streams at the end."""
         os.ftruncate(self.errors, 0)
         kept, end = [], None
         if actions is None:
             end, written = os.pipe()
             actions = [(os.POSIX_SPAWN_DUP2, written, 1)]
         floor = own_memory()
-        child = self.start(words, actions, space, user, signals)
+        child = self.start(words, actions, space, user, signals, given, last)
         signal.signal(signal.SIGALRM, lambda *_: os.kill(child, signal.SIGKILL))
         signal.setitimer(signal.ITIMER_REAL, clock)
         if end is not None:
@@ -73,7 +74,7 @@ class Program:
         signal.setitimer(signal.ITIMER_REAL, 0)
         killed = os.WTERMSIG(ended) if os.WIFSIGNALED(ended) else None
         status = None if killed else os.WEXITSTATUS(ended)
-        errors = os.pread(self.errors, 1000, 0)
+        errors = os.pread(self.errors, MIB, 0)
         return Answer(status, killed, b"".join(kept), errors, used.ru_utime + used.ru_stime, used.ru_maxrss * 1024, floor)
 
 
@@ -94,8 +95,9 @@ class Tally:
         self.most = collections.defaultdict(lambda: (0, 0))
         self.wrong = 0
 
-    def add(self, kind, words, answer, look, may_want=False):
-        """Counts an answer. `look` raises `Wrong` where it isn't one that these words and files may have; `may_want` says that memory may be short."""
+    def add(self, kind, words, answer, look, may_want=False, tells=False):
+        """Counts an answer. `look` raises `Wrong` where it isn't one that these words and files may have; `may_want` says that memory may be short,
+        `tells` that something may stand on standard error."""
         self.counts[kind][answer.status] += 1
         processor, resident = self.most[kind]
         self.most[kind] = (max(processor, answer.processor), max(resident, answer.resident))
@@ -104,7 +106,7 @@ class Tally:
                 raise Wrong(f"ended by signal {answer.killed}")
             if answer.status not in STATUSES or answer.status == 3 and not may_want:
                 raise Wrong(f"status {answer.status}")
-            if answer.errors:
+            if answer.errors and not tells:
                 raise Wrong(f"standard error: {answer.errors[:80]!r}")
             look(answer)
         except Wrong as fault:

@@ -130,6 +130,90 @@ def read_script(content):
     return script
 
 
+# Arrivals
+
+MOST_ARRIVAL, MOST_CLIENTS = 2_000, 65_536
+
+
+def some_bytes(text):
+    content = unhex(text)
+    if not content:
+        raise Refused("shape")
+    if len(content) > MOST_ARRIVAL:
+        raise Refused("long")
+    return content
+
+
+def numbered(text):
+    value = number(text)
+    if value is None:
+        raise Refused("shape")
+    return value
+
+
+def read_arrival(line):
+    """An arrival of form 4, by its line alone: a word and its fields. What comes for descriptor 0 is `input`."""
+    word, space, rest = line.partition(b" ")
+    if word not in (b"line", b"input", b"connect", b"data", b"end"):
+        raise Refused("word")
+    if not space:
+        raise Refused("shape")
+    if word == b"line":
+        if len(rest) >= MOST_ARRIVAL:
+            raise Refused("long")
+        return "input", rest + b"\n"
+    if word == b"input":
+        return "input", some_bytes(rest)
+    if word == b"connect":
+        port = numbered(rest)
+        if not 1 <= port <= 65_535:
+            raise Refused("range")
+        return "connect", port
+    if word == b"data":
+        client, space, text = rest.partition(b" ")
+        if not space:
+            raise Refused("shape")
+        return "data", numbered(client), some_bytes(text)
+    return "end", rest if rest in (b"input", b"clients") else numbered(rest)
+
+
+class Arrivals:
+    """What has come, one arrival after the other."""
+
+    def __init__(self):
+        self.taken, self.clients, self.over = [], 0, set()
+
+    def take(self, line):
+        """Takes a line in. It is refused by itself, or since it may not come next."""
+        arrival = read_arrival(line)
+        word, subject = arrival[0], arrival[1]
+        stream = {"input": b"input", "connect": b"clients"}.get(word, subject)
+        if word in ("data", "end") and isinstance(subject, int) and subject >= self.clients:
+            raise Refused("range")
+        if stream in self.over:
+            raise Refused("twice")
+        if word == "connect":
+            if self.clients == MOST_CLIENTS:
+                raise Refused("long")
+            self.clients += 1
+        if word == "end":
+            self.over.add(subject)
+        self.taken.append(arrival)
+
+
+def read_arrivals(lines):
+    """The arrivals of lines, and the number and the cause of the line that is refused, or None."""
+    arrivals = Arrivals()
+    for place, line in enumerate(lines, 1):
+        if not line or line.startswith(b"#"):
+            continue
+        try:
+            arrivals.take(line)
+        except Refused as fault:
+            return arrivals.taken, (place, str(fault))
+    return arrivals.taken, None
+
+
 # Filters
 
 LOADS, STORES, RETURNS = {0x60, 0x61}, {0x02, 0x03}, {0x06, 0x16}

@@ -1,0 +1,330 @@
+"""Live runs: broken lines of clients, input that ends early, streams that are closed, full or not for it, calls of the C library that fail, and clients that leave.
+
+Whatever happens, what a run took is the beginning of what was sent, as a reader of the form reads it; and where the run began, `run` takes its transcript, up
+to the last newline, and comes to the events that the live run told.
+"""
+import os
+import random
+import re
+import signal
+import socket
+import struct
+import subprocess
+import sys
+import time
+
+from hostile_parts.broken import damaged_text
+from hostile_parts.failing import WANTING
+from hostile_parts.program import CLOCK, TOP, is_small, write
+from hostile_parts.readers import Refused, Wrong, read_arrival, read_arrivals, read_report
+
+EXAMPLES = os.path.join(TOP, "examples")
+GUESTS, SERVERS = os.path.join(EXAMPLES, "guests", "built"), os.path.join(EXAMPLES, "server", "built")
+SERVICE, BROKEN_SERVICE = [os.path.join(GUESTS, "service_1")], [os.path.join(GUESTS, "service_2"), os.path.join(GUESTS, "service_1")]
+SERVER, BROKEN_SERVER = [os.path.join(SERVERS, "server_1")], [os.path.join(SERVERS, "server_2"), os.path.join(SERVERS, "server_1")]
+SETUP = b"varan-script 4\nfile index.html 68690a\n"
+PORT = 8080
+# Two versions and their threads; more memory than a small guest takes.
+OPTIONS = ["--memory", "262144", "--threads", "2", "--ring", "2"]
+LIMITS = [*OPTIONS, "--calls", "131072", "--budget", "1000000000"]
+
+REQUEST = b"GET / HTTP/1.0\r\n\r\n"
+CLIENTS = b"# two clients\nconnect 8080\ndata 0 %s\nend 0\nconnect 8080\n\ndata 1 00FF\nend 1\nend clients\n" % REQUEST.hex().encode()
+INPUT = b"line put a b\ninput 67657420\ninput 610a\n#\nline drop a\nline get a\nend input\n"
+LINES = b"put a b\nget a\n\x00\xff\ndrop a\nget a\nget a"
+
+# What of the events that a run told is compared with those of its transcript: all, and the fates; those that it told; nothing.
+ALL, SOME, NOTHING = "all", "some", "nothing"
+
+CLOSED, FULL, FOLDER, WRITES_ONLY, READS_ONLY, UNREAD = "closed", "full", "folder", "writes only", "reads only", "unread"
+
+
+class Case:
+    """A live run: the words behind `serve`, its versions, and what is sent to it."""
+
+    def __init__(self, words, versions, sent):
+        self.words = ["serve", "--log", *OPTIONS, *words, *versions]
+        self.again = ["run", *LIMITS, "--script", "t", *versions]
+        self.has_lines = "--clients" in words
+        self.sent = sent
+
+    def sent_arrivals(self):
+        """The arrivals that were sent, and which line is refused. A last line without its newline may be taken or refused."""
+        return read_arrivals(self.sent.split(b"\n"))
+
+
+PLAIN = Case([], BROKEN_SERVICE, LINES)
+BY_LINES = Case(["--clients"], BROKEN_SERVICE, INPUT)
+BY_CLIENTS = Case(["--clients", "--script", "s"], BROKEN_SERVER, CLIENTS)
+CASES = (PLAIN, BY_LINES, BY_CLIENTS)
+
+
+def transcript_in(told):
+    """What was told up to its last newline, if a run began."""
+    return told[: told.rfind(b"\n") + 1] if told.startswith(b"varan-script 4\n") else None
+
+
+def arrivals_in(transcript):
+    """The arrivals of a transcript, which may have nothing else but comments and the lines of the script."""
+    lines = [line for line in transcript.split(b"\n")[1:] if not line.startswith(b"file ")]
+    arrivals, refused = read_arrivals(lines)
+    if refused:
+        raise Wrong(f"the transcript's arrival {refused}")
+    return arrivals
+
+
+def events_told(transcript):
+    return re.findall(rb"(?m)^# (\d+ \d+ .*)$", transcript)
+
+
+def fates_told(transcript):
+    return re.findall(rb"(?m)^# (\d [a-z].* seen .*)$", transcript)
+
+
+def is_within(some, whole):
+    """Whether they stand among the others, in the same order."""
+    rest = iter(whole)
+    return all(it in rest for it in some)
+
+
+def lines_of_report(text):
+    """The lines of the events and of the fates of a report."""
+    head, _, rest = text.partition(b"\n")
+    size = len(head) + int(head.split()[1]) + 2
+    front, connections, _ = text[size:].partition(b"\nconnections ")
+    read_report(text[:size] + front + (b"\n" if connections else b""))
+    rest = front.split(b"\n")
+    middle = next(place for place, line in enumerate(rest) if line.startswith(b"fates "))
+    return rest[1:middle], [line for line in rest[middle + 1:] if line]
+
+
+def bytes_of(arrivals):
+    return b"".join(arrival[1] for arrival in arrivals if arrival[0] == "input")
+
+
+class Live:
+    """Each run of `serve` is followed by a `run` on its transcript."""
+
+    def __init__(self, program, tally):
+        self.program, self.tally = program, tally
+        self.shim = os.path.abspath("failing.so")
+
+    def rehearse(self, case, told, compared=ALL):
+        """Judges what was told: what the transcript took is what was sent, and `run` comes to its events, and its fates where all are compared."""
+        transcript = transcript_in(told)
+        if transcript is None:
+            if any(not line.startswith(b"#") for line in told.split(b"\n") if line):
+                raise Wrong(f"neither a transcript nor comments: {told[:80]!r}")
+            return
+        self.is_front(case, arrivals_in(transcript))
+        write("t", transcript)
+        answer = self.program.run(case.again)
+        if answer.killed or answer.status not in (0, 1) or answer.errors:
+            raise Wrong(f"run on the transcript: {answer.status}, {answer.text[:80]!r}")
+        events, fates = lines_of_report(answer.text)
+        found = events_told(transcript)
+        if compared is ALL and (found, fates_told(transcript)) != (events, fates) or compared is SOME and not is_within(found, events):
+            raise Wrong("run on the transcript comes to other events or fates")
+
+    @staticmethod
+    def is_front(case, taken):
+        """Whether what was taken begins what was sent."""
+        if case.has_lines:
+            sent, _ = case.sent_arrivals()
+            if taken != sent[: len(taken)]:
+                raise Wrong(f"taken: {taken}, of {sent}")
+        elif not case.sent.startswith(bytes_of(taken)):
+            raise Wrong(f"taken: {taken}")
+
+    def judge(self, kind, case, answer, due, compared=ALL, may_want=False, say=""):
+        """Counts the answer. `due` raises `Wrong` where it isn't one that may come."""
+
+        def look(answer):
+            is_small(answer)
+            due(answer)
+            self.rehearse(case, answer.errors, compared)
+
+        self.tally.add(f"live: {kind}", [*case.words, say], answer, look, may_want=may_want, tells=True)
+
+    # ---- broken lines, and input that ends early
+
+    def broken(self, kind, usual, content):
+        """What is sent is damaged. All of it is taken but what comes behind a refused line, or after the guests have ended."""
+        case = Case([], [], content)
+        case.words, case.again, case.has_lines = usual.words, usual.again, usual.has_lines
+        write("in", content)
+        answer = self.program.run(case.words, given="in")
+
+        def due(answer):
+            sent, refused = case.sent_arrivals() if case.has_lines else ([], None)
+            taken = arrivals_in(transcript_in(answer.errors) or b"")
+            line = re.search(rb"(?m)^# varan: input standard input: line (\d+) ([a-z]+)$", answer.errors)
+            if answer.status == 4 and line:
+                place, cause = int(line[1]), line[2].decode()
+                is_cut = not content.endswith(b"\n") and place == len(content.split(b"\n"))
+                if (place, cause) != refused and not is_cut:
+                    raise Wrong(f"line {place} {cause} in place of {refused}")
+                if len(taken) < len(sent) - is_cut:
+                    raise Wrong(f"{len(taken)} arrivals of {len(sent)} before the refused line")
+            elif answer.status not in (0, 1):
+                raise Wrong("a status that nothing causes")
+            elif refused and len(taken) == len(sent) and not self.is_over(taken):
+                raise Wrong(f"the refused line {refused} isn't told")
+            elif not case.has_lines and bytes_of(taken) != content:
+                raise Wrong(f"taken: {taken}")
+
+        self.judge(kind, case, answer, due, say=repr(content[:60]))
+
+    @staticmethod
+    def is_over(taken):
+        """Whether the guests may have ended before more was asked for: no more clients come, or no more input."""
+        return ("end", b"clients") in taken or ("end", b"input") in taken
+
+    # ---- streams of the process
+
+    def streams(self):
+        """Each stream as it should be, closed, and otherwise not what it should be."""
+        inputs, outputs = ("file", CLOSED, FOLDER, WRITES_ONLY), ("file", CLOSED, FULL, READS_ONLY, UNREAD)
+        for case in CASES:
+            for given in inputs:
+                for out in outputs:
+                    for told in outputs:
+                        self.stream(case, given, out, told)
+
+    def stream(self, case, given, out, told):
+        write("in", case.sent)
+        write("out", b"")
+        last = [*stream_action(0, given, "in", os.O_RDONLY), *stream_action(1, out, "out", os.O_WRONLY), *stream_action(2, told, None, 0)]
+        reading, writing = os.pipe()
+        os.close(reading)
+        last = [action if action[0] != "unread" else (os.POSIX_SPAWN_DUP2, writing, action[1]) for action in last]
+        answer = self.program.run(case.words, last=last)
+        os.close(writing)
+        status = 5 if given != "file" else 6 if out != "file" or told != "file" else 0
+
+        def due(answer):
+            if answer.status != status:
+                raise Wrong(f"not {status}")
+
+        self.judge("streams", case, answer, due, say=f"{given}, {out}, {told}")
+
+    # ---- calls of the C library
+
+    def preloaded(self, case, failing=None):
+        os.environ.update(LD_PRELOAD=self.shim, COUNTED=os.path.abspath("counted"), **({"FAILING": failing} if failing else {}))
+        write("in", case.sent)
+        try:
+            answer = self.program.run(case.words, given="in")
+        finally:
+            for name in ("LD_PRELOAD", "COUNTED", "FAILING"):
+                os.environ.pop(name, None)
+        with open("counted") as file:
+            counts = dict(zip(("alloc", "open", "read", "write"), map(int, file.read().split())))
+        os.unlink("counted")
+        return answer, counts
+
+    def failing(self, case):
+        whole, counts = self.preloaded(case)
+        self.judge("nothing fails", case, whole, lambda answer: None)
+
+        def is_status(*statuses):
+            def due(answer):
+                if answer.status not in statuses:
+                    raise Wrong(f"none of {statuses}")
+                if answer.status == 3 and (answer.text, answer.errors) == (WANTING, b""):
+                    return  # there was no memory to read the words, so it isn't known that this is a live run
+                if not whole.text.startswith(answer.text) or answer.status == 0 and answer.text != whole.text:
+                    raise Wrong("standard output isn't the beginning of what it was")
+
+            return due
+
+        for kind, counted, statuses, compared in (
+            ("read", "read", (5,), ALL), ("open", "open", (5,), ALL), ("write", "write", (6,), NOTHING), ("alloc", "alloc", (0, 3, 7), SOME),
+            ("short-read", "read", (0,), ALL), ("short-write", "write", (0,), ALL),
+        ):
+            for number in range(counts[counted]):
+                answer, _ = self.preloaded(case, f"{kind}:{number}")
+                self.judge(kind, case, answer, is_status(*statuses), compared, may_want=kind == "alloc", say=f"({kind} {number})")
+
+    # ---- clients that leave
+
+    def leaving(self, seed):
+        """Clients over TCP that come beside each other and leave at whatever place; one of those that stay is served to the end."""
+        chance = random.Random(seed)
+        port = free_port()
+        case = Case(["--clients", "--script", "s"], BROKEN_SERVER, b"")
+        listening = [sys.executable, os.path.join(EXAMPLES, "listen.py"), "--idle", "5", f"{port}:{PORT}", "--", self.program.path, *case.words]
+        with open("told", "wb") as told:
+            adapter = subprocess.Popen(listening, stderr=told)
+        try:
+            wait_for(port)
+            answers = [be_client(port, chance, stays) for stays in (False, False, True, False, False)]
+        finally:
+            adapter.send_signal(signal.SIGTERM)
+            status = adapter.wait(CLOCK)
+        with open("told", "rb") as file:
+            transcript = file.read()
+
+        def due(_):
+            if status != 0:
+                raise Wrong(f"listen.py ended with {status}")
+            if not answers[2].endswith(b"\r\n\r\nhi\n"):
+                raise Wrong(f"the client that stayed got {answers[2]!r}")
+            case.sent = b"\n".join(line for line in transcript.split(b"\n") if re.match(rb"connect|data|end", line))
+            self.rehearse(case, transcript)
+
+        write("t", transcript)
+        self.tally.add("live: clients that leave", [*case.words, f"(seed {seed})"], self.program.run(case.again), due)
+
+    def run(self):
+        subprocess.run(["cc", "-O2", "-shared", "-fPIC", "-o", self.shim, os.path.join(TOP, "bench", "hostile_parts", "failing.c")], check=True)
+        write("s", SETUP)
+        for kind, case in (("lines", PLAIN), ("lines of --clients", BY_LINES), ("clients", BY_CLIENTS)):
+            for content in damaged_text(case.sent):
+                self.broken(kind, case, content)
+        self.streams()
+        for case in CASES:
+            self.failing(case)
+        for seed in range(40):
+            self.leaving(seed)
+
+
+def stream_action(fd, state, path, way):
+    """What is done to a descriptor at the end, so that it is in this state."""
+    if state == "file":
+        return [(os.POSIX_SPAWN_OPEN, fd, path, way, 0)] if path else []
+    if state == CLOSED:
+        return [(os.POSIX_SPAWN_CLOSE, fd)]
+    if state == UNREAD:
+        return [("unread", fd)]
+    path, way = {FULL: ("/dev/full", os.O_WRONLY), FOLDER: (".", os.O_RDONLY), WRITES_ONLY: ("out", os.O_WRONLY), READS_ONLY: ("s", os.O_RDONLY)}[state]
+    return [(os.POSIX_SPAWN_OPEN, fd, path, way, 0)]
+
+
+def free_port():
+    with socket.create_server(("127.0.0.1", 0)) as it:
+        return it.getsockname()[1]
+
+
+def wait_for(port):
+    end = time.monotonic() + CLOCK
+    while f"0100007F:{port:04X} 00000000:0000 0A" not in open("/proc/net/tcp").read():
+        if time.monotonic() > end:
+            sys.exit(f"nobody listens at port {port}")
+        time.sleep(0.01)
+
+
+def be_client(port, chance, stays):
+    """A client that stays until it has its answer, which it comes to; or one that sends some of its request, takes some of its answer, and resets its
+    connection then."""
+    sent = REQUEST if stays else REQUEST[: chance.choice((0, 5, len(REQUEST)))]
+    with socket.create_connection(("127.0.0.1", port), CLOCK) as client:
+        client.sendall(sent)
+        if stays:
+            client.shutdown(socket.SHUT_WR)
+            got = b"".join(iter(lambda: client.recv(65536), b""))
+            return got
+        if sent == REQUEST and chance.random() < 0.5:
+            client.recv(1)
+        client.setsockopt(socket.SOL_SOCKET, socket.SO_LINGER, struct.pack("ii", 1, 0))
+    return None
