@@ -167,7 +167,7 @@ class Service:
         self.endings = []  # of each run, a task that comes to its status
         self.turn = asyncio.Lock()  # one client at a time comes to a run
         self.over = asyncio.Event()
-        self.failed = False
+        self.failed = self.is_ending = False
 
     def transcript(self):
         """The file for the next run's standard error; None where that is this script's."""
@@ -183,24 +183,28 @@ class Service:
         self.run = Run(process, self.console, self.given.idle)
         self.endings.append(asyncio.create_task(self.follow(self.run)))
 
-    async def give(self, client):
-        """Gives a client to the run that takes clients."""
-        async with self.turn:
-            if not self.run.takes:
-                await self.begin()
-            run = self.run
-            if run.count + 1 == self.given.each and not self.over.is_set():
-                await self.begin()
-            run.connect(client)
-            if run is not self.run or self.over.is_set():
-                run.end_clients()
+    async def place(self, client):
+        """Gives a client to the run that takes clients. The next one begins before this one gets its last."""
+        if not self.run.takes:
+            await self.begin()
+        run = self.run
+        if run.count + 1 == self.given.each and not self.is_ending:
+            await self.begin()
+        run.connect(client)
+        if run is not self.run:
+            run.end_clients()
 
-    async def come(self, client):
-        try:
-            await self.give(client)
-        except OSError as fault:
-            self.fail(fault)
-            await client.close(self.given.idle)
+    async def come(self, *clients):
+        """These clients come. Where no run can begin for them they are closed."""
+        async with self.turn:
+            for client in clients:
+                try:
+                    await self.place(client)
+                except OSError as fault:
+                    self.fail(fault)
+                    await client.close(self.given.idle)
+            if self.is_ending:
+                self.run.end_clients()
 
     def fail(self, fault):
         """No run can begin."""
@@ -214,8 +218,7 @@ class Service:
         async with self.turn:
             left = list(run.waiting.values())
         if run.has_accepted or run.is_asked_to_end:
-            for client in left:
-                await self.come(client)
+            await self.come(*left)
         else:
             self.over.set()
             await asyncio.gather(*(client.close(self.given.idle) for client in left))
@@ -234,6 +237,7 @@ class Service:
     async def end(self):
         """Comes to the status, once all that came are served. A run that one leaves clients to stands in the list by then."""
         async with self.turn:
+            self.is_ending = True
             self.run.end_clients()
         status = 0
         for ending in self.endings:
