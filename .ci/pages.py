@@ -13,7 +13,7 @@ import sys
 MANUAL = "docs/varan.1"
 ROOT = os.path.dirname(os.path.dirname(os.path.abspath(__file__)))
 # the pages that a user reads first, and how long their lines are at most
-FIRST = ("README.md", "CHANGELOG.md", *(f"docs/{it}" for it in ("TUTORIAL.md", "GUESTS.md", "SCRIPT.md", "REPORT.md", "RULES.md", "REFUSALS.md", "TRACES.md", "INSPECT.md", "PARTING.md", "LIVE.md", "varan.1")))
+FIRST = ("README.md", "CHANGELOG.md", *(f"docs/{it}" for it in ("TUTORIAL.md", "GUESTS.md", "SCRIPT.md", "REPORT.md", "RULES.md", "REFUSALS.md", "TRACES.md", "INSPECT.md", "PARTING.md", "LIVE.md", "REHEARSE.md", "varan.1")))
 MOST = 200
 COMMANDS = ("run", "serve", "record", "replay", "inspect", "rules", "asm", "gen", "help")
 # what stands on a page for another program's option
