@@ -33,6 +33,9 @@ CLIENTS = b"# two clients\nconnect 8080\ndata 0 %s\nend 0\nconnect 8080\n\ndata 
 INPUT = b"line put a b\ninput 67657420\ninput 610a\n#\nline drop a\nline get a\nend input\n"
 LINES = b"put a b\nget a\n\x00\xff\ndrop a\nget a\nget a"
 
+# The cause of a line that the end of input came within: the program's words for it aren't compared.
+CUT_OFF = "cut off"
+
 # What of the events that a run told is compared with those of its transcript: all, and the fates; those that it told; nothing.
 ALL, SOME, NOTHING = "all", "some", "nothing"
 
@@ -49,8 +52,10 @@ class Case:
         self.sent = sent
 
     def sent_arrivals(self):
-        """The arrivals that were sent, and which line is refused. A last line without its newline may be taken or refused."""
-        return read_arrivals(self.sent.split(b"\n"))
+        """The arrivals that were sent, and the number of the line that is refused with its cause, or None. A last line without its newline is, whatever it says."""
+        *lines, rest = self.sent.split(b"\n")
+        arrivals, refused = read_arrivals(lines)
+        return arrivals, refused or ((len(lines) + 1, CUT_OFF) if rest else None)
 
 
 PLAIN = Case([], BROKEN_SERVICE, LINES)
@@ -62,6 +67,10 @@ CASES = (PLAIN, BY_LINES, BY_CLIENTS)
 def transcript_in(told):
     """What was told up to its last newline, if a run began."""
     return told[: told.rfind(b"\n") + 1] if told.startswith(b"varan-script 4\n") else None
+
+
+def without_comments(told):
+    return b"".join(line for line in told.splitlines(keepends=True) if not line.startswith(b"#"))
 
 
 def arrivals_in(transcript):
@@ -158,13 +167,12 @@ class Live:
         def due(answer):
             sent, refused = case.sent_arrivals() if case.has_lines else ([], None)
             taken = arrivals_in(transcript_in(answer.errors) or b"")
-            line = re.search(rb"(?m)^# varan: input standard input: line (\d+) ([a-z]+)$", answer.errors)
+            line = re.search(rb"(?m)^# varan: input standard input: line (\d+) ([a-z ]+)$", answer.errors)
             if answer.status == 4 and line:
                 place, cause = int(line[1]), line[2].decode()
-                is_cut = not content.endswith(b"\n") and place == len(content.split(b"\n"))
-                if (place, cause) != refused and not is_cut:
+                if refused != (place, CUT_OFF if refused and refused[1] == CUT_OFF else cause):
                     raise Wrong(f"line {place} {cause} in place of {refused}")
-                if len(taken) < len(sent) - is_cut:
+                if len(taken) < len(sent):
                     raise Wrong(f"{len(taken)} arrivals of {len(sent)} before the refused line")
             elif answer.status not in (0, 1):
                 raise Wrong("a status that nothing causes")
@@ -238,8 +246,19 @@ class Live:
 
             return due
 
+        def unwritten(answer):
+            """What a write failed of is lacking: 6, unless it was a comment."""
+            if not whole.text.startswith(answer.text) or not without_comments(whole.errors).startswith(without_comments(answer.errors)):
+                raise Wrong("what was written isn't the beginning of what it was")
+            is_whole = (answer.text, without_comments(answer.errors)) == (whole.text, without_comments(whole.errors))
+            if answer.status != (0 if is_whole else 6):
+                raise Wrong("the status isn't that of what is lacking")
+
+        for number in range(counts["write"]):
+            answer, _ = self.preloaded(case, f"write:{number}")
+            self.judge("write", case, answer, unwritten, NOTHING, say=f"(write {number})")
         for kind, counted, statuses, compared in (
-            ("read", "read", (5,), ALL), ("open", "open", (5,), ALL), ("write", "write", (6,), NOTHING), ("alloc", "alloc", (0, 3, 7), SOME),
+            ("read", "read", (5,), ALL), ("open", "open", (5,), ALL), ("alloc", "alloc", (0, 3, 7), SOME),
             ("short-read", "read", (0,), ALL), ("short-write", "write", (0,), ALL),
         ):
             for number in range(counts[counted]):
