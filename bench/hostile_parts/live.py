@@ -289,7 +289,7 @@ class Live:
                 raise Wrong(f"listen.py ended with {status}")
             if not answers[2].endswith(b"\r\n\r\nhi\n"):
                 raise Wrong(f"the client that stayed got {answers[2]!r}")
-            case.sent = b"\n".join(line for line in transcript.split(b"\n") if re.match(rb"connect|data|end", line))
+            case.sent = b"".join(line for line in without_comments(transcript).splitlines(keepends=True) if re.match(rb"connect|data|end", line))
             self.rehearse(case, transcript)
 
         write("t", transcript)
