@@ -204,7 +204,11 @@ END
 bad_server=$server/built/server_2
 old_server=$server/built/server_1
 new_server=$server/built/server_3
+# the clients' script, what version 1 gives them under Linux, their port, and what the guests are run with
 clients=$server/scripts/clients
+expected=$server/expected/clients_1
+inner=8080
+words=(--script "$work/setup")
 port=
 adapter=
 options=()
@@ -215,8 +219,8 @@ begun() {
     shift
     port=$(free_port)
     mkdir "$work/$name"
-    timeout 300 "$here/../listen.py" --transcripts "$work/$name" ${options[@]+"${options[@]}"} "$port:8080" -- \
-        "$program" serve --clients --log --script "$work/setup" "$@" &
+    timeout 300 "$here/../listen.py" --transcripts "$work/$name" ${options[@]+"${options[@]}"} "$port:$inner" -- \
+        "$program" serve --clients --log "${words[@]}" "$@" >"$work/console" &
     adapter=$!
     started+=("$adapter")
     until_it listens "$port"
@@ -233,13 +237,13 @@ ended() {
 # first N: what the first N clients get from version 1 under Linux.
 first() {
     echo "connections $1"
-    sed -n "/^connection 0 /,/^connection $1 /p" "$server/expected/clients_1" | sed "/^connection $1 /d"
+    sed -n "/^connection 0 /,/^connection $1 /p" "$expected" | sed "/^connection $1 /d"
 }
 
 # got NAME WAY: each of the clients gets what it gets from version 1 under Linux.
 got() {
     "$here/clients.py" "$2" "$port" "$clients" >"$work/got" || bad "the clients, $1"
-    same "$server/expected/clients_1" "$work/got" "the clients, $1"
+    same "$expected" "$work/got" "the clients, $1"
 }
 
 # written NAME FILE: the run of the transcript writes the clients these bytes.
@@ -248,7 +252,7 @@ written() {
     "$here/clients.py" same "$2" "$work/report" || bad "the transcript's clients, $1"
 }
 
-# in_turn NAME FATES V..: the twelve clients, one after the other.
+# in_turn NAME FATES V..: the clients, one after the other.
 in_turn() {
     local name=$1 fates=$2
     shift 2
@@ -257,7 +261,7 @@ in_turn() {
     ended "$name"
     again "$work/$name"/* "$fates" "$@"
     sed -n '/^connections /,$p' "$work/report" >"$work/got"
-    same "$server/expected/clients_1" "$work/got" "the transcript's clients, $name"
+    same "$expected" "$work/got" "the transcript's clients, $name"
 }
 
 # calls NAME V..: the calls of the transcript's run are those of version 1, as strace prints them.
@@ -275,7 +279,7 @@ beside() {
     got beside beside
     ended beside
     again "$work/beside"/* $'0 fault load 100\n1 exited 0' "$bad_server" "$old_server"
-    written beside "$server/expected/clients_1"
+    written beside "$expected"
 }
 
 # A client leaves in the middle of its answer, before the others come.
@@ -326,6 +330,15 @@ while_they_wait() {
     written wait "$work/wanted"
 }
 
+# A server of Debian with its bug, and behind it the one with Debian's patch.
+a_stranger() {
+    local strangers=$here/../strangers clients expected inner=18101 words=(--memory 4194304 --script "$work/stranger_setup") largest=("${largest[@]}" --memory 4194304)
+    clients=$strangers/scripts/mini_httpd
+    expected=$strangers/expected/mini_httpd
+    { echo varan-script 4; grep '^\(arg\|file\|clock\) ' "$clients"; } >"$work/stranger_setup"
+    in_turn stranger $'0 fault load 100\n1 exited 0' "$strangers/built/mini_httpd_original" "$strangers/built/mini_httpd_debian"
+}
+
 many_clients() {
     local eight=("$bad_server" "$bad_server" "$old_server" "$new_server" "$bad_server" "$old_server" "$new_server" "$old_server")
     { echo varan-script 4; grep '^\(arg\|file\) ' "$clients"; } >"$work/setup"
@@ -338,6 +351,7 @@ many_clients() {
     one_leaves
     anew
     while_they_wait
+    a_stranger
 }
 
 if ! has python3 "live services"; then
