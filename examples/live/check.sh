@@ -89,7 +89,18 @@ there() {
     fi
 }
 
-# fates_of FILE: how the versions ended, by the lines of a report.
+# told_in TRANSCRIPT: the events that a live run told, and how each version ended after how many, as in a report but for what it led.
+told_in() {
+    sed -n 's/^# \([0-9]* [0-9]* .* = .*\)$/\1/p' "$1"
+    sed -n 's/^# version \([0-7]\) ended: \(.*\), after \([0-9]*\) events$/\1 \2 seen \3/p' "$1" | sort
+}
+
+# reported_in REPORT: the same of a report.
+reported_in() {
+    sed -n '/^log /,/^connections /p' "$1" | sed -n 's/^\([0-9]* [0-9]* .* = .*\)$/\1/p;s/^\([0-7] [a-z].* seen [0-9]*\) led .*$/\1/p'
+}
+
+# fates_of FILE: how the versions ended, by these lines, without the address of a fault.
 fates_of() {
     sed -n 's/^\([0-7] [a-z].*\) seen .*$/\1/p' "$1" | sed 's/\(fault [a-z]* 100\) [0-9a-f]*/\1/'
 }
@@ -100,8 +111,8 @@ again() {
     shift 2
     "$program" run "${largest[@]}" --script "$transcript" "$@" >"$work/report" || status=$?
     is "$status" 0 "the transcript's status, $*"
-    sed -n '/^log /,/^connections /p' "$work/report" | sed -n '/^[0-9]/p' >"$work/run"
-    sed -n 's/^# \([0-9].*\)/\1/p' "$transcript" >"$work/told"
+    reported_in "$work/report" >"$work/run"
+    told_in "$transcript" >"$work/told"
     same "$work/told" "$work/run" "the transcript's log and fates, $*"
     is "$(fates_of "$work/told")" "$fates" "the fates, $*"
 }
