@@ -11,7 +11,10 @@ use Rattle.nv_outside.specs.declared.sink.Put.TheVariants.{Whole, Failed}
 use Rattle.nv_command.specs.Words.{texts}
 use Rattle.nv_command.specs.declared.asked.LineFault.{LineFault}
 use Rattle.nv_command.specs.declared.asked.LineFault.TheVariants as line
-use Rattle.nv_jobs.specs.Due.{Answers, Says, Completes, Rejects, IsUntouched, Shows}
+use Rattle.nv_jobs.specs.Due.{AnswersOver, Says, Completes, Rejects, IsUntouched, Shows}
+use Rattle.nv_jobs.specs.Live.{Streams}
+use Rattle.nv_jobs.specs.declared.ending.Ending.{Ending}
+use Rattle.nv_jobs.specs.declared.ending.Ending.TheVariants.{Finished}
 use Rattle.nv_jobs.specs.Outcome.{Outcome, Source, outcome_status, text_of, ended_with}
 use Rattle.nv_jobs.specs.Tasks.{fault_outcome}
 use Rattle.nv_jobs.proofs.Statuses.{completes-of, rejects-of, never_six}
@@ -87,28 +90,31 @@ module _ {text : List ℕ} {text_status : ℕ} {a c d : Option (List ℕ)} {held
 
 -- ---- the program
 
-module _ {words : Given} {source : Source} {a c d : Option (List ℕ)} {held : List ℕ} {f g h status last_status : ℕ} where
+module _ {words : Given} {source : Source} {streams : Streams} {left : Option (Streams × Ending)} {a c d : Option (List ℕ)} {held : List ℕ} {f g h status last_status : ℕ} where
   -- the monitor's answer, and then what is held back
-  pub program_finished : ProgramAnswers words source (with_held a []) f status (with_held c held) g
-      → (status ≡ 6 → (d ≡ c) × (h ≡ g) × (last_status ≡ 6)) → ((status ≡ 6 → ⊥) → Says held status c g last_status d h) → ProgramAnswers words source a f last_status d h
+  pub program_finished : ProgramAnswers words source streams (with_held a []) f status (with_held c held) g left
+      → (status ≡ 6 → (d ≡ c) × (h ≡ g) × (last_status ≡ 6)) → ((status ≡ 6 → ⊥) → Says held status c g last_status d h) → ProgramAnswers words source streams a f last_status d h left
   program_finished p given_up put_held = record {
     outcome = p.outcome;
     due = p.due;
     shown = p.shown;
     unread = p.unread;
     ends = finished (never_six p.outcome) given_up put_held p.ends;
+    over = p.over;
   }
 
 -- the monitor answers the words
-pub words_answer : {words : Given} (given : Vec (String Global) Global) {source : Source} {a c : Option (List ℕ)} {f status g : ℕ} → words ≡ Ok given
-    → Answers (texts given.items) source a f status c g → ProgramAnswers words source a f status c g
-words_answer {words = words} given {source = source} {a = a} {c = c} {f = f} {status = status} {g = g} is said =
-    subst (λ (w : Given). ProgramAnswers w source a f status c g) (sym is) (record {
+pub words_answer : {words : Given} (given : Vec (String Global) Global) {source : Source} {streams : Streams} {left : Option (Streams × Ending)} {a c : Option (List ℕ)} {f status g : ℕ} → words ≡ Ok given
+    → AnswersOver (texts given.items) source streams a f status c g left → ProgramAnswers words source streams a f status c g left
+words_answer {words = words} given {source = source} {streams = streams} {left = left} {a = a} {c = c} {f = f} {status = status} {g = g} is over =
+    let said = over.answers in
+    subst (λ (w : Given). ProgramAnswers w source streams a f status c g left) (sym is) (record {
       outcome = said.outcome;
       due = said.due;
       shown = said.shown;
       unread = said.unread;
       ends = says_ends said.says;
+      over = over.over;
     })
 
 fault_shown : (fault : LineFault) (source : Source) → IsUntouched source → Shows (fault_outcome fault) source
@@ -116,15 +122,16 @@ fault_shown line.Usage source still = still.0
 fault_shown line.Memory source still = still.0
 
 -- there are no words
-pub fault_answers : {words : Given} (fault : LineFault) {source : Source} {a c : Option (List ℕ)} {f status g : ℕ} → words ≡ Err fault → IsUntouched source
-    → Says (text_of (fault_outcome fault)) (outcome_status (fault_outcome fault)) a f status c g → ProgramAnswers words source a f status c g
-fault_answers {words = words} fault {source = source} {a = a} {c = c} {f = f} {status = status} {g = g} is still says =
-    subst (λ (w : Given). ProgramAnswers w source a f status c g) (sym is) (record {
+pub fault_answers : {words : Given} (fault : LineFault) {source : Source} (streams : Streams) {a c : Option (List ℕ)} {f status g : ℕ} → words ≡ Err fault → IsUntouched source
+    → Says (text_of (fault_outcome fault)) (outcome_status (fault_outcome fault)) a f status c g → ProgramAnswers words source streams a f status c g (Some (streams, Finished))
+fault_answers {words = words} fault {source = source} streams {a = a} {c = c} {f = f} {status = status} {g = g} is still says =
+    subst (λ (w : Given). ProgramAnswers w source streams a f status c g (Some (streams, Finished))) (sym is) (record {
       outcome = fault_outcome fault;
       due = refl;
       shown = fault_shown fault source still;
       unread = λ refused. still;
       ends = says_ends says;
+      over = refl;
     })
 
 -- where it failed the count of faults rose
@@ -133,12 +140,12 @@ ends_rose {f = f} {g = g} e failed =
     let once : g ≡ faults_by Failed f = e.counted ∙ ap (λ (q : Put). faults_by q f) failed in
     omega (arith, once)
 
-pub program_completes : (words : Given) (source : Source) (a c : Option (List ℕ)) (f status g : ℕ) → ProgramAnswers words source a f status c g
+pub program_completes : (words : Given) (source : Source) (streams : Streams) (left : Option (Streams × Ending)) (a c : Option (List ℕ)) (f status g : ℕ) → ProgramAnswers words source streams a f status c g left
     → IfOk words (λ given. Completes (texts given.items) source f status g)
-program_completes (Ok given) source a c f status g p = completes-of (texts given.items) source status p.outcome p.due p.shown p.ends.put p.ends.ends f g (ends_rose p.ends)
-program_completes (Err fault) source a c f status g p = tt
+program_completes (Ok given) source streams left a c f status g p = completes-of (texts given.items) source status p.outcome p.due p.shown p.ends.put p.ends.ends f g (ends_rose p.ends)
+program_completes (Err fault) source streams left a c f status g p = tt
 
-pub program_rejects : (words : Given) (source : Source) (a c : Option (List ℕ)) (f status g : ℕ) → ProgramAnswers words source a f status c g
+pub program_rejects : (words : Given) (source : Source) (streams : Streams) (left : Option (Streams × Ending)) (a c : Option (List ℕ)) (f status g : ℕ) → ProgramAnswers words source streams a f status c g left
     → IfOk words (λ given. Rejects (texts given.items) source status)
-program_rejects (Ok given) source a c f status g p = rejects-of (texts given.items) source status p.outcome p.due p.shown p.ends.put p.ends.ends
-program_rejects (Err fault) source a c f status g p = tt
+program_rejects (Ok given) source streams left a c f status g p = rejects-of (texts given.items) source status p.outcome p.due p.shown p.ends.put p.ends.ends
+program_rejects (Err fault) source streams left a c f status g p = tt

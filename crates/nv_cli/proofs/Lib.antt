@@ -1,3 +1,5 @@
+pub mod Lived
+pub mod Sending
 mod Once
 mod Counted
 mod Running

@@ -13,7 +13,7 @@ mod serving;
 mod top;
 
 pub use calm::varan_calmly;
-pub use nv_jobs::{Cause, Place, Refusal};
+pub use nv_jobs::{Cause, Ending, Place, Refusal};
 pub use process::{exit_status, program};
 pub use serving::Left;
 pub use top::varan;

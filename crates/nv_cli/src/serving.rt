@@ -1,24 +1,27 @@
 // A live run.
-ghost use Rattle.std.specs.Prelude.{◌≡◌, List, ℕ, Some, IsTrue, IfOk};
+ghost use Rattle.std.specs.Prelude.{◌≡◌, ◌≤◌, [], List, ℕ, Some, IsTrue, IfOk, length, option_map};
 ghost use Rattle.nv_command.specs.Seen.{limits_view, service_view};
 ghost use Rattle.nv_command.specs.Words.{Serves, command_of};
+ghost use Rattle.nv_replay.specs.Account.{AreFresh};
 ghost use Rattle.nv_script.specs.Scripts.{is_script};
 ghost use Rattle.nv_script.specs.Views.{setup_of};
+ghost use Rattle.nv_threads.specs.Threads.{threads};
 ghost use Rattle.nv_jobs.specs.Due.{AnswersOver};
 ghost use Rattle.nv_cli.specs.Streams.{streams_of, left_of};
 ghost use Rattle.nv_jobs.specs.Outcome.{source_of};
-ghost use Rattle.nv_jobs.specs.Refusals.{IsPlanned};
 ghost use Rattle.nv_cli.specs.inner.Serving.{IsBegunOver, IsReadyToServe, HasLeft, RanOver, ServeSays};
 
 use crate::beside::run;
+use nv_arrivals::Outside;
 use nv_arriving::ArrivingKernel;
+use nv_bpf::Filter;
 use nv_command::{Limits, Service};
 use nv_jobs::{
     Ending, LivePrepared, MEMORY, how_ended, prepare_live, put_line, refuse_live, status,
 };
-use nv_live::{LiveRun, Source, Streams};
+use nv_live::{LiveRun, Source, Streams, Telling};
 use nv_outside::{Files, Sink};
-use nv_replay::Account;
+use nv_replay::{Account, Version};
 use nv_script::Script;
 use nv_workers::Gate;
 use std::alloc::{AllocError, Global};
@@ -53,42 +56,24 @@ fn left_by<I: Source, O: Sink + Drop, T: Sink + Drop>(
     (live.finish(), ending)
 }
 
-// Runs the versions over what comes by these streams.
-fn run_over<
-    R: Threads + Wait + Sync,
-    G: Gate + Sync,
-    I: Source + Send,
-    O: Sink + Drop + Send,
-    T: Sink + Drop + Send,
->(
+// Runs the versions over what comes from an outside.
+fn run_over<R: Threads + Wait + Sync, G: Gate + Sync, X: Outside + Telling + Send>(
     rt: &R,
     alloc: Global,
-    prepared: LivePrepared,
-    clients: bool,
-    streams: Streams<I, O, T>,
+    kernel: ArrivingKernel<X>,
+    rules: Option<&Filter>,
+    versions: Vec<Version>,
+    hands: &Vec<u32>,
     limits: Limits,
     gate: &G,
-) -> Result<Account<ArrivingKernel<LiveRun<I, O, T>>>, AllocError>
-    requires ready { IsReadyToServe prepared }
-    ensures { IfOk result (RanOver I.took I.faults O.told O.faults T.told T.faults (limits_view limits) clients prepared streams) }
+) -> Result<Account<ArrivingKernel<X>>, AllocError>
+    requires fresh { AreFresh threads 0 versions.items }
+    requires few { length versions.items ≤ 8 }
+    requires empty { kernel.log ≡ [] }
+    requires hands { length hands.now.items ≤ 8 }
+    ensures { IfOk result (λ r. RanOver X.told kernel (option_map (λ f. f.now) rules.entry) limits.calls hands.now.items versions.items r) }
 {
-    let LivePrepared {
-        head,
-        script,
-        rules,
-        versions,
-    } = prepared;
-    let kernel = kernel_over(alloc, &script, clients, &head, streams)?;
-    run(
-        rt,
-        alloc,
-        versions,
-        rules.as_ref(),
-        kernel,
-        gate,
-        limits,
-        &script.hands,
-    )
+    run(rt, alloc, versions, rules, kernel, gate, limits, hands)
 }
 
 // Runs the versions over what comes by these streams, and gives back what is left of them.
@@ -113,13 +98,30 @@ fn serve_versions<
     ensures { ServeSays (limits_view limits) clients prepared (streams_of I.took I.faults O.told O.faults T.told T.faults streams)
         (S.told sink.old) (S.faults sink.old) result.0 (S.told sink.new) (S.faults sink.new) (left_of I.took I.faults O.told O.faults T.told T.faults result.1) }
 {
-    match run_over(rt, alloc, prepared, clients, streams, limits, gate) {
-        Ok(Account { kernel, versions }) => {
-            let left = left_by(kernel.into_outside());
-            (status(&versions), Some(left))
-        }
-        Err(_) => (put_line(sink, b"varan: memory\n", MEMORY), None),
-    }
+    let LivePrepared {
+        head,
+        script,
+        rules,
+        versions,
+    } = prepared;
+    let Ok(kernel) = kernel_over(alloc, &script, clients, &head, streams) else {
+        return (put_line(sink, b"varan: memory\n", MEMORY), None);
+    };
+    let Ok(account) = run_over(
+        rt,
+        alloc,
+        kernel,
+        rules.as_ref(),
+        versions,
+        &script.hands,
+        limits,
+        gate,
+    ) else {
+        return (put_line(sink, b"varan: memory\n", MEMORY), None);
+    };
+    let Account { kernel, versions } = account;
+    let left = left_by(kernel.into_outside());
+    (status(&versions), Some(left))
 }
 
 /// Runs the versions of a service over what comes by these streams.

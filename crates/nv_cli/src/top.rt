@@ -234,6 +234,13 @@ fn do_generate<R: Threads + Wait + Sync, S: Sink, G: Gate + Sync>(
     }
 }
 
+// A status, and the streams, which nothing has touched.
+fn left_alone<I, O, T>(status: u8, streams: Streams<I, O, T>) -> (u8, Left<I, O, T>)
+    ensures { (result.0 ≡ status) × (result.1 ≡ Some (streams, Ending.Finished)) }
+{
+    (status, Some((streams, Ending::Finished)))
+}
+
 // Does what the words ask for, and says what it came to. Only a live run takes the streams.
 fn answer<
     R: Threads + Wait + Sync,
@@ -257,20 +264,39 @@ fn answer<
         (S.told sink.old) (S.faults sink.old) result.0 (S.told sink.new) (S.faults sink.new)
         (left_of I.took I.faults O.told O.faults T.told T.faults result.1) }
 {
-    let status = match nv_command::read(alloc, words) {
-        Ok(Command::Serve(service)) => {
-            return serve(rt, alloc, files, sink, gate, &service, streams);
+    match nv_command::read(alloc, words) {
+        Ok(Command::Serve(service)) => serve(rt, alloc, files, sink, gate, &service, streams),
+        Ok(Command::Run(plan)) => left_alone(do_run(rt, alloc, files, sink, gate, &plan), streams),
+        Ok(Command::Record(plan)) => left_alone(
+            record(rt, alloc, files, sink, gate, &plan),
+            streams,
+        ),
+        Ok(Command::Use(job)) => left_alone(
+            answer_alone(alloc, files, sink, Task::Use(job)),
+            streams,
+        ),
+        Ok(Command::Generate(number)) => left_alone(
+            do_generate(rt, alloc, number, sink, gate),
+            streams,
+        ),
+        Ok(Command::Replay(trail)) => {
+            left_alone(
+                answer_alone(alloc, files, sink, Task::Replay(trail)),
+                streams,
+            )
         }
-        Ok(Command::Run(plan)) => do_run(rt, alloc, files, sink, gate, &plan),
-        Ok(Command::Record(plan)) => record(rt, alloc, files, sink, gate, &plan),
-        Ok(Command::Use(job)) => answer_alone(alloc, files, sink, Task::Use(job)),
-        Ok(Command::Generate(number)) => do_generate(rt, alloc, number, sink, gate),
-        Ok(Command::Replay(trail)) => answer_alone(alloc, files, sink, Task::Replay(trail)),
-        Ok(Command::Inspect(look)) => answer_alone(alloc, files, sink, Task::Inspect(look)),
-        Ok(Command::Help(topic)) => answer_alone(alloc, files, sink, Task::Help(topic)),
-        Err(fault) => answer_alone(alloc, files, sink, Task::Refuse(fault)),
-    };
-    (status, Some((streams, Ending::Finished)))
+        Ok(Command::Inspect(look)) => {
+            left_alone(
+                answer_alone(alloc, files, sink, Task::Inspect(look)),
+                streams,
+            )
+        }
+        Ok(Command::Help(topic)) => left_alone(
+            answer_alone(alloc, files, sink, Task::Help(topic)),
+            streams,
+        ),
+        Err(fault) => left_alone(refuse_words(sink, fault), streams),
+    }
 }
 
 /// The monitor: it reads the words of a command line, does what they ask for and answers the status of the process. A run

@@ -1,7 +1,9 @@
 // What an operator is told on standard error while a live run goes on: comments of its transcript.
 
 use itoa::Buffer;
+use nv_arrivals::ArrivalCause;
 use nv_calls::Event;
+use nv_cli::Ending;
 use nv_outside::{CalmSink, Sink, put_all, put_pieces};
 use nv_replay::{Fate, Standing};
 use nv_report::{put_event, put_fate};
@@ -23,7 +25,7 @@ pub enum Telling {
     Events,
 }
 
-/// Comments on standard error, each by one write, so that those of several versions don't mix.
+/// Comments on standard error, each by one write where the system takes it whole, so that those of several versions don't mix.
 #[derive(Drop)]
 pub struct Notes {
     alloc: Global,
@@ -36,7 +38,11 @@ fn put_end<S: Sink>(sink: &mut S, version: VersionNumber, fate: Fate, seen: u32)
     let mut events = Buffer::new();
     put_pieces(
         sink,
-        &[b"# version ", number.format(version.0).as_bytes(), b" ended: "],
+        &[
+            b"# version ",
+            number.format(version.0).as_bytes(),
+            b" ended: ",
+        ],
     );
     put_fate(sink, fate);
     put_pieces(
@@ -60,12 +66,58 @@ fn put_lead<S: Sink>(sink: &mut S, version: VersionNumber, stamp: u32) {
     );
 }
 
+fn put_line_of_input<S: Sink>(sink: &mut S, line: u32, why: &[u8]) {
+    let mut number = Buffer::new();
+    put_pieces(
+        sink,
+        &[
+            b"# varan: input standard input: line ",
+            number.format(line).as_bytes(),
+            b" ",
+            why,
+            b"\n",
+        ],
+    );
+}
+
+fn word_of(cause: ArrivalCause) -> &'static [u8] {
+    match cause {
+        ArrivalCause::Word => b"word",
+        ArrivalCause::Shape => b"shape",
+        ArrivalCause::Range => b"range",
+        ArrivalCause::Twice => b"twice",
+        ArrivalCause::Long => b"long",
+    }
+}
+
+fn put_ending<S: Sink>(sink: &mut S, ending: Ending) {
+    match ending {
+        Ending::Finished | Ending::Untold => {}
+        Ending::Unread => {
+            put_all(sink, b"# varan: read standard input\n");
+        }
+        Ending::Refused(line, cause) => put_line_of_input(sink, line, word_of(cause)),
+        Ending::CutOff(line) => put_line_of_input(sink, line, b"cut"),
+        Ending::Unsaid => {
+            put_all(sink, b"# varan: write standard output\n");
+        }
+    }
+}
+
 impl Notes {
     pub fn make(rt: &HostRuntime, telling: Telling) -> Notes {
         Notes {
             alloc: rt.alloc(),
             stderr: rt.stderr(),
             telling,
+        }
+    }
+
+    /// Tells how a live run ended, where a stream of it failed.
+    pub fn tell_ending(&self, ending: Ending) {
+        if let Some(mut line) = self.line() {
+            put_ending(&mut line, ending);
+            self.write(&line);
         }
     }
 
@@ -76,7 +128,7 @@ impl Notes {
 
     fn write(&self, line: &CalmSink) {
         let mut stderr = &self.stderr;
-        let _wrote = stderr.write(line.written());
+        let _wrote = stderr.write_all(line.written());
     }
 }
 

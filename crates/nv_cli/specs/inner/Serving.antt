@@ -2,7 +2,7 @@
 use Rattle.std.specs.Prelude.{◌≡◌, ◌≤◌, ◌⊎◌, ℕ, Bool, List, [], Option, None, Some, Ok, IsTrue, length, map}
 use Rattle.nv_arrivals.specs.Arrivals.{Arrival}
 use Rattle.nv_arriving.specs.Arriving.{start_of_arrivals}
-use Rattle.nv_arriving.specs.Kernel.{KernelState, Begun}
+use Rattle.nv_arriving.specs.Kernel.{KernelState, begun_in}
 use Rattle.nv_bpf.specs.declared.op.Op.{Op}
 use Rattle.nv_command.specs.Words.{Limits}
 use Rattle.nv_live.specs.Run.{input_of, output_of, notes_of, stop_of_run, told_run, IsBegun}
@@ -14,11 +14,11 @@ use Rattle.nv_machine.specs.Guest.{Machine}
 use Rattle.nv_replay.specs.Account.{AreFresh}
 use Rattle.nv_replay.specs.Follow.{judge_of}
 use Rattle.nv_replay.specs.Sequence.{Account}
-use Rattle.nv_replay.specs.Version.{process_of}
+use Rattle.nv_replay.specs.Version.{Running, process_of}
 use Rattle.nv_replay.specs.declared.account.Account.{Account as Ran}
 use Rattle.nv_script.specs.Scripts.{Setup, is_script, script_of}
 use Rattle.nv_script.specs.Views.{setup_of}
-use Rattle.nv_threads.specs.Threads.{threads}
+use Rattle.nv_threads.specs.Threads.{Proc, threads}
 use Rattle.nv_workers.specs.Ends.{IsAccount}
 use Rattle.nv_jobs.specs.Account.{IsRunOf, process_begun, run_status}
 use Rattle.nv_jobs.specs.Due.{Says}
@@ -46,11 +46,10 @@ module _ {I O T : Type 0} (took : I → Option (List (List ℕ))) (unread : I �
     pub setup_is : k.setup ≡ setup
     pub begun : IsBegun took unread said unsaid noted unnoted clients head streams (told k.begun)
 
-  -- the versions ran over what came
-  pub record RanOver (limits : Limits) (clients : Bool) (prepared : LivePrepared) (streams : Held I O T) (account : Ran (KernelState (LiveRun I O T))) : Type 0 where
-    pub begun : IsBegun took unread said unsaid noted unnoted clients prepared.head.items streams (told account.kernel.begun)
-    pub setup_is : account.kernel.setup ≡ setup_of prepared.script
-    pub is_account : IsAccount threads (judge_of prepared.rules) (start_of_arrivals account.kernel.setup account.kernel.came) limits.calls prepared.script.hands.items prepared.versions.items account.versions.items account.kernel.log
+-- the versions ran over what came to this kernel
+pub record RanOver {X T : Type 0} (told : X → T) (kernel : KernelState X) (rules : Option (List Op)) (calls : ℕ) (hands : List ℕ) (versions : List (Running Proc)) (account : Ran (KernelState X)) : Type 0 where
+  pub same : begun_in told account.kernel ≡ begun_in told kernel
+  pub is_account : IsAccount threads (judge_of rules) (start_of_arrivals account.kernel.setup account.kernel.came) calls hands versions account.versions.items account.kernel.log
 
 -- what an outside leaves
 pub record HasLeft {I O T : Type 0} (live : LiveRun I O T) (streams : Held I O T) (ending : Ending) : Type 0 where

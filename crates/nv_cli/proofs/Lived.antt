@@ -1,0 +1,33 @@
+-- A live run that served is answered.
+use Rattle.std.proofs.Common.{◌≡◌, ◌⊎◌, ⊎_elim, inl, inr, refl, sym, subst, ℕ, List, [], Option, None, Some}
+use Rattle.nv_bpf.specs.declared.op.Op.{Op}
+use Rattle.nv_command.specs.Words.{Service, Serves, command_of}
+use Rattle.nv_machine.specs.Guest.{Machine}
+use Rattle.nv_script.specs.Scripts.{Setup}
+use Rattle.nv_jobs.specs.Due.{Answers, AnswersOver, Over, Says, ServedOver}
+use Rattle.nv_jobs.specs.Live.{Streams, with_arrivals}
+use Rattle.nv_jobs.specs.Outcome.{NoMemory, Source, text_of}
+use Rattle.nv_jobs.specs.Prepared.{Ready}
+use Rattle.nv_jobs.specs.Refusals.{LiveComesTo}
+use Rattle.nv_jobs.specs.declared.ending.Ending.{Ending}
+use Rattle.nv_jobs.proofs.Commands.{over_served, served_answers, starved_answers}
+use Rattle.nv_cli.specs.inner.Serving.{Served}
+
+module _ (words : List (List ℕ)) (source : Source) (service : Service) (asked : command_of words ≡ Some (Serves service)) (kept : source.later_faults ≡ source.faults)
+    (setup : Setup) (rules : Option (List Op)) (machines : List Machine) (files : LiveComesTo service source.holds (Ready setup rules machines)) (streams : Streams)
+    (before : Option (List ℕ)) (faults status : ℕ) (after : Option (List ℕ)) (later : ℕ) (left : Option (Streams × Ending)) where
+  ran : Served service.limits service.clients setup rules machines streams before faults status after later left → AnswersOver words source streams before faults status after later left
+  ran s =
+      let a = served_answers words source service asked before faults status after later kept setup rules machines files s.arrivals s.account s.is_run s.says in
+      subst (λ l. AnswersOver words source streams before faults status after later l) (sym s.left_is)
+      (record { answers = a; over = over_served words source service asked before faults status after later a.outcome streams (Some (s.later, s.ending)) s.lived })
+
+  starved : Says (text_of NoMemory) 3 before faults status after later × (left ≡ None) → AnswersOver words source streams before faults status after later left
+  starved s =
+      let a = starved_answers words source service asked before faults status after later kept s.0 in
+      subst (λ l. AnswersOver words source streams before faults status after later l) (sym s.1)
+      (record { answers = a; over = over_served words source service asked before faults status after later a.outcome streams None (inr refl) })
+
+  pub serve_answers : Served service.limits service.clients setup rules machines streams before faults status after later left
+      ⊎ (Says (text_of NoMemory) 3 before faults status after later × (left ≡ None)) → AnswersOver words source streams before faults status after later left
+  serve_answers = ⊎_elim ran starved
