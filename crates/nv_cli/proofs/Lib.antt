@@ -1,5 +1,6 @@
-pub mod Lived
-pub mod Sending
+mod Lived
+mod Sending
+mod Served
 mod Once
 mod Counted
 mod Running

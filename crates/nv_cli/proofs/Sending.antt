@@ -20,7 +20,7 @@ begun_send : (X : RattleType) → IsSend (Snapshot.the_row X)
 begun_send X = search crosses
 
 inside_send : (X : RattleType) (o : Ghosts X.Denot) → IsSend X → IsSend (Inside.the_row X o)
-inside_send X o x = recorded_send _ _ _ _ (struct_send (shape (Inside.the_type X o)) (search sendable, script_send, search (sendable, guests_send) depth 20, begun_send X, x, search (sendable, arrival_send) depth 20, search sendable, search sendable, search sendable, search (sendable, event_send) depth 20, bytes_send, search (sendable, event_send) depth 20, search sendable, tt))
+inside_send X o x = recorded_send _ _ _ (Inside.the_type X o).to_one (struct_send (shape (Inside.the_type X o)) (search sendable, (script_send, (search (sendable, guests_send) depth 20, (begun_send X, (x, (search (sendable, crosses, arrival_send) depth 20, (search sendable, (search sendable, (search sendable, (search (sendable, crosses, event_send) depth 20, (bytes_send, (search (sendable, event_send) depth 20, (search sendable, tt))))))))))))))
 
 pub kernel_send : (X : RattleType) (o : Ghosts X.Denot) → IsSend X → IsSend (Kernel.the_row X o)
 kernel_send X o x = view_send _ _ _ _ _ (inside_send X o x)

@@ -32,7 +32,7 @@ use nv_command::{Command, Limits, Run};
 use nv_gen::Totals;
 use nv_jobs::{
     Ending, MEMORY, Prepared, Task, answer_alone, count_exited, ended, generate, prepare, put_line,
-    refuse, starved, status,
+    refuse, refuse_words, starved, status,
 };
 use nv_live::{Source, Streams};
 use nv_outside::{Files, Put, Sink, put_pieces};

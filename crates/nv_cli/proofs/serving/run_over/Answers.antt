@@ -1,6 +1,7 @@
-use denote.Param.Send.{sendable}
+use denote.Exit.{no}
+use denote.Param.Send.{param_send, arg_send}
 use Rattle.nv_cli.proofs.Sending.{kernel_send}
 use Rattle.nv_cli.proofs.serving.run_over.Goals as goal
 
 pub run-requires-send-K : goal.run-requires-send-K
-run-requires-send-K g c κs within = search (sendable, kernel_send) depth 20
+run-requires-send-K g c κs within = param_send 1 _ (arg_send _ no _ (kernel_send _ g.X.Outside c.type_bounds.send-X))

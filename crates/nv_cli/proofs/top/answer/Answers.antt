@@ -1,4 +1,4 @@
-use Rattle.std.proofs.Common.{◌≡◌, ◌∙◌, inl, refl, ap, sym, subst, ℕ, List, Option, None, Some}
+use Rattle.std.proofs.Common.{◌≡◌, ◌∙◌, inl, inr, refl, ap, sym, subst, ℕ, List, Option, None, Some}
 use Rattle.nv_command.specs.Words.{Command, Service, Runs, Serves, Uses, Generates, Records, Replays, Inspects, Helps, command_of, texts}
 use Rattle.nv_command.specs.Seen.{WordsRefused, command_view}
 use Rattle.nv_command.specs.declared.asked.LineFault.{LineFault}
@@ -6,7 +6,7 @@ use Rattle.nv_command.specs.declared.asked.LineFault.TheVariants as line
 use Rattle.nv_command.specs.declared.asked.Command.{Command as Asked}
 use Rattle.nv_jobs.specs.Due.{Answers, AnswersOver, IsUntouched, Over, Says}
 use Rattle.nv_jobs.specs.Live.{Streams}
-use Rattle.nv_jobs.specs.Outcome.{NoMemory, Usage, Source, outcome_status, source_of, text_of}
+use Rattle.nv_jobs.specs.Outcome.{NoMemory, Source, outcome_status, source_of, text_of}
 use Rattle.nv_jobs.specs.Tasks.{fault_outcome}
 use Rattle.nv_jobs.specs.declared.ending.Ending.{Ending}
 use Rattle.nv_jobs.specs.declared.ending.Ending.TheVariants.{Finished}
@@ -41,21 +41,27 @@ refused_over : (fault : LineFault) (words : List (List ℕ)) (source : Source) (
     → Says (text_of (fault_outcome fault)) (outcome_status (fault_outcome fault)) before faults status after later → AnswersOver words source streams before faults status after later (Some (streams, Finished))
 refused_over line.Usage words source streams refused still before faults status after later says = record {
   answers = words_refused line.Usage words source refused still before faults status after later says;
-  over = subst (λ (command : Option Command). Over command Usage streams (Some (streams, Finished))) (sym refused) refl;
+  over = nothing_over (command_of words) _ streams (λ service asked. let e : Some (Serves service) ≡ None = sym asked ∙ refused in cc);
 }
 refused_over line.Memory words source streams named still before faults status after later says = record {
-  answers = words_refused line.Memory words source named still before faults status after later says;
+  answers = record { outcome = NoMemory; due = inr (refl, named); shown = still.0; unread = λ none. still; says = says };
   over = over_memory (command_of words) streams;
 }
 
+-- the same of what a call gives back
+refused_left : (fault : LineFault) (words : List (List ℕ)) (source : Source) (streams : Streams) → WordsRefused fault words → IsUntouched source
+    → (before : Option (List ℕ)) (faults status told : ℕ) (after : Option (List ℕ)) (later : ℕ) (left : Option (Streams × Ending)) → status ≡ told → left ≡ Some (streams, Finished)
+    → Says (text_of (fault_outcome fault)) (outcome_status (fault_outcome fault)) before faults told after later → AnswersOver words source streams before faults status after later left
+refused_left fault words source streams refused still before faults status told after later left same kept says =
+    subst (λ s. AnswersOver words source streams before faults s after later left) (sym same)
+    (subst (λ l. AnswersOver words source streams before faults told after later l) (sym kept)
+    (refused_over fault words source streams refused still before faults told after later says))
+
 pub returns-in-Err : goal.returns-in-Err
 returns-in-Err g c =
-    let words = texts c.args.words.now in
-    let source = source_of g.F.Files.holds g.F.Files.faults g.F.Files.taken c.args.files.now c.args.files.now in
-    let streams = streams_of g.I.Source.took g.I.Source.faults g.O.Sink.told g.O.Sink.faults g.T.Sink.told g.T.Sink.faults c.args.streams in
-    let said = refused_over c.in-Err.fault words source streams c.in-Err.ensures.fault (refl, refl) _ _ _ _ _ c.refuse_words.ensures in
-    subst (λ s. AnswersOver words source streams _ _ s _ _ (left_of g.I.Source.took g.I.Source.faults g.O.Sink.told g.O.Sink.faults g.T.Sink.told g.T.Sink.faults c.left_alone-in-Err.result.1)) (sym c.left_alone-in-Err.ensures.0)
-    (subst (λ l. AnswersOver words source streams _ _ c.refuse_words.result _ _ l) (sym (ap (left_of g.I.Source.took g.I.Source.faults g.O.Sink.told g.O.Sink.faults g.T.Sink.told g.T.Sink.faults) c.left_alone-in-Err.ensures.1)) said)
+    refused_left c.in-Err.fault (texts c.args.words.now) (source_of g.F.Files.holds g.F.Files.faults g.F.Files.taken c.args.files.now c.args.files.now)
+    (streams_of g.I.Source.took g.I.Source.faults g.O.Sink.told g.O.Sink.faults g.T.Sink.told g.T.Sink.faults c.args.streams) c.in-Err.ensures.fault (refl, refl) _ _ _ _ _ _ _
+    c.left_alone-in-Err.ensures.0 (ap (left_of g.I.Source.took g.I.Source.faults g.O.Sink.told g.O.Sink.faults g.T.Sink.told g.T.Sink.faults) c.left_alone-in-Err.ensures.1) c.refuse_words.ensures
 
 pub returns-in-Ok-Serve : goal.returns-in-Ok-Serve
 returns-in-Ok-Serve g c =

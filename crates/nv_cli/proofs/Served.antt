@@ -1,0 +1,139 @@
+-- What a live run's account, its log and what is left of its streams say together.
+use Rattle.std.proofs.Common.{◌≡◌, ◌≤◌, ◌∙◌, refl, sym, ap, subst, ℕ, Bool, false, List, [], ◌++◌, Option, None, Some, Result, Ok, length, map}
+use Rattle.nv_arrivals.specs.Arrivals.{Arrival}
+use Rattle.nv_arrivals.specs.Doings.{Doing, Takes, takings, sayings}
+use Rattle.nv_arriving.specs.Arriving.{first_stage, stage_after, start_of_arrivals}
+use Rattle.nv_arriving.specs.Doings.{doings}
+use Rattle.nv_arriving.specs.Kernel.{KernelState}
+use Rattle.nv_arriving.specs.Scripted.{start_from}
+use Rattle.nv_arriving.specs.Telling.{Tells, IsTold}
+use Rattle.nv_bpf.specs.declared.op.Op.{Op}
+use Rattle.nv_calls.specs.Calls.{Entry}
+use Rattle.nv_calls.specs.Logs.{calls_of}
+use Rattle.nv_command.specs.Words.{Limits}
+use Rattle.nv_live.specs.Live.{stop_with}
+use Rattle.nv_live.specs.Run.{CameBy, said_text, DidRun, IsBegun, input_of, output_of, notes_of, stop_of_run, source_stop}
+use Rattle.nv_live.specs.Telling.{Told}
+use Rattle.nv_live.specs.Transcript.{lines_of}
+use Rattle.nv_live.specs.Writer.{sink_in, put_of}
+use Rattle.nv_live.specs.declared.run.LiveRun.{LiveRun}
+use Rattle.nv_live.specs.declared.run.LiveRun.TheVariants.{Plain, Clients}
+use Rattle.nv_live.specs.declared.streams.Streams.{Streams as Held}
+use Rattle.nv_live.proofs.Showing.{IsFresh, begun-none, Shown, shown}
+use Rattle.nv_machine.specs.Guest.{Machine}
+use Rattle.nv_outside.specs.Sink.{Puts}
+use Rattle.nv_outside.specs.declared.sink.Put.{Put}
+use Rattle.nv_outside.specs.declared.sink.Put.TheVariants.{Whole}
+use Rattle.nv_outside.proofs.Writing.{puts-none}
+use Rattle.nv_replay.specs.Follow.{judge_of}
+use Rattle.nv_replay.specs.Sequence.{Account}
+use Rattle.nv_replay.specs.Version.{Running, process_of, standing_of}
+use Rattle.nv_replay.specs.declared.account.Account.{Account as Ran}
+use Rattle.nv_script.specs.Scripts.{Setup, script_of}
+use Rattle.nv_script.specs.declared.fault.ScriptFault.{ScriptFault}
+use Rattle.nv_threads.specs.Threads.{Proc, threads}
+use Rattle.nv_workers.specs.Ends.{IsAccount}
+use Rattle.nv_jobs.specs.Account.{IsRunOf, process_begun, run_status}
+use Rattle.nv_jobs.specs.Due.{Says}
+use Rattle.nv_jobs.specs.Live.{Lived, with_arrivals, ending_of}
+use Rattle.nv_jobs.specs.Refusals.{IsPlanned}
+use Rattle.nv_jobs.specs.declared.ending.Ending.{Ending}
+use Rattle.nv_cli.specs.Streams.{streams_of}
+use Rattle.nv_cli.specs.inner.Serving.{IsBegunOver, RanOver, HasLeft, Served, told}
+use Rattle.nv_cli.proofs.Running.{run_of}
+
+-- what has come is no part of what a script begins with
+begun_alike : (setup : Setup) (came : List Arrival) → start_of_arrivals setup came ≡ start_from (with_arrivals setup came)
+unfolding start_of_arrivals
+begun_alike setup came = refl
+
+does_alike : (setup : Setup) (came : List Arrival) (log : List Entry) → doings setup came log ≡ doings (with_arrivals setup came) came log
+unfolding doings
+does_alike setup came log = refl
+
+-- a script over which nothing comes is what it is without arrivals
+bare : (setup : Setup) → setup.arrivals ≡ [] → ◌≡◌ {A = Result Setup ScriptFault} (Ok setup) (Ok (with_arrivals setup []))
+bare setup none = ap (λ arrivals. Ok (with_arrivals setup arrivals)) none
+
+stops : {I O T : Type 0} (run : LiveRun I O T) → stop_of_run run ≡ stop_with (source_stop run) (put_of (output_of run))
+stops (Plain run) = refl
+stops (Clients run) = refl
+
+module _ {I O T : Type 0} (took : I → Option (List (List ℕ))) (unread : I → ℕ) (said : O → Option (List ℕ)) (unsaid : O → ℕ) (noted : T → Option (List ℕ)) (unnoted : T → ℕ) where
+  fresh : (clients : Bool) (head : List ℕ) (streams : Held I O T) (t : Told) → IsBegun took unread said unsaid noted unnoted clients head streams t → IsFresh t
+  fresh clients head streams t b = record { held = b.held; line = b.line; order = b.order; taken = b.taken; going = b.going; saying = b.saying }
+
+  module _ (clients : Bool) (setup : Setup) (head : List ℕ) (begins : script_of head ≡ Ok setup) (none : setup.arrivals ≡ []) (before after : Held I O T)
+      (first later : LiveRun I O T) (begun : IsBegun took unread said unsaid noted unnoted clients head before (told took unread said unsaid noted unnoted first))
+      (ending : Ending) (left : HasLeft later after ending) where
+    came_by : (arrivals : List Arrival) (t : Told) → IsBegun took unread said unsaid noted unnoted clients head before t
+        → CameBy t.clients t.read (took (input_of later)) t.unread (unread (input_of later)) (source_stop later) arrivals
+        → CameBy clients (took before.input) (took after.input) (unread before.input) (unread after.input) (source_stop later) arrivals
+    came_by arrivals t b came =
+        subst (λ i. CameBy clients (took before.input) (took i) (unread before.input) (unread i) (source_stop later) arrivals) (sym left.input)
+        (subst (λ w. CameBy w (took before.input) (took (input_of later)) (unread before.input) (unread (input_of later)) (source_stop later) arrivals) b.way
+        (subst (λ n. CameBy t.clients (took before.input) (took (input_of later)) n (unread (input_of later)) (source_stop later) arrivals) b.unread_is
+        (subst (λ r. CameBy t.clients r (took (input_of later)) t.unread (unread (input_of later)) (source_stop later) arrivals) b.read came)))
+
+    written_by : (done : List Doing) (t : Told) → IsBegun took unread said unsaid noted unnoted clients head before t
+        → Puts t.said t.unsaid (said_text t.clients (sayings done)) (put_of (output_of later)) (said (sink_in (output_of later))) (unsaid (sink_in (output_of later)))
+        → Puts (said before.output) (unsaid before.output) (said_text clients (sayings done)) (put_of (output_of later)) (said after.output) (unsaid after.output)
+    written_by done t b written =
+        subst (λ o. Puts (said before.output) (unsaid before.output) (said_text clients (sayings done)) (put_of (output_of later)) (said o) (unsaid o)) (sym left.output)
+        (subst (λ w. Puts (said before.output) (unsaid before.output) (said_text w (sayings done)) (put_of (output_of later)) (said (sink_in (output_of later))) (unsaid (sink_in (output_of later)))) b.way
+        (subst (λ n. Puts (said before.output) n (said_text t.clients (sayings done)) (put_of (output_of later)) (said (sink_in (output_of later))) (unsaid (sink_in (output_of later)))) b.unsaid_is
+        (subst (λ s. Puts s t.unsaid (said_text t.clients (sayings done)) (put_of (output_of later)) (said (sink_in (output_of later))) (unsaid (sink_in (output_of later)))) b.said_is written)))
+
+    -- what was done over the run of a log
+    lived : (came : List Arrival) (log : List Entry) (late : Bool) (done : List Doing) → IsTold (DidRun took unread said unsaid noted unnoted) first later setup came log late done
+        → Lived clients (with_arrivals setup came) log ending (streams_of took unread said unsaid noted unnoted before) (streams_of took unread said unsaid noted unnoted after)
+    lived came log late done t =
+        let s = shown took unread said unsaid noted unnoted first later done t.is in
+        record {
+          done = done;
+          took_all = t.took;
+          said_all = t.said ∙ ap sayings (does_alike setup came log);
+          late = late;
+          in_order = subst (λ all. late ≡ false → done ≡ all ++ map Takes (stage_after (first_stage setup came) (calls_of log)).rest) (does_alike setup came log) t.in_order;
+          stopped = source_stop later;
+          came = came_by (takings done) (told took unread said unsaid noted unnoted first) begun s.came;
+          said = put_of (output_of later);
+          written = written_by done (told took unread said unsaid noted unnoted first) begun s.written;
+          head = head;
+          begins = begins ∙ bare setup none;
+          told = put_of (notes_of later);
+          noted = subst (λ sink. Puts (noted before.transcript) (unnoted before.transcript) (head ++ lines_of (takings done)) (put_of (notes_of later)) (noted sink) (unnoted sink)) (sym left.transcript)
+              (s.lines before.transcript head begun.noted_is);
+          ends = left.ends ∙ ap (λ stopped. ending_of stopped (put_of (output_of later)) (put_of (notes_of later))) (stops later);
+        }
+
+  -- the versions of a live run ran over what came
+  pub served_by : (limits : Limits) (clients : Bool) (setup : Setup) (head : List ℕ) (rules : Option (List Op)) (hands : List ℕ) (versions : List (Running Proc)) (machines : List Machine)
+      (before after : Held I O T) (ending : Ending) (kernel : KernelState (LiveRun I O T)) (account : Ran (KernelState (LiveRun I O T))) (sink : Option (List ℕ)) (faults status : ℕ)
+      → status ≡ run_status (map standing_of account.versions.items)
+      → map process_of versions ≡ map (process_begun limits) machines → script_of head ≡ Ok setup → setup.arrivals ≡ [] → IsPlanned setup hands
+      → IsBegunOver took unread said unsaid noted unnoted clients setup head before kernel
+      → RanOver (told took unread said unsaid noted unnoted) kernel rules limits.calls hands versions account
+      → Tells (DidRun took unread said unsaid noted unnoted) account.kernel.begun account.kernel.outside account.kernel.setup account.kernel.came account.kernel.log account.kernel.late
+      → HasLeft account.kernel.outside after ending
+      → Served limits clients setup rules machines (streams_of took unread said unsaid noted unnoted before) sink faults status sink faults
+      (Some (streams_of took unread said unsaid noted unnoted after, ending))
+  served_by limits clients setup head rules hands versions machines before after ending kernel account sink faults status ends are begins none planned begun ran tells left =
+      let k = account.kernel in
+      let set : k.setup ≡ setup = ap (λ b. b.setup) ran.same ∙ begun.setup_is in
+      let first : IsBegun took unread said unsaid noted unnoted clients head before (told took unread said unsaid noted unnoted k.begun) =
+      subst (λ t. IsBegun took unread said unsaid noted unnoted clients head before t) (sym (ap (λ b. b.told) ran.same)) begun.begun in
+      let all = tells (begun-none took unread said unsaid noted unnoted k.begun (fresh clients head before (told took unread said unsaid noted unnoted k.begun) first)) in
+      record {
+        arrivals = k.came;
+        account = record { log = k.log; lines = map standing_of account.versions.items };
+        is_run = run_of limits (with_arrivals setup k.came) rules machines hands versions account.versions.items k.log (record { same = planned.same; few = planned.few })
+            (subst (λ start. IsAccount threads (judge_of rules) start limits.calls hands versions account.versions.items k.log) (ap (λ s. start_of_arrivals s k.came) set ∙ begun_alike setup k.came) ran.is_account)
+            are;
+        says = record { put = Whole; ends = ends; written = puts-none sink faults };
+        later = streams_of took unread said unsaid noted unnoted after;
+        ending = ending;
+        left_is = refl;
+        lived = lived clients setup head begins none before after k.begun k.outside first ending left k.came k.log k.late all.0
+            (subst (λ s. IsTold (DidRun took unread said unsaid noted unnoted) k.begun k.outside s k.came k.log k.late all.0) set all.1);
+      }
