@@ -15,7 +15,7 @@ use Rattle.nv_jobs.specs.Due.{AnswersOver, Says, Completes, Rejects, IsUntouched
 use Rattle.nv_jobs.specs.Live.{Streams}
 use Rattle.nv_jobs.specs.declared.ending.Ending.{Ending}
 use Rattle.nv_jobs.specs.declared.ending.Ending.TheVariants.{Finished}
-use Rattle.nv_jobs.specs.Outcome.{Outcome, Source, outcome_status, text_of, ended_with}
+use Rattle.nv_jobs.specs.Outcome.{Source, outcome_status, text_of, ended_with}
 use Rattle.nv_jobs.specs.Tasks.{fault_outcome}
 use Rattle.nv_jobs.proofs.Statuses.{completes-of, rejects-of, never_six}
 use Rattle.nv_cli.specs.Program.{Given, Begins, EndsWith, ProgramAnswers}

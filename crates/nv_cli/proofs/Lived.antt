@@ -1,11 +1,11 @@
 -- A live run that served is answered.
-use Rattle.std.proofs.Common.{◌≡◌, ◌⊎◌, ⊎_elim, inl, inr, refl, sym, subst, ℕ, List, [], Option, None, Some}
+use Rattle.std.proofs.Common.{◌≡◌, ◌⊎◌, ⊎_elim, inr, refl, sym, subst, ℕ, List, Option, None, Some}
 use Rattle.nv_bpf.specs.declared.op.Op.{Op}
 use Rattle.nv_command.specs.Words.{Service, Serves, command_of}
 use Rattle.nv_machine.specs.Guest.{Machine}
 use Rattle.nv_script.specs.Scripts.{Setup}
-use Rattle.nv_jobs.specs.Due.{Answers, AnswersOver, Over, Says, ServedOver}
-use Rattle.nv_jobs.specs.Live.{Streams, with_arrivals}
+use Rattle.nv_jobs.specs.Due.{AnswersOver, Says}
+use Rattle.nv_jobs.specs.Live.{Streams}
 use Rattle.nv_jobs.specs.Outcome.{NoMemory, Source, text_of}
 use Rattle.nv_jobs.specs.Prepared.{Ready}
 use Rattle.nv_jobs.specs.Refusals.{LiveComesTo}

@@ -1,5 +1,5 @@
 -- What a live run's account, its log and what is left of its streams say together.
-use Rattle.std.proofs.Common.{◌≡◌, ◌≤◌, ◌∙◌, refl, sym, ap, subst, ℕ, Bool, false, List, [], ◌++◌, Option, None, Some, Result, Ok, length, map}
+use Rattle.std.proofs.Common.{◌≡◌, ◌∙◌, refl, sym, ap, subst, ℕ, Bool, false, List, [], ◌++◌, Option, Some, Result, Ok, map}
 use Rattle.nv_arrivals.specs.Arrivals.{Arrival}
 use Rattle.nv_arrivals.specs.Doings.{Doing, Takes, takings, sayings}
 use Rattle.nv_arriving.specs.Arriving.{first_stage, stage_after, start_of_arrivals}
@@ -19,22 +19,19 @@ use Rattle.nv_live.specs.Writer.{sink_in, put_of}
 use Rattle.nv_live.specs.declared.run.LiveRun.{LiveRun}
 use Rattle.nv_live.specs.declared.run.LiveRun.TheVariants.{Plain, Clients}
 use Rattle.nv_live.specs.declared.streams.Streams.{Streams as Held}
-use Rattle.nv_live.proofs.Showing.{IsFresh, begun-none, Shown, shown}
+use Rattle.nv_live.proofs.Showing.{IsFresh, begun-none, shown}
 use Rattle.nv_machine.specs.Guest.{Machine}
 use Rattle.nv_outside.specs.Sink.{Puts}
-use Rattle.nv_outside.specs.declared.sink.Put.{Put}
 use Rattle.nv_outside.specs.declared.sink.Put.TheVariants.{Whole}
 use Rattle.nv_outside.proofs.Writing.{puts-none}
 use Rattle.nv_replay.specs.Follow.{judge_of}
-use Rattle.nv_replay.specs.Sequence.{Account}
 use Rattle.nv_replay.specs.Version.{Running, process_of, standing_of}
 use Rattle.nv_replay.specs.declared.account.Account.{Account as Ran}
 use Rattle.nv_script.specs.Scripts.{Setup, script_of}
 use Rattle.nv_script.specs.declared.fault.ScriptFault.{ScriptFault}
 use Rattle.nv_threads.specs.Threads.{Proc, threads}
 use Rattle.nv_workers.specs.Ends.{IsAccount}
-use Rattle.nv_jobs.specs.Account.{IsRunOf, process_begun, run_status}
-use Rattle.nv_jobs.specs.Due.{Says}
+use Rattle.nv_jobs.specs.Account.{process_begun, run_status}
 use Rattle.nv_jobs.specs.Live.{Lived, with_arrivals, ending_of}
 use Rattle.nv_jobs.specs.Refusals.{IsPlanned}
 use Rattle.nv_jobs.specs.declared.ending.Ending.{Ending}

@@ -2,68 +2,25 @@
 -- what it says and where it stands.
 
 -- The clause `answers`: the call came to an outcome that is due, the counts of the source show it, and it said so.
-use Rattle.nv_jobs.specs.Due.{Answers}
 -- What a call may come to: usage, want of memory, a file not read, a file not accepted, a report, a command's text, a summary, a trace, a rehearsal, what an inspection shows, a help text.
-use Rattle.nv_jobs.specs.Outcome.{Outcome}
 -- What is due: refused words owe the line of usage, a command owes what one of the parts below says, or memory is wanted after its name.
-use Rattle.nv_jobs.specs.Due.{IsDue, OwesAny, Owes}
 -- What the words ask for, and the command that they name.
-use Rattle.nv_command.specs.Words.{command_of, command_name}
 -- What the source tells of a file's name, and what may be found there.
-use Rattle.nv_outside.specs.Told.{Told}
-use Rattle.nv_jobs.specs.Found.{AreFound, Agrees}
 -- A run owes what it comes to over files that agree with what is told: the first that is refused is named, or an account is reported.
-use Rattle.nv_jobs.specs.Due.{RunOwes, RunComesTo}
-use Rattle.nv_jobs.specs.Prepared.{prepared, version_from}
 -- The account is the sequential monitor's over the script's kernel, the rules, the machines of the versions and the script's planned lengths.
-use Rattle.nv_jobs.specs.Account.{IsRunOf, process_begun}
-use Rattle.nv_arriving.specs.Scripted.{start_from}
-use Rattle.nv_replay.specs.Follow.{judge_of}
-use Rattle.nv_replay.specs.Monitor.{sequence}
 -- Each version has one fate, and each event lies in exactly one of the spans that they led; where no length is planned each led at most one.
-use Rattle.nv_replay.specs.Covers.{AreEnded, Covers}
-use Rattle.nv_replay.specs.Account.{AreSettled}
 -- A version that exited without a rewrite would come to the same log alone.
-use Rattle.nv_replay.specs.Survivors.{SurvivorsAgree}
 -- A command over one file owes what it makes of the file.
-use Rattle.nv_jobs.specs.Due.{JobOwes}
-use Rattle.nv_jobs.specs.Made.{made_of}
 -- `gen` owes the summary of the run of its number.
-use Rattle.nv_jobs.specs.Due.{GenOwes}
-use Rattle.nv_jobs.specs.Generated.{IsMadeRun}
 -- `record` owes the trace of the log of such an account, in which no version wanted memory.
-use Rattle.nv_jobs.specs.Due.{RecordOwes, RecordComesTo}
-use Rattle.nv_trace.specs.Trace.{trace_of}
 -- `replay` and `inspect` owe what their files come to: the first in reading order that can't be read or is refused is named, or there are the setup, the rules, the log and the machine.
-use Rattle.nv_jobs.specs.Due.{TrailOwes}
-use Rattle.nv_jobs.specs.Traced.{traced, trace_of_file}
-use Rattle.nv_trace.specs.Faults.{trace_fault}
-use Rattle.nv_trace.specs.Checks.{check_fault}
 -- Over these `replay` owes the line of following the whole log, and `inspect` the text of the version at the point and of the files after the events that it has seen.
-use Rattle.nv_jobs.specs.Due.{replayed, shown}
-use Rattle.nv_replay.specs.Follow.{follow}
-use Rattle.nv_jobs.specs.Replayed.{replay_text, replay_status}
-use Rattle.nv_inspect.specs.Points.{at_point}
-use Rattle.nv_inspect.specs.Shown.{show_text}
 -- `help` owes how a command is used, its options and an example, or how each is used.
-use Rattle.nv_command.specs.Help.{help_of}
 -- What the source's counts show.
-use Rattle.nv_jobs.specs.Due.{Shows, IsUntouched}
 -- What was written and the status: a text with its status, or a prefix of it, a count that rose and 6.
-use Rattle.nv_jobs.specs.Due.{Says}
-use Rattle.nv_jobs.specs.Outcome.{text_of, outcome_status, ended_with}
-use Rattle.nv_jobs.specs.Causes.{cause_text}
-use Rattle.nv_report.specs.Report.{report_text}
-use Rattle.nv_report.specs.Json.{json_text}
-use Rattle.nv_sockets.specs.Texts.{connections_text}
-use Rattle.nv_jobs.specs.Account.{run_status}
-use Rattle.nv_outside.specs.Sink.{Puts}
 -- The clause `completes`: files that are told and accepted, and no count that rose, have the command's work done, or memory wanted.
-use Rattle.nv_jobs.specs.Due.{Completes, IsAccepted, IsDone}
 -- The clause `rejects`: files that are told up to one that is refused have it named, or memory wanted, or a write failed.
-use Rattle.nv_jobs.specs.Due.{Rejects, IsRefused}
 -- The call of `main`, `nv_cli::program`: the words of the process, or why there are none, come to such an outcome too, and at the end the whole text stands on the sink, or just one write failed.
-use Rattle.nv_cli.specs.Program.{ProgramAnswers, IsDueOf, EndsWith}
 -- And what these stand on, by crate and file. (.ci/headline.py --write makes the lines from here on.)
 use Rattle.nv_calls.specs.Answers.{most_out_by, answer_slot}
 use Rattle.nv_calls.specs.Calls.{Request, Response, Entry, status_of, is_same}
@@ -81,8 +38,8 @@ use Rattle.nv_text.specs.Numbers.{number_of, decimal_of, paired, unhexed, hex_pa
 use Rattle.nv_bytes.specs.Fields.{field_at}
 use Rattle.nv_outside.specs.Counts.{raised, Rose}
 use Rattle.nv_outside.specs.Files.{GotTold, KeepsFaults}
-use Rattle.nv_outside.specs.Sink.{Writes, faults_by_write, faults_by}
-use Rattle.nv_outside.specs.Told.{MayFail, Grows}
+use Rattle.nv_outside.specs.Sink.{Writes, faults_by_write, faults_by, Puts}
+use Rattle.nv_outside.specs.Told.{Told, MayFail, Grows}
 use Rattle.nv_isa.specs.Spelling.{low_bits, spelled, encoded}
 use Rattle.nv_isa.specs.Table.{Encoding, with_op, encoding, encodings, belongs, row_of, bits, signed_value, rd_of, rs1_of, rs2_of, immediate, rd_in, rs1_in, rs2_in, insn_of, decoded}
 use Rattle.nv_memory.specs.Bytes.{bytes_at, put, little, little_bytes, byte_count}
@@ -119,21 +76,34 @@ use Rattle.nv_fs.specs.States.{Inode, FileState, Answer, answer, only, numbered,
 use Rattle.nv_fs.specs.Stored.{write_console, with_content, start_of, write_at, write_pipe, write_target, write_open, write_of}
 use Rattle.nv_fs.specs.Told.{told_by, told_of, opened_as}
 use Rattle.nv_fs.specs.Waits.{is_input, reads_input, waits_on_input}
-use Rattle.nv_arrivals.specs.Arrivals.{Arrival, is_port}
-use Rattle.nv_arrivals.specs.Order.{Came, nothing_came, input_going, input_ended, clients_ended, with_client, sending, client_ended, admitted}
+use Rattle.nv_arrivals.specs.Arrivals.{Arrival, is_sized, is_port, is_arrival}
+use Rattle.nv_arrivals.specs.Doings.{Said, Doing, takings, sayings}
+use Rattle.nv_arrivals.specs.Order.{Came, nothing_came, input_going, input_ended, clients_ended, with_client, sending, client_ended, admitted, onward, after, are_orderly, are_arrivals}
+use Rattle.nv_arrivals.specs.Pieces.{cut_after, pieces, input_of}
 use Rattle.nv_arrivals.specs.Reading.{words as nv_arrivals_words, word_of, is_word, sized, bytes_of as nv_arrivals_bytes_of, line_arrival, input_with, connect_with, data_with, data_parts, data_in, end_with, end_of, arrival_by, arrival_with, arrival_of}
-use Rattle.nv_script.specs.Entry.{Entry as nv_script_Entry, form_of, is_printable, is_argument, is_file_byte, is_dots, is_file_name, entry_kinds, in_form, kind_of, shaped, argument_entry, file_with, file_entry, clock_fits, clock_entry, clock_with, clock_of, is_hand, hand_entry, hand_with, is_port as nv_script_is_port, connection_entry, connection_with, connection_of, entry_by, entry_with, is_passed_over, cause_of, arrives, begins_arrival, entry_of}
-use Rattle.nv_script.specs.Scripts.{Named, Incoming, Setup, Draft, blank, has_name, with_argument, with_input, with_named_file, with_clock, with_seed, has_hand, with_hand, with_connection, with_came, with_arrival, with_entry, with_result, with_script_line, onward, drafted, no_clock, setup_with, finished, finished_result, no_form, script_in, script_of_lines, script_of}
+use Rattle.nv_arrivals.specs.Writing.{is_printable, front, is_line, input_text, line_text}
+use Rattle.nv_live.specs.Clients.{clients_text}
+use Rattle.nv_live.specs.ComingLines.{is_plain as nv_live_is_plain, is_passed, says, text_of, Say, Come}
+use Rattle.nv_live.specs.Live.{stop_with, plain_bytes, plain_text}
+use Rattle.nv_live.specs.Run.{CameBy, said_text}
+use Rattle.nv_live.specs.SaidLines.{parts_after, parts, head_of, line_with as nv_live_line_with, lines_with, said_lines}
+use Rattle.nv_live.specs.Source.{Gave, Reads, faults_by_read}
+use Rattle.nv_live.specs.Taking.{faults_by_stop, Took}
+use Rattle.nv_live.specs.Transcript.{lines_of}
+use Rattle.nv_script.specs.Entry.{Entry as nv_script_Entry, form_of, is_printable as nv_script_is_printable, is_argument, is_file_byte, is_dots, is_file_name, entry_kinds, in_form, kind_of, shaped, argument_entry, file_with, file_entry, clock_fits, clock_entry, clock_with, clock_of, is_hand, hand_entry, hand_with, is_port as nv_script_is_port, connection_entry, connection_with, connection_of, entry_by, entry_with, is_passed_over, cause_of, arrives, begins_arrival, entry_of}
+use Rattle.nv_script.specs.Scripts.{Named, Incoming, Setup, Draft, blank, has_name, with_argument, with_input, with_named_file, with_clock, with_seed, has_hand, with_hand, with_connection, with_came, with_arrival, with_entry, with_result, with_script_line, onward as nv_script_onward, drafted, no_clock, setup_with, finished, finished_result, no_form, script_in, script_of_lines, script_of}
 use Rattle.nv_script.specs.Texts.{cause_word, script_fault_text}
 use Rattle.nv_kernel.specs.Crew.{Crew, first_crew, may_clone, clone_as, clone_of, exit_of, with_none_live}
 use Rattle.nv_kernel.specs.Serving.{State, Served, replied, always, of_files, of_crew, counted, request_arg, second, time_bytes, time_of, next_random, high_byte, randoms, random_after, randomly, control, unless_many, clock, answered, unless_bad as nv_kernel_unless_bad, serve, named_inode, first_state as nv_kernel_first_state}
 use Rattle.nv_sockets.specs.Coming.{connected, with_data}
 use Rattle.nv_sockets.specs.Serving.{of_open, unless_many as nv_sockets_unless_many, answered as nv_sockets_answered, unless_bad as nv_sockets_unless_bad, or_own, State as nv_sockets_State, Served as nv_sockets_Served, beside, joined, serve as nv_sockets_serve, reply_of, link_written, link_from, port_from, first_net, first_state as nv_sockets_first_state}
-use Rattle.nv_sockets.specs.Sockets.{Link, Net, Answer as nv_sockets_Answer, answer as nv_sockets_answer, only as nv_sockets_only, no_sockets, socket_at, fault_of, on_socket, with_socket, free_place, socket_opened, are_flags, is_stream, is_tcp, made_at, socket_of, port_by, port_in, is_size, has_port, is_used, bind_to, bind_socket, bind_of, listen_socket, listen_of, waits_at_port, next_at, with_accepted, accept_next, accept_socket, accept_flagged, accept_of, link_at, input_of, link_output, read_link, read_socket, with_output, write_link, write_socket, close_socket}
-use Rattle.nv_sockets.specs.Texts.{connection_count_text, connection_text, connection_texts}
+use Rattle.nv_sockets.specs.Sockets.{Link, Net, Answer as nv_sockets_Answer, answer as nv_sockets_answer, only as nv_sockets_only, no_sockets, socket_at, fault_of, on_socket, with_socket, free_place, socket_opened, are_flags, is_stream, is_tcp, made_at, socket_of, port_by, port_in, is_size, has_port, is_used, bind_to, bind_socket, bind_of, listen_socket, listen_of, waits_at_port, next_at, with_accepted, accept_next, accept_socket, accept_flagged, accept_of, link_at, input_of as nv_sockets_input_of, link_output, read_link, read_socket, with_output, write_link, write_socket, close_socket}
+use Rattle.nv_sockets.specs.Texts.{connection_count_text, connection_text, connection_texts, connections_text}
 use Rattle.nv_arriving.specs.Arrivals.{ends, until, taken_for}
 use Rattle.nv_arriving.specs.Arriving.{Standing, wants_input, is_over, wants_data, read_wants, wants_client, accept_wants, wants_as, wants, with_input as nv_arriving_with_input, with_net, arrive, arrive_all, Stage, taken, ready_for, with_state as nv_arriving_with_state, answer_next, serve_next, stage_after, start_at, first_standing, first_stage, start_of_arrivals}
-use Rattle.nv_arriving.specs.Scripted.{stage_from}
+use Rattle.nv_arriving.specs.Doings.{of_bytes, socket_by, accepted_as, accepted, written as nv_arriving_written, sent, closed, said, doings_of, doings_from, doings}
+use Rattle.nv_arriving.specs.Kernel.{after as nv_arriving_after}
+use Rattle.nv_arriving.specs.Scripted.{start_from, stage_from}
 use Rattle.nv_bpf.specs.Actions.{actions, action_of}
 use Rattle.nv_bpf.specs.Faults.{filter_text}
 use Rattle.nv_bpf.specs.Texts.{at_most, field, op_with, op_of_fields, op_of, put_first, with_line, ops_of, line_count, ops_after, ops_of_lines, ops_of_text, filter_with, filter_of, ended_number, op_text, ops_text}
@@ -141,53 +111,58 @@ use Rattle.nv_bpf.specs.Verified.{unless, constant_fault, is_word as nv_bpf_is_w
 use Rattle.nv_rules.specs.Pair.{argument_words, call_words, count_word, pair_words}
 use Rattle.nv_rules.specs.Values.{FilterState, filter_start, held, with_register, other, operand_of, calculated, comparison_holds, Effect, goes_with, ends_without, acted, gone_on, stepped, returned_from, returned, value_of}
 use Rattle.nv_rules.specs.Verdicts.{verdict_of}
-use Rattle.nv_replay.specs.Account.{IsSettled}
-use Rattle.nv_replay.specs.Covers.{times, led_times}
-use Rattle.nv_replay.specs.Follow.{Follower, fresh, Judge, no_rules, consumed, judged, refusal_of, permit_by, refusal_by, met, decided, on_next, follow_next, is_exited}
+use Rattle.nv_replay.specs.Account.{IsSettled, AreSettled}
+use Rattle.nv_replay.specs.Covers.{AreEnded, times, led_times, Covers}
+use Rattle.nv_replay.specs.Follow.{Follower, fresh, Judge, no_rules, judge_of, consumed, judged, refusal_of, permit_by, refusal_by, met, decided, on_next, follow_next, follow, is_exited}
 use Rattle.nv_replay.specs.Hands.{has, is_handed, unless_handed, next_or_hand, lead_to_hand}
 use Rattle.nv_replay.specs.Lead.{Leader, is_cut, is_memory, cut_of, logged, led, unless_ended, next_call}
-use Rattle.nv_replay.specs.Monitor.{Part, Run, numbers, part, begun, with_span, led_line, after_lead, tracked_by, leads_on, turn_by, turn_of, turn_in, turn, told_standing, lines_of, account_of}
+use Rattle.nv_replay.specs.Monitor.{Part, Run, numbers, part, begun, with_span, led_line, after_lead, tracked_by, leads_on, turn_by, turn_of, turn_in, turn, told_standing, lines_of as nv_replay_lines_of, account_of, sequence}
 use Rattle.nv_replay.specs.Permits.{Permit, given, failed, passed, took, permit}
 use Rattle.nv_replay.specs.Sequence.{Account, is_going, cuts_of}
 use Rattle.nv_replay.specs.Settling.{stage}
-use Rattle.nv_replay.specs.Survivors.{alone, IsSurvivor, HasNoClone}
+use Rattle.nv_replay.specs.Survivors.{alone, IsSurvivor, HasNoClone, SurvivorsAgree}
 use Rattle.nv_replay.specs.Taking.{is_alike, is_through, is_writing, fits, all_written, result_by, taken as nv_replay_taken}
 use Rattle.nv_replay.specs.Tracks.{is_in, is_led, retraced_by, tracked, track_on, track_next, track}
 use Rattle.nv_report.specs.Events.{payload_text, call_text, result_text, event_text}
-use Rattle.nv_report.specs.Json.{natural, integer, list_value, hex_value, word_json, payload_value, event_value, span_value, led_value, version_members, version_value, report_object, report_value}
+use Rattle.nv_report.specs.Json.{natural, integer, list_value, hex_value, word_json, payload_value, event_value, span_value, led_value, version_members, version_value, report_object, report_value, json_text}
 use Rattle.nv_report.specs.Numbers.{number_text}
-use Rattle.nv_report.specs.Report.{head_text, count_text, fates_text}
-use Rattle.nv_report.specs.Versions.{kind_text, fault_text, refusal_text, fate_text, end_text, prefix_text, seen_text, span_text, next_span_text, led_text, rewrites_text, rest_text, line_text, lines_text}
+use Rattle.nv_report.specs.Report.{head_text, count_text, fates_text, report_text}
+use Rattle.nv_report.specs.Versions.{kind_text, fault_text, refusal_text, fate_text, end_text, prefix_text, seen_text, span_text, next_span_text, led_text, rewrites_text, rest_text, line_text as nv_report_line_text, lines_text}
 use Rattle.nv_asm.specs.Assembled.{Whole, text_base, data_base, base, address, address_of, is_undefined, is_entry_place, is_entry, word_lacks, code_lacks, lacks, distance, word_value, code_words, le_words, content, is_earlier, is_twice, is_long, padding_before, padded, laid_by, laid, cause_of as nv_asm_cause_of, bytes_or_none, laid_in, section_bytes, entry_past, entry_address, text_range, data_ranges, laid_program, first_cause, meaning_by, meaning, whole_of, assembled_lines, assembled}
 use Rattle.nv_asm.specs.Faults.{asm_word, asm_text}
 use Rattle.nv_asm.specs.Forms.{same_form, has_form, flags, each_order, kinds}
 use Rattle.nv_asm.specs.Numbers.{registers, numbered_register, register_named, decimal, hexadecimal, magnitude, signed, literal, is_number, within, number, number_of_12_bits, number_of_32_bits, number_of_8_bits}
-use Rattle.nv_asm.specs.Places.{here_by, here, filled, among_data, in_section, or_blank, code_size, size, begin, past, Placed, stated, place, after, line_parts, placed_parts, placed_line, placed, nothing_reached, ended, marked}
-use Rattle.nv_asm.specs.Statements.{Word, Code, Statement, insn, single, with_number, upper_of, lower_of, loading, ◌>>=◌, name, is_not_open, closed, enclosed, base_register, displacement, sole_register, registers_of, immediate_of, shift_of, load_of, store_of, reserved_statement, atomic_of, branch_of, jump_and_link_of, upper_number_of, load_number_of, load_address_of, move_of, jump_of, zeros, zeros_of, entry_statement, of_none, of_one, of_two, of_three, formed, is_within, number_or_zero, is_byte, byte_of, bytes_within, bytes_of as nv_asm_bytes_of, is_item, is_word as nv_asm_is_word, word_of as nv_asm_word_of, words_within, words_of, kind_read, stated as nv_asm_stated, statement_begun, statement}
+use Rattle.nv_asm.specs.Places.{here_by, here, filled, among_data, in_section, or_blank, code_size, size, begin, past, Placed, stated, place, after as nv_asm_after, line_parts, placed_parts, placed_line, placed, nothing_reached, ended, marked}
+use Rattle.nv_asm.specs.Statements.{Word, Code, Statement, insn, single, with_number, upper_of, lower_of, loading, ◌>>=◌, name, is_not_open, closed as nv_asm_closed, enclosed, base_register, displacement, sole_register, registers_of, immediate_of, shift_of, load_of, store_of, reserved_statement, atomic_of, branch_of, jump_and_link_of, upper_number_of, load_number_of, load_address_of, move_of, jump_of, zeros, zeros_of, entry_statement, of_none, of_one, of_two, of_three, formed, is_within, number_or_zero, is_byte, byte_of, bytes_within, bytes_of as nv_asm_bytes_of, is_item, is_word as nv_asm_is_word, word_of as nv_asm_word_of, words_within, words_of, kind_read, stated as nv_asm_stated, statement_begun, statement}
 use Rattle.nv_asm.specs.Strings.{escape, at_end, escaped_mark, mark, quoted, string, next, comment_place}
 use Rattle.nv_bpf_asm.specs.Assembled.{is_not_comment, line_parts as nv_bpf_asm_line_parts, word_count, count, labels, Find, is_earlier as nv_bpf_asm_is_earlier, is_twice as nv_bpf_asm_is_twice, way, near_way, jump_by, jump_op, branch_by, branch_op, op_of as nv_bpf_asm_op_of, op_after, some_op, op_of_word, op_of_parts, op_of_line, put_first as nv_bpf_asm_put_first, with_line as nv_bpf_asm_with_line, ops_of as nv_bpf_asm_ops_of, of_filter, filter_with as nv_bpf_asm_filter_with, assembled as nv_bpf_asm_assembled}
 use Rattle.nv_bpf_asm.specs.Faults.{rule_word, rules_text}
 use Rattle.nv_bpf_asm.specs.Statements.{Statement as nv_bpf_asm_Statement, forms, after_prefix, closed as nv_bpf_asm_closed, constant, between, of_event, plain, sum_of, return_of, load_of as nv_bpf_asm_load_of, load_index_of, jump_of as nv_bpf_asm_jump_of, choice_of, branch_of as nv_bpf_asm_branch_of, formed as nv_bpf_asm_formed, stated as nv_bpf_asm_stated, statement as nv_bpf_asm_statement}
 use Rattle.nv_gen.specs.Made.{Numbers, numbers_of, Call, Ending, Course, write_text, calls_getuid, calls_at, calls_to, course, courses_to, script, rules, Totals, named_number, summary}
 use Rattle.nv_gen.specs.Programs.{sets, points, ecall, ebreak, write_insns, getuid_insns, exit_insns, insns_of, last_insns, insns, insn_bytes, code_of, block, segment_bytes, course_range, program, programs_to, programs}
-use Rattle.nv_trace.specs.Checks.{is_live, is_reply, entry_fault, faults_after}
-use Rattle.nv_trace.specs.Faults.{has_head, head_fault, event_fault, events_fault}
+use Rattle.nv_trace.specs.Checks.{is_live, is_reply, entry_fault, faults_after, check_fault}
+use Rattle.nv_trace.specs.Faults.{has_head, head_fault, event_fault, events_fault, trace_fault}
 use Rattle.nv_trace.specs.Held.{count_in, bad_in, sent_in, came_in, size_in, request_in, response_in, entry_in, entries_in, log_in}
 use Rattle.nv_trace.specs.Texts.{trace_text, check_text}
-use Rattle.nv_trace.specs.Trace.{number_bytes, bit, arg, fields_of, event_bytes, head_bytes}
+use Rattle.nv_trace.specs.Trace.{number_bytes, bit, arg, fields_of, event_bytes, head_bytes, trace_of}
 use Rattle.nv_inspect.specs.Firsts.{texts_below}
-use Rattle.nv_inspect.specs.Points.{place_of, events_to, budget_to}
-use Rattle.nv_inspect.specs.Shown.{word_text, standing_text, place_text, heading_text, register_text, registers_text, counter_text, thread_text, live_text, threads_text, opened_text, named_text, descriptor_as, descriptor_text, descriptors_text, cell_text, byte_text, row_text, memory_line, dump_text}
-use Rattle.nv_command.specs.Help.{usage_line, script_help, rules_help, ring_help, memory_help, budget_help, calls_help, threads_help, json_help, index_help, stamp_help, call_help, count_help, dump_help, length_help, asm_help, option_lines, example_line, more_help, help_lines}
-use Rattle.nv_command.specs.Simple.{option_rule, flag_rule, file_rule, files_rule, word_rule, required, simple_app, run_options, run_app, record_app, trail_options, look_options, trail_files, replay_app, inspect_app, rules_app, asm_app, gen_app, help_app}
-use Rattle.nv_command.specs.Words.{texts, unless_faulty, rows_of_line, number_between, number_within, in_pages, ring_of, memory_of, budget_of, calls_asked, threads_asked, Limits, usual, limits_of, versions_asked, is_set, Plan, plan_of, report_plan_of, index_of, Trail, trail_of, Point, point_from, point_of, range_of, dump_from, dump_of, Look, look_of, Job, rules_job_of, asm_job_of, number_in, Name, name_spelt, topic_from, topic_of, Command, run_line, rules_line, asm_line, gen_line, record_line, replay_line, inspect_line, help_line, asked_by, after_program}
-use Rattle.nv_jobs.specs.Due.{made_outcome, lack_outcome, traced_outcome, files_after, shown_of, IsReady, IsMade, IsTraced, IsRefusedAt, IsRefusedFor, IsRefusedOn, IsReport}
-use Rattle.nv_jobs.specs.Found.{FILE_LIMIT, TRACE_LIMIT, is_longer, TookMore, TookLong, Found, IsReadWithin, IsLongerThan, AgreesWithin, AllAgree, AgreesIf, Finds, found_within, found_of, finds_of}
-use Rattle.nv_jobs.specs.Made.{accepted_text, accepted_filter, of_rules, of_program, used, unless_refused}
-use Rattle.nv_jobs.specs.Outcome.{account_text, totals_of, name_at, name_on, Source, source_of}
-use Rattle.nv_jobs.specs.Prepared.{VersionOf, of_loaded, of_elf, Prepared, read_at, with_first_machine, version_then, versions_from, judged_by, rules_then, after_rules, after_script}
-use Rattle.nv_jobs.specs.Replayed.{counts_text}
+use Rattle.nv_inspect.specs.Points.{place_of, events_to, budget_to, at_point}
+use Rattle.nv_inspect.specs.Shown.{word_text, standing_text, place_text, heading_text, register_text, registers_text, counter_text, thread_text, live_text, threads_text, opened_text, named_text, descriptor_as, descriptor_text, descriptors_text, cell_text, byte_text, row_text, memory_line, dump_text, show_text}
+use Rattle.nv_command.specs.Help.{usage_line, script_help, start_help, rules_help, ring_help, memory_help, budget_help, long_budget_help, calls_help, many_calls_help, threads_help, json_help, clients_help, log_help, index_help, stamp_help, call_help, count_help, dump_help, length_help, asm_help, option_lines, example_line, more_help, help_lines, help_of}
+use Rattle.nv_command.specs.Simple.{option_rule, flag_rule, file_rule, files_rule, word_rule, required, simple_app, run_options, run_app, record_app, serve_app, trail_options, look_options, trail_files, replay_app, inspect_app, rules_app, asm_app, gen_app, help_app}
+use Rattle.nv_command.specs.Words.{texts, unless_faulty, rows_of_line, number_between, number_within, in_pages, Limits, usual, service_usual, ring_of, memory_of, budget_of, calls_asked, threads_asked, limits_of, versions_asked, is_set, Parts as nv_command_Parts, parts_of, Plan, plan_of, report_plan_of, Service, service_of, index_of, Trail, trail_of, Point, point_from, point_of, range_of, dump_from, dump_of, Look, look_of, Job, rules_job_of, asm_job_of, number_in, Name, name_spelt, topic_from, topic_of, Command, run_line, serve_line, rules_line, asm_line, gen_line, record_line, replay_line, inspect_line, help_line, asked_by, command_name, after_program, command_of}
+use Rattle.nv_jobs.specs.Account.{process_begun, IsRunOf, run_status}
+use Rattle.nv_jobs.specs.Causes.{cause_text}
+use Rattle.nv_jobs.specs.Due.{RunComesTo, made_outcome, RunOwes, JobOwes, GenOwes, lack_outcome, traced_outcome, TrailOwes, replayed, files_after, shown_of, shown, RecordComesTo, RecordOwes, ServeComesTo, ServeOwes, Owes, OwesAny, IsDue, IsUntouched, Shows, Says, Answers, ServedOver, Over, AnswersOver, IsReady, IsMade, IsTraced, IsAccepted, IsRefusedAt, IsRefusedFor, IsRefusedOn, IsRefused, IsReport, IsDone, Completes, Rejects}
+use Rattle.nv_jobs.specs.Found.{FILE_LIMIT, TRACE_LIMIT, is_longer, TookMore, TookLong, Found, IsReadWithin, IsLongerThan, AgreesWithin, Agrees, AllAgree, AgreesIf, Finds, AreFound, found_within, found_of, finds_of}
+use Rattle.nv_jobs.specs.Generated.{IsMadeRun}
+use Rattle.nv_jobs.specs.Live.{bare_text, after_first_line, whole_lines, transcript_head, unless_comes, without_arrivals, as_begun, live_script, after_live_script, live_prepared, AgreesOrBare, AreLiveFound, found_or_bare, live_finds_of, with_arrivals, Streams, ended_by_writes, ending_of, Lived}
+use Rattle.nv_jobs.specs.Made.{accepted_text, accepted_filter, of_rules, of_program, used, unless_refused, made_of}
+use Rattle.nv_jobs.specs.Outcome.{Outcome, account_text, totals_of, text_of as nv_jobs_text_of, outcome_status, ended_with, name_at, name_in as nv_jobs_name_in, name_on, Source, source_of}
+use Rattle.nv_jobs.specs.Prepared.{VersionOf, of_loaded, of_elf, version_from, Prepared, read_at, with_first_machine, version_then, versions_from, judged_by, rules_then, after_rules, after_script, prepared}
+use Rattle.nv_jobs.specs.Replayed.{counts_text, replay_text, replay_status}
 use Rattle.nv_jobs.specs.Tasks.{fault_outcome}
-use Rattle.nv_jobs.specs.Traced.{TraceFinds, AreTraceFound, trace_finds_of, Lack, then_with, bytes_found, of_script, script_at, traced_rules, rules_at, unless_unsound, log_unless_faulty, of_trace, log_at, trail_limits, traced_version, machine_traced, Traced, after_log, after_filter, after_setup}
+use Rattle.nv_jobs.specs.Traced.{TraceFinds, AreTraceFound, trace_finds_of, Lack, then_with, bytes_found, of_script, script_at, traced_rules, rules_at, unless_unsound, log_unless_faulty, trace_of_file, of_trace, log_at, trail_limits, traced_version, machine_traced, Traced, after_log, after_filter, after_setup, traced}
 use Rattle.nv_jobs.specs.Tracing.{trace_point}
-use Rattle.nv_cli.specs.Program.{Given, AreRefused, Begins}
+use Rattle.nv_cli.specs.Program.{Given, IsDueOf, AreRefused, Begins, EndsWith, OverOf, ProgramAnswers}
+use Rattle.nv_cli.specs.Streams.{streams_of, left_of}

@@ -1,5 +1,5 @@
-use nv_workers::{Gate, VersionNumber};
 use nv_test_support::{Outside, image, monitor_through};
+use nv_workers::{Gate, VersionNumber};
 use std::alloc::{AllocError, Global};
 use std::sync::atomic::{AtomicU64, Ordering};
 use std::test::Fail;

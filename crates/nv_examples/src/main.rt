@@ -4,8 +4,8 @@
 
 mod shelf;
 
-use nv_workers::OpenGate;
 use nv_test_support::{Answered, Outside, monitor_through};
+use nv_workers::OpenGate;
 use shelf::Shelf;
 use std::alloc::{AllocError, Global};
 use std::io::Print;

@@ -1,9 +1,9 @@
 ghost use Rattle.std.specs.Prelude.{◌≡◌, []};
 
 use nv_learning::{LearningKernel, Outside};
-use nv_workers::OpenGate;
 use nv_replay::Account;
 use nv_served::SyscallKernel;
+use nv_workers::OpenGate;
 use nv_workers_tests::{beside, one_by_one};
 use std::alloc::Global;
 use std::process::Abort;

@@ -1,11 +1,8 @@
-use Rattle.std.proofs.Common.{◌≡◌, ⊎_elim, inl, inr, refl, sym, ap, subst, Some}
-use Rattle.nv_command.specs.Seen.{limits_view, service_view}
-use Rattle.nv_jobs.specs.Due.{AnswersOver}
-use Rattle.nv_jobs.specs.Live.{with_arrivals}
+use Rattle.nv_command.specs.Seen.{service_view}
 use Rattle.nv_jobs.specs.Outcome.{source_of}
-use Rattle.nv_jobs.proofs.Commands.{live_refusal_answers, over_served, served_answers, starved_answers}
+use Rattle.nv_jobs.proofs.Commands.{live_refusal_answers}
 use Rattle.nv_script.specs.Views.{setup_of}
-use Rattle.nv_cli.specs.Streams.{streams_of, left_of}
+use Rattle.nv_cli.specs.Streams.{streams_of}
 use Rattle.nv_cli.proofs.Lived.{serve_answers}
 use Rattle.nv_cli.proofs.serving.serve.Goals as goal
 
