@@ -78,17 +78,6 @@ listens() {
     grep -q "0100007F:$(printf %04X "$1") 00000000:0000 0A" /proc/net/tcp
 }
 
-# there WHAT WORD..: whether the program takes these words; where it refuses them, this is left out.
-there() {
-    local what=$1 status=0
-    shift
-    "$program" "$@" </dev/null >"$work/console" 2>"$work/told" || status=$?
-    if [ "$status" = 2 ]; then
-        echo "check.sh: left out: $what, which this program has no words for"
-        return 1
-    fi
-}
-
 # told_in TRANSCRIPT: the events that a live run told, and how each version ended after how many, as in a report but for what it led.
 told_in() {
     sed -n 's/^# \([0-9]* [0-9]* .* = .*\)$/\1/p' "$1"
@@ -368,11 +357,7 @@ many_clients() {
 if ! has python3 "live services"; then
     exit 0
 fi
-if there "a live service" serve "$old_service"; then
-    plain
-fi
-if there "a live service of many clients" serve --clients "$old_server"; then
-    many_clients
-fi
+plain
+many_clients
 echo "check.sh: $rows rows, $wrong wrong"
 [ "$wrong" = 0 ]

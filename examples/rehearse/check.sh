@@ -45,10 +45,6 @@ rehearsed() {
 
 has python3 && has parallel && has jq || exit 0
 ./transcripts.py "$work/given" 50
-if "$program" run --script "$work/given/00000" "$server/built/server_1" | grep -q '^varan: input .* line 1 form$'; then
-    echo "check.sh: left out: rehearsals, since this program has no scripts of form 4"
-    exit 0
-fi
 for it in 00007 00031; do
     sed -i '$a data 0 zz' "$work/given/$it"
 done
