@@ -80,7 +80,7 @@ fn kernel_from<R: Abort>(rt: &R, alloc: Global, first: u8, told: bool) -> Arrivi
     ArrivingKernel::make(alloc, &script, pairs).expect(rt, "a kernel")
 }
 
-fn text_of<R: Abort, O: Outside + Send>(
+fn text_of<R: Abort, O: Outside + Telling + Send>(
     rt: &R,
     alloc: Global,
     account: Option<Account<ArrivingKernel<O>>>,
