@@ -1,7 +1,9 @@
 -- A version as callers see it.
 use Rattle.std.specs.Prelude.{◌≡◌, ℕ, ◌+◌, Bool, true, false, nat_le, List, [], Option, Some, None, option_map, if◌then◌else◌}
 use Rattle.nv_calls.specs.Calls.{Entry}
+use Rattle.nv_threads.specs.Ahead.{Known}
 use Rattle.nv_threads.specs.Behaviours.{Behaviour, IsStarted}
+use Rattle.nv_threads.specs.Threads.{Proc}
 use Rattle.nv_machine.specs.declared.outcome.FaultKind.TheVariants.{Calls}
 use Rattle.nv_threads.specs.declared.turns.Want.TheVariants.{Any}
 use Rattle.nv_threads.specs.declared.turns.Came.{Came}
@@ -28,6 +30,10 @@ pub record Running (P : Type 0) : Type 0 where
 
 abbrev pub standing_of : {P : Type 0} → Running P → Standing
 standing_of r = record { fate = r.at.fate; seen = r.at.seen; led = r.led; rewrites = r.at.rewrites }
+
+-- its process as its callers know it
+abbrev pub known_of : Running Proc → Known
+known_of r = record { process = r.at.process; eager = r.eager }
 
 abbrev pub process_of : {P : Type 0} → Running P → P
 process_of r = r.at.process

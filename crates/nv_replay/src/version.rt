@@ -3,6 +3,7 @@ ghost use Rattle.std.specs.Prelude.{◌≡◌, ◌≢◌, [], ◌∷◌, ◌+◌
 ghost use Rattle.nv_calls.specs.Calls.{request, entry};
 ghost use Rattle.nv_calls.specs.Logs.{IsNew, child_of, made};
 ghost use Rattle.nv_calls.specs.Shapes.{IsShaped};
+ghost use Rattle.nv_threads.specs.Ahead.{MayGoAhead};
 ghost use Rattle.nv_threads.specs.Behaviours.{IsStarted};
 ghost use Rattle.nv_threads.specs.Threads.{threads};
 ghost use Rattle.nv_threads.specs.declared.turns.Came.{Came};
@@ -14,7 +15,7 @@ ghost use Rattle.nv_replay.specs.Permits.{No, given, failed, passed, took, permi
 ghost use Rattle.nv_replay.specs.Spans.{MOST_SPANS};
 ghost use Rattle.nv_replay.specs.Taking.{taken};
 ghost use Rattle.nv_replay.specs.Rewrites.{MOST_REWRITES};
-ghost use Rattle.nv_replay.specs.Version.{Running, IsFresh, IsFollowing, IsLiveLeader, LedTo, asking_next, asking_by, became_event, standing_of};
+ghost use Rattle.nv_replay.specs.Version.{known_of, Running, IsFresh, IsFollowing, IsLiveLeader, LedTo, asking_next, asking_by, became_event, standing_of};
 
 use crate::judging::{give_constant, judge};
 use crate::taking::taken;
@@ -374,7 +375,8 @@ impl Version {
     /// Goes on towards its next call, by so many turn steps at most, before it is known what that call has to be, if it is eager. Nothing
     /// that is told of the version depends on it. Says whether there may be more to do.
     pub fn run_ahead(&mut self, steps: u32) -> bool
-        ensures { self.new ≡ self.old }
+        ensures same { self.new ≡ self.old }
+        ensures goes { IsTrue result → 0 < steps → MayGoAhead (known_of self.old) }
     {
         self.process.run_ahead(steps)
     }

@@ -1,5 +1,5 @@
 -- A process that goes on before it is known whose call is wanted next.
-use Rattle.std.specs.Prelude.{◌≡◌, Bool, false, None, Some}
+use Rattle.std.specs.Prelude.{◌≡◌, Bool, true, false, None, Some}
 use Rattle.std.specs.List.{list_any}
 use Rattle.nv_threads.specs.Threads.{Proc, asks, threads}
 use Rattle.nv_threads.specs.Going.{Goes}
@@ -26,3 +26,8 @@ pub record Known : Type 0 where
 pub record MayGo (p : Proc) (eager : Bool) (a : Ahead) (q : Proc) : Type 0 where
   pub gone : HasGone p a q
   pub stays : eager ≡ false → a ≡ ahead.Stays
+
+-- one that may go on before it is known whose call is wanted
+pub record MayGoAhead (k : Known) : Type 0 where
+  pub eager : k.eager ≡ true
+  pub unasked : IsUnasked k.process

@@ -1,8 +1,9 @@
 // A process that goes on to its next call before the call is wanted.
-ghost use Rattle.std.specs.Prelude.{◌≡◌, None, true, false};
+ghost use Rattle.std.specs.Prelude.{◌≡◌, ◌<◌, None, true, false, IsTrue};
 ghost use Rattle.nv_calls.specs.Calls.{request};
 ghost use Rattle.nv_calls.specs.Logs.{made, IsNew};
 ghost use Rattle.nv_calls.specs.Shapes.{IsShaped};
+ghost use Rattle.nv_threads.specs.Ahead.{MayGoAhead};
 ghost use Rattle.nv_threads.specs.Threads.{threads};
 
 use crate::{Ahead, Came, Process, Want};
@@ -48,7 +49,8 @@ impl Eager {
     /// At most so many turn steps towards the next call, if it is eager, unless it is there or a thread asks. Says whether there may be
     /// more to do.
     pub fn run_ahead(&mut self, steps: u32) -> bool
-        ensures { self.new ≡ self.old }
+        ensures same { self.new ≡ self.old }
+        ensures goes { IsTrue result → 0 < steps → MayGoAhead self.old }
     {
         for _ in 0..steps {
             if !self.step_ahead() {
@@ -59,7 +61,8 @@ impl Eager {
     }
 
     fn step_ahead(&mut self) -> bool
-        ensures { self.new ≡ self.old }
+        ensures same { self.new ≡ self.old }
+        ensures goes { IsTrue result → MayGoAhead self.old }
     {
         if !self.eager {
             return false;

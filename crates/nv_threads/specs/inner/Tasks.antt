@@ -1,6 +1,6 @@
 -- The tables of a process, and the threads that they say.
 use Rattle.std.specs.Prelude.{ℕ, suc, Bool, true, false, ◌==◌, ◌||◌, List, [], ◌∷◌, map, Option, Some, None, if◌then◌else◌}
-use Rattle.nv_threads.specs.Threads.{Runs, Asks, Waits, lesser}
+use Rattle.nv_threads.specs.Threads.{lesser}
 use Rattle.nv_threads.specs.declared.tasks.Doing.{Doing}
 use Rattle.nv_threads.specs.declared.tasks.Doing.TheVariants as doing
 use Rattle.nv_threads.specs.declared.tasks.Task.{Task}

@@ -1,4 +1,4 @@
-use Rattle.std.proofs.Common.{◌∙◌, sym, ap}
+use Rattle.std.proofs.Common.{ap}
 use Rattle.nv_guest.specs.Threads as guests
 use Rattle.nv_threads.proofs.Keeping.{with_guest}
 use Rattle.nv_threads.proofs.process.Process.move_break.Goals as goal
