@@ -1,6 +1,10 @@
 -- What a live run's account, its log and what is left of its streams say together.
-use Rattle.std.proofs.Common.{◌≡◌, ◌∙◌, refl, sym, ap, subst, ℕ, Bool, false, List, [], ◌++◌, Option, Some, Result, Ok, map}
-use Rattle.nv_arrivals.specs.Arrivals.{Arrival}
+use Rattle.std.proofs.Common.{◌≡◌, ◌∙◌, refl, sym, ap, subst, ℕ, Bool, true, false, List, [], ◌++◌, Option, Some, Result, Ok, map}
+use Rattle.std.specs.List.{All, list_all}
+use Rattle.std.specs.Result.{is_ok}
+use Rattle.std.proofs.lemmas.Bool.{and_parts}
+use Rattle.nv_arrivals.specs.Arrivals.{Arrival, is_arrival, BringsBytes}
+use Rattle.nv_arrivals.specs.Order.{are_orderly, are_arrivals}
 use Rattle.nv_arrivals.specs.Doings.{Doing, Takes, takings, sayings}
 use Rattle.nv_arriving.specs.Arriving.{first_stage, stage_after, start_of_arrivals}
 use Rattle.nv_arriving.specs.Doings.{doings}
@@ -16,6 +20,7 @@ use Rattle.nv_live.specs.Run.{CameBy, said_text, DidRun, IsBegun, input_of, outp
 use Rattle.nv_live.specs.Telling.{Told}
 use Rattle.nv_live.specs.Transcript.{lines_of}
 use Rattle.nv_live.specs.Writer.{sink_in, put_of}
+use Rattle.nv_live.specs.declared.incoming.Stopped.{Stopped}
 use Rattle.nv_live.specs.declared.run.LiveRun.{LiveRun}
 use Rattle.nv_live.specs.declared.run.LiveRun.TheVariants.{Plain, Clients}
 use Rattle.nv_live.specs.declared.streams.Streams.{Streams as Held}
@@ -28,6 +33,8 @@ use Rattle.nv_replay.specs.Follow.{judge_of}
 use Rattle.nv_replay.specs.Version.{Running, process_of, standing_of}
 use Rattle.nv_replay.specs.declared.account.Account.{Account as Ran}
 use Rattle.nv_script.specs.Scripts.{Setup, script_of}
+use Rattle.nv_script.specs.Transcripts.{IsTranscript, continued_by}
+use Rattle.nv_script.proofs.Transcripts.{transcript}
 use Rattle.nv_script.specs.declared.fault.ScriptFault.{ScriptFault}
 use Rattle.nv_threads.specs.Threads.{Proc, threads}
 use Rattle.nv_workers.specs.Ends.{IsAccount}
@@ -52,6 +59,26 @@ does_alike setup came log = refl
 bare : (setup : Setup) → setup.arrivals ≡ [] → ◌≡◌ {A = Result Setup ScriptFault} (Ok setup) (Ok (with_arrivals setup []))
 bare setup none = ap (λ arrivals. Ok (with_arrivals setup arrivals)) none
 
+-- what came may come, by the reads
+abbrev MayCome : List Arrival → Type 0
+MayCome arrivals = (list_all is_arrival arrivals ≡ true) × (are_orderly arrivals ≡ true)
+
+may_come : (clients : Bool) (before now : Option (List (List ℕ))) (faults later_faults : ℕ) (stopped : Option Stopped) (arrivals : List Arrival)
+    → CameBy clients before now faults later_faults stopped arrivals → MayCome arrivals
+unfolding are_arrivals
+may_come false before now faults later_faults stopped arrivals came = and_parts came.1.may_come
+may_come true before now faults later_faults stopped arrivals came = (came.4.limits, ap is_ok came.4.orderly)
+
+-- the script with what came, where nothing came in it
+with_more : (setup : Setup) (came : List Arrival) → setup.arrivals ≡ [] → continued_by came setup ≡ with_arrivals setup came
+with_more setup came none = ap (λ (old : List Arrival). with_arrivals setup (old ++ came)) none
+
+-- a transcript with the lines of what came
+reads_on : (head : List ℕ) (setup : Setup) (came : List Arrival) → IsTranscript head setup → setup.arrivals ≡ [] → MayCome came → All BringsBytes came
+    → script_of (head ++ lines_of came) ≡ Ok (with_arrivals setup came)
+reads_on head setup came begins none may bytes =
+    (transcript head setup came begins may.0 bytes (ap (λ (old : List Arrival). are_orderly (old ++ came)) none ∙ may.1)).says ∙ ap (λ (s : Setup). Ok s) (with_more setup came none)
+
 stops : {I O T : Type 0} (run : LiveRun I O T) → stop_of_run run ≡ stop_with (source_stop run) (put_of (output_of run))
 stops (Plain run) = refl
 stops (Clients run) = refl
@@ -60,7 +87,7 @@ module _ {I O T : Type 0} (took : I → Option (List (List ℕ))) (unread : I �
   fresh : (clients : Bool) (head : List ℕ) (streams : Held I O T) (t : Told) → IsBegun took unread said unsaid noted unnoted clients head streams t → IsFresh t
   fresh clients head streams t b = record { held = b.held; line = b.line; order = b.order; taken = b.taken; going = b.going; saying = b.saying }
 
-  module _ (clients : Bool) (setup : Setup) (head : List ℕ) (begins : script_of head ≡ Ok setup) (none : setup.arrivals ≡ []) (before after : Held I O T)
+  module _ (clients : Bool) (setup : Setup) (head : List ℕ) (begins : IsTranscript head setup) (none : setup.arrivals ≡ []) (before after : Held I O T)
       (first later : LiveRun I O T) (begun : IsBegun took unread said unsaid noted unnoted clients head before (told took unread said unsaid noted unnoted first))
       (ending : Ending) (left : HasLeft later after ending) where
     came_by : (arrivals : List Arrival) (t : Told) → IsBegun took unread said unsaid noted unnoted clients head before t
@@ -97,7 +124,10 @@ module _ {I O T : Type 0} (took : I → Option (List (List ℕ))) (unread : I �
           said = put_of (output_of later);
           written = written_by done (told took unread said unsaid noted unnoted first) begun s.written;
           head = head;
-          begins = begins ∙ bare setup none;
+          begins = begins.says ∙ bare setup none;
+          reads = λ bytes. ap (λ (arrivals : List Arrival). script_of (head ++ lines_of arrivals)) t.took
+              ∙ reads_on head setup came begins none (may_come clients _ _ _ _ (source_stop later) came (subst (λ (arrivals : List Arrival). CameBy clients (took before.input) (took after.input) (unread before.input) (unread after.input) (source_stop later) arrivals) t.took
+              (came_by (takings done) (told took unread said unsaid noted unnoted first) begun s.came))) bytes;
           told = put_of (notes_of later);
           noted = subst (λ sink. Puts (noted before.transcript) (unnoted before.transcript) (head ++ lines_of (takings done)) (put_of (notes_of later)) (noted sink) (unnoted sink)) (sym left.transcript)
               (s.lines before.transcript head begun.noted_is);
@@ -108,7 +138,7 @@ module _ {I O T : Type 0} (took : I → Option (List (List ℕ))) (unread : I �
   pub served_by : (limits : Limits) (clients : Bool) (setup : Setup) (head : List ℕ) (rules : Option (List Op)) (hands : List ℕ) (versions : List (Running Proc)) (machines : List Machine)
       (before after : Held I O T) (ending : Ending) (kernel : KernelState (LiveRun I O T)) (account : Ran (KernelState (LiveRun I O T))) (sink : Option (List ℕ)) (faults status : ℕ)
       → status ≡ run_status (map standing_of account.versions.items)
-      → map process_of versions ≡ map (process_begun limits) machines → script_of head ≡ Ok setup → setup.arrivals ≡ [] → IsPlanned setup hands
+      → map process_of versions ≡ map (process_begun limits) machines → IsTranscript head setup → setup.arrivals ≡ [] → IsPlanned setup hands
       → IsBegunOver took unread said unsaid noted unnoted clients setup head before kernel
       → RanOver (told took unread said unsaid noted unnoted) kernel rules limits.calls hands versions account
       → Tells (DidRun took unread said unsaid noted unnoted) account.kernel.begun account.kernel.outside account.kernel.setup account.kernel.came account.kernel.log account.kernel.late

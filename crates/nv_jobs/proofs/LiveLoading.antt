@@ -1,13 +1,15 @@
 -- What the files of a live run come to.
-use Rattle.std.proofs.Common.{◌≡◌, ◌∙◌, sym, ap, subst, refl, ℕ, ◌≤◌, List, [], ◌∷◌, map, Option, None, Some, option_map, Result, Ok, Err, arith}
+use Rattle.std.proofs.Common.{◌≡◌, ◌∙◌, sym, ap, subst, refl, ℕ, ◌≤◌, Bool, true, false, ◌==◌, ◌-◌, if◌then◌else◌, List, [], ◌∷◌, ◌++◌, codes, length, get_or, map, Option, None, Some, option_map, Result, Ok, Err, append_assoc, arith}
+use Rattle.std.proofs.lemmas.Bool.Decides.{nat_tests}
 use Rattle.nv_outside.specs.Told.{Told}
 use Rattle.nv_arrivals.specs.Arrivals.{Arrival}
 use Rattle.nv_command.specs.Words.{Service}
 use Rattle.nv_script.specs.Scripts.{Setup, script_of}
+use Rattle.nv_script.specs.Transcripts.{IsTranscript}
 use Rattle.nv_script.specs.declared.fault.ScriptFault.{ScriptFault}
 use Rattle.nv_jobs.specs.Found.{Whole, TooLong, Unread, IsReadOf, FILE_LIMIT, found_of}
 use Rattle.nv_jobs.specs.Prepared.{Prepared, Unreadable, Refused, after_rules, versions_from}
-use Rattle.nv_jobs.specs.Live.{AgreesOrBare, bare_text, transcript_head, unless_comes, without_arrivals, as_begun, live_script, after_live_script}
+use Rattle.nv_jobs.specs.Live.{AgreesOrBare, bare_text, after_first_line, whole_lines, transcript_head, unless_comes, without_arrivals, as_begun, live_script, after_live_script}
 use Rattle.nv_jobs.specs.Refusals.{LiveComesTo, Stops, RefusesLive}
 use Rattle.nv_jobs.specs.inner.Refusals.{live_parts, ReadRefused, RestComes, RestRefused, IsScriptRefusal, IsLiveScript, IsLiveScriptRefusal, LiveScriptStops}
 use Rattle.nv_jobs.specs.declared.refusal.Refusal.{Refusal}
@@ -125,9 +127,39 @@ pub live_comes : (bytes head : List ℕ) (setup begun : Setup) → script_of byt
 live_comes bytes head setup begun ok same is some =
     live_begun bytes setup ok ∙ ap (λ t. without_arrivals (script_of t)) (sym same) ∙ ap without_arrivals is ∙ comes_reason begun some
 
+-- a text whose last line has its newline
+record IsEnded (text : List ℕ) : Type 0 where
+  front : List ℕ
+  is : text ≡ front ++ 10 ∷ []
+
+ended_by : (b : ℕ) (text : List ℕ) → (get_or (b ∷ text) (length text) 10 == 10) ≡ true → IsEnded (b ∷ text)
+ended_by b [] h = let is : b ≡ 10 = grind (arith, nat_tests) in record { front = []; is = ap (λ n. n ∷ []) is }
+ended_by b (c ∷ text) h = let e = ended_by c text h in record { front = b ∷ e.front; is = ap (λ t. b ∷ t) e.is }
+
+-- lines of which the last has its newline, after a line that has it
+ended_after : (line text : List ℕ) → IsEnded (line ++ 10 ∷ whole_lines text)
+ended_after line [] = record { front = line; is = refl }
+ended_after line (b ∷ text) = by (get_or (b ∷ text) (length (b ∷ text) - 1) 10 == 10) refl
+  where
+    same : length (b ∷ text) - 1 ≡ length text
+    same = omega arith
+
+    by : (last : Bool) → (get_or (b ∷ text) (length (b ∷ text) - 1) 10 == 10) ≡ last → IsEnded (line ++ 10 ∷ (if last then b ∷ text else (b ∷ text) ++ 10 ∷ []))
+    by true e =
+        let whole = ended_by b text (subst (λ (n : ℕ). (get_or (b ∷ text) n 10 == 10) ≡ true) same e) in
+        record { front = line ++ 10 ∷ whole.front; is = ap (λ t. line ++ 10 ∷ t) whole.is ∙ sym (append_assoc line (10 ∷ whole.front) (10 ∷ [])) }
+    by false e = record { front = line ++ 10 ∷ b ∷ text; is = sym (append_assoc line (10 ∷ b ∷ text) (10 ∷ [])) }
+
+-- the head is a transcript as it stands
+head_reads : (bytes head : List ℕ) (begun : Setup) → head ≡ transcript_head bytes → script_of head ≡ Ok begun → IsTranscript head begun
+unfolding transcript_head
+head_reads bytes head begun same is =
+    let whole = ended_after (codes "varan-script 4") (after_first_line bytes) in
+    record { body = whole_lines (after_first_line bytes); begins = same; front = whole.front; ends = same ∙ whole.is; says = is }
+
 pub live_is : (bytes head : List ℕ) (setup begun : Setup) → script_of bytes ≡ Ok setup → head ≡ transcript_head bytes → script_of head ≡ Ok begun → begun.arrivals ≡ [] → IsLiveScript head begun bytes
 live_is bytes head setup begun ok same is none = record {
   live = live_begun bytes setup ok ∙ ap (λ t. without_arrivals (script_of t)) (sym same) ∙ ap without_arrivals is ∙ ap (unless_comes begun) none;
-  begins = is;
+  begins = head_reads bytes head begun same is;
   none = none;
 }

@@ -1,7 +1,7 @@
 -- A live run: what its files come to, and what it does over standard input, standard output and its transcript.
 use Rattle.std.specs.Prelude.{◌≡◌, ℕ, ◌+◌, ◌-◌, Bool, false, not, ◌==◌, List, [], ◌∷◌, ◌++◌, Option, None, Some, option_map, Result, Ok, Err, if◌then◌else◌, codes, length, drop, map, get_or}
-use Rattle.std.specs.List.{prefix_len}
-use Rattle.nv_arrivals.specs.Arrivals.{Arrival}
+use Rattle.std.specs.List.{All, prefix_len}
+use Rattle.nv_arrivals.specs.Arrivals.{Arrival, BringsBytes}
 use Rattle.nv_arrivals.specs.Doings.{Doing, Takes, takings, sayings}
 use Rattle.nv_arriving.specs.Arriving.{first_stage, stage_after}
 use Rattle.nv_arriving.specs.Doings.{doings}
@@ -122,7 +122,8 @@ ending_of None said told = ended_by_writes said told
 
 -- A live run over these streams, by its log: each arrival was taken when the call that waited for it was made, and what a call says was said when it was served, before the next
 -- arrival was asked for. That order is exact unless memory was wanted for a call that had waited, so that a later call found what it had left.
--- The bytes are those of the streams: what was read, as plain input or as lines of clients; the bytes or the lines of what was said; and the transcript, which begins with a text that says what the run began with.
+-- The bytes are those of the streams: what was read, as plain input or as lines of clients; the bytes or the lines of what was said; and the transcript, which begins with a text that says what the run began with,
+-- and is, up to the last arrival's line, a script that says the whole run (an arrival's numbers are bytes wherever bytes were read).
 pub record Lived (clients : Bool) (setup : Setup) (log : List Entry) (ending : Ending) (before after : Streams) : Type 0 where
   pub done : List Doing
   pub took_all : takings done ≡ setup.arrivals
@@ -135,6 +136,7 @@ pub record Lived (clients : Bool) (setup : Setup) (log : List Entry) (ending : E
   pub written : Puts before.said before.unsaid (said_text clients (sayings done)) said after.said after.unsaid
   pub head : List ℕ
   pub begins : script_of head ≡ Ok (with_arrivals setup [])
+  pub reads : All BringsBytes setup.arrivals → script_of (head ++ lines_of (takings done)) ≡ Ok setup
   pub told : Put
   pub noted : Puts before.noted before.unnoted (head ++ lines_of (takings done)) told after.noted after.unnoted
   pub ends : ending ≡ ending_of (stop_with stopped said) said told

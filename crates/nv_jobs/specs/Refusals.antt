@@ -1,10 +1,11 @@
 -- How the files of a run are read, and why a run doesn't start.
-use Rattle.std.specs.Prelude.{◌≡◌, ◌≤◌, ℕ, List, [], Option, Ok, length, map}
+use Rattle.std.specs.Prelude.{◌≡◌, ◌≤◌, ℕ, List, [], Option, length, map}
 use Rattle.nv_outside.specs.Counts.{Rose}
 use Rattle.nv_outside.specs.Told.{Told}
 use Rattle.nv_command.specs.Words.{Plan, Service}
 use Rattle.nv_calls.specs.Calls.{Entry}
-use Rattle.nv_script.specs.Scripts.{Setup, script_of}
+use Rattle.nv_script.specs.Scripts.{Setup}
+use Rattle.nv_script.specs.Transcripts.{IsTranscript}
 use Rattle.nv_bpf.specs.declared.op.Op.{Op}
 use Rattle.nv_machine.specs.Guest.{Machine}
 use Rattle.nv_threads.specs.Threads.{Proc, threads}
@@ -65,5 +66,5 @@ pub record IsLivePrepared (head : List ℕ) (setup : Setup) (rules : Option (Lis
   pub comes : LiveComesTo service holds (Ready setup rules machines)
   pub fresh : AreFresh threads 0 versions
   pub few : length versions ≤ 8
-  pub begins : script_of head ≡ Ok setup
+  pub begins : IsTranscript head setup
   pub none : setup.arrivals ≡ []

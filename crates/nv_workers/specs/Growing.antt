@@ -1,5 +1,8 @@
 -- What a turn uses up.
 use Rattle.std.specs.Prelude.{◌≡◌, ◌<◌, ◌≤◌, ◌+◌, ℕ}
+use Rattle.nv_threads.specs.Ahead.{MayGoAhead}
+use Rattle.nv_threads.specs.Threads.{Proc}
+use Rattle.nv_replay.specs.Version.{Running, known_of}
 use Rattle.nv_workers.specs.declared.worker.Turn.{Turn}
 use Rattle.nv_workers.specs.declared.worker.Turn.TheVariants.{Moved, Ahead, Waiting, Done}
 
@@ -13,3 +16,10 @@ SparesOn Moved old new = new ≡ old
 SparesOn Ahead old new = new < old
 SparesOn Waiting old new = new ≡ old
 SparesOn Done old new = new ≡ old
+
+-- only a version that may go on while it waits does so
+abbrev pub GoesOnly : Turn → Running Proc → Type 0
+GoesOnly Moved v = Unit {0}
+GoesOnly Ahead v = MayGoAhead (known_of v)
+GoesOnly Waiting v = Unit {0}
+GoesOnly Done v = Unit {0}

@@ -7,7 +7,7 @@ ghost use Rattle.nv_workers.specs.Terms.{judges_of};
 ghost use Rattle.nv_workers.specs.Working.{FollowsOn};
 ghost use Rattle.nv_workers.specs.Growing.{OneMoreAtMost};
 ghost use Rattle.nv_workers.specs.Follows.{AfterTurn, HasGrown, IsIdle, IsBusy, IsFound, IsWaiting};
-ghost use Rattle.nv_workers.specs.inner.Spares.{HasSpared};
+ghost use Rattle.nv_workers.specs.inner.Spares.{HasSpared, MayBeAhead};
 
 use crate::gate::{Gate, VersionNumber};
 use crate::terms::Terms;
@@ -66,6 +66,7 @@ pub(crate) fn follow_turn<K: SyscallKernel, G: Gate>(
     ensures one { OneMoreAtMost (length (view reader.old).seen) (length (view reader.new).seen) }
     ensures rewrites { version.old.at.rewrites ≤ version.new.at.rewrites }
     ensures spare { HasSpared spare.old spare.new result }
+    ensures goes { MayBeAhead result version.old }
 {
     if *held {
         return decide(version, reader, held, buf, room, terms);
@@ -89,6 +90,7 @@ fn go_ahead(version: &mut Version, spare: &mut u32) -> Next
     ensures same { version.new ≡ version.old }
     ensures waits { IsWaiting result }
     ensures spare { HasSpared spare.old spare.new result }
+    ensures goes { MayBeAhead result version.old }
 {
     let Some(left) = spare.checked_sub(1) else {
         return Next::Waits;

@@ -7,11 +7,11 @@ ghost use Rattle.nv_room.specs.Seats.{IsLeadOf, IsLeftOf, version_of_lead, versi
 ghost use Rattle.nv_room.specs.Steps.{as_gone, as_leaving};
 ghost use Rattle.nv_workers.specs.Terms.{AreOfRoom, judges_of};
 ghost use Rattle.nv_workers.specs.Working.{FollowsOn, LeadsOn};
-ghost use Rattle.nv_workers.specs.Growing.{OneMoreAtMost, SparesOn};
+ghost use Rattle.nv_workers.specs.Growing.{OneMoreAtMost, SparesOn, GoesOnly};
 ghost use Rattle.nv_workers.specs.Measure.{Falls, seat_left};
 ghost use Rattle.nv_workers.specs.Worker.{Works, WorksAt, IsGone, IsLast, TookLead, TurnTells, version_of, version_of_seat, seen_by};
 ghost use Rattle.nv_workers.specs.inner.Stepping.{CanLead, CanHand, CanLeave, AfterStep, StepTells};
-ghost use Rattle.nv_workers.specs.inner.Spares.{HasSpared};
+ghost use Rattle.nv_workers.specs.inner.Spares.{HasSpared, MayBeAhead};
 ghost use Rattle.nv_workers.specs.Staffing.{IsNewLead, IsNewReader, LeadsAnew, ReadsAnew};
 
 use crate::follows::{Next, follow_turn};
@@ -120,6 +120,7 @@ impl<K: SyscallKernel> Worker<K> {
         ensures one { OneMoreAtMost (seen_by self.old.seat) (seen_by self.new.seat) }
         ensures rewrites { self.old.version.at.rewrites ≤ self.new.version.at.rewrites }
         ensures spare { SparesOn result self.old.spare self.new.spare }
+        ensures goes { GoesOnly result self.old.version }
         ensures falls { Falls result self.old self.new }
     {
         match self.step(room, terms) {
@@ -155,6 +156,7 @@ impl<K: SyscallKernel> Worker<K> {
         ensures one { OneMoreAtMost (seen_by self.old.seat) (seen_by self.new.seat) }
         ensures rewrites { self.old.version.at.rewrites ≤ self.new.version.at.rewrites }
         ensures spare { HasSpared self.old.spare self.new.spare result }
+        ensures goes { MayBeAhead result self.old.version }
         ensures seat { seat_left self.new.seat ≡ seat_left self.old.seat }
     {
         match &mut self.seat {

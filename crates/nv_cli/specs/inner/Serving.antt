@@ -1,5 +1,5 @@
 -- A live run, step by step.
-use Rattle.std.specs.Prelude.{◌≡◌, ◌≤◌, ◌⊎◌, ℕ, Bool, List, [], Option, None, Some, Ok, IsTrue, length, map}
+use Rattle.std.specs.Prelude.{◌≡◌, ◌≤◌, ◌⊎◌, ℕ, Bool, List, [], Option, None, Some, IsTrue, length, map}
 use Rattle.nv_arrivals.specs.Arrivals.{Arrival}
 use Rattle.nv_arriving.specs.Arriving.{start_of_arrivals}
 use Rattle.nv_arriving.specs.Kernel.{KernelState, begun_in}
@@ -16,7 +16,8 @@ use Rattle.nv_replay.specs.Follow.{judge_of}
 use Rattle.nv_replay.specs.Sequence.{Account}
 use Rattle.nv_replay.specs.Version.{Running, process_of}
 use Rattle.nv_replay.specs.declared.account.Account.{Account as Ran}
-use Rattle.nv_script.specs.Scripts.{Setup, is_script, script_of}
+use Rattle.nv_script.specs.Scripts.{Setup, is_script}
+use Rattle.nv_script.specs.Transcripts.{IsTranscript}
 use Rattle.nv_script.specs.Views.{setup_of}
 use Rattle.nv_threads.specs.Threads.{Proc, threads}
 use Rattle.nv_workers.specs.Ends.{IsAccount}
@@ -72,6 +73,6 @@ pub record Served (limits : Limits) (clients : Bool) (setup : Setup) (rules : Op
 -- That is so, or memory was wanted and the streams are gone.
 abbrev pub ServeSays : Limits → Bool → LivePrepared → Streams → Option (List ℕ) → ℕ → ℕ → Option (List ℕ) → ℕ → Option (Streams × Ending) → Type 0
 ServeSays limits clients prepared streams before faults status after later_faults left = (machines : List Machine) → map process_of prepared.versions.items ≡ map (process_begun limits) machines
-    → script_of prepared.head.items ≡ Ok (setup_of prepared.script) → (setup_of prepared.script).arrivals ≡ []
+    → IsTranscript prepared.head.items (setup_of prepared.script) → (setup_of prepared.script).arrivals ≡ []
     → Served limits clients (setup_of prepared.script) prepared.rules machines streams before faults status after later_faults left
     ⊎ (Says (text_of NoMemory) 3 before faults status after later_faults × (left ≡ None))

@@ -4,6 +4,7 @@ use Rattle.nv_outside.specs.Counts.{Rose}
 use Rattle.nv_outside.specs.Told.{Told, MayFail}
 use Rattle.nv_command.specs.Words.{Limits, Parts, Plan, Service}
 use Rattle.nv_script.specs.Scripts.{Setup, script_of}
+use Rattle.nv_script.specs.Transcripts.{IsTranscript}
 use Rattle.nv_script.specs.declared.fault.ScriptFault.{ScriptFault}
 use Rattle.nv_bpf.specs.declared.op.Op.{Op}
 use Rattle.nv_bpf.specs.declared.op.FilterFault.{FilterFault}
@@ -152,7 +153,7 @@ VersionsRefused limits setup refusal holds names before now taken later = Stops 
 -- the script says this, by its transcript's head, and nothing comes in it
 pub record IsLiveScript (head : List ℕ) (setup : Setup) (bytes : List ℕ) : Type 0 where
   pub live : live_script bytes ≡ Ok setup
-  pub begins : script_of head ≡ Ok setup
+  pub begins : IsTranscript head setup
   pub none : setup.arrivals ≡ []
 
 -- it is refused, or memory is wanted
