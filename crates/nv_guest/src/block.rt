@@ -100,18 +100,7 @@ fn write_word(memory: &mut Memory, at: u32, value: u32)
     requires { IsTrue (list_any (lies_in at 4) memory.old.regions) }
     ensures { memory.new ≡ record memory.old { bytes = put memory.old.bytes at (little_bytes 4 value) } }
 {
-    memory.fill(at, &word_bytes(value));
-}
-
-fn word_bytes(value: u32) -> [u8; 4]
-    ensures { result ≡ little_bytes 4 value }
-{
-    [
-        (value % 256) as u8,
-        (value / 256 % 256) as u8,
-        (value / 65536 % 256) as u8,
-        (value / 16_777_216) as u8,
-    ]
+    memory.fill(at, &value.to_le_bytes());
 }
 
 // Writes the address of each string from an address on; the first string is at `first`.
