@@ -87,11 +87,8 @@ impl<S: Sink> Sink for Gathering<S> {
     ghost faults = { λ g. S.faults g.sink };
 
     fn write(&mut self, piece: &[u8]) -> Wrote {
-        if self.held.is_full() {
-            match self.pass_on() {
-                Ok(()) => {}
-                Err(WriteFailed) => return Wrote::Failed,
-            }
+        if self.held.is_full() && self.pass_on().is_err() {
+            return Wrote::Failed;
         }
         let count = piece.len().min(self.held.remaining_capacity());
         match self.held.try_extend_from_slice(&piece[..count]) {
