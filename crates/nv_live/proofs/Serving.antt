@@ -1,11 +1,9 @@
 -- How what is done outside goes on in a run of many clients: what is read, what is taken and what is said.
-use Rattle.std.proofs.Common.{◌≡◌, ℕ, List, [], ◌∷◌, ◌++◌, Option, append-nil, append_assoc, sym, ap, subst, ◌∙◌}
+use Rattle.std.proofs.Common.{◌≡◌, ℕ, List, [], ◌∷◌, ◌++◌, Option, append-nil, append_assoc, sym, ap, subst, ◌∙◌, IsOk}
 use Rattle.std.proofs.lemmas.List.Concat.{flat_map-append}
 use Rattle.nv_arrivals.specs.Arrivals.{Arrival}
 use Rattle.nv_arrivals.specs.Doings.{Doing, Takes, Says, Said, takings, sayings}
-use Rattle.nv_outside.specs.Sink.{Puts}
-use Rattle.nv_outside.specs.declared.sink.Put.TheVariants.{Whole}
-use Rattle.nv_outside.proofs.Writing.{puts-is, puts-none}
+use Rattle.nv_outside.proofs.Writing.{puts-is, puts-nothing}
 use Rattle.nv_live.specs.declared.coming_lines.ComingLines.{ComingLines}
 use Rattle.nv_live.specs.declared.writer.Writer.{Writer}
 use Rattle.nv_live.specs.declared.clients.Clients.{Clients}
@@ -26,12 +24,11 @@ module _ {I O T : Type 0} (took : I → Option (List (List ℕ))) (unread : I �
   still told faults old new same = λ first earlier so_far.
       puts-is (sym (append-nil earlier)) (subst (λ w. Written told faults first w earlier) (sym same) so_far)
 
-  none-written : {S : Type 0} (told : S → Option (List ℕ)) (faults : S → ℕ) (writer : Writer S) → writer.put ≡ Whole → Written told faults writer writer []
-  none-written told faults writer whole =
-      subst (λ put. Puts (told writer.sink) (faults writer.sink) [] put (told writer.sink) (faults writer.sink)) (sym whole) (puts-none (told writer.sink) (faults writer.sink))
+  none-written : {S : Type 0} (told : S → Option (List ℕ)) (faults : S → ℕ) (writer : Writer S) → IsOk writer.put → Written told faults writer writer []
+  none-written told faults writer whole = puts-nothing (told writer.sink) (faults writer.sink) whole
 
   -- at the beginning nothing was done
-  pub did-none : (clients : Clients I O T) → HasCome took unread clients.coming clients.coming [] → clients.out.writer.put ≡ Whole
+  pub did-none : (clients : Clients I O T) → HasCome took unread clients.coming clients.coming [] → IsOk clients.out.writer.put
       → DidLines took unread said unsaid noted unnoted clients clients []
   did-none clients come whole = record {
     taken = come;

@@ -1,10 +1,8 @@
 -- What a live run shows in the end of what was done.
-use Rattle.std.proofs.Common.{◌≡◌, ℕ, Bool, true, false, List, [], ◌∷◌, ◌++◌, Option, None, refl, sym, ap, subst, ◌∙◌}
+use Rattle.std.proofs.Common.{◌≡◌, ℕ, Bool, true, false, List, [], ◌∷◌, ◌++◌, Option, None, refl, sym, ap, subst, ◌∙◌, Ok, IsOk}
 use Rattle.nv_arrivals.specs.Doings.{Doing, takings, sayings}
 use Rattle.nv_arrivals.specs.Order.{Came, nothing_came}
-use Rattle.nv_outside.specs.Sink.{Puts}
-use Rattle.nv_outside.specs.declared.sink.Put.{Put}
-use Rattle.nv_outside.specs.declared.sink.Put.TheVariants.{Whole}
+use Rattle.nv_outside.specs.Sink.{Put, Puts}
 use Rattle.nv_live.specs.declared.incoming.Stopped.{Stopped}
 use Rattle.nv_live.specs.declared.run.LiveRun.{LiveRun}
 use Rattle.nv_live.specs.declared.run.LiveRun.TheVariants.{Plain, Clients}
@@ -26,7 +24,7 @@ pub record IsFresh (told : Told) : Type 0 where
   pub order : told.order ≡ nothing_came
   pub taken : told.taken ≡ 0
   pub going : told.stopped ≡ None
-  pub saying : told.saying ≡ Whole
+  pub saying : IsOk told.saying
 
 module _ {I O T : Type 0} (took : I → Option (List (List ℕ))) (unread : I → ℕ) (said : O → Option (List ℕ)) (unsaid : O → ℕ) (noted : T → Option (List ℕ)) (unnoted : T → ℕ) where
   -- nothing came before by lines
@@ -55,12 +53,12 @@ module _ {I O T : Type 0} (took : I → Option (List (List ℕ))) (unread : I �
   shown (Plain first) (Plain later) done d = record {
     came = (_, d.taken);
     written = d.written;
-    lines = λ sink head begun. d.lines (record { sink = sink; put = Whole }) head begun;
+    lines = λ sink head begun. d.lines (record { sink = sink; put = Ok tt }) head begun;
   }
   shown (Clients first) (Clients later) done d = record {
     came = (_, _, _, _, d.taken);
     written = d.written;
-    lines = λ sink head begun. d.lines (record { sink = sink; put = Whole }) head begun;
+    lines = λ sink head begun. d.lines (record { sink = sink; put = Ok tt }) head begun;
   }
   shown (Plain first) (Clients later) done d = absurd d
   shown (Clients first) (Plain later) done d = absurd d

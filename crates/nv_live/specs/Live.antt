@@ -5,8 +5,7 @@ use Rattle.std.specs.declared.alloc.AllocError.{AllocError}
 use Rattle.nv_arrivals.specs.declared.arrival.Arrival as code
 use Rattle.nv_arrivals.specs.Doings.{Doing, Takes, Said, Accepted, Sent, Closed, Printed, takings, sayings}
 use Rattle.nv_arrivals.specs.Views.{view}
-use Rattle.nv_outside.specs.declared.sink.Put.{Put}
-use Rattle.nv_outside.specs.declared.sink.Put.TheVariants.{Whole, Failed}
+use Rattle.nv_outside.specs.Sink.{Put}
 use Rattle.nv_live.specs.declared.incoming.Incoming.{Incoming}
 use Rattle.nv_live.specs.declared.incoming.Stopped.{Stopped}
 use Rattle.nv_live.specs.declared.incoming.Stopped.TheVariants.{Unwritten}
@@ -29,8 +28,8 @@ transcript_of live = live.transcript
 -- what stopped the source, or else a failed write of what is said
 abbrev pub stop_with : Option Stopped → Put → Option Stopped
 stop_with (Some stopped) put = Some stopped
-stop_with None Failed = Some Unwritten
-stop_with None Whole = None
+stop_with None (Err _) = Some Unwritten
+stop_with None (Ok _) = None
 
 -- why nothing more comes
 abbrev pub stop_in : {I O T : Type 0} → Live I O T → Option Stopped

@@ -1,11 +1,9 @@
 -- The outside of a live run, of either way, and what its streams show of what was done.
-use Rattle.std.specs.Prelude.{◌≡◌, ℕ, Bool, true, false, List, [], ◌++◌, Option, None, Some}
+use Rattle.std.specs.Prelude.{◌≡◌, ℕ, Bool, true, false, List, [], ◌++◌, Option, None, Some, IsOk}
 use Rattle.nv_arrivals.specs.Arrivals.{Arrival}
 use Rattle.nv_arrivals.specs.Doings.{Doing, Said, takings, sayings}
 use Rattle.nv_arrivals.specs.Order.{Came, nothing_came}
 use Rattle.nv_outside.specs.Sink.{Puts}
-use Rattle.nv_outside.specs.declared.sink.Put.{Put}
-use Rattle.nv_outside.specs.declared.sink.Put.TheVariants.{Whole}
 use Rattle.nv_live.specs.declared.incoming.Stopped.{Stopped}
 use Rattle.nv_live.specs.declared.run.LiveRun.{LiveRun}
 use Rattle.nv_live.specs.declared.run.LiveRun.TheVariants.{Plain, Clients}
@@ -109,5 +107,5 @@ module _ {I O T : Type 0} (took : I → Option (List (List ℕ))) (unread : I �
     pub going : told.stopped ≡ None
     pub said_is : told.said ≡ said streams.output
     pub unsaid_is : told.unsaid ≡ unsaid streams.output
-    pub saying : told.saying ≡ Whole
+    pub saying : IsOk told.saying
     pub noted_is : Puts (noted streams.transcript) (unnoted streams.transcript) head told.noting told.noted told.unnoted

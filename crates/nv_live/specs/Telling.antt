@@ -2,7 +2,7 @@
 use Rattle.std.specs.Prelude.{ℕ, Bool, List, Option}
 use Rattle.std.specs.Coded.{Coded, codes}
 use Rattle.nv_arrivals.specs.Order.{Came}
-use Rattle.nv_outside.specs.declared.sink.Put.{Put}
+use Rattle.nv_outside.specs.Sink.{Put}
 use Rattle.nv_live.specs.declared.incoming.Stopped.{Stopped}
 
 -- of one that tells nothing

@@ -1,7 +1,6 @@
 -- A sink, as what was written into it.
 use Rattle.std.specs.Prelude.{ℕ, List, ◌++◌, Option}
-use Rattle.nv_outside.specs.Sink.{Puts}
-use Rattle.nv_outside.specs.declared.sink.Put.{Put}
+use Rattle.nv_outside.specs.Sink.{Put, Puts}
 use Rattle.nv_live.specs.declared.writer.Writer.{Writer}
 
 abbrev pub sink_in : {S : Type 0} → Writer S → S

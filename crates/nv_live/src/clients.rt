@@ -1,5 +1,5 @@
 // The outside of a live run of many clients.
-ghost use Rattle.std.specs.Prelude.{◌≡◌, ◌-◌, ◌<◌, ◌^◌, [], Ok, None, IfOk, false, true, is_some};
+ghost use Rattle.std.specs.Prelude.{◌≡◌, ◌-◌, ◌<◌, ◌^◌, [], Ok, None, IfOk, IsOk, false, true, is_some};
 ghost use Rattle.nv_arrivals.specs.Arrivals.{is_arrival};
 ghost use Rattle.nv_arrivals.specs.Reading.{arrival_of};
 ghost use Rattle.nv_arrivals.specs.Views.{view, taking};
@@ -8,7 +8,6 @@ ghost use Rattle.nv_live.specs.ComingLines.{source_from, held_from, line_from, o
 ghost use Rattle.nv_live.specs.SaidLines.{writer_of};
 ghost use Rattle.nv_live.specs.Transcript.{writer_in};
 ghost use Rattle.nv_outside.specs.Sink.{Puts};
-ghost use Rattle.nv_outside.specs.declared.sink.Put.TheVariants.{Whole};
 ghost use Rattle.nv_arrivals.specs.Order.{nothing_came};
 ghost use Rattle.nv_live.specs.Writer.{sink_in, put_of};
 
@@ -17,7 +16,7 @@ use crate::said_lines::SaidLines;
 use crate::transcript::Transcript;
 use crate::{Source, Stopped};
 use nv_arrivals::{Arrival, Outside, Said};
-use nv_outside::{Put, Sink};
+use nv_outside::{Put, Sink, WriteFailed};
 use std::alloc::{AllocError, Global};
 
 /// Many clients by lines over one pipe each way: what comes, the transcript of what came, and what is said.
@@ -48,7 +47,7 @@ impl<I: Source, O: Sink + Drop, T: Sink + Drop> Clients<I, O, T> {
         ensures order { IfOk result (λ clients. order_from (coming_of clients) ≡ nothing_came) }
         ensures taken { IfOk result (λ clients. taken_from (coming_of clients) ≡ 0) }
         ensures going { IfOk result (λ clients. stop_from (coming_of clients) ≡ None) }
-        ensures whole { IfOk result (λ clients. put_of (writer_of (lines_out_of clients)) ≡ Whole) }
+        ensures whole { IfOk result (λ clients. IsOk (put_of (writer_of (lines_out_of clients)))) }
     {
         Ok(Clients {
             coming: ComingLines::make(alloc, source)?,
@@ -77,8 +76,8 @@ impl<I: Source, O: Sink + Drop, T: Sink + Drop> Clients<I, O, T> {
     {
         match (self.coming.stopped(), self.out.put()) {
             (Some(stopped), _) => Some(stopped),
-            (None, Put::Failed) => Some(Stopped::Unwritten),
-            (None, Put::Whole) => None,
+            (None, Err(WriteFailed)) => Some(Stopped::Unwritten),
+            (None, Ok(())) => None,
         }
     }
 

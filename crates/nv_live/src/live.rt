@@ -1,12 +1,11 @@
 // The outside of a live run.
-ghost use Rattle.std.specs.Prelude.{◌≡◌, ◌<◌, ◌∷◌, [], Ok, None, IfOk, length, true, is_some};
+ghost use Rattle.std.specs.Prelude.{◌≡◌, ◌<◌, ◌∷◌, [], Ok, None, IfOk, IsOk, length, true, is_some};
 ghost use Rattle.nv_arrivals.specs.Doings.{Says};
 ghost use Rattle.nv_arrivals.specs.Views.{said_view, taking};
 ghost use Rattle.nv_live.specs.Incoming.{source_in, held_of, stop_of};
 ghost use Rattle.nv_live.specs.Live.{incoming_of, out_of, transcript_of, stop_in, Did, DoesOn, took_first, plain_bytes};
 ghost use Rattle.nv_live.specs.Transcript.{writer_in};
 ghost use Rattle.nv_outside.specs.Sink.{Puts};
-ghost use Rattle.nv_outside.specs.declared.sink.Put.TheVariants.{Whole};
 ghost use Rattle.nv_live.specs.Writer.{sink_in, put_of};
 
 use crate::Source;
@@ -14,7 +13,7 @@ use crate::incoming::{Incoming, Stopped};
 use crate::transcript::Transcript;
 use crate::writer::Writer;
 use nv_arrivals::{Arrival, Outside, Said};
-use nv_outside::{Put, Sink};
+use nv_outside::{Put, Sink, WriteFailed};
 use std::alloc::{AllocError, Global};
 
 /// What comes, the transcript of what came, and what is said: of that the bytes for the console alone, since a plain run has no clients.
@@ -50,7 +49,7 @@ impl<I: Source, O: Sink + Drop, T: Sink + Drop> Live<I, O, T> {
         ensures head { IfOk result (λ live. Puts (T.told transcript) (T.faults transcript) head.now (put_of (writer_in (transcript_of live))) (T.told (sink_in (writer_in (transcript_of live)))) (T.faults (sink_in (writer_in (transcript_of live))))) }
         ensures held { IfOk result (λ live. held_of (incoming_of live) ≡ []) }
         ensures going { IfOk result (λ live. stop_of (incoming_of live) ≡ None) }
-        ensures whole { IfOk result (λ live. put_of (out_of live) ≡ Whole) }
+        ensures whole { IfOk result (λ live. IsOk (put_of (out_of live))) }
     {
         Ok(Live {
             incoming: Incoming::make(alloc, source)?,
@@ -79,8 +78,8 @@ impl<I: Source, O: Sink + Drop, T: Sink + Drop> Live<I, O, T> {
     {
         match (self.incoming.stopped(), self.out.put()) {
             (Some(stopped), _) => Some(stopped),
-            (None, Put::Failed) => Some(Stopped::Unwritten),
-            (None, Put::Whole) => None,
+            (None, Err(WriteFailed)) => Some(Stopped::Unwritten),
+            (None, Ok(())) => None,
         }
     }
 

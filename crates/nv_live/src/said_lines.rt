@@ -1,8 +1,7 @@
 // What is said, as lines.
-ghost use Rattle.std.specs.Prelude.{◌≡◌, ◌++◌, ◌+◌, ◌*◌, ◌≤◌, [], length};
+ghost use Rattle.std.specs.Prelude.{◌≡◌, ◌++◌, ◌+◌, ◌*◌, ◌≤◌, [], IsOk, length};
 ghost use Rattle.nv_text.specs.Numbers.{decimal_of, hex_of};
 ghost use Rattle.nv_arrivals.specs.Views.{said_view};
-ghost use Rattle.nv_outside.specs.declared.sink.Put.TheVariants.{Whole};
 ghost use Rattle.nv_live.specs.SaidLines.{writer_of, head_of, line_with, lines_with, said_lines};
 ghost use Rattle.nv_live.specs.Writer.{sink_in, put_of, WritesOn};
 
@@ -89,7 +88,7 @@ fn put_head(line: &mut Line, said: &Said<'_>)
 impl<O: Sink> SaidLines<O> {
     pub fn make(sink: O) -> SaidLines<O>
         ensures sink { sink_in (writer_of result) ≡ sink }
-        ensures put { put_of (writer_of result) ≡ Whole }
+        ensures put { IsOk (put_of (writer_of result)) }
     {
         SaidLines {
             writer: Writer::make(sink),

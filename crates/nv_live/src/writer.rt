@@ -1,6 +1,5 @@
 // A sink that is written up to its first failed write.
-ghost use Rattle.std.specs.Prelude.{◌≡◌};
-ghost use Rattle.nv_outside.specs.declared.sink.Put.TheVariants.{Whole};
+ghost use Rattle.std.specs.Prelude.{◌≡◌, IsOk};
 ghost use Rattle.nv_live.specs.Writer.{sink_in, put_of, WritesOn};
 
 use nv_outside::{Put, Sink, put_all};
@@ -15,12 +14,9 @@ pub struct Writer<S> {
 impl<S: Sink> Writer<S> {
     pub fn make(sink: S) -> Writer<S>
         ensures sink { sink_in result ≡ sink }
-        ensures put { put_of result ≡ Whole }
+        ensures put { IsOk (put_of result) }
     {
-        Writer {
-            sink,
-            put: Put::Whole,
-        }
+        Writer { sink, put: Ok(()) }
     }
 
     pub fn put(&self) -> Put
@@ -46,9 +42,8 @@ impl<S: Sink> Writer<S> {
     pub fn write(&mut self, text: &[u8])
         ensures { WritesOn S.told S.faults self.old self.new text.now }
     {
-        match self.put {
-            Put::Whole => self.put = put_all(&mut self.sink, text),
-            Put::Failed => {}
+        if self.put.is_ok() {
+            self.put = put_all(&mut self.sink, text);
         }
     }
 }

@@ -1,8 +1,8 @@
 // A sink that gathers what is written, so that many small pieces cost the sink below it few writes.
-ghost use Rattle.std.specs.Prelude.{◌≡◌, ◌≤◌, ◌<◌, [], drop, length};
+ghost use Rattle.std.specs.Prelude.{◌≡◌, ◌≤◌, ◌<◌, [], drop, length, OnOk, OnErr};
 ghost use Rattle.nv_outside.specs.Sink.{Puts};
 
-use crate::{Put, Sink, Wrote, put_all};
+use crate::{Put, Sink, WriteFailed, Wrote, put_all};
 use arrayvec::ArrayVec;
 
 const HELD: usize = 8192;
@@ -64,17 +64,17 @@ impl<S: Sink> Gathering<S> {
     // One write of what is held back, so that more can be held where it takes any.
     fn pass_on(&mut self) -> Put
         requires { length self.old.held.items ≡ HELD }
-        ensures below { result ≡ Put.Whole → length self.new.held.items < HELD }
-        ensures whole { result ≡ Put.Whole → Grows (with_held (S.told self.old.sink) self.old.held.items) [] (with_held (S.told self.new.sink) self.new.held.items) }
-        ensures failed { result ≡ Put.Failed → with_held (S.told self.new.sink) self.new.held.items ≡ with_held (S.told self.old.sink) self.old.held.items }
+        ensures below { OnOk result (length self.new.held.items < HELD) }
+        ensures whole { OnOk result (Grows (with_held (S.told self.old.sink) self.old.held.items) [] (with_held (S.told self.new.sink) self.new.held.items)) }
+        ensures failed { OnErr result (with_held (S.told self.new.sink) self.new.held.items ≡ with_held (S.told self.old.sink) self.old.held.items) }
         ensures faults { S.faults self.new.sink ≡ faults_by result (S.faults self.old.sink) }
     {
         match self.sink.write(&self.held) {
             Wrote::Count(count) => {
                 self.held = after(&self.held, count);
-                Put::Whole
+                Ok(())
             }
-            Wrote::Failed => Put::Failed,
+            Wrote::Failed => Err(WriteFailed),
         }
     }
 }
@@ -87,11 +87,8 @@ impl<S: Sink> Sink for Gathering<S> {
     ghost faults = { λ g. S.faults g.sink };
 
     fn write(&mut self, piece: &[u8]) -> Wrote {
-        if self.held.is_full() {
-            match self.pass_on() {
-                Put::Whole => {}
-                Put::Failed => return Wrote::Failed,
-            }
+        if self.held.is_full() && self.pass_on().is_err() {
+            return Wrote::Failed;
         }
         let count = piece.len().min(self.held.remaining_capacity());
         match self.held.try_extend_from_slice(&piece[..count]) {

@@ -1,7 +1,6 @@
 use Rattle.std.proofs.Common.{[], refl, sym, ◌∙◌, subst}
 use Rattle.nv_outside.specs.Sink.{Puts}
-use Rattle.nv_outside.specs.declared.sink.Put.TheVariants.{Whole}
-use Rattle.nv_outside.proofs.Writing.{puts-none}
+use Rattle.nv_outside.proofs.Writing.{puts-nothing}
 use Rattle.nv_live.specs.Writer.{Written}
 use Rattle.nv_live.proofs.transcript.Transcript.make.Goals as goal
 
@@ -10,7 +9,6 @@ returns g c =
     let told = g.T.Sink.told in
     let faults = g.T.Sink.faults in
     let made = c.make-writer.result in
-    let begun : Written told faults made made [] =
-    subst (λ put. Puts (told made.sink) (faults made.sink) [] put (told made.sink) (faults made.sink)) (sym c.make-writer.ensures.put) (puts-none (told made.sink) (faults made.sink)) in
+    let begun : Written told faults made made [] = puts-nothing (told made.sink) (faults made.sink) c.make-writer.ensures.put in
     subst (λ s. Puts (told s) (faults s) c.args.head.now c.write.new.self.put (told c.write.new.self.sink) (faults c.write.new.self.sink)) c.make-writer.ensures.sink
     (c.write.ensures made [] begun)

@@ -1,15 +1,9 @@
-use Rattle.std.proofs.Common.{sym, subst, ◌++◌}
-use Rattle.nv_outside.specs.Sink.{Puts}
-use Rattle.nv_outside.proofs.Writing.{puts-then, puts-failed}
+use Rattle.std.proofs.Common.{not, sym, ap, ◌∙◌}
+use Rattle.nv_live.proofs.Noting.{puts-after_whole, puts-after_failed}
 use Rattle.nv_live.proofs.writer.Writer.write.Goals as goal
 
-pub returns-in-Whole : goal.returns-in-Whole
-returns-in-Whole g c = λ first earlier so_far.
-    puts-then
-    (subst (λ put. Puts (g.S.Sink.told first.sink) (g.S.Sink.faults first.sink) earlier put (g.S.Sink.told c.args.self.now.sink) (g.S.Sink.faults c.args.self.now.sink)) c.in-Whole.is so_far)
-    c.put_all-self.ensures
+pub returns-then-is_ok : goal.returns-then-is_ok
+returns-then-is_ok g c = λ first earlier so_far. puts-after_whole (sym c.is_ok.ensures.value ∙ c.if-is_ok.true) so_far c.put_all-self.ensures
 
-pub returns-in-Failed : goal.returns-in-Failed
-returns-in-Failed g c = λ first earlier so_far.
-    let failed = λ (text : _) (put : _). Puts (g.S.Sink.told first.sink) (g.S.Sink.faults first.sink) text put (g.S.Sink.told c.args.self.now.sink) (g.S.Sink.faults c.args.self.now.sink) in
-    subst (λ put. failed (earlier ++ c.args.text.now) put) (sym c.in-Failed.is) (puts-failed c.args.text.now (subst (λ put. failed earlier put) c.in-Failed.is so_far))
+pub returns-else-is_ok : goal.returns-else-is_ok
+returns-else-is_ok g c = λ first earlier so_far. puts-after_failed c.args.text.now (c.is_ok.ensures.negation ∙ ap not c.if-is_ok.false) so_far
