@@ -3,7 +3,7 @@ use Rattle.std.proofs.Common.{◌≡◌, ℕ, suc, ◌-◌, ◌<◌, ◌≤◌, 
 use Rattle.std.specs.List.{onto_first}
 use Rattle.std.proofs.lemmas.Bool.Decides.{nat_tests}
 use Rattle.std.proofs.lemmas.List.{take_all, drop_all, nil_from_length}
-use Rattle.nv_live.specs.SaidLines.{parts_after, parts, line_with, lines_with}
+use Rattle.nv_live.specs.Lines.{parts_after, parts, line_with, lines_with}
 
 -- what is left of a part after its first byte
 rest-part : (most n : ℕ) (b : ℕ) (bs : List ℕ) (m : ℕ) → suc m ≡ n → (b ∷ take m bs) ∷ parts_after most most (drop m bs) ≡ take n (b ∷ bs) ∷ parts_after most most (drop n (b ∷ bs))

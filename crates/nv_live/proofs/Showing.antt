@@ -1,18 +1,15 @@
 -- What a live run shows in the end of what was done.
-use Rattle.std.proofs.Common.{◌≡◌, ℕ, Bool, true, false, List, [], ◌∷◌, ◌++◌, Option, None, refl, sym, ap, subst, ◌∙◌, Ok, IsOk}
+use Rattle.std.proofs.Common.{◌≡◌, ℕ, List, [], ◌++◌, Option, None, refl, sym, subst, Ok, IsOk}
 use Rattle.nv_arrivals.specs.Doings.{Doing, takings, sayings}
 use Rattle.nv_arrivals.specs.Order.{Came, nothing_came}
-use Rattle.nv_outside.specs.Sink.{Put, Puts}
+use Rattle.nv_outside.specs.Sink.{Puts}
 use Rattle.nv_live.specs.declared.incoming.Stopped.{Stopped}
 use Rattle.nv_live.specs.declared.run.LiveRun.{LiveRun}
 use Rattle.nv_live.specs.declared.run.LiveRun.TheVariants.{Plain, Clients}
-use Rattle.nv_live.specs.declared.streams.Streams.{Streams}
-use Rattle.nv_live.specs.declared.writer.Writer.{Writer}
 use Rattle.nv_live.specs.ComingLines.{Come, held_from}
-use Rattle.nv_live.specs.Run.{CameBy, said_text, DidRun, told_run, IsBegun, input_of, output_of, notes_of, source_stop}
+use Rattle.nv_live.specs.Run.{CameBy, said_text, DidRun, told_run, input_of, output_of, notes_of, line_of, held_by, source_stop}
 use Rattle.nv_live.specs.Telling.{Told}
 use Rattle.nv_live.specs.Transcript.{lines_of}
-use Rattle.nv_live.specs.Writer.{Written, WritesOn}
 use Rattle.nv_live.proofs.Coming.{come-start}
 use Rattle.nv_live.proofs.Doing.{did-none}
 use Rattle.nv_live.proofs.Serving.{did-none as lines-none}
@@ -44,19 +41,19 @@ module _ {I O T : Type 0} (took : I → Option (List (List ℕ))) (unread : I �
 
   -- what the streams show of what was done since a run that told this
   pub record Shown (told : Told) (later : LiveRun I O T) (done : List Doing) : Type 0 where
-    pub came : CameBy told.clients told.read (took (input_of later)) told.unread (unread (input_of later)) (source_stop later) (takings done)
+    pub came : CameBy told.clients told.read (took (input_of later)) told.unread (unread (input_of later)) (source_stop later) (line_of later) (held_by later) (takings done)
     pub written : Puts told.said told.unsaid (said_text told.clients (sayings done)) (output_of later).put (said (output_of later).sink) (unsaid (output_of later).sink)
     pub lines : (sink : T) (head : List ℕ) → Puts (noted sink) (unnoted sink) head told.noting told.noted told.unnoted
         → Puts (noted sink) (unnoted sink) (head ++ lines_of (takings done)) (notes_of later).put (noted (notes_of later).sink) (unnoted (notes_of later).sink)
 
   pub shown : (first later : LiveRun I O T) (done : List Doing) → DidRun took unread said unsaid noted unnoted first later done → Shown (told_run took unread said unsaid noted unnoted first) later done
   shown (Plain first) (Plain later) done d = record {
-    came = (_, d.taken);
+    came = (refl, d.taken);
     written = d.written;
     lines = λ sink head begun. d.lines (record { sink = sink; put = Ok tt }) head begun;
   }
   shown (Clients first) (Clients later) done d = record {
-    came = (_, _, _, _, d.taken);
+    came = (_, _, d.taken);
     written = d.written;
     lines = λ sink head begun. d.lines (record { sink = sink; put = Ok tt }) head begun;
   }

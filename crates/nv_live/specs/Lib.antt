@@ -7,6 +7,7 @@ pub mod Writer
 pub mod SaidLines
 pub mod ComingLines
 pub mod Transcript
+pub mod Lines
 pub mod Live
 pub mod Clients
 pub mod Telling

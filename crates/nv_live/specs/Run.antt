@@ -1,7 +1,7 @@
 -- The outside of a live run, of either way, and what its streams show of what was done.
-use Rattle.std.specs.Prelude.{◌≡◌, ℕ, Bool, true, false, List, [], ◌++◌, Option, None, Some, IsOk}
+use Rattle.std.specs.Prelude.{◌≡◌, ℕ, Bool, true, false, List, [], Option, None, IsOk}
 use Rattle.nv_arrivals.specs.Arrivals.{Arrival}
-use Rattle.nv_arrivals.specs.Doings.{Doing, Said, takings, sayings}
+use Rattle.nv_arrivals.specs.Doings.{Doing, Said}
 use Rattle.nv_arrivals.specs.Order.{Came, nothing_came}
 use Rattle.nv_outside.specs.Sink.{Puts}
 use Rattle.nv_live.specs.declared.incoming.Stopped.{Stopped}
@@ -15,8 +15,6 @@ use Rattle.nv_live.specs.Incoming.{held_of}
 use Rattle.nv_live.specs.Live.{plain_text, stop_in, Did}
 use Rattle.nv_live.specs.Taking.{Took}
 use Rattle.nv_live.specs.Telling.{Told}
-use Rattle.nv_live.specs.Transcript.{lines_of}
-use Rattle.nv_live.specs.Writer.{sink_in, put_of}
 
 -- ---- its parts
 
@@ -32,6 +30,15 @@ abbrev pub notes_of : {I O T : Type 0} → LiveRun I O T → Writer T
 notes_of (Plain run) = run.transcript.writer
 notes_of (Clients run) = run.transcript.writer
 
+-- what was read and not yet taken: of clients the bytes of a line that has begun, and what is behind them
+abbrev pub line_of : {I O T : Type 0} → LiveRun I O T → List ℕ
+line_of (Plain run) = []
+line_of (Clients run) = run.coming.line.items
+
+abbrev pub held_by : {I O T : Type 0} → LiveRun I O T → List ℕ
+held_by (Plain run) = held_of run.incoming
+held_by (Clients run) = held_from run.coming
+
 -- why no more is read
 abbrev pub source_stop : {I O T : Type 0} → LiveRun I O T → Option Stopped
 source_stop (Plain run) = run.incoming.stopped
@@ -44,10 +51,10 @@ stop_of_run (Clients run) = stop_among run
 
 -- ---- what the streams show
 
--- these arrivals came by reads: as plain input, or by lines of clients
-abbrev pub CameBy : Bool → Option (List (List ℕ)) → Option (List (List ℕ)) → ℕ → ℕ → Option Stopped → List Arrival → Type 0
-CameBy false before after unread later stopped arrivals = (held : List ℕ) × Took before after unread later stopped held arrivals
-CameBy true before after unread later stopped arrivals = (line : List ℕ) × (held : List ℕ) × (came : Came) × (taken : ℕ) × Come before after unread later stopped line held came taken arrivals
+-- these arrivals came by reads, which gave nothing more but this: as plain input, or by lines of clients, of which one may have begun
+abbrev pub CameBy : Bool → Option (List (List ℕ)) → Option (List (List ℕ)) → ℕ → ℕ → Option Stopped → List ℕ → List ℕ → List Arrival → Type 0
+CameBy false before after unread later stopped line held arrivals = (line ≡ []) × Took before after unread later stopped held arrivals
+CameBy true before after unread later stopped line held arrivals = (came : Came) × (taken : ℕ) × Come before after unread later stopped line held came taken arrivals
 
 -- what is said: the console's bytes, or lines for the clients
 abbrev pub said_text : Bool → List Said → List ℕ

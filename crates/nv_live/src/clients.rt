@@ -5,11 +5,12 @@ ghost use Rattle.nv_arrivals.specs.Reading.{arrival_of};
 ghost use Rattle.nv_arrivals.specs.Views.{view, taking};
 ghost use Rattle.nv_live.specs.Clients.{coming_of, lines_out_of, transcript_from, stop_among, DidLines, DoesLines};
 ghost use Rattle.nv_live.specs.ComingLines.{source_from, held_from, line_from, order_from, taken_from, stop_from, is_passed, IsWhole};
+ghost use Rattle.nv_live.specs.Lines.{held_text};
 ghost use Rattle.nv_live.specs.SaidLines.{writer_of};
 ghost use Rattle.nv_live.specs.Transcript.{writer_in};
 ghost use Rattle.nv_outside.specs.Sink.{Puts};
 ghost use Rattle.nv_arrivals.specs.Order.{nothing_came};
-ghost use Rattle.nv_live.specs.Writer.{sink_in, put_of};
+ghost use Rattle.nv_live.specs.Writer.{sink_in, put_of, WritesOn};
 
 use crate::coming_lines::ComingLines;
 use crate::said_lines::SaidLines;
@@ -93,6 +94,16 @@ impl<I: Source, O: Sink + Drop, T: Sink + Drop> Clients<I, O, T> {
         ensures { result ≡ put_of (writer_in (transcript_from self.now)) }
     {
         self.transcript.told()
+    }
+
+    /// What is held is shown in the transcript, as comments.
+    pub fn show_held(&mut self)
+        ensures coming { coming_of self.new ≡ coming_of self.old }
+        ensures out { lines_out_of self.new ≡ lines_out_of self.old }
+        ensures shown { WritesOn T.told T.faults (writer_in (transcript_from self.old)) (writer_in (transcript_from self.new)) (held_text (line_from (coming_of self.old)) (held_from (coming_of self.old))) }
+    {
+        self.transcript
+            .show_held(self.coming.line(), self.coming.held());
     }
 
     // Takes the arrival of the line that was found, or refuses it.

@@ -100,6 +100,20 @@ impl<I: Source> ComingLines<I> {
         source
     }
 
+    /// The bytes of a line that has begun.
+    pub fn line(&self) -> &[u8]
+        ensures { result.now ≡ line_from self.now }
+    {
+        &self.line
+    }
+
+    /// What was read behind that line, and not yet taken.
+    pub fn held(&self) -> &[u8]
+        ensures { result.now ≡ held_from self.now }
+    {
+        self.buffer.held()
+    }
+
     // Whether something is held, which is read where nothing was.
     fn has_more(&mut self) -> bool
         ensures come { ComesOn I.took I.faults self.old self.new (λ arrivals. arrivals) }

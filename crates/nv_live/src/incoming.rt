@@ -72,6 +72,13 @@ impl<I: Source> Incoming<I> {
         source
     }
 
+    /// What was read and not yet taken.
+    pub fn held(&self) -> &[u8]
+        ensures { result.now ≡ held_of self.now }
+    {
+        self.buffer.held()
+    }
+
     // Reads once. Nothing more comes where that gives nothing.
     fn read_more(&mut self)
         requires going { stop_of self.old ≡ None }

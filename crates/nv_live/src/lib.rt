@@ -12,6 +12,7 @@ mod buffer;
 mod clients;
 mod coming_lines;
 mod incoming;
+mod lines;
 mod live;
 mod memory_source;
 mod run;

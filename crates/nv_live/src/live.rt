@@ -3,10 +3,11 @@ ghost use Rattle.std.specs.Prelude.{◌≡◌, ◌<◌, ◌∷◌, [], Ok, None,
 ghost use Rattle.nv_arrivals.specs.Doings.{Says};
 ghost use Rattle.nv_arrivals.specs.Views.{said_view, taking};
 ghost use Rattle.nv_live.specs.Incoming.{source_in, held_of, stop_of};
+ghost use Rattle.nv_live.specs.Lines.{held_text};
 ghost use Rattle.nv_live.specs.Live.{incoming_of, out_of, transcript_of, stop_in, Did, DoesOn, took_first, plain_bytes};
 ghost use Rattle.nv_live.specs.Transcript.{writer_in};
 ghost use Rattle.nv_outside.specs.Sink.{Puts};
-ghost use Rattle.nv_live.specs.Writer.{sink_in, put_of};
+ghost use Rattle.nv_live.specs.Writer.{sink_in, put_of, WritesOn};
 
 use crate::Source;
 use crate::incoming::{Incoming, Stopped};
@@ -109,6 +110,15 @@ impl<I: Source, O: Sink + Drop, T: Sink + Drop> Live<I, O, T> {
         ensures { result ≡ put_of (writer_in (transcript_of self.now)) }
     {
         self.transcript.told()
+    }
+
+    /// What is held is shown in the transcript, as comments.
+    pub fn show_held(&mut self)
+        ensures incoming { incoming_of self.new ≡ incoming_of self.old }
+        ensures out { out_of self.new ≡ out_of self.old }
+        ensures shown { WritesOn T.told T.faults (writer_in (transcript_of self.old)) (writer_in (transcript_of self.new)) (held_text [] (held_of (incoming_of self.old))) }
+    {
+        self.transcript.show_held(&[], self.incoming.held());
     }
 
     // Takes the first of what is held.

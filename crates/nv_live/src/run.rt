@@ -1,8 +1,9 @@
 // The outside of a live run, of either way.
 ghost use Rattle.std.specs.Prelude.{◌≡◌, IfOk, Ok, None};
 ghost use Rattle.nv_outside.specs.Sink.{Puts};
-ghost use Rattle.nv_live.specs.Run.{input_of, output_of, notes_of, source_stop, stop_of_run, told_run, DidRun, IsBegun};
-ghost use Rattle.nv_live.specs.Writer.{sink_in, put_of};
+ghost use Rattle.nv_live.specs.Lines.{held_text};
+ghost use Rattle.nv_live.specs.Run.{input_of, output_of, notes_of, line_of, held_by, source_stop, stop_of_run, told_run, DidRun, IsBegun};
+ghost use Rattle.nv_live.specs.Writer.{sink_in, put_of, WritesOn};
 
 use crate::clients::Clients;
 use crate::incoming::Stopped;
@@ -70,6 +71,19 @@ impl<I: Source, O: Sink + Drop, T: Sink + Drop> LiveRun<I, O, T> {
         match self {
             LiveRun::Plain(run) => run.told(),
             LiveRun::Clients(run) => run.told(),
+        }
+    }
+
+    /// What was read and taken by no call is shown in the transcript, as comments.
+    pub fn show_held(&mut self)
+        ensures input { input_of self.new ≡ input_of self.old }
+        ensures output { output_of self.new ≡ output_of self.old }
+        ensures stopped { source_stop self.new ≡ source_stop self.old }
+        ensures shown { WritesOn T.told T.faults (notes_of self.old) (notes_of self.new) (held_text (line_of self.old) (held_by self.old)) }
+    {
+        match self {
+            LiveRun::Plain(run) => run.show_held(),
+            LiveRun::Clients(run) => run.show_held(),
         }
     }
 

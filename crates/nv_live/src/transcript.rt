@@ -2,13 +2,18 @@
 ghost use Rattle.std.specs.Prelude.{◌≡◌, OnOk, OnErr, ◌∷◌, []};
 ghost use Rattle.nv_arrivals.specs.Views.{view};
 ghost use Rattle.nv_outside.specs.Sink.{Puts};
+ghost use Rattle.nv_live.specs.Lines.{held_text};
 ghost use Rattle.nv_live.specs.Transcript.{lines_of, writer_in, text_in};
 ghost use Rattle.nv_live.specs.Writer.{sink_in, put_of, WritesOn};
 
+use crate::lines::{Line, write_lines};
 use crate::writer::Writer;
 use nv_arrivals::{Arrival, put_line};
 use nv_outside::{Put, Sink};
 use std::alloc::{AllocError, Global};
+
+// What a comment of bytes that no call took begins with.
+const NOT_TAKEN: &[u8] = b"# not taken: ";
 
 /// Lines of what came, written into a sink.
 #[derive(Drop)]
@@ -75,5 +80,13 @@ impl<T: Sink> Transcript<T> {
         self.set(arrival)?;
         self.write();
         Ok(())
+    }
+    /// Writes, as comments, the bytes of a line that has begun and those behind it.
+    pub fn show_held(&mut self, line: &[u8], held: &[u8])
+        ensures { WritesOn T.told T.faults (writer_in self.old) (writer_in self.new) (held_text line.now held.now) }
+    {
+        let mut comment = Line::new();
+        write_lines(&mut self.writer, &mut comment, NOT_TAKEN, line);
+        write_lines(&mut self.writer, &mut comment, NOT_TAKEN, held);
     }
 }

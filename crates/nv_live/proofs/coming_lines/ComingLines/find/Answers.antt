@@ -1,4 +1,4 @@
-use Rattle.std.proofs.Common.{◌≡◌, Ok, Bool, true, false, is_some, refl, sym, subst, rules}
+use Rattle.std.proofs.Common.{◌≡◌, Ok, Bool, true, is_some, refl, sym, subst, rules}
 use Rattle.nv_live.specs.Buffer.{held_in}
 use Rattle.nv_live.specs.ComingLines.{Come}
 use Rattle.nv_live.proofs.Coming.{come-passed}

@@ -1,4 +1,4 @@
-use Rattle.std.proofs.Common.{◌≡◌, ◌-◌, Option, Some, true, is_some, length}
+use Rattle.std.proofs.Common.{◌≡◌, ◌-◌, true, is_some, length}
 use Rattle.nv_live.specs.ComingLines.{ComesOn}
 use Rattle.nv_live.proofs.coming_lines.ComingLines.has_line.Given as goal
 

@@ -1,6 +1,4 @@
-use Rattle.std.proofs.Common.{refl, sym, ap, ◌∙◌, subst}
-use Rattle.nv_outside.specs.Sink.{Puts}
-use Rattle.nv_live.specs.Run.{IsBegun}
+use Rattle.std.proofs.Common.{refl, sym, ap}
 use Rattle.nv_live.proofs.run.LiveRun.begin.Goals as goal
 
 pub returns-then-clients : goal.returns-then-clients

@@ -1,4 +1,4 @@
-use Rattle.std.proofs.Common.{[], refl, sym, ◌∙◌, subst}
+use Rattle.std.proofs.Common.{[], subst}
 use Rattle.nv_outside.specs.Sink.{Puts}
 use Rattle.nv_outside.proofs.Writing.{puts-nothing}
 use Rattle.nv_live.specs.Writer.{Written}

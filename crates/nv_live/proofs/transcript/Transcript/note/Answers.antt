@@ -1,6 +1,4 @@
 use Rattle.std.proofs.Common.{subst}
-use Rattle.nv_arrivals.specs.Views.{view}
-use Rattle.nv_live.specs.Transcript.{lines_of}
 use Rattle.nv_live.specs.Writer.{WritesOn}
 use Rattle.nv_live.proofs.Noting.{writes-is}
 use Rattle.nv_live.proofs.transcript.Transcript.note.Goals as goal

@@ -1,4 +1,4 @@
-use Rattle.std.proofs.Common.{◌≡◌, ◌++◌, ◌∙◌, ap, codes}
+use Rattle.std.proofs.Common.{◌++◌, ◌∙◌, ap, codes}
 use Rattle.nv_arrivals.specs.Views.{view}
 use Rattle.nv_arrivals.specs.Writing.{line_text}
 use Rattle.nv_live.proofs.Noting.{one_line}

@@ -1,6 +1,6 @@
 use Rattle.std.proofs.Common.{◌≡◌, ◌+◌, ◌*◌, ◌++◌, length, take}
 use Rattle.nv_text.specs.Numbers.{hex_of}
-use Rattle.nv_live.proofs.said_lines.put_hex.Given as goal
+use Rattle.nv_live.proofs.lines.put_hex.Given as goal
 
 -- the bytes so far are added
 abbrev pub invariant-loop-byte : goal.invariant-loop-byte
