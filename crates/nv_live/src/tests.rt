@@ -78,6 +78,19 @@ fn bytes_for_the_console_are_written_in_order(rt: HostRuntime) -> Result<(), Fai
 }
 
 #[test]
+fn bytes_that_were_not_taken_are_shown(rt: HostRuntime) -> Result<(), Fail> {
+    let mut live = greeted(rt.alloc(), whole(rt.alloc())?, whole(rt.alloc())?)?;
+    let first = live.next(rt.alloc())?;
+    assert!(rt; is_input(&first, b"hello\n"));
+    live.show_held();
+    assert_eq!(rt;
+        live.transcript().written(),
+        b"line hello\n# not taken: 776f72\n".as_slice()
+    );
+    Ok(())
+}
+
+#[test]
 fn failed_write_of_what_is_said_ends_what_comes(rt: HostRuntime) -> Result<(), Fail> {
     let mut live = greeted(rt.alloc(), failing(rt.alloc())?, whole(rt.alloc())?)?;
     let first = live.next(rt.alloc())?;
@@ -221,6 +234,30 @@ fn clients_come_and_are_answered_by_lines(rt: HostRuntime) -> Result<(), Fail> {
     assert_eq!(rt;
         transcript.written(),
         b"connect 8080\ndata 0 6869\nend 0\nend clients\n".as_slice()
+    );
+    Ok(())
+}
+
+#[test]
+fn lines_that_were_not_taken_are_shown(rt: HostRuntime) -> Result<(), Fail> {
+    let source = visits(rt.alloc(), b"connect 80\nhel", b"lo\nconnect 80\n")?;
+    let mut clients = Clients::make(
+        rt.alloc(),
+        source,
+        whole(rt.alloc())?,
+        whole(rt.alloc())?,
+        b"",
+    )?;
+    let first = clients.next(rt.alloc())?;
+    assert!(rt; matches!(first, Some(Arrival::Connect(80))));
+    let none = clients.next(rt.alloc())?;
+    assert!(rt; none.is_none());
+    assert!(rt; clients.stopped() == Some(Stopped::Refused(2, ArrivalCause::Word)));
+    clients.show_held();
+    let (_, _, transcript) = clients.finish();
+    assert_eq!(rt;
+        transcript.written(),
+        b"connect 80\n# not taken: 68656c6c6f\n# not taken: 0a636f6e6e6563742038300a\n".as_slice()
     );
     Ok(())
 }
