@@ -1,13 +1,11 @@
 -- What stands on a sink once what was held back from it is written.
-use Rattle.std.proofs.Common.{◌≡◌, ◌∙◌, ap, sym, subst, refl, ℕ, List, [], ◌++◌, append-nil, append_assoc, Option, None, Some, Ok, Err, Vec, String, arith}
+use Rattle.std.proofs.Common.{◌≡◌, ◌∙◌, ap, sym, subst, refl, ℕ, List, [], ◌++◌, append-nil, append_assoc, Option, None, Some, Ok, Err, Vec, String, arith, IsOk, IsErr}
 use Rattle.std.specs.Prelude.{IfOk}
 use Rattle.std.specs.Global.{Global}
 use Rattle.nv_outside.specs.Counts.{Rose}
 use Rattle.nv_outside.specs.Told.{Grows}
-use Rattle.nv_outside.specs.Sink.{faults_by}
+use Rattle.nv_outside.specs.Sink.{Put, faults_by}
 use Rattle.nv_outside.specs.Gathering.{with_held}
-use Rattle.nv_outside.specs.declared.sink.Put.{Put}
-use Rattle.nv_outside.specs.declared.sink.Put.TheVariants.{Whole, Failed}
 use Rattle.nv_command.specs.Words.{texts}
 use Rattle.nv_command.specs.declared.asked.LineFault.{LineFault}
 use Rattle.nv_command.specs.declared.asked.LineFault.TheVariants as line
@@ -64,18 +62,18 @@ begins_after (Some a) (Some c) (Some d) text held written rest first is last = (
 
 module _ {text : List ℕ} {text_status : ℕ} {a c d : Option (List ℕ)} {held : List ℕ} {f g h status last_status : ℕ} (never : text_status ≡ 6 → ⊥)
     (given_up : status ≡ 6 → (d ≡ c) × (h ≡ g) × (last_status ≡ 6)) (put_held : (status ≡ 6 → ⊥) → Says held status c g last_status d h) where
-  finished_by : (put : Put) → status ≡ ended_with put text_status → g ≡ faults_by put f → (put ≡ Whole → Grows (with_held a []) text (with_held c held))
-      → (put ≡ Failed → Begins (with_held a []) text (with_held c held)) → EndsWith text text_status a f last_status d h
-  finished_by Failed ends counted whole begun =
+  finished_by : (put : Put) → status ≡ ended_with put text_status → g ≡ faults_by put f → (IsOk put → Grows (with_held a []) text (with_held c held))
+      → (IsErr put → Begins (with_held a []) text (with_held c held)) → EndsWith text text_status a f last_status d h
+  finished_by (Err failure) ends counted whole begun =
       let up = given_up ends in
       record {
-        put = Failed;
+        put = Err failure;
         ends = up.2;
         counted = up.1 ∙ counted;
         whole = λ e. cc;
         begun = λ e. subst (λ (t : Option (List ℕ)). Begins a text t) (sym up.0) (begins_before a c text held (begun refl));
       }
-  finished_by Whole ends counted whole begun =
+  finished_by (Ok _) ends counted whole begun =
       let last = put_held (λ six. never (sym ends ∙ six)) in
       record {
         put = last.put;
@@ -135,10 +133,12 @@ fault_answers {words = words} fault {source = source} streams {a = a} {c = c} {f
     })
 
 -- where it failed the count of faults rose
-ends_rose : {text : List ℕ} {text_status : ℕ} {a c : Option (List ℕ)} {f status g : ℕ} (e : EndsWith text text_status a f status c g) → e.put ≡ Failed → Rose f g
-ends_rose {f = f} {g = g} e failed =
-    let once : g ≡ faults_by Failed f = e.counted ∙ ap (λ (q : Put). faults_by q f) failed in
-    omega (arith, once)
+counted_rose : (put : Put) (f g : ℕ) → g ≡ faults_by put f → IsErr put → Rose f g
+counted_rose (Ok _) f g counted failed = cc
+counted_rose (Err _) f g counted failed = omega (arith, counted)
+
+ends_rose : {text : List ℕ} {text_status : ℕ} {a c : Option (List ℕ)} {f status g : ℕ} (e : EndsWith text text_status a f status c g) → IsErr e.put → Rose f g
+ends_rose {f = f} {g = g} e failed = counted_rose e.put f g e.counted failed
 
 pub program_completes : (words : Given) (source : Source) (streams : Streams) (left : Option (Streams × Ending)) (a c : Option (List ℕ)) (f status g : ℕ) → ProgramAnswers words source streams a f status c g left
     → IfOk words (λ given. Completes (texts given.items) source f status g)

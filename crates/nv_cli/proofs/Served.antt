@@ -27,7 +27,6 @@ use Rattle.nv_live.specs.declared.streams.Streams.{Streams as Held}
 use Rattle.nv_live.proofs.Showing.{IsFresh, begun-none, shown}
 use Rattle.nv_machine.specs.Guest.{Machine}
 use Rattle.nv_outside.specs.Sink.{Puts}
-use Rattle.nv_outside.specs.declared.sink.Put.TheVariants.{Whole}
 use Rattle.nv_outside.proofs.Writing.{puts-none}
 use Rattle.nv_replay.specs.Follow.{judge_of}
 use Rattle.nv_replay.specs.Version.{Running, process_of, standing_of}
@@ -157,7 +156,7 @@ module _ {I O T : Type 0} (took : I → Option (List (List ℕ))) (unread : I �
         is_run = run_of limits (with_arrivals setup k.came) rules machines hands versions account.versions.items k.log (record { same = planned.same; few = planned.few })
             (subst (λ start. IsAccount threads (judge_of rules) start limits.calls hands versions account.versions.items k.log) (ap (λ s. start_of_arrivals s k.came) set ∙ begun_alike setup k.came) ran.is_account)
             are;
-        says = record { put = Whole; ends = ends; written = puts-none sink faults };
+        says = record { put = Ok tt; ends = ends; written = puts-none sink faults };
         later = streams_of took unread said unsaid noted unnoted after;
         ending = ending;
         left_is = refl;

@@ -38,7 +38,7 @@ use Rattle.nv_text.specs.Numbers.{number_of, decimal_of, paired, unhexed, hex_pa
 use Rattle.nv_bytes.specs.Fields.{field_at}
 use Rattle.nv_outside.specs.Counts.{raised, Rose}
 use Rattle.nv_outside.specs.Files.{GotTold, KeepsFaults}
-use Rattle.nv_outside.specs.Sink.{Writes, faults_by_write, faults_by, Puts}
+use Rattle.nv_outside.specs.Sink.{Writes, faults_by_write, Put, faults_by, Puts}
 use Rattle.nv_outside.specs.Told.{Told, MayFail, Grows}
 use Rattle.nv_isa.specs.Spelling.{low_bits, spelled, encoded}
 use Rattle.nv_isa.specs.Table.{Encoding, with_op, encoding, encodings, belongs, row_of, bits, signed_value, rd_of, rs1_of, rs2_of, immediate, rd_in, rs1_in, rs2_in, insn_of, decoded}

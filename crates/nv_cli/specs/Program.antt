@@ -1,10 +1,8 @@
 -- What the program says, over the words of the process or over why there are none.
-use Rattle.std.specs.Prelude.{◌≡◌, ◌++◌, ℕ, List, Option, None, Some, Result, Ok, Err, Vec, String}
+use Rattle.std.specs.Prelude.{◌≡◌, ◌++◌, ℕ, List, Option, None, Some, Result, Ok, Err, Vec, String, IsOk, IsErr}
 use Rattle.std.specs.Global.{Global}
 use Rattle.nv_outside.specs.Told.{Told, Grows}
-use Rattle.nv_outside.specs.Sink.{faults_by}
-use Rattle.nv_outside.specs.declared.sink.Put.{Put}
-use Rattle.nv_outside.specs.declared.sink.Put.TheVariants.{Whole, Failed}
+use Rattle.nv_outside.specs.Sink.{Put, faults_by}
 use Rattle.nv_command.specs.Words.{texts, command_of}
 use Rattle.nv_command.specs.declared.asked.LineFault.{LineFault}
 use Rattle.nv_jobs.specs.Due.{IsDue, IsUntouched, Over, Shows}
@@ -39,8 +37,8 @@ pub record EndsWith (text : List ℕ) (text_status : ℕ) (before : Option (List
   pub put : Put
   pub ends : status ≡ ended_with put text_status
   pub counted : later_faults ≡ faults_by put faults
-  pub whole : put ≡ Whole → Grows before text after
-  pub begun : put ≡ Failed → Begins before text after
+  pub whole : IsOk put → Grows before text after
+  pub begun : IsErr put → Begins before text after
 
 -- what was done over the streams of a live run; without words they stay as they are
 abbrev pub OverOf : Given → Outcome → Streams → Option (Streams × Ending) → Type 0

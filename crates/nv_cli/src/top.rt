@@ -67,10 +67,8 @@ fn put_whole<S: Sink>(account: &Account<ScriptedKernel>, sink: &mut S) -> Put
         ++ connections_text (connections_of (start_from account.now.kernel.setup) account.now.kernel.log))
         result (S.told sink.new) (S.faults sink.new) }
 {
-    match nv_report::write(sink, account) {
-        Put::Whole => write_connections(sink, account.kernel.connections()),
-        Put::Failed => Put::Failed,
-    }
+    nv_report::write(sink, account)?;
+    write_connections(sink, account.kernel.connections())
 }
 
 // Writes the report and the connections, and ends with the status of the run.

@@ -1,7 +1,7 @@
 -- How texts by number are written one after another.
-use Rattle.std.proofs.Common.{◌≡◌, ℕ, zero, suc, ◌+◌, ◌-◌, ◌<◌, List, [], ◌++◌, Option, refl, sym, ap, ◌∙◌, arith, append_assoc, append-nil}
-use Rattle.nv_outside.specs.Sink.{Puts}
-use Rattle.nv_outside.specs.declared.sink.Put.TheVariants.{Whole, Failed}
+use Rattle.std.proofs.Common.{◌≡◌, ℕ, zero, suc, ◌+◌, ◌-◌, ◌<◌, List, [], ◌++◌, Option, refl, sym, ap, ◌∙◌, arith, append_assoc, append-nil, Ok, Err, IsErr}
+use Rattle.nv_outside.specs.Sink.{Put, Puts}
+use Rattle.nv_outside.specs.declared.sink.WriteFailed.{WriteFailed}
 use Rattle.nv_outside.proofs.Writing.{puts-is, puts-then, puts-failed}
 use Rattle.nv_inspect.specs.Firsts.{texts_below}
 
@@ -23,14 +23,14 @@ further text n (suc k) =
     (more.0 ++ text (k + n), ap (texts_below text) e ∙ ap (λ t. t ++ text (k + n)) more.1 ∙ append_assoc (texts_below text n) more.0 (text (k + n)))
 
 module _ (text : ℕ → List ℕ) where
-  pub puts-next : {a b c : Option (List ℕ)} {f g h : ℕ} (n : ℕ) → Puts a f (texts_below text n) Whole b g → Puts b g (text n) Whole c h → Puts a f (texts_below text (n + 1)) Whole c h
+  pub puts-next : {a b c : Option (List ℕ)} {f g h : ℕ} (n : ℕ) → Puts a f (texts_below text n) (Ok tt) b g → Puts b g (text n) (Ok tt) c h → Puts a f (texts_below text (n + 1)) (Ok tt) c h
   puts-next n p q = puts-is (firsts-one text n) (puts-then p q)
 
-  pub puts-short : {a b c : Option (List ℕ)} {f g h : ℕ} (n m : ℕ) → n < m → Puts a f (texts_below text n) Whole b g → Puts b g (text n) Failed c h → Puts a f (texts_below text m) Failed c h
-  puts-short n m less p q =
+  pub puts-short : {a b c : Option (List ℕ)} {f g h : ℕ} {e : WriteFailed} {put : Put} (n m : ℕ) → n < m → IsErr put → Puts a f (texts_below text n) (Ok tt) b g → Puts b g (text n) (Err e) c h → Puts a f (texts_below text m) put c h
+  puts-short n m less failed p q =
       let more = further text (n + 1) (m - (n + 1)) in
-      let e : (m - (n + 1)) + (n + 1) ≡ m = omega arith in
-      puts-is (ap (λ t. t ++ more.0) (firsts-one text n) ∙ sym more.1 ∙ ap (texts_below text) e) (puts-failed more.0 (puts-then p q))
+      let sum : (m - (n + 1)) + (n + 1) ≡ m = omega arith in
+      puts-is (ap (λ t. t ++ more.0) (firsts-one text n) ∙ sym more.1 ∙ ap (texts_below text) sum) (puts-failed more.0 failed (puts-then p q))
 
-  pub puts-every : {a b : Option (List ℕ)} {f g : ℕ} (n m : ℕ) → n ≡ m → Puts a f (texts_below text n) Whole b g → Puts a f (texts_below text m) Whole b g
+  pub puts-every : {a b : Option (List ℕ)} {f g : ℕ} (n m : ℕ) → n ≡ m → Puts a f (texts_below text n) (Ok tt) b g → Puts a f (texts_below text m) (Ok tt) b g
   puts-every n m e p = puts-is (ap (texts_below text) e) p

@@ -27,7 +27,7 @@ fn put_opened<S: Sink>(sink: &mut S, opened: Opened) -> Put
     ensures { Puts (S.told sink.old) (S.faults sink.old) (opened_text opened) result (S.told sink.new) (S.faults sink.new) }
 {
     match opened {
-        Opened::Closed => Put::Whole,
+        Opened::Closed => Ok(()),
         Opened::Input => put_all(sink, b"input"),
         Opened::Console => put_all(sink, b"console"),
         Opened::File { offset, size } => put_file(sink, offset, size),
@@ -40,21 +40,16 @@ fn put_named<S: Sink>(sink: &mut S, fd: u32, opened: Opened) -> Put
     ensures { Puts (S.told sink.old) (S.faults sink.old) (named_text fd opened) result (S.told sink.new) (S.faults sink.new) }
 {
     let mut buffer = Buffer::new();
-    match put_pieces(sink, &[b"fd ", buffer.format(fd).as_bytes(), b" "]) {
-        Put::Whole => {}
-        Put::Failed => return Put::Failed,
-    }
-    match put_opened(sink, opened) {
-        Put::Whole => put_all(sink, b"\n"),
-        Put::Failed => Put::Failed,
-    }
+    put_pieces(sink, &[b"fd ", buffer.format(fd).as_bytes(), b" "])?;
+    put_opened(sink, opened)?;
+    put_all(sink, b"\n")
 }
 
 fn put_descriptor<S: Sink>(sink: &mut S, files: &FileSystem, fd: u32) -> Put
     ensures { Puts (S.told sink.old) (S.faults sink.old) (descriptor_text files.now.state fd) result (S.told sink.new) (S.faults sink.new) }
 {
     match files.opened(fd) {
-        Opened::Closed => Put::Whole,
+        Opened::Closed => Ok(()),
         opened => put_named(sink, fd, opened),
     }
 }
@@ -64,10 +59,7 @@ pub fn put_descriptors<S: Sink>(sink: &mut S, files: &FileSystem) -> Put
     ensures { Puts (S.told sink.old) (S.faults sink.old) (descriptors_text files.now.state) result (S.told sink.new) (S.faults sink.new) }
 {
     for fd in 0..DESCRIPTORS as u32 {
-        match put_descriptor(sink, files, fd) {
-            Put::Whole => {}
-            Put::Failed => return Put::Failed,
-        }
+        put_descriptor(sink, files, fd)?;
     }
-    Put::Whole
+    Ok(())
 }

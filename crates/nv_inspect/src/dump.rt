@@ -24,10 +24,8 @@ fn put_byte<S: Sink>(sink: &mut S, memory: &Memory, address: u32, i: u32) -> Put
     requires { address + i ≤ 4_294_967_295 }
     ensures { Puts (S.told sink.old) (S.faults sink.old) (byte_text memory.now address i) result (S.told sink.new) (S.faults sink.new) }
 {
-    match put_all(sink, b" ") {
-        Put::Whole => put_cell(sink, memory.byte(address + i)),
-        Put::Failed => Put::Failed,
-    }
+    put_all(sink, b" ")?;
+    put_cell(sink, memory.byte(address + i))
 }
 
 fn put_bytes<S: Sink>(sink: &mut S, memory: &Memory, address: u32, length: u32) -> Put
@@ -35,30 +33,19 @@ fn put_bytes<S: Sink>(sink: &mut S, memory: &Memory, address: u32, length: u32) 
     ensures { Puts (S.told sink.old) (S.faults sink.old) (texts_below (byte_text memory.now address) length) result (S.told sink.new) (S.faults sink.new) }
 {
     for i in 0..length {
-        match put_byte(sink, memory, address, i) {
-            Put::Whole => {}
-            Put::Failed => return Put::Failed,
-        }
+        put_byte(sink, memory, address, i)?;
     }
-    Put::Whole
+    Ok(())
 }
 
 fn put_row<S: Sink>(sink: &mut S, memory: &Memory, address: u32, length: u32) -> Put
     requires { address + length ≤ 4_294_967_295 }
     ensures { Puts (S.told sink.old) (S.faults sink.old) (row_text memory.now address length) result (S.told sink.new) (S.faults sink.new) }
 {
-    match put_all(sink, b"mem ") {
-        Put::Whole => {}
-        Put::Failed => return Put::Failed,
-    }
-    match put_word(sink, address) {
-        Put::Whole => {}
-        Put::Failed => return Put::Failed,
-    }
-    match put_bytes(sink, memory, address, length) {
-        Put::Whole => put_all(sink, b"\n"),
-        Put::Failed => Put::Failed,
-    }
+    put_all(sink, b"mem ")?;
+    put_word(sink, address)?;
+    put_bytes(sink, memory, address, length)?;
+    put_all(sink, b"\n")
 }
 
 fn put_line<S: Sink>(sink: &mut S, memory: &Memory, address: u32, length: u32, i: u32) -> Put
@@ -76,12 +63,9 @@ fn put_range<S: Sink>(sink: &mut S, memory: &Memory, address: u32, length: u32) 
     ensures { Puts (S.told sink.old) (S.faults sink.old) (dump_text memory.now (Some (address, length))) result (S.told sink.new) (S.faults sink.new) }
 {
     for i in 0..length.div_ceil(ROW) {
-        match put_line(sink, memory, address, length, i) {
-            Put::Whole => {}
-            Put::Failed => return Put::Failed,
-        }
+        put_line(sink, memory, address, length, i)?;
     }
-    Put::Whole
+    Ok(())
 }
 
 /// The bytes of the range that is asked for.
@@ -91,6 +75,6 @@ pub fn put_dump<S: Sink>(sink: &mut S, memory: &Memory, dump: Option<(u32, u32)>
 {
     match dump {
         Some((address, length)) => put_range(sink, memory, address, length),
-        None => Put::Whole,
+        None => Ok(()),
     }
 }

@@ -39,12 +39,7 @@ pub fn put_end<S: Sink>(sink: &mut S, fate: Option<Fate>) -> Put
 pub fn put_head<S: Sink>(sink: &mut S, seen: u32, count: u32, fate: Option<Fate>) -> Put
     ensures { Puts (S.told sink.old) (S.faults sink.old) (heading_text seen count fate) result (S.told sink.new) (S.faults sink.new) }
 {
-    match put_place(sink, seen, count) {
-        Put::Whole => {}
-        Put::Failed => return Put::Failed,
-    }
-    match put_end(sink, fate) {
-        Put::Whole => put_all(sink, b"\n"),
-        Put::Failed => Put::Failed,
-    }
+    put_place(sink, seen, count)?;
+    put_end(sink, fate)?;
+    put_all(sink, b"\n")
 }

@@ -23,59 +23,42 @@ fn put_register<S: Sink>(sink: &mut S, regs: &Regs, n: u8) -> Put
     requires { n < 32 }
     ensures { Puts (S.told sink.old) (S.faults sink.old) (register_text regs.now n) result (S.told sink.new) (S.faults sink.new) }
 {
-    match put_all(sink, b" ") {
-        Put::Whole => put_word(sink, regs.get(n)),
-        Put::Failed => Put::Failed,
-    }
+    put_all(sink, b" ")?;
+    put_word(sink, regs.get(n))
 }
 
 fn put_each_register<S: Sink>(sink: &mut S, regs: &Regs) -> Put
     ensures { Puts (S.told sink.old) (S.faults sink.old) (texts_below (register_text regs.now) 32) result (S.told sink.new) (S.faults sink.new) }
 {
     for n in 0..32 {
-        match put_register(sink, regs, n) {
-            Put::Whole => {}
-            Put::Failed => return Put::Failed,
-        }
+        put_register(sink, regs, n)?;
     }
-    Put::Whole
+    Ok(())
 }
 
 fn put_registers<S: Sink>(sink: &mut S, regs: &Regs) -> Put
     ensures { Puts (S.told sink.old) (S.faults sink.old) (registers_text regs.now) result (S.told sink.new) (S.faults sink.new) }
 {
-    match put_all(sink, b"x") {
-        Put::Whole => {}
-        Put::Failed => return Put::Failed,
-    }
-    match put_each_register(sink, regs) {
-        Put::Whole => put_all(sink, b"\n"),
-        Put::Failed => Put::Failed,
-    }
+    put_all(sink, b"x")?;
+    put_each_register(sink, regs)?;
+    put_all(sink, b"\n")
 }
 
 fn put_counter<S: Sink>(sink: &mut S, tid: u32, pc: u32) -> Put
     ensures { Puts (S.told sink.old) (S.faults sink.old) (counter_text tid pc) result (S.told sink.new) (S.faults sink.new) }
 {
     let mut buffer = Buffer::new();
-    match put_pieces(sink, &[b"thread ", buffer.format(tid).as_bytes(), b" pc "]) {
-        Put::Whole => {}
-        Put::Failed => return Put::Failed,
-    }
-    match put_word(sink, pc) {
-        Put::Whole => put_all(sink, b"\n"),
-        Put::Failed => Put::Failed,
-    }
+    put_pieces(sink, &[b"thread ", buffer.format(tid).as_bytes(), b" pc "])?;
+    put_word(sink, pc)?;
+    put_all(sink, b"\n")
 }
 
 fn put_thread<S: Sink>(sink: &mut S, guest: &Guest, tid: u32) -> Put
     requires { Contains (tids guest.now.threads) tid }
     ensures { Puts (S.told sink.old) (S.faults sink.old) (thread_text guest.now tid) result (S.told sink.new) (S.faults sink.new) }
 {
-    match put_counter(sink, tid, guest.pc(tid)) {
-        Put::Whole => put_registers(sink, guest.regs(tid)),
-        Put::Failed => Put::Failed,
-    }
+    put_counter(sink, tid, guest.pc(tid))?;
+    put_registers(sink, guest.regs(tid))
 }
 
 fn put_live<S: Sink>(sink: &mut S, process: &Process, tid: u32) -> Put
@@ -84,7 +67,7 @@ fn put_live<S: Sink>(sink: &mut S, process: &Process, tid: u32) -> Put
     if process.lives(tid) {
         put_thread(sink, process.guest(), tid)
     } else {
-        Put::Whole
+        Ok(())
     }
 }
 
@@ -94,10 +77,7 @@ pub fn put_threads<S: Sink>(sink: &mut S, process: &Process) -> Put
 {
     let end = u64::from(process.highest()) + 1;
     for tid in 0..end {
-        match put_live(sink, process, tid as u32) {
-            Put::Whole => {}
-            Put::Failed => return Put::Failed,
-        }
+        put_live(sink, process, tid as u32)?;
     }
-    Put::Whole
+    Ok(())
 }

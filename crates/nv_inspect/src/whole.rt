@@ -26,16 +26,8 @@ pub fn show<S: Sink>(
 {
     let running = version.process();
     let told = version.standing();
-    match put_head(sink, told.seen, running.count(), told.fate) {
-        Put::Whole => {}
-        Put::Failed => return Put::Failed,
-    }
-    match put_threads(sink, running) {
-        Put::Whole => {}
-        Put::Failed => return Put::Failed,
-    }
-    match put_descriptors(sink, files) {
-        Put::Whole => put_dump(sink, running.guest().memory(), dump),
-        Put::Failed => Put::Failed,
-    }
+    put_head(sink, told.seen, running.count(), told.fate)?;
+    put_threads(sink, running)?;
+    put_descriptors(sink, files)?;
+    put_dump(sink, running.guest().memory(), dump)
 }

@@ -1,11 +1,10 @@
 -- What the statuses show.
-use Rattle.std.proofs.Common.{◌≡◌, ◌∙◌, ◌⊎◌, sym, subst, inl, inr, ⊎_elim, ℕ, List, Bool, true, false, if◌then◌else◌, Option, Some, None, [], ◌∷◌, map, ap, refl, Result, Ok, Err, option_and_then, arith}
+use Rattle.std.proofs.Common.{◌≡◌, ◌∙◌, ◌⊎◌, sym, subst, inl, inr, ⊎_elim, ℕ, List, Bool, true, false, if◌then◌else◌, Option, Some, None, [], ◌∷◌, map, ap, refl, Result, Ok, Err, option_and_then, arith, IsErr}
 use Rattle.std.specs.Prelude.{◌||◌, IsSome}
 use Rattle.std.specs.List.{list_any}
 use Rattle.nv_outside.specs.Counts.{Rose}
 use Rattle.nv_outside.proofs.Writing.{puts-rose}
-use Rattle.nv_outside.specs.declared.sink.Put.{Put}
-use Rattle.nv_outside.specs.declared.sink.Put.TheVariants.{Whole, Failed}
+use Rattle.nv_outside.specs.Sink.{Put}
 use Rattle.nv_replay.specs.declared.standing.Standing.{Standing}
 use Rattle.nv_replay.specs.Follow.{is_exited}
 use Rattle.nv_replay.specs.Lead.{is_memory}
@@ -58,13 +57,13 @@ replay_done (Some (Exited code)) n is = inl is
 replay_done (Some fate) n is = inr is
 
 -- the status of a text that was written whole is its own
-own : (put : Put) (n status : ℕ) → n ≡ ended_with put status → (put ≡ Failed → ⊥) → n ≡ status
-own Whole n status ends whole = ends
-own Failed n status ends whole = absurd (whole refl)
+own : (put : Put) (n status : ℕ) → n ≡ ended_with put status → (IsErr put → ⊥) → n ≡ status
+own (Ok _) n status ends whole = ends
+own (Err _) n status ends whole = absurd (whole refl)
 
 own_or_six : (put : Put) (n status : ℕ) → n ≡ ended_with put status → (n ≡ status) ⊎ (n ≡ 6)
-own_or_six Whole n status ends = inl ends
-own_or_six Failed n status ends = inr ends
+own_or_six (Ok _) n status ends = inl ends
+own_or_six (Err _) n status ends = inr ends
 
 module _ (source : Source) (no_fault : Rose source.faults source.later_faults → ⊥) (outcome : Outcome) (shown : Shows outcome source) where
   -- no file was unreadable
@@ -258,7 +257,7 @@ module _ (words : List (List ℕ)) (source : Source) (status : ℕ) (outcome : O
       ⊎_elim (λ (owed : OwesAny (command_of words) source.holds outcome). inl (subst (λ (c : Option Command). OwesAny c source.holds outcome) asked owed))
       (λ (m : (outcome ≡ NoMemory) × IsSome (command_name words)). inr (ap outcome_status m.0)) due
 
-  pub completes-of : (faults later : ℕ) → (put ≡ Failed → Rose faults later) → Completes words source faults status later
+  pub completes-of : (faults later : ℕ) → (IsErr put → Rose faults later) → Completes words source faults status later
   completes-of faults later rose = λ command asked accepted no_fault no_write.
       let is : status ≡ outcome_status outcome = own put status (outcome_status outcome) ends (λ failed. no_write (rose failed)) in
       ⊎_elim (λ (owed : Owes command source.holds outcome). inl (subst (λ (n : ℕ). IsDone command n) (sym is) (accepted_status source no_fault outcome shown command owed accepted)))
@@ -292,39 +291,39 @@ two_not_six n done six = ⊎_elim (λ is. omega arith) (λ is. omega arith) done
 
 five : (outcome : Outcome) (put : Put) (source : Source) (n : ℕ) → Shows outcome source → n ≡ ended_with put (outcome_status outcome) → n ≡ 5 → Rose source.faults source.later_faults
 five (NotRead name) put source n shown ends is = shown
-five Usage Whole source n shown ends is = absurd (omega arith)
-five NoMemory Whole source n shown ends is = absurd (omega arith)
-five (NotAccepted name cause) Whole source n shown ends is = absurd (omega arith)
-five (Reported json setup account) Whole source n shown ends is = absurd (not_five n (run_done account.lines n ends) is)
-five (Made text) Whole source n shown ends is = absurd (omega arith)
-five (Summed k setup account) Whole source n shown ends is = absurd (omega arith)
-five (Recorded account) Whole source n shown ends is = absurd (not_five n (run_done account.lines n ends) is)
-five (TraceTooLong name) Whole source n shown ends is = absurd (omega arith)
-five (Replayed at) Whole source n shown ends is = absurd (two_not_five n (replay_done at.fate n ends) is)
-five (Shown text) Whole source n shown ends is = absurd (omega arith)
-five (Helped topic) Whole source n shown ends is = absurd (omega arith)
-five (Served setup account) Whole source n shown ends is = absurd (not_five n (run_done account.lines n ends) is)
-five outcome Failed source n shown ends is = absurd (omega arith)
+five Usage (Ok _) source n shown ends is = absurd (omega arith)
+five NoMemory (Ok _) source n shown ends is = absurd (omega arith)
+five (NotAccepted name cause) (Ok _) source n shown ends is = absurd (omega arith)
+five (Reported json setup account) (Ok _) source n shown ends is = absurd (not_five n (run_done account.lines n ends) is)
+five (Made text) (Ok _) source n shown ends is = absurd (omega arith)
+five (Summed k setup account) (Ok _) source n shown ends is = absurd (omega arith)
+five (Recorded account) (Ok _) source n shown ends is = absurd (not_five n (run_done account.lines n ends) is)
+five (TraceTooLong name) (Ok _) source n shown ends is = absurd (omega arith)
+five (Replayed at) (Ok _) source n shown ends is = absurd (two_not_five n (replay_done at.fate n ends) is)
+five (Shown text) (Ok _) source n shown ends is = absurd (omega arith)
+five (Helped topic) (Ok _) source n shown ends is = absurd (omega arith)
+five (Served setup account) (Ok _) source n shown ends is = absurd (not_five n (run_done account.lines n ends) is)
+five outcome (Err _) source n shown ends is = absurd (omega arith)
 
-six : (outcome : Outcome) (put : Put) (n : ℕ) → n ≡ ended_with put (outcome_status outcome) → n ≡ 6 → put ≡ Failed
-six outcome Failed n ends is = refl
-six Usage Whole n ends is = absurd (omega arith)
-six NoMemory Whole n ends is = absurd (omega arith)
-six (NotRead name) Whole n ends is = absurd (omega arith)
-six (NotAccepted name cause) Whole n ends is = absurd (omega arith)
-six (Reported json setup account) Whole n ends is = absurd (not_six n (run_done account.lines n ends) is)
-six (Made text) Whole n ends is = absurd (omega arith)
-six (Summed k setup account) Whole n ends is = absurd (omega arith)
-six (Recorded account) Whole n ends is = absurd (not_six n (run_done account.lines n ends) is)
-six (TraceTooLong name) Whole n ends is = absurd (omega arith)
-six (Replayed at) Whole n ends is = absurd (two_not_six n (replay_done at.fate n ends) is)
-six (Shown text) Whole n ends is = absurd (omega arith)
-six (Helped topic) Whole n ends is = absurd (omega arith)
-six (Served setup account) Whole n ends is = absurd (not_six n (run_done account.lines n ends) is)
+six : (outcome : Outcome) (put : Put) (n : ℕ) → n ≡ ended_with put (outcome_status outcome) → n ≡ 6 → IsErr put
+six outcome (Err _) n ends is = refl
+six Usage (Ok _) n ends is = absurd (omega arith)
+six NoMemory (Ok _) n ends is = absurd (omega arith)
+six (NotRead name) (Ok _) n ends is = absurd (omega arith)
+six (NotAccepted name cause) (Ok _) n ends is = absurd (omega arith)
+six (Reported json setup account) (Ok _) n ends is = absurd (not_six n (run_done account.lines n ends) is)
+six (Made text) (Ok _) n ends is = absurd (omega arith)
+six (Summed k setup account) (Ok _) n ends is = absurd (omega arith)
+six (Recorded account) (Ok _) n ends is = absurd (not_six n (run_done account.lines n ends) is)
+six (TraceTooLong name) (Ok _) n ends is = absurd (omega arith)
+six (Replayed at) (Ok _) n ends is = absurd (two_not_six n (replay_done at.fate n ends) is)
+six (Shown text) (Ok _) n ends is = absurd (omega arith)
+six (Helped topic) (Ok _) n ends is = absurd (omega arith)
+six (Served setup account) (Ok _) n ends is = absurd (not_six n (run_done account.lines n ends) is)
 
 -- the status of a text is never that of a write fault
 pub never_six : (outcome : Outcome) → outcome_status outcome ≡ 6 → ⊥
-never_six outcome is = let failed : Whole ≡ Failed = six outcome Whole (outcome_status outcome) refl is in cc
+never_six outcome is = let failed = six outcome (Ok tt) (outcome_status outcome) refl is in cc
 
 -- a name of no command is refused
 nameless : (words : List (List ℕ)) → command_name words ≡ None → command_of words ≡ None

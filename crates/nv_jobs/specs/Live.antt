@@ -14,9 +14,7 @@ use Rattle.nv_live.specs.Transcript.{lines_of}
 use Rattle.nv_live.specs.declared.incoming.Stopped.{Stopped}
 use Rattle.nv_live.specs.declared.incoming.Stopped.TheVariants as stop
 use Rattle.nv_outside.specs.Told.{Told}
-use Rattle.nv_outside.specs.Sink.{Puts}
-use Rattle.nv_outside.specs.declared.sink.Put.{Put}
-use Rattle.nv_outside.specs.declared.sink.Put.TheVariants.{Whole, Failed}
+use Rattle.nv_outside.specs.Sink.{Put, Puts}
 use Rattle.nv_script.specs.Scripts.{Setup, script_of}
 use Rattle.nv_script.specs.declared.fault.ScriptFault.{ScriptFault}
 use Rattle.nv_jobs.specs.Found.{Found, Finds, Agrees, AgreesIf, AllAgree, found_of}
@@ -107,9 +105,9 @@ pub record Streams : Type 0 where
 
 -- a write to standard output that failed, or else one of the transcript
 abbrev pub ended_by_writes : Put → Put → Ending
-ended_by_writes Failed told = Unsaid
-ended_by_writes Whole Failed = Untold
-ended_by_writes Whole Whole = Finished
+ended_by_writes (Err _) told = Unsaid
+ended_by_writes (Ok _) (Err _) = Untold
+ended_by_writes (Ok _) (Ok _) = Finished
 
 -- How a live run ended: by a read that failed, or a line that was refused or cut off; or else by a write that failed. Once a write to standard output has failed nothing more is read.
 abbrev pub ending_of : Option Stopped → Put → Put → Ending

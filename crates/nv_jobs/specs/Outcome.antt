@@ -1,10 +1,9 @@
 -- What a call of the monitor may come to, and what is then written.
-use Rattle.std.specs.Prelude.{ℕ, Option, Bool, true, false, List, [], ◌∷◌, ◌++◌, codes, length, count_by, sum_by, slice_get, unwrap_or}
+use Rattle.std.specs.Prelude.{ℕ, Option, Bool, true, false, List, [], ◌∷◌, ◌++◌, codes, length, count_by, sum_by, slice_get, unwrap_or, Ok, Err}
 use Rattle.std.specs.List.{concat}
 use Rattle.nv_gen.specs.Made as gen
 use Rattle.nv_outside.specs.Told.{Told}
-use Rattle.nv_outside.specs.declared.sink.Put.{Put}
-use Rattle.nv_outside.specs.declared.sink.Put.TheVariants.{Whole, Failed}
+use Rattle.nv_outside.specs.Sink.{Put}
 use Rattle.nv_command.specs.Help.{help_of}
 use Rattle.nv_command.specs.Words.{Name, Plan, Service, Trail}
 use Rattle.nv_calls.specs.Logs.{output_of, connections_of}
@@ -111,8 +110,8 @@ outcome_status (Served setup account) = run_status account.lines
 
 -- a write fault takes the place of the other statuses
 abbrev pub ended_with : Put → ℕ → ℕ
-ended_with Whole status = status
-ended_with Failed status = 6
+ended_with (Ok _) status = status
+ended_with (Err _) status = 6
 
 abbrev pub name_at : Place → Plan → List ℕ
 name_at Script plan = plan.script

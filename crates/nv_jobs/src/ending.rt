@@ -6,7 +6,7 @@ ghost use Rattle.nv_jobs.specs.Outcome.{ending_status};
 use crate::endings::{INPUT, READ_FAULT, WRITE_FAULT};
 use nv_arrivals::ArrivalCause;
 use nv_live::Stopped;
-use nv_outside::Put;
+use nv_outside::{Put, WriteFailed};
 
 /// How a live run ended, beside what its versions came to.
 #[derive(Clone, Copy, Debug, PartialEq, Eq)]
@@ -29,9 +29,9 @@ fn ended_by_writes(said: Put, told: Put) -> Ending
     ensures { result ≡ ended_by_writes said told }
 {
     match (said, told) {
-        (Put::Failed, _) => Ending::Unsaid,
-        (Put::Whole, Put::Failed) => Ending::Untold,
-        (Put::Whole, Put::Whole) => Ending::Finished,
+        (Err(WriteFailed), _) => Ending::Unsaid,
+        (Ok(()), Err(WriteFailed)) => Ending::Untold,
+        (Ok(()), Ok(())) => Ending::Finished,
     }
 }
 

@@ -8,7 +8,7 @@ ghost use Rattle.nv_jobs.specs.Account.{run_status};
 ghost use Rattle.nv_jobs.specs.Due.{Says};
 ghost use Rattle.nv_jobs.specs.Outcome.{ended_with};
 
-use nv_outside::{Put, Sink, put_all};
+use nv_outside::{Put, Sink, WriteFailed, put_all};
 use nv_replay::{Fate, Version};
 
 /// Refused words.
@@ -33,8 +33,8 @@ pub fn ended(put: Put, status: u8) -> u8
     ensures { result ≡ ended_with put status }
 {
     match put {
-        Put::Whole => status,
-        Put::Failed => WRITE_FAULT,
+        Ok(()) => status,
+        Err(WriteFailed) => WRITE_FAULT,
     }
 }
 

@@ -42,14 +42,9 @@ fn put_followed<S: Sink>(sink: &mut S, version: &Version) -> Put
     ensures { Puts (S.told sink.old) (S.faults sink.old) (replay_text version.now.at) result (S.told sink.new) (S.faults sink.new) }
 {
     let told = version.standing();
-    match put_all(sink, b"replay ") {
-        Put::Whole => {}
-        Put::Failed => return Put::Failed,
-    }
-    match put_end(sink, told.fate) {
-        Put::Whole => put_counts(sink, told.seen, told.rewrites),
-        Put::Failed => Put::Failed,
-    }
+    put_all(sink, b"replay ")?;
+    put_end(sink, told.fate)?;
+    put_counts(sink, told.seen, told.rewrites)
 }
 
 fn status(fate: Option<Fate>) -> u8

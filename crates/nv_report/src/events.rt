@@ -16,40 +16,30 @@ pub fn put_events<S: Sink>(sink: &mut S, log: &[Event]) -> Put
     ensures { Puts (S.told sink.old) (S.faults sink.old) (flat_map (λ event. event_text (entry event)) log.now) result (S.told sink.new) (S.faults sink.new) }
 {
     for event in log {
-        match put_event(sink, event) {
-            Put::Whole => {}
-            Put::Failed => return Put::Failed,
-        }
+        put_event(sink, event)?;
     }
-    Put::Whole
+    Ok(())
 }
 
 /// Writes an event as a line of the log.
 pub fn put_event<S: Sink>(sink: &mut S, event: &Event) -> Put
     ensures { Puts (S.told sink.old) (S.faults sink.old) (event_text (entry event.now)) result (S.told sink.new) (S.faults sink.new) }
 {
-    match put_call(sink, event) {
-        Put::Whole => {}
-        Put::Failed => return Put::Failed,
-    }
-    match put_result(sink, &event.reply) {
-        Put::Whole => put_end(
-            sink,
-            event.call.payload.as_slice(),
-            event.reply.payload.as_slice(),
-        ),
-        Put::Failed => Put::Failed,
-    }
+    put_call(sink, event)?;
+    put_result(sink, &event.reply)?;
+    put_end(
+        sink,
+        event.call.payload.as_slice(),
+        event.reply.payload.as_slice(),
+    )
 }
 
 // Stamp, thread, number and arguments.
 fn put_call<S: Sink>(sink: &mut S, event: &Event) -> Put
     ensures { Puts (S.told sink.old) (S.faults sink.old) (call_text (entry event.now)) result (S.told sink.new) (S.faults sink.new) }
 {
-    match put_numbers(sink, &[event.stamp, event.call.tid, event.call.nr]) {
-        Put::Whole => put_numbers(sink, &event.call.args),
-        Put::Failed => Put::Failed,
-    }
+    put_numbers(sink, &[event.stamp, event.call.tid, event.call.nr])?;
+    put_numbers(sink, &event.call.args)
 }
 
 fn put_result<S: Sink>(sink: &mut S, reply: &Reply) -> Put
@@ -62,10 +52,8 @@ fn put_result<S: Sink>(sink: &mut S, reply: &Reply) -> Put
 fn put_end<S: Sink>(sink: &mut S, call: &[u8], reply: &[u8]) -> Put
     ensures { Puts (S.told sink.old) (S.faults sink.old) (payload_text call.now reply.now ++ codes "\n") result (S.told sink.new) (S.faults sink.new) }
 {
-    match put_payload(sink, call, reply) {
-        Put::Whole => put_all(sink, b"\n"),
-        Put::Failed => Put::Failed,
-    }
+    put_payload(sink, call, reply)?;
+    put_all(sink, b"\n")
 }
 
 // The bytes of a call and of its reply, after a space where there are any.
@@ -73,7 +61,7 @@ fn put_payload<S: Sink>(sink: &mut S, call: &[u8], reply: &[u8]) -> Put
     ensures { Puts (S.told sink.old) (S.faults sink.old) (payload_text call.now reply.now) result (S.told sink.new) (S.faults sink.new) }
 {
     if call.is_empty() && reply.is_empty() {
-        Put::Whole
+        Ok(())
     } else {
         put_bytes(sink, call, reply)
     }
@@ -83,12 +71,7 @@ fn put_payload<S: Sink>(sink: &mut S, call: &[u8], reply: &[u8]) -> Put
 fn put_bytes<S: Sink>(sink: &mut S, call: &[u8], reply: &[u8]) -> Put
     ensures { Puts (S.told sink.old) (S.faults sink.old) (codes " " ++ (hex_of call.now ++ hex_of reply.now)) result (S.told sink.new) (S.faults sink.new) }
 {
-    match put_all(sink, b" ") {
-        Put::Whole => {}
-        Put::Failed => return Put::Failed,
-    }
-    match put_hex(sink, call) {
-        Put::Whole => put_hex(sink, reply),
-        Put::Failed => Put::Failed,
-    }
+    put_all(sink, b" ")?;
+    put_hex(sink, call)?;
+    put_hex(sink, reply)
 }

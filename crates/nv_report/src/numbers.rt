@@ -14,12 +14,9 @@ pub fn put_numbers<S: Sink>(sink: &mut S, numbers: &[u32]) -> Put
 {
     for number in numbers {
         let mut buffer = Buffer::new();
-        match put_pieces(sink, &[buffer.format(*number).as_bytes(), b" "]) {
-            Put::Whole => {}
-            Put::Failed => return Put::Failed,
-        }
+        put_pieces(sink, &[buffer.format(*number).as_bytes(), b" "])?;
     }
-    Put::Whole
+    Ok(())
 }
 
 /// Writes each byte as two hexadecimal digits.
@@ -27,10 +24,7 @@ pub fn put_hex<S: Sink>(sink: &mut S, bytes: &[u8]) -> Put
     ensures { Puts (S.told sink.old) (S.faults sink.old) (hex_of bytes.now) result (S.told sink.new) (S.faults sink.new) }
 {
     for byte in bytes {
-        match put_all(sink, &hex_pair(*byte)) {
-            Put::Whole => {}
-            Put::Failed => return Put::Failed,
-        }
+        put_all(sink, &hex_pair(*byte))?;
     }
-    Put::Whole
+    Ok(())
 }

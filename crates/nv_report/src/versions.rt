@@ -17,21 +17,19 @@ pub fn put_lines<S: Sink>(sink: &mut S, first: usize, versions: &[Version]) -> P
     ensures { Puts (S.told sink.old) (S.faults sink.old) (lines_text first (map standing_of versions.now)) result (S.told sink.new) (S.faults sink.new) }
 {
     match versions.split_first() {
-        None => Put::Whole,
-        Some((version, others)) => match put_line(sink, first, version.standing()) {
-            Put::Whole => put_lines(sink, first + 1, others),
-            Put::Failed => Put::Failed,
-        },
+        None => Ok(()),
+        Some((version, others)) => {
+            put_line(sink, first, version.standing())?;
+            put_lines(sink, first + 1, others)
+        }
     }
 }
 
 fn put_line<S: Sink>(sink: &mut S, index: usize, standing: &Standing) -> Put
     ensures { Puts (S.told sink.old) (S.faults sink.old) (line_text index standing.now) result (S.told sink.new) (S.faults sink.new) }
 {
-    match put_prefix(sink, index, standing.fate) {
-        Put::Whole => put_rest(sink, standing),
-        Put::Failed => Put::Failed,
-    }
+    put_prefix(sink, index, standing.fate)?;
+    put_rest(sink, standing)
 }
 
 // The number and the end.
@@ -39,10 +37,8 @@ fn put_prefix<S: Sink>(sink: &mut S, index: usize, fate: Option<Fate>) -> Put
     ensures { Puts (S.told sink.old) (S.faults sink.old) (prefix_text index fate) result (S.told sink.new) (S.faults sink.new) }
 {
     let mut buffer = Buffer::new();
-    match put_pieces(sink, &[buffer.format(index).as_bytes(), b" "]) {
-        Put::Whole => put_fate_of(sink, fate),
-        Put::Failed => Put::Failed,
-    }
+    put_pieces(sink, &[buffer.format(index).as_bytes(), b" "])?;
+    put_fate_of(sink, fate)
 }
 
 fn put_fate_of<S: Sink>(sink: &mut S, fate: Option<Fate>) -> Put
@@ -50,7 +46,7 @@ fn put_fate_of<S: Sink>(sink: &mut S, fate: Option<Fate>) -> Put
 {
     match fate {
         Some(fate) => put_fate(sink, fate),
-        None => Put::Whole,
+        None => Ok(()),
     }
 }
 
@@ -77,10 +73,8 @@ pub fn put_fate<S: Sink>(sink: &mut S, fate: Fate) -> Put
 fn put_fault<S: Sink>(sink: &mut S, kind: FaultKind, tid: u32, pc: u32) -> Put
     ensures { Puts (S.told sink.old) (S.faults sink.old) (fate_text (Fate.Fault kind tid pc)) result (S.told sink.new) (S.faults sink.new) }
 {
-    match put_fault_name(sink, kind, tid) {
-        Put::Whole => put_hex(sink, &pc.to_be_bytes()),
-        Put::Failed => Put::Failed,
-    }
+    put_fault_name(sink, kind, tid)?;
+    put_hex(sink, &pc.to_be_bytes())
 }
 
 fn put_fault_name<S: Sink>(sink: &mut S, kind: FaultKind, tid: u32) -> Put
@@ -118,10 +112,8 @@ pub fn name_of(kind: FaultKind) -> &'static str
 fn put_refused<S: Sink>(sink: &mut S, tid: u32, nr: u32, stamp: u32, verdict: u32) -> Put
     ensures { Puts (S.told sink.old) (S.faults sink.old) (fate_text (Fate.Refused tid nr stamp verdict)) result (S.told sink.new) (S.faults sink.new) }
 {
-    match put_refused_call(sink, tid, nr, stamp) {
-        Put::Whole => put_hex(sink, &verdict.to_be_bytes()),
-        Put::Failed => Put::Failed,
-    }
+    put_refused_call(sink, tid, nr, stamp)?;
+    put_hex(sink, &verdict.to_be_bytes())
 }
 
 fn put_refused_call<S: Sink>(sink: &mut S, tid: u32, nr: u32, stamp: u32) -> Put
@@ -148,14 +140,9 @@ fn put_refused_call<S: Sink>(sink: &mut S, tid: u32, nr: u32, stamp: u32) -> Put
 fn put_rest<S: Sink>(sink: &mut S, standing: &Standing) -> Put
     ensures { Puts (S.told sink.old) (S.faults sink.old) (rest_text standing.now) result (S.told sink.new) (S.faults sink.new) }
 {
-    match put_seen(sink, standing.seen) {
-        Put::Whole => {}
-        Put::Failed => return Put::Failed,
-    }
-    match put_led(sink, standing.led.as_slice()) {
-        Put::Whole => put_rewrites(sink, standing.rewrites),
-        Put::Failed => Put::Failed,
-    }
+    put_seen(sink, standing.seen)?;
+    put_led(sink, standing.led.as_slice())?;
+    put_rewrites(sink, standing.rewrites)
 }
 
 fn put_seen<S: Sink>(sink: &mut S, seen: u32) -> Put
@@ -171,10 +158,10 @@ fn put_led<S: Sink>(sink: &mut S, spans: &[(u32, u32)]) -> Put
 {
     match spans.split_first() {
         None => put_all(sink, b"-"),
-        Some((first, others)) => match put_span(sink, first.0, first.1) {
-            Put::Whole => put_more_spans(sink, others),
-            Put::Failed => Put::Failed,
-        },
+        Some((first, others)) => {
+            put_span(sink, first.0, first.1)?;
+            put_more_spans(sink, others)
+        }
     }
 }
 
@@ -182,21 +169,16 @@ fn put_more_spans<S: Sink>(sink: &mut S, spans: &[(u32, u32)]) -> Put
     ensures { Puts (S.told sink.old) (S.faults sink.old) (flat_map next_span_text spans.now) result (S.told sink.new) (S.faults sink.new) }
 {
     for span in spans {
-        match put_next_span(sink, span.0, span.1) {
-            Put::Whole => {}
-            Put::Failed => return Put::Failed,
-        }
+        put_next_span(sink, span.0, span.1)?;
     }
-    Put::Whole
+    Ok(())
 }
 
 fn put_next_span<S: Sink>(sink: &mut S, from: u32, to: u32) -> Put
     ensures { Puts (S.told sink.old) (S.faults sink.old) (next_span_text (from, to)) result (S.told sink.new) (S.faults sink.new) }
 {
-    match put_all(sink, b",") {
-        Put::Whole => put_span(sink, from, to),
-        Put::Failed => Put::Failed,
-    }
+    put_all(sink, b",")?;
+    put_span(sink, from, to)
 }
 
 fn put_span<S: Sink>(sink: &mut S, from: u32, to: u32) -> Put

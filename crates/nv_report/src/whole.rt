@@ -21,14 +21,9 @@ pub fn write<S: Sink, K: SyscallKernel>(sink: &mut S, account: &Account<K>) -> P
         result (S.told sink.new) (S.faults sink.new) }
 {
     let events = account.kernel.history();
-    match put_head(sink, account.kernel.output(), events.len()) {
-        Put::Whole => {}
-        Put::Failed => return Put::Failed,
-    }
-    match put_events(sink, events) {
-        Put::Whole => put_fates(sink, &account.versions),
-        Put::Failed => Put::Failed,
-    }
+    put_head(sink, account.kernel.output(), events.len())?;
+    put_events(sink, events)?;
+    put_fates(sink, &account.versions)
 }
 
 // The console's bytes, and how many events the log has.
@@ -54,10 +49,8 @@ fn put_head<S: Sink>(sink: &mut S, output: &[u8], events: usize) -> Put
 fn put_fates<S: Sink>(sink: &mut S, versions: &[Version]) -> Put
     ensures { Puts (S.told sink.old) (S.faults sink.old) (fates_text (map standing_of versions.now)) result (S.told sink.new) (S.faults sink.new) }
 {
-    match put_count(sink, versions.len()) {
-        Put::Whole => put_lines(sink, 0, versions),
-        Put::Failed => Put::Failed,
-    }
+    put_count(sink, versions.len())?;
+    put_lines(sink, 0, versions)
 }
 
 // How many versions there are.

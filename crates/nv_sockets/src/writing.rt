@@ -56,11 +56,11 @@ fn put_lines<S: Sink>(sink: &mut S, first: usize, connections: &[Connection]) ->
     ensures { Puts (S.told sink.old) (S.faults sink.old) (connection_texts first (map written_of connections.now)) result (S.told sink.new) (S.faults sink.new) }
 {
     match connections.split_first() {
-        None => Put::Whole,
-        Some((connection, others)) => match put_line(sink, first, connection) {
-            Put::Whole => put_lines(sink, first + 1, others),
-            Put::Failed => Put::Failed,
-        },
+        None => Ok(()),
+        Some((connection, others)) => {
+            put_line(sink, first, connection)?;
+            put_lines(sink, first + 1, others)
+        }
     }
 }
 
@@ -69,10 +69,8 @@ pub fn write_connections<S: Sink>(sink: &mut S, connections: &[Connection]) -> P
     ensures { Puts (S.told sink.old) (S.faults sink.old) (connections_text (map written_of connections.now)) result (S.told sink.new) (S.faults sink.new) }
 {
     if connections.is_empty() {
-        return Put::Whole;
+        return Ok(());
     }
-    match put_count(sink, connections.len()) {
-        Put::Whole => put_lines(sink, 0, connections),
-        Put::Failed => Put::Failed,
-    }
+    put_count(sink, connections.len())?;
+    put_lines(sink, 0, connections)
 }

@@ -16,32 +16,25 @@ fn put_numbers<S: Sink>(sink: &mut S, values: &[u32]) -> Put
     ensures { Puts (S.told sink.old) (S.faults sink.old) (number_bytes values.now) result (S.told sink.new) (S.faults sink.new) }
 {
     for value in values {
-        match put_all(sink, &value.to_le_bytes()) {
-            Put::Whole => {}
-            Put::Failed => return Put::Failed,
-        }
+        put_all(sink, &value.to_le_bytes())?;
     }
-    Put::Whole
+    Ok(())
 }
 
 fn put_payloads<S: Sink>(sink: &mut S, event: &Event) -> Put
     ensures { let e = entry event.now in
         Puts (S.told sink.old) (S.faults sink.old) (e.call.payload ++ e.reply.payload) result (S.told sink.new) (S.faults sink.new) }
 {
-    match put_all(sink, event.call.payload.as_slice()) {
-        Put::Whole => put_all(sink, event.reply.payload.as_slice()),
-        Put::Failed => Put::Failed,
-    }
+    put_all(sink, event.call.payload.as_slice())?;
+    put_all(sink, event.reply.payload.as_slice())
 }
 
 fn put_event<S: Sink>(sink: &mut S, event: &Event) -> Put
     requires { InRange (entry event.now) }
     ensures { Puts (S.told sink.old) (S.faults sink.old) (event_bytes (entry event.now)) result (S.told sink.new) (S.faults sink.new) }
 {
-    match put_numbers(sink, &fields_of(event)) {
-        Put::Whole => put_payloads(sink, event),
-        Put::Failed => Put::Failed,
-    }
+    put_numbers(sink, &fields_of(event))?;
+    put_payloads(sink, event)
 }
 
 fn put_events<S: Sink>(sink: &mut S, log: &[Event]) -> Put
@@ -49,21 +42,16 @@ fn put_events<S: Sink>(sink: &mut S, log: &[Event]) -> Put
     ensures { Puts (S.told sink.old) (S.faults sink.old) (flat_map (λ event. event_bytes (entry event)) log.now) result (S.told sink.new) (S.faults sink.new) }
 {
     for event in log {
-        match put_event(sink, event) {
-            Put::Whole => {}
-            Put::Failed => return Put::Failed,
-        }
+        put_event(sink, event)?;
     }
-    Put::Whole
+    Ok(())
 }
 
 fn put_head<S: Sink>(sink: &mut S, count: u32) -> Put
     ensures { Puts (S.told sink.old) (S.faults sink.old) (head_bytes count) result (S.told sink.new) (S.faults sink.new) }
 {
-    match put_all(sink, b"VARANTR1") {
-        Put::Whole => put_numbers(sink, &[count]),
-        Put::Failed => Put::Failed,
-    }
+    put_all(sink, b"VARANTR1")?;
+    put_numbers(sink, &[count])
 }
 
 /// Writes the trace of a log. It takes no memory.
@@ -71,8 +59,6 @@ pub fn write<S: Sink>(sink: &mut S, log: &[Event]) -> Put
     requires { IsRecordable (map entry log.now) }
     ensures { Puts (S.told sink.old) (S.faults sink.old) (trace_of (map entry log.now)) result (S.told sink.new) (S.faults sink.new) }
 {
-    match put_head(sink, log.len() as u32) {
-        Put::Whole => put_events(sink, log),
-        Put::Failed => Put::Failed,
-    }
+    put_head(sink, log.len() as u32)?;
+    put_events(sink, log)
 }

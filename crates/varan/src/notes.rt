@@ -4,7 +4,7 @@ use itoa::Buffer;
 use nv_arrivals::ArrivalCause;
 use nv_calls::Event;
 use nv_cli::Ending;
-use nv_outside::{CalmSink, Sink, put_all, put_pieces};
+use nv_outside::{CalmSink, Put, Sink, put_all, put_pieces};
 use nv_replay::{Fate, Standing};
 use nv_report::{put_event, put_fate};
 use nv_workers::{Gate, VersionNumber};
@@ -33,7 +33,7 @@ pub struct Notes {
     telling: Telling,
 }
 
-fn put_end<S: Sink>(sink: &mut S, version: VersionNumber, fate: Fate, seen: u32) {
+fn put_end<S: Sink>(sink: &mut S, version: VersionNumber, fate: Fate, seen: u32) -> Put {
     let mut number = Buffer::new();
     let mut events = Buffer::new();
     put_pieces(
@@ -43,15 +43,15 @@ fn put_end<S: Sink>(sink: &mut S, version: VersionNumber, fate: Fate, seen: u32)
             number.format(version.0).as_bytes(),
             b" ended: ",
         ],
-    );
-    put_fate(sink, fate);
+    )?;
+    put_fate(sink, fate)?;
     put_pieces(
         sink,
         &[b", after ", events.format(seen).as_bytes(), b" events\n"],
-    );
+    )
 }
 
-fn put_lead<S: Sink>(sink: &mut S, version: VersionNumber, stamp: u32) {
+fn put_lead<S: Sink>(sink: &mut S, version: VersionNumber, stamp: u32) -> Put {
     let mut number = Buffer::new();
     let mut event = Buffer::new();
     put_pieces(
@@ -63,10 +63,10 @@ fn put_lead<S: Sink>(sink: &mut S, version: VersionNumber, stamp: u32) {
             event.format(stamp).as_bytes(),
             b"\n",
         ],
-    );
+    )
 }
 
-fn put_line_of_input<S: Sink>(sink: &mut S, line: u32, why: &[u8]) {
+fn put_line_of_input<S: Sink>(sink: &mut S, line: u32, why: &[u8]) -> Put {
     let mut number = Buffer::new();
     put_pieces(
         sink,
@@ -77,7 +77,7 @@ fn put_line_of_input<S: Sink>(sink: &mut S, line: u32, why: &[u8]) {
             why,
             b"\n",
         ],
-    );
+    )
 }
 
 fn word_of(cause: ArrivalCause) -> &'static [u8] {
@@ -90,18 +90,19 @@ fn word_of(cause: ArrivalCause) -> &'static [u8] {
     }
 }
 
-fn put_ending<S: Sink>(sink: &mut S, ending: Ending) {
+fn put_ending<S: Sink>(sink: &mut S, ending: Ending) -> Put {
     match ending {
-        Ending::Finished | Ending::Untold => {}
-        Ending::Unread => {
-            put_all(sink, b"# varan: read standard input\n");
-        }
+        Ending::Finished | Ending::Untold => Ok(()),
+        Ending::Unread => put_all(sink, b"# varan: read standard input\n"),
         Ending::Refused(line, cause) => put_line_of_input(sink, line, word_of(cause)),
         Ending::CutOff(line) => put_line_of_input(sink, line, b"cut"),
-        Ending::Unsaid => {
-            put_all(sink, b"# varan: write standard output\n");
-        }
+        Ending::Unsaid => put_all(sink, b"# varan: write standard output\n"),
     }
+}
+
+fn put_comment_of<S: Sink>(sink: &mut S, event: &Event) -> Put {
+    put_all(sink, b"# ")?;
+    put_event(sink, event)
 }
 
 impl Notes {
@@ -116,8 +117,8 @@ impl Notes {
     /// Tells how a live run ended, where a stream of it failed.
     pub fn tell_ending(&self, ending: Ending) {
         if let Some(mut line) = self.line() {
-            put_ending(&mut line, ending);
-            self.write(&line);
+            let put = put_ending(&mut line, ending);
+            self.write(&line, put);
         }
     }
 
@@ -126,9 +127,11 @@ impl Notes {
         CalmSink::make(self.alloc, LONGEST).ok()
     }
 
-    fn write(&self, line: &CalmSink) {
-        let mut stderr = &self.stderr;
-        let _wrote = stderr.write_all(line.written());
+    fn write(&self, line: &CalmSink, put: Put) {
+        if put.is_ok() {
+            let mut stderr = &self.stderr;
+            let _wrote = stderr.write_all(line.written());
+        }
     }
 }
 
@@ -142,9 +145,8 @@ impl Gate for Notes {
             return;
         }
         if let Some(mut line) = self.line() {
-            put_all(&mut line, b"# ");
-            put_event(&mut line, event);
-            self.write(&line);
+            let put = put_comment_of(&mut line, event);
+            self.write(&line, put);
         }
     }
 
@@ -153,8 +155,8 @@ impl Gate for Notes {
             return;
         }
         if let Some(mut line) = self.line() {
-            put_lead(&mut line, version, stamp);
-            self.write(&line);
+            let put = put_lead(&mut line, version, stamp);
+            self.write(&line, put);
         }
     }
 
@@ -166,8 +168,8 @@ impl Gate for Notes {
             return;
         }
         if let Some(mut line) = self.line() {
-            put_end(&mut line, version, fate, standing.seen);
-            self.write(&line);
+            let put = put_end(&mut line, version, fate, standing.seen);
+            self.write(&line, put);
         }
     }
 }

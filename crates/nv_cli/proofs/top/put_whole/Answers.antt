@@ -5,9 +5,9 @@ use Rattle.nv_arriving.specs.Scripted.{start_from}
 use Rattle.nv_sockets.specs.Texts.{connections_text}
 use Rattle.nv_cli.proofs.top.put_whole.Goals as goal
 
-pub returns-in-Whole : goal.returns-in-Whole
-returns-in-Whole g c = puts-then c.in-Whole.ensures (puts-is (ap connections_text c.connections.ensures.written) c.write_connections.ensures)
+pub returns : goal.returns
+returns g c = puts-then c.in_ok-write.ensures (puts-is (ap connections_text c.connections.ensures.written) c.write_connections.ensures)
 
-pub returns-in-Failed : goal.returns-in-Failed
-returns-in-Failed g c =
-    puts-failed (connections_text (connections_of (start_from c.args.account.now.kernel.setup) c.args.account.now.kernel.log)) c.in-Failed.ensures
+pub returns-in_err-write : goal.returns-in_err-write
+returns-in_err-write g c =
+    puts-failed (connections_text (connections_of (start_from c.args.account.now.kernel.setup) c.args.account.now.kernel.log)) c.from_residual.ensures.0 c.in_err-write.ensures

@@ -3,11 +3,11 @@ use Rattle.nv_outside.proofs.Writing.{puts-then, puts-failed}
 use Rattle.nv_inspect.specs.Shown.{standing_text}
 use Rattle.nv_inspect.proofs.head.put_head.Goals as goal
 
-pub returns-in-Failed : goal.returns-in-Failed
-returns-in-Failed g c = puts-failed (standing_text c.args.fate ++ codes "\n") c.in-Failed.ensures
+pub returns-in_err-put_place : goal.returns-in_err-put_place
+returns-in_err-put_place g c = puts-failed (standing_text c.args.fate ++ codes "\n") c.from_residual.ensures.0 c.in_err-put_place.ensures
 
-pub returns-in-Whole-put_end : goal.returns-in-Whole-put_end
-returns-in-Whole-put_end g c = puts-then c.in-Whole.ensures (puts-then c.in-Whole-put_end.ensures c.put_all.ensures)
+pub returns : goal.returns
+returns g c = puts-then c.in_ok-put_place.ensures (puts-then c.in_ok-put_end.ensures c.put_all.ensures)
 
-pub returns-in-Failed-put_end : goal.returns-in-Failed-put_end
-returns-in-Failed-put_end g c = puts-then c.in-Whole.ensures (puts-failed (codes "\n") c.in-Failed-put_end.ensures)
+pub returns-in_err-put_end : goal.returns-in_err-put_end
+returns-in_err-put_end g c = puts-then c.in_ok-put_place.ensures (puts-failed (codes "\n") c.from_residual.ensures.0 c.in_err-put_end.ensures)

@@ -4,11 +4,11 @@ use Rattle.nv_inspect.specs.Firsts.{texts_below}
 use Rattle.nv_inspect.specs.Shown.{register_text}
 use Rattle.nv_inspect.proofs.threads.put_registers.Goals as goal
 
-pub returns-in-Failed : goal.returns-in-Failed
-returns-in-Failed g c = puts-failed (texts_below (register_text c.args.regs.now) 32 ++ codes "\n") c.in-Failed.ensures
+pub returns-in_err-put_all : goal.returns-in_err-put_all
+returns-in_err-put_all g c = puts-failed (texts_below (register_text c.args.regs.now) 32 ++ codes "\n") c.from_residual.ensures.0 c.in_err-put_all.ensures
 
-pub returns-in-Whole-put_each_register : goal.returns-in-Whole-put_each_register
-returns-in-Whole-put_each_register g c = puts-then c.in-Whole.ensures (puts-then c.in-Whole-put_each_register.ensures c.put_all-in-Whole-put_each_register.ensures)
+pub returns : goal.returns
+returns g c = puts-then c.in_ok-put_all.ensures (puts-then c.in_ok-put_each_register.ensures c.put_all-2.ensures)
 
-pub returns-in-Failed-put_each_register : goal.returns-in-Failed-put_each_register
-returns-in-Failed-put_each_register g c = puts-then c.in-Whole.ensures (puts-failed (codes "\n") c.in-Failed-put_each_register.ensures)
+pub returns-in_err-put_each_register : goal.returns-in_err-put_each_register
+returns-in_err-put_each_register g c = puts-then c.in_ok-put_all.ensures (puts-failed (codes "\n") c.from_residual.ensures.0 c.in_err-put_each_register.ensures)

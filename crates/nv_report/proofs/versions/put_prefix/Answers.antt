@@ -3,10 +3,10 @@ use Rattle.nv_outside.proofs.Writing.{puts-is, puts-then, puts-failed}
 use Rattle.nv_report.specs.Versions.{end_text}
 use Rattle.nv_report.proofs.versions.put_prefix.Goals as goal
 
-pub returns-in-Whole : goal.returns-in-Whole
-returns-in-Whole g c =
-    puts-then (puts-is (ap (λ t. t ++ 32 ∷ []) (c.as_bytes.ensures.value ∙ c.format.ensures.text)) c.in-Whole.ensures) c.put_fate_of.ensures
+pub returns : goal.returns
+returns g c =
+    puts-then (puts-is (ap (λ t. t ++ 32 ∷ []) (c.as_bytes.ensures.value ∙ c.format.ensures.text)) c.in_ok-put_pieces.ensures) c.put_fate_of.ensures
 
-pub returns-in-Failed : goal.returns-in-Failed
-returns-in-Failed g c =
-    puts-failed (end_text c.args.fate) (puts-is (ap (λ t. t ++ 32 ∷ []) (c.as_bytes.ensures.value ∙ c.format.ensures.text)) c.in-Failed.ensures)
+pub returns-in_err-put_pieces : goal.returns-in_err-put_pieces
+returns-in_err-put_pieces g c =
+    puts-failed (end_text c.args.fate) c.from_residual.ensures.0 (puts-is (ap (λ t. t ++ 32 ∷ []) (c.as_bytes.ensures.value ∙ c.format.ensures.text)) c.in_err-put_pieces.ensures)

@@ -4,8 +4,8 @@ use Rattle.nv_outside.proofs.Writing.{puts-is, puts-then, puts-failed}
 use Rattle.nv_text.specs.Numbers.{hex_of}
 use Rattle.nv_report.proofs.versions.put_refused.Goals as goal
 
-pub returns-in-Whole : goal.returns-in-Whole
-returns-in-Whole g c = puts-then c.in-Whole.ensures (puts-is (ap hex_of c.to_be_bytes.ensures) c.put_hex.ensures)
+pub returns : goal.returns
+returns g c = puts-then c.in_ok-put_refused_call.ensures (puts-is (ap hex_of c.to_be_bytes.ensures) c.put_hex.ensures)
 
-pub returns-in-Failed : goal.returns-in-Failed
-returns-in-Failed g c = puts-failed (hex_of (to_be_bytes w32 c.args.verdict)) c.in-Failed.ensures
+pub returns-in_err-put_refused_call : goal.returns-in_err-put_refused_call
+returns-in_err-put_refused_call g c = puts-failed (hex_of (to_be_bytes w32 c.args.verdict)) c.from_residual.ensures.0 c.in_err-put_refused_call.ensures

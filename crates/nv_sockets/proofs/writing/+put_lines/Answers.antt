@@ -5,12 +5,12 @@ use Rattle.nv_sockets.specs.Texts.{connection_texts}
 use Rattle.nv_sockets.specs.Views.{written_of}
 use Rattle.nv_sockets.proofs.writing.+put_lines.Goals as goal
 
-pub returns-in-Whole : goal.returns-in-Whole
-returns-in-Whole g t c =
+pub returns-in_ok-put_line-in-Some : goal.returns-in_ok-put_line-in-Some
+returns-in_ok-put_line-in-Some g t c =
     puts-is (ap (λ (cs : List Connection). connection_texts c.args.first (map written_of cs)) (sym c.in-Some.ensures.cases.0))
-    (puts-then c.in-Whole.ensures c.put_lines.ensures)
+    (puts-then c.in_ok-put_line-in-Some.ensures c.put_lines.ensures)
 
-pub returns-in-Failed : goal.returns-in-Failed
-returns-in-Failed g t c =
+pub returns-in_err-put_line-in-Some : goal.returns-in_err-put_line-in-Some
+returns-in_err-put_line-in-Some g t c =
     puts-is (ap (λ (cs : List Connection). connection_texts c.args.first (map written_of cs)) (sym c.in-Some.ensures.cases.0))
-    (puts-failed (connection_texts (c.args.first + 1) (map written_of c.in-Some.others.now)) c.in-Failed.ensures)
+    (puts-failed (connection_texts (c.args.first + 1) (map written_of c.in-Some.others.now)) c.from_residual.ensures.0 c.in_err-put_line-in-Some.ensures)

@@ -1,7 +1,6 @@
-use Rattle.std.proofs.Common.{take}
+use Rattle.std.proofs.Common.{take, Ok}
 use Rattle.std.specs.List.{flat_map}
 use Rattle.nv_outside.specs.Sink.{Puts}
-use Rattle.nv_outside.specs.declared.sink.Put.TheVariants.{Whole}
 use Rattle.nv_calls.specs.Calls.{entry}
 use Rattle.nv_trace.specs.Trace.{event_bytes}
 use Rattle.nv_trace.proofs.writing.put_events.Given as goal
@@ -9,4 +8,4 @@ use Rattle.nv_trace.proofs.writing.put_events.Given as goal
 abbrev pub invariant-loop-event : goal.invariant-loop-event
 invariant-loop-event g l =
     Puts (g.S.Sink.told l.fn.sink) (g.S.Sink.faults l.fn.sink) (flat_map (λ event. event_bytes (entry event)) (take l.event-index l.log))
-    Whole (g.S.Sink.told l.sink) (g.S.Sink.faults l.sink)
+    (Ok tt) (g.S.Sink.told l.sink) (g.S.Sink.faults l.sink)

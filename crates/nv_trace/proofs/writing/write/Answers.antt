@@ -7,12 +7,12 @@ use Rattle.nv_trace.specs.Trace.{event_bytes, head_bytes, trace_of}
 use Rattle.nv_trace.proofs.Recording.{bytes_of_events}
 use Rattle.nv_trace.proofs.writing.write.Goals as goal
 
-pub returns-in-Whole : goal.returns-in-Whole
+pub returns : goal.returns
 unfolding trace_of
-returns-in-Whole g c =
-    puts-then (puts-is (ap head_bytes (sym (length-map c.args.log.now entry))) c.in-Whole.ensures) (puts-is (bytes_of_events c.args.log.now) c.put_events.ensures)
+returns g c =
+    puts-then (puts-is (ap head_bytes (sym (length-map c.args.log.now entry))) c.in_ok-put_head.ensures) (puts-is (bytes_of_events c.args.log.now) c.put_events.ensures)
 
-pub returns-in-Failed : goal.returns-in-Failed
+pub returns-in_err-put_head : goal.returns-in_err-put_head
 unfolding trace_of
-returns-in-Failed g c =
-    puts-failed (flat_map event_bytes (map entry c.args.log.now)) (puts-is (ap head_bytes (sym (length-map c.args.log.now entry))) c.in-Failed.ensures)
+returns-in_err-put_head g c =
+    puts-failed (flat_map event_bytes (map entry c.args.log.now)) c.from_residual.ensures.0 (puts-is (ap head_bytes (sym (length-map c.args.log.now entry))) c.in_err-put_head.ensures)
