@@ -15,8 +15,9 @@ use Rattle.nv_bpf.specs.declared.op.Op.{Op}
 use Rattle.nv_calls.specs.Calls.{Entry}
 use Rattle.nv_calls.specs.Logs.{calls_of}
 use Rattle.nv_command.specs.Words.{Limits}
+use Rattle.nv_live.specs.Lines.{held_text}
 use Rattle.nv_live.specs.Live.{stop_with}
-use Rattle.nv_live.specs.Run.{CameBy, said_text, DidRun, IsBegun, input_of, output_of, notes_of, stop_of_run, source_stop}
+use Rattle.nv_live.specs.Run.{CameBy, said_text, DidRun, IsBegun, input_of, output_of, notes_of, line_of, held_by, stop_of_run, source_stop}
 use Rattle.nv_live.specs.Telling.{Told}
 use Rattle.nv_live.specs.Transcript.{lines_of}
 use Rattle.nv_live.specs.Writer.{sink_in, put_of}
@@ -62,11 +63,11 @@ bare setup none = ap (λ arrivals. Ok (with_arrivals setup arrivals)) none
 abbrev MayCome : List Arrival → Type 0
 MayCome arrivals = (list_all is_arrival arrivals ≡ true) × (are_orderly arrivals ≡ true)
 
-may_come : (clients : Bool) (before now : Option (List (List ℕ))) (faults later_faults : ℕ) (stopped : Option Stopped) (arrivals : List Arrival)
-    → CameBy clients before now faults later_faults stopped arrivals → MayCome arrivals
+may_come : (clients : Bool) (before now : Option (List (List ℕ))) (faults later_faults : ℕ) (stopped : Option Stopped) (line held : List ℕ) (arrivals : List Arrival)
+    → CameBy clients before now faults later_faults stopped line held arrivals → MayCome arrivals
 unfolding are_arrivals
-may_come false before now faults later_faults stopped arrivals came = and_parts came.1.may_come
-may_come true before now faults later_faults stopped arrivals came = (came.4.limits, ap is_ok came.4.orderly)
+may_come false before now faults later_faults stopped line held arrivals came = and_parts (list_all is_arrival arrivals) (are_orderly arrivals) came.1.may_come
+may_come true before now faults later_faults stopped line held arrivals came = (came.2.limits, ap is_ok came.2.orderly)
 
 -- the script with what came, where nothing came in it
 with_more : (setup : Setup) (came : List Arrival) → setup.arrivals ≡ [] → continued_by came setup ≡ with_arrivals setup came
@@ -88,15 +89,19 @@ module _ {I O T : Type 0} (took : I → Option (List (List ℕ))) (unread : I �
 
   module _ (clients : Bool) (setup : Setup) (head : List ℕ) (begins : IsTranscript head setup) (none : setup.arrivals ≡ []) (before after : Held I O T)
       (first later : LiveRun I O T) (begun : IsBegun took unread said unsaid noted unnoted clients head before (told took unread said unsaid noted unnoted first))
-      (ending : Ending) (left : HasLeft later after ending) where
+      (ending : Ending) (left : HasLeft noted unnoted later after ending) where
+    -- this came by the streams
+    abbrev Came : List Arrival → Type 0
+    Came arrivals = CameBy clients (took before.input) (took after.input) (unread before.input) (unread after.input) (source_stop later) (line_of later) (held_by later) arrivals
+
     came_by : (arrivals : List Arrival) (t : Told) → IsBegun took unread said unsaid noted unnoted clients head before t
-        → CameBy t.clients t.read (took (input_of later)) t.unread (unread (input_of later)) (source_stop later) arrivals
-        → CameBy clients (took before.input) (took after.input) (unread before.input) (unread after.input) (source_stop later) arrivals
+        → CameBy t.clients t.read (took (input_of later)) t.unread (unread (input_of later)) (source_stop later) (line_of later) (held_by later) arrivals
+        → Came arrivals
     came_by arrivals t b came =
-        subst (λ i. CameBy clients (took before.input) (took i) (unread before.input) (unread i) (source_stop later) arrivals) (sym left.input)
-        (subst (λ w. CameBy w (took before.input) (took (input_of later)) (unread before.input) (unread (input_of later)) (source_stop later) arrivals) b.way
-        (subst (λ n. CameBy t.clients (took before.input) (took (input_of later)) n (unread (input_of later)) (source_stop later) arrivals) b.unread_is
-        (subst (λ r. CameBy t.clients r (took (input_of later)) t.unread (unread (input_of later)) (source_stop later) arrivals) b.read came)))
+        subst (λ i. CameBy clients (took before.input) (took i) (unread before.input) (unread i) (source_stop later) (line_of later) (held_by later) arrivals) (sym left.input)
+        (subst (λ w. CameBy w (took before.input) (took (input_of later)) (unread before.input) (unread (input_of later)) (source_stop later) (line_of later) (held_by later) arrivals) b.way
+        (subst (λ n. CameBy t.clients (took before.input) (took (input_of later)) n (unread (input_of later)) (source_stop later) (line_of later) (held_by later) arrivals) b.unread_is
+        (subst (λ r. CameBy t.clients r (took (input_of later)) t.unread (unread (input_of later)) (source_stop later) (line_of later) (held_by later) arrivals) b.read came)))
 
     written_by : (done : List Doing) (t : Told) → IsBegun took unread said unsaid noted unnoted clients head before t
         → Puts t.said t.unsaid (said_text t.clients (sayings done)) (put_of (output_of later)) (said (sink_in (output_of later))) (unsaid (sink_in (output_of later)))
@@ -108,29 +113,31 @@ module _ {I O T : Type 0} (took : I → Option (List (List ℕ))) (unread : I �
         (subst (λ s. Puts s t.unsaid (said_text t.clients (sayings done)) (put_of (output_of later)) (said (sink_in (output_of later))) (unsaid (sink_in (output_of later)))) b.said_is written)))
 
     -- what was done over the run of a log
-    lived : (came : List Arrival) (log : List Entry) (late : Bool) (done : List Doing) → IsTold (DidRun took unread said unsaid noted unnoted) first later setup came log late done
-        → Lived clients (with_arrivals setup came) log ending (streams_of took unread said unsaid noted unnoted before) (streams_of took unread said unsaid noted unnoted after)
-    lived came log late done t =
+    lived : (arrivals : List Arrival) (log : List Entry) (late : Bool) (done : List Doing) → IsTold (DidRun took unread said unsaid noted unnoted) first later setup arrivals log late done
+        → Lived clients (with_arrivals setup arrivals) log ending (streams_of took unread said unsaid noted unnoted before) (streams_of took unread said unsaid noted unnoted after)
+    lived arrivals log late done t =
         let s = shown took unread said unsaid noted unnoted first later done t.is in
+        let came = came_by (takings done) (told took unread said unsaid noted unnoted first) begun s.came in
         record {
           done = done;
           took_all = t.took;
-          said_all = t.said ∙ ap sayings (does_alike setup came log);
+          said_all = t.said ∙ ap sayings (does_alike setup arrivals log);
           late = late;
-          in_order = subst (λ all. late ≡ false → done ≡ all ++ map Takes (stage_after (first_stage setup came) (calls_of log)).rest) (does_alike setup came log) t.in_order;
+          in_order = subst (λ all. late ≡ false → done ≡ all ++ map Takes (stage_after (first_stage setup arrivals) (calls_of log)).rest) (does_alike setup arrivals log) t.in_order;
           stopped = source_stop later;
-          came = came_by (takings done) (told took unread said unsaid noted unnoted first) begun s.came;
+          line = line_of later;
+          held = held_by later;
+          came = came;
           said = put_of (output_of later);
           written = written_by done (told took unread said unsaid noted unnoted first) begun s.written;
           head = head;
           begins = begins.says ∙ bare setup none;
           reads = λ bytes. ap (λ (arrivals : List Arrival). script_of (head ++ lines_of arrivals)) t.took
-              ∙ reads_on head setup came begins none (may_come clients _ _ _ _ (source_stop later) came (subst (λ (arrivals : List Arrival). CameBy clients (took before.input) (took after.input) (unread before.input) (unread after.input) (source_stop later) arrivals) t.took
-              (came_by (takings done) (told took unread said unsaid noted unnoted first) begun s.came))) bytes;
-          told = put_of (notes_of later);
-          noted = subst (λ sink. Puts (noted before.transcript) (unnoted before.transcript) (head ++ lines_of (takings done)) (put_of (notes_of later)) (noted sink) (unnoted sink)) (sym left.transcript)
-              (s.lines before.transcript head begun.noted_is);
-          ends = left.ends ∙ ap (λ stopped. ending_of stopped (put_of (output_of later)) (put_of (notes_of later))) (stops later);
+              ∙ reads_on head setup arrivals begins none (may_come clients _ _ _ _ (source_stop later) (line_of later) (held_by later) arrivals (subst Came t.took came)) bytes;
+          told = put_of left.notes;
+          noted = subst (λ sink. Puts (noted before.transcript) (unnoted before.transcript) ((head ++ lines_of (takings done)) ++ held_text (line_of later) (held_by later)) (put_of left.notes) (noted sink) (unnoted sink))
+              (sym left.transcript) (left.shows (record { sink = before.transcript; put = Ok tt }) (head ++ lines_of (takings done)) (s.lines before.transcript head begun.noted_is));
+          ends = left.ends ∙ ap (λ stopped. ending_of stopped (put_of (output_of later)) (put_of left.notes)) (stops later);
         }
 
   -- the versions of a live run ran over what came
@@ -141,7 +148,7 @@ module _ {I O T : Type 0} (took : I → Option (List (List ℕ))) (unread : I �
       → IsBegunOver took unread said unsaid noted unnoted clients setup head before kernel
       → RanOver (told took unread said unsaid noted unnoted) kernel rules limits.calls hands versions account
       → Tells (DidRun took unread said unsaid noted unnoted) account.kernel.begun account.kernel.outside account.kernel.setup account.kernel.came account.kernel.log account.kernel.late
-      → HasLeft account.kernel.outside after ending
+      → HasLeft noted unnoted account.kernel.outside after ending
       → Served limits clients setup rules machines (streams_of took unread said unsaid noted unnoted before) sink faults status sink faults
       (Some (streams_of took unread said unsaid noted unnoted after, ending))
   served_by limits clients setup head rules hands versions machines before after ending kernel account sink faults status ends are begins none planned begun ran tells left =

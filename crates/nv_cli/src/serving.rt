@@ -46,12 +46,13 @@ fn kernel_over<I: Source, O: Sink + Drop, T: Sink + Drop>(
     ArrivingKernel::make(alloc, script, live)
 }
 
-// What a run has left of its streams.
+// What a run has left of its streams; what no call took is shown in the transcript.
 fn left_by<I: Source, O: Sink + Drop, T: Sink + Drop>(
-    live: LiveRun<I, O, T>,
+    mut live: LiveRun<I, O, T>,
 ) -> (Streams<I, O, T>, Ending)
-    ensures { HasLeft live result.0 result.1 }
+    ensures { HasLeft T.told T.faults live result.0 result.1 }
 {
+    live.show_held();
     let ending = how_ended(live.stopped(), live.said(), live.told());
     (live.finish(), ending)
 }

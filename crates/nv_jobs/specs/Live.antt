@@ -8,6 +8,7 @@ use Rattle.nv_arriving.specs.Doings.{doings}
 use Rattle.nv_calls.specs.Calls.{Entry}
 use Rattle.nv_calls.specs.Logs.{calls_of}
 use Rattle.nv_command.specs.Words.{Limits, Service}
+use Rattle.nv_live.specs.Lines.{held_text}
 use Rattle.nv_live.specs.Live.{stop_with}
 use Rattle.nv_live.specs.Run.{CameBy, said_text}
 use Rattle.nv_live.specs.Transcript.{lines_of}
@@ -120,8 +121,8 @@ ending_of None said told = ended_by_writes said told
 
 -- A live run over these streams, by its log: each arrival was taken when the call that waited for it was made, and what a call says was said when it was served, before the next
 -- arrival was asked for. That order is exact unless memory was wanted for a call that had waited, so that a later call found what it had left.
--- The bytes are those of the streams: what was read, as plain input or as lines of clients; the bytes or the lines of what was said; and the transcript, which begins with a text that says what the run began with,
--- and is, up to the last arrival's line, a script that says the whole run (an arrival's numbers are bytes wherever bytes were read).
+-- The bytes are those of the streams: what was read, as plain input or as lines of clients, and so is what no call took; the bytes or the lines of what was said; and the transcript. That begins with a text that
+-- says what the run began with, is up to the last arrival's line a script that says the whole run (an arrival's numbers are bytes wherever bytes were read), and has what no call took behind it, as comments.
 pub record Lived (clients : Bool) (setup : Setup) (log : List Entry) (ending : Ending) (before after : Streams) : Type 0 where
   pub done : List Doing
   pub took_all : takings done ≡ setup.arrivals
@@ -129,12 +130,14 @@ pub record Lived (clients : Bool) (setup : Setup) (log : List Entry) (ending : E
   pub late : Bool
   pub in_order : late ≡ false → done ≡ doings setup setup.arrivals log ++ map Takes (stage_after (first_stage setup setup.arrivals) (calls_of log)).rest
   pub stopped : Option Stopped
-  pub came : CameBy clients before.read after.read before.unread after.unread stopped (takings done)
+  pub line : List ℕ
+  pub held : List ℕ
+  pub came : CameBy clients before.read after.read before.unread after.unread stopped line held (takings done)
   pub said : Put
   pub written : Puts before.said before.unsaid (said_text clients (sayings done)) said after.said after.unsaid
   pub head : List ℕ
   pub begins : script_of head ≡ Ok (with_arrivals setup [])
   pub reads : All BringsBytes setup.arrivals → script_of (head ++ lines_of (takings done)) ≡ Ok setup
   pub told : Put
-  pub noted : Puts before.noted before.unnoted (head ++ lines_of (takings done)) told after.noted after.unnoted
+  pub noted : Puts before.noted before.unnoted ((head ++ lines_of (takings done)) ++ held_text line held) told after.noted after.unnoted
   pub ends : ending ≡ ending_of (stop_with stopped said) said told

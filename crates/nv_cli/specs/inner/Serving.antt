@@ -5,11 +5,13 @@ use Rattle.nv_arriving.specs.Arriving.{start_of_arrivals}
 use Rattle.nv_arriving.specs.Kernel.{KernelState, begun_in}
 use Rattle.nv_bpf.specs.declared.op.Op.{Op}
 use Rattle.nv_command.specs.Words.{Limits}
-use Rattle.nv_live.specs.Run.{input_of, output_of, notes_of, stop_of_run, told_run, IsBegun}
+use Rattle.nv_live.specs.Lines.{held_text}
+use Rattle.nv_live.specs.Run.{input_of, output_of, notes_of, line_of, held_by, stop_of_run, told_run, IsBegun}
 use Rattle.nv_live.specs.Telling.{Told}
-use Rattle.nv_live.specs.Writer.{sink_in, put_of}
+use Rattle.nv_live.specs.Writer.{sink_in, put_of, WritesOn}
 use Rattle.nv_live.specs.declared.run.LiveRun.{LiveRun}
 use Rattle.nv_live.specs.declared.streams.Streams.{Streams as Held}
+use Rattle.nv_live.specs.declared.writer.Writer.{Writer}
 use Rattle.nv_machine.specs.Guest.{Machine}
 use Rattle.nv_replay.specs.Account.{AreFresh}
 use Rattle.nv_replay.specs.Follow.{judge_of}
@@ -52,12 +54,14 @@ pub record RanOver {X T : Type 0} (told : X → T) (kernel : KernelState X) (rul
   pub same : begun_in told account.kernel ≡ begun_in told kernel
   pub is_account : IsAccount threads (judge_of rules) (start_of_arrivals account.kernel.setup account.kernel.came) calls hands versions account.versions.items account.kernel.log
 
--- what an outside leaves
-pub record HasLeft {I O T : Type 0} (live : LiveRun I O T) (streams : Held I O T) (ending : Ending) : Type 0 where
+-- what an outside leaves, with what no call took behind its transcript
+pub record HasLeft {I O T : Type 0} (noted : T → Option (List ℕ)) (unnoted : T → ℕ) (live : LiveRun I O T) (streams : Held I O T) (ending : Ending) : Type 0 where
   pub input : streams.input ≡ input_of live
   pub output : streams.output ≡ sink_in (output_of live)
-  pub transcript : streams.transcript ≡ sink_in (notes_of live)
-  pub ends : ending ≡ ending_of (stop_of_run live) (put_of (output_of live)) (put_of (notes_of live))
+  pub notes : Writer T
+  pub shows : WritesOn noted unnoted (notes_of live) notes (held_text (line_of live) (held_by live))
+  pub transcript : streams.transcript ≡ sink_in notes
+  pub ends : ending ≡ ending_of (stop_of_run live) (put_of (output_of live)) (put_of notes)
 
 -- The versions ran over what came, nothing was written beside their streams, and these are left.
 pub record Served (limits : Limits) (clients : Bool) (setup : Setup) (rules : Option (List Op)) (machines : List Machine) (streams : Streams) (before : Option (List ℕ)) (faults status : ℕ) (after : Option (List ℕ)) (later_faults : ℕ) (left : Option (Streams × Ending)) : Type 0 where
