@@ -516,6 +516,7 @@ cat >"$work/overlap" <<'END'
       do: mend the linker file
 END
 told 0 "$work/overlap" "$here/explain.py" 'varan: input hi: overlap 1 2'
+told 0 "$work/overlap" "$here/explain.py" '# varan: input hi: overlap 1 2'
 causes=(long 'line 1 form' 'line 3 word' 'line 3 shape' 'line 3 range' 'line 3 twice' 'line 3 long' 'line 3' empty 'too long' count 'code 3' 'jump 3' 'scratch 3' 'offset 3' 'zero 3'
     'shift 3' 'no return' 'line 3 operand' 'line 3 label' 'line 3 far' 'line 3 mnemonic' short magic class type machine flags header interpreted 'outside 3' 'overlap 1 2' entry 'no room 3'
     'no room 0' arguments 'short 3' 'field 3' extra 'ended 3' 'shape 3' 'thread 3' 'reply 3')

@@ -3,6 +3,7 @@
 
     explain.py 'varan: input hi: no room 0'     explains this line
     varan .. | explain.py                       passes everything on, and explains a refusal on standard error
+    varan serve .. 2>&1 | explain.py            the same; a live run's refusal is a comment of its transcript, `# varan: ..`
 
 Status: 0 where there was nothing to explain or all was explained, 1 where the pages have no row for a refusal.
 """
@@ -11,7 +12,7 @@ import re
 import sys
 
 DOCS = pathlib.Path(__file__).resolve().parent.parent / "docs"
-REFUSAL = re.compile(r"varan: (?:input (?P<file>.*): (?P<cause>.*)|(?P<line>usage|memory|read) ?.*)")
+REFUSAL = re.compile(r"(?:# )?varan: (?:input (?P<file>.*): (?P<cause>.*)|(?P<line>usage|memory|read) ?.*)")
 # In a cause of the pages these letters stand for numbers.
 NUMBERS = "NIAB"
 
