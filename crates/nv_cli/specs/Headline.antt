@@ -76,7 +76,7 @@ use Rattle.nv_fs.specs.States.{Inode, FileState, Answer, answer, only, numbered,
 use Rattle.nv_fs.specs.Stored.{write_console, with_content, start_of, write_at, write_pipe, write_target, write_open, write_of}
 use Rattle.nv_fs.specs.Told.{told_by, told_of, opened_as}
 use Rattle.nv_fs.specs.Waits.{is_input, reads_input, waits_on_input}
-use Rattle.nv_arrivals.specs.Arrivals.{Arrival, is_sized, is_port, is_arrival}
+use Rattle.nv_arrivals.specs.Arrivals.{Arrival, is_sized, is_port, is_arrival, AreBytes, BringsBytes}
 use Rattle.nv_arrivals.specs.Doings.{Said, Doing, takings, sayings}
 use Rattle.nv_arrivals.specs.Order.{Came, nothing_came, input_going, input_ended, clients_ended, with_client, sending, client_ended, admitted, onward, after, are_orderly, are_arrivals}
 use Rattle.nv_arrivals.specs.Pieces.{cut_after, pieces, input_of}
@@ -84,9 +84,10 @@ use Rattle.nv_arrivals.specs.Reading.{words as nv_arrivals_words, word_of, is_wo
 use Rattle.nv_arrivals.specs.Writing.{is_printable, front, is_line, input_text, line_text}
 use Rattle.nv_live.specs.Clients.{clients_text}
 use Rattle.nv_live.specs.ComingLines.{is_plain as nv_live_is_plain, is_passed, says, text_of, Say, Come}
+use Rattle.nv_live.specs.Lines.{parts_after, parts, line_with as nv_live_line_with, lines_with, held_text}
 use Rattle.nv_live.specs.Live.{stop_with, plain_bytes, plain_text}
 use Rattle.nv_live.specs.Run.{CameBy, said_text}
-use Rattle.nv_live.specs.SaidLines.{parts_after, parts, head_of, line_with as nv_live_line_with, lines_with, said_lines}
+use Rattle.nv_live.specs.SaidLines.{head_of, said_lines}
 use Rattle.nv_live.specs.Source.{Gave, Reads, faults_by_read}
 use Rattle.nv_live.specs.Taking.{faults_by_stop, Took}
 use Rattle.nv_live.specs.Transcript.{lines_of}
