@@ -1,5 +1,5 @@
 // Lines of content.
-use crate::RowFault;
+use crate::fault::RowFault;
 use crate::texts::Texts;
 use nv_text::{number, split_field, unhex};
 

@@ -1,5 +1,5 @@
 // Texts with names, and what a `$` stands for.
-use crate::RowFault;
+use crate::fault::RowFault;
 use nv_text::{cut, decimal, unhex};
 use std::alloc::Global;
 

@@ -1,7 +1,7 @@
 // A row in the making.
-use crate::RowFault;
 use crate::content::{content_of, hex_of};
 use crate::entry::Field;
+use crate::fault::RowFault;
 use crate::row::{Change, Kind, Row, RowFile, Wanted};
 use crate::texts::Texts;
 use nv_text::{number, split_field};

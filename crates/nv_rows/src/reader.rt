@@ -1,8 +1,8 @@
 // Rows from entries.
-use crate::RowFault;
 use crate::content::content_of;
 use crate::draft::{Draft, str_of, text_of};
 use crate::entry::{Entry, Field};
+use crate::fault::RowFault;
 use crate::row::Row;
 use crate::shape::check;
 use crate::texts::Texts;

@@ -1,6 +1,6 @@
 // What stands in a row, before what it says is read.
-use crate::RowFault;
 use crate::entry::Field;
+use crate::fault::RowFault;
 
 /// Refuses fields of which a part would be passed over: one that stands a second time, one with words or content that say nothing, and
 /// one without the content that it is for.
