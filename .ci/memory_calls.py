@@ -13,7 +13,7 @@ import sys
 
 TOP = pathlib.Path(__file__).resolve().parent.parent
 PAGE = "docs/MEMORY.md"
-LEFT_OUT = re.compile(r"_(tests|bench|laws|runs|support)$|^nv_(row_text|rows|refusing)$")
+LEFT_OUT = re.compile(r"_(tests|bench|laws|runs|support)$|^nv_rows$")
 CALL = re.compile(r"^( *)(pub )?(?:final )?fn (\w+)(?:<[^{;]*?>)?\(([^{;]*?)\)(?: -> ([^{;]*?))?(?=\s*(?:;|requires|ensures|where|\{))", re.M | re.S)
 OWNER = re.compile(r"^(impl|pub trait|trait)(?:<[^>]*>)? (\w+)([^{\n]*)", re.M)
 CASES = re.compile(r"^pub enum (\w+)[^{]*\{(.*?)^\}", re.M | re.S)

@@ -1,11 +1,25 @@
 //! Runs the rows of data/ through the top call (crates/nv_rows/data/README.md), and says which of them come out otherwise.
-//! Proved: that nothing undefined is done. The gate compares what it prints with the file `stdout`.
+//! Types: `Entry` and `Field` (the lines of a file), `Reader` (makes rows of entries), `Row` with its `RowFile`, `Change`, `Kind` and `Wanted`, `RowFault` (why
+//! an entry isn't read), `Tally` (how many rows came out otherwise).
+//! Proved: that nothing undefined is done; what is read is shown by the rows. The gate compares what it prints with the file `stdout`.
 #![tactic(auto)]
 
+mod content;
+mod draft;
+mod entry;
+mod fault;
+mod reader;
+#[cfg(test)]
+mod reading;
+mod row;
 mod run;
+mod shape;
 mod tally;
+mod texts;
 
-use nv_row_text::{Reader, Row, entries};
+use entry::entries;
+use reader::Reader;
+use row::Row;
 use std::io::Print;
 use std::rt::Files;
 use std::sync::Wait;

@@ -1,7 +1,7 @@
 // The call of a row.
 ghost use Rattle.std.specs.Prelude.{◌<◌};
 
-use nv_row_text::{Change, Kind, Row, RowFile};
+use crate::row::{Change, Kind, Row, RowFile};
 use nv_test_support::{Answered, Outside, assembled, image, monitor, monitor_through};
 use nv_workers::OpenGate;
 use std::alloc::{AllocError, Global};

@@ -1,5 +1,6 @@
 // How many rows there were, and how many of them were wrong.
-use nv_row_text::{Row, RowFault};
+use crate::fault::RowFault;
+use crate::row::Row;
 use nv_test_support::Answered;
 use std::alloc::{AllocError, Global};
 use std::io::Print;

@@ -1,2 +1,0 @@
-mod Learned
-mod Sounds

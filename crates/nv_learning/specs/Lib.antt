@@ -1,4 +1,0 @@
-pub mod Given
-pub mod Sound
-pub mod Kernel
-pub mod Codes

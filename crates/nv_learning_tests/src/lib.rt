@@ -1,6 +1,0 @@
-//! Tests of runs whose input comes from outside while they run.
-//! Proved: that the tests do nothing undefined. What they assert is run.
-#![tactic(auto)]
-
-#[cfg(test)]
-mod tests;

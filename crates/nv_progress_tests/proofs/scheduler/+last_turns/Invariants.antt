@@ -1,5 +1,0 @@
-use Rattle.std.proofs.Common.{length}
-use Rattle.nv_progress_tests.proofs.scheduler.+last_turns.Given as goal
-
-abbrev pub decreases-last_turns : goal.decreases-last_turns
-decreases-last_turns l = length l.workers.now

@@ -1,0 +1,5 @@
+pub mod Fresh
+mod Learned
+mod Sounds
+pub mod Texts
+pub mod Rests

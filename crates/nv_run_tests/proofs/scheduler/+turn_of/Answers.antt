@@ -1,0 +1,15 @@
+use Rattle.nv_workers.specs.Terms.{judges_of}
+use Rattle.nv_run_tests.proofs.Rests.{first_on, others_on}
+use Rattle.nv_run_tests.proofs.scheduler.+turn_of.Goals as goal
+
+pub returns-then-index-eq0 : goal.returns-then-index-eq0
+returns-then-index-eq0 t c = record {
+  on = first_on (judges_of c.args.terms.now) c.args.room.now c.args.terms.now.most c.args.workers.now c.in-Some.others.now c.in-Some.first.now c.turn.new.self c.in-Some.ensures.cases.0
+      (record { works = c.turn.ensures.works; version = c.turn.ensures.version });
+}
+
+pub returns : goal.returns
+returns t c = record {
+  on = others_on (judges_of c.args.terms.now) c.args.room.now c.args.terms.now.most c.args.workers.now c.in-Some.others.now c.turn_of.new.workers c.in-Some.first.now c.in-Some.ensures.cases.0
+      c.turn_of.ensures.on;
+}

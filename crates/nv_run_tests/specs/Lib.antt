@@ -1,0 +1,6 @@
+pub mod Given
+pub mod Learning
+pub mod Refusing
+pub mod Transcript
+pub mod Endings
+pub mod inner

@@ -1,0 +1,2 @@
+-- What contracts of private functions alone cite: who reads what the public ones say can pass it over.
+pub mod Sound
