@@ -71,9 +71,9 @@ def all_programs(room, before):
     c = os.path.join(room, "c.o")
     subprocess.run(["cc", "-O2", "-c", "-o", c, os.path.join(TOP, "bench", "verdict_baseline.c")], check=True)
     ours = built("nv_rules_bench", "10", "1") + ".o"
-    programs = {"C": placed(room, "C", link_c, c), "varan": placed(room, "varan", link_ours, ours)}
+    programs = {"C": placed(room, "C", link_c, c), "verdicts": placed(room, "verdicts", link_ours, ours)}
     if before:
-        programs["varan before"] = placed(room, "varan before", link_ours, before)
+        programs["verdicts before"] = placed(room, "verdicts before", link_ours, before)
     return programs
 
 
