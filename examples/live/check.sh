@@ -330,6 +330,18 @@ while_they_wait() {
     written wait "$work/wanted"
 }
 
+# Version 1 with other texts in two of its refusals. By a rule its writes to clients take the answer of the log's, so it is in step when the update breaks at client 6, and leads on: the clients after
+# that get its own texts, each a whole answer.
+other_texts() {
+    local before=$expected takes=$work/takes other=$work/server_5 words=("${words[@]}" --rules "$work/takes") largest=("${largest[@]}" --rules "$work/takes")
+    local expected=$work/other_texts
+    "$program" rules --asm "$server/takes.txt" >"$takes"
+    sed 's/Not Found/Not here!/; s/Bad Request/Bad request/' "$old_server" >"$other"
+    sed '/^connection 6 /,$ { s/Not Found/Not here!/; s/Bad Request/Bad request/ }' "$before" >"$expected"
+    is "$(diff "$before" "$expected" | grep -c '^>')" 4 "the lines of two clients that differ"
+    in_turn texts $'0 fault load 100\n1 exited 0' "$bad_server" "$other"
+}
+
 # A server of Debian with its bug, and behind it the one with Debian's patch.
 a_stranger() {
     local strangers=$here/../strangers clients expected inner=18101 words=(--memory 4194304 --script "$work/stranger_setup") largest=("${largest[@]}" --memory 4194304)
@@ -351,6 +363,7 @@ many_clients() {
     one_leaves
     anew
     while_they_wait
+    other_texts
     a_stranger
 }
 

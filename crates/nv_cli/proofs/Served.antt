@@ -83,6 +83,9 @@ stops : {I O T : Type 0} (run : LiveRun I O T) → stop_of_run run ≡ stop_with
 stops (Plain run) = refl
 stops (Clients run) = refl
 
+pub stops_alike : {I O T : Type 0} (run other : LiveRun I O T) → source_stop run ≡ source_stop other → output_of run ≡ output_of other → stop_of_run run ≡ stop_of_run other
+stops_alike run other stopped output = stops run ∙ ap (λ s. stop_with s (put_of (output_of run))) stopped ∙ ap (λ o. stop_with (source_stop other) (put_of o)) output ∙ sym (stops other)
+
 module _ {I O T : Type 0} (took : I → Option (List (List ℕ))) (unread : I → ℕ) (said : O → Option (List ℕ)) (unsaid : O → ℕ) (noted : T → Option (List ℕ)) (unnoted : T → ℕ) where
   fresh : (clients : Bool) (head : List ℕ) (streams : Held I O T) (t : Told) → IsBegun took unread said unsaid noted unnoted clients head streams t → IsFresh t
   fresh clients head streams t b = record { held = b.held; line = b.line; order = b.order; taken = b.taken; going = b.going; saying = b.saying }
