@@ -1,6 +1,6 @@
 //! Tests of runs: versions beside each other come to the account of the plain monitor.
 //! Tests: `accounts` (workers on threads of the host), `gates` (versions that meet at a gate), `letters` and `arrivals` (what comes from outside while they run),
-//! `schedules` (turn by turn, without threads of the host), `starving` (a version that wanted memory, as JSON).
+//! `schedules` (turn by turn, without threads of the host), `ahead` (a version goes on while it waits), `starving` (a version that wanted memory, as JSON).
 //! What they stand on: `runs` (runs of small programs), `cases` and `courses` (rooms drawn by a seed, and how they go); the kernels `RefusingKernel`, which is
 //! refused memory at the calls that a test names, and `LearningKernel`, which takes from an `Outside`; `Transcript` (what was done outside, as text);
 //! `schedule`, which chooses whose turn is next by a `Seed`.
@@ -11,6 +11,8 @@
 
 #[cfg(test)]
 mod accounts;
+#[cfg(test)]
+mod ahead;
 #[cfg(test)]
 mod arrivals;
 #[cfg(test)]
