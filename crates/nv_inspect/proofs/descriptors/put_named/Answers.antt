@@ -16,4 +16,4 @@ returns g c =
 pub returns-in_err-put_opened : goal.returns-in_err-put_opened
 returns-in_err-put_opened g c =
     puts-then (puts-is (ap (λ t. codes "fd " ++ (t ++ codes " ")) (c.as_bytes.ensures.value ∙ c.format.ensures.text)) c.in_ok-put_pieces.ensures)
-    (puts-failed (codes "\n") c.from_residual.ensures.0 c.in_err-put_opened.ensures)
+    (puts-failed (codes "\n") c.from_residual-in_err-put_opened.ensures.0 c.in_err-put_opened.ensures)

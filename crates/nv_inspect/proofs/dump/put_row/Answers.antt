@@ -9,7 +9,7 @@ returns-in_err-put_all g c = puts-failed (word_text c.args.address ++ (texts_bel
 
 pub returns-in_err-put_word : goal.returns-in_err-put_word
 returns-in_err-put_word g c =
-    puts-then c.in_ok-put_all.ensures (puts-failed (texts_below (byte_text c.args.memory.now c.args.address) c.args.length ++ codes "\n") c.from_residual.ensures.0 c.in_err-put_word.ensures)
+    puts-then c.in_ok-put_all.ensures (puts-failed (texts_below (byte_text c.args.memory.now c.args.address) c.args.length ++ codes "\n") c.from_residual-in_err-put_word.ensures.0 c.in_err-put_word.ensures)
 
 pub returns : goal.returns
 returns g c =
@@ -17,4 +17,4 @@ returns g c =
 
 pub returns-in_err-put_bytes : goal.returns-in_err-put_bytes
 returns-in_err-put_bytes g c =
-    puts-then c.in_ok-put_all.ensures (puts-then c.in_ok-put_word.ensures (puts-failed (codes "\n") c.from_residual.ensures.0 c.in_err-put_bytes.ensures))
+    puts-then c.in_ok-put_all.ensures (puts-then c.in_ok-put_word.ensures (puts-failed (codes "\n") c.from_residual-in_err-put_bytes.ensures.0 c.in_err-put_bytes.ensures))

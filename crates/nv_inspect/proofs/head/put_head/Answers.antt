@@ -10,4 +10,4 @@ pub returns : goal.returns
 returns g c = puts-then c.in_ok-put_place.ensures (puts-then c.in_ok-put_end.ensures c.put_all.ensures)
 
 pub returns-in_err-put_end : goal.returns-in_err-put_end
-returns-in_err-put_end g c = puts-then c.in_ok-put_place.ensures (puts-failed (codes "\n") c.from_residual.ensures.0 c.in_err-put_end.ensures)
+returns-in_err-put_end g c = puts-then c.in_ok-put_place.ensures (puts-failed (codes "\n") c.from_residual-in_err-put_end.ensures.0 c.in_err-put_end.ensures)

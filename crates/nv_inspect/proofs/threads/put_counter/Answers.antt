@@ -16,4 +16,4 @@ returns g c =
 pub returns-in_err-put_word : goal.returns-in_err-put_word
 returns-in_err-put_word g c =
     puts-then (puts-is (ap (λ t. codes "thread " ++ (t ++ codes " pc ")) (c.as_bytes.ensures.value ∙ c.format.ensures.text)) c.in_ok-put_pieces.ensures)
-    (puts-failed (codes "\n") c.from_residual.ensures.0 c.in_err-put_word.ensures)
+    (puts-failed (codes "\n") c.from_residual-in_err-put_word.ensures.0 c.in_err-put_word.ensures)

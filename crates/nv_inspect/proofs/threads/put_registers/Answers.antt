@@ -11,4 +11,4 @@ pub returns : goal.returns
 returns g c = puts-then c.in_ok-put_all.ensures (puts-then c.in_ok-put_each_register.ensures c.put_all-2.ensures)
 
 pub returns-in_err-put_each_register : goal.returns-in_err-put_each_register
-returns-in_err-put_each_register g c = puts-then c.in_ok-put_all.ensures (puts-failed (codes "\n") c.from_residual.ensures.0 c.in_err-put_each_register.ensures)
+returns-in_err-put_each_register g c = puts-then c.in_ok-put_all.ensures (puts-failed (codes "\n") c.from_residual-in_err-put_each_register.ensures.0 c.in_err-put_each_register.ensures)

@@ -17,7 +17,7 @@ returns-in_err-put_threads g c =
     let v = c.args.version.now in
     let head : heading_text c.standing-told.result.now.seen c.count.result c.standing-told.result.now.fate ≡ heading_text v.at.seen (count_of v.at.process) v.at.fate = (λ i. heading_text (c.standing-told.ensures i).seen ((c.count.ensures ∙ ap count_of c.process-running.ensures) i) (c.standing-told.ensures i).fate) in
     puts-then (puts-is head c.in_ok-put_head.ensures)
-    (puts-failed (descriptors_text c.args.files.now.state ++ dump_text v.at.process.guest.memory c.args.dump) c.from_residual.ensures.0 (puts-is (ap threads_text c.process-running.ensures) c.in_err-put_threads.ensures))
+    (puts-failed (descriptors_text c.args.files.now.state ++ dump_text v.at.process.guest.memory c.args.dump) c.from_residual-in_err-put_threads.ensures.0 (puts-is (ap threads_text c.process-running.ensures) c.in_err-put_threads.ensures))
 
 pub returns-in_err-put_descriptors : goal.returns-in_err-put_descriptors
 returns-in_err-put_descriptors g c =
@@ -25,7 +25,7 @@ returns-in_err-put_descriptors g c =
     let head : heading_text c.standing-told.result.now.seen c.count.result c.standing-told.result.now.fate ≡ heading_text v.at.seen (count_of v.at.process) v.at.fate = (λ i. heading_text (c.standing-told.ensures i).seen ((c.count.ensures ∙ ap count_of c.process-running.ensures) i) (c.standing-told.ensures i).fate) in
     puts-then (puts-is head c.in_ok-put_head.ensures)
     (puts-then (puts-is (ap threads_text c.process-running.ensures) c.in_ok-put_threads.ensures)
-    (puts-failed (dump_text v.at.process.guest.memory c.args.dump) c.from_residual.ensures.0 c.in_err-put_descriptors.ensures))
+    (puts-failed (dump_text v.at.process.guest.memory c.args.dump) c.from_residual-in_err-put_descriptors.ensures.0 c.in_err-put_descriptors.ensures))
 
 pub returns : goal.returns
 returns g c =

@@ -17,4 +17,4 @@ pub returns-in_err-put_end : goal.returns-in_err-put_end
 returns-in_err-put_end g c =
     let at = c.args.version.now.at in
     puts-then c.in_ok-put_all.ensures
-    (puts-failed (counts_text at.seen at.rewrites) c.from_residual.ensures.0 (puts-is (ap (λ s. standing_text s.fate) c.standing-told.ensures) c.in_err-put_end.ensures))
+    (puts-failed (counts_text at.seen at.rewrites) c.from_residual-in_err-put_end.ensures.0 (puts-is (ap (λ s. standing_text s.fate) c.standing-told.ensures) c.in_err-put_end.ensures))

@@ -10,4 +10,4 @@ pub returns : goal.returns
 returns g c = puts-then c.in_ok-put_all.ensures (puts-then c.in_ok-put_hex.ensures c.put_hex-2.ensures)
 
 pub returns-in_err-put_hex : goal.returns-in_err-put_hex
-returns-in_err-put_hex g c = puts-then c.in_ok-put_all.ensures (puts-failed (hex_of c.args.reply.now) c.from_residual.ensures.0 c.in_err-put_hex.ensures)
+returns-in_err-put_hex g c = puts-then c.in_ok-put_all.ensures (puts-failed (hex_of c.args.reply.now) c.from_residual-in_err-put_hex.ensures.0 c.in_err-put_hex.ensures)

@@ -19,4 +19,4 @@ returns g c =
 pub returns-in_err-put_result : goal.returns-in_err-put_result
 returns-in_err-put_result g c =
     let e = entry c.args.event.now in
-    puts-then c.in_ok-put_call.ensures (puts-failed (payload_text e.call.payload e.reply.payload ++ codes "\n") c.from_residual.ensures.0 c.in_err-put_result.ensures)
+    puts-then c.in_ok-put_call.ensures (puts-failed (payload_text e.call.payload e.reply.payload ++ codes "\n") c.from_residual-in_err-put_result.ensures.0 c.in_err-put_result.ensures)

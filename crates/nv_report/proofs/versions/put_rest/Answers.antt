@@ -12,5 +12,5 @@ returns g c =
 
 pub returns-in_err-put_led : goal.returns-in_err-put_led
 returns-in_err-put_led g c =
-    puts-then c.in_ok-put_seen.ensures (puts-failed (rewrites_text c.args.standing.now.rewrites) c.from_residual.ensures.0
+    puts-then c.in_ok-put_seen.ensures (puts-failed (rewrites_text c.args.standing.now.rewrites) c.from_residual-in_err-put_led.ensures.0
     (puts-is (ap led_text c.as_slice.ensures) c.in_err-put_led.ensures))

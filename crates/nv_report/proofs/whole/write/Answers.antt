@@ -41,4 +41,4 @@ returns-in_err-put_events g c =
     c.in_ok-put_head.ensures in
     let events = puts-is (flat_map-events c.history-events.result.now ∙ ap (flat_map event_text) c.history-events.ensures.log)
     c.in_err-put_events.ensures in
-    puts-then head (puts-failed (fates_text (map standing_of c.args.account.now.versions.items)) c.from_residual.ensures.0 events)
+    puts-then head (puts-failed (fates_text (map standing_of c.args.account.now.versions.items)) c.from_residual-in_err-put_events.ensures.0 events)
