@@ -82,6 +82,11 @@ def arrivals_in(transcript):
     return arrivals
 
 
+def not_taken(transcript):
+    """What was read and taken by no call, by the comments of the transcript."""
+    return bytes.fromhex("".join(it.decode() for it in re.findall(rb"(?m)^# not taken: ([0-9a-f]+)$", transcript)))
+
+
 def events_told(transcript):
     return re.findall(rb"(?m)^# (\d+ \d+ .* = .*)$", transcript)
 
@@ -126,7 +131,7 @@ class Live:
             if any(not line.startswith((b"#", b"varan: ")) for line in told.split(b"\n") if line):
                 raise Wrong(f"neither a transcript nor why there is none: {told[:80]!r}")
             return
-        self.is_front(case, arrivals_in(transcript))
+        self.is_front(case, arrivals_in(transcript), not_taken(transcript))
         write("t", transcript)
         answer = self.program.run(case.again)
         if answer.killed or answer.status not in (0, 1) or answer.errors:
@@ -137,14 +142,14 @@ class Live:
             raise Wrong("run on the transcript comes to other events or fates")
 
     @staticmethod
-    def is_front(case, taken):
-        """Whether what was taken begins what was sent."""
+    def is_front(case, taken, held):
+        """Whether what was taken begins what was sent, and what was read but not taken comes next."""
         if case.has_lines:
-            sent, _ = case.sent_arrivals()
-            if taken != sent[: len(taken)]:
-                raise Wrong(f"taken: {taken}, of {sent}")
-        elif not case.sent.startswith(bytes_of(taken)):
-            raise Wrong(f"taken: {taken}")
+            ends = [0, *(it.end() for it in re.finditer(b"\n", case.sent))]
+            if not any(case.sent.startswith(held, end) and read_arrivals(case.sent[:end].split(b"\n")[:-1]) == (taken, None) for end in ends):
+                raise Wrong(f"taken: {taken}, and not taken: {held[:80]}")
+        elif not case.sent.startswith(bytes_of(taken) + held):
+            raise Wrong(f"taken: {taken}, and not taken: {held[:80]}")
 
     def judge(self, kind, case, answer, due, compared=ALL, may_want=False, say=""):
         """Counts the answer. `due` raises `Wrong` where it isn't one that may come."""
