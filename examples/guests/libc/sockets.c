@@ -26,7 +26,7 @@ long new_socket(long domain, long type, long protocol)
         return -EAFNOSUPPORT;
     if ((type & 15) != SOCK_STREAM)
         return -ESOCKTNOSUPPORT;
-    long fd = KERNEL(SYS_socket, domain, type, protocol);
+    long fd = KERNEL_AMONG_OTHERS(SYS_socket, domain, type, protocol);
     if (fd < 0)
         return fd;
     struct descriptor *socket = opened(fd, NEW_SOCKET);
@@ -37,7 +37,7 @@ long new_socket(long domain, long type, long protocol)
 
 long bind_socket(long fd, const unsigned char *address, long length)
 {
-    long result = KERNEL(SYS_bind, fd, address, length);
+    long result = KERNEL_AMONG_OTHERS(SYS_bind, fd, address, length);
     if (result == 0)
         descriptor_of(fd)->port = address[2] << 8 | address[3];
     return result;
@@ -45,7 +45,7 @@ long bind_socket(long fd, const unsigned char *address, long length)
 
 long listen_at(long fd, long backlog)
 {
-    long result = KERNEL(SYS_listen, fd, backlog);
+    long result = KERNEL_AMONG_OTHERS(SYS_listen, fd, backlog);
     if (result == 0)
         descriptor_of(fd)->kind = LISTENER;
     return result;
@@ -102,12 +102,14 @@ long accept_client(long fd, void *address, unsigned *length, long flags)
         return listener ? -ENOTSOCK : -EBADF;
     if (listener->kind != LISTENER || flags & ~(SOCK_NONBLOCK | SOCK_CLOEXEC))
         return -EINVAL;
-    long client = listener->taken ? listener->taken : KERNEL(SYS_accept4, fd, 0, 0, 0);
+    long client = listener->taken;
+    listener->taken = 0;
+    if (!client)
+        client = KERNEL_AMONG_OTHERS(SYS_accept4, fd, 0, 0, 0);
     if (client == -EAGAIN && !listener->waits_not)
         end_of_waiting();
     if (client < 0)
         return client;
-    listener->taken = 0;
     struct descriptor *connection = opened(client, CONNECTION);
     connection->waits_not = flags & SOCK_NONBLOCK;
     connection->closes_on_exec = flags & SOCK_CLOEXEC;
@@ -169,6 +171,11 @@ static long found(long count, const int64_t *timeout)
     if (!count && (!timeout || quiet > MOST_QUIET))
         end_of_waiting();
     return count;
+}
+
+void nothing_came(void)
+{
+    found(0, &(int64_t){0});
 }
 
 long poll_descriptors(struct pollfd *asked, long count, const int64_t *timeout)
