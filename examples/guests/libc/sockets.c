@@ -1,6 +1,7 @@
 /*
  * Sockets: addresses, options, and which of them can be read and written. A connection always can. A listener can be read while a client waits
- * for it: the layer accepts one to see, and keeps it for the accept that follows.
+ * for it: the layer accepts one to see, and keeps it for the accept that follows. With clients that come as they like (varan serve) to see is to wait
+ * for the next one, so listeners are asked where there is no connection to be served first.
  */
 #include "guest.h"
 #include <errno.h>
@@ -152,13 +153,19 @@ long socket_option(long fd, long level, long name, int *value, unsigned *length)
 
 /* ---- poll and select */
 
-static short events_of(long fd, short wanted)
+static bool is_connection(long fd)
+{
+    struct descriptor *asked = descriptor_of(fd);
+    return asked && asked->kind == CONNECTION;
+}
+
+static short events_of(long fd, short wanted, bool asks_listeners)
 {
     struct descriptor *asked = descriptor_of(fd);
     if (!asked)
         return POLLNVAL;
     if (asked->kind == LISTENER)
-        return has_client(fd, asked) ? wanted & (POLLIN | POLLRDNORM) : 0;
+        return (asked->taken || asks_listeners) && has_client(fd, asked) ? wanted & (POLLIN | POLLRDNORM) : 0;
     if (asked->kind == NEW_SOCKET)
         return POLLHUP;
     return wanted & (POLLIN | POLLRDNORM | POLLOUT | POLLWRNORM);
@@ -178,24 +185,39 @@ void nothing_came(void)
     found(0, &(int64_t){0});
 }
 
+static bool has_connection(const struct pollfd *asked, long count)
+{
+    while (count > 0 && !(asked[count - 1].events && is_connection(asked[count - 1].fd)))
+        count--;
+    return count > 0;
+}
+
 long poll_descriptors(struct pollfd *asked, long count, const int64_t *timeout)
 {
     long ready = 0;
+    bool asks_listeners = !has_connection(asked, count);
     for (long i = 0; i < count; i++) {
-        asked[i].revents = asked[i].fd < 0 ? 0 : events_of(asked[i].fd, asked[i].events);
+        asked[i].revents = asked[i].fd < 0 ? 0 : events_of(asked[i].fd, asked[i].events, asks_listeners);
         ready += asked[i].revents != 0;
     }
     return found(ready, timeout);
 }
 
+static bool has_connection_in(const fd_set *set, long count)
+{
+    while (set && count > 0 && !(FD_ISSET(count - 1, set) && is_connection(count - 1)))
+        count--;
+    return set && count > 0;
+}
+
 /* Leaves in a set the descriptors for which one of the events holds. Answers how many, or -EBADF. */
-static long keep_ready(long count, fd_set *set, short wanted)
+static long keep_ready(long count, fd_set *set, short wanted, bool asks_listeners)
 {
     long ready = 0;
     for (long fd = 0; set && fd < count; fd++) {
         if (!FD_ISSET(fd, set))
             continue;
-        short events = events_of(fd, wanted);
+        short events = events_of(fd, wanted, asks_listeners);
         if (events & POLLNVAL)
             return -EBADF;
         if (events)
@@ -208,7 +230,9 @@ static long keep_ready(long count, fd_set *set, short wanted)
 
 long select_descriptors(long count, void *readable, void *writable, void *special, const int64_t *timeout)
 {
-    long reads = keep_ready(count, readable, POLLIN), writes = keep_ready(count, writable, POLLOUT), specials = keep_ready(count, special, 0);
+    bool asks_listeners = !has_connection_in(readable, count) && !has_connection_in(writable, count);
+    long reads = keep_ready(count, readable, POLLIN, asks_listeners), writes = keep_ready(count, writable, POLLOUT, asks_listeners);
+    long specials = keep_ready(count, special, 0, asks_listeners);
     if (reads < 0 || writes < 0 || specials < 0)
         return -EBADF;
     return found(reads + writes + specials, timeout);
