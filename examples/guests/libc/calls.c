@@ -52,13 +52,13 @@ static long clock_time(long clock, int64_t *time)
         time[0] = time[1] = 0;
         return 0;
     case CLOCK_REALTIME_COARSE:
-        return KERNEL(SYS_clock_gettime64, CLOCK_REALTIME, time);
+        return KERNEL_AMONG_OTHERS(SYS_clock_gettime64, CLOCK_REALTIME, time);
     case CLOCK_MONOTONIC_RAW:
     case CLOCK_MONOTONIC_COARSE:
     case CLOCK_BOOTTIME:
-        return KERNEL(SYS_clock_gettime64, CLOCK_MONOTONIC, time);
+        return KERNEL_AMONG_OTHERS(SYS_clock_gettime64, CLOCK_MONOTONIC, time);
     default:
-        return KERNEL(SYS_clock_gettime64, clock, time);
+        return KERNEL_AMONG_OTHERS(SYS_clock_gettime64, clock, time);
     }
 }
 
@@ -82,17 +82,19 @@ static long clone_process(long flags)
 {
     if ((flags & ~0xffL) || (flags & 0xff) != SIGCHLD)
         return -ENOSYS;
+    if (has_threads())
+        return -EAGAIN;
     return fork_process();
 }
 
 static long send_message(long fd, const struct msghdr *message)
 {
-    return KERNEL(SYS_writev, fd, message->msg_iov, message->msg_iovlen);
+    return KERNEL_AMONG_OTHERS(SYS_writev, fd, message->msg_iov, message->msg_iovlen);
 }
 
 static long receive_message(long fd, struct msghdr *message)
 {
-    long result = KERNEL(SYS_readv, fd, message->msg_iov, message->msg_iovlen);
+    long result = KERNEL_AMONG_OTHERS(SYS_readv, fd, message->msg_iov, message->msg_iovlen);
     message->msg_controllen = 0;
     message->msg_flags = 0;
     message->msg_namelen = 0;
@@ -101,7 +103,7 @@ static long receive_message(long fd, struct msghdr *message)
 
 static long receive(long fd, void *bytes, long length, long flags)
 {
-    return flags & (MSG_PEEK | MSG_OOB) ? -EOPNOTSUPP : KERNEL(SYS_read, fd, bytes, length);
+    return flags & (MSG_PEEK | MSG_OOB) ? -EOPNOTSUPP : KERNEL_AMONG_OTHERS(SYS_read, fd, bytes, length);
 }
 
 /* ---- the calls by their numbers: those of each function below, the others go on to the next */
@@ -121,14 +123,14 @@ static long socket_call(long n, long a, long b, long c, long d, long e, long f)
     case SYS_setsockopt: return own_address(a, NULL, NULL);
     case SYS_getsockopt: return socket_option(a, b, c, (void *)d, (void *)e);
     case SYS_shutdown: return on_connection(a);
-    case SYS_sendto: return KERNEL(SYS_write, a, b, c);
+    case SYS_sendto: return KERNEL_AMONG_OTHERS(SYS_write, a, b, c);
     case SYS_recvfrom: return receive(a, (void *)b, c, d);
     case SYS_sendmsg: return send_message(a, (void *)b);
     case SYS_recvmsg: return receive_message(a, (void *)b);
     case SYS_sendfile64: return send_file(a, b, (void *)c, d);
     case SYS_ppoll_time64: return poll_descriptors((void *)a, b, (void *)c);
     case SYS_pselect6_time64: return select_descriptors(a, (void *)b, (void *)c, (void *)d, (void *)e);
-    default: return KERNEL(n, a, b, c, d, e, f);
+    default: return KERNEL_AMONG_OTHERS(n, a, b, c, d, e, f);
     }
 }
 
@@ -167,14 +169,14 @@ static long file_call(long n, long a, long b, long c, long d, long e, long f)
 static long process_call(long n, long a, long b, long c, long d, long e, long f)
 {
     switch (n) {
-    case SYS_exit:
+    case SYS_exit: end_thread(a);
     case SYS_exit_group: end_process(a);
     case SYS_clone: return clone_process(a);
     case SYS_execve:
     case SYS_execveat: cannot("exec: there is no other program");
     case SYS_waitid: return wait_for_child(a, b, (void *)c, d);
-    case SYS_getpid:
-    case SYS_gettid: return process_number();
+    case SYS_getpid: return process_number();
+    case SYS_gettid: return thread_number();
     case SYS_set_tid_address: return process_number();
     case SYS_getppid: return parent_number();
     case SYS_kill:
@@ -214,10 +216,8 @@ static bool leaves_quiet(long n)
     return n == SYS_ppoll_time64 || n == SYS_pselect6_time64 || n == SYS_clock_gettime64 || n == SYS_rt_sigprocmask;
 }
 
-long guest_call(long n, long a, long b, long c, long d, long e, long f)
+static long answer(long n, long a, long b, long c, long d, long e, long f)
 {
-    if (!leaves_quiet(n))
-        not_quiet();
     switch (n) {
     case SYS_brk: return heap_start();
     case SYS_mmap2: return map_pages(a, b, d, e, f);
@@ -232,4 +232,16 @@ long guest_call(long n, long a, long b, long c, long d, long e, long f)
     case SYS_clock_nanosleep_time64: return 0;
     default: return process_call(n, a, b, c, d, e, f);
     }
+}
+
+long guest_call(long n, long a, long b, long c, long d, long e, long f)
+{
+    if (n == SYS_futex_time64)
+        return wait_or_wake((void *)a, b, c, (void *)d, d);
+    enter_layer();
+    if (!leaves_quiet(n))
+        not_quiet();
+    long result = answer(n, a, b, c, d, e, f);
+    leave_layer();
+    return result;
 }

@@ -1,6 +1,7 @@
 #!/usr/bin/env bash
 # Builds answers.c over the guests' library and over the library as it is, and compares what the first writes under varan with what the second
-# writes under Linux, by qemu-riscv32; and looks at a server that polls (polled.c), and at what a full stack and what can't be had end with.
+# writes under Linux, by qemu-riscv32; threads too (threaded.c). Looks at a server that polls (polled.c), and at what a full stack and what can't be had
+# end with.
 # check.sh [PROGRAM]: crates/varan/out/varan where no program is named.
 # Status: 0 where all is so, 1 where something isn't, 2 where the program isn't built, 3 where a tool or the library is missing.
 set -eu
@@ -32,6 +33,26 @@ echo 'varan-script 1' >"$work/script"
 console "$work/guest" >"$work/written"
 cmp "$work/expected" "$work/written" || { diff "$work/expected" "$work/written"; wrong=1; }
 ends 'exited 0 '
+
+# Threads, alone and beside another one's; and a server with a thread for each client: when no client is left it ends once all threads wait.
+{
+    echo 'varan-script 3'
+    echo 'arg 90'
+    for text in 'hello' '' 'more bytes than are read at once, by two and a half times'; do
+        echo "connect 90 $(printf %s "$text" | xxd -p -c 0)" | sed 's/ $//'
+    done
+} >"$work/script"
+./cc -O1 -o "$work/guest" threaded.c
+./cc --linux -O1 -o "$work/linux" threaded.c
+qemu-riscv32 "$work/linux" >"$work/expected"
+console "$work/guest" "$work/guest" >"$work/written"
+cmp "$work/expected" "$work/written" || { diff "$work/expected" "$work/written"; wrong=1; }
+ends 'exited 0 '
+grep -q '^1 exited 0 ' "$work/report" || { echo "check.sh: a second version with threads isn't in step"; wrong=1; }
+printf 'connections 3\nconnection 0 90 5\nHELLO\nconnection 1 90 0\n\nconnection 2 90 57\n%s\n' \
+    'MORE BYTES THAN ARE READ AT ONCE, BY TWO AND A HALF TIMES' >"$work/expected"
+sed -n '/^connections /,$p' "$work/report" | diff "$work/expected" - || { echo "check.sh: the clients of threaded.c get something else"; wrong=1; }
+echo 'varan-script 1' >"$work/script"
 
 # a stack that is full, at the size that the program is linked with
 echo 'int deep(int n) { volatile char b[1000]; b[0] = 1; return n ? deep(n - 1) + b[0] : 0; } int main(void) { return deep(400) != 400; }' >"$work/deep.c"

@@ -13,6 +13,9 @@ long kernel_call(long number, long a, long b, long c, long d, long e, long f);
 /* The same, where the arguments that are left out are 0. */
 #define KERNEL(...) KERNEL_SIX(__VA_ARGS__, 0, 0, 0, 0, 0, 0, 0)
 
+/* The same, with other threads let into this layer until it is answered: each follower waits in it for its turn in the log. */
+#define KERNEL_AMONG_OTHERS(...) (leave_layer(), come_back_with(KERNEL(__VA_ARGS__)))
+
 /* Every call of the C library comes here (calls.c). */
 long guest_call(long number, long a, long b, long c, long d, long e, long f);
 
@@ -64,6 +67,8 @@ struct pollfd;
 long poll_descriptors(struct pollfd *asked, long count, const int64_t *timeout);
 long select_descriptors(long count, void *readable, void *writable, void *special, const int64_t *timeout);
 void not_quiet(void);
+/* A wait with an end found nothing. */
+void nothing_came(void);
 
 /* A child begins, with its parent's descriptors; and ends. */
 void inherit_descriptors(void);
@@ -79,6 +84,7 @@ void *pages_at_end(unsigned long length);
 /* ---- processes and signals (processes.c, signals.c) */
 
 long process_number(void);
+bool is_child(void);
 long parent_number(void);
 long fork_process(void);
 _Noreturn void end_process(long status);
@@ -88,6 +94,20 @@ _Noreturn void end_of_waiting(void);
 /* Says on descriptor 2 what can't be had, and ends the process. */
 _Noreturn void cannot(const char *what);
 long wait_for_child(long which, long process, void *info, long options);
+
+/* ---- threads (threads.c) */
+
+/* What stands between these is done by one thread at a time. */
+void enter_layer(void);
+void leave_layer(void);
+/* Enters, and comes to this result. */
+long come_back_with(long result);
+bool has_threads(void);
+long thread_number(void);
+_Noreturn void end_thread(long status);
+/* Nothing will come for this thread any more. It comes back when all other threads wait, too. */
+void wait_for_threads(void);
+long wait_or_wake(int *word, long operation, long value, const void *timeout, long count);
 
 long set_handler(long signal, const void *new, void *old);
 long set_mask(long how, const uint64_t *set, uint64_t *old);

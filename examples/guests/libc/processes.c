@@ -50,6 +50,17 @@ long process_number(void)
     return own_number;
 }
 
+long thread_number(void)
+{
+    long process = process_number(), number = KERNEL(SYS_gettid);
+    return number == first_number ? process : number;
+}
+
+bool is_child(void)
+{
+    return parent;
+}
+
 long parent_number(void)
 {
     return parent ? parent->number : KERNEL(SYS_getppid);
@@ -126,7 +137,7 @@ long fork_process(void)
 static _Noreturn void end_with(int status)
 {
     if (!parent)
-        KERNEL(SYS_exit_group, status & 127 ? 128 + (status & 127) : status >> 8);
+        KERNEL_AMONG_OTHERS(SYS_exit_group, status & 127 ? 128 + (status & 127) : status >> 8);
     return_descriptors();
     parent->child_status = status;
     parent->last_number = last_number;
@@ -145,6 +156,7 @@ _Noreturn void end_by_signal(int signal)
 
 _Noreturn void end_of_waiting(void)
 {
+    wait_for_threads();
     end_process(0);
 }
 

@@ -1,6 +1,6 @@
 /*
  * Signals that a process sends itself, and SIGCHLD. None comes from outside, and no timer ends. A handler is called where the signal is sent,
- * or where it isn't blocked any more.
+ * or where it isn't blocked any more. What is blocked is what the first thread blocks.
  */
 #include "guest.h"
 #include <errno.h>
@@ -46,12 +46,14 @@ static void handle(int signal)
         blocked |= bit(signal);
     if (action.flags & SA_RESETHAND)
         actions[signal].handler = SIG_DFL;
+    leave_layer();
     if (action.flags & SA_SIGINFO) {
         siginfo_t info = {.si_signo = signal, .si_pid = process_number(), .si_uid = 1000};
         action.with_info(signal, &info, NULL);
     } else {
         action.handler(signal);
     }
+    enter_layer();
     blocked = before;
 }
 
@@ -80,7 +82,7 @@ long send_signal(long process, long signal)
 {
     if (signal < 0 || signal > SIGNALS)
         return -EINVAL;
-    if (process != 0 && process != process_number())
+    if (process != 0 && process != process_number() && process != thread_number())
         return -ESRCH;
     if (signal)
         raise_signal(signal);
@@ -102,7 +104,7 @@ long set_handler(long signal, const void *new, void *old)
 long set_mask(long how, const uint64_t *set, uint64_t *old)
 {
     uint64_t before = blocked;
-    if (set) {
+    if (set && thread_number() == process_number()) {
         if (how == SIG_BLOCK)
             blocked |= *set;
         else if (how == SIG_UNBLOCK)

@@ -1,6 +1,7 @@
 /*
  * Sockets: addresses, options, and which of them can be read and written. A connection always can. A listener can be read while a client waits
- * for it: the layer accepts one to see, and keeps it for the accept that follows.
+ * for it: the layer accepts one to see, and keeps it for the accept that follows. With clients that come as they like (varan serve) to see is to wait
+ * for the next one, so listeners are asked where there is no connection to be served first.
  */
 #include "guest.h"
 #include <errno.h>
@@ -26,7 +27,7 @@ long new_socket(long domain, long type, long protocol)
         return -EAFNOSUPPORT;
     if ((type & 15) != SOCK_STREAM)
         return -ESOCKTNOSUPPORT;
-    long fd = KERNEL(SYS_socket, domain, type, protocol);
+    long fd = KERNEL_AMONG_OTHERS(SYS_socket, domain, type, protocol);
     if (fd < 0)
         return fd;
     struct descriptor *socket = opened(fd, NEW_SOCKET);
@@ -37,7 +38,7 @@ long new_socket(long domain, long type, long protocol)
 
 long bind_socket(long fd, const unsigned char *address, long length)
 {
-    long result = KERNEL(SYS_bind, fd, address, length);
+    long result = KERNEL_AMONG_OTHERS(SYS_bind, fd, address, length);
     if (result == 0)
         descriptor_of(fd)->port = address[2] << 8 | address[3];
     return result;
@@ -45,7 +46,7 @@ long bind_socket(long fd, const unsigned char *address, long length)
 
 long listen_at(long fd, long backlog)
 {
-    long result = KERNEL(SYS_listen, fd, backlog);
+    long result = KERNEL_AMONG_OTHERS(SYS_listen, fd, backlog);
     if (result == 0)
         descriptor_of(fd)->kind = LISTENER;
     return result;
@@ -102,12 +103,14 @@ long accept_client(long fd, void *address, unsigned *length, long flags)
         return listener ? -ENOTSOCK : -EBADF;
     if (listener->kind != LISTENER || flags & ~(SOCK_NONBLOCK | SOCK_CLOEXEC))
         return -EINVAL;
-    long client = listener->taken ? listener->taken : KERNEL(SYS_accept4, fd, 0, 0, 0);
+    long client = listener->taken;
+    listener->taken = 0;
+    if (!client)
+        client = KERNEL_AMONG_OTHERS(SYS_accept4, fd, 0, 0, 0);
     if (client == -EAGAIN && !listener->waits_not)
         end_of_waiting();
     if (client < 0)
         return client;
-    listener->taken = 0;
     struct descriptor *connection = opened(client, CONNECTION);
     connection->waits_not = flags & SOCK_NONBLOCK;
     connection->closes_on_exec = flags & SOCK_CLOEXEC;
@@ -150,13 +153,19 @@ long socket_option(long fd, long level, long name, int *value, unsigned *length)
 
 /* ---- poll and select */
 
-static short events_of(long fd, short wanted)
+static bool is_connection(long fd)
+{
+    struct descriptor *asked = descriptor_of(fd);
+    return asked && asked->kind == CONNECTION;
+}
+
+static short events_of(long fd, short wanted, bool asks_listeners)
 {
     struct descriptor *asked = descriptor_of(fd);
     if (!asked)
         return POLLNVAL;
     if (asked->kind == LISTENER)
-        return has_client(fd, asked) ? wanted & (POLLIN | POLLRDNORM) : 0;
+        return (asked->taken || asks_listeners) && has_client(fd, asked) ? wanted & (POLLIN | POLLRDNORM) : 0;
     if (asked->kind == NEW_SOCKET)
         return POLLHUP;
     return wanted & (POLLIN | POLLRDNORM | POLLOUT | POLLWRNORM);
@@ -171,24 +180,44 @@ static long found(long count, const int64_t *timeout)
     return count;
 }
 
+void nothing_came(void)
+{
+    found(0, &(int64_t){0});
+}
+
+static bool has_connection(const struct pollfd *asked, long count)
+{
+    while (count > 0 && !(asked[count - 1].events && is_connection(asked[count - 1].fd)))
+        count--;
+    return count > 0;
+}
+
 long poll_descriptors(struct pollfd *asked, long count, const int64_t *timeout)
 {
     long ready = 0;
+    bool asks_listeners = !has_connection(asked, count);
     for (long i = 0; i < count; i++) {
-        asked[i].revents = asked[i].fd < 0 ? 0 : events_of(asked[i].fd, asked[i].events);
+        asked[i].revents = asked[i].fd < 0 ? 0 : events_of(asked[i].fd, asked[i].events, asks_listeners);
         ready += asked[i].revents != 0;
     }
     return found(ready, timeout);
 }
 
+static bool has_connection_in(const fd_set *set, long count)
+{
+    while (set && count > 0 && !(FD_ISSET(count - 1, set) && is_connection(count - 1)))
+        count--;
+    return set && count > 0;
+}
+
 /* Leaves in a set the descriptors for which one of the events holds. Answers how many, or -EBADF. */
-static long keep_ready(long count, fd_set *set, short wanted)
+static long keep_ready(long count, fd_set *set, short wanted, bool asks_listeners)
 {
     long ready = 0;
     for (long fd = 0; set && fd < count; fd++) {
         if (!FD_ISSET(fd, set))
             continue;
-        short events = events_of(fd, wanted);
+        short events = events_of(fd, wanted, asks_listeners);
         if (events & POLLNVAL)
             return -EBADF;
         if (events)
@@ -201,7 +230,9 @@ static long keep_ready(long count, fd_set *set, short wanted)
 
 long select_descriptors(long count, void *readable, void *writable, void *special, const int64_t *timeout)
 {
-    long reads = keep_ready(count, readable, POLLIN), writes = keep_ready(count, writable, POLLOUT), specials = keep_ready(count, special, 0);
+    bool asks_listeners = !has_connection_in(readable, count) && !has_connection_in(writable, count);
+    long reads = keep_ready(count, readable, POLLIN, asks_listeners), writes = keep_ready(count, writable, POLLOUT, asks_listeners);
+    long specials = keep_ready(count, special, 0, asks_listeners);
     if (reads < 0 || writes < 0 || specials < 0)
         return -EBADF;
     return found(reads + writes + specials, timeout);
