@@ -2,10 +2,11 @@
 //! Types: the trait `Source`; `Live` (plain input and the console's bytes), `Clients` (many clients by lines over one pipe each way), `Stopped`; `LiveRun` (either of them), `Streams`;
 //! in memory `MemorySource`.
 //! Proved: the arrivals that are handed on are the bytes that the reads gave, cut as plain input is, or what their lines say, each of which may come next,
-//! none lost and none made up; the transcript has just their lines, each before its arrival is handed on, or a prefix of them where the count of faults rose;
+//! none lost and none made up; the transcript has their lines, each before its arrival is handed on, and behind them, as comments, what was read and not handed on, or a prefix
+//! of that where the count of faults rose;
 //! what is said stands in its sink, in order, as bytes for the console or as lines, or a prefix where its count of faults rose; once that or the
 //! source has stopped nothing more comes.
-//! Above: nothing yet.
+//! Above: the kernel that takes arrivals, the commands, the program.
 #![tactic(auto)]
 
 mod buffer;
