@@ -11,8 +11,11 @@ mod gate;
 mod leads;
 mod ran;
 mod running;
+mod sleepers;
 mod staffing;
 mod terms;
+#[cfg(test)]
+mod tests;
 mod worker;
 
 pub use gate::{Gate, OpenGate, VersionNumber};

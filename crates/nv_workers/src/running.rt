@@ -4,6 +4,7 @@ ghost use Rattle.nv_workers.specs.Terms.{AreOfRoom, judges_of};
 ghost use Rattle.nv_workers.specs.inner.Rounds.{CanAll, AllOn, AreGone, GoneIf, both_of};
 
 use crate::gate::Gate;
+use crate::sleepers::{Sleepers, nap};
 use crate::terms::Terms;
 use crate::worker::{Turn, Worker};
 use nv_room::Room;
@@ -11,7 +12,6 @@ use nv_served::SyscallKernel;
 use std::sync::Wait;
 use std::sync::atomic::{AtomicU64, Ordering};
 use std::thread::yield_now;
-use std::time::Duration;
 
 // A turn of each worker.
 fn round<K: SyscallKernel, G: Gate>(
@@ -52,6 +52,7 @@ pub(crate) struct Parts {
     count: u64,
     // How many have begun and have not given up.
     running: AtomicU64,
+    sleepers: Sleepers,
 }
 
 impl Parts {
@@ -59,6 +60,7 @@ impl Parts {
         Parts {
             count: count as u64,
             running: AtomicU64::new(0),
+            sleepers: Sleepers::new(),
         }
     }
 
@@ -76,20 +78,62 @@ impl Parts {
     }
 }
 
-// Rounds in a row in which no worker moved: for so many the thread yields the processor, after them it sleeps.
+// For so many idle rounds a part yields the processor, after them it naps.
 const YIELDS: u32 = 200;
 
-// After so many, a part gives up, unless all parts run beside each other.
+// Microseconds of the first nap. Each nap after it is twice as long as the one before, up to a millisecond.
+const FIRST_NAP: u64 = 64;
+
+const DOUBLINGS: u32 = 4;
+
+// After so many idle rounds, some 20 milliseconds, it sleeps until another part's worker moves.
+const NAPS: u32 = 220;
+
+// After so many, about a second, it gives up, unless all parts run beside each other.
 const IDLE_ROUNDS: u32 = 1_000;
 
-// A thread that has nothing to do yields the processor at first, and then sleeps, from 64 microseconds up to a millisecond.
-fn rest<R: Wait>(rt: &R, idle: u32) {
-    if idle < YIELDS {
-        yield_now();
-        return;
+/// How many rounds in a row a part's workers have only waited.
+#[derive(Drop)]
+struct Idle {
+    rounds: u32,
+    // It is among the sleepers.
+    sleeps: bool,
+}
+
+impl Idle {
+    fn new() -> Idle {
+        Idle {
+            rounds: 0,
+            sleeps: false,
+        }
     }
-    let length = 64 << (idle - YIELDS).min(4);
-    AtomicU64::new(0).park_timeout(rt, 0, Duration::from_micros(length));
+
+    fn is_long(&self) -> bool {
+        self.rounds >= IDLE_ROUNDS
+    }
+
+    // After one round more, the looks of which came after so many wakes.
+    fn rest<R: Wait>(&mut self, rt: &R, parts: &Parts, wakes: u64) {
+        self.rounds = self.rounds.saturating_add(1);
+        if self.rounds < YIELDS {
+            yield_now();
+        } else if self.rounds < NAPS || !parts.all_run() {
+            nap(rt, FIRST_NAP << (self.rounds - YIELDS).min(DOUBLINGS));
+        } else if self.sleeps {
+            parts.sleepers.sleep(rt, wakes);
+        } else {
+            parts.sleepers.enter();
+            self.sleeps = true;
+        }
+    }
+
+    // A worker has something to do again, or the part ends.
+    fn end(&mut self, parts: &Parts) {
+        if self.sleeps {
+            parts.sleepers.leave();
+        }
+        *self = Idle::new();
+    }
 }
 
 /// Turns in rotation, until all have ended or none has moved for long.
@@ -105,19 +149,27 @@ pub(crate) fn rotate_while_moving<R: Wait, K: SyscallKernel, G: Gate>(
     ensures on { AllOn (judges_of terms.now) room.now terms.now.most workers.old workers.new }
 {
     parts.begin();
-    let mut idle = 0;
+    let mut idle = Idle::new();
     for _ in 0..u64::MAX {
+        let wakes = parts.sleepers.wakes();
         match round(workers, room, terms) {
-            Turn::Done => return,
-            Turn::Moved | Turn::Ahead => idle = 0,
+            Turn::Done => {
+                idle.end(parts);
+                parts.sleepers.wake();
+                return;
+            }
+            Turn::Moved => {
+                idle.end(parts);
+                parts.sleepers.wake();
+            }
+            Turn::Ahead => idle.end(parts),
             Turn::Waiting => {
-                if idle < IDLE_ROUNDS {
-                    idle += 1;
-                } else if !parts.all_run() {
+                if idle.is_long() && !parts.all_run() {
+                    idle.end(parts);
                     parts.give_up();
                     return;
                 }
-                rest(rt, idle);
+                idle.rest(rt, parts, wakes);
             }
         }
     }
@@ -135,15 +187,11 @@ pub(crate) fn rotate<R: Wait, K: SyscallKernel, G: Gate>(
     ensures on { AllOn (judges_of terms.now) room.now terms.now.most workers.old workers.new }
     ensures gone { AreGone workers.new }
 {
-    let mut idle: u32 = 0;
     for _ in rt.forever() {
         match round(workers, room, terms) {
             Turn::Done => return,
-            Turn::Moved | Turn::Ahead => idle = 0,
-            Turn::Waiting => {
-                idle = idle.saturating_add(1);
-                rest(rt, idle);
-            }
+            Turn::Moved | Turn::Ahead => {}
+            Turn::Waiting => yield_now(),
         }
     }
     unreachable!()
