@@ -3,7 +3,8 @@
 
 docs/varan.1: its options are those of nv_command/specs/Simple.antt, command by command, its limits those of Words.antt, and so are those of
 what `help` writes (Help.antt); README.md and docs/REFUSALS.md have each command's usage as `help` does; docs/REFUSALS.md
-gives the same limits, and README.md and it name no other option. Each page that README.md lists is there, and each page of docs/ is listed. crates.txt: each crate stands after those that it uses; docs/ARCHITECTURE.md names each.
+gives the same limits, and README.md and it name no other option. Each page that README.md lists is there, and each page of docs/ is listed. crates.txt: each crate stands after those that it uses, with the first sentence of its head;
+docs/ARCHITECTURE.md names each, and its picture has the layers of crates.txt.
 docs/REFUSALS.md: no cure is empty. The pages that a user reads first have no line of more than 200 characters.
 """
 import os
@@ -16,6 +17,8 @@ ROOT = os.path.dirname(os.path.dirname(os.path.abspath(__file__)))
 FIRST = ("README.md", "CHANGELOG.md", *(f"docs/{it}" for it in ("TUTORIAL.md", "GUESTS.md", "SCRIPT.md", "REPORT.md", "RULES.md", "REFUSALS.md", "TRACES.md", "INSPECT.md", "PARTING.md", "LIVE.md", "REHEARSE.md", "varan.1")))
 MOST = 200
 COMMANDS = ("run", "serve", "record", "replay", "inspect", "rules", "asm", "gen", "help")
+# layers of crates.txt that stand beside the program
+BESIDE = {"tests", "benches"}
 # what stands on a page for another program's option
 OTHERS = {"help", "version", "anew", "program"}
 
@@ -133,15 +136,45 @@ def listed(wrong):
         wrong.append(f"README.md lists {name}, which isn't there" if name in names else f"README.md doesn't list docs/{name}")
 
 
+def layers():
+    """The layers of crates.txt: (name, its crates with what each is by the table of contents and with those that it uses)."""
+    found = []
+    for block in read("crates.txt").strip().split("\n\n")[1:]:
+        roles = dict(re.findall(r"(?m)^#   (\w+) +(.*)$", block))
+        uses = re.findall(r"(?m)^(\w+)[^:#\n]*:(.*)$", block)
+        found.append((re.match(r"# (\w+):", block)[1], roles, [(name, it.split()) for name, it in uses]))
+    return found
+
+
+def head_of(crate):
+    """The first sentence of a crate's head, without its point."""
+    folder = f"crates/{crate}/src"
+    root = "lib.rt" if os.path.isfile(f"{ROOT}/{folder}/lib.rt") else "main.rt"
+    lines = re.match(r"(?://!.*\n)*", read(f"{folder}/{root}"))[0].splitlines()
+    return re.match(r"(.*?)\.(?: |$)", " ".join(it[3:].strip() for it in lines))[1]
+
+
 def crates(wrong):
+    """crates.txt has each crate after those that it uses, and what it is as its head says; docs/ARCHITECTURE.md names each, those of a layer in the picture's line of that layer."""
     page, seen = read("docs/ARCHITECTURE.md"), set()
-    for name, uses in re.findall(r"(?m)^(\w+)[^:#\n]*:(.*)$", read("crates.txt")):
-        late = [it for it in uses.split() if it not in seen and os.path.isdir(f"{ROOT}/crates/{it}")]
-        if late:
-            wrong.append(f"crates.txt: {name} uses {', '.join(late)}, which stand after it")
-        if not re.search(rf"\b{name}\b", page):
-            wrong.append(f"docs/ARCHITECTURE.md doesn't name {name}")
-        seen.add(name)
+    picture = {name: line.split() for name, line in re.findall(r"(?m)^ +(\w+)   +(nv_\w.*)$", page)}
+    for layer, roles, uses in layers():
+        names = [name for name, _ in uses]
+        if list(roles) != names:
+            wrong.append(f"crates.txt: the layer {layer} lists {', '.join(roles)}, and has {', '.join(names)}")
+        if layer not in BESIDE and picture.get(layer) != names:
+            wrong.append(f"docs/ARCHITECTURE.md: the picture's {layer} is {', '.join(picture.get(layer, ['not there']))}, in crates.txt it is {', '.join(names)}")
+        for name, below in uses:
+            late = [it for it in below if it not in seen and os.path.isdir(f"{ROOT}/crates/{it}")]
+            if late:
+                wrong.append(f"crates.txt: {name} uses {', '.join(late)}, which stand after it")
+            if not re.search(rf"\b{name}\b", page):
+                wrong.append(f"docs/ARCHITECTURE.md doesn't name {name}")
+            if roles.get(name) != head_of(name):
+                wrong.append(f"crates.txt: by its head {name} is: {head_of(name)}")
+            seen.add(name)
+    for name in sorted({it for it in os.listdir(f"{ROOT}/crates") if os.path.isdir(f"{ROOT}/crates/{it}/src")} - seen):
+        wrong.append(f"crates.txt doesn't have {name}")
 
 
 def cures(wrong):
