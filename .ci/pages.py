@@ -3,10 +3,14 @@
 
 docs/varan.1: its options are those of nv_command/specs/Simple.antt, command by command, its limits those of Words.antt, and so are those of
 what `help` writes (Help.antt); README.md and docs/REFUSALS.md have each command's usage as `help` does; docs/REFUSALS.md
-gives the same limits, and README.md and it name no other option. Each page that README.md lists is there, and each page of docs/ is listed. crates.txt: each crate stands after those that it uses, with the first sentence of its head;
-docs/ARCHITECTURE.md names each, and its picture has the layers of crates.txt.
-docs/REFUSALS.md: no cure is empty. The pages that a user reads first have no line of more than 200 characters.
+gives the same limits, and README.md and it name no other option.
+The statuses of README.md, docs/varan.1, docs/LIVE.md and docs/PROVED.md are those of the definitions (nv_driver/specs); docs/REFUSALS.md has each
+line of a refusal with its status, each cause, and the limits of files as the definitions have them, and no cure there is empty.
+Each page that README.md lists is there, and each page of docs/ is listed. crates.txt: each crate stands after those that it uses, with the first
+sentence of its head; docs/ARCHITECTURE.md names each, and its picture has the layers of crates.txt.
+The pages that a user reads first have no line of more than 200 characters.
 """
+import itertools
 import os
 import re
 import sys
@@ -17,6 +21,47 @@ ROOT = os.path.dirname(os.path.dirname(os.path.abspath(__file__)))
 FIRST = ("README.md", "CHANGELOG.md", *(f"docs/{it}" for it in ("TUTORIAL.md", "GUESTS.md", "SCRIPT.md", "REPORT.md", "RULES.md", "REFUSALS.md", "TRACES.md", "INSPECT.md", "PARTING.md", "LIVE.md", "REHEARSE.md", "varan.1")))
 MOST = 200
 COMMANDS = ("run", "serve", "record", "replay", "inspect", "rules", "asm", "gen", "help")
+# what a shell tells of a service that SIGTERM ended: 128 and the signal's number
+BY_SIGTERM = "143"
+OUTCOME = "crates/nv_driver/specs/Outcome.antt"
+# the causes of each kind of file: the section of a page, and the definitions of their texts
+CAUSES = {
+    "### Any file": (("nv_driver/specs/Causes.antt", "cause_text Long"),),
+    "### Scripts (SCRIPT.md)": (("nv_script/specs/Texts.antt", "cause_word"), ("nv_driver/specs/Causes.antt", "cause_text Comes")),
+    "### Rule files (RULES.md)": (("nv_bpf/specs/Faults.antt", "filter_text"),),
+    "### Rule texts (RULES.md)": (("nv_bpf_asm/specs/Faults.antt", "rule_word"),),
+    "## Why a text is refused": (("nv_asm/specs/Faults.antt", "asm_word"),),
+    "### Versions (GUESTS.md)": (("nv_elf/specs/Faults.antt", "elf_text"), ("nv_guest/specs/Faults.antt", "guest_text")),
+    "### Traces (TRACES.md)": (("nv_trace/specs/Texts.antt", "trace_text"), ("nv_trace/specs/Texts.antt", "check_text")),
+}
+# limits of files: where the number stands, and what docs/REFUSALS.md says with it
+LIMITS = (
+    ("nv_driver/specs/Found.antt", r"FILE_LIMIT = (\d+)", "more than {} bytes | for a version"),
+    ("nv_driver/specs/Found.antt", r"TRACE_LIMIT = (\d+)", "a trace has more than {} bytes"),
+    ("nv_script/specs/Scripts.antt", r"length draft\.arguments\) (\d+)", "more than {} arguments"),
+    ("nv_script/specs/Scripts.antt", r"length draft\.files\) (\d+)", "{} files, 8 planned"),
+    ("nv_script/specs/Scripts.antt", r"length draft\.hands\) (\d+)", "{} planned lengths or"),
+    ("nv_script/specs/Scripts.antt", r"length draft\.connections\) (\d+)", "or {} connections"),
+    ("nv_script/specs/Scripts.antt", r"length content\) (\d+)", "a file or a connection of more than {} bytes"),
+    ("nv_script/specs/Scripts.antt", r"length input\) (\d+)", "a file or a connection of more than {} bytes"),
+    ("nv_script/specs/Entry.antt", r"clock\.nanos (\d+)", "nanoseconds above {}"),
+    ("nv_script/specs/Entry.antt", r"clock\.step (\d+)", "a step above {}"),
+    ("nv_script/specs/Entry.antt", r"is_hand n = .* nat_le n (\d+)", "a planned length that is 0 or above {}"),
+    ("nv_script/specs/Entry.antt", r"is_port n = .* nat_le n (\d+)", "a port that is 0 or above {}"),
+    ("nv_arrivals/specs/Reading.antt", r"length bytes\) (\d+)", "`data` of more than {} bytes"),
+    ("nv_arrivals/specs/Order.antt", r"length came\.clients\) (\d+)", "more than {} clients"),
+    ("nv_bpf/specs/Texts.antt", r"\(field (\d+) code\)", "the first above {}, the second"),
+    ("nv_bpf/specs/Texts.antt", r"\(field (\d+) jt\)", "the second or third above {}, the last"),
+    ("nv_bpf/specs/Verified.antt", r"ShiftLeft i k = unless \(nat_le k (\d+)\)", "by a constant above {}"),
+    ("nv_bpf/specs/Verified.antt", r"LoadScratch r\) n i op = unless \(nat_le op\.k (\d+)\)", "a word of M above {}"),
+    ("nv_bpf/specs/Verified.antt", r"is_word k = .*nat_le k (\d+)", "or above {} | see what a filter sees"),
+    ("nv_elf/specs/Elf.antt", r"length b\) (\d+) then Some Short", "fewer than {} bytes"),
+    ("nv_elf/specs/Elf.antt", r"nat_le \(table_len b\) (\d+)", "more than {} program headers"),
+    ("nv_elf/specs/Elf.antt", r"nat_lt (\d+) \(length loadables\)", "more than {} loadable segments"),
+    ("nv_guest/specs/Load.antt", r"image\.ranges \(size - (\d+)\)", "the memory less {} bytes"),
+    ("nv_calls/specs/Limits.antt", r"MOST_EVENTS = (\d+)", "it says that it has more than {} events"),
+    ("nv_calls/specs/Limits.antt", r"MOST_BYTES = (\d+)", "neither 0 nor 1, or more than {} bytes"),
+)
 # layers of crates.txt that stand beside the program
 BESIDE = {"tests", "benches"}
 # what stands on a page for another program's option
@@ -177,6 +222,73 @@ def crates(wrong):
         wrong.append(f"crates.txt doesn't have {name}")
 
 
+def clauses(path, *names):
+    """The texts of these definitions of a file, all clauses of each."""
+    text = read(path)
+    return "\n".join(it for name in names for it in re.findall(rf"(?m)^{name}\b[^\n]*=[^\n]*(?:\n +[^\n]*)*", text))
+
+
+def table(path, head):
+    """The rows of the table of a page with this head."""
+    lines = read(path).partition(f"\n{head}\n")[2].split("\n")
+    return [[cell.strip() for cell in row.strip("|").split(" | ")] for row in itertools.takewhile(lambda it: it.startswith("|"), lines[1:])]
+
+
+def statuses_defined():
+    ends = clauses(OUTCOME, "outcome_status", "ending_status", "ended_with")
+    ends += clauses("crates/nv_driver/specs/Account.antt", "run_status") + clauses("crates/nv_driver/specs/Replayed.antt", "replay_status")
+    return set(re.findall(r"(?:=|then|else) (\d)\b", ends))
+
+
+def statuses(wrong):
+    """The statuses of each page are those of the definitions."""
+    manual = read(MANUAL).partition(".Sh EXIT STATUS\n")[2].partition(".Sh ")[0]
+    told = {
+        "README.md": {it for row in table("README.md", "| Status | Means |") for it in row[0].split(", ")},
+        MANUAL: set(re.findall(r"(?m)^\.It (\d+)$", manual)),
+        "docs/LIVE.md": {row[0] for row in table("docs/LIVE.md", "| Status | Means |")} - {BY_SIGTERM},
+        "docs/PROVED.md": {it for row in table("docs/PROVED.md", "| Status | `answers` says |") for it in re.findall(r"\d", row[0])},
+    }
+    defined = statuses_defined()
+    for page, found in told.items():
+        if found != defined:
+            wrong.append(f"{page} has the statuses {', '.join(sorted(found))}; the definitions have {', '.join(sorted(defined))}")
+
+
+def refusal_lines(wrong):
+    """docs/REFUSALS.md has each line of a refusal with its status."""
+    status_of = dict(re.findall(r"(?m)^outcome_status \(?(\w+)[^=]*= (\d)$", clauses(OUTCOME, "outcome_status")))
+    rows = {it[1]: status for line, status, _ in table("docs/REFUSALS.md", "| Line | Status | Means |") if (it := re.match(r"`(varan: \w+)", line))}
+    for name, line in re.findall(r'(?m)^text_of \(?(\w+)[^=]*= (?:concat \()?codes "(varan: \w+)', read(OUTCOME)):
+        if rows.get(line) != status_of[name]:
+            wrong.append(f"docs/REFUSALS.md: `{line}` has the status {status_of[name]} by {OUTCOME}, and {rows.get(line, 'no row')} there")
+
+
+def causes(wrong):
+    """docs/REFUSALS.md, and docs/ASSEMBLER.md for assembler texts, have each cause of the definitions, and no other."""
+    for section, definitions in CAUSES.items():
+        page = "docs/ASSEMBLER.md" if section == "## Why a text is refused" else "docs/REFUSALS.md"
+        part = read(page).partition(f"\n{section}\n")[2].partition("\n##")[0]
+        shown = {re.sub(r"^line [N1] (?=\w)| [NIAB0]\b", "", it) for it in re.findall(r"(?m)^\| `([^`]+)` \|", part)}
+        texts = "\n".join(clauses(f"crates/{path}", name) for path, name in definitions)
+        defined = {it.strip() for it in re.findall(r'= codes "([^"]*)"', texts)} - {"memory"}
+        wrong += [f"{page}, {section}: the cause `{it}` of the definitions has no row" for it in sorted(defined - shown)]
+        wrong += [f"{page}, {section}: `{it}` is no cause of the definitions" for it in sorted(shown - defined)]
+
+
+def refusal_limits(wrong):
+    """The limits in docs/REFUSALS.md are the numbers of the definitions."""
+    page = read("docs/REFUSALS.md")
+    for path, pattern, told in LIMITS:
+        found = re.search(pattern, read(f"crates/{path}"))
+        if not found:
+            wrong.append(f"crates/{path} has no limit: {pattern}")
+            continue
+        said = told.format(f"{int(found[1]):,}")
+        if said not in page:
+            wrong.append(f"docs/REFUSALS.md doesn't say, by crates/{path}: {said}")
+
+
 def cures(wrong):
     for line in read("docs/REFUSALS.md").split("\n"):
         if line.startswith("|") and not line.split("|")[-2].strip():
@@ -194,8 +306,12 @@ if __name__ == "__main__":
     helped(wrong)
     listed(wrong)
     crates(wrong)
+    statuses(wrong)
+    refusal_lines(wrong)
+    causes(wrong)
+    refusal_limits(wrong)
     cures(wrong)
     long_lines(wrong)
     if wrong:
         sys.exit("\n".join(f"pages: {it}" for it in wrong))
-    print("pages: options, limits, pages, crates and cures stand as the code has them")
+    print("pages: options, limits, statuses, causes, cures, pages and crates stand as the code has them")
