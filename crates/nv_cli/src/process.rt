@@ -104,6 +104,7 @@ pub fn program<
         (S.faults sink) result.1 (S.faults result.0)) }
     ensures rejects { IfOk words (λ words. Rejects (texts words.items) (source_of F.holds F.faults F.taken files.old files.new) result.1) }
 {
+    // A report is put in some twenty small pieces an event: the sink gets them gathered.
     let mut sink = Gathering::make(sink);
     let (status, left) = answer(rt, alloc, words, files, &mut sink, gate, streams);
     let (sink, status) = finish(sink, status);

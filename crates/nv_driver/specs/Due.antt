@@ -129,7 +129,7 @@ pub record ServeOwes (service : Service) (holds : List ℕ → Told) (outcome : 
   pub agree : AreLiveFound service holds finds
   pub comes : ServeComesTo service (live_prepared service.limits finds) outcome
 
--- what each command owes
+-- what each command owes: a further command is one case more here, in IsAccepted, IsRefused and IsDone, and no clause of the top call changes
 abbrev pub Owes : Command → (List ℕ → Told) → Outcome → Type 0
 Owes (Runs plan) holds outcome = RunOwes plan holds outcome
 Owes (Uses job) holds outcome = JobOwes job holds outcome

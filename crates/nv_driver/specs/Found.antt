@@ -22,7 +22,8 @@ TookMore limit before now = min (before + limit + 1) (2 ^ 64 - 1) ≤ now
 abbrev pub TookLong : ℕ → ℕ → Type 0
 TookLong before now = TookMore FILE_LIMIT before now
 
--- all bytes of a file, that it has more than a file may have, or that it can't be read
+-- All bytes of a file, that it has more than a file may have, or that it can't be read. Something is found at each place, told or not:
+-- so a source that tells a part of the files pins what it can, and the first refused one is sought over what is found.
 pub data Found : Type 0 where
   Whole : List ℕ → Found
   TooLong : Found

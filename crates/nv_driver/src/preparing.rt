@@ -265,6 +265,7 @@ pub fn prepare<F: Files>(alloc: Global, files: &mut F, plan: &Run<'_>) -> Result
         &plan.versions,
     ) {
         Ok(rest) => {
+            // After the versions: so its want of memory comes after every file was judged.
             let kernel = ScriptedKernel::make(alloc, &script)?;
             let Rest { rules, versions } = rest;
             Ok(Prepared {

@@ -60,6 +60,7 @@ pub(crate) fn put_unread<S: Sink>(sink: &mut S, name: &str) -> u8
 pub(crate) fn put_input<S: Sink>(alloc: Global, sink: &mut S, name: &str, cause: Cause) -> u8
     ensures { Wrote (text_of (NotAccepted name.now cause)) 4 (S.told sink.old) (S.faults sink.old) result (S.told sink.new) (S.faults sink.new) }
 {
+    // Each fault has its text in its own crate, as its `Display`: printed into memory first, so that no copy of the texts stands here.
     let Ok(why) = cause.to_string(alloc) else {
         return put_line(sink, b"varan: memory\n", MEMORY);
     };

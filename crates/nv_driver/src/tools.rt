@@ -17,7 +17,7 @@ use nv_command::Tool;
 use nv_outside::{Files, Got};
 use std::alloc::{AllocError, AllocFailed, Global};
 
-/// Why a command makes nothing of its file.
+/// Why a command makes nothing of its file. A `Refusal` names a place of the reading order, of which such a command has one alone.
 #[derive(Clone, Copy, Debug, PartialEq, Eq)]
 pub enum Unmade {
     Memory,
