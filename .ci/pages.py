@@ -5,7 +5,8 @@ docs/varan.1: its options are those of nv_command/specs/Simple.antt, command by 
 what `help` writes (Help.antt); README.md and docs/REFUSALS.md have each command's usage as `help` does; docs/REFUSALS.md
 gives the same limits, and README.md and it name no other option.
 The statuses of README.md, docs/varan.1, docs/LIVE.md and docs/PROVED.md are those of the definitions (nv_driver/specs); docs/REFUSALS.md has each
-line of a refusal with its status, each cause, and the limits of files as the definitions have them, and no cure there is empty.
+line of a refusal with its status and each cause, and no cure there is empty; it and the pages of LIMITS and OPTION_LIMITS have the limits of files and options as the
+definitions have them.
 Each page that README.md lists is there, and each page of docs/ is listed. crates.txt: each crate stands after those that it uses, with the first
 sentence of its head; docs/ARCHITECTURE.md names each, and its picture has the layers of crates.txt.
 The pages that a user reads first have no line of more than 200 characters, the others none of more than 240.
@@ -35,33 +36,50 @@ CAUSES = {
     "### Versions (GUESTS.md)": (("nv_elf/specs/Faults.antt", "elf_text"), ("nv_guest/specs/Faults.antt", "guest_text")),
     "### Traces (TRACES.md)": (("nv_trace/specs/Texts.antt", "trace_text"), ("nv_trace/specs/Texts.antt", "check_text")),
 }
-# limits of files: where the number stands, and what docs/REFUSALS.md says with it
+# limits: where the number stands, and what pages of docs/ say with it
 LIMITS = (
-    ("nv_driver/specs/Found.antt", r"FILE_LIMIT = (\d+)", "more than {} bytes | for a version"),
-    ("nv_driver/specs/Found.antt", r"TRACE_LIMIT = (\d+)", "a trace has more than {} bytes"),
-    ("nv_script/specs/Scripts.antt", r"length draft\.arguments\) (\d+)", "more than {} arguments"),
-    ("nv_script/specs/Scripts.antt", r"length draft\.files\) (\d+)", "{} files, 8 planned"),
-    ("nv_script/specs/Scripts.antt", r"length draft\.hands\) (\d+)", "{} planned lengths or"),
-    ("nv_script/specs/Scripts.antt", r"length draft\.connections\) (\d+)", "or {} connections"),
-    ("nv_script/specs/Scripts.antt", r"length content\) (\d+)", "a file or a connection of more than {} bytes"),
-    ("nv_script/specs/Scripts.antt", r"length input\) (\d+)", "a file or a connection of more than {} bytes"),
-    ("nv_script/specs/Entry.antt", r"clock\.nanos (\d+)", "nanoseconds above {}"),
-    ("nv_script/specs/Entry.antt", r"clock\.step (\d+)", "a step above {}"),
-    ("nv_script/specs/Entry.antt", r"is_hand n = .* nat_le n (\d+)", "a planned length that is 0 or above {}"),
-    ("nv_script/specs/Entry.antt", r"is_port n = .* nat_le n (\d+)", "a port that is 0 or above {}"),
-    ("nv_arrivals/specs/Reading.antt", r"length bytes\) (\d+)", "`data` of more than {} bytes"),
-    ("nv_arrivals/specs/Order.antt", r"length came\.clients\) (\d+)", "more than {} clients"),
-    ("nv_bpf/specs/Texts.antt", r"\(field (\d+) code\)", "the first above {}, the second"),
-    ("nv_bpf/specs/Texts.antt", r"\(field (\d+) jt\)", "the second or third above {}, the last"),
-    ("nv_bpf/specs/Verified.antt", r"ShiftLeft i k = unless \(nat_le k (\d+)\)", "by a constant above {}"),
-    ("nv_bpf/specs/Verified.antt", r"LoadScratch r\) n i op = unless \(nat_le op\.k (\d+)\)", "a word of M above {}"),
-    ("nv_bpf/specs/Verified.antt", r"is_word k = .*nat_le k (\d+)", "or above {} | see what a filter sees"),
-    ("nv_elf/specs/Elf.antt", r"length b\) (\d+) then Some Short", "fewer than {} bytes"),
-    ("nv_elf/specs/Elf.antt", r"nat_le \(table_len b\) (\d+)", "more than {} program headers"),
-    ("nv_elf/specs/Elf.antt", r"nat_lt (\d+) \(length loadables\)", "more than {} loadable segments"),
-    ("nv_guest/specs/Load.antt", r"image\.ranges \(size - (\d+)\)", "the memory less {} bytes"),
-    ("nv_calls/specs/Limits.antt", r"MOST_EVENTS = (\d+)", "it says that it has more than {} events"),
-    ("nv_calls/specs/Limits.antt", r"MOST_BYTES = (\d+)", "neither 0 nor 1, or more than {} bytes"),
+    ("nv_driver/specs/Found.antt", r"FILE_LIMIT = (\d+)", {
+        "REFUSALS": "more than {} bytes | for a version", "LIVE": "it may have {} bytes, as every script", "GUESTS": "A file has at most {} bytes", "ASSEMBLER": "A text of up to {} bytes is read"}),
+    ("nv_driver/specs/Found.antt", r"TRACE_LIMIT = (\d+)", {"REFUSALS": "a trace has more than {} bytes", "TRACES": "`inspect` read up to {}."}),
+    ("nv_script/specs/Scripts.antt", r"length draft\.arguments\) (\d+)", {"REFUSALS": "more than {} arguments", "SCRIPT": "line, {} arguments"}),
+    ("nv_script/specs/Scripts.antt", r"length draft\.files\) (\d+)", {"REFUSALS": "{} files, 8 planned", "SCRIPT": ", {} files of"}),
+    ("nv_script/specs/Scripts.antt", r"length draft\.hands\) (\d+)", {"REFUSALS": "{} planned lengths or", "SCRIPT": "{} planned lengths, all different"}),
+    ("nv_script/specs/Scripts.antt", r"length draft\.connections\) (\d+)", {"REFUSALS": "or {} connections", "SCRIPT": "and {} clients of"}),
+    ("nv_script/specs/Scripts.antt", r"length content\) (\d+)", {"REFUSALS": "a file or a connection of more than {} bytes", "SCRIPT": "files of {} bytes each"}),
+    ("nv_script/specs/Scripts.antt", r"length input\) (\d+)", {"REFUSALS": "a file or a connection of more than {} bytes", "SCRIPT": "clients of {} bytes each"}),
+    ("nv_script/specs/Entry.antt", r"clock\.nanos (\d+)", {"REFUSALS": "nanoseconds above {}", "SCRIPT": "N of `clock` is at most {}"}),
+    ("nv_script/specs/Entry.antt", r"clock\.step (\d+)", {"REFUSALS": "a step above {}", "SCRIPT": "STEP at most {}"}),
+    ("nv_script/specs/Entry.antt", r"is_hand n = .* nat_le n (\d+)", {"REFUSALS": "a planned length that is 0 or above {}", "SCRIPT": "N of `hand` is from 1 to {}"}),
+    ("nv_script/specs/Entry.antt", r"is_port n = .* nat_le n (\d+)", {"REFUSALS": "a port that is 0 or above {}", "SCRIPT": "PORT from 1 to {}"}),
+    ("nv_arrivals/specs/Reading.antt", r"length bytes\) (\d+)", {"REFUSALS": "`data` of more than {} bytes", "SCRIPT": "have 1 to {} bytes", "LIVE": "| an arrival | {} bytes"}),
+    ("nv_arrivals/specs/Order.antt", r"length came\.clients\) (\d+)", {"REFUSALS": "more than {} clients", "SCRIPT": "At most {} clients connect", "LIVE": "| clients | {} |"}),
+    ("nv_bpf/specs/Texts.antt", r"\(field (\d+) code\)", {"REFUSALS": "the first above {}, the second"}),
+    ("nv_bpf/specs/Texts.antt", r"\(field (\d+) jt\)", {"REFUSALS": "the second or third above {}, the last"}),
+    ("nv_bpf/specs/Verified.antt", r"ShiftLeft i k = unless \(nat_le k (\d+)\)", {"REFUSALS": "by a constant above {}", "RULES": "shifts by a constant go up to {}"}),
+    ("nv_bpf/specs/Verified.antt", r"LoadScratch r\) n i op = unless \(nat_le op\.k (\d+)\)", {"REFUSALS": "a word of M above {}", "RULES": "word k of M, k at most {}"}),
+    ("nv_bpf/specs/Verified.antt", r"is_word k = .*nat_le k (\d+)", {"REFUSALS": "or above {} | see what a filter sees", "RULES": "at most {}, and not 132"}),
+    ("nv_bpf/src/op.rt", r"MOST_OPS: usize = (\d+)", {"REFUSALS": "the count is above {}", "RULES": "A filter has 1 to {} instructions"}),
+    ("nv_elf/specs/Elf.antt", r"length b\) (\d+) then Some Short", {"REFUSALS": "fewer than {} bytes"}),
+    ("nv_elf/specs/Elf.antt", r"nat_le \(table_len b\) (\d+)", {"REFUSALS": "more than {} program headers"}),
+    ("nv_elf/specs/Elf.antt", r"nat_lt (\d+) \(length loadables\)", {"REFUSALS": "more than {} loadable segments", "GUESTS": "bytes and {} segments"}),
+    ("nv_guest/specs/Load.antt", r"image\.ranges \(size - (\d+)\)", {"REFUSALS": "the memory less {} bytes", "GUESTS": "The top {} are the stack"}),
+    ("nv_calls/specs/Limits.antt", r"MOST_EVENTS = (\d+)", {"REFUSALS": "it says that it has more than {} events", "TRACES": "the number of events, at most {}."}),
+    ("nv_calls/specs/Limits.antt", r"MOST_BYTES = (\d+)", {"REFUSALS": "neither 0 nor 1, or more than {} bytes", "TRACES": "together at most {}.", "GUESTS": "a call reads or writes {} at most"}),
+    ("nv_fs/specs/Stored.antt", r"Console bytes = write_console s (\d+) bytes", {"LIVE": "{} to the console"}),
+    ("nv_sockets/specs/Sockets.antt", r"write_link net (\d+) i bytes", {"LIVE": "{} to each client", "SCRIPT": "`write` takes up to {} bytes for each client"}),
+)
+# what pages of docs/ say of an option's limits: the most, what it is where it isn't named, and the same for a service
+OPTION_LIMITS = (
+    ("memory", "GUESTS", "{usual} bytes, or `--memory N`, up to {most}."),
+    ("budget", "GUESTS", "{usual} for each version, or `--budget N`, up to {most}."),
+    ("calls", "GUESTS", "{usual} in the log, or `--calls N`, up to {most}."),
+    ("memory", "TRACES", "| as in `run` | {usual}; "),
+    ("budget", "TRACES", "; {usual} |"),
+    ("memory", "LIVE", "of each version {served} bytes, or `--memory N`"),
+    ("budget", "LIVE", "{served} of each version, or `--budget N`"),
+    ("calls", "LIVE", "| calls | {served}, or `--calls N`"),
+    ("count", "INSPECT", "after C instructions, 1 to {most},"),
+    ("length", "INSPECT", "from the address A on, 1 to {most}."),
 )
 # layers of crates.txt that stand beside the program
 BESIDE = {"tests", "benches"}
@@ -277,17 +295,23 @@ def causes(wrong):
         wrong += [f"{page}, {section}: `{it}` is no cause of the definitions" for it in sorted(shown - defined)]
 
 
-def refusal_limits(wrong):
-    """The limits in docs/REFUSALS.md are the numbers of the definitions."""
-    page = read("docs/REFUSALS.md")
-    for path, pattern, told in LIMITS:
+def limits_told():
+    """What pages have to say of limits: (page, text, where the number stands)."""
+    for path, pattern, pages in LIMITS:
         found = re.search(pattern, read(f"crates/{path}"))
-        if not found:
-            wrong.append(f"crates/{path} has no limit: {pattern}")
-            continue
-        said = told.format(f"{int(found[1]):,}")
-        if said not in page:
-            wrong.append(f"docs/REFUSALS.md doesn't say, by crates/{path}: {said}")
+        for page, told in pages.items():
+            yield page, told.format(f"{int(found[1]):,}") if found else f"no limit {pattern}", path
+    limits = limits_in(read("crates/nv_command/specs/Words.antt"))
+    for option, page, told in OPTION_LIMITS:
+        _, *numbers = limits[option]
+        yield page, told.format(**{name: f"{int(it):,}" for name, it in zip(("most", "usual", "served"), numbers) if it}), "nv_command/specs/Words.antt"
+
+
+def page_limits(wrong):
+    """The limits that pages tell are the numbers of the definitions."""
+    for page, told, path in limits_told():
+        if told not in read(f"docs/{page}.md"):
+            wrong.append(f"docs/{page}.md doesn't say, by crates/{path}: {told}")
 
 
 def cures(wrong):
@@ -312,7 +336,7 @@ if __name__ == "__main__":
     statuses(wrong)
     refusal_lines(wrong)
     causes(wrong)
-    refusal_limits(wrong)
+    page_limits(wrong)
     cures(wrong)
     long_lines(wrong)
     if wrong:
