@@ -8,7 +8,7 @@ The statuses of README.md, docs/varan.1, docs/LIVE.md and docs/PROVED.md are tho
 line of a refusal with its status and each cause, and no cure there is empty; it and the pages of LIMITS and OPTION_LIMITS have the limits of files and options as the
 definitions have them.
 Each page that README.md lists is there, and each page of docs/ is listed. crates.txt: each crate stands after those that it uses, with the first
-sentence of its head; docs/ARCHITECTURE.md names each, and its picture has the layers of crates.txt.
+sentence of its head; docs/ARCHITECTURE.md names each, its picture has the layers of crates.txt, and a report's line is found in the code as it says.
 The pages that a user reads first have no line of more than 200 characters, the others none of more than 240.
 """
 import itertools
@@ -295,6 +295,16 @@ def causes(wrong):
         wrong += [f"{page}, {section}: `{it}` is no cause of the definitions" for it in sorted(shown - defined)]
 
 
+def report_lines(wrong):
+    """docs/ARCHITECTURE.md: a report's line is found by its words in the files that the row names, which have its functions and definitions."""
+    for line, searches, *places in table("docs/ARCHITECTURE.md", "| Line | Search | Written by | Defined by | What decides it |"):
+        for place in places:
+            text = "\n".join(read(f"crates/{it}") for it in re.findall(r"nv_\w+/\S+\.(?:rt|antt)", place))
+            wrong += [f"docs/ARCHITECTURE.md, {line}: `{it}` isn't in {place}" for it in re.findall(r"`([^`]+)`", place) if it not in text]
+        written = "\n".join(read(f"crates/{it}") for it in re.findall(r"nv_\w+/\S+\.(?:rt|antt)", " ".join(places[:2])))
+        wrong += [f"docs/ARCHITECTURE.md, {line}: nothing is found by {it}" for it in re.findall(r"`'([^`]+)'`", searches) if written.count(it) < 2]
+
+
 def limits_told():
     """What pages have to say of limits: (page, text, where the number stands)."""
     for path, pattern, pages in LIMITS:
@@ -337,6 +347,7 @@ if __name__ == "__main__":
     refusal_lines(wrong)
     causes(wrong)
     page_limits(wrong)
+    report_lines(wrong)
     cures(wrong)
     long_lines(wrong)
     if wrong:
