@@ -1,15 +1,14 @@
 #!/usr/bin/env python3
-"""Holds pages against the code.
+"""Holds pages against the code, and says what a page has otherwise.
 
-docs/varan.1: its options are those of nv_command/specs/Simple.antt, command by command, its limits those of Words.antt, and so are those of
-what `help` writes (Help.antt); README.md and docs/REFUSALS.md have each command's usage as `help` does; docs/REFUSALS.md
-gives the same limits, and README.md and it name no other option.
-The statuses of README.md, docs/varan.1, docs/LIVE.md and docs/PROVED.md are those of the definitions (nv_driver/specs); docs/REFUSALS.md has each
-line of a refusal with its status and each cause, and no cure there is empty; it and the pages of LIMITS and OPTION_LIMITS have the limits of files and options as the
-definitions have them.
-Each page that README.md lists is there, and each page of docs/ is listed. crates.txt: each crate stands after those that it uses, with the first
-sentence of its head; docs/ARCHITECTURE.md names each, its picture has the layers of crates.txt, and a report's line is found in the code as it says.
-The pages that a user reads first have no line of more than 200 characters, the others none of more than 240.
+- Options: docs/varan.1 has those of nv_command/specs/Simple.antt, command by command, with the limits of Words.antt, and so has what `help` writes (Help.antt);
+  README.md and docs/REFUSALS.md have each command's usage as `help` does, and name no other option.
+- Statuses: those of README.md, docs/varan.1, docs/LIVE.md and docs/PROVED.md are the definitions' (nv_driver/specs).
+- Refusals: docs/REFUSALS.md has each line with its status and each cause of the definitions, with something to do; docs/ASSEMBLER.md the causes of its texts.
+- Limits of files and options: the pages of LIMITS and OPTION_LIMITS have the numbers of the definitions.
+- Crates: crates.txt has each after those that it uses, with the first sentence of its head; docs/ARCHITECTURE.md has its layers as a picture, and docs/PROVED.md an
+  entry for each that isn't of tests or benches. A report's line is found in the code as ARCHITECTURE says.
+- Pages: README.md lists those of docs/. The ones that a user reads first have no line of more than 200 characters, the others none of more than 240.
 """
 import itertools
 import os
@@ -210,6 +209,14 @@ def layers():
     return found
 
 
+def proved(wrong):
+    """docs/PROVED.md says of each crate of the program's layers what is proved, in the order of crates.txt."""
+    told = re.findall(r"(?m)^- \*\*(\w+)\*\*: ", read("docs/PROVED.md").partition("\n## Crate by crate")[2].partition("\n## ")[0])
+    names = [name for layer, _, uses in layers() if layer not in BESIDE for name, _ in uses]
+    if told != names:
+        wrong.append(f"docs/PROVED.md: crate by crate stand {', '.join(told)}; in crates.txt {', '.join(names)}")
+
+
 def head_of(crate):
     """The first sentence of a crate's head, without its point."""
     folder = f"crates/{crate}/src"
@@ -343,6 +350,7 @@ if __name__ == "__main__":
     helped(wrong)
     listed(wrong)
     crates(wrong)
+    proved(wrong)
     statuses(wrong)
     refusal_lines(wrong)
     causes(wrong)
