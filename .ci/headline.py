@@ -1,8 +1,8 @@
 #!/usr/bin/env python3
 """What the clauses of `nv_cli::varan`, and of `nv_cli::program`, which `main` calls, cite, whole: the definitions of specs/ that a reader has to believe.
 
-    .ci/headline.py            compares them with crates/nv_cli/specs/Headline.antt, with docs/DEFINITIONS.md and with the number in README.md
-    .ci/headline.py --write    writes them there: Headline.antt after its line MORE, the table at the end of DEFINITIONS.md, the number
+    .ci/headline.py            compares them with crates/nv_cli/specs/Headline.antt and with the number in README.md, and the names on docs/DEFINITIONS.md with the definitions
+    .ci/headline.py --write    writes them there: Headline.antt after its line MORE, the number
     .ci/headline.py --why X    says by which definitions the clauses come to X
     .ci/headline.py --inner    lists the definitions that no contract cites, and those that contracts of private functions alone cite
 
@@ -17,7 +17,6 @@ from definitions import ROOT, House, imports_of, read, whole
 TOP = [("nv_cli", "top", "varan"), ("nv_cli", "process", "program")]
 HEADLINE, PAGE, README = "crates/nv_cli/specs/Headline.antt", "docs/DEFINITIONS.md", "README.md"
 MORE = "-- And what these stand on, by crate and file. (.ci/headline.py --write makes the lines from here on.)"
-TABLE = "## Everything that the top call cites\n"
 COUNT = re.compile(r"\*\*[\d,]+\*\* definitions")
 
 
@@ -75,30 +74,32 @@ def more_imports(house, definitions, first):
     return lines
 
 
-def table_of(house, definitions):
-    return ["| File | Definitions |", "|---|---|", *(f"| {path_of(found[0])} | {', '.join(f'`{it.name}`' for it in found)} |" for _, _, found in by_file(house, definitions))]
+def entries(text):
+    """The list's entries on the page, each in one line."""
+    return [it for it in re.sub(r"\n  (?=\S)", " ", text).split("\n") if it.startswith("- `")]
 
 
-def in_table(house, text):
-    found, wrong = set(), []
-    for it in re.finditer(r"(?m)^\| (\w+)/specs/(\S+)\.antt \| (.*) \|$", text):
-        for name in re.findall(r"`([^`]+)`", it.group(3)):
-            known = house.find((it.group(1), it.group(2).replace("/", ".")), name)
-            if known:
-                found.add(known)
-            else:
-                wrong.append(f"{PAGE} has `{name}` in {it.group(1)}/specs/{it.group(2)}.antt, where it isn't")
-    return found, wrong
+def files_named(place):
+    """The files of an entry's place, `nv_x/specs/A.antt, B.antt`: one without a crate is of the crate before it, the first one of nv_driver; or a crate's specs/ whole."""
+    folder = "nv_driver/specs"
+    for it in re.findall(r"[\w/]+(?:\.antt)?", place.replace(" and ", " ")):
+        if "/specs" in it:
+            folder = it.partition("/specs")[0] + "/specs"
+        yield it if "/" in it else f"{folder}/{it}"
 
 
 def in_words(house, text, cited):
-    """Names in the first column of the page's tables that are no definition, and in the first table those that the clauses don't cite."""
-    known = {it.name for it in [*house.definitions(), *house.types.values()]}
-    reading = text.partition("## The top call")[2].partition("\n## ")[0]
-    for line in text.partition(TABLE)[0].split("\n"):
-        for name in re.findall(r"`([^`]+)`", line.split("|")[1]) if line.startswith("| `") else []:
-            if name not in known:
-                yield f"{PAGE} has `{name}`, which is no definition"
+    """Names of the page's entries that no file of the entry's place defines, and in its first list those that the clauses don't cite."""
+    files = {}
+    for it in [*house.definitions(), *house.types.values()]:
+        files.setdefault(it.name, set()).add(path_of(it))
+    reading = entries(text.partition("## The top call")[2].partition("\n## ")[0])
+    for line in entries(text):
+        names, _, rest = line.partition(" (")
+        places = list(files_named(rest.partition(")")[0]))
+        for name in re.findall(r"`([^`]+)`", names):
+            if not any(it.startswith(place) for it in files.get(name, ()) for place in places):
+                yield f"{PAGE} has `{name}` in {', '.join(places)}, where it isn't"
             elif line in reading and not any(it.name == name for it in cited):
                 yield f"{PAGE} has `{name}` in reading order, which the clauses don't cite"
 
@@ -116,13 +117,10 @@ def unresolved(house):
 
 
 def compare(house, cited):
-    headline, page = read(f"{ROOT}/{HEADLINE}"), read(f"{ROOT}/{PAGE}")
-    listed, wrong = imported(house, headline)
-    rows, more = in_table(house, page.partition(TABLE)[2])
-    wrong += more + list(unresolved(house)) + list(in_words(house, page, cited))
-    for place, those in ((HEADLINE, listed), (PAGE, rows)):
-        wrong += sorted(f"{place} lacks {it}" for it in cited - those)
-        wrong += sorted(f"{place} has {it}, which the clauses don't cite" for it in those - cited)
+    listed, wrong = imported(house, read(f"{ROOT}/{HEADLINE}"))
+    wrong += list(unresolved(house)) + list(in_words(house, read(f"{ROOT}/{PAGE}"), cited))
+    wrong += sorted(f"{HEADLINE} lacks {it}" for it in cited - listed)
+    wrong += sorted(f"{HEADLINE} has {it}, which the clauses don't cite" for it in listed - cited)
     if count_of(cited) not in read(f"{ROOT}/{README}"):
         wrong.append(f"{README} doesn't say {count_of(cited)}")
     return wrong
@@ -135,9 +133,6 @@ def write(house, cited):
     first = read(f"{ROOT}/{HEADLINE}").partition(MORE)[0].rstrip()
     kept, _ = imported(house, first)
     put(HEADLINE, "\n".join([first, MORE, *more_imports(house, cited - kept, first), ""]))
-    front = read(f"{ROOT}/{PAGE}").partition(TABLE)[0].rstrip()
-    told = f"{len(cited):,} definitions, by crate, the lowest first. `.ci/headline.py --write` makes this table, and the gate compares it with the clauses."
-    put(PAGE, "\n".join([front, "", TABLE.rstrip(), "", told, "", *table_of(house, cited), ""]))
     put(README, COUNT.sub(count_of(cited), read(f"{ROOT}/{README}")))
 
 

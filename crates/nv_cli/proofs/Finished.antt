@@ -9,13 +9,13 @@ use Rattle.nv_outside.specs.Gathering.{with_held}
 use Rattle.nv_command.specs.Words.{texts}
 use Rattle.nv_command.specs.declared.asked.LineFault.{LineFault}
 use Rattle.nv_command.specs.declared.asked.LineFault.TheVariants as line
-use Rattle.nv_jobs.specs.Due.{AnswersOver, Says, Completes, Rejects, IsUntouched, Shows}
-use Rattle.nv_jobs.specs.Live.{Streams}
-use Rattle.nv_jobs.specs.declared.ending.Ending.{Ending}
-use Rattle.nv_jobs.specs.declared.ending.Ending.TheVariants.{Finished}
-use Rattle.nv_jobs.specs.Outcome.{Source, outcome_status, text_of, ended_with}
-use Rattle.nv_jobs.specs.Tasks.{fault_outcome}
-use Rattle.nv_jobs.proofs.Statuses.{completes-of, rejects-of, never_six}
+use Rattle.nv_driver.specs.Due.{AnswersOver, Says, Completes, Rejects, IsUntouched, Shows}
+use Rattle.nv_driver.specs.Live.{Streams}
+use Rattle.nv_driver.specs.declared.ending.Ending.{Ending}
+use Rattle.nv_driver.specs.declared.ending.Ending.TheVariants.{Finished}
+use Rattle.nv_driver.specs.Outcome.{Source, outcome_status, text_of, ended_with}
+use Rattle.nv_driver.specs.Tasks.{fault_outcome}
+use Rattle.nv_driver.proofs.Statuses.{completes-of, rejects-of, never_six}
 use Rattle.nv_cli.specs.Program.{Given, Begins, EndsWith, ProgramAnswers}
 
 -- ---- one text

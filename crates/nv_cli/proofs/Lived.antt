@@ -4,13 +4,13 @@ use Rattle.nv_bpf.specs.declared.op.Op.{Op}
 use Rattle.nv_command.specs.Words.{Service, Serves, command_of}
 use Rattle.nv_machine.specs.Guest.{Machine}
 use Rattle.nv_script.specs.Scripts.{Setup}
-use Rattle.nv_jobs.specs.Due.{AnswersOver, Says}
-use Rattle.nv_jobs.specs.Live.{Streams}
-use Rattle.nv_jobs.specs.Outcome.{NoMemory, Source, text_of}
-use Rattle.nv_jobs.specs.Prepared.{Ready}
-use Rattle.nv_jobs.specs.Refusals.{LiveComesTo}
-use Rattle.nv_jobs.specs.declared.ending.Ending.{Ending}
-use Rattle.nv_jobs.proofs.Commands.{over_served, served_answers, starved_answers}
+use Rattle.nv_driver.specs.Due.{AnswersOver, Says}
+use Rattle.nv_driver.specs.Live.{Streams}
+use Rattle.nv_driver.specs.Outcome.{NoMemory, Source, text_of}
+use Rattle.nv_driver.specs.Prepared.{Ready}
+use Rattle.nv_driver.specs.Refusals.{LiveComesTo}
+use Rattle.nv_driver.specs.declared.ending.Ending.{Ending}
+use Rattle.nv_driver.proofs.Commands.{over_served, served_answers, starved_answers}
 use Rattle.nv_cli.specs.inner.Serving.{Served}
 
 module _ (words : List (List ℕ)) (source : Source) (service : Service) (asked : command_of words ≡ Some (Serves service)) (kept : source.later_faults ≡ source.faults)

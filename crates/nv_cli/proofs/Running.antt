@@ -14,8 +14,8 @@ use Rattle.nv_script.specs.Scripts.{Setup}
 use Rattle.nv_threads.proofs.ThreadLaws.{thread_laws}
 use Rattle.nv_threads.specs.Threads.{Proc, threads}
 use Rattle.nv_workers.specs.Ends.{IsAccount}
-use Rattle.nv_jobs.specs.Account.{IsRunOf, process_begun}
-use Rattle.nv_jobs.specs.Refusals.{IsPlanned}
+use Rattle.nv_driver.specs.Account.{IsRunOf, process_begun}
+use Rattle.nv_driver.specs.Refusals.{IsPlanned}
 use Rattle.nv_cli.proofs.Once.{settled_unplanned}
 
 -- versions that begin with these machines, and the script's planned lengths

@@ -38,10 +38,10 @@ use Rattle.nv_script.proofs.Transcripts.{transcript}
 use Rattle.nv_script.specs.declared.fault.ScriptFault.{ScriptFault}
 use Rattle.nv_threads.specs.Threads.{Proc, threads}
 use Rattle.nv_workers.specs.Ends.{IsAccount}
-use Rattle.nv_jobs.specs.Account.{process_begun, run_status}
-use Rattle.nv_jobs.specs.Live.{Lived, with_arrivals, ending_of}
-use Rattle.nv_jobs.specs.Refusals.{IsPlanned}
-use Rattle.nv_jobs.specs.declared.ending.Ending.{Ending}
+use Rattle.nv_driver.specs.Account.{process_begun, run_status}
+use Rattle.nv_driver.specs.Live.{Lived, with_arrivals, ending_of}
+use Rattle.nv_driver.specs.Refusals.{IsPlanned}
+use Rattle.nv_driver.specs.declared.ending.Ending.{Ending}
 use Rattle.nv_cli.specs.Streams.{streams_of}
 use Rattle.nv_cli.specs.inner.Serving.{IsBegunOver, RanOver, HasLeft, Served, told}
 use Rattle.nv_cli.proofs.Running.{run_of}

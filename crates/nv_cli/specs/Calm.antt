@@ -4,7 +4,7 @@ use Rattle.nv_outside.specs.Told.{Told}
 use Rattle.nv_outside.specs.CalmSink.{kept_of, is_over}
 use Rattle.nv_outside.specs.declared.calm_sink.CalmSink.{CalmSink}
 use Rattle.nv_command.specs.Words.{Command, command_of}
-use Rattle.nv_jobs.specs.Due.{IsAccepted, IsRefused, IsDone}
+use Rattle.nv_driver.specs.Due.{IsAccepted, IsRefused, IsDone}
 
 -- what the sink tells
 abbrev pub sink_told : CalmSink → Option (List ℕ)

@@ -5,12 +5,12 @@ use Rattle.nv_outside.specs.Told.{Told, Grows}
 use Rattle.nv_outside.specs.Sink.{Put, faults_by}
 use Rattle.nv_command.specs.Words.{texts, command_of}
 use Rattle.nv_command.specs.declared.asked.LineFault.{LineFault}
-use Rattle.nv_jobs.specs.Due.{IsDue, IsUntouched, Over, Shows}
-use Rattle.nv_jobs.specs.Live.{Streams}
-use Rattle.nv_jobs.specs.Outcome.{Outcome, Source, outcome_status, text_of, ended_with, ending_status}
-use Rattle.nv_jobs.specs.declared.ending.Ending.{Ending}
-use Rattle.nv_jobs.specs.declared.ending.Ending.TheVariants.{Finished}
-use Rattle.nv_jobs.specs.Tasks.{fault_outcome}
+use Rattle.nv_driver.specs.Due.{IsDue, IsUntouched, Over, Shows}
+use Rattle.nv_driver.specs.Live.{Streams}
+use Rattle.nv_driver.specs.Outcome.{Outcome, Source, outcome_status, text_of, ended_with, ending_status}
+use Rattle.nv_driver.specs.declared.ending.Ending.{Ending}
+use Rattle.nv_driver.specs.declared.ending.Ending.TheVariants.{Finished}
+use Rattle.nv_driver.specs.Tasks.{fault_outcome}
 
 -- the words of the process, or why there are none
 abbrev pub Given : Type 0

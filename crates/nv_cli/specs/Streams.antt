@@ -1,8 +1,8 @@
 -- The streams of a live run, as what they tell.
 use Rattle.std.specs.Prelude.{ℕ, List, Option, option_map}
 use Rattle.nv_live.specs.declared.streams.Streams.{Streams as Held}
-use Rattle.nv_jobs.specs.Live.{Streams}
-use Rattle.nv_jobs.specs.declared.ending.Ending.{Ending}
+use Rattle.nv_driver.specs.Live.{Streams}
+use Rattle.nv_driver.specs.declared.ending.Ending.{Ending}
 
 module _ {I O T : Type 0} (took : I → Option (List (List ℕ))) (unread : I → ℕ) (said : O → Option (List ℕ)) (unsaid : O → ℕ) (noted : T → Option (List ℕ)) (unnoted : T → ℕ) where
   -- what the three tell

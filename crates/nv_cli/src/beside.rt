@@ -38,6 +38,7 @@ pub fn run<R: Threads + Wait + Sync, K: SyscallKernel, G: Gate + Sync>(
         return Ok(Account { kernel, versions });
     }
     let stations = versions.len() as u32;
+    // All that a run takes before its first turn; from then on only a leader's call takes memory, and is refused it as the fate `memory`.
     let (room, readers, lead) = Room::make(alloc, kernel, stations, limits.ring, hands)?;
     let workers = staff(alloc, versions, readers, lead)?;
     let terms = Terms {

@@ -2,15 +2,15 @@
 ghost use Rattle.std.specs.Prelude.{◌≡◌, ◌≢◌, IfOk, option_map};
 ghost use Rattle.nv_outside.specs.Gathering.{sink_of, held_of};
 ghost use Rattle.nv_command.specs.Words.{texts};
-ghost use Rattle.nv_jobs.specs.Outcome.{source_of};
-ghost use Rattle.nv_jobs.specs.Due.{Says, Completes, Rejects};
+ghost use Rattle.nv_driver.specs.Outcome.{source_of};
+ghost use Rattle.nv_driver.specs.Due.{Says, Completes, Rejects};
 ghost use Rattle.nv_cli.specs.Program.{ProgramAnswers, exit_of};
 ghost use Rattle.nv_cli.specs.Streams.{streams_of, left_of};
 
 use crate::serving::Left;
 use crate::varan;
 use nv_command::LineFault;
-use nv_jobs::{Ending, WRITE_FAULT, ended, ending_status, refuse_words};
+use nv_driver::{Ending, WRITE_FAULT, ended, ending_status, refuse_words};
 use nv_live::{Source, Streams};
 use nv_outside::{Files, Gathering, Sink};
 use nv_workers::Gate;
@@ -104,6 +104,7 @@ pub fn program<
         (S.faults sink) result.1 (S.faults result.0)) }
     ensures rejects { IfOk words (λ words. Rejects (texts words.items) (source_of F.holds F.faults F.taken files.old files.new) result.1) }
 {
+    // A report is put in some twenty small pieces an event: the sink gets them gathered.
     let mut sink = Gathering::make(sink);
     let (status, left) = answer(rt, alloc, words, files, &mut sink, gate, streams);
     let (sink, status) = finish(sink, status);

@@ -6,9 +6,9 @@ ghost use Rattle.nv_replay.specs.Account.{AreFresh};
 ghost use Rattle.nv_script.specs.Scripts.{is_script};
 ghost use Rattle.nv_script.specs.Views.{setup_of};
 ghost use Rattle.nv_threads.specs.Threads.{threads};
-ghost use Rattle.nv_jobs.specs.Due.{AnswersOver};
+ghost use Rattle.nv_driver.specs.Due.{AnswersOver};
 ghost use Rattle.nv_cli.specs.Streams.{streams_of, left_of};
-ghost use Rattle.nv_jobs.specs.Outcome.{source_of};
+ghost use Rattle.nv_driver.specs.Outcome.{source_of};
 ghost use Rattle.nv_cli.specs.inner.Serving.{IsBegunOver, IsReadyToServe, HasLeft, RanOver, ServeSays};
 
 use crate::beside::run;
@@ -16,7 +16,7 @@ use nv_arrivals::Outside;
 use nv_arriving::ArrivingKernel;
 use nv_bpf::Filter;
 use nv_command::{Limits, Service};
-use nv_jobs::{
+use nv_driver::{
     Ending, LivePrepared, MEMORY, how_ended, prepare_live, put_line, refuse_live, status,
 };
 use nv_live::{LiveRun, Source, Streams, Telling};

@@ -4,7 +4,7 @@ ghost use Rattle.nv_machine.specs.Guest.{Machine};
 ghost use Rattle.nv_threads.specs.Threads.{threads};
 ghost use Rattle.nv_replay.specs.Version.{standing_of, process_of};
 ghost use Rattle.nv_replay.specs.Account.{AreFresh};
-ghost use Rattle.nv_jobs.specs.Account.{process_begun, run_status};
+ghost use Rattle.nv_driver.specs.Account.{process_begun, run_status};
 ghost use Rattle.nv_command.specs.Words.{Runs, Uses, command_of, texts};
 ghost use Rattle.nv_command.specs.Seen.{limits_view, plan_view};
 ghost use Rattle.nv_calls.specs.Logs.{output_of, connections_of};
@@ -13,15 +13,15 @@ ghost use Rattle.nv_report.specs.Json.{json_text};
 ghost use Rattle.nv_arriving.specs.Scripted.{start_from};
 ghost use Rattle.nv_sockets.specs.Texts.{connections_text};
 ghost use Rattle.nv_outside.specs.Sink.{Puts};
-ghost use Rattle.nv_jobs.specs.Due.{Says, Answers, AnswersOver, Completes, Rejects};
+ghost use Rattle.nv_driver.specs.Due.{Says, Answers, AnswersOver, Completes, Rejects};
 ghost use Rattle.nv_cli.specs.Streams.{streams_of, left_of};
-ghost use Rattle.nv_jobs.specs.Ran.{Wrote, Tells};
-ghost use Rattle.nv_jobs.specs.inner.Ran.{RunSays};
-ghost use Rattle.nv_jobs.specs.Refusals.{IsPlanned};
+ghost use Rattle.nv_driver.specs.Ran.{Wrote, Tells};
+ghost use Rattle.nv_driver.specs.inner.Ran.{RunSays};
+ghost use Rattle.nv_driver.specs.Refusals.{IsPlanned};
 ghost use Rattle.nv_gen.specs.Measures.{totals_in};
-ghost use Rattle.nv_jobs.specs.Generated.{IsGenerated};
-ghost use Rattle.nv_jobs.specs.inner.Summing.{SumsUp};
-ghost use Rattle.nv_jobs.specs.Outcome.{NotAccepted, totals_of, name_at, outcome_of, text_of, source_of};
+ghost use Rattle.nv_driver.specs.Generated.{IsGenerated};
+ghost use Rattle.nv_driver.specs.inner.Summing.{SumsUp};
+ghost use Rattle.nv_driver.specs.Outcome.{NotAccepted, totals_of, name_at, outcome_of, text_of, source_of};
 
 use crate::beside::run;
 use crate::recording::record;
@@ -29,11 +29,11 @@ use crate::serving::{Left, serve};
 use nv_arriving::ScriptedKernel;
 use nv_bpf::Filter;
 use nv_command::{Command, Limits, Run};
-use nv_gen::Totals;
-use nv_jobs::{
+use nv_driver::{
     Ending, MEMORY, Prepared, Task, answer_alone, count_exited, ended, generate, prepare, put_line,
     refuse, refuse_words, starved, status,
 };
+use nv_gen::Totals;
 use nv_live::{Source, Streams};
 use nv_outside::{Files, Put, Sink, put_pieces};
 use nv_replay::{Account, Version};

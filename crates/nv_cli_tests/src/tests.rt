@@ -1,4 +1,4 @@
-use nv_test_support::{Outside, image, monitor_through};
+use nv_cli_harness::{Outside, image, monitor_through};
 use nv_workers::{Gate, VersionNumber};
 use std::alloc::{AllocError, Global};
 use std::sync::atomic::{AtomicU64, Ordering};

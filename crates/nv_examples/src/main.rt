@@ -4,7 +4,7 @@
 
 mod shelf;
 
-use nv_test_support::{Answered, Outside, monitor_through};
+use nv_cli_harness::{Answered, Outside, monitor_through};
 use nv_workers::OpenGate;
 use shelf::Shelf;
 use std::alloc::{AllocError, Global};

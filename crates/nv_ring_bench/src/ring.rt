@@ -1,9 +1,9 @@
 //! Events through a room.
 ghost use Rattle.std.specs.Prelude.{◌≡◌, ◌<◌, ◌≤◌, IfOk};
 ghost use Rattle.nv_calls.specs.Limits.{MOST_EVENTS};
-ghost use Rattle.nv_room_runs.specs.Scripts.{AreCalls};
+ghost use Rattle.nv_room_harness.specs.Scripts.{AreCalls};
 
-use nv_room_runs::{Script, exit_group, kernel, serve_all, write};
+use nv_room_harness::{Script, exit_group, kernel, serve_all, write};
 use nv_served::SyscallKernel;
 use std::alloc::{AllocError, Global};
 use std::thread::Threads;
@@ -26,7 +26,7 @@ pub fn run_room<R: Threads + Sync>(
     requires versions { (0 < versions) × (versions ≤ 8) }
 {
     let script = script(alloc, bytes, events)?;
-    let ended = nv_room_runs::run(rt, alloc, kernel(alloc)?, &script, versions, PLACES)?;
+    let ended = nv_room_harness::run(rt, alloc, kernel(alloc)?, &script, versions, PLACES)?;
     Ok(match ended.seen.last() {
         Some(seen) => *seen as u64,
         None => 0,

@@ -2,7 +2,7 @@
 ghost use Rattle.std.specs.Prelude.{◌<◌};
 
 use crate::row::{Change, Kind, Row, RowFile};
-use nv_test_support::{Answered, Outside, assembled, image, monitor, monitor_through};
+use nv_cli_harness::{Answered, Outside, assembled, image, monitor, monitor_through};
 use nv_workers::OpenGate;
 use std::alloc::{AllocError, Global};
 use std::sync::Wait;

@@ -23,13 +23,13 @@ use Rattle.nv_script.specs.Transcripts.{IsTranscript}
 use Rattle.nv_script.specs.Views.{setup_of}
 use Rattle.nv_threads.specs.Threads.{Proc, threads}
 use Rattle.nv_workers.specs.Ends.{IsAccount}
-use Rattle.nv_jobs.specs.Account.{IsRunOf, process_begun, run_status}
-use Rattle.nv_jobs.specs.Due.{Says}
-use Rattle.nv_jobs.specs.Live.{Lived, Streams, with_arrivals, ending_of}
-use Rattle.nv_jobs.specs.Outcome.{NoMemory, text_of}
-use Rattle.nv_jobs.specs.Refusals.{IsPlanned}
-use Rattle.nv_jobs.specs.declared.ending.Ending.{Ending}
-use Rattle.nv_jobs.specs.declared.live.LivePrepared.{LivePrepared}
+use Rattle.nv_driver.specs.Account.{IsRunOf, process_begun, run_status}
+use Rattle.nv_driver.specs.Due.{Says}
+use Rattle.nv_driver.specs.Live.{Lived, Streams, with_arrivals, ending_of}
+use Rattle.nv_driver.specs.Outcome.{NoMemory, text_of}
+use Rattle.nv_driver.specs.Refusals.{IsPlanned}
+use Rattle.nv_driver.specs.declared.ending.Ending.{Ending}
+use Rattle.nv_driver.specs.declared.live.LivePrepared.{LivePrepared}
 
 -- a live run's files, with what its kernel and its versions ask of them
 pub record IsReadyToServe (prepared : LivePrepared) : Type 0 where

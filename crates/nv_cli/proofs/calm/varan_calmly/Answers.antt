@@ -1,6 +1,6 @@
 use Rattle.std.proofs.Common.{inl, inr, ⊎_elim, ◌≡◌, ◌⊎◌, arith}
 use Rattle.nv_outside.specs.Counts.{Rose}
-use Rattle.nv_jobs.proofs.Statuses.{five-by, six-by, usage-by}
+use Rattle.nv_driver.proofs.Statuses.{five-by, six-by, usage-by}
 use Rattle.nv_cli.proofs.calm.varan_calmly.Goals as goal
 
 never : Rose 0 0 → ⊥

@@ -1,6 +1,6 @@
 use Rattle.std.proofs.Common.{ap, subst, List, ℕ}
 use Rattle.nv_outside.specs.Gathering.{with_held}
-use Rattle.nv_jobs.specs.Outcome.{source_of}
+use Rattle.nv_driver.specs.Outcome.{source_of}
 use Rattle.nv_cli.specs.Program.{ProgramAnswers}
 use Rattle.nv_cli.specs.Streams.{streams_of, left_of}
 use Rattle.nv_cli.proofs.Finished.{program_finished, program_completes, program_rejects}

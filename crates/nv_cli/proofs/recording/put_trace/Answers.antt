@@ -4,8 +4,8 @@ use Rattle.nv_threads.specs.Threads.{Proc}
 use Rattle.nv_replay.specs.Version.{Running, standing_of}
 use Rattle.nv_trace.specs.Trace.{IsRecordable, trace_of}
 use Rattle.nv_trace.proofs.Recording.{lawful_recordable}
-use Rattle.nv_jobs.specs.Account.{run_status}
-use Rattle.nv_jobs.specs.Outcome.{ended_with}
+use Rattle.nv_driver.specs.Account.{run_status}
+use Rattle.nv_driver.specs.Outcome.{ended_with}
 use Rattle.nv_cli.proofs.recording.put_trace.Goals as goal
 
 pub write-put-requires : goal.write-put-requires

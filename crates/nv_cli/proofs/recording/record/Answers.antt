@@ -2,9 +2,9 @@ use Rattle.std.proofs.Common.{◌≡◌, subst, Option, List}
 use Rattle.std.specs.Prelude.{option_map}
 use Rattle.nv_bpf.specs.declared.op.Op.{Op}
 use Rattle.nv_command.specs.Seen.{plan_view, limits_view}
-use Rattle.nv_jobs.specs.inner.Ran.{RecordSays}
-use Rattle.nv_jobs.specs.Outcome.{source_of}
-use Rattle.nv_jobs.proofs.Commands.{record_answers, record_refusal_answers}
+use Rattle.nv_driver.specs.inner.Ran.{RecordSays}
+use Rattle.nv_driver.specs.Outcome.{source_of}
+use Rattle.nv_driver.proofs.Commands.{record_answers, record_refusal_answers}
 use Rattle.nv_cli.proofs.recording.record.Goals as goal
 
 pub returns-in-Ok : goal.returns-in-Ok

@@ -1,7 +1,7 @@
 use Rattle.std.proofs.Common.{◌≡◌, ◌∙◌, ap}
 use Rattle.nv_live.specs.Run.{output_of, notes_of, stop_of_run}
 use Rattle.nv_live.specs.Writer.{sink_in, put_of}
-use Rattle.nv_jobs.specs.Live.{ending_of}
+use Rattle.nv_driver.specs.Live.{ending_of}
 use Rattle.nv_cli.proofs.Served.{stops_alike}
 use Rattle.nv_cli.proofs.serving.left_by.Goals as goal
 

@@ -1,6 +1,6 @@
 use Rattle.nv_command.specs.Seen.{service_view}
-use Rattle.nv_jobs.specs.Outcome.{source_of}
-use Rattle.nv_jobs.proofs.Commands.{live_refusal_answers}
+use Rattle.nv_driver.specs.Outcome.{source_of}
+use Rattle.nv_driver.proofs.Commands.{live_refusal_answers}
 use Rattle.nv_script.specs.Views.{setup_of}
 use Rattle.nv_cli.specs.Streams.{streams_of}
 use Rattle.nv_cli.proofs.Lived.{serve_answers}

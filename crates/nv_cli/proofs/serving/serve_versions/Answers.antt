@@ -1,6 +1,6 @@
 use Rattle.std.proofs.Common.{◌∙◌, sym, ap, subst, inl, inr, refl, map}
 use Rattle.nv_command.specs.Seen.{limits_view}
-use Rattle.nv_jobs.specs.Account.{run_status}
+use Rattle.nv_driver.specs.Account.{run_status}
 use Rattle.nv_replay.specs.Version.{standing_of}
 use Rattle.nv_script.specs.Transcripts.{IsTranscript}
 use Rattle.nv_script.specs.Views.{setup_of}

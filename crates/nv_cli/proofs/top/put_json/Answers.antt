@@ -2,8 +2,8 @@ use Rattle.std.proofs.Common.{◌∙◌, ◌++◌, ap, inl, inr, codes, List, �
 use Rattle.nv_outside.proofs.Writing.{puts-is}
 use Rattle.nv_threads.specs.Threads.{Proc}
 use Rattle.nv_replay.specs.Version.{Running, standing_of}
-use Rattle.nv_jobs.specs.Account.{run_status}
-use Rattle.nv_jobs.specs.Outcome.{ended_with}
+use Rattle.nv_driver.specs.Account.{run_status}
+use Rattle.nv_driver.specs.Outcome.{ended_with}
 use Rattle.nv_cli.proofs.top.put_json.Goals as goal
 
 pub returns-in-Ok : goal.returns-in-Ok

@@ -1,8 +1,8 @@
 use Rattle.std.proofs.Common.{◌∙◌, ap, List, map}
 use Rattle.nv_threads.specs.Threads.{Proc}
 use Rattle.nv_replay.specs.Version.{Running, standing_of}
-use Rattle.nv_jobs.specs.Account.{run_status}
-use Rattle.nv_jobs.specs.Outcome.{ended_with}
+use Rattle.nv_driver.specs.Account.{run_status}
+use Rattle.nv_driver.specs.Outcome.{ended_with}
 use Rattle.nv_cli.proofs.top.put_report.Goals as goal
 
 pub returns : goal.returns

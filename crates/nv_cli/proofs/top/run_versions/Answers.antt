@@ -9,9 +9,9 @@ use Rattle.nv_workers.specs.Ends.{IsAccount}
 use Rattle.nv_report.specs.Json.{json_text}
 use Rattle.nv_report.specs.Report.{report_text}
 use Rattle.nv_sockets.specs.Texts.{connections_text}
-use Rattle.nv_jobs.specs.Account.{run_status}
-use Rattle.nv_jobs.specs.Due.{Says}
-use Rattle.nv_jobs.specs.Ran.{Wrote}
+use Rattle.nv_driver.specs.Account.{run_status}
+use Rattle.nv_driver.specs.Due.{Says}
+use Rattle.nv_driver.specs.Ran.{Wrote}
 use Rattle.nv_cli.proofs.Running.{run_of}
 use Rattle.nv_cli.proofs.top.run_versions.Goals as goal
 

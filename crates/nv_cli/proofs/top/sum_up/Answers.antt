@@ -13,11 +13,11 @@ use Rattle.nv_threads.specs.Threads.{Proc, threads}
 use Rattle.nv_workers.specs.Ends.{IsAccount}
 use Rattle.nv_command.specs.Seen.{limits_view}
 use Rattle.nv_command.specs.Words.{Limits}
-use Rattle.nv_jobs.specs.Account.{process_begun}
-use Rattle.nv_jobs.specs.Due.{Says}
-use Rattle.nv_jobs.specs.Outcome.{NoMemory, Summed, totals_of}
+use Rattle.nv_driver.specs.Account.{process_begun}
+use Rattle.nv_driver.specs.Due.{Says}
+use Rattle.nv_driver.specs.Outcome.{NoMemory, Summed, totals_of}
 use Rattle.nv_cli.proofs.Counted.{few_lines}
-use Rattle.nv_jobs.proofs.Loaded.{made_owes}
+use Rattle.nv_driver.proofs.Loaded.{made_owes}
 use Rattle.nv_cli.proofs.Running.{run_of}
 use Rattle.nv_cli.proofs.top.sum_up.Goals as goal
 

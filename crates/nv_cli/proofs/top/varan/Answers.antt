@@ -1,10 +1,10 @@
 use Rattle.std.proofs.Common.{subst, List, String}
 use Rattle.std.specs.Global.{Global}
 use Rattle.nv_command.specs.Words.{texts}
-use Rattle.nv_jobs.specs.Outcome.{source_of}
-use Rattle.nv_jobs.specs.Due.{AnswersOver}
+use Rattle.nv_driver.specs.Outcome.{source_of}
+use Rattle.nv_driver.specs.Due.{AnswersOver}
 use Rattle.nv_cli.specs.Streams.{streams_of, left_of}
-use Rattle.nv_jobs.proofs.Statuses.{completes-by, rejects-by}
+use Rattle.nv_driver.proofs.Statuses.{completes-by, rejects-by}
 use Rattle.nv_cli.proofs.top.varan.Goals as goal
 
 pub returns : goal.returns

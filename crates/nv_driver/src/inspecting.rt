@@ -1,0 +1,91 @@
+// A version at a point of a trace, and what it shows there.
+ghost use Rattle.std.specs.Prelude.{◌≡◌, ◌≤◌, false, IsTrue, List, ℕ, Some, take, option_map};
+ghost use Rattle.nv_command.specs.Words.{Inspects, command_of};
+ghost use Rattle.nv_command.specs.Seen.{look_view, point_view};
+ghost use Rattle.nv_inspect.specs.Shown.{show_text, IsDump};
+ghost use Rattle.nv_replay.specs.Follow.{follow, fresh, judge_of};
+ghost use Rattle.nv_replay.specs.Version.{IsFresh};
+ghost use Rattle.nv_inspect.specs.Points.{events_to, budget_to};
+ghost use Rattle.nv_script.specs.Scripts.{is_script};
+ghost use Rattle.nv_script.specs.Views.{setup_of};
+ghost use Rattle.nv_arriving.specs.Scripted.{start_from};
+ghost use Rattle.nv_threads.specs.Threads.{threads};
+ghost use Rattle.nv_trace.specs.Checks.{AreSoundEvents};
+ghost use Rattle.nv_driver.specs.Due.{Answers, files_after};
+ghost use Rattle.nv_driver.specs.Outcome.{source_of};
+ghost use Rattle.nv_driver.specs.Ran.{Wrote};
+ghost use Rattle.nv_driver.specs.Tracing.{trace_point};
+
+use crate::endings::{MEMORY, ended, put_line};
+use crate::refusing::refuse_trail;
+use crate::trails::{TracedVersion, trace_version};
+use nv_command::Look;
+use nv_inspect::{TracePoint, bring, kernel_after, show};
+use nv_outside::{Files, Sink};
+use nv_served::SyscallKernel;
+use std::alloc::Global;
+
+fn point(look: &Look<'_>) -> TracePoint
+    ensures { result ≡ trace_point (point_view look.now.point) }
+{
+    match look.point {
+        nv_command::Point::Stamp(stamp) => TracePoint::Stamp(stamp),
+        nv_command::Point::Call(number) => TracePoint::Call(number),
+        nv_command::Point::Count(count) => TracePoint::Count(count),
+    }
+}
+
+// The instructions that the version has: a count is a point of its own, above the budget too.
+fn budget(look: &Look<'_>) -> u32
+    ensures is { result ≡ budget_to (trace_point (point_view look.now.point)) look.now.trail.budget }
+    ensures few { result ≤ 1_000_000_000 }
+{
+    match look.point {
+        nv_command::Point::Count(count) => count,
+        _ => look.trail.budget,
+    }
+}
+
+// Shows the version at the point, and the files after the events that it has seen.
+fn show_at<S: Sink>(
+    alloc: Global,
+    sink: &mut S,
+    traced: TracedVersion,
+    point: TracePoint,
+    dump: Option<(u32, u32)>,
+) -> u8
+    requires fresh { IsFresh threads traced.version.index traced.version }
+    requires settled { traced.version.eager ≡ false }
+    requires script { IsTrue (is_script (setup_of traced.script)) }
+    requires sound { AreSoundEvents (start_from (setup_of traced.script)) traced.kernel.log }
+    requires dump { IsDump dump }
+    ensures { let at = follow threads (judge_of traced.rules traced.version.index) (events_to point traced.kernel.log) (fresh traced.version.at.process) in
+        Wrote (show_text at (files_after (setup_of traced.script) (take at.seen traced.kernel.log)) dump) 0
+        (S.told sink.old) (S.faults sink.old) result (S.told sink.new) (S.faults sink.new) }
+{
+    let TracedVersion {
+        script,
+        rules,
+        kernel,
+        mut version,
+    } = traced;
+    bring(&mut version, rules.as_ref(), &kernel, point);
+    let seen = version.standing().seen as usize;
+    let Ok(earlier) = kernel_after(alloc, &script, &kernel, seen) else {
+        return put_line(sink, b"varan: memory\n", MEMORY);
+    };
+    let put = show(sink, &version, earlier.files(), dump);
+    ended(put, 0)
+}
+
+/// Shows a version at a point of a trace.
+pub fn inspect<F: Files, S: Sink>(alloc: Global, files: &mut F, sink: &mut S, look: &Look<'_>) -> u8
+    ensures { (words : List (List ℕ)) → command_of words ≡ Some (Inspects (look_view look.now))
+        → Answers words (source_of F.holds F.faults F.taken files.old files.new)
+        (S.told sink.old) (S.faults sink.old) result (S.told sink.new) (S.faults sink.new) }
+{
+    match trace_version(alloc, files, &look.trail, budget(look)) {
+        Ok(traced) => show_at(alloc, sink, traced, point(look), look.dump),
+        Err(refusal) => refuse_trail(alloc, sink, refusal, &look.trail),
+    }
+}
