@@ -95,6 +95,11 @@ module _ {P : Type 0} (g : Behaviour P) (laws : IsProcess g) (start : Start) (mo
       let a : Account = sequence g judges start most (cuts_of lines) hands (map process_of rs) in
       let el : log ≡ a.log = ap (λ (x : Account). x.log) e in
       let at : slice_get a.lines k ≡ Some line = sym (ap (λ (x : Account). slice_get x.lines k) e) ∙ h' in
-      let pl : IsPlain start most a.log = record { lawful = subst IsLawful el law; legal = subst (IsLegal start) el legal; short = sequence_short g judges start most (cuts_of lines) hands (map process_of rs); childless = λ i x q. no_child x (subst HasNoClone el no_clone i x q) } in
+      let pl : IsPlain start most a.log = record {
+        lawful = subst IsLawful el law;
+        legal = subst (IsLegal start) el legal;
+        short = sequence_short g judges start most (cuts_of lines) hands (map process_of rs);
+        childless = λ i x q. no_child x (subst HasNoClone el no_clone i x q);
+      } in
       let same = survives g laws judges start most (cuts_of lines) hands (map process_of rs) k p line h started pl at s.exited s.rewrites in
       one_leads g laws (λ i c e. 0) start most hands p ∙ (same ∙ sym el)

@@ -15,28 +15,28 @@ use Rattle.nv_replay.specs.Lead.{is_cut, is_memory, logged, next_call}
 use Rattle.nv_replay.specs.Version.{Running, asking_by, asking_next, became_event, leader_of}
 
 module _ {P : Type 0} (g : Behaviour P) (most : ℕ) (r : Running P) where
+  -- it asks the call of this thread
+  abbrev pub asks : ℕ → Running P
+  asks t = record r { at = record r.at { process = g.after r.at.process Any }; asked = Some t }
+
+  -- as many events as there may be stand before the call, so that it ends there
+  abbrev ends : ℕ → Running P
+  ends t = record r { at = record r.at { process = g.after r.at.process Any; fate = Some (Faulted Calls t (g.pc (g.after r.at.process Any) t)) } }
+
   pub record AskedFor (n : Running P) (t : ℕ) : Type 0 where
     pub came : g.came r.at.process Any ≡ Asked t
     pub few : nat_le most r.at.seen ≡ false
-    pub new : n ≡ record r { at = record r.at { process = g.after r.at.process Any }; asked = Some t }
+    pub new : n ≡ asks t
 
   asked_if : (n : Running P) (t u : ℕ) (b : Bool) → nat_le most r.at.seen ≡ b → g.came r.at.process Any ≡ Asked u → r.asked ≡ None
-      → n ≡ cond b (record r {
-        at = record r.at {
-          process = g.after r.at.process Any;
-          fate = Some
-              (Faulted Calls u (g.pc (g.after r.at.process Any) u));
-        };
-      })
-      (record r { at = record r.at { process = g.after r.at.process Any }; asked = Some u }) → n.asked ≡ Some t → AskedFor n t
+      → n ≡ cond b (ends u) (asks u) → n.asked ≡ Some t → AskedFor n t
   asked_if n t u true m c a h k = cc
   asked_if n t u false m c a h k =
       let e : u ≡ t = cc in
       record {
         came = c ∙ ap Asked e;
         few = m;
-        new = h ∙ ap
-            (λ (x : ℕ). record r { at = record r.at { process = g.after r.at.process Any }; asked = Some x }) e;
+        new = h ∙ ap asks e;
       }
 
   asked_by : (n : Running P) (t : ℕ) (came : Came) → g.came r.at.process Any ≡ came → r.asked ≡ None
@@ -68,14 +68,7 @@ module _ {P : Type 0} (g : Behaviour P) (most : ℕ) (r : Running P) where
   ended_at n m e a b d x = subst EndedBy (sym e) (record { rest = a; fault = b; ended = d; dead = x })
 
   ended_if : (n : Running P) (u : ℕ) (b : Bool) → r.asked ≡ None
-      → n ≡ cond b (record r {
-        at = record r.at {
-          process = g.after r.at.process Any;
-          fate = Some
-              (Faulted Calls u (g.pc (g.after r.at.process Any) u));
-        };
-      })
-      (record r { at = record r.at { process = g.after r.at.process Any }; asked = Some u }) → n.asked ≡ None → EndedBy n
+      → n ≡ cond b (ends u) (asks u) → n.asked ≡ None → EndedBy n
   ended_if n u true a h k = ended_at n _ h refl refl (λ z. cc) refl
   ended_if n u false a h k = let z : n.asked ≡ Some u = ap (λ (y : Running P). y.asked) h in cc
 
@@ -131,6 +124,5 @@ module _ {P : Type 0} (g : Behaviour P) (replies : Start) (most : ℕ) (c : Opti
       (log ++ served replies log (g.call n.at.process t) ∷ []) ≡ next_call g replies most c (leader_of r log)
   lead_served n t laws s f a k =
       let m : nat_le most (length log) ≡ false = rw (← s) a.few in
-      let x : Running P = record r { at = record r.at { process = g.after r.at.process Any }; asked = Some t } in
       let own : (g.call (g.after r.at.process Any) t).tid ≡ t = laws.own (g.after r.at.process Any) t in
       rw (led_if t false false m k a.came f, a.new) (rw own refl)

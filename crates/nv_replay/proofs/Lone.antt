@@ -1,6 +1,6 @@
 -- A version that made no rewrite did what it would do alone, as a follower and as a leader.
-use Rattle.std.proofs.Common.{◌≡◌, ◌≢◌, ◌∙◌, sym, ap, subst, refl, ℕ, zero, suc, ◌+◌, ◌<◌, ◌≤◌, ◌⊎◌, inl, inr, Bool, true, false, List, [], ◌∷◌, ◌++◌, length, take, map, set, Option, Some, None, arith, length-append}
-use Rattle.std.specs.Prelude.{slice_get, Contains, option_map}
+use Rattle.std.proofs.Common.{◌≡◌, ◌≢◌, ◌∙◌, sym, ap, subst, refl, inl, inr, arith, length-append}
+use Rattle.std.specs.Prelude.{ℕ, zero, suc, ◌+◌, ◌<◌, ◌≤◌, ◌⊎◌, Bool, true, false, List, [], ◌∷◌, ◌++◌, length, take, map, set, Option, Some, None, slice_get, Contains, option_map}
 use Rattle.nv_calls.specs.Calls.{Entry}
 use Rattle.nv_calls.specs.Logs.{Start, served, IsLawful, IsLegal, live_after, child_of}
 use Rattle.nv_threads.specs.Behaviours.{Behaviour, IsProcess, IsStarted, event_answered}
@@ -23,7 +23,7 @@ use Rattle.nv_replay.proofs.Surviving.{IsTrueTo, IsPlainLog, copied, copies, cas
 use Rattle.nv_replay.proofs.Falling.{within}
 use Rattle.nv_replay.proofs.Turning.{get_last, take_all}
 use Rattle.nv_replay.proofs.Tracking.{track_extended, track_from, stage_after, ends_later, followed_seen, follow_more}
-use Rattle.nv_replay.proofs.Retracing.{HasServed, goes_on, back}
+use Rattle.nv_replay.proofs.Retracing.{beside, HasServed, goes_on, back}
 use Rattle.nv_replay.proofs.Handing.{hands_over}
 use Rattle.nv_replay.proofs.Stretches.{hand_leads}
 use Rattle.nv_replay.proofs.Spanning.{span_end}
@@ -74,7 +74,7 @@ module _ {P : Type 0} (g : Behaviour P) (laws : IsProcess g) (start : Start) (mo
       let ev : Entry = served start l.log (g.call p t) in
       let log1 : List Entry = l.log ++ ev ∷ [] in
       let l1 : Leader P = next_call g start most cut l in
-      let s : Follower P = record { process = l.process; seen = length l.log; rewrites = rewrites; fate = None } in
+      let s : Follower P = beside rewrites l in
       let logs : l1.log ≡ log1 = ap (λ (x : Leader P). x.log) d.new in
       let law1 : IsLawful log1 = subst IsLawful logs law in
       let st : IsInStep g l.log s = subst (λ (f : Option Fate). IsInStep g l.log (record { process = l.process; seen = length l.log; rewrites = rewrites; fate = f })) n k.in_step in

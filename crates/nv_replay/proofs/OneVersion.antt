@@ -1,6 +1,6 @@
 -- A run of one version alone: planned lengths change nothing in its log.
-use Rattle.std.proofs.Common.{◌≡◌, ◌≢◌, ◌∙◌, sym, ap, subst, refl, ℕ, zero, suc, ◌+◌, ◌<◌, ◌≤◌, ◌⊎◌, inl, inr, Bool, true, false, List, [], ◌∷◌, ◌++◌, length, take, map, set, Option, Some, None, arith, length-append}
-use Rattle.std.specs.Prelude.{slice_get}
+use Rattle.std.proofs.Common.{◌≡◌, ◌≢◌, ◌∙◌, sym, ap, subst, refl, inl, inr, arith, length-append}
+use Rattle.std.specs.Prelude.{ℕ, zero, suc, ◌+◌, ◌<◌, ◌≤◌, ◌⊎◌, Bool, true, false, List, [], ◌∷◌, ◌++◌, length, take, map, set, Option, Some, None, slice_get}
 use Rattle.nv_calls.specs.Calls.{Entry}
 use Rattle.nv_calls.specs.Logs.{Start}
 use Rattle.nv_threads.specs.Behaviours.{Behaviour, IsProcess}
@@ -26,6 +26,7 @@ use Rattle.nv_replay.proofs.Spanning.{span_end}
 use Rattle.nv_replay.proofs.Fates.{none_on}
 use Rattle.nv_replay.proofs.Rotating.{turns_left, turn_falls, after_falls, grows, empty_rests, led, few_at_first}
 use Rattle.nv_replay.proofs.Wholly.{lead_is}
+use Rattle.nv_replay.proofs.Retracing.{beside}
 
 module _ {P : Type 0} (g : Behaviour P) (laws : IsProcess g) (judges : ℕ → Judge) (start : Start) (most : ℕ) (hands : List ℕ) (p : P) where
   abbrev free : ℕ → Option ℕ
@@ -109,7 +110,7 @@ module _ {P : Type 0} (g : Behaviour P) (laws : IsProcess g) (judges : ℕ → J
           process = s.process;
           order = refl;
           over = refl;
-          at = record { process = l.process; seen = length l.log; rewrites = s.at.rewrites; fate = None };
+          at = beside s.at.rewrites l;
           reach = hands_over g (judges 0) start most None s.version.led m.log p s.at r.steps l s.reach s.seen s.on r.is d.on;
           past = span_end s.version.led s.at.seen (length m.log) (length l.log) s.past (omega (arith, s.seen, ap length grew.1, length-append m.log grew.0));
           seen = refl;

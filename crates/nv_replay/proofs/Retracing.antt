@@ -28,7 +28,11 @@ module _ {P : Type 0} (g : Behaviour P) (replies : Start) (most : ℕ) (cut : Op
     pub came : g.came l.process Any ≡ Asked thread
     pub new : n ≡ logged g replies most cut l (g.answered (g.after l.process Any) thread (event l thread).reply) (event l thread)
 
-  served_if : (l : Leader P) (t : ℕ) (b d : Bool) (n : Leader P) → g.came l.process Any ≡ Asked t → n ≡ cond b (record l { process = g.after l.process Any; fate = Some (Faulted Calls t (g.pc (g.after l.process Any) t)) }) (cond d (record l { process = g.after l.process Any; fate = Some Memory }) (logged g replies most cut l (g.answered (g.after l.process Any) t (event l t).reply) (event l t))) → n.fate ≡ None → HasServed l n
+  served_if : (l : Leader P) (t : ℕ) (b d : Bool) (n : Leader P) → g.came l.process Any ≡ Asked t
+      → n ≡ cond b (record l { process = g.after l.process Any; fate = Some (Faulted Calls t (g.pc (g.after l.process Any) t)) })
+      (cond d (record l { process = g.after l.process Any; fate = Some Memory })
+      (logged g replies most cut l (g.answered (g.after l.process Any) t (event l t).reply) (event l t)))
+      → n.fate ≡ None → HasServed l n
   served_if l t true d n c e f = cc
   served_if l t false true n c e f = cc
   served_if l t false false n c e f = record { thread = t; came = c; new = e }
@@ -62,20 +66,28 @@ module _ {P : Type 0} (g : Behaviour P) (replies : Start) (most : ℕ) (cut : Op
   pub back : (n : ℕ) (l m : Leader P) → stage (next_call g replies most cut) n l ≡ m → m.fate ≡ None → l.fate ≡ None
   back n l m h k = back_if n l m l.fate refl h k
 
+-- a follower that stands where this leader does, and goes on
+abbrev pub beside : {P : Type 0} → ℕ → Leader P → Follower P
+beside rewrites l = record { process = l.process; seen = length l.log; rewrites = rewrites; fate = None }
+
 module _ {P : Type 0} (g : Behaviour P) (judge : Judge) (replies : Start) (most : ℕ) (cut : Option ℕ) (spans : List (ℕ × ℕ)) (final : List Entry) where
+  abbrev step : Follower P → Follower P
+  step = track_next g judge spans final
+
   -- a step of Track within a span
-  retraces : (s : Follower P) (e : Entry) (t : ℕ) → slice_get final s.seen ≡ Some e → s.fate ≡ None → is_led spans s.seen ≡ true → g.came s.process Any ≡ Asked t → track_next g judge spans final s ≡ consumed g s (g.answered (g.after s.process Any) t e.reply)
+  retraces : (s : Follower P) (e : Entry) (t : ℕ) → slice_get final s.seen ≡ Some e → s.fate ≡ None → is_led spans s.seen ≡ true
+      → g.came s.process Any ≡ Asked t → step s ≡ consumed g s (g.answered (g.after s.process Any) t e.reply)
   unfolding track_next retraced_by
   retraces s e t a n l c = rw (a, n, l, c) refl
 
   pub hands_back : (n : ℕ) (s : Follower P) (l m : Leader P) (rest : List Entry) → stage (next_call g replies most cut) n l ≡ m → m.fate ≡ None
       → s.process ≡ l.process → s.seen ≡ length l.log → s.fate ≡ None → final ≡ m.log ++ rest
       → ((j : ℕ) → length l.log ≤ j → j < length m.log → is_led spans j ≡ true)
-      → Reaches (track_next g judge spans final) s (record { process = m.process; seen = length m.log; rewrites = s.rewrites; fate = None })
+      → Reaches step s (beside s.rewrites m)
   hands_back zero s l m rest h f p q n e u =
       let k : l ≡ m = sym (stage_zero (next_call g replies most cut) l) ∙ h in
-      let z : s ≡ record { process = m.process; seen = length m.log; rewrites = s.rewrites; fate = None } = λ j. record { process = (p ∙ ap (λ (y : Leader P). y.process) k) j; seen = (q ∙ ap (λ (y : Leader P). length y.log) k) j; rewrites = s.rewrites; fate = n j } in
-      subst (λ (y : Follower P). Reaches (track_next g judge spans final) s y) z (reach_here (track_next g judge spans final) s)
+      let here : s ≡ beside s.rewrites l = λ j. record { process = p j; seen = q j; rewrites = s.rewrites; fate = n j } in
+      subst (λ (y : Follower P). Reaches step s y) (here ∙ ap (beside s.rewrites) k) (reach_here step s)
   hands_back (suc n) s l m rest h f p q nf e u =
       let l1 : Leader P = next_call g replies most cut l in
       let h1 : stage (next_call g replies most cut) n l1 ≡ m = sym (stage_one (next_call g replies most cut) n l) ∙ h in
@@ -94,9 +106,9 @@ module _ {P : Type 0} (g : Behaviour P) (judge : Judge) (replies : Start) (most 
       let in_span : is_led spans s.seen ≡ true = ap (is_led spans) q ∙ u (length l.log) (omega arith) short in
       let came : g.came s.process Any ≡ Asked d.thread = ap (λ (y : P). g.came y Any) p ∙ d.came in
       let s1 : Follower P = consumed g s (g.answered (g.after s.process Any) d.thread ev.reply) in
-      let step : track_next g judge spans final s ≡ s1 = retraces s ev d.thread at3 nf in_span came in
+      let goes : step s ≡ s1 = retraces s ev d.thread at3 nf in_span came in
       let p1 : s1.process ≡ l1.process = ap (λ (y : P). g.answered (g.after y Any) d.thread ev.reply) p ∙ sym (ap (λ (y : Leader P). y.process) d.new) in
       let q1 : s1.seen ≡ length l1.log = omega (arith, q, one) in
       let n1 : s1.fate ≡ None = ap (λ (y : P). option_map Exited (g.ended (g.answered (g.after y Any) d.thread ev.reply))) p ∙ (sym (ap (λ (y : Leader P). y.fate) d.new) ∙ on1) in
       let r = hands_back n s1 l1 m rest h1 f p1 q1 n1 e (λ j a b. u j (omega arith) b) in
-      reach_first (track_next g judge spans final) s (record { process = m.process; seen = length m.log; rewrites = s.rewrites; fate = None }) (subst (λ (y : Follower P). Reaches (track_next g judge spans final) y (record { process = m.process; seen = length m.log; rewrites = s.rewrites; fate = None })) (sym step) r)
+      reach_first step s (beside s.rewrites m) (subst (λ (y : Follower P). Reaches step y (beside s.rewrites m)) (sym goes) r)

@@ -1,6 +1,6 @@
 -- The survivor's clause with planned changes of the leader, over the definitions.
-use Rattle.std.proofs.Common.{◌≡◌, ◌≢◌, ◌∙◌, sym, ap, subst, refl, ℕ, zero, suc, ◌+◌, ◌<◌, ◌≤◌, ◌⊎◌, inl, inr, Bool, true, false, List, [], ◌∷◌, ◌++◌, length, take, map, set, Option, Some, None, arith, length-append}
-use Rattle.std.specs.Prelude.{slice_get, ◌==◌}
+use Rattle.std.proofs.Common.{◌≡◌, ◌≢◌, ◌∙◌, sym, ap, subst, refl, inl, inr, arith, length-append}
+use Rattle.std.specs.Prelude.{ℕ, zero, suc, ◌+◌, ◌<◌, ◌≤◌, ◌⊎◌, Bool, true, false, List, [], ◌∷◌, ◌++◌, length, take, map, set, Option, Some, None, slice_get, ◌==◌}
 use Rattle.std.proofs.lemmas.Option.{same_Some}
 use Rattle.nv_calls.specs.Calls.{Entry}
 use Rattle.nv_calls.specs.Logs.{Start, IsLawful, IsLegal}
@@ -29,6 +29,7 @@ use Rattle.nv_replay.proofs.Fates.{off_some}
 use Rattle.nv_replay.proofs.Covering.{turn_keeps, stage_keeps, after}
 use Rattle.nv_replay.proofs.Survivor.{uncut_reach, exited_no_memory, exited_is_well, exited_well, exited_all, fresh_in_step}
 use Rattle.nv_replay.proofs.Lone.{IsPlain, plain_prefix, follower, Keeps, leads_so, beginning, Trace, Whole, wholly}
+use Rattle.nv_replay.proofs.Retracing.{beside}
 
 none_no_memory : (f : Option Fate) → f ≡ None → is_memory f ≡ false
 none_no_memory None h = refl
@@ -91,7 +92,7 @@ module _ {P : Type 0} (g : Behaviour P) (laws : IsProcess g) (start : Start) (mo
         let st0 : IsInStep g log (follower g laws start most l0 f.rewrites) = subst (λ (x : Follower P). IsInStep g log x)
         (λ j. record { process = f.process; seen = seen j; rewrites = f.rewrites; fate = n j }) w.in_step in
         let k = leads_so g laws start most cut r.steps l0 l f.rewrites r.is o pl.lawful pl.childless (record { in_step = st0; alone = λ z. w.alone (true_to z) }) in record {
-          at = record { process = l.process; seen = length l.log; rewrites = f.rewrites; fate = None };
+          at = beside f.rewrites l;
           reach = hands_over g judge start most cut led log p f r.steps l to_f seen n r.is o;
           past = span_end led t.at.seen (length log) (length l.log) t.past
               (omega (arith, t.in_step.within, ap length more.1, length-append log more.0));

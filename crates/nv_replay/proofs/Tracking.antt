@@ -24,24 +24,33 @@ off_some None h e = cc
 off_some (Some x) h e = cc
 
 module _ {P : Type 0} (g : Behaviour P) (judge : Judge) (spans : List (ℕ × ℕ)) (log more : List Entry) where
-  same_on : (s : Follower P) (o : Option Entry) (f : Option Fate) → slice_get log s.seen ≡ o → (track_on g judge spans s o f ≡ s) ⊎ (track_on g judge spans s o f ≡ track_on g judge spans s (slice_get (log ++ more) s.seen) f)
+  abbrev short : Follower P → Follower P
+  short = track_next g judge spans log
+
+  abbrev long : Follower P → Follower P
+  long = track_next g judge spans (log ++ more)
+
+  same_on : (s : Follower P) (o : Option Entry) (f : Option Fate) → slice_get log s.seen ≡ o
+      → (track_on g judge spans s o f ≡ s) ⊎ (track_on g judge spans s o f ≡ track_on g judge spans s (slice_get (log ++ more) s.seen) f)
   same_on s o (Some f) h = inl refl
   same_on s None None h = inl refl
   same_on s (Some e) None h = let k : slice_get (log ++ more) s.seen ≡ Some e = get_prefix log more s.seen e h in inr (rw k refl)
 
-  next_same : (s : Follower P) → (track_next g judge spans log s ≡ s) ⊎ (track_next g judge spans log s ≡ track_next g judge spans (log ++ more) s)
+  next_same : (s : Follower P) → (short s ≡ s) ⊎ (short s ≡ long s)
   unfolding track_next
   next_same s = same_on s (slice_get log s.seen) s.fate refl
 
-  pub track_extended : (n : ℕ) (s t : Follower P) → stage (track_next g judge spans log) n s ≡ t → Reaches (track_next g judge spans (log ++ more)) s t
-  track_extended zero s t h = subst (λ (x : Follower P). Reaches (track_next g judge spans (log ++ more)) s x) (sym (stage_zero (track_next g judge spans log) s) ∙ h) (reach_here (track_next g judge spans (log ++ more)) s)
+  pub track_extended : (n : ℕ) (s t : Follower P) → stage short n s ≡ t → Reaches long s t
+  track_extended zero s t h = subst (λ (x : Follower P). Reaches long s x) (sym (stage_zero short s) ∙ h) (reach_here long s)
   track_extended (suc n) s t h = elim (next_same s) [
-    | inl e ↦ subst (λ (x : Follower P). Reaches (track_next g judge spans (log ++ more)) s x) (sym (stage_rests (track_next g judge spans log) (suc n) s e) ∙ h) (reach_here (track_next g judge spans (log ++ more)) s)
-    | inr e ↦ reach_first (track_next g judge spans (log ++ more)) s t (subst (λ (x : Follower P). Reaches (track_next g judge spans (log ++ more)) x t) e (track_extended n (track_next g judge spans log s) t (sym (stage_one (track_next g judge spans log) n s) ∙ h)))
+    | inl e ↦ subst (λ (x : Follower P). Reaches long s x) (sym (stage_rests short (suc n) s e) ∙ h) (reach_here long s)
+    | inr e ↦ reach_first long s t (subst (λ (x : Follower P). Reaches long x t) e (track_extended n (short s) t (sym (stage_one short n s) ∙ h)))
   ]
 
 module _ {P : Type 0} (g : Behaviour P) (laws : IsProcess g) (judge : Judge) (spans : List (ℕ × ℕ)) where
-  retraced_falls : (n : ℕ) (e : Entry) (s : Follower P) (p : P) (came : Came) → s.seen < n → s.fate ≡ None → ((t : ℕ) → came ≡ Asked t → g.pending p t ≡ true) → g.calls_left p ≤ g.calls_left s.process → size g n (retraced_by g judge spans e s p came) < size g n s
+  retraced_falls : (n : ℕ) (e : Entry) (s : Follower P) (p : P) (came : Came) → s.seen < n → s.fate ≡ None
+      → ((t : ℕ) → came ≡ Asked t → g.pending p t ≡ true) → g.calls_left p ≤ g.calls_left s.process
+      → size g n (retraced_by g judge spans e s p came) < size g n s
   unfolding size retraced_by
   retraced_falls n e s p (Fault k t pc) l f h c = rw f (omega arith)
   retraced_falls n e s p (Asked t) l f h c = consumed_falls g laws judge n s p t e.reply l f (h t refl) c
@@ -50,7 +59,8 @@ module _ {P : Type 0} (g : Behaviour P) (laws : IsProcess g) (judge : Judge) (sp
   tracked_falls n e s true l f = retraced_falls n e s (g.after s.process Any) (g.came s.process Any) l f (λ t h. laws.asked s.process Any t h) (laws.keeps s.process Any)
   tracked_falls n e s false l f = decided_falls g laws judge n e s l f
 
-  on_falls : (log : List Entry) (s : Follower P) (o : Option Entry) (f : Option Fate) → o ≡ slice_get log s.seen → f ≡ s.fate → (track_on g judge spans s o f ≡ s) ⊎ (size g (length log) (track_on g judge spans s o f) < size g (length log) s)
+  on_falls : (log : List Entry) (s : Follower P) (o : Option Entry) (f : Option Fate) → o ≡ slice_get log s.seen → f ≡ s.fate
+      → (track_on g judge spans s o f ≡ s) ⊎ (size g (length log) (track_on g judge spans s o f) < size g (length log) s)
   on_falls log s o (Some f) h k = inl refl
   on_falls log s None None h k = inl refl
   on_falls log s (Some e) None h k = inr (tracked_falls (length log) e s (is_led spans s.seen) (within log s.seen e (sym h)) (sym k))
@@ -72,7 +82,9 @@ module _ {P : Type 0} (g : Behaviour P) (laws : IsProcess g) (judge : Judge) (sp
   unfolding track
   track_ended p at read m r e =
       let x = track_extended g judge spans read m r.steps (fresh p) at r.is in
-      sym (reached (track_next g judge spans (read ++ m)) (size g (length (read ++ m))) (track_falls (read ++ m)) (length (read ++ m) + g.calls_left p + 1) (fresh p) (bound g laws judge (read ++ m) (fresh p) None refl) x.steps at x.is (track_rests (read ++ m) at (off_some at.fate e)))
+      let log : List Entry = read ++ m in
+      sym (reached (track_next g judge spans log) (size g (length log)) (track_falls log) (length log + g.calls_left p + 1) (fresh p)
+      (bound g laws judge log (fresh p) None refl) x.steps at x.is (track_rests log at (off_some at.fate e)))
 
   pub track_reached : (log : List Entry) (s : Follower P) → Reaches (track_next g judge spans log) s (track g judge spans log s)
   unfolding track

@@ -13,7 +13,7 @@ use Rattle.nv_replay.specs.Follow.{IsInStep}
 use Rattle.nv_replay.specs.Lead.{is_memory, next_call}
 use Rattle.nv_replay.specs.Version.{Running, IsLiveLeader, asking_next, became_event, leader_of}
 use Rattle.nv_replay.specs.Spans.{grown}
-use Rattle.nv_replay.proofs.Leading.{AskedFor, asking_cases, ending_cases, lead_dropped, lead_refused, lead_served}
+use Rattle.nv_replay.proofs.Leading.{AskedFor, asks, asking_cases, ending_cases, lead_dropped, lead_refused, lead_served}
 use Rattle.nv_replay.proofs.Stepping.{same_live, none_back, exited_some}
 use Rattle.nv_replay.proofs.Spanning.{grown_last}
 use Rattle.nv_replay.proofs.Wholes.{get_map, length_map}
@@ -46,7 +46,7 @@ module _ {P : Type 0} (g : Behaviour P) (laws : IsProcess g) (replies : Start) (
     pub few : length log < most
 
   waits_at : (t : ℕ) → r.at.fate ≡ None → r.at.seen ≡ length log → IsInStep g log r.at → g.came r.at.process Any ≡ Asked t
-      → nat_le most r.at.seen ≡ false → Waits (record r { at = record r.at { process = g.after r.at.process Any }; asked = Some t }) t
+      → nat_le most r.at.seen ≡ false → Waits (asks g most r t) t
   waits_at t f s i c m =
       let l : g.live (g.after r.at.process Any) ≡ g.live r.at.process = laws.live_after r.at.process Any in
       let all : take r.at.seen log ≡ log = rw s (take_all log) in record {

@@ -5,6 +5,7 @@ pub mod Follow
 pub mod Lead
 pub mod Spans
 pub mod Version
+pub mod Views
 pub mod Sequence
 pub mod Turns
 pub mod Account

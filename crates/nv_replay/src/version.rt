@@ -47,10 +47,11 @@ impl Model for Version {
     ghost use Rattle.std.specs.Prelude.{◌+◌};
     ghost use Rattle.nv_replay.specs.inner.Bounds.{AreBounded};
     ghost use Rattle.nv_replay.specs.Version.{Running};
+    ghost use Rattle.nv_replay.specs.Views.{running_of};
 
     ghost Value = { Running Proc };
 
-    ghost view = { λ v. record { index = v.index; at = record { process = v.process.process; seen = v.standing.seen; rewrites = v.standing.rewrites; fate = v.standing.fate }; led = v.standing.led; leading = v.leading; asked = v.asked; eager = v.process.eager } };
+    ghost view = { running_of };
 
     ghost invariant = { λ v. AreBounded v.standing.seen (v.standing.rewrites + threads.calls_left v.process.process) v.standing.led v.scratch.capacity };
 }

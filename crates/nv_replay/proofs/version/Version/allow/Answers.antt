@@ -7,26 +7,14 @@ use Rattle.nv_threads.proofs.Aheads.{known_as}
 use Rattle.nv_replay.specs.Permits.{given}
 use Rattle.nv_replay.specs.Follow.{refusal_of}
 use Rattle.nv_replay.specs.Version.{Running}
+use Rattle.nv_replay.specs.Views.{running_of}
 use Rattle.nv_replay.proofs.Following.{not_given, was_given}
 use Rattle.nv_replay.proofs.Obeying.{obeyed, is_refused, is_answered}
 use Rattle.nv_replay.proofs.version.Version.allow.Goals as goal
 
 pub returns-then-not-give_constant-clause-new : goal.returns-then-not-give_constant-clause-new
 returns-then-not-give_constant-clause-new c =
-    let old : Running Proc = record {
-      index = c.self.inside.index;
-      at = record {
-        process = c.self.inside.process.process;
-        seen = c.self.inside.standing.seen;
-        rewrites = c.self.inside.standing.rewrites;
-        fate =
-            c.self.inside.standing.fate;
-      };
-      led = c.self.inside.standing.led;
-      leading = c.self.inside.leading;
-      asked = c.self.inside.asked;
-      eager = c.self.inside.process.eager;
-    } in
+    let old : Running Proc = running_of c.self.inside in
     let none = not_given threads c.args.tid c.self.inside.process.process c.give_constant.new.process.process
     (constant_of (threads.call c.self.inside.process.process c.args.tid)) c.if-not-give_constant.ensures.given in
     let refused : Known → Running Proc = λ k. record old
@@ -37,20 +25,7 @@ returns-then-not-give_constant-clause-new c =
 
 pub returns-clause-new : goal.returns-clause-new
 returns-clause-new c =
-    let old : Running Proc = record {
-      index = c.self.inside.index;
-      at = record {
-        process = c.self.inside.process.process;
-        seen = c.self.inside.standing.seen;
-        rewrites = c.self.inside.standing.rewrites;
-        fate =
-            c.self.inside.standing.fate;
-      };
-      led = c.self.inside.standing.led;
-      leading = c.self.inside.leading;
-      asked = c.self.inside.asked;
-      eager = c.self.inside.process.eager;
-    } in
+    let old : Running Proc = running_of c.self.inside in
     let some = was_given threads c.args.tid c.self.inside.process.process c.give_constant.new.process.process
     (constant_of (threads.call c.self.inside.process.process c.args.tid)) c.if-not-give_constant.ensures.given in
     let answered : Known → Running Proc = λ k. record old { at = record old.at { process = k.process; rewrites = old.at.rewrites + 1 }; eager = k.eager } in

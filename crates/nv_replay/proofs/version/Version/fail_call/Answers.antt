@@ -7,6 +7,7 @@ use Rattle.nv_threads.specs.Ahead.{Known}
 use Rattle.nv_calls.specs.Numbers.{is_of_threads}
 use Rattle.nv_replay.specs.Permits.{failed}
 use Rattle.nv_replay.specs.Version.{Running}
+use Rattle.nv_replay.specs.Views.{running_of}
 use Rattle.nv_replay.proofs.Obeying.{obeyed, is_refused, is_answered, failed_far, failed_threads, failed_gives}
 use Rattle.nv_replay.proofs.version.Version.fail_call.Goals as goal
 use Rattle.nv_replay.proofs.version.Version.fail_call.Goals.{then-error-gt-MOST_ERROR-via-then-error-gt-MOST_ERROR, then-error-gt-MOST_ERROR-via-else-error-gt-MOST_ERROR+then-is_of_threads}
@@ -30,20 +31,7 @@ negated k x h l = rw h (omega (arith, ints))
 
 pub returns-clause-new : goal.returns-clause-new
 returns-clause-new c =
-    let old : Running Proc = record {
-      index = c.self-2.inside.index;
-      at = record {
-        process = c.self-2.inside.process.process;
-        seen = c.self-2.inside.standing.seen;
-        rewrites = c.self-2.inside.standing.rewrites;
-        fate =
-            c.self-2.inside.standing.fate;
-      };
-      led = c.self-2.inside.standing.led;
-      leading = c.self-2.inside.leading;
-      asked = c.self-2.inside.asked;
-      eager = c.self-2.inside.process.eager;
-    } in
+    let old : Running Proc = running_of c.self-2.inside in
     let answered : Known → Running Proc = λ k. record old { at = record old.at { process = k.process; rewrites = old.at.rewrites + 1 }; eager = k.eager } in
     let reply : ℤ → Known = λ ret. record c.self-2.inside.process { process = threads.answered c.self-2.inside.process.process c.args.tid (record { ret = ret; payload = [] }) } in
     let few : c.args.error < 4096 = omega arith in

@@ -9,6 +9,7 @@ use Rattle.nv_rules.specs.declared.outcome.Verdict.{Verdict}
 use Rattle.nv_rules.specs.Verdicts.{verdict_of}
 use Rattle.nv_replay.specs.Follow.{Follower, IsCounted, decided, judge_of}
 use Rattle.nv_replay.specs.Version.{Running}
+use Rattle.nv_replay.specs.Views.{running_of}
 use Rattle.nv_replay.proofs.Following.{decided_fault, decided_asked}
 use Rattle.nv_replay.proofs.Obeying.{told_again}
 use Rattle.nv_replay.proofs.version.Version.follow.Goals as goal
@@ -19,43 +20,24 @@ advance-requires c = subst (λ (r : Running Proc). threads.ended r.at.process �
 
 pub returns-in-Fault-clause-new : goal.returns-in-Fault-clause-new
 returns-in-Fault-clause-new c =
+    let old : Running Proc = running_of c.self.inside in
     let on : Running Proc → Running Proc = λ r. record r { at = decided threads (judge_of (option_map (λ f. f.now) c.args.rules) r.index) (entry c.args.event.now) r.at } in
     let i = c.in-Fault.ensures in
-    c.end.ensures.new ∙ (rw i.after (ap (λ (x : Follower Proc). record
-    { index = c.self.inside.index; at = x; led = c.self.inside.standing.led; leading = c.self.inside.leading; asked = c.self.inside.asked; eager = c.self.inside.process.eager })
-    (sym (decided_fault threads _ (entry c.args.event.now)
-    (record {
-      process = c.self.inside.process.process;
-      seen = c.self.inside.standing.seen;
-      rewrites = c.self.inside.standing.rewrites;
-      fate =
-          c.self.inside.standing.fate;
-    }) _ _ _ (sym i.came)))) ∙ ap on c.self.view_is)
+    c.end.ensures.new ∙ (rw i.after (ap (λ (x : Follower Proc). record old { at = x })
+    (sym (decided_fault threads _ (entry c.args.event.now) old.at _ _ _ (sym i.came)))) ∙ ap on c.self.view_is)
 
 pub returns-in-Asked-clause-new : goal.returns-in-Asked-clause-new
 returns-in-Asked-clause-new c =
+    let old : Running Proc = running_of c.self.inside in
     let on : Running Proc → Running Proc = λ r. record r { at = decided threads (judge_of (option_map (λ f. f.now) c.args.rules) r.index) (entry c.args.event.now) r.at } in
     let i = c.in-Asked.ensures in
-    c.meet.ensures.new ∙ (rw i.after (ap (λ (x : Follower Proc). record
-    { index = c.self.inside.index; at = x; led = c.self.inside.standing.led; leading = c.self.inside.leading; asked = c.self.inside.asked; eager = c.self.inside.process.eager })
-    (sym (decided_asked threads _ (entry c.args.event.now)
-    (record {
-      process = c.self.inside.process.process;
-      seen = c.self.inside.standing.seen;
-      rewrites = c.self.inside.standing.rewrites;
-      fate =
-          c.self.inside.standing.fate;
-    }) _ (sym i.came)))) ∙ ap on c.self.view_is)
+    c.meet.ensures.new ∙ (rw i.after (ap (λ (x : Follower Proc). record old { at = x })
+    (sym (decided_asked threads _ (entry c.args.event.now) old.at _ (sym i.came)))) ∙ ap on c.self.view_is)
 
 pub returns-in-Asked-clause-told : goal.returns-in-Asked-clause-told
 returns-in-Asked-clause-told c =
     let i = c.in-Asked.ensures in
-    let at : Follower Proc = record {
-      process = c.advance.new.self.process;
-      seen = c.self.inside.standing.seen;
-      rewrites = c.self.inside.standing.rewrites;
-      fate = c.self.inside.standing.fate;
-    } in
+    let at : Follower Proc = record (running_of c.self.inside).at { process = c.advance.new.self.process } in
     let by : ℕ → Proc → ℕ → Verdict = λ n p t. verdict_of
     (judge_of (option_map (λ f. f.now) c.args.rules) n (threads.call p t) (entry c.args.event.now)) in
     let wanted : ℕ = c.args.event.now.call.tid in

@@ -3,6 +3,7 @@ use Rattle.nv_calls.specs.Calls.{entry}
 use Rattle.nv_threads.specs.Threads.{threads, Proc}
 use Rattle.nv_replay.specs.Permits.{passed}
 use Rattle.nv_replay.specs.Version.{Running}
+use Rattle.nv_replay.specs.Views.{running_of}
 use Rattle.nv_replay.proofs.Obeying.{obeyed, is_refused, is_passed, passed_not, passed_drops}
 use Rattle.nv_replay.proofs.version.Version.pass.Goals as goal
 
@@ -13,20 +14,7 @@ returns-then-is_of_threads-clause-new c =
 
 pub returns-clause-new : goal.returns-clause-new
 returns-clause-new c =
-    let old : Running Proc = record {
-      index = c.self.inside.index;
-      at = record {
-        process = c.self.inside.process.process;
-        seen = c.self.inside.standing.seen;
-        rewrites = c.self.inside.standing.rewrites;
-        fate =
-            c.self.inside.standing.fate;
-      };
-      led = c.self.inside.standing.led;
-      leading = c.self.inside.leading;
-      asked = c.self.inside.asked;
-      eager = c.self.inside.process.eager;
-    } in
+    let old : Running Proc = running_of c.self.inside in
     is_passed threads c.args.tid c.args.value (entry c.args.event.now) (λ call. passed (entry c.args.event.now)) old
     (record old { at = record old.at { seen = old.at.seen + 1; rewrites = old.at.rewrites + 1 } })
     (passed_drops (entry c.args.event.now) (sym c.if-is_of_threads.ensures)) refl ∙ ap
