@@ -216,7 +216,7 @@ sound_in_part start a n len insns items new from regions parts ok may f l w =
 -- it holds after the move of a region's end
 pub sound_as_resized : (start began k end len many : ℕ) (before after : Kept) (items new : List ℕ) (regions moved : List Region) (parts looked : List Part) → AreSound start before items regions parts → AreRegions (length items) (set_end regions k end)
     → length items ≡ len → new ≡ cut items (end_of regions k) end → length regions ≡ many → length moved ≡ many → moved ≡ set_end regions k end → began ≡ start → length after ≡ length before → Remain start (min (end_of regions k) end) (max (end_of regions k) end) before after
-    → length looked ≡ length parts → Looked (set_end regions k end) start (start + 4 * length before) (min (end_of regions k) end / 1024) (max (end_of regions k) end / 1024 + 1) parts looked
+    → length looked ≡ length parts → Looked (set_end regions k end) start (start + 4 * length before) (min (end_of regions k) end / 256) (max (end_of regions k) end / 256 + 1) parts looked
     → AreSound began after (take len (new ++ drop (length new) items)) (take many (moved ++ drop (length moved) regions)) looked
 sound_as_resized start began k end len many before after items new regions moved parts looked ok are l w m mm is s same left p q =
     let long : length new ≡ len = ap length w ∙ length_cut items (end_of regions k) end ∙ l in

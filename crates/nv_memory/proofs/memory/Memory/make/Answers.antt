@@ -12,5 +12,5 @@ invariant_of-result c =
     let all : length c.in_ok-bytes.bytes.items ≡ c.args.size = ap (λ (xs : List ℕ). length xs) (c.in_ok-bytes.ensures.items_if_clones_equal (λ x e. e)) ∙ length-replicate {A = ℕ} c.args.size 0 in (
       rw all c.requires,
       none_kept decoded.start decoded.insns.items c.in_ok-bytes.bytes.items c.args.regions.items c.in_ok-decoded.ensures.aligned c.in_ok-decoded.ensures.fits c.in_ok-decoded.ensures.none,
-      parts_made c.args.regions.items decoded.start (decoded.start + 4 * length decoded.insns.items) 0 (c.args.size / 1024 + 1) parts c.look.new.self.parts.items c.in_ok-rights.ensures.few c.in_ok-rights.ensures.none c.look.ensures.length looked,
+      parts_made c.args.regions.items decoded.start (decoded.start + 4 * length decoded.insns.items) 0 (c.args.size / 256 + 1) parts c.look.new.self.parts.items c.in_ok-rights.ensures.few c.in_ok-rights.ensures.none c.look.ensures.length looked,
     )
