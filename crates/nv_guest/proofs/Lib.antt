@@ -12,3 +12,4 @@ pub mod Answering
 pub mod Places
 pub mod Running
 pub mod Releasing
+pub mod Known

@@ -1,6 +1,9 @@
 // One thread among the others.
-ghost use Rattle.std.specs.Prelude.{◌≡◌, ◌≢◌, ◌-◌, ◌<◌, ◌≤◌, length, Contains};
+ghost use Rattle.std.specs.Prelude.{◌≡◌, ◌≢◌, ◌↔◌, ◌-◌, ◌%◌, ◌<◌, ◌≤◌, length, Contains, IsTrue};
+ghost use Rattle.nv_memory.specs.Code.{code_address};
+ghost use Rattle.nv_machine.specs.Effects.{sum};
 ghost use Rattle.nv_machine.specs.Guest.{register, guest_step};
+ghost use Rattle.nv_machine.specs.Went.{ended};
 ghost use Rattle.nv_guest.specs.Guest.{machine_with};
 ghost use Rattle.nv_guest.specs.Calls.{with_answer, past_call};
 ghost use Rattle.nv_guest.specs.Threads.{tids, thread_place, run, more, child_regs, with_stack, with_pointer, unreserved_each};
@@ -8,7 +11,7 @@ ghost use Rattle.nv_guest.specs.Threads.{tids, thread_place, run, more, child_re
 use crate::calls::{NUMBER, copy_out};
 use crate::guest::Thread;
 use nv_calls::Syscall;
-use nv_machine::{Regs, Stepped, step};
+use nv_machine::{Regs, Stepped, Went, execute, step};
 use nv_memory::Memory;
 
 /// The register of the stack pointer.
@@ -48,20 +51,89 @@ pub(crate) fn run_on(regs: &mut Regs, memory: &mut Memory, most: u32) -> (u32, S
 }
 
 // The instructions before the first that ends in a call or a fault, and how many these are. Since that one changes nothing, its end can be
-// asked for once more. A function of its own for the compiler: one call a turn, with the machine's registers for its loop alone.
+// asked for once more.
 #[inline(never)]
 fn run_through(regs: &mut Regs, memory: &mut Memory, most: u32) -> u32
     ensures few { result ≤ most }
     ensures ran { run most (machine_with regs.old memory.old) ≡ more result (run (most - result) (machine_with regs.new memory.new)) }
     ensures stops { result < most → (guest_step (machine_with regs.new memory.new)).0 ≢ Stepped.On }
 {
-    for count in 0..most {
+    let mut count = 0;
+    while count < most {
+        count += run_known(regs, memory, most - count);
+        if count == most {
+            return most;
+        }
         match step(regs, memory) {
-            Stepped::On => {}
+            Stepped::On => count += 1,
             _ => return count,
         }
     }
     most
+}
+
+// The instructions that are known, up to the first that isn't or that ends in a call or a fault, and how many these are. The place of the
+// next one stands apart from the registers, whose own address is written at the end. A function of its own for the compiler: the machine's
+// registers are for its loop alone.
+#[inline(never)]
+fn run_known(regs: &mut Regs, memory: &mut Memory, most: u32) -> u32
+    ensures few { result ≤ most }
+    ensures ran { run most (machine_with regs.old memory.old) ≡ more result (run (most - result) (machine_with regs.new memory.new)) }
+{
+    let start = memory.code_start();
+    let mut at = place_of(start, regs.pc);
+    for count in 0..most {
+        let mut pc = address_of(start, at);
+        let Some(insn) = memory.known_at(at) else {
+            regs.pc = pc;
+            return count;
+        };
+        let went = execute(regs, memory, &mut pc, insn.op, insn);
+        if !goes_on(went) {
+            regs.pc = pc;
+            return count;
+        }
+        at = next_place(went, start, at, pc);
+    }
+    regs.pc = address_of(start, at);
+    most
+}
+
+// The place of the address, where the code begins at another.
+fn place_of(start: u32, address: u32) -> usize
+    requires start { start % 4 ≡ 0 }
+    requires address { address % 4 ≡ 0 }
+    ensures { code_address start result ≡ address }
+{
+    (address.wrapping_sub(start) / 4) as usize
+}
+
+fn address_of(start: u32, place: usize) -> u32
+    ensures { result ≡ code_address start place }
+{
+    start.wrapping_add((place.wrapping_mul(4) % 0x1_0000_0000) as u32)
+}
+
+fn goes_on(went: Went) -> bool
+    ensures { IsTrue result ↔ (ended went ≡ Stepped.On) }
+{
+    match went {
+        Went::Past | Went::To => true,
+        Went::Call | Went::Fault(_) => false,
+    }
+}
+
+// The place of the instruction after one that went on.
+fn next_place(went: Went, start: u32, at: usize, pc: u32) -> usize
+    requires start { start % 4 ≡ 0 }
+    requires aligned { pc % 4 ≡ 0 }
+    requires past { went ≡ Went.Past → pc ≡ sum (code_address start at) 4 }
+    ensures { code_address start result ≡ pc }
+{
+    match went {
+        Went::Past => at.wrapping_add(1),
+        _ => place_of(start, pc),
+    }
 }
 
 /// Stores the bytes of the answer, puts the result into a0 and goes past the call.

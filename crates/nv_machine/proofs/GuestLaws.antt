@@ -79,7 +79,8 @@ store_conditional_rests i m = tried_or_not (is_word_at m.memory (register m.regs
 combines_rests : (o : Op) (i : Insn) (m : Machine) → Rests (combines o i m) m
 combines_rests o i m = stored_or_not (is_word_at m.memory (register m.regs i.rs1) Write && holds m.memory.regions (register m.regs i.rs1) 4 Read) _ m
 
-effect_rests : (o : Op) (i : Insn) (m : Machine) → Rests (effect o i m) m
+-- an instruction that ends in no `On` has changed nothing
+pub effect_rests : (o : Op) (i : Insn) (m : Machine) → Rests (effect o i m) m
 effect_rests Jal i m = with_memory_rests m _ (jumps_rest i.rd (sum m.regs.pc (immediate_word i)) m.regs)
 effect_rests Jalr i m = with_memory_rests m _ (jumps_rest i.rd (sum (register m.regs i.rs1) (immediate_word i) / 2 * 2) m.regs)
 effect_rests Beq i m = compares_rest Beq i m

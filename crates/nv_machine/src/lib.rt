@@ -1,7 +1,7 @@
 //! One instruction of RV32IMA on registers and memory (RISC-V Unprivileged ISA, chapters 2, 7 and 8).
-//! Types: `Regs`, `FaultKind`, `Stepped`.
+//! Types: `Regs`, `FaultKind`, `Stepped`, `Went`.
 //! Proved: `step` is the definition of one instruction, with its faults in their order; after a call or a fault nothing
-//! has changed.
+//! has changed. `execute` is that of an instruction at hand, with its address apart from the registers.
 //! Above: the guest.
 #![tactic(auto)]
 
@@ -10,6 +10,6 @@ mod outcome;
 mod regs;
 mod stepping;
 
-pub use outcome::{FaultKind, Stepped};
+pub use outcome::{FaultKind, Stepped, Went};
 pub use regs::Regs;
-pub use stepping::step;
+pub use stepping::{execute, step};

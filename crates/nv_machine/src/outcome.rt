@@ -32,3 +32,15 @@ pub enum Stepped {
     Call,
     Fault(FaultKind),
 }
+
+/// Where an instruction goes on, or how it ended, where its address stands apart from the registers.
+#[derive(Clone, Copy, Debug, PartialEq, Eq)]
+pub enum Went {
+    /// To the instruction behind it.
+    Past,
+    /// To the address that was given back, which may be any.
+    To,
+    /// The instruction is an ECALL.
+    Call,
+    Fault(FaultKind),
+}

@@ -2,10 +2,11 @@
 ghost use Rattle.std.specs.Prelude.{◌≡◌, pos, ◌≢◌, ℕ, ◌+◌, ◌*◌, ◌/◌, ◌%◌, ◌^◌, ◌<◌};
 ghost use Rattle.nv_isa.specs.Spelling.{HasSmallRegisters};
 ghost use Rattle.nv_machine.specs.Effects.{sum, sign_extended};
-ghost use Rattle.nv_machine.specs.Guest.{gets, next_address, jumps, branches, loads, stores, with_immediate, between_registers, compares, load_reserved, store_conditional, combines, effect, guest_step, width_of, extended, Machine};
+ghost use Rattle.nv_machine.specs.Guest.{gets, next_address, jumps, loads, stores, with_immediate, between_registers, compares, load_reserved, store_conditional, combines, effect, guest_step, width_of, extended, Machine};
+ghost use Rattle.nv_machine.specs.Went.{ended, at_pc};
 
 use crate::alu::{combine, compute, takes};
-use crate::outcome::{FaultKind, Stepped};
+use crate::outcome::{FaultKind, Stepped, Went};
 use crate::regs::Regs;
 use nv_isa::{Insn, Op};
 use nv_memory::{Memory, Right, Width};
@@ -18,7 +19,7 @@ pub fn step(regs: &mut Regs, memory: &mut Memory) -> Stepped
     ensures memory_rests { result ≢ Stepped.On → memory.new ≡ memory.old }
 {
     match memory.known(regs.pc) {
-        Some(insn) => execute(regs, memory, insn.op, insn),
+        Some(insn) => carry_out(regs, memory, insn),
         None => step_anew(regs, memory),
     }
 }
@@ -29,9 +30,31 @@ fn step_anew(regs: &mut Regs, memory: &mut Memory) -> Stepped
     ensures { (result, record { regs = regs.new; memory = memory.new }) ≡ guest_step (record { regs = regs.old; memory = memory.old }) }
 {
     match memory.insn(regs.pc) {
-        Ok(Some(insn)) => execute(regs, memory, insn.op, insn),
+        Ok(Some(insn)) => carry_out(regs, memory, insn),
         Ok(None) => Stepped::Fault(FaultKind::Illegal),
         Err(_) => Stepped::Fault(FaultKind::Fetch),
+    }
+}
+
+// Carries out the instruction at the registers' own address.
+#[inline(always)]
+fn carry_out(regs: &mut Regs, memory: &mut Memory, insn: Insn) -> Stepped
+    requires { HasSmallRegisters insn }
+    ensures { (result, record { regs = regs.new; memory = memory.new }) ≡ effect insn.op insn (record { regs = regs.old; memory = memory.old }) }
+{
+    let mut pc = regs.pc;
+    let went = execute(regs, memory, &mut pc, insn.op, insn);
+    regs.pc = pc;
+    stepped(went)
+}
+
+fn stepped(went: Went) -> Stepped
+    ensures { result ≡ ended went }
+{
+    match went {
+        Went::Past | Went::To => Stepped::On,
+        Went::Call => Stepped::Call,
+        Went::Fault(kind) => Stepped::Fault(kind),
     }
 }
 
@@ -64,89 +87,117 @@ fn advance(regs: &mut Regs, rd: u8, value: u32) -> Stepped
     Stepped::On
 }
 
-fn jump(regs: &mut Regs, rd: u8, to: u32) -> Stepped
-    requires { rd < 32 }
-    ensures { (result, regs.new) ≡ jumps rd to regs.old }
+fn past(pc: &mut u32) -> Went
+    requires { pc.old % 4 ≡ 0 }
+    ensures past { result ≡ Went.Past }
+    ensures next { pc.new ≡ sum pc.old 4 }
+    ensures aligned { pc.new % 4 ≡ 0 }
+{
+    *pc = pc.wrapping_add(4);
+    Went::Past
+}
+
+fn proceed(regs: &mut Regs, pc: &mut u32, rd: u8, value: u32) -> Went
+    requires small { rd < 32 }
+    requires aligned { pc.old % 4 ≡ 0 }
+    ensures effect { (ended result, at_pc regs.new pc.new) ≡ gets rd value (sum pc.old 4) (at_pc regs.old pc.old) }
+    ensures past { result ≡ Went.Past → pc.new ≡ sum pc.old 4 }
+    ensures aligned { pc.new % 4 ≡ 0 }
+{
+    regs.set(rd, value);
+    past(pc)
+}
+
+fn jump(regs: &mut Regs, pc: &mut u32, rd: u8, to: u32) -> Went
+    requires small { rd < 32 }
+    requires aligned { pc.old % 4 ≡ 0 }
+    ensures effect { (ended result, at_pc regs.new pc.new) ≡ jumps rd to (at_pc regs.old pc.old) }
+    ensures past { result ≡ Went.Past → pc.new ≡ sum pc.old 4 }
+    ensures aligned { pc.new % 4 ≡ 0 }
 {
     if to % 4 != 0 {
-        return Stepped::Fault(FaultKind::Misaligned);
+        return Went::Fault(FaultKind::Misaligned);
     }
-    let link = regs.pc.wrapping_add(4);
+    let link = pc.wrapping_add(4);
     regs.set(rd, link);
-    regs.pc = to;
-    Stepped::On
+    *pc = to;
+    Went::To
 }
 
-fn branch(regs: &mut Regs, taken: bool, to: u32) -> Stepped
-    ensures { (result, regs.new) ≡ branches taken to regs.old }
+#[inline(always)]
+fn compare(regs: &Regs, pc: &mut u32, op: Op, insn: Insn) -> Went
+    requires small { HasSmallRegisters insn }
+    requires aligned { pc.old % 4 ≡ 0 }
+    ensures effect { (ended result, at_pc regs.now pc.new) ≡ compares op insn (at_pc regs.now pc.old) }
+    ensures past { result ≡ Went.Past → pc.new ≡ sum pc.old 4 }
+    ensures aligned { pc.new % 4 ≡ 0 }
 {
-    if taken {
-        if to % 4 != 0 {
-            return Stepped::Fault(FaultKind::Misaligned);
-        }
-        regs.pc = to;
-        return Stepped::On;
+    if !takes(op, regs.get(insn.rs1), regs.get(insn.rs2)) {
+        return past(pc);
     }
-    regs.pc = regs.pc.wrapping_add(4);
-    Stepped::On
+    let to = pc.wrapping_add_signed(insn.imm);
+    if to % 4 != 0 {
+        return Went::Fault(FaultKind::Misaligned);
+    }
+    *pc = to;
+    Went::To
 }
 
 #[inline(always)]
-fn compare(regs: &mut Regs, op: Op, insn: Insn) -> Stepped
-    requires { HasSmallRegisters insn }
-    ensures { (result, regs.new) ≡ compares op insn regs.old }
-{
-    let taken = takes(op, regs.get(insn.rs1), regs.get(insn.rs2));
-    let to = regs.pc.wrapping_add_signed(insn.imm);
-    branch(regs, taken, to)
-}
-
-#[inline(always)]
-fn with_immediate(regs: &mut Regs, op: Op, insn: Insn) -> Stepped
-    requires { HasSmallRegisters insn }
-    ensures { (result, regs.new) ≡ with_immediate op insn regs.old }
+fn with_immediate(regs: &mut Regs, pc: &mut u32, op: Op, insn: Insn) -> Went
+    requires small { HasSmallRegisters insn }
+    requires aligned { pc.old % 4 ≡ 0 }
+    ensures effect { (ended result, at_pc regs.new pc.new) ≡ with_immediate op insn (at_pc regs.old pc.old) }
+    ensures past { result ≡ Went.Past → pc.new ≡ sum pc.old 4 }
+    ensures aligned { pc.new % 4 ≡ 0 }
 {
     let by = insn.imm.cast_unsigned();
     let value = compute(op, regs.get(insn.rs1), by);
-    advance(regs, insn.rd, value)
+    proceed(regs, pc, insn.rd, value)
 }
 
 #[inline(always)]
-fn between_registers(regs: &mut Regs, op: Op, insn: Insn) -> Stepped
-    requires { HasSmallRegisters insn }
-    ensures { (result, regs.new) ≡ between_registers op insn regs.old }
+fn between_registers(regs: &mut Regs, pc: &mut u32, op: Op, insn: Insn) -> Went
+    requires small { HasSmallRegisters insn }
+    requires aligned { pc.old % 4 ≡ 0 }
+    ensures effect { (ended result, at_pc regs.new pc.new) ≡ between_registers op insn (at_pc regs.old pc.old) }
+    ensures past { result ≡ Went.Past → pc.new ≡ sum pc.old 4 }
+    ensures aligned { pc.new % 4 ≡ 0 }
 {
     let value = compute(op, regs.get(insn.rs1), regs.get(insn.rs2));
-    advance(regs, insn.rd, value)
+    proceed(regs, pc, insn.rd, value)
 }
 
 #[inline(always)]
-fn load(regs: &mut Regs, memory: &Memory, op: Op, insn: Insn) -> Stepped
-    requires { HasSmallRegisters insn }
-    ensures { (result, regs.new) ≡ loads op insn regs.old memory.now }
+fn load(regs: &mut Regs, memory: &Memory, pc: &mut u32, op: Op, insn: Insn) -> Went
+    requires small { HasSmallRegisters insn }
+    requires aligned { pc.old % 4 ≡ 0 }
+    ensures effect { (ended result, at_pc regs.new pc.new) ≡ loads op insn (at_pc regs.old pc.old) memory.now }
+    ensures past { result ≡ Went.Past → pc.new ≡ sum pc.old 4 }
+    ensures aligned { pc.new % 4 ≡ 0 }
 {
     let offset = insn.imm;
     let address = regs.get(insn.rs1).wrapping_add_signed(offset);
     match memory.load(address, width(op)) {
-        Ok(value) => advance(regs, insn.rd, extend(op, value)),
-        Err(_) => Stepped::Fault(FaultKind::Load),
+        Ok(value) => proceed(regs, pc, insn.rd, extend(op, value)),
+        Err(_) => Went::Fault(FaultKind::Load),
     }
 }
 
 #[inline(always)]
-fn store(regs: &mut Regs, memory: &mut Memory, op: Op, insn: Insn) -> Stepped
-    requires { HasSmallRegisters insn }
-    ensures { (result, record { regs = regs.new; memory = memory.new }) ≡ stores op insn (record { regs = regs.old; memory = memory.old }) }
+fn store(regs: &Regs, memory: &mut Memory, pc: &mut u32, op: Op, insn: Insn) -> Went
+    requires small { HasSmallRegisters insn }
+    requires aligned { pc.old % 4 ≡ 0 }
+    ensures effect { (ended result, record { regs = at_pc regs.now pc.new; memory = memory.new }) ≡ stores op insn (record { regs = at_pc regs.now pc.old; memory = memory.old }) }
+    ensures past { result ≡ Went.Past → pc.new ≡ sum pc.old 4 }
+    ensures aligned { pc.new % 4 ≡ 0 }
 {
     let offset = insn.imm;
     let address = regs.get(insn.rs1).wrapping_add_signed(offset);
     let value = regs.get(insn.rs2);
     match memory.store(address, width(op), value) {
-        Ok(()) => {
-            regs.pc = regs.pc.wrapping_add(4);
-            Stepped::On
-        }
-        Err(_) => Stepped::Fault(FaultKind::Store),
+        Ok(()) => past(pc),
+        Err(_) => Went::Fault(FaultKind::Store),
     }
 }
 
@@ -211,76 +262,103 @@ fn combine_word(regs: &mut Regs, memory: &mut Memory, op: Op, rd: u8, rs1: u8, r
     }
 }
 
-// Each operation has an arm of its own, and what it calls is inlined there, so that nothing asks for the operation again.
+// Where the machine goes on by the registers' own address, after what isn't inlined.
+fn went(regs: &Regs, pc: &mut u32, stepped: Stepped) -> Went
+    ensures went { ended result ≡ stepped }
+    ensures jumps { result ≢ Went.Past }
+    ensures next { pc.new ≡ regs.now.pc }
+    ensures aligned { pc.new % 4 ≡ 0 }
+{
+    *pc = regs.pc;
+    match stepped {
+        Stepped::On => Went::To,
+        Stepped::Call => Went::Call,
+        Stepped::Fault(kind) => Went::Fault(kind),
+    }
+}
+
+/// Carries out an instruction at an address that stands apart from the registers, whose own address means nothing meanwhile.
+/// Each operation has an arm of its own, and what it calls is inlined there, so that nothing asks for the operation again.
 #[inline(always)]
-fn execute(regs: &mut Regs, memory: &mut Memory, op: Op, insn: Insn) -> Stepped
-    requires { HasSmallRegisters insn }
-    ensures { (result, record { regs = regs.new; memory = memory.new }) ≡ effect op insn (record { regs = regs.old; memory = memory.old }) }
+pub fn execute(regs: &mut Regs, memory: &mut Memory, pc: &mut u32, op: Op, insn: Insn) -> Went
+    requires small { HasSmallRegisters insn }
+    requires aligned { pc.old % 4 ≡ 0 }
+    ensures effect { (ended result, record { regs = at_pc regs.new pc.new; memory = memory.new }) ≡ effect op insn (record { regs = at_pc regs.old pc.old; memory = memory.old }) }
+    ensures past { result ≡ Went.Past → pc.new ≡ sum pc.old 4 }
+    ensures aligned { pc.new % 4 ≡ 0 }
 {
     match op {
         Op::Lui => {
             let value = insn.imm.cast_unsigned();
-            advance(regs, insn.rd, value)
+            proceed(regs, pc, insn.rd, value)
         }
         Op::Auipc => {
-            let value = regs.pc.wrapping_add_signed(insn.imm);
-            advance(regs, insn.rd, value)
+            let value = pc.wrapping_add_signed(insn.imm);
+            proceed(regs, pc, insn.rd, value)
         }
         Op::Jal => {
-            let to = regs.pc.wrapping_add_signed(insn.imm);
-            jump(regs, insn.rd, to)
+            let to = pc.wrapping_add_signed(insn.imm);
+            jump(regs, pc, insn.rd, to)
         }
         Op::Jalr => {
             let offset = insn.imm;
             let to = regs.get(insn.rs1).wrapping_add_signed(offset);
-            jump(regs, insn.rd, to / 2 * 2)
+            jump(regs, pc, insn.rd, to / 2 * 2)
         }
-        Op::Beq => compare(regs, Op::Beq, insn),
-        Op::Bne => compare(regs, Op::Bne, insn),
-        Op::Blt => compare(regs, Op::Blt, insn),
-        Op::Bge => compare(regs, Op::Bge, insn),
-        Op::Bltu => compare(regs, Op::Bltu, insn),
-        Op::Bgeu => compare(regs, Op::Bgeu, insn),
-        Op::Lb => load(regs, memory, Op::Lb, insn),
-        Op::Lh => load(regs, memory, Op::Lh, insn),
-        Op::Lw => load(regs, memory, Op::Lw, insn),
-        Op::Lbu => load(regs, memory, Op::Lbu, insn),
-        Op::Lhu => load(regs, memory, Op::Lhu, insn),
-        Op::Sb => store(regs, memory, Op::Sb, insn),
-        Op::Sh => store(regs, memory, Op::Sh, insn),
-        Op::Sw => store(regs, memory, Op::Sw, insn),
-        Op::Addi => with_immediate(regs, Op::Addi, insn),
-        Op::Slti => with_immediate(regs, Op::Slti, insn),
-        Op::Sltiu => with_immediate(regs, Op::Sltiu, insn),
-        Op::Xori => with_immediate(regs, Op::Xori, insn),
-        Op::Ori => with_immediate(regs, Op::Ori, insn),
-        Op::Andi => with_immediate(regs, Op::Andi, insn),
-        Op::Slli => with_immediate(regs, Op::Slli, insn),
-        Op::Srli => with_immediate(regs, Op::Srli, insn),
-        Op::Srai => with_immediate(regs, Op::Srai, insn),
-        Op::Add => between_registers(regs, Op::Add, insn),
-        Op::Sub => between_registers(regs, Op::Sub, insn),
-        Op::Sll => between_registers(regs, Op::Sll, insn),
-        Op::Slt => between_registers(regs, Op::Slt, insn),
-        Op::Sltu => between_registers(regs, Op::Sltu, insn),
-        Op::Xor => between_registers(regs, Op::Xor, insn),
-        Op::Srl => between_registers(regs, Op::Srl, insn),
-        Op::Sra => between_registers(regs, Op::Sra, insn),
-        Op::Or => between_registers(regs, Op::Or, insn),
-        Op::And => between_registers(regs, Op::And, insn),
-        Op::Mul => between_registers(regs, Op::Mul, insn),
-        Op::Mulh => between_registers(regs, Op::Mulh, insn),
-        Op::Mulhsu => between_registers(regs, Op::Mulhsu, insn),
-        Op::Mulhu => between_registers(regs, Op::Mulhu, insn),
-        Op::Div => between_registers(regs, Op::Div, insn),
-        Op::Divu => between_registers(regs, Op::Divu, insn),
-        Op::Rem => between_registers(regs, Op::Rem, insn),
-        Op::Remu => between_registers(regs, Op::Remu, insn),
-        Op::Fence => branch(regs, false, 0),
-        Op::Ecall => Stepped::Call,
-        Op::Ebreak => Stepped::Fault(FaultKind::Breakpoint),
-        Op::LoadReserved => reserve(regs, memory, insn),
-        Op::StoreConditional => store_reserved(regs, memory, insn.rd, insn.rs1, insn.rs2),
+        Op::Beq => compare(regs, pc, Op::Beq, insn),
+        Op::Bne => compare(regs, pc, Op::Bne, insn),
+        Op::Blt => compare(regs, pc, Op::Blt, insn),
+        Op::Bge => compare(regs, pc, Op::Bge, insn),
+        Op::Bltu => compare(regs, pc, Op::Bltu, insn),
+        Op::Bgeu => compare(regs, pc, Op::Bgeu, insn),
+        Op::Lb => load(regs, memory, pc, Op::Lb, insn),
+        Op::Lh => load(regs, memory, pc, Op::Lh, insn),
+        Op::Lw => load(regs, memory, pc, Op::Lw, insn),
+        Op::Lbu => load(regs, memory, pc, Op::Lbu, insn),
+        Op::Lhu => load(regs, memory, pc, Op::Lhu, insn),
+        Op::Sb => store(regs, memory, pc, Op::Sb, insn),
+        Op::Sh => store(regs, memory, pc, Op::Sh, insn),
+        Op::Sw => store(regs, memory, pc, Op::Sw, insn),
+        Op::Addi => with_immediate(regs, pc, Op::Addi, insn),
+        Op::Slti => with_immediate(regs, pc, Op::Slti, insn),
+        Op::Sltiu => with_immediate(regs, pc, Op::Sltiu, insn),
+        Op::Xori => with_immediate(regs, pc, Op::Xori, insn),
+        Op::Ori => with_immediate(regs, pc, Op::Ori, insn),
+        Op::Andi => with_immediate(regs, pc, Op::Andi, insn),
+        Op::Slli => with_immediate(regs, pc, Op::Slli, insn),
+        Op::Srli => with_immediate(regs, pc, Op::Srli, insn),
+        Op::Srai => with_immediate(regs, pc, Op::Srai, insn),
+        Op::Add => between_registers(regs, pc, Op::Add, insn),
+        Op::Sub => between_registers(regs, pc, Op::Sub, insn),
+        Op::Sll => between_registers(regs, pc, Op::Sll, insn),
+        Op::Slt => between_registers(regs, pc, Op::Slt, insn),
+        Op::Sltu => between_registers(regs, pc, Op::Sltu, insn),
+        Op::Xor => between_registers(regs, pc, Op::Xor, insn),
+        Op::Srl => between_registers(regs, pc, Op::Srl, insn),
+        Op::Sra => between_registers(regs, pc, Op::Sra, insn),
+        Op::Or => between_registers(regs, pc, Op::Or, insn),
+        Op::And => between_registers(regs, pc, Op::And, insn),
+        Op::Mul => between_registers(regs, pc, Op::Mul, insn),
+        Op::Mulh => between_registers(regs, pc, Op::Mulh, insn),
+        Op::Mulhsu => between_registers(regs, pc, Op::Mulhsu, insn),
+        Op::Mulhu => between_registers(regs, pc, Op::Mulhu, insn),
+        Op::Div => between_registers(regs, pc, Op::Div, insn),
+        Op::Divu => between_registers(regs, pc, Op::Divu, insn),
+        Op::Rem => between_registers(regs, pc, Op::Rem, insn),
+        Op::Remu => between_registers(regs, pc, Op::Remu, insn),
+        Op::Fence => past(pc),
+        Op::Ecall => Went::Call,
+        Op::Ebreak => Went::Fault(FaultKind::Breakpoint),
+        Op::LoadReserved => {
+            regs.pc = *pc;
+            let stepped = reserve(regs, memory, insn);
+            went(regs, pc, stepped)
+        }
+        Op::StoreConditional => {
+            regs.pc = *pc;
+            let stepped = store_reserved(regs, memory, insn.rd, insn.rs1, insn.rs2);
+            went(regs, pc, stepped)
+        }
         Op::AmoSwap
         | Op::AmoAdd
         | Op::AmoXor
@@ -289,6 +367,10 @@ fn execute(regs: &mut Regs, memory: &mut Memory, op: Op, insn: Insn) -> Stepped
         | Op::AmoMin
         | Op::AmoMax
         | Op::AmoMinu
-        | Op::AmoMaxu => combine_word(regs, memory, op, insn.rd, insn.rs1, insn.rs2),
+        | Op::AmoMaxu => {
+            regs.pc = *pc;
+            let stepped = combine_word(regs, memory, op, insn.rd, insn.rs1, insn.rs2);
+            went(regs, pc, stepped)
+        }
     }
 }

@@ -1,17 +1,20 @@
 -- Instructions that are kept, as the bytes and the regions change.
-use Rattle.std.proofs.Common.{◌≡◌, Bool, true, false, ℕ, suc, zero, ◌+◌, ◌-◌, ◌*◌, ◌/◌, ◌%◌, ◌^◌, ◌<◌, ◌≤◌, ◌⊎◌, List, [], ◌∷◌, ◌++◌, take, drop, length, get_or, set, replicate, min, max, Option, Some, None, inl, inr, refl, sym, ap, ◌∙◌, subst, arith, length-set}
+use Rattle.std.proofs.Common.{◌≡◌, ◌≢◌, Bool, true, false, ℕ, suc, zero, ◌+◌, ◌-◌, ◌*◌, ◌/◌, ◌%◌, ◌^◌, ◌<◌, ◌≤◌, ◌⊎◌, List, [], ◌∷◌, ◌++◌, take, drop, length, get_or, set, replicate, min, max, Option, Some, None, inl, inr, refl, sym, ap, ◌∙◌, subst, arith, length-set}
 use Rattle.std.specs.Prelude.{if◌then◌else◌, IfSome, Result, Ok, Err}
 use Rattle.std.proofs.lemmas.List.{get_or-set_other, get_or-set_same, get_or-replicate}
 use Rattle.std.proofs.lemmas.Bool.{cases_eq, cases_lt}
 use Rattle.nv_isa.specs.declared.op.Insn.{Insn}
+use Rattle.nv_isa.specs.declared.op.Op.{Op}
+use Rattle.nv_isa.specs.declared.op.Op.TheVariants.{Ebreak}
 use Rattle.nv_isa.specs.Spelling.{HasSmallRegisters}
 use Rattle.nv_isa.specs.Table.{decoded}
 use Rattle.nv_memory.specs.declared.region.Region.{Region}
 use Rattle.nv_memory.specs.declared.region.Right.TheVariants.{Execute, Write}
 use Rattle.nv_memory.specs.Bytes.{bytes_at, little, put}
 use Rattle.nv_memory.specs.Region.{AreRegions, holds, end_of, set_end}
+use Rattle.nv_memory.specs.Code.{code_start, code_address}
 use Rattle.nv_memory.specs.Insns.{insn_at}
-use Rattle.nv_memory.specs.inner.Decoded.{blank, is_kept, shown, kept_at, AreDecoded, ArePlaces, IsInsn, IsApart, Remain, kept, place_of}
+use Rattle.nv_memory.specs.inner.Decoded.{blank, is_kept, shown, kept_at, AreSmall, AreDecoded, ArePlaces, IsInsn, IsApart, Remain, kept, place_of}
 use Rattle.nv_memory.specs.declared.rights.Part.{Part}
 use Rattle.nv_memory.specs.inner.Rights.{AreParts, Looked, may_write}
 use Rattle.nv_memory.proofs.Parts.{write_apart, parts_moved}
@@ -49,14 +52,30 @@ inside [] k i e = absurd (cc e)
 inside (x ∷ xs) zero i e = omega arith
 inside (x ∷ xs) (suc k) i e = omega (arith, inside xs k i e)
 
+small_blank : HasSmallRegisters blank
+small_blank = record { rd = omega arith; rs1 = omega arith; rs2 = omega arith }
+
+small_set : (xs : Kept) (p : ℕ) (x : Insn) (k : ℕ) → HasSmallRegisters x → AreSmall xs → HasSmallRegisters (get_or (set xs p x) k blank)
+small_set [] p x k s a = a k
+small_set (y ∷ ys) zero x zero s a = s
+small_set (y ∷ ys) zero x (suc k) s a = a (suc k)
+small_set (y ∷ ys) (suc p) x zero s a = a 0
+small_set (y ∷ ys) (suc p) x (suc k) s a = small_set ys p x k s (λ j. a (suc j))
+
+small_blanks : (n k : ℕ) → HasSmallRegisters (get_or (replicate n blank) k blank)
+small_blanks zero k = small_blank
+small_blanks (suc n) zero = small_blank
+small_blanks (suc n) (suc k) = small_blanks n k
+
 -- before any place is cleared
 pub cleared_none : (before : Kept) (first : ℕ) → ArePlaces first first before before
-cleared_none before first = record { length = refl; are = λ k i e. (e, cases_lt k first) }
+cleared_none before first = record { length = refl; small = λ a. a; are = λ k i e. (e, cases_lt k first) }
 
 -- one more place is cleared
 pub cleared_more : (before after : Kept) (first place : ℕ) → ArePlaces first place before after → ArePlaces first (place + 1) before (set after place blank)
 cleared_more before after first place h = record {
   length = length-set after place blank ∙ h.length;
+  small = λ a k. small_set after place blank k small_blank (h.small a);
   are = λ k i e. elim (cases_eq k place) [
     | inl same ↦ absurd (nothing k i same e)
     | inr other ↦ ((there k i other e).0, past k other (there k i other e).1)
@@ -76,6 +95,7 @@ cleared_more before after first place h = record {
 pub cleared_all : (before after : Kept) (first last place : ℕ) → min last (length before) ≤ place → ArePlaces first place before after → ArePlaces first last before after
 cleared_all before after first last place far h = record {
   length = h.length;
+  small = h.small;
   are = λ k i e. ((h.are k i e).0, past k i (h.are k i e).0 (h.are k i e).1);
 }
   where
@@ -90,7 +110,7 @@ cleared_all before after first last place far h = record {
 
 -- places that are cleared are those of the words that meet a range
 pub range_cleared : (start from to first last : ℕ) (before after : Kept) → first ≡ (from - start) / 4 → last ≡ (to - start) / 4 + min 1 ((to - start) % 4) → ArePlaces first last before after → Remain start from to before after
-range_cleared start from to first last before after e f h = λ k i x. ((h.are k i x).0, apart k (h.are k i x).1)
+range_cleared start from to first last before after e f h = record { small = h.small; are = λ k i x. ((h.are k i x).0, apart k (h.are k i x).1) }
   where
     apart : (k : ℕ) → (k < first) ⊎ (last ≤ k) → IsApart (start + 4 * k) from to
     apart k h = elim h [ inl below ↦ inl (omega (arith, below, e)) | inr above ↦ inr (omega (arith, above, f)) ]
@@ -105,10 +125,12 @@ known_at start insns bytes regions a i ok w small e =
     subst (λ (p : ℕ). IsInsn bytes regions p i) (place_is start a (length insns) (place_of start a) ok.aligned ok.fits w small refl (inside insns (place_of start a) i e)) (ok.are (place_of start a) i e)
 
 -- nothing is kept
-pub none_kept : (start : ℕ) (insns : Kept) (bytes : List ℕ) (regions : List Region) → start % 4 ≡ 0 → start + 4 * length insns ≤ 2 ^ 32 → insns ≡ replicate (length insns) blank → AreDecoded start insns bytes regions
-none_kept start insns bytes regions s fits e = record {
+pub none_kept : (start : ℕ) (insns : Kept) (bytes : List ℕ) (regions : List Region) → start ≡ code_start regions → start % 4 ≡ 0 → start + 4 * length insns ≤ 2 ^ 32 → insns ≡ replicate (length insns) blank → AreDecoded start insns bytes regions
+none_kept start insns bytes regions b s fits e = record {
+  begins = b;
   aligned = s;
   fits = fits;
+  small = rw e (small_blanks (length insns));
   are = λ k i x. absurd (nothing k i x);
 }
   where
@@ -118,8 +140,10 @@ none_kept start insns bytes regions s fits e = record {
 -- one more instruction is kept
 pub one_kept : (start : ℕ) (insns : Kept) (bytes : List ℕ) (regions : List Region) (a : ℕ) (i : Insn) → AreDecoded start insns bytes regions → a % 4 ≡ 0 → a < 2 ^ 32 → IsInsn bytes regions a i → AreDecoded start (set insns (place_of start a) i) bytes regions
 one_kept start insns bytes regions a i ok w small is = record {
+  begins = ok.begins;
   aligned = ok.aligned;
   fits = rw (length-set insns (place_of start a) i) ok.fits;
+  small = λ k. small_set insns (place_of start a) i k is.registers ok.small;
   are = λ k j e. elim (cases_eq k (place_of start a)) [
     | inl same ↦ here k j same e
     | inr other ↦ ok.are k j (sym (other_kept insns (place_of start a) k i other) ∙ e)
@@ -145,9 +169,11 @@ read_is bytes regions a w i e d small = go (holds regions a 4 Execute) refl e
 -- what a write leaves
 pub kept_still : (start a to : ℕ) (before after : Kept) (bytes from : List ℕ) (regions : List Region) → AreDecoded start before bytes regions → length after ≡ length before → Remain start a to before after → a + length from ≤ to → AreDecoded start after (put bytes a from) regions
 kept_still start a to before after bytes from regions ok same left far = record {
+  begins = ok.begins;
   aligned = ok.aligned;
   fits = rw same ok.fits;
-  are = λ k i e. one k i (left k i e);
+  small = left.small ok.small;
+  are = λ k i e. one k i (left.are k i e);
 }
   where
     one : (k : ℕ) (i : Insn) → (kept_at before k ≡ Some i) × IsApart (start + 4 * k) a to → IsInsn (put bytes a from) regions (start + 4 * k) i
@@ -156,12 +182,19 @@ kept_still start a to before after bytes from regions ok same left far = record 
         let apart : (start + 4 * k + 4 ≤ a) ⊎ (a + length from ≤ start + 4 * k) = elim h.1 [ inl before ↦ inl before | inr after ↦ inr (omega (arith, after, far)) ] in
         record { held = is.held; spelled = ap (λ (bs : List ℕ). decoded (little bs)) (put_apart bytes a from (start + 4 * k) 4 apart) ∙ is.spelled; registers = is.registers }
 
+code_as_moved : (rs : List Region) (k end : ℕ) → code_start (set_end rs k end) ≡ code_start rs
+code_as_moved [] k end = refl
+code_as_moved (r ∷ rs) zero end = refl
+code_as_moved (r ∷ rs) (suc k) end = rw (code_as_moved rs k end) refl
+
 -- what the move of a region's end leaves
 pub kept_as_moved : (start k end : ℕ) (before after : Kept) (bytes : List ℕ) (regions : List Region) → AreDecoded start before bytes regions → length after ≡ length before → Remain start (min (end_of regions k) end) (max (end_of regions k) end) before after → AreDecoded start after (cut bytes (end_of regions k) end) (set_end regions k end)
 kept_as_moved start k end before after bytes regions ok same left = record {
+  begins = ok.begins ∙ sym (code_as_moved regions k end);
   aligned = ok.aligned;
   fits = rw same ok.fits;
-  are = λ n i e. one n i (left n i e);
+  small = left.small ok.small;
+  are = λ n i e. one n i (left.are n i e);
 }
   where
     one : (n : ℕ) (i : Insn) → (kept_at before n ≡ Some i) × IsApart (start + 4 * n) (min (end_of regions k) end) (max (end_of regions k) end) → IsInsn (cut bytes (end_of regions k) end) (set_end regions k end) (start + 4 * n) i
@@ -182,12 +215,38 @@ pub known_small : (start : ℕ) (insns : Kept) (bytes : List ℕ) (regions : Lis
 known_small start insns bytes regions a None ok w small e = tt
 known_small start insns bytes regions a (Some i) ok w small e = (known_at start insns bytes regions a i ok w small (sym e)).registers
 
+-- the same at a place of the code
+address_is : (start n k : ℕ) → start + 4 * n ≤ 2 ^ 32 → k < n → start + 4 * k ≡ code_address start k
+address_is start n k fits h = omega (arith, fits, h)
+
+at_place : (start : ℕ) (insns : Kept) (bytes : List ℕ) (regions : List Region) (k : ℕ) (i : Insn) → AreDecoded start insns bytes regions → kept_at insns k ≡ Some i → IsInsn bytes regions (code_address (code_start regions) k) i
+at_place start insns bytes regions k i ok e =
+    let there : start + 4 * k ≡ code_address (code_start regions) k = address_is start (length insns) k ok.fits (inside insns k i e) ∙ ap (λ (s : ℕ). code_address s k) ok.begins in
+    subst (λ (p : ℕ). IsInsn bytes regions p i) there (ok.are k i e)
+
+kept_other : (o : Op) → o ≢ Ebreak → is_kept o ≡ true
+kept_other Ebreak n = absurd (n refl)
+kept_other _ n = refl
+
+-- what stands there is kept, unless it is an EBREAK
+stands : (x i : Insn) → i ≡ x → i.op ≢ Ebreak → shown x ≡ Some i
+stands x i e n = sym (same_shown i x e) ∙ rw (kept_other i.op n) refl
+
+pub place_known : (start : ℕ) (insns : Kept) (bytes : List ℕ) (regions : List Region) (k : ℕ) (found : Option Insn) → AreDecoded start insns bytes regions → IfSome found (λ insn. insn ≡ get_or insns k blank)
+    → IfSome found (λ insn. insn.op ≢ Ebreak → insn_at (record { bytes = bytes; regions = regions }) (code_address (code_start regions) k) ≡ Ok (Some insn))
+place_known start insns bytes regions k None ok e = tt
+place_known start insns bytes regions k (Some i) ok e = λ n. insn_is bytes regions (code_address (code_start regions) k) i (at_place start insns bytes regions k i ok (stands (get_or insns k blank) i e n))
+
+pub place_small : (start : ℕ) (insns : Kept) (bytes : List ℕ) (regions : List Region) (k : ℕ) (found : Option Insn) → AreDecoded start insns bytes regions → IfSome found (λ insn. insn ≡ get_or insns k blank) → IfSome found HasSmallRegisters
+place_small start insns bytes regions k None ok e = tt
+place_small start insns bytes regions k (Some i) ok e = subst (λ (x : Insn). HasSmallRegisters x) (sym e) (ok.small k)
+
 pub written_back : {X : Type 0} (items new : List X) (len : ℕ) → length items ≡ len → length new ≡ len → take len (new ++ drop (length new) items) ≡ new
 written_back items new len e f = grind (arith, common_steps)
 
 -- what is kept is apart from a range before the code or after it
 pub remain_apart : (start a to : ℕ) (insns : Kept) → (to ≤ start) ⊎ (start + 4 * length insns ≤ a) → Remain start a to insns insns
-remain_apart start a to insns h = λ k i e. (e, apart k (inside insns k i e))
+remain_apart start a to insns h = record { small = λ a. a; are = λ k i e. (e, apart k (inside insns k i e)) }
   where
     apart : (k : ℕ) → k < length insns → IsApart (start + 4 * k) a to
     apart k within = elim h [ inl below ↦ inr (omega (arith, below)) | inr above ↦ inl (omega (arith, above, within)) ]
@@ -216,7 +275,7 @@ sound_in_part start a n len insns items new from regions parts ok may f l w =
 -- it holds after the move of a region's end
 pub sound_as_resized : (start began k end len many : ℕ) (before after : Kept) (items new : List ℕ) (regions moved : List Region) (parts looked : List Part) → AreSound start before items regions parts → AreRegions (length items) (set_end regions k end)
     → length items ≡ len → new ≡ cut items (end_of regions k) end → length regions ≡ many → length moved ≡ many → moved ≡ set_end regions k end → began ≡ start → length after ≡ length before → Remain start (min (end_of regions k) end) (max (end_of regions k) end) before after
-    → length looked ≡ length parts → Looked (set_end regions k end) start (start + 4 * length before) (min (end_of regions k) end / 1024) (max (end_of regions k) end / 1024 + 1) parts looked
+    → length looked ≡ length parts → Looked (set_end regions k end) start (start + 4 * length before) (min (end_of regions k) end / 256) (max (end_of regions k) end / 256 + 1) parts looked
     → AreSound began after (take len (new ++ drop (length new) items)) (take many (moved ++ drop (length moved) regions)) looked
 sound_as_resized start began k end len many before after items new regions moved parts looked ok are l w m mm is s same left p q =
     let long : length new ≡ len = ap length w ∙ length_cut items (end_of regions k) end ∙ l in

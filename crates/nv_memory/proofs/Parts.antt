@@ -57,30 +57,30 @@ covered_part (r ∷ rs) a n b m right h k t = elim (or_cases (covers a n right r
     at_one : covers a n right r ≡ true → covers b m right r ≡ true
     at_one here = grind (arith, nat_tests, here, h, k)
 
-lies : (a n : ℕ) → in_a_part a n ≡ true → (a / 1024 * 1024 ≤ a) × (a + n ≤ a / 1024 * 1024 + 1024)
+lies : (a n : ℕ) → in_a_part a n ≡ true → (a / 256 * 256 ≤ a) × (a + n ≤ a / 256 * 256 + 256)
 lies a n h = grind (arith, nat_tests, h)
 
-held : (regions : List Region) (a n : ℕ) (right : Right) → in_a_part a n ≡ true → list_any (covers (a / 1024 * 1024) 1024 right) regions ≡ true → holds regions a n right ≡ true
-held regions a n right h t = or_right _ (list_any (covers a n right) regions) (covered_part regions (a / 1024 * 1024) 1024 a n right (lies a n h).0 (lies a n h).1 t)
+held : (regions : List Region) (a n : ℕ) (right : Right) → in_a_part a n ≡ true → list_any (covers (a / 256 * 256) 256 right) regions ≡ true → holds regions a n right ≡ true
+held regions a n right h t = or_right _ (list_any (covers a n right) regions) (covered_part regions (a / 256 * 256) 256 a n right (lies a n h).0 (lies a n h).1 t)
 
 -- what is read by a part's right
 pub read_held : (regions : List Region) (start stop : ℕ) (parts : List Part) (a n : ℕ) → AreParts regions start stop parts → may_read parts a n ≡ true → holds regions a n Read ≡ true
 read_held regions start stop parts a n ok h =
-    let both = and_parts (in_a_part a n) (part_at parts (a / 1024)).read h in
-    held regions a n Read both.0 ((ok.are (a / 1024)).read both.1)
+    let both = and_parts (in_a_part a n) (part_at parts (a / 256)).read h in
+    held regions a n Read both.0 ((ok.are (a / 256)).read both.1)
 
 -- what is written by a part's right
 pub write_held : (regions : List Region) (start stop : ℕ) (parts : List Part) (a n : ℕ) → AreParts regions start stop parts → may_write parts a n ≡ true → holds regions a n Write ≡ true
 write_held regions start stop parts a n ok h =
-    let both = and_parts (in_a_part a n) (part_at parts (a / 1024)).write h in
-    held regions a n Write both.0 ((ok.are (a / 1024)).write both.1)
+    let both = and_parts (in_a_part a n) (part_at parts (a / 256)).write h in
+    held regions a n Write both.0 ((ok.are (a / 256)).write both.1)
 
 -- it lies before the code or after it
 pub write_apart : (regions : List Region) (start stop : ℕ) (parts : List Part) (a n : ℕ) → AreParts regions start stop parts → may_write parts a n ≡ true → (a + n ≤ start) ⊎ (stop ≤ a)
 write_apart regions start stop parts a n ok h =
-    let both = and_parts (in_a_part a n) (part_at parts (a / 1024)).write h in
+    let both = and_parts (in_a_part a n) (part_at parts (a / 256)).write h in
     let there = lies a n both.0 in
-    elim ((ok.are (a / 1024)).apart both.1) [
+    elim ((ok.are (a / 256)).apart both.1) [
       | inl below ↦ inl (omega (arith, below, there.1))
       | inr above ↦ inr (omega (arith, above, there.0))
     ]
@@ -92,7 +92,7 @@ none_at parts k e = elim (cases_lt k (length parts)) [
 ]
 
 -- all parts, once they are looked at
-pub parts_made : (regions : List Region) (start stop first last : ℕ) (before after : List Part) → length before ≤ 2 ^ 22 → before ≡ replicate (length before) no_part → length after ≡ length before → Looked regions start stop first last before after → AreParts regions start stop after
+pub parts_made : (regions : List Region) (start stop first last : ℕ) (before after : List Part) → length before ≤ 2 ^ 24 → before ≡ replicate (length before) no_part → length after ≡ length before → Looked regions start stop first last before after → AreParts regions start stop after
 parts_made regions start stop first last before after few none same h = record {
   few = rw same few;
   are = λ k. elim (h k) [
@@ -102,7 +102,7 @@ parts_made regions start stop first last before after few none same h = record {
 }
 
 -- the parts after a region's end has moved
-pub parts_moved : (regions : List Region) (start stop region end : ℕ) (before after : List Part) → AreParts regions start stop before → length after ≡ length before → Looked (set_end regions region end) start stop (min (end_of regions region) end / 1024) (max (end_of regions region) end / 1024 + 1) before after → AreParts (set_end regions region end) start stop after
+pub parts_moved : (regions : List Region) (start stop region end : ℕ) (before after : List Part) → AreParts regions start stop before → length after ≡ length before → Looked (set_end regions region end) start stop (min (end_of regions region) end / 256) (max (end_of regions region) end / 256 + 1) before after → AreParts (set_end regions region end) start stop after
 parts_moved regions start stop region end before after ok same h = record {
   few = rw same ok.few;
   are = λ k. elim (h k) [
@@ -111,15 +111,15 @@ parts_moved regions start stop region end before after ok same h = record {
   ];
 }
   where
-    beside : (k : ℕ) → (k < min (end_of regions region) end / 1024) ⊎ (max (end_of regions region) end / 1024 + 1 ≤ k) → (k * 1024 + 1024 ≤ end) ⊎ (end_of regions region < k * 1024 + 1024)
+    beside : (k : ℕ) → (k < min (end_of regions region) end / 256) ⊎ (max (end_of regions region) end / 256 + 1 ≤ k) → (k * 256 + 256 ≤ end) ⊎ (end_of regions region < k * 256 + 256)
     beside k h = elim h [ inl below ↦ inl (omega (arith, below)) | inr above ↦ inr (omega (arith, above)) ]
 
-    still : (k : ℕ) → (k < min (end_of regions region) end / 1024) ⊎ (max (end_of regions region) end / 1024 + 1 ≤ k) → part_at after k ≡ part_at before k → IsPart (set_end regions region end) start stop k (part_at after k)
+    still : (k : ℕ) → (k < min (end_of regions region) end / 256) ⊎ (max (end_of regions region) end / 256 + 1 ≤ k) → part_at after k ≡ part_at before k → IsPart (set_end regions region end) start stop k (part_at after k)
     still k far e =
         let is : IsPart regions start stop k (part_at before k) = ok.are k in
         subst (λ (p : Part). IsPart (set_end regions region end) start stop k p) (sym e) (record {
-          read = λ r. covered_still regions region end (k * 1024) 1024 Read (beside k far) (is.read r);
-          write = λ r. covered_still regions region end (k * 1024) 1024 Write (beside k far) (is.write r);
+          read = λ r. covered_still regions region end (k * 256) 256 Read (beside k far) (is.read r);
+          write = λ r. covered_still regions region end (k * 256) 256 Write (beside k far) (is.write r);
           apart = is.apart;
         })
 
@@ -138,8 +138,8 @@ looked_by_one regions r start stop first last before after one h = λ k. elim (h
   | inr left ↦ inr left
 ]
   where
-    by : (right : Right) (k : ℕ) → list_any (covers (k * 1024) 1024 right) (r ∷ []) ≡ true → list_any (covers (k * 1024) 1024 right) regions ≡ true
-    by right k t = elim (or_cases (covers (k * 1024) 1024 right r) false t) [
-      | inl here ↦ one.covered (k * 1024) 1024 right here
+    by : (right : Right) (k : ℕ) → list_any (covers (k * 256) 256 right) (r ∷ []) ≡ true → list_any (covers (k * 256) 256 right) regions ≡ true
+    by right k t = elim (or_cases (covers (k * 256) 256 right r) false t) [
+      | inl here ↦ one.covered (k * 256) 256 right here
       | inr none ↦ absurd (cc none)
     ]

@@ -1,5 +1,6 @@
 // Instructions that were decoded, so that most steps decode none.
-ghost use Rattle.std.specs.Prelude.{◌≡◌, ◌≤◌, ◌%◌, ◌+◌, ◌*◌, ◌^◌, IfOk, length, replicate, slice_set};
+ghost use Rattle.std.specs.Prelude.{◌≡◌, ◌≤◌, ◌%◌, ◌+◌, ◌*◌, ◌^◌, IfOk, IfSome, length, replicate, slice_set, slice_index_or};
+ghost use Rattle.nv_memory.specs.Code.{has_code, code_start};
 ghost use Rattle.nv_memory.specs.inner.Decoded.{kept, place_of, Remain, ArePlaces, blank, shown};
 
 use crate::region::Region;
@@ -18,6 +19,7 @@ pub struct Decoded {
 impl Decoded {
     /// None yet, of those of the first region that may be executed.
     pub fn make(alloc: Global, regions: &[Region]) -> Result<Decoded, AllocError>
+        ensures begins { IfOk result (λ d. d.start ≡ code_start regions.now) }
         ensures aligned { IfOk result (λ d. d.start % 4 ≡ 0) }
         ensures fits { IfOk result (λ d. d.start + 4 * length d.insns.items ≤ 2 ^ 32) }
         ensures none { IfOk result (λ d. d.insns.items ≡ replicate (length d.insns.items) blank) }
@@ -43,6 +45,25 @@ impl Decoded {
         let place = (address.wrapping_sub(self.start) / 4) as usize;
         if place < self.insns.len() {
             shown(&self.insns[place])
+        } else {
+            None
+        }
+    }
+
+    /// What stands at the place, if it is one of these. An EBREAK isn't kept. Inlined, so that its fields stay apart.
+    #[inline(always)]
+    pub fn at_place(&self, place: usize) -> Option<Insn>
+        ensures { IfSome result (λ insn. insn ≡ slice_index_or self.now.insns.items place blank) }
+    {
+        if place < self.insns.len() {
+            let insn = &self.insns[place];
+            Some(Insn {
+                op: insn.op,
+                rd: insn.rd,
+                rs1: insn.rs1,
+                rs2: insn.rs2,
+                imm: insn.imm,
+            })
         } else {
             None
         }
@@ -85,7 +106,7 @@ fn blank() -> Insn
     }
 }
 
-// Field by field: a copied instruction is one word of 64 bits, which would be taken apart again.
+// Field by field, as `at_place`: a copied instruction is one word of 64 bits, which would be taken apart again.
 fn shown(insn: &Insn) -> Option<Insn>
     ensures { result ≡ shown insn.now }
 {
@@ -102,15 +123,23 @@ fn shown(insn: &Insn) -> Option<Insn>
 }
 
 // The addresses of the first region that may be executed and begins at a word.
+#[tactic(auto, using(crate::proofs::Codes::code_here, crate::proofs::Codes::code_past, crate::proofs::Codes::code_ends))]
 fn code_of(regions: &[Region]) -> (u32, u32)
-    ensures { result.0 % 4 ≡ 0 }
+    ensures begins { result.0 ≡ code_start regions.now }
+    ensures aligned { result.0 % 4 ≡ 0 }
 {
     for region in regions {
-        if region.execute && region.start % 4 == 0 {
+        if has_code(region) {
             return (region.start, region.end);
         }
     }
     (0, 0)
+}
+
+fn has_code(region: &Region) -> bool
+    ensures { result ≡ has_code region.now }
+{
+    region.execute && region.start % 4 == 0
 }
 
 // Nothing is kept at these places.

@@ -1,10 +1,11 @@
 // The memory of a guest.
-ghost use Rattle.std.specs.Prelude.{◌≡◌, ℕ, ◌+◌, ◌<◌, ◌≤◌, length, Ok, Err, IfOk, IfErr, IfSome, is_ok, IsTrue, replicate, Some, ◌%◌};
+ghost use Rattle.std.specs.Prelude.{◌≡◌, ◌≢◌, ℕ, ◌+◌, ◌<◌, ◌≤◌, length, Ok, Err, IfOk, IfErr, IfSome, is_ok, IsTrue, replicate, Some, ◌%◌};
 ghost use Rattle.std.specs.List.{list_any};
 ghost use Rattle.nv_memory.specs.Bytes.{bytes_at, put, little_bytes, byte_count};
 ghost use Rattle.nv_memory.specs.Region.{holds, AreRegions, lies_in, set_end, region_start, end_of};
 ghost use Rattle.nv_memory.specs.Image.{value_at, allowed, stored, copied, cut};
 ghost use Rattle.nv_memory.specs.Cells.{memory_byte};
+ghost use Rattle.nv_memory.specs.Code.{code_start, code_address};
 ghost use Rattle.nv_memory.specs.Insns.{insn_at};
 ghost use Rattle.nv_isa.specs.Spelling.{HasSmallRegisters};
 
@@ -13,7 +14,7 @@ use crate::decoded::Decoded;
 use crate::ranges::{end_at, has_address, is_held, move_end, region_at};
 use crate::region::{Access, Region, Right, Width};
 use crate::rights::Rights;
-use nv_isa::{Insn, decode};
+use nv_isa::{Insn, Op, decode};
 use std::alloc::{AllocError, Global};
 use std::marker::Model;
 
@@ -128,6 +129,23 @@ impl Memory {
         ensures registers { IfSome result HasSmallRegisters }
     {
         self.decoded.at(address)
+    }
+
+    /// Where the code begins, whose words are counted from there on.
+    pub fn code_start(&self) -> u32
+        ensures begins { result ≡ code_start self.now.regions }
+        ensures aligned { result % 4 ≡ 0 }
+    {
+        self.decoded.start
+    }
+
+    /// The instruction at this place of the code, where its word was executed since it was last written; elsewhere an EBREAK, or none.
+    #[inline(always)]
+    pub fn known_at(&self, place: usize) -> Option<Insn>
+        ensures insn { IfSome result (λ insn. insn.op ≢ Op.Ebreak → insn_at self.now (code_address (code_start self.now.regions) place) ≡ Ok (Some insn)) }
+        ensures registers { IfSome result HasSmallRegisters }
+    {
+        self.decoded.at_place(place)
     }
 
     /// The instruction at the address, which is known from then on.

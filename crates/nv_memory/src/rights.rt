@@ -7,7 +7,7 @@ use crate::region::{Region, Right};
 use std::alloc::{AllocError, Global};
 
 /// How many bytes a part has.
-const PART: usize = 1024;
+const PART: usize = 256;
 
 /// What may be done everywhere in a part. A part that has code isn't written as a whole.
 #[derive(Clone, Copy, Debug)]
@@ -25,7 +25,7 @@ pub struct Rights {
 impl Rights {
     /// None yet.
     pub fn make(alloc: Global, size: u32) -> Result<Rights, AllocError>
-        ensures few { IfOk result (λ rights. length rights.parts.items ≤ 2 ^ 22) }
+        ensures few { IfOk result (λ rights. length rights.parts.items ≤ 2 ^ 24) }
         ensures none { IfOk result (λ rights. rights.parts.items ≡ replicate (length rights.parts.items) no_part) }
     {
         let count = size as usize / PART;
@@ -48,7 +48,7 @@ impl Rights {
     }
 
     fn part(&self, address: u32) -> Part
-        ensures { result ≡ part_at self.now.parts.items (address / 1024) }
+        ensures { result ≡ part_at self.now.parts.items (address / 256) }
     {
         let place = address as usize / PART;
         if place < self.parts.len() {
@@ -60,9 +60,9 @@ impl Rights {
 
     /// Looks at the parts that meet the range, where the code lies from one address to below another.
     pub fn look(&mut self, regions: &[Region], start: usize, stop: usize, from: usize, to: usize)
-        requires { length self.old.parts.items ≤ 2 ^ 22 }
+        requires { length self.old.parts.items ≤ 2 ^ 24 }
         ensures length { length self.new.parts.items ≡ length self.old.parts.items }
-        ensures looked { Looked regions.now start stop (from / 1024) (to / 1024 + 1) self.old.parts.items self.new.parts.items }
+        ensures looked { Looked regions.now start stop (from / 256) (to / 256 + 1) self.old.parts.items self.new.parts.items }
     {
         look_at_each(
             &mut self.parts,
@@ -100,7 +100,7 @@ fn look_at_each(
     first: usize,
     last: usize,
 )
-    requires { length parts.old ≤ 2 ^ 22 }
+    requires { length parts.old ≤ 2 ^ 24 }
     ensures { Looked regions.now start stop first last parts.old parts.new }
 {
     let end = last.min(parts.len());
@@ -110,7 +110,7 @@ fn look_at_each(
 }
 
 fn look_at(regions: &[Region], start: usize, stop: usize, place: usize) -> Part
-    requires { place < 2 ^ 22 }
+    requires { place < 2 ^ 24 }
     ensures { IsPart regions.now start stop place result }
 {
     let at = place * PART;

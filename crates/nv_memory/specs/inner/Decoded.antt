@@ -8,6 +8,7 @@ use Rattle.nv_isa.specs.Spelling.{HasSmallRegisters}
 use Rattle.nv_memory.specs.declared.region.Region.{Region}
 use Rattle.nv_memory.specs.declared.region.Right.TheVariants.{Execute}
 use Rattle.nv_memory.specs.Bytes.{bytes_at, little}
+use Rattle.nv_memory.specs.Code.{code_start}
 use Rattle.nv_memory.specs.Region.{holds}
 
 -- what stands where nothing is kept
@@ -34,6 +35,10 @@ place_of start address = (address + (2 ^ 32 - start)) % 2 ^ 32 / 4
 abbrev pub kept : ℕ → List Insn → ℕ → Option Insn
 kept start insns address = kept_at insns (place_of start address)
 
+-- at each place an instruction has small registers, whether it is kept or not
+abbrev pub AreSmall : List Insn → Type 0
+AreSmall insns = (k : ℕ) → HasSmallRegisters (slice_index_or insns k blank)
+
 -- the word at the address may be executed, and spells the instruction
 pub record IsInsn (bytes : List ℕ) (regions : List Region) (a : ℕ) (i : Insn) : Type 0 where
   pub held : holds regions a 4 Execute ≡ true
@@ -42,13 +47,16 @@ pub record IsInsn (bytes : List ℕ) (regions : List Region) (a : ℕ) (i : Insn
 
 -- each that is kept is the instruction of its word
 pub record AreDecoded (start : ℕ) (insns : List Insn) (bytes : List ℕ) (regions : List Region) : Type 0 where
+  pub begins : start ≡ code_start regions
   pub aligned : start % 4 ≡ 0
   pub fits : start + 4 * length insns ≤ 2 ^ 32
+  pub small : AreSmall insns
   pub are : (k : ℕ) (i : Insn) → kept_at insns k ≡ Some i → IsInsn bytes regions (start + 4 * k) i
 
 -- no more is kept than before, and nothing at the places from the first to below the last
 pub record ArePlaces (first : ℕ) (last : ℕ) (before : List Insn) (after : List Insn) : Type 0 where
   pub length : length after ≡ length before
+  pub small : AreSmall before → AreSmall after
   pub are : (k : ℕ) (i : Insn) → kept_at after k ≡ Some i → (kept_at before k ≡ Some i) × ((k < first) ⊎ (last ≤ k))
 
 -- the word at the address doesn't meet the range
@@ -56,5 +64,6 @@ abbrev pub IsApart : ℕ → ℕ → ℕ → Type 0
 IsApart a from to = (a + 4 ≤ from) ⊎ (to ≤ a)
 
 -- no more is kept than before, and nothing of a word that meets the range
-abbrev pub Remain : ℕ → ℕ → ℕ → List Insn → List Insn → Type 0
-Remain start from to before after = (k : ℕ) (i : Insn) → kept_at after k ≡ Some i → (kept_at before k ≡ Some i) × IsApart (start + 4 * k) from to
+pub record Remain (start : ℕ) (from : ℕ) (to : ℕ) (before : List Insn) (after : List Insn) : Type 0 where
+  pub small : AreSmall before → AreSmall after
+  pub are : (k : ℕ) (i : Insn) → kept_at after k ≡ Some i → (kept_at before k ≡ Some i) × IsApart (start + 4 * k) from to

@@ -8,13 +8,13 @@ use Rattle.nv_machine.proofs.stepping.step.Goals as goal
 pub returns-in-Some-clause-step : goal.returns-in-Some-clause-step
 returns-in-Some-clause-step c =
     let there = ap (λ (r : Registers). insn_at c.args.memory.now r.pc) (sym c.regs.view_is) in
-    c.execute.ensures ∙ sym (known_step (record { regs = c.args.regs.now; memory = c.args.memory.now }) c.in-Some.insn (there ∙ c.in-Some.ensures.insn))
+    c.carry_out.ensures ∙ sym (known_step (record { regs = c.args.regs.now; memory = c.args.memory.now }) c.in-Some.insn (there ∙ c.in-Some.ensures.insn))
 
 pub returns-in-Some-clause-registers_rest : goal.returns-in-Some-clause-registers_rest
-returns-in-Some-clause-registers_rest c = λ n. ap (λ (m : Machine). m.regs) (rests c.execute.result (record { regs = c.execute.new.regs; memory = c.execute.new.memory }) (record { regs = c.args.regs.now; memory = c.args.memory.now }) (returns-in-Some-clause-step c) n)
+returns-in-Some-clause-registers_rest c = λ n. ap (λ (m : Machine). m.regs) (rests c.carry_out.result (record { regs = c.carry_out.new.regs; memory = c.carry_out.new.memory }) (record { regs = c.args.regs.now; memory = c.args.memory.now }) (returns-in-Some-clause-step c) n)
 
 pub returns-in-Some-clause-memory_rests : goal.returns-in-Some-clause-memory_rests
-returns-in-Some-clause-memory_rests c = λ n. ap (λ (m : Machine). m.memory) (rests c.execute.result (record { regs = c.execute.new.regs; memory = c.execute.new.memory }) (record { regs = c.args.regs.now; memory = c.args.memory.now }) (returns-in-Some-clause-step c) n)
+returns-in-Some-clause-memory_rests c = λ n. ap (λ (m : Machine). m.memory) (rests c.carry_out.result (record { regs = c.carry_out.new.regs; memory = c.carry_out.new.memory }) (record { regs = c.args.regs.now; memory = c.args.memory.now }) (returns-in-Some-clause-step c) n)
 
 pub returns-in-None-clause-registers_rest : goal.returns-in-None-clause-registers_rest
 returns-in-None-clause-registers_rest c = λ n. ap (λ (m : Machine). m.regs) (rests c.step_anew.result (record { regs = c.step_anew.new.regs; memory = c.step_anew.new.memory }) (record { regs = c.args.regs.now; memory = c.args.memory.now }) c.step_anew.ensures n)

@@ -8,7 +8,7 @@ pub returns-in-Ok-Some : goal.returns-in-Ok-Some
 returns-in-Ok-Some c =
     let found = rw c.in-Ok-Some.field-0-is at c.in-Ok-Some.ensures.insn in
     let there = ap (λ (r : Registers). insn_at c.args.memory.now r.pc) c.regs.view_is in
-    c.execute.ensures ∙ sym (found_anew c.args.regs.now c.args.memory.now c.insn.new.self (Ok (Some c.in-Ok-Some.insn)) (found ∙ there) c.insn.ensures.same)
+    c.carry_out.ensures ∙ sym (found_anew c.args.regs.now c.args.memory.now c.insn.new.self (Ok (Some c.in-Ok-Some.insn)) (found ∙ there) c.insn.ensures.same)
 
 pub returns-in-Ok-None : goal.returns-in-Ok-None
 returns-in-Ok-None c =

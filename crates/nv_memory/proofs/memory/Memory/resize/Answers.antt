@@ -22,5 +22,5 @@ invariant_of-self c =
     let by_one = rw (c.stop-stop.ensures, c.forget.ensures.start, c.forget.ensures.length, c.min.ensures, c.max.ensures, was) at c.look.ensures.looked in
     let low = min (end_of now.regions.items c.args.region) c.args.end in
     let high = max (end_of now.regions.items c.args.region) c.args.end in
-    let looked = looked_by_one (set_end now.regions.items c.args.region c.args.end) c.region_at-moved.result now.decoded.start (now.decoded.start + 4 * length now.decoded.insns.items) (low / 1024) (high / 1024 + 1) now.rights.parts.items c.look.new.self.parts.items one by_one in
+    let looked = looked_by_one (set_end now.regions.items c.args.region c.args.end) c.region_at-moved.result now.decoded.start (now.decoded.start + 4 * length now.decoded.insns.items) (low / 256) (high / 256 + 1) now.rights.parts.items c.look.new.self.parts.items one by_one in
     sound_as_resized now.decoded.start c.forget.new.self.start c.args.region c.args.end now.bytes.len now.regions.len now.decoded.insns.items c.forget.new.self.insns.items now.bytes.items c.cut.new.bytes now.regions.items c.move_end.new.regions now.rights.parts.items c.look.new.self.parts.items c.self.invariant are bytes_all bytes_cut regions_all moved_all moved c.forget.ensures.start c.forget.ensures.length left c.look.ensures.length looked

@@ -1,0 +1,22 @@
+use Rattle.std.proofs.Common.{◌-◌, ◌∙◌, ap, sym}
+use Rattle.nv_machine.specs.Registers.{Registers}
+use Rattle.nv_machine.specs.Went.{ended, at_pc}
+use Rattle.nv_guest.specs.Guest.{machine_with}
+use Rattle.nv_guest.specs.Threads.{run, more}
+use Rattle.nv_guest.proofs.Known.{next_at, ends_at, Carried}
+use Rattle.nv_guest.proofs.threads.run_known.Goals as goal
+
+pub returns-then-not-goes_on-clause-ran : goal.returns-then-not-goes_on-clause-ran
+returns-then-not-goes_on-clause-ran c =
+    let l = c.loop-count in
+    let next = c.execute-went.new in
+    let went : Carried c.code_start-start.result l.at c.address_of-pc.result (ended c.execute-went.result) (machine_with (at_pc next.regs next.pc) next.memory) l.regs l.memory c.in-Some.insn = record { stood = c.address_of-pc.ensures; known = c.in-Some.ensures.insn; done = c.execute-went.ensures.effect } in
+    ends_at c.args.most l.count c.code_start-start.result l.at c.address_of-pc.result next.pc (machine_with c.args.regs.now c.args.memory.now) (ended c.execute-went.result) l.regs next.regs l.memory next.memory c.in-Some.insn l.invariant went (λ e. cc (c.goes_on.ensures.1 e, c.if-not-goes_on.true))
+    ∙ ap (λ (r : Registers). more l.count (run (c.args.most - l.count) (machine_with (at_pc r next.pc) next.memory))) (sym c.regs-in-loop-count-2.view_is)
+
+pub loop-count-preserved : goal.loop-count-preserved
+loop-count-preserved c =
+    let l = c.loop-count in
+    let next = c.execute-went.new in
+    let went : Carried c.code_start-start.result l.at c.address_of-pc.result (ended c.execute-went.result) (machine_with (at_pc next.regs next.pc) next.memory) l.regs l.memory c.in-Some.insn = record { stood = c.address_of-pc.ensures; known = c.in-Some.ensures.insn; done = c.execute-went.ensures.effect } in
+    next_at c.args.most l.count c.code_start-start.result l.at c.address_of-pc.result c.next_place-at.result next.pc (machine_with c.args.regs.now c.args.memory.now) (ended c.execute-went.result) l.regs next.regs l.memory next.memory c.in-Some.insn l.invariant c.loop-count-test.true went (c.goes_on.ensures.0 c.if-not-goes_on.false) c.next_place-at.ensures
