@@ -156,8 +156,8 @@ module _ (judges : ℕ → Judge) {K : Type 0} {G : Ghosts K} (room : Room K) (m
   left_at i (f ∷ fs) (v ∷ vs) (m ∷ ls) r (suc k) l e = let q = left_at (i + 1) fs vs ls r.1 k l e in (q.0, (let at = q.1 in omega arith))
 
   -- the seat of each version has left, once
-  pub is_each : (fs vs : List (Running Proc)) (ls : List (Left K G)) → AllRan judges room most fs vs ls → IsEach room ls
-  is_each fs vs ls a = (
+  pub is_each : {fs vs : List (Running Proc)} {ls : List (Left K G)} → AllRan judges room most fs vs ls → IsEach room ls
+  is_each {fs} {vs} {ls} a = (
     record {
       table = λ k l e. (left_at 0 fs vs ls a.ran k l e).0;
       apart = λ j k l m e f s. let p = (left_at 0 fs vs ls a.ran j l e).1 in let q = (left_at 0 fs vs ls a.ran k m f).1 in omega arith;
@@ -207,10 +207,10 @@ module _ (judges : ℕ → Judge) {K : Type 0} {G : Ghosts K} (room : Room K) (m
   }
 
   -- what `end` promises
-  pub accounted : (start : Start) (h : List Entry) (counts : List ℕ) (fs vs : List (Running Proc)) (ls : List (Left K G)) → AllRan judges room most fs vs ls → IsLawful h → IsLegal start h
-      → AllTell (map spell h) counts ls → length counts ≡ versions_of room
+  pub accounted : {fs vs : List (Running Proc)} {ls : List (Left K G)} → AllRan judges room most fs vs ls → (start : Start) (h : List Entry) {counts : List ℕ}
+      → IsLawful h → IsLegal start h → AllTell (map spell h) counts ls → length counts ≡ versions_of room
       → IsAccount threads judges start most (hands_of room) fs vs h
-  accounted start h counts fs vs ls a law legal t wide =
+  accounted {fs} {vs} {ls} a start h {counts} law legal t wide =
       let d : View K = first_view room 0 in
       let long = long_run judges room most 0 fs vs ls a.ran in
       let all : length vs ≡ versions_of room = long.1 ∙ (sym long.0 ∙ a.all) in

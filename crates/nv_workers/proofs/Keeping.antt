@@ -1,6 +1,6 @@
 -- What a worker's version keeps from turn to turn.
-use Rattle.std.proofs.Common.{◌≡◌, ◌∙◌, sym, ap, subst, refl, ℕ, ◌+◌, ◌<◌, ◌≤◌, ◌⊎◌, inl, inr, Bool, true, false, List, [], ◌∷◌, ◌++◌, length, take, Option, Some, None, arith, append-nil, length-append}
-use Rattle.std.specs.Prelude.{slice_get, nat_le, not, ◌&&◌, if◌then◌else◌}
+use Rattle.std.proofs.Common.{◌≡◌, ◌∙◌, sym, ap, subst, refl, inl, inr, arith, append-nil, length-append}
+use Rattle.std.specs.Prelude.{ℕ, ◌+◌, ◌<◌, ◌≤◌, ◌⊎◌, Bool, true, false, List, [], ◌∷◌, ◌++◌, length, take, Option, Some, None, slice_get, nat_le, not, ◌&&◌, if◌then◌else◌}
 use Rattle.std.proofs.lemmas.Bool.Decides.{nat_tests}
 use Rattle.nv_calls.specs.Calls.{Entry}
 use Rattle.nv_calls.specs.Logs.{Start, IsLawful, live_after, served}
@@ -140,8 +140,8 @@ module _ {P : Type 0} (g : Behaviour P) (laws : IsProcess g) (judges : ℕ → J
       subst (λ (x : Entry). Reaches (track_next g (judges i) led (log ++ x ∷ [])) (fresh p) at) k r
 
   -- the next event comes
-  pub with_next_held : (i : ℕ) (p : P) (v : Running P) (log : List Entry) (e : Entry) → Reading i p v log None → Reading i p v log (Some e)
-  with_next_held i p v log e r =
+  pub with_next_held : {i : ℕ} {p : P} {v : Running P} {log : List Entry} (e : Entry) → Reading i p v log None → Reading i p v log (Some e)
+  with_next_held {i} {p} {v} {log} e r =
       let q = with_held i p v.led v.at log e None (inl refl) (reaches (track_next g (judges i) v.led (log ++ held_list None)) (fresh p) v.at r.stage) in
       record {
         index = r.index;
@@ -157,10 +157,10 @@ module _ {P : Type 0} (g : Behaviour P) (laws : IsProcess g) (judges : ℕ → J
       }
 
   -- one decision on it
-  pub decides : (i : ℕ) (p : P) (v new : Running P) (log : List Entry) (e : Entry) (held : Option Entry) → Reading i p v log held → (held ≡ None) ⊎ (held ≡ Some e)
+  pub decides : {i : ℕ} {p : P} {v new : Running P} {log : List Entry} (e : Entry) {held : Option Entry} → Reading i p v log held → (held ≡ None) ⊎ (held ≡ Some e)
       → IsLawful (log ++ e ∷ []) → new ≡ record v { at = decided g (judges i) e v.at }
       → IsStage (track_next g (judges i) new.led (log ++ e ∷ [])) (fresh p) new.at × IsInStep g (log ++ e ∷ []) new.at
-  decides i p v new log e held r h law k =
+  decides {i} {p} {v} {new} {log} e {held} r h law k =
       let at : slice_get (log ++ e ∷ []) v.at.seen ≡ Some e = ap (slice_get (log ++ e ∷ [])) r.seen ∙ get_last log e in
       let a : new.at ≡ decided g (judges i) e v.at = ap (λ (x : Running P). x.at) k in
       let b : new.led ≡ v.led = ap (λ (x : Running P). x.led) k in
@@ -176,7 +176,7 @@ module _ {P : Type 0} (g : Behaviour P) (laws : IsProcess g) (judges : ℕ → J
         subst (λ (x : Follower P). IsInStep g (log ++ e ∷ []) x) (sym a) s,
       )
 
-  module _ (i : ℕ) (p : P) (v new : Running P) (log : List Entry) (e : Entry) (held : Option Entry) (r : Reading i p v log held) (h : (held ≡ None) ⊎ (held ≡ Some e))
+  module _ {i : ℕ} {p : P} {v new : Running P} {log : List Entry} (e : Entry) {held : Option Entry} (r : Reading i p v log held) (h : (held ≡ None) ⊎ (held ≡ Some e))
       (law : IsLawful (log ++ e ∷ [])) (k : new ≡ record v { at = decided g (judges i) e v.at }) where
     led_same : new.led ≡ v.led
     led_same = ap (λ (x : Running P). x.led) k
@@ -197,7 +197,7 @@ module _ {P : Type 0} (g : Behaviour P) (laws : IsProcess g) (judges : ℕ → J
     -- Matched, Skipped: the seen list grows
     pub reads_on : new.at.seen ≡ v.at.seen + 1 → new.at.fate ≡ None → Reading i p new (log ++ e ∷ []) None
     reads_on s n =
-        let d = decides i p v new log e held r h law k in
+        let d = decides e r h law k in
         let l : v.at.seen ≤ new.at.seen = omega (arith, s) in record {
           index = ap (λ (x : Running P). x.index) k ∙ r.index;
           on = n;
@@ -214,7 +214,7 @@ module _ {P : Type 0} (g : Behaviour P) (laws : IsProcess g) (judges : ℕ → J
     -- Rewrote: the event is held
     pub reads_held : new.at.seen ≡ v.at.seen → new.at.fate ≡ None → Reading i p new log (Some e)
     reads_held s n =
-        let d = decides i p v new log e held r h law k in
+        let d = decides e r h law k in
         let l : v.at.seen ≤ new.at.seen = omega (arith, s) in
         let w : new.at.seen ≤ length log = omega (arith, s, r.seen) in
         let t : take new.at.seen (log ++ e ∷ []) ≡ take new.at.seen log = take_prefix_of log (e ∷ []) new.at.seen w in record {
@@ -237,8 +237,8 @@ module _ {P : Type 0} (g : Behaviour P) (laws : IsProcess g) (judges : ℕ → J
   Led i p v led from log = HasLedFrom g judges replies most hands i p v led from log
 
   -- the reader takes the lead
-  pub takes : (i : ℕ) (p : P) (v : Running P) (log : List Entry) → Reading i p v log None → Serving i p (with_span v (length log)) v.led (length log) log
-  takes i p v log r =
+  pub takes : {i : ℕ} {p : P} {v : Running P} {log : List Entry} → Reading i p v log None → Serving i p (with_span v (length log)) v.led (length log) log
+  takes {i} {p} {v} {log} r =
       let q : Reaches (track_next g (judges i) v.led log) (fresh p) v.at = subst (λ (x : List Entry). Reaches (track_next g (judges i) v.led x) (fresh p) v.at) (append-nil log)
       (reaches (track_next g (judges i) v.led (log ++ [])) (fresh p) v.at r.stage) in
       let rest : track_next g (judges i) v.led log v.at ≡ v.at = next_after g (judges i) v.led log v.at r.past ∙ rests g laws (judges i) log v.at (inl (omega (arith, r.seen))) in
@@ -281,9 +281,9 @@ module _ {P : Type 0} (g : Behaviour P) (laws : IsProcess g) (judges : ℕ → J
   is_cut_of c f n u = record { below = u.below; end = u.end }
 
   -- a leader's turn
-  pub leads_on : (i : ℕ) (p : P) (v new : Running P) (led : List (ℕ × ℕ)) (from : ℕ) (log more : List Entry) → Serving i p v led from log
+  leads_on : {i : ℕ} {p : P} {v new : Running P} {led : List (ℕ × ℕ)} {from : ℕ} {log : List Entry} (more : List Entry) → Serving i p v led from log
       → TookTurn g replies most v new log (log ++ more) → Led i p new led from (log ++ more)
-  leads_on i p v new led from log more s t =
+  leads_on {i} {p} {v} {new} {led} {from} {log} more s t =
       let o = s.led_from in
       let prefix : take from (log ++ more) ≡ take from log = take_prefix_of log more from o.within in
       let start : Leader P = leader_begun g judges i p led (take from log) in record {
@@ -307,38 +307,38 @@ module _ {P : Type 0} (g : Behaviour P) (laws : IsProcess g) (judges : ℕ → J
         in_step = t.on.in_step;
       }
 
-  pub leading : (i : ℕ) (p : P) (v : Running P) (led : List (ℕ × ℕ)) (from : ℕ) (log : List Entry) → Serving i p v led from log → IsLiveLeader v
-  leading i p v led from log s = record { on = s.on; leading = s.led_from.leading; none_asked = s.none_asked }
+  pub leading : {i : ℕ} {p : P} {v : Running P} {led : List (ℕ × ℕ)} {from : ℕ} {log : List Entry} → Serving i p v led from log → IsLiveLeader v
+  leading s = record { on = s.on; leading = s.led_from.leading; none_asked = s.none_asked }
 
-  same_log : (i : ℕ) (p : P) (new : Running P) (led : List (ℕ × ℕ)) (from : ℕ) (log : List Entry) → Led i p new led from (log ++ []) → Led i p new led from log
-  same_log i p new led from log h = subst (λ (x : List Entry). Led i p new led from x) (append-nil log) h
+  same_log : {i : ℕ} {p : P} {new : Running P} {led : List (ℕ × ℕ)} {from : ℕ} {log : List Entry} → Led i p new led from (log ++ []) → Led i p new led from log
+  same_log {i} {p} {new} {led} {from} {log} h = subst (λ (x : List Entry). Led i p new led from x) (append-nil log) h
 
   -- it was dropped at its advance
-  pub drops : (i : ℕ) (p : P) (v new : Running P) (led : List (ℕ × ℕ)) (from : ℕ) (log : List Entry) → Serving i p v led from log → new ≡ asking_next g most v → new.asked ≡ None
+  pub drops : {i : ℕ} {p : P} {v new : Running P} {led : List (ℕ × ℕ)} {from : ℕ} {log : List Entry} → Serving i p v led from log → new ≡ asking_next g most v → new.asked ≡ None
       → Led i p new led from log
-  drops i p v new led from log s k a =
-      let t = turn_dropped g laws replies most v log new (leading i p v led from log s) s.led_from.seen s.led_from.in_step k a in
-      same_log i p new led from log (leads_on i p v new led from log [] s (subst (λ (x : List Entry). TookTurn g replies most v new log x) (sym (append-nil log)) t))
+  drops {v = v} {new = new} {log = log} s k a =
+      let t = turn_dropped g laws replies most v log new (leading s) s.led_from.seen s.led_from.in_step k a in
+      same_log (leads_on [] s (subst (λ (x : List Entry). TookTurn g replies most v new log x) (sym (append-nil log)) t))
 
   abbrev Asking : ℕ → P → Running P → List (ℕ × ℕ) → ℕ → List Entry → Type 0
   Asking i p v led from log = IsAsking g judges replies most hands i p v led from log
 
   -- memory was refused
-  pub refuses : (i : ℕ) (p : P) (v new : Running P) (t : ℕ) (led : List (ℕ × ℕ)) (from : ℕ) (log : List Entry) → Asking i p v led from log → v.asked ≡ Some t
+  pub refuses : {i : ℕ} {p : P} {v new : Running P} {t : ℕ} {led : List (ℕ × ℕ)} {from : ℕ} {log : List Entry} → Asking i p v led from log → v.asked ≡ Some t
       → new ≡ record v { at = record v.at { fate = Some Memory } } → Led i p new led from log
-  refuses i p v new t led from log s a k =
-      let u = turn_refused g laws replies most s.before log v new t (leading i p s.before led from log s.serving) s.serving.led_from.seen s.serving.led_from.in_step s.asking a k in
-      same_log i p new led from log (leads_on i p s.before new led from log [] s.serving (subst (λ (x : List Entry). TookTurn g replies most s.before new log x) (sym (append-nil log)) u))
+  refuses {v = v} {new = new} {t = t} {log = log} s a k =
+      let u = turn_refused g laws replies most s.before log v new t (leading s.serving) s.serving.led_from.seen s.serving.led_from.in_step s.asking a k in
+      same_log (leads_on [] s.serving (subst (λ (x : List Entry). TookTurn g replies most s.before new log x) (sym (append-nil log)) u))
 
   -- the call was served, published and answered
-  pub publishes : (i : ℕ) (p : P) (v new : Running P) (t : ℕ) (led : List (ℕ × ℕ)) (from : ℕ) (log : List Entry) → Asking i p v led from log → v.asked ≡ Some t
+  pub publishes : {i : ℕ} {p : P} {v new : Running P} {t : ℕ} {led : List (ℕ × ℕ)} {from : ℕ} {log : List Entry} → Asking i p v led from log → v.asked ≡ Some t
       → new ≡ became_event g (served replies log (g.call v.at.process t)) v → IsLawful (log ++ served replies log (g.call v.at.process t) ∷ [])
       → Led i p new led from (log ++ served replies log (g.call v.at.process t) ∷ [])
-  publishes i p v new t led from log s a k law =
+  publishes {v = v} {new = new} {t = t} {log = log} s a k law =
       let e = served replies log (g.call v.at.process t) in
-      let u = turn_served g laws replies most s.before log v new t (log ++ e ∷ []) (leading i p s.before led from log s.serving) s.serving.led_from.seen s.serving.led_from.in_step
+      let u = turn_served g laws replies most s.before log v new t (log ++ e ∷ []) (leading s.serving) s.serving.led_from.seen s.serving.led_from.in_step
       s.asking a refl k law in
-      leads_on i p s.before new led from log (e ∷ []) s.serving u
+      leads_on (e ∷ []) s.serving u
 
   -- after its last part, which ends where the log does, the version gives up the lead
   gave_up : (i : ℕ) (p : P) (v : Running P) (led : List (ℕ × ℕ)) (from : ℕ) (log : List Entry) → Led i p v led from log → v.at.fate ≡ None → from < length log
@@ -360,9 +360,9 @@ module _ {P : Type 0} (g : Behaviour P) (laws : IsProcess g) (judges : ℕ → J
             sym (hand_is g replies most c hands from laws (leader_begun g judges i p led (take from log)) l r (handed_rests g replies most c hands from l hd)) ∙ l0;
       }
 
-  pub gives_up : (i : ℕ) (p : P) (v : Running P) (led : List (ℕ × ℕ)) (from : ℕ) (log : List Entry) → IsServing g judges replies most hands true i p v led from log
+  pub gives_up : {i : ℕ} {p : P} {v : Running P} {led : List (ℕ × ℕ)} {from : ℕ} {log : List Entry} → IsServing g judges replies most hands true i p v led from log
       → Reading i p (record v { leading = false }) log None
-  gives_up i p v led from log sv =
+  gives_up {i} {p} {v} {led} {from} {log} sv =
       let s = sv.led_from in
       let hd = handed_at hands from (leader_of v log) sv.handed in
       let n = sv.on in
@@ -402,13 +402,13 @@ module _ {P : Type 0} (g : Behaviour P) (laws : IsProcess g) (judges : ℕ → J
       }
 
   -- whether it leads on
-  pub serves_on : (i : ℕ) (p : P) (v : Running P) (led : List (ℕ × ℕ)) (from : ℕ) (log : List Entry) → Led i p v led from log → v.at.fate ≡ None → v.asked ≡ None
+  pub serves_on : {i : ℕ} {p : P} {v : Running P} {led : List (ℕ × ℕ)} {from : ℕ} {log : List Entry} → Led i p v led from log → v.at.fate ≡ None → v.asked ≡ None
       → has hands (length log) ≡ false → Serving i p v led from log
-  serves_on i p v led from log s n a h = record { on = n; none_asked = a; handed = stays_unplanned hands from (leader_of v log) h; led_from = s }
+  serves_on {v = v} {from = from} {log = log} s n a h = record { on = n; none_asked = a; handed = stays_unplanned hands from (leader_of v log) h; led_from = s }
 
-  pub serves_to : (i : ℕ) (p : P) (v : Running P) (led : List (ℕ × ℕ)) (from : ℕ) (log : List Entry) → Led i p v led from log → v.at.fate ≡ None → v.asked ≡ None
+  pub serves_to : {i : ℕ} {p : P} {v : Running P} {led : List (ℕ × ℕ)} {from : ℕ} {log : List Entry} → Led i p v led from log → v.at.fate ≡ None → v.asked ≡ None
       → from < length log → has hands (length log) ≡ true → IsServing g judges replies most hands true i p v led from log
-  serves_to i p v led from log s n a m h = record { on = n; none_asked = a; handed = hands_planned hands from (leader_of v log) n m h; led_from = s }
+  serves_to {v = v} {from = from} {log = log} s n a m h = record { on = n; none_asked = a; handed = hands_planned hands from (leader_of v log) n m h; led_from = s }
 
   by_test : (b : Bool) (r s : Running P) (t : ℕ) → r.asked ≡ None → s.at.fate ≡ None → (if b then r else s).asked ≡ Some t → (if b then r else s).at.fate ≡ None
   by_test true r s t a f h = let e = sym a ∙ h in cc
@@ -420,9 +420,9 @@ module _ {P : Type 0} (g : Behaviour P) (laws : IsProcess g) (judges : ℕ → J
   asked_by r q (Asked u) t f a h = by_test (nat_le most r.at.seen) _ _ t a f h
 
   -- a version that asks has no fate
-  pub asking_on : (i : ℕ) (p : P) (v : Running P) (led : List (ℕ × ℕ)) (from : ℕ) (log : List Entry) (t : ℕ) → Asking i p v led from log → v.asked ≡ Some t → v.at.fate ≡ None
+  pub asking_on : {i : ℕ} {p : P} {v : Running P} {led : List (ℕ × ℕ)} {from : ℕ} {log : List Entry} {t : ℕ} → Asking i p v led from log → v.asked ≡ Some t → v.at.fate ≡ None
   unfolding asking_next
-  asking_on i p v led from log t a k =
+  asking_on {t = t} a k =
       let b = a.before in
       let h : (asking_next g most b).asked ≡ Some t = ap (λ (x : Running P). x.asked) (sym a.asking) ∙ k in
       ap (λ (x : Running P). x.at.fate) a.asking ∙ asked_by b (g.after b.at.process Any) (g.came b.at.process Any) t a.serving.on a.serving.none_asked h

@@ -55,118 +55,115 @@ all_handed : (xs : List Span) (x : Span) → AreHandedOn xs → x.handed ≡ tru
 all_handed [] x a h = (h, tt)
 all_handed (y ∷ xs) x a h = (a.0, all_handed xs x a.1 h)
 
+module _ {judges : ℕ → Judge} {K : Type 0} {G : Ghosts K} {room : Room K} {most : ℕ} {p : Proc} {v : Running Proc} {r : Reader K G} {buf : List ℕ}
+    (f : FollowsOn judges room most p v r false buf) where
+  pub follows_now : IsFollowing v
+  follows_now = let b = bare_reading f in record { on = b.on; idle = b.idle }
+
+  -- it has led no more parts than lengths are planned
+  pub few_led : length v.led ≤ length (hands_of room)
+  few_led = let b = bare_reading f in let q = b.few in omega arith
+
+  pub takes_lead : (l : Lead K G) (new : Running Proc) → IsLeadOf room l
+      → version_of_lead l ≡ version_of_reader r → lead_view l ≡ as_lead (view r) → due_of l ≡ false
+      → map spell (G.log (kernel_of l)) ≡ (view r).seen → IsLawful (G.log (kernel_of l))
+      → new ≡ with_span v v.at.seen → LeadsOn judges room most p new false l None
+  takes_lead l new of version w due spelt law k =
+      let b = bare f in
+      let log : List Entry = G.log (kernel_of l) in
+      let before : List Span = (view r).spans in
+      let same : b.log ≡ log = same_spelt b.log log b.lawful law (b.spelt ∙ sym spelt) in
+      let S : ℕ → List Entry → List (ℕ × ℕ) → Type 0 = λ i x led. FromAny x (λ start. IsServing threads judges start most (hands_of room) false i p (with_span v (length x)) led (length x) x) in
+      let s : S (version_of_reader r) b.log v.led = λ start legal. takes threads thread_laws judges start most (hands_of room) (b.reading start legal) in
+      let s1 : S (version_of_reader r) b.log (map ends_of before) = subst (λ (x : List (ℕ × ℕ)). S (version_of_reader r) b.log x) b.led s in
+      let s2 : S (version_of_lead l) log (map ends_of before) = subst (λ (i : ℕ). S i log (map ends_of before)) (sym version)
+      (subst (λ (x : List Entry). S (version_of_reader r) x (map ends_of before)) same s1) in
+      let long : v.at.seen ≡ length log = (bare_reading f).seen ∙ ap (λ (x : List Entry). length x) same in
+      let new' : with_span v (length log) ≡ new = sym (k ∙ ap (λ (n : ℕ). with_span v n) long) in
+      let seen : (lead_view l).seen ≡ (view r).seen = ap (λ (x : View K). x.seen) w in
+      let as_long : length (view r).seen ≡ length log = sym (ap (λ (x : List (List ℕ)). length x) spelt) ∙ long_as log in
+      let at : (view r).station ≡ station_of_lead l = sym (ap (λ (x : View K). x.station) w) ∙ l.station_is in
+      let who : (view r).version ≡ version_of_lead l = sym (ap (λ (x : View K). x.version) w) ∙ l.version_is in
+      let spans : (lead_view l).spans ≡ before ++ span (view r).station (view r).version (length (view r).seen) (length (view r).seen) ∷ [] = ap (λ (x : View K). x.spans) w in
+      record {
+        of = of;
+        none_due = due;
+        none_wrote = no_length (lead_view l).wrote (l.wrote_is ∙ l.quiet due);
+        before = before;
+        from = length log;
+        spelt = spelt ∙ sym seen;
+        lawful = law;
+        spans = spans ∙ (λ i. before ++ span (at i) (who i) (as_long i) (length (sym seen i)) ∷ []);
+        handed_on = b.handed_on;
+        serves = subst (λ (x : Running Proc). FromAny log (λ start. IsServing threads judges start most (hands_of room) false (version_of_lead l) p x (map ends_of before) (length log) log)) new' s2;
+      }
+
+module _ {judges : ℕ → Judge} {K : Type 0} {G : Ghosts K} {room : Room K} {most : ℕ} {p : Proc} {v : Running Proc} {l : Lead K G} (f : LeadsOn judges room most p v true l None) where
+  abbrev log : List Entry
+  log = G.log (kernel_of l)
+
+  -- what holds from whatever start
+  abbrev serving : IsServing threads judges (as_told log) most (hands_of room) true (version_of_lead l) p v (map ends_of f.before) f.from log
+  serving = f.serves (as_told log) (legal_told log f.lawful)
+
+  pub leads_now : IsLiveLeader v
+  leads_now = record { on = serving.on; leading = serving.led_from.leading; none_asked = serving.none_asked }
+
+  long_seen : length (lead_view l).seen ≡ length log
+  long_seen = sym (ap (λ (x : List (List ℕ)). length x) f.spelt) ∙ long_as log
+
+  -- the log has come to a planned length
+  pub planned_now : Has (hands_of room) (length (lead_view l).seen)
+  planned_now = has_at (hands_of room) (length (lead_view l).seen) (ap (has (hands_of room)) long_seen ∙ (handed_at (hands_of room) f.from (leader_of v log) serving.handed).planned)
+
+  -- it has published an event
+  pub led_now : LastHasEvent (lead_view l).spans
+  led_now = (
+    f.before,
+    span (station_of_lead l) (version_of_lead l) f.from (length (lead_view l).seen),
+    f.spans,
+    (let g = (handed_at (hands_of room) f.from (leader_of v log) serving.handed).grew in omega (arith, long_seen)),
+  )
+
+  -- the version follows on from here
+  pub gives_lead : (r : Reader K G) (new : Running Proc) (buf : List ℕ) → IsOfRoom room r → version_of_reader r ≡ version_of_lead l → (view r).seen ≡ (lead_view l).seen
+      → (view r).read ≡ [] → (view r).spans ≡ handed_on (lead_view l).spans → new ≡ record v { leading = false } → FollowsOn judges room most p new r false buf
+  gives_lead r new buf of version seen read spans k =
+      let last : Span = span (station_of_lead l) (version_of_lead l) f.from (length (lead_view l).seen) in
+      let all : (view r).spans ≡ f.before ++ (record last { handed = true }) ∷ [] = spans ∙ (ap handed_on f.spans ∙ handed_last f.before last) in
+      let R : ℕ → Running Proc → Type 0 = λ i x. FromAny log (λ start. IsReaders threads judges start most (hands_of room) i p x log None) in
+      let reading : R (version_of_lead l) (record v { leading = false }) = λ start legal.
+      gives_up threads thread_laws judges start most (hands_of room) (f.serves start legal) in
+      record {
+        of = of;
+        log = log;
+        next = None;
+        spelt = f.spelt ∙ sym seen;
+        lawful = subst IsLawful (sym (append-nil log)) f.lawful;
+        holds = read;
+        led = ap (λ (x : Running Proc). x.led) k ∙ (serving.led_from.span ∙ (ap (λ (n : ℕ). map ends_of f.before ++ (f.from, n) ∷ []) (sym long_seen)
+            ∙ (sym (map_append ends_of f.before ((record last { handed = true }) ∷ [])) ∙ ap (map ends_of) (sym all))));
+        handed_on = subst AreHandedOn (sym all) (all_handed f.before (record last { handed = true }) f.handed_on refl);
+        reading = subst (λ (i : ℕ). R i new) (sym version) (subst (λ (x : Running Proc). R (version_of_lead l) x) (sym k) reading);
+      }
+
+-- the seat of a version that has ended has left, under the same number
+module _ {judges : ℕ → Judge} {T : Type 0} {most : ℕ} {hands : List ℕ} {i j : ℕ} {p : Proc} {v : Running Proc} {w w2 : View T} (h : HasEnded judges most hands i p v w) where
+  -- of a reader
+  pub left_ended : j ≡ i → w2 ≡ as_gone w → HasEnded judges most hands j p v w2
+  left_ended same is =
+      let gone : HasEnded judges most hands i p v (as_gone w) = record { log = h.log; spelt = h.spelt; lawful = h.lawful; count = h.count; led = h.led; done = h.done } in
+      subst (λ (k : ℕ). HasEnded judges most hands k p v w2) (sym same) (subst (λ (x : View T). HasEnded judges most hands i p v x) (sym is) gone)
+
+  -- of a leader
+  pub given_ended : j ≡ i → (word : ℕ) → w2 ≡ as_gone (as_leaving w word) → HasEnded judges most hands j p v w2
+  given_ended same word is =
+      let gone : HasEnded judges most hands i p v (as_gone (as_leaving w word)) = record { log = h.log; spelt = h.spelt; lawful = h.lawful; count = h.count; led = h.led; done = h.done } in
+      subst (λ (k : ℕ). HasEnded judges most hands k p v w2) (sym same) (subst (λ (x : View T). HasEnded judges most hands i p v x) (sym is) gone)
+
+-- Workers as they are made
+
 module _ (judges : ℕ → Judge) where
-  module _ {T : Type 0} (most : ℕ) (hands : List ℕ) (i : ℕ) (p : Proc) (v : Running Proc) (w : View T) where
-    pub gone_now : HasEnded judges most hands i p v w → HasEnded judges most hands i p v (as_gone w)
-    gone_now h = record { log = h.log; spelt = h.spelt; lawful = h.lawful; count = h.count; led = h.led; done = h.done }
-
-    pub given_now : (word : ℕ) → HasEnded judges most hands i p v w → HasEnded judges most hands i p v (as_gone (as_leaving w word))
-    given_now word h = record { log = h.log; spelt = h.spelt; lawful = h.lawful; count = h.count; led = h.led; done = h.done }
-
-  module _ {K : Type 0} {G : Ghosts K} (room : Room K) (most : ℕ) (p : Proc) (v : Running Proc) (r : Reader K G) (buf : List ℕ) where
-    pub follows_now : FollowsOn judges room most p v r false buf → IsFollowing v
-    follows_now f = let b = bare_reading judges most room p v r buf f in record { on = b.on; idle = b.idle }
-
-    -- it has led no more parts than lengths are planned
-    pub few_led : FollowsOn judges room most p v r false buf → length v.led ≤ length (hands_of room)
-    few_led f = let b = bare_reading judges most room p v r buf f in let q = b.few in omega arith
-
-    pub takes_lead : FollowsOn judges room most p v r false buf → (l : Lead K G) (new : Running Proc) → IsLeadOf room l
-        → version_of_lead l ≡ version_of_reader r → lead_view l ≡ as_lead (view r) → due_of l ≡ false
-        → map spell (G.log (kernel_of l)) ≡ (view r).seen → IsLawful (G.log (kernel_of l))
-        → new ≡ with_span v v.at.seen → LeadsOn judges room most p new false l None
-    takes_lead f l new of version w due spelt law k =
-        let b = bare judges most room p v r buf f in
-        let log : List Entry = G.log (kernel_of l) in
-        let before : List Span = (view r).spans in
-        let same : b.log ≡ log = same_spelt b.log log b.lawful law (b.spelt ∙ sym spelt) in
-        let S : ℕ → List Entry → List (ℕ × ℕ) → Type 0 = λ i x led. FromAny x (λ start. IsServing threads judges start most (hands_of room) false i p (with_span v (length x)) led (length x) x) in
-        let s : S (version_of_reader r) b.log v.led = λ start legal. takes threads thread_laws judges start most (hands_of room) (version_of_reader r) p v b.log (b.reading start legal) in
-        let s1 : S (version_of_reader r) b.log (map ends_of before) = subst (λ (x : List (ℕ × ℕ)). S (version_of_reader r) b.log x) b.led s in
-        let s2 : S (version_of_lead l) log (map ends_of before) = subst (λ (i : ℕ). S i log (map ends_of before)) (sym version)
-        (subst (λ (x : List Entry). S (version_of_reader r) x (map ends_of before)) same s1) in
-        let long : v.at.seen ≡ length log = (bare_reading judges most room p v r buf f).seen ∙ ap (λ (x : List Entry). length x) same in
-        let new' : with_span v (length log) ≡ new = sym (k ∙ ap (λ (n : ℕ). with_span v n) long) in
-        let seen : (lead_view l).seen ≡ (view r).seen = ap (λ (x : View K). x.seen) w in
-        let as_long : length (view r).seen ≡ length log = sym (ap (λ (x : List (List ℕ)). length x) spelt) ∙ long_as log in
-        let at : (view r).station ≡ station_of_lead l = sym (ap (λ (x : View K). x.station) w) ∙ l.station_is in
-        let who : (view r).version ≡ version_of_lead l = sym (ap (λ (x : View K). x.version) w) ∙ l.version_is in
-        let spans : (lead_view l).spans ≡ before ++ span (view r).station (view r).version (length (view r).seen) (length (view r).seen) ∷ [] = ap (λ (x : View K). x.spans) w in
-        record {
-          of = of;
-          none_due = due;
-          none_wrote = no_length (lead_view l).wrote (l.wrote_is ∙ l.quiet due);
-          before = before;
-          from = length log;
-          spelt = spelt ∙ sym seen;
-          lawful = law;
-          spans = spans ∙ (λ i. before ++ span (at i) (who i) (as_long i) (length (sym seen i)) ∷ []);
-          handed_on = b.handed_on;
-          serves = subst (λ (x : Running Proc). FromAny log (λ start. IsServing threads judges start most (hands_of room) false (version_of_lead l) p x (map ends_of before) (length log) log)) new' s2;
-        }
-
-  module _ {K : Type 0} {G : Ghosts K} (room : Room K) (most : ℕ) (p : Proc) (v : Running Proc) (l : Lead K G) (f : LeadsOn judges room most p v true l None) where
-    abbrev log : List Entry
-    log = G.log (kernel_of l)
-
-    -- what holds from whatever start
-    abbrev serving : IsServing threads judges (as_told log) most (hands_of room) true (version_of_lead l) p v (map ends_of f.before) f.from log
-    serving = f.serves (as_told log) (legal_told log f.lawful)
-
-    pub leads_now : IsLiveLeader v
-    leads_now = record { on = serving.on; leading = serving.led_from.leading; none_asked = serving.none_asked }
-
-    long_seen : length (lead_view l).seen ≡ length log
-    long_seen = sym (ap (λ (x : List (List ℕ)). length x) f.spelt) ∙ long_as log
-
-    -- the log has come to a planned length
-    pub planned_now : Has (hands_of room) (length (lead_view l).seen)
-    planned_now = has_at (hands_of room) (length (lead_view l).seen) (ap (has (hands_of room)) long_seen ∙ (handed_at (hands_of room) f.from (leader_of v log) serving.handed).planned)
-
-    -- it has published an event
-    pub led_now : LastHasEvent (lead_view l).spans
-    led_now = (
-      f.before,
-      span (station_of_lead l) (version_of_lead l) f.from (length (lead_view l).seen),
-      f.spans,
-      (let g = (handed_at (hands_of room) f.from (leader_of v log) serving.handed).grew in omega (arith, long_seen)),
-    )
-
-    -- the version follows on from here
-    pub gives_lead : (r : Reader K G) (new : Running Proc) (buf : List ℕ) → IsOfRoom room r → version_of_reader r ≡ version_of_lead l → (view r).seen ≡ (lead_view l).seen
-        → (view r).read ≡ [] → (view r).spans ≡ handed_on (lead_view l).spans → new ≡ record v { leading = false } → FollowsOn judges room most p new r false buf
-    gives_lead r new buf of version seen read spans k =
-        let last : Span = span (station_of_lead l) (version_of_lead l) f.from (length (lead_view l).seen) in
-        let all : (view r).spans ≡ f.before ++ (record last { handed = true }) ∷ [] = spans ∙ (ap handed_on f.spans ∙ handed_last f.before last) in
-        let R : ℕ → Running Proc → Type 0 = λ i x. FromAny log (λ start. IsReaders threads judges start most (hands_of room) i p x log None) in
-        let reading : R (version_of_lead l) (record v { leading = false }) = λ start legal. gives_up threads thread_laws judges start most (hands_of room) (version_of_lead l) p v
-        (map ends_of f.before) f.from log (f.serves start legal) in
-        record {
-          of = of;
-          log = log;
-          next = None;
-          spelt = f.spelt ∙ sym seen;
-          lawful = subst IsLawful (sym (append-nil log)) f.lawful;
-          holds = read;
-          led = ap (λ (x : Running Proc). x.led) k ∙ (serving.led_from.span ∙ (ap (λ (n : ℕ). map ends_of f.before ++ (f.from, n) ∷ []) (sym long_seen)
-              ∙ (sym (map_append ends_of f.before ((record last { handed = true }) ∷ [])) ∙ ap (map ends_of) (sym all))));
-          handed_on = subst AreHandedOn (sym all) (all_handed f.before (record last { handed = true }) f.handed_on refl);
-          reading = subst (λ (i : ℕ). R i new) (sym version) (subst (λ (x : Running Proc). R (version_of_lead l) x) (sym k) reading);
-        }
-
-  module _ {T : Type 0} (most : ℕ) (hands : List ℕ) (p : Proc) (v : Running Proc) (i j : ℕ) (w w2 : View T) (same : j ≡ i) where
-    -- the seat of a reader that has ended has left
-    pub left_ended : w2 ≡ as_gone w → HasEnded judges most hands i p v w → HasEnded judges most hands j p v w2
-    left_ended is h = subst (λ (k : ℕ). HasEnded judges most hands k p v w2) (sym same)
-        (subst (λ (x : View T). HasEnded judges most hands i p v x) (sym is) (gone_now most hands i p v w h))
-
-    -- the seat of a leader that has ended has left
-    pub given_ended : (word : ℕ) → w2 ≡ as_gone (as_leaving w word) → HasEnded judges most hands i p v w → HasEnded judges most hands j p v w2
-    given_ended word is h = subst (λ (k : ℕ). HasEnded judges most hands k p v w2) (sym same)
-        (subst (λ (x : View T). HasEnded judges most hands i p v x) (sym is) (given_now most hands i p v w word h))
-
-  -- Workers as they are made
-
   reads_none : (most : ℕ) (hands : List ℕ) (v : Running Proc) (i : ℕ) → IsFresh threads i v → FromAny [] (λ start. IsReaders threads judges start most hands i v.at.process v [] None)
   reads_none most hands v i f = λ start legal. reads_first threads thread_laws judges start most hands i v.at.process v f.index (record { live = f.started.live; on = f.started.on }) f.at f.not_led f.idle f.none_asked
 
@@ -189,7 +186,7 @@ module _ (judges : ℕ → Judge) where
     fresh_leads l new f n log k =
         let S : ℕ → List Entry → List (ℕ × ℕ) → Running Proc → Type 0 = λ i x led w. FromAny x (λ start. IsServing threads judges start most (hands_of room) false i v.at.process w led 0 x) in
         let first = reads_none most (hands_of room) v 0 f in
-        let s : S 0 [] v.led (with_span v 0) = λ start legal. takes threads thread_laws judges start most (hands_of room) 0 v.at.process v [] (first start legal) in
+        let s : S 0 [] v.led (with_span v 0) = λ start legal. takes threads thread_laws judges start most (hands_of room) (first start legal) in
         let none : v.at.seen ≡ 0 = ap (λ (x : Follower Proc). x.seen) f.at in
         let new' : with_span v 0 ≡ new = sym (k ∙ ap (λ (m : ℕ). with_span v m) none) in
         let s' : S 0 [] [] new = subst (λ (w : Running Proc). S 0 [] [] w) new' (subst (λ (x : List (ℕ × ℕ)). S 0 [] x (with_span v 0)) f.not_led s) in

@@ -15,33 +15,46 @@ use Rattle.nv_workers.proofs.Stations.{SpanFrom, Tile, WentBy, LedBy, after_stat
 use Rattle.nv_workers.proofs.Prefixes.{take_own, take_within}
 use Rattle.nv_replay.proofs.Numbers.{get_set, get_other, length_set, eq_self, eq_same}
 
-module _ {P : Type 0} (g : Behaviour P) (judges : ℕ → Judge) (start : Start) (most : ℕ) (cuts : ℕ → Option ℕ) (hands : List ℕ)
-    (h : List Entry) (spans : ℕ → List (ℕ × ℕ)) (total : ℕ) (who : ℕ → ℕ) (tells : ℕ → ℕ → Option Standing) where
+-- what there is to tell of a version that led: nothing where it goes on
+abbrev pub told_by : {P : Type 0} → Part P → Follower P → Leader P → ℕ → Bool → Option Standing
+told_by v f l from true = None
+told_by v f l from false = Some (led_line v f from l)
+
+module _ (spans : ℕ → List (ℕ × ℕ)) (who : ℕ → ℕ) where
   -- the parts that version i led at the stations below k
   abbrev pub led_below : ℕ → ℕ → List (ℕ × ℕ)
   led_below zero i = []
   led_below (suc k) i = led_below k i ++ cond (who k == i) (spans k) []
 
-  abbrev pub seat : P → ℕ → Part P
+  abbrev pub seat : {P : Type 0} → P → ℕ → Part P
   seat p k = record { process = p; led = led_below k (who k); told = None }
 
+  pub same_led : (k i : ℕ) (b : Bool) → spans k ≡ [] → led_below k i ++ cond b (spans k) [] ≡ led_below k i
+  same_led k i true e = ap (λ (x : List (ℕ × ℕ)). led_below k i ++ x) e ∙ append-nil (led_below k i)
+  same_led k i false e = append-nil (led_below k i)
+
+  pub own_led : (k i : ℕ) (own : List (ℕ × ℕ)) → who k ≡ i → spans k ≡ own → led_below k i ++ own ≡ led_below (suc k) i
+  own_led k i own e q =
+      let b : (who k == i) ≡ true = ap (λ (x : ℕ). who k == x) (sym e) ∙ eq_self (who k) in
+      rw b (ap (λ (x : List (ℕ × ℕ)). led_below k i ++ x) (sym q))
+
+  pub other_led : (k i : ℕ) → (who k == i) ≡ false → led_below k i ≡ led_below (suc k) i
+  other_led k i e = rw e (sym (append-nil (led_below k i)))
+
+module _ {P : Type 0} (g : Behaviour P) (judges : ℕ → Judge) (start : Start) (most : ℕ) (cuts : ℕ → Option ℕ) (hands : List ℕ)
+    (h : List Entry) (spans : ℕ → List (ℕ × ℕ)) (total : ℕ) (who : ℕ → ℕ) (tells : ℕ → ℕ → Option Standing) where
   -- what station k's version tells of it
   abbrev pub Told : P → ℕ → Type 0
-  Told p k = WentBy g judges start most cuts hands h spans total k (who k) (seat p k) ⊎ LedBy g judges start most cuts hands h spans total k (who k) (seat p k)
+  Told p k = WentBy g judges start most cuts hands h spans total k (who k) (seat spans who p k) ⊎ LedBy g judges start most cuts hands h spans total k (who k) (seat spans who p k)
 
   abbrev pub hands_over : (p : P) (k : ℕ) → Told p k → Bool
   hands_over p k (inl w) = false
   hands_over p k (inr x) = is_handed hands x.from x.end
 
-  -- what there is to tell of a version that led: nothing where it goes on
-  abbrev pub told_by : Part P → Follower P → Leader P → ℕ → Bool → Option Standing
-  told_by v f l from true = None
-  told_by v f l from false = Some (led_line v f from l)
-
   -- what is told of each version after station k
   abbrev pub TellsOn : (p : P) (k : ℕ) → Told p k → Type 0
   TellsOn p k (inl w) = (j : ℕ) → tells (suc k) j ≡ tells k j
-  TellsOn p k (inr x) = (tells (suc k) (who k) ≡ told_by (seat p k) (tracked_by g judges start most cuts hands (take x.from x.log) (who k) (seat p k)) x.end x.from (is_handed hands x.from x.end))
+  TellsOn p k (inr x) = (tells (suc k) (who k) ≡ told_by (seat spans who p k) (tracked_by g judges start most cuts hands (take x.from x.log) (who k) (seat spans who p k)) x.end x.from (is_handed hands x.from x.end))
       × ((j : ℕ) → (who k == j) ≡ false → tells (suc k) j ≡ tells k j)
 
   -- the versions of c stations, from number k on
@@ -57,7 +70,7 @@ module _ {P : Type 0} (g : Behaviour P) (judges : ℕ → Judge) (start : Start)
   pub record Parts (ps : List P) (m : Run P) (k : ℕ) : Type 0 where
     pub same : length m.parts ≡ length ps
     pub each : (i : ℕ) (p : P) → slice_get ps i ≡ Some p
-        → (v : Part P) × (slice_get m.parts i ≡ Some v) × (v.process ≡ p) × (v.led ≡ led_below k i) × (v.told ≡ tells k i)
+        → (v : Part P) × (slice_get m.parts i ≡ Some v) × (v.process ≡ p) × (v.led ≡ led_below spans who k i) × (v.told ≡ tells k i)
 
   -- c stations are open from number k on, in the order in which they were opened; a station that hands over opens the next one, for
   -- its own version
@@ -68,37 +81,25 @@ module _ {P : Type 0} (g : Behaviour P) (judges : ℕ → Judge) (start : Start)
       ((hands_over p k t ≡ true) × (who (k + suc c) ≡ who k) × Opens ps n (k + 1) (suc c))
       ⊎ ((hands_over p k t ≡ false) × Opens ps n (k + 1) c)))
 
-  pub same_led : (k i : ℕ) (b : Bool) → spans k ≡ [] → led_below k i ++ cond b (spans k) [] ≡ led_below k i
-  same_led k i true e = ap (λ (x : List (ℕ × ℕ)). led_below k i ++ x) e ∙ append-nil (led_below k i)
-  same_led k i false e = append-nil (led_below k i)
-
   went_parts : (ps : List P) (m : Run P) (k : ℕ) (order : List ℕ) → spans k ≡ [] → ((j : ℕ) → tells (suc k) j ≡ tells k j) → Parts ps m k → Parts ps (record m { order = order }) (suc k)
   went_parts ps m k order e t s = record {
     same = s.same;
-    each = λ i p q. let v = s.each i p q in (v.0, v.1, v.2, v.3 ∙ sym (same_led k i (who k == i) e), v.4 ∙ sym (t i));
+    each = λ i p q. let v = s.each i p q in (v.0, v.1, v.2, v.3 ∙ sym (same_led spans who k i (who k == i) e), v.4 ∙ sym (t i));
   }
 
-  pub own_led : (k i : ℕ) (own : List (ℕ × ℕ)) → who k ≡ i → spans k ≡ own → led_below k i ++ own ≡ led_below (suc k) i
-  own_led k i own e q =
-      let b : (who k == i) ≡ true = ap (λ (x : ℕ). who k == x) (sym e) ∙ eq_self (who k) in
-      rw b (ap (λ (x : List (ℕ × ℕ)). led_below k i ++ x) (sym q))
-
-  pub other_led : (k i : ℕ) → (who k == i) ≡ false → led_below k i ≡ led_below (suc k) i
-  other_led k i e = rw e (sym (append-nil (led_below k i)))
-
   put_parts : (ps : List P) (m : Run P) (k : ℕ) (v w : Part P) (p : P) (order : List ℕ) (log : List Entry) (over : Bool) → Parts ps m k → slice_get m.parts (who k) ≡ Some v
-      → slice_get ps (who k) ≡ Some p → w.process ≡ p → w.led ≡ led_below (suc k) (who k) → w.told ≡ tells (suc k) (who k) → ((j : ℕ) → (who k == j) ≡ false → tells (suc k) j ≡ tells k j)
+      → slice_get ps (who k) ≡ Some p → w.process ≡ p → w.led ≡ led_below spans who (suc k) (who k) → w.told ≡ tells (suc k) (who k) → ((j : ℕ) → (who k == j) ≡ false → tells (suc k) j ≡ tells k j)
       → Parts ps (record { log = log; over = over; order = order; parts = set m.parts (who k) w }) (suc k)
   put_parts ps m k v w p order log over s q hp wp wl wt others = record { same = length_set m.parts (who k) w ∙ s.same; each = λ i x r. put i x r (who k == i) refl } where
     put : (i : ℕ) (x : P) → slice_get ps i ≡ Some x → (b : Bool) → (who k == i) ≡ b
-        → (u : Part P) × (slice_get (set m.parts (who k) w) i ≡ Some u) × (u.process ≡ x) × (u.led ≡ led_below (suc k) i) × (u.told ≡ tells (suc k) i)
+        → (u : Part P) × (slice_get (set m.parts (who k) w) i ≡ Some u) × (u.process ≡ x) × (u.led ≡ led_below spans who (suc k) i) × (u.told ≡ tells (suc k) i)
     put i x r true e =
         let ik : who k ≡ i = eq_same (who k) i e in
         let px : p ≡ x = same_Some p x (sym hp ∙ (ap (slice_get ps) ik ∙ r)) in
-        (w, ap (slice_get (set m.parts (who k) w)) (sym ik) ∙ get_set m.parts (who k) v w q, wp ∙ px, wl ∙ ap (led_below (suc k)) ik, wt ∙ ap (tells (suc k)) ik)
+        (w, ap (slice_get (set m.parts (who k) w)) (sym ik) ∙ get_set m.parts (who k) v w q, wp ∙ px, wl ∙ ap (led_below spans who (suc k)) ik, wt ∙ ap (tells (suc k)) ik)
     put i x r false e =
         let u = s.each i x r in
-        (u.0, get_other m.parts (who k) w i e ∙ u.1, u.2, u.3 ∙ other_led k i e, u.4 ∙ sym (others i e))
+        (u.0, get_other m.parts (who k) w i e ∙ u.1, u.2, u.3 ∙ other_led spans who k i e, u.4 ∙ sym (others i e))
 
   went_as : (k i : ℕ) (v u : Part P) → u.process ≡ v.process → u.led ≡ v.led → WentBy g judges start most cuts hands h spans total k i u → WentBy g judges start most cuts hands h spans total k i v
   went_as k i v u a b w =
@@ -126,15 +127,15 @@ module _ {P : Type 0} (g : Behaviour P) (judges : ℕ → Judge) (start : Start)
     pub parts : Parts ps last (k + n)
 
   after_parts : (ps : List P) (m : Run P) (k c : ℕ) (v : Part P) (p : P) (f : Follower P) (l : Leader P) (b : Bool) → Parts ps m k → slice_get m.parts (who k) ≡ Some v
-      → slice_get ps (who k) ≡ Some p → v.process ≡ p → v.led ≡ led_below k (who k) → spans k ≡ (length m.log, length l.log) ∷ []
+      → slice_get ps (who k) ≡ Some p → v.process ≡ p → v.led ≡ led_below spans who k (who k) → spans k ≡ (length m.log, length l.log) ∷ []
       → tells (suc k) (who k) ≡ told_by v f l (length m.log) b → ((j : ℕ) → (who k == j) ≡ false → tells (suc k) j ≡ tells k j)
       → Parts ps (after_lead m (who k) (seating (k + 1) c) v f l b) (suc k)
   after_parts ps m k c v p f l true s q hp vp vl e t o =
       put_parts ps m k v (record v { led = v.led ++ (length m.log, length l.log) ∷ []; told = None }) p (seating (k + 1) c ++ who k ∷ []) l.log false s q hp vp
-      (ap (λ (x : List (ℕ × ℕ)). x ++ (length m.log, length l.log) ∷ []) vl ∙ own_led k (who k) ((length m.log, length l.log) ∷ []) refl e) (sym t) o
+      (ap (λ (x : List (ℕ × ℕ)). x ++ (length m.log, length l.log) ∷ []) vl ∙ own_led spans who k (who k) ((length m.log, length l.log) ∷ []) refl e) (sym t) o
   after_parts ps m k c v p f l false s q hp vp vl e t o =
       put_parts ps m k v (record v { led = v.led ++ (length m.log, length l.log) ∷ []; told = Some (led_line v f (length m.log) l) }) p (seating (k + 1) c) l.log (is_exited l.fate) s q hp vp
-      (ap (λ (x : List (ℕ × ℕ)). x ++ (length m.log, length l.log) ∷ []) vl ∙ own_led k (who k) ((length m.log, length l.log) ∷ []) refl e) (sym t) o
+      (ap (λ (x : List (ℕ × ℕ)). x ++ (length m.log, length l.log) ∷ []) vl ∙ own_led spans who k (who k) ((length m.log, length l.log) ∷ []) refl e) (sym t) o
 
   after_order : (m : Run P) (i : ℕ) (order : List ℕ) (v : Part P) (f : Follower P) (l : Leader P) (b : Bool) → b ≡ true → (after_lead m i order v f l b).order ≡ order ++ i ∷ []
   after_order m i order v f l true h = refl
@@ -159,7 +160,7 @@ module _ {P : Type 0} (g : Behaviour P) (judges : ℕ → Judge) (start : Start)
   reads ps (suc n) k (suc c) m more he s o (p, hp, (inl w, tl, inl r)) t = let z : false ≡ true = r.0 in cc
   reads ps (suc n) k (suc c) m more he s o (p, hp, (inl w, tl, inr r)) t =
       let v = s.each (who k) p hp in
-      let w' = went_as k (who k) v.0 (seat p k) (sym v.2) (sym v.3) w in
+      let w' = went_as k (who k) v.0 (seat spans who p k) (sym v.2) (sym v.3) w in
       let z : t.0 ≡ length m.log = subst (λ (y : List (ℕ × ℕ)). SpanFrom y (length m.log) t.0) w.none t.1 in
       let m1 : Run P = record m { order = seating (k + 1) c } in
       let s1 : Parts ps m1 (k + 1) = subst (λ (x : ℕ). Parts ps m1 x) (one_on k) (went_parts ps m k (seating (k + 1) c) w.none tl s) in
@@ -171,7 +172,7 @@ module _ {P : Type 0} (g : Behaviour P) (judges : ℕ → Judge) (start : Start)
       }
   reads ps (suc n) k (suc c) m more he s o (p, hp, (inr x, tl, r)) t =
       let v = s.each (who k) p hp in
-      let y = led_as k (who k) v.0 (seat p k) (sym v.2) (sym v.3) x in
+      let y = led_as k (who k) v.0 (seat spans who p k) (sym v.2) (sym v.3) x in
       let z : (y.0.from ≡ length m.log) × (length y.0.log ≡ t.0) = subst (λ (u : List (ℕ × ℕ)). SpanFrom u (length m.log) t.0) y.0.span t.1 in
       let f = tracked_by g judges start most cuts hands m.log (who k) v.0 in
       let b : Bool = is_handed hands (length m.log) y.0.end in
@@ -179,8 +180,8 @@ module _ {P : Type 0} (g : Behaviour P) (judges : ℕ → Judge) (start : Start)
       let same : is_handed hands x.from x.end ≡ b = λ j. is_handed hands (from j) (sym y.2 j) in
       let log0 : take x.from x.log ≡ m.log = sym (take_within x.from x.log x.rest x.within) ∙ (ap (take x.from) (sym x.prefix ∙ he)
       ∙ (ap (λ (u : ℕ). take u (m.log ++ more)) from ∙ take_own m.log more)) in
-      let seat0 : record (seat p k) { told = v.0.told } ≡ v.0 = λ j. record { process = sym v.2 j; led = sym v.3 j; told = v.0.told } in
-      let f0 : tracked_by g judges start most cuts hands (take x.from x.log) (who k) (seat p k) ≡ f = λ j. tracked_by g judges start most cuts hands (log0 j) (who k) (seat0 j) in
+      let seat0 : record (seat spans who p k) { told = v.0.told } ≡ v.0 = λ j. record { process = sym v.2 j; led = sym v.3 j; told = v.0.told } in
+      let f0 : tracked_by g judges start most cuts hands (take x.from x.log) (who k) (seat spans who p k) ≡ f = λ j. tracked_by g judges start most cuts hands (log0 j) (who k) (seat0 j) in
       let tells0 : tells (suc k) (who k) ≡ told_by v.0 f y.0.end (length m.log) b = tl.0
       ∙ (λ j. told_by (seat0 j) (f0 j) (sym y.2 j) (from j) (same j)) in
       let m1 : Run P = after_station g judges start most cuts hands h spans total m k (who k) (seating (k + 1) c) v.0 y.0 in

@@ -56,17 +56,9 @@ pub off_from : (o f : Option Fate) → is_some o ≡ true → o ≡ f → is_goi
 off_from None f h e = cc
 off_from (Some x) f h e = ap is_going (sym e)
 
-module _ (judges : ℕ → Judge) (most : ℕ) where
-  -- a version that has ended has its fate
-  pub has_ended : {T : Type 0} (hands : List ℕ) (i : ℕ) (p : Proc) (v : Running Proc) (w : View T) → HasEnded judges most hands i p v w → is_going v.at.fate ≡ false
-  has_ended hands i p v w h = (h.done (as_told h.log) (legal_told h.log h.lawful)).ended
-
-  -- a version that follows on has none
-  pub follows_fate : {K : Type 0} {G : Ghosts K} (room : Room K) (p : Proc) (v : Running Proc) (r : Reader K G) (held : Bool) (buf : List ℕ) → FollowsOn judges room most p v r held buf → v.at.fate ≡ None
-  follows_fate room p v r held buf f = (f.reading (as_told f.log) (legal_told f.log (lawful_prefix f.log (held_list f.next) f.lawful))).on
-
+module _ (judges : ℕ → Judge) (most : ℕ) (hands : List ℕ) {T : Type 0} (i : ℕ) (p : Proc) (v : Running Proc) (w : View T) where
   -- a reader's version with the event that is held
-  pub record Held (hands : List ℕ) {T : Type 0} (i : ℕ) (p : Proc) (v : Running Proc) (w : View T) (buf : List ℕ) : Type 0 where
+  pub record Held (buf : List ℕ) : Type 0 where
     pub log : List Entry
     pub event : Entry
     pub spelt : map spell log ≡ w.seen
@@ -77,147 +69,168 @@ module _ (judges : ℕ → Judge) (most : ℕ) where
     pub handed_on : AreHandedOn w.spans
     pub reading : FromAny log (λ start. IsReaders threads judges start most hands i p v log (Some event))
 
-  held_by : (hands : List ℕ) {T : Type 0} (i : ℕ) (p : Proc) (v : Running Proc) (w : View T) (buf : List ℕ) (log : List Entry) (next : Option Entry)
-      → map spell log ≡ w.seen → IsLawful (log ++ held_list next) → HoldsNext true w.read buf next → v.led ≡ map ends_of w.spans → AreHandedOn w.spans
-      → FromAny log (λ start. IsReaders threads judges start most hands i p v log next) → Held hands i p v w buf
-  held_by hands i p v w buf log None s l h n o r = absurd h
-  held_by hands i p v w buf log (Some e) s l h n o r = record { log = log; event = e; spelt = s; lawful = l; read = h.0; words = h.1; led = n; handed_on = o; reading = r }
+  held_by : (buf : List ℕ) (log : List Entry) (next : Option Entry) → map spell log ≡ w.seen → IsLawful (log ++ held_list next) → HoldsNext true w.read buf next
+      → v.led ≡ map ends_of w.spans → AreHandedOn w.spans → FromAny log (λ start. IsReaders threads judges start most hands i p v log next) → Held buf
+  held_by buf log None s l h n o r = absurd h
+  held_by buf log (Some e) s l h n o r = record { log = log; event = e; spelt = s; lawful = l; read = h.0; words = h.1; led = n; handed_on = o; reading = r }
 
-  module _ {K : Type 0} {G : Ghosts K} (room : Room K) (p : Proc) (v : Running Proc) (r : Reader K G) (buf : List ℕ) where
-    pub held_of : FollowsOn judges room most p v r true buf → Held (hands_of room) (version_of_reader r) p v (view r) buf
-    held_of f = held_by (hands_of room) (version_of_reader r) p v (view r) buf f.log f.next f.spelt f.lawful f.holds f.led f.handed_on f.reading
+  -- a reader's version where no word of a further event is read
+  pub record Bare : Type 0 where
+    pub log : List Entry
+    pub spelt : map spell log ≡ w.seen
+    pub lawful : IsLawful log
+    pub read : w.read ≡ []
+    pub led : v.led ≡ map ends_of w.spans
+    pub handed_on : AreHandedOn w.spans
+    pub reading : FromAny log (λ start. IsReaders threads judges start most hands i p v log None)
 
-  module _ (hands : List ℕ) {T : Type 0} (i : ℕ) (p : Proc) (v : Running Proc) (w : View T) (buf : List ℕ) (h : Held hands i p v w buf) where
-    -- what holds from whatever start
-    pub held_reading : IsReaders threads judges (as_told h.log) most hands i p v h.log (Some h.event)
-    held_reading = h.reading (as_told h.log) (legal_told h.log (lawful_prefix h.log (h.event ∷ []) h.lawful))
+  bare_by : (buf : List ℕ) (log : List Entry) (next : Option Entry) → map spell log ≡ w.seen → IsLawful (log ++ held_list next) → HoldsNext false w.read buf next
+      → v.led ≡ map ends_of w.spans → AreHandedOn w.spans → FromAny log (λ start. IsReaders threads judges start most hands i p v log next) → Bare
+  bare_by buf log None s l h n o r = record { log = log; spelt = s; lawful = subst IsLawful (append-nil log) l; read = h; led = n; handed_on = o; reading = r }
+  bare_by buf log (Some e) s l h n o r = absurd h
 
-    may : MayFollow (length h.log) (live_after (take (length h.log) (h.log ++ h.event ∷ []))) h.event
-    may = h.lawful (length h.log) h.event (get_last h.log h.event)
+-- a version that has ended has its fate
+pub has_ended : {judges : ℕ → Judge} {T : Type 0} {most : ℕ} {hands : List ℕ} {i : ℕ} {p : Proc} {v : Running Proc} {w : View T}
+    → HasEnded judges most hands i p v w → is_going v.at.fate ≡ false
+has_ended h = (h.done (as_told h.log) (legal_told h.log h.lawful)).ended
 
-    pub whole_buf : IsWhole buf
-    whole_buf = subst IsWhole (sym h.words) (spell_whole h.event may.range).0
+-- a version that follows on has none
+pub follows_fate : {judges : ℕ → Judge} {K : Type 0} {G : Ghosts K} {room : Room K} {most : ℕ} {p : Proc} {v : Running Proc} {r : Reader K G} {held : Bool} {buf : List ℕ}
+    → FollowsOn judges room most p v r held buf → v.at.fate ≡ None
+follows_fate f = (f.reading (as_told f.log) (legal_told f.log (lawful_prefix f.log (held_list f.next) f.lawful))).on
 
-    pub whole_read : IsWhole w.read
-    whole_read = subst IsWhole (sym h.read) (spell_whole h.event may.range).0
+pub none_held : {judges : ℕ → Judge} {K : Type 0} {G : Ghosts K} {room : Room K} {most : ℕ} {p : Proc} {v : Running Proc} {r : Reader K G} {held : Bool} {buf : List ℕ}
+    → held ≡ false → FollowsOn judges room most p v r held buf → FollowsOn judges room most p v r false buf
+none_held {judges} {K} {G} {room} {most} {p} {v} {r} {held} {buf} h f = subst (λ (b : Bool). FollowsOn judges room most p v r b buf) h f
 
-    -- the buffer's event is the one that is held
-    pub event_is : (e : Entry) → spell e ≡ buf → InRange e → e ≡ h.event
-    event_is e s r = spell_one e h.event r may.range (s ∙ h.words)
+module _ {judges : ℕ → Judge} {most : ℕ} {hands : List ℕ} {T : Type 0} {i : ℕ} {p : Proc} {v : Running Proc} {w : View T} {buf : List ℕ} (h : Held judges most hands i p v w buf) where
+  -- what holds from whatever start
+  pub held_reading : IsReaders threads judges (as_told h.log) most hands i p v h.log (Some h.event)
+  held_reading = h.reading (as_told h.log) (legal_told h.log (lawful_prefix h.log (h.event ∷ []) h.lawful))
 
-    pub stamp_is : h.event.stamp ≡ v.at.seen
-    stamp_is = may.stamp ∙ sym held_reading.seen
+  may : MayFollow (length h.log) (live_after (take (length h.log) (h.log ++ h.event ∷ []))) h.event
+  may = h.lawful (length h.log) h.event (get_last h.log h.event)
 
-    pub is_below : v.at.seen < 131072
-    is_below = rw (held_reading.seen) may.few
+  pub whole_buf : IsWhole buf
+  whole_buf = subst IsWhole (sym h.words) (spell_whole h.event may.range).0
 
-    lives_as : threads.live v.at.process ≡ live_after (take (length h.log) (h.log ++ h.event ∷ []))
-    lives_as =
-        let all : take v.at.seen h.log ≡ take (length h.log) (h.log ++ h.event ∷ []) = ap (λ (n : ℕ). take n h.log) held_reading.seen
-        ∙ sym (take_prefix_of h.log (h.event ∷ []) (length h.log) (omega arith)) in
-        held_reading.in_step.live held_reading.on ∙ ap live_after all
+  pub whole_read : IsWhole w.read
+  whole_read = subst IsWhole (sym h.read) (spell_whole h.event may.range).0
 
-    pub is_live : Contains (threads.live v.at.process) h.event.call.tid
-    is_live = subst (λ (x : List ℕ). Contains x h.event.call.tid) (sym lives_as) may.lives
+  -- the buffer's event is the one that is held
+  pub event_is : (e : Entry) → spell e ≡ buf → InRange e → e ≡ h.event
+  event_is e s r = spell_one e h.event r may.range (s ∙ h.words)
 
-    -- a thread that it makes is a new one
-    pub is_new : IsNew (threads.live v.at.process) (child_of h.event)
-    is_new = subst (λ (x : List ℕ). IsNew x (child_of h.event)) (sym lives_as) may.new
+  pub stamp_is : h.event.stamp ≡ v.at.seen
+  stamp_is = may.stamp ∙ sym held_reading.seen
 
+  pub is_below : v.at.seen < 131072
+  is_below = rw (held_reading.seen) may.few
+
+  lives_as : threads.live v.at.process ≡ live_after (take (length h.log) (h.log ++ h.event ∷ []))
+  lives_as =
+      let all : take v.at.seen h.log ≡ take (length h.log) (h.log ++ h.event ∷ []) = ap (λ (n : ℕ). take n h.log) held_reading.seen
+      ∙ sym (take_prefix_of h.log (h.event ∷ []) (length h.log) (omega arith)) in
+      held_reading.in_step.live held_reading.on ∙ ap live_after all
+
+  pub is_live : Contains (threads.live v.at.process) h.event.call.tid
+  is_live = subst (λ (x : List ℕ). Contains x h.event.call.tid) (sym lives_as) may.lives
+
+  -- a thread that it makes is a new one
+  pub is_new : IsNew (threads.live v.at.process) (child_of h.event)
+  is_new = subst (λ (x : List ℕ). IsNew x (child_of h.event)) (sym lives_as) may.new
+
+  pub spelt_on : map spell (h.log ++ h.event ∷ []) ≡ w.seen ++ w.read ∷ []
+  spelt_on = map-append spell h.log (h.event ∷ []) ∙ (λ i. h.spelt i ++ (sym h.read) i ∷ [])
+
+  long_seen : length w.seen ≡ length h.log
+  long_seen = sym (ap (λ (x : List (List ℕ)). length x) h.spelt) ∙ long_as h.log
+
+  -- the version after its decision on the event
+  module _ (new : Running Proc) (k : new ≡ record v { at = decided threads (judges i) h.event v.at }) where
     -- Rewrote: the event stays
-    pub rewrote : (new : Running Proc) → new ≡ record v { at = decided threads (judges i) h.event v.at } → new.at.seen ≡ v.at.seen
-        → new.at.fate ≡ None → FromAny h.log (λ start. IsReaders threads judges start most hands i p new h.log (Some h.event))
-    rewrote new k s n = λ start legal. reads_held threads thread_laws judges start most hands i p v new h.log h.event (Some h.event) (h.reading start legal) (inr refl) h.lawful k s n
+    pub rewrote : new.at.seen ≡ v.at.seen → new.at.fate ≡ None → FromAny h.log (λ start. IsReaders threads judges start most hands i p new h.log (Some h.event))
+    rewrote s n = λ start legal. reads_held threads thread_laws judges start most hands h.event (h.reading start legal) (inr refl) h.lawful k s n
 
     -- Matched or Skipped: the event is consumed
-    pub consumes : (new : Running Proc) → new ≡ record v { at = decided threads (judges i) h.event v.at } → new.at.seen ≡ v.at.seen + 1
-        → new.at.fate ≡ None → FromAny (h.log ++ h.event ∷ []) (λ start. IsReaders threads judges start most hands i p new (h.log ++ h.event ∷ []) None)
-    consumes new k s n = λ start legal.
-        reads_on threads thread_laws judges start most hands i p v new h.log h.event (Some h.event) (h.reading start (legal_front start h.log (h.event ∷ []) legal)) (inr refl) h.lawful k s n
+    pub consumes : new.at.seen ≡ v.at.seen + 1 → new.at.fate ≡ None
+        → FromAny (h.log ++ h.event ∷ []) (λ start. IsReaders threads judges start most hands i p new (h.log ++ h.event ∷ []) None)
+    consumes s n = λ start legal.
+        reads_on threads thread_laws judges start most hands h.event (h.reading start (legal_front start h.log (h.event ∷ []) legal)) (inr refl) h.lawful k s n
 
-    stage_now : (new : Running Proc) → new ≡ record v { at = decided threads (judges i) h.event v.at }
-        → IsStage (track_next threads (judges i) new.led (h.log ++ h.event ∷ [])) (fresh p) new.at
-    stage_now new k = (decides threads thread_laws judges (as_told h.log) most hands i p v new h.log h.event (Some h.event) held_reading (inr refl) h.lawful k).0
+    stage_now : IsStage (track_next threads (judges i) new.led (h.log ++ h.event ∷ [])) (fresh p) new.at
+    stage_now = (decides threads thread_laws judges (as_told h.log) most hands h.event held_reading (inr refl) h.lawful k).0
 
-    idle_now : (new : Running Proc) → new ≡ record v { at = decided threads (judges i) h.event v.at } → new.leading ≡ false
-    idle_now new k = ap (λ (x : Running Proc). x.leading) k ∙ held_reading.idle
+    idle_now : new.leading ≡ false
+    idle_now = ap (λ (x : Running Proc). x.leading) k ∙ held_reading.idle
 
-    led_now : (new : Running Proc) → new ≡ record v { at = decided threads (judges i) h.event v.at } → new.led ≡ map ends_of w.spans
-    led_now new k = ap (λ (x : Running Proc). x.led) k ∙ h.led
-
-    pub spelt_on : map spell (h.log ++ h.event ∷ []) ≡ w.seen ++ w.read ∷ []
-    spelt_on = map-append spell h.log (h.event ∷ []) ∙ (λ i. h.spelt i ++ (sym h.read) i ∷ [])
-
-    long_seen : length w.seen ≡ length h.log
-    long_seen = sym (ap (λ (x : List (List ℕ)). length x) h.spelt) ∙ long_as h.log
+    pub led_now : new.led ≡ map ends_of w.spans
+    led_now = ap (λ (x : Running Proc). x.led) k ∙ h.led
 
     -- it exited with the event, which is consumed
-    pub exits : (new : Running Proc) → new ≡ record v { at = decided threads (judges i) h.event v.at }
-        → new.at.seen ≡ v.at.seen + 1 → is_going new.at.fate ≡ false → HasEnded judges most hands i p new (one_on w)
-    exits new k n e = record {
+    pub exits : new.at.seen ≡ v.at.seen + 1 → is_going new.at.fate ≡ false → HasEnded judges most hands i p new (one_on w)
+    exits n e = record {
       log = h.log ++ h.event ∷ [];
       spelt = spelt_on;
       lawful = h.lawful;
       count = omega (arith, n, held_reading.seen, long_seen, length-append w.seen (w.read ∷ []));
-      led = led_now new k;
+      led = led_now;
       done = λ start legal. record {
         ended = e;
         count = omega (arith, n, held_reading.seen, length-append h.log (h.event ∷ []));
-        spans = led_now new k;
+        spans = led_now;
         told = inl (record {
-          idle = idle_now new k;
+          idle = idle_now;
           handed_on = h.handed_on;
-          handed = parts_on threads thread_laws judges start most hands i p v new h.log h.event (Some h.event) (h.reading start (legal_front start h.log (h.event ∷ []) legal)) (inr refl) h.lawful k;
-          stage = inl (stage_now new k);
+          handed = parts_on threads thread_laws judges start most hands h.event (h.reading start (legal_front start h.log (h.event ∷ []) legal)) (inr refl) h.lawful k;
+          stage = inl stage_now;
         });
       };
     }
 
     -- it was dropped at the event, whose words stay read
-    pub dropped : (new : Running Proc) → new ≡ record v { at = decided threads (judges i) h.event v.at }
-        → new.at.seen ≡ v.at.seen → is_going new.at.fate ≡ false → HasEnded judges most hands i p new w
-    dropped new k n e = record {
+    pub dropped : new.at.seen ≡ v.at.seen → is_going new.at.fate ≡ false → HasEnded judges most hands i p new w
+    dropped n e = record {
       log = h.log;
       spelt = h.spelt;
       lawful = lawful_prefix h.log (h.event ∷ []) h.lawful;
       count = n ∙ (held_reading.seen ∙ sym long_seen);
-      led = led_now new k;
+      led = led_now;
       done = λ start legal. record {
         ended = e;
         count = n ∙ held_reading.seen;
-        spans = led_now new k;
+        spans = led_now;
         told = inl (record {
-          idle = idle_now new k;
+          idle = idle_now;
           handed_on = h.handed_on;
-          handed = parts_still threads thread_laws judges start most hands i p v new h.log h.event (Some h.event) (h.reading start legal) (inr refl) h.lawful k;
-          stage = inr (record { event = h.event; fit = may.range; words = h.read; stage = stage_now new k });
+          handed = parts_still threads thread_laws judges start most hands h.event (h.reading start legal) (inr refl) h.lawful k;
+          stage = inr (record { event = h.event; fit = may.range; words = h.read; stage = stage_now });
         });
       };
     }
 
-  module _ (i : ℕ) (p : Proc) (v : Running Proc) (log : List Entry) (seen : List (List ℕ)) where
-    -- the event that was read follows the log
-    pub read_next : map spell log ≡ seen → IsLawful log → (words : List ℕ) → SpellLawful (seen ++ words ∷ [])
-        → (e : Entry) × (spell e ≡ words) × IsLawful (log ++ e ∷ [])
-    read_next s l words (h, spelt, law) =
-        let q = parted h seen words spelt in
-        let lawful : IsLawful (q.prefix ++ q.last ∷ []) = subst IsLawful q.all law in
-        let same : q.prefix ≡ log = same_spelt q.prefix log (lawful_prefix q.prefix (q.last ∷ []) lawful) l (q.seen_is ∙ sym s) in
-        (q.last, q.words_are, subst (λ (x : List Entry). IsLawful (x ++ q.last ∷ [])) same lawful)
+-- the event that was read follows the log
+pub read_next : (log : List Entry) (seen : List (List ℕ)) → map spell log ≡ seen → IsLawful log → (words : List ℕ) → SpellLawful (seen ++ words ∷ [])
+    → (e : Entry) × (spell e ≡ words) × IsLawful (log ++ e ∷ [])
+read_next log seen s l words (h, spelt, law) =
+    let q = parted h seen words spelt in
+    let lawful : IsLawful (q.prefix ++ q.last ∷ []) = subst IsLawful q.all law in
+    let same : q.prefix ≡ log = same_spelt q.prefix log (lawful_prefix q.prefix (q.last ∷ []) lawful) l (q.seen_is ∙ sym s) in
+    (q.last, q.words_are, subst (λ (x : List Entry). IsLawful (x ++ q.last ∷ [])) same lawful)
 
-    -- a version without a fate stands where threads live
-    pub goes_on : (hands : List ℕ) → map spell log ≡ seen → IsLawful log → IsReaders threads judges (as_told log) most hands i p v log None → TellsEnd seen → ⊥
-    goes_on hands s l r (h, spelt, law, dead) =
-        let same : h ≡ log = same_spelt h log law l (spelt ∙ sym s) in
-        never_closed threads thread_laws judges (as_told log) most hands i p v log r (subst (λ (x : List Entry). live_after x ≡ []) same dead)
+module _ {judges : ℕ → Judge} {K : Type 0} {G : Ghosts K} {room : Room K} {most : ℕ} {p : Proc} {v : Running Proc} {r : Reader K G} {buf : List ℕ} where
+  pub held_of : FollowsOn judges room most p v r true buf → Held judges most (hands_of room) (version_of_reader r) p v (view r) buf
+  held_of f = held_by judges most (hands_of room) (version_of_reader r) p v (view r) buf f.log f.next f.spelt f.lawful f.holds f.led f.handed_on f.reading
 
-  module _ {K : Type 0} {G : Ghosts K} (room : Room K) (p : Proc) (v : Running Proc) (r : Reader K G) (buf : List ℕ) (f : FollowsOn judges room most p v r true buf) (e : Entry) (s : spell e ≡ buf) (n : InRange e) (new : Running Proc) (k : new ≡ record v { at = decided threads (judges v.index) e v.at }) where
-    held : Held (hands_of room) (version_of_reader r) p v (view r) buf
-    held = held_of room p v r buf f
+  -- after a decision on the event in the buffer
+  module _ (f : FollowsOn judges room most p v r true buf) (e : Entry) (s : spell e ≡ buf) (n : InRange e) (new : Running Proc)
+      (k : new ≡ record v { at = decided threads (judges v.index) e v.at }) where
+    held : Held judges most (hands_of room) (version_of_reader r) p v (view r) buf
+    held = held_of f
 
     by_held : new ≡ record v { at = decided threads (judges (version_of_reader r)) held.event v.at }
-    by_held = k ∙ ap (λ (i : ℕ). record v { at = decided threads (judges i) e v.at }) (held_reading (hands_of room) (version_of_reader r) p v (view r) buf held).index
-        ∙ ap (λ (x : Entry). record v { at = decided threads (judges (version_of_reader r)) x v.at }) (event_is (hands_of room) (version_of_reader r) p v (view r) buf held e s n)
+    by_held = k ∙ ap (λ (i : ℕ). record v { at = decided threads (judges i) e v.at }) (held_reading held).index
+        ∙ ap (λ (x : Entry). record v { at = decided threads (judges (version_of_reader r)) x v.at }) (event_is held e s n)
 
     pub after_rewrote : new.at.seen ≡ v.at.seen → new.at.fate ≡ None → FollowsOn judges room most p new r true buf
     after_rewrote h o = record {
@@ -227,9 +240,9 @@ module _ (judges : ℕ → Judge) (most : ℕ) where
       spelt = held.spelt;
       lawful = held.lawful;
       holds = (held.read, held.words);
-      led = led_now (hands_of room) (version_of_reader r) p v (view r) buf held new by_held;
+      led = led_now held new by_held;
       handed_on = held.handed_on;
-      reading = rewrote (hands_of room) (version_of_reader r) p v (view r) buf held new by_held h o;
+      reading = rewrote held new by_held h o;
     }
 
     pub after_consumed : (r2 : Reader K G) → IsOfRoom room r2 → SameReader r r2 → view r2 ≡ one_on (view r) → new.at.seen ≡ v.at.seen + 1
@@ -240,59 +253,48 @@ module _ (judges : ℕ → Judge) (most : ℕ) where
           of = of;
           log = log;
           next = None;
-          spelt = spelt_on (hands_of room) (version_of_reader r) p v (view r) buf held ∙ sym (ap (λ (x : View K). x.seen) w);
+          spelt = spelt_on held ∙ sym (ap (λ (x : View K). x.seen) w);
           lawful = subst IsLawful (sym (append-nil log)) held.lawful;
           holds = ap (λ (x : View K). x.read) w;
-          led = led_now (hands_of room) (version_of_reader r) p v (view r) buf held new by_held ∙ sym (ap (λ (x : View K). map ends_of x.spans) w);
+          led = led_now held new by_held ∙ sym (ap (λ (x : View K). map ends_of x.spans) w);
           handed_on = subst (λ (x : View K). AreHandedOn x.spans) (sym w) held.handed_on;
-          reading = subst (λ (i : ℕ). FromAny log (λ start. IsReaders threads judges start most (hands_of room) i p new log None)) (sym same.3)
-              (consumes (hands_of room) (version_of_reader r) p v (view r) buf held new by_held h o);
+          reading = subst (λ (i : ℕ). FromAny log (λ start. IsReaders threads judges start most (hands_of room) i p new log None)) (sym same.3) (consumes held new by_held h o);
         }
 
     pub after_exit : (r2 : Reader K G) → SameReader r r2 → view r2 ≡ one_on (view r) → new.at.seen ≡ v.at.seen + 1 → is_going new.at.fate ≡ false
         → HasEnded judges most (hands_of room) (version_of_reader r2) p new (view r2)
     after_exit r2 same w n o =
         subst (λ (i : ℕ). HasEnded judges most (hands_of room) i p new (view r2)) (sym same.3) (subst (λ (x : View K). HasEnded judges most (hands_of room) (version_of_reader r) p new x) (sym w)
-        (exits (hands_of room) (version_of_reader r) p v (view r) buf held new by_held n o))
+        (exits held new by_held n o))
 
     pub after_drop : new.at.seen ≡ v.at.seen → is_going new.at.fate ≡ false → HasEnded judges most (hands_of room) (version_of_reader r) p new (view r)
-    after_drop n o = dropped (hands_of room) (version_of_reader r) p v (view r) buf held new by_held n o
+    after_drop n o = dropped held new by_held n o
 
-  -- a reader's version where no word of a further event is read
-  pub record Bare (hands : List ℕ) {T : Type 0} (i : ℕ) (p : Proc) (v : Running Proc) (w : View T) : Type 0 where
-    pub log : List Entry
-    pub spelt : map spell log ≡ w.seen
-    pub lawful : IsLawful log
-    pub read : w.read ≡ []
-    pub led : v.led ≡ map ends_of w.spans
-    pub handed_on : AreHandedOn w.spans
-    pub reading : FromAny log (λ start. IsReaders threads judges start most hands i p v log None)
+holds_none : (read buf read2 buf2 : List ℕ) (next : Option Entry) → HoldsNext false read buf next → read2 ≡ [] → HoldsNext false read2 buf2 next
+holds_none read buf read2 buf2 None h e = e
+holds_none read buf read2 buf2 (Some x) h e = absurd h
 
-  holds_none : (read buf read2 buf2 : List ℕ) (next : Option Entry) → HoldsNext false read buf next → read2 ≡ [] → HoldsNext false read2 buf2 next
-  holds_none read buf read2 buf2 None h e = e
-  holds_none read buf read2 buf2 (Some x) h e = absurd h
+module _ {judges : ℕ → Judge} {K : Type 0} {G : Ghosts K} {room : Room K} {most : ℕ} {p : Proc} {v : Running Proc} {r : Reader K G} {buf : List ℕ}
+    (f : FollowsOn judges room most p v r false buf) where
+  pub bare : Bare judges most (hands_of room) (version_of_reader r) p v (view r)
+  bare = bare_by judges most (hands_of room) (version_of_reader r) p v (view r) buf f.log f.next f.spelt f.lawful f.holds f.led f.handed_on f.reading
 
-  bare_by : (hands : List ℕ) {T : Type 0} (i : ℕ) (p : Proc) (v : Running Proc) (w : View T) (buf : List ℕ) (log : List Entry) (next : Option Entry)
-      → map spell log ≡ w.seen → IsLawful (log ++ held_list next) → HoldsNext false w.read buf next → v.led ≡ map ends_of w.spans → AreHandedOn w.spans
-      → FromAny log (λ start. IsReaders threads judges start most hands i p v log next) → Bare hands i p v w
-  bare_by hands i p v w buf log None s l h n o r = record { log = log; spelt = s; lawful = subst IsLawful (append-nil log) l; read = h; led = n; handed_on = o; reading = r }
-  bare_by hands i p v w buf log (Some e) s l h n o r = absurd h
+  -- what holds from whatever start
+  pub bare_reading : IsReaders threads judges (as_told bare.log) most (hands_of room) (version_of_reader r) p v bare.log None
+  bare_reading = bare.reading (as_told bare.log) (legal_told bare.log bare.lawful)
 
-  module _ {K : Type 0} {G : Ghosts K} (room : Room K) (p : Proc) (v : Running Proc) (r : Reader K G) (buf : List ℕ) (f : FollowsOn judges room most p v r false buf) where
-    pub bare : Bare (hands_of room) (version_of_reader r) p v (view r)
-    bare = bare_by (hands_of room) (version_of_reader r) p v (view r) buf f.log f.next f.spelt f.lawful f.holds f.led f.handed_on f.reading
+  -- a version without a fate stands where threads live
+  pub lives_on : TellsEnd (view r).seen → ⊥
+  lives_on (h, spelt, law, dead) =
+      let same : h ≡ bare.log = same_spelt h bare.log law bare.lawful (spelt ∙ sym bare.spelt) in
+      never_closed threads thread_laws judges (as_told bare.log) most (hands_of room) (version_of_reader r) p v bare.log bare_reading
+      (subst (λ (x : List Entry). live_after x ≡ []) same dead)
 
-    -- what holds from whatever start
-    pub bare_reading : IsReaders threads judges (as_told bare.log) most (hands_of room) (version_of_reader r) p v bare.log None
-    bare_reading = bare.reading (as_told bare.log) (legal_told bare.log bare.lawful)
-
-    pub lives_on : TellsEnd (view r).seen → ⊥
-    lives_on t = goes_on (version_of_reader r) p v bare.log (view r).seen (hands_of room) bare.spelt bare.lawful bare_reading t
-
+  -- the reader has looked, and has consumed nothing
+  module _ (r2 : Reader K G) (of : IsOfRoom room r2) (same : SameReader r r2) (seen : (view r2).seen ≡ (view r).seen) (spans : (view r2).spans ≡ (view r).spans) where
     -- where no event is found the version follows on as it stands
-    pub found_none : (r2 : Reader K G) (buf2 : List ℕ) → IsOfRoom room r2 → SameReader r r2 → (view r2).seen ≡ (view r).seen → (view r2).spans ≡ (view r).spans → (view r2).read ≡ []
-        → FollowsOn judges room most p v r2 false buf2
-    found_none r2 buf2 of same seen spans read = record {
+    pub found_none : (buf2 : List ℕ) → (view r2).read ≡ [] → FollowsOn judges room most p v r2 false buf2
+    found_none buf2 read = record {
       of = of;
       log = f.log;
       next = f.next;
@@ -304,23 +306,21 @@ module _ (judges : ℕ → Judge) (most : ℕ) where
       reading = subst (λ (i : ℕ). FromAny f.log (λ start. IsReaders threads judges start most (hands_of room) i p v f.log f.next)) (sym same.3) f.reading;
     }
 
-    pub found_waiting : (r2 : Reader K G) (buf2 : List ℕ) (next : Next) → IsWaiting next → IsOfRoom room r2 → SameReader r r2 → (view r2).seen ≡ (view r).seen → (view r2).spans ≡ (view r).spans
-        → (view r2).read ≡ [] → AfterTurn judges room most p v r2 false buf2 next
-    found_waiting r2 buf2 Moved w of same seen spans read = absurd w
-    found_waiting r2 buf2 Ahead w of same seen spans read = found_none r2 buf2 of same seen spans read
-    found_waiting r2 buf2 Waits w of same seen spans read = found_none r2 buf2 of same seen spans read
-    found_waiting r2 buf2 Leads w of same seen spans read = absurd w
-    found_waiting r2 buf2 Hands w of same seen spans read = absurd w
-    found_waiting r2 buf2 Leaves w of same seen spans read = absurd w
-    found_waiting r2 buf2 Left w of same seen spans read = absurd w
+    pub found_waiting : (buf2 : List ℕ) → (view r2).read ≡ [] → (next : Next) → IsWaiting next → AfterTurn judges room most p v r2 false buf2 next
+    found_waiting buf2 read Moved w = absurd w
+    found_waiting buf2 read Ahead w = found_none buf2 read
+    found_waiting buf2 read Waits w = found_none buf2 read
+    found_waiting buf2 read Leads w = absurd w
+    found_waiting buf2 read Hands w = absurd w
+    found_waiting buf2 read Leaves w = absurd w
+    found_waiting buf2 read Left w = absurd w
 
-    pub found_event : (r2 : Reader K G) (words : List ℕ) → IsOfRoom room r2 → SameReader r r2 → (view r2).seen ≡ (view r).seen
-        → (view r2).spans ≡ (view r).spans → (view r2).read ≡ words → SpellLawful ((view r2).seen ++ words ∷ []) → FollowsOn judges room most p v r2 true words
-    found_event r2 words of same seen spans read tells =
+    pub found_event : (words : List ℕ) → (view r2).read ≡ words → SpellLawful ((view r2).seen ++ words ∷ []) → FollowsOn judges room most p v r2 true words
+    found_event words read tells =
         let spelt : map spell bare.log ≡ (view r2).seen = bare.spelt ∙ sym seen in
-        let n = read_next (version_of_reader r) p v bare.log (view r2).seen spelt bare.lawful words tells in
+        let n = read_next bare.log (view r2).seen spelt bare.lawful words tells in
         let reading : FromAny bare.log (λ start. IsReaders threads judges start most (hands_of room) (version_of_reader r) p v bare.log (Some n.0)) = λ start legal.
-        with_next_held threads thread_laws judges start most (hands_of room) (version_of_reader r) p v bare.log n.0 (bare.reading start legal) in
+        with_next_held threads thread_laws judges start most (hands_of room) n.0 (bare.reading start legal) in
         record {
           of = of;
           log = bare.log;

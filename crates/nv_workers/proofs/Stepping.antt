@@ -33,28 +33,28 @@ module _ (judges : ℕ → Judge) {K : Type 0} {G : Ghosts K} (room : Room K) (m
 
   pub tells_read : (old : Running Proc) (r r2 : Reader K G) (held held2 : Bool) (buf : List ℕ) (next : Next) → AfterTurn judges room most p v r2 held2 buf next
       → HasGrown (view r) (view r2) old v next → IsIdle (view r) (view r2) next → StepTells room next old v (Reading r held) (Reading r2 held2)
-  tells_read old r r2 held held2 buf Moved a grown idle = (grown, follows_fate judges most room p v r2 held2 buf a)
-  tells_read old r r2 held held2 buf Ahead a grown idle = (idle, follows_fate judges most room p v r2 held2 buf a)
-  tells_read old r r2 held held2 buf Waits a grown idle = (idle, follows_fate judges most room p v r2 held2 buf a)
+  tells_read old r r2 held held2 buf Moved a grown idle = (grown, follows_fate a)
+  tells_read old r r2 held held2 buf Ahead a grown idle = (idle, follows_fate a)
+  tells_read old r r2 held held2 buf Waits a grown idle = (idle, follows_fate a)
   tells_read old r r2 held held2 buf Leads a grown idle = tt
   tells_read old r r2 held held2 buf Hands a grown idle = absurd a
-  tells_read old r r2 held held2 buf Leaves a grown idle = has_ended judges most (hands_of room) (version_of_reader r2) p v (view r2) a.1
+  tells_read old r r2 held held2 buf Leaves a grown idle = has_ended a.1
   tells_read old r r2 held held2 buf Left a grown idle = absurd a
 
   pub tells_lead : (old : Running Proc) (l l2 : Lead K G) (asked asked2 : Option ℕ) (next : Next) → AfterLead judges room most p v l2 asked2 next
       → HasPublished (lead_view l) (lead_view l2) next → IsLate room l l2 next → StepTells room next old v (Leading l asked) (Leading l2 asked2)
-  tells_lead old l l2 asked asked2 Moved a published late = (inl published, leads_fate judges room most p v l2 false asked2 a)
+  tells_lead old l l2 asked asked2 Moved a published late = (inl published, leads_fate a)
   tells_lead old l l2 asked asked2 Ahead a published late = absurd a
-  tells_lead old l l2 asked asked2 Waits a published late = (late, leads_fate judges room most p v l2 false asked2 a)
+  tells_lead old l l2 asked asked2 Waits a published late = (late, leads_fate a)
   tells_lead old l l2 asked asked2 Leads a published late = absurd a
-  tells_lead old l l2 asked asked2 Hands a published late = (published, leads_fate judges room most p v l2 true asked2 a.0)
-  tells_lead old l l2 asked asked2 Leaves a published late = has_ended judges most (hands_of room) (version_of_lead l2) p v (lead_view l2) a.2
+  tells_lead old l l2 asked asked2 Hands a published late = (published, leads_fate a.0)
+  tells_lead old l l2 asked asked2 Leaves a published late = has_ended a.2
   tells_lead old l l2 asked asked2 Left a published late = absurd a
 
   pub gone_ended : (buf : List ℕ) (s : Seat K G) → WorksAt judges room most p v buf s → IsGone s → is_going v.at.fate ≡ false
   gone_ended buf (Reading r held) w g = absurd g
   gone_ended buf (Leading l asked) w g = absurd g
-  gone_ended buf (Gone l) w g = has_ended judges most (hands_of room) (version_of_left l) p v (left_view l) w.1
+  gone_ended buf (Gone l) w g = has_ended w.1
   gone_ended buf Moving w g = absurd g
 
 module _ {K : Type 0} {G : Ghosts K} where

@@ -1,6 +1,6 @@
 -- From what finish and run_all promise to the account.
-use Rattle.std.proofs.Common.{◌≡◌, ◌∙◌, sym, ap, subst, refl, ℕ, zero, suc, ◌+◌, ◌<◌, ◌≤◌, inl, inr, Bool, true, false, List, [], ◌∷◌, ◌++◌, map, length, take, drop, Option, Some, None, arith, append_assoc, append-nil, length-append, take-append-drop}
-use Rattle.std.specs.Prelude.{slice_get, nat_le, ◌==◌}
+use Rattle.std.proofs.Common.{◌≡◌, ◌∙◌, sym, ap, subst, refl, inl, inr, arith, append_assoc, append-nil, length-append, take-append-drop}
+use Rattle.std.specs.Prelude.{ℕ, zero, suc, ◌+◌, ◌<◌, ◌≤◌, Bool, true, false, List, [], ◌∷◌, ◌++◌, map, length, take, drop, Option, Some, None, slice_get, nat_le, ◌==◌}
 use Rattle.std.proofs.lemmas.Bool.{cases_lt}
 use Rattle.std.proofs.lemmas.Bool.Decides.{nat_tests}
 use Rattle.std.proofs.lemmas.Option.{same_Some}
@@ -36,7 +36,9 @@ use Rattle.nv_workers.specs.Ends.{IsCutOf, ends_of, AreHandedOn, Leaving, IsSpel
 use Rattle.nv_workers.proofs.Prefixes.{with_next, take_within}
 use Rattle.nv_workers.proofs.Keeping.{reaches, split_last, hands_planned}
 use Rattle.nv_workers.proofs.Stations.{WentBy, LedBy}
-use Rattle.nv_workers.proofs.Spanned.{place_below, after_at, later_at, map_append, who_of, who_is, who_at, none_below, AreBelow, below_more, below_last, after_below, only_first, none_there, one_there, tile_by, pair_at, version_append, version_own, version_none, from_version, handed_prefix, none_opened, who_below, none_later, rising_at}
+use Rattle.nv_workers.proofs.Spanned.{AreBelow, below_more, below_last, after_below, place_below, after_at, later_at, rising_at, pair_at, map_append, tile_by}
+use Rattle.nv_workers.proofs.Spanned.{none_below, none_there, none_opened, none_later, one_there, only_first, handed_prefix}
+use Rattle.nv_workers.proofs.Spanned.{who_of, who_is, who_at, who_below, version_append, version_own, version_none, from_version}
 use Rattle.nv_workers.proofs.Opening.{led_below, seat, TellsOn, told_by, own_led, other_led, same_led, Opens}
 use Rattle.nv_workers.proofs.Accounting.{workers}
 
@@ -98,7 +100,7 @@ module _ {P : Type 0} (g : Behaviour P) (laws : IsProcess g) (judges : ℕ → J
   Led k i v = LedBy g judges start most cuts hands h own total k i v
 
   abbrev below : ℕ → ℕ → List (ℕ × ℕ)
-  below k i = led_below g judges start most cuts hands h own total who tells k i
+  below k i = led_below own who k i
 
   -- version i: before, after, and what it is done with
   record Ran (i : ℕ) : Type 0 where
@@ -234,7 +236,7 @@ module _ {P : Type 0} (g : Behaviour P) (laws : IsProcess g) (judges : ℕ → J
           | inr y ↦ omega arith
         ]
 
-    went_out : below k i ≡ r.new.led → Went k i (seat g judges start most cuts hands h own total who tells p k)
+    went_out : below k i ≡ r.new.led → Went k i (seat own who p k)
     went_out e =
         let d : HasFollowed g judges start most hands fits spell i p r.new (left i) = elim r.is.told [ inl d ↦ d | inr d ↦ absurd (no_leader d) ] in
         let f = fell i (is_version k l) p r.new d in
@@ -293,7 +295,7 @@ module _ {P : Type 0} (g : Behaviour P) (laws : IsProcess g) (judges : ℕ → J
     record Out (led : List (ℕ × ℕ)) : Type 0 where
       out : Goal led
       over : is_handed hands out.from out.end ≡ x.handed
-      line : tells (suc k) iv ≡ told_by g judges start most cuts hands h own total who tells (record { process = pv; led = led; told = None })
+      line : tells (suc k) iv ≡ told_by (record { process = pv; led = led; told = None })
           (version_tracked g judges iv pv led (take out.from out.log)) out.end out.from x.handed
 
     seen_to : (to : ℕ) → to ≤ length (left iv).seen → to ≤ rv.new.at.seen
@@ -334,7 +336,7 @@ module _ {P : Type 0} (g : Behaviour P) (laws : IsProcess g) (judges : ℕ → J
         record {
           out = o;
           over = over ∙ sym hd;
-          line = none ∙ ap (told_by g judges start most cuts hands h own total who tells (record { process = pv; led = parts; told = None })
+          line = none ∙ ap (told_by (record { process = pv; led = parts; told = None })
               (version_tracked g judges iv pv parts (take x.from log)) end x.from) (sym hd);
         }
 
@@ -384,7 +386,7 @@ module _ {P : Type 0} (g : Behaviour P) (laws : IsProcess g) (judges : ℕ → J
         record {
           out = o;
           over = ended_not_handed hands x.from end ended ∙ sym hd;
-          line = told ∙ (ap Some line ∙ ap (told_by g judges start most cuts hands h own total who tells (record { process = pv; led = parts; told = None })
+          line = told ∙ (ap Some line ∙ ap (told_by (record { process = pv; led = parts; told = None })
               (version_tracked g judges iv pv parts (take x.from seen)) end x.from) (sym hd));
         }
 
@@ -515,7 +517,7 @@ module _ {P : Type 0} (g : Behaviour P) (laws : IsProcess g) (judges : ℕ → J
     went_after : After (k + 1) ys
     went_after =
         let n : suc k ≡ k + 1 = omega arith in
-        subst (λ (z : ℕ). After z ys) n (λ j. same_led g judges start most cuts hands h own total who tells k j (who k == j) (ap (map ends_of) none_here) ∙ e j)
+        subst (λ (z : ℕ). After z ys) n (λ j. same_led own who k j (who k == j) (ap (map ends_of) none_here) ∙ e j)
 
     went_step : (n c : ℕ) → OpensHere n (k + 1) c → OpensHere (suc n) k (suc c)
     went_step n c rec = (
@@ -542,7 +544,7 @@ module _ {P : Type 0} (g : Behaviour P) (laws : IsProcess g) (judges : ℕ → J
     led_after_by j true q =
         let w : who k ≡ j = eq_same (who k) j q in
         let v : x.version ≡ j = version k l ys xs x all at one_here ∙ w in
-        sym (own_led g judges start most cuts hands h own total who tells k j ((x.from, x.to) ∷ []) w led_here)
+        sym (own_led own who k j ((x.from, x.to) ∷ []) w led_here)
         ∙ (ap (λ (z : List (ℕ × ℕ)). z ++ (x.from, x.to) ∷ []) (e j)
         ∙ (sym (map_append ends_of (of_version j ys) (x ∷ []))
         ∙ ap (map ends_of) (ap (λ (z : List Span). of_version j ys ++ z) (sym (version_own j x [] v)) ∙ sym (version_append j ys (x ∷ [])))))
@@ -552,7 +554,7 @@ module _ {P : Type 0} (g : Behaviour P) (laws : IsProcess g) (judges : ℕ → J
         let w : who k ≡ j = sym (version k l ys xs x all at one_here) ∙ (ap (λ (z : Span). z.version) s ∙ v) in
         let c : (who k == j) ≡ true = grind (arith, nat_tests) in
         let z : true ≡ false = sym c ∙ q in cc) in
-        sym (other_led g judges start most cuts hands h own total who tells k j q)
+        sym (other_led own who k j q)
         ∙ (e j ∙ ap (map ends_of) (sym (append-nil (of_version j ys)) ∙ (ap (λ (z : List Span). of_version j ys ++ z) (sym none) ∙ sym (version_append j ys (x ∷ []))))) where
           one_of : (i : ℕ) (y : Span) → get_elem? (x ∷ []) i ≡ some y → x ≡ y
           one_of zero y h = some-injective x y h
@@ -563,7 +565,7 @@ module _ {P : Type 0} (g : Behaviour P) (laws : IsProcess g) (judges : ℕ → J
 
     led_tells : TellsOn g judges start most cuts hands h own total who tells (ran (who k) (is_version k l)).old.at.process k (inr here_out.out)
     led_tells = (
-      here_out.line ∙ ap (told_by g judges start most cuts hands h own total who tells (seat g judges start most cuts hands h own total who tells (ran (who k) (is_version k l)).old.at.process k)
+      here_out.line ∙ ap (told_by (seat own who (ran (who k) (is_version k l)).old.at.process k)
           (version_tracked g judges (who k) (ran (who k) (is_version k l)).old.at.process (below k (who k)) (take here_out.out.from here_out.out.log)) here_out.out.end here_out.out.from) (sym here_out.over),
       λ j q. other_told k j l q,
     )

@@ -14,69 +14,71 @@ use Rattle.nv_workers.proofs.follows.decide.Goals as goal
 
 pub event-event-requires : goal.event-event-requires
 event-event-requires g c =
-    let h = held_of (judges_of c.args.terms.now) c.requires.follows.0 c.args.room.now c.requires.follows.1 c.args.version.now c.args.reader.now c.args.buf.now c.requires.follows.2 in
-    whole_buf (judges_of c.args.terms.now) _ _ _ _ _ _ _ h
+    let h = held_of c.requires.follows.2 in
+    whole_buf h
 
 pub follow-requires-clause-following : goal.follow-requires-clause-following
 follow-requires-clause-following g c =
-    let h = held_of (judges_of c.args.terms.now) c.requires.follows.0 c.args.room.now c.requires.follows.1 c.args.version.now c.args.reader.now c.args.buf.now c.requires.follows.2 in
-    let r = held_reading (judges_of c.args.terms.now) _ _ _ _ _ _ _ h in
+    let h = held_of c.requires.follows.2 in
+    let r = held_reading h in
     record { on = r.on; idle = r.idle }
 
 pub follow-requires-clause-stamp : goal.follow-requires-clause-stamp
 follow-requires-clause-stamp g c =
-    let h = held_of (judges_of c.args.terms.now) c.requires.follows.0 c.args.room.now c.requires.follows.1 c.args.version.now c.args.reader.now c.args.buf.now c.requires.follows.2 in
-    let e = event_is (judges_of c.args.terms.now) _ _ _ _ _ _ _ h (entry c.event-event.result.now) c.event-event.ensures.spelt c.event-event.ensures.range in
-    ap (λ (x : Entry). x.stamp) e ∙ stamp_is (judges_of c.args.terms.now) _ _ _ _ _ _ _ h
+    let h = held_of c.requires.follows.2 in
+    let e = event_is h (entry c.event-event.result.now) c.event-event.ensures.spelt c.event-event.ensures.range in
+    ap (λ (x : Entry). x.stamp) e ∙ stamp_is h
 
 pub follow-requires-clause-below : goal.follow-requires-clause-below
 follow-requires-clause-below g c =
-    let h = held_of (judges_of c.args.terms.now) c.requires.follows.0 c.args.room.now c.requires.follows.1 c.args.version.now c.args.reader.now c.args.buf.now c.requires.follows.2 in
-    is_below (judges_of c.args.terms.now) _ _ _ _ _ _ _ h
+    let h = held_of c.requires.follows.2 in
+    is_below h
 
 pub follow-requires-clause-lives : goal.follow-requires-clause-lives
 follow-requires-clause-lives g c =
-    let h = held_of (judges_of c.args.terms.now) c.requires.follows.0 c.args.room.now c.requires.follows.1 c.args.version.now c.args.reader.now c.args.buf.now c.requires.follows.2 in
-    let e = event_is (judges_of c.args.terms.now) _ _ _ _ _ _ _ h (entry c.event-event.result.now) c.event-event.ensures.spelt c.event-event.ensures.range in
-    subst (λ (x : Entry). Contains (threads.live c.args.version.now.at.process) x.call.tid) (sym e) (is_live (judges_of c.args.terms.now) _ _ _ _ _ _ _ h)
+    let h = held_of c.requires.follows.2 in
+    let e = event_is h (entry c.event-event.result.now) c.event-event.ensures.spelt c.event-event.ensures.range in
+    subst (λ (x : Entry). Contains (threads.live c.args.version.now.at.process) x.call.tid) (sym e) (is_live h)
 
 pub follow-requires-clause-new : goal.follow-requires-clause-new
 follow-requires-clause-new g c =
-    let h = held_of (judges_of c.args.terms.now) c.requires.follows.0 c.args.room.now c.requires.follows.1 c.args.version.now c.args.reader.now c.args.buf.now c.requires.follows.2 in
-    let e = event_is (judges_of c.args.terms.now) _ _ _ _ _ _ _ h (entry c.event-event.result.now) c.event-event.ensures.spelt c.event-event.ensures.range in
-    subst (λ (x : Entry). IsNew (threads.live c.args.version.now.at.process) (child_of x)) (sym e) (is_new (judges_of c.args.terms.now) _ _ _ _ _ _ _ h)
+    let h = held_of c.requires.follows.2 in
+    let e = event_is h (entry c.event-event.result.now) c.event-event.ensures.spelt c.event-event.ensures.range in
+    subst (λ (x : Entry). IsNew (threads.live c.args.version.now.at.process) (child_of x)) (sym e) (is_new h)
 
 pub advance-requires-clause-polled : goal.advance-requires-clause-polled
 advance-requires-clause-polled g c κs within =
-    let h = held_of (judges_of c.args.terms.now) c.requires.follows.0 c.args.room.now c.requires.follows.1 c.args.version.now c.args.reader.now c.args.buf.now c.requires.follows.2 in
-    whole_read (judges_of c.args.terms.now) _ _ _ _ _ _ _ h
+    let h = held_of c.requires.follows.2 in
+    whole_read h
 
 pub returns-in-Rewrote-clause-after : goal.returns-in-Rewrote-clause-after
 returns-in-Rewrote-clause-after g c = λ most p f.
+    let e = c.event-event.ensures in
     let t = c.in-Rewrote.ensures.told in
     subst (λ (b : Bool). FollowsOn (judges_of c.args.terms.now) c.args.room.now most p c.follow.new.self c.args.reader.now b c.args.buf.now) (sym c.requires.held)
-    (after_rewrote (judges_of c.args.terms.now) most c.args.room.now p c.args.version.now c.args.reader.now c.args.buf.now f (entry c.event-event.result.now)
-    c.event-event.ensures.spelt c.event-event.ensures.range c.follow.new.self c.follow.ensures.new t.0 t.2)
+    (after_rewrote f (entry c.event-event.result.now) e.spelt e.range c.follow.new.self c.follow.ensures.new t.0 t.2)
 
 pub returns-in-Dropped-clause-after : goal.returns-in-Dropped-clause-after
 returns-in-Dropped-clause-after g c = λ most p f.
-    let t = c.in-Dropped.ensures.told in (
-      f.of,
-      after_drop (judges_of c.args.terms.now) most c.args.room.now p c.args.version.now c.args.reader.now c.args.buf.now f (entry c.event-event.result.now)
-          c.event-event.ensures.spelt c.event-event.ensures.range c.follow.new.self c.follow.ensures.new t.0 (ap is_going t.2),
-    )
+    let e = c.event-event.ensures in
+    let t = c.in-Dropped.ensures.told in
+    (f.of, after_drop f (entry c.event-event.result.now) e.spelt e.range c.follow.new.self c.follow.ensures.new t.0 (ap is_going t.2))
 
 pub returns-then-is_some-clause-after : goal.returns-then-is_some-clause-after
-returns-then-is_some-clause-after g c = λ most p f. (
-  c.advance.ensures.of,
-  after_exit (judges_of c.args.terms.now) most c.args.room.now p c.args.version.now c.args.reader.now c.args.buf.now f (entry c.event-event.result.now)
-      c.event-event.ensures.spelt c.event-event.ensures.range c.follow.new.self c.follow.ensures.new c.advance.new.reader c.advance.ensures.same c.advance.ensures.view (seen_by _ _ c.args.version.now.at c.follow.new.self.at c.in-Matched.is c.follow.ensures.told) (off_from _ _ (sym c.if-is_some.ensures) (ap (λ (x : Standing). x.fate) c.standing.ensures)),
-)
+returns-then-is_some-clause-after g c = λ most p f.
+    let e = c.event-event.ensures in
+    let a = c.advance.ensures in
+    let one = seen_by _ _ c.args.version.now.at c.follow.new.self.at c.in-Matched.is c.follow.ensures.told in
+    let off = off_from _ _ (sym c.if-is_some.ensures) (ap (λ (x : Standing). x.fate) c.standing.ensures) in
+    (a.of, after_exit f (entry c.event-event.result.now) e.spelt e.range c.follow.new.self c.follow.ensures.new c.advance.new.reader a.same a.view one off)
 
 pub returns-else-is_some-clause-after : goal.returns-else-is_some-clause-after
 returns-else-is_some-clause-after g c = λ most p f.
-    after_consumed (judges_of c.args.terms.now) most c.args.room.now p c.args.version.now c.args.reader.now c.args.buf.now f (entry c.event-event.result.now)
-    c.event-event.ensures.spelt c.event-event.ensures.range c.follow.new.self c.follow.ensures.new c.advance.new.reader c.advance.ensures.of c.advance.ensures.same c.advance.ensures.view (seen_by _ _ c.args.version.now.at c.follow.new.self.at c.in-Matched.is c.follow.ensures.told) (none_from _ _ (sym c.if-is_some.ensures) (ap (λ (x : Standing). x.fate) c.standing.ensures))
+    let e = c.event-event.ensures in
+    let a = c.advance.ensures in
+    let one = seen_by _ _ c.args.version.now.at c.follow.new.self.at c.in-Matched.is c.follow.ensures.told in
+    let on = none_from _ _ (sym c.if-is_some.ensures) (ap (λ (x : Standing). x.fate) c.standing.ensures) in
+    after_consumed f (entry c.event-event.result.now) e.spelt e.range c.follow.new.self c.follow.ensures.new c.advance.new.reader a.of a.same a.view one on
 
 pub returns-in-Rewrote-clause-grown : goal.returns-in-Rewrote-clause-grown
 returns-in-Rewrote-clause-grown g c =

@@ -4,7 +4,7 @@ use Rattle.nv_replay.specs.Version.{Running}
 use Rattle.nv_threads.specs.Threads.{Proc}
 use Rattle.nv_workers.specs.Working.{FollowsOn}
 use Rattle.nv_workers.specs.Follows.{AfterTurn}
-use Rattle.nv_workers.proofs.Reading.{lives_on, found_none, found_event, found_waiting}
+use Rattle.nv_workers.proofs.Reading.{none_held, lives_on, found_none, found_event, found_waiting}
 use Rattle.nv_workers.proofs.Growing.{none_more, one_after}
 use Rattle.nv_workers.proofs.follows.follow_turn.Goals as goal
 
@@ -14,26 +14,19 @@ returns-then-held-clause-after g c = λ most p f.
     (subst (λ (b : Bool). FollowsOn (judges_of c.args.terms.now) c.args.room.now most p c.args.version.now c.args.reader.now b c.args.buf.now) c.if-held.true f)
 
 pub find_event-requires-clause-goes_on : goal.find_event-requires-clause-goes_on
-find_event-requires-clause-goes_on g c κs within =
-    lives_on (judges_of c.args.terms.now) c.requires.0 c.args.room.now c.requires.1 c.args.version.now c.args.reader.now c.args.buf.now
-    (subst (λ (b : Bool). FollowsOn (judges_of c.args.terms.now) c.args.room.now c.requires.0 c.requires.1 c.args.version.now c.args.reader.now b c.args.buf.now) c.if-held.false c.requires.2)
+find_event-requires-clause-goes_on g c κs within = lives_on (none_held c.if-held.false c.requires.2)
 
 pub decide-requires-in-Event-clause-follows : goal.decide-requires-in-Event-clause-follows
 decide-requires-in-Event-clause-follows g c κs within =
-    let e = c.in-Event.ensures in (
-      c.requires.0,
-      c.requires.1,
-      found_event (judges_of c.args.terms.now) c.requires.0 c.args.room.now c.requires.1 c.args.version.now c.args.reader.now c.args.buf.now
-          (subst (λ (b : Bool). FollowsOn (judges_of c.args.terms.now) c.args.room.now c.requires.0 c.requires.1 c.args.version.now c.args.reader.now b c.args.buf.now) c.if-held.false c.requires.2)
-          c.find_event.new.reader c.find_event.new.buf e.of e.same e.found.0 e.found.1 e.found.2 e.found.4,
-    )
+    let e = c.in-Event.ensures in
+    let f = none_held c.if-held.false c.requires.2 in
+    (c.requires.0, c.requires.1, found_event f c.find_event.new.reader e.of e.same e.found.0 e.found.1 c.find_event.new.buf e.found.2 e.found.4)
 
 pub returns-in-Event-clause-after : goal.returns-in-Event-clause-after
 returns-in-Event-clause-after g c = λ most p f.
     let e = c.in-Event.ensures in
-    c.decide-in-Event.ensures.after most p (found_event (judges_of c.args.terms.now) most c.args.room.now p c.args.version.now c.args.reader.now c.args.buf.now
-    (subst (λ (b : Bool). FollowsOn (judges_of c.args.terms.now) c.args.room.now most p c.args.version.now c.args.reader.now b c.args.buf.now) c.if-held.false f)
-    c.find_event.new.reader c.find_event.new.buf e.of e.same e.found.0 e.found.1 e.found.2 e.found.4)
+    c.decide-in-Event.ensures.after most p
+    (found_event (none_held c.if-held.false f) c.find_event.new.reader e.of e.same e.found.0 e.found.1 c.find_event.new.buf e.found.2 e.found.4)
 
 pub returns-in-Held-clause-after : goal.returns-in-Held-clause-after
 returns-in-Held-clause-after g c = λ most p f.
@@ -41,19 +34,12 @@ returns-in-Held-clause-after g c = λ most p f.
     let e = c.in-Held.ensures in
     subst (λ (v : Running Proc). AfterTurn judges c.args.room.now most p v c.find_event.new.reader c.args.held.now c.find_event.new.buf c.go_ahead.result) (sym c.go_ahead.ensures.same)
     (subst (λ (b : Bool). AfterTurn judges c.args.room.now most p c.args.version.now c.find_event.new.reader b c.find_event.new.buf c.go_ahead.result) (sym c.if-held.false)
-    (found_waiting judges most c.args.room.now p c.args.version.now c.args.reader.now c.args.buf.now
-    (subst (λ (b : Bool). FollowsOn judges c.args.room.now most p c.args.version.now c.args.reader.now b c.args.buf.now) c.if-held.false f)
-    c.find_event.new.reader c.find_event.new.buf c.go_ahead.result c.go_ahead.ensures.waits e.of e.same e.found.0 e.found.1 e.found.2))
+    (found_waiting (none_held c.if-held.false f) c.find_event.new.reader e.of e.same e.found.0 e.found.1 c.find_event.new.buf e.found.2 c.go_ahead.result c.go_ahead.ensures.waits))
 
 pub returns-in-Free-clause-after : goal.returns-in-Free-clause-after
 returns-in-Free-clause-after g c = λ most p f.
-    let judges = judges_of c.args.terms.now in
-    let e = c.in-Free.ensures in (
-      found_none judges most c.args.room.now p c.args.version.now c.args.reader.now c.args.buf.now
-          (subst (λ (b : Bool). FollowsOn judges c.args.room.now most p c.args.version.now c.args.reader.now b c.args.buf.now) c.if-held.false f)
-          c.find_event.new.reader c.find_event.new.buf e.of e.same e.found.0 e.found.1 e.found.2,
-      e.found.3,
-    )
+    let e = c.in-Free.ensures in
+    (found_none (none_held c.if-held.false f) c.find_event.new.reader e.of e.same e.found.0 e.found.1 c.find_event.new.buf e.found.2, e.found.3)
 
 pub returns-in-Event-clause-one : goal.returns-in-Event-clause-one
 returns-in-Event-clause-one g c = one_after _ _ _ c.in-Event.ensures.found.0 c.decide-in-Event.ensures.one

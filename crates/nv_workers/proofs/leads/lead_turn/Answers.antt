@@ -1,44 +1,41 @@
-use Rattle.std.proofs.Common.{subst, ap, ℕ, Option, false, arith}
+use Rattle.std.proofs.Common.{ap, arith}
 use Rattle.nv_replay.specs.Sequence.{is_going}
 use Rattle.nv_served.proofs.LearningLaws.{as_told, legal_told}
 use Rattle.nv_room.specs.Seats.{kernel_of}
-use Rattle.nv_workers.specs.Working.{LeadsOn}
-use Rattle.nv_workers.proofs.Serving.{drops_lead, asks_lead}
+use Rattle.nv_workers.proofs.Serving.{with_asked, drops_lead, asks_lead}
 use Rattle.nv_threads.specs.Threads.{threads}
 use Rattle.nv_workers.proofs.Growing.{asked_rises}
 use Rattle.nv_workers.proofs.leads.lead_turn.Goals as goal
 
 pub lead-requires-clause-on : goal.lead-requires-clause-on
 lead-requires-clause-on g c =
-    let f0 = subst (λ (o : Option ℕ). LeadsOn c.requires.leads.0 c.args.room.now c.args.terms.now.most c.requires.leads.1 c.args.version.now false c.args.lead.now o) c.in-None.is c.requires.leads.2 in
+    let f0 = with_asked c.requires.leads.2 c.in-None.is in
     let s = f0.serves (as_told (g.K.SyscallKernel.log (kernel_of c.args.lead.now))) (legal_told (g.K.SyscallKernel.log (kernel_of c.args.lead.now)) f0.lawful) in
     s.led_from.in_step.on s.on
 
 pub lead-requires-clause-leading : goal.lead-requires-clause-leading
 lead-requires-clause-leading g c =
-    let f0 = subst (λ (o : Option ℕ). LeadsOn c.requires.leads.0 c.args.room.now c.args.terms.now.most c.requires.leads.1 c.args.version.now false c.args.lead.now o) c.in-None.is c.requires.leads.2 in
+    let f0 = with_asked c.requires.leads.2 c.in-None.is in
     let s = f0.serves (as_told (g.K.SyscallKernel.log (kernel_of c.args.lead.now))) (legal_told (g.K.SyscallKernel.log (kernel_of c.args.lead.now)) f0.lawful) in
     record { on = s.on; leading = s.led_from.leading; none_asked = s.none_asked }
 
 pub serve-requires-in-Asked-clause-leads : goal.serve-requires-in-Asked-clause-leads
 serve-requires-in-Asked-clause-leads g c κs within =
-    let j = c.requires.leads.0 in
-    let p = c.requires.leads.1 in
-    let f0 = subst (λ (o : Option ℕ). LeadsOn j c.args.room.now c.args.terms.now.most p c.args.version.now false c.args.lead.now o) c.in-None.is c.requires.leads.2 in
+    let f0 = with_asked c.requires.leads.2 c.in-None.is in
     let t = c.in-Asked.ensures.told in
-    (j, p, asks_lead j c.args.room.now c.args.terms.now.most p c.args.version.now c.args.lead.now f0 c.lead.new.self c.in-Asked.tid c.lead.ensures.new t.0)
+    (c.requires.leads.0, c.requires.leads.1, asks_lead f0 c.lead.new.self c.lead.ensures.new t.0)
 
 pub returns-in-Dropped-clause-after : goal.returns-in-Dropped-clause-after
 returns-in-Dropped-clause-after g c = λ j p f.
-    let f0 = subst (λ (o : Option ℕ). LeadsOn j c.args.room.now c.args.terms.now.most p c.args.version.now false c.args.lead.now o) c.in-None.is f in
+    let f0 = with_asked f c.in-None.is in
     let t = c.in-Dropped.ensures.told in
-    (f0.of, f0.none_due, drops_lead j c.args.room.now c.args.terms.now.most p c.args.version.now c.args.lead.now f0 c.lead.new.self c.lead.ensures.new t.0 (ap is_going t.1))
+    (f0.of, f0.none_due, drops_lead f0 c.lead.new.self c.lead.ensures.new t.0 (ap is_going t.1))
 
 pub returns-in-Asked-clause-after : goal.returns-in-Asked-clause-after
 returns-in-Asked-clause-after g c = λ j p f.
-    let f0 = subst (λ (o : Option ℕ). LeadsOn j c.args.room.now c.args.terms.now.most p c.args.version.now false c.args.lead.now o) c.in-None.is f in
+    let f0 = with_asked f c.in-None.is in
     let t = c.in-Asked.ensures.told in
-    c.serve-in-Asked.ensures.after j p (asks_lead j c.args.room.now c.args.terms.now.most p c.args.version.now c.args.lead.now f0 c.lead.new.self c.in-Asked.tid c.lead.ensures.new t.0)
+    c.serve-in-Asked.ensures.after j p (asks_lead f0 c.lead.new.self c.lead.ensures.new t.0)
 
 pub returns-in-Dropped-clause-rewrites : goal.returns-in-Dropped-clause-rewrites
 returns-in-Dropped-clause-rewrites g c = asked_rises threads c.args.terms.now.most c.args.version.now c.lead.new.self c.lead.ensures.new

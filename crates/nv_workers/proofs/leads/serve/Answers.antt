@@ -1,7 +1,6 @@
-use Rattle.std.proofs.Common.{◌≡◌, ◌∙◌, subst, sym, ap, ℕ, Option, Some, None, false, arith, rules}
+use Rattle.std.proofs.Common.{◌≡◌, ◌∙◌, sym, ap, Some, None, arith, rules}
 use Rattle.nv_room.specs.Seats.{lead_view}
-use Rattle.nv_workers.specs.Working.{LeadsOn}
-use Rattle.nv_workers.proofs.Serving.{grew_lead, placed_lead, reserved_lead, asked_now, waits_lead, refused_lead, after_served, published_next, late_next}
+use Rattle.nv_workers.proofs.Serving.{grew_lead, with_asked, placed_lead, reserved_lead, asked_now, waits_lead, refused_lead, after_served, published_next, late_next}
 use Rattle.nv_ring.proofs.Filling.{ready_still}
 use Rattle.nv_workers.proofs.Growing.{none_more, one_more, one_after}
 use Rattle.nv_threads.specs.Threads.{Proc}
@@ -11,38 +10,37 @@ use Rattle.nv_workers.proofs.leads.serve.Goals as goal
 pub returns-in-Waiting-clause-after : goal.returns-in-Waiting-clause-after
 returns-in-Waiting-clause-after g c = λ j p f.
     let e = c.in-Waiting.ensures in
-    subst (λ (o : Option ℕ). LeadsOn j c.args.room.now c.args.terms.now.most p c.args.version.now false c.place.new.lead o) (sym c.requires.asked)
-    (placed_lead j c.args.room.now c.args.terms.now.most p c.args.version.now c.args.lead.now (Some c.args.tid) f c.place.new.lead e.of e.same e.due e.kernel e.seen e.wrote e.spans)
+    with_asked (placed_lead f c.place.new.lead e.of e.same e.due e.kernel e.seen e.wrote e.spans) (sym c.requires.asked)
 
 pub pending-requires : goal.pending-requires
 pending-requires g c =
-    (waits_lead c.requires.leads.0 c.args.room.now c.args.terms.now.most c.requires.leads.1 c.args.version.now c.args.lead.now c.args.tid c.requires.leads.2).pending
+    (waits_lead c.requires.leads.2).pending
 
 pub returns-then-is_err-clause-after : goal.returns-then-is_err-clause-after
 returns-then-is_err-clause-after g c = λ j p f.
     let e = c.in_default.ensures in
     let r = c.reserve.ensures in
-    let f1 = placed_lead j c.args.room.now c.args.terms.now.most p c.args.version.now c.args.lead.now (Some c.args.tid) f c.place.new.lead e.of e.same e.due e.kernel e.seen e.wrote e.spans in
-    let f2 = reserved_lead j c.args.room.now c.args.terms.now.most p c.args.version.now c.place.new.lead (Some c.args.tid) f1 c.reserve.new.self r.same r.view r.due r.log in
-    (f2.of, f2.none_due, refused_lead j c.args.room.now c.args.terms.now.most p c.args.version.now c.reserve.new.self c.args.tid f2 c.refuse_memory.new.self c.refuse_memory.ensures)
+    let f1 = placed_lead f c.place.new.lead e.of e.same e.due e.kernel e.seen e.wrote e.spans in
+    let f2 = reserved_lead f1 c.reserve.new.self r.same r.view r.due r.log in
+    (f2.of, f2.none_due, refused_lead f2 c.refuse_memory.new.self c.refuse_memory.ensures)
 
 pub refuse_memory-requires : goal.refuse_memory-requires
 refuse_memory-requires g c =
-    let asked = asked_now c.requires.leads.0 c.args.room.now c.args.terms.now.most c.requires.leads.1 c.args.version.now c.args.lead.now c.args.tid c.requires.leads.2 in
+    let asked = asked_now c.requires.leads.2 in
     λ none. let e : Some c.args.tid ≡ None = sym asked ∙ none in cc
 
 pub publish_call-requires-after_bounds : goal.publish_call-requires-after_bounds
 publish_call-requires-after_bounds g c κs within =
     let e = c.in_default.ensures in
     let r = c.reserve.ensures in
-    let f1 = placed_lead c.requires.leads.0 c.args.room.now c.args.terms.now.most c.requires.leads.1 c.args.version.now c.args.lead.now (Some c.args.tid) c.requires.leads.2 c.place.new.lead e.of e.same e.due e.kernel e.seen e.wrote e.spans in
-    let f2 = reserved_lead c.requires.leads.0 c.args.room.now c.args.terms.now.most c.requires.leads.1 c.args.version.now c.place.new.lead (Some c.args.tid) f1 c.reserve.new.self r.same r.view r.due r.log in
-    let w = waits_lead c.requires.leads.0 c.args.room.now c.args.terms.now.most c.requires.leads.1 c.args.version.now c.reserve.new.self c.args.tid f2 in record {
+    let f1 = placed_lead c.requires.leads.2 c.place.new.lead e.of e.same e.due e.kernel e.seen e.wrote e.spans in
+    let f2 = reserved_lead f1 c.reserve.new.self r.same r.view r.due r.log in
+    let w = waits_lead f2 in record {
       of = f2.of;
       placed = ready_still c.args.room.now c.place.new.lead c.reserve.new.self (ap (λ w. w.seen) r.view) (ap (λ w. w.floors) r.view) r.same.2 r.same.4 e.placed;
       none_due = f2.none_due;
       none_wrote = f2.none_wrote;
-      asked = asked_now c.requires.leads.0 c.args.room.now c.args.terms.now.most c.requires.leads.1 c.args.version.now c.reserve.new.self c.args.tid f2;
+      asked = asked_now f2;
       pending = w.pending;
       lives = w.lives;
       live = w.live;
@@ -55,11 +53,9 @@ pub returns-clause-after : goal.returns-clause-after
 returns-clause-after g c = λ j p f.
     let e = c.in_default.ensures in
     let r = c.reserve.ensures in
-    let f1 = placed_lead j c.args.room.now c.args.terms.now.most p c.args.version.now c.args.lead.now (Some c.args.tid) f c.place.new.lead e.of e.same e.due e.kernel e.seen e.wrote e.spans in
-    let f2 = reserved_lead j c.args.room.now c.args.terms.now.most p c.args.version.now c.place.new.lead (Some c.args.tid) f1 c.reserve.new.self r.same r.view r.due r.log in
-    let q = c.publish_call.ensures in
-    after_served j c.args.room.now c.args.terms.now.most p c.args.version.now c.reserve.new.self c.args.tid f2 c.publish_call.new.lead c.publish_call.new.version q.same q.log q.seen q.spans q.lawful q.version
-    c.args.terms.now.hands.now c.next_of.result c.requires.terms.hands c.next_of.ensures q.of q.due q.wrote
+    let f1 = placed_lead f c.place.new.lead e.of e.same e.due e.kernel e.seen e.wrote e.spans in
+    let f2 = reserved_lead f1 c.reserve.new.self r.same r.view r.due r.log in
+    after_served f2 c.publish_call.ensures c.args.terms.now.hands.now c.next_of.result c.requires.terms.hands c.next_of.ensures
 
 pub returns-clause-published : goal.returns-clause-published
 returns-clause-published g c =

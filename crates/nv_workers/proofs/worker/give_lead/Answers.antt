@@ -4,20 +4,17 @@ use Rattle.nv_workers.proofs.worker.give_lead.Goals as goal
 
 pub end_lead-requires : goal.end_lead-requires
 end_lead-requires g c =
-    let f = c.requires.leads in
-    leads_now f.0 c.args.room.now f.1 f.2 c.args.version.now c.args.lead f.3
+    leads_now c.requires.leads.3
 
 pub hand-requires-clause-planned : goal.hand-requires-clause-planned
 hand-requires-clause-planned g c κs within =
-    let f = c.requires.leads in
-    planned_now f.0 c.args.room.now f.1 f.2 c.args.version.now c.args.lead f.3
+    planned_now c.requires.leads.3
 
 pub hand-requires-clause-led : goal.hand-requires-clause-led
 hand-requires-clause-led g c κs within =
-    let f = c.requires.leads in
-    led_now f.0 c.args.room.now f.1 f.2 c.args.version.now c.args.lead f.3
+    led_now c.requires.leads.3
 
 pub returns-clause-follows : goal.returns-clause-follows
 returns-clause-follows g c = λ judges most p buf f.
     let h = c.hand.ensures in
-    gives_lead judges c.args.room.now most p c.args.version.now c.args.lead f c.hand.result c.end_lead.new.self buf h.of h.station.1 (ap (λ w. w.seen) h.view) h.read (ap (λ w. w.spans) h.view) c.end_lead.ensures
+    gives_lead f c.hand.result c.end_lead.new.self buf h.of h.station.1 (ap (λ w. w.seen) h.view) h.read (ap (λ w. w.spans) h.view) c.end_lead.ensures

@@ -6,22 +6,19 @@ use Rattle.nv_workers.proofs.worker.take_lead.Goals as goal
 pub returns-clause-leads : goal.returns-clause-leads
 returns-clause-leads g c = λ j most p buf f.
     let t = c.take-lead.ensures in
-    takes_lead j c.args.room.now most p c.args.version.now c.args.reader buf f c.take-lead.result c.begin_lead.new.self t.of t.station.1 t.view t.due t.log
+    takes_lead f c.take-lead.result c.begin_lead.new.self t.of t.station.1 t.view t.due t.log
     (subst IsLawful (ap g.K.SyscallKernel.log c.kernel.ensures) c.history-log.ensures.lawful) c.begin_lead.ensures
 
 pub begin_lead-requires-clause-following : goal.begin_lead-requires-clause-following
 begin_lead-requires-clause-following g c =
-    let f = c.requires.follows in
-    follows_now f.0 c.args.room.now f.1 f.2 c.args.version.now c.args.reader f.3 f.4
+    follows_now c.requires.follows.4
 
 pub begin_lead-requires-clause-few : goal.begin_lead-requires-clause-few
 begin_lead-requires-clause-few g c =
-    let f = c.requires.follows in
-    let n = few_led f.0 c.args.room.now f.1 f.2 c.args.version.now c.args.reader f.3 f.4 in
+    let n = few_led c.requires.follows.4 in
     let few = c.args.room.now.few_hands in
     omega arith
 
 pub returns-clause-on : goal.returns-clause-on
 returns-clause-on g c =
-    let f = c.requires.follows in
-    ap (λ v. v.at.fate) c.begin_lead.ensures ∙ (follows_now f.0 c.args.room.now f.1 f.2 c.args.version.now c.args.reader f.3 f.4).on
+    ap (λ v. v.at.fate) c.begin_lead.ensures ∙ (follows_now c.requires.follows.4).on
