@@ -14,8 +14,6 @@ mod running;
 mod sleepers;
 mod staffing;
 mod terms;
-#[cfg(test)]
-mod tests;
 mod worker;
 
 pub use gate::{Gate, OpenGate, VersionNumber};
