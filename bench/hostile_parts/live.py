@@ -291,7 +291,12 @@ class Live:
                 raise Wrong(f"listen.py ended with {status}")
             if not answers[2].endswith(b"\r\n\r\nhi\n"):
                 raise Wrong(f"the client that stayed got {answers[2]!r}")
-            case.sent = b"".join(line for line in without_comments(transcript).splitlines(keepends=True) if re.match(rb"connect|data|end", line))
+            taken = b"".join(line for line in without_comments(transcript).splitlines(keepends=True) if re.match(rb"connect|data|end", line))
+            held = not_taken(transcript)
+            # What listen.py sent isn't kept. Behind the end of all clients it may tell the ends of those that had still stayed, for which no call asks.
+            if held and not (taken.endswith(b"\nend clients\n") and re.fullmatch(rb"(end \d+\n)+", held)):
+                raise Wrong(f"not taken: {held[:80]}")
+            case.sent = taken + held
             self.rehearse(case, transcript)
 
         write("t", transcript)
