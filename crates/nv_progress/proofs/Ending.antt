@@ -14,7 +14,8 @@ use Rattle.nv_room.specs.declared.view.Role.{Role}
 use Rattle.nv_room.specs.declared.view.Role.TheVariants.{Reader, Lead, Opening, Leaving, Moving, Gone, Spent}
 use Rattle.nv_room.specs.Room.{Live, Rule}
 use Rattle.nv_progress.specs.GetsOn.{moment, AllSeated, CanGetOn, Stays, SomeStays}
-use Rattle.nv_progress.specs.Steps.{Kind, StepGives, gets_on}
+use Rattle.nv_room.specs.Kinds.{Kind, StepGives}
+use Rattle.nv_progress.specs.Steps.{gets_on}
 use Rattle.nv_progress.specs.Plays.{Does}
 use Rattle.nv_progress.specs.Traces.{Finds, Trace, GetsOnByNone, HasToWait}
 use Rattle.nv_progress.specs.Runs.{steps_of, turns_of, IsRun, IsTurn, HasTurn, Windows, TakesTurns, IsFair, all_left}

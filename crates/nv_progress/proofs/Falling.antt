@@ -7,7 +7,8 @@ use Rattle.nv_room.specs.declared.view.View.{View}
 use Rattle.nv_room.specs.declared.view.Role.{Role}
 use Rattle.nv_room.specs.declared.view.Role.TheVariants.{Reader, Lead, Opening, Leaving, Moving, Gone, Spent}
 use Rattle.nv_room.specs.Steps.{with_note, with_miss}
-use Rattle.nv_progress.specs.Steps.{turns_at, steps_left, Kind, looks_head, looks_owner, looks_cursor, looks_spare, probes, reads, writes, sees, publishes, takes, gives_up, leaves, opens, hands, moves, StepGives, gets_on, Went, steps_on}
+use Rattle.nv_room.specs.Kinds.{Kind, looks_head, looks_owner, looks_cursor, looks_spare, probes, reads, writes, sees, publishes, takes, gives_up, leaves, opens, hands, moves, StepGives, Went}
+use Rattle.nv_progress.specs.Steps.{turns_at, steps_left, gets_on, steps_on}
 
 pub at_most_four : (role : Role) → turns_at role ≤ 4
 at_most_four Reader = omega arith

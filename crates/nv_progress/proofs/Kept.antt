@@ -7,7 +7,8 @@ use Rattle.nv_room.specs.declared.view.Role.TheVariants.{Reader, Leaving}
 use Rattle.nv_room.specs.Room.{Live}
 use Rattle.nv_room.specs.Steps.{with_note, with_miss}
 use Rattle.nv_progress.specs.GetsOn.{Stays}
-use Rattle.nv_progress.specs.Steps.{Kind, looks_head, looks_owner, looks_cursor, looks_spare, probes, reads, writes, sees, publishes, takes, gives_up, leaves, opens, hands, moves, StepGives, gets_on}
+use Rattle.nv_room.specs.Kinds.{Kind, looks_head, looks_owner, looks_cursor, looks_spare, probes, reads, writes, sees, publishes, takes, gives_up, leaves, opens, hands, moves, StepGives}
+use Rattle.nv_progress.specs.Steps.{gets_on}
 
 module _ {T : Type 0} (n : ℕ) where
   note_role : (b : Bool) (v : View T) (l : ℕ) → (if b then with_note l v else with_miss l v).role ≡ v.role

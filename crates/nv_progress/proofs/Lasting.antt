@@ -21,7 +21,7 @@ use Rattle.nv_room.specs.Room.{cursor, InRole, IsLeading, Freed, Live, Leads, Ru
 use Rattle.nv_room.proofs.Placement.{place_after, fits_later}
 use Rattle.nv_room.proofs.Seats.{apart_from}
 use Rattle.nv_progress.specs.GetsOn.{moment, HasEvent, HasPlace, IsNextToLead, IsOver, CanGetOn}
-use Rattle.nv_progress.specs.Steps.{Kind, looks_head, looks_owner, looks_cursor, looks_spare, probes, reads, writes, sees, publishes, takes, gives_up, leaves, opens, hands, moves}
+use Rattle.nv_room.specs.Kinds.{Kind, looks_head, looks_owner, looks_cursor, looks_spare, probes, reads, writes, sees, publishes, takes, gives_up, leaves, opens, hands, moves}
 use Rattle.nv_progress.specs.Plays.{Plays, written, Does}
 
 -- a word that rises lowers none

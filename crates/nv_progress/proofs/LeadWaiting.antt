@@ -20,7 +20,8 @@ use Rattle.nv_room.proofs.Seats.{open_near}
 use Rattle.nv_room.specs.Room.{cursor, IsLeading, Rule}
 use Rattle.nv_room.specs.Steps.{head_seen, cursor_seen, word_put}
 use Rattle.nv_progress.specs.GetsOn.{moment, HasPlace, CanGetOn}
-use Rattle.nv_progress.specs.Steps.{Kind, looks_head, looks_owner, looks_cursor, looks_spare, probes, reads, writes, sees, publishes, takes, gives_up, leaves, opens, hands, moves, gets_on}
+use Rattle.nv_room.specs.Kinds.{Kind, looks_head, looks_owner, looks_cursor, looks_spare, probes, reads, writes, sees, publishes, takes, gives_up, leaves, opens, hands, moves}
+use Rattle.nv_progress.specs.Steps.{gets_on}
 use Rattle.nv_progress.specs.Plays.{written, Does}
 use Rattle.nv_progress.specs.Traces.{Finds, Trace, GetsOnByNone, LeadWaits}
 use Rattle.nv_progress.proofs.Lists.{at_below}

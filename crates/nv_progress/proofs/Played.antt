@@ -11,7 +11,7 @@ use Rattle.nv_room.specs.declared.view.Role.TheVariants.{Opening}
 use Rattle.nv_room.specs.Room.{InRole, IsOpening, Rule}
 use Rattle.nv_room.proofs.Counts.{below_most}
 use Rattle.nv_progress.specs.GetsOn.{moment}
-use Rattle.nv_progress.specs.Steps.{Kind, looks_head, looks_owner, looks_cursor, looks_spare, probes, reads, writes, sees, publishes, takes, gives_up, leaves, opens, hands, moves, StepGives}
+use Rattle.nv_room.specs.Kinds.{Kind, looks_head, looks_owner, looks_cursor, looks_spare, probes, reads, writes, sees, publishes, takes, gives_up, leaves, opens, hands, moves, StepGives}
 use Rattle.nv_progress.specs.Plays.{Plays, Does}
 
 module _ {K B : Type 0} (hist : K → List Entry) (beg : K → B) (p : Layout K) (s : State (Option K) (View K)) (r : Rule hist beg p s) where

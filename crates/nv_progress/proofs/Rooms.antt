@@ -28,7 +28,7 @@ use Rattle.nv_room.proofs.Cursors.{advances, leaves as allows_leave}
 use Rattle.nv_room.proofs.Hands.{gives_up as allows_give_up, takes_lead}
 use Rattle.nv_room.proofs.HandingOver.{hands_on, moves_on, opens_next, spares}
 use Rattle.nv_room.proofs.Writes.{publishes as allows_publish, writes_word}
-use Rattle.nv_progress.specs.Steps.{Kind, looks_head, looks_owner, looks_cursor, looks_spare, probes, reads, writes, sees, publishes, takes, gives_up, leaves, opens, hands, moves}
+use Rattle.nv_room.specs.Kinds.{Kind, looks_head, looks_owner, looks_cursor, looks_spare, probes, reads, writes, sees, publishes, takes, gives_up, leaves, opens, hands, moves}
 use Rattle.nv_progress.specs.Plays.{Plays, written, Goes}
 
 module _ {K B : Type 0} (hist : K → List Entry) (beg : K → B) (p : Layout K) (id : ℕ) (me : Me (Option K) (View K)) (s : State (Option K) (View K)) (r : Rule hist beg p s) (at : get_elem? s.views id ≡ some me.0) (wide : (i : ℕ) → get_or s.words i 0 < 18446744073709551616) where

@@ -17,7 +17,8 @@ use Rattle.nv_room.specs.Room.{cursor, Moment, Rule}
 use Rattle.nv_words.specs.Spelling.{low}
 use Rattle.nv_room.specs.Steps.{head_seen, owner_seen, cursor_seen, word_seen, with_note, with_miss, probed_at, TellsEnd}
 use Rattle.nv_progress.specs.GetsOn.{moment, HasEvent, IsNextToLead, IsOver, CanGetOn}
-use Rattle.nv_progress.specs.Steps.{Kind, looks_head, looks_owner, looks_cursor, looks_spare, probes, reads, writes, sees, publishes, takes, gives_up, leaves, opens, hands, moves, gets_on}
+use Rattle.nv_room.specs.Kinds.{Kind, looks_head, looks_owner, looks_cursor, looks_spare, probes, reads, writes, sees, publishes, takes, gives_up, leaves, opens, hands, moves}
+use Rattle.nv_progress.specs.Steps.{gets_on}
 use Rattle.nv_progress.specs.Plays.{Does}
 use Rattle.nv_progress.specs.Traces.{Finds, Trace, GetsOnByNone, Waits}
 use Rattle.nv_progress.proofs.Lists.{at_below}

@@ -11,7 +11,7 @@ use Rattle.nv_room.specs.declared.view.Role.{Role}
 use Rattle.nv_room.specs.declared.view.Role.TheVariants.{Reader, Lead, Opening, Leaving, Moving, Gone, Spent}
 use Rattle.nv_room.specs.Room.{Moment, Rule}
 use Rattle.nv_progress.specs.GetsOn.{moment, AllSeated, CanGetOn, SomeStays, Stays}
-use Rattle.nv_progress.specs.Steps.{Kind}
+use Rattle.nv_room.specs.Kinds.{Kind}
 use Rattle.nv_progress.specs.Traces.{Trace, GetsOnByNone, HasToWait, NeedNotWait}
 use Rattle.nv_progress.proofs.Stuck.{not_stuck}
 use Rattle.nv_progress.proofs.Waiting.{no_reader_waits}

@@ -14,7 +14,7 @@ use Rattle.nv_room.specs.Owner.{GONE, held, owner_word}
 use Rattle.nv_room.specs.Placement.{word_place, next_slot}
 use Rattle.nv_room.specs.Room.{Rule}
 use Rattle.nv_room.specs.Steps.{looked_head, looked_owner, looked_cursor, spare, read_word, probed, goes_ahead, wrote_word, published, gave_up, took, opens as opened_next, hands_over, moves_over, left}
-use Rattle.nv_progress.specs.Steps.{Kind, looks_head, looks_owner, looks_cursor, looks_spare, probes, reads, writes, sees, publishes, takes, gives_up, leaves, opens, hands, moves}
+use Rattle.nv_room.specs.Kinds.{Kind, looks_head, looks_owner, looks_cursor, looks_spare, probes, reads, writes, sees, publishes, takes, gives_up, leaves, opens, hands, moves}
 
 -- what the room asks of the seat before such a step, and what its play tells of the seat after it
 module _ {K B : Type 0} (hist : K → List Entry) (beg : K → B) (st : Step (Option K)) (m m' : Me (Option K) (View K)) where

@@ -7,7 +7,8 @@ use Rattle.nv_calls.specs.Calls.{Entry}
 use Rattle.nv_room.specs.declared.view.View.{View}
 use Rattle.nv_room.specs.declared.view.Layout.{Layout}
 use Rattle.nv_room.specs.Room.{Rule}
-use Rattle.nv_progress.specs.Steps.{Kind, steps_left}
+use Rattle.nv_room.specs.Kinds.{Kind}
+use Rattle.nv_progress.specs.Steps.{steps_left}
 use Rattle.nv_progress.specs.GetsOn.{moment, AllSeated, CanGetOn, Stays, SomeStays}
 use Rattle.nv_progress.specs.Plays.{Does}
 use Rattle.nv_progress.specs.Traces.{Finds, HasToWait}

@@ -1,10 +1,10 @@
 -- How many steps that get on a seat can take.
-use Rattle.std.specs.Prelude.{◌≡◌, ◌⊎◌, ℕ, ◌+◌, ◌-◌, ◌*◌, ◌<◌, List, [], ◌∷◌, length}
+use Rattle.std.specs.Prelude.{ℕ, ◌+◌, ◌-◌, ◌*◌, List, [], ◌∷◌, length}
 use Rattle.nv_calls.specs.Limits.{MOST_EVENTS}
 use Rattle.nv_room.specs.declared.view.View.{View}
 use Rattle.nv_room.specs.declared.view.Role.{Role}
 use Rattle.nv_room.specs.declared.view.Role.TheVariants.{Reader, Lead, Opening, Leaving, Moving, Gone, Spent}
-use Rattle.nv_room.specs.Steps.{head_seen, owner_seen, word_seen, probed_at, one_on, cursor_seen, word_put, one_out, as_leaving, as_lead, as_opening, as_moving, as_reader, as_gone}
+use Rattle.nv_room.specs.Kinds.{Kind, looks_head, looks_owner, looks_cursor, looks_spare, probes, reads, writes, sees, publishes, takes, gives_up, leaves, opens, hands, moves}
 
 -- at most so many steps of a seat change its role, before it is at a later station or has left
 abbrev pub turns_at : Role → ℕ
@@ -19,43 +19,6 @@ turns_at Spent = 0
 -- in a room of n stations: an event for each that the log may still get, and what is left at this station and the later ones
 abbrev pub steps_left : {T : Type 0} → ℕ → View T → ℕ
 steps_left n v = (MOST_EVENTS - length v.seen) + 4 * (n - v.station) + turns_at v.role
-
--- what a step does: it looks at a word, at a station's cursor, or at a lane, or where nothing moves; it reads or writes a word; or it gets on
-pub data Kind : Type 0 where
-  looks_head : ℕ → Kind
-  looks_owner : ℕ → Kind
-  looks_cursor : ℕ → ℕ → Kind
-  looks_spare : ℕ → Kind
-  probes : ℕ → ℕ → Kind
-  reads : ℕ → Kind
-  writes : ℕ → Kind
-  sees : Kind
-  publishes : Kind
-  takes : Kind
-  gives_up : ℕ → Kind
-  leaves : Kind
-  opens : Kind
-  hands : ℕ → Kind
-  moves : Kind
-
--- the view after such a step of a room of n stations, and when it is taken
-module _ {T : Type 0} (n : ℕ) (v w : View T) where
-  abbrev pub StepGives : Kind → Type 0
-  StepGives (looks_head r) = w ≡ head_seen v r
-  StepGives (looks_owner r) = w ≡ owner_seen v r
-  StepGives (looks_cursor s r) = w ≡ cursor_seen s v r
-  StepGives (looks_spare r) = w ≡ v
-  StepGives (probes l r) = w ≡ probed_at l v r
-  StepGives (reads r) = w ≡ word_seen v r
-  StepGives (writes r) = w ≡ word_put v r
-  StepGives sees = (length v.seen < MOST_EVENTS) × (w ≡ one_on v)
-  StepGives publishes = (length v.seen < MOST_EVENTS) × (w ≡ one_out v)
-  StepGives takes = (v.role ≡ Reader) × (w ≡ as_lead v)
-  StepGives (gives_up r) = (v.role ≡ Lead) × (w ≡ as_leaving v r)
-  StepGives leaves = ((v.role ≡ Reader) ⊎ (v.role ≡ Leaving)) × (w ≡ as_gone v)
-  StepGives opens = (v.role ≡ Lead) × (w ≡ as_opening v)
-  StepGives (hands r) = (v.role ≡ Opening) × (v.station < v.opened) × (v.opened < n) × (w ≡ as_moving v r)
-  StepGives moves = (v.role ≡ Moving) × (w ≡ as_reader v)
 
 -- 1 for a step that gets on
 abbrev pub gets_on : Kind → ℕ
@@ -74,11 +37,6 @@ gets_on leaves = 1
 gets_on opens = 1
 gets_on (hands r) = 1
 gets_on moves = 1
-
--- the seat's view after steps of these kinds
-abbrev pub Went : {T : Type 0} → ℕ → View T → List Kind → View T → Type 0
-Went n v [] w = w ≡ v
-Went {T} n v (k ∷ ks) w = (u : View T) × StepGives n v u k × Went n u ks w
 
 -- how many of them got on
 abbrev pub steps_on : List Kind → ℕ

@@ -13,7 +13,8 @@ use Rattle.nv_room.specs.declared.view.Role.{Role}
 use Rattle.nv_room.specs.declared.view.Role.TheVariants.{Reader, Lead, Opening, Leaving, Moving, Gone, Spent}
 use Rattle.nv_room.specs.Owner.{is_held, is_free}
 use Rattle.nv_room.specs.Room.{cursor, Rule}
-use Rattle.nv_progress.specs.Steps.{Kind, looks_head, looks_owner, looks_cursor, looks_spare, probes, reads, writes, sees, publishes, takes, gives_up, leaves, opens, hands, moves, gets_on}
+use Rattle.nv_room.specs.Kinds.{Kind, looks_head, looks_owner, looks_cursor, looks_spare, probes, reads, writes, sees, publishes, takes, gives_up, leaves, opens, hands, moves}
+use Rattle.nv_progress.specs.Steps.{gets_on}
 use Rattle.nv_progress.specs.GetsOn.{Stays}
 use Rattle.nv_progress.specs.Plays.{Does}
 

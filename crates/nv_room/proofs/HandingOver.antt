@@ -100,12 +100,12 @@ module _ {K B : Type 0} (hist : K → List Entry) (beg : K → B) (p : Layout K)
 
   pub spares : (slots id k : ℕ) (me : M) → me.0.role ≡ Lead → Has (planned hist beg p) (length me.0.seen) → LastHasEvent me.0.spans → Allows RuleOf slots id me k (λ x. x) (spare (step slots k 0 0 none) me)
   spares slots id k me role plan led s r wide at _ = let v = me.0 in let kn = r.each_seat id v at in let ir = in_role hist beg p s r id v at Lead role in let live : Live v.role = subst Live (sym role) tt in
-      let a = left_station s r id v at role plan led in let b = below_most (planned hist beg p) (length r.log + 1) in let c = r.doors.all in let d = r.merge.floors_wide id v at live in let e = ir.opened_is in (
+      let a = left_station s r id v at role plan led in let b = below_most (planned hist beg p) (length r.log + 1) in let c = r.doors.all in let d = r.merge.floors_wide id v at live in let e = ir.opened_is in let f = ir.is_holder in let h = r.places.holder_is_open in (
         v,
         keeps,
         tt,
         looked hist beg p s r k id me.1 v v at refl (λ q. (q, refl)) kn (merge_turned p.stations p.places s.views id v v at s.words s.words r.log r.phase r.merge (λ _ _. refl) (λ q. r.merge.lead_writes id v at q) (λ q. r.merge.notes id v at q) (λ q. r.merge.floors_wide id v at q)),
-        (refl, omega arith),
+        (refl, omega arith, omega arith),
       )
 
   -- the first station that isn't open gets head as its cursor

@@ -22,6 +22,7 @@ impl<K: SyscallKernel> Room<K> {
         requires led { LastHasEvent (lead_view lead).spans }
         ensures of { IsOpeningOf self.now result }
         ensures view { opening_view result ≡ as_opening (lead_view lead) }
+        ensures above { (lead_view lead).station < (lead_view lead).opened }
     {
         let Lead {
             mut seat,

@@ -17,7 +17,7 @@ load-head-requires g c = let k = c.args.self.now.sizes in (c.requires.of.0, subs
 
 pub store-requires : goal.store-requires
 store-requires g c = let room = c.args.self.now in let l = c.args.lead in let o = c.requires.of in let t = c.load-head.ensures.2 in let e = t.0 in
-    let near : l.opened < room.stations = (let a = l.opened_is in let b = t.1 in let d = o.3 in omega arith) in (
+    let near : l.opened < room.stations = (let a = l.opened_is in let b = t.2 in let d = o.3 in omega arith) in (
       c.load-head.ensures.0 ∙ o.0,
       subst (λ (z : ℕ). cursor_index l.opened < z) (sym room.sizes.2) (header_inside _ _ (cursor_index l.opened) (omega arith)),
       opens_at _ _ _ _ _ _ _ _ (ap (λ m. m.0.role) e ∙ l.role) (ap (λ m. m.0.wrote) e ∙ nil_from_length _ (l.wrote_is ∙ l.quiet c.requires.none_due)) (subst (λ m. Has room.table.shared.key.hands.value.items (length m.0.seen)) (sym e) c.requires.planned) (subst (λ m. LastHasEvent m.0.spans) (sym e) c.requires.led)

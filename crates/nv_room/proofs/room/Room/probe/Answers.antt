@@ -80,3 +80,11 @@ returns-clause-open g c = λ t. let r = c.args.reader.now in let v = r.seat.me.0
     let is : c.word-at.result ≡ next_slot (length v.floors) v.places (lanes_after v.seen) lane 1 = c.word-at.ensures ∙ spot_second room.stations room.places v.seen lane c.spot-spot.result (c.spot-spot.ensures v.seen v.read (subst (λ (z : ℕ). Trails z r.trail v.seen v.read) w.2 r.trail_is)) ∙ (λ j. next_slot (sym w.3 j) (sym w.2 j) (lanes_after v.seen) lane 1) in
     let play = c.load-word.ensures.2 lane c.requires.lane is in let e = play.0 in
     subst (λ w. IsOpen w.seen w.missed) (sym (ap (λ m. m.0) e ∙ probed_miss lane x v (ap (λ z. low x == z) r.seen_is ∙ t))) (play.1 (λ q. eqb-false (low x) r.seen t (q ∙ r.seen_is)))
+
+pub returns-clause-word : goal.returns-clause-word
+returns-clause-word g c = let r = c.args.reader.now in let v = r.seat.me.0 in let lane : ℕ = c.args.lane in let x : ℕ = c.load-word.result in
+    let room = c.args.self.now in let w = c.requires.of in
+    let at : IsSpot v.places v.seen lane c.spot-spot.result = subst (λ (z : ℕ). IsSpot z v.seen lane c.spot-spot.result) (sym w.2) (c.spot-spot.ensures v.seen v.read (subst (λ (z : ℕ). Trails z r.trail v.seen v.read) w.2 r.trail_is)) in
+    let is : c.word-at.result ≡ next_slot (length v.floors) v.places (lanes_after v.seen) lane 1 = c.word-at.ensures ∙ spot_second room.stations room.places v.seen lane c.spot-spot.result (c.spot-spot.ensures v.seen v.read (subst (λ (z : ℕ). Trails z r.trail v.seen v.read) w.2 r.trail_is)) ∙ (λ j. next_slot (sym w.3 j) (sym w.2 j) (lanes_after v.seen) lane 1) in
+    let play = c.load-word.ensures.2 lane c.requires.lane is in let e = play.0 in
+    (x, ap (λ m. m.0) e)
