@@ -1,3 +1,4 @@
 pub mod Keeping
 mod Missing
 mod Reading
+mod Looking

@@ -1,6 +1,7 @@
 //! How a reader finds the next event and reads it.
 ghost use Rattle.std.specs.Prelude.{◌≡◌, ◌<◌, [], length, IsSome};
-ghost use Rattle.nv_room.specs.Seats.{IsOfRoom, SameReader, view};
+ghost use Rattle.nv_room.specs.Kinds.{Stepped};
+ghost use Rattle.nv_room.specs.Seats.{IsOfRoom, SameReader, stations_of, view};
 ghost use Rattle.nv_lamport.specs.Polls.{HasRead, HasFound, IsPolled};
 
 use nv_room::{Owner, Reader, Room};
@@ -32,6 +33,7 @@ pub fn poll_merged<K: SyscallKernel>(
     ensures of { IsOfRoom room.now reader.new }
     ensures same { SameReader reader.old reader.new }
     ensures polled { IsPolled (view reader.old) (view reader.new) buf.new result }
+    ensures steps { Stepped (stations_of room.now) (view reader.old) (view reader.new) }
 {
     let seen = reader.seen();
     if reader.head() <= seen && room.look_head(reader) <= seen {
@@ -62,6 +64,7 @@ fn next_event<K: SyscallKernel>(reader: &mut Reader<K>, room: &Room<K>, buf: &mu
     ensures of { IsOfRoom room.now reader.new }
     ensures same { SameReader reader.old reader.new }
     ensures read { HasRead (view reader.old) (view reader.new) buf.new }
+    ensures steps { Stepped (stations_of room.now) (view reader.old) (view reader.new) }
 {
     find_lane(reader, room);
     read_event(reader, room, buf);
@@ -74,6 +77,7 @@ fn find_lane<K: SyscallKernel>(reader: &mut Reader<K>, room: &Room<K>)
     ensures of { IsOfRoom room.now reader.new }
     ensures same { SameReader reader.old reader.new }
     ensures found { HasFound (view reader.old) (view reader.new) }
+    ensures steps { Stepped (stations_of room.now) (view reader.old) (view reader.new) }
 {
     for lane in 0..8 {
         if !reader.lives(lane) {
@@ -94,6 +98,7 @@ fn read_event<K: SyscallKernel>(reader: &mut Reader<K>, room: &Room<K>, buf: &mu
     ensures of { IsOfRoom room.now reader.new }
     ensures same { SameReader reader.old reader.new }
     ensures read { HasRead (view reader.old) (view reader.new) buf.new }
+    ensures steps { Stepped (stations_of room.now) (view reader.old) (view reader.new) }
 {
     buf.clear();
     let mut i = 0;

@@ -4,7 +4,8 @@ ghost use Rattle.nv_room.specs.Spans.{LastHasEvent};
 ghost use Rattle.nv_room.specs.Room.{Has};
 ghost use Rattle.nv_room.specs.Steps.{as_opening, as_moving, as_reader};
 ghost use Rattle.nv_room.specs.Owner.{is_free, owner_at};
-ghost use Rattle.nv_room.specs.Seats.{IsOfRoom, IsLeadOf, view, lead_view, station_of_reader, version_of_reader, version_of_lead, opened_of, due_of, hands_of};
+ghost use Rattle.nv_room.specs.Kinds.{Stepped};
+ghost use Rattle.nv_room.specs.Seats.{IsOfRoom, IsLeadOf, stations_of, view, lead_view, station_of_reader, version_of_reader, version_of_lead, opened_of, due_of, hands_of};
 
 use nv_room::{Lead, Reader, Room};
 use nv_served::SyscallKernel;
@@ -20,6 +21,7 @@ pub fn hand<K: SyscallKernel>(lead: Lead<K>, room: &Room<K>) -> Reader<K>
     ensures station { (station_of_reader result ≡ opened_of lead) × (version_of_reader result ≡ version_of_lead lead) }
     ensures view { view result ≡ as_reader (as_moving (as_opening (lead_view lead)) (view result).owner_last) }
     ensures read { (view result).read ≡ [] }
+    ensures steps { Stepped (stations_of room.now) (lead_view lead) (view result) }
     ensures given { (is_free (view result).owner_last ≡ true) × (owner_at (view result).owner_last ≡ length (lead_view lead).seen) }
 {
     let opening = room.open_step(lead);

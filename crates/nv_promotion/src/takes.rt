@@ -2,7 +2,8 @@
 ghost use Rattle.std.specs.Prelude.{◌≡◌, ◌<◌, false, length, map, Some};
 ghost use Rattle.nv_words.specs.Spelling.{spell};
 ghost use Rattle.nv_room.specs.Steps.{as_lead};
-ghost use Rattle.nv_room.specs.Seats.{IsOfRoom, IsLeadOf, SameReader, view, lead_view, station_of_reader, version_of_reader, station_of_lead, version_of_lead, kernel_of, due_of, origin};
+ghost use Rattle.nv_room.specs.Kinds.{Stepped};
+ghost use Rattle.nv_room.specs.Seats.{IsOfRoom, IsLeadOf, SameReader, stations_of, view, lead_view, station_of_reader, version_of_reader, station_of_lead, version_of_lead, kernel_of, due_of, origin};
 ghost use Rattle.nv_promotion.specs.Lowers.{KeepsMarks, IsLower};
 
 use nv_room::{Cursor, Lead, Reader, Room};
@@ -24,6 +25,7 @@ pub fn lower_gone<K: SyscallKernel>(reader: &mut Reader<K>, room: &Room<K>) -> L
     ensures same { SameReader reader.old reader.new }
     ensures kept { KeepsMarks (view reader.old) (view reader.new) }
     ensures lower { IsLower (view reader.old) (view reader.new) (station_of_reader reader.old) result }
+    ensures steps { Stepped (stations_of room.now) (view reader.old) (view reader.new) }
 {
     let own = reader.station();
     for station in 0..own {

@@ -9,10 +9,7 @@ use lib.ListN.{get_elem?}
 use Rattle.nv_calls.specs.Calls.{Entry, entry}
 use Rattle.nv_calls.specs.declared.calls.Event.{Event}
 use Rattle.nv_calls.proofs.LogLaws.{slice_some}
-use Rattle.nv_words.specs.Spelling.{IsWhole, spell}
-use Rattle.nv_words.specs.Begins.{BeginsEvent}
-use Rattle.nv_words.proofs.SpellLaws.{spell_whole}
-use Rattle.nv_words.proofs.SpellLaws.{shorter}
+use Rattle.nv_words.specs.Spelling.{spell}
 
 pub take_len : {A : Type 0} (xs : List A) (n : ℕ) → n ≡ length xs → take n xs ≡ xs
 take_len {A} xs n h = subst (λ (k : ℕ). take k xs ≡ xs) (sym h) (all xs)

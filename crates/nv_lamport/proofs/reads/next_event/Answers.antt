@@ -1,4 +1,5 @@
-use Rattle.std.proofs.Common.{arith, sym, ap, subst, ◌∙◌, ◌≡◌}
+use Rattle.nv_room.specs.Seats.{stations_of, view}
+use Rattle.nv_room.proofs.Stepped.{more_steps}
 use Rattle.nv_lamport.proofs.Keeping.{keeps_then}
 use Rattle.nv_lamport.proofs.reads.next_event.Goals as goal
 
@@ -10,3 +11,6 @@ returns-clause-read g c = let f = c.find_lane.ensures.found in let r = c.read_ev
   whole = r.whole;
   lawful = r.lawful;
 }
+
+pub returns-clause-steps : goal.returns-clause-steps
+returns-clause-steps g c = more_steps (stations_of c.args.room.now) (view c.args.reader.now) (view c.find_lane.new.reader) (view c.read_event.new.reader) c.find_lane.ensures.steps c.read_event.ensures.steps

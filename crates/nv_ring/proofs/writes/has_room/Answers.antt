@@ -1,6 +1,5 @@
-use Rattle.std.proofs.Common.{◌≡◌, ◌<◌, ◌≤◌, ◌+◌, ℕ, true, false, length, sym, ap, ◌∙◌, lt_of_not-le, arith}
+use Rattle.std.proofs.Common.{◌≡◌, true, false, sym, ◌∙◌, lt_of_not-le, arith}
 use Rattle.nv_room.specs.Seats.{lead_view, places_of}
-use Rattle.nv_room.specs.Placement.{pool_chunks, chunks_from}
 use Rattle.nv_ring.proofs.Filling.{all_fit, is_full}
 use Rattle.nv_ring.proofs.writes.has_room.Goals as goal
 

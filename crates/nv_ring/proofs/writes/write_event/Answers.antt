@@ -4,7 +4,9 @@ use Rattle.std.proofs.lemmas.Option.{same_Some, slice_get-get_or}
 use Rattle.nv_calls.specs.Calls.{Entry, entry}
 use Rattle.nv_calls.specs.Logs.{InRange, IsLawful}
 use Rattle.nv_words.specs.Spelling.{spell, flag_bit}
-use Rattle.nv_room.specs.Seats.{lead_view, kernel_of}
+use Rattle.nv_room.specs.Kinds.{writes}
+use Rattle.nv_room.specs.Seats.{lead_view, kernel_of, stations_of}
+use Rattle.nv_room.proofs.Stepped.{one_step, more_steps}
 use Rattle.nv_ring.proofs.Events.{entry_at, spelt_at, last_spelt, one_more, as_long, take_len}
 use Rattle.nv_ring.proofs.Filling.{ready_still}
 use Rattle.nv_ring.proofs.writes.write_event.Goals as goal
@@ -90,6 +92,7 @@ loop-i-preserved g c =
       seen = ap (λ v. v.seen) w.view ∙ i.seen;
       floors = ap (λ v. v.floors) w.view ∙ i.floors;
       spans = ap (λ v. v.spans) w.view ∙ i.spans;
+      steps = (let n : ℕ = stations_of c.args.room.now in more_steps n (lead_view l) (lead_view c.loop-i.lead) (lead_view c.write_word.new.lead) i.steps (one_step n (lead_view c.loop-i.lead) (lead_view c.write_word.new.lead) (writes c.word-next.result) w.view));
       wrote = λ e is.
           let one : entry c.index-history-at.result ≡ e = same_Some _ _ (sym first ∙ is) in
           let two : entry c.index-history-at-in-loop-i.result ≡ e = same_Some _ _ (sym again ∙ is) in
