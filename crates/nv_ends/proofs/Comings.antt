@@ -1,11 +1,10 @@
 -- What a turn's clauses say of its seat's views.
-use Rattle.std.proofs.Common.{◌≡◌, ◌≢◌, ◌⊎◌, ◌∙◌, ℕ, ◌+◌, ◌<◌, ◌≤◌, true, length, sym, ap, subst, inl, inr, ⊎_elim, arith}
-use Rattle.nv_calls.specs.Limits.{MOST_BYTES, MOST_EVENTS}
+use Rattle.std.proofs.Common.{◌≡◌, ◌∙◌, ℕ, ◌+◌, ◌<◌, true, length, sym, ap, subst, inl, inr, ⊎_elim, arith}
+use Rattle.nv_calls.specs.Limits.{MOST_BYTES}
 use Rattle.nv_pool.specs.Chunks.{chunks_of}
 use Rattle.nv_served.specs.declared.kernel.SyscallKernel.{Ghosts}
 use Rattle.nv_room.specs.declared.view.View.{View}
 use Rattle.nv_room.specs.declared.room.Room.{Room}
-use Rattle.nv_room.specs.declared.room.Reader.{Reader}
 use Rattle.nv_room.specs.declared.room.Lead.{Lead}
 use Rattle.nv_room.specs.Owner.{is_held, is_free}
 use Rattle.nv_room.specs.Placement.{pool_chunks, chunks_from}
@@ -22,7 +21,7 @@ use Rattle.nv_workers.specs.declared.worker.Worker.{Worker}
 use Rattle.nv_workers.specs.Follows.{HasWaited}
 use Rattle.nv_workers.specs.Measure.{turns_left, Falls}
 use Rattle.nv_workers.specs.Worker.{IsGone, HasStayed, TurnTells}
-use Rattle.nv_ends.specs.Views.{HasView}
+use Rattle.nv_workers.specs.Views.{HasView}
 
 -- a reader that waited
 pub has_waited : {T : Type 0} (old new : View T) → HasWaited old new → Waits old new

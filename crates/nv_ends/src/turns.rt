@@ -2,18 +2,19 @@
 ghost use Rattle.std.specs.Prelude.{ℕ};
 ghost use Rattle.nv_threads.specs.Threads.{Proc};
 ghost use Rattle.nv_room.specs.declared.view.View.{View};
-ghost use Rattle.nv_room.specs.Seats.{places_of};
+ghost use Rattle.nv_room.specs.Seats.{places_of, stations_of};
 ghost use Rattle.nv_progress.specs.Runs.{ComesTo};
 ghost use Rattle.nv_workers.specs.Measure.{turns_left};
 ghost use Rattle.nv_workers.specs.Terms.{AreOfRoom, judges_of};
+ghost use Rattle.nv_workers.specs.Views.{GoesBySteps, HasView};
 ghost use Rattle.nv_workers.specs.Worker.{Works};
-ghost use Rattle.nv_ends.specs.Views.{HasView};
 
 use nv_room::Room;
 use nv_served::SyscallKernel;
 use nv_workers::{Gate, Terms, Turn, Worker};
 
-/// A turn of a worker. It leaves fewer turns than it found, or the worker's seat waits for another, as its views before and after show.
+/// A turn of a worker. It leaves fewer turns than it found, or the worker's seat waits for another, as its views before and after show; and what
+/// it does with the seat are steps of the room.
 pub fn counted_turn<K: SyscallKernel, G: Gate>(
     worker: &mut Worker<K>,
     room: &Room<K>,
@@ -21,7 +22,8 @@ pub fn counted_turn<K: SyscallKernel, G: Gate>(
 ) -> Turn
     requires works { (p : Proc) × Works (judges_of terms.now) room.now terms.now.most p worker.old }
     requires terms { AreOfRoom room.now terms.now }
-    ensures { (v w : View K) → HasView worker.old.seat v → HasView worker.new.seat w → ComesTo (places_of room.now) (turns_left worker.old) (turns_left worker.new) v w }
+    ensures comes { (v w : View K) → HasView worker.old.seat v → HasView worker.new.seat w → ComesTo (places_of room.now) (turns_left worker.old) (turns_left worker.new) v w }
+    ensures steps { GoesBySteps (stations_of room.now) worker.old.seat worker.new.seat }
 {
     worker.turn(room, terms)
 }

@@ -22,3 +22,4 @@ pub mod NewSeats
 pub mod Sending
 pub mod Growing
 pub mod Measure
+pub mod SeatSteps

@@ -1,5 +1,5 @@
 -- What a turn leaves of those that may still get on.
-use Rattle.std.proofs.Common.{◌≡◌, ◌<◌, ◌≤◌, ◌⊎◌, ◌∙◌, refl, sym, ap, ⊎_elim, ℕ, ◌+◌, ◌-◌, ◌*◌, List, ◌++◌, map, length, Option, arith, length-append}
+use Rattle.std.proofs.Common.{◌≡◌, ◌<◌, ◌≤◌, ◌⊎◌, refl, ap, ⊎_elim, ℕ, ◌+◌, ◌-◌, ◌*◌, List, ◌++◌, map, length, arith, length-append}
 use Rattle.std.proofs.lemmas.List.{length-map}
 use Rattle.nv_calls.specs.Calls.{Entry}
 use Rattle.nv_calls.specs.Limits.{MOST_EVENTS}

@@ -6,7 +6,9 @@ use Rattle.nv_replay.specs.Follow.{Judge}
 use Rattle.nv_workers.specs.declared.worker.Turn.{Turn}
 use Rattle.nv_workers.specs.declared.worker.Turn.TheVariants.{Moved, Ahead, Waiting, Done}
 use Rattle.nv_workers.specs.declared.worker.Worker.{Worker}
+use Rattle.nv_room.specs.Seats.{stations_of}
 use Rattle.nv_workers.specs.Worker.{IsLast}
+use Rattle.nv_workers.proofs.SeatSteps.{goes_nowhere, goes_further}
 use Rattle.nv_workers.specs.inner.Rounds.{CanWork, WorkedOn, CanAll, AllOn, GoneIf, both_of}
 
 module _ (judges : ℕ → Judge) {K : Type 0} {G : Ghosts K} (room : Room K) (most : ℕ) where
@@ -15,7 +17,7 @@ module _ (judges : ℕ → Judge) {K : Type 0} {G : Ghosts K} (room : Room K) (m
 
   pub all_here : (ws : List (Worker K G)) → AllOn judges room most ws ws
   all_here [] = tt
-  all_here (w ∷ ws) = (record { works = λ p h. h; version = refl }, all_here ws)
+  all_here (w ∷ ws) = (record { works = λ p h. h; version = refl; steps = goes_nowhere (stations_of room) w.seat }, all_here ws)
 
   pub all_can : (vs ws : List (Worker K G)) → AllOn judges room most vs ws → CanAll judges room most vs → CanAll judges room most ws
   all_can [] [] a c = tt
@@ -29,8 +31,14 @@ module _ (judges : ℕ → Judge) {K : Type 0} {G : Ghosts K} (room : Room K) (m
   all_then [] (v ∷ vs) ws a b = absurd a
   all_then (u ∷ us) [] ws a b = absurd a
   all_then (u ∷ us) (v ∷ vs) [] a b = absurd b
-  all_then (u ∷ us) (v ∷ vs) (w ∷ ws) a b =
-      (record { works = λ p h. b.0.works p (a.0.works p h); version = b.0.version ∙ a.0.version }, all_then us vs ws a.1 b.1)
+  all_then (u ∷ us) (v ∷ vs) (w ∷ ws) a b = (
+    record {
+      works = λ p h. b.0.works p (a.0.works p h);
+      version = b.0.version ∙ a.0.version;
+      steps = goes_further (stations_of room) u.seat v.seat w.seat a.0.steps b.0.steps;
+    },
+    all_then us vs ws a.1 b.1,
+  )
 
 -- what grew is one of the three
 pub read_grown : {A B C : Type 0} → A ⊎ B → A ⊎ (B ⊎ C)

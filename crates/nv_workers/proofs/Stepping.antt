@@ -1,10 +1,10 @@
 -- What a turn comes to, by seat.
-use Rattle.std.proofs.Common.{◌≡◌, inl, ℕ, Bool, true, false, List, Option}
+use Rattle.std.proofs.Common.{◌≡◌, inl, ℕ, Bool, false, List, Option}
 use Rattle.nv_served.specs.declared.kernel.SyscallKernel.{Ghosts}
 use Rattle.nv_room.specs.declared.room.Room.{Room}
 use Rattle.nv_room.specs.declared.room.Reader.{Reader}
 use Rattle.nv_room.specs.declared.room.Lead.{Lead}
-use Rattle.nv_room.specs.Seats.{view, lead_view, left_view, version_of_reader, version_of_lead, version_of_left, hands_of}
+use Rattle.nv_room.specs.Seats.{view, lead_view}
 use Rattle.nv_threads.specs.Threads.{Proc}
 use Rattle.nv_replay.specs.Follow.{Judge}
 use Rattle.nv_replay.specs.Sequence.{is_going}

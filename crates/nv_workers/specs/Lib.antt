@@ -6,6 +6,7 @@ pub mod Growing
 pub mod Follows
 pub mod Publishing
 pub mod Worker
+pub mod Views
 pub mod Staffing
 pub mod Ran
 pub mod Measure

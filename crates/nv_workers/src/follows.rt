@@ -1,7 +1,8 @@
 //! A reader's turn.
 ghost use Rattle.std.specs.Prelude.{◌≡◌, ◌≤◌, ℕ, [], true, length};
 ghost use Rattle.nv_threads.specs.Threads.{Proc};
-ghost use Rattle.nv_room.specs.Seats.{IsOfRoom, SameReader, view, version_of_reader};
+ghost use Rattle.nv_room.specs.Kinds.{Stepped};
+ghost use Rattle.nv_room.specs.Seats.{IsOfRoom, SameReader, stations_of, view, version_of_reader};
 ghost use Rattle.nv_room.specs.Steps.{TellsEnd};
 ghost use Rattle.nv_workers.specs.Terms.{judges_of};
 ghost use Rattle.nv_workers.specs.Working.{FollowsOn};
@@ -65,6 +66,7 @@ pub(crate) fn follow_turn<K: SyscallKernel, G: Gate>(
     ensures idle { IsIdle (view reader.old) (view reader.new) result }
     ensures one { OneMoreAtMost (length (view reader.old).seen) (length (view reader.new).seen) }
     ensures rewrites { version.old.at.rewrites ≤ version.new.at.rewrites }
+    ensures steps { Stepped (stations_of room.now) (view reader.old) (view reader.new) }
     ensures spare { HasSpared spare.old spare.new result }
     ensures goes { MayBeAhead result version.old }
 {
@@ -111,6 +113,7 @@ fn find_event<K: SyscallKernel>(reader: &mut Reader<K>, room: &Room<K>, buf: &mu
     ensures of { IsOfRoom room.now reader.new }
     ensures same { SameReader reader.old reader.new }
     ensures found { IsFound (view reader.old) (view reader.new) buf.new result }
+    ensures steps { Stepped (stations_of room.now) (view reader.old) (view reader.new) }
 {
     let polled = poll_merged(reader, room, buf);
     match polled {
@@ -147,6 +150,7 @@ fn decide<K: SyscallKernel, G: Gate>(
     ensures busy { IsBusy result }
     ensures one { OneMoreAtMost (length (view reader.old).seen) (length (view reader.new).seen) }
     ensures rewrites { version.old.at.rewrites ≤ version.new.at.rewrites }
+    ensures steps { Stepped (stations_of room.now) (view reader.old) (view reader.new) }
 {
     let event = buf.event();
     match version.follow(terms.rules, event) {

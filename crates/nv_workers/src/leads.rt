@@ -3,7 +3,8 @@ ghost use Rattle.std.specs.Prelude.{◌≡◌, ◌≤◌, ℕ, Some, None, false
 ghost use Rattle.nv_threads.specs.Threads.{Proc};
 ghost use Rattle.nv_replay.specs.Follow.{Judge};
 ghost use Rattle.nv_replay.specs.Hands.{has};
-ghost use Rattle.nv_room.specs.Seats.{SameLead, lead_view, version_of_lead};
+ghost use Rattle.nv_room.specs.Kinds.{Stepped};
+ghost use Rattle.nv_room.specs.Seats.{SameLead, lead_view, stations_of, version_of_lead};
 ghost use Rattle.nv_workers.specs.Terms.{AreOfRoom};
 ghost use Rattle.nv_workers.specs.Working.{LeadsOn};
 ghost use Rattle.nv_workers.specs.Growing.{OneMoreAtMost};
@@ -34,6 +35,7 @@ pub(crate) fn lead_turn<K: SyscallKernel, G: Gate>(
     ensures late { IsLate room.now lead.old lead.new result }
     ensures one { OneMoreAtMost (length (lead_view lead.old).seen) (length (lead_view lead.new).seen) }
     ensures rewrites { version.old.at.rewrites ≤ version.new.at.rewrites }
+    ensures steps { Stepped (stations_of room.now) (lead_view lead.old) (lead_view lead.new) }
 {
     match *asked {
         Some(tid) => serve(version, lead, asked, tid, room, terms),
@@ -65,6 +67,7 @@ fn serve<K: SyscallKernel, G: Gate>(
     ensures late { IsLate room.now lead.old lead.new result }
     ensures one { OneMoreAtMost (length (lead_view lead.old).seen) (length (lead_view lead.new).seen) }
     ensures rewrites { version.old.at.rewrites ≤ version.new.at.rewrites }
+    ensures steps { Stepped (stations_of room.now) (lead_view lead.old) (lead_view lead.new) }
 {
     if let Placed::Waiting(_) = place(lead, room) {
         return Next::Waits;
@@ -114,7 +117,8 @@ fn publish_call<K: SyscallKernel, G: Gate>(
     gate: &G,
 )
     requires { CanPublish room.now version.old lead.old tid }
-    ensures { IsPublished room.now version.old lead.old tid version.new lead.new }
+    ensures published { IsPublished room.now version.old lead.old tid version.new lead.new }
+    ensures steps { Stepped (stations_of room.now) (lead_view lead.old) (lead_view lead.new) }
 {
     publish(lead, room, version.pending(tid));
     let at = version.standing().seen as usize;

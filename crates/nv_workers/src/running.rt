@@ -1,7 +1,7 @@
 //! Workers on host threads.
 ghost use Rattle.std.specs.Prelude.{◌≡◌};
 ghost use Rattle.nv_workers.specs.Terms.{AreOfRoom, judges_of};
-ghost use Rattle.nv_workers.specs.inner.Rounds.{CanAll, AllOn, AreGone, GoneIf, both_of};
+ghost use Rattle.nv_workers.specs.inner.Rounds.{CanAll, AllOn, AllHadTurns, AreGone, GoneIf, both_of};
 
 use crate::gate::Gate;
 use crate::sleepers::{Sleepers, nap};
@@ -23,6 +23,7 @@ fn round<K: SyscallKernel, G: Gate>(
     requires terms { AreOfRoom room.now terms.now }
     ensures on { AllOn (judges_of terms.now) room.now terms.now.most workers.old workers.new }
     ensures gone { GoneIf result workers.new }
+    ensures turns { AllHadTurns room.now workers.old workers.new }
 {
     let Some((first, others)) = workers.split_first_mut() else {
         return Turn::Done;

@@ -44,14 +44,9 @@ impl Sleepers {
 
     /// Sleeps until the next wake after so many. Who is woken wakes the others.
     pub(crate) fn sleep<R: Wait>(&self, rt: &R, wakes: u64) {
-        self.sleep_at_most(rt, wakes, SLEEP);
-    }
-
-    /// The same, for so many microseconds at most.
-    pub(crate) fn sleep_at_most<R: Wait>(&self, rt: &R, wakes: u64, most: u64) {
         let expected = (wakes % 0x1_0000_0000) as u32;
         self.wakes
-            .park_timeout(rt, expected, Duration::from_micros(most));
+            .park_timeout(rt, expected, Duration::from_micros(SLEEP));
         if self.wakes() != wakes {
             nap(rt, NAP);
             self.wakes.wake_all();

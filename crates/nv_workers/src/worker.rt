@@ -3,7 +3,8 @@ ghost use Rattle.std.specs.Prelude.{◌≡◌, ◌≤◌, ℕ, List, None, true,
 ghost use Rattle.nv_threads.specs.Threads.{Proc, threads};
 ghost use Rattle.nv_replay.specs.Follow.{Judge};
 ghost use Rattle.nv_replay.specs.Version.{IsFresh, Running};
-ghost use Rattle.nv_room.specs.Seats.{IsLeadOf, IsLeftOf, version_of_lead, version_of_reader, version_of_left, view, lead_view, left_view, due_of};
+ghost use Rattle.nv_room.specs.Kinds.{Stepped};
+ghost use Rattle.nv_room.specs.Seats.{IsLeadOf, IsLeftOf, version_of_lead, version_of_reader, version_of_left, stations_of, view, lead_view, left_view, due_of};
 ghost use Rattle.nv_room.specs.Steps.{as_gone, as_leaving};
 ghost use Rattle.nv_workers.specs.Terms.{AreOfRoom, judges_of};
 ghost use Rattle.nv_workers.specs.Working.{FollowsOn, LeadsOn};
@@ -12,6 +13,7 @@ ghost use Rattle.nv_workers.specs.Measure.{Falls, seat_left};
 ghost use Rattle.nv_workers.specs.Worker.{Works, WorksAt, IsGone, IsLast, TookLead, TurnTells, version_of, version_of_seat, seen_by};
 ghost use Rattle.nv_workers.specs.inner.Stepping.{CanLead, CanHand, CanLeave, AfterStep, StepTells};
 ghost use Rattle.nv_workers.specs.inner.Spares.{HasSpared, MayBeAhead};
+ghost use Rattle.nv_workers.specs.Views.{GoesBySteps};
 ghost use Rattle.nv_workers.specs.Staffing.{IsNewLead, IsNewReader, LeadsAnew, ReadsAnew};
 
 use crate::follows::{Next, follow_turn};
@@ -122,6 +124,7 @@ impl<K: SyscallKernel> Worker<K> {
         ensures spare { SparesOn result self.old.spare self.new.spare }
         ensures goes { GoesOnly result self.old.version }
         ensures falls { Falls result self.old self.new }
+        ensures steps { GoesBySteps (stations_of room.now) self.old.seat self.new.seat }
     {
         match self.step(room, terms) {
             Next::Moved => {
@@ -158,6 +161,7 @@ impl<K: SyscallKernel> Worker<K> {
         ensures spare { HasSpared self.old.spare self.new.spare result }
         ensures goes { MayBeAhead result self.old.version }
         ensures seat { seat_left self.new.seat ≡ seat_left self.old.seat }
+        ensures steps { GoesBySteps (stations_of room.now) self.old.seat self.new.seat }
     {
         match &mut self.seat {
             Seat::Reading { reader, held } => follow_turn(
@@ -186,6 +190,7 @@ impl<K: SyscallKernel> Worker<K> {
         ensures on { self.new.version.at.fate ≡ None }
         ensures rewrites { self.new.version.at.rewrites ≡ self.old.version.at.rewrites }
         ensures spare { self.new.spare ≡ self.old.spare }
+        ensures steps { GoesBySteps (stations_of room.now) self.old.seat self.new.seat }
     {
         let seat = mem::replace(&mut self.seat, Seat::Moving);
         let Seat::Reading { reader, held: _ } = seat else {
@@ -207,6 +212,7 @@ impl<K: SyscallKernel> Worker<K> {
         ensures fate { self.new.version.at.fate ≡ self.old.version.at.fate }
         ensures rewrites { self.new.version.at.rewrites ≡ self.old.version.at.rewrites }
         ensures spare { self.new.spare ≡ self.old.spare }
+        ensures steps { GoesBySteps (stations_of room.now) self.old.seat self.new.seat }
     {
         let seat = mem::replace(&mut self.seat, Seat::Moving);
         let Seat::Leading { lead, asked: _ } = seat else {
@@ -227,6 +233,7 @@ impl<K: SyscallKernel> Worker<K> {
         ensures gone { IsGone self.new.seat }
         ensures same { self.new.version ≡ self.old.version }
         ensures spare { self.new.spare ≡ self.old.spare }
+        ensures steps { GoesBySteps (stations_of room.now) self.old.seat self.new.seat }
     {
         let seat = mem::replace(&mut self.seat, Seat::Moving);
         let left = vacate(seat, self.version.standing(), room, gate);
@@ -245,6 +252,7 @@ fn vacate<K: SyscallKernel, G: Gate>(
     ensures works { (judges : ℕ → Judge) (most : ℕ) (p : Proc) (v : Running Proc) (buf : List ℕ) → CanLeave judges room.now p v most seat → WorksAt judges room.now most p v buf (Seat.Gone result) }
     ensures version { version_of_left result ≡ version_of_seat seat }
     ensures seen { length (left_view result).seen ≡ seen_by seat }
+    ensures steps { GoesBySteps (stations_of room.now) seat (Seat.Gone result) }
 {
     match seat {
         Seat::Reading { reader, held: _ } => {
@@ -268,6 +276,7 @@ fn take_lead<K: SyscallKernel>(version: &mut Version, reader: Reader<K>, room: &
     ensures seen { (lead_view result).seen ≡ (view reader).seen }
     ensures on { version.new.at.fate ≡ None }
     ensures rewrites { version.new.at.rewrites ≡ version.old.at.rewrites }
+    ensures steps { Stepped (stations_of room.now) (view reader) (lead_view result) }
 {
     version.begin_lead();
     let lead = take(reader, room);
@@ -283,6 +292,7 @@ fn give_lead<K: SyscallKernel>(version: &mut Version, lead: Lead<K>, room: &Room
     ensures seen { (view result).seen ≡ (lead_view lead).seen }
     ensures fate { version.new.at.fate ≡ version.old.at.fate }
     ensures rewrites { version.new.at.rewrites ≡ version.old.at.rewrites }
+    ensures steps { Stepped (stations_of room.now) (lead_view lead) (view result) }
 {
     version.end_lead();
     hand(lead, room)

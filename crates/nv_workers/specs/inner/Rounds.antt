@@ -7,7 +7,10 @@ use Rattle.nv_replay.specs.Follow.{Judge}
 use Rattle.nv_workers.specs.declared.worker.Turn.{Turn}
 use Rattle.nv_workers.specs.declared.worker.Turn.TheVariants.{Moved, Ahead, Waiting, Done}
 use Rattle.nv_workers.specs.declared.worker.Worker.{Worker}
-use Rattle.nv_workers.specs.Worker.{Works, IsGone, version_of}
+use Rattle.nv_room.specs.Seats.{stations_of}
+use Rattle.nv_workers.specs.Measure.{Falls}
+use Rattle.nv_workers.specs.Views.{GoesBySteps}
+use Rattle.nv_workers.specs.Worker.{Works, IsGone, TurnTells, version_of}
 
 module _ (judges : ℕ → Judge) {K : Type 0} {G : Ghosts K} (room : Room K) (most : ℕ) where
   -- a worker that may take its turn
@@ -18,6 +21,7 @@ module _ (judges : ℕ → Judge) {K : Type 0} {G : Ghosts K} (room : Room K) (m
   pub record WorkedOn (old new : Worker K G) : Type 0 where
     pub works : (p : Proc) → Works judges room most p old → Works judges room most p new
     pub version : version_of new ≡ version_of old
+    pub steps : GoesBySteps (stations_of room) old.seat new.seat
 
   abbrev pub CanAll : List (Worker K G) → Type 0
   CanAll [] = Unit {0}
@@ -28,6 +32,20 @@ module _ (judges : ℕ → Judge) {K : Type 0} {G : Ghosts K} (room : Room K) (m
   AllOn [] (w ∷ ws) = ⊥
   AllOn (v ∷ vs) [] = ⊥
   AllOn (v ∷ vs) (w ∷ ws) = WorkedOn v w × AllOn vs ws
+
+module _ {K : Type 0} {G : Ghosts K} (room : Room K) where
+  -- it had one turn, which came to this
+  pub record HadTurn (result : Turn) (old new : Worker K G) : Type 0 where
+    pub tells : TurnTells room result old.version new.version old.seat new.seat
+    pub falls : Falls result old new
+    pub steps : GoesBySteps (stations_of room) old.seat new.seat
+
+  -- each had one
+  abbrev pub AllHadTurns : List (Worker K G) → List (Worker K G) → Type 0
+  AllHadTurns [] [] = Unit {0}
+  AllHadTurns [] (w ∷ ws) = ⊥
+  AllHadTurns (v ∷ vs) [] = ⊥
+  AllHadTurns (v ∷ vs) (w ∷ ws) = ((result : Turn) × HadTurn result v w) × AllHadTurns vs ws
 
 module _ {K : Type 0} {G : Ghosts K} where
   abbrev pub AreGone : List (Worker K G) → Type 0

@@ -5,7 +5,7 @@ use Rattle.nv_run_tests.proofs.scheduler.+turn_of.Goals as goal
 pub returns-then-index-eq0 : goal.returns-then-index-eq0
 returns-then-index-eq0 t c = record {
   on = first_on (judges_of c.args.terms.now) c.args.room.now c.args.terms.now.most c.args.workers.now c.in-Some.others.now c.in-Some.first.now c.turn.new.self c.in-Some.ensures.cases.0
-      (record { works = c.turn.ensures.works; version = c.turn.ensures.version });
+      (record { works = c.turn.ensures.works; version = c.turn.ensures.version; steps = c.turn.ensures.steps });
 }
 
 pub returns : goal.returns

@@ -10,6 +10,8 @@ use Rattle.nv_replay.proofs.Wholes.{none_from}
 use Rattle.nv_replay.specs.Sequence.{is_going}
 use Rattle.nv_workers.proofs.Reading.{longer, seen_by, off_from, after_rewrote, after_drop, after_exit, after_consumed, held_of, whole_buf, whole_read, event_is, stamp_is, is_below, is_live, is_new, held_reading}
 use Rattle.nv_workers.proofs.Growing.{one_more, counted_rises}
+use Rattle.nv_room.specs.Seats.{stations_of, view}
+use Rattle.nv_room.proofs.Stepped.{no_step}
 use Rattle.nv_workers.proofs.follows.decide.Goals as goal
 
 pub event-event-requires : goal.event-event-requires
@@ -106,3 +108,9 @@ returns-then-is_some-clause-rewrites g c = counted_rises _ _ c.args.version.now.
 
 pub returns-else-is_some-clause-rewrites : goal.returns-else-is_some-clause-rewrites
 returns-else-is_some-clause-rewrites g c = counted_rises _ _ c.args.version.now.at c.follow.new.self.at c.follow.ensures.told
+
+pub returns-in-Rewrote-clause-steps : goal.returns-in-Rewrote-clause-steps
+returns-in-Rewrote-clause-steps g c = no_step (stations_of c.args.room.now) (view c.args.reader.now)
+
+pub returns-in-Dropped-clause-steps : goal.returns-in-Dropped-clause-steps
+returns-in-Dropped-clause-steps g c = no_step (stations_of c.args.room.now) (view c.args.reader.now)

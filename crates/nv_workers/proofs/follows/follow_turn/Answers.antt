@@ -6,6 +6,8 @@ use Rattle.nv_workers.specs.Working.{FollowsOn}
 use Rattle.nv_workers.specs.Follows.{AfterTurn}
 use Rattle.nv_workers.proofs.Reading.{none_held, lives_on, found_none, found_event, found_waiting}
 use Rattle.nv_workers.proofs.Growing.{none_more, one_after}
+use Rattle.nv_room.specs.Seats.{stations_of, view}
+use Rattle.nv_room.proofs.Stepped.{more_steps}
 use Rattle.nv_workers.proofs.follows.follow_turn.Goals as goal
 
 pub returns-then-held-clause-after : goal.returns-then-held-clause-after
@@ -54,3 +56,7 @@ pub returns-in-Held-clause-rewrites : goal.returns-in-Held-clause-rewrites
 returns-in-Held-clause-rewrites g c =
     let a = ap (λ (v : Running Proc). v.at.rewrites) c.go_ahead.ensures.same in
     omega arith
+
+pub returns-in-Event-clause-steps : goal.returns-in-Event-clause-steps
+returns-in-Event-clause-steps g c =
+    more_steps (stations_of c.args.room.now) (view c.args.reader.now) (view c.find_event.new.reader) (view c.decide-in-Event.new.reader) c.find_event.ensures.steps c.decide-in-Event.ensures.steps

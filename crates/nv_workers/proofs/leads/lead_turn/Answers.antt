@@ -1,10 +1,11 @@
 use Rattle.std.proofs.Common.{ap, arith}
 use Rattle.nv_replay.specs.Sequence.{is_going}
 use Rattle.nv_served.proofs.LearningLaws.{as_told, legal_told}
-use Rattle.nv_room.specs.Seats.{kernel_of}
+use Rattle.nv_room.specs.Seats.{kernel_of, lead_view, stations_of}
 use Rattle.nv_workers.proofs.Serving.{with_asked, drops_lead, asks_lead}
 use Rattle.nv_threads.specs.Threads.{threads}
 use Rattle.nv_workers.proofs.Growing.{asked_rises}
+use Rattle.nv_room.proofs.Stepped.{no_step}
 use Rattle.nv_workers.proofs.leads.lead_turn.Goals as goal
 
 pub lead-requires-clause-on : goal.lead-requires-clause-on
@@ -45,3 +46,6 @@ returns-in-Asked-clause-rewrites g c =
     let a = asked_rises threads c.args.terms.now.most c.args.version.now c.lead.new.self c.lead.ensures.new in
     let b = c.serve-in-Asked.ensures.rewrites in
     omega arith
+
+pub returns-in-Dropped-clause-steps : goal.returns-in-Dropped-clause-steps
+returns-in-Dropped-clause-steps g c = no_step (stations_of c.args.room.now) (lead_view c.args.lead.now)

@@ -78,8 +78,8 @@ publish-requires-clause-few g c κs within = c.requires.few
 pub pending-requires : goal.pending-requires
 pending-requires g c = c.requires.pending
 
-pub returns : goal.returns
-returns g c =
+pub returns-clause-published : goal.returns-clause-published
+returns-clause-published g c =
     let p = c.publish.ensures in
     let known = g.K.SyscallKernel.known (kernel_of c.args.lead.now) in
     let log = g.K.SyscallKernel.log (kernel_of c.args.lead.now) in

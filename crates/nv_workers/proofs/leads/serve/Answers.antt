@@ -1,10 +1,12 @@
-use Rattle.std.proofs.Common.{◌≡◌, ◌∙◌, sym, ap, Some, None, arith, rules}
-use Rattle.nv_room.specs.Seats.{lead_view}
+use Rattle.std.proofs.Common.{◌≡◌, ◌∙◌, sym, ap, Some, None, ℕ, subst, arith, rules}
+use Rattle.nv_room.specs.Seats.{lead_view, stations_of}
 use Rattle.nv_workers.proofs.Serving.{grew_lead, with_asked, placed_lead, reserved_lead, asked_now, waits_lead, refused_lead, after_served, published_next, late_next}
 use Rattle.nv_ring.proofs.Filling.{ready_still}
 use Rattle.nv_workers.proofs.Growing.{none_more, one_more, one_after}
 use Rattle.nv_threads.specs.Threads.{Proc}
 use Rattle.nv_replay.specs.Version.{Running}
+use Rattle.nv_room.specs.Kinds.{Stepped}
+use Rattle.nv_room.proofs.Stepped.{more_steps}
 use Rattle.nv_workers.proofs.leads.serve.Goals as goal
 
 pub returns-in-Waiting-clause-after : goal.returns-in-Waiting-clause-after
@@ -55,13 +57,13 @@ returns-clause-after g c = λ j p f.
     let r = c.reserve.ensures in
     let f1 = placed_lead f c.place.new.lead e.of e.same e.due e.kernel e.seen e.wrote e.spans in
     let f2 = reserved_lead f1 c.reserve.new.self r.same r.view r.due r.log in
-    after_served f2 c.publish_call.ensures c.args.terms.now.hands.now c.next_of.result c.requires.terms.hands c.next_of.ensures
+    after_served f2 c.publish_call.ensures.published c.args.terms.now.hands.now c.next_of.result c.requires.terms.hands c.next_of.ensures
 
 pub returns-clause-published : goal.returns-clause-published
 returns-clause-published g c =
     let r = c.reserve.ensures in
     published_next (lead_view c.args.lead.now) (lead_view c.publish_call.new.lead) c.next_of.result
-    (grew_lead c.args.lead.now c.place.new.lead c.reserve.new.self c.publish_call.new.lead _ c.in_default.ensures.seen r.view c.publish_call.ensures.seen)
+    (grew_lead c.args.lead.now c.place.new.lead c.reserve.new.self c.publish_call.new.lead _ c.in_default.ensures.seen r.view c.publish_call.ensures.published.seen)
 
 pub returns-clause-late : goal.returns-clause-late
 returns-clause-late g c = late_next c.args.room.now c.args.lead.now c.publish_call.new.lead _ _ c.next_of.result c.next_of.ensures
@@ -73,7 +75,7 @@ pub returns-then-is_err-clause-one : goal.returns-then-is_err-clause-one
 returns-then-is_err-clause-one g c = none_more _ _ (ap (λ w. w.seen) c.reserve.ensures.view ∙ c.in_default.ensures.seen)
 
 pub returns-clause-one : goal.returns-clause-one
-returns-clause-one g c = one_after _ _ _ (ap (λ w. w.seen) c.reserve.ensures.view ∙ c.in_default.ensures.seen) (one_more _ _ _ c.publish_call.ensures.seen)
+returns-clause-one g c = one_after _ _ _ (ap (λ w. w.seen) c.reserve.ensures.view ∙ c.in_default.ensures.seen) (one_more _ _ _ c.publish_call.ensures.published.seen)
 
 pub returns-then-is_err-clause-rewrites : goal.returns-then-is_err-clause-rewrites
 returns-then-is_err-clause-rewrites g c =
@@ -82,5 +84,17 @@ returns-then-is_err-clause-rewrites g c =
 
 pub returns-clause-rewrites : goal.returns-clause-rewrites
 returns-clause-rewrites g c =
-    let a = ap (λ (v : Running Proc). v.at.rewrites) c.publish_call.ensures.version in
+    let a = ap (λ (v : Running Proc). v.at.rewrites) c.publish_call.ensures.published.version in
     omega arith
+
+pub returns-then-is_err-clause-steps : goal.returns-then-is_err-clause-steps
+returns-then-is_err-clause-steps g c =
+    subst (λ v. Stepped (stations_of c.args.room.now) (lead_view c.args.lead.now) v) (sym c.reserve.ensures.view) c.place.ensures.steps
+
+pub returns-clause-steps : goal.returns-clause-steps
+returns-clause-steps g c =
+    let n : ℕ = stations_of c.args.room.now in
+    let old = lead_view c.args.lead.now in
+    let mid = lead_view c.place.new.lead in
+    let new = lead_view c.publish_call.new.lead in
+    more_steps n old mid new c.place.ensures.steps (subst (λ v. Stepped n v new) c.reserve.ensures.view c.publish_call.ensures.steps)

@@ -1,6 +1,8 @@
 use Rattle.std.proofs.Common.{subst, ap, ◌∙◌, arith}
 use Rattle.nv_calls.specs.Logs.{IsLawful}
 use Rattle.nv_workers.proofs.Moving.{follows_now, few_led, takes_lead}
+use Rattle.nv_room.specs.Seats.{stations_of}
+use Rattle.nv_workers.proofs.SeatSteps.{takes_by_steps}
 use Rattle.nv_workers.proofs.worker.take_lead.Goals as goal
 
 pub returns-clause-leads : goal.returns-clause-leads
@@ -22,3 +24,6 @@ begin_lead-requires-clause-few g c =
 pub returns-clause-on : goal.returns-clause-on
 returns-clause-on g c =
     ap (λ v. v.at.fate) c.begin_lead.ensures ∙ (follows_now c.requires.follows.4).on
+
+pub returns-clause-steps : goal.returns-clause-steps
+returns-clause-steps g c = takes_by_steps (stations_of c.args.room.now) c.args.reader c.take-lead.result c.take-lead.ensures.view

@@ -1,4 +1,4 @@
-use Rattle.std.proofs.Common.{sym, ap, subst}
+use Rattle.std.proofs.Common.{ℕ, sym, ap, subst}
 use Rattle.nv_workers.specs.Terms.{judges_of}
 use Rattle.nv_workers.specs.declared.worker.Seat.TheVariants.{Reading, Leading}
 use Rattle.nv_workers.specs.Worker.{WorksAt, IsGone, seen_by}
@@ -6,6 +6,9 @@ use Rattle.nv_workers.specs.inner.Stepping.{StepTells}
 use Rattle.nv_workers.proofs.Stepping.{after_read, tells_read, tells_lead, gone_ended}
 use Rattle.nv_workers.specs.Growing.{OneMoreAtMost}
 use Rattle.nv_workers.specs.Measure.{seat_left}
+use Rattle.nv_room.specs.Seats.{stations_of}
+use Rattle.nv_workers.specs.Views.{GoesBySteps}
+use Rattle.nv_workers.proofs.SeatSteps.{goes_nowhere, reads_on, leads_on}
 use Rattle.nv_workers.proofs.worker.Worker.step.Goals as goal
 
 pub returns-in-Reading-clause-after : goal.returns-in-Reading-clause-after
@@ -56,3 +59,18 @@ returns-in-Reading-clause-seat g c = sym (ap seat_left c.in-Reading.is)
 
 pub returns-in-Leading-clause-seat : goal.returns-in-Leading-clause-seat
 returns-in-Leading-clause-seat g c = sym (ap seat_left c.in-Leading.is)
+
+pub returns-in-Reading-clause-steps : goal.returns-in-Reading-clause-steps
+returns-in-Reading-clause-steps g c =
+    let n : ℕ = stations_of c.args.room.now in
+    subst (λ s. GoesBySteps n s (Reading c.follow_turn.new.reader c.follow_turn.new.held)) (sym c.in-Reading.is)
+    (reads_on n c.in-Reading.reader c.follow_turn.new.reader c.in-Reading.held c.follow_turn.new.held c.follow_turn.ensures.steps)
+
+pub returns-in-Leading-clause-steps : goal.returns-in-Leading-clause-steps
+returns-in-Leading-clause-steps g c =
+    let n : ℕ = stations_of c.args.room.now in
+    subst (λ s. GoesBySteps n s (Leading c.lead_turn.new.lead c.lead_turn.new.asked)) (sym c.in-Leading.is)
+    (leads_on n c.in-Leading.lead c.lead_turn.new.lead c.in-Leading.asked c.lead_turn.new.asked c.lead_turn.ensures.steps)
+
+pub returns-in-Gone-clause-steps : goal.returns-in-Gone-clause-steps
+returns-in-Gone-clause-steps g c = goes_nowhere (stations_of c.args.room.now) c.args.self.now.seat

@@ -6,6 +6,8 @@ use Rattle.nv_threads.specs.Threads.{Proc}
 use Rattle.nv_workers.proofs.Stepping.{took_from, took_stays}
 use Rattle.nv_workers.proofs.Rotating.{read_grown}
 use Rattle.nv_workers.proofs.Measure.{works_few, hands_lead, leaves_some, zero_gone, at_most_two, took_one, gone_none, moved_falls, ahead_falls, seat_falls, hands_falls, stays_level}
+use Rattle.nv_room.specs.Seats.{stations_of}
+use Rattle.nv_workers.proofs.SeatSteps.{goes_further}
 use Rattle.nv_workers.proofs.worker.Worker.turn.Goals as goal
 
 pub returns-in-Moved-clause-works : goal.returns-in-Moved-clause-works
@@ -187,3 +189,12 @@ returns-in-Leaves-clause-falls g c =
       stays_level _ _ _ _ _ _ _ _ (omega arith, omega arith) (omega arith) few (omega arith) (omega arith),
       λ stood. seat_falls _ _ _ _ _ _ _ _ (omega arith, omega arith) (omega arith) few spare (omega arith),
     )
+
+pub returns-in-Leads-clause-steps : goal.returns-in-Leads-clause-steps
+returns-in-Leads-clause-steps g c = goes_further (stations_of c.args.room.now) c.args.self.now.seat c.step.new.self.seat c.promote.new.self.seat c.step.ensures.steps c.promote.ensures.steps
+
+pub returns-in-Hands-clause-steps : goal.returns-in-Hands-clause-steps
+returns-in-Hands-clause-steps g c = goes_further (stations_of c.args.room.now) c.args.self.now.seat c.step.new.self.seat c.hand_over.new.self.seat c.step.ensures.steps c.hand_over.ensures.steps
+
+pub returns-in-Leaves-clause-steps : goal.returns-in-Leaves-clause-steps
+returns-in-Leaves-clause-steps g c = goes_further (stations_of c.args.room.now) c.args.self.now.seat c.step.new.self.seat c.depart.new.self.seat c.step.ensures.steps c.depart.ensures.steps
