@@ -8,8 +8,10 @@
 - Limits of files and options: the pages of LIMITS and OPTION_LIMITS have the numbers of the definitions.
 - Crates: crates.txt has each after those that it uses, with the first sentence of its head; docs/ARCHITECTURE.md has its layers as a picture, and docs/PROVED.md an
   entry for each that isn't of tests or benches. A report's line is found in the code as ARCHITECTURE says.
+- Steps: each step that nv_room takes on its table is of a kind that nv_progress counts, as docs/PROVED.md says.
 - Pages: README.md lists those of docs/. The ones that a user reads first have no line of more than 200 characters, the others none of more than 240.
 """
+import glob
 import itertools
 import os
 import re
@@ -22,6 +24,8 @@ FIRST = ("README.md", "CHANGELOG.md", *(f"docs/{it}" for it in ("TUTORIAL.md", "
 MOST_FIRST, MOST = 200, 240
 MEASURED = "docs/BENCHMARKS.md"
 COMMANDS = ("run", "serve", "record", "replay", "inspect", "rules", "asm", "gen", "help")
+# calls on a room's table that are no step of a seat's own turn: the kernel goes into its slot or out of it, and seats are made before the first turn and taken back after the last
+BETWEEN_STEPS = ("exchange", "split_seat", "join_seat")
 # what a shell tells of a service that SIGTERM ended: 128 and the signal's number
 BY_SIGTERM = "143"
 OUTCOME = "crates/nv_driver/specs/Outcome.antt"
@@ -331,6 +335,30 @@ def page_limits(wrong):
             wrong.append(f"docs/{page}.md doesn't say, by crates/{path}: {told}")
 
 
+def room_steps(wrong):
+    """Each step that a room's seats take on its table has one of nv_room's plays, and nv_progress has each play as a kind of step that the room allows; no other crate steps on it."""
+    plays = dict(re.findall(r"Play<[^{]*for (\w+)(?:<\w+>)? \{\s*ghost then = \{ (\w+)", read("crates/nv_room/src/plays.rt")))
+    taken = set()
+    for path in sorted(glob.glob(f"{ROOT}/crates/*/src/*.rt")):
+        path = os.path.relpath(path, ROOT)
+        code = re.sub(r"(?m)^ *(?:ghost|requires|ensures) .*", "", read(path))
+        for call, play in re.findall(r"\btable\s*\.shared\s*\.(\w+)(?:::<(\w+))?.*?\(", code):
+            taken.add(play)
+            if not path.startswith("crates/nv_room/"):
+                wrong.append(f"{path} steps on a table: {call}")
+            elif call not in BETWEEN_STEPS and play not in plays:
+                wrong.append(f"{path}: {call} has no play of crates/nv_room/src/plays.rt")
+    law = read("crates/nv_progress/specs/Plays.antt")
+    named = {new: old for old, new in re.findall(r"(\w+) as (\w+)", law)}
+    kinds = {kind: named.get(play, play) for kind, play in re.findall(r"(?m)^  Plays \(?(\w+)[^=\n]*= .*?(\w+) (?:hist beg )?st m\b", law)}
+    allowed = set(re.findall(r"MayDo [^\n]*\(λ \w+\. (\w+)", read("crates/nv_progress/src/laws.rt")))
+    wrong += [f"crates/nv_room/src: no step has the play {it}" for it in sorted(set(plays) - taken)]
+    wrong += [f"crates/nv_progress/specs/Plays.antt has no kind of the play {name}" for name, then in sorted(plays.items()) if list(kinds.values()).count(then) != 1]
+    wrong += [f"crates/nv_progress/src/laws.rt doesn't say when the room allows {it}" for it in sorted(set(kinds) - allowed)]
+    if not plays or len(kinds) != len(plays):
+        wrong.append(f"crates/nv_room/src/plays.rt has {len(plays)} plays, crates/nv_progress/specs/Plays.antt {len(kinds)} kinds")
+
+
 def cures(wrong):
     for line in read("docs/REFUSALS.md").split("\n"):
         if line.startswith("|") and not line.split("|")[-2].strip():
@@ -356,8 +384,9 @@ if __name__ == "__main__":
     causes(wrong)
     page_limits(wrong)
     report_lines(wrong)
+    room_steps(wrong)
     cures(wrong)
     long_lines(wrong)
     if wrong:
         sys.exit("\n".join(f"pages: {it}" for it in wrong))
-    print("pages: options, limits, statuses, causes, cures, pages and crates stand as the code has them")
+    print("pages: options, limits, statuses, causes, cures, steps, pages and crates stand as the code has them")
