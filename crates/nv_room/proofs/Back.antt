@@ -28,7 +28,8 @@ module _ {K : Type 0} {G : Ghosts K} where
   pub record Back (n : ℕ) (z : TableId) (all left : List (Left K G)) (xs ys : List ℕ) (es : List Past) : Type 0 where
     pub seats : LeftsOf n z left
     pub wide : length ys ≡ length xs
-    pub each : (i : ℕ) (r : Left K G) → get_elem? all i ≡ some r → (get_elem? left i ≡ some r) ⊎ (Came r es × (get_elem? ys r.version ≡ some (length (left_view r).seen)) × ((j : ℕ) (q : Left K G) → get_elem? left j ≡ some q → q.version ≢ r.version))
+    pub each : (i : ℕ) (r : Left K G) → get_elem? all i ≡ some r
+        → (get_elem? left i ≡ some r) ⊎ (Came r es × (get_elem? ys r.version ≡ some (length (left_view r).seen)) × ((j : ℕ) (q : Left K G) → get_elem? left j ≡ some q → q.version ≢ r.version))
 
   pub fewer : (n : ℕ) (z : TableId) (left left' : List (Left K G)) (r : Left K G) → left ≡ left' ++ r ∷ [] → LeftsOf n z left → LeftsOf n z left'
   fewer n z left left' r is b = let old = λ (i : ℕ) (x : Left K G) (f : get_elem? left' i ≡ some x). ap (λ (l : List (Left K G)). get_elem? l i) is ∙ at_longer left' (r ∷ []) i x f in
@@ -37,7 +38,8 @@ module _ {K : Type 0} {G : Ghosts K} where
   pub last_left : (left left' : List (Left K G)) (r : Left K G) → left ≡ left' ++ r ∷ [] → get_elem? left (length left') ≡ some r
   last_left left left' r is = ap (λ (l : List (Left K G)). get_elem? l (length left')) is ∙ at_last left' r (length left') refl
 
-  pub one_back : (n : ℕ) (z : TableId) (all left left' : List (Left K G)) (r : Left K G) (xs ys ys' : List ℕ) (es es' : List Past) → left ≡ left' ++ r ∷ [] → ys' ≡ set ys r.version r.seen → es' ≡ es ++ past_of (left_view r) ∷ [] → length (left_view r).seen ≡ r.seen → n ≡ length xs
+  pub one_back : (n : ℕ) (z : TableId) (all left left' : List (Left K G)) (r : Left K G) (xs ys ys' : List ℕ) (es es' : List Past) → left ≡ left' ++ r ∷ [] → ys' ≡ set ys r.version r.seen
+      → es' ≡ es ++ past_of (left_view r) ∷ [] → length (left_view r).seen ≡ r.seen → n ≡ length xs
       → Back n z all left xs ys es → Back n z all left' xs ys' es'
   one_back n z all left left' r xs ys ys' es es' is put more seen wide b = let m : ℕ = length left' in let here : get_elem? left m ≡ some r = last_left left left' r is in
       let old = λ (i : ℕ) (x : Left K G) (f : get_elem? left' i ≡ some x). ap (λ (l : List (Left K G)). get_elem? l i) is ∙ at_longer left' (r ∷ []) i x f in
@@ -45,7 +47,13 @@ module _ {K : Type 0} {G : Ghosts K} where
       let others = λ (i : ℕ) (x : Left K G) (f : get_elem? left' i ≡ some x) (e : x.version ≡ r.version). let lt = at_below left' i x f in let same = b.seats.apart i m x r (old i x f) here e in (let q : ⊥ = omega arith in q) in
       let longer : (x : Left K G) → Came x es → Came x es' = λ x h. (h.0, ap (λ (l : List Past). get_elem? l h.0) more ∙ at_longer es (past_of (left_view r) ∷ []) h.0 (past_of (left_view x)) h.1) in
       let Fine : Left K G → Type 0 = λ x. Came x es' × (get_elem? ys' x.version ≡ some (length (left_view x).seen)) × ((j : ℕ) (q : Left K G) → get_elem? left' j ≡ some q → q.version ≢ x.version) in
-      let it : Fine r = ((length es, ap (λ (l : List Past). get_elem? l (length es)) more ∙ at_last es (past_of (left_view r)) (length es) refl), ap (λ (l : List ℕ). get_elem? l r.version) put ∙ at_here ys r.version r.seen inside ∙ ap some (sym seen), others) in record {
+      let it : Fine r = (
+        (length es, ap (λ (l : List Past). get_elem? l (length es)) more ∙ at_last es (past_of (left_view r)) (length es) refl),
+        ap
+            (λ (l : List ℕ). get_elem? l r.version) put ∙ at_here ys r.version r.seen inside ∙ ap some (sym seen),
+        others,
+      ) in
+      record {
         seats = fewer n z left left' r is b.seats;
         wide = ap length put ∙ length-set ys r.version r.seen ∙ b.wide;
         each = λ i x f. ⊎_elim (λ (h : get_elem? left i ≡ some x). ⊎_elim (λ q. inl q)
@@ -57,5 +65,6 @@ module _ {K : Type 0} {G : Ghosts K} where
   all_back n z all left xs ys es none b = record {
     wide = b.wide;
     each = λ i r f. ⊎_elim (λ (h : get_elem? left i ≡ some r). let l = at_below left i r h in absurd (omega arith))
-        (λ (h : Came r es × (get_elem? ys r.version ≡ some (length (left_view r).seen)) × ((j : ℕ) (q : Left K G) → get_elem? left j ≡ some q → q.version ≢ r.version)). let p : Came r es × (get_elem? ys r.version ≡ some (length (left_view r).seen)) = (h.0, h.1) in p) (b.each i r f);
+        (λ (h : Came r es × (get_elem? ys r.version ≡ some (length (left_view r).seen)) × ((j : ℕ) (q : Left K G) → get_elem? left j ≡ some q
+        → q.version ≢ r.version)). let p : Came r es × (get_elem? ys r.version ≡ some (length (left_view r).seen)) = (h.0, h.1) in p) (b.each i r f);
   }

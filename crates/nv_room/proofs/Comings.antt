@@ -68,7 +68,10 @@ numbers_below a (suc n) zero v e = let q : a ≡ v = some-injective a v e in ome
 numbers_below a (suc n) (suc s) v e = let h = numbers_below (a + 1) n s v e in omega arith
 
 number_last : (n s : ℕ) → s < n → IsLastStation (numbers 0 n) s s
-number_last n s b = record { has = number_from n s b; none_later = λ t l e. (let within = at_below (numbers 0 n) t s e in let long = length-numbers 0 n in let q : t ≡ s = some-injective t s (sym (number_from n t (omega arith)) ∙ e) in omega arith) }
+number_last n s b = record {
+  has = number_from n s b;
+  none_later = λ t l e. (let within = at_below (numbers 0 n) t s e in let long = length-numbers 0 n in let q : t ≡ s = some-injective t s (sym (number_from n t (omega arith)) ∙ e) in omega arith);
+}
 
 spent_left : (x y : Tag) → (x ≡ (Spent, 0, 0, [])) → ¬ Clash x y
 spent_left x y e c = subst (λ (z : Tag). Live z.0) e c.0
@@ -133,8 +136,10 @@ module _ (ts : List Tag) (id m k : ℕ) (es : List ℕ) (a b : Role) (live : Liv
 
   pub apart_split : NoClash (us ++ (b, m, k, []) ∷ [])
   apart_split j h x y e f c = ⊎_elim
-      (λ (e' : get_elem? us j ≡ some x). ⊎_elim (λ (f' : get_elem? us h ≡ some y). both j h x y e' f' c) (λ (f' : (h ≡ length us) × (Path Tag (b, m, k, []) y)). absurd (mixed j x e' (flip x (b, m, k, []) (subst (λ (z : Tag). Clash x z) (λ i. sym f'.1 i) c)))) (at_end us (b, m, k, []) y h f))
-      (λ (e' : (j ≡ length us) × (Path Tag (b, m, k, []) x)). ⊎_elim (λ (f' : get_elem? us h ≡ some y). absurd (mixed h y f' (subst (λ (z : Tag). Clash z y) (λ i. sym e'.1 i) c))) (λ (f' : (h ≡ length us) × (Path Tag (b, m, k, []) y)). e'.0 ∙ sym f'.0) (at_end us (b, m, k, []) y h f))
+      (λ (e' : get_elem? us j ≡ some x). ⊎_elim (λ (f' : get_elem? us h ≡ some y). both j h x y e' f' c)
+      (λ (f' : (h ≡ length us) × (Path Tag (b, m, k, []) y)). absurd (mixed j x e' (flip x (b, m, k, []) (subst (λ (z : Tag). Clash x z) (λ i. sym f'.1 i) c)))) (at_end us (b, m, k, []) y h f))
+      (λ (e' : (j ≡ length us) × (Path Tag (b, m, k, []) x)). ⊎_elim (λ (f' : get_elem? us h ≡ some y). absurd (mixed h y f' (subst (λ (z : Tag). Clash z y) (λ i. sym e'.1 i) c)))
+      (λ (f' : (h ≡ length us) × (Path Tag (b, m, k, []) y)). e'.0 ∙ sym f'.0) (at_end us (b, m, k, []) y h f))
       (at_end us (b, m, k, []) x j e)
 
 module _ {K B : Type 0} (hist : K → List Entry) (beg : K → B) (p : Layout K) where
@@ -164,7 +169,15 @@ module _ {K B : Type 0} (hist : K → List Entry) (beg : K → B) (p : Layout K)
         owner_seen_at_most_head = kn.owner_seen_at_most_head;
         opened_at_most_open = kn.opened_at_most_open;
         in_role = kn.in_role;
-        seated = λ l. record { start_is = se.start_is; places_are = se.places_are; opened_least = se.opened_least; last = se.last; spans_are = se.spans_are; unmade_is_new = λ z u. se.unmade_is_new z record { first = u.first; other = u.other; not_made = (let a = u.not_made in omega arith); near = u.near }; others_are_gone = se.others_are_gone };
+        seated = λ l. record {
+          start_is = se.start_is;
+          places_are = se.places_are;
+          opened_least = se.opened_least;
+          last = se.last;
+          spans_are = se.spans_are;
+          unmade_is_new = λ z u. se.unmade_is_new z record { first = u.first; other = u.other; not_made = (let a = u.not_made in omega arith); near = u.near };
+          others_are_gone = se.others_are_gone;
+        };
         ended_is_past = kn.ended_is_past;
       } in
       let cut : Knows p m (reader_of v) = record {
@@ -175,7 +188,15 @@ module _ {K B : Type 0} (hist : K → List Entry) (beg : K → B) (p : Layout K)
         owner_seen_at_most_head = omega arith;
         opened_at_most_open = kn.opened_at_most_open;
         in_role = record { cursor_is_length = fresh_cursor; led_nothing = none_of t; wrote_nothing = refl; freed_stays = λ k e. cc };
-        seated = λ l. record { start_is = se.start_is; places_are = se.places_are; opened_least = se.opened_least; last = last; spans_are = sym (ap (of_version t) unled); unmade_is_new = λ z u. (let a = u.first in absurd (omega arith)); others_are_gone = λ z has ne out. absurd (ne (alone z has)) };
+        seated = λ l. record {
+          start_is = se.start_is;
+          places_are = se.places_are;
+          opened_least = se.opened_least;
+          last = last;
+          spans_are = sym (ap (of_version t) unled);
+          unmade_is_new = λ z u. (let a = u.first in absurd (omega arith));
+          others_are_gone = λ z has ne out. absurd (ne (alone z has));
+        };
         ended_is_past = λ i y e. absurd (some-ne-none y (sym e));
       } in
       let empty : es ≡ [] = ap (map version_of) ended in
@@ -196,11 +217,13 @@ module _ {K B : Type 0} (hist : K → List Entry) (beg : K → B) (p : Layout K)
         led = r.led;
         doors = r.doors;
         turns = r.turns;
-        merge = merge_cut n c s.words r.log r.phase vs (reader_of v) (merge_turned n c s.views id v (one_made v) at s.words s.words r.log r.phase r.merge (λ _ _. refl) (λ e. r.merge.lead_writes id v at e) (λ e. r.merge.notes id v at e) (λ l. r.merge.floors_wide id v at l))
+        merge = merge_cut n c s.words r.log r.phase vs (reader_of v)
+            (merge_turned n c s.views id v (one_made v) at s.words s.words r.log r.phase r.merge (λ _ _. refl) (λ e. r.merge.lead_writes id v at e) (λ e. r.merge.notes id v at e) (λ l. r.merge.floors_wide id v at l))
             refl (notes_none r.log [] [] refl) (length-replicate (length v.floors) 0 ∙ r.merge.floors_wide id v at (subst Live (sym role) tt));
         held_has_lead = λ e. let h = lead_stays s.views id r.holder v (one_made v) at (λ q. (q, refl)) (r.held_has_lead e) in (h.0, h.1, at_longer vs (reader_of v ∷ []) h.0 h.1 h.2, h.3, h.4);
         one_seat_a_version = subst NoClash (sym path) (apart_split (map tag s.views) id t 0 es Reader Reader tt pos empty (at_map tag s.views id v at ∙ (λ i. some (role i, zeroth i, t, es))) r.one_seat_a_version);
-        each_seat = λ j u e. ⊎_elim (λ (e' : get_elem? vs j ≡ some u). ⊎_elim (λ (y : (j ≡ id) × (one_made v ≡ u)). subst (Knows p m) y.1 mine') (λ (y : (j ≢ id) × (get_elem? s.views j ≡ some u)). r.each_seat j u y.1) (at_set s.views id j (one_made v) u e'))
+        each_seat = λ j u e. ⊎_elim (λ (e' : get_elem? vs j ≡ some u). ⊎_elim (λ (y : (j ≡ id) × (one_made v ≡ u)). subst (Knows p m) y.1 mine')
+            (λ (y : (j ≢ id) × (get_elem? s.views j ≡ some u)). r.each_seat j u y.1) (at_set s.views id j (one_made v) u e'))
             (λ (e' : (j ≡ length vs) × (reader_of v ≡ u)). subst (Knows p m) e'.1 cut) (at_end vs (reader_of v) u j e);
       }
 
@@ -223,7 +246,17 @@ module _ {K B : Type 0} (hist : K → List Entry) (beg : K → B) (p : Layout K)
         seated = λ l. record { start_is = se.start_is; places_are = se.places_are; opened_least = se.opened_least; last = se.last; spans_are = se.spans_are; unmade_is_new = se.unmade_is_new; others_are_gone = se.others_are_gone };
         ended_is_past = λ i y e. ⊎_elim (λ (q : get_elem? v.ended i ≡ some y). kn.ended_is_past i y q) (λ (q : (i ≡ length v.ended) × (x ≡ y)). subst (IsPast m) q.1 told) (at_end v.ended x y i e);
       } in
-      let over : Knows p m spent = record { seen_is_prefix = λ i y e. absurd (some-ne-none y (sym e)); read_begins_next = λ i y e. absurd (some-ne-none y (sym e)); floor_at_most_cursor = λ z l. zero-le; head_seen_at_most_head = zero-le; owner_seen_at_most_head = omega arith; opened_at_most_open = zero-le; in_role = refl; seated = λ l. absurd l; ended_is_past = λ i y e. absurd (some-ne-none y (sym e)) } in
+      let over : Knows p m spent = record {
+        seen_is_prefix = λ i y e. absurd (some-ne-none y (sym e));
+        read_begins_next = λ i y e. absurd (some-ne-none y (sym e));
+        floor_at_most_cursor = λ z l. zero-le;
+        head_seen_at_most_head = zero-le;
+        owner_seen_at_most_head = omega arith;
+        opened_at_most_open = zero-le;
+        in_role = refl;
+        seated = λ l. absurd l;
+        ended_is_past = λ i y e. absurd (some-ne-none y (sym e));
+      } in
       let e₁ : map tag vs ≡ set ts id (v.role, v.version, v.made, es ++ w.version ∷ []) = map-set tag s.views id (rejoined v w) ∙ (λ k. set ts id (v.role, v.version, v.made, map-append version_of v.ended (x ∷ []) k)) in
       let path : map tag (set vs other spent) ≡ set (set ts id (v.role, v.version, v.made, es ++ w.version ∷ [])) other (Spent, 0, 0, []) = map-set tag vs other spent ∙ (λ k. set (e₁ k) other (Spent, 0, 0, [])) in record {
         log = r.log;
@@ -242,16 +275,20 @@ module _ {K B : Type 0} (hist : K → List Entry) (beg : K → B) (p : Layout K)
         doors = r.doors;
         turns = r.turns;
         held_has_lead = λ e. lead_stays vs other r.holder w spent at' (λ q. absurd (subst Leads gone q)) (lead_stays s.views id r.holder v (rejoined v w) at (λ q. (q, refl)) (r.held_has_lead e));
-        merge = merge_turned n c vs other w spent at' s.words s.words r.log r.phase (merge_turned n c s.views id v (rejoined v w) at s.words s.words r.log r.phase r.merge (λ _ _. refl) (λ e. r.merge.lead_writes id v at e) (λ e. r.merge.notes id v at e) (λ l. r.merge.floors_wide id v at l))
+        merge = merge_turned n c vs other w spent at' s.words s.words r.log r.phase
+            (merge_turned n c s.views id v (rejoined v w) at s.words s.words r.log r.phase r.merge (λ _ _. refl) (λ e. r.merge.lead_writes id v at e) (λ e. r.merge.notes id v at e) (λ l. r.merge.floors_wide id v at l))
             (λ _ _. refl) (λ e. absurd e) (λ (e : Spent ≡ Reader). cc) (λ l. absurd l);
-        one_seat_a_version = subst NoClash (sym path) (apart_join ts id other v.version v.made w.version w.made es gs v.role w.role live (subst Live (sym gone) tt) (at_map tag s.views id v at) (at_map tag s.views other w there') r.one_seat_a_version);
+        one_seat_a_version = subst NoClash (sym path)
+            (apart_join ts id other v.version v.made w.version w.made es gs v.role w.role live (subst Live (sym gone) tt) (at_map tag s.views id v at) (at_map tag s.views other w there') r.one_seat_a_version);
         each_seat = λ j u e. ⊎_elim (λ (y : (j ≡ other) × (spent ≡ u)). subst (Knows p m) y.1 over)
-            (λ (y : (j ≢ other) × (get_elem? vs j ≡ some u)). ⊎_elim (λ (z : (j ≡ id) × (rejoined v w ≡ u)). subst (Knows p m) z.1 mine) (λ (z : (j ≢ id) × (get_elem? s.views j ≡ some u)). r.each_seat j u z.1) (at_set s.views id j (rejoined v w) u y.1))
+            (λ (y : (j ≢ other) × (get_elem? vs j ≡ some u)). ⊎_elim (λ (z : (j ≡ id) × (rejoined v w ≡ u)). subst (Knows p m) z.1 mine)
+            (λ (z : (j ≢ id) × (get_elem? s.views j ≡ some u)). r.each_seat j u z.1) (at_set s.views id j (rejoined v w) u y.1))
             (at_set vs other j spent u e);
       }
 
   -- the room opens free at 0, with the kernel home
-  pub opens : (ws : List ℕ) (k : K) → hist k ≡ [] → p.start.value ≡ k → 0 < p.versions → p.stations ≡ p.versions + length (planned hist beg p) → p.stations ≤ 16 → 0 < p.places → length ws ≡ table_words p.stations p.places → get_or ws 0 0 ≡ p.versions * 64 → ((i : ℕ) → i ≢ 0 → get_or ws i 0 ≡ 0) → RuleOf (opening ws (Some k ∷ []) (first p))
+  pub opens : (ws : List ℕ) (k : K) → hist k ≡ [] → p.start.value ≡ k → 0 < p.versions → p.stations ≡ p.versions + length (planned hist beg p) → p.stations ≤ 16 → 0 < p.places
+      → length ws ≡ table_words p.stations p.places → get_or ws 0 0 ≡ p.versions * 64 → ((i : ℕ) → i ≢ 0 → get_or ws i 0 ≡ 0) → RuleOf (opening ws (Some k ∷ []) (first p))
   opens ws k empty same some_version all few pos wide word zeros = let u : ℕ = p.versions in let cur : (z : ℕ) → cursor ws z ≡ 0 = λ z. zeros (cursor_index z) (λ e. omega arith) in let long = length-numbers 0 u in record {
     log = [];
     events = [];
@@ -300,7 +337,15 @@ module _ {K B : Type 0} (hist : K → List Entry) (beg : K → B) (p : Layout K)
       owner_seen_at_most_head = omega arith;
       opened_at_most_open = omega arith;
       in_role = record { cursor_is_length = cur 0; led_nothing = refl; wrote_nothing = refl; freed_stays = λ k e. cc };
-      seated = λ l. record { start_is = refl; places_are = refl; opened_least = le_refl u; last = number_last u 0 some_version; spans_are = refl; unmade_is_new = λ t u. cur t; others_are_gone = λ z has ne out. absurd (let within = at_below (numbers 0 u) z 0 has in let q : z ≡ 0 = some-injective z 0 (sym (number_from u z (omega arith)) ∙ has) in ne q) };
+      seated = λ l. record {
+        start_is = refl;
+        places_are = refl;
+        opened_least = le_refl u;
+        last = number_last u 0 some_version;
+        spans_are = refl;
+        unmade_is_new = λ t u. cur t;
+        others_are_gone = λ z has ne out. absurd (let within = at_below (numbers 0 u) z 0 has in let q : z ≡ 0 = some-injective z 0 (sym (number_from u z (omega arith)) ∙ has) in ne q);
+      };
       ended_is_past = λ i x f. absurd (some-ne-none x (sym f));
     };
   }

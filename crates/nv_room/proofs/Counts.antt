@@ -37,6 +37,13 @@ below_planned ks n h = there ks n h.0 h.1
   where
     there : (ks : List ℕ) (n i : ℕ) → get_elem? ks i ≡ some n → below ks n + 1 ≤ below ks (n + 1)
     there [] n i e = absurd (some-ne-none n (sym e))
-    there (k ∷ ks) n zero e = let same : k ≡ n = some-injective k n e in let a = below_more k ks n in let b = below_more k ks (n + 1) in let c = below_rises ks n in let d = adds_none k n (omega arith) in let f = adds_one k (n + 1) (omega arith) in omega arith
+    there (k ∷ ks) n zero e =
+        let same : k ≡ n = some-injective k n e in
+        let a = below_more k ks n in
+        let b = below_more k ks (n + 1) in
+        let c = below_rises ks n in
+        let d = adds_none k n (omega arith) in
+        let f = adds_one k (n + 1) (omega arith) in
+        omega arith
     there (k ∷ ks) n (suc i) e = let a = below_more k ks n in let b = below_more k ks (n + 1) in let c = there ks n i e in
         dite (dec_le n k) (λ le. let d = adds_none k n le in omega arith) (λ gt. let l : k < n = lt_of_not-le gt in let d = adds_one k n l in let f = adds_one k (n + 1) (omega arith) in omega arith)

@@ -1,5 +1,6 @@
 -- A station's own cursor rises: one event on, or gone.
-use Rattle.std.proofs.Common.{◌≡◌, ℕ, ◌+◌, ◌<◌, ◌≤◌, ◌≢◌, ◌⊎◌, List, [], ◌∷◌, ◌++◌, map, length, get_or, set, sym, refl, ap, ◌∙◌, subst, inl, inr, ⊎_elim, le_trans, le_refl, lt_of_not-le, arith, length-append, length-set, get_or-set_other, get_or-set_same}
+use Rattle.std.proofs.Common.{◌≡◌, ℕ, ◌+◌, ◌<◌, ◌≤◌, ◌≢◌, ◌⊎◌, List, [], ◌∷◌, ◌++◌, map, length, get_or, set}
+use Rattle.std.proofs.Common.{sym, refl, ap, ◌∙◌, subst, inl, inr, ⊎_elim, le_trans, le_refl, lt_of_not-le, arith, length-append, length-set, get_or-set_other, get_or-set_same}
 use mathlib.Core.Logic.{dite}
 use mathlib.Core.Option.{none, some, some-injective, some-ne-none}
 use native.Mathlib.Decide.{ℕ_discrete, dec_le}
@@ -46,7 +47,8 @@ module _ (n c : ℕ) (m : Moment) (i x : ℕ) (pl : Places n c m) (near : i < n)
   cursor_set s = dite (ℕ_discrete s i) (λ e. inl (e, ap (cursor ws') e ∙ cursor_there)) (λ ne. inr (ne, cursor_else s ne))
 
   pub cursor_up : (s : ℕ) → cursor m.words s ≤ cursor ws' s
-  cursor_up s = ⊎_elim (λ (y : (s ≡ i) × (cursor ws' s ≡ x)). let a : cursor m.words s ≡ cursor m.words i = ap (cursor m.words) y.0 in let b = y.1 in omega arith) (λ (y : (s ≢ i) × (cursor ws' s ≡ cursor m.words s)). let b = y.1 in omega arith) (cursor_set s)
+  cursor_up s = ⊎_elim (λ (y : (s ≡ i) × (cursor ws' s ≡ x)). let a : cursor m.words s ≡ cursor m.words i = ap (cursor m.words) y.0 in let b = y.1 in omega arith)
+      (λ (y : (s ≢ i) × (cursor ws' s ≡ cursor m.words s)). let b = y.1 in omega arith) (cursor_set s)
 
   place_else : (log : Log) (e j : ℕ) → get_or ws' (word_place n c log e j) 0 ≡ get_or m.words (word_place n c log e j) 0
   place_else log e j = get_or-set_other m.words (cursor_index i) (word_place n c log e j) x 0 (place_after n c log e j (cursor_index i) (omega arith))
@@ -70,7 +72,17 @@ module _ (n c : ℕ) (m : Moment) (i x : ℕ) (pl : Places n c m) (near : i < n)
   }
 
   pub on_risen : length m.seating ≤ n → Onward n m risen
-  on_risen fit = record { near = fit; cursors = λ s l. cursor_up s; longer = λ _ _ h. h; seated = λ _ _ h. h; more = le_refl (length m.log); wider = le_refl (length m.seating); begun = λ k y e. inl (k, y, e, refl, refl); gone_spans = λ v s l g. refl; gone_last = λ v s l g. l }
+  on_risen fit = record {
+    near = fit;
+    cursors = λ s l. cursor_up s;
+    longer = λ _ _ h. h;
+    seated = λ _ _ h. h;
+    more = le_refl (length m.log);
+    wider = le_refl (length m.seating);
+    begun = λ k y e. inl (k, y, e, refl, refl);
+    gone_spans = λ v s l g. refl;
+    gone_last = λ v s l g. l;
+  }
 
   -- an open station's cursor is none of the others'
   pub doors_risen : (versions : ℕ) (hands : List ℕ) → i < length m.seating → Doors n versions hands m → Doors n versions hands risen
@@ -79,14 +91,20 @@ module _ (n c : ℕ) (m : Moment) (i x : ℕ) (pl : Places n c m) (near : i < n)
     least = d.least;
     first = d.first;
     is_version = d.is_version;
-    ready_is = ⊎_elim (λ (q : m.ready ≡ length m.seating). inl q) (λ (q : (m.ready ≡ length m.seating + 1) × (m.phase ≡ held) × (cursor m.words (length m.seating) ≡ length m.log)). inr (q.0, q.1, cursor_else (length m.seating) (λ e. omega arith) ∙ q.2)) d.ready_is;
-    shut = λ s l b. cursor_else s (λ e. (let q = d.ready_is in ⊎_elim (λ (a : m.ready ≡ length m.seating). omega arith) (λ (a : (m.ready ≡ length m.seating + 1) × (m.phase ≡ held) × (cursor m.words (length m.seating) ≡ length m.log)). let z = a.0 in omega arith) q)) ∙ d.shut s l b;
+    ready_is = ⊎_elim (λ (q : m.ready ≡ length m.seating). inl q)
+        (λ (q : (m.ready ≡ length m.seating + 1) × (m.phase ≡ held) × (cursor m.words (length m.seating) ≡ length m.log)). inr (q.0, q.1, cursor_else (length m.seating) (λ e. omega arith) ∙ q.2)) d.ready_is;
+    shut = λ s l b. cursor_else s (λ e. (let q = d.ready_is in ⊎_elim (λ (a : m.ready ≡ length m.seating). omega arith)
+        (λ (a : (m.ready ≡ length m.seating + 1) × (m.phase ≡ held) × (cursor m.words (length m.seating) ≡ length m.log)). let z = a.0 in omega arith) q)) ∙ d.shut s l b;
     planned = d.planned;
   }
 
   -- the cursor of a seat's station changes, and of its former one, as little as it is this one
   pub own_risen : {T : Type 0} (u : View T) → u.station ≢ i → (r : Role) → ((r ≡ Moving) → u.former ≢ i) → Own n c m risen u r
-  own_risen u ne Reader other = record { cursor_same = cursor_else u.station ne; led_same = refl; freed_on = λ k f. record { is_free = f.is_free; at_head = f.at_head; opened_is = f.opened_is; lower_gone = λ s l. le_trans (f.lower_gone s l) (cursor_up s) } }
+  own_risen u ne Reader other = record {
+    cursor_same = cursor_else u.station ne;
+    led_same = refl;
+    freed_on = λ k f. record { is_free = f.is_free; at_head = f.at_head; opened_is = f.opened_is; lower_gone = λ s l. le_trans (f.lower_gone s l) (cursor_up s) };
+  }
   own_risen u ne Lead other = record { held_on = refl; holder_same = refl; log_same = refl; whos_same = refl; ready_same = refl; place_same = λ wrote j l. place_else (m.log ++ wrote ∷ []) (length m.log) j }
   own_risen u ne Opening other = record { held_on = refl; holder_same = refl; log_same = refl; whos_same = refl; ready_same = refl; place_same = λ wrote j l. place_else (m.log ++ wrote ∷ []) (length m.log) j }
   own_risen u ne Leaving other = record { not_held_on = λ e. e; holder_same = refl; cursor_same = cursor_else u.station ne }
@@ -107,8 +125,18 @@ module _ {K B : Type 0} (hist : K → List Entry) (beg : K → B) (p : Layout K)
   pub advances : (slots id new : ℕ) (me : M) → me.0.role ≡ Reader → IsWhole me.0.read → new ≡ length me.0.seen + 1
       → Allows RuleOf slots id me (cursor_index me.0.station) (λ _. new) (λ _. goes_ahead (step slots (cursor_index me.0.station) new 0 none) me new)
   advances slots id new me role full is s r wide at _ = let v = me.0 in let n : ℕ = p.stations in let c : ℕ = p.places in let kn = r.each_seat id v at in let size : ℕ = length v.seen in let pl = r.places in
-      let m : Moment = now hist beg p s r in let ir = in_role hist beg p s r id v at Reader role in let se = seated hist beg p s r id v at Reader role tt in let i : ℕ = v.station in let near : i < n = role_near hist beg p s r id v at Reader role tt in let mine : cursor s.words i ≡ size = ir.cursor_is_length in
-      let six : 6 ≤ length v.read = full.0 in let one = there v.read 0 (omega arith) in let rd0 = kn.read_begins_next 0 one.0 one.1 in let e : List ℕ = rd0.0 in let len : ℕ = length r.log in let lt : size < len = at_below r.log size e rd0.1 in
+      let m : Moment = now hist beg p s r in
+      let ir = in_role hist beg p s r id v at Reader role in
+      let se = seated hist beg p s r id v at Reader role tt in
+      let i : ℕ = v.station in
+      let near : i < n = role_near hist beg p s r id v at Reader role tt in
+      let mine : cursor s.words i ≡ size = ir.cursor_is_length in
+      let six : 6 ≤ length v.read = full.0 in
+      let one = there v.read 0 (omega arith) in
+      let rd0 = kn.read_begins_next 0 one.0 one.1 in
+      let e : List ℕ = rd0.0 in
+      let len : ℕ = length r.log in
+      let lt : size < len = at_below r.log size e rd0.1 in
       let rd : Prefix v.read e = λ j x f. let y = kn.read_begins_next j x f in subst (λ (z : List ℕ). get_elem? z j ≡ some x) (some-injective y.0 e (sym y.1 ∙ rd0.1)) y.2 in
       let same : v.read ≡ e = whole_same v.read e rd full (pl.event_is_whole size e rd0.1).0 in let entry : get_elem? r.log size ≡ some v.read = rd0.1 ∙ ap some (sym same) in
       let up : cursor s.words i ≤ new = omega arith in let m' : Moment = risen n c m i new pl near up in let w : View K = one_on v in
@@ -116,10 +144,16 @@ module _ {K B : Type 0} (hist : K → List Entry) (beg : K → B) (p : Layout K)
         w,
         keeps,
         tt,
-        moved hist beg p s r (cursor_index i) new id me.1 keeps r.log r.phase r.holder r.spans r.seating r.ready r.events v w at (subst NoClash (sym (same_tags hist beg p s.views id v w at refl)) r.one_seat_a_version) (λ e. lead_stays s.views id r.holder v w at (λ q. (q, refl)) (r.held_has_lead e)) (logged hist beg p s r) r.home
+        moved hist beg p s r (cursor_index i) new id me.1 keeps r.log r.phase r.holder r.spans r.seating r.ready r.events v w at
+            (subst NoClash (sym (same_tags hist beg p s.views id v w at refl)) r.one_seat_a_version) (λ e. lead_stays s.views id r.holder v w at (λ q. (q, refl)) (r.held_has_lead e)) (logged hist beg p s r) r.home
             (places_risen n c m i new pl near up (inl (omega arith)) (λ e. not_held m i r.led ir.led_nothing e)) record { tile = r.led.tile; rise = r.led.rise; last_is_holders = r.led.last_is_holders; unled_is_free = r.led.unled_is_free }
             (doors_risen n c m i new pl near up p.versions (planned hist beg p) (last_near r.seating v.version i se.last) r.doors) r.turns on
-            (λ j u ne f l. (own_risen n c m i new pl near up u (apart_from hist beg p s r j id u v f at ne live l) u.role (former_apart hist beg p s r j id u v f at ne live l i se.last.has), refl, (λ z. z), λ t q. cursor_else n c m i new pl near up t (apart_unmade hist beg p s r j id u v f at ne live l t q i se.last.has))) record {
+            (λ j u ne f l. (
+              own_risen n c m i new pl near up u (apart_from hist beg p s r j id u v f at ne live l) u.role (former_apart hist beg p s r j id u v f at ne live l i se.last.has),
+              refl,
+              (λ z. z),
+              λ t q. cursor_else n c m i new pl near up t (apart_unmade hist beg p s r j id u v f at ne live l t q i se.last.has),
+            )) record {
               seen_is_prefix = pre;
               read_begins_next = λ j x f. absurd (some-ne-none x (sym f));
               floor_at_most_cursor = λ z l. le_trans (kn.floor_at_most_cursor z l) (cursor_up n c m i new pl near up z);
@@ -132,10 +166,19 @@ module _ {K B : Type 0} (hist : K → List Entry) (beg : K → B) (p : Layout K)
                 wrote_nothing = ir.wrote_nothing;
                 freed_stays = λ k q. let f = ir.freed_stays k q in record { is_free = f.is_free; at_head = f.at_head; opened_is = f.opened_is; lower_gone = λ z l. le_trans (f.lower_gone z l) (cursor_up n c m i new pl near up z) };
               };
-              seated = λ l. record { start_is = se.start_is; places_are = se.places_are; opened_least = se.opened_least; last = se.last; spans_are = se.spans_are; unmade_is_new = λ t q. cursor_else n c m i new pl near up t (unmade_apart n p.versions (planned hist beg p) m v.version i v.made t r.doors se.last.has q) ∙ se.unmade_is_new t q; others_are_gone = λ t has ne out. le_trans (se.others_are_gone t has ne out) (cursor_up n c m i new pl near up t) };
+              seated = λ l. record {
+                start_is = se.start_is;
+                places_are = se.places_are;
+                opened_least = se.opened_least;
+                last = se.last;
+                spans_are = se.spans_are;
+                unmade_is_new = λ t q. cursor_else n c m i new pl near up t (unmade_apart n p.versions (planned hist beg p) m v.version i v.made t r.doors se.last.has q) ∙ se.unmade_is_new t q;
+                others_are_gone = λ t has ne out. le_trans (se.others_are_gone t has ne out) (cursor_up n c m i new pl near up t);
+              };
               ended_is_past = λ k y f. past_on n m m' y on (kn.ended_is_past k y f);
             }
-            (merge_turned n c s.views id v w at s.words (set s.words (cursor_index i) new) r.log r.phase r.merge (second_kept n c (cursor_index i) new s.words (omega arith)) (λ e. r.merge.lead_writes id v at e) (λ _. notes_none r.log (v.seen ++ v.read ∷ []) [] refl) (λ l. r.merge.floors_wide id v at l)),
+            (merge_turned n c s.views id v w at s.words (set s.words (cursor_index i) new) r.log r.phase r.merge (second_kept n c (cursor_index i) new s.words (omega arith))
+            (λ e. r.merge.lead_writes id v at e) (λ _. notes_none r.log (v.seen ++ v.read ∷ []) [] refl) (λ l. r.merge.floors_wide id v at l)),
         (refl, told hist beg p s r (v.seen ++ v.read ∷ []) pre, (let short : len ≤ 131072 = pl.log_is_short in omega arith)),
       )
 
@@ -171,10 +214,16 @@ module _ {K B : Type 0} (hist : K → List Entry) (beg : K → B) (p : Layout K)
         w,
         keeps,
         tt,
-        moved hist beg p s r (cursor_index i) new id me.1 keeps r.log r.phase r.holder r.spans r.seating r.ready r.events v w at tags (λ e. lead_stays s.views id r.holder v w at (λ q. absurd (⊎_elim (λ (f : v.role ≡ Reader). subst Leads f q) (λ (f : v.role ≡ Leaving). subst Leads f q) role)) (r.held_has_lead e)) (logged hist beg p s r) r.home
+        moved hist beg p s r (cursor_index i) new id me.1 keeps r.log r.phase r.holder r.spans r.seating r.ready r.events v w at tags
+            (λ e. lead_stays s.views id r.holder v w at (λ q. absurd (⊎_elim (λ (f : v.role ≡ Reader). subst Leads f q) (λ (f : v.role ≡ Leaving). subst Leads f q) role)) (r.held_has_lead e)) (logged hist beg p s r) r.home
             (places_risen n c m i new pl near up (inr is) may.unheld) record { tile = r.led.tile; rise = r.led.rise; last_is_holders = r.led.last_is_holders; unled_is_free = r.led.unled_is_free }
             (doors_risen n c m i new pl near up p.versions (planned hist beg p) (last_near r.seating v.version i se.last) r.doors) r.turns on
-            (λ j u ne f l. (own_risen n c m i new pl near up u (apart_from hist beg p s r j id u v f at ne live l) u.role (former_apart hist beg p s r j id u v f at ne live l i se.last.has), refl, (λ z. z), λ t q. cursor_else n c m i new pl near up t (apart_unmade hist beg p s r j id u v f at ne live l t q i se.last.has))) record {
+            (λ j u ne f l. (
+              own_risen n c m i new pl near up u (apart_from hist beg p s r j id u v f at ne live l) u.role (former_apart hist beg p s r j id u v f at ne live l i se.last.has),
+              refl,
+              (λ z. z),
+              λ t q. cursor_else n c m i new pl near up t (apart_unmade hist beg p s r j id u v f at ne live l t q i se.last.has),
+            )) record {
               seen_is_prefix = kn.seen_is_prefix;
               read_begins_next = kn.read_begins_next;
               floor_at_most_cursor = λ z l. le_trans (kn.floor_at_most_cursor z l) (cursor_up n c m i new pl near up z);
@@ -186,10 +235,19 @@ module _ {K B : Type 0} (hist : K → List Entry) (beg : K → B) (p : Layout K)
                 before_later = λ k y e lt. let top = none_above m k y r.led e in absurd (omega arith);
                 wrote_nothing = may.quiet;
               };
-              seated = λ l. record { start_is = se.start_is; places_are = se.places_are; opened_least = se.opened_least; last = se.last; spans_are = se.spans_are; unmade_is_new = λ t q. cursor_else n c m i new pl near up t (unmade_apart n p.versions (planned hist beg p) m v.version i v.made t r.doors se.last.has q) ∙ se.unmade_is_new t q; others_are_gone = λ t has ne out. le_trans (se.others_are_gone t has ne (λ e. absurd (stays e))) (cursor_up n c m i new pl near up t) };
+              seated = λ l. record {
+                start_is = se.start_is;
+                places_are = se.places_are;
+                opened_least = se.opened_least;
+                last = se.last;
+                spans_are = se.spans_are;
+                unmade_is_new = λ t q. cursor_else n c m i new pl near up t (unmade_apart n p.versions (planned hist beg p) m v.version i v.made t r.doors se.last.has q) ∙ se.unmade_is_new t q;
+                others_are_gone = λ t has ne out. le_trans (se.others_are_gone t has ne (λ e. absurd (stays e))) (cursor_up n c m i new pl near up t);
+              };
               ended_is_past = λ k y f. past_on n m m' y on (kn.ended_is_past k y f);
             }
-            (merge_turned n c s.views id v w at s.words (set s.words (cursor_index i) new) r.log r.phase r.merge (second_kept n c (cursor_index i) new s.words (omega arith)) (λ e. absurd e) (λ (e : Gone ≡ Reader). cc) (λ _. r.merge.floors_wide id v at live)),
+            (merge_turned n c s.views id v w at s.words (set s.words (cursor_index i) new) r.log r.phase r.merge (second_kept n c (cursor_index i) new s.words (omega arith)) (λ e. absurd e)
+            (λ (e : Gone ≡ Reader). cc) (λ _. r.merge.floors_wide id v at live)),
         refl,
       )
 

@@ -35,7 +35,8 @@ pub spot_word : (n c : ℕ) (log seen : Log) (l j : ℕ) (s : Spot) → Prefix s
 spot_word n c log seen l j s pre is at =
     let h : ℕ = length seen in
     let prefix : take h log ≡ seen = prefix_take seen log pre in
-    let place : s.place ≡ earlier log h % c = at.place ∙ ap (λ (z : ℕ). get_or (lanes_after seen).counts z 0 % c) is ∙ ap (λ (z : Log). get_or (lanes_after z).counts (lane log h) 0 % c) (sym prefix) ∙ ap (λ (z : ℕ). z % c) (sym (earlier_was_count log h)) in
+    let place : s.place ≡ earlier log h % c =
+    at.place ∙ ap (λ (z : ℕ). get_or (lanes_after seen).counts z 0 % c) is ∙ ap (λ (z : Log). get_or (lanes_after z).counts (lane log h) 0 % c) (sym prefix) ∙ ap (λ (z : ℕ). z % c) (sym (earlier_was_count log h)) in
     let first : s.first ≡ chunks_before log h % pool_chunks c = at.first ∙ ap (λ (z : ℕ). z % pool_chunks c) (sym (before_prefix log seen h prefix)) in
     (λ k. spot n c ((at.lane ∙ is) k) (place k) (first k) j) ∙ sym (place_is_spot n c log h j)
 

@@ -26,8 +26,10 @@ noted_event : (s : Taken) (words : List ℕ) → noted s (event_of words) ≡ no
 unfolding event_of
 noted_event s words = refl
 
-pub lanes_passed : (lanes : Taken) (first sixth : ℕ) (seen : Log) (words : List ℕ) → lanes ≡ lanes_after seen → first ≡ get_or words 0 0 → sixth ≡ get_or words 5 0 → noted_by lanes (low first) (high first) (cast_signed w32 (low sixth)) ≡ lanes_after (seen ++ words ∷ [])
-lanes_passed lanes first sixth seen words is a b = (λ k. noted_by (is k) (low (a k)) (high (a k)) (cast_signed w32 (low (b k)))) ∙ sym (noted_event (lanes_after seen) words) ∙ sym (taken_push (entries seen) (event_of words)) ∙ ap taken_after (sym (entries_push seen words))
+pub lanes_passed : (lanes : Taken) (first sixth : ℕ) (seen : Log) (words : List ℕ) → lanes ≡ lanes_after seen → first ≡ get_or words 0 0 → sixth ≡ get_or words 5 0
+    → noted_by lanes (low first) (high first) (cast_signed w32 (low sixth)) ≡ lanes_after (seen ++ words ∷ [])
+lanes_passed lanes first sixth seen words is a b = (λ k. noted_by (is k) (low (a k)) (high (a k)) (cast_signed w32 (low (b k)))) ∙ sym (noted_event (lanes_after seen) words) ∙ sym
+    (taken_push (entries seen) (event_of words)) ∙ ap taken_after (sym (entries_push seen words))
 
 -- as many events as were seen
 pub lanes_count : (lanes : Taken) (seen : Log) → lanes ≡ lanes_after seen → sum lanes.counts ≡ length seen

@@ -50,7 +50,8 @@ module _ (m : Moment) (l : Last m) where
     unled_is_free = λ e. let a = ap (λ (z : List Span). length z) (sym ends ∙ e) in let b = length-append l.before (x' ∷ []) in absurd (omega arith);
   }
 
-  turns_handed : (versions : ℕ) (hands : List ℕ) (ph : Phase) (len : ℕ) → Turns versions hands m.phase len m.spans m.seating → m.phase ≡ held → ph ≢ held → IsLastStation m.seating l.last.version l.last.station → Turns versions hands ph len (handed_on m.spans) (m.seating ++ l.last.version ∷ [])
+  turns_handed : (versions : ℕ) (hands : List ℕ) (ph : Phase) (len : ℕ) → Turns versions hands m.phase len m.spans m.seating → m.phase ≡ held → ph ≢ held
+      → IsLastStation m.seating l.last.version l.last.station → Turns versions hands ph len (handed_on m.spans) (m.seating ++ l.last.version ∷ [])
   turns_handed versions hands ph len t is over last = record {
     who_is = λ i y e. at_longer m.seating (l.last.version ∷ []) y.station y.version (who_last m l m.seating x' refl refl t.who_is i y (ap (λ (z : List Span). get_elem? z i) (sym ends) ∙ e));
     opened = subst (Opened versions (m.seating ++ l.last.version ∷ [])) (sym ends) (opened_handed versions m.seating l.before l.last (t.unhanded is l.before l.last l.is) last (subst (Opened versions m.seating) l.is t.opened));
@@ -92,7 +93,8 @@ module _ {K B : Type 0} (hist : K → List Entry) (beg : K → B) (p : Layout K)
   M = Me (Option K) (View K)
 
   -- where a lead that has led an event comes to a planned length, a station is left
-  left_station : (s : St) (r : RuleOf s) (id : ℕ) (v : View K) → get_elem? s.views id ≡ some v → v.role ≡ Lead → Has (planned hist beg p) (length v.seen) → LastHasEvent v.spans → length r.seating + 1 ≤ p.versions + below (planned hist beg p) (length r.log + 1)
+  left_station : (s : St) (r : RuleOf s) (id : ℕ) (v : View K) → get_elem? s.views id ≡ some v → v.role ≡ Lead → Has (planned hist beg p) (length v.seen) → LastHasEvent v.spans
+      → length r.seating + 1 ≤ p.versions + below (planned hist beg p) (length r.log + 1)
   left_station s r id v at role plan led = let m : Moment = now hist beg p s r in let ir = in_role hist beg p s r id v at Lead role in let live : Live v.role = subst Live (sym role) tt in let se = (r.each_seat id v at).seated live in
       let l : Last m = last_span m r.led ir.is_held in let mine = lead_last hist beg p s r id v at live ir.is_holder l in
       let a = r.turns.left_over ir.is_held (has_led m l v.version mine (subst LastHasEvent se.spans_are led)) in
@@ -100,11 +102,18 @@ module _ {K B : Type 0} (hist : K → List Entry) (beg : K → B) (p : Layout K)
 
   pub spares : (slots id k : ℕ) (me : M) → me.0.role ≡ Lead → Has (planned hist beg p) (length me.0.seen) → LastHasEvent me.0.spans → Allows RuleOf slots id me k (λ x. x) (spare (step slots k 0 0 none) me)
   spares slots id k me role plan led s r wide at _ = let v = me.0 in let kn = r.each_seat id v at in let ir = in_role hist beg p s r id v at Lead role in let live : Live v.role = subst Live (sym role) tt in
-      let a = left_station s r id v at role plan led in let b = below_most (planned hist beg p) (length r.log + 1) in let c = r.doors.all in let d = r.merge.floors_wide id v at live in let e = ir.opened_is in let f = ir.is_holder in let h = r.places.holder_is_open in (
+      let a = left_station s r id v at role plan led in
+      let b = below_most (planned hist beg p) (length r.log + 1) in
+      let c = r.doors.all in
+      let d = r.merge.floors_wide id v at live in
+      let e = ir.opened_is in
+      let f = ir.is_holder in
+      let h = r.places.holder_is_open in (
         v,
         keeps,
         tt,
-        looked hist beg p s r k id me.1 v v at refl (λ q. (q, refl)) kn (merge_turned p.stations p.places s.views id v v at s.words s.words r.log r.phase r.merge (λ _ _. refl) (λ q. r.merge.lead_writes id v at q) (λ q. r.merge.notes id v at q) (λ q. r.merge.floors_wide id v at q)),
+        looked hist beg p s r k id me.1 v v at refl (λ q. (q, refl)) kn
+            (merge_turned p.stations p.places s.views id v v at s.words s.words r.log r.phase r.merge (λ _ _. refl) (λ q. r.merge.lead_writes id v at q) (λ q. r.merge.notes id v at q) (λ q. r.merge.floors_wide id v at q)),
         (refl, omega arith, omega arith),
       )
 
@@ -121,7 +130,21 @@ module _ {K B : Type 0} (hist : K → List Entry) (beg : K → B) (p : Layout K)
       let other : (z : ℕ) → z < length r.seating → z ≢ i = λ z l e. omega arith in
       let few = pl.log_is_short in
       let old = places_risen n c m i new pl near up (inl (omega arith)) (λ e q. other r.holder top (sym q)) in
-      let places : Places n c m' = record { some_place = old.some_place; few_stations = old.few_stations; words_are_all = old.words_are_all; owner_is = old.owner_is; holder_is_open = old.holder_is_open; lower_are_gone = old.lower_are_gone; lead_counts = old.lead_counts; head_is_length = old.head_is_length; cursor_is_count_or_gone = old.cursor_is_count_or_gone; head_in_window = old.head_in_window; unread_stands = old.unread_stands; event_is_whole = old.event_is_whole; log_is_short = old.log_is_short } in
+      let places : Places n c m' = record {
+        some_place = old.some_place;
+        few_stations = old.few_stations;
+        words_are_all = old.words_are_all;
+        owner_is = old.owner_is;
+        holder_is_open = old.holder_is_open;
+        lower_are_gone = old.lower_are_gone;
+        lead_counts = old.lead_counts;
+        head_is_length = old.head_is_length;
+        cursor_is_count_or_gone = old.cursor_is_count_or_gone;
+        head_in_window = old.head_in_window;
+        unread_stands = old.unread_stands;
+        event_is_whole = old.event_is_whole;
+        log_is_short = old.log_is_short;
+      } in
       let doors : Doors n p.versions (planned hist beg p) m' = record {
         all = all;
         least = d.least;
@@ -138,9 +161,17 @@ module _ {K B : Type 0} (hist : K → List Entry) (beg : K → B) (p : Layout K)
         w,
         keeps,
         tt,
-        moved hist beg p s r (cursor_index i) new id me.1 keeps r.log r.phase r.holder r.spans r.seating ready' r.events v w at tags (λ e. lead_stays s.views id r.holder v w at (λ q. (tt, refl)) (r.held_has_lead e)) (logged hist beg p s r) r.home places
+        moved hist beg p s r (cursor_index i) new id me.1 keeps r.log r.phase r.holder r.spans r.seating ready' r.events v w at tags
+            (λ e. lead_stays s.views id r.holder v w at (λ q. (tt, refl)) (r.held_has_lead e)) (logged hist beg p s r) r.home places
             record { tile = r.led.tile; rise = r.led.rise; last_is_holders = r.led.last_is_holders; unled_is_free = r.led.unled_is_free } doors r.turns on
-            (λ j u ne f l. (beside_lead n c m m' u v.station ir.is_held ir.is_holder (λ e. apart_from hist beg p s r j id u v f at ne live l (sym e)) refl (cursor_else n c m i new pl near up u.station (other u.station (last_near r.seating u.version u.station ((r.each_seat j u f).seated l).last))) refl u.role (r.each_seat j u f).in_role, refl, (λ z. z), λ t q. cursor_else n c m i new pl near up t (λ e. let a = q.near in let b = d.least in omega arith)))
+            (λ j u ne f l. (
+              beside_lead n c m m' u v.station ir.is_held ir.is_holder (λ e. apart_from hist beg p s r j id u v f at ne live l (sym e)) refl
+                  (cursor_else n c m i new pl near up u.station (other u.station (last_near r.seating u.version u.station ((r.each_seat j u f).seated l).last))) refl u.role
+                  (r.each_seat j u f).in_role,
+              refl,
+              (λ z. z),
+              λ t q. cursor_else n c m i new pl near up t (λ e. let a = q.near in let b = d.least in omega arith),
+            ))
             record {
               seen_is_prefix = kn.seen_is_prefix;
               read_begins_next = kn.read_begins_next;
@@ -149,45 +180,75 @@ module _ {K B : Type 0} (hist : K → List Entry) (beg : K → B) (p : Layout K)
               owner_seen_at_most_head = kn.owner_seen_at_most_head;
               opened_at_most_open = kn.opened_at_most_open;
               in_role = record { is_held = ir.is_held; is_holder = ir.is_holder; seen_is_log = full; wrote_nothing = quiet; opened_is = here; one_ready = refl };
-              seated = λ l. record { start_is = se.start_is; places_are = se.places_are; opened_least = se.opened_least; last = se.last; spans_are = se.spans_are; unmade_is_new = λ t q. cursor_else n c m i new pl near up t (λ e. let a = q.near in let b = d.least in omega arith) ∙ se.unmade_is_new t q; others_are_gone = λ t has ne out. le_trans (se.others_are_gone t has ne (λ e. absurd (let q : Lead ≡ Moving = sym role ∙ e in (let z : ⊥ = cc in z)))) (cursor_up n c m i new pl near up t) };
+              seated = λ l. record {
+                start_is = se.start_is;
+                places_are = se.places_are;
+                opened_least = se.opened_least;
+                last = se.last;
+                spans_are = se.spans_are;
+                unmade_is_new = λ t q. cursor_else n c m i new pl near up t (λ e. let a = q.near in let b = d.least in omega arith) ∙ se.unmade_is_new t q;
+                others_are_gone = λ t has ne out. le_trans (se.others_are_gone t has ne (λ e. absurd (let q : Lead ≡ Moving = sym role ∙ e in (let z : ⊥ = cc in z)))) (cursor_up n c m i new pl near up t);
+              };
               ended_is_past = λ k y f. past_on n m m' y on (kn.ended_is_past k y f);
             }
-            (merge_turned n c s.views id v w at s.words ws' r.log r.phase r.merge (second_kept n c (cursor_index i) new s.words (omega arith)) (λ e. r.merge.lead_writes id v at (subst Leads (sym role) tt)) (λ (e : Opening ≡ Reader). cc) (λ _. r.merge.floors_wide id v at live)),
+            (merge_turned n c s.views id v w at s.words ws' r.log r.phase r.merge (second_kept n c (cursor_index i) new s.words (omega arith))
+            (λ e. r.merge.lead_writes id v at (subst Leads (sym role) tt)) (λ (e : Opening ≡ Reader). cc) (λ _. r.merge.floors_wide id v at live)),
         refl,
       )
 
   -- the kernel goes home, and the new station opens
-  pub hands_on : (slots id new : ℕ) (k : K) (me : M) → me.0.role ≡ Opening → me.1 ≡ (0, Some k) ∷ [] → map spell (hist k) ≡ me.0.seen → IsLawful (hist k) → ForSome me.0.start (λ s. beg k ≡ beg s.value) → new ≡ owner_word free me.0.station (me.0.opened + 1) (length me.0.seen)
+  pub hands_on : (slots id new : ℕ) (k : K) (me : M) → me.0.role ≡ Opening → me.1 ≡ (0, Some k) ∷ [] → map spell (hist k) ≡ me.0.seen → IsLawful (hist k)
+      → ForSome me.0.start (λ s. beg k ≡ beg s.value) → new ≡ owner_word free me.0.station (me.0.opened + 1) (length me.0.seen)
       → Allows RuleOf slots id me 0 (λ _. new) (λ _. hands_over (step slots 0 new 0 none) me new)
-  hands_on slots id new k me role carries tells law began is s r wide at _ = let v = me.0 in let n : ℕ = p.stations in let c : ℕ = p.places in let kn = r.each_seat id v at in let pl = r.places in let d = r.doors in let len : ℕ = length r.log in
-      let m : Moment = now hist beg p s r in let ir = in_role hist beg p s r id v at Opening role in let live : Live v.role = subst Live (sym role) tt in let se = kn.seated live in let st : ℕ = v.station in let ws' : List ℕ = set s.words 0 new in
+  hands_on slots id new k me role carries tells law began is s r wide at _ =
+      let v = me.0 in
+      let n : ℕ = p.stations in
+      let c : ℕ = p.places in
+      let kn = r.each_seat id v at in
+      let pl = r.places in
+      let d = r.doors in
+      let len : ℕ = length r.log in
+      let m : Moment = now hist beg p s r in
+      let ir = in_role hist beg p s r id v at Opening role in
+      let live : Live v.role = subst Live (sym role) tt in
+      let se = kn.seated live in
+      let st : ℕ = v.station in
+      let ws' : List ℕ = set s.words 0 new in
       let l : Last m = last_span m r.led ir.is_held in let mine : l.last.version ≡ v.version = lead_last hist beg p s r id v at live ir.is_holder l in
       let whos' : List ℕ = r.seating ++ v.version ∷ [] in let wider : length whos' ≡ length r.seating + 1 = length-append r.seating (v.version ∷ []) in
       let spans' : List Span = handed_on r.spans in let m' : Moment = as_of ws' r.log free r.holder spans' whos' r.ready in
       let all : v.seen ≡ r.log = prefix_same v.seen r.log ir.seen_is_log kn.seen_is_prefix in
       let cur : (z : ℕ) → cursor ws' z ≡ cursor s.words z = same_cursor n c m new pl in
       let one = ir.one_ready in let full = ir.seen_is_log in let fit = open_near hist beg p s r in let here = ir.opened_is in let few = pl.log_is_short in
-      let head : cursor s.words (length r.seating) ≡ len = ⊎_elim (λ (q : r.ready ≡ length r.seating). absurd (omega arith)) (λ (q : (r.ready ≡ length r.seating + 1) × (r.phase ≡ held) × (cursor s.words (length r.seating) ≡ len)). q.2) d.ready_is in
+      let head : cursor s.words (length r.seating) ≡ len =
+      ⊎_elim (λ (q : r.ready ≡ length r.seating). absurd (omega arith)) (λ (q : (r.ready ≡ length r.seating + 1) × (r.phase ≡ held) × (cursor s.words (length r.seating) ≡ len)). q.2) d.ready_is in
       let top = pl.holder_is_open in let over : free ≢ held = λ e. cc in
       let out : get_elem? s.homes 0 ≡ some none = subst (AtHome hist beg p.start.value r.events s.homes) ir.is_held r.home in
-      let home : IsKernel hist beg p.start.value (hist k) (homes_after s.homes me.1 gives) = (k, ap (λ (cs : List (ℕ × Option K)). get_elem? (put_back s.homes cs) 0) carries ∙ set_here s.homes 0 (some (Some k)) (at_below s.homes 0 none out), refl, began p.start se.start_is) in
+      let home : IsKernel hist beg p.start.value (hist k) (homes_after s.homes me.1 gives) =
+      (k, ap (λ (cs : List (ℕ × Option K)). get_elem? (put_back s.homes cs) 0) carries ∙ set_here s.homes 0 (some (Some k)) (at_below s.homes 0 none out), refl, began p.start se.start_is) in
       let counts : cursor s.words r.holder ≤ len = pl.lead_counts ir.is_held in
-      let places : Places n c m' = places_owned n c m new pl free r.holder spans' whos' r.ready (is ∙ (λ i. owner_word free (ir.is_holder i) ((let q : v.opened + 1 ≡ length whos' = omega arith in q) i) (full i))) (omega arith) pl.lower_are_gone (λ e. absurd (over e))
+      let places : Places n c m' =
+      places_owned n c m new pl free r.holder spans' whos' r.ready (is ∙ (λ i. owner_word free (ir.is_holder i) ((let q : v.opened + 1 ≡ length whos' = omega arith in q) i) (full i)))
+      (omega arith) pl.lower_are_gone (λ e. absurd (over e))
       (λ z ne l. dite (ℕ_discrete z (length r.seating)) (λ e. inr (let q : cursor s.words z ≡ cursor s.words (length r.seating) = ap (cursor s.words) e in omega arith)) (λ ne'. inl (ne, omega arith))) in
       let led : Led m' = led_handed m l ws' free whos' r.ready r.led in
-      let turns : Turns p.versions (planned hist beg p) free len spans' whos' = subst (λ (z : ℕ). Turns p.versions (planned hist beg p) free len spans' (r.seating ++ z ∷ [])) mine (turns_handed m l p.versions (planned hist beg p) free len r.turns ir.is_held over
+      let turns : Turns p.versions (planned hist beg p) free len spans' whos' =
+      subst (λ (z : ℕ). Turns p.versions (planned hist beg p) free len spans' (r.seating ++ z ∷ [])) mine (turns_handed m l p.versions (planned hist beg p) free len r.turns ir.is_held over
       (subst (λ (z : ℕ). IsLastStation r.seating z l.last.station) (sym mine) (subst (λ (z : ℕ). IsLastStation r.seating v.version z) (ir.is_holder ∙ sym l.holders) se.last))) in
       let doors : Doors n p.versions (planned hist beg p) m' = record {
         all = d.all;
         least = let a = d.least in omega arith;
         first = λ z b. at_longer r.seating (v.version ∷ []) z z (d.first z b);
-        is_version = λ z x e. ⊎_elim (λ (q : get_elem? r.seating z ≡ some x). d.is_version z x q) (λ (q : (z ≡ length r.seating) × (v.version ≡ x)). let b = d.is_version st v.version se.last.has in let g = q.1 in omega arith) (at_end r.seating v.version x z e);
+        is_version = λ z x e. ⊎_elim (λ (q : get_elem? r.seating z ≡ some x). d.is_version z x q)
+            (λ (q : (z ≡ length r.seating) × (v.version ≡ x)). let b = d.is_version st v.version se.last.has in let g = q.1 in omega arith) (at_end r.seating v.version x z e);
         ready_is = inl (omega arith);
         shut = λ z a b. cur z ∙ d.shut z a b;
         planned = d.planned;
       } in
       let at_lead : (x z : ℕ) → IsLastStation r.seating x z → GONE ≤ cursor s.words z → v.version ≢ x = λ x z a g e.
-      let same : z ≡ r.holder = one_last r.seating v.version z st (subst (λ (y : ℕ). IsLastStation r.seating y z) (sym e) a) se.last ∙ ir.is_holder in let b : cursor s.words z ≡ cursor s.words r.holder = ap (cursor s.words) same in omega arith in
+      let same : z ≡ r.holder = one_last r.seating v.version z st (subst (λ (y : ℕ). IsLastStation r.seating y z) (sym e) a) se.last ∙ ir.is_holder in
+      let b : cursor s.words z ≡ cursor s.words r.holder = ap (cursor s.words) same in
+      omega arith in
       let on : Onward n m m' = record {
         near = fit;
         cursors = λ z b. subst (λ (q : ℕ). cursor s.words z ≤ q) (sym (cur z)) (le_refl (cursor s.words z));
@@ -208,7 +269,8 @@ module _ {K B : Type 0} (hist : K → List Entry) (beg : K → B) (p : Layout K)
         tt,
         moved hist beg p s r 0 new id me.1 gives r.log free r.holder spans' whos' r.ready (hist k) v w at tags (λ e. absurd (over e)) record { spelt = tells ∙ all; lawful = law; ended = λ e. cc } home places led doors turns on
             (λ j u ne f a. (
-              beside_lead n c m m' u st ir.is_held ir.is_holder (λ e. apart_from hist beg p s r j id u v f at ne live a (sym e)) refl (cur u.station) (stations_handed m l u.station (λ e. apart_from hist beg p s r j id u v f at ne live a (e ∙ sym ir.is_holder))) u.role (r.each_seat j u f).in_role,
+              beside_lead n c m m' u st ir.is_held ir.is_holder (λ e. apart_from hist beg p s r j id u v f at ne live a (sym e)) refl (cur u.station)
+                  (stations_handed m l u.station (λ e. apart_from hist beg p s r j id u v f at ne live a (e ∙ sym ir.is_holder))) u.role (r.each_seat j u f).in_role,
               versions_handed m l u.version (λ e. apart_version hist beg p s r j id u v f at ne live a (sym e ∙ mine)),
               (λ z. last_other r.seating u.version v.version u.station (λ e. apart_version hist beg p s r j id u v f at ne live a (sym e)) z),
               λ t _. cur t,
@@ -218,7 +280,10 @@ module _ {K B : Type 0} (hist : K → List Entry) (beg : K → B) (p : Layout K)
               read_begins_next = kn.read_begins_next;
               floor_at_most_cursor = λ z b. subst (λ (q : ℕ). get_or v.floors z 0 ≤ q) (sym (cur z)) (kn.floor_at_most_cursor z b);
               head_seen_at_most_head = kn.head_seen_at_most_head;
-              owner_seen_at_most_head = let a = given st (v.opened + 1) (length v.seen) new (let h = ir.is_holder in let b = pl.few_stations in omega arith) (let b = pl.few_stations in let y = d.planned in let z = d.all in let x = below_most (planned hist beg p) (len + 1) in omega arith) is in omega arith;
+              owner_seen_at_most_head =
+                  let a = given st (v.opened + 1) (length v.seen) new (let h = ir.is_holder in let b = pl.few_stations in omega arith)
+                  (let b = pl.few_stations in let y = d.planned in let z = d.all in let x = below_most (planned hist beg p) (len + 1) in omega arith) is in
+                  omega arith;
               opened_at_most_open = omega arith;
               in_role = record {
                 not_held = over;
@@ -245,7 +310,8 @@ module _ {K B : Type 0} (hist : K → List Entry) (beg : K → B) (p : Layout K)
               };
               ended_is_past = λ i x e. past_on n m m' x on (kn.ended_is_past i x e);
             }
-            (merge_turned n c s.views id v w at s.words ws' r.log free (merge_phase n c s.words r.log r.phase free s.views r.merge quiet) (second_kept n c 0 new s.words (omega arith)) (λ e. absurd e) (λ (e : Moving ≡ Reader). cc) (λ _. r.merge.floors_wide id v at live)),
+            (merge_turned n c s.views id v w at s.words ws' r.log free (merge_phase n c s.words r.log r.phase free s.views r.merge quiet) (second_kept n c 0 new s.words (omega arith)) (λ e. absurd e)
+            (λ (e : Moving ≡ Reader). cc) (λ _. r.merge.floors_wide id v at live)),
         (refl, unread, ir.wrote_nothing),
       )
 
@@ -265,7 +331,13 @@ module _ {K B : Type 0} (hist : K → List Entry) (beg : K → B) (p : Layout K)
         moved hist beg p s r (cursor_index i) new id me.1 keeps r.log r.phase r.holder r.spans r.seating r.ready r.events v w at tags (λ e. absurd (ir.not_held e)) (logged hist beg p s r) r.home
             (places_risen n c m i new pl near up (inr is) (λ e. absurd (ir.not_held e))) record { tile = r.led.tile; rise = r.led.rise; last_is_holders = r.led.last_is_holders; unled_is_free = r.led.unled_is_free }
             (doors_risen n c m i new pl near up p.versions (planned hist beg p) inner r.doors) r.turns on
-            (λ j u ne f l. (own_risen n c m i new pl near up u (apart_at hist beg p s r j id u v f at ne live l i ir.version_is) u.role (former_apart hist beg p s r j id u v f at ne live l i ir.version_is), refl, (λ z. z), λ t q. cursor_else n c m i new pl near up t (apart_unmade hist beg p s r j id u v f at ne live l t q i ir.version_is)))
+            (λ j u ne f l. (
+              own_risen n c m i new pl near up u (apart_at hist beg p s r j id u v f at ne live l i ir.version_is) u.role
+                  (former_apart hist beg p s r j id u v f at ne live l i ir.version_is),
+              refl,
+              (λ z. z),
+              λ t q. cursor_else n c m i new pl near up t (apart_unmade hist beg p s r j id u v f at ne live l t q i ir.version_is),
+            ))
             record {
               seen_is_prefix = kn.seen_is_prefix;
               read_begins_next = kn.read_begins_next;
@@ -277,10 +349,20 @@ module _ {K B : Type 0} (hist : K → List Entry) (beg : K → B) (p : Layout K)
               owner_seen_at_most_head = kn.owner_seen_at_most_head;
               opened_at_most_open = kn.opened_at_most_open;
               in_role = record { cursor_is_length = cursor_else n c m i new pl near up v.station other ∙ ir.cursor_is_length; led_nothing = ir.led_nothing; wrote_nothing = ir.wrote_nothing; freed_stays = λ k e. cc };
-              seated = λ l. record { start_is = se.start_is; places_are = se.places_are; opened_least = se.opened_least; last = se.last; spans_are = se.spans_are; unmade_is_new = λ t q. cursor_else n c m i new pl near up t (unmade_apart n p.versions (planned hist beg p) m v.version i v.made t r.doors ir.version_is q) ∙ se.unmade_is_new t q; others_are_gone = λ t has ne out. dite (ℕ_discrete t i) (λ e. subst (λ (z : ℕ). GONE ≤ cursor (set s.words (cursor_index i) new) z) (sym e) (omega arith)) (λ other'. le_trans (se.others_are_gone t has ne (λ _. other')) (cursor_up n c m i new pl near up t)) };
+              seated = λ l. record {
+                start_is = se.start_is;
+                places_are = se.places_are;
+                opened_least = se.opened_least;
+                last = se.last;
+                spans_are = se.spans_are;
+                unmade_is_new = λ t q. cursor_else n c m i new pl near up t (unmade_apart n p.versions (planned hist beg p) m v.version i v.made t r.doors ir.version_is q) ∙ se.unmade_is_new t q;
+                others_are_gone = λ t has ne out. dite (ℕ_discrete t i) (λ e. subst (λ (z : ℕ). GONE ≤ cursor (set s.words (cursor_index i) new) z) (sym e) (omega arith))
+                    (λ other'. le_trans (se.others_are_gone t has ne (λ _. other')) (cursor_up n c m i new pl near up t));
+              };
               ended_is_past = λ k y f. past_on n m m' y on (kn.ended_is_past k y f);
             }
-            (merge_turned n c s.views id v w at s.words (set s.words (cursor_index i) new) r.log r.phase r.merge (second_kept n c (cursor_index i) new s.words (omega arith)) (λ e. absurd e) (λ _. notes_none r.log v.seen v.read unread) (λ _. length-set v.floors i GONE ∙ r.merge.floors_wide id v at live)),
+            (merge_turned n c s.views id v w at s.words (set s.words (cursor_index i) new) r.log r.phase r.merge (second_kept n c (cursor_index i) new s.words (omega arith)) (λ e. absurd e)
+            (λ _. notes_none r.log v.seen v.read unread) (λ _. length-set v.floors i GONE ∙ r.merge.floors_wide id v at live)),
         refl,
       )
 

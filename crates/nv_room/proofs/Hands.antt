@@ -1,5 +1,6 @@
 -- The owner word and the kernel move together: a lead gives the kernel up, and a reader takes it.
-use Rattle.std.proofs.Common.{◌≡◌, ℕ, ◌+◌, ◌/◌, ◌<◌, ◌≤◌, ◌≢◌, ◌⊎◌, List, [], ◌∷◌, ◌++◌, map, length, get_or, set, sym, refl, ap, ◌∙◌, subst, inl, inr, ⊎_elim, le_refl, zero-le, lt_of_not-le, arith, length-append, length-set, get_or-set_other, get_or-set_same}
+use Rattle.std.proofs.Common.{◌≡◌, ℕ, ◌+◌, ◌/◌, ◌<◌, ◌≤◌, ◌≢◌, ◌⊎◌, List, [], ◌∷◌, ◌++◌, map, length, get_or, set}
+use Rattle.std.proofs.Common.{sym, refl, ap, ◌∙◌, subst, inl, inr, ⊎_elim, le_refl, zero-le, lt_of_not-le, arith, length-append, length-set, get_or-set_other, get_or-set_same}
 use mathlib.Core.Logic.{dite}
 use mathlib.Core.Option.{none, some, some-injective, some-ne-none}
 use mathlib.Core.Option as maybe
@@ -46,7 +47,8 @@ module _ (n c : ℕ) (m : Moment) (new : ℕ) (pl : Places n c m) where
   pub same_place : (log : Log) (i j : ℕ) → get_or (set m.words 0 new) (word_place n c log i j) 0 ≡ get_or m.words (word_place n c log i j) 0
   same_place log i j = get_or-set_other m.words 0 (word_place n c log i j) new 0 (place_after n c log i j 0 (omega arith))
 
-  pub places_owned : (ph : Phase) (h : ℕ) (spans : List Span) (seating : List ℕ) (ready : ℕ) → new ≡ owner_word ph h (length seating) (length m.log) → h < length seating → ((s : ℕ) → s < h → GONE ≤ cursor m.words s) → (ph ≡ held → cursor m.words h ≤ length m.log)
+  pub places_owned : (ph : Phase) (h : ℕ) (spans : List Span) (seating : List ℕ) (ready : ℕ) → new ≡ owner_word ph h (length seating) (length m.log) → h < length seating
+      → ((s : ℕ) → s < h → GONE ≤ cursor m.words s) → (ph ≡ held → cursor m.words h ≤ length m.log)
       → ((s : ℕ) → s ≢ h → s < length seating → ((s ≢ m.holder) × (s < length m.seating)) ⊎ (length m.log ≤ cursor m.words s)) → Places n c (as_of (set m.words 0 new) m.log ph h spans seating ready)
   places_owned ph h spans seating ready is near low lead others = let few : length m.log ≤ 131072 = pl.log_is_short in record {
     some_place = pl.some_place;
@@ -58,14 +60,18 @@ module _ (n c : ℕ) (m : Moment) (new : ℕ) (pl : Places n c m) where
     lead_counts = λ e. subst (λ (z : ℕ). z ≤ length m.log) (sym (same_cursor h)) (lead e);
     head_is_length = get_or-set_other m.words 0 head_index new 0 (λ e. omega arith) ∙ pl.head_is_length;
     cursor_is_count_or_gone = λ s l. subst (λ (z : ℕ). (z ≤ length m.log) ⊎ (z ≡ GONE)) (sym (same_cursor s)) (pl.cursor_is_count_or_gone s l);
-    head_in_window = λ s ne l. subst (λ (z : ℕ). length m.log ≤ z + c) (sym (same_cursor s)) (⊎_elim (λ (a : (s ≢ m.holder) × (s < length m.seating)). pl.head_in_window s a.0 a.1) (λ (g : length m.log ≤ cursor m.words s). omega arith) (others s ne l));
+    head_in_window = λ s ne l. subst (λ (z : ℕ). length m.log ≤ z + c) (sym (same_cursor s))
+        (⊎_elim (λ (a : (s ≢ m.holder) × (s < length m.seating)). pl.head_in_window s a.0 a.1) (λ (g : length m.log ≤ cursor m.words s). omega arith) (others s ne l));
     unread_stands = λ i s e ne l le f j x g. let le' : cursor m.words s ≤ i = subst (λ (z : ℕ). z ≤ i) (same_cursor s) le in
-        same_place m.log i j ∙ ⊎_elim (λ (a : (s ≢ m.holder) × (s < length m.seating)). pl.unread_stands i s e a.0 a.1 le' f j x g) (λ (a : length m.log ≤ cursor m.words s). let b = at_below m.log i e f in absurd (omega arith)) (others s ne l);
+        same_place m.log i j ∙ ⊎_elim (λ (a : (s ≢ m.holder) × (s < length m.seating)). pl.unread_stands i s e a.0 a.1 le' f j x g)
+        (λ (a : length m.log ≤ cursor m.words s). let b = at_below m.log i e f in absurd (omega arith)) (others s ne l);
     event_is_whole = pl.event_is_whole;
     log_is_short = pl.log_is_short;
   }
 
-  pub doors_owned : (ph : Phase) (h : ℕ) (spans : List Span) (versions : ℕ) (hands : List ℕ) → (m.ready ≡ length m.seating) ⊎ ((m.ready ≡ length m.seating + 1) × (ph ≡ held) × (cursor m.words (length m.seating) ≡ length m.log)) → Doors n versions hands m → Doors n versions hands (as_of (set m.words 0 new) m.log ph h spans m.seating m.ready)
+  pub doors_owned : (ph : Phase) (h : ℕ) (spans : List Span) (versions : ℕ) (hands : List ℕ)
+      → (m.ready ≡ length m.seating) ⊎ ((m.ready ≡ length m.seating + 1) × (ph ≡ held) × (cursor m.words (length m.seating) ≡ length m.log)) → Doors n versions hands m → Doors n versions hands
+      (as_of (set m.words 0 new) m.log ph h spans m.seating m.ready)
   doors_owned ph h spans versions hands ready d = record {
     all = d.all;
     least = d.least;
@@ -101,14 +107,30 @@ module _ {K B : Type 0} (hist : K → List Entry) (beg : K → B) (p : Layout K)
       → ph ≢ held → (ph ≡ closed → live_after (hist k) ≡ []) → new ≡ owner_word ph me.0.station me.0.opened (length me.0.seen) → Allows RuleOf slots id me 0 (λ _. new) (λ _. gave_up (step slots 0 new 0 none) me new)
   gives_up slots id new k ph me role carries quiet tells law began over ended is s r wide at _ = let v = me.0 in let n : ℕ = p.stations in let c : ℕ = p.places in let kn = r.each_seat id v at in let pl = r.places in
       let m : Moment = now hist beg p s r in let ir = in_role hist beg p s r id v at Lead role in let se = seated hist beg p s r id v at Lead role tt in let st : ℕ = v.station in let ws' : List ℕ = set s.words 0 new in
-      let m' : Moment = as_of ws' r.log ph r.holder r.spans r.seating r.ready in let fit = open_near hist beg p s r in let few = pl.few_stations in let top = pl.holder_is_open in let all : v.seen ≡ r.log = prefix_same v.seen r.log ir.seen_is_log kn.seen_is_prefix in
+      let m' : Moment = as_of ws' r.log ph r.holder r.spans r.seating r.ready in
+      let fit = open_near hist beg p s r in
+      let few = pl.few_stations in
+      let top = pl.holder_is_open in
+      let all : v.seen ≡ r.log = prefix_same v.seen r.log ir.seen_is_log kn.seen_is_prefix in
       let cur : (z : ℕ) → cursor ws' z ≡ cursor s.words z = same_cursor n c m new pl in
       let stays : v.role ≢ Moving = λ e. (let q : Lead ≡ Moving = sym role ∙ e in (let z : ⊥ = cc in z)) in
       let out : get_elem? s.homes 0 ≡ some none = subst (AtHome hist beg p.start.value r.events s.homes) ir.is_held r.home in
-      let home : IsKernel hist beg p.start.value (hist k) (homes_after s.homes me.1 gives) = (k, ap (λ (cs : List (ℕ × Option K)). get_elem? (put_back s.homes cs) 0) carries ∙ set_here s.homes 0 (some (Some k)) (at_below s.homes 0 none out), refl, began p.start se.start_is) in
-      let places : Places n c m' = places_owned n c m new pl ph r.holder r.spans r.seating r.ready (is ∙ (λ i. owner_word ph (ir.is_holder i) (ir.opened_is i) (ir.seen_is_log i))) pl.holder_is_open pl.lower_are_gone (λ e. absurd (over e)) (λ z ne l. inl (ne, l)) in
+      let home : IsKernel hist beg p.start.value (hist k) (homes_after s.homes me.1 gives) =
+      (k, ap (λ (cs : List (ℕ × Option K)). get_elem? (put_back s.homes cs) 0) carries ∙ set_here s.homes 0 (some (Some k)) (at_below s.homes 0 none out), refl, began p.start se.start_is) in
+      let places : Places n c m' =
+      places_owned n c m new pl ph r.holder r.spans r.seating r.ready (is ∙ (λ i. owner_word ph (ir.is_holder i) (ir.opened_is i) (ir.seen_is_log i))) pl.holder_is_open pl.lower_are_gone (λ e. absurd (over e)) (λ z ne l. inl (ne, l)) in
       let led : Led m' = record { tile = r.led.tile; rise = r.led.rise; last_is_holders = r.led.last_is_holders; unled_is_free = λ e. absurd (let q : held ≡ free = sym ir.is_held ∙ r.led.unled_is_free e in cc) } in
-      let on : Onward n m m' = record { near = fit; cursors = λ z l. subst (λ (q : ℕ). cursor s.words z ≤ q) (sym (cur z)) (le_refl (cursor s.words z)); longer = λ i x e. e; more = le_refl (length r.log); wider = le_refl (length r.seating); seated = λ v z e. e; begun = λ i y e. inl (i, y, e, refl, refl); gone_spans = λ v z l g. refl; gone_last = λ v z l g. l } in
+      let on : Onward n m m' = record {
+        near = fit;
+        cursors = λ z l. subst (λ (q : ℕ). cursor s.words z ≤ q) (sym (cur z)) (le_refl (cursor s.words z));
+        longer = λ i x e. e;
+        more = le_refl (length r.log);
+        wider = le_refl (length r.seating);
+        seated = λ v z e. e;
+        begun = λ i y e. inl (i, y, e, refl, refl);
+        gone_spans = λ v z l g. refl;
+        gone_last = λ v z l g. l;
+      } in
       let doors : Doors n p.versions (planned hist beg p) m' = doors_owned n c m new pl ph r.holder r.spans p.versions (planned hist beg p) (inl ir.none_ready) r.doors in
       let turns : Turns p.versions (planned hist beg p) ph (length r.log) r.spans r.seating = record { who_is = r.turns.who_is; opened = r.turns.opened; unhanded = λ e. absurd (over e); left_over = λ e. absurd (over e) } in
       let w : View K = as_leaving v new in
@@ -116,8 +138,15 @@ module _ {K B : Type 0} (hist : K → List Entry) (beg : K → B) (p : Layout K)
         w,
         gives,
         tt,
-        moved hist beg p s r 0 new id me.1 gives r.log ph r.holder r.spans r.seating r.ready (hist k) v w at tags (λ e. absurd (over e)) record { spelt = tells ∙ all; lawful = law; ended = ended } (at_home p.start.value (hist k) (homes_after s.homes me.1 gives) ph over home) places led doors turns on
-            (λ j u ne f l. (beside_lead n c m m' u st ir.is_held ir.is_holder (λ e. apart_from hist beg p s r j id u v f at ne (subst Live (sym role) tt) l (sym e)) refl (cur u.station) refl u.role (r.each_seat j u f).in_role, refl, (λ z. z), λ t _. cur t))
+        moved hist beg p s r 0 new id me.1 gives r.log ph r.holder r.spans r.seating r.ready (hist k) v w at tags (λ e. absurd (over e)) record { spelt = tells ∙ all; lawful = law; ended = ended }
+            (at_home p.start.value (hist k) (homes_after s.homes me.1 gives) ph over home) places led doors turns on
+            (λ j u ne f l. (
+              beside_lead n c m m' u st ir.is_held ir.is_holder (λ e. apart_from hist beg p s r j id u v f at ne (subst Live (sym role) tt) l (sym e)) refl (cur u.station) refl u.role
+                  (r.each_seat j u f).in_role,
+              refl,
+              (λ z. z),
+              λ t _. cur t,
+            ))
             record {
               seen_is_prefix = kn.seen_is_prefix;
               read_begins_next = kn.read_begins_next;
@@ -125,11 +154,25 @@ module _ {K B : Type 0} (hist : K → List Entry) (beg : K → B) (p : Layout K)
               head_seen_at_most_head = kn.head_seen_at_most_head;
               owner_seen_at_most_head = (let q = given_at ph st v.opened (length v.seen) new over (let c = ir.is_holder in omega arith) (let c = ir.opened_is in omega arith) is in let d = ir.seen_is_log in omega arith);
               opened_at_most_open = kn.opened_at_most_open;
-              in_role = record { not_held = over; is_holder = ir.is_holder; cursor_is_count = subst (λ (q : ℕ). q ≤ length r.log) (sym (cur st)) (subst (λ (q : ℕ). cursor s.words q ≤ length r.log) (sym ir.is_holder) (pl.lead_counts ir.is_held)); wrote_nothing = quiet };
-              seated = λ l. record { start_is = se.start_is; places_are = se.places_are; opened_least = se.opened_least; last = se.last; spans_are = se.spans_are; unmade_is_new = λ t u. cur t ∙ se.unmade_is_new t u; others_are_gone = λ t has ne out. subst (λ (q : ℕ). GONE ≤ q) (sym (cur t)) (se.others_are_gone t has ne (λ e. absurd (stays e))) };
+              in_role = record {
+                not_held = over;
+                is_holder = ir.is_holder;
+                cursor_is_count = subst (λ (q : ℕ). q ≤ length r.log) (sym (cur st)) (subst (λ (q : ℕ). cursor s.words q ≤ length r.log) (sym ir.is_holder) (pl.lead_counts ir.is_held));
+                wrote_nothing = quiet;
+              };
+              seated = λ l. record {
+                start_is = se.start_is;
+                places_are = se.places_are;
+                opened_least = se.opened_least;
+                last = se.last;
+                spans_are = se.spans_are;
+                unmade_is_new = λ t u. cur t ∙ se.unmade_is_new t u;
+                others_are_gone = λ t has ne out. subst (λ (q : ℕ). GONE ≤ q) (sym (cur t)) (se.others_are_gone t has ne (λ e. absurd (stays e)));
+              };
               ended_is_past = λ i x e. past_on n m m' x on (kn.ended_is_past i x e);
             }
-            (merge_turned n c s.views id v w at s.words ws' r.log ph (merge_phase n c s.words r.log r.phase ph s.views r.merge (sym (r.merge.lead_writes id v at (subst Leads (sym role) tt)) ∙ quiet)) (second_kept n c 0 new s.words (omega arith)) (λ e. absurd e) (λ (e : Leaving ≡ Reader). cc) (λ _. r.merge.floors_wide id v at (subst Live (sym role) tt))),
+            (merge_turned n c s.views id v w at s.words ws' r.log ph (merge_phase n c s.words r.log r.phase ph s.views r.merge (sym (r.merge.lead_writes id v at (subst Leads (sym role) tt)) ∙ quiet))
+            (second_kept n c 0 new s.words (omega arith)) (λ e. absurd e) (λ (e : Leaving ≡ Reader). cc) (λ _. r.merge.floors_wide id v at (subst Live (sym role) tt))),
         refl,
       )
 
@@ -148,8 +191,13 @@ module _ {K B : Type 0} (hist : K → List Entry) (beg : K → B) (p : Layout K)
 
   -- when a reader takes the lead no other seat is touched
   own_at_take : (m m' : Moment) (pl : Places p.stations p.places m) (st : ℕ) (mine : Log) → m.phase ≡ free → cursor m.words st ≡ length mine → length mine ≤ length m.log → ((z : ℕ) → z < st → GONE ≤ cursor m.words z)
-      → (u : View K) → u.station ≢ st → length u.seen ≤ length m.log → (u.role ≡ Moving → u.former ≢ st) → cursor m'.words u.station ≡ cursor m.words u.station → of_station u.station m'.spans ≡ of_station u.station m.spans → (r : Role) → u.role ≡ r → InRole p.stations p.places m u r → Own p.stations p.places m m' u r
-  own_at_take m m' pl st mine is cur short low u ne near other same spans Reader e k = record { cursor_same = same; led_same = spans; freed_on = λ q f. absurd (one_note m pl st u.station mine u.seen cur k.cursor_is_length short near ne low f.lower_gone) }
+      → (u : View K) → u.station ≢ st → length u.seen ≤ length m.log → (u.role ≡ Moving → u.former ≢ st) → cursor m'.words u.station ≡ cursor m.words u.station
+      → of_station u.station m'.spans ≡ of_station u.station m.spans → (r : Role) → u.role ≡ r → InRole p.stations p.places m u r → Own p.stations p.places m m' u r
+  own_at_take m m' pl st mine is cur short low u ne near other same spans Reader e k = record {
+    cursor_same = same;
+    led_same = spans;
+    freed_on = λ q f. absurd (one_note m pl st u.station mine u.seen cur k.cursor_is_length short near ne low f.lower_gone);
+  }
   own_at_take m m' pl st mine is cur short low u ne near other same spans Lead e k = absurd (let a : held ≡ free = sym k.is_held ∙ is in cc)
   own_at_take m m' pl st mine is cur short low u ne near other same spans Opening e k = absurd (let a : held ≡ free = sym k.is_held ∙ is in cc)
   own_at_take m m' pl st mine is cur short low u ne near other same spans Leaving e k = absurd (none_counts m pl st u.station k.is_holder (λ q. ne (sym q)) (omega arith) k.cursor_is_count low)
@@ -172,23 +220,34 @@ module _ {K B : Type 0} (hist : K → List Entry) (beg : K → B) (p : Layout K)
         unled_is_free = λ e. let q = length-append m.spans (span st v n n ∷ []) in let z = ap (λ (z : List Span). length z) e in absurd (omega arith);
       }
 
-  turns_more : (m : Moment) (st v n : ℕ) → Turns p.versions (planned hist beg p) m.phase (length m.log) m.spans m.seating → get_elem? m.seating st ≡ some v → Turns p.versions (planned hist beg p) held (length m.log) (m.spans ++ span st v n n ∷ []) m.seating
+  turns_more : (m : Moment) (st v n : ℕ) → Turns p.versions (planned hist beg p) m.phase (length m.log) m.spans m.seating → get_elem? m.seating st ≡ some v
+      → Turns p.versions (planned hist beg p) held (length m.log) (m.spans ++ span st v n n ∷ []) m.seating
   turns_more m st v n t has = record {
-    who_is = λ i x e. ⊎_elim (λ (q : get_elem? m.spans i ≡ some x). t.who_is i x q) (λ (q : (i ≡ length m.spans) × (span st v n n ≡ x)). subst (λ (z : Span). get_elem? m.seating z.station ≡ some z.version) q.1 has) (at_end m.spans (span st v n n) x i e);
+    who_is = λ i x e. ⊎_elim (λ (q : get_elem? m.spans i ≡ some x). t.who_is i x q)
+        (λ (q : (i ≡ length m.spans) × (span st v n n ≡ x)). subst (λ (z : Span). get_elem? m.seating z.station ≡ some z.version) q.1 has) (at_end m.spans (span st v n n) x i e);
     opened = opened_more p.versions m.seating m.spans (span st v n n) refl t.opened;
     unhanded = λ h xs x e. ap (λ (z : Span). z.handed) (sym (last_apart m.spans xs (span st v n n) x e).1);
-    left_over = λ h led. let e = ap (λ (z : Span). z.to) (last_apart m.spans led.0 (span st v n n) led.1 led.2).1 in let f = ap (λ (z : Span). z.from) (last_apart m.spans led.0 (span st v n n) led.1 led.2).1 in let g = led.3 in absurd (omega arith);
+    left_over = λ h led. let e = ap (λ (z : Span). z.to) (last_apart m.spans led.0 (span st v n n) led.1 led.2).1 in let f = ap (λ (z : Span). z.from)
+        (last_apart m.spans led.0 (span st v n n) led.1 led.2).1 in let g = led.3 in absurd (omega arith);
   }
 
   pub takes_lead : (slots id new : ℕ) (me : M) → me.0.role ≡ Reader → me.0.freed ≡ Some (length me.0.seen) → new ≡ owner_word held me.0.station me.0.opened (length me.0.seen)
       → Allows RuleOf slots id me 0 (λ _. new) (λ _. took hist beg (step slots 0 new 0 none) me new)
   takes_lead slots id new me role noted is s r wide at _ = let v = me.0 in let n : ℕ = p.stations in let c : ℕ = p.places in let kn = r.each_seat id v at in let pl = r.places in
       let m : Moment = now hist beg p s r in let ir = in_role hist beg p s r id v at Reader role in let se = seated hist beg p s r id v at Reader role tt in let st : ℕ = v.station in let ws' : List ℕ = set s.words 0 new in
-      let note : Freed m st v.opened (length v.seen) = ir.freed_stays (length v.seen) noted in let len : ℕ = length r.log in let size : ℕ = length v.seen in let full : size ≡ len = note.at_head in let all : v.seen ≡ r.log = prefix_same v.seen r.log full kn.seen_is_prefix in
+      let note : Freed m st v.opened (length v.seen) = ir.freed_stays (length v.seen) noted in
+      let len : ℕ = length r.log in
+      let size : ℕ = length v.seen in
+      let full : size ≡ len = note.at_head in
+      let all : v.seen ≡ r.log = prefix_same v.seen r.log full kn.seen_is_prefix in
       let few : len ≤ 131072 = pl.log_is_short in let mine : cursor s.words st ≡ size = ir.cursor_is_length in
       let low : r.holder ≤ st = dite (dec_le r.holder st) (λ le. le) (λ gt. let lt : st < r.holder = lt_of_not-le gt in let g = pl.lower_are_gone st lt in absurd (omega arith)) in
       let home = home_free p.start.value r.events s.homes r.phase note.is_free r.home in let k : K = home.0 in
-      let new_span : Span = span_begun v in let spans' : List Span = r.spans ++ new_span ∷ [] in let m' : Moment = as_of ws' r.log held st spans' r.seating r.ready in let fit = open_near hist beg p s r in let live : Live v.role = subst Live (sym role) tt in
+      let new_span : Span = span_begun v in
+      let spans' : List Span = r.spans ++ new_span ∷ [] in
+      let m' : Moment = as_of ws' r.log held st spans' r.seating r.ready in
+      let fit = open_near hist beg p s r in
+      let live : Live v.role = subst Live (sym role) tt in
       let ready : r.ready ≡ length r.seating = none_ready hist beg p s r (λ e. let q : held ≡ free = sym e ∙ note.is_free in cc) in
       let cur : (z : ℕ) → cursor ws' z ≡ cursor s.words z = same_cursor n c m new pl in
       let stays : v.role ≢ Moving = λ e. (let q : Reader ≡ Moving = sym role ∙ e in (let z : ⊥ = cc in z)) in
@@ -205,7 +264,8 @@ module _ {K B : Type 0} (hist : K → List Entry) (beg : K → B) (p : Layout K)
         longer = λ i x e. e;
         more = le_refl len;
         begun = λ i y e. ⊎_elim (λ (q : get_elem? r.spans i ≡ some y). inl (i, y, q, refl, refl)) (λ (q : (i ≡ length r.spans) × (new_span ≡ y)). inr (let f = ap (λ (z : Span). z.from) q.1 in omega arith)) (at_end r.spans new_span y i e);
-        gone_spans = λ x z l g. version_more_other x r.spans new_span (λ e. let at_mine : z ≡ st = one_last r.seating v.version z st (subst (λ (y : ℕ). IsLastStation r.seating y z) (sym e) l) se.last in let same : cursor s.words z ≡ cursor s.words st = ap (cursor s.words) at_mine in omega arith);
+        gone_spans = λ x z l g. version_more_other x r.spans new_span
+            (λ e. let at_mine : z ≡ st = one_last r.seating v.version z st (subst (λ (y : ℕ). IsLastStation r.seating y z) (sym e) l) se.last in let same : cursor s.words z ≡ cursor s.words st = ap (cursor s.words) at_mine in omega arith);
       } in
       let w : View K = as_lead v in
       let tags : NoClash (map tag (set s.views id w)) = subst NoClash (sym (map-set tag s.views id w)) (apart_role hist beg p s r id v Lead at (subst Live (sym role) tt)) in
@@ -213,9 +273,12 @@ module _ {K B : Type 0} (hist : K → List Entry) (beg : K → B) (p : Layout K)
         w,
         takes 0 (Some k),
         home.1,
-        moved hist beg p s r 0 new id me.1 (takes 0 (Some k)) r.log held st spans' r.seating r.ready r.events v w at tags (λ _. (id, w, set_here s.views id w (at_below s.views id v at), tt, refl)) record { spelt = r.log_is_spelt; lawful = r.log_is_lawful; ended = λ e. cc } (set_here s.homes 0 none (at_below s.homes 0 (some (Some k)) home.1)) places led doors (turns_more m st v.version new_span.from r.turns se.last.has) on
+        moved hist beg p s r 0 new id me.1 (takes 0 (Some k)) r.log held st spans' r.seating r.ready r.events v w at tags
+            (λ _. (id, w, set_here s.views id w (at_below s.views id v at), tt, refl)) record { spelt = r.log_is_spelt; lawful = r.log_is_lawful; ended = λ e. cc }
+            (set_here s.homes 0 none (at_below s.homes 0 (some (Some k)) home.1)) places led doors (turns_more m st v.version new_span.from r.turns se.last.has) on
             (λ j u ne f l. let other : u.station ≢ st = apart_from hist beg p s r j id u v f at ne live l in let ku = r.each_seat j u f in (
-              own_at_take m m' pl st v.seen note.is_free mine (omega arith) note.lower_gone u other (prefix_length u.seen r.log ku.seen_is_prefix) (former_apart hist beg p s r j id u v f at ne live l st se.last.has) (cur u.station) (of_more_other u.station r.spans new_span (λ e. other (sym e))) u.role refl ku.in_role,
+              own_at_take m m' pl st v.seen note.is_free mine (omega arith) note.lower_gone u other (prefix_length u.seen r.log ku.seen_is_prefix)
+                  (former_apart hist beg p s r j id u v f at ne live l st se.last.has) (cur u.station) (of_more_other u.station r.spans new_span (λ e. other (sym e))) u.role refl ku.in_role,
               version_more_other u.version r.spans new_span (λ e. apart_version hist beg p s r j id u v f at ne live l (sym e)),
               (λ z. z),
               λ t _. cur t,
@@ -237,9 +300,19 @@ module _ {K B : Type 0} (hist : K → List Entry) (beg : K → B) (p : Layout K)
                 opened_is = note.opened_is;
                 none_ready = ready;
               };
-              seated = λ l. record { start_is = se.start_is; places_are = se.places_are; opened_least = se.opened_least; last = se.last; spans_are = ap (λ (z : List Span). z ++ new_span ∷ []) se.spans_are ∙ sym (version_more_own v.version r.spans new_span refl); unmade_is_new = λ t u. cur t ∙ se.unmade_is_new t u; others_are_gone = λ t has ne out. subst (λ (q : ℕ). GONE ≤ q) (sym (cur t)) (se.others_are_gone t has ne (λ e. absurd (stays e))) };
+              seated = λ l. record {
+                start_is = se.start_is;
+                places_are = se.places_are;
+                opened_least = se.opened_least;
+                last = se.last;
+                spans_are = ap (λ (z : List Span). z ++ new_span ∷ []) se.spans_are ∙ sym (version_more_own v.version r.spans new_span refl);
+                unmade_is_new = λ t u. cur t ∙ se.unmade_is_new t u;
+                others_are_gone = λ t has ne out. subst (λ (q : ℕ). GONE ≤ q) (sym (cur t)) (se.others_are_gone t has ne (λ e. absurd (stays e)));
+              };
               ended_is_past = λ i x e. past_on n m m' x on (kn.ended_is_past i x e);
             }
-            (let quiet : r.merge.writing ≡ [] = r.merge.not_held (λ e. let q : held ≡ free = sym e ∙ note.is_free in cc) in merge_turned n c s.views id v w at s.words ws' r.log held (merge_phase n c s.words r.log r.phase held s.views r.merge quiet) (second_kept n c 0 new s.words (omega arith)) (λ _. ir.wrote_nothing ∙ sym (merged_quiet n c s.words r.log r.phase held s.views r.merge quiet)) (λ (e : Lead ≡ Reader). cc) (λ _. r.merge.floors_wide id v at (subst Live (sym role) tt))),
+            (let quiet : r.merge.writing ≡ [] = r.merge.not_held (λ e. let q : held ≡ free = sym e ∙ note.is_free in cc) in merge_turned n c s.views id v w at s.words ws' r.log held
+            (merge_phase n c s.words r.log r.phase held s.views r.merge quiet) (second_kept n c 0 new s.words (omega arith))
+            (λ _. ir.wrote_nothing ∙ sym (merged_quiet n c s.words r.log r.phase held s.views r.merge quiet)) (λ (e : Lead ≡ Reader). cc) (λ _. r.merge.floors_wide id v at (subst Live (sym role) tt))),
         (k, refl, spelt ∙ sym all, λ t e. home.3 ∙ ap (λ (z : Snapshot K). beg z.value) (same_Some p.start t (sym se.start_is ∙ e)), ir.wrote_nothing),
       )

@@ -42,7 +42,8 @@ module _ {K B : Type 0} (hist : K → List Entry) (beg : K → B) (p : Layout K)
   M = Me (Option K) (View K)
 
   -- a look moves no word, so the places tell what they told
-  still : (s : St) (r : RuleOf s) (id : ℕ) (v w : View K) → get_elem? s.views id ≡ some v → (Leads w.role → w.wrote ≡ r.merge.writing) → (w.role ≡ Reader → Notes r.log w.seen w.noted w.missed w.read) → (Live w.role → length w.floors ≡ p.stations)
+  still : (s : St) (r : RuleOf s) (id : ℕ) (v w : View K) → get_elem? s.views id ≡ some v → (Leads w.role → w.wrote ≡ r.merge.writing) → (w.role ≡ Reader → Notes r.log w.seen w.noted w.missed w.read)
+      → (Live w.role → length w.floors ≡ p.stations)
       → Merge p.stations p.places s.words r.log r.phase (set s.views id w)
   still s r id v w at leads reads wide = merge_turned p.stations p.places s.views id v w at s.words s.words r.log r.phase r.merge (λ _ _. refl) leads reads wide
 
@@ -52,7 +53,25 @@ module _ {K B : Type 0} (hist : K → List Entry) (beg : K → B) (p : Layout K)
     keeps,
     tt,
     looked hist beg p s r head_index id me.1 v (head_seen v (get_or s.words head_index 0)) at refl (λ q. (q, refl))
-        record { seen_is_prefix = k.seen_is_prefix; read_begins_next = k.read_begins_next; floor_at_most_cursor = k.floor_at_most_cursor; head_seen_at_most_head = omega arith; owner_seen_at_most_head = k.owner_seen_at_most_head; opened_at_most_open = k.opened_at_most_open; in_role = k.in_role; seated = λ l. let q = k.seated l in record { start_is = q.start_is; places_are = q.places_are; opened_least = q.opened_least; last = q.last; spans_are = q.spans_are; unmade_is_new = q.unmade_is_new; others_are_gone = q.others_are_gone }; ended_is_past = k.ended_is_past }
+        record {
+          seen_is_prefix = k.seen_is_prefix;
+          read_begins_next = k.read_begins_next;
+          floor_at_most_cursor = k.floor_at_most_cursor;
+          head_seen_at_most_head = omega arith;
+          owner_seen_at_most_head = k.owner_seen_at_most_head;
+          opened_at_most_open = k.opened_at_most_open;
+          in_role = k.in_role;
+          seated = λ l. let q = k.seated l in record {
+            start_is = q.start_is;
+            places_are = q.places_are;
+            opened_least = q.opened_least;
+            last = q.last;
+            spans_are = q.spans_are;
+            unmade_is_new = q.unmade_is_new;
+            others_are_gone = q.others_are_gone;
+          };
+          ended_is_past = k.ended_is_past;
+        }
         (still s r id v (head_seen v (get_or s.words head_index 0)) at (λ e. r.merge.lead_writes id v at e) (λ e. r.merge.notes id v at e) (λ l. r.merge.floors_wide id v at l)),
     (refl, omega arith, (let q = prefix_length v.seen r.log k.seen_is_prefix in omega arith), (let q = k.owner_seen_at_most_head in omega arith), (let q = k.head_seen_at_most_head in omega arith)),
   )
@@ -85,10 +104,25 @@ module _ {K B : Type 0} (hist : K → List Entry) (beg : K → B) (p : Layout K)
           owner_seen_at_most_head = k.owner_seen_at_most_head;
           opened_at_most_open = k.opened_at_most_open;
           in_role = k.in_role;
-          seated = λ l. let q = k.seated l in record { start_is = q.start_is; places_are = q.places_are; opened_least = q.opened_least; last = q.last; spans_are = q.spans_are; unmade_is_new = q.unmade_is_new; others_are_gone = q.others_are_gone };
+          seated = λ l. let q = k.seated l in record {
+            start_is = q.start_is;
+            places_are = q.places_are;
+            opened_least = q.opened_least;
+            last = q.last;
+            spans_are = q.spans_are;
+            unmade_is_new = q.unmade_is_new;
+            others_are_gone = q.others_are_gone;
+          };
           ended_is_past = k.ended_is_past;
         } (still s r id v (cursor_seen st v x) at (λ e. r.merge.lead_writes id v at e) (λ e. r.merge.notes id v at e) (λ l. length-set v.floors st x ∙ r.merge.floors_wide id v at l)),
-        (count_or_gone (length r.log) x few (r.places.cursor_is_count_or_gone st near), λ j e. let e' : 8 * (st + 2) ≡ 8 * (j + 2) = e in let q : st ≡ j = omega arith in (ap (λ (z : ℕ). (cursor_seen z v x, me.1)) q, λ role other open'. in_window s r id v at role st (let z = q in omega arith) (λ h. other (sym q ∙ h)), (let f = subst (λ (z : ℕ). get_or v.floors z 0 ≤ cursor s.words st) q (k.floor_at_most_cursor st near) in f))),
+        (
+          count_or_gone (length r.log) x few (r.places.cursor_is_count_or_gone st near),
+          λ j e. let e' : 8 * (st + 2) ≡ 8 * (j + 2) = e in let q : st ≡ j = omega arith in (
+            ap (λ (z : ℕ). (cursor_seen z v x, me.1)) q,
+            λ role other open'. in_window s r id v at role st (let z = q in omega arith) (λ h. other (sym q ∙ h)),
+            (let f = subst (λ (z : ℕ). get_or v.floors z 0 ≤ cursor s.words st) q (k.floor_at_most_cursor st near) in f),
+          ),
+        ),
       )
 
   -- Reading the owner word
@@ -126,12 +160,18 @@ module _ {K B : Type 0} (hist : K → List Entry) (beg : K → B) (p : Layout K)
   pub looks_owner : (slots id : ℕ) (me : M) → me.0.role ≡ Reader → Allows RuleOf slots id me 0 (λ x. x) (looked_owner (step slots 0 0 0 none) me)
   looks_owner slots id me role s r wide at _ = let v = me.0 in let kn = r.each_seat id v at in let x : ℕ = get_or s.words 0 0 in let pl = r.places in
       let ir = in_role hist beg p s r id v at Reader role in let st : ℕ = v.station in let se = seated hist beg p s r id v at Reader role tt in let n : ℕ = p.stations in let len : ℕ = length r.log in
-      let near : st < n = role_near hist beg p s r id v at Reader role tt in let few : len ≤ 131072 = pl.log_is_short in let all = open_near hist beg p s r in let small : r.holder < 16 = (let a = pl.few_stations in let b = pl.holder_is_open in omega arith) in let open_few : length r.seating ≤ 16 = (let a = pl.few_stations in omega arith) in
-      let f : Found len x r.phase = found r.phase r.holder (length r.seating) len x small open_few pl.owner_is in let opened : opened_at x ≡ length r.seating = found_open r.phase r.holder (length r.seating) len x small open_few pl.owner_is in
+      let near : st < n = role_near hist beg p s r id v at Reader role tt in
+      let few : len ≤ 131072 = pl.log_is_short in
+      let all = open_near hist beg p s r in
+      let small : r.holder < 16 = (let a = pl.few_stations in let b = pl.holder_is_open in omega arith) in
+      let open_few : length r.seating ≤ 16 = (let a = pl.few_stations in omega arith) in
+      let f : Found len x r.phase = found r.phase r.holder (length r.seating) len x small open_few pl.owner_is in
+      let opened : opened_at x ≡ length r.seating = found_open r.phase r.holder (length r.seating) len x small open_few pl.owner_is in
       let l = learnt_at s r n x r.phase f in let seen : length v.seen ≤ len = prefix_length v.seen r.log kn.seen_is_prefix in let mine : cursor s.words st ≡ length v.seen = ir.cursor_is_length in
       let low : lower_marked st v.floors ≡ true → (z : ℕ) → z < st → GONE ≤ cursor s.words z = λ e z b. (let a = marked st v.floors e z b in let c = kn.floor_at_most_cursor z (omega arith) in omega arith) in
       let unheld : lower_marked st v.floors ≡ true → r.phase ≢ held = λ e is. dite (ℕ_discrete st r.holder) (λ same. not_held (now hist beg p s r) st r.led ir.led_nothing is same)
-      (λ ne. dite (dec_le st r.holder) (λ le. let g = pl.lower_are_gone st (omega arith) in omega arith) (λ gt. let lt : r.holder < st = lt_of_not-le gt in let g = low e r.holder lt in let c : cursor s.words r.holder ≤ len = pl.lead_counts is in omega arith)) in
+      (λ ne. dite (dec_le st r.holder) (λ le. let g = pl.lower_are_gone st (omega arith) in omega arith)
+      (λ gt. let lt : r.holder < st = lt_of_not-le gt in let g = low e r.holder lt in let c : cursor s.words r.holder ≤ len = pl.lead_counts is in omega arith)) in
       let v' : View K = owner_seen v x in (
         v',
         keeps,
@@ -147,10 +187,19 @@ module _ {K B : Type 0} (hist : K → List Entry) (beg : K → B) (p : Layout K)
             cursor_is_length = ir.cursor_is_length;
             led_nothing = ir.led_nothing;
             wrote_nothing = ir.wrote_nothing;
-            freed_stays = λ k e. ⊎_elim (λ (q : (is_noted st v.floors x ≡ true) × (note_of x ≡ k)). let b = and_both (is_free x) (lower_marked st v.floors) q.0 in let y = found_free len x r.phase f b.0 in record { is_free = y.0; at_head = sym q.1 ∙ y.1; opened_is = opened; lower_gone = low b.1 })
+            freed_stays = λ k e. ⊎_elim (λ (q : (is_noted st v.floors x ≡ true) × (note_of x ≡ k)). let b = and_both (is_free x)
+                (lower_marked st v.floors) q.0 in let y = found_free len x r.phase f b.0 in record { is_free = y.0; at_head = sym q.1 ∙ y.1; opened_is = opened; lower_gone = low b.1 })
                 (λ (q : v.freed ≡ Some k). let y = ir.freed_stays k q in record { is_free = y.is_free; at_head = y.at_head; opened_is = opened; lower_gone = y.lower_gone }) (noted_is v.freed st v.floors x k e);
           };
-          seated = λ g. let q = kn.seated g in record { start_is = q.start_is; places_are = q.places_are; opened_least = (let a = r.doors.least in omega arith); last = q.last; spans_are = q.spans_are; unmade_is_new = q.unmade_is_new; others_are_gone = q.others_are_gone };
+          seated = λ g. let q = kn.seated g in record {
+            start_is = q.start_is;
+            places_are = q.places_are;
+            opened_least = (let a = r.doors.least in omega arith);
+            last = q.last;
+            spans_are = q.spans_are;
+            unmade_is_new = q.unmade_is_new;
+            others_are_gone = q.others_are_gone;
+          };
           ended_is_past = kn.ended_is_past;
         } (still s r id v v' at (λ e. r.merge.lead_writes id v at e) (λ e. r.merge.notes id v at e) (λ l. r.merge.floors_wide id v at l)),
         (
@@ -162,17 +211,20 @@ module _ {K B : Type 0} (hist : K → List Entry) (beg : K → B) (p : Layout K)
             is_known = l.1;
             within = λ e. let a = l.2 e in omega arith;
             last_is_free = λ e. found_held len x r.phase f (unheld e);
-            first_is_free = λ e. let same : cursor s.words st ≡ cursor s.words 0 = ap (cursor s.words) e in let low : r.holder ≡ 0 = dite (dec_le 1 r.holder) (λ le. let g = pl.lower_are_gone 0 le in absurd (omega arith)) (λ gt. omega arith) in
+            first_is_free = λ e. let same : cursor s.words st ≡ cursor s.words 0 = ap (cursor s.words) e in let low : r.holder ≡ 0 = dite (dec_le 1 r.holder)
+                (λ le. let g = pl.lower_are_gone 0 le in absurd (omega arith)) (λ gt. omega arith) in
                 let unled = holder_led (now hist beg p s r) st r.led ir.led_nothing (e ∙ sym low) in let b = tiles_none 0 len r.spans r.led.tile unled in let g = free_found len x r.phase f (r.led.unled_is_free unled) (sym b) in
                 let whole : p.versions ≡ length r.seating = subst (Opened p.versions r.seating) unled r.turns.opened in (g.0, g.1, (let a = se.opened_least in let c = kn.opened_at_most_open in omega arith));
-            closed_at_end = λ e same. let y = found_closed len x r.phase f e in let all : v.seen ≡ r.log = prefix_same v.seen r.log (sym same ∙ y.1) kn.seen_is_prefix in (r.events, r.log_is_spelt ∙ sym all, r.log_is_lawful, r.closed_has_ended y.0);
+            closed_at_end = λ e same. let y = found_closed len x r.phase f e in let all : v.seen ≡ r.log = prefix_same v.seen r.log (sym same ∙ y.1) kn.seen_is_prefix in
+                (r.events, r.log_is_spelt ∙ sym all, r.log_is_lawful, r.closed_has_ended y.0);
           },
         ),
       )
 
   -- Reading a word of a place
 
-  pub reads_word : (slots id k l : ℕ) (me : M) → me.0.role ≡ Reader → ¬ IsWhole me.0.read → me.0.noted ≡ Some l → ((log : Log) → Prefix me.0.seen log → l ≡ lane log (length me.0.seen) → k ≡ word_place p.stations p.places log (length me.0.seen) (length me.0.read))
+  pub reads_word : (slots id k l : ℕ) (me : M) → me.0.role ≡ Reader → ¬ IsWhole me.0.read → me.0.noted ≡ Some l
+      → ((log : Log) → Prefix me.0.seen log → l ≡ lane log (length me.0.seen) → k ≡ word_place p.stations p.places log (length me.0.seen) (length me.0.read))
       → Allows RuleOf slots id me k (λ x. x) (read_word (step slots k 0 0 none) me)
   reads_word slots id k l me role part before is s r wide at _ = let v = me.0 in let n : ℕ = p.stations in let c : ℕ = p.places in let kn = r.each_seat id v at in let m : ℕ = length v.seen in
       let nt = (r.merge.notes id v at role).noted_is_next l before in let got = there r.log m nt.0 in let e : List ℕ = got.0 in let ir = in_role hist beg p s r id v at Reader role in let se = seated hist beg p s r id v at Reader role tt in
@@ -189,11 +241,34 @@ module _ {K B : Type 0} (hist : K → List Entry) (beg : K → B) (p : Layout K)
         keeps,
         tt,
         looked hist beg p s r k id me.1 v (word_seen v x) at refl (λ q. (q, refl))
-            record { seen_is_prefix = kn.seen_is_prefix; read_begins_next = λ j y f. (e, got.1, more j y f); floor_at_most_cursor = kn.floor_at_most_cursor; head_seen_at_most_head = kn.head_seen_at_most_head; owner_seen_at_most_head = kn.owner_seen_at_most_head; opened_at_most_open = kn.opened_at_most_open; in_role = subst (InRole n c (now hist beg p s r) (word_seen v x)) (sym role) ir; seated = λ l. let q = kn.seated l in record { start_is = q.start_is; places_are = q.places_are; opened_least = q.opened_least; last = q.last; spans_are = q.spans_are; unmade_is_new = q.unmade_is_new; others_are_gone = q.others_are_gone }; ended_is_past = kn.ended_is_past }
-            (still s r id v (word_seen v x) at (λ e. r.merge.lead_writes id v at e) (λ e. let k = r.merge.notes id v at e in record { noted_is_next = k.noted_is_next; missed_is_not = k.missed_is_not; unnoted_is_unread = λ q. let none : Some l ≡ None = sym before ∙ q in cc }) (λ l. r.merge.floors_wide id v at l)),
+            record {
+              seen_is_prefix = kn.seen_is_prefix;
+              read_begins_next = λ j y f. (e, got.1, more j y f);
+              floor_at_most_cursor = kn.floor_at_most_cursor;
+              head_seen_at_most_head = kn.head_seen_at_most_head;
+              owner_seen_at_most_head = kn.owner_seen_at_most_head;
+              opened_at_most_open = kn.opened_at_most_open;
+              in_role = subst (InRole n c (now hist beg p s r) (word_seen v x)) (sym role) ir;
+              seated = λ l. let q = kn.seated l in record {
+                start_is = q.start_is;
+                places_are = q.places_are;
+                opened_least = q.opened_least;
+                last = q.last;
+                spans_are = q.spans_are;
+                unmade_is_new = q.unmade_is_new;
+                others_are_gone = q.others_are_gone;
+              };
+              ended_is_past = kn.ended_is_past;
+            }
+            (still s r id v (word_seen v x) at (λ e. r.merge.lead_writes id v at e) (λ e. let k = r.merge.notes id v at e in record {
+              noted_is_next = k.noted_is_next;
+              missed_is_not = k.missed_is_not;
+              unnoted_is_unread = λ q. let none : Some l ≡ None = sym before ∙ q in cc;
+            }) (λ l. r.merge.floors_wide id v at l)),
         (
           refl,
           (y.0, lawful_range r.events m y.0 r.log_is_lawful y.1, subst (λ (z : List ℕ). Prefix (v.read ++ x ∷ []) z) spells more),
-          λ full. let same : v.read ++ x ∷ [] ≡ e = whole_same (v.read ++ x ∷ []) e more full wh.0 in told hist beg p s r (v.seen ++ (v.read ++ x ∷ []) ∷ []) (prefix_more v.seen (v.read ++ x ∷ []) r.log kn.seen_is_prefix (got.1 ∙ ap some (sym same))),
+          λ full. let same : v.read ++ x ∷ [] ≡ e = whole_same (v.read ++ x ∷ []) e more full wh.0 in told hist beg p s r (v.seen ++ (v.read ++ x ∷ []) ∷ [])
+              (prefix_more v.seen (v.read ++ x ∷ []) r.log kn.seen_is_prefix (got.1 ∙ ap some (sym same))),
         ),
       )

@@ -82,14 +82,22 @@ module _ {T : Type 0} (n c : ℕ) (views : List (View T)) (id : ℕ) (v w : View
 
 -- the lead comes or goes while nothing stands at head
 pub merge_phase : {T : Type 0} (n c : ℕ) (ws : List ℕ) (log : Log) (phase phase' : Phase) (views : List (View T)) (m : Merge n c ws log phase views) → m.writing ≡ [] → Merge n c ws log phase' views
-merge_phase n c ws log phase phase' views m e = record { writing = []; stamps = subst (Stamps c (stamp_word n c ws) log) e m.stamps; lead_writes = λ j v at role. m.lead_writes j v at role ∙ e; not_held = λ _. refl; notes = m.notes; floors_wide = m.floors_wide }
+merge_phase n c ws log phase phase' views m e = record {
+  writing = [];
+  stamps = subst (Stamps c (stamp_word n c ws) log) e m.stamps;
+  lead_writes = λ j v at role. m.lead_writes j v at role ∙ e;
+  not_held = λ _. refl;
+  notes = m.notes;
+  floors_wide = m.floors_wide;
+}
 
 pub merged_quiet : {T : Type 0} (n c : ℕ) (ws : List ℕ) (log : Log) (phase phase' : Phase) (views : List (View T)) (m : Merge n c ws log phase views) (e : m.writing ≡ []) → (merge_phase n c ws log phase phase' views m e).writing ≡ []
 unfolding merge_phase
 merged_quiet n c ws log phase phase' views m e = refl
 
 -- one more seat, which reads
-pub merge_cut : {T : Type 0} (n c : ℕ) (ws : List ℕ) (log : Log) (phase : Phase) (views : List (View T)) (w : View T) → Merge n c ws log phase views → w.role ≡ Reader → Notes log w.seen w.noted w.missed w.read → length w.floors ≡ n → Merge n c ws log phase (views ++ w ∷ [])
+pub merge_cut : {T : Type 0} (n c : ℕ) (ws : List ℕ) (log : Log) (phase : Phase) (views : List (View T)) (w : View T) → Merge n c ws log phase views → w.role ≡ Reader
+    → Notes log w.seen w.noted w.missed w.read → length w.floors ≡ n → Merge n c ws log phase (views ++ w ∷ [])
 merge_cut {T} n c ws log phase views w m role notes wide = record {
   writing = m.writing;
   stamps = m.stamps;

@@ -43,8 +43,44 @@ module _ {T : Type 0} (l : ℕ) (v : View T) where
 
   knows_probed : (p : Layout T) (m : Moment) (x : ℕ) → Knows p m v → Knows p m (probed_at l v x)
   knows_probed p m x k = elim (low x == length v.seen) as (λ (b : Bool). Knows p m (cond b hit miss)) [
-    | true ↦ record { seen_is_prefix = k.seen_is_prefix; read_begins_next = k.read_begins_next; floor_at_most_cursor = k.floor_at_most_cursor; head_seen_at_most_head = k.head_seen_at_most_head; owner_seen_at_most_head = k.owner_seen_at_most_head; opened_at_most_open = k.opened_at_most_open; in_role = k.in_role; seated = λ l. let q = k.seated l in record { start_is = q.start_is; places_are = q.places_are; opened_least = q.opened_least; last = q.last; spans_are = q.spans_are; unmade_is_new = q.unmade_is_new; others_are_gone = q.others_are_gone }; ended_is_past = k.ended_is_past }
-    | false ↦ record { seen_is_prefix = k.seen_is_prefix; read_begins_next = k.read_begins_next; floor_at_most_cursor = k.floor_at_most_cursor; head_seen_at_most_head = k.head_seen_at_most_head; owner_seen_at_most_head = k.owner_seen_at_most_head; opened_at_most_open = k.opened_at_most_open; in_role = k.in_role; seated = λ l. let q = k.seated l in record { start_is = q.start_is; places_are = q.places_are; opened_least = q.opened_least; last = q.last; spans_are = q.spans_are; unmade_is_new = q.unmade_is_new; others_are_gone = q.others_are_gone }; ended_is_past = k.ended_is_past }
+    | true ↦ record {
+      seen_is_prefix = k.seen_is_prefix;
+      read_begins_next = k.read_begins_next;
+      floor_at_most_cursor = k.floor_at_most_cursor;
+      head_seen_at_most_head = k.head_seen_at_most_head;
+      owner_seen_at_most_head = k.owner_seen_at_most_head;
+      opened_at_most_open = k.opened_at_most_open;
+      in_role = k.in_role;
+      seated = λ l. let q = k.seated l in record {
+        start_is = q.start_is;
+        places_are = q.places_are;
+        opened_least = q.opened_least;
+        last = q.last;
+        spans_are = q.spans_are;
+        unmade_is_new = q.unmade_is_new;
+        others_are_gone = q.others_are_gone;
+      };
+      ended_is_past = k.ended_is_past;
+    }
+    | false ↦ record {
+      seen_is_prefix = k.seen_is_prefix;
+      read_begins_next = k.read_begins_next;
+      floor_at_most_cursor = k.floor_at_most_cursor;
+      head_seen_at_most_head = k.head_seen_at_most_head;
+      owner_seen_at_most_head = k.owner_seen_at_most_head;
+      opened_at_most_open = k.opened_at_most_open;
+      in_role = k.in_role;
+      seated = λ l. let q = k.seated l in record {
+        start_is = q.start_is;
+        places_are = q.places_are;
+        opened_least = q.opened_least;
+        last = q.last;
+        spans_are = q.spans_are;
+        unmade_is_new = q.unmade_is_new;
+        others_are_gone = q.others_are_gone;
+      };
+      ended_is_past = k.ended_is_past;
+    }
   ]
 
   tag_probed : (x : ℕ) → Path Tag (tag (probed_at l v x)) (tag v)
@@ -58,7 +94,11 @@ noted_hit : (log seen : Log) (noted : Option ℕ) (missed read : List ℕ) (l : 
 noted_hit log seen noted missed read l k more is = record { noted_is_next = λ j e. (more, sym (same_Some l j e) ∙ is); missed_is_not = k.missed_is_not; unnoted_is_unread = λ (e : Some l ≡ None). cc }
 
 noted_miss : (log seen : Log) (noted : Option ℕ) (missed read : List ℕ) (l : ℕ) → Notes log seen noted missed read → length seen < length log → l ≢ lane log (length seen) → Notes log seen noted (missed ++ l ∷ []) read
-noted_miss log seen noted missed read l k more is = record { noted_is_next = k.noted_is_next; missed_is_not = λ j h. ⊎_elim (λ (q : get_elem? missed h.0 ≡ some j). k.missed_is_not j (h.0, q)) (λ (q : (h.0 ≡ length missed) × (l ≡ j)). (more, λ e. is (q.1 ∙ e))) (at_end missed l j h.0 h.1); unnoted_is_unread = k.unnoted_is_unread }
+noted_miss log seen noted missed read l k more is = record {
+  noted_is_next = k.noted_is_next;
+  missed_is_not = λ j h. ⊎_elim (λ (q : get_elem? missed h.0 ≡ some j). k.missed_is_not j (h.0, q)) (λ (q : (h.0 ≡ length missed) × (l ≡ j)). (more, λ e. is (q.1 ∙ e))) (at_end missed l j h.0 h.1);
+  unnoted_is_unread = k.unnoted_is_unread;
+}
 
 module _ {K B : Type 0} (hist : K → List Entry) (beg : K → B) (p : Layout K) where
   abbrev St : Type 0
@@ -88,7 +128,14 @@ module _ {K B : Type 0} (hist : K → List Entry) (beg : K → B) (p : Layout K)
 
   pub probes : (slots id k l : ℕ) (me : M) → me.0.role ≡ Reader → l < 8 → Lives me.0.seen l → length me.0.seen < me.0.head_last → k ≡ next_slot p.stations p.places (lanes_after me.0.seen) l 1
       → Allows RuleOf slots id me k (λ x. x) (probed (step slots k 0 0 none) me)
-  probes slots id k l me role below living before is s r wide at _ = let v = me.0 in let n : ℕ = p.stations in let c : ℕ = p.places in let kn = r.each_seat id v at in let mg = r.merge in let seen : Log = v.seen in let i : ℕ = length v.seen in
+  probes slots id k l me role below living before is s r wide at _ =
+      let v = me.0 in
+      let n : ℕ = p.stations in
+      let c : ℕ = p.places in
+      let kn = r.each_seat id v at in
+      let mg = r.merge in
+      let seen : Log = v.seen in
+      let i : ℕ = length v.seen in
       let se = seated hist beg p s r id v at Reader role tt in let nt = mg.notes id v at role in let x : ℕ = get_or s.words k 0 in let pos : 0 < c = r.places.some_place in
       let more : i < length r.log = (let q = kn.head_seen_at_most_head in omega arith) in
       let prefix : take i r.log ≡ v.seen = prefix_take v.seen r.log kn.seen_is_prefix in
@@ -97,7 +144,9 @@ module _ {K B : Type 0} (hist : K → List Entry) (beg : K → B) (p : Layout K)
       let stands = stamped s r id v at role more in
       let floors : length v.floors ≡ n = mg.floors_wide id v at (subst Live (sym role) tt) in
       let w : View K = probed_at l v x in
-      let turned = λ (u : View K) (same : u.role ≡ v.role) (writes : u.wrote ≡ v.wrote) (notes : Notes r.log u.seen u.noted u.missed u.read) (floored : length u.floors ≡ n). merge_turned n c s.views id v u at s.words s.words r.log r.phase mg (λ _ _. refl) (λ e. writes ∙ mg.lead_writes id v at (subst Leads same e)) (λ _. notes) (λ _. floored) in
+      let turned =
+      λ (u : View K) (same : u.role ≡ v.role) (writes : u.wrote ≡ v.wrote) (notes : Notes r.log u.seen u.noted u.missed u.read)
+      (floored : length u.floors ≡ n). merge_turned n c s.views id v u at s.words s.words r.log r.phase mg (λ _ _. refl) (λ e. writes ∙ mg.lead_writes id v at (subst Leads same e)) (λ _. notes) (λ _. floored) in
       let merge : Merge n c s.words r.log r.phase (set s.views id w) = by_test (low x == i)
       (λ t. subst (λ (b : Bool). Merge n c s.words r.log r.phase (set s.views id (cond b (hit l v) (miss l v)))) (sym t)
       (turned (hit l v) refl refl (noted_hit r.log v.seen v.noted v.missed v.read l nt more (probe_hits c sec r.log mg.writing v.seen l pos mg.stamps more below living (shown ∙ eqb-true (low x) i t))) floors))

@@ -58,7 +58,8 @@ pub not_held : (m : Moment) (st : ℕ) → Led m → of_station st m.spans ≡ [
 not_held m st led none is same = let e = led.unled_is_free (holder_led m st led none same) in let q : held ≡ free = sym is ∙ e in cc
 
 -- no step of a lead touches another seat
-pub beside_lead : {T : Type 0} (n c : ℕ) (m m' : Moment) (u : View T) (h : ℕ) → m.phase ≡ held → h ≡ m.holder → h ≢ u.station → m'.holder ≡ m.holder → cursor m'.words u.station ≡ cursor m.words u.station → of_station u.station m'.spans ≡ of_station u.station m.spans
+pub beside_lead : {T : Type 0} (n c : ℕ) (m m' : Moment) (u : View T) (h : ℕ) → m.phase ≡ held → h ≡ m.holder → h ≢ u.station → m'.holder ≡ m.holder
+    → cursor m'.words u.station ≡ cursor m.words u.station → of_station u.station m'.spans ≡ of_station u.station m.spans
     → (r : Role) → InRole n c m u r → Own n c m m' u r
 beside_lead n c m m' u h is hs ne same cur led Reader k = record { cursor_same = cur; led_same = led; freed_on = λ q f. absurd (let e = f.is_free in let a : held ≡ free = sym is ∙ e in cc) }
 beside_lead n c m m' u h is hs ne same cur led Lead k = absurd (ne (hs ∙ sym k.is_holder))
@@ -133,14 +134,18 @@ module _ {K B : Type 0} (hist : K → List Entry) (beg : K → B) (p : Layout K)
   apart_from s r j id u v e at ne lv lu = apart_at s r j id u v e at ne lv lu v.station ((r.each_seat id v at).seated lv).last.has
 
   -- no seat is at a station whose seat is still to be made
-  pub apart_unmade : (s : St) (r : RuleOf s) (j id : ℕ) (u v : View K) → get_elem? s.views j ≡ some u → get_elem? s.views id ≡ some v → j ≢ id → Live v.role → Live u.role → (t : ℕ) → Unmade p.versions u.version u.made t → (z : ℕ) → get_elem? r.seating z ≡ some v.version → t ≢ z
-  apart_unmade s r j id u v e at ne lv lu t un z has same = ne (r.one_seat_a_version j id (tag u) (tag v) (at_map tag s.views j u e) (at_map tag s.views id v at) (lu, lv, inr (inl (un.first, inl (let a = un.not_made in let b : t ≡ v.version = one_who r.seating t z t v.version (r.doors.first t un.near) has same in omega arith)))))
+  pub apart_unmade : (s : St) (r : RuleOf s) (j id : ℕ) (u v : View K) → get_elem? s.views j ≡ some u → get_elem? s.views id ≡ some v → j ≢ id → Live v.role → Live u.role → (t : ℕ)
+      → Unmade p.versions u.version u.made t → (z : ℕ) → get_elem? r.seating z ≡ some v.version → t ≢ z
+  apart_unmade s r j id u v e at ne lv lu t un z has same = ne
+      (r.one_seat_a_version j id (tag u) (tag v) (at_map tag s.views j u e) (at_map tag s.views id v at)
+      (lu, lv, inr (inl (un.first, inl (let a = un.not_made in let b : t ≡ v.version = one_who r.seating t z t v.version (r.doors.first t un.near) has same in omega arith)))))
 
   pub in_role : (s : St) (r : RuleOf s) (id : ℕ) (v : View K) → get_elem? s.views id ≡ some v → (role : Role) → v.role ≡ role → InRole p.stations p.places (now hist beg p s r) v role
   in_role s r id v at role is = subst (InRole p.stations p.places (now hist beg p s r) v) is (r.each_seat id v at).in_role
 
   -- no other seat still has to leave a station of this seat's version
-  pub former_apart : (s : St) (r : RuleOf s) (j id : ℕ) (u v : View K) → get_elem? s.views j ≡ some u → get_elem? s.views id ≡ some v → j ≢ id → Live v.role → Live u.role → (z : ℕ) → get_elem? r.seating z ≡ some v.version → u.role ≡ Moving → u.former ≢ z
+  pub former_apart : (s : St) (r : RuleOf s) (j id : ℕ) (u v : View K) → get_elem? s.views j ≡ some u → get_elem? s.views id ≡ some v → j ≢ id → Live v.role → Live u.role → (z : ℕ)
+      → get_elem? r.seating z ≡ some v.version → u.role ≡ Moving → u.former ≢ z
   former_apart s r j id u v e at ne lv lu z has is same = apart_version s r j id u v e at ne lv lu (one_who r.seating u.former z u.version v.version (in_role s r j u e Moving is).version_is has same)
 
   pub seated : (s : St) (r : RuleOf s) (id : ℕ) (v : View K) → get_elem? s.views id ≡ some v → (role : Role) → v.role ≡ role → Live role → IsSeated p (now hist beg p s r) v

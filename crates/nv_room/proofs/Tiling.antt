@@ -131,7 +131,8 @@ opened_grown next seating [] x o = (o.0, o.1)
 opened_grown next seating (y ∷ ys) x o = (o.0, opened_grown (next + flag_bit y.handed) seating ys x o.1)
 
 -- the last span opens one more station
-pub opened_handed : (next : ℕ) (seating : List ℕ) (xs : List Span) (x : Span) → x.handed ≡ false → IsLastStation seating x.version x.station → Opened next seating (xs ++ x ∷ []) → Opened next (seating ++ x.version ∷ []) (xs ++ (record x { handed = true }) ∷ [])
+pub opened_handed : (next : ℕ) (seating : List ℕ) (xs : List Span) (x : Span) → x.handed ≡ false → IsLastStation seating x.version x.station → Opened next seating (xs ++ x ∷ [])
+    → Opened next (seating ++ x.version ∷ []) (xs ++ (record x { handed = true }) ∷ [])
 opened_handed next seating [] x e last o = let all : next ≡ length seating = (let z = unhanded_adds x e in let w = o.1 in omega arith) in (
   λ _. (subst (λ (z : List ℕ). IsLastStation z x.version x.station) (sym (take-append-le next seating (x.version ∷ []) (omega arith) ∙ take_all next seating (omega arith))) last, at_last seating x.version next (sym all)),
   (let z = length-append seating (x.version ∷ []) in omega arith),

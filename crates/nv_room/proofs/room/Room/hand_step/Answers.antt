@@ -12,7 +12,8 @@ pub store-requires : goal.store-requires
 store-requires g c = let room = c.args.self.now in let o = c.args.opening in let e = c.exchange-inside.ensures.3 in let v = ap (λ m. m.0) e in (
   c.exchange-inside.ensures.0 ∙ c.requires.of.0.0,
   subst (λ (z : ℕ). 0 < z) (sym room.sizes.2) (header_inside _ _ 0 (omega arith)),
-  hands_on g.K.SyscallKernel.log g.K.SyscallKernel.start room.table.shared.key _ _ _ o.kernel c.exchange-inside.new.seat.me (ap (λ w. w.role) v ∙ o.role) (ap (λ m. m.1) e ∙ ap (λ q. (0, Some o.kernel) ∷ rest q) o.holds) (o.history ∙ sym (ap (λ w. w.seen) v)) c.tell_lawful.ensures
+  hands_on g.K.SyscallKernel.log g.K.SyscallKernel.start room.table.shared.key _ _ _ o.kernel c.exchange-inside.new.seat.me (ap (λ w. w.role) v ∙ o.role)
+      (ap (λ m. m.1) e ∙ ap (λ q. (0, Some o.kernel) ∷ rest q) o.holds) (o.history ∙ sym (ap (λ w. w.seen) v)) c.tell_lawful.ensures
       (subst (λ w. ForSome w.start (λ s. g.K.SyscallKernel.start o.kernel ≡ g.K.SyscallKernel.start s.value)) (sym v) o.began)
       (λ j. owner_word free ((sym o.station_is ∙ sym (ap (λ w. w.station) v)) j) ((sym o.opened_is ∙ sym (ap (λ w. w.opened) v)) j + 1) ((sym o.seen_is ∙ sym (ap (λ w. length w.seen) v)) j)),
 )
@@ -34,5 +35,16 @@ invariant_of-result g c = let o = c.args.opening in let x = c.exchange-inside.en
 pub returns-clause-of : goal.returns-clause-of
 returns-clause-of g c = let room = c.args.self.now in let o = c.args.opening in let q = c.requires.of.0 in let x = c.exchange-inside.ensures.3 in let v = ap (λ m. m.0) x in let e = c.store.ensures.2.0 in let w = ap (λ m. m.0) e in
     let opened : c.store.new.seat.me.0.opened ≡ o.opened + 1 = ap (λ z. z.opened) w ∙ ap (λ z. z.opened + 1) v ∙ ap (λ (z : ℕ). z + 1) o.opened_is in
-    let version : c.store.new.seat.me.0.version ≡ o.seat.me.0.version = ap (λ z. z.version) w ∙ ap (λ z. z.version) v in
-    ((c.store.ensures.0 ∙ c.exchange-inside.ensures.0 ∙ q.0, c.requires.of.1, ap (λ z. z.places) w ∙ ap (λ z. z.places) v ∙ q.2, ap (λ z. length z.floors) w ∙ ap (λ z. length z.floors) v ∙ q.3, ap (λ z. z.start) w ∙ ap (λ z. z.start) v ∙ q.4, (let a = c.requires.of.1 in omega arith), (let a = q.6 in omega arith)), q.1)
+    let version : c.store.new.seat.me.0.version ≡ o.seat.me.0.version = ap (λ z. z.version) w ∙ ap (λ z. z.version) v in (
+      (
+        c.store.ensures.0 ∙ c.exchange-inside.ensures.0 ∙ q.0,
+        c.requires.of.1,
+        ap (λ z. z.places) w ∙ ap (λ z. z.places) v ∙ q.2,
+        ap (λ z. length z.floors) w ∙ ap (λ z. length z.floors) v ∙ q.3,
+        ap
+            (λ z. z.start) w ∙ ap (λ z. z.start) v ∙ q.4,
+        (let a = c.requires.of.1 in omega arith),
+        (let a = q.6 in omega arith),
+      ),
+      q.1,
+    )

@@ -20,7 +20,8 @@ store-requires g c = let room = c.args.self.now in let l = c.args.lead in let o 
     let near : l.opened < room.stations = (let a = l.opened_is in let b = t.2 in let d = o.3 in omega arith) in (
       c.load-head.ensures.0 ∙ o.0,
       subst (λ (z : ℕ). cursor_index l.opened < z) (sym room.sizes.2) (header_inside _ _ (cursor_index l.opened) (omega arith)),
-      opens_at _ _ _ _ _ _ _ _ (ap (λ m. m.0.role) e ∙ l.role) (ap (λ m. m.0.wrote) e ∙ nil_from_length _ (l.wrote_is ∙ l.quiet c.requires.none_due)) (subst (λ m. Has room.table.shared.key.hands.value.items (length m.0.seen)) (sym e) c.requires.planned) (subst (λ m. LastHasEvent m.0.spans) (sym e) c.requires.led)
+      opens_at _ _ _ _ _ _ _ _ (ap (λ m. m.0.role) e ∙ l.role) (ap (λ m. m.0.wrote) e ∙ nil_from_length _ (l.wrote_is ∙ l.quiet c.requires.none_due))
+          (subst (λ m. Has room.table.shared.key.hands.value.items (length m.0.seen)) (sym e) c.requires.planned) (subst (λ m. LastHasEvent m.0.spans) (sym e) c.requires.led)
           (ap cursor_index (sym l.opened_is ∙ sym (ap (λ m. m.0.opened) e))) (sym l.seen_is ∙ sym (ap (λ m. length m.0.seen) e)),
     )
 

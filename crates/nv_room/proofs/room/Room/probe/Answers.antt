@@ -19,7 +19,15 @@ word-at-requires g c = let r = c.args.reader.now in let v = r.seat.me.0 in let r
     record { lane = at.0; place = at.1; first = at.2; sizes = (f.1, f.3); small = omega arith }
 
 pub load-word-requires : goal.load-word-requires
-load-word-requires g c = let k = c.args.self.now.sizes in let r = c.args.reader.now in let v = r.seat.me.0 in let room = c.args.self.now in let o = c.requires.of in let f = room.few in let lane : ℕ = c.args.lane in let s : Spot = c.spot-spot.result in
+load-word-requires g c =
+    let k = c.args.self.now.sizes in
+    let r = c.args.reader.now in
+    let v = r.seat.me.0 in
+    let room = c.args.self.now in
+    let o = c.requires.of in
+    let f = room.few in
+    let lane : ℕ = c.args.lane in
+    let s : Spot = c.spot-spot.result in
     let at : IsSpot room.places v.seen lane s = c.spot-spot.ensures v.seen v.read (subst (λ (z : ℕ). Trails z r.trail v.seen v.read) o.2 r.trail_is) in
     let inn = spot_in room.places v.seen lane s (omega arith) at in
     let is : c.word-at.result ≡ next_slot room.stations room.places (lanes_after v.seen) lane 1 = c.word-at.ensures ∙ spot_second room.stations room.places v.seen lane s at in (
@@ -32,7 +40,9 @@ pub invariant_of-reader : goal.invariant_of-reader
 invariant_of-reader g c = let r = c.args.reader.now in let v = r.seat.me.0 in let lane : ℕ = c.args.lane in let x : ℕ = c.load-word.result in
     let room = c.args.self.now in let w = c.requires.of in
     let at : IsSpot v.places v.seen lane c.spot-spot.result = subst (λ (z : ℕ). IsSpot z v.seen lane c.spot-spot.result) (sym w.2) (c.spot-spot.ensures v.seen v.read (subst (λ (z : ℕ). Trails z r.trail v.seen v.read) w.2 r.trail_is)) in
-    let is : c.word-at.result ≡ next_slot (length v.floors) v.places (lanes_after v.seen) lane 1 = c.word-at.ensures ∙ spot_second room.stations room.places v.seen lane c.spot-spot.result (c.spot-spot.ensures v.seen v.read (subst (λ (z : ℕ). Trails z r.trail v.seen v.read) w.2 r.trail_is)) ∙ (λ j. next_slot (sym w.3 j) (sym w.2 j) (lanes_after v.seen) lane 1) in
+    let is : c.word-at.result ≡ next_slot (length v.floors) v.places (lanes_after v.seen) lane 1 =
+    c.word-at.ensures ∙ spot_second room.stations room.places v.seen lane c.spot-spot.result
+    (c.spot-spot.ensures v.seen v.read (subst (λ (z : ℕ). Trails z r.trail v.seen v.read) w.2 r.trail_is)) ∙ (λ j. next_slot (sym w.3 j) (sym w.2 j) (lanes_after v.seen) lane 1) in
     let play = c.load-word.ensures.2 lane c.requires.lane is in let e = play.0 in
     record {
       role = ap (λ m. m.0.role) e ∙ probed_same lane x v (λ w. w.role) refl refl ∙ r.role;
@@ -45,7 +55,10 @@ invariant_of-reader g c = let r = c.args.reader.now in let v = r.seat.me.0 in le
       head_is = subst (λ m. r.head ≤ m.0.head_last) (sym e) (subst (λ (z : ℕ). r.head ≤ z) (sym (probed_same lane x v (λ w. w.head_last) refl refl)) r.head_is);
       few = r.few;
       next = subst (λ m. HasNext m.0.read) (sym e) (subst HasNext (sym (probed_same lane x v (λ w. w.read) refl refl)) r.next);
-      trail_is = subst (λ m. Trails m.0.places r.trail m.0.seen m.0.read) (sym e) (subst (λ z. Trails z r.trail (probed_at lane v x).seen (probed_at lane v x).read) (sym (probed_same lane x v (λ w. w.places) refl refl)) (subst (λ z. Trails v.places r.trail z (probed_at lane v x).read) (sym (probed_same lane x v (λ w. w.seen) refl refl)) (subst (λ z. Trails v.places r.trail v.seen z) (sym (probed_same lane x v (λ w. w.read) refl refl)) r.trail_is)));
+      trail_is = subst (λ m. Trails m.0.places r.trail m.0.seen m.0.read) (sym e)
+          (subst (λ z. Trails z r.trail (probed_at lane v x).seen (probed_at lane v x).read) (sym (probed_same lane x v (λ w. w.places) refl refl))
+          (subst (λ z. Trails v.places r.trail z (probed_at lane v x).read) (sym (probed_same lane x v (λ w. w.seen) refl refl))
+          (subst (λ z. Trails v.places r.trail v.seen z) (sym (probed_same lane x v (λ w. w.read) refl refl)) r.trail_is)));
       noted_at = subst (λ m. NotedAt c.chosen-reader.result m.0) (sym e) (subst (λ z. NotedAt z (probed_at lane v x)) (sym c.chosen-reader.ensures) (noted_after lane x v r.seen c.spot-spot.result r.spot r.seen_is at r.noted_at));
     }
 
@@ -53,15 +66,28 @@ pub returns-clause-of : goal.returns-clause-of
 returns-clause-of g c = let r = c.args.reader.now in let v = r.seat.me.0 in let o = c.requires.of in let lane : ℕ = c.args.lane in let x : ℕ = c.load-word.result in
     let room = c.args.self.now in let w = c.requires.of in
     let at : IsSpot v.places v.seen lane c.spot-spot.result = subst (λ (z : ℕ). IsSpot z v.seen lane c.spot-spot.result) (sym w.2) (c.spot-spot.ensures v.seen v.read (subst (λ (z : ℕ). Trails z r.trail v.seen v.read) w.2 r.trail_is)) in
-    let is : c.word-at.result ≡ next_slot (length v.floors) v.places (lanes_after v.seen) lane 1 = c.word-at.ensures ∙ spot_second room.stations room.places v.seen lane c.spot-spot.result (c.spot-spot.ensures v.seen v.read (subst (λ (z : ℕ). Trails z r.trail v.seen v.read) w.2 r.trail_is)) ∙ (λ j. next_slot (sym w.3 j) (sym w.2 j) (lanes_after v.seen) lane 1) in
-    let play = c.load-word.ensures.2 lane c.requires.lane is in let e = play.0 in
-    (c.load-word.ensures.0 ∙ o.0, o.1, ap (λ m. m.0.places) e ∙ probed_same lane x v (λ w. w.places) refl refl ∙ o.2, ap (λ m. length m.0.floors) e ∙ probed_same lane x v (λ w. length w.floors) refl refl ∙ o.3, ap (λ m. m.0.start) e ∙ probed_same lane x v (λ w. w.start) refl refl ∙ o.4, subst (λ (z : ℕ). z ≤ room.stations) (sym (ap (λ m. m.0.opened) e ∙ probed_same lane x v (λ w. w.opened) refl refl)) o.5, subst (λ (z : ℕ). z < room.versions) (sym (ap (λ m. m.0.version) e ∙ probed_same lane x v (λ w. w.version) refl refl)) o.6)
+    let is : c.word-at.result ≡ next_slot (length v.floors) v.places (lanes_after v.seen) lane 1 =
+    c.word-at.ensures ∙ spot_second room.stations room.places v.seen lane c.spot-spot.result
+    (c.spot-spot.ensures v.seen v.read (subst (λ (z : ℕ). Trails z r.trail v.seen v.read) w.2 r.trail_is)) ∙ (λ j. next_slot (sym w.3 j) (sym w.2 j) (lanes_after v.seen) lane 1) in
+    let play = c.load-word.ensures.2 lane c.requires.lane is in let e = play.0 in (
+      c.load-word.ensures.0 ∙ o.0,
+      o.1,
+      ap (λ m. m.0.places) e ∙ probed_same lane x v (λ w. w.places) refl refl ∙ o.2,
+      ap (λ m. length m.0.floors) e ∙ probed_same lane x v
+          (λ w. length w.floors) refl refl ∙ o.3,
+      ap (λ m. m.0.start) e ∙ probed_same lane x v (λ w. w.start) refl refl ∙ o.4,
+      subst (λ (z : ℕ). z ≤ room.stations)
+          (sym (ap (λ m. m.0.opened) e ∙ probed_same lane x v (λ w. w.opened) refl refl)) o.5,
+      subst (λ (z : ℕ). z < room.versions) (sym (ap (λ m. m.0.version) e ∙ probed_same lane x v (λ w. w.version) refl refl)) o.6,
+    )
 
 pub returns-clause-hit : goal.returns-clause-hit
 returns-clause-hit g c = λ t. let r = c.args.reader.now in let v = r.seat.me.0 in let lane : ℕ = c.args.lane in let x : ℕ = c.load-word.result in
     let room = c.args.self.now in let w = c.requires.of in
     let at : IsSpot v.places v.seen lane c.spot-spot.result = subst (λ (z : ℕ). IsSpot z v.seen lane c.spot-spot.result) (sym w.2) (c.spot-spot.ensures v.seen v.read (subst (λ (z : ℕ). Trails z r.trail v.seen v.read) w.2 r.trail_is)) in
-    let is : c.word-at.result ≡ next_slot (length v.floors) v.places (lanes_after v.seen) lane 1 = c.word-at.ensures ∙ spot_second room.stations room.places v.seen lane c.spot-spot.result (c.spot-spot.ensures v.seen v.read (subst (λ (z : ℕ). Trails z r.trail v.seen v.read) w.2 r.trail_is)) ∙ (λ j. next_slot (sym w.3 j) (sym w.2 j) (lanes_after v.seen) lane 1) in
+    let is : c.word-at.result ≡ next_slot (length v.floors) v.places (lanes_after v.seen) lane 1 =
+    c.word-at.ensures ∙ spot_second room.stations room.places v.seen lane c.spot-spot.result
+    (c.spot-spot.ensures v.seen v.read (subst (λ (z : ℕ). Trails z r.trail v.seen v.read) w.2 r.trail_is)) ∙ (λ j. next_slot (sym w.3 j) (sym w.2 j) (lanes_after v.seen) lane 1) in
     let play = c.load-word.ensures.2 lane c.requires.lane is in let e = play.0 in
     ap (λ m. m.0) e ∙ probed_hit lane x v (ap (λ z. low x == z) r.seen_is ∙ t)
 
@@ -69,7 +95,9 @@ pub returns-clause-miss : goal.returns-clause-miss
 returns-clause-miss g c = λ t. let r = c.args.reader.now in let v = r.seat.me.0 in let lane : ℕ = c.args.lane in let x : ℕ = c.load-word.result in
     let room = c.args.self.now in let w = c.requires.of in
     let at : IsSpot v.places v.seen lane c.spot-spot.result = subst (λ (z : ℕ). IsSpot z v.seen lane c.spot-spot.result) (sym w.2) (c.spot-spot.ensures v.seen v.read (subst (λ (z : ℕ). Trails z r.trail v.seen v.read) w.2 r.trail_is)) in
-    let is : c.word-at.result ≡ next_slot (length v.floors) v.places (lanes_after v.seen) lane 1 = c.word-at.ensures ∙ spot_second room.stations room.places v.seen lane c.spot-spot.result (c.spot-spot.ensures v.seen v.read (subst (λ (z : ℕ). Trails z r.trail v.seen v.read) w.2 r.trail_is)) ∙ (λ j. next_slot (sym w.3 j) (sym w.2 j) (lanes_after v.seen) lane 1) in
+    let is : c.word-at.result ≡ next_slot (length v.floors) v.places (lanes_after v.seen) lane 1 =
+    c.word-at.ensures ∙ spot_second room.stations room.places v.seen lane c.spot-spot.result
+    (c.spot-spot.ensures v.seen v.read (subst (λ (z : ℕ). Trails z r.trail v.seen v.read) w.2 r.trail_is)) ∙ (λ j. next_slot (sym w.3 j) (sym w.2 j) (lanes_after v.seen) lane 1) in
     let play = c.load-word.ensures.2 lane c.requires.lane is in let e = play.0 in
     ap (λ m. m.0) e ∙ probed_miss lane x v (ap (λ z. low x == z) r.seen_is ∙ t)
 
@@ -77,7 +105,9 @@ pub returns-clause-open : goal.returns-clause-open
 returns-clause-open g c = λ t. let r = c.args.reader.now in let v = r.seat.me.0 in let lane : ℕ = c.args.lane in let x : ℕ = c.load-word.result in
     let room = c.args.self.now in let w = c.requires.of in
     let at : IsSpot v.places v.seen lane c.spot-spot.result = subst (λ (z : ℕ). IsSpot z v.seen lane c.spot-spot.result) (sym w.2) (c.spot-spot.ensures v.seen v.read (subst (λ (z : ℕ). Trails z r.trail v.seen v.read) w.2 r.trail_is)) in
-    let is : c.word-at.result ≡ next_slot (length v.floors) v.places (lanes_after v.seen) lane 1 = c.word-at.ensures ∙ spot_second room.stations room.places v.seen lane c.spot-spot.result (c.spot-spot.ensures v.seen v.read (subst (λ (z : ℕ). Trails z r.trail v.seen v.read) w.2 r.trail_is)) ∙ (λ j. next_slot (sym w.3 j) (sym w.2 j) (lanes_after v.seen) lane 1) in
+    let is : c.word-at.result ≡ next_slot (length v.floors) v.places (lanes_after v.seen) lane 1 =
+    c.word-at.ensures ∙ spot_second room.stations room.places v.seen lane c.spot-spot.result
+    (c.spot-spot.ensures v.seen v.read (subst (λ (z : ℕ). Trails z r.trail v.seen v.read) w.2 r.trail_is)) ∙ (λ j. next_slot (sym w.3 j) (sym w.2 j) (lanes_after v.seen) lane 1) in
     let play = c.load-word.ensures.2 lane c.requires.lane is in let e = play.0 in
     subst (λ w. IsOpen w.seen w.missed) (sym (ap (λ m. m.0) e ∙ probed_miss lane x v (ap (λ z. low x == z) r.seen_is ∙ t))) (play.1 (λ q. eqb-false (low x) r.seen t (q ∙ r.seen_is)))
 
@@ -85,6 +115,8 @@ pub returns-clause-word : goal.returns-clause-word
 returns-clause-word g c = let r = c.args.reader.now in let v = r.seat.me.0 in let lane : ℕ = c.args.lane in let x : ℕ = c.load-word.result in
     let room = c.args.self.now in let w = c.requires.of in
     let at : IsSpot v.places v.seen lane c.spot-spot.result = subst (λ (z : ℕ). IsSpot z v.seen lane c.spot-spot.result) (sym w.2) (c.spot-spot.ensures v.seen v.read (subst (λ (z : ℕ). Trails z r.trail v.seen v.read) w.2 r.trail_is)) in
-    let is : c.word-at.result ≡ next_slot (length v.floors) v.places (lanes_after v.seen) lane 1 = c.word-at.ensures ∙ spot_second room.stations room.places v.seen lane c.spot-spot.result (c.spot-spot.ensures v.seen v.read (subst (λ (z : ℕ). Trails z r.trail v.seen v.read) w.2 r.trail_is)) ∙ (λ j. next_slot (sym w.3 j) (sym w.2 j) (lanes_after v.seen) lane 1) in
+    let is : c.word-at.result ≡ next_slot (length v.floors) v.places (lanes_after v.seen) lane 1 =
+    c.word-at.ensures ∙ spot_second room.stations room.places v.seen lane c.spot-spot.result
+    (c.spot-spot.ensures v.seen v.read (subst (λ (z : ℕ). Trails z r.trail v.seen v.read) w.2 r.trail_is)) ∙ (λ j. next_slot (sym w.3 j) (sym w.2 j) (lanes_after v.seen) lane 1) in
     let play = c.load-word.ensures.2 lane c.requires.lane is in let e = play.0 in
     (x, ap (λ m. m.0) e)

@@ -14,5 +14,6 @@ returns-then-i-gt0 g c = let l = c.args.lead.now in let o = c.requires.0 in let 
 
 pub returns : goal.returns
 returns g c = let l = c.args.lead.now in let o = c.requires.0 in let v = l.seat.me.0 in let q = c.requires.1 in let none = c.if-i-gt0.false in
-    let here : c.lane_of-lane.result ≡ lane (v.seen ++ (v.wrote ++ c.args.word ∷ []) ∷ []) (length v.seen) = c.lane_of-lane.ensures.is ∙ ap (λ t. lane_in t.holders (low c.args.word)) l.trail_is.lanes ∙ lane_first v.seen v.wrote c.args.word (omega arith) in
+    let here : c.lane_of-lane.result ≡ lane (v.seen ++ (v.wrote ++ c.args.word ∷ []) ∷ []) (length v.seen) =
+    c.lane_of-lane.ensures.is ∙ ap (λ t. lane_in t.holders (low c.args.word)) l.trail_is.lanes ∙ lane_first v.seen v.wrote c.args.word (omega arith) in
     subst (λ (z : ℕ). IsSpot c.args.self.now.places v.seen z c.spot.result) here (c.spot.ensures v.seen v.wrote (subst (λ (z : ℕ). Trails z l.trail v.seen v.wrote) o.2 l.trail_is))

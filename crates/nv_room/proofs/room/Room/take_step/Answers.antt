@@ -49,7 +49,8 @@ zeros s xs = subst (λ (z : ℕ). z ≤ get_or xs s 0) (sym (all s)) zero-le
 pub invariant_of-result : goal.invariant_of-result
 invariant_of-result g c = let r = c.args.reader in let t = c.store.ensures.2 in let e = c.exchange-inside.ensures.3 in let v = ap (λ m. m.0) e ∙ ap (λ m. m.0) t.1 in
     let h = g.K.SyscallKernel.log c.in-Some.kernel in
-    let same : t.0 ≡ c.in-Some.kernel = same_Some t.0 c.in-Some.kernel (same_head (Some t.0) (Some c.in-Some.kernel) _ _ (sym (ap (λ m. m.1) t.1) ∙ c.exchange-inside.ensures.2 ∙ ap (λ z. (0, z) ∷ rest c.store.new.seat.me.1) c.in-Some.is)) in
+    let same : t.0 ≡ c.in-Some.kernel =
+    same_Some t.0 c.in-Some.kernel (same_head (Some t.0) (Some c.in-Some.kernel) _ _ (sym (ap (λ m. m.1) t.1) ∙ c.exchange-inside.ensures.2 ∙ ap (λ z. (0, z) ∷ rest c.store.new.seat.me.1) c.in-Some.is)) in
     let tells : map spell h ≡ r.seat.me.0.seen = ap (λ z. map spell (g.K.SyscallKernel.log z)) (sym same) ∙ t.2 in
     let long : length h ≡ r.seen = sym (length-map h spell) ∙ ap length tells ∙ r.seen_is in
     let o = c.requires.of in record {
@@ -66,8 +67,15 @@ invariant_of-result g c = let r = c.args.reader in let t = c.store.ensures.2 in 
       few = (r.few.0, omega arith);
       floors_are = λ s b. zeros s c.exchange-inside.new.seat.me.0.floors;
       spot_is = λ w. absurd (let q = ap (λ z. length z.wrote) v in let t' = ap length t.4 in omega arith);
-      trail_is = record { lanes = r.trail_is.lanes ∙ ap lanes_after (sym (ap (λ w. w.seen) v)); pool_is = (r.trail_is.pool_is.0 ∙ ap pool_chunks (sym (ap (λ w. w.places) v)), r.trail_is.pool_is.1 ∙ sym (ap (λ w. w.places) v)); pool = subst (λ z. Holds r.trail.pool (sizes z)) (sym (ap (λ w. w.seen) v)) r.trail_is.pool; first = λ w. absurd (let q = ap (λ z. length z.wrote) v in let t' = ap length t.4 in omega arith); sixth = λ w. absurd (let q = ap (λ z. length z.wrote) v in let t' = ap length t.4 in omega arith) };
+      trail_is = record {
+        lanes = r.trail_is.lanes ∙ ap lanes_after (sym (ap (λ w. w.seen) v));
+        pool_is = (r.trail_is.pool_is.0 ∙ ap pool_chunks (sym (ap (λ w. w.places) v)), r.trail_is.pool_is.1 ∙ sym (ap (λ w. w.places) v));
+        pool = subst (λ z. Holds r.trail.pool (sizes z)) (sym (ap (λ w. w.seen) v)) r.trail_is.pool;
+        first = λ w. absurd (let q = ap (λ z. length z.wrote) v in let t' = ap length t.4 in omega arith);
+        sixth = λ w. absurd (let q = ap (λ z. length z.wrote) v in let t' = ap length t.4 in omega arith);
+      };
       history = take_all r.seen (map spell h) (omega (arith, length-map h spell)) ∙ tells ∙ sym (ap (λ w. w.seen) v);
       longer = long ∙ sym (add-zero r.seen);
-      began = subst (λ w. ForSome w.start (λ s. g.K.SyscallKernel.start c.in-Some.kernel ≡ g.K.SyscallKernel.start s.value)) (sym v) (subst (λ z. ForSome r.seat.me.0.start (λ s. g.K.SyscallKernel.start z ≡ g.K.SyscallKernel.start s.value)) same t.3);
+      began = subst (λ w. ForSome w.start (λ s. g.K.SyscallKernel.start c.in-Some.kernel ≡ g.K.SyscallKernel.start s.value)) (sym v)
+          (subst (λ z. ForSome r.seat.me.0.start (λ s. g.K.SyscallKernel.start z ≡ g.K.SyscallKernel.start s.value)) same t.3);
     }
