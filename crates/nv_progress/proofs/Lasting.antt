@@ -65,7 +65,7 @@ module _ {K B : Type 0} (hist : K → List Entry) (beg : K → B) (p : Layout K)
   role_of role is = subst (InRole p.stations p.places (moment r) u) is (r.each_seat id u at).in_role
 
   few : length r.log ≤ 131072
-  few = r.places.log_is_short
+  few = r.common.places.log_is_short
 
   short : length u.seen ≤ length r.log
   short = prefix_length u.seen r.log (r.each_seat id u at).seen_is_prefix
@@ -114,7 +114,7 @@ module _ {K B : Type 0} (hist : K → List Entry) (beg : K → B) (p : Layout K)
       let a = get_or-set_other s.words i head_index x 0 (λ e. place_after p.stations p.places log (length u.seen) (length u.wrote) head_index (omega arith) (sym e)) in
       omega arith
   head_up st own next sees q = let a = get_or-set_other s.words (cursor_index u.station) head_index (length u.seen + 1) 0 (λ e. omega arith) in omega arith
-  head_up st own next publishes q = set_up s.words head_index (length u.seen + 1) head_index (let a = (role_of Lead q.0).seen_is_log in let b = r.places.head_is_length in omega arith)
+  head_up st own next publishes q = set_up s.words head_index (length u.seen + 1) head_index (let a = (role_of Lead q.0).seen_is_log in let b = r.common.places.head_is_length in omega arith)
   head_up st own next takes q = let a = get_or-set_other s.words owner_index head_index (owner_word held u.station u.opened (length u.seen)) 0 (λ e. omega arith) in omega arith
   head_up st own next (gives_up x) q = let a = get_or-set_other s.words owner_index head_index x 0 (λ e. omega arith) in omega arith
   head_up st own next leaves q = let a = get_or-set_other s.words (cursor_index u.station) head_index GONE 0 (λ e. omega arith) in omega arith
@@ -139,16 +139,16 @@ module _ {K B : Type 0} (hist : K → List Entry) (beg : K → B) (p : Layout K)
 
   pub longer : length r.log ≤ length r'.log
   longer =
-      let a = r.places.head_is_length in
-      let b = r'.places.head_is_length in
+      let a = r.common.places.head_is_length in
+      let b = r'.common.places.head_is_length in
       let c : get_or s.words head_index 0 ≤ get_or s'.words head_index 0 = subst (λ (z : List ℕ). get_or s.words head_index 0 ≤ get_or z head_index 0) (sym d.words) (head_up hist beg p s r u id d.at d.step d.me.1 d.next k d.plays) in
       omega arith
 
   same_length : Quiet s.words s'.words → length r'.log ≡ length r.log
-  same_length q = let a = r.places.head_is_length in let b = r'.places.head_is_length in let c = q.head in omega arith
+  same_length q = let a = r.common.places.head_is_length in let b = r'.common.places.head_is_length in let c = q.head in omega arith
 
   phase_on : Quiet s.words s'.words → r'.phase ≡ r.phase
-  phase_on q = same_phase r'.phase r.phase _ _ _ _ _ _ (sym r'.places.owner_is ∙ q.owner ∙ r.places.owner_is)
+  phase_on q = same_phase r'.phase r.phase _ _ _ _ _ _ (sym r'.common.places.owner_is ∙ q.owner ∙ r.common.places.owner_is)
 
   free_held : r.phase ≡ free → r.phase ≡ held → ⊥
   free_held is h = let q : free ≡ held = sym is ∙ h in cc

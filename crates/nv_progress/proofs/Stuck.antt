@@ -44,7 +44,7 @@ module _ {K B : Type 0} (hist : K → List Entry) (beg : K → B) (p : Layout K)
     pub others : (u : ℕ) → get_elem? r.seating u ≡ some view.version → u ≢ view.station → (view.role ≡ Moving → u ≢ view.former) → GONE ≤ cursor s.words u
 
   pub sits : AllSeated p s.views → (t : ℕ) → t < length r.seating → Sits t
-  sits all t near = let w = there r.seating t near in let q = all w.0 (r.doors.is_version t w.0 w.1) in record {
+  sits all t near = let w = there r.seating t near in let q = all w.0 (r.common.doors.is_version t w.0 w.1) in record {
     id = q.0;
     view = q.1;
     at = q.2;
@@ -74,7 +74,7 @@ module _ {K B : Type 0} (hist : K → List Entry) (beg : K → B) (p : Layout K)
   reads_on v is ne less Opening l k = absurd (ne k.is_holder)
   reads_on v is ne less Leaving l k = absurd (k.not_held is)
   reads_on v is ne less Moving l k = absurd (k.not_held is)
-  reads_on v is ne less Gone l k = let few : length r.log ≤ 131072 = r.places.log_is_short in let g = k.cursor_is_gone in absurd (omega arith)
+  reads_on v is ne less Gone l k = let few : length r.log ≤ 131072 = r.common.places.log_is_short in let g = k.cursor_is_gone in absurd (omega arith)
   reads_on v is ne less Spent l k = absurd l
 
   moving_free : (id : ℕ) (v : View K) → get_elem? s.views id ≡ some v → v.role ≡ Moving → r.phase ≡ held → ⊥
@@ -83,7 +83,7 @@ module _ {K B : Type 0} (hist : K → List Entry) (beg : K → B) (p : Layout K)
   -- a station behind the log has an event to see
   pub behind : AllSeated p s.views → r.phase ≡ held → (t : ℕ) → t ≢ r.holder → t < length r.seating → cursor s.words t < length r.log
       → SomeSeat s.views (λ v. (v.station ≡ t) × CanGetOn p.places m v v.role × HasEvent m v)
-  behind all is t ne near less = let k = sits all t near in let few : length r.log ≤ 131072 = r.places.log_is_short in ⊎_elim
+  behind all is t ne near less = let k = sits all t near in let few : length r.log ≤ 131072 = r.common.places.log_is_short in ⊎_elim
       (λ (e : t ≡ k.view.station). let q = reads_on k.view is (λ f. ne (e ∙ f)) (subst (λ (z : ℕ). cursor s.words z < length r.log) e less) k.view.role k.live (r.each_seat k.id k.view k.at).in_role in (k.id, k.view, k.at, (sym e, q.0, q.1)))
       (λ (q : (k.view.role ≡ Moving) ⊎ (GONE ≤ cursor s.words t)). ⊎_elim
       (λ (e : k.view.role ≡ Moving). absurd (moving_free k.id k.view k.at e is))
@@ -99,7 +99,7 @@ module _ {K B : Type 0} (hist : K → List Entry) (beg : K → B) (p : Layout K)
       (λ (f : (t : ℕ) → t ≢ r.holder → t < k → FitsAll p.places r.log (cursor s.words t)). dite (ℕ_discrete k r.holder)
       (λ own. inl (λ t ne lt. dite (ℕ_discrete t k) (λ e. absurd (ne (e ∙ own))) (λ other. f t ne (omega arith))))
       (λ other. dite (dec_le (length r.log) (cursor s.words k))
-      (λ past. inl (λ t ne lt. dite (ℕ_discrete t k) (λ e. subst (λ (z : ℕ). FitsAll p.places r.log (cursor s.words z)) (sym e) (past_fit p.places r.log (cursor s.words k) r.places.some_place past)) (λ ne2. f t ne (omega arith))))
+      (λ past. inl (λ t ne lt. dite (ℕ_discrete t k) (λ e. subst (λ (z : ℕ). FitsAll p.places r.log (cursor s.words z)) (sym e) (past_fit p.places r.log (cursor s.words k) r.common.places.some_place past)) (λ ne2. f t ne (omega arith))))
       (λ late. inr (k, other, (omega arith), lt_of_not-le late))))
       (λ late. inr late)
       (place_or_late k (omega arith))
@@ -126,7 +126,7 @@ module _ {K B : Type 0} (hist : K → List Entry) (beg : K → B) (p : Layout K)
   pub waited_for : AllSeated p s.views → r.phase ≡ held → (t : ℕ) → t ≢ r.holder → t < length r.seating → ¬ FitsAll p.places r.log (cursor s.words t)
       → SomeSeat s.views (λ v. (v.station ≡ t) × CanGetOn p.places m v v.role × HasEvent m v)
   waited_for all is t ne near full = dite (dec_le (length r.log) (cursor s.words t))
-      (λ past. absurd (full (past_fit p.places r.log (cursor s.words t) r.places.some_place past)))
+      (λ past. absurd (full (past_fit p.places r.log (cursor s.words t) r.common.places.some_place past)))
       (λ late. behind all is t ne near (lt_of_not-le late))
 
   -- While it is free
@@ -175,11 +175,11 @@ module _ {K B : Type 0} (hist : K → List Entry) (beg : K → B) (p : Layout K)
       (lowest_below k (omega arith))
 
   stays_counts : (v : View K) → r.phase ≡ free → length v.seen ≤ length r.log → (role : Role) → Stays role → InRole p.stations p.places m v role → cursor s.words v.station < GONE
-  stays_counts v is few Reader l k = let a = k.cursor_is_length in let b : length r.log ≤ 131072 = r.places.log_is_short in omega arith
+  stays_counts v is few Reader l k = let a = k.cursor_is_length in let b : length r.log ≤ 131072 = r.common.places.log_is_short in omega arith
   stays_counts v is few Lead l k = absurd (free_held is k.is_held)
   stays_counts v is few Opening l k = absurd (free_held is k.is_held)
-  stays_counts v is few Leaving l k = let a = k.cursor_is_count in let b : length r.log ≤ 131072 = r.places.log_is_short in omega arith
-  stays_counts v is few Moving l k = let a = k.cursor_is_length in let b : length r.log ≤ 131072 = r.places.log_is_short in omega arith
+  stays_counts v is few Leaving l k = let a = k.cursor_is_count in let b : length r.log ≤ 131072 = r.common.places.log_is_short in omega arith
+  stays_counts v is few Moving l k = let a = k.cursor_is_length in let b : length r.log ≤ 131072 = r.common.places.log_is_short in omega arith
   stays_counts v is few Gone l k = absurd l
   stays_counts v is few Spent l k = absurd l
 
@@ -205,7 +205,7 @@ module _ {K B : Type 0} (hist : K → List Entry) (beg : K → B) (p : Layout K)
   closed_held is h = let q : closed ≡ held = sym is ∙ h in cc
 
   ends : (xs : Log) → r.phase ≡ closed → xs ≡ r.log → TellsEnd xs
-  ends xs is same = (r.events, r.log_is_spelt ∙ sym same, r.log_is_lawful, r.closed_has_ended is)
+  ends xs is same = (r.common.events, r.common.log_is_spelt ∙ sym same, r.common.log_is_lawful, r.common.closed_has_ended is)
 
   closed_on : (v : View K) (id : ℕ) → get_elem? s.views id ≡ some v → r.phase ≡ closed → (role : Role) → Stays role → InRole p.stations p.places m v role → CanGetOn p.places m v role
   closed_on v id at is Reader l k = dite (dec_le (length r.log) (length v.seen))

@@ -152,42 +152,42 @@ module _ {K B : Type 0} (hist : K → List Entry) (beg : K → B) (p : Layout K)
       → (d.next.0.role ≡ Reader) × Saw old (moment r') d.next.0
   own_step s s' r r' (looks_head x) d v me look finds is saw =
       let e : d.next.0 ≡ head_seen v x = ap (λ z. z.0) d.plays.0 ∙ ap (λ (z : View K). head_seen z x) me in
-      let a = r.places.head_is_length in
-      let b = r'.places.head_is_length in
+      let a = r.common.places.head_is_length in
+      let b = r'.common.places.head_is_length in
       let same = ap (λ (z : List ℕ). get_or z 8 0) d.words in
-      let ph = same_phase r'.phase r.phase _ _ _ _ _ _ (sym r'.places.owner_is ∙ ap (λ (z : List ℕ). get_or z 0 0) d.words ∙ r.places.owner_is) in
+      let ph = same_phase r'.phase r.phase _ _ _ _ _ _ (sym r'.common.places.owner_is ∙ ap (λ (z : List ℕ). get_or z 0 0) d.words ∙ r.common.places.owner_is) in
       (ap (λ (z : View K). z.role) e ∙ is, subst (Saw old (moment r')) (sym e) (head_saw old (moment r) (moment r') (omega arith) ph (λ t. ap (λ (z : List ℕ). cursor z t) d.words) v x (finds ∙ a) saw))
   own_step s s' r r' (looks_owner x) d v me look finds is saw =
       let e : d.next.0 ≡ owner_seen v x = ap (λ z. z.0) d.plays.1.0 ∙ ap (λ (z : View K). owner_seen z x) me in
-      let a = r.places.head_is_length in
-      let b = r'.places.head_is_length in
+      let a = r.common.places.head_is_length in
+      let b = r'.common.places.head_is_length in
       let same = ap (λ (z : List ℕ). get_or z 8 0) d.words in
-      let ph = same_phase r'.phase r.phase _ _ _ _ _ _ (sym r'.places.owner_is ∙ ap (λ (z : List ℕ). get_or z 0 0) d.words ∙ r.places.owner_is) in (
+      let ph = same_phase r'.phase r.phase _ _ _ _ _ _ (sym r'.common.places.owner_is ∙ ap (λ (z : List ℕ). get_or z 0 0) d.words ∙ r.common.places.owner_is) in (
         ap (λ (z : View K). z.role) e ∙ is,
         subst (Saw old (moment r')) (sym e) (owner_saw old (moment r) (moment r') (omega arith) ph (λ t. ap (λ (z : List ℕ). cursor z t) d.words) v x
-            (word_free x r.holder (length r.seating) (length r.log) r.phase (finds ∙ r.places.owner_is)) (word_closed x r.holder (length r.seating) (length r.log) r.phase (finds ∙ r.places.owner_is)) saw),
+            (word_free x r.holder (length r.seating) (length r.log) r.phase (finds ∙ r.common.places.owner_is)) (word_closed x r.holder (length r.seating) (length r.log) r.phase (finds ∙ r.common.places.owner_is)) saw),
       )
   own_step s s' r r' (looks_cursor t x) d v me look finds is saw =
       let e : d.next.0 ≡ cursor_seen t v x = ap (λ z. z.0) (d.plays.1.1 t d.plays.0).0 ∙ ap (λ (z : View K). cursor_seen t z x) me in
-      let a = r.places.head_is_length in
-      let b = r'.places.head_is_length in
+      let a = r.common.places.head_is_length in
+      let b = r'.common.places.head_is_length in
       let same = ap (λ (z : List ℕ). get_or z 8 0) d.words in
-      let ph = same_phase r'.phase r.phase _ _ _ _ _ _ (sym r'.places.owner_is ∙ ap (λ (z : List ℕ). get_or z 0 0) d.words ∙ r.places.owner_is) in
+      let ph = same_phase r'.phase r.phase _ _ _ _ _ _ (sym r'.common.places.owner_is ∙ ap (λ (z : List ℕ). get_or z 0 0) d.words ∙ r.common.places.owner_is) in
       (ap (λ (z : View K). z.role) e ∙ is, subst (Saw old (moment r')) (sym e) (cursor_saw old (moment r) (moment r') (omega arith) ph (λ q. ap (λ (z : List ℕ). cursor z q) d.words) v t x finds saw))
   own_step s s' r r' (looks_spare x) d v me look finds is saw = absurd (let q : Reader ≡ Lead = sym is ∙ ap (λ (z : View K). z.role) (sym me) ∙ d.plays.0 in cc)
   own_step s s' r r' (probes l x) d v me look finds is saw =
       let e : d.next.0 ≡ probed_at l v x = ap (λ z. z.0) (d.plays.3 l d.plays.1 d.plays.2).0 ∙ ap (λ (z : View K). probed_at l z x) me in
-      let a = r.places.head_is_length in
-      let b = r'.places.head_is_length in
+      let a = r.common.places.head_is_length in
+      let b = r'.common.places.head_is_length in
       let same = ap (λ (z : List ℕ). get_or z 8 0) d.words in
-      let ph = same_phase r'.phase r.phase _ _ _ _ _ _ (sym r'.places.owner_is ∙ ap (λ (z : List ℕ). get_or z 0 0) d.words ∙ r.places.owner_is) in
+      let ph = same_phase r'.phase r.phase _ _ _ _ _ _ (sym r'.common.places.owner_is ∙ ap (λ (z : List ℕ). get_or z 0 0) d.words ∙ r.common.places.owner_is) in
       (ap (λ (z : View K). z.role) e ∙ by_probe l x v (low x == length v.seen) ∙ is, subst (Saw old (moment r')) (sym e) (probe_saw old (moment r) (moment r') (omega arith) ph (λ q. ap (λ (z : List ℕ). cursor z q) d.words) v l (low x == length v.seen) saw))
   own_step s s' r r' (reads x) d v me look finds is saw =
       let e : d.next.0 ≡ word_seen v x = ap (λ z. z.0) d.plays.1.0 ∙ ap (λ (z : View K). word_seen z x) me in
-      let a = r.places.head_is_length in
-      let b = r'.places.head_is_length in
+      let a = r.common.places.head_is_length in
+      let b = r'.common.places.head_is_length in
       let same = ap (λ (z : List ℕ). get_or z 8 0) d.words in
-      let ph = same_phase r'.phase r.phase _ _ _ _ _ _ (sym r'.places.owner_is ∙ ap (λ (z : List ℕ). get_or z 0 0) d.words ∙ r.places.owner_is) in
+      let ph = same_phase r'.phase r.phase _ _ _ _ _ _ (sym r'.common.places.owner_is ∙ ap (λ (z : List ℕ). get_or z 0 0) d.words ∙ r.common.places.owner_is) in
       (ap (λ (z : View K). z.role) e ∙ is, subst (Saw old (moment r')) (sym e) (kept_saw old (moment r) (moment r') (omega arith) ph (λ q. ap (λ (z : List ℕ). cursor z q) d.words) v (word_seen v x) refl refl refl refl refl refl refl refl refl saw))
   own_step s s' r r' (writes x) d v me look finds is saw = absurd (let q : Reader ≡ Lead = sym is ∙ ap (λ (z : View K). z.role) (sym me) ∙ d.plays.0 in cc)
   own_step s s' r r' sees d v me look finds is saw = absurd (omega arith)

@@ -151,12 +151,13 @@ module _ {K B : Type 0} (hist : K → List Entry) (beg : K → B) (p : Layout K)
 
   -- the first seat cuts off the seat of the station that it makes next
   pub splits : (id : ℕ) (v : View K) → v.role ≡ Reader → v.version ≡ 0 → v.station ≡ 0 → v.opened ≡ p.versions → 0 < v.made → v.made < p.versions → v.ended ≡ [] → Splits RuleOf id v (one_made v) (reader_of v)
-  splits id v role zeroth at_zero all pos near ended s r at = let n : ℕ = p.stations in let c : ℕ = p.places in let kn = r.each_seat id v at in let pl = r.places in let m : Moment = now hist beg p s r in
+  splits id v role zeroth at_zero all pos near ended s r at = let n : ℕ = p.stations in let c : ℕ = p.places in let kn = r.each_seat id v at in let pl = r.common.places in let m : Moment = now hist beg p s r in
       let ir = in_role hist beg p s r id v at Reader role in let se = seated hist beg p s r id v at Reader role tt in
       let vs : List (View K) = set s.views id (one_made v) in let t : ℕ = v.made in let es : List ℕ = map version_of v.ended in
       let mine : cursor s.words v.station ≡ length v.seen = ir.cursor_is_length in let short = prefix_length v.seen r.log kn.seen_is_prefix in let few = pl.log_is_short in
       let low : r.holder ≡ 0 = dite (dec_le 1 r.holder) (λ le. let g = pl.lower_are_gone 0 le in let same : cursor s.words v.station ≡ cursor s.words 0 = ap (cursor s.words) at_zero in absurd (omega arith)) (λ gt. omega arith) in
-      let unled : r.spans ≡ [] = holder_led m v.station r.led ir.led_nothing (at_zero ∙ sym low) in let d = r.doors in let whole : p.versions ≡ length r.seating = subst (Opened p.versions r.seating) unled r.turns.opened in
+      let unled : r.spans ≡ [] = holder_led m v.station r.common.led ir.led_nothing (at_zero ∙ sym low) in
+      let d = r.common.doors in let whole : p.versions ≡ length r.seating = subst (Opened p.versions r.seating) unled r.common.turns.opened in
       let fresh_cursor : cursor s.words t ≡ 0 = se.unmade_is_new t record { first = zeroth; other = pos; not_made = le_refl t; near = near } in
       let none_of : (z : ℕ) → of_station z r.spans ≡ [] = λ z. ap (of_station z) unled in
       let alone : (z : ℕ) → get_elem? r.seating z ≡ some t → z ≡ t = λ z e. let b : z < p.versions = (let y = at_below r.seating z t e in omega arith) in one_who r.seating z z z t (d.first z b) e refl in
@@ -203,20 +204,12 @@ module _ {K B : Type 0} (hist : K → List Entry) (beg : K → B) (p : Layout K)
       let e₁ : map tag vs ≡ set (map tag s.views) id (Reader, 0, t + 1, es) = map-set tag s.views id (one_made v) ∙ (λ i. set (map tag s.views) id (role i, zeroth i, t + 1, es)) in
       let path : map tag (vs ++ reader_of v ∷ []) ≡ set (map tag s.views) id (Reader, 0, t + 1, es) ++ (Reader, t, 0, []) ∷ [] = map-append tag vs (reader_of v ∷ []) ∙ (λ i. e₁ i ++ (Reader, t, 0, []) ∷ []) in record {
         log = r.log;
-        events = r.events;
         phase = r.phase;
         holder = r.holder;
         spans = r.spans;
         seating = r.seating;
         ready = r.ready;
-        log_is_spelt = r.log_is_spelt;
-        log_is_lawful = r.log_is_lawful;
-        closed_has_ended = r.closed_has_ended;
-        home = r.home;
-        places = r.places;
-        led = r.led;
-        doors = r.doors;
-        turns = r.turns;
+        common = r.common;
         merge = merge_cut n c s.words r.log r.phase vs (reader_of v)
             (merge_turned n c s.views id v (one_made v) at s.words s.words r.log r.phase r.merge (λ _ _. refl) (λ e. r.merge.lead_writes id v at e) (λ e. r.merge.notes id v at e) (λ l. r.merge.floors_wide id v at l))
             refl (notes_none r.log [] [] refl) (length-replicate (length v.floors) 0 ∙ r.merge.floors_wide id v at (subst Live (sym role) tt));
@@ -260,20 +253,12 @@ module _ {K B : Type 0} (hist : K → List Entry) (beg : K → B) (p : Layout K)
       let e₁ : map tag vs ≡ set ts id (v.role, v.version, v.made, es ++ w.version ∷ []) = map-set tag s.views id (rejoined v w) ∙ (λ k. set ts id (v.role, v.version, v.made, map-append version_of v.ended (x ∷ []) k)) in
       let path : map tag (set vs other spent) ≡ set (set ts id (v.role, v.version, v.made, es ++ w.version ∷ [])) other (Spent, 0, 0, []) = map-set tag vs other spent ∙ (λ k. set (e₁ k) other (Spent, 0, 0, [])) in record {
         log = r.log;
-        events = r.events;
         phase = r.phase;
         holder = r.holder;
         spans = r.spans;
         seating = r.seating;
         ready = r.ready;
-        log_is_spelt = r.log_is_spelt;
-        log_is_lawful = r.log_is_lawful;
-        closed_has_ended = r.closed_has_ended;
-        home = r.home;
-        places = r.places;
-        led = r.led;
-        doors = r.doors;
-        turns = r.turns;
+        common = r.common;
         held_has_lead = λ e. lead_stays vs other r.holder w spent at' (λ q. absurd (subst Leads gone q)) (lead_stays s.views id r.holder v (rejoined v w) at (λ q. (q, refl)) (r.held_has_lead e));
         merge = merge_turned n c vs other w spent at' s.words s.words r.log r.phase
             (merge_turned n c s.views id v (rejoined v w) at s.words s.words r.log r.phase r.merge (λ _ _. refl) (λ e. r.merge.lead_writes id v at e) (λ e. r.merge.notes id v at e) (λ l. r.merge.floors_wide id v at l))
@@ -291,35 +276,50 @@ module _ {K B : Type 0} (hist : K → List Entry) (beg : K → B) (p : Layout K)
       → length ws ≡ table_words p.stations p.places → get_or ws 0 0 ≡ p.versions * 64 → ((i : ℕ) → i ≢ 0 → get_or ws i 0 ≡ 0) → RuleOf (opening ws (Some k ∷ []) (first p))
   opens ws k empty same some_version all few pos wide word zeros = let u : ℕ = p.versions in let cur : (z : ℕ) → cursor ws z ≡ 0 = λ z. zeros (cursor_index z) (λ e. omega arith) in let long = length-numbers 0 u in record {
     log = [];
-    events = [];
     phase = free;
     holder = 0;
     spans = [];
     seating = numbers 0 u;
     ready = u;
-    log_is_spelt = refl;
-    log_is_lawful = lawful_none;
-    closed_has_ended = λ e. cc;
-    home = (k, refl, empty, ap beg (sym same));
-    places = record {
-      some_place = pos;
-      few_stations = few;
-      words_are_all = wide;
-      owner_is = word ∙ omega arith;
-      holder_is_open = omega arith;
-      lower_are_gone = λ s l. absurd (omega arith);
-      lead_counts = λ e. cc;
-      head_is_length = zeros head_index (λ e. omega arith);
-      cursor_is_count_or_gone = λ s l. inl (let z = cur s in omega arith);
-      head_in_window = λ s a l. omega arith;
-      unread_stands = λ i s e a l le f. absurd (some-ne-none e (sym f));
-      event_is_whole = λ i e f. absurd (some-ne-none e (sym f));
-      log_is_short = omega arith;
+    common = record {
+      events = [];
+      log_is_spelt = refl;
+      log_is_lawful = lawful_none;
+      closed_has_ended = λ e. cc;
+      home = (k, refl, empty, ap beg (sym same));
+      places = record {
+        some_place = pos;
+        few_stations = few;
+        words_are_all = wide;
+        owner_is = word ∙ omega arith;
+        holder_is_open = omega arith;
+        lower_are_gone = λ s l. absurd (omega arith);
+        lead_counts = λ e. cc;
+        head_is_length = zeros head_index (λ e. omega arith);
+        cursor_is_count_or_gone = λ s l. inl (let z = cur s in omega arith);
+        head_in_window = λ s a l. omega arith;
+        unread_stands = λ i s e a l le f. absurd (some-ne-none e (sym f));
+        event_is_whole = λ i e f. absurd (some-ne-none e (sym f));
+        log_is_short = omega arith;
+      };
+      led = record {
+        tile = refl;
+        rise = tt;
+        last_is_holders = λ xs x e. (let a = ap (λ (z : List Span). length z) e in let b = length-append xs (x ∷ []) in absurd (omega arith));
+        unled_is_free = λ e. refl;
+      };
+      doors = record {
+        all = all;
+        least = omega arith;
+        first = λ s l. number_from u s l;
+        is_version = λ s v e. (let q = numbers_below 0 u s v e in omega arith);
+        ready_is = inl (sym long);
+        shut = λ s a b. cur s;
+        planned = omega arith;
+      };
+      turns = record { who_is = λ i x e. absurd (some-ne-none x (sym e)); opened = sym long; unhanded = λ e. cc; left_over = λ e. cc };
     };
     held_has_lead = λ e. cc;
-    doors = record { all = all; least = omega arith; first = λ s l. number_from u s l; is_version = λ s v e. (let q = numbers_below 0 u s v e in omega arith); ready_is = inl (sym long); shut = λ s a b. cur s; planned = omega arith };
-    turns = record { who_is = λ i x e. absurd (some-ne-none x (sym e)); opened = sym long; unhanded = λ e. cc; left_over = λ e. cc };
-    led = record { tile = refl; rise = tt; last_is_holders = λ xs x e. (let a = ap (λ (z : List Span). length z) e in let b = length-append xs (x ∷ []) in absurd (omega arith)); unled_is_free = λ e. refl };
     merge = record {
       writing = [];
       stamps = stamps_first p.places (stamp_word p.stations p.places ws) (λ l k. zeros (slot p.stations p.places l k 1) (slot_after p.stations p.places l k 1 0 (omega arith)));

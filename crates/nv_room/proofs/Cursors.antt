@@ -2,6 +2,7 @@
 use Rattle.std.proofs.Common.{◌≡◌, ℕ, ◌+◌, ◌<◌, ◌≤◌, ◌≢◌, ◌⊎◌, List, [], ◌∷◌, ◌++◌, map, length, get_or, set}
 use Rattle.std.proofs.Common.{sym, refl, ap, ◌∙◌, subst, inl, inr, ⊎_elim, le_trans, le_refl, lt_of_not-le, arith, length-append, length-set, get_or-set_other, get_or-set_same}
 use mathlib.Core.Logic.{dite}
+use mathlib.Core.Option as maybe
 use mathlib.Core.Option.{none, some, some-injective, some-ne-none}
 use native.Mathlib.Decide.{ℕ_discrete, dec_le}
 use lib.ListN.{get_elem?}
@@ -18,13 +19,13 @@ use Rattle.nv_room.specs.declared.view.Role.{Role}
 use Rattle.nv_room.specs.declared.view.Role.TheVariants.{Reader, Lead, Opening, Leaving, Moving, Gone, Spent}
 use Rattle.nv_room.specs.Placement.{Log, word_place}
 use Rattle.nv_room.specs.Owner.{GONE, held}
-use Rattle.nv_room.specs.Room.{cursor, Moment, as_of, Places, Doors, Led, InRole, IsSeated, Live, Leads, tag, NoClash, Rule}
+use Rattle.nv_room.specs.Room.{cursor, Moment, as_of, Places, Doors, Led, Common, InRole, IsSeated, Live, Leads, tag, NoClash, Rule}
 use Rattle.nv_room.specs.Steps.{one_on, goes_ahead, as_gone, left}
 use Rattle.nv_room.proofs.Lists.{at_below, there}
 use Rattle.nv_room.proofs.Placement.{place_after, header_inside}
 use Rattle.nv_places.specs.Header.{head_index, cursor_index}
 use Rattle.nv_room.proofs.Merges.{merge_turned, second_kept, notes_none}
-use Rattle.nv_room.proofs.Stays.{Onward, Own, last_near, planned, lead_stays, logged, same_tags, past_on, now, moved}
+use Rattle.nv_room.proofs.Stays.{Onward, Own, last_near, planned, lead_stays, same_tags, past_on, now, moved}
 use Rattle.nv_room.proofs.Seats.{prefix_more, not_held, none_above, unmade_apart, apart_role, former_apart, apart_from, apart_unmade, in_role, seated, open_near, seat_near, role_near, told}
 
 module _ (n c : ℕ) (m : Moment) (i x : ℕ) (pl : Places n c m) (near : i < n) (up : cursor m.words i ≤ x) where
@@ -113,6 +114,21 @@ module _ (n c : ℕ) (m : Moment) (i x : ℕ) (pl : Places n c m) (near : i < n)
   own_risen u ne Spent other = tt
 
 module _ {K B : Type 0} (hist : K → List Entry) (beg : K → B) (p : Layout K) where
+  -- what no view enters, where an open station's cursor rises
+  pub common_risen : (homes : List (maybe.Option (Option K))) (m : Moment) (o : Common hist beg p homes m) (i x : ℕ) (near : i < p.stations) (up : cursor m.words i ≤ x) → (x ≤ length m.log) ⊎ (x ≡ GONE)
+      → (m.phase ≡ held → i ≢ m.holder) → i < length m.seating → Common hist beg p homes (risen p.stations p.places m i x o.places near up)
+  common_risen homes m o i x near up count unheld inner = record {
+    events = o.events;
+    log_is_spelt = o.log_is_spelt;
+    log_is_lawful = o.log_is_lawful;
+    closed_has_ended = o.closed_has_ended;
+    home = o.home;
+    places = places_risen p.stations p.places m i x o.places near up count unheld;
+    led = record { tile = o.led.tile; rise = o.led.rise; last_is_holders = o.led.last_is_holders; unled_is_free = o.led.unled_is_free };
+    doors = doors_risen p.stations p.places m i x o.places near up p.versions p.hands.value.items inner o.doors;
+    turns = o.turns;
+  }
+
   abbrev St : Type 0
   St = State (Option K) (View K)
 
@@ -124,7 +140,7 @@ module _ {K B : Type 0} (hist : K → List Entry) (beg : K → B) (p : Layout K)
 
   pub advances : (slots id new : ℕ) (me : M) → me.0.role ≡ Reader → IsWhole me.0.read → new ≡ length me.0.seen + 1
       → Allows RuleOf slots id me (cursor_index me.0.station) (λ _. new) (λ _. goes_ahead (step slots (cursor_index me.0.station) new 0 none) me new)
-  advances slots id new me role full is s r wide at _ = let v = me.0 in let n : ℕ = p.stations in let c : ℕ = p.places in let kn = r.each_seat id v at in let size : ℕ = length v.seen in let pl = r.places in
+  advances slots id new me role full is s r wide at _ = let v = me.0 in let n : ℕ = p.stations in let c : ℕ = p.places in let kn = r.each_seat id v at in let size : ℕ = length v.seen in let pl = r.common.places in
       let m : Moment = now hist beg p s r in
       let ir = in_role hist beg p s r id v at Reader role in
       let se = seated hist beg p s r id v at Reader role tt in
@@ -144,10 +160,9 @@ module _ {K B : Type 0} (hist : K → List Entry) (beg : K → B) (p : Layout K)
         w,
         keeps,
         tt,
-        moved hist beg p s r (cursor_index i) new id me.1 keeps r.log r.phase r.holder r.spans r.seating r.ready r.events v w at
-            (subst NoClash (sym (same_tags hist beg p s.views id v w at refl)) r.one_seat_a_version) (λ e. lead_stays s.views id r.holder v w at (λ q. (q, refl)) (r.held_has_lead e)) (logged hist beg p s r) r.home
-            (places_risen n c m i new pl near up (inl (omega arith)) (λ e. not_held m i r.led ir.led_nothing e)) record { tile = r.led.tile; rise = r.led.rise; last_is_holders = r.led.last_is_holders; unled_is_free = r.led.unled_is_free }
-            (doors_risen n c m i new pl near up p.versions (planned hist beg p) (last_near r.seating v.version i se.last) r.doors) r.turns on
+        moved hist beg p s r (cursor_index i) new id me.1 keeps m' v w at
+            (subst NoClash (sym (same_tags hist beg p s.views id v w at refl)) r.one_seat_a_version) (λ e. lead_stays s.views id r.holder v w at (λ q. (q, refl)) (r.held_has_lead e))
+            (common_risen s.homes m r.common i new near up (inl (omega arith)) (λ e. not_held m i r.common.led ir.led_nothing e) (last_near r.seating v.version i se.last)) on
             (λ j u ne f l. (
               own_risen n c m i new pl near up u (apart_from hist beg p s r j id u v f at ne live l) u.role (former_apart hist beg p s r j id u v f at ne live l i se.last.has),
               refl,
@@ -172,7 +187,7 @@ module _ {K B : Type 0} (hist : K → List Entry) (beg : K → B) (p : Layout K)
                 opened_least = se.opened_least;
                 last = se.last;
                 spans_are = se.spans_are;
-                unmade_is_new = λ t q. cursor_else n c m i new pl near up t (unmade_apart n p.versions (planned hist beg p) m v.version i v.made t r.doors se.last.has q) ∙ se.unmade_is_new t q;
+                unmade_is_new = λ t q. cursor_else n c m i new pl near up t (unmade_apart n p.versions (planned hist beg p) m v.version i v.made t r.common.doors se.last.has q) ∙ se.unmade_is_new t q;
                 others_are_gone = λ t has ne out. le_trans (se.others_are_gone t has ne out) (cursor_up n c m i new pl near up t);
               };
               ended_is_past = λ k y f. past_on n m m' y on (kn.ended_is_past k y f);
@@ -203,21 +218,20 @@ module _ {K B : Type 0} (hist : K → List Entry) (beg : K → B) (p : Layout K)
 
   pub leaves : (slots id new : ℕ) (me : M) → (me.0.role ≡ Reader) ⊎ (me.0.role ≡ Leaving) → new ≡ GONE
       → Allows RuleOf slots id me (cursor_index me.0.station) (λ _. new) (λ _. left (step slots (cursor_index me.0.station) new 0 none) me new)
-  leaves slots id new me role is s r wide at _ = let v = me.0 in let n : ℕ = p.stations in let c : ℕ = p.places in let kn = r.each_seat id v at in let pl = r.places in
+  leaves slots id new me role is s r wide at _ = let v = me.0 in let n : ℕ = p.stations in let c : ℕ = p.places in let kn = r.each_seat id v at in let pl = r.common.places in
       let m : Moment = now hist beg p s r in let live : Live v.role = ⊎_elim (λ (e : v.role ≡ Reader). subst Live (sym e) tt) (λ (e : v.role ≡ Leaving). subst Live (sym e) tt) role in
       let se : IsSeated p m v = kn.seated live in let i : ℕ = v.station in let near : i < n = seat_near hist beg p s r id v at live in let len : ℕ = length r.log in let few : len ≤ 131072 = pl.log_is_short in
       let stays : v.role ≢ Moving = λ e. ⊎_elim (λ (f : v.role ≡ Reader). let q : Reader ≡ Moving = sym f ∙ e in (let z : ⊥ = cc in z)) (λ (f : v.role ≡ Leaving). let q : Leaving ≡ Moving = sym f ∙ e in (let z : ⊥ = cc in z)) role in
-      let may = may_leave m v r.led (prefix_length v.seen r.log kn.seen_is_prefix) v.role role kn.in_role in let count : cursor s.words i ≤ len = may.count in
+      let may = may_leave m v r.common.led (prefix_length v.seen r.log kn.seen_is_prefix) v.role role kn.in_role in let count : cursor s.words i ≤ len = may.count in
       let up : cursor s.words i ≤ new = omega arith in let m' : Moment = risen n c m i new pl near up in let w : View K = as_gone v in let on = on_risen n c m i new pl near up (open_near hist beg p s r) in
       let low : r.holder ≤ i = dite (dec_le r.holder i) (λ le. le) (λ gt. let lt : i < r.holder = lt_of_not-le gt in let g = pl.lower_are_gone i lt in absurd (omega arith)) in
       let tags : NoClash (map tag (set s.views id w)) = subst NoClash (sym (map-set tag s.views id w)) (apart_role hist beg p s r id v Gone at live) in (
         w,
         keeps,
         tt,
-        moved hist beg p s r (cursor_index i) new id me.1 keeps r.log r.phase r.holder r.spans r.seating r.ready r.events v w at tags
-            (λ e. lead_stays s.views id r.holder v w at (λ q. absurd (⊎_elim (λ (f : v.role ≡ Reader). subst Leads f q) (λ (f : v.role ≡ Leaving). subst Leads f q) role)) (r.held_has_lead e)) (logged hist beg p s r) r.home
-            (places_risen n c m i new pl near up (inr is) may.unheld) record { tile = r.led.tile; rise = r.led.rise; last_is_holders = r.led.last_is_holders; unled_is_free = r.led.unled_is_free }
-            (doors_risen n c m i new pl near up p.versions (planned hist beg p) (last_near r.seating v.version i se.last) r.doors) r.turns on
+        moved hist beg p s r (cursor_index i) new id me.1 keeps m' v w at tags
+            (λ e. lead_stays s.views id r.holder v w at (λ q. absurd (⊎_elim (λ (f : v.role ≡ Reader). subst Leads f q) (λ (f : v.role ≡ Leaving). subst Leads f q) role)) (r.held_has_lead e))
+            (common_risen s.homes m r.common i new near up (inr is) may.unheld (last_near r.seating v.version i se.last)) on
             (λ j u ne f l. (
               own_risen n c m i new pl near up u (apart_from hist beg p s r j id u v f at ne live l) u.role (former_apart hist beg p s r j id u v f at ne live l i se.last.has),
               refl,
@@ -232,7 +246,7 @@ module _ {K B : Type 0} (hist : K → List Entry) (beg : K → B) (p : Layout K)
               opened_at_most_open = kn.opened_at_most_open;
               in_role = record {
                 cursor_is_gone = let a : cursor (set s.words (cursor_index i) new) i ≡ new = cursor_there n c m i new pl near up in omega arith;
-                before_later = λ k y e lt. let top = none_above m k y r.led e in absurd (omega arith);
+                before_later = λ k y e lt. let top = none_above m k y r.common.led e in absurd (omega arith);
                 wrote_nothing = may.quiet;
               };
               seated = λ l. record {
@@ -241,7 +255,7 @@ module _ {K B : Type 0} (hist : K → List Entry) (beg : K → B) (p : Layout K)
                 opened_least = se.opened_least;
                 last = se.last;
                 spans_are = se.spans_are;
-                unmade_is_new = λ t q. cursor_else n c m i new pl near up t (unmade_apart n p.versions (planned hist beg p) m v.version i v.made t r.doors se.last.has q) ∙ se.unmade_is_new t q;
+                unmade_is_new = λ t q. cursor_else n c m i new pl near up t (unmade_apart n p.versions (planned hist beg p) m v.version i v.made t r.common.doors se.last.has q) ∙ se.unmade_is_new t q;
                 others_are_gone = λ t has ne out. le_trans (se.others_are_gone t has ne (λ e. absurd (stays e))) (cursor_up n c m i new pl near up t);
               };
               ended_is_past = λ k y f. past_on n m m' y on (kn.ended_is_past k y f);

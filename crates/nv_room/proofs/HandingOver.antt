@@ -28,8 +28,8 @@ use Rattle.nv_room.proofs.Tiling.{last_apart, with_none, tiles_handed, rising_ha
 use Rattle.nv_room.proofs.Counts.{below_most, below_planned}
 use Rattle.nv_room.proofs.LastSpan.{Last, last_span, lead_last, begun_last, who_last, others_last, own_last, own_was}
 use Rattle.nv_room.proofs.Merges.{merge_turned, merge_phase, notes_none, second_kept}
-use Rattle.nv_room.proofs.Stays.{Onward, Begun, last_near, planned, lead_stays, logged, past_on, now, looked, moved}
-use Rattle.nv_room.proofs.Cursors.{risen, cursor_there, cursor_else, cursor_up, places_risen, on_risen, doors_risen, own_risen}
+use Rattle.nv_room.proofs.Stays.{Onward, Begun, last_near, planned, lead_stays, past_on, now, looked, moved}
+use Rattle.nv_room.proofs.Cursors.{risen, cursor_there, cursor_else, cursor_up, places_risen, on_risen, own_risen, common_risen}
 use Rattle.nv_room.proofs.Hands.{same_cursor, places_owned}
 use Rattle.nv_room.proofs.Seats.{none_above, beside_lead, one_last, unmade_apart, apart_role, apart_version, apart_at, apart_from, apart_unmade, former_apart, in_role, open_near}
 
@@ -96,19 +96,19 @@ module _ {K B : Type 0} (hist : K → List Entry) (beg : K → B) (p : Layout K)
   left_station : (s : St) (r : RuleOf s) (id : ℕ) (v : View K) → get_elem? s.views id ≡ some v → v.role ≡ Lead → Has (planned hist beg p) (length v.seen) → LastHasEvent v.spans
       → length r.seating + 1 ≤ p.versions + below (planned hist beg p) (length r.log + 1)
   left_station s r id v at role plan led = let m : Moment = now hist beg p s r in let ir = in_role hist beg p s r id v at Lead role in let live : Live v.role = subst Live (sym role) tt in let se = (r.each_seat id v at).seated live in
-      let l : Last m = last_span m r.led ir.is_held in let mine = lead_last hist beg p s r id v at live ir.is_holder l in
-      let a = r.turns.left_over ir.is_held (has_led m l v.version mine (subst LastHasEvent se.spans_are led)) in
+      let l : Last m = last_span m r.common.led ir.is_held in let mine = lead_last hist beg p s r id v at live ir.is_holder l in
+      let a = r.common.turns.left_over ir.is_held (has_led m l v.version mine (subst LastHasEvent se.spans_are led)) in
       let b = below_planned (planned hist beg p) (length r.log) (subst (Has (planned hist beg p)) ir.seen_is_log plan) in omega arith
 
   pub spares : (slots id k : ℕ) (me : M) → me.0.role ≡ Lead → Has (planned hist beg p) (length me.0.seen) → LastHasEvent me.0.spans → Allows RuleOf slots id me k (λ x. x) (spare (step slots k 0 0 none) me)
   spares slots id k me role plan led s r wide at _ = let v = me.0 in let kn = r.each_seat id v at in let ir = in_role hist beg p s r id v at Lead role in let live : Live v.role = subst Live (sym role) tt in
       let a = left_station s r id v at role plan led in
       let b = below_most (planned hist beg p) (length r.log + 1) in
-      let c = r.doors.all in
+      let c = r.common.doors.all in
       let d = r.merge.floors_wide id v at live in
       let e = ir.opened_is in
       let f = ir.is_holder in
-      let h = r.places.holder_is_open in (
+      let h = r.common.places.holder_is_open in (
         v,
         keeps,
         tt,
@@ -120,7 +120,8 @@ module _ {K B : Type 0} (hist : K → List Entry) (beg : K → B) (p : Layout K)
   -- the first station that isn't open gets head as its cursor
   pub opens_next : (slots id new : ℕ) (me : M) → me.0.role ≡ Lead → me.0.wrote ≡ [] → Has (planned hist beg p) (length me.0.seen) → LastHasEvent me.0.spans → new ≡ length me.0.seen
       → Allows RuleOf slots id me (cursor_index me.0.opened) (λ _. new) (λ _. opens (step slots (cursor_index me.0.opened) new 0 none) me new)
-  opens_next slots id new me role quiet plan led is s r wide at _ = let v = me.0 in let n : ℕ = p.stations in let c : ℕ = p.places in let kn = r.each_seat id v at in let pl = r.places in let d = r.doors in let len : ℕ = length r.log in
+  opens_next slots id new me role quiet plan led is s r wide at _ = let v = me.0 in let n : ℕ = p.stations in let c : ℕ = p.places in let len : ℕ = length r.log in
+      let kn = r.each_seat id v at in let pl = r.common.places in let d = r.common.doors in
       let m : Moment = now hist beg p s r in let ir = in_role hist beg p s r id v at Lead role in let live : Live v.role = subst Live (sym role) tt in let se = kn.seated live in
       let room = left_station s r id v at role plan led in let most = below_most (planned hist beg p) (len + 1) in
       let i : ℕ = v.opened in let here : i ≡ length r.seating = ir.opened_is in let none = ir.none_ready in let all = d.all in let near : i < n = omega arith in
@@ -161,9 +162,19 @@ module _ {K B : Type 0} (hist : K → List Entry) (beg : K → B) (p : Layout K)
         w,
         keeps,
         tt,
-        moved hist beg p s r (cursor_index i) new id me.1 keeps r.log r.phase r.holder r.spans r.seating ready' r.events v w at tags
-            (λ e. lead_stays s.views id r.holder v w at (λ q. (tt, refl)) (r.held_has_lead e)) (logged hist beg p s r) r.home places
-            record { tile = r.led.tile; rise = r.led.rise; last_is_holders = r.led.last_is_holders; unled_is_free = r.led.unled_is_free } doors r.turns on
+        moved hist beg p s r (cursor_index i) new id me.1 keeps m' v w at tags (λ e. lead_stays s.views id r.holder v w at (λ q. (tt, refl)) (r.held_has_lead e))
+            record {
+              events = r.common.events;
+              log_is_spelt = r.common.log_is_spelt;
+              log_is_lawful = r.common.log_is_lawful;
+              closed_has_ended = r.common.closed_has_ended;
+              home = r.common.home;
+              places = places;
+              led = record { tile = r.common.led.tile; rise = r.common.led.rise; last_is_holders = r.common.led.last_is_holders; unled_is_free = r.common.led.unled_is_free };
+              doors = doors;
+              turns = r.common.turns;
+            }
+            on
             (λ j u ne f l. (
               beside_lead n c m m' u v.station ir.is_held ir.is_holder (λ e. apart_from hist beg p s r j id u v f at ne live l (sym e)) refl
                   (cursor_else n c m i new pl near up u.station (other u.station (last_near r.seating u.version u.station ((r.each_seat j u f).seated l).last))) refl u.role
@@ -205,8 +216,8 @@ module _ {K B : Type 0} (hist : K → List Entry) (beg : K → B) (p : Layout K)
       let n : ℕ = p.stations in
       let c : ℕ = p.places in
       let kn = r.each_seat id v at in
-      let pl = r.places in
-      let d = r.doors in
+      let pl = r.common.places in
+      let d = r.common.doors in
       let len : ℕ = length r.log in
       let m : Moment = now hist beg p s r in
       let ir = in_role hist beg p s r id v at Opening role in
@@ -214,7 +225,7 @@ module _ {K B : Type 0} (hist : K → List Entry) (beg : K → B) (p : Layout K)
       let se = kn.seated live in
       let st : ℕ = v.station in
       let ws' : List ℕ = set s.words 0 new in
-      let l : Last m = last_span m r.led ir.is_held in let mine : l.last.version ≡ v.version = lead_last hist beg p s r id v at live ir.is_holder l in
+      let l : Last m = last_span m r.common.led ir.is_held in let mine : l.last.version ≡ v.version = lead_last hist beg p s r id v at live ir.is_holder l in
       let whos' : List ℕ = r.seating ++ v.version ∷ [] in let wider : length whos' ≡ length r.seating + 1 = length-append r.seating (v.version ∷ []) in
       let spans' : List Span = handed_on r.spans in let m' : Moment = as_of ws' r.log free r.holder spans' whos' r.ready in
       let all : v.seen ≡ r.log = prefix_same v.seen r.log ir.seen_is_log kn.seen_is_prefix in
@@ -223,7 +234,7 @@ module _ {K B : Type 0} (hist : K → List Entry) (beg : K → B) (p : Layout K)
       let head : cursor s.words (length r.seating) ≡ len =
       ⊎_elim (λ (q : r.ready ≡ length r.seating). absurd (omega arith)) (λ (q : (r.ready ≡ length r.seating + 1) × (r.phase ≡ held) × (cursor s.words (length r.seating) ≡ len)). q.2) d.ready_is in
       let top = pl.holder_is_open in let over : free ≢ held = λ e. cc in
-      let out : get_elem? s.homes 0 ≡ some none = subst (AtHome hist beg p.start.value r.events s.homes) ir.is_held r.home in
+      let out : get_elem? s.homes 0 ≡ some none = subst (AtHome hist beg p.start.value r.common.events s.homes) ir.is_held r.common.home in
       let home : IsKernel hist beg p.start.value (hist k) (homes_after s.homes me.1 gives) =
       (k, ap (λ (cs : List (ℕ × Option K)). get_elem? (put_back s.homes cs) 0) carries ∙ set_here s.homes 0 (some (Some k)) (at_below s.homes 0 none out), refl, began p.start se.start_is) in
       let counts : cursor s.words r.holder ≤ len = pl.lead_counts ir.is_held in
@@ -231,9 +242,9 @@ module _ {K B : Type 0} (hist : K → List Entry) (beg : K → B) (p : Layout K)
       places_owned n c m new pl free r.holder spans' whos' r.ready (is ∙ (λ i. owner_word free (ir.is_holder i) ((let q : v.opened + 1 ≡ length whos' = omega arith in q) i) (full i)))
       (omega arith) pl.lower_are_gone (λ e. absurd (over e))
       (λ z ne l. dite (ℕ_discrete z (length r.seating)) (λ e. inr (let q : cursor s.words z ≡ cursor s.words (length r.seating) = ap (cursor s.words) e in omega arith)) (λ ne'. inl (ne, omega arith))) in
-      let led : Led m' = led_handed m l ws' free whos' r.ready r.led in
+      let led : Led m' = led_handed m l ws' free whos' r.ready r.common.led in
       let turns : Turns p.versions (planned hist beg p) free len spans' whos' =
-      subst (λ (z : ℕ). Turns p.versions (planned hist beg p) free len spans' (r.seating ++ z ∷ [])) mine (turns_handed m l p.versions (planned hist beg p) free len r.turns ir.is_held over
+      subst (λ (z : ℕ). Turns p.versions (planned hist beg p) free len spans' (r.seating ++ z ∷ [])) mine (turns_handed m l p.versions (planned hist beg p) free len r.common.turns ir.is_held over
       (subst (λ (z : ℕ). IsLastStation r.seating z l.last.station) (sym mine) (subst (λ (z : ℕ). IsLastStation r.seating v.version z) (ir.is_holder ∙ sym l.holders) se.last))) in
       let doors : Doors n p.versions (planned hist beg p) m' = record {
         all = d.all;
@@ -267,7 +278,9 @@ module _ {K B : Type 0} (hist : K → List Entry) (beg : K → B) (p : Layout K)
         w,
         gives,
         tt,
-        moved hist beg p s r 0 new id me.1 gives r.log free r.holder spans' whos' r.ready (hist k) v w at tags (λ e. absurd (over e)) record { spelt = tells ∙ all; lawful = law; ended = λ e. cc } home places led doors turns on
+        moved hist beg p s r 0 new id me.1 gives m' v w at tags (λ e. absurd (over e))
+            record { events = hist k; log_is_spelt = tells ∙ all; log_is_lawful = law; closed_has_ended = λ e. cc; home = home; places = places; led = led; doors = doors; turns = turns }
+            on
             (λ j u ne f a. (
               beside_lead n c m m' u st ir.is_held ir.is_holder (λ e. apart_from hist beg p s r j id u v f at ne live a (sym e)) refl (cur u.station)
                   (stations_handed m l u.station (λ e. apart_from hist beg p s r j id u v f at ne live a (e ∙ sym ir.is_holder))) u.role (r.each_seat j u f).in_role,
@@ -317,7 +330,7 @@ module _ {K B : Type 0} (hist : K → List Entry) (beg : K → B) (p : Layout K)
 
   -- the former station leaves
   pub moves_on : (slots id new : ℕ) (me : M) → me.0.role ≡ Moving → new ≡ GONE → Allows RuleOf slots id me (cursor_index me.0.former) (λ _. new) (λ _. moved_on (step slots (cursor_index me.0.former) new 0 none) me new)
-  moves_on slots id new me role is s r wide at _ = let v = me.0 in let n : ℕ = p.stations in let c : ℕ = p.places in let kn = r.each_seat id v at in let pl = r.places in
+  moves_on slots id new me role is s r wide at _ = let v = me.0 in let n : ℕ = p.stations in let c : ℕ = p.places in let kn = r.each_seat id v at in let pl = r.common.places in
       let m : Moment = now hist beg p s r in let live : Live v.role = subst Live (sym role) tt in let se = kn.seated live in let ir = in_role hist beg p s r id v at Moving role in let fit = open_near hist beg p s r in
       let i : ℕ = v.former in let top = pl.holder_is_open in let inner : i < length r.seating = (let h = ir.is_holder in omega arith) in let near : i < n = omega arith in let few = pl.log_is_short in
       let count = ir.former_is_count in let up : cursor s.words i ≤ new = omega arith in let other : v.station ≢ i = (let h = ir.is_lower in λ e. omega arith) in
@@ -328,9 +341,8 @@ module _ {K B : Type 0} (hist : K → List Entry) (beg : K → B) (p : Layout K)
         w,
         keeps,
         tt,
-        moved hist beg p s r (cursor_index i) new id me.1 keeps r.log r.phase r.holder r.spans r.seating r.ready r.events v w at tags (λ e. absurd (ir.not_held e)) (logged hist beg p s r) r.home
-            (places_risen n c m i new pl near up (inr is) (λ e. absurd (ir.not_held e))) record { tile = r.led.tile; rise = r.led.rise; last_is_holders = r.led.last_is_holders; unled_is_free = r.led.unled_is_free }
-            (doors_risen n c m i new pl near up p.versions (planned hist beg p) inner r.doors) r.turns on
+        moved hist beg p s r (cursor_index i) new id me.1 keeps m' v w at tags (λ e. absurd (ir.not_held e))
+            (common_risen hist beg p s.homes m r.common i new near up (inr is) (λ e. absurd (ir.not_held e)) inner) on
             (λ j u ne f l. (
               own_risen n c m i new pl near up u (apart_at hist beg p s r j id u v f at ne live l i ir.version_is) u.role
                   (former_apart hist beg p s r j id u v f at ne live l i ir.version_is),
@@ -355,7 +367,7 @@ module _ {K B : Type 0} (hist : K → List Entry) (beg : K → B) (p : Layout K)
                 opened_least = se.opened_least;
                 last = se.last;
                 spans_are = se.spans_are;
-                unmade_is_new = λ t q. cursor_else n c m i new pl near up t (unmade_apart n p.versions (planned hist beg p) m v.version i v.made t r.doors ir.version_is q) ∙ se.unmade_is_new t q;
+                unmade_is_new = λ t q. cursor_else n c m i new pl near up t (unmade_apart n p.versions (planned hist beg p) m v.version i v.made t r.common.doors ir.version_is q) ∙ se.unmade_is_new t q;
                 others_are_gone = λ t has ne out. dite (ℕ_discrete t i) (λ e. subst (λ (z : ℕ). GONE ≤ cursor (set s.words (cursor_index i) new) z) (sym e) (omega arith))
                     (λ other'. le_trans (se.others_are_gone t has ne (λ _. other')) (cursor_up n c m i new pl near up t));
               };

@@ -105,7 +105,7 @@ module _ {K B : Type 0} (hist : K → List Entry) (beg : K → B) (p : Layout K)
   -- the lead gives the kernel up: the word is then free or closed
   pub gives_up : (slots id new : ℕ) (k : K) (ph : Phase) (me : M) → me.0.role ≡ Lead → me.1 ≡ (0, Some k) ∷ [] → me.0.wrote ≡ [] → map spell (hist k) ≡ me.0.seen → IsLawful (hist k) → ForSome me.0.start (λ s. beg k ≡ beg s.value)
       → ph ≢ held → (ph ≡ closed → live_after (hist k) ≡ []) → new ≡ owner_word ph me.0.station me.0.opened (length me.0.seen) → Allows RuleOf slots id me 0 (λ _. new) (λ _. gave_up (step slots 0 new 0 none) me new)
-  gives_up slots id new k ph me role carries quiet tells law began over ended is s r wide at _ = let v = me.0 in let n : ℕ = p.stations in let c : ℕ = p.places in let kn = r.each_seat id v at in let pl = r.places in
+  gives_up slots id new k ph me role carries quiet tells law began over ended is s r wide at _ = let v = me.0 in let n : ℕ = p.stations in let c : ℕ = p.places in let kn = r.each_seat id v at in let pl = r.common.places in
       let m : Moment = now hist beg p s r in let ir = in_role hist beg p s r id v at Lead role in let se = seated hist beg p s r id v at Lead role tt in let st : ℕ = v.station in let ws' : List ℕ = set s.words 0 new in
       let m' : Moment = as_of ws' r.log ph r.holder r.spans r.seating r.ready in
       let fit = open_near hist beg p s r in
@@ -114,12 +114,17 @@ module _ {K B : Type 0} (hist : K → List Entry) (beg : K → B) (p : Layout K)
       let all : v.seen ≡ r.log = prefix_same v.seen r.log ir.seen_is_log kn.seen_is_prefix in
       let cur : (z : ℕ) → cursor ws' z ≡ cursor s.words z = same_cursor n c m new pl in
       let stays : v.role ≢ Moving = λ e. (let q : Lead ≡ Moving = sym role ∙ e in (let z : ⊥ = cc in z)) in
-      let out : get_elem? s.homes 0 ≡ some none = subst (AtHome hist beg p.start.value r.events s.homes) ir.is_held r.home in
+      let out : get_elem? s.homes 0 ≡ some none = subst (AtHome hist beg p.start.value r.common.events s.homes) ir.is_held r.common.home in
       let home : IsKernel hist beg p.start.value (hist k) (homes_after s.homes me.1 gives) =
       (k, ap (λ (cs : List (ℕ × Option K)). get_elem? (put_back s.homes cs) 0) carries ∙ set_here s.homes 0 (some (Some k)) (at_below s.homes 0 none out), refl, began p.start se.start_is) in
       let places : Places n c m' =
       places_owned n c m new pl ph r.holder r.spans r.seating r.ready (is ∙ (λ i. owner_word ph (ir.is_holder i) (ir.opened_is i) (ir.seen_is_log i))) pl.holder_is_open pl.lower_are_gone (λ e. absurd (over e)) (λ z ne l. inl (ne, l)) in
-      let led : Led m' = record { tile = r.led.tile; rise = r.led.rise; last_is_holders = r.led.last_is_holders; unled_is_free = λ e. absurd (let q : held ≡ free = sym ir.is_held ∙ r.led.unled_is_free e in cc) } in
+      let led : Led m' = record {
+        tile = r.common.led.tile;
+        rise = r.common.led.rise;
+        last_is_holders = r.common.led.last_is_holders;
+        unled_is_free = λ e. absurd (let q : held ≡ free = sym ir.is_held ∙ r.common.led.unled_is_free e in cc);
+      } in
       let on : Onward n m m' = record {
         near = fit;
         cursors = λ z l. subst (λ (q : ℕ). cursor s.words z ≤ q) (sym (cur z)) (le_refl (cursor s.words z));
@@ -131,15 +136,26 @@ module _ {K B : Type 0} (hist : K → List Entry) (beg : K → B) (p : Layout K)
         gone_spans = λ v z l g. refl;
         gone_last = λ v z l g. l;
       } in
-      let doors : Doors n p.versions (planned hist beg p) m' = doors_owned n c m new pl ph r.holder r.spans p.versions (planned hist beg p) (inl ir.none_ready) r.doors in
-      let turns : Turns p.versions (planned hist beg p) ph (length r.log) r.spans r.seating = record { who_is = r.turns.who_is; opened = r.turns.opened; unhanded = λ e. absurd (over e); left_over = λ e. absurd (over e) } in
+      let doors : Doors n p.versions (planned hist beg p) m' = doors_owned n c m new pl ph r.holder r.spans p.versions (planned hist beg p) (inl ir.none_ready) r.common.doors in
+      let turns : Turns p.versions (planned hist beg p) ph (length r.log) r.spans r.seating = record { who_is = r.common.turns.who_is; opened = r.common.turns.opened; unhanded = λ e. absurd (over e); left_over = λ e. absurd (over e) } in
       let w : View K = as_leaving v new in
       let tags : NoClash (map tag (set s.views id w)) = subst NoClash (sym (map-set tag s.views id w)) (apart_role hist beg p s r id v Leaving at (subst Live (sym role) tt)) in (
         w,
         gives,
         tt,
-        moved hist beg p s r 0 new id me.1 gives r.log ph r.holder r.spans r.seating r.ready (hist k) v w at tags (λ e. absurd (over e)) record { spelt = tells ∙ all; lawful = law; ended = ended }
-            (at_home p.start.value (hist k) (homes_after s.homes me.1 gives) ph over home) places led doors turns on
+        moved hist beg p s r 0 new id me.1 gives m' v w at tags (λ e. absurd (over e))
+            record {
+              events = hist k;
+              log_is_spelt = tells ∙ all;
+              log_is_lawful = law;
+              closed_has_ended = ended;
+              home = at_home p.start.value (hist k) (homes_after s.homes me.1 gives) ph over home;
+              places = places;
+              led = led;
+              doors = doors;
+              turns = turns;
+            }
+            on
             (λ j u ne f l. (
               beside_lead n c m m' u st ir.is_held ir.is_holder (λ e. apart_from hist beg p s r j id u v f at ne (subst Live (sym role) tt) l (sym e)) refl (cur u.station) refl u.role
                   (r.each_seat j u f).in_role,
@@ -233,7 +249,7 @@ module _ {K B : Type 0} (hist : K → List Entry) (beg : K → B) (p : Layout K)
 
   pub takes_lead : (slots id new : ℕ) (me : M) → me.0.role ≡ Reader → me.0.freed ≡ Some (length me.0.seen) → new ≡ owner_word held me.0.station me.0.opened (length me.0.seen)
       → Allows RuleOf slots id me 0 (λ _. new) (λ _. took hist beg (step slots 0 new 0 none) me new)
-  takes_lead slots id new me role noted is s r wide at _ = let v = me.0 in let n : ℕ = p.stations in let c : ℕ = p.places in let kn = r.each_seat id v at in let pl = r.places in
+  takes_lead slots id new me role noted is s r wide at _ = let v = me.0 in let n : ℕ = p.stations in let c : ℕ = p.places in let kn = r.each_seat id v at in let pl = r.common.places in
       let m : Moment = now hist beg p s r in let ir = in_role hist beg p s r id v at Reader role in let se = seated hist beg p s r id v at Reader role tt in let st : ℕ = v.station in let ws' : List ℕ = set s.words 0 new in
       let note : Freed m st v.opened (length v.seen) = ir.freed_stays (length v.seen) noted in
       let len : ℕ = length r.log in
@@ -242,7 +258,7 @@ module _ {K B : Type 0} (hist : K → List Entry) (beg : K → B) (p : Layout K)
       let all : v.seen ≡ r.log = prefix_same v.seen r.log full kn.seen_is_prefix in
       let few : len ≤ 131072 = pl.log_is_short in let mine : cursor s.words st ≡ size = ir.cursor_is_length in
       let low : r.holder ≤ st = dite (dec_le r.holder st) (λ le. le) (λ gt. let lt : st < r.holder = lt_of_not-le gt in let g = pl.lower_are_gone st lt in absurd (omega arith)) in
-      let home = home_free p.start.value r.events s.homes r.phase note.is_free r.home in let k : K = home.0 in
+      let home = home_free p.start.value r.common.events s.homes r.phase note.is_free r.common.home in let k : K = home.0 in
       let new_span : Span = span_begun v in
       let spans' : List Span = r.spans ++ new_span ∷ [] in
       let m' : Moment = as_of ws' r.log held st spans' r.seating r.ready in
@@ -253,8 +269,8 @@ module _ {K B : Type 0} (hist : K → List Entry) (beg : K → B) (p : Layout K)
       let stays : v.role ≢ Moving = λ e. (let q : Reader ≡ Moving = sym role ∙ e in (let z : ⊥ = cc in z)) in
       let places : Places n c m' = places_owned n c m new pl held st spans' r.seating r.ready (is ∙ (λ i. owner_word held st (note.opened_is i) len)) (last_near r.seating v.version st se.last) note.lower_gone (λ e. omega arith)
       (λ z ne l. dite (ℕ_discrete z r.holder) (λ e. let lt : z < st = omega arith in inr (let g = note.lower_gone z lt in omega arith)) (λ ne'. inl (ne', l))) in
-      let led : Led m' = led_more m ws' st v.version new_span.from r.led full ir.led_nothing low in
-      let doors : Doors n p.versions (planned hist beg p) m' = doors_owned n c m new pl held st spans' p.versions (planned hist beg p) (inl ready) r.doors in
+      let led : Led m' = led_more m ws' st v.version new_span.from r.common.led full ir.led_nothing low in
+      let doors : Doors n p.versions (planned hist beg p) m' = doors_owned n c m new pl held st spans' p.versions (planned hist beg p) (inl ready) r.common.doors in
       let on : Onward n m m' = record {
         near = fit;
         wider = le_refl (length r.seating);
@@ -269,13 +285,23 @@ module _ {K B : Type 0} (hist : K → List Entry) (beg : K → B) (p : Layout K)
       } in
       let w : View K = as_lead v in
       let tags : NoClash (map tag (set s.views id w)) = subst NoClash (sym (map-set tag s.views id w)) (apart_role hist beg p s r id v Lead at (subst Live (sym role) tt)) in
-      let spelt : map spell (hist k) ≡ r.log = ap (map spell) home.2 ∙ r.log_is_spelt in (
+      let spelt : map spell (hist k) ≡ r.log = ap (map spell) home.2 ∙ r.common.log_is_spelt in (
         w,
         takes 0 (Some k),
         home.1,
-        moved hist beg p s r 0 new id me.1 (takes 0 (Some k)) r.log held st spans' r.seating r.ready r.events v w at tags
-            (λ _. (id, w, set_here s.views id w (at_below s.views id v at), tt, refl)) record { spelt = r.log_is_spelt; lawful = r.log_is_lawful; ended = λ e. cc }
-            (set_here s.homes 0 none (at_below s.homes 0 (some (Some k)) home.1)) places led doors (turns_more m st v.version new_span.from r.turns se.last.has) on
+        moved hist beg p s r 0 new id me.1 (takes 0 (Some k)) m' v w at tags (λ _. (id, w, set_here s.views id w (at_below s.views id v at), tt, refl))
+            record {
+              events = r.common.events;
+              log_is_spelt = r.common.log_is_spelt;
+              log_is_lawful = r.common.log_is_lawful;
+              closed_has_ended = λ e. cc;
+              home = set_here s.homes 0 none (at_below s.homes 0 (some (Some k)) home.1);
+              places = places;
+              led = led;
+              doors = doors;
+              turns = turns_more m st v.version new_span.from r.common.turns se.last.has;
+            }
+            on
             (λ j u ne f l. let other : u.station ≢ st = apart_from hist beg p s r j id u v f at ne live l in let ku = r.each_seat j u f in (
               own_at_take m m' pl st v.seen note.is_free mine (omega arith) note.lower_gone u other (prefix_length u.seen r.log ku.seen_is_prefix)
                   (former_apart hist beg p s r j id u v f at ne live l st se.last.has) (cur u.station) (of_more_other u.station r.spans new_span (λ e. other (sym e))) u.role refl ku.in_role,

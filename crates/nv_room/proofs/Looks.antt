@@ -48,33 +48,34 @@ module _ {K B : Type 0} (hist : K → List Entry) (beg : K → B) (p : Layout K)
   still s r id v w at leads reads wide = merge_turned p.stations p.places s.views id v w at s.words s.words r.log r.phase r.merge (λ _ _. refl) leads reads wide
 
   pub looks_head : (slots id : ℕ) (me : M) → Allows RuleOf slots id me head_index (λ x. x) (looked_head (step slots head_index 0 0 none) me)
-  looks_head slots id me s r wide at _ = let v = me.0 in let k = r.each_seat id v at in let few : length r.log ≤ 131072 = r.places.log_is_short in let is : get_or s.words head_index 0 ≡ length r.log = r.places.head_is_length in (
-    head_seen v (get_or s.words head_index 0),
-    keeps,
-    tt,
-    looked hist beg p s r head_index id me.1 v (head_seen v (get_or s.words head_index 0)) at refl (λ q. (q, refl))
-        record {
-          seen_is_prefix = k.seen_is_prefix;
-          read_begins_next = k.read_begins_next;
-          floor_at_most_cursor = k.floor_at_most_cursor;
-          head_seen_at_most_head = omega arith;
-          owner_seen_at_most_head = k.owner_seen_at_most_head;
-          opened_at_most_open = k.opened_at_most_open;
-          in_role = k.in_role;
-          seated = λ l. let q = k.seated l in record {
-            start_is = q.start_is;
-            places_are = q.places_are;
-            opened_least = q.opened_least;
-            last = q.last;
-            spans_are = q.spans_are;
-            unmade_is_new = q.unmade_is_new;
-            others_are_gone = q.others_are_gone;
-          };
-          ended_is_past = k.ended_is_past;
-        }
-        (still s r id v (head_seen v (get_or s.words head_index 0)) at (λ e. r.merge.lead_writes id v at e) (λ e. r.merge.notes id v at e) (λ l. r.merge.floors_wide id v at l)),
-    (refl, omega arith, (let q = prefix_length v.seen r.log k.seen_is_prefix in omega arith), (let q = k.owner_seen_at_most_head in omega arith), (let q = k.head_seen_at_most_head in omega arith)),
-  )
+  looks_head slots id me s r wide at _ = let v = me.0 in let k = r.each_seat id v at in let pl = r.common.places in
+      let few : length r.log ≤ 131072 = pl.log_is_short in let is : get_or s.words head_index 0 ≡ length r.log = pl.head_is_length in (
+        head_seen v (get_or s.words head_index 0),
+        keeps,
+        tt,
+        looked hist beg p s r head_index id me.1 v (head_seen v (get_or s.words head_index 0)) at refl (λ q. (q, refl))
+            record {
+              seen_is_prefix = k.seen_is_prefix;
+              read_begins_next = k.read_begins_next;
+              floor_at_most_cursor = k.floor_at_most_cursor;
+              head_seen_at_most_head = omega arith;
+              owner_seen_at_most_head = k.owner_seen_at_most_head;
+              opened_at_most_open = k.opened_at_most_open;
+              in_role = k.in_role;
+              seated = λ l. let q = k.seated l in record {
+                start_is = q.start_is;
+                places_are = q.places_are;
+                opened_least = q.opened_least;
+                last = q.last;
+                spans_are = q.spans_are;
+                unmade_is_new = q.unmade_is_new;
+                others_are_gone = q.others_are_gone;
+              };
+              ended_is_past = k.ended_is_past;
+            }
+            (still s r id v (head_seen v (get_or s.words head_index 0)) at (λ e. r.merge.lead_writes id v at e) (λ e. r.merge.notes id v at e) (λ l. r.merge.floors_wide id v at l)),
+        (refl, omega arith, (let q = prefix_length v.seen r.log k.seen_is_prefix in omega arith), (let q = k.owner_seen_at_most_head in omega arith), (let q = k.head_seen_at_most_head in omega arith)),
+      )
 
   -- a lead is no further ahead of another station than there are places
   in_window : (s : St) (r : RuleOf s) (id : ℕ) (v : View K) → get_elem? s.views id ≡ some v → v.role ≡ Lead → (st : ℕ) → st < v.opened → st ≢ v.station → length v.seen ≤ cursor s.words st + v.places
@@ -83,7 +84,7 @@ module _ {K B : Type 0} (hist : K → List Entry) (beg : K → B) (p : Layout K)
       let seen : length v.seen ≡ length r.log = ir.seen_is_log in
       let places : v.places ≡ p.places = (seated hist beg p s r id v at Lead role tt).places_are in
       let within : st < length r.seating = (let e = ir.opened_is in omega arith) in
-      let window : length r.log ≤ cursor s.words st + p.places = r.places.head_in_window st (λ e. other (e ∙ sym ir.is_holder)) within in
+      let window : length r.log ≤ cursor s.words st + p.places = r.common.places.head_in_window st (λ e. other (e ∙ sym ir.is_holder)) within in
       omega arith
 
   count_or_gone : (len x : ℕ) → len ≤ 131072 → (x ≤ len) ⊎ (x ≡ GONE) → (x ≤ 131072) ⊎ (x ≡ GONE)
@@ -91,7 +92,7 @@ module _ {K B : Type 0} (hist : K → List Entry) (beg : K → B) (p : Layout K)
 
   pub looks_cursor : (slots id st : ℕ) (me : M) → st < p.stations → Allows RuleOf slots id me (cursor_index st) (λ x. x) (looked_cursor (step slots (cursor_index st) 0 0 none) me)
   looks_cursor slots id st me near s r wide at _ = let v = me.0 in let k = r.each_seat id v at in let x : ℕ = get_or s.words (cursor_index st) 0 in
-      let few : length r.log ≤ 131072 = r.places.log_is_short in (
+      let few : length r.log ≤ 131072 = r.common.places.log_is_short in (
         cursor_seen st v x,
         keeps,
         tt,
@@ -116,7 +117,7 @@ module _ {K B : Type 0} (hist : K → List Entry) (beg : K → B) (p : Layout K)
           ended_is_past = k.ended_is_past;
         } (still s r id v (cursor_seen st v x) at (λ e. r.merge.lead_writes id v at e) (λ e. r.merge.notes id v at e) (λ l. length-set v.floors st x ∙ r.merge.floors_wide id v at l)),
         (
-          count_or_gone (length r.log) x few (r.places.cursor_is_count_or_gone st near),
+          count_or_gone (length r.log) x few (r.common.places.cursor_is_count_or_gone st near),
           λ j e. let e' : 8 * (st + 2) ≡ 8 * (j + 2) = e in let q : st ≡ j = omega arith in (
             ap (λ (z : ℕ). (cursor_seen z v x, me.1)) q,
             λ role other open'. in_window s r id v at role st (let z = q in omega arith) (λ h. other (sym q ∙ h)),
@@ -158,7 +159,7 @@ module _ {K B : Type 0} (hist : K → List Entry) (beg : K → B) (p : Layout K)
   found_held n x closed (as_closed a b c d) ne = a
 
   pub looks_owner : (slots id : ℕ) (me : M) → me.0.role ≡ Reader → Allows RuleOf slots id me 0 (λ x. x) (looked_owner (step slots 0 0 0 none) me)
-  looks_owner slots id me role s r wide at _ = let v = me.0 in let kn = r.each_seat id v at in let x : ℕ = get_or s.words 0 0 in let pl = r.places in
+  looks_owner slots id me role s r wide at _ = let v = me.0 in let kn = r.each_seat id v at in let x : ℕ = get_or s.words 0 0 in let pl = r.common.places in
       let ir = in_role hist beg p s r id v at Reader role in let st : ℕ = v.station in let se = seated hist beg p s r id v at Reader role tt in let n : ℕ = p.stations in let len : ℕ = length r.log in
       let near : st < n = role_near hist beg p s r id v at Reader role tt in
       let few : len ≤ 131072 = pl.log_is_short in
@@ -169,7 +170,7 @@ module _ {K B : Type 0} (hist : K → List Entry) (beg : K → B) (p : Layout K)
       let opened : opened_at x ≡ length r.seating = found_open r.phase r.holder (length r.seating) len x small open_few pl.owner_is in
       let l = learnt_at s r n x r.phase f in let seen : length v.seen ≤ len = prefix_length v.seen r.log kn.seen_is_prefix in let mine : cursor s.words st ≡ length v.seen = ir.cursor_is_length in
       let low : lower_marked st v.floors ≡ true → (z : ℕ) → z < st → GONE ≤ cursor s.words z = λ e z b. (let a = marked st v.floors e z b in let c = kn.floor_at_most_cursor z (omega arith) in omega arith) in
-      let unheld : lower_marked st v.floors ≡ true → r.phase ≢ held = λ e is. dite (ℕ_discrete st r.holder) (λ same. not_held (now hist beg p s r) st r.led ir.led_nothing is same)
+      let unheld : lower_marked st v.floors ≡ true → r.phase ≢ held = λ e is. dite (ℕ_discrete st r.holder) (λ same. not_held (now hist beg p s r) st r.common.led ir.led_nothing is same)
       (λ ne. dite (dec_le st r.holder) (λ le. let g = pl.lower_are_gone st (omega arith) in omega arith)
       (λ gt. let lt : r.holder < st = lt_of_not-le gt in let g = low e r.holder lt in let c : cursor s.words r.holder ≤ len = pl.lead_counts is in omega arith)) in
       let v' : View K = owner_seen v x in (
@@ -194,7 +195,7 @@ module _ {K B : Type 0} (hist : K → List Entry) (beg : K → B) (p : Layout K)
           seated = λ g. let q = kn.seated g in record {
             start_is = q.start_is;
             places_are = q.places_are;
-            opened_least = (let a = r.doors.least in omega arith);
+            opened_least = (let a = r.common.doors.least in omega arith);
             last = q.last;
             spans_are = q.spans_are;
             unmade_is_new = q.unmade_is_new;
@@ -213,10 +214,11 @@ module _ {K B : Type 0} (hist : K → List Entry) (beg : K → B) (p : Layout K)
             last_is_free = λ e. found_held len x r.phase f (unheld e);
             first_is_free = λ e. let same : cursor s.words st ≡ cursor s.words 0 = ap (cursor s.words) e in let low : r.holder ≡ 0 = dite (dec_le 1 r.holder)
                 (λ le. let g = pl.lower_are_gone 0 le in absurd (omega arith)) (λ gt. omega arith) in
-                let unled = holder_led (now hist beg p s r) st r.led ir.led_nothing (e ∙ sym low) in let b = tiles_none 0 len r.spans r.led.tile unled in let g = free_found len x r.phase f (r.led.unled_is_free unled) (sym b) in
-                let whole : p.versions ≡ length r.seating = subst (Opened p.versions r.seating) unled r.turns.opened in (g.0, g.1, (let a = se.opened_least in let c = kn.opened_at_most_open in omega arith));
+                let unled = holder_led (now hist beg p s r) st r.common.led ir.led_nothing (e ∙ sym low) in
+                let b = tiles_none 0 len r.spans r.common.led.tile unled in let g = free_found len x r.phase f (r.common.led.unled_is_free unled) (sym b) in
+                let whole : p.versions ≡ length r.seating = subst (Opened p.versions r.seating) unled r.common.turns.opened in (g.0, g.1, (let a = se.opened_least in let c = kn.opened_at_most_open in omega arith));
             closed_at_end = λ e same. let y = found_closed len x r.phase f e in let all : v.seen ≡ r.log = prefix_same v.seen r.log (sym same ∙ y.1) kn.seen_is_prefix in
-                (r.events, r.log_is_spelt ∙ sym all, r.log_is_lawful, r.closed_has_ended y.0);
+                (r.common.events, r.common.log_is_spelt ∙ sym all, r.common.log_is_lawful, r.common.closed_has_ended y.0);
           },
         ),
       )
@@ -229,12 +231,12 @@ module _ {K B : Type 0} (hist : K → List Entry) (beg : K → B) (p : Layout K)
   reads_word slots id k l me role part before is s r wide at _ = let v = me.0 in let n : ℕ = p.stations in let c : ℕ = p.places in let kn = r.each_seat id v at in let m : ℕ = length v.seen in
       let nt = (r.merge.notes id v at role).noted_is_next l before in let got = there r.log m nt.0 in let e : List ℕ = got.0 in let ir = in_role hist beg p s r id v at Reader role in let se = seated hist beg p s r id v at Reader role tt in
       let rd : Prefix v.read e = λ j x f. let y = kn.read_begins_next j x f in subst (λ (z : List ℕ). get_elem? z j ≡ some x) (some-injective y.0 e (sym y.1 ∙ got.1)) y.2 in
-      let wh = r.places.event_is_whole m e got.1 in let nx = there e (length v.read) (shorter v.read e rd wh.0 part) in let x : ℕ = get_or s.words k 0 in
+      let wh = r.common.places.event_is_whole m e got.1 in let nx = there e (length v.read) (shorter v.read e rd wh.0 part) in let x : ℕ = get_or s.words k 0 in
       let le : cursor s.words v.station ≤ m = subst (λ (z : ℕ). z ≤ m) (sym ir.cursor_is_length) (le_refl m) in
-      let other : v.station ≢ r.holder = not_holder (now hist beg p s r) v.station r.led ir.led_nothing (omega arith) in
-      let found : x ≡ nx.0 = ap (λ (z : ℕ). get_or s.words z 0) (is r.log kn.seen_is_prefix nt.1) ∙ r.places.unread_stands m v.station e other (last_near r.seating v.version v.station se.last) le got.1 (length v.read) nx.0 nx.1 in
-      let y = there r.events m (let q = ap length r.log_is_spelt in let g = at_below r.log m e got.1 in omega (arith, length-map r.events spell)) in
-      let spells : e ≡ spell y.0 = some-injective e (spell y.0) (sym got.1 ∙ subst (λ (z : Log). get_elem? z m ≡ some (spell y.0)) r.log_is_spelt (at_map spell r.events m y.0 y.1)) in
+      let other : v.station ≢ r.holder = not_holder (now hist beg p s r) v.station r.common.led ir.led_nothing (omega arith) in
+      let found : x ≡ nx.0 = ap (λ (z : ℕ). get_or s.words z 0) (is r.log kn.seen_is_prefix nt.1) ∙ r.common.places.unread_stands m v.station e other (last_near r.seating v.version v.station se.last) le got.1 (length v.read) nx.0 nx.1 in
+      let y = there r.common.events m (let q = ap length r.common.log_is_spelt in let g = at_below r.log m e got.1 in omega (arith, length-map r.common.events spell)) in
+      let spells : e ≡ spell y.0 = some-injective e (spell y.0) (sym got.1 ∙ subst (λ (z : Log). get_elem? z m ≡ some (spell y.0)) r.common.log_is_spelt (at_map spell r.common.events m y.0 y.1)) in
       let more : Prefix (v.read ++ x ∷ []) e = λ j y' f. ⊎_elim (λ (g : get_elem? v.read j ≡ some y'). rd j y' g)
       (λ (g : (j ≡ length v.read) × (x ≡ y')). subst (λ (z : ℕ × ℕ). get_elem? e z.0 ≡ some z.1) (λ i. (sym g.0 i, (sym found ∙ g.1) i)) nx.1) (at_end v.read x y' j f) in (
         word_seen v x,
@@ -267,7 +269,7 @@ module _ {K B : Type 0} (hist : K → List Entry) (beg : K → B) (p : Layout K)
             }) (λ l. r.merge.floors_wide id v at l)),
         (
           refl,
-          (y.0, lawful_range r.events m y.0 r.log_is_lawful y.1, subst (λ (z : List ℕ). Prefix (v.read ++ x ∷ []) z) spells more),
+          (y.0, lawful_range r.common.events m y.0 r.common.log_is_lawful y.1, subst (λ (z : List ℕ). Prefix (v.read ++ x ∷ []) z) spells more),
           λ full. let same : v.read ++ x ∷ [] ≡ e = whole_same (v.read ++ x ∷ []) e more full wh.0 in told hist beg p s r (v.seen ++ (v.read ++ x ∷ []) ∷ [])
               (prefix_more v.seen (v.read ++ x ∷ []) r.log kn.seen_is_prefix (got.1 ∙ ap some (sym same))),
         ),

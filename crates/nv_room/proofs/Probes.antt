@@ -111,19 +111,19 @@ module _ {K B : Type 0} (hist : K → List Entry) (beg : K → B) (p : Layout K)
   M = Me (Option K) (View K)
 
   lawful_entries : (s : St) (r : RuleOf s) → IsLawful (entries r.log)
-  lawful_entries s r = subst IsLawful (sym (ap entries (sym r.log_is_spelt) ∙ entries_spelt r.events (λ i e f. lawful_range r.events i e r.log_is_lawful f))) r.log_is_lawful
+  lawful_entries s r = subst IsLawful (sym (ap entries (sym r.common.log_is_spelt) ∙ entries_spelt r.common.events (λ i e f. lawful_range r.common.events i e r.common.log_is_lawful f))) r.common.log_is_lawful
 
   -- the number of an event that a reader has still to see stands in its place
   stamped : (s : St) (r : RuleOf s) (id : ℕ) (v : View K) → get_elem? s.views id ≡ some v → v.role ≡ Reader → length v.seen < length r.log → IsStamped p.places (stamp_word p.stations p.places s.words) r.log (length v.seen)
   stamped s r id v at role more = let n : ℕ = p.stations in let c : ℕ = p.places in let i : ℕ = length v.seen in let ir = in_role hist beg p s r id v at Reader role in let se = seated hist beg p s r id v at Reader role tt in
       let e = there r.log i more in
-      let y = there r.events i (let q = ap length r.log_is_spelt in omega (arith, length-map r.events spell)) in
-      let spells : e.0 ≡ spell y.0 = some-injective e.0 (spell y.0) (sym e.1 ∙ subst (λ (z : Log). get_elem? z i ≡ some (spell y.0)) r.log_is_spelt (at_map spell r.events i y.0 y.1)) in
-      let word = number_word y.0 (lawful_range r.events i y.0 r.log_is_lawful y.1) in
-      let stamp : y.0.stamp ≡ i = (r.log_is_lawful i y.0 (slice_some r.events i y.0 y.1)).stamp in
-      let other : v.station ≢ r.holder = not_holder (now hist beg p s r) v.station r.led ir.led_nothing (omega arith) in
+      let y = there r.common.events i (let q = ap length r.common.log_is_spelt in omega (arith, length-map r.common.events spell)) in
+      let spells : e.0 ≡ spell y.0 = some-injective e.0 (spell y.0) (sym e.1 ∙ subst (λ (z : Log). get_elem? z i ≡ some (spell y.0)) r.common.log_is_spelt (at_map spell r.common.events i y.0 y.1)) in
+      let word = number_word y.0 (lawful_range r.common.events i y.0 r.common.log_is_lawful y.1) in
+      let stamp : y.0.stamp ≡ i = (r.common.log_is_lawful i y.0 (slice_some r.common.events i y.0 y.1)).stamp in
+      let other : v.station ≢ r.holder = not_holder (now hist beg p s r) v.station r.common.led ir.led_nothing (omega arith) in
       let le : cursor s.words v.station ≤ i = subst (λ (z : ℕ). z ≤ i) (sym ir.cursor_is_length) (le_refl i) in
-      let stands = r.places.unread_stands i v.station e.0 other (last_near r.seating v.version v.station se.last) le e.1 1 _ (ap (λ (z : List ℕ). get_elem? z 1) spells ∙ word.0) in
+      let stands = r.common.places.unread_stands i v.station e.0 other (last_near r.seating v.version v.station se.last) le e.1 1 _ (ap (λ (z : List ℕ). get_elem? z 1) spells ∙ word.0) in
       ap (λ (z : ℕ). low (get_or s.words z 0)) (sym (place_early n c r.log i 1 (omega arith))) ∙ ap low stands ∙ word.1 ∙ stamp
 
   pub probes : (slots id k l : ℕ) (me : M) → me.0.role ≡ Reader → l < 8 → Lives me.0.seen l → length me.0.seen < me.0.head_last → k ≡ next_slot p.stations p.places (lanes_after me.0.seen) l 1
@@ -136,7 +136,7 @@ module _ {K B : Type 0} (hist : K → List Entry) (beg : K → B) (p : Layout K)
       let mg = r.merge in
       let seen : Log = v.seen in
       let i : ℕ = length v.seen in
-      let se = seated hist beg p s r id v at Reader role tt in let nt = mg.notes id v at role in let x : ℕ = get_or s.words k 0 in let pos : 0 < c = r.places.some_place in
+      let se = seated hist beg p s r id v at Reader role tt in let nt = mg.notes id v at role in let x : ℕ = get_or s.words k 0 in let pos : 0 < c = r.common.places.some_place in
       let more : i < length r.log = (let q = kn.head_seen_at_most_head in omega arith) in
       let prefix : take i r.log ≡ v.seen = prefix_take v.seen r.log kn.seen_is_prefix in
       let sec : ℕ → ℕ → ℕ = stamp_word n c s.words in

@@ -138,7 +138,7 @@ module _ {K B : Type 0} (hist : K → List Entry) (beg : K → B) (p : Layout K)
       → Unmade p.versions u.version u.made t → (z : ℕ) → get_elem? r.seating z ≡ some v.version → t ≢ z
   apart_unmade s r j id u v e at ne lv lu t un z has same = ne
       (r.one_seat_a_version j id (tag u) (tag v) (at_map tag s.views j u e) (at_map tag s.views id v at)
-      (lu, lv, inr (inl (un.first, inl (let a = un.not_made in let b : t ≡ v.version = one_who r.seating t z t v.version (r.doors.first t un.near) has same in omega arith)))))
+      (lu, lv, inr (inl (un.first, inl (let a = un.not_made in let b : t ≡ v.version = one_who r.seating t z t v.version (r.common.doors.first t un.near) has same in omega arith)))))
 
   pub in_role : (s : St) (r : RuleOf s) (id : ℕ) (v : View K) → get_elem? s.views id ≡ some v → (role : Role) → v.role ≡ role → InRole p.stations p.places (now hist beg p s r) v role
   in_role s r id v at role is = subst (InRole p.stations p.places (now hist beg p s r) v) is (r.each_seat id v at).in_role
@@ -153,7 +153,7 @@ module _ {K B : Type 0} (hist : K → List Entry) (beg : K → B) (p : Layout K)
 
   -- all open stations are the room's
   pub open_near : (s : St) (r : RuleOf s) → length r.seating ≤ p.stations
-  open_near s r = let d = r.doors in let a = d.all in let b = d.planned in let e = below_most (planned hist beg p) (length r.log + 1) in
+  open_near s r = let d = r.common.doors in let a = d.all in let b = d.planned in let e = below_most (planned hist beg p) (length r.log + 1) in
       ⊎_elim (λ (q : r.ready ≡ length r.seating). omega arith) (λ (q : (r.ready ≡ length r.seating + 1) × (r.phase ≡ held) × (cursor s.words (length r.seating) ≡ length r.log)). let z = q.0 in omega arith) d.ready_is
 
   -- a seat's station is one of them
@@ -165,8 +165,12 @@ module _ {K B : Type 0} (hist : K → List Entry) (beg : K → B) (p : Layout K)
 
   -- where the owner isn't held, no station is ready but the open ones
   pub none_ready : (s : St) (r : RuleOf s) → r.phase ≢ held → r.ready ≡ length r.seating
-  none_ready s r ne = ⊎_elim (λ (q : r.ready ≡ length r.seating). q) (λ (q : (r.ready ≡ length r.seating + 1) × (r.phase ≡ held) × (cursor s.words (length r.seating) ≡ length r.log)). absurd (ne q.1)) r.doors.ready_is
+  none_ready s r ne = ⊎_elim (λ (q : r.ready ≡ length r.seating). q) (λ (q : (r.ready ≡ length r.seating + 1) × (r.phase ≡ held) × (cursor s.words (length r.seating) ≡ length r.log)). absurd (ne q.1)) r.common.doors.ready_is
 
   -- the first events of the log are lawful
   pub told : (s : St) (r : RuleOf s) (xs : Log) → Prefix xs r.log → SpellLawful xs
-  told s r xs pre = (take (length xs) r.events, sym (take-map spell (length xs) r.events) ∙ ap (take (length xs)) r.log_is_spelt ∙ prefix_take xs r.log pre, lawful_take r.events (length xs) r.log_is_lawful)
+  told s r xs pre = let es = r.common.events in (
+    take (length xs) es,
+    sym (take-map spell (length xs) es) ∙ ap (take (length xs)) r.common.log_is_spelt ∙ prefix_take xs r.log pre,
+    lawful_take es (length xs) r.common.log_is_lawful,
+  )

@@ -1,5 +1,5 @@
 -- Steps one after another.
-use Rattle.std.proofs.Common.{◌≡◌, ℕ, List, [], ◌∷◌, ◌++◌, refl, subst}
+use Rattle.std.proofs.Common.{ℕ, List, [], ◌∷◌, ◌++◌, refl, subst}
 use Rattle.nv_room.specs.declared.view.View.{View}
 use Rattle.nv_room.specs.Kinds.{Kind, StepGives, Went, Stepped}
 
