@@ -47,34 +47,35 @@ fn budget(look: &Look<'_>) -> u32
 }
 
 // Shows the version at the point, and the files after the events that it has seen.
+// It borrows what it shows: parts that are moved out are dropped at each return, and the proof of that took four minutes.
 fn show_at<S: Sink>(
     alloc: Global,
     sink: &mut S,
-    traced: TracedVersion,
+    traced: &mut TracedVersion,
     point: TracePoint,
     dump: Option<(u32, u32)>,
 ) -> u8
-    requires fresh { IsFresh threads traced.version.index traced.version }
-    requires settled { traced.version.eager ≡ false }
-    requires script { IsTrue (is_script (setup_of traced.script)) }
-    requires sound { AreSoundEvents (start_from (setup_of traced.script)) traced.kernel.log }
+    requires fresh { IsFresh threads traced.old.version.index traced.old.version }
+    requires settled { traced.old.version.eager ≡ false }
+    requires script { IsTrue (is_script (setup_of traced.old.script)) }
+    requires sound { AreSoundEvents (start_from (setup_of traced.old.script)) traced.old.kernel.log }
     requires dump { IsDump dump }
-    ensures { let at = follow threads (judge_of traced.rules traced.version.index) (events_to point traced.kernel.log) (fresh traced.version.at.process) in
-        Wrote (show_text at (files_after (setup_of traced.script) (take at.seen traced.kernel.log)) dump) 0
+    ensures { let at = follow threads (judge_of traced.old.rules traced.old.version.index) (events_to point traced.old.kernel.log) (fresh traced.old.version.at.process) in
+        Wrote (show_text at (files_after (setup_of traced.old.script) (take at.seen traced.old.kernel.log)) dump) 0
         (S.told sink.old) (S.faults sink.old) result (S.told sink.new) (S.faults sink.new) }
 {
     let TracedVersion {
         script,
         rules,
         kernel,
-        mut version,
+        version,
     } = traced;
-    bring(&mut version, rules.as_ref(), &kernel, point);
+    bring(version, rules.as_ref(), kernel, point);
     let seen = version.standing().seen as usize;
-    let Ok(earlier) = kernel_after(alloc, &script, &kernel, seen) else {
+    let Ok(earlier) = kernel_after(alloc, script, kernel, seen) else {
         return put_line(sink, b"varan: memory\n", MEMORY);
     };
-    let put = show(sink, &version, earlier.files(), dump);
+    let put = show(sink, version, earlier.files(), dump);
     ended(put, 0)
 }
 
@@ -85,7 +86,7 @@ pub fn inspect<F: Files, S: Sink>(alloc: Global, files: &mut F, sink: &mut S, lo
         (S.told sink.old) (S.faults sink.old) result (S.told sink.new) (S.faults sink.new) }
 {
     match trace_version(alloc, files, &look.trail, budget(look)) {
-        Ok(traced) => show_at(alloc, sink, traced, point(look), look.dump),
+        Ok(mut traced) => show_at(alloc, sink, &mut traced, point(look), look.dump),
         Err(refusal) => refuse_trail(alloc, sink, refusal, &look.trail),
     }
 }

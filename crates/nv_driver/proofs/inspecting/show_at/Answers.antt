@@ -17,7 +17,7 @@ returns-in_default g c = inr c.put_line.ensures
 
 pub returns : goal.returns
 returns g c =
-    let traced = c.args.traced in
+    let traced = c.args.traced.now in
     let log = traced.kernel.log in
     let setup = setup_of traced.script in
     let by : Option (List Op) → Follower Proc = λ rules. follow threads (judge_of rules traced.version.index) (events_to c.args.point log) (fresh traced.version.at.process) in
