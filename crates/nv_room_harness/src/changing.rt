@@ -37,19 +37,37 @@ pub fn change_leader<K: SyscallKernel>(
     let mut buf = EventBuf::make(alloc)?;
     let hands = Vec::new(alloc);
     let (room, readers, lead) = Room::make(alloc, kernel, 3, 4, &hands)?;
-    let Some((second, mut third)) = two_readers(&room, readers) else {
-        return Ok(None);
-    };
-    let Some(first) = first_leads(&room, lead, &mut third, call) else {
-        return Ok(None);
-    };
-    let Some(second) = second_leads(&room, second, &mut third, &mut buf, call, last) else {
-        return Ok(None);
-    };
-    let Some(third) = reads_to_end(&room, third, &mut buf) else {
+    let left = lead_in_turn(&room, lead, readers, &mut buf, call, last);
+    let Some((first, second, third)) = left else {
         return Ok(None);
     };
     Ok(Some(end_three(alloc, room, first, second, third)?))
+}
+
+// The seats of the three stations, once each has left.
+fn lead_in_turn<K: SyscallKernel>(
+    room: &Room<K>,
+    lead: Lead<K>,
+    readers: Vec<Reader<K>>,
+    buf: &mut EventBuf,
+    call: &Call,
+    last: &Call,
+) -> Option<(Left<K>, Left<K>, Left<K>)>
+    requires lead { IsLeadOf room.now lead × (due_of lead ≡ false) }
+    requires readers { FreshReaders room.now readers.items × (length readers.items ≡ 2) }
+    requires shaped { IsShaped (request call.now) × IsShaped (request last.now) }
+    requires first { (call.now.tid ≡ FIRST_THREAD) × (last.now.tid ≡ FIRST_THREAD) }
+    requires lives { Contains (live_after (K.log (kernel_of lead))) FIRST_THREAD }
+    requires goes_on { GoesOn (request call.now) }
+    requires ends { last.now.nr ≡ EXIT_GROUP }
+    ensures of { IfSome result (λ left. IsLeftOf room.now left.0 × IsLeftOf room.now left.1 × IsLeftOf room.now left.2) }
+    ensures versions { IfSome result (λ left. (version_of_left left.0 ≡ version_of_lead lead) × (version_of_left left.1 ≡ 1) × (version_of_left left.2 ≡ 2)) }
+{
+    let (second, mut third) = two_readers(room, readers)?;
+    let first = first_leads(room, lead, &mut third, call)?;
+    let second = second_leads(room, second, &mut third, buf, call, last)?;
+    let third = reads_to_end(room, third, buf)?;
+    Some((first, second, third))
 }
 
 fn two_readers<K: SyscallKernel>(
