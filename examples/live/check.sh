@@ -342,6 +342,24 @@ other_texts() {
     in_turn texts $'0 fault load 100\n1 exited 0' "$bad_server" "$other"
 }
 
+# refused LINES WHY: these lines of clients end at one that is refused, and its number and cause stand on standard error.
+refused() {
+    local status=0
+    printf '%b' "$1" | "$program" serve --clients --script "$work/setup" "$old_server" 2>"$work/refused" >"$work/console" || status=$?
+    is "$status" 4 "the status of lines that are refused, $2"
+    is "$(grep '^# varan: ' "$work/refused")" "# varan: input standard input: line $2" "the cause of a line that is refused"
+}
+
+# A line that is refused, of each cause. Empty lines and comments count.
+refused_lines() {
+    refused 'connect 8080\nhello\n' "2 word"
+    refused 'connect 8080\ndata 0\n' "2 shape"
+    refused 'connect 8080\n\ndata 1 68\nend 0\n' "3 range"
+    refused 'connect 8080\nend 0\nend 0\n' "3 twice"
+    refused "connect 8080\n$(printf '#%.0s' {1..4096})\n" "2 long"
+    refused '# one client\nconnect 8080\nend 0' "3 cut"
+}
+
 # A server of Debian with its bug, and behind it the one with Debian's patch.
 a_stranger() {
     local strangers=$here/../strangers clients expected inner=18101 words=(--memory 4194304 --script "$work/stranger_setup") largest=("${largest[@]}" --memory 4194304)
@@ -364,6 +382,7 @@ many_clients() {
     anew
     while_they_wait
     other_texts
+    refused_lines
     a_stranger
 }
 

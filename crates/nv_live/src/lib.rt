@@ -21,8 +21,6 @@ mod said_lines;
 mod source;
 mod streams;
 mod telling;
-#[cfg(test)]
-mod tests;
 mod transcript;
 mod writer;
 
