@@ -4,7 +4,7 @@ use std::error::Error;
 use std::fmt;
 
 /// Why a row or a text with a name isn't read.
-#[derive(Clone, Copy, Debug, PartialEq, Eq)]
+#[derive(Clone, Copy, Debug)]
 pub enum RowFault {
     /// A line that has no such place.
     Line,

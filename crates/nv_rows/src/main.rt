@@ -9,8 +9,6 @@ mod draft;
 mod entry;
 mod fault;
 mod reader;
-#[cfg(test)]
-mod reading;
 mod row;
 mod run;
 mod shape;
