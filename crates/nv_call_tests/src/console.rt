@@ -20,13 +20,18 @@ fn full_console(rt: HostRuntime) -> Result<(), Fail> {
     let listed = Vec::new(alloc);
     let mut files = FileSystem::make(alloc, &Vec::new(alloc), &listed)?;
     let most = vec![in alloc; b'a'; 16_777_210]?;
-    assert_eq!(rt; write(&mut files, 1, &most)?, 16_777_210);
-    assert_eq!(rt; write(&mut files, 2, b"bcdefghijk")?, 6);
-    assert!(rt; files.console().ends_with(b"aabcdefg"));
-    assert_eq!(rt; write(&mut files, 1, b"x")?, -28);
-    assert_eq!(rt; write(&mut files, 2, b"")?, 0);
     assert_eq!(rt; files.dup(2), 3);
-    assert_eq!(rt; write(&mut files, 3, b"x")?, -28);
+    let table: [(u32, &[u8], i32); 5] = [
+        (1, &most, 16_777_210),
+        (2, b"bcdefghijk", 6),
+        (1, b"x", -28),
+        (2, b"", 0),
+        (3, b"x", -28),
+    ];
+    for (fd, bytes, result) in table {
+        assert_eq!(rt; write(&mut files, fd, bytes)?, result);
+    }
+    assert!(rt; files.console().ends_with(b"aabcdefg"));
     assert_eq!(rt; files.console().len(), 16_777_216);
     Ok(())
 }

@@ -22,6 +22,10 @@ fn zeros(alloc: Global, count: usize) -> Result<Vec<u8>, AllocError> {
     vec![in alloc; 0; count]
 }
 
+// Three arguments, their addresses, and behind a 0 the environment and the auxiliary vector, which are empty; then the strings.
+const BLOCK: &[u8; 48] =
+    b"\x03\0\0\0\xf5\xff\x03\0\xfb\xff\x03\0\xfe\xff\x03\0\0\0\0\0\0\0\0\0\0\0\0\0\0\0\0\0\0\0\0\0\0guest\0ab\0c\0";
+
 // The words and strings of the argument block, in a memory that ends at 0x40000.
 #[test]
 fn argument_block(rt: HostRuntime) -> Result<(), Fail> {
@@ -32,19 +36,30 @@ fn argument_block(rt: HostRuntime) -> Result<(), Fail> {
         Vec::from_slice(alloc, b"c")?,
     ]?;
     let guest = Guest::make(alloc, &program, &arguments, 0x40000)?;
-    assert_eq!(rt; guest.pc(100), 0x10000);
-    assert_eq!(rt; guest.regs(100).get(2), 0x3ffd0);
-    assert_eq!(rt; guest.regs(100).get(17), 0);
+    for (n, value) in [(2, 0x3ffd0), (17, 0)] {
+        assert_eq!(rt; guest.regs(100).get(n), value);
+    }
     let mut block = [0; 48];
     assert_eq!(rt; guest.memory().copy_in(0x3ffd0, &mut block), Ok(()));
-    assert_eq!(rt;
-        block,
-        *b"\x03\0\0\0\xf5\xff\x03\0\xfb\xff\x03\0\xfe\xff\x03\0\0\0\0\0\0\0\0\0\0\0\0\0\0\0\0\0\0\0\0\0\0guest\0ab\0c\0"
-    );
+    assert_eq!(rt; block.as_slice(), BLOCK.as_slice());
+    Ok(())
+}
+
+// The code may be executed and not written, and the stack is below the end of memory.
+#[test]
+fn regions_of_a_guest(rt: HostRuntime) -> Result<(), Fail> {
+    let alloc = rt.alloc();
+    let program = nv_elf::read(alloc, &FILE)?;
+    let guest = Guest::make(alloc, &program, &[], 0x40000)?;
+    assert_eq!(rt; guest.pc(100), 0x10000);
     assert_eq!(rt; guest.memory().load(0x10008, Width::Four), Ok(0x73));
-    assert!(rt; !guest.memory().holds(0x10000, 1, Right::Write));
-    assert!(rt; guest.memory().holds(0x30000, 0x10000, Right::Write));
-    assert!(rt; !guest.memory().holds(0x2fffc, 8, Right::Write));
+    for (start, len, may_write) in [
+        (0x10000, 1, false),
+        (0x30000, 0x10000, true),
+        (0x2fffc, 8, false),
+    ] {
+        assert_eq!(rt; guest.memory().holds(start, len, Right::Write), may_write);
+    }
     Ok(())
 }
 
@@ -132,12 +147,10 @@ fn heap_forgets(rt: HostRuntime) -> Result<(), Fail> {
     let mut guest = Guest::make(alloc, &program, &[], 0x40000)?;
     assert_eq!(rt; guest.move_break(0x11004), 0x11004);
     assert_eq!(rt; guest.run(100, 3), (3, Stepped::On));
-    assert_eq!(rt; guest.memory().load(0x11000, Width::Four), Ok(85));
-    assert_eq!(rt; guest.move_break(0x11002), 0x11002);
-    assert_eq!(rt; guest.move_break(0x11004), 0x11004);
-    assert_eq!(rt; guest.memory().load(0x11000, Width::Four), Ok(85));
-    assert_eq!(rt; guest.move_break(0x11000), 0x11000);
-    assert_eq!(rt; guest.move_break(0x11004), 0x11004);
-    assert_eq!(rt; guest.memory().load(0x11000, Width::Four), Ok(0));
+    for (end, word) in [(0x11004, 85), (0x11002, 85), (0x11000, 0)] {
+        assert_eq!(rt; guest.move_break(end), end);
+        assert_eq!(rt; guest.move_break(0x11004), 0x11004);
+        assert_eq!(rt; guest.memory().load(0x11000, Width::Four), Ok(word));
+    }
     Ok(())
 }

@@ -28,18 +28,21 @@ fn seven_makes_three_versions(rt: HostRuntime) -> Result<(), Fail> {
         return Err(Fail::from("not three"));
     };
     // 335, 671 and 1007 writes; 41 and 62 multiples of 16
-    assert_eq!(rt; first.len(), CODE + 335 * 20 + 4);
-    assert_eq!(rt; second.len(), CODE + 671 * 20 + 41 * 8 + 4);
-    assert_eq!(rt; third.len(), CODE + 1007 * 20 + 62 * 8 + 12);
+    let table: [(&[u8], usize, &[u8]); 3] = [
+        (first, 335 * 20 + 4, &EBREAK),
+        (second, 671 * 20 + 41 * 8 + 4, &EBREAK),
+        (third, 1007 * 20 + 62 * 8 + 12, &EXIT),
+    ];
+    for (version, len, end) in table {
+        assert_eq!(rt; version.len(), CODE + len);
+        assert!(rt; version.ends_with(end));
+    }
     assert_eq!(rt; first.get(84..CODE), Some([b'h'; 64].as_slice()));
     assert_eq!(rt; first.get(CODE..CODE + 20), Some(WRITE_OF_8.as_slice()));
     assert_eq!(rt;
         second.get(CODE + 15 * 20..CODE + 15 * 20 + 8),
         Some(GETUID.as_slice())
     );
-    assert!(rt; first.ends_with(&EBREAK));
-    assert!(rt; second.ends_with(&EBREAK));
-    assert!(rt; third.ends_with(&EXIT));
     assert_eq!(rt; made.script.as_slice(), b"varan-script 1\n".as_slice());
     let rules = b"6\n32 0 0 64\n21 0 3 64\n32 0 0 0\n21 0 1 174\n6 0 0 2147418112\n6 0 0 0\n";
     assert_eq!(rt; made.rules.as_slice(), rules.as_slice());

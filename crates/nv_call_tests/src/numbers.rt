@@ -36,17 +36,21 @@ fn unhexes(alloc: Global, text: &[u8], want: Option<&[u8]>) -> Result<bool, Fail
 
 #[test]
 fn hexadecimal(rt: HostRuntime) -> Result<(), Fail> {
-    let alloc = rt.alloc();
-    assert!(rt; unhexes(alloc, b"", Some(b""))?);
-    assert!(rt; unhexes(alloc, b"00ff68690A", Some(b"\x00\xffhi\n"))?);
-    assert!(rt; unhexes(alloc, b"aBCdEf", Some(b"\xab\xcd\xef"))?);
-    assert!(rt; unhexes(alloc, b"0", None)?);
-    assert!(rt; unhexes(alloc, b"00f", None)?);
-    assert!(rt; unhexes(alloc, b"0g", None)?);
-    assert!(rt; unhexes(alloc, b"0x10", None)?);
-    assert_eq!(rt; hex_pair(0), *b"00");
-    assert_eq!(rt; hex_pair(0x9f), *b"9f");
-    assert_eq!(rt; hex_pair(0xa0), *b"a0");
+    let table: [(&[u8], Option<&[u8]>); 7] = [
+        (b"", Some(b"")),
+        (b"00ff68690A", Some(b"\x00\xffhi\n")),
+        (b"aBCdEf", Some(b"\xab\xcd\xef")),
+        (b"0", None),
+        (b"00f", None),
+        (b"0g", None),
+        (b"0x10", None),
+    ];
+    for (text, want) in table {
+        assert!(rt; unhexes(rt.alloc(), text, want)?, "{text:?}");
+    }
+    for (byte, digits) in [(0, *b"00"), (0x9f, *b"9f"), (0xa0, *b"a0")] {
+        assert_eq!(rt; hex_pair(byte), digits);
+    }
     Ok(())
 }
 

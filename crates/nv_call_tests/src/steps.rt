@@ -143,6 +143,14 @@ fn atomic_faults(rt: HostRuntime) -> Result<(), Fail> {
     Ok(())
 }
 
+// The word is written at CODE and executed there, with this address in x5.
+fn execute(regs: &mut Regs, memory: &mut Memory, word: u32, at: u32) -> Option<Stepped> {
+    memory.store(CODE, Width::Four, word).ok()?;
+    regs.pc = CODE;
+    regs.set(5, at);
+    Some(step(regs, memory))
+}
+
 // A fault leaves the reservation, and `release` ends it.
 #[test]
 fn reservation(rt: HostRuntime) -> Result<(), Fail> {
@@ -150,21 +158,14 @@ fn reservation(rt: HostRuntime) -> Result<(), Fail> {
     let mut memory = Memory::make(rt.alloc(), 0x20000, regions)?;
     let mut regs = Regs::new(CODE);
     assert_eq!(rt; regs.reserved(), None);
-    regs.set(5, DATA);
-    // lr.w x0, (x5)
-    assert_eq!(rt; memory.store(CODE, Width::Four, 0x1002_a02f), Ok(()));
-    assert_eq!(rt; step(&mut regs, &mut memory), Stepped::On);
-    assert_eq!(rt; regs.reserved(), Some(DATA));
-    regs.set(5, DATA + 1);
-    regs.pc = CODE;
-    // sc.w x0, x0, (x5)
-    assert_eq!(rt; memory.store(CODE, Width::Four, 0x1802_a02f), Ok(()));
-    assert_eq!(rt;
-        step(&mut regs, &mut memory),
-        Stepped::Fault(FaultKind::Store)
-    );
-    assert_eq!(rt; regs.reserved(), Some(DATA));
-    assert_eq!(rt; regs.copy().reserved(), Some(DATA));
+    for (word, at, want) in [
+        (0x1002_a02f, DATA, Stepped::On), // lr.w x0, (x5)
+        (0x1802_a02f, DATA + 1, Stepped::Fault(FaultKind::Store)), // sc.w x0, x0, (x5)
+    ] {
+        assert_eq!(rt; execute(&mut regs, &mut memory, word, at), Some(want));
+        assert_eq!(rt; regs.reserved(), Some(DATA));
+        assert_eq!(rt; regs.copy().reserved(), Some(DATA));
+    }
     regs.release();
     assert_eq!(rt; regs.reserved(), None);
     Ok(())

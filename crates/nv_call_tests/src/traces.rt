@@ -28,13 +28,17 @@ fn cut(alloc: Global, len: usize) -> Option<TraceFault> {
 #[test]
 fn read_faults(rt: HostRuntime) -> Result<(), Fail> {
     let alloc = rt.alloc();
-    assert_eq!(rt; cut(alloc, 111), None);
-    assert_eq!(rt; cut(alloc, 110), Some(TraceFault::Short(1)));
-    assert_eq!(rt; cut(alloc, 62), Some(TraceFault::Short(0)));
-    assert_eq!(rt; cut(alloc, 59), Some(TraceFault::Short(0)));
-    assert_eq!(rt; cut(alloc, 12), Some(TraceFault::Short(0)));
-    assert_eq!(rt; cut(alloc, 11), Some(TraceFault::Magic));
-    assert_eq!(rt; cut(alloc, 0), Some(TraceFault::Magic));
+    for (len, want) in [
+        (111, None),
+        (110, Some(TraceFault::Short(1))),
+        (62, Some(TraceFault::Short(0))),
+        (59, Some(TraceFault::Short(0))),
+        (12, Some(TraceFault::Short(0))),
+        (11, Some(TraceFault::Magic)),
+        (0, Some(TraceFault::Magic)),
+    ] {
+        assert_eq!(rt; cut(alloc, len), want, "{len} bytes");
+    }
     for (place, byte, want) in [
         (0, b'v', TraceFault::Magic),
         (7, b'2', TraceFault::Magic),

@@ -10,6 +10,8 @@ use nv_served::SyscallKernel;
 use nv_workers::OpenGate;
 use std::alloc::{AllocError, Global};
 use std::process::Abort;
+use std::sync::Wait;
+use std::thread::Threads;
 
 // Lines of two letters from one on up to ef, and then the end, which comes twice where it is told.
 #[derive(Drop)]
@@ -79,55 +81,101 @@ fn kernel_from<R: Abort>(rt: &R, alloc: Global, first: u8, told: bool) -> Arrivi
     ArrivingKernel::make(alloc, &script, pairs).expect(rt, "a kernel")
 }
 
+// What comes from a first letter on, and what is made of it: the events of the log, how many reads gave bytes, what is written, and
+// what is done with the outside in turn.
+struct Echo {
+    first: u8,
+    events: usize,
+    reads: u8,
+    output: &'static [u8],
+    done: &'static [u8],
+}
+
+const ECHOED: [Echo; 3] = [
+    Echo {
+        first: b'a',
+        events: 8,
+        reads: 3,
+        output: b"abcdef",
+        done: b"<ab>ab<cd>cd<ef>ef<.",
+    },
+    Echo {
+        first: b'e',
+        events: 4,
+        reads: 1,
+        output: b"ef",
+        done: b"<ef>ef<.",
+    },
+    Echo {
+        first: b'g',
+        events: 2,
+        reads: 0,
+        output: b"",
+        done: b"<.",
+    },
+];
+
+impl Echo {
+    // What is done, without the end where it isn't told.
+    fn done(&self, told: bool) -> &'static [u8] {
+        let kept = self.done.len().saturating_sub(2);
+        if told {
+            self.done
+        } else {
+            self.done.get(..kept).unwrap_or(self.done)
+        }
+    }
+
+    fn is_of(&self, kernel: &ArrivingKernel<Pairs>, told: bool) -> bool {
+        kernel.history().len() == self.events
+            && kernel.output() == self.output
+            && kernel.ended() == Some(self.reads)
+            && kernel.outside().done.text.as_slice() == self.done(told)
+    }
+}
+
+// The account of one version after another, as text.
+fn echoed<R: Abort>(rt: &R, alloc: Global, texts: &[String; 2], echo: &Echo, told: bool) -> String {
+    let kernel = kernel_from(rt, alloc, echo.first, told);
+    let plain = one_by_one(alloc, kernel, texts, None, &Vec::new(alloc));
+    let account = plain.expect(rt, "a run");
+    assert!(rt; echo.is_of(&account.kernel, told), "from {}", echo.first);
+    text_of(rt, alloc, Some(account))
+}
+
+// The same of two beside each other, on so many threads.
+fn echoed_beside<R: Threads + Wait + Sync + Abort>(
+    rt: &R,
+    alloc: Global,
+    texts: &[String; 2],
+    echo: &Echo,
+    told: bool,
+    threads: u32,
+) -> String {
+    let kernel = kernel_from(rt, alloc, echo.first, told);
+    let hands = Vec::new(alloc);
+    let account = beside(
+        rt, alloc, kernel, texts, None, &OpenGate, &hands, 2, threads,
+    );
+    let account = account.expect(rt, "a run");
+    assert!(rt; echo.is_of(&account.kernel, told), "from {}", echo.first);
+    text_of(rt, alloc, Some(account))
+}
+
 // Two versions beside each other read what comes, on one thread and on two, and tell the account of one after another.
 #[test]
 fn pairs_come(rt: HostRuntime) {
     let alloc = rt.alloc();
-    let hands = Vec::new(alloc);
     let texts = [
         String::from_str(alloc, ECHOES).expect(&rt, "memory"),
         String::from_str(alloc, ECHOES).expect(&rt, "memory"),
     ];
-    for (first, events, output, done) in [
-        (
-            b'a',
-            8,
-            b"abcdef".as_slice(),
-            b"<ab>ab<cd>cd<ef>ef<.".as_slice(),
-        ),
-        (b'e', 4, b"ef".as_slice(), b"<ef>ef<.".as_slice()),
-        (b'g', 2, b"".as_slice(), b"<.".as_slice()),
-    ] {
+    for echo in &ECHOED {
         for told in [false, true] {
-            let done = if told { done } else { &done[..done.len() - 2] };
-            let plain = one_by_one(
-                alloc,
-                kernel_from(&rt, alloc, first, told),
-                &texts,
-                None,
-                &hands,
-            );
-            let account = plain.expect(&rt, "a run");
-            assert_eq!(&rt; account.kernel.history().len(), events);
-            assert_eq!(&rt; account.kernel.output(), output);
-            assert_eq!(&rt; account.kernel.ended(), Some((events / 2 - 1) as u8));
-            assert_eq!(&rt; account.kernel.outside().done.text.as_slice(), done);
-            let plain = text_of(&rt, alloc, Some(account));
+            let plain = echoed(&rt, alloc, &texts, echo, told);
             for threads in [1, 2] {
-                let account = beside(
-                    &rt,
-                    alloc,
-                    kernel_from(&rt, alloc, first, told),
-                    &texts,
-                    None,
-                    &OpenGate,
-                    &hands,
-                    2,
-                    threads,
-                );
-                let account = account.expect(&rt, "a run");
-                assert_eq!(&rt; account.kernel.outside().done.text.as_slice(), done);
-                assert_eq!(&rt; text_of(&rt, alloc, Some(account)).as_str(), plain.as_str());
+                let text = echoed_beside(&rt, alloc, &texts, echo, told, threads);
+                assert_eq!(&rt; text.as_str(), plain.as_str());
             }
         }
     }
