@@ -236,7 +236,7 @@ page() {
     "$here/follow.py" "$here/../docs/$1" "$program" || wrong=$((wrong + 1))
 }
 
-cd ../crates/nv_examples/data/hello
+cd assembler/hello
 "$program" asm hi.s >"$work/hi"
 row 0 expected/report run --script script "$work/hi"
 row 0 expected/json run --script script --json "$work/hi"
@@ -415,7 +415,7 @@ cd "$here/server"
 
 if has jq jq "strace.jq"; then
     calls expected/calls --script scripts/clients built/server_1
-    cd "$here/../crates/nv_examples/data/service"
+    cd "$here/assembler/service"
     calls expected/calls --script script "$work/service_2" "$work/service_1"
     cd ../server
     calls expected/calls --script script "$work/server_2" "$work/server_1"
