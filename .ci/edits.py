@@ -52,6 +52,9 @@ ROW = re.compile(r"\| `(\w+/[\w.-]+)` \|")
 UNSURE = "the search gave up, so nothing says that it is false"
 WORD = re.compile(r"\w+|[^\w\s]")
 
+# The folders of a crate: of the edits that the gate tries, and of those that are tried by hand (by_hand.py).
+GATE, BY_HAND = "must-fail", "must-fail-by-hand"
+
 
 @dataclasses.dataclass
 class Edit:
@@ -101,11 +104,11 @@ def shown_by(came_to, said, edit):
     return (kind, None) if kind else (None, f"what refuses it is none of what counts{said}")
 
 
-def edits_of(folder):
-    """Returns the edits that stand in the crates, by their names as CRATE/NAME."""
+def edits_of(folder, kind=GATE):
+    """Returns the edits of a kind that stand in the crates, by their names as CRATE/NAME."""
     found = {}
     for crate in os.listdir(folder):
-        place = f"{folder}/{crate}/must-fail"
+        place = f"{folder}/{crate}/{kind}"
         for it in os.listdir(place) if os.path.isdir(place) else []:
             if it.endswith(".edit"):
                 with open(f"{place}/{it}", encoding="utf-8", errors="replace") as text:
@@ -131,14 +134,18 @@ class Page:
         parts = {part.partition("\n")[0]: set(ROW.findall(part)) for part in text.split("\n## ")}
         return cls(*(parts.get(title, set()) for title in ("Conditions that are the rule", "Tried with a right value", "Not tried yet")))
 
+    def only(self, names):
+        """The page's rows of these edits."""
+        return Page(self.conditions & names, self.tried & names, self.untried & names)
+
     def takes(self, name, why, said):
         """Whether an edit counts by the page."""
         is_unsure = why.startswith(UNSURE)
         return name in self.conditions or name in self.tried and (is_unsure or ANSWER.match(said)) or name in self.untried and is_unsure
 
 
-def faults_in(lines, edits, page):
-    """Returns a line for each edit that shows nothing or isn't told of, and for each name of the page that is of no use."""
+def faults_in(lines, edits, page, untold=frozenset()):
+    """Returns a line for each edit that shows nothing or isn't told of, and for each name of the page that is of no use. Other edits that stand, and that the run needn't tell of, are `untold`."""
     told = told_in(lines)
     whys = {name: shown_by(*it, edits.get(name, Edit()))[1] for name, it in told.items()}
     for name, why in sorted(whys.items()):
@@ -146,10 +153,10 @@ def faults_in(lines, edits, page):
             yield f"{name}: {why}"
     for name in sorted(edits.keys() - told.keys()):
         yield f"{name}: the run says nothing of it"
-    for name in sorted(page.conditions | page.untried):
+    for name in sorted((page.conditions | page.untried) - untold):
         if name not in told or not whys[name]:
             yield f"{name}: docs/EDITS.md names it, and it counts without"
-    for name in sorted(page.tried - edits.keys()):
+    for name in sorted(page.tried - edits.keys() - untold):
         yield f"{name}: docs/EDITS.md names it, and there is no such edit"
 
 
@@ -166,7 +173,7 @@ def main(words):
             kind, why = shown_by(*it, edits.get(name, Edit()))
             print(f"{name}: {kind or 'NOTHING'}{it[1].rstrip() if kind else ': ' + why.rstrip()}")
         return 0
-    faults = list(faults_in(lines, edits, page))
+    faults = list(faults_in(lines, edits, page, edits_of("crates", BY_HAND).keys()))
     for it in faults:
         print(f"edits.py: {it.rstrip()}")
     return 1 if faults else 0

@@ -1,11 +1,13 @@
 #!/usr/bin/env python3
-"""Tries edits.py on made-up logs: a line of each kind that `rt ci` prints of an edit, whether the edit counts by it, and whole logs with what must be told of them.
+"""Tries edits.py on made-up logs: a line of each kind that `rt ci` prints of an edit, whether the edit counts by it, and whole logs with what must be told of them; and by_hand.py on
+made-up edits, whether they can be applied.
 
 The lines have the form that rt gives them, as it cuts them. Status: 0 where each comes out as it is written here, else 1.
 """
 import sys
 
 sys.dont_write_bytecode = True
+import by_hand
 import edits
 
 REFUSED = "refused, as it must be"
@@ -123,6 +125,19 @@ LOGS = [
     ([AT_LIMIT.replace("a/unsure", "a/other")], ["a/other"], ["a/other: the search gave up"]),
     ([COUNTED.replace("a/counts", "a/unsure")], ["a/unsure"], ["a/unsure: docs/EDITS.md names it"]),
 ]
+# Edits that are tried by hand: the gate needn't tell of them, nor of their rows of the page.
+UNTOLD = {"a/lemma", "a/condition", "a/unsure"}
+FILES = {"src/a.rt": "let a = b + 1;\nlet c = b + 1;\n", "src/b.rt": "let d = 2;\n"}
+# An edit's text, and why it can't be applied to these files, or a part of that.
+MISFITS = [
+    ("file: src/b.rt\nold: d = 2;\nnew: d = 3;\n", None),
+    ("file: src/a.rt\nold: let a = b + 1;\nnew: let a = b;\nfile: src/b.rt\nold: let d\nnew: let e\n", None),
+    ("file: src/a.rt\nold: b + 1;\nnew: b;\n", "in src/a.rt 2 times"),
+    ("file: src/a.rt\nold: let a = b + 1;\nnew: let a = b;\nfile: src/b.rt\nold: d = 4;\nnew: d = 5;\n", "in src/b.rt 0 times"),
+    ("file: src/c.rt\nold: d = 2;\nnew: d = 3;\n", "in src/c.rt 0 times"),
+    ("old: d = 2;\nnew: d = 3;\nfile: src/b.rt\n", "before any file"),
+    ("old and new\n", "no file"),
+]
 
 
 def case_fault(said, edit, wanted):
@@ -142,16 +157,31 @@ def log_fault(lines, names, wanted):
     return None if is_right else f"{lines}\n  has {told}, in place of: {wanted}"
 
 
+def untold_fault():
+    """What comes out otherwise of a log without the edits that are tried by hand, or None."""
+    told = list(edits.faults_in([COUNTED], {"a/counts": PLAIN}, edits.Page.of(PAGE), UNTOLD))
+    return f"by hand: {told}" if told else None
+
+
+def misfit_fault(text, wanted):
+    """What comes out otherwise of an edit that may be misfit, or None."""
+    why = by_hand.misfit(text, lambda path: FILES.get(path, ""))
+    is_right = why is None if wanted is None else wanted in (why or "")
+    return None if is_right else f"{text}\n  can't be applied for: {why}, in place of: {wanted}"
+
+
 def change_fault(text, wanted):
     """What comes out otherwise of an edit's text, or None."""
     return None if edits.Edit.of(text) == wanted else f"{text}\n  is {edits.Edit.of(text)}, in place of: {wanted}"
 
 
 def main():
-    faults = [it for it in [*(case_fault(*case) for case in CASES), *(log_fault(*log) for log in LOGS), *(change_fault(*it) for it in CHANGES)] if it]
+    tried = [*(case_fault(*case) for case in CASES), *(log_fault(*log) for log in LOGS), untold_fault()]
+    tried += [*(change_fault(*it) for it in CHANGES), *(misfit_fault(*it) for it in MISFITS)]
+    faults = [it for it in tried if it]
     for it in faults:
         print(f"edits_test.py: {it}")
-    print(f"edits_test.py: {len(CASES) + len(LOGS) + len(CHANGES)} cases, {len(faults)} wrong")
+    print(f"edits_test.py: {len(tried)} cases, {len(faults)} wrong")
     return 1 if faults else 0
 
 
