@@ -9,7 +9,7 @@ nanoseconds a verdict, and of the best place also the least. With valgrind it ha
 
 `--before` names the object of another build of nv_rules_bench (out/nv_rules_bench.o), as one from before a change.
 
-The object is what programs.py left; it is linked as `rt ci` does. Needs cc, nm and the kit's `rt` in PATH.
+The object is what programs.py left, or has `rt run` make; it is linked as these do. Needs cc, nm and the kit's `rt` in PATH.
 """
 import argparse
 import os
@@ -68,10 +68,18 @@ def placed(room, name, link, code):
     return programs
 
 
+def object_file():
+    """The object of nv_rules_bench, which `rt run` leaves where the program was taken from what is kept."""
+    program = built("nv_rules_bench")
+    if not os.path.exists(program + ".o"):
+        subprocess.run(["rt", "run", "--", "10", "1"], cwd=os.path.dirname(os.path.dirname(program)), capture_output=True, check=True)
+    return program + ".o"
+
+
 def all_programs(room, before):
     c = os.path.join(room, "c.o")
     subprocess.run(["cc", "-O2", "-c", "-o", c, os.path.join(TOP, "bench", "verdict_baseline.c")], check=True)
-    ours = built("nv_rules_bench") + ".o"
+    ours = object_file()
     programs = {"C": placed(room, "C", link_c, c), "verdicts": placed(room, "verdicts", link_ours, ours)}
     if before:
         programs["verdicts before"] = placed(room, "verdicts before", link_ours, before)
