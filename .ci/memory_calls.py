@@ -4,7 +4,7 @@ each that stands there takes memory by its signature.
 
 A call takes memory by its signature where it takes an allocator (Global), or where its answer has AllocError or a type of the code with a case Memory. Those that
 take none all the same stand in the paragraph after the table. Reads crates/*/src. A call is public where its crate's lib.rt exports it, its type or its module (whose name is then
-part of its path); each call of an exported trait is. Crates of tests, their harnesses and those that read rows are left out.
+part of its path); each call of an exported trait is. Crates of tests, their harnesses, benchmarks and those that read rows are left out.
 Prints what one has and the other hasn't. Status: 0 where there is nothing, else 1.
 """
 import pathlib
@@ -13,7 +13,7 @@ import sys
 
 TOP = pathlib.Path(__file__).resolve().parent.parent
 PAGE = "docs/MEMORY.md"
-LEFT_OUT = re.compile(r"_(tests|laws|harness)$|^nv_rows$")
+LEFT_OUT = re.compile(r"_(tests|bench|laws|harness)$|^nv_rows$")
 CALL = re.compile(r"^( *)(pub )?(?:final )?fn (\w+)(?:<[^{;]*?>)?\(([^{;]*?)\)(?: -> ([^{;]*?))?(?=\s*(?:;|requires|ensures|where|\{))", re.M | re.S)
 OWNER = re.compile(r"^(impl|pub trait|trait)(?:<[^>]*>)? (\w+)([^{\n]*)", re.M)
 CASES = re.compile(r"^pub enum (\w+)[^{]*\{(.*?)^\}", re.M | re.S)

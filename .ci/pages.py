@@ -7,7 +7,7 @@
 - Refusals: docs/REFUSALS.md has each line with its status and each cause of the definitions, with something to do; docs/ASSEMBLER.md the causes of its texts.
 - Limits of files and options: the pages of LIMITS and OPTION_LIMITS have the numbers of the definitions.
 - Crates: crates.txt has each after those that it uses, with the first sentence of its head; docs/ARCHITECTURE.md has its layers as a picture, and docs/PROVED.md an
-  entry for each that isn't of tests. A report's line is found in the code as ARCHITECTURE says.
+  entry for each that isn't of tests or benches. A report's line is found in the code as ARCHITECTURE says.
 - Steps: each step that nv_room takes on its table is of a kind that nv_progress counts, as docs/PROVED.md says.
 - Pages: README.md lists those of docs/. The ones that a user reads first have no line of more than 200 characters, the others none of more than 240.
 """
@@ -84,8 +84,8 @@ OPTION_LIMITS = (
     ("count", "INSPECT", "after C instructions, 1 to {most},"),
     ("length", "INSPECT", "from the address A on, 1 to {most}."),
 )
-# the layer of crates.txt that stands beside the program
-BESIDE = {"tests"}
+# layers of crates.txt that stand beside the program
+BESIDE = {"tests", "benches"}
 # what stands on a page for another program's option
 OTHERS = {"help", "version", "anew", "program"}
 

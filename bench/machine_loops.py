@@ -3,16 +3,16 @@
 
     bench/machine_loops.py [RUNS] [--before PROGRAM] [--host]
 
-First `step` in a bare loop, on the three guests of nv_machine_bench (programs.py): that program beside bench/machine_loops.c, which decodes at each step, with `step` as a call of its own, compiled into
+First `step` in a bare loop, on the three guests of crates/nv_machine_bench: that program beside bench/machine_loops.c, which decodes at each step, with `step` as a call of its own, compiled into
 the loop, and as a call with the addresses of the code kept for fetches; and beside bench/machine_decoded.c, which decodes once. All must print the same. `--before` names another build of the
 machine's program, as one from before a change.
 
 Then whole programs from the stock compiler: loops over arrays (bench/machine_kernels.c), and Lua and bzip2 as examples/strangers builds them from Debian's sources, which it fetches where that wasn't
-done. They are run by nv_thread_bench (`Process::advance`, what they write let go), by `varan run` on one thread (log and report with it), by bench/machine_decoded.c, as it is and decoding each
-time, and by qemu-riscv32. Before they are timed, the C interpreter has to write and to exit as qemu does, and to make as many calls and instructions as nv_thread_bench.
+done. They are run by crates/nv_thread_bench (`Process::advance`, what they write let go), by `varan run` on one thread (log and report with it), by bench/machine_decoded.c, as it is and decoding each
+time, and by qemu-riscv32. Before they are timed, the C interpreter has to write and to exit as qemu does, and to make as many calls and instructions as crates/nv_thread_bench.
 
 All are run in turn, RUNS times (9). The tables have the medians and the bests of their processor times (user and system), and ratios of both. `--host` adds the host instructions of a guest's
-instruction, by valgrind, which don't depend on the load and take a quarter of an hour. The monitor is taken as `rt ci` built it.
+instruction, by valgrind, which don't depend on the load and take a quarter of an hour. Programs of this repository are taken as `rt ci` built them, or built by `rt run` where there is none.
 
 Needs gcc, riscv64-unknown-elf-gcc with picolibc, and qemu-riscv32. It ends with 3 where Lua and bzip2 can't be built, and leaves them out.
 """
@@ -25,9 +25,7 @@ import subprocess
 import sys
 import tempfile
 
-from programs import built
-from thread_loops import counted
-from worker_speed import PROGRAM
+from thread_loops import built, counted
 
 TOP = os.path.dirname(os.path.dirname(os.path.abspath(__file__)))
 BENCH = os.path.join(TOP, "bench")
@@ -73,7 +71,7 @@ def ratio(other, ours):
 # `step` in a bare loop
 
 def bare_programs(room, before):
-    programs = {"machine": built("nv_machine_bench")}
+    programs = {"machine": built("nv_machine_bench", "count", "1")}
     if before:
         programs["machine before"] = before
     for name, flags in (("C, step called", []), ("C, step inlined", ["-DINLINE"]), ("C, called, code kept", ["-DCODE"])):
@@ -141,8 +139,8 @@ def commands_of(room, interpreters, guest, most=MOST):
     words = [file, str(mib), str(most), given]
     run = ["run", "--threads", "1", "--memory", str(mib << 20), "--budget", str(most), "--script", script_of(room, given), file]
     return {
-        "advance": ([built("nv_thread_bench"), *words], os.devnull),
-        "varan run": ([PROGRAM, *run], os.devnull),
+        "advance": ([built("nv_thread_bench", "one", "1"), *words], os.devnull),
+        "varan run": ([built("varan", "run", "--script", "data/s", "data/v"), *run], os.devnull),
         "C, decoding once": ([interpreters["once"], *words], os.devnull),
         "C, decoding each time": ([interpreters["each"], *words], os.devnull),
         "qemu-riscv32": (["qemu-riscv32", "-0", "guest", file], given),

@@ -3,15 +3,15 @@
 
     bench/thread_loops.py [RUNS] [--before FOLDER] [--answers PROGRAM]
 
-A guest that counts down (`addi`, `bne`) runs for the same number of instructions as nv_machine_bench calls `step`, as nv_thread_bench calls `Process::advance` (programs.py), in one
+A guest that counts down (`addi`, `bne`) runs for the same number of instructions as crates/nv_machine_bench calls `step`, as crates/nv_thread_bench calls `Process::advance`, in one
 thread and in eight that take turns, and as one version under `varan run` on one thread. Beside them the plain C interpreters of bench/machine_loops.c, with `step` as a call of its own
 and compiled into the loop, and of bench/machine_decoded.c, which decodes once. Runs them in turn (11 times by default), and prints the medians and the best of their processor times in millions of instructions a second, the speed
 of each against `step`, and how many times its time C takes. With valgrind it also prints the host instructions of each guest instruction, which don't depend on the load.
 
-Then a guest that reads, whose calls nv_thread_bench answers with 4,096 bytes: nanoseconds an answer. `--before` names a folder with other builds of varan and nv_thread_bench, as
+Then a guest that reads, whose calls crates/nv_thread_bench answers with 4,096 bytes: nanoseconds an answer. `--before` names a folder with other builds of varan and nv_thread_bench, as
 from before a change, whose loops are timed as well, and `--answers` another build of nv_thread_bench that answers.
 
-Takes the monitor as `rt ci` built it.
+Takes the programs as `rt ci` built them, or builds those that aren't there with `rt run`.
 """
 import argparse
 import os
@@ -23,7 +23,6 @@ import subprocess
 import sys
 import tempfile
 
-from programs import built
 from worker_speed import EXIT, PROGRAM, compute, image
 
 TOP = os.path.dirname(os.path.dirname(os.path.abspath(__file__)))
@@ -31,12 +30,20 @@ STEPS = 50_000_000
 COUNTED = 2_000_000
 
 
+def built(crate, *words):
+    folder = os.path.join(TOP, "crates", crate)
+    program = os.path.join(folder, "out", crate)
+    if not os.path.exists(program):
+        subprocess.run(["rt", "run", "--", *words], cwd=folder, check=True, capture_output=True)
+    return program
+
+
 class Programs:
     """What runs the guest, by name: the words of a run of so many instructions."""
 
     def __init__(self, room, before):
         self.room = room
-        machine, threads = built("nv_machine_bench"), built("nv_thread_bench")
+        machine, threads = built("nv_machine_bench", "count", "1"), built("nv_thread_bench", "one", "1")
         self.write("s", b"varan-script 1\n")
         self.words = {
             "step": lambda steps: [machine, "count", str(steps)],
@@ -100,10 +107,11 @@ READS = {"answers": 4_000_000, "answers, the other build": 400_000}
 
 
 def print_answers(runs, other):
-    builds = {"answers": built("nv_thread_bench"), **({"answers, the other build": other} if other else {})}
-    times = {name: [] for name in builds}
+    threads = built("nv_thread_bench", "one", "1")
+    programs = {"answers": threads, **({"answers, the other build": other} if other else {})}
+    times = {name: [] for name in programs}
     for _ in range(runs):
-        for name, program in builds.items():
+        for name, program in programs.items():
             idle = timed([program, "answers", "4"])
             times[name].append((timed([program, "answers", str(READS[name])]) - idle) / (READS[name] / 4))
     print("\n| An answer of 4,096 bytes | ns: median, best |\n|---|---|")

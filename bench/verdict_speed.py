@@ -7,9 +7,9 @@ Where a loop lies in a line of 64 bytes can cost half of its time again, in eith
 further on, and a program's time is that of its best place. All are run in turn, RUNS times (9), each run a process; the table has the medians of their processor times (user and system), in
 nanoseconds a verdict, and of the best place also the least. With valgrind it has the host instructions of a verdict too, which depend neither on the place nor on the load.
 
-`--before` names the object of another build of nv_rules_bench (out/nv_rules_bench.o), as one from before a change.
+`--before` names the object of another build of crates/nv_rules_bench (out/nv_rules_bench.o), as one from before a change.
 
-The object is what programs.py left, or has `rt run` make; it is linked as these do. Needs cc, nm and the kit's `rt` in PATH.
+Takes the object as `rt ci` left it, or has `rt run` make it; links it as these do. Needs cc, nm and the kit's `rt` in PATH.
 """
 import argparse
 import os
@@ -21,8 +21,7 @@ import subprocess
 import sys
 import tempfile
 
-from programs import built
-from thread_loops import TOP, counted
+from thread_loops import TOP, built, counted
 
 PLACES = (0, 16, 32, 48)
 VERDICTS = {10: 5_000_000, 4096: 20_000}
@@ -68,18 +67,10 @@ def placed(room, name, link, code):
     return programs
 
 
-def object_file():
-    """The object of nv_rules_bench, which `rt run` leaves where the program was taken from what is kept."""
-    program = built("nv_rules_bench")
-    if not os.path.exists(program + ".o"):
-        subprocess.run(["rt", "run", "--", "10", "1"], cwd=os.path.dirname(os.path.dirname(program)), capture_output=True, check=True)
-    return program + ".o"
-
-
 def all_programs(room, before):
     c = os.path.join(room, "c.o")
     subprocess.run(["cc", "-O2", "-c", "-o", c, os.path.join(TOP, "bench", "verdict_baseline.c")], check=True)
-    ours = object_file()
+    ours = built("nv_rules_bench", "10", "1") + ".o"
     programs = {"C": placed(room, "C", link_c, c), "verdicts": placed(room, "verdicts", link_ours, ours)}
     if before:
         programs["verdicts before"] = placed(room, "verdicts before", link_ours, before)

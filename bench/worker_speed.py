@@ -12,7 +12,7 @@ were taken in turns. With `--before PROGRAM` the last table also times another p
   call. Where the leader waits for nobody the run takes as long as the follower computes, and else as long as both.
 - Seven followers that wait for a leader which computes: the processor time of all against the wall time.
 - Versions of 16 MiB that exit at once: what comes before the first instruction.
-- One version that writes against the plain monitor on one thread (nv_sequence_bench, which programs.py builds), with the same report.
+- One version that writes against the plain monitor on one thread (crates/nv_sequence_bench), with the same report.
 """
 import os
 import resource
@@ -23,12 +23,9 @@ import sys
 import tempfile
 import time
 
-from programs import built
-
 TOP = os.path.dirname(os.path.dirname(os.path.abspath(__file__)))
 PROGRAM = os.path.join(TOP, "crates", "varan", "out", "varan")
-# In the place of the program: the plain monitor.
-PLAIN = "nv_sequence_bench"
+PLAIN = os.path.join(TOP, "crates", "nv_sequence_bench", "out", "nv_sequence_bench")
 RUNS = int(os.environ.get("RUNS", "5"))
 # In the place of options: each guest in a process of its own.
 APART = ("apart",)
@@ -109,7 +106,7 @@ class Bench:
                 file.write(content)
 
     def words(self, guests, options, program):
-        words = [built(PLAIN) if program == PLAIN else program]
+        words = [program]
         if program != PLAIN:
             words += ["run", "--script", os.path.join(self.folder, "s"), "--budget", "1000000000", *options]
         return words + [os.path.join(self.folder, guest) for guest in guests]
