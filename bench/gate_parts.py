@@ -4,8 +4,8 @@
     gate_parts.py [COMMAND ..]
 
 Runs the command (`rt ci --anew` at the top of the repository, unless one is named), looks at the processor times of the toolchain's processes twice a second, and prints at the end
-what the proofs of the crates took, the proofs of their tests, the proof of each crate once more before its edits are tried, the edits, and the rest, with the dearest crates of
-each, and beside them the processor time of all that the command ran, as the system counts it. What a process does after its last look isn't in its part: it is in the rest.
+what the proofs of the crates took, the proofs of their tests, the proof of each crate once more before its edits are tried, the edits, and the rest, with the crates of each,
+the dearest first, and beside them the processor time of all that the command ran, as the system counts it. What a process does after its last look isn't in its part: it is in the rest.
 The figures are of a machine with nothing else at work. A processor's pace may change by half within a run all the same, as its host has more or less to do: so a loop over a table
 of some 80 MB, which is always the same, is timed once a minute, and its processor time is told at the end. It isn't in the figures.
 """
@@ -110,7 +110,7 @@ def main():
     known = 0
     for part, crates in looks.parts().items():
         known += crates.total()
-        dear = ", ".join(f"{name} {took:.0f}" for name, took in crates.most_common(8))
+        dear = ", ".join(f"{name} {took:.0f}" for name, took in crates.most_common())
         print(f"| {part} | {crates.total() / 60:.1f} | {len(crates)}: {dear} |")
     print(f"| the rest: programs, tests, compilers, between looks | {(whole - known) / 60:.1f} | |")
     return status
