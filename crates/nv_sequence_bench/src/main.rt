@@ -48,20 +48,29 @@ fn account(alloc: Global, file: &[u8]) -> Option<Account<ScriptedKernel>> {
     Some(nv_sequence::run(versions, None, kernel, MOST_EVENTS, &hands))
 }
 
-fn main(rt: HostRuntime) -> Result<()> {
-    let words: Vec<String> = env::args(&rt)?.collect(rt.alloc())?;
+// The file that the words name.
+fn file(rt: &HostRuntime) -> Result<Vec<u8>> {
+    let words: Vec<String> = env::args(rt)?.collect(rt.alloc())?;
     let [_, name] = words.as_slice() else {
         bail!("a version's file");
     };
-    let file = fs::read(&rt, name.as_str())?;
-    let Some(account) = account(rt.alloc(), &file) else {
-        bail!("no version, or no memory");
-    };
-    let mut sink = Gathering::make(Output::make(&rt));
-    let put = nv_report::write(&mut sink, &account);
+    Ok(fs::read(rt, name.as_str())?)
+}
+
+fn write(rt: &HostRuntime, account: &Account<ScriptedKernel>) -> Result<()> {
+    let mut sink = Gathering::make(Output::make(rt));
+    let put = nv_report::write(&mut sink, account);
     let (_, last) = sink.finish();
     if put.is_err() || last.is_err() {
         bail!("a failed write");
     }
     Ok(())
+}
+
+fn main(rt: HostRuntime) -> Result<()> {
+    let file = file(&rt)?;
+    let Some(account) = account(rt.alloc(), &file) else {
+        bail!("no version, or no memory");
+    };
+    write(&rt, &account)
 }

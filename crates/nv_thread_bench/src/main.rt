@@ -2,7 +2,7 @@
 //! file, which reads another file. bench/thread_loops.py takes the time. Proved: that nothing undefined is done.
 #![tactic(auto)]
 
-ghost use Rattle.std.specs.Prelude.{◌≡◌, ◌≤◌, None};
+ghost use Rattle.std.specs.Prelude.{◌≡◌, ◌≤◌, None, IfOk};
 ghost use Rattle.nv_threads.specs.Threads.{threads};
 ghost use Rattle.nv_thread_bench.specs.Firsts.{firsts};
 ghost use Rattle.nv_guest.specs.Load.{IsMemorySize};
@@ -12,6 +12,7 @@ use nv_calls::{CLONE, FIRST_THREAD, MOST_THREADS};
 use nv_guest::Guest;
 use nv_text::number;
 use nv_threads::{Came, Process, Want};
+use std::alloc::Global;
 use std::{env, fs};
 
 // Counts down from 2^30.
@@ -154,63 +155,80 @@ fn memory_size(mib: u32) -> u32
     }
 }
 
+/// How many instructions a word asks for.
+fn instructions(word: &str) -> Result<u32>
+    ensures { IfOk result (λ count. count ≤ 1000000000) }
+{
+    match number(word.as_bytes()) {
+        Some(count) if count <= 1_000_000_000 => Ok(count),
+        _ => bail!("a number of instructions, at most 1000000000"),
+    }
+}
+
+/// A process of this file's program.
+fn process(alloc: Global, file: &[u8], memory: u32, count: u32) -> Result<Process>
+    requires memory { IsMemorySize memory }
+    requires count { count ≤ 1000000000 }
+    ensures { IfOk result (λ process. threads.live process ≡ firsts 1) }
+{
+    let Ok(program) = nv_elf::read(alloc, file) else {
+        bail!("the file is refused");
+    };
+    let Ok(guest) = Guest::make(alloc, &program, &[], memory) else {
+        bail!("the program is refused");
+    };
+    Ok(Process::make(alloc, guest, count)?)
+}
+
 /// Runs the guest of a file on the bytes of another, and prints how many instructions it took.
 fn run_file(rt: &HostRuntime, name: &str, mib: u32, count: u32, input: &str) -> Result<()>
     requires { count ≤ 1000000000 }
 {
     let file = fs::read(rt, name)?;
     let input = fs::read(rt, input)?;
-    let Ok(program) = nv_elf::read(rt.alloc(), &file) else {
-        bail!("the file is refused");
-    };
-    let Ok(guest) = Guest::make(rt.alloc(), &program, &[], memory_size(mib)) else {
-        bail!("the program is refused");
-    };
-    let mut process = Process::make(rt.alloc(), guest, count)?;
+    let mut process = process(rt.alloc(), &file, memory_size(mib), count)?;
     let calls = answer_all(&mut process, &input);
     let (instructions, status) = (process.count(), process.ended());
     println!(rt; "{calls} calls, {instructions} instructions, status {status:?}")?;
     Ok(())
 }
 
-fn main(rt: HostRuntime) -> Result<()> {
-    let words: Vec<String> = env::args(&rt)?.collect(rt.alloc())?;
-    if let [_, name, mib, count, input] = words.as_slice() {
-        let (Some(mib), Some(count)) = (number(mib.as_bytes()), number(count.as_bytes())) else {
-            bail!("a file, 1, 4 or 16 MiB, a number of instructions, and a file that it reads");
-        };
-        if count > 1_000_000_000 {
-            bail!("at most 1000000000 instructions");
+/// Runs the guest of this name, and prints where it came.
+fn run_guest(rt: &HostRuntime, name: &str, count: u32) -> Result<()>
+    requires { count ≤ 1000000000 }
+{
+    let Some(file) = file_of(name) else {
+        bail!("one, eight or answers");
+    };
+    let mut process = process(rt.alloc(), file, 0x40000, count)?;
+    match name {
+        "answers" => {
+            let answers = answer_reads(&mut process);
+            println!(rt; "{name}: {answers}")?;
+            return Ok(());
         }
-        return run_file(&rt, name, mib, count, input);
-    }
-    let [_, name, count] = words.as_slice() else {
-        bail!("a guest and a number of instructions");
-    };
-    let (Some(file), Some(count)) = (file_of(name), number(count.as_bytes())) else {
-        bail!("one, eight or answers, and a number");
-    };
-    if count > 1_000_000_000 {
-        bail!("at most 1000000000 instructions");
-    }
-    let Ok(program) = nv_elf::read(rt.alloc(), file) else {
-        bail!("the file is refused");
-    };
-    let Ok(guest) = Guest::make(rt.alloc(), &program, &[], 0x40000) else {
-        bail!("the program is refused");
-    };
-    let mut process = Process::make(rt.alloc(), guest, count)?;
-    if name.as_str() == "eight" {
-        start(&mut process);
-    }
-    if name.as_str() == "answers" {
-        let answers = answer_reads(&mut process);
-        println!(rt; "{name}: {answers}")?;
-        return Ok(());
+        "eight" => start(&mut process),
+        _ => {}
     }
     if process.ended().is_none() {
         let came = process.advance(Want::Any);
         println!(rt; "{name}: {came:?}")?;
     }
     Ok(())
+}
+
+fn main(rt: HostRuntime) -> Result<()> {
+    let words: Vec<String> = env::args(&rt)?.collect(rt.alloc())?;
+    match words.as_slice() {
+        [_, name, count] => run_guest(&rt, name, instructions(count)?),
+        [_, name, mib, count, input] => {
+            let Some(mib) = number(mib.as_bytes()) else {
+                bail!("1, 4 or 16 MiB");
+            };
+            run_file(&rt, name, mib, instructions(count)?, input)
+        }
+        _ => bail!(
+            "a guest and a number of instructions; or a file, its MiB, a number of instructions, and a file that it reads"
+        ),
+    }
 }
