@@ -37,4 +37,5 @@ def main():
             print(wanted.decode().split("fates ")[1], end="")
 
 
-main()
+if __name__ == "__main__":
+    main()

@@ -212,4 +212,5 @@ def main():
     sys.exit(differ != [] or len(there) != len(lines))
 
 
-main()
+if __name__ == "__main__":
+    main()

@@ -119,4 +119,5 @@ def main():
                     row(programs, f"{name}, {size:,} bytes", command, folder, guest)
 
 
-main()
+if __name__ == "__main__":
+    main()

@@ -61,4 +61,5 @@ def main():
             print(f"{march:9}  {count:20,}  {a:.3f} s  {b:.3f} s  {a / statistics.median(ours):22.2f}  {b / min(ours):.2f}")
 
 
-main()
+if __name__ == "__main__":
+    main()

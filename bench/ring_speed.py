@@ -92,4 +92,5 @@ def main():
         print_table(words, took, ways)
 
 
-main()
+if __name__ == "__main__":
+    main()

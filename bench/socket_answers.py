@@ -79,4 +79,5 @@ def main():
     print(f"{len(ours)} answers, {others} others under Linux")
 
 
-main()
+if __name__ == "__main__":
+    main()

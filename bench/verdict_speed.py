@@ -67,11 +67,19 @@ def placed(room, name, link, code):
     return programs
 
 
+def object_built():
+    """The object of the program. One that was kept from an earlier run is there without it: then it is built once more."""
+    program = built("nv_rules_bench", "10", "1")
+    if not os.path.exists(program + ".o"):
+        os.remove(program)
+        built("nv_rules_bench", "10", "1")
+    return program + ".o"
+
+
 def all_programs(room, before):
     c = os.path.join(room, "c.o")
     subprocess.run(["cc", "-O2", "-c", "-o", c, os.path.join(TOP, "bench", "verdict_baseline.c")], check=True)
-    ours = built("nv_rules_bench", "10", "1") + ".o"
-    programs = {"C": placed(room, "C", link_c, c), "verdicts": placed(room, "verdicts", link_ours, ours)}
+    programs = {"C": placed(room, "C", link_c, c), "verdicts": placed(room, "verdicts", link_ours, object_built())}
     if before:
         programs["verdicts before"] = placed(room, "verdicts before", link_ours, before)
     return programs
@@ -128,4 +136,5 @@ def main():
             print_rows(programs, given.runs, count)
 
 
-main()
+if __name__ == "__main__":
+    main()

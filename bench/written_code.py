@@ -215,4 +215,5 @@ def main():
     sys.exit(wrong != 0 or asked == 0 or unknown != set())
 
 
-main()
+if __name__ == "__main__":
+    main()
