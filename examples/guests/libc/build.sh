@@ -1,6 +1,6 @@
 #!/usr/bin/env bash
-# Fetches Debian's source of the C library musl and builds it twice by the stock compiler: for guests, over the calls of this folder (out/guest),
-# and as it is, for Linux (out/linux). All is put into out/: apt-get has its lists there too, so the machine's own stay as they are.
+# Fetches Debian's source of the C library musl and builds it by the stock compiler: for guests, over the calls of this folder (out/guest), the same with checks
+# (out/checked, docs/CHECKED.md), and as it is, for Linux (out/linux). All is put into out/: apt-get has its lists there too, so the machine's own stay as they are.
 # DEBIAN_MIRROR names another mirror than http://deb.debian.org/debian.
 # Status 3: a tool or the network is missing, or the mirror has another version of the package by now.
 set -eu
@@ -39,13 +39,13 @@ fetch() {
     cd ../..
 }
 
-# install NAME: the library in out/NAME_source is built and put into out/NAME.
+# install NAME COMPILER: the library in out/NAME_source is built and put into out/NAME.
 install() {
-    local place=$PWD/out/$1
+    local place=$PWD/out/$1 by=$2
     rm -rf "$place"
     (
         cd "out/$1_source"
-        CC=$compiler CROSS_COMPILE=${compiler%gcc} CFLAGS="$machine -Os -ffunction-sections -fdata-sections" \
+        CC=$by CROSS_COMPILE=${compiler%gcc} CFLAGS="$machine -Os -ffunction-sections -fdata-sections" \
             ./configure --target=riscv32-linux-musl --prefix="$place" --disable-shared --enable-wrapper=no
         make -j "$(nproc)" install
     ) >"out/$1_log" 2>&1 || { echo "build.sh: musl can't be built: out/$1_log" >&2; exit 1; }
@@ -53,32 +53,35 @@ install() {
 
 # calls: the parts of this folder, beside the guests' library.
 calls() {
-    local part objects=()
+    local part library objects=()
     mkdir -p out/calls
     for part in start.S start.c calls.c descriptors.c sockets.c memory.c processes.c signals.c threads.S threads.c; do
         "$compiler" $machine -std=gnu11 -Os -Wall -Wextra -ffreestanding -fno-strict-aliasing -ffunction-sections -fdata-sections -nostdinc \
             -isystem out/guest/include -isystem "$("$compiler" -print-file-name=include)" -D_GNU_SOURCE -c -o "out/calls/$part.o" "$part"
         objects+=("out/calls/$part.o")
     done
-    rm -f out/guest/lib/libguest.a
-    "${compiler%gcc}ar" rc out/guest/lib/libguest.a "${objects[@]}"
+    for library in guest checked; do
+        rm -f "out/$library/lib/libguest.a"
+        "${compiler%gcc}ar" rc "out/$library/lib/libguest.a" "${objects[@]}"
+    done
 }
 
-# library NAME: unpacked and built, where it isn't yet.
+# library NAME COMPILER: unpacked and built, where it isn't yet.
 library() {
     [ -e "out/$1/lib/libc.a" ] && return
     rm -rf "out/$1_source"
     dpkg-source --no-check --no-copy -x "out/apt/musl_$musl.dsc" "out/$1_source" >>out/apt/log 2>&1 ||
         { echo "build.sh: musl can't be unpacked: out/apt/log" >&2; exit 1; }
-    if [ "$1" = guest ]; then
-        cp syscall_arch.h out/guest_source/arch/riscv32/
+    if [ "$1" != linux ]; then
+        cp syscall_arch.h "out/$1_source/arch/riscv32/"
         # These make calls of their own: clone then answers ENOSYS, by the library's file for machines that have none.
-        rm out/guest_source/src/thread/riscv32/{clone,syscall_cp,__unmapself}.s
+        rm "out/$1_source"/src/thread/riscv32/{clone,syscall_cp,__unmapself}.s
     fi
-    install "$1"
+    install "$1" "$2"
 }
 
 [ -e "out/apt/musl_$musl.dsc" ] || fetch
-library guest
-library linux
+library guest "$compiler"
+library checked "$PWD/checked_cc"
+library linux "$compiler"
 calls
