@@ -74,6 +74,33 @@ is "$(./rehearse.py compare "$work/all" strict allowed)" "$parting of 50 transcr
 $(printf %7d "$parting") mended: refused: write in place of openat -> in step ($(sed -n 's/^ *\([0-9]*\): replay refused .*/\1/p' "$work/strict"))" "the comparison"
 is "$(./rehearse.py picture "$work/all" update | grep -c '>in step</text>')" 1 "the picture"
 
+# with_checks: a patch that reads a byte more than it has room for, built with checks, on what came to the plain build: the clients of the one long page show it, as one
+# group with the kind and the line.
+with_checks() {
+    local checks line broken status=0
+    sed 's/sizeof part))/sizeof part + 1))/' "$server/server.c" >"$work/off_by_one.c"
+    line=$(grep -n 'sizeof part + 1))' "$work/off_by_one.c" | cut -d: -f1)
+    # GET /notes.txt
+    broken=$(grep -l '^data . 474554202f6e6f7465732e747874' "$work"/given/* | grep -cv '/\(00007\|00031\)$')
+    for checks in "" --checked; do
+        ../guests/cc $checks -DVERSION=1 "$work/off_by_one.c" -o "$work/off_by_one$checks"
+    done
+    ./rehearse.py traces -j 2 --program "$program" "$work/patched" "$work/given" "$work/off_by_one" || status=$?
+    is "$status" 0 "the status of the patch's traces"
+    ./rehearse.py run -j 2 "$work/patched" checked "$work/off_by_one--checked" || status=$?
+    is "$status" 0 "the status of the rehearsal with checks"
+    ./rehearse.py table "$work/patched" checked >"$work/checked"
+    is "$(head -n 1 "$work/checked")" "50 transcripts: $((48 - broken)) in step, 0 refused, $broken broken, 2 damaged" "the rehearsal with checks"
+    is "$(grep -A 2 broken: "$work/checked")" "$(printf '%7d broken: fault breakpoint' "$broken")
+        stack-buffer-overflow: a write of 513 bytes, 0 past \`part\` of 512 bytes, line $(grep -n 'char part\[' "$work/off_by_one.c" | cut -d: -f1) of send_file
+        at      send_file at off_by_one.c:$line" "the group of what was found"
+}
+if command -v riscv64-unknown-elf-gcc >/dev/null; then
+    with_checks
+else
+    echo "check.sh: left out: a rehearsal with checks, for want of riscv64-unknown-elf-gcc (Debian: gcc-riscv64-unknown-elf)"
+fi
+
 # what is done isn't done again; what is lacking is
 cp "$work/all/update/joblog" "$work/joblog"
 ./rehearse.py run -j 2 "$work/all" update "$server/built/server_2"

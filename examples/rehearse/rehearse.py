@@ -29,6 +29,7 @@ sys.path.insert(0, str(HERE.parent))
 from timeline import NAMES, OTHER
 
 ENDS = ["in step", "refused", "broken", "damaged"]
+BREAKPOINT = "fault breakpoint"
 ADDR2LINE = "riscv64-unknown-elf-addr2line"
 # Of the picture, in pixels.
 LABEL, BAR, LINE, MARGIN = 330, 420, 22, 14
@@ -124,7 +125,9 @@ def kind_of(row):
         return f"damaged: {row['line'].rpartition(': ')[2].split()[-1]}"
     if row["end"] == "refused":
         return f"refused: {call_name(row['version'])} in place of {call_name(row['log'])}"
-    return f"broken: {' '.join(row['line'].split()[1:3])} before {call_name(row['log'])}"
+    fault = " ".join(row["line"].split()[1:3])
+    # a version with checks: what it found is at the two places (docs/CHECKED.md)
+    return f"broken: {fault}" if fault == BREAKPOINT else f"broken: {fault} before {call_name(row['log'])}"
 
 
 def groups_of(rows):
@@ -144,11 +147,22 @@ def lines_of_c(executable, places):
     return subprocess.run(words, stdout=subprocess.PIPE, text=True).stdout.splitlines()
 
 
+def looked_into(folder, name, row, tool, *options):
+    """A script of the examples over this row's rehearsal."""
+    words = [HERE.parent / tool, "--program", folder.path.resolve() / "varan", *options, *folder.options(name), "--script", f"transcripts/{row['transcript']}",
+             "--budget", "1000000000", f"traces/{row['transcript']}", f"{name}/version"]
+    return subprocess.run(words, stdout=subprocess.PIPE, stderr=subprocess.DEVNULL, text=True, cwd=folder.path)
+
+
 def parting(folder, name, row):
     """Both calls, one above the other."""
-    words = [HERE.parent / "parting.py", "--program", folder.path.resolve() / "varan", *folder.options(name), "--script", f"transcripts/{row['transcript']}",
-             "--budget", "1000000000", f"traces/{row['transcript']}", f"{name}/version"]
-    return subprocess.run(words, stdout=subprocess.PIPE, text=True, cwd=folder.path).stdout.splitlines()
+    return looked_into(folder, name, row, "parting.py").stdout.splitlines()
+
+
+def found(folder, name, row, executable):
+    """What a version with checks has found, or nothing where it broke at another breakpoint."""
+    done = looked_into(folder, name, row, "checked.py", *(["--debug", executable.resolve()] if executable else []))
+    return done.stdout.splitlines() if done.returncode == 0 else []
 
 
 def table(given):
@@ -156,10 +170,11 @@ def table(given):
     rows = folder.rows(given.name)
     counts = collections.Counter(row["end"] for row in rows)
     print(f"{len(rows)} transcripts: {', '.join(f'{counts[end]} {end}' for end in ENDS)}")
-    for (kind, places), found in groups_of(rows):
-        first = found[0]
-        print(f"\n{len(found):7} {kind}")
-        shown = lines_of_c(given.executable, places) or ([f"at {', from '.join(places)}"] if places else [])
+    for (kind, places), group in groups_of(rows):
+        first = group[0]
+        print(f"\n{len(group):7} {kind}")
+        shown = found(folder, given.name, first, given.executable) if kind.endswith(BREAKPOINT) else []
+        shown = shown or lines_of_c(given.executable, places) or ([f"at {', from '.join(places)}"] if places else [])
         shown.append(f"{first['transcript']}: {first['line']}")
         shown += parting(folder, given.name, first) if first["end"] == "refused" else []
         for line in shown:
