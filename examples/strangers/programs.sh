@@ -8,38 +8,10 @@ set -eu
 cd "$(dirname "$0")"
 
 cc=$PWD/../guests/libc/cc
-mirror=${DEBIAN_MIRROR:-http://deb.debian.org/debian}
-keys=/usr/share/keyrings/debian-archive-keyring.gpg
 words=(-Os -ffunction-sections -fdata-sections -w "-ffile-prefix-map=$PWD/=")
 declare -A version=([mini-httpd]=1.30-3 [dash]=0.5.12-2 [sqlite3]=3.40.1-2+deb12u2 [expat]=2.5.0-1+deb12u2 [libmicrohttpd]=0.9.75-6 [lua5.4]=5.4.4-3+deb12u1)
 
-missing() {
-    echo "programs.sh: $1" >&2
-    exit 3
-}
-
-# apt WORD..: apt-get with a list of sources and a state of its own.
-apt() {
-    apt-get -q -o Dir::Etc::sourcelist="$PWD/sources.list" -o Dir::Etc::sourceparts=- -o Dir::State="$PWD" -o Dir::Cache="$PWD" \
-        -o APT::Sandbox::User=root -o APT::Update::Error-Mode=any -o Acquire::Retries=0 -o Acquire::http::Timeout=20 "$@" >>log 2>&1
-}
-
-# source PACKAGE: its files are fetched, as the mirror's signed list has them, and unpacked into out/PACKAGE_original_source and out/PACKAGE_debian_source.
-source_of() {
-    local package=$1 described=${1}_${version[$1]}.dsc
-    if ! [ -e "out/apt/$described" ]; then
-        mkdir -p out/apt/lists/partial out/apt/archives/partial
-        (
-            cd out/apt
-            echo "deb-src [signed-by=$keys] $mirror bookworm main" >sources.list
-            apt update || missing "$mirror can't be reached: out/apt/log"
-            apt source --download-only "$package=${version[$package]}" || missing "$described can't be had from $mirror: out/apt/log"
-        )
-    fi
-    rm -rf "out/${package}_original_source" "out/${package}_debian_source"
-    dpkg-source --no-check --no-copy --skip-patches -x "out/apt/$described" "out/${package}_original_source" >>out/apt/log 2>&1
-    dpkg-source --no-check --no-copy -x "out/apt/$described" "out/${package}_debian_source" >>out/apt/log 2>&1
-}
+. ./packages.sh
 
 # compile FOLDER WORD..: the C files among the words, into the empty folder out/objects/FOLDER. The same code is linked for varan and for Linux.
 compile() {
@@ -154,10 +126,7 @@ build_lua5.4() {
     done
 }
 
-for tool in apt-get dpkg-source patch make cc; do
-    command -v "$tool" >/dev/null || missing "$tool isn't on this machine"
-done
-[ -e "$keys" ] || missing "the package debian-archive-keyring isn't on this machine"
+has_tools cc
 [ -e ../guests/libc/out/guest/lib/libguest.a ] || missing "the C library isn't built: ../guests/libc/build.sh"
 for name in "${@:-mini_httpd dash sqlite expat libmicrohttpd lua5.4}"; do
     for program in $name; do
