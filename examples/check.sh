@@ -1,7 +1,7 @@
 #!/usr/bin/env bash
 # Runs the examples but those of guests/, and compares: the assembler texts hello, service and server with the reports of expected/, and the server in C and
 # two programs of Debian with what their clients got under Linux (server/expected, strangers/expected); gives the program files and outputs of the host that fail; does the
-# commands of docs/TUTORIAL.md, PARTING.md, TRACES.md, REFUSALS.md, SCRIPT.md, INSPECT.md and GUESTS.md; tries the scripts of this folder; and has docs/varan.1 formatted.
+# commands of docs/TUTORIAL.md, PARTING.md, TRACES.md, REFUSALS.md, SCRIPT.md, INSPECT.md, GUESTS.md and CHECKED.md; tries the scripts of this folder; and has docs/varan.1 formatted.
 # check.sh [PROGRAM]: crates/varan/out/varan where no program is named.
 # It wants jq, cc and groff (Debian: jq, gcc, groff-base). What wants one that isn't there is left out, and a line with `left out` tells it.
 # Status: 0 where nothing differs, 1 where something does, 2 where the program isn't built.
@@ -464,6 +464,9 @@ for it in TRACES REFUSALS SCRIPT INSPECT; do
 done
 if has riscv64-unknown-elf-gcc gcc-riscv64-unknown-elf docs/GUESTS.md && has qemu-riscv32 qemu-user docs/GUESTS.md; then
     page GUESTS.md
+fi
+if has riscv64-unknown-elf-gcc gcc-riscv64-unknown-elf docs/CHECKED.md; then
+    page CHECKED.md
 fi
 
 # script.py: four clients by their bytes, as strace saw them and as they were captured; the server's script of its files; and a script as text

@@ -31,7 +31,7 @@ COMPILER = "riscv64-unknown-elf-gcc"
 WANTED = [
     (re.compile(r"\bgdb-multiarch\b"), "gdb-multiarch", "gdb-multiarch"),
     (re.compile(r"\bdebug/"), COMPILER, "gcc-riscv64-unknown-elf, picolibc-riscv64-unknown-elf"),
-    (re.compile(r"build\.sh|riscv64-unknown-elf-"), COMPILER, "gcc-riscv64-unknown-elf, picolibc-riscv64-unknown-elf"),
+    (re.compile(r"build\.sh|riscv64-unknown-elf-|\bguests/cc\b|_checked\b"), COMPILER, "gcc-riscv64-unknown-elf, picolibc-riscv64-unknown-elf"),
     (re.compile(r"\bjq\b|\bparting\.py\b|\$PARTING\b"), "jq", "jq"),
     (re.compile(r"\bxxd\b"), "xxd", "xxd"),
     (re.compile(r"\bqemu-riscv32\b"), "qemu-riscv32", "qemu-user"),
