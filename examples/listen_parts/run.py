@@ -1,0 +1,300 @@
+"""One run of the command: its clients, and the process that serves them, which another one may follow on.
+
+What the guests say follows from what came. So a process that is told all that came comes to where the one before it was, and what it says shows whether it did.
+"""
+import asyncio
+import contextlib
+import signal
+import time
+
+from listen_parts.past import Past
+from listen_parts.process import Joining, Process
+from listen_parts.streams import MOST_WRITTEN, note
+
+# Bytes of an arrival, as many as a script may say.
+MOST_BYTES = 2000
+# How often in a row a command that was killed is begun anew without having said more.
+MOST_TRIES = 3
+# Seconds: between two looks at a process that joins; in which its followers take what came last; and in which it has to come nearer.
+TICK, SETTLING, STANDING = 0.05, 0.2, 60
+UNWRITTEN = 6
+
+
+class Run:
+    """Clients by their numbers, in the order in which they came, and the process that serves them."""
+
+    def __init__(self, begin, console, idle):
+        self.begin, self.console, self.idle = begin, console, idle
+        self.told, self.said = Past("what came"), Past("what the guests said")
+        self.serving = self.joining = None
+        self.is_joining = False
+        self.ended = asyncio.get_running_loop().create_future()  # the status
+        self.restarts = self.tries = self.said_before = 0
+        self.count = self.gone = 0  # of the clients that came, and of those that came to a run which this one goes on with
+        self.is_past = False  # what the guests say was said in that run
+        self.waiting, self.accepted, self.accepts = {}, {}, 0
+        self.senders, self.closers, self.tasks = {}, set(), []
+        self.takes = True  # clients may come
+        self.is_asked_to_end = self.has_accepted = False
+
+    # ---- processes
+
+    def resume(self, arrivals, count):
+        """Goes on with a run to which this came from so many clients, who have left since."""
+        for line in arrivals:
+            self.told.add(line)
+        self.count = self.gone = count
+        self.is_past = True
+
+    async def start(self, versions):
+        """Begins the process that serves. It is told all that came."""
+        self.serving = await self.begin(Process, versions, self.told.size > 0)
+        self.follow(self.serving)
+
+    def follow(self, process):
+        process.feeding = asyncio.create_task(process.feed(self.told))
+        self.tasks.append(asyncio.create_task(self.hear(process)))
+
+    async def hear(self, process):
+        """Takes what a process says, to its end. The process was killed where a line is cut off."""
+        try:
+            async for line in process.process.stdout:
+                if process not in (self.serving, self.joining) or not line.endswith(b"\n"):
+                    break
+                self.take(process, line)
+        except Exception as fault:  # whatever it is: nobody would hear the process any more
+            process.end(str(fault) or repr(fault))
+        status = await process.process.wait()
+        if process is self.joining:
+            self.give_up(f"the command ended with status {status}: {process.last_words()}")
+        elif process is self.serving:
+            await self.go_on(status)
+        if process is not self.serving:
+            process.close()
+
+    def take(self, process, line):
+        """A line that a process says: it was said before, or is said now, or is ahead of the process that serves."""
+        if process.heard < self.said.size:
+            if self.said.at(process.heard, len(line)) != line:
+                raise Parted(line, self.said.line_at(process.heard))
+        elif process is self.serving:
+            self.say(line)
+        else:
+            process.ahead.append(line)
+        process.heard += len(line)
+        process.heard_lines += 1
+        self.look(process)
+
+    def say(self, line):
+        """This is what the guests say next."""
+        if self.joining and self.joining.ahead and (ahead := self.joining.ahead.popleft()) != line:
+            self.joining.end(str(Parted(ahead, line)))
+        self.do(*line.decode().split())
+        self.said.add(line)
+
+    def is_there(self, process):
+        """Whether a process was told all that came, and has said all that was said."""
+        return process.heard >= self.said.size and process.fed == self.told.size
+
+    def look(self, process):
+        """Whether a process has caught up. One that joins serves from now on, if no version of it has ended meanwhile."""
+        if not self.is_there(process):
+            return
+        if process is self.joining and process.has_settled and process.fault is None:
+            if ended := process.newly_ended(self.serving):
+                process.end(ended)
+            else:
+                self.switch()
+        if process is self.serving and process.is_behind and not self.is_past:
+            process.arrive()
+
+    async def go_on(self, status):
+        """The process that serves has ended. Where it was killed, another one is told all that came."""
+        process = self.serving
+        if self.joining:
+            self.give_up("the command that serves has ended")
+        if process.fault:
+            note(f"the command is ended: {process.fault}")
+        if status >= 0 or process.fault or not self.may_try():
+            self.ended.set_result(status)
+            return
+        note(f"the command was ended by {signal.Signals(-status).name}, and is begun anew: {self.told.lines} lines came, {self.said.lines} were said")
+        self.restarts += 1
+        try:
+            await self.start(process.versions)
+        except OSError as fault:
+            note(fault)
+            self.ended.set_result(status)
+
+    def may_try(self):
+        if self.said.size > self.said_before:
+            self.tries, self.said_before = 0, self.said.size
+        self.tries += 1
+        return self.tries <= MOST_TRIES and self.can_catch_up()
+
+    def can_catch_up(self):
+        return self.told.is_whole and self.said.is_whole
+
+    # ---- a process that joins
+
+    async def join(self, versions, before):
+        """Begins a process of these versions, which is to serve. `before` has the number of each version in the process that serves now, or None."""
+        self.is_joining = True
+        try:
+            self.joining = await self.begin(Joining, versions, True)
+        except OSError:
+            self.is_joining = False
+            raise
+        self.joining.before = before
+        self.follow(self.joining)
+        self.tasks.append(asyncio.create_task(self.settle(self.joining)))
+        return self.joining
+
+    async def settle(self, process):
+        """Looks at a process that joins until it serves or is given up."""
+        arrived, nearer, least = None, time.monotonic(), None
+        while process is self.joining:
+            now, behind = time.monotonic(), self.told.size - process.fed + max(self.said.size - process.heard, 0)
+            if least is None or behind < least:
+                nearer, least = now, behind
+            if behind == 0:
+                arrived, nearer = arrived or now, now
+                process.has_settled = now - arrived >= SETTLING
+                self.look(process)
+            elif now - nearer >= STANDING:
+                process.end(f"it doesn't catch up: {self.said.lines - process.heard_lines} lines are left, and were as many {STANDING} seconds ago")
+            await asyncio.sleep(TICK)
+
+    def switch(self):
+        """The process that joins serves from now on."""
+        old, self.serving, self.joining, self.is_joining = self.serving, self.joining, None, False
+        old.end("another one serves in its place")
+        while self.serving.ahead:
+            self.say(self.serving.ahead.popleft())
+        note(f"these versions serve from now on: {' '.join(self.serving.versions)}")
+        self.serving.outcome.set_result(None)
+
+    def give_up(self, why):
+        process, self.joining, self.is_joining = self.joining, None, False
+        process.end(why)
+        note(f"these versions don't join: {' '.join(process.versions)}: {process.fault}")
+        process.outcome.set_result(process.fault)
+
+    # ---- clients
+
+    def tell(self, line):
+        line = line.encode() + b"\n"
+        self.told.add(line)
+        for process in filter(None, (self.serving, self.joining)):
+            process.tell(line, self.told)
+
+    def connect(self, client):
+        self.waiting[self.count] = client
+        self.count += 1
+        self.tell(f"connect {client.port}")
+
+    def end_clients(self):
+        if self.takes:
+            self.takes, self.is_asked_to_end = False, True
+            self.tell("end clients")
+
+    async def send_on(self, number):
+        """Tells what the client sends, to its end. What it sends before it is accepted stays where it is."""
+        reader = self.accepted[number].reader
+        with contextlib.suppress(OSError):
+            while piece := await self.read(reader):
+                self.tell(f"data {number} {piece.hex()}")
+                await self.serving.drain()
+        self.tell(f"end {number}")
+
+    async def read(self, reader):
+        """What a client sends next; nothing at its end, or where it is silent too long. The time in which a process catches up doesn't count: the client may wait for an answer."""
+        while True:
+            try:
+                return await asyncio.wait_for(reader.read(MOST_BYTES), self.idle)
+            except asyncio.TimeoutError:
+                if reader.exception() or self.serving.has_served(self.idle):
+                    return b""
+
+    def accept(self, number):
+        self.accepts = number + 1
+        if number >= self.gone:
+            self.is_past, self.has_accepted = False, True
+            self.accepted[number] = self.waiting.pop(number)
+            self.senders[number] = asyncio.create_task(self.send_on(number))
+
+    def send(self, number, piece):
+        if number >= self.gone:
+            self.accepted[number].send(piece)
+
+    def close(self, number, is_cut=False):
+        if number < self.gone:
+            return
+        self.senders.pop(number).cancel()
+        client = self.accepted.pop(number)
+        if client.got >= MOST_WRITTEN:
+            is_cut = True
+            note(f"client {number} got {client.got:,} bytes, the most that a run writes to a client, and is reset")
+        closer = asyncio.create_task(client.cut(self.idle) if is_cut else client.close(self.idle))
+        self.closers.add(closer)
+        closer.add_done_callback(self.closers.discard)
+
+    def do(self, word, *fields):
+        """Does what a line of the command says."""
+        if word == "output":
+            if not self.is_past:
+                self.console.write(bytes.fromhex(fields[0]))
+        elif word == "accept":
+            self.accept(int(fields[0]))
+        elif word == "data":
+            self.send(int(fields[0]), bytes.fromhex(fields[1]))
+        elif word == "close":
+            self.close(int(fields[0]))
+        else:
+            raise ValueError(f"it says `{word}`")
+
+    # ---- what the operator is told
+
+    def progress(self):
+        """How far the process is that has still to catch up; or None."""
+        for process in filter(None, (self.joining, self.serving)):
+            if process.is_behind and not (process is self.serving and self.is_there(process)):
+                return f"catching up: told {process.fed * 100 // (self.told.size or 1)} % of {self.told.lines} lines, heard {process.heard_lines} of {self.said.lines}"
+        return None
+
+    async def watch(self):
+        """Each second: a command that was begun anew says how far it is; and each client that was accepted has to stand in the transcript."""
+        while True:
+            await asyncio.sleep(1)
+            process, accepts = self.serving, self.accepts
+            if not self.is_there(process):
+                if process.is_behind:
+                    note(self.progress())
+            elif process.lacks(accepts):
+                note(f"{process.transcript} lacks clients that were served: a line of it couldn't be written, and it ends there")
+
+    async def end(self):
+        """Comes to the status, once the command has ended. Clients that it has accepted are closed then, or reset where it came to a limit or was killed."""
+        watching = asyncio.create_task(self.watch())
+        status = await self.ended
+        watching.cancel()
+        self.takes = False
+        self.serving.process.stdin.close()
+        if status == UNWRITTEN:
+            note("a line of a transcript couldn't be written: the transcript ends there")
+        is_cut = status < 0 or self.serving.has_met_limit()
+        if self.accepted and (status or is_cut):
+            note(f"{len(self.accepted)} clients get no more: the command ended with status {status}{', at a limit' if is_cut else ''}")
+        for number in list(self.accepted):
+            self.close(number, is_cut)
+        await asyncio.gather(*self.closers)
+        for it in (self.serving, self.told, self.said):
+            it.close()
+        return status if status >= 0 else 128 - status
+
+
+class Parted(Exception):
+    """A process says something else than was said."""
+
+    def __init__(self, line, said):
+        super().__init__(f"it says `{line.decode().strip()}` where clients got `{said.decode().strip()}`")
