@@ -35,6 +35,7 @@ WANTED = [
     (re.compile(r"\bjq\b|\bparting\.py\b|\$PARTING\b"), "jq", "jq"),
     (re.compile(r"\bxxd\b"), "xxd", "xxd"),
     (re.compile(r"\bqemu-riscv32\b"), "qemu-riscv32", "qemu-user"),
+    (re.compile(r"\bsocat\b"), "socat", "socat"),
 ]
 # Printed between the commands; no command prints it.
 MARK = "---- the next command ----"

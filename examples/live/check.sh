@@ -1,6 +1,7 @@
 #!/usr/bin/env bash
 # Puts the examples before real clients, on 127.0.0.1, and compares what each of them got with what it gets under Linux (../guests/expected, ../server/expected).
-# Then the transcript of each run is run again: it comes to the same log and fates as the live run, and its clients are written the same bytes. Does the commands of docs/LIVE.md, too.
+# Then the transcript of each run is run again: it comes to the same log and fates as the live run, and its clients are written the same bytes. Does the commands of docs/LIVE.md, too, and operates a
+# service (operating.py): versions join and leave, processes are killed, streams are closed, unread or full.
 # check.sh [PROGRAM]: crates/varan/out/varan where no program is named.
 # It wants python3, socat, xinetd and jq (Debian: packages of these names). What wants one that isn't there is left out, and a line with `left out` tells it.
 # Status: 0 where nothing differs, 1 where something does, 2 where the program isn't built.
@@ -384,6 +385,9 @@ many_clients() {
     other_texts
     refused_lines
     a_stranger
+    # versions that join and leave, and what can break
+    rows=$((rows + 1))
+    "$here/operating.py" "$program" || wrong=$((wrong + 1))
 }
 
 if ! has python3 "live services"; then
