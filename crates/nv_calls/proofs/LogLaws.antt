@@ -67,11 +67,11 @@ has [] i h = absurd (omega arith)
 has (x ∷ xs) zero h = (x, refl)
 has (x ∷ xs) (suc i) h = has xs i (omega arith)
 
-few_by : (log : List Entry) (n : ℕ) → IsLawful log → n ≡ length log → n ≤ 131072
+few_by : (log : List Entry) (n : ℕ) → IsLawful log → n ≡ length log → n ≤ 500000000
 few_by log zero h e = omega arith
 few_by log (suc n) h e = let x = has log n (omega arith) in let m = (h n x.0 x.1).few in omega arith
 
-pub lawful_few : (log : List Entry) → IsLawful log → length log ≤ 131072
+pub lawful_few : (log : List Entry) → IsLawful log → length log ≤ 500000000
 lawful_few log h = few_by log (length log) h refl
 
 pub slice_some : {A : Type 0} (xs : List A) (i : ℕ) (x : A) → get_elem? xs i ≡ some x → slice_get xs i ≡ Some x

@@ -27,4 +27,4 @@ MOST_THREADS = 8
 
 -- entries of a log
 abbrev pub MOST_EVENTS : ℕ
-MOST_EVENTS = 131072
+MOST_EVENTS = 500000000

@@ -19,4 +19,4 @@ pub const FIRST_THREAD: u32 = 100;
 pub const MOST_THREADS: usize = 8;
 
 /// How many entries a log has at most.
-pub const MOST_EVENTS: u32 = 131_072;
+pub const MOST_EVENTS: u32 = 500_000_000;

@@ -59,7 +59,7 @@ impl Pool {
     /// A payload of so many bytes comes after all others: the first of its chunks.
     pub fn add(&mut self, bytes: u32) -> u32
         requires bytes { bytes ≤ 4096 }
-        requires few { count_of self.old < 131072 }
+        requires few { count_of self.old < 500000000 }
         ensures first { (sizes : List ℕ) → Holds self.old sizes → result ≡ first_chunk (chunks_of_pool self.old) sizes (length sizes) }
         ensures after { (sizes : List ℕ) → Holds self.old sizes → Holds self.new (sizes ++ bytes ∷ []) }
         ensures count { count_of self.new ≡ count_of self.old + 1 }

@@ -15,7 +15,7 @@ pub struct Pool {
     pub(crate) first: u32,
     pub(crate) starts: Vec<u32>,
     ghost sizes: { (0 < chunks) × (0 < places) × (length starts.items ≡ places) },
-    ghost few: { (count ≤ 131072) × (total ≤ 8 * count) },
+    ghost few: { (count ≤ 500000000) × (total ≤ 8 * count) },
     ghost turns: { (at ≡ count % places) × (first ≡ total % chunks) },
     ghost early: { (at ≤ count) × (first ≤ total) },
     ghost starts_are: { AllUpTo total starts.items },

@@ -64,7 +64,7 @@ module _ {K B : Type 0} (hist : K → List Entry) (beg : K → B) (p : Layout K)
   pub role_of : (role : Role) → u.role ≡ role → InRole p.stations p.places (moment r) u role
   role_of role is = subst (InRole p.stations p.places (moment r) u) is (r.each_seat id u at).in_role
 
-  few : length r.log ≤ 131072
+  few : length r.log ≤ 500000000
   few = r.common.places.log_is_short
 
   short : length u.seen ≤ length r.log

@@ -74,7 +74,7 @@ module _ {K B : Type 0} (hist : K → List Entry) (beg : K → B) (p : Layout K)
   reads_on v is ne less Opening l k = absurd (ne k.is_holder)
   reads_on v is ne less Leaving l k = absurd (k.not_held is)
   reads_on v is ne less Moving l k = absurd (k.not_held is)
-  reads_on v is ne less Gone l k = let few : length r.log ≤ 131072 = r.common.places.log_is_short in let g = k.cursor_is_gone in absurd (omega arith)
+  reads_on v is ne less Gone l k = let few : length r.log ≤ 500000000 = r.common.places.log_is_short in let g = k.cursor_is_gone in absurd (omega arith)
   reads_on v is ne less Spent l k = absurd l
 
   moving_free : (id : ℕ) (v : View K) → get_elem? s.views id ≡ some v → v.role ≡ Moving → r.phase ≡ held → ⊥
@@ -83,7 +83,7 @@ module _ {K B : Type 0} (hist : K → List Entry) (beg : K → B) (p : Layout K)
   -- a station behind the log has an event to see
   pub behind : AllSeated p s.views → r.phase ≡ held → (t : ℕ) → t ≢ r.holder → t < length r.seating → cursor s.words t < length r.log
       → SomeSeat s.views (λ v. (v.station ≡ t) × CanGetOn p.places m v v.role × HasEvent m v)
-  behind all is t ne near less = let k = sits all t near in let few : length r.log ≤ 131072 = r.common.places.log_is_short in ⊎_elim
+  behind all is t ne near less = let k = sits all t near in let few : length r.log ≤ 500000000 = r.common.places.log_is_short in ⊎_elim
       (λ (e : t ≡ k.view.station). let q = reads_on k.view is (λ f. ne (e ∙ f)) (subst (λ (z : ℕ). cursor s.words z < length r.log) e less) k.view.role k.live (r.each_seat k.id k.view k.at).in_role in (k.id, k.view, k.at, (sym e, q.0, q.1)))
       (λ (q : (k.view.role ≡ Moving) ⊎ (GONE ≤ cursor s.words t)). ⊎_elim
       (λ (e : k.view.role ≡ Moving). absurd (moving_free k.id k.view k.at e is))
@@ -175,11 +175,11 @@ module _ {K B : Type 0} (hist : K → List Entry) (beg : K → B) (p : Layout K)
       (lowest_below k (omega arith))
 
   stays_counts : (v : View K) → r.phase ≡ free → length v.seen ≤ length r.log → (role : Role) → Stays role → InRole p.stations p.places m v role → cursor s.words v.station < GONE
-  stays_counts v is few Reader l k = let a = k.cursor_is_length in let b : length r.log ≤ 131072 = r.common.places.log_is_short in omega arith
+  stays_counts v is few Reader l k = let a = k.cursor_is_length in let b : length r.log ≤ 500000000 = r.common.places.log_is_short in omega arith
   stays_counts v is few Lead l k = absurd (free_held is k.is_held)
   stays_counts v is few Opening l k = absurd (free_held is k.is_held)
-  stays_counts v is few Leaving l k = let a = k.cursor_is_count in let b : length r.log ≤ 131072 = r.common.places.log_is_short in omega arith
-  stays_counts v is few Moving l k = let a = k.cursor_is_length in let b : length r.log ≤ 131072 = r.common.places.log_is_short in omega arith
+  stays_counts v is few Leaving l k = let a = k.cursor_is_count in let b : length r.log ≤ 500000000 = r.common.places.log_is_short in omega arith
+  stays_counts v is few Moving l k = let a = k.cursor_is_length in let b : length r.log ≤ 500000000 = r.common.places.log_is_short in omega arith
   stays_counts v is few Gone l k = absurd l
   stays_counts v is few Spent l k = absurd l
 

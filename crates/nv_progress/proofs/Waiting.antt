@@ -59,7 +59,7 @@ module _ {T : Type 0} (old : View T) where
       (λ (a : SawFree m v). let up = w.owner_looked in ⊎_elim (λ (e : v.owner_looks ≡ old.owner_looks). absurd (omega arith))
       (λ (e : is_free v.owner_last ≡ true). ⊎_elim
       (λ (h : is_held v.owner_last ≡ true). free_held v.owner_last e h)
-      (λ (h : (is_free v.owner_last ≡ true) × (v.cursor_of < v.station) × (old.cursor_looks < v.cursor_looks) × (v.cursor_last ≤ 131072)). let looked = h.2 in let count = h.3 in ⊎_elim
+      (λ (h : (is_free v.owner_last ≡ true) × (v.cursor_of < v.station) × (old.cursor_looks < v.cursor_looks) × (v.cursor_last ≤ 500000000)). let looked = h.2 in let count = h.3 in ⊎_elim
       (λ (c : v.cursor_looks ≡ old.cursor_looks). absurd (omega arith))
       (λ (c : v.cursor_of < v.station → GONE ≤ v.cursor_last). let g = c h.1 in absurd (omega arith))
       a.lower)
@@ -68,7 +68,7 @@ module _ {T : Type 0} (old : View T) where
       (λ (a : SawClosed m v). let up = w.owner_looked in ⊎_elim (λ (e : v.owner_looks ≡ old.owner_looks). absurd (omega arith))
       (λ (e : is_closed v.owner_last ≡ true). ⊎_elim
       (λ (h : is_held v.owner_last ≡ true). closed_held v.owner_last e h)
-      (λ (h : (is_free v.owner_last ≡ true) × (v.cursor_of < v.station) × (old.cursor_looks < v.cursor_looks) × (v.cursor_last ≤ 131072)). closed_free v.owner_last e h.0)
+      (λ (h : (is_free v.owner_last ≡ true) × (v.cursor_of < v.station) × (old.cursor_looks < v.cursor_looks) × (v.cursor_last ≤ 500000000)). closed_free v.owner_last e h.0)
       w.owner)
       a.owner)
       b)

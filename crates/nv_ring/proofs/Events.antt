@@ -1,14 +1,9 @@
 -- The event that is due, and its words.
 use Rattle.std.proofs.Common.{◌≡◌, ℕ, zero, suc, ◌+◌, ◌<◌, List, [], ◌∷◌, ◌++◌, map, length, get_or, take, sym, ap, ◌∙◌, subst, refl, Some, arith, length-take}
 use Rattle.std.specs.Prelude.{slice_get}
-use Rattle.std.proofs.lemmas.List.{length-map, take_more}
+use Rattle.std.proofs.lemmas.List.{take_more}
 use Rattle.std.proofs.lemmas.Option.{same_Some}
-use Rattle.atomic_table.proofs.Lists.{at_index, at_map}
-use mathlib.Core.Option.{some}
-use lib.ListN.{get_elem?}
-use Rattle.nv_calls.specs.Calls.{Entry, entry}
-use Rattle.nv_calls.specs.declared.calls.Event.{Event}
-use Rattle.nv_calls.proofs.LogLaws.{slice_some}
+use Rattle.nv_calls.specs.Calls.{Entry}
 use Rattle.nv_words.specs.Spelling.{spell}
 
 pub take_len : {A : Type 0} (xs : List A) (n : ℕ) → n ≡ length xs → take n xs ≡ xs
@@ -18,14 +13,14 @@ take_len {A} xs n h = subst (λ (k : ℕ). take k xs ≡ xs) (sym h) (all xs)
     all [] = refl
     all (x ∷ xs) = ap (λ z. x ∷ z) (all xs)
 
--- the event n of a history stands in the log
-pub entry_at : (history : List Event) (log : List Entry) (n : ℕ) (x : Event) → map entry history ≡ log → n < length log → x ≡ get_or history n x → slice_get log n ≡ Some (entry x)
-entry_at history log n x is near at =
-    let long : length history ≡ length log = sym (length-map history entry) ∙ ap (λ (z : List Entry). length z) is in
-    let here : get_elem? history n ≡ some x = at_index history n x (omega arith) at in
-    slice_some log n (entry x) (ap (λ (z : List Entry). get_elem? z n) (sym is) ∙ at_map entry history n x here)
+-- the last event of a log stands in its last place
+pub last_at : (log : List Entry) (n : ℕ) (x : Entry) → length log ≡ n + 1 → ((past : List Entry) (e : Entry) → log ≡ past ++ e ∷ [] → x ≡ e) → slice_get log n ≡ Some x
+last_at [] n x long is = absurd (omega arith)
+last_at (y ∷ []) zero x long is = ap Some (sym (is [] y refl))
+last_at (y ∷ z ∷ zs) zero x long is = absurd (omega arith)
+last_at (y ∷ ys) (suc n) x long is = last_at ys n x (omega arith) (λ past e h. is (y ∷ past) e (ap (λ (l : List Entry). y ∷ l) h))
 
--- the event n of a history as it is spelt
+-- the event in place n as it is spelt
 pub spelt_at : (log : List Entry) (n : ℕ) (e : Entry) → slice_get log n ≡ Some e → get_or (map spell log) n [] ≡ spell e
 spelt_at [] n e at = cc
 spelt_at (x ∷ xs) zero e at = ap spell (same_Some x e at)

@@ -194,7 +194,7 @@ module _ {K B : Type 0} (hist : K → List Entry) (beg : K → B) (p : Layout K)
             }
             (merge_turned n c s.views id v w at s.words (set s.words (cursor_index i) new) r.log r.phase r.merge (second_kept n c (cursor_index i) new s.words (omega arith))
             (λ e. r.merge.lead_writes id v at e) (λ _. notes_none r.log (v.seen ++ v.read ∷ []) [] refl) (λ l. r.merge.floors_wide id v at l)),
-        (refl, told hist beg p s r (v.seen ++ v.read ∷ []) pre, (let short : len ≤ 131072 = pl.log_is_short in omega arith)),
+        (refl, told hist beg p s r (v.seen ++ v.read ∷ []) pre, (let short : len ≤ 500000000 = pl.log_is_short in omega arith)),
       )
 
   pub advances_at : (slots id k new : ℕ) (me : M) → me.0.role ≡ Reader → IsWhole me.0.read → k ≡ cursor_index me.0.station → new ≡ length me.0.seen + 1
@@ -220,7 +220,7 @@ module _ {K B : Type 0} (hist : K → List Entry) (beg : K → B) (p : Layout K)
       → Allows RuleOf slots id me (cursor_index me.0.station) (λ _. new) (λ _. left (step slots (cursor_index me.0.station) new 0 none) me new)
   leaves slots id new me role is s r wide at _ = let v = me.0 in let n : ℕ = p.stations in let c : ℕ = p.places in let kn = r.each_seat id v at in let pl = r.common.places in
       let m : Moment = now hist beg p s r in let live : Live v.role = ⊎_elim (λ (e : v.role ≡ Reader). subst Live (sym e) tt) (λ (e : v.role ≡ Leaving). subst Live (sym e) tt) role in
-      let se : IsSeated p m v = kn.seated live in let i : ℕ = v.station in let near : i < n = seat_near hist beg p s r id v at live in let len : ℕ = length r.log in let few : len ≤ 131072 = pl.log_is_short in
+      let se : IsSeated p m v = kn.seated live in let i : ℕ = v.station in let near : i < n = seat_near hist beg p s r id v at live in let len : ℕ = length r.log in let few : len ≤ 500000000 = pl.log_is_short in
       let stays : v.role ≢ Moving = λ e. ⊎_elim (λ (f : v.role ≡ Reader). let q : Reader ≡ Moving = sym f ∙ e in (let z : ⊥ = cc in z)) (λ (f : v.role ≡ Leaving). let q : Leaving ≡ Moving = sym f ∙ e in (let z : ⊥ = cc in z)) role in
       let may = may_leave m v r.common.led (prefix_length v.seen r.log kn.seen_is_prefix) v.role role kn.in_role in let count : cursor s.words i ≤ len = may.count in
       let up : cursor s.words i ≤ new = omega arith in let m' : Moment = risen n c m i new pl near up in let w : View K = as_gone v in let on = on_risen n c m i new pl near up (open_near hist beg p s r) in

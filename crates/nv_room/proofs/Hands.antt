@@ -50,7 +50,7 @@ module _ (n c : ℕ) (m : Moment) (new : ℕ) (pl : Places n c m) where
   pub places_owned : (ph : Phase) (h : ℕ) (spans : List Span) (seating : List ℕ) (ready : ℕ) → new ≡ owner_word ph h (length seating) (length m.log) → h < length seating
       → ((s : ℕ) → s < h → GONE ≤ cursor m.words s) → (ph ≡ held → cursor m.words h ≤ length m.log)
       → ((s : ℕ) → s ≢ h → s < length seating → ((s ≢ m.holder) × (s < length m.seating)) ⊎ (length m.log ≤ cursor m.words s)) → Places n c (as_of (set m.words 0 new) m.log ph h spans seating ready)
-  places_owned ph h spans seating ready is near low lead others = let few : length m.log ≤ 131072 = pl.log_is_short in record {
+  places_owned ph h spans seating ready is near low lead others = let few : length m.log ≤ 500000000 = pl.log_is_short in record {
     some_place = pl.some_place;
     few_stations = pl.few_stations;
     words_are_all = length-set m.words 0 new ∙ pl.words_are_all;
@@ -197,12 +197,12 @@ module _ {K B : Type 0} (hist : K → List Entry) (beg : K → B) (p : Layout K)
   -- two readers cannot both have all stations below them gone
   one_note : (m : Moment) (pl : Places p.stations p.places m) (st st' : ℕ) (seen seen' : Log) → cursor m.words st ≡ length seen → cursor m.words st' ≡ length seen' → length seen ≤ length m.log → length seen' ≤ length m.log → st' ≢ st
       → ((z : ℕ) → z < st → GONE ≤ cursor m.words z) → ((z : ℕ) → z < st' → GONE ≤ cursor m.words z) → ⊥
-  one_note m pl st st' seen seen' a b la lb ne low low' = let few : length m.log ≤ 131072 = pl.log_is_short in
+  one_note m pl st st' seen seen' a b la lb ne low low' = let few : length m.log ≤ 500000000 = pl.log_is_short in
       dite (dec_le st st') (λ le. let g = low' st (omega arith) in omega arith) (λ gt. let lt : st' < st = lt_of_not-le gt in let g = low st' lt in omega arith)
 
   -- a station that holds nothing but counts is above none that has all lower ones gone
   none_counts : (m : Moment) (pl : Places p.stations p.places m) (st h : ℕ) → h ≡ m.holder → st ≢ h → cursor m.words st ≤ length m.log → cursor m.words h ≤ length m.log → ((z : ℕ) → z < st → GONE ≤ cursor m.words z) → ⊥
-  none_counts m pl st h is ne mine count low = let few : length m.log ≤ 131072 = pl.log_is_short in
+  none_counts m pl st h is ne mine count low = let few : length m.log ≤ 500000000 = pl.log_is_short in
       dite (dec_le st h) (λ le. let lt : st < m.holder = omega arith in let g = pl.lower_are_gone st lt in omega arith) (λ gt. let lt : h < st = lt_of_not-le gt in let g = low h lt in omega arith)
 
   -- when a reader takes the lead no other seat is touched
@@ -256,7 +256,7 @@ module _ {K B : Type 0} (hist : K → List Entry) (beg : K → B) (p : Layout K)
       let size : ℕ = length v.seen in
       let full : size ≡ len = note.at_head in
       let all : v.seen ≡ r.log = prefix_same v.seen r.log full kn.seen_is_prefix in
-      let few : len ≤ 131072 = pl.log_is_short in let mine : cursor s.words st ≡ size = ir.cursor_is_length in
+      let few : len ≤ 500000000 = pl.log_is_short in let mine : cursor s.words st ≡ size = ir.cursor_is_length in
       let low : r.holder ≤ st = dite (dec_le r.holder st) (λ le. le) (λ gt. let lt : st < r.holder = lt_of_not-le gt in let g = pl.lower_are_gone st lt in absurd (omega arith)) in
       let home = home_free p.start.value r.common.events s.homes r.phase note.is_free r.common.home in let k : K = home.0 in
       let new_span : Span = span_begun v in

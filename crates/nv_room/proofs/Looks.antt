@@ -49,7 +49,7 @@ module _ {K B : Type 0} (hist : K → List Entry) (beg : K → B) (p : Layout K)
 
   pub looks_head : (slots id : ℕ) (me : M) → Allows RuleOf slots id me head_index (λ x. x) (looked_head (step slots head_index 0 0 none) me)
   looks_head slots id me s r wide at _ = let v = me.0 in let k = r.each_seat id v at in let pl = r.common.places in
-      let few : length r.log ≤ 131072 = pl.log_is_short in let is : get_or s.words head_index 0 ≡ length r.log = pl.head_is_length in (
+      let few : length r.log ≤ 500000000 = pl.log_is_short in let is : get_or s.words head_index 0 ≡ length r.log = pl.head_is_length in (
         head_seen v (get_or s.words head_index 0),
         keeps,
         tt,
@@ -87,12 +87,12 @@ module _ {K B : Type 0} (hist : K → List Entry) (beg : K → B) (p : Layout K)
       let window : length r.log ≤ cursor s.words st + p.places = r.common.places.head_in_window st (λ e. other (e ∙ sym ir.is_holder)) within in
       omega arith
 
-  count_or_gone : (len x : ℕ) → len ≤ 131072 → (x ≤ len) ⊎ (x ≡ GONE) → (x ≤ 131072) ⊎ (x ≡ GONE)
+  count_or_gone : (len x : ℕ) → len ≤ 500000000 → (x ≤ len) ⊎ (x ≡ GONE) → (x ≤ 500000000) ⊎ (x ≡ GONE)
   count_or_gone len x few k = ⊎_elim (λ (a : x ≤ len). inl (omega arith)) (λ (e : x ≡ GONE). inr e) k
 
   pub looks_cursor : (slots id st : ℕ) (me : M) → st < p.stations → Allows RuleOf slots id me (cursor_index st) (λ x. x) (looked_cursor (step slots (cursor_index st) 0 0 none) me)
   looks_cursor slots id st me near s r wide at _ = let v = me.0 in let k = r.each_seat id v at in let x : ℕ = get_or s.words (cursor_index st) 0 in
-      let few : length r.log ≤ 131072 = r.common.places.log_is_short in (
+      let few : length r.log ≤ 500000000 = r.common.places.log_is_short in (
         cursor_seen st v x,
         keeps,
         tt,
@@ -162,7 +162,7 @@ module _ {K B : Type 0} (hist : K → List Entry) (beg : K → B) (p : Layout K)
   looks_owner slots id me role s r wide at _ = let v = me.0 in let kn = r.each_seat id v at in let x : ℕ = get_or s.words 0 0 in let pl = r.common.places in
       let ir = in_role hist beg p s r id v at Reader role in let st : ℕ = v.station in let se = seated hist beg p s r id v at Reader role tt in let n : ℕ = p.stations in let len : ℕ = length r.log in
       let near : st < n = role_near hist beg p s r id v at Reader role tt in
-      let few : len ≤ 131072 = pl.log_is_short in
+      let few : len ≤ 500000000 = pl.log_is_short in
       let all = open_near hist beg p s r in
       let small : r.holder < 16 = (let a = pl.few_stations in let b = pl.holder_is_open in omega arith) in
       let open_few : length r.seating ≤ 16 = (let a = pl.few_stations in omega arith) in

@@ -25,7 +25,7 @@ served_whole h xs ws law is = let n : ℕ = length xs in let long : length h ≡
     let at : some (spell y.0) ≡ some ws = sym (at_map spell h n y.0 y.1) ∙ ap (λ (z : Log). get_elem? z n) is ∙ at_last xs ws n (λ _. n) in
     subst (λ (z : List ℕ). IsWhole z × (length z ≤ 518)) (some-injective (spell y.0) ws at) (spell_whole y.0 (lawful_range h n y.0 law y.1))
 
-pub served_few : (h : List Entry) (xs : Log) (ws : List ℕ) → IsLawful h → map spell h ≡ xs ++ ws ∷ [] → length xs < 131072
+pub served_few : (h : List Entry) (xs : Log) (ws : List ℕ) → IsLawful h → map spell h ≡ xs ++ ws ∷ [] → length xs < 500000000
 served_few h xs ws law is = let long : length h ≡ length xs + 1 = sym (length-map h spell) ∙ ap length is ∙ length-append xs (ws ∷ []) in let few = lawful_few h law in omega arith
 
 take_one : (xs : Log) (ws : List ℕ) → take (suc (length xs)) (xs ++ ws ∷ []) ≡ xs ++ ws ∷ []

@@ -13,6 +13,7 @@ ghost use Rattle.nv_places.specs.Logs.{lanes_after};
 
 use crate::room::{Lead, Reader, Room};
 use nv_calls::Call;
+use nv_lanes::Lanes;
 use nv_served::SyscallKernel;
 use std::alloc::AllocError;
 
@@ -81,7 +82,7 @@ impl<K: SyscallKernel> Lead<K> {
         ensures known { K.known (kernel_of self.new) ≡ K.known (kernel_of self.old) }
     {
         self.kernel.serve(call);
-        let _log = self.kernel.history();
+        let _end = self.kernel.ended();
         self.due = true;
     }
 
@@ -107,11 +108,18 @@ impl<K: SyscallKernel> Lead<K> {
     pub(crate) fn tell_lawful(&self)
         ensures { IsLawful (K.log self.now.kernel) }
     {
-        let _log = self.kernel.history();
+        let _end = self.kernel.ended();
     }
 }
 
 impl<K: SyscallKernel> Reader<K> {
+    /// The lanes after the events seen.
+    pub fn lanes(&self) -> &Lanes
+        ensures { result.now ≡ lanes_after (view self.now).seen }
+    {
+        &self.trail.lanes
+    }
+
     /// Whether some thread has the lane after the events seen, or it is lane 0.
     pub fn lives(&self, lane: u32) -> bool
         requires { lane < 8 }

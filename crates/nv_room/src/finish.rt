@@ -82,7 +82,7 @@ impl<K: SyscallKernel> Room<K> {
             unreachable!()
         };
         closed.free();
-        let _log = kernel.history();
+        let _end = kernel.ended();
         Ended {
             kernel,
             seen: counts,

@@ -131,6 +131,6 @@ impl<K: SyscallKernel> Opening<K> {
     fn tell_lawful(&self)
         ensures { IsLawful (K.log self.now.kernel) }
     {
-        let _log = self.kernel.history();
+        let _end = self.kernel.ended();
     }
 }

@@ -1,5 +1,5 @@
 //! The trait of a kernel that answers system calls.
-//! Types: `SyscallKernel`, `Scripted`.
+//! Types: `SyscallKernel`, `Recorded` (one that keeps all that it did), `Scripted`.
 //! A kernel's laws are clauses of the trait: the log grows by just the call served, with the reply that what the kernel knows
 //! gives, and what it learns from outside changes nothing that was served.
 //! Above: kernels, the room, runs and what tells of them.
@@ -7,4 +7,4 @@
 
 mod kernel;
 
-pub use kernel::{Scripted, SyscallKernel};
+pub use kernel::{Recorded, Scripted, SyscallKernel};

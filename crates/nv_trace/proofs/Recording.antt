@@ -1,11 +1,11 @@
 -- Logs that can be recorded.
-use Rattle.std.proofs.Common.{◌≡◌, ℕ, zero, suc, ◌+◌, ◌<◌, List, [], ◌∷◌, ◌++◌, length, map, get_or, Some, refl, sym, ap, ◌∙◌, arith}
+use Rattle.std.proofs.Common.{◌≡◌, ℕ, zero, suc, ◌+◌, ◌<◌, ◌≤◌, List, [], ◌∷◌, ◌++◌, length, map, get_or, Some, refl, sym, ap, ◌∙◌, arith}
 use Rattle.std.specs.Prelude.{slice_get}
 use Rattle.std.specs.List.{flat_map}
 use Rattle.nv_calls.specs.declared.calls.Event.{Event}
 use Rattle.nv_calls.specs.Calls.{Entry, entry}
 use Rattle.nv_calls.specs.Logs.{InRange, IsLawful}
-use Rattle.nv_calls.proofs.LogLaws.{lawful_few}
+use Rattle.nv_trace.specs.Limits.{MOST_TRACED}
 use Rattle.nv_trace.specs.Trace.{event_bytes, AreRecordable, IsRecordable}
 use Rattle.nv_trace.specs.Checks.{AreStamped}
 
@@ -45,10 +45,10 @@ recordable_from (x ∷ log) place h =
     on : (n i : ℕ) → n + suc i ≡ (n + 1) + i
     on n i = omega arith
 
--- the log of a kernel can be recorded
-pub lawful_recordable : (log : List Entry) → IsLawful log → IsRecordable log
-lawful_recordable log ok = record {
-  few = lawful_few log ok;
+-- the log of a kernel can be recorded where it isn't longer than a trace's
+pub lawful_recordable : (log : List Entry) → length log ≤ MOST_TRACED → IsLawful log → IsRecordable log
+lawful_recordable log few ok = record {
+  few = few;
   each = recordable_from log 0 (λ i e at. let m = ok i e at in (m.stamp ∙ none i, m.range));
 }
   where

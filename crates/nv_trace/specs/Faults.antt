@@ -3,7 +3,8 @@ use Rattle.std.specs.Prelude.{◌≡◌, ℕ, zero, suc, ◌+◌, ◌==◌, ◌&
 use Rattle.std.specs.Option.{option_or}
 use Rattle.std.specs.Str.{bytes_eq}
 use Rattle.nv_calls.specs.Calls.{Entry}
-use Rattle.nv_calls.specs.Limits.{MOST_BYTES, MOST_EVENTS}
+use Rattle.nv_calls.specs.Limits.{MOST_BYTES}
+use Rattle.nv_trace.specs.Limits.{MOST_TRACED}
 use Rattle.nv_trace.specs.declared.fault.TraceFault.{TraceFault}
 use Rattle.nv_trace.specs.declared.fault.TraceFault.TheVariants.{Magic, Count, Short, Field, Extra}
 use Rattle.nv_trace.specs.Trace.{IsTrace}
@@ -15,7 +16,7 @@ has_head bytes = nat_le 12 (length bytes) && bytes_eq (codes "VARANTR1") (take 8
 
 unfoldable pub head_fault : List ℕ → Option TraceFault
 head_fault bytes = if not (has_head bytes) then Some Magic
-    else (if nat_lt MOST_EVENTS (count_in bytes) then Some Count
+    else (if nat_lt MOST_TRACED (count_in bytes) then Some Count
     else None)
 
 -- of the event in front, at this place of the log

@@ -1,3 +1,4 @@
+pub mod Limits
 pub mod Trace
 pub mod Held
 pub mod Faults

@@ -4,7 +4,7 @@ use Rattle.std.specs.List.{flat_map}
 use Rattle.std.specs.Int.{w32, cast_unsigned}
 use Rattle.byteorder.specs.Endian.{little_bytes}
 use Rattle.nv_calls.specs.Calls.{Entry}
-use Rattle.nv_calls.specs.Limits.{MOST_EVENTS}
+use Rattle.nv_trace.specs.Limits.{MOST_TRACED}
 use Rattle.nv_calls.specs.Logs.{InRange}
 
 -- each number in four bytes, the lowest first
@@ -44,7 +44,7 @@ AreRecordable place (e ∷ es) = (e.stamp ≡ place) × InRange e × AreRecordab
 
 -- a log that has a trace: at most 131,072 events, each with at most 4,096 bytes
 pub record IsRecordable (log : List Entry) : Type 0 where
-  pub few : length log ≤ MOST_EVENTS
+  pub few : length log ≤ MOST_TRACED
   pub each : AreRecordable 0 log
 
 -- the bytes are the trace of the log

@@ -10,7 +10,7 @@ use crate::CheckFault;
 use crate::live::{first_thread, lives, note};
 use arrayvec::ArrayVec;
 use nv_calls::{Event, MOST_THREADS, Reply, shaped};
-use nv_served::{Scripted, SyscallKernel};
+use nv_served::{Recorded, Scripted, SyscallKernel};
 
 fn is_reply(reply: &Reply, other: &Reply) -> bool
     ensures { result ≡ is_reply (response reply.now) (response other.now) }
@@ -29,7 +29,7 @@ fn has_got(history: &[Event], reply: &Reply) -> bool
 }
 
 // Serves the call of the next event, unless the event has a fault before.
-fn play<K: SyscallKernel + Scripted>(
+fn play<K: SyscallKernel + Recorded + Scripted>(
     kernel: &mut K,
     live: &mut ArrayVec<u32, MOST_THREADS>,
     event: &Event,
@@ -65,7 +65,7 @@ fn play<K: SyscallKernel + Scripted>(
 }
 
 /// Has the kernel serve the calls of the events, up to the first event that it doesn't come to.
-pub fn check<K: SyscallKernel + Scripted>(
+pub fn check<K: SyscallKernel + Recorded + Scripted>(
     kernel: &mut K,
     events: &[Event],
 ) -> Result<(), CheckFault>

@@ -1,7 +1,7 @@
 // The reader of traces.
 ghost use Rattle.std.specs.Prelude.{◌≡◌, ◌+◌, ◌≤◌, ◌⊎◌, Some, None, IfOk, IfErr, MatchResult, length, drop, map};
 ghost use Rattle.nv_calls.specs.Calls.{entry, request, response};
-ghost use Rattle.nv_calls.specs.Limits.{MOST_BYTES, MOST_EVENTS};
+ghost use Rattle.nv_calls.specs.Limits.{MOST_BYTES};
 ghost use Rattle.nv_trace.specs.Trace.{IsRead};
 ghost use Rattle.nv_trace.specs.Held.{count_in, sent_in, came_in, size_in, request_in, response_in, entry_in, entries_in};
 ghost use Rattle.nv_trace.specs.Faults.{has_head, head_fault, event_fault, events_fault, IsFirstFault};
@@ -10,11 +10,14 @@ ghost use Rattle.nv_trace.specs.declared.fault.TraceFault.TheVariants.{Memory};
 use crate::TraceFault;
 use crate::fields::FIELDS;
 use nv_bytes::u32_at;
-use nv_calls::{Bytes, Call, Event, MOST_BYTES, MOST_EVENTS, Reply};
+use nv_calls::{Bytes, Call, Event, MOST_BYTES, Reply};
 use std::alloc::{AllocError, Global};
 
 /// How many bytes stand before the first event.
 const HEAD: usize = 12;
+
+/// How many entries of a log a trace has at most.
+const MOST_TRACED: u32 = 131_072;
 
 fn has_head(bytes: &[u8]) -> bool
     ensures { result ≡ has_head bytes.now }
@@ -33,7 +36,7 @@ fn count_events(bytes: &[u8]) -> Result<u32, TraceFault>
         return Err(TraceFault::Magic);
     }
     let count = u32_at(bytes, 8);
-    if count > MOST_EVENTS {
+    if count > MOST_TRACED {
         return Err(TraceFault::Count);
     }
     Ok(count)

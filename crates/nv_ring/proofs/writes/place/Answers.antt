@@ -58,7 +58,7 @@ loop-station-preserved g c =
     let places : ℕ = c.args.room.now.places in
     let station : ℕ = c.loop-station.station in
     let near : station < length old.floors = (let t = c.loop-station-test.true in let all = c.opened-station-end.ensures.view in let wide = i.of.3 in let fit = c.requires.5 in omega arith) in
-    let few : length log ≤ 131072 = (let a = c.args.lead.now.few.0 in let b = c.args.lead.now.seen_is in omega arith) in
+    let few : length log ≤ 500000000 = (let a = c.args.lead.now.few.0 in let b = c.args.lead.now.seen_is in omega arith) in
     let pos : 0 < places = (let a = c.args.room.now.few.2 in omega arith) in
     let same : (lead_view c.look_cursor.new.lead).seen ≡ log = ap (λ w. w.seen) v ∙ i.seen in
     let fits : FitsAll places log (cursor_word c.look_cursor.result) = elim c.match-look_cursor.branch [

@@ -16,5 +16,5 @@ invariant-loop-i g l = record {
   floors : (lead_view l.lead).floors ≡ (lead_view l.fn.lead).floors;
   spans : (lead_view l.lead).spans ≡ (lead_view l.fn.lead).spans;
   steps : Stepped (stations_of l.room) (lead_view l.fn.lead) (lead_view l.lead);
-  wrote : (e : Entry) → slice_get (g.K.SyscallKernel.log (kernel_of l.fn.lead)) l.at ≡ Some e → (lead_view l.lead).wrote ≡ take l.i (spell e);
+  wrote : (e : Entry) → slice_get (g.K.SyscallKernel.log (kernel_of l.fn.lead)) l.fn.lead.seen ≡ Some e → (lead_view l.lead).wrote ≡ take l.i (spell e);
 }

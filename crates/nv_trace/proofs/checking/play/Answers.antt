@@ -18,18 +18,18 @@ still g before now same =
 
 pub returns-then-is_some-clause-fault : goal.returns-then-is_some-clause-fault
 returns-then-is_some-clause-fault g c =
-    let over = ap is_some (sym c.ended.ensures) ∙ sym c.is_some.ensures ∙ c.if-is_some.true in
+    let over = ap is_some (sym c.ended.ensures.is) ∙ sym c.is_some.ensures ∙ c.if-is_some.true in
     inr (fault_ended _ _ (entry c.args.event.now) over ∙ ap (λ n. Some (Ended n)) (sym c.requires.stamp))
 
 pub returns-then-not-shaped-clause-fault : goal.returns-then-not-shaped-clause-fault
 returns-then-not-shaped-clause-fault g c =
-    let over = ap is_some (sym c.ended.ensures) ∙ sym c.is_some.ensures ∙ c.if-is_some.false in
+    let over = ap is_some (sym c.ended.ensures.is) ∙ sym c.is_some.ensures ∙ c.if-is_some.false in
     let shape = sym c.shaped.ensures ∙ c.if-not-shaped.true in
     inr (fault_shape _ _ (entry c.args.event.now) over shape ∙ ap (λ n. Some (Shape n)) (sym c.requires.stamp))
 
 pub returns-then-not-lives-clause-fault : goal.returns-then-not-lives-clause-fault
 returns-then-not-lives-clause-fault g c =
-    let over = ap is_some (sym c.ended.ensures) ∙ sym c.is_some.ensures ∙ c.if-is_some.false in
+    let over = ap is_some (sym c.ended.ensures.is) ∙ sym c.is_some.ensures ∙ c.if-is_some.false in
     let shape = sym c.shaped.ensures ∙ c.if-not-shaped.false in
     let live = ap (λ l. is_live l c.args.event.now.call.tid) (sym (c.as_slice.ensures.value ∙ c.requires.live)) ∙ sym c.lives.ensures ∙ c.if-not-lives.true in
     inr (fault_thread _ _ (entry c.args.event.now) over shape live ∙ ap (λ n. Some (Thread n)) (sym c.requires.stamp))
@@ -42,7 +42,7 @@ serve-requires-clause-lives g c =
 
 pub returns-then-not-has_got-clause-fault : goal.returns-then-not-has_got-clause-fault
 returns-then-not-has_got-clause-fault g c =
-    let over = ap is_some (sym c.ended.ensures) ∙ sym c.is_some.ensures ∙ c.if-is_some.false in
+    let over = ap is_some (sym c.ended.ensures.is) ∙ sym c.is_some.ensures ∙ c.if-is_some.false in
     let shape = sym c.shaped.ensures ∙ c.if-not-shaped.false in
     let live = ap (λ l. is_live l c.args.event.now.call.tid) (sym (c.as_slice.ensures.value ∙ c.requires.live)) ∙ sym c.lives.ensures ∙ c.if-not-lives.false in
     let later = later_is _ _ _ _ _ (entry c.args.event.now) c.in_ok-reserve.ensures.log (still g c.args.kernel.now c.reserve.new.self c.in_ok-reserve.ensures.start) c.serve.ensures.log in
@@ -61,7 +61,7 @@ note-requires g c =
 pub returns-clause-fault : goal.returns-clause-fault
 returns-clause-fault g c =
     let e = entry c.args.event.now in
-    let over = ap is_some (sym c.ended.ensures) ∙ sym c.is_some.ensures ∙ c.if-is_some.false in
+    let over = ap is_some (sym c.ended.ensures.is) ∙ sym c.is_some.ensures ∙ c.if-is_some.false in
     let shape = sym c.shaped.ensures ∙ c.if-not-shaped.false in
     let live = ap (λ l. is_live l c.args.event.now.call.tid) (sym (c.as_slice.ensures.value ∙ c.requires.live)) ∙ sym c.lives.ensures ∙ c.if-not-lives.false in
     let later = later_is _ _ _ _ _ e c.in_ok-reserve.ensures.log (still g c.args.kernel.now c.reserve.new.self c.in_ok-reserve.ensures.start) c.serve.ensures.log in

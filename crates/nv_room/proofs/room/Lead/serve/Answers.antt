@@ -13,7 +13,7 @@ invariant_of-self-clause-part g c = let l = c.args.self.now in let none : l.wrot
     nil_from_length _ (l.wrote_is ∙ none) ∙ ap (λ (z : ℕ). take z (get_or (map spell (g.K.SyscallKernel.log c.serve.new.self)) l.seen [])) (sym none)
 
 pub invariant_of-self-clause-next_words : goal.invariant_of-self-clause-next_words
-invariant_of-self-clause-next_words g c = due_words_are _ c.args.self.now.seen c.history-log.ensures.lawful
+invariant_of-self-clause-next_words g c = due_words_are _ c.args.self.now.seen c.ended-end.ensures.lawful
 
 pub invariant_of-self-clause-history : goal.invariant_of-self-clause-history
 invariant_of-self-clause-history g c = let l = c.args.self.now in let h : List Entry = g.K.SyscallKernel.log l.kernel in let x : Entry = served (g.K.SyscallKernel.known l.kernel) h (request c.args.call.now) in
