@@ -1,13 +1,12 @@
 -- A kernel whose input arrives keeps what always holds, where more comes and where a call is served.
-use Rattle.std.proofs.Common.{◌≡◌, ◌∙◌, sym, ap, subst, refl, ℕ, zero, suc, ◌+◌, ◌≤◌, Bool, true, false, List, [], ◌∷◌, ◌++◌, length, take, drop, map, Option, arith, length-append, length-drop}
+use Rattle.std.proofs.Common.{◌≡◌, ◌∙◌, sym, ap, subst, refl, ℕ, zero, suc, ◌+◌, ◌≤◌, Bool, true, false, List, [], ◌∷◌, ◌++◌, length, take, drop, map, arith, length-append, length-drop}
 use Rattle.std.proofs.lemmas.List.{length-map}
 use Rattle.nv_calls.specs.Calls.{Request, Entry}
-use Rattle.nv_calls.specs.Logs.{Start, calls_of, call_of}
+use Rattle.nv_calls.specs.Logs.{calls_of, call_of}
 use Rattle.nv_script.specs.Scripts.{Setup}
 use Rattle.nv_served.specs.Learning.{GoesOn}
-use Rattle.nv_served.proofs.LearningLaws.{legal_on, goes_on_same}
+use Rattle.nv_served.proofs.LearningLaws.{goes_on_same}
 use Rattle.nv_kernel.specs.Crew.{Crew}
-use Rattle.nv_kernel.specs.Kernel.{Spare, IsSound}
 use Rattle.nv_kernel.specs.Serving as kernel
 use Rattle.nv_kernel.proofs.Going.{count_is}
 use Rattle.nv_kernel.proofs.Crews.{few_clones_after}
@@ -65,16 +64,6 @@ staged setup before now log log' s used over e few is h same g = stage_by setup 
 pub satisfied : (setup : Setup) (before now : List Arrival) (log log' : List Entry) (over over' : Bool) → log' ≡ log → (over ≡ false → Satisfied (first_stage setup before) (calls_of log)) → (over' ≡ false → over ≡ false) → Grew before now
     → over' ≡ false → Satisfied (first_stage setup now) (calls_of log')
 satisfied setup before now log log' over over' e h was g o = subst (λ z. Satisfied (first_stage setup now) (calls_of z)) (sym e) (satisfied_by setup before now log over over' h was g o)
-
-pub sound_on : (s t : Start) (log : List Entry) (len cap : ℕ) (spare : Option Spare) (end : Option ℕ) (crew : Crew) → GoesOn log s t → IsSound s log len cap spare end crew → IsSound t log len cap spare end crew
-sound_on s t log len cap spare end crew on k = record {
-  legal = legal_on log s t on k.legal;
-  lawful = k.lawful;
-  reserved = k.reserved;
-  live = k.live;
-  crew_is = k.crew_is;
-  end_is = k.end_is;
-}
 
 -- ---- where a call is served
 

@@ -2,6 +2,7 @@ pub mod Coming
 pub mod Taken
 pub mod Sides
 pub mod Rooms
+pub mod Counts
 pub mod Steps
 pub mod Staged
 pub mod Kept
@@ -9,3 +10,5 @@ pub mod Telling
 pub mod Doings
 pub mod Told
 pub mod Listing
+pub mod Standings
+pub mod Sending

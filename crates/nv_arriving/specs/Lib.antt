@@ -1,8 +1,10 @@
 pub mod Arrivals
 pub mod Arriving
 pub mod Reserved
+pub mod Counts
 pub mod Views
 pub mod Kernel
+pub mod Standing
 pub mod Beginnings
 pub mod Telling
 pub mod Doings

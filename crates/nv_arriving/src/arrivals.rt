@@ -1,5 +1,5 @@
 // What is heard from outside.
-ghost use Rattle.std.specs.Prelude.{◌≡◌, ◌≤◌, ◌<◌, ◌++◌, ◌∷◌, [], true, false, IfOk, OnOk, length, map, drop, vec_len, vec_capacity};
+ghost use Rattle.std.specs.Prelude.{◌≡◌, ◌≤◌, true, false, IfOk, OnOk, length, map, drop};
 ghost use Rattle.nv_arrivals.specs.Doings.{Takes};
 ghost use Rattle.nv_arrivals.specs.Views.{view as arrival_of};
 ghost use Rattle.nv_arriving.specs.Arrivals.{any_ends, in_vain, until};
@@ -8,37 +8,31 @@ ghost use Rattle.nv_arriving.specs.Telling.{Adds};
 
 use crate::waiting::{Want, any_ends, ends};
 use nv_arrivals::{Arrival, Outside};
+use nv_past::Past;
 use std::alloc::{AllocError, Global};
 
 // Those that the guests' side doesn't have.
-pub(crate) fn rest(came: &Vec<Arrival>, used: usize) -> &[Arrival]
-    requires { used ≤ vec_len came.now }
-    ensures { result.now ≡ drop used came.now.items }
+pub(crate) fn rest(came: &Past<Arrival>, used: usize) -> &[Arrival]
+    requires there { came.now.gone ≤ used }
+    requires inside { used ≤ length came.now.items }
+    ensures is { result.now ≡ drop used came.now.items }
+    ensures counted { length came.now.items ≤ 18446744073709551615 }
 {
-    &came.as_slice()[used..]
-}
-
-// One more, for which there is memory.
-fn add(came: &mut Vec<Arrival>, arrival: Arrival)
-    requires { vec_len came.old < vec_capacity came.old }
-    ensures { came.new.items ≡ came.old.items ++ arrival ∷ [] }
-{
-    match came.push(arrival) {
-        Ok(()) => {}
-        Err(_) => unreachable!(),
-    }
+    let _all = came.len();
+    &came.kept()[used - came.gone()..]
 }
 
 /// Asks for arrivals until one ends the wait, and tells whether nothing more comes.
 pub(crate) fn hear<O: Outside>(
     outside: &mut O,
     alloc: Global,
-    came: &mut Vec<Arrival>,
+    came: &mut Past<Arrival>,
     want: Want,
 ) -> Result<bool, AllocError>
     ensures grew { Grew (map arrival_of came.old.items) (map arrival_of came.new.items) }
     ensures did { Adds O.did outside.old outside.new (map Takes (after (map arrival_of came.old.items) (map arrival_of came.new.items))) }
     ensures ended { IfOk result (λ over. over ≡ false → any_ends want (after (map arrival_of came.old.items) (map arrival_of came.new.items)) ≡ true) }
+    ensures gone { came.new.gone ≡ came.old.gone }
     ensures until { until want (after (map arrival_of came.old.items) (map arrival_of came.new.items)) ≡ length (after (map arrival_of came.old.items) (map arrival_of came.new.items)) }
 {
     for _ in 0..u64::MAX {
@@ -47,7 +41,7 @@ pub(crate) fn hear<O: Outside>(
             return Ok(true);
         };
         let last = ends(want, &arrival);
-        add(came, arrival);
+        came.push(arrival);
         if last {
             return Ok(false);
         }
@@ -59,14 +53,16 @@ pub(crate) fn hear<O: Outside>(
 pub(crate) fn learn<O: Outside>(
     outside: &mut O,
     alloc: Global,
-    came: &mut Vec<Arrival>,
+    came: &mut Past<Arrival>,
     used: usize,
     over: &mut bool,
     want: Option<Want>,
 ) -> Result<(), AllocError>
-    requires { used ≤ vec_len came.old }
+    requires there { came.old.gone ≤ used }
+    requires inside { used ≤ length came.old.items }
     ensures grew { Grew (map arrival_of came.old.items) (map arrival_of came.new.items) }
     ensures did { Adds O.did outside.old outside.new (map Takes (after (map arrival_of came.old.items) (map arrival_of came.new.items))) }
+    ensures gone { came.new.gone ≡ came.old.gone }
     ensures over { over.new ≡ false → over.old ≡ false }
     ensures same { over.old ≡ true → came.new.items ≡ came.old.items }
     ensures asks { in_vain want (drop used (map arrival_of came.old.items)) ≡ false → outside.new ≡ outside.old }

@@ -15,7 +15,8 @@ ghost use Rattle.nv_arrivals.specs.Doings.{Says};
 ghost use Rattle.nv_arrivals.specs.Views.{view as arrival_of};
 ghost use Rattle.nv_arriving.specs.Views.{standing_of, room_of, capacity_of};
 
-use crate::reserving::{connects, counts, input_bytes, keep, reserve_data};
+use crate::counting::Counts;
+use crate::reserving::{connects, input_bytes};
 use crate::saying::Mark;
 use crate::waiting::Want;
 use nv_arrivals::{Arrival, Outside};
@@ -34,6 +35,7 @@ pub struct GuestSide {
     alloc: Global,
     /// Where what clients send goes that will connect, that of the last one first.
     kept: Vec<Vec<u8>>,
+    counts: Counts,
 }
 
 // One more, of which not all has come.
@@ -88,6 +90,7 @@ impl GuestSide {
             overs,
             alloc,
             kept: Vec::new(alloc),
+            counts: Counts::none(alloc),
         })
     }
 
@@ -276,15 +279,20 @@ impl GuestSide {
         ensures sockets { self.new.host.sockets ≡ with_memory self.old.host.sockets self.new.host.sockets }
         ensures takes { OnOk result (HasRoom (room_of self.new) (map arrival_of arrivals.now)) }
     {
-        let clients = connects(arrivals);
-        let table = self.host.sockets.connections().len();
-        let counts = counts(self.alloc, arrivals, table + clients)?;
+        let connecting = connects(arrivals);
+        let clients = self.host.sockets.connections().len() + connecting;
         let bytes = input_bytes(arrivals)?;
         self.host.devices.files.reserve_input(bytes)?;
-        self.host.sockets.reserve_clients(clients)?;
-        self.overs.reserve(clients)?;
-        self.kept = keep(self.alloc, counts.as_slice(), clients)?;
-        reserve_data(&mut self.host.sockets, arrivals, counts.as_slice())
+        self.host.sockets.reserve_clients(connecting)?;
+        self.overs.reserve(connecting)?;
+        self.kept = self.counts.reserve(
+            self.alloc,
+            &mut self.host.sockets,
+            arrivals,
+            clients,
+            connecting,
+        )?;
+        Ok(())
     }
 
     // Memory for these, where there are some.

@@ -4,6 +4,7 @@ ghost use Rattle.nv_arrivals.specs.Views.{view as arrival_of};
 
 use nv_arrivals::{Arrival, Outside, Said};
 use nv_live::Telling;
+use nv_past::Past;
 use std::alloc::{AllocError, Global};
 
 /// An outside from which nothing comes, and which tells nothing of what is said.
@@ -45,12 +46,14 @@ fn copy(alloc: Global, arrival: &Arrival) -> Result<Arrival, AllocError>
 }
 
 // The same arrivals, in memory of their own.
-pub(crate) fn copies(alloc: Global, arrivals: &[Arrival]) -> Result<Vec<Arrival>, AllocError>
-    ensures { IfOk result (λ made. map arrival_of made.items ≡ map arrival_of arrivals.now) }
+pub(crate) fn copies(alloc: Global, arrivals: &[Arrival]) -> Result<Past<Arrival>, AllocError>
+    ensures same { IfOk result (λ made. map arrival_of made.items ≡ map arrival_of arrivals.now) }
+    ensures gone { IfOk result (λ made. made.gone ≡ 0) }
 {
-    let mut made = Vec::new(alloc);
+    let mut made = Past::new(alloc);
     for arrival in arrivals {
-        made.push(copy(alloc, arrival)?)?;
+        made.reserve(1)?;
+        made.push(copy(alloc, arrival)?);
     }
     Ok(made)
 }

@@ -1,16 +1,16 @@
-// How much memory arrivals need, by client, and the taking of it.
-ghost use Rattle.std.specs.Prelude.{◌≡◌, ◌≤◌, ◌<◌, ◌+◌, ◌-◌, ◌==◌, ℕ, suc, true, length, map, [], ◌∷◌, slice_index, vec_len, if◌then◌else◌, OnOk, IfOk};
+// How much memory arrivals need, and the taking of it.
+ghost use Rattle.std.specs.Prelude.{◌≡◌, ◌≤◌, ◌<◌, ◌+◌, ◌-◌, ℕ, suc, true, length, map, [], ◌∷◌, slice_index, OnOk, IfOk};
 ghost use Rattle.nv_sockets.specs.Coming.{HasInput};
 ghost use Rattle.nv_arrivals.specs.Views.{view as arrival_of};
-ghost use Rattle.nv_arriving.specs.Reserved.{input_bytes, connects, data_of, sends};
+ghost use Rattle.nv_arriving.specs.Reserved.{input_bytes, connects, sends};
 ghost use Rattle.nv_arriving.specs.Views.{capacity_of};
 
 use nv_arrivals::Arrival;
 use nv_sockets::Sockets;
 use std::alloc::{AllocError, Global};
 
-// Together, where memory can be of that size.
-fn together(count: usize, more: usize) -> Result<usize, AllocError>
+/// Together, where memory can be of that size.
+pub(crate) fn together(count: usize, more: usize) -> Result<usize, AllocError>
     ensures { IfOk result (λ sum. sum ≡ count + more) }
 {
     match count.checked_add(more) {
@@ -62,45 +62,6 @@ pub(crate) fn connects(arrivals: &[Arrival]) -> usize
         count += is_client(arrival);
     }
     count
-}
-
-// So many more for one of them.
-fn add(counts: &mut Vec<usize>, i: usize, more: usize) -> Result<(), AllocError>
-    ensures len { length counts.new.items ≡ length counts.old.items }
-    ensures counts { OnOk result ((j : ℕ) → j < length counts.old.items → slice_index counts.new.items j ≡ (if i == j then more else 0) + slice_index counts.old.items j) }
-{
-    if i < counts.as_slice().len() {
-        counts[i] = together(counts[i], more)?;
-    }
-    Ok(())
-}
-
-fn count(counts: &mut Vec<usize>, arrival: &Arrival) -> Result<(), AllocError>
-    ensures len { length counts.new.items ≡ length counts.old.items }
-    ensures counts { OnOk result ((j : ℕ) → j < length counts.old.items → slice_index counts.new.items j ≡ data_of j (arrival_of arrival.now ∷ []) + slice_index counts.old.items j) }
-{
-    match arrival {
-        Arrival::Data(client, bytes) => add(counts, *client as usize, bytes.as_slice().len()),
-        Arrival::Input(_) | Arrival::InputEnd | Arrival::ClientsEnd => Ok(()),
-        Arrival::Connect(_) | Arrival::End(_) => Ok(()),
-    }
-}
-
-/// How many bytes come from each of so many clients.
-pub(crate) fn counts(
-    alloc: Global,
-    arrivals: &[Arrival],
-    clients: usize,
-) -> Result<Vec<usize>, AllocError>
-    ensures len { IfOk result (λ made. length made.items ≡ clients) }
-    ensures counts { IfOk result (λ made. (j : ℕ) → j < clients → slice_index made.items j ≡ data_of j (map arrival_of arrivals.now)) }
-{
-    let mut made = Vec::new(alloc);
-    made.resize(clients, 0)?;
-    for arrival in arrivals {
-        count(&mut made, arrival)?;
-    }
-    Ok(made)
 }
 
 /// Memory of the sizes that the last so many are, the last first.

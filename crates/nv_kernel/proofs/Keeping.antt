@@ -9,7 +9,7 @@ use Rattle.nv_kernel.specs.Ends.{end_next}
 use Rattle.nv_kernel.specs.Kernel.{Spare, IsSound}
 
 pub kept_served : (start : Start) (log : List Entry) (c : Request) (len cap len' cap' : ℕ) (spare : Option Spare) (end : Option ℕ) (crew crew' : Crew)
-    → IsSound start log len cap spare end crew → Contains (live_after log) c.tid → length log < 131072 → InRange (served start log c)
+    → IsSound start log len cap spare end crew → Contains (live_after log) c.tid → length log < 500000000 → InRange (served start log c)
     → IsNew crew.live (child_of (served start log c)) → crew'.live ≡ live_next crew.live (served start log c) → IsCrew crew'
     → IsSound start (log ++ served start log c ∷ []) len' cap' None (end_next (length crew'.live == 0) c) crew'
 kept_served start log c len cap len' cap' spare end crew crew' k lives few range new next is =

@@ -7,3 +7,6 @@ pub mod Going
 pub mod CrewLaws
 pub mod Crews
 pub mod Randoms
+pub mod Logging
+pub mod Standings
+mod Lasts

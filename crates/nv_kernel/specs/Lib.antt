@@ -5,3 +5,6 @@ pub mod Kernel
 pub mod Crew
 pub mod EveryState
 pub mod Codes
+pub mod Answering
+pub mod Logged
+pub mod Standing

@@ -1,142 +1,164 @@
 // The kernel, with the log of the calls that it served.
-ghost use Rattle.std.specs.Prelude.{◌≡◌, ◌<◌, ◌++◌, [], ◌∷◌, IsTrue, IfOk, OnOk, length, Contains};
-ghost use Rattle.nv_calls.specs.Calls.{request};
-ghost use Rattle.nv_calls.specs.Limits.{MOST_EVENTS};
-ghost use Rattle.nv_calls.specs.Shapes.{IsShaped};
-ghost use Rattle.nv_calls.specs.Logs.{calls_of, served, live_after};
-ghost use Rattle.nv_served.specs.Learning.{GoesOn};
+ghost use Rattle.std.specs.Prelude.{◌≡◌, ◌<◌, ◌++◌, [], ◌∷◌, true, length, IsTrue, IfOk};
+ghost use Rattle.nv_calls.specs.Logs.{calls_of};
 ghost use Rattle.nv_script.specs.Scripts.{is_script};
 ghost use Rattle.nv_script.specs.Views.{setup_of};
 ghost use Rattle.nv_kernel.specs.Serving.{first_state, state_after};
 
+use crate::answers::{Answers, Foretold, FromScript, KeepsAll};
 use crate::devices::Devices;
-use crate::spare::{blank, fill, keep, next_end};
+use crate::spare::{blank, fill, next_end};
 use nv_calls::{Bytes, Call, Event, MOST_BYTES};
 use nv_fs::FileSystem;
+use nv_past::Past;
 use nv_script::Script;
-use nv_served::{Scripted, SyscallKernel};
+use nv_served::{Recorded, Scripted, SyscallKernel};
 use std::alloc::{AllocError, Global};
 use std::marker::Model;
 use std::snapshot::Snapshot;
 
-/// The kernel of a process, over what a script gives.
+/// The kernel of a process over what a script gives, whatever answers its calls. It is the only one: whoever answers keeps no log.
 #[derive(Drop)]
-pub struct ScriptKernel {
+pub struct Kernel<A: Answers> {
     alloc: Global,
     script: Snapshot<Script>,
-    devices: Devices,
-    log: Vec<Event>,
+    answers: A,
+    /// Each event, or the last one alone, as what answers says.
+    log: Past<Event>,
     /// Where a call's bytes are put before its event has them.
     out: Bytes,
     spare: Option<Event>,
     end: Option<u8>,
 }
 
-impl Model for ScriptKernel {
-    ghost use Rattle.std.specs.Prelude.{◌≡◌, map, option_map, vec_len, vec_capacity};
+/// The kernel without sockets.
+pub type ScriptKernel = Kernel<Devices>;
+
+impl<A: Answers> Model for Kernel<A> {
+    ghost use Rattle.std.specs.Prelude.{◌≡◌, ◌<◌, true, length, map, option_map};
     ghost use Rattle.nv_calls.specs.Calls.{entry};
-    ghost use Rattle.nv_calls.specs.Logs.{calls_of};
     ghost use Rattle.nv_script.specs.Views.{setup_of};
-    ghost use Rattle.nv_kernel.specs.Kernel.{KernelState, IsSound, spare_of};
-    ghost use Rattle.nv_kernel.specs.Reserved.{state_of, crew_of};
-    ghost use Rattle.nv_kernel.specs.Serving.{start_of_script, first_state, state_after};
+    ghost use Rattle.nv_kernel.specs.Kernel.{spare_of};
+    ghost use Rattle.nv_kernel.specs.Logged.{Logged, IsLogged};
 
-    ghost Value = { KernelState };
+    ghost Value = { Logged A };
 
-    ghost view = { λ k. record { log = map entry k.log.items; setup = setup_of k.script.value; spare = option_map spare_of k.spare; disk = k.devices.files } };
+    ghost view = { λ k. record { log = map entry k.log.items; setup = setup_of k.script.value; spare = option_map spare_of k.spare; answers = k.answers } };
 
-    ghost invariant = { λ k. IsSound (start_of_script (setup_of k.script.value)) (map entry k.log.items) (vec_len k.log) (vec_capacity k.log) (option_map spare_of k.spare) k.end (crew_of k.devices.threads)
-        × (state_of k.devices ≡ state_after (first_state (setup_of k.script.value)) (calls_of (map entry k.log.items)))
-        × (k.out.capacity ≡ 4096) };
+    ghost invariant = { λ k. IsLogged (A.known (setup_of k.script.value) k.answers) (map entry k.log.items) (length k.log.items) k.log.most (option_map spare_of k.spare) k.end
+        × A.stands k.answers (setup_of k.script.value) (map entry k.log.items)
+        × (k.out.capacity ≡ 4096)
+        × (0 < length k.log.items → k.log.gone < length k.log.items)
+        × (A.keeps_all ≡ true → k.log.gone ≡ 0) };
 }
 
-impl ScriptKernel {
-    /// A kernel that has served nothing, over what the script gives.
-    pub fn make(alloc: Global, script: &Script) -> Result<ScriptKernel, AllocError>
-        requires script { IsTrue (is_script (setup_of script.now)) }
-        ensures { IfOk result (λ k. (k.log ≡ []) × (k.setup ≡ setup_of script.now)) }
+// One more event, for which memory is reserved. Those before it are let go, unless all are kept.
+fn add(log: &mut Past<Event>, event: Event, keeps: bool)
+    requires { length log.old.items < log.old.most }
+    ensures items { log.new.items ≡ log.old.items ++ event ∷ [] }
+    ensures last { log.new.gone < length log.new.items }
+    ensures all { keeps ≡ true → log.new.gone ≡ log.old.gone }
+{
+    if keeps {
+        log.push(event);
+    } else {
+        log.push_alone(event);
+    }
+}
+
+impl<A: Answers> Kernel<A> {
+    /// A kernel that has served nothing, over what the script gives and what answers.
+    pub fn over(alloc: Global, script: &Script, answers: A) -> Result<Kernel<A>, AllocError>
+        requires fresh { A.stands answers (setup_of script.now) [] }
+        ensures { IfOk result (λ k. (k.log ≡ []) × (k.setup ≡ setup_of script.now) × (k.answers ≡ answers)) }
     {
-        let devices = Devices::make(alloc, script)?;
         let out = Bytes::make(alloc, MOST_BYTES)?;
-        Ok(ScriptKernel {
+        Ok(Kernel {
             alloc,
             script: Snapshot::of(script),
-            devices,
-            log: Vec::new(alloc),
+            answers,
+            log: Past::new(alloc),
             out,
             spare: None,
             end: None,
         })
     }
 
-    /// The files, as the calls served left them.
-    pub fn files(&self) -> &FileSystem
-        ensures disk { result.now ≡ self.now.disk }
-        ensures state { result.now.state ≡ (state_after (first_state self.now.setup) (calls_of self.now.log)).files }
+    /// What answers, as the calls served left it.
+    pub fn answers(&self) -> &A
+        ensures is { result.now ≡ self.now.answers }
+        ensures stands { A.stands self.now.answers self.now.setup self.now.log }
     {
-        &self.devices.files
+        &self.answers
+    }
+
+    /// What answered, of a kernel that is done with.
+    pub fn into_answers(self) -> A
+        ensures is { result ≡ self.answers }
+        ensures stands { A.stands self.answers self.setup self.log }
+    {
+        self.answers
     }
 }
 
-impl SyscallKernel for ScriptKernel {
-    ghost use Rattle.nv_kernel.specs.Codes.{setup_code};
-    ghost use Rattle.nv_script.specs.Scripts.{Setup};
-    ghost use Rattle.nv_kernel.specs.Kernel.{CanServe};
-    ghost use Rattle.nv_kernel.specs.Serving.{start_of_script};
+impl<A: FromScript> Kernel<A> {
+    /// A kernel that has served nothing, over what the script gives.
+    pub fn make(alloc: Global, script: &Script) -> Result<Kernel<A>, AllocError>
+        requires script { IsTrue (is_script (setup_of script.now)) }
+        ensures { IfOk result (λ k. (k.log ≡ []) × (k.setup ≡ setup_of script.now)) }
+    {
+        let answers = A::make(alloc, script)?;
+        Kernel::over(alloc, script, answers)
+    }
+}
+
+impl Kernel<Devices> {
+    /// The files, as the calls served left them.
+    pub fn files(&self) -> &FileSystem
+        ensures disk { result.now ≡ self.now.answers.files }
+        ensures state { result.now.state ≡ (state_after (first_state self.now.setup) (calls_of self.now.log)).files }
+    {
+        &self.answers.files
+    }
+}
+
+impl<A: Answers> SyscallKernel for Kernel<A> {
+    ghost use Rattle.nv_kernel.specs.Logged.{IsReady};
 
     ghost log = { λ k. k.log };
 
-    ghost Beginning = { Setup };
+    ghost Beginning = { A.Beginning };
 
-    ghost beginning_code = { setup_code };
+    ghost beginning_code = { A.beginning_code };
 
-    ghost start = { λ k. k.setup };
+    ghost start = { λ k. A.start k.setup k.answers };
 
-    // A script tells all that comes.
-    ghost known = { λ k. start_of_script k.setup };
+    ghost known = { λ k. A.known k.setup k.answers };
 
-    ghost is_ready = { CanServe };
+    ghost is_ready = { IsReady A.is_ready };
 
-    fn reserve(&mut self, call: &Call) -> Result<(), AllocError>
-        requires shaped { IsShaped (request call.now) }
-        ensures log { self.new.log ≡ self.old.log }
-        ensures start { self.new.setup ≡ self.old.setup }
-        ensures known { GoesOn self.old.log (start_of_script self.old.setup) (start_of_script self.new.setup) }
-        ensures ready { OnOk result (CanServe self.new (request call.now)) }
-    {
+    fn reserve(&mut self, call: &Call) -> Result<(), AllocError> {
         self.spare = None;
         let event = blank(self.alloc, call)?;
         self.log.reserve(1)?;
-        self.devices.reserve(call)?;
+        self.answers.reserve(call)?;
         self.spare = Some(event);
         Ok(())
     }
 
-    fn serve(&mut self, call: &Call)
-        requires ready { CanServe self.old (request call.now) }
-        requires shaped { IsShaped (request call.now) }
-        requires lives { Contains (live_after self.old.log) call.now.tid }
-        requires few { length self.old.log < MOST_EVENTS }
-        ensures log { self.new.log ≡ self.old.log ++ served (start_of_script self.old.setup) self.old.log (request call.now) ∷ [] }
-        ensures start { self.new.setup ≡ self.old.setup }
-        ensures known { start_of_script self.new.setup ≡ start_of_script self.old.setup }
-    {
+    fn serve(&mut self, call: &Call) {
         let Some(mut event) = self.spare.take() else {
             unreachable!()
         };
-        let stamp = self.log.as_slice().len() as u32;
-        let ret = self.devices.answer(call, &mut self.out);
+        let stamp = self.log.len() as u32;
+        let ret = self.answers.answer(call, &mut self.out);
         fill(&mut event, call, stamp, ret, &self.out);
-        self.end = next_end(self.devices.threads.is_over(), call);
-        keep(&mut self.log, event);
+        self.end = next_end(self.answers.is_over(), call);
+        add(&mut self.log, event, self.answers.keeps());
     }
 
-    fn history(&self) -> &[Event] {
-        self.log.as_slice()
-    }
-
-    fn output(&self) -> &[u8] {
-        self.devices.files.console()
+    fn last(&self) -> &Event {
+        self.log.last()
     }
 
     fn ended(&self) -> Option<u8> {
@@ -144,11 +166,18 @@ impl SyscallKernel for ScriptKernel {
     }
 }
 
-impl Scripted for ScriptKernel {
-    ghost use Rattle.std.specs.Prelude.{refl};
-    ghost use Rattle.nv_kernel.specs.Serving.{start_of_script};
+impl<A: KeepsAll> Recorded for Kernel<A> {
+    fn history(&self) -> &[Event] {
+        self.log.kept()
+    }
 
-    ghost told = { start_of_script };
+    fn output(&self) -> &[u8] {
+        self.answers.console()
+    }
+}
 
-    ghost nothing_new = { λ k. refl };
+impl<A: Foretold> Scripted for Kernel<A> {
+    ghost told = { A.told };
+
+    ghost nothing_new = { λ k. A.nothing_new k.setup k.answers };
 }

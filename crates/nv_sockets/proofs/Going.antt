@@ -1,5 +1,5 @@
 -- From call to call: the state and the reply after calls, and how they stand to the kernel without sockets.
-use Rattle.std.proofs.Common.{◌≡◌, ◌∙◌, ap, refl, ℕ, ◌≤◌, List, [], ◌∷◌, ◌++◌, length, map, arith}
+use Rattle.std.proofs.Common.{◌≡◌, ◌∙◌, ap, refl, ◌≤◌, List, [], ◌∷◌, ◌++◌, length, arith}
 use Rattle.std.proofs.lemmas.List.{length-map}
 use Rattle.nv_calls.specs.Calls.{Request, Entry}
 use Rattle.nv_calls.specs.Logs.{calls_of, call_of, output_of}
@@ -9,7 +9,7 @@ use Rattle.nv_kernel.proofs.Crews.{few_clones_after}
 use Rattle.nv_kernel.proofs.Going as was
 use Rattle.nv_kernel.proofs.Keeping.{map_more}
 use Rattle.nv_sockets.specs.Sockets.{Answer}
-use Rattle.nv_sockets.specs.Serving.{State, Served, unless_bad, or_own, beside, joined, serve, state_after, reply_of, first_state, start_of_script}
+use Rattle.nv_sockets.specs.Serving.{State, unless_bad, or_own, beside, joined, serve, state_after, reply_of, first_state, start_of_script}
 
 -- a call by the answer of the kernel without sockets and what takes its place
 pub serve_is : (s : State) (c : Request) (r : kernel.Served) (a : Answer) → kernel.serve s.own c ≡ r → or_own s.net r.ret r.payload (unless_bad s.net c) ≡ a → serve s c ≡ beside r.state a

@@ -1,5 +1,5 @@
 -- More that has come over one connection of the table, as calls see it.
-use Rattle.std.proofs.Common.{◌≡◌, ◌∙◌, sym, ap, ℕ, ◌<◌, ◌++◌, List, length, map, get_or, set, subst}
+use Rattle.std.proofs.Common.{◌≡◌, ◌∙◌, sym, ap, ℕ, ◌<◌, List, length, map, get_or, set, subst}
 use Rattle.std.specs.Global.{Vec}
 use Rattle.std.specs.Vec.{with_item}
 use Rattle.std.specs.Prelude.{vec_capacity, slice_index, slice_index_or, []}
@@ -7,7 +7,6 @@ use Rattle.std.proofs.lemmas.List.{get_or-map, get_or-set_same, set-get_or, leng
 use Rattle.nv_sockets.specs.declared.connection.Connection.{Connection}
 use Rattle.nv_sockets.specs.declared.sockets.Sockets.TheInside.{Inside}
 use Rattle.nv_sockets.specs.Sockets.{Link, Net, link_at, input_of}
-use Rattle.nv_sockets.specs.Coming.{with_data}
 use Rattle.nv_sockets.specs.Reserved.{Buffered}
 use Rattle.nv_sockets.specs.Views.{link_of, input_capacity_of, net_of, buffered_of}
 use Rattle.nv_sockets.proofs.Outputs.{link_is, link_changed}

@@ -1,4 +1,5 @@
 pub mod Begun
+pub mod Queue
 pub mod Outputs
 pub mod Small
 pub mod Going
@@ -6,3 +7,4 @@ pub mod Threads
 pub mod Lines
 pub mod Inputs
 pub mod Rooms
+pub mod Standings

@@ -12,7 +12,7 @@ use Rattle.nv_kernel.specs.Reserved.{most_out}
 use Rattle.nv_sockets.specs.declared.socket.Socket.{Socket}
 use Rattle.nv_sockets.specs.declared.socket.Socket.TheVariants.{Fresh, Bound, Listening, Connected}
 use Rattle.nv_sockets.specs.Sockets.{Net, Answer, answer, only, socket_at, on_socket, with_socket, free_place, is_tcp, made_at, socket_of, is_size, port_in, is_used, bind_to, bind_socket, bind_of, listen_socket, listen_of, next_at, accept_next, are_flags, accept_socket, accept_flagged, accept_of, input_of, link_output, with_output, read_socket, write_link, write_socket, close_socket}
-use Rattle.nv_sockets.specs.Serving.{of_open, unless_many, answered, unless_bad, or_own}
+use Rattle.nv_sockets.specs.Serving.{of_open, answered, unless_bad, or_own}
 
 by_test : (b : Bool) (x y : Answer) (n : ℕ) → length x.payload ≤ n → length y.payload ≤ n → length (cond b x y).payload ≤ n
 by_test true x y n p q = p

@@ -1,7 +1,9 @@
 pub mod Sockets
+pub mod Queue
 pub mod Serving
 pub mod Reserved
 pub mod Views
 pub mod Kernel
 pub mod Texts
 pub mod Coming
+pub mod Standing

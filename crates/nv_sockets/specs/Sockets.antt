@@ -1,5 +1,5 @@
 -- Sockets over the connections of a script (socket(2), bind(2), listen(2), accept(2), ip(7)), as lists whose places are the numbers.
-use Rattle.std.specs.Prelude.{ℕ, ◌+◌, ◌-◌, ◌*◌, ℤ, pos, Bool, false, not, ◌&&◌, ◌||◌, ◌==◌, nat_lt, nat_le, List, [], ◌∷◌, ◌++◌, length, take, drop, replicate, Option, Some, None, is_none, slice_index, slice_index_or, slice_set, if◌then◌else◌}
+use Rattle.std.specs.Prelude.{ℕ, ◌+◌, ◌-◌, ◌*◌, ℤ, pos, Bool, false, ◌&&◌, ◌||◌, ◌==◌, nat_lt, nat_le, List, [], ◌++◌, length, take, drop, replicate, Option, Some, None, is_none, slice_index, slice_index_or, slice_set, if◌then◌else◌}
 use Rattle.std.specs.List.{list_any, position_from}
 use Rattle.nv_calls.specs.Errors.{EBADF, EAGAIN, EINVAL, EMFILE, ENOSPC, EPIPE, ENOTSOCK, EADDRINUSE, ENOTCONN}
 use Rattle.nv_sockets.specs.declared.socket.Socket.{Socket}

@@ -1,5 +1,5 @@
 -- The code's values as the definitions see them.
-use Rattle.std.specs.Prelude.{ℕ, List, map, vec_capacity}
+use Rattle.std.specs.Prelude.{ℕ, map, vec_capacity}
 use Rattle.std.specs.Global.{Vec}
 use Rattle.nv_calls.specs.Logs.{Written}
 use Rattle.nv_script.specs.Scripts.{Incoming}

@@ -1,6 +1,7 @@
 // What a descriptor names, which are free, and which ports are in use.
-ghost use Rattle.std.specs.Prelude.{◌≡◌, ◌<◌, ◌≤◌, [], length, is_none, IfSome, slice_index_or, None};
+ghost use Rattle.std.specs.Prelude.{◌≡◌, ◌<◌, ◌≤◌, [], length, drop, is_none, IfSome, slice_index_or, None};
 ghost use Rattle.std.specs.List.{position_from, list_any};
+ghost use Rattle.nv_sockets.specs.Queue.{AcceptedBelow};
 ghost use Rattle.nv_sockets.specs.Sockets.{answer, fault_of, socket_at, with_socket, free_place, socket_opened, has_port, is_used, waits_at_port, next_at, with_accepted};
 
 use crate::socket::Socket;
@@ -62,6 +63,30 @@ fn first_at(waiting: &[Option<u32>], port: u32) -> Option<usize>
         .position(|waiting| waits_at_port(*waiting, port))
 }
 
+// The first at this place or after it.
+fn first_from(waiting: &[Option<u32>], first: usize, port: u32) -> Option<usize>
+    requires { first ≤ length waiting.now }
+    ensures is { result ≡ position_from (waits_at_port port) first (drop first waiting.now) }
+    ensures inside { IfSome result (λ i. i < length waiting.now) }
+{
+    match first_at(&waiting[first..], port) {
+        Some(i) => Some(first + i),
+        None => None,
+    }
+}
+
+// Past those that were accepted.
+fn skip_accepted(waiting: &[Option<u32>], first: usize) -> usize
+    requires { AcceptedBelow first waiting.now }
+    ensures { AcceptedBelow result waiting.now }
+{
+    let mut place = first;
+    while place < waiting.len() && waiting[place].is_none() {
+        place += 1;
+    }
+    place
+}
+
 /// The error of a call whose descriptor isn't that of an open socket.
 pub fn fault_of(fd: u32) -> i32
     ensures { result ≡ fault_of fd }
@@ -121,7 +146,7 @@ impl Sockets {
         ensures is { result ≡ next_at self.now.net port }
         ensures inside { IfSome result (λ i. i < length self.now.net.waiting) }
     {
-        first_at(self.waiting.as_slice(), port)
+        first_from(self.waiting.as_slice(), self.first, port)
     }
 
     /// The connection waits no longer.
@@ -130,5 +155,6 @@ impl Sockets {
         ensures { self.new.net ≡ with_accepted self.old.net i }
     {
         self.waiting[i] = None;
+        self.first = skip_accepted(self.waiting.as_slice(), self.first);
     }
 }

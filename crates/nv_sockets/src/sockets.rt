@@ -21,6 +21,8 @@ pub const FIRST_SOCKET: u32 = DESCRIPTORS as u32;
 pub struct Sockets {
     pub(crate) sockets: [Option<Socket>; SOCKETS],
     pub(crate) waiting: Vec<Option<u32>>,
+    /// Nobody waits below this place.
+    pub(crate) first: usize,
     pub(crate) connections: Vec<Connection>,
 }
 
@@ -32,6 +34,10 @@ impl Model for Sockets {
     ghost use Rattle.nv_sockets.specs.Views.{buffered_of};
 
     ghost view = { buffered_of };
+
+    ghost use Rattle.nv_sockets.specs.Queue.{AcceptedBelow};
+
+    ghost invariant = { λ s. AcceptedBelow s.first s.waiting.items };
 }
 
 #[tactic(auto, unfolding(crate::specs::Sockets::no_sockets))]
@@ -78,6 +84,7 @@ impl Sockets {
         Ok(Sockets {
             sockets: no_sockets(),
             waiting,
+            first: 0,
             connections,
         })
     }

@@ -25,6 +25,7 @@ loop-init g c =
       grew = grew_same came came refl;
       did = adds_is g.O.Outside.did c.args.outside.now c.args.outside.now [] (map Takes (after came came))
           (ap (map Takes) (sym (ap (after came) (sym (append-nil came)) ∙ drop_all came []))) (adds_none g.O.Outside.did c.args.outside.now);
+      gone = refl;
       none = ap (any_ends c.args.want) (ap (after came) (sym (append-nil came)) ∙ drop_all came []);
     }
 
@@ -61,8 +62,8 @@ pub returns-in_default-clause-until : goal.returns-in_default-clause-until
 returns-in_default-clause-until g c = heard c.args.want _ _ _ (ap (map arrival_of) c.reserve.ensures.items) c.loop.invariant.none
 
 module _ (g : Over) (c : goal.Then-last g) where
-  all : map arrival_of c.add.new.came.items ≡ map arrival_of c.loop.came.items ++ arrival_of c.in-Some.arrival ∷ []
-  all = ap (map arrival_of) c.add.ensures ∙ (map_more arrival_of c.reserve.new.self.items c.in-Some.arrival ∙ ap (λ z. map arrival_of z ++ arrival_of c.in-Some.arrival ∷ []) c.reserve.ensures.items)
+  all : map arrival_of c.push.new.self.items ≡ map arrival_of c.loop.came.items ++ arrival_of c.in-Some.arrival ∷ []
+  all = ap (map arrival_of) c.push.ensures.items ∙ (map_more arrival_of c.reserve.new.self.items c.in-Some.arrival ∙ ap (λ z. map arrival_of z ++ arrival_of c.in-Some.arrival ∷ []) c.reserve.ensures.items)
 
 pub returns-then-last-clause-grew : goal.returns-then-last-clause-grew
 returns-then-last-clause-grew g c = grew_more _ _ _ _ c.loop.invariant.grew (all g c)
@@ -94,13 +95,14 @@ loop-preserved g c =
     let before : List Arrival = map arrival_of c.args.came.now.items in
     let now : List Arrival = map arrival_of c.loop.came.items in
     let a : Arrival = arrival_of c.in-Some.arrival in
-    let all : map arrival_of c.add.new.came.items ≡ now ++ a ∷ [] =
-    ap (map arrival_of) c.add.ensures ∙ (map_more arrival_of c.reserve.new.self.items c.in-Some.arrival ∙ ap (λ z. map arrival_of z ++ arrival_of c.in-Some.arrival ∷ []) c.reserve.ensures.items) in
+    let all : map arrival_of c.push.new.self.items ≡ now ++ a ∷ [] =
+    ap (map arrival_of) c.push.ensures.items ∙ (map_more arrival_of c.reserve.new.self.items c.in-Some.arrival ∙ ap (λ z. map arrival_of z ++ arrival_of c.in-Some.arrival ∷ []) c.reserve.ensures.items) in
     record {
       grew = grew_more _ _ _ _ c.loop.invariant.grew all;
       did = adds_is g.O.Outside.did _ _ _ _ (takes_more before now a c.loop.invariant.grew ∙ ap (λ z. map Takes (after before z)) (sym all))
           (adds_both g.O.Outside.did _ _ _ _ (Takes a ∷ []) c.loop.invariant.did
           (adds_is g.O.Outside.did c.loop.outside c.next.new.self (taking (Ok c.in_ok-arrival.field-0)) (Takes a ∷ []) (ap (λ o. taking (Ok o)) c.in-Some.is) c.in_ok-arrival.ensures.took));
+      gone = c.push.ensures.gone ∙ (c.reserve.ensures.gone ∙ c.loop.invariant.gone);
       none = ap (any_ends c.args.want) (ap (after before) all ∙ after_more before now (a ∷ []) c.loop.invariant.grew)
           ∙ any_none_last c.args.want (after before now) a c.loop.invariant.none (sym c.ends-last.ensures ∙ c.if-last.false);
     }

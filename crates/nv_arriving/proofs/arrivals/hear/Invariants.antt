@@ -10,5 +10,6 @@ abbrev pub invariant-loop : goal.invariant-loop
 invariant-loop g l = record {
   grew : Grew (map arrival_of l.fn.came.items) (map arrival_of l.came.items);
   did : Adds g.O.Outside.did l.fn.outside l.outside (map Takes (after (map arrival_of l.fn.came.items) (map arrival_of l.came.items)));
+  gone : l.came.gone ≡ l.fn.came.gone;
   none : any_ends l.want (after (map arrival_of l.fn.came.items) (map arrival_of l.came.items)) ≡ false;
 }

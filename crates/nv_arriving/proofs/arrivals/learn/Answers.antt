@@ -14,27 +14,27 @@ pub returns-then-any_ends-clause-waits : goal.returns-then-any_ends-clause-waits
 returns-then-any_ends-clause-waits g c = λ h.
     let left : List Arrival = drop c.args.used (map arrival_of c.args.came.now.items) in
     ap (λ o. in_vain o left) c.in-Some.is
-    ∙ not_waits c.in-Some.want left (ap (any_ends c.in-Some.want) (sym (ap (map arrival_of) c.rest.ensures ∙ drop_map c.args.came.now.items c.args.used)) ∙ (sym c.any_ends.ensures ∙ c.if-any_ends.true))
+    ∙ not_waits c.in-Some.want left (ap (any_ends c.in-Some.want) (sym (ap (map arrival_of) c.rest.ensures.is ∙ drop_map c.args.came.now.items c.args.used)) ∙ (sym c.any_ends.ensures ∙ c.if-any_ends.true))
 
 -- nothing that has come ends the wait
 pub returns-in_err-over-clause-asks : goal.returns-in_err-over-clause-asks
 returns-in_err-over-clause-asks g c = λ h.
     let left : List Arrival = drop c.args.used (map arrival_of c.args.came.now.items) in
     absurd (waits_on c.in-Some.want left
-    (ap (any_ends c.in-Some.want) (sym (ap (map arrival_of) c.rest.ensures ∙ drop_map c.args.came.now.items c.args.used)) ∙ (sym c.any_ends.ensures ∙ c.if-any_ends.false))
+    (ap (any_ends c.in-Some.want) (sym (ap (map arrival_of) c.rest.ensures.is ∙ drop_map c.args.came.now.items c.args.used)) ∙ (sym c.any_ends.ensures ∙ c.if-any_ends.false))
     (sym (ap (λ o. in_vain o left) c.in-Some.is) ∙ h))
 
 pub returns-clause-asks : goal.returns-clause-asks
 returns-clause-asks g c = λ h.
     let left : List Arrival = drop c.args.used (map arrival_of c.args.came.now.items) in
     absurd (waits_on c.in-Some.want left
-    (ap (any_ends c.in-Some.want) (sym (ap (map arrival_of) c.rest.ensures ∙ drop_map c.args.came.now.items c.args.used)) ∙ (sym c.any_ends.ensures ∙ c.if-any_ends.false))
+    (ap (any_ends c.in-Some.want) (sym (ap (map arrival_of) c.rest.ensures.is ∙ drop_map c.args.came.now.items c.args.used)) ∙ (sym c.any_ends.ensures ∙ c.if-any_ends.false))
     (sym (ap (λ o. in_vain o left) c.in-Some.is) ∙ h))
 
 pub returns-clause-waits : goal.returns-clause-waits
 returns-clause-waits g c = λ h.
     let before : List Arrival = map arrival_of c.args.came.now.items in
     let now : List Arrival = map arrival_of c.hear.new.came.items in
-    let few : c.args.used ≤ length before = omega (arith, c.requires, length-map c.args.came.now.items arrival_of) in
+    let few : c.args.used ≤ length before = omega (arith, c.requires.inside, length-map c.args.came.now.items arrival_of) in
     ap (λ o. in_vain o (drop c.args.used now)) c.in-Some.is
     ∙ not_waits c.in-Some.want (drop c.args.used now) (learned c.in-Some.want c.args.used before now few c.hear.ensures.grew (c.in_ok-over.ensures.ended h))

@@ -3,4 +3,7 @@ use Rattle.nv_arrivals.specs.Views.{view as arrival_of}
 use Rattle.nv_arriving.proofs.listed.copies.Given as goal
 
 abbrev pub invariant-loop-arrival : goal.invariant-loop-arrival
-invariant-loop-arrival l = map arrival_of l.made.items ≡ map arrival_of (take l.arrival-index l.arrivals)
+invariant-loop-arrival l = record {
+  same : map arrival_of l.made.items ≡ map arrival_of (take l.arrival-index l.arrivals);
+  gone : l.made.gone ≡ 0;
+}

@@ -1,4 +1,4 @@
-use Rattle.std.proofs.Common.{rules, ◌≡◌, ◌∙◌, ap, sym, subst, ℤ, ◌≤◌, length, to_z, of_z, w32}
+use Rattle.std.proofs.Common.{rules, ◌≡◌, ◌∙◌, sym, subst, ℤ, ◌≤◌, length, to_z, of_z, w32}
 use Rattle.nv_calls.specs.Calls.{Request, request}
 use Rattle.nv_kernel.specs.Reserved.{most_out}
 use Rattle.nv_sockets.specs.Kernel.{state_of}

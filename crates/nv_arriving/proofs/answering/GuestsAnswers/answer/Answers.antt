@@ -1,0 +1,136 @@
+use Rattle.std.proofs.Common.{rules, to_z, of_z, w32, ℤ, ◌≡◌, ◌∙◌, sym, ap, subst, refl, false, ◌+◌, ◌<◌, ◌≤◌, [], List, length, map, take, drop, arith}
+use Rattle.std.proofs.lemmas.List.{length-map, length-take}
+use Rattle.nv_calls.specs.Calls.{Request, request}
+use Rattle.nv_kernel.specs.Answering.{IsAnswer}
+use Rattle.nv_sockets.specs.Serving.{Served, serve}
+use Rattle.nv_arrivals.specs.declared.arrival.Arrival as code
+use Rattle.nv_arrivals.specs.Arrivals.{Arrival}
+use Rattle.nv_arrivals.specs.Doings.{Says}
+use Rattle.nv_arrivals.specs.Views.{view as arrival_of}
+use Rattle.nv_arriving.specs.Arrivals.{taken_for, in_vain}
+use Rattle.nv_arriving.specs.Arriving.{Stage, wants, taken, ready_for, arrive_all, with_state, answer_next, serve_next, start_of_arrivals}
+use Rattle.nv_arriving.specs.Doings.{said}
+use Rattle.nv_arriving.specs.Kernel.{Coming}
+use Rattle.nv_arriving.specs.Reserved.{CanTakeIn}
+use Rattle.nv_arriving.specs.Standing.{StandsAt}
+use Rattle.nv_arriving.specs.Telling.{Adds}
+use Rattle.nv_arriving.specs.Views.{standing_of, room_of}
+use Rattle.nv_arriving.proofs.Kept.{drop_more, taken_inside, count_is_taken, first_is}
+use Rattle.nv_arriving.proofs.Standings.{few_served, few_clones, is_answer}
+use Rattle.nv_arriving.proofs.Taken.{drop_past}
+use Rattle.nv_arriving.proofs.answering.GuestsAnswers.answer.Given.{Over}
+use Rattle.nv_arriving.proofs.answering.GuestsAnswers.answer.Goals.{After-pass}
+use Rattle.nv_arriving.proofs.answering.GuestsAnswers.answer.Goals as goal
+
+pub answer-ret-requires-clause-takes : goal.answer-ret-requires-clause-takes
+answer-ret-requires-clause-takes g c =
+    let call : Request = request c.args.call.now in
+    let first = first_is (standing_of c.self.inside.side) call c.self.inside.came.items c.rest-rest.result.now c.first.result.now c.self.inside.used c.taken-count.result c.rest-rest.ensures.is c.taken-count.ensures.is c.first.ensures in
+    subst (CanTakeIn (room_of c.self.inside.side)) (sym first)
+    (subst (λ (k : Coming g.row.O.Denot). CanTakeIn k.room (take (taken k.stage call) k.stage.rest)) (sym c.self.view_is) c.requires.ready.takes)
+
+pub answer-ret-requires-clause-waits : goal.answer-ret-requires-clause-waits
+answer-ret-requires-clause-waits g c = λ e.
+    let none = ap (λ o. taken_for o (map arrival_of c.rest-rest.result.now)) e in
+    omega (arith, ap length c.first.ensures, length-take c.taken-count.result c.rest-rest.result.now, c.taken-count.ensures.is, none)
+
+pub answer-ret-requires-clause-few : goal.answer-ret-requires-clause-few
+answer-ret-requires-clause-few g c =
+    subst (λ (k : Coming g.row.O.Denot). k.stage.here.state.own.served < 500000000) (sym c.self.view_is) (few_served g.O.Outside.did c.args.self.now (request c.args.call.now) c.requires.comes)
+
+pub answer-ret-requires-clause-clones : goal.answer-ret-requires-clause-clones
+answer-ret-requires-clause-clones g c =
+    subst (λ (k : Coming g.row.O.Denot). k.stage.here.state.own.crew.clones < 500000000) (sym c.self.view_is) (few_clones g.O.Outside.did c.args.self.now (request c.args.call.now) c.requires.comes)
+
+module _ (g : Over) (c : After-pass g) where
+  abbrev call : Request
+  call = request c.args.call.now
+
+  abbrev came : List Arrival
+  came = map arrival_of c.self.inside.came.items
+
+  abbrev mine : Stage
+  mine = record { here = standing_of c.self.inside.side; rest = drop c.self.inside.used came }
+
+  -- as it was, and as the call leaves it
+  abbrev was : Coming g.row.O.Denot
+  was = record { stage = mine; begun = c.self.inside.begun.value; outside = c.self.inside.outside; came = came; late = c.self.inside.late; over = c.self.inside.over; room = room_of c.self.inside.side }
+
+  abbrev now_where : List code.Arrival → Coming g.row.O.Denot
+  now_where came' = record {
+    stage = record { here = standing_of c.answer-ret.new.self; rest = drop (c.self.inside.used + c.taken-count.result) (map arrival_of came') };
+    begun = c.self.inside.begun.value;
+    outside = c.answer-ret.new.outside;
+    came = map arrival_of came';
+    late = c.is_late-self-inside.result;
+    over = c.self.inside.over;
+    room = room_of c.answer-ret.new.self;
+  }
+
+  abbrev now : Coming g.row.O.Denot
+  now = now_where c.self.inside.came.items
+
+  abbrev left : Served
+  left = record { state = (standing_of c.answer-ret.new.self).state; ret = c.answer-ret.result; payload = c.answer-ret.new.out.bytes }
+
+  count : c.taken-count.result ≡ taken mine call
+  count = count_is_taken mine.here call c.self.inside.came.items c.rest-rest.result.now c.self.inside.used c.taken-count.result c.rest-rest.ensures.is c.taken-count.ensures.is
+
+  first : map arrival_of c.first.result.now ≡ take (taken mine call) mine.rest
+  first = first_is mine.here call c.self.inside.came.items c.rest-rest.result.now c.first.result.now c.self.inside.used c.taken-count.result c.rest-rest.ensures.is c.taken-count.ensures.is c.first.ensures
+
+  answer : answer_next mine call ≡ left
+  answer = ap (λ z. serve (arrive_all mine.here z).state call) (sym first) ∙ c.answer-ret.ensures.answer
+
+  next : now.stage ≡ serve_next mine call
+  next =
+      let s : (standing_of c.answer-ret.new.self).state ≡ (answer_next mine call).state = ap (λ (r : Served). r.state) (sym answer) in
+      let h : standing_of c.answer-ret.new.self ≡ with_state (ready_for mine call) (answer_next mine call).state
+      = c.answer-ret.ensures.standing ∙ (λ j. with_state (arrive_all mine.here (first j)) (s j)) in
+      let r : drop (c.self.inside.used + c.taken-count.result) came ≡ drop (taken mine call) mine.rest
+      = drop_more c.self.inside.used c.taken-count.result came ∙ ap (λ n. drop n mine.rest) count in
+      λ j. record { here = h j; rest = r j }
+
+  says : Adds g.O.Outside.did was.outside now.outside (map Says (said (ready_for mine call).state call c.answer-ret.result now.stage.here.state))
+  says = subst (λ z. Adds g.O.Outside.did c.self.inside.outside c.answer-ret.new.outside (map Says (said (arrive_all mine.here z).state call c.answer-ret.result (standing_of c.answer-ret.new.self).state)))
+      first c.answer-ret.ensures.said
+
+  waits : was.over ≡ false → in_vain (wants mine.here call) mine.rest ≡ false
+  waits = subst (λ (k : Coming g.row.O.Denot). k.over ≡ false → in_vain (wants k.stage.here call) k.stage.rest ≡ false) (sym c.self.view_is) c.requires.ready.waits
+
+  none : now.late ≡ false → now.stage.rest ≡ []
+  none o = drop_past (c.self.inside.used + c.taken-count.result) came (omega (arith, c.is_late-self-inside.ensures.all o, length-map c.self.inside.came.items arrival_of))
+
+  is : IsAnswer (λ setup. start_of_arrivals setup came) (StandsAt g.O.Outside.did was) (StandsAt g.O.Outside.did now) call c.answer-ret.result c.answer-ret.new.out.bytes
+  is = is_answer g.O.Outside.did was now call c.answer-ret.result c.answer-ret.new.out.bytes c.requires.shaped refl refl refl answer next waits says c.is_late-self-inside.ensures.still none
+
+  inside : c.self.inside.used + c.taken-count.result ≤ length c.self.inside.came.items
+  inside =
+      let few : c.self.inside.used ≤ length came = omega (arith, c.self.invariant.0, length-map c.self.inside.came.items arrival_of) in
+      let all = taken_inside mine call c.self.inside.used came few refl in
+      omega (arith, all, count, length-map c.self.inside.came.items arrival_of)
+
+  -- the same, whatever is let go
+  kept : IsAnswer (λ setup. start_of_arrivals setup came) (StandsAt g.O.Outside.did was) (StandsAt g.O.Outside.did (now_where c.pass.new.came.items)) call c.answer-ret.result c.answer-ret.new.out.bytes
+  kept = subst (λ (z : List code.Arrival). IsAnswer (λ setup. start_of_arrivals setup came) (StandsAt g.O.Outside.did was) (StandsAt g.O.Outside.did (now_where z)) call c.answer-ret.result c.answer-ret.new.out.bytes)
+      (sym c.pass.ensures.items) is
+
+pub returns-clause-answer : goal.returns-clause-answer
+returns-clause-answer g c =
+    let back : to_z w32 (of_z w32 c.answer-ret.result) ≡ c.answer-ret.result = search rules in
+    let here = (goal.at.returns-clause-answer g c).After-pass in
+    subst (λ (r : ℤ). IsAnswer (λ setup. start_of_arrivals setup c.args.self.now.came) (StandsAt g.O.Outside.did c.args.self.now) (StandsAt g.O.Outside.did (now_where g here c.pass.new.came.items)) (call g here) r c.answer-ret.new.out.bytes) (sym back)
+    (subst (λ (k : Coming g.row.O.Denot). IsAnswer (λ setup. start_of_arrivals setup k.came) (StandsAt g.O.Outside.did k) (StandsAt g.O.Outside.did (now_where g here c.pass.new.came.items)) (call g here) c.answer-ret.result c.answer-ret.new.out.bytes)
+    c.self.view_is (kept g here))
+
+pub returns-clause-known : goal.returns-clause-known
+returns-clause-known g c = λ setup. ap (λ (z : List code.Arrival). start_of_arrivals setup (map arrival_of z)) c.pass.ensures.items ∙ ap (λ (k : Coming g.row.O.Denot). start_of_arrivals setup k.came) c.self.view_is
+
+pub returns-clause-came : goal.returns-clause-came
+returns-clause-came g c = ap (map arrival_of) c.pass.ensures.items ∙ ap (λ (k : Coming g.row.O.Denot). k.came) c.self.view_is
+
+pub invariant_of-self : goal.invariant_of-self
+invariant_of-self g c = (
+  subst (λ (z : List code.Arrival). c.self.inside.used + c.taken-count.result ≤ length z) (sym c.pass.ensures.items) (inside g (goal.at.invariant_of-self g c).After-pass),
+  c.pass.ensures.gone,
+)

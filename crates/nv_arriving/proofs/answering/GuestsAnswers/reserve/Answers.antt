@@ -1,0 +1,108 @@
+use Rattle.std.proofs.Common.{◌≡◌, ◌∙◌, ℕ, ◌≤◌, ap, sym, subst, true, false, List, length, map, take, drop, arith}
+use Rattle.std.proofs.lemmas.List.{length-map}
+use Rattle.nv_calls.specs.Calls.{Entry, Request, request}
+use Rattle.nv_calls.proofs.ShapeLaws.{shaped-few}
+use Rattle.nv_script.specs.Scripts.{Setup}
+use Rattle.nv_served.specs.Learning.{GoesOn}
+use Rattle.nv_arrivals.specs.Arrivals.{Arrival}
+use Rattle.nv_arrivals.specs.Views.{view as arrival_of}
+use Rattle.nv_arriving.specs.Arrivals.{in_vain}
+use Rattle.nv_arriving.specs.Arriving.{Standing, wants, taken, start_of_arrivals}
+use Rattle.nv_arriving.specs.Kernel.{Coming}
+use Rattle.nv_arriving.specs.Reserved.{Room, CanTakeIn}
+use Rattle.nv_arriving.specs.Standing.{StandsAt}
+use Rattle.nv_arriving.specs.Views.{standing_of, room_of}
+use Rattle.nv_arriving.proofs.Kept.{few_more, first_is}
+use Rattle.nv_arriving.proofs.Standings.{stands_heard, goes_heard}
+use Rattle.nv_arriving.proofs.answering.GuestsAnswers.reserve.Given.{Over}
+use Rattle.nv_arriving.proofs.answering.GuestsAnswers.reserve.Goals.{After-learn}
+use Rattle.nv_arriving.proofs.answering.GuestsAnswers.reserve.Goals as goal
+
+pub reserve-requires : goal.reserve-requires
+reserve-requires g c = record { few = shaped-few (request c.args.call.now) c.requires.shaped }
+
+-- where more was heard
+module _ (g : Over) (c : After-learn g) where
+  abbrev before : List Arrival
+  before = map arrival_of c.self.inside.came.items
+
+  abbrev now : List Arrival
+  now = map arrival_of c.learn.new.came.items
+
+  few : c.self.inside.used ≤ length before
+  few = omega (arith, c.self.invariant.0, length-map c.self.inside.came.items arrival_of)
+
+  same : c.self.inside.over ≡ true → now ≡ before
+  same o = ap (map arrival_of) (c.learn.ensures.same o)
+
+  abbrev heard : (room : Room) → Coming g.row.O.Denot
+  heard room = record {
+    stage = record { here = standing_of c.self.inside.side; rest = drop c.self.inside.used now };
+    begun = c.self.inside.begun.value;
+    outside = c.learn.new.outside;
+    came = now;
+    late = c.self.inside.late;
+    over = c.learn.new.over;
+    room = room;
+  }
+
+  stands : (room : Room) (setup : Setup) (log : List Entry) → StandsAt g.O.Outside.did c.args.self.now setup log → StandsAt g.O.Outside.did (heard room) setup log
+  stands room setup log s = stands_heard g.O.Outside.did c.self.inside.begun.value c.self.inside.outside c.learn.new.outside before now (standing_of c.self.inside.side) c.self.inside.used
+      c.self.inside.over c.learn.new.over c.self.inside.late (room_of c.self.inside.side) room few c.learn.ensures.over same c.learn.ensures.grew c.learn.ensures.did setup log
+      (subst (λ (k : Coming g.row.O.Denot). StandsAt g.O.Outside.did k setup log) (sym c.self.view_is) s)
+
+  goes : (setup : Setup) (log : List Entry) → StandsAt g.O.Outside.did c.args.self.now setup log → GoesOn log (start_of_arrivals setup c.args.self.now.came) (start_of_arrivals setup now)
+  goes setup log s = subst (λ (k : Coming g.row.O.Denot). GoesOn log (start_of_arrivals setup k.came) (start_of_arrivals setup now)) c.self.view_is
+      (goes_heard g.O.Outside.did c.self.inside.begun.value c.self.inside.outside c.learn.new.outside before now (standing_of c.self.inside.side) c.self.inside.used
+      c.self.inside.over c.learn.new.over c.self.inside.late (room_of c.self.inside.side) (room_of c.self.inside.side) few c.learn.ensures.over same c.learn.ensures.grew c.learn.ensures.did setup log
+      (subst (λ (k : Coming g.row.O.Denot). StandsAt g.O.Outside.did k setup log) (sym c.self.view_is) s))
+
+  inside : (c.self.inside.used ≤ length c.learn.new.came.items) × (c.learn.new.came.gone ≤ c.self.inside.used)
+  inside = let more = few_more c.self.inside.used before now few c.learn.ensures.grew in
+      (omega (arith, more, length-map c.learn.new.came.items arrival_of), subst (λ (n : ℕ). n ≤ c.self.inside.used) (sym c.learn.ensures.gone) c.self.invariant.1)
+
+pub invariant_of-self-2 : goal.invariant_of-self-2
+invariant_of-self-2 g c = inside g (goal.at.invariant_of-self-2 g c).After-learn
+
+pub returns-in_err-learn-clause-stands : goal.returns-in_err-learn-clause-stands
+returns-in_err-learn-clause-stands g c = stands g (goal.at.returns-in_err-learn-clause-stands g c).After-learn (room_of c.self.inside.side)
+
+pub returns-in_err-learn-clause-known : goal.returns-in_err-learn-clause-known
+returns-in_err-learn-clause-known g c = goes g (goal.at.returns-in_err-learn-clause-known g c).After-learn
+
+pub invariant_of-self-in_err-reserve : goal.invariant_of-self-in_err-reserve
+invariant_of-self-in_err-reserve g c = inside g (goal.at.invariant_of-self-in_err-reserve g c).After-learn
+
+pub returns-in_err-reserve-clause-stands : goal.returns-in_err-reserve-clause-stands
+returns-in_err-reserve-clause-stands g c = λ setup log s.
+    subst (λ (z : Standing). StandsAt g.O.Outside.did (record (heard g (goal.at.returns-in_err-reserve-clause-stands g c).After-learn (room_of c.reserve.new.self)) { stage = record { here = z; rest = drop c.self.inside.used (now g (goal.at.returns-in_err-reserve-clause-stands g c).After-learn) } }) setup log) (sym c.reserve.ensures.standing)
+    (stands g (goal.at.returns-in_err-reserve-clause-stands g c).After-learn (room_of c.reserve.new.self) setup log s)
+
+pub returns-in_err-reserve-clause-known : goal.returns-in_err-reserve-clause-known
+returns-in_err-reserve-clause-known g c = goes g (goal.at.returns-in_err-reserve-clause-known g c).After-learn
+
+pub invariant_of-self : goal.invariant_of-self
+invariant_of-self g c = inside g (goal.at.invariant_of-self g c).After-learn
+
+pub returns-clause-stands : goal.returns-clause-stands
+returns-clause-stands g c = λ setup log s.
+    subst (λ (z : Standing). StandsAt g.O.Outside.did (record (heard g (goal.at.returns-clause-stands g c).After-learn (room_of c.reserve.new.self)) { stage = record { here = z; rest = drop c.self.inside.used (now g (goal.at.returns-clause-stands g c).After-learn) } }) setup log) (sym c.reserve.ensures.standing)
+    (stands g (goal.at.returns-clause-stands g c).After-learn (room_of c.reserve.new.self) setup log s)
+
+pub returns-clause-known : goal.returns-clause-known
+returns-clause-known g c = goes g (goal.at.returns-clause-known g c).After-learn
+
+pub returns-clause-ready : goal.returns-clause-ready
+returns-clause-ready g c =
+    let call : Request = request c.args.call.now in
+    let here : Standing = standing_of c.self.inside.side in
+    let rest : List Arrival = drop c.self.inside.used (now g (goal.at.returns-clause-ready g c).After-learn) in
+    let first = first_is here call c.learn.new.came.items c.rest-rest.result.now c.first.result.now c.self.inside.used c.taken-count.result c.rest-rest.ensures.is c.taken-count.ensures.is c.first.ensures in
+    let takes = subst (CanTakeIn (room_of c.reserve.new.self)) first c.in_ok-reserve.ensures.takes in
+    record {
+      takes = subst (λ (z : Standing). CanTakeIn (room_of c.reserve.new.self) (take (taken record { here = z; rest = rest } call) rest)) (sym c.reserve.ensures.standing) takes;
+      answer = c.in_ok-reserve.ensures.ready;
+      sends = c.in_ok-reserve.ensures.sends;
+      waits = λ o. subst (λ (z : Standing). in_vain (wants z call) rest ≡ false) (sym c.reserve.ensures.standing)
+          (ap (λ w. in_vain w rest) (sym c.wants-want.ensures) ∙ c.in_ok-learn.ensures.waits o);
+    }

@@ -1,0 +1,25 @@
+-- Where what answers stands, where input arrives.
+use Rattle.std.specs.Prelude.{◌≡◌, true, false, List}
+use Rattle.nv_calls.specs.Calls.{Entry}
+use Rattle.nv_calls.specs.Logs.{calls_of, live_after}
+use Rattle.nv_script.specs.Scripts.{Setup}
+use Rattle.nv_kernel.specs.Crew.{IsCrew}
+use Rattle.nv_arrivals.specs.Doings.{Doing}
+use Rattle.nv_arriving.specs.Arriving.{first_stage, stage_after, Satisfied}
+use Rattle.nv_arriving.specs.Kernel.{Coming}
+use Rattle.nv_arriving.specs.Telling.{Tells}
+
+-- The stage is that of the definition after these calls, as far as all came; while more may come none of them waited in vain; the outside tells of itself what was done;
+-- and the threads that live are those that the log says.
+pub record StandsAt {O : Type 0} (did : O → O → List Doing → Type 0) (g : Coming O) (setup : Setup) (log : List Entry) : Type 0 where
+  pub stage : g.stage ≡ stage_after (first_stage setup g.came) (calls_of log)
+  pub satisfied : g.over ≡ false → Satisfied (first_stage setup g.came) (calls_of log)
+  pub told : Tells did g.begun g.outside setup g.came log g.late
+  pub live : live_after log ≡ g.stage.here.state.own.crew.live
+  pub crew : IsCrew g.stage.here.state.own.crew
+
+-- and all has come that the script lists, and nothing more comes
+pub record StandsListed {O : Type 0} (did : O → O → List Doing → Type 0) (g : Coming O) (setup : Setup) (log : List Entry) : Type 0 where
+  pub here : StandsAt did g setup log
+  pub over : g.over ≡ true
+  pub all : g.came ≡ setup.arrivals

@@ -1,0 +1,260 @@
+// What answers where input arrives.
+ghost use Rattle.std.specs.Prelude.{◌≡◌, ◌≤◌, [], List, false, true, IfOk, OnOk, length, map, take};
+ghost use Rattle.nv_calls.specs.Calls.{request, Entry};
+ghost use Rattle.nv_calls.specs.Limits.{MOST_BYTES};
+ghost use Rattle.nv_calls.specs.Shapes.{IsShaped};
+ghost use Rattle.nv_served.specs.Learning.{GoesOn};
+ghost use Rattle.nv_script.specs.Scripts.{Setup};
+ghost use Rattle.nv_script.specs.Views.{setup_of};
+ghost use Rattle.nv_kernel.specs.Answering.{MayCome, IsAnswer};
+ghost use Rattle.nv_kernel.specs.Reserved.{most_out};
+ghost use Rattle.nv_sockets.specs.Views.{link_of};
+ghost use Rattle.nv_arrivals.specs.Views.{view as arrival_of};
+ghost use Rattle.nv_arriving.specs.Arriving.{taken, start_of_arrivals};
+ghost use Rattle.nv_arriving.specs.Kernel.{CanServe, begun_in};
+ghost use Rattle.nv_arriving.specs.Standing.{StandsAt};
+ghost use Rattle.nv_arriving.specs.Views.{standing_of};
+
+use crate::arrivals::{learn, rest};
+use crate::guests::GuestSide;
+use crate::listed::{Nothing, copies};
+use crate::waiting::taken_for;
+use nv_arrivals::{Arrival, Outside};
+use nv_calls::{Bytes, Call};
+use nv_fs::FileSystem;
+use nv_kernel::Answers;
+use nv_live::Telling;
+use nv_past::Past;
+use nv_script::Script;
+use nv_sockets::Connection;
+use std::alloc::{AllocError, Global};
+use std::marker::Model;
+use std::snapshot::Snapshot;
+
+/// The guests' side, the outside, and what came from there.
+#[derive(Drop)]
+pub struct Guests<O: Outside> {
+    alloc: Global,
+    side: GuestSide,
+    /// The outside as it was when the kernel was made.
+    begun: Snapshot<O>,
+    outside: O,
+    /// What has come from outside.
+    came: Past<Arrival>,
+    /// How many of these the guests' side has. They are let go.
+    used: usize,
+    /// Something was heard for a call that was then not served, or was more than the served call took in.
+    late: bool,
+    /// Nothing more comes from outside.
+    over: bool,
+}
+
+impl<O: Outside> Model for Guests<O> {
+    ghost use Rattle.std.specs.Prelude.{◌≤◌, length, map, drop};
+    ghost use Rattle.nv_arriving.specs.Kernel.{Coming};
+    ghost use Rattle.nv_arrivals.specs.Views.{view as arrival_of};
+    ghost use Rattle.nv_arriving.specs.Views.{standing_of, room_of};
+
+    ghost Value = { Coming O };
+
+    ghost view = { λ g. record {
+      stage = record { here = standing_of g.side; rest = drop g.used (map arrival_of g.came.items) };
+      begun = g.begun.value;
+      outside = g.outside;
+      came = map arrival_of g.came.items;
+      late = g.late;
+      over = g.over;
+      room = room_of g.side;
+    } };
+
+    ghost invariant = { λ g. (g.used ≤ length g.came.items) × (g.came.gone ≤ g.used) };
+}
+
+// How many of those that have come a call takes in.
+fn taken(side: &GuestSide, rest: &[Arrival], call: &Call) -> usize
+    ensures is { result ≡ taken (record { here = standing_of side.now; rest = map arrival_of rest.now }) (request call.now) }
+    ensures few { result ≤ length rest.now }
+{
+    taken_for(side.wants(call), rest)
+}
+
+// The first of them.
+fn first(rest: &[Arrival], count: usize) -> &[Arrival]
+    requires { count ≤ length rest.now }
+    ensures { result.now ≡ take count rest.now }
+{
+    &rest[..count]
+}
+
+// Some that came was not taken in by the call that it was heard for, or is not now.
+fn is_late(late: bool, came: &Past<Arrival>, used: usize) -> bool
+    ensures still { result ≡ false → late ≡ false }
+    ensures all { result ≡ false → length came.now.items ≤ used }
+{
+    late || used < came.len()
+}
+
+// Those that have come are let go where the guests' side has them all.
+fn pass(came: &mut Past<Arrival>, used: usize)
+    requires { came.old.gone ≤ used }
+    ensures items { came.new.items ≡ came.old.items }
+    ensures gone { came.new.gone ≤ used }
+{
+    if came.len() <= used {
+        came.let_go();
+    }
+}
+
+impl<O: Outside> Guests<O> {
+    /// What a script gives, and this outside, from which nothing has come.
+    pub fn make(alloc: Global, script: &Script, outside: O) -> Result<Guests<O>, AllocError>
+        ensures stands { IfOk result (λ made. StandsAt O.did made (setup_of script.now) []) }
+        ensures made { IfOk result (λ made. (made.came ≡ []) × (made.begun ≡ outside) × (made.outside ≡ outside) × (made.late ≡ false)) }
+    {
+        let side = GuestSide::make(alloc, script)?;
+        let begun = Snapshot::of(&outside);
+        Ok(Guests {
+            alloc,
+            side,
+            begun,
+            outside,
+            came: Past::new(alloc),
+            used: 0,
+            late: false,
+            over: false,
+        })
+    }
+
+    /// The connections, those of the script first, each with what was written to it.
+    pub fn connections(&self) -> &[Connection]
+        ensures { map link_of result.now ≡ self.now.stage.here.state.net.links }
+    {
+        self.side.host.sockets.connections()
+    }
+
+    /// The files, as the calls left them.
+    pub fn files(&self) -> &FileSystem
+        ensures { result.now.state ≡ self.now.stage.here.state.own.files }
+    {
+        &self.side.host.devices.files
+    }
+
+    /// The outside, as it is.
+    pub fn outside(&self) -> &O
+        ensures { result.now ≡ self.now.outside }
+    {
+        &self.outside
+    }
+
+    /// The outside, where no more is asked.
+    pub fn into_outside(self) -> O
+        ensures { result ≡ self.outside }
+    {
+        self.outside
+    }
+}
+
+impl Guests<Nothing> {
+    /// What a script gives, where all has come that it lists. Nothing more comes.
+    pub(crate) fn listed(alloc: Global, script: &Script) -> Result<Guests<Nothing>, AllocError>
+        ensures { IfOk result (λ made. StandsAt ⟦<Nothing as Outside>⟧.did made (setup_of script.now) [] × (made.came ≡ (setup_of script.now).arrivals) × (made.over ≡ true)) }
+    {
+        let side = GuestSide::make(alloc, script)?;
+        let came = copies(alloc, script.arrivals.as_slice())?;
+        let outside = Nothing;
+        let begun = Snapshot::of(&outside);
+        Ok(Guests {
+            alloc,
+            side,
+            begun,
+            outside,
+            came,
+            used: 0,
+            late: false,
+            over: true,
+        })
+    }
+}
+
+impl<O: Outside + Telling + Send> Answers for Guests<O> {
+    ghost use Rattle.std.specs.Prelude.{false};
+    ghost use Rattle.nv_kernel.specs.Codes.{setup_code};
+    ghost use Rattle.nv_arriving.specs.Beginnings.{begun_code};
+    ghost use Rattle.nv_arriving.specs.Kernel.{Begun};
+
+    ghost Beginning = { Begun O.Told };
+
+    ghost beginning_code = { begun_code setup_code O.told_code };
+
+    ghost start = { begun_in O.told };
+
+    // What has come, taken in or not.
+    ghost known = { λ setup g. start_of_arrivals setup g.came };
+
+    ghost stands = { StandsAt O.did };
+
+    // A live run may last.
+    ghost keeps_all = { false };
+
+    ghost is_ready = { CanServe };
+
+    fn reserve(&mut self, call: &Call) -> Result<(), AllocError>
+        requires shaped { IsShaped (request call.now) }
+        ensures start { (setup : Setup) → begun_in O.told setup self.new ≡ begun_in O.told setup self.old }
+        ensures stands { (setup : Setup) (log : List Entry) → StandsAt O.did self.old setup log → StandsAt O.did self.new setup log }
+        ensures known { (setup : Setup) (log : List Entry) → StandsAt O.did self.old setup log → GoesOn log (start_of_arrivals setup self.old.came) (start_of_arrivals setup self.new.came) }
+        ensures ready { OnOk result (CanServe self.new (request call.now)) }
+        ensures over { self.old.over ≡ true → self.new.over ≡ true }
+        ensures came { self.old.over ≡ true → self.new.came ≡ self.old.came }
+    {
+        let want = self.side.wants(call);
+        learn(
+            &mut self.outside,
+            self.alloc,
+            &mut self.came,
+            self.used,
+            &mut self.over,
+            want,
+        )?;
+        let rest = rest(&self.came, self.used);
+        let count = taken(&self.side, rest, call);
+        self.side.reserve(call, first(rest, count))?;
+        Ok(())
+    }
+
+    fn answer(&mut self, call: &Call, out: &mut Bytes) -> i32
+        requires ready { CanServe self.old (request call.now) }
+        requires shaped { IsShaped (request call.now) }
+        requires comes { MayCome (StandsAt O.did self.old) (request call.now) }
+        requires capacity { MOST_BYTES ≤ out.old.capacity }
+        ensures start { (setup : Setup) → begun_in O.told setup self.new ≡ begun_in O.told setup self.old }
+        ensures known { (setup : Setup) → start_of_arrivals setup self.new.came ≡ start_of_arrivals setup self.old.came }
+        ensures answer { IsAnswer (λ setup. start_of_arrivals setup self.old.came) (StandsAt O.did self.old) (StandsAt O.did self.new) (request call.now) result out.new.bytes }
+        ensures capacity { out.new.capacity ≡ out.old.capacity }
+        ensures few { length out.new.bytes ≤ most_out (request call.now) }
+        ensures over { self.new.over ≡ self.old.over }
+        ensures came { self.new.came ≡ self.old.came }
+    {
+        let rest = rest(&self.came, self.used);
+        let count = taken(&self.side, rest, call);
+        let ret = self
+            .side
+            .answer(call, first(rest, count), out, &mut self.outside);
+        self.used += count;
+        self.late = is_late(self.late, &self.came, self.used);
+        pass(&mut self.came, self.used);
+        ret
+    }
+
+    fn keeps(&self) -> bool {
+        false
+    }
+
+    fn is_over(&self) -> bool {
+        self.side.host.is_over()
+    }
+
+    fn console(&self) -> &[u8] {
+        self.side.host.devices.files.console()
+    }
+}

@@ -1,6 +1,0 @@
-use Rattle.std.proofs.Common.{ap, subst}
-use Rattle.nv_calls.specs.Logs.{IsLawful}
-use Rattle.nv_kernel.proofs.kernel.ScriptKernelSyscallKernel.history.Goals as goal
-
-pub returns-clause-lawful : goal.returns-clause-lawful
-returns-clause-lawful c = subst IsLawful (ap (λ k. k.log) c.self.view_is) c.self.invariant.0.lawful

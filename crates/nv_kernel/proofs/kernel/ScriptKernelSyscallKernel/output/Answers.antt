@@ -1,9 +1,0 @@
-use Rattle.std.proofs.Common.{◌∙◌, sym, ap}
-use Rattle.nv_calls.specs.Logs.{output_of}
-use Rattle.nv_kernel.specs.Kernel.{KernelState}
-use Rattle.nv_kernel.specs.Serving.{State, start_of_script}
-use Rattle.nv_kernel.proofs.Going.{output_is}
-use Rattle.nv_kernel.proofs.kernel.ScriptKernelSyscallKernel.output.Goals as goal
-
-pub returns : goal.returns
-returns c = c.console.ensures ∙ ap (λ (s : State). s.files.console) c.self.invariant.1 ∙ sym (output_is _ _) ∙ ap (λ (k : KernelState). output_of (start_of_script k.setup) k.log) c.self.view_is

@@ -1,0 +1,71 @@
+// The devices as what answers a kernel's calls.
+use crate::answers::{Answers, Foretold, FromScript, KeepsAll};
+use crate::devices::Devices;
+use nv_calls::{Bytes, Call};
+use nv_script::Script;
+use std::alloc::{AllocError, Global};
+
+impl Answers for Devices {
+    ghost use Rattle.std.specs.Prelude.{true};
+    ghost use Rattle.nv_script.specs.Scripts.{Setup};
+    ghost use Rattle.nv_kernel.specs.Codes.{setup_code};
+    ghost use Rattle.nv_kernel.specs.Reserved.{state_of, CanAnswer};
+    ghost use Rattle.nv_kernel.specs.Serving.{start_of_script};
+    ghost use Rattle.nv_kernel.specs.Standing.{StandsAt};
+
+    ghost Beginning = { Setup };
+
+    ghost beginning_code = { setup_code };
+
+    ghost start = { λ setup _. setup };
+
+    // A script tells all that comes.
+    ghost known = { λ setup _. start_of_script setup };
+
+    ghost stands = { λ d setup log. StandsAt setup log (state_of d) };
+
+    ghost is_ready = { λ d c. CanAnswer d.files c };
+
+    ghost keeps_all = { true };
+
+    fn reserve(&mut self, call: &Call) -> Result<(), AllocError> {
+        self.reserve(call)
+    }
+
+    fn answer(&mut self, call: &Call, out: &mut Bytes) -> i32 {
+        self.answer(call, out)
+    }
+
+    fn keeps(&self) -> bool {
+        true
+    }
+
+    fn is_over(&self) -> bool {
+        self.is_over()
+    }
+
+    fn console(&self) -> &[u8] {
+        self.files.console()
+    }
+}
+
+impl FromScript for Devices {
+    fn make(alloc: Global, script: &Script) -> Result<Devices, AllocError> {
+        Devices::make(alloc, script)
+    }
+}
+
+impl KeepsAll for Devices {
+    ghost use Rattle.std.specs.Prelude.{refl};
+
+    ghost all_kept = { refl };
+}
+
+impl Foretold for Devices {
+    ghost use Rattle.std.specs.Prelude.{refl};
+    ghost use Rattle.nv_kernel.specs.Serving.{start_of_script};
+
+    ghost told = { start_of_script };
+
+    ghost nothing_new = { λ setup _. refl };
+}
