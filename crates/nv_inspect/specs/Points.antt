@@ -1,5 +1,5 @@
 -- A version at a point of a log.
-use Rattle.std.specs.Prelude.{ℕ, suc, ◌==◌, List, [], ◌∷◌, take, Option, if◌then◌else◌}
+use Rattle.std.specs.Prelude.{ℕ, suc, Bool, false, ◌==◌, List, [], ◌∷◌, take, Option, if◌then◌else◌}
 use Rattle.nv_bpf.specs.declared.op.Op.{Op}
 use Rattle.nv_calls.specs.Calls.{Entry}
 use Rattle.nv_machine.specs.Guest.{Machine}
@@ -24,7 +24,13 @@ abbrev pub budget_to : TracePoint → ℕ → ℕ
 budget_to (Count count) budget = count
 budget_to point budget = budget
 
+-- whether their count begins anew at each answer: a count of instructions is of all of them
+abbrev pub renews_to : TracePoint → Bool → Bool
+renews_to (Count count) renews = false
+renews_to point renews = renews
+
 -- The version with number i that loads this machine, over the log at the point, where its calls are judged by this filter. The kernel at the point has served the
 -- events seen.
-abbrev pub at_point : Option (List Op) → ℕ → List Entry → TracePoint → ℕ → Machine → Follower Proc
-at_point rules i log point budget machine = follow threads (judge_of rules i) (events_to point log) (fresh (started machine (budget_to point budget)))
+abbrev pub at_point : Option (List Op) → ℕ → List Entry → TracePoint → ℕ → Bool → Machine → Follower Proc
+at_point rules i log point budget renews machine =
+    follow threads (judge_of rules i) (events_to point log) (fresh (started machine (budget_to point budget) (renews_to point renews)))

@@ -8,7 +8,7 @@ use nv_outside::{Put, Sink, put_all, put_pieces};
 use nv_replay::Fate;
 use nv_report::put_fate;
 
-fn put_place<S: Sink>(sink: &mut S, seen: u32, count: u32) -> Put
+fn put_place<S: Sink>(sink: &mut S, seen: u32, count: u64) -> Put
     ensures { Puts (S.told sink.old) (S.faults sink.old) (place_text seen count) result (S.told sink.new) (S.faults sink.new) }
 {
     let mut first = Buffer::new();
@@ -36,7 +36,7 @@ pub fn put_end<S: Sink>(sink: &mut S, fate: Option<Fate>) -> Put
 }
 
 /// The events seen, the instructions run, and the end.
-pub fn put_head<S: Sink>(sink: &mut S, seen: u32, count: u32, fate: Option<Fate>) -> Put
+pub fn put_head<S: Sink>(sink: &mut S, seen: u32, count: u64, fate: Option<Fate>) -> Put
     ensures { Puts (S.told sink.old) (S.faults sink.old) (heading_text seen count fate) result (S.told sink.new) (S.faults sink.new) }
 {
     put_place(sink, seen, count)?;

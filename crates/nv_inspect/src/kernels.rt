@@ -7,7 +7,7 @@ ghost use Rattle.nv_trace.specs.Checks.{AreSoundEvents};
 
 use nv_arriving::ScriptedKernel;
 use nv_script::Script;
-use nv_served::SyscallKernel;
+use nv_served::{Recorded, SyscallKernel};
 use std::alloc::{AllocError, Global};
 
 /// A kernel over the same script that has served the first events alone, so many of those that this one has served.

@@ -9,7 +9,7 @@ ghost use Rattle.nv_inspect.specs.Points.{place_of, events_to};
 use nv_bpf::Filter;
 use nv_calls::Event;
 use nv_replay::{Version, follow_all};
-use nv_served::SyscallKernel;
+use nv_served::{Recorded, SyscallKernel};
 
 /// A point of a log for a version that follows it.
 #[derive(Clone, Copy, Debug, PartialEq, Eq)]
@@ -54,7 +54,7 @@ fn first(log: &[Event], most: usize) -> &[Event]
 }
 
 /// Brings a version that was just made along the log of a kernel to the point, or as far as it goes.
-pub fn bring<K: SyscallKernel>(
+pub fn bring<K: SyscallKernel + Recorded>(
     version: &mut Version,
     rules: Option<&Filter>,
     kernel: &K,

@@ -36,7 +36,7 @@ module _ {P : Type 0} (g : Behaviour P) (laws : IsProcess g) (judge : Judge) whe
   judged_falls : (n : ℕ) (s : Follower P) (p : P) (t : ℕ) (f : Fate) (o : Permit) → s.seen < n → s.fate ≡ None → g.pending p t ≡ true
       → g.calls_left p ≤ g.calls_left s.process → size g n (judged g s p t f o) < size g n s
   unfolding size judged
-  judged_falls n s p t f (Give r) l e h k = omega (arith, laws.falls p t r h)
+  judged_falls n s p t f (Give r) l e h k = omega (arith, laws.gives p t r h)
   judged_falls n s p t f Pass l e h k = omega arith
   judged_falls n s p t f (Consume r) l e h k = omega (arith, laws.falls p t r h)
   judged_falls n s p t f No l e h k = rw e (omega arith)

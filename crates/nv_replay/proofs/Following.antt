@@ -49,7 +49,7 @@ module _ {P : Type 0} (g : Behaviour P) (judge : Judge) (e : Entry) (s : Followe
 
 module _ {P : Type 0} (g : Behaviour P) (s : Follower P) (p : P) (t : ℕ) (f : Fate) where
   pub judged_give : (o : Permit) (r : Response) → o ≡ Give r
-      → judged g s p t f o ≡ record s { process = g.answered p t r; rewrites = s.rewrites + 1 }
+      → judged g s p t f o ≡ record s { process = g.given p t r; rewrites = s.rewrites + 1 }
   unfolding judged
   judged_give o r h = rw h refl
 
@@ -72,6 +72,6 @@ module _ {P : Type 0} (g : Behaviour P) (t : ℕ) (old new : P) where
   not_given None h = (refl, h.0)
   not_given (Some r) h = let z : false ≡ true = h.1 in cc
 
-  pub was_given : (o : Option Response) → HasGiven g o t old new true → (r : Response) × (o ≡ Some r) × (new ≡ g.answered old t r)
+  pub was_given : (o : Option Response) → HasGiven g o t old new true → (r : Response) × (o ≡ Some r) × (new ≡ g.given old t r)
   was_given None h = let z : true ≡ false = h.1 in cc
   was_given (Some r) h = (r, refl, h.0)

@@ -22,9 +22,9 @@ module _ {P : Type 0} (g : Behaviour P) (t value : ℕ) (e : Entry) where
       → n ≡ record r { at = record r.at { fate = Some (refusal_of (g.call r.at.process t) e value) } } → n ≡ obeyed o r
   is_refused o r n h k = k ∙ ap (λ (x : Follower P). record r { at = x }) (sym (judged_no g r.at r.at.process t _ _ h))
 
-  pub is_answered : (o : Request → Permit) (r n : Running P) (reply : Response) → o (g.call r.at.process t) ≡ Give reply
-      → n ≡ record r { at = record r.at { process = g.answered r.at.process t reply; rewrites = r.at.rewrites + 1 } } → n ≡ obeyed o r
-  is_answered o r n reply h k = k ∙ ap (λ (x : Follower P). record r { at = x }) (sym (judged_give g r.at r.at.process t _ _ reply h))
+  pub is_given : (o : Request → Permit) (r n : Running P) (reply : Response) → o (g.call r.at.process t) ≡ Give reply
+      → n ≡ record r { at = record r.at { process = g.given r.at.process t reply; rewrites = r.at.rewrites + 1 } } → n ≡ obeyed o r
+  is_given o r n reply h k = k ∙ ap (λ (x : Follower P). record r { at = x }) (sym (judged_give g r.at r.at.process t _ _ reply h))
 
   pub is_passed : (o : Request → Permit) (r n : Running P) → o (g.call r.at.process t) ≡ Pass
       → n ≡ record r { at = record r.at { seen = r.at.seen + 1; rewrites = r.at.rewrites + 1 } } → n ≡ obeyed o r

@@ -37,6 +37,7 @@ toy = record {
   call = λ p t. record { tid = 100; nr = nr_of p.made; args = []; bad = false; payload = [] };
   pc = λ p t. 65536;
   answered = λ p t r. record p { made = p.made + 1 };
+  given = λ p t r. record p { made = p.made + 1 };
   live = λ p. if nat_le 3 p.made then [] else 100 ∷ [];
   ended = λ p. if nat_le 3 p.made then Some 0 else None;
   calls_left = λ p. 3 - p.made;

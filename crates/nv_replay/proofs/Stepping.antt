@@ -158,9 +158,9 @@ module _ {P : Type 0} (g : Behaviour P) (laws : IsProcess g) (judge : Judge) whe
   still_on p q None h l e = h
   still_on p q (Some s) h l e = absurd (laws.ended p (sym l ∙ laws.lives q s h) e)
 
-  given_live : (p : P) (t n : ℕ) (r : Response) → g.pending p t ≡ true → Contains (g.live p) t → is_of_threads (g.call p t).nr ≡ false
+  answer_live : (p : P) (t n : ℕ) (r : Response) → g.pending p t ≡ true → Contains (g.live p) t → is_of_threads (g.call p t).nr ≡ false
       → g.live (g.answered p t r) ≡ g.live p
-  given_live p t n r h k q =
+  answer_live p t n r h k q =
       laws.live_answer p t n r h ∙ quiet_live (g.live p) (event_answered g p t r n) q
 
   pub same_live : (p : P) (t : ℕ) (e : Entry) → g.pending p t ≡ true → Contains (g.live p) t → g.call p t ≡ e.call
@@ -175,10 +175,10 @@ module _ {P : Type 0} (g : Behaviour P) (laws : IsProcess g) (judge : Judge) whe
       → ((r : Response) → o ≡ Consume r → IsQuiet (g.call p t) e) → is_exited (Some f) ≡ false → IsInStep g log (judged g s p t f o)
   unfolding judged
   judged_by log e s p t f (Give r) h i n l q c a b d x =
-      let k = given_live p t 0 r q c (b r refl) ∙ l in record {
+      let k = laws.given_live p t r ∙ (answer_live p t 0 r q c (b r refl) ∙ l) in record {
         within = i.within;
         live = λ m. k ∙ i.live n;
-        on = λ m. still_on s.process (g.answered p t r) (g.ended (g.answered p t r)) refl k (i.on n);
+        on = λ m. still_on s.process (g.given p t r) (g.ended (g.given p t r)) refl k (i.on n);
         exited = λ m. let z = rw n at m in cc;
       }
   judged_by log e s p t f Pass h i n l q c a b d x = record {
@@ -188,7 +188,7 @@ module _ {P : Type 0} (g : Behaviour P) (laws : IsProcess g) (judge : Judge) whe
     exited = λ m. let z = rw n at m in cc;
   }
   judged_by log e s p t f (Consume r) h i n l q c a b d x =
-      let k = given_live p t 0 r q c (d r refl).call ∙ l in record {
+      let k = answer_live p t 0 r q c (d r refl).call ∙ l in record {
         within = omega (arith, within log s.seen e h);
         live = λ m. k ∙ (i.live n ∙ (sym (quiet_live (live_after (take s.seen log)) e (d r refl).event) ∙ sym (live_more (100 ∷ []) log s.seen e h)));
         on = λ m. still_on s.process (g.answered p t r) (g.ended (g.answered p t r)) refl k (i.on n);

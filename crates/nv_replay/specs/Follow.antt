@@ -48,7 +48,7 @@ consumed g s p = record s { process = p; seen = s.seen + 1; fate = option_map Ex
 
 -- the call is another than the event's; `refused` says so where no rule permits it
 unfoldable pub judged : {P : Type 0} → Behaviour P → Follower P → P → ℕ → Fate → Permit → Follower P
-judged g s p t refused (Give reply) = record s { process = g.answered p t reply; rewrites = s.rewrites + 1 }
+judged g s p t refused (Give reply) = record s { process = g.given p t reply; rewrites = s.rewrites + 1 }
 judged g s p t refused Pass = record s { process = p; seen = s.seen + 1; rewrites = s.rewrites + 1 }
 judged g s p t refused (Consume reply) = record s { process = g.answered p t reply; seen = s.seen + 1; rewrites = s.rewrites + 1 }
 judged g s p t refused No = record s { process = p; fate = Some refused }

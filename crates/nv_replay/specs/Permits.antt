@@ -40,7 +40,7 @@ permit c e Skip = passed e
 permit c e Take = took e (taken c e)
 permit c e (Refuse value) = No
 
--- the thread's call has been answered so, where there is such a reply
+-- the thread's call has been given this reply, where there is one
 abbrev pub HasGiven : {P : Type 0} → Behaviour P → Option Response → ℕ → P → P → Bool → Type 0
 HasGiven g None t old new result = (new ≡ old) × (result ≡ false)
-HasGiven g (Some reply) t old new result = (new ≡ g.answered old t reply) × (result ≡ true)
+HasGiven g (Some reply) t old new result = (new ≡ g.given old t reply) × (result ≡ true)

@@ -34,7 +34,7 @@ pub fn give_constant(process: &mut Eager, tid: u32, scratch: &mut Bytes) -> bool
 {
     match constant(process.pending(tid), scratch) {
         Some(ret) => {
-            process.answer(tid, ret, scratch.as_slice());
+            process.give(tid, ret, scratch.as_slice());
             true
         }
         None => false,

@@ -47,7 +47,7 @@ impl Spans {
 
     /// The last one has one event more.
     pub fn grow(&mut self)
-        requires { EndBy 131071 self.old }
+        requires { EndBy 499999999 self.old }
         ensures { self.new ≡ grown self.old }
     {
         let count = self.held.len();

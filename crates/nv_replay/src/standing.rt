@@ -11,5 +11,5 @@ pub struct Standing {
     /// The parts of the log that it led.
     pub led: Spans,
     /// How often a rule answered it otherwise than the log, or passed an event over.
-    pub rewrites: u32,
+    pub rewrites: u64,
 }

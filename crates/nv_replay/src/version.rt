@@ -80,10 +80,20 @@ pub enum Led {
     Dropped(Fate),
 }
 
-#[tactic(auto, using(nv_threads::proofs::ThreadLaws::threads_keeps, nv_threads::proofs::ThreadLaws::threads_falls, nv_threads::proofs::ThreadLaws::threads_asked, nv_threads::proofs::ThreadLaws::threads_live))]
+#[tactic(auto, using(nv_threads::proofs::ThreadLaws::threads_keeps, nv_threads::proofs::ThreadLaws::threads_falls, nv_threads::proofs::ThreadLaws::threads_gives, nv_threads::proofs::ThreadLaws::threads_asked, nv_threads::proofs::ThreadLaws::threads_live))]
 impl Version {
-    /// The version with this number, and whether it may go on ahead of the log; all its memory is taken here.
-    pub fn make(
+    /// The version with this number, which doesn't go on ahead of the log; all its memory is taken here.
+    pub fn make(alloc: Global, index: u32, process: Process) -> Result<Version, AllocError>
+        requires { IsStarted threads process }
+        ensures fresh { IfOk result (IsFresh threads index) }
+        ensures process { IfOk result (λ v. v.at.process ≡ process) }
+        ensures eager { IfOk result (λ v. v.eager ≡ false) }
+    {
+        Version::make_eager(alloc, index, process, false)
+    }
+
+    /// The same, and whether it may go on ahead of the log.
+    pub fn make_eager(
         alloc: Global,
         index: u32,
         process: Process,
@@ -207,7 +217,7 @@ impl Version {
         if error > MOST_ERROR || is_of_threads(self.process.pending(tid).nr) {
             return self.refuse(tid, event, value);
         }
-        self.process.answer(tid, -i32::from(error), &[]);
+        self.process.give(tid, -i32::from(error), &[]);
         self.standing.rewrites += 1;
         Followed::Rewrote(Verdict::Errno(error))
     }
@@ -428,7 +438,7 @@ impl Version {
     }
 
     /// How many of its calls were rewritten; for each an instruction of the budget ran, or an event was seen.
-    pub fn rewrites(&self) -> u32
+    pub fn rewrites(&self) -> u64
         ensures is { result ≡ self.now.at.rewrites }
         ensures few { result ≤ MOST_REWRITES }
     {

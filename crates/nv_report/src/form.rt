@@ -8,7 +8,7 @@ ghost use Rattle.nv_report.specs.Json.{report_object, report_value, json_text};
 use crate::items::{events, versions};
 use crate::values::hex_value;
 use nv_replay::Account;
-use nv_served::SyscallKernel;
+use nv_served::{Recorded, SyscallKernel};
 use serde_json::{Value, json};
 use std::alloc::{AllocError, Global};
 
@@ -24,7 +24,10 @@ fn report_object(
 }
 
 // The report as a value of JSON.
-fn report_value<K: SyscallKernel>(alloc: Global, account: &Account<K>) -> Result<Value, AllocError>
+fn report_value<K: SyscallKernel + Recorded>(
+    alloc: Global,
+    account: &Account<K>,
+) -> Result<Value, AllocError>
     ensures { IfOk result (λ value. view value ≡ report_value (output_of (K.known account.now.kernel) (K.log account.now.kernel))
         (record { log = K.log account.now.kernel; lines = map standing_of account.now.versions.items })) }
 {
@@ -35,7 +38,10 @@ fn report_value<K: SyscallKernel>(alloc: Global, account: &Account<K>) -> Result
 }
 
 /// The report of a run as JSON (RFC 8259): one object on one line, with no newline after it.
-pub fn json<K: SyscallKernel>(alloc: Global, account: &Account<K>) -> Result<String, AllocError>
+pub fn json<K: SyscallKernel + Recorded>(
+    alloc: Global,
+    account: &Account<K>,
+) -> Result<String, AllocError>
     ensures { IfOk result (λ text. string_bytes text ≡ json_text (output_of (K.known account.now.kernel) (K.log account.now.kernel))
         (record { log = K.log account.now.kernel; lines = map standing_of account.now.versions.items })) }
 {

@@ -196,7 +196,7 @@ fn put_span<S: Sink>(sink: &mut S, from: u32, to: u32) -> Put
     )
 }
 
-fn put_rewrites<S: Sink>(sink: &mut S, rewrites: u32) -> Put
+fn put_rewrites<S: Sink>(sink: &mut S, rewrites: u64) -> Put
     ensures { Puts (S.told sink.old) (S.faults sink.old) (rewrites_text rewrites) result (S.told sink.new) (S.faults sink.new) }
 {
     let mut buffer = Buffer::new();

@@ -11,10 +11,10 @@ use crate::versions::put_lines;
 use itoa::Buffer;
 use nv_outside::{Put, Sink, put_pieces};
 use nv_replay::{Account, Version};
-use nv_served::SyscallKernel;
+use nv_served::{Recorded, SyscallKernel};
 
 /// Writes the report of a run. It takes no memory.
-pub fn write<S: Sink, K: SyscallKernel>(sink: &mut S, account: &Account<K>) -> Put
+pub fn write<S: Sink, K: SyscallKernel + Recorded>(sink: &mut S, account: &Account<K>) -> Put
     ensures { Puts (S.told sink.old) (S.faults sink.old)
         (report_text (output_of (K.known account.now.kernel) (K.log account.now.kernel))
         (record { log = K.log account.now.kernel; lines = map standing_of account.now.versions.items }))

@@ -13,7 +13,7 @@ ghost use Rattle.nv_sequence.specs.Passing.{Grows, HasLed, TurnDone, MayHaveTurn
 
 use nv_bpf::Filter;
 use nv_replay::{Fate, Led, Version, follow_all};
-use nv_served::SyscallKernel;
+use nv_served::{Recorded, SyscallKernel};
 
 /// What has become of a version at its turn.
 #[derive(Clone, Copy, Debug, PartialEq, Eq, Drop)]
@@ -27,7 +27,7 @@ pub enum Turned {
 }
 
 /// Follows the log so far, and where it goes on, leads from there.
-pub fn take_turn<K: SyscallKernel>(
+pub fn take_turn<K: SyscallKernel + Recorded>(
     version: &mut Version,
     rules: Option<&Filter>,
     kernel: &mut K,
@@ -70,7 +70,12 @@ fn end_turn(version: &mut Version) -> Turned
 }
 
 /// Leads until the version ends, or until it has made the log as long as one of `hands`.
-pub fn lead_all<K: SyscallKernel>(version: &mut Version, kernel: &mut K, most: u32, hands: &[u32])
+pub fn lead_all<K: SyscallKernel + Recorded>(
+    version: &mut Version,
+    kernel: &mut K,
+    most: u32,
+    hands: &[u32],
+)
     requires leading { IsLiveLeader version.old }
     requires seen { version.old.at.seen ≡ length (K.log kernel.old) }
     requires in_step { IsInStep threads (K.log kernel.old) version.old.at }
@@ -88,7 +93,7 @@ pub fn lead_all<K: SyscallKernel>(version: &mut Version, kernel: &mut K, most: u
 }
 
 /// One call is served and logged, or the version ends; whether it leads on.
-fn next_call<K: SyscallKernel>(
+fn next_call<K: SyscallKernel + Recorded>(
     version: &mut Version,
     kernel: &mut K,
     most: u32,
@@ -115,7 +120,7 @@ fn is_planned(hands: &[u32], length: u32) -> bool
 }
 
 /// One call is served and logged, or the version ends; whether it goes on.
-fn one_call<K: SyscallKernel>(version: &mut Version, kernel: &mut K, most: u32) -> bool
+fn one_call<K: SyscallKernel + Recorded>(version: &mut Version, kernel: &mut K, most: u32) -> bool
     requires leading { IsLiveLeader version.old }
     requires seen { version.old.at.seen ≡ length (K.log kernel.old) }
     requires in_step { IsInStep threads (K.log kernel.old) version.old.at }
@@ -141,7 +146,7 @@ fn one_call<K: SyscallKernel>(version: &mut Version, kernel: &mut K, most: u32) 
 }
 
 /// The call that the version asked is served, logged and answered.
-fn serve_call<K: SyscallKernel>(version: &mut Version, kernel: &mut K, tid: u32)
+fn serve_call<K: SyscallKernel + Recorded>(version: &mut Version, kernel: &mut K, tid: u32)
     requires asked { version.old.asked ≡ Some tid }
     requires pending { threads.pending version.old.at.process tid ≡ true }
     requires lives { Contains (threads.live version.old.at.process) tid }

@@ -19,12 +19,12 @@ use crate::{Turned, take_turn};
 use arrayvec::ArrayVec;
 use nv_bpf::Filter;
 use nv_replay::{Account, Version, follow_all};
-use nv_served::SyscallKernel;
+use nv_served::{Recorded, SyscallKernel};
 
 /// The whole monitor: the versions lead in order, the others follow the log, judged by the rules if there are any. A version that
 /// ends leaves the order, one that has made the log as long as one of `hands` goes to its end; once the process has ended, or
 /// nobody is left, each follows the rest of the log.
-pub fn run<K: SyscallKernel>(
+pub fn run<K: SyscallKernel + Recorded>(
     mut versions: Vec<Version>,
     rules: Option<&Filter>,
     mut kernel: K,
@@ -47,7 +47,7 @@ pub fn run<K: SyscallKernel>(
     Account { kernel, versions }
 }
 
-fn run_all<K: SyscallKernel>(
+fn run_all<K: SyscallKernel + Recorded>(
     versions: &mut [Version],
     rules: Option<&Filter>,
     kernel: &mut K,
@@ -89,7 +89,7 @@ fn fill(order: &mut ArrayVec<u32, 8>, versions: &[Version], number: u32)
 }
 
 /// The turn of the order's first; whether the others still have theirs.
-fn one_turn<K: SyscallKernel>(
+fn one_turn<K: SyscallKernel + Recorded>(
     versions: &mut [Version],
     order: &mut ArrayVec<u32, 8>,
     rules: Option<&Filter>,
@@ -121,7 +121,11 @@ fn one_turn<K: SyscallKernel>(
 }
 
 /// Each version follows the log to its end, or as far as it goes.
-fn follow_rest<K: SyscallKernel>(versions: &mut [Version], rules: Option<&Filter>, kernel: &K)
+fn follow_rest<K: SyscallKernel + Recorded>(
+    versions: &mut [Version],
+    rules: Option<&Filter>,
+    kernel: &K,
+)
     requires rested { AreRested threads (K.log kernel.now) versions.old }
     ensures new { versions.new ≡ map (followed threads (judge_of (option_map (λ f. f.now) rules.entry)) (K.log kernel.now)) versions.old }
     ensures in_step { AreInStep threads (K.log kernel.now) versions.new }
@@ -133,7 +137,7 @@ fn follow_rest<K: SyscallKernel>(versions: &mut [Version], rules: Option<&Filter
 }
 
 /// Follows the log to its end, or as far as it goes.
-fn finish<K: SyscallKernel>(version: &mut Version, rules: Option<&Filter>, kernel: &K)
+fn finish<K: SyscallKernel + Recorded>(version: &mut Version, rules: Option<&Filter>, kernel: &K)
     requires rested { IsRested threads (K.log kernel.now) version.old }
     ensures new { version.new ≡ followed threads (judge_of (option_map (λ f. f.now) rules.entry)) (K.log kernel.now) version.old }
     ensures in_step { IsInStep threads (K.log kernel.now) version.new.at }

@@ -49,8 +49,8 @@ some_live [] t (k, h, e) = absurd (omega arith)
 some_live (x ∷ ts) t c = omega arith
 
 -- a live thread is one of the guest's
-pub guest_lives : (count budget : ℕ) (ts : List Task) (g : List ℕ) (cs : List Call) (t : ℕ) → IsSoundProcess count budget ts g cs → Contains (task_tids ts) t → Contains g t
-guest_lives count budget ts g cs t k c = subst (λ (xs : List ℕ). Contains xs t) (sym (k.same (some_live ts t c))) c
+pub guest_lives : (count budget renewals earlier : ℕ) (ts : List Task) (g : List ℕ) (cs : List Call) (t : ℕ) → IsSoundProcess count budget renewals earlier ts g cs → Contains (task_tids ts) t → Contains g t
+guest_lives count budget renewals earlier ts g cs t k c = subst (λ (xs : List ℕ). Contains xs t) (sym (k.same (some_live ts t c))) c
 
 -- ---- the guest goes on
 
@@ -58,14 +58,14 @@ pub tids_after : (g h : guests.Threaded) (t : ℕ) (m : Machine) → h ≡ guest
     → guests.tids h.threads ≡ guests.tids g.threads
 tids_after g h t m e = ap (λ (x : guests.Threaded). guests.tids x.threads) e ∙ tids_stay g.threads t m.regs
 
-pub with_guest : (count budget : ℕ) (ts : List Task) (g h : List ℕ) (cs : List Call) → IsSoundProcess count budget ts g cs → h ≡ g → IsSoundProcess count budget ts h cs
-with_guest count budget ts g h cs k e = record { within = k.within; same = λ n. e ∙ k.same n; apart = k.apart; own = k.own; eight = k.eight; capacity = k.capacity }
+pub with_guest : (count budget renewals earlier : ℕ) (ts : List Task) (g h : List ℕ) (cs : List Call) → IsSoundProcess count budget renewals earlier ts g cs → h ≡ g → IsSoundProcess count budget renewals earlier ts h cs
+with_guest count budget renewals earlier ts g h cs k e = record { within = k.within; few = k.few; same = λ n. e ∙ k.same n; apart = k.apart; own = k.own; eight = k.eight; capacity = k.capacity }
 
-pub guest_released : (count budget : ℕ) (ts : List Task) (g h : guests.Threaded) (cs : List Call) → IsSoundProcess count budget ts (guests.tids g.threads) cs → h ≡ guests.released g → IsSoundProcess count budget ts (guests.tids h.threads) cs
-guest_released count budget ts g h cs k e = with_guest _ _ _ _ _ _ k (ap (λ (x : guests.Threaded). guests.tids x.threads) e ∙ tids_released g.threads)
+pub guest_released : (count budget renewals earlier : ℕ) (ts : List Task) (g h : guests.Threaded) (cs : List Call) → IsSoundProcess count budget renewals earlier ts (guests.tids g.threads) cs → h ≡ guests.released g → IsSoundProcess count budget renewals earlier ts (guests.tids h.threads) cs
+guest_released count budget renewals earlier ts g h cs k e = with_guest _ _ _ _ _ _ _ _ k (ap (λ (x : guests.Threaded). guests.tids x.threads) e ∙ tids_released g.threads)
 
-pub with_count : (count more budget : ℕ) (ts : List Task) (g : List ℕ) (cs : List Call) → IsSoundProcess count budget ts g cs → more ≤ budget → IsSoundProcess more budget ts g cs
-with_count count more budget ts g cs k e = record { within = e; same = k.same; apart = k.apart; own = k.own; eight = k.eight; capacity = k.capacity }
+pub with_count : (count more budget renewals earlier : ℕ) (ts : List Task) (g : List ℕ) (cs : List Call) → IsSoundProcess count budget renewals earlier ts g cs → more ≤ budget → IsSoundProcess more budget renewals earlier ts g cs
+with_count count more budget renewals earlier ts g cs k e = record { within = e; few = k.few; same = k.same; apart = k.apart; own = k.own; eight = k.eight; capacity = k.capacity }
 
 -- ---- a thread's state changes
 
@@ -85,9 +85,10 @@ length_with (x ∷ ts) t s = by (x.tid == t) (length_with ts t s)
     by true go = refl
     by false go = ap suc go
 
-pub with_task : (count budget : ℕ) (ts : List Task) (g : List ℕ) (cs : List Call) (t : ℕ) (s : TaskState) → IsSoundProcess count budget ts g cs → IsOwn t s → IsSoundProcess count budget (with_state ts t s) g cs
-with_task count budget ts g cs t s k o = record {
+pub with_task : (count budget renewals earlier : ℕ) (ts : List Task) (g : List ℕ) (cs : List Call) (t : ℕ) (s : TaskState) → IsSoundProcess count budget renewals earlier ts g cs → IsOwn t s → IsSoundProcess count budget renewals earlier (with_state ts t s) g cs
+with_task count budget renewals earlier ts g cs t s k o = record {
   within = k.within;
+  few = k.few;
   same = λ n. k.same (subst (λ m. 0 < m) (length_with ts t s) n) ∙ sym (same_tids ts t s);
   apart = ap are_apart (same_tids ts t s) ∙ k.apart;
   own = own_with ts t s k.own o;
@@ -107,8 +108,8 @@ capacity_at [] i d h l = absurd (omega arith)
 capacity_at (x ∷ cs) zero d h l = h.0
 capacity_at (x ∷ cs) (suc i) d h l = capacity_at cs i d h.1 (omega arith)
 
-pub with_call : (count budget : ℕ) (ts : List Task) (g : List ℕ) (cs : List Call) (i : ℕ) (c : Call) → IsSoundProcess count budget ts g cs → 4096 ≤ c.payload.capacity → IsSoundProcess count budget ts g (set cs i c)
-with_call count budget ts g cs i c k r = record { within = k.within; same = k.same; apart = k.apart; own = k.own; eight = length-set cs i c ∙ k.eight; capacity = capacity_with cs i c k.capacity r }
+pub with_call : (count budget renewals earlier : ℕ) (ts : List Task) (g : List ℕ) (cs : List Call) (i : ℕ) (c : Call) → IsSoundProcess count budget renewals earlier ts g cs → 4096 ≤ c.payload.capacity → IsSoundProcess count budget renewals earlier ts g (set cs i c)
+with_call count budget renewals earlier ts g cs i c k r = record { within = k.within; few = k.few; same = k.same; apart = k.apart; own = k.own; eight = length-set cs i c ∙ k.eight; capacity = capacity_with cs i c k.capacity r }
 
 pub map_set : (cs : List Call) (i : ℕ) (c : Call) → map request (set cs i c) ≡ set (map request cs) i (request c)
 map_set [] i c = refl

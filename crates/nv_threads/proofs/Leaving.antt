@@ -142,10 +142,11 @@ more_tids (x ∷ gs) g = ap (λ rest. x.tid ∷ rest) (more_tids gs g)
 
 -- ---- what is kept
 
-pub with_more : (count budget : ℕ) (ts : List Thread) (g h : List ℕ) (cs : List Call) (t child : ℕ) → IsSoundProcess count budget ts g cs → Contains (task_tids ts) t → (Contains (task_tids ts) child → ⊥) → h ≡ g ++ child ∷ []
-    → IsSoundProcess count budget (ts ++ record { tid = child; state = Runs } ∷ []) h cs
-with_more count budget ts g h cs t child k l n e = record {
+pub with_more : (count budget renewals earlier : ℕ) (ts : List Thread) (g h : List ℕ) (cs : List Call) (t child : ℕ) → IsSoundProcess count budget renewals earlier ts g cs → Contains (task_tids ts) t → (Contains (task_tids ts) child → ⊥) → h ≡ g ++ child ∷ []
+    → IsSoundProcess count budget renewals earlier (ts ++ record { tid = child; state = Runs } ∷ []) h cs
+with_more count budget renewals earlier ts g h cs t child k l n e = record {
   within = k.within;
+  few = k.few;
   same = λ _. e ∙ (ap (λ xs. xs ++ child ∷ []) (k.same (some_live ts t l)) ∙ sym (tids_child ts child));
   apart = ap are_apart (tids_child ts child) ∙ apart_more (task_tids ts) child k.apart n;
   own = own_more ts child k.own;
@@ -153,12 +154,13 @@ with_more count budget ts g h cs t child k l n e = record {
   capacity = k.capacity;
 }
 
-pub with_less : (count budget : ℕ) (ts : List Thread) (gs : List GuestThread) (h : List ℕ) (cs ds : List Call) (t : ℕ) → IsSoundProcess count budget ts (guests.tids gs) cs → Contains (task_tids ts) t
-    → h ≡ guests.tids (guests.dropped gs t) → length ds ≡ 8 → HaveCapacity ds → IsSoundProcess count budget (filter (others t) ts) h ds
-with_less count budget ts gs h cs ds t k l e n r =
+pub with_less : (count budget renewals earlier : ℕ) (ts : List Thread) (gs : List GuestThread) (h : List ℕ) (cs ds : List Call) (t : ℕ) → IsSoundProcess count budget renewals earlier ts (guests.tids gs) cs → Contains (task_tids ts) t
+    → h ≡ guests.tids (guests.dropped gs t) → length ds ≡ 8 → HaveCapacity ds → IsSoundProcess count budget renewals earlier (filter (others t) ts) h ds
+with_less count budget renewals earlier ts gs h cs ds t k l e n r =
     let same = k.same (some_live ts t l) in
     record {
       within = k.within;
+      few = k.few;
       same = λ _. e ∙ (dropped_tids gs t (ap are_apart same ∙ k.apart) ∙ (ap (λ xs. filter (λ u. not (u == t)) xs) same ∙ sym (tids_filter ts t)));
       apart = ap are_apart (tids_filter ts t) ∙ apart_filter t (task_tids ts) k.apart;
       own = own_filter t ts k.own;

@@ -1,5 +1,5 @@
 -- A process of several threads keeps the laws of a process.
-use Rattle.std.proofs.Common.{◌≡◌, ◌∙◌, sym, ap, subst, refl, ℕ, zero, suc, ◌+◌, ◌<◌, ◌≤◌, ◌⊎◌, inl, inr, Bool, true, false, cond, ◌==◌, ◌&&◌, not, List, [], ◌∷◌, ◌++◌, length, Option, Some, None, arith}
+use Rattle.std.proofs.Common.{◌≡◌, ◌∙◌, sym, ap, subst, refl, ℕ, zero, suc, ◌+◌, ◌-◌, ◌*◌, ◌<◌, ◌≤◌, ◌⊎◌, inl, inr, Bool, true, false, cond, ◌==◌, ◌&&◌, not, List, [], ◌∷◌, ◌++◌, length, Option, Some, None, arith}
 use Rattle.std.specs.Prelude.{Contains, filter, is_some}
 use Rattle.std.specs.List.{list_any}
 use Rattle.std.proofs.lemmas.Bool.Decides.{nat_tests}
@@ -12,7 +12,7 @@ use Rattle.nv_machine.specs.declared.outcome.Stepped.{Stepped}
 use Rattle.nv_machine.specs.declared.outcome.Stepped.TheVariants.{On, Call, Fault as Faults}
 use Rattle.nv_guest.specs.Calls.{call_number}
 use Rattle.nv_threads.specs.Behaviours.{IsProcess}
-use Rattle.nv_threads.specs.Threads.{Proc, TaskState, Runs, Asks, Waits, Task, task_tids, state_at, with_state, is_asking, asks, waiting_calls, next_tid, turn_passed, machine, local, asking, called, ran, ended_by, one_run, instruction, wanted, moves, moves_task, can_move, unless_live, is_on, faulted, turn_step, unless_came, steps, most_steps, advanced, exited, left_by, goes_on, with_child_task, after_call, answered_by, call_in, is_sole, threads}
+use Rattle.nv_threads.specs.Threads.{Proc, renewed, count_of, TaskState, Runs, Asks, Waits, Task, task_tids, state_at, with_state, is_asking, asks, waiting_calls, next_tid, turn_passed, machine, local, asking, called, ran, ended_by, one_run, instruction, wanted, moves, moves_task, can_move, unless_live, is_on, faulted, turn_step, unless_came, steps, most_steps, advanced, exited, left_by, goes_on, with_child_task, after_call, answered_by, call_in, is_sole, threads}
 use Rattle.nv_threads.proofs.Quiet.{Quiet, same_tids, calls_more, local_quiet, passed_quiet}
 use Rattle.nv_threads.specs.declared.turns.Came.{Came}
 use Rattle.nv_threads.specs.declared.turns.Came.TheVariants.{Asked}
@@ -26,6 +26,7 @@ pub record Step (w : Want) (p : Proc) (r : Option Came × Proc) : Type 0 where
   pub asked : (t : ℕ) → r.0 ≡ Some (Asked t) → (t ≡ wanted w p) × (is_asking (state_at p.tasks t) ≡ true) × (r.1 ≡ p)
   pub live : task_tids r.1.tasks ≡ task_tids p.tasks
   pub calls : r.1.left + waiting_calls r.1.tasks ≤ p.left + waiting_calls p.tasks
+  pub more : r.1.renewals * r.1.budget ≡ p.renewals * p.budget
   pub turn : (r.1.turn ≡ p.turn) ⊎ (r.1.turn ≡ next_tid p.turn (task_tids p.tasks))
 
 -- one call more at most
@@ -33,25 +34,26 @@ pub record Louder (p q : Proc) : Type 0 where
   pub live : task_tids q.tasks ≡ task_tids p.tasks
   pub calls : waiting_calls q.tasks ≤ waiting_calls p.tasks + 1
   pub left : q.left ≡ p.left
+  pub more : q.renewals * q.budget ≡ p.renewals * p.budget
   pub turn : (q.turn ≡ p.turn) ⊎ (q.turn ≡ next_tid p.turn (task_tids p.tasks))
 
 louder : (p q : Proc) → Quiet p q → Louder p q
-louder p q h = record { live = h.live; calls = omega (arith, h.calls); left = h.left; turn = h.turn }
+louder p q h = record { live = h.live; calls = omega (arith, h.calls); left = h.left; more = h.more; turn = h.turn }
 
 pub called_is : (p : Proc) (n : ℕ) (b : Bool) → Louder p (cond b (local n p) (asking p))
 called_is p n true = louder p _ (local_quiet n p)
-called_is p n false = record { live = same_tids p.tasks p.turn _; calls = calls_more p.tasks p.turn _; left = refl; turn = inl refl }
+called_is p n false = record { live = same_tids p.tasks p.turn _; calls = calls_more p.tasks p.turn _; left = refl; more = refl; turn = inl refl }
 
 ends : (w : Want) (p : Proc) (s : Stepped) (m : Machine) → 0 < p.left → Step w p (ended_by s (ran (one_run p) m))
-ends w p On m h = record { asked = λ t e. cc; live = refl; calls = omega (arith, h); turn = inl refl }
+ends w p On m h = record { asked = λ t e. cc; live = refl; calls = omega (arith, h); more = refl; turn = inl refl }
 ends w p Call m h =
     let q : Proc = ran (one_run p) m in
     let l : Louder q (called q) = called_is q (call_number (machine q)) (is_local (call_number (machine q))) in
-    record { asked = λ t e. cc; live = l.live; calls = omega (arith, h, l.calls, l.left); turn = l.turn }
-ends w p (Faults kind) m h = record { asked = λ t e. cc; live = refl; calls = omega (arith, h); turn = inl refl }
+    record { asked = λ t e. cc; live = l.live; calls = omega (arith, h, l.calls, l.left); more = l.more; turn = l.turn }
+ends w p (Faults kind) m h = record { asked = λ t e. cc; live = refl; calls = omega (arith, h); more = refl; turn = inl refl }
 
 live_or : (p : Proc) (b : Bool) → Quiet p (cond b p (turn_passed p))
-live_or p true = record { live = refl; calls = omega arith; left = refl; turn = inl refl }
+live_or p true = record { live = refl; calls = omega arith; left = refl; more = refl; turn = inl refl }
 live_or p false = passed_quiet p
 
 by_rules : (w : Want) (p : Proc) (b1 b2 b3 b4 : Bool) → is_asking (state_at p.tasks (wanted w p)) ≡ b1 → (p.left == 0) ≡ b4
@@ -60,13 +62,14 @@ by_rules w p true b2 b3 b4 h k = record {
   asked = λ t e. (let z : wanted w p ≡ t = cc in (sym z, subst (λ (x : ℕ). is_asking (state_at p.tasks x) ≡ true) z h, refl));
   live = refl;
   calls = omega arith;
+  more = refl;
   turn = inl refl;
 }
 by_rules w p false false b3 b4 h k =
     let q = live_or p (is_some (state_at p.tasks p.turn)) in
-    record { asked = λ t e. cc; live = q.live; calls = omega (arith, q.calls, q.left); turn = q.turn }
-by_rules w p false true false b4 h k = let q = passed_quiet p in record { asked = λ t e. cc; live = q.live; calls = omega arith; turn = q.turn }
-by_rules w p false true true true h k = record { asked = λ t e. cc; live = refl; calls = omega arith; turn = inl refl }
+    record { asked = λ t e. cc; live = q.live; calls = omega (arith, q.calls, q.left); more = q.more; turn = q.turn }
+by_rules w p false true false b4 h k = let q = passed_quiet p in record { asked = λ t e. cc; live = q.live; calls = omega arith; more = q.more; turn = q.turn }
+by_rules w p false true true true h k = record { asked = λ t e. cc; live = refl; calls = omega arith; more = refl; turn = inl refl }
 by_rules w p false true true false h k = let n : 0 < p.left = grind (arith, nat_tests) in ends w p (guest_step (machine p)).0 (guest_step (machine p)).1 n
 
 pub step_is : (w : Want) (p : Proc) → Step w p (turn_step w p)
@@ -79,20 +82,22 @@ record Gone (w : Want) (p : Proc) (r : Came × Proc) : Type 0 where
   asked : (t : ℕ) → r.0 ≡ Asked t → (t ≡ wanted w r.1) × (is_asking (state_at r.1.tasks t) ≡ true)
   live : task_tids r.1.tasks ≡ task_tids p.tasks
   calls : r.1.left + waiting_calls r.1.tasks ≤ p.left + waiting_calls p.tasks
+  more : r.1.renewals * r.1.budget ≡ p.renewals * p.budget
 
 gone_by : (w : Want) (n : ℕ) (p : Proc) (r : Option Came × Proc) → Step w p r → ((q : Proc) → Gone w q (steps w n q)) → Gone w p (unless_came (steps w n) r)
 gone_by w n p (None, q) s go =
     let g : Gone w q (steps w n q) = go q in
-    record { asked = g.asked; live = g.live ∙ s.live; calls = omega (arith, g.calls, s.calls) }
+    record { asked = g.asked; live = g.live ∙ s.live; calls = omega (arith, g.calls, s.calls); more = g.more ∙ s.more }
 gone_by w n p (Some came, q) s go = record {
   asked = λ t e. (let a = s.asked t (ap (λ (x : Came). Some x) e) in (a.0 ∙ ap (wanted w) (sym a.2), subst (λ (x : Proc). is_asking (state_at x.tasks t) ≡ true) (sym a.2) a.1));
   live = s.live;
   calls = s.calls;
+  more = s.more;
 }
 
 gone : (w : Want) (n : ℕ) (p : Proc) → Gone w p (steps w n p)
 unfolding steps
-gone w zero p = record { asked = λ t e. cc; live = refl; calls = omega arith }
+gone w zero p = record { asked = λ t e. cc; live = refl; calls = omega arith; more = refl }
 gone w (suc n) p = gone_by w n p (turn_step w p) (step_is w p) (gone w n)
 
 gone_is : (w : Want) (p : Proc) → Gone w p (advanced w p)
@@ -197,6 +202,10 @@ child_left : (p : Proc) (t : ℕ) (m : Option ℕ) → (with_child_task p t m).l
 child_left p t None = refl
 child_left p t (Some child) = refl
 
+child_more : (p : Proc) (t : ℕ) (m : Option ℕ) → (with_child_task p t m).renewals * (with_child_task p t m).budget ≡ p.renewals * p.budget
+child_more p t None = refl
+child_more p t (Some child) = refl
+
 child_turn : (p : Proc) (t : ℕ) (m : Option ℕ) → (with_child_task p t m).turn ≡ p.turn
 child_turn p t None = refl
 child_turn p t (Some child) = refl
@@ -208,18 +217,47 @@ answer_live p t c r true b93 = refl
 answer_live p t c r false true = tids_filter p.tasks t
 answer_live p t c r false false = same_tids _ t Runs ∙ child_tids p t (made c.nr r.ret)
 
+-- how many calls a process can still make at most
+abbrev calls_by : Proc → ℕ
+calls_by p = p.renewals * p.budget + p.left + waiting_calls p.tasks
+
 answer_falls : (p : Proc) (t : ℕ) (c : Request) (r : Response) (b94 b93 : Bool) (q : Proc)
     → q ≡ cond b94 (exited p (status_of c)) (cond b93 (left_by p t (status_of c)) (goes_on (with_child_task p t (made c.nr r.ret)) t r))
-    → is_asking (state_at p.tasks t) ≡ true → q.left + waiting_calls q.tasks < p.left + waiting_calls p.tasks
+    → is_asking (state_at p.tasks t) ≡ true → calls_by q < calls_by p
 answer_falls p t c r true b93 q e h = rw e (omega (arith, some_call p.tasks t h))
 answer_falls p t c r false true q e h = rw e (omega (arith, calls_left_out p.tasks t h))
-answer_falls p t c r false false q e h = rw e (omega (arith, child_calls p t (made c.nr r.ret) h, child_left p t (made c.nr r.ret)))
+answer_falls p t c r false false q e h = rw e (omega (arith, child_calls p t (made c.nr r.ret) h, child_left p t (made c.nr r.ret), child_more p t (made c.nr r.ret)))
 
 answer_turn : (p : Proc) (t : ℕ) (c : Request) (r : Response) (b94 b93 : Bool)
     → (cond b94 (exited p (status_of c)) (cond b93 (left_by p t (status_of c)) (goes_on (with_child_task p t (made c.nr r.ret)) t r))).turn ≡ p.turn
 answer_turn p t c r true b93 = refl
 answer_turn p t c r false true = refl
 answer_turn p t c r false false = child_turn p t (made c.nr r.ret)
+
+-- ---- the count begins anew
+
+times_less : (r b : ℕ) → (r == 0) ≡ false → (r - 1) * b + b ≡ r * b
+times_less zero b h = cc
+times_less (suc n) b h =
+    let less : suc n - 1 ≡ n = omega arith in
+    let one_more : suc n * b ≡ n * b + b = grind arith in
+    ap (λ m. m * b + b) less ∙ sym one_more
+
+-- no more calls than before
+renewed_calls : (p : Proc) (b : Bool) → (p.renewals == 0) ≡ b → calls_by (cond b p (record p { left = p.budget; renewals = p.renewals - 1; earlier = count_of p })) ≤ calls_by p
+renewed_calls p true h = omega arith
+renewed_calls p false h = let same = times_less p.renewals p.budget h in omega (arith, same)
+
+renewed_tasks : (p : Proc) (b : Bool) → (cond b p (record p { left = p.budget; renewals = p.renewals - 1; earlier = count_of p })).tasks ≡ p.tasks
+renewed_tasks p true = refl
+renewed_tasks p false = refl
+
+renewed_turn : (p : Proc) (b : Bool) → (cond b p (record p { left = p.budget; renewals = p.renewals - 1; earlier = count_of p })).turn ≡ p.turn
+renewed_turn p true = refl
+renewed_turn p false = refl
+
+same_task_tids : (p : Proc) → task_tids (renewed p).tasks ≡ task_tids p.tasks
+same_task_tids p = ap task_tids (renewed_tasks p (p.renewals == 0))
 
 -- ---- one thread alone
 
@@ -339,6 +377,9 @@ ended_lives : (tasks : List Task) (status s : ℕ) → ended_as tasks status ≡
 ended_lives [] status s h = refl
 ended_lives (t ∷ ts) status s h = let z : (length (t ∷ ts) == 0) ≡ false = grind (arith, nat_tests) in let k = rw z at h in cc
 
+given_falls : (p : Proc) (t : ℕ) (r : Response) → is_asking (state_at p.tasks t) ≡ true → calls_by (answered_by p t (call_in (state_at p.tasks t)) r) < calls_by p
+given_falls p t r h = let c = call_in (state_at p.tasks t) in answer_falls p t c r (c.nr == 94) (c.nr == 93) (after_call p t c.nr (status_of c) r) refl h
+
 pub thread_laws : IsProcess threads
 unfolding threads
 thread_laws = record {
@@ -350,10 +391,10 @@ thread_laws = record {
       ap (λ (r : Came × Proc). r.1) (at_once w (advanced w p).1 (subst (λ (x : ℕ). is_asking (state_at (advanced w p).1.tasks x) ≡ true) a.0 a.1)));
   only = λ p t u c h. ((gone_is (Only t) p).asked u h).0;
   any = λ p t e h. (let g = gone_is Any p in subst (λ (ts : List ℕ). Contains ts t) g.live (lives_at (advanced Any p).1.tasks t (g.asked t h).1));
-  keeps = λ p w. (gone_is w p).calls;
-  falls = λ p t r h. (let c = call_in (state_at p.tasks t) in answer_falls p t c r (c.nr == 94) (c.nr == 93) (after_call p t c.nr (status_of c) r) refl h);
+  keeps = λ p w. (let g = gone_is w p in omega (arith, g.calls, g.more));
+  falls = λ p t r h. (let q = answered_by p t (call_in (state_at p.tasks t)) r in omega (arith, given_falls p t r h, renewed_calls q (q.renewals == 0) refl));
   live_after = λ p w. (gone_is w p).live;
-  live_answer = λ p t n r h. (let c = call_in (state_at p.tasks t) in answer_live p t c r (c.nr == 94) (c.nr == 93));
+  live_answer = λ p t n r h. (let c = call_in (state_at p.tasks t) in same_task_tids (answered_by p t c r) ∙ answer_live p t c r (c.nr == 94) (c.nr == 93));
   ended = λ p h e. none_lives p.tasks p.status h e;
   lives = λ p s e. ended_lives p.tasks p.status s e;
   sole = λ p t h c. sole_at (task_tids p.tasks) t (alone_parts p h).sole c;
@@ -361,10 +402,13 @@ thread_laws = record {
   alone_after = λ p h. ap (λ (r : Came × Proc). r.1) (advanced_same p (alone_parts p h));
   stays_alone = λ p w h. alone_whole (advanced w p).1 (advanced_alone w p (alone_parts p h));
   alone_answer = λ p t n r h k. (let c = call_in (state_at p.tasks t) in let a = alone_parts p h in
-      alone_whole (answered_by p t c r) (record {
-        sole = ap is_sole (answer_live p t c r (c.nr == 94) (c.nr == 93)) ∙ answer_sole (task_tids p.tasks) t (made c.nr r.ret) (c.nr == 94) (c.nr == 93) a.sole k;
-        turn = answer_turn p t c r (c.nr == 94) (c.nr == 93) ∙ a.turn;
+      let q = answered_by p t c r in
+      alone_whole (renewed q) (record {
+        sole = ap is_sole (same_task_tids q ∙ answer_live p t c r (c.nr == 94) (c.nr == 93)) ∙ answer_sole (task_tids p.tasks) t (made c.nr r.ret) (c.nr == 94) (c.nr == 93) a.sole k;
+        turn = renewed_turn q (q.renewals == 0) ∙ (answer_turn p t c r (c.nr == 94) (c.nr == 93) ∙ a.turn);
       }));
+  gives = given_falls;
+  given_live = λ p t r. sym (same_task_tids (answered_by p t (call_in (state_at p.tasks t)) r));
 }
 
 -- each law of use by its name
@@ -374,6 +418,10 @@ threads_keeps p w = thread_laws.keeps p w
 pub threads_falls : (p : Proc) (t : ℕ) (r : Response) → threads.pending p t ≡ true
     → threads.calls_left (threads.answered p t r) < threads.calls_left p
 threads_falls p t r h = thread_laws.falls p t r h
+
+pub threads_gives : (p : Proc) (t : ℕ) (r : Response) → threads.pending p t ≡ true
+    → threads.calls_left (threads.given p t r) < threads.calls_left p
+threads_gives p t r h = thread_laws.gives p t r h
 
 pub threads_asked : (p : Proc) (w : Want) (t : ℕ) → threads.came p w ≡ Asked t → threads.pending (threads.after p w) t ≡ true
 threads_asked p w t h = thread_laws.asked p w t h

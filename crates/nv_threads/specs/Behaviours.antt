@@ -16,8 +16,9 @@ pub record Behaviour (P : Type 0) : Type 0 where
   pub pending : P → ℕ → Bool
   pub call : P → ℕ → Request
   pub pc : P → ℕ → ℕ
-  -- the process once that thread has this answer
+  -- the process once that thread has this answer, from an event; and once it is given one that no event has
   pub answered : P → ℕ → Response → P
+  pub given : P → ℕ → Response → P
   pub live : P → List ℕ
   pub ended : P → Option ℕ
   -- how many calls it can still make at most
@@ -53,10 +54,17 @@ pub record IsProcess {P : Type 0} (g : Behaviour P) : Type 0 where
   pub stays_alone : (p : P) (w : Want) → g.is_alone p ≡ true → g.is_alone (g.after p w) ≡ true
   pub alone_answer : (p : P) (t n : ℕ) (r : Response) → g.is_alone p ≡ true → child_of (event_answered g p t r n) ≡ None
       → g.is_alone (g.answered p t r) ≡ true
+  -- an answer that no event has is another call made, and changes the live threads as the same answer of an event does
+  pub gives : (p : P) (t : ℕ) (r : Response) → g.pending p t ≡ true → g.calls_left (g.given p t r) < g.calls_left p
+  pub given_live : (p : P) (t : ℕ) (r : Response) → g.live (g.given p t r) ≡ g.live (g.answered p t r)
+
+-- one for each instruction of the greatest budget, at the start and after each event of the longest log, and one for each thread
+abbrev pub MOST_CALLS : ℕ
+MOST_CALLS = 500000001000000008
 
 -- a process as it was made: the first thread alone lives, and it has made no call
 pub record IsStarted {P : Type 0} (g : Behaviour P) (p : P) : Type 0 where
   pub live : g.live p ≡ FIRST_THREAD ∷ []
   pub on : g.ended p ≡ None
   pub alone : g.is_alone p ≡ true
-  pub few : g.calls_left p ≤ 1000000008
+  pub few : g.calls_left p ≤ MOST_CALLS

@@ -6,7 +6,7 @@ use Rattle.nv_calls.specs.Calls.{Request, Response, status_of}
 use Rattle.nv_calls.specs.Logs.{made}
 use Rattle.nv_calls.specs.Numbers.{EXIT, EXIT_GROUP, is_local}
 use Rattle.nv_calls.specs.Errors.{EFAULT, EAGAIN, ENOSYS, EINVAL}
-use Rattle.nv_calls.specs.Limits.{FIRST_THREAD}
+use Rattle.nv_calls.specs.Limits.{FIRST_THREAD, MOST_EVENTS}
 use Rattle.nv_memory.specs.declared.region.Access.{Access}
 use Rattle.nv_memory.specs.declared.region.Width.TheVariants.{Four}
 use Rattle.nv_memory.specs.declared.region.Right.TheVariants.{Read}
@@ -76,7 +76,8 @@ lesser t (Some u) = min t u
 -- ---- the process
 
 -- The guest, its live threads in the order in which they came, the turn's thread with the instructions that it has left, the instructions
--- left of the budget, the budget, and the status that the last call to exit gave.
+-- left of the budget, the budget, how often its count may still begin anew, how many instructions had been run when it last did, and the status that
+-- the last call to exit gave.
 pub record Proc : Type 0 where
   pub guest : Threaded
   pub tasks : List Task
@@ -84,27 +85,39 @@ pub record Proc : Type 0 where
   pub slice : ℕ
   pub left : ℕ
   pub budget : ℕ
+  pub renewals : ℕ
+  pub earlier : ℕ
   pub status : ℕ
 
 -- how many instructions a turn has
 unfoldable pub turn_length : ℕ
 turn_length = 1000
 
+-- the count begins anew at each event of the longest log, or never
+abbrev pub renewals_of : Bool → ℕ
+renewals_of renews = if renews then MOST_EVENTS else 0
+
 -- as it is made
-abbrev pub started : Machine → ℕ → Proc
-started m budget = record {
+abbrev pub started : Machine → ℕ → Bool → Proc
+started m budget renews = record {
   guest = one_thread m;
   tasks = record { tid = FIRST_THREAD; state = Runs } ∷ [];
   turn = FIRST_THREAD;
   slice = turn_length;
   left = budget;
   budget = budget;
+  renewals = renewals_of renews;
+  earlier = 0;
   status = 0;
 }
 
 -- how many instructions it has run
 abbrev pub count_of : Proc → ℕ
-count_of p = p.budget - p.left
+count_of p = p.earlier + (p.budget - p.left)
+
+-- the count of the budget's instructions begins anew, where it may
+abbrev pub renewed : Proc → Proc
+renewed p = if p.renewals == 0 then p else record p { left = p.budget; renewals = p.renewals - 1; earlier = count_of p }
 
 -- the greatest number of a thread that lives; 0 where none does
 abbrev pub greatest : List ℕ → ℕ
@@ -344,9 +357,10 @@ threads = record {
   pending = λ p t. is_asking (state_at p.tasks t);
   call = λ p t. record (call_in (state_at p.tasks t)) { tid = t };
   pc = λ p t. (machine_at p.guest t).regs.pc;
-  answered = λ p t r. answered_by p t (call_in (state_at p.tasks t)) r;
+  answered = λ p t r. renewed (answered_by p t (call_in (state_at p.tasks t)) r);
+  given = λ p t r. answered_by p t (call_in (state_at p.tasks t)) r;
   live = λ p. task_tids p.tasks;
   ended = λ p. if length p.tasks == 0 then Some p.status else None;
-  calls_left = λ p. p.left + waiting_calls p.tasks;
+  calls_left = λ p. p.renewals * p.budget + p.left + waiting_calls p.tasks;
   is_alone = λ p. is_sole (task_tids p.tasks) && (p.turn == FIRST_THREAD);
 }

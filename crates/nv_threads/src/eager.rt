@@ -126,6 +126,17 @@ impl Eager {
         self.ahead = Ahead::Stays;
     }
 
+    /// The thread gets an answer to its call that is of no event.
+    pub fn give(&mut self, tid: u32, ret: i32, payload: &[u8])
+        requires pending { threads.pending self.old.process tid ≡ true }
+        requires new { IsNew (threads.live self.old.process) (made (threads.call self.old.process tid).nr ret) }
+        ensures { self.new ≡ record self.old { process = threads.given self.old.process tid (record { ret = ret; payload = payload.now }) } }
+    {
+        self.process.give(tid, ret, payload);
+        self.known = Snapshot::of(&self.process);
+        self.ahead = Ahead::Stays;
+    }
+
     /// The exit status, once it has exited.
     pub fn ended(&self) -> Option<u8>
         ensures { result ≡ threads.ended self.now.process }

@@ -6,7 +6,7 @@ ghost use Rattle.nv_calls.specs.Shapes.{IsShaped};
 ghost use Rattle.nv_guest.specs.Guest.{machine_of, one_thread};
 ghost use Rattle.nv_guest.specs.Threads.{break_after, tids as guest_tids};
 ghost use Rattle.nv_threads.specs.Behaviours.{IsStarted};
-ghost use Rattle.nv_threads.specs.Threads.{threads, started, count_of, greatest, state_at, is_running, is_asking, wanted, can_move, is_on, faulted, unless_live, turn_passed, all_unreserved, turn_replied, own_answer, local, woken_one, woken, waiting, operation, futex, futex_by, futex_on, called, machine, task_tids, exited, left_by, brk, broken, with_child_task, goes_on, after_call, answered_as};
+ghost use Rattle.nv_threads.specs.Threads.{threads, started, renewals_of, renewed, count_of, greatest, state_at, is_running, is_asking, wanted, can_move, is_on, faulted, unless_live, turn_passed, all_unreserved, turn_replied, own_answer, local, woken_one, woken, waiting, operation, futex, futex_by, futex_on, called, machine, task_tids, exited, left_by, brk, broken, with_child_task, goes_on, after_call, answered_as};
 ghost use Rattle.nv_threads.specs.Going.{Goes, burst};
 ghost use Rattle.nv_threads.specs.inner.Process.{HaveCapacity};
 ghost use Rattle.nv_threads.specs.Ahead.{HasGone};
@@ -18,7 +18,9 @@ use crate::tasks::{
 use crate::{Ahead, Came, FaultKind, Want};
 use arrayvec::ArrayVec;
 use nv_calls::errors::{EAGAIN, EFAULT, EINVAL, ENOSYS};
-use nv_calls::{Bytes, Call, EXIT, EXIT_GROUP, FIRST_THREAD, MOST_BYTES, MOST_THREADS, made};
+use nv_calls::{
+    Bytes, Call, EXIT, EXIT_GROUP, FIRST_THREAD, MOST_BYTES, MOST_EVENTS, MOST_THREADS, made,
+};
 use nv_guest::{Asked, Guest};
 use nv_machine::Stepped;
 use nv_memory::Width;
@@ -39,8 +41,13 @@ pub struct Process {
     turn: u32,
     /// How many instructions the turn has left.
     slice: u32,
+    /// How many of the budget it has run since the count last began anew.
     count: u32,
     budget: u32,
+    /// How often the count may still begin anew.
+    renewals: u32,
+    /// How many instructions it had run when the count last began anew.
+    earlier: u64,
     status: u8,
 }
 
@@ -54,19 +61,25 @@ impl Model for Process {
 
     ghost Value = { Proc };
 
-    ghost view = { λ p. record { guest = p.guest; tasks = threads_of p.tasks.items (map request p.calls.items); turn = p.turn; slice = p.slice; left = p.budget - p.count; budget = p.budget; status = p.status } };
+    ghost view = { λ p. record { guest = p.guest; tasks = threads_of p.tasks.items (map request p.calls.items); turn = p.turn; slice = p.slice; left = p.budget - p.count; budget = p.budget; renewals = p.renewals; earlier = p.earlier; status = p.status } };
 
-    ghost invariant = { λ p. IsSoundProcess p.count p.budget (threads_of p.tasks.items (map request p.calls.items)) (tids p.guest.threads) p.calls.items };
+    ghost invariant = { λ p. IsSoundProcess p.count p.budget p.renewals p.earlier (threads_of p.tasks.items (map request p.calls.items)) (tids p.guest.threads) p.calls.items };
 }
 
 #[tactic(auto, unfolding(crate::specs::Threads::threads))]
 impl Process {
-    /// The process of a guest that hasn't run, whose one thread is 100; all its memory is taken here.
+    /// The process of a guest that hasn't run, whose one thread is 100; all its memory is taken here. Where it renews, the count of its
+    /// instructions begins anew at each answer.
     #[tactic(auto, unfolding(crate::specs::Threads::threads, crate::specs::Threads::turn_length))]
-    pub fn make(alloc: Global, guest: Guest, budget: u32) -> Result<Process, AllocError>
+    pub fn make(
+        alloc: Global,
+        guest: Guest,
+        budget: u32,
+        renews: bool,
+    ) -> Result<Process, AllocError>
         requires alone { guest ≡ one_thread (machine_of guest) }
         requires budget { budget ≤ 1000000000 }
-        ensures process { IfOk result (λ p. p ≡ started (machine_of guest) budget) }
+        ensures process { IfOk result (λ p. p ≡ started (machine_of guest) budget renews) }
         ensures started { IfOk result (IsStarted threads) }
     {
         let calls = eight_calls(alloc)?;
@@ -83,6 +96,8 @@ impl Process {
             slice: TURN,
             count: 0,
             budget,
+            renewals: renewals(renews),
+            earlier: 0,
             status: 0,
         })
     }
@@ -403,10 +418,10 @@ impl Process {
     }
 
     /// How many instructions it has run.
-    pub fn count(&self) -> u32
+    pub fn count(&self) -> u64
         ensures { result ≡ count_of self.now }
     {
-        self.count
+        self.earlier + u64::from(self.count)
     }
 
     /// Whether the thread lives.
@@ -424,11 +439,32 @@ impl Process {
         highest(&self.tasks)
     }
 
-    /// The thread gets the answer to its call.
+    /// The thread gets the answer to its call, and the count of instructions begins anew where it may.
     pub fn answer(&mut self, tid: u32, ret: i32, payload: &[u8])
         requires pending { threads.pending self.old tid ≡ true }
         requires new { IsNew (threads.live self.old) (made (threads.call self.old tid).nr ret) }
         ensures { self.new ≡ threads.answered self.old tid (record { ret = ret; payload = payload.now }) }
+    {
+        self.give(tid, ret, payload);
+        self.renew();
+    }
+
+    fn renew(&mut self)
+        ensures { self.new ≡ renewed self.old }
+    {
+        if self.renewals == 0 {
+            return;
+        }
+        self.renewals -= 1;
+        self.earlier += u64::from(self.count);
+        self.count = 0;
+    }
+
+    /// The thread gets an answer to its call that is of no event: the count of instructions goes on.
+    pub fn give(&mut self, tid: u32, ret: i32, payload: &[u8])
+        requires pending { threads.pending self.old tid ≡ true }
+        requires new { IsNew (threads.live self.old) (made (threads.call self.old tid).nr ret) }
+        ensures { self.new ≡ threads.given self.old tid (record { ret = ret; payload = payload.now }) }
     {
         let place = place(&self.tasks, tid);
         let nr = self.calls[place].nr;
@@ -524,6 +560,13 @@ impl Process {
             None
         }
     }
+}
+
+// How often the count of a process may begin anew: at each event of the longest log, or never.
+fn renewals(renews: bool) -> u32
+    ensures { result ≡ renewals_of renews }
+{
+    if renews { MOST_EVENTS } else { 0 }
 }
 
 // The call at this place goes to the end.

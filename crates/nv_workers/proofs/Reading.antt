@@ -124,7 +124,7 @@ module _ {judges : ℕ → Judge} {most : ℕ} {hands : List ℕ} {T : Type 0} {
   pub stamp_is : h.event.stamp ≡ v.at.seen
   stamp_is = may.stamp ∙ sym held_reading.seen
 
-  pub is_below : v.at.seen < 131072
+  pub is_below : v.at.seen < 500000000
   is_below = rw (held_reading.seen) may.few
 
   lives_as : threads.live v.at.process ≡ live_after (take (length h.log) (h.log ++ h.event ∷ []))

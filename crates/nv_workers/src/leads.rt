@@ -121,8 +121,7 @@ fn publish_call<K: SyscallKernel, G: Gate>(
     ensures steps { Stepped (stations_of room.now) (lead_view lead.old) (lead_view lead.new) }
 {
     publish(lead, room, version.pending(tid));
-    let at = version.standing().seen as usize;
-    let event = &lead.kernel().history()[at];
+    let event = lead.kernel().last();
     version.answered(event);
     gate.after_publish(leader(lead), event);
 }

@@ -53,8 +53,7 @@ pub(crate) enum Seat<K: SyscallKernel> {
     Moving,
 }
 
-// In how many turns a version may go on while it waits: each of them runs an instruction of its budget at least, of which there
-// are no more.
+// In how many turns a version may go on while it waits. One that has used them up waits as any other, and its calls come later.
 const MOST_AHEAD: u32 = 1_000_000_000;
 
 /// A version with its seat in a room.
@@ -280,7 +279,7 @@ fn take_lead<K: SyscallKernel>(version: &mut Version, reader: Reader<K>, room: &
 {
     version.begin_lead();
     let lead = take(reader, room);
-    let _log = lead.kernel().history();
+    let _end = lead.kernel().ended();
     lead
 }
 

@@ -1,5 +1,5 @@
 -- What always holds of a process.
-use Rattle.std.specs.Prelude.{◌≡◌, ℕ, ◌<◌, ◌≤◌, Bool, true, ◌==◌, ◌&&◌, not, List, [], ◌∷◌, length}
+use Rattle.std.specs.Prelude.{◌≡◌, ℕ, ◌<◌, ◌≤◌, Bool, true, ◌+◌, ◌*◌, ◌==◌, ◌&&◌, not, List, [], ◌∷◌, length}
 use Rattle.std.specs.List.{list_any}
 use Rattle.nv_calls.specs.declared.calls.Call.{Call}
 use Rattle.nv_calls.specs.Limits.{MOST_BYTES, MOST_THREADS}
@@ -26,9 +26,11 @@ abbrev pub HaveCapacity : List Call → Type 0
 HaveCapacity [] = Unit {0}
 HaveCapacity (c ∷ cs) = (MOST_BYTES ≤ c.payload.capacity) × HaveCapacity cs
 
--- The instructions run keep to the budget, the guest has these threads, each a number of its own, and there is a call for each of eight.
-pub record IsSoundProcess (count budget : ℕ) (tasks : List Task) (guest : List ℕ) (calls : List Call) : Type 0 where
+-- The instructions run keep to the budget, and with all that may follow a renewal to a number of 64 bits; the guest has these threads, each a number of
+-- its own, and there is a call for each of eight.
+pub record IsSoundProcess (count budget renewals earlier : ℕ) (tasks : List Task) (guest : List ℕ) (calls : List Call) : Type 0 where
   pub within : count ≤ budget
+  pub few : earlier + renewals * budget ≤ 500000000000000000
   pub same : 0 < length tasks → guest ≡ task_tids tasks
   pub apart : are_apart (task_tids tasks) ≡ true
   pub own : AreOwn tasks

@@ -1,3 +1,5 @@
+use denote.Exit.{no}
+use denote.Param.Send.{param_send, arg_send}
 use Rattle.std.proofs.Common.{◌≡◌, ◌∙◌, ℕ, zero, suc, ◌+◌, ◌<◌, ◌≤◌, List, [], ◌∷◌, ◌++◌, length, map, take, get_or, Some, sym, ap, subst, arith}
 use Rattle.std.specs.Prelude.{slice_get, Contains}
 use Rattle.nv_calls.specs.declared.calls.Event.{Event}
@@ -5,10 +7,14 @@ use Rattle.nv_calls.specs.Calls.{Entry, entry}
 use Rattle.nv_calls.specs.Logs.{Start, served, live_after, IsLegal, IsLawful}
 use Rattle.nv_calls.proofs.LogLaws.{at_prefix}
 use Rattle.nv_arriving.specs.Scripted.{start_from}
+use Rattle.nv_arriving.proofs.Sending.{listed_send}
 use Rattle.nv_script.specs.Views.{setup_of}
 use Rattle.nv_trace.proofs.Playing.{item_at, take_next}
 use Rattle.nv_inspect.proofs.Prefixes.{map_take}
 use Rattle.nv_inspect.proofs.kernels.kernel_after.Goals as goal
+
+pub make-requires-send-A : goal.make-requires-send-A
+make-requires-send-A c κs = param_send 0 _ (arg_send _ no _ listed_send)
 
 -- the event in a place of the history is the log's
 at_log : (h : List Event) (log : List Entry) (seen i : ℕ) (x : Event) → map entry h ≡ log → i < length (take seen h) → x ≡ get_or (take seen h) i x → slice_get log i ≡ Some (entry x)
@@ -18,7 +24,7 @@ at_log h log seen i x is less at =
     (at_prefix seen log i (entry x) taken).0
 
 -- how long the log is before a place
-few_before : (log before : List Entry) (i : ℕ) (e : Entry) → IsLawful log → before ≡ take i log → slice_get log i ≡ Some e → length before < 131072
+few_before : (log before : List Entry) (i : ℕ) (e : Entry) → IsLawful log → before ≡ take i log → slice_get log i ≡ Some e → length before < 500000000
 few_before log before i e ok is at = let m = ok i e at in let n = short i log in omega (arith, m.few, n, ap length is)
   where
     short : (k : ℕ) (xs : List Entry) → length (take k xs) ≤ k

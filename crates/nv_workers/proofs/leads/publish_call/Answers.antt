@@ -5,11 +5,10 @@ use Rattle.nv_calls.specs.Logs.{IsLawful, IsNew, child_of, live_after, served}
 use Rattle.nv_calls.proofs.LogLaws.{take_whole}
 use Rattle.nv_threads.specs.Threads.{threads, Proc}
 use Rattle.nv_threads.proofs.ThreadLaws.{threads_own}
-use Rattle.nv_replay.specs.declared.standing.Standing.{Standing}
 use Rattle.nv_words.specs.Spelling.{spell}
 use Rattle.nv_replay.specs.Version.{became_event}
 use Rattle.nv_room.specs.Seats.{kernel_of, lead_view}
-use Rattle.nv_replay.proofs.Turning.{event_is, get_last}
+use Rattle.nv_replay.proofs.Turning.{get_last}
 use Rattle.nv_workers.proofs.leads.publish_call.Goals as goal
 
 pub publish-requires-clause-lives : goal.publish-requires-clause-lives
@@ -22,37 +21,33 @@ publish-requires-clause-lives g c κs within =
 
 pub answered-requires-clause-asked : goal.answered-requires-clause-asked
 answered-requires-clause-asked g c =
-    let e = event_is c.history.result.now _ _ _ c.index-history-at.result (c.history.ensures.log ∙ (ap g.K.SyscallKernel.log c.kernel.ensures ∙ c.publish.ensures.log))
-    ((ap (λ (x : Standing). x.seen) c.standing.ensures) ∙ c.requires.seen) c.index-history-at.is in
-    let t : c.index-history-at.result.call.tid ≡ c.args.tid = ap (λ (x : Entry). x.call.tid) e ∙
+    let e = c.last-event.ensures.is _ _ (ap g.K.SyscallKernel.log c.kernel.ensures ∙ c.publish.ensures.log) in
+    let t : c.last-event.result.now.call.tid ≡ c.args.tid = ap (λ (x : Entry). x.call.tid) e ∙
     (ap (λ (a : Request). a.tid) c.pending.ensures.call ∙ threads_own c.args.version.now.at.process c.args.tid) in
     c.requires.asked ∙ ap (λ (x : ℕ). Some x) (sym t)
 
 pub answered-requires-clause-pending : goal.answered-requires-clause-pending
 answered-requires-clause-pending g c =
-    let e = event_is c.history.result.now _ _ _ c.index-history-at.result (c.history.ensures.log ∙ (ap g.K.SyscallKernel.log c.kernel.ensures ∙ c.publish.ensures.log))
-    ((ap (λ (x : Standing). x.seen) c.standing.ensures) ∙ c.requires.seen) c.index-history-at.is in
-    let t : c.index-history-at.result.call.tid ≡ c.args.tid = ap (λ (x : Entry). x.call.tid) e ∙
+    let e = c.last-event.ensures.is _ _ (ap g.K.SyscallKernel.log c.kernel.ensures ∙ c.publish.ensures.log) in
+    let t : c.last-event.result.now.call.tid ≡ c.args.tid = ap (λ (x : Entry). x.call.tid) e ∙
     (ap (λ (a : Request). a.tid) c.pending.ensures.call ∙ threads_own c.args.version.now.at.process c.args.tid) in
     rw t c.requires.pending
 
 pub answered-requires-clause-same : goal.answered-requires-clause-same
 answered-requires-clause-same g c =
     let p : Proc = c.args.version.now.at.process in
-    let e = event_is c.history.result.now _ _ _ c.index-history-at.result (c.history.ensures.log ∙ (ap g.K.SyscallKernel.log c.kernel.ensures ∙ c.publish.ensures.log))
-    ((ap (λ (x : Standing). x.seen) c.standing.ensures) ∙ c.requires.seen) c.index-history-at.is in
+    let e = c.last-event.ensures.is _ _ (ap g.K.SyscallKernel.log c.kernel.ensures ∙ c.publish.ensures.log) in
     let call = ap (λ (x : Entry). x.call) e ∙ c.pending.ensures.call in
-    let t : c.index-history-at.result.call.tid ≡ c.args.tid = ap (λ (a : Request). a.tid) call ∙ threads_own p c.args.tid in
+    let t : c.last-event.result.now.call.tid ≡ c.args.tid = ap (λ (a : Request). a.tid) call ∙ threads_own p c.args.tid in
     ap (λ (n : ℕ). (threads.call p n).nr) t ∙ ap (λ (a : Request). a.nr) (sym call)
 
 pub answered-requires-clause-new : goal.answered-requires-clause-new
 answered-requires-clause-new g c =
     let log : List Entry = g.K.SyscallKernel.log (kernel_of c.args.lead.now) in
     let grows = ap g.K.SyscallKernel.log c.kernel.ensures ∙ c.publish.ensures.log in
-    let e = event_is c.history.result.now _ _ _ c.index-history-at.result (c.history.ensures.log ∙ grows)
-    ((ap (λ (x : Standing). x.seen) c.standing.ensures) ∙ c.requires.seen) c.index-history-at.is in
+    let e = c.last-event.ensures.is _ _ grows in
     let last : Entry = served (g.K.SyscallKernel.known (kernel_of c.args.lead.now)) log (request c.pending.result.now) in
-    let may = subst IsLawful grows c.history.ensures.lawful (length log) last (get_last log last) in
+    let may = subst IsLawful grows c.last-event.ensures.lawful (length log) last (get_last log last) in
     let new : IsNew (live_after log) (child_of last) = subst (λ (x : List Entry). IsNew (live_after x) (child_of last)) (take_whole log (last ∷ [])) may.new in
     subst (λ (x : Entry). IsNew (threads.live c.args.version.now.at.process) (child_of x)) (sym e) (subst (λ (x : List ℕ). IsNew x (child_of last)) (sym c.requires.live) new)
 
@@ -84,14 +79,13 @@ returns-clause-published g c =
     let known = g.K.SyscallKernel.known (kernel_of c.args.lead.now) in
     let log = g.K.SyscallKernel.log (kernel_of c.args.lead.now) in
     let call = c.pending.ensures.call in
-    let e = event_is c.history.result.now _ _ _ c.index-history-at.result (c.history.ensures.log ∙ (ap g.K.SyscallKernel.log c.kernel.ensures ∙ p.log))
-    ((ap (λ (x : Standing). x.seen) c.standing.ensures) ∙ c.requires.seen) c.index-history-at.is in record {
+    let e = c.last-event.ensures.is _ _ (ap g.K.SyscallKernel.log c.kernel.ensures ∙ p.log) in record {
       of = p.of;
       same = p.same;
       due = p.due;
       wrote = p.wrote;
       log = p.log ∙ ap (λ (a : Request). log ++ served known log a ∷ []) call;
-      lawful = subst IsLawful (ap g.K.SyscallKernel.log c.kernel.ensures) c.history.ensures.lawful;
+      lawful = subst IsLawful (ap g.K.SyscallKernel.log c.kernel.ensures) c.last-event.ensures.lawful;
       seen = p.seen ∙ ap (λ (a : Request). (lead_view c.args.lead.now).seen ++ spell (served known log a) ∷ []) call;
       spans = p.spans;
       version = c.answered.ensures ∙ ap (λ (x : Entry). became_event threads x c.args.version.now) (e ∙ ap (served known log) call);

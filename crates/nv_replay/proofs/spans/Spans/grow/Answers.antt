@@ -10,7 +10,7 @@ overflow_add-index_mut c =
     let last : c.len-count.result - 1 < length c.self.inside.held.items = omega (arith, c.len-count.ensures) in
     let at : slice_get c.self.inside.held.items (c.len-count.result - 1) ≡ Some c.index_mut.result.now =
     slice_get-get_or c.self.inside.held.items (c.len-count.result - 1) c.index_mut.result.now last ∙ ap Some (sym c.index_mut.ensures.value) in
-    let ends = subst (λ (x : List (ℕ × ℕ)). EndBy 131071 x) (sym c.self.view_is) c.requires in
+    let ends = subst (λ (x : List (ℕ × ℕ)). EndBy 499999999 x) (sym c.self.view_is) c.requires in
     omega (arith, ends.each _ _ at)
 
 pub returns-then-count-gt0 : goal.returns-then-count-gt0

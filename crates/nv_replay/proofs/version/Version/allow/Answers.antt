@@ -9,7 +9,7 @@ use Rattle.nv_replay.specs.Follow.{refusal_of}
 use Rattle.nv_replay.specs.Version.{Running}
 use Rattle.nv_replay.specs.Views.{running_of}
 use Rattle.nv_replay.proofs.Following.{not_given, was_given}
-use Rattle.nv_replay.proofs.Obeying.{obeyed, is_refused, is_answered}
+use Rattle.nv_replay.proofs.Obeying.{obeyed, is_refused, is_given}
 use Rattle.nv_replay.proofs.version.Version.allow.Goals as goal
 
 pub returns-then-not-give_constant-clause-new : goal.returns-then-not-give_constant-clause-new
@@ -29,6 +29,6 @@ returns-clause-new c =
     let some = was_given threads c.args.tid c.self.inside.process.process c.give_constant.new.process.process
     (constant_of (threads.call c.self.inside.process.process c.args.tid)) c.if-not-give_constant.ensures.given in
     let answered : Known → Running Proc = λ k. record old { at = record old.at { process = k.process; rewrites = old.at.rewrites + 1 }; eager = k.eager } in
-    is_answered threads c.args.tid c.args.value (entry c.args.event.now) (λ call. given (constant_of call)) old
+    is_given threads c.args.tid c.args.value (entry c.args.event.now) (λ call. given (constant_of call)) old
     (answered c.give_constant.new.process) some.0 (ap given some.1) (ap answered (known_as some.2 c.if-not-give_constant.ensures.eager)) ∙ ap
     (obeyed threads c.args.tid c.args.value (entry c.args.event.now) (λ call. given (constant_of call))) c.self.view_is

@@ -8,7 +8,7 @@ use Rattle.nv_calls.specs.Numbers.{is_of_threads}
 use Rattle.nv_replay.specs.Permits.{failed}
 use Rattle.nv_replay.specs.Version.{Running}
 use Rattle.nv_replay.specs.Views.{running_of}
-use Rattle.nv_replay.proofs.Obeying.{obeyed, is_refused, is_answered, failed_far, failed_threads, failed_gives}
+use Rattle.nv_replay.proofs.Obeying.{obeyed, is_refused, is_given, failed_far, failed_threads, failed_gives}
 use Rattle.nv_replay.proofs.version.Version.fail_call.Goals as goal
 use Rattle.nv_replay.proofs.version.Version.fail_call.Goals.{then-error-gt-MOST_ERROR-via-then-error-gt-MOST_ERROR, then-error-gt-MOST_ERROR-via-else-error-gt-MOST_ERROR+then-is_of_threads}
 
@@ -33,15 +33,15 @@ pub returns-clause-new : goal.returns-clause-new
 returns-clause-new c =
     let old : Running Proc = running_of c.self-2.inside in
     let answered : Known → Running Proc = λ k. record old { at = record old.at { process = k.process; rewrites = old.at.rewrites + 1 }; eager = k.eager } in
-    let reply : ℤ → Known = λ ret. record c.self-2.inside.process { process = threads.answered c.self-2.inside.process.process c.args.tid (record { ret = ret; payload = [] }) } in
+    let reply : ℤ → Known = λ ret. record c.self-2.inside.process { process = threads.given c.self-2.inside.process.process c.args.tid (record { ret = ret; payload = [] }) } in
     let few : c.args.error < 4096 = omega arith in
     let call : threads.call c.self.inside.process.process c.args.tid ≡ threads.call c.self-2.inside.process.process c.args.tid = ap
     (λ (r : Running Proc). threads.call r.at.process c.args.tid) (c.self.view_is ∙ sym c.self-2.view_is) in
     let quiet : is_of_threads (threads.call c.self-2.inside.process.process c.args.tid).nr ≡ false = sym
     (ap (λ (q : Request). is_of_threads q.nr) (c.pending.ensures.call ∙ call)) ∙ sym c.if-is_of_threads.ensures in
-    let same : c.answer.new.self ≡ reply (pos 0 -ℤ pos c.args.error) = c.answer.ensures ∙ ap reply
+    let same : c.give.new.self ≡ reply (pos 0 -ℤ pos c.args.error) = c.give.ensures ∙ ap reply
     (negated c.args.error c.from.result c.from.ensures few) in
-    is_answered threads c.args.tid c.args.value (entry c.args.event.now) (λ call. failed call c.args.error) old
-    (answered c.answer.new.self) (record { ret = pos 0 -ℤ pos c.args.error; payload = [] })
+    is_given threads c.args.tid c.args.value (entry c.args.event.now) (λ call. failed call c.args.error) old
+    (answered c.give.new.self) (record { ret = pos 0 -ℤ pos c.args.error; payload = [] })
     (failed_gives (threads.call c.self-2.inside.process.process c.args.tid) c.args.error few quiet) (ap answered same) ∙ ap
     (obeyed threads c.args.tid c.args.value (entry c.args.event.now) (λ call. failed call c.args.error)) c.self-2.view_is

@@ -5,4 +5,4 @@ use Rattle.nv_threads.proofs.Keeping.{guest_lives, running_lives}
 use Rattle.nv_threads.proofs.process.Process.brk.Goals as goal
 
 pub regs-requires : goal.regs-requires
-regs-requires c = guest_lives _ _ _ _ _ _ c.self.invariant (subst (λ (p : Proc). Contains (task_tids p.tasks) p.turn) (sym c.self.view_is) (running_lives c.args.self.now.tasks c.args.self.now.turn c.requires))
+regs-requires c = guest_lives _ _ _ _ _ _ _ _ c.self.invariant (subst (λ (p : Proc). Contains (task_tids p.tasks) p.turn) (sym c.self.view_is) (running_lives c.args.self.now.tasks c.args.self.now.turn c.requires))

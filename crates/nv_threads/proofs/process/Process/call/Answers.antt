@@ -49,7 +49,7 @@ call_of-requires-clause-lives c =
     let cs = map request i.calls.items in
     let runs : is_running (state_at (threads_of i.tasks.items cs) i.turn) ≡ true = subst (λ (p : Proc). is_running (state_at p.tasks p.turn) ≡ true) (sym c.self.view_is) c.requires in
     let lives = running_lives (threads_of i.tasks.items cs) i.turn runs in
-    guest_lives _ _ _ _ _ i.turn c.self.invariant lives
+    guest_lives _ _ _ _ _ _ _ i.turn c.self.invariant lives
 
 pub call_of-requires-clause-capacity : goal.call_of-requires-clause-capacity
 call_of-requires-clause-capacity c =
@@ -63,7 +63,7 @@ regs-requires c =
     let cs = map request i.calls.items in
     let runs : is_running (state_at (threads_of i.tasks.items cs) i.turn) ≡ true = subst (λ (p : Proc). is_running (state_at p.tasks p.turn) ≡ true) (sym c.self.view_is) c.requires in
     let lives = running_lives (threads_of i.tasks.items cs) i.turn runs in
-    guest_lives _ _ _ _ _ i.turn c.self.invariant lives
+    guest_lives _ _ _ _ _ _ _ i.turn c.self.invariant lives
 
 pub set_doing-requires : goal.set_doing-requires
 set_doing-requires c =
@@ -91,8 +91,8 @@ invariant_of-self c =
     ∙ (ap (threads_of (with_doing i.tasks.items i.turn doing.Asks)) (map_set i.calls.items c.place-place.result c.call_of.new.call ∙ ap (λ (k : ℕ). set cs k r) at)
     ∙ asks_of i.tasks.items cs i.turn r long) in
     let own = ap (λ (q : Request). q.tid) c.in-Logged.ensures.call ∙ own_tid (guests.machine_at i.guest i.turn) i.turn in
-    subst (λ (ts : List Thread). IsSoundProcess i.count i.budget ts (guests.tids i.guest.threads) (set i.calls.items c.place-place.result c.call_of.new.call)) (sym is)
-    (with_call _ _ _ _ _ c.place-place.result c.call_of.new.call (with_task _ _ _ _ _ i.turn (Asks r) c.self.invariant (own, c.in-Logged.ensures.shaped refl)) capacity)
+    subst (λ (ts : List Thread). IsSoundProcess i.count i.budget i.renewals i.earlier ts (guests.tids i.guest.threads) (set i.calls.items c.place-place.result c.call_of.new.call)) (sym is)
+    (with_call _ _ _ _ _ _ _ c.place-place.result c.call_of.new.call (with_task _ _ _ _ _ _ _ i.turn (Asks r) c.self.invariant (own, c.in-Logged.ensures.shaped refl)) capacity)
 
 pub invariant_of-self-in-Local : goal.invariant_of-self-in-Local
 invariant_of-self-in-Local c =
@@ -108,8 +108,8 @@ invariant_of-self-in-Local c =
     let inside : c.place-place.result < length i.calls.items = omega (arith, few, c.place-place.ensures.inside, c.self.invariant.eight) in
     let capacity : 4096 ≤ c.call_of.new.call.payload.capacity = subst (λ (n : ℕ). 4096 ≤ n) (sym c.in-Local.ensures.capacity)
     (subst (λ (k : Call). 4096 ≤ k.payload.capacity) (sym c.index_mut.ensures.value) (capacity_at i.calls.items c.place-place.result c.index_mut.result.now c.self.invariant.capacity inside)) in
-    subst (λ (ts : List Thread). IsSoundProcess i.count i.budget ts (guests.tids i.guest.threads) (set i.calls.items c.place-place.result c.call_of.new.call)) (sym unread_is)
-    (with_call _ _ _ _ _ c.place-place.result c.call_of.new.call c.self.invariant capacity)
+    subst (λ (ts : List Thread). IsSoundProcess i.count i.budget i.renewals i.earlier ts (guests.tids i.guest.threads) (set i.calls.items c.place-place.result c.call_of.new.call)) (sym unread_is)
+    (with_call _ _ _ _ _ _ _ c.place-place.result c.call_of.new.call c.self.invariant capacity)
 
 pub answer_local-requires : goal.answer_local-requires
 answer_local-requires c =
@@ -136,7 +136,7 @@ returns-in-Logged c =
     = ap (λ (ts : List Task). threads_of ts (map request (set i.calls.items c.place-place.result c.call_of.new.call))) (table_written i.tasks.items c.deref_mut.result.now c.set_doing.new.tasks i.turn doing.Asks c.deref_mut.ensures.value c.set_doing.ensures)
     ∙ (ap (threads_of (with_doing i.tasks.items i.turn doing.Asks)) (map_set i.calls.items c.place-place.result c.call_of.new.call ∙ ap (λ (k : ℕ). set cs k r) at)
     ∙ asks_of i.tasks.items cs i.turn r long) in
-    let v : Proc = record { guest = i.guest; tasks = threads_of i.tasks.items cs; turn = i.turn; slice = i.slice; left = i.budget - i.count; budget = i.budget; status = i.status } in
+    let v : Proc = record { guest = i.guest; tasks = threads_of i.tasks.items cs; turn = i.turn; slice = i.slice; left = i.budget - i.count; budget = i.budget; renewals = i.renewals; earlier = i.earlier; status = i.status } in
     let mine = logged_is (is_local (call_number (machine v))) (sym c.in-Logged.ensures.asked) in
     ap (λ (ts : List Thread). record v { tasks = ts }) is
     ∙ (ap (λ (q : Request). record v { tasks = with_state v.tasks v.turn (Asks q) }) c.in-Logged.ensures.call
@@ -152,7 +152,7 @@ returns-in-Local c =
     let unread_is : threads_of i.tasks.items (map request (set i.calls.items c.place-place.result c.call_of.new.call)) ≡ threads_of i.tasks.items cs
     = ap (threads_of i.tasks.items) (map_set i.calls.items c.place-place.result c.call_of.new.call ∙ ap (λ (k : ℕ). set cs k (request c.call_of.new.call)) at)
     ∙ unread i.tasks.items cs i.turn (request c.call_of.new.call) (sym (running_of i.tasks.items cs i.turn) ∙ runs) in
-    let v : Proc = record { guest = i.guest; tasks = threads_of i.tasks.items cs; turn = i.turn; slice = i.slice; left = i.budget - i.count; budget = i.budget; status = i.status } in
+    let v : Proc = record { guest = i.guest; tasks = threads_of i.tasks.items cs; turn = i.turn; slice = i.slice; left = i.budget - i.count; budget = i.budget; renewals = i.renewals; earlier = i.earlier; status = i.status } in
     let mine = local_is (is_local (call_number (machine v))) (sym c.in-Local.ensures.asked) in
     let nr : c.get-nr.result ≡ call_number (machine v) = c.get-nr.ensures ∙ ap (λ (x : Registers). call_number (record { regs = x; memory = v.guest.memory })) c.regs.ensures in
     c.answer_local.ensures

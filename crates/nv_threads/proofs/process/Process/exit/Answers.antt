@@ -49,9 +49,9 @@ invariant_of-self c =
     let gs = ap (λ (g : guests.Threaded). guests.tids g.threads) c.end_thread.ensures in
     let eight : length (remove i.calls.items place ++ x ∷ []) ≡ 8 = ap length (sym new) ∙ (c.to_end.auto.calls ∙ (ap length c.deref_mut.ensures.value ∙ c.self.invariant.eight)) in
     let capacity = capacity_more (remove i.calls.items place) x (capacity_less i.calls.items place c.self.invariant.capacity) (capacity_at i.calls.items place blank c.self.invariant.capacity there) in
-    subst (λ (ds : List Call). IsSoundProcess i.count i.budget (threads_of c.remove.new.self.items (map request (take i.calls.len (c.to_end.new.calls ++ drop (length c.to_end.new.calls) i.calls.items)))) (guests.tids c.end_thread.new.self.threads) ds) (sym all)
-    (subst (λ (ts : List Thread). IsSoundProcess i.count i.budget ts (guests.tids c.end_thread.new.self.threads) (remove i.calls.items place ++ x ∷ [])) (sym is)
-    (with_less _ _ _ i.guest.threads _ _ (remove i.calls.items place ++ x ∷ []) c.args.tid c.self.invariant lives gs eight capacity))
+    subst (λ (ds : List Call). IsSoundProcess i.count i.budget i.renewals i.earlier (threads_of c.remove.new.self.items (map request (take i.calls.len (c.to_end.new.calls ++ drop (length c.to_end.new.calls) i.calls.items)))) (guests.tids c.end_thread.new.self.threads) ds) (sym all)
+    (subst (λ (ts : List Thread). IsSoundProcess i.count i.budget i.renewals i.earlier ts (guests.tids c.end_thread.new.self.threads) (remove i.calls.items place ++ x ∷ [])) (sym is)
+    (with_less _ _ _ _ _ i.guest.threads _ _ (remove i.calls.items place ++ x ∷ []) c.args.tid c.self.invariant lives gs eight capacity))
 
 pub returns : goal.returns
 returns c =
@@ -76,6 +76,6 @@ returns c =
     ∙ (ap (threads_of (remove i.tasks.items place)) requests
     ∙ (removed_of i.tasks.items cs place (request x) here long
     ∙ (ap (remove (threads_of i.tasks.items cs)) at ∙ removed_is i.tasks.items cs c.args.tid long c.self.invariant.apart)))) in
-    ap (λ (ts : List Thread). record { guest = c.end_thread.new.self; tasks = ts; turn = i.turn; slice = i.slice; left = i.budget - i.count; budget = i.budget; status = c.args.status }) is
-    ∙ (ap (λ (g : guests.Threaded). record { guest = g; tasks = filter (others c.args.tid) (threads_of i.tasks.items cs); turn = i.turn; slice = i.slice; left = i.budget - i.count; budget = i.budget; status = c.args.status }) c.end_thread.ensures
+    ap (λ (ts : List Thread). record { guest = c.end_thread.new.self; tasks = ts; turn = i.turn; slice = i.slice; left = i.budget - i.count; budget = i.budget; renewals = i.renewals; earlier = i.earlier; status = c.args.status }) is
+    ∙ (ap (λ (g : guests.Threaded). record { guest = g; tasks = filter (others c.args.tid) (threads_of i.tasks.items cs); turn = i.turn; slice = i.slice; left = i.budget - i.count; budget = i.budget; renewals = i.renewals; earlier = i.earlier; status = c.args.status }) c.end_thread.ensures
     ∙ ap (λ (p : Proc). left_by p c.args.tid c.args.status) c.self.view_is)

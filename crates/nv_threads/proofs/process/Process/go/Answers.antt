@@ -71,7 +71,7 @@ returns c =
     let some = on_some p is in
     let more : 0 < p.left = omega (arith, left, c.if-self.false, c.self.invariant.within) in
     let lives : Contains (guests.tids p.guest.threads) p.turn = subst (λ (q : Proc). Contains (guests.tids q.guest.threads) q.turn) c.self.view_is
-    (guest_lives _ _ _ _ _ _ c.self.invariant (subst (λ (q : Proc). Contains (task_tids q.tasks) q.turn) (sym c.self.view_is) (running_lives p.tasks p.turn runs))) in
+    (guest_lives _ _ _ _ _ _ _ _ c.self.invariant (subst (λ (q : Proc). Contains (task_tids q.tasks) q.turn) (sym c.self.view_is) (running_lives p.tasks p.turn runs))) in
     subst (λ (r : Option Came × Proc). Goes w p r.0 r.1) c.run.ensures
     (burst_goes w (min p.slice p.left) p (record {
       not_asked = asks ∙ c.if-is_asking.false;

@@ -21,4 +21,4 @@ returns-clause-guest c h =
     let here : is_some (state_at (threads_of i.tasks.items cs) c.args.tid) ≡ true =
     live_of i.tasks.items cs c.args.tid ∙ ap (λ ts. is_some (doing_at ts c.args.tid)) (sym c.deref.ensures.0) ∙ sym c.lives.ensures ∙ h in
     subst (λ (p : Proc). Contains (guests.tids p.guest.threads) c.args.tid) c.self.view_is
-    (guest_lives i.count i.budget (threads_of i.tasks.items cs) (guests.tids i.guest.threads) i.calls.items c.args.tid c.self.invariant (lives_by (threads_of i.tasks.items cs) c.args.tid here))
+    (guest_lives i.count i.budget i.renewals i.earlier (threads_of i.tasks.items cs) (guests.tids i.guest.threads) i.calls.items c.args.tid c.self.invariant (lives_by (threads_of i.tasks.items cs) c.args.tid here))

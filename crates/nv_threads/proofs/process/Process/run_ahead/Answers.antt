@@ -44,7 +44,7 @@ returns-in-None c =
     let some = on_some p is in
     let more : 0 < p.left = omega (arith, left, c.if-left-eq0.false) in
     let lives : Contains (guests.tids p.guest.threads) p.turn = subst (λ (q : Proc). Contains (guests.tids q.guest.threads) q.turn) c.self.view_is
-    (guest_lives _ _ _ _ _ _ c.self.invariant (subst (λ (q : Proc). Contains (task_tids q.tasks) q.turn) (sym c.self.view_is) (running_lives p.tasks p.turn runs))) in
+    (guest_lives _ _ _ _ _ _ _ _ c.self.invariant (subst (λ (q : Proc). Contains (task_tids q.tasks) q.turn) (sym c.self.view_is) (running_lives p.tasks p.turn runs))) in
     let comes : (w : Want) → Goes w p None c.run.new.self = λ w.
     subst (λ (r : Option Came × Proc). Goes w p r.0 r.1) (c.run.ensures ∙ ap (λ (o : Option Came). (o, c.run.new.self)) c.in-None.is)
     (burst_goes w (min p.slice p.left) p (record {
@@ -72,7 +72,7 @@ returns-in-Some c =
     let some = on_some p is in
     let more : 0 < p.left = omega (arith, left, c.if-left-eq0.false) in
     let lives : Contains (guests.tids p.guest.threads) p.turn = subst (λ (q : Proc). Contains (guests.tids q.guest.threads) q.turn) c.self.view_is
-    (guest_lives _ _ _ _ _ _ c.self.invariant (subst (λ (q : Proc). Contains (task_tids q.tasks) q.turn) (sym c.self.view_is) (running_lives p.tasks p.turn runs))) in
+    (guest_lives _ _ _ _ _ _ _ _ c.self.invariant (subst (λ (q : Proc). Contains (task_tids q.tasks) q.turn) (sym c.self.view_is) (running_lives p.tasks p.turn runs))) in
     let comes : (w : Want) → Goes w p (Some c.in-Some.came) c.run.new.self = λ w.
     subst (λ (r : Option Came × Proc). Goes w p r.0 r.1) (c.run.ensures ∙ ap (λ (o : Option Came). (o, c.run.new.self)) c.in-Some.is)
     (burst_goes w (min p.slice p.left) p (record {

@@ -26,8 +26,8 @@ invariant_of-self c =
     let cs = map request i.calls.items in
     let is = ap (λ (ts : List Task). threads_of ts cs) c.push.ensures.items ∙ more_of i.tasks.items cs c.args.child in
     let gs = ap (λ (g : guests.Threaded). guests.tids g.threads) c.clone_thread.ensures ∙ more_tids i.guest.threads (guests.child_thread i.guest.threads c.args.tid c.args.child) in
-    subst (λ (ts : List Thread). IsSoundProcess i.count i.budget ts (guests.tids c.clone_thread.new.self.threads) i.calls.items) (sym is)
-    (with_more _ _ _ _ _ _ c.args.tid c.args.child c.self.invariant
+    subst (λ (ts : List Thread). IsSoundProcess i.count i.budget i.renewals i.earlier ts (guests.tids c.clone_thread.new.self.threads) i.calls.items) (sym is)
+    (with_more _ _ _ _ _ _ _ _ c.args.tid c.args.child c.self.invariant
     (subst (λ (p : Proc). Contains (task_tids p.tasks) c.args.tid) (sym c.self.view_is) c.requires.lives)
     (λ (q : Contains (task_tids (threads_of i.tasks.items cs)) c.args.child). c.requires.new.1 (subst (λ (p : Proc). Contains (task_tids p.tasks) c.args.child) c.self.view_is q)) gs)
 
@@ -36,6 +36,6 @@ returns c =
     let i = c.self.inside in
     let cs = map request i.calls.items in
     let is = ap (λ (ts : List Task). threads_of ts cs) c.push.ensures.items ∙ more_of i.tasks.items cs c.args.child in
-    ap (λ (ts : List Thread). record { guest = c.clone_thread.new.self; tasks = ts; turn = i.turn; slice = i.slice; left = i.budget - i.count; budget = i.budget; status = i.status }) is
-    ∙ (ap (λ (g : guests.Threaded). record { guest = g; tasks = threads_of i.tasks.items cs ++ record { tid = c.args.child; state = Runs } ∷ []; turn = i.turn; slice = i.slice; left = i.budget - i.count; budget = i.budget; status = i.status }) c.clone_thread.ensures
+    ap (λ (ts : List Thread). record { guest = c.clone_thread.new.self; tasks = ts; turn = i.turn; slice = i.slice; left = i.budget - i.count; budget = i.budget; renewals = i.renewals; earlier = i.earlier; status = i.status }) is
+    ∙ (ap (λ (g : guests.Threaded). record { guest = g; tasks = threads_of i.tasks.items cs ++ record { tid = c.args.child; state = Runs } ∷ []; turn = i.turn; slice = i.slice; left = i.budget - i.count; budget = i.budget; renewals = i.renewals; earlier = i.earlier; status = i.status }) c.clone_thread.ensures
     ∙ ap (λ (p : Proc). with_child_task p c.args.tid (Some c.args.child)) c.self.view_is)

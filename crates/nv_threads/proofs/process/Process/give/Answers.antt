@@ -12,7 +12,7 @@ use Rattle.nv_threads.specs.declared.tasks.Task.{Task}
 use Rattle.nv_threads.proofs.Keeping.{asking_lives}
 use Rattle.nv_threads.proofs.Leaving.{asked_call, map_at}
 use Rattle.nv_threads.proofs.Writing.{lives_there}
-use Rattle.nv_threads.proofs.process.Process.answer.Goals as goal
+use Rattle.nv_threads.proofs.process.Process.give.Goals as goal
 
 pub place-place-requires : goal.place-place-requires
 unfolding threads
