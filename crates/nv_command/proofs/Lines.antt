@@ -7,7 +7,7 @@ use Rattle.clap.specs.Walk.{Row, Text}
 use Rattle.clap.specs.Simple.{App}
 use Rattle.nv_command.specs.Simple.{run_app, serve_app, record_app, replay_app, inspect_app, rules_app, asm_app, gen_app, help_app}
 use Rattle.nv_command.specs.Tables.{app_named, asked_of}
-use Rattle.nv_command.specs.Words.{NamesRun, NamesServe, NamesRules, NamesAsm, NamesGen, NamesRecord, NamesReplay, NamesInspect, NamesHelp, Runs, Serves, Uses, Generates, Records, Replays, Inspects, Helps, plan_of, report_plan_of, service_of, rules_job_of, asm_job_of, number_in, trail_of, look_of, topic_of, run_line, serve_line, rules_line, asm_line, gen_line, record_line, replay_line, inspect_line, help_line, Limits, ring_of, memory_of, budget_of, calls_asked, threads_asked, limits_of, Name, Command as Line, rows_of_line, texts, asked_by, name_spelt, command_name, command_of}
+use Rattle.nv_command.specs.Words.{NamesRun, NamesServe, NamesRules, NamesAsm, NamesGen, NamesRecord, NamesReplay, NamesInspect, NamesHelp, Runs, Serves, Uses, Generates, Records, Replays, Inspects, Helps, plan_of, report_plan_of, service_of, rules_job_of, asm_job_of, number_in, trail_of, look_of, topic_of, run_line, serve_line, rules_line, asm_line, gen_line, record_line, replay_line, inspect_line, help_line, Limits, ring_of, memory_of, Allowance, allowance_of, calls_asked, threads_asked, limits_of, Name, Command as Line, rows_of_line, texts, asked_by, name_spelt, command_name, command_of}
 use Rattle.nv_command.specs.Seen.{WordsRefused}
 use Rattle.nv_command.specs.declared.asked.LineFault.{LineFault}
 use Rattle.nv_command.specs.declared.asked.LineFault.TheVariants.{Usage, Memory}
@@ -23,11 +23,11 @@ module _ (defaults : Limits) (rows : List Row) where
     no_memory h = rw (← r, ← h) refl
 
     module _ (memory : ℕ) (m : Some memory ≡ memory_of defaults rows) where
-      pub no_budget : None ≡ budget_of defaults rows → None ≡ limits_of defaults rows
+      pub no_allowance : None ≡ allowance_of defaults rows → None ≡ limits_of defaults rows
       unfolding limits_of
-      no_budget h = rw (← r, ← m, ← h) refl
+      no_allowance h = rw (← r, ← m, ← h) refl
 
-      module _ (budget : ℕ) (b : Some budget ≡ budget_of defaults rows) where
+      module _ (allowance : Allowance) (b : Some allowance ≡ allowance_of defaults rows) where
         pub no_calls : None ≡ calls_asked defaults rows → None ≡ limits_of defaults rows
         unfolding limits_of
         no_calls h = rw (← r, ← m, ← b, ← h) refl
@@ -38,7 +38,7 @@ module _ (defaults : Limits) (rows : List Row) where
           no_threads h = rw (← r, ← m, ← b, ← c, ← h) refl
 
           pub all_limits : (threads : ℕ) → Some threads ≡ threads_asked defaults rows
-              → Some (record { ring = ring; memory = memory; budget = budget; calls = calls; threads = threads }) ≡ limits_of defaults rows
+              → Some (record { ring = ring; memory = memory; budget = allowance.budget; renews = allowance.renews; calls = calls; threads = threads }) ≡ limits_of defaults rows
           unfolding limits_of
           all_limits threads h = rw (← r, ← m, ← b, ← c, ← h) refl
 

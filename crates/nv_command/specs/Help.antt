@@ -1,4 +1,4 @@
--- What `help` writes: how a command is used, its options with their limits, and an example; or how each command is used.
+-- What `usage` writes: how a command is used, its options with their limits, and an example; or how each command is used.
 use Rattle.std.specs.Prelude.{List, [], ◌∷◌, ◌++◌, Option, None, Some, codes}
 use Rattle.std.specs.List.{concat}
 use Rattle.clap.specs.Walk.{Text}
@@ -13,7 +13,7 @@ usage_line NamesInspect = codes "varan inspect --script S [options] POINT TRACE 
 usage_line NamesAsm = codes "varan asm FILE\n"
 usage_line NamesRules = codes "varan rules [--asm] FILE\n"
 usage_line NamesGen = codes "varan gen N\n"
-usage_line NamesHelp = codes "varan help [COMMAND]\n"
+usage_line NamesHelp = codes "varan usage [COMMAND]\n"
 
 -- the line of each option
 abbrev pub script_help : Text
@@ -34,14 +34,20 @@ memory_help = codes "  --memory BYTES  memory of a version, in pages of 4096: 13
 abbrev pub budget_help : Text
 budget_help = codes "  --budget N      instructions of a version: 1 to 1000000000, default 10000000\n"
 
-abbrev pub long_budget_help : Text
-long_budget_help = codes "  --budget N      instructions of a version: 1 to 1000000000, default 1000000000\n"
+abbrev pub no_budget_help : Text
+no_budget_help = codes "  --budget N      instructions of a version in place of --hang: 1 to 1000000000\n"
+
+abbrev pub hang_help : Text
+hang_help = codes "  --hang N        instructions after each answer in place of --budget: 1 to 1000000000\n"
+
+abbrev pub usual_hang_help : Text
+usual_hang_help = codes "  --hang N        instructions of a version after each answer: 1 to 1000000000, default 100000000\n"
 
 abbrev pub calls_help : Text
 calls_help = codes "  --calls N       events of the log: 1 to 131072, default 65536\n"
 
 abbrev pub many_calls_help : Text
-many_calls_help = codes "  --calls N       events of the log: 1 to 131072, default 131072\n"
+many_calls_help = codes "  --calls N       events of the log: 1 to 500000000, default 500000000\n"
 
 abbrev pub threads_help : Text
 threads_help = codes "  --threads N     host threads that run the versions: 1 to 8, default 8\n"
@@ -78,12 +84,12 @@ asm_help = codes "  --asm           a rule text is assembled\n"
 
 -- those of a command
 abbrev pub option_lines : Name → List Text
-option_lines NamesRun = script_help ∷ rules_help ∷ ring_help ∷ memory_help ∷ budget_help ∷ calls_help ∷ threads_help ∷ json_help ∷ []
+option_lines NamesRun = script_help ∷ rules_help ∷ ring_help ∷ memory_help ∷ budget_help ∷ hang_help ∷ calls_help ∷ threads_help ∷ json_help ∷ []
 option_lines NamesServe =
-    start_help ∷ rules_help ∷ ring_help ∷ memory_help ∷ long_budget_help ∷ many_calls_help ∷ threads_help ∷ clients_help ∷ log_help ∷ []
-option_lines NamesRecord = script_help ∷ rules_help ∷ ring_help ∷ memory_help ∷ budget_help ∷ calls_help ∷ threads_help ∷ []
-option_lines NamesReplay = script_help ∷ rules_help ∷ memory_help ∷ budget_help ∷ index_help ∷ []
-option_lines NamesInspect = script_help ∷ rules_help ∷ memory_help ∷ budget_help ∷ index_help ∷ stamp_help ∷ call_help ∷ count_help ∷ dump_help ∷ length_help ∷ []
+    start_help ∷ rules_help ∷ ring_help ∷ memory_help ∷ usual_hang_help ∷ no_budget_help ∷ many_calls_help ∷ threads_help ∷ clients_help ∷ log_help ∷ []
+option_lines NamesRecord = script_help ∷ rules_help ∷ ring_help ∷ memory_help ∷ budget_help ∷ hang_help ∷ calls_help ∷ threads_help ∷ []
+option_lines NamesReplay = script_help ∷ rules_help ∷ memory_help ∷ budget_help ∷ hang_help ∷ index_help ∷ []
+option_lines NamesInspect = script_help ∷ rules_help ∷ memory_help ∷ budget_help ∷ hang_help ∷ index_help ∷ stamp_help ∷ call_help ∷ count_help ∷ dump_help ∷ length_help ∷ []
 option_lines NamesAsm = []
 option_lines NamesRules = asm_help ∷ []
 option_lines NamesGen = []
@@ -98,10 +104,10 @@ example_line NamesInspect = codes "example: varan inspect --script clients --sta
 example_line NamesAsm = codes "example: varan asm program.s > program\n"
 example_line NamesRules = codes "example: varan rules --asm rules.txt > rules\n"
 example_line NamesGen = codes "example: varan gen 7\n"
-example_line NamesHelp = codes "example: varan help run\n"
+example_line NamesHelp = codes "example: varan usage run\n"
 
 abbrev pub more_help : Text
-more_help = codes "varan help COMMAND writes the options of a command, and an example\n"
+more_help = codes "varan usage COMMAND writes the options of a command, and an example\n"
 
 abbrev pub help_lines : Option Name → List Text
 help_lines None =

@@ -2,9 +2,10 @@
 use Rattle.std.specs.Prelude.{◌≡◌, List, Option, None, map, option_map, IsSome}
 use Rattle.std.specs.Borrow.{Bor}
 use Rattle.clap.specs.Walk.{Text}
-use Rattle.nv_command.specs.Words.{Limits, Parts as LineParts, Plan, Service as LineService, Job as FileJob, Trail as TraceTrail, Point as TracePoint, AtStamp, AtCall, AtCount, Look as TraceLook, Command as Line, Runs, Serves, Uses, Generates, Records, Replays, Inspects, Helps, command_of, command_name}
+use Rattle.nv_command.specs.Words.{Limits, Allowance, Parts as LineParts, Plan, Service as LineService, Job as FileJob, Trail as TraceTrail, Point as TracePoint, AtStamp, AtCall, AtCount, Look as TraceLook, Command as Line, Runs, Serves, Uses, Generates, Records, Replays, Inspects, Helps, command_of, command_name}
 use Rattle.nv_command.specs.Tables.{name_view}
 use Rattle.nv_command.specs.declared.limits.Limits.{Limits as Held}
+use Rattle.nv_command.specs.declared.limits.Allowance.{Allowance as HeldAllowance}
 use Rattle.nv_command.specs.declared.asked.Run.{Run}
 use Rattle.nv_command.specs.declared.asked.Service.{Service}
 use Rattle.nv_command.specs.declared.parts.Parts.{Parts}
@@ -19,7 +20,10 @@ use Rattle.nv_command.specs.declared.asked.LineFault.{LineFault}
 use Rattle.nv_command.specs.declared.asked.LineFault.TheVariants.{Usage, Memory}
 
 abbrev pub limits_view : Held → Limits
-limits_view held = record { ring = held.ring; memory = held.memory; budget = held.budget; calls = held.calls; threads = held.threads }
+limits_view held = record { ring = held.ring; memory = held.memory; budget = held.budget; renews = held.renews; calls = held.calls; threads = held.threads }
+
+abbrev pub allowance_view : HeldAllowance → Allowance
+allowance_view held = record { budget = held.budget; renews = held.renews }
 
 -- the texts after references
 abbrev pub names_view : List (Bor Text) → List Text
@@ -56,6 +60,7 @@ trail_view trail = record {
   version = trail.version.now;
   memory = trail.memory;
   budget = trail.budget;
+  renews = trail.renews;
   index = trail.index;
 }
 

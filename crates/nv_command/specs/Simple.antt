@@ -38,6 +38,7 @@ run_options =
     ∷ option_rule (codes "ring")
     ∷ option_rule (codes "memory")
     ∷ option_rule (codes "budget")
+    ∷ option_rule (codes "hang")
     ∷ option_rule (codes "calls")
     ∷ option_rule (codes "threads")
     ∷ []
@@ -60,6 +61,7 @@ trail_options =
     ∷ option_rule (codes "rules")
     ∷ option_rule (codes "memory")
     ∷ option_rule (codes "budget")
+    ∷ option_rule (codes "hang")
     ∷ option_rule (codes "index")
     ∷ []
 
@@ -93,4 +95,4 @@ abbrev pub gen_app : App
 gen_app = simple_app (codes "gen") (file_rule (codes "number") ∷ [])
 
 abbrev pub help_app : App
-help_app = simple_app (codes "help") (word_rule (codes "command") ∷ [])
+help_app = simple_app (codes "usage") (word_rule (codes "command") ∷ [])

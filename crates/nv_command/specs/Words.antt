@@ -1,5 +1,5 @@
 -- What the words of a command line ask for: the words of each command have `clap`'s meaning of a simple command.
-use Rattle.std.specs.Prelude.{ℕ, List, [], ◌∷◌, Bool, ◌&&◌, ◌==◌, ◌+◌, ◌%◌, false, nat_le, if◌then◌else◌, Option, None, Some, option_map, option_and_then, length, map, string_bytes, codes, String}
+use Rattle.std.specs.Prelude.{ℕ, List, [], ◌∷◌, Bool, ◌&&◌, ◌==◌, ◌+◌, ◌%◌, true, false, nat_le, if◌then◌else◌, Option, None, Some, option_map, option_and_then, max, length, map, string_bytes, codes, String}
 use Rattle.std.specs.Global.{Global}
 use Rattle.std.specs.Str.{bytes_eq}
 use Rattle.std.specs.Option.{option_map_or}
@@ -38,21 +38,23 @@ number_within usual least most (Some text) = number_between least most text
 abbrev pub in_pages : ℕ → Option ℕ
 in_pages n = if n % 4096 == 0 then Some n else None
 
--- the limits of a run: places of the ring, bytes of a guest, instructions of a version, events of the log, threads of the host
+-- the limits of a run: places of the ring, bytes of a guest, instructions of a version and whether their count begins anew at each answer, events of the log,
+-- threads of the host
 pub record Limits : Type 0 where
   pub ring : ℕ
   pub memory : ℕ
   pub budget : ℕ
+  pub renews : Bool
   pub calls : ℕ
   pub threads : ℕ
 
 -- those of a run whose line names none
 abbrev pub usual : Limits
-usual = record { ring = 256; memory = 1048576; budget = 10000000; calls = 65536; threads = 8 }
+usual = record { ring = 256; memory = 1048576; budget = 10000000; renews = false; calls = 65536; threads = 8 }
 
--- those of a service whose line names none: a run's, but with as many instructions and events as an option may ask for
+-- those of a service whose line names none: a run's, but with as many events as an option may ask for, and so many instructions after each answer
 abbrev pub service_usual : Limits
-service_usual = record usual { budget = 1000000000; calls = 131072 }
+service_usual = record usual { budget = 100000000; renews = true; calls = 500000000 }
 
 -- each limit that a line asks for; the default's where its option isn't given
 unfoldable pub ring_of : Limits → List Row → Option ℕ
@@ -61,20 +63,35 @@ ring_of defaults rows = number_within defaults.ring 2 1024 (first_of (codes "rin
 unfoldable pub memory_of : Limits → List Row → Option ℕ
 memory_of defaults rows = option_and_then in_pages (number_within defaults.memory 131072 16777216 (first_of (codes "memory") rows))
 
-unfoldable pub budget_of : Limits → List Row → Option ℕ
-budget_of defaults rows = number_within defaults.budget 1 1000000000 (first_of (codes "budget") rows)
+-- so many instructions of a version, and whether their count begins anew at each answer
+pub record Allowance : Type 0 where
+  pub budget : ℕ
+  pub renews : Bool
+
+abbrev pub allowed : Text → Bool → Option Allowance
+allowed text renews = option_map (λ n. record { budget = n; renews = renews }) (number_between 1 1000000000 text)
+
+-- by `--hang` they begin anew, by `--budget` they don't; a line has one of the two at most
+abbrev pub allowance_from : Limits → Option Text → Option Text → Option Allowance
+allowance_from defaults None None = Some (record { budget = defaults.budget; renews = defaults.renews })
+allowance_from defaults (Some hang) None = allowed hang true
+allowance_from defaults None (Some budget) = allowed budget false
+allowance_from defaults (Some hang) (Some budget) = None
+
+unfoldable pub allowance_of : Limits → List Row → Option Allowance
+allowance_of defaults rows = allowance_from defaults (first_of (codes "hang") rows) (first_of (codes "budget") rows)
 
 unfoldable pub calls_asked : Limits → List Row → Option ℕ
-calls_asked defaults rows = number_within defaults.calls 1 131072 (first_of (codes "calls") rows)
+calls_asked defaults rows = number_within defaults.calls 1 (max 131072 defaults.calls) (first_of (codes "calls") rows)
 
 unfoldable pub threads_asked : Limits → List Row → Option ℕ
 threads_asked defaults rows = number_within defaults.threads 1 8 (first_of (codes "threads") rows)
 
 unfoldable pub limits_of : Limits → List Row → Option Limits
 limits_of defaults rows =
-    option_and_then (λ ring. option_and_then (λ memory. option_and_then (λ budget. option_and_then (λ calls. option_map (λ threads.
-    record { ring = ring; memory = memory; budget = budget; calls = calls; threads = threads })
-    (threads_asked defaults rows)) (calls_asked defaults rows)) (budget_of defaults rows)) (memory_of defaults rows)) (ring_of defaults rows)
+    option_and_then (λ ring. option_and_then (λ memory. option_and_then (λ allowance. option_and_then (λ calls. option_map (λ threads.
+    record { ring = ring; memory = memory; budget = allowance.budget; renews = allowance.renews; calls = calls; threads = threads })
+    (threads_asked defaults rows)) (calls_asked defaults rows)) (allowance_of defaults rows)) (memory_of defaults rows)) (ring_of defaults rows)
 
 -- at most eight versions
 unfoldable pub versions_asked : List Row → Option (List Text)
@@ -148,14 +165,15 @@ pub record Trail : Type 0 where
   pub version : List ℕ
   pub memory : ℕ
   pub budget : ℕ
+  pub renews : Bool
   pub index : ℕ
 
 unfoldable pub trail_of : List Row → Option Trail
 trail_of rows =
     option_and_then (λ script. option_and_then (λ trace. option_and_then (λ version.
-    option_and_then (λ memory. option_and_then (λ budget. option_map (λ index.
-    record { script = script; rules = first_of (codes "rules") rows; trace = trace; version = version; memory = memory; budget = budget; index = index })
-    (index_of rows)) (budget_of usual rows)) (memory_of usual rows))
+    option_and_then (λ memory. option_and_then (λ allowance. option_map (λ index.
+    record { script = script; rules = first_of (codes "rules") rows; trace = trace; version = version; memory = memory; budget = allowance.budget; renews = allowance.renews; index = index })
+    (index_of rows)) (allowance_of usual rows)) (memory_of usual rows))
     (first_of (codes "version") rows)) (first_of (codes "trace") rows)) (first_of (codes "script") rows)
 
 -- a point of a trace: before the event of this place; before the first event of this number; after so many instructions of the version
@@ -238,7 +256,7 @@ name_spelt word =
     else (if bytes_eq word (codes "record") then Some NamesRecord
     else (if bytes_eq word (codes "replay") then Some NamesReplay
     else (if bytes_eq word (codes "inspect") then Some NamesInspect
-    else (if bytes_eq word (codes "help") then Some NamesHelp else None))))))))
+    else (if bytes_eq word (codes "usage") then Some NamesHelp else None))))))))
 
 -- what help is asked for: a command, or all of them where none is named
 abbrev pub topic_from : Option Text → Option (Option Name)

@@ -24,6 +24,7 @@ pub struct Run<'a> {
     /// The report is written as JSON.
     pub json: bool,
     ghost few: { length versions.items ≤ 8 },
+    ghost calls_fit: { limits.calls ≤ 131072 },
 }
 
 /// Versions whose input comes from outside while they run.
@@ -74,6 +75,8 @@ pub struct Trail<'a> {
     pub memory: u32,
     /// Instructions of the version.
     pub budget: u32,
+    /// Their count begins anew at each answer.
+    pub renews: bool,
     /// The version's index, as the filter sees it.
     pub index: u32,
     ghost memory_fits: { (131072 ≤ memory) × (memory ≤ 16777216) × (memory % 4096 ≡ 0) },
@@ -115,7 +118,7 @@ pub enum Command<'a> {
     Record(Run<'a>),
     Replay(Trail<'a>),
     Inspect(Look<'a>),
-    /// `help`: how this command is used, or each of them.
+    /// `usage`: how this command is used, or each of them.
     Help(Option<Name>),
 }
 

@@ -1,4 +1,4 @@
-// What `help` writes, line by line.
+// What `usage` writes, line by line.
 ghost use Rattle.std.specs.Prelude.{◌≡◌, Some, option_map};
 ghost use Rattle.std.specs.List.{flat_map};
 ghost use Rattle.nv_command.specs.Help.{help_of};
@@ -22,7 +22,7 @@ const RULES_USAGE: &[u8] = b"varan rules [--asm] FILE\n";
 
 const GEN_USAGE: &[u8] = b"varan gen N\n";
 
-const HELP_USAGE: &[u8] = b"varan help [COMMAND]\n";
+const HELP_USAGE: &[u8] = b"varan usage [COMMAND]\n";
 
 const SCRIPT: &[u8] = b"  --script S      the script; it must be given\n";
 
@@ -39,12 +39,19 @@ const MEMORY: &[u8] =
 const BUDGET: &[u8] =
     b"  --budget N      instructions of a version: 1 to 1000000000, default 10000000\n";
 
-const LONG_BUDGET: &[u8] =
-    b"  --budget N      instructions of a version: 1 to 1000000000, default 1000000000\n";
+const NO_BUDGET: &[u8] =
+    b"  --budget N      instructions of a version in place of --hang: 1 to 1000000000\n";
+
+const HANG: &[u8] =
+    b"  --hang N        instructions after each answer in place of --budget: 1 to 1000000000\n";
+
+const USUAL_HANG: &[u8] =
+    b"  --hang N        instructions of a version after each answer: 1 to 1000000000, default 100000000\n";
 
 const CALLS: &[u8] = b"  --calls N       events of the log: 1 to 131072, default 65536\n";
 
-const MANY_CALLS: &[u8] = b"  --calls N       events of the log: 1 to 131072, default 131072\n";
+const MANY_CALLS: &[u8] =
+    b"  --calls N       events of the log: 1 to 500000000, default 500000000\n";
 
 const THREADS: &[u8] = b"  --threads N     host threads that run the versions: 1 to 8, default 8\n";
 
@@ -71,26 +78,28 @@ const LENGTH: &[u8] = b"  --length BYTES  how many bytes --dump shows: 1 to 4096
 
 const ASM: &[u8] = b"  --asm           a rule text is assembled\n";
 
-const RUN_HELP: [&[u8]; 10] = [
+const RUN_HELP: [&[u8]; 11] = [
     RUN_USAGE,
     SCRIPT,
     RULES,
     RING,
     MEMORY,
     BUDGET,
+    HANG,
     CALLS,
     THREADS,
     JSON,
     b"example: varan run --script clients update old\n",
 ];
 
-const SERVE_HELP: [&[u8]; 11] = [
+const SERVE_HELP: [&[u8]; 12] = [
     SERVE_USAGE,
     START,
     RULES,
     RING,
     MEMORY,
-    LONG_BUDGET,
+    USUAL_HANG,
+    NO_BUDGET,
     MANY_CALLS,
     THREADS,
     CLIENTS,
@@ -98,34 +107,37 @@ const SERVE_HELP: [&[u8]; 11] = [
     b"example: varan serve --clients update old\n",
 ];
 
-const RECORD_HELP: [&[u8]; 9] = [
+const RECORD_HELP: [&[u8]; 10] = [
     RECORD_USAGE,
     SCRIPT,
     RULES,
     RING,
     MEMORY,
     BUDGET,
+    HANG,
     CALLS,
     THREADS,
     b"example: varan record --script clients old > trace\n",
 ];
 
-const REPLAY_HELP: [&[u8]; 7] = [
+const REPLAY_HELP: [&[u8]; 8] = [
     REPLAY_USAGE,
     SCRIPT,
     RULES,
     MEMORY,
     BUDGET,
+    HANG,
     INDEX,
     b"example: varan replay --script clients trace patch\n",
 ];
 
-const INSPECT_HELP: [&[u8]; 12] = [
+const INSPECT_HELP: [&[u8]; 13] = [
     INSPECT_USAGE,
     SCRIPT,
     RULES,
     MEMORY,
     BUDGET,
+    HANG,
     INDEX,
     STAMP,
     CALL,
@@ -145,7 +157,7 @@ const RULES_HELP: [&[u8]; 3] = [
 
 const GEN_HELP: [&[u8]; 2] = [GEN_USAGE, b"example: varan gen 7\n"];
 
-const HELP_HELP: [&[u8]; 2] = [HELP_USAGE, b"example: varan help run\n"];
+const HELP_HELP: [&[u8]; 2] = [HELP_USAGE, b"example: varan usage run\n"];
 
 const ALL_HELP: [&[u8]; 10] = [
     RUN_USAGE,
@@ -157,7 +169,7 @@ const ALL_HELP: [&[u8]; 10] = [
     RULES_USAGE,
     GEN_USAGE,
     HELP_USAGE,
-    b"varan help COMMAND writes the options of a command, and an example\n",
+    b"varan usage COMMAND writes the options of a command, and an example\n",
 ];
 
 // The lines of one command's help.
@@ -177,7 +189,7 @@ fn command_help(name: Name) -> &'static [&'static [u8]]
     }
 }
 
-/// The lines that `help` writes, of one command or of all.
+/// The lines that `usage` writes, of one command or of all.
 pub fn help_text(topic: Option<Name>) -> &'static [&'static [u8]]
     ensures { flat_map (λ line. line.now) result.now ≡ help_of (option_map name_view topic) }
 {

@@ -1,7 +1,7 @@
 //! The words of a command line: what they ask for, or that they are refused; `clap` reads the words of each command.
 //! Types: `Command`, and its parts `Run`, `Service`, `Job`, `Tool`, `Trail`, `Look`, `Point`, `Limits`; `Name`; `LineFault`.
 //! Proved: `read` gives the command that the words ask for, or that they are refused, as specs/Words defines; memory is
-//! wanted only after a command's name. `help_text` gives what `help` writes, as specs/Help has it.
+//! wanted only after a command's name. `help_text` gives what `usage` writes, as specs/Help has it.
 //! Above: the commands.
 #![tactic(auto)]
 

@@ -10,6 +10,8 @@ pub struct Limits {
     pub memory: u32,
     /// Instructions of a version.
     pub budget: u32,
+    /// Their count begins anew at each answer.
+    pub renews: bool,
     /// Events of the log.
     pub calls: u32,
     /// Threads of the host.
@@ -17,8 +19,17 @@ pub struct Limits {
     ghost ring_fits: { (2 ≤ ring) × (ring ≤ 1024) },
     ghost memory_fits: { (131072 ≤ memory) × (memory ≤ 16777216) × (memory % 4096 ≡ 0) },
     ghost budget_fits: { (1 ≤ budget) × (budget ≤ 1000000000) },
-    ghost calls_fit: { (1 ≤ calls) × (calls ≤ 131072) },
+    ghost calls_fit: { (1 ≤ calls) × (calls ≤ 500000000) },
     ghost threads_fit: { (1 ≤ threads) × (threads ≤ 8) },
+}
+
+/// The instructions that a line gives a version.
+#[derive(Clone, Copy)]
+pub struct Allowance {
+    pub budget: u32,
+    /// Their count begins anew at each answer.
+    pub renews: bool,
+    ghost budget_fits: { (1 ≤ budget) × (budget ≤ 1000000000) },
 }
 
 impl Limits {
@@ -34,12 +45,14 @@ impl Limits {
             ring: 256,
             memory: 1_048_576,
             budget: 10_000_000,
+            renews: false,
             calls: 65_536,
             threads: 8,
         }
     }
 
-    /// The limits of a service whose line names none: it runs as long as an option may ask for.
+    /// The limits of a service whose line names none: it has as many events as an option may ask for, and a version as many
+    /// instructions after each answer as it runs in a second or so.
     pub fn of_service() -> Limits
         ensures { limits_view result ≡ service_usual }
     {
@@ -47,8 +60,9 @@ impl Limits {
         Limits {
             ring: usual.ring,
             memory: usual.memory,
-            budget: 1_000_000_000,
-            calls: 131_072,
+            budget: 100_000_000,
+            renews: true,
+            calls: 500_000_000,
             threads: usual.threads,
         }
     }

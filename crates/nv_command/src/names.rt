@@ -16,21 +16,23 @@ pub enum Name {
 }
 
 // The options that `run`, `record` and `serve` share.
-const RUN_OPTIONS: [(&str, Kind); 6] = [
+const RUN_OPTIONS: [(&str, Kind); 7] = [
     ("rules", Kind::Value),
     ("ring", Kind::Value),
     ("memory", Kind::Value),
     ("budget", Kind::Value),
+    ("hang", Kind::Value),
     ("calls", Kind::Value),
     ("threads", Kind::Value),
 ];
 
 // The options of a version that follows a trace.
-const TRAIL_OPTIONS: [(&str, Kind); 5] = [
+const TRAIL_OPTIONS: [(&str, Kind); 6] = [
     ("script", Kind::Needed),
     ("rules", Kind::Value),
     ("memory", Kind::Value),
     ("budget", Kind::Value),
+    ("hang", Kind::Value),
     ("index", Kind::Value),
 ];
 
@@ -100,7 +102,7 @@ const INSPECT: Form = Form {
 };
 
 const HELP: Form = Form {
-    name: "help",
+    name: "usage",
     options: &[],
     rest: &[("command", Kind::Word)],
 };
@@ -124,7 +126,7 @@ impl Name {
             "record" => Some(Name::Record),
             "replay" => Some(Name::Replay),
             "inspect" => Some(Name::Inspect),
-            "help" => Some(Name::Help),
+            "usage" => Some(Name::Help),
             _ => None,
         }
     }

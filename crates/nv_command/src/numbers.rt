@@ -1,11 +1,11 @@
 // The numbers of the options.
-ghost use Rattle.std.specs.Prelude.{◌≡◌, ◌≤◌, ◌%◌, IfSome, option_map};
+ghost use Rattle.std.specs.Prelude.{◌≡◌, ◌≤◌, ◌%◌, max, IfSome, option_map};
 ghost use Rattle.clap.specs.Matches.{found_of};
 ghost use Rattle.clap.specs.Walk.{rows_of};
-ghost use Rattle.nv_command.specs.Words.{number_between, number_within, in_pages, ring_of, memory_of, budget_of, calls_asked, threads_asked, limits_of, index_of};
-ghost use Rattle.nv_command.specs.Seen.{limits_view};
+ghost use Rattle.nv_command.specs.Words.{number_between, number_within, in_pages, ring_of, memory_of, allowed, allowance_from, allowance_of, calls_asked, threads_asked, limits_of, index_of};
+ghost use Rattle.nv_command.specs.Seen.{limits_view, allowance_view};
 
-use crate::limits::Limits;
+use crate::limits::{Allowance, Limits};
 use crate::matching::text;
 use clap::ArgMatches;
 
@@ -67,21 +67,49 @@ pub fn memory(defaults: Limits, matches: &ArgMatches<'_>) -> Option<u32>
     in_pages(bytes)
 }
 
-/// Instructions of a version.
-#[tactic(auto, unfolding(crate::specs::Words::budget_of))]
-pub fn budget(defaults: Limits, matches: &ArgMatches<'_>) -> Option<u32>
-    ensures number { result ≡ budget_of (limits_view defaults) (rows_of (found_of matches.now)) }
-    ensures range { IfSome result (λ number. (1 ≤ number) × (number ≤ 1000000000)) }
+// So many instructions, as a text says.
+fn allowed(text: &str, renews: bool) -> Option<Allowance>
+    ensures { option_map allowance_view result ≡ allowed text.now renews }
 {
-    number_within(defaults.budget, 1, 1_000_000_000, text(matches, "budget"))
+    let budget = number_between(1, 1_000_000_000, text)?;
+    Some(Allowance { budget, renews })
+}
+
+// By `--hang` or `--budget`, of which a line has one at most.
+fn allowance_from(defaults: Limits, hang: Option<&str>, budget: Option<&str>) -> Option<Allowance>
+    ensures { option_map allowance_view result ≡ allowance_from (limits_view defaults) (option_map (λ text. text.now) hang.entry) (option_map (λ text. text.now) budget.entry) }
+{
+    match (hang, budget) {
+        (None, None) => Some(Allowance {
+            budget: defaults.budget,
+            renews: defaults.renews,
+        }),
+        (Some(hang), None) => allowed(hang, true),
+        (None, Some(budget)) => allowed(budget, false),
+        (Some(_), Some(_)) => None,
+    }
+}
+
+/// Instructions of a version.
+#[tactic(auto, unfolding(crate::specs::Words::allowance_of))]
+pub fn instructions(defaults: Limits, matches: &ArgMatches<'_>) -> Option<Allowance>
+    ensures { option_map allowance_view result ≡ allowance_of (limits_view defaults) (rows_of (found_of matches.now)) }
+{
+    allowance_from(defaults, text(matches, "hang"), text(matches, "budget"))
 }
 
 #[tactic(auto, unfolding(crate::specs::Words::calls_asked))]
 fn calls(defaults: Limits, matches: &ArgMatches<'_>) -> Option<u32>
     ensures number { result ≡ calls_asked (limits_view defaults) (rows_of (found_of matches.now)) }
-    ensures range { IfSome result (λ number. (1 ≤ number) × (number ≤ 131072)) }
+    ensures range { IfSome result (λ number. (1 ≤ number) × (number ≤ 500000000)) }
+    ensures most { IfSome result (λ number. number ≤ max 131072 defaults.calls) }
 {
-    number_within(defaults.calls, 1, 131_072, text(matches, "calls"))
+    number_within(
+        defaults.calls,
+        1,
+        defaults.calls.max(131_072),
+        text(matches, "calls"),
+    )
 }
 
 #[tactic(auto, unfolding(crate::specs::Words::threads_asked))]
@@ -94,17 +122,19 @@ fn threads(defaults: Limits, matches: &ArgMatches<'_>) -> Option<u32>
 
 /// The limits of a run or of a service: where an option isn't given, the default.
 pub fn limits(defaults: Limits, matches: &ArgMatches<'_>) -> Option<Limits>
-    ensures { option_map limits_view result ≡ limits_of (limits_view defaults) (rows_of (found_of matches.now)) }
+    ensures limits { option_map limits_view result ≡ limits_of (limits_view defaults) (rows_of (found_of matches.now)) }
+    ensures calls { IfSome result (λ limits. limits.calls ≤ max 131072 defaults.calls) }
 {
     let ring = ring(defaults, matches)?;
     let memory = memory(defaults, matches)?;
-    let budget = budget(defaults, matches)?;
+    let allowance = instructions(defaults, matches)?;
     let calls = calls(defaults, matches)?;
     let threads = threads(defaults, matches)?;
     Some(Limits {
         ring,
         memory,
-        budget,
+        budget: allowance.budget,
+        renews: allowance.renews,
         calls,
         threads,
     })

@@ -1,5 +1,5 @@
 // How a line is read.
-ghost use Rattle.std.specs.Prelude.{◌≡◌, ◌≤◌, None, Some, IfOk, IfErr, IfSome, IsSome, option_and_then, option_map, length};
+ghost use Rattle.std.specs.Prelude.{◌≡◌, ◌≤◌, max, None, Some, IfOk, IfErr, IfSome, IsSome, option_and_then, option_map, length};
 ghost use Rattle.clap.specs.Matches.{found_of};
 ghost use Rattle.clap.specs.Walk.{rows_of};
 ghost use Rattle.nv_command.specs.Words.{texts, NamesRun, NamesServe, NamesRules, NamesAsm, NamesGen, NamesRecord, NamesReplay, NamesInspect, NamesHelp, versions_asked, usual, service_usual, parts_of, plan_of, service_of, topic_from, asked_by, name_spelt, command_of};
@@ -39,7 +39,8 @@ fn names<'m, 'a>(matches: &'m ArgMatches<'a>) -> Option<&'m [&'a str]>
 
 #[tactic(auto, unfolding(crate::specs::Words::parts_of))]
 fn parts_of<'m, 'a>(defaults: Limits, matches: &'m ArgMatches<'a>) -> Option<Parts<'m, 'a>>
-    ensures { option_map parts_view result ≡ parts_of (limits_view defaults) (rows_of (found_of matches.entry.now)) }
+    ensures parts { option_map parts_view result ≡ parts_of (limits_view defaults) (rows_of (found_of matches.entry.now)) }
+    ensures calls { IfSome result (λ parts. parts.limits.calls ≤ max 131072 defaults.calls) }
 {
     let rules = text(matches, "rules");
     let names = names(matches)?;

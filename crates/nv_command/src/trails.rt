@@ -8,7 +8,7 @@ ghost use Rattle.nv_command.specs.Seen.{trail_view};
 use crate::asked::Trail;
 use crate::limits::Limits;
 use crate::matching::text;
-use crate::numbers::{budget, index, memory};
+use crate::numbers::{index, instructions, memory};
 use clap::ArgMatches;
 
 /// The version, its trace and its limits.
@@ -22,7 +22,7 @@ pub fn trail<'a>(matches: &ArgMatches<'a>) -> Option<Trail<'a>>
     let version = text(matches, "version")?;
     let usual = Limits::usual();
     let memory = memory(usual, matches)?;
-    let budget = budget(usual, matches)?;
+    let allowance = instructions(usual, matches)?;
     let index = index(matches)?;
     Some(Trail {
         script,
@@ -30,7 +30,8 @@ pub fn trail<'a>(matches: &ArgMatches<'a>) -> Option<Trail<'a>>
         trace,
         version,
         memory,
-        budget,
+        budget: allowance.budget,
+        renews: allowance.renews,
         index,
     })
 }
