@@ -1,5 +1,4 @@
 mod Lived
-mod Sending
 mod Served
 mod Once
 mod Counted

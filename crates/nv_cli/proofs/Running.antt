@@ -1,10 +1,12 @@
 -- A run from what its versions came to beside each other.
-use Rattle.std.proofs.Common.{◌≡◌, ◌∙◌, ap, subst, ℕ, List, Option, map}
+use Rattle.std.proofs.Common.{◌≡◌, ◌∙◌, sym, ap, subst, ℕ, ◌≤◌, List, Option, map, length}
 use Rattle.nv_bpf.specs.declared.op.Op.{Op}
 use Rattle.nv_calls.specs.Calls.{Entry}
+use Rattle.nv_calls.specs.Logs.{Start}
 use Rattle.nv_command.specs.Words.{Limits}
 use Rattle.nv_arriving.specs.Scripted.{start_from}
 use Rattle.nv_machine.specs.Guest.{Machine}
+use Rattle.nv_replay.proofs.Agreeing.{sequence_short}
 use Rattle.nv_replay.specs.Follow.{judge_of}
 use Rattle.nv_replay.specs.Monitor.{sequence}
 use Rattle.nv_replay.specs.Sequence.{Account, cuts_of}
@@ -17,6 +19,12 @@ use Rattle.nv_workers.specs.Ends.{IsAccount}
 use Rattle.nv_driver.specs.Account.{IsRunOf, process_begun}
 use Rattle.nv_driver.specs.Refusals.{IsPlanned}
 use Rattle.nv_cli.proofs.Once.{settled_unplanned}
+
+-- the log is at most as long as it may be
+pub log_is_short : (rules : Option (List Op)) (start : Start) (most : ℕ) (hands : List ℕ) (olds news : List (Running Proc)) (log : List Entry)
+    → IsAccount threads (judge_of rules) start most hands olds news log → length log ≤ most
+log_is_short rules start most hands olds news log a =
+    subst (λ (z : Account). length z.log ≤ most) (sym a.account) (sequence_short threads (judge_of rules) start most (cuts_of (map standing_of news)) hands (map process_of olds))
 
 -- versions that begin with these machines, and the script's planned lengths
 pub run_of : (limits : Limits) (setup : Setup) (rules : Option (List Op)) (machines : List Machine) (hands : List ℕ) (olds news : List (Running Proc)) (log : List Entry) → IsPlanned setup hands

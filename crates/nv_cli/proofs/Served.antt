@@ -8,16 +8,17 @@ use Rattle.nv_arrivals.specs.Order.{are_orderly, are_arrivals}
 use Rattle.nv_arrivals.specs.Doings.{Doing, Takes, takings, sayings}
 use Rattle.nv_arriving.specs.Arriving.{first_stage, stage_after, start_of_arrivals}
 use Rattle.nv_arriving.specs.Doings.{doings}
-use Rattle.nv_arriving.specs.Kernel.{KernelState}
+use Rattle.nv_arriving.specs.Kernel.{Coming}
 use Rattle.nv_arriving.specs.Scripted.{start_from}
 use Rattle.nv_arriving.specs.Telling.{Tells, IsTold}
 use Rattle.nv_bpf.specs.declared.op.Op.{Op}
 use Rattle.nv_calls.specs.Calls.{Entry}
 use Rattle.nv_calls.specs.Logs.{calls_of}
 use Rattle.nv_command.specs.Words.{Limits}
+use Rattle.nv_kernel.specs.Logged.{Logged}
 use Rattle.nv_live.specs.Lines.{held_text}
 use Rattle.nv_live.specs.Live.{stop_with}
-use Rattle.nv_live.specs.Run.{CameBy, said_text, DidRun, IsBegun, input_of, output_of, notes_of, line_of, held_by, stop_of_run, source_stop}
+use Rattle.nv_live.specs.Run.{CameBy, said_text, DidRun, IsBegun, input_of, output_of, line_of, held_by, stop_of_run, source_stop}
 use Rattle.nv_live.specs.Telling.{Told}
 use Rattle.nv_live.specs.Transcript.{lines_of}
 use Rattle.nv_live.specs.Writer.{sink_in, put_of}
@@ -145,31 +146,31 @@ module _ {I O T : Type 0} (took : I → Option (List (List ℕ))) (unread : I �
 
   -- the versions of a live run ran over what came
   pub served_by : (limits : Limits) (clients : Bool) (setup : Setup) (head : List ℕ) (rules : Option (List Op)) (hands : List ℕ) (versions : List (Running Proc)) (machines : List Machine)
-      (before after : Held I O T) (ending : Ending) (kernel : KernelState (LiveRun I O T)) (account : Ran (KernelState (LiveRun I O T))) (sink : Option (List ℕ)) (faults status : ℕ)
+      (before after : Held I O T) (ending : Ending) (kernel : Logged (Coming (LiveRun I O T))) (account : Ran (Logged (Coming (LiveRun I O T)))) (sink : Option (List ℕ)) (faults status : ℕ)
       → status ≡ run_status (map standing_of account.versions.items)
       → map process_of versions ≡ map (process_begun limits) machines → IsTranscript head setup → setup.arrivals ≡ [] → IsPlanned setup hands
       → IsBegunOver took unread said unsaid noted unnoted clients setup head before kernel
       → RanOver (told took unread said unsaid noted unnoted) kernel rules limits.calls hands versions account
-      → Tells (DidRun took unread said unsaid noted unnoted) account.kernel.begun account.kernel.outside account.kernel.setup account.kernel.came account.kernel.log account.kernel.late
-      → HasLeft noted unnoted account.kernel.outside after ending
+      → Tells (DidRun took unread said unsaid noted unnoted) account.kernel.answers.begun account.kernel.answers.outside account.kernel.setup account.kernel.answers.came account.kernel.log account.kernel.answers.late
+      → HasLeft noted unnoted account.kernel.answers.outside after ending
       → Served limits clients setup rules machines (streams_of took unread said unsaid noted unnoted before) sink faults status sink faults
       (Some (streams_of took unread said unsaid noted unnoted after, ending))
   served_by limits clients setup head rules hands versions machines before after ending kernel account sink faults status ends are begins none planned begun ran tells left =
       let k = account.kernel in
       let set : k.setup ≡ setup = ap (λ b. b.setup) ran.same ∙ begun.setup_is in
-      let first : IsBegun took unread said unsaid noted unnoted clients head before (told took unread said unsaid noted unnoted k.begun) =
+      let first : IsBegun took unread said unsaid noted unnoted clients head before (told took unread said unsaid noted unnoted k.answers.begun) =
       subst (λ t. IsBegun took unread said unsaid noted unnoted clients head before t) (sym (ap (λ b. b.told) ran.same)) begun.begun in
-      let all = tells (begun-none took unread said unsaid noted unnoted k.begun (fresh clients head before (told took unread said unsaid noted unnoted k.begun) first)) in
+      let all = tells (begun-none took unread said unsaid noted unnoted k.answers.begun (fresh clients head before (told took unread said unsaid noted unnoted k.answers.begun) first)) in
       record {
-        arrivals = k.came;
+        arrivals = k.answers.came;
         account = record { log = k.log; lines = map standing_of account.versions.items };
-        is_run = run_of limits (with_arrivals setup k.came) rules machines hands versions account.versions.items k.log (record { same = planned.same; few = planned.few })
-            (subst (λ start. IsAccount threads (judge_of rules) start limits.calls hands versions account.versions.items k.log) (ap (λ s. start_of_arrivals s k.came) set ∙ begun_alike setup k.came) ran.is_account)
+        is_run = run_of limits (with_arrivals setup k.answers.came) rules machines hands versions account.versions.items k.log (record { same = planned.same; few = planned.few })
+            (subst (λ start. IsAccount threads (judge_of rules) start limits.calls hands versions account.versions.items k.log) (ap (λ s. start_of_arrivals s k.answers.came) set ∙ begun_alike setup k.answers.came) ran.is_account)
             are;
         says = record { put = Ok tt; ends = ends; written = puts-none sink faults };
         later = streams_of took unread said unsaid noted unnoted after;
         ending = ending;
         left_is = refl;
-        lived = lived clients setup head begins none before after k.begun k.outside first ending left k.came k.log k.late all.0
-            (subst (λ s. IsTold (DidRun took unread said unsaid noted unnoted) k.begun k.outside s k.came k.log k.late all.0) set all.1);
+        lived = lived clients setup head begins none before after k.answers.begun k.answers.outside first ending left k.answers.came k.log k.answers.late all.0
+            (subst (λ s. IsTold (DidRun took unread said unsaid noted unnoted) k.answers.begun k.answers.outside s k.answers.came k.log k.answers.late all.0) set all.1);
       }

@@ -63,7 +63,7 @@ use Rattle.nv_guest.specs.Paths.{byte_at, path_with, path_at}
 use Rattle.nv_guest.specs.Threads.{Threaded, regs_at, with_regs, machine_at, with_machine, answered_at, with_stack, with_pointer, child_regs, child_thread, cloned, dropped, without, unreserved, unreserved_each, released, last_region, is_break, break_after, with_break}
 use Rattle.nv_guest.specs.Vectors.{vector_part, vector_at, prefix_of, usable, usable_by, usable_at, parts_with, parts_at, capacity, joined_parts}
 use Rattle.nv_threads.specs.Behaviours.{Behaviour}
-use Rattle.nv_threads.specs.Threads.{TaskState, Task, task_tid, task_tids, state_at, with_state, is_running, is_asking, asks, waits_at, lesser, Proc, turn_length, started, count_of, greatest, machine, least_above, least, or_else, next_tid, all_unreserved, turn_passed, turn_replied, broken, brk, operation, least_waiter, woken_one, woken_by, woken, woke, waiting, futex_on, futex_by, futex, own_answer, local, asking, called, faulted, ran, ended_by, turn_stepped, one_run, instruction, wanted, moves, moves_task, can_move, unless_live, is_on, turn_step, unless_came, steps, most_passes, most_steps, advanced, no_call, call_in, exited, left_by, goes_on, with_child_task, after_call, answered_as, answered_by, waiting_calls, is_sole, threads}
+use Rattle.nv_threads.specs.Threads.{TaskState, Task, task_tid, task_tids, state_at, with_state, is_running, is_asking, asks, waits_at, lesser, Proc, turn_length, renewals_of, started, count_of, renewed, greatest, machine, least_above, least, or_else, next_tid, all_unreserved, turn_passed, turn_replied, broken, brk, operation, least_waiter, woken_one, woken_by, woken, woke, waiting, futex_on, futex_by, futex, own_answer, local, asking, called, faulted, ran, ended_by, turn_stepped, one_run, instruction, wanted, moves, moves_task, can_move, unless_live, is_on, turn_step, unless_came, steps, most_passes, most_steps, advanced, no_call, call_in, exited, left_by, goes_on, with_child_task, after_call, answered_as, answered_by, waiting_calls, is_sole, threads}
 use Rattle.nv_blocks.specs.Contents.{with_bytes}
 use Rattle.nv_fs.specs.Closes.{with_descriptor, close_open, close_of, free_descriptor, shared_at, share, dup_open, dup_of, dup_onto, dup3_of}
 use Rattle.nv_fs.specs.Ends.{free_pipe, with_empty, with_ends, free_above, pipe_on, pipe_from, pipe_of}
@@ -144,14 +144,15 @@ use Rattle.nv_gen.specs.Programs.{sets, points, ecall, ebreak, write_insns, getu
 use Rattle.nv_trace.specs.Checks.{is_live, is_reply, entry_fault, faults_after, check_fault}
 use Rattle.nv_trace.specs.Faults.{has_head, head_fault, event_fault, events_fault, trace_fault}
 use Rattle.nv_trace.specs.Held.{count_in, bad_in, sent_in, came_in, size_in, request_in, response_in, entry_in, entries_in, log_in}
+use Rattle.nv_trace.specs.Limits.{MOST_TRACED}
 use Rattle.nv_trace.specs.Texts.{trace_text, check_text}
 use Rattle.nv_trace.specs.Trace.{number_bytes, bit, arg, fields_of, event_bytes, head_bytes, trace_of}
 use Rattle.nv_inspect.specs.Firsts.{texts_below}
-use Rattle.nv_inspect.specs.Points.{place_of, events_to, budget_to, at_point}
+use Rattle.nv_inspect.specs.Points.{place_of, events_to, budget_to, renews_to, at_point}
 use Rattle.nv_inspect.specs.Shown.{word_text, standing_text, place_text, heading_text, register_text, registers_text, counter_text, thread_text, live_text, threads_text, opened_text, named_text, descriptor_as, descriptor_text, descriptors_text, cell_text, byte_text, row_text, memory_line, dump_text, show_text}
-use Rattle.nv_command.specs.Help.{usage_line, script_help, start_help, rules_help, ring_help, memory_help, budget_help, long_budget_help, calls_help, many_calls_help, threads_help, json_help, clients_help, log_help, index_help, stamp_help, call_help, count_help, dump_help, length_help, asm_help, option_lines, example_line, more_help, help_lines, help_of}
+use Rattle.nv_command.specs.Help.{usage_line, script_help, start_help, rules_help, ring_help, memory_help, budget_help, no_budget_help, hang_help, usual_hang_help, calls_help, many_calls_help, threads_help, json_help, clients_help, log_help, index_help, stamp_help, call_help, count_help, dump_help, length_help, asm_help, option_lines, example_line, more_help, help_lines, help_of}
 use Rattle.nv_command.specs.Simple.{option_rule, flag_rule, file_rule, files_rule, word_rule, required, simple_app, run_options, run_app, record_app, serve_app, trail_options, look_options, trail_files, replay_app, inspect_app, rules_app, asm_app, gen_app, help_app}
-use Rattle.nv_command.specs.Words.{texts, unless_faulty, rows_of_line, number_between, number_within, in_pages, Limits, usual, service_usual, ring_of, memory_of, budget_of, calls_asked, threads_asked, limits_of, versions_asked, is_set, Parts as nv_command_Parts, parts_of, Plan, plan_of, report_plan_of, Service, service_of, index_of, Trail, trail_of, Point, point_from, point_of, range_of, dump_from, dump_of, Look, look_of, Job, rules_job_of, asm_job_of, number_in, Name, name_spelt, topic_from, topic_of, Command, run_line, serve_line, rules_line, asm_line, gen_line, record_line, replay_line, inspect_line, help_line, asked_by, command_name, after_program, command_of}
+use Rattle.nv_command.specs.Words.{texts, unless_faulty, rows_of_line, number_between, number_within, in_pages, Limits, usual, service_usual, ring_of, memory_of, Allowance, allowed, allowance_from, allowance_of, calls_asked, threads_asked, limits_of, versions_asked, is_set, Parts as nv_command_Parts, parts_of, Plan, plan_of, report_plan_of, Service, service_of, index_of, Trail, trail_of, Point, point_from, point_of, range_of, dump_from, dump_of, Look, look_of, Job, rules_job_of, asm_job_of, number_in, Name, name_spelt, topic_from, topic_of, Command, run_line, serve_line, rules_line, asm_line, gen_line, record_line, replay_line, inspect_line, help_line, asked_by, command_name, after_program, command_of}
 use Rattle.nv_driver.specs.Account.{process_begun, IsRunOf, run_status}
 use Rattle.nv_driver.specs.Causes.{cause_text}
 use Rattle.nv_driver.specs.Due.{RunComesTo, made_outcome, RunOwes, JobOwes, GenOwes, lack_outcome, traced_outcome, TrailOwes, replayed, files_after, shown_of, shown, RecordComesTo, RecordOwes, ServeComesTo, ServeOwes, Owes, OwesAny, IsDue, IsUntouched, Shows, Says, Answers, ServedOver, Over, AnswersOver, IsReady, IsMade, IsTraced, IsAccepted, IsRefusedAt, IsRefusedFor, IsRefusedOn, IsRefused, IsReport, IsDone, Completes, Rejects}

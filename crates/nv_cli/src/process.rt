@@ -8,7 +8,7 @@ ghost use Rattle.nv_cli.specs.Program.{ProgramAnswers, exit_of};
 ghost use Rattle.nv_cli.specs.Streams.{streams_of, left_of};
 
 use crate::serving::Left;
-use crate::varan;
+use crate::varan_over;
 use nv_command::LineFault;
 use nv_driver::{Ending, WRITE_FAULT, ended, ending_status, refuse_words};
 use nv_live::{Source, Streams};
@@ -42,7 +42,7 @@ fn answer<
         (left_of I.took I.faults O.told O.faults T.told T.faults result.1) }
 {
     match words {
-        Ok(words) => varan(rt, alloc, &words, files, sink, gate, streams),
+        Ok(words) => varan_over(rt, alloc, &words, files, sink, gate, streams),
         Err(fault) => {
             let status = refuse_words(sink, fault);
             (status, Some((streams, Ending::Finished)))
@@ -75,7 +75,7 @@ pub fn exit_status<I, O, T>(status: u8, left: &Left<I, O, T>) -> u8
 
 /// The monitor as a program, over the words of the process, or over why there are none: they aren't text, or memory was
 /// wanted for them. What it writes is gathered, and written at the latest before it returns. It gives the sink back, the
-/// status of what it said, and what `varan` gives back of the streams; with these `exit_status` tells the status of the process.
+/// status of what it said, and what `varan_over` gives back of the streams; with these `exit_status` tells the status of the process.
 pub fn program<
     R: Threads + Wait + Sync,
     F: Files,

@@ -20,14 +20,15 @@ use nv_command::{Limits, Run};
 use nv_driver::{MEMORY, Prepared, ended, prepare, put_line, refuse, starved, status};
 use nv_outside::{Files, Sink};
 use nv_replay::{Account, Version};
-use nv_served::SyscallKernel;
+use nv_served::{Recorded, SyscallKernel};
 use nv_workers::Gate;
 use std::alloc::Global;
 use std::sync::Wait;
 use std::thread::Threads;
 
 // Writes the trace of the log, and ends with the status of the run.
-fn put_trace<K: SyscallKernel, S: Sink>(account: &Account<K>, sink: &mut S) -> u8
+fn put_trace<K: SyscallKernel + Recorded, S: Sink>(account: &Account<K>, sink: &mut S) -> u8
+    requires short { length (K.log account.now.kernel) ≤ 131072 }
     ensures { Says (trace_of (K.log account.now.kernel)) (run_status (map standing_of account.now.versions.items))
         (S.told sink.old) (S.faults sink.old) result (S.told sink.new) (S.faults sink.new) }
 {
@@ -50,6 +51,7 @@ fn record_versions<R: Threads + Wait + Sync, S: Sink, G: Gate + Sync>(
     requires empty { kernel.log ≡ [] }
     requires fresh { AreFresh threads 0 versions.items }
     requires few { length versions.items ≤ 8 }
+    requires short { limits.calls ≤ 131072 }
     requires planned { IsPlanned kernel.setup hands.now.items }
     ensures { (machines : List Machine) → map process_of versions.items ≡ map (process_begun (limits_view limits)) machines
         → RecordSays (limits_view limits) kernel.setup (option_map (λ f. f.now) rules.entry) machines (S.told sink.old) (S.faults sink.old) result (S.told sink.new) (S.faults sink.new) }

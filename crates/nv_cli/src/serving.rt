@@ -13,7 +13,7 @@ ghost use Rattle.nv_cli.specs.inner.Serving.{IsBegunOver, IsReadyToServe, HasLef
 
 use crate::beside::run;
 use nv_arrivals::Outside;
-use nv_arriving::ArrivingKernel;
+use nv_arriving::{ArrivingKernel, arriving, into_outside};
 use nv_bpf::Filter;
 use nv_command::{Limits, Service};
 use nv_driver::{
@@ -32,7 +32,7 @@ use std::thread::Threads;
 pub type Left<I, O, T> = Option<(Streams<I, O, T>, Ending)>;
 
 // A kernel over what comes by these streams, of which the transcript gets its head.
-fn kernel_over<I: Source, O: Sink + Drop, T: Sink + Drop>(
+fn kernel_over<I: Source + Send, O: Sink + Drop + Send, T: Sink + Drop + Send>(
     alloc: Global,
     script: &Script,
     clients: bool,
@@ -43,7 +43,7 @@ fn kernel_over<I: Source, O: Sink + Drop, T: Sink + Drop>(
     ensures { IfOk result (λ k. IsBegunOver I.took I.faults O.told O.faults T.told T.faults clients (setup_of script.now) head.now streams k) }
 {
     let live = LiveRun::begin(alloc, clients, streams, head)?;
-    ArrivingKernel::make(alloc, script, live)
+    arriving(alloc, script, live)
 }
 
 // What a run has left of its streams; what no call took is shown in the transcript.
@@ -121,7 +121,7 @@ fn serve_versions<
         return (put_line(sink, b"varan: memory\n", MEMORY), None);
     };
     let Account { kernel, versions } = account;
-    let left = left_by(kernel.into_outside());
+    let left = left_by(into_outside(kernel));
     (status(&versions), Some(left))
 }
 

@@ -24,9 +24,10 @@ ghost use Rattle.nv_driver.specs.inner.Summing.{SumsUp};
 ghost use Rattle.nv_driver.specs.Outcome.{NotAccepted, totals_of, name_at, outcome_of, text_of, source_of};
 
 use crate::beside::run;
+use crate::nowhere::Nowhere;
 use crate::recording::record;
 use crate::serving::{Left, serve};
-use nv_arriving::ScriptedKernel;
+use nv_arriving::{ScriptedKernel, connections};
 use nv_bpf::Filter;
 use nv_command::{Command, Limits, Run};
 use nv_driver::{
@@ -37,7 +38,7 @@ use nv_gen::Totals;
 use nv_live::{Source, Streams};
 use nv_outside::{Files, Put, Sink, put_pieces};
 use nv_replay::{Account, Version};
-use nv_served::SyscallKernel;
+use nv_served::{Recorded, SyscallKernel};
 use nv_sockets::write_connections;
 use nv_workers::Gate;
 use std::alloc::Global;
@@ -45,7 +46,11 @@ use std::sync::Wait;
 use std::thread::Threads;
 
 // Writes the JSON form of the report, and a newline.
-fn put_json<K: SyscallKernel, S: Sink>(alloc: Global, account: &Account<K>, sink: &mut S) -> u8
+fn put_json<K: SyscallKernel + Recorded, S: Sink>(
+    alloc: Global,
+    account: &Account<K>,
+    sink: &mut S,
+) -> u8
     ensures { Wrote (json_text (output_of (K.known account.now.kernel) (K.log account.now.kernel))
         (record { log = K.log account.now.kernel; lines = map standing_of account.now.versions.items }) ++ codes "\n")
         (run_status (map standing_of account.now.versions.items)) (S.told sink.old) (S.faults sink.old) result (S.told sink.new) (S.faults sink.new) }
@@ -68,7 +73,7 @@ fn put_whole<S: Sink>(account: &Account<ScriptedKernel>, sink: &mut S) -> Put
         result (S.told sink.new) (S.faults sink.new) }
 {
     nv_report::write(sink, account)?;
-    write_connections(sink, account.kernel.connections())
+    write_connections(sink, connections(&account.kernel))
 }
 
 // Writes the report and the connections, and ends with the status of the run.
@@ -156,13 +161,13 @@ fn count_rewrites(versions: &[Version]) -> u64
 {
     let mut rewrites = 0;
     for version in versions {
-        rewrites += u64::from(version.standing().rewrites);
+        rewrites += version.rewrites();
     }
     rewrites
 }
 
 // What a run came to.
-fn totals<K: SyscallKernel>(account: &Account<K>) -> Totals
+fn totals<K: SyscallKernel + Recorded>(account: &Account<K>) -> Totals
     requires { length account.now.versions.items ≤ 8 }
     ensures { totals_in result ≡ totals_of (output_of (K.known account.now.kernel) (K.log account.now.kernel)) (record { log = K.log account.now.kernel; lines = map standing_of account.now.versions.items }) }
 {
@@ -297,10 +302,9 @@ fn answer<
     }
 }
 
-/// The monitor: it reads the words of a command line, does what they ask for and answers the status of the process. A run
-/// has its versions beside each other on threads of the host, so the call may wait for them. A live run takes what comes from
-/// the streams, which are given back with how it ended, or are gone where memory was wanted; no other command touches them.
-pub fn varan<
+/// The monitor over the streams of a live run: it takes what comes from them, and they are given back with how it ended, or are gone
+/// where memory was wanted. No other command touches them.
+pub fn varan_over<
     R: Threads + Wait + Sync,
     F: Files,
     S: Sink,
@@ -331,4 +335,35 @@ pub fn varan<
     ensures rejects { Rejects (texts words.now.items) (source_of F.holds F.faults F.taken files.old files.new) result.0 }
 {
     answer(rt, alloc, words, files, sink, gate, streams)
+}
+
+/// The monitor: it reads the words of a command line, does what they ask for and answers the status of the process. A run
+/// has its versions beside each other on threads of the host, so the call may wait for them. A live run finds its input at the end
+/// at once, and what its versions say is gone: `varan_over` has its streams.
+pub fn varan<R: Threads + Wait + Sync, F: Files, S: Sink, G: Gate + Sync>(
+    rt: &R,
+    alloc: Global,
+    words: &Vec<String>,
+    files: &mut F,
+    sink: &mut S,
+    gate: &G,
+) -> u8
+    // It comes to an outcome that the words and the files owe, and says it: its status and what it writes are that outcome's.
+    ensures answers { Answers (texts words.now.items) (source_of F.holds F.faults F.taken files.old files.new)
+        (S.told sink.old) (S.faults sink.old) result (S.told sink.new) (S.faults sink.new) }
+
+    // Files that are accepted and no fault: the command's work is done, or memory is wanted.
+    ensures completes { Completes (texts words.now.items) (source_of F.holds F.faults F.taken files.old files.new)
+        (S.faults sink.old) result (S.faults sink.new) }
+
+    // A file that is refused is named, unless a read failed before, the line can't be written or memory is wanted.
+    ensures rejects { Rejects (texts words.now.items) (source_of F.holds F.faults F.taken files.old files.new) result }
+{
+    let streams = Streams {
+        input: Nowhere,
+        output: Nowhere,
+        transcript: Nowhere,
+    };
+    let (status, _left) = varan_over(rt, alloc, words, files, sink, gate, streams);
+    status
 }

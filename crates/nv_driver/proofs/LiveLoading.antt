@@ -14,7 +14,6 @@ use Rattle.nv_driver.specs.Refusals.{LiveComesTo, Stops, RefusesLive}
 use Rattle.nv_driver.specs.inner.Refusals.{live_parts, ReadRefused, RestComes, RestRefused, IsScriptRefusal, IsLiveScript, IsLiveScriptRefusal, LiveScriptStops}
 use Rattle.nv_driver.specs.declared.refusal.Refusal.{Refusal}
 use Rattle.nv_driver.specs.declared.refusal.Refusal.TheVariants as refusal
-use Rattle.nv_driver.specs.declared.refusal.Place.{Place}
 use Rattle.nv_driver.specs.declared.refusal.Place.TheVariants.{Script}
 use Rattle.nv_driver.specs.declared.refusal.Cause.{Cause}
 use Rattle.nv_driver.specs.declared.refusal.Cause.TheVariants as causes

@@ -16,9 +16,9 @@ use Rattle.nv_replay.specs.Account.{AreSettled}
 use Rattle.nv_replay.specs.Covers.{AreEnded, Covers}
 use Rattle.nv_replay.specs.Survivors.{SurvivorsAgree}
 
--- a version has as many instructions as the limits say
+-- a version has as many instructions as the limits say, or as many after each answer
 abbrev pub process_begun : Limits → Machine → Proc
-process_begun limits machine = started machine limits.budget
+process_begun limits machine = started machine limits.budget limits.renews
 
 -- The account is that of the sequential monitor over what the script says, its planned lengths, this filter and these machines, with at most as many events as the limits say and with the cuts that it tells.
 -- Each version has one fate, and each event lies in exactly one of the spans; where no length is planned each version led at most one. One that exited without a rewrite would come to this log alone.

@@ -102,7 +102,7 @@ abbrev pub shown_of : Traced → Option (ℕ × ℕ) → Follower Proc → Outco
 shown_of files dump at = Shown (show_text at (files_after files.setup (take at.seen files.log)) dump)
 
 abbrev pub shown : Look → Traced → Outcome
-shown look files = shown_of files look.dump (at_point files.rules look.trail.index files.log (trace_point look.point) look.trail.budget files.machine)
+shown look files = shown_of files look.dump (at_point files.rules look.trail.index files.log (trace_point look.point) look.trail.budget look.trail.renews files.machine)
 
 -- A recorded run comes to its first file that can't be read or is refused, or else to an account of the sequential monitor, in which no version wanted memory.
 abbrev pub RecordComesTo : Plan → Prepared → Outcome → Type 0

@@ -98,7 +98,7 @@ log_at setup found = then_with (λ bytes. of_trace (trace_of_file setup bytes)) 
 
 -- the limits of a version that follows a trace
 abbrev pub trail_limits : Trail → Limits
-trail_limits trail = record usual { memory = trail.memory; budget = trail.budget }
+trail_limits trail = record usual { memory = trail.memory; budget = trail.budget; renews = trail.renews }
 
 abbrev pub traced_version : ℕ → VersionOf → Result Machine Lack
 traced_version i (Faulty cause) = Err (Refused (Version i) cause)

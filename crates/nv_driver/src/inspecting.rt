@@ -5,7 +5,7 @@ ghost use Rattle.nv_command.specs.Seen.{look_view, point_view};
 ghost use Rattle.nv_inspect.specs.Shown.{show_text, IsDump};
 ghost use Rattle.nv_replay.specs.Follow.{follow, fresh, judge_of};
 ghost use Rattle.nv_replay.specs.Version.{IsFresh};
-ghost use Rattle.nv_inspect.specs.Points.{events_to, budget_to};
+ghost use Rattle.nv_inspect.specs.Points.{events_to, budget_to, renews_to};
 ghost use Rattle.nv_script.specs.Scripts.{is_script};
 ghost use Rattle.nv_script.specs.Views.{setup_of};
 ghost use Rattle.nv_arriving.specs.Scripted.{start_from};
@@ -46,6 +46,16 @@ fn budget(look: &Look<'_>) -> u32
     }
 }
 
+// Whether their count begins anew at each answer.
+fn renews(look: &Look<'_>) -> bool
+    ensures { result ≡ renews_to (trace_point (point_view look.now.point)) look.now.trail.renews }
+{
+    match look.point {
+        nv_command::Point::Count(_) => false,
+        _ => look.trail.renews,
+    }
+}
+
 // Shows the version at the point, and the files after the events that it has seen.
 // It borrows what it shows: parts that are moved out are dropped at each return, and the proof of that took four minutes.
 fn show_at<S: Sink>(
@@ -75,7 +85,7 @@ fn show_at<S: Sink>(
     let Ok(earlier) = kernel_after(alloc, script, kernel, seen) else {
         return put_line(sink, b"varan: memory\n", MEMORY);
     };
-    let put = show(sink, version, earlier.files(), dump);
+    let put = show(sink, version, nv_arriving::files(&earlier), dump);
     ended(put, 0)
 }
 
@@ -85,7 +95,7 @@ pub fn inspect<F: Files, S: Sink>(alloc: Global, files: &mut F, sink: &mut S, lo
         → Answers words (source_of F.holds F.faults F.taken files.old files.new)
         (S.told sink.old) (S.faults sink.old) result (S.told sink.new) (S.faults sink.new) }
 {
-    match trace_version(alloc, files, &look.trail, budget(look)) {
+    match trace_version(alloc, files, &look.trail, budget(look), renews(look)) {
         Ok(mut traced) => show_at(alloc, sink, &mut traced, point(look), look.dump),
         Err(refusal) => refuse_trail(alloc, sink, refusal, &look.trail),
     }

@@ -1,6 +1,6 @@
 //! The driver of the commands: what each owes (specs/Due), its files read and refused, and the commands that need no other threads.
 //! Types: `Task`, `Prepared`, `LivePrepared`, `Refusal`, `Place`, `Cause`, `Ending`; function `answer_alone`.
-//! Proved: the first file in order that can't be read or is refused is named; `asm`, `rules`, `replay`, `inspect`, `help` and
+//! Proved: the first file in order that can't be read or is refused is named; `asm`, `rules`, `replay`, `inspect`, `usage` and
 //! refused words are answered as they are owed, without waiting; each ending says its text with its status.
 //! Above: the top call.
 #![tactic(auto)]

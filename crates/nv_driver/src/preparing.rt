@@ -130,11 +130,12 @@ pub fn load(
     }
 }
 
-// The version with this number, of a guest that hasn't run and has so many instructions; it may go on ahead of the log, or
-// never does.
+// The version with this number, of a guest that hasn't run and has so many instructions, or so many after each answer; it may go
+// on ahead of the log, or never does.
 pub fn version(
     alloc: Global,
     budget: u32,
+    renews: bool,
     index: u32,
     guest: Guest,
     eager: bool,
@@ -142,12 +143,12 @@ pub fn version(
     requires alone { guest ≡ one_thread (machine_of guest) }
     requires budget { budget ≤ 1_000_000_000 }
     ensures fresh { IfOk result (IsFresh threads index) }
-    ensures process { IfOk result (λ version. version.at.process ≡ started (machine_of guest) budget) }
+    ensures process { IfOk result (λ version. version.at.process ≡ started (machine_of guest) budget renews) }
     ensures eager { IfOk result (λ version. version.eager ≡ eager) }
     ensures refused { IfErr result (λ refusal. refusal ≡ Refusal.Memory) }
 {
-    let process = Process::make(alloc, guest, budget)?;
-    let version = Version::make(alloc, index, process, eager)?;
+    let process = Process::make(alloc, guest, budget, renews)?;
+    let version = Version::make_eager(alloc, index, process, eager)?;
     Ok(version)
 }
 
@@ -171,7 +172,7 @@ fn read_version<F: Files>(
     let place = Place::Version(index);
     let bytes = read_file(alloc, files, name, place, FILE_LIMIT)?;
     let guest = load(alloc, limits, script, &bytes, place)?;
-    let version = version(alloc, limits.budget, index, guest, true)?;
+    let version = version(alloc, limits.budget, limits.renews, index, guest, true)?;
     Ok(version)
 }
 

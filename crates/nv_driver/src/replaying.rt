@@ -20,7 +20,7 @@ use nv_outside::{Files, Put, Sink, put_all, put_pieces};
 use nv_replay::{Fate, Standing, Version};
 use std::alloc::Global;
 
-fn put_counts<S: Sink>(sink: &mut S, seen: u32, rewrites: u32) -> Put
+fn put_counts<S: Sink>(sink: &mut S, seen: u32, rewrites: u64) -> Put
     ensures { Puts (S.told sink.old) (S.faults sink.old) (counts_text seen rewrites) result (S.told sink.new) (S.faults sink.new) }
 {
     let mut first = Buffer::new();
@@ -95,7 +95,7 @@ pub fn replay<F: Files, S: Sink>(
         → Answers words (source_of F.holds F.faults F.taken files.old files.new)
         (S.told sink.old) (S.faults sink.old) result (S.told sink.new) (S.faults sink.new) }
 {
-    match trace_version(alloc, files, trail, trail.budget) {
+    match trace_version(alloc, files, trail, trail.budget, trail.renews) {
         Ok(traced) => {
             let version = follow_whole(traced, trail.budget);
             put_replay(sink, &version)

@@ -84,21 +84,23 @@ fn limits(trail: &Trail<'_>) -> Limits
         ring: usual.ring,
         memory: trail.memory,
         budget: trail.budget,
+        renews: trail.renews,
         calls: usual.calls,
         threads: usual.threads,
     }
 }
 
-// The version of a trail, with so many instructions.
+// The version of a trail, with so many instructions, or so many after each answer.
 fn read_follower<F: Files>(
     alloc: Global,
     files: &mut F,
     trail: &Trail<'_>,
     script: &Script,
     budget: u32,
+    renews: bool,
 ) -> Result<Version, Refusal>
     requires budget { budget ≤ 1_000_000_000 }
-    ensures version { IfOk result (λ version. IsFollower (trail_view trail.now) budget (setup_of script.now) version (F.holds files.old trail.now.version.now)) }
+    ensures version { IfOk result (λ version. IsFollower (trail_view trail.now) budget renews (setup_of script.now) version (F.holds files.old trail.now.version.now)) }
     ensures refused { IfErr result (λ refusal. StepRefused refusal (Place.Version trail.now.index) (machine_traced (trail_view trail.now) (setup_of script.now))
         (F.holds files.old trail.now.version.now) (F.faults files.old) (F.faults files.new) (F.taken files.old) (F.taken files.new)) }
     ensures faults { OnOk result (F.faults files.new ≡ F.faults files.old) }
@@ -106,20 +108,21 @@ fn read_follower<F: Files>(
     let place = Place::Version(trail.index);
     let bytes = read_file(alloc, files, trail.version, place, FILE_LIMIT)?;
     let guest = load(alloc, limits(trail), script, &bytes, place)?;
-    let version = version(alloc, budget, trail.index, guest, false)?;
+    let version = version(alloc, budget, renews, trail.index, guest, false)?;
     Ok(version)
 }
 
-/// Reads the script, the rules if they are named, the trace and the version, which has so many instructions. Each file is
+/// Reads the script, the rules if they are named, the trace and the version, which has so many instructions, or so many after each answer. Each file is
 /// checked before the next is read.
 pub fn trace_version<F: Files>(
     alloc: Global,
     files: &mut F,
     trail: &Trail<'_>,
     budget: u32,
+    renews: bool,
 ) -> Result<TracedVersion, Refusal>
     requires budget { budget ≤ 1_000_000_000 }
-    ensures ready { IfOk result (λ t. IsTraced (trail_view trail.now) budget (F.holds files.old) (setup_of t.script) t.rules t.kernel.log t.version) }
+    ensures ready { IfOk result (λ t. IsTraced (trail_view trail.now) budget renews (F.holds files.old) (setup_of t.script) t.rules t.kernel.log t.version) }
     ensures sound { IfOk result (λ t. IsTrue (is_script (setup_of t.script))) }
     ensures refused { IfErr result (λ refusal. TrailRefused refusal (trail_view trail.now) (F.holds files.old)
         (F.faults files.old) (F.faults files.new) (F.taken files.old) (F.taken files.new)) }
@@ -128,7 +131,7 @@ pub fn trace_version<F: Files>(
     let script = read_script(alloc, files, trail.script)?;
     let rules = read_rules(alloc, files, trail.rules)?;
     let kernel = read_log(alloc, files, trail.trace, &script)?;
-    let version = read_follower(alloc, files, trail, &script, budget)?;
+    let version = read_follower(alloc, files, trail, &script, budget, renews)?;
     Ok(TracedVersion {
         script,
         rules,

@@ -2,9 +2,10 @@
 use Rattle.std.specs.Prelude.{◌≡◌, ◌≤◌, ◌⊎◌, ℕ, Bool, List, [], Option, None, Some, IsTrue, length, map}
 use Rattle.nv_arrivals.specs.Arrivals.{Arrival}
 use Rattle.nv_arriving.specs.Arriving.{start_of_arrivals}
-use Rattle.nv_arriving.specs.Kernel.{KernelState, begun_in}
+use Rattle.nv_arriving.specs.Kernel.{Coming, begun_in}
 use Rattle.nv_bpf.specs.declared.op.Op.{Op}
 use Rattle.nv_command.specs.Words.{Limits}
+use Rattle.nv_kernel.specs.Logged.{Logged}
 use Rattle.nv_live.specs.Lines.{held_text}
 use Rattle.nv_live.specs.Run.{input_of, output_of, notes_of, line_of, held_by, stop_of_run, told_run, IsBegun}
 use Rattle.nv_live.specs.Telling.{Told}
@@ -44,15 +45,15 @@ module _ {I O T : Type 0} (took : I → Option (List (List ℕ))) (unread : I �
   told run = told_run took unread said unsaid noted unnoted run
 
   -- a kernel that has served nothing, over these streams, of which the transcript has its head
-  pub record IsBegunOver (clients : Bool) (setup : Setup) (head : List ℕ) (streams : Held I O T) (k : KernelState (LiveRun I O T)) : Type 0 where
+  pub record IsBegunOver (clients : Bool) (setup : Setup) (head : List ℕ) (streams : Held I O T) (k : Logged (Coming (LiveRun I O T))) : Type 0 where
     pub empty : k.log ≡ []
     pub setup_is : k.setup ≡ setup
-    pub begun : IsBegun took unread said unsaid noted unnoted clients head streams (told k.begun)
+    pub begun : IsBegun took unread said unsaid noted unnoted clients head streams (told k.answers.begun)
 
 -- the versions ran over what came to this kernel
-pub record RanOver {X T : Type 0} (told : X → T) (kernel : KernelState X) (rules : Option (List Op)) (calls : ℕ) (hands : List ℕ) (versions : List (Running Proc)) (account : Ran (KernelState X)) : Type 0 where
-  pub same : begun_in told account.kernel ≡ begun_in told kernel
-  pub is_account : IsAccount threads (judge_of rules) (start_of_arrivals account.kernel.setup account.kernel.came) calls hands versions account.versions.items account.kernel.log
+pub record RanOver {X T : Type 0} (told : X → T) (kernel : Logged (Coming X)) (rules : Option (List Op)) (calls : ℕ) (hands : List ℕ) (versions : List (Running Proc)) (account : Ran (Logged (Coming X))) : Type 0 where
+  pub same : begun_in told account.kernel.setup account.kernel.answers ≡ begun_in told kernel.setup kernel.answers
+  pub is_account : IsAccount threads (judge_of rules) (start_of_arrivals account.kernel.setup account.kernel.answers.came) calls hands versions account.versions.items account.kernel.log
 
 -- what an outside leaves, with what no call took behind its transcript
 pub record HasLeft {I O T : Type 0} (noted : T → Option (List ℕ)) (unnoted : T → ℕ) (live : LiveRun I O T) (streams : Held I O T) (ending : Ending) : Type 0 where

@@ -16,7 +16,7 @@ use Rattle.nv_replay.specs.Account.{AreFresh}
 use Rattle.nv_driver.specs.Account.{process_begun}
 use Rattle.nv_driver.specs.Found.{Found, Whole, TooLong, Unread, Agrees, AgreesIf, AllAgree, IsReadOf, IsLongerThan, TookLong, TookMore}
 use Rattle.nv_driver.specs.Live.{AgreesOrBare, live_script}
-use Rattle.nv_driver.specs.Prepared.{Prepared, Unreadable, Refused, Ready, Faulty, Loads, read_at, after_rules, version_from, versions_from}
+use Rattle.nv_driver.specs.Prepared.{Prepared, Ready, Faulty, Loads, read_at, after_rules, version_from, versions_from}
 use Rattle.nv_driver.specs.Refusals.{Stops}
 use Rattle.nv_driver.specs.declared.refusal.Place.{Place}
 use Rattle.nv_driver.specs.declared.refusal.Place.TheVariants.{Script, Rules}

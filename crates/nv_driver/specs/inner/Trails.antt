@@ -1,5 +1,5 @@
 -- How the files of a version that follows a trace are read, and why it doesn't follow.
-use Rattle.std.specs.Prelude.{◌≡◌, ◌≢◌, ℕ, false, List, Option, Result, Ok, Err}
+use Rattle.std.specs.Prelude.{◌≡◌, ◌≢◌, ℕ, Bool, false, List, Option, Result, Ok, Err}
 use Rattle.nv_outside.specs.Counts.{Rose}
 use Rattle.nv_outside.specs.Told.{Told}
 use Rattle.nv_command.specs.Words.{Trail}
@@ -64,19 +64,19 @@ refused_outcome refusal.Memory trail = NoMemory
 refused_outcome (refusal.Unreadable place) trail = lack_outcome trail (Unreadable place)
 refused_outcome (refusal.Input place cause) trail = lack_outcome trail (Refused place cause)
 
--- the version is the one of these bytes, with so many instructions, and never goes on ahead of the log
-pub record IsFollower (trail : Trail) (budget : ℕ) (setup : Setup) (version : Running Proc) (told : Told) : Type 0 where
+-- the version is the one of these bytes, with so many instructions, or so many after each answer, and never goes on ahead of the log
+pub record IsFollower (trail : Trail) (budget : ℕ) (renews : Bool) (setup : Setup) (version : Running Proc) (told : Told) : Type 0 where
   pub machine : Machine
   pub gives : Gives (machine_traced trail setup) FILE_LIMIT told (Ok machine)
-  pub begins : version.at.process ≡ started machine budget
+  pub begins : version.at.process ≡ started machine budget renews
   pub fresh : IsFresh threads trail.index version
   pub settled : version.eager ≡ false
 
 -- a filter, a log that the kernel of the script has served, and a version that is ready to follow it, to which the files come
-pub record IsTraced (trail : Trail) (budget : ℕ) (holds : List ℕ → Told) (setup : Setup) (rules : Option (List Op)) (log : List Entry) (version : Running Proc) : Type 0 where
+pub record IsTraced (trail : Trail) (budget : ℕ) (renews : Bool) (holds : List ℕ → Told) (setup : Setup) (rules : Option (List Op)) (log : List Entry) (version : Running Proc) : Type 0 where
   pub machine : Machine
   pub comes : TrailComes trail holds (Ok (record { setup = setup; rules = rules; log = log; machine = machine }))
-  pub begins : version.at.process ≡ started machine budget
+  pub begins : version.at.process ≡ started machine budget renews
   pub fresh : IsFresh threads trail.index version
   pub settled : version.eager ≡ false
   pub sound : AreSoundEvents (start_from setup) log

@@ -13,9 +13,9 @@ returns g c =
       answers = said.answers;
       completes = λ command asked accepted. said.completes command asked accepted never never;
       rejects = λ command asked refused. ⊎_elim inl
-          (λ (r : (c.varan.result.0 ≡ 6) ⊎ (c.varan.result.0 ≡ 3)). ⊎_elim (λ (is : c.varan.result.0 ≡ 6). absurd (never (six-by said.answers.answers is))) inr r)
+          (λ (r : (c.varan.result ≡ 6) ⊎ (c.varan.result ≡ 3)). ⊎_elim (λ (is : c.varan.result ≡ 6). absurd (never (six-by said.answers is))) inr r)
           (said.rejects command asked refused never);
-      read = λ is. never (five-by said.answers.answers is);
-      write = λ is. never (six-by said.answers.answers is);
-      no_command = λ none. usage-by said.answers.answers none never;
+      read = λ is. never (five-by said.answers is);
+      write = λ is. never (six-by said.answers is);
+      no_command = λ none. usage-by said.answers none never;
     }

@@ -9,7 +9,7 @@ use Rattle.nv_driver.specs.Outcome.{ended_with}
 use Rattle.nv_cli.proofs.recording.put_trace.Goals as goal
 
 pub write-put-requires : goal.write-put-requires
-write-put-requires g c = subst IsRecordable (sym c.history.ensures.log) (lawful_recordable _ c.history.ensures.lawful)
+write-put-requires g c = subst IsRecordable (sym c.history.ensures.log) (lawful_recordable _ c.requires.short c.history.ensures.lawful)
 
 pub returns : goal.returns
 returns g c = record {

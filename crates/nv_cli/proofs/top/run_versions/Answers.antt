@@ -1,3 +1,5 @@
+use denote.Exit.{no}
+use denote.Param.Send.{param_send, arg_send}
 use Rattle.std.proofs.Common.{◌++◌, ap, codes, inl, inr, ⊎_elim, subst, map, option_map}
 use Rattle.nv_calls.specs.Logs.{Start, output_of, connections_of}
 use Rattle.nv_arriving.specs.Scripted.{start_from}
@@ -13,7 +15,14 @@ use Rattle.nv_driver.specs.Account.{run_status}
 use Rattle.nv_driver.specs.Due.{Says}
 use Rattle.nv_driver.specs.Ran.{Wrote}
 use Rattle.nv_cli.proofs.Running.{run_of}
+use Rattle.nv_arriving.proofs.Sending.{scripted_send}
 use Rattle.nv_cli.proofs.top.run_versions.Goals as goal
+
+pub run-requires-send-K : goal.run-requires-send-K
+run-requires-send-K g c κs within = param_send 1 _ (arg_send _ no _ scripted_send)
+
+pub put_json-requires-send-K : goal.put_json-requires-send-K
+put_json-requires-send-K g c κs within = param_send 0 _ (arg_send _ no _ scripted_send)
 
 pub returns-then-json : goal.returns-then-json
 returns-then-json g c = λ machines are.

@@ -1,3 +1,5 @@
+use denote.Exit.{no}
+use denote.Param.Send.{param_send, arg_send}
 use Rattle.std.proofs.Common.{◌≡◌, ◌∙◌, ap, sym, subst, inl, inr, refl, List, ℕ, map, false}
 use Rattle.std.specs.Prelude.{option_map}
 use Rattle.std.specs.List.{list_any}
@@ -19,7 +21,14 @@ use Rattle.nv_driver.specs.Outcome.{NoMemory, Summed, totals_of}
 use Rattle.nv_cli.proofs.Counted.{few_lines}
 use Rattle.nv_driver.proofs.Loaded.{made_owes}
 use Rattle.nv_cli.proofs.Running.{run_of}
+use Rattle.nv_arriving.proofs.Sending.{scripted_send}
 use Rattle.nv_cli.proofs.top.sum_up.Goals as goal
+
+pub run-requires-send-K : goal.run-requires-send-K
+run-requires-send-K g c κs within = param_send 1 _ (arg_send _ no _ scripted_send)
+
+pub totals-requires-send-K : goal.totals-requires-send-K
+totals-requires-send-K g c κs = param_send 0 _ (arg_send _ no _ scripted_send)
 
 pub returns-in_default : goal.returns-in_default
 returns-in_default g c = record { outcome = NoMemory; owed = inr refl; says = c.put_line.ensures }

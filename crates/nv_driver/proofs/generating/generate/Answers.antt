@@ -1,3 +1,5 @@
+use denote.Exit.{no}
+use denote.Param.Send.{param_send, arg_send}
 use Rattle.std.proofs.Common.{◌≡◌, ◌≤◌, ◌∙◌, ap, sym, subst, length, map, ℕ, List, Vec, Global, Some, arith}
 use Rattle.std.specs.Prelude.{All}
 use Rattle.nv_elf.specs.Elf.{Accepted}
@@ -13,7 +15,11 @@ use Rattle.nv_driver.specs.Generated.{IsGenerated}
 use Rattle.nv_driver.specs.inner.Generated.{Runs}
 use Rattle.nv_driver.proofs.Loaded.{can_run, all_made, few_made, length-made}
 use Rattle.nv_driver.proofs.Planned.{planned_by}
+use Rattle.nv_arriving.proofs.Sending.{listed_send}
 use Rattle.nv_driver.proofs.generating.generate.Goals as goal
+
+pub make-requires-2-send-A : goal.make-requires-2-send-A
+make-requires-2-send-A c κs = param_send 0 _ (arg_send _ no _ listed_send)
 
 pub read_versions-requires-clause-run : goal.read_versions-requires-clause-run
 read_versions-requires-clause-run c =

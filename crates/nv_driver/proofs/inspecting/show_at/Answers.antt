@@ -1,3 +1,5 @@
+use denote.Exit.{no}
+use denote.Param.Send.{param_send, arg_send}
 use Rattle.std.proofs.Common.{◌≡◌, ◌∙◌, ap, ap₂, inl, inr, List, Option, take}
 use Rattle.nv_bpf.specs.declared.op.Op.{Op}
 use Rattle.nv_calls.specs.Calls.{Entry}
@@ -10,7 +12,11 @@ use Rattle.nv_script.specs.Scripts.{Setup}
 use Rattle.nv_script.specs.Views.{setup_of}
 use Rattle.nv_threads.specs.Threads.{Proc, threads}
 use Rattle.nv_driver.specs.Due.{files_after}
+use Rattle.nv_arriving.proofs.Sending.{scripted_send}
 use Rattle.nv_driver.proofs.inspecting.show_at.Goals as goal
+
+pub bring-requires-send-K : goal.bring-requires-send-K
+bring-requires-send-K g c κs = param_send 0 _ (arg_send _ no _ scripted_send)
 
 pub returns-in_default : goal.returns-in_default
 returns-in_default g c = inr c.put_line.ensures

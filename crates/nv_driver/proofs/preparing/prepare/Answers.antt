@@ -1,3 +1,5 @@
+use denote.Exit.{no}
+use denote.Param.Send.{param_send, arg_send}
 use Rattle.std.proofs.Common.{◌≡◌, ◌∙◌, sym, ap, subst, ℕ, List, Ok}
 use Rattle.std.proofs.lemmas.Result.{err_from_is_err_and}
 use Rattle.nv_outside.specs.Told.{Told}
@@ -11,7 +13,11 @@ use Rattle.nv_driver.specs.Refusals.{IsPrepared}
 use Rattle.nv_driver.specs.inner.Refusals.{parts_with, run_parts, IsRest, RestRefused}
 use Rattle.nv_driver.proofs.Loading.{script_unread, script_refuses, script_accepted, run_refused}
 use Rattle.nv_driver.proofs.Planned.{planned_by}
+use Rattle.nv_arriving.proofs.Sending.{listed_send}
 use Rattle.nv_driver.proofs.preparing.prepare.Goals as goal
+
+pub make-requires-send-A : goal.make-requires-send-A
+make-requires-send-A g c κs = param_send 0 _ (arg_send _ no _ listed_send)
 
 pub returns-in-Ok-read_rest-clause-ready : goal.returns-in-Ok-read_rest-clause-ready
 returns-in-Ok-read_rest-clause-ready g c =

@@ -1,3 +1,5 @@
+use denote.Exit.{no}
+use denote.Param.Send.{param_send, arg_send}
 use Rattle.std.proofs.Common.{ap, subst, sym, List, map}
 use Rattle.std.proofs.lemmas.Result.{err_from_is_err_and}
 use Rattle.nv_calls.specs.declared.calls.Event.{Event}
@@ -9,7 +11,14 @@ use Rattle.nv_trace.specs.Checks.{AreStamped, AreSoundEvents}
 use Rattle.nv_trace.specs.Trace.{IsRead}
 use Rattle.nv_trace.proofs.Recording.{recordable_stamped}
 use Rattle.nv_driver.proofs.Trailing.{trace_given, trace_refused, check_refused}
+use Rattle.nv_arriving.proofs.Sending.{listed_send, scripted_send}
 use Rattle.nv_driver.proofs.trails.kernel_in.Goals as goal
+
+pub make-requires-send-A : goal.make-requires-send-A
+make-requires-send-A c κs = param_send 0 _ (arg_send _ no _ listed_send)
+
+pub check-requires-send-K : goal.check-requires-send-K
+check-requires-send-K c κs = param_send 0 _ (arg_send _ no _ scripted_send)
 
 pub check-requires-clause-stamped : goal.check-requires-clause-stamped
 check-requires-clause-stamped c κs =

@@ -69,7 +69,7 @@ returns-clause-ready g c =
     let still : g.F.Files.holds c.read_log.new.files ≡ holds = λ j name. (c.in_ok-kernel.ensures.same name ∙ c.in_ok-rules.ensures.same name ∙ c.in_ok-script.ensures.same name) j in
     let rules = rules_give holds trail.rules c.in_ok-rules.rules (subst (λ (h : List ℕ → Told). HasRules c.in_ok-rules.rules h trail.rules) before c.in_ok-rules.ensures.rules) in
     let trace = gives_still (log_at setup) TRACE_LIMIT (holds trail.trace) _ _ (ap (λ (h : List ℕ → Told). h trail.trace) same) c.in_ok-kernel.ensures.log in
-    let follower = subst (λ (told : Told). IsFollower trail c.args.budget setup c.in_ok-version.version told) (ap (λ (h : List ℕ → Told). h trail.version) still) c.in_ok-version.ensures.version in
+    let follower = subst (λ (told : Told). IsFollower trail c.args.budget c.args.renews setup c.in_ok-version.version told) (ap (λ (h : List ℕ → Told). h trail.version) still) c.in_ok-version.ensures.version in
     record {
       machine = follower.machine;
       comes = all_give trail holds setup c.in_ok-script.ensures.script c.in_ok-rules.rules rules c.in_ok-kernel.kernel.log trace follower.machine follower.gives;
