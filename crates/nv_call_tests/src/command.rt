@@ -4,7 +4,7 @@ use std::alloc::{AllocError, Global};
 use std::test::Fail;
 
 // Lines, with `|` between their words, and behind ` > ` what they ask for.
-const LINES: [&str; 46] = [
+const LINES: [&str; 54] = [
     // What isn't named is usual.
     "varan|run|--script|s|v > run s - 256 1048576 10000000 65536 8 text|v",
     // A row splits its words at blanks.
@@ -19,16 +19,24 @@ const LINES: [&str; 46] = [
     "varan|run|--script|s|--memory|16777216|v > run s - 256 16777216 10000000 65536 8 text|v",
     "varan|run|--script|s|--budget|1|v > run s - 256 1048576 1 65536 8 text|v",
     "varan|run|--script|s|--budget|1000000000|v > run s - 256 1048576 1000000000 65536 8 text|v",
+    "varan|run|--script|s|--hang|1|v > run s - 256 1048576 1+ 65536 8 text|v",
+    "varan|run|--script|s|--hang=1000000000|v > run s - 256 1048576 1000000000+ 65536 8 text|v",
+    "varan|run|--script|s|--hang|1|--budget|1|v > refused",
+    "varan|serve|--hang|5|v > serve - - 256 1048576 5+ 500000000 8 - -|v",
+    "varan|replay|--script|s|--hang|5|t|v > replay s - t v 1048576 5+ 1",
+    "varan|inspect|--script|s|t|v|--hang|3|--count|2 > inspect s - t v 1048576 3+ 1 count 2 -",
     "varan|run|--script|s|--calls|1|v > run s - 256 1048576 10000000 1 8 text|v",
     "varan|run|--script|s|--calls|131072|v > run s - 256 1048576 10000000 131072 8 text|v",
     "varan|run|--script|s|--threads|1|v > run s - 256 1048576 10000000 65536 1 text|v",
     "varan|run|--script|s|--threads|8|v > run s - 256 1048576 10000000 65536 8 text|v",
     "varan|record|--script|s|--rules|r|--ring|4|--memory=135168|--budget|5|--calls|6|--threads|7|v > record s r 4 135168 5 6 7 text|v",
     // A service has no usual length.
-    "varan|serve|v > serve - - 256 1048576 1000000000 131072 8 - -|v",
-    "varan|serve|v|--clients > serve - - 256 1048576 1000000000 131072 8 clients -|v",
-    "varan|serve|--log|v > serve - - 256 1048576 1000000000 131072 8 - log|v",
-    "varan|serve|--script=s|1|2|3|4|5|6|7|8 > serve s - 256 1048576 1000000000 131072 8 - -|1|2|3|4|5|6|7|8",
+    "varan|serve|v > serve - - 256 1048576 100000000+ 500000000 8 - -|v",
+    "varan|serve|v|--clients > serve - - 256 1048576 100000000+ 500000000 8 clients -|v",
+    "varan|serve|--log|v > serve - - 256 1048576 100000000+ 500000000 8 - log|v",
+    "varan|serve|--script=s|1|2|3|4|5|6|7|8 > serve s - 256 1048576 100000000+ 500000000 8 - -|1|2|3|4|5|6|7|8",
+    "varan|serve|--calls|500000000|v > serve - - 256 1048576 100000000+ 500000000 8 - -|v",
+    "varan|serve|--calls|500000001|v > refused",
     "varan|serve|--budget|10000000|--calls=65536|--|--clients|--log > serve - - 256 1048576 10000000 65536 8 - -|--clients|--log",
     "varan|serve|--clients|--script|s|--rules|r|--ring|4|--memory=135168|--budget|5|--calls|6|--threads|7|--log|a|b > serve s r 4 135168 5 6 7 clients log|a|b",
     "varan|replay|--script|s|t|v > replay s - t v 1048576 10000000 1",
@@ -65,16 +73,23 @@ fn words_of(alloc: Global, line: &str) -> Result<Vec<String>, AllocError> {
     Ok(words)
 }
 
+// Whether the count of instructions begins anew at each answer.
+fn tell_renews(renews: bool) -> &'static str {
+    if renews { "+" } else { "" }
+}
+
 fn tell_limits(alloc: Global, limits: &Limits) -> Result<String, AllocError> {
     let Limits {
         ring,
         memory,
         budget,
+        renews,
         calls,
         threads,
         ..
     } = limits;
-    format!(in alloc; "{ring} {memory} {budget} {calls} {threads}")
+    let anew = tell_renews(*renews);
+    format!(in alloc; "{ring} {memory} {budget}{anew} {calls} {threads}")
 }
 
 fn tell_run(alloc: Global, run: &Run<'_>) -> Result<String, AllocError> {
@@ -112,7 +127,11 @@ fn tell_trail(alloc: Global, trail: &Trail<'_>) -> Result<String, AllocError> {
         "{} {rules} {} {}",
         trail.script, trail.trace, trail.version
     )?;
-    format!(in alloc; "{files} {} {} {}", trail.memory, trail.budget, trail.index)
+    let anew = tell_renews(trail.renews);
+    format!(in alloc;
+        "{files} {} {}{anew} {}",
+        trail.memory, trail.budget, trail.index
+    )
 }
 
 fn tell_point(alloc: Global, point: Point) -> Result<String, AllocError> {

@@ -1,7 +1,7 @@
 // Calls of the monitor over objects in memory.
 ghost use Rattle.std.specs.Prelude.{◌<◌};
 
-use nv_cli::{Left, exit_status, varan};
+use nv_cli::{Left, exit_status, varan_over};
 use nv_live::{MemorySource, Streams};
 use nv_outside::{File, MemoryFiles, MemorySink};
 use nv_workers::{Gate, OpenGate};
@@ -140,7 +140,7 @@ pub fn monitor_through<R: Threads + Wait + Sync, G: Gate + Sync>(
     let failing = outside.failing_writes.to_vec(alloc)?;
     let mut sink = MemorySink::make(alloc, CAPACITY, outside.most, failing)?;
     let streams = streams_of(alloc, outside)?;
-    let (status, left) = varan(rt, alloc, &words, &mut source, &mut sink, gate, streams);
+    let (status, left) = varan_over(rt, alloc, &words, &mut source, &mut sink, gate, streams);
     let written = sink.written().to_vec(alloc)?;
     let (said, noted) = told_by(alloc, &left)?;
     Ok(Answered {

@@ -1,6 +1,5 @@
 //! Words through rtrb, one by one.
 ghost use Rattle.std.specs.Prelude.{◌≤◌};
-ghost use Rattle.nv_calls.specs.Limits.{MOST_EVENTS};
 
 use rtrb::{Consumer, Producer, RingBuffer};
 use std::alloc::{AllocError, Global};
@@ -12,7 +11,7 @@ const PLACES: u32 = 64;
 /// How many events' words came through.
 pub fn run<R: Threads>(rt: &R, alloc: Global, words: u32, events: u32) -> Result<u64, AllocError>
     requires words { words ≤ 518 }
-    requires events { events ≤ MOST_EVENTS }
+    requires events { events ≤ 131072 }
 {
     let (producer, consumer) = RingBuffer::new(alloc, (PLACES * words) as usize)?;
     let count = words * events;

@@ -15,13 +15,13 @@ use nv_lamport::{Polled, poll_merged};
 use nv_promotion::{Lower, close, leave, lower_gone, retire, take};
 use nv_ring::advance;
 use nv_room::{Ended, Lead, Left, Reader, Room};
-use nv_served::SyscallKernel;
+use nv_served::{Recorded, SyscallKernel};
 use nv_words::EventBuf;
 use std::alloc::{AllocError, Global};
 
 /// Station 0 publishes three calls and retires, station 1 takes the lead, publishes one more and the last, and closes, and
 /// station 2 reads on.
-pub fn change_leader<K: SyscallKernel>(
+pub fn change_leader<K: SyscallKernel + Recorded>(
     alloc: Global,
     kernel: K,
     call: &Call,
@@ -45,7 +45,7 @@ pub fn change_leader<K: SyscallKernel>(
 }
 
 // The seats of the three stations, once each has left.
-fn lead_in_turn<K: SyscallKernel>(
+fn lead_in_turn<K: SyscallKernel + Recorded>(
     room: &Room<K>,
     lead: Lead<K>,
     readers: Vec<Reader<K>>,
@@ -70,7 +70,7 @@ fn lead_in_turn<K: SyscallKernel>(
     Some((first, second, third))
 }
 
-fn two_readers<K: SyscallKernel>(
+fn two_readers<K: SyscallKernel + Recorded>(
     room: &Room<K>,
     mut readers: Vec<Reader<K>>,
 ) -> Option<(Reader<K>, Reader<K>)>
@@ -83,7 +83,7 @@ fn two_readers<K: SyscallKernel>(
 }
 
 // Three calls, and station 1 is the first that is left.
-fn first_leads<K: SyscallKernel>(
+fn first_leads<K: SyscallKernel + Recorded>(
     room: &Room<K>,
     mut lead: Lead<K>,
     third: &mut Reader<K>,
@@ -109,7 +109,7 @@ fn first_leads<K: SyscallKernel>(
 }
 
 // The next leader has seen the three events. While the third reads on it publishes one more and the last.
-fn second_leads<K: SyscallKernel>(
+fn second_leads<K: SyscallKernel + Recorded>(
     room: &Room<K>,
     mut second: Reader<K>,
     third: &mut Reader<K>,
@@ -140,7 +140,7 @@ fn second_leads<K: SyscallKernel>(
 }
 
 // The last event, and that there are five and will be no more.
-fn reads_to_end<K: SyscallKernel>(
+fn reads_to_end<K: SyscallKernel + Recorded>(
     room: &Room<K>,
     mut third: Reader<K>,
     buf: &mut EventBuf,
@@ -158,7 +158,7 @@ fn reads_to_end<K: SyscallKernel>(
 }
 
 // Publishes a call so many times, waiting for each place at most so many turns.
-pub(crate) fn publish_some<K: SyscallKernel>(
+pub(crate) fn publish_some<K: SyscallKernel + Recorded>(
     room: &Room<K>,
     lead: &mut Lead<K>,
     call: &Call,
@@ -185,7 +185,7 @@ pub(crate) fn publish_some<K: SyscallKernel>(
 }
 
 // Sees so many events, as long as they are there.
-pub(crate) fn read_some<K: SyscallKernel>(
+pub(crate) fn read_some<K: SyscallKernel + Recorded>(
     room: &Room<K>,
     reader: &mut Reader<K>,
     buf: &mut EventBuf,
@@ -207,7 +207,7 @@ pub(crate) fn read_some<K: SyscallKernel>(
 }
 
 // The room is free after so many events, and no lower station is left.
-pub(crate) fn take_over<K: SyscallKernel>(
+pub(crate) fn take_over<K: SyscallKernel + Recorded>(
     room: &Room<K>,
     mut reader: Reader<K>,
     buf: &mut EventBuf,
@@ -232,7 +232,7 @@ pub(crate) fn take_over<K: SyscallKernel>(
 }
 
 // No station leads after so many events.
-pub(crate) fn is_free<K: SyscallKernel>(
+pub(crate) fn is_free<K: SyscallKernel + Recorded>(
     room: &Room<K>,
     reader: &mut Reader<K>,
     buf: &mut EventBuf,
@@ -251,7 +251,7 @@ pub(crate) fn is_free<K: SyscallKernel>(
 }
 
 // Publishes the last call, and closes.
-pub(crate) fn end_lead<K: SyscallKernel>(
+pub(crate) fn end_lead<K: SyscallKernel + Recorded>(
     room: &Room<K>,
     mut lead: Lead<K>,
     last: &Call,
@@ -270,7 +270,7 @@ pub(crate) fn end_lead<K: SyscallKernel>(
     Some(close(lead, room))
 }
 
-fn end_three<K: SyscallKernel>(
+fn end_three<K: SyscallKernel + Recorded>(
     alloc: Global,
     room: Room<K>,
     first: Left<K>,

@@ -14,13 +14,13 @@ use nv_lamport::{Polled, poll_merged};
 use nv_promotion::{Lower, hand, leave, lower_gone};
 use nv_ring::{Placed, place, publish};
 use nv_room::{Ended, Lead, Left, Reader, Room};
-use nv_served::SyscallKernel;
+use nv_served::{Recorded, SyscallKernel};
 use nv_words::EventBuf;
 use std::alloc::{AllocError, Global};
 
 /// A room of two versions with the planned length 1. Version 0 publishes a call, gives up the lead and reads on as the last. Version 1
 /// takes the lead, publishes the call again and the last, and closes, and version 0 reads both.
-pub fn hand_over<K: SyscallKernel>(
+pub fn hand_over<K: SyscallKernel + Recorded>(
     alloc: Global,
     kernel: K,
     call: &Call,
@@ -52,7 +52,10 @@ pub fn hand_over<K: SyscallKernel>(
     Ok(Some(end_two(alloc, room, first, second)?))
 }
 
-fn one_reader<K: SyscallKernel>(room: &Room<K>, mut readers: Vec<Reader<K>>) -> Option<Reader<K>>
+fn one_reader<K: SyscallKernel + Recorded>(
+    room: &Room<K>,
+    mut readers: Vec<Reader<K>>,
+) -> Option<Reader<K>>
     requires { FreshReaders room.now readers.items × (length readers.items ≡ 1) }
     ensures { IfSome result (λ r. HasReadNothing room.now r × (version_of_reader r ≡ 1)) }
 {
@@ -61,7 +64,7 @@ fn one_reader<K: SyscallKernel>(room: &Room<K>, mut readers: Vec<Reader<K>>) -> 
 }
 
 // One call, and the lead is given up; the other version is before the first one now.
-fn first_hands<K: SyscallKernel>(
+fn first_hands<K: SyscallKernel + Recorded>(
     room: &Room<K>,
     mut lead: Lead<K>,
     call: &Call,
@@ -84,7 +87,7 @@ fn first_hands<K: SyscallKernel>(
     }
 }
 
-fn second_leads<K: SyscallKernel>(
+fn second_leads<K: SyscallKernel + Recorded>(
     room: &Room<K>,
     mut second: Reader<K>,
     buf: &mut EventBuf,
@@ -109,7 +112,7 @@ fn second_leads<K: SyscallKernel>(
 }
 
 // Both events of the other version, and that there are three and will be no more.
-fn first_follows<K: SyscallKernel>(
+fn first_follows<K: SyscallKernel + Recorded>(
     room: &Room<K>,
     mut first: Reader<K>,
     buf: &mut EventBuf,
@@ -126,7 +129,7 @@ fn first_follows<K: SyscallKernel>(
     }
 }
 
-fn end_two<K: SyscallKernel>(
+fn end_two<K: SyscallKernel + Recorded>(
     alloc: Global,
     room: Room<K>,
     first: Left<K>,

@@ -15,14 +15,14 @@ use nv_lamport::{Polled, poll_merged};
 use nv_promotion::{Lower, close, leave, lower_gone, retire, take};
 use nv_ring::{Placed, advance, place, publish};
 use nv_room::{Ended, Lead, Leaving, Left, Moving, Opening, Reader, Room};
-use nv_served::SyscallKernel;
+use nv_served::{Recorded, SyscallKernel};
 use nv_words::EventBuf;
 use std::alloc::{AllocError, Global};
 use std::thread;
 use std::thread::{Threads, join, yield_now};
 
 /// Runs the script over so many versions, and gives what ended.
-pub fn run<R: Threads + Sync, K: SyscallKernel>(
+pub fn run<R: Threads + Sync, K: SyscallKernel + Recorded>(
     rt: &R,
     alloc: Global,
     kernel: K,
@@ -55,7 +55,7 @@ pub fn run<R: Threads + Sync, K: SyscallKernel>(
     end_all(room, first, others)
 }
 
-fn end_all<K: SyscallKernel>(
+fn end_all<K: SyscallKernel + Recorded>(
     room: Room<K>,
     first: Left<K>,
     mut others: Vec<Left<K>>,
@@ -72,7 +72,7 @@ fn end_all<K: SyscallKernel>(
 }
 
 // Each reader follows on a thread of its own.
-fn follow_each<R: Threads + Sync, K: SyscallKernel>(
+fn follow_each<R: Threads + Sync, K: SyscallKernel + Recorded>(
     rt: &R,
     alloc: Global,
     room: &Room<K>,
@@ -93,7 +93,7 @@ fn follow_each<R: Threads + Sync, K: SyscallKernel>(
 }
 
 // Reads until the room is closed, up to an event that isn't the script's, or takes the lead where no lower station is left.
-fn follow<K: SyscallKernel>(
+fn follow<K: SyscallKernel + Recorded>(
     alloc: Global,
     room: &Room<K>,
     mut reader: Reader<K>,
@@ -129,7 +129,11 @@ fn follow<K: SyscallKernel>(
 }
 
 // Whether no lower station is left and the room is free since; an event that came between is seen.
-fn may_take<K: SyscallKernel>(room: &Room<K>, reader: &mut Reader<K>, buf: &mut EventBuf) -> bool
+fn may_take<K: SyscallKernel + Recorded>(
+    room: &Room<K>,
+    reader: &mut Reader<K>,
+    buf: &mut EventBuf,
+) -> bool
     requires { HasReadNothing room.now reader.old }
     ensures of { HasReadNothing room.now reader.new }
     ensures version { version_of_reader reader.new ≡ version_of_reader reader.old }
@@ -149,7 +153,11 @@ fn may_take<K: SyscallKernel>(room: &Room<K>, reader: &mut Reader<K>, buf: &mut 
 }
 
 // Publishes its share and retires; who publishes the last call closes.
-fn lead_share<K: SyscallKernel>(room: &Room<K>, mut lead: Lead<K>, script: &Script) -> Left<K>
+fn lead_share<K: SyscallKernel + Recorded>(
+    room: &Room<K>,
+    mut lead: Lead<K>,
+    script: &Script,
+) -> Left<K>
     requires of { IsLeadOf room.now lead }
     requires none_due { due_of lead ≡ false }
     requires calls { AreCalls script.now }
@@ -169,7 +177,11 @@ fn lead_share<K: SyscallKernel>(room: &Room<K>, mut lead: Lead<K>, script: &Scri
 }
 
 // The events that its version leads for, but for the last of all.
-fn publish_share<K: SyscallKernel>(room: &Room<K>, lead: &mut Lead<K>, script: &Script) -> bool
+fn publish_share<K: SyscallKernel + Recorded>(
+    room: &Room<K>,
+    lead: &mut Lead<K>,
+    script: &Script,
+) -> bool
     requires of { IsLeadOf room.now lead.old }
     requires none_due { due_of lead.old ≡ false }
     requires calls { AreCalls script.now }
@@ -192,7 +204,7 @@ fn publish_share<K: SyscallKernel>(room: &Room<K>, lead: &mut Lead<K>, script: &
 }
 
 // The event with this number, if its thread lives.
-fn publish_next<K: SyscallKernel>(
+fn publish_next<K: SyscallKernel + Recorded>(
     room: &Room<K>,
     lead: &mut Lead<K>,
     script: &Script,
@@ -215,7 +227,7 @@ fn publish_next<K: SyscallKernel>(
 }
 
 // Publishes one call, unless the kernel has no memory, the log is full or no place comes free.
-pub(crate) fn publish_one<K: SyscallKernel>(
+pub(crate) fn publish_one<K: SyscallKernel + Recorded>(
     room: &Room<K>,
     lead: &mut Lead<K>,
     call: &Call,
@@ -246,7 +258,7 @@ pub(crate) fn publish_one<K: SyscallKernel>(
 }
 
 /// As many calls, the first thread's alone, on a kernel that is in no room.
-pub fn serve_all<K: SyscallKernel>(mut kernel: K, script: &Script) -> K
+pub fn serve_all<K: SyscallKernel + Recorded>(mut kernel: K, script: &Script) -> K
     requires empty { K.log kernel ≡ [] }
     requires calls { AreCalls script.now }
     requires first { script.now.first.tid ≡ FIRST_THREAD }
@@ -269,7 +281,7 @@ pub fn serve_all<K: SyscallKernel>(mut kernel: K, script: &Script) -> K
 fn crosses<T: Send>(_value: &T) {}
 
 /// The room and each kind of seat may cross threads, whatever the kernel is.
-pub fn all_cross<K: SyscallKernel>(
+pub fn all_cross<K: SyscallKernel + Recorded>(
     room: &Room<K>,
     reader: &Reader<K>,
     lead: &Lead<K>,

@@ -1,5 +1,5 @@
 -- What is given answers the reads of the input in order, and what is given later changes no reply before.
-use Rattle.std.proofs.Common.{◌≡◌, ◌∙◌, sym, ap, subst, refl, ℕ, zero, suc, pos, ◌+◌, ◌<◌, ◌≤◌, Bool, true, false, ◌==◌, ◌&&◌, ◌||◌, not, List, [], ◌∷◌, ◌++◌, length, take, map, Option, Some, None, arith, append-nil, length-append}
+use Rattle.std.proofs.Common.{◌≡◌, ◌∙◌, sym, ap, subst, refl, ℕ, zero, suc, ◌+◌, ◌<◌, ◌≤◌, Bool, true, false, ◌==◌, ◌&&◌, ◌||◌, not, List, [], ◌∷◌, ◌++◌, length, take, Option, Some, None, arith, append-nil, length-append}
 use Rattle.std.specs.Prelude.{slice_get, slice_index, is_some, Contains, filter, if◌then◌else◌}
 use Rattle.std.proofs.lemmas.Option.{same_Some}
 use Rattle.std.proofs.lemmas.Bool.{and_parts}
@@ -10,7 +10,7 @@ use Rattle.nv_calls.specs.Answers.{most_out_by}
 use Rattle.nv_calls.specs.Calls.{Request, Response, Entry, status_of}
 use Rattle.nv_calls.specs.Constants.{result_alone}
 use Rattle.nv_calls.specs.Errors.{ENOSYS}
-use Rattle.nv_calls.specs.Logs.{Start, calls_of, live_after, live_next, made, child_of, with_child, IsNew, last_status, ended_after}
+use Rattle.nv_calls.specs.Logs.{calls_of, live_after, live_next, made, child_of, with_child, IsNew, last_status, ended_after}
 use Rattle.nv_calls.specs.Numbers.{syscall_of}
 use Rattle.nv_calls.proofs.LogLaws.{live_more, status_more, take_whole}
 use Rattle.nv_kernel.specs.Ends.{end_next}

@@ -3,3 +3,4 @@ mod Learned
 mod Sounds
 pub mod Texts
 pub mod Rests
+pub mod Sending

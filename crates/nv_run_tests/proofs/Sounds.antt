@@ -4,12 +4,12 @@ use Rattle.std.specs.Prelude.{is_some, Contains, if◌then◌else◌}
 use Rattle.nv_calls.specs.Calls.{Request, Response, Entry}
 use Rattle.nv_calls.specs.Constants.{result_alone}
 use Rattle.nv_calls.specs.Errors.{ENOSYS}
-use Rattle.nv_calls.specs.Logs.{IsLegal, InRange, served, calls_of, live_after, made, ended_after}
+use Rattle.nv_calls.specs.Logs.{IsLegal, InRange, served, calls_of, live_after, made}
 use Rattle.nv_calls.proofs.LogLaws.{lawful_none, legal_none, lawful_more, legal_more}
 use Rattle.nv_served.proofs.LearningLaws.{legal_on}
 use Rattle.nv_kernel.specs.Ends.{end_next}
-use Rattle.nv_run_tests.specs.Given.{is_input, inputs, given_at, reply_with, answered, from_given, IsNext, kept_list, thing_of, left_of, thing_in, handed, given_by, Gives, IsTold}
-use Rattle.nv_run_tests.specs.inner.Sound.{IsSound, live_if}
+use Rattle.nv_run_tests.specs.Given.{is_input, inputs, reply_with, answered, from_given, IsNext, kept_list, thing_of, left_of, thing_in, handed, given_by, Gives, IsTold}
+use Rattle.nv_run_tests.specs.inner.Sound.{IsSound}
 use Rattle.nv_run_tests.proofs.Learned.{goes_on, next_of, served_is, next_served, none_made, live_served, none_new, end_served}
 
 pub sound_none : IsSound [] [] None false None
@@ -54,7 +54,7 @@ pub is_served : (given : List (Option ℕ)) (log : List Entry) (kept : Option (O
 is_served given log kept over end c k ready = ap (λ (r : Response). record { stamp = length log; call = c; reply = r }) (served_is log given kept c k.next ready)
 
 pub sound_served : (given : List (Option ℕ)) (log : List Entry) (kept : Option (Option ℕ)) (over : Bool) (end : Option ℕ) (c : Request) → IsSound given log kept over end
-    → (is_input c ≡ true → is_some kept ≡ true) → Contains (live_after log) c.tid → length log < 131072 → InRange (event_of log kept c)
+    → (is_input c ≡ true → is_some kept ≡ true) → Contains (live_after log) c.tid → length log < 500000000 → InRange (event_of log kept c)
     → IsSound given (log ++ event_of log kept c ∷ []) (left_of kept c) ((c.nr == 93) || (c.nr == 94)) (end_next ((c.nr == 93) || (c.nr == 94)) c)
 sound_served given log kept over end c k ready lives few range =
     let e : Entry = record { stamp = length log; call = c; reply = answered (thing_of kept) c } in

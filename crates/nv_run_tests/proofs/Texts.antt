@@ -1,5 +1,5 @@
 -- A transcript with one thing more.
-use Rattle.std.proofs.Common.{◌≡◌, ◌∙◌, sym, ap, refl, ℕ, List, [], ◌∷◌, ◌++◌, append_assoc, append-nil}
+use Rattle.std.proofs.Common.{◌≡◌, ◌∙◌, sym, ap, refl, ℕ, List, [], ◌∷◌, ◌++◌, append_assoc}
 use Rattle.nv_arrivals.specs.Doings.{Doing, Takes, Says}
 use Rattle.nv_run_tests.specs.Transcript.{said_text, taken_text, text_of}
 

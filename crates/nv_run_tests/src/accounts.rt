@@ -7,7 +7,7 @@ use nv_bpf::Filter;
 use nv_kernel::ScriptKernel;
 use nv_outside::MemorySink;
 use nv_replay::Account;
-use nv_served::SyscallKernel;
+use nv_served::{Recorded, SyscallKernel};
 use nv_workers::OpenGate;
 use std::alloc::Global;
 use std::process::Abort;
@@ -132,11 +132,18 @@ fn refusing<R: Abort>(rt: &R, alloc: Global, number: u32) -> RefusingKernel<Scri
     RefusingKernel::make(inner, refused)
 }
 
-fn finished<R: Abort, K: SyscallKernel>(rt: &R, account: Option<Account<K>>) -> Account<K> {
+fn finished<R: Abort, K: SyscallKernel + Recorded>(
+    rt: &R,
+    account: Option<Account<K>>,
+) -> Account<K> {
     account.expect(rt, "a run")
 }
 
-fn report_of<R: Abort, K: SyscallKernel>(rt: &R, alloc: Global, account: &Account<K>) -> Vec<u8> {
+fn report_of<R: Abort, K: SyscallKernel + Recorded>(
+    rt: &R,
+    alloc: Global,
+    account: &Account<K>,
+) -> Vec<u8> {
     let mut sink = MemorySink::make(alloc, 4096, 4096, Vec::new(alloc)).expect(rt, "memory");
     assert!(rt; nv_report::write(&mut sink, account).is_ok());
     sink.written().to_vec(alloc).expect(rt, "memory")

@@ -8,7 +8,7 @@ const COUNTS: &str =
 
 #[test]
 fn version_goes_ahead_up_to_its_call(rt: HostRuntime) -> Result<(), Fail> {
-    let mut version = version(rt.alloc(), 0, COUNTS).ok_or("a version that counts")?;
+    let mut version = version(rt.alloc(), 0, COUNTS, true).ok_or("a version that counts")?;
     assert!(rt; version.run_ahead(1));
     assert!(rt; version.run_ahead(1));
     assert!(rt; !version.run_ahead(100));

@@ -1,12 +1,16 @@
-ghost use Rattle.std.specs.Prelude.{◌≡◌, []};
+ghost use Rattle.std.specs.Prelude.{◌≡◌, [], IsTrue};
+ghost use Rattle.nv_script.specs.Scripts.{is_script};
+ghost use Rattle.nv_script.specs.Views.{setup_of};
 ghost use Rattle.nv_run_tests.specs.Transcript.{Wrote};
 
+use crate::kept::{KeptKernel, make_kept};
 use crate::runs::{beside, one_by_one, text_of};
 use crate::transcript::Transcript;
 use nv_arrivals::{Arrival, Outside, Said};
-use nv_arriving::ArrivingKernel;
+use nv_arriving::{ArrivingKernel, Guests, arriving};
 use nv_live::Telling;
-use nv_served::SyscallKernel;
+use nv_script::Script;
+use nv_served::{Recorded, SyscallKernel};
 use nv_workers::OpenGate;
 use std::alloc::{AllocError, Global};
 use std::process::Abort;
@@ -69,7 +73,7 @@ impl Outside for Pairs {
 const ECHOES: &str =
     ".text\nli s0, 0\nnext: li a7, 63\nli a0, 0\nmv a1, sp\nli a2, 8\necall\nbeq a0, zero, done\naddi s0, s0, 1\nmv a2, a0\nli a7, 64\nli a0, 1\nmv a1, sp\necall\nj next\ndone: mv a0, s0\nli a7, 94\necall\n";
 
-fn kernel_from<R: Abort>(rt: &R, alloc: Global, first: u8, told: bool) -> ArrivingKernel<Pairs>
+fn kernel_from<R: Abort>(rt: &R, alloc: Global, first: u8, told: bool) -> KeptKernel<Pairs>
     ensures { result.log ≡ [] }
 {
     let script = nv_script::read(alloc, b"varan-script 1\n").expect(rt, "a script");
@@ -78,7 +82,7 @@ fn kernel_from<R: Abort>(rt: &R, alloc: Global, first: u8, told: bool) -> Arrivi
         told,
         done: Transcript::new(alloc),
     };
-    ArrivingKernel::make(alloc, &script, pairs).expect(rt, "a kernel")
+    make_kept(alloc, &script, pairs).expect(rt, "a kernel")
 }
 
 // What comes from a first letter on, and what is made of it: the events of the log, how many reads gave bytes, what is written, and
@@ -126,11 +130,11 @@ impl Echo {
         }
     }
 
-    fn is_of(&self, kernel: &ArrivingKernel<Pairs>, told: bool) -> bool {
+    fn is_of(&self, kernel: &KeptKernel<Pairs>, told: bool) -> bool {
         kernel.history().len() == self.events
             && kernel.output() == self.output
             && kernel.ended() == Some(self.reads)
-            && kernel.outside().done.text.as_slice() == self.done(told)
+            && kernel.answers().guests.outside().done.text.as_slice() == self.done(told)
     }
 }
 
@@ -252,24 +256,39 @@ const SERVES: &str =
 const BREAKS: &str =
     ".text\nli a0, 2\nli a1, 1\nli a2, 0\nli a7, 198\necall\nmv s1, a0\nla a1, address\nli a2, 16\nli a7, 200\necall\nmv a0, s1\nli a1, 8\nli a7, 201\necall\nli s0, 0\nnext: mv a0, s1\nli a1, 0\nli a2, 0\nli a7, 202\necall\nblt a0, zero, done\nmv s2, a0\naddi s0, s0, 1\nmore: mv a0, s2\nla a1, held\nli a2, 8\nli a7, 63\necall\nbge zero, a0, leave\nli a1, 2\nbne s0, a1, send\nlw a1, 0(zero)\nsend: mv a2, a0\nmv a0, s2\nla a1, held\nli a7, 64\necall\nj more\nleave: mv a0, s2\nli a7, 57\necall\nj next\ndone: mv a0, s0\nli a7, 94\necall\n.data\naddress: .byte 2, 0, 0, 80\n.zero 12\nheld: .zero 8\n";
 
-fn server<R: Abort>(rt: &R, alloc: Global) -> ArrivingKernel<Clients>
-    ensures { result.log ≡ [] }
+fn script_of<R: Abort>(rt: &R, alloc: Global) -> Script
+    ensures { IsTrue (is_script (setup_of result)) }
 {
-    let script = nv_script::read(alloc, b"varan-script 1\n").expect(rt, "a script");
-    let clients = Clients {
+    nv_script::read(alloc, b"varan-script 1\n").expect(rt, "a script")
+}
+
+fn made_clients(alloc: Global) -> Clients {
+    Clients {
         next: 0,
         done: Transcript::new(alloc),
-    };
-    ArrivingKernel::make(alloc, &script, clients).expect(rt, "a kernel")
+    }
+}
+
+fn kept_server<R: Abort>(rt: &R, alloc: Global) -> KeptKernel<Clients>
+    ensures { result.log ≡ [] }
+{
+    make_kept(alloc, &script_of(rt, alloc), made_clients(alloc)).expect(rt, "a kernel")
+}
+
+fn live_server<R: Abort>(rt: &R, alloc: Global) -> ArrivingKernel<Clients>
+    ensures { result.log ≡ [] }
+{
+    arriving(alloc, &script_of(rt, alloc), made_clients(alloc)).expect(rt, "a kernel")
 }
 
 // What is done while they are served: each is answered before the next thing is asked for.
 const SERVED: &[u8] =
     b"<+>+0<+<1:one <0:zero>0:zero<0.>-0>+1>1:one <1:more>1:more<1.>-1<+<2:lost<+>+3<3.>-3";
 
-// What each client was sent, by the account.
-fn assert_sent<R: Abort>(rt: &R, kernel: &ArrivingKernel<Clients>) {
-    let sent = kernel.connections();
+// What each client was sent, by the account, and what was done while they were served.
+fn assert_sent<R: Abort>(rt: &R, guests: &Guests<Clients>) {
+    assert_eq!(rt; guests.outside().done.text.as_slice(), SERVED);
+    let sent = guests.connections();
     assert_eq!(rt; sent.len(), 4);
     for (client, port, bytes) in [
         (0, 80, b"zero".as_slice()),
@@ -283,8 +302,42 @@ fn assert_sent<R: Abort>(rt: &R, kernel: &ArrivingKernel<Clients>) {
     }
 }
 
-// Two versions beside each other serve what connects, on one thread and on two, and tell the account of one after another, also where
-// the first breaks in the middle of a client's request.
+// Two versions beside each other serve what connects, over the kernel of a live run, which keeps the last event of its log alone.
+fn served_live<R: Threads + Wait + Sync + Abort>(
+    rt: &R,
+    alloc: Global,
+    texts: &[String; 2],
+    threads: u32,
+) {
+    let hands = Vec::new(alloc);
+    let kernel = live_server(rt, alloc);
+    let account = beside(
+        rt, alloc, kernel, texts, None, &OpenGate, &hands, 2, threads,
+    );
+    let account = account.expect(rt, "a run");
+    assert_sent(rt, account.kernel.answers());
+    assert_eq!(rt; account.kernel.ended(), Some(3));
+}
+
+// The same over a kernel that keeps all, as text.
+fn served_kept<R: Threads + Wait + Sync + Abort>(
+    rt: &R,
+    alloc: Global,
+    texts: &[String; 2],
+    threads: u32,
+) -> String {
+    let hands = Vec::new(alloc);
+    let kernel = kept_server(rt, alloc);
+    let account = beside(
+        rt, alloc, kernel, texts, None, &OpenGate, &hands, 2, threads,
+    );
+    let account = account.expect(rt, "a run");
+    assert_sent(rt, &account.kernel.answers().guests);
+    text_of(rt, alloc, Some(account))
+}
+
+// They serve what connects, on one thread and on two, and tell the account of one after another, also where the first breaks in the
+// middle of a client's request.
 #[test]
 fn clients_come(rt: HostRuntime) {
     let alloc = rt.alloc();
@@ -294,30 +347,17 @@ fn clients_come(rt: HostRuntime) {
             String::from_str(alloc, first).expect(&rt, "memory"),
             String::from_str(alloc, SERVES).expect(&rt, "memory"),
         ];
-        let plain = one_by_one(alloc, server(&rt, alloc), &texts, None, &hands);
+        let plain = one_by_one(alloc, kept_server(&rt, alloc), &texts, None, &hands);
         let account = plain.expect(&rt, "a run");
         assert_eq!(&rt; account.kernel.history().len(), 20);
         assert_eq!(&rt; account.kernel.output(), b"".as_slice());
         assert_eq!(&rt; account.kernel.ended(), Some(3));
-        assert_sent(&rt, &account.kernel);
-        assert_eq!(&rt; account.kernel.outside().done.text.as_slice(), SERVED);
+        assert_sent(&rt, &account.kernel.answers().guests);
         let plain = text_of(&rt, alloc, Some(account));
         for threads in [1, 2] {
-            let account = beside(
-                &rt,
-                alloc,
-                server(&rt, alloc),
-                &texts,
-                None,
-                &OpenGate,
-                &hands,
-                2,
-                threads,
-            );
-            let account = account.expect(&rt, "a run");
-            assert_sent(&rt, &account.kernel);
-            assert_eq!(&rt; account.kernel.outside().done.text.as_slice(), SERVED);
-            assert_eq!(&rt; text_of(&rt, alloc, Some(account)).as_str(), plain.as_str());
+            served_live(&rt, alloc, &texts, threads);
+            let text = served_kept(&rt, alloc, &texts, threads);
+            assert_eq!(&rt; text.as_str(), plain.as_str());
         }
     }
 }

@@ -29,7 +29,7 @@ pub fn scheduled(alloc: Global, case: &Case, seed: &mut Seed) -> Result<Course, 
     let Some(kernel) = kernel(alloc) else {
         return Err(AllocError);
     };
-    let Some(versions) = versions(alloc, case.texts.as_slice()) else {
+    let Some(versions) = versions(alloc, case.texts.as_slice(), true) else {
         return Err(AllocError);
     };
     let count = case.texts.len() as u32;

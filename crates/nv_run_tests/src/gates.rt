@@ -1,9 +1,13 @@
+ghost use Rattle.std.specs.Prelude.{◌≤◌};
+
 use crate::accounts::{EXITS, alike};
 use crate::runs::{beside, kernel, program};
 use nv_workers::{Gate, VersionNumber};
+use std::alloc::Global;
 use std::process::Abort;
+use std::sync::Wait;
 use std::sync::atomic::{AtomicU64, Ordering};
-use std::thread::yield_now;
+use std::thread::{Threads, yield_now};
 
 // How often the first version and the second came with each stamp: a decimal digit for each of 0, 1 and 2. Other versions are noted apart.
 #[derive(Drop)]
@@ -127,26 +131,30 @@ impl Gate for Holding {
 }
 
 // While the follower is held with one event taken, the leader publishes as many after it as there are places, and no more.
-#[test]
-fn ring_bounds_the_leader(rt: HostRuntime) {
-    let alloc = rt.alloc();
+fn leader_is_bounded<R: Threads + Wait + Sync + Abort>(rt: &R, alloc: Global, places: u32)
+    requires { (2 ≤ places) × (places ≤ 1024) }
+{
     let texts = [
-        program(alloc, 40, EXITS).expect(&rt, "memory"),
-        program(alloc, 40, EXITS).expect(&rt, "memory"),
+        program(alloc, 40, EXITS).expect(rt, "memory"),
+        program(alloc, 40, EXITS).expect(rt, "memory"),
     ];
     let hands = Vec::new(alloc);
-    for places in [2, 16] {
-        let gate = Holding {
-            places: u64::from(places),
-            begun: AtomicU64::new(0),
-            taken: AtomicU64::new(0),
-            ahead: AtomicU64::new(0),
-        };
-        let fresh = kernel(alloc).expect(&rt, "a kernel");
-        let account = beside(&rt, alloc, fresh, &texts, None, &gate, &hands, places, 2);
-        assert!(rt; account.is_ok());
-        assert_eq!(rt; gate.begun.load(Ordering::SeqCst), 41);
-        assert_eq!(rt; gate.taken.load(Ordering::SeqCst), 41);
-        assert_eq!(rt; gate.ahead.load(Ordering::SeqCst), u64::from(places));
-    }
+    let gate = Holding {
+        places: u64::from(places),
+        begun: AtomicU64::new(0),
+        taken: AtomicU64::new(0),
+        ahead: AtomicU64::new(0),
+    };
+    let fresh = kernel(alloc).expect(rt, "a kernel");
+    let account = beside(rt, alloc, fresh, &texts, None, &gate, &hands, places, 2);
+    assert!(rt; account.is_ok());
+    assert_eq!(rt; gate.begun.load(Ordering::SeqCst), 41);
+    assert_eq!(rt; gate.taken.load(Ordering::SeqCst), 41);
+    assert_eq!(rt; gate.ahead.load(Ordering::SeqCst), u64::from(places));
+}
+
+#[test]
+fn ring_bounds_the_leader(rt: HostRuntime) {
+    leader_is_bounded(&rt, rt.alloc(), 2);
+    leader_is_bounded(&rt, rt.alloc(), 16);
 }

@@ -7,7 +7,7 @@ use crate::outside::{Outside, is_input, wants};
 use nv_calls::errors::ENOSYS;
 use nv_calls::{Bytes, Call, EXIT, EXIT_GROUP, Event};
 use nv_kernel::spare::{blank, fill, keep, next_end};
-use nv_served::SyscallKernel;
+use nv_served::{Recorded, SyscallKernel};
 use std::alloc::{AllocError, Global};
 use std::marker::Model;
 
@@ -145,15 +145,22 @@ impl<O: Outside> SyscallKernel for LearningKernel<O> {
         keep(&mut self.log, event);
     }
 
+    fn last(&self) -> &Event {
+        let log = self.log.as_slice();
+        &log[log.len() - 1]
+    }
+
+    fn ended(&self) -> Option<u8> {
+        self.end
+    }
+}
+
+impl<O: Outside> Recorded for LearningKernel<O> {
     fn history(&self) -> &[Event] {
         self.log.as_slice()
     }
 
     fn output(&self) -> &[u8] {
         &[]
-    }
-
-    fn ended(&self) -> Option<u8> {
-        self.end
     }
 }

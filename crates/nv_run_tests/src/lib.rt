@@ -2,7 +2,7 @@
 //! Tests: `accounts` (workers on threads of the host), `gates` (versions that meet at a gate), `letters` and `arrivals` (what comes from outside while they run),
 //! `schedules` (turn by turn, without threads of the host), `ahead` (a version goes on while it waits), `starving` (a version that wanted memory, as JSON).
 //! What they stand on: `runs` (runs of small programs), `cases` and `courses` (rooms drawn by a seed, and how they go); the kernels `RefusingKernel`, which is
-//! refused memory at the calls that a test names, and `LearningKernel`, which takes from an `Outside`; `Transcript` (what was done outside, as text);
+//! refused memory at the calls that a test names, and `LearningKernel`, which takes from an `Outside`; `Kept`, a live run's answers for a kernel that keeps its log; `Transcript` (what was done outside, as text);
 //! `schedule`, which chooses whose turn is next by a `Seed`.
 //! Proved: both kernels meet the laws of `SyscallKernel`, the second though it takes from outside in the middle of a run; a transcript has what was taken and
 //! said, in its order, or says that memory was wanted; a scheduled run ends within its bound on turns, and its account is the one of versions that have ended;
@@ -21,6 +21,7 @@ mod cases;
 mod courses;
 #[cfg(test)]
 mod gates;
+mod kept;
 mod learning;
 #[cfg(test)]
 mod letters;

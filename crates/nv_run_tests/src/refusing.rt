@@ -6,7 +6,7 @@ ghost use Rattle.nv_calls.specs.Shapes.{IsShaped};
 ghost use Rattle.nv_run_tests.specs.Refusing.{is_refused};
 
 use nv_calls::{Call, Event};
-use nv_served::SyscallKernel;
+use nv_served::{Recorded, SyscallKernel};
 use std::alloc::AllocError;
 
 /// A kernel that has no memory for some of the calls: those whose reservation has one of the numbers, counted from 0.
@@ -84,15 +84,21 @@ impl<K: SyscallKernel> SyscallKernel for RefusingKernel<K> {
         self.inner.serve(call);
     }
 
+    fn last(&self) -> &Event {
+        self.inner.last()
+    }
+
+    fn ended(&self) -> Option<u8> {
+        self.inner.ended()
+    }
+}
+
+impl<K: SyscallKernel + Recorded> Recorded for RefusingKernel<K> {
     fn history(&self) -> &[Event] {
         self.inner.history()
     }
 
     fn output(&self) -> &[u8] {
         self.inner.output()
-    }
-
-    fn ended(&self) -> Option<u8> {
-        self.inner.ended()
     }
 }

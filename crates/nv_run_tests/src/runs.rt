@@ -1,5 +1,6 @@
 //! Runs of small programs.
 ghost use Rattle.std.specs.Prelude.{◌≡◌, ◌≤◌, ◌<◌, [], IfSome, length, vec_len};
+ghost use Rattle.nv_threads.specs.Behaviours.{IsStarted};
 ghost use Rattle.nv_threads.specs.Threads.{threads};
 ghost use Rattle.nv_replay.specs.Version.{IsFresh};
 ghost use Rattle.nv_replay.specs.Account.{AreFresh};
@@ -10,7 +11,7 @@ use nv_guest::Guest;
 use nv_kernel::ScriptKernel;
 use nv_replay::{Account, Version};
 use nv_room::Room;
-use nv_served::SyscallKernel;
+use nv_served::{Recorded, SyscallKernel};
 use nv_threads::Process;
 use nv_workers::{Gate, Terms, end, run_all, staff};
 use std::alloc::{AllocError, Global};
@@ -27,25 +28,37 @@ pub fn program(alloc: Global, calls: u32, then: &str) -> Result<String, AllocErr
     )
 }
 
-/// A version with this number that runs this program.
-pub fn version(alloc: Global, index: u32, text: &str) -> Option<Version>
+// A version with this number, which may go on ahead of the log or never does.
+fn made(alloc: Global, index: u32, process: Process, eager: bool) -> Option<Version>
+    requires { IsStarted threads process }
+    ensures { IfSome result (IsFresh threads index) }
+{
+    if eager {
+        Version::make_eager(alloc, index, process, true).ok()
+    } else {
+        Version::make(alloc, index, process).ok()
+    }
+}
+
+/// A version with this number that runs this program, which may go on ahead of the log or never does.
+pub fn version(alloc: Global, index: u32, text: &str, eager: bool) -> Option<Version>
     ensures { IfSome result (IsFresh threads index) }
 {
     let program = nv_asm::assemble(alloc, text.as_bytes()).ok()?;
     let guest = Guest::make(alloc, &program, &[], MEMORY).ok()?;
-    let process = Process::make(alloc, guest, BUDGET).ok()?;
-    Version::make(alloc, index, process, true).ok()
+    let process = Process::make(alloc, guest, BUDGET, false).ok()?;
+    made(alloc, index, process, eager)
 }
 
 /// The versions of these programs, as they are made.
-pub fn versions(alloc: Global, texts: &[String]) -> Option<Vec<Version>>
+pub fn versions(alloc: Global, texts: &[String], eager: bool) -> Option<Vec<Version>>
     requires { length texts.now ≤ 8 }
     ensures fresh { IfSome result (λ versions. AreFresh threads 0 versions.items) }
     ensures each { IfSome result (λ versions. length versions.items ≡ length texts.now) }
 {
     let mut versions = Vec::new(alloc);
     for index in 0..texts.len() {
-        let version = version(alloc, index as u32, texts[index].as_str())?;
+        let version = version(alloc, index as u32, texts[index].as_str(), eager)?;
         versions.push(version).ok()?;
     }
     Some(versions)
@@ -59,8 +72,8 @@ pub fn kernel(alloc: Global) -> Option<ScriptKernel>
     ScriptKernel::make(alloc, &script).ok()
 }
 
-/// The account of a run of these programs by this kernel, one after another.
-pub fn one_by_one<K: SyscallKernel>(
+/// The account of a run of these programs by this kernel, one after another, none ahead of the log.
+pub fn one_by_one<K: SyscallKernel + Recorded>(
     alloc: Global,
     kernel: K,
     texts: &[String],
@@ -71,7 +84,7 @@ pub fn one_by_one<K: SyscallKernel>(
     requires hands { length hands.now.items ≤ 8 }
     requires kernel { K.log kernel ≡ [] }
 {
-    let versions = versions(alloc, texts)?;
+    let versions = versions(alloc, texts, false)?;
     Some(nv_sequence::run(versions, rules, kernel, MOST_EVENTS, hands))
 }
 
@@ -92,7 +105,7 @@ pub fn beside<R: Threads + Wait + Sync, K: SyscallKernel, G: Gate + Sync>(
     requires places { (2 ≤ places) × (places ≤ 1024) }
     requires kernel { K.log kernel ≡ [] }
 {
-    let Some(versions) = versions(alloc, texts) else {
+    let Some(versions) = versions(alloc, texts, true) else {
         return Err(AllocError);
     };
     let (room, readers, lead) = Room::make(alloc, kernel, texts.len() as u32, places, hands)?;
@@ -108,7 +121,7 @@ pub fn beside<R: Threads + Wait + Sync, K: SyscallKernel, G: Gate + Sync>(
 }
 
 /// The whole account as JSON: log, fates, spans, rewrites and output.
-pub fn text_of<R: Abort, K: SyscallKernel>(
+pub fn text_of<R: Abort, K: SyscallKernel + Recorded>(
     rt: &R,
     alloc: Global,
     account: Option<Account<K>>,

@@ -81,7 +81,7 @@ impl States {
 
 // The turns that a run can take. No seat takes more steps that get on than one for each event, and four at each of 16 stations and once more; a turn that gets on
 // without such a step does at least one instruction; and between two turns that get on each of the other workers waits once at most.
-const MOST_TURNS: u32 = 8 * 8 * (MOST_EVENTS + 4 * 16 + 4 + BUDGET) + 8;
+const MOST_TURNS: u64 = 8 * 8 * (MOST_EVENTS as u64 + 4 * 16 + 4 + BUDGET as u64) + 8;
 
 /// Turns of a run's workers, each chosen by the seed from those that haven't waited since one got on: with even chances the one of the last turn, or a random one,
 /// or who is next to it.

@@ -9,7 +9,7 @@ use std::test::Fail;
 
 fn starved(alloc: Global) -> Option<Account<ScriptKernel>> {
     let text = program(alloc, 1, EXITS).ok()?;
-    let mut version = version(alloc, 0, text.as_str())?;
+    let mut version = version(alloc, 0, text.as_str(), true)?;
     version.begin_lead();
     let Led::Asked(_) = version.lead(MOST_EVENTS) else {
         return None;

@@ -7,6 +7,6 @@ abbrev pub invariant-loop-event : goal.invariant-loop-event
 invariant-loop-event g l = record {
   start : g.K.SyscallKernel.start l.kernel ≡ g.K.SyscallKernel.start l.initial.kernel;
   long : length (g.K.SyscallKernel.log l.kernel) + 1 ≡ l._event;
-  few : l._event ≤ 131072;
+  few : l._event ≤ 500000000;
   lives : Contains (live_after (g.K.SyscallKernel.log l.kernel)) 100;
 }

@@ -1,3 +1,5 @@
+use denote.Exit.{no}
+use denote.Param.Send.{param_send, arg_send}
 use Rattle.std.proofs.Common.{sym, subst, arith, rules}
 use Rattle.std.proofs.lemmas.List.{take_at}
 use Rattle.std.specs.Option.{option_copied}
@@ -6,7 +8,20 @@ use Rattle.nv_workers.specs.inner.Rounds.{CanAll, AllOn, AreGone}
 use Rattle.nv_workers.specs.Ran.{AreApart, AllRan}
 use Rattle.nv_workers.proofs.Finishing.{can_new, all_ran}
 use Rattle.nv_workers.proofs.NewSeats.{as_made}
+use Rattle.nv_run_tests.proofs.Sending.{script_kernel_send}
 use Rattle.nv_run_tests.proofs.courses.scheduled.Goals as goal
+
+pub make-requires-send-K : goal.make-requires-send-K
+make-requires-send-K c κs = param_send 0 _ (arg_send _ no _ script_kernel_send)
+
+pub staff-requires-send-K : goal.staff-requires-send-K
+staff-requires-send-K c κs = param_send 0 _ (arg_send _ no _ script_kernel_send)
+
+pub gather-requires-send-K : goal.gather-requires-send-K
+gather-requires-send-K c κs = param_send 0 _ (arg_send _ no _ script_kernel_send)
+
+pub end-requires-send-K : goal.end-requires-send-K
+end-requires-send-K c κs = param_send 0 _ (arg_send _ no _ script_kernel_send)
 
 pub staff-requires-clause-seats : goal.staff-requires-clause-seats
 staff-requires-clause-seats c κs =

@@ -1,4 +1,4 @@
-use Rattle.std.proofs.Common.{◌≡◌, ◌++◌, ◌∷◌, [], sym, subst, ◌+◌, length, arith, rules, length-append, ap}
+use Rattle.std.proofs.Common.{◌≡◌, ◌++◌, ◌∷◌, [], sym, subst, ◌+◌, length, arith, rules, length-append}
 use Rattle.nv_threads.specs.Threads.{threads}
 use Rattle.nv_replay.specs.Version.{IsFresh}
 use Rattle.nv_replay.specs.Account.{AreFresh}

@@ -1,6 +1,12 @@
+use denote.Exit.{no}
+use denote.Param.Send.{param_send, arg_send}
 use Rattle.nv_workers.specs.Terms.{judges_of}
 use Rattle.nv_run_tests.proofs.Rests.{first_on, others_on}
+use Rattle.nv_run_tests.proofs.Sending.{script_kernel_send}
 use Rattle.nv_run_tests.proofs.scheduler.+turn_of.Goals as goal
+
+pub turn-requires-send-K : goal.turn-requires-send-K
+turn-requires-send-K t c κs = param_send 0 _ (arg_send _ no _ script_kernel_send)
 
 pub returns-then-index-eq0 : goal.returns-then-index-eq0
 returns-then-index-eq0 t c = record {

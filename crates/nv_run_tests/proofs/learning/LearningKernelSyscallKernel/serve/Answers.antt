@@ -52,7 +52,7 @@ module _ (g : Over) (c : goal.After-keep g) where
 
   sound : IsSound given (log ++ event_of log kept call ∷ []) (left_of kept call) ((call.nr == 93) || (call.nr == 94)) (end_next ((call.nr == 93) || (call.nr == 94)) call)
   sound = sound_served given log kept c.self.inside.over c.self.inside.end call c.self.invariant.0 ready
-      (subst (λ (z : List Entry). Contains (live_after z) call.tid) (sym past) c.requires.lives) (subst (λ (z : List Entry). length z < 131072) (sym past) c.requires.few) (subst InRange is c.fill.ensures.range)
+      (subst (λ (z : List Entry). Contains (live_after z) call.tid) (sym past) c.requires.lives) (subst (λ (z : List Entry). length z < 500000000) (sym past) c.requires.few) (subst InRange is c.fill.ensures.range)
 
   -- nothing more is given
   given_now : given_by (map entry c.keep.new.log.items) c.answer-ret.new.kept ≡ given

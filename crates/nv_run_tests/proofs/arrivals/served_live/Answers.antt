@@ -1,0 +1,14 @@
+use denote.Exit.{no}
+use denote.Param.Send.{param_send, arg_send}
+use Rattle.nv_run_tests.proofs.arrivals.Clients.TheSendSync.{the_send}
+use Rattle.nv_run_tests.specs.contracts.arrivals.Clients as Clients
+use Rattle.nv_run_tests.specs.contracts.arrivals.ClientsOutside.TheImpl as ClientsOutside
+use Rattle.nv_run_tests.proofs.Sending.{live_kernel_send}
+use Rattle.nv_arriving.proofs.Sending.{guests_send}
+use Rattle.nv_run_tests.proofs.arrivals.served_live.Goals as goal
+
+pub beside-account-requires-send-K : goal.beside-account-requires-send-K
+beside-account-requires-send-K g c κs within = param_send 1 _ (arg_send _ no _ (live_kernel_send Clients.the_row ClientsOutside.ghosts the_send))
+
+pub answers-requires-send-A : goal.answers-requires-send-A
+answers-requires-send-A g c κs = param_send 0 _ (arg_send _ no _ (guests_send Clients.the_row ClientsOutside.ghosts the_send))
