@@ -1,5 +1,6 @@
 #!/usr/bin/env python3
-"""What the clauses of `nv_cli::varan`, and of `nv_cli::program`, which `main` calls, cite, whole: the definitions of specs/ that a reader has to believe.
+"""What the clauses of three calls cite, whole: the definitions of specs/ that a reader has to believe. The calls are `nv_cli::varan`;
+`nv_cli::varan_over`, the same over the streams of a live run; and `nv_cli::program`, which `main` calls.
 
     .ci/headline.py            compares them with crates/nv_cli/specs/Headline.antt and with the number in README.md, and the names on docs/DEFINITIONS.md with the definitions
     .ci/headline.py --write    writes them there: Headline.antt after its line MORE, the number
@@ -14,7 +15,7 @@ import sys
 sys.dont_write_bytecode = True
 from definitions import ROOT, House, imports_of, read, whole
 
-TOP = [("nv_cli", "top", "varan"), ("nv_cli", "process", "program")]
+TOP = [("nv_cli", "top", "varan"), ("nv_cli", "top", "varan_over"), ("nv_cli", "process", "program")]
 HEADLINE, PAGE, README = "crates/nv_cli/specs/Headline.antt", "docs/DEFINITIONS.md", "README.md"
 MORE = "-- And what these stand on, by crate and file. (.ci/headline.py --write makes the lines from here on.)"
 COUNT = re.compile(r"\*\*[\d,]+\*\* definitions")
@@ -181,7 +182,9 @@ def main(words):
     wrong = compare(house, cited)
     if wrong:
         sys.exit("\n".join(f"headline: {it}" for it in wrong))
-    print(f"headline: the clauses of varan and program cite {len(cited):,} of the {len(house.definitions()):,} definitions of specs/, in {sum(it.lines for it in cited):,} lines, and {len(whole(roots)) - len(cited)} types of the code")
+    lines, types = sum(it.lines for it in cited), len(whole(roots)) - len(cited)
+    known = f"{len(cited):,} of the {len(house.definitions()):,} definitions of specs/"
+    print(f"headline: the clauses of varan, varan_over and program cite {known}, in {lines:,} lines, and {types} types of the code")
 
 
 if __name__ == "__main__":

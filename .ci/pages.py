@@ -1,8 +1,8 @@
 #!/usr/bin/env python3
 """Holds pages against the code, and says what a page has otherwise.
 
-- Options: docs/varan.1 has those of nv_command/specs/Simple.antt, command by command, with the limits of Words.antt, and so has what `help` writes (Help.antt);
-  README.md and docs/REFUSALS.md have each command's usage as `help` does, and name no other option.
+- Options: docs/varan.1 has those of nv_command/specs/Simple.antt, command by command, with the limits of Words.antt, and so has what `usage` writes
+  (Help.antt); README.md and docs/REFUSALS.md have each command's usage as `usage` does, and name no other option.
 - Statuses: those of README.md, docs/varan.1, docs/LIVE.md and docs/PROVED.md are the definitions' (nv_driver/specs).
 - Refusals: docs/REFUSALS.md has each line with its status and each cause of the definitions, with something to do; docs/ASSEMBLER.md the causes of its texts.
 - Limits of files and options: the pages of LIMITS and OPTION_LIMITS have the numbers of the definitions.
@@ -16,6 +16,7 @@ import itertools
 import os
 import re
 import sys
+import typing
 
 MANUAL = "docs/varan.1"
 ROOT = os.path.dirname(os.path.dirname(os.path.abspath(__file__)))
@@ -23,7 +24,7 @@ ROOT = os.path.dirname(os.path.dirname(os.path.abspath(__file__)))
 FIRST = ("README.md", "CHANGELOG.md", *(f"docs/{it}" for it in ("TUTORIAL.md", "GUESTS.md", "SCRIPT.md", "REPORT.md", "RULES.md", "REFUSALS.md", "TRACES.md", "INSPECT.md", "PARTING.md", "LIVE.md", "REHEARSE.md", "varan.1")))
 MOST_FIRST, MOST = 200, 240
 MEASURED = "docs/BENCHMARKS.md"
-COMMANDS = ("run", "serve", "record", "replay", "inspect", "rules", "asm", "gen", "help")
+COMMANDS = ("run", "serve", "record", "replay", "inspect", "rules", "asm", "gen", "usage")
 # calls on a room's table that are no step of a seat's own turn: the kernel goes into its slot or out of it, and seats are made before the first turn and taken back after the last
 BETWEEN_STEPS = ("exchange", "split_seat", "join_seat")
 # what a shell tells of a service that SIGTERM ended: 128 and the signal's number
@@ -66,12 +67,17 @@ LIMITS = (
     ("nv_elf/specs/Elf.antt", r"nat_le \(table_len b\) (\d+)", {"REFUSALS": "more than {} program headers"}),
     ("nv_elf/specs/Elf.antt", r"nat_lt (\d+) \(length loadables\)", {"REFUSALS": "more than {} loadable segments", "GUESTS": "bytes and {} segments"}),
     ("nv_guest/specs/Load.antt", r"image\.ranges \(size - (\d+)\)", {"REFUSALS": "the memory less {} bytes", "GUESTS": "The top {} are the stack"}),
-    ("nv_calls/specs/Limits.antt", r"MOST_EVENTS = (\d+)", {"REFUSALS": "it says that it has more than {} events", "TRACES": "the number of events, at most {}."}),
+    ("nv_trace/specs/Limits.antt", r"MOST_TRACED = (\d+)", {
+        "REFUSALS": "it says that it has more than {} events", "TRACES": "the number of events, at most {}.",
+        "DEFINITIONS": "at most {} events, each with its place"}),
+    ("nv_calls/specs/Limits.antt", r"MOST_EVENTS = (\d+)", {
+        "PROVED": "a seat {} + 4 n + 4 such steps", "CHOICES": "{} times, as often as a log can have an event", "HOSTILE": "of these a service has up to {}"}),
+    ("nv_replay/specs/Rewrites.antt", r"MOST_REWRITES = (\d+)", {"PROVED": "never more than {}, `few` of `Version::rewrites`"}),
     ("nv_calls/specs/Limits.antt", r"MOST_BYTES = (\d+)", {"REFUSALS": "neither 0 nor 1, or more than {} bytes", "TRACES": "together at most {}.", "GUESTS": "a call reads or writes {} at most"}),
     ("nv_fs/specs/Stored.antt", r"Console bytes = write_console s (\d+) bytes", {"LIVE": "{} to the console"}),
     ("nv_sockets/specs/Sockets.antt", r"write_link net (\d+) i bytes", {"LIVE": "{} to each client", "SCRIPT": "`write` takes up to {} bytes for each client"}),
 )
-# what pages of docs/ say of an option's limits: the most, what it is where it isn't named, and the same for a service
+# what pages of docs/ say of an option's limits: the most, what it is where it isn't named, and both for a service
 OPTION_LIMITS = (
     ("memory", "GUESTS", "{usual} bytes, or `--memory N`, up to {most}."),
     ("budget", "GUESTS", "{usual} for each version, or `--budget N`, up to {most}."),
@@ -79,8 +85,10 @@ OPTION_LIMITS = (
     ("memory", "TRACES", "| as in `run` | {usual}; "),
     ("budget", "TRACES", "; {usual} |"),
     ("memory", "LIVE", "of each version {served} bytes, or `--memory N`"),
-    ("budget", "LIVE", "{served} of each version, or `--budget N`"),
+    ("hang", "LIVE", "{served} of each version after each answer, or `--hang N`"),
+    ("calls", "GUESTS", "of a service up to {most_served}"),
     ("calls", "LIVE", "| calls | {served}, or `--calls N`"),
+    ("calls", "LIVE", "to be run again by `varan run` it may have {most} calls"),
     ("count", "INSPECT", "after C instructions, 1 to {most},"),
     ("length", "INSPECT", "from the address A on, 1 to {most}."),
 )
@@ -95,19 +103,43 @@ def read(path):
         return it.read()
 
 
+def flat(path):
+    """A page's text, on one line."""
+    return " ".join(read(path).split())
+
+
 def digits(text):
     return text.replace(",", "")
 
 
+def commas(number):
+    return f"{int(number):,}" if number else ""
+
+
+class Limit(typing.NamedTuple):
+    """An option's numbers, as they stand in a definition or on a page: for a service the most and the default may be others."""
+    least: str = ""
+    most: str = ""
+    usual: str = ""
+    most_served: str = ""
+    served: str = ""
+
+
+# the limits of an option, as its entry on the manual page ends
+LIMITS_SAID = re.compile(
+    r"From ([\d,]+) to ([\d,]+)(?: less the length)?(?:, default ([\d,]+))?(?:, for serve (?:up to ([\d,]+), )?(?:default )?([\d,]+|none))?\.")
+
+
 def options_in(manual):
-    """Each option of the manual page: (its commands, from, to, default, default for serve)."""
+    """Each option of the manual page: its commands and its limits."""
     options = {}
     for name, lines in re.findall(r"(?m)^\.It Fl -(\w+)\b.*\n((?:(?!\.It |\.El).*\n)*)", manual):
         text = " ".join(lines.split())
         commands = re.match(r"For ([\w, ]+)\.", text)
-        limits = re.search(r"From ([\d,]+) to ([\d,]+)(?: less the length)?(?:, default ([\d,]+)(?:, for serve ([\d,]+))?)?\.", text)
-        low, high, usual, served = limits.groups() if limits else ("", "", "", "")
-        options[name] = (tuple(commands[1].split(", ")) if commands else (), low, high, usual or "", served or usual or "")
+        limits = LIMITS_SAID.search(text)
+        low, high, usual, most_served, served = (digits(it or "") for it in limits.groups()) if limits else [""] * 5
+        served = "" if served == "none" else served or usual
+        options[name] = (tuple(commands[1].split(", ")) if commands else (), Limit(low, high, usual, most_served or high, served))
     return options
 
 
@@ -117,16 +149,29 @@ def options_by_command(specs):
     def options(body):
         found = re.findall(r'(?:option|flag)_rule \(codes "(\w+)"\)', body)
         return found + [one for name in re.findall(r"\b\w+_options\b", body) for one in options(bodies[name])]
-    return {name: options(bodies[f"{name}_app"]) for name in COMMANDS}
+    apps = {it[1]: body for body in bodies.values() if (it := re.search(r'\bsimple_app \(codes "(\w+)"\)', body))}
+    return {name: options(apps[name]) for name in COMMANDS}
+
+
+def commands_by_name(specs):
+    """The words by which commands are called, by the names of the definitions."""
+    return {name: word for word, name in re.findall(r'\(codes "(\w+)"\) then Some Names(\w+)', specs)}
 
 
 def limits_in(specs):
-    """Each option's (least, most, usual, usual of a service) as the definitions have it."""
+    """Each option's limits as the definitions have them."""
     usual = defaults_in(specs, r"usual = record")
     served = usual | defaults_in(specs, r"service_usual = record usual")
-    found = {name: (least, most, usual.get(it, it), served.get(it, it)) for it, least, most, name in re.findall(r'number_within (?:defaults\.)?(\w+) (\d+) (\d+) \(first_of \(codes "(\w+)"\)', specs)}
-    found.update({name: (least, most, "", "") for least, most, name in re.findall(r"number_between (\d+) (\d+) (\w+)\)", specs)})
-    return found
+    within = re.findall(r'number_within (?:defaults\.)?(\w+) (\d+) (?:(\d+)|\(max (\d+) defaults\.(\w+)\)) \(first_of \(codes "(\w+)"\)', specs)
+    found = {}
+    for it, least, most, most_or_default, of, name in within:
+        # the most is a number, or that of the default where it is more
+        most, most_served = (most, most) if most else (str(max(int(most_or_default), int(its[of]))) for its in (usual, served))
+        found[name] = Limit(least, most, usual.get(it, it), most_served, served.get(it, it))
+    found.update({name: Limit(least, most, "", most) for least, most, name in re.findall(r"number_between (\d+) (\d+) (\w+)\)", specs)})
+    # one number by two options: over a version's whole life, as usual, and after each answer, as usual for a service
+    any_of_two = found.pop("text")
+    return found | {"budget": any_of_two._replace(usual=usual["budget"]), "hang": any_of_two._replace(served=served["budget"])}
 
 
 def defaults_in(specs, head):
@@ -141,14 +186,15 @@ def options(wrong):
         of = tuple(it for it in COMMANDS if name in by_command[it])
         if name not in rows or rows[name][0] != of:
             wrong.append(f"{MANUAL}: --{name} is an option of {', '.join(of) or 'no command'}")
-    for name, (least, most, usual, served) in limits_in(read("crates/nv_command/specs/Words.antt")).items():
-        _, *limits = rows.get(name, ("", "", "", "", ""))
-        if list(map(digits, limits)) != [least, most, usual, served]:
-            wrong.append(f"{MANUAL}: --{name} is from {least} to {most}, default {usual or 'none'}, for serve {served or 'none'}, by nv_command/specs/Words.antt")
-    refusals = read("docs/REFUSALS.md")
-    for name, (_, low, high, _, _) in rows.items():
-        if low and low != "0" and f"`--{name}` from {low} to {high}" not in refusals:
-            wrong.append(f"docs/REFUSALS.md doesn't say: `--{name}` from {low} to {high}")
+    for name, it in limits_in(read("crates/nv_command/specs/Words.antt")).items():
+        if rows.get(name, ((), Limit()))[1] != it:
+            run = f"from {it.least} to {it.most}, default {it.usual or 'none'}"
+            wrong.append(f"{MANUAL}: --{name} is {run}, for serve up to {it.most_served}, default {it.served or 'none'}, by nv_command/specs/Words.antt")
+    refusals = flat("docs/REFUSALS.md")
+    for name, (_, it) in rows.items():
+        said = f"`--{name}` from {commas(it.least)} to {commas(it.most)}" + (f" (for `serve` to {commas(it.most_served)})" if it.most_served != it.most else "")
+        if it.least not in ("", "0") and said not in refusals:
+            wrong.append(f"docs/REFUSALS.md doesn't say: {said}")
     for path in ("README.md", "docs/REFUSALS.md", MANUAL):
         for name in sorted(set(re.findall(r"--(\w+)|\bFl -(\w+)", read(path)))):
             name = name[0] or name[1]
@@ -156,8 +202,8 @@ def options(wrong):
                 wrong.append(f"{path} names --{name}, which {MANUAL} hasn't among its options")
 
 
-def options_helped(specs):
-    """What `help` says of each option, command by command: (from, to, default)."""
+def options_helped(specs, commands):
+    """What `usage` says of each option, command by command: (from, to, default)."""
     lines = {}
     for name, word, meaning in re.findall(r'(?m)^(\w+)_help = codes "  --(\w+)\b(.*)\\n"$', specs):
         limits = re.search(r": (\d+) to (\d+)(?: less the length)?(?:, default (\d+))?$", meaning)
@@ -166,27 +212,29 @@ def options_helped(specs):
     for command, names in re.findall(r"(?m)^option_lines Names(\w+) =((?:.|\n )*)", specs):
         for name in re.findall(r"\b(\w+)_help\b", names):
             word, limits = lines[name]
-            options.setdefault(word, {})[command.lower()] = limits
+            options.setdefault(word, {})[commands[command]] = limits
     return options
 
 
-def by_command(commands, low, high, usual, served):
+def by_command(commands, limit):
     """An option of the manual page, command by command: (from, to, default)."""
-    return {it: tuple(map(digits, (low, high, served if it == "serve" else usual))) for it in commands}
+    run, service = (limit.least, limit.most, limit.usual), (limit.least, limit.most_served, limit.served)
+    return {it: service if it == "serve" else run for it in commands}
 
 
 def helped(wrong):
-    """What `help` writes has the manual page's options, and each command's usage stands in README.md and docs/REFUSALS.md."""
+    """What `usage` writes has the manual page's options, and each command's usage is in README.md and docs/REFUSALS.md."""
     specs, page = read("crates/nv_command/specs/Help.antt"), "nv_command/specs/Help.antt"
-    helped = options_helped(specs)
+    commands = commands_by_name(read("crates/nv_command/specs/Words.antt"))
+    helped = options_helped(specs, commands)
     rows = {name: by_command(*row) for name, row in options_in(read(MANUAL)).items()}
     for name in sorted({*rows, *helped}):
         if rows.get(name) != helped.get(name):
             wrong.append(f"{page}: --{name} is {rows.get(name, 'no option')} in {MANUAL}, and {helped.get(name, 'no option')} here")
     usage = dict(re.findall(r'(?m)^usage_line Names(\w+) = codes "(.*)\\n"$', specs))
-    if sorted(it.lower() for it in usage) != sorted(COMMANDS):
+    if sorted(commands[it] for it in usage) != sorted(COMMANDS):
         wrong.append(f"{page}: the usage of {', '.join(usage)} is there, of the commands {', '.join(COMMANDS)}")
-    readme, refusals = read("README.md"), read("docs/REFUSALS.md")
+    readme, refusals = read("README.md"), flat("docs/REFUSALS.md")
     for text in usage.values():
         if not re.search(rf"(?m)^    {re.escape(text)}(?: >|  )", readme):
             wrong.append(f"README.md hasn't the usage: {text}")
@@ -324,14 +372,13 @@ def limits_told():
             yield page, told.format(f"{int(found[1]):,}") if found else f"no limit {pattern}", path
     limits = limits_in(read("crates/nv_command/specs/Words.antt"))
     for option, page, told in OPTION_LIMITS:
-        _, *numbers = limits[option]
-        yield page, told.format(**{name: f"{int(it):,}" for name, it in zip(("most", "usual", "served"), numbers) if it}), "nv_command/specs/Words.antt"
+        yield page, told.format(**{name: commas(it) for name, it in limits[option]._asdict().items()}), "nv_command/specs/Words.antt"
 
 
 def page_limits(wrong):
     """The limits that pages tell are the numbers of the definitions."""
     for page, told, path in limits_told():
-        if told not in read(f"docs/{page}.md"):
+        if told not in flat(f"docs/{page}.md"):
             wrong.append(f"docs/{page}.md doesn't say, by crates/{path}: {told}")
 
 

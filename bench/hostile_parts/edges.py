@@ -21,7 +21,7 @@ NOPS_MADE = image([0x00000013] * 30_000)
 
 # Lines whose words are refused, with the words behind the program's name.
 REFUSED = [
-    [], ["walk"], ["run"], ["run", "--help"], ["--help"], ["-h"], ["help"], ["--version"], ["run", "-h"], ["run", "--version"], ["Run", "--script", "s", "v"],
+    [], ["walk"], ["run"], ["run", "--help"], ["--help"], ["-h"], ["help"], ["usage", "walk"], ["--version"], ["run", "-h"], ["run", "--version"], ["Run", "--script", "s", "v"],
     ["run", "v"], ["run", "--script", "s"], ["run", "--script"], ["run", "--script", "--", "v"], ["run", "--script", "s", *["v"] * 9],
     ["run", "--script", "s", "--script", "s", "v"], ["run", "--script", "s", "--json", "--json", "v"], ["run", "--script", "s", "--json=1", "v"],
     ["run", "--script", "s", "--json=", "v"], ["run", "--script", "s", "--asm", "v"], ["run", "--scrip", "s", "v"], ["run", "-script", "s", "v"],
