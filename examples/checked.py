@@ -1,8 +1,8 @@
 #!/usr/bin/env python3
 """Says what a version that `guests/cc --checked` built has found (docs/CHECKED.md): the kind of the error, the object, and the lines of C.
 
-    checked.py [--program PROGRAM] [--debug FILE] --script S [--rules R] [--memory N] [--budget N] [--calls N] LEADER VERSION
-    checked.py [--program PROGRAM] [--debug FILE] --script S [--rules R] [--memory N] [--budget N] [--index I] TRACE VERSION
+    checked.py [--program PROGRAM] [--debug FILE] --script S [--rules R] [--memory N] [--budget N | --hang N] [--calls N] LEADER VERSION
+    checked.py [--program PROGRAM] [--debug FILE] --script S [--rules R] [--memory N] [--budget N | --hang N] [--index I] TRACE VERSION
 
 S is the script of the run or the transcript of a live one, also while that goes on. LEADER is the version whose calls are recorded first; a trace has them. The options are those
 of `varan record` and `varan replay`; FILE is the version with its line numbers, where VERSION was stripped. It looks at the version where it broke, by `varan inspect`, and wants
@@ -249,7 +249,7 @@ def read_words():
     words.add_argument("--program", default="varan")
     words.add_argument("--debug")
     words.add_argument("--script", required=True)
-    for name in ["--rules", "--memory", "--budget", "--calls", "--index"]:
+    for name in ["--rules", "--memory", "--budget", "--hang", "--calls", "--index"]:
         words.add_argument(name)
     words.add_argument("recorded", metavar="LEADER|TRACE")
     words.add_argument("version")
@@ -269,7 +269,7 @@ def is_trace(path):
 
 
 def say(given, trace):
-    words = options(given, "script", "rules", "memory", "budget", "index")
+    words = options(given, "script", "rules", "memory", "budget", "hang", "index")
     version = Version([given.program, "inspect", *words, "--stamp", BEYOND, trace, given.version])
     told = found_by(version, Names(given.debug or given.version)) if version.x else None
     print("\n".join(told or [" ".join(version.at)]))
@@ -281,7 +281,7 @@ def main():
     if is_trace(given.recorded):
         return say(given, given.recorded)
     with tempfile.NamedTemporaryFile(prefix="trace_") as trace:
-        trace.write(done([given.program, "record", *options(given, "script", "memory", "budget", "calls"), given.recorded], RAN))
+        trace.write(done([given.program, "record", *options(given, "script", "memory", "budget", "hang", "calls"), given.recorded], RAN))
         trace.flush()
         return say(given, trace.name)
 

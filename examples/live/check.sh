@@ -18,7 +18,7 @@ fi
 work=$(mktemp -d)
 started=()
 # the limits that a live run has
-largest=(--calls 131072 --budget 1000000000)
+largest=(--calls 131072 --hang 100000000)
 rows=0
 wrong=0
 

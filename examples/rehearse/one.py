@@ -17,7 +17,7 @@ import struct
 import subprocess
 import sys
 
-LIMITS = ["--calls", "131072", "--budget", "1000000000"]
+LIMITS = ["--calls", "131072", "--hang", "100000000"]
 SECONDS = 600
 HEAD = struct.Struct("<8IIiII")
 FIRST = 12
@@ -73,7 +73,7 @@ def end_of(line):
 
 def places(program, new, transcript, trace, seen, options):
     """The address of the instruction at which the version ended, and of the one that called."""
-    words = [f"./{program}", "inspect", *options, "--budget", LIMITS[3], "--script", transcript, "--stamp", str(seen + 1), trace, new]
+    words = [f"./{program}", "inspect", *options, "--hang", LIMITS[3], "--script", transcript, "--stamp", str(seen + 1), trace, new]
     _, text = varan(words)
     shown = re.search(rb"(?m)^thread \S+ \S+ ([0-9a-f]{8}).*\nx \S+ ([0-9a-f]{8})", text)
     return [shown[1].decode(), f"{int(shown[2], 16) - 4:08x}"] if shown else []
@@ -83,7 +83,7 @@ def row_of(program, new, transcript, trace, options):
     recorded = pathlib.Path(trace).read_bytes()
     if recorded.startswith(b"varan: "):
         return {"end": "damaged", "line": recorded.decode().strip()}
-    status, text = varan([f"./{program}", "replay", *options, "--budget", LIMITS[3], "--script", transcript, trace, new])
+    status, text = varan([f"./{program}", "replay", *options, "--hang", LIMITS[3], "--script", transcript, trace, new])
     line = text.decode().strip()
     if status == 4:
         return {"end": "damaged", "line": line}

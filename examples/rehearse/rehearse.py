@@ -150,7 +150,7 @@ def lines_of_c(executable, places):
 def looked_into(folder, name, row, tool, *options):
     """A script of the examples over this row's rehearsal."""
     words = [HERE.parent / tool, "--program", folder.path.resolve() / "varan", *options, *folder.options(name), "--script", f"transcripts/{row['transcript']}",
-             "--budget", "1000000000", f"traces/{row['transcript']}", f"{name}/version"]
+             "--hang", "100000000", f"traces/{row['transcript']}", f"{name}/version"]
     return subprocess.run(words, stdout=subprocess.PIPE, stderr=subprocess.DEVNULL, text=True, cwd=folder.path)
 
 
