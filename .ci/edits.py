@@ -123,25 +123,23 @@ def told_in(lines):
 
 @dataclasses.dataclass
 class Page:
-    """The names on docs/EDITS.md: of edits that a condition may refuse, of those that were tried with the right value, and of those that are to be tried."""
+    """The names on docs/EDITS.md: of edits that a condition may refuse, and of those that were tried with the right value."""
 
     conditions: set = dataclasses.field(default_factory=set)
     tried: set = dataclasses.field(default_factory=set)
-    untried: set = dataclasses.field(default_factory=set)
 
     @classmethod
     def of(cls, text):
         parts = {part.partition("\n")[0]: set(ROW.findall(part)) for part in text.split("\n## ")}
-        return cls(*(parts.get(title, set()) for title in ("Conditions that are the rule", "Tried with a right value", "Not tried yet")))
+        return cls(*(parts.get(title, set()) for title in ("Conditions that are the rule", "Tried with a right value")))
 
     def only(self, names):
         """The page's rows of these edits."""
-        return Page(self.conditions & names, self.tried & names, self.untried & names)
+        return Page(self.conditions & names, self.tried & names)
 
     def takes(self, name, why, said):
         """Whether an edit counts by the page."""
-        is_unsure = why.startswith(UNSURE)
-        return name in self.conditions or name in self.tried and (is_unsure or ANSWER.match(said)) or name in self.untried and is_unsure
+        return name in self.conditions or name in self.tried and (why.startswith(UNSURE) or ANSWER.match(said))
 
 
 def faults_in(lines, edits, page, untold=frozenset()):
@@ -153,7 +151,7 @@ def faults_in(lines, edits, page, untold=frozenset()):
             yield f"{name}: {why}"
     for name in sorted(edits.keys() - told.keys()):
         yield f"{name}: the run says nothing of it"
-    for name in sorted((page.conditions | page.untried) - untold):
+    for name in sorted(page.conditions - untold):
         if name not in told or not whys[name]:
             yield f"{name}: docs/EDITS.md names it, and it counts without"
     for name in sorted(page.tried - edits.keys() - untold):

@@ -92,12 +92,6 @@ PAGE = """
 | Edit | Condition |
 |---|---|
 | `a/condition` | the rule |
-
-## Not tried yet
-
-| Edit | Changes |
-|---|---|
-| `a/unsure` | a call |
 """
 AT_LIMIT = f"rt: must-fail a/unsure.edit: {REFUSED}: note: src/lib.rt:27:1: {AT_RETURN} (`returns`); `search` gave up at one of its limits"
 CHANGES = [
@@ -120,13 +114,11 @@ LOGS = [
     ([AT_LEMMA], ["a/lemma"], []),
     ([AT_LEMMA.replace("a/lemma", "a/other")], ["a/other"], ["a/other: what refuses it"]),
     ([AT_CONDITION.replace("a/condition", "a/lemma")], ["a/lemma"], ["a/lemma: a condition"]),
-    ([AT_LIMIT], ["a/unsure"], []),
     ([AT_LIMIT.replace("a/unsure", "a/lemma")], ["a/lemma"], []),
     ([AT_LIMIT.replace("a/unsure", "a/other")], ["a/other"], ["a/other: the search gave up"]),
-    ([COUNTED.replace("a/counts", "a/unsure")], ["a/unsure"], ["a/unsure: docs/EDITS.md names it"]),
 ]
 # Edits that are tried by hand: the gate needn't tell of them, nor of their rows of the page.
-UNTOLD = {"a/lemma", "a/condition", "a/unsure"}
+UNTOLD = {"a/lemma", "a/condition"}
 FILES = {"src/a.rt": "let a = b + 1;\nlet c = b + 1;\n", "src/b.rt": "let d = 2;\n"}
 # An edit's text, and why it can't be applied to these files, or a part of that.
 MISFITS = [
@@ -151,7 +143,7 @@ def case_fault(said, edit, wanted):
 def log_fault(lines, names, wanted):
     """What comes out otherwise of a log, or None."""
     known = edits.Page.of(PAGE)
-    page = edits.Page(*({name for name in part if name in names} for part in (known.conditions, known.tried, known.untried)))
+    page = edits.Page(*({name for name in part if name in names} for part in (known.conditions, known.tried)))
     told = list(edits.faults_in(lines, {name: PLAIN for name in names}, page))
     is_right = len(told) == len(wanted) and all(it.startswith(begin) for it, begin in zip(told, wanted))
     return None if is_right else f"{lines}\n  has {told}, in place of: {wanted}"
