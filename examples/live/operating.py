@@ -26,6 +26,11 @@ IDLE = 3
 PAUSE = 0.05
 MOST_WRITTEN = 1_048_576
 LONG = "x" * 1900
+# A command that stands still, before it is the program, while there is a file `hold` beside it.
+HELD = """#!/bin/sh
+[ -e "${0%%/*}/hold" ] && kill -STOP $$
+exec '%s' "$@"
+"""
 
 
 class Rows:
@@ -64,6 +69,14 @@ def program_of(process):
         return os.readlink(f"/proc/{process}/exe")
     except OSError:
         return None
+
+
+def is_still(process):
+    """Whether a process is stopped by a signal."""
+    try:
+        return pathlib.Path(f"/proc/{process}/stat").read_text().rpartition(")")[2].split()[0] == "T"
+    except OSError:
+        return False
 
 
 class Connection:
@@ -114,7 +127,7 @@ class Asking(threading.Thread):
 class Service:
     """listen.py before versions of the keeper, in a folder of its own."""
 
-    def __init__(self, program, *versions, options=(), words=(), ports=1, folder=None, **popen):
+    def __init__(self, program, *versions, command=None, options=(), words=(), ports=1, folder=None, **popen):
         self.program, self.folder = program, folder or pathlib.Path(tempfile.mkdtemp(dir=Service.room))
         self.ports = [free_port() for _ in range(ports)]
         self.control, self.transcripts, self.told = self.folder / "control", self.folder / "transcripts", self.folder / "told"
@@ -123,7 +136,7 @@ class Service:
         inner = [f"{port}:{8080 + number}" for number, port in enumerate(self.ports)]
         with open(self.told, "wb") as told, open(self.folder / "console", "ab") as console:
             popen = {"stdout": console} | popen
-            self.process = subprocess.Popen([*adapter, *inner, "--", program, "serve", "--clients", *words, *versions], stderr=told, **popen)
+            self.process = subprocess.Popen([*adapter, *inner, "--", command or program, "serve", "--clients", *words, *versions], stderr=told, **popen)
         started.append(self.process)
         until(lambda: self.process.poll() is not None or self.is_controlled(), "the control socket")
         self.port = self.ports[0]
@@ -155,10 +168,13 @@ class Service:
         """Each version's file and its role, of the status."""
         return [tuple(line.split()[1:3]) for line in self.operate("status") if line[0].isdigit()]
 
+    def begun(self):
+        """The processes that listen.py has begun."""
+        return [int(it) for it in pathlib.Path(f"/proc/{self.process.pid}/task/{self.process.pid}/children").read_text().split()]
+
     def children(self):
-        """The processes of the command that run."""
-        children = pathlib.Path(f"/proc/{self.process.pid}/task/{self.process.pid}/children").read_text().split()
-        return [int(it) for it in children if program_of(it) == self.program]
+        """Those of the command that run."""
+        return [it for it in self.begun() if program_of(it) == self.program]
 
     def serving(self):
         """The process of the command, once there is one alone."""
@@ -225,17 +241,22 @@ def joining(rows, program):
 
 
 def killed_command(rows, program):
-    """The command is killed, twice, the second time while it catches up, and catching up takes longer than a client may be silent."""
-    service = Service(program, KEEPER[2], KEEPER[1])
+    """The command is killed, twice, and then catching up takes longer than a client may be silent: it is held before it is told anything."""
+    folder = pathlib.Path(tempfile.mkdtemp(dir=Service.room))
+    held, hold = folder / "held", folder / "hold"
+    held.write_text(HELD % program)
+    held.chmod(0o755)
+    service = Service(program, KEEPER[2], KEEPER[1], command=held, folder=folder)
     service.ask("put colour green", "say hello", *["get colour"] * 200)
     asking = Asking(service.port)
     until(lambda: len(asking.counts) > 2, "a client's counts")
     first = service.serving()
     os.kill(first, signal.SIGKILL)
     second = until(lambda: [it for it in service.children() if it != first], "a process that is begun anew")[0]
+    hold.touch()
     os.kill(second, signal.SIGKILL)
-    third = until(lambda: [it for it in service.children() if it not in (first, second)], "a second one")[0]
-    os.kill(third, signal.SIGSTOP)
+    third = until(lambda: [it for it in service.begun() if is_still(it)], "a second one, which stands still")[0]
+    hold.unlink()
     time.sleep(IDLE + 1)
     os.kill(third, signal.SIGCONT)
     seen = len(asking.counts)
@@ -255,6 +276,7 @@ def killed_all(rows, program):
     counts = service.ask("put colour green", "say hello", "size")
     open_one = service.connect()
     rows.same((counts[2], *open_one.ask("size")), ("3", "4"), "the counts before it is killed")
+    until(lambda: (service.folder / "console").read_text() == "hello\n", "the console, which is written beside the answers")
     command = service.serving()
     os.kill(command, signal.SIGSTOP)
     service.process.kill()
