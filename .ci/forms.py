@@ -1,5 +1,5 @@
 #!/usr/bin/env python3
-"""Holds the public forms that the specification names against the code, and against the table of docs/DECISIONS.md, "Forms that differ from the specification".
+"""Holds the public forms that the specification names against the code, and against the table of docs/inside/DECISIONS.md, "Forms that differ from the specification".
 
 A form is a call with its types, or a type with its public fields, variants or calls. Each of FORMS is in the code as it is written here, and public there
 by its crate's lib.rt; or a row of the table names it. What a row has as code in its second cell is a part of the specified form, and what it has so in its
@@ -14,7 +14,7 @@ import re
 import sys
 
 TOP = pathlib.Path(__file__).resolve().parent.parent
-PAGE, HEAD = "docs/DECISIONS.md", "## Forms that differ from the specification"
+PAGE, HEAD = "docs/inside/DECISIONS.md", "## Forms that differ from the specification"
 # how the second cell of a row begins that is of a form's meaning alone
 SAME = "the same form"
 # a list of the project's own that the specification writes as a `Vec`

@@ -18,6 +18,8 @@ from definitions import ROOT, House, imports_of, read, whole
 TOP = [("nv_cli", "top", "varan"), ("nv_cli", "top", "varan_over"), ("nv_cli", "process", "program")]
 HEADLINE, PAGE, README = "crates/nv_cli/specs/Headline.antt", "docs/DEFINITIONS.md", "README.md"
 MORE = "-- And what these stand on, by crate and file. (.ci/headline.py --write makes the lines from here on.)"
+# the heading of the page's last list
+UNCITED = "\n## What these clauses don't cite\n"
 COUNT = re.compile(r"\*\*[\d,]+\*\* definitions")
 
 
@@ -89,20 +91,33 @@ def files_named(place):
         yield it if "/" in it else f"{folder}/{it}"
 
 
-def in_words(house, text, cited):
-    """Names of the page's entries that no file of the entry's place defines, and in its first list those that the clauses don't cite."""
+def by_name(definitions):
+    """The files that define each name."""
     files = {}
-    for it in [*house.definitions(), *house.types.values()]:
+    for it in definitions:
         files.setdefault(it.name, set()).add(path_of(it))
-    reading = entries(text.partition("## The top call")[2].partition("\n## ")[0])
+    return files
+
+
+def is_in(files, name, places):
+    """Whether a file at one of these places defines the name."""
+    return any(it.startswith(place) for it in files.get(name, ()) for place in places)
+
+
+def in_words(house, text, cited):
+    """Names of the page's entries that no file of the entry's place defines; those that the clauses don't cite, but in its last list, and those of that one that they cite."""
+    files, believed = by_name([*house.definitions(), *house.types.values()]), by_name(cited)
+    others = entries(text.partition(UNCITED)[2])
+    if not others:
+        yield f"{PAGE} has no entries under {UNCITED.strip()}"
     for line in entries(text):
         names, _, rest = line.partition(" (")
         places = list(files_named(rest.partition(")")[0]))
         for name in re.findall(r"`([^`]+)`", names):
-            if not any(it.startswith(place) for it in files.get(name, ()) for place in places):
+            if not is_in(files, name, places):
                 yield f"{PAGE} has `{name}` in {', '.join(places)}, where it isn't"
-            elif line in reading and not any(it.name == name for it in cited):
-                yield f"{PAGE} has `{name}` in reading order, which the clauses don't cite"
+            elif is_in(believed, name, places) == (line in others):
+                yield f"{PAGE} has `{name}` among those that the clauses {'do not cite, and they do' if line in others else 'cite, and they do not'}"
 
 
 def count_of(definitions):

@@ -1,5 +1,5 @@
 #!/usr/bin/env python3
-"""Compares docs/MEMORY.md with the signatures, both ways: each public call that takes memory stands in its first table as CRATE::NAME or CRATE::TYPE::NAME, and
+"""Compares docs/inside/MEMORY.md with the signatures, both ways: each public call that takes memory stands in its first table as CRATE::NAME or CRATE::TYPE::NAME, and
 each that stands there takes memory by its signature.
 
 A call takes memory by its signature where it takes an allocator (Global), or where its answer has AllocError or a type of the code with a case Memory. Those that
@@ -12,7 +12,7 @@ import re
 import sys
 
 TOP = pathlib.Path(__file__).resolve().parent.parent
-PAGE = "docs/MEMORY.md"
+PAGE = "docs/inside/MEMORY.md"
 LEFT_OUT = re.compile(r"_(tests|bench|laws|harness)$|^nv_rows$")
 CALL = re.compile(r"^( *)(pub )?(?:final )?fn (\w+)(?:<[^{;]*?>)?\(([^{;]*?)\)(?: -> ([^{;]*?))?(?=\s*(?:;|requires|ensures|where|\{))", re.M | re.S)
 OWNER = re.compile(r"^(impl|pub trait|trait)(?:<[^>]*>)? (\w+)([^{\n]*)", re.M)

@@ -1,6 +1,6 @@
 // What a run takes from outside and what it says to it.
 ghost use Rattle.std.specs.Prelude.{◌++◌, ◌∷◌, [], List};
-ghost use Rattle.nv_arrivals.specs.Doings.{Doing, Says};
+ghost use Rattle.nv_arrivals.specs.Doings.{Doing, Says, handing};
 ghost use Rattle.nv_arrivals.specs.Views.{said_view, taking};
 
 use crate::arrival::Arrival;
@@ -31,4 +31,9 @@ pub trait Outside: Drop {
     /// Says this. What fails is kept, and nothing more comes then.
     fn say(&mut self, said: &Said<'_>)
         ensures said { (first : Self) (done : List Doing) → did first self.old done → did first self.new (done ++ Says (said_view said.now) ∷ []) };
+
+    /// Whether an operator's word has come, and wasn't told before, that the leader is to give up the lead: that it does so at this
+    /// length of the log is told then.
+    fn hands_over(&mut self, length: usize) -> bool
+        ensures told { (first : Self) (done : List Doing) → did first self.old done → did first self.new (done ++ handing result length) };
 }

@@ -7,7 +7,7 @@ use Rattle.nv_sockets.specs.Serving.{serve}
 use Rattle.nv_arrivals.specs.Arrivals.{Arrival}
 use Rattle.nv_arriving.specs.Arrivals.{in_vain}
 use Rattle.nv_arriving.specs.Arriving.{Stage, wants, taken, ready_for, answer_next, serve_next, first_stage, stage_after, Satisfied}
-use Rattle.nv_arrivals.specs.Doings.{Said, Doing, Takes, Says, takings}
+use Rattle.nv_arrivals.specs.Doings.{Said, Doing, Takes, Says, Hands, takings}
 use Rattle.nv_arriving.specs.Doings.{said, doings_of, doings_from, doings}
 use Rattle.nv_arriving.proofs.Coming.{take_front, taken_few, taken_more, with_more, ready_more, next_more}
 
@@ -56,6 +56,7 @@ pub takings_both : (xs ys : List Doing) → takings (xs ++ ys) ≡ takings xs ++
 takings_both [] ys = refl
 takings_both (Takes a ∷ xs) ys = ap (λ (z : List Arrival). a ∷ z) (takings_both xs ys)
 takings_both (Says s ∷ xs) ys = takings_both xs ys
+takings_both (Hands n ∷ xs) ys = takings_both xs ys
 
 pub takings_all : (xs : List Arrival) → takings (map Takes xs) ≡ xs
 takings_all [] = refl

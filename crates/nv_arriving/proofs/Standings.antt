@@ -13,7 +13,7 @@ use Rattle.nv_kernel.proofs.Crews.{live_by}
 use Rattle.nv_sockets.specs.Serving.{State, Served, serve, reply_of}
 use Rattle.nv_sockets.proofs.Threads.{ThreadStep, thread_step}
 use Rattle.nv_arrivals.specs.Arrivals.{Arrival}
-use Rattle.nv_arrivals.specs.Doings.{Said, Doing, Takes, Says}
+use Rattle.nv_arrivals.specs.Doings.{Said, Doing, Takes, Says, handing}
 use Rattle.nv_arriving.specs.Arrivals.{in_vain}
 use Rattle.nv_arriving.specs.Arriving.{Standing, Stage, wants, taken, ready_for, answer_next, serve_next, first_stage, stage_after, Satisfied, start_of_arrivals}
 use Rattle.nv_arriving.specs.Doings.{said}
@@ -25,7 +25,7 @@ use Rattle.nv_arriving.specs.Telling.{Adds, Tells}
 use Rattle.nv_arriving.proofs.Kept.{goes, staged, satisfied, satisfied_served, log_served, log_clones}
 use Rattle.nv_arriving.proofs.Sides.{crew_still}
 use Rattle.nv_arriving.proofs.Staged.{reply_is, log_more}
-use Rattle.nv_arriving.proofs.Told.{told_heard, told_served}
+use Rattle.nv_arriving.proofs.Told.{told_heard, told_served, told_asked}
 
 module _ {O : Type 0} (did : O → O → List Doing → Type 0) where
   -- before the first call
@@ -74,6 +74,18 @@ module _ {O : Type 0} (did : O → O → List Doing → Type 0) where
 
     pub goes_heard : (setup : Setup) (log : List Entry) → StandsAt did earlier setup log → GoesOn log (start_of_arrivals setup before) (start_of_arrivals setup now)
     goes_heard setup log k = goes setup before now log over k.satisfied same grew
+
+  -- ---- where it is asked whether the leader hands over
+
+  pub stands_asked : (g : Coming O) (new : O) (answer : Bool) (n : ℕ) → Adds did g.outside new (handing answer n) → (setup : Setup) (log : List Entry) → StandsAt did g setup log
+      → StandsAt did (record g { outside = new }) setup log
+  stands_asked g new answer n adds setup log k = record {
+    stage = k.stage;
+    satisfied = k.satisfied;
+    told = told_asked did g.begun setup g.came log g.outside new g.late answer n adds k.told;
+    live = k.live;
+    crew = k.crew;
+  }
 
   -- ---- where a call is answered
 

@@ -1,10 +1,10 @@
 -- What an outside tells of what was done, at the beginning, where more is heard and where a call is served.
-use Rattle.std.proofs.Common.{◌≡◌, ◌∙◌, sym, ap, subst, refl, Bool, true, false, List, [], ◌∷◌, ◌++◌, take, drop, length, map, append_assoc, append-nil, take-append-drop}
+use Rattle.std.proofs.Common.{◌≡◌, ◌∙◌, sym, ap, subst, refl, ℕ, Bool, true, false, List, [], ◌∷◌, ◌++◌, take, drop, length, map, append_assoc, append-nil, take-append-drop}
 use Rattle.nv_calls.specs.Calls.{Entry}
 use Rattle.nv_calls.specs.Logs.{calls_of}
 use Rattle.nv_script.specs.Scripts.{Setup}
 use Rattle.nv_arrivals.specs.Arrivals.{Arrival}
-use Rattle.nv_arrivals.specs.Doings.{Said, Doing, Takes, Says, takings, sayings}
+use Rattle.nv_arrivals.specs.Doings.{Said, Doing, Takes, Says, Hands, takings, sayings, exchanges, handing}
 use Rattle.nv_arriving.specs.Arriving.{Stage, taken, ready_for, answer_next, first_stage, stage_after, Satisfied}
 use Rattle.nv_arriving.specs.Doings.{said, doings_of, doings}
 use Rattle.nv_arriving.specs.Kernel.{after, Grew}
@@ -20,6 +20,7 @@ pub sayings_both : (xs ys : List Doing) → sayings (xs ++ ys) ≡ sayings xs ++
 sayings_both [] ys = refl
 sayings_both (Takes a ∷ xs) ys = sayings_both xs ys
 sayings_both (Says s ∷ xs) ys = ap (λ (z : List Said). s ∷ z) (sayings_both xs ys)
+sayings_both (Hands n ∷ xs) ys = sayings_both xs ys
 
 pub sayings_all : (xs : List Said) → sayings (map Says xs) ≡ xs
 sayings_all [] = refl
@@ -32,6 +33,36 @@ sayings_none (a ∷ xs) = sayings_none xs
 takes_both : (xs ys : List Arrival) → map Takes (xs ++ ys) ≡ map Takes xs ++ map Takes ys
 takes_both [] ys = refl
 takes_both (a ∷ xs) ys = ap (λ (z : List Doing). Takes a ∷ z) (takes_both xs ys)
+
+-- ---- all but where the leader gave up the lead
+
+exchanges_both : (xs ys : List Doing) → exchanges (xs ++ ys) ≡ exchanges xs ++ exchanges ys
+exchanges_both [] ys = refl
+exchanges_both (Takes a ∷ xs) ys = ap (λ (z : List Doing). Takes a ∷ z) (exchanges_both xs ys)
+exchanges_both (Says s ∷ xs) ys = ap (λ (z : List Doing). Says s ∷ z) (exchanges_both xs ys)
+exchanges_both (Hands n ∷ xs) ys = exchanges_both xs ys
+
+exchanges_taken : (xs : List Arrival) → exchanges (map Takes xs) ≡ map Takes xs
+exchanges_taken [] = refl
+exchanges_taken (a ∷ xs) = ap (λ (z : List Doing). Takes a ∷ z) (exchanges_taken xs)
+
+exchanges_said : (xs : List Said) → exchanges (map Says xs) ≡ map Says xs
+exchanges_said [] = refl
+exchanges_said (s ∷ xs) = ap (λ (z : List Doing). Says s ∷ z) (exchanges_said xs)
+
+-- an answer whether it hands over is no exchange
+module _ (n : ℕ) where
+  takings_handing : (b : Bool) → takings (handing b n) ≡ []
+  takings_handing true = refl
+  takings_handing false = refl
+
+  sayings_handing : (b : Bool) → sayings (handing b n) ≡ []
+  sayings_handing true = refl
+  sayings_handing false = refl
+
+  exchanges_handing : (b : Bool) → exchanges (handing b n) ≡ []
+  exchanges_handing true = refl
+  exchanges_handing false = refl
 
 -- ---- where more is heard
 
@@ -75,7 +106,7 @@ module _ {O : Type 0} (did : O → O → List Doing → Type 0) (begun : O) (set
         took = takings_both done (map Takes more) ∙ ((λ i. was.took i ++ takings_all more i) ∙ sym g);
         said = sayings_both done (map Takes more) ∙ (ap (λ (z : List Said). sayings done ++ z) (sayings_none more) ∙ (append-nil (sayings done) ∙ (was.said ∙ ap sayings (sym d))));
         in_order = λ o.
-            ap (λ (z : List Doing). z ++ map Takes more) (was.in_order o)
+            exchanges_both done (map Takes more) ∙ (λ i. was.in_order o i ++ exchanges_taken more i)
             ∙ (append_assoc (doings setup before log) (map Takes rest) (map Takes more)
             ∙ (ap (λ (z : List Doing). doings setup before log ++ z) (sym (takes_both rest more))
             ∙ (λ i. sym d i ++ map Takes (sym r i))));
@@ -98,13 +129,13 @@ module _ {O : Type 0} (did : O → O → List Doing → Type 0) (begun : O) (set
   sayings_last = sayings_both (map Takes (take (taken stage e.call) stage.rest)) (map Says says) ∙ (λ i. sayings_none (take (taken stage e.call) stage.rest) i ++ sayings_all says i)
 
   -- nothing is left
-  in_order_last : (done : List Doing) → drop (taken stage e.call) stage.rest ≡ [] → done ≡ doings setup came log ++ map Takes stage.rest
-      → done ++ map Says says ≡ doings setup came (log ++ e ∷ []) ++ map Takes (stage_after (first_stage setup came) (calls_of (log ++ e ∷ []))).rest
+  in_order_last : (done : List Doing) → drop (taken stage e.call) stage.rest ≡ [] → exchanges done ≡ doings setup came log ++ map Takes stage.rest
+      → exchanges (done ++ map Says says) ≡ doings setup came (log ++ e ∷ []) ++ map Takes (stage_after (first_stage setup came) (calls_of (log ++ e ∷ []))).rest
   in_order_last done none is =
       let front : List Arrival = take (taken stage e.call) stage.rest in
       let all : front ≡ stage.rest = sym (append-nil front) ∙ (ap (λ (z : List Arrival). front ++ z) (sym none) ∙ take-append-drop (taken stage e.call) stage.rest) in
       let left : (stage_after (first_stage setup came) (calls_of (log ++ e ∷ []))).rest ≡ [] = ap (λ (z : Stage). z.rest) (log_more (first_stage setup came) log e) ∙ none in
-      ap (λ (z : List Doing). z ++ map Says says) (is ∙ ap (λ (z : List Arrival). doings setup came log ++ map Takes z) (sym all))
+      exchanges_both done (map Says says) ∙ (λ i. exchanges done ++ exchanges_said says i) ∙ ap (λ (z : List Doing). z ++ map Says says) (is ∙ ap (λ (z : List Arrival). doings setup came log ++ map Takes z) (sym all))
       ∙ (append_assoc (doings setup came log) (map Takes front) (map Says says)
       ∙ (sym doings_last
       ∙ (sym (append-nil (doings setup came (log ++ e ∷ [])))
@@ -124,3 +155,20 @@ module _ {O : Type 0} (did : O → O → List Doing → Type 0) (begun : O) (set
         in_order = λ o. in_order_last done (none o) (was.in_order (l o));
       } in
       (done ++ map Says says, subst (λ (z : List Entry). IsTold did begun new setup came z late' (done ++ map Says says)) (sym h) is)
+
+-- ---- where it is asked whether the leader hands over
+
+module _ {O : Type 0} (did : O → O → List Doing → Type 0) (begun : O) (setup : Setup) (came : List Arrival) (log : List Entry) where
+  pub told_asked : (old new : O) (late answer : Bool) (n : ℕ) → Adds did old new (handing answer n) → Tells did begun old setup came log late → Tells did begun new setup came log late
+  told_asked old new late answer n adds t first =
+      let done : List Doing = (t first).0 in
+      let was : IsTold did begun old setup came log late done = (t first).1 in
+      let more : List Doing = handing answer n in (
+        done ++ more,
+        record {
+          is = adds begun done was.is;
+          took = takings_both done more ∙ (ap (λ (z : List Arrival). takings done ++ z) (takings_handing n answer) ∙ (append-nil (takings done) ∙ was.took));
+          said = sayings_both done more ∙ (ap (λ (z : List Said). sayings done ++ z) (sayings_handing n answer) ∙ (append-nil (sayings done) ∙ was.said));
+          in_order = λ o. exchanges_both done more ∙ (ap (λ (z : List Doing). exchanges done ++ z) (exchanges_handing n answer) ∙ (append-nil (exchanges done) ∙ was.in_order o));
+        },
+      )

@@ -4,7 +4,7 @@ use Rattle.nv_calls.specs.Calls.{Entry}
 use Rattle.nv_calls.specs.Logs.{calls_of}
 use Rattle.nv_script.specs.Scripts.{Setup}
 use Rattle.nv_arrivals.specs.Arrivals.{Arrival}
-use Rattle.nv_arrivals.specs.Doings.{Doing, Takes, takings, sayings}
+use Rattle.nv_arrivals.specs.Doings.{Doing, Takes, takings, sayings, exchanges}
 use Rattle.nv_arriving.specs.Arriving.{first_stage, stage_after}
 use Rattle.nv_arriving.specs.Doings.{doings}
 
@@ -13,12 +13,12 @@ abbrev pub Adds : {O : Type 0} → (O → O → List Doing → Type 0) → O →
 Adds {O} did before now more = (first : O) (done : List Doing) → did first before done → did first now (done ++ more)
 
 -- This was done over the run of a log: all that came was taken in its order, and what the log says was said in its order; and where nothing was late,
--- the two stand in one order: what the log does, and then the arrivals that no call has taken in yet.
+-- the two stand in one order, but for where the leader gave up the lead: what the log does, and then the arrivals that no call has taken in yet.
 pub record IsTold {O : Type 0} (did : O → O → List Doing → Type 0) (begun now : O) (setup : Setup) (came : List Arrival) (log : List Entry) (late : Bool) (done : List Doing) : Type 0 where
   pub is : did begun now done
   pub took : takings done ≡ came
   pub said : sayings done ≡ sayings (doings setup came log)
-  pub in_order : late ≡ false → done ≡ doings setup came log ++ map Takes (stage_after (first_stage setup came) (calls_of log)).rest
+  pub in_order : late ≡ false → exchanges done ≡ doings setup came log ++ map Takes (stage_after (first_stage setup came) (calls_of log)).rest
 
 -- an outside that tells of itself that nothing was done at first tells all that was done
 abbrev pub Tells : {O : Type 0} → (O → O → List Doing → Type 0) → O → O → Setup → List Arrival → List Entry → Bool → Type 0

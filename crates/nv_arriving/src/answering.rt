@@ -246,6 +246,16 @@ impl<O: Outside + Telling + Send> Answers for Guests<O> {
         ret
     }
 
+    fn hands_over(&mut self, length: usize) -> bool
+        ensures start { (setup : Setup) → begun_in O.told setup self.new ≡ begun_in O.told setup self.old }
+        ensures stands { (setup : Setup) (log : List Entry) → StandsAt O.did self.old setup log → StandsAt O.did self.new setup log }
+        ensures known { (setup : Setup) → start_of_arrivals setup self.new.came ≡ start_of_arrivals setup self.old.came }
+        ensures over { self.new.over ≡ self.old.over }
+        ensures came { self.new.came ≡ self.old.came }
+    {
+        self.outside.hands_over(length)
+    }
+
     fn keeps(&self) -> bool {
         false
     }

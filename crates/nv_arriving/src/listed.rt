@@ -19,6 +19,10 @@ impl Outside for Nothing {
     }
 
     fn say(&mut self, _said: &Said<'_>) {}
+
+    fn hands_over(&mut self, _length: usize) -> bool {
+        false
+    }
 }
 
 impl Telling for Nothing {

@@ -1,6 +1,6 @@
 -- What stands on a sink once what was held back from it is written.
 use Rattle.std.proofs.Common.{◌≡◌, ◌∙◌, ap, sym, subst, refl, ℕ, List, [], ◌++◌, append-nil, append_assoc, Option, None, Some, Ok, Err, Vec, String, arith, IsOk, IsErr}
-use Rattle.std.specs.Prelude.{IfOk}
+use Rattle.std.specs.Prelude.{IfOk, option_map}
 use Rattle.std.specs.Global.{Global}
 use Rattle.nv_outside.specs.Counts.{Rose}
 use Rattle.nv_outside.specs.Told.{Grows}
@@ -16,7 +16,9 @@ use Rattle.nv_driver.specs.declared.ending.Ending.TheVariants.{Finished}
 use Rattle.nv_driver.specs.Outcome.{Source, outcome_status, text_of, ended_with}
 use Rattle.nv_driver.specs.Tasks.{fault_outcome}
 use Rattle.nv_driver.proofs.Statuses.{completes-of, rejects-of, never_six}
+use Rattle.nv_live.specs.declared.streams.Streams.{Streams as Held}
 use Rattle.nv_cli.specs.Program.{Given, Begins, EndsWith, ProgramAnswers}
+use Rattle.nv_cli.specs.Streams.{left_of}
 
 -- ---- one text
 
@@ -149,3 +151,9 @@ pub program_rejects : (words : Given) (source : Source) (streams : Streams) (lef
     → IfOk words (λ given. Rejects (texts given.items) source status)
 program_rejects (Ok given) source streams left a c f status g p = rejects-of (texts given.items) source status p.outcome p.due p.shown p.ends.put p.ends.ends
 program_rejects (Err fault) source streams left a c f status g p = tt
+
+-- how a live run ended is told of what is left as it is of what that tells
+module _ {I O T : Type 0} (took : I → Option (List (List ℕ))) (unread : I → ℕ) (said : O → Option (List ℕ)) (unsaid : O → ℕ) (noted : T → Option (List ℕ)) (unnoted : T → ℕ) where
+  pub endings_alike : (left : Option (Held I O T × Ending)) → option_map (λ l. l.1) left ≡ option_map (λ l. l.1) (left_of took unread said unsaid noted unnoted left)
+  endings_alike None = refl
+  endings_alike (Some l) = refl

@@ -1,3 +1,4 @@
+mod Demands
 mod Lived
 mod Served
 mod Once

@@ -18,7 +18,7 @@ module _ (words : List (List ℕ)) (source : Source) (service : Service) (asked 
     (before : Option (List ℕ)) (faults status : ℕ) (after : Option (List ℕ)) (later : ℕ) (left : Option (Streams × Ending)) where
   ran : Served service.limits service.clients setup rules machines streams before faults status after later left → AnswersOver words source streams before faults status after later left
   ran s =
-      let a = served_answers words source service asked before faults status after later kept setup rules machines files s.arrivals s.account s.is_run s.says in
+      let a = served_answers words source service asked before faults status after later kept setup rules machines files s.arrivals s.asked s.account s.only s.is_run s.says in
       subst (λ l. AnswersOver words source streams before faults status after later l) (sym s.left_is)
       (record { answers = a; over = over_served words source service asked before faults status after later a.outcome streams (Some (s.later, s.ending)) s.lived })
 

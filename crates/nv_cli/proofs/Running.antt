@@ -17,7 +17,6 @@ use Rattle.nv_threads.proofs.ThreadLaws.{thread_laws}
 use Rattle.nv_threads.specs.Threads.{Proc, threads}
 use Rattle.nv_workers.specs.Ends.{IsAccount}
 use Rattle.nv_driver.specs.Account.{IsRunOf, process_begun}
-use Rattle.nv_driver.specs.Refusals.{IsPlanned}
 use Rattle.nv_cli.proofs.Once.{settled_unplanned}
 
 -- the log is at most as long as it may be
@@ -27,7 +26,7 @@ log_is_short rules start most hands olds news log a =
     subst (λ (z : Account). length z.log ≤ most) (sym a.account) (sequence_short threads (judge_of rules) start most (cuts_of (map standing_of news)) hands (map process_of olds))
 
 -- versions that begin with these machines, and the script's planned lengths
-pub run_of : (limits : Limits) (setup : Setup) (rules : Option (List Op)) (machines : List Machine) (hands : List ℕ) (olds news : List (Running Proc)) (log : List Entry) → IsPlanned setup hands
+pub run_of : (limits : Limits) (setup : Setup) (rules : Option (List Op)) (machines : List Machine) (hands : List ℕ) (olds news : List (Running Proc)) (log : List Entry) → hands ≡ setup.hands
     → IsAccount threads (judge_of rules) (start_from setup) limits.calls hands olds news log → map process_of olds ≡ map (process_begun limits) machines
     → IsRunOf limits setup rules machines (record { log = log; lines = map standing_of news })
 run_of limits setup rules machines hands olds news log planned a are =
@@ -35,7 +34,7 @@ run_of limits setup rules machines hands olds news log planned a are =
     let cuts = cuts_of (map standing_of news) in
     let account : Account = record { log = log; lines = map standing_of news } in
     let is : account ≡ sequence threads (judge_of rules) start limits.calls cuts setup.hands (map (process_begun limits) machines) =
-    a.account ∙ ap (λ (hs : List ℕ). sequence threads (judge_of rules) start limits.calls cuts hs (map process_of olds)) planned.same
+    a.account ∙ ap (λ (hs : List ℕ). sequence threads (judge_of rules) start limits.calls cuts hs (map process_of olds)) planned
     ∙ ap (λ (ps : List Proc). sequence threads (judge_of rules) start limits.calls cuts setup.hands ps) are in
     record {
       is_account = is;
@@ -43,5 +42,5 @@ run_of limits setup rules machines hands olds news log planned a are =
       covers = a.covers;
       unplanned = settled_unplanned threads (judge_of rules) start limits.calls cuts thread_laws setup.hands (map (process_begun limits) machines) account is a.settled;
       survivor = subst (λ (ps : List Proc). SurvivorsAgree threads start limits.calls setup.hands ps (map standing_of news) log) are
-          (subst (λ (hs : List ℕ). SurvivorsAgree threads start limits.calls hs (map process_of olds) (map standing_of news) log) planned.same a.survivor);
+          (subst (λ (hs : List ℕ). SurvivorsAgree threads start limits.calls hs (map process_of olds) (map standing_of news) log) planned a.survivor);
     }

@@ -39,7 +39,7 @@ use Rattle.nv_bytes.specs.Fields.{field_at}
 use Rattle.nv_outside.specs.Counts.{raised, Rose}
 use Rattle.nv_outside.specs.Files.{GotTold, KeepsFaults}
 use Rattle.nv_outside.specs.Sink.{Writes, faults_by_write, Put, faults_by, Puts}
-use Rattle.nv_outside.specs.Told.{Told, MayFail, Grows}
+use Rattle.nv_outside.specs.Told.{Told, told_content, MayFail, Grows}
 use Rattle.nv_isa.specs.Spelling.{low_bits, spelled, encoded}
 use Rattle.nv_isa.specs.Table.{Encoding, with_op, encoding, encodings, belongs, row_of, bits, signed_value, rd_of, rs1_of, rs2_of, immediate, rd_in, rs1_in, rs2_in, insn_of, decoded}
 use Rattle.nv_memory.specs.Bytes.{bytes_at, put, little, little_bytes, byte_count}
@@ -77,23 +77,24 @@ use Rattle.nv_fs.specs.Stored.{write_console, with_content, start_of, write_at, 
 use Rattle.nv_fs.specs.Told.{told_by, told_of, opened_as}
 use Rattle.nv_fs.specs.Waits.{is_input, reads_input, waits_on_input}
 use Rattle.nv_arrivals.specs.Arrivals.{Arrival, is_sized, is_port, is_arrival, AreBytes, BringsBytes}
-use Rattle.nv_arrivals.specs.Doings.{Said, Doing, takings, sayings}
+use Rattle.nv_arrivals.specs.Doings.{Said, Doing, takings, sayings, handings, exchanges}
 use Rattle.nv_arrivals.specs.Order.{Came, nothing_came, input_going, input_ended, clients_ended, with_client, sending, client_ended, admitted, onward, after, are_orderly, are_arrivals}
 use Rattle.nv_arrivals.specs.Pieces.{cut_after, pieces, input_of}
 use Rattle.nv_arrivals.specs.Reading.{words as nv_arrivals_words, word_of, is_word, sized, bytes_of as nv_arrivals_bytes_of, line_arrival, input_with, connect_with, data_with, data_parts, data_in, end_with, end_of, arrival_by, arrival_with, arrival_of}
 use Rattle.nv_arrivals.specs.Writing.{is_printable, front, is_line, input_text, line_text}
+use Rattle.nv_script.specs.Entry.{Entry as nv_script_Entry, form_of, is_printable as nv_script_is_printable, is_argument, is_file_byte, is_dots, is_file_name, entry_kinds, in_form, kind_of, shaped, argument_entry, file_with, file_entry, clock_fits, clock_entry, clock_with, clock_of, is_hand, hand_entry, hand_with, is_port as nv_script_is_port, connection_entry, connection_with, connection_of, entry_by, entry_with, is_passed_over, cause_of, arrives, begins_arrival, entry_of}
+use Rattle.nv_script.specs.HandLines.{hand_line}
+use Rattle.nv_script.specs.Scripts.{Named, Incoming, Setup, Draft, blank, has_name, with_argument, with_input, with_named_file, with_clock, with_seed, has_hand, with_hand, with_connection, with_came, with_arrival, with_entry, with_result, with_script_line, onward as nv_script_onward, drafted, no_clock, setup_with, finished, finished_result, no_form, script_in, script_of_lines, script_of}
+use Rattle.nv_script.specs.Texts.{cause_word, script_fault_text}
 use Rattle.nv_live.specs.Clients.{clients_text}
-use Rattle.nv_live.specs.ComingLines.{is_plain as nv_live_is_plain, is_passed, says, text_of, Say, Come}
+use Rattle.nv_live.specs.ComingLines.{is_plain as nv_live_is_plain, is_comment, is_hand as nv_live_is_hand, is_passed, says, text_of, Say, Come}
 use Rattle.nv_live.specs.Lines.{parts_after, parts, line_with as nv_live_line_with, lines_with, held_text}
 use Rattle.nv_live.specs.Live.{stop_with, plain_bytes, plain_text}
 use Rattle.nv_live.specs.Run.{CameBy, said_text}
 use Rattle.nv_live.specs.SaidLines.{head_of, said_lines}
 use Rattle.nv_live.specs.Source.{Gave, Reads, faults_by_read}
 use Rattle.nv_live.specs.Taking.{faults_by_stop, Took}
-use Rattle.nv_live.specs.Transcript.{lines_of}
-use Rattle.nv_script.specs.Entry.{Entry as nv_script_Entry, form_of, is_printable as nv_script_is_printable, is_argument, is_file_byte, is_dots, is_file_name, entry_kinds, in_form, kind_of, shaped, argument_entry, file_with, file_entry, clock_fits, clock_entry, clock_with, clock_of, is_hand, hand_entry, hand_with, is_port as nv_script_is_port, connection_entry, connection_with, connection_of, entry_by, entry_with, is_passed_over, cause_of, arrives, begins_arrival, entry_of}
-use Rattle.nv_script.specs.Scripts.{Named, Incoming, Setup, Draft, blank, has_name, with_argument, with_input, with_named_file, with_clock, with_seed, has_hand, with_hand, with_connection, with_came, with_arrival, with_entry, with_result, with_script_line, onward as nv_script_onward, drafted, no_clock, setup_with, finished, finished_result, no_form, script_in, script_of_lines, script_of}
-use Rattle.nv_script.specs.Texts.{cause_word, script_fault_text}
+use Rattle.nv_live.specs.Transcript.{hand_text, note_of, notes_on}
 use Rattle.nv_kernel.specs.Crew.{Crew, first_crew, may_clone, clone_as, clone_of, exit_of, with_none_live}
 use Rattle.nv_kernel.specs.Serving.{State, Served, replied, always, of_files, of_crew, counted, request_arg, second, time_bytes, time_of, next_random, high_byte, randoms, random_after, randomly, control, unless_many, clock, answered, unless_bad as nv_kernel_unless_bad, serve, named_inode, first_state as nv_kernel_first_state}
 use Rattle.nv_sockets.specs.Coming.{connected, with_data}
@@ -117,7 +118,7 @@ use Rattle.nv_replay.specs.Covers.{AreEnded, times, led_times, Covers}
 use Rattle.nv_replay.specs.Follow.{Follower, fresh, Judge, no_rules, judge_of, consumed, judged, refusal_of, permit_by, refusal_by, met, decided, on_next, follow_next, follow, is_exited}
 use Rattle.nv_replay.specs.Hands.{has, is_handed, unless_handed, next_or_hand, lead_to_hand}
 use Rattle.nv_replay.specs.Lead.{Leader, is_cut, is_memory, cut_of, logged, led, unless_ended, next_call}
-use Rattle.nv_replay.specs.Monitor.{Part, Run, numbers, part, begun, with_span, led_line, after_lead, tracked_by, leads_on, turn_by, turn_of, turn_in, turn, told_standing, lines_of as nv_replay_lines_of, account_of, sequence}
+use Rattle.nv_replay.specs.Monitor.{Part, Run, numbers, part, begun, with_span, led_line, after_lead, tracked_by, leads_on, turn_by, turn_of, turn_in, turn, told_standing, lines_of, account_of, sequence}
 use Rattle.nv_replay.specs.Permits.{Permit, given, failed, passed, took, permit}
 use Rattle.nv_replay.specs.Sequence.{Account, is_going, cuts_of}
 use Rattle.nv_replay.specs.Settling.{stage}
@@ -156,15 +157,15 @@ use Rattle.nv_command.specs.Words.{texts, unless_faulty, rows_of_line, number_be
 use Rattle.nv_driver.specs.Account.{process_begun, IsRunOf, run_status}
 use Rattle.nv_driver.specs.Causes.{cause_text}
 use Rattle.nv_driver.specs.Due.{RunComesTo, made_outcome, RunOwes, JobOwes, GenOwes, lack_outcome, traced_outcome, TrailOwes, replayed, files_after, shown_of, shown, RecordComesTo, RecordOwes, ServeComesTo, ServeOwes, Owes, OwesAny, IsDue, IsUntouched, Shows, Says, Answers, ServedOver, Over, AnswersOver, IsReady, IsMade, IsTraced, IsAccepted, IsRefusedAt, IsRefusedFor, IsRefusedOn, IsRefused, IsReport, IsDone, Completes, Rejects}
-use Rattle.nv_driver.specs.Found.{FILE_LIMIT, TRACE_LIMIT, is_longer, TookMore, TookLong, Found, IsReadWithin, IsLongerThan, AgreesWithin, Agrees, AllAgree, AgreesIf, Finds, AreFound, found_within, found_of, finds_of}
+use Rattle.nv_driver.specs.Found.{FILE_LIMIT, TRACE_LIMIT, is_longer, TookMore, TookLong, Found, IsReadWithin, IsLongerThan, AgreesWithin, Agrees, AllAgree, AgreesIf, Finds, AreFound, found_whole, found_within, found_of, finds_of}
 use Rattle.nv_driver.specs.Generated.{IsMadeRun}
-use Rattle.nv_driver.specs.Live.{bare_text, after_first_line, whole_lines, transcript_head, unless_comes, without_arrivals, as_begun, live_script, after_live_script, live_prepared, AgreesOrBare, AreLiveFound, found_or_bare, live_finds_of, with_arrivals, Streams, ended_by_writes, ending_of, Lived}
+use Rattle.nv_driver.specs.Live.{bare_text, after_first_line, whole_lines, transcript_head, unless_comes, without_arrivals, as_begun, live_script, after_live_script, live_prepared, AgreesOrBare, AreLiveFound, found_or_bare, live_finds_of, with_arrivals, with_hands, Streams, ended_by_writes, ending_of, Lived}
 use Rattle.nv_driver.specs.Made.{accepted_text, accepted_filter, of_rules, of_program, used, unless_refused, made_of}
-use Rattle.nv_driver.specs.Outcome.{Outcome, account_text, totals_of, text_of as nv_driver_text_of, outcome_status, ended_with, name_at, name_in as nv_driver_name_in, name_on, Source, source_of}
+use Rattle.nv_driver.specs.Outcome.{Outcome, account_text, totals_of, ending_status, text_of as nv_driver_text_of, outcome_status, ended_with, name_at, name_in as nv_driver_name_in, name_on, Source, source_of}
 use Rattle.nv_driver.specs.Prepared.{VersionOf, of_loaded, of_elf, version_from, Prepared, read_at, with_first_machine, version_then, versions_from, judged_by, rules_then, after_rules, after_script, prepared}
 use Rattle.nv_driver.specs.Replayed.{counts_text, replay_text, replay_status}
 use Rattle.nv_driver.specs.Tasks.{fault_outcome}
 use Rattle.nv_driver.specs.Traced.{TraceFinds, AreTraceFound, trace_finds_of, Lack, then_with, bytes_found, of_script, script_at, traced_rules, rules_at, unless_unsound, log_unless_faulty, trace_of_file, of_trace, log_at, trail_limits, traced_version, machine_traced, Traced, after_log, after_filter, after_setup, traced}
 use Rattle.nv_driver.specs.Tracing.{trace_point}
-use Rattle.nv_cli.specs.Program.{Given, IsDueOf, AreRefused, Begins, EndsWith, OverOf, ProgramAnswers}
+use Rattle.nv_cli.specs.Program.{Given, IsDueOf, AreRefused, Begins, EndsWith, OverOf, exit_of as nv_cli_exit_of, ProgramAnswers, ProcessEnds}
 use Rattle.nv_cli.specs.Streams.{streams_of, left_of}

@@ -1,11 +1,11 @@
 -- What the program says, over the words of the process or over why there are none.
-use Rattle.std.specs.Prelude.{◌≡◌, ◌++◌, ℕ, List, Option, None, Some, Result, Ok, Err, Vec, String, IsOk, IsErr}
+use Rattle.std.specs.Prelude.{◌≡◌, ◌++◌, ℕ, List, Option, None, Some, Result, Ok, Err, Vec, String, IsOk, IsErr, IfOk, option_map}
 use Rattle.std.specs.Global.{Global}
 use Rattle.nv_outside.specs.Told.{Told, Grows}
 use Rattle.nv_outside.specs.Sink.{Put, faults_by}
 use Rattle.nv_command.specs.Words.{texts, command_of}
 use Rattle.nv_command.specs.declared.asked.LineFault.{LineFault}
-use Rattle.nv_driver.specs.Due.{IsDue, IsUntouched, Over, Shows}
+use Rattle.nv_driver.specs.Due.{IsDue, IsUntouched, Over, Shows, Completes, Rejects}
 use Rattle.nv_driver.specs.Live.{Streams}
 use Rattle.nv_driver.specs.Outcome.{Outcome, Source, outcome_status, text_of, ended_with, ending_status}
 use Rattle.nv_driver.specs.declared.ending.Ending.{Ending}
@@ -58,3 +58,11 @@ pub record ProgramAnswers (words : Given) (source : Source) (streams : Streams) 
   pub unread : AreRefused words → IsUntouched source
   pub ends : EndsWith (text_of outcome) (outcome_status outcome) before faults status after later_faults
   pub over : OverOf words outcome streams later
+
+-- The program ended so, and what it said had a status, of which `completes` and `rejects` speak. The process ends with that, or with the status of a stream that failed.
+pub record ProcessEnds (words : Given) (source : Source) (streams : Streams) (before : Option (List ℕ)) (faults : ℕ) (code : ℕ) (after : Option (List ℕ)) (later_faults : ℕ) (later : Option (Streams × Ending)) : Type 0 where
+  pub status : ℕ
+  pub code_is : code ≡ exit_of (option_map (λ l. l.1) later) status
+  pub answers : ProgramAnswers words source streams before faults status after later_faults later
+  pub completes : IfOk words (λ words. Completes (texts words.items) source faults status later_faults)
+  pub rejects : IfOk words (λ words. Rejects (texts words.items) source status)

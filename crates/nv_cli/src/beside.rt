@@ -4,6 +4,7 @@ ghost use Rattle.nv_threads.specs.Threads.{threads};
 ghost use Rattle.nv_replay.specs.Account.{AreFresh};
 ghost use Rattle.nv_replay.specs.Follow.{judge_of};
 ghost use Rattle.nv_workers.specs.Ends.{IsAccount};
+ghost use Rattle.nv_cli.specs.inner.Demands.{IsAccountOnDemand};
 
 use nv_bpf::Filter;
 use nv_command::Limits;
@@ -16,7 +17,51 @@ use std::sync::Wait;
 use std::thread::Threads;
 
 /// Runs the versions over the kernel, each with its seat in one room, on threads of the host. The leader hands over at
-/// these lengths of the log. What they come to is the account of the sequential monitor.
+/// these lengths of the log, and on demand also where the kernel says so. What they come to is the account of the
+/// sequential monitor, which hands over at all these lengths.
+pub fn run_on_demand<R: Threads + Wait + Sync, K: SyscallKernel, G: Gate + Sync>(
+    rt: &R,
+    alloc: Global,
+    versions: Vec<Version>,
+    rules: Option<&Filter>,
+    kernel: K,
+    gate: &G,
+    limits: Limits,
+    hands: &Vec<u32>,
+    on_demand: bool,
+) -> Result<Account<K>, AllocError>
+    requires fresh { AreFresh threads 0 versions.items }
+    requires few { length versions.items ≤ 8 }
+    requires empty { K.log kernel ≡ [] }
+    requires hands { length hands.now.items ≤ 8 }
+    ensures start { IfOk result (λ r. K.start r.kernel ≡ K.start kernel) }
+    ensures account { IfOk result (λ r. IsAccountOnDemand on_demand (judge_of (option_map (λ f. f.now) rules.entry)) (K.known r.kernel) limits.calls hands.now.items versions.items r.versions.items (K.log r.kernel)) }
+{
+    if versions.is_empty() {
+        return Ok(Account { kernel, versions });
+    }
+    let stations = versions.len() as u32;
+    // All that a run takes before its first turn; from then on only a leader's call takes memory, and is refused it as the fate `memory`.
+    let (room, readers, lead) = Room::make_with(
+        alloc,
+        kernel,
+        stations,
+        limits.ring,
+        hands,
+        on_demand,
+    )?;
+    let workers = staff(alloc, versions, readers, lead)?;
+    let terms = Terms {
+        rules,
+        gate,
+        most: limits.calls,
+        hands: hands.as_slice(),
+    };
+    let ran = run_all(rt, alloc, room, workers, &terms, limits.threads)?;
+    Ok(end(ran))
+}
+
+/// The same where nothing is demanded: the account is that with the planned lengths alone.
 pub fn run<R: Threads + Wait + Sync, K: SyscallKernel, G: Gate + Sync>(
     rt: &R,
     alloc: Global,
@@ -34,19 +79,7 @@ pub fn run<R: Threads + Wait + Sync, K: SyscallKernel, G: Gate + Sync>(
     ensures start { IfOk result (λ r. K.start r.kernel ≡ K.start kernel) }
     ensures account { IfOk result (λ r. IsAccount threads (judge_of (option_map (λ f. f.now) rules.entry)) (K.known r.kernel) limits.calls hands.now.items versions.items r.versions.items (K.log r.kernel)) }
 {
-    if versions.is_empty() {
-        return Ok(Account { kernel, versions });
-    }
-    let stations = versions.len() as u32;
-    // All that a run takes before its first turn; from then on only a leader's call takes memory, and is refused it as the fate `memory`.
-    let (room, readers, lead) = Room::make(alloc, kernel, stations, limits.ring, hands)?;
-    let workers = staff(alloc, versions, readers, lead)?;
-    let terms = Terms {
-        rules,
-        gate,
-        most: limits.calls,
-        hands: hands.as_slice(),
-    };
-    let ran = run_all(rt, alloc, room, workers, &terms, limits.threads)?;
-    Ok(end(ran))
+    run_on_demand(
+        rt, alloc, versions, rules, kernel, gate, limits, hands, false,
+    )
 }

@@ -1,10 +1,9 @@
 // The program: the top call over the words of the process, and what it writes.
-ghost use Rattle.std.specs.Prelude.{◌≡◌, ◌≢◌, IfOk, option_map};
+ghost use Rattle.std.specs.Prelude.{◌≡◌, ◌≢◌, option_map};
 ghost use Rattle.nv_outside.specs.Gathering.{sink_of, held_of};
-ghost use Rattle.nv_command.specs.Words.{texts};
 ghost use Rattle.nv_driver.specs.Outcome.{source_of};
-ghost use Rattle.nv_driver.specs.Due.{Says, Completes, Rejects};
-ghost use Rattle.nv_cli.specs.Program.{ProgramAnswers, exit_of};
+ghost use Rattle.nv_driver.specs.Due.{Says};
+ghost use Rattle.nv_cli.specs.Program.{ProgramAnswers, ProcessEnds, exit_of};
 ghost use Rattle.nv_cli.specs.Streams.{streams_of, left_of};
 
 use crate::serving::Left;
@@ -75,7 +74,7 @@ pub fn exit_status<I, O, T>(status: u8, left: &Left<I, O, T>) -> u8
 
 /// The monitor as a program, over the words of the process, or over why there are none: they aren't text, or memory was
 /// wanted for them. What it writes is gathered, and written at the latest before it returns. It gives the sink back, the
-/// status of what it said, and what `varan_over` gives back of the streams; with these `exit_status` tells the status of the process.
+/// status that the process ends with, and what `varan_over` gives back of the streams.
 pub fn program<
     R: Threads + Wait + Sync,
     F: Files,
@@ -93,20 +92,17 @@ pub fn program<
     gate: &G,
     streams: Streams<I, O, T>,
 ) -> (S, u8, Left<I, O, T>)
-    // It comes to an outcome that the words and the files owe, and that stands on the sink at the end; or the write that failed was its last. So does what a live run does over its streams.
-    ensures answers { ProgramAnswers words (source_of F.holds F.faults F.taken files.old files.new)
+    // It comes to an outcome that the words and the files owe, and that stands on the sink at the end; or the write that failed was its last. So does what a live run does over its streams. What `varan`
+    // says of files that are accepted or refused, it says of the status of what is said; the process ends with that, or with the status of a stream that failed.
+    ensures { ProcessEnds words (source_of F.holds F.faults F.taken files.old files.new)
         (streams_of I.took I.faults O.told O.faults T.told T.faults streams)
         (S.told sink) (S.faults sink) result.1 (S.told result.0) (S.faults result.0)
         (left_of I.took I.faults O.told O.faults T.told T.faults result.2) }
-
-    // what `varan` says of files that are accepted or refused, of the status of what is said
-    ensures completes { IfOk words (λ words. Completes (texts words.items) (source_of F.holds F.faults F.taken files.old files.new)
-        (S.faults sink) result.1 (S.faults result.0)) }
-    ensures rejects { IfOk words (λ words. Rejects (texts words.items) (source_of F.holds F.faults F.taken files.old files.new) result.1) }
 {
     // A report is put in some twenty small pieces an event: the sink gets them gathered.
     let mut sink = Gathering::make(sink);
     let (status, left) = answer(rt, alloc, words, files, &mut sink, gate, streams);
     let (sink, status) = finish(sink, status);
-    (sink, status, left)
+    let code = exit_status(status, &left);
+    (sink, code, left)
 }

@@ -11,7 +11,7 @@ ghost use Rattle.nv_cli.specs.Streams.{streams_of, left_of};
 ghost use Rattle.nv_driver.specs.Outcome.{source_of};
 ghost use Rattle.nv_cli.specs.inner.Serving.{IsBegunOver, IsReadyToServe, HasLeft, RanOver, ServeSays};
 
-use crate::beside::run;
+use crate::beside::run_on_demand;
 use nv_arrivals::Outside;
 use nv_arriving::{ArrivingKernel, arriving, into_outside};
 use nv_bpf::Filter;
@@ -42,7 +42,7 @@ fn kernel_over<I: Source + Send, O: Sink + Drop + Send, T: Sink + Drop + Send>(
     requires script { IsTrue (is_script (setup_of script.now)) }
     ensures { IfOk result (λ k. IsBegunOver I.took I.faults O.told O.faults T.told T.faults clients (setup_of script.now) head.now streams k) }
 {
-    let live = LiveRun::begin(alloc, clients, streams, head)?;
+    let live = LiveRun::begin(alloc, clients, streams, head, &script.hands)?;
     arriving(alloc, script, live)
 }
 
@@ -57,7 +57,7 @@ fn left_by<I: Source, O: Sink + Drop, T: Sink + Drop>(
     (live.finish(), ending)
 }
 
-// Runs the versions over what comes from an outside.
+// Runs the versions over what comes from an outside, whose lines of clients may ask the leader to hand over.
 fn run_over<R: Threads + Wait + Sync, G: Gate + Sync, X: Outside + Telling + Send>(
     rt: &R,
     alloc: Global,
@@ -66,15 +66,18 @@ fn run_over<R: Threads + Wait + Sync, G: Gate + Sync, X: Outside + Telling + Sen
     versions: Vec<Version>,
     hands: &Vec<u32>,
     limits: Limits,
+    clients: bool,
     gate: &G,
 ) -> Result<Account<ArrivingKernel<X>>, AllocError>
     requires fresh { AreFresh threads 0 versions.items }
     requires few { length versions.items ≤ 8 }
     requires empty { kernel.log ≡ [] }
     requires hands { length hands.now.items ≤ 8 }
-    ensures { IfOk result (λ r. RanOver X.told kernel (option_map (λ f. f.now) rules.entry) limits.calls hands.now.items versions.items r) }
+    ensures { IfOk result (λ r. RanOver X.told clients kernel (option_map (λ f. f.now) rules.entry) limits.calls hands.now.items versions.items r) }
 {
-    run(rt, alloc, versions, rules, kernel, gate, limits, hands)
+    run_on_demand(
+        rt, alloc, versions, rules, kernel, gate, limits, hands, clients,
+    )
 }
 
 // Runs the versions over what comes by these streams, and gives back what is left of them.
@@ -116,6 +119,7 @@ fn serve_versions<
         versions,
         &script.hands,
         limits,
+        clients,
         gate,
     ) else {
         return (put_line(sink, b"varan: memory\n", MEMORY), None);

@@ -39,7 +39,7 @@ use nv_live::{Source, Streams};
 use nv_outside::{Files, Put, Sink, put_pieces};
 use nv_replay::{Account, Version};
 use nv_served::{Recorded, SyscallKernel};
-use nv_sockets::write_connections;
+use nv_sockets::put_connections;
 use nv_workers::Gate;
 use std::alloc::Global;
 use std::sync::Wait;
@@ -57,7 +57,7 @@ fn put_json<K: SyscallKernel + Recorded, S: Sink>(
 {
     match nv_report::json(alloc, account) {
         Ok(text) => {
-            let put = put_pieces(sink, &[text.as_bytes(), b"\n"]);
+            let put = put_pieces(sink, &[&text, b"\n"]);
             ended(put, status(&account.versions))
         }
         Err(_) => put_line(sink, b"varan: memory\n", MEMORY),
@@ -73,7 +73,7 @@ fn put_whole<S: Sink>(account: &Account<ScriptedKernel>, sink: &mut S) -> Put
         result (S.told sink.new) (S.faults sink.new) }
 {
     nv_report::write(sink, account)?;
-    write_connections(sink, connections(&account.kernel))
+    put_connections(sink, connections(&account.kernel))
 }
 
 // Writes the report and the connections, and ends with the status of the run.

@@ -1,9 +1,9 @@
 -- What the words ask for, by what each command's words are.
-use Rattle.std.proofs.Common.{◌≡◌, ◌∙◌, sym, ap, ℕ, List, [], Option, Some, None, refl, inl, inr, ⊎_elim, subst, option_and_then}
+use Rattle.std.proofs.Common.{◌≡◌, ◌∙◌, sym, ap, ℕ, false, List, [], Option, Some, None, refl, inl, inr, ⊎_elim, subst, option_and_then}
 use Rattle.std.specs.Prelude.{IsSome}
 use Rattle.nv_outside.specs.Told.{Told}
 use Rattle.nv_driver.specs.Refusals.{ComesTo, LiveComesTo, Refuses, RefusesLive}
-use Rattle.nv_driver.specs.Live.{Streams, with_arrivals}
+use Rattle.nv_driver.specs.Live.{Streams, with_arrivals, with_hands}
 use Rattle.nv_driver.specs.Account.{IsRunOf, run_status}
 use Rattle.nv_driver.specs.declared.ending.Ending.{Ending}
 use Rattle.nv_driver.specs.declared.ending.Ending.TheVariants.{Finished}
@@ -324,11 +324,12 @@ module _ (words : List (List ℕ)) (source : Source) (service : Service) (asked 
     (before : Option (List ℕ)) (faults status : ℕ) (after : Option (List ℕ)) (later : ℕ) where
   -- versions that ran over what came have an outcome of the live run
   abbrev pub served_answers : source.later_faults ≡ source.faults → (setup : Setup) (rules : Option (List Op)) (machines : List Machine) → LiveComesTo service source.holds (Ready setup rules machines)
-      → (arrivals : List Arrival) (account : Account) → IsRunOf service.limits (with_arrivals setup arrivals) rules machines account → Says [] (run_status account.lines) before faults status after later
+      → (arrivals : List Arrival) (lengths : List ℕ) (account : Account) → (service.clients ≡ false → lengths ≡ []) → IsRunOf service.limits (with_hands (with_arrivals setup arrivals) lengths) rules machines account
+      → Says [] (run_status account.lines) before faults status after later
       → Answers words source before faults status after later
-  served_answers kept setup rules machines files arrivals account is_run says =
+  served_answers kept setup rules machines files arrivals lengths account only is_run says =
       told_answers words source (Serves service) asked before faults status after later (Served (with_arrivals setup arrivals) account)
-      (serve_owes service source.holds (Ready setup rules machines) (Served (with_arrivals setup arrivals) account) files (arrivals, account, refl, is_run)) kept says
+      (serve_owes service source.holds (Ready setup rules machines) (Served (with_arrivals setup arrivals) account) files (arrivals, lengths, account, refl, only, is_run)) kept says
 
   -- memory was wanted of a live run
   abbrev pub starved_answers : source.later_faults ≡ source.faults → Says (text_of NoMemory) 3 before faults status after later → Answers words source before faults status after later

@@ -1,7 +1,7 @@
 -- What is told decides what is found, where nothing turns out to be unreadable.
-use Rattle.std.proofs.Common.{◌≡◌, sym, ap, subst, refl, inl, inr, ⊎_elim, ◌⊎◌, ℕ, ◌+◌, ◌≤◌, Bool, true, false, if◌then◌else◌, List, [], ◌∷◌, length, map, Option, None, Some, option_map, Result, Ok, Err, arith}
+use Rattle.std.proofs.Common.{◌≡◌, sym, ap, subst, refl, inl, inr, ⊎_elim, ◌⊎◌, ℕ, ◌+◌, ◌≤◌, Bool, true, false, if◌then◌else◌, List, [], ◌∷◌, length, map, Option, None, Some, option_map, unwrap_or, Result, Ok, Err, arith}
 use Rattle.std.proofs.lemmas.Bool.Decides.{nat_tests}
-use Rattle.nv_outside.specs.Told.{Told, Untold, Missing, Content, content_or}
+use Rattle.nv_outside.specs.Told.{Told, Untold, Missing, Content, Fallible}
 use Rattle.nv_bpf.specs.declared.op.Op.{Op}
 use Rattle.nv_bpf.specs.declared.op.FilterFault.{FilterFault}
 use Rattle.nv_bpf.specs.Texts.{filter_of}
@@ -9,7 +9,7 @@ use Rattle.nv_machine.specs.Guest.{Machine}
 use Rattle.nv_command.specs.Words.{Limits, Plan, Service}
 use Rattle.nv_script.specs.Scripts.{Setup, script_of}
 use Rattle.nv_script.specs.declared.fault.ScriptFault.{ScriptFault}
-use Rattle.nv_driver.specs.Found.{Found, Whole, TooLong, Unread, Finds, Agrees, AgreesIf, AllAgree, AreFound, AgreesWithin, FILE_LIMIT, is_longer, found_within, found_of, finds_of}
+use Rattle.nv_driver.specs.Found.{Found, Whole, TooLong, Unread, Finds, Agrees, AgreesIf, AllAgree, AreFound, AgreesWithin, FILE_LIMIT, is_longer, found_whole, found_within, found_of, finds_of}
 use Rattle.nv_driver.specs.Prepared.{Prepared, Unreadable, Refused, Ready, VersionOf, Faulty, Loads, read_at, with_first_machine, version_then, versions_from, judged_by, rules_then, after_rules, after_script, version_from, prepared}
 use Rattle.nv_driver.specs.Live.{AgreesOrBare, AreLiveFound, bare_text, live_script, after_live_script, live_prepared, found_or_bare, live_finds_of}
 use Rattle.nv_driver.specs.declared.refusal.Cause.{Cause}
@@ -24,14 +24,17 @@ IsUnread (Ready setup rules machines) = ⊥
 not_longer : (limit : ℕ) (bytes : List ℕ) → length bytes ≤ limit → is_longer limit bytes ≡ false
 not_longer limit bytes h = grind (arith, nat_tests)
 
-whole_of : (limit : ℕ) (bytes : List ℕ) → is_longer limit bytes ≡ false → Whole bytes ≡ found_within limit (Content bytes)
+whole_of : (limit : ℕ) (bytes : List ℕ) → is_longer limit bytes ≡ false → Whole bytes ≡ found_whole limit bytes
 whole_of limit bytes short = rw short refl
 
-long_of : (limit : ℕ) (content : List ℕ) → is_longer limit content ≡ true → TooLong ≡ found_within limit (Content content)
+long_of : (limit : ℕ) (content : List ℕ) → is_longer limit content ≡ true → TooLong ≡ found_whole limit content
 long_of limit content long = rw long refl
 
 longer_of : (limit : ℕ) (bytes content : List ℕ) → is_longer limit bytes ≡ true → bytes ≡ content → is_longer limit content ≡ true
 longer_of limit bytes content long same = subst (λ (c : List ℕ). is_longer limit c ≡ true) same long
+
+same_bytes : (bytes content : List ℕ) → Some bytes ≡ Some content → bytes ≡ content
+same_bytes bytes content e = ap (λ (o : Option (List ℕ)). unwrap_or o []) e
 
 -- what is told may be found
 pub told_agrees : (limit : ℕ) (told : Told) → AgreesWithin limit told (found_within limit told)
@@ -40,8 +43,16 @@ told_agrees limit Missing = tt
 told_agrees limit (Content bytes) = by (is_longer limit bytes) refl
   where
     by : (b : Bool) → is_longer limit bytes ≡ b → AgreesWithin limit (Content bytes) (if b then TooLong else Whole bytes)
-    by true long = record { there = λ e. cc; same = λ content e. longer_of limit bytes content long (ap (λ (t : Told). content_or t []) e) }
-    by false short = record { short = grind (arith, nat_tests); there = λ e. cc; same = λ content e. ap (λ (t : Told). content_or t []) e }
+    by true long = record { there = λ e. cc; same = λ content e. longer_of limit bytes content long (same_bytes bytes content e) }
+    by false short = record { short = grind (arith, nat_tests); there = λ e. cc; same = λ content e. same_bytes bytes content e }
+told_agrees limit (Fallible bytes) = by (is_longer limit bytes) refl
+  where
+    by : (b : Bool) → is_longer limit bytes ≡ b → AgreesWithin limit (Fallible bytes) (if b then TooLong else Whole bytes)
+    by true long = record { there = λ e. cc; same = λ content e. longer_of limit bytes content long (same_bytes bytes content e) }
+    by false short = record { short = grind (arith, nat_tests); there = λ e. cc; same = λ content e. same_bytes bytes content e }
+
+whole_is : (limit : ℕ) (bytes content : List ℕ) → length bytes ≤ limit → bytes ≡ content → Whole bytes ≡ found_whole limit content
+whole_is limit bytes content short same = subst (λ (c : List ℕ). Whole bytes ≡ found_whole limit c) same (whole_of limit bytes (not_longer limit bytes short))
 
 -- what is found is what is told, unless the file is unreadable or untold
 pub same_within : (limit : ℕ) (told : Told) (found : Found) → AgreesWithin limit told found → (found ≡ Unread) ⊎ ((found_within limit told ≡ Unread) ⊎ (found ≡ found_within limit told))
@@ -50,9 +61,10 @@ same_within limit Untold (Whole bytes) a = inr (inl refl)
 same_within limit Untold TooLong a = inr (inl refl)
 same_within limit Missing (Whole bytes) a = inr (inl refl)
 same_within limit Missing TooLong a = inr (inl refl)
-same_within limit (Content content) (Whole bytes) a =
-    inr (inr (subst (λ (c : List ℕ). Whole bytes ≡ found_within limit (Content c)) (a.same content refl) (whole_of limit bytes (not_longer limit bytes a.short))))
+same_within limit (Content content) (Whole bytes) a = inr (inr (whole_is limit bytes content a.short (a.same content refl)))
 same_within limit (Content content) TooLong a = inr (inr (long_of limit content (a.same content refl)))
+same_within limit (Fallible content) (Whole bytes) a = inr (inr (whole_is limit bytes content a.short (a.same content refl)))
+same_within limit (Fallible content) TooLong a = inr (inr (long_of limit content (a.same content refl)))
 
 pub same_found : (told : Told) (found : Found) → Agrees told found → (found ≡ Unread) ⊎ ((found_of told ≡ Unread) ⊎ (found ≡ found_of told))
 same_found told found a = same_within FILE_LIMIT told found a

@@ -155,7 +155,7 @@ record_refused_status plan (Ready setup rules machines) outcome refused comes = 
 serve_ready_status : (service : Service) (whole : Prepared) (outcome : Outcome) → IsReady whole → ServeComesTo service whole outcome → IsDone (Serves service) (outcome_status outcome)
 serve_ready_status service (Unreadable place) outcome ready comes = absurd ready
 serve_ready_status service (Refused place cause) outcome ready comes = absurd ready
-serve_ready_status service (Ready setup rules machines) outcome ready comes = run_done comes.1.lines (outcome_status outcome) (ap outcome_status comes.2)
+serve_ready_status service (Ready setup rules machines) outcome ready comes = run_done comes.2.lines (outcome_status outcome) (ap outcome_status comes.3)
 
 serve_refused_status : (service : Service) (whole : Prepared) (outcome : Outcome) → IsRefusedAt whole → ServeComesTo service whole outcome → outcome_status outcome ≡ 4
 serve_refused_status service (Unreadable place) outcome refused comes = absurd refused

@@ -1,5 +1,5 @@
 -- What a call of the monitor owes for its words and files, and what its answer shows.
-use Rattle.std.specs.Prelude.{◌≡◌, ◌⊎◌, ℕ, IsSome, Bool, false, List, take, Option, None, Some, Result, Ok, Err}
+use Rattle.std.specs.Prelude.{◌≡◌, ◌⊎◌, ℕ, IsSome, Bool, false, List, [], take, Option, None, Some, Result, Ok, Err}
 use Rattle.std.specs.List.{list_any}
 use Rattle.nv_outside.specs.Counts.{Rose}
 use Rattle.nv_outside.specs.Told.{Told}
@@ -13,7 +13,7 @@ use Rattle.nv_replay.specs.Sequence.{Account}
 use Rattle.nv_driver.specs.Account.{IsRunOf, process_begun}
 use Rattle.nv_driver.specs.Found.{Found, Finds, Agrees, AreFound, TookLong, TookMore, TRACE_LIMIT, found_of, finds_of}
 use Rattle.nv_driver.specs.Prepared.{Prepared, Unreadable, Refused, Ready, prepared}
-use Rattle.nv_driver.specs.Live.{Streams, Lived, AreLiveFound, live_prepared, live_finds_of, with_arrivals}
+use Rattle.nv_driver.specs.Live.{Streams, Lived, AreLiveFound, live_prepared, live_finds_of, with_arrivals, with_hands}
 use Rattle.nv_driver.specs.declared.ending.Ending.{Ending}
 use Rattle.nv_driver.specs.declared.ending.Ending.TheVariants.{Finished}
 use Rattle.nv_arrivals.specs.Arrivals.{Arrival}
@@ -116,13 +116,14 @@ pub record RecordOwes (plan : Plan) (holds : List ℕ → Told) (outcome : Outco
   pub agree : AreFound plan holds finds
   pub comes : RecordComesTo plan (prepared plan.limits finds) outcome
 
--- A live run comes to its first file that can't be read or is refused, or else to an account of the sequential monitor over what its script says and what came.
+-- A live run comes to its first file that can't be read or is refused, or else to an account of the sequential monitor over what its script says and what came, which hands over at the script's planned lengths and
+-- at those that were asked for by an operator's words. Only lines of clients have such words.
 abbrev pub ServeComesTo : Service → Prepared → Outcome → Type 0
 ServeComesTo service (Unreadable place) outcome = outcome ≡ NotRead (name_in place service)
 ServeComesTo service (Refused place cause) outcome = outcome ≡ NotAccepted (name_in place service) cause
 ServeComesTo service (Ready setup rules machines) outcome =
-    (arrivals : List Arrival) × (account : Account) × (outcome ≡ Served (with_arrivals setup arrivals) account)
-    × IsRunOf service.limits (with_arrivals setup arrivals) rules machines account
+    (arrivals : List Arrival) × (asked : List ℕ) × (account : Account) × (outcome ≡ Served (with_arrivals setup arrivals) account)
+    × (service.clients ≡ false → asked ≡ []) × IsRunOf service.limits (with_hands (with_arrivals setup arrivals) asked) rules machines account
 
 pub record ServeOwes (service : Service) (holds : List ℕ → Told) (outcome : Outcome) : Type 0 where
   pub finds : Finds

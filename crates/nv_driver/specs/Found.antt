@@ -1,6 +1,6 @@
 -- What a command finds where it reads its files.
 use Rattle.std.specs.Prelude.{◌≡◌, ◌≢◌, ◌≤◌, ◌+◌, ◌-◌, ◌^◌, ℕ, List, [], ◌∷◌, Bool, true, if◌then◌else◌, Option, None, Some, option_map, min, nat_lt, length, map}
-use Rattle.nv_outside.specs.Told.{Told, Untold, Missing, Content, MayFail}
+use Rattle.nv_outside.specs.Told.{Told, Untold, Missing, Content, Fallible, told_content, MayFail}
 use Rattle.nv_command.specs.Words.{Plan}
 
 -- the most bytes of a file
@@ -33,7 +33,7 @@ pub data Found : Type 0 where
 pub record IsReadWithin (limit : ℕ) (bytes : List ℕ) (told : Told) : Type 0 where
   pub short : length bytes ≤ limit
   pub there : told ≢ Missing
-  pub same : (content : List ℕ) → told ≡ Content content → bytes ≡ content
+  pub same : (content : List ℕ) → told_content told ≡ Some content → bytes ≡ content
 
 abbrev pub IsReadOf : List ℕ → Told → Type 0
 IsReadOf bytes told = IsReadWithin FILE_LIMIT bytes told
@@ -41,9 +41,9 @@ IsReadOf bytes told = IsReadWithin FILE_LIMIT bytes told
 -- the file is too long, as a content that is told shows; a missing file isn't
 pub record IsLongerThan (limit : ℕ) (told : Told) : Type 0 where
   pub there : told ≢ Missing
-  pub same : (content : List ℕ) → told ≡ Content content → is_longer limit content ≡ true
+  pub same : (content : List ℕ) → told_content told ≡ Some content → is_longer limit content ≡ true
 
--- What may be found of a file with this limit, by what the source tells. A file whose content is told can be read.
+-- What may be found of a file with this limit, by what the source tells. A file whose content is told can be read, unless it is told that a read may fail.
 abbrev pub AgreesWithin : ℕ → Told → Found → Type 0
 AgreesWithin limit told (Whole bytes) = IsReadWithin limit bytes told
 AgreesWithin limit told TooLong = IsLongerThan limit told
@@ -77,11 +77,16 @@ pub record AreFound (plan : Plan) (holds : List ℕ → Told) (finds : Finds) : 
   pub rules : AgreesIf holds plan.rules finds.rules
   pub versions : AllAgree holds plan.versions finds.versions
 
--- what is found of a file that is told and has this limit; nothing of the others
+-- what is found of a content with this limit
+abbrev pub found_whole : ℕ → List ℕ → Found
+found_whole limit bytes = if is_longer limit bytes then TooLong else Whole bytes
+
+-- what is found of a file that is told and has this limit, where no read of it fails; nothing of the others
 abbrev pub found_within : ℕ → Told → Found
 found_within limit Untold = Unread
 found_within limit Missing = Unread
-found_within limit (Content bytes) = if is_longer limit bytes then TooLong else Whole bytes
+found_within limit (Content bytes) = found_whole limit bytes
+found_within limit (Fallible bytes) = found_whole limit bytes
 
 abbrev pub found_of : Told → Found
 found_of told = found_within FILE_LIMIT told

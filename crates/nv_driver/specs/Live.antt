@@ -2,7 +2,7 @@
 use Rattle.std.specs.Prelude.{◌≡◌, ℕ, ◌+◌, ◌-◌, Bool, false, not, ◌==◌, List, [], ◌∷◌, ◌++◌, Option, None, Some, option_map, Result, Ok, Err, if◌then◌else◌, codes, length, drop, map, get_or}
 use Rattle.std.specs.List.{All, prefix_len}
 use Rattle.nv_arrivals.specs.Arrivals.{Arrival, BringsBytes}
-use Rattle.nv_arrivals.specs.Doings.{Doing, Takes, takings, sayings}
+use Rattle.nv_arrivals.specs.Doings.{Doing, Takes, takings, sayings, handings, exchanges}
 use Rattle.nv_arriving.specs.Arriving.{first_stage, stage_after}
 use Rattle.nv_arriving.specs.Doings.{doings}
 use Rattle.nv_calls.specs.Calls.{Entry}
@@ -11,7 +11,7 @@ use Rattle.nv_command.specs.Words.{Limits, Service}
 use Rattle.nv_live.specs.Lines.{held_text}
 use Rattle.nv_live.specs.Live.{stop_with}
 use Rattle.nv_live.specs.Run.{CameBy, said_text}
-use Rattle.nv_live.specs.Transcript.{lines_of}
+use Rattle.nv_live.specs.Transcript.{notes_on}
 use Rattle.nv_live.specs.declared.incoming.Stopped.{Stopped}
 use Rattle.nv_live.specs.declared.incoming.Stopped.TheVariants as stop
 use Rattle.nv_outside.specs.Told.{Told}
@@ -95,6 +95,10 @@ live_finds_of holds service = record { script = found_or_bare holds service.scri
 abbrev pub with_arrivals : Setup → List Arrival → Setup
 with_arrivals setup arrivals = record setup { arrivals = arrivals }
 
+-- the same with the lengths at which leaders handed over by an operator's word, behind those that are planned
+abbrev pub with_hands : Setup → List ℕ → Setup
+with_hands setup lengths = record setup { hands = setup.hands ++ lengths }
+
 -- What standard input, standard output and the transcript tell: what each read gave, what was written, and how often each of them has failed.
 pub record Streams : Type 0 where
   pub read : Option (List (List ℕ))
@@ -122,22 +126,22 @@ ending_of None said told = ended_by_writes said told
 -- A live run over these streams, by its log: each arrival was taken when the call that waited for it was made, and what a call says was said when it was served, before the next
 -- arrival was asked for. That order is exact unless memory was wanted for a call that had waited, so that a later call found what it had left.
 -- The bytes are those of the streams: what was read, as plain input or as lines of clients, and so is what no call took; the bytes or the lines of what was said; and the transcript. That begins with a text that
--- says what the run began with, is up to the last arrival's line a script that says the whole run (an arrival's numbers are bytes wherever bytes were read), and has what no call took behind it, as comments.
+-- says what the run began with, is up to the last line of an arrival or of a hand-over a script that says the whole run (an arrival's numbers are bytes wherever bytes were read), and has what no call took behind it, as comments.
 pub record Lived (clients : Bool) (setup : Setup) (log : List Entry) (ending : Ending) (before after : Streams) : Type 0 where
   pub done : List Doing
   pub took_all : takings done ≡ setup.arrivals
   pub said_all : sayings done ≡ sayings (doings setup setup.arrivals log)
   pub late : Bool
-  pub in_order : late ≡ false → done ≡ doings setup setup.arrivals log ++ map Takes (stage_after (first_stage setup setup.arrivals) (calls_of log)).rest
+  pub in_order : late ≡ false → exchanges done ≡ doings setup setup.arrivals log ++ map Takes (stage_after (first_stage setup setup.arrivals) (calls_of log)).rest
   pub stopped : Option Stopped
   pub line : List ℕ
   pub held : List ℕ
-  pub came : CameBy clients before.read after.read before.unread after.unread stopped line held (takings done)
+  pub came : CameBy clients before.read after.read before.unread after.unread stopped line held (takings done) (handings done)
   pub said : Put
   pub written : Puts before.said before.unsaid (said_text clients (sayings done)) said after.said after.unsaid
   pub head : List ℕ
   pub begins : script_of head ≡ Ok (with_arrivals setup [])
-  pub reads : All BringsBytes setup.arrivals → script_of (head ++ lines_of (takings done)) ≡ Ok setup
+  pub reads : All BringsBytes setup.arrivals → script_of (head ++ notes_on done) ≡ Ok (with_hands setup (handings done))
   pub told : Put
-  pub noted : Puts before.noted before.unnoted ((head ++ lines_of (takings done)) ++ held_text line held) told after.noted after.unnoted
+  pub noted : Puts before.noted before.unnoted ((head ++ notes_on done) ++ held_text line held) told after.noted after.unnoted
   pub ends : ending ≡ ending_of (stop_with stopped said) said told

@@ -58,6 +58,16 @@ pub trait Answers: Send + Drop {
         ensures capacity { out.new.capacity ≡ out.old.capacity }
         ensures few { length out.new.bytes ≤ most_out (request call.now) };
 
+    /// Whether the leader is to give up the lead at this length of the log by an operator's word, which is taken then. Any answer is
+    /// right: where leaders gave up the lead is told by what they led.
+    fn hands_over(&mut self, _length: usize) -> bool
+        ensures start { (setup : Setup) → start setup self.new ≡ start setup self.old }
+        ensures stands { (setup : Setup) (log : List Entry) → stands self.old setup log → stands self.new setup log }
+        ensures known { (setup : Setup) → known setup self.new ≡ known setup self.old }
+    {
+        false
+    }
+
     /// Whether a kernel over it keeps each event.
     fn keeps(&self) -> bool
         ensures { result ≡ keeps_all };

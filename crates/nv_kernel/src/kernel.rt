@@ -157,6 +157,10 @@ impl<A: Answers> SyscallKernel for Kernel<A> {
         add(&mut self.log, event, self.answers.keeps());
     }
 
+    fn hands_over(&mut self) -> bool {
+        self.answers.hands_over(self.log.len())
+    }
+
     fn last(&self) -> &Event {
         self.log.last()
     }

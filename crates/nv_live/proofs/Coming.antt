@@ -1,13 +1,14 @@
 -- How what comes as lines goes on: one more read, bytes of a line, and a whole line.
-use Rattle.std.proofs.Common.{◌≡◌, ℕ, suc, ◌+◌, ◌<◌, ◌==◌, not, Bool, true, false, cond, List, [], ◌∷◌, ◌++◌, Option, None, Some, Ok, codes, length, map, filter, take, drop, get_or, append-nil, length-drop, drop-cons, add-one, append_assoc, length-append, refl, sym, ap, subst, ◌∙◌, arith}
-use Rattle.std.specs.List.{concat, list_all, prefix_len}
-use Rattle.std.proofs.lemmas.Bool.{and_parts, and_from}
+use Rattle.std.proofs.Common.{◌≡◌, ℕ, suc, ◌+◌, ◌<◌, ◌==◌, ◌||◌, not, Bool, true, false, cond, List, [], ◌∷◌, ◌++◌, Option, None, Some, Ok, codes, length, map, filter, take, drop, get_or, append-nil, length-drop, drop-cons, add-one, append_assoc, length-append, refl, sym, ap, subst, ◌∙◌, arith}
+use Rattle.std.specs.List.{concat, count_by, list_all, list_any, prefix_len}
+use Rattle.std.proofs.lemmas.Bool.{and_parts, and_from, or_parts}
 use Rattle.std.proofs.lemmas.Bool.Decides.{nat_tests}
+use Rattle.std.proofs.Math.Bool.{or-false}
 use Rattle.std.proofs.lemmas.List.{map-append, nil_from_length, take-append-drop}
 use Rattle.std.proofs.lemmas.List.Concat.{flat_map-append}
 use Rattle.std.proofs.lemmas.List.Elements.{filter-append}
-use Rattle.std.proofs.lemmas.List.Sums.{prefix_len_stops}
-use Rattle.std.proofs.lemmas.List.Folds.{list_all-append, concat-append}
+use Rattle.std.proofs.lemmas.List.Sums.{prefix_len_stops, sum_by-append, sum_by-cons}
+use Rattle.std.proofs.lemmas.List.Folds.{list_all-append, list_any-append, concat-append}
 use Rattle.nv_arrivals.specs.Arrivals.{Arrival, is_arrival}
 use Rattle.nv_arrivals.specs.Order.{Came, nothing_came, admitted, after}
 use Rattle.nv_arrivals.specs.Reading.{arrival_of}
@@ -19,14 +20,14 @@ use Rattle.nv_live.specs.declared.incoming.Stopped.{Stopped}
 use Rattle.nv_live.specs.declared.incoming.Stopped.TheVariants.{Ended, CutOff}
 use Rattle.nv_text.specs.Lines.{line_number}
 use Rattle.nv_live.specs.Buffer.{Refills}
-use Rattle.nv_live.specs.ComingLines.{is_plain, is_passed, says, text_of, Say, stop_by_end, Come}
+use Rattle.nv_live.specs.ComingLines.{is_plain, is_comment, is_hand, is_passed, says, text_of, Say, stop_by_end, Come}
 use Rattle.nv_live.specs.Source.{Gave, faults_by_read}
 use Rattle.nv_live.specs.Taking.{faults_by_stop}
 use Rattle.nv_live.proofs.Taking.{gave-none, gave-then}
 
 -- ---- nothing has come
 
-come-none : (before : Option (List (List ℕ))) (faults : ℕ) → Come before before faults faults None [] [] nothing_came 0 []
+come-none : (before : Option (List (List ℕ))) (faults : ℕ) → Come before before faults faults None [] [] nothing_came 0 false 0 []
 come-none before faults = record {
   reads = [];
   lines = [];
@@ -37,15 +38,20 @@ come-none before faults = record {
   limits = refl;
   orderly = after-none nothing_came;
   numbered = refl;
+  earlier = [];
+  since = [];
+  parted = refl;
+  words = omega arith;
+  asks = refl;
   counted = refl;
   ended = λ e. cc;
 }
 
-pub come-start : (before : Option (List (List ℕ))) (faults : ℕ) (line held : List ℕ) (came : Came) → line ≡ [] → held ≡ [] → came ≡ nothing_came → Come before before faults faults None line held came 0 []
+pub come-start : (before : Option (List (List ℕ))) (faults : ℕ) (line held : List ℕ) (came : Came) → line ≡ [] → held ≡ [] → came ≡ nothing_came → Come before before faults faults None line held came 0 false 0 []
 come-start before faults line held came empty none order =
-    subst (λ l. Come before before faults faults None l held came 0 []) (sym empty)
-    (subst (λ h. Come before before faults faults None [] h came 0 []) (sym none)
-    (subst (λ c. Come before before faults faults None [] [] c 0 []) (sym order) (come-none before faults)))
+    subst (λ l. Come before before faults faults None l held came 0 false 0 []) (sym empty)
+    (subst (λ h. Come before before faults faults None [] h came 0 false 0 []) (sym none)
+    (subst (λ c. Come before before faults faults None [] [] c 0 false 0 []) (sym order) (come-none before faults)))
 
 -- ---- one more read
 
@@ -67,10 +73,10 @@ joined-read : (reads : List (List ℕ)) (text line held : List ℕ) → concat r
 joined-read reads text line held e =
     concat-append reads (held ∷ []) ∙ ap (λ t. concat reads ++ t) (append-nil held) ∙ ap (λ t. t ++ held) (e ∙ ap (λ t. text ++ t) (append-nil line)) ∙ append_assoc text line held
 
-come-refill : (before now later : Option (List (List ℕ))) (faults count later_count : ℕ) (line held : List ℕ) (came : Came) (taken : ℕ) (read : Read) (arrivals : List Arrival)
-    → Refills now later held read → later_count ≡ faults_by_read read count → Come before now faults count None line [] came taken arrivals
-    → Come before later faults later_count (stop_by_end read taken (length line)) line held came taken arrivals
-come-refill before now later faults count later_count line held came taken (Count n) arrivals r same c = record {
+come-refill : (before now later : Option (List (List ℕ))) (faults count later_count : ℕ) (line held : List ℕ) (came : Came) (taken : ℕ) (asked : Bool) (handed : ℕ) (read : Read) (arrivals : List Arrival)
+    → Refills now later held read → later_count ≡ faults_by_read read count → Come before now faults count None line [] came taken asked handed arrivals
+    → Come before later faults later_count (stop_by_end read taken (length line)) line held came taken asked handed arrivals
+come-refill before now later faults count later_count line held came taken asked handed (Count n) arrivals r same c = record {
   reads = c.reads ++ held ∷ [];
   lines = c.lines;
   gave = gave-then before now later c.reads (held ∷ []) c.gave r.1;
@@ -80,6 +86,11 @@ come-refill before now later faults count later_count line held came taken (Coun
   limits = c.limits;
   orderly = c.orderly;
   numbered = c.numbered;
+  earlier = c.earlier;
+  since = c.since;
+  parted = c.parted;
+  words = c.words;
+  asks = c.asks;
   counted = same ∙ c.counted ∙ sym (end-faults n taken (length line) faults);
   ended = λ e.
       let both = end-empty n taken (length line) e in
@@ -87,7 +98,7 @@ come-refill before now later faults count later_count line held came taken (Coun
       let empty : line ≡ [] = nil_from_length line both.1 in
       ((c.reads, ap (λ b. c.reads ++ b ∷ []) none), ap (λ l. l ++ held) empty ∙ none);
 }
-come-refill before now later faults count later_count line held came taken Failed arrivals r same c = record {
+come-refill before now later faults count later_count line held came taken asked handed Failed arrivals r same c = record {
   reads = c.reads;
   lines = c.lines;
   gave = subst (λ x. Gave before c.reads x) (sym r.0) c.gave;
@@ -97,17 +108,22 @@ come-refill before now later faults count later_count line held came taken Faile
   limits = c.limits;
   orderly = c.orderly;
   numbered = c.numbered;
+  earlier = c.earlier;
+  since = c.since;
+  parted = c.parted;
+  words = c.words;
+  asks = c.asks;
   counted = same ∙ ap (λ n. raised n 1) c.counted;
   ended = λ e. cc;
 }
 
-pub come-read : (before now later : Option (List (List ℕ))) (faults count later_count : ℕ) (stopped next : Option Stopped) (line was held : List ℕ) (came : Came) (taken size : ℕ) (read : Read) (arrivals : List Arrival)
+pub come-read : (before now later : Option (List (List ℕ))) (faults count later_count : ℕ) (stopped next : Option Stopped) (line was held : List ℕ) (came : Came) (taken size : ℕ) (asked : Bool) (handed : ℕ) (read : Read) (arrivals : List Arrival)
     → Refills now later held read → later_count ≡ faults_by_read read count → stopped ≡ None → was ≡ [] → size ≡ length line → next ≡ stop_by_end read taken size
-    → Come before now faults count stopped line was came taken arrivals → Come before later faults later_count next line held came taken arrivals
-come-read before now later faults count later_count stopped next line was held came taken size read arrivals r same going empty sized stop c =
-    subst (λ s. Come before later faults later_count s line held came taken arrivals) (sym (stop ∙ ap (stop_by_end read taken) sized))
-    (come-refill before now later faults count later_count line held came taken read arrivals r same
-    (subst (λ s. Come before now faults count s line [] came taken arrivals) going (subst (λ h. Come before now faults count stopped line h came taken arrivals) empty c)))
+    → Come before now faults count stopped line was came taken asked handed arrivals → Come before later faults later_count next line held came taken asked handed arrivals
+come-read before now later faults count later_count stopped next line was held came taken size asked handed read arrivals r same going empty sized stop c =
+    subst (λ s. Come before later faults later_count s line held came taken asked handed arrivals) (sym (stop ∙ ap (stop_by_end read taken) sized))
+    (come-refill before now later faults count later_count line held came taken asked handed read arrivals r same
+    (subst (λ s. Come before now faults count s line [] came taken asked handed arrivals) going (subst (λ h. Come before now faults count stopped line h came taken asked handed arrivals) empty c)))
 
 -- ---- bytes of a line
 
@@ -123,10 +139,10 @@ plain-prefix (b ∷ bs) = step (is_plain b) refl (plain-prefix bs) where
 front-plain : (bytes : List ℕ) (n : ℕ) → n ≡ prefix_len is_plain bytes → list_all is_plain (take n bytes) ≡ true
 front-plain bytes n e = subst (λ k. list_all is_plain (take k bytes) ≡ true) (sym e) (plain-prefix bytes)
 
-pub come-gather : (before now : Option (List (List ℕ))) (faults count : ℕ) (stopped : Option Stopped) (line held more rest : List ℕ) (came : Came) (taken n : ℕ) (arrivals : List Arrival)
+pub come-gather : (before now : Option (List (List ℕ))) (faults count : ℕ) (stopped : Option Stopped) (line held more rest : List ℕ) (came : Came) (taken n : ℕ) (asked : Bool) (handed : ℕ) (arrivals : List Arrival)
     → n ≡ prefix_len is_plain held → more ≡ line ++ take n held → rest ≡ drop n held
-    → Come before now faults count stopped line held came taken arrivals → Come before now faults count stopped more rest came taken arrivals
-come-gather before now faults count stopped line held more rest came taken n arrivals stops longer left c =
+    → Come before now faults count stopped line held came taken asked handed arrivals → Come before now faults count stopped more rest came taken asked handed arrivals
+come-gather before now faults count stopped line held more rest came taken n asked handed arrivals stops longer left c =
     let same : more ++ rest ≡ line ++ held =
     ap (λ t. t ++ rest) longer ∙ ap (λ t. (line ++ take n held) ++ t) left ∙ append_assoc line (take n held) (drop n held) ∙ ap (λ t. line ++ t) (take-append-drop n held) in
     let both = and_parts (list_all (λ l. list_all is_plain l) c.lines) (list_all (λ l. list_all is_plain l) (line ∷ [])) (sym (list_all-append (λ l. list_all is_plain l) c.lines (line ∷ [])) ∙ c.plain) in
@@ -142,6 +158,11 @@ come-gather before now faults count stopped line held more rest came taken n arr
       limits = c.limits;
       orderly = c.orderly;
       numbered = c.numbered;
+      earlier = c.earlier;
+      since = c.since;
+      parted = c.parted;
+      words = c.words;
+      asks = c.asks;
       counted = c.counted;
       ended = λ e. ((c.ended e).0, same ∙ (c.ended e).1);
     }
@@ -164,10 +185,15 @@ joined-line lines line rest =
     ∙ ap (λ t. (text_of lines ++ t) ++ rest) (sym (append-nil (line ++ 10 ∷ [])))
     ∙ ap (λ t. t ++ rest) (sym (flat_map-append (λ l. l ++ codes "\n") lines (line ∷ [])))
 
-come-line : (before now : Option (List (List ℕ))) (faults count : ℕ) (line rest : List ℕ) (came next : Came) (taken : ℕ) (arrivals then : List Arrival)
+-- one line more among those since
+asks-more : (lines : List (List ℕ)) (line : List ℕ) (asked : Bool) → asked ≡ list_any is_hand lines → asked || is_hand line ≡ list_any is_hand (lines ++ line ∷ [])
+asks-more lines line asked e =
+    sym (list_any-append is_hand lines (line ∷ []) ∙ ap (λ x. list_any is_hand lines || x) (or-false (is_hand line)) ∙ ap (λ x. x || is_hand line) (sym e))
+
+come-line : (before now : Option (List (List ℕ))) (faults count : ℕ) (line rest : List ℕ) (came next : Came) (taken : ℕ) (asked : Bool) (handed : ℕ) (arrivals then : List Arrival)
     → ((lines : List (List ℕ)) → Say lines arrivals → Say (lines ++ line ∷ []) then) → list_all is_arrival then ≡ true → (after arrivals nothing_came ≡ Ok came → after then nothing_came ≡ Ok next)
-    → Come before now faults count None line (10 ∷ rest) came taken arrivals → Come before now faults count None [] rest next (taken + 1) then
-come-line before now faults count line rest came next taken arrivals then says_on limits order c = record {
+    → Come before now faults count None line (10 ∷ rest) came taken asked handed arrivals → Come before now faults count None [] rest next (taken + 1) (asked || is_hand line) handed then
+come-line before now faults count line rest came next taken asked handed arrivals then says_on limits order c = record {
   reads = c.reads;
   lines = c.lines ++ line ∷ [];
   gave = c.gave;
@@ -177,6 +203,11 @@ come-line before now faults count line rest came next taken arrivals then says_o
   limits = limits;
   orderly = order c.orderly;
   numbered = ap (λ n. n + 1) c.numbered ∙ sym (length-append c.lines (line ∷ []));
+  earlier = c.earlier;
+  since = c.since ++ line ∷ [];
+  parted = ap (λ ls. ls ++ line ∷ []) c.parted ∙ append_assoc c.earlier c.since (line ∷ []);
+  words = c.words;
+  asks = asks-more c.since line asked c.asks;
   counted = c.counted;
   ended = λ e. cc;
 }
@@ -193,39 +224,81 @@ say-one line lines arrivals a says_some is s =
     ∙ ap (λ t. t ++ arrival_of line ∷ []) s ∙ ap (λ r. map Ok arrivals ++ r ∷ []) is ∙ sym (map-append Ok arrivals (a ∷ []))
 
 -- a line that says nothing is taken
-pub come-passed : (before now : Option (List (List ℕ))) (faults count : ℕ) (stopped next : Option Stopped) (line held later rest : List ℕ) (came same : Came) (taken more : ℕ) (arrivals : List Arrival)
-    → (left : List ℕ) × (held ≡ 10 ∷ left) → is_passed line ≡ true → stopped ≡ None → next ≡ stopped → later ≡ [] → rest ≡ drop 1 held → same ≡ came → more ≡ taken + 1
-    → Come before now faults count stopped line held came taken arrivals → Come before now faults count next later rest same more arrivals
-come-passed before now faults count stopped next line held later rest came same taken more arrivals whole passed going stays empty left order number c =
+pub come-passed : (before now : Option (List (List ℕ))) (faults count : ℕ) (stopped next : Option Stopped) (line held later rest : List ℕ) (came same : Came) (taken more : ℕ) (asked asks : Bool) (handed : ℕ) (arrivals : List Arrival)
+    → (left : List ℕ) × (held ≡ 10 ∷ left) → is_passed line ≡ true → stopped ≡ None → next ≡ stopped → later ≡ [] → rest ≡ drop 1 held → same ≡ came → more ≡ taken + 1 → asks ≡ asked || is_hand line
+    → Come before now faults count stopped line held came taken asked handed arrivals → Come before now faults count next later rest same more asks handed arrivals
+come-passed before now faults count stopped next line held later rest came same taken more asked asks handed arrivals whole passed going stays empty left order number ask c =
     let begins : held ≡ 10 ∷ whole.0 = whole.1 in
     let behind : rest ≡ whole.0 = left ∙ ap (drop 1) begins in
-    let from : Come before now faults count None line (10 ∷ whole.0) came taken arrivals =
-    subst (λ s. Come before now faults count s line (10 ∷ whole.0) came taken arrivals) going (subst (λ h. Come before now faults count stopped line h came taken arrivals) begins c) in
-    let to : Come before now faults count None [] whole.0 came (taken + 1) arrivals =
-    come-line before now faults count line whole.0 came came taken arrivals arrivals (λ lines s. say-nothing line lines arrivals passed s) from.limits (λ e. e) from in
-    subst (λ s. Come before now faults count s later rest same more arrivals) (sym (stays ∙ going))
-    (subst (λ l. Come before now faults count None l rest same more arrivals) (sym empty)
-    (subst (λ r. Come before now faults count None [] r same more arrivals) (sym behind)
-    (subst (λ o. Come before now faults count None [] whole.0 o more arrivals) (sym order)
-    (subst (λ n. Come before now faults count None [] whole.0 came n arrivals) (sym number) to))))
+    let from : Come before now faults count None line (10 ∷ whole.0) came taken asked handed arrivals =
+    subst (λ s. Come before now faults count s line (10 ∷ whole.0) came taken asked handed arrivals) going (subst (λ h. Come before now faults count stopped line h came taken asked handed arrivals) begins c) in
+    let to : Come before now faults count None [] whole.0 came (taken + 1) (asked || is_hand line) handed arrivals =
+    come-line before now faults count line whole.0 came came taken asked handed arrivals arrivals (λ lines s. say-nothing line lines arrivals passed s) from.limits (λ e. e) from in
+    subst (λ s. Come before now faults count s later rest same more asks handed arrivals) (sym (stays ∙ going))
+    (subst (λ l. Come before now faults count None l rest same more asks handed arrivals) (sym empty)
+    (subst (λ r. Come before now faults count None [] r same more asks handed arrivals) (sym behind)
+    (subst (λ o. Come before now faults count None [] whole.0 o more asks handed arrivals) (sym order)
+    (subst (λ n. Come before now faults count None [] whole.0 came n asks handed arrivals) (sym number)
+    (subst (λ k. Come before now faults count None [] whole.0 came (taken + 1) k handed arrivals) (sym ask) to)))))
+
+-- a line that says something is no `hand`
+says-no_hand : (line : List ℕ) → is_passed line ≡ false → is_hand line ≡ false
+says-no_hand line says_some = (or_parts (is_comment line) (is_hand line) says_some).1
 
 -- a line's arrival is taken
-pub come-taken : (before now : Option (List (List ℕ))) (faults count : ℕ) (stopped next : Option Stopped) (line held later rest : List ℕ) (came admits same : Came) (taken more : ℕ) (arrivals : List Arrival) (a : Arrival)
+pub come-taken : (before now : Option (List (List ℕ))) (faults count : ℕ) (stopped next : Option Stopped) (line held later rest : List ℕ) (came admits same : Came) (taken more : ℕ) (asked asks : Bool) (handed : ℕ) (arrivals : List Arrival) (a : Arrival)
     → (left : List ℕ) × (held ≡ 10 ∷ left) → is_passed line ≡ false → arrival_of line ≡ Ok a → is_arrival a ≡ true → Ok admits ≡ admitted a came
-    → stopped ≡ None → next ≡ stopped → later ≡ [] → rest ≡ drop 1 held → same ≡ admits → more ≡ taken + 1
-    → Come before now faults count stopped line held came taken arrivals → Come before now faults count next later rest same more (arrivals ++ a ∷ [])
-come-taken before now faults count stopped next line held later rest came admits same taken more arrivals a whole says_some is limit may going stays empty left order number c =
+    → stopped ≡ None → next ≡ stopped → later ≡ [] → rest ≡ drop 1 held → same ≡ admits → more ≡ taken + 1 → asks ≡ asked
+    → Come before now faults count stopped line held came taken asked handed arrivals → Come before now faults count next later rest same more asks handed (arrivals ++ a ∷ [])
+come-taken before now faults count stopped next line held later rest came admits same taken more asked asks handed arrivals a whole says_some is limit may going stays empty left order number ask c =
     let begins : held ≡ 10 ∷ whole.0 = whole.1 in
     let behind : rest ≡ whole.0 = left ∙ ap (drop 1) begins in
-    let from : Come before now faults count None line (10 ∷ whole.0) came taken arrivals =
-    subst (λ s. Come before now faults count s line (10 ∷ whole.0) came taken arrivals) going (subst (λ h. Come before now faults count stopped line h came taken arrivals) begins c) in
+    let from : Come before now faults count None line (10 ∷ whole.0) came taken asked handed arrivals =
+    subst (λ s. Come before now faults count s line (10 ∷ whole.0) came taken asked handed arrivals) going (subst (λ h. Come before now faults count stopped line h came taken asked handed arrivals) begins c) in
+    let stays_asked : asked ≡ asked || is_hand line = sym (ap (λ x. asked || x) (says-no_hand line says_some) ∙ or-false asked) in
     let limits : list_all is_arrival (arrivals ++ a ∷ []) ≡ true =
     list_all-append is_arrival arrivals (a ∷ []) ∙ and_from (list_all is_arrival arrivals) (list_all is_arrival (a ∷ [])) from.limits (and_from (is_arrival a) true limit refl) in
-    let to : Come before now faults count None [] whole.0 admits (taken + 1) (arrivals ++ a ∷ []) =
-    come-line before now faults count line whole.0 came admits taken arrivals (arrivals ++ a ∷ []) (λ lines s. say-one line lines arrivals a says_some is s) limits
+    let to : Come before now faults count None [] whole.0 admits (taken + 1) (asked || is_hand line) handed (arrivals ++ a ∷ []) =
+    come-line before now faults count line whole.0 came admits taken asked handed arrivals (arrivals ++ a ∷ []) (λ lines s. say-one line lines arrivals a says_some is s) limits
     (λ e. after-more arrivals a nothing_came came admits e (sym may)) from in
-    subst (λ s. Come before now faults count s later rest same more (arrivals ++ a ∷ [])) (sym (stays ∙ going))
-    (subst (λ l. Come before now faults count None l rest same more (arrivals ++ a ∷ [])) (sym empty)
-    (subst (λ r. Come before now faults count None [] r same more (arrivals ++ a ∷ [])) (sym behind)
-    (subst (λ o. Come before now faults count None [] whole.0 o more (arrivals ++ a ∷ [])) (sym order)
-    (subst (λ n. Come before now faults count None [] whole.0 admits n (arrivals ++ a ∷ [])) (sym number) to))))
+    subst (λ s. Come before now faults count s later rest same more asks handed (arrivals ++ a ∷ [])) (sym (stays ∙ going))
+    (subst (λ l. Come before now faults count None l rest same more asks handed (arrivals ++ a ∷ [])) (sym empty)
+    (subst (λ r. Come before now faults count None [] r same more asks handed (arrivals ++ a ∷ [])) (sym behind)
+    (subst (λ o. Come before now faults count None [] whole.0 o more asks handed (arrivals ++ a ∷ [])) (sym order)
+    (subst (λ n. Come before now faults count None [] whole.0 admits n asks handed (arrivals ++ a ∷ [])) (sym number)
+    (subst (λ k. Come before now faults count None [] whole.0 admits (taken + 1) k handed (arrivals ++ a ∷ [])) (sym (ask ∙ stays_asked)) to)))))
+
+-- ---- a hand-over
+
+some-counted : (lines : List (List ℕ)) → list_any is_hand lines ≡ true → 0 < count_by is_hand lines
+some-counted [] e = cc
+some-counted (line ∷ lines) e =
+    subst (λ n. 0 < n) (sym (sum_by-cons (λ (l : List ℕ). cond (is_hand l) 1 0) line lines)) (step (is_hand line) e (λ h. some-counted lines h)) where
+      step : (x : Bool) → x || list_any is_hand lines ≡ true → (list_any is_hand lines ≡ true → 0 < count_by is_hand lines) → 0 < cond x 1 0 + count_by is_hand lines
+      step true h later = omega arith
+      step false h later = let some : 0 < count_by is_hand lines = later h in omega arith
+
+-- the leader hands over for the lines that have come since it last did
+pub come-handed : (before now : Option (List (List ℕ))) (faults count : ℕ) (stopped : Option Stopped) (line held : List ℕ) (came : Came) (taken : ℕ) (asked : Bool) (handed : ℕ) (arrivals : List Arrival)
+    → asked ≡ true → Come before now faults count stopped line held came taken asked handed arrivals → Come before now faults count stopped line held came taken false (handed + 1) arrivals
+come-handed before now faults count stopped line held came taken asked handed arrivals word c =
+    let some : 0 < count_by is_hand c.since = some-counted c.since (sym c.asks ∙ word) in
+    let all : count_by is_hand (c.earlier ++ c.since) ≡ count_by is_hand c.earlier + count_by is_hand c.since = sum_by-append (λ (line : List ℕ). cond (is_hand line) 1 0) c.earlier c.since in
+    record {
+      reads = c.reads;
+      lines = c.lines;
+      gave = c.gave;
+      joined = c.joined;
+      plain = c.plain;
+      said = c.said;
+      limits = c.limits;
+      orderly = c.orderly;
+      numbered = c.numbered;
+      earlier = c.earlier ++ c.since;
+      since = [];
+      parted = c.parted ∙ sym (append-nil (c.earlier ++ c.since));
+      words = omega (arith, c.words, some, all);
+      asks = refl;
+      counted = c.counted;
+      ended = c.ended;
+    }

@@ -6,3 +6,4 @@ pub mod Serving
 pub mod Parts
 pub mod InMemory
 pub mod Showing
+pub mod Notes

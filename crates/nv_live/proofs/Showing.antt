@@ -1,15 +1,17 @@
 -- What a live run shows in the end of what was done.
-use Rattle.std.proofs.Common.{◌≡◌, ℕ, List, [], ◌++◌, Option, None, refl, sym, subst, Ok, IsOk}
-use Rattle.nv_arrivals.specs.Doings.{Doing, takings, sayings}
+use Rattle.std.proofs.Common.{◌≡◌, ℕ, Bool, true, false, List, [], ◌++◌, Option, None, refl, sym, ap, ◌∙◌, subst, append-nil, Ok, IsOk}
+use Rattle.nv_arrivals.specs.Doings.{Doing, takings, sayings, handings}
 use Rattle.nv_arrivals.specs.Order.{Came, nothing_came}
 use Rattle.nv_outside.specs.Sink.{Puts}
 use Rattle.nv_live.specs.declared.incoming.Stopped.{Stopped}
 use Rattle.nv_live.specs.declared.run.LiveRun.{LiveRun}
 use Rattle.nv_live.specs.declared.run.LiveRun.TheVariants.{Plain, Clients}
 use Rattle.nv_live.specs.ComingLines.{Come, held_from}
-use Rattle.nv_live.specs.Run.{CameBy, said_text, DidRun, told_run, input_of, output_of, notes_of, line_of, held_by, source_stop}
+use Rattle.nv_live.specs.Run.{CameBy, hands_by, said_text, DidRun, told_run, IsBegun, input_of, output_of, notes_of, line_of, held_by, source_stop}
 use Rattle.nv_live.specs.Telling.{Told}
-use Rattle.nv_live.specs.Transcript.{lines_of}
+use Rattle.nv_live.specs.declared.streams.Streams.{Streams}
+use Rattle.nv_script.specs.Scripts.{are_hands}
+use Rattle.nv_live.specs.Transcript.{notes_on}
 use Rattle.nv_live.proofs.Coming.{come-start}
 use Rattle.nv_live.proofs.Doing.{did-none}
 use Rattle.nv_live.proofs.Serving.{did-none as lines-none}
@@ -20,42 +22,68 @@ pub record IsFresh (told : Told) : Type 0 where
   pub line : told.line ≡ []
   pub order : told.order ≡ nothing_came
   pub taken : told.taken ≡ 0
+  pub asked : told.asked ≡ false
   pub going : told.stopped ≡ None
+  pub planned : are_hands told.hands ≡ true
   pub saying : IsOk told.saying
 
 module _ {I O T : Type 0} (took : I → Option (List (List ℕ))) (unread : I → ℕ) (said : O → Option (List ℕ)) (unsaid : O → ℕ) (noted : T → Option (List ℕ)) (unnoted : T → ℕ) where
   -- nothing came before by lines
-  lines-start : (before : Option (List (List ℕ))) (faults : ℕ) (stopped : Option Stopped) (line held : List ℕ) (came : Came) (taken : ℕ) → stopped ≡ None → line ≡ [] → held ≡ [] → came ≡ nothing_came → taken ≡ 0
-      → Come before before faults faults stopped line held came taken []
-  lines-start before faults stopped line held came taken going empty none order zero =
-      subst (λ s. Come before before faults faults s line held came taken []) (sym going)
-      (subst (λ n. Come before before faults faults None line held came n []) (sym zero) (come-start before faults line held came empty none order))
+  lines-start : (before : Option (List (List ℕ))) (faults : ℕ) (stopped : Option Stopped) (line held : List ℕ) (came : Came) (taken : ℕ) (asked : Bool) → stopped ≡ None → line ≡ [] → held ≡ [] → came ≡ nothing_came → taken ≡ 0 → asked ≡ false
+      → Come before before faults faults stopped line held came taken asked 0 []
+  lines-start before faults stopped line held came taken asked going empty none order zero unasked =
+      subst (λ s. Come before before faults faults s line held came taken asked 0 []) (sym going)
+      (subst (λ n. Come before before faults faults None line held came n asked 0 []) (sym zero)
+      (subst (λ b. Come before before faults faults None line held came 0 b 0 []) (sym unasked) (come-start before faults line held came empty none order)))
+
+  hands_by-planned : (clients : Bool) (hands : List ℕ) → are_hands hands ≡ true → are_hands (hands_by clients hands) ≡ true
+  unfolding are_hands
+  hands_by-planned false hands are = refl
+  hands_by-planned true hands are = are
+
+  -- a run that was begun tells nothing of what it has done
+  pub begun-fresh : (clients : Bool) (head hands : List ℕ) (streams : Streams I O T) (told : Told) → are_hands hands ≡ true
+      → IsBegun took unread said unsaid noted unnoted clients head hands streams told → IsFresh told
+  begun-fresh clients head hands streams told are b = record {
+    held = b.held;
+    line = b.line;
+    order = b.order;
+    taken = b.taken;
+    asked = b.asked;
+    going = b.going;
+    planned = ap are_hands b.hands_are ∙ hands_by-planned clients hands are;
+    saying = b.saying;
+  }
 
   -- a run that tells nothing of what it has done has done nothing
   pub begun-none : (run : LiveRun I O T) → IsFresh (told_run took unread said unsaid noted unnoted run) → DidRun took unread said unsaid noted unnoted run run []
   begun-none (Plain run) fresh = did-none took unread said unsaid noted unnoted run fresh.going fresh.held fresh.saying
   begun-none (Clients run) fresh =
       lines-none took unread said unsaid noted unnoted run
-      (lines-start (took run.coming.source) (unread run.coming.source) run.coming.stopped run.coming.line.items (held_from run.coming) run.coming.order run.coming.taken
-      fresh.going fresh.line fresh.held fresh.order fresh.taken) fresh.saying
+      (lines-start (took run.coming.source) (unread run.coming.source) run.coming.stopped run.coming.line.items (held_from run.coming) run.coming.order run.coming.taken run.coming.asked
+      fresh.going fresh.line fresh.held fresh.order fresh.taken fresh.asked) fresh.saying fresh.planned
 
   -- what the streams show of what was done since a run that told this
   pub record Shown (told : Told) (later : LiveRun I O T) (done : List Doing) : Type 0 where
-    pub came : CameBy told.clients told.read (took (input_of later)) told.unread (unread (input_of later)) (source_stop later) (line_of later) (held_by later) (takings done)
+    pub came : CameBy told.clients told.read (took (input_of later)) told.unread (unread (input_of later)) (source_stop later) (line_of later) (held_by later) (takings done) (handings done)
     pub written : Puts told.said told.unsaid (said_text told.clients (sayings done)) (output_of later).put (said (output_of later).sink) (unsaid (output_of later).sink)
     pub lines : (sink : T) (head : List ℕ) → Puts (noted sink) (unnoted sink) head told.noting told.noted told.unnoted
-        → Puts (noted sink) (unnoted sink) (head ++ lines_of (takings done)) (notes_of later).put (noted (notes_of later).sink) (unnoted (notes_of later).sink)
+        → Puts (noted sink) (unnoted sink) (head ++ notes_on done) (notes_of later).put (noted (notes_of later).sink) (unnoted (notes_of later).sink)
+    -- a script with these lengths can have those as well at which the leader handed over
+    pub planned : (hands : List ℕ) → are_hands hands ≡ true → told.hands ≡ hands_by told.clients hands → are_hands (hands ++ handings done) ≡ true
 
   pub shown : (first later : LiveRun I O T) (done : List Doing) → DidRun took unread said unsaid noted unnoted first later done → Shown (told_run took unread said unsaid noted unnoted first) later done
   shown (Plain first) (Plain later) done d = record {
-    came = (refl, d.taken);
+    came = (refl, d.taken, d.handed);
     written = d.written;
     lines = λ sink head begun. d.lines (record { sink = sink; put = Ok tt }) head begun;
+    planned = λ hands are same. ap (λ lengths. are_hands (hands ++ lengths)) d.handed ∙ ap are_hands (append-nil hands) ∙ are;
   }
   shown (Clients first) (Clients later) done d = record {
-    came = (_, _, d.taken);
+    came = (_, _, _, d.taken);
     written = d.written;
     lines = λ sink head begun. d.lines (record { sink = sink; put = Ok tt }) head begun;
+    planned = λ hands are same. ap (λ lengths. are_hands (lengths ++ handings done)) (sym same) ∙ ap are_hands (sym d.handed) ∙ d.planned;
   }
   shown (Plain first) (Clients later) done d = absurd d
   shown (Clients first) (Plain later) done d = absurd d

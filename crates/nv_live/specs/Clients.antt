@@ -1,17 +1,19 @@
 -- The outside of a live run of many clients: what was taken, what was said, and the transcript.
-use Rattle.std.specs.Prelude.{ℕ, List, ◌++◌, Option}
+use Rattle.std.specs.Prelude.{◌≡◌, ℕ, true, List, ◌++◌, length, Option}
 use Rattle.std.specs.List.{flat_map}
-use Rattle.nv_arrivals.specs.Doings.{Doing, Said, takings, sayings}
+use Rattle.nv_arrivals.specs.Doings.{Doing, Said, takings, sayings, handings}
 use Rattle.nv_live.specs.declared.incoming.Stopped.{Stopped}
 use Rattle.nv_live.specs.declared.transcript.Transcript.{Transcript}
 use Rattle.nv_live.specs.declared.said_lines.SaidLines.{SaidLines}
 use Rattle.nv_live.specs.declared.coming_lines.ComingLines.{ComingLines}
 use Rattle.nv_live.specs.declared.clients.Clients.{Clients}
+use Rattle.nv_live.specs.declared.hand_overs.HandOvers.{HandOvers}
 use Rattle.nv_live.specs.ComingLines.{HasCome}
 use Rattle.nv_live.specs.Live.{stop_with}
 use Rattle.nv_live.specs.SaidLines.{said_lines}
-use Rattle.nv_live.specs.Transcript.{lines_of}
+use Rattle.nv_live.specs.Transcript.{notes_on}
 use Rattle.nv_live.specs.Writer.{Written, WritesOn}
+use Rattle.nv_script.specs.Scripts.{are_hands}
 
 abbrev pub coming_of : {I O T : Type 0} → Clients I O T → ComingLines I
 coming_of clients = clients.coming
@@ -22,6 +24,9 @@ lines_out_of clients = clients.out
 abbrev pub transcript_from : {I O T : Type 0} → Clients I O T → Transcript T
 transcript_from clients = clients.transcript
 
+abbrev pub hand_overs_of : {I O T : Type 0} → Clients I O T → HandOvers
+hand_overs_of clients = clients.hand_overs
+
 -- why nothing more comes
 abbrev pub stop_among : {I O T : Type 0} → Clients I O T → Option Stopped
 stop_among clients = stop_with clients.coming.stopped clients.out.writer.put
@@ -29,12 +34,15 @@ stop_among clients = stop_with clients.coming.stopped clients.out.writer.put
 abbrev pub clients_text : List Said → List ℕ
 clients_text said = flat_map said_lines said
 
--- Between these two this was done, in order: the lines of the source say what was taken, the lines of what was said stand in the sink beside it, and those of what was taken stand in the transcript.
+-- Between these two this was done, in order: the lines of the source say what was taken, and ask for each hand-over; the lines of what was said are in the sink beside it; and those of what was taken, and of where the leader
+-- handed over, are in the transcript. These lengths are behind the script's, and with them are lengths that a script can have.
 pub record DidLines {I O T : Type 0} (took : I → Option (List (List ℕ))) (unread : I → ℕ) (said : O → Option (List ℕ)) (unsaid : O → ℕ) (noted : T → Option (List ℕ)) (unnoted : T → ℕ)
     (first later : Clients I O T) (done : List Doing) : Type 0 where
-  pub taken : HasCome took unread first.coming later.coming (takings done)
+  pub taken : HasCome took unread first.coming later.coming (takings done) (length (handings done))
   pub written : Written said unsaid first.out.writer later.out.writer (clients_text (sayings done))
-  pub lines : WritesOn noted unnoted first.transcript.writer later.transcript.writer (lines_of (takings done))
+  pub lines : WritesOn noted unnoted first.transcript.writer later.transcript.writer (notes_on done)
+  pub handed : later.hand_overs.lengths.items ≡ first.hand_overs.lengths.items ++ handings done
+  pub planned : are_hands later.hand_overs.lengths.items ≡ true
 
 -- whatever was done before, this is done then
 abbrev pub DoesLines : {I O T : Type 0} → (I → Option (List (List ℕ))) → (I → ℕ) → (O → Option (List ℕ)) → (O → ℕ) → (T → Option (List ℕ)) → (T → ℕ) → Clients I O T → Clients I O T → List Doing → Type 0

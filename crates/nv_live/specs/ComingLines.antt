@@ -1,6 +1,6 @@
 -- What comes as lines.
-use Rattle.std.specs.Prelude.{◌≡◌, ◌==◌, not, ℕ, Bool, true, List, [], ◌∷◌, ◌++◌, Option, Some, None, Ok, length, map, filter, codes, if◌then◌else◌}
-use Rattle.std.specs.List.{concat, flat_map, list_all}
+use Rattle.std.specs.Prelude.{◌≡◌, ◌≤◌, ◌+◌, ◌==◌, ◌||◌, not, bytes_eq, ℕ, Bool, true, List, [], ◌∷◌, ◌++◌, Option, Some, None, Ok, length, map, filter, codes, count_by, if◌then◌else◌}
+use Rattle.std.specs.List.{concat, flat_map, list_all, list_any}
 use Rattle.nv_text.specs.Lines.{line_number}
 use Rattle.nv_arrivals.specs.Arrivals.{Arrival, is_arrival}
 use Rattle.nv_arrivals.specs.Order.{Came, nothing_came, after}
@@ -20,10 +20,18 @@ use Rattle.nv_live.specs.Taking.{faults_by_stop}
 abbrev pub is_plain : ℕ → Bool
 is_plain b = not (b == 10)
 
--- an empty line and one that begins with `#` say nothing
+-- an empty line or one that begins with `#`
+abbrev pub is_comment : List ℕ → Bool
+is_comment [] = true
+is_comment (b ∷ bs) = b == 35
+
+-- an operator's word: the leader is to give up the lead
+abbrev pub is_hand : List ℕ → Bool
+is_hand line = bytes_eq line (codes "hand")
+
+-- it says nothing of what comes
 abbrev pub is_passed : List ℕ → Bool
-is_passed [] = true
-is_passed (b ∷ bs) = b == 35
+is_passed line = is_comment line || is_hand line
 
 abbrev pub says : List ℕ → Bool
 says line = not (is_passed line)
@@ -44,7 +52,8 @@ stop_by_end Failed taken held = Some Unreadable
 -- ---- what has come
 
 -- The bytes of the reads, joined, are the lines so far and then what is held; these lines say the arrivals, each of which may come after those before it.
-pub record Come (before now : Option (List (List ℕ))) (faults later_faults : ℕ) (stopped : Option Stopped) (line held : List ℕ) (came : Came) (taken : ℕ) (arrivals : List Arrival) : Type 0 where
+-- The leader handed over so often for lines `hand`, at most once for each, and was asked for it since or wasn't.
+pub record Come (before now : Option (List (List ℕ))) (faults later_faults : ℕ) (stopped : Option Stopped) (line held : List ℕ) (came : Came) (taken : ℕ) (asked : Bool) (handed : ℕ) (arrivals : List Arrival) : Type 0 where
   pub reads : List (List ℕ)
   pub lines : List (List ℕ)
   pub gave : Gave before reads now
@@ -54,6 +63,12 @@ pub record Come (before now : Option (List (List ℕ))) (faults later_faults : �
   pub limits : list_all is_arrival arrivals ≡ true
   pub orderly : after arrivals nothing_came ≡ Ok came
   pub numbered : taken ≡ length lines
+  -- those before it last handed over, and those since
+  pub earlier : List (List ℕ)
+  pub since : List (List ℕ)
+  pub parted : lines ≡ earlier ++ since
+  pub words : handed ≤ count_by is_hand earlier
+  pub asks : asked ≡ list_any is_hand since
   pub counted : later_faults ≡ faults_by_stop stopped faults
   -- at the end the last read gave nothing, and nothing is held
   pub ended : stopped ≡ Some Ended → ((earlier : List (List ℕ)) × (reads ≡ earlier ++ [] ∷ [])) × (line ++ held ≡ [])
@@ -76,16 +91,26 @@ order_from coming = coming.order
 abbrev pub taken_from : {I : Type 0} → ComingLines I → ℕ
 taken_from coming = coming.taken
 
+abbrev pub asked_from : {I : Type 0} → ComingLines I → Bool
+asked_from coming = coming.asked
+
 abbrev pub stop_from : {I : Type 0} → ComingLines I → Option Stopped
 stop_from coming = coming.stopped
 
--- between these two these arrivals have come; the first two tell what a source gave and how often it failed
-abbrev pub HasCome : {I : Type 0} → (I → Option (List (List ℕ))) → (I → ℕ) → ComingLines I → ComingLines I → List Arrival → Type 0
-HasCome took faults first later arrivals = Come (took first.source) (took later.source) (faults first.source) (faults later.source) later.stopped later.line.items (held_in later.buffer) later.order later.taken arrivals
+-- between these two these arrivals have come, and the leader handed over so often; the first two tell what a source gave and how often it failed
+abbrev pub HasCome : {I : Type 0} → (I → Option (List (List ℕ))) → (I → ℕ) → ComingLines I → ComingLines I → List Arrival → ℕ → Type 0
+HasCome took faults first later arrivals handed =
+    Come (took first.source) (took later.source) (faults first.source) (faults later.source) later.stopped later.line.items (held_in later.buffer) later.order later.taken later.asked handed arrivals
 
 -- whatever arrivals had come before, these have come then
 abbrev pub ComesOn : {I : Type 0} → (I → Option (List (List ℕ))) → (I → ℕ) → ComingLines I → ComingLines I → (List Arrival → List Arrival) → Type 0
-ComesOn took faults old new then_come = (first : ComingLines _) (arrivals : List Arrival) → HasCome took faults first old arrivals → HasCome took faults first new (then_come arrivals)
+ComesOn took faults old new then_come = (first : ComingLines _) (arrivals : List Arrival) (handed : ℕ)
+    → HasCome took faults first old arrivals handed → HasCome took faults first new (then_come arrivals) handed
+
+-- whatever had come before, the leader has handed over once more then
+abbrev pub HandsOn : {I : Type 0} → (I → Option (List (List ℕ))) → (I → ℕ) → ComingLines I → ComingLines I → Type 0
+HandsOn took faults old new = (first : ComingLines _) (arrivals : List Arrival) (handed : ℕ)
+    → HasCome took faults first old arrivals handed → HasCome took faults first new arrivals (handed + 1)
 
 -- a line's newline stands at the beginning of what is held
 abbrev pub IsWhole : List ℕ → Type 0

@@ -6,6 +6,7 @@ pub mod Incoming
 pub mod Writer
 pub mod SaidLines
 pub mod ComingLines
+pub mod HandOvers
 pub mod Transcript
 pub mod Lines
 pub mod Live

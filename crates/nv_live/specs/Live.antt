@@ -1,9 +1,9 @@
 -- The outside of a live run: what was taken, what was said, and the transcript.
-use Rattle.std.specs.Prelude.{ℕ, List, [], ◌∷◌, ◌++◌, Option, None, Some, Result, Ok, Err}
+use Rattle.std.specs.Prelude.{◌≡◌, ℕ, List, [], ◌∷◌, ◌++◌, Option, None, Some, Result, Ok, Err}
 use Rattle.std.specs.List.{flat_map}
 use Rattle.std.specs.declared.alloc.AllocError.{AllocError}
 use Rattle.nv_arrivals.specs.declared.arrival.Arrival as code
-use Rattle.nv_arrivals.specs.Doings.{Doing, Takes, Said, Accepted, Sent, Closed, Printed, takings, sayings}
+use Rattle.nv_arrivals.specs.Doings.{Doing, Takes, Said, Accepted, Sent, Closed, Printed, takings, sayings, handings}
 use Rattle.nv_arrivals.specs.Views.{view}
 use Rattle.nv_outside.specs.Sink.{Put}
 use Rattle.nv_live.specs.declared.incoming.Incoming.{Incoming}
@@ -13,7 +13,7 @@ use Rattle.nv_live.specs.declared.transcript.Transcript.{Transcript}
 use Rattle.nv_live.specs.declared.writer.Writer.{Writer}
 use Rattle.nv_live.specs.declared.live.Live.{Live}
 use Rattle.nv_live.specs.Incoming.{HasTaken}
-use Rattle.nv_live.specs.Transcript.{lines_of}
+use Rattle.nv_live.specs.Transcript.{notes_on}
 use Rattle.nv_live.specs.Writer.{Written, WritesOn}
 
 abbrev pub incoming_of : {I O T : Type 0} → Live I O T → Incoming I
@@ -45,12 +45,13 @@ plain_bytes (Closed i) = []
 abbrev pub plain_text : List Said → List ℕ
 plain_text said = flat_map plain_bytes said
 
--- Between these two this was done, in order: what was taken comes of the source, what was said stands in the sink beside it, and the lines of what was taken stand in the transcript.
+-- Between these two this was done, in order: what was taken comes of the source, what was said stands in the sink beside it, and the lines of what was taken stand in the transcript. Plain input has no words of an operator.
 pub record Did {I O T : Type 0} (took : I → Option (List (List ℕ))) (unread : I → ℕ) (said : O → Option (List ℕ)) (unsaid : O → ℕ) (noted : T → Option (List ℕ)) (unnoted : T → ℕ)
     (first later : Live I O T) (done : List Doing) : Type 0 where
   pub taken : HasTaken took unread first.incoming later.incoming (takings done)
   pub written : Written said unsaid first.out later.out (plain_text (sayings done))
-  pub lines : WritesOn noted unnoted first.transcript.writer later.transcript.writer (lines_of (takings done))
+  pub lines : WritesOn noted unnoted first.transcript.writer later.transcript.writer (notes_on done)
+  pub handed : handings done ≡ []
 
 -- whatever was done before, this is done then
 abbrev pub DoesOn : {I O T : Type 0} → (I → Option (List (List ℕ))) → (I → ℕ) → (O → Option (List ℕ)) → (O → ℕ) → (T → Option (List ℕ)) → (T → ℕ) → Live I O T → Live I O T → List Doing → Type 0

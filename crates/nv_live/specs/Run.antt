@@ -1,5 +1,5 @@
 -- The outside of a live run, of either way, and what its streams show of what was done.
-use Rattle.std.specs.Prelude.{◌≡◌, ℕ, Bool, true, false, List, [], Option, None, IsOk}
+use Rattle.std.specs.Prelude.{◌≡◌, ℕ, Bool, true, false, List, [], length, Option, None, IsOk}
 use Rattle.nv_arrivals.specs.Arrivals.{Arrival}
 use Rattle.nv_arrivals.specs.Doings.{Doing, Said}
 use Rattle.nv_arrivals.specs.Order.{Came, nothing_came}
@@ -51,10 +51,17 @@ stop_of_run (Clients run) = stop_among run
 
 -- ---- what the streams show
 
--- these arrivals came by reads, which gave nothing more but this: as plain input, or by lines of clients, of which one may have begun
-abbrev pub CameBy : Bool → Option (List (List ℕ)) → Option (List (List ℕ)) → ℕ → ℕ → Option Stopped → List ℕ → List ℕ → List Arrival → Type 0
-CameBy false before after unread later stopped line held arrivals = (line ≡ []) × Took before after unread later stopped held arrivals
-CameBy true before after unread later stopped line held arrivals = (came : Came) × (taken : ℕ) × Come before after unread later stopped line held came taken arrivals
+-- These arrivals came by reads, which gave nothing more but this: as plain input, or by lines of clients, of which one may have begun. At these lengths the leader handed over, each time for a line `hand` of its own; plain
+-- input has none.
+abbrev pub CameBy : Bool → Option (List (List ℕ)) → Option (List (List ℕ)) → ℕ → ℕ → Option Stopped → List ℕ → List ℕ → List Arrival → List ℕ → Type 0
+CameBy false before after unread later stopped line held arrivals handed = (line ≡ []) × Took before after unread later stopped held arrivals × (handed ≡ [])
+CameBy true before after unread later stopped line held arrivals handed =
+    (came : Came) × (taken : ℕ) × (asked : Bool) × Come before after unread later stopped line held came taken asked (length handed) arrivals
+
+-- the lengths that the outside of a run knows of its script: plain input needs none
+abbrev pub hands_by : Bool → List ℕ → List ℕ
+hands_by false hands = []
+hands_by true hands = hands
 
 -- what is said: the console's bytes, or lines for the clients
 abbrev pub said_text : Bool → List Said → List ℕ
@@ -77,7 +84,9 @@ module _ {I O T : Type 0} (took : I → Option (List (List ℕ))) (unread : I �
     line = [];
     order = nothing_came;
     taken = 0;
+    asked = false;
     stopped = run.incoming.stopped;
+    hands = [];
     said = said run.out.sink;
     unsaid = unsaid run.out.sink;
     saying = run.out.put;
@@ -93,7 +102,9 @@ module _ {I O T : Type 0} (took : I → Option (List (List ℕ))) (unread : I �
     line = run.coming.line.items;
     order = run.coming.order;
     taken = run.coming.taken;
+    asked = run.coming.asked;
     stopped = run.coming.stopped;
+    hands = run.hand_overs.lengths.items;
     said = said run.out.writer.sink;
     unsaid = unsaid run.out.writer.sink;
     saying = run.out.writer.put;
@@ -103,7 +114,7 @@ module _ {I O T : Type 0} (took : I → Option (List (List ℕ))) (unread : I �
   }
 
   -- A run that has done nothing over these streams but to begin the transcript tells this.
-  pub record IsBegun (clients : Bool) (head : List ℕ) (streams : Streams I O T) (told : Told) : Type 0 where
+  pub record IsBegun (clients : Bool) (head hands : List ℕ) (streams : Streams I O T) (told : Told) : Type 0 where
     pub way : told.clients ≡ clients
     pub read : told.read ≡ took streams.input
     pub unread_is : told.unread ≡ unread streams.input
@@ -111,7 +122,9 @@ module _ {I O T : Type 0} (took : I → Option (List (List ℕ))) (unread : I �
     pub line : told.line ≡ []
     pub order : told.order ≡ nothing_came
     pub taken : told.taken ≡ 0
+    pub asked : told.asked ≡ false
     pub going : told.stopped ≡ None
+    pub hands_are : told.hands ≡ hands_by clients hands
     pub said_is : told.said ≡ said streams.output
     pub unsaid_is : told.unsaid ≡ unsaid streams.output
     pub saying : IsOk told.saying

@@ -9,7 +9,8 @@ use Rattle.nv_live.specs.declared.incoming.Stopped.{Stopped}
 pub nothing_code : Coded (Unit {0})
 nothing_code = hlevel codes
 
--- Of a live run: whether its streams have lines of clients; what each read gave, what is held of it, what has come by whole lines, and why no more is read;
+-- Of a live run: whether its streams have lines of clients; what each read gave, what is held of it, what has come by whole lines, whether a line `hand` is among them that waits, and why no more is read;
+-- the lengths at which leaders hand over, of its script and of such lines;
 -- what was said and what was noted, each with whether all of it was written; and how often each of the three has failed.
 pub record Told : Type 0 where
   pub clients : Bool
@@ -19,7 +20,9 @@ pub record Told : Type 0 where
   pub line : List ℕ
   pub order : Came
   pub taken : ℕ
+  pub asked : Bool
   pub stopped : Option Stopped
+  pub hands : List ℕ
   pub said : Option (List ℕ)
   pub unsaid : ℕ
   pub saying : Put

@@ -1,18 +1,23 @@
 // The outside of a live run of many clients.
-ghost use Rattle.std.specs.Prelude.{◌≡◌, ◌-◌, ◌<◌, ◌^◌, [], Ok, None, IfOk, IsOk, false, true, is_some};
+ghost use Rattle.std.specs.Prelude.{◌≡◌, ◌-◌, ◌<◌, ◌^◌, ◌&&◌, [], Ok, None, IfOk, IsOk, IsTrue, false, true, is_some};
 ghost use Rattle.nv_arrivals.specs.Arrivals.{is_arrival};
 ghost use Rattle.nv_arrivals.specs.Reading.{arrival_of};
+ghost use Rattle.nv_arrivals.specs.Doings.{handing};
 ghost use Rattle.nv_arrivals.specs.Views.{view, taking};
-ghost use Rattle.nv_live.specs.Clients.{coming_of, lines_out_of, transcript_from, stop_among, DidLines, DoesLines};
-ghost use Rattle.nv_live.specs.ComingLines.{source_from, held_from, line_from, order_from, taken_from, stop_from, is_passed, IsWhole};
+ghost use Rattle.nv_live.specs.Clients.{coming_of, lines_out_of, transcript_from, hand_overs_of, stop_among, DidLines, DoesLines};
+ghost use Rattle.nv_live.specs.ComingLines.{source_from, held_from, line_from, order_from, taken_from, asked_from, stop_from, is_passed, IsWhole};
+ghost use Rattle.nv_live.specs.HandOvers.{lengths_of};
 ghost use Rattle.nv_live.specs.Lines.{held_text};
 ghost use Rattle.nv_live.specs.SaidLines.{writer_of};
 ghost use Rattle.nv_live.specs.Transcript.{writer_in};
 ghost use Rattle.nv_outside.specs.Sink.{Puts};
 ghost use Rattle.nv_arrivals.specs.Order.{nothing_came};
 ghost use Rattle.nv_live.specs.Writer.{sink_in, put_of, WritesOn};
+ghost use Rattle.nv_script.specs.HandLines.{can_plan};
+ghost use Rattle.nv_script.specs.Scripts.{are_hands};
 
 use crate::coming_lines::ComingLines;
+use crate::hand_overs::HandOvers;
 use crate::said_lines::SaidLines;
 use crate::transcript::Transcript;
 use crate::{Source, Stopped};
@@ -21,24 +26,28 @@ use nv_outside::{Put, Sink, WriteFailed};
 use std::alloc::{AllocError, Global};
 
 /// Many clients by lines over one pipe each way: what comes, the transcript of what came, and what is said.
-/// What comes are the lines of arrivals, as a script has them; empty lines and those that begin with `#` are passed over.
+/// What comes are the lines of arrivals, as a script has them; empty lines and those that begin with `#` are passed over. A line `hand` asks the
+/// leader to hand over, which the transcript notes by a line `hand LENGTH` once it does.
 /// What is said are the lines `accept N`, `data N HEX`, `close N`, and `output HEX` for the console.
 #[derive(Drop)]
 pub struct Clients<I, O, T> {
     coming: ComingLines<I>,
     out: SaidLines<O>,
     transcript: Transcript<T>,
+    hand_overs: HandOvers,
 }
 
 impl<I: Source, O: Sink + Drop, T: Sink + Drop> Clients<I, O, T> {
-    /// Nothing was read yet and nothing said. The transcript begins with this text.
+    /// Nothing was read yet and nothing said. The transcript begins with this text, which plans these lengths to hand over at.
     pub fn make(
         alloc: Global,
         source: I,
         out: O,
         transcript: T,
         head: &[u8],
+        hands: &[u32],
     ) -> Result<Clients<I, O, T>, AllocError>
+        requires { IsTrue (are_hands hands.now) }
         ensures did { IfOk result (λ clients. DidLines I.took I.faults O.told O.faults T.told T.faults clients clients []) }
         ensures source { IfOk result (λ clients. source_from (coming_of clients) ≡ source) }
         ensures out { IfOk result (λ clients. sink_in (writer_of (lines_out_of clients)) ≡ out) }
@@ -47,6 +56,8 @@ impl<I: Source, O: Sink + Drop, T: Sink + Drop> Clients<I, O, T> {
         ensures line { IfOk result (λ clients. line_from (coming_of clients) ≡ []) }
         ensures order { IfOk result (λ clients. order_from (coming_of clients) ≡ nothing_came) }
         ensures taken { IfOk result (λ clients. taken_from (coming_of clients) ≡ 0) }
+        ensures asked { IfOk result (λ clients. asked_from (coming_of clients) ≡ false) }
+        ensures hands { IfOk result (λ clients. lengths_of (hand_overs_of clients) ≡ hands.now) }
         ensures going { IfOk result (λ clients. stop_from (coming_of clients) ≡ None) }
         ensures whole { IfOk result (λ clients. IsOk (put_of (writer_of (lines_out_of clients)))) }
     {
@@ -54,6 +65,7 @@ impl<I: Source, O: Sink + Drop, T: Sink + Drop> Clients<I, O, T> {
             coming: ComingLines::make(alloc, source)?,
             out: SaidLines::make(out),
             transcript: Transcript::make(alloc, transcript, head),
+            hand_overs: HandOvers::new(hands),
         })
     }
 
@@ -67,6 +79,7 @@ impl<I: Source, O: Sink + Drop, T: Sink + Drop> Clients<I, O, T> {
             coming,
             out,
             transcript,
+            hand_overs: _,
         } = self;
         (coming.finish(), out.finish(), transcript.finish())
     }
@@ -161,5 +174,20 @@ impl<I: Source, O: Sink + Drop, T: Sink + Drop> Outside for Clients<I, O, T> {
 
     fn say(&mut self, said: &Said<'_>) {
         self.out.say(said);
+    }
+
+    /// An operator's word waits while the length isn't one that the transcript, as a script, can have.
+    fn hands_over(&mut self, length: usize) -> bool
+        ensures told { DoesLines I.took I.faults O.told O.faults T.told T.faults self.old self.new (handing result length) }
+        ensures answer { result ≡ (asked_from (coming_of self.old) && can_plan length (lengths_of (hand_overs_of self.old))) }
+        ensures waits { result ≡ false → self.new ≡ self.old }
+    {
+        if !self.coming.asked() || !self.hand_overs.can_take(length) {
+            return false;
+        }
+        self.coming.hand_over();
+        self.hand_overs.take(length);
+        self.transcript.note_hand(length);
+        true
     }
 }

@@ -6,12 +6,12 @@ ghost use Rattle.nv_arrivals.specs.Arrivals.{is_arrival};
 ghost use Rattle.nv_arrivals.specs.Order.{nothing_came};
 ghost use Rattle.nv_arrivals.specs.Reading.{arrival_of};
 ghost use Rattle.nv_arrivals.specs.Views.{view, result_view};
-ghost use Rattle.nv_live.specs.ComingLines.{source_from, held_from, line_from, order_from, taken_from, stop_from, is_plain, is_passed, stop_by_end, ComesOn, HasCome, IsWhole};
+ghost use Rattle.nv_live.specs.ComingLines.{source_from, held_from, line_from, order_from, taken_from, asked_from, stop_from, is_plain, is_comment, is_hand, is_passed, stop_by_end, ComesOn, HandsOn, HasCome, IsWhole};
 
 use crate::buffer::Buffer;
 use crate::{Read, Source, Stopped};
 use nv_arrivals::{Arrival, ArrivalCause, Order, read};
-use nv_text::line_number;
+use nv_text::{is, line_number};
 use std::alloc::{AllocError, Global};
 
 // The most bytes of a line, with its newline.
@@ -27,6 +27,8 @@ pub struct ComingLines<I> {
     order: Order,
     // How many lines were taken.
     taken: usize,
+    // A line `hand` has come since the leader last handed over for one.
+    asked: bool,
     stopped: Option<Stopped>,
 }
 
@@ -50,9 +52,9 @@ fn before_newline(bytes: &[u8]) -> usize
     bytes.iter().take_while(|byte| **byte != b'\n').count()
 }
 
-// Whether the line says nothing.
-fn is_passed(line: &[u8]) -> bool
-    ensures { result ≡ is_passed line.now }
+// Whether the line is a comment or empty.
+fn is_comment(line: &[u8]) -> bool
+    ensures { result ≡ is_comment line.now }
 {
     match line {
         [] => true,
@@ -60,10 +62,24 @@ fn is_passed(line: &[u8]) -> bool
     }
 }
 
+// Whether the line is an operator's.
+fn is_hand(line: &[u8]) -> bool
+    ensures { result ≡ is_hand line.now }
+{
+    is(line, "hand")
+}
+
+// Whether the line says nothing to the guests.
+fn is_passed(line: &[u8]) -> bool
+    ensures { result ≡ is_passed line.now }
+{
+    is_comment(line) || is_hand(line)
+}
+
 impl<I: Source> ComingLines<I> {
     pub fn make(alloc: Global, source: I) -> Result<ComingLines<I>, AllocError>
         ensures source { IfOk result (λ coming. source_from coming ≡ source) }
-        ensures come { IfOk result (λ coming. HasCome I.took I.faults coming coming []) }
+        ensures come { IfOk result (λ coming. HasCome I.took I.faults coming coming [] 0) }
         ensures held { IfOk result (λ coming. held_from coming ≡ []) }
         ensures line { IfOk result (λ coming. line_from coming ≡ []) }
         ensures order { IfOk result (λ coming. order_from coming ≡ nothing_came) }
@@ -76,6 +92,7 @@ impl<I: Source> ComingLines<I> {
             line: Vec::new(alloc),
             order: Order::new(alloc),
             taken: 0,
+            asked: false,
             stopped: None,
         })
     }
@@ -95,6 +112,7 @@ impl<I: Source> ComingLines<I> {
             line: _,
             order: _,
             taken: _,
+            asked: _,
             stopped: _,
         } = self;
         source
@@ -187,6 +205,7 @@ impl<I: Source> ComingLines<I> {
         requires more { taken_from self.old < 2 ^ 64 - 1 }
         ensures source { source_from self.new ≡ source_from self.old }
         ensures order { order_from self.new ≡ order_from self.old }
+        ensures asked { asked_from self.new ≡ asked_from self.old }
         ensures stop { stop_from self.new ≡ stop_from self.old }
         ensures taken { taken_from self.new ≡ taken_from self.old + 1 }
         ensures line { line_from self.new ≡ [] }
@@ -195,6 +214,20 @@ impl<I: Source> ComingLines<I> {
         self.line.clear();
         self.buffer.skip(1);
         self.taken += 1;
+    }
+
+    // Takes a line that says nothing of what comes.
+    fn pass_over(&mut self)
+        requires whole { IsWhole (held_from self.old) }
+        requires going { stop_from self.old ≡ None }
+        requires passed { is_passed (line_from self.old) ≡ true }
+        requires more { taken_from self.old < 2 ^ 64 - 1 }
+        ensures come { ComesOn I.took I.faults self.old self.new (λ arrivals. arrivals) }
+        ensures taken { taken_from self.new ≡ taken_from self.old + 1 }
+        ensures stop { stop_from self.new ≡ stop_from self.old }
+    {
+        self.asked = self.asked || is_hand(&self.line);
+        self.pass();
     }
 
     /// Whether a line that says something is held, which is read where none was.
@@ -212,9 +245,24 @@ impl<I: Source> ComingLines<I> {
             if !is_passed(&self.line) {
                 return Ok(true);
             }
-            self.pass();
+            self.pass_over();
         }
         Ok(false)
+    }
+
+    /// Whether a line `hand` has come since the leader last handed over for one.
+    pub fn asked(&self) -> bool
+        ensures { result ≡ asked_from self.now }
+    {
+        self.asked
+    }
+
+    /// The leader hands over for the lines `hand` that have come.
+    pub fn hand_over(&mut self)
+        requires { asked_from self.old ≡ true }
+        ensures { HandsOn I.took I.faults self.old self.new }
+    {
+        self.asked = false;
     }
 
     /// What the line says.

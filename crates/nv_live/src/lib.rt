@@ -5,14 +5,17 @@
 //! none lost and none made up; the transcript has their lines, each before its arrival is handed on, and behind them, as comments, what was read and not handed on, or a prefix
 //! of that where the count of faults rose;
 //! what is said stands in its sink, in order, as bytes for the console or as lines, or a prefix where its count of faults rose; once that or the
-//! source has stopped nothing more comes.
+//! source has stopped nothing more comes; the leader is told to hand over at most once for each line `hand`, and only at a length that the transcript, as a
+//! script, can have. Law: behind the text of a script the transcript's lines are the script with these arrivals and lengths.
 //! Above: the kernel that takes arrivals, the commands, the program.
 #![tactic(auto)]
 
 mod buffer;
 mod clients;
 mod coming_lines;
+mod hand_overs;
 mod incoming;
+mod laws;
 mod lines;
 mod live;
 mod memory_source;
@@ -26,6 +29,7 @@ mod writer;
 
 pub use clients::Clients;
 pub use incoming::Stopped;
+pub use laws::notes_are_scripts;
 pub use live::Live;
 pub use memory_source::MemorySource;
 pub use run::LiveRun;

@@ -153,4 +153,9 @@ impl<I: Source, O: Sink + Drop, T: Sink + Drop> Outside for Live<I, O, T> {
     fn say(&mut self, said: &Said<'_>) {
         self.out.write(plain_bytes(said));
     }
+
+    /// Plain input has no operator's words.
+    fn hands_over(&mut self, _length: usize) -> bool {
+        false
+    }
 }

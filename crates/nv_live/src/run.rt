@@ -1,9 +1,10 @@
 // The outside of a live run, of either way.
-ghost use Rattle.std.specs.Prelude.{◌≡◌, IfOk, Ok, None};
+ghost use Rattle.std.specs.Prelude.{◌≡◌, IfOk, IsTrue, Ok, None};
 ghost use Rattle.nv_outside.specs.Sink.{Puts};
 ghost use Rattle.nv_live.specs.Lines.{held_text};
 ghost use Rattle.nv_live.specs.Run.{input_of, output_of, notes_of, line_of, held_by, source_stop, stop_of_run, told_run, DidRun, IsBegun};
 ghost use Rattle.nv_live.specs.Writer.{sink_in, put_of, WritesOn};
+ghost use Rattle.nv_script.specs.Scripts.{are_hands};
 
 use crate::clients::Clients;
 use crate::incoming::Stopped;
@@ -22,14 +23,17 @@ pub enum LiveRun<I, O, T> {
 }
 
 impl<I: Source, O: Sink + Drop, T: Sink + Drop> LiveRun<I, O, T> {
-    /// Nothing was read yet and nothing said. The transcript begins with this text, as much of it as can be written.
+    /// Nothing was read yet and nothing said. The transcript begins with this text, as much of it as can be written, which plans these lengths to
+    /// hand over at.
     pub fn begin(
         alloc: Global,
         clients: bool,
         streams: Streams<I, O, T>,
         head: &[u8],
+        hands: &[u32],
     ) -> Result<LiveRun<I, O, T>, AllocError>
-        ensures { IfOk result (λ run. IsBegun I.took I.faults O.told O.faults T.told T.faults clients head.now streams (told_run I.took I.faults O.told O.faults T.told T.faults run)) }
+        requires { IsTrue (are_hands hands.now) }
+        ensures { IfOk result (λ run. IsBegun I.took I.faults O.told O.faults T.told T.faults clients head.now hands.now streams (told_run I.took I.faults O.told O.faults T.told T.faults run)) }
     {
         let Streams {
             input,
@@ -37,7 +41,7 @@ impl<I: Source, O: Sink + Drop, T: Sink + Drop> LiveRun<I, O, T> {
             transcript,
         } = streams;
         if clients {
-            let run = Clients::make(alloc, input, output, transcript, head)?;
+            let run = Clients::make(alloc, input, output, transcript, head, hands)?;
             return Ok(LiveRun::Clients(run));
         }
         let run = Live::make(alloc, input, output, transcript, head)?;
@@ -119,6 +123,13 @@ impl<I: Source, O: Sink + Drop, T: Sink + Drop> Outside for LiveRun<I, O, T> {
         match self {
             LiveRun::Plain(run) => run.say(said),
             LiveRun::Clients(run) => run.say(said),
+        }
+    }
+
+    fn hands_over(&mut self, length: usize) -> bool {
+        match self {
+            LiveRun::Plain(run) => run.hands_over(length),
+            LiveRun::Clients(run) => run.hands_over(length),
         }
     }
 }

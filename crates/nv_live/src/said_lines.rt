@@ -32,7 +32,8 @@ fn put_number(line: &mut Line, value: usize)
     put(line, &digits[..count]);
 }
 
-fn put_numbered(line: &mut Line, word: &[u8], value: usize)
+/// Begins a line with a word and a number.
+pub(crate) fn put_numbered(line: &mut Line, word: &[u8], value: usize)
     requires empty { line.old.items ≡ [] }
     requires few { length word.now ≤ 7 }
     ensures text { line.new.items ≡ word.now ++ decimal_of value }

@@ -3,10 +3,11 @@ ghost use Rattle.std.specs.Prelude.{◌≡◌, OnOk, OnErr, ◌∷◌, []};
 ghost use Rattle.nv_arrivals.specs.Views.{view};
 ghost use Rattle.nv_outside.specs.Sink.{Puts};
 ghost use Rattle.nv_live.specs.Lines.{held_text};
-ghost use Rattle.nv_live.specs.Transcript.{lines_of, writer_in, text_in};
+ghost use Rattle.nv_live.specs.Transcript.{lines_of, hand_text, writer_in, text_in};
 ghost use Rattle.nv_live.specs.Writer.{sink_in, put_of, WritesOn};
 
-use crate::lines::{Line, write_lines};
+use crate::lines::{Line, write_line, write_lines};
+use crate::said_lines::put_numbered;
 use crate::writer::Writer;
 use nv_arrivals::{Arrival, put_line};
 use nv_outside::{Put, Sink};
@@ -81,6 +82,17 @@ impl<T: Sink> Transcript<T> {
         self.write();
         Ok(())
     }
+
+    /// Writes the line of a hand-over at this length of the log, unless a write has failed.
+    pub fn note_hand(&mut self, length: usize)
+        ensures { WritesOn T.told T.faults (writer_in self.old) (writer_in self.new) (hand_text length) }
+    {
+        let mut head = Line::new();
+        put_numbered(&mut head, b"hand ", length);
+        let mut line = Line::new();
+        write_line(&mut self.writer, &mut line, &head, &[]);
+    }
+
     /// Writes, as comments, the bytes of a line that has begun and those behind it.
     pub fn show_held(&mut self, line: &[u8], held: &[u8])
         ensures { WritesOn T.told T.faults (writer_in self.old) (writer_in self.new) (held_text line.now held.now) }

@@ -1,8 +1,7 @@
 -- What a read of a file in memory comes to.
-use Rattle.std.specs.Prelude.{◌≡◌, ◌<◌, ◌≤◌, ℕ, List, Result, Ok, Err, length}
+use Rattle.std.specs.Prelude.{◌≡◌, ◌<◌, ◌≤◌, ℕ, List, Option, None, Some, Result, Ok, Err, length}
 use Rattle.std.specs.declared.alloc.AllocError.{AllocError}
 use Rattle.nv_outside.specs.Counts.{raised}
-use Rattle.nv_outside.specs.Told.{Told, Untold, Missing, Content}
 use Rattle.nv_outside.specs.declared.files.Got.{Got}
 use Rattle.nv_outside.specs.declared.files.Got.TheVariants.{Bytes, Long, Failed}
 
@@ -21,8 +20,7 @@ Copies content limit (Err error) taken later_taken = (length content ≤ limit) 
 abbrev pub Fails : Result Got AllocError → ℕ → ℕ → ℕ → ℕ → Type 0
 Fails result taken later_taken faults later_faults = (result ≡ Ok Failed) × (later_taken ≡ taken) × (later_faults ≡ raised faults 1)
 
--- the file of a name that is told, read without a fault; no file is a fault
-abbrev pub Reads : Told → ℕ → Result Got AllocError → ℕ → ℕ → ℕ → ℕ → Type 0
-Reads Untold limit result taken later_taken faults later_faults = Fails result taken later_taken faults later_faults
-Reads Missing limit result taken later_taken faults later_faults = Fails result taken later_taken faults later_faults
-Reads (Content content) limit result taken later_taken faults later_faults = Copies content limit result taken later_taken × (later_faults ≡ faults)
+-- the content of a file, read without a fault; no file is a fault
+abbrev pub Reads : Option (List ℕ) → ℕ → Result Got AllocError → ℕ → ℕ → ℕ → ℕ → Type 0
+Reads None limit result taken later_taken faults later_faults = Fails result taken later_taken faults later_faults
+Reads (Some content) limit result taken later_taken faults later_faults = Copies content limit result taken later_taken × (later_faults ≡ faults)

@@ -23,7 +23,6 @@ module _ {K B : Type 0} (hist : K → List Entry) (beg : K → B) (p : Layout K)
       let opened = k.opened_is in
       let one = k.one_ready in
       let inside = r.common.places.holder_is_open in
-      let all = r.common.doors.all in
       let few = r.common.doors.planned in
       let most = below_most p.hands.value.items (length r.log + 1) in
       (omega arith, omega arith)

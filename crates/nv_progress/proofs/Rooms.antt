@@ -19,7 +19,7 @@ use Rattle.nv_room.specs.declared.view.Layout.{Layout}
 use Rattle.nv_room.specs.declared.view.Role.TheVariants.{Reader, Lead, Opening, Leaving, Moving}
 use Rattle.nv_room.specs.Owner.{GONE, Phase, held, free, closed, owner_word}
 use Rattle.nv_room.specs.Placement.{Fits, Log, next_slot, word_place}
-use Rattle.nv_room.specs.Room.{cursor, Has, Live, Rule}
+use Rattle.nv_room.specs.Room.{cursor, MayHand, Live, Rule}
 use Rattle.nv_room.specs.Spans.{LastHasEvent}
 use Rattle.nv_room.specs.Steps.{SpellLawful, gave_up, goes_ahead, hands_over, left, looked_cursor, looked_head, looked_owner, moves_over, opens as opened_next, probed, published, read_word, spare, took, wrote_word}
 use Rattle.nv_room.proofs.Looks.{looks_cursor as allows_cursor, looks_head as allows_head, looks_owner as allows_owner, reads_word}
@@ -63,7 +63,7 @@ module _ {K B : Type 0} (hist : K → List Entry) (beg : K → B) (p : Layout K)
   pub goes_cursor : (t : ℕ) → t < p.stations → Goes hist beg p s id me (looks_cursor t (cursor s.words t))
   goes_cursor t near = looked (cursor_index t) (looked_cursor (step slots (cursor_index t) 0 0 none) me) (looks_cursor t (cursor s.words t)) (allows_cursor hist beg p slots id t me near) (λ m' q. (refl, q)) refl
 
-  pub goes_spare : me.0.role ≡ Lead → Has p.hands.value.items (length me.0.seen) → LastHasEvent me.0.spans → Goes hist beg p s id me (looks_spare (get_or s.words head_index 0))
+  pub goes_spare : me.0.role ≡ Lead → MayHand p.stations p.hands.value.items me.0.opened (length me.0.seen) → LastHasEvent me.0.spans → Goes hist beg p s id me (looks_spare (get_or s.words head_index 0))
   goes_spare role plan led = looked head_index (spare (step slots head_index 0 0 none) me) (looks_spare (get_or s.words head_index 0)) (spares hist beg p slots id head_index me role plan led) (λ m' t. (role, t)) refl
 
   pub goes_probe : (l : ℕ) → me.0.role ≡ Reader → l < 8 → Lives me.0.seen l → length me.0.seen < me.0.head_last → Goes hist beg p s id me (probes l (get_or s.words (next_slot p.stations p.places (lanes_after me.0.seen) l 1) 0))
@@ -106,7 +106,7 @@ module _ {K B : Type 0} (hist : K → List Entry) (beg : K → B) (p : Layout K)
   pub goes_away : (me.0.role ≡ Reader) ⊎ (me.0.role ≡ Leaving) → Goes hist beg p s id me leaves
   goes_away role = wrote (cursor_index me.0.station) GONE (left (step slots (cursor_index me.0.station) GONE 0 none) me GONE) leaves (allows_leave hist beg p slots id GONE me role refl) (λ m' t. (role, t)) refl
 
-  pub goes_open : me.0.role ≡ Lead → me.0.wrote ≡ [] → Has p.hands.value.items (length me.0.seen) → LastHasEvent me.0.spans → Goes hist beg p s id me opens
+  pub goes_open : me.0.role ≡ Lead → me.0.wrote ≡ [] → MayHand p.stations p.hands.value.items me.0.opened (length me.0.seen) → LastHasEvent me.0.spans → Goes hist beg p s id me opens
   goes_open role quiet plan led = wrote (cursor_index me.0.opened) (length me.0.seen) (opened_next (step slots (cursor_index me.0.opened) (length me.0.seen) 0 none) me (length me.0.seen)) opens
       (opens_next hist beg p slots id (length me.0.seen) me role quiet plan led refl) (λ m' t. (role, t)) refl
 

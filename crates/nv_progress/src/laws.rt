@@ -16,7 +16,7 @@ ghost use Rattle.nv_room.specs.declared.view.Layout.{Layout};
 ghost use Rattle.nv_room.specs.declared.view.Role.TheVariants.{Lead, Leaving, Moving, Opening, Reader};
 ghost use Rattle.nv_room.specs.Owner.{Phase, closed, free, held, owner_word};
 ghost use Rattle.nv_room.specs.Placement.{Fits, Log, next_slot, word_place};
-ghost use Rattle.nv_room.specs.Room.{Has, Leads, Rule, cursor};
+ghost use Rattle.nv_room.specs.Room.{MayHand, Leads, Rule, cursor};
 ghost use Rattle.nv_room.specs.Spans.{LastHasEvent};
 ghost use Rattle.nv_room.specs.Steps.{SpellLawful};
 ghost use Rattle.nv_ring.specs.Places.{FitsAll, IsFull};
@@ -82,7 +82,7 @@ pub fn the_room_allows_these_steps<K: SyscallKernel>()
     ensures head { (p : Layout K) (id : ℕ) (me : Me (Option K) (View K)) → MayDo K.log K.start p id me (λ ws. looks_head (slice_index_or ws head_index 0)) }
     ensures owner { (p : Layout K) (id : ℕ) (me : Me (Option K) (View K)) → me.0.role ≡ Reader → MayDo K.log K.start p id me (λ ws. looks_owner (slice_index_or ws owner_index 0)) }
     ensures cursor { (p : Layout K) (id : ℕ) (me : Me (Option K) (View K)) (t : ℕ) → t < p.stations → MayDo K.log K.start p id me (λ ws. looks_cursor t (cursor ws t)) }
-    ensures spare { (p : Layout K) (id : ℕ) (me : Me (Option K) (View K)) → me.0.role ≡ Lead → Has p.hands.value.items (length me.0.seen) → LastHasEvent me.0.spans → MayDo K.log K.start p id me (λ ws. looks_spare (slice_index_or ws head_index 0)) }
+    ensures spare { (p : Layout K) (id : ℕ) (me : Me (Option K) (View K)) → me.0.role ≡ Lead → MayHand p.stations p.hands.value.items me.0.opened (length me.0.seen) → LastHasEvent me.0.spans → MayDo K.log K.start p id me (λ ws. looks_spare (slice_index_or ws head_index 0)) }
     ensures probes { (p : Layout K) (id : ℕ) (me : Me (Option K) (View K)) (l : ℕ) → me.0.role ≡ Reader → l < 8 → Lives me.0.seen l → length me.0.seen < me.0.head_last
         → MayDo K.log K.start p id me (λ ws. probes l (slice_index_or ws (next_slot p.stations p.places (lanes_after me.0.seen) l 1) 0)) }
     ensures reads { (p : Layout K) (id : ℕ) (me : Me (Option K) (View K)) (i l : ℕ) → me.0.role ≡ Reader → ¬ IsWhole me.0.read → me.0.noted ≡ Some l
@@ -95,7 +95,7 @@ pub fn the_room_allows_these_steps<K: SyscallKernel>()
     ensures gives_up { (p : Layout K) (id : ℕ) (me : Me (Option K) (View K)) (k : K) (ph : Phase) → me.0.role ≡ Lead → me.1 ≡ (0, Some k) ∷ [] → me.0.wrote ≡ [] → map spell (K.log k) ≡ me.0.seen → IsLawful (K.log k)
         → ForSome me.0.start (λ s. K.start k ≡ K.start s.value) → ph ≢ held → (ph ≡ closed → live_after (K.log k) ≡ []) → MayDo K.log K.start p id me (λ _. gives_up (owner_word ph me.0.station me.0.opened (length me.0.seen))) }
     ensures leaves { (p : Layout K) (id : ℕ) (me : Me (Option K) (View K)) → (me.0.role ≡ Reader) ⊎ (me.0.role ≡ Leaving) → MayDo K.log K.start p id me (λ _. leaves) }
-    ensures opens { (p : Layout K) (id : ℕ) (me : Me (Option K) (View K)) → me.0.role ≡ Lead → me.0.wrote ≡ [] → Has p.hands.value.items (length me.0.seen) → LastHasEvent me.0.spans → MayDo K.log K.start p id me (λ _. opens) }
+    ensures opens { (p : Layout K) (id : ℕ) (me : Me (Option K) (View K)) → me.0.role ≡ Lead → me.0.wrote ≡ [] → MayHand p.stations p.hands.value.items me.0.opened (length me.0.seen) → LastHasEvent me.0.spans → MayDo K.log K.start p id me (λ _. opens) }
     ensures hands { (p : Layout K) (id : ℕ) (me : Me (Option K) (View K)) (k : K) → me.0.role ≡ Opening → me.1 ≡ (0, Some k) ∷ [] → map spell (K.log k) ≡ me.0.seen → IsLawful (K.log k)
         → ForSome me.0.start (λ s. K.start k ≡ K.start s.value) → MayDo K.log K.start p id me (λ _. hands (owner_word free me.0.station (me.0.opened + 1) (length me.0.seen))) }
     ensures moves { (p : Layout K) (id : ℕ) (me : Me (Option K) (View K)) → me.0.role ≡ Moving → MayDo K.log K.start p id me (λ _. moves) }

@@ -1,7 +1,7 @@
-//! How a lead gives up the lead at a planned length.
+//! How a lead hands over.
 ghost use Rattle.std.specs.Prelude.{◌≡◌, [], true, false, length};
 ghost use Rattle.nv_room.specs.Spans.{LastHasEvent};
-ghost use Rattle.nv_room.specs.Room.{Has};
+ghost use Rattle.nv_room.specs.Room.{MayHand};
 ghost use Rattle.nv_room.specs.Steps.{as_opening, as_moving, as_reader};
 ghost use Rattle.nv_room.specs.Owner.{is_free, owner_at};
 ghost use Rattle.nv_room.specs.Kinds.{Stepped};
@@ -10,12 +10,13 @@ ghost use Rattle.nv_room.specs.Seats.{IsOfRoom, IsLeadOf, stations_of, view, lea
 use nv_room::{Lead, Reader, Room};
 use nv_served::SyscallKernel;
 
-/// The log has just come to a planned length, and the lead has led an event. The kernel goes home, the room is free at head for another
-/// station to lead, and the seat reads on at a new station, the last. It can't fail and takes no memory.
+/// The log has just reached a planned length, or a station is left beside those kept for the planned lengths above it; and the lead
+/// has led an event. The kernel goes home, the room is free at head for another station to lead, and the seat reads on at a new
+/// station, the last. It can't fail and takes no memory.
 pub fn hand<K: SyscallKernel>(lead: Lead<K>, room: &Room<K>) -> Reader<K>
     requires of { IsLeadOf room.now lead }
     requires none_due { due_of lead ≡ false }
-    requires planned { Has (hands_of room.now) (length (lead_view lead).seen) }
+    requires may { MayHand (stations_of room.now) (hands_of room.now) (lead_view lead).opened (length (lead_view lead).seen) }
     requires led { LastHasEvent (lead_view lead).spans }
     ensures of { IsOfRoom room.now result }
     ensures station { (station_of_reader result ≡ opened_of lead) × (version_of_reader result ≡ version_of_lead lead) }

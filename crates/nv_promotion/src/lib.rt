@@ -1,4 +1,4 @@
-//! The change of leader: a lead gives up the kernel, the lowest station left takes it; or it hands over at a planned length.
+//! The change of leader: a lead gives up the kernel, the lowest station left takes it; or it hands over.
 //! Types: `Lower`; functions `retire`, `close`, `leave`, `hand`, `lower_gone`, `take`.
 //! Proved: each does what its clause says; who takes the lead has seen the whole log, and who handed over reads on with all
 //! that it has seen.

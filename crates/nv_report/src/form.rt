@@ -1,5 +1,5 @@
 // The whole report as JSON.
-ghost use Rattle.std.specs.Prelude.{◌≡◌, IfOk, map, string_bytes};
+ghost use Rattle.std.specs.Prelude.{◌≡◌, IfOk, map};
 ghost use Rattle.serde_json.specs.View.{view};
 ghost use Rattle.nv_calls.specs.Logs.{output_of};
 ghost use Rattle.nv_replay.specs.Version.{standing_of};
@@ -41,10 +41,11 @@ fn report_value<K: SyscallKernel + Recorded>(
 pub fn json<K: SyscallKernel + Recorded>(
     alloc: Global,
     account: &Account<K>,
-) -> Result<String, AllocError>
-    ensures { IfOk result (λ text. string_bytes text ≡ json_text (output_of (K.known account.now.kernel) (K.log account.now.kernel))
+) -> Result<Vec<u8>, AllocError>
+    ensures { IfOk result (λ bytes. bytes.items ≡ json_text (output_of (K.known account.now.kernel) (K.log account.now.kernel))
         (record { log = K.log account.now.kernel; lines = map standing_of account.now.versions.items })) }
 {
     let value = report_value(alloc, account)?;
-    value.to_string(alloc)
+    let text = value.to_string(alloc)?;
+    Ok(text.into_bytes())
 }

@@ -272,7 +272,7 @@ module _ {K B : Type 0} (hist : K → List Entry) (beg : K → B) (p : Layout K)
       }
 
   -- the room opens free at 0, with the kernel home
-  pub opens : (ws : List ℕ) (k : K) → hist k ≡ [] → p.start.value ≡ k → 0 < p.versions → p.stations ≡ p.versions + length (planned hist beg p) → p.stations ≤ 16 → 0 < p.places
+  pub opens : (ws : List ℕ) (k : K) → hist k ≡ [] → p.start.value ≡ k → 0 < p.versions → p.versions + length (planned hist beg p) ≤ p.stations → p.stations ≤ 16 → 0 < p.places
       → length ws ≡ table_words p.stations p.places → get_or ws 0 0 ≡ p.versions * 64 → ((i : ℕ) → i ≢ 0 → get_or ws i 0 ≡ 0) → RuleOf (opening ws (Some k ∷ []) (first p))
   opens ws k empty same some_version all few pos wide word zeros = let u : ℕ = p.versions in let cur : (z : ℕ) → cursor ws z ≡ 0 = λ z. zeros (cursor_index z) (λ e. omega arith) in let long = length-numbers 0 u in record {
     log = [];

@@ -21,7 +21,7 @@ use Rattle.nv_places.specs.Header.{cursor_index}
 use Rattle.nv_room.specs.Owner.{GONE, Phase, held, free, owner_word, owner_at}
 use Rattle.nv_room.specs.Spans.{Tiles, Rising, of_station, of_version, handed_on, LastHasEvent, IsLastStation, Opened}
 use Rattle.nv_room.specs.Planned.{below}
-use Rattle.nv_room.specs.Room.{cursor, Moment, as_of, Places, Doors, Turns, Led, Live, Leads, Has, tag, NoClash, IsKernel, AtHome, Rule}
+use Rattle.nv_room.specs.Room.{cursor, Moment, as_of, Places, Doors, Turns, Led, Live, Leads, Has, MayHand, tag, NoClash, IsKernel, AtHome, Rule}
 use Rattle.nv_room.specs.Steps.{spare, as_opening, opens, as_moving, hands_over, as_reader, moves_over as moved_on}
 use Rattle.nv_room.proofs.Lists.{at_below, at_end, set_or}
 use Rattle.nv_room.proofs.Tiling.{last_apart, with_none, tiles_handed, rising_handed, handed_end, opened_handed, last_other, last_new}
@@ -50,9 +50,9 @@ module _ (m : Moment) (l : Last m) where
     unled_is_free = λ e. let a = ap (λ (z : List Span). length z) (sym ends ∙ e) in let b = length-append l.before (x' ∷ []) in absurd (omega arith);
   }
 
-  turns_handed : (versions : ℕ) (hands : List ℕ) (ph : Phase) (len : ℕ) → Turns versions hands m.phase len m.spans m.seating → m.phase ≡ held → ph ≢ held
-      → IsLastStation m.seating l.last.version l.last.station → Turns versions hands ph len (handed_on m.spans) (m.seating ++ l.last.version ∷ [])
-  turns_handed versions hands ph len t is over last = record {
+  turns_handed : (n versions : ℕ) (hands : List ℕ) (ph : Phase) (len : ℕ) → Turns n versions hands m.phase len m.spans m.seating → m.phase ≡ held → ph ≢ held
+      → IsLastStation m.seating l.last.version l.last.station → Turns n versions hands ph len (handed_on m.spans) (m.seating ++ l.last.version ∷ [])
+  turns_handed n versions hands ph len t is over last = record {
     who_is = λ i y e. at_longer m.seating (l.last.version ∷ []) y.station y.version (who_last m l m.seating x' refl refl t.who_is i y (ap (λ (z : List Span). get_elem? z i) (sym ends) ∙ e));
     opened = subst (Opened versions (m.seating ++ l.last.version ∷ [])) (sym ends) (opened_handed versions m.seating l.before l.last (t.unhanded is l.before l.last l.is) last (subst (Opened versions m.seating) l.is t.opened));
     unhanded = λ e. absurd (over e);
@@ -92,15 +92,17 @@ module _ {K B : Type 0} (hist : K → List Entry) (beg : K → B) (p : Layout K)
   abbrev M : Type 0
   M = Me (Option K) (View K)
 
-  -- where a lead that has led an event comes to a planned length, a station is left
-  left_station : (s : St) (r : RuleOf s) (id : ℕ) (v : View K) → get_elem? s.views id ≡ some v → v.role ≡ Lead → Has (planned hist beg p) (length v.seen) → LastHasEvent v.spans
-      → length r.seating + 1 ≤ p.versions + below (planned hist beg p) (length r.log + 1)
-  left_station s r id v at role plan led = let m : Moment = now hist beg p s r in let ir = in_role hist beg p s r id v at Lead role in let live : Live v.role = subst Live (sym role) tt in let se = (r.each_seat id v at).seated live in
+  -- where a lead that has led an event may hand over, a station is left
+  left_station : (s : St) (r : RuleOf s) (id : ℕ) (v : View K) → get_elem? s.views id ≡ some v → v.role ≡ Lead → MayHand p.stations (planned hist beg p) v.opened (length v.seen) → LastHasEvent v.spans
+      → length r.seating + 1 + length (planned hist beg p) ≤ p.stations + below (planned hist beg p) (length r.log + 1)
+  left_station s r id v at role may led = let m : Moment = now hist beg p s r in let ir = in_role hist beg p s r id v at Lead role in let live : Live v.role = subst Live (sym role) tt in let se = (r.each_seat id v at).seated live in
       let l : Last m = last_span m r.common.led ir.is_held in let mine = lead_last hist beg p s r id v at live ir.is_holder l in
       let a = r.common.turns.left_over ir.is_held (has_led m l v.version mine (subst LastHasEvent se.spans_are led)) in
-      let b = below_planned (planned hist beg p) (length r.log) (subst (Has (planned hist beg p)) ir.seen_is_log plan) in omega arith
+      ⊎_elim (λ (plan : Has (planned hist beg p) (length v.seen)). let b = below_planned (planned hist beg p) (length r.log) (subst (Has (planned hist beg p)) ir.seen_is_log plan) in omega arith)
+      (λ (spare : v.opened + length (planned hist beg p) < p.stations + below (planned hist beg p) (length v.seen + 1)).
+      let b = subst (λ (z : ℕ). v.opened + length (planned hist beg p) < p.stations + below (planned hist beg p) (z + 1)) ir.seen_is_log spare in let e = ir.opened_is in omega arith) may
 
-  pub spares : (slots id k : ℕ) (me : M) → me.0.role ≡ Lead → Has (planned hist beg p) (length me.0.seen) → LastHasEvent me.0.spans → Allows RuleOf slots id me k (λ x. x) (spare (step slots k 0 0 none) me)
+  pub spares : (slots id k : ℕ) (me : M) → me.0.role ≡ Lead → MayHand p.stations (planned hist beg p) me.0.opened (length me.0.seen) → LastHasEvent me.0.spans → Allows RuleOf slots id me k (λ x. x) (spare (step slots k 0 0 none) me)
   spares slots id k me role plan led s r wide at _ = let v = me.0 in let kn = r.each_seat id v at in let ir = in_role hist beg p s r id v at Lead role in let live : Live v.role = subst Live (sym role) tt in
       let a = left_station s r id v at role plan led in
       let b = below_most (planned hist beg p) (length r.log + 1) in
@@ -118,7 +120,7 @@ module _ {K B : Type 0} (hist : K → List Entry) (beg : K → B) (p : Layout K)
       )
 
   -- the first station that isn't open gets head as its cursor
-  pub opens_next : (slots id new : ℕ) (me : M) → me.0.role ≡ Lead → me.0.wrote ≡ [] → Has (planned hist beg p) (length me.0.seen) → LastHasEvent me.0.spans → new ≡ length me.0.seen
+  pub opens_next : (slots id new : ℕ) (me : M) → me.0.role ≡ Lead → me.0.wrote ≡ [] → MayHand p.stations (planned hist beg p) me.0.opened (length me.0.seen) → LastHasEvent me.0.spans → new ≡ length me.0.seen
       → Allows RuleOf slots id me (cursor_index me.0.opened) (λ _. new) (λ _. opens (step slots (cursor_index me.0.opened) new 0 none) me new)
   opens_next slots id new me role quiet plan led is s r wide at _ = let v = me.0 in let n : ℕ = p.stations in let c : ℕ = p.places in let len : ℕ = length r.log in
       let kn = r.each_seat id v at in let pl = r.common.places in let d = r.common.doors in
@@ -243,8 +245,8 @@ module _ {K B : Type 0} (hist : K → List Entry) (beg : K → B) (p : Layout K)
       (omega arith) pl.lower_are_gone (λ e. absurd (over e))
       (λ z ne l. dite (ℕ_discrete z (length r.seating)) (λ e. inr (let q : cursor s.words z ≡ cursor s.words (length r.seating) = ap (cursor s.words) e in omega arith)) (λ ne'. inl (ne, omega arith))) in
       let led : Led m' = led_handed m l ws' free whos' r.ready r.common.led in
-      let turns : Turns p.versions (planned hist beg p) free len spans' whos' =
-      subst (λ (z : ℕ). Turns p.versions (planned hist beg p) free len spans' (r.seating ++ z ∷ [])) mine (turns_handed m l p.versions (planned hist beg p) free len r.common.turns ir.is_held over
+      let turns : Turns p.stations p.versions (planned hist beg p) free len spans' whos' =
+      subst (λ (z : ℕ). Turns p.stations p.versions (planned hist beg p) free len spans' (r.seating ++ z ∷ [])) mine (turns_handed m l p.stations p.versions (planned hist beg p) free len r.common.turns ir.is_held over
       (subst (λ (z : ℕ). IsLastStation r.seating z l.last.station) (sym mine) (subst (λ (z : ℕ). IsLastStation r.seating v.version z) (ir.is_holder ∙ sym l.holders) se.last))) in
       let doors : Doors n p.versions (planned hist beg p) m' = record {
         all = d.all;
@@ -379,7 +381,7 @@ module _ {K B : Type 0} (hist : K → List Entry) (beg : K → B) (p : Layout K)
       )
 
   -- the same at the words that the code computes
-  pub opens_at : (slots id k new : ℕ) (me : M) → me.0.role ≡ Lead → me.0.wrote ≡ [] → Has (planned hist beg p) (length me.0.seen) → LastHasEvent me.0.spans → k ≡ cursor_index me.0.opened → new ≡ length me.0.seen
+  pub opens_at : (slots id k new : ℕ) (me : M) → me.0.role ≡ Lead → me.0.wrote ≡ [] → MayHand p.stations (planned hist beg p) me.0.opened (length me.0.seen) → LastHasEvent me.0.spans → k ≡ cursor_index me.0.opened → new ≡ length me.0.seen
       → Allows RuleOf slots id me k (λ _. new) (λ _. opens (step slots k new 0 none) me new)
   opens_at slots id k new me role quiet plan led at is = subst (λ (z : ℕ). Allows RuleOf slots id me z (λ _. new) (λ _. opens (step slots z new 0 none) me new)) (sym at) (opens_next slots id new me role quiet plan led is)
 

@@ -137,7 +137,7 @@ module _ {K B : Type 0} (hist : K → List Entry) (beg : K → B) (p : Layout K)
         gone_last = λ v z l g. l;
       } in
       let doors : Doors n p.versions (planned hist beg p) m' = doors_owned n c m new pl ph r.holder r.spans p.versions (planned hist beg p) (inl ir.none_ready) r.common.doors in
-      let turns : Turns p.versions (planned hist beg p) ph (length r.log) r.spans r.seating = record { who_is = r.common.turns.who_is; opened = r.common.turns.opened; unhanded = λ e. absurd (over e); left_over = λ e. absurd (over e) } in
+      let turns : Turns p.stations p.versions (planned hist beg p) ph (length r.log) r.spans r.seating = record { who_is = r.common.turns.who_is; opened = r.common.turns.opened; unhanded = λ e. absurd (over e); left_over = λ e. absurd (over e) } in
       let w : View K = as_leaving v new in
       let tags : NoClash (map tag (set s.views id w)) = subst NoClash (sym (map-set tag s.views id w)) (apart_role hist beg p s r id v Leaving at (subst Live (sym role) tt)) in (
         w,
@@ -236,8 +236,8 @@ module _ {K B : Type 0} (hist : K → List Entry) (beg : K → B) (p : Layout K)
         unled_is_free = λ e. let q = length-append m.spans (span st v n n ∷ []) in let z = ap (λ (z : List Span). length z) e in absurd (omega arith);
       }
 
-  turns_more : (m : Moment) (st v n : ℕ) → Turns p.versions (planned hist beg p) m.phase (length m.log) m.spans m.seating → get_elem? m.seating st ≡ some v
-      → Turns p.versions (planned hist beg p) held (length m.log) (m.spans ++ span st v n n ∷ []) m.seating
+  turns_more : (m : Moment) (st v n : ℕ) → Turns p.stations p.versions (planned hist beg p) m.phase (length m.log) m.spans m.seating → get_elem? m.seating st ≡ some v
+      → Turns p.stations p.versions (planned hist beg p) held (length m.log) (m.spans ++ span st v n n ∷ []) m.seating
   turns_more m st v n t has = record {
     who_is = λ i x e. ⊎_elim (λ (q : get_elem? m.spans i ≡ some x). t.who_is i x q)
         (λ (q : (i ≡ length m.spans) × (span st v n n ≡ x)). subst (λ (z : Span). get_elem? m.seating z.station ≡ some z.version) q.1 has) (at_end m.spans (span st v n n) x i e);

@@ -5,7 +5,7 @@ ghost use Rattle.nv_calls.specs.Logs.{served, live_after, IsLawful};
 ghost use Rattle.nv_served.specs.Learning.{GoesOn};
 ghost use Rattle.nv_calls.specs.Shapes.{IsShaped};
 ghost use Rattle.nv_calls.specs.Limits.{MOST_BYTES, MOST_EVENTS};
-ghost use Rattle.nv_room.specs.Seats.{view, lead_view, station_of_reader, version_of_reader, station_of_lead, version_of_lead, opened_of, stations_of, versions_of, places_of, kernel_of, due_of, SameLead};
+ghost use Rattle.nv_room.specs.Seats.{view, lead_view, station_of_reader, version_of_reader, station_of_lead, version_of_lead, opened_of, stations_of, versions_of, places_of, on_demand_of, kernel_of, due_of, SameLead};
 ghost use Rattle.nv_lanes.specs.Lanes.{lives};
 ghost use Rattle.nv_pool.specs.Chunks.{chunks_of};
 ghost use Rattle.nv_room.specs.Placement.{pool_chunks, chunks_from};
@@ -86,6 +86,18 @@ impl<K: SyscallKernel> Lead<K> {
         self.due = true;
     }
 
+    /// Whether the kernel asks the lead to hand over here. Nothing of the room's changes, and the lead need not do so.
+    pub fn hands_over(&mut self) -> bool
+        ensures same { SameLead self.old self.new }
+        ensures view { lead_view self.new ≡ lead_view self.old }
+        ensures due { due_of self.new ≡ due_of self.old }
+        ensures log { K.log (kernel_of self.new) ≡ K.log (kernel_of self.old) }
+        ensures start { K.start (kernel_of self.new) ≡ K.start (kernel_of self.old) }
+        ensures known { K.known (kernel_of self.new) ≡ K.known (kernel_of self.old) }
+    {
+        self.kernel.hands_over()
+    }
+
     /// No more than was last seen of a station's cursor.
     pub fn floor(&self, station: u32) -> u32
         requires { station < 16 }
@@ -158,7 +170,7 @@ impl<K: SyscallKernel> Reader<K> {
 }
 
 impl<K: SyscallKernel> Room<K> {
-    /// One for each version, and one more for each planned length.
+    /// One for each version, and eight more for as many hand-overs.
     pub fn stations(&self) -> u32
         ensures value { result ≡ stations_of self.now }
         ensures few { result ≤ 16 }
@@ -171,6 +183,13 @@ impl<K: SyscallKernel> Room<K> {
         ensures few { result ≤ 8 }
     {
         self.versions
+    }
+
+    /// Whether a lead may hand over where no length is planned, too.
+    pub fn on_demand(&self) -> bool
+        ensures { result ≡ on_demand_of self.now }
+    {
+        self.on_demand
     }
 
     /// How many events the room holds at once.

@@ -64,6 +64,7 @@ impl<K: SyscallKernel> Room<K> {
             stations: _,
             versions: _,
             places: _,
+            on_demand: _,
             mut counts,
         } = self;
         let Some(base) = left.pop() else {

@@ -1,11 +1,11 @@
-//! The steps with which a lead gives up the lead at a planned length of the log, and reads on at a new station, the last.
+//! The steps with which a lead hands over, and reads on at a new station, the last.
 ghost use Rattle.std.specs.Prelude.{◌≡◌, ◌<◌, ◌≤◌, [], ◌∷◌, true, false, length};
 ghost use Rattle.nv_calls.specs.Logs.{IsLawful};
 ghost use Rattle.nv_room.specs.Owner.{is_free, owner_at, opened_at};
 ghost use Rattle.nv_room.specs.Spans.{LastHasEvent};
-ghost use Rattle.nv_room.specs.Room.{Has};
+ghost use Rattle.nv_room.specs.Room.{MayHand};
 ghost use Rattle.nv_room.specs.Steps.{as_opening, as_moving, as_reader};
-ghost use Rattle.nv_room.specs.Seats.{IsOfRoom, IsLeadOf, IsOpeningOf, IsMovingOf, view, lead_view, opening_view, moving_view, due_of, hands_of};
+ghost use Rattle.nv_room.specs.Seats.{IsOfRoom, IsLeadOf, IsOpeningOf, IsMovingOf, view, lead_view, opening_view, moving_view, due_of, stations_of, hands_of};
 
 use crate::plays::{Hand, LookSpare, Move, OpenNext};
 use crate::room::{Lead, Moving, Opening, Reader, Room};
@@ -13,12 +13,12 @@ use crate::steps::{FIRST_CURSOR, GONE, HEAD, LINE, OWNER};
 use nv_served::SyscallKernel;
 
 impl<K: SyscallKernel> Room<K> {
-    /// The first station that isn't open gets head as its cursor. There is one wherever the log has just come to a
-    /// planned length.
+    /// The first station that isn't open gets head as its cursor. There is one wherever the log has just reached a planned
+    /// length, or where more stations are left than there are planned lengths above it.
     pub fn open_step(&self, lead: Lead<K>) -> Opening<K>
         requires of { IsLeadOf self.now lead }
         requires none_due { due_of lead ≡ false }
-        requires planned { Has (hands_of self.now) (length (lead_view lead).seen) }
+        requires may { MayHand (stations_of self.now) (hands_of self.now) (lead_view lead).opened (length (lead_view lead).seen) }
         requires led { LastHasEvent (lead_view lead).spans }
         ensures of { IsOpeningOf self.now result }
         ensures view { opening_view result ≡ as_opening (lead_view lead) }

@@ -1,7 +1,7 @@
 -- A transcript of what was done outside, as text: what was taken behind a <, and what was said behind a >.
 use Rattle.std.specs.Prelude.{◌≡◌, ◌+◌, ◌%◌, ℕ, false, List, [], ◌∷◌, ◌++◌}
 use Rattle.nv_arrivals.specs.Arrivals.{Arrival, Input, InputEnd, ClientsEnd, Connect, Data, End}
-use Rattle.nv_arrivals.specs.Doings.{Said, Accepted, Sent, Closed, Printed, Doing, Takes, Says}
+use Rattle.nv_arrivals.specs.Doings.{Said, Accepted, Sent, Closed, Printed, Doing, Takes, Says, Hands}
 use Rattle.nv_run_tests.specs.declared.transcript.Transcript.{Transcript}
 
 -- the last digit of a client's number
@@ -28,6 +28,7 @@ abbrev pub text_of : List Doing → List ℕ
 text_of [] = []
 text_of (Takes a ∷ xs) = taken_text a ++ text_of xs
 text_of (Says s ∷ xs) = said_text s ++ text_of xs
+text_of (Hands n ∷ xs) = text_of xs
 
 -- where no memory was wanted, just this was written from one to the other
 abbrev pub Wrote : Transcript → Transcript → List Doing → Type 0

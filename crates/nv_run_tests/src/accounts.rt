@@ -50,7 +50,7 @@ fn same_as_plain<R: Threads + Wait + Sync + Abort>(
                 rt, alloc, fresh, texts, rules, &OpenGate, &hands, places, threads,
             );
             let account = account.ok();
-            assert_eq!(rt; text_of(rt, alloc, account).as_str(), plain.as_str());
+            assert_eq!(rt; text_of(rt, alloc, account).as_slice(), plain.as_slice());
         }
     }
 }

@@ -67,6 +67,10 @@ impl Outside for Pairs {
     fn say(&mut self, said: &Said<'_>) {
         self.done.say(said);
     }
+
+    fn hands_over(&mut self, _length: usize) -> bool {
+        false
+    }
 }
 
 // It reads the input by at most 8 bytes up to its end, writes what it read, and exits with how many reads gave bytes.
@@ -139,7 +143,13 @@ impl Echo {
 }
 
 // The account of one version after another, as text.
-fn echoed<R: Abort>(rt: &R, alloc: Global, texts: &[String; 2], echo: &Echo, told: bool) -> String {
+fn echoed<R: Abort>(
+    rt: &R,
+    alloc: Global,
+    texts: &[String; 2],
+    echo: &Echo,
+    told: bool,
+) -> Vec<u8> {
     let kernel = kernel_from(rt, alloc, echo.first, told);
     let plain = one_by_one(alloc, kernel, texts, None, &Vec::new(alloc));
     let account = plain.expect(rt, "a run");
@@ -155,7 +165,7 @@ fn echoed_beside<R: Threads + Wait + Sync + Abort>(
     echo: &Echo,
     told: bool,
     threads: u32,
-) -> String {
+) -> Vec<u8> {
     let kernel = kernel_from(rt, alloc, echo.first, told);
     let hands = Vec::new(alloc);
     let account = beside(
@@ -179,7 +189,7 @@ fn pairs_come(rt: HostRuntime) {
             let plain = echoed(&rt, alloc, &texts, echo, told);
             for threads in [1, 2] {
                 let text = echoed_beside(&rt, alloc, &texts, echo, told, threads);
-                assert_eq!(&rt; text.as_str(), plain.as_str());
+                assert_eq!(&rt; text.as_slice(), plain.as_slice());
             }
         }
     }
@@ -244,6 +254,10 @@ impl Outside for Clients {
 
     fn say(&mut self, said: &Said<'_>) {
         self.done.say(said);
+    }
+
+    fn hands_over(&mut self, _length: usize) -> bool {
+        false
     }
 }
 
@@ -325,7 +339,7 @@ fn served_kept<R: Threads + Wait + Sync + Abort>(
     alloc: Global,
     texts: &[String; 2],
     threads: u32,
-) -> String {
+) -> Vec<u8> {
     let hands = Vec::new(alloc);
     let kernel = kept_server(rt, alloc);
     let account = beside(
@@ -357,7 +371,7 @@ fn clients_come(rt: HostRuntime) {
         for threads in [1, 2] {
             served_live(&rt, alloc, &texts, threads);
             let text = served_kept(&rt, alloc, &texts, threads);
-            assert_eq!(&rt; text.as_str(), plain.as_str());
+            assert_eq!(&rt; text.as_slice(), plain.as_slice());
         }
     }
 }

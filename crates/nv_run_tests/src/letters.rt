@@ -65,7 +65,10 @@ fn letters_come(rt: HostRuntime) {
                 2,
                 threads,
             );
-            assert_eq!(&rt; text_of(&rt, alloc, account.ok()).as_str(), plain.as_str());
+            assert_eq!(&rt;
+                text_of(&rt, alloc, account.ok()).as_slice(),
+                plain.as_slice()
+            );
         }
     }
 }

@@ -125,7 +125,7 @@ pub fn text_of<R: Abort, K: SyscallKernel + Recorded>(
     rt: &R,
     alloc: Global,
     account: Option<Account<K>>,
-) -> String {
+) -> Vec<u8> {
     let account = account.expect(rt, "a run");
     nv_report::json(alloc, &account).expect(rt, "memory")
 }

@@ -31,8 +31,8 @@ fn comes_to_plain<R: Abort>(rt: &R, alloc: Global, number: u32) {
         match scheduled(alloc, &case, &mut seed).expect(rt, "memory") {
             Course::Ended(account) => {
                 assert_eq!(rt;
-                    text_of(rt, alloc, Some(account)).as_str(),
-                    wanted.as_str(),
+                    text_of(rt, alloc, Some(account)).as_slice(),
+                    wanted.as_slice(),
                     "room {number}"
                 );
             }

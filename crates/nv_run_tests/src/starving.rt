@@ -27,6 +27,6 @@ fn json_of_want_of_memory(rt: HostRuntime) -> Result<(), Fail> {
     let text = nv_report::json(rt.alloc(), &account)?;
     let expected =
         "{\"fates\":[{\"fate\":\"memory\",\"led\":[[0,0]],\"rewrites\":0,\"seen\":0}],\"log\":[],\"output\":\"\"}";
-    assert_eq!(rt; text.as_str(), expected);
+    assert_eq!(rt; text.as_slice(), expected.as_bytes());
     Ok(())
 }

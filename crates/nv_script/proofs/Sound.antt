@@ -60,7 +60,7 @@ hands-keep hands e =
     let few : length hands ≤ 8 = grind (arith, nat_tests) in
     record { few = few; sound = rest.0; apart = rest.1 }
 
-are_hands-from : (hands : List ℕ) → HandsKeep hands → are_hands hands ≡ true
+pub are_hands-from : (hands : List ℕ) → HandsKeep hands → are_hands hands ≡ true
 unfolding are_hands
 are_hands-from hands k =
     let few : nat_le (length hands) 8 ≡ true = grind (arith, nat_tests) in
@@ -289,7 +289,7 @@ has_name-more : (name : List ℕ) (files : List Named) (file : Named) → has_na
 has_name-more name files file before here =
     list_any-append (λ (f : Named). bytes_eq name f.0) files (file ∷ []) ∙ rw (before, here) refl
 
-not_true : (x : Bool) → not x ≡ true → x ≡ false
+pub not_true : (x : Bool) → not x ≡ true → x ≡ false
 not_true true e = cc
 not_true false e = refl
 
@@ -311,7 +311,7 @@ files-more files file k room sound new =
 
 -- ---- lengths to hand over at, with one more
 
-same_length : (m n : ℕ) → (m == n) ≡ false → (n == m) ≡ false
+pub same_length : (m n : ℕ) → (m == n) ≡ false → (n == m) ≡ false
 same_length m n e = step (n == m) refl where
   step : (x : Bool) → (n == m) ≡ x → x ≡ false
   step true same = grind (arith, nat_tests)
@@ -328,7 +328,7 @@ differ-more (n ∷ hands) m apart new =
     let none : has_hand n hands ≡ false = not_true (has_hand n hands) parts.0 in
     and_from _ _ (ap not (has_hand-more n hands m none (same_length n m other.0))) (differ-more hands m parts.1 other.1)
 
-hands-more : (hands : List ℕ) (n : ℕ) → HandsKeep hands → length hands < 8 → is_hand n ≡ true → has_hand n hands ≡ false → HandsKeep (hands ++ n ∷ [])
+pub hands-more : (hands : List ℕ) (n : ℕ) → HandsKeep hands → length hands < 8 → is_hand n ≡ true → has_hand n hands ≡ false → HandsKeep (hands ++ n ∷ [])
 hands-more hands n k room sound new =
     record {
       few = omega (arith, length-append hands (n ∷ []));

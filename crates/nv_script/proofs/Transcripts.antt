@@ -49,7 +49,7 @@ lines-append (b ∷ bs) rest = step (is_newline b) (lines-append bs rest) where
   step true later = ap (λ ls. [] ∷ ls) later
   step false later = ap (onto_first b) later ∙ onto_first-append b (lines (bs ++ 10 ∷ [])) (lines rest) (lines-some bs)
 
-lines-ended : (text front rest : List ℕ) → text ≡ front ++ 10 ∷ [] → lines (text ++ rest) ≡ lines text ++ lines rest
+pub lines-ended : (text front rest : List ℕ) → text ≡ front ++ 10 ∷ [] → lines (text ++ rest) ≡ lines text ++ lines rest
 lines-ended text front rest e =
     let whole : text ++ rest ≡ front ++ 10 ∷ rest = ap (λ t. t ++ rest) e ∙ append_assoc front (10 ∷ []) rest in
     ap lines whole ∙ lines-append front rest ∙ ap (λ t. lines t ++ lines rest) (sym e)
@@ -65,7 +65,7 @@ lines-arrivals (a ∷ rest) sound are =
 
 -- ---- a draft over lines in two parts
 
-drafted-append : (form : Form) (n : ℕ) (xs ys : List (List ℕ)) (d e : Draft) → drafted form n xs d ≡ Ok e → drafted form n (xs ++ ys) d ≡ drafted form (n + length xs) ys e
+pub drafted-append : (form : Form) (n : ℕ) (xs ys : List (List ℕ)) (d e : Draft) → drafted form n xs d ≡ Ok e → drafted form n (xs ++ ys) d ≡ drafted form (n + length xs) ys e
 unfolding drafted
 drafted-append form n [] ys d e h =
     let same : d ≡ e = cc in

@@ -19,7 +19,7 @@ const MOST_FILES: usize = 256;
 
 const MOST_FILE_BYTES: usize = 1_048_576;
 
-const MOST_HANDS: usize = 8;
+pub(crate) const MOST_HANDS: usize = 8;
 
 const MOST_CONNECTIONS: usize = 64;
 

@@ -49,7 +49,7 @@ const MOST_NANOS: u32 = 999_999_999;
 
 const MOST_STEP: u32 = 1_000_000_000;
 
-const MOST_HAND: u32 = 131_072;
+pub(crate) const MOST_HAND: u32 = 131_072;
 
 const MOST_PORT: u32 = 65_535;
 

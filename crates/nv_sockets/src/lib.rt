@@ -24,4 +24,4 @@ pub use host::Host;
 pub use kernel::{SocketKernel, connections};
 pub use socket::Socket;
 pub use sockets::Sockets;
-pub use writing::write_connections;
+pub use writing::{put_connections, write_connections};

@@ -1,10 +1,13 @@
 // What was written to each connection, as a part of a report.
 ghost use Rattle.std.specs.Prelude.{◌≡◌, ◌+◌, ◌<◌, ◌^◌, length, map};
+ghost use Rattle.nv_calls.specs.Logs.{connections_of};
 ghost use Rattle.nv_outside.specs.Sink.{Puts};
+ghost use Rattle.nv_sockets.specs.Serving.{start_of_script};
 ghost use Rattle.nv_sockets.specs.Texts.{connection_count_text, connection_text, connection_texts, connections_text};
 ghost use Rattle.nv_sockets.specs.Views.{written_of};
 
 use crate::connection::Connection;
+use crate::kernel::{SocketKernel, connections};
 use itoa::Buffer;
 use nv_outside::{Put, Sink, put_pieces};
 
@@ -65,7 +68,7 @@ fn put_lines<S: Sink>(sink: &mut S, first: usize, connections: &[Connection]) ->
 }
 
 /// Writes how many connections there are, and of each its number, its port and what was written to it; nothing where there is none. It takes no memory.
-pub fn write_connections<S: Sink>(sink: &mut S, connections: &[Connection]) -> Put
+pub fn put_connections<S: Sink>(sink: &mut S, connections: &[Connection]) -> Put
     ensures { Puts (S.told sink.old) (S.faults sink.old) (connections_text (map written_of connections.now)) result (S.told sink.new) (S.faults sink.new) }
 {
     if connections.is_empty() {
@@ -73,4 +76,11 @@ pub fn write_connections<S: Sink>(sink: &mut S, connections: &[Connection]) -> P
     }
     put_count(sink, connections.len())?;
     put_lines(sink, 0, connections)
+}
+
+/// Writes a kernel's connections so.
+pub fn write_connections<S: Sink>(sink: &mut S, kernel: &SocketKernel) -> Put
+    ensures { Puts (S.told sink.old) (S.faults sink.old) (connections_text (connections_of (start_of_script kernel.now.setup) kernel.now.log)) result (S.told sink.new) (S.faults sink.new) }
+{
+    put_connections(sink, connections(kernel))
 }

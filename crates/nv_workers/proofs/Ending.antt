@@ -1,6 +1,6 @@
 -- From what the room's end and the workers promise to the account.
 use Rattle.std.proofs.Common.{◌≡◌, ◌∙◌, sym, ap, subst, refl, ℕ, zero, suc, ◌<◌, ◌≤◌, List, [], ◌∷◌, ◌++◌, map, length, take, drop, Some, arith, take-append-drop}
-use Rattle.std.specs.Prelude.{slice_get}
+use Rattle.std.specs.Prelude.{Bool, false, slice_get}
 use mathlib.Core.Option.{some, some-injective, some-ne-none}
 use lib.ListN.{get_elem?}
 use Rattle.nv_calls.specs.Calls.{Entry}
@@ -19,9 +19,12 @@ use Rattle.nv_replay.specs.Follow.{Judge}
 use Rattle.nv_replay.specs.Version.{Running}
 use Rattle.nv_replay.specs.Account.{AreFresh}
 use Rattle.nv_replay.proofs.Survivor.{lawful_prefix}
-use Rattle.nv_workers.specs.Ends.{Leaving, spelt, IsSpelling, IsFinished, HasRunAll, IsAccount}
+use Rattle.nv_replay.proofs.Numbers.{some_at}
+use Rattle.nv_workers.specs.Ends.{Leaving, spelt, IsSpelling, IsFinished, HasRunAll, IsAccount, asked_in}
 use Rattle.nv_workers.specs.Working.{leaving_of, HasEnded}
 use Rattle.nv_workers.proofs.Spelt.{same_spelt, long_as}
+use Rattle.nv_workers.proofs.Spanned.{place_below, who_is, who_below}
+use Rattle.nv_workers.proofs.Asked.{unasked}
 use Rattle.nv_workers.proofs.Told.{accounts}
 
 -- what the seat of version k tells, in terms of the whole history
@@ -93,7 +96,7 @@ spelling = record {
 
 -- The end
 
-module _ (judges : ℕ → Judge) {T : Type 0} (start : Start) (most : ℕ) (hands : List ℕ) (h : List Entry) (n : ℕ) (w : ℕ → View T) (law : IsLawful h) (told : AreTold (map spell h) n w) where
+module _ (judges : ℕ → Judge) {T : Type 0} (start : Start) (most : ℕ) (hands : List ℕ) (on_demand : Bool) (h : List Entry) (n : ℕ) (w : ℕ → View T) (law : IsLawful h) (told : AreTold (map spell h) n w) where
   -- the events that the seat of version k has seen
   abbrev seen_by : ℕ → List Entry
   seen_by k = take (length (w k).seen) h
@@ -116,37 +119,54 @@ module _ (judges : ℕ → Judge) {T : Type 0} (start : Start) (most : ℕ) (han
         λ z. let t1 = t.1 z in omega arith,
       )
 
-  finished : IsFinished spell h n left
-  finished = record {
+  -- of so many versions
+  abbrev finished : (m : ℕ) → m ≡ n → IsFinished spell h m left
+  finished m all = record {
     prefix = λ k l. (drop (length (w k).seen) h, sym (take-append-drop (length (w k).seen) h));
     words = λ k l.
-        let r = words_by h (w k).seen (w k).read (told.each k l).read in
-        (r.0, ap (λ (m : ℕ). spelt spell (slice_get h m)) (long_by k l) ∙ r.1);
+        let near : k < n = omega arith in
+        let r = words_by h (w k).seen (w k).read (told.each k near).read in
+        (r.0, ap (λ (i : ℕ). spelt spell (slice_get h i)) (long_by k near) ∙ r.1);
     spans = told.spans;
     seating = told.seating;
-    tile = subst (λ (m : ℕ). Tiles 0 told.spans m) (long_as h) told.tile;
+    tile = subst (λ (i : ℕ). Tiles 0 told.spans i) (long_as h) told.tile;
     rise = told.rise;
     made = told.made;
-    first = told.first;
-    opened = told.opened;
-    led = λ k l. (told.each k l).led;
-    last = λ k l. (told.each k l).last;
-    before = before_by;
+    first = λ k l. told.first k (omega arith);
+    opened = subst (λ (i : ℕ). Opened i told.seating told.spans) (sym all) told.opened;
+    led = λ k l. let near : k < n = omega arith in (told.each k near).led;
+    last = λ k l. let near : k < n = omega arith in (told.each k near).last;
+    before = λ k l. before_by k (omega arith);
   }
 
   lawful_by : (k : ℕ) → IsLawful (seen_by k)
   lawful_by k = lawful_prefix (seen_by k) (drop (length (w k).seen) h) (subst IsLawful (sym (take-append-drop (length (w k).seen) h)) law)
 
-  done_by : IsLegal start h → (k : ℕ) (p : Proc) (v : Running Proc) → k < n → HasEnded judges most hands k p v (w k) → HasRunAll threads judges start most hands InRange spell k p v (left k)
+  done_by : IsLegal start h → (k : ℕ) (p : Proc) (v : Running Proc) → k < n → HasEnded judges most hands on_demand k p v (w k) → HasRunAll threads judges start most hands InRange spell k p v (left k)
   done_by legal k p v l e =
       let same : e.log ≡ seen_by k = same_spelt e.log (seen_by k) e.lawful (lawful_by k) (e.spelt ∙ sym (spelt_by k l)) in
       subst (λ (x : List Entry). HasRunAll threads judges start most hands InRange spell k p v (leaving_of x (w k))) same (e.done start (subst (IsLegal start) (sym same) (legal_take start h (length (w k).seen) legal)))
 
+  -- the version of each span is one of them
+  who_led : (j : ℕ) (x : Span) → get_elem? told.spans j ≡ some x → x.version < n
+  who_led j x q =
+      let made = told.made j x q in
+      let near = who_below told.seating n told.spans told.first told.opened x.station (place_below told.seating x.station x.version made) in
+      let is = who_is told.seating x.station x.version made in
+      omega (arith, near, is)
+
   -- all versions have ended, and the room has told of them
   pub ending : (olds news : List (Running Proc)) → AreFresh threads 0 olds → length news ≡ length olds → length news ≡ n → IsLegal start h
-      → ((k : ℕ) (old new : Running Proc) → slice_get olds k ≡ Some old → slice_get news k ≡ Some new
-      → HasEnded judges most hands k old.at.process new (w k)) → IsAccount threads judges start most hands olds news h
-  ending olds news fresh long all legal e =
-      accounts threads thread_laws judges start most hands InRange spell spelling olds news h left (subst (λ (m : ℕ). IsFinished spell h m left) (sym all) finished) long
-      (λ k x q. (law k x q).range)
-      (λ k old new a b. done_by legal k old.at.process new (let m = slice_below news k new b in omega arith) (e k old new a b)) fresh law legal
+      → ((k : ℕ) (old new : Running Proc) → slice_get olds k ≡ Some old → slice_get news k ≡ Some new → HasEnded judges most hands on_demand k old.at.process new (w k))
+      → (asked : List ℕ) × (on_demand ≡ false → asked ≡ []) × IsAccount threads judges start most (hands ++ asked) olds news h
+  ending olds news fresh long all legal e = (
+    asked_in hands told.spans,
+    (λ off. unasked hands told.spans (λ j x q.
+        let near = who_led j x q in
+        let old = some_at olds x.version (omega arith) in
+        let new = some_at news x.version (omega arith) in
+        ap (asked_in hands) (sym (told.each x.version near).led) ∙ (e x.version old.0 new.0 old.1 new.1).as_planned off)),
+    accounts threads thread_laws judges start most hands InRange spell spelling olds news h left (finished (length news) all) long
+        (λ k x q. (law k x q).range)
+        (λ k old new a b. done_by legal k old.at.process new (let m = slice_below news k new b in omega arith) (e k old new a b)) fresh law legal,
+  )

@@ -1,5 +1,5 @@
 -- From the workers that have ended and what the room's end tells to the account.
-use Rattle.std.proofs.Common.{◌≡◌, ◌∙◌, sym, ap, subst, refl, ℕ, zero, suc, ◌+◌, ◌<◌, List, [], ◌∷◌, ◌++◌, map, length, get_or, Some, arith}
+use Rattle.std.proofs.Common.{◌≡◌, false, ◌∙◌, sym, ap, subst, refl, ℕ, zero, suc, ◌+◌, ◌<◌, List, [], ◌∷◌, ◌++◌, map, length, get_or, Some, arith}
 use Rattle.std.proofs.lemmas.Option.{same_Some}
 use Rattle.std.specs.Prelude.{slice_get}
 use mathlib.Core.Option.{some, some-injective}
@@ -15,7 +15,7 @@ use Rattle.nv_replay.specs.Follow.{Judge}
 use Rattle.nv_room.specs.declared.room.Left.{Left}
 use Rattle.nv_room.specs.Placement.{Log}
 use Rattle.nv_room.specs.Spans.{Before, of_version, IsLastStation, Opened}
-use Rattle.nv_room.specs.Seats.{IsLeftOf, left_view, version_of_left, versions_of, hands_of, first_view}
+use Rattle.nv_room.specs.Seats.{IsLeftOf, left_view, version_of_left, versions_of, hands_of, on_demand_of, first_view}
 use Rattle.nv_room.specs.Lefts.{IsEach, TellsOf, AllTell}
 use Rattle.nv_threads.specs.Threads.{Proc, threads}
 use Rattle.nv_replay.specs.Version.{Running}
@@ -82,8 +82,8 @@ module _ (judges : ℕ → Judge) {K : Type 0} {G : Ghosts K} (room : Room K) (m
       record {
         of = b.0;
         version = at;
-        ended = subst (λ (j : ℕ). HasEnded judges most (hands_of room) j p v (left_view l)) at
-            (subst (λ (u : Running Proc). HasEnded judges most (hands_of room) (version_of_left l) p u (left_view l)) same b.1);
+        ended = subst (λ (j : ℕ). HasEnded judges most (hands_of room) (on_demand_of room) j p v (left_view l)) at
+            (subst (λ (u : Running Proc). HasEnded judges most (hands_of room) (on_demand_of room) (version_of_left l) p u (left_view l)) same b.1);
       }
 
   have_run : (i : ℕ) (fs : List (Running Proc)) (ws us : List (Worker K G)) (vs : List (Running Proc)) (ls : List (Left K G))
@@ -166,18 +166,18 @@ module _ (judges : ℕ → Judge) {K : Type 0} {G : Ghosts K} (room : Room K) (m
   )
 
   ended_at : (d : View K) (i : ℕ) (fs vs : List (Running Proc)) (ls : List (Left K G)) → HaveRun judges room most i fs vs ls → (k : ℕ) (old new : Running Proc)
-      → slice_get fs k ≡ Some old → slice_get vs k ≡ Some new → HasEnded judges most (hands_of room) (i + k) old.at.process new (view_at d ls k)
+      → slice_get fs k ≡ Some old → slice_get vs k ≡ Some new → HasEnded judges most (hands_of room) (on_demand_of room) (i + k) old.at.process new (view_at d ls k)
   ended_at d i [] vs ls r k old new a b = cc
   ended_at d i (f ∷ fs) [] ls r k old new a b = absurd r
   ended_at d i (f ∷ fs) (v ∷ vs) [] r k old new a b = absurd r
   ended_at d i (f ∷ fs) (v ∷ vs) (l ∷ ls) r zero old new a b =
       let z : i ≡ i + 0 = omega arith in
-      subst (λ (j : ℕ). HasEnded judges most (hands_of room) j old.at.process new (left_view l)) z
-      (subst (λ (x : Running Proc). HasEnded judges most (hands_of room) i x.at.process new (left_view l)) (same_Some f old a)
-      (subst (λ (x : Running Proc). HasEnded judges most (hands_of room) i f.at.process x (left_view l)) (same_Some v new b) r.0.ended))
+      subst (λ (j : ℕ). HasEnded judges most (hands_of room) (on_demand_of room) j old.at.process new (left_view l)) z
+      (subst (λ (x : Running Proc). HasEnded judges most (hands_of room) (on_demand_of room) i x.at.process new (left_view l)) (same_Some f old a)
+      (subst (λ (x : Running Proc). HasEnded judges most (hands_of room) (on_demand_of room) i f.at.process x (left_view l)) (same_Some v new b) r.0.ended))
   ended_at d i (f ∷ fs) (v ∷ vs) (l ∷ ls) r (suc k) old new a b =
       let z : i + 1 + k ≡ i + suc k = omega arith in
-      subst (λ (j : ℕ). HasEnded judges most (hands_of room) j old.at.process new (view_at d ls k)) z (ended_at d (i + 1) fs vs ls r.1 k old new a b)
+      subst (λ (j : ℕ). HasEnded judges most (hands_of room) (on_demand_of room) j old.at.process new (view_at d ls k)) z (ended_at d (i + 1) fs vs ls r.1 k old new a b)
 
   -- what the seat of version k tells
   told_one : (history : Log) (counts : List ℕ) (spans : List Span) (seating : List ℕ) (k : ℕ) (l : Left K G) → version_of_left l ≡ k → TellsOf history counts spans seating l
@@ -209,11 +209,11 @@ module _ (judges : ℕ → Judge) {K : Type 0} {G : Ghosts K} (room : Room K) (m
   -- what `end` promises
   pub accounted : {fs vs : List (Running Proc)} {ls : List (Left K G)} → AllRan judges room most fs vs ls → (start : Start) (h : List Entry) {counts : List ℕ}
       → IsLawful h → IsLegal start h → AllTell (map spell h) counts ls → length counts ≡ versions_of room
-      → IsAccount threads judges start most (hands_of room) fs vs h
+      → (asked : List ℕ) × (on_demand_of room ≡ false → asked ≡ []) × IsAccount threads judges start most (hands_of room ++ asked) fs vs h
   accounted {fs} {vs} {ls} a start h {counts} law legal t wide =
       let d : View K = first_view room 0 in
       let long = long_run judges room most 0 fs vs ls a.ran in
       let all : length vs ≡ versions_of room = long.1 ∙ (sym long.0 ∙ a.all) in
-      ending judges start most (hands_of room) h (versions_of room) (view_at d ls) law (told_by d (map spell h) counts fs vs ls a t wide) fs vs a.fresh long.1 all legal
+      ending judges start most (hands_of room) (on_demand_of room) h (versions_of room) (view_at d ls) law (told_by d (map spell h) counts fs vs ls a t wide) fs vs a.fresh long.1 all legal
       (λ k old new o n. let z : 0 + k ≡ k = omega arith in
-      subst (λ (j : ℕ). HasEnded judges most (hands_of room) j old.at.process new (view_at d ls k)) z (ended_at d 0 fs vs ls a.ran k old new o n))
+      subst (λ (j : ℕ). HasEnded judges most (hands_of room) (on_demand_of room) j old.at.process new (view_at d ls k)) z (ended_at d 0 fs vs ls a.ran k old new o n))

@@ -5,6 +5,7 @@ pub mod Gathering
 pub mod Spanned
 pub mod Opening
 pub mod Accounting
+pub mod Asked
 pub mod Told
 pub mod Closed
 pub mod Spelt

@@ -14,21 +14,22 @@ use Rattle.nv_room.specs.declared.room.Room.{Room}
 use Rattle.nv_room.specs.declared.room.Reader.{Reader}
 use Rattle.nv_room.specs.declared.room.Lead.{Lead}
 use Rattle.nv_room.specs.Spans.{span, handed_on, LastHasEvent}
-use Rattle.nv_room.specs.Room.{Has}
+use Rattle.nv_room.specs.Room.{Has, MayHand}
 use Rattle.nv_room.specs.Steps.{as_gone, as_leaving, as_lead}
-use Rattle.nv_room.specs.Seats.{IsOfRoom, IsLeadOf, view, lead_view, station_of_lead, version_of_reader, version_of_lead, kernel_of, due_of, hands_of, IsFreshLead, IsFreshReader}
+use Rattle.nv_room.specs.Seats.{IsOfRoom, IsLeadOf, view, lead_view, station_of_lead, version_of_reader, version_of_lead, kernel_of, due_of, stations_of, hands_of, on_demand_of, IsFreshLead, IsFreshReader}
 use Rattle.nv_threads.specs.Threads.{Proc, threads}
 use Rattle.nv_threads.proofs.ThreadLaws.{thread_laws}
 use Rattle.nv_replay.specs.Follow.{Follower, Judge}
 use Rattle.nv_replay.specs.Hands.{has}
 use Rattle.nv_replay.specs.Version.{Running, IsFresh, IsFollowing, IsLiveLeader, leader_of}
 use Rattle.nv_replay.specs.Account.{with_span}
-use Rattle.nv_replay.proofs.Numbers.{eq_same, handed_at}
-use Rattle.nv_workers.specs.Ends.{ends_of, AreHandedOn}
+use Rattle.nv_replay.proofs.Numbers.{eq_same}
+use Rattle.nv_workers.specs.Ends.{ends_of, AreHandedOn, AsPlanned}
 use Rattle.nv_workers.specs.Turns.{IsReaders, IsServing}
 use Rattle.nv_workers.specs.Working.{HasEnded, FollowsOn, LeadsOn}
 use Rattle.nv_workers.proofs.Keeping.{takes, reads_first, gives_up}
 use Rattle.nv_workers.proofs.Spanned.{map_append}
+use Rattle.nv_workers.proofs.Asked.{as_planned_more, planned_at}
 use Rattle.nv_workers.proofs.Spelt.{same_spelt, long_as}
 use Rattle.nv_workers.proofs.Reading.{bare, bare_reading}
 
@@ -60,8 +61,8 @@ module _ {judges : ℕ → Judge} {K : Type 0} {G : Ghosts K} {room : Room K} {m
   pub follows_now : IsFollowing v
   follows_now = let b = bare_reading f in record { on = b.on; idle = b.idle }
 
-  -- it has led no more parts than lengths are planned
-  pub few_led : length v.led ≤ length (hands_of room)
+  -- it has led no more parts than a version may
+  pub few_led : length v.led ≤ 8
   few_led = let b = bare_reading f in let q = b.few in omega arith
 
   pub takes_lead : (l : Lead K G) (new : Running Proc) → IsLeadOf room l
@@ -95,6 +96,9 @@ module _ {judges : ℕ → Judge} {K : Type 0} {G : Ghosts K} {room : Room K} {m
         lawful = law;
         spans = spans ∙ (λ i. before ++ span (at i) (who i) (as_long i) (length (sym seen i)) ∷ []);
         handed_on = b.handed_on;
+        as_planned = b.as_planned;
+        may = λ e. cc;
+        planned = λ e off. cc;
         serves = subst (λ (x : Running Proc). FromAny log (λ start. IsServing threads judges start most (hands_of room) false (version_of_lead l) p x (map ends_of before) (length log) log)) new' s2;
       }
 
@@ -112,9 +116,9 @@ module _ {judges : ℕ → Judge} {K : Type 0} {G : Ghosts K} {room : Room K} {m
   long_seen : length (lead_view l).seen ≡ length log
   long_seen = sym (ap (λ (x : List (List ℕ)). length x) f.spelt) ∙ long_as log
 
-  -- the log has come to a planned length
-  pub planned_now : Has (hands_of room) (length (lead_view l).seen)
-  planned_now = has_at (hands_of room) (length (lead_view l).seen) (ap (has (hands_of room)) long_seen ∙ (handed_at (hands_of room) f.from (leader_of v log) serving.handed).planned)
+  -- a station is left
+  pub may_now : MayHand (stations_of room) (hands_of room) (lead_view l).opened (length (lead_view l).seen)
+  may_now = f.may refl
 
   -- it has published an event
   pub led_now : LastHasEvent (lead_view l).spans
@@ -122,7 +126,7 @@ module _ {judges : ℕ → Judge} {K : Type 0} {G : Ghosts K} {room : Room K} {m
     f.before,
     span (station_of_lead l) (version_of_lead l) f.from (length (lead_view l).seen),
     f.spans,
-    (let g = (handed_at (hands_of room) f.from (leader_of v log) serving.handed).grew in omega (arith, long_seen)),
+    (let g = serving.goes.0 in omega (arith, g, long_seen)),
   )
 
   -- the version follows on from here
@@ -144,28 +148,31 @@ module _ {judges : ℕ → Judge} {K : Type 0} {G : Ghosts K} {room : Room K} {m
         led = ap (λ (x : Running Proc). x.led) k ∙ (serving.led_from.span ∙ (ap (λ (n : ℕ). map ends_of f.before ++ (f.from, n) ∷ []) (sym long_seen)
             ∙ (sym (map_append ends_of f.before ((record last { handed = true }) ∷ [])) ∙ ap (map ends_of) (sym all))));
         handed_on = subst AreHandedOn (sym all) (all_handed f.before (record last { handed = true }) f.handed_on refl);
+        as_planned = subst (AsPlanned (on_demand_of room) (hands_of room)) (sym all) (as_planned_more (on_demand_of room) (hands_of room) f.before (record last { handed = true })
+            f.as_planned (λ off. planned_at (hands_of room) (record last { handed = true }) (f.planned refl off)));
         reading = subst (λ (i : ℕ). R i new) (sym version) (subst (λ (x : Running Proc). R (version_of_lead l) x) (sym k) reading);
       }
 
 -- the seat of a version that has ended has left, under the same number
-module _ {judges : ℕ → Judge} {T : Type 0} {most : ℕ} {hands : List ℕ} {i j : ℕ} {p : Proc} {v : Running Proc} {w w2 : View T} (h : HasEnded judges most hands i p v w) where
+module _ {judges : ℕ → Judge} {T : Type 0} {most : ℕ} {hands : List ℕ} {on_demand : Bool} {i j : ℕ} {p : Proc} {v : Running Proc} {w w2 : View T}
+    (h : HasEnded judges most hands on_demand i p v w) where
   -- of a reader
-  pub left_ended : j ≡ i → w2 ≡ as_gone w → HasEnded judges most hands j p v w2
+  pub left_ended : j ≡ i → w2 ≡ as_gone w → HasEnded judges most hands on_demand j p v w2
   left_ended same is =
-      let gone : HasEnded judges most hands i p v (as_gone w) = record { log = h.log; spelt = h.spelt; lawful = h.lawful; count = h.count; led = h.led; done = h.done } in
-      subst (λ (k : ℕ). HasEnded judges most hands k p v w2) (sym same) (subst (λ (x : View T). HasEnded judges most hands i p v x) (sym is) gone)
+      let gone : HasEnded judges most hands on_demand i p v (as_gone w) = record { log = h.log; spelt = h.spelt; lawful = h.lawful; count = h.count; led = h.led; as_planned = h.as_planned; done = h.done } in
+      subst (λ (k : ℕ). HasEnded judges most hands on_demand k p v w2) (sym same) (subst (λ (x : View T). HasEnded judges most hands on_demand i p v x) (sym is) gone)
 
   -- of a leader
-  pub given_ended : j ≡ i → (word : ℕ) → w2 ≡ as_gone (as_leaving w word) → HasEnded judges most hands j p v w2
+  pub given_ended : j ≡ i → (word : ℕ) → w2 ≡ as_gone (as_leaving w word) → HasEnded judges most hands on_demand j p v w2
   given_ended same word is =
-      let gone : HasEnded judges most hands i p v (as_gone (as_leaving w word)) = record { log = h.log; spelt = h.spelt; lawful = h.lawful; count = h.count; led = h.led; done = h.done } in
-      subst (λ (k : ℕ). HasEnded judges most hands k p v w2) (sym same) (subst (λ (x : View T). HasEnded judges most hands i p v x) (sym is) gone)
+      let gone : HasEnded judges most hands on_demand i p v (as_gone (as_leaving w word)) = record { log = h.log; spelt = h.spelt; lawful = h.lawful; count = h.count; led = h.led; as_planned = h.as_planned; done = h.done } in
+      subst (λ (k : ℕ). HasEnded judges most hands on_demand k p v w2) (sym same) (subst (λ (x : View T). HasEnded judges most hands on_demand i p v x) (sym is) gone)
 
 -- Workers as they are made
 
 module _ (judges : ℕ → Judge) where
-  reads_none : (most : ℕ) (hands : List ℕ) (v : Running Proc) (i : ℕ) → IsFresh threads i v → FromAny [] (λ start. IsReaders threads judges start most hands i v.at.process v [] None)
-  reads_none most hands v i f = λ start legal. reads_first threads thread_laws judges start most hands i v.at.process v f.index (record { live = f.started.live; on = f.started.on }) f.at f.not_led f.idle f.none_asked
+  reads_none : (most : ℕ) (hands : List ℕ) (v : Running Proc) (i : ℕ) → length hands ≤ 8 → IsFresh threads i v → FromAny [] (λ start. IsReaders threads judges start most hands i v.at.process v [] None)
+  reads_none most hands v i short f = λ start legal. reads_first threads thread_laws judges start most hands i v.at.process v short f.index (record { live = f.started.live; on = f.started.on }) f.at f.not_led f.idle f.none_asked
 
   module _ {K : Type 0} {G : Ghosts K} (room : Room K) (most : ℕ) (v : Running Proc) where
     pub fresh_follows : (i : ℕ) (r : Reader K G) (buf : List ℕ) → IsFresh threads i v → IsFreshReader room i r → FollowsOn judges room most v.at.process v r false buf
@@ -178,14 +185,15 @@ module _ (judges : ℕ → Judge) where
       holds = ap (λ (x : View K). x.read) n.3;
       led = f.not_led ∙ sym (ap (λ (x : View K). map ends_of x.spans) n.3);
       handed_on = subst (λ (x : View K). AreHandedOn x.spans) (sym n.3) tt;
-      reading = subst (λ (j : ℕ). FromAny [] (λ start. IsReaders threads judges start most (hands_of room) j v.at.process v [] None)) (sym n.2) (reads_none most (hands_of room) v i f);
+      as_planned = subst (λ (x : View K). AsPlanned (on_demand_of room) (hands_of room) x.spans) (sym n.3) (λ off. refl);
+      reading = subst (λ (j : ℕ). FromAny [] (λ start. IsReaders threads judges start most (hands_of room) j v.at.process v [] None)) (sym n.2) (reads_none most (hands_of room) v i room.few_hands f);
     }
 
     pub fresh_leads : (l : Lead K G) (new : Running Proc) → IsFresh threads 0 v → IsFreshLead room l → G.log (kernel_of l) ≡ []
         → new ≡ with_span v v.at.seen → LeadsOn judges room most v.at.process new false l None
     fresh_leads l new f n log k =
         let S : ℕ → List Entry → List (ℕ × ℕ) → Running Proc → Type 0 = λ i x led w. FromAny x (λ start. IsServing threads judges start most (hands_of room) false i v.at.process w led 0 x) in
-        let first = reads_none most (hands_of room) v 0 f in
+        let first = reads_none most (hands_of room) v 0 room.few_hands f in
         let s : S 0 [] v.led (with_span v 0) = λ start legal. takes threads thread_laws judges start most (hands_of room) (first start legal) in
         let none : v.at.seen ≡ 0 = ap (λ (x : Follower Proc). x.seen) f.at in
         let new' : with_span v 0 ≡ new = sym (k ∙ ap (λ (m : ℕ). with_span v m) none) in
@@ -200,5 +208,8 @@ module _ (judges : ℕ → Judge) where
           lawful = subst IsLawful (sym log) (λ j e h. cc);
           spans = n.spans ∙ (λ i. span (sym n.station i) (sym n.version i) 0 (length (sym n.seen i)) ∷ []);
           handed_on = tt;
+          as_planned = λ off. refl;
+          may = λ e. cc;
+          planned = λ e off. cc;
           serves = subst (λ (i : ℕ). S i (G.log (kernel_of l)) [] new) (sym n.version) (subst (λ (x : List Entry). S 0 x [] new) (sym log) s');
         }

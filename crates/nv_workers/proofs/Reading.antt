@@ -13,7 +13,7 @@ use Rattle.nv_room.specs.declared.view.View.{View}
 use Rattle.nv_room.specs.declared.room.Room.{Room}
 use Rattle.nv_room.specs.declared.room.Reader.{Reader}
 use Rattle.nv_room.specs.Steps.{SpellLawful, TellsEnd, one_on}
-use Rattle.nv_room.specs.Seats.{IsOfRoom, SameReader, view, version_of_reader, hands_of}
+use Rattle.nv_room.specs.Seats.{IsOfRoom, SameReader, view, version_of_reader, hands_of, on_demand_of}
 use Rattle.nv_threads.specs.Threads.{Proc, threads}
 use Rattle.nv_threads.proofs.ThreadLaws.{thread_laws}
 use Rattle.nv_replay.specs.declared.fate.Fate.{Fate}
@@ -27,7 +27,7 @@ use Rattle.nv_replay.specs.Version.{Running}
 use Rattle.nv_replay.proofs.Turning.{get_last}
 use Rattle.nv_replay.proofs.Extending.{take_prefix_of}
 use Rattle.nv_replay.proofs.Survivor.{lawful_prefix}
-use Rattle.nv_workers.specs.Ends.{IsStage, ends_of, AreHandedOn}
+use Rattle.nv_workers.specs.Ends.{IsStage, ends_of, AreHandedOn, AsPlanned}
 use Rattle.nv_workers.specs.Turns.{held_list, IsReaders}
 use Rattle.nv_workers.specs.Working.{HoldsNext, HasEnded, FollowsOn}
 use Rattle.nv_workers.specs.Follows.{AfterTurn, IsWaiting}
@@ -56,7 +56,7 @@ pub off_from : (o f : Option Fate) → is_some o ≡ true → o ≡ f → is_goi
 off_from None f h e = cc
 off_from (Some x) f h e = ap is_going (sym e)
 
-module _ (judges : ℕ → Judge) (most : ℕ) (hands : List ℕ) {T : Type 0} (i : ℕ) (p : Proc) (v : Running Proc) (w : View T) where
+module _ (judges : ℕ → Judge) (most : ℕ) (hands : List ℕ) (on_demand : Bool) {T : Type 0} (i : ℕ) (p : Proc) (v : Running Proc) (w : View T) where
   -- a reader's version with the event that is held
   pub record Held (buf : List ℕ) : Type 0 where
     pub log : List Entry
@@ -67,12 +67,13 @@ module _ (judges : ℕ → Judge) (most : ℕ) (hands : List ℕ) {T : Type 0} (
     pub words : buf ≡ spell event
     pub led : v.led ≡ map ends_of w.spans
     pub handed_on : AreHandedOn w.spans
+    pub as_planned : AsPlanned on_demand hands w.spans
     pub reading : FromAny log (λ start. IsReaders threads judges start most hands i p v log (Some event))
 
   held_by : (buf : List ℕ) (log : List Entry) (next : Option Entry) → map spell log ≡ w.seen → IsLawful (log ++ held_list next) → HoldsNext true w.read buf next
-      → v.led ≡ map ends_of w.spans → AreHandedOn w.spans → FromAny log (λ start. IsReaders threads judges start most hands i p v log next) → Held buf
-  held_by buf log None s l h n o r = absurd h
-  held_by buf log (Some e) s l h n o r = record { log = log; event = e; spelt = s; lawful = l; read = h.0; words = h.1; led = n; handed_on = o; reading = r }
+      → v.led ≡ map ends_of w.spans → AreHandedOn w.spans → AsPlanned on_demand hands w.spans → FromAny log (λ start. IsReaders threads judges start most hands i p v log next) → Held buf
+  held_by buf log None s l h n o u r = absurd h
+  held_by buf log (Some e) s l h n o u r = record { log = log; event = e; spelt = s; lawful = l; read = h.0; words = h.1; led = n; handed_on = o; as_planned = u; reading = r }
 
   -- a reader's version where no word of a further event is read
   pub record Bare : Type 0 where
@@ -82,16 +83,17 @@ module _ (judges : ℕ → Judge) (most : ℕ) (hands : List ℕ) {T : Type 0} (
     pub read : w.read ≡ []
     pub led : v.led ≡ map ends_of w.spans
     pub handed_on : AreHandedOn w.spans
+    pub as_planned : AsPlanned on_demand hands w.spans
     pub reading : FromAny log (λ start. IsReaders threads judges start most hands i p v log None)
 
   bare_by : (buf : List ℕ) (log : List Entry) (next : Option Entry) → map spell log ≡ w.seen → IsLawful (log ++ held_list next) → HoldsNext false w.read buf next
-      → v.led ≡ map ends_of w.spans → AreHandedOn w.spans → FromAny log (λ start. IsReaders threads judges start most hands i p v log next) → Bare
-  bare_by buf log None s l h n o r = record { log = log; spelt = s; lawful = subst IsLawful (append-nil log) l; read = h; led = n; handed_on = o; reading = r }
-  bare_by buf log (Some e) s l h n o r = absurd h
+      → v.led ≡ map ends_of w.spans → AreHandedOn w.spans → AsPlanned on_demand hands w.spans → FromAny log (λ start. IsReaders threads judges start most hands i p v log next) → Bare
+  bare_by buf log None s l h n o u r = record { log = log; spelt = s; lawful = subst IsLawful (append-nil log) l; read = h; led = n; handed_on = o; as_planned = u; reading = r }
+  bare_by buf log (Some e) s l h n o u r = absurd h
 
 -- a version that has ended has its fate
-pub has_ended : {judges : ℕ → Judge} {T : Type 0} {most : ℕ} {hands : List ℕ} {i : ℕ} {p : Proc} {v : Running Proc} {w : View T}
-    → HasEnded judges most hands i p v w → is_going v.at.fate ≡ false
+pub has_ended : {judges : ℕ → Judge} {T : Type 0} {most : ℕ} {hands : List ℕ} {on_demand : Bool} {i : ℕ} {p : Proc} {v : Running Proc} {w : View T}
+    → HasEnded judges most hands on_demand i p v w → is_going v.at.fate ≡ false
 has_ended h = (h.done (as_told h.log) (legal_told h.log h.lawful)).ended
 
 -- a version that follows on has none
@@ -103,7 +105,8 @@ pub none_held : {judges : ℕ → Judge} {K : Type 0} {G : Ghosts K} {room : Roo
     → held ≡ false → FollowsOn judges room most p v r held buf → FollowsOn judges room most p v r false buf
 none_held {judges} {K} {G} {room} {most} {p} {v} {r} {held} {buf} h f = subst (λ (b : Bool). FollowsOn judges room most p v r b buf) h f
 
-module _ {judges : ℕ → Judge} {most : ℕ} {hands : List ℕ} {T : Type 0} {i : ℕ} {p : Proc} {v : Running Proc} {w : View T} {buf : List ℕ} (h : Held judges most hands i p v w buf) where
+module _ {judges : ℕ → Judge} {most : ℕ} {hands : List ℕ} {on_demand : Bool} {T : Type 0} {i : ℕ} {p : Proc} {v : Running Proc} {w : View T} {buf : List ℕ}
+    (h : Held judges most hands on_demand i p v w buf) where
   -- what holds from whatever start
   pub held_reading : IsReaders threads judges (as_told h.log) most hands i p v h.log (Some h.event)
   held_reading = h.reading (as_told h.log) (legal_told h.log (lawful_prefix h.log (h.event ∷ []) h.lawful))
@@ -168,13 +171,14 @@ module _ {judges : ℕ → Judge} {most : ℕ} {hands : List ℕ} {T : Type 0} {
     led_now = ap (λ (x : Running Proc). x.led) k ∙ h.led
 
     -- it exited with the event, which is consumed
-    pub exits : new.at.seen ≡ v.at.seen + 1 → is_going new.at.fate ≡ false → HasEnded judges most hands i p new (one_on w)
+    pub exits : new.at.seen ≡ v.at.seen + 1 → is_going new.at.fate ≡ false → HasEnded judges most hands on_demand i p new (one_on w)
     exits n e = record {
       log = h.log ++ h.event ∷ [];
       spelt = spelt_on;
       lawful = h.lawful;
       count = omega (arith, n, held_reading.seen, long_seen, length-append w.seen (w.read ∷ []));
       led = led_now;
+      as_planned = h.as_planned;
       done = λ start legal. record {
         ended = e;
         count = omega (arith, n, held_reading.seen, length-append h.log (h.event ∷ []));
@@ -189,13 +193,14 @@ module _ {judges : ℕ → Judge} {most : ℕ} {hands : List ℕ} {T : Type 0} {
     }
 
     -- it was dropped at the event, whose words stay read
-    pub dropped : new.at.seen ≡ v.at.seen → is_going new.at.fate ≡ false → HasEnded judges most hands i p new w
+    pub dropped : new.at.seen ≡ v.at.seen → is_going new.at.fate ≡ false → HasEnded judges most hands on_demand i p new w
     dropped n e = record {
       log = h.log;
       spelt = h.spelt;
       lawful = lawful_prefix h.log (h.event ∷ []) h.lawful;
       count = n ∙ (held_reading.seen ∙ sym long_seen);
       led = led_now;
+      as_planned = h.as_planned;
       done = λ start legal. record {
         ended = e;
         count = n ∙ held_reading.seen;
@@ -219,13 +224,13 @@ read_next log seen s l words (h, spelt, law) =
     (q.last, q.words_are, subst (λ (x : List Entry). IsLawful (x ++ q.last ∷ [])) same lawful)
 
 module _ {judges : ℕ → Judge} {K : Type 0} {G : Ghosts K} {room : Room K} {most : ℕ} {p : Proc} {v : Running Proc} {r : Reader K G} {buf : List ℕ} where
-  pub held_of : FollowsOn judges room most p v r true buf → Held judges most (hands_of room) (version_of_reader r) p v (view r) buf
-  held_of f = held_by judges most (hands_of room) (version_of_reader r) p v (view r) buf f.log f.next f.spelt f.lawful f.holds f.led f.handed_on f.reading
+  pub held_of : FollowsOn judges room most p v r true buf → Held judges most (hands_of room) (on_demand_of room) (version_of_reader r) p v (view r) buf
+  held_of f = held_by judges most (hands_of room) (on_demand_of room) (version_of_reader r) p v (view r) buf f.log f.next f.spelt f.lawful f.holds f.led f.handed_on f.as_planned f.reading
 
   -- after a decision on the event in the buffer
   module _ (f : FollowsOn judges room most p v r true buf) (e : Entry) (s : spell e ≡ buf) (n : InRange e) (new : Running Proc)
       (k : new ≡ record v { at = decided threads (judges v.index) e v.at }) where
-    held : Held judges most (hands_of room) (version_of_reader r) p v (view r) buf
+    held : Held judges most (hands_of room) (on_demand_of room) (version_of_reader r) p v (view r) buf
     held = held_of f
 
     by_held : new ≡ record v { at = decided threads (judges (version_of_reader r)) held.event v.at }
@@ -242,6 +247,7 @@ module _ {judges : ℕ → Judge} {K : Type 0} {G : Ghosts K} {room : Room K} {m
       holds = (held.read, held.words);
       led = led_now held new by_held;
       handed_on = held.handed_on;
+      as_planned = held.as_planned;
       reading = rewrote held new by_held h o;
     }
 
@@ -258,16 +264,17 @@ module _ {judges : ℕ → Judge} {K : Type 0} {G : Ghosts K} {room : Room K} {m
           holds = ap (λ (x : View K). x.read) w;
           led = led_now held new by_held ∙ sym (ap (λ (x : View K). map ends_of x.spans) w);
           handed_on = subst (λ (x : View K). AreHandedOn x.spans) (sym w) held.handed_on;
+          as_planned = subst (λ (x : View K). AsPlanned (on_demand_of room) (hands_of room) x.spans) (sym w) held.as_planned;
           reading = subst (λ (i : ℕ). FromAny log (λ start. IsReaders threads judges start most (hands_of room) i p new log None)) (sym same.3) (consumes held new by_held h o);
         }
 
     pub after_exit : (r2 : Reader K G) → SameReader r r2 → view r2 ≡ one_on (view r) → new.at.seen ≡ v.at.seen + 1 → is_going new.at.fate ≡ false
-        → HasEnded judges most (hands_of room) (version_of_reader r2) p new (view r2)
+        → HasEnded judges most (hands_of room) (on_demand_of room) (version_of_reader r2) p new (view r2)
     after_exit r2 same w n o =
-        subst (λ (i : ℕ). HasEnded judges most (hands_of room) i p new (view r2)) (sym same.3) (subst (λ (x : View K). HasEnded judges most (hands_of room) (version_of_reader r) p new x) (sym w)
+        subst (λ (i : ℕ). HasEnded judges most (hands_of room) (on_demand_of room) i p new (view r2)) (sym same.3) (subst (λ (x : View K). HasEnded judges most (hands_of room) (on_demand_of room) (version_of_reader r) p new x) (sym w)
         (exits held new by_held n o))
 
-    pub after_drop : new.at.seen ≡ v.at.seen → is_going new.at.fate ≡ false → HasEnded judges most (hands_of room) (version_of_reader r) p new (view r)
+    pub after_drop : new.at.seen ≡ v.at.seen → is_going new.at.fate ≡ false → HasEnded judges most (hands_of room) (on_demand_of room) (version_of_reader r) p new (view r)
     after_drop n o = dropped held new by_held n o
 
 holds_none : (read buf read2 buf2 : List ℕ) (next : Option Entry) → HoldsNext false read buf next → read2 ≡ [] → HoldsNext false read2 buf2 next
@@ -276,8 +283,8 @@ holds_none read buf read2 buf2 (Some x) h e = absurd h
 
 module _ {judges : ℕ → Judge} {K : Type 0} {G : Ghosts K} {room : Room K} {most : ℕ} {p : Proc} {v : Running Proc} {r : Reader K G} {buf : List ℕ}
     (f : FollowsOn judges room most p v r false buf) where
-  pub bare : Bare judges most (hands_of room) (version_of_reader r) p v (view r)
-  bare = bare_by judges most (hands_of room) (version_of_reader r) p v (view r) buf f.log f.next f.spelt f.lawful f.holds f.led f.handed_on f.reading
+  pub bare : Bare judges most (hands_of room) (on_demand_of room) (version_of_reader r) p v (view r)
+  bare = bare_by judges most (hands_of room) (on_demand_of room) (version_of_reader r) p v (view r) buf f.log f.next f.spelt f.lawful f.holds f.led f.handed_on f.as_planned f.reading
 
   -- what holds from whatever start
   pub bare_reading : IsReaders threads judges (as_told bare.log) most (hands_of room) (version_of_reader r) p v bare.log None
@@ -303,6 +310,7 @@ module _ {judges : ℕ → Judge} {K : Type 0} {G : Ghosts K} {room : Room K} {m
       holds = holds_none (view r).read buf (view r2).read buf2 f.next f.holds read;
       led = f.led ∙ sym (ap (map ends_of) spans);
       handed_on = subst AreHandedOn (sym spans) f.handed_on;
+      as_planned = subst (AsPlanned (on_demand_of room) (hands_of room)) (sym spans) f.as_planned;
       reading = subst (λ (i : ℕ). FromAny f.log (λ start. IsReaders threads judges start most (hands_of room) i p v f.log f.next)) (sym same.3) f.reading;
     }
 
@@ -330,5 +338,6 @@ module _ {judges : ℕ → Judge} {K : Type 0} {G : Ghosts K} {room : Room K} {m
           holds = (read ∙ sym n.1, sym n.1);
           led = bare.led ∙ sym (ap (map ends_of) spans);
           handed_on = subst AreHandedOn (sym spans) bare.handed_on;
+          as_planned = subst (AsPlanned (on_demand_of room) (hands_of room)) (sym spans) bare.as_planned;
           reading = subst (λ (i : ℕ). FromAny bare.log (λ start. IsReaders threads judges start most (hands_of room) i p v bare.log (Some n.0))) (sym same.3) reading;
         }

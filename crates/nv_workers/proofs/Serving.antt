@@ -1,6 +1,9 @@
 -- A leader's version with its lead.
-use Rattle.std.proofs.Common.{◌≡◌, ◌∙◌, sym, ap, subst, ℕ, ◌+◌, ◌<◌, ◌≤◌, inr, refl, Bool, true, false, List, [], ◌∷◌, ◌++◌, map, length, Option, Some, None, arith, length-append}
+use Rattle.std.proofs.Common.{◌≡◌, ◌∙◌, sym, ap, subst, ℕ, ◌+◌, ◌<◌, ◌≤◌, ◌⊎◌, inl, inr, refl, cond, nat_le, nat_lt, lt_of_not-le, Bool, true, false, List, [], ◌∷◌, ◌++◌, map, length, Option, Some, None, arith, length-append}
 use Rattle.std.proofs.lemmas.List.{map-append}
+use Rattle.std.proofs.lemmas.Bool.Decides.{nat_tests}
+use mathlib.Core.Logic.{dite}
+use native.Mathlib.Decide.{dec_le}
 use Rattle.nv_calls.specs.Calls.{Entry}
 use Rattle.nv_calls.specs.Logs.{IsLawful, IsLegal, Start, served}
 use Rattle.nv_served.specs.Learning.{FromAny}
@@ -12,26 +15,30 @@ use Rattle.nv_room.specs.declared.view.Span.{Span}
 use Rattle.nv_room.specs.declared.room.Room.{Room}
 use Rattle.nv_room.specs.declared.room.Lead.{Lead}
 use Rattle.nv_room.specs.Spans.{span, spans_grown}
-use Rattle.nv_room.specs.Seats.{IsLeadOf, SameLead, lead_view, station_of_lead, version_of_lead, kernel_of, due_of, stations_of, versions_of, hands_of}
+use Rattle.nv_room.specs.Planned.{below}
+use Rattle.nv_room.specs.Room.{MayHand}
+use Rattle.nv_room.specs.Seats.{IsLeadOf, SameLead, lead_view, station_of_lead, version_of_lead, kernel_of, due_of, stations_of, versions_of, hands_of, on_demand_of}
 use Rattle.nv_threads.specs.Threads.{Proc, threads}
 use Rattle.nv_threads.proofs.ThreadLaws.{thread_laws}
 use Rattle.nv_replay.specs.declared.fate.Fate.TheVariants.{Memory}
 use Rattle.nv_replay.specs.declared.fate.Fate.{Fate}
 use Rattle.nv_replay.specs.Follow.{Judge}
-use Rattle.nv_replay.specs.Hands.{has}
+use Rattle.nv_replay.specs.Hands.{has, count_above}
 use Rattle.nv_replay.specs.Sequence.{is_going}
 use Rattle.nv_replay.specs.Version.{Running, asking_next, became_event}
 use Rattle.nv_replay.proofs.Turning.{Waits as IsWaiting, waits}
-use Rattle.nv_workers.specs.Ends.{ends_of, AreHandedOn, HasLedFrom}
+use Rattle.nv_workers.specs.Ends.{ends_of, AreHandedOn, AsPlanned, HasLedFrom}
 use Rattle.nv_workers.specs.Turns.{IsServing, IsAsking}
 use Rattle.nv_workers.specs.Working.{Serves, HasEnded, LeadsOn}
 use Rattle.nv_workers.specs.Publishing.{event_of, IsPublished}
 use Rattle.nv_workers.specs.declared.follows.Next.{Next}
 use Rattle.nv_workers.specs.declared.follows.Next.TheVariants.{Moved, Ahead, Waits, Leads, Hands, Leaves, Left}
-use Rattle.nv_workers.specs.inner.Leads.{AfterLead, HasPublished, IsLate, next_after}
+use Rattle.nv_workers.specs.inner.Leads.{AfterLead, HasPublished, IsLate, HasSpare, IsNext}
 use Rattle.nv_workers.proofs.Spelt.{long_as}
 use Rattle.nv_workers.proofs.Spanned.{map_append}
-use Rattle.nv_workers.proofs.Keeping.{asking_on, leading, drops, refuses, publishes, serves_on, serves_to}
+use Rattle.nv_workers.proofs.Keeping.{asking_on, leading, drops, refuses, publishes, serves_on, serves_to, planned_few}
+use Rattle.nv_workers.proofs.Moving.{has_at}
+use Rattle.nv_workers.proofs.Asked.{as_planned_more}
 
 -- what was published is seen
 pub grew_lead : {K : Type 0} {G : Ghosts K} (l l2 l3 l4 : Lead K G) (words : List ℕ) → (lead_view l2).seen ≡ (lead_view l).seen → lead_view l3 ≡ lead_view l2
@@ -50,13 +57,24 @@ published_next w w2 Hands l = l
 published_next w w2 Leaves l = tt
 published_next w w2 Left l = tt
 
-late_by : {K : Type 0} {G : Ghosts K} (room : Room K) (old new : Lead K G) (o : Option Fate) (b : Bool) → IsLate room old new (next_after o b)
-late_by room old new (Some x) b = tt
-late_by room old new None true = tt
-late_by room old new None false = tt
+pub late_next : {K : Type 0} {G : Ghosts K} (planned : List ℕ) (room : Room K) (old new : Lead K G) (v : Running Proc) (next : Next) → IsNext planned room v new next → IsLate room old new next
+late_next planned room old new v Moved q = tt
+late_next planned room old new v Ahead q = absurd q
+late_next planned room old new v Waits q = absurd q
+late_next planned room old new v Leads q = absurd q
+late_next planned room old new v Hands q = tt
+late_next planned room old new v Leaves q = tt
+late_next planned room old new v Left q = absurd q
 
-pub late_next : {K : Type 0} {G : Ghosts K} (room : Room K) (old new : Lead K G) (o : Option Fate) (b : Bool) (next : Next) → next ≡ next_after o b → IsLate room old new next
-late_next room old new o b next e = subst (λ (x : Next). IsLate room old new x) (sym e) (late_by room old new o b)
+above_or_below : (k n : ℕ) → cond (nat_le k n) 0 1 + cond (nat_lt k (n + 1)) 1 0 ≡ 1
+above_or_below k n = dite (dec_le k n)
+    (λ le. let a : nat_le k n ≡ true = grind (arith, nat_tests) in let b : nat_lt k (n + 1) ≡ true = grind (arith, nat_tests) in rw (a, b) refl)
+    (λ gt. let more : n < k = lt_of_not-le gt in let a : nat_le k n ≡ false = grind (arith, nat_tests) in let b : nat_lt k (n + 1) ≡ false = grind (arith, nat_tests) in rw (a, b) refl)
+
+-- each of these numbers is above n, or below the next number
+count_below : (ks : List ℕ) (n : ℕ) → count_above ks n + below ks (n + 1) ≡ length ks
+count_below [] n = refl
+count_below (k ∷ ks) n = omega (arith, above_or_below k n, count_below ks n)
 
 -- the last of these spans has one event more
 pub grown_last : (xs : List Span) (s v a b : ℕ) → spans_grown (xs ++ span s v a b ∷ []) ≡ xs ++ span s v a (b + 1) ∷ []
@@ -65,10 +83,10 @@ grown_last (x ∷ []) s v a b = refl
 grown_last (x ∷ y ∷ xs) s v a b = ap (λ l. x ∷ l) (grown_last (y ∷ xs) s v a b)
 
 -- a leader with its fate
-ended_lead : {judges : ℕ → Judge} {T : Type 0} {most : ℕ} {hands : List ℕ} {i s : ℕ} {p : Proc} {v : Running Proc} {w : View T} (u : ℕ) (before : List Span) (from : ℕ) (log : List Entry)
-    → map spell log ≡ w.seen → IsLawful log → w.spans ≡ before ++ span s u from (length w.seen) ∷ [] → w.station ≡ s → AreHandedOn before
-    → FromAny log (λ start. HasLedFrom threads judges start most hands i p v (map ends_of before) from log) → is_going v.at.fate ≡ false → HasEnded judges most hands i p v w
-ended_lead {s = s} {v = v} {w = w} u before from log sp law spans at on leads e =
+ended_lead : {judges : ℕ → Judge} {T : Type 0} {most : ℕ} {hands : List ℕ} {on_demand : Bool} {i s : ℕ} {p : Proc} {v : Running Proc} {w : View T} (u : ℕ) (before : List Span) (from : ℕ) (log : List Entry)
+    → map spell log ≡ w.seen → IsLawful log → w.spans ≡ before ++ span s u from (length w.seen) ∷ [] → w.station ≡ s → AreHandedOn before → AsPlanned on_demand hands before
+    → FromAny log (λ start. HasLedFrom threads judges start most hands i p v (map ends_of before) from log) → is_going v.at.fate ≡ false → HasEnded judges most hands on_demand i p v w
+ended_lead {hands = hands} {on_demand = on_demand} {s = s} {v = v} {w = w} u before from log sp law spans at on unasked leads e =
     let led = leads (as_told log) (legal_told log law) in
     let long : length w.seen ≡ length log = sym (ap (λ (x : List (List ℕ)). length x) sp) ∙ long_as log in
     let told : v.led ≡ map ends_of w.spans = led.span ∙ (ap (λ (n : ℕ). map ends_of before ++ (from, n) ∷ []) (sym long)
@@ -79,6 +97,7 @@ ended_lead {s = s} {v = v} {w = w} u before from log sp law spans at on leads e 
       lawful = law;
       count = led.seen ∙ sym long;
       led = told;
+      as_planned = subst (AsPlanned on_demand hands) (sym spans) (as_planned_more on_demand hands before (span s u from (length w.seen)) unasked (λ off. refl));
       done = λ start legal. record {
         ended = e;
         count = led.seen;
@@ -122,6 +141,12 @@ module _ {judges : ℕ → Judge} {K : Type 0} {G : Ghosts K} {room : Room K} {m
   pub with_asked : {asked2 : Option ℕ} → asked ≡ asked2 → LeadsOn judges room most p v over l asked2
   with_asked e = subst (λ (o : Option ℕ). LeadsOn judges room most p v over l o) e f
 
+  moved_may : (l2 : Lead K G) → SameLead l l2 → (lead_view l2).seen ≡ (lead_view l).seen → MayHand (stations_of room) (hands_of room) (lead_view l).opened (length (lead_view l).seen)
+      → MayHand (stations_of room) (hands_of room) (lead_view l2).opened (length (lead_view l2).seen)
+  moved_may l2 same seen m =
+      subst (λ (n : ℕ). MayHand (stations_of room) (hands_of room) n (length (lead_view l2).seen)) (l.opened_is ∙ (sym same.4 ∙ sym l2.opened_is))
+      (subst (λ (x : List (List ℕ)). MayHand (stations_of room) (hands_of room) (lead_view l).opened (length x)) (sym seen) m)
+
   -- looks and reserves leave what counts
   moved_lead : (l2 : Lead K G) → IsLeadOf room l2 → SameLead l l2 → due_of l2 ≡ due_of l → G.log (kernel_of l2) ≡ G.log (kernel_of l) → (lead_view l2).seen ≡ (lead_view l).seen
       → (lead_view l2).wrote ≡ (lead_view l).wrote → (lead_view l2).spans ≡ (lead_view l).spans → LeadsOn judges room most p v over l2 asked
@@ -135,6 +160,9 @@ module _ {judges : ℕ → Judge} {K : Type 0} {G : Ghosts K} {room : Room K} {m
     lawful = subst IsLawful (sym log) f.lawful;
     spans = spans ∙ (f.spans ∙ (λ i. f.before ++ span (sym same.2 i) (sym same.3 i) f.from (length (sym seen i)) ∷ []));
     handed_on = f.handed_on;
+    as_planned = f.as_planned;
+    may = λ e. moved_may l2 same seen (f.may e);
+    planned = λ e off. subst (λ (x : List (List ℕ)). has (hands_of room) (length x) ≡ true) (sym seen) (f.planned e off);
     serves = (let S : ℕ → List Entry → Type 0 = λ s x. FromAny x (λ start. Serves judges p v s start most (hands_of room) over (map ends_of f.before) f.from x asked) in
         subst (λ (s : ℕ). S s (G.log (kernel_of l2))) (sym same.3) (subst (λ (x : List Entry). S (version_of_lead l) x) (sym log) f.serves));
   }
@@ -151,9 +179,9 @@ module _ {judges : ℕ → Judge} {K : Type 0} {G : Ghosts K} {room : Room K} {m
 -- no call is asked
 module _ {judges : ℕ → Judge} {K : Type 0} {G : Ghosts K} {room : Room K} {most : ℕ} {p : Proc} {v : Running Proc} {l : Lead K G}
     (f : LeadsOn judges room most p v false l None) (new : Running Proc) (k : new ≡ asking_next threads most v) where
-  pub drops_lead : new.asked ≡ None → is_going new.at.fate ≡ false → HasEnded judges most (hands_of room) (version_of_lead l) p new (lead_view l)
-  drops_lead n e = ended_lead (version_of_lead l) f.before f.from (G.log (kernel_of l)) f.spelt f.lawful f.spans l.station_is f.handed_on
-      (λ start legal. drops threads thread_laws judges start most (hands_of room) (f.serves start legal) k n) e
+  pub drops_lead : new.asked ≡ None → is_going new.at.fate ≡ false → HasEnded judges most (hands_of room) (on_demand_of room) (version_of_lead l) p new (lead_view l)
+  drops_lead n e = ended_lead (version_of_lead l) f.before f.from (G.log (kernel_of l)) f.spelt f.lawful f.spans l.station_is f.handed_on f.as_planned
+      (λ start legal. drops threads thread_laws judges start most (hands_of room) (f.serves start legal) k n e) e
 
   pub asks_lead : {t : ℕ} → new.asked ≡ Some t → LeadsOn judges room most p new false l (Some t)
   asks_lead a = record {
@@ -166,6 +194,9 @@ module _ {judges : ℕ → Judge} {K : Type 0} {G : Ghosts K} {room : Room K} {m
     lawful = f.lawful;
     spans = f.spans;
     handed_on = f.handed_on;
+    as_planned = f.as_planned;
+    may = λ e. cc;
+    planned = λ e off. cc;
     serves = λ start legal. (record { before = v; serving = f.serves start legal; asking = k }, a);
   }
 
@@ -177,6 +208,9 @@ module _ {judges : ℕ → Judge} {K : Type 0} {G : Ghosts K} {room : Room K} {m
 
   abbrev hands : List ℕ
   hands = hands_of room
+
+  abbrev on_demand : Bool
+  on_demand = on_demand_of room
 
   abbrev led : List (ℕ × ℕ)
   led = map ends_of f.before
@@ -200,8 +234,8 @@ module _ {judges : ℕ → Judge} {K : Type 0} {G : Ghosts K} {room : Room K} {m
       asking.serving.led_from.seen asking.serving.led_from.in_step asking.asking asked_now
 
   -- there was no memory for it
-  pub refused_lead : (new : Running Proc) → new ≡ record v { at = record v.at { fate = Some Memory } } → HasEnded judges most hands (version_of_lead l) p new (lead_view l)
-  refused_lead new k = ended_lead (version_of_lead l) f.before f.from log f.spelt f.lawful f.spans l.station_is f.handed_on
+  pub refused_lead : (new : Running Proc) → new ≡ record v { at = record v.at { fate = Some Memory } } → HasEnded judges most hands on_demand (version_of_lead l) p new (lead_view l)
+  refused_lead new k = ended_lead (version_of_lead l) f.before f.from log f.spelt f.lawful f.spans l.station_is f.handed_on f.as_planned
       (λ start legal. refuses threads thread_laws judges start most hands (f.serves start legal).0 asked_now k) (ap (λ (x : Running Proc). is_going x.at.fate) k)
 
   -- it was served and published
@@ -243,12 +277,14 @@ module _ {judges : ℕ → Judge} {K : Type 0} {G : Ghosts K} {room : Room K} {m
     none_asked : new.asked ≡ None
     none_asked = ap (λ (x : Running Proc). x.asked) q.version
 
-    ended_now : is_going new.at.fate ≡ false → HasEnded judges most hands (version_of_lead l2) p new (lead_view l2)
-    ended_now e = subst (λ (i : ℕ). HasEnded judges most hands i p new (lead_view l2)) (sym q.same.3)
-        (ended_lead (version_of_lead l2) f.before f.from log2 spelt_now q.lawful spans_now l2.station_is f.handed_on led_now e)
+    ended_now : is_going new.at.fate ≡ false → HasEnded judges most hands on_demand (version_of_lead l2) p new (lead_view l2)
+    ended_now e = subst (λ (i : ℕ). HasEnded judges most hands on_demand i p new (lead_view l2)) (sym q.same.3)
+        (ended_lead (version_of_lead l2) f.before f.from log2 spelt_now q.lawful spans_now l2.station_is f.handed_on f.as_planned led_now e)
 
-    leads_now : (over : Bool) → FromAny log2 (λ start. IsServing threads judges start most hands over (version_of_lead l) p new led f.from log2) → LeadsOn judges room most p new over l2 None
-    leads_now over sv = record {
+    leads_now : (over : Bool) → (over ≡ true → MayHand (stations_of room) hands (lead_view l2).opened (length (lead_view l2).seen))
+        → (over ≡ true → on_demand ≡ false → has hands (length (lead_view l2).seen) ≡ true)
+        → FromAny log2 (λ start. IsServing threads judges start most hands over (version_of_lead l) p new led f.from log2) → LeadsOn judges room most p new over l2 None
+    leads_now over may planned sv = record {
       of = q.of;
       none_due = q.due;
       none_wrote = q.wrote;
@@ -258,21 +294,69 @@ module _ {judges : ℕ → Judge} {K : Type 0} {G : Ghosts K} {room : Room K} {m
       lawful = q.lawful;
       spans = spans_now;
       handed_on = f.handed_on;
+      as_planned = f.as_planned;
+      may = may;
+      planned = planned;
       serves = subst (λ (i : ℕ). FromAny log2 (λ start. IsServing threads judges start most hands over i p new led f.from log2)) (sym q.same.3) sv;
     }
 
-    after_by : (o : Option Fate) (b : Bool) → new.at.fate ≡ o → has hands new.at.seen ≡ b → AfterLead judges room most p new l2 None (next_after o b)
-    after_by (Some x) b e h = (q.of, q.due, ended_now (ap is_going e))
-    after_by None true e h = (
-      leads_now true (λ start legal. serves_to threads thread_laws judges start most hands (led_now start legal) e none_asked grew (ap (has hands) (sym seen_now) ∙ h)),
-      refl,
-    )
-    after_by None false e h =
-        leads_now false (λ start legal. serves_on threads thread_laws judges start most hands (led_now start legal) e none_asked (ap (has hands) (sym seen_now) ∙ h))
+    long_log : length (lead_view l2).seen ≡ new.at.seen
+    long_log = sym (ap (λ (x : List (List ℕ)). length x) spelt_now) ∙ (long_as log2 ∙ sym seen_now)
+
+    parts_now : length new.led ≡ length led + 1
+    parts_now = ap (λ (x : List (ℕ × ℕ)). length x) (led_now (as_told log2) (legal_told log2 q.lawful)).span ∙ length-append led ((f.from, length log2) ∷ [])
+
+    -- a station is left
+    may_now : (has hands new.at.seen ≡ true) ⊎ HasSpare hands room new l2 → MayHand (stations_of room) hands (lead_view l2).opened (length (lead_view l2).seen)
+    may_now (inl h) = inl (has_at hands (length (lead_view l2).seen) (ap (has hands) long_log ∙ h))
+    may_now (inr h) = inr (omega (arith, h.station, l2.opened_is, count_below hands (length (lead_view l2).seen), ap (count_above hands) long_log))
+
+    -- where leaders don't hand over on demand, the length is planned
+    planned_now : (has hands new.at.seen ≡ true) ⊎ HasSpare hands room new l2 → on_demand ≡ false → has hands (length (lead_view l2).seen) ≡ true
+    planned_now (inl h) off = ap (has hands) long_log ∙ h
+    planned_now (inr h) off = let both : true ≡ false = sym h.demand ∙ off in cc
+
+    few_now : (start : Start) → IsLegal start log2 → (has hands new.at.seen ≡ true) ⊎ HasSpare hands room new l2 → length led + 1 + count_above hands (length log2) ≤ 8
+    few_now start legal (inl h) = planned_few threads thread_laws judges start most hands (led_now start legal) grew (ap (has hands) (sym seen_now) ∙ h)
+    few_now start legal (inr h) = omega (arith, h.part, parts_now, ap (count_above hands) seen_now)
 
     -- what comes next
-    pub after_served : (planned : List ℕ) (next : Next) → hands_of room ≡ planned → next ≡ next_after new.at.fate (has planned new.at.seen)
-        → AfterLead judges room most p new l2 None next
-    after_served planned next hd is =
-        let e : next ≡ next_after new.at.fate (has hands new.at.seen) = is ∙ ap (λ (x : List ℕ). next_after new.at.fate (has x new.at.seen)) (sym hd) in
-        subst (λ (x : Next). AfterLead judges room most p new l2 None x) (sym e) (after_by new.at.fate (has hands new.at.seen) refl refl)
+    pub after_served : (next : Next) → IsNext hands room new l2 next → AfterLead judges room most p new l2 None next
+    after_served Moved n = leads_now false (λ e. cc) (λ e off. cc)
+        (λ start legal. serves_on threads thread_laws judges start most hands (led_now start legal) n.0 none_asked (ap (has hands) (sym seen_now) ∙ n.1))
+    after_served Ahead n = absurd n
+    after_served Waits n = absurd n
+    after_served Leads n = absurd n
+    after_served Hands n = (
+      leads_now true (λ e. may_now n.1) (λ e. planned_now n.1) (λ start legal. serves_to threads thread_laws judges start most hands (led_now start legal) n.0 none_asked grew (few_now start legal n.1)),
+      refl,
+    )
+    after_served Leaves n = (q.of, q.due, ended_now n)
+    after_served Left n = absurd n
+
+-- what comes next is the same by the lead as it was
+pub next_before : {K : Type 0} {G : Ghosts K} (planned : List ℕ) (room : Room K) (v : Running Proc) (l l2 : Lead K G) → SameLead l l2 → (next : Next) → IsNext planned room v l2 next → IsNext planned room v l next
+next_before planned room v l l2 same Moved n = n
+next_before planned room v l l2 same Ahead n = n
+next_before planned room v l l2 same Waits n = n
+next_before planned room v l l2 same Leads n = n
+next_before planned room v l l2 same Hands (on, inl h) = (on, inl h)
+next_before planned room v l l2 same Hands (on, inr h) =
+    (on, inr (record { demand = h.demand; station = subst (λ (n : ℕ). n + count_above planned v.at.seen < stations_of room) same.4 h.station; part = h.part }))
+next_before planned room v l l2 same Leaves n = n
+next_before planned room v l l2 same Left n = n
+
+-- the leader was asked whether it gives up the lead
+pub after_asked : {K : Type 0} {G : Ghosts K} (judges : ℕ → Judge) (room : Room K) (most : ℕ) (p : Proc) (v : Running Proc) (l l2 : Lead K G) (next : Next)
+    → SameLead l l2 → lead_view l2 ≡ lead_view l → due_of l2 ≡ due_of l → G.log (kernel_of l2) ≡ G.log (kernel_of l) → AfterLead judges room most p v l None next → AfterLead judges room most p v l2 None next
+after_asked judges room most p v l l2 Moved same w due as_log a = reserved_lead a l2 same w due as_log
+after_asked judges room most p v l l2 Ahead same w due as_log a = absurd a
+after_asked judges room most p v l l2 Waits same w due as_log a = reserved_lead a l2 same w due as_log
+after_asked judges room most p v l l2 Leads same w due as_log a = absurd a
+after_asked judges room most p v l l2 Hands same w due as_log a = (reserved_lead a.0 l2 same w due as_log, refl)
+after_asked {K} {G} judges room most p v l l2 Leaves same w due as_log a = (
+  of_same room l l2 a.0 same w,
+  due ∙ a.1,
+  subst (λ (i : ℕ). HasEnded judges most (hands_of room) (on_demand_of room) i p v (lead_view l2)) (sym same.3) (subst (λ (x : View K). HasEnded judges most (hands_of room) (on_demand_of room) (version_of_lead l) p v x) (sym w) a.2),
+)
+after_asked judges room most p v l l2 Left same w due as_log a = absurd a

@@ -213,6 +213,18 @@ pub from_version : (i : ℕ) (xs : List Span) (j : ℕ) (x : Span) → get_elem?
 from_version i [] j x h = absurd (some-ne-none x (sym h))
 from_version i (y ∷ xs) j x h = from_kept xs y x (of_version i xs) (y.version == i) j h (λ n q. from_version i xs n x q)
 
+kept_there : (b : Bool) (y x : Span) (ys : List Span) → (k : ℕ) × (get_elem? ys k ≡ some x) → (k : ℕ) × (get_elem? (kept_if b y ys) k ≡ some x)
+kept_there true y x ys there = (suc there.0, there.1)
+kept_there false y x ys there = there
+
+-- and a span of the list is one of its version
+pub version_there : (i : ℕ) (xs : List Span) (j : ℕ) (x : Span) → get_elem? xs j ≡ some x → x.version ≡ i → (k : ℕ) × (get_elem? (of_version i xs) k ≡ some x)
+version_there i [] j x e v = absurd (some-ne-none x (sym e))
+version_there i (y ∷ xs) zero x e v =
+    let same : y ≡ x = some-injective y x e in
+    (0, ap (λ (zs : List Span). get_elem? zs 0) (version_own i y xs (ap (λ (z : Span). z.version) same ∙ v)) ∙ ap (λ (z : Span). some z) same)
+version_there i (y ∷ xs) (suc j) x e v = kept_there (y.version == i) y x (of_version i xs) (version_there i xs j x e v)
+
 pub handed_prefix : (prefix : List Span) (x : Span) (back : List Span) → AreHandedOn (prefix ++ x ∷ back) → x.handed ≡ true
 handed_prefix [] x back a = a.0
 handed_prefix (y ∷ prefix) x back a = handed_prefix prefix x back a.1

@@ -32,9 +32,10 @@ use Rattle.nv_replay.proofs.Agreeing.{survivors}
 use Rattle.nv_room.specs.declared.view.Span.{Span}
 use Rattle.nv_room.specs.Spans.{Rising, of_station, of_version, Opened, Opens as Opens'}
 use Rattle.nv_words.specs.Spelling.{flag_bit}
-use Rattle.nv_workers.specs.Ends.{IsCutOf, ends_of, AreHandedOn, Leaving, IsSpelling, spelt, IsFinished, version_tracked, leader_begun, TakesLead, HandedOver, HasLedFrom, IsDroppedAt, HasFollowed, LeftWith, HasRunAll, IsAccount}
+use Rattle.nv_workers.specs.Ends.{IsCutOf, ends_of, AreHandedOn, Leaving, IsSpelling, spelt, IsFinished, version_tracked, leader_begun, TakesLead, HandedOver, Gap, AreGivenUp, asked_in, HasLedFrom, IsDroppedAt, HasFollowed, LeftWith, HasRunAll, IsAccount}
 use Rattle.nv_workers.proofs.Prefixes.{with_next, take_within}
 use Rattle.nv_workers.proofs.Keeping.{reaches, split_last, hands_planned}
+use Rattle.nv_workers.proofs.Asked.{given_up, gap_within, kept_end, at_front}
 use Rattle.nv_workers.proofs.Stations.{WentBy, LedBy}
 use Rattle.nv_workers.proofs.Spanned.{AreBelow, below_more, below_last, after_below, place_below, after_at, later_at, rising_at, pair_at, map_append, tile_by}
 use Rattle.nv_workers.proofs.Spanned.{none_below, none_there, none_opened, none_later, one_there, only_first, handed_prefix}
@@ -71,12 +72,19 @@ untold (Some v) = untold_by v.leading where
   untold_by true = refl
   untold_by false = refl
 
-module _ {P : Type 0} (g : Behaviour P) (laws : IsProcess g) (judges : ℕ → Judge) (start : Start) (most : ℕ) (hands : List ℕ) (fits : Entry → Type 0) (spell : Entry → List ℕ)
+module _ {P : Type 0} (g : Behaviour P) (laws : IsProcess g) (judges : ℕ → Judge) (start : Start) (most : ℕ) (planned : List ℕ) (fits : Entry → Type 0) (spell : Entry → List ℕ)
     (sp : IsSpelling fits spell) (olds news : List (Running P)) (h : List Entry) (left : ℕ → Leaving) (fin : IsFinished spell h (length news) left)
     (long : length news ≡ length olds) (fit : (k : ℕ) (e : Entry) → slice_get h k ≡ Some e → fits e)
-    (done : (k : ℕ) (old new : Running P) → slice_get olds k ≡ Some old → slice_get news k ≡ Some new → HasRunAll g judges start most hands fits spell k old.at.process new (left k)) where
+    (done : (k : ℕ) (old new : Running P) → slice_get olds k ≡ Some old → slice_get news k ≡ Some new → HasRunAll g judges start most planned fits spell k old.at.process new (left k)) where
   abbrev cuts : ℕ → Option ℕ
   cuts = cuts_of (map standing_of news)
+
+  -- the planned lengths, and where the lead was given up beside them
+  abbrev asked : List ℕ
+  asked = asked_in planned fin.spans
+
+  abbrev hands : List ℕ
+  hands = planned ++ asked
 
   abbrev ps : List P
   ps = map process_of olds
@@ -108,7 +116,7 @@ module _ {P : Type 0} (g : Behaviour P) (laws : IsProcess g) (judges : ℕ → J
     new : Running P
     at_old : slice_get olds i ≡ Some old
     at_new : slice_get news i ≡ Some new
-    is : HasRunAll g judges start most hands fits spell i old.at.process new (left i)
+    is : HasRunAll g judges start most planned fits spell i old.at.process new (left i)
 
   ran : (i : ℕ) → i < length news → Ran i
   ran i l =
@@ -170,7 +178,7 @@ module _ {P : Type 0} (g : Behaviour P) (laws : IsProcess g) (judges : ℕ → J
     more : length (left i).seen < length read → 0 < length (left i).words
     reach : Reaches (track_next g (judges i) v.led read) (fresh p) v.at
 
-  dropped : (i : ℕ) (l : i < length news) (p : P) (v : Running P) → IsDroppedAt g judges start most hands fits spell i p v (left i) → Fell i p v
+  dropped : (i : ℕ) (l : i < length news) (p : P) (v : Running P) → IsDroppedAt g judges start most planned fits spell i p v (left i) → Fell i p v
   dropped i l p v d =
       let w = fin.words i l in
       let f = fin.prefix i l in
@@ -187,7 +195,7 @@ module _ {P : Type 0} (g : Behaviour P) (laws : IsProcess g) (judges : ℕ → J
         reach = reaches (track_next g (judges i) v.led (seen ++ d.event ∷ [])) (fresh p) v.at d.stage;
       }
 
-  fell : (i : ℕ) (l : i < length news) (p : P) (v : Running P) → HasFollowed g judges start most hands fits spell i p v (left i) → Fell i p v
+  fell : (i : ℕ) (l : i < length news) (p : P) (v : Running P) → HasFollowed g judges start most planned fits spell i p v (left i) → Fell i p v
   fell i l p v d = elim d.stage [
     | inl st ↦ (let f = fin.prefix i l in record {
       read = (left i).seen;
@@ -212,7 +220,7 @@ module _ {P : Type 0} (g : Behaviour P) (laws : IsProcess g) (judges : ℕ → J
     abbrev p : P
     p = r.old.at.process
 
-    no_leader : LeftWith g judges start most hands fits spell i p r.new (left i) → ⊥
+    no_leader : LeftWith g judges start most planned fits spell i p r.new (left i) → ⊥
     no_leader d =
         let e : of_version i fin.spans ≡ d.prefix ++ d.last ∷ [] = sym (fin.led i (is_version k l)) ∙ d.spans in
         let a : get_elem? (of_version i fin.spans) (length d.prefix) ≡ some d.last = ap (λ (z : List Span). get_elem? z (length d.prefix)) e ∙ after_at d.prefix [] d.last in
@@ -238,7 +246,7 @@ module _ {P : Type 0} (g : Behaviour P) (laws : IsProcess g) (judges : ℕ → J
 
     went_out : below k i ≡ r.new.led → Went k i (seat own who p k)
     went_out e =
-        let d : HasFollowed g judges start most hands fits spell i p r.new (left i) = elim r.is.told [ inl d ↦ d | inr d ↦ absurd (no_leader d) ] in
+        let d : HasFollowed g judges start most planned fits spell i p r.new (left i) = elim r.is.told [ inl d ↦ d | inr d ↦ absurd (no_leader d) ] in
         let f = fell i (is_version k l) p r.new d in
         subst (λ (y : List (ℕ × ℕ)). Went k i (record { process = p; led = y; told = None })) (sym e) (record {
           read = f.read;
@@ -340,13 +348,19 @@ module _ {P : Type 0} (g : Behaviour P) (laws : IsProcess g) (judges : ℕ → J
               (version_tracked g judges iv pv parts (take x.from log)) end x.from) (sym hd);
         }
 
+    gap_here : x.to ≡ length (left iv).seen → Gap asked x.from (length (left iv).seen)
+    gap_here to = subst (λ (n : ℕ). Gap asked x.from n) to (gap_within planned (length h) fin.spans fin.tile (length ys) x here)
+
+    kept_here : x.handed ≡ false → x.to ≡ length (left iv).seen → is_going rv.new.at.fate ≡ false → x.from < length (left iv).seen → has asked (length (left iv).seen) ≡ false
+    kept_here kept to over more = subst (λ (n : ℕ). has asked n ≡ false) to (kept_end planned (length h) fin.spans fin.tile (length ys) x here kept (omega (arith, more, to)))
+
     -- it ended as the leader here
-    ended_out : (d : LeftWith g judges start most hands fits spell iv pv rv.new (left iv)) → d.prefix ≡ before → d.last ≡ x → tells (suc k) iv ≡ Some (standing_of rv.new) → Out parts
+    ended_out : (d : LeftWith g judges start most planned fits spell iv pv rv.new (left iv)) → d.prefix ≡ before → d.last ≡ x → tells (suc k) iv ≡ Some (standing_of rv.new) → Out parts
     ended_out d fe le told =
         let f = fin.prefix iv (is_version k l) in
         let seen : List Entry = (left iv).seen in
         let v = rv.new in
-        let H : List Span → ℕ → Type 0 = λ y n. HasLedFrom g judges start most hands iv pv v (map ends_of y) n seen in
+        let H : List Span → ℕ → Type 0 = λ y n. HasLedFrom g judges start most planned iv pv v (map ends_of y) n seen in
         let s : H before x.from = subst (λ (y : List Span). H y x.from) fe (subst (λ (y : Span). H d.prefix y.from) le d.led) in
         let hd : x.handed ≡ false = subst (λ (y : Span). y.handed ≡ false) le d.kept in
         let whole : (left iv).spans ≡ before ++ x ∷ [] = d.spans ∙ (λ j. fe j ++ le j ∷ []) in
@@ -361,7 +375,7 @@ module _ {P : Type 0} (g : Behaviour P) (laws : IsProcess g) (judges : ℕ → J
           below = λ j m. ap (λ (y : Option ℕ). is_cut y j) e ∙ su.below j (let n = s.seen in omega arith);
           end = λ z. e ∙ ap (cut_of v.at.fate) s.seen;
         }) in
-        let rc = reaches (next_or_hand g start most (cuts iv) hands x.from) (leader_begun g judges iv pv parts (take x.from seen)) end (s.stage (cuts iv) c) in
+        let rc = reaches (next_or_hand g start most (cuts iv) hands x.from) (leader_begun g judges iv pv parts (take x.from seen)) end (s.stage asked (gap_here to) (kept_here hd to) (cuts iv) c) in
         let lead : lead_to_hand g start most (cuts iv) hands (length (take x.from seen)) (leader_begun g judges iv pv parts (take x.from seen)) ≡ end =
         ap (λ (n : ℕ). lead_to_hand g start most (cuts iv) hands n (leader_begun g judges iv pv parts (take x.from seen))) long_from
         ∙ sym (hand_is g start most (cuts iv) hands x.from laws (leader_begun g judges iv pv parts (take x.from seen)) end rc (ended_rests g start most (cuts iv) hands x.from end ended)) in
@@ -397,19 +411,22 @@ module _ {P : Type 0} (g : Behaviour P) (laws : IsProcess g) (judges : ℕ → J
     tells_is : (b : Bool) → nat_le (suc k) (left iv).station ≡ b → tells (suc k) iv ≡ told_if rv.new rv.new.leading b
     tells_is b e = ap (λ (y : Option (Running P)). told_of y (nat_le (suc k) (left iv).station)) rv.at_new ∙ ap (told_if rv.new rv.new.leading) e
 
-    followed_led : HasFollowed g judges start most hands fits spell iv pv rv.new (left iv) → Out parts
+    followed_led : HasFollowed g judges start most planned fits spell iv pv rv.new (left iv) → Out parts
     followed_led d =
         let hd : x.handed ≡ true = handed_prefix before x later (subst AreHandedOn split d.handed_on) in
-        let over = d.handed parts (map ends_of later) x.from x.to (rv.is.spans ∙ led_split) in
+        let inside : (j : ℕ) (y : Span) → get_elem? (left iv).spans j ≡ some y → (m : ℕ) × (get_elem? fin.spans m ≡ some y) =
+        λ j y e. from_version iv fin.spans j y (subst (λ (z : List Span). get_elem? z j ≡ some y) (fin.led iv (is_version k l)) e) in
+        let given : AreGivenUp planned asked rv.new.led = subst (AreGivenUp planned asked) (sym rv.is.spans) (given_up planned (length h) fin.spans fin.tile (left iv).spans inside d.handed_on) in
+        let over = d.handed asked given parts (map ends_of later) x.from x.to (rv.is.spans ∙ led_split) in
         handed_out over hd (tells_is (nat_le (suc k) (left iv).station) refl ∙ told_none (nat_le (suc k) (left iv).station) d.idle)
 
     -- the span that it ended with as the leader
-    last_at : (d : LeftWith g judges start most hands fits spell iv pv rv.new (left iv)) → (j : ℕ) × (get_elem? fin.spans j ≡ some d.last)
+    last_at : (d : LeftWith g judges start most planned fits spell iv pv rv.new (left iv)) → (j : ℕ) × (get_elem? fin.spans j ≡ some d.last)
     last_at d =
         let e : of_version iv fin.spans ≡ d.prefix ++ d.last ∷ [] = sym (fin.led iv (is_version k l)) ∙ d.spans in
         from_version iv fin.spans (length d.prefix) d.last (ap (λ (z : List Span). get_elem? z (length d.prefix)) e ∙ after_at d.prefix [] d.last)
 
-    left_led : LeftWith g judges start most hands fits spell iv pv rv.new (left iv) → Out parts
+    left_led : LeftWith g judges start most planned fits spell iv pv rv.new (left iv) → Out parts
     left_led d = elim (split_last d.prefix before later d.last x (sym d.spans ∙ split)) [
       | inl (fe, le) ↦ (
           let s : (left iv).station ≡ k = sym d.station ∙ (ap (λ (y : Span). y.station) le ∙ at) in
@@ -427,7 +444,11 @@ module _ {P : Type 0} (g : Behaviour P) (laws : IsProcess g) (judges : ℕ → J
             | inl y ↦ grind (arith, nat_tests)
             | inr y ↦ absurd (high (omega arith))
           ] in
-          let over = d.led.handed parts (map ends_of more) x.from x.to (ap (map ends_of) fe ∙ map_append ends_of before (x ∷ more)) in
+          let whole : of_version iv fin.spans ≡ d.prefix ++ d.last ∷ [] = sym (fin.led iv (is_version k l)) ∙ d.spans in
+          let inside : (j : ℕ) (y : Span) → get_elem? d.prefix j ≡ some y → (m : ℕ) × (get_elem? fin.spans m ≡ some y) =
+          λ j y e. from_version iv fin.spans j y (subst (λ (z : List Span). get_elem? z j ≡ some y) (sym whole) (at_front d.prefix (d.last ∷ []) j y e)) in
+          let given : AreGivenUp planned asked (map ends_of d.prefix) = given_up planned (length h) fin.spans fin.tile d.prefix inside d.handed_on in
+          let over = d.led.handed asked given parts (map ends_of more) x.from x.to (ap (map ends_of) fe ∙ map_append ends_of before (x ∷ more)) in
           handed_out over hd (tells_is true b ∙ ap (λ (y : Bool). told_if rv.new y true) d.led.leading))
     ]
 
@@ -689,7 +710,7 @@ module _ {P : Type 0} (g : Behaviour P) (laws : IsProcess g) (judges : ℕ → J
       let same : record { log = h; lines = map standing_of news } ≡ record { log = h; lines = lines_of g judges start most cuts hands h 0 r.last.parts } = ap (λ (x : List Standing). record { log = h; lines = x }) (sym lines) in
       ◌∙◌ {b = record { log = h; lines = lines_of g judges start most cuts hands h 0 r.last.parts }} same r.told
 
-  pub accounts : AreFresh g 0 olds → IsLawful h → IsLegal start h → IsAccount g judges start most hands olds news h
+  pub accounts : AreFresh g 0 olds → IsLawful h → IsLegal start h → IsAccount g judges start most (planned ++ asked_in planned fin.spans) olds news h
   accounts fresh law legal =
       let e = told_account in record {
         account = e;

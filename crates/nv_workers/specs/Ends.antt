@@ -1,5 +1,5 @@
 -- What the room and the workers tell once all versions have ended.
-use Rattle.std.specs.Prelude.{◌≡◌, ℕ, ◌+◌, ◌<◌, ◌≤◌, ◌⊎◌, true, false, List, [], ◌∷◌, ◌++◌, map, length, take, Option, Some, None, slice_get}
+use Rattle.std.specs.Prelude.{◌≡◌, ℕ, ◌+◌, ◌<◌, ◌≤◌, ◌⊎◌, Bool, true, false, not, ◌&&◌, nat_lt, if◌then◌else◌, List, [], ◌∷◌, ◌++◌, map, length, take, Option, Some, None, slice_get}
 use mathlib.Core.Option.{some}
 use lib.ListN.{get_elem?}
 use Rattle.nv_calls.specs.Calls.{Entry}
@@ -101,24 +101,52 @@ module _ {P : Type 0} (g : Behaviour P) (judges : ℕ → Judge) (replies : Star
   abbrev pub AreHanded : ℕ → P → List (ℕ × ℕ) → List Entry → Type 0
   AreHanded i p led log = (prefix back : List (ℕ × ℕ)) (from to : ℕ) → led ≡ prefix ++ (from, to) ∷ back → HandedOver i p prefix from to log
 
+-- between these lengths, and at neither of them, none was asked for
+abbrev pub Gap : List ℕ → ℕ → ℕ → Type 0
+Gap asked from to = (n : ℕ) → from < n → n < to → has asked n ≡ false
+
+-- with the lengths that were asked for beside the planned ones, the lead is given up just where these parts end
+abbrev pub AreGivenUp : List ℕ → List ℕ → List (ℕ × ℕ) → Type 0
+AreGivenUp planned asked led = (prefix back : List (ℕ × ℕ)) (from to : ℕ) → led ≡ prefix ++ (from, to) ∷ back → from < to → Gap asked from to × (has (planned ++ asked) to ≡ true)
+
+-- a span with an event ended with a hand-over, at a length that isn't planned: there it was asked for
+abbrev pub asked_at : List ℕ → Span → Bool
+asked_at planned x = x.handed && (nat_lt x.from x.to && not (has planned x.to))
+
+abbrev pub asked_in : List ℕ → List Span → List ℕ
+asked_in planned [] = []
+asked_in planned (x ∷ xs) = if asked_at planned x then x.to ∷ asked_in planned xs else asked_in planned xs
+
+-- where leaders don't hand over on demand, none of these spans' hand-overs was asked for
+abbrev pub AsPlanned : Bool → List ℕ → List Span → Type 0
+AsPlanned on_demand planned xs = on_demand ≡ false → asked_in planned xs ≡ []
+
+-- Leaders may hand over where no length is planned, too. What a worker keeps holds with whatever lengths were asked for beside the planned ones, as long as
+-- its own parts are given up where they end.
+module _ {P : Type 0} (g : Behaviour P) (judges : ℕ → Judge) (replies : Start) (most : ℕ) (planned : List ℕ) where
+  -- so it led each of these parts
+  abbrev pub AreHandedBy : ℕ → P → List (ℕ × ℕ) → List Entry → Type 0
+  AreHandedBy i p led log = (asked : List ℕ) → AreGivenUp planned asked led → AreHanded g judges replies most (planned ++ asked) i p led log
+
   -- a version that has led from number `from` on, after the parts that it led before, with its seat's seen list: a worker keeps this
   -- while it leads, at each turn's end
   pub record HasLedFrom (i : ℕ) (p : P) (v : Running P) (led : List (ℕ × ℕ)) (from : ℕ) (log : List Entry) : Type 0 where
     pub index : v.index ≡ i
-    pub handed : AreHanded i p led log
+    pub handed : AreHandedBy i p led log
     pub past : EndBy from led
-    pub few : length led + count_above hands from ≤ length hands
+    pub few : length led + count_above planned from ≤ 8
     pub within : from ≤ length log
     pub takes : TakesLead g judges i p led (take from log)
-    pub stage : (c : Option ℕ) → IsCutOf c v.at.fate (length log)
-        → IsStage (next_or_hand g replies most c hands from) (leader_begun g judges i p led (take from log)) (leader_of v log)
+    -- with none asked for since it took the lead; one that has its fate gave it up at no length
+    pub stage : (asked : List ℕ) → Gap asked from (length log) → (is_going v.at.fate ≡ false → from < length log → has asked (length log) ≡ false) → (c : Option ℕ) → IsCutOf c v.at.fate (length log)
+        → IsStage (next_or_hand g replies most c (planned ++ asked) from) (leader_begun g judges i p led (take from log)) (leader_of v log)
     pub rewrites : v.at.rewrites ≡ (version_tracked g judges i p led (take from log)).rewrites
     pub seen : v.at.seen ≡ length log
     pub span : v.led ≡ led ++ (from, length log) ∷ []
     pub leading : v.leading ≡ true
     pub in_step : IsInStep g log v.at
 
-module _ {P : Type 0} (g : Behaviour P) (judges : ℕ → Judge) (replies : Start) (most : ℕ) (hands : List ℕ) (fits : Entry → Type 0) (spell : Entry → List ℕ) where
+module _ {P : Type 0} (g : Behaviour P) (judges : ℕ → Judge) (replies : Start) (most : ℕ) (planned : List ℕ) (fits : Entry → Type 0) (spell : Entry → List ℕ) where
   -- a follower that was dropped at an event all of whose words its seat has read
   pub record IsDroppedAt (i : ℕ) (p : P) (v : Running P) (l : Leaving) : Type 0 where
     pub event : Entry
@@ -130,7 +158,7 @@ module _ {P : Type 0} (g : Behaviour P) (judges : ℕ → Judge) (replies : Star
   pub record HasFollowed (i : ℕ) (p : P) (v : Running P) (l : Leaving) : Type 0 where
     pub idle : v.leading ≡ false
     pub handed_on : AreHandedOn l.spans
-    pub handed : AreHanded g judges replies most hands i p v.led l.seen
+    pub handed : AreHandedBy g judges replies most planned i p v.led l.seen
     pub stage : IsStage (track_next g (judges i) v.led l.seen) (fresh p) v.at ⊎ IsDroppedAt i p v l
 
   -- it ended as the leader
@@ -141,7 +169,7 @@ module _ {P : Type 0} (g : Behaviour P) (judges : ℕ → Judge) (replies : Star
     pub handed_on : AreHandedOn prefix
     pub kept : last.handed ≡ false
     pub station : last.station ≡ l.station
-    pub led : HasLedFrom g judges replies most hands i p v (map ends_of prefix) last.from l.seen
+    pub led : HasLedFrom g judges replies most planned i p v (map ends_of prefix) last.from l.seen
 
   -- run_all, of version i, fresh with the process p before and v after, and its Left
   pub record HasRunAll (i : ℕ) (p : P) (v : Running P) (l : Leaving) : Type 0 where

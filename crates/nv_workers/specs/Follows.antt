@@ -5,7 +5,7 @@ use Rattle.nv_room.specs.declared.view.View.{View}
 use Rattle.nv_room.specs.declared.room.Room.{Room}
 use Rattle.nv_room.specs.declared.room.Reader.{Reader}
 use Rattle.nv_room.specs.Owner.{is_held, is_free}
-use Rattle.nv_room.specs.Seats.{IsOfRoom, view, version_of_reader, hands_of}
+use Rattle.nv_room.specs.Seats.{IsOfRoom, view, version_of_reader, hands_of, on_demand_of}
 use Rattle.nv_promotion.specs.Lowers.{IsAlive}
 use Rattle.nv_threads.specs.Threads.{Proc}
 use Rattle.nv_replay.specs.Follow.{Judge}
@@ -32,7 +32,7 @@ module _ (judges : ℕ → Judge) {K : Type 0} {G : Ghosts K} (room : Room K) (m
   AfterTurn Waits = FollowsOn judges room most p v r held buf
   AfterTurn Leads = FollowsOn judges room most p v r false buf × ((view r).freed ≡ Some (length (view r).seen))
   AfterTurn Hands = ⊥
-  AfterTurn Leaves = IsOfRoom room r × HasEnded judges most (hands_of room) (version_of_reader r) p v (view r)
+  AfterTurn Leaves = IsOfRoom room r × HasEnded judges most (hands_of room) (on_demand_of room) (version_of_reader r) p v (view r)
   AfterTurn Left = ⊥
 
 -- a turn after which the version follows on has consumed the event, or has rewritten the version's call

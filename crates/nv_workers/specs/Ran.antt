@@ -3,7 +3,7 @@ use Rattle.std.specs.Prelude.{◌≡◌, ℕ, ◌+◌, List, [], ◌∷◌, leng
 use Rattle.nv_served.specs.declared.kernel.SyscallKernel.{Ghosts}
 use Rattle.nv_room.specs.declared.room.Room.{Room}
 use Rattle.nv_room.specs.declared.room.Left.{Left}
-use Rattle.nv_room.specs.Seats.{IsLeftOf, left_view, version_of_left, versions_of, hands_of}
+use Rattle.nv_room.specs.Seats.{IsLeftOf, left_view, version_of_left, versions_of, hands_of, on_demand_of}
 use Rattle.nv_threads.specs.Threads.{Proc, threads}
 use Rattle.nv_replay.specs.Follow.{Judge}
 use Rattle.nv_replay.specs.Version.{Running}
@@ -27,7 +27,7 @@ module _ (judges : ℕ → Judge) {K : Type 0} {G : Ghosts K} (room : Room K) (m
   pub record HasRun (i : ℕ) (fresh v : Running Proc) (l : Left K G) : Type 0 where
     pub of : IsLeftOf room l
     pub version : version_of_left l ≡ i
-    pub ended : HasEnded judges most (hands_of room) i fresh.at.process v (left_view l)
+    pub ended : HasEnded judges most (hands_of room) (on_demand_of room) i fresh.at.process v (left_view l)
 
   -- so do the versions from number i on
   abbrev pub HaveRun : ℕ → List (Running Proc) → List (Running Proc) → List (Left K G) → Type 0

@@ -2,7 +2,7 @@
 use Rattle.std.specs.Prelude.{◌≡◌, ◌<◌, ◌⊎◌, ℕ, false, List, length, None}
 use Rattle.nv_served.specs.declared.kernel.SyscallKernel.{Ghosts}
 use Rattle.nv_room.specs.declared.room.Room.{Room}
-use Rattle.nv_room.specs.Seats.{IsLeftOf, view, lead_view, left_view, version_of_reader, version_of_lead, version_of_left, hands_of}
+use Rattle.nv_room.specs.Seats.{IsLeftOf, view, lead_view, left_view, version_of_reader, version_of_lead, version_of_left, hands_of, on_demand_of}
 use Rattle.nv_threads.specs.Threads.{Proc}
 use Rattle.nv_replay.specs.Follow.{Judge}
 use Rattle.nv_replay.specs.Sequence.{is_going}
@@ -38,7 +38,7 @@ module _ (judges : ℕ → Judge) {K : Type 0} {G : Ghosts K} (room : Room K) (m
   abbrev pub WorksAt : Seat K G → Type 0
   WorksAt (Reading r held) = FollowsOn judges room most p v r held buf
   WorksAt (Leading l asked) = LeadsOn judges room most p v false l asked
-  WorksAt (Gone l) = IsLeftOf room l × HasEnded judges most (hands_of room) (version_of_left l) p v (left_view l)
+  WorksAt (Gone l) = IsLeftOf room l × HasEnded judges most (hands_of room) (on_demand_of room) (version_of_left l) p v (left_view l)
   WorksAt Moving = ⊥
 
 module _ {K : Type 0} {G : Ghosts K} where

@@ -11,11 +11,13 @@ use Rattle.nv_room.specs.declared.room.Room.{Room}
 use Rattle.nv_room.specs.declared.room.Reader.{Reader}
 use Rattle.nv_room.specs.declared.room.Lead.{Lead}
 use Rattle.nv_room.specs.Spans.{span}
-use Rattle.nv_room.specs.Seats.{IsOfRoom, IsLeadOf, view, lead_view, version_of_reader, station_of_lead, version_of_lead, kernel_of, due_of, hands_of}
+use Rattle.nv_room.specs.Room.{MayHand}
+use Rattle.nv_room.specs.Seats.{IsOfRoom, IsLeadOf, view, lead_view, version_of_reader, station_of_lead, version_of_lead, kernel_of, due_of, stations_of, hands_of, on_demand_of}
 use Rattle.nv_threads.specs.Threads.{Proc, threads}
 use Rattle.nv_replay.specs.Follow.{Judge}
 use Rattle.nv_replay.specs.Version.{Running}
-use Rattle.nv_workers.specs.Ends.{Leaving, ends_of, AreHandedOn, HasRunAll}
+use Rattle.nv_replay.specs.Hands.{has}
+use Rattle.nv_workers.specs.Ends.{Leaving, ends_of, AreHandedOn, AsPlanned, HasRunAll}
 use Rattle.nv_workers.specs.Turns.{held_list, IsReaders, IsServing, IsAsking}
 
 -- what a seat that saw this log tells once it has left
@@ -30,15 +32,16 @@ HoldsNext true read buf None = ⊥
 HoldsNext true read buf (Some e) = (read ≡ spell e) × (buf ≡ spell e)
 
 -- version i has its fate. Its seat has seen as many events as it has, and tells the spans that it led
-pub record HasEnded (judges : ℕ → Judge) {T : Type 0} (most : ℕ) (hands : List ℕ) (i : ℕ) (p : Proc) (v : Running Proc) (w : View T) : Type 0 where
+pub record HasEnded (judges : ℕ → Judge) {T : Type 0} (most : ℕ) (hands : List ℕ) (on_demand : Bool) (i : ℕ) (p : Proc) (v : Running Proc) (w : View T) : Type 0 where
   pub log : List Entry
   pub spelt : map spell log ≡ w.seen
   pub lawful : IsLawful log
   pub count : v.at.seen ≡ length w.seen
   pub led : v.led ≡ map ends_of w.spans
+  pub as_planned : AsPlanned on_demand hands w.spans
   pub done : FromAny log (λ start. HasRunAll threads judges start most hands InRange spell i p v (leaving_of log w))
 
--- a leader's version has no call asked, or that of this thread; `over` says that it has just led to a planned length
+-- a leader's version has no call asked, or that of this thread; `over` says that it gives up the lead here
 abbrev pub Serves : (ℕ → Judge) → Proc → Running Proc → ℕ → Start → ℕ → List ℕ → Bool → List (ℕ × ℕ) → ℕ → List Entry → Option ℕ → Type 0
 Serves judges p v i start most hands over led from log None = IsServing threads judges start most hands over i p v led from log
 Serves judges p v i start most hands over led from log (Some t) = IsAsking threads judges start most hands i p v led from log × (v.asked ≡ Some t)
@@ -54,6 +57,7 @@ module _ (judges : ℕ → Judge) {K : Type 0} {G : Ghosts K} (room : Room K) (m
     pub holds : HoldsNext held (view r).read buf next
     pub led : v.led ≡ map ends_of (view r).spans
     pub handed_on : AreHandedOn (view r).spans
+    pub as_planned : AsPlanned (on_demand_of room) (hands_of room) (view r).spans
     pub reading : FromAny log (λ start. IsReaders threads judges start most (hands_of room) (version_of_reader r) p v log next)
 
   -- a version without a fate that was fresh with the process p, and its lead; where it is over, it gives up the lead next
@@ -67,4 +71,7 @@ module _ (judges : ℕ → Judge) {K : Type 0} {G : Ghosts K} (room : Room K) (m
     pub lawful : IsLawful (G.log (kernel_of l))
     pub spans : (lead_view l).spans ≡ before ++ span (station_of_lead l) (version_of_lead l) from (length (lead_view l).seen) ∷ []
     pub handed_on : AreHandedOn before
+    pub as_planned : AsPlanned (on_demand_of room) (hands_of room) before
+    pub may : over ≡ true → MayHand (stations_of room) (hands_of room) (lead_view l).opened (length (lead_view l).seen)
+    pub planned : over ≡ true → on_demand_of room ≡ false → has (hands_of room) (length (lead_view l).seen) ≡ true
     pub serves : FromAny (G.log (kernel_of l)) (λ start. Serves judges p v (version_of_lead l) start most (hands_of room) over (map ends_of before) from (G.log (kernel_of l)) asked)

@@ -31,7 +31,7 @@ pub(crate) enum Next {
     Waits,
     /// It takes the lead.
     Leads,
-    /// It gives up the lead at a planned length.
+    /// It hands over.
     Hands,
     /// Its version has ended.
     Leaves,
@@ -126,7 +126,8 @@ fn find_event<K: SyscallKernel>(reader: &mut Reader<K>, room: &Room<K>, buf: &mu
         Lower::Alive(_) => return Found::Held,
         Lower::AllGone => {}
     }
-    match poll_merged(reader, room, buf) {
+    let again = poll_merged(reader, room, buf);
+    match again {
         Polled::Event => Found::Event,
         Polled::Free(_) => Found::Free,
         Polled::Waiting | Polled::Closed(_) => unreachable!(),

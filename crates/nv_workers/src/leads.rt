@@ -1,15 +1,15 @@
 //! A leader's turn.
-ghost use Rattle.std.specs.Prelude.{◌≡◌, ◌≤◌, ℕ, Some, None, false, length};
+ghost use Rattle.std.specs.Prelude.{◌≡◌, ◌≤◌, ℕ, Some, None, false, true, length};
 ghost use Rattle.nv_threads.specs.Threads.{Proc};
 ghost use Rattle.nv_replay.specs.Follow.{Judge};
-ghost use Rattle.nv_replay.specs.Hands.{has};
+ghost use Rattle.nv_replay.specs.Hands.{has, count_above};
 ghost use Rattle.nv_room.specs.Kinds.{Stepped};
-ghost use Rattle.nv_room.specs.Seats.{SameLead, lead_view, stations_of, version_of_lead};
+ghost use Rattle.nv_room.specs.Seats.{SameLead, lead_view, stations_of, version_of_lead, kernel_of, due_of};
 ghost use Rattle.nv_workers.specs.Terms.{AreOfRoom};
 ghost use Rattle.nv_workers.specs.Working.{LeadsOn};
 ghost use Rattle.nv_workers.specs.Growing.{OneMoreAtMost};
 ghost use Rattle.nv_workers.specs.Publishing.{CanPublish, IsPublished};
-ghost use Rattle.nv_workers.specs.inner.Leads.{AfterLead, HasPublished, IsLate, next_after};
+ghost use Rattle.nv_workers.specs.inner.Leads.{AfterLead, HasPublished, IsLate, HasSpare, IsNext};
 
 use crate::follows::Next;
 use crate::gate::{Gate, VersionNumber};
@@ -79,7 +79,7 @@ fn serve<K: SyscallKernel, G: Gate>(
     terms.gate.before_publish(leader(lead), lead.seen());
     publish_call(version, lead, tid, room, terms.gate);
     *asked = None;
-    next_of(version, terms.hands)
+    next_of(version, lead, room, terms.hands)
 }
 
 // The version that leads, whatever its station's number is.
@@ -90,8 +90,17 @@ pub(crate) fn leader<K: SyscallKernel>(lead: &Lead<K>) -> VersionNumber
 }
 
 // What comes next for a leader whose call was served.
-fn next_of(version: &Version, hands: &[u32]) -> Next
-    ensures { result ≡ next_after version.now.at.fate (has hands.now version.now.at.seen) }
+fn next_of<K: SyscallKernel>(
+    version: &Version,
+    lead: &mut Lead<K>,
+    room: &Room<K>,
+    hands: &[u32],
+) -> Next
+    ensures next { IsNext hands.now room.now version.now lead.new result }
+    ensures same { SameLead lead.old lead.new }
+    ensures view { lead_view lead.new ≡ lead_view lead.old }
+    ensures due { due_of lead.new ≡ due_of lead.old }
+    ensures log { K.log (kernel_of lead.new) ≡ K.log (kernel_of lead.old) }
 {
     if version.standing().fate.is_some() {
         return Next::Leaves;
@@ -99,7 +108,41 @@ fn next_of(version: &Version, hands: &[u32]) -> Next
     if is_planned(hands, version.standing().seen) {
         return Next::Hands;
     }
+    if has_spare(version, lead, room, hands) && lead.hands_over() {
+        return Next::Hands;
+    }
     Next::Moved
+}
+
+// How many parts of the log a version may lead.
+const MOST_PARTS: usize = 8;
+
+// Whether the leader may hand over at a length that isn't planned: on demand, where a station and a part are left beside those for the
+// planned lengths above this one.
+fn has_spare<K: SyscallKernel>(
+    version: &Version,
+    lead: &Lead<K>,
+    room: &Room<K>,
+    hands: &[u32],
+) -> bool
+    ensures { result ≡ true → HasSpare hands.now room.now version.now lead.now }
+{
+    let standing = version.standing();
+    let later = count_above(hands, standing.seen);
+    let station_left = lead.opened() as usize + later < room.stations() as usize;
+    let part_left = standing.led.as_slice().len() + later <= MOST_PARTS;
+    room.on_demand() && station_left && part_left
+}
+
+// How many of these lengths are above this one.
+fn count_above(hands: &[u32], at: u32) -> usize
+    ensures is { result ≡ count_above hands.now at }
+    ensures few { result ≤ length hands.now }
+{
+    match hands {
+        [] => 0,
+        [first, rest @ ..] => usize::from(*first > at) + count_above(rest, at),
+    }
 }
 
 fn is_planned(hands: &[u32], length: u32) -> bool

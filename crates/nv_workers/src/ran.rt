@@ -1,9 +1,9 @@
 //! A whole run.
-ghost use Rattle.std.specs.Prelude.{◌≡◌, ◌≤◌, ◌<◌, ◌+◌, ◌++◌, ℕ, List, [], length, vec_len, vec_capacity, IfOk, IfErr};
+ghost use Rattle.std.specs.Prelude.{◌≡◌, ◌≤◌, ◌<◌, ◌+◌, ◌++◌, ℕ, List, [], false, length, vec_len, vec_capacity, IfOk, IfErr};
 ghost use Rattle.nv_threads.specs.Threads.{Proc, threads};
 ghost use Rattle.nv_replay.specs.Follow.{Judge};
 ghost use Rattle.nv_replay.specs.Version.{Running};
-ghost use Rattle.nv_room.specs.Seats.{versions_of, hands_of, origin};
+ghost use Rattle.nv_room.specs.Seats.{versions_of, hands_of, on_demand_of, origin};
 ghost use Rattle.nv_workers.specs.Ends.{IsAccount};
 ghost use Rattle.nv_workers.specs.Terms.{AreOfRoom, judges_of};
 ghost use Rattle.nv_workers.specs.inner.Rounds.{CanAll, AllOn, AreGone};
@@ -149,12 +149,13 @@ fn take_apart<K: SyscallKernel>(
     }
 }
 
-/// The room ends, and the account is the one of the versions one after another: the plain monitor's.
+/// The room ends, and the account is that of the versions one after another: the plain monitor's, with the planned lengths and
+/// those at which leaders handed over besides, of which there are none in a room whose leaders don't hand over on demand.
 pub fn end<K: SyscallKernel>(ran: Ran<K>) -> Account<K>
     requires { (judges : ℕ → Judge) × (most : ℕ) × (fresh : List (Running Proc)) × AllRan judges ran.room most fresh ran.versions.items ran.left.items }
     ensures start { K.start result.kernel ≡ K.start (origin ran.room) }
     ensures account { (judges : ℕ → Judge) (most : ℕ) (fresh : List (Running Proc)) → AllRan judges ran.room most fresh ran.versions.items ran.left.items
-        → IsAccount threads judges (K.known result.kernel) most (hands_of ran.room) fresh result.versions.items (K.log result.kernel) }
+        → (asked : List ℕ) × (on_demand_of ran.room ≡ false → asked ≡ []) × IsAccount threads judges (K.known result.kernel) most (hands_of ran.room ++ asked) fresh result.versions.items (K.log result.kernel) }
 {
     let Ran {
         room,

@@ -1,6 +1,6 @@
 // The words of the command line.
 use crate::notes::Telling;
-use nv_command::LineFault;
+use nv_command::{Command, LineFault, Name};
 use std::{env, io};
 
 // Arguments are refused where one of them isn't text.
@@ -19,32 +19,29 @@ pub fn words(rt: &HostRuntime) -> Result<Vec<String>, LineFault> {
     }
 }
 
-fn has(words: &Result<Vec<String>, LineFault>, place: usize, word: &str) -> bool {
-    match words {
-        Ok(words) => words.get(place).is_some_and(|other| other.as_str() == word),
-        Err(_) => false,
+/// Whether the words name a live run, whose standard output is its guests'.
+pub fn is_service(words: &Result<Vec<String>, LineFault>) -> bool {
+    let Ok(words) = words else {
+        return false;
+    };
+    match words.get(1) {
+        Some(name) => matches!(Name::of(name.as_str()), Some(Name::Serve)),
+        None => false,
     }
 }
 
-/// Whether the words name a live run, whose standard output is its guests'.
-pub fn is_service(words: &Result<Vec<String>, LineFault>) -> bool {
-    has(words, 1, "serve")
-}
-
-fn names_log(words: &Result<Vec<String>, LineFault>) -> bool {
-    match words {
-        Ok(words) => words.iter().any(|word| word.as_str() == "--log"),
-        Err(_) => false,
+fn told_of(asked: Result<Command<'_>, LineFault>) -> Telling {
+    match asked {
+        Ok(Command::Serve(service)) if service.log => Telling::Events,
+        Ok(Command::Serve(_)) => Telling::Ends,
+        _ => Telling::Nothing,
     }
 }
 
 /// What a live run tells on standard error while it goes on.
-pub fn telling(words: &Result<Vec<String>, LineFault>) -> Telling {
-    if !is_service(words) {
-        Telling::Nothing
-    } else if names_log(words) {
-        Telling::Events
-    } else {
-        Telling::Ends
+pub fn telling(rt: &HostRuntime, words: &Result<Vec<String>, LineFault>) -> Telling {
+    match words {
+        Ok(words) => told_of(nv_command::read(rt.alloc(), words.as_slice())),
+        Err(_) => Telling::Nothing,
     }
 }

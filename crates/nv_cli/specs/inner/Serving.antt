@@ -1,5 +1,5 @@
 -- A live run, step by step.
-use Rattle.std.specs.Prelude.{◌≡◌, ◌≤◌, ◌⊎◌, ℕ, Bool, List, [], Option, None, Some, IsTrue, length, map}
+use Rattle.std.specs.Prelude.{◌≡◌, ◌≤◌, ◌⊎◌, ℕ, Bool, false, List, [], Option, None, Some, IsTrue, length, map}
 use Rattle.nv_arrivals.specs.Arrivals.{Arrival}
 use Rattle.nv_arriving.specs.Arriving.{start_of_arrivals}
 use Rattle.nv_arriving.specs.Kernel.{Coming, begun_in}
@@ -23,14 +23,14 @@ use Rattle.nv_script.specs.Scripts.{Setup, is_script}
 use Rattle.nv_script.specs.Transcripts.{IsTranscript}
 use Rattle.nv_script.specs.Views.{setup_of}
 use Rattle.nv_threads.specs.Threads.{Proc, threads}
-use Rattle.nv_workers.specs.Ends.{IsAccount}
 use Rattle.nv_driver.specs.Account.{IsRunOf, process_begun, run_status}
 use Rattle.nv_driver.specs.Due.{Says}
-use Rattle.nv_driver.specs.Live.{Lived, Streams, with_arrivals, ending_of}
+use Rattle.nv_driver.specs.Live.{Lived, Streams, with_arrivals, with_hands, ending_of}
 use Rattle.nv_driver.specs.Outcome.{NoMemory, text_of}
 use Rattle.nv_driver.specs.Refusals.{IsPlanned}
 use Rattle.nv_driver.specs.declared.ending.Ending.{Ending}
 use Rattle.nv_driver.specs.declared.live.LivePrepared.{LivePrepared}
+use Rattle.nv_cli.specs.inner.Demands.{IsAccountOnDemand}
 
 -- a live run's files, with what its kernel and its versions ask of them
 pub record IsReadyToServe (prepared : LivePrepared) : Type 0 where
@@ -48,12 +48,12 @@ module _ {I O T : Type 0} (took : I → Option (List (List ℕ))) (unread : I �
   pub record IsBegunOver (clients : Bool) (setup : Setup) (head : List ℕ) (streams : Held I O T) (k : Logged (Coming (LiveRun I O T))) : Type 0 where
     pub empty : k.log ≡ []
     pub setup_is : k.setup ≡ setup
-    pub begun : IsBegun took unread said unsaid noted unnoted clients head streams (told k.answers.begun)
+    pub begun : IsBegun took unread said unsaid noted unnoted clients head setup.hands streams (told k.answers.begun)
 
 -- the versions ran over what came to this kernel
-pub record RanOver {X T : Type 0} (told : X → T) (kernel : Logged (Coming X)) (rules : Option (List Op)) (calls : ℕ) (hands : List ℕ) (versions : List (Running Proc)) (account : Ran (Logged (Coming X))) : Type 0 where
+pub record RanOver {X T : Type 0} (told : X → T) (clients : Bool) (kernel : Logged (Coming X)) (rules : Option (List Op)) (calls : ℕ) (hands : List ℕ) (versions : List (Running Proc)) (account : Ran (Logged (Coming X))) : Type 0 where
   pub same : begun_in told account.kernel.setup account.kernel.answers ≡ begun_in told kernel.setup kernel.answers
-  pub is_account : IsAccount threads (judge_of rules) (start_of_arrivals account.kernel.setup account.kernel.answers.came) calls hands versions account.versions.items account.kernel.log
+  pub account_is : IsAccountOnDemand clients (judge_of rules) (start_of_arrivals account.kernel.setup account.kernel.answers.came) calls hands versions account.versions.items account.kernel.log
 
 -- what an outside leaves, with what no call took behind its transcript
 pub record HasLeft {I O T : Type 0} (noted : T → Option (List ℕ)) (unnoted : T → ℕ) (live : LiveRun I O T) (streams : Held I O T) (ending : Ending) : Type 0 where
@@ -67,8 +67,10 @@ pub record HasLeft {I O T : Type 0} (noted : T → Option (List ℕ)) (unnoted :
 -- The versions ran over what came, nothing was written beside their streams, and these are left.
 pub record Served (limits : Limits) (clients : Bool) (setup : Setup) (rules : Option (List Op)) (machines : List Machine) (streams : Streams) (before : Option (List ℕ)) (faults status : ℕ) (after : Option (List ℕ)) (later_faults : ℕ) (left : Option (Streams × Ending)) : Type 0 where
   pub arrivals : List Arrival
+  pub asked : List ℕ
   pub account : Account
-  pub is_run : IsRunOf limits (with_arrivals setup arrivals) rules machines account
+  pub only : clients ≡ false → asked ≡ []
+  pub is_run : IsRunOf limits (with_hands (with_arrivals setup arrivals) asked) rules machines account
   pub says : Says [] (run_status account.lines) before faults status after later_faults
   pub later : Streams
   pub ending : Ending

@@ -1,24 +1,38 @@
 -- What a leader's turn comes to.
-use Rattle.std.specs.Prelude.{◌≡◌, ◌<◌, ℕ, Bool, true, false, length, Option, Some, None}
+use Rattle.std.specs.Prelude.{◌≡◌, ◌+◌, ◌<◌, ◌≤◌, ◌⊎◌, ℕ, true, false, List, length, Option, None}
 use Rattle.nv_served.specs.declared.kernel.SyscallKernel.{Ghosts}
 use Rattle.nv_room.specs.declared.view.View.{View}
 use Rattle.nv_room.specs.declared.room.Room.{Room}
 use Rattle.nv_room.specs.declared.room.Lead.{Lead}
-use Rattle.nv_room.specs.Seats.{IsLeadOf, lead_view, version_of_lead, due_of, hands_of}
+use Rattle.nv_room.specs.Seats.{IsLeadOf, lead_view, version_of_lead, opened_of, due_of, stations_of, hands_of, on_demand_of}
 use Rattle.nv_ring.specs.Places.{WaitsFor}
 use Rattle.nv_threads.specs.Threads.{Proc}
-use Rattle.nv_replay.specs.declared.fate.Fate.{Fate}
 use Rattle.nv_replay.specs.Follow.{Judge}
+use Rattle.nv_replay.specs.Hands.{has, count_above}
+use Rattle.nv_replay.specs.Sequence.{is_going}
 use Rattle.nv_replay.specs.Version.{Running}
 use Rattle.nv_workers.specs.declared.follows.Next.{Next}
 use Rattle.nv_workers.specs.declared.follows.Next.TheVariants.{Moved, Ahead, Waits, Leads, Hands, Leaves, Left}
 use Rattle.nv_workers.specs.Working.{LeadsOn, HasEnded}
 
--- what comes next for a leader with this fate, where its length is planned or not
-abbrev pub next_after : Option Fate → Bool → Next
-next_after (Some fate) planned = Leaves
-next_after None true = Hands
-next_after None false = Moved
+-- Leaders hand over on demand. A station is left beside those kept for the planned lengths above this one, and the version may lead a part beside those that it
+-- may have to lead from them on.
+pub record HasSpare {K : Type 0} {G : Ghosts K} (planned : List ℕ) (room : Room K) (v : Running Proc) (l : Lead K G) : Type 0 where
+  pub demand : on_demand_of room ≡ true
+  pub station : opened_of l + count_above planned v.at.seen < stations_of room
+  pub part : length v.led + count_above planned v.at.seen ≤ 8
+
+-- What comes next for a leader whose call was served: with its fate it leaves. Else it goes on only at a length that isn't planned, and hands over only at one
+-- that is, or where it may.
+module _ {K : Type 0} {G : Ghosts K} (planned : List ℕ) (room : Room K) (v : Running Proc) (l : Lead K G) where
+  abbrev pub IsNext : Next → Type 0
+  IsNext Moved = (v.at.fate ≡ None) × (has planned v.at.seen ≡ false)
+  IsNext Ahead = ⊥
+  IsNext Waits = ⊥
+  IsNext Leads = ⊥
+  IsNext Hands = (v.at.fate ≡ None) × ((has planned v.at.seen ≡ true) ⊎ HasSpare planned room v l)
+  IsNext Leaves = is_going v.at.fate ≡ false
+  IsNext Left = ⊥
 
 module _ (judges : ℕ → Judge) {K : Type 0} {G : Ghosts K} (room : Room K) (most : ℕ) (p : Proc) (v : Running Proc) (l : Lead K G) (asked : Option ℕ) where
   abbrev pub AfterLead : Next → Type 0
@@ -27,7 +41,7 @@ module _ (judges : ℕ → Judge) {K : Type 0} {G : Ghosts K} (room : Room K) (m
   AfterLead Waits = LeadsOn judges room most p v false l asked
   AfterLead Leads = ⊥
   AfterLead Hands = LeadsOn judges room most p v true l asked × (asked ≡ None)
-  AfterLead Leaves = IsLeadOf room l × (due_of l ≡ false) × HasEnded judges most (hands_of room) (version_of_lead l) p v (lead_view l)
+  AfterLead Leaves = IsLeadOf room l × (due_of l ≡ false) × HasEnded judges most (hands_of room) (on_demand_of room) (version_of_lead l) p v (lead_view l)
   AfterLead Left = ⊥
 
 -- a turn after which the version leads on, or gives up the lead, has published an event

@@ -1,37 +1,4 @@
-use Rattle.std.proofs.Common.{option_map, rules}
+use Rattle.std.proofs.Common.{option_map, refl}
 use Rattle.nv_replay.specs.Follow.{judge_of}
-use Rattle.nv_threads.specs.Threads.{threads}
-use Rattle.nv_workers.proofs.NewSeats.{as_made}
-use Rattle.nv_cli.proofs.NoVersions.{no_versions}
+use Rattle.nv_cli.proofs.Demands.{planned_alone}
 use Rattle.nv_cli.proofs.beside.run.Goals as goal
-
-pub returns-then-is_empty-clause-account : goal.returns-then-is_empty-clause-account
-returns-then-is_empty-clause-account g c =
-    no_versions threads (judge_of (option_map (λ f. f.now) c.args.rules)) (g.K.SyscallKernel.known c.args.kernel) c.args.limits.calls c.args.hands.now.items c.args.versions.items (g.K.SyscallKernel.log c.args.kernel)
-    (search rules) c.requires.empty
-
-pub staff-requires-clause-seats : goal.staff-requires-clause-seats
-staff-requires-clause-seats g c κs within =
-    let m = c.in_ok-room.ensures in
-    (c.in_ok-room.room, as_made c.in_ok-room.room c.in_ok-room.readers.items c.in_ok-room.lead m.readers.1 m.lead m.log)
-
-pub run_all-requires-clause-new : goal.run_all-requires-clause-new
-run_all-requires-clause-new g c κs within =
-    let m = c.in_ok-room.ensures in (
-      c.args.versions.items,
-      c.in_ok-workers.ensures.new c.in_ok-room.room
-          (as_made c.in_ok-room.room c.in_ok-room.readers.items c.in_ok-room.lead m.readers.1 m.lead m.log),
-    )
-
-pub run_all-requires-clause-terms : goal.run_all-requires-clause-terms
-run_all-requires-clause-terms g c κs within = record { most = c.args.limits.calls_fit.1; hands = search rules }
-
-pub end-requires-after_bounds : goal.end-requires-after_bounds
-end-requires-after_bounds g c κs within =
-    let m = c.in_ok-room.ensures in (
-      judge_of (option_map (λ f. f.now) c.args.rules),
-      c.args.limits.calls,
-      c.args.versions.items,
-      c.in_ok-ran.ensures.ran c.args.versions.items (c.in_ok-workers.ensures.new c.in_ok-room.room
-          (as_made c.in_ok-room.room c.in_ok-room.readers.items c.in_ok-room.lead m.readers.1 m.lead m.log)),
-    )

@@ -9,8 +9,8 @@ use Rattle.nv_cli.proofs.top.put_json.Goals as goal
 pub returns-in-Ok : goal.returns-in-Ok
 returns-in-Ok g c = inl (record {
   put = c.put_pieces-put.result;
-  ends = c.ended.ensures ∙ ap (ended_with c.put_pieces-put.result) (c.status.ensures ∙ ap (λ (vs : List (Running Proc)). run_status (map standing_of vs)) c.deref.ensures.value);
-  written = puts-is (ap (λ (text : List ℕ). text ++ codes "\n") (c.as_bytes.ensures.value ∙ c.in-Ok.ensures)) c.put_pieces-put.ensures;
+  ends = c.ended.ensures ∙ ap (ended_with c.put_pieces-put.result) (c.status.ensures ∙ ap (λ (vs : List (Running Proc)). run_status (map standing_of vs)) c.deref-in-Ok.ensures.value);
+  written = puts-is (ap (λ (text : List ℕ). text ++ codes "\n") (c.deref.ensures.value ∙ c.in-Ok.ensures)) c.put_pieces-put.ensures;
 })
 
 pub returns-in-Err : goal.returns-in-Err

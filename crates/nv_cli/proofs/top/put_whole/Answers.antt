@@ -12,7 +12,7 @@ pub write-requires-send-K : goal.write-requires-send-K
 write-requires-send-K g c κs within = param_send 1 _ (arg_send _ no _ scripted_send)
 
 pub returns : goal.returns
-returns g c = puts-then c.in_ok-write.ensures (puts-is (ap connections_text c.connections.ensures.written) c.write_connections.ensures)
+returns g c = puts-then c.in_ok-write.ensures (puts-is (ap connections_text c.connections.ensures.written) c.put_connections.ensures)
 
 pub returns-in_err-write : goal.returns-in_err-write
 returns-in_err-write g c =

@@ -38,7 +38,7 @@ returns-then-json g c = λ machines are.
     (ap start_from c.in-Ok.ensures.start) c.put_json.ensures in
     ⊎_elim (λ said. inl (record {
       account = record { log = log; lines = lines };
-      is_run = run_of limits setup rules machines c.args.hands.now.items c.args.versions.items c.in-Ok.account.versions.items log c.requires.planned told are;
+      is_run = run_of limits setup rules machines c.args.hands.now.items c.args.versions.items c.in-Ok.account.versions.items log c.requires.planned.same told are;
       says = rw c.if-json.true said;
     })) inr says
 
@@ -52,7 +52,7 @@ returns g c = λ machines are.
     let told = subst (λ (start : Start). IsAccount threads (judge_of rules) start limits.calls c.args.hands.now.items c.args.versions.items c.in-Ok.account.versions.items log) (ap start_from c.in-Ok.ensures.start) c.in-Ok.ensures.account in
     inl (record {
       account = record { log = log; lines = lines };
-      is_run = run_of limits setup rules machines c.args.hands.now.items c.args.versions.items c.in-Ok.account.versions.items log c.requires.planned told are;
+      is_run = run_of limits setup rules machines c.args.hands.now.items c.args.versions.items c.in-Ok.account.versions.items log c.requires.planned.same told are;
       says = rw c.if-json.false (subst
           (λ (s : Start). Says (report_text (output_of s log) (record { log = log; lines = lines }) ++ connections_text (connections_of s log))
           (run_status lines) (g.S.Sink.told c.args.sink.now) (g.S.Sink.faults c.args.sink.now) c.put_report.result (g.S.Sink.told c.put_report.new.sink) (g.S.Sink.faults c.put_report.new.sink))

@@ -1,14 +1,14 @@
 use Rattle.std.proofs.Common.{ap}
-use Rattle.nv_workers.proofs.Moving.{leads_now, planned_now, led_now, gives_lead}
+use Rattle.nv_workers.proofs.Moving.{leads_now, may_now, led_now, gives_lead}
 use Rattle.nv_workers.proofs.worker.give_lead.Goals as goal
 
 pub end_lead-requires : goal.end_lead-requires
 end_lead-requires g c =
     leads_now c.requires.leads.3
 
-pub hand-requires-clause-planned : goal.hand-requires-clause-planned
-hand-requires-clause-planned g c κs within =
-    planned_now c.requires.leads.3
+pub hand-requires-clause-may : goal.hand-requires-clause-may
+hand-requires-clause-may g c κs within =
+    may_now c.requires.leads.3
 
 pub hand-requires-clause-led : goal.hand-requires-clause-led
 hand-requires-clause-led g c κs within =

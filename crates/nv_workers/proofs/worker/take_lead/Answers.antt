@@ -18,7 +18,6 @@ begin_lead-requires-clause-following g c =
 pub begin_lead-requires-clause-few : goal.begin_lead-requires-clause-few
 begin_lead-requires-clause-few g c =
     let n = few_led c.requires.follows.4 in
-    let few = c.args.room.now.few_hands in
     omega arith
 
 pub returns-clause-on : goal.returns-clause-on

@@ -6,6 +6,6 @@ use Rattle.nv_live.proofs.clients.ClientsOutside.say.Goals as goal
 pub returns : goal.returns
 returns g c = record {
   said = did-say g.I.Source.took g.I.Source.faults g.O.Sink.told g.O.Sink.faults g.T.Sink.told g.T.Sink.faults
-      c.args.self.now (record { coming = c.args.self.now.coming; out = c.say.new.self; transcript = c.args.self.now.transcript }) (said_view c.args.said.now) refl
-      c.say.ensures refl;
+      c.args.self.now (record { coming = c.args.self.now.coming; out = c.say.new.self; transcript = c.args.self.now.transcript; hand_overs = c.args.self.now.hand_overs }) (said_view c.args.said.now) refl
+      c.say.ensures refl refl;
 }

@@ -4,9 +4,9 @@ use Rattle.nv_live.proofs.Coming.{come-read}
 use Rattle.nv_live.proofs.coming_lines.ComingLines.has_more.Goals as goal
 
 pub returns-then-is_empty-clause-come : goal.returns-then-is_empty-clause-come
-returns-then-is_empty-clause-come g c = λ first arrivals so_far.
+returns-then-is_empty-clause-come g c = λ first arrivals handed so_far.
     come-read (g.I.Source.took first.source) (g.I.Source.took c.args.self.now.source) (g.I.Source.took c.refill-read.new.source)
     (g.I.Source.faults first.source) (g.I.Source.faults c.args.self.now.source) (g.I.Source.faults c.refill-read.new.source)
     c.args.self.now.stopped c.stop_by_end-self.result c.args.self.now.line.items (held_in c.args.self.now.buffer) (held_in c.refill-read.new.self)
-    c.args.self.now.order c.args.self.now.taken c.len.result c.refill-read.result arrivals
+    c.args.self.now.order c.args.self.now.taken c.len.result c.args.self.now.asked handed c.refill-read.result arrivals
     c.refill-read.ensures.read c.refill-read.ensures.faults (search rules) (search rules) (search rules) c.stop_by_end-self.ensures so_far

@@ -1,4 +1,5 @@
-use Rattle.std.proofs.Common.{refl, sym, ap}
+use Rattle.std.proofs.Common.{refl, sym, ap, ◌∙◌}
+use Rattle.nv_live.specs.Run.{hands_by}
 use Rattle.nv_live.proofs.run.LiveRun.begin.Goals as goal
 
 pub returns-then-clients : goal.returns-then-clients
@@ -12,7 +13,9 @@ returns-then-clients g c =
       line = e.line;
       order = e.order;
       taken = e.taken;
+      asked = e.asked;
       going = e.going;
+      hands_are = e.hands ∙ ap (λ clients. hands_by clients c.args.hands.now) (sym c.if-clients.true);
       said_is = ap g.O.Sink.told e.out;
       unsaid_is = ap g.O.Sink.faults e.out;
       saying = e.whole;
@@ -30,7 +33,9 @@ returns g c =
       line = refl;
       order = refl;
       taken = refl;
+      asked = refl;
       going = e.going;
+      hands_are = ap (λ clients. hands_by clients c.args.hands.now) (sym c.if-clients.false);
       said_is = ap g.O.Sink.told e.out;
       unsaid_is = ap g.O.Sink.faults e.out;
       saying = e.whole;

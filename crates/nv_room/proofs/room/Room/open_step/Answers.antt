@@ -4,7 +4,7 @@ use Rattle.std.specs.Option.{ForSome}
 use Rattle.nv_words.specs.Spelling.{flag_bit}
 use Rattle.nv_places.specs.Header.{head_index, cursor_index}
 use Rattle.nv_room.specs.Spans.{LastHasEvent}
-use Rattle.nv_room.specs.Room.{Has}
+use Rattle.nv_room.specs.Room.{MayHand}
 use Rattle.nv_room.specs.Trails.{Trails}
 use Rattle.nv_room.specs.Steps.{as_opening}
 use Rattle.nv_room.proofs.Placement.{header_inside}
@@ -13,7 +13,7 @@ use Rattle.nv_room.proofs.HandingOver.{spares, opens_at}
 use Rattle.nv_room.proofs.room.Room.open_step.Goals as goal
 
 pub load-head-requires : goal.load-head-requires
-load-head-requires g c = let k = c.args.self.now.sizes in (c.requires.of.0, subst (λ (z : ℕ). head_index < z) (sym k.2) (header_inside _ _ head_index (omega arith)), spares _ _ _ _ _ _ _ c.args.lead.role c.requires.planned c.requires.led)
+load-head-requires g c = let k = c.args.self.now.sizes in (c.requires.of.0, subst (λ (z : ℕ). head_index < z) (sym k.2) (header_inside _ _ head_index (omega arith)), spares _ _ _ _ _ _ _ c.args.lead.role (let k = c.args.self.now.sizes in subst (λ (z : ℕ). MayHand z c.args.self.now.table.shared.key.hands.value.items c.args.lead.seat.me.0.opened (length c.args.lead.seat.me.0.seen)) (sym k.0) c.requires.may) c.requires.led)
 
 pub store-requires : goal.store-requires
 store-requires g c = let room = c.args.self.now in let l = c.args.lead in let o = c.requires.of in let t = c.load-head.ensures.2 in let e = t.0 in
@@ -21,7 +21,7 @@ store-requires g c = let room = c.args.self.now in let l = c.args.lead in let o 
       c.load-head.ensures.0 ∙ o.0,
       subst (λ (z : ℕ). cursor_index l.opened < z) (sym room.sizes.2) (header_inside _ _ (cursor_index l.opened) (omega arith)),
       opens_at _ _ _ _ _ _ _ _ (ap (λ m. m.0.role) e ∙ l.role) (ap (λ m. m.0.wrote) e ∙ nil_from_length _ (l.wrote_is ∙ l.quiet c.requires.none_due))
-          (subst (λ m. Has room.table.shared.key.hands.value.items (length m.0.seen)) (sym e) c.requires.planned) (subst (λ m. LastHasEvent m.0.spans) (sym e) c.requires.led)
+          (subst (λ m. MayHand room.table.shared.key.stations room.table.shared.key.hands.value.items m.0.opened (length m.0.seen)) (sym e) (subst (λ (z : ℕ). MayHand z room.table.shared.key.hands.value.items l.seat.me.0.opened (length l.seat.me.0.seen)) (sym room.sizes.0) c.requires.may)) (subst (λ m. LastHasEvent m.0.spans) (sym e) c.requires.led)
           (ap cursor_index (sym l.opened_is ∙ sym (ap (λ m. m.0.opened) e))) (sym l.seen_is ∙ sym (ap (λ m. length m.0.seen) e)),
     )
 

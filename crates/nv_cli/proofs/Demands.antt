@@ -1,0 +1,23 @@
+-- Accounts with and without lengths that were asked for.
+use Rattle.std.proofs.Common.{◌≡◌, ◌∙◌, sym, ap, subst, refl, ℕ, Bool, false, List, [], ◌++◌}
+use Rattle.std.proofs.lemmas.List.{append-nil}
+use Rattle.nv_calls.specs.Calls.{Entry}
+use Rattle.nv_calls.specs.Logs.{Start}
+use Rattle.nv_replay.specs.Follow.{Judge}
+use Rattle.nv_replay.specs.Version.{Running}
+use Rattle.nv_threads.specs.Threads.{Proc, threads}
+use Rattle.nv_workers.specs.Ends.{IsAccount}
+use Rattle.nv_cli.specs.inner.Demands.{IsAccountOnDemand}
+
+module _ (on_demand : Bool) (judges : ℕ → Judge) (start : Start) (most : ℕ) (planned : List ℕ) (olds news : List (Running Proc)) (log : List Entry) where
+  -- over these lengths
+  abbrev Over : List ℕ → Type 0
+  Over hands = IsAccount threads judges start most hands olds news log
+
+  -- where none was asked for
+  pub unasked : Over planned → IsAccountOnDemand on_demand judges start most planned olds news log
+  unasked a = record { asked = []; only = λ off. refl; is_account = subst Over (sym (append-nil planned)) a }
+
+  -- nothing may be demanded
+  pub planned_alone : on_demand ≡ false → IsAccountOnDemand on_demand judges start most planned olds news log → Over planned
+  planned_alone off a = subst Over (ap (λ (more : List ℕ). planned ++ more) (a.only off) ∙ append-nil planned) a.is_account

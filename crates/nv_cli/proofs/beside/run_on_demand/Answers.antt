@@ -1,0 +1,56 @@
+use Rattle.std.proofs.Common.{◌∙◌, ◌++◌, ap, subst, ℕ, List, option_map, rules}
+use Rattle.nv_replay.specs.Follow.{judge_of}
+use Rattle.nv_threads.specs.Threads.{threads}
+use Rattle.nv_room.specs.Seats.{hands_of, on_demand_of}
+use Rattle.nv_workers.specs.Ends.{IsAccount}
+use Rattle.nv_workers.proofs.NewSeats.{as_made}
+use Rattle.nv_cli.proofs.Demands.{unasked}
+use Rattle.nv_cli.proofs.NoVersions.{no_versions}
+use Rattle.nv_cli.proofs.beside.run_on_demand.Goals as goal
+
+pub returns-then-is_empty-clause-account : goal.returns-then-is_empty-clause-account
+returns-then-is_empty-clause-account g c =
+    unasked c.args.on_demand (judge_of (option_map (λ f. f.now) c.args.rules)) (g.K.SyscallKernel.known c.args.kernel) c.args.limits.calls c.args.hands.now.items c.args.versions.items c.args.versions.items
+    (g.K.SyscallKernel.log c.args.kernel)
+    (no_versions threads (judge_of (option_map (λ f. f.now) c.args.rules)) (g.K.SyscallKernel.known c.args.kernel) c.args.limits.calls c.args.hands.now.items c.args.versions.items (g.K.SyscallKernel.log c.args.kernel)
+    (search rules) c.requires.empty)
+
+pub staff-requires-clause-seats : goal.staff-requires-clause-seats
+staff-requires-clause-seats g c κs within =
+    let m = c.in_ok-room.ensures in
+    (c.in_ok-room.room, as_made c.in_ok-room.room c.in_ok-room.readers.items c.in_ok-room.lead m.readers.1 m.lead m.log)
+
+pub run_all-requires-clause-new : goal.run_all-requires-clause-new
+run_all-requires-clause-new g c κs within =
+    let m = c.in_ok-room.ensures in (
+      c.args.versions.items,
+      c.in_ok-workers.ensures.new c.in_ok-room.room
+          (as_made c.in_ok-room.room c.in_ok-room.readers.items c.in_ok-room.lead m.readers.1 m.lead m.log),
+    )
+
+pub run_all-requires-clause-terms : goal.run_all-requires-clause-terms
+run_all-requires-clause-terms g c κs within = record { most = c.args.limits.calls_fit.1; hands = search rules }
+
+pub end-requires-after_bounds : goal.end-requires-after_bounds
+end-requires-after_bounds g c κs within =
+    let m = c.in_ok-room.ensures in (
+      judge_of (option_map (λ f. f.now) c.args.rules),
+      c.args.limits.calls,
+      c.args.versions.items,
+      c.in_ok-ran.ensures.ran c.args.versions.items (c.in_ok-workers.ensures.new c.in_ok-room.room
+          (as_made c.in_ok-room.room c.in_ok-room.readers.items c.in_ok-room.lead m.readers.1 m.lead m.log)),
+    )
+
+pub returns-clause-account : goal.returns-clause-account
+returns-clause-account g c =
+    let m = c.in_ok-room.ensures in
+    let judges = judge_of (option_map (λ f. f.now) c.args.rules) in
+    let room = c.in_ok-ran.ensures.room in
+    let a = c.end.ensures.account judges c.args.limits.calls c.args.versions.items (c.in_ok-ran.ensures.ran c.args.versions.items (c.in_ok-workers.ensures.new c.in_ok-room.room
+    (as_made c.in_ok-room.room c.in_ok-room.readers.items c.in_ok-room.lead m.readers.1 m.lead m.log))) in
+    record {
+      asked = a.0;
+      only = λ off. a.1 (ap on_demand_of room ∙ m.on_demand ∙ off);
+      is_account = subst (λ (hands : List ℕ). IsAccount threads judges (g.K.SyscallKernel.known c.end.result.kernel) c.args.limits.calls (hands ++ a.0) c.args.versions.items c.end.result.versions.items
+          (g.K.SyscallKernel.log c.end.result.kernel)) (ap hands_of room ∙ m.hands) a.2;
+    }
