@@ -1,7 +1,7 @@
 #!/usr/bin/env bash
 # Runs the examples but those of guests/, and compares: the assembler texts hello, service and server with the reports of expected/, and the server in C and
 # two programs of Debian with what their clients got under Linux (server/expected, strangers/expected); gives the program files and outputs of the host that fail; does the
-# commands of docs/TUTORIAL.md, PARTING.md, TRACES.md, REFUSALS.md, SCRIPT.md, INSPECT.md, GUESTS.md and CHECKED.md; tries the scripts of this folder; and has docs/varan.1 formatted.
+# commands of docs/TUTORIAL.md, COMPARE.md, REPORT.md, SCRIPT.md, GUESTS.md and CHECKED.md; tries the scripts of this folder; and has the manual pages formatted.
 # check.sh [PROGRAM]: crates/varan/out/varan where no program is named.
 # It wants jq, cc and groff (Debian: jq, gcc, groff-base). What wants one that isn't there is left out, and a line with `left out` tells it.
 # Status: 0 where nothing differs, 1 where something does, 2 where the program isn't built.
@@ -424,17 +424,19 @@ if has jq jq "strace.jq"; then
 fi
 
 page TUTORIAL.md
-page PARTING.md
+page COMPARE.md
 
-if has groff groff-base "the form of docs/varan.1"; then
-    rows=$((rows + 1))
-    # groff tells a fault of the page on standard error alone
-    said=$(groff -mandoc -Tutf8 -ww -z "$here/../docs/varan.1" 2>&1) || said+=" (status $?)"
-    if [ -n "$said" ]; then
-        echo "$said"
-        echo "check.sh: docs/varan.1 isn't formatted without a warning"
-        wrong=$((wrong + 1))
-    fi
+if has groff groff-base "the form of the manual pages"; then
+    for manual in varan.1 varan-listen.1; do
+        rows=$((rows + 1))
+        # groff tells a fault of the page on standard error alone
+        said=$(groff -mandoc -Tutf8 -ww -z "$here/../docs/$manual" 2>&1) || said+=" (status $?)"
+        if [ -n "$said" ]; then
+            echo "$said"
+            echo "check.sh: docs/$manual isn't formatted without a warning"
+            wrong=$((wrong + 1))
+        fi
+    done
 fi
 
 # ---- pages that need more of the host, and the scripts of this folder
@@ -459,7 +461,7 @@ digits() {
     od -An -v -tx1 "$1" | tr -d ' \n'
 }
 
-for it in TRACES REFUSALS SCRIPT INSPECT; do
+for it in REPORT SCRIPT; do
     page "$it.md"
 done
 if has riscv64-unknown-elf-gcc gcc-riscv64-unknown-elf docs/GUESTS.md && has qemu-riscv32 qemu-user docs/GUESTS.md; then

@@ -4,7 +4,7 @@
     core.py [--program PROGRAM] CORE --script S [--rules R] [--memory N] [--budget N | --hang N] [--index I] POINT TRACE VERSION
     gdb-multiarch VERSION CORE
 
-The arguments after CORE are those of `varan inspect` (docs/INSPECT.md) without --dump and --length; `varan` is the program unless another is named. CORE gets the registers
+The arguments after CORE are those of `varan inspect` (docs/COMPARE.md) without --dump and --length; `varan` is the program unless another is named. CORE gets the registers
 of each thread, and the memory that `inspect` shows: from the first byte of the executable's segments on, up to the end of the heap, and the stack. It prints the line `at` of `inspect`.
 Status: 0; 1 where the version has ended at the point, and has no state; 2 for a faulty command line; where `varan` refuses a file its line goes to standard error, and
 the status is that of `varan`.

@@ -1,5 +1,5 @@
 #!/usr/bin/env python3
-"""Explains a refusal of `varan`: what it means and what to do, by the tables of docs/REFUSALS.md and docs/ASSEMBLER.md.
+"""Explains a refusal of `varan`: what it means and what to do, by the tables of docs/REPORT.md and docs/ASSEMBLER.md.
 
     explain.py 'varan: input hi: no room 0'     explains this line
     varan .. | explain.py                       passes everything on, and explains a refusal on standard error
@@ -24,9 +24,17 @@ def sections(page):
 
 
 def rows(lines):
-    """The rows of a section's tables, without their heads."""
-    cells = [[cell.strip() for cell in line.strip("|").split(" | ")] for line in lines if line.startswith("| ")]
-    return [row for row in cells if row[-1] != "What to do"]
+    """The rows of a section's tables of what to do, without their heads."""
+    found, is_cure = [], False
+    for line in lines:
+        cells = [cell.strip() for cell in line.strip("|").split(" | ")] if line.startswith("| ") else []
+        if cells[-1:] == ["What to do"]:
+            is_cure = True
+        elif cells and is_cure:
+            found.append(cells)
+        elif not line.startswith("|"):
+            is_cure = False
+    return found
 
 
 def numbers_of(pattern, cause):
@@ -40,7 +48,7 @@ def numbers_of(pattern, cause):
 
 def causes():
     """Each row of a cause: the kind of file, the cause, its meaning and its cure."""
-    for heading, lines in sections("REFUSALS.md"):
+    for heading, lines in sections("REPORT.md"):
         for row in rows(lines):
             if len(row) == 3 and row[0].startswith("`") and not row[0].startswith("`varan:"):
                 yield re.sub(r" \(.*", "", heading), row[0].strip("`"), row[1], row[2]
@@ -62,7 +70,7 @@ def of_cause(cause):
 
 def of_line(word):
     """What the section of a line says that has no cause."""
-    for heading, lines in sections("REFUSALS.md"):
+    for heading, lines in sections("REPORT.md"):
         if heading.startswith(f"`varan: {word}"):
             table = [text for where, cure in rows(lines) for text in (f"  where {where}", f"      do: {cure}")]
             return table + ["  " + line for line in lines if line.strip() and not line.startswith("|")]

@@ -5,7 +5,7 @@
     follow.py --write PAGE [PROGRAM]     writes into the page what they print
 
 A command is a line `$ ..` of an indented block. It goes on over lines `> ..`, and what it prints stands below it, up to the next command or the end of the block. There a line `..` stands for
-lines that are left out, and ` ..` at the end of a line for the rest of it. All commands are done in one shell, in copies of docs/ and examples/, so nothing is changed here.
+lines that are left out, and ` ..` at the end of a line for the rest of it. All commands are done in one shell, in copies of docs/, examples/ and service/, so nothing is changed here.
 Those that want a program of the host that isn't there (WANTED) are left out, and a line with `left out` tells how many, and the Debian package.
 
 The last line says how many commands there were and how many printed something else. Status: 0 where none did, 1 where one did or where they took longer than SECONDS,
@@ -24,7 +24,7 @@ import sys
 import tempfile
 
 TOP = pathlib.Path(__file__).resolve().parent.parent
-COPIED = ["docs", "examples"]
+COPIED = ["docs", "examples", "service"]
 INDENT = "    "
 COMPILER = "riscv64-unknown-elf-gcc"
 # What a command may want of the host: how its text shows that, the program, and the Debian packages.
@@ -32,7 +32,7 @@ WANTED = [
     (re.compile(r"\bgdb-multiarch\b"), "gdb-multiarch", "gdb-multiarch"),
     (re.compile(r"\bdebug/"), COMPILER, "gcc-riscv64-unknown-elf, picolibc-riscv64-unknown-elf"),
     (re.compile(r"build\.sh|riscv64-unknown-elf-|\bguests/cc\b|_checked\b"), COMPILER, "gcc-riscv64-unknown-elf, picolibc-riscv64-unknown-elf"),
-    (re.compile(r"\bjq\b|\bparting\.py\b|\$PARTING\b"), "jq", "jq"),
+    (re.compile(r"\bjq\b|\bparting\.py\b"), "jq", "jq"),
     (re.compile(r"\bxxd\b"), "xxd", "xxd"),
     (re.compile(r"\bqemu-riscv32\b"), "qemu-riscv32", "qemu-user"),
     (re.compile(r"\bsocat\b"), "socat", "socat"),

@@ -5,7 +5,7 @@
     parting.py [--program PROGRAM] --script S [--rules R] [--memory N] [--budget N | --hang N] [--index I] TRACE VERSION
 
 The arguments but --program (default `varan`) are those of `varan run`, or of `varan replay` with a trace. Of a run it makes the trace by itself, and shows each version.
-docs/PARTING.md says how it is read. Needs jq, for strace.jq.
+docs/COMPARE.md says how it is read. Needs jq, for strace.jq.
 Status: 0 where the version is in step or exited, 1 where it parts or breaks, 2 for a faulty command line or where a program isn't there, the trace can't be read or a command takes
 longer than SECONDS; where `varan` refuses a file its line goes to standard error, and the status is that of `varan`.
 """
@@ -53,7 +53,7 @@ class BadAddress(Exception):
 
 
 def read_trace(path):
-    """The events of a trace (docs/TRACES.md)."""
+    """The events of a trace (docs/COMPARE.md)."""
     data = pathlib.Path(path).read_bytes()
     events, at = [], 12
     while at < len(data):

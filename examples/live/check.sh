@@ -200,7 +200,7 @@ END
     fi
 }
 
-# ---- an HTTP server, its clients by listen.py
+# ---- an HTTP server, its clients by varan-listen
 
 bad_server=$server/built/server_2
 old_server=$server/built/server_1
@@ -214,25 +214,25 @@ port=
 adapter=
 options=()
 
-# begun NAME V..: begins listen.py, with its options and these versions. It listens at the port; the transcripts are in a folder of that name.
+# begun NAME V..: begins varan-listen, with its options and these versions. It listens at the port; the transcripts are in a folder of that name.
 begun() {
     local name=$1
     shift
     port=$(free_port)
     mkdir "$work/$name"
-    timeout 300 "$here/../listen.py" --transcripts "$work/$name" ${options[@]+"${options[@]}"} "$port:$inner" -- \
+    timeout 300 "$here/../../service/varan-listen" --transcripts "$work/$name" ${options[@]+"${options[@]}"} "$port:$inner" -- \
         "$program" serve --clients --log "${words[@]}" "$@" >"$work/console" &
     adapter=$!
     started+=("$adapter")
     until_it listens "$port"
 }
 
-# ended NAME: listen.py is told to end, and ends well.
+# ended NAME: varan-listen is told to end, and ends well.
 ended() {
     local status=0
     kill -TERM "$adapter"
     wait "$adapter" || status=$?
-    is "$status" 0 "listen.py, $1"
+    is "$status" 0 "varan-listen, $1"
 }
 
 # first N: what the first N clients get from version 1 under Linux.

@@ -3,11 +3,12 @@
 
     operating.py PROGRAM
 
-The service is keeper.c behind ../listen.py. It counts the requests of all clients, so one that is lost or done twice shows. Each row that doesn't hold is printed; the last line
+The service is keeper.c behind ../../service/varan-listen. It counts the requests of all clients, so one that is lost or done twice shows. Each row that doesn't hold is printed; the last line
 has how many there were, how many were wrong, and the longest wait of a client. Status 1 where one was wrong.
 """
 import os
 import pathlib
+import re
 import resource
 import signal
 import socket
@@ -19,11 +20,12 @@ import time
 
 HERE = pathlib.Path(__file__).resolve().parent
 KEEPER = {number: str(HERE / f"built/keeper_{number}") for number in (1, 2, 3)}
-SECONDS = 60
-# Seconds that a client may be silent.
+SECONDS = 300
+# Seconds that a client may be silent, and the words for one that is silent while something else is done.
 IDLE = 3
-# Between two requests of a client that asks again and again, so that a process that joins comes nearer also where the program is slow.
-PAUSE = 0.05
+PATIENT = ["--idle", str(SECONDS)]
+# Seconds between two requests of a client that asks again and again, and how often as long as its last answer took: so a process that joins comes nearer also where the machine is slow.
+PAUSE, PAUSES = 0.05, 4
 MOST_WRITTEN = 1_048_576
 LONG = "x" * 1900
 # A command that stands still, before it is the program, while there is a file `hold` beside it.
@@ -54,7 +56,7 @@ def free_port():
 
 
 def until(is_so, what):
-    """Waits until it is so, for a minute at most."""
+    """Waits until it is so, for some minutes at most."""
     end = time.monotonic() + SECONDS
     while not (found := is_so()):
         if time.monotonic() > end:
@@ -111,8 +113,9 @@ class Asking(threading.Thread):
             while not self.is_over:
                 begun = time.monotonic()
                 self.counts.append(int(self.client.ask("size")[0] or 0))
-                self.longest = max(self.longest, time.monotonic() - begun)
-                time.sleep(PAUSE)
+                took = time.monotonic() - begun
+                self.longest = max(self.longest, took)
+                time.sleep(max(PAUSE, min(PAUSES * took, IDLE / 2)))
         except (OSError, ValueError) as fault:
             self.counts.append(fault)
 
@@ -125,14 +128,14 @@ class Asking(threading.Thread):
 
 
 class Service:
-    """listen.py before versions of the keeper, in a folder of its own."""
+    """varan-listen before versions of the keeper, in a folder of its own."""
 
     def __init__(self, program, *versions, command=None, options=(), words=(), ports=1, folder=None, **popen):
         self.program, self.folder = program, folder or pathlib.Path(tempfile.mkdtemp(dir=Service.room))
         self.ports = [free_port() for _ in range(ports)]
         self.control, self.transcripts, self.told = self.folder / "control", self.folder / "transcripts", self.folder / "told"
         self.transcripts.mkdir(exist_ok=True)
-        adapter = [HERE / "../listen.py", "--idle", str(IDLE), "--transcripts", self.transcripts, "--control", self.control, *options]
+        adapter = [HERE / "../../service/varan-listen", "--idle", str(IDLE), "--transcripts", self.transcripts, "--control", self.control, *options]
         inner = [f"{port}:{8080 + number}" for number, port in enumerate(self.ports)]
         with open(self.told, "wb") as told, open(self.folder / "console", "ab") as console:
             popen = {"stdout": console} | popen
@@ -169,7 +172,7 @@ class Service:
         return [tuple(line.split()[1:3]) for line in self.operate("status") if line[0].isdigit()]
 
     def begun(self):
-        """The processes that listen.py has begun."""
+        """The processes that varan-listen has begun."""
         return [int(it) for it in pathlib.Path(f"/proc/{self.process.pid}/task/{self.process.pid}/children").read_text().split()]
 
     def children(self):
@@ -179,6 +182,10 @@ class Service:
     def serving(self):
         """The process of the command, once there is one alone."""
         return until(lambda: len(found := self.children()) == 1 and found, "one process")[0]
+
+    def transcript(self):
+        """That of the process that serves."""
+        return pathlib.Path(self.operate("status")[1].split()[1])
 
     def notes(self):
         return self.told.read_text()
@@ -196,7 +203,7 @@ class Service:
 
 def joining(rows, program):
     """Versions join and leave while a client asks over one connection."""
-    service = Service(program, KEEPER[1])
+    service = Service(program, KEEPER[1], options=PATIENT)
     rows.same(service.ask("put a b", "get a", "drop a", "get a", "put colour green"), ["kept", "b", "dropped", "not there", "kept"], "the past")
     rows.same(service.roles(), [(KEEPER[1], "leads")], "the status of one version")
     asking = Asking(service.port)
@@ -271,7 +278,7 @@ def killed_command(rows, program):
 
 
 def killed_all(rows, program):
-    """listen.py is killed, and the command with it, which stands still. Then it goes on from the transcript."""
+    """varan-listen is killed, and the command with it, which stands still. Then it goes on from the transcript."""
     service = Service(program, KEEPER[1])
     counts = service.ask("put colour green", "say hello", "size")
     open_one = service.connect()
@@ -281,12 +288,12 @@ def killed_all(rows, program):
     os.kill(command, signal.SIGSTOP)
     service.process.kill()
     service.process.wait()
-    until(lambda: not pathlib.Path(f"/proc/{command}").exists() or " Z " in pathlib.Path(f"/proc/{command}/stat").read_text(), "the command ends with listen.py")
+    until(lambda: not pathlib.Path(f"/proc/{command}").exists() or " Z " in pathlib.Path(f"/proc/{command}/stat").read_text(), "the command ends with varan-listen")
     try:
         left = open_one.lines.readline()
     except OSError:
         left = ""
-    rows.same(left, "", "an open client once listen.py is killed")
+    rows.same(left, "", "an open client once varan-listen is killed")
     [transcript] = service.transcripts.iterdir()
     with open(transcript, "ab") as cut:
         cut.write(b"data 1 %s" % b"size\n".hex().encode())  # a whole request in a line that is cut off
@@ -301,8 +308,248 @@ def killed_all(rows, program):
     ended = Service(program, KEEPER[3], options=["--resume", last], folder=service.folder)
     rows.same(ended.ask("size"), ["9"], "the state of a service that ended in order, and was resumed")
     rows.same(ended.end(), 0, "its status")
-    absent = subprocess.run([HERE / "../listen.py", "--resume", service.folder / "nothing", "1", "--", program, "serve", "--clients", KEEPER[1]], stderr=subprocess.PIPE)
+    absent = subprocess.run([HERE / "../../service/varan-listen", "--resume", service.folder / "nothing", "1", "--", program, "serve", "--clients", KEEPER[1]], stderr=subprocess.PIPE)
     rows.holds(absent.returncode == 2 and b"No such file" in absent.stderr, "a transcript that isn't there", absent)
+
+
+def is_shown(service, line):
+    """Whether the transcript of the process that serves has this line."""
+    return line in service.transcript().read_text().splitlines()
+
+
+def handing(rows, program):
+    """The leader gives up the lead at the operator's word, as often as a run lets it; and a process that is begun anew has the same leader."""
+    service = Service(program, KEEPER[1], options=PATIENT)
+    client = service.connect()
+    rows.same(client.ask("put colour green"), ["kept"], "the past")
+    rows.same(service.operate("hand"), ["no: no other version follows"], "a hand-over with one version")
+    rows.same(service.operate(f"join {KEEPER[3]}")[-1], "ok", "a version joins")
+    # Before the request after it are the calls socket, bind, listen and accept, and a read and a write; its read is the next one.
+    answer = service.operate("hand")
+    rows.holds(answer[0].startswith("no call was served yet") and answer[-1] == "ok", "a hand-over while nobody asks", answer)
+    rows.same(service.operate("hand"), ["no: a hand-over waits for the next call that is served"], "a second one at once")
+    rows.same(service.roles(), [(KEEPER[1], "leads"), (KEEPER[3], "follows")], "who leads before the next call")
+    rows.same(client.ask("get colour"), ["green"], "the request at which the lead is handed over")
+    until(lambda: is_shown(service, "hand 7"), "the transcript's line")
+    until(lambda: service.roles() == [(KEEPER[1], "follows"), (KEEPER[3], "leads")], "the other version leads")
+    client.close()
+
+    asking = Asking(service.port)
+    for number in range(2, 9):
+        leads = number % 2
+        rows.same(handed(service, number), [(KEEPER[1], "follows" if leads else "leads"), (KEEPER[3], "leads" if leads else "follows")], f"who leads after hand-over {number}")
+    answer = service.operate("hand")
+    rows.holds(answer[-1].startswith("no: 8 hand-overs are the most"), "the ninth hand-over", answer)
+    rows.same(spans_again(program, service, KEEPER[1], KEEPER[3]), spans_told(service), "what each version led, by the run of the transcript")
+    killed_once(service, asking)
+    rows.same(service.roles(), [(KEEPER[1], "leads"), (KEEPER[3], "follows")], "who leads once the command was begun anew after eight")
+    rows.same(hands_of(service), 8, "the hand-overs of its transcript")
+
+    rows.same(service.operate("drop 0")[-1], "ok", "a version that led leaves")
+    rows.same(service.operate(f"join {KEEPER[1]}")[-1], "ok", "and joins")
+    rows.same(handed(service, 1), [(KEEPER[3], "follows"), (KEEPER[1], "leads")], "who leads after the first hand-over from then on")
+    killed_once(service, asking)
+    rows.same(service.roles(), [(KEEPER[3], "follows"), (KEEPER[1], "leads")], "who leads once the command was begun anew after one")
+    rows.holds(asking.stop(), "each request is done once across all that", asking.counts[-3:])
+    rows.waits["hand"] = asking.longest
+
+    transcript = service.transcript()
+    service.process.kill()
+    service.process.wait()
+    resumed = Service(program, KEEPER[3], KEEPER[1], options=["--resume", transcript], folder=service.folder)
+    rows.same(resumed.ask("get colour"), ["green"], "the state of a service that was resumed")
+    rows.same(resumed.roles(), [(KEEPER[3], "follows"), (KEEPER[1], "leads")], "who leads in it")
+    answer = resumed.operate(f"join {KEEPER[3]} 1")
+    rows.same(answer[-1], "ok", "a version joins it")
+    rows.same(resumed.roles(), [(KEEPER[3], "follows"), (KEEPER[1], "leads"), (KEEPER[3], "follows")], "who leads then")
+    rows.same(resumed.end(), 0, "its status")
+
+
+def hands_of(service):
+    """How many hand-overs the transcript of the process that serves has."""
+    return sum(it.startswith("hand ") for it in service.transcript().read_text().splitlines())
+
+
+def handed(service, number):
+    """The roles once the lead is handed over, for the time of this number. Its call may be served later than the command waits."""
+    if service.operate("hand")[-1] != "ok":
+        return None
+    leader = until(lambda: hands_of(service) == number and re.findall(r"(?s).*\nhand (\d+)\n# version \d leads from event \1\n", service.transcript().read_text()), "the hand-over")
+    return leader and service.roles()
+
+
+def killed_once(service, asking):
+    """The command is killed, and the client's requests are answered again."""
+    os.kill(service.serving(), signal.SIGKILL)
+    seen = len(asking.counts)
+    until(lambda: len(asking.counts) > seen + 2, "a client's counts after the command was killed")
+
+
+def spans_told(service):
+    """What each version led, by the transcript of the process that serves; the last one to the end."""
+    leads = re.findall(r"^# version (\d) leads from event (\d+)$", service.transcript().read_text(), re.M)
+    parts = [(0, 0), *((int(number), int(event)) for number, event in leads)]
+    return [(number, event, parts[at + 1][1] if at + 1 < len(parts) else None) for at, (number, event) in enumerate(parts)]
+
+
+def spans_again(program, service, *versions):
+    """The same by the report of `varan run` on what the transcript has now."""
+    script = service.folder / "script"
+    script.write_bytes(service.transcript().read_bytes().rpartition(b"\n")[0] + b"\n")
+    words = [program, "run", "--calls", "131072", "--hang", "100000000", "--script", script, *versions]
+    report = subprocess.run(words, stdout=subprocess.PIPE, stderr=subprocess.STDOUT, text=True, errors="replace").stdout
+    parts = []
+    for number, led in re.findall(r"^(\d) exited .* led ([-0-9,]+) rewrites 0$", report, re.M):
+        parts += [(int(number), *map(int, part.split("-"))) for part in led.split(",")]
+    parts.sort(key=lambda part: part[1])
+    return [(number, first, end if at + 1 < len(parts) else None) for at, (number, first, end) in enumerate(parts)]
+
+
+def falling_back(rows, program):
+    """A version that joins takes the lead, and breaks; the old one goes on with the request. Before that, one that breaks in the past is given up."""
+    service = Service(program, KEEPER[1], options=PATIENT)
+    client = service.connect()
+    rows.same(client.ask("put colour green"), ["kept"], "the past")
+    rows.same(service.operate(f"join {KEEPER[2]}")[-1], "ok", "a bad update joins")
+    rows.same(service.operate("hand")[-1], "ok", "the lead is to be handed over")
+    rows.same(client.ask("get colour"), ["green"], "the request at which it is")
+    until(lambda: service.roles() == [(KEEPER[1], "follows"), (KEEPER[2], "leads")], "the bad update leads")
+    rows.same(client.ask("drop colour", "get size", "get colour"), ["dropped", "not there", "not there"], "the request at which it breaks, and the next")
+    until(lambda: service.roles() == [(KEEPER[1], "leads"), (KEEPER[2], "ended:")], "the old version leads again")
+    rows.holds("ended: fault load " in "\n".join(service.operate("status")), "the status tells why", service.operate("status"))
+    rows.same(service.operate("hand"), ["no: no other version follows"], "a hand-over once the other version has ended")
+    client.close()
+    rows.same(service.end(), 0, "the status after a break")
+
+
+def reloading(rows, program):
+    """The files of the command line are other ones, and SIGHUP comes: they join, and lead. What can't join changes nothing."""
+    folder = pathlib.Path(tempfile.mkdtemp(dir=Service.room))
+    file = folder / "server"
+    old = pathlib.Path(KEEPER[1]).read_bytes()
+
+    def put(content):
+        file.unlink(missing_ok=True)
+        file.write_bytes(content)
+        file.chmod(0o755)
+
+    put(old)
+    service = Service(program, str(file), options=PATIENT, folder=folder)
+    rows.same(service.ask("put colour green"), ["kept"], "the past")
+    asking = Asking(service.port)
+    for content, why, what in (
+            (old.replace(b"kept\0", b"KEPT\0"), f"SIGHUP: no: 1 {file} ended: refused 100 64 ", "files that answer the past otherwise"),
+            (b"no executable", f"SIGHUP: no: the command ended with status 4: # varan: input {file}: ", "files that can't run")):
+        put(content)
+        service.process.send_signal(signal.SIGHUP)
+        until(lambda: why in service.notes(), f"the operator is told of {what}")
+        rows.same(service.roles(), [(str(file), "leads")], f"who leads after {what}")
+    rows.holds(f"it says `data 0 {b'KEPT'.hex()}0a` where clients got `data 0 {b'kept'.hex()}0a`" in service.notes(), "both lines", service.notes())
+    killed_once(service, asking)
+    rows.same(service.roles(), [(str(file), "leads")], "the version as it was leads a process that is begun anew")
+    put(old.replace(b"not there\0", b"NOT THERE\0"))
+    service.process.send_signal(signal.SIGHUP)
+    until(lambda: service.roles() == [(str(file), "follows"), (str(file), "leads")], "the new file leads")
+    rows.holds(asking.stop(), "each request is done once across all that", asking.counts[-3:])
+    rows.same(service.ask("get colour", "get size"), ["green", "NOT THERE"], "the state, by the new file")
+    until(lambda: service.roles() == [(str(file), "ended:"), (str(file), "leads")], "the old file, which would have answered otherwise, is dropped")
+    put(old)
+    rows.same(service.operate("anew")[-1], "ok", "the command anew")
+    rows.same(service.ask("get colour", "size"), ["not there", "2"], "a run that begins with nothing")
+    rows.same(service.end(), 0, "the status after files were loaded anew")
+
+
+def permitted(rows, program):
+    """An update that answers otherwise joins by a rule, leads, and stays where a process is begun anew or another version joins."""
+    folder = pathlib.Path(tempfile.mkdtemp(dir=Service.room))
+    takes, other = folder / "takes", folder / "other"
+    takes.write_bytes(subprocess.run([program, "rules", "--asm", HERE / "../server/takes.txt"], stdout=subprocess.PIPE, check=True).stdout)
+    other.write_bytes(pathlib.Path(KEEPER[1]).read_bytes().replace(b"kept\0", b"KEPT\0"))
+    other.chmod(0o755)
+    service = Service(program, KEEPER[1], words=["--rules", takes], options=PATIENT, folder=folder)
+    rows.same(service.ask("put colour green"), ["kept"], "the past")
+    rows.same(service.operate(f"join {other}")[-1], "ok", "an update that answers otherwise joins by a rule")
+    asking = Asking(service.port)
+    until(lambda: len(asking.counts) > 2, "a client's counts")
+    rows.same(handed(service, 1), [(KEEPER[1], "follows"), (str(other), "leads")], "it takes the lead")
+    rows.holds(asking.stop(), "each request is done once across that", asking.counts[-3:])
+    rows.same(service.ask("put colour blue"), ["KEPT"], "its answer")
+    rows.same(service.operate(f"join {KEEPER[3]}")[-1], "ok", "another version joins, and the past has answers of both")
+    rows.same(service.roles(), [(KEEPER[1], "follows"), (str(other), "leads"), (KEEPER[3], "follows")], "who leads then")
+    os.kill(service.serving(), signal.SIGKILL)
+    rows.same(service.ask("put colour red", "get colour"), ["KEPT", "red"], "its answer by a process that is begun anew")
+    answer = service.operate("drop 0")[-1]
+    rows.same(answer, f"no: it says `data 0 {b'KEPT'.hex()}0a` where clients got `data 0 {b'kept'.hex()}0a`", "the old version, whose answers the past has, leaves")
+    rows.same(service.end(), 0, "the status, with a rule")
+
+
+def told_metrics(rows, program):
+    """What is counted, against what was asked; and the program that sends commands."""
+    service = Service(program, KEEPER[1], options=PATIENT)
+    ctl = [HERE / "../../service/varan-listen", "ctl", service.control]
+    requests = ["put colour green", "get colour"]
+    rows.same(service.ask(*requests), ["kept", "green"], "requests")
+    client = service.connect()
+    rows.same(client.ask("size"), ["3"], "a request of a client that stays")
+    answer = subprocess.run([*ctl, "metrics"], stdout=subprocess.PIPE, text=True)
+    rows.same(answer.returncode, 0, "the status of a command that is done")
+    found = samples(rows, answer.stdout)
+    came = sum(len(it) + 1 for it in [*requests, "size"])
+    said = sum(len(it) + 1 for it in ("kept", "green", "3"))
+    wanted = {"arrivals_total{kind=\"connect\"}": 2, "arrivals_total{kind=\"end\"}": 1, "said_total{kind=\"accept\"}": 2, "said_total{kind=\"close\"}": 1, "received_bytes_total": came,
+              "sent_bytes_total": said, "connections": 1, "restarts_total": 0, "switches_total": 0, "hand_overs": 0, "transcript_failed": 0,
+              f"version{{index=\"0\",file=\"{KEEPER[1]}\",role=\"leads\"}}": 1}
+    for name, value in wanted.items():
+        rows.same(found.get(f"varan_{name}"), value, f"the metric {name}")
+    memory = found.get("varan_resident_memory_bytes{process=\"varan\"}", 0)
+    rows.holds(1_000_000 < memory < 4_000_000_000, "the memory of the command", memory)
+    rows.holds(0 < found.get("varan_uptime_seconds", 0) < 3600, "the time since it began", found)
+    os.kill(service.serving(), signal.SIGKILL)
+    rows.same(client.ask("size"), ["4"], "a request after the command was killed")
+    rows.same(service.operate(f"join {KEEPER[3]}")[-1], "ok", "a version joins")
+    found = samples(rows, "\n".join(service.operate("metrics")[:-1]))
+    rows.same((found.get("varan_restarts_total"), found.get("varan_switches_total")), (1, 1), "restarts and switches")
+    rows.same(found.get("varan_sent_bytes_total"), said + 2, "bytes that were said again count once")
+
+    for words, status, said in ((["status"], 0, ""), (["hand", "over"], 1, "no: the commands are "), (["join", service.folder / "nothing"], 1, "no: the command ended with status 5: "), ([], 2, "usage: ")):
+        answer = subprocess.run([*ctl, *words], stdout=subprocess.PIPE, stderr=subprocess.PIPE, text=True)
+        rows.same((answer.returncode, answer.stderr[: len(said)]), (status, said), f"ctl {words}")
+    absent = subprocess.run([ctl[0], "ctl", service.folder / "nothing", "status"], stderr=subprocess.PIPE, text=True)
+    rows.same((absent.returncode, absent.stderr), (2, f"varan-listen: {service.folder / 'nothing'}: No such file or directory\n"), "ctl without a socket")
+    watched(rows, service)
+    client.close()
+    rows.same(service.end(), 0, "the status after it was watched")
+
+
+def samples(rows, text):
+    """The samples of an exposition by name and labels. Each has a line of its kind before it."""
+    kinds, found = {}, {}
+    for line in text.splitlines():
+        if kind := re.fullmatch(r"# TYPE ([a-z_]+) (counter|gauge)", line):
+            kinds[kind[1]] = kind[2]
+        elif sample := re.fullmatch(r'(([a-z_]+)(?:\{[a-z]+="[^"]*"(?:,[a-z]+="[^"]*")*\})?) ([0-9.]+)', line):
+            rows.same(kinds.get(sample[2]), "counter" if sample[2].endswith("_total") else "gauge", f"the kind of {sample[2]}")
+            found[sample[1]] = float(sample[3])
+        else:
+            rows.holds(re.fullmatch(r"# HELP [a-z_]+ .+", line), "a line of the metrics", line)
+    return found
+
+
+def watched(rows, service):
+    """A line a second, until the operator leaves."""
+    def open_ones():
+        return sum(line.endswith(f" {service.control}") for line in pathlib.Path("/proc/net/unix").read_text().splitlines())
+
+    until(lambda: open_ones() == 1, "nobody but the service has the socket open")
+    with socket.socket(socket.AF_UNIX) as control:
+        control.settimeout(SECONDS)
+        control.connect(str(service.control))
+        control.sendall(b"watch\n")
+        with control.makefile() as told:
+            lines = [told.readline() for _ in range(3)]
+        rows.holds(all(re.fullmatch(r"uptime \d+ connections 1 clients 2 came .* leads \S+\n", line) for line in lines), "lines that are watched", lines)
+        rows.same(open_ones(), 2, "connections to the socket")
+    until(lambda: open_ones() == 1, "watching ends where the operator leaves")
 
 
 def unheard_port(rows, program):
@@ -386,7 +633,7 @@ def received(client):
 
 
 started = []
-TRIED = (joining, killed_command, killed_all, unheard_port, closed_console, unread_console, full_transcript, cut_answers)
+TRIED = (joining, handing, falling_back, reloading, permitted, told_metrics, killed_command, killed_all, unheard_port, closed_console, unread_console, full_transcript, cut_answers)
 
 
 def main():

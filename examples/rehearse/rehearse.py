@@ -1,5 +1,5 @@
 #!/usr/bin/env python3
-"""Rehearses a version on the transcripts of a live service, by GNU parallel (docs/REHEARSE.md).
+"""Rehearses a version on the transcripts of a live service, by GNU parallel (docs/COMPARE.md).
 
     rehearse.py traces [--memory N] [GNU parallel's] FOLDER TRANSCRIPTS OLD     records the calls of the version in service on each transcript, once
     rehearse.py run [--rules R] [GNU parallel's] FOLDER NAME NEW                rehearses a new version on each; the rehearsal is kept by its name

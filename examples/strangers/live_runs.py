@@ -1,6 +1,6 @@
 """Puts the programs of programs.py before real clients (docs/LIVE.md): curl for requests of HTTP, socat for all else.
 
-A program that accepts connections stands behind ../listen.py, one run for all its clients; one that reads its standard input behind socat, a run for
+A program that accepts connections stands behind ../../service/varan-listen, one run for all its clients; one that reads its standard input behind socat, a run for
 each client.
 """
 import concurrent.futures
@@ -86,14 +86,14 @@ class Service:
 
 
 class Connections(Service):
-    """A program that accepts connections at this port, behind ../listen.py: one run, and after one that ends by itself the next."""
+    """A program that accepts connections at this port, behind ../../service/varan-listen: one run, and after one that ends by itself the next."""
 
     def __init__(self, room, inner, words, versions):
         self.inner = inner
         super().__init__(room, words, versions)
 
     def command(self, words):
-        adapter = [HERE / "../listen.py", "--transcripts", self.folder, f"{self.port}:{self.inner}", "--"]
+        adapter = [HERE / "../../service/varan-listen", "--transcripts", self.folder, f"{self.port}:{self.inner}", "--"]
         return [*adapter, words[0], "serve", "--clients", "--log", *words[1:]]
 
     def transcripts(self):

@@ -1,6 +1,6 @@
 /*
  * Every call of the C library comes here. What the kernel has goes through to it; what it lacks is done by what it has, or answered by what a
- * page says (docs/GUESTS.md). No answer follows an address, a time or anything else in which two versions may differ.
+ * page says (README.md). No answer follows an address, a time or anything else in which two versions may differ.
  */
 #include "guest.h"
 #include <errno.h>

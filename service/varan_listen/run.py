@@ -7,9 +7,9 @@ import contextlib
 import signal
 import time
 
-from listen_parts.past import Past
-from listen_parts.process import Joining, Process
-from listen_parts.streams import MOST_WRITTEN, note
+from varan_listen.past import Past
+from varan_listen.process import Joining, Process
+from varan_listen.streams import MOST_WRITTEN, note
 
 # Bytes of an arrival, as many as a script may say.
 MOST_BYTES = 2000
@@ -23,8 +23,8 @@ UNWRITTEN = 6
 class Run:
     """Clients by their numbers, in the order in which they came, and the process that serves them."""
 
-    def __init__(self, begin, console, idle):
-        self.begin, self.console, self.idle = begin, console, idle
+    def __init__(self, begin, console, idle, counts):
+        self.begin, self.console, self.idle, self.counts = begin, console, idle, counts
         self.told, self.said = Past("what came"), Past("what the guests said")
         self.serving = self.joining = None
         self.is_joining = False
@@ -46,9 +46,9 @@ class Run:
         self.count = self.gone = count
         self.is_past = True
 
-    async def start(self, versions):
+    async def start(self, lineup):
         """Begins the process that serves. It is told all that came."""
-        self.serving = await self.begin(Process, versions, self.told.size > 0)
+        self.serving = await self.begin(Process, lineup, self.told.size > 0)
         self.follow(self.serving)
 
     def follow(self, process):
@@ -70,7 +70,7 @@ class Run:
         elif process is self.serving:
             await self.go_on(status)
         if process is not self.serving:
-            process.close()
+            process.transcript.close()
 
     def take(self, process, line):
         """A line that a process says: it was said before, or is said now, or is ahead of the process that serves."""
@@ -94,14 +94,16 @@ class Run:
 
     def is_there(self, process):
         """Whether a process was told all that came, and has said all that was said."""
-        return process.heard >= self.said.size and process.fed == self.told.size
+        return process.heard >= self.said.size and process.fed == self.told.size and process.handed == len(process.hands)
 
     def look(self, process):
         """Whether a process has caught up. One that joins serves from now on, if no version of it has ended meanwhile."""
         if not self.is_there(process):
             return
         if process is self.joining and process.has_settled and process.fault is None:
-            if ended := process.newly_ended(self.serving):
+            if process.lineup.is_trial:
+                process.end("by itself it says the same, by other calls")
+            elif ended := process.newly_ended(self.serving):
                 process.end(ended)
             else:
                 self.switch()
@@ -120,8 +122,9 @@ class Run:
             return
         note(f"the command was ended by {signal.Signals(-status).name}, and is begun anew: {self.told.lines} lines came, {self.said.lines} were said")
         self.restarts += 1
+        self.counts.restarts += 1
         try:
-            await self.start(process.versions)
+            await self.start(process.lineup)
         except OSError as fault:
             note(fault)
             self.ended.set_result(status)
@@ -137,15 +140,14 @@ class Run:
 
     # ---- a process that joins
 
-    async def join(self, versions, before):
-        """Begins a process of these versions, which is to serve. `before` has the number of each version in the process that serves now, or None."""
+    async def join(self, lineup):
+        """Begins a process of this lineup, which is to serve."""
         self.is_joining = True
         try:
-            self.joining = await self.begin(Joining, versions, True)
+            self.joining = await self.begin(Joining, lineup, True)
         except OSError:
             self.is_joining = False
             raise
-        self.joining.before = before
         self.follow(self.joining)
         self.tasks.append(asyncio.create_task(self.settle(self.joining)))
         return self.joining
@@ -171,13 +173,15 @@ class Run:
         old.end("another one serves in its place")
         while self.serving.ahead:
             self.say(self.serving.ahead.popleft())
-        note(f"these versions serve from now on: {' '.join(self.serving.versions)}")
+        self.counts.switches += 1
+        note(f"these versions serve from now on: {' '.join(map(str, self.serving.versions))}")
         self.serving.outcome.set_result(None)
 
     def give_up(self, why):
         process, self.joining, self.is_joining = self.joining, None, False
         process.end(why)
-        note(f"these versions don't join: {' '.join(process.versions)}: {process.fault}")
+        self.counts.refusals += not process.lineup.is_trial
+        note(f"these versions don't serve: {' '.join(map(str, process.versions))}: {process.fault}")
         process.outcome.set_result(process.fault)
 
     # ---- clients
@@ -185,8 +189,14 @@ class Run:
     def tell(self, line):
         line = line.encode() + b"\n"
         self.told.add(line)
+        self.counts.came[line.split()[0].decode()] += 1
         for process in filter(None, (self.serving, self.joining)):
             process.tell(line, self.told)
+
+    def hand(self):
+        """The operator says that the leader gives up the lead."""
+        for process in filter(None, (self.serving, self.joining)):
+            process.hand(self.told.size)
 
     def connect(self, client):
         self.waiting[self.count] = client
@@ -203,6 +213,7 @@ class Run:
         reader = self.accepted[number].reader
         with contextlib.suppress(OSError):
             while piece := await self.read(reader):
+                self.counts.received += len(piece)
                 self.tell(f"data {number} {piece.hex()}")
                 await self.serving.drain()
         self.tell(f"end {number}")
@@ -225,6 +236,7 @@ class Run:
 
     def send(self, number, piece):
         if number >= self.gone:
+            self.counts.sent += len(piece)
             self.accepted[number].send(piece)
 
     def close(self, number, is_cut=False):
@@ -252,6 +264,8 @@ class Run:
             self.close(int(fields[0]))
         else:
             raise ValueError(f"it says `{word}`")
+        if not self.is_past:
+            self.counts.said[word] += 1
 
     # ---- what the operator is told
 
@@ -270,8 +284,8 @@ class Run:
             if not self.is_there(process):
                 if process.is_behind:
                     note(self.progress())
-            elif process.lacks(accepts):
-                note(f"{process.transcript} lacks clients that were served: a line of it couldn't be written, and it ends there")
+            elif process.transcript.lacks(accepts):
+                note(f"{process.transcript.path} lacks clients that were served: a line of it couldn't be written, and it ends there")
 
     async def end(self):
         """Comes to the status, once the command has ended. Clients that it has accepted are closed then, or reset where it came to a limit or was killed."""
@@ -282,13 +296,13 @@ class Run:
         self.serving.process.stdin.close()
         if status == UNWRITTEN:
             note("a line of a transcript couldn't be written: the transcript ends there")
-        is_cut = status < 0 or self.serving.has_met_limit()
+        is_cut = status < 0 or self.serving.transcript.has_met_limit()
         if self.accepted and (status or is_cut):
             note(f"{len(self.accepted)} clients get no more: the command ended with status {status}{', at a limit' if is_cut else ''}")
         for number in list(self.accepted):
             self.close(number, is_cut)
         await asyncio.gather(*self.closers)
-        for it in (self.serving, self.told, self.said):
+        for it in (self.serving.transcript, self.told, self.said):
             it.close()
         return status if status >= 0 else 128 - status
 

@@ -3,42 +3,75 @@ import asyncio
 import os
 import time
 
-from listen_parts.process import BEHIND
-from listen_parts.run import UNWRITTEN, Run
-from listen_parts.streams import Console, note
+from varan_listen.lineup import Lineup
+from varan_listen.metrics import Counts
+from varan_listen.run import UNWRITTEN, Run
+from varan_listen.streams import Console, note
+from varan_listen.transcript import BEHIND
 
 UNBEGUN = 2
 
 
 class Service:
-    """`given` has the words of listen.py: head and versions of the command, each, idle and transcripts."""
+    """`given` has the words of varan-listen: head, script and versions of the command, each, idle and transcripts."""
 
-    def __init__(self, given, has_console):
-        self.given = given
-        self.versions = given.versions
+    def __init__(self, given, files, has_console):
+        self.given, self.files = given, files
+        self.counts = Counts()
         self.console = Console(has_console)
+        self.script = files.script_at(given.script)
+        self.versions = self.named()  # of the next run
         self.run = None  # the one that clients come to
         self.endings = []  # of each run, a task that comes to its status
         self.turn = asyncio.Lock()  # one client at a time comes to a run
         self.over = asyncio.Event()
         self.failed = self.is_ending = False
 
-    async def begin_process(self, kind, versions, is_behind):
-        """A process of the command with these versions. Its standard error is a file of the folder, or this script's."""
+    def named(self):
+        """The files of the command line as they are now."""
+        return [self.files.version(it) for it in self.given.versions]
+
+    # ---- runs
+
+    async def begin_process(self, kind, begun, is_behind):
+        """A process of the command with this lineup. Its standard error is a file of the folder, or this script's."""
         transcript = None
         if self.given.transcripts is not None:
             count = len(os.listdir(self.given.transcripts))
             transcript = self.given.transcripts / f"{time.strftime('%Y%m%dT%H%M%S')}-{count:05}{BEHIND if is_behind else ''}"
-        return await kind.begin(self.given.head, versions, transcript, is_behind)
+        at = self.given.head.index("serve") + 1 if begun.script.path else 0
+        command = [*self.given.head[:at], *begun.script.words(), *self.given.head[at:], *(it.copy for it in begun.versions)]
+        return await kind.begin(command, begun, transcript, is_behind)
 
-    async def begin(self, arrivals=(), count=0):
-        """Begins the run that clients come to from now on. These arrivals of so many clients come first."""
-        run = Run(self.begin_process, self.console, self.given.idle)
-        if arrivals:
-            run.resume(arrivals, count)
-        await run.start(self.versions)
+    async def resume(self, script, arrivals, count):
+        """Begins with a run that goes on with another one's arrivals, of so many clients, and its hand-overs. A run after it has none of those."""
+        script = self.files.script(script)
+        self.script = self.files.without(script, script.lengths())
+        run = self.new_run()
+        run.resume(arrivals, count)
+        await self.start(run, Lineup(self.versions, script))
+
+    def new_run(self):
+        return Run(self.begin_process, self.console, self.given.idle, self.counts)
+
+    async def start(self, run, begun):
+        await run.start(begun)
         self.run = run
         self.endings.append(asyncio.create_task(self.follow(run)))
+
+    async def begin(self):
+        """Begins the run that clients come to from now on."""
+        await self.start(self.new_run(), Lineup(self.next_versions(), self.script))
+
+    def next_versions(self):
+        """Those of the run before, the one to which the lead was handed over in front."""
+        if self.run is not None:
+            serving = self.run.serving
+            serving.transcript.learn()
+            self.versions = [serving.versions[it] for it in serving.transcript.next_order]
+        return self.versions
+
+    # ---- clients
 
     async def place(self, client):
         """Gives a client to the run that takes clients. The next one begins before this one gets its last."""
@@ -92,15 +125,15 @@ class Service:
             note(f"{len(staying)} clients are closed: no guest accepts them at port {', '.join(sorted({str(client.port) for client in staying}))}")
         await asyncio.gather(self.come(*going), *(client.close(self.given.idle) for client in staying))
 
-    async def renew(self):
-        """Clients come to a new run from now on; where none can begin, to this one still."""
+    async def begin_anew(self):
+        """Clients come to a new run from now on, with the files of the command line as they are now; where none can begin, to this one still."""
         async with self.turn:
             run = self.run
-            try:
-                await self.begin()
-                run.end_clients()
-            except OSError as fault:
-                note(fault)
+            if self.given.script is not None:
+                self.script = self.files.script_at(self.given.script)
+            self.versions = self.named()
+            await self.start(self.new_run(), Lineup(self.versions, self.script))
+            run.end_clients()
 
     async def end(self):
         """Comes to the status, once all that came are served. A run that one leaves clients to stands in the list by then."""

@@ -1,4 +1,4 @@
-"""The streams of listen.py: connections, standard output, and what is said to the operator."""
+"""The streams of varan-listen: connections, standard output, and what is said to the operator."""
 import asyncio
 import contextlib
 import dataclasses
@@ -11,6 +11,8 @@ import sys
 import termios
 import threading
 
+from varan_listen.metrics import Counts
+
 # Bytes that a run writes to a client at most, and bytes of the console that may wait to be read.
 MOST_WRITTEN = 1_048_576
 MOST_WAITING = 262_144
@@ -19,7 +21,7 @@ MOST_WAITING = 262_144
 def note(text):
     """Says this to the operator. Standard error may have a transcript, so this is a comment of it."""
     with contextlib.suppress(OSError):
-        os.write(2, f"# listen.py: {text}\n".encode())
+        os.write(2, f"# varan-listen: {text}\n".encode())
 
 
 def keep_standard_streams():
@@ -35,10 +37,14 @@ class Client:
     """A connection, and the guest's port that it is for."""
 
     port: int
+    counts: Counts
     reader: asyncio.StreamReader
     writer: asyncio.StreamWriter
     got: int = 0  # bytes
     was_left: bool = False  # by a run that accepted nobody
+
+    def __post_init__(self):
+        self.counts.connections += 1
 
     def send(self, piece):
         """Sends this, or drops it where the client has left. A run says a megabyte at most to a client, so one that doesn't read takes no more memory."""
@@ -53,6 +59,7 @@ class Client:
             await asyncio.wait_for(self.writer.wait_closed(), patience)
         except (OSError, asyncio.TimeoutError):
             self.writer.transport.abort()
+        self.counts.connections -= 1
 
     async def cut(self, patience):
         """Resets the connection once the client has all that was sent, or after so many seconds. So a client can tell an answer that was cut from one that ended."""
@@ -61,6 +68,7 @@ class Client:
             await asyncio.wait_for(self.until_sent(connection), patience)
             connection.setsockopt(socket.SOL_SOCKET, socket.SO_LINGER, struct.pack("ii", 1, 0))
         self.writer.transport.abort()
+        self.counts.connections -= 1
 
     async def until_sent(self, connection):
         while self.writer.transport.get_write_buffer_size() or any(fcntl.ioctl(connection.fileno(), termios.TIOCOUTQ, bytes(4))):

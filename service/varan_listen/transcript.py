@@ -1,0 +1,103 @@
+"""What a transcript says: of the process that writes it who leads, who has ended and how, and where the lead was handed over; and of one that a run left what came in it."""
+import re
+
+ARRIVALS = (b"connect", b"data", b"end", b"line", b"input")
+# An end of these is what the run was told when varan-listen ended. A run that goes on isn't.
+OVER = (b"end clients", b"end input")
+# The transcript of a process that hasn't caught up has this at the end of its name: it lacks something that came.
+BEHIND = ".behind"
+SAID = re.compile(rb"(?m)^(?:(connect) \d+|hand (\d+)|# version (\d) (?:leads from event (\d+)|ended: (.*)))$")
+LIMITS = ("fault calls", "fault budget")
+
+
+class Transcript:
+    """The standard error of a process with so many versions. It is read on where it is a file of its own; else nothing is known, and the first version leads."""
+
+    def __init__(self, path, count):
+        self.path = path
+        self.reader = open(path, "rb") if path else None
+        self.rest = b""  # the beginning of the last line, which isn't whole
+        self.connects = 0  # clients
+        self.ends = {}  # of the versions that ended, how
+        self.hands = []  # lengths of hand-overs, those of the script among them
+        self.leads = {0: 0}  # by the event from which it led, each leader in turn
+        self.order = list(range(count))  # of the versions that haven't ended, in the order in which they lead
+        self.next_order = list(range(count))  # in which a run after this one begins with all of them: a leader that broke leads it again, one that handed over doesn't
+        self.has_failed = False  # a line couldn't be written
+
+    def learn(self):
+        """Reads what it says since the last time."""
+        if self.reader is None:
+            return
+        whole, _, self.rest = (self.rest + self.reader.read()).rpartition(b"\n")
+        for connect, hand, number, event, end in SAID.findall(whole):
+            if connect:
+                self.connects += 1
+            elif hand:
+                self.hands.append(int(hand))
+            elif event:
+                self.take_lead(int(number), int(event))
+            else:
+                self.ends[int(number)] = end.decode()
+                self.order = [it for it in self.order if it != int(number)]
+
+    def take_lead(self, number, event):
+        """This version leads. A leader before it that hasn't ended has given up the lead, and leads last."""
+        before = self.leader()
+        self.leads[event] = number
+        others = [it for it in self.order if it not in (number, before)]
+        gave_up = before != number and before in self.order
+        self.order = [number, *others, *([before] if gave_up else [])]
+        if gave_up:
+            self.next_order = [*self.order, *sorted(self.ends)]
+
+    def leader(self):
+        return next(reversed(self.leads.values()))
+
+    def leads_in_order(self):
+        """Whether each leader stands behind the one before it in the list of versions. Then a version at the end of the list changes nothing of who led."""
+        leaders = list(self.leads.values())
+        return leaders == sorted(set(leaders))
+
+    def roles(self, count):
+        """Of each version whether it leads, follows, or how it has ended."""
+        self.learn()
+        return [f"ended: {self.ends[it]}" if it in self.ends else "leads" if it == self.leader() else "follows" for it in range(count)]
+
+    def has_met_limit(self):
+        """Whether a version came to a limit."""
+        self.learn()
+        return any(end.startswith(LIMITS) for end in self.ends.values())
+
+    def lacks(self, accepts):
+        """Whether it lacks one of so many clients that were accepted. It is said once."""
+        self.learn()
+        if self.reader is None or self.has_failed or self.connects >= accepts:
+            return False
+        self.has_failed = True
+        return True
+
+    def arrive(self):
+        """Its process has caught up."""
+        if self.path:
+            self.path = self.path.rename(self.path.with_name(self.path.name.removesuffix(BEHIND)))
+
+    def last_words(self):
+        """Its last line."""
+        return self.path.read_bytes().strip().rpartition(b"\n")[2].decode(errors="replace") if self.path else ""
+
+    def close(self):
+        if self.reader is not None:
+            self.reader.close()
+            self.reader = None
+
+
+def read_transcript(path):
+    """The script of a transcript, with its hand-overs; the arrivals that came in it, with the end of each client that was connected; and how many clients there were."""
+    lines = [line for line in path.read_bytes().split(b"\n")[:-1] if line and not line.startswith(b"#")]
+    came = [line for line in lines if line.split()[0] in ARRIVALS and line not in OVER]
+    script = [line for line in lines if line.split()[0] not in ARRIVALS]
+    count = sum(line.startswith(b"connect ") for line in came)
+    ended = {line for line in came if line.startswith(b"end ")}
+    came += [end for end in (b"end %d" % number for number in range(count)) if end not in ended]
+    return b"".join(line + b"\n" for line in script), [line + b"\n" for line in came], count
