@@ -5,7 +5,8 @@
     .ci/by_hand.py NAME ..     tries those of these crates, and says which show nothing, as .ci/edits.py does of the gate's
     .ci/by_hand.py --all       tries all of them
 
-They are tried by `rt ci NAME ..` in a copy of the repository, as its files stand, in which they are the crate's only edits.
+They are tried by `rt ci NAME ..` in a copy of the repository, as its files stand, in which they are the crate's only edits. What refused each is written into
+.ci/edits.ledger, with sums of what it was tried on (.ci/ledger.py); the line of one that shows nothing is removed.
 Status: 0 where there is nothing to say, else 1.
 """
 import os
@@ -16,6 +17,7 @@ import sys
 import tempfile
 
 import edits
+import ledger
 
 PAIR = re.compile(r"(?m)^file: (.+)$|^old: (.+)$")
 
@@ -68,15 +70,18 @@ def tried(names):
     """Tries the edits of these crates. Returns a line for each that shows nothing, or that isn't told of."""
     with tempfile.TemporaryDirectory(prefix="by-hand-") as top:
         copied(top, names)
+        known = edits.edits_of(f"{top}/crates")
+        of = ledger.Sums(top)
+        sums = {name: of.of(name, edits.GATE) for name in known}
         run = subprocess.Popen(["rt", "ci", *names], cwd=top, stdout=subprocess.PIPE, stderr=subprocess.STDOUT, text=True, errors="replace")
         lines = []
         for line in run.stdout:
             print(line, end="", flush=True)
             lines.append(line)
         status = run.wait()
-        known = edits.edits_of(f"{top}/crates")
     with open("docs/EDITS.md", encoding="utf-8") as text:
         page = edits.Page.of(text.read()).only(known.keys())
+    ledger.write(ledger.lines_for(lines, known, page, sums))
     yield from edits.faults_in(lines, known, page)
     if status:
         yield f"rt ci {' '.join(names)}: status {status}"

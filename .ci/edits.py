@@ -31,6 +31,9 @@ ANSWER = re.compile(r": (?:\./)?proofs/\S+:\d+:\d+: error: `([^`]*)`: (.*)")
 GAVE_UP = re.compile(r"`\); `|gave up|broke off|given up after|ran out of|stopped at|outgrew the memory limit")
 
 CLAUSE, INVARIANT, LOOP, RULE, LAW = "a clause", "a type's invariant", "a loop's invariant", "the table's rule", "a law"
+# what docs/EDITS.md names, though something else refuses it
+LISTED = "a reason that is listed"
+KINDS = (CLAUSE, INVARIANT, LOOP, RULE, LAW, LISTED)
 COUNTS = [
     (CLAUSE, re.compile(r"returns($|-)")),
     (INVARIANT, re.compile(r"invariant_of-")),
@@ -140,6 +143,14 @@ class Page:
     def takes(self, name, why, said):
         """Whether an edit counts by the page."""
         return name in self.conditions or name in self.tried and (why.startswith(UNSURE) or ANSWER.match(said))
+
+
+def refused_by(name, came_to, said, edit, page):
+    """What refused an edit, of what counts; None for one that doesn't count."""
+    kind, why = shown_by(came_to, said, edit)
+    if why and came_to.strip() == REFUSED and page.takes(name, why, said):
+        return LISTED
+    return kind
 
 
 def faults_in(lines, edits, page, untold=frozenset()):

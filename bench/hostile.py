@@ -3,7 +3,7 @@
 
     bench/hostile.py [--program PATH] [broken] [edges] [failing] [live] [worst]
 
-PATH is crates/varan/out/varan where it isn't given (build it first: `rt run` in crates/varan); without a part all five are run. docs/HOSTILE.md
+PATH is crates/varan/out/varan where it isn't given (build it first: `rt run` in crates/varan); without a part all five are run. docs/TESTING.md
 says what each part does and what it has found. It ends with 1 where an answer is wrong; each such answer is printed, and its files are kept.
 
 What an answer has to be comes from the descriptions of the forms (hostile_parts/readers.py reads them) and from the answers that calls have, never

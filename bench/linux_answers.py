@@ -3,7 +3,16 @@
 
 Needs qemu-riscv32 (Debian's package qemu-user), prlimit and, for the guest `all_files`, the right to mount a tmpfs. Build first:
 rt run in crates/varan. Then: bench/linux_answers.py [PROGRAM], PROGRAM being the program that assembles (crates/varan/out/varan).
-docs/LINUX.md says what each run finds.
+
+It was run with qemu-riscv32 7.2.22 (package qemu-user 1:7.2+dfsg-7+deb12u18+b3) on Linux 6.18 for x86-64, with ext4. Each segment of the assembled file is first
+moved to a page of the file, since Linux maps files by pages. A guest runs in an empty directory of its own, as
+
+    printf 'hello\\nyou\\n' | prlimit --nofile=64 --fsize=1048576 qemu-riscv32 guest | cat
+
+with SIGPIPE and SIGXFSZ ignored, so that EPIPE and EFBIG are returned. Relative paths with the directory -100 (AT_FDCWD) are in the one directory that a guest of
+`varan` has. The two limits are those that a guest of `varan` has anyway, and so is the page that `pipe_of_one_page` requests (fcntl F_SETPIPE_SZ, which `varan`
+answers by ENOSYS: the guest doesn't show it). `all_files` runs on a tmpfs of 257 inodes, its root and 256 files; `directory_and_clock` runs in `/`. Pipes have
+O_NONBLOCK, since under `varan` none waits. Guests write differences of thread numbers and heap addresses, which are Linux's own.
 """
 import pathlib
 import re

@@ -4,11 +4,11 @@
     bench/live_speed.py [--program PATH] [--rounds N]
 
 PATH is crates/varan/out/varan where it isn't given (build it first: `rt run` in crates/varan). All is taken in one run, on 127.0.0.1 and over pipes; 1, 2, 4
-and 8 equal versions, the same guest under qemu-riscv32, and for requests also listen.py before a program that answers at once (live_answers.c), take turns
+and 8 equal versions, the same guest under qemu-riscv32, and for requests also varan-listen before a program that answers at once (live_answers.c), take turns
 in each of N rounds, 5 by default. It needs qemu-riscv32 (Debian: qemu-user) and cc.
 
 - A line: from its last byte, over a pipe to the service of lines, to the newline of its answer; two calls. Then how many a second are answered, sent at once.
-- A request: from connecting to the end of the answer, by listen.py, one after the other; eleven calls. Then how many a second, eight clients beside each other.
+- A request: from connecting to the end of the answer, by varan-listen, one after the other; eleven calls. Then how many a second, eight clients beside each other.
 - A failover: from the line at which the leader breaks, and the versions that lead after it, to that line's answer by the version that leads on; and the line after it.
 - The processor's time while nobody asks, of one processor.
 """
@@ -187,12 +187,12 @@ def requests(program, rounds, folder):
     subprocess.run(["cc", "-O2", "-o", folder / "answers", TOP / "bench/live_answers.c"], check=True)
 
     def listening(port, *command):
-        return [TOP / "examples/listen.py", f"{port}:8080", "--", *command]
+        return [TOP / "service/varan-listen", f"{port}:8080", "--", *command]
 
     versions = {k: [program, "serve", "--clients", "--script", folder / "setup", *[SERVER / "built/server_1"] * k] for k in COUNTS}
     cases = {str(k): lambda port, k=k: listening(port, *versions[k]) for k in COUNTS}
     cases["qemu"] = lambda port: ["qemu-riscv32", SERVER / "built/server_1", str(port)]
-    cases["listen.py alone"] = lambda port: listening(port, folder / "answers", wanted.hex())
+    cases["varan-listen alone"] = lambda port: listening(port, folder / "answers", wanted.hex())
     found = {name: {"request": [], "a second": []} for name in cases}
     for _ in range(rounds):
         for name, command in cases.items():

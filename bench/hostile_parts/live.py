@@ -274,7 +274,7 @@ class Live:
         chance = random.Random(seed)
         port = free_port()
         case = Case(["--clients", "--script", "s"], BROKEN_SERVER, b"")
-        listening = [sys.executable, os.path.join(EXAMPLES, "listen.py"), "--idle", "5", f"{port}:{PORT}", "--", self.program.path, *case.words]
+        listening = [sys.executable, os.path.join(TOP, "service", "varan-listen"), "--idle", "5", f"{port}:{PORT}", "--", self.program.path, *case.words]
         with open("told", "wb") as told:
             adapter = subprocess.Popen(listening, stderr=told)
         try:
@@ -288,12 +288,12 @@ class Live:
 
         def due(_):
             if status != 0:
-                raise Wrong(f"listen.py ended with {status}")
+                raise Wrong(f"varan-listen ended with {status}")
             if not answers[2].endswith(b"\r\n\r\nhi\n"):
                 raise Wrong(f"the client that stayed got {answers[2]!r}")
             taken = b"".join(line for line in without_comments(transcript).splitlines(keepends=True) if re.match(rb"connect|data|end", line))
             held = not_taken(transcript)
-            # What listen.py sent isn't kept. Behind the end of all clients it may tell the ends of those that had still stayed, for which no call asks.
+            # What varan-listen sent isn't kept. Behind the end of all clients it may tell the ends of those that had still stayed, for which no call asks.
             if held and not (taken.endswith(b"\nend clients\n") and re.fullmatch(rb"(end \d+\n)+", held)):
                 raise Wrong(f"not taken: {held[:80]}")
             case.sent = taken + held

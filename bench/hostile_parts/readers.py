@@ -1,5 +1,5 @@
 """Readers of what the program reads and writes, for bench/hostile.py. They are written from the descriptions of the forms (docs/SCRIPT.md,
-docs/RULES.md, docs/REPORT.md, docs/TRACES.md, docs/HOSTILE.md, the System V ABI's ELF32, the filters of McCanne and Jacobson), not from the program.
+docs/RULES.md, docs/REPORT.md, docs/COMPARE.md, docs/TESTING.md, the System V ABI's ELF32, the filters of McCanne and Jacobson), not from the program.
 
 Each reader of a file raises `Refused` with the cause that the program has to name.
 """
