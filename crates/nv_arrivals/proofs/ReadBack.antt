@@ -9,8 +9,8 @@ use Rattle.std.proofs.lemmas.Slice.Eq.{bytes_eq-Decides}
 use Rattle.nv_text.specs.Fields.{first_word, rest_of}
 use Rattle.nv_text.specs.Names.{defined}
 use Rattle.nv_text.specs.Numbers.{number_of, unhexed, decimal_of, hex_of}
-use Rattle.nv_arrivals.specs.Arrivals.{Arrival, Input, InputEnd, ClientsEnd, Connect, Data, End, is_sized, is_port, is_arrival, AreBytes, BringsBytes}
-use Rattle.nv_arrivals.specs.Reading.{words, is_word, sized, bytes_of, line_arrival, input_with, connect_with, data_with, data_parts, data_in, end_with, end_of, arrival_of}
+use Rattle.nv_arrivals.specs.Arrivals.{Arrival, Input, InputEnd, ClientsEnd, Connect, Data, End, Time, is_sized, is_port, is_nanos, is_arrival, AreBytes, BringsBytes}
+use Rattle.nv_arrivals.specs.Reading.{words, is_word, sized, bytes_of, line_arrival, input_with, connect_with, data_with, data_parts, data_in, end_with, end_of, time_with, time_parts, time_in, arrival_of}
 use Rattle.nv_arrivals.specs.Writing.{front, is_line, input_text, line_text}
 use Rattle.nv_arrivals.proofs.Digits.{decimal-lacks, number_of-decimal}
 use Rattle.nv_arrivals.proofs.Hex.{unhexed-hex, hex-lacks}
@@ -37,6 +37,10 @@ of-data rest = refl
 of-end : (rest : List ℕ) → arrival_of (codes "end " ++ rest) ≡ end_of rest
 unfolding arrival_of words defined
 of-end rest = refl
+
+of-time : (rest : List ℕ) → arrival_of (codes "time " ++ rest) ≡ time_in rest
+unfolding arrival_of words defined
+of-time rest = refl
 
 -- ---- each arrival
 
@@ -99,6 +103,15 @@ connect-back port h =
     let small : port < 2 ^ 32 = grind (arith, nat_tests) in
     ap connect_with (number_of-decimal port small) ∙ rw h refl
 
+time-back : (seconds nanos : ℕ) → seconds < 2 ^ 32 → is_nanos nanos ≡ true → time_in (decimal_of seconds ++ 32 ∷ decimal_of nanos) ≡ Ok (Time seconds nanos)
+time-back seconds nanos small h =
+    let lacks = decimal-lacks 32 seconds (lit< tt) small in
+    let few : nanos < 2 ^ 32 = grind (arith, nat_tests) in
+    ap (λ w. time_parts w (rest_of (decimal_of seconds ++ 32 ∷ decimal_of nanos))) (word-first (decimal_of seconds) (decimal_of nanos) lacks)
+    ∙ ap (time_parts (decimal_of seconds)) (word-rest (decimal_of seconds) (decimal_of nanos) lacks)
+    ∙ ap (λ c. time_with c (number_of (decimal_of nanos))) (number_of-decimal seconds small)
+    ∙ ap (time_with (Some seconds)) (number_of-decimal nanos few) ∙ rw h refl
+
 pub read_back : (a : Arrival) → is_arrival a ≡ true → BringsBytes a → arrival_of (line_text a) ≡ Ok a
 unfolding is_arrival line_text
 read_back (Input bytes) h are = input-back bytes h are
@@ -113,6 +126,11 @@ read_back (Data n bytes) h are =
 read_back (End n) h are =
     let small : n < 2 ^ 32 = grind (arith, nat_tests) in
     of-end (decimal_of n) ∙ end-back n small
+read_back (Time seconds nanos) h are =
+    let parts = and_parts (nat_lt seconds (2 ^ 32)) (is_nanos nanos) h in
+    let first = parts.0 in
+    let small : seconds < 2 ^ 32 = grind (arith, nat_tests) in
+    of-time (decimal_of seconds ++ 32 ∷ decimal_of nanos) ∙ time-back seconds nanos small parts.1
 
 -- ---- what a line doesn't have
 
@@ -144,6 +162,15 @@ line_text-lacks (Data n bytes) h are =
 line_text-lacks (End n) h are =
     let small : n < 2 ^ 32 = grind (arith, nat_tests) in
     text-lacks (codes "end ") (decimal_of n) (plain (codes "end ") refl) (decimal-lacks 10 n (lit< tt) small)
+line_text-lacks (Time seconds nanos) h are =
+    let parts = and_parts (nat_lt seconds (2 ^ 32)) (is_nanos nanos) h in
+    let first = parts.0 in
+    let second = parts.1 in
+    let small : seconds < 2 ^ 32 = grind (arith, nat_tests) in
+    let few : nanos < 2 ^ 32 = grind (arith, nat_tests) in
+    text-lacks (codes "time ") (decimal_of seconds ++ (codes " " ++ decimal_of nanos)) (plain (codes "time ") refl)
+    (text-lacks (decimal_of seconds) (codes " " ++ decimal_of nanos) (decimal-lacks 10 seconds (lit< tt) small)
+    (text-lacks (codes " ") (decimal_of nanos) (plain (codes " ") refl) (decimal-lacks 10 nanos (lit< tt) few)))
 
 -- a line begins with a word of an arrival's
 input-begins : (bytes : List ℕ) → is_word (first_word (input_text bytes)) ≡ true
@@ -161,3 +188,4 @@ line_text-begins ClientsEnd = refl
 line_text-begins (Connect port) = refl
 line_text-begins (Data n bytes) = refl
 line_text-begins (End n) = refl
+line_text-begins (Time seconds nanos) = refl

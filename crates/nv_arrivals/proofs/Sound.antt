@@ -8,8 +8,8 @@ use Rattle.nv_arrivals.specs.declared.arrival.ArrivalCause.{ArrivalCause}
 use Rattle.nv_arrivals.specs.declared.arrival.ArrivalCause.TheVariants as cause
 use Rattle.nv_arrivals.specs.declared.word.Word.{Word}
 use Rattle.nv_arrivals.specs.declared.word.Word.TheVariants as word
-use Rattle.nv_arrivals.specs.Arrivals.{Arrival, Input, InputEnd, ClientsEnd, Connect, is_sized, is_port, is_arrival}
-use Rattle.nv_arrivals.specs.Reading.{word_of, sized, bytes_of, line_arrival, input_with, connect_with, data_with, data_parts, end_with, end_of, arrival_by, arrival_with, arrival_of}
+use Rattle.nv_arrivals.specs.Arrivals.{Arrival, Input, InputEnd, ClientsEnd, Connect, Time, is_sized, is_port, is_nanos, is_arrival}
+use Rattle.nv_arrivals.specs.Reading.{word_of, sized, bytes_of, line_arrival, input_with, connect_with, data_with, data_parts, end_with, end_of, time_with, time_parts, arrival_by, arrival_with, arrival_of}
 use Rattle.std.specs.declared.alloc.AllocError.{AllocError}
 use Rattle.nv_arrivals.specs.declared.arrival.Arrival as came
 use Rattle.nv_arrivals.specs.Views.{view, result_view}
@@ -84,12 +84,26 @@ end-sound text = step (bytes_eq text (codes "input")) (bytes_eq text (codes "cli
   step false true = refl
   step false false = end_with-sound (number_of text) (number_of-fits text)
 
+time-sound : (found more : Option ℕ) → ((n : ℕ) → found ≡ Some n → nat_lt n (2 ^ 32) ≡ true) → sound (time_with found more) ≡ true
+unfolding is_arrival
+time-sound None more fits = refl
+time-sound (Some seconds) None fits = refl
+time-sound (Some seconds) (Some nanos) fits = step (is_nanos nanos) refl where
+  step : (x : Bool) → is_nanos nanos ≡ x → sound (cond x (Ok (Time seconds nanos)) (Err cause.Range)) ≡ true
+  step true e = and_from _ _ (fits seconds refl) e
+  step false e = refl
+
+told-sound : (seconds : List ℕ) (rest : Option (List ℕ)) → sound (time_parts seconds rest) ≡ true
+told-sound seconds None = refl
+told-sound seconds (Some nanos) = time-sound (number_of seconds) (number_of nanos) (number_of-fits seconds)
+
 by-sound : (w : Word) (rest : List ℕ) → sound (arrival_by w rest) ≡ true
 by-sound word.Line rest = line-sound rest
 by-sound word.Input rest = input-sound (bytes_of (unhexed rest)) (bytes-sound (unhexed rest))
 by-sound word.Connect rest = connect-sound (number_of rest)
 by-sound word.Data rest = parts-sound (first_word rest) (rest_of rest)
 by-sound word.End rest = end-sound rest
+by-sound word.Time rest = told-sound (first_word rest) (rest_of rest)
 
 with-sound : (w : Option Word) (rest : Option (List ℕ)) → sound (arrival_with w rest) ≡ true
 with-sound None rest = refl

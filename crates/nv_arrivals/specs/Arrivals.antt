@@ -14,6 +14,8 @@ pub data Arrival : Type 0 where
   Data : ℕ → List ℕ → Arrival
   -- this client has sent all
   End : ℕ → Arrival
+  -- it is so many seconds after the beginning of 1970, and nanoseconds after them
+  Time : ℕ → ℕ → Arrival
 
 -- 1 to 2,000 bytes
 abbrev pub is_sized : List ℕ → Bool
@@ -23,6 +25,10 @@ is_sized bytes = nat_lt 0 (length bytes) && nat_le (length bytes) 2000
 abbrev pub is_port : ℕ → Bool
 is_port n = nat_le 1 n && nat_le n 65535
 
+-- less than a second
+abbrev pub is_nanos : ℕ → Bool
+is_nanos n = nat_le n 999999999
+
 -- the limits that an arrival is within by itself
 unfoldable pub is_arrival : Arrival → Bool
 is_arrival (Input bytes) = is_sized bytes
@@ -31,6 +37,7 @@ is_arrival ClientsEnd = true
 is_arrival (Connect port) = is_port port
 is_arrival (Data n bytes) = nat_lt n (2 ^ 32) && is_sized bytes
 is_arrival (End n) = nat_lt n (2 ^ 32)
+is_arrival (Time seconds nanos) = nat_lt seconds (2 ^ 32) && is_nanos nanos
 
 abbrev pub AreBytes : List ℕ → Type 0
 AreBytes bytes = (i : ℕ) → get_or bytes i 0 < 256

@@ -4,7 +4,7 @@ use Rattle.std.specs.List.{slice_get, list_all}
 use Rattle.std.specs.Result.{is_ok}
 use Rattle.nv_arrivals.specs.declared.arrival.ArrivalCause.{ArrivalCause}
 use Rattle.nv_arrivals.specs.declared.arrival.ArrivalCause.TheVariants as cause
-use Rattle.nv_arrivals.specs.Arrivals.{Arrival, Input, InputEnd, ClientsEnd, Connect, Data, End, is_arrival}
+use Rattle.nv_arrivals.specs.Arrivals.{Arrival, Input, InputEnd, ClientsEnd, Connect, Data, End, Time, is_arrival}
 
 -- whether descriptor 0 and the clients are at their end, and of each client whether it has sent all
 pub record Came : Type 0 where
@@ -48,6 +48,7 @@ admitted ClientsEnd came = clients_ended came
 admitted (Connect port) came = with_client came
 admitted (Data n bytes) came = sending (slice_get came.clients n) came
 admitted (End n) came = client_ended n came
+admitted (Time seconds nanos) came = Ok came
 
 abbrev pub onward : Result Came ArrivalCause → (Came → Result Came ArrivalCause) → Result Came ArrivalCause
 onward (Ok came) later = later came

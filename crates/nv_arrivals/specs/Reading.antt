@@ -1,5 +1,5 @@
 -- What an arrival's line says.
-use Rattle.std.specs.Prelude.{ℕ, Bool, List, [], ◌∷◌, ◌++◌, Option, Some, None, is_some, Result, Ok, Err, if◌then◌else◌, ◌==◌, nat_lt, nat_le, length, bytes_eq, codes}
+use Rattle.std.specs.Prelude.{ℕ, Bool, true, false, List, [], ◌∷◌, ◌++◌, Option, Some, None, is_some, Result, Ok, Err, if◌then◌else◌, ◌==◌, nat_lt, nat_le, length, bytes_eq, codes}
 use Rattle.nv_text.specs.Numbers.{number_of, unhexed}
 use Rattle.nv_text.specs.Fields.{first_word, rest_of}
 use Rattle.nv_text.specs.Names.{defined}
@@ -7,19 +7,32 @@ use Rattle.nv_arrivals.specs.declared.arrival.ArrivalCause.{ArrivalCause}
 use Rattle.nv_arrivals.specs.declared.arrival.ArrivalCause.TheVariants as cause
 use Rattle.nv_arrivals.specs.declared.word.Word.{Word}
 use Rattle.nv_arrivals.specs.declared.word.Word.TheVariants as word
-use Rattle.nv_arrivals.specs.Arrivals.{Arrival, Input, InputEnd, ClientsEnd, Connect, Data, End, is_port}
+use Rattle.nv_arrivals.specs.Arrivals.{Arrival, Input, InputEnd, ClientsEnd, Connect, Data, End, Time, is_port, is_nanos}
 
 -- the words that begin a line
 unfoldable pub words : List (List ℕ × Word)
 words =
     (codes "line", word.Line) ∷ (codes "input", word.Input) ∷ (codes "connect", word.Connect) ∷ (codes "data", word.Data) ∷
-    (codes "end", word.End) ∷ []
+    (codes "end", word.End) ∷ (codes "time", word.Time) ∷ []
 
 abbrev pub word_of : List ℕ → Option Word
 word_of text = defined words text
 
 abbrev pub is_word : List ℕ → Bool
 is_word text = is_some (word_of text)
+
+-- an arrival's, but not that of the time
+abbrev pub is_timeless : Option Word → Bool
+is_timeless None = false
+is_timeless (Some word.Time) = false
+is_timeless (Some word.Line) = true
+is_timeless (Some word.Input) = true
+is_timeless (Some word.Connect) = true
+is_timeless (Some word.Data) = true
+is_timeless (Some word.End) = true
+
+abbrev pub is_timeless_word : List ℕ → Bool
+is_timeless_word text = is_timeless (word_of text)
 
 -- some bytes, and not too many
 abbrev pub sized : List ℕ → Result (List ℕ) ArrivalCause
@@ -64,6 +77,18 @@ end_with None = Err cause.Shape
 abbrev pub end_of : List ℕ → Result Arrival ArrivalCause
 end_of text = if bytes_eq text (codes "input") then Ok InputEnd else (if bytes_eq text (codes "clients") then Ok ClientsEnd else end_with (number_of text))
 
+-- `time S N`
+abbrev pub time_with : Option ℕ → Option ℕ → Result Arrival ArrivalCause
+time_with (Some seconds) (Some nanos) = if is_nanos nanos then Ok (Time seconds nanos) else Err cause.Range
+time_with _ _ = Err cause.Shape
+
+abbrev pub time_parts : List ℕ → Option (List ℕ) → Result Arrival ArrivalCause
+time_parts seconds None = Err cause.Shape
+time_parts seconds (Some nanos) = time_with (number_of seconds) (number_of nanos)
+
+abbrev pub time_in : List ℕ → Result Arrival ArrivalCause
+time_in text = time_parts (first_word text) (rest_of text)
+
 -- a line by its word and the rest after the word's space
 abbrev pub arrival_by : Word → List ℕ → Result Arrival ArrivalCause
 arrival_by word.Line rest = line_arrival rest
@@ -71,6 +96,7 @@ arrival_by word.Input rest = input_with (bytes_of (unhexed rest))
 arrival_by word.Connect rest = connect_with (number_of rest)
 arrival_by word.Data rest = data_in rest
 arrival_by word.End rest = end_of rest
+arrival_by word.Time rest = time_in rest
 
 abbrev pub arrival_with : Option Word → Option (List ℕ) → Result Arrival ArrivalCause
 arrival_with None rest = Err cause.Word

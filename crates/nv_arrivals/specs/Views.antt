@@ -16,6 +16,7 @@ view code.ClientsEnd = rule.ClientsEnd
 view (code.Connect port) = rule.Connect port
 view (code.Data n bytes) = rule.Data n bytes.items
 view (code.End n) = rule.End n
+view (code.Time seconds nanos) = rule.Time seconds nanos
 
 abbrev pub result_view : Result Arrival ArrivalCause → Result rule.Arrival ArrivalCause
 result_view (Ok arrival) = Ok (view arrival)

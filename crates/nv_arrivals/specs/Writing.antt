@@ -2,7 +2,7 @@
 use Rattle.std.specs.Prelude.{ℕ, Bool, ◌&&◌, List, ◌++◌, if◌then◌else◌, ◌==◌, nat_le, ◌-◌, length, take, get_or, codes}
 use Rattle.std.specs.List.{list_all}
 use Rattle.nv_text.specs.Numbers.{decimal_of, hex_of}
-use Rattle.nv_arrivals.specs.Arrivals.{Arrival, Input, InputEnd, ClientsEnd, Connect, Data, End}
+use Rattle.nv_arrivals.specs.Arrivals.{Arrival, Input, InputEnd, ClientsEnd, Connect, Data, End, Time}
 
 -- 0x20 to 0x7E
 abbrev pub is_printable : ℕ → Bool
@@ -28,3 +28,4 @@ line_text ClientsEnd = codes "end clients"
 line_text (Connect port) = codes "connect " ++ decimal_of port
 line_text (Data n bytes) = codes "data " ++ (decimal_of n ++ (codes " " ++ hex_of bytes))
 line_text (End n) = codes "end " ++ decimal_of n
+line_text (Time seconds nanos) = codes "time " ++ (decimal_of seconds ++ (codes " " ++ decimal_of nanos))

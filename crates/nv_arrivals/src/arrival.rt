@@ -22,6 +22,8 @@ pub enum Arrival {
     Data(u32, Vec<u8>),
     /// This client has sent all.
     End(u32),
+    /// It is so many seconds after the beginning of 1970 (clock_gettime(2), CLOCK_REALTIME), and nanoseconds after them.
+    Time(u32, u32),
 }
 
 /// Why a line is no arrival that may come next. Of several causes the first in this order is told.
@@ -31,7 +33,7 @@ pub enum ArrivalCause {
     Word,
     /// Wrong fields, or a number or a hexadecimal text that isn't one, or bytes of which there are none.
     Shape,
-    /// A port off its limits, or a client that hasn't come.
+    /// A port or nanoseconds off their limits, or a client that hasn't come.
     Range,
     /// Bytes or an end of what has ended.
     Twice,

@@ -20,5 +20,5 @@ pub use order::Order;
 pub use outside::{Outside, Said};
 pub use pieces::piece;
 pub use reading::read;
-pub use word::is_word;
+pub use word::{is_timeless_word, is_word};
 pub use writing::put_line;

@@ -118,6 +118,7 @@ impl Order {
             Arrival::Connect(_) => self.connect(),
             Arrival::Data(client, _) => Ok(self.check(*client)),
             Arrival::End(client) => Ok(self.end(*client)),
+            Arrival::Time(_, _) => Ok(Ok(())),
         }
     }
 }

@@ -2,7 +2,7 @@
 ghost use Rattle.std.specs.Prelude.{◌≡◌, IfOk, option_map, true};
 ghost use Rattle.nv_text.specs.Numbers.{number_of, unhexed};
 ghost use Rattle.nv_arrivals.specs.Arrivals.{is_arrival};
-ghost use Rattle.nv_arrivals.specs.Reading.{sized, bytes_of, line_arrival, input_with, connect_with, data_with, data_in, end_with, end_of, arrival_by, arrival_of};
+ghost use Rattle.nv_arrivals.specs.Reading.{sized, bytes_of, line_arrival, input_with, connect_with, data_with, data_in, end_with, end_of, time_with, time_in, arrival_by, arrival_of};
 ghost use Rattle.nv_arrivals.specs.Views.{view, result_view};
 ghost use Rattle.nv_arrivals.specs.inner.Views.{bytes_view};
 
@@ -12,6 +12,8 @@ use nv_text::{is, number, split_field, unhex};
 use std::alloc::{AllocError, Global};
 
 const MOST_PORT: u32 = 65_535;
+
+const MOST_NANOS: u32 = 999_999_999;
 
 // `line TEXT`.
 fn read_line(alloc: Global, text: &[u8]) -> Result<Result<Arrival, ArrivalCause>, AllocError>
@@ -113,6 +115,27 @@ fn read_end(text: &[u8]) -> Result<Arrival, ArrivalCause>
     }
 }
 
+fn time_with(seconds: Option<u32>, nanos: Option<u32>) -> Result<Arrival, ArrivalCause>
+    ensures { result_view result ≡ time_with seconds nanos }
+{
+    match (seconds, nanos) {
+        (Some(seconds), Some(nanos)) if nanos <= MOST_NANOS => Ok(Arrival::Time(seconds, nanos)),
+        (Some(_), Some(_)) => Err(ArrivalCause::Range),
+        _ => Err(ArrivalCause::Shape),
+    }
+}
+
+// `time S N`.
+fn read_time(text: &[u8]) -> Result<Arrival, ArrivalCause>
+    ensures { result_view result ≡ time_in text.now }
+{
+    let (seconds, rest) = split_field(text);
+    match rest {
+        None => Err(ArrivalCause::Shape),
+        Some(nanos) => time_with(number(seconds), number(nanos)),
+    }
+}
+
 // A line by its word and the rest after the word's space.
 fn arrival_by(
     alloc: Global,
@@ -127,6 +150,7 @@ fn arrival_by(
         Word::Connect => Ok(connect_with(number(rest))),
         Word::Data => read_data(alloc, rest),
         Word::End => Ok(read_end(rest)),
+        Word::Time => Ok(read_time(rest)),
     }
 }
 

@@ -87,6 +87,17 @@ fn put_numbered(out: &mut Vec<u8>, word: &[u8], value: u32) -> Result<(), AllocE
     Ok(())
 }
 
+fn put_time(out: &mut Vec<u8>, seconds: u32, nanos: u32) -> Result<(), AllocError>
+    ensures { OnOk result (out.new.items ≡ out.old.items ++ ((codes "time " ++ (decimal_of seconds ++ (codes " " ++ decimal_of nanos))) ++ codes "\n")) }
+{
+    out.extend_from_slice(b"time ")?;
+    put_number(out, seconds)?;
+    out.push(b' ')?;
+    put_number(out, nanos)?;
+    out.push(b'\n')?;
+    Ok(())
+}
+
 fn put_text(out: &mut Vec<u8>, text: &[u8]) -> Result<(), AllocError>
     ensures { OnOk result (out.new.items ≡ out.old.items ++ text.now) }
 {
@@ -107,5 +118,6 @@ pub fn put_line(out: &mut Vec<u8>, arrival: &Arrival) -> Result<(), AllocError>
         Arrival::Connect(port) => put_numbered(out, b"connect ", *port),
         Arrival::Data(client, bytes) => put_data(out, *client, bytes.as_slice()),
         Arrival::End(client) => put_numbered(out, b"end ", *client),
+        Arrival::Time(seconds, nanos) => put_time(out, *seconds, *nanos),
     }
 }

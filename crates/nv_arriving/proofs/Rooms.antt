@@ -7,7 +7,7 @@ use Rattle.nv_fs.specs.Reserved.{Disk}
 use Rattle.nv_sockets.specs.Sockets.{Net}
 use Rattle.nv_sockets.specs.Reserved.{Buffered}
 use Rattle.nv_sockets.specs.Coming.{connected, with_data, came_over, HasInput}
-use Rattle.nv_arrivals.specs.Arrivals.{Arrival, Input, InputEnd, ClientsEnd, Connect, Data, End}
+use Rattle.nv_arrivals.specs.Arrivals.{Arrival, Input, InputEnd, ClientsEnd, Connect, Data, End, Time}
 use Rattle.nv_arriving.specs.Reserved.{Room, input_bytes, connects, data_of, sends, HasRoom, CanTakeIn}
 use Rattle.nv_arriving.proofs.Sides.{bytes_first}
 
@@ -20,6 +20,7 @@ data_first j ClientsEnd xs = omega arith
 data_first j (Connect port) xs = omega arith
 data_first j (Data i bytes) xs = omega arith
 data_first j (End i) xs = omega arith
+data_first j (Time seconds nanos) xs = omega arith
 
 pub data_last : (j : ℕ) (xs : List Arrival) (a : Arrival) → data_of j (xs ++ a ∷ []) ≡ data_of j (a ∷ []) + data_of j xs
 data_last j [] a = omega arith
@@ -32,6 +33,7 @@ connects_first ClientsEnd xs = omega arith
 connects_first (Connect port) xs = omega arith
 connects_first (Data i bytes) xs = omega arith
 connects_first (End i) xs = omega arith
+connects_first (Time seconds nanos) xs = omega arith
 
 pub connects_last : (xs : List Arrival) (a : Arrival) → connects (xs ++ a ∷ []) ≡ connects xs + connects (a ∷ [])
 connects_last [] a = omega arith
@@ -52,6 +54,7 @@ sends_front j ClientsEnd xs h = cc
 sends_front j (Connect port) xs h = cc
 sends_front j (Data i bytes) xs h = or_left (i == j) (sends j xs) h
 sends_front j (End i) xs h = cc
+sends_front j (Time seconds nanos) xs h = cc
 
 -- some of them sends, or the last does
 abbrev pub Either : Bool → Bool → Type 0
@@ -69,6 +72,7 @@ sends_last j (ClientsEnd ∷ xs) a h = sends_last j xs a h
 sends_last j (Connect port ∷ xs) a h = sends_last j xs a h
 sends_last j (Data i bytes ∷ xs) a h = or_both (i == j) (sends j (xs ++ a ∷ [])) (sends j xs) (sends j (a ∷ [])) h (sends_last j xs a)
 sends_last j (End i ∷ xs) a h = sends_last j xs a h
+sends_last j (Time seconds nanos ∷ xs) a h = sends_last j xs a h
 
 -- ---- the memory for some serves for fewer
 
@@ -97,6 +101,9 @@ room_clients_end r xs h = room_less r (ClientsEnd ∷ xs) xs (omega arith) (omeg
 
 pub room_end : (r : Room) (flags i : ℕ) (xs : List Arrival) → flags ≡ r.flags → HasRoom r (End i ∷ xs) → HasRoom (record r { flags = flags }) xs
 room_end r flags i xs e h = subst (λ (n : ℕ). HasRoom (record r { flags = n }) xs) (sym e) (room_less r (End i ∷ xs) xs (omega arith) (omega arith) (λ j. omega arith) (λ j s. s) h)
+
+pub room_time : (r : Room) (seconds nanos : ℕ) (xs : List Arrival) → HasRoom r (Time seconds nanos ∷ xs) → HasRoom r xs
+room_time r seconds nanos xs h = room_less r (Time seconds nanos ∷ xs) xs (omega arith) (omega arith) (λ j. omega arith) (λ j s. s) h
 
 pub room_input : (r : Room) (d : Disk) (bytes : List ℕ) (xs : List Arrival) → length d.state.input ≡ length r.disk.state.input + length bytes → r.disk.reserved.input ≤ d.reserved.input
     → HasRoom r (Input bytes ∷ xs) → HasRoom (record r { disk = d }) xs

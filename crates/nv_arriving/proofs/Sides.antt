@@ -1,4 +1,4 @@
--- What arrives changes of what the kernel holds only the input, the connections and what is over.
+-- What arrives changes of what the kernel holds only the input, the connections, what is over and the clock.
 use Rattle.std.proofs.Common.{◌≡◌, ◌∙◌, sym, ap, subst, refl, ℕ, ◌+◌, Bool, true, false, List, [], ◌∷◌, ◌++◌, length, Option, Some, None, arith, length-append}
 use Rattle.nv_calls.specs.declared.numbers.Syscall.{Syscall}
 use Rattle.nv_calls.specs.declared.numbers.Syscall.TheVariants as call
@@ -18,7 +18,7 @@ use Rattle.nv_sockets.specs.Sockets.{socket_at}
 use Rattle.nv_sockets.specs.Reserved as sockets
 use Rattle.nv_sockets.specs.Reserved.{Buffered, can_send, CanSend, CanWriteTo}
 use Rattle.nv_arriving.specs.declared.waiting.Want.{Want}
-use Rattle.nv_arrivals.specs.Arrivals.{Arrival, Input, InputEnd, ClientsEnd, Connect, Data, End}
+use Rattle.nv_arrivals.specs.Arrivals.{Arrival, Input, InputEnd, ClientsEnd, Connect, Data, End, Time}
 use Rattle.nv_arriving.specs.Arriving.{Standing, wants_as, wants, arrive, arrive_all}
 use Rattle.nv_arriving.specs.Reserved.{input_bytes, IsSameBut, with_memory}
 
@@ -76,6 +76,7 @@ crew_same s ClientsEnd = refl
 crew_same s (Connect port) = refl
 crew_same s (Data i bytes) = refl
 crew_same s (End i) = refl
+crew_same s (Time seconds nanos) = refl
 
 pub crew_still : (s : Standing) (xs : List Arrival) → (arrive_all s xs).state.own.crew ≡ s.state.own.crew
 crew_still s [] = refl
@@ -88,6 +89,7 @@ served_same s ClientsEnd = refl
 served_same s (Connect port) = refl
 served_same s (Data i bytes) = refl
 served_same s (End i) = refl
+served_same s (Time seconds nanos) = refl
 
 pub served_still : (s : Standing) (xs : List Arrival) → (arrive_all s xs).state.own.served ≡ s.state.own.served
 served_still s [] = refl
@@ -100,6 +102,7 @@ input_more s ClientsEnd = omega arith
 input_more s (Connect port) = omega arith
 input_more s (Data i bytes) = omega arith
 input_more s (End i) = omega arith
+input_more s (Time seconds nanos) = omega arith
 
 pub bytes_first : (a : Arrival) (xs : List Arrival) → input_bytes (a ∷ xs) ≡ input_bytes (a ∷ []) + input_bytes xs
 bytes_first (Input bytes) xs = omega arith
@@ -108,6 +111,7 @@ bytes_first ClientsEnd xs = omega arith
 bytes_first (Connect port) xs = omega arith
 bytes_first (Data i bytes) xs = omega arith
 bytes_first (End i) xs = omega arith
+bytes_first (Time seconds nanos) xs = omega arith
 
 pub bytes_last : (xs : List Arrival) (a : Arrival) → input_bytes (xs ++ a ∷ []) ≡ input_bytes xs + input_bytes (a ∷ [])
 bytes_last [] a = omega arith

@@ -1,5 +1,5 @@
 -- What a kernel whose input arrives answers: a call that would wait takes in what comes, up to what it waits for, and is then served as it always was.
-use Rattle.std.specs.Prelude.{◌≡◌, ℕ, Bool, true, false, not, ◌&&◌, ◌==◌, nat_lt, nat_le, List, [], ◌∷◌, ◌++◌, length, take, drop, map, Option, Some, None, is_some, is_none, slice_index_or, slice_set, if◌then◌else◌}
+use Rattle.std.specs.Prelude.{◌≡◌, ℕ, Bool, true, false, not, ◌&&◌, ◌==◌, ◌+◌, ◌*◌, nat_lt, nat_le, List, [], ◌∷◌, ◌++◌, length, take, drop, map, Option, Some, None, is_some, is_none, slice_index_or, slice_set, if◌then◌else◌}
 use Rattle.nv_calls.specs.declared.numbers.Syscall.{Syscall}
 use Rattle.nv_calls.specs.declared.numbers.Syscall.TheVariants as call
 use Rattle.nv_calls.specs.Calls.{Request}
@@ -8,7 +8,7 @@ use Rattle.nv_calls.specs.Logs.{Start}
 use Rattle.nv_calls.specs.Numbers.{syscall_of}
 use Rattle.nv_fs.specs.Waits.{waits_on_input}
 use Rattle.nv_script.specs.Scripts.{Setup}
-use Rattle.nv_kernel.specs.Serving.{request_arg}
+use Rattle.nv_kernel.specs.Serving.{request_arg, second, reached}
 use Rattle.nv_sockets.specs.declared.socket.Socket.{Socket}
 use Rattle.nv_sockets.specs.declared.socket.Socket.TheVariants.{Fresh, Bound, Listening, Connected}
 use Rattle.nv_sockets.specs.Sockets.{Net, socket_at, are_flags, free_place, next_at, input_of}
@@ -16,7 +16,7 @@ use Rattle.nv_sockets.specs.Coming.{connected, with_data}
 use Rattle.nv_sockets.specs.Serving.{State, Served, serve, first_state, reply_of, link_written}
 use Rattle.nv_arriving.specs.declared.waiting.Want.{Want}
 use Rattle.nv_arriving.specs.declared.waiting.Want.TheVariants as want
-use Rattle.nv_arrivals.specs.Arrivals.{Arrival, Input, InputEnd, ClientsEnd, Connect, Data, End}
+use Rattle.nv_arrivals.specs.Arrivals.{Arrival, Input, InputEnd, ClientsEnd, Connect, Data, End, Time}
 use Rattle.nv_arriving.specs.Arrivals.{taken_for, in_vain}
 
 -- What the kernel holds, and what won't come any more: bytes for descriptor 0, clients, and bytes of each connection.
@@ -75,6 +75,10 @@ with_input s bytes = record s { state = record s.state { own = record s.state.ow
 abbrev pub with_net : Standing → Net → Standing
 with_net s net = record s { state = record s.state { net = net } }
 
+-- it is at least so late, in nanoseconds after the beginning of 1970
+abbrev pub at_time : Standing → ℕ → Standing
+at_time s nanos = record s { state = record s.state { own = reached s.state.own nanos } }
+
 abbrev pub arrive : Standing → Arrival → Standing
 arrive s (Input bytes) = with_input s bytes
 arrive s InputEnd = record s { input_over = true }
@@ -82,6 +86,7 @@ arrive s ClientsEnd = record s { clients_over = true }
 arrive s (Connect port) = record (with_net s (connected s.state.net port)) { overs = s.overs ++ false ∷ [] }
 arrive s (Data i bytes) = with_net s (with_data s.state.net i bytes)
 arrive s (End i) = record s { overs = slice_set s.overs i true }
+arrive s (Time seconds nanos) = at_time s (seconds * second + nanos)
 
 -- one after another
 abbrev pub arrive_all : Standing → List Arrival → Standing

@@ -3,7 +3,7 @@ use Rattle.std.specs.Prelude.{◌≡◌, ℕ, suc, ◌+◌, ◌-◌, ◌≤◌, 
 use Rattle.nv_fs.specs.Reserved.{Disk}
 use Rattle.nv_sockets.specs.Reserved.{Buffered}
 use Rattle.nv_sockets.specs.Coming.{came_over, HasInput, HasPlaces}
-use Rattle.nv_arrivals.specs.Arrivals.{Arrival, Input, InputEnd, ClientsEnd, Connect, Data, End}
+use Rattle.nv_arrivals.specs.Arrivals.{Arrival, Input, InputEnd, ClientsEnd, Connect, Data, End, Time}
 
 -- The files and the sockets with their memory; of how many more clients it can be kept whether they have sent all;
 -- and how many bytes fit where the clients' that connect go, those of the last one first.
@@ -22,6 +22,7 @@ input_bytes (ClientsEnd ∷ xs) = input_bytes xs
 input_bytes (Connect port ∷ xs) = input_bytes xs
 input_bytes (Data i bytes ∷ xs) = input_bytes xs
 input_bytes (End i ∷ xs) = input_bytes xs
+input_bytes (Time seconds nanos ∷ xs) = input_bytes xs
 
 -- how many clients connect
 abbrev pub connects : List Arrival → ℕ
@@ -32,6 +33,7 @@ connects (ClientsEnd ∷ xs) = connects xs
 connects (Connect port ∷ xs) = suc (connects xs)
 connects (Data i bytes ∷ xs) = connects xs
 connects (End i ∷ xs) = connects xs
+connects (Time seconds nanos ∷ xs) = connects xs
 
 -- how many bytes come from a client
 abbrev pub data_of : ℕ → List Arrival → ℕ
@@ -42,6 +44,7 @@ data_of j (ClientsEnd ∷ xs) = data_of j xs
 data_of j (Connect port ∷ xs) = data_of j xs
 data_of j (Data i bytes ∷ xs) = came_over i bytes j + data_of j xs
 data_of j (End i ∷ xs) = data_of j xs
+data_of j (Time seconds nanos ∷ xs) = data_of j xs
 
 -- some of them comes from a client
 abbrev pub sends : ℕ → List Arrival → Bool
@@ -52,6 +55,7 @@ sends j (ClientsEnd ∷ xs) = sends j xs
 sends j (Connect port ∷ xs) = sends j xs
 sends j (Data i bytes ∷ xs) = (i == j) || sends j xs
 sends j (End i ∷ xs) = sends j xs
+sends j (Time seconds nanos ∷ xs) = sends j xs
 
 -- where the next client has this number, there is memory for all that connect, and each one's has room for what it sends
 pub record HasKept (kept : List ℕ) (next : ℕ) (xs : List Arrival) : Type 0 where

@@ -51,7 +51,7 @@ fn count(counts: &mut Vec<usize>, arrival: &Arrival) -> Result<(), AllocError>
     match arrival {
         Arrival::Data(client, bytes) => add(counts, *client as usize, bytes.as_slice().len()),
         Arrival::Input(_) | Arrival::InputEnd | Arrival::ClientsEnd => Ok(()),
-        Arrival::Connect(_) | Arrival::End(_) => Ok(()),
+        Arrival::Connect(_) | Arrival::End(_) | Arrival::Time(_, _) => Ok(()),
     }
 }
 
@@ -83,7 +83,7 @@ fn set_back(counts: &mut Vec<usize>, arrival: &Arrival)
     match arrival {
         Arrival::Data(client, _) => set_zero(counts, *client as usize),
         Arrival::Input(_) | Arrival::InputEnd | Arrival::ClientsEnd => {}
-        Arrival::Connect(_) | Arrival::End(_) => {}
+        Arrival::Connect(_) | Arrival::End(_) | Arrival::Time(_, _) => {}
     }
 }
 

@@ -227,6 +227,7 @@ impl GuestSide {
                 .sockets
                 .add_data(*client as usize, bytes.as_slice()),
             Arrival::End(client) => self.end(*client as usize),
+            Arrival::Time(seconds, nanos) => self.host.devices.reach(*seconds, *nanos),
         }
     }
 

@@ -46,6 +46,7 @@ fn copy(alloc: Global, arrival: &Arrival) -> Result<Arrival, AllocError>
         Arrival::Connect(port) => Arrival::Connect(*port),
         Arrival::Data(client, bytes) => Arrival::Data(*client, bytes.as_slice().to_vec(alloc)?),
         Arrival::End(client) => Arrival::End(*client),
+        Arrival::Time(seconds, nanos) => Arrival::Time(*seconds, *nanos),
     })
 }
 

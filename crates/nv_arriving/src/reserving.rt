@@ -26,7 +26,7 @@ fn brings(arrival: &Arrival) -> usize
     match arrival {
         Arrival::Input(bytes) => bytes.as_slice().len(),
         Arrival::InputEnd | Arrival::ClientsEnd | Arrival::Connect(_) => 0,
-        Arrival::Data(_, _) | Arrival::End(_) => 0,
+        Arrival::Data(_, _) | Arrival::End(_) | Arrival::Time(_, _) => 0,
     }
 }
 
@@ -48,7 +48,7 @@ fn is_client(arrival: &Arrival) -> usize
     match arrival {
         Arrival::Connect(_) => 1,
         Arrival::Input(_) | Arrival::InputEnd | Arrival::ClientsEnd => 0,
-        Arrival::Data(_, _) | Arrival::End(_) => 0,
+        Arrival::Data(_, _) | Arrival::End(_) | Arrival::Time(_, _) => 0,
     }
 }
 
@@ -91,7 +91,7 @@ fn reserve_one(sockets: &mut Sockets, arrival: &Arrival, counts: &[usize]) -> Re
     match arrival {
         Arrival::Data(client, _) => reserve_count(sockets, *client as usize, counts),
         Arrival::Input(_) | Arrival::InputEnd | Arrival::ClientsEnd => Ok(()),
-        Arrival::Connect(_) | Arrival::End(_) => Ok(()),
+        Arrival::Connect(_) | Arrival::End(_) | Arrival::Time(_, _) => Ok(()),
     }
 }
 

@@ -76,11 +76,11 @@ use Rattle.nv_fs.specs.States.{Inode, FileState, Answer, answer, only, numbered,
 use Rattle.nv_fs.specs.Stored.{write_console, with_content, start_of, write_at, write_pipe, write_target, write_open, write_of}
 use Rattle.nv_fs.specs.Told.{told_by, told_of, opened_as}
 use Rattle.nv_fs.specs.Waits.{is_input, reads_input, waits_on_input}
-use Rattle.nv_arrivals.specs.Arrivals.{Arrival, is_sized, is_port, is_arrival, AreBytes, BringsBytes}
+use Rattle.nv_arrivals.specs.Arrivals.{Arrival, is_sized, is_port, is_nanos, is_arrival, AreBytes, BringsBytes}
 use Rattle.nv_arrivals.specs.Doings.{Said, Doing, takings, sayings, handings, exchanges}
 use Rattle.nv_arrivals.specs.Order.{Came, nothing_came, input_going, input_ended, clients_ended, with_client, sending, client_ended, admitted, onward, after, are_orderly, are_arrivals}
 use Rattle.nv_arrivals.specs.Pieces.{cut_after, pieces, input_of}
-use Rattle.nv_arrivals.specs.Reading.{words as nv_arrivals_words, word_of, is_word, sized, bytes_of as nv_arrivals_bytes_of, line_arrival, input_with, connect_with, data_with, data_parts, data_in, end_with, end_of, arrival_by, arrival_with, arrival_of}
+use Rattle.nv_arrivals.specs.Reading.{words as nv_arrivals_words, word_of, is_word, is_timeless, is_timeless_word, sized, bytes_of as nv_arrivals_bytes_of, line_arrival, input_with, connect_with, data_with, data_parts, data_in, end_with, end_of, time_with, time_parts, time_in, arrival_by, arrival_with, arrival_of}
 use Rattle.nv_arrivals.specs.Writing.{is_printable, front, is_line, input_text, line_text}
 use Rattle.nv_script.specs.Entry.{Entry as nv_script_Entry, form_of, is_printable as nv_script_is_printable, is_argument, is_file_byte, is_dots, is_file_name, entry_kinds, in_form, kind_of, shaped, argument_entry, file_with, file_entry, clock_fits, clock_entry, clock_with, clock_of, is_hand, hand_entry, hand_with, is_port as nv_script_is_port, connection_entry, connection_with, connection_of, entry_by, entry_with, is_passed_over, cause_of, arrives, begins_arrival, entry_of}
 use Rattle.nv_script.specs.HandLines.{hand_line}
@@ -96,13 +96,13 @@ use Rattle.nv_live.specs.Source.{Gave, Reads, faults_by_read}
 use Rattle.nv_live.specs.Taking.{faults_by_stop, Took}
 use Rattle.nv_live.specs.Transcript.{hand_text, note_of, notes_on}
 use Rattle.nv_kernel.specs.Crew.{Crew, first_crew, may_clone, clone_as, clone_of, exit_of, with_none_live}
-use Rattle.nv_kernel.specs.Serving.{State, Served, replied, always, of_files, of_crew, counted, request_arg, second, time_bytes, time_of, next_random, high_byte, randoms, random_after, randomly, control, unless_many, clock, answered, unless_bad as nv_kernel_unless_bad, serve, named_inode, first_state as nv_kernel_first_state}
+use Rattle.nv_kernel.specs.Serving.{State, Served, replied, always, of_files, of_crew, counted, request_arg, second, time_bytes, time_of, reached, next_random, high_byte, randoms, random_after, randomly, control, unless_many, clock, answered, unless_bad as nv_kernel_unless_bad, serve, named_inode, first_state as nv_kernel_first_state}
 use Rattle.nv_sockets.specs.Coming.{connected, with_data}
 use Rattle.nv_sockets.specs.Serving.{of_open, unless_many as nv_sockets_unless_many, answered as nv_sockets_answered, unless_bad as nv_sockets_unless_bad, or_own, State as nv_sockets_State, Served as nv_sockets_Served, beside, joined, serve as nv_sockets_serve, reply_of, link_written, link_from, port_from, first_net, first_state as nv_sockets_first_state}
 use Rattle.nv_sockets.specs.Sockets.{Link, Net, Answer as nv_sockets_Answer, answer as nv_sockets_answer, only as nv_sockets_only, no_sockets, socket_at, fault_of, on_socket, with_socket, free_place, socket_opened, are_flags, is_stream, is_tcp, made_at, socket_of, port_by, port_in, is_size, has_port, is_used, bind_to, bind_socket, bind_of, listen_socket, listen_of, waits_at_port, next_at, with_accepted, accept_next, accept_socket, accept_flagged, accept_of, link_at, input_of as nv_sockets_input_of, link_output, read_link, read_socket, with_output, write_link, write_socket, close_socket}
 use Rattle.nv_sockets.specs.Texts.{connection_count_text, connection_text, connection_texts, connections_text}
 use Rattle.nv_arriving.specs.Arrivals.{ends, until, taken_for}
-use Rattle.nv_arriving.specs.Arriving.{Standing, wants_input, is_over, wants_data, read_wants, wants_client, accept_wants, wants_as, wants, with_input as nv_arriving_with_input, with_net, arrive, arrive_all, Stage, taken, ready_for, with_state as nv_arriving_with_state, answer_next, serve_next, stage_after, start_at, first_standing, first_stage, start_of_arrivals}
+use Rattle.nv_arriving.specs.Arriving.{Standing, wants_input, is_over, wants_data, read_wants, wants_client, accept_wants, wants_as, wants, with_input as nv_arriving_with_input, with_net, at_time, arrive, arrive_all, Stage, taken, ready_for, with_state as nv_arriving_with_state, answer_next, serve_next, stage_after, start_at, first_standing, first_stage, start_of_arrivals}
 use Rattle.nv_arriving.specs.Doings.{of_bytes, socket_by, accepted_as, accepted, written as nv_arriving_written, sent, closed, said, doings_of, doings_from, doings}
 use Rattle.nv_arriving.specs.Kernel.{after as nv_arriving_after}
 use Rattle.nv_arriving.specs.Scripted.{start_from, stage_from}

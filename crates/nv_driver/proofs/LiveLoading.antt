@@ -153,7 +153,7 @@ ended_after line (b ∷ text) = by (get_or (b ∷ text) (length (b ∷ text) - 1
 head_reads : (bytes head : List ℕ) (begun : Setup) → head ≡ transcript_head bytes → script_of head ≡ Ok begun → IsTranscript head begun
 unfolding transcript_head
 head_reads bytes head begun same is =
-    let whole = ended_after (codes "varan-script 4") (after_first_line bytes) in
+    let whole = ended_after (codes "varan-script 5") (after_first_line bytes) in
     record { body = whole_lines (after_first_line bytes); begins = same; front = whole.front; ends = same ∙ whole.is; says = is }
 
 pub live_is : (bytes head : List ℕ) (setup begun : Setup) → script_of bytes ≡ Ok setup → head ≡ transcript_head bytes → script_of head ≡ Ok begun → begun.arrivals ≡ [] → IsLiveScript head begun bytes

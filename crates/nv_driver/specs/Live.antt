@@ -31,7 +31,7 @@ use Rattle.nv_driver.specs.declared.refusal.Cause.TheVariants as cause
 
 -- the text of a script that says nothing
 abbrev pub bare_text : List ℕ
-bare_text = codes "varan-script 4\n"
+bare_text = codes "varan-script 5\n"
 
 -- past its first newline
 abbrev pub after_first_line : List ℕ → List ℕ
@@ -41,7 +41,7 @@ after_first_line text = drop (prefix_len (λ b. not (b == 10)) text + 1) text
 abbrev pub whole_lines : List ℕ → List ℕ
 whole_lines text = if get_or text (length text - 1) 10 == 10 then text else text ++ 10 ∷ []
 
--- how a transcript over this script begins: with the script's lines, as one of the fourth form
+-- how a transcript over this script begins: with the script's lines, as one of the fifth form
 unfoldable pub transcript_head : List ℕ → List ℕ
 transcript_head script = bare_text ++ whole_lines (after_first_line script)
 

@@ -20,7 +20,7 @@ use nv_script::Script;
 use std::alloc::{AllocError, Global};
 
 // The text of a script that says nothing, which is also the first line of a transcript.
-const BARE_TEXT: &[u8] = b"varan-script 4\n";
+const BARE_TEXT: &[u8] = b"varan-script 5\n";
 
 /// What a live run begins with: how its transcript begins, what that says, the filter that judges followers, and versions
 /// that haven't run.

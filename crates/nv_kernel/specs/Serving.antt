@@ -1,5 +1,5 @@
 -- What the kernel answers, by Linux's numbers (syscalls(2), errno(3)), and what each call leaves.
-use Rattle.std.specs.Prelude.{ℕ, zero, suc, ℤ, pos, ◌+◌, ◌*◌, ◌/◌, ◌%◌, ◌^◌, min, nat_lt, List, [], ◌∷◌, ◌++◌, map, Some, slice_index, if◌then◌else◌}
+use Rattle.std.specs.Prelude.{ℕ, zero, suc, ℤ, pos, ◌+◌, ◌*◌, ◌-◌, ◌/◌, ◌%◌, ◌^◌, min, max, nat_lt, List, [], ◌∷◌, ◌++◌, map, Some, slice_index, if◌then◌else◌}
 use Rattle.std.specs.Int.{cast_signed, to_le_bytes, w32, w64}
 use Rattle.nv_calls.specs.declared.numbers.Syscall.{Syscall}
 use Rattle.nv_calls.specs.declared.numbers.Syscall.TheVariants.{Getcwd, Dup, Dup3, Ioctl, Unlinkat, Openat, Close, Pipe2, Llseek, Read, Write, Readv, Writev, Exit, ExitGroup, Uname, Getpid, Getppid, Getuid, Geteuid, Getgid, Getegid, Clone, Getrandom, ClockGettime64}
@@ -72,6 +72,10 @@ time_bytes nanos = to_le_bytes w64 (nanos / second) ++ to_le_bytes w64 (nanos % 
 -- what the clock shows
 abbrev pub time_of : State → ℕ
 time_of s = s.start + s.served * s.step
+
+-- what the kernel holds once it is at least so late; the clock never goes back
+abbrev pub reached : State → ℕ → State
+reached s nanos = record s { start = max s.start (nanos - s.served * s.step) }
 
 -- ---- random numbers (getrandom(2)): a linear congruential generator, whose highest bytes are handed out
 

@@ -8,7 +8,7 @@ ghost use Rattle.nv_fs.specs.Fetched.{read_of};
 ghost use Rattle.nv_fs.specs.Stored.{write_of};
 ghost use Rattle.nv_fs.specs.Reserved.{CanWrite};
 ghost use Rattle.nv_kernel.specs.Crew.{exit_of, with_none_live};
-ghost use Rattle.nv_kernel.specs.Serving.{of_files, of_crew, second, answered, serve, first_state, control, unless_many, unless_bad, clock, randomly};
+ghost use Rattle.nv_kernel.specs.Serving.{of_files, of_crew, second, reached, answered, serve, first_state, control, unless_many, unless_bad, clock, randomly};
 ghost use Rattle.nv_kernel.specs.Reserved.{state_of, can_answer, CanAnswer, most_out};
 
 use crate::clock::{start_of, time_bytes};
@@ -57,6 +57,16 @@ impl Devices {
         ensures { result ≡ (length (state_of self.now).crew.live == 0) }
     {
         self.threads.is_over()
+    }
+
+    /// It is at least so late: so many seconds after the beginning of 1970, and nanoseconds after them. The clock never goes back.
+    pub fn reach(&mut self, seconds: u32, nanos: u32)
+        ensures state { state_of self.new ≡ reached (state_of self.old) (seconds * second + nanos) }
+        ensures files { self.new.files ≡ self.old.files }
+    {
+        let went = u64::from(self.served) * u64::from(self.step);
+        let start = start_of(seconds, nanos).saturating_sub(went);
+        self.start = self.start.max(start);
     }
 
     // ioctl(2): no open file is a terminal.

@@ -1,6 +1,6 @@
 -- A transcript of what was done outside, as text: what was taken behind a <, and what was said behind a >.
 use Rattle.std.specs.Prelude.{◌≡◌, ◌+◌, ◌%◌, ℕ, false, List, [], ◌∷◌, ◌++◌}
-use Rattle.nv_arrivals.specs.Arrivals.{Arrival, Input, InputEnd, ClientsEnd, Connect, Data, End}
+use Rattle.nv_arrivals.specs.Arrivals.{Arrival, Input, InputEnd, ClientsEnd, Connect, Data, End, Time}
 use Rattle.nv_arrivals.specs.Doings.{Said, Accepted, Sent, Closed, Printed, Doing, Takes, Says, Hands}
 use Rattle.nv_run_tests.specs.declared.transcript.Transcript.{Transcript}
 
@@ -8,7 +8,7 @@ use Rattle.nv_run_tests.specs.declared.transcript.Transcript.{Transcript}
 abbrev pub digit_of : ℕ → ℕ
 digit_of i = 48 + i % 10
 
--- <bytes, <., <-, <+, <0:bytes and <0.
+-- <bytes, <., <-, <+, <0:bytes, <0. and <@
 abbrev pub taken_text : Arrival → List ℕ
 taken_text (Input bytes) = 60 ∷ bytes
 taken_text InputEnd = 60 ∷ 46 ∷ []
@@ -16,6 +16,7 @@ taken_text ClientsEnd = 60 ∷ 45 ∷ []
 taken_text (Connect port) = 60 ∷ 43 ∷ []
 taken_text (Data i bytes) = 60 ∷ digit_of i ∷ 58 ∷ bytes
 taken_text (End i) = 60 ∷ digit_of i ∷ 46 ∷ []
+taken_text (Time seconds nanos) = 60 ∷ 64 ∷ []
 
 -- >+0, >0:bytes, >-0 and >bytes
 abbrev pub said_text : Said → List ℕ

@@ -64,6 +64,7 @@ impl Transcript {
                 bytes.as_slice(),
             ),
             Arrival::End(client) => self.put(&[b'<', digit_of(*client as usize), b'.']),
+            Arrival::Time(_, _) => self.put(b"<@"),
         }
     }
 

@@ -68,17 +68,22 @@ finished-brings-none f text s none h = step (drafted f 1 text blank) refl h wher
       ap (λ (t : Setup). t.arrivals) (sym same) ∙ drafted-brings-none f 1 text blank d none is
   step (Err fault) is h = cc
 
-script_in-brings-none : (first : List ℕ) (rest : List (List ℕ)) (s : Setup) → bytes_eq first (codes "varan-script 4") ≡ false → script_in (form_of first) rest ≡ Ok s → s.arrivals ≡ []
+script_in-brings-none : (first : List ℕ) (rest : List (List ℕ)) (s : Setup) → bytes_eq first (codes "varan-script 4") ≡ false → bytes_eq first (codes "varan-script 5") ≡ false → script_in (form_of first) rest ≡ Ok s
+    → s.arrivals ≡ []
 unfolding form_of
-script_in-brings-none first rest s other h =
-    step (bytes_eq first (codes "varan-script 1")) (bytes_eq first (codes "varan-script 2")) (bytes_eq first (codes "varan-script 3")) (bytes_eq first (codes "varan-script 4")) other h where
-      step : (x y z w : Bool) → w ≡ false → script_in (cond x (Some form.First) (cond y (Some form.Second) (cond z (Some form.Third) (cond w (Some form.Fourth) None)))) rest ≡ Ok s → s.arrivals ≡ []
-      step true y z w other h = finished-brings-none form.First rest s (λ line. refl) h
-      step false true z w other h = finished-brings-none form.Second rest s (λ line. refl) h
-      step false false true w other h = finished-brings-none form.Third rest s (λ line. refl) h
-      step false false false true other h = cc
-      step false false false false other h = cc
+script_in-brings-none first rest s fourth fifth h =
+    step (bytes_eq first (codes "varan-script 1")) (bytes_eq first (codes "varan-script 2")) (bytes_eq first (codes "varan-script 3")) (bytes_eq first (codes "varan-script 4"))
+    (bytes_eq first (codes "varan-script 5")) fourth fifth h where
+      step : (x y z v w : Bool) → v ≡ false → w ≡ false
+          → script_in (cond x (Some form.First) (cond y (Some form.Second) (cond z (Some form.Third) (cond v (Some form.Fourth) (cond w (Some form.Fifth) None))))) rest ≡ Ok s → s.arrivals ≡ []
+      step true y z v w p q h = finished-brings-none form.First rest s (λ line. refl) h
+      step false true z v w p q h = finished-brings-none form.Second rest s (λ line. refl) h
+      step false false true v w p q h = finished-brings-none form.Third rest s (λ line. refl) h
+      step false false false true w p q h = cc
+      step false false false false true p q h = cc
+      step false false false false false p q h = cc
 
-pub no_arrivals : (text first : List ℕ) (rest : List (List ℕ)) (s : Setup) → lines text ≡ first ∷ rest → bytes_eq first (codes "varan-script 4") ≡ false → script_of text ≡ Ok s → s.arrivals ≡ []
+pub no_arrivals : (text first : List ℕ) (rest : List (List ℕ)) (s : Setup) → lines text ≡ first ∷ rest → bytes_eq first (codes "varan-script 4") ≡ false → bytes_eq first (codes "varan-script 5") ≡ false
+    → script_of text ≡ Ok s → s.arrivals ≡ []
 unfolding script_of
-no_arrivals text first rest s are other h = script_in-brings-none first rest s other (sym (ap script_of_lines are) ∙ h)
+no_arrivals text first rest s are fourth fifth h = script_in-brings-none first rest s fourth fifth (sym (ap script_of_lines are) ∙ h)

@@ -1,12 +1,13 @@
--- A script of another form in which nothing comes is one of the fourth.
-use Rattle.std.proofs.Common.{◌≡◌, ℕ, ◌+◌, ◌==◌, Bool, true, false, not, ◌&&◌, cond, List, [], ◌∷◌, ◌++◌, Option, Some, None, Result, Ok, Err, codes, refl, sym, ap, ◌∙◌}
+-- A script of another form in which nothing comes is one of the fifth.
+use Rattle.std.proofs.Common.{◌≡◌, ℕ, ◌+◌, ◌==◌, Bool, true, false, not, ◌&&◌, cond, List, [], ◌∷◌, ◌++◌, Option, Some, None, is_some, Result, Ok, Err, codes, refl, sym, ap, ◌∙◌}
 use Rattle.std.specs.List.{All, list_all}
 use Rattle.std.proofs.lemmas.Bool.{and_parts}
 use Rattle.nv_text.specs.Fields.{first_word, rest_of}
 use Rattle.nv_text.specs.Lines.{lines}
 use Rattle.nv_text.specs.Names.{defined}
 use Rattle.nv_text.proofs.Laws.{lines-line}
-use Rattle.nv_arrivals.specs.Reading.{is_word as is_arrival_word, arrival_of}
+use Rattle.nv_arrivals.specs.declared.word.Word.{Word}
+use Rattle.nv_arrivals.specs.Reading.{word_of, is_word as is_arrival_word, is_timeless, arrival_of}
 use Rattle.nv_script.specs.declared.form.Form.{Form}
 use Rattle.nv_script.specs.declared.form.Form.TheVariants as form
 use Rattle.nv_script.specs.declared.kind.Kind.{Kind}
@@ -22,90 +23,96 @@ not_true : (x : Bool) → not x ≡ true → x ≡ false
 not_true true e = cc
 not_true false e = refl
 
-in_form-fourth : (f : Form) (found : Option Kind) (k : Kind) → in_form f found ≡ Some k → in_form form.Fourth found ≡ Some k
-in_form-fourth form.First (Some kind.Hand) k e = cc
-in_form-fourth form.First (Some kind.Connect) k e = cc
-in_form-fourth form.First (Some kind.Argument) k e = e
-in_form-fourth form.First (Some kind.Line) k e = e
-in_form-fourth form.First (Some kind.Input) k e = e
-in_form-fourth form.First (Some kind.File) k e = e
-in_form-fourth form.First (Some kind.Clock) k e = e
-in_form-fourth form.First (Some kind.Random) k e = e
-in_form-fourth form.First None k e = cc
-in_form-fourth form.Second (Some kind.Hand) k e = e
-in_form-fourth form.Second (Some kind.Connect) k e = cc
-in_form-fourth form.Second (Some kind.Argument) k e = e
-in_form-fourth form.Second (Some kind.Line) k e = e
-in_form-fourth form.Second (Some kind.Input) k e = e
-in_form-fourth form.Second (Some kind.File) k e = e
-in_form-fourth form.Second (Some kind.Clock) k e = e
-in_form-fourth form.Second (Some kind.Random) k e = e
-in_form-fourth form.Second None k e = cc
-in_form-fourth form.Third found k e = e
-in_form-fourth form.Fourth found k e = e
+in_form-fifth : (f : Form) (found : Option Kind) (k : Kind) → in_form f found ≡ Some k → in_form form.Fifth found ≡ Some k
+in_form-fifth form.First (Some kind.Hand) k e = cc
+in_form-fifth form.First (Some kind.Connect) k e = cc
+in_form-fifth form.First (Some kind.Argument) k e = e
+in_form-fifth form.First (Some kind.Line) k e = e
+in_form-fifth form.First (Some kind.Input) k e = e
+in_form-fifth form.First (Some kind.File) k e = e
+in_form-fifth form.First (Some kind.Clock) k e = e
+in_form-fifth form.First (Some kind.Random) k e = e
+in_form-fifth form.First None k e = cc
+in_form-fifth form.Second (Some kind.Hand) k e = e
+in_form-fifth form.Second (Some kind.Connect) k e = cc
+in_form-fifth form.Second (Some kind.Argument) k e = e
+in_form-fifth form.Second (Some kind.Line) k e = e
+in_form-fifth form.Second (Some kind.Input) k e = e
+in_form-fifth form.Second (Some kind.File) k e = e
+in_form-fifth form.Second (Some kind.Clock) k e = e
+in_form-fifth form.Second (Some kind.Random) k e = e
+in_form-fifth form.Second None k e = cc
+in_form-fifth form.Third found k e = e
+in_form-fifth form.Fourth found k e = e
+in_form-fifth form.Fifth found k e = e
 
-with-fourth : (f : Form) (found : Option Kind) (rest : Option (List ℕ)) (e : Entry) → entry_with (in_form f found) rest ≡ Ok e → entry_with (in_form form.Fourth found) rest ≡ Ok e
-with-fourth f found rest e h = step (in_form f found) refl h where
-  step : (r : Option Kind) → in_form f found ≡ r → entry_with r rest ≡ Ok e → entry_with (in_form form.Fourth found) rest ≡ Ok e
+with-fifth : (f : Form) (found : Option Kind) (rest : Option (List ℕ)) (e : Entry) → entry_with (in_form f found) rest ≡ Ok e → entry_with (in_form form.Fifth found) rest ≡ Ok e
+with-fifth f found rest e h = step (in_form f found) refl h where
+  step : (r : Option Kind) → in_form f found ≡ r → entry_with r rest ≡ Ok e → entry_with (in_form form.Fifth found) rest ≡ Ok e
   step None is h = cc
-  step (Some k) is h = ap (λ r. entry_with r rest) (in_form-fourth f found k is) ∙ h
+  step (Some k) is h = ap (λ r. entry_with r rest) (in_form-fifth f found k is) ∙ h
+
+timeless-not : (w : Option Word) → is_some w ≡ false → is_timeless w ≡ false
+timeless-not None e = refl
+timeless-not (Some w) e = cc
 
 begins-not : (f : Form) (line : List ℕ) → is_arrival_word (first_word line) ≡ false → begins_arrival f line ≡ false
 begins-not form.First line e = refl
 begins-not form.Second line e = refl
 begins-not form.Third line e = refl
-begins-not form.Fourth line e = e
+begins-not form.Fourth line e = timeless-not (word_of (first_word line)) e
+begins-not form.Fifth line e = e
 
--- a line that says nothing of what comes says the same in the fourth form
-entry-fourth : (f : Form) (line : List ℕ) (e : Entry) → says_what_comes line ≡ false → entry_of f line ≡ Ok e → entry_of form.Fourth line ≡ Ok e
+-- a line that says nothing of what comes says the same in the fifth form
+entry-fifth : (f : Form) (line : List ℕ) (e : Entry) → says_what_comes line ≡ false → entry_of f line ≡ Ok e → entry_of form.Fifth line ≡ Ok e
 unfolding entry_of kind_of
-entry-fourth f line e quiet h = step (is_passed_over line) (is_arrival_word (first_word line)) refl refl quiet h where
+entry-fifth f line e quiet h = step (is_passed_over line) (is_arrival_word (first_word line)) refl refl quiet h where
   step : (x y : Bool) → is_passed_over line ≡ x → is_arrival_word (first_word line) ≡ y → (not x && y) ≡ false
       → cond x (Ok Nothing) (cond (begins_arrival f line) (arrives (arrival_of line)) (entry_with (in_form f (defined entry_kinds (first_word line))) (rest_of line))) ≡ Ok e
-      → cond x (Ok Nothing) (cond (begins_arrival form.Fourth line) (arrives (arrival_of line)) (entry_with (in_form form.Fourth (defined entry_kinds (first_word line))) (rest_of line))) ≡ Ok e
+      → cond x (Ok Nothing) (cond (begins_arrival form.Fifth line) (arrives (arrival_of line)) (entry_with (in_form form.Fifth (defined entry_kinds (first_word line))) (rest_of line))) ≡ Ok e
   step true y p w quiet h = h
   step false true p w quiet h = cc
   step false false p w quiet h =
       let before = begins-not f line w in
-      rw w (with-fourth f (defined entry_kinds (first_word line)) (rest_of line) e (rw before at h))
+      rw w (with-fifth f (defined entry_kinds (first_word line)) (rest_of line) e (rw before at h))
 
-line-fourth : (f : Form) (line : List ℕ) (d next : Draft) → says_what_comes line ≡ false → with_script_line f line d ≡ Ok next → with_script_line form.Fourth line d ≡ Ok next
+line-fifth : (f : Form) (line : List ℕ) (d next : Draft) → says_what_comes line ≡ false → with_script_line f line d ≡ Ok next → with_script_line form.Fifth line d ≡ Ok next
 unfolding with_script_line
-line-fourth f line d next quiet h = step (entry_of f line) refl h where
-  step : (r : Result Entry ScriptCause) → entry_of f line ≡ r → with_result r d ≡ Ok next → with_result (entry_of form.Fourth line) d ≡ Ok next
-  step (Ok e) is h = ap (λ r. with_result r d) (entry-fourth f line e quiet is) ∙ h
+line-fifth f line d next quiet h = step (entry_of f line) refl h where
+  step : (r : Result Entry ScriptCause) → entry_of f line ≡ r → with_result r d ≡ Ok next → with_result (entry_of form.Fifth line) d ≡ Ok next
+  step (Ok e) is h = ap (λ r. with_result r d) (entry-fifth f line e quiet is) ∙ h
   step (Err c) is h = cc
 
-drafted-fourth : (f : Form) (n : ℕ) (text : List (List ℕ)) (d end : Draft) → list_all (λ line. not (says_what_comes line)) text ≡ true → drafted f n text d ≡ Ok end → drafted form.Fourth n text d ≡ Ok end
+drafted-fifth : (f : Form) (n : ℕ) (text : List (List ℕ)) (d end : Draft) → list_all (λ line. not (says_what_comes line)) text ≡ true → drafted f n text d ≡ Ok end → drafted form.Fifth n text d ≡ Ok end
 unfolding drafted
-drafted-fourth f n [] d end quiet h = h
-drafted-fourth f n (line ∷ rest) d end quiet h =
+drafted-fifth f n [] d end quiet h = h
+drafted-fifth f n (line ∷ rest) d end quiet h =
     let parts = and_parts (not (says_what_comes line)) (list_all (λ l. not (says_what_comes l)) rest) quiet in
-    step (with_script_line f line d) refl h (λ next. drafted-fourth f (n + 1) rest next end parts.1) (λ next. line-fourth f line d next (not_true (says_what_comes line) parts.0)) where
+    step (with_script_line f line d) refl h (λ next. drafted-fifth f (n + 1) rest next end parts.1) (λ next. line-fifth f line d next (not_true (says_what_comes line) parts.0)) where
       step : (r : Result Draft ScriptCause) → with_script_line f line d ≡ r → onward n r (λ next. drafted f (n + 1) rest next) ≡ Ok end
-          → ((next : Draft) → drafted f (n + 1) rest next ≡ Ok end → drafted form.Fourth (n + 1) rest next ≡ Ok end)
-          → ((next : Draft) → with_script_line f line d ≡ Ok next → with_script_line form.Fourth line d ≡ Ok next)
-          → onward n (with_script_line form.Fourth line d) (λ next. drafted form.Fourth (n + 1) rest next) ≡ Ok end
-      step (Ok next) is h later same = ap (λ r. onward n r (λ d. drafted form.Fourth (n + 1) rest d)) (same next is) ∙ later next h
+          → ((next : Draft) → drafted f (n + 1) rest next ≡ Ok end → drafted form.Fifth (n + 1) rest next ≡ Ok end)
+          → ((next : Draft) → with_script_line f line d ≡ Ok next → with_script_line form.Fifth line d ≡ Ok next)
+          → onward n (with_script_line form.Fifth line d) (λ next. drafted form.Fifth (n + 1) rest next) ≡ Ok end
+      step (Ok next) is h later same = ap (λ r. onward n r (λ d. drafted form.Fifth (n + 1) rest d)) (same next is) ∙ later next h
       step (Err c) is h later same = cc
 
-finished-fourth : (f : Form) (text : List (List ℕ)) (s : Setup) → list_all (λ line. not (says_what_comes line)) text ≡ true → finished_result (drafted f 1 text blank) ≡ Ok s
-    → finished_result (drafted form.Fourth 1 text blank) ≡ Ok s
-finished-fourth f text s quiet h = step (drafted f 1 text blank) refl h where
-  step : (r : Result Draft ScriptFault) → drafted f 1 text blank ≡ r → finished_result r ≡ Ok s → finished_result (drafted form.Fourth 1 text blank) ≡ Ok s
-  step (Ok d) is h = ap finished_result (drafted-fourth f 1 text blank d quiet is) ∙ h
+finished-fifth : (f : Form) (text : List (List ℕ)) (s : Setup) → list_all (λ line. not (says_what_comes line)) text ≡ true → finished_result (drafted f 1 text blank) ≡ Ok s
+    → finished_result (drafted form.Fifth 1 text blank) ≡ Ok s
+finished-fifth f text s quiet h = step (drafted f 1 text blank) refl h where
+  step : (r : Result Draft ScriptFault) → drafted f 1 text blank ≡ r → finished_result r ≡ Ok s → finished_result (drafted form.Fifth 1 text blank) ≡ Ok s
+  step (Ok d) is h = ap finished_result (drafted-fifth f 1 text blank d quiet is) ∙ h
   step (Err c) is h = cc
 
-lines-fourth : (first : List ℕ) (text : List (List ℕ)) (s : Setup) → list_all (λ line. not (says_what_comes line)) text ≡ true → script_of_lines (first ∷ text) ≡ Ok s
-    → script_of_lines (codes "varan-script 4" ∷ text) ≡ Ok s
-lines-fourth first text s quiet h = step (form_of first) h where
-  step : (found : Option Form) → script_in found text ≡ Ok s → script_of_lines (codes "varan-script 4" ∷ text) ≡ Ok s
-  step (Some f) h = in-form text ∙ finished-fourth f text s quiet h
+lines-fifth : (first : List ℕ) (text : List (List ℕ)) (s : Setup) → list_all (λ line. not (says_what_comes line)) text ≡ true → script_of_lines (first ∷ text) ≡ Ok s
+    → script_of_lines (codes "varan-script 5" ∷ text) ≡ Ok s
+lines-fifth first text s quiet h = step (form_of first) h where
+  step : (found : Option Form) → script_in found text ≡ Ok s → script_of_lines (codes "varan-script 5" ∷ text) ≡ Ok s
+  step (Some f) h = in-form text ∙ finished-fifth f text s quiet h
   step None h = cc
 
 -- the lines after the first, under another first line
 pub other_form : (first body : List ℕ) (s : Setup) → All (λ b. (b == 10) ≡ false) first → list_all (λ line. not (says_what_comes line)) (lines body) ≡ true → script_of (first ++ 10 ∷ body) ≡ Ok s
-    → script_of (codes "varan-script 4\n" ++ body) ≡ Ok s
+    → script_of (codes "varan-script 5\n" ++ body) ≡ Ok s
 unfolding script_of
 other_form first body s plain quiet h =
-    ap script_of_lines (first-line body) ∙ lines-fourth first (lines body) s quiet (sym (ap script_of_lines (lines-line first body plain)) ∙ h)
+    ap script_of_lines (first-line body) ∙ lines-fifth first (lines body) s quiet (sym (ap script_of_lines (lines-line first body plain)) ∙ h)

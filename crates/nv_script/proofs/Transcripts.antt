@@ -8,13 +8,13 @@ use Rattle.nv_text.specs.Lines.{is_newline, lines}
 use Rattle.nv_text.specs.Numbers.{hex_of}
 use Rattle.nv_text.proofs.Laws.{lines-line}
 use Rattle.nv_arrivals.specs.declared.arrival.ArrivalCause.{ArrivalCause}
-use Rattle.nv_arrivals.specs.Arrivals.{Arrival, Input, InputEnd, ClientsEnd, Connect, Data, End, is_arrival, BringsBytes}
+use Rattle.nv_arrivals.specs.Arrivals.{Arrival, Input, InputEnd, ClientsEnd, Connect, Data, End, Time, is_arrival, BringsBytes}
 use Rattle.nv_arrivals.specs.Order.{Came, nothing_came, admitted, onward as onward_in, after, are_orderly}
 use Rattle.nv_arrivals.specs.Writing.{front, is_line, input_text, line_text}
 use Rattle.nv_arrivals.proofs.Orderly.{after-append, after-first, after-none}
 use Rattle.nv_arrivals.proofs.ReadBack.{read_back, line_text-lacks, line_text-begins}
 use Rattle.nv_script.specs.declared.form.Form.{Form}
-use Rattle.nv_script.specs.declared.form.Form.TheVariants.{Fourth}
+use Rattle.nv_script.specs.declared.form.Form.TheVariants.{Fifth}
 use Rattle.nv_script.specs.declared.fault.ScriptCause.{ScriptCause}
 use Rattle.nv_script.specs.declared.fault.ScriptFault.{ScriptFault}
 use Rattle.nv_script.specs.Entry.{Arrives, form_of, is_passed_over, arrives, entry_of}
@@ -97,15 +97,16 @@ line_text-said ClientsEnd = refl
 line_text-said (Connect port) = refl
 line_text-said (Data n bytes) = refl
 line_text-said (End n) = refl
+line_text-said (Time seconds nanos) = refl
 
-entry-arrives : (a : Arrival) → is_arrival a ≡ true → BringsBytes a → entry_of Fourth (line_text a) ≡ Ok (Arrives a)
+entry-arrives : (a : Arrival) → is_arrival a ≡ true → BringsBytes a → entry_of Fifth (line_text a) ≡ Ok (Arrives a)
 unfolding entry_of
 entry-arrives a sound are =
     let word = line_text-begins a in
     let passed = line_text-said a in
     rw (passed, word) (ap arrives (read_back a sound are))
 
-line-arrives : (a : Arrival) (d : Draft) → is_arrival a ≡ true → BringsBytes a → with_script_line Fourth (line_text a) d ≡ with_came a (admitted a d.came) d
+line-arrives : (a : Arrival) (d : Draft) → is_arrival a ≡ true → BringsBytes a → with_script_line Fifth (line_text a) d ≡ with_came a (admitted a d.came) d
 unfolding with_script_line
 line-arrives a d sound are = ap (λ r. with_result r d) (entry-arrives a sound are)
 
@@ -114,7 +115,7 @@ abbrev further : Draft → List Arrival → Came → Draft
 further d arrivals now = record d { arrivals = d.arrivals ++ arrivals; came = now }
 
 arrivals-drafted : (n : ℕ) (arrivals : List Arrival) (d : Draft) (now : Came) → list_all is_arrival arrivals ≡ true → All BringsBytes arrivals → after arrivals d.came ≡ Ok now
-    → drafted Fourth n (map line_text arrivals) d ≡ Ok (further d arrivals now)
+    → drafted Fifth n (map line_text arrivals) d ≡ Ok (further d arrivals now)
 unfolding drafted
 arrivals-drafted n [] d now sound are h =
     let come : Ok d.came ≡ Ok now = sym (after-none d.came) ∙ h in
@@ -122,11 +123,11 @@ arrivals-drafted n [] d now sound are h =
     ap (λ (xs : List Arrival). Ok (record d { arrivals = xs })) (sym (append-nil d.arrivals)) ∙ ap (λ (c : Came). Ok (further d [] c)) same
 arrivals-drafted n (a ∷ rest) d now sound are h =
     let parts = and_parts (is_arrival a) (list_all is_arrival rest) sound in
-    ap (λ r. onward n r (λ next. drafted Fourth (n + 1) (map line_text rest) next)) (line-arrives a d parts.0 (All-head BringsBytes a rest are))
+    ap (λ r. onward n r (λ next. drafted Fifth (n + 1) (map line_text rest) next)) (line-arrives a d parts.0 (All-head BringsBytes a rest are))
     ∙ step (admitted a d.came) (sym (after-first a rest d.came) ∙ h) (λ e. arrivals-drafted (n + 1) rest e now parts.1 (All-tail BringsBytes a rest are)) where
       step : (r : Result Came ArrivalCause) → onward_in r (λ c. after rest c) ≡ Ok now
-          → ((e : Draft) → after rest e.came ≡ Ok now → drafted Fourth (n + 1) (map line_text rest) e ≡ Ok (further e rest now))
-          → onward n (with_came a r d) (λ next. drafted Fourth (n + 1) (map line_text rest) next) ≡ Ok (further d (a ∷ rest) now)
+          → ((e : Draft) → after rest e.came ≡ Ok now → drafted Fifth (n + 1) (map line_text rest) e ≡ Ok (further e rest now))
+          → onward n (with_came a r d) (λ next. drafted Fifth (n + 1) (map line_text rest) next) ≡ Ok (further d (a ∷ rest) now)
       step (Ok next) h later =
           later (record d { arrivals = d.arrivals ++ a ∷ []; came = next }) h
           ∙ ap (λ (xs : List Arrival). Ok (record d { arrivals = xs; came = now })) (append_assoc d.arrivals (a ∷ []) rest)
@@ -134,16 +135,16 @@ arrivals-drafted n (a ∷ rest) d now sound are h =
 
 -- ---- the whole text
 
-pub first-line : (body : List ℕ) → lines (codes "varan-script 4\n" ++ body) ≡ codes "varan-script 4" ∷ lines body
+pub first-line : (body : List ℕ) → lines (codes "varan-script 5\n" ++ body) ≡ codes "varan-script 5" ∷ lines body
 unfolding lines
 first-line body = refl
 
-fourth : form_of (codes "varan-script 4") ≡ Some Fourth
+fifth : form_of (codes "varan-script 5") ≡ Some Fifth
 unfolding form_of
-fourth = refl
+fifth = refl
 
-pub in-form : (rest : List (List ℕ)) → script_of_lines (codes "varan-script 4" ∷ rest) ≡ finished_result (drafted Fourth 1 rest blank)
-in-form rest = ap (λ f. script_in f rest) fourth
+pub in-form : (rest : List (List ℕ)) → script_of_lines (codes "varan-script 5" ∷ rest) ≡ finished_result (drafted Fifth 1 rest blank)
+in-form rest = ap (λ f. script_in f rest) fifth
 
 went : (arrivals : List Arrival) → are_orderly arrivals ≡ true → (P : Type 0) → ((now : Came) → after arrivals nothing_came ≡ Ok now → P) → P
 went arrivals h P found = step (after arrivals nothing_came) refl h where
@@ -154,17 +155,17 @@ went arrivals h P found = step (after arrivals nothing_came) refl h where
 comes-after : (old arrivals : List Arrival) (came now : Came) → after old nothing_came ≡ Ok came → after (old ++ arrivals) nothing_came ≡ Ok now → after arrivals came ≡ Ok now
 comes-after old arrivals came now e h = sym (after-append old arrivals nothing_came ∙ ap (λ r. onward_in r (λ c. after arrivals c)) e) ∙ h
 
-drafted-more : (body : List (List ℕ)) (arrivals : List Arrival) (s : Setup) (r : Result Draft ScriptFault) → drafted Fourth 1 body blank ≡ r → finished_result r ≡ Ok s
+drafted-more : (body : List (List ℕ)) (arrivals : List Arrival) (s : Setup) (r : Result Draft ScriptFault) → drafted Fifth 1 body blank ≡ r → finished_result r ≡ Ok s
     → list_all is_arrival arrivals ≡ true → All BringsBytes arrivals → are_orderly (s.arrivals ++ arrivals) ≡ true
-    → finished_result (drafted Fourth 1 (body ++ map line_text arrivals) blank) ≡ Ok (continued_by arrivals s)
+    → finished_result (drafted Fifth 1 (body ++ map line_text arrivals) blank) ≡ Ok (continued_by arrivals s)
 drafted-more body arrivals s (Err fault) is h sound are orderly = cc
 drafted-more body arrivals s (Ok d) is h sound are orderly =
     let same : finished d ≡ s = cc in
-    let keeps = drafted-keeps Fourth 1 body blank d blank-keeps is in
+    let keeps = drafted-keeps Fifth 1 body blank d blank-keeps is in
     let whole : are_orderly (d.arrivals ++ arrivals) ≡ true = ap (λ (t : Setup). are_orderly (t.arrivals ++ arrivals)) same ∙ orderly in
-    went (d.arrivals ++ arrivals) whole (finished_result (drafted Fourth 1 (body ++ map line_text arrivals) blank) ≡ Ok (continued_by arrivals s))
+    went (d.arrivals ++ arrivals) whole (finished_result (drafted Fifth 1 (body ++ map line_text arrivals) blank) ≡ Ok (continued_by arrivals s))
     (λ now e.
-    ap finished_result (drafted-append Fourth 1 body (map line_text arrivals) blank d is
+    ap finished_result (drafted-append Fifth 1 body (map line_text arrivals) blank d is
     ∙ arrivals-drafted (1 + length body) arrivals d now sound are (comes-after d.arrivals arrivals d.came now keeps.arrivals.orderly e))
     ∙ ap (λ (t : Setup). Ok (continued_by arrivals t)) same)
 
@@ -181,13 +182,13 @@ says : (text : List ℕ) (s : Setup) (arrivals : List Arrival) → IsTranscript 
     → script_of (text ++ lines_of arrivals) ≡ Ok (continued_by arrivals s)
 unfolding script_of
 says text s arrivals tells sound are orderly =
-    let told : lines text ≡ codes "varan-script 4" ∷ lines tells.body = ap lines tells.begins ∙ first-line tells.body in
-    let all : lines (text ++ lines_of arrivals) ≡ codes "varan-script 4" ∷ (lines tells.body ++ map line_text arrivals) =
+    let told : lines text ≡ codes "varan-script 5" ∷ lines tells.body = ap lines tells.begins ∙ first-line tells.body in
+    let all : lines (text ++ lines_of arrivals) ≡ codes "varan-script 5" ∷ (lines tells.body ++ map line_text arrivals) =
     lines-ended text tells.front (lines_of arrivals) tells.ends ∙ ap (λ ls. ls ++ lines (lines_of arrivals)) told
-    ∙ ap (λ ls. codes "varan-script 4" ∷ (lines tells.body ++ ls)) (lines-arrivals arrivals sound are) in
-    let before : finished_result (drafted Fourth 1 (lines tells.body) blank) ≡ Ok s = sym (ap script_of_lines told ∙ in-form (lines tells.body)) ∙ tells.says in
+    ∙ ap (λ ls. codes "varan-script 5" ∷ (lines tells.body ++ ls)) (lines-arrivals arrivals sound are) in
+    let before : finished_result (drafted Fifth 1 (lines tells.body) blank) ≡ Ok s = sym (ap script_of_lines told ∙ in-form (lines tells.body)) ∙ tells.says in
     ap script_of_lines all ∙ in-form (lines tells.body ++ map line_text arrivals)
-    ∙ drafted-more (lines tells.body) arrivals s (drafted Fourth 1 (lines tells.body) blank) refl before sound are orderly
+    ∙ drafted-more (lines tells.body) arrivals s (drafted Fifth 1 (lines tells.body) blank) refl before sound are orderly
 
 pub transcript : (text : List ℕ) (s : Setup) (arrivals : List Arrival) → IsTranscript text s → list_all is_arrival arrivals ≡ true → All BringsBytes arrivals → are_orderly (s.arrivals ++ arrivals) ≡ true
     → IsTranscript (text ++ lines_of arrivals) (continued_by arrivals s)
@@ -195,7 +196,7 @@ transcript text s arrivals tells sound are orderly =
     let end = ended arrivals text tells.front tells.ends in
     record {
       body = tells.body ++ lines_of arrivals;
-      begins = ap (λ t. t ++ lines_of arrivals) tells.begins ∙ append_assoc (codes "varan-script 4\n") tells.body (lines_of arrivals);
+      begins = ap (λ t. t ++ lines_of arrivals) tells.begins ∙ append_assoc (codes "varan-script 5\n") tells.body (lines_of arrivals);
       front = end.front;
       ends = end.is;
       says = says text s arrivals tells sound are orderly;

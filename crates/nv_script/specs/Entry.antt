@@ -8,7 +8,7 @@ use Rattle.nv_text.specs.Names.{defined}
 use Rattle.nv_arrivals.specs.declared.arrival.ArrivalCause.{ArrivalCause}
 use Rattle.nv_arrivals.specs.declared.arrival.ArrivalCause.TheVariants as arrival
 use Rattle.nv_arrivals.specs.Arrivals.{Arrival}
-use Rattle.nv_arrivals.specs.Reading.{is_word as is_arrival_word, arrival_of}
+use Rattle.nv_arrivals.specs.Reading.{is_word as is_arrival_word, is_timeless_word, arrival_of}
 use Rattle.nv_script.specs.declared.entry.Clock.{Clock}
 use Rattle.nv_script.specs.declared.fault.ScriptCause.{ScriptCause}
 use Rattle.nv_script.specs.declared.fault.ScriptCause.TheVariants.{Word, Shape, Range, Twice, Long}
@@ -35,7 +35,7 @@ pub data Entry : Type 0 where
   -- what comes next
   Arrives : Arrival → Entry
 
--- ---- the four forms
+-- ---- the five forms
 
 -- the form that a first line names
 unfoldable pub form_of : List ℕ → Option Form
@@ -43,7 +43,8 @@ form_of line = if bytes_eq line (codes "varan-script 1") then Some form.First
     else (if bytes_eq line (codes "varan-script 2") then Some form.Second
     else (if bytes_eq line (codes "varan-script 3") then Some form.Third
     else (if bytes_eq line (codes "varan-script 4") then Some form.Fourth
-    else None)))
+    else (if bytes_eq line (codes "varan-script 5") then Some form.Fifth
+    else None))))
 
 -- ---- arguments and names of files
 
@@ -175,9 +176,10 @@ abbrev pub arrives : Result Arrival ArrivalCause → Result Entry ScriptCause
 arrives (Ok a) = Ok (Arrives a)
 arrives (Err c) = Err (cause_of c)
 
--- in a script of the fourth form, and in no other, the words of arrivals say what comes next
+-- in a script of the fourth or the fifth form, and in no other, the words of arrivals say what comes next; the time is in the fifth alone
 abbrev pub begins_arrival : Form → List ℕ → Bool
-begins_arrival form.Fourth line = is_arrival_word (first_word line)
+begins_arrival form.Fourth line = is_timeless_word (first_word line)
+begins_arrival form.Fifth line = is_arrival_word (first_word line)
 begins_arrival f line = false
 
 -- what a line after the first says, or its first cause of those that it has by itself

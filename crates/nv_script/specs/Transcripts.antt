@@ -16,11 +16,11 @@ lines_of arrivals = flat_map (λ a. line_text a ++ codes "\n") arrivals
 abbrev pub continued_by : List Arrival → Setup → Setup
 continued_by arrivals setup = record setup { arrivals = setup.arrivals ++ arrivals }
 
--- a script of the fourth form that says this, and whose last line has its newline
+-- a script of the fifth form that says this, and whose last line has its newline
 pub record IsTranscript (text : List ℕ) (setup : Setup) : Type 0 where
   -- what stands after the first line
   pub body : List ℕ
-  pub begins : text ≡ codes "varan-script 4\n" ++ body
+  pub begins : text ≡ codes "varan-script 5\n" ++ body
   -- what stands before the last newline
   pub front : List ℕ
   pub ends : text ≡ front ++ codes "\n"

@@ -329,6 +329,10 @@ fn begins_arrival(form: Form, line: &[u8]) -> bool
     match form {
         Form::Fourth => {
             let (word, _) = split_field(line);
+            nv_arrivals::is_timeless_word(word)
+        }
+        Form::Fifth => {
+            let (word, _) = split_field(line);
             nv_arrivals::is_word(word)
         }
         Form::First | Form::Second | Form::Third => false,

@@ -9,7 +9,7 @@ use std::fmt;
 /// Why a line of a script is refused. Of several causes the first in this order is told.
 #[derive(Clone, Copy, Debug, PartialEq, Eq)]
 pub enum ScriptCause {
-    /// The first line is none of `varan-script 1` to `varan-script 4`, or there is none.
+    /// The first line is none of `varan-script 1` to `varan-script 5`, or there is none.
     Form,
     /// The first word is none of a script's of this form.
     Word,

@@ -15,6 +15,8 @@ pub enum Form {
     Third,
     /// `varan-script 4`: what comes from outside are arrivals, which come one after another.
     Fourth,
+    /// `varan-script 5`: the time is among what comes.
+    Fifth,
 }
 
 /// The form that a script's first line names.
@@ -30,6 +32,8 @@ pub fn form_of(line: &[u8]) -> Option<Form>
         Some(Form::Third)
     } else if is(line, "varan-script 4") {
         Some(Form::Fourth)
+    } else if is(line, "varan-script 5") {
+        Some(Form::Fifth)
     } else {
         None
     }

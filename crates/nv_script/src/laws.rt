@@ -14,20 +14,20 @@ pub fn transcripts_are_scripts()
     ensures { (text : List ℕ) (setup : Setup) (arrivals : List Arrival) → IsTranscript text setup → list_all is_arrival arrivals ≡ true → All BringsBytes arrivals → are_orderly (setup.arrivals ++ arrivals) ≡ true → IsTranscript (text ++ lines_of arrivals) (continued_by arrivals setup) }
 {}
 
-/// The text of a script of the fourth form, and after it the line of one more planned length, is the script with that length as well.
+/// The text of a script of the fifth form, and after it the line of one more planned length, is the script with that length as well.
 #[tactic(auto, using(crate::proofs::HandLines::planned))]
 pub fn hand_lines_are_planned()
     ensures { (text : List ℕ) (setup : Setup) (n : ℕ) → IsTranscript text setup → can_plan n setup.hands ≡ true → IsTranscript (text ++ (hand_line n ++ codes "\n")) (planned_too n setup) }
 {}
 
-/// A script of any form of which no line says what comes is, with `varan-script 4` as its first line, the same script of the fourth form.
+/// A script of any form of which no line says what comes is, with `varan-script 5` as its first line, the same script of the fifth form.
 #[tactic(auto, using(crate::proofs::OtherForms::other_form))]
 pub fn other_forms_begin_transcripts()
-    ensures { (first body : List ℕ) (setup : Setup) → All (λ b. (b == 10) ≡ false) first → list_all (λ line. not (says_what_comes line)) (lines body) ≡ true → script_of (first ++ 10 ∷ body) ≡ Ok setup → script_of (codes "varan-script 4\n" ++ body) ≡ Ok setup }
+    ensures { (first body : List ℕ) (setup : Setup) → All (λ b. (b == 10) ≡ false) first → list_all (λ line. not (says_what_comes line)) (lines body) ≡ true → script_of (first ++ 10 ∷ body) ≡ Ok setup → script_of (codes "varan-script 5\n" ++ body) ≡ Ok setup }
 {}
 
-/// Nothing comes in a script whose first line isn't `varan-script 4`.
+/// Nothing comes in a script whose first line is neither `varan-script 4` nor `varan-script 5`.
 #[tactic(auto, using(crate::proofs::NoArrivals::no_arrivals))]
 pub fn other_forms_have_no_arrivals()
-    ensures { (text first : List ℕ) (rest : List (List ℕ)) (setup : Setup) → lines text ≡ first ∷ rest → bytes_eq first (codes "varan-script 4") ≡ false → script_of text ≡ Ok setup → setup.arrivals ≡ [] }
+    ensures { (text first : List ℕ) (rest : List (List ℕ)) (setup : Setup) → lines text ≡ first ∷ rest → bytes_eq first (codes "varan-script 4") ≡ false → bytes_eq first (codes "varan-script 5") ≡ false → script_of text ≡ Ok setup → setup.arrivals ≡ [] }
 {}

@@ -22,6 +22,6 @@ pub struct Script {
     pub hands: Vec<u32>,
     /// The connections that come, each by the port that it comes to and what it sends, in the script's order.
     pub connections: Vec<(u32, Vec<u8>)>,
-    /// What comes one after another, in a script of the fourth form.
+    /// What comes one after another, in a script of the fourth form or the fifth.
     pub arrivals: Vec<Arrival>,
 }
