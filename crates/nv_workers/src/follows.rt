@@ -12,6 +12,7 @@ ghost use Rattle.nv_workers.specs.inner.Spares.{HasSpared, MayBeAhead};
 
 use crate::gate::{Gate, VersionNumber};
 use crate::terms::Terms;
+use nv_calls::Event;
 use nv_lamport::{Polled, poll_merged};
 use nv_promotion::{Lower, lower_gone};
 use nv_replay::{Followed, Version};
@@ -154,7 +155,9 @@ fn decide<K: SyscallKernel, G: Gate>(
     ensures steps { Stepped (stations_of room.now) (view reader.old) (view reader.new) }
 {
     let event = buf.event();
-    match version.follow(terms.rules, event) {
+    let followed = version.follow(terms.rules, event);
+    tell_rewrite(version, reader, event, followed, terms.gate);
+    match followed {
         Followed::Rewrote(_) => Next::Moved,
         Followed::Dropped(_) => Next::Leaves,
         Followed::Matched | Followed::Skipped | Followed::Took => {
@@ -166,6 +169,22 @@ fn decide<K: SyscallKernel, G: Gate>(
             }
             Next::Moved
         }
+    }
+}
+
+// The gate is told where a rule decided, and the version goes on.
+fn tell_rewrite<K: SyscallKernel, G: Gate>(
+    version: &Version,
+    reader: &Reader<K>,
+    event: &Event,
+    followed: Followed,
+    gate: &G,
+) {
+    match followed {
+        Followed::Rewrote(_) | Followed::Skipped | Followed::Took => {
+            gate.at_rewrite(follower(reader), event, version.standing().rewrites);
+        }
+        Followed::Matched | Followed::Dropped(_) => {}
     }
 }
 

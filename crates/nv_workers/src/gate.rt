@@ -16,6 +16,10 @@ pub trait Gate {
     /// The version has consumed the event with this stamp.
     fn after_take(&self, version: VersionNumber, stamp: u32);
 
+    /// The version's call isn't this event's, and by a rule it was answered otherwise than by the event's reply, or the event was passed
+    /// over. So often that has happened to the version by now.
+    fn at_rewrite(&self, _version: VersionNumber, _event: &Event, _rewrites: u64) {}
+
     /// The version leads, and has served this event.
     fn after_publish(&self, _version: VersionNumber, _event: &Event) {}
 

@@ -14,15 +14,29 @@ use std::io::{Stderr, Write};
 // The most bytes of a comment: an event's has two digits for each byte that it hands in or out.
 const LONGEST: usize = 1 << 15;
 
+// A rule may decide at each event of a run that lasts: the operator is told the first time, and then ever more rarely.
+const TOLD_REWRITES: [u64; 10] = [
+    1,
+    10,
+    100,
+    1_000,
+    10_000,
+    100_000,
+    1_000_000,
+    10_000_000,
+    100_000_000,
+    1_000_000_000,
+];
+
 /// What is told.
 #[derive(Clone, Copy, Debug, PartialEq, Eq)]
 pub enum Telling {
     /// Nothing: the report of a run tells it all.
     Nothing,
-    /// Who ended and who leads on.
-    Ends,
-    /// Each event as well.
-    Events,
+    /// Who ended and who leads on, that a rule decides, and that nine tenths of so many calls are made, the most of the run.
+    Ends(u32),
+    /// Each event as well, and each decision of a rule.
+    Events(u32),
 }
 
 /// Comments on standard error, each by one write where the system takes it whole, so that those of several versions don't mix.
@@ -105,6 +119,37 @@ fn put_comment_of<S: Sink>(sink: &mut S, event: &Event) -> Put {
     put_event(sink, event)
 }
 
+fn put_rewrite<S: Sink>(sink: &mut S, version: VersionNumber, rewrites: u64, event: &Event) -> Put {
+    let mut number = Buffer::new();
+    let mut count = Buffer::new();
+    put_pieces(
+        sink,
+        &[
+            b"# version ",
+            number.format(version.0).as_bytes(),
+            b" rewrites ",
+            count.format(rewrites).as_bytes(),
+            b" at ",
+        ],
+    )?;
+    put_event(sink, event)
+}
+
+fn put_made<S: Sink>(sink: &mut S, made: u32, most: u32) -> Put {
+    let mut first = Buffer::new();
+    let mut second = Buffer::new();
+    put_pieces(
+        sink,
+        &[
+            b"# ",
+            first.format(made).as_bytes(),
+            b" of ",
+            second.format(most).as_bytes(),
+            b" calls are made\n",
+        ],
+    )
+}
+
 impl Notes {
     pub fn make(rt: &HostRuntime, telling: Telling) -> Notes {
         Notes {
@@ -118,6 +163,25 @@ impl Notes {
     pub fn tell_ending(&self, ending: Ending) {
         if let Some(mut line) = self.line() {
             let put = put_ending(&mut line, ending);
+            self.write(&line, put);
+        }
+    }
+
+    fn tell_event(&self, event: &Event) {
+        if let Some(mut line) = self.line() {
+            let put = put_comment_of(&mut line, event);
+            self.write(&line, put);
+        }
+    }
+
+    // An operator has to know before the last call, with which the run ends.
+    fn tell_made(&self, event: &Event, most: u32) {
+        let nine_tenths = most - most / 10;
+        if event.stamp.checked_add(1) != Some(nine_tenths) {
+            return;
+        }
+        if let Some(mut line) = self.line() {
+            let put = put_made(&mut line, nine_tenths, most);
             self.write(&line, put);
         }
     }
@@ -136,17 +200,33 @@ impl Notes {
 }
 
 impl Gate for Notes {
+    fn at_rewrite(&self, version: VersionNumber, event: &Event, rewrites: u64) {
+        let is_told = match self.telling {
+            Telling::Nothing => false,
+            Telling::Ends(_) => TOLD_REWRITES.contains(&rewrites),
+            Telling::Events(_) => true,
+        };
+        if !is_told {
+            return;
+        }
+        if let Some(mut line) = self.line() {
+            let put = put_rewrite(&mut line, version, rewrites, event);
+            self.write(&line, put);
+        }
+    }
+
     fn before_publish(&self, _version: VersionNumber, _stamp: u32) {}
 
     fn after_take(&self, _version: VersionNumber, _stamp: u32) {}
 
     fn after_publish(&self, _version: VersionNumber, event: &Event) {
-        if self.telling != Telling::Events {
-            return;
-        }
-        if let Some(mut line) = self.line() {
-            let put = put_comment_of(&mut line, event);
-            self.write(&line, put);
+        match self.telling {
+            Telling::Nothing => {}
+            Telling::Ends(most) => self.tell_made(event, most),
+            Telling::Events(most) => {
+                self.tell_event(event);
+                self.tell_made(event, most);
+            }
         }
     }
 

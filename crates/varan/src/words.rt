@@ -32,8 +32,8 @@ pub fn is_service(words: &Result<Vec<String>, LineFault>) -> bool {
 
 fn told_of(asked: Result<Command<'_>, LineFault>) -> Telling {
     match asked {
-        Ok(Command::Serve(service)) if service.log => Telling::Events,
-        Ok(Command::Serve(_)) => Telling::Ends,
+        Ok(Command::Serve(service)) if service.log => Telling::Events(service.limits.calls),
+        Ok(Command::Serve(service)) => Telling::Ends(service.limits.calls),
         _ => Telling::Nothing,
     }
 }
