@@ -69,7 +69,7 @@ FAULTY_FILES = [
 
 # A live run of a guest that exits at once.
 LIVE = "words varan serve v\nasm v\n|li a0, 0\n|li a7, 94\n|ecall\nin\nstatus 0\nout\n"
-TOLD = "noted\n|varan-script 4\n"
+TOLD = "noted\n|varan-script 5\n"
 
 # Files whose rows come out as they say, and how many rows they have.
 READ = [
@@ -88,7 +88,7 @@ READ = [
 ]
 
 USAGE = 'status 2, "varan: usage\\n", said "", noted ""'
-SERVED = 'status 0, "", said "", noted "varan-script 4\\n"'
+SERVED = 'status 0, "", said "", noted "varan-script 5\\n"'
 
 # Rows that come out otherwise, and what is printed of them.
 OTHERWISE = [

@@ -29,8 +29,8 @@ OPTIONS = ["--memory", "262144", "--threads", "2", "--ring", "2"]
 LIMITS = [*OPTIONS, "--calls", "131072", "--budget", "1000000000"]
 
 REQUEST = b"GET / HTTP/1.0\r\n\r\n"
-CLIENTS = b"# two clients\nconnect 8080\ndata 0 %s\nend 0\nconnect 8080\n\ndata 1 00FF\nend 1\nend clients\n" % REQUEST.hex().encode()
-INPUT = b"line put a b\ninput 67657420\ninput 610a\n#\nline drop a\nline get a\nend input\n"
+CLIENTS = b"# two clients\nconnect 8080\ntime 4294967295 999999999\ndata 0 %s\nend 0\nconnect 8080\n\ndata 1 00FF\nend 1\nend clients\n" % REQUEST.hex().encode()
+INPUT = b"line put a b\ninput 67657420\ntime 7 8\ninput 610a\n#\nline drop a\nline get a\nend input\n"
 LINES = b"put a b\nget a\n\x00\xff\ndrop a\nget a\nget a"
 
 # Of a line that the end of input came within.
@@ -66,7 +66,7 @@ CASES = (PLAIN, BY_LINES, BY_CLIENTS)
 
 def transcript_in(told):
     """What was told up to its last newline, if a run began."""
-    return told[: told.rfind(b"\n") + 1] if told.startswith(b"varan-script 4\n") else None
+    return told[: told.rfind(b"\n") + 1] if told.startswith(b"varan-script 5\n") else None
 
 
 def without_comments(told):
@@ -291,10 +291,10 @@ class Live:
                 raise Wrong(f"varan-listen ended with {status}")
             if not answers[2].endswith(b"\r\n\r\nhi\n"):
                 raise Wrong(f"the client that stayed got {answers[2]!r}")
-            taken = b"".join(line for line in without_comments(transcript).splitlines(keepends=True) if re.match(rb"connect|data|end", line))
+            taken = b"".join(line for line in without_comments(transcript).splitlines(keepends=True) if re.match(rb"connect|data|end|time", line))
             held = not_taken(transcript)
-            # What varan-listen sent isn't kept. Behind the end of all clients it may tell the ends of those that had still stayed, for which no call asks.
-            if held and not (taken.endswith(b"\nend clients\n") and re.fullmatch(rb"(end \d+\n)+", held)):
+            # What varan-listen sent isn't kept. Behind the end of all clients it may tell the ends of those that had still stayed, and their times, for which no call asks.
+            if held and not (taken.endswith(b"\nend clients\n") and re.fullmatch(rb"((time \d+|end) \d+\n)+", held)):
                 raise Wrong(f"not taken: {held[:80]}")
             case.sent = taken + held
             self.rehearse(case, transcript)

@@ -152,9 +152,9 @@ def numbered(text):
 
 
 def read_arrival(line):
-    """An arrival of form 4, by its line alone: a word and its fields. What comes for descriptor 0 is `input`."""
+    """An arrival of form 5, by its line alone: a word and its fields. What comes for descriptor 0 is `input`."""
     word, space, rest = line.partition(b" ")
-    if word not in (b"line", b"input", b"connect", b"data", b"end"):
+    if word not in (b"line", b"input", b"connect", b"data", b"end", b"time"):
         raise Refused("word")
     if not space:
         raise Refused("shape")
@@ -174,6 +174,12 @@ def read_arrival(line):
         if not space:
             raise Refused("shape")
         return "data", numbered(client), some_bytes(text)
+    if word == b"time":
+        seconds, _, nanos = rest.partition(b" ")
+        seconds, nanos = numbered(seconds), numbered(nanos)
+        if nanos > 999_999_999:
+            raise Refused("range")
+        return "time", (seconds, nanos)
     return "end", rest if rest in (b"input", b"clients") else numbered(rest)
 
 

@@ -141,7 +141,7 @@ in_a_pipe() {
     "$program" serve --log "$bad_service" "$old_service" < <(cat "$work/lines") >"$work/console" 2>"$work/transcript" || status=$?
     is "$status" 0 "a service in a pipe"
     same "$guests/expected/service" "$work/console" "a service in a pipe"
-    { echo varan-script 4; grep '^line ' "$guests/scripts/service"; } >"$work/wanted"
+    { echo varan-script 5; grep '^line ' "$guests/scripts/service"; } >"$work/wanted"
     grep -v '^#' "$work/transcript" >"$work/arrived"
     same "$work/wanted" "$work/arrived" "what came"
     lines_again "$work/transcript"
@@ -241,10 +241,17 @@ first() {
     sed -n "/^connection 0 /,/^connection $1 /p" "$expected" | sed "/^connection $1 /d"
 }
 
-# got NAME WAY: each of the clients gets what it gets from version 1 under Linux.
+# timeless FILE: what clients got, whatever the time at which it was written.
+timeless() {
+    sed 's/^Date: .* GMT/Date: now/' "$1"
+}
+
+# got NAME WAY: each of the clients gets what it gets from version 1 under Linux, at its own time.
 got() {
     "$here/clients.py" "$2" "$port" "$clients" >"$work/got" || bad "the clients, $1"
-    same "$expected" "$work/got" "the clients, $1"
+    timeless "$expected" >"$work/wanted"
+    timeless "$work/got" >"$work/timeless"
+    same "$work/wanted" "$work/timeless" "the clients, $1"
 }
 
 # written NAME FILE: the run of the transcript writes the clients these bytes.
@@ -261,8 +268,8 @@ in_turn() {
     got "$name" turn
     ended "$name"
     again "$work/$name"/* "$fates" "$@"
-    sed -n '/^connections /,$p' "$work/report" >"$work/got"
-    same "$expected" "$work/got" "the transcript's clients, $name"
+    sed -n '/^connections /,$p' "$work/report" >"$work/clients"
+    same "$work/got" "$work/clients" "the transcript's clients, $name"
 }
 
 # calls NAME V..: the calls of the transcript's run are those of version 1, as strace prints them.
@@ -355,6 +362,8 @@ refused() {
 refused_lines() {
     refused 'connect 8080\nhello\n' "2 word"
     refused 'connect 8080\ndata 0\n' "2 shape"
+    refused 'time 5\n' "1 shape"
+    refused 'time 5 999999999\ntime 5 1000000000\n' "2 range"
     refused 'connect 8080\n\ndata 1 68\nend 0\n' "3 range"
     refused 'connect 8080\nend 0\nend 0\n' "3 twice"
     refused "connect 8080\n$(printf '#%.0s' {1..4096})\n" "2 long"
@@ -366,7 +375,7 @@ a_stranger() {
     local strangers=$here/../strangers clients expected inner=18101 words=(--memory 4194304 --script "$work/stranger_setup") largest=("${largest[@]}" --memory 4194304)
     clients=$strangers/scripts/mini_httpd
     expected=$strangers/expected/mini_httpd
-    { echo varan-script 4; grep '^\(arg\|file\|clock\) ' "$clients"; } >"$work/stranger_setup"
+    { echo varan-script 5; grep '^\(arg\|file\) ' "$clients"; } >"$work/stranger_setup"
     in_turn stranger $'0 fault load 100\n1 exited 0' "$strangers/built/mini_httpd_original" "$strangers/built/mini_httpd_debian"
 }
 

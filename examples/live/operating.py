@@ -3,8 +3,8 @@
 
     operating.py PROGRAM
 
-The service is keeper.c behind ../../service/varan-listen. It counts the requests of all clients, so one that is lost or done twice shows. Each row that doesn't hold is printed; the last line
-has how many there were, how many were wrong, and the longest wait of a client. Status 1 where one was wrong.
+The service is keeper.c behind ../../service/varan-listen. It counts the requests of all clients, so one that is lost or done twice shows; dated.s tells the time. Each row that doesn't hold is
+printed; the last line has how many there were, how many were wrong, and the longest wait of a client. Status 1 where one was wrong.
 """
 import os
 import pathlib
@@ -12,6 +12,7 @@ import re
 import resource
 import signal
 import socket
+import struct
 import subprocess
 import sys
 import tempfile
@@ -26,6 +27,8 @@ IDLE = 3
 PATIENT = ["--idle", str(SECONDS)]
 # Seconds between two requests of a client that asks again and again, and how often as long as its last answer took: so a process that joins comes nearer also where the machine is slow.
 PAUSE, PAUSES = 0.05, 4
+# Nanoseconds: a second, and how long ago the time may have been told that a client gets.
+SECOND, TIME_STEP = 1_000_000_000, 1_000_000
 MOST_WRITTEN = 1_048_576
 LONG = "x" * 1900
 # A command that stands still, before it is the program, while there is a file `hold` beside it.
@@ -501,6 +504,8 @@ def told_metrics(rows, program):
               f"version{{index=\"0\",file=\"{KEEPER[1]}\",role=\"leads\"}}": 1}
     for name, value in wanted.items():
         rows.same(found.get(f"varan_{name}"), value, f"the metric {name}")
+    times = found.get("varan_arrivals_total{kind=\"time\"}", 0)
+    rows.holds(1 <= times <= 2 + sum(found[f'varan_arrivals_total{{kind="{it}"}}'] for it in ("data", "end")), "how often the time was told", found)
     memory = found.get("varan_resident_memory_bytes{process=\"varan\"}", 0)
     rows.holds(1_000_000 < memory < 4_000_000_000, "the memory of the command", memory)
     rows.holds(0 < found.get("varan_uptime_seconds", 0) < 3600, "the time since it began", found)
@@ -550,6 +555,54 @@ def watched(rows, service):
         rows.holds(all(re.fullmatch(r"uptime \d+ connections 1 clients 2 came .* leads \S+\n", line) for line in lines), "lines that are watched", lines)
         rows.same(open_ones(), 2, "connections to the socket")
     until(lambda: open_ones() == 1, "watching ends where the operator leaves")
+
+
+def real_time(rows, program):
+    """A server tells each request the time at which it came, whatever becomes of its process. The run of the transcript tells it again."""
+    folder = pathlib.Path(tempfile.mkdtemp(dir=Service.room))
+    dated = folder / "dated"
+    dated.write_bytes(subprocess.run([program, "asm", HERE / "dated.s"], stdout=subprocess.PIPE, check=True).stdout)
+    service = Service(program, dated, options=PATIENT, words=["--log"], folder=folder)
+    client = service.connect()
+    first = asked_time(rows, client, "the time of the first request")
+    time.sleep(1.1)
+    second = asked_time(rows, client, "the time of the second one")
+    rows.holds(second[0] >= first[0] + SECOND, "a second passes between two requests", (first, second))
+    os.kill(service.serving(), signal.SIGKILL)
+    third = asked_time(rows, client, "the time once the command was killed")
+    rows.same(service.operate(f"join {dated}")[-1], "ok", "a version joins")
+    fourth = asked_time(rows, client, "the time once a version has joined")
+    client.close()
+    other = service.connect()
+    fifth = asked_time(rows, other, "the time of the next client")
+    other.close()
+    rows.same(service.end(), 0, "the status of a server that tells the time")
+
+    transcript = max(it for it in service.transcripts.iterdir() if not it.name.endswith(".behind"))
+    said = transcript.read_text()
+    report = subprocess.run([program, "run", "--calls", "131072", "--script", transcript, dated, dated], stdout=subprocess.PIPE).stdout
+    answers = b"".join(it[1] for it in (first, second, third, fourth))
+    rows.holds(report.endswith(b"connections 2\nconnection 0 8080 64\n%s\nconnection 1 8080 16\n%s\n" % (answers, fifth[1])), "what clients got, by the run of the transcript", report[-200:])
+    rows.holds("\n".join([*re.findall(r"^# (\d+ \d+ .* = .*)$", said, re.M), "fates 2\n"]).encode() in report, "the log, by the run of the transcript", report)
+    timeless = folder / "timeless"
+    timeless.write_text(re.sub(r"(?m)^time .*\n", "", said).replace("varan-script 5", "varan-script 4", 1))
+    for before in (transcript, timeless):
+        resumed = Service(program, dated, options=["--resume", before], folder=folder)
+        client = resumed.connect()
+        asked_time(rows, client, f"the time of a service that was resumed, {before.name}")
+        client.close()
+        rows.same(resumed.end(), 0, "its status")
+
+
+def asked_time(rows, client, what):
+    """The time that a server tells a client, in nanoseconds, and the bytes that have it."""
+    begun = time.time_ns()
+    client.send("time")
+    answer = client.socket.recv(16, socket.MSG_WAITALL)
+    seconds, nanos = struct.unpack("<QQ", answer)
+    told = seconds * SECOND + nanos
+    rows.holds(begun - TIME_STEP < told <= time.time_ns(), what, f"{told} in place of {begun}")
+    return told, answer
 
 
 def unheard_port(rows, program):
@@ -633,7 +686,7 @@ def received(client):
 
 
 started = []
-TRIED = (joining, handing, falling_back, reloading, permitted, told_metrics, killed_command, killed_all, unheard_port, closed_console, unread_console, full_transcript, cut_answers)
+TRIED = (joining, handing, falling_back, reloading, permitted, told_metrics, killed_command, killed_all, real_time, unheard_port, closed_console, unread_console, full_transcript, cut_answers)
 
 
 def main():

@@ -8,6 +8,8 @@ The clients of transcript I are those of the numbers I, 5 I + 1 and 7 I + 2, cou
 import pathlib
 import sys
 
+# the second in which the first client of each comes: 29.11.2026
+BEGIN = 1795910400
 CLIENTS = pathlib.Path(__file__).resolve().parent.parent / "server/scripts/clients"
 
 
@@ -19,9 +21,9 @@ def read_clients():
 
 
 def transcript(setup, sent):
-    lines = ["varan-script 4", *setup]
+    lines = ["varan-script 5", *setup]
     for number, digits in enumerate(sent):
-        lines += ["connect 8080", *([f"data {number} {digits}"] if digits else []), f"end {number}"]
+        lines += [f"time {BEGIN + number} 0", "connect 8080", *([f"data {number} {digits}"] if digits else []), f"end {number}"]
     return "".join(f"{line}\n" for line in [*lines, "end clients"])
 
 

@@ -5,7 +5,7 @@ import os
 import time
 
 PAGE = os.sysconf("SC_PAGE_SIZE")
-ARRIVALS = ("connect", "data", "end")
+ARRIVALS = ("connect", "data", "end", "time")
 SAID = ("accept", "data", "close", "output")
 
 

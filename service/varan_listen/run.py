@@ -15,6 +15,9 @@ from varan_listen.streams import MOST_WRITTEN, note
 MOST_BYTES = 2000
 # How often in a row a command that was killed is begun anew without having said more.
 MOST_TRIES = 3
+# Nanoseconds: a second; the step of the time that is told; and the latest time that a line can tell, of the year 2106.
+SECOND, TIME_STEP = 1_000_000_000, 1_000_000
+MOST_TIME = 4_294_967_296 * SECOND - 1
 # Seconds: between two looks at a process that joins; in which its followers take what came last; and in which it has to come nearer.
 TICK, SETTLING, STANDING = 0.05, 0.2, 60
 UNWRITTEN = 6
@@ -30,6 +33,7 @@ class Run:
         self.is_joining = False
         self.ended = asyncio.get_running_loop().create_future()  # the status
         self.restarts = self.tries = self.said_before = 0
+        self.time = 0  # that was told last
         self.count = self.gone = 0  # of the clients that came, and of those that came to a run which this one goes on with
         self.is_past = False  # what the guests say was said in that run
         self.waiting, self.accepted, self.accepts = {}, {}, 0
@@ -43,6 +47,9 @@ class Run:
         """Goes on with a run to which this came from so many clients, who have left since."""
         for line in arrivals:
             self.told.add(line)
+            if line.startswith(b"time "):
+                seconds, nanos = map(int, line.split()[1:])
+                self.time = max(self.time, seconds * SECOND + nanos)
         self.count = self.gone = count
         self.is_past = True
 
@@ -187,6 +194,14 @@ class Run:
     # ---- clients
 
     def tell(self, line):
+        """Tells what came, and before it the time, unless that was told less than a step ago. A host's clock that is set back tells no time until it is later again."""
+        now = min(time.time_ns(), MOST_TIME)
+        if now - self.time >= TIME_STEP:
+            self.time = now
+            self.tell_line(f"time {now // SECOND} {now % SECOND}")
+        self.tell_line(line)
+
+    def tell_line(self, line):
         line = line.encode() + b"\n"
         self.told.add(line)
         self.counts.came[line.split()[0].decode()] += 1

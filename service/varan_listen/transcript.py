@@ -1,7 +1,7 @@
 """What a transcript says: of the process that writes it who leads, who has ended and how, and where the lead was handed over; and of one that a run left what came in it."""
 import re
 
-ARRIVALS = (b"connect", b"data", b"end", b"line", b"input")
+ARRIVALS = (b"connect", b"data", b"end", b"line", b"input", b"time")
 # An end of these is what the run was told when varan-listen ended. A run that goes on isn't.
 OVER = (b"end clients", b"end input")
 # The transcript of a process that hasn't caught up has this at the end of its name: it lacks something that came.
