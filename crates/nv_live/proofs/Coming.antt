@@ -9,6 +9,7 @@ use Rattle.std.proofs.lemmas.List.Concat.{flat_map-append}
 use Rattle.std.proofs.lemmas.List.Elements.{filter-append}
 use Rattle.std.proofs.lemmas.List.Sums.{prefix_len_stops, sum_by-append, sum_by-cons}
 use Rattle.std.proofs.lemmas.List.Folds.{list_all-append, list_any-append, concat-append}
+use Rattle.nv_arrivals.specs.declared.arrival.ArrivalCause.{ArrivalCause}
 use Rattle.nv_arrivals.specs.Arrivals.{Arrival, is_arrival}
 use Rattle.nv_arrivals.specs.Order.{Came, nothing_came, admitted, after}
 use Rattle.nv_arrivals.specs.Reading.{arrival_of}
@@ -17,10 +18,10 @@ use Rattle.nv_outside.specs.Counts.{raised}
 use Rattle.nv_live.specs.declared.source.Read.{Read}
 use Rattle.nv_live.specs.declared.source.Read.TheVariants.{Count, Failed}
 use Rattle.nv_live.specs.declared.incoming.Stopped.{Stopped}
-use Rattle.nv_live.specs.declared.incoming.Stopped.TheVariants.{Ended, CutOff}
+use Rattle.nv_live.specs.declared.incoming.Stopped.TheVariants.{Ended, Refused, CutOff}
 use Rattle.nv_text.specs.Lines.{line_number}
 use Rattle.nv_live.specs.Buffer.{Refills}
-use Rattle.nv_live.specs.ComingLines.{is_plain, is_comment, is_hand, is_passed, says, text_of, Say, stop_by_end, Come}
+use Rattle.nv_live.specs.ComingLines.{is_plain, is_comment, is_hand, is_passed, says, text_of, Say, stop_by_end, IsRefused, StopsAt, Come}
 use Rattle.nv_live.specs.Source.{Gave, faults_by_read}
 use Rattle.nv_live.specs.Taking.{faults_by_stop}
 use Rattle.nv_live.proofs.Taking.{gave-none, gave-then}
@@ -44,6 +45,7 @@ come-none before faults = record {
   words = omega arith;
   asks = refl;
   counted = refl;
+  stops = tt;
   ended = λ e. cc;
 }
 
@@ -61,6 +63,16 @@ end-empty n taken size e = step (n == 0) (size == 0) refl refl e where
   step true true h k e = (grind (arith, nat_tests), grind (arith, nat_tests))
   step true false h k e = cc
   step false y h k e = cc
+
+end-stops : (n taken : ℕ) (line held : List ℕ) (came : Came) → length held ≡ n → StopsAt (stop_by_end (Count n) taken (length line)) line held came taken
+end-stops n taken line held came many = step (n == 0) (length line == 0) refl refl where
+  step : (x y : Bool) → (n == 0) ≡ x → (length line == 0) ≡ y → StopsAt (cond x (cond y (Some Ended) (Some (CutOff (line_number taken)))) None) line held came taken
+  step true true e f = tt
+  step true false e f =
+      let none : n ≡ 0 = grind (arith, nat_tests) in
+      let some : 0 < length line = grind (arith, nat_tests) in
+      (refl, some, nil_from_length held (many ∙ none))
+  step false y e f = tt
 
 end-faults : (n taken size faults : ℕ) → faults_by_stop (stop_by_end (Count n) taken size) faults ≡ faults
 end-faults n taken size faults = step (n == 0) (size == 0) where
@@ -92,6 +104,7 @@ come-refill before now later faults count later_count line held came taken asked
   words = c.words;
   asks = c.asks;
   counted = same ∙ c.counted ∙ sym (end-faults n taken (length line) faults);
+  stops = end-stops n taken line held came (sym r.0);
   ended = λ e.
       let both = end-empty n taken (length line) e in
       let none : held ≡ [] = nil_from_length held (sym r.0 ∙ both.0) in
@@ -114,6 +127,7 @@ come-refill before now later faults count later_count line held came taken asked
   words = c.words;
   asks = c.asks;
   counted = same ∙ ap (λ n. raised n 1) c.counted;
+  stops = tt;
   ended = λ e. cc;
 }
 
@@ -140,9 +154,9 @@ front-plain : (bytes : List ℕ) (n : ℕ) → n ≡ prefix_len is_plain bytes �
 front-plain bytes n e = subst (λ k. list_all is_plain (take k bytes) ≡ true) (sym e) (plain-prefix bytes)
 
 pub come-gather : (before now : Option (List (List ℕ))) (faults count : ℕ) (stopped : Option Stopped) (line held more rest : List ℕ) (came : Came) (taken n : ℕ) (asked : Bool) (handed : ℕ) (arrivals : List Arrival)
-    → n ≡ prefix_len is_plain held → more ≡ line ++ take n held → rest ≡ drop n held
+    → stopped ≡ None → n ≡ prefix_len is_plain held → more ≡ line ++ take n held → rest ≡ drop n held
     → Come before now faults count stopped line held came taken asked handed arrivals → Come before now faults count stopped more rest came taken asked handed arrivals
-come-gather before now faults count stopped line held more rest came taken n asked handed arrivals stops longer left c =
+come-gather before now faults count stopped line held more rest came taken n asked handed arrivals going stops longer left c =
     let same : more ++ rest ≡ line ++ held =
     ap (λ t. t ++ rest) longer ∙ ap (λ t. (line ++ take n held) ++ t) left ∙ append_assoc line (take n held) (drop n held) ∙ ap (λ t. line ++ t) (take-append-drop n held) in
     let both = and_parts (list_all (λ l. list_all is_plain l) c.lines) (list_all (λ l. list_all is_plain l) (line ∷ [])) (sym (list_all-append (λ l. list_all is_plain l) c.lines (line ∷ [])) ∙ c.plain) in
@@ -164,6 +178,7 @@ come-gather before now faults count stopped line held more rest came taken n ask
       words = c.words;
       asks = c.asks;
       counted = c.counted;
+      stops = subst (λ s. StopsAt s more rest came taken) (sym going) tt;
       ended = λ e. ((c.ended e).0, same ∙ (c.ended e).1);
     }
 
@@ -209,6 +224,7 @@ come-line before now faults count line rest came next taken asked handed arrival
   words = c.words;
   asks = asks-more c.since line asked c.asks;
   counted = c.counted;
+  stops = tt;
   ended = λ e. cc;
 }
 
@@ -300,5 +316,37 @@ come-handed before now faults count stopped line held came taken asked handed ar
       words = omega (arith, c.words, some, all);
       asks = refl;
       counted = c.counted;
+      stops = c.stops;
       ended = c.ended;
     }
+
+-- ---- a line that is refused
+
+come-next : (before now : Option (List (List ℕ))) (faults count : ℕ) (line held : List ℕ) (came : Came) (taken n : ℕ) (asked : Bool) (handed : ℕ) (cause : ArrivalCause) (arrivals : List Arrival)
+    → n ≡ line_number taken → IsRefused line held came taken cause → Come before now faults count None line held came taken asked handed arrivals
+    → Come before now faults count (Some (Refused n cause)) line held came taken asked handed arrivals
+come-next before now faults count line held came taken n asked handed cause arrivals number why c = record {
+  reads = c.reads;
+  lines = c.lines;
+  gave = c.gave;
+  joined = c.joined;
+  plain = c.plain;
+  said = c.said;
+  limits = c.limits;
+  orderly = c.orderly;
+  numbered = c.numbered;
+  earlier = c.earlier;
+  since = c.since;
+  parted = c.parted;
+  words = c.words;
+  asks = c.asks;
+  counted = c.counted;
+  stops = (number, why);
+  ended = λ e. cc;
+}
+
+pub come-refused : (before now : Option (List (List ℕ))) (faults count : ℕ) (stopped : Option Stopped) (line held : List ℕ) (came : Came) (taken n : ℕ) (asked : Bool) (handed : ℕ) (cause : ArrivalCause) (arrivals : List Arrival)
+    → stopped ≡ None → n ≡ line_number taken → IsRefused line held came taken cause → Come before now faults count stopped line held came taken asked handed arrivals
+    → Come before now faults count (Some (Refused n cause)) line held came taken asked handed arrivals
+come-refused before now faults count stopped line held came taken n asked handed cause arrivals going number why c =
+    come-next before now faults count line held came taken n asked handed cause arrivals number why (subst (λ s. Come before now faults count s line held came taken asked handed arrivals) going c)

@@ -20,7 +20,7 @@ use Rattle.nv_live.specs.declared.incoming.Stopped.{Stopped}
 use Rattle.nv_live.specs.declared.incoming.Stopped.TheVariants.{Ended}
 use Rattle.nv_live.specs.Source.{Gave, faults_by_read}
 use Rattle.nv_live.specs.Buffer.{Refills}
-use Rattle.nv_live.specs.Taking.{Took, stop_by, faults_by_stop, IsFirst}
+use Rattle.nv_live.specs.Taking.{Took, stop_by, is_plain_stop, faults_by_stop, IsFirst}
 
 -- ---- the buffer
 
@@ -77,6 +77,7 @@ took_none before faults = record {
   gave = gave-none before;
   cut = ap (map Input) (sym (pieces-none 2000));
   may_come = may-come [] [] [] refl;
+  stops = refl;
   ended = λ e. cc;
   counted = refl;
 }
@@ -102,6 +103,12 @@ stop-faults n faults = step (n == 0) where
   step true = refl
   step false = refl
 
+stop-plain : (n : ℕ) → is_plain_stop (stop_by (Count n)) ≡ true
+stop-plain n = step (n == 0) where
+  step : (x : Bool) → is_plain_stop (cond x (Some Ended) None) ≡ true
+  step true = refl
+  step false = refl
+
 -- nothing was held, and one more read was made
 took_refill : (before now later : Option (List (List ℕ))) (faults count later_count : ℕ) (held : List ℕ) (read : Read) (arrivals : List Arrival)
     → Refills now later held read → later_count ≡ faults_by_read read count → Took before now faults count None [] arrivals → Took before later faults later_count (stop_by read) held arrivals
@@ -110,6 +117,7 @@ took_refill before now later faults count later_count held (Count n) arrivals r 
   gave = gave-then before now later t.reads (held ∷ []) t.gave r.1;
   cut = cut-more 2000 t.reads held ∙ ap (λ xs. xs ++ map Input (pieces 2000 held)) (t.cut ∙ ap (λ ps. arrivals ++ map Input ps) (pieces-none 2000) ∙ append-nil arrivals);
   may_come = t.may_come;
+  stops = stop-plain n;
   ended = λ e. (t.reads, ap (λ b. t.reads ++ b ∷ []) (nil_from_length held (sym r.0 ∙ stop-ended n e)));
   counted = same ∙ t.counted ∙ sym (stop-faults n faults);
 }
@@ -118,6 +126,7 @@ took_refill before now later faults count later_count held Failed arrivals r sam
   gave = subst (λ x. Gave before t.reads x) (sym r.0) t.gave;
   cut = subst (λ h. input_of 2000 t.reads ≡ arrivals ++ map Input (pieces 2000 h)) (sym r.1) t.cut;
   may_come = t.may_come;
+  stops = refl;
   ended = λ e. cc;
   counted = same ∙ ap (λ n. raised n 1) t.counted;
 }
@@ -146,6 +155,7 @@ took_piece before now faults count n stopped held later bytes arrivals cut same 
       gave = t.gave;
       cut = joined;
       may_come = may-come t.reads (arrivals ++ Input bytes ∷ []) (map Input (pieces 2000 later)) joined;
+      stops = t.stops;
       ended = t.ended;
       counted = t.counted;
     }

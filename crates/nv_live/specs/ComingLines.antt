@@ -1,14 +1,16 @@
 -- What comes as lines.
-use Rattle.std.specs.Prelude.{◌≡◌, ◌≤◌, ◌+◌, ◌==◌, ◌||◌, not, bytes_eq, ℕ, Bool, true, List, [], ◌∷◌, ◌++◌, Option, Some, None, Ok, length, map, filter, codes, count_by, if◌then◌else◌}
+use Rattle.std.specs.Prelude.{◌≡◌, ◌≤◌, ◌<◌, ◌+◌, ◌==◌, ◌||◌, ◌⊎◌, not, nat_le, bytes_eq, ℕ, Bool, true, false, List, [], ◌∷◌, ◌++◌, Option, Some, None, Result, Ok, Err, length, map, filter, codes, count_by, if◌then◌else◌}
 use Rattle.std.specs.List.{concat, flat_map, list_all, list_any}
 use Rattle.nv_text.specs.Lines.{line_number}
 use Rattle.nv_arrivals.specs.Arrivals.{Arrival, is_arrival}
-use Rattle.nv_arrivals.specs.Order.{Came, nothing_came, after}
+use Rattle.nv_arrivals.specs.declared.arrival.ArrivalCause.{ArrivalCause}
+use Rattle.nv_arrivals.specs.declared.arrival.ArrivalCause.TheVariants.{Long}
+use Rattle.nv_arrivals.specs.Order.{Came, nothing_came, admitted, after}
 use Rattle.nv_arrivals.specs.Reading.{arrival_of}
 use Rattle.nv_live.specs.declared.source.Read.{Read}
 use Rattle.nv_live.specs.declared.source.Read.TheVariants.{Count, Failed}
 use Rattle.nv_live.specs.declared.incoming.Stopped.{Stopped}
-use Rattle.nv_live.specs.declared.incoming.Stopped.TheVariants.{Ended, Unreadable, CutOff}
+use Rattle.nv_live.specs.declared.incoming.Stopped.TheVariants.{Ended, Unreadable, Unwritten, Refused, CutOff}
 use Rattle.nv_live.specs.declared.buffer.Buffer.{Buffer}
 use Rattle.nv_live.specs.declared.coming_lines.ComingLines.{ComingLines}
 use Rattle.nv_live.specs.Buffer.{held_in}
@@ -49,6 +51,39 @@ abbrev pub stop_by_end : Read → ℕ → ℕ → Option Stopped
 stop_by_end (Count count) taken held = if count == 0 then (if held == 0 then Some Ended else Some (CutOff (line_number taken))) else None
 stop_by_end Failed taken held = Some Unreadable
 
+-- ---- why nothing more comes
+
+-- a line's newline stands at the beginning of what is held
+abbrev pub IsWhole : List ℕ → Type 0
+IsWhole held = (rest : List ℕ) × (held ≡ 10 ∷ rest)
+
+-- a line that has 4,096 bytes before its newline, or that comes after as many lines as can be counted
+abbrev pub is_beyond : List ℕ → ℕ → Bool
+is_beyond line taken = nat_le 4096 (length line) || (taken == 18446744073709551615)
+
+abbrev pub cause_next : Result Came ArrivalCause → Option ArrivalCause
+cause_next (Ok came) = None
+cause_next (Err c) = Some c
+
+-- the first cause of those that a line has by itself, or else why its arrival may not come next
+abbrev pub cause_by : Result Arrival ArrivalCause → Came → Option ArrivalCause
+cause_by (Err c) came = Some c
+cause_by (Ok a) came = cause_next (admitted a came)
+
+-- this line, the next one, is refused for this: it is beyond those limits, or it is whole, says something of what comes, and has this first cause
+abbrev pub IsRefused : List ℕ → List ℕ → Came → ℕ → ArrivalCause → Type 0
+IsRefused line held came taken c =
+    ((is_beyond line taken ≡ true) × (c ≡ Long)) ⊎ (IsWhole held × (is_passed line ≡ false) × (cause_by (arrival_of line) came ≡ Some c))
+
+-- A line that is refused or cut off is the one after those that were taken; one that is cut off has begun, and nothing is held behind it. No write stops what is read here.
+abbrev pub StopsAt : Option Stopped → List ℕ → List ℕ → Came → ℕ → Type 0
+StopsAt (Some (Refused n c)) line held came taken = (n ≡ line_number taken) × IsRefused line held came taken c
+StopsAt (Some (CutOff n)) line held came taken = (n ≡ line_number taken) × (0 < length line) × (held ≡ [])
+StopsAt (Some Unwritten) line held came taken = ⊥
+StopsAt (Some Ended) line held came taken = Unit {0}
+StopsAt (Some Unreadable) line held came taken = Unit {0}
+StopsAt None line held came taken = Unit {0}
+
 -- ---- what has come
 
 -- The bytes of the reads, joined, are the lines so far and then what is held; these lines say the arrivals, each of which may come after those before it.
@@ -70,6 +105,7 @@ pub record Come (before now : Option (List (List ℕ))) (faults later_faults : �
   pub words : handed ≤ count_by is_hand earlier
   pub asks : asked ≡ list_any is_hand since
   pub counted : later_faults ≡ faults_by_stop stopped faults
+  pub stops : StopsAt stopped line held came taken
   -- at the end the last read gave nothing, and nothing is held
   pub ended : stopped ≡ Some Ended → ((earlier : List (List ℕ)) × (reads ≡ earlier ++ [] ∷ [])) × (line ++ held ≡ [])
 
@@ -111,7 +147,3 @@ ComesOn took faults old new then_come = (first : ComingLines _) (arrivals : List
 abbrev pub HandsOn : {I : Type 0} → (I → Option (List (List ℕ))) → (I → ℕ) → ComingLines I → ComingLines I → Type 0
 HandsOn took faults old new = (first : ComingLines _) (arrivals : List Arrival) (handed : ℕ)
     → HasCome took faults first old arrivals handed → HasCome took faults first new arrivals (handed + 1)
-
--- a line's newline stands at the beginning of what is held
-abbrev pub IsWhole : List ℕ → Type 0
-IsWhole held = (rest : List ℕ) × (held ≡ 10 ∷ rest)

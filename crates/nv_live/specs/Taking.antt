@@ -1,5 +1,5 @@
 -- What was taken of a source, as arrivals.
-use Rattle.std.specs.Prelude.{◌≡◌, ◌==◌, ℕ, List, [], ◌∷◌, ◌++◌, Option, None, Some, map, drop, true, if◌then◌else◌}
+use Rattle.std.specs.Prelude.{◌≡◌, ◌==◌, ℕ, Bool, false, List, [], ◌∷◌, ◌++◌, Option, None, Some, map, drop, true, if◌then◌else◌}
 use Rattle.nv_arrivals.specs.Arrivals.{Arrival, Input}
 use Rattle.nv_arrivals.specs.Order.{are_arrivals}
 use Rattle.nv_arrivals.specs.Pieces.{pieces, input_of}
@@ -7,7 +7,7 @@ use Rattle.nv_outside.specs.Counts.{raised}
 use Rattle.nv_live.specs.declared.source.Read.{Read}
 use Rattle.nv_live.specs.declared.source.Read.TheVariants.{Count, Failed}
 use Rattle.nv_live.specs.declared.incoming.Stopped.{Stopped}
-use Rattle.nv_live.specs.declared.incoming.Stopped.TheVariants.{Ended, Unreadable}
+use Rattle.nv_live.specs.declared.incoming.Stopped.TheVariants.{Ended, Unreadable, Unwritten, Refused, CutOff}
 use Rattle.nv_live.specs.Source.{Gave}
 
 -- why nothing more comes after a read
@@ -20,12 +20,22 @@ abbrev pub faults_by_stop : Option Stopped → ℕ → ℕ
 faults_by_stop (Some Unreadable) faults = raised faults 1
 faults_by_stop _ faults = faults
 
+-- plain input stops at its end or at a read that fails: none of its lines is refused or cut off
+abbrev pub is_plain_stop : Option Stopped → Bool
+is_plain_stop None = true
+is_plain_stop (Some Ended) = true
+is_plain_stop (Some Unreadable) = true
+is_plain_stop (Some Unwritten) = false
+is_plain_stop (Some (Refused n c)) = false
+is_plain_stop (Some (CutOff n)) = false
+
 -- The bytes of the reads, cut at each newline and after 2,000, are the arrivals so far, in order, and after them the pieces of what is held: nothing that was read is lost or made up.
 pub record Took (before now : Option (List (List ℕ))) (faults later_faults : ℕ) (stopped : Option Stopped) (held : List ℕ) (arrivals : List Arrival) : Type 0 where
   pub reads : List (List ℕ)
   pub gave : Gave before reads now
   pub cut : input_of 2000 reads ≡ arrivals ++ map Input (pieces 2000 held)
   pub may_come : are_arrivals arrivals ≡ true
+  pub stops : is_plain_stop stopped ≡ true
   -- at the end the last read gave nothing
   pub ended : stopped ≡ Some Ended → (earlier : List (List ℕ)) × (reads ≡ earlier ++ [] ∷ [])
   pub counted : later_faults ≡ faults_by_stop stopped faults

@@ -6,7 +6,7 @@ ghost use Rattle.nv_arrivals.specs.Arrivals.{is_arrival};
 ghost use Rattle.nv_arrivals.specs.Order.{nothing_came};
 ghost use Rattle.nv_arrivals.specs.Reading.{arrival_of};
 ghost use Rattle.nv_arrivals.specs.Views.{view, result_view};
-ghost use Rattle.nv_live.specs.ComingLines.{source_from, held_from, line_from, order_from, taken_from, asked_from, stop_from, is_plain, is_comment, is_hand, is_passed, stop_by_end, ComesOn, HandsOn, HasCome, IsWhole};
+ghost use Rattle.nv_live.specs.ComingLines.{source_from, held_from, line_from, order_from, taken_from, asked_from, stop_from, is_plain, is_comment, is_hand, is_passed, stop_by_end, IsRefused, ComesOn, HandsOn, HasCome, IsWhole};
 
 use crate::buffer::Buffer;
 use crate::{Read, Source, Stopped};
@@ -155,6 +155,7 @@ impl<I: Source> ComingLines<I> {
 
     // Moves what stands before a newline to the line.
     fn gather(&mut self) -> Result<(), AllocError>
+        requires { stop_from self.old ≡ None }
         ensures come { ComesOn I.took I.faults self.old self.new (λ arrivals. arrivals) }
         ensures line { OnOk result (length (line_from self.new) + length (held_from self.new) ≡ length (line_from self.old) + length (held_from self.old)) }
         ensures whole { OnOk result (0 < length (held_from self.new) → IsWhole (held_from self.new)) }
@@ -168,9 +169,10 @@ impl<I: Source> ComingLines<I> {
         Ok(())
     }
 
-    /// Nothing more comes: the line is refused.
+    /// Nothing more comes: the line is refused, for the first cause that it has.
     pub fn refuse(&mut self, cause: ArrivalCause)
-        requires { stop_from self.old ≡ None }
+        requires going { stop_from self.old ≡ None }
+        requires cause { IsRefused (line_from self.old) (held_from self.old) (order_from self.old) (taken_from self.old) cause }
         ensures come { ComesOn I.took I.faults self.old self.new (λ arrivals. arrivals) }
         ensures stopped { stop_from self.new ≡ Some (Stopped.Refused (line_number (taken_from self.old)) cause) }
         ensures taken { taken_from self.new ≡ taken_from self.old }

@@ -7,7 +7,7 @@ pub returns-clause-come : goal.returns-clause-come
 returns-clause-come g c = λ first arrivals handed so_far.
     come-gather (g.I.Source.took first.source) (g.I.Source.took c.args.self.now.source) (g.I.Source.faults first.source) (g.I.Source.faults c.args.self.now.source)
     c.args.self.now.stopped c.args.self.now.line.items (held_in c.args.self.now.buffer) c.extend_from_slice.new.self.items (held_in c.skip.new.self)
-    c.args.self.now.order c.args.self.now.taken c.before_newline-count.result c.args.self.now.asked handed arrivals (search rules) (search rules) (search rules) so_far
+    c.args.self.now.order c.args.self.now.taken c.before_newline-count.result c.args.self.now.asked handed arrivals c.requires (search rules) (search rules) (search rules) so_far
 
 pub returns-clause-whole : goal.returns-clause-whole
 returns-clause-whole g c = λ some.
