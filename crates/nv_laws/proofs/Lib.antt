@@ -8,3 +8,5 @@ pub mod Within
 pub mod Refusing
 pub mod States
 pub mod Constants
+pub mod Console
+pub mod Connections

@@ -1,3 +1,4 @@
 pub mod Tables
 pub mod Calls
 pub mod Refused
+pub mod Sayings
