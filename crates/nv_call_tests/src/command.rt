@@ -1,10 +1,10 @@
 // The values of options, which no answer tells, and words with blanks. All else of a line is told by rows.
-use nv_command::{Command, Limits, Look, Point, Run, Service, Trail, read};
+use nv_command::{Command, Limits, Look, Point, Run, ScriptFile, Service, Trail, read};
 use std::alloc::{AllocError, Global};
 use std::test::Fail;
 
 // Lines, with `|` between their words, and behind ` > ` what they ask for.
-const LINES: [&str; 54] = [
+const LINES: [&str; 61] = [
     // What isn't named is usual.
     "varan|run|--script|s|v > run s - 256 1048576 10000000 65536 8 text|v",
     // A row splits its words at blanks.
@@ -61,6 +61,14 @@ const LINES: [&str; 54] = [
     "varan|inspect|--script|s|t|v|--length|4096|--stamp|2|--dump|0 > inspect s - t v 1048576 10000000 1 stamp 2 0+4096",
     "varan|inspect|--script|s|t|v|--length|4096|--stamp|2|--dump|4294963199 > inspect s - t v 1048576 10000000 1 stamp 2 4294963199+4096",
     "varan|inspect|--script|s|t|v|--length|1|--stamp|2|--dump|4294967294 > inspect s - t v 1048576 10000000 1 stamp 2 4294967294+1",
+    // A transcript in the place of the script, and never beside it.
+    "varan|run|--transcript|s|v > run transcript s - 256 1048576 10000000 65536 8 text|v",
+    "varan|record|--transcript=s|v > record transcript s - 256 1048576 10000000 65536 8 text|v",
+    "varan|replay|--transcript|s|t|v > replay transcript s - t v 1048576 10000000 1",
+    "varan|inspect|t|v|--stamp|0|--transcript|s > inspect transcript s - t v 1048576 10000000 1 stamp 0 -",
+    "varan|run|--script|s|--transcript|s|v > refused",
+    "varan|replay|--transcript|s|--script|s|t|v > refused",
+    "varan|serve|--transcript|s|v > refused",
     // As above with all that a run may name, as JSON.
     "varan|run|--json|--script|s|--rules|r|--ring|4|--memory|135168|--budget|5|--calls|6|--threads|7|a|b > run s r 4 135168 5 6 7 JSON|a|b",
 ];
@@ -92,12 +100,22 @@ fn tell_limits(alloc: Global, limits: &Limits) -> Result<String, AllocError> {
     format!(in alloc; "{ring} {memory} {budget}{anew} {calls} {threads}")
 }
 
+// A transcript's name is told behind a sign of its own.
+fn tell_script(script: ScriptFile<'_>) -> &'static str {
+    if script.is_transcript {
+        "transcript "
+    } else {
+        ""
+    }
+}
+
 fn tell_run(alloc: Global, run: &Run<'_>) -> Result<String, AllocError> {
     let limits = tell_limits(alloc, &run.limits)?;
     let form = if run.json { "JSON" } else { "text" };
     let text = format!(in alloc;
-        "{} {} {limits} {form}",
-        run.script,
+        "{}{} {} {limits} {form}",
+        tell_script(run.script),
+        run.script.name,
         run.rules.unwrap_or("-")
     )?;
     with_versions(text, &run.versions)
@@ -124,8 +142,11 @@ fn with_versions(mut text: String, versions: &[&str]) -> Result<String, AllocErr
 fn tell_trail(alloc: Global, trail: &Trail<'_>) -> Result<String, AllocError> {
     let rules = trail.rules.unwrap_or("-");
     let files = format!(in alloc;
-        "{} {rules} {} {}",
-        trail.script, trail.trace, trail.version
+        "{}{} {rules} {} {}",
+        tell_script(trail.script),
+        trail.script.name,
+        trail.trace,
+        trail.version
     )?;
     let anew = tell_renews(trail.renews);
     format!(in alloc;

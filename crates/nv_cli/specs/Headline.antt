@@ -87,13 +87,13 @@ use Rattle.nv_script.specs.HandLines.{hand_line}
 use Rattle.nv_script.specs.Scripts.{Named, Incoming, Setup, Draft, blank, has_name, with_argument, with_input, with_named_file, with_clock, with_seed, has_hand, with_hand, with_connection, with_came, with_arrival, with_entry, with_result, with_script_line, onward as nv_script_onward, drafted, no_clock, setup_with, finished, finished_result, no_form, script_in, script_of_lines, script_of}
 use Rattle.nv_script.specs.Texts.{cause_word, script_fault_text}
 use Rattle.nv_live.specs.Clients.{clients_text}
-use Rattle.nv_live.specs.ComingLines.{is_plain as nv_live_is_plain, is_comment, is_hand as nv_live_is_hand, is_passed, says, text_of, Say, Come}
+use Rattle.nv_live.specs.ComingLines.{is_plain as nv_live_is_plain, is_comment, is_hand as nv_live_is_hand, is_passed, says, text_of, Say, IsWhole, is_beyond, cause_next, cause_by, IsRefused, StopsAt, Come}
 use Rattle.nv_live.specs.Lines.{parts_after, parts, line_with as nv_live_line_with, lines_with, held_text}
 use Rattle.nv_live.specs.Live.{stop_with, plain_bytes, plain_text}
 use Rattle.nv_live.specs.Run.{CameBy, said_text}
 use Rattle.nv_live.specs.SaidLines.{head_of, said_lines}
 use Rattle.nv_live.specs.Source.{Gave, Reads, faults_by_read}
-use Rattle.nv_live.specs.Taking.{faults_by_stop, Took}
+use Rattle.nv_live.specs.Taking.{faults_by_stop, is_plain_stop, Took}
 use Rattle.nv_live.specs.Transcript.{hand_text, note_of, notes_on}
 use Rattle.nv_kernel.specs.Crew.{Crew, first_crew, may_clone, clone_as, clone_of, exit_of, with_none_live}
 use Rattle.nv_kernel.specs.Serving.{State, Served, replied, always, of_files, of_crew, counted, request_arg, second, time_bytes, time_of, reached, next_random, high_byte, randoms, random_after, randomly, control, unless_many, clock, answered, unless_bad as nv_kernel_unless_bad, serve, named_inode, first_state as nv_kernel_first_state}
@@ -151,17 +151,17 @@ use Rattle.nv_trace.specs.Trace.{number_bytes, bit, arg, fields_of, event_bytes,
 use Rattle.nv_inspect.specs.Firsts.{texts_below}
 use Rattle.nv_inspect.specs.Points.{place_of, events_to, budget_to, renews_to, at_point}
 use Rattle.nv_inspect.specs.Shown.{word_text, standing_text, place_text, heading_text, register_text, registers_text, counter_text, thread_text, live_text, threads_text, opened_text, named_text, descriptor_as, descriptor_text, descriptors_text, cell_text, byte_text, row_text, memory_line, dump_text, show_text}
-use Rattle.nv_command.specs.Help.{usage_line, script_help, start_help, rules_help, ring_help, memory_help, budget_help, no_budget_help, hang_help, usual_hang_help, calls_help, many_calls_help, threads_help, json_help, clients_help, log_help, index_help, stamp_help, call_help, count_help, dump_help, length_help, asm_help, option_lines, example_line, more_help, help_lines, help_of}
-use Rattle.nv_command.specs.Simple.{option_rule, flag_rule, file_rule, files_rule, word_rule, required, simple_app, run_options, run_app, record_app, serve_app, trail_options, look_options, trail_files, replay_app, inspect_app, rules_app, asm_app, gen_app, help_app}
-use Rattle.nv_command.specs.Words.{texts, unless_faulty, rows_of_line, number_between, number_within, in_pages, Limits, usual, service_usual, ring_of, memory_of, Allowance, allowed, allowance_from, allowance_of, calls_asked, threads_asked, limits_of, versions_asked, is_set, Parts as nv_command_Parts, parts_of, Plan, plan_of, report_plan_of, Service, service_of, index_of, Trail, trail_of, Point, point_from, point_of, range_of, dump_from, dump_of, Look, look_of, Job, rules_job_of, asm_job_of, number_in, Name, name_spelt, topic_from, topic_of, Command, run_line, serve_line, rules_line, asm_line, gen_line, record_line, replay_line, inspect_line, help_line, asked_by, command_name, after_program, command_of}
+use Rattle.nv_command.specs.Help.{usage_line, script_help, transcript_help, start_help, rules_help, ring_help, memory_help, budget_help, no_budget_help, hang_help, usual_hang_help, calls_help, many_calls_help, threads_help, json_help, clients_help, log_help, index_help, stamp_help, call_help, count_help, dump_help, length_help, asm_help, option_lines, example_line, more_help, help_lines, help_of}
+use Rattle.nv_command.specs.Simple.{option_rule, flag_rule, file_rule, files_rule, word_rule, simple_app, run_options, run_app, record_app, serve_app, trail_options, look_options, trail_files, replay_app, inspect_app, rules_app, asm_app, gen_app, help_app}
+use Rattle.nv_command.specs.Words.{texts, unless_faulty, rows_of_line, number_between, number_within, in_pages, Limits, usual, service_usual, ring_of, memory_of, Allowance, allowed, allowance_from, allowance_of, calls_asked, threads_asked, limits_of, versions_asked, is_set, Parts as nv_command_Parts, parts_of, ScriptFile, script_from, script_asked, Plan, plan_of, report_plan_of, Service, service_of, index_of, Trail, trail_of, Point, point_from, point_of, range_of, dump_from, dump_of, Look, look_of, Job, rules_job_of, asm_job_of, number_in, Name, name_spelt, topic_from, topic_of, Command, run_line, serve_line, rules_line, asm_line, gen_line, record_line, replay_line, inspect_line, help_line, asked_by, command_name, after_program, command_of}
 use Rattle.nv_driver.specs.Account.{process_begun, IsRunOf, run_status}
 use Rattle.nv_driver.specs.Causes.{cause_text}
-use Rattle.nv_driver.specs.Due.{RunComesTo, made_outcome, RunOwes, JobOwes, GenOwes, lack_outcome, traced_outcome, TrailOwes, replayed, files_after, shown_of, shown, RecordComesTo, RecordOwes, ServeComesTo, ServeOwes, Owes, OwesAny, IsDue, IsUntouched, Shows, Says, Answers, ServedOver, Over, AnswersOver, IsReady, IsMade, IsTraced, IsAccepted, IsRefusedAt, IsRefusedFor, IsRefusedOn, IsRefused, IsReport, IsDone, Completes, Rejects}
-use Rattle.nv_driver.specs.Found.{FILE_LIMIT, TRACE_LIMIT, is_longer, TookMore, TookLong, Found, IsReadWithin, IsLongerThan, AgreesWithin, Agrees, AllAgree, AgreesIf, Finds, AreFound, found_whole, found_within, found_of, finds_of}
+use Rattle.nv_driver.specs.Due.{RunComesTo, made_outcome, RunOwes, JobOwes, GenOwes, lack_outcome, traced_outcome, TrailOwes, replayed, files_after, shown_of, shown, RecordComesTo, RecordOwes, ServeComesTo, ServeOwes, Owes, OwesAny, IsDue, IsUntouched, Shows, Says, Answers, ServedOver, Over, AnswersOver, IsReady, IsMade, IsTraced, IsAccepted, IsRefusedAt, IsRefusedFor, IsRefusedOn, IsRefused as nv_driver_IsRefused, IsReport, IsDone, Completes, Rejects}
+use Rattle.nv_driver.specs.Found.{FILE_LIMIT, TRACE_LIMIT, TRANSCRIPT_LIMIT, script_limit, is_longer, TookMore, Found, IsReadWithin, IsLongerThan, AgreesWithin, Agrees, ScriptAgrees, AllAgree, AgreesIf, Finds, AreFound, found_whole, found_within, found_of, script_found, finds_of}
 use Rattle.nv_driver.specs.Generated.{IsMadeRun}
 use Rattle.nv_driver.specs.Live.{bare_text, after_first_line, whole_lines, transcript_head, unless_comes, without_arrivals, as_begun, live_script, after_live_script, live_prepared, AgreesOrBare, AreLiveFound, found_or_bare, live_finds_of, with_arrivals, with_hands, Streams, ended_by_writes, ending_of, Lived}
 use Rattle.nv_driver.specs.Made.{accepted_text, accepted_filter, of_rules, of_program, used, unless_refused, made_of}
-use Rattle.nv_driver.specs.Outcome.{Outcome, account_text, totals_of, ending_status, text_of as nv_driver_text_of, outcome_status, ended_with, name_at, name_in as nv_driver_name_in, name_on, Source, source_of}
+use Rattle.nv_driver.specs.Outcome.{Outcome, account_text, totals_of, ending_status, refused_text, text_of as nv_driver_text_of, outcome_status, ended_with, name_at, limit_at, name_in as nv_driver_name_in, name_on, limit_on, Source, source_of}
 use Rattle.nv_driver.specs.Prepared.{VersionOf, of_loaded, of_elf, version_from, Prepared, read_at, with_first_machine, version_then, versions_from, judged_by, rules_then, after_rules, after_script, prepared}
 use Rattle.nv_driver.specs.Replayed.{counts_text, replay_text, replay_status}
 use Rattle.nv_driver.specs.Tasks.{fault_outcome}

@@ -17,7 +17,10 @@ usage_line NamesHelp = codes "varan usage [COMMAND]\n"
 
 -- the line of each option
 abbrev pub script_help : Text
-script_help = codes "  --script S      the script; it must be given\n"
+script_help = codes "  --script S      the script; it must be given, or --transcript\n"
+
+abbrev pub transcript_help : Text
+transcript_help = codes "  --transcript T  in place of --script: up to 1073741824 bytes, where a script has 4194304\n"
 
 abbrev pub start_help : Text
 start_help = codes "  --script S      the script; default none\n"
@@ -84,12 +87,12 @@ asm_help = codes "  --asm           a rule text is assembled\n"
 
 -- those of a command
 abbrev pub option_lines : Name → List Text
-option_lines NamesRun = script_help ∷ rules_help ∷ ring_help ∷ memory_help ∷ budget_help ∷ hang_help ∷ calls_help ∷ threads_help ∷ json_help ∷ []
+option_lines NamesRun = script_help ∷ transcript_help ∷ rules_help ∷ ring_help ∷ memory_help ∷ budget_help ∷ hang_help ∷ calls_help ∷ threads_help ∷ json_help ∷ []
 option_lines NamesServe =
     start_help ∷ rules_help ∷ ring_help ∷ memory_help ∷ usual_hang_help ∷ no_budget_help ∷ many_calls_help ∷ threads_help ∷ clients_help ∷ log_help ∷ []
-option_lines NamesRecord = script_help ∷ rules_help ∷ ring_help ∷ memory_help ∷ budget_help ∷ hang_help ∷ calls_help ∷ threads_help ∷ []
-option_lines NamesReplay = script_help ∷ rules_help ∷ memory_help ∷ budget_help ∷ hang_help ∷ index_help ∷ []
-option_lines NamesInspect = script_help ∷ rules_help ∷ memory_help ∷ budget_help ∷ hang_help ∷ index_help ∷ stamp_help ∷ call_help ∷ count_help ∷ dump_help ∷ length_help ∷ []
+option_lines NamesRecord = script_help ∷ transcript_help ∷ rules_help ∷ ring_help ∷ memory_help ∷ budget_help ∷ hang_help ∷ calls_help ∷ threads_help ∷ []
+option_lines NamesReplay = script_help ∷ transcript_help ∷ rules_help ∷ memory_help ∷ budget_help ∷ hang_help ∷ index_help ∷ []
+option_lines NamesInspect = script_help ∷ transcript_help ∷ rules_help ∷ memory_help ∷ budget_help ∷ hang_help ∷ index_help ∷ stamp_help ∷ call_help ∷ count_help ∷ dump_help ∷ length_help ∷ []
 option_lines NamesAsm = []
 option_lines NamesRules = asm_help ∷ []
 option_lines NamesGen = []

@@ -2,10 +2,11 @@
 use Rattle.std.specs.Prelude.{◌≡◌, List, Option, None, map, option_map, IsSome}
 use Rattle.std.specs.Borrow.{Bor}
 use Rattle.clap.specs.Walk.{Text}
-use Rattle.nv_command.specs.Words.{Limits, Allowance, Parts as LineParts, Plan, Service as LineService, Job as FileJob, Trail as TraceTrail, Point as TracePoint, AtStamp, AtCall, AtCount, Look as TraceLook, Command as Line, Runs, Serves, Uses, Generates, Records, Replays, Inspects, Helps, command_of, command_name}
+use Rattle.nv_command.specs.Words.{Limits, Allowance, ScriptFile as LineScript, Parts as LineParts, Plan, Service as LineService, Job as FileJob, Trail as TraceTrail, Point as TracePoint, AtStamp, AtCall, AtCount, Look as TraceLook, Command as Line, Runs, Serves, Uses, Generates, Records, Replays, Inspects, Helps, command_of, command_name}
 use Rattle.nv_command.specs.Tables.{name_view}
 use Rattle.nv_command.specs.declared.limits.Limits.{Limits as Held}
 use Rattle.nv_command.specs.declared.limits.Allowance.{Allowance as HeldAllowance}
+use Rattle.nv_command.specs.declared.asked.ScriptFile.{ScriptFile}
 use Rattle.nv_command.specs.declared.asked.Run.{Run}
 use Rattle.nv_command.specs.declared.asked.Service.{Service}
 use Rattle.nv_command.specs.declared.parts.Parts.{Parts}
@@ -33,8 +34,11 @@ names_view names = map (λ name. name.now) names
 abbrev pub rules_view : Option (Bor Text) → Option Text
 rules_view rules = option_map (λ name. name.now) rules
 
+abbrev pub script_view : ScriptFile → LineScript
+script_view script = record { name = script.name.now; transcript = script.is_transcript }
+
 abbrev pub plan_view : Run → Plan
-plan_view run = record { script = run.script.now; rules = rules_view run.rules; versions = names_view run.versions.items; limits = limits_view run.limits; json = run.json }
+plan_view run = record { script = script_view run.script; rules = rules_view run.rules; versions = names_view run.versions.items; limits = limits_view run.limits; json = run.json }
 
 abbrev pub service_view : Service → LineService
 service_view service = record {
@@ -54,7 +58,7 @@ job_view job = record { tool = job.tool; file = job.file.now }
 
 abbrev pub trail_view : Trail → TraceTrail
 trail_view trail = record {
-  script = trail.script.now;
+  script = script_view trail.script;
   rules = rules_view trail.rules;
   trace = trail.trace.now;
   version = trail.version.now;

@@ -24,9 +24,6 @@ files_rule name = record (new_rule name) { required = true; action = Some Append
 abbrev pub word_rule : Text → Rule
 word_rule name = new_rule name
 
-abbrev pub required : Rule → Rule
-required rule = record rule { required = true }
-
 -- a command that has these arguments, and no help of its own
 abbrev pub simple_app : Text → List Rule → App
 simple_app name rules = record { top = record (new_shape name) { rules = rules; disable_help_flag = true }; subs = [] }
@@ -44,10 +41,10 @@ run_options =
     ∷ []
 
 abbrev pub run_app : App
-run_app = simple_app (codes "run") (run_options ++ (required (option_rule (codes "script")) ∷ flag_rule (codes "json") ∷ files_rule (codes "version") ∷ []))
+run_app = simple_app (codes "run") (run_options ++ (option_rule (codes "script") ∷ option_rule (codes "transcript") ∷ flag_rule (codes "json") ∷ files_rule (codes "version") ∷ []))
 
 abbrev pub record_app : App
-record_app = simple_app (codes "record") (run_options ++ (required (option_rule (codes "script")) ∷ files_rule (codes "version") ∷ []))
+record_app = simple_app (codes "record") (run_options ++ (option_rule (codes "script") ∷ option_rule (codes "transcript") ∷ files_rule (codes "version") ∷ []))
 
 abbrev pub serve_app : App
 serve_app =
@@ -57,7 +54,8 @@ serve_app =
 -- the options of a version that follows a trace
 abbrev pub trail_options : List Rule
 trail_options =
-    required (option_rule (codes "script"))
+    option_rule (codes "script")
+    ∷ option_rule (codes "transcript")
     ∷ option_rule (codes "rules")
     ∷ option_rule (codes "memory")
     ∷ option_rule (codes "budget")

@@ -3,17 +3,16 @@ use Rattle.std.specs.Prelude.{List, ◌++◌, map, Option, option_map, false}
 use Rattle.std.specs.Borrow.{Bor}
 use Rattle.clap.specs.Walk.{Row, Rule, Text}
 use Rattle.clap.specs.Simple.{App, on_top}
-use Rattle.nv_command.specs.Simple.{option_rule, required, flag_rule, file_rule, files_rule, word_rule, simple_app, run_app, serve_app, record_app, replay_app, inspect_app, rules_app, asm_app, gen_app, help_app}
+use Rattle.nv_command.specs.Simple.{option_rule, flag_rule, file_rule, files_rule, word_rule, simple_app, run_app, serve_app, record_app, replay_app, inspect_app, rules_app, asm_app, gen_app, help_app}
 use Rattle.nv_command.specs.Words.{Name, NamesRun, NamesServe, NamesRules, NamesAsm, NamesGen, NamesRecord, NamesReplay, NamesInspect, NamesHelp, Command, Runs, Serves, Uses, Generates, Records, Replays, Inspects, Helps, plan_of, report_plan_of, service_of, rules_job_of, asm_job_of, number_in, trail_of, look_of, topic_of}
 use Rattle.nv_command.specs.declared.simple.Kind.{Kind}
-use Rattle.nv_command.specs.declared.simple.Kind.TheVariants.{Value, Needed, Flag, File, Files, Word}
+use Rattle.nv_command.specs.declared.simple.Kind.TheVariants.{Value, Flag, File, Files, Word}
 use Rattle.nv_command.specs.declared.simple.Form.{Form}
 use Rattle.nv_command.specs.declared.names.Name.{Name as Named}
 use Rattle.nv_command.specs.declared.names.Name.TheVariants as name
 
 abbrev pub rule_by : Kind → Text → Rule
 rule_by Value name = option_rule name
-rule_by Needed name = required (option_rule name)
 rule_by Flag name = flag_rule name
 rule_by File name = file_rule name
 rule_by Files name = files_rule name

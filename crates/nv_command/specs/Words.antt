@@ -112,9 +112,23 @@ parts_of defaults rows =
     option_and_then (λ versions. option_map (λ limits. record { rules = first_of (codes "rules") rows; versions = versions; limits = limits })
     (limits_of defaults rows)) (versions_asked rows)
 
+-- the file that says what a run begins with, by its name; a transcript of a live run may be longer than a script
+pub record ScriptFile : Type 0 where
+  pub name : List ℕ
+  pub transcript : Bool
+
+-- the file of the one option that is given, of `--script` and `--transcript`
+abbrev pub script_from : Option Text → Option Text → Option ScriptFile
+script_from (Some name) None = Some (record { name = name; transcript = false })
+script_from None (Some name) = Some (record { name = name; transcript = true })
+script_from _ _ = None
+
+unfoldable pub script_asked : List Row → Option ScriptFile
+script_asked rows = script_from (first_of (codes "script") rows) (first_of (codes "transcript") rows)
+
 -- what a run is asked for
 pub record Plan : Type 0 where
-  pub script : List ℕ
+  pub script : ScriptFile
   pub rules : Option (List ℕ)
   pub versions : List (List ℕ)
   pub limits : Limits
@@ -124,7 +138,7 @@ unfoldable pub plan_of : Bool → List Row → Option Plan
 plan_of json rows =
     option_and_then (λ script. option_map (λ parts.
     record { script = script; rules = parts.rules; versions = parts.versions; limits = parts.limits; json = json })
-    (parts_of usual rows)) (first_of (codes "script") rows)
+    (parts_of usual rows)) (script_asked rows)
 
 -- the plan of a run that is reported
 abbrev pub report_plan_of : List Row → Option Plan
@@ -159,7 +173,7 @@ index_of rows = number_within 1 0 7 (first_of (codes "index") rows)
 
 -- what one version is to follow: a trace of a run under this script
 pub record Trail : Type 0 where
-  pub script : List ℕ
+  pub script : ScriptFile
   pub rules : Option (List ℕ)
   pub trace : List ℕ
   pub version : List ℕ
@@ -174,7 +188,7 @@ trail_of rows =
     option_and_then (λ memory. option_and_then (λ allowance. option_map (λ index.
     record { script = script; rules = first_of (codes "rules") rows; trace = trace; version = version; memory = memory; budget = allowance.budget; renews = allowance.renews; index = index })
     (index_of rows)) (allowance_of usual rows)) (memory_of usual rows))
-    (first_of (codes "version") rows)) (first_of (codes "trace") rows)) (first_of (codes "script") rows)
+    (first_of (codes "version") rows)) (first_of (codes "trace") rows)) (script_asked rows)
 
 -- a point of a trace: before the event of this place; before the first event of this number; after so many instructions of the version
 pub data Point : Type 0 where

@@ -12,10 +12,18 @@ use clap::Error;
 use clap::error::ErrorKind;
 use std::alloc::{AllocError, AllocFailed};
 
+/// The file that says what a run begins with.
+#[derive(Clone, Copy)]
+pub struct ScriptFile<'a> {
+    pub name: &'a str,
+    /// It is named as a transcript of a live run, and may be longer than a script.
+    pub is_transcript: bool,
+}
+
 /// A run of versions.
 #[derive(Drop)]
 pub struct Run<'a> {
-    pub script: &'a str,
+    pub script: ScriptFile<'a>,
     /// The file of a filter that judges followers, if one is named.
     pub rules: Option<&'a str>,
     /// One to eight names, in the order in which they were given.
@@ -66,7 +74,7 @@ pub struct Job<'a> {
 #[derive(Clone, Copy)]
 pub struct Trail<'a> {
     /// The script of the run that was recorded.
-    pub script: &'a str,
+    pub script: ScriptFile<'a>,
     /// The file of a filter that judges the version, if one is named.
     pub rules: Option<&'a str>,
     pub trace: &'a str,

@@ -24,7 +24,10 @@ const GEN_USAGE: &[u8] = b"varan gen N\n";
 
 const HELP_USAGE: &[u8] = b"varan usage [COMMAND]\n";
 
-const SCRIPT: &[u8] = b"  --script S      the script; it must be given\n";
+const SCRIPT: &[u8] = b"  --script S      the script; it must be given, or --transcript\n";
+
+const TRANSCRIPT: &[u8] =
+    b"  --transcript T  in place of --script: up to 1073741824 bytes, where a script has 4194304\n";
 
 const START: &[u8] = b"  --script S      the script; default none\n";
 
@@ -78,9 +81,10 @@ const LENGTH: &[u8] = b"  --length BYTES  how many bytes --dump shows: 1 to 4096
 
 const ASM: &[u8] = b"  --asm           a rule text is assembled\n";
 
-const RUN_HELP: [&[u8]; 11] = [
+const RUN_HELP: [&[u8]; 12] = [
     RUN_USAGE,
     SCRIPT,
+    TRANSCRIPT,
     RULES,
     RING,
     MEMORY,
@@ -107,9 +111,10 @@ const SERVE_HELP: [&[u8]; 12] = [
     b"example: varan serve --clients update old\n",
 ];
 
-const RECORD_HELP: [&[u8]; 10] = [
+const RECORD_HELP: [&[u8]; 11] = [
     RECORD_USAGE,
     SCRIPT,
+    TRANSCRIPT,
     RULES,
     RING,
     MEMORY,
@@ -120,9 +125,10 @@ const RECORD_HELP: [&[u8]; 10] = [
     b"example: varan record --script clients old > trace\n",
 ];
 
-const REPLAY_HELP: [&[u8]; 8] = [
+const REPLAY_HELP: [&[u8]; 9] = [
     REPLAY_USAGE,
     SCRIPT,
+    TRANSCRIPT,
     RULES,
     MEMORY,
     BUDGET,
@@ -131,9 +137,10 @@ const REPLAY_HELP: [&[u8]; 8] = [
     b"example: varan replay --script clients trace patch\n",
 ];
 
-const INSPECT_HELP: [&[u8]; 13] = [
+const INSPECT_HELP: [&[u8]; 14] = [
     INSPECT_USAGE,
     SCRIPT,
+    TRANSCRIPT,
     RULES,
     MEMORY,
     BUDGET,

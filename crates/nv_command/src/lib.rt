@@ -1,5 +1,5 @@
 //! The words of a command line: what they ask for, or that they are refused; `clap` reads the words of each command.
-//! Types: `Command`, and its parts `Run`, `Service`, `Job`, `Tool`, `Trail`, `Look`, `Point`, `Limits`; `Name`; `LineFault`.
+//! Types: `Command`, and its parts `Run`, `ScriptFile`, `Service`, `Job`, `Tool`, `Trail`, `Look`, `Point`, `Limits`; `Name`; `LineFault`.
 //! Proved: `read` gives the command that the words ask for, or that they are refused, as specs/Words defines; memory is
 //! wanted only after a command's name. `help_text` gives what `usage` writes, as specs/Help has it.
 //! Above: the commands.
@@ -14,10 +14,11 @@ mod names;
 mod numbers;
 mod parts;
 mod reading;
+mod scripts;
 mod simple;
 mod trails;
 
-pub use asked::{Command, Job, LineFault, Look, Point, Run, Service, Tool, Trail};
+pub use asked::{Command, Job, LineFault, Look, Point, Run, ScriptFile, Service, Tool, Trail};
 pub use help::help_text;
 pub use limits::Limits;
 pub use names::Name;

@@ -27,8 +27,9 @@ const RUN_OPTIONS: [(&str, Kind); 7] = [
 ];
 
 // The options of a version that follows a trace.
-const TRAIL_OPTIONS: [(&str, Kind); 6] = [
-    ("script", Kind::Needed),
+const TRAIL_OPTIONS: [(&str, Kind); 7] = [
+    ("script", Kind::Value),
+    ("transcript", Kind::Value),
     ("rules", Kind::Value),
     ("memory", Kind::Value),
     ("budget", Kind::Value),
@@ -40,7 +41,8 @@ const RUN: Form = Form {
     name: "run",
     options: &RUN_OPTIONS,
     rest: &[
-        ("script", Kind::Needed),
+        ("script", Kind::Value),
+        ("transcript", Kind::Value),
         ("json", Kind::Flag),
         ("version", Kind::Files),
     ],
@@ -78,7 +80,11 @@ const GEN: Form = Form {
 const RECORD: Form = Form {
     name: "record",
     options: &RUN_OPTIONS,
-    rest: &[("script", Kind::Needed), ("version", Kind::Files)],
+    rest: &[
+        ("script", Kind::Value),
+        ("transcript", Kind::Value),
+        ("version", Kind::Files),
+    ],
 };
 
 const REPLAY: Form = Form {

@@ -13,6 +13,7 @@ use crate::matching::{is_set, matched, text, values};
 use crate::names::Name;
 use crate::numbers::{limits, number_between};
 use crate::parts::Parts;
+use crate::scripts::script;
 use crate::trails::trail;
 use clap::ArgMatches;
 use std::alloc::{AllocError, Global};
@@ -58,7 +59,7 @@ fn planned<'a>(alloc: Global, matches: &ArgMatches<'a>, json: bool) -> Result<Ru
     ensures plan { IfOk result (λ plan. plan_of json (rows_of (found_of matches.now)) ≡ Some (plan_view plan)) }
     ensures refused { IfErr result (λ fault. fault ≡ LineFault.Usage → plan_of json (rows_of (found_of matches.now)) ≡ None) }
 {
-    let script = text(matches, "script").ok_or(LineFault::Usage)?;
+    let script = script(matches).ok_or(LineFault::Usage)?;
     let parts = parts_of(Limits::usual(), matches).ok_or(LineFault::Usage)?;
     let versions = parts.names.to_vec(alloc)?;
     Ok(Run {

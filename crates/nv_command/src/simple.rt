@@ -2,7 +2,7 @@
 ghost use Rattle.std.specs.Prelude.{◌≡◌, [], false, IfOk};
 ghost use Rattle.clap.specs.Walk.{rule_of};
 ghost use Rattle.clap.specs.Simple.{app_of, with_rule};
-ghost use Rattle.nv_command.specs.Simple.{option_rule, flag_rule, file_rule, files_rule, word_rule, required, simple_app};
+ghost use Rattle.nv_command.specs.Simple.{option_rule, flag_rule, file_rule, files_rule, word_rule, simple_app};
 ghost use Rattle.nv_command.specs.Tables.{rule_by, rules_by, app_by, with_rules};
 
 use clap::{Arg, ArgAction, Command};
@@ -13,8 +13,6 @@ use std::alloc::{AllocError, Global};
 pub enum Kind {
     /// `--name VALUE` or `--name=VALUE`, at most once.
     Value,
-    /// The same, exactly once.
-    Needed,
     /// `--name`, at most once.
     Flag,
     /// One word that is neither an option nor its value.
@@ -70,20 +68,12 @@ fn word<'a>(alloc: Global, name: &'a str) -> Arg<'a>
     Arg::new(alloc, name)
 }
 
-fn needed<'a>(alloc: Global, name: &'a str) -> Arg<'a>
-    ensures rule { rule_of result ≡ required (option_rule name.entry.now) }
-    ensures local { result.global ≡ false }
-{
-    option(alloc, name).required(true)
-}
-
 fn argument<'a>(alloc: Global, name: &'a str, kind: Kind) -> Arg<'a>
     ensures rule { rule_of result ≡ rule_by kind name.entry.now }
     ensures local { result.global ≡ false }
 {
     match kind {
         Kind::Value => option(alloc, name),
-        Kind::Needed => needed(alloc, name),
         Kind::Flag => flag(alloc, name),
         Kind::File => file(alloc, name),
         Kind::Files => files(alloc, name),

@@ -9,6 +9,7 @@ use crate::asked::Trail;
 use crate::limits::Limits;
 use crate::matching::text;
 use crate::numbers::{index, instructions, memory};
+use crate::scripts::script;
 use clap::ArgMatches;
 
 /// The version, its trace and its limits.
@@ -16,7 +17,7 @@ use clap::ArgMatches;
 pub fn trail<'a>(matches: &ArgMatches<'a>) -> Option<Trail<'a>>
     ensures { option_map trail_view result ≡ trail_of (rows_of (found_of matches.now)) }
 {
-    let script = text(matches, "script")?;
+    let script = script(matches)?;
     let rules = text(matches, "rules");
     let trace = text(matches, "trace")?;
     let version = text(matches, "version")?;

@@ -14,19 +14,17 @@ use Rattle.nv_driver.specs.Prepared as prep
 use Rattle.nv_script.specs.Scripts.{Setup}
 use Rattle.nv_bpf.specs.declared.op.Op.{Op}
 use Rattle.nv_machine.specs.Guest.{Machine}
-use Rattle.nv_driver.specs.Outcome.{Source, Outcome, Usage, NoMemory, NotRead, NotAccepted, Reported, Recorded, TraceTooLong, Served, outcome_of, live_outcome_of, name_at, name_in, name_on, text_of, outcome_status}
-use Rattle.nv_driver.specs.Found.{TookLong, TookMore}
+use Rattle.nv_driver.specs.Outcome.{Source, Outcome, Usage, NoMemory, NotRead, NotAccepted, Reported, Recorded, Served, outcome_of, live_outcome_of, name_at, limit_at, name_in, name_on, limit_on, refused_text, text_of, outcome_status}
+use Rattle.nv_driver.specs.Found.{FILE_LIMIT, TookLong, TookMore}
 use Rattle.nv_driver.specs.Due.{RunComesTo, RecordComesTo, ServeComesTo, ServeOwes, JobOwes, GenOwes, TrailOwes, traced_outcome, lack_outcome, Owes, OwesAny, IsDue, Shows, IsUntouched, Says, Answers, ServedOver, Over, AnswersOver}
 use Rattle.nv_driver.specs.Ran.{Wrote, Tells}
 use Rattle.nv_driver.specs.inner.Ran.{Ran, RunSays, RanRecorded, RecordSays}
 use Rattle.nv_driver.specs.declared.refusal.Cause.{Cause}
 use Rattle.nv_driver.specs.declared.refusal.Cause.TheVariants.{Long}
-use Rattle.nv_driver.specs.declared.refusal.Cause.TheVariants as causes
 use Rattle.nv_driver.specs.declared.refusal.Place.{Place}
-use Rattle.nv_driver.specs.declared.refusal.Place.TheVariants.{Script, Rules, Trace, Version}
 use Rattle.nv_driver.specs.Traced.{Traced}
 use Rattle.nv_driver.specs.Traced as lack
-use Rattle.nv_driver.specs.inner.Trails.{limit_of, TrailRefused, refused_outcome}
+use Rattle.nv_driver.specs.inner.Trails.{TrailRefused, refused_outcome}
 use Rattle.nv_driver.specs.declared.refusal.Refusal.{Refusal}
 use Rattle.nv_driver.specs.declared.refusal.Refusal.TheVariants.{Memory, Unreadable as Unread, Input}
 use Rattle.nv_command.specs.Words.{Name, Plan, Service, Job, Trail, Command, Runs, Serves, Uses, Generates, Records, Replays, Inspects, Helps, asked_by, after_program, command_of, command_name}
@@ -70,12 +68,12 @@ run_due words holds plan whole outcome asked files comes = is_due words holds (R
 })
 
 -- Something is due of words that name a command. It is answered as it is due, or memory is wanted for its text.
-module _ (words : List (List ℕ)) (source : Source) (command : Command) (asked : command_of words ≡ Some command) (name : List ℕ) (cause : Cause)
-    (due : IsDue words source.holds (NotAccepted name cause)) (kept : source.later_faults ≡ source.faults) (long : cause ≡ Long → TookLong source.taken source.later_taken)
+module _ (words : List (List ℕ)) (source : Source) (command : Command) (asked : command_of words ≡ Some command) (limit : ℕ) (name : List ℕ) (cause : Cause)
+    (due : IsDue words source.holds (NotAccepted limit name cause)) (kept : source.later_faults ≡ source.faults) (long : cause ≡ Long → TookMore limit source.taken source.later_taken)
     (before : Option (List ℕ)) (faults status : ℕ) (after : Option (List ℕ)) (later : ℕ) where
-  refused : Says (text_of (NotAccepted name cause)) 4 before faults status after later → Answers words source before faults status after later
+  refused : Says (refused_text name cause) 4 before faults status after later → Answers words source before faults status after later
   refused says = record {
-    outcome = NotAccepted name cause;
+    outcome = NotAccepted limit name cause;
     due = due;
     shown = (kept, long);
     unread = asked_unread words source command asked;
@@ -91,13 +89,13 @@ module _ (words : List (List ℕ)) (source : Source) (command : Command) (asked 
     says = says;
   }
 
-  refused_answers : Wrote (text_of (NotAccepted name cause)) 4 before faults status after later → Answers words source before faults status after later
+  refused_answers : Wrote (refused_text name cause) 4 before faults status after later → Answers words source before faults status after later
   refused_answers = ⊎_elim refused wanted
 
 -- a command over the files of a run answers their refusal, where it owes that
 module _ (words : List (List ℕ)) (source : Source) (plan : Plan) (command : Command) (asked : command_of words ≡ Some command)
     (unread : (place : Place) → ComesTo plan source.holds (prep.Unreadable place) → Owes command source.holds (NotRead (name_at place plan)))
-    (unfit : (place : Place) (cause : Cause) → ComesTo plan source.holds (prep.Refused place cause) → Owes command source.holds (NotAccepted (name_at place plan) cause)) where
+    (unfit : (place : Place) (cause : Cause) → ComesTo plan source.holds (prep.Refused place cause) → Owes command source.holds (NotAccepted (limit_at place plan) (name_at place plan) cause)) where
   stopped_answers : (refusal : Refusal) → Refuses refusal source.holds plan source.faults source.later_faults source.taken source.later_taken
       → (before : Option (List ℕ)) (faults status : ℕ) (after : Option (List ℕ)) (later : ℕ) → Tells (outcome_of refusal plan) before faults status after later
       → Answers words source before faults status after later
@@ -116,8 +114,8 @@ module _ (words : List (List ℕ)) (source : Source) (plan : Plan) (command : Co
     says = says;
   }
   stopped_answers (Input place cause) h before faults status after later says =
-      refused_answers words source command asked (name_at place plan) cause
-      (is_due words source.holds command (NotAccepted (name_at place plan) cause) asked (unfit place cause h.0)) h.1 h.2 before faults status after later says
+      refused_answers words source command asked (limit_at place plan) (name_at place plan) cause
+      (is_due words source.holds command (NotAccepted (limit_at place plan) (name_at place plan) cause) asked (unfit place cause h.0)) h.1 h.2 before faults status after later says
 
 -- a run that doesn't start answers its refusal
 pub refusal_answers : (refusal : Refusal) (words : List (List ℕ)) (source : Source) (plan : Plan) → command_of words ≡ Some (Runs plan)
@@ -127,7 +125,7 @@ pub refusal_answers : (refusal : Refusal) (words : List (List ℕ)) (source : So
 refusal_answers refusal words source plan asked =
     stopped_answers words source plan (Runs plan) asked
     (λ place files. record { finds = files.finds; agree = files.agree; comes = subst (λ (p : Prepared). RunComesTo plan p (NotRead (name_at place plan))) (sym files.is) refl })
-    (λ place cause files. record { finds = files.finds; agree = files.agree; comes = subst (λ (p : Prepared). RunComesTo plan p (NotAccepted (name_at place plan) cause)) (sym files.is) refl })
+    (λ place cause files. record { finds = files.finds; agree = files.agree; comes = subst (λ (p : Prepared). RunComesTo plan p (NotAccepted (limit_at place plan) (name_at place plan) cause)) (sym files.is) refl })
     refusal
 
 -- so does one that is recorded
@@ -138,16 +136,16 @@ pub record_refusal_answers : (refusal : Refusal) (words : List (List ℕ)) (sour
 record_refusal_answers refusal words source plan asked =
     stopped_answers words source plan (Records plan) asked
     (λ place files. record { finds = files.finds; agree = files.agree; comes = subst (λ (p : Prepared). RecordComesTo plan p (NotRead (name_at place plan))) (sym files.is) refl })
-    (λ place cause files. record { finds = files.finds; agree = files.agree; comes = subst (λ (p : Prepared). RecordComesTo plan p (NotAccepted (name_at place plan) cause)) (sym files.is) refl })
+    (λ place cause files. record { finds = files.finds; agree = files.agree; comes = subst (λ (p : Prepared). RecordComesTo plan p (NotAccepted (limit_at place plan) (name_at place plan) cause)) (sym files.is) refl })
     refusal
 
 -- a command over one file answers that the file is refused
 pub job_refused : (words : List (List ℕ)) (source : Source) (job : Job) (cause : Cause) → command_of words ≡ Some (Uses job)
-    → JobOwes job source.holds (NotAccepted job.file cause) → source.later_faults ≡ source.faults → (cause ≡ Long → TookLong source.taken source.later_taken)
-    → (before : Option (List ℕ)) (faults status : ℕ) (after : Option (List ℕ)) (later : ℕ) → Wrote (text_of (NotAccepted job.file cause)) 4 before faults status after later
+    → JobOwes job source.holds (NotAccepted FILE_LIMIT job.file cause) → source.later_faults ≡ source.faults → (cause ≡ Long → TookLong source.taken source.later_taken)
+    → (before : Option (List ℕ)) (faults status : ℕ) (after : Option (List ℕ)) (later : ℕ) → Wrote (refused_text job.file cause) 4 before faults status after later
     → Answers words source before faults status after later
 job_refused words source job cause asked owed kept long before faults status after later says =
-    refused_answers words source (Uses job) asked job.file cause (is_due words source.holds (Uses job) (NotAccepted job.file cause) asked owed) kept long
+    refused_answers words source (Uses job) asked FILE_LIMIT job.file cause (is_due words source.holds (Uses job) (NotAccepted FILE_LIMIT job.file cause) asked owed) kept long
     before faults status after later says
 
 module _ (words : List (List ℕ)) (source : Source) (plan : Plan) (asked : command_of words ≡ Some (Runs plan)) (kept : source.later_faults ≡ source.faults) (setup : Setup) (rules : Option (List Op)) (machines : List Machine)
@@ -236,12 +234,6 @@ module _ (words : List (List ℕ)) (source : Source) (plan : Plan) (asked : comm
 
 -- ---- a version that follows a trace
 
--- what is written of a refusal, by its place
-pub tells_lack : (trail : Trail) (place : Place) (cause : Cause) {before : Option (List ℕ)} {faults status : ℕ} {after : Option (List ℕ)} {later : ℕ}
-    → Wrote (text_of (NotAccepted (name_on place trail) cause)) 4 before faults status after later → Tells (lack_outcome trail (lack.Refused place cause)) before faults status after later
-tells_lack trail Trace Long h = h
-tells_lack trail place cause h = h
-
 module _ (words : List (List ℕ)) (source : Source) (command : Command) (asked : command_of words ≡ Some command)
     (before : Option (List ℕ)) (faults status : ℕ) (after : Option (List ℕ)) (later : ℕ) where
   -- an outcome that is owed and told
@@ -272,21 +264,9 @@ module _ (words : List (List ℕ)) (source : Source) (command : Command) (asked 
 
   -- a file that is refused
   lack_answers : (trail : Trail) (place : Place) (cause : Cause) → Owes command source.holds (lack_outcome trail (lack.Refused place cause)) → source.later_faults ≡ source.faults
-      → (cause ≡ Long → TookMore (limit_of place) source.taken source.later_taken) → Tells (lack_outcome trail (lack.Refused place cause)) before faults status after later
+      → (cause ≡ Long → TookMore (limit_on place trail) source.taken source.later_taken) → Tells (lack_outcome trail (lack.Refused place cause)) before faults status after later
       → Answers words source before faults status after later
-  lack_answers trail Trace Long owed kept long says = wrote_answers (TraceTooLong trail.trace) owed (kept, long refl) kept says
-  lack_answers trail Trace causes.Comes owed kept long says = wrote_answers _ owed (kept, λ e. cc) kept says
-  lack_answers trail Trace (causes.Script fault) owed kept long says = wrote_answers _ owed (kept, λ e. cc) kept says
-  lack_answers trail Trace (causes.Elf fault) owed kept long says = wrote_answers _ owed (kept, λ e. cc) kept says
-  lack_answers trail Trace (causes.Guest fault) owed kept long says = wrote_answers _ owed (kept, λ e. cc) kept says
-  lack_answers trail Trace (causes.Filter fault) owed kept long says = wrote_answers _ owed (kept, λ e. cc) kept says
-  lack_answers trail Trace (causes.Rules fault) owed kept long says = wrote_answers _ owed (kept, λ e. cc) kept says
-  lack_answers trail Trace (causes.Asm fault) owed kept long says = wrote_answers _ owed (kept, λ e. cc) kept says
-  lack_answers trail Trace (causes.Trace fault) owed kept long says = wrote_answers _ owed (kept, λ e. cc) kept says
-  lack_answers trail Trace (causes.Check fault) owed kept long says = wrote_answers _ owed (kept, λ e. cc) kept says
-  lack_answers trail Script cause owed kept long says = wrote_answers (NotAccepted trail.script cause) owed (kept, long) kept says
-  lack_answers trail Rules cause owed kept long says = wrote_answers (NotAccepted (name_on Rules trail) cause) owed (kept, long) kept says
-  lack_answers trail (Version i) cause owed kept long says = wrote_answers (NotAccepted trail.version cause) owed (kept, long) kept says
+  lack_answers trail place cause owed kept long says = wrote_answers (NotAccepted (limit_on place trail) (name_on place trail) cause) owed (kept, long) kept says
 
   -- files that give nothing have it answered
   pub trail_refusal_answers : (refusal : Refusal) (trail : Trail) (made : Traced → Outcome) → ((outcome : Outcome) → TrailOwes trail made source.holds outcome → Owes command source.holds outcome)
@@ -350,9 +330,9 @@ module _ (words : List (List ℕ)) (source : Source) (service : Service) (asked 
         → AnswersOver words source streams before faults status after later (Some (streams, Finished))
     unread_over name owed shown says = over_nothing (told_answers words source (Serves service) asked before faults status after later (NotRead name) owed shown says) refl
 
-    unfit_over : (name : List ℕ) (cause : Cause) → Owes (Serves service) source.holds (NotAccepted name cause) → Shows (NotAccepted name cause) source
-        → Says (text_of (NotAccepted name cause)) 4 before faults status after later → AnswersOver words source streams before faults status after later (Some (streams, Finished))
-    unfit_over name cause owed shown says = over_nothing (told_answers words source (Serves service) asked before faults status after later (NotAccepted name cause) owed shown says) refl
+    unfit_over : (name : List ℕ) (cause : Cause) → Owes (Serves service) source.holds (NotAccepted FILE_LIMIT name cause) → Shows (NotAccepted FILE_LIMIT name cause) source
+        → Says (refused_text name cause) 4 before faults status after later → AnswersOver words source streams before faults status after later (Some (streams, Finished))
+    unfit_over name cause owed shown says = over_nothing (told_answers words source (Serves service) asked before faults status after later (NotAccepted FILE_LIMIT name cause) owed shown says) refl
 
     -- a live run that doesn't start answers its refusal, and does nothing over its streams
     pub live_refusal_answers : (refusal : Refusal) → RefusesLive refusal source.holds service source.faults source.later_faults source.taken source.later_taken
@@ -361,5 +341,5 @@ module _ (words : List (List ℕ)) (source : Source) (service : Service) (asked 
     live_refusal_answers (Unread place) h says =
         unread_over (name_in place service) (serve_owes service source.holds (prep.Unreadable place) (NotRead (name_in place service)) h.0 refl) h.1 says
     live_refusal_answers (Input place cause) h says =
-        ⊎_elim (unfit_over (name_in place service) cause (serve_owes service source.holds (prep.Refused place cause) (NotAccepted (name_in place service) cause) h.0 refl) (h.1, h.2))
+        ⊎_elim (unfit_over (name_in place service) cause (serve_owes service source.holds (prep.Refused place cause) (NotAccepted FILE_LIMIT (name_in place service) cause) h.0 refl) (h.1, h.2))
         (wanted_over h.1) says

@@ -9,7 +9,7 @@ use Rattle.nv_machine.specs.Guest.{Machine}
 use Rattle.nv_command.specs.Words.{Limits, Plan, Service}
 use Rattle.nv_script.specs.Scripts.{Setup, script_of}
 use Rattle.nv_script.specs.declared.fault.ScriptFault.{ScriptFault}
-use Rattle.nv_driver.specs.Found.{Found, Whole, TooLong, Unread, Finds, Agrees, AgreesIf, AllAgree, AreFound, AgreesWithin, FILE_LIMIT, is_longer, found_whole, found_within, found_of, finds_of}
+use Rattle.nv_driver.specs.Found.{Found, Whole, TooLong, Unread, Finds, Agrees, AgreesIf, AllAgree, AreFound, AgreesWithin, FILE_LIMIT, script_limit, is_longer, found_whole, found_within, found_of, finds_of}
 use Rattle.nv_driver.specs.Prepared.{Prepared, Unreadable, Refused, Ready, VersionOf, Faulty, Loads, read_at, with_first_machine, version_then, versions_from, judged_by, rules_then, after_rules, after_script, version_from, prepared}
 use Rattle.nv_driver.specs.Live.{AgreesOrBare, AreLiveFound, bare_text, live_script, after_live_script, live_prepared, found_or_bare, live_finds_of}
 use Rattle.nv_driver.specs.declared.refusal.Cause.{Cause}
@@ -75,16 +75,21 @@ same_read place (Whole bytes) check other same here there = same bytes here ther
 same_read place TooLong check other same here there = refl
 same_read place Unread check other same here there = refl
 
+same_at_within : (limit : ℕ) (place : Place) (told : Told) (found : Found) (check other : List ℕ → Prepared) → AgreesWithin limit told found
+    → ((bytes : List ℕ) → (IsUnread (check bytes) → ⊥) → (IsUnread (other bytes) → ⊥) → check bytes ≡ other bytes)
+    → (IsUnread (read_at place found check) → ⊥) → (IsUnread (read_at place (found_within limit told) other) → ⊥) → read_at place found check ≡ read_at place (found_within limit told) other
+same_at_within limit place told found check other a same here there =
+    ⊎_elim (λ (e : found ≡ Unread). absurd (here (subst (λ (f : Found). IsUnread (read_at place f check)) (sym e) tt)))
+    (λ (r : (found_within limit told ≡ Unread) ⊎ (found ≡ found_within limit told)). ⊎_elim
+    (λ (e : found_within limit told ≡ Unread). absurd (there (subst (λ (f : Found). IsUnread (read_at place f other)) (sym e) tt)))
+    (λ (e : found ≡ found_within limit told). subst (λ (f : Found). (IsUnread (read_at place f other) → ⊥) → read_at place found check ≡ read_at place f other) e
+    (same_read place found check other same here) there) r)
+    (same_within limit told found a)
+
 same_at : (place : Place) (told : Told) (found : Found) (check other : List ℕ → Prepared) → Agrees told found
     → ((bytes : List ℕ) → (IsUnread (check bytes) → ⊥) → (IsUnread (other bytes) → ⊥) → check bytes ≡ other bytes)
     → (IsUnread (read_at place found check) → ⊥) → (IsUnread (read_at place (found_of told) other) → ⊥) → read_at place found check ≡ read_at place (found_of told) other
-same_at place told found check other a same here there =
-    ⊎_elim (λ (e : found ≡ Unread). absurd (here (subst (λ (f : Found). IsUnread (read_at place f check)) (sym e) tt)))
-    (λ (r : (found_of told ≡ Unread) ⊎ (found ≡ found_of told)). ⊎_elim
-    (λ (e : found_of told ≡ Unread). absurd (there (subst (λ (f : Found). IsUnread (read_at place f other)) (sym e) tt)))
-    (λ (e : found ≡ found_of told). subst (λ (f : Found). (IsUnread (read_at place f other) → ⊥) → read_at place found check ≡ read_at place f other) e
-    (same_read place found check other same here) there) r)
-    (same_found told found a)
+same_at place told found check other a same here there = same_at_within FILE_LIMIT place told found check other a same here there
 
 prefix_unread : (machine : Machine) (rest : Prepared) → IsUnread rest → IsUnread (with_first_machine machine rest)
 prefix_unread machine (Unreadable place) u = tt
@@ -146,7 +151,7 @@ same_script (Err fault) versions other same here there = refl
 pub same_prepared : (holds : List ℕ → Told) (plan : Plan) (finds : Finds) → AreFound plan holds finds
     → (IsUnread (prepared plan.limits finds) → ⊥) → (IsUnread (prepared plan.limits (finds_of holds plan)) → ⊥) → prepared plan.limits finds ≡ prepared plan.limits (finds_of holds plan)
 same_prepared holds plan finds agree here there =
-    same_at Script (holds plan.script) finds.script
+    same_at_within (script_limit plan.script) Script (holds plan.script.name) finds.script
     (λ bytes. after_script (λ setup. after_rules finds.rules (versions_from plan.limits setup 0 finds.versions)) (script_of bytes))
     (λ bytes. after_script (λ setup. after_rules (told_rules holds plan.rules) (versions_from plan.limits setup 0 (told_finds holds plan.versions))) (script_of bytes))
     agree.script

@@ -6,7 +6,7 @@ use Rattle.nv_calls.specs.Calls.{Entry}
 use Rattle.nv_machine.specs.Guest.{Machine}
 use Rattle.nv_command.specs.Words.{Trail}
 use Rattle.nv_script.specs.Scripts.{Setup}
-use Rattle.nv_driver.specs.Found.{Found, Unread, AgreesIf, AgreesWithin, FILE_LIMIT, TRACE_LIMIT, found_of, found_within}
+use Rattle.nv_driver.specs.Found.{Found, Unread, AgreesIf, AgreesWithin, FILE_LIMIT, TRACE_LIMIT, script_limit, found_of, found_within}
 use Rattle.nv_driver.specs.Traced.{Traced, TraceFinds, AreTraceFound, Lack, Unreadable, Refused, then_with, script_at, rules_at, log_at, machine_traced, after_log, after_filter, after_setup, traced, trace_finds_of}
 use Rattle.nv_driver.specs.declared.refusal.Place.{Place}
 use Rattle.nv_driver.specs.declared.refusal.Place.TheVariants.{Script, Rules, Trace, Version}
@@ -71,4 +71,4 @@ same_traced trail holds finds agree here there =
     (λ setup. same_filter holds trail.rules finds.rules (after_filter trail finds.trace finds.version setup)
     (after_filter trail (found_within TRACE_LIMIT (holds trail.trace)) (found_of (holds trail.version)) setup) agree.rules
     (same_log trail holds setup finds.trace finds.version agree.trace agree.version))
-    FILE_LIMIT (holds trail.script) finds.script script_at Script refl agree.script here there
+    (script_limit trail.script) (holds trail.script.name) finds.script script_at Script refl agree.script here there

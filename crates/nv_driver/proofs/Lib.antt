@@ -1,3 +1,4 @@
+pub mod Lengths
 pub mod Loading
 pub mod LiveLoading
 pub mod Decided

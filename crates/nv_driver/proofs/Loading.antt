@@ -10,15 +10,17 @@ use Rattle.nv_threads.specs.Threads.{Proc, threads}
 use Rattle.nv_replay.specs.Version.{Running, IsFresh, process_of}
 use Rattle.nv_replay.specs.Account.{AreFresh}
 use Rattle.nv_driver.specs.Account.{process_begun}
-use Rattle.nv_driver.specs.Found.{Found, Whole, TooLong, Unread, Agrees, AgreesIf, AllAgree, IsReadOf, FILE_LIMIT, found_of}
+use Rattle.nv_driver.specs.Found.{Found, Whole, TooLong, Unread, Agrees, AgreesIf, AllAgree, ScriptAgrees, IsReadOf, IsReadWithin, FILE_LIMIT, TookMore, script_limit, found_of}
 use Rattle.nv_driver.specs.Prepared.{Prepared, Unreadable, Refused, Ready, read_at, with_first_machine, version_then, versions_from, judged_by, rules_then, after_rules, after_script, version_from}
 use Rattle.nv_driver.specs.Refusals.{ComesTo, Stops, Refuses}
 use Rattle.nv_driver.specs.inner.Refusals.{HasLoaded, AreLoaded, IsFault, ReadRefused, VersionRefused, VersionsRefused, VersionsCome, run_parts, RestComes, IsRest, IsFilterRead, HasRules, RulesStop, RulesRefused, RestRefused, IsScriptRefusal, IsFilterRefusal, IsVersionRefusal}
+use Rattle.nv_driver.specs.Outcome.{limit_at}
 use Rattle.nv_driver.proofs.Decided.{told_agrees}
+use Rattle.nv_driver.proofs.Lengths.{took_before, IsAfterScript, versions_after, rules_after}
 use Rattle.nv_driver.specs.declared.refusal.Refusal.{Refusal}
 use Rattle.nv_driver.specs.declared.refusal.Refusal.TheVariants as refusal
 use Rattle.nv_driver.specs.declared.refusal.Place.{Place}
-use Rattle.nv_driver.specs.declared.refusal.Place.TheVariants.{Script, Rules, Version}
+use Rattle.nv_driver.specs.declared.refusal.Place.TheVariants.{Script, Rules, Trace, Version}
 use Rattle.nv_driver.specs.declared.refusal.Cause.{Cause}
 use Rattle.nv_driver.specs.declared.refusal.Cause.TheVariants as causes
 use Rattle.nv_script.specs.Scripts.{Setup, script_of}
@@ -52,7 +54,7 @@ rules_told holds None = tt
 rules_told holds (Some name) = told_agrees FILE_LIMIT (holds name)
 
 -- after an accepted script the rest decides
-pub script_accepted : (holds : List ℕ → Told) (plan : Plan) (bytes : List ℕ) (setup : Setup) (whole : Prepared) → IsReadOf bytes (holds plan.script)
+pub script_accepted : (holds : List ℕ → Told) (plan : Plan) (bytes : List ℕ) (setup : Setup) (whole : Prepared) → IsReadWithin (script_limit plan.script) bytes (holds plan.script.name)
     → script_of bytes ≡ Ok setup → RestComes setup holds (run_parts plan) whole → ComesTo plan holds whole
 script_accepted holds plan bytes setup whole r ok v = record {
   finds = record { script = Whole bytes; rules = v.rules; versions = v.versions };
@@ -170,7 +172,7 @@ rest_by_versions refusal holds parts setup rules f0 f f' t0 t t' r fs ts h =
     fs ts h
 
 -- the script decides
-script_stops : (holds : List ℕ → Told) (plan : Plan) (found : Found) (whole : Prepared) → Agrees (holds plan.script) found
+script_stops : (holds : List ℕ → Told) (plan : Plan) (found : Found) (whole : Prepared) → ScriptAgrees holds plan.script found
     → ((rest : Setup → Prepared) → read_at Script found (λ bytes. after_script rest (script_of bytes)) ≡ whole) → ComesTo plan holds whole
 script_stops holds plan found whole agrees stops = record {
   finds = record { script = found; rules = option_map (λ name. found_of (holds name)) plan.rules; versions = map (λ name. found_of (holds name)) plan.versions };
@@ -179,15 +181,15 @@ script_stops holds plan found whole agrees stops = record {
 }
 
 -- a script can't be read
-pub script_unread : (refusal : Refusal) (holds : List ℕ → Told) (plan : Plan) (f0 f t0 t : ℕ) → ReadRefused refusal Script FILE_LIMIT (holds plan.script) f0 f t0 t → Refuses refusal holds plan f0 f t0 t
+pub script_unread : (refusal : Refusal) (holds : List ℕ → Told) (plan : Plan) (f0 f t0 t : ℕ) → ReadRefused refusal Script (script_limit plan.script) (holds plan.script.name) f0 f t0 t → Refuses refusal holds plan f0 f t0 t
 script_unread refusal.Memory holds plan f0 f t0 t h = h
 script_unread (refusal.Unreadable place) holds plan f0 f t0 t h =
     (script_stops holds plan Unread (Unreadable place) h.2 (λ rest. ap Unreadable (sym h.0)), h.1)
 script_unread (refusal.Input place cause) holds plan f0 f t0 t h =
-    (script_stops holds plan TooLong (Refused place cause) h.4 (λ rest. ap (λ p. Refused p causes.Long) (sym h.0) ∙ ap (Refused place) (sym h.1)), h.2, λ e. h.3)
+    (script_stops holds plan TooLong (Refused place cause) h.4 (λ rest. ap (λ p. Refused p causes.Long) (sym h.0) ∙ ap (Refused place) (sym h.1)), h.2, λ e. subst (λ (p : Place). TookMore (limit_at p plan) t0 t) (sym h.0) h.3)
 
 -- a script is refused
-pub script_refuses : (refusal : Refusal) (holds : List ℕ → Told) (plan : Plan) (bytes : List ℕ) (f0 f t0 t : ℕ) → IsReadOf bytes (holds plan.script)
+pub script_refuses : (refusal : Refusal) (holds : List ℕ → Told) (plan : Plan) (bytes : List ℕ) (f0 f t0 t : ℕ) → IsReadWithin (script_limit plan.script) bytes (holds plan.script.name)
     → f ≡ f0 → IsScriptRefusal refusal bytes → Refuses refusal holds plan f0 f t0 t
 script_refuses refusal.Memory holds plan bytes f0 f t0 t r kept h = kept
 script_refuses (refusal.Unreadable place) holds plan bytes f0 f t0 t r kept h = absurd h
@@ -296,12 +298,26 @@ module _ (limits : Limits) (setup : Setup) where
       let next : take k names ++ name ∷ [] ≡ take (k + 1) names = sym (take_next names k name at) in
       subst (λ (xs : List (Running Proc)). AreLoaded limits setup xs holds (take (k + 1) names)) (sym longer) (subst (λ (ns : List (List ℕ)). AreLoaded limits setup (vs ++ v ∷ []) holds ns) next both)
 
+-- files after the script have the usual limit
+rest_limit : (holds : List ℕ → Told) (plan : Plan) (setup : Setup) (place : Place) (cause : Cause) → RestComes setup holds (run_parts plan) (Refused place cause) → limit_at place plan ≡ FILE_LIMIT
+rest_limit holds plan setup Script cause h = absurd (subst IsAfterScript h.is (rules_after h.rules _ (versions_after plan.limits setup 0 h.versions)))
+rest_limit holds plan setup Rules cause h = refl
+rest_limit holds plan setup Trace cause h = refl
+rest_limit holds plan setup (Version i) cause h = refl
+
 -- after an accepted script the refusal of the rest is that of the run
-pub run_refused : (refusal : Refusal) (holds : List ℕ → Told) (plan : Plan) (bytes : List ℕ) (setup : Setup) (f0 f f' t0 t t' : ℕ) → IsReadOf bytes (holds plan.script)
+pub run_refused : (refusal : Refusal) (holds : List ℕ → Told) (plan : Plan) (bytes : List ℕ) (setup : Setup) (f0 f f' t0 t t' : ℕ) → IsReadWithin (script_limit plan.script) bytes (holds plan.script.name)
     → script_of bytes ≡ Ok setup → f ≡ f0 → t0 ≤ t → RestRefused refusal setup holds (run_parts plan) f f' t t' → Refuses refusal holds plan f0 f' t0 t'
-run_refused refusal holds plan bytes setup f0 f f' t0 t t' r ok fs ts h =
-    stops_more (RestComes setup holds (run_parts plan)) (ComesTo plan holds) refusal f0 f f' t0 t t' (λ place. script_accepted holds plan bytes setup (Unreadable place) r ok)
-    (λ place cause. script_accepted holds plan bytes setup (Refused place cause) r ok) fs ts h
+run_refused why holds plan bytes setup f0 f f' t0 t t' r ok fs ts h = by why h
+  where
+    by : (stopped : Refusal) → RestRefused stopped setup holds (run_parts plan) f f' t t' → Refuses stopped holds plan f0 f' t0 t'
+    by refusal.Memory h = h ∙ fs
+    by (refusal.Unreadable place) h = (script_accepted holds plan bytes setup (Unreadable place) r ok h.0, omega (arith, fs, h.1))
+    by (refusal.Input place cause) h = (
+      script_accepted holds plan bytes setup (Refused place cause) r ok h.0,
+      h.1 ∙ fs,
+      λ e. subst (λ (limit : ℕ). TookMore limit t0 t') (sym (rest_limit holds plan setup place cause h.0)) (took_before FILE_LIMIT t0 t t' ts (h.2 e)),
+    )
 
 -- what the rest comes to stays, where the source tells the same
 pub rest_still : (refusal : Refusal) (setup : Setup) (holds holds' : List ℕ → Told) (parts : Parts) (f f' t t' : ℕ) → holds' ≡ holds → RestRefused refusal setup holds' parts f f' t t'

@@ -17,16 +17,12 @@ use Rattle.nv_driver.specs.Account.{run_status, process_begun}
 use Rattle.nv_driver.specs.Replayed.{replay_status}
 use Rattle.nv_driver.specs.Traced.{Traced, Lack, traced, trace_finds_of, trail_limits}
 use Rattle.nv_driver.specs.Traced as lack
-use Rattle.nv_driver.specs.declared.refusal.Place.{Place}
-use Rattle.nv_driver.specs.declared.refusal.Place.TheVariants.{Trace}
-use Rattle.nv_driver.specs.declared.refusal.Cause.{Cause}
-use Rattle.nv_driver.specs.declared.refusal.Cause.TheVariants.{Long}
 use Rattle.nv_driver.proofs.Followed.{LacksRead, same_traced}
 use Rattle.nv_driver.specs.Found.{Found, Unread, found_of, finds_of}
 use Rattle.nv_driver.specs.Prepared.{Prepared, Unreadable, Refused, Ready, prepared}
 use Rattle.nv_driver.specs.Made.{made_of}
-use Rattle.nv_driver.specs.Outcome.{Source, Outcome, Usage, NoMemory, NotRead, NotAccepted, Reported, Made, Summed, Recorded, TraceTooLong, Replayed, Shown, Helped, Served, outcome_status, ended_with}
-use Rattle.nv_driver.specs.Due.{RunComesTo, RunOwes, JobOwes, Owes, OwesAny, IsDue, Shows, Answers, IsReady, IsMade, IsAccepted, IsRefusedAt, IsRefusedFor, IsRefused, IsReport, IsDone, Completes, Rejects, made_outcome, RecordComesTo, RecordOwes, ServeComesTo, ServeOwes, TrailOwes, traced_outcome, lack_outcome, replayed, shown as shown_by, IsTraced, IsRefusedOn}
+use Rattle.nv_driver.specs.Outcome.{Source, Outcome, Usage, NoMemory, NotRead, NotAccepted, Reported, Made, Summed, Recorded, Replayed, Shown, Helped, Served, outcome_status, ended_with}
+use Rattle.nv_driver.specs.Due.{RunComesTo, RunOwes, JobOwes, Owes, OwesAny, IsDue, Shows, Answers, IsReady, IsMade, IsAccepted, IsRefusedAt, IsRefusedFor, IsRefused, IsReport, IsDone, Completes, Rejects, made_outcome, RecordComesTo, RecordOwes, ServeComesTo, ServeOwes, TrailOwes, traced_outcome, replayed, shown as shown_by, IsTraced, IsRefusedOn}
 use Rattle.nv_driver.specs.declared.tools.Unmade.{Unmade}
 use Rattle.nv_driver.specs.declared.tools.Unmade.TheVariants as unmade
 use Rattle.nv_driver.specs.Live.{live_prepared, live_finds_of}
@@ -162,10 +158,6 @@ serve_refused_status service (Unreadable place) outcome refused comes = absurd r
 serve_refused_status service (Refused place cause) outcome refused comes = ap outcome_status comes
 serve_refused_status service (Ready setup rules machines) outcome refused comes = absurd refused
 
-lack_status : (trail : Trail) (place : Place) (cause : Cause) → outcome_status (lack_outcome trail (lack.Refused place cause)) ≡ 4
-lack_status trail Trace Long = refl
-lack_status trail place cause = refl
-
 module _ (trail : Trail) (made : Traced → Outcome) (outcome : Outcome) where
   traced_read : (given : Result Traced Lack) → IsTraced given → LacksRead given → ⊥
   traced_read (Ok files) is u = u
@@ -183,7 +175,7 @@ module _ (trail : Trail) (made : Traced → Outcome) (outcome : Outcome) where
   lacking_status : (given : Result Traced Lack) → IsRefusedOn given → outcome ≡ traced_outcome trail made given → outcome_status outcome ≡ 4
   lacking_status (Ok files) refused comes = absurd refused
   lacking_status (Err (lack.Unreadable place)) refused comes = absurd refused
-  lacking_status (Err (lack.Refused place cause)) refused comes = ap outcome_status comes ∙ lack_status trail place cause
+  lacking_status (Err (lack.Refused place cause)) refused comes = ap outcome_status comes
 
 made_status : (job : Job) (made : Result (List ℕ) Unmade) (outcome : Outcome) → IsMade made → outcome ≡ made_outcome job made → outcome_status outcome ≡ 0
 made_status job (Ok text) outcome is comes = ap outcome_status comes
@@ -293,12 +285,11 @@ five : (outcome : Outcome) (put : Put) (source : Source) (n : ℕ) → Shows out
 five (NotRead name) put source n shown ends is = shown
 five Usage (Ok _) source n shown ends is = absurd (omega arith)
 five NoMemory (Ok _) source n shown ends is = absurd (omega arith)
-five (NotAccepted name cause) (Ok _) source n shown ends is = absurd (omega arith)
+five (NotAccepted limit name cause) (Ok _) source n shown ends is = absurd (omega arith)
 five (Reported json setup account) (Ok _) source n shown ends is = absurd (not_five n (run_done account.lines n ends) is)
 five (Made text) (Ok _) source n shown ends is = absurd (omega arith)
 five (Summed k setup account) (Ok _) source n shown ends is = absurd (omega arith)
 five (Recorded account) (Ok _) source n shown ends is = absurd (not_five n (run_done account.lines n ends) is)
-five (TraceTooLong name) (Ok _) source n shown ends is = absurd (omega arith)
 five (Replayed at) (Ok _) source n shown ends is = absurd (two_not_five n (replay_done at.fate n ends) is)
 five (Shown text) (Ok _) source n shown ends is = absurd (omega arith)
 five (Helped topic) (Ok _) source n shown ends is = absurd (omega arith)
@@ -310,12 +301,11 @@ six outcome (Err _) n ends is = refl
 six Usage (Ok _) n ends is = absurd (omega arith)
 six NoMemory (Ok _) n ends is = absurd (omega arith)
 six (NotRead name) (Ok _) n ends is = absurd (omega arith)
-six (NotAccepted name cause) (Ok _) n ends is = absurd (omega arith)
+six (NotAccepted limit name cause) (Ok _) n ends is = absurd (omega arith)
 six (Reported json setup account) (Ok _) n ends is = absurd (not_six n (run_done account.lines n ends) is)
 six (Made text) (Ok _) n ends is = absurd (omega arith)
 six (Summed k setup account) (Ok _) n ends is = absurd (omega arith)
 six (Recorded account) (Ok _) n ends is = absurd (not_six n (run_done account.lines n ends) is)
-six (TraceTooLong name) (Ok _) n ends is = absurd (omega arith)
 six (Replayed at) (Ok _) n ends is = absurd (two_not_six n (replay_done at.fate n ends) is)
 six (Shown text) (Ok _) n ends is = absurd (omega arith)
 six (Helped topic) (Ok _) n ends is = absurd (omega arith)

@@ -20,13 +20,14 @@ use Rattle.nv_trace.specs.Faults.{trace_fault, IsFirstFault as IsNoTrace}
 use Rattle.nv_trace.specs.Checks.{check_fault, AreSoundEvents, StopsFor}
 use Rattle.nv_trace.proofs.Whole.{trace_faultless, trace_log}
 use Rattle.nv_trace.proofs.Sound.{faultless_is}
-use Rattle.nv_driver.specs.Found.{Found, Whole, TooLong, Unread, AgreesIf, AgreesWithin, IsReadOf, IsReadWithin, FILE_LIMIT, TRACE_LIMIT, TookMore, found_of, found_within}
+use Rattle.nv_driver.specs.Found.{Found, Whole, TooLong, Unread, AgreesIf, AgreesWithin, IsReadOf, IsReadWithin, FILE_LIMIT, TRACE_LIMIT, TookMore, script_limit, found_of, found_within}
 use Rattle.nv_driver.specs.Prepared.{Prepared, after_rules, judged_by, rules_then, VersionOf, Faulty, Loads, version_from}
 use Rattle.nv_driver.specs.Prepared as prepared
+use Rattle.nv_driver.specs.Outcome.{limit_on}
 use Rattle.nv_driver.specs.inner.Refusals.{ReadRefused, HasRules, RulesRefused, IsScriptRefusal, IsVersionRefusal}
 use Rattle.nv_driver.specs.Traced.{Traced, TraceFinds, Lack, Unreadable, Refused, then_with, of_script, script_at, traced_rules, rules_at, of_trace, log_at, unless_unsound, log_unless_faulty, trace_of_file, traced_version, machine_traced, trail_limits, after_log, after_filter, after_setup}
 use Rattle.nv_driver.specs.Untraced.{IsByTrace, IsByCheck}
-use Rattle.nv_driver.specs.inner.Trails.{limit_of, Gives, StepRefused, IsTraceRefusal, TrailComes, TrailRefused}
+use Rattle.nv_driver.specs.inner.Trails.{Gives, StepRefused, IsTraceRefusal, TrailComes, TrailRefused}
 use Rattle.nv_driver.specs.declared.refusal.Place.{Place}
 use Rattle.nv_driver.specs.declared.refusal.Place.TheVariants.{Script, Rules, Trace, Version}
 use Rattle.nv_driver.specs.declared.refusal.Cause.{Cause}
@@ -34,24 +35,25 @@ use Rattle.nv_driver.specs.declared.refusal.Cause.TheVariants as causes
 use Rattle.nv_driver.specs.declared.refusal.Refusal.{Refusal}
 use Rattle.nv_driver.specs.declared.refusal.Refusal.TheVariants as refusal
 use Rattle.nv_driver.proofs.Decided.{told_agrees}
+use Rattle.nv_driver.proofs.Lengths.{took_before}
 use Rattle.nv_driver.proofs.Loading.{rules_told}
 
 -- ---- one file
 
 -- a file that can't be read or is too long gives nothing
-pub read_refuses : {X : Type 0} (why : Refusal) (place : Place) (step : Found → Result X Lack) (told : Told) (f f' t t' : ℕ) → step Unread ≡ Err (Unreadable place) → step TooLong ≡ Err (Refused place causes.Long)
-    → ReadRefused why place (limit_of place) told f f' t t' → StepRefused why place step told f f' t t'
-read_refuses refusal.Memory place step told f f' t t' unread long h = h
-read_refuses (refusal.Unreadable at) place step told f f' t t' unread long h =
+pub read_refuses : {X : Type 0} (why : Refusal) (place : Place) (limit : ℕ) (step : Found → Result X Lack) (told : Told) (f f' t t' : ℕ) → step Unread ≡ Err (Unreadable place) → step TooLong ≡ Err (Refused place causes.Long)
+    → ReadRefused why place limit told f f' t t' → StepRefused why place limit step told f f' t t'
+read_refuses refusal.Memory place limit step told f f' t t' unread long h = h
+read_refuses (refusal.Unreadable at) place limit step told f f' t t' unread long h =
     (record { found = Unread; agrees = h.2; is = unread ∙ ap (λ (p : Place). Err (Unreadable p)) (sym h.0) }, h.1)
-read_refuses (refusal.Input at cause) place step told f f' t t' unread long h =
+read_refuses (refusal.Input at cause) place limit step told f f' t t' unread long h =
     (h.0, record { found = TooLong; agrees = h.4; is = long ∙ ap (λ (p : Place). Err (Refused p causes.Long)) (sym h.0) ∙ ap (λ (z : Cause). Err (Refused at z)) (sym h.1) }, h.2, λ e. h.3)
 
 -- a script is refused
-pub script_refuses : (why : Refusal) (told : Told) (bytes : List ℕ) (f f' t t' : ℕ) → IsReadOf bytes told → f' ≡ f → IsScriptRefusal why bytes → StepRefused why Script script_at told f f' t t'
-script_refuses refusal.Memory told bytes f f' t t' r kept h = kept
-script_refuses (refusal.Unreadable at) told bytes f f' t t' r kept h = absurd h
-script_refuses (refusal.Input at cause) told bytes f f' t t' r kept h = (
+pub script_refuses : (why : Refusal) (limit : ℕ) (told : Told) (bytes : List ℕ) (f f' t t' : ℕ) → IsReadWithin limit bytes told → f' ≡ f → IsScriptRefusal why bytes → StepRefused why Script limit script_at told f f' t t'
+script_refuses refusal.Memory limit told bytes f f' t t' r kept h = kept
+script_refuses (refusal.Unreadable at) limit told bytes f f' t t' r kept h = absurd h
+script_refuses (refusal.Input at cause) limit told bytes f f' t t' r kept h = (
   h.0,
   record { found = Whole bytes; agrees = r; is = ap of_script h.3 ∙ ap (λ (p : Place). Err (Refused p (causes.Script h.1))) (sym h.0) ∙ ap (λ (z : Cause). Err (Refused at z)) (sym h.2) },
   kept,
@@ -60,7 +62,7 @@ script_refuses (refusal.Input at cause) told bytes f f' t t' r kept h = (
 
 -- a trace is refused
 pub trace_refuses : (why : Refusal) (setup : Setup) (told : Told) (bytes : List ℕ) (f f' t t' : ℕ) → IsReadWithin TRACE_LIMIT bytes told → f' ≡ f → IsTraceRefusal why setup bytes
-    → StepRefused why Trace (log_at setup) told f f' t t'
+    → StepRefused why Trace TRACE_LIMIT (log_at setup) told f f' t t'
 trace_refuses refusal.Memory setup told bytes f f' t t' r kept h = kept
 trace_refuses (refusal.Unreadable at) setup told bytes f f' t t' r kept h = absurd h
 trace_refuses (refusal.Input at cause) setup told bytes f f' t t' r kept h = (
@@ -72,7 +74,7 @@ trace_refuses (refusal.Input at cause) setup told bytes f f' t t' r kept h = (
 
 -- a version is refused
 pub version_refuses : (why : Refusal) (trail : Trail) (limits : Limits) (setup : Setup) (told : Told) (bytes : List ℕ) (f f' t t' : ℕ) → limits ≡ trail_limits trail → IsReadOf bytes told → f' ≡ f
-    → IsVersionRefusal limits setup why (Version trail.index) bytes → StepRefused why (Version trail.index) (machine_traced trail setup) told f f' t t'
+    → IsVersionRefusal limits setup why (Version trail.index) bytes → StepRefused why (Version trail.index) FILE_LIMIT (machine_traced trail setup) told f f' t t'
 version_refuses refusal.Memory trail limits setup told bytes f f' t t' same r kept h = kept
 version_refuses (refusal.Unreadable at) trail limits setup told bytes f f' t t' same r kept h = absurd h
 version_refuses (refusal.Input at cause) trail limits setup told bytes f f' t t' same r kept h = (
@@ -128,12 +130,12 @@ module _ (trail : Trail) (holds : List ℕ → Told) where
   version_told = found_of (holds trail.version)
 
   -- the script decides
-  pub script_lacks : (lack : Lack) → Gives script_at FILE_LIMIT (holds trail.script) (Err lack) → TrailComes trail holds (Err lack)
+  pub script_lacks : (lack : Lack) → Gives script_at (script_limit trail.script) (holds trail.script.name) (Err lack) → TrailComes trail holds (Err lack)
   script_lacks lack g =
       let finds : TraceFinds = record { script = g.found; rules = option_map (λ name. found_of (holds name)) trail.rules; trace = trace_told; version = version_told } in
       record { finds = finds; agree = record { script = g.agrees; rules = rules_told holds trail.rules; trace = told_agrees TRACE_LIMIT (holds trail.trace); version = told_agrees FILE_LIMIT (holds trail.version) }; is = ap (then_with (after_setup trail finds)) g.is }
 
-  module _ (setup : Setup) (script : Gives script_at FILE_LIMIT (holds trail.script) (Ok setup)) where
+  module _ (setup : Setup) (script : Gives script_at (script_limit trail.script) (holds trail.script.name) (Ok setup)) where
     -- the rules decide
     pub rules_lack : (lack : Lack) → RulesGive holds trail.rules (Err lack) → TrailComes trail holds (Err lack)
     rules_lack lack r =
@@ -178,23 +180,20 @@ module _ (trail : Trail) (holds : List ℕ → Told) where
             → TrailComes trail holds (Ok (record { setup = setup; rules = filter; log = log; machine = machine }))
         all_give machine g = version_decides (Ok machine) g
 
-took_before : (limit t0 t t' : ℕ) → t0 ≤ t → TookMore limit t t' → TookMore limit t0 t'
-took_before limit t0 t t' before took = omega arith
-
 -- what the source tells of a name stays
 pub gives_still : {X : Type 0} (step : Found → Result X Lack) (limit : ℕ) (told told' : Told) (given : Result X Lack) → told' ≡ told → Gives step limit told' given → Gives step limit told given
 gives_still step limit told told' given same g = record { found = g.found; agrees = subst (λ (z : Told). AgreesWithin limit z g.found) same g.agrees; is = g.is }
 
 -- a file that gives nothing stops the reading
-pub step_stops : {X : Type 0} (why : Refusal) (trail : Trail) (holds : List ℕ → Told) (place : Place) (step : Found → Result X Lack) (told told' : Told) (f0 f f' t0 t t' : ℕ) → told' ≡ told → f ≡ f0 → t0 ≤ t
-    → ((lack : Lack) → Gives step (limit_of place) told (Err lack) → TrailComes trail holds (Err lack)) → StepRefused why place step told' f f' t t' → TrailRefused why trail holds f0 f' t0 t'
-step_stops refusal.Memory trail holds place step told told' f0 f f' t0 t t' same fs ts comes h = h ∙ fs
-step_stops (refusal.Unreadable at) trail holds place step told told' f0 f f' t0 t t' same fs ts comes h =
-    (comes (Unreadable at) (gives_still step (limit_of place) told told' _ same h.0), omega (arith, fs, h.1))
-step_stops (refusal.Input at cause) trail holds place step told told' f0 f f' t0 t t' same fs ts comes h = (
-  comes (Refused at cause) (gives_still step (limit_of place) told told' _ same h.1),
+pub step_stops : {X : Type 0} (why : Refusal) (trail : Trail) (holds : List ℕ → Told) (place : Place) (limit : ℕ) (step : Found → Result X Lack) (told told' : Told) (f0 f f' t0 t t' : ℕ) → limit_on place trail ≡ limit
+    → told' ≡ told → f ≡ f0 → t0 ≤ t → ((lack : Lack) → Gives step limit told (Err lack) → TrailComes trail holds (Err lack)) → StepRefused why place limit step told' f f' t t' → TrailRefused why trail holds f0 f' t0 t'
+step_stops refusal.Memory trail holds place limit step told told' f0 f f' t0 t t' most same fs ts comes h = h ∙ fs
+step_stops (refusal.Unreadable at) trail holds place limit step told told' f0 f f' t0 t t' most same fs ts comes h =
+    (comes (Unreadable at) (gives_still step limit told told' _ same h.0), omega (arith, fs, h.1))
+step_stops (refusal.Input at cause) trail holds place limit step told told' f0 f f' t0 t t' most same fs ts comes h = (
+  comes (Refused at cause) (gives_still step limit told told' _ same h.1),
   h.2 ∙ fs,
-  λ e. subst (λ (p : Place). TookMore (limit_of p) t0 t') (sym h.0) (took_before (limit_of place) t0 t t' ts (h.3 e)),
+  λ e. subst (λ (p : Place). TookMore (limit_on p trail) t0 t') (sym h.0) (subst (λ (n : ℕ). TookMore n t0 t') (sym most) (took_before limit t0 t t' ts (h.3 e))),
 )
 
 rules_stop_here : (why : Refusal) (trail : Trail) (holds : List ℕ → Told) (f0 f f' t0 t t' : ℕ) → f ≡ f0 → t0 ≤ t
@@ -208,7 +207,7 @@ rules_stop_here (refusal.Input at cause) trail holds f0 f f' t0 t t' fs ts comes
     let is = stop_refused stop.rules at cause (stop.is (prepared.Unreadable Script)) in (
       comes (Refused at cause) (record { found = stop.rules; agrees = stop.agree; is = is.0 }),
       h.1 ∙ fs,
-      λ e. subst (λ (p : Place). TookMore (limit_of p) t0 t') (sym is.1) (took_before FILE_LIMIT t0 t t' ts (h.2 e)),
+      λ e. subst (λ (p : Place). TookMore (limit_on p trail) t0 t') (sym is.1) (took_before FILE_LIMIT t0 t t' ts (h.2 e)),
     )
 
 -- rules that give nothing stop the reading

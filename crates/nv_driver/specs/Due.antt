@@ -11,7 +11,7 @@ use Rattle.nv_script.specs.Scripts.{Setup}
 use Rattle.nv_replay.specs.Lead.{is_memory}
 use Rattle.nv_replay.specs.Sequence.{Account}
 use Rattle.nv_driver.specs.Account.{IsRunOf, process_begun}
-use Rattle.nv_driver.specs.Found.{Found, Finds, Agrees, AreFound, TookLong, TookMore, TRACE_LIMIT, found_of, finds_of}
+use Rattle.nv_driver.specs.Found.{Found, Finds, Agrees, AreFound, FILE_LIMIT, TookMore, found_of, finds_of}
 use Rattle.nv_driver.specs.Prepared.{Prepared, Unreadable, Refused, Ready, prepared}
 use Rattle.nv_driver.specs.Live.{Streams, Lived, AreLiveFound, live_prepared, live_finds_of, with_arrivals, with_hands}
 use Rattle.nv_driver.specs.declared.ending.Ending.{Ending}
@@ -19,7 +19,7 @@ use Rattle.nv_driver.specs.declared.ending.Ending.TheVariants.{Finished}
 use Rattle.nv_arrivals.specs.Arrivals.{Arrival}
 use Rattle.nv_driver.specs.Generated.{IsMadeRun}
 use Rattle.nv_driver.specs.Made.{made_of}
-use Rattle.nv_driver.specs.Outcome.{Outcome, Usage, NoMemory, NotRead, NotAccepted, Reported, Made, Summed, Recorded, TraceTooLong, Replayed, Shown, Helped, Served, Source, name_at, name_in, name_on, text_of, outcome_status, ended_with}
+use Rattle.nv_driver.specs.Outcome.{Outcome, Usage, NoMemory, NotRead, NotAccepted, Reported, Made, Summed, Recorded, Replayed, Shown, Helped, Served, Source, name_at, limit_at, name_in, name_on, limit_on, text_of, outcome_status, ended_with}
 use Rattle.nv_calls.specs.Calls.{Entry}
 use Rattle.nv_fs.specs.States.{FileState}
 use Rattle.nv_inspect.specs.Shown.{show_text}
@@ -30,7 +30,6 @@ use Rattle.nv_threads.specs.Threads.{Proc, threads}
 use Rattle.nv_driver.specs.Tracing.{trace_point}
 use Rattle.nv_driver.specs.Traced.{TraceFinds, AreTraceFound, Traced, Lack, trace_finds_of, traced, trail_limits}
 use Rattle.nv_driver.specs.Traced as lack
-use Rattle.nv_driver.specs.declared.refusal.Place.TheVariants.{Trace}
 use Rattle.nv_driver.specs.declared.refusal.Cause.TheVariants.{Long}
 use Rattle.nv_driver.specs.declared.tools.Unmade.{Unmade}
 use Rattle.nv_driver.specs.declared.tools.Unmade.TheVariants as unmade
@@ -38,7 +37,7 @@ use Rattle.nv_driver.specs.declared.tools.Unmade.TheVariants as unmade
 -- A run comes to its first file that can't be read or is refused, or else to an account of the sequential monitor.
 abbrev pub RunComesTo : Plan → Prepared → Outcome → Type 0
 RunComesTo plan (Unreadable place) outcome = outcome ≡ NotRead (name_at place plan)
-RunComesTo plan (Refused place cause) outcome = outcome ≡ NotAccepted (name_at place plan) cause
+RunComesTo plan (Refused place cause) outcome = outcome ≡ NotAccepted (limit_at place plan) (name_at place plan) cause
 RunComesTo plan (Ready setup rules machines) outcome =
     (account : Account) × (outcome ≡ Reported plan.json setup account) × IsRunOf plan.limits setup rules machines account
 
@@ -47,7 +46,7 @@ abbrev pub made_outcome : Job → Result (List ℕ) Unmade → Outcome
 made_outcome job (Ok text) = Made text
 made_outcome job (Err unmade.Memory) = NoMemory
 made_outcome job (Err unmade.Unreadable) = NotRead job.file
-made_outcome job (Err (unmade.Refused cause)) = NotAccepted job.file cause
+made_outcome job (Err (unmade.Refused cause)) = NotAccepted FILE_LIMIT job.file cause
 
 -- Something is found at each place of a run that agrees with what the source tells, and over that the run comes to this.
 pub record RunOwes (plan : Plan) (holds : List ℕ → Told) (outcome : Outcome) : Type 0 where
@@ -75,8 +74,7 @@ pub record GenOwes (n : ℕ) (outcome : Outcome) : Type 0 where
 -- what a file that gives nothing has its command come to
 abbrev pub lack_outcome : Trail → Lack → Outcome
 lack_outcome trail (lack.Unreadable place) = NotRead (name_on place trail)
-lack_outcome trail (lack.Refused Trace Long) = TraceTooLong trail.trace
-lack_outcome trail (lack.Refused place cause) = NotAccepted (name_on place trail) cause
+lack_outcome trail (lack.Refused place cause) = NotAccepted (limit_on place trail) (name_on place trail) cause
 
 -- what files come to of which this is made
 abbrev pub traced_outcome : Trail → (Traced → Outcome) → Result Traced Lack → Outcome
@@ -107,7 +105,7 @@ shown look files = shown_of files look.dump (at_point files.rules look.trail.ind
 -- A recorded run comes to its first file that can't be read or is refused, or else to an account of the sequential monitor, in which no version wanted memory.
 abbrev pub RecordComesTo : Plan → Prepared → Outcome → Type 0
 RecordComesTo plan (Unreadable place) outcome = outcome ≡ NotRead (name_at place plan)
-RecordComesTo plan (Refused place cause) outcome = outcome ≡ NotAccepted (name_at place plan) cause
+RecordComesTo plan (Refused place cause) outcome = outcome ≡ NotAccepted (limit_at place plan) (name_at place plan) cause
 RecordComesTo plan (Ready setup rules machines) outcome =
     (account : Account) × (outcome ≡ Recorded account) × IsRunOf plan.limits setup rules machines account × (list_any (λ line. is_memory line.fate) account.lines ≡ false)
 
@@ -120,7 +118,7 @@ pub record RecordOwes (plan : Plan) (holds : List ℕ → Told) (outcome : Outco
 -- at those that were asked for by an operator's words. Only lines of clients have such words.
 abbrev pub ServeComesTo : Service → Prepared → Outcome → Type 0
 ServeComesTo service (Unreadable place) outcome = outcome ≡ NotRead (name_in place service)
-ServeComesTo service (Refused place cause) outcome = outcome ≡ NotAccepted (name_in place service) cause
+ServeComesTo service (Refused place cause) outcome = outcome ≡ NotAccepted FILE_LIMIT (name_in place service) cause
 ServeComesTo service (Ready setup rules machines) outcome =
     (arrivals : List Arrival) × (asked : List ℕ) × (account : Account) × (outcome ≡ Served (with_arrivals setup arrivals) account)
     × (service.clients ≡ false → asked ≡ []) × IsRunOf service.limits (with_hands (with_arrivals setup arrivals) asked) rules machines account
@@ -154,17 +152,16 @@ IsDue words holds outcome = OwesAny (command_of words) holds outcome ⊎ ((outco
 abbrev pub IsUntouched : Source → Type 0
 IsUntouched source = (source.later_faults ≡ source.faults) × (source.later_taken ≡ source.taken)
 
--- What the counts of the source show: a read failed exactly where a file is named that can't be read, and more was taken than a file may have where one is too long.
+-- What the counts of the source show: a read failed exactly where a file is named that can't be read, and more was taken than the file may have where one is too long.
 abbrev pub Shows : Outcome → Source → Type 0
 Shows Usage source = source.later_faults ≡ source.faults
 Shows NoMemory source = source.later_faults ≡ source.faults
 Shows (NotRead name) source = Rose source.faults source.later_faults
-Shows (NotAccepted name cause) source = (source.later_faults ≡ source.faults) × (cause ≡ Long → TookLong source.taken source.later_taken)
+Shows (NotAccepted limit name cause) source = (source.later_faults ≡ source.faults) × (cause ≡ Long → TookMore limit source.taken source.later_taken)
 Shows (Reported json setup account) source = source.later_faults ≡ source.faults
 Shows (Made text) source = source.later_faults ≡ source.faults
 Shows (Summed n setup account) source = IsUntouched source
 Shows (Recorded account) source = source.later_faults ≡ source.faults
-Shows (TraceTooLong name) source = (source.later_faults ≡ source.faults) × TookMore TRACE_LIMIT source.taken source.later_taken
 Shows (Replayed at) source = source.later_faults ≡ source.faults
 Shows (Shown text) source = source.later_faults ≡ source.faults
 Shows (Helped topic) source = IsUntouched source

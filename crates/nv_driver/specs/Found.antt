@@ -1,7 +1,7 @@
 -- What a command finds where it reads its files.
 use Rattle.std.specs.Prelude.{◌≡◌, ◌≢◌, ◌≤◌, ◌+◌, ◌-◌, ◌^◌, ℕ, List, [], ◌∷◌, Bool, true, if◌then◌else◌, Option, None, Some, option_map, min, nat_lt, length, map}
 use Rattle.nv_outside.specs.Told.{Told, Untold, Missing, Content, Fallible, told_content, MayFail}
-use Rattle.nv_command.specs.Words.{Plan}
+use Rattle.nv_command.specs.Words.{ScriptFile, Plan}
 
 -- the most bytes of a file
 abbrev pub FILE_LIMIT : ℕ
@@ -10,6 +10,14 @@ FILE_LIMIT = 4194304
 -- the most bytes of a trace
 abbrev pub TRACE_LIMIT : ℕ
 TRACE_LIMIT = 67108864
+
+-- the most bytes of a transcript
+abbrev pub TRANSCRIPT_LIMIT : ℕ
+TRANSCRIPT_LIMIT = 1073741824
+
+-- the most bytes of the file that says what a run begins with
+unfoldable pub script_limit : ScriptFile → ℕ
+script_limit script = if script.transcript then TRANSCRIPT_LIMIT else FILE_LIMIT
 
 -- a file has more bytes than it may have
 abbrev pub is_longer : ℕ → List ℕ → Bool
@@ -52,6 +60,10 @@ AgreesWithin limit told Unread = MayFail told
 abbrev pub Agrees : Told → Found → Type 0
 Agrees told found = AgreesWithin FILE_LIMIT told found
 
+-- the same of the file that says what a run begins with
+abbrev pub ScriptAgrees : (List ℕ → Told) → ScriptFile → Found → Type 0
+ScriptAgrees holds script found = AgreesWithin (script_limit script) (holds script.name) found
+
 abbrev pub AllAgree : (List ℕ → Told) → List (List ℕ) → List Found → Type 0
 AllAgree holds [] [] = Unit {0}
 AllAgree holds [] (found ∷ finds) = ⊥
@@ -73,7 +85,7 @@ pub record Finds : Type 0 where
 
 -- what is found agrees with what the source tells
 pub record AreFound (plan : Plan) (holds : List ℕ → Told) (finds : Finds) : Type 0 where
-  pub script : Agrees (holds plan.script) finds.script
+  pub script : ScriptAgrees holds plan.script finds.script
   pub rules : AgreesIf holds plan.rules finds.rules
   pub versions : AllAgree holds plan.versions finds.versions
 
@@ -91,5 +103,8 @@ found_within limit (Fallible bytes) = found_whole limit bytes
 abbrev pub found_of : Told → Found
 found_of told = found_within FILE_LIMIT told
 
+abbrev pub script_found : (List ℕ → Told) → ScriptFile → Found
+script_found holds script = found_within (script_limit script) (holds script.name)
+
 abbrev pub finds_of : (List ℕ → Told) → Plan → Finds
-finds_of holds plan = record { script = found_of (holds plan.script); rules = option_map (λ name. found_of (holds name)) plan.rules; versions = map (λ name. found_of (holds name)) plan.versions }
+finds_of holds plan = record { script = script_found holds plan.script; rules = option_map (λ name. found_of (holds name)) plan.rules; versions = map (λ name. found_of (holds name)) plan.versions }

@@ -123,8 +123,7 @@ ending_of (Some stop.Unwritten) said told = ended_by_writes said told
 ending_of (Some stop.Ended) said told = ended_by_writes said told
 ending_of None said told = ended_by_writes said told
 
--- A live run over these streams, by its log: each arrival was taken when the call that waited for it was made, and what a call says was said when it was served, before the next
--- arrival was asked for. That order is exact unless memory was wanted for a call that had waited, so that a later call found what it had left.
+-- A live run over these streams, by its log: what was taken and what was said are each in the log's order. `in_order` relates the two where nothing was late, and no field ties `late` to the run.
 -- The bytes are those of the streams: what was read, as plain input or as lines of clients, and so is what no call took; the bytes or the lines of what was said; and the transcript. That begins with a text that
 -- says what the run began with, is up to the last line of an arrival or of a hand-over a script that says the whole run (an arrival's numbers are bytes wherever bytes were read), and has what no call took behind it, as comments.
 pub record Lived (clients : Bool) (setup : Setup) (log : List Entry) (ending : Ending) (before after : Streams) : Type 0 where

@@ -18,6 +18,7 @@ use Rattle.nv_report.specs.Report.{report_text}
 use Rattle.nv_report.specs.Json.{json_text}
 use Rattle.nv_driver.specs.Account.{run_status}
 use Rattle.nv_driver.specs.Causes.{cause_text}
+use Rattle.nv_driver.specs.Found.{FILE_LIMIT, TRACE_LIMIT, script_limit}
 use Rattle.nv_driver.specs.Replayed.{replay_text, replay_status}
 use Rattle.nv_driver.specs.declared.ending.Ending.{Ending}
 use Rattle.nv_driver.specs.declared.ending.Ending.TheVariants.{Finished, Unread, Refused as RefusedAt, CutOff as CutOffAt, Unsaid, Untold}
@@ -27,14 +28,14 @@ use Rattle.nv_driver.specs.declared.refusal.Place.{Place}
 use Rattle.nv_driver.specs.declared.refusal.Place.TheVariants.{Script, Version}
 use Rattle.nv_driver.specs.declared.refusal.Place.TheVariants as place
 use Rattle.nv_driver.specs.declared.refusal.Cause.{Cause}
-use Rattle.nv_driver.specs.declared.refusal.Cause.TheVariants.{Long}
 
 -- The words are refused; memory is wanted before the run starts; a file can't be read; a file is refused; a run has its account; or a command over one file has made its text.
 pub data Outcome : Type 0 where
   Usage : Outcome
   NoMemory : Outcome
   NotRead : List ℕ → Outcome
-  NotAccepted : List ℕ → Cause → Outcome
+  -- that has this limit, by its name
+  NotAccepted : ℕ → List ℕ → Cause → Outcome
   -- as JSON or not, over what the script says
   Reported : Bool → Setup → Account → Outcome
   Made : List ℕ → Outcome
@@ -42,8 +43,6 @@ pub data Outcome : Type 0 where
   Summed : ℕ → Setup → Account → Outcome
   -- a run that is recorded has its account
   Recorded : Account → Outcome
-  -- a trace is longer than it may be
-  TraceTooLong : List ℕ → Outcome
   -- a version has followed a trace
   Replayed : Follower Proc → Outcome
   -- what a version shows at a point of a trace
@@ -77,17 +76,20 @@ ending_status (CutOffAt line) status = 4
 ending_status Unsaid status = 6
 ending_status Untold status = 6
 
+-- the line that names a refused file, and why it is refused
+abbrev pub refused_text : List ℕ → Cause → List ℕ
+refused_text name cause = concat (codes "varan: input " ∷ name ∷ codes ": " ∷ cause_text cause ∷ codes "\n" ∷ [])
+
 -- what is written
 abbrev pub text_of : Outcome → List ℕ
 text_of Usage = codes "varan: usage\n"
 text_of NoMemory = codes "varan: memory\n"
 text_of (NotRead name) = concat (codes "varan: read " ∷ name ∷ codes "\n" ∷ [])
-text_of (NotAccepted name cause) = concat (codes "varan: input " ∷ name ∷ codes ": " ∷ cause_text cause ∷ codes "\n" ∷ [])
+text_of (NotAccepted limit name cause) = refused_text name cause
 text_of (Reported json setup account) = account_text json setup account
 text_of (Made text) = text
 text_of (Summed n setup account) = gen.summary n (totals_of (output_of (start_from setup) account.log) account)
 text_of (Recorded account) = trace_of account.log
-text_of (TraceTooLong name) = concat (codes "varan: input " ∷ name ∷ codes ": " ∷ cause_text Long ∷ codes "\n" ∷ [])
 text_of (Replayed at) = replay_text at
 text_of (Shown text) = text
 text_of (Helped topic) = help_of topic
@@ -97,12 +99,11 @@ abbrev pub outcome_status : Outcome → ℕ
 outcome_status Usage = 2
 outcome_status NoMemory = 3
 outcome_status (NotRead name) = 5
-outcome_status (NotAccepted name cause) = 4
+outcome_status (NotAccepted limit name cause) = 4
 outcome_status (Reported json setup account) = run_status account.lines
 outcome_status (Made text) = 0
 outcome_status (Summed n setup account) = 0
 outcome_status (Recorded account) = run_status account.lines
-outcome_status (TraceTooLong name) = 4
 outcome_status (Replayed at) = replay_status at.fate
 outcome_status (Shown text) = 0
 outcome_status (Helped topic) = 0
@@ -114,10 +115,15 @@ ended_with (Ok _) status = status
 ended_with (Err _) status = 6
 
 abbrev pub name_at : Place → Plan → List ℕ
-name_at Script plan = plan.script
+name_at Script plan = plan.script.name
 name_at place.Rules plan = unwrap_or plan.rules []
 name_at place.Trace plan = []
 name_at (Version i) plan = unwrap_or (slice_get plan.versions i) []
+
+-- the most bytes of a file of a run
+abbrev pub limit_at : Place → Plan → ℕ
+limit_at Script plan = script_limit plan.script
+limit_at place plan = FILE_LIMIT
 
 -- the name of a file of a live run; none of a script that isn't named
 abbrev pub name_in : Place → Service → List ℕ
@@ -128,20 +134,26 @@ name_in (Version i) service = unwrap_or (slice_get service.versions i) []
 
 -- the name of a file of a version that follows a trace
 abbrev pub name_on : Place → Trail → List ℕ
-name_on Script trail = trail.script
+name_on Script trail = trail.script.name
 name_on place.Rules trail = unwrap_or trail.rules []
 name_on place.Trace trail = trail.trace
 name_on (Version i) trail = trail.version
 
+-- the most bytes of a file of a version that follows a trace
+abbrev pub limit_on : Place → Trail → ℕ
+limit_on Script trail = script_limit trail.script
+limit_on place.Trace trail = TRACE_LIMIT
+limit_on place trail = FILE_LIMIT
+
 abbrev pub outcome_of : Refusal → Plan → Outcome
 outcome_of refusal.Memory plan = NoMemory
 outcome_of (refusal.Unreadable place) plan = NotRead (name_at place plan)
-outcome_of (refusal.Input place cause) plan = NotAccepted (name_at place plan) cause
+outcome_of (refusal.Input place cause) plan = NotAccepted (limit_at place plan) (name_at place plan) cause
 
 abbrev pub live_outcome_of : Refusal → Service → Outcome
 live_outcome_of refusal.Memory service = NoMemory
 live_outcome_of (refusal.Unreadable place) service = NotRead (name_in place service)
-live_outcome_of (refusal.Input place cause) service = NotAccepted (name_in place service) cause
+live_outcome_of (refusal.Input place cause) service = NotAccepted FILE_LIMIT (name_in place service) cause
 
 -- The file source of a call: what it tells of each name, and its counts before the call and after it.
 pub record Source : Type 0 where

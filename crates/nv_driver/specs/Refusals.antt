@@ -12,7 +12,8 @@ use Rattle.nv_threads.specs.Threads.{Proc, threads}
 use Rattle.nv_replay.specs.Version.{Running, process_of}
 use Rattle.nv_replay.specs.Account.{AreFresh}
 use Rattle.nv_driver.specs.Account.{process_begun}
-use Rattle.nv_driver.specs.Found.{Finds, AreFound, TookLong}
+use Rattle.nv_driver.specs.Found.{Finds, AreFound, TookLong, TookMore}
+use Rattle.nv_driver.specs.Outcome.{limit_at}
 use Rattle.nv_driver.specs.Prepared.{Prepared, Unreadable, Refused, Ready, prepared}
 use Rattle.nv_driver.specs.Live.{AreLiveFound, live_prepared}
 use Rattle.nv_driver.specs.declared.refusal.Cause.TheVariants.{Long}
@@ -31,17 +32,20 @@ pub record LiveComesTo (service : Service) (holds : List ℕ → Told) (whole : 
   pub agree : AreLiveFound service holds finds
   pub is : live_prepared service.limits finds ≡ whole
 
--- Why files that come to something aren't ready: for want of memory; or a read failed; or a file is refused.
+-- Why files that have the usual limit, and come to something, aren't ready: for want of memory; or a read failed; or a file is refused.
 abbrev pub Stops : (Prepared → Type 0) → Refusal → ℕ → ℕ → ℕ → ℕ → Type 0
 Stops Comes refusal.Memory before now taken later = now ≡ before
 Stops Comes (refusal.Unreadable place) before now taken later = Comes (Unreadable place) × Rose before now
 Stops Comes (refusal.Input place cause) before now taken later = Comes (Refused place cause) × (now ≡ before) × (cause ≡ Long → TookLong taken later)
 
--- why a run doesn't start
+-- why a run doesn't start; its script may have another limit than the files after it
 abbrev pub Refuses : Refusal → (List ℕ → Told) → Plan → ℕ → ℕ → ℕ → ℕ → Type 0
-Refuses refusal holds plan before now taken later = Stops (ComesTo plan holds) refusal before now taken later
+Refuses refusal.Memory holds plan before now taken later = now ≡ before
+Refuses (refusal.Unreadable place) holds plan before now taken later = ComesTo plan holds (Unreadable place) × Rose before now
+Refuses (refusal.Input place cause) holds plan before now taken later =
+    ComesTo plan holds (Refused place cause) × (now ≡ before) × (cause ≡ Long → TookMore (limit_at place plan) taken later)
 
--- the same of a live run
+-- why a live run doesn't start
 abbrev pub RefusesLive : Refusal → (List ℕ → Told) → Service → ℕ → ℕ → ℕ → ℕ → Type 0
 RefusesLive refusal holds service before now taken later = Stops (LiveComesTo service holds) refusal before now taken later
 

@@ -15,7 +15,7 @@ use Rattle.nv_trace.specs.declared.fault.CheckFault.{CheckFault}
 use Rattle.nv_trace.specs.Held.{log_in}
 use Rattle.nv_trace.specs.Faults.{trace_fault}
 use Rattle.nv_trace.specs.Checks.{check_fault}
-use Rattle.nv_driver.specs.Found.{Found, Whole, TooLong, Unread, Agrees, AgreesIf, AgreesWithin, TRACE_LIMIT, found_of, found_within}
+use Rattle.nv_driver.specs.Found.{Found, Whole, TooLong, Unread, Agrees, AgreesIf, AgreesWithin, ScriptAgrees, TRACE_LIMIT, found_of, found_within, script_found}
 use Rattle.nv_driver.specs.Prepared.{VersionOf, Faulty, Loads, version_from}
 use Rattle.nv_driver.specs.declared.refusal.Place.{Place}
 use Rattle.nv_driver.specs.declared.refusal.Place.TheVariants.{Script, Rules, Trace, Version}
@@ -31,7 +31,7 @@ pub record TraceFinds : Type 0 where
 
 -- what is found agrees with what the source tells
 pub record AreTraceFound (trail : Trail) (holds : List ℕ → Told) (finds : TraceFinds) : Type 0 where
-  pub script : Agrees (holds trail.script) finds.script
+  pub script : ScriptAgrees holds trail.script finds.script
   pub rules : AgreesIf holds trail.rules finds.rules
   pub trace : AgreesWithin TRACE_LIMIT (holds trail.trace) finds.trace
   pub version : Agrees (holds trail.version) finds.version
@@ -39,7 +39,7 @@ pub record AreTraceFound (trail : Trail) (holds : List ℕ → Told) (finds : Tr
 -- what is found of files that are told
 abbrev pub trace_finds_of : (List ℕ → Told) → Trail → TraceFinds
 trace_finds_of holds trail = record {
-  script = found_of (holds trail.script);
+  script = script_found holds trail.script;
   rules = option_map (λ name. found_of (holds name)) trail.rules;
   trace = found_within TRACE_LIMIT (holds trail.trace);
   version = found_of (holds trail.version);

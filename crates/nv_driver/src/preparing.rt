@@ -7,17 +7,17 @@ ghost use Rattle.nv_script.specs.Views.{setup_of};
 ghost use Rattle.nv_threads.specs.Threads.{threads, started};
 ghost use Rattle.nv_replay.specs.Version.{IsFresh};
 ghost use Rattle.nv_replay.specs.Account.{AreFresh};
-ghost use Rattle.nv_command.specs.Seen.{limits_view, names_view, rules_view, plan_view};
+ghost use Rattle.nv_command.specs.Seen.{limits_view, names_view, rules_view, script_view, plan_view};
 ghost use Rattle.nv_driver.specs.Prepared.{Loads, version_from};
-ghost use Rattle.nv_driver.specs.Found.{IsReadWithin};
+ghost use Rattle.nv_driver.specs.Found.{IsReadWithin, script_limit};
 ghost use Rattle.nv_driver.specs.Refusals.{Refuses, IsPlanned, IsPrepared};
 ghost use Rattle.nv_driver.specs.inner.Refusals.{parts_with, ReadRefused, IsScriptRefusal, IsFilterRefusal, HasRules, RulesRefused, IsVersionRefusal, VersionRefused, VersionsRefused, HasLoaded, AreLoaded, IsRest, RestRefused};
 
-use crate::limits::FILE_LIMIT;
+use crate::limits::{FILE_LIMIT, script_limit};
 use crate::refusal::{Cause, Place, Refusal};
 use nv_arriving::ScriptedKernel;
 use nv_bpf::{Filter, FilterFault};
-use nv_command::{Limits, Run};
+use nv_command::{Limits, Run, ScriptFile};
 use nv_elf::ElfFault;
 use nv_guest::{Guest, GuestFault};
 use nv_outside::{Files, Got};
@@ -56,6 +56,23 @@ pub fn read_file<F: Files>(
         Got::Long => Err(Refusal::Input(place, Cause::Long)),
         Got::Failed => Err(Refusal::Unreadable(place)),
     }
+}
+
+// Reads the file that says what a run begins with.
+pub fn script_bytes<F: Files>(
+    alloc: Global,
+    files: &mut F,
+    script: ScriptFile<'_>,
+) -> Result<Vec<u8>, Refusal>
+    ensures bytes { IfOk result (λ bytes. IsReadWithin (script_limit (script_view script.entry)) bytes.items (F.holds files.old script.entry.name.now)) }
+    ensures refused { IfErr result (λ refusal. ReadRefused refusal Place.Script (script_limit (script_view script.entry)) (F.holds files.old script.entry.name.now)
+        (F.faults files.old) (F.faults files.new) (F.taken files.old) (F.taken files.new)) }
+    ensures same { (name : List ℕ) → F.holds files.new name ≡ F.holds files.old name }
+    ensures faults { OnOk result (F.faults files.new ≡ F.faults files.old) }
+    ensures taken { F.taken files.old ≤ F.taken files.new }
+{
+    let limit = script_limit(script);
+    read_file(alloc, files, script.name, Place::Script, limit)
 }
 
 pub fn script_in(alloc: Global, bytes: &[u8]) -> Result<Script, Refusal>
@@ -252,7 +269,7 @@ pub fn prepare<F: Files>(alloc: Global, files: &mut F, plan: &Run<'_>) -> Result
         (F.faults files.old) (F.faults files.new) (F.taken files.old) (F.taken files.new)) }
     ensures faults { OnOk result (F.faults files.new ≡ F.faults files.old) }
 {
-    let bytes = read_file(alloc, files, plan.script, Place::Script, FILE_LIMIT)?;
+    let bytes = script_bytes(alloc, files, plan.script)?;
     let script = match script_in(alloc, &bytes) {
         Ok(script) => script,
         Err(refusal) => return Err(refusal),

@@ -26,7 +26,7 @@ pub enum Place {
 /// Why a file is refused.
 #[derive(Clone, Copy, Debug, PartialEq, Eq)]
 pub enum Cause {
-    /// More than 4,194,304 bytes, of a trace more than 67,108,864.
+    /// More than 4,194,304 bytes, of a trace more than 67,108,864, of a transcript more than 1,073,741,824.
     Long,
     /// A script that isn't one.
     Script(ScriptFault),

@@ -2,7 +2,7 @@
 ghost use Rattle.std.specs.Prelude.{◌≡◌};
 ghost use Rattle.nv_command.specs.Seen.{plan_view, service_view, trail_view};
 ghost use Rattle.nv_driver.specs.Due.{Says};
-ghost use Rattle.nv_driver.specs.Outcome.{NotAccepted, NotRead, name_at, name_in, name_on, outcome_of, live_outcome_of, text_of};
+ghost use Rattle.nv_driver.specs.Outcome.{NotRead, name_at, name_in, name_on, outcome_of, live_outcome_of, refused_text, text_of};
 ghost use Rattle.nv_driver.specs.Ran.{Wrote, Tells};
 ghost use Rattle.nv_driver.specs.inner.Trails.{refused_outcome};
 
@@ -16,7 +16,7 @@ fn name<'a>(place: Place, plan: &Run<'a>) -> &'a str
     ensures { result.now ≡ name_at place (plan_view plan.now) }
 {
     match place {
-        Place::Script => plan.script,
+        Place::Script => plan.script.name,
         Place::Rules => plan.rules.unwrap_or(""),
         Place::Trace => "",
         Place::Version(index) => plan.versions.get(index as usize).map_or("", |name| *name),
@@ -27,7 +27,7 @@ fn name_on<'a>(place: Place, trail: &Trail<'a>) -> &'a str
     ensures { result.now ≡ name_on place (trail_view trail.now) }
 {
     match place {
-        Place::Script => trail.script,
+        Place::Script => trail.script.name,
         Place::Rules => trail.rules.unwrap_or(""),
         Place::Trace => trail.trace,
         Place::Version(_) => trail.version,
@@ -58,7 +58,7 @@ pub(crate) fn put_unread<S: Sink>(sink: &mut S, name: &str) -> u8
 
 /// Says which file is refused, and why.
 pub(crate) fn put_input<S: Sink>(alloc: Global, sink: &mut S, name: &str, cause: Cause) -> u8
-    ensures { Wrote (text_of (NotAccepted name.now cause)) 4 (S.told sink.old) (S.faults sink.old) result (S.told sink.new) (S.faults sink.new) }
+    ensures { Wrote (refused_text name.now cause) 4 (S.told sink.old) (S.faults sink.old) result (S.told sink.new) (S.faults sink.new) }
 {
     // Each fault has its text in its own crate, as its `Display`: printed into memory first, so that no copy of the texts stands here.
     let Ok(why) = cause.to_string(alloc) else {

@@ -1,20 +1,20 @@
 // How the files of a version that follows a trace are read.
 ghost use Rattle.std.specs.Prelude.{◌≡◌, ◌≤◌, List, ℕ, Ok, IsTrue, IfOk, IfErr, OnOk};
-ghost use Rattle.nv_command.specs.Seen.{limits_view, trail_view};
+ghost use Rattle.nv_command.specs.Seen.{limits_view, script_view, trail_view};
 ghost use Rattle.nv_script.specs.Scripts.{is_script};
 ghost use Rattle.nv_script.specs.Views.{setup_of};
 ghost use Rattle.nv_arriving.specs.Scripted.{start_from};
 ghost use Rattle.nv_trace.specs.Checks.{AreSoundEvents};
-ghost use Rattle.nv_driver.specs.Found.{FILE_LIMIT, TRACE_LIMIT};
+ghost use Rattle.nv_driver.specs.Found.{FILE_LIMIT, TRACE_LIMIT, script_limit};
 ghost use Rattle.nv_driver.specs.Traced.{script_at, log_at, machine_traced, trace_of_file, trail_limits};
 ghost use Rattle.nv_driver.specs.inner.Trails.{Gives, StepRefused, IsTraceRefusal, TrailRefused, IsFollower, IsTraced};
 
 use crate::limits::{FILE_LIMIT, TRACE_LIMIT};
-use crate::preparing::{load, read_file, read_rules, script_in, version};
+use crate::preparing::{load, read_file, read_rules, script_bytes, script_in, version};
 use crate::refusal::{Place, Refusal};
 use nv_arriving::ScriptedKernel;
 use nv_bpf::Filter;
-use nv_command::{Limits, Trail};
+use nv_command::{Limits, ScriptFile, Trail};
 use nv_outside::Files;
 use nv_replay::Version;
 use nv_script::Script;
@@ -31,16 +31,20 @@ pub struct TracedVersion {
     pub version: Version,
 }
 
-fn read_script<F: Files>(alloc: Global, files: &mut F, name: &str) -> Result<Script, Refusal>
-    ensures script { IfOk result (λ script. Gives script_at FILE_LIMIT (F.holds files.old name.now) (Ok (setup_of script))) }
+fn read_script<F: Files>(
+    alloc: Global,
+    files: &mut F,
+    file: ScriptFile<'_>,
+) -> Result<Script, Refusal>
+    ensures script { IfOk result (λ script. Gives script_at (script_limit (script_view file.entry)) (F.holds files.old file.entry.name.now) (Ok (setup_of script))) }
     ensures sound { IfOk result (λ script. IsTrue (is_script (setup_of script))) }
-    ensures refused { IfErr result (λ refusal. StepRefused refusal Place.Script script_at (F.holds files.old name.now)
+    ensures refused { IfErr result (λ refusal. StepRefused refusal Place.Script (script_limit (script_view file.entry)) script_at (F.holds files.old file.entry.name.now)
         (F.faults files.old) (F.faults files.new) (F.taken files.old) (F.taken files.new)) }
     ensures same { (name : List ℕ) → F.holds files.new name ≡ F.holds files.old name }
     ensures faults { OnOk result (F.faults files.new ≡ F.faults files.old) }
     ensures taken { F.taken files.old ≤ F.taken files.new }
 {
-    let bytes = read_file(alloc, files, name, Place::Script, FILE_LIMIT)?;
+    let bytes = script_bytes(alloc, files, file)?;
     script_in(alloc, &bytes)
 }
 
@@ -66,7 +70,7 @@ fn read_log<F: Files>(
     requires script { IsTrue (is_script (setup_of script.now)) }
     ensures log { IfOk result (λ kernel. Gives (log_at (setup_of script.now)) TRACE_LIMIT (F.holds files.old name.now) (Ok kernel.log)) }
     ensures sound { IfOk result (λ kernel. AreSoundEvents (start_from (setup_of script.now)) kernel.log) }
-    ensures refused { IfErr result (λ refusal. StepRefused refusal Place.Trace (log_at (setup_of script.now)) (F.holds files.old name.now)
+    ensures refused { IfErr result (λ refusal. StepRefused refusal Place.Trace TRACE_LIMIT (log_at (setup_of script.now)) (F.holds files.old name.now)
         (F.faults files.old) (F.faults files.new) (F.taken files.old) (F.taken files.new)) }
     ensures same { (name : List ℕ) → F.holds files.new name ≡ F.holds files.old name }
     ensures faults { OnOk result (F.faults files.new ≡ F.faults files.old) }
@@ -101,7 +105,7 @@ fn read_follower<F: Files>(
 ) -> Result<Version, Refusal>
     requires budget { budget ≤ 1_000_000_000 }
     ensures version { IfOk result (λ version. IsFollower (trail_view trail.now) budget renews (setup_of script.now) version (F.holds files.old trail.now.version.now)) }
-    ensures refused { IfErr result (λ refusal. StepRefused refusal (Place.Version trail.now.index) (machine_traced (trail_view trail.now) (setup_of script.now))
+    ensures refused { IfErr result (λ refusal. StepRefused refusal (Place.Version trail.now.index) FILE_LIMIT (machine_traced (trail_view trail.now) (setup_of script.now))
         (F.holds files.old trail.now.version.now) (F.faults files.old) (F.faults files.new) (F.taken files.old) (F.taken files.new)) }
     ensures faults { OnOk result (F.faults files.new ≡ F.faults files.old) }
 {

@@ -11,8 +11,8 @@ use Rattle.nv_script.specs.Scripts.{Setup}
 use Rattle.nv_arriving.specs.Scripted.{start_from}
 use Rattle.nv_threads.specs.Threads.{Proc, threads, started}
 use Rattle.nv_trace.specs.Checks.{AreSoundEvents}
-use Rattle.nv_driver.specs.Found.{Found, AgreesWithin, FILE_LIMIT, TRACE_LIMIT, TookMore}
-use Rattle.nv_driver.specs.Outcome.{Outcome, NoMemory}
+use Rattle.nv_driver.specs.Found.{Found, AgreesWithin, FILE_LIMIT, TookMore}
+use Rattle.nv_driver.specs.Outcome.{Outcome, NoMemory, limit_on}
 use Rattle.nv_driver.specs.Due.{lack_outcome}
 use Rattle.nv_driver.specs.Traced.{TraceFinds, AreTraceFound, Traced, Lack, Unreadable, Refused, traced, trace_of_file, machine_traced}
 use Rattle.nv_driver.specs.declared.refusal.Place.{Place}
@@ -21,23 +21,18 @@ use Rattle.nv_driver.specs.declared.refusal.Cause.TheVariants.{Long}
 use Rattle.nv_driver.specs.declared.refusal.Refusal.{Refusal}
 use Rattle.nv_driver.specs.declared.refusal.Refusal.TheVariants as refusal
 
--- the most bytes of a file in this place
-abbrev pub limit_of : Place → ℕ
-limit_of Trace = TRACE_LIMIT
-limit_of place = FILE_LIMIT
-
 -- something is found that agrees with what is told, and gives this
 pub record Gives {X : Type 0} (step : Found → Result X Lack) (limit : ℕ) (told : Told) (given : Result X Lack) : Type 0 where
   pub found : Found
   pub agrees : AgreesWithin limit told found
   pub is : step found ≡ given
 
--- a file gives nothing: for want of memory, or a read failed, or it is refused
-abbrev pub StepRefused : {X : Type 0} → Refusal → Place → (Found → Result X Lack) → Told → ℕ → ℕ → ℕ → ℕ → Type 0
-StepRefused refusal.Memory place step told before now taken later = now ≡ before
-StepRefused (refusal.Unreadable at_place) place step told before now taken later = Gives step (limit_of place) told (Err (Unreadable at_place)) × Rose before now
-StepRefused (refusal.Input at_place cause) place step told before now taken later =
-    (at_place ≡ place) × Gives step (limit_of place) told (Err (Refused at_place cause)) × (now ≡ before) × (cause ≡ Long → TookMore (limit_of place) taken later)
+-- a file with this limit gives nothing: for want of memory, or a read failed, or it is refused
+abbrev pub StepRefused : {X : Type 0} → Refusal → Place → ℕ → (Found → Result X Lack) → Told → ℕ → ℕ → ℕ → ℕ → Type 0
+StepRefused refusal.Memory place limit step told before now taken later = now ≡ before
+StepRefused (refusal.Unreadable at_place) place limit step told before now taken later = Gives step limit told (Err (Unreadable at_place)) × Rose before now
+StepRefused (refusal.Input at_place cause) place limit step told before now taken later =
+    (at_place ≡ place) × Gives step limit told (Err (Refused at_place cause)) × (now ≡ before) × (cause ≡ Long → TookMore limit taken later)
 
 -- bytes are no trace, or not one of this script, or memory is wanted
 abbrev pub IsTraceRefusal : Refusal → Setup → List ℕ → Type 0
@@ -56,7 +51,7 @@ abbrev pub TrailRefused : Refusal → Trail → (List ℕ → Told) → ℕ → 
 TrailRefused refusal.Memory trail holds before now taken later = now ≡ before
 TrailRefused (refusal.Unreadable place) trail holds before now taken later = TrailComes trail holds (Err (Unreadable place)) × Rose before now
 TrailRefused (refusal.Input place cause) trail holds before now taken later =
-    TrailComes trail holds (Err (Refused place cause)) × (now ≡ before) × (cause ≡ Long → TookMore (limit_of place) taken later)
+    TrailComes trail holds (Err (Refused place cause)) × (now ≡ before) × (cause ≡ Long → TookMore (limit_on place trail) taken later)
 
 -- what a refusal has the call come to
 abbrev pub refused_outcome : Refusal → Trail → Outcome

@@ -2,7 +2,7 @@ use Rattle.std.proofs.Common.{sym, subst, List, ℕ}
 use Rattle.nv_command.specs.Seen.{plan_view}
 use Rattle.nv_driver.specs.Due.{Says}
 use Rattle.nv_driver.specs.Ran.{Wrote, Tells}
-use Rattle.nv_driver.specs.Outcome.{NotAccepted, NotRead, outcome_of, text_of}
+use Rattle.nv_driver.specs.Outcome.{NotRead, outcome_of, refused_text, text_of}
 use Rattle.nv_driver.specs.declared.refusal.Refusal.{Refusal}
 use Rattle.nv_driver.proofs.refusing.refuse.Goals as goal
 
@@ -17,5 +17,5 @@ pub returns-in-Input : goal.returns-in-Input
 returns-in-Input g c =
     subst (λ (refusal : Refusal). Tells (outcome_of refusal (plan_view c.args.plan.now)) (g.S.Sink.told c.args.sink.now) (g.S.Sink.faults c.args.sink.now) c.put_input.result (g.S.Sink.told c.put_input.new.sink) (g.S.Sink.faults c.put_input.new.sink))
     (sym c.in-Input.is)
-    (subst (λ (name : List ℕ). Wrote (text_of (NotAccepted name c.in-Input.cause)) 4 (g.S.Sink.told c.args.sink.now) (g.S.Sink.faults c.args.sink.now) c.put_input.result (g.S.Sink.told c.put_input.new.sink) (g.S.Sink.faults c.put_input.new.sink))
+    (subst (λ (name : List ℕ). Wrote (refused_text name c.in-Input.cause) 4 (g.S.Sink.told c.args.sink.now) (g.S.Sink.faults c.args.sink.now) c.put_input.result (g.S.Sink.told c.put_input.new.sink) (g.S.Sink.faults c.put_input.new.sink))
     c.name-in-Input.ensures c.put_input.ensures)

@@ -2,10 +2,9 @@ use Rattle.std.proofs.Common.{sym, subst, List, ℕ}
 use Rattle.nv_command.specs.Seen.{trail_view}
 use Rattle.nv_driver.specs.Due.{Says}
 use Rattle.nv_driver.specs.Ran.{Wrote, Tells}
-use Rattle.nv_driver.specs.Outcome.{NotAccepted, NotRead, text_of}
+use Rattle.nv_driver.specs.Outcome.{NotRead, refused_text, text_of}
 use Rattle.nv_driver.specs.inner.Trails.{refused_outcome}
 use Rattle.nv_driver.specs.declared.refusal.Refusal.{Refusal}
-use Rattle.nv_driver.proofs.Commands.{tells_lack}
 use Rattle.nv_driver.proofs.refusing.refuse_trail.Goals as goal
 
 pub returns-in-Unreadable : goal.returns-in-Unreadable
@@ -19,6 +18,5 @@ pub returns-in-Input : goal.returns-in-Input
 returns-in-Input g c =
     subst (λ (refusal : Refusal). Tells (refused_outcome refusal (trail_view c.args.trail.now)) (g.S.Sink.told c.args.sink.now) (g.S.Sink.faults c.args.sink.now) c.put_input.result (g.S.Sink.told c.put_input.new.sink) (g.S.Sink.faults c.put_input.new.sink))
     (sym c.in-Input.is)
-    (tells_lack (trail_view c.args.trail.now) c.in-Input.place c.in-Input.cause
-    (subst (λ (name : List ℕ). Wrote (text_of (NotAccepted name c.in-Input.cause)) 4 (g.S.Sink.told c.args.sink.now) (g.S.Sink.faults c.args.sink.now) c.put_input.result (g.S.Sink.told c.put_input.new.sink) (g.S.Sink.faults c.put_input.new.sink))
-    c.name_on-in-Input.ensures c.put_input.ensures))
+    (subst (λ (name : List ℕ). Wrote (refused_text name c.in-Input.cause) 4 (g.S.Sink.told c.args.sink.now) (g.S.Sink.faults c.args.sink.now) c.put_input.result (g.S.Sink.told c.put_input.new.sink) (g.S.Sink.faults c.put_input.new.sink))
+    c.name_on-in-Input.ensures c.put_input.ensures)

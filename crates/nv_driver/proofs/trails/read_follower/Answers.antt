@@ -4,7 +4,7 @@ use Rattle.nv_command.specs.Seen.{limits_view, trail_view}
 use Rattle.nv_command.specs.Words.{Limits}
 use Rattle.nv_guest.specs.Guest.{machine_of}
 use Rattle.nv_script.specs.Views.{setup_of}
-use Rattle.nv_driver.specs.Found.{Whole, IsReadOf}
+use Rattle.nv_driver.specs.Found.{Whole, IsReadOf, FILE_LIMIT}
 use Rattle.nv_driver.specs.Prepared.{version_from}
 use Rattle.nv_driver.specs.Traced.{machine_traced, traced_version}
 use Rattle.nv_driver.specs.declared.refusal.Place.TheVariants.{Version}
@@ -14,7 +14,7 @@ use Rattle.nv_driver.proofs.trails.read_follower.Goals as goal
 pub returns-in_err-bytes-clause-refused : goal.returns-in_err-bytes-clause-refused
 returns-in_err-bytes-clause-refused g c =
     let p = err_from_is_err_and c.from_residual.result c.from_residual.ensures.1 in
-    rw (p.1, p.2) (read_refuses _ (Version c.args.trail.now.index) (machine_traced (trail_view c.args.trail.now) (setup_of c.args.script.now)) (g.F.Files.holds c.args.files.now c.args.trail.now.version.now)
+    rw (p.1, p.2) (read_refuses _ (Version c.args.trail.now.index) FILE_LIMIT (machine_traced (trail_view c.args.trail.now) (setup_of c.args.script.now)) (g.F.Files.holds c.args.files.now c.args.trail.now.version.now)
     _ _ _ _ refl refl c.in_err-bytes.ensures.refused)
 
 pub returns-in_err-guest-clause-refused : goal.returns-in_err-guest-clause-refused

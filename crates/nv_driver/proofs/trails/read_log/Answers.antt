@@ -10,7 +10,7 @@ use Rattle.nv_driver.proofs.trails.read_log.Goals as goal
 pub returns-in_err-bytes-clause-refused : goal.returns-in_err-bytes-clause-refused
 returns-in_err-bytes-clause-refused g c =
     let p = err_from_is_err_and c.from_residual.result c.from_residual.ensures.1 in
-    rw (p.1, p.2) (read_refuses _ Trace (log_at (setup_of c.args.script.now)) (g.F.Files.holds c.args.files.now c.args.name.now) _ _ _ _ refl refl c.in_err-bytes.ensures.refused)
+    rw (p.1, p.2) (read_refuses _ Trace TRACE_LIMIT (log_at (setup_of c.args.script.now)) (g.F.Files.holds c.args.files.now c.args.name.now) _ _ _ _ refl refl c.in_err-bytes.ensures.refused)
 
 pub returns-clause-log : goal.returns-clause-log
 returns-clause-log g c =

@@ -3,7 +3,7 @@ use Rattle.std.proofs.lemmas.Result.{err_from_is_err_and}
 use Rattle.nv_command.specs.Seen.{trail_view}
 use Rattle.nv_outside.specs.Told.{Told}
 use Rattle.nv_script.specs.Views.{setup_of}
-use Rattle.nv_driver.specs.Found.{TRACE_LIMIT}
+use Rattle.nv_driver.specs.Found.{FILE_LIMIT, TRACE_LIMIT, script_limit}
 use Rattle.nv_driver.specs.inner.Refusals.{HasRules}
 use Rattle.nv_driver.specs.Traced.{script_at, log_at, machine_traced}
 use Rattle.nv_driver.specs.inner.Trails.{IsFollower}
@@ -17,7 +17,7 @@ returns-in_err-script-clause-refused g c =
     let trail = trail_view c.args.trail.now in
     let same : g.F.Files.taken c.args.files.now ≤ g.F.Files.taken c.args.files.now = omega arith in
     let p = err_from_is_err_and c.from_residual.result c.from_residual.ensures.1 in
-    rw (p.1, p.2) (step_stops _ trail holds Script script_at (holds trail.script) (holds trail.script) _ _ _ _ _ _ refl refl same (script_lacks trail holds) c.in_err-script.ensures.refused)
+    rw (p.1, p.2) (step_stops _ trail holds Script (script_limit trail.script) script_at (holds trail.script.name) (holds trail.script.name) _ _ _ _ _ _ refl refl refl same (script_lacks trail holds) c.in_err-script.ensures.refused)
 
 pub returns-in_err-rules-clause-refused : goal.returns-in_err-rules-clause-refused
 returns-in_err-rules-clause-refused g c =
@@ -40,7 +40,7 @@ returns-in_err-kernel-clause-refused g c =
     let faults = c.in_ok-rules.ensures.faults ∙ c.in_ok-script.ensures.faults in
     let taken : g.F.Files.taken c.args.files.now ≤ g.F.Files.taken c.read_rules.new.files = omega (arith, c.in_ok-script.ensures.taken, c.in_ok-rules.ensures.taken) in
     let p = err_from_is_err_and c.from_residual-in_err-kernel.result c.from_residual-in_err-kernel.ensures.1 in
-    rw (p.1, p.2) (step_stops _ trail holds Trace (log_at setup) (holds trail.trace) (g.F.Files.holds c.read_rules.new.files trail.trace) _ _ _ _ _ _ (ap (λ (h : List ℕ → Told). h trail.trace) same) faults taken
+    rw (p.1, p.2) (step_stops _ trail holds Trace TRACE_LIMIT (log_at setup) (holds trail.trace) (g.F.Files.holds c.read_rules.new.files trail.trace) _ _ _ _ _ _ refl (ap (λ (h : List ℕ → Told). h trail.trace) same) faults taken
     (log_lacks trail holds setup c.in_ok-script.ensures.script c.in_ok-rules.rules rules) c.in_err-kernel.ensures.refused)
 
 pub returns-in_err-version-clause-refused : goal.returns-in_err-version-clause-refused
@@ -56,7 +56,7 @@ returns-in_err-version-clause-refused g c =
     let faults = c.in_ok-kernel.ensures.faults ∙ c.in_ok-rules.ensures.faults ∙ c.in_ok-script.ensures.faults in
     let taken : g.F.Files.taken c.args.files.now ≤ g.F.Files.taken c.read_log.new.files = omega (arith, c.in_ok-script.ensures.taken, c.in_ok-rules.ensures.taken, c.in_ok-kernel.ensures.taken) in
     let p = err_from_is_err_and c.from_residual-in_err-version.result c.from_residual-in_err-version.ensures.1 in
-    rw (p.1, p.2) (step_stops _ trail holds (Version trail.index) (machine_traced trail setup) (holds trail.version) (g.F.Files.holds c.read_log.new.files trail.version) _ _ _ _ _ _ (ap (λ (h : List ℕ → Told). h trail.version) still) faults taken
+    rw (p.1, p.2) (step_stops _ trail holds (Version trail.index) FILE_LIMIT (machine_traced trail setup) (holds trail.version) (g.F.Files.holds c.read_log.new.files trail.version) _ _ _ _ _ _ refl (ap (λ (h : List ℕ → Told). h trail.version) still) faults taken
     (version_lacks trail holds setup c.in_ok-script.ensures.script c.in_ok-rules.rules rules c.in_ok-kernel.kernel.log trace) c.in_err-version.ensures.refused)
 
 pub returns-clause-ready : goal.returns-clause-ready
