@@ -1,7 +1,7 @@
 #!/usr/bin/env bash
 # Runs the examples but those of guests/, and compares: the assembler texts hello, service and server with the reports of expected/, and the server in C and
 # two programs of Debian with what their clients got under Linux (server/expected, strangers/expected); gives the program files and outputs of the host that fail; does the
-# commands of docs/TUTORIAL.md, COMPARE.md, REPORT.md, SCRIPT.md, GUESTS.md and CHECKED.md; tries the scripts of this folder; and has the manual pages formatted.
+# commands of README.md, docs/TUTORIAL.md, COMPARE.md, REPORT.md, SCRIPT.md, GUESTS.md and CHECKED.md; tries the scripts of this folder; and has the manual pages formatted.
 # check.sh [PROGRAM]: crates/varan/out/varan where no program is named.
 # It wants jq, cc and groff (Debian: jq, gcc, groff-base). What wants one that isn't there is left out, and a line with `left out` tells it.
 # Status: 0 where nothing differs, 1 where something does, 2 where the program isn't built.
@@ -423,6 +423,7 @@ if has jq jq "strace.jq"; then
     calls expected/calls --script script "$work/hi"
 fi
 
+page ../README.md
 page TUTORIAL.md
 page COMPARE.md
 

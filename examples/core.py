@@ -1,7 +1,7 @@
 #!/usr/bin/env python3
 """Writes a version's state at a point of a trace as a core file, as Linux writes one, for gdb-multiarch.
 
-    core.py [--program PROGRAM] CORE --script S [--rules R] [--memory N] [--budget N | --hang N] [--index I] POINT TRACE VERSION
+    core.py [--program PROGRAM] CORE (--script S | --transcript T) [--rules R] [--memory N] [--budget N | --hang N] [--index I] POINT TRACE VERSION
     gdb-multiarch VERSION CORE
 
 The arguments after CORE are those of `varan inspect` (docs/COMPARE.md) without --dump and --length; `varan` is the program unless another is named. CORE gets the registers
@@ -143,7 +143,9 @@ def arguments():
     parser = argparse.ArgumentParser(description="Writes a version's state at a point of a trace as a core file.")
     parser.add_argument("--program", default="varan")
     parser.add_argument("core")
-    parser.add_argument("--script", required=True)
+    script = parser.add_mutually_exclusive_group(required=True)
+    for name in ["--script", "--transcript"]:
+        script.add_argument(name)
     for name in ["--rules", "--memory", "--budget", "--hang", "--index"]:
         parser.add_argument(name)
     point = parser.add_mutually_exclusive_group(required=True)
@@ -156,7 +158,7 @@ def arguments():
 
 def main():
     given = arguments()
-    options = [word for name in ["script", "rules", "memory", "budget", "hang", "index", "stamp", "call", "count"] if getattr(given, name) for word in (f"--{name}", getattr(given, name))]
+    options = [word for name in ["script", "transcript", "rules", "memory", "budget", "hang", "index", "stamp", "call", "count"] if getattr(given, name) for word in (f"--{name}", getattr(given, name))]
     version = Version([given.program, "inspect", *options, given.trace, given.version])
     print(version.at)
     if not version.threads:

@@ -1,8 +1,8 @@
 #!/usr/bin/env python3
 """Shows where a version parts from a run: the event of the log and the version's own call one above the other, as strace prints calls, and what differs first.
 
-    parting.py [--program PROGRAM] --script S [options of varan run] V1 V2 ..
-    parting.py [--program PROGRAM] --script S [--rules R] [--memory N] [--budget N | --hang N] [--index I] TRACE VERSION
+    parting.py [--program PROGRAM] (--script S | --transcript T) [options of varan run] V1 V2 ..
+    parting.py [--program PROGRAM] (--script S | --transcript T) [--rules R] [--memory N] [--budget N | --hang N] [--index I] TRACE VERSION
 
 The arguments but --program (default `varan`) are those of `varan run`, or of `varan replay` with a trace. Of a run it makes the trace by itself, and shows each version.
 docs/COMPARE.md says how it is read. Needs jq, for strace.jq.
@@ -19,7 +19,7 @@ import sys
 import tempfile
 
 # The options that `run` and `replay` share, and those of `run` alone; and how a trace begins.
-OPTIONS, OF_RUN = ["--script", "--rules", "--memory", "--budget", "--hang"], ["--calls", "--ring", "--threads"]
+OPTIONS, OF_RUN = ["--script", "--transcript", "--rules", "--memory", "--budget", "--hang"], ["--calls", "--ring", "--threads"]
 MAGIC = b"VARANTR1"
 SECONDS = 120
 STRACE = pathlib.Path(__file__).resolve().parent / "strace.jq"
@@ -238,8 +238,11 @@ def recorded(program, given, versions, path):
 def arguments():
     parser = argparse.ArgumentParser(description="Shows where a version parts from a run.")
     parser.add_argument("--program", default="varan")
-    for name in [*OPTIONS, *OF_RUN, "--index"]:
-        parser.add_argument(name, required=name == "--script")
+    script = parser.add_mutually_exclusive_group(required=True)
+    for name in OPTIONS[:2]:
+        script.add_argument(name)
+    for name in [*OPTIONS[2:], *OF_RUN, "--index"]:
+        parser.add_argument(name)
     parser.add_argument("files", nargs="+", metavar="TRACE VERSION, or V1 V2 ..")
     words = parser.parse_args()
     with_trace = is_trace(words.files[0])

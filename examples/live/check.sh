@@ -179,6 +179,41 @@ END
     three_at "$port" xinetd
 }
 
+# comments: the operator is told of the first and the tenth decision of a rule, and of nine tenths of the calls.
+comments() {
+    # one reads lines and writes them again, the other only reads them; the rule passes over each write
+    cat >"$work/reads.s" <<END
+again: li a0, 0
+la a1, room
+li a2, 64
+li a7, 63
+ecall
+beq a0, zero, done
+mv a2, a0
+#
+j again
+done: li a0, 0
+li a7, 94
+ecall
+.data
+room: .zero 64
+END
+    sed 's/^#$/li a0, 1\nli a7, 64\necall/' "$work/reads.s" >"$work/writes.s"
+    "$program" asm "$work/reads.s" >"$work/reads"
+    "$program" asm "$work/writes.s" >"$work/writes"
+    printf '1\n6 0 0 393216\n' >"$work/passes"
+    printf 'a\n%.0s' {1..12} | "$program" serve --rules "$work/passes" --calls 26 "$work/writes" "$work/reads" 2>"$work/transcript" >"$work/console" || bad "a service with a rule"
+    sort >"$work/wanted" <<END
+# version 1 rewrites 1 at 1 100 64 1 0 2 0 0 0 = 2 : 610a
+# version 1 rewrites 10 at 19 100 64 1 0 2 0 0 0 = 2 : 610a
+# 24 of 26 calls are made
+# version 0 ended: exited 0, after 26 events
+# version 1 ended: exited 0, after 26 events
+END
+    grep '^#' "$work/transcript" | sort >"$work/comments"
+    same "$work/wanted" "$work/comments" "the operator's comments"
+}
+
 plain() {
     sed -n 's/^line //p' "$guests/scripts/service" >"$work/lines"
     # a run, with its transcript and its status in files of their own
@@ -189,6 +224,7 @@ echo \$? >"$work/\$1.\$\$.status"
 END
     chmod +x "$work/serve"
     in_a_pipe
+    comments
     # the page's commands
     rows=$((rows + 1))
     "$here/../follow.py" "$here/../../docs/LIVE.md" "$program" || wrong=$((wrong + 1))

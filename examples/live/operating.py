@@ -420,6 +420,9 @@ def falling_back(rows, program):
     rows.same(client.ask("drop colour", "get size", "get colour"), ["dropped", "not there", "not there"], "the request at which it breaks, and the next")
     until(lambda: service.roles() == [(KEEPER[1], "leads"), (KEEPER[2], "ended:")], "the old version leads again")
     rows.holds("ended: fault load " in "\n".join(service.operate("status")), "the status tells why", service.operate("status"))
+    until(lambda: "# varan-listen: version 1 ended: fault load " in service.notes(), "the operator is told of the break")
+    told = re.findall(r"# varan-listen: version (\d) leads", service.notes())
+    rows.same(told, ["1", "0"], "the leads that the operator is told of")
     rows.same(service.operate("hand"), ["no: no other version follows"], "a hand-over once the other version has ended")
     client.close()
     rows.same(service.end(), 0, "the status after a break")
@@ -479,6 +482,7 @@ def permitted(rows, program):
     rows.same(service.ask("put colour blue"), ["KEPT"], "its answer")
     rows.same(service.operate(f"join {KEEPER[3]}")[-1], "ok", "another version joins, and the past has answers of both")
     rows.same(service.roles(), [(KEEPER[1], "follows"), (str(other), "leads"), (KEEPER[3], "follows")], "who leads then")
+    rows.holds(any("follows (rewrites " in line for line in service.operate("status")), "a rule decided for a version that follows", service.operate("status"))
     os.kill(service.serving(), signal.SIGKILL)
     rows.same(service.ask("put colour red", "get colour"), ["KEPT", "red"], "its answer by a process that is begun anew")
     answer = service.operate("drop 0")[-1]
@@ -618,6 +622,15 @@ def unheard_port(rows, program):
         rows.holds("no guest accepts them at port 8081" in service.notes(), "the operator is told of it", service.notes())
 
 
+def nearly_all_clients(rows, program):
+    """The operator is told before a run has its last client, whose state the next run lacks."""
+    service = Service(program, KEEPER[1], options=("--each", "112"))
+    rows.same([service.ask("size") for _ in range(100)], [[str(it + 1)] for it in range(100)], "a hundred clients of a run of 112")
+    rows.holds("100 of 112 clients have come to this run" in service.notes(), "the operator is told of it", service.notes())
+    rows.same([service.ask("size") for _ in range(13)][-1], ["1"], "the first client of the next run")
+    rows.same(service.end(), 0, "the status, with a run after the first")
+
+
 def closed_console(rows, program):
     service = Service(program, KEEPER[1], stdout=None, preexec_fn=lambda: os.close(1))
     rows.same(service.ask("say hello", "size"), ["said", "2"], "a client, with standard output closed")
@@ -686,7 +699,7 @@ def received(client):
 
 
 started = []
-TRIED = (joining, handing, falling_back, reloading, permitted, told_metrics, killed_command, killed_all, real_time, unheard_port, closed_console, unread_console, full_transcript, cut_answers)
+TRIED = (joining, handing, falling_back, reloading, permitted, told_metrics, killed_command, killed_all, real_time, nearly_all_clients, unheard_port, closed_console, unread_console, full_transcript, cut_answers)
 
 
 def main():

@@ -33,7 +33,8 @@ class Control:
 
     async def hear(self, reader, writer):
         """An operator's lines, each with its answer. Where the operator leaves, a version that joins goes on."""
-        with contextlib.suppress(OSError, ValueError):
+        # (at the service's end a watch that goes on is cancelled)
+        with contextlib.suppress(OSError, ValueError, asyncio.CancelledError):
             async for line in reader:
                 async for answer in self.answer(line.decode(errors="replace")):
                     writer.write(f"{answer}\n".encode())

@@ -53,7 +53,13 @@ def versions_of(run):
     """Of each version a sample with its role: leads, follows or ended."""
     process = run.serving
     for number, role in enumerate(process.transcript.roles(len(process.versions))):
-        yield labelled(index=number, file=process.versions[number], role=role.partition(":")[0]), 1
+        yield labelled(index=number, file=process.versions[number], role=role.split()[0].rstrip(":")), 1
+
+
+def rewrites_of(run):
+    """Of each version for which a rule decided, how often it was last reported: the first time, the tenth, and so on."""
+    process = run.serving
+    return [(labelled(index=number, file=process.versions[number]), count) for number, count in sorted(process.transcript.rewrites.items())]
 
 
 def lags_of(run):
@@ -80,7 +86,9 @@ def exposition(run, counts):
     yield from family("refusals_total", "counter", "Processes that were to take another one's place and were given up.", [("", counts.refusals)])
     yield from family("hand_overs", "gauge", "Planned lengths and hand-overs of the process that serves.", [("", len(run.serving.transcript.hands))])
     yield from family("version", "gauge", "The versions of the process that serves, by role.", versions_of(run))
+    yield from family("rewrites", "gauge", "Decisions of rules for a version, as the command last reported them.", rewrites_of(run))
     yield from family("lag_lines", "gauge", "Lines that a process which catches up has still to say.", lags_of(run))
+    yield from family("run_ended", "gauge", "1 if the run has ended, and its state is gone: the next client begins one.", [("", int(run.ended.done()))])
     yield from family("transcript_failed", "gauge", "1 where a line of the transcript couldn't be written.", [("", int(run.serving.transcript.has_failed))])
     yield from family("resident_memory_bytes", "gauge", "Memory of the processes.", memories_of(run))
 

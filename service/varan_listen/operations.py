@@ -49,6 +49,8 @@ class Operations:
         yield f"clients {run.count} came {run.told.lines} said {run.said.lines} restarts {run.restarts} hands {len(process.transcript.hands)}"
         yield f"transcript {process.transcript.path}{': a line of it could not be written' if process.transcript.has_failed else ''}"
         yield from roles
+        if run.ended.done():
+            yield "the run has ended: the next client begins one, without its state"
         if process.obeyed() < len(process.hands):
             yield "a hand-over waits for the next call that is served"
         if progress := run.progress():

@@ -291,11 +291,18 @@ class Run:
                 return f"catching up: told {process.fed * 100 // (self.told.size or 1)} % of {self.told.lines} lines, heard {process.heard_lines} of {self.said.lines}"
         return None
 
+    def tell_news(self, process):
+        """Says who ended and who leads on, which the process that serves has reported since the last time. Of one that catches up all of it was so before."""
+        news = process.transcript.take_news()
+        for it in news if not process.is_behind else ():
+            note(it)
+
     async def watch(self):
         """Each second: a command that was begun anew says how far it is; and each client that was accepted has to stand in the transcript."""
         while True:
             await asyncio.sleep(1)
             process, accepts = self.serving, self.accepts
+            self.tell_news(process)
             if not self.is_there(process):
                 if process.is_behind:
                     note(self.progress())
@@ -311,9 +318,10 @@ class Run:
         self.serving.process.stdin.close()
         if status == UNWRITTEN:
             note("a line of a transcript couldn't be written: the transcript ends there")
-        is_cut = status < 0 or self.serving.transcript.has_met_limit()
+        at_limit = self.serving.transcript.has_met_limit()
+        is_cut = status < 0 or at_limit
         if self.accepted and (status or is_cut):
-            note(f"{len(self.accepted)} clients get no more: the command ended with status {status}{', at a limit' if is_cut else ''}")
+            note(f"{len(self.accepted)} clients get no more: the command ended with status {status}{', at a limit' if at_limit else ''}")
         for number in list(self.accepted):
             self.close(number, is_cut)
         await asyncio.gather(*self.closers)

@@ -81,6 +81,9 @@ class Service:
         if run.count + 1 >= self.given.each and not self.is_ending:
             await self.begin()
         run.connect(client)
+        # (a run of few clients is meant to end soon)
+        if run.count == self.given.each * 9 // 10 >= 100:
+            note(f"{run.count:,} of {self.given.each:,} clients have come to this run: the one after it begins without its state")
         if run is not self.run:
             run.end_clients()
 

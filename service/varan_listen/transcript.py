@@ -6,7 +6,7 @@ ARRIVALS = (b"connect", b"data", b"end", b"line", b"input", b"time")
 OVER = (b"end clients", b"end input")
 # The transcript of a process that hasn't caught up has this at the end of its name: it lacks something that came.
 BEHIND = ".behind"
-SAID = re.compile(rb"(?m)^(?:(connect) \d+|hand (\d+)|# version (\d) (?:leads from event (\d+)|ended: (.*)))$")
+SAID = re.compile(rb"(?m)^(?:(connect) \d+|hand (\d+)|# (\d+ of \d+ calls are made)|# version (\d) (?:leads from event (\d+)|rewrites (\d+) at .*|ended: (.*)))$")
 LIMITS = ("fault calls", "fault budget")
 
 
@@ -19,6 +19,8 @@ class Transcript:
         self.rest = b""  # the beginning of the last line, which isn't whole
         self.connects = 0  # clients
         self.ends = {}  # of the versions that ended, how
+        self.rewrites = {}  # of the versions for which a rule decided, how often it was last reported
+        self.news = []  # what the operator has to know of, since it was last taken
         self.hands = []  # lengths of hand-overs, those of the script among them
         self.leads = {0: 0}  # by the event from which it led, each leader in turn
         self.order = list(range(count))  # of the versions that haven't ended, in the order in which they lead
@@ -30,15 +32,21 @@ class Transcript:
         if self.reader is None:
             return
         whole, _, self.rest = (self.rest + self.reader.read()).rpartition(b"\n")
-        for connect, hand, number, event, end in SAID.findall(whole):
+        for connect, hand, made, number, event, rewrites, end in SAID.findall(whole):
             if connect:
                 self.connects += 1
             elif hand:
                 self.hands.append(int(hand))
+            elif made:
+                self.news.append(made.decode())
             elif event:
                 self.take_lead(int(number), int(event))
+                self.news.append(f"version {int(number)} leads from event {int(event)}")
+            elif rewrites:
+                self.rewrites[int(number)] = int(rewrites)
             else:
                 self.ends[int(number)] = end.decode()
+                self.news.append(f"version {int(number)} ended: {end.decode()}")
                 self.order = [it for it in self.order if it != int(number)]
 
     def take_lead(self, number, event):
@@ -60,9 +68,16 @@ class Transcript:
         return leaders == sorted(set(leaders))
 
     def roles(self, count):
-        """Of each version whether it leads, follows, or how it has ended."""
+        """Of each version whether it leads, follows, and how often a rule decided for it, or how it has ended."""
         self.learn()
-        return [f"ended: {self.ends[it]}" if it in self.ends else "leads" if it == self.leader() else "follows" for it in range(count)]
+        return [self.role(it) for it in range(count)]
+
+    def role(self, number):
+        if number in self.ends:
+            return f"ended: {self.ends[number]}"
+        if number == self.leader():
+            return "leads"
+        return f"follows (rewrites {self.rewrites[number]} or more)" if number in self.rewrites else "follows"
 
     def has_met_limit(self):
         """Whether a version came to a limit."""
@@ -77,8 +92,14 @@ class Transcript:
         self.has_failed = True
         return True
 
+    def take_news(self):
+        self.learn()
+        news, self.news = self.news, []
+        return news
+
     def arrive(self):
-        """Its process has caught up."""
+        """Its process has caught up. What it has reported so far was so before."""
+        self.take_news()
         if self.path:
             self.path = self.path.rename(self.path.with_name(self.path.name.removesuffix(BEHIND)))
 
