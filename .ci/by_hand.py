@@ -79,7 +79,7 @@ def tried(names):
             print(line, end="", flush=True)
             lines.append(line)
         status = run.wait()
-    with open("docs/EDITS.md", encoding="utf-8") as text:
+    with open("docs/TESTING.md", encoding="utf-8") as text:
         page = edits.Page.of(text.read()).only(known.keys())
     ledger.write(ledger.lines_for(lines, known, page, sums))
     yield from edits.faults_in(lines, known, page)

@@ -1,12 +1,12 @@
 #!/usr/bin/env python3
 """Says which must-fail edits show nothing of a contract, by what `rt ci` told of each, at the top of the repository.
 
-    .ci/edits.py LOG           writes a line for each edit that shows nothing, for each that the log doesn't tell of, and for each line of docs/EDITS.md that is of no use
+    .ci/edits.py LOG           writes a line for each edit that shows nothing, for each that the log doesn't tell of, and for each line of docs/TESTING.md that is of no use
     .ci/edits.py --all LOG     writes for each edit what refused it
 
 An edit counts where the prover refuses it at something that is listed here: a goal of an `ensures`, a type's or a loop's invariant, the rule of the table that
 stations share, or a law where the edit changes a definition. Where the search gave up at such a goal, it counts if the edit changes values alone: then the text as it stands
-is the right value in the wrong one's place, and the same search proves that. Whatever else is said of it, or nothing, is a reason why it doesn't count. docs/EDITS.md has the same
+is the right value in the wrong one's place, and the same search proves that. Whatever else is said of it, or nothing, is a reason why it doesn't count. docs/TESTING.md has the same
 as a table, and names those edits that count though something else refuses them: a condition that is the rule itself, and an answer or a lemma of a proof file, or a
 goal at which the search gave up, that was tried with the right value; and those of the last kind that weren't tried yet.
 Status: 0 where there is no line to write, else 1.
@@ -31,7 +31,7 @@ ANSWER = re.compile(r": (?:\./)?proofs/\S+:\d+:\d+: error: `([^`]*)`: (.*)")
 GAVE_UP = re.compile(r"`\); `|gave up|broke off|given up after|ran out of|stopped at|outgrew the memory limit")
 
 CLAUSE, INVARIANT, LOOP, RULE, LAW = "a clause", "a type's invariant", "a loop's invariant", "the table's rule", "a law"
-# what docs/EDITS.md names, though something else refuses it
+# what docs/TESTING.md names, though something else refuses it
 LISTED = "a reason that is listed"
 KINDS = (CLAUSE, INVARIANT, LOOP, RULE, LAW, LISTED)
 COUNTS = [
@@ -126,7 +126,7 @@ def told_in(lines):
 
 @dataclasses.dataclass
 class Page:
-    """The names on docs/EDITS.md: of edits that a condition may refuse, and of those that were tried with the right value."""
+    """The names on docs/TESTING.md: of edits that a condition may refuse, and of those that were tried with the right value."""
 
     conditions: set = dataclasses.field(default_factory=set)
     tried: set = dataclasses.field(default_factory=set)
@@ -164,15 +164,15 @@ def faults_in(lines, edits, page, untold=frozenset()):
         yield f"{name}: the run says nothing of it"
     for name in sorted(page.conditions - untold):
         if name not in told or not whys[name]:
-            yield f"{name}: docs/EDITS.md names it, and it counts without"
+            yield f"{name}: docs/TESTING.md names it, and it counts without"
     for name in sorted(page.tried - edits.keys() - untold):
-        yield f"{name}: docs/EDITS.md names it, and there is no such edit"
+        yield f"{name}: docs/TESTING.md names it, and there is no such edit"
 
 
 def main(words):
     if len(words) not in (1, 2) or words[:-1] not in ([], ["--all"]):
         sys.exit(__doc__)
-    with open("docs/EDITS.md", encoding="utf-8") as text:
+    with open("docs/TESTING.md", encoding="utf-8") as text:
         page = Page.of(text.read())
     edits = edits_of("crates")
     with open(words[-1], encoding="utf-8", errors="replace") as log:

@@ -108,7 +108,7 @@ LOGS = [
     ([COUNTED, AT_CONDITION.replace("a/condition", "a/other")], ["a/counts", "a/other"], ["a/other: a condition"]),
     ([COUNTED, AT_CONDITION], ["a/counts", "a/condition"], []),
     ([COUNTED, BAD], ["a/counts", "a/condition"], ["a/condition: BAD EDIT"]),
-    ([COUNTED.replace("a/counts", "a/condition")], ["a/condition"], ["a/condition: docs/EDITS.md names it"]),
+    ([COUNTED.replace("a/counts", "a/condition")], ["a/condition"], ["a/condition: docs/TESTING.md names it"]),
     ([COUNTED], ["a/counts", "a/silent"], ["a/silent: the run says nothing"]),
     ([], ["a/counts"], ["a/counts: the run says nothing"]),
     ([AT_LEMMA], ["a/lemma"], []),

@@ -70,7 +70,7 @@ LEDGERS = [
 REFUSED = "refused, as it must be"
 AT_CLAUSE = f"{REFUSED}: note: src/lib.rt:1:1: it is not proved that what the function ensures holds when it returns (`returns`)"
 AT_CONDITION = f"{REFUSED}: note: src/lib.rt:1:1: it is not proved that what `f` requires holds at this call (`f-requires`)"
-# What a run tells of the two edits, what docs/EDITS.md lists, and what their lines have then; nothing for an edit without a line. Both had one before.
+# What a run tells of the two edits, what docs/TESTING.md lists, and what their lines have then; nothing for an edit without a line. Both had one before.
 TRIED = [
     ({WRONG: AT_CLAUSE, LATE: AT_CLAUSE}, set(), {WRONG: edits.CLAUSE, LATE: edits.CLAUSE}),
     ({WRONG: AT_CONDITION, LATE: AT_CLAUSE}, set(), {LATE: edits.CLAUSE}),

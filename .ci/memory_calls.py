@@ -1,6 +1,6 @@
 #!/usr/bin/env python3
-"""Compares docs/inside/MEMORY.md with the signatures, both ways: each public call that takes memory stands in its first table as CRATE::NAME or CRATE::TYPE::NAME, and
-each that stands there takes memory by its signature.
+"""Compares docs/inside/ARCHITECTURE.md with the signatures, both ways: each public call that takes memory stands in its table "Calls that take memory" as CRATE::NAME or
+CRATE::TYPE::NAME, and each that stands there takes memory by its signature.
 
 A call takes memory by its signature where it takes an allocator (Global), or where its answer has AllocError or a type of the code with a case Memory. Those that
 take none all the same stand in the paragraph after the table. Reads crates/*/src. A call is public where its crate's lib.rt exports it, its type or its module (whose name is then
@@ -12,7 +12,7 @@ import re
 import sys
 
 TOP = pathlib.Path(__file__).resolve().parent.parent
-PAGE = "docs/inside/MEMORY.md"
+PAGE = "docs/inside/ARCHITECTURE.md"
 LEFT_OUT = re.compile(r"_(tests|bench|laws|harness)$|^nv_rows$")
 CALL = re.compile(r"^( *)(pub )?(?:final )?fn (\w+)(?:<[^{;]*?>)?\(([^{;]*?)\)(?: -> ([^{;]*?))?(?=\s*(?:;|requires|ensures|where|\{))", re.M | re.S)
 OWNER = re.compile(r"^(impl|pub trait|trait)(?:<[^>]*>)? (\w+)([^{\n]*)", re.M)
@@ -60,7 +60,7 @@ def calls(crate, texts, wanting):
 
 
 def said_by(page):
-    """The paths in the first column of the page's first table, and in the paragraph after it."""
+    """The paths in the first column of the page's table of these calls, and in the paragraph after it."""
     table, _, after = page.partition("## Calls that take memory\n")[2].partition("\n\nThese take none")
     columns = [line.split(" | ")[0] for line in table.split("\n") if line.startswith("| `")]
     return {path for text in [*columns, after.partition("\n\n")[0]] for path in PATH.findall(text)}

@@ -26,10 +26,11 @@ import typing
 MANUAL = "docs/varan.1"
 ROOT = os.path.dirname(os.path.dirname(os.path.abspath(__file__)))
 # the pages that a user reads first; how long their lines are at most, and those of the others
-FIRST = ("docs/LIVE.md", "docs/varan.1")
+FIRST = ("docs/varan.1",)
 MOST_FIRST, MOST = 200, 240
 # the pages in plain English: how long their lines are at most, tables aside, and how many words of CONTRIBUTING.md's list they have at most in 1,000 words of prose
-PLAIN = ("README.md", *(f"docs/{it}.md" for it in ("ASSEMBLER", "COMPARE", "DEFINITIONS", "EDITS", "GUESTS", "LINUX", "PROVED", "REPORT", "RULES", "SCRIPT", "TESTING")))
+PLAIN = ("README.md", *(f"docs/{it}.md" for it in (
+    "ASSEMBLER", "CHECKED", "COMPARE", "DEFINITIONS", "GUESTS", "LINUX", "LIVE", "PROVED", "REPORT", "RULES", "SCRIPT", "TESTING", "TUTORIAL")))
 MOST_PLAIN, HOUSE_WORDS = 120, 2
 WORDS_HEAD = "| In place of | Write |"
 # the pages for who changes the program; how long their lines are at most, and those of the list of changes, but in tables
@@ -56,6 +57,8 @@ LIMITS = (
     ("nv_driver/specs/Found.antt", r"FILE_LIMIT = (\d+)", {
         "REPORT": "more than {} bytes | for a version", "LIVE": "it may have {} bytes, as every script", "GUESTS": "A file has at most {} bytes", "ASSEMBLER": "A text of up to {} bytes is read"}),
     ("nv_driver/specs/Found.antt", r"TRACE_LIMIT = (\d+)", {"REPORT": "a trace has more than {} bytes", "COMPARE": "`inspect` read traces of up to {} bytes"}),
+    ("nv_driver/specs/Found.antt", r"TRANSCRIPT_LIMIT = (\d+)", {
+        "REPORT": "a script has more than {} bytes", "LIVE": "by `--transcript` in its place {};", "SCRIPT": "by `--transcript` (LIVE.md) {}", "PROVED": "of a transcript {}."}),
     ("nv_script/specs/Scripts.antt", r"length draft\.arguments\) (\d+)", {"REPORT": "more than {} arguments", "SCRIPT": "line, {} arguments"}),
     ("nv_script/specs/Scripts.antt", r"length draft\.files\) (\d+)", {"REPORT": "{} files, 8 planned", "SCRIPT": ", {} files of"}),
     ("nv_script/specs/Scripts.antt", r"length draft\.hands\) (\d+)", {"REPORT": "{} planned lengths or", "SCRIPT": "{} planned lengths, all different"}),
