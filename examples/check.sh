@@ -523,6 +523,17 @@ cat >"$work/overlap" <<'END'
 END
 told 0 "$work/overlap" "$here/explain.py" 'varan: input hi: overlap 1 2'
 told 0 "$work/overlap" "$here/explain.py" '# varan: input hi: overlap 1 2'
+# by hand: the three bytes of hi's data are at 0x11000, and 69,635 bytes with 65,536 of a stack take 34 pages of 4,096
+cat >"$work/room" <<END
+  Versions: segment 0 ends above the memory less 65,536 bytes, which are the stack
+      do: a larger \`--memory\` (with 131,072 no byte from 0x10000 on is free), or lower addresses
+  Versions: of a small program: the compiler's own linker file puts it at 0x10000000, for a bare machine
+      do: use \`examples/guests/cc\`, or its \`guest.ld\`
+  $work/hi: its last byte is 69,634, so it needs 139,264 bytes with the stack; without \`--memory\` there are 1,048,576
+END
+told 0 "$work/room" "$here/explain.py" "varan: input $work/hi: no room 0"
+says 4 "varan: input $work/hi: no room 1" run --script "$here/assembler/hello/script" --memory 135168 "$work/hi"
+row 0 "$here/assembler/hello/expected/report" run --script "$here/assembler/hello/script" --memory 139264 "$work/hi"
 causes=(long 'line 1 form' 'line 3 word' 'line 3 shape' 'line 3 range' 'line 3 twice' 'line 3 long' 'line 3' empty 'too long' count 'code 3' 'jump 3' 'scratch 3' 'offset 3' 'zero 3'
     'shift 3' 'no return' 'line 3 operand' 'line 3 label' 'line 3 far' 'line 3 mnemonic' short magic class type machine flags header interpreted 'outside 3' 'overlap 1 2' entry 'no room 3'
     'no room 0' arguments 'short 3' 'field 3' extra 'ended 3' 'shape 3' 'thread 3' 'reply 3')

@@ -5,16 +5,22 @@
     varan .. | explain.py                       passes everything on, and explains a refusal on standard error
     varan serve .. 2>&1 | explain.py            the same; a live run's refusal is a comment of its transcript, `# varan: ..`
 
+A version that has no room is looked at, if its file can be read: how much memory it needs is told.
 Status: 0 where there was nothing to explain or all was explained, 1 where the pages have no row for a refusal.
 """
 import pathlib
 import re
+import struct
 import sys
 
 DOCS = pathlib.Path(__file__).resolve().parent.parent / "docs"
 REFUSAL = re.compile(r"(?:# )?varan: (?:input (?P<file>.*): (?P<cause>.*)|(?P<line>usage|memory|read) ?.*)")
 # In a cause of the pages these letters stand for numbers.
 NUMBERS = "NIAB"
+# A version's memory, in bytes: a page of it, the stack at its top, what it has without `--memory`, and the most that it can have.
+PAGE, STACK, DEFAULT, MOST = 4096, 65536, 1048576, 16777216
+# The type of a program header whose segment is loaded (System V ABI, program header).
+PT_LOAD = 1
 
 
 def sections(page):
@@ -68,6 +74,27 @@ def of_cause(cause):
     return found
 
 
+def ends_of(file):
+    """Where each segment ends that is loaded and has bytes; none where the file can't be read, or isn't ELF32."""
+    try:
+        image = pathlib.Path(file).read_bytes()
+        first, size, count = *struct.unpack_from("<I", image, 28), *struct.unpack_from("<HH", image, 42)
+        headers = [struct.unpack_from("<8I", image, first + size * n) for n in range(count)]
+    except (OSError, struct.error):
+        return []
+    return [address + length for kind, _, address, _, _, length, *_ in headers if kind == PT_LOAD and length]
+
+
+def memory_of(file, cause):
+    """How much memory a version needs that has no room."""
+    ends = ends_of(file) if cause.startswith("no room ") else []
+    if not ends:
+        return []
+    needed = -(-(max(ends) + STACK) // PAGE) * PAGE
+    there = f"{MOST:,} are the most" if needed > MOST else f"without `--memory` there are {DEFAULT:,}"
+    return [f"  {file}: its last byte is {max(ends) - 1:,}, so it needs {needed:,} bytes with the stack; {there}"]
+
+
 def of_line(word):
     """What the section of a line says that has no cause."""
     for heading, lines in sections("REPORT.md"):
@@ -82,7 +109,9 @@ def explained(line):
     refusal = REFUSAL.fullmatch(line.rstrip("\n"))
     if not refusal:
         return None
-    return of_cause(refusal["cause"]) if refusal["cause"] else of_line(refusal["line"])
+    if not refusal["cause"]:
+        return of_line(refusal["line"])
+    return of_cause(refusal["cause"]) + memory_of(refusal["file"], refusal["cause"])
 
 
 def passed_on():
