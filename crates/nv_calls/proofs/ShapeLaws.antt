@@ -1,13 +1,14 @@
 -- How many bytes a call that a guest can make hands in, and how many readv asks for.
-use Rattle.std.proofs.Common.{◌≡◌, ◌≤◌, Bool, true, false, ◌==◌, ◌||◌, not, cond, nat_le, length, arith}
+use Rattle.std.proofs.Common.{◌≡◌, ◌≤◌, ℕ, ◌+◌, ◌*◌, Bool, true, false, ◌==◌, ◌||◌, not, cond, nat_le, List, length, refl, subst, arith}
 use Rattle.std.specs.Prelude.{slice_index}
 use Rattle.std.proofs.lemmas.Bool.{and_parts}
 use Rattle.std.proofs.lemmas.Bool.Decides.{nat_tests}
 use Rattle.nv_calls.specs.declared.numbers.Syscall.{Syscall}
-use Rattle.nv_calls.specs.declared.numbers.Syscall.TheVariants.{Unlinkat, Openat, Write, Writev, Bind}
+use Rattle.nv_calls.specs.declared.numbers.Syscall.TheVariants.{Unlinkat, Openat, Write, Writev, Bind, ClockNanosleep, Ppoll}
+use Rattle.nv_calls.specs.Answers.{polled_count}
 use Rattle.nv_calls.specs.Calls.{Request}
 use Rattle.nv_calls.specs.Numbers.{syscall_of, has_range, hands_in, is_local}
-use Rattle.nv_calls.specs.Shapes.{are_plain, kept_slots, most_of_vectors, is_capacity, is_path, is_payload, is_shaped_as, is_shaped, IsShaped}
+use Rattle.nv_calls.specs.Shapes.{are_plain, kept_slots, most_of_vectors, is_capacity, is_path, is_polled, is_payload, is_shaped_as, is_shaped, IsShaped}
 
 none : (c : Request) → (length c.payload == 0) ≡ true → length c.payload ≡ 0
 none c h = grind (arith, nat_tests)
@@ -23,12 +24,31 @@ vectors_few c = by c.bad (nat_le (slice_index c.args 2) 1024)
 path_few : (c : Request) → is_path c.payload ≡ true → length c.payload ≤ 4096
 path_few c h = let p = (and_parts (nat_le (length c.payload) 256) _ h).0 in let few : length c.payload ≤ 256 = grind (arith, nat_tests) in omega arith
 
+counted_few : (n : ℕ) (b : Bool) → nat_le n 408 ≡ b → cond b n 0 ≤ 408
+counted_few n true e = grind (arith, nat_tests)
+counted_few n false e = omega arith
+
+pub polled_count-few : (n : ℕ) → polled_count n ≤ 408
+polled_count-few n = counted_few n (nat_le n 408) refl
+
+either_few : (n k : ℕ) (a b : Bool) → k ≤ 408 → (n == 8 * k) ≡ a → (n == 8 * k + 16) ≡ b → (a || b) ≡ true → n ≤ 3280
+either_few n k true b few e f h = let is : n ≡ 8 * k = grind (arith, nat_tests) in omega (arith, is, few)
+either_few n k false true few e f h = let is : n ≡ 8 * k + 16 = grind (arith, nat_tests) in omega (arith, is, few)
+either_few n k false false few e f h = cc
+
+polled_few : (count : ℕ) (bytes : List ℕ) → is_polled count bytes ≡ true → length bytes ≤ 3280
+polled_few count bytes h =
+    let k : ℕ = polled_count count in
+    either_few (length bytes) k (length bytes == 8 * k) (length bytes == 8 * k + 16) (polled_count-few count) refl refl h
+
 payload_few : (k : Syscall) (c : Request) → is_payload k c ≡ true → length c.payload ≤ 4096
 payload_few Unlinkat c h = path_few c h
 payload_few Openat c h = path_few c h
 payload_few Write c h = grind (arith, nat_tests)
 payload_few Writev c h = let v = vectors_few c in let few : length c.payload ≤ most_of_vectors c = grind (arith, nat_tests) in omega arith
 payload_few Bind c h = grind (arith, nat_tests)
+payload_few ClockNanosleep c h = let few = polled_few 0 c.payload h in omega (arith, few)
+payload_few Ppoll c h = let few = polled_few (slice_index c.args 1) c.payload h in omega (arith, few)
 payload_few _ c h = let z = none c h in omega arith
 
 payload_empty : (k : Syscall) (c : Request) → hands_in k ≡ false → is_payload k c ≡ true → length c.payload ≡ 0
@@ -37,6 +57,8 @@ payload_empty Openat c e h = cc
 payload_empty Write c e h = cc
 payload_empty Writev c e h = cc
 payload_empty Bind c e h = cc
+payload_empty ClockNanosleep c e h = cc
+payload_empty Ppoll c e h = cc
 payload_empty _ c e h = none c h
 
 few_by : (b : Bool) (k : Syscall) (c : Request) → cond b (length c.payload == 0) (is_payload k c) ≡ true → length c.payload ≤ 4096
@@ -46,6 +68,10 @@ few_by false k c h = payload_few k c h
 empty_by : (b : Bool) (k : Syscall) (c : Request) → hands_in k ≡ false → cond b (length c.payload == 0) (is_payload k c) ≡ true → length c.payload ≡ 0
 empty_by true k c e h = none c h
 empty_by false k c e h = payload_empty k c e h
+
+polled_by : (b : Bool) (k : Syscall) (c : Request) → k ≡ Ppoll → cond b (length c.payload == 0) (is_payload k c) ≡ true → length c.payload ≤ 3280
+polled_by true k c e h = let z = none c h in omega (arith, z)
+polled_by false k c e h = polled_few (slice_index c.args 1) c.payload (subst (λ (z : Syscall). is_payload z c ≡ true) e h)
 
 -- the parts of the test
 pub record Shaped (k : Syscall) (c : Request) : Type 0 where
@@ -69,3 +95,7 @@ shaped-few c h = few_by c.bad (syscall_of c.nr) c (shaped-parts c h).payload
 
 pub shaped-empty : (c : Request) → IsShaped c → hands_in (syscall_of c.nr) ≡ false → length c.payload ≡ 0
 shaped-empty c h e = empty_by c.bad (syscall_of c.nr) c e (shaped-parts c h).payload
+
+-- the list of ppoll, and its time
+pub shaped-polled : (c : Request) → IsShaped c → syscall_of c.nr ≡ Ppoll → length c.payload ≤ 3280
+shaped-polled c h e = polled_by c.bad (syscall_of c.nr) c e (shaped-parts c h).payload

@@ -4,6 +4,9 @@ use Rattle.std.specs.Prelude.{ℤ, negsuc}
 abbrev pub ENOENT : ℤ
 ENOENT = negsuc 1
 
+abbrev pub EINTR : ℤ
+EINTR = negsuc 3
+
 abbrev pub EBADF : ℤ
 EBADF = negsuc 8
 

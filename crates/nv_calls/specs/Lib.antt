@@ -3,6 +3,7 @@ pub mod Limits
 pub mod Errors
 pub mod Calls
 pub mod Numbers
+pub mod Profiles
 pub mod Answers
 pub mod Shapes
 pub mod Constants

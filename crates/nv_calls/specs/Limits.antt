@@ -17,6 +17,21 @@ MOST_PATH = 256
 abbrev pub MOST_ADDRESS : ℕ
 MOST_ADDRESS = 16
 
+-- descriptors that a call polls: as many as fit, with a time and with the answer, into the bytes of a call (poll(2), RLIMIT_NOFILE)
+abbrev pub MOST_POLLED : ℕ
+MOST_POLLED = 408
+
+-- bytes of a time in seconds and nanoseconds, and of what a descriptor is polled for (poll(2))
+abbrev pub TIME_BYTES : ℕ
+TIME_BYTES = 16
+
+abbrev pub POLLED_BYTES : ℕ
+POLLED_BYTES = 8
+
+-- bytes of what is told of a descriptor
+abbrev pub EVENTS_BYTES : ℕ
+EVENTS_BYTES = 2
+
 -- the thread that lives at the start
 abbrev pub FIRST_THREAD : ℕ
 FIRST_THREAD = 100

@@ -1,9 +1,17 @@
 // How many bytes a call hands out, and where they go.
 ghost use Rattle.std.specs.Prelude.{◌≡◌, ◌≤◌, IfSome};
-ghost use Rattle.nv_calls.specs.Answers.{most_out_by, answer_slot};
+ghost use Rattle.nv_calls.specs.Answers.{polled_count, most_out_by, answer_slot};
 
-use crate::limits::MOST_BYTES;
+use crate::limits::{EVENTS_BYTES, MOST_BYTES, MOST_POLLED};
 use crate::numbers::Syscall;
+
+/// How many descriptors a call polls that says so many; of too many none.
+pub fn polled_count(count: u32) -> u32
+    ensures is { result ≡ polled_count count }
+    ensures few { result ≤ 408 }
+{
+    if count <= MOST_POLLED { count } else { 0 }
+}
 
 impl Syscall {
     /// How many bytes the call hands out at most, with these arguments.
@@ -18,11 +26,12 @@ impl Syscall {
             Syscall::Uname => 390,
             Syscall::Getrandom => args[1].min(MOST_BYTES),
             Syscall::ClockGettime64 => 16,
+            Syscall::Ppoll => EVENTS_BYTES * polled_count(args[1]),
             _ => 0,
         }
     }
 
-    /// The argument that is the address of the place of the answer's bytes, unless vectors name it.
+    /// The argument that is the address of the place of the answer's bytes, unless vectors or the list of ppoll name it.
     pub fn answer_slot(self) -> Option<u8>
         ensures is { result ≡ answer_slot self }
         ensures inside { IfSome result (λ slot. slot ≤ 5) }

@@ -1,8 +1,10 @@
 // A call, its reply, and the two as an event.
 ghost use Rattle.std.specs.Prelude.{◌≡◌, ◌↔◌, IsTrue};
 ghost use Rattle.nv_calls.specs.Calls.{request, entry, status_of};
+ghost use Rattle.nv_calls.specs.Profiles.{in_profile};
 
 use crate::Bytes;
+use crate::numbers::is_later;
 
 /// A system call of a guest thread, by Linux's convention for RISC-V (syscall(2)).
 #[derive(Drop)]
@@ -25,6 +27,19 @@ impl Call {
         ensures { result ≡ status_of (request self.now) }
     {
         (self.args[0] % 256) as u8
+    }
+
+    /// The call where the later calls are in the table, or as one of a number that isn't.
+    pub fn limit(&mut self, polls: bool)
+        ensures call { request self.new ≡ in_profile polls (request self.old) }
+        ensures capacity { self.new.payload.capacity ≡ self.old.payload.capacity }
+    {
+        if polls || !is_later(self.nr) {
+            return;
+        }
+        self.args = [0; 6];
+        self.bad = false;
+        self.payload.set(&[]);
     }
 }
 

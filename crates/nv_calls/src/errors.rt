@@ -2,6 +2,8 @@
 
 pub const ENOENT: i32 = -2;
 
+pub const EINTR: i32 = -4;
+
 pub const EBADF: i32 = -9;
 
 pub const EAGAIN: i32 = -11;

@@ -13,11 +13,13 @@ mod numbers;
 mod shapes;
 mod threads;
 
+pub use answers::polled_count;
 pub use bytes::Bytes;
 pub use calls::{Call, Event, Reply, same};
 pub use limits::{
-    FIRST_THREAD, MOST_ADDRESS, MOST_BYTES, MOST_EVENTS, MOST_PATH, MOST_THREADS, MOST_VECTORS,
+    EVENTS_BYTES, FIRST_THREAD, MOST_ADDRESS, MOST_BYTES, MOST_EVENTS, MOST_PATH, MOST_POLLED,
+    MOST_THREADS, MOST_VECTORS, POLLED_BYTES, TIME_BYTES,
 };
-pub use numbers::{CLONE, EXIT, EXIT_GROUP, Slot, Syscall, is_local, slots};
+pub use numbers::{CLONE, EXIT, EXIT_GROUP, Slot, Syscall, is_later, is_local, slots};
 pub use shapes::shaped;
 pub use threads::{is_of_threads, made};

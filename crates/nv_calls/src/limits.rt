@@ -12,6 +12,17 @@ pub const MOST_PATH: usize = 256;
 /// How many bytes of a socket's address are read: those of an address of IPv4 (ip(7)).
 pub const MOST_ADDRESS: u32 = 16;
 
+/// How many descriptors a call polls at most: as many as fit, with a time and with the answer, into the bytes of a call (poll(2),
+/// RLIMIT_NOFILE).
+pub const MOST_POLLED: u32 = 408;
+
+/// The bytes of a time in seconds and nanoseconds, of what a descriptor is polled for, and of what is told of one (poll(2)).
+pub const TIME_BYTES: u32 = 16;
+
+pub const POLLED_BYTES: u32 = 8;
+
+pub const EVENTS_BYTES: u32 = 2;
+
 /// The thread that lives at the start.
 pub const FIRST_THREAD: u32 = 100;
 

@@ -1,6 +1,6 @@
 // The calls that are built, by their numbers.
 ghost use Rattle.std.specs.Prelude.{◌≡◌};
-ghost use Rattle.nv_calls.specs.Numbers.{syscall_of, slots_of, slots_by, has_range, is_local};
+ghost use Rattle.nv_calls.specs.Numbers.{syscall_of, slots_of, slots_by, has_range, is_local, is_later};
 
 /// clone(2).
 pub const CLONE: u32 = 220;
@@ -17,6 +17,7 @@ pub enum Syscall {
     Getcwd,
     Dup,
     Dup3,
+    Fcntl,
     Ioctl,
     Unlinkat,
     Openat,
@@ -44,6 +45,8 @@ pub enum Syscall {
     Accept4,
     Getrandom,
     ClockGettime64,
+    ClockNanosleep,
+    Ppoll,
     /// A number that isn't built.
     Unknown,
 }
@@ -66,6 +69,7 @@ impl Syscall {
             17 => Syscall::Getcwd,
             23 => Syscall::Dup,
             24 => Syscall::Dup3,
+            25 => Syscall::Fcntl,
             29 => Syscall::Ioctl,
             35 => Syscall::Unlinkat,
             56 => Syscall::Openat,
@@ -93,6 +97,8 @@ impl Syscall {
             242 => Syscall::Accept4,
             278 => Syscall::Getrandom,
             403 => Syscall::ClockGettime64,
+            407 => Syscall::ClockNanosleep,
+            414 => Syscall::Ppoll,
             _ => Syscall::Unknown,
         }
     }
@@ -108,12 +114,14 @@ impl Syscall {
             Syscall::Dup | Syscall::Close | Syscall::Exit | Syscall::ExitGroup | Syscall::Accept =>
                 [v, u, u, u, u, u],
             Syscall::Ioctl | Syscall::Listen => [v, v, u, u, u, u],
-            Syscall::Dup3 | Syscall::Socket => [v, v, v, u, u, u],
+            Syscall::Dup3 | Syscall::Fcntl | Syscall::Socket => [v, v, v, u, u, u],
             Syscall::Accept4 => [v, u, u, v, u, u],
             Syscall::Uname => [a, u, u, u, u, u],
             Syscall::Getcwd | Syscall::Pipe2 => [a, v, u, u, u, u],
             Syscall::Getrandom => [a, v, v, u, u, u],
             Syscall::ClockGettime64 => [v, a, u, u, u, u],
+            Syscall::ClockNanosleep => [v, v, a, u, u, u],
+            Syscall::Ppoll => [a, v, a, u, u, u],
             Syscall::Unlinkat
             | Syscall::Openat
             | Syscall::Read
@@ -144,7 +152,9 @@ impl Syscall {
             | Syscall::Uname
             | Syscall::Bind
             | Syscall::Getrandom
-            | Syscall::ClockGettime64 => true,
+            | Syscall::ClockGettime64
+            | Syscall::ClockNanosleep
+            | Syscall::Ppoll => true,
             _ => false,
         }
     }
@@ -163,4 +173,12 @@ pub fn is_local(nr: u32) -> bool
     ensures { result ≡ is_local nr }
 {
     nr == 96 || nr == 124 || nr == 178 || nr == 214 || nr == 422
+}
+
+/// Whether only runs over scripts of the fifth form have the call with this number; in all others it isn't in the table.
+#[tactic(auto, unfolding(crate::specs::Numbers::is_later))]
+pub fn is_later(nr: u32) -> bool
+    ensures { result ≡ is_later nr }
+{
+    nr == 25 || nr == 407 || nr == 414
 }

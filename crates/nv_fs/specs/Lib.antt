@@ -12,3 +12,4 @@ pub mod Views
 pub mod Told
 pub mod Kept
 pub mod Waits
+pub mod Polls

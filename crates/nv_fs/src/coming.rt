@@ -15,7 +15,7 @@ fn is_input(target: Target) -> bool
     }
 }
 
-fn reads_input(found: Option<(usize, OpenFile)>) -> bool
+pub(crate) fn reads_input(found: Option<(usize, OpenFile)>) -> bool
     ensures { result ≡ reads_input found }
 {
     match found {
@@ -39,7 +39,7 @@ fn add(held: &mut Vec<u8>, bytes: &[u8])
 #[tactic(auto, unfolding(crate::specs::Waits::waits_on_input))]
 impl FileSystem {
     // Nothing is left of the input.
-    fn is_read(&self) -> bool
+    pub(crate) fn is_read(&self) -> bool
         ensures { result ≡ (length self.now.state.input == 0) }
     {
         self.taken >= self.input.as_slice().len()

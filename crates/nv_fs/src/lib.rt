@@ -13,6 +13,7 @@ mod finding;
 mod open_file;
 mod opening;
 pub mod parts;
+pub mod polls;
 mod reading;
 mod resolving;
 mod seeking;

@@ -1,11 +1,11 @@
 -- The script and the rules of a large run, as their readers take them.
-use Rattle.std.specs.Prelude.{ℕ, List, [], ◌∷◌}
+use Rattle.std.specs.Prelude.{ℕ, false, List, [], ◌∷◌}
 use Rattle.nv_bpf.specs.declared.op.Op.{Op}
 use Rattle.nv_script.specs.Scripts.{Setup}
 
 -- no arguments, no input, no files, a clock that stands at 0, the seed 0, no change of the leader planned, no connection, and nothing that comes
 abbrev pub bare : Setup
-bare = record { arguments = []; input = []; files = []; seconds = 0; nanos = 0; step = 0; seed = 0; hands = []; connections = []; arrivals = [] }
+bare = record { arguments = []; input = []; files = []; seconds = 0; nanos = 0; step = 0; seed = 0; hands = []; connections = []; arrivals = []; polls = false }
 
 abbrev pub op : ℕ → ℕ → ℕ → ℕ → Op
 op code jt jf k = record { code = code; jt = jt; jf = jf; k = k }

@@ -1,12 +1,13 @@
 -- A call that the guest asks for has the form of a call.
-use Rattle.std.proofs.Common.{◌≡◌, ℕ, zero, suc, ◌+◌, ◌-◌, ◌≤◌, Bool, true, false, not, ◌==◌, nat_le, min, cond, List, [], ◌∷◌, length, Option, Some, None, option_map, refl, ap, ◌∙◌, arith, length-append}
+use Rattle.std.proofs.Common.{◌≡◌, ℕ, zero, suc, ◌+◌, ◌-◌, ◌≤◌, Bool, true, false, not, ◌||◌, ◌==◌, nat_le, min, cond, List, [], ◌∷◌, ◌++◌, length, Option, Some, None, option_map, ◌⊎◌, inl, inr, ◌*◌, refl, ap, ◌∙◌, arith, length-append}
 use Rattle.std.specs.Prelude.{IfSome}
 use Rattle.std.specs.List.{list_all}
 use Rattle.std.proofs.lemmas.Bool.Decides.{nat_tests}
 use Rattle.nv_calls.specs.declared.numbers.Syscall.{Syscall}
-use Rattle.nv_calls.specs.declared.numbers.Syscall.TheVariants.{Getcwd, Unlinkat, Openat, Pipe2, Llseek, Read as ReadCall, Write as WriteCall, Readv, Writev, Bind, Uname, Getrandom, ClockGettime64}
+use Rattle.nv_calls.specs.declared.numbers.Syscall.TheVariants.{Getcwd, Unlinkat, Openat, Pipe2, Llseek, Read as ReadCall, Write as WriteCall, Readv, Writev, Bind, Uname, Getrandom, ClockGettime64, ClockNanosleep, Ppoll}
 use Rattle.nv_calls.specs.Numbers.{syscall_of, is_local}
-use Rattle.nv_calls.specs.Shapes.{is_path, is_shaped_as, is_shaped, IsShaped}
+use Rattle.nv_calls.specs.Answers.{polled_count}
+use Rattle.nv_calls.specs.Shapes.{is_path, is_polled, is_shaped_as, is_shaped, IsShaped}
 use Rattle.nv_memory.specs.declared.region.Right.{Right}
 use Rattle.nv_memory.specs.declared.region.Right.TheVariants.{Read, Write}
 use Rattle.nv_memory.specs.Bytes.{bytes_at}
@@ -16,7 +17,7 @@ use Rattle.nv_machine.specs.Guest.{Machine}
 use Rattle.nv_guest.specs.declared.vectors.Part.{Part}
 use Rattle.nv_guest.specs.Paths.{byte_at, path_with, path_at}
 use Rattle.nv_guest.specs.Vectors.{vector_at, prefix_of, usable_by, usable_at, parts_with, parts_at, capacity, joined_parts}
-use Rattle.nv_guest.specs.Calls.{argument, call_number, out_of, vector_count, written_bytes, address_in, path_in, vectors_in, capacity_in, Handed, refused, with_payload, with_capacity, with_out, handed, call_by, call_at}
+use Rattle.nv_guest.specs.Calls.{argument, call_number, out_of, vector_count, readable, timeout_in, both, polled_bytes, written_bytes, address_in, path_in, vectors_in, capacity_in, Handed, refused, with_payload, with_capacity, with_out, handed, call_by, call_at}
 
 pub length-bytes_at : (bytes : List ℕ) (a n : ℕ) → length (bytes_at bytes a n) ≡ n
 length-bytes_at bytes a zero = refl
@@ -127,6 +128,51 @@ written_in : (bytes : List ℕ) (a n : ℕ) (may : Bool) → IfSome (cond may (S
 written_in bytes a n true = let h : length (bytes_at bytes a n) ≡ n = length-bytes_at bytes a n in grind (arith, nat_tests)
 written_in bytes a n false = tt
 
+-- ---- what is polled
+
+read-long : (bytes : List ℕ) (a n : ℕ) (may : Bool) → IfSome (cond may (Some (bytes_at bytes a n)) None) (λ xs. length xs ≡ n)
+read-long bytes a n true = length-bytes_at bytes a n
+read-long bytes a n false = tt
+
+timeout-long : (m : Machine) → IfSome (timeout_in m) (λ xs. (length xs ≡ 0) ⊎ (length xs ≡ 16))
+timeout-long m = given (argument m 2 == 0)
+  where
+    read : (o : Option (List ℕ)) → IfSome o (λ xs. length xs ≡ 16) → IfSome o (λ xs. (length xs ≡ 0) ⊎ (length xs ≡ 16))
+    read None h = tt
+    read (Some xs) h = inr h
+
+    given : (none : Bool) → IfSome (cond none (Some []) (readable m.memory (argument m 2) 16)) (λ xs. (length xs ≡ 0) ⊎ (length xs ≡ 16))
+    given true = inl refl
+    given false = read (readable m.memory (argument m 2) 16) (read-long m.memory.bytes (argument m 2) 16 (holds m.memory.regions (argument m 2) 16 Read))
+
+long-enough : (n k : ℕ) → (n ≡ 8 * k) ⊎ (n ≡ 8 * k + 16) → ((n == 8 * k) || (n == 8 * k + 16)) ≡ true
+long-enough n k (inl h) = let is : (n == 8 * k) ≡ true = grind (arith, nat_tests) in rw is refl
+long-enough n k (inr h) = let is : (n == 8 * k + 16) ≡ true = grind (arith, nat_tests) in rw is (last (n == 8 * k))
+  where
+    last : (b : Bool) → (b || true) ≡ true
+    last true = refl
+    last false = refl
+
+joined-long : (k : ℕ) (xs ys : List ℕ) → length xs ≡ 8 * k → (length ys ≡ 0) ⊎ (length ys ≡ 16) → (length (xs ++ ys) ≡ 8 * k) ⊎ (length (xs ++ ys) ≡ 8 * k + 16)
+joined-long k xs ys h (inl none) = let n = length-append xs ys in inl (omega (arith, n, h, none))
+joined-long k xs ys h (inr some) = let n = length-append xs ys in inr (omega (arith, n, h, some))
+
+both-fit : (count : ℕ) (first second : Option (List ℕ)) → IfSome first (λ xs. length xs ≡ 8 * polled_count count) → IfSome second (λ ys. (length ys ≡ 0) ⊎ (length ys ≡ 16))
+    → IfSome (both first second) (λ xs. is_polled count xs ≡ true)
+both-fit count None second h g = tt
+both-fit count (Some xs) None h g = tt
+both-fit count (Some xs) (Some ys) h g = long-enough (length (xs ++ ys)) (polled_count count) (joined-long (polled_count count) xs ys h g)
+
+polled-fit : (m : Machine) → IfSome (polled_bytes m) (λ xs. is_polled (argument m 1) xs ≡ true)
+polled-fit m =
+    let n : ℕ = 8 * polled_count (argument m 1) in
+    both-fit (argument m 1) (readable m.memory (argument m 0) n) (timeout_in m)
+    (read-long m.memory.bytes (argument m 0) n (holds m.memory.regions (argument m 0) n Read)) (timeout-long m)
+
+by_right : (P : Handed → Type 0) (may : Bool) (h : Handed) → P h → P refused → P (cond may h refused)
+by_right P true h good bad = good
+by_right P false h good bad = bad
+
 -- the call with what it hands over has the form
 abbrev Fit : Syscall → Machine → ℕ → Handed → Type 0
 Fit k m tid h = is_shaped_as k (call_by k m tid h) ≡ true
@@ -149,6 +195,10 @@ shaped-by ReadCall m tid = by_out (Fit ReadCall m tid) m.memory (out_of ReadCall
 shaped-by Uname m tid = by_out (Fit Uname m tid) m.memory (out_of Uname m) refl refl
 shaped-by Getrandom m tid = by_out (Fit Getrandom m tid) m.memory (out_of Getrandom m) refl refl
 shaped-by ClockGettime64 m tid = by_out (Fit ClockGettime64 m tid) m.memory (out_of ClockGettime64 m) refl refl
+shaped-by ClockNanosleep m tid = by_payload (Fit ClockNanosleep m tid) (λ xs. length xs ≡ 16) (readable m.memory (argument m 2) 16)
+    (read-long m.memory.bytes (argument m 2) 16 (holds m.memory.regions (argument m 2) 16 Read)) refl (λ bytes h. long-enough (length bytes) 0 (inr h))
+shaped-by Ppoll m tid = by_right (Fit Ppoll m tid) (holds m.memory.regions (argument m 0) (8 * polled_count (argument m 1)) Write) (with_payload (polled_bytes m))
+    (by_payload (Fit Ppoll m tid) (λ xs. is_polled (argument m 1) xs ≡ true) (polled_bytes m) (polled-fit m) refl (λ bytes h. h)) refl
 shaped-by _ m tid = refl
 
 pub call_is_shaped : (m : Machine) (tid : ℕ) → is_local (call_number m) ≡ false → IsShaped (call_at m tid)

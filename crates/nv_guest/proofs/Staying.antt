@@ -17,11 +17,12 @@ use Rattle.nv_machine.specs.declared.outcome.FaultKind.TheVariants as kinds
 use Rattle.nv_machine.specs.Effects.{sum, combined}
 use Rattle.nv_machine.specs.Guest.{Machine, StepResult, fault, stores, is_word_at, is_reserved, store_conditional, word_at, combines, effect, executed, fetched, guest_step, register, immediate_word, width_of}
 use Rattle.nv_calls.specs.declared.numbers.Syscall.{Syscall}
-use Rattle.nv_calls.specs.declared.numbers.Syscall.TheVariants.{Readv}
+use Rattle.nv_calls.specs.declared.numbers.Syscall.TheVariants.{Readv, Ppoll}
+use Rattle.nv_calls.specs.Answers.{polled_count}
 use Rattle.nv_calls.specs.Numbers.{syscall_of}
 use Rattle.nv_guest.specs.declared.heap.Heap.{Heap}
 use Rattle.nv_guest.specs.declared.vectors.Part.{Part}
-use Rattle.nv_guest.specs.Answers.{with_byte, with_each_byte, scattered, targets_at}
+use Rattle.nv_guest.specs.Answers.{with_byte, with_each_byte, scattered, targets_at, with_events}
 use Rattle.nv_guest.specs.Calls.{call_number, argument, vector_count, out_of, stored_at, memory_after, with_answer}
 use Rattle.nv_guest.specs.Threads.{Threaded, MachineRan, tids, run, unless_stopped, last_region}
 use Rattle.nv_guest.specs.inner.Heap.{HasHeap, IsClear}
@@ -81,8 +82,15 @@ at_stays : (a : Image) (part : Option Part) (bytes : List ℕ) → Stays a (stor
 at_stays a None bytes = stays a
 at_stays a (Some p) bytes = bytes_stay a p.address bytes
 
+events_stay : (a : Image) (list count : ℕ) (bytes : List ℕ) → Stays a (with_events a list count bytes)
+events_stay a list zero bytes = stays a
+events_stay a list (suc count) bytes =
+    let b = with_each_byte a (list + 6) (take 2 bytes) in
+    then_stays a b (with_events b (list + 8) count (drop 2 bytes)) (bytes_stay a (list + 6) (take 2 bytes)) (events_stay b (list + 8) count (drop 2 bytes))
+
 after_stays : (k : Syscall) (m : Machine) (bytes : List ℕ) → Stays m.memory (memory_after k m bytes)
 after_stays Readv m bytes = scattered_stays m.memory (targets_at m.memory (vector_count m) (length bytes) (argument m 1)) bytes
+after_stays Ppoll m bytes = events_stay m.memory (argument m 0) (polled_count (argument m 1)) bytes
 after_stays k m bytes = at_stays m.memory (out_of k m) bytes
 
 pub answered_stays : (m : Machine) (ret : ℤ) (bytes : List ℕ) → Stays m.memory (with_answer m ret bytes).memory

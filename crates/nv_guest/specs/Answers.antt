@@ -27,3 +27,8 @@ targets_at memory (suc count) most at = if most == 0 then []
 unfoldable pub scattered : Image → List Part → List ℕ → Image
 scattered memory [] bytes = memory
 scattered memory (part ∷ parts) bytes = scattered (with_each_byte memory part.address (take part.size bytes)) parts (drop part.size bytes)
+
+-- What is told of so many descriptors (poll(2), revents), 2 bytes each: they go into the last 2 of the 8 that each has in the list from an address on.
+abbrev pub with_events : Image → ℕ → ℕ → List ℕ → Image
+with_events memory list zero bytes = memory
+with_events memory list (suc count) bytes = with_events (with_each_byte memory (list + 6) (take 2 bytes)) (list + 8) count (drop 2 bytes)

@@ -1,13 +1,13 @@
 -- Calls as the machine makes them, in Linux's convention for RISC-V (syscall(2)): number in a7, arguments in a0 to a5, result in a0.
-use Rattle.std.specs.Prelude.{ℕ, ◌+◌, min, List, [], ◌∷◌, length, Bool, true, false, ℤ, Option, Some, None, option_map, nat_le, slice_set, if◌then◌else◌}
+use Rattle.std.specs.Prelude.{ℕ, ◌+◌, ◌*◌, ◌==◌, min, List, [], ◌∷◌, ◌++◌, length, Bool, true, false, ℤ, Option, Some, None, option_map, nat_le, slice_set, if◌then◌else◌}
 use Rattle.std.specs.Int.{w32, cast_unsigned}
 use Rattle.nv_calls.specs.declared.numbers.Syscall.{Syscall}
-use Rattle.nv_calls.specs.declared.numbers.Syscall.TheVariants.{Unlinkat, Openat, Write as WriteCall, Readv, Writev, Bind}
+use Rattle.nv_calls.specs.declared.numbers.Syscall.TheVariants.{Unlinkat, Openat, Write as WriteCall, Readv, Writev, Bind, ClockNanosleep, Ppoll}
 use Rattle.nv_calls.specs.declared.numbers.Slot.{Slot}
 use Rattle.nv_calls.specs.declared.numbers.Slot.TheVariants.{Value, Address, Unused}
 use Rattle.nv_calls.specs.Calls.{Request}
-use Rattle.nv_calls.specs.Limits.{MOST_BYTES, MOST_VECTORS, MOST_PATH, MOST_ADDRESS}
-use Rattle.nv_calls.specs.Answers.{most_out_by, answer_slot}
+use Rattle.nv_calls.specs.Limits.{MOST_BYTES, MOST_VECTORS, MOST_PATH, MOST_ADDRESS, TIME_BYTES, POLLED_BYTES}
+use Rattle.nv_calls.specs.Answers.{polled_count, most_out_by, answer_slot}
 use Rattle.nv_calls.specs.Numbers.{syscall_of, slots_by}
 use Rattle.nv_memory.specs.declared.region.Right.TheVariants.{Read, Write}
 use Rattle.nv_memory.specs.Bytes.{bytes_at}
@@ -19,7 +19,7 @@ use Rattle.nv_guest.specs.declared.calls.Checked.{Checked}
 use Rattle.nv_guest.specs.declared.vectors.Part.{Part}
 use Rattle.nv_guest.specs.Paths.{path_at}
 use Rattle.nv_guest.specs.Vectors.{parts_at, capacity, joined_parts}
-use Rattle.nv_guest.specs.Answers.{with_each_byte, targets_at, scattered}
+use Rattle.nv_guest.specs.Answers.{with_each_byte, targets_at, scattered, with_events}
 
 -- argument n, which is in register a0 + n
 abbrev pub argument : Machine → ℕ → ℕ
@@ -73,6 +73,23 @@ written_bytes m = first_bytes MOST_BYTES m
 abbrev pub address_in : Machine → Option (List ℕ)
 address_in m = first_bytes MOST_ADDRESS m
 
+-- the bytes from an address on, where they may be read
+abbrev pub readable : Image → ℕ → ℕ → Option (List ℕ)
+readable memory at n = if holds memory.regions at n Read then Some (bytes_at memory.bytes at n) else None
+
+-- the time of ppoll; no bytes where none is given
+abbrev pub timeout_in : Machine → Option (List ℕ)
+timeout_in m = if argument m 2 == 0 then Some [] else readable m.memory (argument m 2) TIME_BYTES
+
+abbrev pub both : Option (List ℕ) → Option (List ℕ) → Option (List ℕ)
+both None second = None
+both (Some first) None = None
+both (Some first) (Some second) = Some (first ++ second)
+
+-- what the descriptors of ppoll are polled for, and after it its time
+abbrev pub polled_bytes : Machine → Option (List ℕ)
+polled_bytes m = both (readable m.memory (argument m 0) (POLLED_BYTES * polled_count (argument m 1))) (timeout_in m)
+
 -- the first bytes of a path, or those before its 0
 abbrev pub path_in : Machine → Option (List ℕ)
 path_in m = path_at MOST_PATH m.memory (argument m 1)
@@ -114,6 +131,10 @@ abbrev pub with_out : Image → Option Part → Handed
 with_out memory None = with_payload (Some [])
 with_out memory (Some part) = if holds memory.regions part.address part.size Write then with_payload (Some []) else refused
 
+-- what is polled is read, and what is told of it written beside it
+abbrev pub polled_in : Machine → Handed
+polled_in m = if holds m.memory.regions (argument m 0) (POLLED_BYTES * polled_count (argument m 1)) Write then with_payload (polled_bytes m) else refused
+
 abbrev pub handed : Syscall → Machine → Handed
 handed Unlinkat m = with_payload (path_in m)
 handed Openat m = with_payload (path_in m)
@@ -121,6 +142,8 @@ handed WriteCall m = with_payload (written_bytes m)
 handed Bind m = with_payload (address_in m)
 handed Writev m = with_payload (vectors_in m)
 handed Readv m = with_capacity (capacity_in m)
+handed ClockNanosleep m = with_payload (readable m.memory (argument m 2) TIME_BYTES)
+handed Ppoll m = polled_in m
 handed k m = with_out m.memory (out_of k m)
 
 abbrev pub call_by : Syscall → Machine → ℕ → Handed → Request
@@ -140,6 +163,7 @@ stored_at memory (Some part) bytes = with_each_byte memory part.address bytes
 -- the memory with the bytes of an answer, as far as they may be written; a call without a place for them stores none
 abbrev pub memory_after : Syscall → Machine → List ℕ → Image
 memory_after Readv m bytes = scattered m.memory (targets_at m.memory (vector_count m) (length bytes) (argument m 1)) bytes
+memory_after Ppoll m bytes = with_events m.memory (argument m 0) (polled_count (argument m 1)) bytes
 memory_after k m bytes = stored_at m.memory (out_of k m) bytes
 
 -- the registers with the result in a0, past the call

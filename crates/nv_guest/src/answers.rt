@@ -1,7 +1,7 @@
 // Answers in the guest's memory.
-ghost use Rattle.std.specs.Prelude.{◌≡◌, ◌≤◌, length, min, take, option_map, true, false};
+ghost use Rattle.std.specs.Prelude.{◌≡◌, ◌≤◌, ◌+◌, ◌*◌, ◌^◌, length, min, take, option_map, true, false};
 ghost use Rattle.nv_guest.specs.Vectors.{vector_at, prefix_of};
-ghost use Rattle.nv_guest.specs.Answers.{with_byte, with_each_byte, targets_at, scattered};
+ghost use Rattle.nv_guest.specs.Answers.{with_byte, with_each_byte, targets_at, scattered, with_events};
 
 use crate::vectors::{Part, vector_at};
 use nv_memory::Memory;
@@ -17,11 +17,12 @@ fn store_byte(memory: &mut Memory, at: usize, byte: u8)
 }
 
 // Stores bytes from an address on, each by itself.
-fn store_each(memory: &mut Memory, address: u32, bytes: &[u8])
+fn store_each(memory: &mut Memory, address: usize, bytes: &[u8])
+    requires { address ≤ 2 ^ 40 }
     ensures { memory.new ≡ with_each_byte memory.old address bytes.now }
 {
     for (i, byte) in bytes.iter().enumerate() {
-        store_byte(memory, address as usize + i, *byte);
+        store_byte(memory, address + i, *byte);
     }
 }
 
@@ -43,7 +44,7 @@ pub fn store_bytes(memory: &mut Memory, address: u32, bytes: &[u8])
     if store_all(memory, address, bytes) {
         return;
     }
-    store_each(memory, address, bytes);
+    store_each(memory, address as usize, bytes);
 }
 
 fn target_at(memory: &Memory, most: usize, at: usize) -> Option<Part>
@@ -100,4 +101,17 @@ pub fn scatter(memory: &mut Memory, targets: &[Part], bytes: &[u8])
         store_bytes(memory, part.address, part_bytes);
         rest = later;
     }
+}
+
+/// Stores what is told of so many descriptors into the list of ppoll from an address on. What may not be written is dropped.
+pub fn store_events(memory: &mut Memory, list: usize, count: u32, bytes: &[u8])
+    requires { list + 8 * count ≤ 2 ^ 39 }
+    ensures { memory.new ≡ with_events memory.old list count bytes.now }
+{
+    if count == 0 {
+        return;
+    }
+    let (told, later) = bytes.split_at(bytes.len().min(2));
+    store_each(memory, list + 6, told);
+    store_events(memory, list + 8, count - 1, later);
 }

@@ -1,17 +1,22 @@
 // What a call hands over, and where its answer goes.
-ghost use Rattle.std.specs.Prelude.{◌≡◌, ◌≤◌, length, Some};
+ghost use Rattle.std.specs.Prelude.{◌≡◌, ◌≤◌, ◌+◌, ◌*◌, ◌++◌, length, Some, option_map, IfSome};
 ghost use Rattle.nv_guest.specs.Guest.{machine_with, machine_by};
 ghost use Rattle.nv_calls.specs.Calls.{request};
+ghost use Rattle.nv_calls.specs.Answers.{polled_count};
 ghost use Rattle.nv_calls.specs.Numbers.{is_local};
 ghost use Rattle.nv_calls.specs.Shapes.{IsShaped};
 ghost use Rattle.nv_guest.specs.Threads.{asked_as};
-ghost use Rattle.nv_guest.specs.Calls.{argument, call_number, call_at, kept, values, values_with, out_of, vector_count, path_in, first_bytes, vectors_in, capacity_in, refused, with_payload, with_capacity, with_out, handed, handed_as, memory_after};
+ghost use Rattle.nv_guest.specs.Calls.{argument, call_number, call_at, kept, values, values_with, out_of, vector_count, path_in, first_bytes, readable, timeout_in, polled_bytes, polled_in, vectors_in, capacity_in, refused, with_payload, with_capacity, with_out, handed, handed_as, memory_after};
 
-use crate::answers::{read_targets, scatter, store_bytes};
+use crate::answers::{read_targets, scatter, store_bytes, store_events};
 use crate::outcome::{Asked, asked_of};
 use crate::paths::read_path;
 use crate::vectors::{Part, capacity_of, gather};
-use nv_calls::{Bytes, Call, MOST_ADDRESS, MOST_BYTES, MOST_PATH, MOST_VECTORS, Slot, Syscall};
+use arrayvec::ArrayVec;
+use nv_calls::{
+    Bytes, Call, MOST_ADDRESS, MOST_BYTES, MOST_PATH, MOST_VECTORS, POLLED_BYTES, Slot, Syscall,
+    TIME_BYTES, polled_count,
+};
 use nv_machine::Regs;
 use nv_memory::{Memory, Right};
 
@@ -48,6 +53,30 @@ fn fill(payload: &mut Bytes, bytes: &[u8]) -> Checked
         bad: false,
         capacity: 0,
     }
+}
+
+// Adds bytes, for which there is room.
+fn append(all: &mut ArrayVec<u8, 4096>, bytes: &[u8])
+    requires { length all.old.items + length bytes.now ≤ 4096 }
+    ensures { all.new.items ≡ all.old.items ++ bytes.now }
+{
+    match all.try_extend_from_slice(bytes) {
+        Ok(()) => {}
+        Err(_) => unreachable!(),
+    }
+}
+
+// These bytes one after the other are the payload.
+fn fill_both(payload: &mut Bytes, first: &[u8], second: &[u8]) -> Checked
+    requires few { length first.now + length second.now ≤ 4096 }
+    requires capacity { MOST_BYTES ≤ payload.old.capacity }
+    ensures handed { handed_as result payload.new.bytes ≡ with_payload (Some (first.now ++ second.now)) }
+    ensures capacity { payload.new.capacity ≡ payload.old.capacity }
+{
+    let mut both = ArrayVec::<u8, 4096>::new();
+    append(&mut both, first);
+    append(&mut both, second);
+    fill(payload, both.as_slice())
 }
 
 // A range isn't the guest's.
@@ -150,6 +179,62 @@ impl Caller<'_> {
         }
     }
 
+    // The bytes from an address on, where they may be read.
+    fn readable(&self, address: u32, count: u32) -> Option<&[u8]>
+        ensures is { option_map (λ bytes. bytes.now) result ≡ readable (machine_by self.now).memory address count }
+        ensures few { IfSome result (λ bytes. length bytes.now ≡ count) }
+    {
+        self.memory.bytes(address, count).ok()
+    }
+
+    // The time of clock_nanosleep.
+    fn copy_time(&self, payload: &mut Bytes) -> Checked
+        requires { MOST_BYTES ≤ payload.old.capacity }
+        ensures handed { handed_as result payload.new.bytes ≡ with_payload (readable (machine_by self.now).memory (argument (machine_by self.now) 2) 16) }
+        ensures capacity { payload.new.capacity ≡ payload.old.capacity }
+    {
+        match self.readable(self.argument(2), TIME_BYTES) {
+            Some(bytes) => fill(payload, bytes),
+            None => refuse(payload),
+        }
+    }
+
+    // The time of ppoll; no bytes where none is given.
+    fn timeout(&self) -> Option<&[u8]>
+        ensures is { option_map (λ bytes. bytes.now) result ≡ timeout_in (machine_by self.now) }
+        ensures few { IfSome result (λ bytes. length bytes.now ≤ 16) }
+    {
+        let address = self.argument(2);
+        if address == 0 {
+            return Some(&[]);
+        }
+        self.readable(address, TIME_BYTES)
+    }
+
+    // How many bytes the list of ppoll has.
+    fn list_size(&self) -> u32
+        ensures size { result ≡ 8 * polled_count (argument (machine_by self.now) 1) }
+        ensures few { result ≤ 3264 }
+    {
+        POLLED_BYTES * polled_count(self.argument(1))
+    }
+
+    // What ppoll's descriptors are polled for, and its time.
+    fn copy_polled(&self, payload: &mut Bytes) -> Checked
+        requires { MOST_BYTES ≤ payload.old.capacity }
+        ensures handed { handed_as result payload.new.bytes ≡ polled_in (machine_by self.now) }
+        ensures capacity { payload.new.capacity ≡ payload.old.capacity }
+    {
+        let (list, size) = (self.argument(0), self.list_size());
+        if !self.memory.holds(list, size, Right::Write) {
+            return refuse(payload);
+        }
+        match (self.readable(list, size), self.timeout()) {
+            (Some(polled), Some(time)) => fill_both(payload, polled, time),
+            _ => refuse(payload),
+        }
+    }
+
     // The bytes of writev.
     fn gather_vectors(&self, payload: &mut Bytes) -> Checked
         requires { MOST_BYTES ≤ payload.old.capacity }
@@ -203,6 +288,8 @@ impl Caller<'_> {
             Syscall::Bind => self.copy_bytes(MOST_ADDRESS, payload),
             Syscall::Writev => self.gather_vectors(payload),
             Syscall::Readv => self.find_room(payload),
+            Syscall::ClockNanosleep => self.copy_time(payload),
+            Syscall::Ppoll => self.copy_polled(payload),
             _ => self.check_out(syscall, payload),
         }
     }
@@ -247,12 +334,29 @@ fn vectors_of(caller: Caller<'_>) -> (u32, u32)
     (caller.argument(1), caller.vector_count())
 }
 
+// What ppoll tells of its descriptors.
+fn copy_events(regs: &Regs, memory: &mut Memory, bytes: &[u8])
+    ensures { memory.new ≡ memory_after Syscall.Ppoll (machine_with regs.now memory.old) bytes.now }
+{
+    let (list, count) = polled_of(Caller { regs, memory });
+    store_events(memory, list as usize, count, bytes);
+}
+
+// Where the list of ppoll is, and how many descriptors it has.
+fn polled_of(caller: Caller<'_>) -> (u32, u32)
+    ensures value { result ≡ (argument (machine_by caller.entry) 0, polled_count (argument (machine_by caller.entry) 1)) }
+    ensures few { result.1 ≤ 408 }
+{
+    (caller.argument(0), polled_count(caller.argument(1)))
+}
+
 /// Stores the bytes of the answer where the call wants them.
 pub(crate) fn copy_out(regs: &Regs, memory: &mut Memory, syscall: Syscall, bytes: &[u8])
     ensures { memory.new ≡ memory_after syscall (machine_with regs.now memory.old) bytes.now }
 {
     match syscall {
         Syscall::Readv => scatter_out(regs, memory, bytes),
+        Syscall::Ppoll => copy_events(regs, memory, bytes),
         _ => {
             let out = Caller { regs, memory }.out_of(syscall);
             if let Some(part) = out {

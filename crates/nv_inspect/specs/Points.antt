@@ -31,6 +31,6 @@ renews_to point renews = renews
 
 -- The version with number i that loads this machine, over the log at the point, where its calls are judged by this filter. The kernel at the point has served the
 -- events seen.
-abbrev pub at_point : Option (List Op) → ℕ → List Entry → TracePoint → ℕ → Bool → Machine → Follower Proc
-at_point rules i log point budget renews machine =
-    follow threads (judge_of rules i) (events_to point log) (fresh (started machine (budget_to point budget) (renews_to point renews)))
+abbrev pub at_point : Option (List Op) → ℕ → List Entry → TracePoint → ℕ → Bool → Bool → Machine → Follower Proc
+at_point rules i log point budget renews polls machine =
+    follow threads (judge_of rules i) (events_to point log) (fresh (started machine (budget_to point budget) (renews_to point renews) polls))

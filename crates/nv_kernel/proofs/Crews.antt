@@ -96,12 +96,12 @@ other_at : (nr : ℕ) → (nr == 94) ≡ false → (nr == 93) ≡ false → (nr 
 unfolding syscall_of
 other_at nr p q r =
     let o = λ (n : ℕ) (k l : Syscall) (i : is_thread k ≡ false) (j : is_thread l ≡ false). other (nr == n) k l i j in
-    o 17 _ _ refl (o 23 _ _ refl (o 24 _ _ refl (o 29 _ _ refl (o 35 _ _ refl (o 56 _ _ refl (o 57 _ _ refl (o 59 _ _ refl
+    o 17 _ _ refl (o 23 _ _ refl (o 24 _ _ refl (o 25 _ _ refl (o 29 _ _ refl (o 35 _ _ refl (o 56 _ _ refl (o 57 _ _ refl (o 59 _ _ refl
     (o 62 _ _ refl (o 63 _ _ refl (o 64 _ _ refl (o 65 _ _ refl (o 66 _ _ refl
     (apart (nr == 93) _ _ q (apart (nr == 94) _ _ p
     (o 160 _ _ refl (o 172 _ _ refl (o 173 _ _ refl (o 174 _ _ refl (o 175 _ _ refl (o 176 _ _ refl (o 177 _ _ refl
     (o 198 _ _ refl (o 200 _ _ refl (o 201 _ _ refl (o 202 _ _ refl
-    (apart (nr == 220) _ _ r (o 242 _ _ refl (o 278 _ _ refl (o 403 _ _ refl refl)))))))))))))))))))))))))))))
+    (apart (nr == 220) _ _ r (o 242 _ _ refl (o 278 _ _ refl (o 403 _ _ refl (o 407 _ _ refl (o 414 _ _ refl refl))))))))))))))))))))))))))))))))
 
 -- the threads that live after a call, as the log has it
 abbrev pub live_by : ℕ → ℕ → List ℕ → ℤ → List ℕ

@@ -8,7 +8,7 @@ ghost use Rattle.nv_fs.specs.Fetched.{read_of};
 ghost use Rattle.nv_fs.specs.Stored.{write_of};
 ghost use Rattle.nv_fs.specs.Reserved.{CanWrite};
 ghost use Rattle.nv_kernel.specs.Crew.{exit_of, with_none_live};
-ghost use Rattle.nv_kernel.specs.Serving.{of_files, of_crew, second, reached, answered, serve, first_state, control, unless_many, unless_bad, clock, randomly};
+ghost use Rattle.nv_kernel.specs.Serving.{of_files, of_crew, second, time_of, reached, answered, serve, first_state, control, unless_many, unless_bad, clock, randomly};
 ghost use Rattle.nv_kernel.specs.Reserved.{state_of, can_answer, CanAnswer, most_out};
 
 use crate::clock::{start_of, time_bytes};
@@ -57,6 +57,14 @@ impl Devices {
         ensures { result ≡ (length (state_of self.now).crew.live == 0) }
     {
         self.threads.is_over()
+    }
+
+    /// What the clock shows, in nanoseconds after the beginning of 1970.
+    pub fn now(&self) -> u128
+        ensures is { result ≡ time_of (state_of self.now) }
+        ensures few { result < 2 ^ 65 }
+    {
+        u128::from(self.start) + u128::from(self.served) * u128::from(self.step)
     }
 
     /// It is at least so late: so many seconds after the beginning of 1970, and nanoseconds after them. The clock never goes back.
@@ -184,6 +192,9 @@ impl Devices {
             | Syscall::Listen
             | Syscall::Accept
             | Syscall::Accept4
+            | Syscall::Fcntl
+            | Syscall::ClockNanosleep
+            | Syscall::Ppoll
             | Syscall::Unknown => ENOSYS,
         }
     }

@@ -6,3 +6,4 @@ pub mod Plans
 pub mod HandLines
 pub mod OtherForms
 pub mod NoArrivals
+pub mod Polls

@@ -1,4 +1,4 @@
--- A script of another form in which nothing comes is one of the fifth.
+-- A script of any form in which nothing comes is one of the fourth, and one of the fifth.
 use Rattle.std.proofs.Common.{◌≡◌, ℕ, ◌+◌, ◌==◌, Bool, true, false, not, ◌&&◌, cond, List, [], ◌∷◌, ◌++◌, Option, Some, None, is_some, Result, Ok, Err, codes, refl, sym, ap, ◌∙◌}
 use Rattle.std.specs.List.{All, list_all}
 use Rattle.std.proofs.lemmas.Bool.{and_parts}
@@ -14,43 +14,52 @@ use Rattle.nv_script.specs.declared.kind.Kind.{Kind}
 use Rattle.nv_script.specs.declared.kind.Kind.TheVariants as kind
 use Rattle.nv_script.specs.declared.fault.ScriptCause.{ScriptCause}
 use Rattle.nv_script.specs.declared.fault.ScriptFault.{ScriptFault}
-use Rattle.nv_script.specs.Entry.{Entry, Nothing, form_of, entry_kinds, in_form, kind_of, is_passed_over, arrives, begins_arrival, entry_with, entry_of}
-use Rattle.nv_script.specs.Scripts.{Setup, Draft, blank, with_result, with_script_line, onward, drafted, finished_result, script_in, script_of_lines, script_of}
+use Rattle.nv_script.specs.Entry.{Entry, Nothing, form_of, is_fifth, entry_kinds, in_form, kind_of, is_passed_over, arrives, begins_arrival, entry_with, entry_of}
+use Rattle.nv_script.specs.Scripts.{Setup, Draft, blank, with_result, with_script_line, onward, drafted, finished, finished_result, script_in, script_of_lines, script_of}
 use Rattle.nv_script.specs.Transcripts.{says_what_comes}
-use Rattle.nv_script.proofs.Transcripts.{first-line, in-form}
+use Rattle.nv_script.proofs.Transcripts.{first-line}
 
 not_true : (x : Bool) → not x ≡ true → x ≡ false
 not_true true e = cc
 not_true false e = refl
 
-in_form-fifth : (f : Form) (found : Option Kind) (k : Kind) → in_form f found ≡ Some k → in_form form.Fifth found ≡ Some k
-in_form-fifth form.First (Some kind.Hand) k e = cc
-in_form-fifth form.First (Some kind.Connect) k e = cc
-in_form-fifth form.First (Some kind.Argument) k e = e
-in_form-fifth form.First (Some kind.Line) k e = e
-in_form-fifth form.First (Some kind.Input) k e = e
-in_form-fifth form.First (Some kind.File) k e = e
-in_form-fifth form.First (Some kind.Clock) k e = e
-in_form-fifth form.First (Some kind.Random) k e = e
-in_form-fifth form.First None k e = cc
-in_form-fifth form.Second (Some kind.Hand) k e = e
-in_form-fifth form.Second (Some kind.Connect) k e = cc
-in_form-fifth form.Second (Some kind.Argument) k e = e
-in_form-fifth form.Second (Some kind.Line) k e = e
-in_form-fifth form.Second (Some kind.Input) k e = e
-in_form-fifth form.Second (Some kind.File) k e = e
-in_form-fifth form.Second (Some kind.Clock) k e = e
-in_form-fifth form.Second (Some kind.Random) k e = e
-in_form-fifth form.Second None k e = cc
-in_form-fifth form.Third found k e = e
-in_form-fifth form.Fourth found k e = e
-in_form-fifth form.Fifth found k e = e
+-- the forms in which an arrival may come: the fifth, and the fourth
+abbrev late : Bool → Form
+late true = form.Fifth
+late false = form.Fourth
 
-with-fifth : (f : Form) (found : Option Kind) (rest : Option (List ℕ)) (e : Entry) → entry_with (in_form f found) rest ≡ Ok e → entry_with (in_form form.Fifth found) rest ≡ Ok e
-with-fifth f found rest e h = step (in_form f found) refl h where
-  step : (r : Option Kind) → in_form f found ≡ r → entry_with r rest ≡ Ok e → entry_with (in_form form.Fifth found) rest ≡ Ok e
+in_form-late : (b : Bool) (found : Option Kind) → in_form (late b) found ≡ found
+in_form-late true found = refl
+in_form-late false found = refl
+
+in_form-found : (f : Form) (found : Option Kind) (k : Kind) → in_form f found ≡ Some k → found ≡ Some k
+in_form-found form.First (Some kind.Hand) k e = cc
+in_form-found form.First (Some kind.Connect) k e = cc
+in_form-found form.First (Some kind.Argument) k e = e
+in_form-found form.First (Some kind.Line) k e = e
+in_form-found form.First (Some kind.Input) k e = e
+in_form-found form.First (Some kind.File) k e = e
+in_form-found form.First (Some kind.Clock) k e = e
+in_form-found form.First (Some kind.Random) k e = e
+in_form-found form.First None k e = cc
+in_form-found form.Second (Some kind.Hand) k e = e
+in_form-found form.Second (Some kind.Connect) k e = cc
+in_form-found form.Second (Some kind.Argument) k e = e
+in_form-found form.Second (Some kind.Line) k e = e
+in_form-found form.Second (Some kind.Input) k e = e
+in_form-found form.Second (Some kind.File) k e = e
+in_form-found form.Second (Some kind.Clock) k e = e
+in_form-found form.Second (Some kind.Random) k e = e
+in_form-found form.Second None k e = cc
+in_form-found form.Third found k e = e
+in_form-found form.Fourth found k e = e
+in_form-found form.Fifth found k e = e
+
+with-late : (b : Bool) (f : Form) (found : Option Kind) (rest : Option (List ℕ)) (e : Entry) → entry_with (in_form f found) rest ≡ Ok e → entry_with (in_form (late b) found) rest ≡ Ok e
+with-late b f found rest e h = step (in_form f found) refl h where
+  step : (r : Option Kind) → in_form f found ≡ r → entry_with r rest ≡ Ok e → entry_with (in_form (late b) found) rest ≡ Ok e
   step None is h = cc
-  step (Some k) is h = ap (λ r. entry_with r rest) (in_form-fifth f found k is) ∙ h
+  step (Some k) is h = ap (λ r. entry_with r rest) (in_form-late b found ∙ in_form-found f found k is) ∙ h
 
 timeless-not : (w : Option Word) → is_some w ≡ false → is_timeless w ≡ false
 timeless-not None e = refl
@@ -63,56 +72,84 @@ begins-not form.Third line e = refl
 begins-not form.Fourth line e = timeless-not (word_of (first_word line)) e
 begins-not form.Fifth line e = e
 
--- a line that says nothing of what comes says the same in the fifth form
-entry-fifth : (f : Form) (line : List ℕ) (e : Entry) → says_what_comes line ≡ false → entry_of f line ≡ Ok e → entry_of form.Fifth line ≡ Ok e
+-- a line that says nothing of what comes says the same in both
+entry-late : (b : Bool) (f : Form) (line : List ℕ) (e : Entry) → says_what_comes line ≡ false → entry_of f line ≡ Ok e → entry_of (late b) line ≡ Ok e
 unfolding entry_of kind_of
-entry-fifth f line e quiet h = step (is_passed_over line) (is_arrival_word (first_word line)) refl refl quiet h where
+entry-late b f line e quiet h = step (is_passed_over line) (is_arrival_word (first_word line)) refl refl quiet h where
   step : (x y : Bool) → is_passed_over line ≡ x → is_arrival_word (first_word line) ≡ y → (not x && y) ≡ false
       → cond x (Ok Nothing) (cond (begins_arrival f line) (arrives (arrival_of line)) (entry_with (in_form f (defined entry_kinds (first_word line))) (rest_of line))) ≡ Ok e
-      → cond x (Ok Nothing) (cond (begins_arrival form.Fifth line) (arrives (arrival_of line)) (entry_with (in_form form.Fifth (defined entry_kinds (first_word line))) (rest_of line))) ≡ Ok e
+      → cond x (Ok Nothing) (cond (begins_arrival (late b) line) (arrives (arrival_of line)) (entry_with (in_form (late b) (defined entry_kinds (first_word line))) (rest_of line))) ≡ Ok e
   step true y p w quiet h = h
   step false true p w quiet h = cc
   step false false p w quiet h =
       let before = begins-not f line w in
-      rw w (with-fifth f (defined entry_kinds (first_word line)) (rest_of line) e (rw before at h))
+      let now = begins-not (late b) line w in
+      rw now (with-late b f (defined entry_kinds (first_word line)) (rest_of line) e (rw before at h))
 
-line-fifth : (f : Form) (line : List ℕ) (d next : Draft) → says_what_comes line ≡ false → with_script_line f line d ≡ Ok next → with_script_line form.Fifth line d ≡ Ok next
+line-late : (b : Bool) (f : Form) (line : List ℕ) (d next : Draft) → says_what_comes line ≡ false → with_script_line f line d ≡ Ok next → with_script_line (late b) line d ≡ Ok next
 unfolding with_script_line
-line-fifth f line d next quiet h = step (entry_of f line) refl h where
-  step : (r : Result Entry ScriptCause) → entry_of f line ≡ r → with_result r d ≡ Ok next → with_result (entry_of form.Fifth line) d ≡ Ok next
-  step (Ok e) is h = ap (λ r. with_result r d) (entry-fifth f line e quiet is) ∙ h
+line-late b f line d next quiet h = step (entry_of f line) refl h where
+  step : (r : Result Entry ScriptCause) → entry_of f line ≡ r → with_result r d ≡ Ok next → with_result (entry_of (late b) line) d ≡ Ok next
+  step (Ok e) is h = ap (λ r. with_result r d) (entry-late b f line e quiet is) ∙ h
   step (Err c) is h = cc
 
-drafted-fifth : (f : Form) (n : ℕ) (text : List (List ℕ)) (d end : Draft) → list_all (λ line. not (says_what_comes line)) text ≡ true → drafted f n text d ≡ Ok end → drafted form.Fifth n text d ≡ Ok end
+drafted-late : (b : Bool) (f : Form) (n : ℕ) (text : List (List ℕ)) (d end : Draft) → list_all (λ line. not (says_what_comes line)) text ≡ true → drafted f n text d ≡ Ok end → drafted (late b) n text d ≡ Ok end
 unfolding drafted
-drafted-fifth f n [] d end quiet h = h
-drafted-fifth f n (line ∷ rest) d end quiet h =
+drafted-late b f n [] d end quiet h = h
+drafted-late b f n (line ∷ rest) d end quiet h =
     let parts = and_parts (not (says_what_comes line)) (list_all (λ l. not (says_what_comes l)) rest) quiet in
-    step (with_script_line f line d) refl h (λ next. drafted-fifth f (n + 1) rest next end parts.1) (λ next. line-fifth f line d next (not_true (says_what_comes line) parts.0)) where
+    step (with_script_line f line d) refl h (λ next. drafted-late b f (n + 1) rest next end parts.1) (λ next. line-late b f line d next (not_true (says_what_comes line) parts.0)) where
       step : (r : Result Draft ScriptCause) → with_script_line f line d ≡ r → onward n r (λ next. drafted f (n + 1) rest next) ≡ Ok end
-          → ((next : Draft) → drafted f (n + 1) rest next ≡ Ok end → drafted form.Fifth (n + 1) rest next ≡ Ok end)
-          → ((next : Draft) → with_script_line f line d ≡ Ok next → with_script_line form.Fifth line d ≡ Ok next)
-          → onward n (with_script_line form.Fifth line d) (λ next. drafted form.Fifth (n + 1) rest next) ≡ Ok end
-      step (Ok next) is h later same = ap (λ r. onward n r (λ d. drafted form.Fifth (n + 1) rest d)) (same next is) ∙ later next h
+          → ((next : Draft) → drafted f (n + 1) rest next ≡ Ok end → drafted (late b) (n + 1) rest next ≡ Ok end)
+          → ((next : Draft) → with_script_line f line d ≡ Ok next → with_script_line (late b) line d ≡ Ok next)
+          → onward n (with_script_line (late b) line d) (λ next. drafted (late b) (n + 1) rest next) ≡ Ok end
+      step (Ok next) is h later same = ap (λ r. onward n r (λ d. drafted (late b) (n + 1) rest d)) (same next is) ∙ later next h
       step (Err c) is h later same = cc
 
-finished-fifth : (f : Form) (text : List (List ℕ)) (s : Setup) → list_all (λ line. not (says_what_comes line)) text ≡ true → finished_result (drafted f 1 text blank) ≡ Ok s
-    → finished_result (drafted form.Fifth 1 text blank) ≡ Ok s
-finished-fifth f text s quiet h = step (drafted f 1 text blank) refl h where
-  step : (r : Result Draft ScriptFault) → drafted f 1 text blank ≡ r → finished_result r ≡ Ok s → finished_result (drafted form.Fifth 1 text blank) ≡ Ok s
-  step (Ok d) is h = ap finished_result (drafted-fifth f 1 text blank d quiet is) ∙ h
+-- the script is the same but for its calls, which are those of its form
+abbrev in_late : Bool → Setup → Setup
+in_late b s = record s { polls = is_fifth (late b) }
+
+finished-late : (b : Bool) (f : Form) (text : List (List ℕ)) (s : Setup) → list_all (λ line. not (says_what_comes line)) text ≡ true → finished_result f (drafted f 1 text blank) ≡ Ok s
+    → finished_result (late b) (drafted (late b) 1 text blank) ≡ Ok (in_late b s)
+finished-late b f text s quiet h = step (drafted f 1 text blank) refl h where
+  step : (r : Result Draft ScriptFault) → drafted f 1 text blank ≡ r → finished_result f r ≡ Ok s → finished_result (late b) (drafted (late b) 1 text blank) ≡ Ok (in_late b s)
+  step (Ok d) is h =
+      let same : finished f d ≡ s = cc in
+      ap (finished_result (late b)) (drafted-late b f 1 text blank d quiet is) ∙ ap (λ (t : Setup). Ok (in_late b t)) same
   step (Err c) is h = cc
 
-lines-fifth : (first : List ℕ) (text : List (List ℕ)) (s : Setup) → list_all (λ line. not (says_what_comes line)) text ≡ true → script_of_lines (first ∷ text) ≡ Ok s
-    → script_of_lines (codes "varan-script 5" ∷ text) ≡ Ok s
-lines-fifth first text s quiet h = step (form_of first) h where
-  step : (found : Option Form) → script_in found text ≡ Ok s → script_of_lines (codes "varan-script 5" ∷ text) ≡ Ok s
-  step (Some f) h = in-form text ∙ finished-fifth f text s quiet h
+-- ---- the first line
+
+abbrev late_line : Bool → List ℕ
+late_line true = codes "varan-script 5"
+late_line false = codes "varan-script 4"
+
+form-late : (b : Bool) → form_of (late_line b) ≡ Some (late b)
+unfolding form_of
+form-late true = refl
+form-late false = refl
+
+lines-late : (b : Bool) (first : List ℕ) (text : List (List ℕ)) (s : Setup) → list_all (λ line. not (says_what_comes line)) text ≡ true → script_of_lines (first ∷ text) ≡ Ok s
+    → script_of_lines (late_line b ∷ text) ≡ Ok (in_late b s)
+lines-late b first text s quiet h = step (form_of first) h where
+  step : (found : Option Form) → script_in found text ≡ Ok s → script_of_lines (late_line b ∷ text) ≡ Ok (in_late b s)
+  step (Some f) h = ap (λ found. script_in found text) (form-late b) ∙ finished-late b f text s quiet h
   step None h = cc
+
+fourth-line : (body : List ℕ) → lines (codes "varan-script 4\n" ++ body) ≡ codes "varan-script 4" ∷ lines body
+unfolding lines
+fourth-line body = refl
 
 -- the lines after the first, under another first line
 pub other_form : (first body : List ℕ) (s : Setup) → All (λ b. (b == 10) ≡ false) first → list_all (λ line. not (says_what_comes line)) (lines body) ≡ true → script_of (first ++ 10 ∷ body) ≡ Ok s
-    → script_of (codes "varan-script 5\n" ++ body) ≡ Ok s
+    → script_of (codes "varan-script 5\n" ++ body) ≡ Ok (record s { polls = true })
 unfolding script_of
 other_form first body s plain quiet h =
-    ap script_of_lines (first-line body) ∙ lines-fifth first (lines body) s quiet (sym (ap script_of_lines (lines-line first body plain)) ∙ h)
+    ap script_of_lines (first-line body) ∙ lines-late true first (lines body) s quiet (sym (ap script_of_lines (lines-line first body plain)) ∙ h)
+
+pub fourth_form : (first body : List ℕ) (s : Setup) → All (λ b. (b == 10) ≡ false) first → list_all (λ line. not (says_what_comes line)) (lines body) ≡ true → script_of (first ++ 10 ∷ body) ≡ Ok s
+    → script_of (codes "varan-script 4\n" ++ body) ≡ Ok (record s { polls = false })
+unfolding script_of
+fourth_form first body s plain quiet h =
+    ap script_of_lines (fourth-line body) ∙ lines-late false first (lines body) s quiet (sym (ap script_of_lines (lines-line first body plain)) ∙ h)

@@ -509,8 +509,8 @@ drafted-keeps form n (line ∷ lines) d e k h = step (with_script_line form line
 
 -- ---- the whole script
 
-finished-keeps : (d : Draft) → DraftKeeps d → ScriptKeeps (finished d)
-finished-keeps d k =
+finished-keeps : (f : Form) (d : Draft) → DraftKeeps d → ScriptKeeps (finished f d)
+finished-keeps f d k =
     let clock = and_parts (nat_lt (unwrap_or d.clock no_clock).seconds (2 ^ 32)) _ k.clock in
     let fits = and_parts (nat_le (unwrap_or d.clock no_clock).nanos 999999999) _ clock.1 in
     let seconds : (unwrap_or d.clock no_clock).seconds < 2 ^ 32 = grind (arith, nat_tests) in
@@ -519,17 +519,17 @@ finished-keeps d k =
     let seed : unwrap_or d.seed 0 < 2 ^ 32 = grind (arith, nat_tests) in
     record { arguments = k.arguments; texts = k.texts; files = are_files-from d.files k.files; seconds = seconds; nanos = nanos; step = step; seed = seed; hands = are_hands-from d.hands k.hands; connections = are_connections-from d.connections k.connections; arrivals = are_arrivals-from d.arrivals d.came k.arrivals.sound k.arrivals.orderly }
 
-finished-script : (r : Result Draft ScriptFault) (s : Setup) → ((d : Draft) → r ≡ Ok d → DraftKeeps d) → finished_result r ≡ Ok s → is_script s ≡ true
-finished-script (Ok d) s keeps h =
-    let same : finished d ≡ s = cc in
-    subst (λ (t : Setup). is_script t ≡ true) same (is_script-from (finished d) (finished-keeps d (keeps d refl)))
-finished-script (Err fault) s keeps h = cc
+finished-script : (f : Form) (r : Result Draft ScriptFault) (s : Setup) → ((d : Draft) → r ≡ Ok d → DraftKeeps d) → finished_result f r ≡ Ok s → is_script s ≡ true
+finished-script f (Ok d) s keeps h =
+    let same : finished f d ≡ s = cc in
+    subst (λ (t : Setup). is_script t ≡ true) same (is_script-from (finished f d) (finished-keeps f d (keeps d refl)))
+finished-script f (Err fault) s keeps h = cc
 
 lines-script : (lines : List (List ℕ)) (s : Setup) → script_of_lines lines ≡ Ok s → is_script s ≡ true
 lines-script [] s h = cc
 lines-script (first ∷ rest) s h = step (form_of first) h where
   step : (found : Option Form) → script_in found rest ≡ Ok s → is_script s ≡ true
-  step (Some form) h = finished-script (drafted form 1 rest blank) s (λ d e. drafted-keeps form 1 rest blank d blank-keeps e) h
+  step (Some form) h = finished-script form (drafted form 1 rest blank) s (λ d e. drafted-keeps form 1 rest blank d blank-keeps e) h
   step None h = cc
 
 -- every script that a text says keeps to the limits

@@ -143,7 +143,7 @@ fifth : form_of (codes "varan-script 5") ≡ Some Fifth
 unfolding form_of
 fifth = refl
 
-pub in-form : (rest : List (List ℕ)) → script_of_lines (codes "varan-script 5" ∷ rest) ≡ finished_result (drafted Fifth 1 rest blank)
+pub in-form : (rest : List (List ℕ)) → script_of_lines (codes "varan-script 5" ∷ rest) ≡ finished_result Fifth (drafted Fifth 1 rest blank)
 in-form rest = ap (λ f. script_in f rest) fifth
 
 went : (arrivals : List Arrival) → are_orderly arrivals ≡ true → (P : Type 0) → ((now : Came) → after arrivals nothing_came ≡ Ok now → P) → P
@@ -155,17 +155,17 @@ went arrivals h P found = step (after arrivals nothing_came) refl h where
 comes-after : (old arrivals : List Arrival) (came now : Came) → after old nothing_came ≡ Ok came → after (old ++ arrivals) nothing_came ≡ Ok now → after arrivals came ≡ Ok now
 comes-after old arrivals came now e h = sym (after-append old arrivals nothing_came ∙ ap (λ r. onward_in r (λ c. after arrivals c)) e) ∙ h
 
-drafted-more : (body : List (List ℕ)) (arrivals : List Arrival) (s : Setup) (r : Result Draft ScriptFault) → drafted Fifth 1 body blank ≡ r → finished_result r ≡ Ok s
+drafted-more : (body : List (List ℕ)) (arrivals : List Arrival) (s : Setup) (r : Result Draft ScriptFault) → drafted Fifth 1 body blank ≡ r → finished_result Fifth r ≡ Ok s
     → list_all is_arrival arrivals ≡ true → All BringsBytes arrivals → are_orderly (s.arrivals ++ arrivals) ≡ true
-    → finished_result (drafted Fifth 1 (body ++ map line_text arrivals) blank) ≡ Ok (continued_by arrivals s)
+    → finished_result Fifth (drafted Fifth 1 (body ++ map line_text arrivals) blank) ≡ Ok (continued_by arrivals s)
 drafted-more body arrivals s (Err fault) is h sound are orderly = cc
 drafted-more body arrivals s (Ok d) is h sound are orderly =
-    let same : finished d ≡ s = cc in
+    let same : finished Fifth d ≡ s = cc in
     let keeps = drafted-keeps Fifth 1 body blank d blank-keeps is in
     let whole : are_orderly (d.arrivals ++ arrivals) ≡ true = ap (λ (t : Setup). are_orderly (t.arrivals ++ arrivals)) same ∙ orderly in
-    went (d.arrivals ++ arrivals) whole (finished_result (drafted Fifth 1 (body ++ map line_text arrivals) blank) ≡ Ok (continued_by arrivals s))
+    went (d.arrivals ++ arrivals) whole (finished_result Fifth (drafted Fifth 1 (body ++ map line_text arrivals) blank) ≡ Ok (continued_by arrivals s))
     (λ now e.
-    ap finished_result (drafted-append Fifth 1 body (map line_text arrivals) blank d is
+    ap (finished_result Fifth) (drafted-append Fifth 1 body (map line_text arrivals) blank d is
     ∙ arrivals-drafted (1 + length body) arrivals d now sound are (comes-after d.arrivals arrivals d.came now keeps.arrivals.orderly e))
     ∙ ap (λ (t : Setup). Ok (continued_by arrivals t)) same)
 
@@ -186,7 +186,7 @@ says text s arrivals tells sound are orderly =
     let all : lines (text ++ lines_of arrivals) ≡ codes "varan-script 5" ∷ (lines tells.body ++ map line_text arrivals) =
     lines-ended text tells.front (lines_of arrivals) tells.ends ∙ ap (λ ls. ls ++ lines (lines_of arrivals)) told
     ∙ ap (λ ls. codes "varan-script 5" ∷ (lines tells.body ++ ls)) (lines-arrivals arrivals sound are) in
-    let before : finished_result (drafted Fifth 1 (lines tells.body) blank) ≡ Ok s = sym (ap script_of_lines told ∙ in-form (lines tells.body)) ∙ tells.says in
+    let before : finished_result Fifth (drafted Fifth 1 (lines tells.body) blank) ≡ Ok s = sym (ap script_of_lines told ∙ in-form (lines tells.body)) ∙ tells.says in
     ap script_of_lines all ∙ in-form (lines tells.body ++ map line_text arrivals)
     ∙ drafted-more (lines tells.body) arrivals s (drafted Fifth 1 (lines tells.body) blank) refl before sound are orderly
 

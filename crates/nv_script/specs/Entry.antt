@@ -46,6 +46,14 @@ form_of line = if bytes_eq line (codes "varan-script 1") then Some form.First
     else (if bytes_eq line (codes "varan-script 5") then Some form.Fifth
     else None))))
 
+-- the fifth form alone has the calls that wait for several things at once
+abbrev pub is_fifth : Form → Bool
+is_fifth form.First = false
+is_fifth form.Second = false
+is_fifth form.Third = false
+is_fifth form.Fourth = false
+is_fifth form.Fifth = true
+
 -- ---- arguments and names of files
 
 -- 0x20 to 0x7E

@@ -12,7 +12,7 @@ use Rattle.nv_script.specs.declared.fault.ScriptCause.TheVariants as cause
 use Rattle.nv_script.specs.declared.fault.ScriptCause.TheVariants.{Twice, Long}
 use Rattle.nv_script.specs.declared.fault.ScriptFault.{ScriptFault}
 use Rattle.nv_script.specs.declared.fault.ScriptFault.TheVariants.{Line}
-use Rattle.nv_script.specs.Entry.{Entry, Nothing, Argument, Input, File, Time, Seed, Hand, Connection, Arrives, form_of, is_argument, is_file_name, is_hand, is_port, cause_of, entry_of}
+use Rattle.nv_script.specs.Entry.{Entry, Nothing, Argument, Input, File, Time, Seed, Hand, Connection, Arrives, form_of, is_fifth, is_argument, is_file_name, is_hand, is_port, cause_of, entry_of}
 
 -- a file's name and its content
 abbrev pub Named : Type 0
@@ -34,6 +34,8 @@ pub record Setup : Type 0 where
   pub hands : List ℕ
   pub connections : List Incoming
   pub arrivals : List Arrival
+  -- the calls that wait for several things at once are in the table
+  pub polls : Bool
 
 -- ---- line after line
 
@@ -120,7 +122,7 @@ with_result (Ok entry) draft = with_entry entry draft
 with_result (Err cause) draft = Err cause
 
 unfoldable pub with_script_line : Form → List ℕ → Draft → Result Draft ScriptCause
-with_script_line form line draft = with_result (entry_of form line) draft
+with_script_line f line draft = with_result (entry_of f line) draft
 
 abbrev pub onward : ℕ → Result Draft ScriptCause → (Draft → Result Draft ScriptFault) → Result Draft ScriptFault
 onward n (Ok draft) later = later draft
@@ -128,8 +130,8 @@ onward n (Err cause) later = Err (Line (line_number n) cause)
 
 -- what lines after n others make of a draft, or the first faulty line
 unfoldable pub drafted : Form → ℕ → List (List ℕ) → Draft → Result Draft ScriptFault
-drafted form n [] draft = Ok draft
-drafted form n (line ∷ rest) draft = onward n (with_script_line form line draft) (λ next. drafted form (n + 1) rest next)
+drafted f n [] draft = Ok draft
+drafted f n (line ∷ rest) draft = onward n (with_script_line f line draft) (λ next. drafted f (n + 1) rest next)
 
 -- ---- the whole text
 
@@ -137,8 +139,8 @@ drafted form n (line ∷ rest) draft = onward n (with_script_line form line draf
 abbrev pub no_clock : Clock
 no_clock = record { seconds = 0; nanos = 0; step = 0 }
 
-abbrev pub setup_with : Clock → Draft → Setup
-setup_with clock draft = record {
+abbrev pub setup_with : Form → Clock → Draft → Setup
+setup_with f clock draft = record {
   arguments = draft.arguments;
   input = draft.input;
   files = draft.files;
@@ -149,14 +151,15 @@ setup_with clock draft = record {
   hands = draft.hands;
   connections = draft.connections;
   arrivals = draft.arrivals;
+  polls = is_fifth f;
 }
 
-abbrev pub finished : Draft → Setup
-finished draft = setup_with (unwrap_or draft.clock no_clock) draft
+abbrev pub finished : Form → Draft → Setup
+finished f draft = setup_with f (unwrap_or draft.clock no_clock) draft
 
-abbrev pub finished_result : Result Draft ScriptFault → Result Setup ScriptFault
-finished_result (Ok draft) = Ok (finished draft)
-finished_result (Err fault) = Err fault
+abbrev pub finished_result : Form → Result Draft ScriptFault → Result Setup ScriptFault
+finished_result f (Ok draft) = Ok (finished f draft)
+finished_result f (Err fault) = Err fault
 
 abbrev pub no_form : Result Setup ScriptFault
 no_form = Err (Line 1 cause.Form)
@@ -164,7 +167,7 @@ no_form = Err (Line 1 cause.Form)
 -- the lines after the first, by the form that the first names
 abbrev pub script_in : Option Form → List (List ℕ) → Result Setup ScriptFault
 script_in None rest = no_form
-script_in (Some form) rest = finished_result (drafted form 1 rest blank)
+script_in (Some f) rest = finished_result f (drafted f 1 rest blank)
 
 abbrev pub script_of_lines : List (List ℕ) → Result Setup ScriptFault
 script_of_lines [] = no_form

@@ -17,4 +17,5 @@ setup_of script = record {
   hands = script.hands.items;
   connections = map (λ connection. (connection.0, connection.1.items)) script.connections.items;
   arrivals = map view script.arrivals.items;
+  polls = script.polls;
 }

@@ -8,6 +8,7 @@ ghost use Rattle.nv_script.specs.inner.Views.{view, became};
 use crate::Script;
 use crate::entry::{Clock, Entry, cause_of};
 use crate::fault::ScriptCause;
+use crate::form::{Form, is_fifth};
 use nv_arrivals::{Arrival, Order};
 use nv_text::Names;
 use std::alloc::{AllocError, Global};
@@ -268,9 +269,9 @@ impl<'a> Draft<'a> {
         }
     }
 
-    /// The script, with the defaults of what no line says.
-    pub fn finish(self) -> Script
-        ensures { setup_of result ≡ finished self.entry }
+    /// The script of this form, with the defaults of what no line says.
+    pub fn finish(self, form: Form) -> Script
+        ensures { setup_of result ≡ finished form self.entry }
     {
         let Draft {
             arguments,
@@ -296,6 +297,7 @@ impl<'a> Draft<'a> {
             hands,
             connections,
             arrivals,
+            polls: is_fifth(form),
         }
     }
 }

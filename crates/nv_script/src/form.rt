@@ -1,6 +1,6 @@
 // The forms of a script.
 ghost use Rattle.std.specs.Prelude.{◌≡◌};
-ghost use Rattle.nv_script.specs.Entry.{form_of};
+ghost use Rattle.nv_script.specs.Entry.{form_of, is_fifth};
 
 use nv_text::is;
 
@@ -15,7 +15,7 @@ pub enum Form {
     Third,
     /// `varan-script 4`: what comes from outside are arrivals, which come one after another.
     Fourth,
-    /// `varan-script 5`: the time is among what comes.
+    /// `varan-script 5`: the time is among what comes, and calls wait for it and for several things at once.
     Fifth,
 }
 
@@ -36,5 +36,15 @@ pub fn form_of(line: &[u8]) -> Option<Form>
         Some(Form::Fifth)
     } else {
         None
+    }
+}
+
+/// Whether it is the fifth form.
+pub fn is_fifth(form: Form) -> bool
+    ensures { result ≡ is_fifth form }
+{
+    match form {
+        Form::First | Form::Second | Form::Third | Form::Fourth => false,
+        Form::Fifth => true,
     }
 }

@@ -60,5 +60,5 @@ pub fn read(alloc: Global, bytes: &[u8]) -> Result<Script, ScriptFault>
         return Err(ScriptFault::Line(1, ScriptCause::Form));
     };
     let draft = draft_of(alloc, form, lines)?;
-    Ok(draft.finish())
+    Ok(draft.finish(form))
 }

@@ -24,4 +24,6 @@ pub struct Script {
     pub connections: Vec<(u32, Vec<u8>)>,
     /// What comes one after another, in a script of the fourth form or the fifth.
     pub arrivals: Vec<Arrival>,
+    /// The script is of the fifth form: the calls that wait for several things at once are in the table.
+    pub polls: bool,
 }

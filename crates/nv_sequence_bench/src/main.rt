@@ -29,7 +29,7 @@ fn version(alloc: Global, file: &[u8]) -> Option<Version>
 {
     let program = nv_elf::read(alloc, file).ok()?;
     let guest = Guest::make(alloc, &program, &[], MEMORY).ok()?;
-    let process = Process::make(alloc, guest, BUDGET, false).ok()?;
+    let process = Process::make(alloc, guest, BUDGET, false, false).ok()?;
     Version::make(alloc, 0, process).ok()
 }
 

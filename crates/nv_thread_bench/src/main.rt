@@ -177,7 +177,7 @@ fn process(alloc: Global, file: &[u8], memory: u32, count: u32) -> Result<Proces
     let Ok(guest) = Guest::make(alloc, &program, &[], memory) else {
         bail!("the program is refused");
     };
-    Ok(Process::make(alloc, guest, count, false)?)
+    Ok(Process::make(alloc, guest, count, false, false)?)
 }
 
 /// Runs the guest of a file on the bytes of another, and prints how many instructions it took.

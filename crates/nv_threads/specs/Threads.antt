@@ -6,6 +6,7 @@ use Rattle.nv_calls.specs.Calls.{Request, Response, status_of}
 use Rattle.nv_calls.specs.Logs.{made}
 use Rattle.nv_calls.specs.Numbers.{EXIT, EXIT_GROUP, is_local}
 use Rattle.nv_calls.specs.Errors.{EFAULT, EAGAIN, ENOSYS, EINVAL}
+use Rattle.nv_calls.specs.Profiles.{in_profile}
 use Rattle.nv_calls.specs.Limits.{FIRST_THREAD, MOST_EVENTS}
 use Rattle.nv_memory.specs.declared.region.Access.{Access}
 use Rattle.nv_memory.specs.declared.region.Width.TheVariants.{Four}
@@ -76,8 +77,8 @@ lesser t (Some u) = min t u
 -- ---- the process
 
 -- The guest, its live threads in the order in which they came, the turn's thread with the instructions that it has left, the instructions
--- left of the budget, the budget, how often its count may still begin anew, how many instructions had been run when it last did, and the status that
--- the last call to exit gave.
+-- left of the budget, the budget, how often its count may still begin anew, how many instructions had been run when it last did, the status that
+-- the last call to exit gave, and whether the later calls are in the table.
 pub record Proc : Type 0 where
   pub guest : Threaded
   pub tasks : List Task
@@ -88,6 +89,7 @@ pub record Proc : Type 0 where
   pub renewals : ℕ
   pub earlier : ℕ
   pub status : ℕ
+  pub polls : Bool
 
 -- how many instructions a turn has
 unfoldable pub turn_length : ℕ
@@ -98,8 +100,8 @@ abbrev pub renewals_of : Bool → ℕ
 renewals_of renews = if renews then MOST_EVENTS else 0
 
 -- as it is made
-abbrev pub started : Machine → ℕ → Bool → Proc
-started m budget renews = record {
+abbrev pub started : Machine → ℕ → Bool → Bool → Proc
+started m budget renews polls = record {
   guest = one_thread m;
   tasks = record { tid = FIRST_THREAD; state = Runs } ∷ [];
   turn = FIRST_THREAD;
@@ -109,6 +111,7 @@ started m budget renews = record {
   renewals = renewals_of renews;
   earlier = 0;
   status = 0;
+  polls = polls;
 }
 
 -- how many instructions it has run
@@ -220,7 +223,7 @@ local nr p = all_unreserved (own_answer nr p)
 
 -- the turn's thread has made a call
 abbrev pub asking : Proc → Proc
-asking p = record p { tasks = with_state p.tasks p.turn (Asks (call_at (machine p) p.turn)) }
+asking p = record p { tasks = with_state p.tasks p.turn (Asks (in_profile p.polls (call_at (machine p) p.turn))) }
 
 abbrev pub called : Proc → Proc
 called p = if is_local (call_number (machine p)) then local (call_number (machine p)) p else asking p

@@ -2,9 +2,12 @@
 ghost use Rattle.std.specs.Prelude.{◌≡◌, ◌≢◌, ◌≤◌, ◌<◌, ◌++◌, ◌∷◌, [], Some, None, Ok, IfOk, true, length, min, is_some, remove, slice_index_or, Contains, IsTrue};
 ghost use Rattle.nv_calls.specs.Calls.{request};
 ghost use Rattle.nv_calls.specs.Logs.{made, IsNew};
+ghost use Rattle.nv_calls.specs.Numbers.{is_local};
+ghost use Rattle.nv_calls.specs.Profiles.{in_profile};
 ghost use Rattle.nv_calls.specs.Shapes.{IsShaped};
+ghost use Rattle.nv_guest.specs.Calls.{call_at, call_number};
 ghost use Rattle.nv_guest.specs.Guest.{machine_of, one_thread};
-ghost use Rattle.nv_guest.specs.Threads.{break_after, tids as guest_tids};
+ghost use Rattle.nv_guest.specs.Threads.{asked_as, break_after, machine_at, tids as guest_tids};
 ghost use Rattle.nv_threads.specs.Behaviours.{IsStarted};
 ghost use Rattle.nv_threads.specs.Threads.{threads, started, renewals_of, renewed, count_of, greatest, state_at, is_running, is_asking, wanted, can_move, is_on, faulted, unless_live, turn_passed, all_unreserved, turn_replied, own_answer, local, woken_one, woken, waiting, operation, futex, futex_by, futex_on, called, machine, task_tids, exited, left_by, brk, broken, with_child_task, goes_on, after_call, answered_as};
 ghost use Rattle.nv_threads.specs.Going.{Goes, burst};
@@ -49,6 +52,8 @@ pub struct Process {
     /// How many instructions it had run when the count last began anew.
     earlier: u64,
     status: u8,
+    /// Whether the later calls are in the table.
+    polls: bool,
 }
 
 impl Model for Process {
@@ -61,25 +66,40 @@ impl Model for Process {
 
     ghost Value = { Proc };
 
-    ghost view = { λ p. record { guest = p.guest; tasks = threads_of p.tasks.items (map request p.calls.items); turn = p.turn; slice = p.slice; left = p.budget - p.count; budget = p.budget; renewals = p.renewals; earlier = p.earlier; status = p.status } };
+    ghost view = { λ p. record { guest = p.guest; tasks = threads_of p.tasks.items (map request p.calls.items); turn = p.turn; slice = p.slice; left = p.budget - p.count; budget = p.budget; renewals = p.renewals; earlier = p.earlier; status = p.status; polls = p.polls } };
 
     ghost invariant = { λ p. IsSoundProcess p.count p.budget p.renewals p.earlier (threads_of p.tasks.items (map request p.calls.items)) (tids p.guest.threads) p.calls.items };
+}
+
+// The call that a thread of the guest is at, where the later calls are in the table, or aren't.
+fn asked_of(guest: &Guest, tid: u32, polls: bool, call: &mut Call) -> Asked
+    requires lives { Contains (guest_tids guest.now.threads) tid }
+    requires capacity { MOST_BYTES ≤ call.old.payload.capacity }
+    ensures asked { result ≡ asked_as (is_local (call_number (machine_at guest.now tid))) }
+    ensures shaped { result ≡ Asked.Logged → IsShaped (request call.new) }
+    ensures call { request call.new ≡ in_profile polls (call_at (machine_at guest.now tid) tid) }
+    ensures capacity { call.new.payload.capacity ≡ call.old.payload.capacity }
+{
+    let asked = guest.call_of(tid, call);
+    call.limit(polls);
+    asked
 }
 
 #[tactic(auto, unfolding(crate::specs::Threads::threads))]
 impl Process {
     /// The process of a guest that hasn't run, whose one thread is 100; all its memory is taken here. Where it renews, the count of its
-    /// instructions begins anew at each answer.
+    /// instructions begins anew at each answer; where it polls, the later calls are in its table.
     #[tactic(auto, unfolding(crate::specs::Threads::threads, crate::specs::Threads::turn_length))]
     pub fn make(
         alloc: Global,
         guest: Guest,
         budget: u32,
         renews: bool,
+        polls: bool,
     ) -> Result<Process, AllocError>
         requires alone { guest ≡ one_thread (machine_of guest) }
         requires budget { budget ≤ 1000000000 }
-        ensures process { IfOk result (λ p. p ≡ started (machine_of guest) budget renews) }
+        ensures process { IfOk result (λ p. p ≡ started (machine_of guest) budget renews polls) }
         ensures started { IfOk result (IsStarted threads) }
     {
         let calls = eight_calls(alloc)?;
@@ -99,6 +119,7 @@ impl Process {
             renewals: renewals(renews),
             earlier: 0,
             status: 0,
+            polls,
         })
     }
 
@@ -256,7 +277,7 @@ impl Process {
     {
         let place = place(&self.tasks, self.turn);
         let turn = self.turn;
-        match self.guest.call_of(turn, &mut self.calls[place]) {
+        match asked_of(&self.guest, turn, self.polls, &mut self.calls[place]) {
             Asked::Logged => set_doing(&mut self.tasks, turn, Doing::Asks),
             Asked::Local => {
                 let nr = self.guest.regs(turn).get(17);

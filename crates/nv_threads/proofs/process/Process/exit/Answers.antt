@@ -76,6 +76,6 @@ returns c =
     ∙ (ap (threads_of (remove i.tasks.items place)) requests
     ∙ (removed_of i.tasks.items cs place (request x) here long
     ∙ (ap (remove (threads_of i.tasks.items cs)) at ∙ removed_is i.tasks.items cs c.args.tid long c.self.invariant.apart)))) in
-    ap (λ (ts : List Thread). record { guest = c.end_thread.new.self; tasks = ts; turn = i.turn; slice = i.slice; left = i.budget - i.count; budget = i.budget; renewals = i.renewals; earlier = i.earlier; status = c.args.status }) is
-    ∙ (ap (λ (g : guests.Threaded). record { guest = g; tasks = filter (others c.args.tid) (threads_of i.tasks.items cs); turn = i.turn; slice = i.slice; left = i.budget - i.count; budget = i.budget; renewals = i.renewals; earlier = i.earlier; status = c.args.status }) c.end_thread.ensures
+    ap (λ (ts : List Thread). record { guest = c.end_thread.new.self; tasks = ts; turn = i.turn; slice = i.slice; left = i.budget - i.count; budget = i.budget; renewals = i.renewals; earlier = i.earlier; status = c.args.status; polls = i.polls }) is
+    ∙ (ap (λ (g : guests.Threaded). record { guest = g; tasks = filter (others c.args.tid) (threads_of i.tasks.items cs); turn = i.turn; slice = i.slice; left = i.budget - i.count; budget = i.budget; renewals = i.renewals; earlier = i.earlier; status = c.args.status; polls = i.polls }) c.end_thread.ensures
     ∙ ap (λ (p : Proc). left_by p c.args.tid c.args.status) c.self.view_is)

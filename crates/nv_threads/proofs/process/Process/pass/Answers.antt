@@ -19,6 +19,6 @@ returns c =
     let next = c.next_tid-self-inside.ensures
     ∙ (ap (λ ts. next_tid i.turn (task_numbers ts)) c.deref.ensures.0
     ∙ (ap (next_tid i.turn) (sym (tids_of i.tasks.items cs)) ∙ ap (λ (p : Proc). next_tid p.turn (task_tids p.tasks)) c.self.view_is)) in
-    ap (λ (g : Threaded). record { guest = g; tasks = threads_of i.tasks.items cs; turn = c.next_tid-self-inside.result; slice = 1000; left = i.budget - i.count; budget = i.budget; renewals = i.renewals; earlier = i.earlier; status = i.status }) c.release.ensures
+    ap (λ (g : Threaded). record { guest = g; tasks = threads_of i.tasks.items cs; turn = c.next_tid-self-inside.result; slice = 1000; left = i.budget - i.count; budget = i.budget; renewals = i.renewals; earlier = i.earlier; status = i.status; polls = i.polls }) c.release.ensures
     ∙ (ap (λ (p : Proc). record p { guest = released p.guest; turn = c.next_tid-self-inside.result; slice = 1000 }) c.self.view_is
     ∙ ap (λ n. record c.args.self.now { guest = released c.args.self.now.guest; turn = n; slice = 1000 }) next)

@@ -12,5 +12,5 @@ invariant_of-self c = guest_released _ _ _ _ _ _ _ _ c.self.invariant c.release.
 pub returns : goal.returns
 returns c =
     let i = c.self.inside in
-    ap (λ (g : Threaded). record { guest = g; tasks = threads_of i.tasks.items (map request i.calls.items); turn = i.turn; slice = i.slice; left = i.budget - i.count; budget = i.budget; renewals = i.renewals; earlier = i.earlier; status = i.status }) c.release.ensures
+    ap (λ (g : Threaded). record { guest = g; tasks = threads_of i.tasks.items (map request i.calls.items); turn = i.turn; slice = i.slice; left = i.budget - i.count; budget = i.budget; renewals = i.renewals; earlier = i.earlier; status = i.status; polls = i.polls }) c.release.ensures
     ∙ ap (λ (p : Proc). all_unreserved p) c.self.view_is

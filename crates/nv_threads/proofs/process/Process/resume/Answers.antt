@@ -26,7 +26,7 @@ pub returns : goal.returns
 returns c =
     let i = c.self.inside in
     let is = state_written i.tasks.items c.deref_mut.result.now c.set_doing.new.tasks (map request i.calls.items) c.args.tid doing.Runs Runs (λ _. refl) c.deref_mut.ensures.value c.set_doing.ensures in
-    ap (λ (ts : List Task). record { guest = c.answer.new.self; tasks = ts; turn = i.turn; slice = i.slice; left = i.budget - i.count; budget = i.budget; renewals = i.renewals; earlier = i.earlier; status = i.status }) is
-    ∙ (ap (λ (g : guests.Threaded). record { guest = g; tasks = with_state (threads_of i.tasks.items (map request i.calls.items)) c.args.tid Runs; turn = i.turn; slice = i.slice; left = i.budget - i.count; budget = i.budget; renewals = i.renewals; earlier = i.earlier; status = i.status })
+    ap (λ (ts : List Task). record { guest = c.answer.new.self; tasks = ts; turn = i.turn; slice = i.slice; left = i.budget - i.count; budget = i.budget; renewals = i.renewals; earlier = i.earlier; status = i.status; polls = i.polls }) is
+    ∙ (ap (λ (g : guests.Threaded). record { guest = g; tasks = with_state (threads_of i.tasks.items (map request i.calls.items)) c.args.tid Runs; turn = i.turn; slice = i.slice; left = i.budget - i.count; budget = i.budget; renewals = i.renewals; earlier = i.earlier; status = i.status; polls = i.polls })
     (c.answer.ensures ∙ ap (λ ret. guests.answered_at i.guest c.args.tid ret c.args.payload.now) (to_z-of_z w32 c.args.ret c.ranges.ret))
     ∙ ap (λ (p : Proc). goes_on p c.args.tid (record { ret = c.args.ret; payload = c.args.payload.now })) c.self.view_is)

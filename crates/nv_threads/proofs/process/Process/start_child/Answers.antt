@@ -36,6 +36,6 @@ returns c =
     let i = c.self.inside in
     let cs = map request i.calls.items in
     let is = ap (λ (ts : List Task). threads_of ts cs) c.push.ensures.items ∙ more_of i.tasks.items cs c.args.child in
-    ap (λ (ts : List Thread). record { guest = c.clone_thread.new.self; tasks = ts; turn = i.turn; slice = i.slice; left = i.budget - i.count; budget = i.budget; renewals = i.renewals; earlier = i.earlier; status = i.status }) is
-    ∙ (ap (λ (g : guests.Threaded). record { guest = g; tasks = threads_of i.tasks.items cs ++ record { tid = c.args.child; state = Runs } ∷ []; turn = i.turn; slice = i.slice; left = i.budget - i.count; budget = i.budget; renewals = i.renewals; earlier = i.earlier; status = i.status }) c.clone_thread.ensures
+    ap (λ (ts : List Thread). record { guest = c.clone_thread.new.self; tasks = ts; turn = i.turn; slice = i.slice; left = i.budget - i.count; budget = i.budget; renewals = i.renewals; earlier = i.earlier; status = i.status; polls = i.polls }) is
+    ∙ (ap (λ (g : guests.Threaded). record { guest = g; tasks = threads_of i.tasks.items cs ++ record { tid = c.args.child; state = Runs } ∷ []; turn = i.turn; slice = i.slice; left = i.budget - i.count; budget = i.budget; renewals = i.renewals; earlier = i.earlier; status = i.status; polls = i.polls }) c.clone_thread.ensures
     ∙ ap (λ (p : Proc). with_child_task p c.args.tid (Some c.args.child)) c.self.view_is)

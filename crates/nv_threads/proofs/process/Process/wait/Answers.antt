@@ -24,5 +24,5 @@ returns c =
     let i = c.self.inside in
     let is = state_written i.tasks.items c.deref_mut.result.now c.set_doing.new.tasks (map request i.calls.items) i.turn (doing.Waits c.args.address) (Waits c.args.address) (λ _. refl) c.deref_mut.ensures.value c.set_doing.ensures in
     c.pass.ensures ∙ ap turn_passed
-    (ap (λ (ts : List Task). record { guest = i.guest; tasks = ts; turn = i.turn; slice = i.slice; left = i.budget - i.count; budget = i.budget; renewals = i.renewals; earlier = i.earlier; status = i.status }) is
+    (ap (λ (ts : List Task). record { guest = i.guest; tasks = ts; turn = i.turn; slice = i.slice; left = i.budget - i.count; budget = i.budget; renewals = i.renewals; earlier = i.earlier; status = i.status; polls = i.polls }) is
     ∙ ap (λ (p : Proc). record p { tasks = with_state p.tasks p.turn (Waits c.args.address) }) c.self.view_is)
