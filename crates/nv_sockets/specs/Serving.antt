@@ -1,5 +1,5 @@
 -- What the kernel with sockets answers: what the kernel without them does, but for the calls on sockets.
-use Rattle.std.specs.Prelude.{ℕ, ℤ, min, nat_lt, List, [], ◌∷◌, map, Option, Some, None, option_map, if◌then◌else◌}
+use Rattle.std.specs.Prelude.{ℕ, ℤ, Bool, min, nat_lt, List, [], ◌∷◌, map, Option, Some, None, option_map, if◌then◌else◌}
 use Rattle.nv_calls.specs.declared.numbers.Syscall.{Syscall}
 use Rattle.nv_calls.specs.declared.numbers.Syscall.TheVariants as call
 use Rattle.nv_calls.specs.Calls.{Request, Response}
@@ -98,12 +98,12 @@ abbrev pub port_from : Incoming → Option ℕ
 port_from connection = Some connection.0
 
 -- all connections wait
-abbrev pub first_net : List Incoming → Net
-first_net connections = record { sockets = no_sockets; waiting = map port_from connections; links = map link_from connections }
+abbrev pub first_net : Bool → List Incoming → Net
+first_net polls connections = record { sockets = no_sockets polls; waiting = map port_from connections; links = map link_from connections }
 
 -- what a script gives
 abbrev pub first_state : Setup → State
-first_state setup = record { own = kernel.first_state setup; net = first_net setup.connections }
+first_state setup = record { own = kernel.first_state setup; net = first_net setup.polls setup.connections }
 
 unfoldable pub start_of_script : Setup → Start
 start_of_script setup = start_at (first_state setup)

@@ -32,9 +32,13 @@ only net ret = answer net ret []
 
 -- ---- at the start
 
--- no socket is open: there are 64 descriptors, from 64 to 127
-unfoldable pub no_sockets : List (Option Socket)
-no_sockets = replicate 64 None
+-- how many descriptors sockets have, from 64 on: 960 where the later calls are in the table, so that there are 1,024 in all
+unfoldable pub socket_count : Bool → ℕ
+socket_count polls = if polls then 960 else 64
+
+-- no socket is open
+unfoldable pub no_sockets : Bool → List (Option Socket)
+no_sockets polls = replicate (socket_count polls) None
 
 -- ---- descriptors
 

@@ -25,7 +25,7 @@ abbrev pub incoming_of : ℕ × Vec ℕ → Incoming
 incoming_of c = (c.0, c.1.items)
 
 abbrev pub net_of : Inside → Net
-net_of s = record { sockets = s.sockets; waiting = s.waiting.items; links = map link_of s.connections.items }
+net_of s = record { sockets = s.sockets.items; waiting = s.waiting.items; links = map link_of s.connections.items }
 
 abbrev pub buffered_of : Inside → Buffered
 buffered_of s = record {

@@ -1,5 +1,5 @@
 // socket, bind and listen.
-ghost use Rattle.std.specs.Prelude.{◌≡◌, ◌≤◌, ◌<◌, []};
+ghost use Rattle.std.specs.Prelude.{◌≡◌, ◌+◌, ◌≤◌, ◌<◌, [], length};
 ghost use Rattle.nv_sockets.specs.Sockets.{answer, are_flags, is_stream, is_tcp, is_size, port_by, port_in, socket_of, bind_to, bind_socket, bind_of, listen_socket, listen_of};
 
 use crate::places::fault_of;
@@ -87,7 +87,7 @@ impl Sockets {
 
     fn bind_to(&mut self, fd: u32, port: Option<u32>) -> i32
         requires low { 64 ≤ fd }
-        requires high { fd < 128 }
+        requires high { fd < 64 + length self.old.net.sockets }
         ensures { bind_to self.old.net fd port ≡ answer self.new.net result [] }
     {
         let Some(port) = port else {
@@ -102,7 +102,7 @@ impl Sockets {
 
     fn bind_socket(&mut self, fd: u32, size: u32, address: &[u8], socket: Socket) -> i32
         requires low { 64 ≤ fd }
-        requires high { fd < 128 }
+        requires high { fd < 64 + length self.old.net.sockets }
         ensures { bind_socket self.old.net fd size address.now socket ≡ answer self.new.net result [] }
     {
         match socket {
@@ -128,7 +128,7 @@ impl Sockets {
 
     fn listen_socket(&mut self, fd: u32, socket: Socket) -> i32
         requires low { 64 ≤ fd }
-        requires high { fd < 128 }
+        requires high { fd < 64 + length self.old.net.sockets }
         ensures { listen_socket self.old.net fd socket ≡ answer self.new.net result [] }
     {
         match socket {

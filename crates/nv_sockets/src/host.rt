@@ -41,7 +41,7 @@ impl Host {
         ensures { IfOk result (λ made. state_of made ≡ first_state (setup_of script.now)) }
     {
         let devices = Devices::make(alloc, script)?;
-        let sockets = Sockets::make(alloc, &script.connections)?;
+        let sockets = Sockets::make(alloc, script.polls, &script.connections)?;
         Ok(Host { devices, sockets })
     }
 

@@ -23,5 +23,5 @@ pub use connection::Connection;
 pub use host::Host;
 pub use kernel::{SocketKernel, connections};
 pub use socket::Socket;
-pub use sockets::Sockets;
+pub use sockets::{FIRST_SOCKET, MOST_SOCKETS, Sockets};
 pub use writing::{put_connections, write_connections};

@@ -47,7 +47,7 @@ impl Sockets {
 
     fn read_connection(&mut self, fd: u32, i: usize, read: usize, n: usize, out: &mut Bytes) -> i32
         requires low { 64 ≤ fd }
-        requires high { fd < 128 }
+        requires high { fd < 64 + length self.old.net.sockets }
         requires few { n ≤ MOST_BYTES }
         requires capacity { MOST_BYTES ≤ out.old.capacity }
         ensures answer { read_link self.old.net fd i read n ≡ answer self.new.net result out.new.bytes }
@@ -66,7 +66,7 @@ impl Sockets {
 
     fn read_socket(&mut self, fd: u32, n: usize, socket: Socket, out: &mut Bytes) -> i32
         requires low { 64 ≤ fd }
-        requires high { fd < 128 }
+        requires high { fd < 64 + length self.old.net.sockets }
         requires few { n ≤ MOST_BYTES }
         requires capacity { MOST_BYTES ≤ out.old.capacity }
         ensures answer { read_socket self.old.net fd n socket ≡ answer self.new.net result out.new.bytes }

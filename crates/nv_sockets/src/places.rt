@@ -1,5 +1,5 @@
 // What a descriptor names, which are free, and which ports are in use.
-ghost use Rattle.std.specs.Prelude.{◌≡◌, ◌<◌, ◌≤◌, [], length, drop, is_none, IfSome, slice_index_or, None};
+ghost use Rattle.std.specs.Prelude.{◌≡◌, ◌<◌, ◌≤◌, ◌+◌, [], length, drop, is_none, IfSome, slice_index_or, None};
 ghost use Rattle.std.specs.List.{position_from, list_any};
 ghost use Rattle.nv_sockets.specs.Queue.{AcceptedBelow};
 ghost use Rattle.nv_sockets.specs.Sockets.{answer, fault_of, socket_at, with_socket, free_place, socket_opened, has_port, is_used, waits_at_port, next_at, with_accepted};
@@ -100,18 +100,18 @@ impl Sockets {
     pub fn at(&self, fd: u32) -> Option<Socket>
         ensures is { result ≡ socket_at self.now.net fd }
         ensures low { IfSome result (λ _. 64 ≤ fd) }
-        ensures high { IfSome result (λ _. fd < 128) }
+        ensures high { IfSome result (λ _. fd < 64 + length self.now.net.sockets) }
     {
         if fd < FIRST_SOCKET {
             return None;
         }
-        slot(&self.sockets, (fd - FIRST_SOCKET) as usize)
+        slot(self.sockets.as_slice(), (fd - FIRST_SOCKET) as usize)
     }
 
     /// The descriptor names this socket from now on, or none.
     pub(crate) fn put(&mut self, fd: u32, socket: Option<Socket>)
         requires low { 64 ≤ fd }
-        requires high { fd < 128 }
+        requires high { fd < 64 + length self.old.net.sockets }
         ensures { self.new.net ≡ with_socket self.old.net fd socket }
     {
         self.sockets[(fd - FIRST_SOCKET) as usize] = socket;
@@ -120,14 +120,14 @@ impl Sockets {
     /// The place of the least descriptor that is free.
     pub fn free_place(&self) -> Option<usize>
         ensures is { result ≡ free_place self.now.net }
-        ensures inside { IfSome result (λ place. place < 64) }
+        ensures inside { IfSome result (λ place. place < length self.now.net.sockets) }
     {
-        first_free(&self.sockets)
+        first_free(self.sockets.as_slice())
     }
 
     /// A new socket at this place; the answer is its descriptor.
     pub(crate) fn install(&mut self, place: usize, socket: Socket) -> i32
-        requires { place < 64 }
+        requires { place < length self.old.net.sockets }
         ensures { socket_opened self.old.net place socket ≡ answer self.new.net result [] }
     {
         self.sockets[place] = Some(socket);
@@ -138,7 +138,7 @@ impl Sockets {
     pub(crate) fn is_used(&self, port: u32) -> bool
         ensures { result ≡ is_used self.now.net port }
     {
-        any_has_port(&self.sockets, port)
+        any_has_port(self.sockets.as_slice(), port)
     }
 
     /// The first connection that waits at the port.

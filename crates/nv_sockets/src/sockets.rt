@@ -1,6 +1,6 @@
 // The sockets and the connections, and what they are at the start.
-ghost use Rattle.std.specs.Prelude.{◌≡◌, Some, IfOk, map};
-ghost use Rattle.nv_sockets.specs.Sockets.{no_sockets};
+ghost use Rattle.std.specs.Prelude.{◌≡◌, ◌≤◌, length, Some, IfOk, map};
+ghost use Rattle.nv_sockets.specs.Sockets.{socket_count, no_sockets};
 ghost use Rattle.nv_sockets.specs.Serving.{first_net, link_from, port_from};
 ghost use Rattle.nv_sockets.specs.Views.{link_of, incoming_of};
 
@@ -10,8 +10,11 @@ use nv_fs::DESCRIPTORS;
 use std::alloc::{AllocError, Global};
 use std::marker::Model;
 
-/// How many descriptors sockets have.
-pub const SOCKETS: usize = 64;
+/// How many descriptors sockets have in runs that don't have the later calls.
+const SOCKETS: usize = 64;
+
+/// How many they have in runs that do.
+pub const MOST_SOCKETS: usize = 960;
 
 /// The first of them, after those of files.
 pub const FIRST_SOCKET: u32 = DESCRIPTORS as u32;
@@ -19,7 +22,7 @@ pub const FIRST_SOCKET: u32 = DESCRIPTORS as u32;
 /// The sockets of a run, with the descriptors that name them, and the connections. Each connection waits at its port until it is accepted.
 #[derive(Drop)]
 pub struct Sockets {
-    pub(crate) sockets: [Option<Socket>; SOCKETS],
+    pub(crate) sockets: Vec<Option<Socket>>,
     pub(crate) waiting: Vec<Option<u32>>,
     /// Nobody waits below this place.
     pub(crate) first: usize,
@@ -35,16 +38,26 @@ impl Model for Sockets {
 
     ghost view = { buffered_of };
 
+    ghost use Rattle.std.specs.Prelude.{◌≤◌, length};
     ghost use Rattle.nv_sockets.specs.Queue.{AcceptedBelow};
 
-    ghost invariant = { λ s. AcceptedBelow s.first s.waiting.items };
+    ghost invariant = { λ s. AcceptedBelow s.first s.waiting.items × (length s.sockets.items ≤ 960) };
+}
+
+#[tactic(auto, unfolding(crate::specs::Sockets::socket_count))]
+fn socket_count(polls: bool) -> usize
+    ensures is { result ≡ socket_count polls }
+    ensures few { result ≤ 960 }
+{
+    if polls { MOST_SOCKETS } else { SOCKETS }
 }
 
 #[tactic(auto, unfolding(crate::specs::Sockets::no_sockets))]
-fn no_sockets() -> [Option<Socket>; SOCKETS]
-    ensures { result ≡ no_sockets }
+fn no_sockets(alloc: Global, polls: bool) -> Result<Vec<Option<Socket>>, AllocError>
+    ensures is { IfOk result (λ made. made.items ≡ no_sockets polls) }
+    ensures few { IfOk result (λ made. length made.items ≤ 960) }
 {
-    [None; SOCKETS]
+    vec![in alloc; None; socket_count(polls)]
 }
 
 // The port of each connection.
@@ -75,14 +88,19 @@ fn begun(alloc: Global, stated: &[(u32, Vec<u8>)]) -> Result<Vec<Connection>, Al
 }
 
 impl Sockets {
-    /// No socket, and these connections, each by its port and what it sends.
-    pub fn make(alloc: Global, stated: &Vec<(u32, Vec<u8>)>) -> Result<Sockets, AllocError>
-        ensures { IfOk result (λ made. made.net ≡ first_net (map incoming_of stated.now.items)) }
+    /// No socket, and these connections, each by its port and what it sends; whether the later calls are in the table.
+    pub fn make(
+        alloc: Global,
+        polls: bool,
+        stated: &Vec<(u32, Vec<u8>)>,
+    ) -> Result<Sockets, AllocError>
+        ensures { IfOk result (λ made. made.net ≡ first_net polls (map incoming_of stated.now.items)) }
     {
+        let sockets = no_sockets(alloc, polls)?;
         let waiting = ports(alloc, stated.as_slice())?;
         let connections = begun(alloc, stated.as_slice())?;
         Ok(Sockets {
-            sockets: no_sockets(),
+            sockets,
             waiting,
             first: 0,
             connections,
