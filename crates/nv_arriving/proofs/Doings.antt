@@ -3,10 +3,11 @@ use Rattle.std.proofs.Common.{◌≡◌, ◌∙◌, sym, ap, refl, ℕ, false, L
 use Rattle.nv_calls.specs.Calls.{Request, Entry}
 use Rattle.nv_calls.specs.Logs.{calls_of}
 use Rattle.nv_script.specs.Scripts.{Setup}
-use Rattle.nv_sockets.specs.Serving.{serve}
+use Rattle.nv_arriving.specs.declared.timing.Until.{Until}
+use Rattle.nv_arriving.specs.Timing.{until_of}
 use Rattle.nv_arrivals.specs.Arrivals.{Arrival}
 use Rattle.nv_arriving.specs.Arrivals.{in_vain}
-use Rattle.nv_arriving.specs.Arriving.{Stage, wants, taken, ready_for, answer_next, serve_next, first_stage, stage_after, Satisfied}
+use Rattle.nv_arriving.specs.Arriving.{Stage, wait_of, taken, ready_for, serve_by, answer_next, serve_next, first_stage, stage_after, Satisfied}
 use Rattle.nv_arrivals.specs.Doings.{Said, Doing, Takes, Says, Hands, takings}
 use Rattle.nv_arriving.specs.Doings.{said, doings_of, doings_from, doings}
 use Rattle.nv_arriving.proofs.Coming.{take_front, taken_few, taken_more, with_more, ready_more, next_more}
@@ -31,12 +32,13 @@ doings_front setup arrivals front back =
 
 -- ---- what comes later
 
-of_more : (g : Stage) (more : List Arrival) (c : Request) → in_vain (wants g.here c) g.rest ≡ false → doings_of (with_more g more) c ≡ doings_of g c
+of_more : (g : Stage) (more : List Arrival) (c : Request) → in_vain (wait_of g.here c) g.rest ≡ false → doings_of (with_more g more) c ≡ doings_of g c
 of_more g more c h =
     let t : take (taken (with_more g more) c) (g.rest ++ more) ≡ take (taken g c) g.rest =
-    ap (λ (n : ℕ). take n (g.rest ++ more)) (taken_more (wants g.here c) g.rest more h) ∙ take_front (taken g c) g.rest more (taken_few (wants g.here c) g.rest) in
+    ap (λ (n : ℕ). take n (g.rest ++ more)) (taken_more (wait_of g.here c) g.rest more h) ∙ take_front (taken g c) g.rest more (taken_few (wait_of g.here c) g.rest) in
     let r = ready_more g more c h in
-    λ i. map Takes (t i) ++ map Says (said (r i).state c (serve (r i).state c).ret (serve (r i).state c).state)
+    let u : Until = until_of g.here c in
+    λ i. map Takes (t i) ++ map Says (said (r i).state c (serve_by (r i) c u).ret (serve_by (r i) c u).here.state)
 
 from_more : (g : Stage) (more : List Arrival) (cs : List Request) → Satisfied g cs → doings_from (with_more g more) cs ≡ doings_from g cs
 from_more g more [] h = refl
@@ -69,7 +71,7 @@ takings_none (s ∷ xs) = takings_none xs
 takings_of : (g : Stage) (c : Request) → takings (doings_of g c) ≡ take (taken g c) g.rest
 takings_of g c =
     let front : List Arrival = take (taken g c) g.rest in
-    let says : List Said = said (ready_for g c).state c (answer_next g c).ret (answer_next g c).state in
+    let says : List Said = said (ready_for g c).state c (answer_next g c).ret (answer_next g c).here.state in
     takings_both (map Takes front) (map Says says)
     ∙ ((λ i. takings_all front i ++ takings_none says i) ∙ append-nil front)
 

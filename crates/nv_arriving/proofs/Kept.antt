@@ -7,20 +7,18 @@ use Rattle.nv_script.specs.Scripts.{Setup}
 use Rattle.nv_served.specs.Learning.{GoesOn}
 use Rattle.nv_served.proofs.LearningLaws.{goes_on_same}
 use Rattle.nv_kernel.specs.Crew.{Crew}
-use Rattle.nv_kernel.specs.Serving as kernel
-use Rattle.nv_kernel.proofs.Going.{count_is}
-use Rattle.nv_kernel.proofs.Crews.{few_clones_after}
 use Rattle.nv_kernel.proofs.Keeping.{map_more}
 use Rattle.nv_sockets.specs.Serving.{State}
-use Rattle.nv_sockets.proofs.Going.{own_next}
 use Rattle.nv_arrivals.specs.declared.arrival.Arrival as code
 use Rattle.nv_arrivals.specs.Arrivals.{Arrival}
 use Rattle.nv_arriving.specs.Arrivals.{in_vain}
-use Rattle.nv_arriving.specs.Arriving.{Standing, Stage, wants, taken, ready_for, serve_next, first_stage, stage_after, Satisfied, start_of_arrivals}
+use Rattle.nv_arriving.specs.Arriving.{Standing, Stage, wait_of, arrive_all, taken, ready_for, serve_next, first_stage, stage_after, Satisfied, start_of_arrivals}
 use Rattle.nv_arriving.specs.Kernel.{after, Grew}
 use Rattle.nv_arriving.proofs.Coming.{drop_front, taken_few, with_more, after_more, satisfied_last, satisfied_more, goes_on}
 use Rattle.nv_arrivals.specs.Views.{view as arrival_of}
 use Rattle.nv_arriving.proofs.Steps.{drop_map, take_map}
+use Rattle.nv_arriving.specs.Timing.{until_of}
+use Rattle.nv_arriving.proofs.LaterLaws.{vain_state, by_served, by_clones}
 use Rattle.nv_arriving.proofs.Sides.{crew_still, served_still}
 
 -- ---- where more comes
@@ -69,16 +67,15 @@ satisfied setup before now log log' over over' e h was g o = subst (λ z. Satisf
 
 pub served_more : (g : Stage) (c : Request) → (serve_next g c).here.state.own.served ≡ g.here.state.own.served + 1
 served_more g c =
-    let r : State = (ready_for g c).state in
-    let n = ap (λ (z : kernel.State). z.served) (own_next r c) ∙ count_is r.own (c ∷ []) in
-    omega (arith, n, served_still g.here (take (taken g c) g.rest))
+    let front : List Arrival = take (taken g c) g.rest in
+    let still = ap (λ (z : State). z.own.served) (vain_state (in_vain (wait_of g.here c) g.rest) (arrive_all g.here front)) in
+    omega (arith, by_served (ready_for g c) c (until_of g.here c), still, served_still g.here front)
 
 pub clones_more : (g : Stage) (c : Request) → (serve_next g c).here.state.own.crew.clones ≤ g.here.state.own.crew.clones + 1
 clones_more g c =
-    let r : State = (ready_for g c).state in
-    let n = ap (λ (z : kernel.State). z.crew.clones) (own_next r c) in
-    let few = few_clones_after r.own (c ∷ []) in
-    omega (arith, n, few, ap (λ (z : Crew). z.clones) (crew_still g.here (take (taken g c) g.rest)))
+    let front : List Arrival = take (taken g c) g.rest in
+    let still = ap (λ (z : State). z.own.crew.clones) (vain_state (in_vain (wait_of g.here c) g.rest) (arrive_all g.here front)) in
+    omega (arith, by_clones (ready_for g c) c (until_of g.here c), still, ap (λ (z : Crew). z.clones) (crew_still g.here front))
 
 pub served_after : (g : Stage) (cs : List Request) → (stage_after g cs).here.state.own.served ≡ g.here.state.own.served + length cs
 served_after g [] = omega arith
@@ -96,7 +93,7 @@ log_clones setup came log = omega (arith, clones_after (first_stage setup came) 
 
 -- one more call had what it waits for
 pub satisfied_served : (g : Stage) (log : List Entry) (e : Entry) (over : Bool) → (over ≡ false → Satisfied g (calls_of log))
-    → (over ≡ false → in_vain (wants (stage_after g (calls_of log)).here e.call) (stage_after g (calls_of log)).rest ≡ false) → over ≡ false → Satisfied g (calls_of (log ++ e ∷ []))
+    → (over ≡ false → in_vain (wait_of (stage_after g (calls_of log)).here e.call) (stage_after g (calls_of log)).rest ≡ false) → over ≡ false → Satisfied g (calls_of (log ++ e ∷ []))
 satisfied_served g log e over h k o = subst (Satisfied g) (sym (map_more call_of log e)) (satisfied_last g (calls_of log) e.call (h o) (k o))
 
 plus_suc : (m n : ℕ) → suc m + n ≡ suc (m + n)
@@ -115,7 +112,7 @@ drop_more (suc m) n [] = ap (λ k. drop k []) (plus_suc m n) ∙ sym (drop_empty
 drop_more (suc m) n (x ∷ xs) = ap (λ k. drop k (x ∷ xs)) (plus_suc m n) ∙ drop_more m n xs
 
 pub taken_inside : (g : Stage) (c : Request) (used : ℕ) (came : List Arrival) → used ≤ length came → g.rest ≡ drop used came → used + taken g c ≤ length came
-taken_inside g c used came h e = omega (arith, h, taken_few (wants g.here c) g.rest, ap (λ z. length z) e, length-drop used came)
+taken_inside g c used came h e = omega (arith, h, taken_few (wait_of g.here c) g.rest, ap (λ z. length z) e, length-drop used came)
 
 -- ---- which of those that came the call takes in
 

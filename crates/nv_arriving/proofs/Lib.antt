@@ -1,5 +1,6 @@
 pub mod Coming
 pub mod Taken
+pub mod LaterLaws
 pub mod Sides
 pub mod Rooms
 pub mod Counts

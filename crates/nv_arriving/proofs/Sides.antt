@@ -20,6 +20,7 @@ use Rattle.nv_sockets.specs.Reserved.{Buffered, can_send, CanSend, CanWriteTo}
 use Rattle.nv_arriving.specs.declared.waiting.Want.{Want}
 use Rattle.nv_arrivals.specs.Arrivals.{Arrival, Input, InputEnd, ClientsEnd, Connect, Data, End, Time}
 use Rattle.nv_arriving.specs.Arriving.{Standing, wants_as, wants, arrive, arrive_all}
+use Rattle.nv_arriving.specs.Flags.{is_nonblocking}
 use Rattle.nv_arriving.specs.Reserved.{input_bytes, IsSameBut, with_memory}
 
 -- ---- the memory for a call stays
@@ -119,9 +120,16 @@ bytes_last (x ∷ xs) a = omega (arith, bytes_first x (xs ++ a ∷ []), bytes_fi
 
 -- ---- a call that waits sends nothing
 
+abbrev nothing : Option Want
+nothing = None
+
+nothing_by : (b : Bool) → (if b then nothing else nothing) ≡ nothing
+nothing_by true = refl
+nothing_by false = refl
+
 sends_as : (k : Syscall) (s : Standing) (c : Request) (b : Buffered) (w : Want) → wants_as k s c ≡ Some w → can_send k b c
-sends_as call.Write s c b w h = cc
-sends_as call.Writev s c b w h = cc
+sends_as call.Write s c b w h = let odd = sym (nothing_by (is_nonblocking s (request_arg c 0))) ∙ h in cc
+sends_as call.Writev s c b w h = let odd = sym (nothing_by (is_nonblocking s (request_arg c 0))) ∙ h in cc
 sends_as _ s c b w h = tt
 
 sends_by : (bad : Bool) (s : Standing) (c : Request) (b : Buffered) (w : Want) → (if bad then None else wants_as (syscall_of c.nr) s c) ≡ Some w → CanSend b c

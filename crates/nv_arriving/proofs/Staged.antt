@@ -3,17 +3,16 @@ use Rattle.std.proofs.Common.{◌≡◌, ◌∙◌, ap, refl, Bool, true, List, 
 use Rattle.nv_calls.specs.Calls.{Request, Entry}
 use Rattle.nv_calls.specs.Logs.{calls_of, call_of, output_of}
 use Rattle.nv_script.specs.Scripts.{Setup}
-use Rattle.nv_sockets.specs.Serving.{reply_of}
 use Rattle.nv_kernel.proofs.Keeping.{map_more}
 use Rattle.nv_arrivals.specs.Arrivals.{Arrival}
-use Rattle.nv_arriving.specs.Arriving.{Stage, first_stage, stage_after, answer_next, serve_next, start_of_arrivals}
+use Rattle.nv_arriving.specs.Arriving.{Stage, first_stage, stage_after, reply_by, answer_next, serve_next, start_of_arrivals}
 use Rattle.nv_arriving.proofs.Coming.{stage_last}
 
 pub output_is : (setup : Setup) (came : List Arrival) (log : List Entry) → output_of (start_of_arrivals setup came) log ≡ (stage_after (first_stage setup came) (calls_of log)).here.state.own.files.console
 unfolding start_of_arrivals
 output_is setup came log = refl
 
-pub reply_is : (setup : Setup) (came : List Arrival) (log : List Entry) (c : Request) → (start_of_arrivals setup came).replies (calls_of log) c ≡ reply_of (answer_next (stage_after (first_stage setup came) (calls_of log)) c)
+pub reply_is : (setup : Setup) (came : List Arrival) (log : List Entry) (c : Request) → (start_of_arrivals setup came).replies (calls_of log) c ≡ reply_by (answer_next (stage_after (first_stage setup came) (calls_of log)) c)
 unfolding start_of_arrivals
 reply_is setup came log c = refl
 

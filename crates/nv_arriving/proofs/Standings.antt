@@ -10,12 +10,13 @@ use Rattle.nv_kernel.specs.Answering.{MayCome, IsAnswer}
 use Rattle.nv_kernel.specs.Crew.{Crew, IsCrew}
 use Rattle.nv_kernel.proofs.CrewLaws.{first_is}
 use Rattle.nv_kernel.proofs.Crews.{live_by}
-use Rattle.nv_sockets.specs.Serving.{State, Served, serve, reply_of}
-use Rattle.nv_sockets.proofs.Threads.{ThreadStep, thread_step}
+use Rattle.nv_sockets.specs.Serving.{State}
 use Rattle.nv_arrivals.specs.Arrivals.{Arrival}
 use Rattle.nv_arrivals.specs.Doings.{Said, Doing, Takes, Says, handing}
 use Rattle.nv_arriving.specs.Arrivals.{in_vain}
-use Rattle.nv_arriving.specs.Arriving.{Standing, Stage, wants, taken, ready_for, answer_next, serve_next, first_stage, stage_after, Satisfied, start_of_arrivals}
+use Rattle.nv_arriving.specs.Arriving.{Standing, Stage, wait_of, arrive_all, taken, ready_for, Reached, reply_by, serve_by, answer_next, serve_next, first_stage, stage_after, Satisfied, start_of_arrivals}
+use Rattle.nv_arriving.specs.declared.timing.Until.{Until}
+use Rattle.nv_arriving.specs.Timing.{until_of}
 use Rattle.nv_arriving.specs.Doings.{said}
 use Rattle.nv_arriving.specs.Kernel.{Coming, after, Grew}
 use Rattle.nv_arriving.specs.Reserved.{Room}
@@ -23,30 +24,32 @@ use Rattle.nv_arriving.specs.Scripted.{start_from}
 use Rattle.nv_arriving.specs.Standing.{StandsAt, StandsListed}
 use Rattle.nv_arriving.specs.Telling.{Adds, Tells}
 use Rattle.nv_arriving.proofs.Kept.{goes, staged, satisfied, satisfied_served, log_served, log_clones}
+use Rattle.nv_arriving.proofs.LaterLaws.{vain_state, Steps, any_step}
 use Rattle.nv_arriving.proofs.Sides.{crew_still}
 use Rattle.nv_arriving.proofs.Staged.{reply_is, log_more}
 use Rattle.nv_arriving.proofs.Told.{told_heard, told_served, told_asked}
 
-module _ {O : Type 0} (did : O → O → List Doing → Type 0) where
+module _ {O : Type 0} (did : O → O → List Doing → Type 0) (is_over : O → Type 0) where
   -- before the first call
-  pub stands_first : (setup : Setup) (came : List Arrival) (g : Coming O) → g.stage ≡ first_stage setup came → g.came ≡ came → Tells did g.begun g.outside setup g.came [] g.late → StandsAt did g setup []
-  stands_first setup came g e c told = record {
+  pub stands_first : (setup : Setup) (came : List Arrival) (g : Coming O) → g.stage ≡ first_stage setup came → g.came ≡ came → (g.over ≡ true → is_over g.outside) → Tells did g.begun g.outside setup g.came [] g.late → StandsAt did is_over g setup []
+  stands_first setup came g e c ended told = record {
     stage = e ∙ ap (first_stage setup) (sym c);
     satisfied = λ _. tt;
+    ended = ended;
     told = told;
     live = ap (λ (z : Stage). z.here.state.own.crew.live) (sym e);
     crew = subst (λ (z : Stage). IsCrew z.here.state.own.crew) (sym e) first_is;
   }
 
   -- no more calls were answered, and no more threads made, than a log may have
-  pub few_served : (g : Coming O) (c : Request) → MayCome (StandsAt did g) c → g.stage.here.state.own.served < 500000000
+  pub few_served : (g : Coming O) (c : Request) → MayCome (StandsAt did is_over g) c → g.stage.here.state.own.served < 500000000
   few_served g c m =
       let count = ap (λ (z : Stage). z.here.state.own.served) m.here.stage in
       let calls = log_served m.setup g.came m.log in
       let few = m.few in
       omega (arith, count, calls, few)
 
-  pub few_clones : (g : Coming O) (c : Request) → MayCome (StandsAt did g) c → g.stage.here.state.own.crew.clones < 500000000
+  pub few_clones : (g : Coming O) (c : Request) → MayCome (StandsAt did is_over g) c → g.stage.here.state.own.crew.clones < 500000000
   few_clones g c m =
       let count = ap (λ (z : Stage). z.here.state.own.crew.clones) m.here.stage in
       let calls = log_clones m.setup g.came m.log in
@@ -56,32 +59,35 @@ module _ {O : Type 0} (did : O → O → List Doing → Type 0) where
   -- ---- where more comes
 
   module _ (begun old new : O) (before now : List Arrival) (s : Standing) (used : ℕ) (over over' late : Bool) (room room' : Room)
-      (few : used ≤ length before) (was : over' ≡ false → over ≡ false) (same : over ≡ true → now ≡ before) (grew : Grew before now) (adds : Adds did old new (map Takes (after before now))) where
+      (few : used ≤ length before) (was : over' ≡ false → over ≡ false) (same : over ≡ true → now ≡ before) (grew : Grew before now) (adds : Adds did old new (map Takes (after before now)))
+      (ended : (over ≡ true → is_over old) → over' ≡ true → is_over new) where
     abbrev earlier : Coming O
     earlier = record { stage = record { here = s; rest = drop used before }; begun = begun; outside = old; came = before; late = late; over = over; room = room }
 
     abbrev later : Coming O
     later = record { stage = record { here = s; rest = drop used now }; begun = begun; outside = new; came = now; late = late; over = over'; room = room' }
 
-    pub stands_heard : (setup : Setup) (log : List Entry) → StandsAt did earlier setup log → StandsAt did later setup log
+    pub stands_heard : (setup : Setup) (log : List Entry) → StandsAt did is_over earlier setup log → StandsAt did is_over later setup log
     stands_heard setup log k = record {
       stage = staged setup before now log log s used over refl few k.stage k.satisfied same grew;
       satisfied = satisfied setup before now log log over over' refl k.satisfied was grew;
+      ended = ended k.ended;
       told = told_heard did begun setup old new before now log log over late refl k.satisfied same grew adds k.told;
       live = k.live;
       crew = k.crew;
     }
 
-    pub goes_heard : (setup : Setup) (log : List Entry) → StandsAt did earlier setup log → GoesOn log (start_of_arrivals setup before) (start_of_arrivals setup now)
+    pub goes_heard : (setup : Setup) (log : List Entry) → StandsAt did is_over earlier setup log → GoesOn log (start_of_arrivals setup before) (start_of_arrivals setup now)
     goes_heard setup log k = goes setup before now log over k.satisfied same grew
 
   -- ---- where it is asked whether the leader hands over
 
-  pub stands_asked : (g : Coming O) (new : O) (answer : Bool) (n : ℕ) → Adds did g.outside new (handing answer n) → (setup : Setup) (log : List Entry) → StandsAt did g setup log
-      → StandsAt did (record g { outside = new }) setup log
-  stands_asked g new answer n adds setup log k = record {
+  pub stands_asked : (g : Coming O) (new : O) (answer : Bool) (n : ℕ) → Adds did g.outside new (handing answer n) → (is_over g.outside → is_over new) → (setup : Setup) (log : List Entry) → StandsAt did is_over g setup log
+      → StandsAt did is_over (record g { outside = new }) setup log
+  stands_asked g new answer n adds stays setup log k = record {
     stage = k.stage;
     satisfied = k.satisfied;
+    ended = λ o. stays (k.ended o);
     told = told_asked did g.begun setup g.came log g.outside new g.late answer n adds k.told;
     live = k.live;
     crew = k.crew;
@@ -91,51 +97,57 @@ module _ {O : Type 0} (did : O → O → List Doing → Type 0) where
 
   module _ (g h : Coming O) (c : Request) (ret : ℤ) (payload : List ℕ) (shaped : IsShaped c)
       (begun : h.begun ≡ g.begun) (came : h.came ≡ g.came) (over : h.over ≡ g.over)
-      (answer : answer_next g.stage c ≡ record { state = h.stage.here.state; ret = ret; payload = payload }) (next : h.stage ≡ serve_next g.stage c)
-      (waits : g.over ≡ false → in_vain (wants g.stage.here c) g.stage.rest ≡ false)
+      (answer : answer_next g.stage c ≡ record { here = h.stage.here; ret = ret; payload = payload }) (next : h.stage ≡ serve_next g.stage c)
+      (waits : g.over ≡ false → in_vain (wait_of g.stage.here c) g.stage.rest ≡ false)
       (says : Adds did g.outside h.outside (map Says (said (ready_for g.stage c).state c ret h.stage.here.state)))
+      (stays : is_over g.outside → is_over h.outside)
       (still : h.late ≡ false → g.late ≡ false) (none : h.late ≡ false → h.stage.rest ≡ []) where
-    module _ (setup : Setup) (log : List Entry) (here : StandsAt did g setup log) where
+    module _ (setup : Setup) (log : List Entry) (here : StandsAt did is_over g setup log) where
       abbrev e : Entry
       e = served (start_of_arrivals setup g.came) log c
 
       abbrev stage : Stage
       stage = stage_after (first_stage setup g.came) (calls_of log)
 
-      abbrev ready : State
-      ready = (ready_for g.stage c).state
+      abbrev ready : Standing
+      ready = ready_for g.stage c
+
+      abbrev until : Until
+      until = until_of g.stage.here c
 
       reply : (start_of_arrivals setup g.came).replies (calls_of log) c ≡ record { ret = ret; payload = payload }
-      reply = reply_is setup g.came log c ∙ ap (λ (z : Stage). reply_of (answer_next z c)) (sym here.stage) ∙ ap reply_of answer
+      reply = reply_is setup g.came log c ∙ ap (λ (z : Stage). reply_by (answer_next z c)) (sym here.stage) ∙ ap reply_by answer
 
-      crews : ready.own.crew ≡ g.stage.here.state.own.crew
-      crews = crew_still g.stage.here (take (taken g.stage c) g.stage.rest)
+      crews : ready.state.own.crew ≡ g.stage.here.state.own.crew
+      crews =
+          let front : List Arrival = take (taken g.stage c) g.stage.rest in
+          ap (λ (z : State). z.own.crew) (vain_state (in_vain (wait_of g.stage.here c) g.stage.rest) (arrive_all g.stage.here front)) ∙ crew_still g.stage.here front
 
-      step : ThreadStep ready c
-      step = thread_step ready c (subst IsCrew (sym crews) here.crew) shaped
+      step : Steps ready c until
+      step = any_step ready c until (subst IsCrew (sym crews) here.crew) shaped
 
-      same_ret : e.reply.ret ≡ (serve ready c).ret
-      same_ret = ap (λ (r : Response). r.ret) reply ∙ sym (ap (λ (r : Served). r.ret) answer)
+      same_ret : e.reply.ret ≡ (serve_by ready c until).ret
+      same_ret = ap (λ (r : Response). r.ret) reply ∙ sym (ap (λ (r : Reached). r.ret) answer)
 
-      threads : live_after log ≡ ready.own.crew.live
+      threads : live_after log ≡ ready.state.own.crew.live
       threads = here.live ∙ ap (λ (z : Crew). z.live) (sym crews)
 
       new : IsNew (live_after log) (child_of e)
-      new = subst (λ (z : List ℕ). IsNew z (child_of e)) (sym threads) (subst (λ (r : ℤ). IsNew ready.own.crew.live (made c.nr r)) (sym same_ret) step.new)
+      new = subst (λ (z : List ℕ). IsNew z (child_of e)) (sym threads) (subst (λ (r : ℤ). IsNew ready.state.own.crew.live (made c.nr r)) (sym same_ret) step.new)
 
       live : live_after (log ++ e ∷ []) ≡ h.stage.here.state.own.crew.live
-      live = live_more log e ∙ ap (λ (z : List ℕ). live_next z e) threads ∙ ap (λ (r : ℤ). live_by c.nr c.tid ready.own.crew.live r) same_ret
-          ∙ sym step.live ∙ ap (λ (r : Served). r.state.own.crew.live) answer
+      live = live_more log e ∙ ap (λ (z : List ℕ). live_next z e) threads ∙ ap (λ (r : ℤ). live_by c.nr c.tid ready.state.own.crew.live r) same_ret
+          ∙ sym step.live ∙ ap (λ (r : Reached). r.here.state.own.crew.live) answer
 
       staged_next : h.stage ≡ stage_after (first_stage setup g.came) (calls_of (log ++ e ∷ []))
       staged_next = next ∙ ap (λ (z : Stage). serve_next z c) here.stage ∙ sym (log_more (first_stage setup g.came) log e)
 
-      answer_then : answer_next stage c ≡ record { state = h.stage.here.state; ret = ret; payload = payload }
+      answer_then : answer_next stage c ≡ record { here = h.stage.here; ret = ret; payload = payload }
       answer_then = ap (λ (z : Stage). answer_next z c) (sym here.stage) ∙ answer
 
-      says_then : Adds did g.outside h.outside (map Says (said (ready_for stage c).state c (answer_next stage c).ret (answer_next stage c).state))
+      says_then : Adds did g.outside h.outside (map Says (said (ready_for stage c).state c (answer_next stage c).ret (answer_next stage c).here.state))
       says_then = subst (λ (z : List Said). Adds did g.outside h.outside (map Says z))
-          (λ j. said (ready_for (here.stage j) c).state c (sym answer_then j).ret (sym answer_then j).state) says
+          (λ j. said (ready_for (here.stage j) c).state c (sym answer_then j).ret (sym answer_then j).here.state) says
 
       none_then : h.late ≡ false → drop (taken stage c) stage.rest ≡ []
       none_then o = sym (ap (λ (z : Stage). z.rest) (next ∙ ap (λ (z : Stage). serve_next z c) here.stage)) ∙ none o
@@ -143,37 +155,38 @@ module _ {O : Type 0} (did : O → O → List Doing → Type 0) where
       told : Tells did g.begun h.outside setup g.came (log ++ e ∷ []) h.late
       told = told_served did g.begun setup g.came log e g.outside h.outside (log ++ e ∷ []) g.late h.late refl still none_then says_then here.told
 
-      next_at : StandsAt did h setup (log ++ e ∷ [])
+      next_at : StandsAt did is_over h setup (log ++ e ∷ [])
       next_at = record {
         stage = staged_next ∙ ap (λ (z : List Arrival). stage_after (first_stage setup z) (calls_of (log ++ e ∷ []))) (sym came);
         satisfied = λ o. subst (λ z. Satisfied (first_stage setup z) (calls_of (log ++ e ∷ []))) (sym came)
-            (satisfied_served (first_stage setup g.came) log e g.over here.satisfied (λ q. subst (λ (z : Stage). in_vain (wants z.here c) z.rest ≡ false) here.stage (waits q)) (sym over ∙ o));
+            (satisfied_served (first_stage setup g.came) log e g.over here.satisfied (λ q. subst (λ (z : Stage). in_vain (wait_of z.here c) z.rest ≡ false) here.stage (waits q)) (sym over ∙ o));
+        ended = λ o. stays (here.ended (sym over ∙ o));
         told = subst (λ (z : List Arrival). Tells did h.begun h.outside setup z (log ++ e ∷ []) h.late) (sym came)
             (subst (λ (z : O). Tells did z h.outside setup g.came (log ++ e ∷ []) h.late) (sym begun) told);
         live = live;
-        crew = subst (λ (r : Served). IsCrew r.state.own.crew) answer step.is;
+        crew = subst (λ (r : Reached). IsCrew r.here.state.own.crew) answer step.is;
       }
 
     -- it answers as the definition says, wherever it stands
-    pub is_answer : IsAnswer (λ setup. start_of_arrivals setup g.came) (StandsAt did g) (StandsAt did h) c ret payload
+    pub is_answer : IsAnswer (λ setup. start_of_arrivals setup g.came) (StandsAt did is_over g) (StandsAt did is_over h) c ret payload
     is_answer = record { reply = reply; here = next_at; new = new }
 
   -- ---- over a script that lists all that comes
 
-  pub listed_comes : (g : Coming O) (c : Request) → MayCome (StandsListed did g) c → MayCome (StandsAt did g) c
+  pub listed_comes : (g : Coming O) (c : Request) → MayCome (StandsListed did is_over g) c → MayCome (StandsAt did is_over g) c
   listed_comes g c m = record { setup = m.setup; log = m.log; here = m.here.here; few = m.few; lives = m.lives }
 
-  pub listed_heard : (g h : Coming O) (setup : Setup) (log : List Entry) → (StandsAt did g setup log → StandsAt did h setup log) → (g.over ≡ true → h.over ≡ true) → (g.over ≡ true → h.came ≡ g.came)
-      → StandsListed did g setup log → StandsListed did h setup log
+  pub listed_heard : (g h : Coming O) (setup : Setup) (log : List Entry) → (StandsAt did is_over g setup log → StandsAt did is_over h setup log) → (g.over ≡ true → h.over ≡ true) → (g.over ≡ true → h.came ≡ g.came)
+      → StandsListed did is_over g setup log → StandsListed did is_over h setup log
   listed_heard g h setup log on over came k = record { here = on k.here; over = over k.over; all = came k.over ∙ k.all }
 
   pub listed_answer : (g h : Coming O) (c : Request) (ret : ℤ) (payload : List ℕ) → h.over ≡ g.over → h.came ≡ g.came
-      → IsAnswer (λ setup. start_of_arrivals setup g.came) (StandsAt did g) (StandsAt did h) c ret payload
-      → IsAnswer start_from (StandsListed did g) (StandsListed did h) c ret payload
+      → IsAnswer (λ setup. start_of_arrivals setup g.came) (StandsAt did is_over g) (StandsAt did is_over h) c ret payload
+      → IsAnswer start_from (StandsListed did is_over g) (StandsListed did is_over h) c ret payload
   listed_answer g h c ret payload over came is = record {
     reply = λ setup log k. subst (λ z. (start_of_arrivals setup z).replies (calls_of log) c ≡ record { ret = ret; payload = payload }) k.all (is.reply setup log k.here);
     here = λ setup log k. record {
-      here = subst (λ z. StandsAt did h setup (log ++ served (start_of_arrivals setup z) log c ∷ [])) k.all (is.here setup log k.here);
+      here = subst (λ z. StandsAt did is_over h setup (log ++ served (start_of_arrivals setup z) log c ∷ [])) k.all (is.here setup log k.here);
       over = over ∙ k.over;
       all = came ∙ k.all;
     };

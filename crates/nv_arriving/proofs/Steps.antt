@@ -5,8 +5,8 @@ use Rattle.std.specs.List.{list_any, position_from}
 use Rattle.std.proofs.lemmas.Option.{same_Some}
 use Rattle.nv_kernel.proofs.Keeping.{map_more}
 use Rattle.nv_arrivals.specs.declared.arrival.Arrival.{Arrival}
-use Rattle.nv_arriving.specs.declared.waiting.Want.{Want}
-use Rattle.nv_arriving.specs.Arrivals.{ends, any_ends, until}
+use Rattle.nv_arrivals.specs.Arrivals as spec
+use Rattle.nv_arriving.specs.Arrivals.{any_ends, until}
 use Rattle.nv_arrivals.specs.Views.{view as arrival_of}
 
 next_place : (i : ℕ) → i + 1 ≡ suc i
@@ -38,9 +38,9 @@ rest_step xs i x h e = ap (map arrival_of) (drop_suc xs i x h e) ∙ ap (λ n. a
 pub whole : (xs : List Arrival) (i : ℕ) → length xs ≤ i → map arrival_of (take i xs) ≡ map arrival_of xs
 whole xs i h = ap (map arrival_of) (take_over xs i h)
 
-pub any_is : (w : Want) (xs : List Arrival) → list_any (λ (a : Arrival). ends w (arrival_of a)) xs ≡ any_ends w (map arrival_of xs)
+pub any_is : (w : spec.Arrival → Bool) (xs : List Arrival) → list_any (λ (a : Arrival). w (arrival_of a)) xs ≡ any_ends w (map arrival_of xs)
 any_is w [] = refl
-any_is w (x ∷ xs) = ap (λ b. ends w (arrival_of x) || b) (any_is w xs)
+any_is w (x ∷ xs) = ap (λ b. w (arrival_of x) || b) (any_is w xs)
 
 pub drop_map : (xs : List Arrival) (n : ℕ) → map arrival_of (drop n xs) ≡ drop n (map arrival_of xs)
 drop_map xs zero = refl
@@ -52,24 +52,21 @@ take_map xs zero = refl
 take_map [] (suc n) = refl
 take_map (x ∷ xs) (suc n) = ap (λ z. arrival_of x ∷ z) (take_map xs n)
 
-is_end : Want → Arrival → Bool
-is_end w a = ends w (arrival_of a)
-
 -- how many come up to the first that ends the wait, by its place
-pub until_at : (w : Want) (xs : List Arrival) (n place : ℕ) → position_from (λ (a : Arrival). ends w (arrival_of a)) n xs ≡ Some place → until w (map arrival_of xs) + n ≡ place + 1
+pub until_at : (w : spec.Arrival → Bool) (xs : List Arrival) (n place : ℕ) → position_from (λ (a : Arrival). w (arrival_of a)) n xs ≡ Some place → until w (map arrival_of xs) + n ≡ place + 1
 until_at w [] n place h = cc
-until_at w (x ∷ xs) n place h = by (ends w (arrival_of x)) refl h (until_at w xs (n + 1) place) where
-  by : (b : Bool) → ends w (arrival_of x) ≡ b → (if b then Some n else position_from (λ (a : Arrival). ends w (arrival_of a)) (n + 1) xs) ≡ Some place
-      → (position_from (λ (a : Arrival). ends w (arrival_of a)) (n + 1) xs ≡ Some place → until w (map arrival_of xs) + (n + 1) ≡ place + 1)
+until_at w (x ∷ xs) n place h = by (w (arrival_of x)) refl h (until_at w xs (n + 1) place) where
+  by : (b : Bool) → w (arrival_of x) ≡ b → (if b then Some n else position_from (λ (a : Arrival). w (arrival_of a)) (n + 1) xs) ≡ Some place
+      → (position_from (λ (a : Arrival). w (arrival_of a)) (n + 1) xs ≡ Some place → until w (map arrival_of xs) + (n + 1) ≡ place + 1)
       → until w (arrival_of x ∷ map arrival_of xs) + n ≡ place + 1
   by true e k next = omega (arith, ap (λ (b : Bool). if b then 1 else suc (until w (map arrival_of xs))) e, same_Some n place k)
   by false e k next = let r = next k in omega (arith, ap (λ (b : Bool). if b then 1 else suc (until w (map arrival_of xs))) e, r)
 
-pub until_all : (w : Want) (xs : List Arrival) (n : ℕ) → position_from (λ (a : Arrival). ends w (arrival_of a)) n xs ≡ None → until w (map arrival_of xs) ≡ length xs
+pub until_all : (w : spec.Arrival → Bool) (xs : List Arrival) (n : ℕ) → position_from (λ (a : Arrival). w (arrival_of a)) n xs ≡ None → until w (map arrival_of xs) ≡ length xs
 until_all w [] n h = refl
-until_all w (x ∷ xs) n h = by (ends w (arrival_of x)) refl h (until_all w xs (n + 1)) where
-  by : (b : Bool) → ends w (arrival_of x) ≡ b → (if b then Some n else position_from (λ (a : Arrival). ends w (arrival_of a)) (n + 1) xs) ≡ None
-      → (position_from (λ (a : Arrival). ends w (arrival_of a)) (n + 1) xs ≡ None → until w (map arrival_of xs) ≡ length xs)
+until_all w (x ∷ xs) n h = by (w (arrival_of x)) refl h (until_all w xs (n + 1)) where
+  by : (b : Bool) → w (arrival_of x) ≡ b → (if b then Some n else position_from (λ (a : Arrival). w (arrival_of a)) (n + 1) xs) ≡ None
+      → (position_from (λ (a : Arrival). w (arrival_of a)) (n + 1) xs ≡ None → until w (map arrival_of xs) ≡ length xs)
       → until w (arrival_of x ∷ map arrival_of xs) ≡ suc (length xs)
   by true e k next = cc
   by false e k next = ap (λ (b : Bool). if b then 1 else suc (until w (map arrival_of xs))) e ∙ ap suc (next k)

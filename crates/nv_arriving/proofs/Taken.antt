@@ -1,40 +1,39 @@
 -- How many arrivals a call takes in, by those that were looked at; and what grows.
 use Rattle.std.proofs.Common.{◌≡◌, ◌∙◌, sym, ap, refl, ℕ, zero, suc, ◌+◌, ◌≤◌, Bool, true, false, ◌||◌, List, [], ◌∷◌, ◌++◌, length, drop, map, Some, arith, append-nil, append_assoc, length-append}
 use Rattle.std.specs.Prelude.{if◌then◌else◌}
-use Rattle.nv_arriving.specs.declared.waiting.Want.{Want}
 use Rattle.nv_kernel.proofs.Keeping.{map_more}
 use Rattle.nv_arrivals.specs.Arrivals.{Arrival}
 use Rattle.nv_arrivals.specs.Doings.{Takes}
-use Rattle.nv_arriving.specs.Arrivals.{ends, any_ends, until, in_vain}
+use Rattle.nv_arriving.specs.Arrivals.{any_ends, until, in_vain}
 use Rattle.nv_arriving.specs.Kernel.{after, Grew}
 use Rattle.nv_arriving.proofs.Coming.{drop_front}
 
 -- none of the first ends the wait
-pub any_none : (w : Want) (xs ys : List Arrival) → any_ends w xs ≡ false → any_ends w (xs ++ ys) ≡ any_ends w ys
+pub any_none : (w : Arrival → Bool) (xs ys : List Arrival) → any_ends w xs ≡ false → any_ends w (xs ++ ys) ≡ any_ends w ys
 any_none w [] ys h = refl
-any_none w (a ∷ xs) ys h = by (ends w a) refl h (any_none w xs ys) where
-  by : (b : Bool) → ends w a ≡ b → (b || any_ends w xs) ≡ false → (any_ends w xs ≡ false → any_ends w (xs ++ ys) ≡ any_ends w ys) → any_ends w (a ∷ (xs ++ ys)) ≡ any_ends w ys
+any_none w (a ∷ xs) ys h = by (w a) refl h (any_none w xs ys) where
+  by : (b : Bool) → w a ≡ b → (b || any_ends w xs) ≡ false → (any_ends w xs ≡ false → any_ends w (xs ++ ys) ≡ any_ends w ys) → any_ends w (a ∷ (xs ++ ys)) ≡ any_ends w ys
   by true e k next = cc
   by false e k next = ap (λ (b : Bool). b || any_ends w (xs ++ ys)) e ∙ next k
 
-pub any_last : (w : Want) (xs : List Arrival) (a : Arrival) → ends w a ≡ true → any_ends w (xs ++ a ∷ []) ≡ true
+pub any_last : (w : Arrival → Bool) (xs : List Arrival) (a : Arrival) → w a ≡ true → any_ends w (xs ++ a ∷ []) ≡ true
 any_last w [] a h = ap (λ (b : Bool). b || false) h
-any_last w (x ∷ xs) a h = by (ends w x) (any_last w xs a h) where
+any_last w (x ∷ xs) a h = by (w x) (any_last w xs a h) where
   by : (b : Bool) → any_ends w (xs ++ a ∷ []) ≡ true → (b || any_ends w (xs ++ a ∷ [])) ≡ true
   by true k = refl
   by false k = k
 
-pub any_back : (w : Want) (xs ys : List Arrival) → any_ends w ys ≡ true → any_ends w (xs ++ ys) ≡ true
+pub any_back : (w : Arrival → Bool) (xs ys : List Arrival) → any_ends w ys ≡ true → any_ends w (xs ++ ys) ≡ true
 any_back w [] ys h = h
-any_back w (x ∷ xs) ys h = by (ends w x) (any_back w xs ys h) where
+any_back w (x ∷ xs) ys h = by (w x) (any_back w xs ys h) where
   by : (b : Bool) → any_ends w (xs ++ ys) ≡ true → (b || any_ends w (xs ++ ys)) ≡ true
   by true k = refl
   by false k = k
 
-pub until_none : (w : Want) (xs ys : List Arrival) → any_ends w xs ≡ false → until w (xs ++ ys) ≡ length xs + until w ys
+pub until_none : (w : Arrival → Bool) (xs ys : List Arrival) → any_ends w xs ≡ false → until w (xs ++ ys) ≡ length xs + until w ys
 until_none w [] ys h = omega arith
-until_none w (a ∷ xs) ys h = by (ends w a) refl h (until_none w xs ys) where
-  by : (b : Bool) → ends w a ≡ b → (b || any_ends w xs) ≡ false → (any_ends w xs ≡ false → until w (xs ++ ys) ≡ length xs + until w ys) → until w (a ∷ (xs ++ ys)) ≡ suc (length xs) + until w ys
+until_none w (a ∷ xs) ys h = by (w a) refl h (until_none w xs ys) where
+  by : (b : Bool) → w a ≡ b → (b || any_ends w xs) ≡ false → (any_ends w xs ≡ false → until w (xs ++ ys) ≡ length xs + until w ys) → until w (a ∷ (xs ++ ys)) ≡ suc (length xs) + until w ys
   by true e k next = cc
   by false e k next = let n = next k in omega (arith, n, ap (λ (b : Bool). if b then 1 else suc (until w (xs ++ ys))) e)
 
@@ -66,14 +65,14 @@ pub grew_still : {A : Type 0} (before now last : List A) → Grew before now →
 grew_still before now last h e = grew_by before last (after before now) (e ∙ h)
 
 -- what a call waits for was heard
-pub learned : (w : Want) (used : ℕ) (before now : List Arrival) → used ≤ length before → Grew before now → any_ends w (after before now) ≡ true → any_ends w (drop used now) ≡ true
+pub learned : (w : Arrival → Bool) (used : ℕ) (before now : List Arrival) → used ≤ length before → Grew before now → any_ends w (after before now) ≡ true → any_ends w (drop used now) ≡ true
 learned w used before now h g e =
     ap (λ z. any_ends w (drop used z)) g ∙ (ap (any_ends w) (drop_front used before (after before now) h) ∙ any_back w (drop used before) (after before now) e)
 
-pub not_waits : (w : Want) (xs : List Arrival) → any_ends w xs ≡ true → in_vain (Some w) xs ≡ false
+pub not_waits : (w : Arrival → Bool) (xs : List Arrival) → any_ends w xs ≡ true → in_vain (Some w) xs ≡ false
 not_waits w xs h = ap (λ (b : Bool). if b then false else true) h
 
-pub waits_on : (w : Want) (xs : List Arrival) → any_ends w xs ≡ false → in_vain (Some w) xs ≡ false → ⊥
+pub waits_on : (w : Arrival → Bool) (xs : List Arrival) → any_ends w xs ≡ false → in_vain (Some w) xs ≡ false → ⊥
 waits_on w xs h k = let e = sym (ap (λ (b : Bool). if b then false else true) h) ∙ k in cc
 
 -- what was heard, with one more
@@ -81,15 +80,15 @@ pub takes_more : (before now : List Arrival) (a : Arrival) → Grew before now �
 takes_more before now a h = sym (map_more Takes (after before now) a) ∙ ap (map Takes) (sym (after_more before now (a ∷ []) h))
 
 -- none of what was heard ends the wait but the last
-pub until_all_of : (w : Want) (xs : List Arrival) → any_ends w xs ≡ false → until w xs ≡ length xs
+pub until_all_of : (w : Arrival → Bool) (xs : List Arrival) → any_ends w xs ≡ false → until w xs ≡ length xs
 until_all_of w xs h = let n = ap (until w) (append-nil xs) in let m = until_none w xs [] h in omega (arith, n, m)
 
-one_by : (w : Want) (a : Arrival) (b : Bool) → ends w a ≡ b → until w (a ∷ []) ≡ 1
+one_by : (w : Arrival → Bool) (a : Arrival) (b : Bool) → w a ≡ b → until w (a ∷ []) ≡ 1
 one_by w a true h = ap (λ (z : Bool). if z then 1 else suc (until w [])) h
 one_by w a false h = ap (λ (z : Bool). if z then 1 else suc (until w [])) h
 
-pub until_last : (w : Want) (xs : List Arrival) (a : Arrival) → any_ends w xs ≡ false → until w (xs ++ a ∷ []) ≡ length (xs ++ a ∷ [])
-until_last w xs a h = until_none w xs (a ∷ []) h ∙ (ap (λ (n : ℕ). length xs + n) (one_by w a (ends w a) refl) ∙ sym (length-append xs (a ∷ [])))
+pub until_last : (w : Arrival → Bool) (xs : List Arrival) (a : Arrival) → any_ends w xs ≡ false → until w (xs ++ a ∷ []) ≡ length (xs ++ a ∷ [])
+until_last w xs a h = until_none w xs (a ∷ []) h ∙ (ap (λ (n : ℕ). length xs + n) (one_by w a (w a) refl) ∙ sym (length-append xs (a ∷ [])))
 
-pub any_none_last : (w : Want) (xs : List Arrival) (a : Arrival) → any_ends w xs ≡ false → ends w a ≡ false → any_ends w (xs ++ a ∷ []) ≡ false
+pub any_none_last : (w : Arrival → Bool) (xs : List Arrival) (a : Arrival) → any_ends w xs ≡ false → w a ≡ false → any_ends w (xs ++ a ∷ []) ≡ false
 any_none_last w xs a h k = any_none w xs (a ∷ []) h ∙ ap (λ (b : Bool). b || false) k

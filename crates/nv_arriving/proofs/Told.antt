@@ -120,7 +120,7 @@ module _ {O : Type 0} (did : O → O → List Doing → Type 0) (begun : O) (set
   stage = stage_after (first_stage setup came) (calls_of log)
 
   abbrev says : List Said
-  says = said (ready_for stage e.call).state e.call (answer_next stage e.call).ret (answer_next stage e.call).state
+  says = said (ready_for stage e.call).state e.call (answer_next stage e.call).ret (answer_next stage e.call).here.state
 
   doings_last : doings setup came (log ++ e ∷ []) ≡ doings setup came log ++ doings_of stage e.call
   doings_last = doings_front setup came log (e ∷ []) ∙ ap (λ (z : List Doing). doings setup came log ++ z) (append-nil (doings_of stage e.call))

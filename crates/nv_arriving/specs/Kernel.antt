@@ -6,7 +6,7 @@ use Rattle.nv_kernel.specs.Reserved as kernel
 use Rattle.nv_sockets.specs.Reserved.{CanSend}
 use Rattle.nv_arrivals.specs.Arrivals.{Arrival}
 use Rattle.nv_arriving.specs.Arrivals.{in_vain}
-use Rattle.nv_arriving.specs.Arriving.{Stage, wants, taken}
+use Rattle.nv_arriving.specs.Arriving.{Stage, wait_of, taken}
 use Rattle.nv_arriving.specs.Reserved.{Room, CanTakeIn}
 
 -- what a kernel is made over: what the script gives, and what the outside told then
@@ -34,7 +34,7 @@ pub record CanServe {O : Type 0} (g : Coming O) (c : Request) : Type 0 where
   pub takes : CanTakeIn g.room (take (taken g.stage c) g.stage.rest)
   pub answer : kernel.CanAnswer g.room.disk c
   pub sends : CanSend g.room.buffered c
-  pub waits : g.over ≡ false → in_vain (wants g.stage.here c) g.stage.rest ≡ false
+  pub waits : g.over ≡ false → in_vain (wait_of g.stage.here c) g.stage.rest ≡ false
 
 -- more stands behind what was there
 abbrev pub after : {A : Type 0} → List A → List A → List A

@@ -1,3 +1,8 @@
+pub mod NonBlocking
+pub mod Standings
+pub mod Timing
+pub mod Polling
+pub mod Flags
 pub mod Arrivals
 pub mod Arriving
 pub mod Reserved

@@ -10,7 +10,8 @@ ghost use Rattle.nv_kernel.specs.Answering.{MayCome, IsAnswer};
 ghost use Rattle.nv_kernel.specs.Reserved.{most_out};
 ghost use Rattle.nv_sockets.specs.Views.{link_of};
 ghost use Rattle.nv_arrivals.specs.Views.{view as arrival_of};
-ghost use Rattle.nv_arriving.specs.Arriving.{taken, start_of_arrivals};
+ghost use Rattle.nv_arriving.specs.Arrivals.{in_vain};
+ghost use Rattle.nv_arriving.specs.Arriving.{taken, wait_of, start_of_arrivals};
 ghost use Rattle.nv_arriving.specs.Kernel.{CanServe, begun_in};
 ghost use Rattle.nv_arriving.specs.Standing.{StandsAt};
 ghost use Rattle.nv_arriving.specs.Views.{standing_of};
@@ -18,7 +19,6 @@ ghost use Rattle.nv_arriving.specs.Views.{standing_of};
 use crate::arrivals::{learn, rest};
 use crate::guests::GuestSide;
 use crate::listed::{Nothing, copies};
-use crate::waiting::taken_for;
 use nv_arrivals::{Arrival, Outside};
 use nv_calls::{Bytes, Call};
 use nv_fs::FileSystem;
@@ -75,7 +75,14 @@ fn taken(side: &GuestSide, rest: &[Arrival], call: &Call) -> usize
     ensures is { result ≡ taken (record { here = standing_of side.now; rest = map arrival_of rest.now }) (request call.now) }
     ensures few { result ≤ length rest.now }
 {
-    taken_for(side.wants(call), rest)
+    side.taken_for(call, side.wants(call), rest)
+}
+
+// Whether it waits, and none of those that have come ends its wait.
+fn is_in_vain(side: &GuestSide, rest: &[Arrival], call: &Call) -> bool
+    ensures { result ≡ in_vain (wait_of (standing_of side.now) (request call.now)) (map arrival_of rest.now) }
+{
+    side.in_vain(call, side.wants(call), rest)
 }
 
 // The first of them.
@@ -108,7 +115,7 @@ fn pass(came: &mut Past<Arrival>, used: usize)
 impl<O: Outside> Guests<O> {
     /// What a script gives, and this outside, from which nothing has come.
     pub fn make(alloc: Global, script: &Script, outside: O) -> Result<Guests<O>, AllocError>
-        ensures stands { IfOk result (λ made. StandsAt O.did made (setup_of script.now) []) }
+        ensures stands { IfOk result (λ made. StandsAt O.did O.is_over made (setup_of script.now) []) }
         ensures made { IfOk result (λ made. (made.came ≡ []) × (made.begun ≡ outside) × (made.outside ≡ outside) × (made.late ≡ false)) }
     {
         let side = GuestSide::make(alloc, script)?;
@@ -157,7 +164,7 @@ impl<O: Outside> Guests<O> {
 impl Guests<Nothing> {
     /// What a script gives, where all has come that it lists. Nothing more comes.
     pub(crate) fn listed(alloc: Global, script: &Script) -> Result<Guests<Nothing>, AllocError>
-        ensures { IfOk result (λ made. StandsAt ⟦<Nothing as Outside>⟧.did made (setup_of script.now) [] × (made.came ≡ (setup_of script.now).arrivals) × (made.over ≡ true)) }
+        ensures { IfOk result (λ made. StandsAt ⟦<Nothing as Outside>⟧.did ⟦<Nothing as Outside>⟧.is_over made (setup_of script.now) [] × (made.came ≡ (setup_of script.now).arrivals) × (made.over ≡ true)) }
     {
         let side = GuestSide::make(alloc, script)?;
         let came = copies(alloc, script.arrivals.as_slice())?;
@@ -191,7 +198,7 @@ impl<O: Outside + Telling + Send> Answers for Guests<O> {
     // What has come, taken in or not.
     ghost known = { λ setup g. start_of_arrivals setup g.came };
 
-    ghost stands = { StandsAt O.did };
+    ghost stands = { StandsAt O.did O.is_over };
 
     // A live run may last.
     ghost keeps_all = { false };
@@ -201,20 +208,20 @@ impl<O: Outside + Telling + Send> Answers for Guests<O> {
     fn reserve(&mut self, call: &Call) -> Result<(), AllocError>
         requires shaped { IsShaped (request call.now) }
         ensures start { (setup : Setup) → begun_in O.told setup self.new ≡ begun_in O.told setup self.old }
-        ensures stands { (setup : Setup) (log : List Entry) → StandsAt O.did self.old setup log → StandsAt O.did self.new setup log }
-        ensures known { (setup : Setup) (log : List Entry) → StandsAt O.did self.old setup log → GoesOn log (start_of_arrivals setup self.old.came) (start_of_arrivals setup self.new.came) }
+        ensures stands { (setup : Setup) (log : List Entry) → StandsAt O.did O.is_over self.old setup log → StandsAt O.did O.is_over self.new setup log }
+        ensures known { (setup : Setup) (log : List Entry) → StandsAt O.did O.is_over self.old setup log → GoesOn log (start_of_arrivals setup self.old.came) (start_of_arrivals setup self.new.came) }
         ensures ready { OnOk result (CanServe self.new (request call.now)) }
         ensures over { self.old.over ≡ true → self.new.over ≡ true }
         ensures came { self.old.over ≡ true → self.new.came ≡ self.old.came }
     {
-        let want = self.side.wants(call);
         learn(
             &mut self.outside,
             self.alloc,
             &mut self.came,
             self.used,
             &mut self.over,
-            want,
+            &self.side,
+            call,
         )?;
         let rest = rest(&self.came, self.used);
         let count = taken(&self.side, rest, call);
@@ -225,11 +232,11 @@ impl<O: Outside + Telling + Send> Answers for Guests<O> {
     fn answer(&mut self, call: &Call, out: &mut Bytes) -> i32
         requires ready { CanServe self.old (request call.now) }
         requires shaped { IsShaped (request call.now) }
-        requires comes { MayCome (StandsAt O.did self.old) (request call.now) }
+        requires comes { MayCome (StandsAt O.did O.is_over self.old) (request call.now) }
         requires capacity { MOST_BYTES ≤ out.old.capacity }
         ensures start { (setup : Setup) → begun_in O.told setup self.new ≡ begun_in O.told setup self.old }
         ensures known { (setup : Setup) → start_of_arrivals setup self.new.came ≡ start_of_arrivals setup self.old.came }
-        ensures answer { IsAnswer (λ setup. start_of_arrivals setup self.old.came) (StandsAt O.did self.old) (StandsAt O.did self.new) (request call.now) result out.new.bytes }
+        ensures answer { IsAnswer (λ setup. start_of_arrivals setup self.old.came) (StandsAt O.did O.is_over self.old) (StandsAt O.did O.is_over self.new) (request call.now) result out.new.bytes }
         ensures capacity { out.new.capacity ≡ out.old.capacity }
         ensures few { length out.new.bytes ≤ most_out (request call.now) }
         ensures over { self.new.over ≡ self.old.over }
@@ -237,9 +244,10 @@ impl<O: Outside + Telling + Send> Answers for Guests<O> {
     {
         let rest = rest(&self.came, self.used);
         let count = taken(&self.side, rest, call);
+        let vain = is_in_vain(&self.side, rest, call);
         let ret = self
             .side
-            .answer(call, first(rest, count), out, &mut self.outside);
+            .answer(call, first(rest, count), vain, out, &mut self.outside);
         self.used += count;
         self.late = is_late(self.late, &self.came, self.used);
         pass(&mut self.came, self.used);
@@ -248,7 +256,7 @@ impl<O: Outside + Telling + Send> Answers for Guests<O> {
 
     fn hands_over(&mut self, length: usize) -> bool
         ensures start { (setup : Setup) → begun_in O.told setup self.new ≡ begun_in O.told setup self.old }
-        ensures stands { (setup : Setup) (log : List Entry) → StandsAt O.did self.old setup log → StandsAt O.did self.new setup log }
+        ensures stands { (setup : Setup) (log : List Entry) → StandsAt O.did O.is_over self.old setup log → StandsAt O.did O.is_over self.new setup log }
         ensures known { (setup : Setup) → start_of_arrivals setup self.new.came ≡ start_of_arrivals setup self.old.came }
         ensures over { self.new.over ≡ self.old.over }
         ensures came { self.new.came ≡ self.old.came }

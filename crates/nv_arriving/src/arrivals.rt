@@ -1,13 +1,19 @@
 // What is heard from outside.
-ghost use Rattle.std.specs.Prelude.{◌≡◌, ◌≤◌, true, false, IfOk, OnOk, length, map, drop};
+ghost use Rattle.std.specs.Prelude.{◌≡◌, ◌≤◌, [], true, false, IfOk, OnOk, length, map, drop};
 ghost use Rattle.nv_arrivals.specs.Doings.{Takes};
 ghost use Rattle.nv_arrivals.specs.Views.{view as arrival_of};
-ghost use Rattle.nv_arriving.specs.Arrivals.{any_ends, in_vain, until};
+ghost use Rattle.nv_calls.specs.Calls.{request};
+ghost use Rattle.nv_arriving.specs.Arrivals.{ends, any_ends, in_vain, until};
+ghost use Rattle.nv_arriving.specs.Arriving.{wait_of};
+ghost use Rattle.nv_arriving.specs.Views.{standing_of};
 ghost use Rattle.nv_arriving.specs.Kernel.{after, Grew};
 ghost use Rattle.nv_arriving.specs.Telling.{Adds};
 
-use crate::waiting::{Want, any_ends, ends};
+use crate::guests::GuestSide;
+use crate::timing::Until;
+use crate::waiting::Want;
 use nv_arrivals::{Arrival, Outside};
+use nv_calls::Call;
 use nv_past::Past;
 use std::alloc::{AllocError, Global};
 
@@ -22,31 +28,44 @@ pub(crate) fn rest(came: &Past<Arrival>, used: usize) -> &[Arrival]
     &came.kept()[used - came.gone()..]
 }
 
-/// Asks for arrivals until one ends the wait, and tells whether nothing more comes.
+/// Asks for arrivals until one ends the wait, and tells whether nothing more comes. More than can be counted are want of memory.
 pub(crate) fn hear<O: Outside>(
     outside: &mut O,
     alloc: Global,
     came: &mut Past<Arrival>,
+    side: &GuestSide,
+    call: &Call,
     want: Want,
 ) -> Result<bool, AllocError>
     ensures grew { Grew (map arrival_of came.old.items) (map arrival_of came.new.items) }
     ensures did { Adds O.did outside.old outside.new (map Takes (after (map arrival_of came.old.items) (map arrival_of came.new.items))) }
-    ensures ended { IfOk result (λ over. over ≡ false → any_ends want (after (map arrival_of came.old.items) (map arrival_of came.new.items)) ≡ true) }
+    ensures ended { IfOk result (λ over. over ≡ false → any_ends (ends (standing_of side.now) (request call.now) want) (after (map arrival_of came.old.items) (map arrival_of came.new.items)) ≡ true) }
+    ensures over { IfOk result (λ over. over ≡ true → O.is_over outside.new) }
     ensures gone { came.new.gone ≡ came.old.gone }
-    ensures until { until want (after (map arrival_of came.old.items) (map arrival_of came.new.items)) ≡ length (after (map arrival_of came.old.items) (map arrival_of came.new.items)) }
+    ensures until { until (ends (standing_of side.now) (request call.now) want) (after (map arrival_of came.old.items) (map arrival_of came.new.items)) ≡ length (after (map arrival_of came.old.items) (map arrival_of came.new.items)) }
 {
     for _ in 0..u64::MAX {
         came.reserve(1)?;
         let Some(arrival) = outside.next(alloc)? else {
             return Ok(true);
         };
-        let last = ends(want, &arrival);
+        let last = side.ends(call, want, &arrival);
         came.push(arrival);
         if last {
             return Ok(false);
         }
     }
-    Ok(true)
+    Err(AllocError)
+}
+
+// Up to when a call waits that is about to, where it waits up to a time.
+fn tell_deadline<O: Outside>(outside: &mut O, until: Until)
+    ensures { Adds O.did outside.old outside.new [] }
+{
+    match until {
+        Until::At(seconds, nanos) => outside.waits_to(seconds, nanos),
+        Until::Never | Until::Bad => {}
+    }
 }
 
 /// Asks for what a call waits for, unless that has come or nothing more comes.
@@ -56,7 +75,8 @@ pub(crate) fn learn<O: Outside>(
     came: &mut Past<Arrival>,
     used: usize,
     over: &mut bool,
-    want: Option<Want>,
+    side: &GuestSide,
+    call: &Call,
 ) -> Result<(), AllocError>
     requires there { came.old.gone ≤ used }
     requires inside { used ≤ length came.old.items }
@@ -64,19 +84,21 @@ pub(crate) fn learn<O: Outside>(
     ensures did { Adds O.did outside.old outside.new (map Takes (after (map arrival_of came.old.items) (map arrival_of came.new.items))) }
     ensures gone { came.new.gone ≡ came.old.gone }
     ensures over { over.new ≡ false → over.old ≡ false }
+    ensures ended { (over.old ≡ true → O.is_over outside.old) → over.new ≡ true → O.is_over outside.new }
     ensures same { over.old ≡ true → came.new.items ≡ came.old.items }
-    ensures asks { in_vain want (drop used (map arrival_of came.old.items)) ≡ false → outside.new ≡ outside.old }
-    ensures waits { OnOk result (over.new ≡ false → in_vain want (drop used (map arrival_of came.new.items)) ≡ false) }
+    ensures asks { in_vain (wait_of (standing_of side.now) (request call.now)) (drop used (map arrival_of came.old.items)) ≡ false → outside.new ≡ outside.old }
+    ensures waits { OnOk result (over.new ≡ false → in_vain (wait_of (standing_of side.now) (request call.now)) (drop used (map arrival_of came.new.items)) ≡ false) }
 {
-    let Some(want) = want else {
+    let Some(want) = side.wants(call) else {
         return Ok(());
     };
     if *over {
         return Ok(());
     }
-    if any_ends(want, rest(came, used)) {
+    if side.any_ends(call, want, rest(came, used)) {
         return Ok(());
     }
-    *over = hear(outside, alloc, came, want)?;
+    tell_deadline(outside, side.until(call));
+    *over = hear(outside, alloc, came, side, call, want)?;
     Ok(())
 }

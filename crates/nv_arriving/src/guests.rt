@@ -5,8 +5,8 @@ ghost use Rattle.nv_calls.specs.Limits.{MOST_BYTES, MOST_EVENTS};
 ghost use Rattle.nv_script.specs.Views.{setup_of};
 ghost use Rattle.nv_kernel.specs.Reserved.{CanAnswer, most_out};
 ghost use Rattle.nv_sockets.specs.Reserved.{CanSend};
-ghost use Rattle.nv_sockets.specs.Serving.{serve};
-ghost use Rattle.nv_arriving.specs.Arriving.{Standing, wants_input, is_over, wants_data, read_wants, wants_client, accept_wants, wants_as, wants, arrive, arrive_all, with_state, first_standing};
+ghost use Rattle.nv_arriving.specs.Arriving.{Standing, wants_input, is_over, wants_data, read_wants, wants_client, accept_wants, wants_on, wants_as, wants, arrive, arrive_all, unless_vain, serve_by, first_standing};
+ghost use Rattle.nv_arriving.specs.Timing.{until_of};
 ghost use Rattle.nv_arriving.specs.Doings.{said};
 ghost use Rattle.nv_arriving.specs.Telling.{Adds};
 ghost use Rattle.nv_arriving.specs.Reserved.{CanTakeIn, HasRoom, IsSameBut, with_memory};
@@ -16,6 +16,7 @@ ghost use Rattle.nv_arrivals.specs.Views.{view as arrival_of};
 ghost use Rattle.nv_arriving.specs.Views.{standing_of, room_of, capacity_of};
 
 use crate::counting::Counts;
+use crate::nonblocking::NonBlocking;
 use crate::reserving::{connects, input_bytes};
 use crate::saying::Mark;
 use crate::waiting::Want;
@@ -32,6 +33,10 @@ pub struct GuestSide {
     pub input_over: bool,
     pub clients_over: bool,
     pub overs: Vec<bool>,
+    /// The later calls are in the table.
+    pub polls: bool,
+    /// The descriptors whose calls never wait.
+    pub nonblocking: NonBlocking,
     alloc: Global,
     /// Where what clients send goes that will connect, that of the last one first.
     kept: Vec<Vec<u8>>,
@@ -88,6 +93,8 @@ impl GuestSide {
             input_over: false,
             clients_over: false,
             overs,
+            polls: script.polls,
+            nonblocking: NonBlocking::each_waits(),
             alloc,
             kept: Vec::new(alloc),
             counts: Counts::none(alloc),
@@ -104,7 +111,7 @@ impl GuestSide {
         }
     }
 
-    fn is_over(&self, i: usize) -> bool
+    pub(crate) fn is_over(&self, i: usize) -> bool
         ensures { result ≡ is_over (standing_of self.now) i }
     {
         let overs = self.overs.as_slice();
@@ -158,8 +165,9 @@ impl GuestSide {
         }
     }
 
-    fn wants_as(&self, syscall: Syscall, call: &Call) -> Option<Want>
-        ensures { result ≡ wants_as syscall (standing_of self.now) (request call.now) }
+    /// What a call would wait for on the descriptor of its first argument, were it to wait.
+    pub(crate) fn wants_on(&self, syscall: Syscall, call: &Call) -> Option<Want>
+        ensures { result ≡ wants_on syscall (standing_of self.now) (request call.now) }
     {
         let args = call.args;
         let socket = self.host.sockets.at(args[0]);
@@ -173,6 +181,28 @@ impl GuestSide {
             Syscall::Accept => self.accept_wants(0, socket),
             Syscall::Accept4 => self.accept_wants(args[3], socket),
             _ => None,
+        }
+    }
+
+    fn wants_as(&self, syscall: Syscall, call: &Call) -> Option<Want>
+        ensures { result ≡ wants_as syscall (standing_of self.now) (request call.now) }
+    {
+        match syscall {
+            Syscall::Ppoll => if self.polls && self.poll_waits(call) {
+                Some(Want::Ready)
+            } else {
+                None
+            },
+            Syscall::ClockNanosleep => if self.polls {
+                self.sleep_wants(self.until(call))
+            } else {
+                None
+            },
+            _ => if self.is_nonblocking(call.args[0]) {
+                None
+            } else {
+                self.wants_on(syscall, call)
+            },
         }
     }
 
@@ -243,11 +273,12 @@ impl GuestSide {
         }
     }
 
-    /// The result of a call that takes in these, with the bytes that it hands out. What it does is said outside.
+    /// The result of a call that takes in these, with the bytes that it hands out, or that waits in vain. What it does is said outside.
     pub(crate) fn answer<O: Outside>(
         &mut self,
         call: &Call,
         arrivals: &[Arrival],
+        vain: bool,
         out: &mut Bytes,
         outside: &mut O,
     ) -> i32
@@ -258,16 +289,18 @@ impl GuestSide {
         requires few { (standing_of self.old).state.own.served < MOST_EVENTS }
         requires capacity { MOST_BYTES ≤ out.old.capacity }
         requires clones { (standing_of self.old).state.own.crew.clones < MOST_EVENTS }
-        ensures answer { serve (arrive_all (standing_of self.old) (map arrival_of arrivals.now)).state (request call.now)
-            ≡ record { state = (standing_of self.new).state; ret = result; payload = out.new.bytes } }
-        ensures standing { standing_of self.new ≡ with_state (arrive_all (standing_of self.old) (map arrival_of arrivals.now)) (standing_of self.new).state }
-        ensures said { Adds O.did outside.old outside.new (map Says (said (arrive_all (standing_of self.old) (map arrival_of arrivals.now)).state (request call.now) result (standing_of self.new).state)) }
+        ensures answer { serve_by (unless_vain vain (arrive_all (standing_of self.old) (map arrival_of arrivals.now))) (request call.now) (until_of (standing_of self.old) (request call.now))
+            ≡ record { here = standing_of self.new; ret = result; payload = out.new.bytes } }
+        ensures said { Adds O.did outside.old outside.new (map Says (said (unless_vain vain (arrive_all (standing_of self.old) (map arrival_of arrivals.now))).state (request call.now) result (standing_of self.new).state)) }
+        ensures stays { O.is_over outside.old → O.is_over outside.new }
         ensures capacity { out.new.capacity ≡ out.old.capacity }
         ensures few { length out.new.bytes ≤ most_out (request call.now) }
     {
+        let until = self.until(call);
         self.arrive_all(arrivals);
+        self.tell_end(vain);
         let mark = Mark::of(&self.host, call);
-        let ret = self.host.answer(call, out);
+        let ret = self.answer_by(call, until, out);
         mark.say(outside, &self.host, call, ret);
         ret
     }

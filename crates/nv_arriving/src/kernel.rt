@@ -1,10 +1,11 @@
 // The kernels over what a script lists, and over what comes from outside.
-ghost use Rattle.std.specs.Prelude.{◌≡◌, [], false, IsTrue, IfOk, map};
-ghost use Rattle.nv_calls.specs.Logs.{connections_of};
+ghost use Rattle.std.specs.Prelude.{◌≡◌, ◌⊎◌, [], false, IsTrue, IfOk, map};
+ghost use Rattle.nv_calls.specs.Logs.{calls_of, connections_of};
 ghost use Rattle.nv_script.specs.Scripts.{is_script};
 ghost use Rattle.nv_script.specs.Views.{setup_of};
 ghost use Rattle.nv_sockets.specs.Views.{link_of, written_of};
 ghost use Rattle.nv_arriving.specs.Scripted.{start_from, stage_from};
+ghost use Rattle.nv_arriving.specs.Arriving.{first_stage, Satisfied};
 ghost use Rattle.nv_arriving.specs.Standing.{StandsAt};
 ghost use Rattle.nv_arriving.specs.Telling.{Tells};
 
@@ -38,10 +39,11 @@ pub fn arriving<O: Outside + Telling + Send>(
 }
 
 /// The outside of a kernel that is done with, with what it tells: all that came was taken in its order, and all that the log says was said
-/// in its order.
+/// in its order. No call of the log waited in vain, or nothing more came.
 pub fn into_outside<O: Outside + Telling + Send>(kernel: ArrivingKernel<O>) -> O
     ensures is { result ≡ kernel.answers.outside }
     ensures told { Tells O.did kernel.answers.begun kernel.answers.outside kernel.setup kernel.answers.came kernel.log kernel.answers.late }
+    ensures waited { Satisfied (first_stage kernel.setup kernel.answers.came) (calls_of kernel.log) ⊎ O.is_over kernel.answers.outside }
 {
     kernel.into_answers().into_outside()
 }

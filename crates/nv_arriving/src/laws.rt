@@ -1,5 +1,5 @@
 // What holds of what comes and of what is done outside.
-ghost use Rattle.std.specs.Prelude.{◌≡◌, ◌++◌, [], List};
+ghost use Rattle.std.specs.Prelude.{◌≡◌, ◌++◌, [], false, List};
 ghost use Rattle.nv_calls.specs.Calls.{Entry};
 ghost use Rattle.nv_calls.specs.Logs.{calls_of};
 ghost use Rattle.nv_script.specs.Scripts.{Setup};
@@ -22,14 +22,14 @@ pub fn doings_go_on()
         → takings (doings setup arrivals log) ++ (stage_after (first_stage setup arrivals) (calls_of log)).rest ≡ arrivals }
 {}
 
-/// Where nothing comes, a kernel goes on as that of the script does.
+/// Where nothing comes, and the later calls aren't in the table, a kernel goes on as that of the script does.
 #[tactic(auto, using(crate::proofs::Coming::same_start))]
 pub fn nothing_comes()
-    ensures { (setup : Setup) → start_of_arrivals setup [] ≡ start_of_script setup }
+    ensures { (setup : Setup) → setup.polls ≡ false → start_of_arrivals setup [] ≡ start_of_script setup }
 {}
 
-/// Over a script that lists nothing, a kernel goes on as that of connections and files alone does.
+/// Over a script that lists nothing, where the later calls aren't in the table, a kernel goes on as that of connections and files alone does.
 #[tactic(auto, using(crate::proofs::Listing::same_unlisted))]
 pub fn nothing_listed()
-    ensures { (setup : Setup) → setup.arrivals ≡ [] → start_from setup ≡ start_of_script setup }
+    ensures { (setup : Setup) → setup.polls ≡ false → setup.arrivals ≡ [] → start_from setup ≡ start_of_script setup }
 {}

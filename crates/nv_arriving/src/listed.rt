@@ -14,11 +14,15 @@ pub struct Nothing;
 impl Outside for Nothing {
     ghost did = { λ _ _ _. ⊥ };
 
+    ghost is_over = { λ _. Unit {0} };
+
     fn next(&mut self, _alloc: Global) -> Result<Option<Arrival>, AllocError> {
         Ok(None)
     }
 
     fn say(&mut self, _said: &Said<'_>) {}
+
+    fn waits_to(&mut self, _seconds: u32, _nanos: u32) {}
 
     fn hands_over(&mut self, _length: usize) -> bool {
         false

@@ -68,7 +68,8 @@ fn socket_by(sockets: &Sockets, ret: i32) -> Option<Socket>
 }
 
 fn say_accepted_as<O: Outside>(outside: &mut O, socket: Option<Socket>)
-    ensures { Adds O.did outside.old outside.new (map Says (accepted_as socket)) }
+    ensures says { Adds O.did outside.old outside.new (map Says (accepted_as socket)) }
+    ensures stays { O.is_over outside.old → O.is_over outside.new }
 {
     match socket {
         Some(Socket::Connected { connection, .. }) => outside.say(&Said::Accepted(connection)),
@@ -78,7 +79,8 @@ fn say_accepted_as<O: Outside>(outside: &mut O, socket: Option<Socket>)
 }
 
 fn say_accepted<O: Outside>(outside: &mut O, syscall: Syscall, made: Option<Socket>)
-    ensures { Adds O.did outside.old outside.new (map Says (accepted syscall made)) }
+    ensures says { Adds O.did outside.old outside.new (map Says (accepted syscall made)) }
+    ensures stays { O.is_over outside.old → O.is_over outside.new }
 {
     match syscall {
         Syscall::Accept | Syscall::Accept4 => say_accepted_as(outside, made),
@@ -87,7 +89,8 @@ fn say_accepted<O: Outside>(outside: &mut O, syscall: Syscall, made: Option<Sock
 }
 
 fn say_sent<O: Outside>(outside: &mut O, socket: Option<Socket>, bytes: &[u8])
-    ensures { Adds O.did outside.old outside.new (map Says (sent socket bytes.now)) }
+    ensures says { Adds O.did outside.old outside.new (map Says (sent socket bytes.now)) }
+    ensures stays { O.is_over outside.old → O.is_over outside.new }
 {
     match socket {
         Some(Socket::Connected { connection, .. }) => if !bytes.is_empty() {
@@ -99,7 +102,8 @@ fn say_sent<O: Outside>(outside: &mut O, socket: Option<Socket>, bytes: &[u8])
 }
 
 fn say_closed<O: Outside>(outside: &mut O, before: Option<Socket>, now: Option<Socket>)
-    ensures { Adds O.did outside.old outside.new (map Says (closed before now)) }
+    ensures says { Adds O.did outside.old outside.new (map Says (closed before now)) }
+    ensures stays { O.is_over outside.old → O.is_over outside.new }
 {
     match (before, now) {
         (Some(Socket::Connected { connection, .. }), None) => {
@@ -110,7 +114,8 @@ fn say_closed<O: Outside>(outside: &mut O, before: Option<Socket>, now: Option<S
 }
 
 fn say_printed<O: Outside>(outside: &mut O, bytes: &[u8])
-    ensures { Adds O.did outside.old outside.new (map Says (of_bytes Printed bytes.now)) }
+    ensures says { Adds O.did outside.old outside.new (map Says (of_bytes Printed bytes.now)) }
+    ensures stays { O.is_over outside.old → O.is_over outside.new }
 {
     if !bytes.is_empty() {
         outside.say(&Said::Printed(bytes));
@@ -132,7 +137,8 @@ impl Mark {
 
     /// Says what the call did that had this result and left this.
     pub(crate) fn say<O: Outside>(&self, outside: &mut O, host: &Host, call: &Call, ret: i32)
-        ensures { (before : State) → self.now ≡ mark_of before (request call.now) → Adds O.did outside.old outside.new (map Says (said before (request call.now) ret (state_of host.now))) }
+        ensures says { (before : State) → self.now ≡ mark_of before (request call.now) → Adds O.did outside.old outside.new (map Says (said before (request call.now) ret (state_of host.now))) }
+        ensures stays { O.is_over outside.old → O.is_over outside.new }
     {
         let sockets = &host.sockets;
         say_accepted(outside, Syscall::of(call.nr), socket_by(sockets, ret));

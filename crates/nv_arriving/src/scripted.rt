@@ -51,7 +51,7 @@ impl Answers for Listed {
     // A script tells all that comes.
     ghost known = { λ setup _. start_from setup };
 
-    ghost stands = { λ l. StandsListed ⟦<Nothing as Outside>⟧.did l.guests };
+    ghost stands = { λ l. StandsListed ⟦<Nothing as Outside>⟧.did ⟦<Nothing as Outside>⟧.is_over l.guests };
 
     ghost is_ready = { λ l. CanServe l.guests };
 

@@ -1,6 +1,6 @@
 -- What calls send, joined for each connection, is what was written to it.
 use Rattle.std.proofs.Common.{◌≡◌, ◌≢◌, ◌∙◌, sym, ap, subst, refl, ℕ, ℤ, ◌<◌, ◌≤◌, ◌-◌, zero, suc, Bool, true, false, cond, ◌==◌, nat_le, nat_lt, List, [], ◌∷◌, ◌++◌, length, take, map, Option, Some, None, append_assoc, append-nil, ⊎_elim, arith}
-use Rattle.std.specs.Prelude.{slice_index_or, slice_set, option_map}
+use Rattle.std.specs.Prelude.{slice_index_or, slice_set, option_map, IfSome}
 use Rattle.std.proofs.lemmas.Bool.{cases_eq, cases_lt}
 use Rattle.std.proofs.lemmas.Bool.Decides.{nat_tests}
 use Rattle.std.proofs.lemmas.List.Concat.{flat_map-append}
@@ -18,13 +18,18 @@ use Rattle.nv_sockets.specs.Sockets.{Link, Net, Answer, only, socket_at, on_sock
 use Rattle.nv_sockets.specs.Serving.{State, answered, unless_bad, or_own, serve, link_written, link_from}
 use Rattle.nv_arrivals.specs.Arrivals.{Arrival, Input, InputEnd, ClientsEnd, Connect, Data, End, Time}
 use Rattle.nv_arrivals.specs.Doings.{Said, Sent, Printed, sayings}
-use Rattle.nv_arriving.specs.Arriving.{Standing, Stage, taken, arrive, arrive_all, ready_for, answer_next, serve_next, first_stage, stage_after, start_of_arrivals}
+use Rattle.nv_arriving.specs.declared.timing.Until.{Until}
+use Rattle.nv_arriving.specs.Arrivals.{in_vain}
+use Rattle.nv_arriving.specs.Timing.{until_of}
+use Rattle.nv_arriving.specs.Arriving.{Standing, Stage, Reached, with_state, wait_of, taken, arrive, arrive_all, later as answered_later, or_own as or_served, serve_by, ready_for, answer_next, serve_next, first_stage, stage_after, start_of_arrivals}
 use Rattle.nv_arriving.specs.Doings.{of_bytes, socket_by, accepted_as, accepted, written, sent, closed, said, doings_of, doings_from, doings}
 use Rattle.nv_arriving.specs.Kernel.{after}
+use Rattle.nv_arriving.proofs.LaterLaws.{vain_state, note_state}
 use Rattle.nv_arriving.proofs.Told.{sayings_both}
 use Rattle.nv_laws.specs.Sayings.{sent_bytes, sent_text, written_at}
 use Rattle.nv_laws.proofs.Cases.{by_test}
 use Rattle.nv_laws.proofs.Console.{drop-front, drop-all, sayings_of}
+use Rattle.nv_laws.proofs.LaterCalls.{Still, later_still}
 
 abbrev no_link : Link
 no_link = record { port = 0; input = []; output = [] }
@@ -253,6 +258,16 @@ sends s c =
     net_of (asked_of s.net c) s.net _ _ (unless_bad s.net c)
     (by_test (Of (asked_of s.net c) s.net) c.bad None (answered (syscall_of c.nr) s.net c) tt (answers (syscall_of c.nr) s.net c))
 
+sends_or : (s : Standing) (c : Request) (o : Option Reached) → IfSome o (Still s) → Sends (asked_of s.state.net c) s.state.net (or_served s c o).here.state.net
+sends_or s c None h =
+    let still = note_state (with_state s (serve s.state c).state) c (serve s.state c).ret in
+    subst (λ (t : State). Sends (asked_of s.state.net c) s.state.net t.net) (sym still) (sends s.state c)
+sends_or s c (Some r) h = same_links (asked_of s.state.net c) s.state.net r.here.state.net (ap (λ (n : Net). n.links) h.net)
+
+sends_by : (s : Standing) (c : Request) (u : Until) → Sends (asked_of s.state.net c) s.state.net (serve_by s c u).here.state.net
+unfolding serve_by
+sends_by s c u = sends_or s c (answered_later s c u) (later_still s c u)
+
 -- ---- what arrives
 
 outputs_same : (s : Standing) (a : Arrival) (j : ℕ) → link_output (arrive s a).state.net j ≡ link_output s.state.net j
@@ -315,11 +330,13 @@ output_at g j = link_output g.here.state.net j
 next_output : (g : Stage) (c : Request) (j : ℕ) → output_at (serve_next g c) j ≡ output_at g j ++ sent_text j (sayings (doings_of g c))
 next_output g c j =
     let net : Net = (ready_for g c).state.net in
-    let now : Net = (answer_next g c).state.net in
+    let now : Net = (answer_next g c).here.state.net in
     let text : List ℕ = sent_text j (sent (asked_of net c) (after (written net (asked_of net c)) (written now (asked_of net c)))) in
-    sends (ready_for g c).state c j
-    ∙ (ap (λ z. z ++ text) (outputs_still g.here (take (taken g c) g.rest) j)
-    ∙ ap (λ z. output_at g j ++ z) (sym (ap (sent_text j) (sayings_of g c) ∙ said_text j (ready_for g c).state c (answer_next g c).ret (answer_next g c).state)))
+    let met : Standing = arrive_all g.here (take (taken g c) g.rest) in
+    let still : link_output net j ≡ output_at g j = ap (λ (t : State). link_output t.net j) (vain_state (in_vain (wait_of g.here c) g.rest) met) ∙ outputs_still g.here (take (taken g c) g.rest) j in
+    sends_by (ready_for g c) c (until_of g.here c) j
+    ∙ (ap (λ z. z ++ text) still
+    ∙ ap (λ z. output_at g j ++ z) (sym (ap (sent_text j) (sayings_of g c) ∙ said_text j (ready_for g c).state c (answer_next g c).ret (answer_next g c).here.state)))
 
 from_output : (g : Stage) (cs : List Request) (j : ℕ) → output_at (stage_after g cs) j ≡ output_at g j ++ sent_text j (sayings (doings_from g cs))
 from_output g [] j = sym (append-nil (output_at g j))

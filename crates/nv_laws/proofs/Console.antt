@@ -1,5 +1,6 @@
 -- What calls print, joined, is what stands on the console.
-use Rattle.std.proofs.Common.{◌≡◌, ◌∙◌, sym, ap, refl, ℕ, ℤ, ◌+◌, ◌-◌, cond, not, ◌||◌, ◌==◌, nat_le, nat_lt, List, [], ◌∷◌, ◌++◌, length, take, drop, map, Option, Some, None, append_assoc, append-nil}
+use Rattle.std.proofs.Common.{◌≡◌, ◌∙◌, sym, ap, subst, refl, ℕ, ℤ, ◌+◌, ◌-◌, cond, not, ◌||◌, ◌==◌, nat_le, nat_lt, List, [], ◌∷◌, ◌++◌, length, take, drop, map, Option, Some, None, append_assoc, append-nil}
+use Rattle.std.specs.Prelude.{IfSome}
 use Rattle.std.specs.Int.{cast_signed, w32}
 use Rattle.std.proofs.lemmas.List.Concat.{flat_map-append}
 use Rattle.nv_calls.specs.declared.numbers.Syscall.{Syscall}
@@ -29,12 +30,17 @@ use Rattle.nv_sockets.specs.Sockets.{socket_at}
 use Rattle.nv_sockets.specs.Serving.{State, serve}
 use Rattle.nv_arrivals.specs.Arrivals.{Arrival, Input, InputEnd, ClientsEnd, Connect, Data, End, Time}
 use Rattle.nv_arrivals.specs.Doings.{Said, Sent, Printed, Takes, Says, sayings}
-use Rattle.nv_arriving.specs.Arriving.{Standing, Stage, taken, arrive, arrive_all, ready_for, answer_next, serve_next, first_stage, stage_after, start_of_arrivals}
+use Rattle.nv_arriving.specs.declared.timing.Until.{Until}
+use Rattle.nv_arriving.specs.Arrivals.{in_vain}
+use Rattle.nv_arriving.specs.Timing.{until_of}
+use Rattle.nv_arriving.specs.Arriving.{Standing, Stage, Reached, with_state, wait_of, taken, arrive, arrive_all, later, or_own, serve_by, ready_for, answer_next, serve_next, first_stage, stage_after, start_of_arrivals}
 use Rattle.nv_arriving.specs.Doings.{of_bytes, socket_by, accepted_as, accepted, written, sent, closed, said, doings_of, doings_from, doings}
 use Rattle.nv_arriving.specs.Kernel.{after}
+use Rattle.nv_arriving.proofs.LaterLaws.{vain_state, note_state}
 use Rattle.nv_arriving.proofs.Told.{sayings_both, sayings_all, sayings_none}
 use Rattle.nv_live.specs.Live.{plain_bytes, plain_text}
 use Rattle.nv_laws.proofs.Cases.{by_test, seek_cases, read_cases}
+use Rattle.nv_laws.proofs.LaterCalls.{Still, later_still}
 
 -- ---- more stands behind what was there
 
@@ -232,6 +238,16 @@ pub prints : (s : State) (c : Request) → Grows s.own.files.console (serve s c)
 unfolding kernel.serve serve
 prints s c = by_test (Printing s.own) c.bad (kernel.replied s.own EFAULT []) (kernel.answered (syscall_of c.nr) s.own c) (grows-same s.own.files.console) (prints_as (syscall_of c.nr) s.own c)
 
+prints_or : (s : Standing) (c : Request) (o : Option Reached) → IfSome o (Still s) → Grows s.state.own.files.console (or_own s c o).here.state.own.files.console
+prints_or s c None h =
+    let still = note_state (with_state s (serve s.state c).state) c (serve s.state c).ret in
+    subst (λ (t : State). Grows s.state.own.files.console t.own.files.console) (sym still) (prints s.state c)
+prints_or s c (Some r) h = subst (λ (f : FileState). Grows s.state.own.files.console f.console) (sym h.files) (grows-same s.state.own.files.console)
+
+prints_by : (s : Standing) (c : Request) (u : Until) → Grows s.state.own.files.console (serve_by s c u).here.state.own.files.console
+unfolding serve_by
+prints_by s c u = prints_or s c (later s c u) (later_still s c u)
+
 -- ---- what arrives
 
 console_same : (s : Standing) (a : Arrival) → (arrive s a).state.own.files.console ≡ s.state.own.files.console
@@ -302,10 +318,10 @@ said_plain before c ret now =
     ∙ (ap (λ z. z ++ plain_text last) (closed_plain open_socket (socket_at now.net (request_arg c 0)))
     ∙ printed_plain (after before.own.files.console now.own.files.console))))))
 
-pub sayings_of : (g : Stage) (c : Request) → sayings (doings_of g c) ≡ said (ready_for g c).state c (answer_next g c).ret (answer_next g c).state
+pub sayings_of : (g : Stage) (c : Request) → sayings (doings_of g c) ≡ said (ready_for g c).state c (answer_next g c).ret (answer_next g c).here.state
 sayings_of g c =
     let front : List Arrival = take (taken g c) g.rest in
-    let says : List Said = said (ready_for g c).state c (answer_next g c).ret (answer_next g c).state in
+    let says : List Said = said (ready_for g c).state c (answer_next g c).ret (answer_next g c).here.state in
     sayings_both (map Takes front) (map Says says) ∙ (λ i. sayings_none front i ++ sayings_all says i)
 
 -- ---- a log
@@ -316,10 +332,11 @@ console_at g = g.here.state.own.files.console
 next_console : (g : Stage) (c : Request) → console_at (serve_next g c) ≡ console_at g ++ plain_text (sayings (doings_of g c))
 next_console g c =
     let before : List ℕ = (ready_for g c).state.own.files.console in
-    let still : before ≡ console_at g = console_still g.here (take (taken g c) g.rest) in
-    prints (ready_for g c).state c
+    let met : Standing = arrive_all g.here (take (taken g c) g.rest) in
+    let still : before ≡ console_at g = ap (λ (t : State). t.own.files.console) (vain_state (in_vain (wait_of g.here c) g.rest) met) ∙ console_still g.here (take (taken g c) g.rest) in
+    prints_by (ready_for g c) c (until_of g.here c)
     ∙ (ap (λ z. z ++ after before (console_at (serve_next g c))) still
-    ∙ ap (λ z. console_at g ++ z) (sym (ap plain_text (sayings_of g c) ∙ said_plain (ready_for g c).state c (answer_next g c).ret (answer_next g c).state)))
+    ∙ ap (λ z. console_at g ++ z) (sym (ap plain_text (sayings_of g c) ∙ said_plain (ready_for g c).state c (answer_next g c).ret (answer_next g c).here.state)))
 
 from_console : (g : Stage) (cs : List Request) → console_at (stage_after g cs) ≡ console_at g ++ plain_text (sayings (doings_from g cs))
 from_console g [] = sym (append-nil (console_at g))

@@ -8,5 +8,6 @@ pub mod Within
 pub mod Refusing
 pub mod States
 pub mod Constants
+pub mod LaterCalls
 pub mod Console
 pub mod Connections

@@ -127,7 +127,7 @@ come-refill before now later faults count later_count line held came taken asked
   words = c.words;
   asks = c.asks;
   counted = same ∙ ap (λ n. raised n 1) c.counted;
-  stops = tt;
+  stops = r.1;
   ended = λ e. cc;
 }
 

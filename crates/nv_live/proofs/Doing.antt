@@ -82,6 +82,21 @@ module _ {I O T : Type 0} (took : I → Option (List (List ℕ))) (unread : I �
   did-read old new takes out transcript =
       did-parts old new [] refl (takes-none old.incoming new.incoming takes) (still said unsaid old.out new.out out) (still noted unnoted old.transcript.writer new.transcript.writer transcript)
 
+  -- what is taken is waited for up to some time
+  waits-none : (old new : Incoming I) → took new.source ≡ took old.source → unread new.source ≡ unread old.source → new ≡ record old { source = new.source } → TakesOn took unread old new (λ arrivals. arrivals)
+  waits-none old new same_took same_unread stays = λ first arrivals so_far.
+      let stopped : new.stopped ≡ old.stopped = ap (λ (i : Incoming I). i.stopped) stays in
+      let held : held_of new ≡ held_of old = ap (λ (i : Incoming I). held_of i) stays in
+      rw (same_took, same_unread, stopped, held) so_far
+
+  -- nothing was done
+  pub did-wait : (old new : Live I O T) → took new.incoming.source ≡ took old.incoming.source → unread new.incoming.source ≡ unread old.incoming.source
+      → new.incoming ≡ record old.incoming { source = new.incoming.source } → new.out ≡ old.out → new.transcript.writer ≡ old.transcript.writer
+      → (first : Live I O T) (done : List Doing) → Did took unread said unsaid noted unnoted first old done → Did took unread said unsaid noted unnoted first new done
+  did-wait old new same_took same_unread stays out transcript = λ first done d.
+      subst (λ z. Did took unread said unsaid noted unnoted first new z) (append-nil done)
+      (did-read old new (waits-none old.incoming new.incoming same_took same_unread stays) out transcript first done d)
+
   -- an arrival was taken
   pub did-take : (old new : Live I O T) (arrival : Arrival) → TakesOn took unread old.incoming new.incoming (λ arrivals. arrivals ++ arrival ∷ []) → new.out ≡ old.out
       → WritesOn noted unnoted old.transcript.writer new.transcript.writer (lines_of (arrival ∷ [])) → DoesOn took unread said unsaid noted unnoted old new (Takes arrival ∷ [])

@@ -3,6 +3,7 @@ pub mod Coming
 pub mod Noting
 pub mod Doing
 pub mod Serving
+pub mod Stopping
 pub mod Parts
 pub mod InMemory
 pub mod Showing

@@ -93,6 +93,19 @@ module _ {I O T : Type 0} (took : I → Option (List (List ℕ))) (unread : I �
       did-exchange old new [] refl (takes-none old.coming new.coming takes) (still said unsaid old.out.writer new.out.writer out)
       (still noted unnoted old.transcript.writer new.transcript.writer transcript) same
 
+  -- what is taken is waited for up to some time
+  waits-none : (old new : ComingLines I) → took new.source ≡ took old.source → unread new.source ≡ unread old.source → new ≡ record old { source = new.source } → ComesOn took unread old new (λ arrivals. arrivals)
+  waits-none old new same_took same_unread stays = λ first arrivals handed so_far.
+      subst (λ c. HasCome took unread first c arrivals handed) (sym stays) (rw (same_took, same_unread) so_far)
+
+  -- nothing was done
+  pub did-wait : (old new : Clients I O T) → took new.coming.source ≡ took old.coming.source → unread new.coming.source ≡ unread old.coming.source
+      → new.coming ≡ record old.coming { source = new.coming.source } → new.out.writer ≡ old.out.writer → new.transcript.writer ≡ old.transcript.writer → new.hand_overs ≡ old.hand_overs
+      → (first : Clients I O T) (done : List Doing) → DidLines took unread said unsaid noted unnoted first old done → DidLines took unread said unsaid noted unnoted first new done
+  did-wait old new same_took same_unread stays out transcript same = λ first done d.
+      subst (λ z. DidLines took unread said unsaid noted unnoted first new z) (append-nil done)
+      (did-read old new (waits-none old.coming new.coming same_took same_unread stays) out transcript same first done d)
+
   -- an arrival was taken
   pub did-take : (old new : Clients I O T) (arrival : Arrival) → ComesOn took unread old.coming new.coming (λ arrivals. arrivals ++ arrival ∷ []) → new.out.writer ≡ old.out.writer
       → WritesOn noted unnoted old.transcript.writer new.transcript.writer (lines_of (arrival ∷ [])) → new.hand_overs ≡ old.hand_overs

@@ -1,5 +1,5 @@
 -- How what is taken goes on: one more read, and one more piece.
-use Rattle.std.proofs.Common.{◌≡◌, ℕ, ◌+◌, ◌-◌, ◌≤◌, ◌==◌, Bool, true, false, cond, List, [], ◌∷◌, ◌++◌, Option, None, Some, Result, Ok, Err, length, map, flat_map, take, drop, append-nil, append_assoc, length-take, drop-drop, refl, sym, ap, subst, ◌∙◌, arith}
+use Rattle.std.proofs.Common.{◌≡◌, ℕ, ◌+◌, ◌-◌, ◌≤◌, ◌==◌, Bool, true, false, cond, List, [], ◌∷◌, ◌++◌, Option, None, Some, IsSome, Result, Ok, Err, length, map, flat_map, take, drop, append-nil, append_assoc, length-take, drop-drop, refl, sym, ap, subst, ◌∙◌, arith}
 use Rattle.std.specs.List.{list_all}
 use Rattle.std.specs.Result.{is_ok}
 use Rattle.std.proofs.lemmas.Bool.{and_parts, and_from}
@@ -79,6 +79,7 @@ took_none before faults = record {
   may_come = may-come [] [] [] refl;
   stops = refl;
   ended = λ e. cc;
+  all = λ e. refl;
   counted = refl;
 }
 
@@ -94,6 +95,12 @@ took_start before now faults count stopped held same counted going empty =
 stop-ended : (n : ℕ) → stop_by (Count n) ≡ Some Ended → n ≡ 0
 stop-ended n e = step (n == 0) refl e where
   step : (x : Bool) → (n == 0) ≡ x → cond x (Some Ended) None ≡ Some Ended → n ≡ 0
+  step true h e = grind (arith, nat_tests)
+  step false h e = cc
+
+stop-none : (n : ℕ) → IsSome (stop_by (Count n)) → n ≡ 0
+stop-none n e = step (n == 0) refl e where
+  step : (x : Bool) → (n == 0) ≡ x → IsSome (cond x (Some Ended) None) → n ≡ 0
   step true h e = grind (arith, nat_tests)
   step false h e = cc
 
@@ -119,6 +126,7 @@ took_refill before now later faults count later_count held (Count n) arrivals r 
   may_come = t.may_come;
   stops = stop-plain n;
   ended = λ e. (t.reads, ap (λ b. t.reads ++ b ∷ []) (nil_from_length held (sym r.0 ∙ stop-ended n e)));
+  all = λ e. nil_from_length held (sym r.0 ∙ stop-none n e);
   counted = same ∙ t.counted ∙ sym (stop-faults n faults);
 }
 took_refill before now later faults count later_count held Failed arrivals r same t = record {
@@ -128,6 +136,7 @@ took_refill before now later faults count later_count held Failed arrivals r sam
   may_come = t.may_come;
   stops = refl;
   ended = λ e. cc;
+  all = λ e. r.1;
   counted = same ∙ ap (λ n. raised n 1) t.counted;
 }
 
@@ -157,5 +166,6 @@ took_piece before now faults count n stopped held later bytes arrivals cut same 
       may_come = may-come t.reads (arrivals ++ Input bytes ∷ []) (map Input (pieces 2000 later)) joined;
       stops = t.stops;
       ended = t.ended;
+      all = λ e. let none : take n held ∷ pieces 2000 (drop n held) ≡ [] = sym cut ∙ ap (pieces 2000) (t.all e) ∙ pieces-none 2000 in cc;
       counted = t.counted;
     }

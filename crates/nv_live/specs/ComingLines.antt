@@ -75,13 +75,13 @@ abbrev pub IsRefused : List ℕ → List ℕ → Came → ℕ → ArrivalCause �
 IsRefused line held came taken c =
     ((is_beyond line taken ≡ true) × (c ≡ Long)) ⊎ (IsWhole held × (is_passed line ≡ false) × (cause_by (arrival_of line) came ≡ Some c))
 
--- A line that is refused or cut off is the one after those that were taken; one that is cut off has begun, and nothing is held behind it. No write stops what is read here.
+-- A line that is refused or cut off is the one after those that were taken; one that is cut off has begun. Behind that, and after a read that failed, nothing is held. No write stops what is read here.
 abbrev pub StopsAt : Option Stopped → List ℕ → List ℕ → Came → ℕ → Type 0
 StopsAt (Some (Refused n c)) line held came taken = (n ≡ line_number taken) × IsRefused line held came taken c
 StopsAt (Some (CutOff n)) line held came taken = (n ≡ line_number taken) × (0 < length line) × (held ≡ [])
 StopsAt (Some Unwritten) line held came taken = ⊥
 StopsAt (Some Ended) line held came taken = Unit {0}
-StopsAt (Some Unreadable) line held came taken = Unit {0}
+StopsAt (Some Unreadable) line held came taken = held ≡ []
 StopsAt None line held came taken = Unit {0}
 
 -- ---- what has come

@@ -1,5 +1,5 @@
 -- The outside of a live run, of either way, and what its streams show of what was done.
-use Rattle.std.specs.Prelude.{◌≡◌, ℕ, Bool, true, false, List, [], length, Option, None, IsOk}
+use Rattle.std.specs.Prelude.{◌≡◌, ℕ, Bool, true, false, List, [], length, Option, None, is_some, IsOk}
 use Rattle.nv_arrivals.specs.Arrivals.{Arrival}
 use Rattle.nv_arrivals.specs.Doings.{Doing, Said}
 use Rattle.nv_arrivals.specs.Order.{Came, nothing_came}
@@ -48,6 +48,10 @@ source_stop (Clients run) = run.coming.stopped
 abbrev pub stop_of_run : {I O T : Type 0} → LiveRun I O T → Option Stopped
 stop_of_run (Plain run) = stop_in run
 stop_of_run (Clients run) = stop_among run
+
+-- nothing more comes
+abbrev pub IsOver : {I O T : Type 0} → LiveRun I O T → Type 0
+IsOver run = is_some (stop_of_run run) ≡ true
 
 -- ---- what the streams show
 

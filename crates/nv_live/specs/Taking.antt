@@ -1,5 +1,5 @@
 -- What was taken of a source, as arrivals.
-use Rattle.std.specs.Prelude.{◌≡◌, ◌==◌, ℕ, Bool, false, List, [], ◌∷◌, ◌++◌, Option, None, Some, map, drop, true, if◌then◌else◌}
+use Rattle.std.specs.Prelude.{◌≡◌, ◌==◌, ℕ, Bool, false, List, [], ◌∷◌, ◌++◌, Option, None, Some, IsSome, map, drop, true, if◌then◌else◌}
 use Rattle.nv_arrivals.specs.Arrivals.{Arrival, Input}
 use Rattle.nv_arrivals.specs.Order.{are_arrivals}
 use Rattle.nv_arrivals.specs.Pieces.{pieces, input_of}
@@ -38,6 +38,8 @@ pub record Took (before now : Option (List (List ℕ))) (faults later_faults : �
   pub stops : is_plain_stop stopped ≡ true
   -- at the end the last read gave nothing
   pub ended : stopped ≡ Some Ended → (earlier : List (List ℕ)) × (reads ≡ earlier ++ [] ∷ [])
+  -- once it has stopped, all that was read is taken
+  pub all : IsSome stopped → held ≡ []
   pub counted : later_faults ≡ faults_by_stop stopped faults
 
 -- the bytes that come first of those that are held

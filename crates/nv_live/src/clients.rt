@@ -160,11 +160,14 @@ impl<I: Source, O: Sink + Drop, T: Sink + Drop> Clients<I, O, T> {
 impl<I: Source, O: Sink + Drop, T: Sink + Drop> Outside for Clients<I, O, T> {
     ghost did = { λ first later done. DidLines I.took I.faults O.told O.faults T.told T.faults first later done };
 
+    ghost is_over = { λ clients. is_some (stop_among clients) ≡ true };
+
     /// Its line stands in the transcript before it is handed on.
     fn next(&mut self, alloc: Global) -> Result<Option<Arrival>, AllocError>
         ensures took { DoesLines I.took I.faults O.told O.faults T.told T.faults self.old self.new (taking result) }
-        ensures over { result ≡ Ok None → is_some (stop_among self.new) ≡ true }
-        ensures stays { is_some (stop_among self.old) ≡ true → (result ≡ Ok None) × (self.new ≡ self.old) }
+        ensures ends { result ≡ Ok None → is_some (stop_among self.new) ≡ true }
+        ensures stays { is_some (stop_among self.old) ≡ true → is_some (stop_among self.new) ≡ true }
+        ensures still { is_some (stop_among self.old) ≡ true → (result ≡ Ok None) × (self.new ≡ self.old) }
     {
         if self.stopped().is_some() || !self.coming.find()? {
             return Ok(None);
@@ -179,6 +182,7 @@ impl<I: Source, O: Sink + Drop, T: Sink + Drop> Outside for Clients<I, O, T> {
     /// An operator's word waits while the length isn't one that the transcript, as a script, can have.
     fn hands_over(&mut self, length: usize) -> bool
         ensures told { DoesLines I.took I.faults O.told O.faults T.told T.faults self.old self.new (handing result length) }
+        ensures stays { is_some (stop_among self.old) ≡ true → is_some (stop_among self.new) ≡ true }
         ensures answer { result ≡ (asked_from (coming_of self.old) && can_plan length (lengths_of (hand_overs_of self.old))) }
         ensures waits { result ≡ false → self.new ≡ self.old }
     {
@@ -189,5 +193,9 @@ impl<I: Source, O: Sink + Drop, T: Sink + Drop> Outside for Clients<I, O, T> {
         self.hand_overs.take(length);
         self.transcript.note_hand(length);
         true
+    }
+
+    fn waits_to(&mut self, seconds: u32, nanos: u32) {
+        self.coming.waits_to(seconds, nanos);
     }
 }

@@ -262,7 +262,8 @@ impl<I: Source> ComingLines<I> {
     /// The leader hands over for the lines `hand` that have come.
     pub fn hand_over(&mut self)
         requires { asked_from self.old ≡ true }
-        ensures { HandsOn I.took I.faults self.old self.new }
+        ensures handed { HandsOn I.took I.faults self.old self.new }
+        ensures stop { stop_from self.new ≡ stop_from self.old }
     {
         self.asked = false;
     }
@@ -297,5 +298,14 @@ impl<I: Source> ComingLines<I> {
                 Ok(false)
             }
         }
+    }
+
+    /// What comes is waited for at most up to this time.
+    pub fn waits_to(&mut self, seconds: u32, nanos: u32)
+        ensures took { I.took (source_from self.new) ≡ I.took (source_from self.old) }
+        ensures faults { I.faults (source_from self.new) ≡ I.faults (source_from self.old) }
+        ensures stays { self.new ≡ record self.old { source = source_from self.new } }
+    {
+        self.source.waits_to(seconds, nanos);
     }
 }

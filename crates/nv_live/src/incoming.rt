@@ -122,4 +122,13 @@ impl<I: Source> Incoming<I> {
     {
         let _count = self.buffer.pass();
     }
+
+    /// What comes is waited for at most up to this time.
+    pub fn waits_to(&mut self, seconds: u32, nanos: u32)
+        ensures took { I.took (source_in self.new) ≡ I.took (source_in self.old) }
+        ensures faults { I.faults (source_in self.new) ≡ I.faults (source_in self.old) }
+        ensures stays { self.new ≡ record self.old { source = source_in self.new } }
+    {
+        self.source.waits_to(seconds, nanos);
+    }
 }

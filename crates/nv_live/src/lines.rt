@@ -1,8 +1,8 @@
 // Lines of a head and of bytes in hexadecimal digits.
-ghost use Rattle.std.specs.Prelude.{◌≡◌, ◌++◌, ◌+◌, ◌*◌, ◌≤◌, length};
+ghost use Rattle.std.specs.Prelude.{◌≡◌, ◌++◌, ◌+◌, ◌*◌, ◌≤◌, IsErr, length};
 ghost use Rattle.nv_text.specs.Numbers.{hex_of};
 ghost use Rattle.nv_live.specs.Lines.{line_with, lines_with};
-ghost use Rattle.nv_live.specs.Writer.{WritesOn};
+ghost use Rattle.nv_live.specs.Writer.{put_of, WritesOn};
 
 use crate::writer::Writer;
 use arrayvec::ArrayVec;
@@ -48,7 +48,8 @@ pub(crate) fn write_line<S: Sink>(
 )
     requires head { length head.now ≤ 28 }
     requires bytes { length bytes.now ≤ 2000 }
-    ensures { WritesOn S.told S.faults writer.old writer.new (line_with head.now bytes.now) }
+    ensures text { WritesOn S.told S.faults writer.old writer.new (line_with head.now bytes.now) }
+    ensures stays { IsErr (put_of writer.old) → IsErr (put_of writer.new) }
 {
     line.clear();
     put(line, head);
@@ -65,7 +66,8 @@ pub(crate) fn write_lines<S: Sink>(
     bytes: &[u8],
 )
     requires { length head.now ≤ 28 }
-    ensures { WritesOn S.told S.faults writer.old writer.new (lines_with head.now bytes.now) }
+    ensures text { WritesOn S.told S.faults writer.old writer.new (lines_with head.now bytes.now) }
+    ensures stays { IsErr (put_of writer.old) → IsErr (put_of writer.new) }
 {
     let mut rest = bytes;
     while !rest.is_empty() {

@@ -137,11 +137,14 @@ impl<I: Source, O: Sink + Drop, T: Sink + Drop> Live<I, O, T> {
 impl<I: Source, O: Sink + Drop, T: Sink + Drop> Outside for Live<I, O, T> {
     ghost did = { λ first later done. Did I.took I.faults O.told O.faults T.told T.faults first later done };
 
+    ghost is_over = { λ live. is_some (stop_in live) ≡ true };
+
     /// Its line stands in the transcript before it is handed on.
     fn next(&mut self, alloc: Global) -> Result<Option<Arrival>, AllocError>
         ensures took { DoesOn I.took I.faults O.told O.faults T.told T.faults self.old self.new (taking result) }
-        ensures over { result ≡ Ok None → is_some (stop_in self.new) ≡ true }
-        ensures stays { is_some (stop_in self.old) ≡ true → (result ≡ Ok None) × (self.new ≡ self.old) }
+        ensures ends { result ≡ Ok None → is_some (stop_in self.new) ≡ true }
+        ensures stays { is_some (stop_in self.old) ≡ true → is_some (stop_in self.new) ≡ true }
+        ensures still { is_some (stop_in self.old) ≡ true → (result ≡ Ok None) × (self.new ≡ self.old) }
     {
         if self.stopped().is_some() || !self.incoming.has_more() {
             return Ok(None);
@@ -157,5 +160,9 @@ impl<I: Source, O: Sink + Drop, T: Sink + Drop> Outside for Live<I, O, T> {
     /// Plain input has no operator's words.
     fn hands_over(&mut self, _length: usize) -> bool {
         false
+    }
+
+    fn waits_to(&mut self, seconds: u32, nanos: u32) {
+        self.incoming.waits_to(seconds, nanos);
     }
 }

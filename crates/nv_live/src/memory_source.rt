@@ -61,4 +61,10 @@ impl Source for MemorySource {
             }
         }
     }
+
+    fn waits_to(&mut self, _seconds: u32, _nanos: u32)
+        ensures took { Some (given_of self.new) ≡ Some (given_of self.old) }
+        ensures faults { faults_of self.new ≡ faults_of self.old }
+        ensures all { all_of self.new ≡ all_of self.old }
+    {}
 }

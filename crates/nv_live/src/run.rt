@@ -2,7 +2,7 @@
 ghost use Rattle.std.specs.Prelude.{◌≡◌, IfOk, IsTrue, Ok, None};
 ghost use Rattle.nv_outside.specs.Sink.{Puts};
 ghost use Rattle.nv_live.specs.Lines.{held_text};
-ghost use Rattle.nv_live.specs.Run.{input_of, output_of, notes_of, line_of, held_by, source_stop, stop_of_run, told_run, DidRun, IsBegun};
+ghost use Rattle.nv_live.specs.Run.{input_of, output_of, notes_of, line_of, held_by, source_stop, stop_of_run, told_run, DidRun, IsBegun, IsOver};
 ghost use Rattle.nv_live.specs.Writer.{sink_in, put_of, WritesOn};
 ghost use Rattle.nv_script.specs.Scripts.{are_hands};
 
@@ -112,6 +112,8 @@ impl<I: Source, O: Sink + Drop, T: Sink + Drop> LiveRun<I, O, T> {
 impl<I: Source, O: Sink + Drop, T: Sink + Drop> Outside for LiveRun<I, O, T> {
     ghost did = { λ first later done. DidRun I.took I.faults O.told O.faults T.told T.faults first later done };
 
+    ghost is_over = { IsOver };
+
     fn next(&mut self, alloc: Global) -> Result<Option<Arrival>, AllocError> {
         match self {
             LiveRun::Plain(run) => run.next(alloc),
@@ -130,6 +132,13 @@ impl<I: Source, O: Sink + Drop, T: Sink + Drop> Outside for LiveRun<I, O, T> {
         match self {
             LiveRun::Plain(run) => run.hands_over(length),
             LiveRun::Clients(run) => run.hands_over(length),
+        }
+    }
+
+    fn waits_to(&mut self, seconds: u32, nanos: u32) {
+        match self {
+            LiveRun::Plain(run) => run.waits_to(seconds, nanos),
+            LiveRun::Clients(run) => run.waits_to(seconds, nanos),
         }
     }
 }

@@ -1,5 +1,5 @@
 // What is said, as lines.
-ghost use Rattle.std.specs.Prelude.{◌≡◌, ◌++◌, ◌+◌, ◌≤◌, [], IsOk, length};
+ghost use Rattle.std.specs.Prelude.{◌≡◌, ◌++◌, ◌+◌, ◌≤◌, [], IsOk, IsErr, length};
 ghost use Rattle.nv_text.specs.Numbers.{decimal_of};
 ghost use Rattle.nv_arrivals.specs.Views.{said_view};
 ghost use Rattle.nv_live.specs.SaidLines.{writer_of, head_of, said_lines};
@@ -97,7 +97,8 @@ impl<O: Sink> SaidLines<O> {
 
     /// Writes this at once, unless a write has failed.
     pub fn say(&mut self, said: &Said<'_>)
-        ensures { WritesOn O.told O.faults (writer_of self.old) (writer_of self.new) (said_lines (said_view said.now)) }
+        ensures lines { WritesOn O.told O.faults (writer_of self.old) (writer_of self.new) (said_lines (said_view said.now)) }
+        ensures stays { IsErr (put_of (writer_of self.old)) → IsErr (put_of (writer_of self.new)) }
     {
         self.head.clear();
         put_head(&mut self.head, said);

@@ -20,4 +20,9 @@ pub trait Source: Drop {
     fn read(&mut self, room: &mut [u8]) -> Read
         ensures read { Reads (took self.old) (took self.new) room.new result }
         ensures faults { faults self.new ≡ faults_by_read result (faults self.old) };
+
+    /// The next read is waited for at most up to this time, in seconds and nanoseconds since 1970: for whoever tells the time.
+    fn waits_to(&mut self, seconds: u32, nanos: u32)
+        ensures took { took self.new ≡ took self.old }
+        ensures faults { faults self.new ≡ faults self.old };
 }

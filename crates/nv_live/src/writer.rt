@@ -1,5 +1,5 @@
 // A sink that is written up to its first failed write.
-ghost use Rattle.std.specs.Prelude.{◌≡◌, IsOk};
+ghost use Rattle.std.specs.Prelude.{◌≡◌, IsOk, IsErr};
 ghost use Rattle.nv_live.specs.Writer.{sink_in, put_of, WritesOn};
 
 use nv_outside::{Put, Sink, put_all};
@@ -40,7 +40,8 @@ impl<S: Sink> Writer<S> {
 
     /// Writes one more text, unless a write has failed.
     pub fn write(&mut self, text: &[u8])
-        ensures { WritesOn S.told S.faults self.old self.new text.now }
+        ensures text { WritesOn S.told S.faults self.old self.new text.now }
+        ensures stays { IsErr (put_of self.old) → IsErr (put_of self.new) }
     {
         if self.put.is_ok() {
             self.put = put_all(&mut self.sink, text);

@@ -1,14 +1,21 @@
 // Standard input, output and error of a live run. They tell no bytes, and hold no borrow, so that they may move to another thread.
 ghost use Rattle.std.specs.Prelude.{None};
 
+use itoa::Buffer;
 use nv_live::{Read as Got, Source, Streams};
-use nv_outside::{Sink, Wrote};
+use nv_outside::{CalmSink, Put, Sink, Wrote, put_pieces};
+use std::alloc::Global;
 use std::io::{Read, Stderr, Stdin, Stdout, Write};
 
-/// Standard input.
+// The most bytes of a comment that says up to when standard input is waited for.
+const LONGEST_WAIT: usize = 32;
+
+/// Standard input. Up to when it is waited for is told on standard error, as a comment of the transcript, to whoever writes the time into it.
 #[derive(Drop)]
 pub struct RealInput {
+    alloc: Global,
     stdin: Stdin,
+    stderr: Stderr,
     faults: u64,
 }
 
@@ -30,7 +37,9 @@ pub struct RealError {
 pub fn streams(rt: &HostRuntime) -> Streams<RealInput, RealOutput, RealError> {
     Streams {
         input: RealInput {
+            alloc: rt.alloc(),
             stdin: rt.stdin(),
+            stderr: rt.stderr(),
             faults: 0,
         },
         output: RealOutput {
@@ -42,6 +51,27 @@ pub fn streams(rt: &HostRuntime) -> Streams<RealInput, RealOutput, RealError> {
             faults: 0,
         },
     }
+}
+
+fn put_wait<S: Sink>(sink: &mut S, seconds: u32, nanos: u32) -> Put {
+    let mut first = Buffer::new();
+    let mut second = Buffer::new();
+    put_pieces(
+        sink,
+        &[
+            b"# wait ",
+            first.format(seconds).as_bytes(),
+            b" ",
+            second.format(nanos).as_bytes(),
+            b"\n",
+        ],
+    )
+}
+
+fn wait_line(alloc: Global, seconds: u32, nanos: u32) -> Option<CalmSink> {
+    let mut line = CalmSink::make(alloc, LONGEST_WAIT).ok()?;
+    put_wait(&mut line, seconds, nanos).ok()?;
+    Some(line)
 }
 
 impl Source for RealInput {
@@ -56,6 +86,13 @@ impl Source for RealInput {
                 self.faults = self.faults.saturating_add(1);
                 Got::Failed
             }
+        }
+    }
+
+    /// A comment that can't be made or written is left out: the run goes on without it.
+    fn waits_to(&mut self, seconds: u32, nanos: u32) {
+        if let Some(line) = wait_line(self.alloc, seconds, nanos) {
+            let _wrote = self.stderr.write_all(line.written());
         }
     }
 }

@@ -1,9 +1,10 @@
-use Rattle.std.proofs.Common.{◌≡◌, ◌∙◌, ap, sym, refl, false, [], ◌∷◌, ◌++◌, List, length, map, append-nil, Ok}
+use Rattle.std.proofs.Common.{◌≡◌, ◌∙◌, ap, sym, refl, Bool, false, [], ◌∷◌, ◌++◌, List, length, map, append-nil, Ok}
 use Rattle.nv_kernel.proofs.Keeping.{map_more}
 use Rattle.nv_arrivals.specs.Arrivals.{Arrival}
 use Rattle.nv_arrivals.specs.Doings.{Takes}
-use Rattle.nv_arriving.specs.declared.waiting.Want.{Want}
-use Rattle.nv_arriving.specs.Arrivals.{any_ends, until}
+use Rattle.nv_calls.specs.Calls.{request}
+use Rattle.nv_arriving.specs.Arrivals.{ends, any_ends, until}
+use Rattle.nv_arriving.specs.Views.{standing_of}
 use Rattle.nv_arriving.specs.Kernel.{after}
 use Rattle.nv_arrivals.specs.Views.{view as arrival_of, taking}
 use Rattle.nv_arriving.proofs.Taken.{drop_all, grew_same, grew_still, grew_more, after_more, any_last, takes_more, until_all_of, until_last, any_none_last}
@@ -15,7 +16,7 @@ use Rattle.nv_arriving.proofs.arrivals.hear.Goals as goal
 still : (before now last : List Arrival) → last ≡ now → map Takes (after before now) ≡ map Takes (after before last)
 still before now last e = ap (λ z. map Takes (after before z)) (sym e)
 
-heard : (w : Want) (before now last : List Arrival) → last ≡ now → any_ends w (after before now) ≡ false → until w (after before last) ≡ length (after before last)
+heard : (w : Arrival → Bool) (before now last : List Arrival) → last ≡ now → any_ends w (after before now) ≡ false → until w (after before last) ≡ length (after before last)
 heard w before now last e h = ap (λ z. until w (after before z)) e ∙ (until_all_of w (after before now) h ∙ ap (λ z. length (after before z)) (sym e))
 
 pub loop-init : goal.loop-init
@@ -26,7 +27,7 @@ loop-init g c =
       did = adds_is g.O.Outside.did c.args.outside.now c.args.outside.now [] (map Takes (after came came))
           (ap (map Takes) (sym (ap (after came) (sym (append-nil came)) ∙ drop_all came []))) (adds_none g.O.Outside.did c.args.outside.now);
       gone = refl;
-      none = ap (any_ends c.args.want) (ap (after came) (sym (append-nil came)) ∙ drop_all came []);
+      none = ap (any_ends (ends (standing_of c.args.side.now) (request c.args.call.now) c.args.want)) (ap (after came) (sym (append-nil came)) ∙ drop_all came []);
     }
 
 pub returns-in_err-reserve-clause-grew : goal.returns-in_err-reserve-clause-grew
@@ -36,7 +37,7 @@ pub returns-in_err-reserve-clause-did : goal.returns-in_err-reserve-clause-did
 returns-in_err-reserve-clause-did g c = adds_is g.O.Outside.did _ _ _ _ (still _ _ _ (ap (map arrival_of) c.reserve.ensures.items)) c.loop.invariant.did
 
 pub returns-in_err-reserve-clause-until : goal.returns-in_err-reserve-clause-until
-returns-in_err-reserve-clause-until g c = heard c.args.want _ _ _ (ap (map arrival_of) c.reserve.ensures.items) c.loop.invariant.none
+returns-in_err-reserve-clause-until g c = heard (ends (standing_of c.args.side.now) (request c.args.call.now) c.args.want) _ _ _ (ap (map arrival_of) c.reserve.ensures.items) c.loop.invariant.none
 
 pub returns-in_err-arrival-clause-grew : goal.returns-in_err-arrival-clause-grew
 returns-in_err-arrival-clause-grew g c = grew_still _ _ _ c.loop.invariant.grew (ap (map arrival_of) c.reserve.ensures.items)
@@ -47,7 +48,7 @@ returns-in_err-arrival-clause-did g c =
     (adds_both g.O.Outside.did _ _ _ _ [] c.loop.invariant.did c.in_err-arrival.ensures.took)
 
 pub returns-in_err-arrival-clause-until : goal.returns-in_err-arrival-clause-until
-returns-in_err-arrival-clause-until g c = heard c.args.want _ _ _ (ap (map arrival_of) c.reserve.ensures.items) c.loop.invariant.none
+returns-in_err-arrival-clause-until g c = heard (ends (standing_of c.args.side.now) (request c.args.call.now) c.args.want) _ _ _ (ap (map arrival_of) c.reserve.ensures.items) c.loop.invariant.none
 
 pub returns-in_default-clause-grew : goal.returns-in_default-clause-grew
 returns-in_default-clause-grew g c = grew_still _ _ _ c.loop.invariant.grew (ap (map arrival_of) c.reserve.ensures.items)
@@ -59,7 +60,7 @@ returns-in_default-clause-did g c =
     (adds_is g.O.Outside.did c.loop.outside c.next.new.self (taking (Ok c.in_ok-arrival.field-0)) [] (ap (λ o. taking (Ok o)) c.in_default.is) c.in_ok-arrival.ensures.took))
 
 pub returns-in_default-clause-until : goal.returns-in_default-clause-until
-returns-in_default-clause-until g c = heard c.args.want _ _ _ (ap (map arrival_of) c.reserve.ensures.items) c.loop.invariant.none
+returns-in_default-clause-until g c = heard (ends (standing_of c.args.side.now) (request c.args.call.now) c.args.want) _ _ _ (ap (map arrival_of) c.reserve.ensures.items) c.loop.invariant.none
 
 module _ (g : Over) (c : goal.Then-last g) where
   all : map arrival_of c.push.new.self.items ≡ map arrival_of c.loop.came.items ++ arrival_of c.in-Some.arrival ∷ []
@@ -80,15 +81,15 @@ returns-then-last-clause-until g c =
     let before : List Arrival = map arrival_of c.args.came.now.items in
     let now : List Arrival = map arrival_of c.loop.came.items in
     let is = ap (after before) (all g c) ∙ after_more before now (arrival_of c.in-Some.arrival ∷ []) c.loop.invariant.grew in
-    ap (until c.args.want) is ∙ (until_last c.args.want (after before now) (arrival_of c.in-Some.arrival) c.loop.invariant.none ∙ ap (λ z. length z) (sym is))
+    ap (until (ends (standing_of c.args.side.now) (request c.args.call.now) c.args.want)) is ∙ (until_last (ends (standing_of c.args.side.now) (request c.args.call.now) c.args.want) (after before now) (arrival_of c.in-Some.arrival) c.loop.invariant.none ∙ ap (λ z. length z) (sym is))
 
 pub returns-then-last-clause-ended : goal.returns-then-last-clause-ended
 returns-then-last-clause-ended g c = λ _.
     let before : List Arrival = map arrival_of c.args.came.now.items in
     let now : List Arrival = map arrival_of c.loop.came.items in
-    ap (λ z. any_ends c.args.want (after before z)) (all g c)
-    ∙ (ap (any_ends c.args.want) (after_more before now (arrival_of c.in-Some.arrival ∷ []) c.loop.invariant.grew)
-    ∙ any_last c.args.want (after before now) (arrival_of c.in-Some.arrival) (sym c.ends-last.ensures ∙ c.if-last.true))
+    ap (λ z. any_ends (ends (standing_of c.args.side.now) (request c.args.call.now) c.args.want) (after before z)) (all g c)
+    ∙ (ap (any_ends (ends (standing_of c.args.side.now) (request c.args.call.now) c.args.want)) (after_more before now (arrival_of c.in-Some.arrival ∷ []) c.loop.invariant.grew)
+    ∙ any_last (ends (standing_of c.args.side.now) (request c.args.call.now) c.args.want) (after before now) (arrival_of c.in-Some.arrival) (sym c.ends-last.ensures ∙ c.if-last.true))
 
 pub loop-preserved : goal.loop-preserved
 loop-preserved g c =
@@ -103,8 +104,8 @@ loop-preserved g c =
           (adds_both g.O.Outside.did _ _ _ _ (Takes a ∷ []) c.loop.invariant.did
           (adds_is g.O.Outside.did c.loop.outside c.next.new.self (taking (Ok c.in_ok-arrival.field-0)) (Takes a ∷ []) (ap (λ o. taking (Ok o)) c.in-Some.is) c.in_ok-arrival.ensures.took));
       gone = c.push.ensures.gone ∙ (c.reserve.ensures.gone ∙ c.loop.invariant.gone);
-      none = ap (any_ends c.args.want) (ap (after before) all ∙ after_more before now (a ∷ []) c.loop.invariant.grew)
-          ∙ any_none_last c.args.want (after before now) a c.loop.invariant.none (sym c.ends-last.ensures ∙ c.if-last.false);
+      none = ap (any_ends (ends (standing_of c.args.side.now) (request c.args.call.now) c.args.want)) (ap (after before) all ∙ after_more before now (a ∷ []) c.loop.invariant.grew)
+          ∙ any_none_last (ends (standing_of c.args.side.now) (request c.args.call.now) c.args.want) (after before now) a c.loop.invariant.none (sym c.ends-last.ensures ∙ c.if-last.false);
     }
 
 pub returns-clause-grew : goal.returns-clause-grew
@@ -114,4 +115,4 @@ pub returns-clause-did : goal.returns-clause-did
 returns-clause-did g c = c.loop.invariant.did
 
 pub returns-clause-until : goal.returns-clause-until
-returns-clause-until g c = until_all_of c.args.want _ c.loop.invariant.none
+returns-clause-until g c = until_all_of (ends (standing_of c.args.side.now) (request c.args.call.now) c.args.want) _ c.loop.invariant.none

@@ -1,20 +1,22 @@
-use Rattle.std.proofs.Common.{rules, to_z, of_z, w32, ℤ, ◌≡◌, ◌∙◌, sym, ap, subst, refl, false, ◌+◌, ◌<◌, ◌≤◌, [], List, length, map, take, drop, arith}
+use Rattle.std.proofs.Common.{rules, to_z, of_z, w32, ℤ, ◌≡◌, ◌∙◌, sym, ap, subst, refl, false, ◌+◌, ◌<◌, ◌≤◌, [], List, length, map, take, drop, option_map, arith}
 use Rattle.std.proofs.lemmas.List.{length-map, length-take}
 use Rattle.nv_calls.specs.Calls.{Request, request}
 use Rattle.nv_kernel.specs.Answering.{IsAnswer}
-use Rattle.nv_sockets.specs.Serving.{Served, serve}
 use Rattle.nv_arrivals.specs.declared.arrival.Arrival as code
 use Rattle.nv_arrivals.specs.Arrivals.{Arrival}
 use Rattle.nv_arrivals.specs.Doings.{Says}
 use Rattle.nv_arrivals.specs.Views.{view as arrival_of}
 use Rattle.nv_arriving.specs.Arrivals.{taken_for, in_vain}
-use Rattle.nv_arriving.specs.Arriving.{Stage, wants, taken, ready_for, arrive_all, with_state, answer_next, serve_next, start_of_arrivals}
+use Rattle.nv_arriving.specs.Arriving.{Stage, wait_of, taken, ready_for, arrive_all, unless_vain, Reached, serve_by, answer_next, serve_next, start_of_arrivals}
+use Rattle.nv_arriving.specs.Arrivals.{ends}
+use Rattle.nv_arriving.specs.Timing.{until_of}
 use Rattle.nv_arriving.specs.Doings.{said}
 use Rattle.nv_arriving.specs.Kernel.{Coming}
 use Rattle.nv_arriving.specs.Reserved.{CanTakeIn}
 use Rattle.nv_arriving.specs.Standing.{StandsAt}
 use Rattle.nv_arriving.specs.Telling.{Adds}
 use Rattle.nv_arriving.specs.Views.{standing_of, room_of}
+use Rattle.nv_arriving.proofs.Steps.{drop_map}
 use Rattle.nv_arriving.proofs.Kept.{drop_more, taken_inside, count_is_taken, first_is}
 use Rattle.nv_arriving.proofs.Standings.{few_served, few_clones, is_answer}
 use Rattle.nv_arriving.proofs.Taken.{drop_past}
@@ -31,16 +33,16 @@ answer-ret-requires-clause-takes g c =
 
 pub answer-ret-requires-clause-waits : goal.answer-ret-requires-clause-waits
 answer-ret-requires-clause-waits g c = λ e.
-    let none = ap (λ o. taken_for o (map arrival_of c.rest-rest.result.now)) e in
+    let none = ap (λ o. taken_for (option_map (ends (standing_of c.self.inside.side) (request c.args.call.now)) o) (map arrival_of c.rest-rest.result.now)) e in
     omega (arith, ap length c.first.ensures, length-take c.taken-count.result c.rest-rest.result.now, c.taken-count.ensures.is, none)
 
 pub answer-ret-requires-clause-few : goal.answer-ret-requires-clause-few
 answer-ret-requires-clause-few g c =
-    subst (λ (k : Coming g.row.O.Denot). k.stage.here.state.own.served < 500000000) (sym c.self.view_is) (few_served g.O.Outside.did c.args.self.now (request c.args.call.now) c.requires.comes)
+    subst (λ (k : Coming g.row.O.Denot). k.stage.here.state.own.served < 500000000) (sym c.self.view_is) (few_served g.O.Outside.did g.O.Outside.is_over c.args.self.now (request c.args.call.now) c.requires.comes)
 
 pub answer-ret-requires-clause-clones : goal.answer-ret-requires-clause-clones
 answer-ret-requires-clause-clones g c =
-    subst (λ (k : Coming g.row.O.Denot). k.stage.here.state.own.crew.clones < 500000000) (sym c.self.view_is) (few_clones g.O.Outside.did c.args.self.now (request c.args.call.now) c.requires.comes)
+    subst (λ (k : Coming g.row.O.Denot). k.stage.here.state.own.crew.clones < 500000000) (sym c.self.view_is) (few_clones g.O.Outside.did g.O.Outside.is_over c.args.self.now (request c.args.call.now) c.requires.comes)
 
 module _ (g : Over) (c : After-pass g) where
   abbrev call : Request
@@ -70,8 +72,8 @@ module _ (g : Over) (c : After-pass g) where
   abbrev now : Coming g.row.O.Denot
   now = now_where c.self.inside.came.items
 
-  abbrev left : Served
-  left = record { state = (standing_of c.answer-ret.new.self).state; ret = c.answer-ret.result; payload = c.answer-ret.new.out.bytes }
+  abbrev left : Reached
+  left = record { here = standing_of c.answer-ret.new.self; ret = c.answer-ret.result; payload = c.answer-ret.new.out.bytes }
 
   count : c.taken-count.result ≡ taken mine call
   count = count_is_taken mine.here call c.self.inside.came.items c.rest-rest.result.now c.self.inside.used c.taken-count.result c.rest-rest.ensures.is c.taken-count.ensures.is
@@ -79,30 +81,34 @@ module _ (g : Over) (c : After-pass g) where
   first : map arrival_of c.first.result.now ≡ take (taken mine call) mine.rest
   first = first_is mine.here call c.self.inside.came.items c.rest-rest.result.now c.first.result.now c.self.inside.used c.taken-count.result c.rest-rest.ensures.is c.taken-count.ensures.is c.first.ensures
 
+  vain : c.is_in_vain-vain.result ≡ in_vain (wait_of mine.here call) mine.rest
+  vain = c.is_in_vain-vain.ensures ∙ ap (in_vain (wait_of mine.here call)) (ap (map arrival_of) c.rest-rest.ensures.is ∙ drop_map c.self.inside.came.items c.self.inside.used)
+
+  ready : unless_vain c.is_in_vain-vain.result (arrive_all mine.here (map arrival_of c.first.result.now)) ≡ ready_for mine call
+  ready = λ i. unless_vain (vain i) (arrive_all mine.here (first i))
+
   answer : answer_next mine call ≡ left
-  answer = ap (λ z. serve (arrive_all mine.here z).state call) (sym first) ∙ c.answer-ret.ensures.answer
+  answer = ap (λ z. serve_by z call (until_of mine.here call)) (sym ready) ∙ c.answer-ret.ensures.answer
 
   next : now.stage ≡ serve_next mine call
   next =
-      let s : (standing_of c.answer-ret.new.self).state ≡ (answer_next mine call).state = ap (λ (r : Served). r.state) (sym answer) in
-      let h : standing_of c.answer-ret.new.self ≡ with_state (ready_for mine call) (answer_next mine call).state
-      = c.answer-ret.ensures.standing ∙ (λ j. with_state (arrive_all mine.here (first j)) (s j)) in
+      let s : standing_of c.answer-ret.new.self ≡ (answer_next mine call).here = ap (λ (r : Reached). r.here) (sym answer) in
       let r : drop (c.self.inside.used + c.taken-count.result) came ≡ drop (taken mine call) mine.rest
       = drop_more c.self.inside.used c.taken-count.result came ∙ ap (λ n. drop n mine.rest) count in
-      λ j. record { here = h j; rest = r j }
+      λ j. record { here = s j; rest = r j }
 
   says : Adds g.O.Outside.did was.outside now.outside (map Says (said (ready_for mine call).state call c.answer-ret.result now.stage.here.state))
-  says = subst (λ z. Adds g.O.Outside.did c.self.inside.outside c.answer-ret.new.outside (map Says (said (arrive_all mine.here z).state call c.answer-ret.result (standing_of c.answer-ret.new.self).state)))
-      first c.answer-ret.ensures.said
+  says = subst (λ z. Adds g.O.Outside.did c.self.inside.outside c.answer-ret.new.outside (map Says (said z.state call c.answer-ret.result (standing_of c.answer-ret.new.self).state)))
+      ready c.answer-ret.ensures.said
 
-  waits : was.over ≡ false → in_vain (wants mine.here call) mine.rest ≡ false
-  waits = subst (λ (k : Coming g.row.O.Denot). k.over ≡ false → in_vain (wants k.stage.here call) k.stage.rest ≡ false) (sym c.self.view_is) c.requires.ready.waits
+  waits : was.over ≡ false → in_vain (wait_of mine.here call) mine.rest ≡ false
+  waits = subst (λ (k : Coming g.row.O.Denot). k.over ≡ false → in_vain (wait_of k.stage.here call) k.stage.rest ≡ false) (sym c.self.view_is) c.requires.ready.waits
 
   none : now.late ≡ false → now.stage.rest ≡ []
   none o = drop_past (c.self.inside.used + c.taken-count.result) came (omega (arith, c.is_late-self-inside.ensures.all o, length-map c.self.inside.came.items arrival_of))
 
-  is : IsAnswer (λ setup. start_of_arrivals setup came) (StandsAt g.O.Outside.did was) (StandsAt g.O.Outside.did now) call c.answer-ret.result c.answer-ret.new.out.bytes
-  is = is_answer g.O.Outside.did was now call c.answer-ret.result c.answer-ret.new.out.bytes c.requires.shaped refl refl refl answer next waits says c.is_late-self-inside.ensures.still none
+  is : IsAnswer (λ setup. start_of_arrivals setup came) (StandsAt g.O.Outside.did g.O.Outside.is_over was) (StandsAt g.O.Outside.did g.O.Outside.is_over now) call c.answer-ret.result c.answer-ret.new.out.bytes
+  is = is_answer g.O.Outside.did g.O.Outside.is_over was now call c.answer-ret.result c.answer-ret.new.out.bytes c.requires.shaped refl refl refl answer next waits says c.answer-ret.ensures.stays c.is_late-self-inside.ensures.still none
 
   inside : c.self.inside.used + c.taken-count.result ≤ length c.self.inside.came.items
   inside =
@@ -111,16 +117,16 @@ module _ (g : Over) (c : After-pass g) where
       omega (arith, all, count, length-map c.self.inside.came.items arrival_of)
 
   -- the same, whatever is let go
-  kept : IsAnswer (λ setup. start_of_arrivals setup came) (StandsAt g.O.Outside.did was) (StandsAt g.O.Outside.did (now_where c.pass.new.came.items)) call c.answer-ret.result c.answer-ret.new.out.bytes
-  kept = subst (λ (z : List code.Arrival). IsAnswer (λ setup. start_of_arrivals setup came) (StandsAt g.O.Outside.did was) (StandsAt g.O.Outside.did (now_where z)) call c.answer-ret.result c.answer-ret.new.out.bytes)
+  kept : IsAnswer (λ setup. start_of_arrivals setup came) (StandsAt g.O.Outside.did g.O.Outside.is_over was) (StandsAt g.O.Outside.did g.O.Outside.is_over (now_where c.pass.new.came.items)) call c.answer-ret.result c.answer-ret.new.out.bytes
+  kept = subst (λ (z : List code.Arrival). IsAnswer (λ setup. start_of_arrivals setup came) (StandsAt g.O.Outside.did g.O.Outside.is_over was) (StandsAt g.O.Outside.did g.O.Outside.is_over (now_where z)) call c.answer-ret.result c.answer-ret.new.out.bytes)
       (sym c.pass.ensures.items) is
 
 pub returns-clause-answer : goal.returns-clause-answer
 returns-clause-answer g c =
     let back : to_z w32 (of_z w32 c.answer-ret.result) ≡ c.answer-ret.result = search rules in
     let here = (goal.at.returns-clause-answer g c).After-pass in
-    subst (λ (r : ℤ). IsAnswer (λ setup. start_of_arrivals setup c.args.self.now.came) (StandsAt g.O.Outside.did c.args.self.now) (StandsAt g.O.Outside.did (now_where g here c.pass.new.came.items)) (call g here) r c.answer-ret.new.out.bytes) (sym back)
-    (subst (λ (k : Coming g.row.O.Denot). IsAnswer (λ setup. start_of_arrivals setup k.came) (StandsAt g.O.Outside.did k) (StandsAt g.O.Outside.did (now_where g here c.pass.new.came.items)) (call g here) c.answer-ret.result c.answer-ret.new.out.bytes)
+    subst (λ (r : ℤ). IsAnswer (λ setup. start_of_arrivals setup c.args.self.now.came) (StandsAt g.O.Outside.did g.O.Outside.is_over c.args.self.now) (StandsAt g.O.Outside.did g.O.Outside.is_over (now_where g here c.pass.new.came.items)) (call g here) r c.answer-ret.new.out.bytes) (sym back)
+    (subst (λ (k : Coming g.row.O.Denot). IsAnswer (λ setup. start_of_arrivals setup k.came) (StandsAt g.O.Outside.did g.O.Outside.is_over k) (StandsAt g.O.Outside.did g.O.Outside.is_over (now_where g here c.pass.new.came.items)) (call g here) c.answer-ret.result c.answer-ret.new.out.bytes)
     c.self.view_is (kept g here))
 
 pub returns-clause-known : goal.returns-clause-known

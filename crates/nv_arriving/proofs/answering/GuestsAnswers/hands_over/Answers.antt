@@ -19,5 +19,5 @@ returns-clause-stands g c = λ setup log s.
       over = c.self.inside.over;
       room = room_of c.self.inside.side;
     } in
-    stands_asked g.O.Outside.did was c.hands_over.new.self c.hands_over.result c.args.length c.hands_over.ensures.told setup log
-    (subst (λ (k : Coming g.row.O.Denot). StandsAt g.O.Outside.did k setup log) (sym c.self.view_is) s)
+    stands_asked g.O.Outside.did g.O.Outside.is_over was c.hands_over.new.self c.hands_over.result c.args.length c.hands_over.ensures.told c.hands_over.ensures.stays setup log
+    (subst (λ (k : Coming g.row.O.Denot). StandsAt g.O.Outside.did g.O.Outside.is_over k setup log) (sym c.self.view_is) s)

@@ -7,7 +7,7 @@ use Rattle.nv_served.specs.Learning.{GoesOn}
 use Rattle.nv_arrivals.specs.Arrivals.{Arrival}
 use Rattle.nv_arrivals.specs.Views.{view as arrival_of}
 use Rattle.nv_arriving.specs.Arrivals.{in_vain}
-use Rattle.nv_arriving.specs.Arriving.{Standing, wants, taken, start_of_arrivals}
+use Rattle.nv_arriving.specs.Arriving.{Standing, wait_of, taken, start_of_arrivals}
 use Rattle.nv_arriving.specs.Kernel.{Coming}
 use Rattle.nv_arriving.specs.Reserved.{Room, CanTakeIn}
 use Rattle.nv_arriving.specs.Standing.{StandsAt}
@@ -46,16 +46,16 @@ module _ (g : Over) (c : After-learn g) where
     room = room;
   }
 
-  stands : (room : Room) (setup : Setup) (log : List Entry) → StandsAt g.O.Outside.did c.args.self.now setup log → StandsAt g.O.Outside.did (heard room) setup log
-  stands room setup log s = stands_heard g.O.Outside.did c.self.inside.begun.value c.self.inside.outside c.learn.new.outside before now (standing_of c.self.inside.side) c.self.inside.used
-      c.self.inside.over c.learn.new.over c.self.inside.late (room_of c.self.inside.side) room few c.learn.ensures.over same c.learn.ensures.grew c.learn.ensures.did setup log
-      (subst (λ (k : Coming g.row.O.Denot). StandsAt g.O.Outside.did k setup log) (sym c.self.view_is) s)
+  stands : (room : Room) (setup : Setup) (log : List Entry) → StandsAt g.O.Outside.did g.O.Outside.is_over c.args.self.now setup log → StandsAt g.O.Outside.did g.O.Outside.is_over (heard room) setup log
+  stands room setup log s = stands_heard g.O.Outside.did g.O.Outside.is_over c.self.inside.begun.value c.self.inside.outside c.learn.new.outside before now (standing_of c.self.inside.side) c.self.inside.used
+      c.self.inside.over c.learn.new.over c.self.inside.late (room_of c.self.inside.side) room few c.learn.ensures.over same c.learn.ensures.grew c.learn.ensures.did c.learn.ensures.ended setup log
+      (subst (λ (k : Coming g.row.O.Denot). StandsAt g.O.Outside.did g.O.Outside.is_over k setup log) (sym c.self.view_is) s)
 
-  goes : (setup : Setup) (log : List Entry) → StandsAt g.O.Outside.did c.args.self.now setup log → GoesOn log (start_of_arrivals setup c.args.self.now.came) (start_of_arrivals setup now)
+  goes : (setup : Setup) (log : List Entry) → StandsAt g.O.Outside.did g.O.Outside.is_over c.args.self.now setup log → GoesOn log (start_of_arrivals setup c.args.self.now.came) (start_of_arrivals setup now)
   goes setup log s = subst (λ (k : Coming g.row.O.Denot). GoesOn log (start_of_arrivals setup k.came) (start_of_arrivals setup now)) c.self.view_is
-      (goes_heard g.O.Outside.did c.self.inside.begun.value c.self.inside.outside c.learn.new.outside before now (standing_of c.self.inside.side) c.self.inside.used
-      c.self.inside.over c.learn.new.over c.self.inside.late (room_of c.self.inside.side) (room_of c.self.inside.side) few c.learn.ensures.over same c.learn.ensures.grew c.learn.ensures.did setup log
-      (subst (λ (k : Coming g.row.O.Denot). StandsAt g.O.Outside.did k setup log) (sym c.self.view_is) s))
+      (goes_heard g.O.Outside.did g.O.Outside.is_over c.self.inside.begun.value c.self.inside.outside c.learn.new.outside before now (standing_of c.self.inside.side) c.self.inside.used
+      c.self.inside.over c.learn.new.over c.self.inside.late (room_of c.self.inside.side) (room_of c.self.inside.side) few c.learn.ensures.over same c.learn.ensures.grew c.learn.ensures.did c.learn.ensures.ended setup log
+      (subst (λ (k : Coming g.row.O.Denot). StandsAt g.O.Outside.did g.O.Outside.is_over k setup log) (sym c.self.view_is) s))
 
   inside : (c.self.inside.used ≤ length c.learn.new.came.items) × (c.learn.new.came.gone ≤ c.self.inside.used)
   inside = let more = few_more c.self.inside.used before now few c.learn.ensures.grew in
@@ -75,7 +75,7 @@ invariant_of-self-in_err-reserve g c = inside g (goal.at.invariant_of-self-in_er
 
 pub returns-in_err-reserve-clause-stands : goal.returns-in_err-reserve-clause-stands
 returns-in_err-reserve-clause-stands g c = λ setup log s.
-    subst (λ (z : Standing). StandsAt g.O.Outside.did (record (heard g (goal.at.returns-in_err-reserve-clause-stands g c).After-learn (room_of c.reserve.new.self)) { stage = record { here = z; rest = drop c.self.inside.used (now g (goal.at.returns-in_err-reserve-clause-stands g c).After-learn) } }) setup log) (sym c.reserve.ensures.standing)
+    subst (λ (z : Standing). StandsAt g.O.Outside.did g.O.Outside.is_over (record (heard g (goal.at.returns-in_err-reserve-clause-stands g c).After-learn (room_of c.reserve.new.self)) { stage = record { here = z; rest = drop c.self.inside.used (now g (goal.at.returns-in_err-reserve-clause-stands g c).After-learn) } }) setup log) (sym c.reserve.ensures.standing)
     (stands g (goal.at.returns-in_err-reserve-clause-stands g c).After-learn (room_of c.reserve.new.self) setup log s)
 
 pub returns-in_err-reserve-clause-known : goal.returns-in_err-reserve-clause-known
@@ -86,7 +86,7 @@ invariant_of-self g c = inside g (goal.at.invariant_of-self g c).After-learn
 
 pub returns-clause-stands : goal.returns-clause-stands
 returns-clause-stands g c = λ setup log s.
-    subst (λ (z : Standing). StandsAt g.O.Outside.did (record (heard g (goal.at.returns-clause-stands g c).After-learn (room_of c.reserve.new.self)) { stage = record { here = z; rest = drop c.self.inside.used (now g (goal.at.returns-clause-stands g c).After-learn) } }) setup log) (sym c.reserve.ensures.standing)
+    subst (λ (z : Standing). StandsAt g.O.Outside.did g.O.Outside.is_over (record (heard g (goal.at.returns-clause-stands g c).After-learn (room_of c.reserve.new.self)) { stage = record { here = z; rest = drop c.self.inside.used (now g (goal.at.returns-clause-stands g c).After-learn) } }) setup log) (sym c.reserve.ensures.standing)
     (stands g (goal.at.returns-clause-stands g c).After-learn (room_of c.reserve.new.self) setup log s)
 
 pub returns-clause-known : goal.returns-clause-known
@@ -103,6 +103,5 @@ returns-clause-ready g c =
       takes = subst (λ (z : Standing). CanTakeIn (room_of c.reserve.new.self) (take (taken record { here = z; rest = rest } call) rest)) (sym c.reserve.ensures.standing) takes;
       answer = c.in_ok-reserve.ensures.ready;
       sends = c.in_ok-reserve.ensures.sends;
-      waits = λ o. subst (λ (z : Standing). in_vain (wants z call) rest ≡ false) (sym c.reserve.ensures.standing)
-          (ap (λ w. in_vain w rest) (sym c.wants-want.ensures) ∙ c.in_ok-learn.ensures.waits o);
+      waits = λ o. subst (λ (z : Standing). in_vain (wait_of z call) rest ≡ false) (sym c.reserve.ensures.standing) (c.in_ok-learn.ensures.waits o);
     }

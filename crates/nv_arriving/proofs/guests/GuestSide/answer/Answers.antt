@@ -1,35 +1,56 @@
-use Rattle.std.proofs.Common.{◌∙◌, ap, subst, length, map, arith, to_z, of_z, w32}
-use Rattle.nv_calls.specs.Calls.{request}
+use Rattle.std.proofs.Common.{rules, ◌≡◌, ◌∙◌, ap, sym, subst, length, map, arith, to_z, of_z, w32}
+use Rattle.nv_calls.specs.Calls.{Request, request}
 use Rattle.nv_kernel.specs.Crew.{Crew}
+use Rattle.nv_kernel.specs.Reserved.{CanAnswer}
 use Rattle.nv_sockets.specs.Kernel.{state_of}
+use Rattle.nv_sockets.specs.Reserved.{CanSend}
+use Rattle.nv_sockets.specs.declared.host.Host.{Host}
 use Rattle.nv_arrivals.specs.Doings.{Says}
-use Rattle.nv_arriving.specs.Arriving.{Standing}
+use Rattle.nv_arriving.specs.Arriving.{Standing, arrive_all, unless_vain, serve_by}
 use Rattle.nv_arriving.specs.Doings.{said}
 use Rattle.nv_arriving.specs.Telling.{Adds}
 use Rattle.nv_arrivals.specs.Views.{view as arrival_of}
 use Rattle.nv_arriving.specs.Views.{standing_of}
 use Rattle.nv_arriving.proofs.Sides.{can_still, crew_still, served_still, sends_after}
+use Rattle.nv_arriving.proofs.guests.GuestSide.answer.Given.{Over}
+use Rattle.nv_arriving.proofs.guests.GuestSide.answer.Goals.{After-tell_end}
 use Rattle.nv_arriving.proofs.guests.GuestSide.answer.Goals as goal
 
-pub answer-ret-requires-clause-ready : goal.answer-ret-requires-clause-ready
-answer-ret-requires-clause-ready g c = can_still _ _ (request c.args.call.now) c.arrive_all.ensures.disk.state c.arrive_all.ensures.disk.reserved c.requires.ready
+pub answer_by-ret-requires-clause-ready : goal.answer_by-ret-requires-clause-ready
+answer_by-ret-requires-clause-ready g c =
+    subst (λ (h : Host). CanAnswer h.devices.files (request c.args.call.now)) (sym c.tell_end.ensures.host)
+    (can_still _ _ (request c.args.call.now) c.arrive_all.ensures.disk.state c.arrive_all.ensures.disk.reserved c.requires.ready)
 
-pub answer-ret-requires-clause-few : goal.answer-ret-requires-clause-few
-answer-ret-requires-clause-few g c =
-    let same = ap (λ (s : Standing). s.state.own.served) c.arrive_all.ensures.standing ∙ served_still (standing_of c.args.self.now) (map arrival_of c.args.arrivals.now) in
+pub answer_by-ret-requires-clause-few : goal.answer_by-ret-requires-clause-few
+answer_by-ret-requires-clause-few g c =
+    let same = ap (λ (h : Host). (state_of h).own.served) c.tell_end.ensures.host
+    ∙ (ap (λ (s : Standing). s.state.own.served) c.arrive_all.ensures.standing ∙ served_still (standing_of c.args.self.now) (map arrival_of c.args.arrivals.now)) in
     omega (arith, same, c.requires.few)
 
-pub answer-ret-requires-clause-clones : goal.answer-ret-requires-clause-clones
-answer-ret-requires-clause-clones g c =
-    let same = ap (λ (s : Standing). s.state.own.crew.clones) c.arrive_all.ensures.standing ∙ ap (λ (z : Crew). z.clones) (crew_still (standing_of c.args.self.now) (map arrival_of c.args.arrivals.now)) in
+pub answer_by-ret-requires-clause-clones : goal.answer_by-ret-requires-clause-clones
+answer_by-ret-requires-clause-clones g c =
+    let same = ap (λ (h : Host). (state_of h).own.crew.clones) c.tell_end.ensures.host
+    ∙ (ap (λ (s : Standing). s.state.own.crew.clones) c.arrive_all.ensures.standing ∙ ap (λ (z : Crew). z.clones) (crew_still (standing_of c.args.self.now) (map arrival_of c.args.arrivals.now))) in
     omega (arith, same, c.requires.clones)
 
-pub answer-ret-requires-clause-sends : goal.answer-ret-requires-clause-sends
-answer-ret-requires-clause-sends g c =
-    sends_after (standing_of c.args.self.now) (request c.args.call.now) c.args.self.now.host.sockets c.arrive_all.new.self.host.sockets (length c.args.arrivals.now)
-    c.requires.waits c.arrive_all.ensures.none c.requires.sends
+pub answer_by-ret-requires-clause-sends : goal.answer_by-ret-requires-clause-sends
+answer_by-ret-requires-clause-sends g c =
+    subst (λ (h : Host). CanSend h.sockets (request c.args.call.now)) (sym c.tell_end.ensures.host)
+    (sends_after (standing_of c.args.self.now) (request c.args.call.now) c.args.self.now.host.sockets c.arrive_all.new.self.host.sockets (length c.args.arrivals.now)
+    c.requires.waits c.arrive_all.ensures.none c.requires.sends)
+
+module _ (g : Over) (c : After-tell_end g) where
+  here : standing_of c.tell_end.new.self ≡ unless_vain c.args.vain (arrive_all (standing_of c.args.self.now) (map arrival_of c.args.arrivals.now))
+  here = c.tell_end.ensures.standing ∙ ap (unless_vain c.args.vain) c.arrive_all.ensures.standing
+
+pub returns-clause-answer : goal.returns-clause-answer
+returns-clause-answer g c =
+    let is = here g (goal.at.returns-clause-answer g c).After-tell_end in
+    let back : to_z w32 (of_z w32 c.answer_by-ret.result) ≡ c.answer_by-ret.result = search rules in
+    (λ i. serve_by (sym is i) (request c.args.call.now) (sym c.until-until.ensures i)) ∙ c.answer_by-ret.ensures.answer
+    ∙ (λ i. record { here = standing_of c.answer_by-ret.new.self; ret = sym back i; payload = c.answer_by-ret.new.out.bytes })
 
 pub returns-clause-said : goal.returns-clause-said
 returns-clause-said g c =
-    subst (λ (s : Standing). Adds g.O.Outside.did c.args.outside.now c.say.new.outside (map Says (said s.state (request c.args.call.now) (to_z w32 (of_z w32 c.answer-ret.result)) (state_of c.answer-ret.new.self))))
-    c.arrive_all.ensures.standing (c.say.ensures (state_of c.arrive_all.new.self.host) c.of-mark.ensures)
+    subst (λ (s : Standing). Adds g.O.Outside.did c.args.outside.now c.say.new.outside (map Says (said s.state (request c.args.call.now) (to_z w32 (of_z w32 c.answer_by-ret.result)) (state_of c.answer_by-ret.new.self.host))))
+    (here g (goal.at.returns-clause-said g c).After-tell_end) (c.say.ensures.says (state_of c.tell_end.new.self.host) c.of-mark.ensures)

@@ -11,8 +11,8 @@ use Rattle.nv_arriving.specs.Marks.{mark_of}
 use Rattle.nv_arriving.proofs.Telling.{says_then, says_is}
 use Rattle.nv_arriving.proofs.saying.Mark.say.Goals as goal
 
-pub returns : goal.returns
-returns g c = λ before m.
+pub returns-clause-says : goal.returns-clause-says
+returns-clause-says g c = λ before m.
     let call : Request = request c.args.call.now in
     let net : Net = c.args.host.now.sockets.net in
     let mark : Mark = mark_of before call in
@@ -24,7 +24,7 @@ returns g c = λ before m.
     let ends : closed c.args.self.now.socket c.at.result ≡ closed mark.socket (socket_at net (request_arg call 0)) = λ i. closed (m i).socket (c.at.ensures.is i) in
     let prints : of_bytes Printed c.behind-2.result.now ≡ of_bytes Printed (drop mark.console (state_of c.args.host.now).own.files.console) =
     ap (of_bytes Printed) (c.behind-2.ensures ∙ (λ i. drop (m i).console (c.console.ensures i))) in
-    says_then g.O.Outside.did _ _ _ _ _ (says_is g.O.Outside.did _ _ _ _ made c.say_accepted.ensures)
-    (says_then g.O.Outside.did _ _ _ _ _ (says_is g.O.Outside.did _ _ _ _ bytes c.say_sent.ensures)
-    (says_then g.O.Outside.did _ _ _ _ _ (says_is g.O.Outside.did _ _ _ _ ends c.say_closed.ensures)
-    (says_is g.O.Outside.did _ _ _ _ prints c.say_printed.ensures)))
+    says_then g.O.Outside.did _ _ _ _ _ (says_is g.O.Outside.did _ _ _ _ made c.say_accepted.ensures.says)
+    (says_then g.O.Outside.did _ _ _ _ _ (says_is g.O.Outside.did _ _ _ _ bytes c.say_sent.ensures.says)
+    (says_then g.O.Outside.did _ _ _ _ _ (says_is g.O.Outside.did _ _ _ _ ends c.say_closed.ensures.says)
+    (says_is g.O.Outside.did _ _ _ _ prints c.say_printed.ensures.says)))

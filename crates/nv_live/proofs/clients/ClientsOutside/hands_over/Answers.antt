@@ -6,4 +6,4 @@ pub returns-clause-told : goal.returns-clause-told
 returns-clause-told g c =
     did-hand g.I.Source.took g.I.Source.faults g.O.Sink.told g.O.Sink.faults g.T.Sink.told g.T.Sink.faults
     c.args.self.now (record { coming = c.hand_over.new.self; out = c.args.self.now.out; transcript = c.note_hand.new.self; hand_overs = c.take.new.self }) c.args.length
-    c.hand_over.ensures refl c.note_hand.ensures (search rules) c.take.ensures
+    c.hand_over.ensures.handed refl c.note_hand.ensures (search rules) c.take.ensures

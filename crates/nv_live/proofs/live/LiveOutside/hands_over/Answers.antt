@@ -5,4 +5,5 @@ use Rattle.nv_live.proofs.live.LiveOutside.hands_over.Goals as goal
 pub returns : goal.returns
 returns g c = record {
   told = did-read g.I.Source.took g.I.Source.faults g.O.Sink.told g.O.Sink.faults g.T.Sink.told g.T.Sink.faults c.args.self.now c.args.self.now (λ first arrivals so_far. so_far) refl refl;
+  stays = λ over. over;
 }

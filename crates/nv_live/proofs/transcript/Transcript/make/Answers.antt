@@ -11,4 +11,4 @@ returns g c =
     let made = c.make-writer.result in
     let begun : Written told faults made made [] = puts-nothing (told made.sink) (faults made.sink) c.make-writer.ensures.put in
     subst (λ s. Puts (told s) (faults s) c.args.head.now c.write.new.self.put (told c.write.new.self.sink) (faults c.write.new.self.sink)) c.make-writer.ensures.sink
-    (c.write.ensures made [] begun)
+    (c.write.ensures.text made [] begun)

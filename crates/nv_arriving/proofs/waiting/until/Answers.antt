@@ -1,9 +1,0 @@
-use Rattle.std.proofs.Common.{◌∙◌, sym, arith}
-use Rattle.nv_arriving.proofs.Steps.{until_at, until_all}
-use Rattle.nv_arriving.proofs.waiting.until.Goals as goal
-
-pub returns-in-Some-clause-is : goal.returns-in-Some-clause-is
-returns-in-Some-clause-is c = let h = until_at c.args.want c.args.arrivals.now 0 c.in-Some.place (sym c.first_end.ensures.is ∙ c.in-Some.is) in omega (arith, h)
-
-pub returns-in-None-clause-is : goal.returns-in-None-clause-is
-returns-in-None-clause-is c = sym (until_all c.args.want c.args.arrivals.now 0 (sym c.first_end.ensures.is ∙ c.in-None.is))

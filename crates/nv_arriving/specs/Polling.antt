@@ -1,0 +1,191 @@
+-- ppoll(2): the descriptors of its list that are ready, what it waits for where none is, and what it answers.
+use Rattle.std.specs.Prelude.{ℕ, zero, suc, ◌+◌, ◌*◌, ◌/◌, ◌^◌, min, ℤ, pos, Bool, true, false, not, ◌&&◌, ◌||◌, ◌==◌, nat_lt, nat_le, bit_and, bit_or, List, [], ◌∷◌, ◌++◌, length, Option, Some, None, is_some, slice_index, if◌then◌else◌}
+use Rattle.std.specs.Int.{from_le_bytes, to_le_bytes, w16, w32}
+use Rattle.std.specs.List.{list_any}
+use Rattle.nv_calls.specs.Answers.{polled_count}
+use Rattle.nv_calls.specs.Calls.{Request}
+use Rattle.nv_calls.specs.Errors.{EINTR, EINVAL}
+use Rattle.nv_calls.specs.Limits.{MOST_POLLED}
+use Rattle.nv_fs.specs.Polls.{READABLE, WRITABLE, FAILED, HUNG, when, file_events}
+use Rattle.nv_fs.specs.States.{open_of}
+use Rattle.nv_fs.specs.Waits.{reads_input}
+use Rattle.nv_kernel.specs.Serving.{request_arg}
+use Rattle.nv_sockets.specs.declared.socket.Socket.{Socket}
+use Rattle.nv_sockets.specs.declared.socket.Socket.TheVariants.{Fresh, Bound, Listening, Connected}
+use Rattle.nv_sockets.specs.Sockets.{socket_at, next_at, input_of}
+use Rattle.nv_arrivals.specs.Arrivals.{Arrival, Input, InputEnd, ClientsEnd, Connect, Data, End, Time}
+use Rattle.nv_arriving.specs.declared.polled.Polled.{Polled}
+use Rattle.nv_arriving.specs.declared.timing.Until.{Until}
+use Rattle.nv_arriving.specs.declared.timing.Until.TheVariants as until
+use Rattle.nv_arriving.specs.Standings.{Standing, is_over}
+use Rattle.nv_arriving.specs.Timing.{until_of, is_past, is_reached}
+
+-- ---- the list of a call: 8 bytes for each descriptor (poll(2))
+
+-- its number in 4 of them, and what it is polled for in 2
+unfoldable pub polled_at : List ℕ → ℕ → Polled
+polled_at bytes place = record {
+  fd = from_le_bytes w32 (slice_index bytes (place * 8) ∷ slice_index bytes (place * 8 + 1) ∷ slice_index bytes (place * 8 + 2) ∷ slice_index bytes (place * 8 + 3) ∷ []);
+  events = from_le_bytes w16 (slice_index bytes (place * 8 + 4) ∷ slice_index bytes (place * 8 + 5) ∷ []);
+}
+
+-- so many, from a place on
+abbrev pub polled_from : List ℕ → ℕ → ℕ → List Polled
+polled_from bytes place zero = []
+polled_from bytes place (suc n) = polled_at bytes place ∷ polled_from bytes (place + 1) n
+
+-- as many as the call says and its list has
+abbrev pub count_of : Request → ℕ
+count_of c = min (polled_count (request_arg c 1)) (length c.payload / 8)
+
+abbrev pub polled_by : Request → List Polled
+polled_by c = polled_from c.payload 0 (count_of c)
+
+-- a number below 0 is passed over
+abbrev pub is_passed : Polled → Bool
+is_passed p = nat_le (2 ^ 31) p.fd
+
+abbrev pub asks : Polled → ℕ → Bool
+asks p events = not (bit_and p.events events == 0)
+
+-- ---- what may be told of a descriptor
+
+-- POLLRDHUP: the client has sent all
+abbrev pub SENT_ALL : ℕ
+SENT_ALL = 0x2000
+
+-- POLLNVAL: the descriptor isn't open
+abbrev pub NOT_OPEN : ℕ
+NOT_OPEN = 0x20
+
+-- a write to a connection never waits; a read doesn't where some is left, or the client has sent all
+abbrev pub connected_events : Standing → ℕ → ℕ → ℕ
+connected_events s i read =
+    WRITABLE + (when (is_over s i || nat_lt read (length (input_of s.state.net i))) READABLE + when (is_over s i) SENT_ALL)
+
+abbrev pub socket_events : Standing → Socket → ℕ
+socket_events s Fresh = WRITABLE + HUNG
+socket_events s (Bound port) = WRITABLE + HUNG
+socket_events s (Listening port) = when (is_some (next_at s.state.net port)) READABLE
+socket_events s (Connected i read) = connected_events s i read
+
+abbrev pub events_by : Standing → ℕ → Option Socket → Option ℕ
+events_by s fd None = file_events s.state.own.files s.input_over fd
+events_by s fd (Some socket) = Some (socket_events s socket)
+
+-- None where it isn't open
+unfoldable pub events : Standing → ℕ → Option ℕ
+events s fd = events_by s fd (socket_at s.state.net fd)
+
+-- what it is polled for, and what needs no asking
+abbrev pub told : Polled → Option ℕ → ℕ
+told p None = NOT_OPEN
+told p (Some all) = bit_and all (bit_or p.events (FAILED + HUNG))
+
+abbrev pub told_of : Standing → Polled → ℕ
+told_of s p = if is_passed p then 0 else told p (events s p.fd)
+
+-- of how many something is told
+abbrev pub ready_in : Standing → List Polled → ℕ
+ready_in s [] = 0
+ready_in s (p ∷ ps) = (if told_of s p == 0 then 0 else 1) + ready_in s ps
+
+abbrev pub ready : Standing → Request → ℕ
+ready s c = ready_in s (polled_by c)
+
+-- ---- what ends its wait
+
+-- what comes of a connection: bytes, where a read is asked for, and the end of what the client sends
+abbrev pub comes_to : Polled → ℕ → Arrival → Bool
+comes_to p i (Data client bytes) = (client == i) && asks p READABLE
+comes_to p i (End client) = (client == i) && asks p (READABLE + SENT_ALL)
+comes_to p i _ = false
+
+-- a client, where it is asked for whether one waits
+abbrev pub calls_at : Polled → ℕ → Arrival → Bool
+calls_at p port (Connect other) = (other == port) && asks p READABLE
+calls_at p port _ = false
+
+-- bytes of the input, where a read is asked for; of its end is told unasked
+abbrev pub comes_in : Polled → Arrival → Bool
+comes_in p (Input bytes) = asks p READABLE
+comes_in p InputEnd = true
+comes_in p _ = false
+
+abbrev pub readies_by : Standing → Polled → Arrival → Option Socket → Bool
+readies_by s p a None = reads_input (open_of s.state.own.files p.fd) && comes_in p a
+readies_by s p a (Some Fresh) = false
+readies_by s p a (Some (Bound port)) = false
+readies_by s p a (Some (Listening port)) = calls_at p port a
+readies_by s p a (Some (Connected i read)) = comes_to p i a
+
+-- the arrival makes a descriptor ready that isn't
+unfoldable pub readies : Standing → Arrival → Polled → Bool
+readies s a p = if is_passed p then false else readies_by s p a (socket_at s.state.net p.fd)
+
+-- something may still come of a descriptor that makes it ready: bytes, or their end
+abbrev pub is_source_by : Standing → Polled → Option Socket → Bool
+is_source_by s p None = not s.input_over && reads_input (open_of s.state.own.files p.fd)
+is_source_by s p (Some Fresh) = false
+is_source_by s p (Some (Bound port)) = false
+is_source_by s p (Some (Listening port)) = false
+is_source_by s p (Some (Connected i read)) = not (is_over s i) && asks p (READABLE + SENT_ALL)
+
+unfoldable pub is_source : Standing → Polled → Bool
+is_source s p = if is_passed p then false else is_source_by s p (socket_at s.state.net p.fd)
+
+abbrev pub has_source : Standing → Request → Bool
+has_source s c = list_any (is_source s) (polled_by c)
+
+-- the service is at its end: no client comes, and nothing comes of what is polled
+abbrev pub is_at_end : Standing → Request → Bool
+is_at_end s c = s.clients_over && not (has_source s c)
+
+-- The wait ends with the first arrival that makes one of the descriptors ready, with the time, and, where nothing else comes of what is polled, with the last client.
+unfoldable pub ends_poll : Standing → Request → Arrival → Bool
+ends_poll s c ClientsEnd = not (has_source s c)
+ends_poll s c (Time seconds nanos) = is_reached (until_of s c) seconds nanos
+ends_poll s c a = list_any (readies s a) (polled_by c)
+
+abbrev pub is_bad : Until → Bool
+is_bad until.Bad = true
+is_bad until.Never = false
+is_bad (until.At seconds nanos) = false
+
+-- more descriptors than can be polled, or a time that is none
+abbrev pub is_refused : Request → Until → Bool
+is_refused c u = nat_lt MOST_POLLED (request_arg c 1) || is_bad u
+
+-- it waits
+unfoldable pub poll_waits : Standing → Request → Bool
+poll_waits s c = not (is_refused c (until_of s c)) && ((ready s c == 0) && not (is_at_end s c))
+
+-- ---- what it answers, by the time that was given when it was made
+
+-- A wait that nothing ended is as one that a signal interrupts (EINTR): so is a service told that it is at its end.
+abbrev pub past_answer : Standing → Until → ℤ
+past_answer s until.Never = EINTR
+past_answer s until.Bad = EINTR
+past_answer s (until.At seconds nanos) = if is_past s seconds nanos then pos 0 else EINTR
+
+abbrev pub idle_answer : Standing → Request → Until → ℤ
+idle_answer s c u = if is_at_end s c then EINTR else past_answer s u
+
+abbrev pub poll_ret : Standing → Request → Until → ℤ
+poll_ret s c u = if ready s c == 0 then idle_answer s c u else pos (ready s c)
+
+-- what is told of each, in 2 bytes
+abbrev pub told_in : Standing → List Polled → List ℕ
+told_in s [] = []
+told_in s (p ∷ ps) = to_le_bytes w16 (told_of s p) ++ told_in s ps
+
+abbrev pub told_bytes : Standing → Request → List ℕ
+told_bytes s c = told_in s (polled_by c)
+
+-- an error hands out nothing
+abbrev pub with_bytes : Standing → Request → ℤ → ℤ × List ℕ
+with_bytes s c (pos n) = (pos n, told_bytes s c)
+with_bytes s c ret = (ret, [])
+
+unfoldable pub poll_of : Standing → Request → Until → ℤ × List ℕ
+poll_of s c u = if is_refused c u then (EINVAL, []) else with_bytes s c (poll_ret s c u)

@@ -1,0 +1,122 @@
+// The calls that runs of scripts of the fifth form have, and what they change of others.
+ghost use Rattle.std.specs.Prelude.{◌≡◌, ◌≤◌, ◌<◌, [], length, None, option_map};
+ghost use Rattle.nv_calls.specs.Calls.{request};
+ghost use Rattle.nv_calls.specs.Limits.{MOST_BYTES, MOST_EVENTS};
+ghost use Rattle.nv_calls.specs.Numbers.{syscall_of};
+ghost use Rattle.nv_kernel.specs.Reserved.{CanAnswer, most_out};
+ghost use Rattle.nv_sockets.specs.Reserved.{CanSend};
+ghost use Rattle.nv_arriving.specs.Arriving.{unless_vain, with_end, counted, would_wait, later_as, later, nonblocking_by, noted, serve_by};
+ghost use Rattle.nv_arriving.specs.Views.{standing_of};
+
+use crate::flags::NONBLOCK;
+use crate::guests::GuestSide;
+use crate::timing::Until;
+use nv_calls::errors::EAGAIN;
+use nv_calls::{Bytes, Call, Syscall};
+
+#[tactic(auto, unfolding(crate::specs::Arriving::later, crate::specs::Arriving::serve_by))]
+impl GuestSide {
+    // Whether a read or the like would wait, but for its descriptor, whose calls never do.
+    fn would_wait(&self, syscall: Syscall, call: &Call) -> bool
+        ensures { result ≡ would_wait syscall (standing_of self.now) (request call.now) }
+    {
+        self.is_nonblocking(call.args[0]) && self.wants_on(syscall, call).is_some()
+    }
+
+    fn answer_as(&mut self, call: &Call, until: Until, out: &mut Bytes) -> Option<i32>
+        requires empty { out.old.bytes ≡ [] }
+        requires capacity { MOST_BYTES ≤ out.old.capacity }
+        ensures answer { later_as (syscall_of call.now.nr) (standing_of self.old) (request call.now) until ≡ option_map (λ ret. record { here = counted (standing_of self.new); ret = ret; payload = out.new.bytes }) result }
+        ensures none { result ≡ None → self.new ≡ self.old }
+        ensures capacity { out.new.capacity ≡ out.old.capacity }
+        ensures served { (standing_of self.new).state.own.served ≡ (standing_of self.old).state.own.served }
+    {
+        let args = call.args;
+        let syscall = Syscall::of(call.nr);
+        match syscall {
+            Syscall::Fcntl => Some(self.control(args[0], args[1], args[2])),
+            Syscall::ClockNanosleep => Some(self.sleep(until)),
+            Syscall::Ppoll => Some(self.poll(call, until, out)),
+            _ => if self.would_wait(syscall, call) {
+                Some(EAGAIN)
+            } else {
+                None
+            },
+        }
+    }
+
+    // What takes the place of the answer of the kernel whose calls wait for one thing, where something does.
+    fn answer_later(&mut self, call: &Call, until: Until, out: &mut Bytes) -> Option<i32>
+        requires capacity { MOST_BYTES ≤ out.old.capacity }
+        requires room { (standing_of self.old).state.own.served < MOST_EVENTS }
+        ensures answer { later (standing_of self.old) (request call.now) until ≡ option_map (λ ret. record { here = standing_of self.new; ret = ret; payload = out.new.bytes }) result }
+        ensures none { result ≡ None → self.new ≡ self.old }
+        ensures capacity { out.new.capacity ≡ out.old.capacity }
+    {
+        if !self.polls || call.bad {
+            return None;
+        }
+        out.set(&[]);
+        let ret = self.answer_as(call, until, out)?;
+        self.host.devices.served += 1;
+        Some(ret)
+    }
+
+    // A new socket's calls never wait, or do, as its flags say.
+    fn note(&mut self, call: &Call, ret: i32)
+        ensures standing { standing_of self.new ≡ noted (standing_of self.old) ret (nonblocking_by (syscall_of call.now.nr) (request call.now)) }
+        ensures host { self.new.host ≡ self.old.host }
+    {
+        if ret < 0 {
+            return;
+        }
+        let fd = ret as u32;
+        match Syscall::of(call.nr) {
+            Syscall::Socket => self.nonblocking.set(fd, call.args[1] & NONBLOCK != 0),
+            Syscall::Accept => self.nonblocking.set(fd, false),
+            Syscall::Accept4 => self.nonblocking.set(fd, call.args[3] & NONBLOCK != 0),
+            _ => {}
+        }
+    }
+
+    /// The answer of a call whose wait is over at this time.
+    pub(crate) fn answer_by(&mut self, call: &Call, until: Until, out: &mut Bytes) -> i32
+        requires ready { CanAnswer self.old.host.devices.files (request call.now) }
+        requires sends { CanSend self.old.host.sockets (request call.now) }
+        requires few { (standing_of self.old).state.own.served < MOST_EVENTS }
+        requires capacity { MOST_BYTES ≤ out.old.capacity }
+        requires clones { (standing_of self.old).state.own.crew.clones < MOST_EVENTS }
+        ensures answer { serve_by (standing_of self.old) (request call.now) until ≡ record { here = standing_of self.new; ret = result; payload = out.new.bytes } }
+        ensures capacity { out.new.capacity ≡ out.old.capacity }
+        ensures few { length out.new.bytes ≤ most_out (request call.now) }
+    {
+        if let Some(ret) = self.answer_later(call, until, out) {
+            return ret;
+        }
+        let ret = self.host.answer(call, out);
+        if self.polls {
+            self.note(call, ret);
+        }
+        ret
+    }
+
+    // Nothing more comes of anything.
+    fn end_all(&mut self)
+        ensures standing { standing_of self.new ≡ with_end (standing_of self.old) }
+        ensures host { self.new.host ≡ self.old.host }
+    {
+        self.input_over = true;
+        self.clients_over = true;
+        self.overs.clear();
+    }
+
+    /// Where a call waits in vain, nothing more comes of anything.
+    pub(crate) fn tell_end(&mut self, vain: bool)
+        ensures standing { standing_of self.new ≡ unless_vain vain (standing_of self.old) }
+        ensures host { self.new.host ≡ self.old.host }
+    {
+        if vain && self.polls {
+            self.end_all();
+        }
+    }
+}
