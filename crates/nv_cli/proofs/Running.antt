@@ -27,20 +27,20 @@ log_is_short rules start most hands olds news log a =
 
 -- versions that begin with these machines, and the script's planned lengths
 pub run_of : (limits : Limits) (setup : Setup) (rules : Option (List Op)) (machines : List Machine) (hands : List ℕ) (olds news : List (Running Proc)) (log : List Entry) → hands ≡ setup.hands
-    → IsAccount threads (judge_of rules) (start_from setup) limits.calls hands olds news log → map process_of olds ≡ map (process_begun limits) machines
+    → IsAccount threads (judge_of rules) (start_from setup) limits.calls hands olds news log → map process_of olds ≡ map (process_begun limits setup) machines
     → IsRunOf limits setup rules machines (record { log = log; lines = map standing_of news })
 run_of limits setup rules machines hands olds news log planned a are =
     let start = start_from setup in
     let cuts = cuts_of (map standing_of news) in
     let account : Account = record { log = log; lines = map standing_of news } in
-    let is : account ≡ sequence threads (judge_of rules) start limits.calls cuts setup.hands (map (process_begun limits) machines) =
+    let is : account ≡ sequence threads (judge_of rules) start limits.calls cuts setup.hands (map (process_begun limits setup) machines) =
     a.account ∙ ap (λ (hs : List ℕ). sequence threads (judge_of rules) start limits.calls cuts hs (map process_of olds)) planned
     ∙ ap (λ (ps : List Proc). sequence threads (judge_of rules) start limits.calls cuts setup.hands ps) are in
     record {
       is_account = is;
       settled = a.settled;
       covers = a.covers;
-      unplanned = settled_unplanned threads (judge_of rules) start limits.calls cuts thread_laws setup.hands (map (process_begun limits) machines) account is a.settled;
+      unplanned = settled_unplanned threads (judge_of rules) start limits.calls cuts thread_laws setup.hands (map (process_begun limits setup) machines) account is a.settled;
       survivor = subst (λ (ps : List Proc). SurvivorsAgree threads start limits.calls setup.hands ps (map standing_of news) log) are
           (subst (λ (hs : List ℕ). SurvivorsAgree threads start limits.calls hs (map process_of olds) (map standing_of news) log) planned a.survivor);
     }

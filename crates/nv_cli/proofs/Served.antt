@@ -1,12 +1,12 @@
 -- What a live run's account, its log and what is left of its streams say together.
-use Rattle.std.proofs.Common.{◌≡◌, ◌∙◌, refl, sym, ap, subst, ℕ, Bool, true, false, List, [], ◌++◌, Option, Some, Result, Ok, map}
+use Rattle.std.proofs.Common.{◌≡◌, ◌∙◌, refl, sym, ap, subst, ℕ, Bool, true, false, List, [], ◌++◌, Option, Some, is_some, Result, Ok, map, ◌⊎◌, ⊎_elim, inl, inr}
 use Rattle.std.specs.List.{All, list_all}
 use Rattle.std.specs.Result.{is_ok}
 use Rattle.std.proofs.lemmas.Bool.{and_parts}
 use Rattle.nv_arrivals.specs.Arrivals.{Arrival, is_arrival, BringsBytes}
 use Rattle.nv_arrivals.specs.Order.{are_orderly, are_arrivals}
 use Rattle.nv_arrivals.specs.Doings.{Doing, Takes, takings, sayings, handings, exchanges}
-use Rattle.nv_arriving.specs.Arriving.{first_stage, stage_after, start_of_arrivals}
+use Rattle.nv_arriving.specs.Arriving.{first_stage, stage_after, start_of_arrivals, Satisfied}
 use Rattle.nv_arriving.specs.Doings.{doings}
 use Rattle.nv_arriving.specs.Kernel.{Coming}
 use Rattle.nv_arriving.specs.Scripted.{start_from}
@@ -18,7 +18,7 @@ use Rattle.nv_command.specs.Words.{Limits}
 use Rattle.nv_kernel.specs.Logged.{Logged}
 use Rattle.nv_live.specs.Lines.{held_text}
 use Rattle.nv_live.specs.Live.{stop_with}
-use Rattle.nv_live.specs.Run.{CameBy, said_text, DidRun, IsBegun, hands_by, input_of, output_of, line_of, held_by, stop_of_run, source_stop}
+use Rattle.nv_live.specs.Run.{CameBy, said_text, DidRun, IsBegun, hands_by, input_of, output_of, line_of, held_by, stop_of_run, source_stop, IsOver}
 use Rattle.nv_live.specs.Telling.{Told}
 use Rattle.nv_live.specs.Transcript.{notes_on, continued_with}
 use Rattle.nv_live.specs.Writer.{sink_in, put_of}
@@ -118,8 +118,9 @@ module _ {I O T : Type 0} (took : I → Option (List (List ℕ))) (unread : I �
 
     -- what was done over the run of a log
     lived : (arrivals : List Arrival) (log : List Entry) (late : Bool) (done : List Doing) → IsTold (DidRun took unread said unsaid noted unnoted) first later setup arrivals log late done
+        → Satisfied (first_stage setup arrivals) (calls_of log) ⊎ IsOver later
         → Lived clients (with_arrivals setup arrivals) log ending (streams_of took unread said unsaid noted unnoted before) (streams_of took unread said unsaid noted unnoted after)
-    lived arrivals log late done t =
+    lived arrivals log late done t waited =
         let s = shown took unread said unsaid noted unnoted first later done t.is in
         let came = came_by (takings done) (handings done) (told took unread said unsaid noted unnoted first) begun s.came in
         let planned = s.planned setup.hands sound (begun.hands_are ∙ ap (λ way. hands_by way setup.hands) (sym begun.way)) in
@@ -134,6 +135,7 @@ module _ {I O T : Type 0} (took : I → Option (List (List ℕ))) (unread : I �
           held = held_by later;
           came = came;
           said = put_of (output_of later);
+          waited = ⊎_elim (λ satisfied. inl satisfied) (λ over. inr (ap is_some (sym (stops later)) ∙ over)) waited;
           written = written_by done (told took unread said unsaid noted unnoted first) begun s.written;
           head = head;
           begins = begins.says ∙ bare setup none;
@@ -148,14 +150,15 @@ module _ {I O T : Type 0} (took : I → Option (List (List ℕ))) (unread : I �
   pub served_by : (limits : Limits) (clients : Bool) (setup : Setup) (head : List ℕ) (rules : Option (List Op)) (hands : List ℕ) (versions : List (Running Proc)) (machines : List Machine)
       (before after : Held I O T) (ending : Ending) (kernel : Logged (Coming (LiveRun I O T))) (account : Ran (Logged (Coming (LiveRun I O T)))) (sink : Option (List ℕ)) (faults status : ℕ)
       → status ≡ run_status (map standing_of account.versions.items)
-      → map process_of versions ≡ map (process_begun limits) machines → is_script setup ≡ true → IsTranscript head setup → setup.arrivals ≡ [] → IsPlanned setup hands
+      → map process_of versions ≡ map (process_begun limits setup) machines → is_script setup ≡ true → IsTranscript head setup → setup.arrivals ≡ [] → IsPlanned setup hands
       → IsBegunOver took unread said unsaid noted unnoted clients setup head before kernel
       → RanOver (told took unread said unsaid noted unnoted) clients kernel rules limits.calls hands versions account
       → Tells (DidRun took unread said unsaid noted unnoted) account.kernel.answers.begun account.kernel.answers.outside account.kernel.setup account.kernel.answers.came account.kernel.log account.kernel.answers.late
+      → Satisfied (first_stage account.kernel.setup account.kernel.answers.came) (calls_of account.kernel.log) ⊎ IsOver account.kernel.answers.outside
       → HasLeft noted unnoted account.kernel.answers.outside after ending
       → Served limits clients setup rules machines (streams_of took unread said unsaid noted unnoted before) sink faults status sink faults
       (Some (streams_of took unread said unsaid noted unnoted after, ending))
-  served_by limits clients setup head rules hands versions machines before after ending kernel account sink faults status ends are script begins none planned begun ran tells left =
+  served_by limits clients setup head rules hands versions machines before after ending kernel account sink faults status ends are script begins none planned begun ran tells waited left =
       let k = account.kernel in
       let set : k.setup ≡ setup = ap (λ b. b.setup) ran.same ∙ begun.setup_is in
       let sound = (script-keeps setup script).hands in
@@ -177,5 +180,6 @@ module _ {I O T : Type 0} (took : I → Option (List (List ℕ))) (unread : I �
         ending = ending;
         left_is = refl;
         lived = lived clients setup sound head begins none before after k.answers.begun k.answers.outside first ending left k.answers.came k.log k.answers.late all.0
-            (subst (λ s. IsTold (DidRun took unread said unsaid noted unnoted) k.answers.begun k.answers.outside s k.answers.came k.log k.answers.late all.0) set all.1);
+            (subst (λ s. IsTold (DidRun took unread said unsaid noted unnoted) k.answers.begun k.answers.outside s k.answers.came k.log k.answers.late all.0) set all.1)
+            (subst (λ s. Satisfied (first_stage s k.answers.came) (calls_of k.log) ⊎ IsOver k.answers.outside) set waited);
       }

@@ -22,15 +22,16 @@
 -- The clause `rejects`: files that are told up to one that is refused have it named, or memory wanted, or a write failed.
 -- The call of `main`, `nv_cli::program`: the words of the process, or why there are none, come to such an outcome too, and at the end the whole text stands on the sink, or just one write failed.
 -- And what these stand on, by crate and file. (.ci/headline.py --write makes the lines from here on.)
-use Rattle.nv_calls.specs.Answers.{most_out_by, answer_slot}
+use Rattle.nv_calls.specs.Answers.{polled_count, most_out_by, answer_slot}
 use Rattle.nv_calls.specs.Calls.{Request, Response, Entry, status_of, is_same}
 use Rattle.nv_calls.specs.Constants.{result_alone, utsname_field, names, system, directory, process, parent, user, unless_bad, constant_by, constant_of}
-use Rattle.nv_calls.specs.Errors.{ENOENT, EBADF, EAGAIN, EFAULT, EEXIST, ENOTDIR, EINVAL, EMFILE, ENOTTY, EFBIG, ENOSPC, ESPIPE, EPIPE, ERANGE, ENAMETOOLONG, ENOSYS, ENOTSOCK, EADDRINUSE, ENOTCONN}
+use Rattle.nv_calls.specs.Errors.{ENOENT, EINTR, EBADF, EAGAIN, EFAULT, EEXIST, ENOTDIR, EINVAL, EMFILE, ENOTTY, EFBIG, ENOSPC, ESPIPE, EPIPE, ERANGE, ENAMETOOLONG, ENOSYS, ENOTSOCK, EADDRINUSE, ENOTCONN}
 use Rattle.nv_calls.specs.Held.{Held}
-use Rattle.nv_calls.specs.Limits.{MOST_BYTES, MOST_VECTORS, MOST_PATH, MOST_ADDRESS, FIRST_THREAD, MOST_THREADS, MOST_EVENTS}
+use Rattle.nv_calls.specs.Limits.{MOST_BYTES, MOST_VECTORS, MOST_PATH, MOST_ADDRESS, MOST_POLLED, TIME_BYTES, POLLED_BYTES, EVENTS_BYTES, FIRST_THREAD, MOST_THREADS, MOST_EVENTS}
 use Rattle.nv_calls.specs.Logs.{made, child_of, with_child, live_next, live_from, live_after, Written, Start, call_of, calls_of, served, output_of, connections_of}
-use Rattle.nv_calls.specs.Numbers.{CLONE, EXIT, EXIT_GROUP, Row, row, table, syscall_in, syscall_of, slots_by, has_range, is_of_threads, is_local}
-use Rattle.nv_calls.specs.Shapes.{is_plain, are_plain, kept_slots, most_of_vectors, is_capacity, is_path, is_payload, is_shaped_as, is_shaped}
+use Rattle.nv_calls.specs.Numbers.{CLONE, EXIT, EXIT_GROUP, Row, row, table, syscall_in, syscall_of, slots_by, has_range, is_of_threads, is_local, is_later}
+use Rattle.nv_calls.specs.Profiles.{bare, in_profile}
+use Rattle.nv_calls.specs.Shapes.{is_plain, are_plain, kept_slots, most_of_vectors, is_capacity, is_path, is_polled, is_payload, is_shaped_as, is_shaped}
 use Rattle.nv_text.specs.Fields.{is_space, is_not_space, first_word, without_first, rest_of, fields}
 use Rattle.nv_text.specs.Lines.{is_newline, lines, line_number, is_blank, is_not_blank, trim_start, trim_end, trim, is_comma, operands_of, operands, is_letter, is_digit, is_name_byte, begins_name, is_name, Parts, prefix, rest_after, line_with, after_name, parted, line_of}
 use Rattle.nv_text.specs.Names.{defined, defining, definitions, or_later, first_fault}
@@ -52,9 +53,9 @@ use Rattle.nv_machine.specs.Registers.{Registers, written, fresh_registers}
 use Rattle.nv_elf.specs.Elf.{Range, Executable, ElfOf, entry_at, table_at, table_len, has_magic, has_class, has_versions, has_table, file_fault, header_at, headers_from, headers_of, is_loadable, loadables_of, is_interpreted, table_fault, is_outside, Extent, extent_of, shares, overlap_from, holds_entry, can_be_entry, overlap_fault, loadables_fault, elf_fault, range_in, executable_in, elf_unless, elf_of}
 use Rattle.nv_elf.specs.Faults.{elf_text}
 use Rattle.nv_elf.specs.Written.{file_header, flags_of, program_header, padding, table_from, contents_from, contents_at, elf_bytes}
-use Rattle.nv_guest.specs.Answers.{with_byte, with_each_byte, targets_with, targets_at, scattered}
+use Rattle.nv_guest.specs.Answers.{with_byte, with_each_byte, targets_with, targets_at, scattered, with_events}
 use Rattle.nv_guest.specs.Block.{strings, addresses, words, all_arguments, strings_start, stack_pointer, stack_words, with_block}
-use Rattle.nv_guest.specs.Calls.{argument, call_number, kept, all_kept, values, values_with, out_of, vector_count, first_bytes, written_bytes, address_in, path_in, vectors_in, capacity_in, Handed, refused, with_payload, with_capacity, with_out, handed, call_by, call_at, stored_at, memory_after, past_call, with_answer}
+use Rattle.nv_guest.specs.Calls.{argument, call_number, kept, all_kept, values, values_with, out_of, vector_count, first_bytes, written_bytes, address_in, readable, timeout_in, both, polled_bytes, path_in, vectors_in, capacity_in, Handed, refused, with_payload, with_capacity, with_out, polled_in, handed, call_by, call_at, stored_at, memory_after, past_call, with_answer}
 use Rattle.nv_guest.specs.Faults.{guest_text}
 use Rattle.nv_guest.specs.Guest.{one_thread}
 use Rattle.nv_guest.specs.Heap.{moved}
@@ -70,6 +71,7 @@ use Rattle.nv_fs.specs.Ends.{free_pipe, with_empty, with_ends, free_above, pipe_
 use Rattle.nv_fs.specs.Fetched.{hand_out, read_input, read_file, pipe_at, with_pipe, read_pipe, read_target, read_open, read_of}
 use Rattle.nv_fs.specs.Names.{Resolved, is_cwd, is_open_at, is_absolute, name_in, is_named, file_of, component_of, name_of, resolved}
 use Rattle.nv_fs.specs.Opened.{has_flag, opened, open_file, truncated, free_file, with_file, create, open_at_descriptor, exclusive_error, open_unless, open_resolved, open_at_of, unlinked, unlink_file, unlink_resolved, unlink_at_of}
+use Rattle.nv_fs.specs.Polls.{READABLE, WRITABLE, FAILED, HUNG, when, input_events, reader_events, writer_events, target_events, file_events, access_of, flags_of as nv_fs_flags_of, file_flags}
 use Rattle.nv_fs.specs.Seeks.{bytes_of, plus_signed, base_of, seek_to, seek_from, seek_target, seek_open, seek_of}
 use Rattle.nv_fs.specs.Starts.{first_descriptors, first_opens, first_state}
 use Rattle.nv_fs.specs.States.{Inode, FileState, Answer, answer, only, numbered, open_of, is_open, one_way, is_target, opens_to, has_open, is_numbered, is_shared, file_at, is_kept, is_pipe, least_free, with_at, free_open, install, moved_to}
@@ -82,7 +84,7 @@ use Rattle.nv_arrivals.specs.Order.{Came, nothing_came, input_going, input_ended
 use Rattle.nv_arrivals.specs.Pieces.{cut_after, pieces, input_of}
 use Rattle.nv_arrivals.specs.Reading.{words as nv_arrivals_words, word_of, is_word, is_timeless, is_timeless_word, sized, bytes_of as nv_arrivals_bytes_of, line_arrival, input_with, connect_with, data_with, data_parts, data_in, end_with, end_of, time_with, time_parts, time_in, arrival_by, arrival_with, arrival_of}
 use Rattle.nv_arrivals.specs.Writing.{is_printable, front, is_line, input_text, line_text}
-use Rattle.nv_script.specs.Entry.{Entry as nv_script_Entry, form_of, is_printable as nv_script_is_printable, is_argument, is_file_byte, is_dots, is_file_name, entry_kinds, in_form, kind_of, shaped, argument_entry, file_with, file_entry, clock_fits, clock_entry, clock_with, clock_of, is_hand, hand_entry, hand_with, is_port as nv_script_is_port, connection_entry, connection_with, connection_of, entry_by, entry_with, is_passed_over, cause_of, arrives, begins_arrival, entry_of}
+use Rattle.nv_script.specs.Entry.{Entry as nv_script_Entry, form_of, is_fifth, is_printable as nv_script_is_printable, is_argument, is_file_byte, is_dots, is_file_name, entry_kinds, in_form, kind_of, shaped, argument_entry, file_with, file_entry, clock_fits, clock_entry, clock_with, clock_of, is_hand, hand_entry, hand_with, is_port as nv_script_is_port, connection_entry, connection_with, connection_of, entry_by, entry_with, is_passed_over, cause_of, arrives, begins_arrival, entry_of}
 use Rattle.nv_script.specs.HandLines.{hand_line}
 use Rattle.nv_script.specs.Scripts.{Named, Incoming, Setup, Draft, blank, has_name, with_argument, with_input, with_named_file, with_clock, with_seed, has_hand, with_hand, with_connection, with_came, with_arrival, with_entry, with_result, with_script_line, onward as nv_script_onward, drafted, no_clock, setup_with, finished, finished_result, no_form, script_in, script_of_lines, script_of}
 use Rattle.nv_script.specs.Texts.{cause_word, script_fault_text}
@@ -98,14 +100,19 @@ use Rattle.nv_live.specs.Transcript.{hand_text, note_of, notes_on}
 use Rattle.nv_kernel.specs.Crew.{Crew, first_crew, may_clone, clone_as, clone_of, exit_of, with_none_live}
 use Rattle.nv_kernel.specs.Serving.{State, Served, replied, always, of_files, of_crew, counted, request_arg, second, time_bytes, time_of, reached, next_random, high_byte, randoms, random_after, randomly, control, unless_many, clock, answered, unless_bad as nv_kernel_unless_bad, serve, named_inode, first_state as nv_kernel_first_state}
 use Rattle.nv_sockets.specs.Coming.{connected, with_data}
-use Rattle.nv_sockets.specs.Serving.{of_open, unless_many as nv_sockets_unless_many, answered as nv_sockets_answered, unless_bad as nv_sockets_unless_bad, or_own, State as nv_sockets_State, Served as nv_sockets_Served, beside, joined, serve as nv_sockets_serve, reply_of, link_written, link_from, port_from, first_net, first_state as nv_sockets_first_state}
-use Rattle.nv_sockets.specs.Sockets.{Link, Net, Answer as nv_sockets_Answer, answer as nv_sockets_answer, only as nv_sockets_only, no_sockets, socket_at, fault_of, on_socket, with_socket, free_place, socket_opened, are_flags, is_stream, is_tcp, made_at, socket_of, port_by, port_in, is_size, has_port, is_used, bind_to, bind_socket, bind_of, listen_socket, listen_of, waits_at_port, next_at, with_accepted, accept_next, accept_socket, accept_flagged, accept_of, link_at, input_of as nv_sockets_input_of, link_output, read_link, read_socket, with_output, write_link, write_socket, close_socket}
+use Rattle.nv_sockets.specs.Serving.{of_open, unless_many as nv_sockets_unless_many, answered as nv_sockets_answered, unless_bad as nv_sockets_unless_bad, or_own, State as nv_sockets_State, Served as nv_sockets_Served, beside, joined, serve as nv_sockets_serve, link_written, link_from, port_from, first_net, first_state as nv_sockets_first_state}
+use Rattle.nv_sockets.specs.Sockets.{Link, Net, Answer as nv_sockets_Answer, answer as nv_sockets_answer, only as nv_sockets_only, socket_count, no_sockets, socket_at, fault_of, on_socket, with_socket, free_place, socket_opened, are_flags, is_stream, is_tcp, made_at, socket_of, port_by, port_in, is_size, has_port, is_used, bind_to, bind_socket, bind_of, listen_socket, listen_of, waits_at_port, next_at, with_accepted, accept_next, accept_socket, accept_flagged, accept_of, link_at, input_of as nv_sockets_input_of, link_output, read_link, read_socket, with_output, write_link, write_socket, close_socket}
 use Rattle.nv_sockets.specs.Texts.{connection_count_text, connection_text, connection_texts, connections_text}
-use Rattle.nv_arriving.specs.Arrivals.{ends, until, taken_for}
-use Rattle.nv_arriving.specs.Arriving.{Standing, wants_input, is_over, wants_data, read_wants, wants_client, accept_wants, wants_as, wants, with_input as nv_arriving_with_input, with_net, at_time, arrive, arrive_all, Stage, taken, ready_for, with_state as nv_arriving_with_state, answer_next, serve_next, stage_after, start_at, first_standing, first_stage, start_of_arrivals}
+use Rattle.nv_arriving.specs.Arrivals.{ends, any_ends, until, taken_for, in_vain}
+use Rattle.nv_arriving.specs.Arriving.{wants_input, wants_data, read_wants, wants_client, accept_wants, wants_on, wants_as, wants, wait_of, with_input as nv_arriving_with_input, with_net, arrive, arrive_all, with_end, unless_vain, Reached, counted as nv_arriving_counted, reached_by, polled, would_wait, later_as, later, nonblocking_by, noted, note, own_answer as nv_arriving_own_answer, or_own as nv_arriving_or_own, serve_by, Stage, taken, ready_for, answer_next, serve_next, stage_after, Satisfied, reply_by, start_at, first_standing, first_stage, start_of_arrivals}
 use Rattle.nv_arriving.specs.Doings.{of_bytes, socket_by, accepted_as, accepted, written as nv_arriving_written, sent, closed, said, doings_of, doings_from, doings}
+use Rattle.nv_arriving.specs.Flags.{NONBLOCK, is_nonblocking_by, is_nonblocking, flags_by, flags, flags_set, with_flags, control_open, control_by, control_of}
 use Rattle.nv_arriving.specs.Kernel.{after as nv_arriving_after}
+use Rattle.nv_arriving.specs.NonBlocking.{each_waits, is_nonblocking_socket, with_socket as nv_arriving_with_socket}
+use Rattle.nv_arriving.specs.Polling.{polled_at, polled_from, count_of as nv_arriving_count_of, polled_by, is_passed as nv_arriving_is_passed, asks as nv_arriving_asks, SENT_ALL, NOT_OPEN, connected_events, socket_events, events_by, events, told, told_of as nv_arriving_told_of, ready_in, ready, comes_to, calls_at, comes_in, readies_by, readies, is_source_by, is_source, has_source, is_at_end, ends_poll, is_bad, is_refused, poll_waits, past_answer, idle_answer, poll_ret, told_in, told_bytes, with_bytes as nv_arriving_with_bytes, poll_of}
 use Rattle.nv_arriving.specs.Scripted.{start_from, stage_from}
+use Rattle.nv_arriving.specs.Standings.{Standing, is_over, with_state as nv_arriving_with_state}
+use Rattle.nv_arriving.specs.Timing.{word, time_in as nv_arriving_time_in, now, at, after_time, after as nv_arriving_Timing_after, poll_until, is_clock, base, sleep_until, until_as, until_of, is_past, reaches, is_reached, sleep_wants, with_time, slept}
 use Rattle.nv_bpf.specs.Actions.{actions, action_of}
 use Rattle.nv_bpf.specs.Faults.{filter_text}
 use Rattle.nv_bpf.specs.Texts.{at_most, field, op_with, op_of_fields, op_of, put_first, with_line, ops_of, line_count, ops_after, ops_of_lines, ops_of_text, filter_with, filter_of, ended_number, op_text, ops_text}
@@ -130,9 +137,9 @@ use Rattle.nv_report.specs.Json.{natural, integer, list_value, hex_value, word_j
 use Rattle.nv_report.specs.Numbers.{number_text}
 use Rattle.nv_report.specs.Report.{head_text, count_text, fates_text, report_text}
 use Rattle.nv_report.specs.Versions.{kind_text, fault_text, refusal_text, fate_text, end_text, prefix_text, seen_text, span_text, next_span_text, led_text, rewrites_text, rest_text, line_text as nv_report_line_text, lines_text}
-use Rattle.nv_asm.specs.Assembled.{Whole, text_base, data_base, base, address, address_of, is_undefined, is_entry_place, is_entry, word_lacks, code_lacks, lacks, distance, word_value, code_words, le_words, content, is_earlier, is_twice, is_long, padding_before, padded, laid_by, laid, cause_of as nv_asm_cause_of, bytes_or_none, laid_in, section_bytes, entry_past, entry_address, text_range, data_ranges, laid_program, first_cause, meaning_by, meaning, whole_of, assembled_lines, assembled}
+use Rattle.nv_asm.specs.Assembled.{Whole, text_base, data_base, base as nv_asm_base, address, address_of, is_undefined, is_entry_place, is_entry, word_lacks, code_lacks, lacks, distance, word_value, code_words, le_words, content, is_earlier, is_twice, is_long, padding_before, padded, laid_by, laid, cause_of as nv_asm_cause_of, bytes_or_none, laid_in, section_bytes, entry_past, entry_address, text_range, data_ranges, laid_program, first_cause, meaning_by, meaning, whole_of, assembled_lines, assembled}
 use Rattle.nv_asm.specs.Faults.{asm_word, asm_text}
-use Rattle.nv_asm.specs.Forms.{same_form, has_form, flags, each_order, kinds}
+use Rattle.nv_asm.specs.Forms.{same_form, has_form, flags as nv_asm_flags, each_order, kinds}
 use Rattle.nv_asm.specs.Numbers.{registers, numbered_register, register_named, decimal, hexadecimal, magnitude, signed, literal, is_number, within, number, number_of_12_bits, number_of_32_bits, number_of_8_bits}
 use Rattle.nv_asm.specs.Places.{here_by, here, filled, among_data, in_section, or_blank, code_size, size, begin, past, Placed, stated, place, after as nv_asm_after, line_parts, placed_parts, placed_line, placed, nothing_reached, ended, marked}
 use Rattle.nv_asm.specs.Statements.{Word, Code, Statement, insn, single, with_number, upper_of, lower_of, loading, ◌>>=◌, name, is_not_open, closed as nv_asm_closed, enclosed, base_register, displacement, sole_register, registers_of, immediate_of, shift_of, load_of, store_of, reserved_statement, atomic_of, branch_of, jump_and_link_of, upper_number_of, load_number_of, load_address_of, move_of, jump_of, zeros, zeros_of, entry_statement, of_none, of_one, of_two, of_three, formed, is_within, number_or_zero, is_byte, byte_of, bytes_within, bytes_of as nv_asm_bytes_of, is_item, is_word as nv_asm_is_word, word_of as nv_asm_word_of, words_within, words_of, kind_read, stated as nv_asm_stated, statement_begun, statement}
@@ -140,7 +147,7 @@ use Rattle.nv_asm.specs.Strings.{escape, at_end, escaped_mark, mark, quoted, str
 use Rattle.nv_bpf_asm.specs.Assembled.{is_not_comment, line_parts as nv_bpf_asm_line_parts, word_count, count, labels, Find, is_earlier as nv_bpf_asm_is_earlier, is_twice as nv_bpf_asm_is_twice, way, near_way, jump_by, jump_op, branch_by, branch_op, op_of as nv_bpf_asm_op_of, op_after, some_op, op_of_word, op_of_parts, op_of_line, put_first as nv_bpf_asm_put_first, with_line as nv_bpf_asm_with_line, ops_of as nv_bpf_asm_ops_of, of_filter, filter_with as nv_bpf_asm_filter_with, assembled as nv_bpf_asm_assembled}
 use Rattle.nv_bpf_asm.specs.Faults.{rule_word, rules_text}
 use Rattle.nv_bpf_asm.specs.Statements.{Statement as nv_bpf_asm_Statement, forms, after_prefix, closed as nv_bpf_asm_closed, constant, between, of_event, plain, sum_of, return_of, load_of as nv_bpf_asm_load_of, load_index_of, jump_of as nv_bpf_asm_jump_of, choice_of, branch_of as nv_bpf_asm_branch_of, formed as nv_bpf_asm_formed, stated as nv_bpf_asm_stated, statement as nv_bpf_asm_statement}
-use Rattle.nv_gen.specs.Made.{Numbers, numbers_of, Call, Ending, Course, write_text, calls_getuid, calls_at, calls_to, course, courses_to, script, rules, Totals, named_number, summary}
+use Rattle.nv_gen.specs.Made.{Numbers, numbers_of, Call, Ending, Course, write_text, calls_getuid, calls_at as nv_gen_calls_at, calls_to, course, courses_to, script, rules, Totals, named_number, summary}
 use Rattle.nv_gen.specs.Programs.{sets, points, ecall, ebreak, write_insns, getuid_insns, exit_insns, insns_of, last_insns, insns, insn_bytes, code_of, block, segment_bytes, course_range, program, programs_to, programs}
 use Rattle.nv_trace.specs.Checks.{is_live, is_reply, entry_fault, faults_after, check_fault}
 use Rattle.nv_trace.specs.Faults.{has_head, head_fault, event_fault, events_fault, trace_fault}

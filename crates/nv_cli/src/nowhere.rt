@@ -16,6 +16,8 @@ impl Source for Nowhere {
     fn read(&mut self, _room: &mut [u8]) -> Read {
         Read::Count(0)
     }
+
+    fn waits_to(&mut self, _seconds: u32, _nanos: u32) {}
 }
 
 impl Sink for Nowhere {

@@ -53,7 +53,7 @@ fn record_versions<R: Threads + Wait + Sync, S: Sink, G: Gate + Sync>(
     requires few { length versions.items ≤ 8 }
     requires short { limits.calls ≤ 131072 }
     requires planned { IsPlanned kernel.setup hands.now.items }
-    ensures { (machines : List Machine) → map process_of versions.items ≡ map (process_begun (limits_view limits)) machines
+    ensures { (machines : List Machine) → map process_of versions.items ≡ map (process_begun (limits_view limits) kernel.setup) machines
         → RecordSays (limits_view limits) kernel.setup (option_map (λ f. f.now) rules.entry) machines (S.told sink.old) (S.faults sink.old) result (S.told sink.new) (S.faults sink.new) }
 {
     let Ok(account) = run(rt, alloc, versions, rules, kernel, gate, limits, hands) else {

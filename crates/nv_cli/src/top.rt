@@ -104,7 +104,7 @@ fn run_versions<R: Threads + Wait + Sync, S: Sink, G: Gate + Sync>(
     requires fresh { AreFresh threads 0 versions.items }
     requires few { length versions.items ≤ 8 }
     requires planned { IsPlanned kernel.setup hands.now.items }
-    ensures { (machines : List Machine) → map process_of versions.items ≡ map (process_begun (limits_view limits)) machines
+    ensures { (machines : List Machine) → map process_of versions.items ≡ map (process_begun (limits_view limits) kernel.setup) machines
         → RunSays (limits_view limits) json kernel.setup (option_map (λ f. f.now) rules.entry) machines (S.told sink.old) (S.faults sink.old) result (S.told sink.new) (S.faults sink.new) }
 {
     let Ok(account) = run(rt, alloc, versions, rules, kernel, gate, limits, hands) else {

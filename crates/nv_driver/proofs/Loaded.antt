@@ -29,7 +29,7 @@ use Rattle.nv_driver.specs.Due.{GenOwes}
 -- what versions that are from files have
 pub record AreMade (setup : Setup) (files : List (Vec ℕ Global)) (versions : List (Running Proc)) : Type 0 where
   pub machines : List Machine
-  pub processes : map process_of versions ≡ map (process_begun usual) machines
+  pub processes : map process_of versions ≡ map (process_begun usual setup) machines
   pub loads : map (of_elf usual setup) (map file_read_as files) ≡ map Loads machines
 
 reads : (setup : Setup) (file : Vec ℕ Global) → version_from usual setup file.items ≡ of_elf usual setup (file_read_as file)

@@ -226,7 +226,7 @@ module _ (limits : Limits) (setup : Setup) where
   -- what loaded versions come to
   pub record AreReady (vs : List (Running Proc)) (holds : List ℕ → Told) (i : ℕ) (names : List (List ℕ)) : Type 0 where
     pub machines : List Machine
-    pub processes : map process_of vs ≡ map (process_begun limits) machines
+    pub processes : map process_of vs ≡ map (process_begun limits setup) machines
     pub come : VersionsCome limits setup holds i names (Ready setup None machines)
 
   pub all_ready : (vs : List (Running Proc)) (holds : List ℕ → Told) (names : List (List ℕ)) (i : ℕ) → AreLoaded limits setup vs holds names → AreReady vs holds i names

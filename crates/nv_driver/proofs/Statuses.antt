@@ -207,7 +207,7 @@ module _ (source : Source) (no_fault : Rose source.faults source.later_faults �
       (record_told source no_fault outcome shown plan owed (ready_read (prepared plan.limits (finds_of source.holds plan)) accepted))
   accepted_status (Replays trail) owed accepted =
       traced_status trail (replayed trail) outcome (λ n. (n ≡ 0) ⊎ (n ≡ 1))
-      (λ files. replay_done (follow threads (judge_of files.rules trail.index) files.log (fresh (process_begun (trail_limits trail) files.machine))).fate _ refl)
+      (λ files. replay_done (follow threads (judge_of files.rules trail.index) files.log (fresh (process_begun (trail_limits trail) files.setup files.machine))).fate _ refl)
       (traced trail (trace_finds_of source.holds trail)) accepted
       (trail_told source no_fault outcome shown trail (replayed trail) owed (traced_read trail (replayed trail) outcome (traced trail (trace_finds_of source.holds trail)) accepted))
   accepted_status (Inspects look) owed accepted =

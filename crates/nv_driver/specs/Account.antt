@@ -16,18 +16,18 @@ use Rattle.nv_replay.specs.Account.{AreSettled}
 use Rattle.nv_replay.specs.Covers.{AreEnded, Covers}
 use Rattle.nv_replay.specs.Survivors.{SurvivorsAgree}
 
--- a version has as many instructions as the limits say, or as many after each answer
-abbrev pub process_begun : Limits → Machine → Proc
-process_begun limits machine = started machine limits.budget limits.renews
+-- a version has as many instructions as the limits say, or as many after each answer, and the calls that the script's form has
+abbrev pub process_begun : Limits → Setup → Machine → Proc
+process_begun limits setup machine = started machine limits.budget limits.renews setup.polls
 
 -- The account is that of the sequential monitor over what the script says, its planned lengths, this filter and these machines, with at most as many events as the limits say and with the cuts that it tells.
 -- Each version has one fate, and each event lies in exactly one of the spans; where no length is planned each version led at most one. One that exited without a rewrite would come to this log alone.
 pub record IsRunOf (limits : Limits) (setup : Setup) (rules : Option (List Op)) (machines : List Machine) (account : Account) : Type 0 where
-  pub is_account : account ≡ sequence threads (judge_of rules) (start_from setup) limits.calls (cuts_of account.lines) setup.hands (map (process_begun limits) machines)
+  pub is_account : account ≡ sequence threads (judge_of rules) (start_from setup) limits.calls (cuts_of account.lines) setup.hands (map (process_begun limits setup) machines)
   pub settled : AreEnded account.lines
   pub covers : Covers account.lines account.log
   pub unplanned : setup.hands ≡ [] → AreSettled account.lines
-  pub survivor : SurvivorsAgree threads (start_from setup) limits.calls setup.hands (map (process_begun limits) machines) account.lines account.log
+  pub survivor : SurvivorsAgree threads (start_from setup) limits.calls setup.hands (map (process_begun limits setup) machines) account.lines account.log
 
 -- 0 where a version exited; else 7 where one wanted memory; else 1
 abbrev pub run_status : List Standing → ℕ

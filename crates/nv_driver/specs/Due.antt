@@ -89,7 +89,7 @@ pub record TrailOwes (trail : Trail) (made : Traced → Outcome) (holds : List �
 
 -- The version follows the whole log, judged as the version with its number.
 abbrev pub replayed : Trail → Traced → Outcome
-replayed trail files = Replayed (follow threads (judge_of files.rules trail.index) files.log (fresh (process_begun (trail_limits trail) files.machine)))
+replayed trail files = Replayed (follow threads (judge_of files.rules trail.index) files.log (fresh (process_begun (trail_limits trail) files.setup files.machine)))
 
 -- the files of the kernel after so many events of the log
 abbrev pub files_after : Setup → List Entry → FileState
@@ -100,7 +100,7 @@ abbrev pub shown_of : Traced → Option (ℕ × ℕ) → Follower Proc → Outco
 shown_of files dump at = Shown (show_text at (files_after files.setup (take at.seen files.log)) dump)
 
 abbrev pub shown : Look → Traced → Outcome
-shown look files = shown_of files look.dump (at_point files.rules look.trail.index files.log (trace_point look.point) look.trail.budget look.trail.renews files.machine)
+shown look files = shown_of files look.dump (at_point files.rules look.trail.index files.log (trace_point look.point) look.trail.budget look.trail.renews files.setup.polls files.machine)
 
 -- A recorded run comes to its first file that can't be read or is refused, or else to an account of the sequential monitor, in which no version wanted memory.
 abbrev pub RecordComesTo : Plan → Prepared → Outcome → Type 0

@@ -27,7 +27,7 @@ pub record IsMadeRun (n : ℕ) (setup : Setup) (filter : Option (List Op)) (mach
 pub record IsGenerated (n : ℕ) (log : List Entry) (setup : Setup) (filter : Option (List Op)) (versions : List (Running Proc)) : Type 0 where
   pub empty : log ≡ []
   pub machines : List Machine
-  pub processes : map process_of versions ≡ map (process_begun usual) machines
+  pub processes : map process_of versions ≡ map (process_begun usual setup) machines
   pub run : IsMadeRun n setup filter machines
   pub fresh : AreFresh threads 0 versions
   pub few : length versions ≤ 8

@@ -1,9 +1,9 @@
 -- A live run: what its files come to, and what it does over standard input, standard output and its transcript.
-use Rattle.std.specs.Prelude.{◌≡◌, ℕ, ◌+◌, ◌-◌, Bool, false, not, ◌==◌, List, [], ◌∷◌, ◌++◌, Option, None, Some, option_map, Result, Ok, Err, if◌then◌else◌, codes, length, drop, map, get_or}
+use Rattle.std.specs.Prelude.{◌≡◌, ◌⊎◌, ℕ, ◌+◌, ◌-◌, Bool, false, not, ◌==◌, List, [], ◌∷◌, ◌++◌, Option, None, Some, option_map, IsSome, Result, Ok, Err, if◌then◌else◌, codes, length, drop, map, get_or}
 use Rattle.std.specs.List.{All, prefix_len}
 use Rattle.nv_arrivals.specs.Arrivals.{Arrival, BringsBytes}
 use Rattle.nv_arrivals.specs.Doings.{Doing, Takes, takings, sayings, handings, exchanges}
-use Rattle.nv_arriving.specs.Arriving.{first_stage, stage_after}
+use Rattle.nv_arriving.specs.Arriving.{first_stage, stage_after, Satisfied}
 use Rattle.nv_arriving.specs.Doings.{doings}
 use Rattle.nv_calls.specs.Calls.{Entry}
 use Rattle.nv_calls.specs.Logs.{calls_of}
@@ -124,6 +124,7 @@ ending_of (Some stop.Ended) said told = ended_by_writes said told
 ending_of None said told = ended_by_writes said told
 
 -- A live run over these streams, by its log: what was taken and what was said are each in the log's order. `in_order` relates the two where nothing was late, and no field ties `late` to the run.
+-- No call waited in vain, or a stream had stopped: a read that failed or gave nothing, a line that was refused or cut off, or a failed write of what was said. So the guests were told of no end without one.
 -- The bytes are those of the streams: what was read, as plain input or as lines of clients, and so is what no call took; the bytes or the lines of what was said; and the transcript. That begins with a text that
 -- says what the run began with, is up to the last line of an arrival or of a hand-over a script that says the whole run (an arrival's numbers are bytes wherever bytes were read), and has what no call took behind it, as comments.
 pub record Lived (clients : Bool) (setup : Setup) (log : List Entry) (ending : Ending) (before after : Streams) : Type 0 where
@@ -137,6 +138,7 @@ pub record Lived (clients : Bool) (setup : Setup) (log : List Entry) (ending : E
   pub held : List ℕ
   pub came : CameBy clients before.read after.read before.unread after.unread stopped line held (takings done) (handings done)
   pub said : Put
+  pub waited : Satisfied (first_stage setup setup.arrivals) (calls_of log) ⊎ IsSome (stop_with stopped said)
   pub written : Puts before.said before.unsaid (said_text clients (sayings done)) said after.said after.unsaid
   pub head : List ℕ
   pub begins : script_of head ≡ Ok (with_arrivals setup [])

@@ -58,7 +58,7 @@ pub record IsPlanned (setup : Setup) (hands : List ℕ) : Type 0 where
 pub record IsPrepared (log : List Entry) (setup : Setup) (rules : Option (List Op)) (versions : List (Running Proc)) (holds : List ℕ → Told) (plan : Plan) : Type 0 where
   pub empty : log ≡ []
   pub machines : List Machine
-  pub processes : map process_of versions ≡ map (process_begun plan.limits) machines
+  pub processes : map process_of versions ≡ map (process_begun plan.limits setup) machines
   pub comes : ComesTo plan holds (Ready setup rules machines)
   pub fresh : AreFresh threads 0 versions
   pub few : length versions ≤ 8
@@ -66,7 +66,7 @@ pub record IsPrepared (log : List Entry) (setup : Setup) (rules : Option (List O
 -- A script by its transcript's head, in which nothing comes yet, rules, and versions that are ready to run, to which the files of a live run come.
 pub record IsLivePrepared (head : List ℕ) (setup : Setup) (rules : Option (List Op)) (versions : List (Running Proc)) (holds : List ℕ → Told) (service : Service) : Type 0 where
   pub machines : List Machine
-  pub processes : map process_of versions ≡ map (process_begun service.limits) machines
+  pub processes : map process_of versions ≡ map (process_begun service.limits setup) machines
   pub comes : LiveComesTo service holds (Ready setup rules machines)
   pub fresh : AreFresh threads 0 versions
   pub few : length versions ≤ 8

@@ -62,7 +62,15 @@ fn read_version(alloc: Global, script: &Script, file: &[u8], index: u32) -> Resu
 {
     let limits = Limits::usual();
     match load(alloc, limits, script, file, Place::Version(index)) {
-        Ok(guest) => version(alloc, limits.budget, limits.renews, index, guest, true),
+        Ok(guest) => version(
+            alloc,
+            limits.budget,
+            limits.renews,
+            index,
+            guest,
+            true,
+            script.polls,
+        ),
         Err(Refusal::Memory) => Err(Refusal::Memory),
         Err(_) => unreachable!(),
     }

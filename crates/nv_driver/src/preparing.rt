@@ -148,7 +148,7 @@ pub fn load(
 }
 
 // The version with this number, of a guest that hasn't run and has so many instructions, or so many after each answer; it may go
-// on ahead of the log, or never does.
+// on ahead of the log, or never does, and the later calls are in its table, or aren't.
 pub fn version(
     alloc: Global,
     budget: u32,
@@ -156,15 +156,16 @@ pub fn version(
     index: u32,
     guest: Guest,
     eager: bool,
+    polls: bool,
 ) -> Result<Version, Refusal>
     requires alone { guest ≡ one_thread (machine_of guest) }
     requires budget { budget ≤ 1_000_000_000 }
     ensures fresh { IfOk result (IsFresh threads index) }
-    ensures process { IfOk result (λ version. version.at.process ≡ started (machine_of guest) budget renews) }
+    ensures process { IfOk result (λ version. version.at.process ≡ started (machine_of guest) budget renews polls) }
     ensures eager { IfOk result (λ version. version.eager ≡ eager) }
     ensures refused { IfErr result (λ refusal. refusal ≡ Refusal.Memory) }
 {
-    let process = Process::make(alloc, guest, budget, renews)?;
+    let process = Process::make(alloc, guest, budget, renews, polls)?;
     let version = Version::make_eager(alloc, index, process, eager)?;
     Ok(version)
 }
@@ -189,7 +190,15 @@ fn read_version<F: Files>(
     let place = Place::Version(index);
     let bytes = read_file(alloc, files, name, place, FILE_LIMIT)?;
     let guest = load(alloc, limits, script, &bytes, place)?;
-    let version = version(alloc, limits.budget, limits.renews, index, guest, true)?;
+    let version = version(
+        alloc,
+        limits.budget,
+        limits.renews,
+        index,
+        guest,
+        true,
+        script.polls,
+    )?;
     Ok(version)
 }
 

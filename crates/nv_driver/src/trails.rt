@@ -112,7 +112,15 @@ fn read_follower<F: Files>(
     let place = Place::Version(trail.index);
     let bytes = read_file(alloc, files, trail.version, place, FILE_LIMIT)?;
     let guest = load(alloc, limits(trail), script, &bytes, place)?;
-    let version = version(alloc, budget, renews, trail.index, guest, false)?;
+    let version = version(
+        alloc,
+        budget,
+        renews,
+        trail.index,
+        guest,
+        false,
+        script.polls,
+    )?;
     Ok(version)
 }
 

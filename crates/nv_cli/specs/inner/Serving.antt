@@ -79,7 +79,7 @@ pub record Served (limits : Limits) (clients : Bool) (setup : Setup) (rules : Op
 
 -- That is so, or memory was wanted and the streams are gone.
 abbrev pub ServeSays : Limits → Bool → LivePrepared → Streams → Option (List ℕ) → ℕ → ℕ → Option (List ℕ) → ℕ → Option (Streams × Ending) → Type 0
-ServeSays limits clients prepared streams before faults status after later_faults left = (machines : List Machine) → map process_of prepared.versions.items ≡ map (process_begun limits) machines
+ServeSays limits clients prepared streams before faults status after later_faults left = (machines : List Machine) → map process_of prepared.versions.items ≡ map (process_begun limits (setup_of prepared.script)) machines
     → IsTranscript prepared.head.items (setup_of prepared.script) → (setup_of prepared.script).arrivals ≡ []
     → Served limits clients (setup_of prepared.script) prepared.rules machines streams before faults status after later_faults left
     ⊎ (Says (text_of NoMemory) 3 before faults status after later_faults × (left ≡ None))

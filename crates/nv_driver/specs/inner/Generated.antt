@@ -17,7 +17,7 @@ pub record Runs (setup : Setup) (file : List ℕ) : Type 0 where
 -- the version is that of the file
 pub record IsFrom (setup : Setup) (file : List ℕ) (version : Running Proc) : Type 0 where
   pub runs : Runs setup file
-  pub begins : version.at.process ≡ process_begun usual runs.machine
+  pub begins : version.at.process ≡ process_begun usual setup runs.machine
 
 abbrev pub AreFrom : Setup → List (Vec ℕ Global) → List (Running Proc) → Type 0
 AreFrom setup [] [] = Unit {0}

@@ -78,7 +78,7 @@ pub record RestComes (setup : Setup) (holds : List ℕ → Told) (parts : Parts)
 -- rules, and versions that are ready to run, to which the files after a script come
 pub record IsRest (setup : Setup) (rules : Option (List Op)) (versions : List (Running Proc)) (holds : List ℕ → Told) (parts : Parts) : Type 0 where
   pub machines : List Machine
-  pub processes : map process_of versions ≡ map (process_begun parts.limits) machines
+  pub processes : map process_of versions ≡ map (process_begun parts.limits setup) machines
   pub comes : RestComes setup holds parts (Ready setup rules machines)
   pub fresh : AreFresh threads 0 versions
   pub few : length versions ≤ 8
@@ -115,7 +115,7 @@ pub record HasLoaded (limits : Limits) (setup : Setup) (version : Running Proc) 
   pub bytes : List ℕ
   pub read : IsReadOf bytes told
   pub machine : Machine
-  pub begins : version.at.process ≡ process_begun limits machine
+  pub begins : version.at.process ≡ process_begun limits setup machine
   pub loads : version_from limits setup bytes ≡ Loads machine
 
 -- a version file with this cause: too long, or else faulty

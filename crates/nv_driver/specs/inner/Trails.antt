@@ -63,7 +63,7 @@ refused_outcome (refusal.Input place cause) trail = lack_outcome trail (Refused 
 pub record IsFollower (trail : Trail) (budget : ℕ) (renews : Bool) (setup : Setup) (version : Running Proc) (told : Told) : Type 0 where
   pub machine : Machine
   pub gives : Gives (machine_traced trail setup) FILE_LIMIT told (Ok machine)
-  pub begins : version.at.process ≡ started machine budget renews
+  pub begins : version.at.process ≡ started machine budget renews setup.polls
   pub fresh : IsFresh threads trail.index version
   pub settled : version.eager ≡ false
 
@@ -71,7 +71,7 @@ pub record IsFollower (trail : Trail) (budget : ℕ) (renews : Bool) (setup : Se
 pub record IsTraced (trail : Trail) (budget : ℕ) (renews : Bool) (holds : List ℕ → Told) (setup : Setup) (rules : Option (List Op)) (log : List Entry) (version : Running Proc) : Type 0 where
   pub machine : Machine
   pub comes : TrailComes trail holds (Ok (record { setup = setup; rules = rules; log = log; machine = machine }))
-  pub begins : version.at.process ≡ started machine budget renews
+  pub begins : version.at.process ≡ started machine budget renews setup.polls
   pub fresh : IsFresh threads trail.index version
   pub settled : version.eager ≡ false
   pub sound : AreSoundEvents (start_from setup) log

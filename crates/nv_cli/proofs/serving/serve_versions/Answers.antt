@@ -18,5 +18,5 @@ returns g c = λ machines are begins none.
     p.versions.items c.in-Ok-run_over.account) c.as_ref.ensures.value c.in-Ok-run_over.ensures in
     inl (served_by g.I.Source.took g.I.Source.faults g.O.Sink.told g.O.Sink.faults g.T.Sink.told g.T.Sink.faults (limits_view c.args.limits) c.args.clients (setup_of p.script) c.deref.result.now p.rules
     p.script.hands.items p.versions.items machines c.args.streams c.left_by-left.result.0 c.left_by-left.result.1 c.in-Ok.kernel c.in-Ok-run_over.account (g.S.Sink.told c.args.sink.now) (g.S.Sink.faults c.args.sink.now) c.status.result
-    (c.status.ensures ∙ ap (λ versions. run_status (map standing_of versions)) c.deref-2.ensures.value) are c.requires.ready.sound (subst (λ head. IsTranscript head (setup_of p.script)) (sym c.deref.ensures.value) begins) none c.requires.ready.planned c.in-Ok.ensures ran c.into_outside.ensures.told
+    (c.status.ensures ∙ ap (λ versions. run_status (map standing_of versions)) c.deref-2.ensures.value) are c.requires.ready.sound (subst (λ head. IsTranscript head (setup_of p.script)) (sym c.deref.ensures.value) begins) none c.requires.ready.planned c.in-Ok.ensures ran c.into_outside.ensures.told c.into_outside.ensures.waited
     (subst (λ outside. HasLeft g.T.Sink.told g.T.Sink.faults outside c.left_by-left.result.0 c.left_by-left.result.1) c.into_outside.ensures.is c.left_by-left.ensures))

@@ -52,8 +52,8 @@ returns-in-Ok-summary g c =
     let made = c.requires.made in
     let limits = limits_view c.usual-limits.result in
     let rules = option_map (λ f. f.now) c.as_ref.result in
-    let begin : map process_of c.args.made.versions.items ≡ map (process_begun limits) made.machines =
-    made.processes ∙ ap (λ (x : Limits). map (process_begun x) made.machines) (sym c.usual-limits.ensures) in
+    let begin : map process_of c.args.made.versions.items ≡ map (process_begun limits setup) made.machines =
+    made.processes ∙ ap (λ (x : Limits). map (process_begun x setup) made.machines) (sym c.usual-limits.ensures) in
     let told = subst (λ (start : Start). IsAccount threads (judge_of rules) start limits.calls c.args.made.hands.items c.args.made.versions.items c.in-Ok.account.versions.items log) (ap start_from c.in-Ok.ensures.start) c.in-Ok.ensures.account in
     let run = run_of limits setup rules made.machines c.args.made.hands.items c.args.made.versions.items c.in-Ok.account.versions.items log c.requires.planned.same told begin in
     let never : list_any (λ line. is_memory line.fate) lines ≡ false =

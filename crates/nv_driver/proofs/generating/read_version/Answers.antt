@@ -16,6 +16,6 @@ returns-in-Ok-clause-version c =
     IfOk-weaker c.version.result _ _
     (λ version h. record {
       runs = record { machine = machine; loads = loads };
-      begins = h ∙ ap (λ (limits : Limits). process_begun limits machine) c.usual-limits.ensures;
+      begins = h ∙ ap₂ (λ (limits : Limits) (setup : Setup). process_begun limits setup machine) c.usual-limits.ensures c.requires.script;
     })
     c.version.ensures.process

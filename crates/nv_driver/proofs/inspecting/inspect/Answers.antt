@@ -24,10 +24,10 @@ returns-in-Ok g c = λ words asked.
     let files : Traced = record { setup = setup_of traced.script; rules = traced.rules; log = log; machine = ready.machine } in
     let by : ℕ → TracePoint → Proc → Follower Proc = λ i p process. follow threads (judge_of traced.rules i) (events_to p log) (fresh process) in
     let at = by traced.version.index c.point.result traced.version.at.process in
-    let is : at ≡ at_point traced.rules look.trail.index log point look.trail.budget look.trail.renews ready.machine =
+    let is : at ≡ at_point traced.rules look.trail.index log point look.trail.budget look.trail.renews (setup_of traced.script).polls ready.machine =
     ap (λ (i : ℕ). by i c.point.result traced.version.at.process) ready.fresh.index
     ∙ ap (λ (p : TracePoint). by look.trail.index p traced.version.at.process) c.point.ensures
-    ∙ ap (by look.trail.index point) (ready.begins ∙ (λ j. started ready.machine (c.budget.ensures.is j) (c.renews.ensures j))) in
+    ∙ ap (by look.trail.index point) (ready.begins ∙ (λ j. started ready.machine (c.budget.ensures.is j) (c.renews.ensures j) (setup_of traced.script).polls)) in
     wrote_answers words source (Inspects look) asked _ _ _ _ _ (shown_of files look.dump at)
     (record { finds = ready.comes.finds; agree = ready.comes.agree; comes = ap (shown_of files look.dump) is ∙ sym (ap (traced_outcome look.trail (shown look)) ready.comes.is) })
     c.in-Ok.ensures.faults c.in-Ok.ensures.faults c.show_at.ensures
