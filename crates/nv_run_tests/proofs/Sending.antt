@@ -33,7 +33,7 @@ kept_answers X o = record {
   beginning_code = nothing_code;
   start = λ setup k. tt;
   known = λ setup k. start_of_arrivals setup k.guests.came;
-  stands = λ k. StandsAt o.did k.guests;
+  stands = λ k. StandsAt o.did o.is_over k.guests;
   keeps_all = true;
   is_ready = λ k c. Unit {0};
 }
@@ -47,7 +47,7 @@ live_answers X o = record {
   beginning_code = nothing_code;
   start = λ setup g. tt;
   known = λ setup g. start_of_arrivals setup g.came;
-  stands = StandsAt o.did;
+  stands = StandsAt o.did o.is_over;
   keeps_all = false;
   is_ready = λ g c. Unit {0};
 }
@@ -57,6 +57,11 @@ live_kernel_send X o x = kernel_send (Guests.the_row X o) (live_answers X o) (gu
 
 -- ---- a kernel that is refused memory
 
+pub refusing_over : (X : RattleType) → IsSend X → IsSend (RefusingKernel.the_row X)
+refusing_over X x = recorded_send _ _ _ (RefusingKernel.the_type X).to_one (struct_send (shape (RefusingKernel.the_type X)) (x, (search (sendable, crosses) depth 20, (search sendable, tt))))
+
 pub refusing_send : IsSend (RefusingKernel.the_row (Kernel.the_row Devices.the_row DevicesAnswers.ghosts))
-refusing_send = recorded_send _ _ _ (RefusingKernel.the_type (Kernel.the_row Devices.the_row DevicesAnswers.ghosts)).to_one
-    (struct_send (shape (RefusingKernel.the_type (Kernel.the_row Devices.the_row DevicesAnswers.ghosts))) (script_kernel_send, (search (sendable, crosses) depth 20, (search sendable, tt))))
+refusing_send = refusing_over (Kernel.the_row Devices.the_row DevicesAnswers.ghosts) script_kernel_send
+
+pub twice_refusing_send : IsSend (RefusingKernel.the_row (RefusingKernel.the_row (Kernel.the_row Devices.the_row DevicesAnswers.ghosts)))
+twice_refusing_send = refusing_over (RefusingKernel.the_row (Kernel.the_row Devices.the_row DevicesAnswers.ghosts)) refusing_send

@@ -56,6 +56,8 @@ impl Telling for Pairs {
 impl Outside for Pairs {
     ghost did = { λ first now done. Wrote first.done now.done done };
 
+    ghost is_over = { λ _. Unit {0} };
+
     fn next(&mut self, alloc: Global) -> Result<Option<Arrival>, AllocError> {
         let came = self.come(alloc)?;
         if let Some(arrival) = &came {
@@ -71,6 +73,8 @@ impl Outside for Pairs {
     fn hands_over(&mut self, _length: usize) -> bool {
         false
     }
+
+    fn waits_to(&mut self, _seconds: u32, _nanos: u32) {}
 }
 
 // It reads the input by at most 8 bytes up to its end, writes what it read, and exits with how many reads gave bytes.
@@ -244,6 +248,8 @@ impl Telling for Clients {
 impl Outside for Clients {
     ghost did = { λ first now done. Wrote first.done now.done done };
 
+    ghost is_over = { λ _. Unit {0} };
+
     fn next(&mut self, alloc: Global) -> Result<Option<Arrival>, AllocError> {
         let came = self.come(alloc)?;
         if let Some(arrival) = &came {
@@ -259,6 +265,8 @@ impl Outside for Clients {
     fn hands_over(&mut self, _length: usize) -> bool {
         false
     }
+
+    fn waits_to(&mut self, _seconds: u32, _nanos: u32) {}
 }
 
 // A server at port 80 that sends each client what it sent, by at most 8 bytes up to its end, and exits with how many clients there

@@ -50,7 +50,7 @@ impl<O: Outside + Telling + Send> Answers for Kept<O> {
 
     ghost known = { λ setup k. start_of_arrivals setup k.guests.came };
 
-    ghost stands = { λ k. StandsAt O.did k.guests };
+    ghost stands = { λ k. StandsAt O.did O.is_over k.guests };
 
     ghost keeps_all = { true };
 

@@ -1,6 +1,7 @@
 //! Tests of runs: versions beside each other come to the account of the plain monitor.
 //! Tests: `accounts` (workers on threads of the host), `gates` (versions that meet at a gate), `letters` and `arrivals` (what comes from outside while they run),
-//! `schedules` (turn by turn, without threads of the host), `ahead` (a version goes on while it waits), `starving` (a version that wanted memory, as JSON).
+//! `schedules` (turn by turn, without threads of the host), `ahead` (a version goes on while it waits), `starving` (a version that wanted memory, as JSON),
+//! `refusals` (which reservations a `RefusingKernel` refuses).
 //! What they stand on: `runs` (runs of small programs), `cases` and `courses` (rooms drawn by a seed, and how they go); the kernels `RefusingKernel`, which is
 //! refused memory at the calls that a test names, and `LearningKernel`, which takes from an `Outside`; `Kept`, a live run's answers for a kernel that keeps its log; `Transcript` (what was done outside, as text);
 //! `schedule`, which chooses whose turn is next by a `Seed`.
@@ -26,6 +27,8 @@ mod learning;
 #[cfg(test)]
 mod letters;
 mod outside;
+#[cfg(test)]
+mod refusals;
 mod refusing;
 #[cfg(test)]
 mod runs;

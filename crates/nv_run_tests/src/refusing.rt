@@ -39,6 +39,13 @@ impl<K: SyscallKernel> RefusingKernel<K> {
         }
     }
 
+    /// The kernel below.
+    pub fn inner(&self) -> &K
+        ensures { result.now ≡ inner_of self.now }
+    {
+        &self.inner
+    }
+
     /// How many reservations were asked for, those that were refused too.
     pub fn asked(&self) -> u64
         ensures { result ≡ asked_of self.now }

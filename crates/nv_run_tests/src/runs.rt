@@ -46,7 +46,7 @@ pub fn version(alloc: Global, index: u32, text: &str, eager: bool) -> Option<Ver
 {
     let program = nv_asm::assemble(alloc, text.as_bytes()).ok()?;
     let guest = Guest::make(alloc, &program, &[], MEMORY).ok()?;
-    let process = Process::make(alloc, guest, BUDGET, false).ok()?;
+    let process = Process::make(alloc, guest, BUDGET, false, false).ok()?;
     made(alloc, index, process, eager)
 }
 

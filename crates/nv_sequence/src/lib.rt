@@ -1,6 +1,7 @@
 //! The plain monitor: one version after another, on one thread, with planned changes of the leader.
 //! Types: `Turned`; function `run`.
-//! Proved: `run` gives the sequential monitor's account for every kernel and filter.
+//! Proved: `run` gives the sequential monitor's account for every kernel and filter, from what the kernel was made over where that
+//! tells how it goes on.
 //! Above: tests, which compare the workers with it; no command calls it.
 #![tactic(auto)]
 

@@ -1,7 +1,7 @@
 // The versions in order.
 ghost use Rattle.std.specs.Prelude.{◌≡◌, ◌≤◌, ◌+◌, ◌++◌, [], ℕ, length, map, option_map};
 ghost use Rattle.nv_calls.specs.Limits.{MOST_EVENTS};
-ghost use Rattle.nv_calls.specs.Logs.{IsLawful};
+ghost use Rattle.nv_calls.specs.Logs.{IsLawful, Start};
 ghost use Rattle.nv_served.specs.Learning.{FromAny};
 ghost use Rattle.nv_threads.specs.Threads.{threads};
 ghost use Rattle.nv_replay.specs.Follow.{judge_of, IsInStep};
@@ -42,6 +42,11 @@ pub fn run<K: SyscallKernel + Recorded>(
     ensures settled { AreEnded (map standing_of result.versions.items) }
     ensures covers { Covers (map standing_of result.versions.items) (K.log result.kernel) }
     ensures survivor { SurvivorsAgree threads (K.known result.kernel) most hands.now.items (map process_of versions.items) (map standing_of result.versions.items) (K.log result.kernel) }
+
+    // where what a kernel was made over tells how it goes on, the account is from what this one was made over
+    ensures foretold { (told : K.Beginning → Start) → ((k : K) → K.known k ≡ told (K.start k))
+        → record { log = K.log result.kernel; lines = map standing_of result.versions.items }
+        ≡ sequence threads (judge_of (option_map (λ f. f.now) rules.entry)) (told (K.start kernel)) most (cuts_of (map standing_of result.versions.items)) hands.now.items (map process_of versions.items) }
 {
     run_all(&mut versions, rules, &mut kernel, most, hands.as_slice());
     Account { kernel, versions }

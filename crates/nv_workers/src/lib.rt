@@ -1,7 +1,8 @@
 //! A run: versions beside each other on threads of the host, each with its seat in one room.
 //! Types: `Terms`, the trait `Gate`, `Worker`, `Turn`, `Ran`; functions `staff`, `run_all`, `gather`, `end`.
 //! Proved, if it returns: the log and the standings are the sequential monitor's with the room's planned lengths and those at
-//! which leaders handed over on demand, whichever thread took which turn; the spans of all versions cover the log.
+//! which leaders handed over on demand, whichever thread took which turn, from what the kernel was made over where that tells how
+//! it goes on; the spans of all versions cover the log.
 //! Above: the top call.
 #![tactic(auto)]
 

@@ -1,5 +1,6 @@
 //! A whole run.
 ghost use Rattle.std.specs.Prelude.{◌≡◌, ◌≤◌, ◌<◌, ◌+◌, ◌++◌, ℕ, List, [], false, length, vec_len, vec_capacity, IfOk, IfErr};
+ghost use Rattle.nv_calls.specs.Logs.{Start};
 ghost use Rattle.nv_threads.specs.Threads.{Proc, threads};
 ghost use Rattle.nv_replay.specs.Follow.{Judge};
 ghost use Rattle.nv_replay.specs.Version.{Running};
@@ -156,6 +157,11 @@ pub fn end<K: SyscallKernel>(ran: Ran<K>) -> Account<K>
     ensures start { K.start result.kernel ≡ K.start (origin ran.room) }
     ensures account { (judges : ℕ → Judge) (most : ℕ) (fresh : List (Running Proc)) → AllRan judges ran.room most fresh ran.versions.items ran.left.items
         → (asked : List ℕ) × (on_demand_of ran.room ≡ false → asked ≡ []) × IsAccount threads judges (K.known result.kernel) most (hands_of ran.room ++ asked) fresh result.versions.items (K.log result.kernel) }
+
+    // where what a kernel was made over tells how it goes on, the account is from what the room's was made over
+    ensures foretold { (told : K.Beginning → Start) → ((k : K) → K.known k ≡ told (K.start k))
+        → (judges : ℕ → Judge) (most : ℕ) (fresh : List (Running Proc)) → AllRan judges ran.room most fresh ran.versions.items ran.left.items
+        → (asked : List ℕ) × (on_demand_of ran.room ≡ false → asked ≡ []) × IsAccount threads judges (told (K.start (origin ran.room))) most (hands_of ran.room ++ asked) fresh result.versions.items (K.log result.kernel) }
 {
     let Ran {
         room,
