@@ -26,7 +26,7 @@ use std::{fs, io};
 use tally::Tally;
 
 // The files with rows, by what they are about. One may include the texts of those before it.
-const SUBJECTS: [&str; 32] = [
+const SUBJECTS: [&str; 33] = [
     "common",
     "calls",
     "memory",
@@ -59,6 +59,7 @@ const SUBJECTS: [&str; 32] = [
     "trace_lines",
     "live",
     "arrivals",
+    "polls",
 ];
 
 fn main(rt: HostRuntime) -> io::Result<()> {
